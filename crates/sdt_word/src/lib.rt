@@ -1,0 +1,2 @@
+//! Words of memory: bytes of a number, little-endian.
+#![tactic(auto)]
