@@ -5,7 +5,7 @@ use Rattle.sdt_fault.specs.declared.answer.Answer.TheVariants.{Done, Refused, Re
 use Rattle.sdt_fault.specs.declared.answer.Stop.{Stop}
 use Rattle.sdt_fault.specs.declared.answer.Stop.TheVariants.{Exit, Budget, Unpredictable, BadString, NoFrame, Sink}
 use Rattle.sdt_fault.specs.Digits.{hexadecimal}
-use Rattle.sdt_fault.specs.Refusals.{refusal_text}
+use Rattle.sdt_fault.specs.Refusals.{refusal_text, spaced}
 
 -- the exit status
 abbrev pub status : Answer → ℕ
@@ -21,9 +21,9 @@ status NoMemory = 6
 abbrev pub stop_text : Stop → List ℕ
 stop_text Exit = codes "stopped: exit"
 stop_text Budget = codes "stopped: budget"
-stop_text (Unpredictable address word) = codes "stopped: unpredictable " ++ hexadecimal address ++ codes " " ++ hexadecimal word
-stop_text (BadString address) = codes "stopped: bad string " ++ hexadecimal address
-stop_text (NoFrame address) = codes "stopped: no frame " ++ hexadecimal address
+stop_text (Unpredictable address word) = codes "stopped: unpredictable" ++ spaced (hexadecimal address ∷ hexadecimal word ∷ [])
+stop_text (BadString address) = codes "stopped: bad string" ++ spaced (hexadecimal address ∷ [])
+stop_text (NoFrame address) = codes "stopped: no frame" ++ spaced (hexadecimal address ∷ [])
 stop_text Sink = codes "stopped: sink"
 
 -- the text of an answer

@@ -4,16 +4,17 @@
 
 pub mod answer;
 pub mod contents;
+pub mod digits;
 pub mod kinds;
 pub mod lists;
 pub mod names;
 pub mod refusal;
-
-use std::alloc::{AllocError, AllocFailed};
+pub mod report;
 
 pub use crate::contents::Bytes;
 pub use crate::lists::List;
 pub use crate::names::Text;
+use std::alloc::{AllocError, AllocFailed};
 
 /// Memory was refused. It says nothing else.
 #[derive(Clone, Copy, PartialEq, Eq, Debug)]

@@ -8,7 +8,9 @@ use crate::names::Text;
 #[derive(Debug, Drop)]
 pub enum Refusal {
     /// The word at `place`, counted from 1, breaks a rule, or is missing.
-    BadWords { place: u32 },
+    BadWords {
+        place: u32,
+    },
     /// The line of the source, counted from 1, is at fault.
     BadLine {
         source: Text,
@@ -37,13 +39,25 @@ pub enum Refusal {
         second: Text,
     },
     /// Nothing gives the symbol a meaning that the object refers to.
-    Undefined { symbol: Text, object: Text },
+    Undefined {
+        symbol: Text,
+        object: Text,
+    },
     NoEntry,
-    TwoEntries { first: Text, second: Text },
+    TwoEntries {
+        first: Text,
+        second: Text,
+    },
     /// The line of the scatter description, counted from 1, is at fault.
-    ScatterLine { line: u32, kind: ScatterKind },
+    ScatterLine {
+        line: u32,
+        kind: ScatterKind,
+    },
     /// No selection takes the area.
-    Unassigned { object: Text, area: Text },
+    Unassigned {
+        object: Text,
+        area: Text,
+    },
     /// The selections on two lines take the area equally well.
     Ambiguous {
         object: Text,
@@ -64,16 +78,24 @@ pub enum Refusal {
         maximum: u64,
     },
     /// The first execution region is loaded elsewhere than it runs.
-    NoRoot { region: Text },
+    NoRoot {
+        region: Text,
+    },
     /// The address is the least in the first region and in what is still to be copied to the second.
     CopyConflict {
         first: Text,
         second: Text,
         address: u32,
     },
-    TooLarge { quantity: Quantity, limit: u64 },
+    TooLarge {
+        quantity: Quantity,
+        limit: u64,
+    },
     /// A branch goes to a symbol of the other state whose area lacks the interworking attribute.
-    NotInterworking { symbol: Text, area: Text },
+    NotInterworking {
+        symbol: Text,
+        area: Text,
+    },
     /// The branch at the offset in the area is too far from its target.
     Unreachable {
         object: Text,
@@ -102,13 +124,22 @@ pub enum Refusal {
         kind: FileKind,
     },
     /// The address is the least in two banks, two devices, or one of each.
-    BankOverlap { address: u32 },
+    BankOverlap {
+        address: u32,
+    },
     /// The address is the least that is needed and that no bank has.
-    NoRoom { address: u32 },
+    NoRoom {
+        address: u32,
+    },
     /// A file, or a library's member, is not there.
-    Missing { name: Text },
+    Missing {
+        name: Text,
+    },
     /// The address of the region is written to at startup or by the program, and is in no RAM.
-    NotWritable { region: Text, address: u32 },
+    NotWritable {
+        region: Text,
+        address: u32,
+    },
     BadCommand {
         file: Text,
         line: u32,
