@@ -1,0 +1,8 @@
+//! The instructions of Thumb state (ARMv4T) as a table of encodings, and the decoder of the table.
+#![tactic(auto)]
+
+pub mod instr;
+
+pub use crate::instr::{
+    HighOperation, ImmediateOperation, SignedTransfer, ThumbInstr, ThumbOperation, ThumbShift,
+};
