@@ -1,0 +1,193 @@
+//! The instructions of ARM state, one variant for each row of the architecture manual's encodings.
+//! Registers are 0 to 15; a field has as many bits as in its row.
+
+use sdt_word::{Condition, ShiftKind};
+
+/// What a data-processing instruction does, by its code, 0 to 15 in this order.
+#[derive(Clone, Copy, PartialEq, Eq, Debug, Hash)]
+pub enum Operation {
+    And,
+    Eor,
+    Sub,
+    Rsb,
+    Add,
+    Adc,
+    Sbc,
+    Rsc,
+    Tst,
+    Teq,
+    Cmp,
+    Cmn,
+    Orr,
+    Mov,
+    Bic,
+    Mvn,
+}
+
+/// What a half-word transfer moves, by its code, 1 to 3 in this order.
+#[derive(Clone, Copy, PartialEq, Eq, Debug, Hash)]
+pub enum HalfKind {
+    Half,
+    SignedByte,
+    SignedHalf,
+}
+
+/// An instruction of ARM state.
+#[derive(Clone, Copy, PartialEq, Eq, Debug, Hash)]
+pub enum ArmInstr {
+    /// `ADD{c}{S} Rd,Rn,#v`, v the byte rotated right by twice the rotation.
+    DataImmediate {
+        condition: Condition,
+        operation: Operation,
+        set_flags: bool,
+        rn: u8,
+        rd: u8,
+        rotation: u8,
+        byte: u8,
+    },
+    /// `ADD{c}{S} Rd,Rn,Rm,LSL #a`
+    DataShifted {
+        condition: Condition,
+        operation: Operation,
+        set_flags: bool,
+        rn: u8,
+        rd: u8,
+        amount: u8,
+        shift: ShiftKind,
+        rm: u8,
+    },
+    /// `ADD{c}{S} Rd,Rn,Rm,LSL Rs`
+    DataRegisterShifted {
+        condition: Condition,
+        operation: Operation,
+        set_flags: bool,
+        rn: u8,
+        rd: u8,
+        rs: u8,
+        shift: ShiftKind,
+        rm: u8,
+    },
+    /// `MUL{c}{S} Rd,Rm,Rs`; with `accumulate` `MLA{c}{S} Rd,Rm,Rs,Rn`.
+    Multiply {
+        condition: Condition,
+        accumulate: bool,
+        set_flags: bool,
+        rd: u8,
+        rn: u8,
+        rs: u8,
+        rm: u8,
+    },
+    /// `UMULL`, `UMLAL`, `SMULL`, `SMLAL{c}{S} Rl,Rh,Rm,Rs`
+    MultiplyLong {
+        condition: Condition,
+        signed: bool,
+        accumulate: bool,
+        set_flags: bool,
+        high: u8,
+        low: u8,
+        rs: u8,
+        rm: u8,
+    },
+    /// `SWP{c}{B} Rd,Rm,[Rn]`
+    Swap {
+        condition: Condition,
+        byte: bool,
+        rn: u8,
+        rd: u8,
+        rm: u8,
+    },
+    /// `BX{c} Rm`
+    BranchExchange {
+        condition: Condition,
+        rm: u8,
+    },
+    /// `MRS{c} Rd,CPSR`, or `SPSR` where `saved`.
+    ReadStatus {
+        condition: Condition,
+        saved: bool,
+        rd: u8,
+    },
+    /// `MSR{c} CPSR_fsxc,Rm`; `fields` has a bit for each of the letters, f the highest.
+    WriteStatus {
+        condition: Condition,
+        saved: bool,
+        fields: u8,
+        rm: u8,
+    },
+    /// `MSR{c} CPSR_fsxc,#v`
+    WriteStatusImmediate {
+        condition: Condition,
+        saved: bool,
+        fields: u8,
+        rotation: u8,
+        byte: u8,
+    },
+    /// `LDR{c}{B}{T} Rd,[Rn,#v]{!}` or `[Rn],#v`
+    TransferImmediate {
+        condition: Condition,
+        pre: bool,
+        up: bool,
+        byte: bool,
+        write_back: bool,
+        load: bool,
+        rn: u8,
+        rd: u8,
+        offset: u16,
+    },
+    /// `LDR{c}{B}{T} Rd,[Rn,Rm,LSL #a]{!}` or `[Rn],Rm,LSL #a`
+    TransferShifted {
+        condition: Condition,
+        pre: bool,
+        up: bool,
+        byte: bool,
+        write_back: bool,
+        load: bool,
+        rn: u8,
+        rd: u8,
+        amount: u8,
+        shift: ShiftKind,
+        rm: u8,
+    },
+    /// `LDR{c}H`, `SB`, `SH`, `STR{c}H`; the offset is `high` and `low` as one byte where
+    /// `immediate`, and else the register `low`.
+    TransferHalf {
+        condition: Condition,
+        pre: bool,
+        up: bool,
+        immediate: bool,
+        write_back: bool,
+        load: bool,
+        rn: u8,
+        rd: u8,
+        high: u8,
+        kind: HalfKind,
+        low: u8,
+    },
+    /// `LDM{c}IA Rn{!},{list}{^}`; bit k of the list is register k, `user` the mark `^`.
+    TransferBlock {
+        condition: Condition,
+        pre: bool,
+        up: bool,
+        user: bool,
+        write_back: bool,
+        load: bool,
+        rn: u8,
+        list: u16,
+    },
+    /// `B{c}`, and `BL{c}` where `link`; the displacement is 24 bits, in words.
+    Branch {
+        condition: Condition,
+        link: bool,
+        displacement: u32,
+    },
+    /// `SWI{c} n`, a number of 24 bits.
+    SoftwareInterrupt {
+        condition: Condition,
+        number: u32,
+    },
+    /// A word that takes the undefined exception, by its bits 27 to 0.
+    Undefined {
+        condition: Condition,
+        bits: u32,
+    },
+}
