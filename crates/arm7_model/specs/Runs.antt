@@ -41,3 +41,8 @@ pub data After (board : Board) : State → ℕ → List Input → List (List Acc
       → IsCounted first.event
       → After board first.state n (later_inputs inputs) rest t
       → After board s (suc n) inputs (first.accesses ∷ rest) t
+
+-- the accesses of each step keep P
+abbrev pub EachStep : (List Access → Type 0) → List (List Access) → Type 0
+EachStep P [] = Unit {0}
+EachStep P (accesses ∷ rest) = P accesses × EachStep P rest
