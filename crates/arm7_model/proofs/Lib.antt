@@ -1,0 +1,5 @@
+pub mod Opens
+mod Examples
+pub mod MemoryLemmas
+pub mod Steps
+pub mod Leading

@@ -1,0 +1,83 @@
+-- Steps of a processor in ARM state with both interrupts masked: a step is then what its instruction
+-- does, whatever the lines are. Runs of such steps join, and are runs by `After`.
+use Rattle.std.proofs.Common.{◌≡◌, ℕ, zero, suc, ◌+◌, ◌-◌, ◌*◌, ◌/◌, ◌%◌, ◌^◌, ◌<◌, ◌≤◌, Bool, true, false, ◌&&◌, ◌||◌, not, ◌==◌, List, [], ◌∷◌, ◌++◌, length, refl, sym, ap, subst, ◌∙◌, arith, cond}
+use Rattle.std.specs.Prelude.{slice_index, slice_set, IsTrue}
+use Rattle.sdt_word.specs.Numbers.{bit, bits, flag}
+use Rattle.sdt_word.specs.Bytes.{bytes_of, number_of, load, word}
+use Rattle.sdt_word.specs.Codes.{bytes_in}
+use Rattle.sdt_word.specs.declared.codes.Width.TheVariants.{Word}
+use Rattle.sdt_word.specs.declared.codes.Condition.TheVariants as condition
+use Rattle.arm_isa.specs.declared.instr.ArmInstr.{ArmInstr}
+use Rattle.arm_isa.specs.ArmRows.{ReadsArm}
+use Rattle.arm7_model.specs.declared.state.ArmState.{ArmState}
+use Rattle.arm7_model.specs.declared.event.Event.TheVariants as event
+use Rattle.arm7_model.specs.Memory.{Bytes, Board, in_memory, is_there, all_from}
+use Rattle.arm7_model.specs.Registers.{State, is_thumb, register, with_register}
+use Rattle.arm7_model.specs.Arithmetic.{with_flags, zero_of}
+use Rattle.arm7_model.specs.Accesses.{Access, Fetch, Working}
+use Rattle.arm7_model.specs.Outcomes.{Stepped, Under}
+use Rattle.arm7_model.specs.ArmStep.{arm_done}
+use Rattle.arm7_model.specs.Step.{Levels, Step, Arm, stepped, interrupt, fetches, fetched}
+use Rattle.arm7_model.specs.Runs.{Input, After, stays, goes, first_of_inputs, later_inputs}
+use Rattle.arm7_model.proofs.Opens.{step_opens}
+
+-- ARM state, with IRQ and FIQ masked
+pub record IsQuiet (status : ℕ) : Type 0 where
+  pub arm : bit status 5 ≡ 0
+  pub fiq_masked : bit status 6 ≡ 1
+  pub irq_masked : bit status 7 ≡ 1
+
+-- ---- flags
+low-with_flags : (status v c o : ℕ) → with_flags status v c o % 2 ^ 28 ≡ status % 2 ^ 28
+unfolding with_flags
+low-with_flags status v c o = omega arith
+
+
+pub quiet-with_flags : (status v c o : ℕ) → IsQuiet status → IsQuiet (with_flags status v c o)
+quiet-with_flags status v c o q =
+    let low = low-with_flags status v c o in
+    record {
+      arm = omega (arith, low, q.arm);
+      fiq_masked = omega (arith, low, q.fiq_masked);
+      irq_masked = omega (arith, low, q.irq_masked) }
+
+zero_of-le : (v : ℕ) → zero_of v ≤ 1
+zero_of-le v = go (v == 0)
+  where
+    go : (b : Bool) → cond b 1 0 ≤ 1
+    go true = omega arith
+    go false = omega arith
+
+pub zero-with_flags : (status v c o : ℕ) → c ≤ 1 → o ≤ 1 → bit (with_flags status v c o) 30 ≡ zero_of v
+unfolding with_flags
+zero-with_flags status v c o hc ho = let z = zero_of-le v in omega arith
+
+pub carry-with_flags : (status v c o : ℕ) → c ≤ 1 → o ≤ 1 → bit (with_flags status v c o) 29 ≡ c
+unfolding with_flags
+carry-with_flags status v c o hc ho = let z = zero_of-le v in omega arith
+
+-- ---- a step
+
+-- the registers and CPSR over the rest of a processor, and a memory
+abbrev pub state_of : ArmState → List ℕ → ℕ → Bytes → State
+state_of rest r status m = record { core = record rest { r = r; cpsr = status }; memory = m }
+
+-- From s the step is this, whatever the lines are and the devices answer.
+abbrev pub OneStep : Board → State → Stepped → Type 0
+OneStep board s first = (lines : Levels) (answers : List ℕ) → Step board s lines answers first
+
+-- the instruction under way, after its fetch
+abbrev pub under_way : ArmState → List ℕ → ℕ → Bytes → ℕ → List ℕ → Working
+under_way rest r status m pc answers = record {
+  core = record rest { r = slice_set r 15 ((pc + 4) % 2 ^ 32); cpsr = status };
+  memory = m;
+  answers = answers;
+  accesses = Fetch pc Word ∷ [] }
+
+pub arm_step : (board : Board) (rest : ArmState) (r : List ℕ) (status : ℕ) (m : Bytes) (pc w : ℕ) (i : ArmInstr) (first : Stepped)
+  → IsQuiet status → slice_index r 15 ≡ pc → pc % 4 ≡ 0 → in_memory board pc 4 ≡ true → word m pc ≡ w → ReadsArm w i
+  → ((answers : List ℕ) → arm_done (record { board = board; before = state_of rest r status m; word = w }) i (under_way rest r status m pc answers) ≡ first)
+  → OneStep board (state_of rest r status m) first
+unfolding step_opens
+arm_step board rest r status m pc w i first q at_pc whole there here reads does lines answers =
+    (Arm i, λ _. rw (q.arm, at_pc, there) (rw here reads), sym (rw (q.fiq_masked, q.irq_masked, q.arm, at_pc, whole, there, here) (does answers)))

@@ -1,0 +1,13 @@
+pub mod Memory
+pub mod Registers
+pub mod Arithmetic
+pub mod Accesses
+pub mod Outcomes
+pub mod Data
+pub mod Transfers
+pub mod Blocks
+pub mod Branches
+pub mod ArmStep
+pub mod ThumbStep
+pub mod Step
+pub mod Runs
