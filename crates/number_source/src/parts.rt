@@ -1,6 +1,6 @@
 //! The parts of a line. Each reader gives what follows its part in the line, or None where it isn't there.
 
-ghost use Rattle.std.specs.Prelude.{◌≡◌, ◌==◌, ◌≤◌, ◌<◌, ◌^◌, ◌+◌, ◌∷◌, ◌++◌, [], length, take, drop, nat_eq, nat_lt, if◌then◌else◌, OnOk, MatchOption, Some, None, Option, map};
+ghost use Rattle.std.specs.Prelude.{◌≡◌, ◌==◌, ◌≤◌, ◌<◌, ◌^◌, ◌+◌, ◌∷◌, ◌++◌, [], length, take, drop, nat_eq, nat_lt, if◌then◌else◌, OnOk, MatchOption, Some, None, Option, map, ⊤};
 ghost use Rattle.std.specs.List.{take_while, list_all, starts_with, slice_split};
 ghost use Rattle.std.specs.Option.{option_copied};
 ghost use Rattle.std.specs.Char.{digit_value};
@@ -40,7 +40,8 @@ pub fn after_blanks(text: &[u8]) -> &[u8]
 
 /// Behind one blank or more.
 pub fn after_space(text: &[u8]) -> Option<&[u8]>
-    ensures { option_copied result ≡ after_space text.now }
+    ensures rest { option_copied result ≡ after_space text.now }
+    ensures shorter { MatchOption result ⊤ (λ rest. length rest.now < length text.now) }
 {
     let count = blanks(text);
     if count == 0 {
@@ -51,7 +52,8 @@ pub fn after_space(text: &[u8]) -> Option<&[u8]>
 
 /// Behind the word.
 pub fn after_word<'a>(text: &'a [u8], word: &[u8]) -> Option<&'a [u8]>
-    ensures { option_copied result ≡ after_word word.now text.now }
+    ensures rest { option_copied result ≡ after_word word.now text.now }
+    ensures shorter { MatchOption result ⊤ (λ rest. length rest.now ≤ length text.now) }
 {
     if text.starts_with(word) {
         return Some(&text[word.len()..]);

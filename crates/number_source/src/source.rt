@@ -1,6 +1,6 @@
 //! The lines of a source of numbers.
 
-ghost use Rattle.std.specs.Prelude.{◌≡◌, ◌==◌, ◌<◌, ◌^◌, ◌+◌, ◌-◌, ℕ, length, IfOk, List, codes, Ok, Err, Result, [], OnOk};
+ghost use Rattle.std.specs.Prelude.{◌≡◌, ◌==◌, ◌<◌, ◌^◌, ◌+◌, ◌-◌, ℕ, length, IfOk, List, codes, Ok, Err, Result, [], OnOk, vec_len, ◌≤◌};
 ghost use Rattle.std.specs.List.{slice_split};
 ghost use Rattle.std.specs.Option.{option_copied};
 ghost use Rattle.std.specs.Str.Lines.{lines};
@@ -34,7 +34,8 @@ impl From<NoMemory> for SourceFault {
 /// The numbers of a source, in order.
 pub fn read_numbers(alloc: Global, text: &[u8]) -> Result<Vec<u32>, SourceFault>
     requires { length text.now < 2 ^ 31 }
-    ensures { Reads (λ v. v.items) result (numbers_of (lines text.now)) }
+    ensures exact { Reads (λ v. v.items) result (numbers_of (lines text.now)) }
+    ensures few { IfOk result (λ numbers. vec_len numbers ≤ length text.now) }
 {
     if text.is_empty() {
         return Err(SourceFault::Line(1));
@@ -48,7 +49,8 @@ pub fn read_numbers(alloc: Global, text: &[u8]) -> Result<Vec<u32>, SourceFault>
 
 fn read_entry(alloc: Global, text: &[u8]) -> Result<Vec<u32>, SourceFault>
     requires { length text.now < 2 ^ 31 }
-    ensures { Reads (λ v. v.items) result (entry_from (lines text.now)) }
+    ensures exact { Reads (λ v. v.items) result (entry_from (lines text.now)) }
+    ensures few { IfOk result (λ numbers. vec_len numbers ≤ length text.now) }
 {
     if text.is_empty() {
         return Err(SourceFault::Line(2));
@@ -62,7 +64,8 @@ fn read_entry(alloc: Global, text: &[u8]) -> Result<Vec<u32>, SourceFault>
 
 fn read_data(alloc: Global, text: &[u8]) -> Result<Vec<u32>, SourceFault>
     requires { length text.now < 2 ^ 31 }
-    ensures { Reads (λ v. v.items) result (data_from 3 [] (lines text.now)) }
+    ensures exact { Reads (λ v. v.items) result (data_from 3 [] (lines text.now)) }
+    ensures few { IfOk result (λ numbers. vec_len numbers ≤ length text.now) }
 {
     let mut numbers = Vec::new(alloc);
     let mut number = 3u32;
@@ -83,7 +86,8 @@ fn read_data(alloc: Global, text: &[u8]) -> Result<Vec<u32>, SourceFault>
 
 // The numbers, where there are any, of a text that ends at the line.
 fn ended(line: u32, numbers: Vec<u32>) -> Result<Vec<u32>, SourceFault>
-    ensures { Reads (λ v. v.items) result (ended line numbers.items) }
+    ensures exact { Reads (λ v. v.items) result (ended line numbers.items) }
+    ensures few { IfOk result (λ kept. vec_len kept ≤ vec_len numbers) }
 {
     if numbers.is_empty() {
         return Err(SourceFault::Line(line));
@@ -94,7 +98,8 @@ fn ended(line: u32, numbers: Vec<u32>) -> Result<Vec<u32>, SourceFault>
 // Appends the numbers of a DCD line, and says whether it is one. Where it isn't, some may stand there.
 #[tactic(auto, unfolding(crate::specs::Source::data_on))]
 fn push_line(numbers: &mut Vec<u32>, line: &[u8]) -> Result<bool, NoMemory>
-    ensures { IfOk result (λ all. Pushed all numbers.old.items numbers.new.items (data_on line.now)) }
+    ensures exact { IfOk result (λ all. Pushed all numbers.old.items numbers.new.items (data_on line.now)) }
+    ensures few { OnOk result (vec_len numbers.new ≤ vec_len numbers.old + length line.now) }
 {
     let Some(rest) = after_space(line) else {
         return Ok(false);
@@ -109,7 +114,8 @@ fn push_line(numbers: &mut Vec<u32>, line: &[u8]) -> Result<bool, NoMemory>
 }
 
 fn push_numbers(numbers: &mut Vec<u32>, text: &[u8]) -> Result<bool, NoMemory>
-    ensures { IfOk result (λ all. Pushed all numbers.old.items numbers.new.items (numbers_in (slice_split (λ c. c == 44) text.now))) }
+    ensures exact { IfOk result (λ all. Pushed all numbers.old.items numbers.new.items (numbers_in (slice_split (λ c. c == 44) text.now))) }
+    ensures few { OnOk result (vec_len numbers.new ≤ vec_len numbers.old + length text.now + 1) }
 {
     let mut rest = text;
     'pieces: loop {
