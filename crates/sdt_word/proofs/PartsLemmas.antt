@@ -1,6 +1,6 @@
 -- Joining parts one by one: what is joined so far with what joining the rest gives is what joining all
 -- gives.
-use Rattle.std.proofs.Common.{◌≡◌, ℕ, suc, ◌+◌, ◌*◌, ◌/◌, ◌%◌, ◌^◌, ◌<◌, ◌≤◌, List, [], ◌∷◌, refl, arith, length, drop, get_or, pow-add, mul-le-mul_left, mul-le-mul_right, drop-cons, add-one, subst, sym, ap, ◌∙◌, div-add-mod', mod-lt, mod-eq_of_lt}
+use Rattle.std.proofs.Common.{◌≡◌, ℕ, suc, ◌+◌, ◌*◌, ◌/◌, ◌%◌, ◌^◌, ◌<◌, ◌≤◌, List, [], ◌∷◌, refl, arith, length, drop, get_or, pow-add, mul-le-mul_left, mul-le-mul_right, drop-cons, drop_of_length-le, add-one, subst, sym, ap, ◌∙◌, div-add-mod', mod-lt, mod-eq_of_lt}
 use Rattle.std.proofs.lemmas.Nat.{pow_pos}
 use Rattle.sdt_word.specs.Parts.{PartsFit, joined, total_width}
 
@@ -62,3 +62,23 @@ joined-step parts word k d h so_far a b is_first none is_second =
     let whole : word * 2 ^ p.1 % 2 ^ 64 ≡ word * 2 ^ p.1 = mod-eq_of_lt within in
     let same : word * 2 ^ p.1 + p.0 ≡ word * 2 ^ p.1 % 2 ^ 64 + b = omega arith in
     subst Next same (small, joined-next parts word p (drop (k + 1) parts) here fits)
+
+-- joined parts stay below their width
+pub joined-lt-width : (ps : List (ℕ × ℕ)) → PartsFit ps → joined ps < 2 ^ total_width ps
+joined-lt-width [] fits = omega arith
+joined-lt-width (p ∷ ps) fits =
+    let rest = joined-lt-width ps fits.1 in
+    let e = pow-add 2 p.1 (total_width ps) in
+    let first : p.0 < 2 ^ p.1 = fits.0 in
+    let top : (p.0 + 1) * 2 ^ total_width ps ≤ 2 ^ p.1 * 2 ^ total_width ps = mul-le-mul_right (2 ^ total_width ps) (omega arith) in
+    omega arith
+
+-- where no part is left
+pub joined-end : (parts : List (ℕ × ℕ)) (word k : ℕ) → length parts ≤ k → IsJoinedTo parts word (drop k parts) → word < 2 ^ total_width parts
+joined-end parts word k h so_far =
+    let Joined : List (ℕ × ℕ) → Type 0 = IsJoinedTo parts word in
+    let all : drop k parts ≡ [] = drop_of_length-le parts h in
+    let done : IsJoinedTo parts word [] = subst Joined all so_far in
+    let value = done.value in
+    let fits = joined-lt-width parts (done.fits_back tt) in
+    omega arith
