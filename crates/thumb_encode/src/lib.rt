@@ -2,5 +2,7 @@
 #![tactic(auto)]
 
 mod encode;
+#[cfg(test)]
+mod tests;
 
 pub use crate::encode::encode_thumb;
