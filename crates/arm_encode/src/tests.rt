@@ -13,7 +13,16 @@ fn both_ways(rt: &impl Abort, word: u32, instruction: ArmInstr) {
 }
 
 fn data_processing(rt: &impl Abort) {
-    for (word, condition, operation, set_flags, rn, rd, rotation, byte) in vectors::DATA_IMMEDIATE {
+    for &(
+        word,
+        condition,
+        operation,
+        set_flags,
+        rn,
+        rd,
+        rotation,
+        byte,
+    ) in &vectors::DATA_IMMEDIATE {
         both_ways(
             rt,
             word,
@@ -28,7 +37,7 @@ fn data_processing(rt: &impl Abort) {
             },
         );
     }
-    for (
+    for &(
         word,
         condition,
         operation,
@@ -38,7 +47,7 @@ fn data_processing(rt: &impl Abort) {
         amount,
         shift,
         rm,
-    ) in vectors::DATA_SHIFTED {
+    ) in &vectors::DATA_SHIFTED {
         both_ways(
             rt,
             word,
@@ -54,7 +63,7 @@ fn data_processing(rt: &impl Abort) {
             },
         );
     }
-    for (
+    for &(
         word,
         condition,
         operation,
@@ -64,7 +73,7 @@ fn data_processing(rt: &impl Abort) {
         rs,
         shift,
         rm,
-    ) in vectors::DATA_REGISTER_SHIFTED {
+    ) in &vectors::DATA_REGISTER_SHIFTED {
         both_ways(
             rt,
             word,
@@ -83,7 +92,7 @@ fn data_processing(rt: &impl Abort) {
 }
 
 fn multiplies_and_status(rt: &impl Abort) {
-    for (word, condition, accumulate, set_flags, rd, rn, rs, rm) in vectors::MULTIPLY {
+    for &(word, condition, accumulate, set_flags, rd, rn, rs, rm) in &vectors::MULTIPLY {
         both_ways(
             rt,
             word,
@@ -98,7 +107,7 @@ fn multiplies_and_status(rt: &impl Abort) {
             },
         );
     }
-    for (
+    for &(
         word,
         condition,
         signed,
@@ -108,7 +117,7 @@ fn multiplies_and_status(rt: &impl Abort) {
         low,
         rs,
         rm,
-    ) in vectors::MULTIPLY_LONG {
+    ) in &vectors::MULTIPLY_LONG {
         both_ways(
             rt,
             word,
@@ -124,7 +133,7 @@ fn multiplies_and_status(rt: &impl Abort) {
             },
         );
     }
-    for (word, condition, byte, rn, rd, rm) in vectors::SWAP {
+    for &(word, condition, byte, rn, rd, rm) in &vectors::SWAP {
         both_ways(
             rt,
             word,
@@ -137,10 +146,10 @@ fn multiplies_and_status(rt: &impl Abort) {
             },
         );
     }
-    for (word, condition, rm) in vectors::BRANCH_EXCHANGE {
+    for &(word, condition, rm) in &vectors::BRANCH_EXCHANGE {
         both_ways(rt, word, ArmInstr::BranchExchange { condition, rm });
     }
-    for (word, condition, saved, rd) in vectors::READ_STATUS {
+    for &(word, condition, saved, rd) in &vectors::READ_STATUS {
         both_ways(
             rt,
             word,
@@ -151,7 +160,7 @@ fn multiplies_and_status(rt: &impl Abort) {
             },
         );
     }
-    for (word, condition, saved, fields, rm) in vectors::WRITE_STATUS {
+    for &(word, condition, saved, fields, rm) in &vectors::WRITE_STATUS {
         both_ways(
             rt,
             word,
@@ -163,7 +172,7 @@ fn multiplies_and_status(rt: &impl Abort) {
             },
         );
     }
-    for (word, condition, saved, fields, rotation, byte) in vectors::WRITE_STATUS_IMMEDIATE {
+    for &(word, condition, saved, fields, rotation, byte) in &vectors::WRITE_STATUS_IMMEDIATE {
         both_ways(
             rt,
             word,
@@ -179,7 +188,7 @@ fn multiplies_and_status(rt: &impl Abort) {
 }
 
 fn transfers(rt: &impl Abort) {
-    for (
+    for &(
         word,
         condition,
         pre,
@@ -190,7 +199,7 @@ fn transfers(rt: &impl Abort) {
         rn,
         rd,
         offset,
-    ) in vectors::TRANSFER_IMMEDIATE {
+    ) in &vectors::TRANSFER_IMMEDIATE {
         both_ways(
             rt,
             word,
@@ -207,7 +216,7 @@ fn transfers(rt: &impl Abort) {
             },
         );
     }
-    for (
+    for &(
         word,
         condition,
         pre,
@@ -220,7 +229,7 @@ fn transfers(rt: &impl Abort) {
         amount,
         shift,
         rm,
-    ) in vectors::TRANSFER_SHIFTED {
+    ) in &vectors::TRANSFER_SHIFTED {
         both_ways(
             rt,
             word,
@@ -239,7 +248,7 @@ fn transfers(rt: &impl Abort) {
             },
         );
     }
-    for (
+    for &(
         word,
         condition,
         pre,
@@ -252,7 +261,7 @@ fn transfers(rt: &impl Abort) {
         high,
         kind,
         low,
-    ) in vectors::TRANSFER_HALF {
+    ) in &vectors::TRANSFER_HALF {
         both_ways(
             rt,
             word,
@@ -271,7 +280,7 @@ fn transfers(rt: &impl Abort) {
             },
         );
     }
-    for (word, condition, pre, up, user, write_back, load, rn, list) in vectors::TRANSFER_BLOCK {
+    for &(word, condition, pre, up, user, write_back, load, rn, list) in &vectors::TRANSFER_BLOCK {
         both_ways(
             rt,
             word,
@@ -290,7 +299,7 @@ fn transfers(rt: &impl Abort) {
 }
 
 fn branches_and_exceptions(rt: &impl Abort) {
-    for (word, condition, link, displacement) in vectors::BRANCH {
+    for &(word, condition, link, displacement) in &vectors::BRANCH {
         both_ways(
             rt,
             word,
@@ -301,10 +310,10 @@ fn branches_and_exceptions(rt: &impl Abort) {
             },
         );
     }
-    for (word, condition, number) in vectors::SOFTWARE_INTERRUPT {
+    for &(word, condition, number) in &vectors::SOFTWARE_INTERRUPT {
         both_ways(rt, word, ArmInstr::SoftwareInterrupt { condition, number });
     }
-    for (word, condition, bits) in vectors::UNDEFINED {
+    for &(word, condition, bits) in &vectors::UNDEFINED {
         both_ways(rt, word, ArmInstr::Undefined { condition, bits });
     }
 }

@@ -15,7 +15,7 @@ fn both_ways(rt: &impl Abort, half: u16, instruction: ThumbInstr) {
 }
 
 fn arithmetic(rt: &impl Abort) {
-    for (half, shift, amount, rs, rd) in vectors::SHIFT_IMMEDIATE {
+    for &(half, shift, amount, rs, rd) in &vectors::SHIFT_IMMEDIATE {
         both_ways(
             rt,
             half,
@@ -27,7 +27,7 @@ fn arithmetic(rt: &impl Abort) {
             },
         );
     }
-    for (half, immediate, subtract, operand, rs, rd) in vectors::ADD_SUBTRACT {
+    for &(half, immediate, subtract, operand, rs, rd) in &vectors::ADD_SUBTRACT {
         both_ways(
             rt,
             half,
@@ -40,7 +40,7 @@ fn arithmetic(rt: &impl Abort) {
             },
         );
     }
-    for (half, operation, rd, immediate) in vectors::DATA_IMMEDIATE {
+    for &(half, operation, rd, immediate) in &vectors::DATA_IMMEDIATE {
         both_ways(
             rt,
             half,
@@ -51,10 +51,10 @@ fn arithmetic(rt: &impl Abort) {
             },
         );
     }
-    for (half, operation, rs, rd) in vectors::DATA_REGISTER {
+    for &(half, operation, rs, rd) in &vectors::DATA_REGISTER {
         both_ways(rt, half, ThumbInstr::DataRegister { operation, rs, rd });
     }
-    for (half, operation, high_rd, high_rs, rs, rd) in vectors::HIGH_REGISTER {
+    for &(half, operation, high_rd, high_rs, rs, rd) in &vectors::HIGH_REGISTER {
         both_ways(
             rt,
             half,
@@ -70,10 +70,10 @@ fn arithmetic(rt: &impl Abort) {
 }
 
 fn transfers(rt: &impl Abort) {
-    for (half, rd, offset) in vectors::LOAD_LITERAL {
+    for &(half, rd, offset) in &vectors::LOAD_LITERAL {
         both_ways(rt, half, ThumbInstr::LoadLiteral { rd, offset });
     }
-    for (half, load, byte, ro, rn, rd) in vectors::TRANSFER_REGISTER {
+    for &(half, load, byte, ro, rn, rd) in &vectors::TRANSFER_REGISTER {
         both_ways(
             rt,
             half,
@@ -86,10 +86,10 @@ fn transfers(rt: &impl Abort) {
             },
         );
     }
-    for (half, kind, ro, rn, rd) in vectors::TRANSFER_SIGNED {
+    for &(half, kind, ro, rn, rd) in &vectors::TRANSFER_SIGNED {
         both_ways(rt, half, ThumbInstr::TransferSigned { kind, ro, rn, rd });
     }
-    for (half, byte, load, offset, rn, rd) in vectors::TRANSFER_IMMEDIATE {
+    for &(half, byte, load, offset, rn, rd) in &vectors::TRANSFER_IMMEDIATE {
         both_ways(
             rt,
             half,
@@ -102,7 +102,7 @@ fn transfers(rt: &impl Abort) {
             },
         );
     }
-    for (half, load, offset, rn, rd) in vectors::TRANSFER_HALF {
+    for &(half, load, offset, rn, rd) in &vectors::TRANSFER_HALF {
         both_ways(
             rt,
             half,
@@ -114,44 +114,44 @@ fn transfers(rt: &impl Abort) {
             },
         );
     }
-    for (half, load, rd, offset) in vectors::TRANSFER_STACK {
+    for &(half, load, rd, offset) in &vectors::TRANSFER_STACK {
         both_ways(rt, half, ThumbInstr::TransferStack { load, rd, offset });
     }
 }
 
 fn stack_and_lists(rt: &impl Abort) {
-    for (half, stack, rd, offset) in vectors::LOAD_ADDRESS {
+    for &(half, stack, rd, offset) in &vectors::LOAD_ADDRESS {
         both_ways(rt, half, ThumbInstr::LoadAddress { stack, rd, offset });
     }
-    for (half, subtract, offset) in vectors::ADJUST_STACK {
+    for &(half, subtract, offset) in &vectors::ADJUST_STACK {
         both_ways(rt, half, ThumbInstr::AdjustStack { subtract, offset });
     }
-    for (half, load, link, list) in vectors::PUSH_POP {
+    for &(half, load, link, list) in &vectors::PUSH_POP {
         both_ways(rt, half, ThumbInstr::PushPop { load, link, list });
     }
-    for (half, load, rn, list) in vectors::TRANSFER_MULTIPLE {
+    for &(half, load, rn, list) in &vectors::TRANSFER_MULTIPLE {
         both_ways(rt, half, ThumbInstr::TransferMultiple { load, rn, list });
     }
 }
 
 fn branches_and_exceptions(rt: &impl Abort) {
-    for (half, condition, offset) in vectors::BRANCH_CONDITIONAL {
+    for &(half, condition, offset) in &vectors::BRANCH_CONDITIONAL {
         both_ways(
             rt,
             half,
             ThumbInstr::BranchConditional { condition, offset },
         );
     }
-    for (half, number) in vectors::SOFTWARE_INTERRUPT {
+    for &(half, number) in &vectors::SOFTWARE_INTERRUPT {
         both_ways(rt, half, ThumbInstr::SoftwareInterrupt { number });
     }
-    for (half, offset) in vectors::BRANCH {
+    for &(half, offset) in &vectors::BRANCH {
         both_ways(rt, half, ThumbInstr::Branch { offset });
     }
-    for (half, second, offset) in vectors::BRANCH_LINK {
+    for &(half, second, offset) in &vectors::BRANCH_LINK {
         both_ways(rt, half, ThumbInstr::BranchLink { second, offset });
     }
-    for (half, number) in vectors::UNDEFINED {
+    for &(half, number) in &vectors::UNDEFINED {
         both_ways(rt, half, ThumbInstr::Undefined { number });
     }
 }
