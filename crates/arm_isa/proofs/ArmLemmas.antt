@@ -5,7 +5,8 @@ use Rattle.sdt_word.proofs.CodesLemmas.{condition_at-code, flag_at-flag, shift_a
 use Rattle.sdt_word.proofs.RowsLemmas.{fields-same}
 use Rattle.sdt_word.specs.Numbers.{bit, bits}
 use Rattle.sdt_word.specs.Rows.{FitsRow, Part, word_of}
-use Rattle.arm_isa.specs.ArmRows.{FitsHalf, FitsOperation, IsUnread, ReadsArm, arm_fields, arm_row, half_code, operation_code}
+use Rattle.arm_isa.specs.ArmRows.{FitsHalf, FitsOperation, IsUnread, ReadsArm, arm_fields, arm_row}
+use Rattle.arm_isa.specs.Codes.{half_code, operation_code}
 use Rattle.arm_isa.specs.declared.instr.ArmInstr.{ArmInstr}
 use Rattle.arm_isa.specs.declared.instr.ArmInstr.TheVariants.{DataImmediate, DataShifted, DataRegisterShifted, Multiply, MultiplyLong, Swap, BranchExchange, ReadStatus, WriteStatus, WriteStatusImmediate, TransferImmediate, TransferShifted, TransferHalf, TransferBlock, Branch, SoftwareInterrupt, Undefined}
 use Rattle.arm_isa.specs.declared.instr.HalfKind.{HalfKind}

@@ -4,35 +4,9 @@ use Rattle.std.specs.Prelude.{◌≡◌, ◌≢◌, ◌⊎◌, ℕ, ◌/◌, Lis
 use Rattle.sdt_word.specs.Codes.{condition_code, shift_code}
 use Rattle.sdt_word.specs.Numbers.{bit, bits, flag}
 use Rattle.sdt_word.specs.Rows.{FitsRow, Part, row, word_of}
+use Rattle.arm_isa.specs.Codes.{half_code, operation_code}
 use Rattle.arm_isa.specs.declared.instr.ArmInstr.{ArmInstr}
 use Rattle.arm_isa.specs.declared.instr.ArmInstr.TheVariants.{DataImmediate, DataShifted, DataRegisterShifted, Multiply, MultiplyLong, Swap, BranchExchange, ReadStatus, WriteStatus, WriteStatusImmediate, TransferImmediate, TransferShifted, TransferHalf, TransferBlock, Branch, SoftwareInterrupt, Undefined}
-use Rattle.arm_isa.specs.declared.instr.HalfKind.{HalfKind}
-use Rattle.arm_isa.specs.declared.instr.HalfKind.TheVariants.{Half, SignedByte, SignedHalf}
-use Rattle.arm_isa.specs.declared.instr.Operation.{Operation}
-use Rattle.arm_isa.specs.declared.instr.Operation.TheVariants.{And, Eor, Sub, Rsb, Add, Adc, Sbc, Rsc, Tst, Teq, Cmp, Cmn, Orr, Mov, Bic, Mvn}
-
-abbrev pub operation_code : Operation → ℕ
-operation_code And = 0
-operation_code Eor = 1
-operation_code Sub = 2
-operation_code Rsb = 3
-operation_code Add = 4
-operation_code Adc = 5
-operation_code Sbc = 6
-operation_code Rsc = 7
-operation_code Tst = 8
-operation_code Teq = 9
-operation_code Cmp = 10
-operation_code Cmn = 11
-operation_code Orr = 12
-operation_code Mov = 13
-operation_code Bic = 14
-operation_code Mvn = 15
-
-abbrev pub half_code : HalfKind → ℕ
-half_code Half = 1
-half_code SignedByte = 2
-half_code SignedHalf = 3
 
 -- the row of an instruction
 abbrev pub arm_row : ArmInstr → List Part
@@ -125,3 +99,7 @@ pub record ReadsArm (w : ℕ) (i : ArmInstr) : Type 0 where
 -- the word reads as no instruction
 abbrev pub IsUnread : ℕ → Type 0
 IsUnread w = (i : ArmInstr) → ReadsArm w i → ⊥
+
+-- the instruction is read from no word
+abbrev pub IsUnwritten : ArmInstr → Type 0
+IsUnwritten i = (w : ℕ) → ReadsArm w i → ⊥

@@ -1,1 +1,2 @@
 pub mod ArmRows
+pub mod Codes

@@ -3,7 +3,7 @@
 ghost use Rattle.std.specs.Prelude.{◌≡◌, ◌≢◌, ◌↔◌, ◌<◌, ◌≤◌, ◌+◌, ◌*◌, IfNone, IfSome, IsTrue, MatchOption, Some};
 ghost use Rattle.sdt_word.specs.Codes.{condition_code, shift_code};
 ghost use Rattle.sdt_word.specs.Numbers.{bit, bits};
-ghost use Rattle.arm_isa.specs.ArmRows.{FitsHalf, FitsOperation, IsUndefined, IsUnread, ReadsArm, half_code, operation_code};
+ghost use Rattle.arm_isa.specs.ArmRows.{FitsHalf, FitsOperation, IsUndefined, IsUnread, ReadsArm};
 ghost use Rattle.arm_isa.specs.declared.instr.ArmInstr.{ArmInstr};
 
 use crate::instr::{ArmInstr, HalfKind, Operation};
@@ -66,30 +66,6 @@ fn is_miscellaneous(w: u32) -> bool
     field(w, 23, 2) * 2 + field(w, 20, 1) == 4
 }
 
-fn operation_from(code: u32) -> Operation
-    requires { code < 16 }
-    ensures { operation_code result ≡ code }
-{
-    match code {
-        0 => Operation::And,
-        1 => Operation::Eor,
-        2 => Operation::Sub,
-        3 => Operation::Rsb,
-        4 => Operation::Add,
-        5 => Operation::Adc,
-        6 => Operation::Sbc,
-        7 => Operation::Rsc,
-        8 => Operation::Tst,
-        9 => Operation::Teq,
-        10 => Operation::Cmp,
-        11 => Operation::Cmn,
-        12 => Operation::Orr,
-        13 => Operation::Mov,
-        14 => Operation::Bic,
-        _ => Operation::Mvn,
-    }
-}
-
 // Whether the fields of a data-processing word are those that its operation has.
 fn fits_operation(w: u32) -> bool
     requires { bits w 23 2 * 2 + bit w 20 ≢ 4 }
@@ -121,7 +97,7 @@ fn immediate(w: u32, condition: Condition) -> Option<ArmInstr>
     }
     Some(ArmInstr::DataImmediate {
         condition,
-        operation: operation_from(field(w, 21, 4)),
+        operation: Operation::from_code(field(w, 21, 4)),
         set_flags: is_set(w, 20),
         rn: register(w, 16),
         rd: register(w, 12),
@@ -182,7 +158,7 @@ fn number_shifted(w: u32, condition: Condition) -> Option<ArmInstr>
     }
     Some(ArmInstr::DataShifted {
         condition,
-        operation: operation_from(field(w, 21, 4)),
+        operation: Operation::from_code(field(w, 21, 4)),
         set_flags: is_set(w, 20),
         rn: register(w, 16),
         rd: register(w, 12),
@@ -207,7 +183,7 @@ fn register_shifted(w: u32, condition: Condition) -> Option<ArmInstr>
     }
     Some(ArmInstr::DataRegisterShifted {
         condition,
-        operation: operation_from(field(w, 21, 4)),
+        operation: Operation::from_code(field(w, 21, 4)),
         set_flags: is_set(w, 20),
         rn: register(w, 16),
         rd: register(w, 12),
@@ -357,18 +333,6 @@ fn swap(w: u32, condition: Condition) -> Option<ArmInstr>
     })
 }
 
-fn half_from(code: u32) -> HalfKind
-    requires low { 1 ≤ code }
-    requires high { code < 4 }
-    ensures { half_code result ≡ code }
-{
-    match code {
-        1 => HalfKind::Half,
-        2 => HalfKind::SignedByte,
-        _ => HalfKind::SignedHalf,
-    }
-}
-
 // Whether a half-word transfer has a form that its row allows.
 fn fits_half(w: u32) -> bool
     requires { bits w 5 2 ≢ 0 }
@@ -408,7 +372,7 @@ fn transfer_half(w: u32, condition: Condition) -> Option<ArmInstr>
         rn: register(w, 16),
         rd: register(w, 12),
         high: register(w, 8),
-        kind: half_from(field(w, 5, 2)),
+        kind: HalfKind::from_code(field(w, 5, 2)),
         low: register(w, 0),
     })
 }

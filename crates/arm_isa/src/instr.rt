@@ -1,6 +1,9 @@
 //! The instructions of ARM state, one variant for each row of the architecture manual's encodings.
 //! Registers are 0 to 15; a field has as many bits as in its row.
 
+ghost use Rattle.std.specs.Prelude.{◌≡◌, ◌<◌, ◌≤◌};
+ghost use Rattle.arm_isa.specs.Codes.{half_code, operation_code};
+
 use sdt_word::{Condition, ShiftKind};
 
 /// What a data-processing instruction does, by its code, 0 to 15 in this order.
@@ -190,4 +193,62 @@ pub enum ArmInstr {
         condition: Condition,
         bits: u32,
     },
+}
+
+impl Operation {
+    pub fn code(self) -> u32
+        ensures { result ≡ operation_code self }
+    {
+        self as u32
+    }
+
+    /// The operation of a code.
+    pub fn from_code(code: u32) -> Operation
+        requires { code < 16 }
+        ensures { operation_code result ≡ code }
+    {
+        match code {
+            0 => Operation::And,
+            1 => Operation::Eor,
+            2 => Operation::Sub,
+            3 => Operation::Rsb,
+            4 => Operation::Add,
+            5 => Operation::Adc,
+            6 => Operation::Sbc,
+            7 => Operation::Rsc,
+            8 => Operation::Tst,
+            9 => Operation::Teq,
+            10 => Operation::Cmp,
+            11 => Operation::Cmn,
+            12 => Operation::Orr,
+            13 => Operation::Mov,
+            14 => Operation::Bic,
+            _ => Operation::Mvn,
+        }
+    }
+}
+
+impl HalfKind {
+    pub fn code(self) -> u32
+        ensures { result ≡ half_code self }
+    {
+        match self {
+            HalfKind::Half => 1,
+            HalfKind::SignedByte => 2,
+            HalfKind::SignedHalf => 3,
+        }
+    }
+
+    /// The kind of a code.
+    pub fn from_code(code: u32) -> HalfKind
+        requires low { 1 ≤ code }
+        requires high { code < 4 }
+        ensures { half_code result ≡ code }
+    {
+        match code {
+            1 => HalfKind::Half,
+            2 => HalfKind::SignedByte,
+            _ => HalfKind::SignedHalf,
+        }
+    }
 }

@@ -1,4 +1,5 @@
 pub mod BytesLemmas
 pub mod CodesLemmas
 pub mod NumbersLemmas
+pub mod PartsLemmas
 pub mod RowsLemmas

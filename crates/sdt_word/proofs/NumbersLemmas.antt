@@ -1,7 +1,7 @@
 -- Rotation of a word: as std's call computes it, and its bound.
-use Rattle.std.proofs.Common.{◌≡◌, ℕ, zero, suc, ◌+◌, ◌-◌, ◌*◌, ◌/◌, ◌%◌, ◌^◌, ◌<◌, ◌≤◌, bit_or, sym, ap, subst, add_comm, ◌∙◌, arith, mul-div_cancel, mul-le-mul_right, mod-lt, pow_pos, pow-add, shr_lt, div-one}
+use Rattle.std.proofs.Common.{◌≡◌, ℕ, zero, suc, ◌+◌, ◌-◌, ◌*◌, ◌/◌, ◌%◌, ◌^◌, ◌<◌, ◌≤◌, bit_or, sym, ap, subst, add_comm, ◌∙◌, arith, mul-div_cancel, mul-le-mul_right, mod-lt, pow_pos, pow-add, shr_lt, div-one, div-add-mod'}
 use Rattle.std.proofs.Math.Nat.{mul-mod_left}
-use Rattle.std.proofs.lemmas.Nat.{mod-pow-add, or_comm, or_shifted}
+use Rattle.std.proofs.lemmas.Nat.{div-mul-add, mod-mul-add, mod-pow-add, or_comm, or_shifted}
 use Rattle.std.specs.Int.Bits.{or_self}
 use Rattle.sdt_word.specs.Numbers.{rotated}
 
@@ -46,3 +46,24 @@ rotate_right-rotated v (suc n) small h =
     let place : suc n % 32 ≡ suc n = omega arith in
     let other : (32 - suc n % 32) % 32 ≡ 32 - suc n = omega arith in
     rw (other, place) (or-rotated v (suc n) (32 - suc n) small (omega arith))
+
+-- rotating on by what is left of a turn gives the word back
+pub rotated-back : (v n m : ℕ) → v < 2 ^ 32 → n + m ≡ 32 → rotated (rotated v n) m ≡ v
+rotated-back v n m small e =
+    let Small : ℕ → Type 0 = λ k. v < 2 ^ k in
+    let sum : 32 ≡ m + n = omega arith in
+    let low : v / 2 ^ n < 2 ^ m = shr_lt m n (subst Small sum small) in
+    let first : 32 - n ≡ m = omega arith in
+    let second : 32 - m ≡ n = omega arith in
+    let turned : rotated v n ≡ v % 2 ^ n * 2 ^ m + v / 2 ^ n = rw first (add_comm (v / 2 ^ n) (v % 2 ^ n * 2 ^ m)) in
+    let top : (v % 2 ^ n * 2 ^ m + v / 2 ^ n) / 2 ^ m ≡ v % 2 ^ n = div-mul-add (v % 2 ^ n) (2 ^ m) (v / 2 ^ n) low in
+    let bottom : (v % 2 ^ n * 2 ^ m + v / 2 ^ n) % 2 ^ m ≡ v / 2 ^ n = mod-mul-add (v % 2 ^ n) (2 ^ m) (v / 2 ^ n) low in
+    let split = div-add-mod' v (2 ^ n) in
+    ap (λ (w : ℕ). rotated w m) turned ∙ rw (second, top, bottom) (omega arith)
+
+-- no turn, and a whole one, leave the word
+pub rotated-none : (v : ℕ) → rotated v 0 ≡ v
+rotated-none v = omega (arith, div-one v)
+
+pub rotated-whole : (v : ℕ) → v < 2 ^ 32 → rotated v 32 ≡ v
+rotated-whole v small = omega arith

@@ -3,7 +3,8 @@ use Rattle.std.proofs.Common.{◌≡◌, ℕ, List, [], ◌∷◌, get_or, Optio
 use Rattle.sdt_word.proofs.CodesLemmas.{condition_at-code, flag_at-flag}
 use Rattle.sdt_word.proofs.RowsLemmas.{fields-same}
 use Rattle.sdt_word.specs.Rows.{FitsRow, Part, word_of}
-use Rattle.thumb_isa.specs.ThumbRows.{IsUnread, ReadsThumb, high_code, immediate_code, signed_code, thumb_fields, thumb_operation_code, thumb_row, thumb_shift_code}
+use Rattle.thumb_isa.specs.Codes.{high_code, immediate_code, signed_code, thumb_operation_code, thumb_shift_code}
+use Rattle.thumb_isa.specs.ThumbRows.{IsUnread, ReadsThumb, thumb_fields, thumb_row}
 use Rattle.thumb_isa.specs.declared.instr.HighOperation.{HighOperation}
 use Rattle.thumb_isa.specs.declared.instr.HighOperation.TheVariants.{Add as HighAdd, Cmp as HighCmp, Mov as HighMov, Bx}
 use Rattle.thumb_isa.specs.declared.instr.ImmediateOperation.{ImmediateOperation}

@@ -2,7 +2,7 @@
 
 ghost use Rattle.std.specs.Prelude.{◌≡◌, ◌≢◌, ◌^◌, ◌<◌, ◌≤◌, IfNone, IfSome, MatchOption, Some};
 ghost use Rattle.sdt_word.specs.Numbers.{bit, bits};
-ghost use Rattle.thumb_isa.specs.ThumbRows.{IsUnread, ReadsThumb, high_code, immediate_code, signed_code, thumb_operation_code, thumb_shift_code};
+ghost use Rattle.thumb_isa.specs.ThumbRows.{IsUnread, ReadsThumb};
 ghost use Rattle.thumb_isa.specs.declared.instr.ThumbInstr.{ThumbInstr};
 
 use crate::instr::{
@@ -48,77 +48,6 @@ fn byte_of(h: u32) -> u8
     field(h, 0, 8) as u8
 }
 
-fn shift_from(code: u32) -> ThumbShift
-    requires { code < 3 }
-    ensures { thumb_shift_code result ≡ code }
-{
-    match code {
-        0 => ThumbShift::Lsl,
-        1 => ThumbShift::Lsr,
-        _ => ThumbShift::Asr,
-    }
-}
-
-fn immediate_from(code: u32) -> ImmediateOperation
-    requires { code < 4 }
-    ensures { immediate_code result ≡ code }
-{
-    match code {
-        0 => ImmediateOperation::Mov,
-        1 => ImmediateOperation::Cmp,
-        2 => ImmediateOperation::Add,
-        _ => ImmediateOperation::Sub,
-    }
-}
-
-fn operation_from(code: u32) -> ThumbOperation
-    requires { code < 16 }
-    ensures { thumb_operation_code result ≡ code }
-{
-    match code {
-        0 => ThumbOperation::And,
-        1 => ThumbOperation::Eor,
-        2 => ThumbOperation::Lsl,
-        3 => ThumbOperation::Lsr,
-        4 => ThumbOperation::Asr,
-        5 => ThumbOperation::Adc,
-        6 => ThumbOperation::Sbc,
-        7 => ThumbOperation::Ror,
-        8 => ThumbOperation::Tst,
-        9 => ThumbOperation::Neg,
-        10 => ThumbOperation::Cmp,
-        11 => ThumbOperation::Cmn,
-        12 => ThumbOperation::Orr,
-        13 => ThumbOperation::Mul,
-        14 => ThumbOperation::Bic,
-        _ => ThumbOperation::Mvn,
-    }
-}
-
-fn high_from(code: u32) -> HighOperation
-    requires { code < 4 }
-    ensures { high_code result ≡ code }
-{
-    match code {
-        0 => HighOperation::Add,
-        1 => HighOperation::Cmp,
-        2 => HighOperation::Mov,
-        _ => HighOperation::Bx,
-    }
-}
-
-fn signed_from(code: u32) -> SignedTransfer
-    requires { code < 4 }
-    ensures { signed_code result ≡ code }
-{
-    match code {
-        0 => SignedTransfer::StoreHalf,
-        1 => SignedTransfer::LoadSignedByte,
-        2 => SignedTransfer::LoadHalf,
-        _ => SignedTransfer::LoadSignedHalf,
-    }
-}
-
 fn shift_or_add(h: u32) -> ThumbInstr
     requires { bits h 13 19 ≡ 0 }
     ensures { ReadsThumb h result }
@@ -134,7 +63,7 @@ fn shift_or_add(h: u32) -> ThumbInstr
         };
     }
     ThumbInstr::ShiftImmediate {
-        shift: shift_from(code),
+        shift: ThumbShift::from_code(code),
         amount: field(h, 6, 5) as u8,
         rs: low(h, 3),
         rd: low(h, 0),
@@ -146,7 +75,7 @@ fn data_immediate(h: u32) -> ThumbInstr
     ensures { ReadsThumb h result }
 {
     ThumbInstr::DataImmediate {
-        operation: immediate_from(field(h, 11, 2)),
+        operation: ImmediateOperation::from_code(field(h, 11, 2)),
         rd: low(h, 8),
         immediate: byte_of(h),
     }
@@ -169,7 +98,7 @@ fn register_group(h: u32) -> Option<ThumbInstr>
         return high_register(h);
     }
     Some(ThumbInstr::DataRegister {
-        operation: operation_from(field(h, 6, 4)),
+        operation: ThumbOperation::from_code(field(h, 6, 4)),
         rs: low(h, 3),
         rd: low(h, 0),
     })
@@ -179,12 +108,12 @@ fn high_register(h: u32) -> Option<ThumbInstr>
     requires { bits h 10 22 ≡ 17 }
     ensures { MatchOption result (IsUnread h) (ReadsThumb h) }
 {
-    let operation = high_from(field(h, 8, 2));
-    if field(h, 8, 2) == 3 {
+    let operation = field(h, 8, 2);
+    if operation == 3 {
         return exchange(h);
     }
     Some(ThumbInstr::HighRegister {
-        operation,
+        operation: HighOperation::from_code(operation),
         high_rd: is_set(h, 7),
         high_rs: is_set(h, 6),
         rs: low(h, 3),
@@ -217,7 +146,7 @@ fn transfer_register(h: u32) -> ThumbInstr
 {
     if field(h, 9, 1) == 1 {
         return ThumbInstr::TransferSigned {
-            kind: signed_from(field(h, 10, 2)),
+            kind: SignedTransfer::from_code(field(h, 10, 2)),
             ro: low(h, 6),
             rn: low(h, 3),
             rd: low(h, 0),

@@ -1,6 +1,9 @@
 //! The instructions of Thumb state, one variant for each row of the architecture manual's encodings.
 //! Registers are 0 to 7 where their field has three bits; a field has as many bits as in its row.
 
+ghost use Rattle.std.specs.Prelude.{◌≡◌, ◌<◌};
+ghost use Rattle.thumb_isa.specs.Codes.{high_code, immediate_code, signed_code, thumb_operation_code, thumb_shift_code};
+
 use sdt_word::Condition;
 
 /// A shift by a number, by its code, 0 to 2 in this order.
@@ -183,4 +186,120 @@ pub enum ThumbInstr {
     Undefined {
         number: u8,
     },
+}
+
+impl ThumbShift {
+    pub fn code(self) -> u32
+        ensures { result ≡ thumb_shift_code self }
+    {
+        self as u32
+    }
+
+    /// The shift of a code.
+    pub fn from_code(code: u32) -> ThumbShift
+        requires { code < 3 }
+        ensures { thumb_shift_code result ≡ code }
+    {
+        match code {
+            0 => ThumbShift::Lsl,
+            1 => ThumbShift::Lsr,
+            _ => ThumbShift::Asr,
+        }
+    }
+}
+
+impl ImmediateOperation {
+    pub fn code(self) -> u32
+        ensures { result ≡ immediate_code self }
+    {
+        self as u32
+    }
+
+    /// The operation of a code.
+    pub fn from_code(code: u32) -> ImmediateOperation
+        requires { code < 4 }
+        ensures { immediate_code result ≡ code }
+    {
+        match code {
+            0 => ImmediateOperation::Mov,
+            1 => ImmediateOperation::Cmp,
+            2 => ImmediateOperation::Add,
+            _ => ImmediateOperation::Sub,
+        }
+    }
+}
+
+impl ThumbOperation {
+    pub fn code(self) -> u32
+        ensures { result ≡ thumb_operation_code self }
+    {
+        self as u32
+    }
+
+    /// The operation of a code.
+    pub fn from_code(code: u32) -> ThumbOperation
+        requires { code < 16 }
+        ensures { thumb_operation_code result ≡ code }
+    {
+        match code {
+            0 => ThumbOperation::And,
+            1 => ThumbOperation::Eor,
+            2 => ThumbOperation::Lsl,
+            3 => ThumbOperation::Lsr,
+            4 => ThumbOperation::Asr,
+            5 => ThumbOperation::Adc,
+            6 => ThumbOperation::Sbc,
+            7 => ThumbOperation::Ror,
+            8 => ThumbOperation::Tst,
+            9 => ThumbOperation::Neg,
+            10 => ThumbOperation::Cmp,
+            11 => ThumbOperation::Cmn,
+            12 => ThumbOperation::Orr,
+            13 => ThumbOperation::Mul,
+            14 => ThumbOperation::Bic,
+            _ => ThumbOperation::Mvn,
+        }
+    }
+}
+
+impl HighOperation {
+    pub fn code(self) -> u32
+        ensures { result ≡ high_code self }
+    {
+        self as u32
+    }
+
+    /// The operation of a code.
+    pub fn from_code(code: u32) -> HighOperation
+        requires { code < 4 }
+        ensures { high_code result ≡ code }
+    {
+        match code {
+            0 => HighOperation::Add,
+            1 => HighOperation::Cmp,
+            2 => HighOperation::Mov,
+            _ => HighOperation::Bx,
+        }
+    }
+}
+
+impl SignedTransfer {
+    pub fn code(self) -> u32
+        ensures { result ≡ signed_code self }
+    {
+        self as u32
+    }
+
+    /// The transfer of a code.
+    pub fn from_code(code: u32) -> SignedTransfer
+        requires { code < 4 }
+        ensures { signed_code result ≡ code }
+    {
+        match code {
+            0 => SignedTransfer::StoreHalf,
+            1 => SignedTransfer::LoadSignedByte,
+            2 => SignedTransfer::LoadHalf,
+            _ => SignedTransfer::LoadSignedHalf,
+        }
+    }
 }
