@@ -11,7 +11,7 @@ use Rattle.arm7_model.specs.Registers.{with_register, with_result, stored_at, re
 use Rattle.arm7_model.specs.Accesses.{Access, Load, Store, Working, next_word, read_at, answers_after, after_load, after_store, memory_after}
 use Rattle.arm7_model.specs.Outcomes.{Stepped, Under, ran}
 use Rattle.arm7_model.specs.Transfers.{loaded, stored, loaded_value, load_end}
-use Rattle.arm7_model.specs.Blocks.{take_all, give_all, all_there, all_may_store, with_listed, listed_at}
+use Rattle.arm7_model.specs.Blocks.{take_end, block_loaded, block_stored, with_block_base, take_all, give_all, all_there, all_may_store, with_listed, listed_at}
 use Rattle.arm7_model.proofs.MemoryLemmas.{all-from, any-from, store-append, bytes_of-word, load-add}
 use Rattle.arm7_model.proofs.Placed.{words_at, store_words, loads_at, stores_at, with_words}
 
@@ -148,3 +148,26 @@ store_words-copy m origin t s (suc n) h =
     ∙ sym (store-append m t (load origin s 4) (load origin (s + 4) (4 * n)))
     ∙ ap (store m t) (sym (load-add origin s 4 (4 * n)))
     ∙ ap (λ (k : ℕ). store m t (load origin s k)) (sym whole)
+
+-- ---- blocks
+
+-- LDM of registers other than pc, without ^
+pub block_loaded-words : (u : Under) (write_back : Bool) (ks : List ℕ) (a rn end : ℕ) (w : Working) → a + 4 * length ks ≤ 2 ^ 32 → Mapped u.board a (4 * length ks)
+  → block_loaded u false false write_back ks a rn end false w
+    ≡ ran (record w {
+        core = with_words (with_block_base write_back rn end w.core) ks (words_at w.memory a (length ks));
+        accesses = w.accesses ++ loads_at a (length ks) })
+unfolding block_loaded take_end
+block_loaded-words u write_back ks a rn end w room h =
+    rw (all_there-mapped u.board ks a room h) (ap ran (take_all-words u.board ks a (record w { core = with_block_base write_back rn end w.core }) room h))
+
+-- STM without ^
+pub block_stored-words : (u : Under) (write_back : Bool) (ks : List ℕ) (a rn end : ℕ) (w : Working) → a + 4 * length ks ≤ 2 ^ 32 → Mapped u.board a (4 * length ks) → Writable u.board a (4 * length ks)
+  → block_stored u false write_back ks a rn end w
+    ≡ ran (record w {
+        core = with_block_base write_back rn end w.core;
+        memory = store_words w.memory a (map (stored_at w.core) ks);
+        accesses = w.accesses ++ stores_at a (map (stored_at w.core) ks) })
+unfolding block_stored
+block_stored-words u write_back ks a rn end w room h free =
+    rw (all_may_store-mapped u.board ks a room h free) (ap ran (give_all-words u.board w.core ks a (record w { core = with_block_base write_back rn end w.core }) room h))

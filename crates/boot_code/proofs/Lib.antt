@@ -1,1 +1,2 @@
 pub mod WordsRead
+pub mod BootSteps
