@@ -20,10 +20,12 @@ use Rattle.arm7_model.specs.Accesses.{Access, Fetch, Load, Store}
 use Rattle.arm7_model.specs.Outcomes.{Stepped}
 use Rattle.arm7_model.specs.Branches.{status_with_thumb}
 use Rattle.arm7_model.specs.Branches.{status_with_thumb}
+use Rattle.arm7_model.specs.Branches.{status_with_thumb}
+use Rattle.arm7_model.specs.Branches.{status_with_thumb}
 use Rattle.arm7_model.specs.ArmStep.{arm_done}
 use Rattle.arm7_model.proofs.Opens.{row_opens}
 use Rattle.arm7_model.proofs.Steps.{IsQuiet, OneStep, state_of, under_way, arm_step, compared}
-use Rattle.arm7_model.proofs.Leading.{Leads, here, on}
+use Rattle.arm7_model.proofs.Leading.{Leads, on, lasting}
 use Rattle.arm7_model.proofs.Placed.{words_at, store_words, loads_at, stores_at}
 use Rattle.arm7_model.proofs.TransferLemmas.{Mapped, Writable, in_memory-mapped, loaded-word, stored-word, block_loaded-words, block_stored-words}
 use Rattle.boot_code.specs.Words.{boot_list}
@@ -44,9 +46,12 @@ HasBoot m a = (i : ℕ) → i < 42 → word m (a + 4 * i) ≡ slice_index boot_l
 
 module _ (board : Board) (Allowed : ℕ → Type 0) (rest : ArmState) (a e : ℕ) (g : Site board Allowed a e) where
 
-  -- a run of n steps, each of whose accesses is safe
-  abbrev pub Run : ℕ → State → State → Type 0
-  Run n s t = Leads board (IsSafe Allowed) n s t
+  -- n steps, each of whose accesses is safe, lead from s to a state of which Q holds
+  abbrev pub Run : ℕ → State → (State → Type 0) → Type 0
+  Run n s Q = (t : State) × Leads board (IsSafe Allowed) n s t × Q t
+
+  pub longer : {n k : ℕ} {s : State} {Q : State → Type 0} → n ≡ k → Run n s Q → Run k s Q
+  longer e (t, run, holds) = (t, lasting e run, holds)
 
   top : a + 192 ≤ 4294967296
   top = omega (arith, g.size, g.room)
@@ -58,7 +63,7 @@ module _ (board : Board) (Allowed : ℕ → Type 0) (rest : ArmState) (a e : ℕ
   word_allowed i h k lt = g.allowed (a + 4 * i + k) (omega arith) (omega (arith, g.size))
 
   -- one step by the word at place i, with these accesses after its fetch
-  pub word_step : {n : ℕ} {t : State} {r : List ℕ} {status : ℕ} {m : Bytes} {r' : List ℕ} {status' : ℕ} {m' : Bytes}
+  pub word_step : {n : ℕ} {t : State → Type 0} {r : List ℕ} {status : ℕ} {m : Bytes} {r' : List ℕ} {status' : ℕ} {m' : Bytes}
     (i : ℕ) {instruction : ArmInstr} (more : List Access)
     → i < 42 → ReadsArm (slice_index boot_list i) instruction → HasBoot m a → IsQuiet status → slice_index r 15 ≡ a + 4 * i
     → AreSafe Allowed (a + 4 * i) more
@@ -67,12 +72,12 @@ module _ (board : Board) (Allowed : ℕ → Type 0) (rest : ArmState) (a e : ℕ
         (under_way rest r status m (a + 4 * i) answers)
         ≡ record { state = state_of rest r' status' m'; event = event.Ran; accesses = Fetch (a + 4 * i) Word ∷ more })
     → Run (suc n) (state_of rest r status m) t
-  word_step {r = r} {status} {m} {r'} {status'} {m'} i {instruction} more h reads code q at_pc safe run does =
+  word_step {r = r} {status} {m} {r'} {status'} {m'} i {instruction} more h reads code q at_pc safe (t, run, holds) does =
       let whole : (a + 4 * i) % 4 ≡ 0 = omega (arith, g.multiple) in
-      on (record { state = state_of rest r' status' m'; event = event.Ran; accesses = Fetch (a + 4 * i) Word ∷ more })
+      (t, on (record { state = state_of rest r' status' m'; event = event.Ran; accesses = Fetch (a + 4 * i) Word ∷ more })
         (arm_step board rest r status m (a + 4 * i) (slice_index boot_list i) instruction _ q at_pc whole
           (in_memory-mapped board (a + 4 * i) 4 (word_mapped i h)) (code i h) reads does)
-        refl (word_allowed i h, safe) run
+        refl (word_allowed i h, safe) run, holds)
 
   -- the registers while the word at offset k is next
   abbrev pub at_place : (r0 r1 r2 r3 r4 r5 r6 r7 r8 r9 r10 r11 r12 r13 r14 k status : ℕ) → Bytes → State
@@ -116,7 +121,7 @@ module _ (board : Board) (Allowed : ℕ → Type 0) (rest : ArmState) (a e : ℕ
         safe_stores (b + 4) i vs (λ k below. let e : b + (4 + k) ≡ b + 4 + k = omega arith in subst Allowed e (h (4 + k) (omega arith))) (apart_rest b (4 * length vs) off) lt)
 
   -- ADD r0,pc,#0xA0
-  pub at_00 : {n : ℕ} {t : State} {r0 r1 r2 r3 r4 r5 r6 r7 r8 r9 r10 r11 r12 r13 r14 status : ℕ} {m : Bytes}
+  pub at_00 : {n : ℕ} {t : State → Type 0} {r0 r1 r2 r3 r4 r5 r6 r7 r8 r9 r10 r11 r12 r13 r14 status : ℕ} {m : Bytes}
     → HasBoot m a → IsQuiet status
     → Run n (at_place (a + 168) r1 r2 r3 r4 r5 r6 r7 r8 r9 r10 r11 r12 r13 r14 4 status m) t
     → Run (suc n) (at_place r0 r1 r2 r3 r4 r5 r6 r7 r8 r9 r10 r11 r12 r13 r14 0 status m) t
@@ -128,7 +133,7 @@ module _ (board : Board) (Allowed : ℕ → Type 0) (rest : ArmState) (a e : ℕ
         (λ answers. rw (q.arm, pc, table) refl)
 
   -- LDMIA r0!,{r1,r2,r3}
-  pub at_04 : {n : ℕ} {t : State} {r0 r1 r2 r3 r4 r5 r6 r7 r8 r9 r10 r11 r12 r13 r14 status : ℕ} {m : Bytes}
+  pub at_04 : {n : ℕ} {t : State → Type 0} {r0 r1 r2 r3 r4 r5 r6 r7 r8 r9 r10 r11 r12 r13 r14 status : ℕ} {m : Bytes}
     → HasBoot m a → IsQuiet status → r0 % 4 ≡ 0 → r0 + 12 < 4294967296 → Mapped board r0 12 → Lies Allowed r0 12
     → Run n (at_place (r0 + 12) (word m (r0)) (word m (r0 + 4)) (word m (r0 + 4 + 4)) r4 r5 r6 r7 r8 r9 r10 r11 r12 r13 r14 8 status m) t
     → Run (suc n) (at_place r0 r1 r2 r3 r4 r5 r6 r7 r8 r9 r10 r11 r12 r13 r14 4 status m) t
@@ -141,7 +146,7 @@ module _ (board : Board) (Allowed : ℕ → Type 0) (rest : ArmState) (a e : ℕ
         (λ answers. rw (pc, start, end) (block_loaded-words _ true (1 ∷ 2 ∷ 3 ∷ []) r0 0 (r0 + 12) _ (omega arith) mapped))
 
   -- CMP r3,#0
-  pub at_08 : {n : ℕ} {t : State} {r0 r1 r2 r3 r4 r5 r6 r7 r8 r9 r10 r11 r12 r13 r14 status : ℕ} {m : Bytes}
+  pub at_08 : {n : ℕ} {t : State → Type 0} {r0 r1 r2 r3 r4 r5 r6 r7 r8 r9 r10 r11 r12 r13 r14 status : ℕ} {m : Bytes}
     → HasBoot m a → IsQuiet status
     → Run n (at_place r0 r1 r2 r3 r4 r5 r6 r7 r8 r9 r10 r11 r12 r13 r14 12 (compared status r3 0) m) t
     → Run (suc n) (at_place r0 r1 r2 r3 r4 r5 r6 r7 r8 r9 r10 r11 r12 r13 r14 8 status m) t
@@ -152,7 +157,7 @@ module _ (board : Board) (Allowed : ℕ → Type 0) (rest : ArmState) (a e : ℕ
         (λ answers. rw (pc) refl)
 
   -- BEQ 80, taken
-  pub at_0C_taken : {n : ℕ} {t : State} {r0 r1 r2 r3 r4 r5 r6 r7 r8 r9 r10 r11 r12 r13 r14 status : ℕ} {m : Bytes}
+  pub at_0C_taken : {n : ℕ} {t : State → Type 0} {r0 r1 r2 r3 r4 r5 r6 r7 r8 r9 r10 r11 r12 r13 r14 status : ℕ} {m : Bytes}
     → HasBoot m a → IsQuiet status → bit status 30 ≡ 1
     → Run n (at_place r0 r1 r2 r3 r4 r5 r6 r7 r8 r9 r10 r11 r12 r13 r14 128 status m) t
     → Run (suc n) (at_place r0 r1 r2 r3 r4 r5 r6 r7 r8 r9 r10 r11 r12 r13 r14 12 status m) t
@@ -164,7 +169,7 @@ module _ (board : Board) (Allowed : ℕ → Type 0) (rest : ArmState) (a e : ℕ
         (λ answers. rw (q.arm, pc, z, target) refl)
 
   -- BEQ 80, not taken
-  pub at_0C : {n : ℕ} {t : State} {r0 r1 r2 r3 r4 r5 r6 r7 r8 r9 r10 r11 r12 r13 r14 status : ℕ} {m : Bytes}
+  pub at_0C : {n : ℕ} {t : State → Type 0} {r0 r1 r2 r3 r4 r5 r6 r7 r8 r9 r10 r11 r12 r13 r14 status : ℕ} {m : Bytes}
     → HasBoot m a → IsQuiet status → bit status 30 ≡ 0
     → Run n (at_place r0 r1 r2 r3 r4 r5 r6 r7 r8 r9 r10 r11 r12 r13 r14 16 status m) t
     → Run (suc n) (at_place r0 r1 r2 r3 r4 r5 r6 r7 r8 r9 r10 r11 r12 r13 r14 12 status m) t
@@ -175,7 +180,7 @@ module _ (board : Board) (Allowed : ℕ → Type 0) (rest : ArmState) (a e : ℕ
         (λ answers. rw (pc, z) refl)
 
   -- CMP r2,r1
-  pub at_10 : {n : ℕ} {t : State} {r0 r1 r2 r3 r4 r5 r6 r7 r8 r9 r10 r11 r12 r13 r14 status : ℕ} {m : Bytes}
+  pub at_10 : {n : ℕ} {t : State → Type 0} {r0 r1 r2 r3 r4 r5 r6 r7 r8 r9 r10 r11 r12 r13 r14 status : ℕ} {m : Bytes}
     → HasBoot m a → IsQuiet status
     → Run n (at_place r0 r1 r2 r3 r4 r5 r6 r7 r8 r9 r10 r11 r12 r13 r14 20 (compared status r2 r1) m) t
     → Run (suc n) (at_place r0 r1 r2 r3 r4 r5 r6 r7 r8 r9 r10 r11 r12 r13 r14 16 status m) t
@@ -186,7 +191,7 @@ module _ (board : Board) (Allowed : ℕ → Type 0) (rest : ArmState) (a e : ℕ
         (λ answers. rw (pc) refl)
 
   -- BHI 48, taken
-  pub at_14_taken : {n : ℕ} {t : State} {r0 r1 r2 r3 r4 r5 r6 r7 r8 r9 r10 r11 r12 r13 r14 status : ℕ} {m : Bytes}
+  pub at_14_taken : {n : ℕ} {t : State → Type 0} {r0 r1 r2 r3 r4 r5 r6 r7 r8 r9 r10 r11 r12 r13 r14 status : ℕ} {m : Bytes}
     → HasBoot m a → IsQuiet status → bit status 29 ≡ 1 → bit status 30 ≡ 0
     → Run n (at_place r0 r1 r2 r3 r4 r5 r6 r7 r8 r9 r10 r11 r12 r13 r14 72 status m) t
     → Run (suc n) (at_place r0 r1 r2 r3 r4 r5 r6 r7 r8 r9 r10 r11 r12 r13 r14 20 status m) t
@@ -198,7 +203,7 @@ module _ (board : Board) (Allowed : ℕ → Type 0) (rest : ArmState) (a e : ℕ
         (λ answers. rw (q.arm, pc, c, z, target) refl)
 
   -- BHI 48, not taken
-  pub at_14 : {n : ℕ} {t : State} {r0 r1 r2 r3 r4 r5 r6 r7 r8 r9 r10 r11 r12 r13 r14 status : ℕ} {m : Bytes}
+  pub at_14 : {n : ℕ} {t : State → Type 0} {r0 r1 r2 r3 r4 r5 r6 r7 r8 r9 r10 r11 r12 r13 r14 status : ℕ} {m : Bytes}
     → HasBoot m a → IsQuiet status → bit status 29 ≡ 0
     → Run n (at_place r0 r1 r2 r3 r4 r5 r6 r7 r8 r9 r10 r11 r12 r13 r14 24 status m) t
     → Run (suc n) (at_place r0 r1 r2 r3 r4 r5 r6 r7 r8 r9 r10 r11 r12 r13 r14 20 status m) t
@@ -208,8 +213,19 @@ module _ (board : Board) (Allowed : ℕ → Type 0) (rest : ArmState) (a e : ℕ
       word_step 5 ([]) (omega arith) WordsRead.reads_8A00000B code q refl tt run
         (λ answers. rw (pc, c) refl)
 
+  -- BHI 48, not taken
+  pub at_14_equal : {n : ℕ} {t : State → Type 0} {r0 r1 r2 r3 r4 r5 r6 r7 r8 r9 r10 r11 r12 r13 r14 status : ℕ} {m : Bytes}
+    → HasBoot m a → IsQuiet status → bit status 29 ≡ 1 → bit status 30 ≡ 1
+    → Run n (at_place r0 r1 r2 r3 r4 r5 r6 r7 r8 r9 r10 r11 r12 r13 r14 24 status m) t
+    → Run (suc n) (at_place r0 r1 r2 r3 r4 r5 r6 r7 r8 r9 r10 r11 r12 r13 r14 20 status m) t
+  unfolding row_opens
+  at_14_equal {r0 = r0} {r1 = r1} {r2 = r2} {r3 = r3} {r4 = r4} {r5 = r5} {r6 = r6} {r7 = r7} {r8 = r8} {r9 = r9} {r10 = r10} {r11 = r11} {r12 = r12} {r13 = r13} {r14 = r14} {status = status} {m = m} code q c z run =
+      let pc : (a + 20 + 4) % 4294967296 ≡ a + 24 = omega (arith, top) in
+      word_step 5 ([]) (omega arith) WordsRead.reads_8A00000B code q refl tt run
+        (λ answers. rw (pc, c, z) refl)
+
   -- SUBS r3,r3,#0x20
-  pub at_18 : {n : ℕ} {t : State} {r0 r1 r2 r3 r4 r5 r6 r7 r8 r9 r10 r11 r12 r13 r14 status r : ℕ} {m : Bytes}
+  pub at_18 : {n : ℕ} {t : State → Type 0} {r0 r1 r2 r3 r4 r5 r6 r7 r8 r9 r10 r11 r12 r13 r14 status r : ℕ} {m : Bytes}
     → HasBoot m a → IsQuiet status → (sum_with r3 (inverted 32) 1).value ≡ r
     → Run n (at_place r0 r1 r2 r r4 r5 r6 r7 r8 r9 r10 r11 r12 r13 r14 28 (compared status r3 32) m) t
     → Run (suc n) (at_place r0 r1 r2 r3 r4 r5 r6 r7 r8 r9 r10 r11 r12 r13 r14 24 status m) t
@@ -220,7 +236,7 @@ module _ (board : Board) (Allowed : ℕ → Type 0) (rest : ArmState) (a e : ℕ
         (λ answers. rw (pc, value) refl)
 
   -- BCC 30, taken
-  pub at_1C_taken : {n : ℕ} {t : State} {r0 r1 r2 r3 r4 r5 r6 r7 r8 r9 r10 r11 r12 r13 r14 status : ℕ} {m : Bytes}
+  pub at_1C_taken : {n : ℕ} {t : State → Type 0} {r0 r1 r2 r3 r4 r5 r6 r7 r8 r9 r10 r11 r12 r13 r14 status : ℕ} {m : Bytes}
     → HasBoot m a → IsQuiet status → bit status 29 ≡ 0
     → Run n (at_place r0 r1 r2 r3 r4 r5 r6 r7 r8 r9 r10 r11 r12 r13 r14 48 status m) t
     → Run (suc n) (at_place r0 r1 r2 r3 r4 r5 r6 r7 r8 r9 r10 r11 r12 r13 r14 28 status m) t
@@ -232,7 +248,7 @@ module _ (board : Board) (Allowed : ℕ → Type 0) (rest : ArmState) (a e : ℕ
         (λ answers. rw (q.arm, pc, c, target) refl)
 
   -- BCC 30, not taken
-  pub at_1C : {n : ℕ} {t : State} {r0 r1 r2 r3 r4 r5 r6 r7 r8 r9 r10 r11 r12 r13 r14 status : ℕ} {m : Bytes}
+  pub at_1C : {n : ℕ} {t : State → Type 0} {r0 r1 r2 r3 r4 r5 r6 r7 r8 r9 r10 r11 r12 r13 r14 status : ℕ} {m : Bytes}
     → HasBoot m a → IsQuiet status → bit status 29 ≡ 1
     → Run n (at_place r0 r1 r2 r3 r4 r5 r6 r7 r8 r9 r10 r11 r12 r13 r14 32 status m) t
     → Run (suc n) (at_place r0 r1 r2 r3 r4 r5 r6 r7 r8 r9 r10 r11 r12 r13 r14 28 status m) t
@@ -243,7 +259,7 @@ module _ (board : Board) (Allowed : ℕ → Type 0) (rest : ArmState) (a e : ℕ
         (λ answers. rw (pc, c) refl)
 
   -- LDMIA r1!,{r4 to r11}
-  pub at_20 : {n : ℕ} {t : State} {r0 r1 r2 r3 r4 r5 r6 r7 r8 r9 r10 r11 r12 r13 r14 status : ℕ} {m : Bytes}
+  pub at_20 : {n : ℕ} {t : State → Type 0} {r0 r1 r2 r3 r4 r5 r6 r7 r8 r9 r10 r11 r12 r13 r14 status : ℕ} {m : Bytes}
     → HasBoot m a → IsQuiet status → r1 % 4 ≡ 0 → r1 + 32 ≤ 4294967296 → Mapped board r1 32 → Lies Allowed r1 32
     → Run n (at_place r0 ((r1 + 32) % 4294967296) r2 r3 (word m (r1)) (word m (r1 + 4)) (word m (r1 + 4 + 4)) (word m (r1 + 4 + 4 + 4)) (word m (r1 + 4 + 4 + 4 + 4)) (word m (r1 + 4 + 4 + 4 + 4 + 4)) (word m (r1 + 4 + 4 + 4 + 4 + 4 + 4)) (word m (r1 + 4 + 4 + 4 + 4 + 4 + 4 + 4)) r12 r13 r14 36 status m) t
     → Run (suc n) (at_place r0 r1 r2 r3 r4 r5 r6 r7 r8 r9 r10 r11 r12 r13 r14 32 status m) t
@@ -255,7 +271,7 @@ module _ (board : Board) (Allowed : ℕ → Type 0) (rest : ArmState) (a e : ℕ
         (λ answers. rw (pc, start) (block_loaded-words _ true (4 ∷ 5 ∷ 6 ∷ 7 ∷ 8 ∷ 9 ∷ 10 ∷ 11 ∷ []) r1 1 ((r1 + 32) % 4294967296) _ (omega arith) mapped))
 
   -- STMIA r2!,{r4 to r11}
-  pub at_24 : {n : ℕ} {t : State} {r0 r1 r2 r3 r4 r5 r6 r7 r8 r9 r10 r11 r12 r13 r14 status : ℕ} {m : Bytes}
+  pub at_24 : {n : ℕ} {t : State → Type 0} {r0 r1 r2 r3 r4 r5 r6 r7 r8 r9 r10 r11 r12 r13 r14 status : ℕ} {m : Bytes}
     → HasBoot m a → IsQuiet status → r2 % 4 ≡ 0 → r2 + 32 ≤ 4294967296 → Mapped board r2 32 → Writable board r2 32 → Lies Allowed r2 32 → IsApart r2 32
     → Run n (at_place r0 r1 ((r2 + 32) % 4294967296) r3 r4 r5 r6 r7 r8 r9 r10 r11 r12 r13 r14 40 status (store_words m r2 (r4 ∷ r5 ∷ r6 ∷ r7 ∷ r8 ∷ r9 ∷ r10 ∷ r11 ∷ []))) t
     → Run (suc n) (at_place r0 r1 r2 r3 r4 r5 r6 r7 r8 r9 r10 r11 r12 r13 r14 36 status m) t
@@ -267,7 +283,7 @@ module _ (board : Board) (Allowed : ℕ → Type 0) (rest : ArmState) (a e : ℕ
         (λ answers. rw (pc, start) (block_stored-words _ true (4 ∷ 5 ∷ 6 ∷ 7 ∷ 8 ∷ 9 ∷ 10 ∷ 11 ∷ []) r2 2 ((r2 + 32) % 4294967296) _ (omega arith) mapped free))
 
   -- BNE 18, taken
-  pub at_28_taken : {n : ℕ} {t : State} {r0 r1 r2 r3 r4 r5 r6 r7 r8 r9 r10 r11 r12 r13 r14 status : ℕ} {m : Bytes}
+  pub at_28_taken : {n : ℕ} {t : State → Type 0} {r0 r1 r2 r3 r4 r5 r6 r7 r8 r9 r10 r11 r12 r13 r14 status : ℕ} {m : Bytes}
     → HasBoot m a → IsQuiet status → bit status 30 ≡ 0
     → Run n (at_place r0 r1 r2 r3 r4 r5 r6 r7 r8 r9 r10 r11 r12 r13 r14 24 status m) t
     → Run (suc n) (at_place r0 r1 r2 r3 r4 r5 r6 r7 r8 r9 r10 r11 r12 r13 r14 40 status m) t
@@ -279,7 +295,7 @@ module _ (board : Board) (Allowed : ℕ → Type 0) (rest : ArmState) (a e : ℕ
         (λ answers. rw (q.arm, pc, z, target) refl)
 
   -- BNE 18, not taken
-  pub at_28 : {n : ℕ} {t : State} {r0 r1 r2 r3 r4 r5 r6 r7 r8 r9 r10 r11 r12 r13 r14 status : ℕ} {m : Bytes}
+  pub at_28 : {n : ℕ} {t : State → Type 0} {r0 r1 r2 r3 r4 r5 r6 r7 r8 r9 r10 r11 r12 r13 r14 status : ℕ} {m : Bytes}
     → HasBoot m a → IsQuiet status → bit status 30 ≡ 1
     → Run n (at_place r0 r1 r2 r3 r4 r5 r6 r7 r8 r9 r10 r11 r12 r13 r14 44 status m) t
     → Run (suc n) (at_place r0 r1 r2 r3 r4 r5 r6 r7 r8 r9 r10 r11 r12 r13 r14 40 status m) t
@@ -290,7 +306,7 @@ module _ (board : Board) (Allowed : ℕ → Type 0) (rest : ArmState) (a e : ℕ
         (λ answers. rw (pc, z) refl)
 
   -- B 04, taken
-  pub at_2C : {n : ℕ} {t : State} {r0 r1 r2 r3 r4 r5 r6 r7 r8 r9 r10 r11 r12 r13 r14 status : ℕ} {m : Bytes}
+  pub at_2C : {n : ℕ} {t : State → Type 0} {r0 r1 r2 r3 r4 r5 r6 r7 r8 r9 r10 r11 r12 r13 r14 status : ℕ} {m : Bytes}
     → HasBoot m a → IsQuiet status
     → Run n (at_place r0 r1 r2 r3 r4 r5 r6 r7 r8 r9 r10 r11 r12 r13 r14 4 status m) t
     → Run (suc n) (at_place r0 r1 r2 r3 r4 r5 r6 r7 r8 r9 r10 r11 r12 r13 r14 44 status m) t
@@ -302,7 +318,7 @@ module _ (board : Board) (Allowed : ℕ → Type 0) (rest : ArmState) (a e : ℕ
         (λ answers. rw (q.arm, pc, target) refl)
 
   -- ADD r3,r3,#0x20
-  pub at_30 : {n : ℕ} {t : State} {r0 r1 r2 r3 r4 r5 r6 r7 r8 r9 r10 r11 r12 r13 r14 status r : ℕ} {m : Bytes}
+  pub at_30 : {n : ℕ} {t : State → Type 0} {r0 r1 r2 r3 r4 r5 r6 r7 r8 r9 r10 r11 r12 r13 r14 status r : ℕ} {m : Bytes}
     → HasBoot m a → IsQuiet status → (sum_with r3 32 0).value ≡ r
     → Run n (at_place r0 r1 r2 r r4 r5 r6 r7 r8 r9 r10 r11 r12 r13 r14 52 status m) t
     → Run (suc n) (at_place r0 r1 r2 r3 r4 r5 r6 r7 r8 r9 r10 r11 r12 r13 r14 48 status m) t
@@ -313,7 +329,7 @@ module _ (board : Board) (Allowed : ℕ → Type 0) (rest : ArmState) (a e : ℕ
         (λ answers. rw (pc, value) refl)
 
   -- LDR r4,[r1],#4
-  pub at_34 : {n : ℕ} {t : State} {r0 r1 r2 r3 r4 r5 r6 r7 r8 r9 r10 r11 r12 r13 r14 status : ℕ} {m : Bytes}
+  pub at_34 : {n : ℕ} {t : State → Type 0} {r0 r1 r2 r3 r4 r5 r6 r7 r8 r9 r10 r11 r12 r13 r14 status : ℕ} {m : Bytes}
     → HasBoot m a → IsQuiet status → r1 % 4 ≡ 0 → r1 + 4 ≤ 4294967296 → Mapped board r1 4 → Lies Allowed r1 4
     → Run n (at_place r0 ((r1 + 4) % 4294967296) r2 r3 (word m r1) r5 r6 r7 r8 r9 r10 r11 r12 r13 r14 56 status m) t
     → Run (suc n) (at_place r0 r1 r2 r3 r4 r5 r6 r7 r8 r9 r10 r11 r12 r13 r14 52 status m) t
@@ -324,7 +340,7 @@ module _ (board : Board) (Allowed : ℕ → Type 0) (rest : ArmState) (a e : ℕ
         (λ answers. rw (pc) (loaded-word _ r1 4 _ _ whole mapped refl))
 
   -- STR r4,[r2],#4
-  pub at_38 : {n : ℕ} {t : State} {r0 r1 r2 r3 r4 r5 r6 r7 r8 r9 r10 r11 r12 r13 r14 status : ℕ} {m : Bytes}
+  pub at_38 : {n : ℕ} {t : State → Type 0} {r0 r1 r2 r3 r4 r5 r6 r7 r8 r9 r10 r11 r12 r13 r14 status : ℕ} {m : Bytes}
     → HasBoot m a → IsQuiet status → r2 % 4 ≡ 0 → r2 + 4 ≤ 4294967296 → Mapped board r2 4 → Writable board r2 4 → Lies Allowed r2 4 → IsApart r2 4
     → Run n (at_place r0 r1 ((r2 + 4) % 4294967296) r3 r4 r5 r6 r7 r8 r9 r10 r11 r12 r13 r14 60 status (store m r2 (bytes_of r4 4))) t
     → Run (suc n) (at_place r0 r1 r2 r3 r4 r5 r6 r7 r8 r9 r10 r11 r12 r13 r14 56 status m) t
@@ -335,7 +351,7 @@ module _ (board : Board) (Allowed : ℕ → Type 0) (rest : ArmState) (a e : ℕ
         (λ answers. rw (pc) (stored-word _ r2 4 _ _ whole mapped free))
 
   -- SUBS r3,r3,#4
-  pub at_3C : {n : ℕ} {t : State} {r0 r1 r2 r3 r4 r5 r6 r7 r8 r9 r10 r11 r12 r13 r14 status r : ℕ} {m : Bytes}
+  pub at_3C : {n : ℕ} {t : State → Type 0} {r0 r1 r2 r3 r4 r5 r6 r7 r8 r9 r10 r11 r12 r13 r14 status r : ℕ} {m : Bytes}
     → HasBoot m a → IsQuiet status → (sum_with r3 (inverted 4) 1).value ≡ r
     → Run n (at_place r0 r1 r2 r r4 r5 r6 r7 r8 r9 r10 r11 r12 r13 r14 64 (compared status r3 4) m) t
     → Run (suc n) (at_place r0 r1 r2 r3 r4 r5 r6 r7 r8 r9 r10 r11 r12 r13 r14 60 status m) t
@@ -346,7 +362,7 @@ module _ (board : Board) (Allowed : ℕ → Type 0) (rest : ArmState) (a e : ℕ
         (λ answers. rw (pc, value) refl)
 
   -- BNE 34, taken
-  pub at_40_taken : {n : ℕ} {t : State} {r0 r1 r2 r3 r4 r5 r6 r7 r8 r9 r10 r11 r12 r13 r14 status : ℕ} {m : Bytes}
+  pub at_40_taken : {n : ℕ} {t : State → Type 0} {r0 r1 r2 r3 r4 r5 r6 r7 r8 r9 r10 r11 r12 r13 r14 status : ℕ} {m : Bytes}
     → HasBoot m a → IsQuiet status → bit status 30 ≡ 0
     → Run n (at_place r0 r1 r2 r3 r4 r5 r6 r7 r8 r9 r10 r11 r12 r13 r14 52 status m) t
     → Run (suc n) (at_place r0 r1 r2 r3 r4 r5 r6 r7 r8 r9 r10 r11 r12 r13 r14 64 status m) t
@@ -358,7 +374,7 @@ module _ (board : Board) (Allowed : ℕ → Type 0) (rest : ArmState) (a e : ℕ
         (λ answers. rw (q.arm, pc, z, target) refl)
 
   -- BNE 34, not taken
-  pub at_40 : {n : ℕ} {t : State} {r0 r1 r2 r3 r4 r5 r6 r7 r8 r9 r10 r11 r12 r13 r14 status : ℕ} {m : Bytes}
+  pub at_40 : {n : ℕ} {t : State → Type 0} {r0 r1 r2 r3 r4 r5 r6 r7 r8 r9 r10 r11 r12 r13 r14 status : ℕ} {m : Bytes}
     → HasBoot m a → IsQuiet status → bit status 30 ≡ 1
     → Run n (at_place r0 r1 r2 r3 r4 r5 r6 r7 r8 r9 r10 r11 r12 r13 r14 68 status m) t
     → Run (suc n) (at_place r0 r1 r2 r3 r4 r5 r6 r7 r8 r9 r10 r11 r12 r13 r14 64 status m) t
@@ -369,7 +385,7 @@ module _ (board : Board) (Allowed : ℕ → Type 0) (rest : ArmState) (a e : ℕ
         (λ answers. rw (pc, z) refl)
 
   -- B 04, taken
-  pub at_44 : {n : ℕ} {t : State} {r0 r1 r2 r3 r4 r5 r6 r7 r8 r9 r10 r11 r12 r13 r14 status : ℕ} {m : Bytes}
+  pub at_44 : {n : ℕ} {t : State → Type 0} {r0 r1 r2 r3 r4 r5 r6 r7 r8 r9 r10 r11 r12 r13 r14 status : ℕ} {m : Bytes}
     → HasBoot m a → IsQuiet status
     → Run n (at_place r0 r1 r2 r3 r4 r5 r6 r7 r8 r9 r10 r11 r12 r13 r14 4 status m) t
     → Run (suc n) (at_place r0 r1 r2 r3 r4 r5 r6 r7 r8 r9 r10 r11 r12 r13 r14 68 status m) t
@@ -381,7 +397,7 @@ module _ (board : Board) (Allowed : ℕ → Type 0) (rest : ArmState) (a e : ℕ
         (λ answers. rw (q.arm, pc, target) refl)
 
   -- ADD r1,r1,r3
-  pub at_48 : {n : ℕ} {t : State} {r0 r1 r2 r3 r4 r5 r6 r7 r8 r9 r10 r11 r12 r13 r14 status r : ℕ} {m : Bytes}
+  pub at_48 : {n : ℕ} {t : State → Type 0} {r0 r1 r2 r3 r4 r5 r6 r7 r8 r9 r10 r11 r12 r13 r14 status r : ℕ} {m : Bytes}
     → HasBoot m a → IsQuiet status → (sum_with r1 r3 0).value ≡ r
     → Run n (at_place r0 r r2 r3 r4 r5 r6 r7 r8 r9 r10 r11 r12 r13 r14 76 status m) t
     → Run (suc n) (at_place r0 r1 r2 r3 r4 r5 r6 r7 r8 r9 r10 r11 r12 r13 r14 72 status m) t
@@ -392,7 +408,7 @@ module _ (board : Board) (Allowed : ℕ → Type 0) (rest : ArmState) (a e : ℕ
         (λ answers. rw (pc, value) refl)
 
   -- ADD r2,r2,r3
-  pub at_4C : {n : ℕ} {t : State} {r0 r1 r2 r3 r4 r5 r6 r7 r8 r9 r10 r11 r12 r13 r14 status r : ℕ} {m : Bytes}
+  pub at_4C : {n : ℕ} {t : State → Type 0} {r0 r1 r2 r3 r4 r5 r6 r7 r8 r9 r10 r11 r12 r13 r14 status r : ℕ} {m : Bytes}
     → HasBoot m a → IsQuiet status → (sum_with r2 r3 0).value ≡ r
     → Run n (at_place r0 r1 r r3 r4 r5 r6 r7 r8 r9 r10 r11 r12 r13 r14 80 status m) t
     → Run (suc n) (at_place r0 r1 r2 r3 r4 r5 r6 r7 r8 r9 r10 r11 r12 r13 r14 76 status m) t
@@ -403,7 +419,7 @@ module _ (board : Board) (Allowed : ℕ → Type 0) (rest : ArmState) (a e : ℕ
         (λ answers. rw (pc, value) refl)
 
   -- SUBS r3,r3,#0x20
-  pub at_50 : {n : ℕ} {t : State} {r0 r1 r2 r3 r4 r5 r6 r7 r8 r9 r10 r11 r12 r13 r14 status r : ℕ} {m : Bytes}
+  pub at_50 : {n : ℕ} {t : State → Type 0} {r0 r1 r2 r3 r4 r5 r6 r7 r8 r9 r10 r11 r12 r13 r14 status r : ℕ} {m : Bytes}
     → HasBoot m a → IsQuiet status → (sum_with r3 (inverted 32) 1).value ≡ r
     → Run n (at_place r0 r1 r2 r r4 r5 r6 r7 r8 r9 r10 r11 r12 r13 r14 84 (compared status r3 32) m) t
     → Run (suc n) (at_place r0 r1 r2 r3 r4 r5 r6 r7 r8 r9 r10 r11 r12 r13 r14 80 status m) t
@@ -414,7 +430,7 @@ module _ (board : Board) (Allowed : ℕ → Type 0) (rest : ArmState) (a e : ℕ
         (λ answers. rw (pc, value) refl)
 
   -- BCC 68, taken
-  pub at_54_taken : {n : ℕ} {t : State} {r0 r1 r2 r3 r4 r5 r6 r7 r8 r9 r10 r11 r12 r13 r14 status : ℕ} {m : Bytes}
+  pub at_54_taken : {n : ℕ} {t : State → Type 0} {r0 r1 r2 r3 r4 r5 r6 r7 r8 r9 r10 r11 r12 r13 r14 status : ℕ} {m : Bytes}
     → HasBoot m a → IsQuiet status → bit status 29 ≡ 0
     → Run n (at_place r0 r1 r2 r3 r4 r5 r6 r7 r8 r9 r10 r11 r12 r13 r14 104 status m) t
     → Run (suc n) (at_place r0 r1 r2 r3 r4 r5 r6 r7 r8 r9 r10 r11 r12 r13 r14 84 status m) t
@@ -426,7 +442,7 @@ module _ (board : Board) (Allowed : ℕ → Type 0) (rest : ArmState) (a e : ℕ
         (λ answers. rw (q.arm, pc, c, target) refl)
 
   -- BCC 68, not taken
-  pub at_54 : {n : ℕ} {t : State} {r0 r1 r2 r3 r4 r5 r6 r7 r8 r9 r10 r11 r12 r13 r14 status : ℕ} {m : Bytes}
+  pub at_54 : {n : ℕ} {t : State → Type 0} {r0 r1 r2 r3 r4 r5 r6 r7 r8 r9 r10 r11 r12 r13 r14 status : ℕ} {m : Bytes}
     → HasBoot m a → IsQuiet status → bit status 29 ≡ 1
     → Run n (at_place r0 r1 r2 r3 r4 r5 r6 r7 r8 r9 r10 r11 r12 r13 r14 88 status m) t
     → Run (suc n) (at_place r0 r1 r2 r3 r4 r5 r6 r7 r8 r9 r10 r11 r12 r13 r14 84 status m) t
@@ -437,7 +453,7 @@ module _ (board : Board) (Allowed : ℕ → Type 0) (rest : ArmState) (a e : ℕ
         (λ answers. rw (pc, c) refl)
 
   -- LDMDB r1!,{r4 to r11}
-  pub at_58 : {n : ℕ} {t : State} {r0 r2 r3 r4 r5 r6 r7 r8 r9 r10 r11 r12 r13 r14 status x : ℕ} {m : Bytes}
+  pub at_58 : {n : ℕ} {t : State → Type 0} {r0 r2 r3 r4 r5 r6 r7 r8 r9 r10 r11 r12 r13 r14 status x : ℕ} {m : Bytes}
     → HasBoot m a → IsQuiet status → x % 4 ≡ 0 → x + 32 ≤ 4294967296 → Mapped board x 32 → Lies Allowed x 32
     → Run n (at_place r0 x r2 r3 (word m (x)) (word m (x + 4)) (word m (x + 4 + 4)) (word m (x + 4 + 4 + 4)) (word m (x + 4 + 4 + 4 + 4)) (word m (x + 4 + 4 + 4 + 4 + 4)) (word m (x + 4 + 4 + 4 + 4 + 4 + 4)) (word m (x + 4 + 4 + 4 + 4 + 4 + 4 + 4)) r12 r13 r14 92 status m) t
     → Run (suc n) (at_place r0 ((x + 32) % 4294967296) r2 r3 r4 r5 r6 r7 r8 r9 r10 r11 r12 r13 r14 88 status m) t
@@ -450,7 +466,7 @@ module _ (board : Board) (Allowed : ℕ → Type 0) (rest : ArmState) (a e : ℕ
         (λ answers. rw (pc, start, end) (block_loaded-words _ true (4 ∷ 5 ∷ 6 ∷ 7 ∷ 8 ∷ 9 ∷ 10 ∷ 11 ∷ []) x 1 (x) _ (omega arith) mapped))
 
   -- STMDB r2!,{r4 to r11}
-  pub at_5C : {n : ℕ} {t : State} {r0 r1 r3 r4 r5 r6 r7 r8 r9 r10 r11 r12 r13 r14 status x : ℕ} {m : Bytes}
+  pub at_5C : {n : ℕ} {t : State → Type 0} {r0 r1 r3 r4 r5 r6 r7 r8 r9 r10 r11 r12 r13 r14 status x : ℕ} {m : Bytes}
     → HasBoot m a → IsQuiet status → x % 4 ≡ 0 → x + 32 ≤ 4294967296 → Mapped board x 32 → Writable board x 32 → Lies Allowed x 32 → IsApart x 32
     → Run n (at_place r0 r1 x r3 r4 r5 r6 r7 r8 r9 r10 r11 r12 r13 r14 96 status (store_words m x (r4 ∷ r5 ∷ r6 ∷ r7 ∷ r8 ∷ r9 ∷ r10 ∷ r11 ∷ []))) t
     → Run (suc n) (at_place r0 r1 ((x + 32) % 4294967296) r3 r4 r5 r6 r7 r8 r9 r10 r11 r12 r13 r14 92 status m) t
@@ -463,7 +479,7 @@ module _ (board : Board) (Allowed : ℕ → Type 0) (rest : ArmState) (a e : ℕ
         (λ answers. rw (pc, start, end) (block_stored-words _ true (4 ∷ 5 ∷ 6 ∷ 7 ∷ 8 ∷ 9 ∷ 10 ∷ 11 ∷ []) x 2 (x) _ (omega arith) mapped free))
 
   -- BNE 50, taken
-  pub at_60_taken : {n : ℕ} {t : State} {r0 r1 r2 r3 r4 r5 r6 r7 r8 r9 r10 r11 r12 r13 r14 status : ℕ} {m : Bytes}
+  pub at_60_taken : {n : ℕ} {t : State → Type 0} {r0 r1 r2 r3 r4 r5 r6 r7 r8 r9 r10 r11 r12 r13 r14 status : ℕ} {m : Bytes}
     → HasBoot m a → IsQuiet status → bit status 30 ≡ 0
     → Run n (at_place r0 r1 r2 r3 r4 r5 r6 r7 r8 r9 r10 r11 r12 r13 r14 80 status m) t
     → Run (suc n) (at_place r0 r1 r2 r3 r4 r5 r6 r7 r8 r9 r10 r11 r12 r13 r14 96 status m) t
@@ -475,7 +491,7 @@ module _ (board : Board) (Allowed : ℕ → Type 0) (rest : ArmState) (a e : ℕ
         (λ answers. rw (q.arm, pc, z, target) refl)
 
   -- BNE 50, not taken
-  pub at_60 : {n : ℕ} {t : State} {r0 r1 r2 r3 r4 r5 r6 r7 r8 r9 r10 r11 r12 r13 r14 status : ℕ} {m : Bytes}
+  pub at_60 : {n : ℕ} {t : State → Type 0} {r0 r1 r2 r3 r4 r5 r6 r7 r8 r9 r10 r11 r12 r13 r14 status : ℕ} {m : Bytes}
     → HasBoot m a → IsQuiet status → bit status 30 ≡ 1
     → Run n (at_place r0 r1 r2 r3 r4 r5 r6 r7 r8 r9 r10 r11 r12 r13 r14 100 status m) t
     → Run (suc n) (at_place r0 r1 r2 r3 r4 r5 r6 r7 r8 r9 r10 r11 r12 r13 r14 96 status m) t
@@ -486,7 +502,7 @@ module _ (board : Board) (Allowed : ℕ → Type 0) (rest : ArmState) (a e : ℕ
         (λ answers. rw (pc, z) refl)
 
   -- B 04, taken
-  pub at_64 : {n : ℕ} {t : State} {r0 r1 r2 r3 r4 r5 r6 r7 r8 r9 r10 r11 r12 r13 r14 status : ℕ} {m : Bytes}
+  pub at_64 : {n : ℕ} {t : State → Type 0} {r0 r1 r2 r3 r4 r5 r6 r7 r8 r9 r10 r11 r12 r13 r14 status : ℕ} {m : Bytes}
     → HasBoot m a → IsQuiet status
     → Run n (at_place r0 r1 r2 r3 r4 r5 r6 r7 r8 r9 r10 r11 r12 r13 r14 4 status m) t
     → Run (suc n) (at_place r0 r1 r2 r3 r4 r5 r6 r7 r8 r9 r10 r11 r12 r13 r14 100 status m) t
@@ -498,7 +514,7 @@ module _ (board : Board) (Allowed : ℕ → Type 0) (rest : ArmState) (a e : ℕ
         (λ answers. rw (q.arm, pc, target) refl)
 
   -- ADD r3,r3,#0x20
-  pub at_68 : {n : ℕ} {t : State} {r0 r1 r2 r3 r4 r5 r6 r7 r8 r9 r10 r11 r12 r13 r14 status r : ℕ} {m : Bytes}
+  pub at_68 : {n : ℕ} {t : State → Type 0} {r0 r1 r2 r3 r4 r5 r6 r7 r8 r9 r10 r11 r12 r13 r14 status r : ℕ} {m : Bytes}
     → HasBoot m a → IsQuiet status → (sum_with r3 32 0).value ≡ r
     → Run n (at_place r0 r1 r2 r r4 r5 r6 r7 r8 r9 r10 r11 r12 r13 r14 108 status m) t
     → Run (suc n) (at_place r0 r1 r2 r3 r4 r5 r6 r7 r8 r9 r10 r11 r12 r13 r14 104 status m) t
@@ -509,7 +525,7 @@ module _ (board : Board) (Allowed : ℕ → Type 0) (rest : ArmState) (a e : ℕ
         (λ answers. rw (pc, value) refl)
 
   -- LDR r4,[r1,#-4]!
-  pub at_6C : {n : ℕ} {t : State} {r0 r2 r3 r4 r5 r6 r7 r8 r9 r10 r11 r12 r13 r14 status x : ℕ} {m : Bytes}
+  pub at_6C : {n : ℕ} {t : State → Type 0} {r0 r2 r3 r4 r5 r6 r7 r8 r9 r10 r11 r12 r13 r14 status x : ℕ} {m : Bytes}
     → HasBoot m a → IsQuiet status → x % 4 ≡ 0 → x + 4 ≤ 4294967296 → Mapped board x 4 → Lies Allowed x 4
     → Run n (at_place r0 x r2 r3 (word m x) r5 r6 r7 r8 r9 r10 r11 r12 r13 r14 112 status m) t
     → Run (suc n) (at_place r0 ((x + 4) % 4294967296) r2 r3 r4 r5 r6 r7 r8 r9 r10 r11 r12 r13 r14 108 status m) t
@@ -521,7 +537,7 @@ module _ (board : Board) (Allowed : ℕ → Type 0) (rest : ArmState) (a e : ℕ
         (λ answers. rw (pc, moved) (loaded-word _ x 4 _ _ whole mapped refl))
 
   -- STR r4,[r2,#-4]!
-  pub at_70 : {n : ℕ} {t : State} {r0 r1 r3 r4 r5 r6 r7 r8 r9 r10 r11 r12 r13 r14 status x : ℕ} {m : Bytes}
+  pub at_70 : {n : ℕ} {t : State → Type 0} {r0 r1 r3 r4 r5 r6 r7 r8 r9 r10 r11 r12 r13 r14 status x : ℕ} {m : Bytes}
     → HasBoot m a → IsQuiet status → x % 4 ≡ 0 → x + 4 ≤ 4294967296 → Mapped board x 4 → Writable board x 4 → Lies Allowed x 4 → IsApart x 4
     → Run n (at_place r0 r1 x r3 r4 r5 r6 r7 r8 r9 r10 r11 r12 r13 r14 116 status (store m x (bytes_of r4 4))) t
     → Run (suc n) (at_place r0 r1 ((x + 4) % 4294967296) r3 r4 r5 r6 r7 r8 r9 r10 r11 r12 r13 r14 112 status m) t
@@ -533,7 +549,7 @@ module _ (board : Board) (Allowed : ℕ → Type 0) (rest : ArmState) (a e : ℕ
         (λ answers. rw (pc, moved) (stored-word _ x 4 _ _ whole mapped free))
 
   -- SUBS r3,r3,#4
-  pub at_74 : {n : ℕ} {t : State} {r0 r1 r2 r3 r4 r5 r6 r7 r8 r9 r10 r11 r12 r13 r14 status r : ℕ} {m : Bytes}
+  pub at_74 : {n : ℕ} {t : State → Type 0} {r0 r1 r2 r3 r4 r5 r6 r7 r8 r9 r10 r11 r12 r13 r14 status r : ℕ} {m : Bytes}
     → HasBoot m a → IsQuiet status → (sum_with r3 (inverted 4) 1).value ≡ r
     → Run n (at_place r0 r1 r2 r r4 r5 r6 r7 r8 r9 r10 r11 r12 r13 r14 120 (compared status r3 4) m) t
     → Run (suc n) (at_place r0 r1 r2 r3 r4 r5 r6 r7 r8 r9 r10 r11 r12 r13 r14 116 status m) t
@@ -544,7 +560,7 @@ module _ (board : Board) (Allowed : ℕ → Type 0) (rest : ArmState) (a e : ℕ
         (λ answers. rw (pc, value) refl)
 
   -- BNE 6C, taken
-  pub at_78_taken : {n : ℕ} {t : State} {r0 r1 r2 r3 r4 r5 r6 r7 r8 r9 r10 r11 r12 r13 r14 status : ℕ} {m : Bytes}
+  pub at_78_taken : {n : ℕ} {t : State → Type 0} {r0 r1 r2 r3 r4 r5 r6 r7 r8 r9 r10 r11 r12 r13 r14 status : ℕ} {m : Bytes}
     → HasBoot m a → IsQuiet status → bit status 30 ≡ 0
     → Run n (at_place r0 r1 r2 r3 r4 r5 r6 r7 r8 r9 r10 r11 r12 r13 r14 108 status m) t
     → Run (suc n) (at_place r0 r1 r2 r3 r4 r5 r6 r7 r8 r9 r10 r11 r12 r13 r14 120 status m) t
@@ -556,7 +572,7 @@ module _ (board : Board) (Allowed : ℕ → Type 0) (rest : ArmState) (a e : ℕ
         (λ answers. rw (q.arm, pc, z, target) refl)
 
   -- BNE 6C, not taken
-  pub at_78 : {n : ℕ} {t : State} {r0 r1 r2 r3 r4 r5 r6 r7 r8 r9 r10 r11 r12 r13 r14 status : ℕ} {m : Bytes}
+  pub at_78 : {n : ℕ} {t : State → Type 0} {r0 r1 r2 r3 r4 r5 r6 r7 r8 r9 r10 r11 r12 r13 r14 status : ℕ} {m : Bytes}
     → HasBoot m a → IsQuiet status → bit status 30 ≡ 1
     → Run n (at_place r0 r1 r2 r3 r4 r5 r6 r7 r8 r9 r10 r11 r12 r13 r14 124 status m) t
     → Run (suc n) (at_place r0 r1 r2 r3 r4 r5 r6 r7 r8 r9 r10 r11 r12 r13 r14 120 status m) t
@@ -567,7 +583,7 @@ module _ (board : Board) (Allowed : ℕ → Type 0) (rest : ArmState) (a e : ℕ
         (λ answers. rw (pc, z) refl)
 
   -- B 04, taken
-  pub at_7C : {n : ℕ} {t : State} {r0 r1 r2 r3 r4 r5 r6 r7 r8 r9 r10 r11 r12 r13 r14 status : ℕ} {m : Bytes}
+  pub at_7C : {n : ℕ} {t : State → Type 0} {r0 r1 r2 r3 r4 r5 r6 r7 r8 r9 r10 r11 r12 r13 r14 status : ℕ} {m : Bytes}
     → HasBoot m a → IsQuiet status
     → Run n (at_place r0 r1 r2 r3 r4 r5 r6 r7 r8 r9 r10 r11 r12 r13 r14 4 status m) t
     → Run (suc n) (at_place r0 r1 r2 r3 r4 r5 r6 r7 r8 r9 r10 r11 r12 r13 r14 124 status m) t
@@ -579,7 +595,7 @@ module _ (board : Board) (Allowed : ℕ → Type 0) (rest : ArmState) (a e : ℕ
         (λ answers. rw (q.arm, pc, target) refl)
 
   -- MOV r4,#0
-  pub at_80 : {n : ℕ} {t : State} {r0 r1 r2 r3 r4 r5 r6 r7 r8 r9 r10 r11 r12 r13 r14 status : ℕ} {m : Bytes}
+  pub at_80 : {n : ℕ} {t : State → Type 0} {r0 r1 r2 r3 r4 r5 r6 r7 r8 r9 r10 r11 r12 r13 r14 status : ℕ} {m : Bytes}
     → HasBoot m a → IsQuiet status
     → Run n (at_place r0 r1 r2 r3 0 r5 r6 r7 r8 r9 r10 r11 r12 r13 r14 132 status m) t
     → Run (suc n) (at_place r0 r1 r2 r3 r4 r5 r6 r7 r8 r9 r10 r11 r12 r13 r14 128 status m) t
@@ -590,7 +606,7 @@ module _ (board : Board) (Allowed : ℕ → Type 0) (rest : ArmState) (a e : ℕ
         (λ answers. rw (pc) refl)
 
   -- LDMIA r0!,{r2,r3}
-  pub at_84 : {n : ℕ} {t : State} {r0 r1 r2 r3 r4 r5 r6 r7 r8 r9 r10 r11 r12 r13 r14 status : ℕ} {m : Bytes}
+  pub at_84 : {n : ℕ} {t : State → Type 0} {r0 r1 r2 r3 r4 r5 r6 r7 r8 r9 r10 r11 r12 r13 r14 status : ℕ} {m : Bytes}
     → HasBoot m a → IsQuiet status → r0 % 4 ≡ 0 → r0 + 8 < 4294967296 → Mapped board r0 8 → Lies Allowed r0 8
     → Run n (at_place (r0 + 8) r1 (word m (r0)) (word m (r0 + 4)) r4 r5 r6 r7 r8 r9 r10 r11 r12 r13 r14 136 status m) t
     → Run (suc n) (at_place r0 r1 r2 r3 r4 r5 r6 r7 r8 r9 r10 r11 r12 r13 r14 132 status m) t
@@ -603,7 +619,7 @@ module _ (board : Board) (Allowed : ℕ → Type 0) (rest : ArmState) (a e : ℕ
         (λ answers. rw (pc, start, end) (block_loaded-words _ true (2 ∷ 3 ∷ []) r0 0 (r0 + 8) _ (omega arith) mapped))
 
   -- CMP r3,#0
-  pub at_88 : {n : ℕ} {t : State} {r0 r1 r2 r3 r4 r5 r6 r7 r8 r9 r10 r11 r12 r13 r14 status : ℕ} {m : Bytes}
+  pub at_88 : {n : ℕ} {t : State → Type 0} {r0 r1 r2 r3 r4 r5 r6 r7 r8 r9 r10 r11 r12 r13 r14 status : ℕ} {m : Bytes}
     → HasBoot m a → IsQuiet status
     → Run n (at_place r0 r1 r2 r3 r4 r5 r6 r7 r8 r9 r10 r11 r12 r13 r14 140 (compared status r3 0) m) t
     → Run (suc n) (at_place r0 r1 r2 r3 r4 r5 r6 r7 r8 r9 r10 r11 r12 r13 r14 136 status m) t
@@ -614,7 +630,7 @@ module _ (board : Board) (Allowed : ℕ → Type 0) (rest : ArmState) (a e : ℕ
         (λ answers. rw (pc) refl)
 
   -- BEQ A0, taken
-  pub at_8C_taken : {n : ℕ} {t : State} {r0 r1 r2 r3 r4 r5 r6 r7 r8 r9 r10 r11 r12 r13 r14 status : ℕ} {m : Bytes}
+  pub at_8C_taken : {n : ℕ} {t : State → Type 0} {r0 r1 r2 r3 r4 r5 r6 r7 r8 r9 r10 r11 r12 r13 r14 status : ℕ} {m : Bytes}
     → HasBoot m a → IsQuiet status → bit status 30 ≡ 1
     → Run n (at_place r0 r1 r2 r3 r4 r5 r6 r7 r8 r9 r10 r11 r12 r13 r14 160 status m) t
     → Run (suc n) (at_place r0 r1 r2 r3 r4 r5 r6 r7 r8 r9 r10 r11 r12 r13 r14 140 status m) t
@@ -626,7 +642,7 @@ module _ (board : Board) (Allowed : ℕ → Type 0) (rest : ArmState) (a e : ℕ
         (λ answers. rw (q.arm, pc, z, target) refl)
 
   -- BEQ A0, not taken
-  pub at_8C : {n : ℕ} {t : State} {r0 r1 r2 r3 r4 r5 r6 r7 r8 r9 r10 r11 r12 r13 r14 status : ℕ} {m : Bytes}
+  pub at_8C : {n : ℕ} {t : State → Type 0} {r0 r1 r2 r3 r4 r5 r6 r7 r8 r9 r10 r11 r12 r13 r14 status : ℕ} {m : Bytes}
     → HasBoot m a → IsQuiet status → bit status 30 ≡ 0
     → Run n (at_place r0 r1 r2 r3 r4 r5 r6 r7 r8 r9 r10 r11 r12 r13 r14 144 status m) t
     → Run (suc n) (at_place r0 r1 r2 r3 r4 r5 r6 r7 r8 r9 r10 r11 r12 r13 r14 140 status m) t
@@ -637,7 +653,7 @@ module _ (board : Board) (Allowed : ℕ → Type 0) (rest : ArmState) (a e : ℕ
         (λ answers. rw (pc, z) refl)
 
   -- STR r4,[r2],#4
-  pub at_90 : {n : ℕ} {t : State} {r0 r1 r2 r3 r4 r5 r6 r7 r8 r9 r10 r11 r12 r13 r14 status : ℕ} {m : Bytes}
+  pub at_90 : {n : ℕ} {t : State → Type 0} {r0 r1 r2 r3 r4 r5 r6 r7 r8 r9 r10 r11 r12 r13 r14 status : ℕ} {m : Bytes}
     → HasBoot m a → IsQuiet status → r2 % 4 ≡ 0 → r2 + 4 ≤ 4294967296 → Mapped board r2 4 → Writable board r2 4 → Lies Allowed r2 4 → IsApart r2 4
     → Run n (at_place r0 r1 ((r2 + 4) % 4294967296) r3 r4 r5 r6 r7 r8 r9 r10 r11 r12 r13 r14 148 status (store m r2 (bytes_of r4 4))) t
     → Run (suc n) (at_place r0 r1 r2 r3 r4 r5 r6 r7 r8 r9 r10 r11 r12 r13 r14 144 status m) t
@@ -648,7 +664,7 @@ module _ (board : Board) (Allowed : ℕ → Type 0) (rest : ArmState) (a e : ℕ
         (λ answers. rw (pc) (stored-word _ r2 4 _ _ whole mapped free))
 
   -- SUBS r3,r3,#4
-  pub at_94 : {n : ℕ} {t : State} {r0 r1 r2 r3 r4 r5 r6 r7 r8 r9 r10 r11 r12 r13 r14 status r : ℕ} {m : Bytes}
+  pub at_94 : {n : ℕ} {t : State → Type 0} {r0 r1 r2 r3 r4 r5 r6 r7 r8 r9 r10 r11 r12 r13 r14 status r : ℕ} {m : Bytes}
     → HasBoot m a → IsQuiet status → (sum_with r3 (inverted 4) 1).value ≡ r
     → Run n (at_place r0 r1 r2 r r4 r5 r6 r7 r8 r9 r10 r11 r12 r13 r14 152 (compared status r3 4) m) t
     → Run (suc n) (at_place r0 r1 r2 r3 r4 r5 r6 r7 r8 r9 r10 r11 r12 r13 r14 148 status m) t
@@ -659,7 +675,7 @@ module _ (board : Board) (Allowed : ℕ → Type 0) (rest : ArmState) (a e : ℕ
         (λ answers. rw (pc, value) refl)
 
   -- BNE 90, taken
-  pub at_98_taken : {n : ℕ} {t : State} {r0 r1 r2 r3 r4 r5 r6 r7 r8 r9 r10 r11 r12 r13 r14 status : ℕ} {m : Bytes}
+  pub at_98_taken : {n : ℕ} {t : State → Type 0} {r0 r1 r2 r3 r4 r5 r6 r7 r8 r9 r10 r11 r12 r13 r14 status : ℕ} {m : Bytes}
     → HasBoot m a → IsQuiet status → bit status 30 ≡ 0
     → Run n (at_place r0 r1 r2 r3 r4 r5 r6 r7 r8 r9 r10 r11 r12 r13 r14 144 status m) t
     → Run (suc n) (at_place r0 r1 r2 r3 r4 r5 r6 r7 r8 r9 r10 r11 r12 r13 r14 152 status m) t
@@ -671,7 +687,7 @@ module _ (board : Board) (Allowed : ℕ → Type 0) (rest : ArmState) (a e : ℕ
         (λ answers. rw (q.arm, pc, z, target) refl)
 
   -- BNE 90, not taken
-  pub at_98 : {n : ℕ} {t : State} {r0 r1 r2 r3 r4 r5 r6 r7 r8 r9 r10 r11 r12 r13 r14 status : ℕ} {m : Bytes}
+  pub at_98 : {n : ℕ} {t : State → Type 0} {r0 r1 r2 r3 r4 r5 r6 r7 r8 r9 r10 r11 r12 r13 r14 status : ℕ} {m : Bytes}
     → HasBoot m a → IsQuiet status → bit status 30 ≡ 1
     → Run n (at_place r0 r1 r2 r3 r4 r5 r6 r7 r8 r9 r10 r11 r12 r13 r14 156 status m) t
     → Run (suc n) (at_place r0 r1 r2 r3 r4 r5 r6 r7 r8 r9 r10 r11 r12 r13 r14 152 status m) t
@@ -682,7 +698,7 @@ module _ (board : Board) (Allowed : ℕ → Type 0) (rest : ArmState) (a e : ℕ
         (λ answers. rw (pc, z) refl)
 
   -- B 84, taken
-  pub at_9C : {n : ℕ} {t : State} {r0 r1 r2 r3 r4 r5 r6 r7 r8 r9 r10 r11 r12 r13 r14 status : ℕ} {m : Bytes}
+  pub at_9C : {n : ℕ} {t : State → Type 0} {r0 r1 r2 r3 r4 r5 r6 r7 r8 r9 r10 r11 r12 r13 r14 status : ℕ} {m : Bytes}
     → HasBoot m a → IsQuiet status
     → Run n (at_place r0 r1 r2 r3 r4 r5 r6 r7 r8 r9 r10 r11 r12 r13 r14 132 status m) t
     → Run (suc n) (at_place r0 r1 r2 r3 r4 r5 r6 r7 r8 r9 r10 r11 r12 r13 r14 156 status m) t
@@ -694,7 +710,7 @@ module _ (board : Board) (Allowed : ℕ → Type 0) (rest : ArmState) (a e : ℕ
         (λ answers. rw (q.arm, pc, target) refl)
 
   -- LDR r0,[r0]
-  pub at_A0 : {n : ℕ} {t : State} {r0 r1 r2 r3 r4 r5 r6 r7 r8 r9 r10 r11 r12 r13 r14 status : ℕ} {m : Bytes}
+  pub at_A0 : {n : ℕ} {t : State → Type 0} {r0 r1 r2 r3 r4 r5 r6 r7 r8 r9 r10 r11 r12 r13 r14 status : ℕ} {m : Bytes}
     → HasBoot m a → IsQuiet status → r0 % 4 ≡ 0 → r0 + 4 ≤ 4294967296 → Mapped board r0 4 → Lies Allowed r0 4
     → Run n (at_place (word m r0) r1 r2 r3 r4 r5 r6 r7 r8 r9 r10 r11 r12 r13 r14 164 status m) t
     → Run (suc n) (at_place r0 r1 r2 r3 r4 r5 r6 r7 r8 r9 r10 r11 r12 r13 r14 160 status m) t
@@ -706,7 +722,7 @@ module _ (board : Board) (Allowed : ℕ → Type 0) (rest : ArmState) (a e : ℕ
         (λ answers. rw (pc, moved) (loaded-word _ r0 0 _ _ whole mapped refl))
 
   -- BX r0, to ARM or Thumb state
-  pub at_A4 : {n : ℕ} {t : State} {r0 r1 r2 r3 r4 r5 r6 r7 r8 r9 r10 r11 r12 r13 r14 status : ℕ} {m : Bytes}
+  pub at_A4 : {n : ℕ} {t : State → Type 0} {r0 r1 r2 r3 r4 r5 r6 r7 r8 r9 r10 r11 r12 r13 r14 status : ℕ} {m : Bytes}
     → HasBoot m a → IsQuiet status → (r0 % 4 == 2) ≡ false
     → Run n (entered_at r0 r1 r2 r3 r4 r5 r6 r7 r8 r9 r10 r11 r12 r13 r14 status m) t
     → Run (suc n) (at_place r0 r1 r2 r3 r4 r5 r6 r7 r8 r9 r10 r11 r12 r13 r14 164 status m) t

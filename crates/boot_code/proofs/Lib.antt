@@ -1,2 +1,3 @@
 pub mod WordsRead
 pub mod BootSteps
+pub mod BootLoops
