@@ -15,6 +15,7 @@ use Rattle.arm7_model.proofs.Placed.{words_at, store_words}
 use Rattle.arm7_model.proofs.TransferLemmas.{Mapped, Writable, store_words-copy}
 use Rattle.boot_code.specs.Words.{boot_list}
 use Rattle.boot_code.specs.Safety.{Lies}
+use Rattle.boot_code.specs.Startup.{zeros}
 use Rattle.boot_code.proofs.BootSteps.{Site, HasBoot, Run, at_place, longer, IsApart, at_04, at_08, at_0C, at_10, at_14, at_14_equal, at_14_taken, at_18, at_1C, at_1C_taken, at_20, at_24, at_28, at_28_taken, at_2C, at_30, at_34, at_38, at_3C, at_40, at_40_taken, at_44, at_48, at_4C, at_50, at_54, at_54_taken, at_58, at_5C, at_60, at_60_taken, at_64, at_68, at_6C, at_70, at_74, at_78, at_78_taken, at_7C, at_90, at_94, at_98, at_98_taken, at_9C}
 
 -- memory holds bytes
@@ -54,11 +55,6 @@ pub record Clears (board : Board) (Allowed : ℕ → Type 0) (a e t n : ℕ) : T
   pub writable : Writable board t n
   pub allowed : Lies Allowed t n
   pub apart : (t + n ≤ a) ⊎ (e ≤ t)
-
--- n zero bytes
-abbrev pub zeros : ℕ → List ℕ
-zeros zero = []
-zeros (suc n) = 0 ∷ zeros n
 
 module _ (board : Board) (Allowed : ℕ → Type 0) (rest : ArmState) (a e : ℕ) (g : Site board Allowed a e) where
 
@@ -249,7 +245,7 @@ module _ (board : Board) (Allowed : ℕ → Type 0) (rest : ArmState) (a e : ℕ
 
   -- ---- bursts of eight words
 
-  zero_or_not : (d : ℕ) → (d ≡ 0) ⊎ (0 < d)
+  pub zero_or_not : (d : ℕ) → (d ≡ 0) ⊎ (0 < d)
   zero_or_not zero = inl refl
   zero_or_not (suc d) = inr (omega arith)
 
@@ -257,10 +253,10 @@ module _ (board : Board) (Allowed : ℕ → Type 0) (rest : ArmState) (a e : ℕ
   abbrev pub tail_steps : ℕ → ℕ
   tail_steps x = if x == 0 then 1 else 4 + x
 
-  tail-zero : (x : ℕ) → x ≡ 0 → tail_steps x ≡ 1
+  pub tail-zero : (x : ℕ) → x ≡ 0 → tail_steps x ≡ 1
   tail-zero x h = rw h refl
 
-  tail-some : (x : ℕ) → 0 < x → tail_steps x ≡ 4 + x
+  pub tail-some : (x : ℕ) → 0 < x → tail_steps x ≡ 4 + x
   tail-some x h = let other = not-eq x 0 (λ e. omega arith) in rw other refl
 
   pub bursts_up : (b x c s t : ℕ) {n r0 r4 r5 r6 r7 r8 r9 r10 r11 r12 r13 r14 status : ℕ} {m : Bytes} {u : State → Type 0}

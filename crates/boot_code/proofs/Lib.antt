@@ -1,3 +1,4 @@
 pub mod WordsRead
 pub mod BootSteps
 pub mod BootLoops
+pub mod BootTable
