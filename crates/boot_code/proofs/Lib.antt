@@ -2,3 +2,5 @@ pub mod WordsRead
 pub mod BootSteps
 pub mod BootLoops
 pub mod BootTable
+pub mod ViewLemmas
+pub mod BootPlaces
