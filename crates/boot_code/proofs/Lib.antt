@@ -4,3 +4,4 @@ pub mod BootLoops
 pub mod BootTable
 pub mod ViewLemmas
 pub mod BootPlaces
+pub mod Bound
