@@ -121,3 +121,7 @@ pub record ReadsArm (w : ℕ) (i : ArmInstr) : Type 0 where
   pub fits : FitsRow (arm_row i) (arm_fields i)
   pub conditions : FitsConditions i
   pub condition : bits w 28 4 ≢ 15
+
+-- the word reads as no instruction
+abbrev pub IsUnread : ℕ → Type 0
+IsUnread w = (i : ArmInstr) → ReadsArm w i → ⊥

@@ -1,2 +1,4 @@
 pub mod BytesLemmas
+pub mod CodesLemmas
 pub mod NumbersLemmas
+pub mod RowsLemmas

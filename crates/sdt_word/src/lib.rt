@@ -10,4 +10,4 @@ mod words;
 pub use crate::codes::{Condition, ShiftKind, Width};
 pub use crate::numbers::{field, is_set, rotate, sign_extend};
 pub use crate::ranges::Range32;
-pub use crate::words::{half_at, put_half, put_word, word_at};
+pub use crate::words::{half_at, push_half, push_word, put_half, put_word, word_at};

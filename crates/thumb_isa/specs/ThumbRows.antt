@@ -123,3 +123,7 @@ pub record ReadsThumb (h : ℕ) (i : ThumbInstr) : Type 0 where
   pub is_half : h ≡ word_of (thumb_row i) (thumb_fields i)
   pub fits : FitsRow (thumb_row i) (thumb_fields i)
   pub conditions : FitsConditions i
+
+-- the half-word reads as no instruction
+abbrev pub IsUnread : ℕ → Type 0
+IsUnread h = (i : ThumbInstr) → ReadsThumb h i → ⊥

@@ -1,0 +1,8 @@
+//! Sources of numbers: the assembler's first grammar. One area with an entry and DCD lines of numbers.
+#![tactic(auto)]
+
+mod lines;
+mod parts;
+mod source;
+
+pub use crate::source::{SourceFault, read_numbers};

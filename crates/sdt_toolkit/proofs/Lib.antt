@@ -1,0 +1,3 @@
+mod Meaning
+mod Seen
+mod ViewLaws
