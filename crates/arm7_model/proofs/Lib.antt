@@ -3,3 +3,5 @@ mod Examples
 pub mod MemoryLemmas
 pub mod Steps
 pub mod Leading
+pub mod Placed
+pub mod TransferLemmas

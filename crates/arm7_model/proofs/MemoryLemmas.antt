@@ -16,7 +16,7 @@ below_or_not x a = go (nat_lt x a) refl
     go true e = inl (ltb-true x a e)
     go false e = inr (ltb-false x a e)
 
-not-eq : (x a : ℕ) → x ≢ a → (x == a) ≡ false
+pub not-eq : (x a : ℕ) → x ≢ a → (x == a) ≡ false
 not-eq x a h = go (x == a) refl
   where
     go : (b : Bool) → (x == a) ≡ b → (x == a) ≡ false

@@ -1,6 +1,6 @@
 -- Steps of a processor in ARM state with both interrupts masked: a step is then what its instruction
 -- does, whatever the lines are. Runs of such steps join, and are runs by `After`.
-use Rattle.std.proofs.Common.{◌≡◌, ℕ, zero, suc, ◌+◌, ◌-◌, ◌*◌, ◌/◌, ◌%◌, ◌^◌, ◌<◌, ◌≤◌, Bool, true, false, ◌&&◌, ◌||◌, not, ◌==◌, List, [], ◌∷◌, ◌++◌, length, refl, sym, ap, subst, ◌∙◌, arith, cond}
+use Rattle.std.proofs.Common.{◌≡◌, ◌≢◌, ℕ, zero, suc, ◌+◌, ◌-◌, ◌*◌, ◌/◌, ◌%◌, ◌^◌, ◌<◌, ◌≤◌, Bool, true, false, ◌&&◌, ◌||◌, not, ◌==◌, List, [], ◌∷◌, ◌++◌, length, refl, sym, ap, subst, ◌∙◌, arith, cond}
 use Rattle.std.specs.Prelude.{slice_index, slice_set, IsTrue}
 use Rattle.sdt_word.specs.Numbers.{bit, bits, flag}
 use Rattle.sdt_word.specs.Bytes.{bytes_of, number_of, load, word}
@@ -13,12 +13,13 @@ use Rattle.arm7_model.specs.declared.state.ArmState.{ArmState}
 use Rattle.arm7_model.specs.declared.event.Event.TheVariants as event
 use Rattle.arm7_model.specs.Memory.{Bytes, Board, in_memory, is_there, all_from}
 use Rattle.arm7_model.specs.Registers.{State, is_thumb, register, with_register}
-use Rattle.arm7_model.specs.Arithmetic.{with_flags, zero_of}
+use Rattle.arm7_model.specs.Arithmetic.{with_flags, zero_of, sum_with, inverted}
 use Rattle.arm7_model.specs.Accesses.{Access, Fetch, Working}
 use Rattle.arm7_model.specs.Outcomes.{Stepped, Under}
 use Rattle.arm7_model.specs.ArmStep.{arm_done}
 use Rattle.arm7_model.specs.Step.{Levels, Step, Arm, stepped, interrupt, fetches, fetched}
 use Rattle.arm7_model.specs.Runs.{Input, After, stays, goes, first_of_inputs, later_inputs}
+use Rattle.arm7_model.proofs.MemoryLemmas.{not-eq}
 use Rattle.arm7_model.proofs.Opens.{step_opens}
 
 -- ARM state, with IRQ and FIQ masked
@@ -55,6 +56,65 @@ zero-with_flags status v c o hc ho = let z = zero_of-le v in omega arith
 pub carry-with_flags : (status v c o : ℕ) → c ≤ 1 → o ≤ 1 → bit (with_flags status v c o) 29 ≡ c
 unfolding with_flags
 carry-with_flags status v c o hc ho = let z = zero_of-le v in omega arith
+
+flag-le : (b : Bool) → flag b ≤ 1
+flag-le true = omega arith
+flag-le false = omega arith
+
+-- CPSR after a comparison of a and b, or a difference with S
+abbrev pub compared : ℕ → ℕ → ℕ → ℕ
+compared status a b =
+    with_flags status (sum_with a (inverted b) 1).value (sum_with a (inverted b) 1).carry (sum_with a (inverted b) 1).overflow
+
+module _ (status a b : ℕ) (ha : a < 2 ^ 32) (hb : b < 2 ^ 32) where
+  carry-small : (sum_with a (inverted b) 1).carry ≤ 1
+  unfolding sum_with
+  carry-small = omega arith
+
+  overflow-small : (sum_with a (inverted b) 1).overflow ≤ 1
+  unfolding sum_with
+  overflow-small = flag-le _
+
+  pub difference-below : b ≤ a → (sum_with a (inverted b) 1).value ≡ a - b
+  unfolding sum_with
+  difference-below h = omega arith
+
+  pub difference-above : a < b → (sum_with a (inverted b) 1).value ≡ a + 2 ^ 32 - b
+  unfolding sum_with
+  difference-above h = omega arith
+
+  value-zero : a ≡ b → (sum_with a (inverted b) 1).value ≡ 0
+  unfolding sum_with
+  value-zero h = omega arith
+
+  value-other : a ≢ b → (sum_with a (inverted b) 1).value ≢ 0
+  unfolding sum_with
+  value-other h e = h (omega arith)
+
+  -- Z says that they are equal, and C that there is no borrow
+  pub compared-equal : a ≡ b → bit (compared status a b) 30 ≡ 1
+  compared-equal h =
+      let none = value-zero h in
+      zero-with_flags status _ _ _ carry-small overflow-small ∙ rw none refl
+
+  pub compared-other : a ≢ b → bit (compared status a b) 30 ≡ 0
+  compared-other h =
+      let some = not-eq _ 0 (value-other h) in
+      zero-with_flags status _ _ _ carry-small overflow-small ∙ rw some refl
+
+  carry-below : b ≤ a → (sum_with a (inverted b) 1).carry ≡ 1
+  unfolding sum_with
+  carry-below h = omega arith
+
+  carry-above : a < b → (sum_with a (inverted b) 1).carry ≡ 0
+  unfolding sum_with
+  carry-above h = omega arith
+
+  pub compared-below : b ≤ a → bit (compared status a b) 29 ≡ 1
+  compared-below h = carry-with_flags status _ _ _ carry-small overflow-small ∙ carry-below h
+
+  pub compared-above : a < b → bit (compared status a b) 29 ≡ 0
+  compared-above h = carry-with_flags status _ _ _ carry-small overflow-small ∙ carry-above h
 
 -- ---- a step
 

@@ -1,0 +1,7 @@
+pub mod WordsRead
+pub mod BootSteps
+pub mod BootLoops
+pub mod BootTable
+pub mod ViewLemmas
+pub mod BootPlaces
+pub mod Bound

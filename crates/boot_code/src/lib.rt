@@ -1,0 +1,11 @@
+//! The startup code of a scatter image, and the zero-init code and relocator of an AIF: their words,
+//! the startup code's table, and the laws of their runs over the definition of the machine.
+#![tactic(auto)]
+
+mod laws;
+mod table;
+mod words;
+
+pub use laws::{startup_boots, startup_is_exact, words_read};
+pub use table::{CopyRow, ZeroRow, steps_bound};
+pub use words::{boot_words, relocator_words, zero_words};
