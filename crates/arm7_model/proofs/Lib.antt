@@ -5,3 +5,4 @@ pub mod Steps
 pub mod Leading
 pub mod Placed
 pub mod TransferLemmas
+pub mod StepLaws

@@ -11,3 +11,4 @@ pub mod ArmStep
 pub mod ThumbStep
 pub mod Step
 pub mod Runs
+pub mod Laws

@@ -3,7 +3,9 @@
 #![tactic(auto)]
 
 mod event;
+mod laws;
 mod state;
 
+pub use laws::{run_is_one, runs_join, step_is_one};
 pub use event::{Event, Exception};
 pub use state::{ArmState, Banks, Mode};

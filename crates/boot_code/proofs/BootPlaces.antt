@@ -12,8 +12,8 @@ use Rattle.arm7_model.specs.Registers.{State, IsValidState, register}
 use Rattle.arm7_model.proofs.Steps.{IsQuiet, state_of}
 use Rattle.arm7_model.proofs.Leading.{after}
 use Rattle.arm7_model.proofs.MemoryLemmas.{load-same, not-eq, below_or_not}
-use Rattle.boot_code.specs.declared.table.CopyRow.{CopyRow}
-use Rattle.boot_code.specs.declared.table.ZeroRow.{ZeroRow}
+use Rattle.boot_code.specs.declared.rows.CopyRow.{CopyRow}
+use Rattle.boot_code.specs.declared.rows.ZeroRow.{ZeroRow}
 use Rattle.boot_code.specs.Words.{boot_list}
 use Rattle.boot_code.specs.Startup.{HasWords, copy_words, zero_words, table_list, copied, cleared, startup_steps, IsEntered}
 use Rattle.boot_code.specs.Boots.{ByteMap, InRanges, CanStart, HasBooted, BootsIn, HoldsWord, HoldsWords, AllCopies, AllParts, CopyPlaced, ZeroPlaced, Places, moved, zeroed}

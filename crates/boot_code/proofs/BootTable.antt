@@ -12,8 +12,8 @@ use Rattle.arm7_model.proofs.Leading.{here}
 use Rattle.std.proofs.lemmas.Bool.{eqb-false}
 use Rattle.arm7_model.proofs.MemoryLemmas.{word-store_apart, not-eq, bytes-store}
 use Rattle.arm7_model.proofs.TransferLemmas.{Mapped}
-use Rattle.boot_code.specs.declared.table.CopyRow.{CopyRow}
-use Rattle.boot_code.specs.declared.table.ZeroRow.{ZeroRow}
+use Rattle.boot_code.specs.declared.rows.CopyRow.{CopyRow}
+use Rattle.boot_code.specs.declared.rows.ZeroRow.{ZeroRow}
 use Rattle.boot_code.specs.Safety.{Lies}
 use Rattle.boot_code.specs.Startup.{HasWords, copy_words, zero_words, table_list, zeros, copied, cleared, upward_steps, copy_steps, copies_steps, parts_steps, startup_steps, IsEntered}
 use Rattle.boot_code.proofs.BootSteps.{Site, HasBoot, Run, at_place, entered_at, longer, at_00, at_04, at_08, at_0C_taken, at_80, at_84, at_88, at_8C, at_8C_taken, at_A0, at_A4}

@@ -4,8 +4,8 @@ use Rattle.sdt_word.specs.Bytes.{load}
 use Rattle.sdt_word.proofs.BytesLemmas.{length-load, get_or-load}
 use Rattle.arm7_model.specs.Memory.{Bytes, store}
 use Rattle.arm7_model.proofs.MemoryLemmas.{store-in, store-below, store-above, below_or_not}
-use Rattle.boot_code.specs.declared.table.CopyRow.{CopyRow}
-use Rattle.boot_code.specs.declared.table.ZeroRow.{ZeroRow}
+use Rattle.boot_code.specs.declared.rows.CopyRow.{CopyRow}
+use Rattle.boot_code.specs.declared.rows.ZeroRow.{ZeroRow}
 use Rattle.boot_code.specs.Startup.{zeros, copied, cleared}
 use Rattle.boot_code.specs.Boots.{ByteMap, AllCopies, AllParts, AreApart, OffLater, InOrder, covers, moved, zeroed}
 use Rattle.boot_code.proofs.BootTable.{length-zeros}

@@ -8,8 +8,8 @@ use Rattle.arm7_model.specs.Memory.{Bytes, Board}
 use Rattle.arm7_model.specs.Registers.{State, IsValidState, register, is_thumb}
 use Rattle.arm7_model.specs.Accesses.{Access}
 use Rattle.arm7_model.specs.Runs.{Input, After, EachStep}
-use Rattle.boot_code.specs.declared.table.CopyRow.{CopyRow}
-use Rattle.boot_code.specs.declared.table.ZeroRow.{ZeroRow}
+use Rattle.boot_code.specs.declared.rows.CopyRow.{CopyRow}
+use Rattle.boot_code.specs.declared.rows.ZeroRow.{ZeroRow}
 use Rattle.boot_code.specs.Safety.{IsSafe}
 use Rattle.boot_code.specs.Startup.{table_list}
 use Rattle.boot_code.specs.Words.{boot_list}

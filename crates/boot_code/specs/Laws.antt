@@ -2,8 +2,8 @@
 use Rattle.std.specs.Prelude.{◌≡◌, ℕ, ◌+◌, ◌*◌, ◌≤◌, Bool, List, [], ◌∷◌, length}
 use Rattle.arm7_model.specs.Memory.{Board}
 use Rattle.arm7_model.specs.Registers.{State}
-use Rattle.boot_code.specs.declared.table.CopyRow.{CopyRow}
-use Rattle.boot_code.specs.declared.table.ZeroRow.{ZeroRow}
+use Rattle.boot_code.specs.declared.rows.CopyRow.{CopyRow}
+use Rattle.boot_code.specs.declared.rows.ZeroRow.{ZeroRow}
 use Rattle.boot_code.specs.Startup.{startup_steps, copied_words, zeroed_words}
 use Rattle.boot_code.specs.Boots.{ByteMap, CanStart, Boots, BootsIn, Places}
 

@@ -3,8 +3,8 @@ use Rattle.std.specs.Prelude.{◌≡◌, ℕ, zero, suc, ◌+◌, ◌-◌, ◌*�
 use Rattle.sdt_word.specs.Bytes.{load, word}
 use Rattle.arm7_model.specs.Memory.{Bytes, store}
 use Rattle.arm7_model.specs.Registers.{State, register, is_thumb}
-use Rattle.boot_code.specs.declared.table.CopyRow.{CopyRow}
-use Rattle.boot_code.specs.declared.table.ZeroRow.{ZeroRow}
+use Rattle.boot_code.specs.declared.rows.CopyRow.{CopyRow}
+use Rattle.boot_code.specs.declared.rows.ZeroRow.{ZeroRow}
 
 -- ---- the table
 

@@ -3,9 +3,9 @@
 #![tactic(auto)]
 
 mod laws;
-mod table;
+mod rows;
 mod words;
 
 pub use laws::{startup_boots, startup_is_exact, words_read};
-pub use table::{CopyRow, ZeroRow, steps_bound};
+pub use rows::{CopyRow, ZeroRow, steps_bound, table};
 pub use words::{boot_words, relocator_words, zero_words};

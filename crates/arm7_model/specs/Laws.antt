@@ -1,0 +1,26 @@
+-- The laws of steps and runs, as the empty public functions state them. This project's.
+use Rattle.std.specs.Prelude.{◌≡◌, ℕ, ◌+◌, List, ◌++◌, drop}
+use Rattle.arm7_model.specs.Memory.{Board}
+use Rattle.arm7_model.specs.Registers.{State}
+use Rattle.arm7_model.specs.Accesses.{Access}
+use Rattle.arm7_model.specs.Outcomes.{Stepped}
+use Rattle.arm7_model.specs.Step.{Levels, Step}
+use Rattle.arm7_model.specs.Runs.{Input, After}
+
+-- a state has at most one step for given lines and answers
+abbrev pub StepIsOne : Type 0
+StepIsOne =
+    (board : Board) (s : State) (lines : Levels) (answers : List ℕ) (x y : Stepped)
+    → Step board s lines answers x → Step board s lines answers y → x ≡ y
+
+-- a run of n steps and then one of k, over the inputs that are left, is a run of n + k steps
+abbrev pub RunsJoin : Type 0
+RunsJoin =
+    (board : Board) (s t u : State) (n k : ℕ) (inputs : List Input) (xs ys : List (List Access))
+    → After board s n inputs xs t → After board t k (drop n inputs) ys u → After board s (n + k) inputs (xs ++ ys) u
+
+-- and it splits so: runs of one state over the same inputs end alike
+abbrev pub RunIsOne : Type 0
+RunIsOne =
+    (board : Board) (s t u : State) (n : ℕ) (inputs : List Input) (xs ys : List (List Access))
+    → After board s n inputs xs t → After board s n inputs ys u → (t ≡ u) × (xs ≡ ys)

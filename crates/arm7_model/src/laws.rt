@@ -1,0 +1,29 @@
+//! The laws of steps and runs. Their calls do nothing; their contracts are the laws.
+
+ghost use Rattle.std.specs.Prelude.{◌≡◌};
+ghost use Rattle.arm7_model.specs.Laws.{RunIsOne, RunsJoin, StepIsOne};
+
+use arm_isa::arm_reading_law;
+use thumb_isa::thumb_reading_law;
+
+/// A step is a function of the state, the lines and the devices' answers.
+pub fn step_is_one()
+    ensures { StepIsOne }
+{
+    arm_reading_law();
+    thumb_reading_law();
+}
+
+/// Runs join end to end.
+pub fn runs_join()
+    ensures { RunsJoin }
+{
+}
+
+/// A run is a function of the state and the inputs.
+pub fn run_is_one()
+    ensures { RunIsOne }
+{
+    arm_reading_law();
+    thumb_reading_law();
+}
