@@ -1,6 +1,6 @@
 -- Joining parts one by one: what is joined so far with what joining the rest gives is what joining all
 -- gives.
-use Rattle.std.proofs.Common.{◌≡◌, ℕ, suc, ◌+◌, ◌*◌, ◌/◌, ◌%◌, ◌^◌, ◌<◌, ◌≤◌, List, [], ◌∷◌, refl, arith, length, drop, get_or, pow-add, mul-le-mul_left, mul-le-mul_right, drop-cons, drop_of_length-le, add-one, subst, sym, ap, ◌∙◌, div-add-mod', mod-lt, mod-eq_of_lt}
+use Rattle.std.proofs.Common.{◌≡◌, ℕ, ◌+◌, ◌*◌, ◌/◌, ◌%◌, ◌^◌, ◌<◌, ◌≤◌, List, [], ◌∷◌, arith, length, drop, get_or, pow-add, mul-le-mul_left, mul-le-mul_right, drop-cons, drop_of_length-le, add-one, subst, sym, ap, ◌∙◌, div-add-mod', mod-lt, mod-eq_of_lt}
 use Rattle.std.proofs.lemmas.Nat.{pow_pos}
 use Rattle.sdt_word.specs.Parts.{PartsFit, joined, total_width}
 
@@ -31,7 +31,7 @@ joined-next parts word p rest so_far fits =
       room = omega arith;
       value = omega arith;
       fits_on = λ f. (so_far.fits_on f).1;
-      fits_back = λ f. so_far.fits_back (fits, f)
+      fits_back = λ f. so_far.fits_back (fits, f);
     }
 
 -- at a place of the list

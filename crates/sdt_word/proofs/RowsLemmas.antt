@@ -1,5 +1,5 @@
 -- A row's word determines its fields.
-use Rattle.std.proofs.Common.{◌≡◌, ℕ, suc, ◌+◌, ◌*◌, ◌/◌, ◌%◌, ◌^◌, ◌<◌, ◌≤◌, List, [], ◌∷◌, refl, sym, ap, ◌∙◌, arith, mul-div_cancel, mul-le-mul_right, pow-add}
+use Rattle.std.proofs.Common.{◌≡◌, ℕ, ◌+◌, ◌*◌, ◌/◌, ◌^◌, ◌<◌, ◌≤◌, List, [], ◌∷◌, refl, sym, ap, ◌∙◌, arith, mul-div_cancel, mul-le-mul_right, pow-add}
 use Rattle.std.proofs.lemmas.Nat.{mod-mul-add, pow_pos}
 use Rattle.sdt_word.specs.Rows.{Blank, Digit, Field, FitsRow, Part, placed_of, width_of}
 
@@ -36,9 +36,9 @@ fields-same (Field a n ∷ row) (x ∷ xs) (y ∷ ys) g h e =
     let same : placed_of row xs ≡ placed_of row ys = cc in
     let product : x * size ≡ y * size = omega arith in
     let first : x ≡ y =
-        sym (mul-div_cancel x (pow_pos (width_of row)))
-        ∙ ap (λ (p : ℕ). p / size) product
-        ∙ mul-div_cancel y (pow_pos (width_of row)) in
+    sym (mul-div_cancel x (pow_pos (width_of row)))
+    ∙ ap (λ (p : ℕ). p / size) product
+    ∙ mul-div_cancel y (pow_pos (width_of row)) in
     let rest = fields-same row xs ys g.1 h.1 same in
     cc
 fields-same (Blank ∷ row) xs ys g h e = fields-same row xs ys g h e

@@ -1,5 +1,4 @@
-use Rattle.std.proofs.Common.{◌≡◌, ◌+◌, ◌*◌, ◌^◌, ◌≤◌, drop}
-use Rattle.sdt_word.specs.Parts.{PartsFit, joined, total_width}
+use Rattle.std.proofs.Common.{drop}
 use Rattle.sdt_word.proofs.PartsLemmas.{IsJoinedTo}
 use Rattle.sdt_word.proofs.parts.join_parts.Given as goal
 
