@@ -12,7 +12,11 @@ fn hexadecimal_digit(digit: u8) -> u8
     requires { digit < 16 }
     ensures { result ≡ digit_glyph true digit }
 {
-    if digit < 10 { b'0' + digit } else { b'A' + (digit - 10) }
+    if digit < 10 {
+        b'0' + digit
+    } else {
+        b'A' + (digit - 10)
+    }
 }
 
 /// Appends the last `places` hexadecimal digits of the number, in upper case.

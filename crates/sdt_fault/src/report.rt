@@ -163,38 +163,112 @@ fn push_fields(alloc: Global, out: &mut Vec<u8>, refusal: &Refusal) -> Result<()
 {
     match refusal {
         Refusal::BadWords { place } => push_number(alloc, out, *place),
-        Refusal::BadLine { source, line, kind } => push_line(alloc, out, source, *line, kind.word()),
+        Refusal::BadLine { source, line, kind } => push_line(
+            alloc,
+            out,
+            source,
+            *line,
+            kind.word(),
+        ),
         Refusal::BadCommand { file, line, kind } => push_line(alloc, out, file, *line, kind.word()),
         Refusal::BadRecord { file, line, kind } => push_line(alloc, out, file, *line, kind.word()),
-        Refusal::BadChunk { file, offset, kind } => push_offset(alloc, out, file, *offset, kind.word()),
-        Refusal::BadObject { file, offset, kind } => push_offset(alloc, out, file, *offset, kind.word()),
-        Refusal::BadLibrary { file, offset, kind } => push_offset(alloc, out, file, *offset, kind.word()),
-        Refusal::BadImage { file, offset, kind } => push_offset(alloc, out, file, *offset, kind.word()),
-        Refusal::Duplicate { symbol, first, second } => push_three(out, symbol, first, second),
+        Refusal::BadChunk { file, offset, kind } => push_offset(
+            alloc,
+            out,
+            file,
+            *offset,
+            kind.word(),
+        ),
+        Refusal::BadObject { file, offset, kind } => push_offset(
+            alloc,
+            out,
+            file,
+            *offset,
+            kind.word(),
+        ),
+        Refusal::BadLibrary { file, offset, kind } => push_offset(
+            alloc,
+            out,
+            file,
+            *offset,
+            kind.word(),
+        ),
+        Refusal::BadImage { file, offset, kind } => push_offset(
+            alloc,
+            out,
+            file,
+            *offset,
+            kind.word(),
+        ),
+        Refusal::Duplicate {
+            symbol,
+            first,
+            second,
+        } => push_three(out, symbol, first, second),
         Refusal::Undefined { symbol, object } => push_two(out, symbol, object),
         Refusal::TwoEntries { first, second } => push_two(out, first, second),
         Refusal::Unassigned { object, area } => push_two(out, object, area),
         Refusal::NotInterworking { symbol, area } => push_two(out, symbol, area),
         Refusal::NoEntry => Ok(()),
         Refusal::ScatterLine { line, kind } => push_scatter_line(alloc, out, *line, kind.word()),
-        Refusal::Ambiguous { object, area, first, second } => push_two_lines(alloc, out, object, area, *first, *second),
-        Refusal::Overlap { first, second, address } => push_at(alloc, out, first, second, *address),
-        Refusal::CopyConflict { first, second, address } => push_at(alloc, out, first, second, *address),
-        Refusal::FieldOverflow { object, area, offset } => push_at(alloc, out, object, area, *offset),
-        Refusal::BadRelocation { object, area, offset } => push_at(alloc, out, object, area, *offset),
-        Refusal::NotRelocatable { object, area, offset } => push_at(alloc, out, object, area, *offset),
-        Refusal::Overfull { region, size, maximum } => push_sizes(alloc, out, region, *size, *maximum),
+        Refusal::Ambiguous {
+            object,
+            area,
+            first,
+            second,
+        } => push_two_lines(alloc, out, object, area, *first, *second),
+        Refusal::Overlap {
+            first,
+            second,
+            address,
+        } => push_at(alloc, out, first, second, *address),
+        Refusal::CopyConflict {
+            first,
+            second,
+            address,
+        } => push_at(alloc, out, first, second, *address),
+        Refusal::FieldOverflow {
+            object,
+            area,
+            offset,
+        } => push_at(alloc, out, object, area, *offset),
+        Refusal::BadRelocation {
+            object,
+            area,
+            offset,
+        } => push_at(alloc, out, object, area, *offset),
+        Refusal::NotRelocatable {
+            object,
+            area,
+            offset,
+        } => push_at(alloc, out, object, area, *offset),
+        Refusal::Overfull {
+            region,
+            size,
+            maximum,
+        } => push_sizes(alloc, out, region, *size, *maximum),
         Refusal::NoRoot { region } => push_word(out, region.as_slice()),
         Refusal::Missing { name } => push_word(out, name.as_slice()),
         Refusal::TooLarge { quantity, limit } => push_limit(alloc, out, quantity.word(), *limit),
-        Refusal::Unreachable { object, area, offset, symbol } => push_branch(alloc, out, object, area, *offset, symbol),
+        Refusal::Unreachable {
+            object,
+            area,
+            offset,
+            symbol,
+        } => push_branch(alloc, out, object, area, *offset, symbol),
         Refusal::BankOverlap { address } => push_address(alloc, out, *address),
         Refusal::NoRoom { address } => push_address(alloc, out, *address),
         Refusal::NotWritable { region, address } => push_one_at(alloc, out, region, *address),
     }
 }
 
-fn push_line(alloc: Global, out: &mut Vec<u8>, file: &Text, line: u32, kind: &str) -> Result<(), NoMemory>
+fn push_line(
+    alloc: Global,
+    out: &mut Vec<u8>,
+    file: &Text,
+    line: u32,
+    kind: &str,
+) -> Result<(), NoMemory>
     ensures { OnOk result (out.new.items ≡ out.old.items ++ spaced (file.now ∷ decimal line ∷ kind.now ∷ [])) }
 {
     push_word(out, file.as_slice())?;
@@ -202,7 +276,13 @@ fn push_line(alloc: Global, out: &mut Vec<u8>, file: &Text, line: u32, kind: &st
     push_word(out, kind.as_bytes())
 }
 
-fn push_offset(alloc: Global, out: &mut Vec<u8>, file: &Text, offset: u32, kind: &str) -> Result<(), NoMemory>
+fn push_offset(
+    alloc: Global,
+    out: &mut Vec<u8>,
+    file: &Text,
+    offset: u32,
+    kind: &str,
+) -> Result<(), NoMemory>
     ensures { OnOk result (out.new.items ≡ out.old.items ++ spaced (file.now ∷ hexadecimal offset ∷ kind.now ∷ [])) }
 {
     push_word(out, file.as_slice())?;
@@ -225,14 +305,26 @@ fn push_two(out: &mut Vec<u8>, first: &Text, second: &Text) -> Result<(), NoMemo
     push_word(out, second.as_slice())
 }
 
-fn push_scatter_line(alloc: Global, out: &mut Vec<u8>, line: u32, kind: &str) -> Result<(), NoMemory>
+fn push_scatter_line(
+    alloc: Global,
+    out: &mut Vec<u8>,
+    line: u32,
+    kind: &str,
+) -> Result<(), NoMemory>
     ensures { OnOk result (out.new.items ≡ out.old.items ++ spaced (decimal line ∷ kind.now ∷ [])) }
 {
     push_number(alloc, out, line)?;
     push_word(out, kind.as_bytes())
 }
 
-fn push_two_lines(alloc: Global, out: &mut Vec<u8>, object: &Text, area: &Text, first: u32, second: u32) -> Result<(), NoMemory>
+fn push_two_lines(
+    alloc: Global,
+    out: &mut Vec<u8>,
+    object: &Text,
+    area: &Text,
+    first: u32,
+    second: u32,
+) -> Result<(), NoMemory>
     ensures { OnOk result (out.new.items ≡ out.old.items ++ spaced (object.now ∷ area.now ∷ decimal first ∷ decimal second ∷ [])) }
 {
     push_word(out, object.as_slice())?;
@@ -241,7 +333,13 @@ fn push_two_lines(alloc: Global, out: &mut Vec<u8>, object: &Text, area: &Text, 
     push_number(alloc, out, second)
 }
 
-fn push_at(alloc: Global, out: &mut Vec<u8>, first: &Text, second: &Text, address: u32) -> Result<(), NoMemory>
+fn push_at(
+    alloc: Global,
+    out: &mut Vec<u8>,
+    first: &Text,
+    second: &Text,
+    address: u32,
+) -> Result<(), NoMemory>
     ensures { OnOk result (out.new.items ≡ out.old.items ++ spaced (first.now ∷ second.now ∷ hexadecimal address ∷ [])) }
 {
     push_word(out, first.as_slice())?;
@@ -249,7 +347,13 @@ fn push_at(alloc: Global, out: &mut Vec<u8>, first: &Text, second: &Text, addres
     push_address(alloc, out, address)
 }
 
-fn push_sizes(alloc: Global, out: &mut Vec<u8>, region: &Text, size: u64, maximum: u64) -> Result<(), NoMemory>
+fn push_sizes(
+    alloc: Global,
+    out: &mut Vec<u8>,
+    region: &Text,
+    size: u64,
+    maximum: u64,
+) -> Result<(), NoMemory>
     ensures { OnOk result (out.new.items ≡ out.old.items ++ spaced (region.now ∷ hexadecimal size ∷ hexadecimal maximum ∷ [])) }
 {
     push_word(out, region.as_slice())?;
@@ -264,7 +368,14 @@ fn push_limit(alloc: Global, out: &mut Vec<u8>, quantity: &str, limit: u64) -> R
     push_size(alloc, out, limit)
 }
 
-fn push_branch(alloc: Global, out: &mut Vec<u8>, object: &Text, area: &Text, offset: u32, symbol: &Text) -> Result<(), NoMemory>
+fn push_branch(
+    alloc: Global,
+    out: &mut Vec<u8>,
+    object: &Text,
+    area: &Text,
+    offset: u32,
+    symbol: &Text,
+) -> Result<(), NoMemory>
     ensures { OnOk result (out.new.items ≡ out.old.items ++ spaced (object.now ∷ area.now ∷ hexadecimal offset ∷ symbol.now ∷ [])) }
 {
     push_word(out, object.as_slice())?;
@@ -273,7 +384,12 @@ fn push_branch(alloc: Global, out: &mut Vec<u8>, object: &Text, area: &Text, off
     push_word(out, symbol.as_slice())
 }
 
-fn push_one_at(alloc: Global, out: &mut Vec<u8>, region: &Text, address: u32) -> Result<(), NoMemory>
+fn push_one_at(
+    alloc: Global,
+    out: &mut Vec<u8>,
+    region: &Text,
+    address: u32,
+) -> Result<(), NoMemory>
     ensures { OnOk result (out.new.items ≡ out.old.items ++ spaced (region.now ∷ hexadecimal address ∷ [])) }
 {
     push_word(out, region.as_slice())?;

@@ -34,7 +34,8 @@ fn two_words(rt: HostRuntime) -> Result<(), Fail> {
     let image = b"\x12\x00\xA0\xE3\x11\x00\x00\xEF";
     check(&rt, rt.alloc(), &builds(TWO_WORDS, "done", Some(image)))?;
     // Blanks, line ends, a name in bars, a last line without a line feed, and what follows END.
-    let spaced = b"\tAREA|a, b| ,CODE ,\tREADONLY \r\n ENTRY\t\r\n DCD 3818913810,0xef000011\n  END  \nanything";
+    let spaced =
+        b"\tAREA|a, b| ,CODE ,\tREADONLY \r\n ENTRY\t\r\n DCD 3818913810,0xef000011\n  END  \nanything";
     check(&rt, rt.alloc(), &builds(spaced, "done", Some(image)))
 }
 
@@ -43,18 +44,54 @@ fn refused_sources(rt: HostRuntime) -> Result<(), Fail> {
     let cases: [(&[u8], &str); 14] = [
         (b"", "refused 2 BadLine t.s 1 Syntax"),
         (b" AREA A, CODE, READONLY", "refused 2 BadLine t.s 2 Syntax"),
-        (b" AREA A, CODE, READONLY\n ENTRY\n", "refused 2 BadLine t.s 3 Syntax"),
-        (b" AREA A, CODE, READONLY\n ENTRY\n END\n", "refused 2 BadLine t.s 3 Syntax"),
-        (b" AREA A, CODE, READONLY\n ENTRY\n DCD 1\n\n", "refused 2 BadLine t.s 4 Syntax"),
-        (b"AREA A, CODE, READONLY\n", "refused 2 BadLine t.s 1 Syntax"),
-        (b" AREA 1A, CODE, READONLY\n", "refused 2 BadLine t.s 1 Syntax"),
-        (b" AREA ||, CODE, READONLY\n", "refused 2 BadLine t.s 1 Syntax"),
-        (b" area A, CODE, READONLY\n", "refused 2 BadLine t.s 1 Syntax"),
-        (b" AREA A, CODE, READONLY\n ENTRY\r", "refused 2 BadLine t.s 2 Syntax"),
-        (b" AREA A, CODE, READONLY\n ENTRY\n DCD 4294967296\n", "refused 2 BadLine t.s 3 Syntax"),
-        (b" AREA A, CODE, READONLY\n ENTRY\n DCD 1,,2\n", "refused 2 BadLine t.s 3 Syntax"),
-        (b" AREA A, CODE, READONLY\n ENTRY\n DCD 0x\n", "refused 2 BadLine t.s 3 Syntax"),
-        (b" AREA A, CODE, READONLY\n ENTRY\n DCD 1\x00\xFF\n", "refused 2 BadLine t.s 3 Syntax"),
+        (
+            b" AREA A, CODE, READONLY\n ENTRY\n",
+            "refused 2 BadLine t.s 3 Syntax",
+        ),
+        (
+            b" AREA A, CODE, READONLY\n ENTRY\n END\n",
+            "refused 2 BadLine t.s 3 Syntax",
+        ),
+        (
+            b" AREA A, CODE, READONLY\n ENTRY\n DCD 1\n\n",
+            "refused 2 BadLine t.s 4 Syntax",
+        ),
+        (
+            b"AREA A, CODE, READONLY\n",
+            "refused 2 BadLine t.s 1 Syntax",
+        ),
+        (
+            b" AREA 1A, CODE, READONLY\n",
+            "refused 2 BadLine t.s 1 Syntax",
+        ),
+        (
+            b" AREA ||, CODE, READONLY\n",
+            "refused 2 BadLine t.s 1 Syntax",
+        ),
+        (
+            b" area A, CODE, READONLY\n",
+            "refused 2 BadLine t.s 1 Syntax",
+        ),
+        (
+            b" AREA A, CODE, READONLY\n ENTRY\r",
+            "refused 2 BadLine t.s 2 Syntax",
+        ),
+        (
+            b" AREA A, CODE, READONLY\n ENTRY\n DCD 4294967296\n",
+            "refused 2 BadLine t.s 3 Syntax",
+        ),
+        (
+            b" AREA A, CODE, READONLY\n ENTRY\n DCD 1,,2\n",
+            "refused 2 BadLine t.s 3 Syntax",
+        ),
+        (
+            b" AREA A, CODE, READONLY\n ENTRY\n DCD 0x\n",
+            "refused 2 BadLine t.s 3 Syntax",
+        ),
+        (
+            b" AREA A, CODE, READONLY\n ENTRY\n DCD 1\x00\xFF\n",
+            "refused 2 BadLine t.s 3 Syntax",
+        ),
     ];
     for (source, answer) in cases {
         check(&rt, rt.alloc(), &builds(source, answer, None))?;
@@ -68,12 +105,36 @@ fn refused_words_and_failing_calls(rt: HostRuntime) -> Result<(), Fail> {
         (&[], &[], "refused 1 BadWords 1"),
         (&["link"], &[], "refused 1 BadWords 1"),
         (&["build", "-bin"], &[], "refused 1 BadWords 3"),
-        (&["build", "-aif", "-o", "t.bin", "t.s"], &[], "refused 1 BadWords 2"),
-        (&["build", "-bin", "-o", "a\x00b", "t.s"], &[], "refused 1 BadWords 4"),
-        (&["build", "-bin", "-o", "t.bin", "-t.s"], &[], "refused 1 BadWords 5"),
-        (&["build", "-bin", "-o", "t.bin", "t.o"], &[], "refused 1 BadWords 5"),
-        (&["build", "-bin", "-o", "t.bin", "t.s", "u.s"], &[], "refused 1 BadWords 6"),
-        (&["build", "-bin", "-o", "t.bin", "u.s"], &[], "refused 26 Missing u.s"),
+        (
+            &["build", "-aif", "-o", "t.bin", "t.s"],
+            &[],
+            "refused 1 BadWords 2",
+        ),
+        (
+            &["build", "-bin", "-o", "a\x00b", "t.s"],
+            &[],
+            "refused 1 BadWords 4",
+        ),
+        (
+            &["build", "-bin", "-o", "t.bin", "-t.s"],
+            &[],
+            "refused 1 BadWords 5",
+        ),
+        (
+            &["build", "-bin", "-o", "t.bin", "t.o"],
+            &[],
+            "refused 1 BadWords 5",
+        ),
+        (
+            &["build", "-bin", "-o", "t.bin", "t.s", "u.s"],
+            &[],
+            "refused 1 BadWords 6",
+        ),
+        (
+            &["build", "-bin", "-o", "t.bin", "u.s"],
+            &[],
+            "refused 26 Missing u.s",
+        ),
         (&BUILD, &[1], "cannot read t.s"),
         (&BUILD, &[2], "cannot write t.bin"),
     ];
@@ -86,7 +147,19 @@ fn refused_words_and_failing_calls(rt: HostRuntime) -> Result<(), Fail> {
 #[test]
 fn large_sources(rt: HostRuntime) -> Result<(), Fail> {
     let mut source = vec![in rt.alloc(); b' '; 1 << 24]?;
-    check(&rt, rt.alloc(), &builds(source.as_slice(), "refused 2 BadLine t.s 1 Syntax", None))?;
+    check(
+        &rt,
+        rt.alloc(),
+        &builds(source.as_slice(), "refused 2 BadLine t.s 1 Syntax", None),
+    )?;
     source.push(b' ')?;
-    check(&rt, rt.alloc(), &builds(source.as_slice(), "refused 17 TooLarge SourceBytes 01000000", None))
+    check(
+        &rt,
+        rt.alloc(),
+        &builds(
+            source.as_slice(),
+            "refused 17 TooLarge SourceBytes 01000000",
+            None,
+        ),
+    )
 }

@@ -26,7 +26,9 @@ pub struct Case<'a> {
 pub fn check(rt: &impl Abort, alloc: Global, case: &Case) -> Result<(), Fail> {
     let mut store = MemoryStore::new(alloc);
     let name = Text::from_slice(alloc, b"t.s")?;
-    store.files.insert(name, Bytes::from_slice(alloc, case.source)?)?;
+    store
+        .files
+        .insert(name, Bytes::from_slice(alloc, case.source)?)?;
     store.failing.extend_from_slice(case.failing)?;
     let mut words = Vec::new(alloc);
     for word in case.words {
@@ -38,7 +40,10 @@ pub fn check(rt: &impl Abort, alloc: Global, case: &Case) -> Result<(), Fail> {
     let text = text_of(alloc, &answer)?;
     assert_eq!(rt; text.as_slice(), case.answer.as_bytes());
     let output = Text::from_slice(alloc, b"t.bin")?;
-    assert_eq!(rt; store.files.get(&output).map(|bytes| bytes.as_slice()), case.output);
+    assert_eq!(rt;
+        store.files.get(&output).map(|bytes| bytes.as_slice()),
+        case.output
+    );
     assert_eq!(rt; sink.bytes.len(), 0);
     Ok(())
 }
