@@ -9,15 +9,18 @@ pub fn words_read()
     ensures boot { ReadAs boot_list boot_instructions }
     ensures zero { ReadAs zero_code zero_instructions }
     ensures relocator { ReadAs relocator_list relocator_instructions }
-{}
+{
+}
 
 /// From every permitted state the startup code with the rows of a placement reaches the entry in exactly
 /// the steps of the rows, whatever the lines are; the memory is then the view, and elsewhere unchanged.
 pub fn startup_is_exact()
     ensures { StartupIsExact }
-{}
+{
+}
 
 /// It does so within the bound.
 pub fn startup_boots()
     ensures { StartupBoots }
-{}
+{
+}
