@@ -1,7 +1,7 @@
 //! Sinks of text.
 
-ghost use Rattle.std.specs.Prelude.{◌≡◌, ◌≤◌, ◌<◌, ◌+◌, ◌^◌, ◌++◌, ℕ, List, Option, Some, None, IfOk, OnOk, OnErr, [], length, vec_len, vec_capacity};
-ghost use Rattle.sdt_outside.specs.Counts.{Rose};
+ghost use Rattle.std.specs.Prelude.{◌≡◌, ◌≤◌, ◌<◌, ◌+◌, ◌^◌, ◌++◌, ℕ, List, Option, Some, None, IfOk, IsOk, OnOk, OnErr, ◌↔◌, [], length, vec_len, vec_capacity};
+ghost use Rattle.sdt_outside.specs.Counts.{Rose, counted};
 ghost use Rattle.sdt_outside.specs.Sinks.{Got, GotPart};
 
 use sdt_fault::NoMemory;
@@ -65,6 +65,10 @@ impl Sink for MemorySink {
         ensures ok { OnOk result (Got (Some self.old.bytes.items) (Some self.new.bytes.items) piece.now) }
         ensures failed { OnErr result (Rose self.old.faults self.new.faults × GotPart (Some self.old.bytes.items) (Some self.new.bytes.items) piece.now) }
         ensures faults { self.old.faults ≤ self.new.faults }
+
+        ensures fits { IsOk result ↔ (length piece.now ≤ self.old.room) }
+        ensures taken { OnOk result ((self.new.room + length piece.now ≡ self.old.room) × (self.new.faults ≡ self.old.faults)) }
+        ensures refused { OnErr result ((self.new.bytes.items ≡ self.old.bytes.items) × (self.new.room ≡ self.old.room) × (self.new.faults ≡ counted self.old.faults)) }
     {
         let needed = piece.len() as u64;
         if needed > self.room {
@@ -85,7 +89,10 @@ pub struct StdSink<R: Print + Drop> {
 }
 
 impl<R: Print + Drop> StdSink<R> {
-    pub fn new(output: R) -> StdSink<R> {
+    /// Nothing has failed yet.
+    pub fn new(output: R) -> StdSink<R>
+        ensures { ⟦<StdSink<R> as Sink>⟧.faults result ≡ 0 }
+    {
         StdSink { output, faults: 0 }
     }
 }

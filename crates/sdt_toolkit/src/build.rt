@@ -1,10 +1,11 @@
 //! The command `build`.
 
-ghost use Rattle.std.specs.Prelude.{◌≡◌, ◌<◌, ◌≤◌, ◌^◌, ◌*◌, ℕ, List, Option, Result, IfOk, length, map, string_bytes, vec_len, Ok};
+ghost use Rattle.std.specs.Prelude.{◌≡◌, ◌<◌, ◌≤◌, ◌^◌, ◌*◌, ℕ, List, Option, Result, IfOk, length, map, string_bytes, vec_len, Ok, None};
 ghost use Rattle.sdt_fault.specs.declared.refusal.Refusal.{Refusal as Defect};
 ghost use Rattle.sdt_fault.specs.declared.answer.Answer.TheVariants as answer;
 ghost use Rattle.sdt_outside.specs.Counts.{Rose};
 ghost use Rattle.sdt_outside.specs.Files.{Files};
+ghost use Rattle.sdt_toolkit.specs.Words.{bad_place};
 ghost use Rattle.sdt_toolkit.specs.Build.{BuildAnswers, GivesImage, Leaves, SaysBuilt, file_judged, file_of, input_judged, judged, output_of, read_answer, source_of, word_at};
 
 use crate::words::bad_place;
@@ -22,9 +23,10 @@ const MAX_SOURCE: usize = 1 << 24;
 
 /// `build -bin -o OUT SRC`.
 pub fn build<S: Store>(alloc: Global, words: &[String], store: &mut S) -> Answer
-    ensures { let words = map string_bytes words.now in
+    ensures exact { let words = map string_bytes words.now in
         BuildAnswers (input_judged words) (output_of words) (source_of words) (S.files store.old) (S.files store.new)
         (Rose (S.read_faults store.old) (S.read_faults store.new)) (Rose (S.write_faults store.old) (S.write_faults store.new)) result }
+    ensures read_fault { (name : List ℕ) → result ≡ answer.ReadFault name → bad_place (map string_bytes words.now) ≡ None }
 {
     if let Some(place) = bad_place(words) {
         return Answer::Refused(Refusal::BadWords { place });

@@ -1,11 +1,12 @@
 //! The top call: from the words of a command line, the files of a store and a sink for text, to an answer.
 #![tactic(auto)]
 
-ghost use Rattle.std.specs.Prelude.{◌≡◌, map, string_bytes};
+ghost use Rattle.std.specs.Prelude.{◌≡◌, ℕ, List, None, map, string_bytes};
 ghost use Rattle.sdt_fault.specs.declared.refusal.Refusal.{Refusal};
 ghost use Rattle.sdt_fault.specs.declared.answer.Answer.TheVariants as answer;
 ghost use Rattle.sdt_outside.specs.Counts.{Rose};
 ghost use Rattle.sdt_toolkit.specs.Build.{BuildAnswers, input_judged, output_of, source_of};
+ghost use Rattle.sdt_toolkit.specs.Words.{bad_place};
 ghost use Rattle.sdt_toolkit.specs.Clauses.{Builds, IsAnswered, IsThere};
 
 use sdt_fault::answer::Answer;
@@ -31,6 +32,9 @@ pub fn run_tool<S: Store, K: Sink>(
     ensures built { result ≡ answer.Done → Builds (map string_bytes words.now) (S.files store.old) (S.files store.new) }
     // A refusal names the first defect that the input has.
     ensures refused { (r : Refusal) → result ≡ answer.Refused r → IsThere (map string_bytes words.now) (S.files store.old) r }
+    // A read fault names the source, and comes only for words that are good.
+    ensures read_fault { (name : List ℕ) → result ≡ answer.ReadFault name
+        → (bad_place (map string_bytes words.now) ≡ None) × (name ≡ source_of (map string_bytes words.now)) }
     // Where no read and no write failed, an input without a defect is built and one with a defect is refused.
     ensures complete { (Rose (S.read_faults store.old) (S.read_faults store.new) → ⊥) → (Rose (S.write_faults store.old) (S.write_faults store.new) → ⊥)
         → IsAnswered (map string_bytes words.now) (S.files store.old) result }

@@ -22,7 +22,11 @@ pub struct FileStore<R: Files + Drop> {
 }
 
 impl<R: Files + Drop> FileStore<R> {
-    pub fn new(system: R) -> FileStore<R> {
+    /// Nothing has failed yet.
+    pub fn new(system: R) -> FileStore<R>
+        ensures reads { ⟦<FileStore<R> as Store>⟧.read_faults result ≡ 0 }
+        ensures writes { ⟦<FileStore<R> as Store>⟧.write_faults result ≡ 0 }
+    {
         FileStore {
             system,
             read_faults: 0,
@@ -40,7 +44,7 @@ impl<R: Files + Drop> FileStore<R> {
         match fs::open(&self.system, path) {
             Ok(mut file) => read_all(alloc, &mut file),
             Err(e) => Err(match e.kind() {
-                ErrorKind::NotFound => StoreError::Missing,
+                ErrorKind::NotFound | ErrorKind::NotADirectory => StoreError::Missing,
                 _ => StoreError::Failed,
             }),
         }

@@ -7,7 +7,7 @@ ghost use Rattle.std.specs.FinMap.{from_entries};
 ghost use Rattle.std.specs.FinMap as map;
 ghost use Rattle.sdt_outside.specs.Counts.{Rose, counted};
 ghost use Rattle.sdt_outside.specs.Files.{Files, IsFound, ReadFails, IsWritten, WriteFails, files_of};
-ghost use Rattle.sdt_outside.specs.Memory.{FailsAt};
+ghost use Rattle.sdt_outside.specs.Memory.{CountsFaults, FailsAt};
 ghost use Rattle.sdt_outside.specs.declared.store.StoreError.TheVariants as error;
 
 use crate::store::{Store, StoreError};
@@ -107,6 +107,7 @@ impl Store for MemoryStore {
         ensures write_faults { self.new.write_faults ≡ self.old.write_faults }
 
         ensures fails { IsErrOf result error.Failed ↔ FailsAt self.old.failing.items self.old.calls self.old.read_faults }
+        ensures counts { CountsFaults result self.old.read_faults self.new.read_faults }
         ensures calls { self.new.calls ≡ counted self.old.calls }
         ensures failing { self.new.failing.items ≡ self.old.failing.items }
     {
@@ -128,6 +129,7 @@ impl Store for MemoryStore {
         ensures read_faults { self.new.read_faults ≡ self.old.read_faults }
 
         ensures fails { IsErrOf result error.Failed ↔ FailsAt self.old.failing.items self.old.calls self.old.write_faults }
+        ensures counts { CountsFaults result self.old.write_faults self.new.write_faults }
         ensures calls { self.new.calls ≡ counted self.old.calls }
         ensures failing { self.new.failing.items ≡ self.old.failing.items }
     {
