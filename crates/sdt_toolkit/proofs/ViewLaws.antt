@@ -57,7 +57,7 @@ view_of_file base numbers = record {
     λ h. let len = length-file_of numbers in rw (loaded_inside base (file_of numbers) a h.0) (within_some (file_of numbers) (a - base) (omega arith)),
   );
   words = λ k inside i small.
-    let above : base ≤ base + 4 * k + i = omega arith in
-    let e : base + 4 * k + i - base ≡ 4 * k + i = omega arith in
-    rw (loaded_inside base (file_of numbers) (base + 4 * k + i) above, e) (word_in_file numbers k i inside small);
+      let above : base ≤ base + 4 * k + i = omega arith in
+      let e : base + 4 * k + i - base ≡ 4 * k + i = omega arith in
+      rw (loaded_inside base (file_of numbers) (base + 4 * k + i) above, e) (word_in_file numbers k i inside small);
 }

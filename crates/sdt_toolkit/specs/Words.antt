@@ -29,4 +29,3 @@ bad_place_from n (word ∷ words) = if may_stand n word then bad_place_from (n +
 
 abbrev pub bad_place : List (List ℕ) → Option ℕ
 bad_place words = bad_place_from 0 words
-
