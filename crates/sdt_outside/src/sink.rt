@@ -1,8 +1,9 @@
 //! Sinks of text.
 
-ghost use Rattle.std.specs.Prelude.{◌≡◌, ◌≤◌, ◌<◌, ◌+◌, ◌^◌, ◌++◌, ℕ, List, Option, Some, None, IfOk, OnOk, OnErr, [], length, vec_len, vec_capacity};
-ghost use Rattle.sdt_outside.specs.Counts.{Rose};
+ghost use Rattle.std.specs.Prelude.{◌≡◌, ◌≤◌, ◌<◌, ◌+◌, ◌^◌, ◌++◌, ℕ, List, Option, Some, None, IfOk, OnOk, OnErr, [], length, vec_len, vec_capacity, IsErrOf, ◌↔◌};
+ghost use Rattle.sdt_outside.specs.Counts.{Rose, counted};
 ghost use Rattle.sdt_outside.specs.Sinks.{Got, GotPart};
+ghost use Rattle.sdt_outside.specs.declared.sink.SinkError.TheVariants as sink_error;
 
 use sdt_fault::NoMemory;
 use std::alloc::Global;
@@ -60,11 +61,14 @@ impl Sink for MemorySink {
 
     ghost faults = { λ sink. sink.faults };
 
-    /// Fails exactly where the piece does not fit the room; nothing is taken then.
     fn write_all(&mut self, piece: &[u8]) -> Result<(), SinkError>
         ensures ok { OnOk result (Got (Some self.old.bytes.items) (Some self.new.bytes.items) piece.now) }
         ensures failed { OnErr result (Rose self.old.faults self.new.faults × GotPart (Some self.old.bytes.items) (Some self.new.bytes.items) piece.now) }
         ensures faults { self.old.faults ≤ self.new.faults }
+
+        ensures fails { IsErrOf result sink_error.Failed ↔ (self.old.room < length piece.now) }
+        ensures taken { OnOk result ((self.new.room + length piece.now ≡ self.old.room) × (self.new.faults ≡ self.old.faults)) }
+        ensures kept { OnErr result ((self.new.bytes.items ≡ self.old.bytes.items) × (self.new.room ≡ self.old.room) × (self.new.faults ≡ counted self.old.faults)) }
     {
         let needed = piece.len() as u64;
         if needed > self.room {
@@ -85,7 +89,9 @@ pub struct StdSink<R: Print + Drop> {
 }
 
 impl<R: Print + Drop> StdSink<R> {
-    pub fn new(output: R) -> StdSink<R> {
+    pub fn new(output: R) -> StdSink<R>
+        ensures { result.faults ≡ 0 }
+    {
         StdSink { output, faults: 0 }
     }
 }
@@ -95,7 +101,15 @@ impl<R: Print + Drop> Sink for StdSink<R> {
 
     ghost faults = { λ sink. sink.faults };
 
-    fn write_all(&mut self, piece: &[u8]) -> Result<(), SinkError> {
+    /// Each error of the output counts as one fault.
+    fn write_all(&mut self, piece: &[u8]) -> Result<(), SinkError>
+        ensures ok { OnOk result (Got None None piece.now) }
+        ensures failed { OnErr result (Rose self.old.faults self.new.faults × GotPart None None piece.now) }
+        ensures faults { self.old.faults ≤ self.new.faults }
+
+        ensures counted { OnErr result (self.new.faults ≡ counted self.old.faults) }
+        ensures uncounted { OnOk result (self.new.faults ≡ self.old.faults) }
+    {
         if self.output.write_all(piece).is_ok() {
             return Ok(());
         }

@@ -24,7 +24,7 @@ const MAX_SOURCE: usize = 1 << 24;
 pub fn build<S: Store>(alloc: Global, words: &[String], store: &mut S) -> Answer
     ensures { let words = map string_bytes words.now in
         BuildAnswers (input_judged words) (output_of words) (source_of words) (S.files store.old) (S.files store.new)
-            (Rose (S.read_faults store.old) (S.read_faults store.new)) (Rose (S.write_faults store.old) (S.write_faults store.new)) result }
+        (Rose (S.read_faults store.old) (S.read_faults store.new)) (Rose (S.write_faults store.old) (S.write_faults store.new)) result }
 {
     if let Some(place) = bad_place(words) {
         return Answer::Refused(Refusal::BadWords { place });

@@ -37,7 +37,7 @@ pub fn run_tool<S: Store, K: Sink>(
     // What each answer says and leaves, whether the store tells its files or not.
     ensures exact { let words = map string_bytes words.now in
         BuildAnswers (input_judged words) (output_of words) (source_of words) (S.files store.old) (S.files store.new)
-            (Rose (S.read_faults store.old) (S.read_faults store.new)) (Rose (S.write_faults store.old) (S.write_faults store.new)) result }
+        (Rose (S.read_faults store.old) (S.read_faults store.new)) (Rose (S.write_faults store.old) (S.write_faults store.new)) result }
 
     ensures sink { sink.new ≡ sink.old }
     ensures devices { devices.new ≡ devices.old }

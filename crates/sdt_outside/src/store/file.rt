@@ -22,7 +22,9 @@ pub struct FileStore<R: Files + Drop> {
 }
 
 impl<R: Files + Drop> FileStore<R> {
-    pub fn new(system: R) -> FileStore<R> {
+    pub fn new(system: R) -> FileStore<R>
+        ensures { (result.read_faults ≡ 0) × (result.write_faults ≡ 0) }
+    {
         FileStore {
             system,
             read_faults: 0,
