@@ -1,10 +1,11 @@
 //! The lines of a source of numbers.
 
-ghost use Rattle.std.specs.Prelude.{◌≡◌, ◌==◌, ◌<◌, ◌^◌, ◌+◌, ◌-◌, ℕ, length, IfOk, List, codes, Ok, Err, Result, [], OnOk, vec_len, ◌≤◌};
+ghost use Rattle.std.specs.Prelude.{◌≡◌, ◌==◌, ◌<◌, ◌^◌, ◌+◌, ◌-◌, ℕ, length, IfOk, List, codes, Ok, Err, Result, [], OnOk, vec_len, ◌≤◌, MatchResult};
 ghost use Rattle.std.specs.List.{slice_split};
 ghost use Rattle.std.specs.Option.{option_copied};
 ghost use Rattle.std.specs.Str.Lines.{lines};
 ghost use Rattle.number_source.specs.Parts.{numbers_in};
+ghost use Rattle.number_source.specs.Grammar.{IsFaultOf, IsSource};
 ghost use Rattle.number_source.specs.Source.{Pushed, Reads, after_area, data_from, data_on, ended, entry_from, is_area, is_lone, numbers_of};
 
 use crate::lines::{first_line, split_first};
@@ -33,6 +34,15 @@ impl From<NoMemory> for SourceFault {
 
 /// The numbers of a source, in order.
 pub fn read_numbers(alloc: Global, text: &[u8]) -> Result<Vec<u32>, SourceFault>
+    requires { length text.now < 2 ^ 31 }
+    ensures grammar { MatchResult result (λ numbers. IsSource (lines text.now) numbers.items) (IsFaultOf (lines text.now)) }
+    ensures exact { Reads (λ v. v.items) result (numbers_of (lines text.now)) }
+    ensures few { IfOk result (λ numbers. vec_len numbers ≤ length text.now) }
+{
+    read_area(alloc, text)
+}
+
+fn read_area(alloc: Global, text: &[u8]) -> Result<Vec<u32>, SourceFault>
     requires { length text.now < 2 ^ 31 }
     ensures exact { Reads (λ v. v.items) result (numbers_of (lines text.now)) }
     ensures few { IfOk result (λ numbers. vec_len numbers ≤ length text.now) }

@@ -60,7 +60,6 @@ impl Sink for MemorySink {
 
     ghost faults = { λ sink. sink.faults };
 
-    /// Fails exactly where the piece does not fit the room; nothing is taken then.
     fn write_all(&mut self, piece: &[u8]) -> Result<(), SinkError>
         ensures ok { OnOk result (Got (Some self.old.bytes.items) (Some self.new.bytes.items) piece.now) }
         ensures failed { OnErr result (Rose self.old.faults self.new.faults × GotPart (Some self.old.bytes.items) (Some self.new.bytes.items) piece.now) }
@@ -102,7 +101,15 @@ impl<R: Print + Drop> Sink for StdSink<R> {
 
     ghost faults = { λ sink. sink.faults };
 
-    fn write_all(&mut self, piece: &[u8]) -> Result<(), SinkError> {
+    /// Each error of the output counts as one fault.
+    fn write_all(&mut self, piece: &[u8]) -> Result<(), SinkError>
+        ensures ok { OnOk result (Got None None piece.now) }
+        ensures failed { OnErr result (Rose self.old.faults self.new.faults × GotPart None None piece.now) }
+        ensures faults { self.old.faults ≤ self.new.faults }
+
+        ensures counted { OnErr result (self.new.faults ≡ counted self.old.faults) }
+        ensures uncounted { OnOk result (self.new.faults ≡ self.old.faults) }
+    {
         if self.output.write_all(piece).is_ok() {
             return Ok(());
         }

@@ -14,6 +14,7 @@ use Rattle.sdt_fault.specs.declared.kinds.LineKind.TheVariants.{Syntax}
 use Rattle.sdt_fault.specs.declared.kinds.Quantity.TheVariants.{SourceBytes}
 use Rattle.std.specs.Str.Lines.{lines}
 use Rattle.number_source.specs.Source.{numbers_of}
+use Rattle.number_source.proofs.SourceLaws.{source_is}
 use Rattle.sdt_toolkit.specs.Words.{bad_place}
 use Rattle.sdt_outside.specs.Files.{Files, content}
 use Rattle.sdt_toolkit.specs.Build.{AreSeen, BuildAnswers, Leaves, SaysBuilt, file_judged, file_of, input_judged, judged, lines_judged, output_of, source_of}
@@ -79,7 +80,7 @@ built words before after numbers input e =
       text = source.0;
       source = source.1;
       numbers = numbers;
-      spelled = source.2;
+      spelled = source_is (lines source.0) numbers source.2;
       image = file_of numbers;
       output = rw e (there (output_of words) ∙ ap (λ b. cond b (Some (file_of numbers)) (content before (output_of words))) ((eq_by_cmp_equiv nat_list_cmp_total).refl (output_of words)));
       view = view_of_file 0x8000 numbers;

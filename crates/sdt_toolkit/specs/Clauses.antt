@@ -5,7 +5,7 @@ use Rattle.sdt_fault.specs.declared.answer.Answer.{Answer}
 use Rattle.sdt_fault.specs.declared.answer.Answer.TheVariants as answer
 use Rattle.sdt_fault.specs.declared.refusal.Refusal.{Refusal}
 use Rattle.sdt_outside.specs.Files.{Files, content}
-use Rattle.number_source.specs.Source.{numbers_of}
+use Rattle.number_source.specs.Grammar.{IsSource}
 use Rattle.sdt_toolkit.specs.Build.{input_judged, output_of, source_of}
 use Rattle.sdt_toolkit.specs.Views.{IsView, loaded}
 
@@ -15,7 +15,7 @@ pub record IsBuilt (words : List (List ℕ)) (before after : Files) : Type 0 whe
   pub text : List ℕ
   pub source : content before (source_of words) ≡ Some text
   pub numbers : List ℕ
-  pub spelled : numbers_of (lines text) ≡ Ok numbers
+  pub spelled : IsSource (lines text) numbers
   pub image : List ℕ
   pub output : content after (output_of words) ≡ Some image
   pub view : IsView 0x8000 numbers (loaded 0x8000 image)

@@ -1,6 +1,6 @@
 //! Files in memory, whose calls can be made to fail.
 
-ghost use Rattle.std.specs.Prelude.{◌≡◌, ◌≤◌, ◌<◌, ◌^◌, ◌+◌, ◌↔◌, ℕ, Option, Some, None, IfOk, IfErr, OnOk, OnErr, IsTrue, IsErrOf, length, if◌then◌else◌, is_ok};
+ghost use Rattle.std.specs.Prelude.{◌≡◌, ◌≤◌, ◌<◌, ◌^◌, ◌+◌, ◌↔◌, ℕ, [], Option, Some, None, IfOk, IfErr, OnOk, OnErr, IsTrue, IsErrOf, length, if◌then◌else◌, is_ok};
 ghost use Rattle.std.specs.Ordering.{nat_cmp};
 ghost use Rattle.std.specs.Cmp.Lexicographic.{slice_cmp};
 ghost use Rattle.std.specs.FinMap.{from_entries};
@@ -32,7 +32,10 @@ pub struct MemoryStore {
 
 impl MemoryStore {
     /// A store without files whose calls don't fail.
-    pub fn new(alloc: Global) -> MemoryStore {
+    pub fn new(alloc: Global) -> MemoryStore
+        ensures empty { (result.files.entries ≡ []) × (result.failing.items ≡ []) }
+        ensures counts { (result.calls ≡ 0) × (result.read_faults ≡ 0) × (result.write_faults ≡ 0) }
+    {
         MemoryStore {
             files: BTreeMap::new(alloc),
             failing: Vec::new(alloc),
@@ -97,7 +100,6 @@ impl Store for MemoryStore {
 
     ghost write_faults = { λ store. store.write_faults };
 
-    /// Fails exactly where the call's number is in `failing` and no count stands at its last value.
     fn read(&mut self, alloc: Global, name: &Text) -> Result<Bytes, StoreError>
         ensures found { IfOk result (λ bytes. IsFound (Some (files_of self.old.files.entries)) name.now bytes) }
         ensures bounded { IfOk result (λ bytes. length bytes < 2 ^ 32) }
@@ -120,8 +122,6 @@ impl Store for MemoryStore {
         look_up(&self.files, alloc, name)
     }
 
-    /// Fails exactly where the call's number is in `failing` and no count stands at its last value; the
-    /// files stay then.
     fn write(&mut self, alloc: Global, name: &Text, bytes: &[u8]) -> Result<(), StoreError>
         ensures ok { OnOk result (IsWritten (Some (files_of self.old.files.entries)) (Some (files_of self.new.files.entries)) name.now bytes.now) }
         ensures failed { IfErr result (λ e. WriteFails e (Some (files_of self.old.files.entries)) (Some (files_of self.new.files.entries)) name.now (Rose self.old.write_faults self.new.write_faults)) }
@@ -130,6 +130,7 @@ impl Store for MemoryStore {
 
         ensures fails { IsErrOf result error.Failed ↔ FailsAt self.old.failing.items self.old.calls self.old.write_faults }
         ensures counts { CountsFaults result self.old.write_faults self.new.write_faults }
+        ensures kept { IsErrOf result error.Failed → self.new.files.entries ≡ self.old.files.entries }
         ensures calls { self.new.calls ≡ counted self.old.calls }
         ensures failing { self.new.failing.items ≡ self.old.failing.items }
     {
