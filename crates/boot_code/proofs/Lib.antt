@@ -5,3 +5,4 @@ pub mod BootTable
 pub mod ViewLemmas
 pub mod BootPlaces
 pub mod Bound
+pub mod AifSteps
