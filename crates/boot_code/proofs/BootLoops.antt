@@ -23,7 +23,7 @@ abbrev pub AreBytes : Bytes → Type 0
 AreBytes m = (x : ℕ) → m x < 256
 
 -- a difference with S: what is left, and what the flags say
-less : (x y r : ℕ) → x < 2 ^ 32 → y < 2 ^ 32 → y + r ≡ x → (sum_with x (inverted y) 1).value ≡ r
+pub less : (x y r : ℕ) → x < 2 ^ 32 → y < 2 ^ 32 → y + r ≡ x → (sum_with x (inverted y) 1).value ≡ r
 less x y r hx hy e = difference-below 0 x y hx hy (omega arith) ∙ omega arith
 
 short : (x : ℕ) → x < 32 → (sum_with x (inverted 32) 1).value ≡ x + 4294967264

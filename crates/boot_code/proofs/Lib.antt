@@ -6,3 +6,4 @@ pub mod ViewLemmas
 pub mod BootPlaces
 pub mod Bound
 pub mod AifSteps
+pub mod AifRuns
