@@ -24,10 +24,10 @@ use Rattle.arm7_model.proofs.TransferLemmas.{Mapped, Writable, loaded-word}
 use Rattle.boot_code.specs.Words.{zero_code, relocator_list}
 use Rattle.boot_code.specs.Safety.{Lies}
 use Rattle.boot_code.specs.Startup.{HasWords, zeros, IsEntered}
-use Rattle.boot_code.specs.Aif.{marked, relocated}
+use Rattle.boot_code.specs.Aif.{HasCode, Offsets, marked, relocated}
 use Rattle.boot_code.proofs.BootLoops.{AreBytes, less}
 use Rattle.boot_code.proofs.BootTable.{length-zeros}
-use Rattle.boot_code.proofs.AifSteps.{Place, HasCode, Run, placed, longer, any_step, move_00, move_04, move_08, move_0C, move_10, move_14, move_18, move_18_taken, move_1C, move_20, move_24, move_28, move_28_not, move_2C, move_2C_not, move_30, move_30_not, move_34, move_34_taken, move_38, zero_00, zero_04, zero_08, zero_0C, zero_10, zero_14, zero_18, zero_1C, zero_20, zero_24, zero_28, zero_28_taken, zero_2C}
+use Rattle.boot_code.proofs.AifSteps.{Place, Run, placed, longer, any_step, move_00, move_04, move_08, move_0C, move_10, move_14, move_18, move_18_taken, move_1C, move_20, move_24, move_28, move_28_not, move_2C, move_2C_not, move_30, move_30_not, move_34, move_34_taken, move_38, zero_00, zero_04, zero_08, zero_0C, zero_10, zero_14, zero_18, zero_1C, zero_20, zero_24, zero_28, zero_28_taken, zero_2C}
 
 -- the memory, what may be written in it, and where a step may access it, from b to the end
 pub record Room (board : Board) (Allowed : ℕ → Type 0) (b end : ℕ) : Type 0 where
@@ -43,24 +43,19 @@ zeros-sum (suc n) k =
     let more : suc n + k ≡ suc (n + k) = omega arith in
     ap zeros more ∙ ap (λ (l : List ℕ). 0 ∷ l) (zeros-sum n k)
 
--- a list of offsets below a limit
-abbrev pub Offsets : ℕ → List ℕ → Type 0
-Offsets limit [] = Unit {0}
-Offsets limit (o ∷ os) = (o % 4 ≡ 0) × (128 ≤ o) × (o + 4 ≤ limit) × Offsets limit os
-
-code-kept : (m : Bytes) (t : ℕ) (bs : List ℕ) (a : ℕ) (code : List ℕ) → (t + length bs ≤ a) ⊎ (a + 4 * length code ≤ t) → HasCode m a code → HasCode (store m t bs) a code
+pub code-kept : (m : Bytes) (t : ℕ) (bs : List ℕ) (a : ℕ) (code : List ℕ) → (t + length bs ≤ a) ⊎ (a + 4 * length code ≤ t) → HasCode m a code → HasCode (store m t bs) a code
 code-kept m t bs a code apart has i lt = word-store_apart m t bs (a + 4 * i) (around apart) ∙ has i lt
   where
     around : (t + length bs ≤ a) ⊎ (a + 4 * length code ≤ t) → (a + 4 * i + 4 ≤ t) ⊎ (t + length bs ≤ a + 4 * i)
     around (inl h) = inr (omega arith)
     around (inr h) = inl (omega arith)
 
-words-kept : (m : Bytes) (t : ℕ) (bs : List ℕ) (ws : List ℕ) (p : ℕ) → t + length bs ≤ p → HasWords m p ws → HasWords (store m t bs) p ws
+pub words-kept : (m : Bytes) (t : ℕ) (bs : List ℕ) (ws : List ℕ) (p : ℕ) → t + length bs ≤ p → HasWords m p ws → HasWords (store m t bs) p ws
 words-kept m t bs [] p h has = tt
 words-kept m t bs (w ∷ ws) p h (first, later) = (word-store_apart m t bs p (inr h) ∙ first, words-kept m t bs ws (p + 4) (omega arith) later)
 
 -- a word stored keeps the memory's bytes
-word-bytes-kept : (m : Bytes) (t v : ℕ) → AreBytes m → AreBytes (store m t (bytes_of v 4))
+pub word-bytes-kept : (m : Bytes) (t v : ℕ) → AreBytes m → AreBytes (store m t (bytes_of v 4))
 word-bytes-kept m t v h = bytes-store m t (bytes_of v 4) h (λ k. get_or-bytes_of-lt v 4 k)
 
 -- ---- BL, and the words of a header
@@ -79,13 +74,13 @@ reads_veneer_exchange = grind arith
 
 module _ (board : Board) (Allowed : ℕ → Type 0) (rest : ArmState) (b end : ℕ) (g : Room board Allowed b end) where
 
-  spot_mapped : (x n : ℕ) → b ≤ x → x + n ≤ end → Mapped board x n
+  pub spot_mapped : (x n : ℕ) → b ≤ x → x + n ≤ end → Mapped board x n
   spot_mapped x n low high k lt = g.mapped (x + k) (omega arith) (omega arith)
 
-  spot_writable : (x n : ℕ) → b ≤ x → x + n ≤ end → Writable board x n
+  pub spot_writable : (x n : ℕ) → b ≤ x → x + n ≤ end → Writable board x n
   spot_writable x n low high k lt = g.writable (x + k) (omega arith) (omega arith)
 
-  spot_allowed : (x n : ℕ) → b ≤ x → x + n ≤ end → Lies Allowed x n
+  pub spot_allowed : (x n : ℕ) → b ≤ x → x + n ≤ end → Lies Allowed x n
   spot_allowed x n low high k lt = g.allowed (x + k) (omega arith) (omega arith)
 
   pub place : (x n : ℕ) → b ≤ x → x % 4 ≡ 0 → x + 4 * n + 4 ≤ end → Place board Allowed x n
@@ -96,14 +91,14 @@ module _ (board : Board) (Allowed : ℕ → Type 0) (rest : ArmState) (b end : �
     allowed = spot_allowed x (4 * n) low (omega arith) }
 
   -- a word that does nothing
-  nothing : (pc : ℕ) {n : ℕ} {t : State → Type 0} {r0 r1 r2 r3 r4 r5 r6 r7 r8 r9 r10 r11 r12 r13 r14 status : ℕ} {m : Bytes}
-    → word m pc ≡ 0xE1A00000 → b ≤ pc → pc + 8 ≤ end → pc % 4 ≡ 0 → IsQuiet status
-    → Run board Allowed rest n (placed board Allowed rest r0 r1 r2 r3 r4 r5 r6 r7 r8 r9 r10 r11 r12 r13 r14 (pc + 4) status m) t
+  pub nothing : (pc after : ℕ) {n : ℕ} {t : State → Type 0} {r0 r1 r2 r3 r4 r5 r6 r7 r8 r9 r10 r11 r12 r13 r14 status : ℕ} {m : Bytes}
+    → word m pc ≡ 0xE1A00000 → after ≡ pc + 4 → b ≤ pc → pc + 8 ≤ end → pc % 4 ≡ 0 → IsQuiet status
+    → Run board Allowed rest n (placed board Allowed rest r0 r1 r2 r3 r4 r5 r6 r7 r8 r9 r10 r11 r12 r13 r14 after status m) t
     → Run board Allowed rest (suc n) (placed board Allowed rest r0 r1 r2 r3 r4 r5 r6 r7 r8 r9 r10 r11 r12 r13 r14 pc status m) t
   unfolding row_opens
-  nothing pc stands low high whole q run =
+  nothing pc after stands next_at low high whole q run =
       let room = g.room in
-      let next : (pc + 4) % 4294967296 ≡ pc + 4 = omega arith in
+      let next : (pc + 4) % 4294967296 ≡ after = omega arith in
       any_step board Allowed rest pc 0xE1A00000 [] whole (spot_mapped pc 4 low (omega arith)) (spot_allowed pc 4 low (omega arith)) stands reads_nothing q refl tt run
         (λ answers. rw next refl)
 
@@ -114,15 +109,15 @@ module _ (board : Board) (Allowed : ℕ → Type 0) (rest : ArmState) (b end : �
       rw (same, small) refl
 
   -- BL forwards
-  linked : (pc k target : ℕ) {n : ℕ} {t : State → Type 0} {r0 r1 r2 r3 r4 r5 r6 r7 r8 r9 r10 r11 r12 r13 r14 status : ℕ} {m : Bytes}
-    → word m pc ≡ 0xEB000000 + k → k < 2 ^ 23 → target ≡ pc + 8 + 4 * k → target < 2 ^ 32 → b ≤ pc → pc + 8 ≤ end → pc % 4 ≡ 0 → IsQuiet status
-    → Run board Allowed rest n (placed board Allowed rest r0 r1 r2 r3 r4 r5 r6 r7 r8 r9 r10 r11 r12 r13 (pc + 4) target status m) t
+  pub linked : (pc k target link : ℕ) {n : ℕ} {t : State → Type 0} {r0 r1 r2 r3 r4 r5 r6 r7 r8 r9 r10 r11 r12 r13 r14 status : ℕ} {m : Bytes}
+    → word m pc ≡ 0xEB000000 + k → k < 2 ^ 23 → target ≡ pc + 8 + 4 * k → target < 2 ^ 32 → link ≡ pc + 4 → b ≤ pc → pc + 8 ≤ end → pc % 4 ≡ 0 → IsQuiet status
+    → Run board Allowed rest n (placed board Allowed rest r0 r1 r2 r3 r4 r5 r6 r7 r8 r9 r10 r11 r12 r13 link target status m) t
     → Run board Allowed rest (suc n) (placed board Allowed rest r0 r1 r2 r3 r4 r5 r6 r7 r8 r9 r10 r11 r12 r13 r14 pc status m) t
   unfolding row_opens
-  linked pc k target stands small at fits low high whole q run =
+  linked pc k target link stands small at fits back low high whole q run =
       let room = g.room in
-      let next : (pc + 4) % 4294967296 ≡ pc + 4 = omega arith in
-      let goal : ((pc + 4 + 4) % 4294967296 + 4 * k) % 4294967296 ≡ target = omega arith in
+      let next : (pc + 4) % 4294967296 ≡ link = omega arith in
+      let goal : ((link + 4) % 4294967296 + 4 * k) % 4294967296 ≡ target = omega arith in
       any_step board Allowed rest pc (0xEB000000 + k) [] whole (spot_mapped pc 4 low (omega arith)) (spot_allowed pc 4 low (omega arith)) stands (reads_link k small) q refl tt run
         (λ answers. rw (q.arm, next, extended k small, goal) refl)
 

@@ -28,6 +28,7 @@ use Rattle.arm7_model.proofs.Leading.{Leads, on, lasting}
 use Rattle.arm7_model.proofs.Placed.{words_at, store_words, loads_at, stores_at}
 use Rattle.arm7_model.proofs.TransferLemmas.{Mapped, Writable, in_memory-mapped, loaded-word, stored-word, block_loaded-words, block_stored-words}
 use Rattle.boot_code.specs.Words.{zero_code, relocator_list}
+use Rattle.boot_code.specs.Aif.{HasCode}
 use Rattle.boot_code.specs.Safety.{Lies, IsSafe, AreSafe}
 use Rattle.boot_code.proofs.WordsRead
 
@@ -37,10 +38,6 @@ pub record Place (board : Board) (Allowed : ℕ → Type 0) (a n : ℕ) : Type 0
   pub room : a + 4 * n + 4 ≤ 2 ^ 32
   pub mapped : Mapped board a (4 * n)
   pub allowed : Lies Allowed a (4 * n)
-
--- these words stand in the memory
-abbrev pub HasCode : Bytes → ℕ → List ℕ → Type 0
-HasCode m a code = (i : ℕ) → i < length code → word m (a + 4 * i) ≡ slice_index code i
 
 module _ (board : Board) (Allowed : ℕ → Type 0) (rest : ArmState) where
 

@@ -23,11 +23,11 @@ use Rattle.boot_code.proofs.BootTable.{CopyFits, ZeroFits, startup_run}
 use Rattle.boot_code.proofs.ViewLemmas.{cleared-at, copied-at, moved-some, zeroed-some, moved-outside, zeroed-outside}
 
 -- ---- sixteen registers
-abbrev tabulated : (ℕ → ℕ) → ℕ → List ℕ
+abbrev pub tabulated : (ℕ → ℕ) → ℕ → List ℕ
 tabulated f zero = []
 tabulated f (suc n) = f 0 ∷ tabulated (λ k. f (suc k)) n
 
-listed : (l : List ℕ) → l ≡ tabulated (slice_index l) (length l)
+pub listed : (l : List ℕ) → l ≡ tabulated (slice_index l) (length l)
 listed [] = refl
 listed (x ∷ l) = ap (λ (r : List ℕ). x ∷ r) (listed l)
 

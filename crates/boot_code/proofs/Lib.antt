@@ -7,3 +7,4 @@ pub mod BootPlaces
 pub mod Bound
 pub mod AifSteps
 pub mod AifRuns
+pub mod AifImage

@@ -10,13 +10,13 @@ use Rattle.boot_code.specs.Startup.{zeros, copied, cleared}
 use Rattle.boot_code.specs.Boots.{ByteMap, AllCopies, AllParts, AreApart, OffLater, InOrder, covers, moved, zeroed}
 use Rattle.boot_code.proofs.BootTable.{length-zeros}
 
-covers-inside : (b n x : ℕ) → b ≤ x → x < b + n → covers b n x ≡ true
+pub covers-inside : (b n x : ℕ) → b ≤ x → x < b + n → covers b n x ≡ true
 covers-inside b n x low high = grind (arith)
 
-covers-true : (b n x : ℕ) → covers b n x ≡ true → (b ≤ x) × (x < b + n)
+pub covers-true : (b n x : ℕ) → covers b n x ≡ true → (b ≤ x) × (x < b + n)
 covers-true b n x h = grind (arith)
 
-covers-false : (b n x : ℕ) → covers b n x ≡ false → (x < b) ⊎ (b + n ≤ x)
+pub covers-false : (b n x : ℕ) → covers b n x ≡ false → (x < b) ⊎ (b + n ≤ x)
 covers-false b n x h = grind (arith)
 
 -- ---- zero fills
