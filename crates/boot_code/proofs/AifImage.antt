@@ -22,6 +22,17 @@ use Rattle.boot_code.proofs.ViewLemmas.{covers-inside, covers-true, covers-false
 use Rattle.boot_code.proofs.AifSteps.{Run, placed, longer}
 use Rattle.boot_code.proofs.AifRuns.{Room, From, nothing, linked, relocator_same, relocator_other, zero_run, code-kept}
 
+pc-is : (s : State) (a : ℕ) → register s.core 15 ≡ a → slice_index s.core.r 15 ≡ a
+unfolding register
+pc-is s a h = h
+
+-- ---- the entry in ARM state
+entered_arm : (r0 r1 r2 r3 r4 r5 r6 r7 r8 r9 r10 r11 r12 r13 r14 status : ℕ) (rest : ArmState) (entry : ℕ) (m : Bytes) → entry % 2 ≡ 0 → bit status 5 ≡ 0
+  → IsEntered entry m (state_of rest (r0 ∷ r1 ∷ r2 ∷ r3 ∷ r4 ∷ r5 ∷ r6 ∷ r7 ∷ r8 ∷ r9 ∷ r10 ∷ r11 ∷ r12 ∷ r13 ∷ r14 ∷ entry ∷ []) status m)
+unfolding register is_thumb
+entered_arm r0 r1 r2 r3 r4 r5 r6 r7 r8 r9 r10 r11 r12 r13 r14 status rest entry m even arm_state =
+    record { pc = omega arith; thumb = rw (arm_state, even) refl; memory = refl }
+
 -- ---- what the calls leave alone
 
 -- a word of the header, off the two that are marked
@@ -130,3 +141,225 @@ module _ (board : Board) (Allowed : ℕ → Type 0) (rest : ArmState) (b end : �
             (nothing board Allowed rest b end g b (b + 4) i.nothing (omega arith) (omega arith) (omega arith) multiple q
               (linked board Allowed rest b end g (b + 4) ((parts - 12) / 4) (b + parts + 0) (b + 8) i.move_call (omega arith) (omega arith) (omega arith) (omega arith) (omega arith) (omega arith) (omega arith) q
                 (relocator_other board Allowed rest b end g parts (b + parts) refl whole low offsets list_room i.nothing i.base_word i.base_small i.move_code bytes q (eqb-false b base h) i.list_fits i.list_words clears)))
+
+-- ---- the memory at the end
+
+-- two memories have the same bytes from b on, n of them
+abbrev pub Agree : Bytes → Bytes → ℕ → ℕ → Type 0
+Agree m k b n = (x : ℕ) → b ≤ x → x < b + n → m x ≡ k x
+
+store-agree : (m k : Bytes) (a : ℕ) (bs : List ℕ) (x : ℕ) → m x ≡ k x → store m a bs x ≡ store k a bs x
+store-agree m k a [] x h = h
+store-agree m k a (v ∷ bs) x h = ap (λ (y : ℕ). cond (x == a) v y) (store-agree m k (suc a) bs x h)
+
+word-agree : (m k : Bytes) (b n x : ℕ) → Agree m k b n → b ≤ x → x + 4 ≤ b + n → word m x ≡ word k x
+word-agree m k b n x h low high = ap number_of (load-same m k x x 4 (λ i lt. h (x + i) (omega arith) (omega arith)))
+
+relocated-agree : (m k : Bytes) (b d limit n : ℕ) (offsets : List ℕ) → Offsets limit offsets → limit ≤ n → Agree m k b n → Agree (relocated m b d offsets) (relocated k b d offsets) b n
+relocated-agree m k b d limit n [] fits small h = h
+relocated-agree m k b d limit n (o ∷ offsets) (o_whole, o_low, o_high, fits) small h =
+    let same : word m (b + o) ≡ word k (b + o) = word-agree m k b n (b + o) h (omega arith) (omega arith) in
+    let v = λ (w : ℕ). bytes_of ((w + d) % 4294967296) 4 in
+    relocated-agree (store m (b + o) (v (word m (b + o)))) (store k (b + o) (v (word k (b + o)))) b d limit n offsets fits small
+      (λ x low high. store-agree m k (b + o) (v (word m (b + o))) x (h x low high) ∙ ap (λ (w : ℕ). store k (b + o) (v w) x) same)
+
+marked-agree : (m k : Bytes) (b n : ℕ) → Agree m k b n → Agree (marked m b) (marked k b) b n
+marked-agree m k b n h x low high =
+    store-agree (store m (b + 40) (bytes_of b 4)) (store k (b + 40) (bytes_of b 4)) (b + 4) (bytes_of 0xE1A00000 4) x (store-agree m k (b + 40) (bytes_of b 4) x (h x low high))
+
+moved-agree : (m k : Bytes) (b base limit n : ℕ) (offsets : List ℕ) → Offsets limit offsets → limit ≤ n → Agree m k b n → Agree (moved_image m b base offsets) (moved_image k b base offsets) b n
+moved-agree m k b base limit n offsets fits small h = go (b == base)
+  where
+    d : ℕ
+    d = (b + 4294967296 - base) % 4294967296
+    go : (c : Bool) → Agree (if c then marked m b else relocated (marked m b) b ((b + 4294967296 - base) % 4294967296) offsets)
+      (if c then marked k b else relocated (marked k b) b ((b + 4294967296 - base) % 4294967296) offsets) b n
+    go true = marked-agree m k b n h
+    go false = relocated-agree (marked m b) (marked k b) b _ limit n offsets fits small (marked-agree m k b n h)
+
+-- an address off the parts keeps its byte
+apart_store : (m : Bytes) (a : ℕ) (bs : List ℕ) (x : ℕ) → (x < a) ⊎ (a + length bs ≤ x) → store m a bs x ≡ m x
+apart_store m a bs x (inl h) = store-below m a bs x h
+apart_store m a bs x (inr h) = store-above m a bs x h
+
+aside : (b parts o n x : ℕ) → o + n ≤ parts → (x < b) ⊎ (b + parts ≤ x) → (x < b + o) ⊎ (b + o + n ≤ x)
+aside b parts o n x fits (inl h) = inl (omega arith)
+aside b parts o n x fits (inr h) = inr (omega arith)
+
+relocated-off : (m : Bytes) (b d parts : ℕ) (offsets : List ℕ) (x : ℕ) → Offsets parts offsets → (x < b) ⊎ (b + parts ≤ x) → relocated m b d offsets x ≡ m x
+relocated-off m b d parts [] x fits off = refl
+relocated-off m b d parts (o ∷ offsets) x (o_whole, o_low, o_high, fits) off =
+    relocated-off (store m (b + o) (bytes_of ((word m (b + o) + d) % 4294967296) 4)) b d parts offsets x fits off
+    ∙ apart_store m (b + o) (bytes_of ((word m (b + o) + d) % 4294967296) 4) x (aside b parts o 4 x o_high off)
+
+marked-off : (m : Bytes) (b parts x : ℕ) → 128 ≤ parts → (x < b) ⊎ (b + parts ≤ x) → marked m b x ≡ m x
+marked-off m b parts x low off =
+    let size = length-bytes_of b 4 in
+    let Len : ℕ → Type 0 = λ n. (x < b + 40) ⊎ (b + 40 + n ≤ x) in
+    apart_store (store m (b + 40) (bytes_of b 4)) (b + 4) (bytes_of 0xE1A00000 4) x (aside b parts 4 4 x (omega arith) off)
+    ∙ apart_store m (b + 40) (bytes_of b 4) x (subst Len (sym size) (aside b parts 40 4 x (omega arith) off))
+
+started-off : (m : Bytes) (b parts zero_size base : ℕ) (offsets : List ℕ) (x : ℕ) → Offsets parts offsets → 128 ≤ parts → (x < b) ⊎ (b + parts + zero_size ≤ x)
+  → started_image m b parts zero_size base offsets x ≡ m x
+started-off m b parts zero_size base offsets x fits low off =
+    let Len : ℕ → Type 0 = λ n. (x < b + parts) ⊎ (b + parts + n ≤ x) in
+    apart_store (moved_image m b base offsets) (b + parts) (zeros zero_size) x (subst Len (sym (length-zeros zero_size)) (wide off))
+    ∙ go (b == base)
+  where
+    wide : (x < b) ⊎ (b + parts + zero_size ≤ x) → (x < b + parts) ⊎ (b + parts + zero_size ≤ x)
+    wide (inl h) = inl (omega arith)
+    wide (inr h) = inr h
+    narrow : (x < b) ⊎ (b + parts + zero_size ≤ x) → (x < b) ⊎ (b + parts ≤ x)
+    narrow (inl h) = inl h
+    narrow (inr h) = inr (omega arith)
+    go : (c : Bool) → (if c then marked m b else relocated (marked m b) b ((b + 4294967296 - base) % 4294967296) offsets) x ≡ m x
+    go true = marked-off m b parts x low (narrow off)
+    go false = relocated-off (marked m b) b _ parts offsets x fits (narrow off) ∙ marked-off m b parts x low (narrow off)
+
+started-agree : (m k : Bytes) (b parts zero_size base : ℕ) (offsets : List ℕ) (x : ℕ) → Offsets parts offsets → Agree m k b parts → b ≤ x → x < b + parts + zero_size
+  → started_image m b parts zero_size base offsets x ≡ started_image k b parts zero_size base offsets x
+started-agree m k b parts zero_size base offsets x fits h low high = go (below_or_not x (b + parts))
+  where
+    size : length (zeros zero_size) ≡ zero_size
+    size = length-zeros zero_size
+    go : (x < b + parts) ⊎ (b + parts ≤ x) → started_image m b parts zero_size base offsets x ≡ started_image k b parts zero_size base offsets x
+    go (inl lt) =
+        store-below (moved_image m b base offsets) (b + parts) (zeros zero_size) x lt
+        ∙ moved-agree m k b base parts parts offsets fits (omega arith) h x low lt
+        ∙ sym (store-below (moved_image k b base offsets) (b + parts) (zeros zero_size) x lt)
+    go (inr le) =
+        store-in (moved_image m b base offsets) (b + parts) (zeros zero_size) x le (omega (arith, size))
+        ∙ sym (store-in (moved_image k b base offsets) (b + parts) (zeros zero_size) x le (omega (arith, size)))
+
+-- ---- the header in the memory is the file's
+
+words-agree : (m k : Bytes) (b n p : ℕ) (ws : List ℕ) → Agree m k b n → b ≤ p → p + 4 * length ws ≤ b + n → HasWords k p ws → HasWords m p ws
+words-agree m k b n p [] h low high has = tt
+words-agree m k b n p (w ∷ ws) h low high (first, later) =
+    (word-agree m k b n p h low (omega arith) ∙ first, words-agree m k b n (p + 4) ws h (omega arith) (omega arith) later)
+
+code-agree : (m k : Bytes) (b n a : ℕ) (code : List ℕ) → Agree m k b n → b ≤ a → a + 4 * length code ≤ b + n → HasCode k a code → HasCode m a code
+code-agree m k b n a code h low high has i lt = word-agree m k b n (a + 4 * i) h (omega arith) (omega arith) ∙ has i lt
+
+length-list : (offsets : List ℕ) → length (offsets ++ 0xFFFFFFFF ∷ []) ≡ length offsets + 1
+length-list [] = refl
+length-list (o ∷ offsets) = let rest = length-list offsets in omega (arith, rest)
+
+header-agree : (m k : Bytes) (b n parts zero_size base e : ℕ) (offsets : List ℕ) → Agree m k b n → parts + 60 + 4 * length offsets + 4 ≤ n
+  → IsRelocatable k b parts zero_size base e offsets → IsRelocatable m b parts zero_size base e offsets
+header-agree m k b n parts zero_size base e offsets h room i =
+    let low = i.parts_low in
+    let at : (x : ℕ) → b ≤ x → x + 4 ≤ b + 128 → word m x ≡ word k x = λ x above below. word-agree m k b n x h above (omega arith) in
+    record {
+      parts_whole = i.parts_whole; parts_low = i.parts_low; parts_small = i.parts_small;
+      zero_whole = i.zero_whole; zero_small = i.zero_small;
+      entry_whole = i.entry_whole; entry_low = i.entry_low; entry_high = i.entry_high; base_small = i.base_small;
+      nothing = at b (omega arith) (omega arith) ∙ i.nothing;
+      move_call = at (b + 4) (omega arith) (omega arith) ∙ i.move_call;
+      clear_call = at (b + 8) (omega arith) (omega arith) ∙ i.clear_call;
+      entry_call = at (b + 12) (omega arith) (omega arith) ∙ i.entry_call;
+      sizes = omega (arith, at (b + 20) (omega arith) (omega arith), at (b + 24) (omega arith) (omega arith), i.sizes);
+      zero_word = at (b + 32) (omega arith) (omega arith) ∙ i.zero_word;
+      base_word = at (b + 40) (omega arith) (omega arith) ∙ i.base_word;
+      clear_code = code-agree m k b n (b + 64) zero_code h (omega arith) (omega arith) i.clear_code;
+      move_code = code-agree m k b n (b + parts) relocator_list h (omega arith) (omega arith) i.move_code;
+      list_words = words-agree m k b n (b + parts + 60) (offsets ++ 0xFFFFFFFF ∷ []) h (omega arith) (omega (arith, length-list offsets)) i.list_words;
+      list_fits = i.list_fits }
+
+-- ---- the law
+
+pub aif_is_exact : AifIsExact
+aif_is_exact file parts zero_size base e offsets b view i size whole room zero_room shows board s c = booted
+  where
+    in_file : (x : ℕ) → b ≤ x → x < b + length file → file_at file b x ≡ Some (slice_index file (x - b))
+    in_file x low high = rw (covers-inside b (length file) x low high) refl
+
+    agree : Agree s.memory (shifted_file file b) b (length file)
+    agree x low high = (c.loaded x (slice_index file (x - b)) (in_file x low high)).1
+
+    header : IsRelocatable s.memory b parts zero_size base e offsets
+    header = header-agree s.memory (shifted_file file b) b (length file) parts zero_size base e offsets agree (omega (arith, size)) i
+
+    is_memory : (x : ℕ) → b ≤ x → x < max (b + length file) (b + parts + zero_size) → board.memory x ≡ true
+    is_memory x low high = go (below_or_not x (b + length file))
+      where
+        go : (x < b + length file) ⊎ (b + length file ≤ x) → board.memory x ≡ true
+        go (inl lt) = (c.loaded x (slice_index file (x - b)) (in_file x low lt)).0
+        go (inr le) = let (v, at) = shows.whole x low (omega arith) in c.there x v at
+
+    is_written : (x : ℕ) → b ≤ x → x < max (b + length file) (b + parts + zero_size) → aif_written file b parts zero_size x ≡ true
+    is_written x low high = go (below_or_not x (b + length file))
+      where
+        or_true : (p : Bool) → (p || true) ≡ true
+        or_true true = refl
+        or_true false = refl
+        go : (x < b + length file) ⊎ (b + length file ≤ x) → aif_written file b parts zero_size x ≡ true
+        go (inl lt) = rw (covers-inside b (length file) x low lt) refl
+        go (inr le) = rw (covers-inside (b + parts) zero_size x (omega (arith, size)) (omega arith)) (or_true (covers b (length file) x))
+
+    is_allowed : (x : ℕ) → b ≤ x → x < max (b + length file) (b + parts + zero_size) → InRanges (file_at file b) view x
+    is_allowed x low high = go (below_or_not x (b + length file))
+      where
+        go : (x < b + length file) ⊎ (b + length file ≤ x) → InRanges (file_at file b) view x
+        go (inl lt) = inl (slice_index file (x - b), in_file x low lt)
+        go (inr le) = inr (shows.whole x low (omega arith))
+
+    here_is_room : Room board (InRanges (file_at file b) view) b (max (b + length file) (b + parts + zero_size))
+    here_is_room = record {
+      multiple = whole;
+      room = omega arith;
+      mapped = is_memory;
+      writable = λ x low high. c.writable x (is_written x low high);
+      allowed = is_allowed }
+
+    quiet : IsQuiet s.core.cpsr
+    quiet = record { arm = c.arm; fiq_masked = c.fiq_masked; irq_masked = c.irq_masked }
+
+    at_pc : slice_index s.core.r 15 ≡ b
+    at_pc = pc-is s b c.pc
+
+    even : (b + e) % 2 ≡ 0
+    even = omega (arith, whole, i.entry_whole)
+
+    ends : Run board (InRanges (file_at file b) view) s.core (aif_steps b base zero_size (length offsets)) s
+      (IsEntered (b + e) (started_image s.memory b parts zero_size base offsets))
+    ends =
+        let r = s.core.r in
+        let k = slice_index r in
+        let all : r ≡ tabulated k 16 = listed r ∙ ap (tabulated k) c.valid.core.visible.count in
+        let registers = λ (v : ℕ). k 0 ∷ k 1 ∷ k 2 ∷ k 3 ∷ k 4 ∷ k 5 ∷ k 6 ∷ k 7 ∷ k 8 ∷ k 9 ∷ k 10 ∷ k 11 ∷ k 12 ∷ k 13 ∷ k 14 ∷ v ∷ [] in
+        let same : registers b ≡ r = sym (all ∙ ap registers at_pc) in
+        let Start : List ℕ → Type 0 = λ l. Run board (InRanges (file_at file b) view) s.core (aif_steps b base zero_size (length offsets))
+          (state_of s.core l s.core.cpsr s.memory) (IsEntered (b + e) (started_image s.memory b parts zero_size base offsets)) in
+        subst Start same (longer board (InRanges (file_at file b) view) s.core (omega arith)
+          (image_run board (InRanges (file_at file b) view) s.core b (max (b + length file) (b + parts + zero_size)) here_is_room parts zero_size base e offsets s.memory c.valid.memory header
+            (omega (arith, size)) (omega arith) {n = 0} quiet
+            (λ r0 r1 r2 r3 r4 r5 r6 r7 r8 r9 r10 r11 r12 r13 r14 status q. (_, here, entered_arm r0 r1 r2 r3 r4 r5 r6 r7 r8 r9 r10 r11 r12 r13 r14 status s.core (b + e) (started_image s.memory b parts zero_size base offsets) even q.arm))))
+
+    booted : BootsIn (aif_steps b base zero_size (length offsets)) (file_at file b) view (b + e) board s
+    booted inputs =
+        let (t, run, entered) = ends in
+        let (accesses, steps, safe) = after run inputs in
+        (t, accesses, steps, record {
+          pc = entered.pc;
+          thumb = entered.thumb;
+          shown = λ x v h.
+            let at = shows.inside x v h in
+            ap (λ (f : Bytes). f x) entered.memory
+            ∙ started-agree s.memory (shifted_file file b) b parts zero_size base offsets x i.list_fits (λ y low high. agree y low (omega (arith, size, high))) at.0 at.1
+            ∙ at.2;
+          elsewhere = λ x h. ap (λ (f : Bytes). f x) entered.memory ∙ started-off s.memory b parts zero_size base offsets x i.list_fits i.parts_low (outside x h);
+          safe = safe })
+      where
+        absent : (x v : ℕ) → view x ≡ None → view x ≡ Some v → ⊥
+        absent x v h k = no_value v (sym h ∙ k)
+          where
+            no_value : (v : ℕ) → None ≡ Some v → ⊥
+            no_value v h = cc
+        outside : (x : ℕ) → view x ≡ None → (x < b) ⊎ (b + parts + zero_size ≤ x)
+        outside x h = go (below_or_not x b) (below_or_not x (b + parts + zero_size))
+          where
+            go : (x < b) ⊎ (b ≤ x) → (x < b + parts + zero_size) ⊎ (b + parts + zero_size ≤ x) → (x < b) ⊎ (b + parts + zero_size ≤ x)
+            go (inl lt) _ = inl lt
+            go (inr le) (inr high) = inr high
+            go (inr le) (inl lt) = let (v, at) = shows.whole x le lt in absurd (absent x v h at)
