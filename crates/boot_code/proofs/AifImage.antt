@@ -14,7 +14,7 @@ use Rattle.arm7_model.proofs.MemoryLemmas.{word-store_apart, load-same, store-be
 use Rattle.boot_code.specs.Words.{zero_code, relocator_list}
 use Rattle.boot_code.specs.Startup.{HasWords, zeros, IsEntered}
 use Rattle.boot_code.specs.Boots.{ByteMap, InRanges, CanStart, HasBooted, BootsIn, covers}
-use Rattle.boot_code.specs.Aif.{HasCode, Offsets, relocated, marked, moved_image, started_image, clear_steps, aif_steps, IsRelocatable, file_at, shifted_file, aif_written, ShowsImage, AifIsExact}
+use Rattle.boot_code.specs.Aif.{HasCode, Offsets, relocated, marked, moved_image, started_image, clear_steps, aif_steps, IsHeader, IsRelocatable, file_at, shifted_file, aif_written, ShowsImage, AifIsExact}
 use Rattle.boot_code.proofs.BootLoops.{AreBytes}
 use Rattle.boot_code.proofs.BootTable.{length-zeros}
 use Rattle.boot_code.proofs.BootPlaces.{tabulated, listed}
@@ -68,15 +68,9 @@ moved-code m b base limit offsets fits code i lt =
 
 -- ---- the run
 
+-- the header's two last calls, over the memory as the first one leaves it
 module _ (board : Board) (Allowed : ℕ → Type 0) (rest : ArmState) (b end : ℕ) (g : Room board Allowed b end)
-  (parts zero_size base e : ℕ) (offsets : List ℕ) (m : Bytes) (bytes : AreBytes m) (i : IsRelocatable m b parts zero_size base e offsets)
-  (list_room : b + parts + 60 + 4 * length offsets + 4 ≤ end) (zero_room : b + parts + zero_size ≤ end) where
-
-  moved : Bytes
-  moved = moved_image m b base offsets
-
-  final : Bytes
-  final = started_image m b parts zero_size base offsets
+  (parts zero_size e : ℕ) (x : Bytes) (i : IsHeader x b parts zero_size e) (zero_room : b + parts + zero_size ≤ end) (parts_room : b + parts ≤ end) where
 
   entry_run : {n : ℕ} {u : State → Type 0} (x : Bytes) → word x (b + 12) ≡ 0xEB000000 + (e - 20) / 4 → From board Allowed rest b end g n (b + e) x u → From board Allowed rest b end g (suc n) (b + 12) x u
   entry_run x call next r0 r1 r2 r3 r4 r5 r6 r7 r8 r9 r10 r11 r12 r13 r14 status q =
@@ -85,62 +79,83 @@ module _ (board : Board) (Allowed : ℕ → Type 0) (rest : ArmState) (b end : �
       linked board Allowed rest b end g (b + 12) ((e - 20) / 4) (b + e) (b + 16) call (omega arith) (omega arith) (omega arith) (omega arith) (omega arith) (omega arith) (omega arith) q
         (next r0 r1 r2 r3 r4 r5 r6 r7 r8 r9 r10 r11 r12 r13 (b + 16) status q)
 
-  clear_run : {n : ℕ} {u : State → Type 0} → From board Allowed rest b end g n (b + e) (started_image m b parts zero_size base offsets) u
-    → From board Allowed rest b end g (clear_steps zero_size + suc n) (b + 8) (moved_image m b base offsets) u
+  pub clear_run : {n : ℕ} {u : State → Type 0} → From board Allowed rest b end g n (b + e) (store x (b + parts) (zeros zero_size)) u
+    → From board Allowed rest b end g (clear_steps zero_size + suc n) (b + 8) x u
   clear_run {n} {u} next = go (zero_size == 0) refl
     where
-      moved1 : Bytes
-      moved1 = moved_image m b base offsets
-      call : word moved1 (b + 8) ≡ (if zero_size == 0 then 0xE1A00000 else 0xEB00000C)
-      call = moved-word m b base parts offsets (b + 8) i.list_fits (omega arith) (inr (omega arith)) (inl (omega arith)) ∙ i.clear_call
-      to_entry : word moved1 (b + 12) ≡ 0xEB000000 + (e - 20) / 4
-      to_entry = moved-word m b base parts offsets (b + 12) i.list_fits (omega arith) (inr (omega arith)) (inl (omega arith)) ∙ i.entry_call
-      go : (c : Bool) → (zero_size == 0) ≡ c → From board Allowed rest b end g ((if c then 1 else 10 + 3 * (zero_size / 4)) + suc n) (b + 8) moved1 u
+      go : (c : Bool) → (zero_size == 0) ≡ c → From board Allowed rest b end g ((if c then 1 else 10 + 3 * (zero_size / 4)) + suc n) (b + 8) x u
       go true h r0 r1 r2 r3 r4 r5 r6 r7 r8 r9 r10 r11 r12 r13 r14 status q =
           let multiple = g.multiple in let room = g.room in let low = i.parts_low in
           let none : zero_size ≡ 0 = eqb-true zero_size 0 h in
-          let Call : Bool → Type 0 = λ c. word moved1 (b + 8) ≡ (if c then 0xE1A00000 else 0xEB00000C) in
-          let Rest : ℕ → Type 0 = λ z. From board Allowed rest b end g n (b + e) (store moved1 (b + parts) (zeros z)) u in
+          let Call : Bool → Type 0 = λ c. word x (b + 8) ≡ (if c then 0xE1A00000 else 0xEB00000C) in
+          let Rest : ℕ → Type 0 = λ z. From board Allowed rest b end g n (b + e) (store x (b + parts) (zeros z)) u in
           longer board Allowed rest (omega arith)
-            (nothing board Allowed rest b end g (b + 8) (b + 12) (subst Call h call) (omega arith) (omega arith) (omega arith) (omega arith) q
-              (entry_run moved1 to_entry (subst Rest none next) r0 r1 r2 r3 r4 r5 r6 r7 r8 r9 r10 r11 r12 r13 r14 status q))
+            (nothing board Allowed rest b end g (b + 8) (b + 12) (subst Call h i.clear_call) (omega arith) (omega arith) (omega arith) (omega arith) q
+              (entry_run x i.entry_call (subst Rest none next) r0 r1 r2 r3 r4 r5 r6 r7 r8 r9 r10 r11 r12 r13 r14 status q))
       go false h r0 r1 r2 r3 r4 r5 r6 r7 r8 r9 r10 r11 r12 r13 r14 status q =
           let multiple = g.multiple in let room = g.room in let low = i.parts_low in
           let some = eqb-false zero_size 0 h in
-          let Call : Bool → Type 0 = λ c. word moved1 (b + 8) ≡ (if c then 0xE1A00000 else 0xEB00000C) in
-          let still : (x : ℕ) → x + 4 ≤ b + 128 → (b + 8 ≤ x) → (x + 4 ≤ b + 40) → word moved1 x ≡ word m x =
-            λ x high above below. moved-word m b base parts offsets x i.list_fits high (inr above) (inl below) in
-          let to_entry' : word (store moved1 (b + parts) (zeros zero_size)) (b + 12) ≡ 0xEB000000 + (e - 20) / 4 =
-            word-store_apart moved1 (b + parts) (zeros zero_size) (b + 12) (inl (omega arith)) ∙ to_entry in
-          let sizes : word moved1 (b + 20) + word moved1 (b + 24) ≡ parts =
-            omega (arith, still (b + 20) (omega arith) (omega arith) (omega arith), still (b + 24) (omega arith) (omega arith) (omega arith), i.sizes) in
+          let Call : Bool → Type 0 = λ c. word x (b + 8) ≡ (if c then 0xE1A00000 else 0xEB00000C) in
+          let to_entry : word (store x (b + parts) (zeros zero_size)) (b + 12) ≡ 0xEB000000 + (e - 20) / 4 =
+            word-store_apart x (b + parts) (zeros zero_size) (b + 12) (inl (omega arith)) ∙ i.entry_call in
           longer board Allowed rest (omega arith)
-            (linked board Allowed rest b end g (b + 8) 12 (b + 64 + 0) (b + 12) (subst Call h call) (omega arith) (omega arith) (omega arith) (omega arith) (omega arith) (omega arith) (omega arith) q
-              (zero_run board Allowed rest b end g (word moved1 (b + 20)) (word moved1 (b + 24)) parts zero_size refl refl
-                (still (b + 32) (omega arith) (omega arith) (omega arith) ∙ i.zero_word) sizes
-                i.parts_whole low zero_room (omega (arith, some)) i.zero_whole i.zero_small (moved-code m b base parts offsets i.list_fits i.clear_code) q
-                (entry_run (store moved1 (b + parts) (zeros zero_size)) to_entry' next)))
+            (linked board Allowed rest b end g (b + 8) 12 (b + 64 + 0) (b + 12) (subst Call h i.clear_call) (omega arith) (omega arith) (omega arith) (omega arith) (omega arith) (omega arith) (omega arith) q
+              (zero_run board Allowed rest b end g (word x (b + 20)) (word x (b + 24)) parts zero_size refl refl i.zero_word i.sizes
+                i.parts_whole low zero_room (omega (arith, some)) i.zero_whole i.zero_small i.clear_code q
+                (entry_run (store x (b + parts) (zeros zero_size)) to_entry next)))
+
+  -- an image that calls no relocator
+  pub fixed_run : {n r0 r1 r2 r3 r4 r5 r6 r7 r8 r9 r10 r11 r12 r13 r14 status : ℕ} {u : State → Type 0} → word x (b + 4) ≡ 0xE1A00000 → IsQuiet status
+    → From board Allowed rest b end g n (b + e) (store x (b + parts) (zeros zero_size)) u
+    → Run board Allowed rest (3 + clear_steps zero_size + n) (placed board Allowed rest r0 r1 r2 r3 r4 r5 r6 r7 r8 r9 r10 r11 r12 r13 r14 b status x) u
+  fixed_run {n} no_call q next =
+      let multiple = g.multiple in let room = g.room in let low = i.parts_low in
+      let steps : suc (suc (clear_steps zero_size + suc n)) ≡ 3 + clear_steps zero_size + n = omega arith in
+      longer board Allowed rest steps
+        (nothing board Allowed rest b end g b (b + 4) i.nothing (omega arith) (omega arith) (omega arith) multiple q
+        (nothing board Allowed rest b end g (b + 4) (b + 8) no_call (omega arith) (omega arith) (omega arith) (omega arith) q
+        (clear_run next _ _ _ _ _ _ _ _ _ _ _ _ _ _ _ _ q)))
+
+module _ (board : Board) (Allowed : ℕ → Type 0) (rest : ArmState) (b end : ℕ) (g : Room board Allowed b end)
+  (parts zero_size base e : ℕ) (offsets : List ℕ) (m : Bytes) (bytes : AreBytes m) (i : IsRelocatable m b parts zero_size base e offsets)
+  (list_room : b + parts + 60 + 4 * length offsets + 4 ≤ end) (zero_room : b + parts + zero_size ≤ end) where
+
+  moved_header : IsHeader (moved_image m b base offsets) b parts zero_size e
+  moved_header =
+      let still : (x : ℕ) → x + 4 ≤ b + 128 → (x + 4 ≤ b + 4) ⊎ (b + 8 ≤ x) → (x + 4 ≤ b + 40) ⊎ (b + 44 ≤ x) → word (moved_image m b base offsets) x ≡ word m x =
+        λ x high call base_place. moved-word m b base parts offsets x i.list_fits high call base_place in
+      let h = i.header in
+      record {
+        parts_whole = h.parts_whole; parts_low = h.parts_low; parts_small = h.parts_small;
+        zero_whole = h.zero_whole; zero_small = h.zero_small;
+        entry_whole = h.entry_whole; entry_low = h.entry_low; entry_high = h.entry_high;
+        nothing = still b (omega arith) (inl (omega arith)) (inl (omega arith)) ∙ h.nothing;
+        clear_call = still (b + 8) (omega arith) (inr (omega arith)) (inl (omega arith)) ∙ h.clear_call;
+        entry_call = still (b + 12) (omega arith) (inr (omega arith)) (inl (omega arith)) ∙ h.entry_call;
+        sizes = omega (arith, still (b + 20) (omega arith) (inr (omega arith)) (inl (omega arith)), still (b + 24) (omega arith) (inr (omega arith)) (inl (omega arith)), h.sizes);
+        zero_word = still (b + 32) (omega arith) (inr (omega arith)) (inl (omega arith)) ∙ h.zero_word;
+        clear_code = moved-code m b base parts offsets i.list_fits h.clear_code }
 
   pub image_run : {n r0 r1 r2 r3 r4 r5 r6 r7 r8 r9 r10 r11 r12 r13 r14 status : ℕ} {u : State → Type 0} → IsQuiet status
     → From board Allowed rest b end g n (b + e) (started_image m b parts zero_size base offsets) u
     → Run board Allowed rest (aif_steps b base zero_size (length offsets) + n) (placed board Allowed rest r0 r1 r2 r3 r4 r5 r6 r7 r8 r9 r10 r11 r12 r13 r14 b status m) u
-  image_run {n} {r0} {r1} {r2} {r3} {r4} {r5} {r6} {r7} {r8} {r9} {r10} {r11} {r12} {r13} {r14} {status} {u} q next = go (b == base) refl (clear_run next)
+  image_run {n} {r0} {r1} {r2} {r3} {r4} {r5} {r6} {r7} {r8} {r9} {r10} {r11} {r12} {r13} {r14} {status} {u} q next = go (b == base) refl (clear_run board Allowed rest b end g parts zero_size e (moved_image m b base offsets) moved_header zero_room (omega arith) next)
     where
       go : (c : Bool) → (b == base) ≡ c
         → From board Allowed rest b end g (clear_steps zero_size + suc n) (b + 8) (if c then marked m b else relocated (marked m b) b ((b + 4294967296 - base) % 4294967296) offsets) u
         → Run board Allowed rest (3 + (if c then 7 else 15 + 6 * length offsets) + clear_steps zero_size + n) (placed board Allowed rest r0 r1 r2 r3 r4 r5 r6 r7 r8 r9 r10 r11 r12 r13 r14 b status m) u
       go true h clears =
-          let multiple = g.multiple in let room = g.room in let low = i.parts_low in let whole = i.parts_whole in let small = i.parts_small in
+          let multiple = g.multiple in let room = g.room in let low = i.header.parts_low in let whole = i.header.parts_whole in let small = i.header.parts_small in
           longer board Allowed rest (omega arith)
-            (nothing board Allowed rest b end g b (b + 4) i.nothing (omega arith) (omega arith) (omega arith) multiple q
+            (nothing board Allowed rest b end g b (b + 4) i.header.nothing (omega arith) (omega arith) (omega arith) multiple q
               (linked board Allowed rest b end g (b + 4) ((parts - 12) / 4) (b + parts + 0) (b + 8) i.move_call (omega arith) (omega arith) (omega arith) (omega arith) (omega arith) (omega arith) (omega arith) q
-                (relocator_same board Allowed rest b end g parts (b + parts) refl whole low (omega arith) i.nothing i.base_word i.base_small i.move_code q (eqb-true b base h) clears)))
+                (relocator_same board Allowed rest b end g parts (b + parts) refl whole low (omega arith) i.header.nothing i.base_word i.base_small i.move_code q (eqb-true b base h) clears)))
       go false h clears =
-          let multiple = g.multiple in let room = g.room in let low = i.parts_low in let whole = i.parts_whole in let small = i.parts_small in
+          let multiple = g.multiple in let room = g.room in let low = i.header.parts_low in let whole = i.header.parts_whole in let small = i.header.parts_small in
           longer board Allowed rest (omega arith)
-            (nothing board Allowed rest b end g b (b + 4) i.nothing (omega arith) (omega arith) (omega arith) multiple q
+            (nothing board Allowed rest b end g b (b + 4) i.header.nothing (omega arith) (omega arith) (omega arith) multiple q
               (linked board Allowed rest b end g (b + 4) ((parts - 12) / 4) (b + parts + 0) (b + 8) i.move_call (omega arith) (omega arith) (omega arith) (omega arith) (omega arith) (omega arith) (omega arith) q
-                (relocator_other board Allowed rest b end g parts (b + parts) refl whole low offsets list_room i.nothing i.base_word i.base_small i.move_code bytes q (eqb-false b base h) i.list_fits i.list_words clears)))
+                (relocator_other board Allowed rest b end g parts (b + parts) refl whole low offsets list_room i.header.nothing i.base_word i.base_small i.move_code bytes q (eqb-false b base h) i.list_fits i.list_words clears)))
 
 -- ---- the memory at the end
 
@@ -245,23 +260,30 @@ length-list : (offsets : List ℕ) → length (offsets ++ 0xFFFFFFFF ∷ []) ≡
 length-list [] = refl
 length-list (o ∷ offsets) = let rest = length-list offsets in omega (arith, rest)
 
-header-agree : (m k : Bytes) (b n parts zero_size base e : ℕ) (offsets : List ℕ) → Agree m k b n → parts + 60 + 4 * length offsets + 4 ≤ n
-  → IsRelocatable k b parts zero_size base e offsets → IsRelocatable m b parts zero_size base e offsets
-header-agree m k b n parts zero_size base e offsets h room i =
-    let low = i.parts_low in
+header-same : (m k : Bytes) (b n parts zero_size e : ℕ) → Agree m k b n → 128 ≤ n → IsHeader k b parts zero_size e → IsHeader m b parts zero_size e
+header-same m k b n parts zero_size e h room i =
     let at : (x : ℕ) → b ≤ x → x + 4 ≤ b + 128 → word m x ≡ word k x = λ x above below. word-agree m k b n x h above (omega arith) in
     record {
       parts_whole = i.parts_whole; parts_low = i.parts_low; parts_small = i.parts_small;
       zero_whole = i.zero_whole; zero_small = i.zero_small;
-      entry_whole = i.entry_whole; entry_low = i.entry_low; entry_high = i.entry_high; base_small = i.base_small;
+      entry_whole = i.entry_whole; entry_low = i.entry_low; entry_high = i.entry_high;
       nothing = at b (omega arith) (omega arith) ∙ i.nothing;
-      move_call = at (b + 4) (omega arith) (omega arith) ∙ i.move_call;
       clear_call = at (b + 8) (omega arith) (omega arith) ∙ i.clear_call;
       entry_call = at (b + 12) (omega arith) (omega arith) ∙ i.entry_call;
       sizes = omega (arith, at (b + 20) (omega arith) (omega arith), at (b + 24) (omega arith) (omega arith), i.sizes);
       zero_word = at (b + 32) (omega arith) (omega arith) ∙ i.zero_word;
+      clear_code = code-agree m k b n (b + 64) zero_code h (omega arith) (omega arith) i.clear_code }
+
+header-agree : (m k : Bytes) (b n parts zero_size base e : ℕ) (offsets : List ℕ) → Agree m k b n → parts + 60 + 4 * length offsets + 4 ≤ n
+  → IsRelocatable k b parts zero_size base e offsets → IsRelocatable m b parts zero_size base e offsets
+header-agree m k b n parts zero_size base e offsets h room i =
+    let low = i.header.parts_low in
+    let at : (x : ℕ) → b ≤ x → x + 4 ≤ b + 128 → word m x ≡ word k x = λ x above below. word-agree m k b n x h above (omega arith) in
+    record {
+      header = header-same m k b n parts zero_size e h (omega arith) i.header;
+      base_small = i.base_small;
+      move_call = at (b + 4) (omega arith) (omega arith) ∙ i.move_call;
       base_word = at (b + 40) (omega arith) (omega arith) ∙ i.base_word;
-      clear_code = code-agree m k b n (b + 64) zero_code h (omega arith) (omega arith) i.clear_code;
       move_code = code-agree m k b n (b + parts) relocator_list h (omega arith) (omega arith) i.move_code;
       list_words = words-agree m k b n (b + parts + 60) (offsets ++ 0xFFFFFFFF ∷ []) h (omega arith) (omega (arith, length-list offsets)) i.list_words;
       list_fits = i.list_fits }
@@ -319,7 +341,7 @@ aif_is_exact file parts zero_size base e offsets b view i size whole room zero_r
     at_pc = pc-is s b c.pc
 
     even : (b + e) % 2 ≡ 0
-    even = omega (arith, whole, i.entry_whole)
+    even = omega (arith, whole, i.header.entry_whole)
 
     ends : Run board (InRanges (file_at file b) view) s.core (aif_steps b base zero_size (length offsets)) s
       (IsEntered (b + e) (started_image s.memory b parts zero_size base offsets))
@@ -348,7 +370,7 @@ aif_is_exact file parts zero_size base e offsets b view i size whole room zero_r
             ap (λ (f : Bytes). f x) entered.memory
             ∙ started-agree s.memory (shifted_file file b) b parts zero_size base offsets x i.list_fits (λ y low high. agree y low (omega (arith, size, high))) at.0 at.1
             ∙ at.2;
-          elsewhere = λ x h. ap (λ (f : Bytes). f x) entered.memory ∙ started-off s.memory b parts zero_size base offsets x i.list_fits i.parts_low (outside x h);
+          elsewhere = λ x h. ap (λ (f : Bytes). f x) entered.memory ∙ started-off s.memory b parts zero_size base offsets x i.list_fits i.header.parts_low (outside x h);
           safe = safe })
       where
         absent : (x v : ℕ) → view x ≡ None → view x ≡ Some v → ⊥

@@ -48,9 +48,8 @@ Offsets limit (o ∷ offsets) = (o % 4 ≡ 0) × (128 ≤ o) × (o + 4 ≤ limit
 abbrev pub HasCode : Bytes → ℕ → List ℕ → Type 0
 HasCode m a code = (i : ℕ) → i < length code → word m (a + 4 * i) ≡ slice_index code i
 
--- The header of a relocatable image at b, with its parts, its zero part and the offset of its entry: the
--- relocator and its list stand behind the parts.
-pub record IsRelocatable (m : Bytes) (b parts zero_size base e : ℕ) (offsets : List ℕ) : Type 0 where
+-- The header of an image at b, with its parts, its zero part and the offset of its entry.
+pub record IsHeader (m : Bytes) (b parts zero_size e : ℕ) : Type 0 where
   pub parts_whole : parts % 4 ≡ 0
   pub parts_low : 128 ≤ parts
   pub parts_small : parts < 2 ^ 25
@@ -59,18 +58,27 @@ pub record IsRelocatable (m : Bytes) (b parts zero_size base e : ℕ) (offsets :
   pub entry_whole : e % 4 ≡ 0
   pub entry_low : 128 ≤ e
   pub entry_high : e + 4 ≤ parts
-  pub base_small : base < 2 ^ 32
   pub nothing : word m b ≡ 0xE1A00000
-  pub move_call : word m (b + 4) ≡ 0xEB000000 + (parts - 12) / 4
   pub clear_call : word m (b + 8) ≡ (if zero_size == 0 then 0xE1A00000 else 0xEB00000C)
   pub entry_call : word m (b + 12) ≡ 0xEB000000 + (e - 20) / 4
   pub sizes : word m (b + 20) + word m (b + 24) ≡ parts
   pub zero_word : word m (b + 32) ≡ zero_size
-  pub base_word : word m (b + 40) ≡ base
   pub clear_code : HasCode m (b + 64) zero_code
+
+-- a relocatable image: its relocator and the list of offsets stand behind the parts
+pub record IsRelocatable (m : Bytes) (b parts zero_size base e : ℕ) (offsets : List ℕ) : Type 0 where
+  pub header : IsHeader m b parts zero_size e
+  pub base_small : base < 2 ^ 32
+  pub move_call : word m (b + 4) ≡ 0xEB000000 + (parts - 12) / 4
+  pub base_word : word m (b + 40) ≡ base
   pub move_code : HasCode m (b + parts) relocator_list
   pub list_words : HasWords m (b + parts + 60) (offsets ++ 0xFFFFFFFF ∷ [])
   pub list_fits : Offsets parts offsets
+
+-- an image that isn't: it calls no relocator
+pub record IsFixed (m : Bytes) (b parts zero_size e : ℕ) : Type 0 where
+  pub header : IsHeader m b parts zero_size e
+  pub no_call : word m (b + 4) ≡ 0xE1A00000
 
 -- ---- the file, wherever it is loaded
 
