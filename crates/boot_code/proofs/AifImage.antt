@@ -7,20 +7,25 @@ use Rattle.sdt_word.specs.Bytes.{bytes_of, number_of, load, word}
 use Rattle.sdt_word.proofs.BytesLemmas.{length-bytes_of}
 use Rattle.arm7_model.specs.declared.state.ArmState.{ArmState}
 use Rattle.arm7_model.specs.Memory.{Bytes, Board, store}
-use Rattle.arm7_model.specs.Registers.{State, register, is_thumb}
+use Rattle.arm7_model.specs.Registers.{State, register, is_thumb, as_pc}
+use Rattle.arm7_model.specs.Branches.{status_with_thumb}
+use Rattle.arm7_model.specs.Accesses.{Load}
+use Rattle.sdt_word.specs.declared.codes.Width.TheVariants.{Word}
+use Rattle.arm7_model.proofs.Opens.{row_opens}
+use Rattle.arm7_model.proofs.TransferLemmas.{loaded-word}
 use Rattle.arm7_model.proofs.Steps.{IsQuiet, state_of}
 use Rattle.arm7_model.proofs.Leading.{here, after}
-use Rattle.arm7_model.proofs.MemoryLemmas.{word-store_apart, load-same, store-below, store-above, store-in, below_or_not}
+use Rattle.arm7_model.proofs.MemoryLemmas.{word-store_apart, load-same, store-below, store-above, store-in, below_or_not, not-eq}
 use Rattle.boot_code.specs.Words.{zero_code, relocator_list}
 use Rattle.boot_code.specs.Startup.{HasWords, zeros, IsEntered}
 use Rattle.boot_code.specs.Boots.{ByteMap, InRanges, CanStart, HasBooted, BootsIn, covers}
-use Rattle.boot_code.specs.Aif.{HasCode, Offsets, relocated, marked, moved_image, started_image, clear_steps, aif_steps, IsHeader, IsRelocatable, file_at, shifted_file, aif_written, ShowsImage, AifIsExact}
+use Rattle.boot_code.specs.Aif.{HasCode, Offsets, relocated, marked, moved_image, started_image, clear_steps, aif_steps, IsHeader, IsRelocatable, file_at, shifted_file, aif_written, ShowsImage, IsLoadable, HasVeneer, AifIsExact, AifVeneerIsExact, AifBoots, AifVeneerBoots, aif_bound}
 use Rattle.boot_code.proofs.BootLoops.{AreBytes}
 use Rattle.boot_code.proofs.BootTable.{length-zeros}
 use Rattle.boot_code.proofs.BootPlaces.{tabulated, listed}
 use Rattle.boot_code.proofs.ViewLemmas.{covers-inside, covers-true, covers-false}
-use Rattle.boot_code.proofs.AifSteps.{Run, placed, longer}
-use Rattle.boot_code.proofs.AifRuns.{Room, From, nothing, linked, relocator_same, relocator_other, zero_run, code-kept}
+use Rattle.boot_code.proofs.AifSteps.{Run, placed, longer, any_step}
+use Rattle.boot_code.proofs.AifRuns.{Room, From, nothing, linked, relocator_same, relocator_other, zero_run, code-kept, spot_mapped, spot_allowed, reads_veneer_load, reads_veneer_exchange}
 
 pc-is : (s : State) (a : ℕ) → register s.core 15 ≡ a → slice_index s.core.r 15 ≡ a
 unfolding register
@@ -288,100 +293,187 @@ header-agree m k b n parts zero_size base e offsets h room i =
       list_words = words-agree m k b n (b + parts + 60) (offsets ++ 0xFFFFFFFF ∷ []) h (omega arith) (omega (arith, length-list offsets)) i.list_words;
       list_fits = i.list_fits }
 
+-- ---- a veneer
+
+entered_by : (r0 r1 r2 r3 r4 r5 r6 r7 r8 r9 r10 r11 r12 r13 r14 entry status : ℕ) (rest : ArmState) (m : Bytes) → entry % 4 ≢ 2
+  → IsEntered entry m (let s = status_with_thumb (entry % 2) status in
+      state_of rest (r0 ∷ r1 ∷ r2 ∷ r3 ∷ r4 ∷ r5 ∷ r6 ∷ r7 ∷ r8 ∷ r9 ∷ r10 ∷ r11 ∷ r12 ∷ r13 ∷ r14 ∷ as_pc s entry ∷ []) s m)
+unfolding register is_thumb as_pc status_with_thumb
+entered_by r0 r1 r2 r3 r4 r5 r6 r7 r8 r9 r10 r11 r12 r13 r14 entry status rest m fair =
+    let bit_t : bit (status / 2 ^ 6 * 2 ^ 6 + entry % 2 * 2 ^ 5 + status % 2 ^ 5) 5 ≡ entry % 2 = omega arith in
+    record { pc = rw bit_t (go (entry % 2 == 1) refl); thumb = rw bit_t refl; memory = refl }
+  where
+    go : (b : Bool) → (entry % 2 == 1) ≡ b → (if b then entry - entry % 2 else entry - entry % 4) ≡ entry - entry % 2
+    go true h = refl
+    go false h = let odd = eqb-false (entry % 2) 1 h in omega (arith, fair)
+
+module _ (board : Board) (Allowed : ℕ → Type 0) (rest : ArmState) (b end : ℕ) (g : Room board Allowed b end) where
+
+  pub veneer_run : (parts e entry : ℕ) → b + parts ≤ end → e % 4 ≡ 0 → e + 12 ≤ parts → (m : Bytes)
+    → word m (b + e) ≡ 0xE59FC000 → word m (b + e + 4) ≡ 0xE12FFF1C → word m (b + e + 8) ≡ entry → entry % 4 ≢ 2
+    → From board Allowed rest b end g 2 (b + e) m (IsEntered entry m)
+  unfolding row_opens
+  veneer_run parts e entry room whole fits m first second third fair r0 r1 r2 r3 r4 r5 r6 r7 r8 r9 r10 r11 r12 r13 r14 status q =
+      let multiple = g.multiple in let top = g.room in
+      let next : (b + e + 4) % 4294967296 ≡ b + e + 4 = omega arith in
+      let from : ((b + e + 4 + 4) % 4294967296 + 0) % 4294967296 ≡ b + e + 8 = omega arith in
+      let not_two = not-eq (entry % 4) 2 fair in
+      let Loaded : ℕ → Type 0 = λ v. Run board Allowed rest 1 (placed board Allowed rest r0 r1 r2 r3 r4 r5 r6 r7 r8 r9 r10 r11 v r13 r14 (b + e + 4) status m) (IsEntered entry m) in
+      let last : Loaded entry =
+        any_step board Allowed rest (b + e + 4) 0xE12FFF1C [] (omega arith) (spot_mapped board Allowed rest b end g (b + e + 4) 4 (omega arith) (omega arith)) (spot_allowed board Allowed rest b end g (b + e + 4) 4 (omega arith) (omega arith))
+          second reads_veneer_exchange q refl tt
+          (_, here, entered_by r0 r1 r2 r3 r4 r5 r6 r7 r8 r9 r10 r11 entry r13 r14 entry status rest m fair)
+          (λ answers. rw not_two refl) in
+      any_step board Allowed rest (b + e) 0xE59FC000 (Load (b + e + 8) Word ∷ []) (omega arith) (spot_mapped board Allowed rest b end g (b + e) 4 (omega arith) (omega arith)) (spot_allowed board Allowed rest b end g (b + e) 4 (omega arith) (omega arith))
+        first reads_veneer_load q refl (spot_allowed board Allowed rest b end g (b + e + 8) 4 (omega arith) (omega arith), tt)
+        (subst Loaded (sym third) last)
+        (λ answers. rw (q.arm, next, from) (loaded-word _ (b + e + 8) 12 _ _ (omega arith) (spot_mapped board Allowed rest b end g (b + e + 8) 4 (omega arith) (omega arith)) refl))
+
 -- ---- the law
 
+file_agrees : (file : List ℕ) (written : ℕ → Bool) (b : ℕ) (view : ByteMap) (board : Board) (s : State) → CanStart (file_at file b) view written b board s
+  → Agree s.memory (shifted_file file b) b (length file)
+file_agrees file written b view board s c x low high =
+    let held : file_at file b x ≡ Some (slice_index file (x - b)) = rw (covers-inside b (length file) x low high) refl in
+    (c.loaded x (slice_index file (x - b)) held).1
+
+module _ (file : List ℕ) (parts zero_size base e entry extra : ℕ) (offsets : List ℕ) (b : ℕ) (view : ByteMap) (l : IsLoadable file parts zero_size base e offsets b view)
+  (board : Board) (s : State) (c : CanStart (file_at file b) view (aif_written file b parts zero_size) b board s)
+  (enters : (end : ℕ) (g : Room board (InRanges (file_at file b) view) b end) → b + parts ≤ end → From board (InRanges (file_at file b) view) s.core b end g extra (b + e)
+    (started_image s.memory b parts zero_size base offsets) (IsEntered entry (started_image s.memory b parts zero_size base offsets))) where
+
+  in_file : (x : ℕ) → b ≤ x → x < b + length file → file_at file b x ≡ Some (slice_index file (x - b))
+  in_file x low high = rw (covers-inside b (length file) x low high) refl
+
+  agree : Agree s.memory (shifted_file file b) b (length file)
+  agree x low high = (c.loaded x (slice_index file (x - b)) (in_file x low high)).1
+
+  header : IsRelocatable s.memory b parts zero_size base e offsets
+  header = header-agree s.memory (shifted_file file b) b (length file) parts zero_size base e offsets agree (omega (arith, l.size)) l.image
+
+  is_memory : (x : ℕ) → b ≤ x → x < max (b + length file) (b + parts + zero_size) → board.memory x ≡ true
+  is_memory x low high = go (below_or_not x (b + length file))
+    where
+      go : (x < b + length file) ⊎ (b + length file ≤ x) → board.memory x ≡ true
+      go (inl lt) = (c.loaded x (slice_index file (x - b)) (in_file x low lt)).0
+      go (inr le) = let (v, at) = l.shows.whole x low (omega arith) in c.there x v at
+
+  is_written : (x : ℕ) → b ≤ x → x < max (b + length file) (b + parts + zero_size) → aif_written file b parts zero_size x ≡ true
+  is_written x low high = go (below_or_not x (b + length file))
+    where
+      or_true : (p : Bool) → (p || true) ≡ true
+      or_true true = refl
+      or_true false = refl
+      go : (x < b + length file) ⊎ (b + length file ≤ x) → aif_written file b parts zero_size x ≡ true
+      go (inl lt) = rw (covers-inside b (length file) x low lt) refl
+      go (inr le) = rw (covers-inside (b + parts) zero_size x (omega (arith, l.size)) (omega arith)) (or_true (covers b (length file) x))
+
+  is_allowed : (x : ℕ) → b ≤ x → x < max (b + length file) (b + parts + zero_size) → InRanges (file_at file b) view x
+  is_allowed x low high = go (below_or_not x (b + length file))
+    where
+      go : (x < b + length file) ⊎ (b + length file ≤ x) → InRanges (file_at file b) view x
+      go (inl lt) = inl (slice_index file (x - b), in_file x low lt)
+      go (inr le) = inr (l.shows.whole x low (omega arith))
+
+  here_is_room : Room board (InRanges (file_at file b) view) b (max (b + length file) (b + parts + zero_size))
+  here_is_room = record {
+    multiple = l.whole;
+    room = omega (arith, l.file_room, l.zero_room);
+    mapped = is_memory;
+    writable = λ x low high. c.writable x (is_written x low high);
+    allowed = is_allowed }
+
+  quiet : IsQuiet s.core.cpsr
+  quiet = record { arm = c.arm; fiq_masked = c.fiq_masked; irq_masked = c.irq_masked }
+
+  at_pc : slice_index s.core.r 15 ≡ b
+  at_pc = pc-is s b c.pc
+
+  ends : Run board (InRanges (file_at file b) view) s.core (aif_steps b base zero_size (length offsets) + extra) s
+    (IsEntered entry (started_image s.memory b parts zero_size base offsets))
+  ends =
+      let r = s.core.r in
+      let k = slice_index r in
+      let all : r ≡ tabulated k 16 = listed r ∙ ap (tabulated k) c.valid.core.visible.count in
+      let registers = λ (v : ℕ). k 0 ∷ k 1 ∷ k 2 ∷ k 3 ∷ k 4 ∷ k 5 ∷ k 6 ∷ k 7 ∷ k 8 ∷ k 9 ∷ k 10 ∷ k 11 ∷ k 12 ∷ k 13 ∷ k 14 ∷ v ∷ [] in
+      let same : registers b ≡ r = sym (all ∙ ap registers at_pc) in
+      let Start : List ℕ → Type 0 = λ l. Run board (InRanges (file_at file b) view) s.core (aif_steps b base zero_size (length offsets) + extra)
+        (state_of s.core l s.core.cpsr s.memory) (IsEntered entry (started_image s.memory b parts zero_size base offsets)) in
+      subst Start same
+        (image_run board (InRanges (file_at file b) view) s.core b (max (b + length file) (b + parts + zero_size)) here_is_room parts zero_size base e offsets s.memory c.valid.memory header
+          (omega (arith, l.size)) (omega arith) {n = extra} quiet (enters (max (b + length file) (b + parts + zero_size)) here_is_room (omega arith)))
+
+  pub booted : BootsIn (aif_steps b base zero_size (length offsets) + extra) (file_at file b) view entry board s
+  booted inputs =
+      let (t, run, entered) = ends in
+      let (accesses, steps, safe) = after run inputs in
+      (t, accesses, steps, record {
+        pc = entered.pc;
+        thumb = entered.thumb;
+        shown = λ x v h.
+          let at = l.shows.inside x v h in
+          ap (λ (f : Bytes). f x) entered.memory
+          ∙ started-agree s.memory (shifted_file file b) b parts zero_size base offsets x l.image.list_fits (λ y low high. agree y low (omega (arith, l.size, high))) at.0 at.1
+          ∙ at.2;
+        elsewhere = λ x h. ap (λ (f : Bytes). f x) entered.memory ∙ started-off s.memory b parts zero_size base offsets x l.image.list_fits l.image.header.parts_low (outside x h);
+        safe = safe })
+    where
+      absent : (x v : ℕ) → view x ≡ None → view x ≡ Some v → ⊥
+      absent x v h k = no_value v (sym h ∙ k)
+        where
+          no_value : (v : ℕ) → None ≡ Some v → ⊥
+          no_value v h = cc
+      outside : (x : ℕ) → view x ≡ None → (x < b) ⊎ (b + parts + zero_size ≤ x)
+      outside x h = go (below_or_not x b) (below_or_not x (b + parts + zero_size))
+        where
+          go : (x < b) ⊎ (b ≤ x) → (x < b + parts + zero_size) ⊎ (b + parts + zero_size ≤ x) → (x < b) ⊎ (b + parts + zero_size ≤ x)
+          go (inl lt) _ = inl lt
+          go (inr le) (inr high) = inr high
+          go (inr le) (inl lt) = let (v, at) = l.shows.whole x le lt in absurd (absent x v h at)
+
+-- ---- the entry, in ARM state and by a veneer
+
 pub aif_is_exact : AifIsExact
-aif_is_exact file parts zero_size base e offsets b view i size whole room zero_room shows board s c = booted
+aif_is_exact file parts zero_size base e offsets b view l board s c =
+    let even : (b + e) % 2 ≡ 0 = omega (arith, l.whole, l.image.header.entry_whole) in
+    let m = started_image s.memory b parts zero_size base offsets in
+    let all = booted file parts zero_size base e (b + e) 0 offsets b view l board s c
+      (λ end g room r0 r1 r2 r3 r4 r5 r6 r7 r8 r9 r10 r11 r12 r13 r14 status q.
+        (_, here, entered_arm r0 r1 r2 r3 r4 r5 r6 r7 r8 r9 r10 r11 r12 r13 r14 status s.core (b + e) m even q.arm)) in
+    let n = aif_steps b base zero_size (length offsets) in
+    let In : ℕ → Type 0 = λ k. BootsIn k (file_at file b) view (b + e) board s in
+    let same : n + 0 ≡ n = omega arith in
+    subst In same all
+
+pub aif_veneer_is_exact : AifVeneerIsExact
+aif_veneer_is_exact file parts zero_size base e entry offsets b view l v board s c =
+    booted file parts zero_size base e entry 2 offsets b view l board s c
+      (λ end g room. veneer_run board (InRanges (file_at file b) view) s.core b end g parts e entry room l.image.header.entry_whole v.fits
+        (started_image s.memory b parts zero_size base offsets)
+        (here_too (b + e) (omega arith) (omega (arith, v.fits)) ∙ v.load_word) (here_too (b + e + 4) (omega arith) (omega (arith, v.fits)) ∙ v.exchange_word)
+        (here_too (b + e + 8) (omega arith) (omega (arith, v.fits)) ∙ v.target) v.fair)
   where
-    in_file : (x : ℕ) → b ≤ x → x < b + length file → file_at file b x ≡ Some (slice_index file (x - b))
-    in_file x low high = rw (covers-inside b (length file) x low high) refl
+    here_too : (x : ℕ) → b ≤ x → x + 4 ≤ b + parts → word (started_image s.memory b parts zero_size base offsets) x ≡ word (started_image (shifted_file file b) b parts zero_size base offsets) x
+    here_too x low high =
+        word-agree (started_image s.memory b parts zero_size base offsets) (started_image (shifted_file file b) b parts zero_size base offsets) b parts x
+          (λ y below above. started-agree s.memory (shifted_file file b) b parts zero_size base offsets y l.image.list_fits
+            (λ z low high. file_agrees file (aif_written file b parts zero_size) b view board s c z low (omega (arith, l.size, high))) below (omega arith)) low high
 
-    agree : Agree s.memory (shifted_file file b) b (length file)
-    agree x low high = (c.loaded x (slice_index file (x - b)) (in_file x low high)).1
+steps-bound : (b base zero_size k : ℕ) → aif_steps b base zero_size k + 2 ≤ aif_bound k zero_size
+steps-bound b base zero_size k = go (b == base) (zero_size == 0)
+  where
+    go : (c z : Bool) → 3 + (if c then 7 else 15 + 6 * k) + (if z then 1 else 10 + 3 * (zero_size / 4)) + 2 ≤ 32 + 7 * k + 4 * (zero_size / 4)
+    go true true = omega arith
+    go true false = omega arith
+    go false true = omega arith
+    go false false = omega arith
 
-    header : IsRelocatable s.memory b parts zero_size base e offsets
-    header = header-agree s.memory (shifted_file file b) b (length file) parts zero_size base e offsets agree (omega (arith, size)) i
+pub aif_boots : AifBoots
+aif_boots file parts zero_size base e offsets view loads b whole file_room zero_room board s c =
+    (aif_steps b base zero_size (length offsets), omega (arith, steps-bound b base zero_size (length offsets)),
+      aif_is_exact file parts zero_size base e offsets b (view b) (loads b whole file_room zero_room) board s c)
 
-    is_memory : (x : ℕ) → b ≤ x → x < max (b + length file) (b + parts + zero_size) → board.memory x ≡ true
-    is_memory x low high = go (below_or_not x (b + length file))
-      where
-        go : (x < b + length file) ⊎ (b + length file ≤ x) → board.memory x ≡ true
-        go (inl lt) = (c.loaded x (slice_index file (x - b)) (in_file x low lt)).0
-        go (inr le) = let (v, at) = shows.whole x low (omega arith) in c.there x v at
-
-    is_written : (x : ℕ) → b ≤ x → x < max (b + length file) (b + parts + zero_size) → aif_written file b parts zero_size x ≡ true
-    is_written x low high = go (below_or_not x (b + length file))
-      where
-        or_true : (p : Bool) → (p || true) ≡ true
-        or_true true = refl
-        or_true false = refl
-        go : (x < b + length file) ⊎ (b + length file ≤ x) → aif_written file b parts zero_size x ≡ true
-        go (inl lt) = rw (covers-inside b (length file) x low lt) refl
-        go (inr le) = rw (covers-inside (b + parts) zero_size x (omega (arith, size)) (omega arith)) (or_true (covers b (length file) x))
-
-    is_allowed : (x : ℕ) → b ≤ x → x < max (b + length file) (b + parts + zero_size) → InRanges (file_at file b) view x
-    is_allowed x low high = go (below_or_not x (b + length file))
-      where
-        go : (x < b + length file) ⊎ (b + length file ≤ x) → InRanges (file_at file b) view x
-        go (inl lt) = inl (slice_index file (x - b), in_file x low lt)
-        go (inr le) = inr (shows.whole x low (omega arith))
-
-    here_is_room : Room board (InRanges (file_at file b) view) b (max (b + length file) (b + parts + zero_size))
-    here_is_room = record {
-      multiple = whole;
-      room = omega arith;
-      mapped = is_memory;
-      writable = λ x low high. c.writable x (is_written x low high);
-      allowed = is_allowed }
-
-    quiet : IsQuiet s.core.cpsr
-    quiet = record { arm = c.arm; fiq_masked = c.fiq_masked; irq_masked = c.irq_masked }
-
-    at_pc : slice_index s.core.r 15 ≡ b
-    at_pc = pc-is s b c.pc
-
-    even : (b + e) % 2 ≡ 0
-    even = omega (arith, whole, i.header.entry_whole)
-
-    ends : Run board (InRanges (file_at file b) view) s.core (aif_steps b base zero_size (length offsets)) s
-      (IsEntered (b + e) (started_image s.memory b parts zero_size base offsets))
-    ends =
-        let r = s.core.r in
-        let k = slice_index r in
-        let all : r ≡ tabulated k 16 = listed r ∙ ap (tabulated k) c.valid.core.visible.count in
-        let registers = λ (v : ℕ). k 0 ∷ k 1 ∷ k 2 ∷ k 3 ∷ k 4 ∷ k 5 ∷ k 6 ∷ k 7 ∷ k 8 ∷ k 9 ∷ k 10 ∷ k 11 ∷ k 12 ∷ k 13 ∷ k 14 ∷ v ∷ [] in
-        let same : registers b ≡ r = sym (all ∙ ap registers at_pc) in
-        let Start : List ℕ → Type 0 = λ l. Run board (InRanges (file_at file b) view) s.core (aif_steps b base zero_size (length offsets))
-          (state_of s.core l s.core.cpsr s.memory) (IsEntered (b + e) (started_image s.memory b parts zero_size base offsets)) in
-        subst Start same (longer board (InRanges (file_at file b) view) s.core (omega arith)
-          (image_run board (InRanges (file_at file b) view) s.core b (max (b + length file) (b + parts + zero_size)) here_is_room parts zero_size base e offsets s.memory c.valid.memory header
-            (omega (arith, size)) (omega arith) {n = 0} quiet
-            (λ r0 r1 r2 r3 r4 r5 r6 r7 r8 r9 r10 r11 r12 r13 r14 status q. (_, here, entered_arm r0 r1 r2 r3 r4 r5 r6 r7 r8 r9 r10 r11 r12 r13 r14 status s.core (b + e) (started_image s.memory b parts zero_size base offsets) even q.arm))))
-
-    booted : BootsIn (aif_steps b base zero_size (length offsets)) (file_at file b) view (b + e) board s
-    booted inputs =
-        let (t, run, entered) = ends in
-        let (accesses, steps, safe) = after run inputs in
-        (t, accesses, steps, record {
-          pc = entered.pc;
-          thumb = entered.thumb;
-          shown = λ x v h.
-            let at = shows.inside x v h in
-            ap (λ (f : Bytes). f x) entered.memory
-            ∙ started-agree s.memory (shifted_file file b) b parts zero_size base offsets x i.list_fits (λ y low high. agree y low (omega (arith, size, high))) at.0 at.1
-            ∙ at.2;
-          elsewhere = λ x h. ap (λ (f : Bytes). f x) entered.memory ∙ started-off s.memory b parts zero_size base offsets x i.list_fits i.header.parts_low (outside x h);
-          safe = safe })
-      where
-        absent : (x v : ℕ) → view x ≡ None → view x ≡ Some v → ⊥
-        absent x v h k = no_value v (sym h ∙ k)
-          where
-            no_value : (v : ℕ) → None ≡ Some v → ⊥
-            no_value v h = cc
-        outside : (x : ℕ) → view x ≡ None → (x < b) ⊎ (b + parts + zero_size ≤ x)
-        outside x h = go (below_or_not x b) (below_or_not x (b + parts + zero_size))
-          where
-            go : (x < b) ⊎ (b ≤ x) → (x < b + parts + zero_size) ⊎ (b + parts + zero_size ≤ x) → (x < b) ⊎ (b + parts + zero_size ≤ x)
-            go (inl lt) _ = inl lt
-            go (inr le) (inr high) = inr high
-            go (inr le) (inl lt) = let (v, at) = shows.whole x le lt in absurd (absent x v h at)
+pub aif_veneer_boots : AifVeneerBoots
+aif_veneer_boots file parts zero_size base e offsets view entry loads veneers b whole file_room zero_room board s c =
+    (aif_steps b base zero_size (length offsets) + 2, steps-bound b base zero_size (length offsets),
+      aif_veneer_is_exact file parts zero_size base e (entry b) offsets b (view b) (loads b whole file_room zero_room) (veneers b) board s c)

@@ -66,10 +66,10 @@ reads_link k h = grind arith
 reads_nothing : ReadsArm 0xE1A00000 (arm.DataShifted condition.Al operation.Mov false 0 0 0 shift.Lsl 0)
 reads_nothing = grind arith
 
-reads_veneer_load : ReadsArm 0xE59FC000 (arm.TransferImmediate condition.Al true true false false true 15 12 0)
+pub reads_veneer_load : ReadsArm 0xE59FC000 (arm.TransferImmediate condition.Al true true false false true 15 12 0)
 reads_veneer_load = grind arith
 
-reads_veneer_exchange : ReadsArm 0xE12FFF1C (arm.BranchExchange condition.Al 12)
+pub reads_veneer_exchange : ReadsArm 0xE12FFF1C (arm.BranchExchange condition.Al 12)
 reads_veneer_exchange = grind arith
 
 module _ (board : Board) (Allowed : ℕ → Type 0) (rest : ArmState) (b end : ℕ) (g : Room board Allowed b end) where

@@ -1,12 +1,12 @@
 -- An AIF's start: its header, what its relocator and its zero-init code make of the image, and in how
 -- many steps (SDT 2.50 Reference Guide, ARM Image Format; the code and its counts are this project's).
-use Rattle.std.specs.Prelude.{◌≡◌, ℕ, zero, suc, ◌+◌, ◌-◌, ◌*◌, ◌/◌, ◌%◌, ◌^◌, ◌<◌, ◌≤◌, ◌==◌, ◌||◌, Bool, if◌then◌else◌, List, [], ◌∷◌, ◌++◌, length, Option, Some, None, slice_index}
+use Rattle.std.specs.Prelude.{◌≡◌, ◌≢◌, ℕ, zero, suc, ◌+◌, ◌-◌, ◌*◌, ◌/◌, ◌%◌, ◌^◌, ◌<◌, ◌≤◌, ◌==◌, ◌||◌, Bool, if◌then◌else◌, List, [], ◌∷◌, ◌++◌, length, Option, Some, None, slice_index}
 use Rattle.sdt_word.specs.Bytes.{bytes_of, word}
 use Rattle.arm7_model.specs.Memory.{Bytes, Board, store}
 use Rattle.arm7_model.specs.Registers.{State}
 use Rattle.boot_code.specs.Words.{relocator_list, zero_code}
 use Rattle.boot_code.specs.Startup.{HasWords, zeros}
-use Rattle.boot_code.specs.Boots.{ByteMap, BootsIn, CanStart, covers}
+use Rattle.boot_code.specs.Boots.{ByteMap, Boots, BootsIn, CanStart, covers}
 
 -- ---- the image
 
@@ -98,11 +98,66 @@ pub record ShowsImage (file : List ℕ) (parts zero_size base : ℕ) (offsets : 
   pub inside : (x v : ℕ) → view x ≡ Some v → (b ≤ x) × (x < b + parts + zero_size) × (started_image (shifted_file file b) b parts zero_size base offsets x ≡ v)
   pub whole : (x : ℕ) → b ≤ x → x < b + parts + zero_size → (v : ℕ) × (view x ≡ Some v)
 
--- A relocatable file boots from b in exactly its steps, to its entry in ARM state.
+-- a veneer at offset e of the image: it loads the entry from its third word, and goes there in the state
+-- that bit 0 says
+pub record HasVeneer (m : Bytes) (b parts e entry : ℕ) : Type 0 where
+  pub fits : e + 12 ≤ parts
+  pub load_word : word m (b + e) ≡ 0xE59FC000
+  pub exchange_word : word m (b + e + 4) ≡ 0xE12FFF1C
+  pub target : word m (b + e + 8) ≡ entry
+  pub fair : entry % 4 ≢ 2
+
+-- The file may be loaded at b, and the view there is its started image.
+pub record IsLoadable (file : List ℕ) (parts zero_size base e : ℕ) (offsets : List ℕ) (b : ℕ) (view : ByteMap) : Type 0 where
+  pub image : IsRelocatable (shifted_file file b) b parts zero_size base e offsets
+  pub size : length file ≡ parts + 60 + 4 * length offsets + 4
+  pub whole : b % 4 ≡ 0
+  pub file_room : b + length file ≤ 2 ^ 32
+  pub zero_room : b + parts + zero_size ≤ 2 ^ 32
+  pub shows : ShowsImage file parts zero_size base offsets b view
+
+-- A relocatable file boots from b in exactly its steps, to its entry in ARM state,
 abbrev pub AifIsExact : Type 0
 AifIsExact =
     (file : List ℕ) (parts zero_size base e : ℕ) (offsets : List ℕ) (b : ℕ) (view : ByteMap)
-    → IsRelocatable (shifted_file file b) b parts zero_size base e offsets → length file ≡ parts + 60 + 4 * length offsets + 4
-    → b % 4 ≡ 0 → b + length file ≤ 2 ^ 32 → b + parts + zero_size ≤ 2 ^ 32 → ShowsImage file parts zero_size base offsets b view
+    → IsLoadable file parts zero_size base e offsets b view
     → (board : Board) (s : State) → CanStart (file_at file b) view (aif_written file b parts zero_size) b board s
     → BootsIn (aif_steps b base zero_size (length offsets)) (file_at file b) view (b + e) board s
+
+-- and in two steps more by a veneer.
+abbrev pub AifVeneerIsExact : Type 0
+AifVeneerIsExact =
+    (file : List ℕ) (parts zero_size base e entry : ℕ) (offsets : List ℕ) (b : ℕ) (view : ByteMap)
+    → IsLoadable file parts zero_size base e offsets b view
+    → HasVeneer (started_image (shifted_file file b) b parts zero_size base offsets) b parts e entry
+    → (board : Board) (s : State) → CanStart (file_at file b) view (aif_written file b parts zero_size) b board s
+    → BootsIn (aif_steps b base zero_size (length offsets) + 2) (file_at file b) view entry board s
+
+-- ---- from every address that leaves room, within the bound
+
+-- for k entries in the list and a zero part of these bytes
+abbrev pub aif_bound : ℕ → ℕ → ℕ
+aif_bound k zero_size = 32 + 7 * k + 4 * (zero_size / 4)
+
+abbrev pub BootsAif : List ℕ → ℕ → ℕ → (ℕ → ByteMap) → ℕ → (ℕ → ℕ) → Type 0
+BootsAif file parts zero_size view bound entry =
+    (b : ℕ) → b % 4 ≡ 0 → b + length file ≤ 2 ^ 32 → b + parts + zero_size ≤ 2 ^ 32
+    → Boots (file_at file b) (view b) (aif_written file b parts zero_size) b bound (entry b)
+
+-- the file may be loaded wherever there is room
+abbrev pub LoadsAnywhere : List ℕ → ℕ → ℕ → ℕ → ℕ → List ℕ → (ℕ → ByteMap) → Type 0
+LoadsAnywhere file parts zero_size base e offsets view =
+    (b : ℕ) → b % 4 ≡ 0 → b + length file ≤ 2 ^ 32 → b + parts + zero_size ≤ 2 ^ 32 → IsLoadable file parts zero_size base e offsets b (view b)
+
+abbrev pub AifBoots : Type 0
+AifBoots =
+    (file : List ℕ) (parts zero_size base e : ℕ) (offsets : List ℕ) (view : ℕ → ByteMap)
+    → LoadsAnywhere file parts zero_size base e offsets view
+    → BootsAif file parts zero_size view (aif_bound (length offsets) zero_size) (λ b. b + e)
+
+abbrev pub AifVeneerBoots : Type 0
+AifVeneerBoots =
+    (file : List ℕ) (parts zero_size base e : ℕ) (offsets : List ℕ) (view : ℕ → ByteMap) (entry : ℕ → ℕ)
+    → LoadsAnywhere file parts zero_size base e offsets view
+    → ((b : ℕ) → HasVeneer (started_image (shifted_file file b) b parts zero_size base offsets) b parts e (entry b))
+    → BootsAif file parts zero_size view (aif_bound (length offsets) zero_size) entry
