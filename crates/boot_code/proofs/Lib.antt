@@ -8,3 +8,4 @@ pub mod Bound
 pub mod AifSteps
 pub mod AifRuns
 pub mod AifImage
+mod Counts
