@@ -6,3 +6,5 @@ pub mod Leading
 pub mod Placed
 pub mod TransferLemmas
 pub mod StepLaws
+pub mod ValidRegisters
+pub mod ValidValues

@@ -116,6 +116,38 @@ module _ (status a b : ℕ) (ha : a < 2 ^ 32) (hb : b < 2 ^ 32) where
   pub compared-above : a < b → bit (compared status a b) 29 ≡ 0
   compared-above h = carry-with_flags status _ _ _ carry-small overflow-small ∙ carry-above h
 
+-- CPSR after a sum of a and b with S
+abbrev pub added : ℕ → ℕ → ℕ → ℕ
+added status a b = with_flags status (sum_with a b 0).value (sum_with a b 0).carry (sum_with a b 0).overflow
+
+module _ (status a b : ℕ) (ha : a < 2 ^ 32) (hb : b < 2 ^ 32) where
+  sum_carry-small : (sum_with a b 0).carry ≤ 1
+  unfolding sum_with
+  sum_carry-small = omega arith
+
+  sum_overflow-small : (sum_with a b 0).overflow ≤ 1
+  unfolding sum_with
+  sum_overflow-small = flag-le _
+
+  sum-wraps : a + b ≡ 2 ^ 32 → (sum_with a b 0).value ≡ 0
+  unfolding sum_with
+  sum-wraps h = omega arith
+
+  sum-other : 0 < a + b → a + b ≢ 2 ^ 32 → (sum_with a b 0).value ≢ 0
+  unfolding sum_with
+  sum-other h d e = d (omega arith)
+
+  -- Z says that the sum is 0
+  pub added-zero : a + b ≡ 2 ^ 32 → bit (added status a b) 30 ≡ 1
+  added-zero h =
+      let none = sum-wraps h in
+      zero-with_flags status _ _ _ sum_carry-small sum_overflow-small ∙ rw none refl
+
+  pub added-other : 0 < a + b → a + b ≢ 2 ^ 32 → bit (added status a b) 30 ≡ 0
+  added-other h d =
+      let some = not-eq _ 0 (sum-other h d) in
+      zero-with_flags status _ _ _ sum_carry-small sum_overflow-small ∙ rw some refl
+
 -- ---- a step
 
 -- the registers and CPSR over the rest of a processor, and a memory

@@ -23,11 +23,11 @@ use Rattle.boot_code.proofs.BootTable.{CopyFits, ZeroFits, startup_run}
 use Rattle.boot_code.proofs.ViewLemmas.{cleared-at, copied-at, moved-some, zeroed-some, moved-outside, zeroed-outside}
 
 -- ---- sixteen registers
-abbrev tabulated : (ℕ → ℕ) → ℕ → List ℕ
+abbrev pub tabulated : (ℕ → ℕ) → ℕ → List ℕ
 tabulated f zero = []
 tabulated f (suc n) = f 0 ∷ tabulated (λ k. f (suc k)) n
 
-listed : (l : List ℕ) → l ≡ tabulated (slice_index l) (length l)
+pub listed : (l : List ℕ) → l ≡ tabulated (slice_index l) (length l)
 listed [] = refl
 listed (x ∷ l) = ap (λ (r : List ℕ). x ∷ r) (listed l)
 
@@ -35,7 +35,7 @@ listed (x ∷ l) = ap (λ (r : List ℕ). x ∷ r) (listed l)
 word-held : (files : ByteMap) (m : Bytes) (p w : ℕ) → ((x b : ℕ) → files x ≡ Some b → m x ≡ b) → HoldsWord files p w → word m p ≡ w
 word-held files m p w held h =
     ap number_of (load-same m (λ k. get_or (bytes_of w 4) k 0) p 0 4
-      (λ k lt. held (p + k) (get_or (bytes_of w 4) k 0) (h.each k lt) ∙ ap (λ (j : ℕ). get_or (bytes_of w 4) j 0) (omega arith)))
+    (λ k lt. held (p + k) (get_or (bytes_of w 4) k 0) (h.each k lt) ∙ ap (λ (j : ℕ). get_or (bytes_of w 4) j 0) (omega arith)))
     ∙ number_of-bytes_of w 4 h.is_word
 
 words-held : (files : ByteMap) (m : Bytes) (p : ℕ) (ws : List ℕ) → ((x b : ℕ) → files x ≡ Some b → m x ≡ b) → HoldsWords files p ws → HasWords m p ws
@@ -69,8 +69,7 @@ inside files p (w ∷ ws) x (first, later) low high = go (below_or_not x (p + 4)
 -- ---- a placement
 
 module _ (files view : ByteMap) (written : ℕ → Bool) (copies : List CopyRow) (parts : List ZeroRow) (entry a : ℕ) (p : Places files view written copies parts entry a)
-  (board : Board) (s : State) (c : CanStart files view written a board s) where
-
+    (board : Board) (s : State) (c : CanStart files view written a board s) where
   held : (x b : ℕ) → files x ≡ Some b → s.memory x ≡ b
   held x b h = (c.loaded x b h).1
 
@@ -98,7 +97,8 @@ module _ (files view : ByteMap) (written : ℕ → Bool) (copies : List CopyRow)
     size = omega (arith, counted, long_enough);
     room = p.room;
     mapped = λ x low high. let (b, at) = inside files a (boot_list ++ table_list copies parts entry) x p.area low high in (c.loaded x b at).0;
-    allowed = λ x low high. inl (inside files a (boot_list ++ table_list copies parts entry) x p.area low high) }
+    allowed = λ x low high. inl (inside files a (boot_list ++ table_list copies parts entry) x p.area low high);
+  }
 
   at_pc : slice_index s.core.r 15 ≡ a
   unfolding register
@@ -112,9 +112,10 @@ module _ (files view : ByteMap) (written : ℕ → Bool) (copies : List CopyRow)
   off b n end (inr h) le = inr (omega arith)
 
   copies_fit : (rows : List CopyRow) → AllCopies (CopyPlaced files view written a (a + 4 * length (boot_list ++ table_list copies parts entry))) rows
-    → AllCopies (CopyFits board (InRanges files view) a (a + 4 * length (boot_list ++ table_list copies parts entry))) rows
+      → AllCopies (CopyFits board (InRanges files view) a (a + 4 * length (boot_list ++ table_list copies parts entry))) rows
   copies_fit [] h = tt
-  copies_fit (r ∷ rows) (h, hs) = (record {
+  copies_fit (r ∷ rows) (h, hs) = (
+    record {
       some = h.some;
       words = h.words;
       size = omega (arith, h.small);
@@ -130,13 +131,17 @@ module _ (files view : ByteMap) (written : ℕ → Bool) (copies : List CopyRow)
         target_mapped = λ k lt. let (b, at) = h.to_view k lt in c.there (r.target + k) b at;
         target_writable = λ k lt. c.writable (r.target + k) (h.to_written k lt);
         target_allowed = λ k lt. inr (h.to_view k lt);
-        apart = off r.target r.size _ h.off_area (omega arith) } },
-    copies_fit rows hs)
+        apart = off r.target r.size _ h.off_area (omega arith);
+      };
+    },
+    copies_fit rows hs,
+  )
 
   parts_fit : (rows : List ZeroRow) → AllParts (ZeroPlaced view written a (a + 4 * length (boot_list ++ table_list copies parts entry))) rows
-    → AllParts (ZeroFits board (InRanges files view) a (a + 4 * length (boot_list ++ table_list copies parts entry))) rows
+      → AllParts (ZeroFits board (InRanges files view) a (a + 4 * length (boot_list ++ table_list copies parts entry))) rows
   parts_fit [] h = tt
-  parts_fit (r ∷ rows) (h, hs) = (record {
+  parts_fit (r ∷ rows) (h, hs) = (
+    record {
       some = h.some;
       words = h.words;
       size = omega (arith, h.small);
@@ -146,16 +151,19 @@ module _ (files view : ByteMap) (written : ℕ → Bool) (copies : List CopyRow)
         mapped = λ k lt. let (b, at) = h.in_view k lt in c.there (r.base + k) b at;
         writable = λ k lt. c.writable (r.base + k) (h.to_written k lt);
         allowed = λ k lt. inr (h.in_view k lt);
-        apart = off r.base r.size _ h.off_area (omega arith) } },
-    parts_fit rows hs)
+        apart = off r.base r.size _ h.off_area (omega arith);
+      };
+    },
+    parts_fit rows hs,
+  )
 
   copy_targets : (rows : List CopyRow) → AllCopies (CopyPlaced files view written a (a + 4 * length (boot_list ++ table_list copies parts entry))) rows
-    → AllCopies (λ r. (k : ℕ) → k < r.size → (v : ℕ) × (view (r.target + k) ≡ Some v)) rows
+      → AllCopies (λ r. (k : ℕ) → k < r.size → (v : ℕ) × (view (r.target + k) ≡ Some v)) rows
   copy_targets [] h = tt
   copy_targets (r ∷ rows) (h, hs) = (h.to_view, copy_targets rows hs)
 
   part_ranges : (rows : List ZeroRow) → AllParts (ZeroPlaced view written a (a + 4 * length (boot_list ++ table_list copies parts entry))) rows
-    → AllParts (λ r. (k : ℕ) → k < r.size → (v : ℕ) × (view (r.base + k) ≡ Some v)) rows
+      → AllParts (λ r. (k : ℕ) → k < r.size → (v : ℕ) × (view (r.base + k) ≡ Some v)) rows
   part_ranges [] h = tt
   part_ranges (r ∷ rows) (h, hs) = (h.in_view, part_ranges rows hs)
 
@@ -173,7 +181,7 @@ module _ (files view : ByteMap) (written : ℕ → Bool) (copies : List CopyRow)
       ∙ moved-outside view s.memory copies x none (copy_targets copies p.each_copy)
 
   ends : Run board (InRanges files view) s.core a (a + 4 * length (boot_list ++ table_list copies parts entry)) site (startup_steps copies parts) s
-    (IsEntered entry (cleared (copied s.memory copies) parts))
+      (IsEntered entry (cleared (copied s.memory copies) parts))
   ends =
       let r = s.core.r in
       let i = slice_index r in
@@ -183,18 +191,23 @@ module _ (files view : ByteMap) (written : ℕ → Bool) (copies : List CopyRow)
       let registers = λ (v : ℕ). i 0 ∷ i 1 ∷ i 2 ∷ i 3 ∷ i 4 ∷ i 5 ∷ i 6 ∷ i 7 ∷ i 8 ∷ i 9 ∷ i 10 ∷ i 11 ∷ i 12 ∷ i 13 ∷ i 14 ∷ v ∷ [] in
       let same : registers (a + 0) ≡ r = sym (all ∙ ap registers pc) in
       let From : List ℕ → Type 0 = λ l. Run board (InRanges files view) s.core a (a + 4 * length (boot_list ++ table_list copies parts entry)) site (startup_steps copies parts)
-        (state_of s.core l s.core.cpsr s.memory) (IsEntered entry (cleared (copied s.memory copies) parts)) in
+      (state_of s.core l s.core.cpsr s.memory) (IsEntered entry (cleared (copied s.memory copies) parts)) in
       subst From same
-        (startup_run board (InRanges files view) s.core a (a + 4 * length (boot_list ++ table_list copies parts entry)) site copies parts entry
-          (copies_fit copies p.each_copy) (parts_fit parts p.each_part) (not-eq (entry % 4) 2 p.fair) code has_table (omega (arith, counted)) c.valid.memory quiet)
+      (startup_run board (InRanges files view) s.core a (a + 4 * length (boot_list ++ table_list copies parts entry)) site copies parts entry
+      (copies_fit copies p.each_copy) (parts_fit parts p.each_part) (not-eq (entry % 4) 2 p.fair) code has_table (omega (arith, counted)) c.valid.memory quiet)
 
   pub boots_in : BootsIn (startup_steps copies parts) files view entry board s
   boots_in inputs =
       let (t, run, entered) = ends in
-      let (accesses, steps, safe) = after run inputs in
-      (t, accesses, steps, record {
-        pc = entered.pc;
-        thumb = entered.thumb;
-        shown = λ x b h. ap (λ (m : Bytes). m x) entered.memory ∙ shown_at x b h;
-        elsewhere = λ x h. ap (λ (m : Bytes). m x) entered.memory ∙ elsewhere_at x h;
-        safe = safe })
+      let (accesses, steps, safe) = after run inputs in (
+        t,
+        accesses,
+        steps,
+        record {
+          pc = entered.pc;
+          thumb = entered.thumb;
+          shown = λ x b h. ap (λ (m : Bytes). m x) entered.memory ∙ shown_at x b h;
+          elsewhere = λ x h. ap (λ (m : Bytes). m x) entered.memory ∙ elsewhere_at x h;
+          safe = safe;
+        },
+      )

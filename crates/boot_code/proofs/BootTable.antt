@@ -43,7 +43,7 @@ AllParts P [] = Unit {0}
 AllParts P (r ∷ rows) = P r × AllParts P rows
 
 entered : (entry r1 r2 r3 r4 r5 r6 r7 r8 r9 r10 r11 r12 r13 r14 status : ℕ) (board : Board) (Allowed : ℕ → Type 0) (rest : ArmState) (a e : ℕ) (g : Site board Allowed a e) (m : Bytes) → (entry % 4 == 2) ≡ false
-  → IsEntered entry m (entered_at board Allowed rest a e g entry r1 r2 r3 r4 r5 r6 r7 r8 r9 r10 r11 r12 r13 r14 status m)
+    → IsEntered entry m (entered_at board Allowed rest a e g entry r1 r2 r3 r4 r5 r6 r7 r8 r9 r10 r11 r12 r13 r14 status m)
 unfolding register is_thumb as_pc status_with_thumb
 entered entry r1 r2 r3 r4 r5 r6 r7 r8 r9 r10 r11 r12 r13 r14 status board Allowed rest a e g m fair =
     let bit_t : bit (status / 2 ^ 6 * 2 ^ 6 + entry % 2 * 2 ^ 5 + status % 2 ^ 5) 5 ≡ entry % 2 = omega arith in
@@ -51,6 +51,7 @@ entered entry r1 r2 r3 r4 r5 r6 r7 r8 r9 r10 r11 r12 r13 r14 status board Allowe
   where
     not_two : entry % 4 ≢ 2
     not_two h = eqb-false (entry % 4) 2 fair h
+
     go : (b : Bool) → (entry % 2 == 1) ≡ b → (if b then entry - entry % 2 else entry - entry % 4) ≡ entry - entry % 2
     go true h = refl
     go false h = let odd = eqb-false (entry % 2) 1 h in let two = not_two in omega arith
@@ -60,7 +61,6 @@ length-zeros zero = refl
 length-zeros (suc n) = let e = length-zeros n in omega (arith, e)
 
 module _ (board : Board) (Allowed : ℕ → Type 0) (rest : ArmState) (a e : ℕ) (g : Site board Allowed a e) where
-
   row_mapped : (p n : ℕ) → a ≤ p → p + n ≤ e → Mapped board p n
   row_mapped p n low high k lt = g.mapped (p + k) (omega arith) (omega arith)
 
@@ -69,7 +69,7 @@ module _ (board : Board) (Allowed : ℕ → Type 0) (rest : ArmState) (a e : ℕ
 
   -- a store off the startup code and its table leaves the table
   words_kept : (m : Bytes) (t : ℕ) (bs : List ℕ) (ws : List ℕ) (p : ℕ) → a ≤ p → p + 4 * length ws ≤ e → (t + length bs ≤ a) ⊎ (e ≤ t)
-    → HasWords m p ws → HasWords (store m t bs) p ws
+      → HasWords m p ws → HasWords (store m t bs) p ws
   words_kept m t bs [] p low high apart h = tt
   words_kept m t bs (w ∷ ws) p low high apart (first, later) =
       (word-store_apart m t bs p (around apart) ∙ first, words_kept m t bs ws (p + 4) (omega arith) (omega arith) apart later)
@@ -88,16 +88,19 @@ module _ (board : Board) (Allowed : ℕ → Type 0) (rest : ArmState) (a e : ℕ
           let none : (c % 32 / 4 == 0) ≡ true = eq-eqb (c % 32 / 4) 0 (omega arith) in
           let t0 = tail-zero board Allowed rest a e g (c % 32) h in
           rw none (omega arith)
+
       up_odd : 0 < c % 32 → 5 + (5 * (c / 32) + tail_steps board Allowed rest a e g (c % 32)) ≡ upward_steps (c / 32) (c % 32 / 4)
       up_odd h =
           let other : (c % 32 / 4 == 0) ≡ false = not-eq (c % 32 / 4) 0 (λ z. omega arith) in
           let t0 = tail-some board Allowed rest a e g (c % 32) h in
           rw other (omega arith)
+
       either : (c % 32 ≡ 0) ⊎ (0 < c % 32) → 5 + (5 * (c / 32) + tail_steps board Allowed rest a e g (c % 32)) ≡ upward_steps (c / 32) (c % 32 / 4)
       either (inl h) = up_even h
       either (inr h) = up_odd h
+
       go : (b : Bool) → 5 + (5 * (c / 32) + tail_steps board Allowed rest a e g (c % 32)) ≡ upward_steps (c / 32) (c % 32 / 4)
-        → (if b then 7 else 5) + (5 * (c / 32) + tail_steps board Allowed rest a e g (c % 32)) ≡ upward_steps (c / 32) (c % 32 / 4) + (if b then 2 else 0)
+          → (if b then 7 else 5) + (5 * (c / 32) + tail_steps board Allowed rest a e g (c % 32)) ≡ upward_steps (c / 32) (c % 32 / 4) + (if b then 2 else 0)
       go true h = omega arith
       go false h = omega arith
 
@@ -111,23 +114,23 @@ module _ (board : Board) (Allowed : ℕ → Type 0) (rest : ArmState) (a e : ℕ
 
   -- the end of the copies: a row of zeros
   copies_end : (p : ℕ) {n r12 r13 r14 : ℕ} {m : Bytes} {u : State → Type 0}
-    → HasWords m p (0 ∷ 0 ∷ 0 ∷ []) → a ≤ p → p + 12 < e → p % 4 ≡ 0 → HasBoot m a
-    → Parts n (p + 12) r12 r13 r14 m u → Head board Allowed rest a e g (4 + n) p r12 r13 r14 m u
+      → HasWords m p (0 ∷ 0 ∷ 0 ∷ []) → a ≤ p → p + 12 < e → p % 4 ≡ 0 → HasBoot m a
+      → Parts n (p + 12) r12 r13 r14 m u → Head board Allowed rest a e g (4 + n) p r12 r13 r14 m u
   copies_end p (w0, (w1, (w2, _))) low high whole code next r1 r2 r3 r4 r5 r6 r7 r8 r9 r10 r11 status q =
       let room = g.room in
       longer board Allowed rest a e g (omega arith)
-        (at_04 board Allowed rest a e g code q whole (omega arith) (row_mapped p 12 low (omega arith)) (row_allowed p 12 low (omega arith))
-        (at_08 board Allowed rest a e g code q
-        (at_0C_taken board Allowed rest a e g code (quiet-with_flags _ _ _ _ q) (compared-equal _ _ 0 (omega arith) (omega arith) w2)
-        (at_80 board Allowed rest a e g code (quiet-with_flags _ _ _ _ q)
-        (next _ _ _ _ _ _ _ _ _ _ _ (quiet-with_flags _ _ _ _ q))))))
+      (at_04 board Allowed rest a e g code q whole (omega arith) (row_mapped p 12 low (omega arith)) (row_allowed p 12 low (omega arith))
+      (at_08 board Allowed rest a e g code q
+      (at_0C_taken board Allowed rest a e g code (quiet-with_flags _ _ _ _ q) (compared-equal _ _ 0 (omega arith) (omega arith) w2)
+      (at_80 board Allowed rest a e g code (quiet-with_flags _ _ _ _ q)
+      (next _ _ _ _ _ _ _ _ _ _ _ (quiet-with_flags _ _ _ _ q))))))
 
   copies_run : (rows : List CopyRow) (tail : List ℕ) (p : ℕ) {n r12 r13 r14 : ℕ} {m : Bytes} {u : State → Type 0}
-    → AllCopies (CopyFits board Allowed a e) rows → HasWords m p (copy_words rows ++ tail)
-    → a ≤ p → p + 4 * length (copy_words rows ++ tail) ≤ e → 0 < length tail → p % 4 ≡ 0 → HasBoot m a → AreBytes m
-    → ((p' : ℕ) → p' ≡ p + 4 * length (copy_words rows) → HasWords (copied m rows) p' tail → HasBoot (copied m rows) a → AreBytes (copied m rows)
+      → AllCopies (CopyFits board Allowed a e) rows → HasWords m p (copy_words rows ++ tail)
+      → a ≤ p → p + 4 * length (copy_words rows ++ tail) ≤ e → 0 < length tail → p % 4 ≡ 0 → HasBoot m a → AreBytes m
+      → ((p' : ℕ) → p' ≡ p + 4 * length (copy_words rows) → HasWords (copied m rows) p' tail → HasBoot (copied m rows) a → AreBytes (copied m rows)
       → Head board Allowed rest a e g n p' r12 r13 r14 (copied m rows) u)
-    → Head board Allowed rest a e g (copies_steps rows + n) p r12 r13 r14 m u
+      → Head board Allowed rest a e g (copies_steps rows + n) p r12 r13 r14 m u
   copies_run [] tail p fits words low high more whole code bytes next r1 r2 r3 r4 r5 r6 r7 r8 r9 r10 r11 status q =
       longer board Allowed rest a e g (omega arith) (next p (omega arith) words code bytes r1 r2 r3 r4 r5 r6 r7 r8 r9 r10 r11 status q)
   copies_run (r ∷ rows) tail p {n} {r12} {r13} {r14} {m} {u} (fit, fits) words low high more whole code bytes next r1 r2 r3 r4 r5 r6 r7 r8 r9 r10 r11 status q =
@@ -148,14 +151,14 @@ module _ (board : Board) (Allowed : ℕ → Type 0) (rest : ArmState) (a e : ℕ
       let p3 : p + 4 + 4 + 4 ≡ p + 12 = omega arith in
       let At : ℕ → Type 0 = λ k. HasWords m k (copy_words rows ++ tail) in
       let words1 : HasWords m1 (p + 12) (copy_words rows ++ tail) =
-        words_kept m r.target (load m r.source r.size) (copy_words rows ++ tail) (p + 12) (omega arith) (omega arith) (subst Apart size apart) (subst At p3 later) in
+      words_kept m r.target (load m r.source r.size) (copy_words rows ++ tail) (p + 12) (omega arith) (omega arith) (subst Apart size apart) (subst At p3 later) in
       let steps : copy_turn board Allowed rest a e g r.source r.target r.size + (copies_steps rows + n) ≡ copies_steps (r ∷ rows) + n =
-        omega (arith, turn-steps r.source r.target r.size fit.words) in
+      omega (arith, turn-steps r.source r.target r.size fit.words) in
       longer board Allowed rest a e g steps
-        (copy_row board Allowed rest a e g r.source r.target r.size p ws wt wc whole (omega arith) (row_mapped p 12 low (omega arith)) (row_allowed p 12 low (omega arith))
-          fit.some fit.words fit.size fit.source fit.target fit.copies code bytes q
-          (copies_run rows tail (p + 12) fits words1 (omega arith) (omega arith) more (omega arith) code1 bytes1
-            (λ p' at words' code' bytes'. next p' (omega arith) words' code' bytes')))
+      (copy_row board Allowed rest a e g r.source r.target r.size p ws wt wc whole (omega arith) (row_mapped p 12 low (omega arith)) (row_allowed p 12 low (omega arith))
+      fit.some fit.words fit.size fit.source fit.target fit.copies code bytes q
+      (copies_run rows tail (p + 12) fits words1 (omega arith) (omega arith) more (omega arith) code1 bytes1
+      (λ p' at words' code' bytes'. next p' (omega arith) words' code' bytes')))
 
   -- ---- the zero parts
 
@@ -165,8 +168,8 @@ module _ (board : Board) (Allowed : ℕ → Type 0) (rest : ArmState) (a e : ℕ
       subst Apart (sym (length-zeros n)) apart
 
   parts_end : (p : ℕ) (entry : ℕ) {r12 r13 r14 : ℕ} {m : Bytes}
-    → HasWords m p (0 ∷ 0 ∷ entry ∷ []) → a ≤ p → p + 12 ≤ e → p % 4 ≡ 0 → HasBoot m a → (entry % 4 == 2) ≡ false
-    → Parts 5 p r12 r13 r14 m (IsEntered entry m)
+      → HasWords m p (0 ∷ 0 ∷ entry ∷ []) → a ≤ p → p + 12 ≤ e → p % 4 ≡ 0 → HasBoot m a → (entry % 4 == 2) ≡ false
+      → Parts 5 p r12 r13 r14 m (IsEntered entry m)
   parts_end p entry {r12} {r13} {r14} {m} (w0, (w1, (w2, _))) low high whole code fair r1 r2 r3 r5 r6 r7 r8 r9 r10 r11 status q =
       let room = g.room in
       let p2 : p + 8 ≡ p + 4 + 4 = omega arith in
@@ -174,16 +177,16 @@ module _ (board : Board) (Allowed : ℕ → Type 0) (rest : ArmState) (a e : ℕ
       let at_entry = λ (v : ℕ). at_place board Allowed rest a e g v r1 (word m p) (word m (p + 4)) 0 r5 r6 r7 r8 r9 r10 r11 r12 r13 r14 164 (compared status (word m (p + 4)) 0) m in
       let Last : ℕ → Type 0 = λ v. Run board Allowed rest a e g 1 (at_entry v) (IsEntered entry m) in
       at_84 board Allowed rest a e g code q whole (omega arith) (row_mapped p 8 low (omega arith)) (row_allowed p 8 low (omega arith))
-        (at_88 board Allowed rest a e g code q
-        (at_8C_taken board Allowed rest a e g code (quiet-with_flags _ _ _ _ q) (compared-equal _ _ 0 (omega arith) (omega arith) w1)
-        (at_A0 board Allowed rest a e g code (quiet-with_flags _ _ _ _ q) (omega arith) (omega arith) (row_mapped (p + 8) 4 (omega arith) (omega arith)) (row_allowed (p + 8) 4 (omega arith) (omega arith))
-        (subst Last (sym loaded)
-          (at_A4 board Allowed rest a e g code (quiet-with_flags _ _ _ _ q) fair (_, here, entered entry r1 _ _ 0 r5 r6 r7 r8 r9 r10 r11 r12 r13 r14 _ board Allowed rest a e g m fair))))))
+      (at_88 board Allowed rest a e g code q
+      (at_8C_taken board Allowed rest a e g code (quiet-with_flags _ _ _ _ q) (compared-equal _ _ 0 (omega arith) (omega arith) w1)
+      (at_A0 board Allowed rest a e g code (quiet-with_flags _ _ _ _ q) (omega arith) (omega arith) (row_mapped (p + 8) 4 (omega arith) (omega arith)) (row_allowed (p + 8) 4 (omega arith) (omega arith))
+      (subst Last (sym loaded)
+      (at_A4 board Allowed rest a e g code (quiet-with_flags _ _ _ _ q) fair (_, here, entered entry r1 _ _ 0 r5 r6 r7 r8 r9 r10 r11 r12 r13 r14 _ board Allowed rest a e g m fair))))))
 
   parts_run : (rows : List ZeroRow) (entry : ℕ) (p : ℕ) {r12 r13 r14 : ℕ} {m : Bytes}
-    → AllParts (ZeroFits board Allowed a e) rows → HasWords m p (zero_words rows ++ (0 ∷ 0 ∷ entry ∷ []))
-    → a ≤ p → p + 4 * length (zero_words rows ++ (0 ∷ 0 ∷ entry ∷ [])) ≤ e → p % 4 ≡ 0 → HasBoot m a → (entry % 4 == 2) ≡ false
-    → Parts (parts_steps rows + 5) p r12 r13 r14 m (IsEntered entry (cleared m rows))
+      → AllParts (ZeroFits board Allowed a e) rows → HasWords m p (zero_words rows ++ (0 ∷ 0 ∷ entry ∷ []))
+      → a ≤ p → p + 4 * length (zero_words rows ++ (0 ∷ 0 ∷ entry ∷ [])) ≤ e → p % 4 ≡ 0 → HasBoot m a → (entry % 4 == 2) ≡ false
+      → Parts (parts_steps rows + 5) p r12 r13 r14 m (IsEntered entry (cleared m rows))
   parts_run [] entry p fits words low high whole code fair r1 r2 r3 r5 r6 r7 r8 r9 r10 r11 status q =
       parts_end p entry words low (omega arith) whole code fair r1 r2 r3 r5 r6 r7 r8 r9 r10 r11 status q
   parts_run (r ∷ rows) entry p {r12} {r13} {r14} {m} (fit, fits) words low high whole code fair r1 r2 r3 r5 r6 r7 r8 r9 r10 r11 status q =
@@ -203,26 +206,26 @@ module _ (board : Board) (Allowed : ℕ → Type 0) (rest : ArmState) (a e : ℕ
       let p2 : p + 4 + 4 ≡ p + 8 = omega arith in
       let At : ℕ → Type 0 = λ k. HasWords m k (zero_words rows ++ end) in
       let words1 : HasWords m1 (p + 8) (zero_words rows ++ end) =
-        words_kept m r.base (zeros r.size) (zero_words rows ++ end) (p + 8) (omega arith) (omega arith) off (subst At p2 later) in
+      words_kept m r.base (zeros r.size) (zero_words rows ++ end) (p + 8) (omega arith) (omega arith) off (subst At p2 later) in
       let q1 : IsQuiet (compared status r.size 0) = quiet-with_flags _ _ _ _ q in
       let n = parts_steps rows + 5 in
       let k = r.size / 4 - 1 in
       let steps : suc (suc (suc (3 * suc k + 1 + n))) ≡ parts_steps (r ∷ rows) + 5 = omega arith in
       longer board Allowed rest a e g steps
-        (at_84 board Allowed rest a e g code q whole (omega arith) (row_mapped p 8 low (omega arith)) (row_allowed p 8 low (omega arith)) (rw (wb, wc)
-        (at_88 board Allowed rest a e g code q
-        (at_8C board Allowed rest a e g code q1 (compared-other _ r.size 0 small (omega arith) (λ h. omega arith))
-        (clears board Allowed rest a e g k r.size r.base (omega arith) small fit.clears code q1
-          (λ r2' r3' status' q'. parts_run rows entry (p + 8) fits words1 (omega arith) (omega arith) (omega arith) code1 fair r1 r2' r3' r5 r6 r7 r8 r9 r10 r11 status' q'))))))
+      (at_84 board Allowed rest a e g code q whole (omega arith) (row_mapped p 8 low (omega arith)) (row_allowed p 8 low (omega arith)) (rw (wb, wc)
+      (at_88 board Allowed rest a e g code q
+      (at_8C board Allowed rest a e g code q1 (compared-other _ r.size 0 small (omega arith) (λ h. omega arith))
+      (clears board Allowed rest a e g k r.size r.base (omega arith) small fit.clears code q1
+      (λ r2' r3' status' q'. parts_run rows entry (p + 8) fits words1 (omega arith) (omega arith) (omega arith) code1 fair r1 r2' r3' r5 r6 r7 r8 r9 r10 r11 status' q'))))))
 
   -- ---- the whole
 
   -- the startup code with its table reaches the entry in exactly these steps
   pub startup_run : (copies : List CopyRow) (parts : List ZeroRow) (entry : ℕ) {r0 r1 r2 r3 r4 r5 r6 r7 r8 r9 r10 r11 r12 r13 r14 status : ℕ} {m : Bytes}
-    → AllCopies (CopyFits board Allowed a e) copies → AllParts (ZeroFits board Allowed a e) parts → (entry % 4 == 2) ≡ false
-    → HasBoot m a → HasWords m (a + 168) (table_list copies parts entry) → e ≡ a + 168 + 4 * length (table_list copies parts entry) → AreBytes m → IsQuiet status
-    → Run board Allowed rest a e g (startup_steps copies parts) (at_place board Allowed rest a e g r0 r1 r2 r3 r4 r5 r6 r7 r8 r9 r10 r11 r12 r13 r14 0 status m)
-        (IsEntered entry (cleared (copied m copies) parts))
+      → AllCopies (CopyFits board Allowed a e) copies → AllParts (ZeroFits board Allowed a e) parts → (entry % 4 == 2) ≡ false
+      → HasBoot m a → HasWords m (a + 168) (table_list copies parts entry) → e ≡ a + 168 + 4 * length (table_list copies parts entry) → AreBytes m → IsQuiet status
+      → Run board Allowed rest a e g (startup_steps copies parts) (at_place board Allowed rest a e g r0 r1 r2 r3 r4 r5 r6 r7 r8 r9 r10 r11 r12 r13 r14 0 status m)
+      (IsEntered entry (cleared (copied m copies) parts))
   startup_run copies parts entry {m = m} copy_fits part_fits fair code words size bytes q =
       let end = 0 ∷ 0 ∷ entry ∷ [] in
       let tail = 0 ∷ 0 ∷ 0 ∷ (zero_words parts ++ end) in
@@ -231,12 +234,12 @@ module _ (board : Board) (Allowed : ℕ → Type 0) (rest : ArmState) (a e : ℕ
       let some = length-append (zero_words parts) end in
       let steps : suc (copies_steps copies + (4 + (parts_steps parts + 5))) ≡ startup_steps copies parts = omega arith in
       longer board Allowed rest a e g steps
-        (at_00 board Allowed rest a e g code q
-        (copies_run copies tail (a + 168) copy_fits words (omega arith) (omega arith) (omega arith) (omega arith) code bytes
-          (λ p at (w0, (w1, (w2, later))) code' bytes'.
-            copies_end p (w0, (w1, (w2, tt))) (omega arith) (omega arith) (omega arith) code'
-              (parts_run parts entry (p + 12) part_fits (at_twelve _ _ p later) (omega arith) (omega arith) (omega arith) code' fair))
-          _ _ _ _ _ _ _ _ _ _ _ _ q))
+      (at_00 board Allowed rest a e g code q
+      (copies_run copies tail (a + 168) copy_fits words (omega arith) (omega arith) (omega arith) (omega arith) code bytes
+      (λ p at (w0, (w1, (w2, later))) code' bytes'.
+      copies_end p (w0, (w1, (w2, tt))) (omega arith) (omega arith) (omega arith) code'
+      (parts_run parts entry (p + 12) part_fits (at_twelve _ _ p later) (omega arith) (omega arith) (omega arith) code' fair))
+      _ _ _ _ _ _ _ _ _ _ _ _ q))
     where
       at_twelve : (x : Bytes) (ws : List ℕ) (p : ℕ) → HasWords x (p + 4 + 4 + 4) ws → HasWords x (p + 12) ws
       at_twelve x ws p h = let e3 : p + 4 + 4 + 4 ≡ p + 12 = omega arith in let At : ℕ → Type 0 = λ k. HasWords x k ws in subst At e3 h

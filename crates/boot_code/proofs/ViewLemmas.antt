@@ -10,13 +10,13 @@ use Rattle.boot_code.specs.Startup.{zeros, copied, cleared}
 use Rattle.boot_code.specs.Boots.{ByteMap, AllCopies, AllParts, AreApart, OffLater, InOrder, covers, moved, zeroed}
 use Rattle.boot_code.proofs.BootTable.{length-zeros}
 
-covers-inside : (b n x : ℕ) → b ≤ x → x < b + n → covers b n x ≡ true
+pub covers-inside : (b n x : ℕ) → b ≤ x → x < b + n → covers b n x ≡ true
 covers-inside b n x low high = grind (arith)
 
-covers-true : (b n x : ℕ) → covers b n x ≡ true → (b ≤ x) × (x < b + n)
+pub covers-true : (b n x : ℕ) → covers b n x ≡ true → (b ≤ x) × (x < b + n)
 covers-true b n x h = grind (arith)
 
-covers-false : (b n x : ℕ) → covers b n x ≡ false → (x < b) ⊎ (b + n ≤ x)
+pub covers-false : (b n x : ℕ) → covers b n x ≡ false → (x < b) ⊎ (b + n ≤ x)
 covers-false b n x h = grind (arith)
 
 -- ---- zero fills
@@ -42,7 +42,7 @@ zeroed-fill m b n [] x = fill-at m b n x (covers b n x) refl
 zeroed-fill m b n (r ∷ rows) x = go (covers r.base r.size x) (covers b n x) (zeroed-fill m b n rows x)
   where
     go : (d c : Bool) → zeroed 0 (store m b (zeros n)) rows x ≡ (if c then 0 else zeroed 0 m rows x)
-      → (if d then 0 else zeroed 0 (store m b (zeros n)) rows x) ≡ (if c then 0 else (if d then 0 else zeroed 0 m rows x))
+        → (if d then 0 else zeroed 0 (store m b (zeros n)) rows x) ≡ (if c then 0 else (if d then 0 else zeroed 0 m rows x))
     go true true h = refl
     go true false h = refl
     go false c h = h
@@ -82,14 +82,15 @@ not_both b n c k x apart h = go (covers b n x) refl (beside b n c k x apart (cov
     go true e (inr le) = let high = (covers-true b n x e).1 in absurd (omega arith)
 
 moved-copy : (m : Bytes) (r : CopyRow) (rows : List CopyRow) (x : ℕ) → AllCopies (OffLater r) rows
-  → moved (store m r.target (load m r.source r.size)) rows x ≡ (if covers r.target r.size x then m (r.source + (x - r.target)) else moved m rows x)
+    → moved (store m r.target (load m r.source r.size)) rows x ≡ (if covers r.target r.size x then m (r.source + (x - r.target)) else moved m rows x)
 moved-copy m r [] x off = copy-at m r.source r.target r.size x (covers r.target r.size x) refl
 moved-copy m r (l ∷ rows) x (off, offs) = go (covers l.target l.size x) refl (moved-copy m r rows x offs)
   where
     m1 : Bytes
     m1 = store m r.target (load m r.source r.size)
+
     go : (d : Bool) → covers l.target l.size x ≡ d → moved m1 rows x ≡ (if covers r.target r.size x then m (r.source + (x - r.target)) else moved m rows x)
-      → (if d then m1 (l.source + (x - l.target)) else moved m1 rows x)
+        → (if d then m1 (l.source + (x - l.target)) else moved m1 rows x)
         ≡ (if covers r.target r.size x then m (r.source + (x - r.target)) else (if d then m (l.source + (x - l.target)) else moved m rows x))
     go true e h =
         let inside = covers-true l.target l.size x e in
@@ -113,7 +114,7 @@ moved-some files m [] x b held h = held x b h
 moved-some files m (r ∷ rows) x b held h = go (covers r.target r.size x) (moved-some files m rows x b held) h
   where
     go : (d : Bool) → (moved files rows x ≡ Some b → moved m rows x ≡ b)
-      → (if d then files (r.source + (x - r.target)) else moved files rows x) ≡ Some b → (if d then m (r.source + (x - r.target)) else moved m rows x) ≡ b
+        → (if d then files (r.source + (x - r.target)) else moved files rows x) ≡ Some b → (if d then m (r.source + (x - r.target)) else moved m rows x) ≡ b
     go true rest e = held (r.source + (x - r.target)) b e
     go false rest e = rest e
 
@@ -122,7 +123,7 @@ zeroed-some f m [] x b held h = held h
 zeroed-some f m (r ∷ rows) x b held h = go (covers r.base r.size x) (zeroed-some f m rows x b held) h
   where
     go : (d : Bool) → (zeroed (Some 0) f rows x ≡ Some b → zeroed 0 m rows x ≡ b)
-      → (if d then Some 0 else zeroed (Some 0) f rows x) ≡ Some b → (if d then 0 else zeroed 0 m rows x) ≡ b
+        → (if d then Some 0 else zeroed (Some 0) f rows x) ≡ Some b → (if d then 0 else zeroed 0 m rows x) ≡ b
     go true rest e = some-value 0 b e
     go false rest e = rest e
 
@@ -132,6 +133,7 @@ outside view b n x inside none = go (covers b n x) refl
   where
     some_none : (v : ℕ) → Some v ≡ None → ⊥
     some_none v h = cc
+
     go : (d : Bool) → covers b n x ≡ d → covers b n x ≡ false
     go false e = e
     go true e =
@@ -143,11 +145,11 @@ outside view b n x inside none = go (covers b n x) refl
         absurd (some_none v (sym here ∙ none))
 
 pub moved-outside : (view : ByteMap) (m : Bytes) (rows : List CopyRow) (x : ℕ) → view x ≡ None
-  → AllCopies (λ r. (k : ℕ) → k < r.size → (v : ℕ) × (view (r.target + k) ≡ Some v)) rows → moved m rows x ≡ m x
+    → AllCopies (λ r. (k : ℕ) → k < r.size → (v : ℕ) × (view (r.target + k) ≡ Some v)) rows → moved m rows x ≡ m x
 moved-outside view m [] x none all = refl
 moved-outside view m (r ∷ rows) x none (first, all) = rw (outside view r.target r.size x first none) (moved-outside view m rows x none all)
 
 pub zeroed-outside : (view : ByteMap) (m : Bytes) (rows : List ZeroRow) (x : ℕ) → view x ≡ None
-  → AllParts (λ r. (k : ℕ) → k < r.size → (v : ℕ) × (view (r.base + k) ≡ Some v)) rows → zeroed 0 m rows x ≡ m x
+    → AllParts (λ r. (k : ℕ) → k < r.size → (v : ℕ) × (view (r.base + k) ≡ Some v)) rows → zeroed 0 m rows x ≡ m x
 zeroed-outside view m [] x none all = refl
 zeroed-outside view m (r ∷ rows) x none (first, all) = rw (outside view r.base r.size x first none) (zeroed-outside view m rows x none all)

@@ -190,4 +190,3 @@ zero_reads =
 pub relocator_reads : ReadAs relocator_list relocator_instructions
 relocator_reads =
     (reads_E24E0008, (reads_E5901028, (reads_E0501001, (reads_E5800028, (reads_E5902000, (reads_E5802004, (reads_01A0F00E, (reads_E28F2018, (reads_E4923004, (reads_E3730001, (reads_17904003, (reads_10844001, (reads_17804003, (reads_1AFFFFF9, (reads_E1A0F00E, tt)))))))))))))))
-
