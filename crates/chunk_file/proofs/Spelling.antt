@@ -112,12 +112,12 @@ length-spelled c named =
     let h : length (head n) ≡ 12 = refl in
     omega (arith, a, b, h, length-rows (12 + 16 * n) c.list named, length-contents (12 + 16 * n) c.list)
 
-pub spelling_law : (c : Chunks) → AreChunks c → length (spelled c) < 2 ^ 32 → ReadsChunks (spelled c) c
-spelling_law c named small =
+-- the table of a spelling, and the chunks at its places
+pub spelled_table : (c : Chunks) → AreChunks c → length (spelled c) < 2 ^ 32 → ReadsTable (spelled c) (spans_from (12 + 16 * length c.list) c.list)
+spelled_table c named small =
     let n = length c.list in
     let t = 12 + 16 * n in
     let file : List ℕ = spelled c in
-    let rows : List ℕ = flat_map row (spans_from t c.list) in
     let body : List ℕ = contents t c.list in
     let size = length-spelled c named in
     let room : t ≤ end_from t c.list = start-le-end t c.list in
@@ -125,16 +125,25 @@ spelling_law c named small =
     let max : word_in file 4 ≡ n = number_of-bytes_of n 4 few in
     let num : word_in file 8 ≡ n = number_of-bytes_of n 4 few in
     let ends : table_end file ≡ t = ap (λ (k : ℕ). 12 + 16 * k) max in
-    let len : length (head n ++ rows) ≡ t = omega (arith, length-append (head n) rows, length-rows t c.list named) in
-    let parts : file ≡ (head n ++ rows) ++ body = sym (append_assoc (head n) rows body) in
     let stand = rows_stand file [] (head n) body t c.list named refl refl (omega (arith, ends)) (omega (arith, size)) small in
-    let there : map (option_map (chunk_at file)) (spans_from t c.list) ≡ c.list = chunks_stand file (head n ++ rows) t c.list parts len in
-    let table : ReadsTable file (spans_from t c.list) = record {
+    record {
       long = omega (arith, size, room);
       magic = refl;
       counted = omega (arith, max, num);
       table = omega (arith, ends, size, room);
       entries = length-spans t c.list ∙ sym max;
       each_entry = stand;
-    } in
-    (spans_from t c.list, table, ap (λ (es : List (Option Chunk)). made es) (sym there))
+    }
+
+pub spelled_chunks : (c : Chunks) → AreChunks c → map (option_map (chunk_at (spelled c))) (spans_from (12 + 16 * length c.list) c.list) ≡ c.list
+spelled_chunks c named =
+    let n = length c.list in
+    let t = 12 + 16 * n in
+    let rows : List ℕ = flat_map row (spans_from t c.list) in
+    let body : List ℕ = contents t c.list in
+    let len : length (head n ++ rows) ≡ t = omega (arith, length-append (head n) rows, length-rows t c.list named) in
+    chunks_stand (spelled c) (head n ++ rows) t c.list (sym (append_assoc (head n) rows body)) len
+
+pub spelling_law : (c : Chunks) → AreChunks c → length (spelled c) < 2 ^ 32 → ReadsChunks (spelled c) c
+spelling_law c named small =
+    (spans_from (12 + 16 * length c.list) c.list, spelled_table c named small, ap (λ (es : List (Option Chunk)). made es) (sym (spelled_chunks c named)))

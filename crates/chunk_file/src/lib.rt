@@ -8,7 +8,7 @@ mod records;
 mod writing;
 
 pub use crate::laws::{chunks_law, one_record, size_law, spelling_law, table_law};
-pub use crate::reading::{read_chunks, read_table};
+pub use crate::reading::{bytes_of_span, read_chunks, read_table};
 pub use crate::records::{Chunk, Chunks, Span};
 pub use crate::writing::{push_word, write_chunks};
 

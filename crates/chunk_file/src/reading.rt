@@ -132,7 +132,9 @@ pub fn read_table(alloc: Global, b: &[u8]) -> Result<List<Option<Span>>, Fault>
 
 /// The bytes at the place, as far as the file has them.
 pub fn bytes_of_span<'a>(b: &'a [u8], span: &Span) -> &'a [u8]
-    ensures { result.now ≡ bytes_at b.now span.now }
+    ensures bytes { result.now ≡ bytes_at b.now span.now }
+    // Offsets in these bytes are offsets of the file.
+    ensures placed { length b.now < 2 ^ 32 → span.now.offset + length result.now < 2 ^ 32 }
 {
     let start = (span.offset as usize).min(b.len());
     let rest = &b[start..];

@@ -1,0 +1,13 @@
+pub mod Found
+pub mod IndexLemmas
+pub mod NamesLemmas
+pub mod Rows
+pub mod NameLaw
+pub mod Checked
+pub mod Lists
+pub mod AreaLaw
+pub mod SymbolLaw
+pub mod PartsLaw
+pub mod ObjectLaw
+pub mod TableLemmas
+pub mod ValidLaw

@@ -1,0 +1,10 @@
+pub mod Names
+pub mod Checks
+pub mod Index
+pub mod Parts
+pub mod Objects
+pub mod Spelling
+pub mod Places
+pub mod Tests
+pub mod Validity
+pub mod Grammar

@@ -1,0 +1,220 @@
+//! Areas: their rows in OBJ_HEAD, and their bytes and relocations in OBJ_AREA.
+
+ghost use Rattle.std.specs.Prelude.{◌≡◌, ℕ, List as Items, ◌+◌, ◌*◌, ◌^◌, ◌<◌, ◌≤◌, [], length, take, drop, map, is_some, None, OnOk, IfOk};
+ghost use Rattle.sdt_word.specs.Bytes.{word_in};
+ghost use Rattle.sdt_fault.specs.declared.answer.Fault.TheVariants.{Refused};
+ghost use Rattle.sdt_fault.specs.declared.refusal.Refusal.TheVariants.{BadObject};
+ghost use Rattle.chunk_file.specs.Reading.{Gives, each};
+ghost use Rattle.aof_object.specs.Names.{among, number_from};
+ghost use Rattle.aof_object.specs.Index.{number_in};
+ghost use Rattle.aof_object.specs.Checks.{area_flaw};
+ghost use Rattle.aof_object.specs.Objects.{judged, head_names, head_at, next_head, stored, extent, total, reloc_at, next_reloc, area_at, next_area, each_of};
+
+use crate::checks::{Flaw, judge_area, judge_reloc};
+use crate::faults::bad_object;
+use crate::index::{find_name, note_name};
+use crate::records::{Area, Reloc};
+use crate::strings::read_name;
+use sdt_fault::answer::Fault;
+use sdt_fault::kinds::FileKind;
+use sdt_fault::{Bytes, List, NoMemory, Text};
+use sdt_word::{field, word_at};
+use std::alloc::Global;
+use std::collections::BTreeMap;
+
+/// What OBJ_HEAD says of an area; `count` is the number of its relocations.
+#[derive(Debug, Drop)]
+pub struct AreaHead {
+    pub name: Text,
+    pub attributes: u32,
+    pub size: u32,
+    pub count: u32,
+}
+
+/// The fault of a row at an offset, where a check failed.
+pub fn fault_of(alloc: Global, at: usize, flaw: Flaw) -> Fault
+    requires { at + flaw.place < 2 ^ 32 }
+    ensures { result ≡ Refused (BadObject [] (at + flaw.place) flaw.kind) }
+{
+    bad_object(alloc, at + flaw.place as usize, flaw.kind)
+}
+
+/// The row of an area at an offset of the file.
+#[tactic(auto, unfolding(crate::specs::Objects::head_at))]
+fn read_head(
+    alloc: Global,
+    strings: &[u8],
+    index: &BTreeMap<Text, u32>,
+    at: usize,
+    row: &[u8],
+) -> Result<AreaHead, Fault>
+    requires row { 20 ≤ length row.now }
+    requires place { at + 20 < 2 ^ 32 }
+    ensures { Gives result (head_at strings.now (λ q. is_some (number_in index.now q)) at row.now) }
+{
+    let Some(name) = read_name(alloc, strings, word_at(row, 0))? else {
+        return Err(bad_object(alloc, at, FileKind::Name));
+    };
+    let repeated = find_name(index, &name).is_some();
+    let attributes = word_at(row, 4);
+    let size = word_at(row, 8);
+    let count = word_at(row, 12);
+    if let Some(flaw) = judge_area(repeated, attributes, size, count, word_at(row, 16)) {
+        return Err(fault_of(alloc, at, flaw));
+    }
+    Ok(AreaHead {
+        name,
+        attributes,
+        size,
+        count,
+    })
+}
+
+/// The rows of the areas, which begin at 24 in OBJ_HEAD. The index gets their names with their numbers.
+pub fn read_rows(
+    alloc: Global,
+    strings: &[u8],
+    start: usize,
+    head: &[u8],
+    count: u32,
+    index: &mut BTreeMap<Text, u32>,
+) -> Result<List<AreaHead>, Fault>
+    requires empty { (q : Items ℕ) → number_in index.old q ≡ None }
+    requires rows { 24 + 20 * count ≤ length head.now }
+    requires place { start + length head.now < 2 ^ 32 }
+    ensures exact { Gives result (each (next_head strings.now start head.now) count []) }
+    ensures long { IfOk result (λ heads. length heads ≡ count) }
+    ensures names { IfOk result (λ heads. (q : Items ℕ) → number_in index.new q ≡ number_from 0 q (head_names heads)) }
+{
+    let mut heads = Vec::new(alloc);
+    for i in 0..count {
+        let at = 24 + 20 * i as usize;
+        let area = read_head(alloc, strings, index, start + at, &head[at..])?;
+        note_name(alloc, index, &area.name, i)?;
+        heads.push(area)?;
+    }
+    Ok(List::from_vec(heads))
+}
+
+/// How many bytes an area has in OBJ_AREA, without its relocations.
+pub fn stored_bytes(attributes: u32, size: u32) -> u32
+    ensures { result ≡ stored attributes size }
+{
+    if field(attributes, 12, 1) == 1 {
+        0
+    } else {
+        size
+    }
+}
+
+/// How many bytes an area has in OBJ_AREA, its relocations counted.
+fn extent_of(head: &AreaHead) -> usize
+    ensures exact { result ≡ extent head.now }
+    ensures most { result < 2 ^ 36 }
+{
+    stored_bytes(head.attributes, head.size) as usize + 8 * head.count as usize
+}
+
+/// How far areas reach in OBJ_AREA.
+pub fn total_of(heads: &[AreaHead]) -> usize
+    requires { length heads.now < 2 ^ 28 }
+    ensures { result ≡ total heads.now }
+{
+    let mut total = 0;
+    for head in heads {
+        total += extent_of(head);
+    }
+    total
+}
+
+#[tactic(auto, unfolding(crate::specs::Objects::reloc_at))]
+fn read_reloc(
+    alloc: Global,
+    areas: usize,
+    symbols: usize,
+    at: usize,
+    row: &[u8],
+) -> Result<Reloc, Fault>
+    requires row { 8 ≤ length row.now }
+    requires place { at + 8 < 2 ^ 32 }
+    ensures { Gives result (reloc_at areas symbols at row.now) }
+{
+    let word = word_at(row, 4);
+    if let Some(flaw) = judge_reloc(areas, symbols, word) {
+        return Err(fault_of(alloc, at, flaw));
+    }
+    Ok(Reloc {
+        offset: word_at(row, 0),
+        word,
+    })
+}
+
+fn read_relocs(
+    alloc: Global,
+    areas: usize,
+    symbols: usize,
+    start: usize,
+    content: &[u8],
+    at: usize,
+    count: u32,
+) -> Result<List<Reloc>, Fault>
+    requires room { at + 8 * count ≤ length content.now }
+    requires place { start + length content.now < 2 ^ 32 }
+    ensures { Gives result (each (next_reloc areas symbols start content.now at) count []) }
+{
+    let mut relocs = Vec::new(alloc);
+    for i in 0..count {
+        let here = at + 8 * i as usize;
+        let reloc = read_reloc(alloc, areas, symbols, start + here, &content[here..])?;
+        relocs.push(reloc)?;
+    }
+    Ok(List::from_vec(relocs))
+}
+
+/// The area of a head, whose bytes begin at a place of OBJ_AREA.
+#[tactic(auto, unfolding(crate::specs::Objects::area_at))]
+fn read_area(
+    alloc: Global,
+    areas: usize,
+    symbols: usize,
+    start: usize,
+    content: &[u8],
+    at: usize,
+    head: &AreaHead,
+) -> Result<Area, Fault>
+    requires room { at + extent head.now ≤ length content.now }
+    requires place { start + length content.now < 2 ^ 32 }
+    ensures { Gives result (area_at areas symbols start content.now at head.now) }
+{
+    let end = at + stored_bytes(head.attributes, head.size) as usize;
+    let relocs = read_relocs(alloc, areas, symbols, start, content, end, head.count)?;
+    Ok(Area {
+        name: head.name.try_clone(alloc)?,
+        attributes: head.attributes,
+        size: head.size,
+        bytes: Bytes::from_slice(alloc, &content[at..end])?,
+        relocs,
+    })
+}
+
+/// The areas of some heads, one after the other in OBJ_AREA.
+pub fn read_areas(
+    alloc: Global,
+    heads: &[AreaHead],
+    symbols: usize,
+    start: usize,
+    content: &[u8],
+) -> Result<List<Area>, Fault>
+    requires room { total heads.now ≡ length content.now }
+    requires place { start + length content.now < 2 ^ 32 }
+    ensures { Gives result (each_of (next_area heads.now symbols start content.now) heads.now []) }
+{
+    let mut areas = Vec::new(alloc);
+    let mut at = 0;
+    for head in heads {
+        let area = read_area(alloc, heads.len(), symbols, start, content, at, head)?;
+        areas.push(area)?;
+        at += extent_of(head);
+    }
+    Ok(List::from_vec(areas))
+}

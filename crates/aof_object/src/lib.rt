@@ -1,0 +1,22 @@
+//! ARM object files (AOF): areas with their bytes and relocations, symbols, and the entry.
+#![tactic(auto)]
+
+mod areas;
+mod checks;
+mod faults;
+mod index;
+mod laws;
+mod parts;
+mod reading;
+mod records;
+mod strings;
+mod symbols;
+mod table;
+mod validity;
+mod writing;
+
+pub use crate::laws::{object_law, one_record};
+pub use crate::reading::read_object;
+pub use crate::records::{Area, Entry, Object, Reloc, Symbol};
+pub use crate::validity::object_is_valid;
+pub use crate::writing::write_object;
