@@ -1,7 +1,9 @@
 -- What the clauses of the assembler cite.
 pub mod Forms
+pub mod Grammar
 pub mod Kinds
 pub mod Limits
 pub mod Lines
+pub mod Parts
 pub mod Told
 pub mod Tokens

@@ -71,3 +71,23 @@ pub enum BinaryOp {
     LogicalOr,
     LogicalExclusiveOr,
 }
+
+/// What a token is in an expression.
+#[derive(Debug, Drop)]
+pub enum Part {
+    Operand(ExprItem),
+    /// A number above 2^32 - 1.
+    TooLarge,
+    Open,
+    Close,
+    /// An operator before an operand.
+    Prefix(UnaryOp),
+    /// An operator before a name.
+    OfName(UnaryOp),
+    /// An operator between operands.
+    Infix(BinaryOp),
+    /// An operator before an operand or between two: `+` or `-`.
+    Sum(UnaryOp, BinaryOp),
+    /// A sign that no expression has.
+    Other,
+}

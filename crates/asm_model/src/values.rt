@@ -1,9 +1,11 @@
 //! Values of expressions.
 
 ghost use Rattle.std.specs.Prelude.{◌≡◌, IfOk};
+ghost use Rattle.asm_model.specs.declared.values.EvalFault.TheVariants as eval;
 
+use sdt_fault::kinds::LineKind;
 use sdt_fault::{Bytes, NoMemory, Text};
-use std::alloc::Global;
+use std::alloc::{AllocError, AllocFailed, Global};
 
 #[derive(Debug, Drop)]
 pub enum Value {
@@ -36,5 +38,36 @@ impl Value {
                 })
             }
         }
+    }
+}
+
+/// Why an expression has no value.
+#[derive(Clone, Copy, PartialEq, Eq, Debug)]
+pub enum EvalFault {
+    Kind(LineKind),
+    NoMemory,
+}
+
+impl From<NoMemory> for EvalFault {
+    ghost from_gives = { λ _ e. e ≡ eval.NoMemory };
+
+    fn from(_e: NoMemory) -> EvalFault {
+        EvalFault::NoMemory
+    }
+}
+
+impl From<AllocError> for EvalFault {
+    ghost from_gives = { λ _ e. e ≡ eval.NoMemory };
+
+    fn from(_e: AllocError) -> EvalFault {
+        EvalFault::NoMemory
+    }
+}
+
+impl<T: Drop> From<AllocFailed<T>> for EvalFault {
+    ghost from_gives = { λ _ e. e ≡ eval.NoMemory };
+
+    fn from(_e: AllocFailed<T>) -> EvalFault {
+        EvalFault::NoMemory
     }
 }

@@ -1,0 +1,4 @@
+pub mod DigitLemmas
+pub mod ParseLaws
+pub mod Spelled
+pub mod StackLemmas
