@@ -10,12 +10,12 @@ use Rattle.asm_model.specs.declared.exprs.UnaryOp.{UnaryOp}
 use Rattle.asm_model.specs.declared.exprs.BinaryOp.{BinaryOp}
 use Rattle.asm_model.specs.declared.exprs.BinaryOp.TheVariants.{Multiply, Divide, Modulo, Left, Right, Concatenate, RotateLeft, RotateRight, ShiftLeft, ShiftRight, Add, Subtract, And, Or, ExclusiveOr, Equal, NotEqual, Less, LessEqual, Greater, GreaterEqual, LogicalAnd, LogicalOr, LogicalExclusiveOr}
 use Rattle.asm_model.specs.declared.values.Value.TheVariants.{Number}
-use Rattle.asm_model.specs.Grammar.{level, Tree, Leaf, Named, Before, Between, postfix, operand_of, before_of, between_of, Spells, operand, of_name, before, grouped, between, tighter, IsSpelled}
+use Rattle.asm_model.specs.Grammar.{level, Tree, Leaf, Before, Between, postfix, plain, operand_of, before_of, between_of, Spells, operand, of_name, before, grouped, between, tighter, IsSpelled}
 use Rattle.asm_expr.specs.declared.parser.Stage.{Stage}
 use Rattle.asm_expr.specs.declared.parser.Stage.TheVariants as stage
 use Rattle.asm_expr.specs.declared.parser.Held.{Held}
 use Rattle.asm_expr.specs.declared.parser.Held.TheVariants as held
-use Rattle.asm_expr.specs.Parsing.{State, is_tight, item_of, settled, joined, closed, on_operand, on_name, on_operator, step, step_at, emptied, finished, finished_at, parsed, started}
+use Rattle.asm_expr.specs.Parsing.{State, is_tight, item_of, settled, joined, closed, put, on_operand, on_name, on_operator, step, step_at, emptied, finished, finished_at, parsed, started}
 
 -- an operator has one of the levels from 1 to 6
 pub level_is : (op : BinaryOp) → (l : ℕ) × (level op ≡ suc l) × (suc l ≤ 6)
@@ -100,7 +100,7 @@ record Stands (l : ℕ) (items : List ExprItem) (hs : List Held) (ps rest : List
 
 on_operand_is : (p : Part) (i : ExprItem) (items : List ExprItem) (hs : List Held) → operand_of p ≡ Some i
     → on_operand items hs p ≡ Some (record { due = stage.Operator; items = items ++ i ∷ []; stack = hs })
-on_operand_is (part.Operand j) i items hs e = let x : j ≡ i = cc in rw x refl
+on_operand_is (part.Operand j) i items hs e = ap (put items hs) e
 on_operand_is part.TooLarge i items hs e = let x : item.Constant (Number 0) ≡ i = cc in rw x refl
 on_operand_is part.Open i items hs e = absurd (cc)
 on_operand_is part.Close i items hs e = absurd (cc)
@@ -302,9 +302,24 @@ unfolding Good
 GoodState None ps = Unit {0}
 GoodState (Some s) ps = Good s.due s.items s.stack ps
 
+put_good : (is : List ExprItem) (hs : List Held) (ps : List Part) (i : ExprItem) (o : Option ExprItem) → plain i ≡ o → Pend hs ps is → GoodState (put is hs o) (ps ++ part.Operand i ∷ [])
+unfolding GoodState Good Pend
+put_good is hs ps i None e h = tt
+put_good is hs ps i (Some j) e h =
+    record {
+      front = ps;
+      qs = part.Operand i ∷ [];
+      js = is;
+      tree = Leaf j;
+      parts = refl;
+      items = refl;
+      pend = h;
+      spells = operand (part.Operand i) j e;
+    }
+
 operand_good : (is : List ExprItem) (hs : List Held) (ps : List Part) (p : Part) → Pend hs ps is → GoodState (on_operand is hs p) (ps ++ p ∷ [])
 unfolding GoodState Good Pend
-operand_good is hs ps (part.Operand i) h = record { front = ps; qs = part.Operand i ∷ []; js = is; tree = Leaf i; parts = refl; items = refl; pend = h; spells = operand (part.Operand i) i refl }
+operand_good is hs ps (part.Operand i) h = put_good is hs ps i (plain i) refl h
 operand_good is hs ps part.TooLarge h = record { front = ps; qs = part.TooLarge ∷ []; js = is; tree = Leaf (item.Constant (Number 0)); parts = refl; items = refl; pend = h; spells = operand part.TooLarge (item.Constant (Number 0)) refl }
 operand_good is hs ps part.Open h = (ps, refl, h)
 operand_good is hs ps part.Close h = tt
@@ -321,7 +336,7 @@ name_good op is hs ps (part.Operand (item.Name n)) h =
       front = h.0;
       qs = part.OfName op ∷ part.Operand (item.Name n) ∷ [];
       js = is;
-      tree = Named op n;
+      tree = Before op (Leaf (item.Name n));
       parts = ap (λ (x : List Part). x ++ part.Operand (item.Name n) ∷ []) h.1 ∙ append_assoc h.0 (part.OfName op ∷ []) (part.Operand (item.Name n) ∷ []);
       items = refl;
       pend = h.2;

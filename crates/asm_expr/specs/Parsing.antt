@@ -8,7 +8,7 @@ use Rattle.asm_model.specs.declared.exprs.Part.TheVariants as part
 use Rattle.asm_model.specs.declared.exprs.UnaryOp.{UnaryOp}
 use Rattle.asm_model.specs.declared.exprs.BinaryOp.{BinaryOp}
 use Rattle.asm_model.specs.declared.values.Value.TheVariants.{Number}
-use Rattle.asm_model.specs.Grammar.{level}
+use Rattle.asm_model.specs.Grammar.{level, plain}
 use Rattle.asm_expr.specs.declared.parser.Stage.{Stage}
 use Rattle.asm_expr.specs.declared.parser.Stage.TheVariants as stage
 use Rattle.asm_expr.specs.declared.parser.Held.{Held}
@@ -48,8 +48,13 @@ closed items (held.Open ∷ hs) = Some (record { due = stage.Operator; items = i
 closed items (held.Before op ∷ hs) = None
 closed items (held.Between op ∷ hs) = None
 
+-- an operand
+abbrev pub put : List ExprItem → List Held → Option ExprItem → Option State
+put items hs None = None
+put items hs (Some i) = Some (record { due = stage.Operator; items = items ++ i ∷ []; stack = hs })
+
 abbrev pub on_operand : List ExprItem → List Held → Part → Option State
-on_operand items hs (part.Operand i) = Some (record { due = stage.Operator; items = items ++ i ∷ []; stack = hs })
+on_operand items hs (part.Operand i) = put items hs (plain i)
 on_operand items hs part.TooLarge =
     Some (record { due = stage.Operator; items = items ++ item.Constant (Number 0) ∷ []; stack = hs })
 on_operand items hs part.Open = Some (record { due = stage.Operand; items = items; stack = held.Open ∷ hs })

@@ -1,6 +1,6 @@
 //! The items of an expression from its parts, with the operators that wait for an operand or for looser ones.
 
-ghost use Rattle.std.specs.Prelude.{◌≡◌, OnOk, IfOk, MatchOption, Some, None, reverse};
+ghost use Rattle.std.specs.Prelude.{◌≡◌, OnOk, IfOk, MatchOption, Some, None, if◌then◌else◌, reverse};
 ghost use Rattle.asm_model.specs.Grammar as grammar;
 ghost use Rattle.asm_expr.specs.Parsing as parsing;
 ghost use Rattle.asm_expr.specs.Steps.{Pops, Takes, state_of};
@@ -60,6 +60,17 @@ fn is_tight(limit: u8, held: Held) -> bool
         Held::Open => false,
         Held::Before(_) => true,
         Held::Between(op) => level(op) <= limit,
+    }
+}
+
+/// Whether an item is an operand.
+fn is_operand(item: &ExprItem) -> bool
+    ensures { grammar.plain item.now ≡ (if result then Some item.now else None) }
+{
+    match item {
+        ExprItem::Unary(_) => false,
+        ExprItem::Binary(_) => false,
+        _ => true,
     }
 }
 
@@ -130,6 +141,9 @@ impl Parser {
     {
         match part {
             Part::Operand(item) => {
+                if !is_operand(&item) {
+                    return Ok(false);
+                }
                 self.items.push(item)?;
                 self.due = Stage::Operator;
             }

@@ -46,20 +46,24 @@ level LogicalExclusiveOr = 6
 -- an expression with all its brackets
 pub data Tree : Type 0 where
   Leaf : ExprItem → Tree
-  Named : UnaryOp → List ℕ → Tree
   Before : UnaryOp → Tree → Tree
   Between : BinaryOp → Tree → Tree → Tree
 
 -- its items, each operator after its operands
 abbrev pub postfix : Tree → List ExprItem
 postfix (Leaf i) = i ∷ []
-postfix (Named op name) = item.Name name ∷ item.Unary op ∷ []
 postfix (Before op t) = postfix t ++ item.Unary op ∷ []
 postfix (Between op t u) = postfix t ++ postfix u ++ item.Binary op ∷ []
 
+-- an item that is an operand
+abbrev pub plain : ExprItem → Option ExprItem
+plain (item.Unary op) = None
+plain (item.Binary op) = None
+plain i = Some i
+
 -- the operand that a part is
 abbrev pub operand_of : Part → Option ExprItem
-operand_of (part.Operand i) = Some i
+operand_of (part.Operand i) = plain i
 operand_of part.TooLarge = Some (item.Constant (Number 0))
 operand_of part.Open = None
 operand_of part.Close = None
@@ -96,7 +100,7 @@ between_of part.Other = None
 -- the parts of an expression whose operators outside parentheses are of a level or tighter
 pub data Spells : ℕ → List Part → Tree → Type 0 where
   operand : (p : Part) (i : ExprItem) → operand_of p ≡ Some i → Spells 0 (p ∷ []) (Leaf i)
-  of_name : (op : UnaryOp) (name : List ℕ) → Spells 0 (part.OfName op ∷ part.Operand (item.Name name) ∷ []) (Named op name)
+  of_name : (op : UnaryOp) (name : List ℕ) → Spells 0 (part.OfName op ∷ part.Operand (item.Name name) ∷ []) (Before op (Leaf (item.Name name)))
   before : (p : Part) (op : UnaryOp) (ps : List Part) (t : Tree) → before_of p ≡ Some op → Spells 0 ps t → Spells 0 (p ∷ ps) (Before op t)
   grouped : (ps : List Part) (t : Tree) → Spells 6 ps t → Spells 0 (part.Open ∷ ps ++ part.Close ∷ []) t
   between : (l : ℕ) (p : Part) (op : BinaryOp) (ps qs : List Part) (t u : Tree) → between_of p ≡ Some op → level op ≡ suc l

@@ -4,6 +4,7 @@ pub mod Grammar
 pub mod Kinds
 pub mod Limits
 pub mod Lines
+pub mod Meaning
 pub mod Parts
 pub mod Told
 pub mod Tokens
