@@ -1,0 +1,5 @@
+pub mod DigitLemmas
+pub mod EvalLemmas
+pub mod ParseLaws
+pub mod Spelled
+pub mod StackLemmas

@@ -1,0 +1,59 @@
+-- Evaluation with a stack of operands, its top first. This project's: what the code does, and the laws tie it to
+-- the meaning of the expression.
+use Rattle.std.specs.Prelude.{ℕ, List, [], ◌∷◌, map, reverse, Option, Some, None, Result, Ok, Err}
+use Rattle.std.specs.List.{slice_get}
+use Rattle.sdt_fault.specs.declared.kinds.LineKind.{LineKind}
+use Rattle.sdt_fault.specs.declared.kinds.LineKind.TheVariants.{Syntax}
+use Rattle.asm_model.specs.declared.exprs.ExprItem.{ExprItem}
+use Rattle.asm_model.specs.declared.exprs.ExprItem.TheVariants as item
+use Rattle.asm_model.specs.declared.exprs.UnaryOp.{UnaryOp}
+use Rattle.asm_model.specs.declared.exprs.BinaryOp.{BinaryOp}
+use Rattle.asm_model.specs.declared.values.Value.{Value}
+use Rattle.asm_model.specs.declared.names.LaidName.{LaidName}
+use Rattle.asm_model.specs.declared.names.Names.{Names}
+use Rattle.asm_model.specs.Meaning.{Operand, Known, Unread, known, on_both, applied, binary, operand_of_item}
+use Rattle.asm_expr.specs.declared.slots.Slot.{Slot}
+use Rattle.asm_expr.specs.declared.slots.Slot.TheVariants as slot
+
+-- an operator before the operand on the top
+abbrev pub act_unary : UnaryOp → List Operand → List Operand
+act_unary op [] = Known (Err Syntax) ∷ []
+act_unary op (x ∷ s) = Known (applied op x) ∷ s
+
+-- an operator between the two operands on the top
+abbrev pub act_binary : Names → BinaryOp → List Operand → List Operand
+act_binary names op [] = Known (Err Syntax) ∷ []
+act_binary names op (y ∷ []) = Known (Err Syntax) ∷ []
+act_binary names op (y ∷ x ∷ s) = Known (on_both (known x) (known y) (binary names op)) ∷ s
+
+-- the stack after an item
+abbrev pub act : Names → ExprItem → List Operand → List Operand
+act names (item.Unary op) s = act_unary op s
+act names (item.Binary op) s = act_binary names op s
+act names i s = operand_of_item names i ∷ s
+
+-- the stack after items
+abbrev pub run : Names → List ExprItem → List Operand → List Operand
+run names [] s = s
+run names (i ∷ is) s = run names is (act names i s)
+
+-- the value where one operand is left
+abbrev pub ended : List Operand → Result Value LineKind
+ended [] = Err Syntax
+ended (x ∷ []) = known x
+ended (y ∷ x ∷ s) = Err Syntax
+
+-- the entry at a place of the list
+abbrev pub entry : List LaidName → Option ℕ → Option LaidName
+entry list None = None
+entry list (Some i) = slice_get list i
+
+-- the operand in a slot
+abbrev pub operand_in : List LaidName → Slot → Operand
+operand_in list (slot.Name place) = Unread (entry list place)
+operand_in list (slot.Known v) = Known (Ok v)
+operand_in list (slot.Fault kind) = Known (Err kind)
+
+-- the operands in slots, the last first
+abbrev pub operands_in : List LaidName → List Slot → List Operand
+operands_in list slots = reverse (map (operand_in list) slots)

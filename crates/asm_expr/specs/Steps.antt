@@ -1,0 +1,34 @@
+-- Steps of the code. This project's.
+use Rattle.std.specs.Prelude.{◌≡◌, ℕ, List, [], ◌∷◌, reverse, Bool, true, false, Option, Some, None, Result, Ok, Err}
+use Rattle.asm_expr.specs.declared.parser.Held.{Held}
+use Rattle.asm_expr.specs.declared.parser.Parser.{Parser}
+use Rattle.sdt_fault.specs.declared.NoMemory.{NoMemory}
+use Rattle.std.specs.List.{list_any}
+use Rattle.asm_model.specs.declared.exprs.Part.{Part}
+use Rattle.asm_model.specs.Parts.{is_large}
+use Rattle.asm_expr.specs.declared.read.Reading.{Reading}
+use Rattle.asm_expr.specs.Parsing.{State, is_tight, parsed, started}
+
+-- the top, where it is tight, or the stack as it was
+abbrev pub Pops : ℕ → List Held → Option Held → List Held → Type 0
+Pops limit old None new = (new ≡ old) × Stays limit (reverse old)
+  where
+    Stays : ℕ → List Held → Type 0
+    Stays limit [] = Unit {0}
+    Stays limit (h ∷ hs) = is_tight limit h ≡ false
+Pops limit old (Some top) new = (reverse old ≡ top ∷ reverse new) × (is_tight limit top ≡ true)
+
+-- what a parser has
+abbrev pub state_of : Parser → State
+state_of p = record { due = p.due; items = p.items.items; stack = reverse p.stack.items }
+
+-- the state after one part more, or no state where the part can't stand there
+abbrev pub Takes : Option State → Result Bool NoMemory → State → Type 0
+Takes next (Ok true) new = next ≡ Some new
+Takes next (Ok false) new = next ≡ None
+Takes next (Err e) new = Unit {0}
+
+-- the items that parts spell, and whether one of them is too large; nothing where they spell none
+abbrev pub IsRead : List Part → Option Reading → Type 0
+IsRead ps None = parsed (Some started) ps ≡ None
+IsRead ps (Some r) = (parsed (Some started) ps ≡ Some r.items.items) × (r.is_large ≡ list_any is_large ps)

@@ -1,0 +1,327 @@
+//! What the tokens of a line are in an expression.
+
+ghost use Rattle.std.specs.Prelude.{◌≡◌, ◌^◌, ◌<◌, ◌-◌, ◌==◌, nat_lt, IfOk, length, take, drop, if◌then◌else◌, Some, None};
+ghost use Rattle.asm_model.specs.Forms.{same};
+ghost use Rattle.asm_model.specs.Parts as parts;
+
+use asm_model::{BinaryOp, ExprItem, Part, Token, TokenKind, UnaryOp, Value};
+use sdt_fault::{Bytes, NoMemory, Text};
+use std::alloc::Global;
+
+/// The part that a token of the line is.
+pub fn part_of(alloc: Global, text: &[u8], token: Token) -> Result<Part, NoMemory>
+    ensures { IfOk result (λ part. part ≡ parts.part_of text.now token) }
+{
+    let piece = piece(text, token.start as usize, token.end as usize);
+    part_of_kind(alloc, token.kind, piece)
+}
+
+/// The bytes of a token.
+pub fn piece(text: &[u8], start: usize, end: usize) -> &[u8]
+    ensures { result.now ≡ take (end - start) (drop start text.now) }
+{
+    let end = end.min(text.len());
+    let start = start.min(end);
+    &text[start..end]
+}
+
+fn part_of_kind(alloc: Global, kind: TokenKind, piece: &[u8]) -> Result<Part, NoMemory>
+    ensures { IfOk result (λ part. part ≡ parts.part_of_kind kind piece.now) }
+{
+    match kind {
+        TokenKind::Name => {
+            let name = Text::from_slice(alloc, piece)?;
+            Ok(Part::Operand(ExprItem::Name(name)))
+        }
+        TokenKind::Barred => {
+            let name = Text::from_slice(alloc, inside(piece))?;
+            Ok(Part::Operand(ExprItem::Name(name)))
+        }
+        TokenKind::Number => Ok(number_part(piece)),
+        TokenKind::Quoted => {
+            let words = undoubled(alloc, behind_one(piece))?;
+            Ok(Part::Operand(ExprItem::Constant(Value::Words(words))))
+        }
+        TokenKind::Character => Ok(Part::Operand(ExprItem::Constant(Value::Number(u32::from(
+            character_value(piece),
+        ))))),
+        TokenKind::Braced => braced_part(alloc, piece),
+        TokenKind::Local => {
+            let name = Text::from_slice(alloc, piece)?;
+            Ok(Part::Operand(ExprItem::Local(name)))
+        }
+        TokenKind::Sign => Ok(sign_part(piece)),
+    }
+}
+
+/// What stands between the first byte and the last.
+fn inside(piece: &[u8]) -> &[u8]
+    ensures { result.now ≡ take (length piece.now - 2) (drop 1 piece.now) }
+{
+    if piece.len() < 2 {
+        return &piece[..0];
+    }
+    &piece[1..piece.len() - 1]
+}
+
+/// What stands behind the first byte.
+fn behind_one(piece: &[u8]) -> &[u8]
+    ensures { result.now ≡ drop 1 piece.now }
+{
+    if piece.is_empty() {
+        return piece;
+    }
+    &piece[1..]
+}
+
+/// The byte behind the quote.
+fn character_value(piece: &[u8]) -> u8
+    ensures { result ≡ parts.character_value piece.now }
+{
+    if piece.len() < 2 {
+        return 0;
+    }
+    piece[1]
+}
+
+/// What a digit stands for.
+fn digit_value(c: u8) -> u8
+    ensures { result ≡ parts.digit_value c }
+{
+    if c <= b'9' {
+        return c.saturating_sub(b'0');
+    }
+    if c <= b'F' {
+        return c.saturating_sub(55);
+    }
+    c.saturating_sub(87)
+}
+
+/// What the digits stand for; None above 2^32 - 1.
+fn digits_value(base: u8, digits: &[u8]) -> Option<u32>
+    ensures { result ≡ (if nat_lt (parts.digits_value base digits.now) (2 ^ 32) then Some (parts.digits_value base digits.now) else None) }
+{
+    let mut value = 0u64;
+    'digits: for c in digits {
+        value = value * u64::from(base) + u64::from(digit_value(*c));
+        if value > u64::from(u32::MAX) {
+            return None;
+        }
+    }
+    Some(value as u32)
+}
+
+/// What a number stands for; None above 2^32 - 1.
+fn number_value(piece: &[u8]) -> Option<u32>
+    ensures { result ≡ (if nat_lt (parts.number_value piece.now) (2 ^ 32) then Some (parts.number_value piece.now) else None) }
+{
+    if piece.len() < 2 {
+        return digits_value(10, piece);
+    }
+    if piece[0] == b'&' {
+        return digits_value(16, &piece[1..]);
+    }
+    if piece[1] == b'x' {
+        return digits_value(16, &piece[2..]);
+    }
+    if piece[1] == b'_' {
+        return digits_value(piece[0].saturating_sub(b'0'), &piece[2..]);
+    }
+    digits_value(10, piece)
+}
+
+fn number_part(piece: &[u8]) -> Part
+    ensures { result ≡ parts.number_part (parts.number_value piece.now) }
+{
+    match number_value(piece) {
+        None => Part::TooLarge,
+        Some(value) => Part::Operand(ExprItem::Constant(Value::Number(value))),
+    }
+}
+
+/// The content of a string, from what stands behind its first quote.
+fn undoubled(alloc: Global, quoted: &[u8]) -> Result<Bytes, NoMemory>
+    ensures { IfOk result (λ words. words ≡ parts.undoubled quoted.now) }
+{
+    let mut words = Vec::new(alloc);
+    let mut rest = quoted;
+    'bytes: while rest.len() >= 2 {
+        words.push(rest[0])?;
+        if rest[0] == b'"' {
+            rest = &rest[2..];
+        } else {
+            rest = &rest[1..];
+        }
+    }
+    Ok(Bytes::from_vec(words))
+}
+
+/// Whether a slice is a word.
+fn is(piece: &[u8], word: &[u8]) -> bool
+    ensures { result ≡ same piece.now word.now }
+{
+    piece == word
+}
+
+fn braced_part(alloc: Global, piece: &[u8]) -> Result<Part, NoMemory>
+    ensures { IfOk result (λ part. part ≡ parts.braced_part piece.now) }
+{
+    if is(piece, b"{TRUE}") {
+        return Ok(Part::Operand(ExprItem::Constant(Value::Truth(true))));
+    }
+    if is(piece, b"{FALSE}") {
+        return Ok(Part::Operand(ExprItem::Constant(Value::Truth(false))));
+    }
+    if is(piece, b"{PC}") {
+        return Ok(Part::Operand(ExprItem::Here));
+    }
+    if is(piece, b"{VAR}") {
+        return Ok(Part::Operand(ExprItem::Map));
+    }
+    if is(piece, b"{CONFIG}") {
+        return Ok(Part::Operand(ExprItem::CodeSize));
+    }
+    if is(piece, b"{CODESIZE}") {
+        return Ok(Part::Operand(ExprItem::CodeSize));
+    }
+    if is(piece, b"{ENDIAN}") {
+        let words = Bytes::from_slice(alloc, b"little")?;
+        return Ok(Part::Operand(ExprItem::Constant(Value::Words(words))));
+    }
+    Ok(Part::Other)
+}
+
+fn sign_part(piece: &[u8]) -> Part
+    ensures { result ≡ parts.sign_part piece.now }
+{
+    let Some((first, _)) = piece.split_first() else {
+        return Part::Other;
+    };
+    if *first == b':' {
+        return worded_part(piece);
+    }
+    plain_part(piece)
+}
+
+fn worded_part(piece: &[u8]) -> Part
+    ensures { result ≡ parts.worded_part piece.now }
+{
+    if is(piece, b":NOT:") {
+        return Part::Prefix(UnaryOp::Not);
+    }
+    if is(piece, b":LNOT:") {
+        return Part::Prefix(UnaryOp::LogicalNot);
+    }
+    if is(piece, b":LEN:") {
+        return Part::Prefix(UnaryOp::Length);
+    }
+    if is(piece, b":CHR:") {
+        return Part::Prefix(UnaryOp::Character);
+    }
+    if is(piece, b":STR:") {
+        return Part::Prefix(UnaryOp::String);
+    }
+    if is(piece, b":DEF:") {
+        return Part::OfName(UnaryOp::Defined);
+    }
+    if is(piece, b":MOD:") {
+        return Part::Infix(BinaryOp::Modulo);
+    }
+    if is(piece, b":LEFT:") {
+        return Part::Infix(BinaryOp::Left);
+    }
+    if is(piece, b":RIGHT:") {
+        return Part::Infix(BinaryOp::Right);
+    }
+    if is(piece, b":CC:") {
+        return Part::Infix(BinaryOp::Concatenate);
+    }
+    if is(piece, b":ROL:") {
+        return Part::Infix(BinaryOp::RotateLeft);
+    }
+    if is(piece, b":ROR:") {
+        return Part::Infix(BinaryOp::RotateRight);
+    }
+    if is(piece, b":SHL:") {
+        return Part::Infix(BinaryOp::ShiftLeft);
+    }
+    if is(piece, b":SHR:") {
+        return Part::Infix(BinaryOp::ShiftRight);
+    }
+    if is(piece, b":AND:") {
+        return Part::Infix(BinaryOp::And);
+    }
+    if is(piece, b":OR:") {
+        return Part::Infix(BinaryOp::Or);
+    }
+    if is(piece, b":EOR:") {
+        return Part::Infix(BinaryOp::ExclusiveOr);
+    }
+    if is(piece, b":LAND:") {
+        return Part::Infix(BinaryOp::LogicalAnd);
+    }
+    if is(piece, b":LOR:") {
+        return Part::Infix(BinaryOp::LogicalOr);
+    }
+    if is(piece, b":LEOR:") {
+        return Part::Infix(BinaryOp::LogicalExclusiveOr);
+    }
+    Part::Other
+}
+
+fn plain_part(piece: &[u8]) -> Part
+    ensures { result ≡ parts.plain_part piece.now }
+{
+    if is(piece, b"(") {
+        return Part::Open;
+    }
+    if is(piece, b")") {
+        return Part::Close;
+    }
+    if is(piece, b".") {
+        return Part::Operand(ExprItem::Here);
+    }
+    if is(piece, b"@") {
+        return Part::Operand(ExprItem::Map);
+    }
+    if is(piece, b"+") {
+        return Part::Sum(UnaryOp::Plus, BinaryOp::Add);
+    }
+    if is(piece, b"-") {
+        return Part::Sum(UnaryOp::Minus, BinaryOp::Subtract);
+    }
+    if is(piece, b"?") {
+        return Part::OfName(UnaryOp::Size);
+    }
+    if is(piece, b"*") {
+        return Part::Infix(BinaryOp::Multiply);
+    }
+    if is(piece, b"/") {
+        return Part::Infix(BinaryOp::Divide);
+    }
+    if is(piece, b"=") {
+        return Part::Infix(BinaryOp::Equal);
+    }
+    if is(piece, b"==") {
+        return Part::Infix(BinaryOp::Equal);
+    }
+    if is(piece, b"<>") {
+        return Part::Infix(BinaryOp::NotEqual);
+    }
+    if is(piece, b"/=") {
+        return Part::Infix(BinaryOp::NotEqual);
+    }
+    if is(piece, b"<") {
+        return Part::Infix(BinaryOp::Less);
+    }
+    if is(piece, b"<=") {
+        return Part::Infix(BinaryOp::LessEqual);
+    }
+    if is(piece, b">") {
+        return Part::Infix(BinaryOp::Greater);
+    }
+    if is(piece, b">=") {
+        return Part::Infix(BinaryOp::GreaterEqual);
+    }
+    Part::Other
+}

@@ -1,0 +1,5 @@
+pub mod Best
+pub mod KindLemmas
+pub mod LineLemmas
+pub mod ScanLemmas
+pub mod StringLemmas

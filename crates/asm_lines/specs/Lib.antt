@@ -1,0 +1,3 @@
+-- Steps of the code.
+pub mod Lengths
+pub mod Steps

@@ -1,0 +1,21 @@
+-- Steps of the code. This project's.
+use Rattle.std.specs.Prelude.{◌≡◌, ℕ, ◌<◌, ◌≤◌, List, [], ◌∷◌, length, ◌==◌, Option, None, Some}
+use Rattle.std.specs.List.{slice_split}
+use Rattle.asm_model.specs.declared.tokens.Due.{Due}
+use Rattle.asm_model.specs.declared.tokens.TokenKind.{TokenKind}
+use Rattle.asm_model.specs.Tokens.{IsTokenAt}
+
+-- the first word of a text with spaces between its words, and the text of the others
+abbrev pub Cuts : List ℕ → List ℕ → Option (List ℕ) → Type 0
+Cuts text word None = slice_split (λ c. c == 32) text ≡ word ∷ []
+Cuts text word (Some behind) =
+    (slice_split (λ c. c == 32) text ≡ word ∷ slice_split (λ c. c == 32) behind) × (length behind < length text)
+
+-- the one token at the front, or None where there is none
+abbrev pub IsTheToken : Due → List ℕ → Option (TokenKind × ℕ) → Type 0
+IsTheToken due rest None = (kind : TokenKind) (n : ℕ) → IsTokenAt due kind n rest → ⊥
+IsTheToken due rest (Some t) =
+    IsTokenAt due t.0 t.1 rest
+    × ((kind : TokenKind) (n : ℕ) → IsTokenAt due kind n rest → (kind ≡ t.0) × (n ≡ t.1))
+    × (0 < t.1)
+    × (t.1 ≤ length rest)

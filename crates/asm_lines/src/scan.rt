@@ -1,0 +1,250 @@
+//! The tokens of a line.
+
+ghost use Rattle.std.specs.Prelude.{◌≡◌, ◌≤◌, ◌<◌, ◌^◌, length, IfOk, MatchOption, take, drop};
+ghost use Rattle.std.specs.List.{list_any};
+ghost use Rattle.asm_model.specs.Tokens as model;
+ghost use Rattle.asm_model.specs.declared.tokens.Due.TheVariants as due;
+ghost use Rattle.asm_model.specs.Told.{Told};
+ghost use Rattle.asm_lines.specs.Lengths as lengths;
+ghost use Rattle.asm_lines.specs.Steps.{IsTheToken};
+
+use crate::bytes::{Class, run_len};
+use crate::forms::{
+    barred_len, character_len, local_len, name_len, number_len, one_of_len, quoted_len,
+};
+use asm_model::{Due, Flat, Token, TokenKind, bad_line};
+use sdt_fault::answer::Fault;
+use sdt_fault::kinds::LineKind;
+use sdt_fault::{List, NoMemory};
+use std::alloc::Global;
+
+/// The words in braces.
+const BRACED_WORDS: &[u8] = b"{TRUE} {FALSE} {PC} {VAR} {CONFIG} {CODESIZE} {ENDIAN}";
+
+/// The operators, and the signs of the other forms.
+const SIGNS: &[u8] =
+    b"+ - ? :NOT: :LNOT: :LEN: :CHR: :STR: :DEF: * / :MOD: :LEFT: :RIGHT: :CC: :ROL: :ROR: :SHL: :SHR: :AND: :OR: :EOR: = == <> /= < <= > >= :LAND: :LOR: :LEOR: ( ) . @ , # & % ^ ! [ | ] { }";
+
+/// The longer of two, the first where they are equal.
+fn longer(best: (TokenKind, usize), kind: TokenKind, len: usize) -> (TokenKind, usize)
+    ensures { result ≡ lengths.longer best kind len }
+{
+    if best.1 < len {
+        return (kind, len);
+    }
+    best
+}
+
+/// The kind and the length of the longest prefix with a form; the length is 0 where none has one.
+fn best_of(rest: &[u8]) -> (TokenKind, usize)
+    ensures value { result ≡ lengths.best_of rest.now }
+    ensures within { result.1 ≤ length rest.now }
+{
+    let best = (TokenKind::Name, name_len(rest));
+    let best = longer(best, TokenKind::Barred, barred_len(rest));
+    let best = longer(best, TokenKind::Number, number_len(rest));
+    let best = longer(best, TokenKind::Quoted, quoted_len(rest));
+    let best = longer(best, TokenKind::Character, character_len(rest));
+    let best = longer(best, TokenKind::Braced, one_of_len(BRACED_WORDS, rest));
+    let best = longer(best, TokenKind::Local, local_len(rest));
+    longer(best, TokenKind::Sign, one_of_len(SIGNS, rest))
+}
+
+/// The kind and the length of the longest prefix with a form; None where none has one.
+pub fn longest_token(rest: &[u8]) -> Option<(TokenKind, usize)>
+    ensures { IsTheToken due.Operands rest.now result }
+{
+    let best = best_of(rest);
+    if best.1 == 0 {
+        return None;
+    }
+    Some(best)
+}
+
+/// The kind and the length of the token at the front of a label's place.
+fn label_at(rest: &[u8]) -> Option<(TokenKind, usize)>
+    ensures { IsTheToken due.Label rest.now result }
+{
+    longest_token(rest)
+}
+
+/// The kind and the length of the token at the front of an operation's place.
+fn operation_at(rest: &[u8]) -> Option<(TokenKind, usize)>
+    ensures { IsTheToken due.Operation rest.now result }
+{
+    if starts_operation(rest) {
+        return Some((TokenKind::Sign, 1));
+    }
+    longest_token(rest)
+}
+
+/// The kind and the length of the token at the front, where something is due.
+fn token_at(due: Due, rest: &[u8]) -> Option<(TokenKind, usize)>
+    ensures { IsTheToken due rest.now result }
+{
+    match due {
+        Due::Label => label_at(rest),
+        Due::Operation => operation_at(rest),
+        Due::Operands => longest_token(rest),
+        Due::Nothing => None,
+    }
+}
+
+/// Whether the first byte is an operation by itself.
+fn starts_operation(rest: &[u8]) -> bool
+    ensures { result ≡ model.is_operation_sign rest.now }
+{
+    let Some((first, _)) = rest.split_first() else {
+        return false;
+    };
+    *first == b'&' || *first == b'=' || *first == b'%'
+}
+
+/// Whether a word is a name, in any case.
+pub fn is_called(name: &[u8], word: &[u8]) -> bool
+    ensures { result ≡ model.is_called name.now word.now }
+{
+    word.eq_ignore_ascii_case(name)
+}
+
+/// What is due behind a token.
+fn due_behind(due: Due, word: &[u8]) -> Due
+    ensures { result ≡ model.due_behind due word.now }
+{
+    match due {
+        Due::Label => Due::Operation,
+        Due::Operation => {
+            if is_called(b"TTL", word) {
+                return Due::Nothing;
+            }
+            if is_called(b"SUBT", word) {
+                return Due::Nothing;
+            }
+            Due::Operands
+        }
+        Due::Operands => Due::Operands,
+        Due::Nothing => Due::Nothing,
+    }
+}
+
+/// What is due in column 1.
+fn first_due(text: &[u8]) -> Due
+    ensures { result ≡ model.first_due text.now }
+{
+    let Some((first, _)) = text.split_first() else {
+        return Due::Operation;
+    };
+    if *first == b' ' || *first == b'\t' {
+        return Due::Operation;
+    }
+    Due::Label
+}
+
+/// Whether nothing but blanks and a comment is left.
+fn is_comment(rest: &[u8]) -> bool
+    ensures { result ≡ model.is_comment rest.now }
+{
+    let behind = &rest[run_len(rest, Class::Blank)..];
+    let Some((first, _)) = behind.split_first() else {
+        return true;
+    };
+    *first == b';'
+}
+
+/// Whether the line may end there.
+fn is_end(due: Due, rest: &[u8]) -> bool
+    ensures { result ≡ model.is_end due rest.now }
+{
+    match due {
+        Due::Nothing => true,
+        _ => is_comment(rest),
+    }
+}
+
+/// The text behind its first bytes.
+fn behind(text: &[u8], count: usize) -> &[u8]
+    requires { count ≤ length text.now }
+    ensures { result.now ≡ drop count text.now }
+{
+    &text[count..]
+}
+
+/// The first bytes of the text.
+fn begin(text: &[u8], count: usize) -> &[u8]
+    requires { count ≤ length text.now }
+    ensures { result.now ≡ take count text.now }
+{
+    &text[..count]
+}
+
+/// The tokens of a line, where it has tokens; None where it has none. A name may be too long.
+pub fn scan(alloc: Global, text: &[u8]) -> Result<Option<Vec<Token>>, NoMemory>
+    requires { length text.now < 2 ^ 32 }
+    ensures { IfOk result (λ found. MatchOption found (model.NoTokens text.now) (λ v. model.Tokens text.now v.items)) }
+{
+    let mut list = Vec::new(alloc);
+    let mut due = first_due(text);
+    let mut place = 0;
+    'tokens: loop {
+        let rest = behind(text, place);
+        if is_end(due, rest) {
+            return Ok(Some(list));
+        }
+        let blanks = run_len(rest, Class::Blank);
+        let front = behind(rest, blanks);
+        let Some((kind, len)) = token_at(due, front) else {
+            return Ok(None);
+        };
+        let start = place + blanks;
+        let end = start + len;
+        list.push(Token {
+            kind,
+            start: start as u32,
+            end: end as u32,
+        })?;
+        due = due_behind(due, begin(front, len));
+        place = end;
+    }
+}
+
+/// The bytes of a name.
+pub const NAME_BYTES: usize = 255;
+
+/// Whether a token is a name beyond the limit.
+fn is_long(token: Token) -> bool
+    ensures { result ≡ model.is_long token }
+{
+    let width = token.end.saturating_sub(token.start) as usize;
+    match token.kind {
+        TokenKind::Name => width > NAME_BYTES,
+        TokenKind::Barred => width > NAME_BYTES + 2,
+        _ => false,
+    }
+}
+
+/// Whether one of the tokens is a name beyond the limit.
+pub fn has_long(tokens: &[Token]) -> bool
+    ensures { result ≡ list_any model.is_long tokens.now }
+{
+    tokens.iter().any(|token| is_long(*token))
+}
+
+/// The tokens of a line, in order. Syntax where the line has none; TooMany where one is a name of more
+/// than `NAME_BYTES` bytes.
+pub fn tokens(alloc: Global, line: &Flat) -> Result<List<Token>, Fault>
+    requires { length line.now.text < 2 ^ 32 }
+    ensures { Told line.now.source line.now.number (model.Scans line.now.text) result }
+{
+    let Some(list) = scan(alloc, line.text.as_slice())? else {
+        return Err(bad_line(alloc, &line.source, line.number, LineKind::Syntax));
+    };
+    if has_long(list.as_slice()) {
+        return Err(bad_line(alloc, &line.source, line.number, LineKind::TooMany));
+    }
+    Ok(List::from_vec(list))
+}
+
+/// A line has one list of tokens, or one fault.
+pub fn one_scan()
+    ensures { model.OneScan }
+{}

@@ -1,0 +1,93 @@
+//! Expressions, in postfix order.
+
+use crate::values::Value;
+use sdt_fault::{List, Text};
+
+/// The items of an expression, each operator after its operands.
+#[derive(Debug, Drop)]
+pub struct Expr {
+    pub items: List<ExprItem>,
+}
+
+#[derive(Debug, Drop)]
+pub enum ExprItem {
+    Name(Text),
+    /// A reference to a local label, as it is written.
+    Local(Text),
+    Constant(Value),
+    /// This place: `.` or `{PC}`.
+    Here,
+    /// The storage map: `@` or `{VAR}`.
+    Map,
+    /// The width of instructions in bits: `{CODESIZE}` or `{CONFIG}`.
+    CodeSize,
+    Unary(UnaryOp),
+    Binary(BinaryOp),
+}
+
+/// The operators before their operand.
+#[derive(Clone, Copy, PartialEq, Eq, Debug)]
+pub enum UnaryOp {
+    Plus,
+    Minus,
+    /// `?name`
+    Size,
+    Not,
+    LogicalNot,
+    Length,
+    Character,
+    String,
+    /// `:DEF:name`
+    Defined,
+}
+
+/// The operators between their operands.
+#[derive(Clone, Copy, PartialEq, Eq, Debug)]
+pub enum BinaryOp {
+    Multiply,
+    Divide,
+    Modulo,
+    Left,
+    Right,
+    Concatenate,
+    RotateLeft,
+    RotateRight,
+    ShiftLeft,
+    ShiftRight,
+    Add,
+    Subtract,
+    And,
+    Or,
+    ExclusiveOr,
+    /// `=` or `==`
+    Equal,
+    /// `<>` or `/=`
+    NotEqual,
+    Less,
+    LessEqual,
+    Greater,
+    GreaterEqual,
+    LogicalAnd,
+    LogicalOr,
+    LogicalExclusiveOr,
+}
+
+/// What a token is in an expression.
+#[derive(Debug, Drop)]
+pub enum Part {
+    Operand(ExprItem),
+    /// A number above 2^32 - 1.
+    TooLarge,
+    Open,
+    Close,
+    /// An operator before an operand.
+    Prefix(UnaryOp),
+    /// An operator before a name.
+    OfName(UnaryOp),
+    /// An operator between operands.
+    Infix(BinaryOp),
+    /// An operator before an operand or between two: `+` or `-`.
+    Sum(UnaryOp, BinaryOp),
+    /// A sign that no expression has.
+    Other,
+}

@@ -1,0 +1,19 @@
+//! Lines of a source, as they stand and after expansion.
+
+use sdt_fault::{Bytes, Text};
+
+/// A line of a source, without its end. Its number counts from 1 in the file that `source` names.
+#[derive(Debug, Drop)]
+pub struct Line {
+    pub source: Text,
+    pub number: u32,
+    pub text: Bytes,
+}
+
+/// A line that expansion leaves: the text after substitution, and the file and line where it stands.
+#[derive(Debug, Drop)]
+pub struct Flat {
+    pub source: Text,
+    pub number: u32,
+    pub text: Bytes,
+}
