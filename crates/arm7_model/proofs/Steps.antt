@@ -33,14 +33,14 @@ low-with_flags : (status v c o : ℕ) → with_flags status v c o % 2 ^ 28 ≡ s
 unfolding with_flags
 low-with_flags status v c o = omega arith
 
-
 pub quiet-with_flags : (status v c o : ℕ) → IsQuiet status → IsQuiet (with_flags status v c o)
 quiet-with_flags status v c o q =
     let low = low-with_flags status v c o in
     record {
       arm = omega (arith, low, q.arm);
       fiq_masked = omega (arith, low, q.fiq_masked);
-      irq_masked = omega (arith, low, q.irq_masked) }
+      irq_masked = omega (arith, low, q.irq_masked);
+    }
 
 zero_of-le : (v : ℕ) → zero_of v ≤ 1
 zero_of-le v = go (v == 0)
@@ -164,12 +164,13 @@ under_way rest r status m pc answers = record {
   core = record rest { r = slice_set r 15 ((pc + 4) % 2 ^ 32); cpsr = status };
   memory = m;
   answers = answers;
-  accesses = Fetch pc Word ∷ [] }
+  accesses = Fetch pc Word ∷ [];
+}
 
 pub arm_step : (board : Board) (rest : ArmState) (r : List ℕ) (status : ℕ) (m : Bytes) (pc w : ℕ) (i : ArmInstr) (first : Stepped)
-  → IsQuiet status → slice_index r 15 ≡ pc → pc % 4 ≡ 0 → in_memory board pc 4 ≡ true → word m pc ≡ w → ReadsArm w i
-  → ((answers : List ℕ) → arm_done (record { board = board; before = state_of rest r status m; word = w }) i (under_way rest r status m pc answers) ≡ first)
-  → OneStep board (state_of rest r status m) first
+    → IsQuiet status → slice_index r 15 ≡ pc → pc % 4 ≡ 0 → in_memory board pc 4 ≡ true → word m pc ≡ w → ReadsArm w i
+    → ((answers : List ℕ) → arm_done (record { board = board; before = state_of rest r status m; word = w }) i (under_way rest r status m pc answers) ≡ first)
+    → OneStep board (state_of rest r status m) first
 unfolding step_opens
 arm_step board rest r status m pc w i first q at_pc whole there here reads does lines answers =
     (Arm i, λ _. rw (q.arm, at_pc, there) (rw here reads), sym (rw (q.fiq_masked, q.irq_masked, q.arm, at_pc, whole, there, here) (does answers)))

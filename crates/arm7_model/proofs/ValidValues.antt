@@ -21,7 +21,6 @@ pub record FitsComputed (c : Computed) : Type 0 where
   pub carry : c.carry ≤ 1
   pub overflow : c.overflow ≤ 1
 
-
 pub carry-le : (status : ℕ) → carry_in status ≤ 1
 carry-le status = omega arith
 
@@ -97,4 +96,3 @@ computed-fits Orr a b carry status ha hb hc = logical (bit_or a b) carry status 
 computed-fits Mov a b carry status ha hb hc = logical b carry status hb hc
 computed-fits Bic a b carry status ha hb hc = logical (bit_and a (inverted b)) carry status (and_lt 32 a (inverted b) ha (inverted-fits b)) hc
 computed-fits Mvn a b carry status ha hb hc = logical (inverted b) carry status (inverted-fits b) hc
-

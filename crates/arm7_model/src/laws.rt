@@ -17,8 +17,7 @@ pub fn step_is_one()
 /// Runs join end to end.
 pub fn runs_join()
     ensures { RunsJoin }
-{
-}
+{}
 
 /// A run is a function of the state and the inputs.
 pub fn run_is_one()

@@ -14,16 +14,13 @@ use sdt_fault::answer::Fault;
 use sdt_fault::kinds::Quantity;
 use sdt_fault::refusal::Refusal;
 use sdt_fault::{Bytes, NoMemory};
-use sdt_word::put_word;
 use std::alloc::Global;
 
 /// Writes the four bytes of a word at the end, the lowest first.
 pub fn push_word(out: &mut Vec<u8>, word: u32) -> Result<(), NoMemory>
     ensures { OnOk result (out.new.items ≡ out.old.items ++ bytes_of word 4) }
 {
-    let mut bytes = [0; 4];
-    put_word(&mut bytes, 0, word);
-    out.extend_from_slice(&bytes)?;
+    sdt_word::push_word(out, word)?;
     Ok(())
 }
 
