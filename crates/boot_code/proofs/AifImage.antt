@@ -501,5 +501,5 @@ pub aif_veneer_boots : AifVeneerBoots
 aif_veneer_boots file parts zero_size base e offsets view entry loads veneers b whole file_room zero_room board s c = (
   aif_steps b base zero_size (length offsets) + 2,
   steps-bound b base zero_size (length offsets),
-  aif_veneer_is_exact file parts zero_size base e (entry b) offsets b (view b) (loads b whole file_room zero_room) (veneers b) board s c,
+  aif_veneer_is_exact file parts zero_size base e (entry b) offsets b (view b) (loads b whole file_room zero_room) (veneers b whole file_room zero_room) board s c,
 )

@@ -3,7 +3,7 @@ use Rattle.std.proofs.Common.{◌≡◌, ℕ, zero, suc, ◌+◌, ◌*◌, ◌/�
 use Rattle.boot_code.specs.declared.rows.CopyRow.{CopyRow}
 use Rattle.boot_code.specs.declared.rows.ZeroRow.{ZeroRow}
 use Rattle.boot_code.specs.Startup.{upward_steps, copy_steps, copies_steps, parts_steps, startup_steps, copied_words, zeroed_words}
-use Rattle.boot_code.specs.Laws.{StartupIsExact, StartupBoots, bound_of}
+use Rattle.boot_code.specs.Laws.{StartupIsExact, StartupBoots, bound_of, written_by}
 use Rattle.boot_code.proofs.BootPlaces.{boots_in}
 
 row-bound : (c : ℕ) (d b : Bool) → (if d then 6 + 5 * (c / 32) else 9 + 5 * (c / 32) + 4 * (c % 32 / 4)) + (if b then 2 else 0) ≤ 16 + 4 * (c / 4)
@@ -27,5 +27,5 @@ pub startup_is_exact : StartupIsExact
 startup_is_exact files view written copies parts entry a p board s c = boots_in files view written copies parts entry a p board s c
 
 pub startup_boots : StartupBoots
-startup_boots files view written copies parts entry a p board s c =
-    (startup_steps copies parts, startup-bound copies parts, startup_is_exact files view written copies parts entry a p board s c)
+startup_boots files view copies parts entry a p board s c =
+    (startup_steps copies parts, startup-bound copies parts, startup_is_exact files view (written_by copies parts) copies parts entry a p board s c)

@@ -159,5 +159,5 @@ abbrev pub AifVeneerBoots : Type 0
 AifVeneerBoots =
     (file : List ℕ) (parts zero_size base e : ℕ) (offsets : List ℕ) (view : ℕ → ByteMap) (entry : ℕ → ℕ)
     → LoadsAnywhere file parts zero_size base e offsets view
-    → ((b : ℕ) → HasVeneer (started_image (shifted_file file b) b parts zero_size base offsets) b parts e (entry b))
+    → ((b : ℕ) → b % 4 ≡ 0 → b + length file ≤ 2 ^ 32 → b + parts + zero_size ≤ 2 ^ 32 → HasVeneer (started_image (shifted_file file b) b parts zero_size base offsets) b parts e (entry b))
     → BootsAif file parts zero_size view (aif_bound (length offsets) zero_size) entry
