@@ -1,10 +1,10 @@
 -- A word reads as at most one instruction; what no row reads where a data-processing or a half-word
 -- transfer breaks its conditions.
-use Rattle.std.proofs.Common.{◌≡◌, ◌≢◌, ℕ, ◌+◌, ◌*◌, List, [], ◌∷◌, get_or, Option, Some, None, MatchOption, refl, ap, subst, arith}
+use Rattle.std.proofs.Common.{◌<◌, ◌^◌, ◌≡◌, ◌≢◌, ℕ, ◌+◌, ◌*◌, List, [], ◌∷◌, get_or, Option, Some, None, MatchOption, refl, ap, subst, arith}
 use Rattle.sdt_word.proofs.CodesLemmas.{condition_at-code, flag_at-flag, shift_at-code}
 use Rattle.sdt_word.proofs.RowsLemmas.{fields-same}
 use Rattle.sdt_word.specs.Numbers.{bit, bits}
-use Rattle.sdt_word.specs.Rows.{FitsRow, Part, word_of}
+use Rattle.sdt_word.specs.Rows.{FitsRow, Part, width_of, word_of}
 use Rattle.arm_isa.specs.ArmRows.{FitsHalf, FitsOperation, IsUnread, ReadsArm, arm_fields, arm_row}
 use Rattle.arm_isa.specs.Codes.{half_code, operation_code}
 use Rattle.arm_isa.specs.declared.instr.ArmInstr.{ArmInstr}
@@ -115,3 +115,13 @@ pub unread-transfer_half : (v : ℕ) → bits v 25 3 ≡ 0 → bit v 4 ≡ 1 →
 unread-transfer_half v group by_register marked transfer breaks (TransferHalf c p u e w l n d h y k) r =
     breaks (record { kind = transfer; store = λ e. omega arith; post = λ e. omega arith; register = λ e. omega arith })
 unread-transfer_half v group by_register marked transfer breaks i r = omega arith
+
+-- each row has the bits of a word
+pub width_of-arm_row : (i : ArmInstr) → width_of (arm_row i) ≡ 32
+width_of-arm_row (Undefined c u) = refl
+width_of-arm_row i = refl
+
+-- what reads is a word
+pub word-lt : (w : ℕ) (i : ArmInstr) → ReadsArm w i → w < 2 ^ 32
+word-lt w (Undefined c u) r = omega arith
+word-lt w i r = omega arith

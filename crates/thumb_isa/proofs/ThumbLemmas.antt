@@ -1,8 +1,8 @@
 -- A half-word reads as at most one instruction.
-use Rattle.std.proofs.Common.{◌≡◌, ℕ, List, [], ◌∷◌, get_or, Option, Some, None, MatchOption, refl, ap, subst, arith}
+use Rattle.std.proofs.Common.{◌<◌, ◌^◌, ◌≡◌, ℕ, List, [], ◌∷◌, get_or, Option, Some, None, MatchOption, refl, ap, subst, arith}
 use Rattle.sdt_word.proofs.CodesLemmas.{condition_at-code, flag_at-flag}
 use Rattle.sdt_word.proofs.RowsLemmas.{fields-same}
-use Rattle.sdt_word.specs.Rows.{FitsRow, Part, word_of}
+use Rattle.sdt_word.specs.Rows.{FitsRow, Part, width_of, word_of}
 use Rattle.thumb_isa.specs.Codes.{high_code, immediate_code, signed_code, thumb_operation_code, thumb_shift_code}
 use Rattle.thumb_isa.specs.ThumbRows.{IsUnread, ReadsThumb, thumb_fields, thumb_row}
 use Rattle.thumb_isa.specs.declared.instr.HighOperation.{HighOperation}
@@ -135,3 +135,13 @@ instruction-same v i j p q = absurd (omega arith)
 pub only-from_found : (o : Option ThumbInstr) (v : ℕ) → MatchOption o (IsUnread v) (ReadsThumb v) → (i : ThumbInstr) → ReadsThumb v i → o ≡ Some i
 only-from_found None v h i r = absurd (h i r)
 only-from_found (Some j) v h i r = ap Some (instruction-same v j i h r)
+
+-- each row has the bits of a half-word
+pub width_of-thumb_row : (i : ThumbInstr) → width_of (thumb_row i) ≡ 16
+width_of-thumb_row (Undefined i) = refl
+width_of-thumb_row i = refl
+
+-- what reads is a half-word
+pub half-lt : (h : ℕ) (i : ThumbInstr) → ReadsThumb h i → h < 2 ^ 16
+half-lt h (Undefined i) r = omega arith
+half-lt h i r = omega arith
