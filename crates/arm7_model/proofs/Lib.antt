@@ -8,3 +8,5 @@ pub mod TransferLemmas
 pub mod StepLaws
 pub mod ValidRegisters
 pub mod ValidValues
+pub mod ValidEffects
+pub mod ValidTransfers
