@@ -1,6 +1,6 @@
 -- Runs of steps that hold whatever the lines are: they join, and each is a run by `After`. A predicate
 -- on the accesses of each step goes along.
-use Rattle.std.proofs.Common.{◌≡◌, ℕ, zero, suc, ◌+◌, List, [], ◌∷◌, refl, sym, subst, arith}
+use Rattle.std.proofs.Common.{◌≡◌, ℕ, zero, suc, ◌+◌, List, [], ◌∷◌, sym, subst, arith}
 use Rattle.arm7_model.specs.declared.event.Event.{Event}
 use Rattle.arm7_model.specs.declared.event.Event.TheVariants as event
 use Rattle.arm7_model.specs.Memory.{Board}
@@ -14,14 +14,14 @@ use Rattle.arm7_model.proofs.Steps.{OneStep}
 pub data Leads (board : Board) (P : List Access → Type 0) : ℕ → State → State → Type 0 where
   here : {s : State} → Leads board P zero s s
   on : {s t : State} {n : ℕ} (first : Stepped) → OneStep board s first → first.event ≡ event.Ran → P first.accesses
-    → Leads board P n first.state t → Leads board P (suc n) s t
+      → Leads board P n first.state t → Leads board P (suc n) s t
 
 pub counted : (e : Event) → e ≡ event.Ran → IsCounted e
 counted e h = let P : Event → Type 0 = IsCounted in subst P (sym h) tt
 
 -- a run of n steps, and then one of k, is one of n + k
 pub joined : {board : Board} {P : List Access → Type 0} {n k : ℕ} {s t u : State}
-  → Leads board P n s t → Leads board P k t u → Leads board P (n + k) s u
+    → Leads board P n s t → Leads board P k t u → Leads board P (n + k) s u
 joined {board} {P} {k = k} {s = s} {u = u} here q =
     let Run : ℕ → Type 0 = λ n. Leads board P n s u in
     let e : k ≡ 0 + k = omega arith in subst Run e q
@@ -35,7 +35,7 @@ lasting {board} {P} {s = s} {t = t} e run = let Run : ℕ → Type 0 = λ n. Lea
 
 -- whatever the inputs are
 pub after : {board : Board} {P : List Access → Type 0} {n : ℕ} {s t : State} → Leads board P n s t → (inputs : List Input)
-  → (accesses : List (List Access)) × After board s n inputs accesses t × EachStep P accesses
+    → (accesses : List (List Access)) × After board s n inputs accesses t × EachStep P accesses
 after here inputs = ([], stays, tt)
 after (on first one ran p rest) inputs =
     let (accesses, run, each) = after rest (later_inputs inputs) in

@@ -10,3 +10,5 @@ pub mod ValidRegisters
 pub mod ValidValues
 pub mod ValidEffects
 pub mod ValidTransfers
+pub mod ValidSteps
+pub mod ValidThumb

@@ -1,12 +1,11 @@
 -- Memory: what a store leaves, what is loaded after it, and copies by parts in both directions.
-use Rattle.std.proofs.Common.{◌≡◌, ◌≢◌, ℕ, zero, suc, ◌+◌, ◌-◌, ◌*◌, ◌/◌, ◌%◌, ◌^◌, ◌<◌, ◌≤◌, Bool, true, false, ◌&&◌, ◌||◌, not, nat_lt, ◌==◌, List, [], ◌∷◌, ◌++◌, length, get_or, refl, sym, ap, ◌∙◌, arith, ltb-true, ltb-false, eqb-true, eq-eqb, ◌⊎◌, inl, inr, length-append, cond, replicate}
-use Rattle.std.proofs.lemmas.Bool.{eqb-false}
+use Rattle.std.proofs.Common.{◌≡◌, ◌≢◌, ℕ, zero, suc, ◌+◌, ◌-◌, ◌^◌, ◌<◌, ◌≤◌, Bool, true, false, nat_lt, ◌==◌, List, [], ◌∷◌, ◌++◌, length, get_or, refl, sym, ap, ◌∙◌, arith, ltb-true, ltb-false, eqb-true, eq-eqb, ◌⊎◌, inl, inr, length-append, cond}
 use Rattle.std.proofs.Math.ListN.{get_or-append}
 use Rattle.std.proofs.Math.Seq.{get_or-append_right}
 use Rattle.std.proofs.Math.Path.{fun_ext}
 use Rattle.sdt_word.specs.Bytes.{bytes_of, number_of, load, word}
-use Rattle.sdt_word.proofs.BytesLemmas.{length-load, get_or-load, length-bytes_of, bytes_of-number_of, number_of-bytes_of}
-use Rattle.arm7_model.specs.Memory.{Bytes, Board, store, all_from, any_from, in_memory, is_there, may_store}
+use Rattle.sdt_word.proofs.BytesLemmas.{length-load, bytes_of-number_of, number_of-bytes_of}
+use Rattle.arm7_model.specs.Memory.{Bytes, store, all_from, any_from}
 
 -- ---- one order or the other
 pub below_or_not : (x a : ℕ) → (x < a) ⊎ (a ≤ x)
@@ -74,8 +73,9 @@ store-append m a front back = fun_ext (λ x. go x (below_or_not x a) (below_or_n
   where
     whole : length (front ++ back) ≡ length front + length back
     whole = length-append front back
+
     at : (x : ℕ) → (x < a + length front + length back) ⊎ (a + length front + length back ≤ x) → a + length front ≤ x
-      → store m a (front ++ back) x ≡ store (store m a front) (a + length front) back x
+        → store m a (front ++ back) x ≡ store (store m a front) (a + length front) back x
     at x (inl k) h =
         let inside : x - a - length front ≡ x - (a + length front) = omega arith in
         store-in m a (front ++ back) x (omega arith) (omega (arith, whole))
@@ -85,8 +85,9 @@ store-append m a front back = fun_ext (λ x. go x (below_or_not x a) (below_or_n
     at x (inr k) h =
         store-above m a (front ++ back) x (omega (arith, whole))
         ∙ sym (store-above (store m a front) (a + length front) back x (omega arith) ∙ store-above m a front x h)
+
     go : (x : ℕ) → (x < a) ⊎ (a ≤ x) → (x < a + length front) ⊎ (a + length front ≤ x)
-      → store m a (front ++ back) x ≡ store (store m a front) (a + length front) back x
+        → store m a (front ++ back) x ≡ store (store m a front) (a + length front) back x
     go x (inl h) _ =
         store-below m a (front ++ back) x h
         ∙ sym (store-below (store m a front) (a + length front) back x (omega arith) ∙ store-below m a front x h)
@@ -101,7 +102,7 @@ pub store-swap : (m : Bytes) (a : ℕ) (cs : List ℕ) (b : ℕ) (bs : List ℕ)
 store-swap m a cs b bs apart = fun_ext (λ x. go x (below_or_not x a) (below_or_not x (a + length cs)) (below_or_not x b) (below_or_not x (b + length bs)))
   where
     go : (x : ℕ) → (x < a) ⊎ (a ≤ x) → (x < a + length cs) ⊎ (a + length cs ≤ x) → (x < b) ⊎ (b ≤ x) → (x < b + length bs) ⊎ (b + length bs ≤ x)
-      → store (store m a cs) b bs x ≡ store (store m b bs) a cs x
+        → store (store m a cs) b bs x ≡ store (store m b bs) a cs x
     go x (inl h) _ _ _ =
         store-below (store m a cs) b bs x (omega arith) ∙ store-below m a cs x h
         ∙ sym (store-below (store m b bs) a cs x h ∙ store-below m b bs x (omega arith))
@@ -131,26 +132,26 @@ load-add m a (suc n) k =
 
 -- upwards to a lower address: the first part, then the rest as it then is
 pub copy_up : (m : Bytes) (s t n k : ℕ) → t ≤ s
-  → store (store m t (load m s n)) (t + n) (load (store m t (load m s n)) (s + n) k) ≡ store m t (load m s (n + k))
+    → store (store m t (load m s n)) (t + n) (load (store m t (load m s n)) (s + n) k) ≡ store m t (load m s (n + k))
 copy_up m s t n k h =
     let count = length-load m s n in
     let still : load (store m t (load m s n)) (s + n) k ≡ load m (s + n) k = load-store_apart m t (load m s n) (s + n) k (inr (omega arith)) in
     let place : t + n ≡ t + length (load m s n) = omega arith in
     rw still (ap (λ (a : ℕ). store (store m t (load m s n)) a (load m (s + n) k)) place
-      ∙ sym (store-append m t (load m s n) (load m (s + n) k))
-      ∙ ap (store m t) (sym (load-add m s n k)))
+    ∙ sym (store-append m t (load m s n) (load m (s + n) k))
+    ∙ ap (store m t) (sym (load-add m s n k)))
 
 -- downwards to a higher address: the last part, then the rest as it then is
 pub copy_down : (m : Bytes) (s t n k : ℕ) → s ≤ t
-  → store (store m (t + n) (load m (s + n) k)) t (load (store m (t + n) (load m (s + n) k)) s n) ≡ store m t (load m s (n + k))
+    → store (store m (t + n) (load m (s + n) k)) t (load (store m (t + n) (load m (s + n) k)) s n) ≡ store m t (load m s (n + k))
 copy_down m s t n k h =
     let count = length-load m s n in
     let still : load (store m (t + n) (load m (s + n) k)) s n ≡ load m s n = load-store_apart m (t + n) (load m (s + n) k) s n (inl (omega arith)) in
     let place : t + n ≡ t + length (load m s n) = omega arith in
     rw still (sym (store-swap m t (load m s n) (t + n) (load m (s + n) k) (omega arith))
-      ∙ ap (λ (a : ℕ). store (store m t (load m s n)) a (load m (s + n) k)) place
-      ∙ sym (store-append m t (load m s n) (load m (s + n) k))
-      ∙ ap (store m t) (sym (load-add m s n k)))
+    ∙ ap (λ (a : ℕ). store (store m t (load m s n)) a (load m (s + n) k)) place
+    ∙ sym (store-append m t (load m s n) (load m (s + n) k))
+    ∙ ap (store m t) (sym (load-add m s n k)))
 
 -- ---- words
 -- the bytes of a word are loaded as they stand

@@ -10,7 +10,7 @@ use Rattle.arm7_model.specs.Memory.{Board, is_there}
 use Rattle.arm7_model.specs.Registers.{State, register, is_thumb}
 use Rattle.arm7_model.specs.Accesses.{Access}
 use Rattle.arm7_model.specs.Outcomes.{Stepped}
-use Rattle.arm7_model.specs.Step.{Levels, Instruction, Arm, Thumb, Unread, Reads, Step, stepped, stepped_by, uninterrupted, fetches, fetched, interrupt, can_fetch, fetch_width}
+use Rattle.arm7_model.specs.Step.{Levels, Instruction, Arm, Thumb, Unread, Reads, stepped, stepped_by, uninterrupted, fetches, fetched, interrupt, can_fetch, fetch_width}
 use Rattle.arm7_model.specs.Runs.{Input, After, stays, goes, first_of_inputs, later_inputs}
 use Rattle.arm7_model.specs.Laws.{StepIsOne, RunsJoin, RunIsOne}
 
@@ -38,21 +38,22 @@ reads-one arm thumb true w Unread Unread p q = refl
 
 -- a step that doesn't fetch has nothing to do with an instruction
 unfetched : (board : Board) (s : State) (lines : Levels) (answers : List ℕ) (i j : Instruction) → fetches board s lines ≡ false
-  → stepped board s lines answers i ≡ stepped board s lines answers j
+    → stepped board s lines answers i ≡ stepped board s lines answers j
 unfolding stepped uninterrupted fetches
 unfetched board s lines answers i j h =
     go (interrupt lines s.core.cpsr) (can_fetch s.core) refl (is_there board (register s.core 15) (bytes_in (fetch_width (is_thumb s.core.cpsr)))) refl h
   where
     open_case : (f : Bool) → can_fetch s.core ≡ f → (there : Bool) → is_there board (register s.core 15) (bytes_in (fetch_width (is_thumb s.core.cpsr))) ≡ there
-      → (f && there) ≡ false → uninterrupted board s answers i ≡ uninterrupted board s answers j
+        → (f && there) ≡ false → uninterrupted board s answers i ≡ uninterrupted board s answers j
     open_case false e there d h = rw e refl
     open_case true e false d h = rw (e, d) refl
     open_case true e true d h = absurd (true_false h)
       where
         true_false : true ≡ false → ⊥
         true_false h = cc
+
     go : (o : Option Exception) → (f : Bool) → can_fetch s.core ≡ f → (there : Bool) → is_there board (register s.core 15) (bytes_in (fetch_width (is_thumb s.core.cpsr))) ≡ there
-      → (is_none o && (f && there)) ≡ false → stepped_by o board s answers i ≡ stepped_by o board s answers j
+        → (is_none o && (f && there)) ≡ false → stepped_by o board s answers i ≡ stepped_by o board s answers j
     go (Some x) f e there d h = refl
     go None f e there d h = open_case f e there d h
 

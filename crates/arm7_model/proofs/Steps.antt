@@ -1,24 +1,20 @@
 -- Steps of a processor in ARM state with both interrupts masked: a step is then what its instruction
 -- does, whatever the lines are. Runs of such steps join, and are runs by `After`.
-use Rattle.std.proofs.Common.{◌≡◌, ◌≢◌, ℕ, zero, suc, ◌+◌, ◌-◌, ◌*◌, ◌/◌, ◌%◌, ◌^◌, ◌<◌, ◌≤◌, Bool, true, false, ◌&&◌, ◌||◌, not, ◌==◌, List, [], ◌∷◌, ◌++◌, length, refl, sym, ap, subst, ◌∙◌, arith, cond}
-use Rattle.std.specs.Prelude.{slice_index, slice_set, IsTrue}
-use Rattle.sdt_word.specs.Numbers.{bit, bits, flag}
-use Rattle.sdt_word.specs.Bytes.{bytes_of, number_of, load, word}
-use Rattle.sdt_word.specs.Codes.{bytes_in}
+use Rattle.std.proofs.Common.{◌≡◌, ◌≢◌, ℕ, ◌+◌, ◌-◌, ◌%◌, ◌^◌, ◌<◌, ◌≤◌, Bool, true, false, ◌==◌, List, [], ◌∷◌, refl, sym, ◌∙◌, arith, cond}
+use Rattle.std.specs.Prelude.{slice_index, slice_set}
+use Rattle.sdt_word.specs.Numbers.{bit, flag}
+use Rattle.sdt_word.specs.Bytes.{word}
 use Rattle.sdt_word.specs.declared.codes.Width.TheVariants.{Word}
-use Rattle.sdt_word.specs.declared.codes.Condition.TheVariants as condition
 use Rattle.arm_isa.specs.declared.instr.ArmInstr.{ArmInstr}
 use Rattle.arm_isa.specs.ArmRows.{ReadsArm}
 use Rattle.arm7_model.specs.declared.state.ArmState.{ArmState}
-use Rattle.arm7_model.specs.declared.event.Event.TheVariants as event
-use Rattle.arm7_model.specs.Memory.{Bytes, Board, in_memory, is_there, all_from}
-use Rattle.arm7_model.specs.Registers.{State, is_thumb, register, with_register}
+use Rattle.arm7_model.specs.Memory.{Bytes, Board, in_memory}
+use Rattle.arm7_model.specs.Registers.{State}
 use Rattle.arm7_model.specs.Arithmetic.{with_flags, zero_of, sum_with, inverted}
-use Rattle.arm7_model.specs.Accesses.{Access, Fetch, Working}
-use Rattle.arm7_model.specs.Outcomes.{Stepped, Under}
+use Rattle.arm7_model.specs.Accesses.{Fetch, Working}
+use Rattle.arm7_model.specs.Outcomes.{Stepped}
 use Rattle.arm7_model.specs.ArmStep.{arm_done}
-use Rattle.arm7_model.specs.Step.{Levels, Step, Arm, stepped, interrupt, fetches, fetched}
-use Rattle.arm7_model.specs.Runs.{Input, After, stays, goes, first_of_inputs, later_inputs}
+use Rattle.arm7_model.specs.Step.{Levels, Step, Arm}
 use Rattle.arm7_model.proofs.MemoryLemmas.{not-eq}
 use Rattle.arm7_model.proofs.Opens.{step_opens}
 
@@ -33,14 +29,14 @@ low-with_flags : (status v c o : ℕ) → with_flags status v c o % 2 ^ 28 ≡ s
 unfolding with_flags
 low-with_flags status v c o = omega arith
 
-
 pub quiet-with_flags : (status v c o : ℕ) → IsQuiet status → IsQuiet (with_flags status v c o)
 quiet-with_flags status v c o q =
     let low = low-with_flags status v c o in
     record {
       arm = omega (arith, low, q.arm);
       fiq_masked = omega (arith, low, q.fiq_masked);
-      irq_masked = omega (arith, low, q.irq_masked) }
+      irq_masked = omega (arith, low, q.irq_masked);
+    }
 
 zero_of-le : (v : ℕ) → zero_of v ≤ 1
 zero_of-le v = go (v == 0)
@@ -164,12 +160,13 @@ under_way rest r status m pc answers = record {
   core = record rest { r = slice_set r 15 ((pc + 4) % 2 ^ 32); cpsr = status };
   memory = m;
   answers = answers;
-  accesses = Fetch pc Word ∷ [] }
+  accesses = Fetch pc Word ∷ [];
+}
 
 pub arm_step : (board : Board) (rest : ArmState) (r : List ℕ) (status : ℕ) (m : Bytes) (pc w : ℕ) (i : ArmInstr) (first : Stepped)
-  → IsQuiet status → slice_index r 15 ≡ pc → pc % 4 ≡ 0 → in_memory board pc 4 ≡ true → word m pc ≡ w → ReadsArm w i
-  → ((answers : List ℕ) → arm_done (record { board = board; before = state_of rest r status m; word = w }) i (under_way rest r status m pc answers) ≡ first)
-  → OneStep board (state_of rest r status m) first
+    → IsQuiet status → slice_index r 15 ≡ pc → pc % 4 ≡ 0 → in_memory board pc 4 ≡ true → word m pc ≡ w → ReadsArm w i
+    → ((answers : List ℕ) → arm_done (record { board = board; before = state_of rest r status m; word = w }) i (under_way rest r status m pc answers) ≡ first)
+    → OneStep board (state_of rest r status m) first
 unfolding step_opens
 arm_step board rest r status m pc w i first q at_pc whole there here reads does lines answers =
     (Arm i, λ _. rw (q.arm, at_pc, there) (rw here reads), sym (rw (q.fiq_masked, q.irq_masked, q.arm, at_pc, whole, there, here) (does answers)))

@@ -1,29 +1,26 @@
 -- Data processing, status registers, exceptions, loads and stores leave valid states.
-use Rattle.std.proofs.Common.{◌≡◌, ◌≢◌, ℕ, zero, suc, ◌+◌, ◌-◌, ◌*◌, ◌/◌, ◌%◌, ◌^◌, ◌<◌, ◌≤◌, Bool, true, false, ◌==◌, ◌&&◌, ◌||◌, not, nat_lt, if◌then◌else◌, cond, List, [], ◌∷◌, length, get_or, refl, sym, ap, subst, ◌∙◌, arith, ◌⊎◌, inl, inr, mod-lt}
-use Rattle.std.specs.Prelude.{slice_index, slice_set}
+use Rattle.std.proofs.Common.{◌≡◌, ◌≢◌, ℕ, zero, suc, ◌+◌, ◌*◌, ◌/◌, ◌%◌, ◌^◌, ◌<◌, Bool, true, false, ◌==◌, ◌&&◌, ◌||◌, not, if◌then◌else◌, length, get_or, refl, subst, arith, mod-lt}
+use Rattle.std.specs.Prelude.{slice_index}
 use Rattle.std.proofs.lemmas.Bool.{eqb-false}
-use Rattle.sdt_word.specs.Numbers.{bit, bits, rotated, sign_extended, operand}
-use Rattle.sdt_word.specs.Bytes.{bytes_of, number_of, load}
+use Rattle.sdt_word.specs.Numbers.{bits}
+use Rattle.sdt_word.specs.Bytes.{number_of, load}
 use Rattle.sdt_word.specs.Codes.{bytes_in}
-use Rattle.sdt_word.proofs.BytesLemmas.{number_of-lt, get_or-bytes_of-lt}
-use Rattle.sdt_word.proofs.NumbersLemmas.{rotated-fits}
+use Rattle.sdt_word.proofs.BytesLemmas.{number_of-lt}
 use Rattle.sdt_word.specs.declared.codes.Width.{Width}
 use Rattle.sdt_word.specs.declared.codes.Width.TheVariants.{Byte, Half, Word}
 use Rattle.arm_isa.specs.declared.instr.Operation.{Operation}
 use Rattle.arm7_model.specs.declared.state.ArmState.{ArmState}
 use Rattle.arm7_model.specs.declared.event.Exception.{Exception}
 use Rattle.arm7_model.specs.declared.event.Exception.TheVariants as exception
-use Rattle.arm7_model.specs.Memory.{Bytes, Board, in_memory, is_there, may_store, store}
-use Rattle.arm7_model.specs.Registers.{State, IsValid, IsValidState, IsStatus, register, with_register, with_pc, with_result, operand_at, stored_at, is_thumb, has_mode, mode_named, mode_number, bank_in, saved, with_saved, with_cpsr, restored, has_saved}
-use Rattle.arm7_model.specs.Arithmetic.{Shifted, Computed, computed, is_comparison, with_flags, carry_in, overflow_in, as_64_bits, zero_of}
-use Rattle.arm7_model.specs.Accesses.{Access, Working, aligned, read_at, after_load, after_store, memory_after, answers_after}
-use Rattle.arm7_model.specs.Outcomes.{Stepped, Under, ran, took, raised, aborted, hosted, given_back, entered, entry_status, fiq_mask_after, mode_of, vector}
-use Rattle.arm7_model.specs.Data.{flagged, completed, calculated, multiplied, multiplied_long, long_product, kept_flags, long_flags, status_with}
-use Rattle.arm7_model.specs.Transfers.{moved_by, transfer_address, writes_back, with_base, loaded_value, load_end, loaded, stored, transferred, swapped}
-use Rattle.arm7_model.specs.ArmStep.{bad_return, is_pc}
-use Rattle.arm7_model.proofs.MemoryLemmas.{bytes-store}
-use Rattle.arm7_model.proofs.ValidRegisters.{IsNearlyValid, nearly, whole, nearly-register, valid-register, valid-at, valid-pc, valid-result, valid-status, valid-flags, banked, nearly-cpsr, nearly-saved, valid-saved, saved-status, register-small, operand-small, stored-small}
-use Rattle.arm7_model.proofs.ValidValues.{FitsShifted, FitsComputed, computed-fits, carry-le}
+use Rattle.arm7_model.specs.Memory.{Board, in_memory}
+use Rattle.arm7_model.specs.Registers.{IsValid, IsValidState, IsStatus, register, with_register, with_pc, with_result, operand_at, has_mode, mode_named, saved, with_saved, with_cpsr, restored, has_saved}
+use Rattle.arm7_model.specs.Arithmetic.{Shifted, Computed, computed, is_comparison, carry_in, overflow_in}
+use Rattle.arm7_model.specs.Accesses.{Working, read_at}
+use Rattle.arm7_model.specs.Outcomes.{Under, ran, took, raised, aborted, hosted, given_back, entered, entry_status, vector}
+use Rattle.arm7_model.specs.Data.{flagged, completed, calculated, multiplied, multiplied_long, long_product, kept_flags, long_flags}
+use Rattle.arm7_model.specs.ArmStep.{bad_return}
+use Rattle.arm7_model.proofs.ValidRegisters.{IsNearlyValid, nearly, nearly-register, valid-register, valid-at, valid-pc, valid-result, valid-status, valid-flags, banked, nearly-cpsr, nearly-saved, saved-status, register-small, operand-small}
+use Rattle.arm7_model.proofs.ValidValues.{FitsShifted, FitsComputed, computed-fits}
 
 -- ---- data processing
 
@@ -36,12 +33,12 @@ unfolding restored
 restored-nearly s h mode = nearly-cpsr s (saved s) (banked s (nearly s h)) (saved-status s (nearly s h)) mode
 
 pub completed-valid : (o : Operation) (set_flags : Bool) (rd : ℕ) (c : Computed) (s : ArmState) → IsValid s → FitsComputed c → bad_return o set_flags rd s ≡ false
-  → IsValid (completed o set_flags rd c s)
+    → IsValid (completed o set_flags rd c s)
 unfolding completed bad_return
 completed-valid o set_flags rd c s h f fine = go (is_comparison o) set_flags (rd == 15) refl (has_saved s) (has_mode (saved s)) refl fine
   where
     go : (comparison flags pc : Bool) → (rd == 15) ≡ pc → (sv md : Bool) → has_mode (saved s) ≡ md → (flags && (pc && (not comparison && (not sv || not md)))) ≡ false
-      → IsValid (if comparison then flagged s c else if not flags then with_result s rd c.value else if pc then with_pc (restored s) c.value else with_register (flagged s c) rd c.value)
+        → IsValid (if comparison then flagged s c else if not flags then with_result s rd c.value else if pc then with_pc (restored s) c.value else with_register (flagged s c) rd c.value)
     go true flags pc e sv md m fine = flagged-valid s c h f
     go false false pc e sv md m fine = valid-result s rd c.value h f.value
     go false true false e sv md m fine = valid-register (flagged s c) rd c.value (flagged-valid s c h f) f.value (eqb-false rd 15 e)
@@ -56,11 +53,11 @@ completed-valid o set_flags rd c s h f fine = go (is_comparison o) set_flags (rd
         wrong h = cc
 
 pub calculated-valid : (o : Operation) (set_flags : Bool) (rn rd : ℕ) (x : Shifted) (s : ArmState) → IsValid s → FitsShifted x → bad_return o set_flags rd s ≡ false
-  → IsValid (calculated o set_flags rn rd x s)
+    → IsValid (calculated o set_flags rn rd x s)
 unfolding calculated
 calculated-valid o set_flags rn rd x s h f fine =
     completed-valid o set_flags rd (computed o (operand_at s rn) x.value x.carry s.cpsr) s h
-      (computed-fits o (operand_at s rn) x.value x.carry s.cpsr (operand-small s rn (nearly s h)) f.value f.carry) fine
+    (computed-fits o (operand_at s rn) x.value x.carry s.cpsr (operand-small s rn (nearly s h)) f.value f.carry) fine
 
 -- ---- multiplies
 
@@ -70,10 +67,12 @@ multiplied-valid accumulate set_flags rd rn rs rm s h other = go set_flags
   where
     v : ℕ
     v = (register s rm * register s rs + (if accumulate then register s rn else 0)) % 2 ^ 32
+
     small : (register s rm * register s rs + (if accumulate then register s rn else 0)) % 2 ^ 32 < 2 ^ 32
     small = mod-lt (register s rm * register s rs + (if accumulate then register s rn else 0)) (omega arith)
+
     go : (b : Bool) → IsValid (if b then with_register (kept_flags s ((register s rm * register s rs + (if accumulate then register s rn else 0)) % 2 ^ 32)) rd ((register s rm * register s rs + (if accumulate then register s rn else 0)) % 2 ^ 32)
-      else with_register s rd ((register s rm * register s rs + (if accumulate then register s rn else 0)) % 2 ^ 32))
+        else with_register s rd ((register s rm * register s rs + (if accumulate then register s rn else 0)) % 2 ^ 32))
     go true = valid-register (kept_flags s _) rd _ (valid-flags s _ (carry_in s.cpsr) (overflow_in s.cpsr) h (omega arith) (omega arith)) small other
     go false = valid-register s rd _ h small other
 
@@ -85,12 +84,13 @@ long-flags s v h small = valid-status s _ h (go (v == 0)) (omega arith)
     go false = omega arith
 
 pub multiplied_long-valid : (signed accumulate set_flags : Bool) (high low rs rm : ℕ) (s : ArmState) → IsValid s → high ≢ 15 → low ≢ 15
-  → IsValid (multiplied_long signed accumulate set_flags high low rs rm s)
+    → IsValid (multiplied_long signed accumulate set_flags high low rs rm s)
 unfolding multiplied_long
 multiplied_long-valid signed accumulate set_flags high low rs rm s h other_high other_low = go set_flags v (mod-lt _ (omega arith))
   where
     v : ℕ
     v = (long_product signed (register s rm) (register s rs) + (if accumulate then register s high * 2 ^ 32 + register s low else 0)) % 2 ^ 64
+
     go : (b : Bool) (v : ℕ) → v < 2 ^ 64 → IsValid (with_register (with_register (if b then long_flags s v else s) low (v % 2 ^ 32)) high (v / 2 ^ 32))
     go true v small = valid-register _ high (v / 2 ^ 32) (valid-register (long_flags s v) low (v % 2 ^ 32) (long-flags s v h small) (omega arith) other_low) (omega arith) other_high
     go false v small = valid-register _ high (v / 2 ^ 32) (valid-register s low (v % 2 ^ 32) h (omega arith) other_low) (omega arith) other_high
@@ -107,6 +107,7 @@ entry-status e status = record { is_word = small e; reserved = none e }
     small exception.DataAbort = omega arith
     small exception.Irq = omega arith
     small exception.Fiq = omega arith
+
     none : (e : Exception) → bits (entry_status e status) 8 20 ≡ 0
     none exception.Undefined = omega arith
     none exception.SoftwareInterrupt = omega arith
@@ -192,6 +193,7 @@ read-small board w a width g = go (in_memory board a (bytes_in width)) width
         loaded-byte zero a i = omega arith
         loaded-byte (suc n) a zero = g.memory a
         loaded-byte (suc n) a (suc i) = loaded-byte n (suc a) i
+
     go : (b : Bool) (width : Width) → (if b then number_of (load w.memory a (bytes_in width)) else slice_index w.answers 0 % 256 ^ bytes_in width) < 256 ^ bytes_in width
     go true Byte = bytes 1 refl
     go true Half = bytes 2 refl
@@ -199,4 +201,3 @@ read-small board w a width g = go (in_memory board a (bytes_in width)) width
     go false Byte = omega arith
     go false Half = omega arith
     go false Word = omega arith
-

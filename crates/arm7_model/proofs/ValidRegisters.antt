@@ -1,17 +1,14 @@
 -- What keeps the registers valid: writes of words, of flags and of status registers.
-use Rattle.std.proofs.Common.{◌≡◌, ◌≢◌, ℕ, zero, suc, ◌+◌, ◌-◌, ◌*◌, ◌/◌, ◌%◌, ◌^◌, ◌<◌, ◌≤◌, Bool, true, false, ◌==◌, ◌&&◌, ◌||◌, not, nat_lt, if◌then◌else◌, cond, List, [], ◌∷◌, ◌++◌, length, get_or, take, drop, refl, sym, ap, subst, ◌∙◌, arith, ◌⊎◌, inl, inr, get_or-set_same, get_or-set_other, eqb-true, length-append, length-drop, length-take-le}
+use Rattle.std.proofs.Common.{◌≡◌, ◌≢◌, ℕ, zero, suc, ◌+◌, ◌-◌, ◌*◌, ◌/◌, ◌%◌, ◌^◌, ◌<◌, ◌≤◌, Bool, true, false, ◌==◌, nat_lt, if◌then◌else◌, List, [], ◌∷◌, ◌++◌, length, take, drop, refl, sym, ap, ◌∙◌, arith, get_or-set_same, get_or-set_other, length-append, length-drop, length-take-le}
 use Rattle.std.specs.Prelude.{slice_index, slice_set}
 use Rattle.std.proofs.lemmas.Bool.{eqb-false}
 use Rattle.std.proofs.lemmas.List.{length-set}
-use Rattle.std.proofs.Math.ListN.{get_or-append}
-use Rattle.std.proofs.Math.Seq.{get_or-append_right}
 use Rattle.sdt_word.specs.Numbers.{bit, bits}
 use Rattle.arm7_model.specs.declared.state.ArmState.{ArmState}
 use Rattle.arm7_model.specs.declared.state.Mode.{Mode}
 use Rattle.arm7_model.specs.declared.state.Mode.TheVariants as mode
-use Rattle.arm7_model.specs.Registers.{bank, AreWords, IsStatus, IsValid, register, with_register, with_pc, as_pc, with_result, operand_at, stored_at, is_thumb, has_mode, bank_in, mode_in, saved, with_saved, with_cpsr, with_pair, with_high, with_other_high, restored, user_register, with_user_register, bank_after, visible_after, has_saved}
-use Rattle.arm7_model.specs.Arithmetic.{with_flags, zero_of}
-use Rattle.arm7_model.proofs.MemoryLemmas.{below_or_not}
+use Rattle.arm7_model.specs.Registers.{bank, AreWords, IsStatus, IsValid, register, with_register, with_pc, as_pc, with_result, operand_at, stored_at, is_thumb, has_mode, bank_in, mode_in, saved, with_saved, with_cpsr, with_pair, with_high, with_other_high, user_register, bank_after, visible_after}
+use Rattle.arm7_model.specs.Arithmetic.{with_flags}
 
 -- valid but for the pc in Thumb state
 pub record IsNearlyValid (s : ArmState) : Type 0 where
@@ -28,13 +25,32 @@ pub record IsNearlyValid (s : ArmState) : Type 0 where
 
 pub nearly : (s : ArmState) → IsValid s → IsNearlyValid s
 nearly s v = record {
-  visible = v.visible; high = v.high; r13 = v.r13; r14 = v.r14; no_r13 = v.no_r13; no_r14 = v.no_r14;
-  mode = v.mode; status = v.status; saved_count = v.saved_count; saved_status = v.saved_status }
+  visible = v.visible;
+  high = v.high;
+  r13 = v.r13;
+  r14 = v.r14;
+  no_r13 = v.no_r13;
+  no_r14 = v.no_r14;
+  mode = v.mode;
+  status = v.status;
+  saved_count = v.saved_count;
+  saved_status = v.saved_status;
+}
 
 pub whole : (s : ArmState) → IsNearlyValid s → (is_thumb s.cpsr ≡ true → slice_index s.r 15 % 2 ≡ 0) → IsValid s
 whole s v even = record {
-  visible = v.visible; high = v.high; r13 = v.r13; r14 = v.r14; no_r13 = v.no_r13; no_r14 = v.no_r14;
-  mode = v.mode; status = v.status; saved_count = v.saved_count; saved_status = v.saved_status; even = even }
+  visible = v.visible;
+  high = v.high;
+  r13 = v.r13;
+  r14 = v.r14;
+  no_r13 = v.no_r13;
+  no_r14 = v.no_r14;
+  mode = v.mode;
+  status = v.status;
+  saved_count = v.saved_count;
+  saved_status = v.saved_status;
+  even = even;
+}
 
 -- ---- lists of words
 
@@ -48,21 +64,31 @@ set-each P (x ∷ xs) (suc i) v (suc k) each pv = set-each P xs i v k (λ j. eac
 pub words-set : (n : ℕ) (xs : List ℕ) (i v : ℕ) → AreWords n xs → v < 2 ^ 32 → AreWords n (slice_set xs i v)
 words-set n xs i v w small = record {
   count = length-set xs i v ∙ w.count;
-  each = λ k. let P : ℕ → Type 0 = λ x. x < 2 ^ 32 in set-each P xs i v k w.each small }
+  each = λ k. let P : ℕ → Type 0 = λ x. x < 2 ^ 32 in set-each P xs i v k w.each small;
+}
 
 -- ---- one register
 
 pub nearly-register : (s : ArmState) (k v : ℕ) → IsNearlyValid s → v < 2 ^ 32 → IsNearlyValid (with_register s k v)
 unfolding with_register
 nearly-register s k v h small = record {
-  visible = words-set 16 s.r k v h.visible small; high = h.high; r13 = h.r13; r14 = h.r14; no_r13 = h.no_r13; no_r14 = h.no_r14;
-  mode = h.mode; status = h.status; saved_count = h.saved_count; saved_status = h.saved_status }
+  visible = words-set 16 s.r k v h.visible small;
+  high = h.high;
+  r13 = h.r13;
+  r14 = h.r14;
+  no_r13 = h.no_r13;
+  no_r14 = h.no_r14;
+  mode = h.mode;
+  status = h.status;
+  saved_count = h.saved_count;
+  saved_status = h.saved_status;
+}
 
 pub valid-register : (s : ArmState) (k v : ℕ) → IsValid s → v < 2 ^ 32 → k ≢ 15 → IsValid (with_register s k v)
 unfolding with_register
 valid-register s k v h small other =
     whole (with_register s k v) (nearly-register s k v (nearly s h) small)
-      (λ t. let same : slice_index (slice_set s.r k v) 15 ≡ slice_index s.r 15 = get_or-set_other s.r k 15 v 0 (λ e. other (sym e)) in rw same (h.even t))
+    (λ t. let same : slice_index (slice_set s.r k v) 15 ≡ slice_index s.r 15 = get_or-set_other s.r k 15 v 0 (λ e. other (sym e)) in rw same (h.even t))
 
 -- pc takes an even address, or any in ARM state
 pub valid-at : (s : ArmState) (v : ℕ) → IsNearlyValid s → v < 2 ^ 32 → (is_thumb s.cpsr ≡ true → v % 2 ≡ 0) → IsValid (with_register s 15 v)
@@ -71,7 +97,7 @@ valid-at s v h small even =
     let count = h.visible.count in
     let inside : 15 < length s.r = omega arith in
     whole (with_register s 15 v) (nearly-register s 15 v h small)
-      (λ t. let same : slice_index (slice_set s.r 15 v) 15 ≡ v = get_or-set_same s.r 15 v 0 inside in rw same (even t))
+    (λ t. let same : slice_index (slice_set s.r 15 v) 15 ≡ v = get_or-set_same s.r 15 v 0 inside in rw same (even t))
 
 as_pc-small : (status v : ℕ) → v < 2 ^ 32 → as_pc status v < 2 ^ 32
 unfolding as_pc
@@ -147,10 +173,17 @@ unfolding bank_in mode_in has_mode
 nearly-status s x h small low =
     let same = same-fields x s.cpsr low in
     record {
-      visible = h.visible; high = h.high; r13 = h.r13; r14 = h.r14;
-      no_r13 = rw same.0 h.no_r13; no_r14 = rw same.0 h.no_r14;
-      mode = rw same.0 h.mode; status = record { is_word = small; reserved = same.2 ∙ h.status.reserved };
-      saved_count = h.saved_count; saved_status = h.saved_status }
+      visible = h.visible;
+      high = h.high;
+      r13 = h.r13;
+      r14 = h.r14;
+      no_r13 = rw same.0 h.no_r13;
+      no_r14 = rw same.0 h.no_r14;
+      mode = rw same.0 h.mode;
+      status = record { is_word = small; reserved = same.2 ∙ h.status.reserved };
+      saved_count = h.saved_count;
+      saved_status = h.saved_status;
+    }
 
 pub valid-status : (s : ArmState) (x : ℕ) → IsValid s → x < 2 ^ 32 → x % 2 ^ 28 ≡ s.cpsr % 2 ^ 28 → IsValid (record s { cpsr = x })
 unfolding is_thumb
@@ -179,7 +212,6 @@ each-drop P zero xs k z h = h k
 each-drop P (suc n) [] k z h = z
 each-drop P (suc n) (x ∷ xs) k z h = each-drop P n xs k z (λ j. h (suc j))
 
-
 visible-swapped : (r high : List ℕ) → AreWords 16 r → AreWords 5 high → AreWords 16 (take 8 r ++ (high ++ drop 13 r))
 visible-swapped r high hr hh =
     let nr = hr.count in let nh = hh.count in
@@ -187,8 +219,9 @@ visible-swapped r high hr hh =
     record {
       count = omega (arith, length-append (take 8 r) (high ++ drop 13 r), length-append high (drop 13 r), length-take-le 8 r (omega arith), length-drop 13 r);
       each = λ k. each-append P (take 8 r) (high ++ drop 13 r) k
-        (λ j. each-take P 8 r j (omega arith) hr.each)
-        (λ j. each-append P high (drop 13 r) j hh.each (λ i. each-drop P 13 r i (omega arith) hr.each)) }
+          (λ j. each-take P 8 r j (omega arith) hr.each)
+          (λ j. each-append P high (drop 13 r) j hh.each (λ i. each-drop P 13 r i (omega arith) hr.each));
+    }
 
 high-swapped : (r : List ℕ) → AreWords 16 r → AreWords 5 (take 5 (drop 8 r))
 high-swapped r hr =
@@ -196,7 +229,8 @@ high-swapped r hr =
     let P : ℕ → Type 0 = λ x. x < 2 ^ 32 in
     record {
       count = length-take-le 5 (drop 8 r) (omega (arith, length-drop 8 r));
-      each = λ k. each-take P 5 (drop 8 r) k (omega arith) (λ j. each-drop P 8 r j (omega arith) hr.each) }
+      each = λ k. each-take P 5 (drop 8 r) k (omega arith) (λ j. each-drop P 8 r j (omega arith) hr.each);
+    }
 
 -- the registers and their banks as words, whatever the mode
 pub record AreBanked (s : ArmState) : Type 0 where
@@ -216,8 +250,14 @@ banked-high from to s h = go (from == 1) (to == 1)
   where
     swapped : AreBanked (record s { r = take 8 s.r ++ (s.banks.high ++ drop 13 s.r); banks = record s.banks { high = take 5 (drop 8 s.r) } })
     swapped = record {
-      visible = visible-swapped s.r s.banks.high h.visible h.high; high = high-swapped s.r h.visible; r13 = h.r13; r14 = h.r14;
-      saved_count = h.saved_count; saved_status = h.saved_status }
+      visible = visible-swapped s.r s.banks.high h.visible h.high;
+      high = high-swapped s.r h.visible;
+      r13 = h.r13;
+      r14 = h.r14;
+      saved_count = h.saved_count;
+      saved_status = h.saved_status;
+    }
+
     go : (f t : Bool) → AreBanked (if f then (if t then s else with_other_high s) else (if t then with_other_high s else s))
     go true true = h
     go true false = swapped
@@ -228,13 +268,14 @@ banked-pair : (from to : ℕ) (s : ArmState) → AreBanked s → AreBanked (with
 unfolding with_pair
 banked-pair from to s h = record {
   visible = words-set 16 (slice_set s.r 13 (visible_after from to (slice_index s.r 13) s.banks.r13)) 14 (visible_after from to (slice_index s.r 14) s.banks.r14)
-    (words-set 16 s.r 13 (visible_after from to (slice_index s.r 13) s.banks.r13) h.visible ((words-set 6 s.banks.r13 from (slice_index s.r 13) h.r13 (h.visible.each 13)).each to))
-    ((words-set 6 s.banks.r14 from (slice_index s.r 14) h.r14 (h.visible.each 14)).each to);
+      (words-set 16 s.r 13 (visible_after from to (slice_index s.r 13) s.banks.r13) h.visible ((words-set 6 s.banks.r13 from (slice_index s.r 13) h.r13 (h.visible.each 13)).each to))
+      ((words-set 6 s.banks.r14 from (slice_index s.r 14) h.r14 (h.visible.each 14)).each to);
   high = h.high;
   r13 = words-set 6 (slice_set s.banks.r13 from (slice_index s.r 13)) to 0 (words-set 6 s.banks.r13 from (slice_index s.r 13) h.r13 (h.visible.each 13)) (omega arith);
   r14 = words-set 6 (slice_set s.banks.r14 from (slice_index s.r 14)) to 0 (words-set 6 s.banks.r14 from (slice_index s.r 14) h.r14 (h.visible.each 14)) (omega arith);
   saved_count = h.saved_count;
-  saved_status = h.saved_status }
+  saved_status = h.saved_status;
+}
 
 bank-lt : (m : Mode) → bank m < 6
 bank-lt mode.User = omega arith
@@ -261,19 +302,34 @@ nearly-cpsr s x h status mode =
     let hf = banked-high from to s h in
     let hp = banked-pair from to first hf in
     record {
-      visible = hp.visible; high = hp.high; r13 = hp.r13; r14 = hp.r14;
+      visible = hp.visible;
+      high = hp.high;
+      r13 = hp.r13;
+      r14 = hp.r14;
       no_r13 = left-zero from to (slice_index first.r 13) first.banks.r13 hf.r13.count (bank_in-lt x);
       no_r14 = left-zero from to (slice_index first.r 14) first.banks.r14 hf.r14.count (bank_in-lt x);
-      mode = mode; status = status; saved_count = hp.saved_count; saved_status = hp.saved_status }
+      mode = mode;
+      status = status;
+      saved_count = hp.saved_count;
+      saved_status = hp.saved_status;
+    }
 
 -- ---- SPSR
 
 pub nearly-saved : (s : ArmState) (x : ℕ) → IsNearlyValid s → IsStatus x → IsNearlyValid (with_saved s x)
 unfolding with_saved
 nearly-saved s x h status = record {
-  visible = h.visible; high = h.high; r13 = h.r13; r14 = h.r14; no_r13 = h.no_r13; no_r14 = h.no_r14;
-  mode = h.mode; status = h.status; saved_count = length-set s.spsr (bank_in s.cpsr - 1) x ∙ h.saved_count;
-  saved_status = λ k. set-each IsStatus s.spsr (bank_in s.cpsr - 1) x k h.saved_status status }
+  visible = h.visible;
+  high = h.high;
+  r13 = h.r13;
+  r14 = h.r14;
+  no_r13 = h.no_r13;
+  no_r14 = h.no_r14;
+  mode = h.mode;
+  status = h.status;
+  saved_count = length-set s.spsr (bank_in s.cpsr - 1) x ∙ h.saved_count;
+  saved_status = λ k. set-each IsStatus s.spsr (bank_in s.cpsr - 1) x k h.saved_status status;
+}
 
 pub valid-saved : (s : ArmState) (x : ℕ) → IsValid s → IsStatus x → IsValid (with_saved s x)
 unfolding with_saved
@@ -290,7 +346,7 @@ unfolding user_register
 user-small s k h = go (k == 13) (k == 14) (nat_lt k 8) (k == 15) (bank_in s.cpsr == 1)
   where
     go : (a b c d f : Bool) → (if a then slice_index s.banks.r13 0 else if b then slice_index s.banks.r14 0 else if c then stored_at s k else if d then stored_at s k
-      else if f then slice_index s.banks.high (k - 8) else register s k) < 2 ^ 32
+        else if f then slice_index s.banks.high (k - 8) else register s k) < 2 ^ 32
     go true b c d f = h.r13.each 0
     go false true c d f = h.r14.each 0
     go false false true d f = stored-small s k h

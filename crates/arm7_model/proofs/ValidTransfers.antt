@@ -1,8 +1,8 @@
 -- Loads and stores, of one and of several registers, leave valid states.
-use Rattle.std.proofs.Common.{◌≡◌, ◌≢◌, ℕ, zero, suc, ◌+◌, ◌-◌, ◌*◌, ◌/◌, ◌%◌, ◌^◌, ◌<◌, ◌≤◌, Bool, true, false, ◌==◌, ◌&&◌, ◌||◌, not, nat_lt, if◌then◌else◌, cond, List, [], ◌∷◌, length, get_or, refl, sym, ap, subst, ◌∙◌, arith, ◌⊎◌, inl, inr, mod-lt, get_or-set_other}
+use Rattle.std.proofs.Common.{◌≡◌, ◌≢◌, ℕ, zero, suc, ◌+◌, ◌-◌, ◌*◌, ◌/◌, ◌%◌, ◌^◌, ◌<◌, Bool, true, false, ◌==◌, ◌&&◌, not, nat_lt, if◌then◌else◌, List, [], ◌∷◌, length, refl, sym, ap, subst, ◌∙◌, arith, mod-lt, get_or-set_other}
 use Rattle.std.specs.Prelude.{slice_index, slice_set}
 use Rattle.std.proofs.lemmas.Bool.{eqb-false}
-use Rattle.sdt_word.specs.Numbers.{bit, bits, rotated, sign_extended, registers, places_from, kept}
+use Rattle.sdt_word.specs.Numbers.{bit, registers, places_from, kept}
 use Rattle.sdt_word.specs.Bytes.{bytes_of, number_of, load}
 use Rattle.sdt_word.specs.Codes.{bytes_in}
 use Rattle.sdt_word.proofs.BytesLemmas.{get_or-bytes_of-lt, word-lt}
@@ -11,13 +11,13 @@ use Rattle.sdt_word.specs.declared.codes.Width.{Width}
 use Rattle.sdt_word.specs.declared.codes.Width.TheVariants.{Byte, Half, Word}
 use Rattle.arm7_model.specs.declared.state.ArmState.{ArmState}
 use Rattle.arm7_model.specs.Memory.{Bytes, Board, in_memory, is_there, may_store, store}
-use Rattle.arm7_model.specs.Registers.{State, IsValid, IsValidState, register, with_register, with_pc, with_result, operand_at, stored_at, is_thumb, has_mode, bank_in, saved, restored, has_saved, with_user_register, user_register}
-use Rattle.arm7_model.specs.Accesses.{Access, Working, aligned, next_word, read_at, after_load, after_store, memory_after}
-use Rattle.arm7_model.specs.Outcomes.{Stepped, Under, ran, aborted, given_back}
+use Rattle.arm7_model.specs.Registers.{IsValid, IsValidState, register, with_register, with_result, operand_at, stored_at, is_thumb, has_mode, bank_in, saved, restored, with_user_register}
+use Rattle.arm7_model.specs.Accesses.{Working, aligned, next_word, read_at, after_load, after_store, memory_after}
+use Rattle.arm7_model.specs.Outcomes.{Under, ran, aborted, given_back}
 use Rattle.arm7_model.specs.Transfers.{moved_by, transfer_address, writes_back, with_base, loaded_value, load_end, loaded, stored, transferred, swapped}
 use Rattle.arm7_model.specs.Blocks.{lists, block_start, block_end, take_all, give_all, all_there, all_may_store, with_listed, listed_at, with_block_base, with_loaded_pc, take_end, block_loaded, block_stored, block_moved}
 use Rattle.arm7_model.proofs.MemoryLemmas.{bytes-store}
-use Rattle.arm7_model.proofs.ValidRegisters.{IsNearlyValid, nearly, whole, nearly-register, valid-register, valid-pc, valid-result, banked, nearly-cpsr, saved-status, register-small, operand-small, words-set}
+use Rattle.arm7_model.proofs.ValidRegisters.{IsNearlyValid, nearly, whole, nearly-register, valid-register, valid-pc, valid-result, banked, nearly-cpsr, saved-status, register-small, words-set}
 use Rattle.arm7_model.proofs.ValidEffects.{IsGood, ran-good, given_back-good, aborted-good, read-small}
 
 extended-small : (v n : ℕ) (b : Bool) → v < 2 ^ 32 → v + (2 ^ 32 - 2 ^ n) < 2 ^ 32 → (if b then v else v + (2 ^ 32 - 2 ^ n)) < 2 ^ 32
@@ -41,18 +41,21 @@ load_end-good u rd v w b g small = go (rd == 15 && not (v % 4 == 0))
     go false = ran-good (record w { core = with_result w.core rd v }) (record { core = valid-result w.core rd v g.core small; memory = g.memory })
 
 pub loaded-good : (u : Under) (signed : Bool) (width : Width) (a rd : ℕ) (core : ArmState) (w : Working) → IsValidState u.before → IsGood w → IsValid core
-  → IsValidState (loaded u signed width a rd core w).state
+    → IsValidState (loaded u signed width a rd core w).state
 unfolding loaded after_load
 loaded-good u signed width a rd core w b g hc = go (is_there u.board (aligned a (bytes_in width)) (bytes_in width))
   where
     at : ℕ
     at = aligned a (bytes_in width)
+
     v : ℕ
     v = loaded_value signed width a (read_at u.board w (aligned a (bytes_in width)) width)
+
     small : loaded_value signed width a (read_at u.board w (aligned a (bytes_in width)) width) < 2 ^ 32
     small = loaded-small signed width a (read_at u.board w (aligned a (bytes_in width)) width) (read-small u.board w (aligned a (bytes_in width)) width g)
+
     go : (c : Bool) → IsValidState (if c then load_end u rd (loaded_value signed width a (read_at u.board w (aligned a (bytes_in width)) width)) (record (after_load u.board w (aligned a (bytes_in width)) width) { core = core })
-      else aborted u w).state
+        else aborted u w).state
     go true = load_end-good u rd _ (record (after_load u.board w (aligned a (bytes_in width)) width) { core = core }) b (record { core = hc; memory = g.memory }) small
     go false = aborted-good u w b g
 
@@ -65,13 +68,13 @@ memory-bytes board m a width v h x = go (in_memory board a (bytes_in width))
     go false = h x
 
 pub stored-good : (u : Under) (width : Width) (a rd : ℕ) (core : ArmState) (w : Working) → IsValidState u.before → IsGood w → IsValid core
-  → IsValidState (stored u width a rd core w).state
+    → IsValidState (stored u width a rd core w).state
 unfolding stored after_store
 stored-good u width a rd core w b g hc = go (may_store u.board (aligned a (bytes_in width)) (bytes_in width))
   where
     go : (c : Bool) → IsValidState (if c then ran (record (after_store u.board w (aligned a (bytes_in width)) width (stored_at w.core rd)) { core = core }) else aborted u w).state
     go true = ran-good (record (after_store u.board w (aligned a (bytes_in width)) width (stored_at w.core rd)) { core = core })
-      (record { core = hc; memory = memory-bytes u.board w.memory (aligned a (bytes_in width)) width (stored_at w.core rd) g.memory })
+        (record { core = hc; memory = memory-bytes u.board w.memory (aligned a (bytes_in width)) width (stored_at w.core rd) g.memory })
     go false = aborted-good u w b g
 
 moved-small : (up : Bool) (base offset : ℕ) → moved_by up base offset < 2 ^ 32
@@ -88,14 +91,15 @@ base-valid pre up write_back rn offset s h other = go (writes_back pre write_bac
     go false e = h
 
 pub transferred-good : (u : Under) (load signed pre up write_back : Bool) (width : Width) (rn rd offset : ℕ) (w : Working) → IsValidState u.before → IsGood w
-  → (writes_back pre write_back ≡ true → rn ≢ 15) → IsValidState (transferred u load signed pre up write_back width rn rd offset w).state
+    → (writes_back pre write_back ≡ true → rn ≢ 15) → IsValidState (transferred u load signed pre up write_back width rn rd offset w).state
 unfolding transferred
 transferred-good u load signed pre up write_back width rn rd offset w b g other = go load
   where
     core : IsValid (with_base pre up write_back rn offset w.core)
     core = base-valid pre up write_back rn offset w.core g.core other
+
     go : (c : Bool) → IsValidState (if c then loaded u signed width (transfer_address pre up (operand_at w.core rn) offset) rd (with_base pre up write_back rn offset w.core) w
-      else stored u width (transfer_address pre up (operand_at w.core rn) offset) rd (with_base pre up write_back rn offset w.core) w).state
+        else stored u width (transfer_address pre up (operand_at w.core rn) offset) rd (with_base pre up write_back rn offset w.core) w).state
     go true = loaded-good u signed width (transfer_address pre up (operand_at w.core rn) offset) rd (with_base pre up write_back rn offset w.core) w b g core
     go false = stored-good u width (transfer_address pre up (operand_at w.core rn) offset) rd (with_base pre up write_back rn offset w.core) w b g core
 
@@ -107,9 +111,10 @@ swapped-good u width rn rd rm w b g other = go (may_store u.board (aligned (regi
         { core = with_register w.core rd (loaded_value false width (register w.core rn) (read_at u.board w (aligned (register w.core rn) (bytes_in width)) width)) }) else aborted u w).state
     go true = ran-good (record (after_store u.board (after_load u.board w (aligned (register w.core rn) (bytes_in width)) width) (aligned (register w.core rn) (bytes_in width)) width (register w.core rm))
         { core = with_register w.core rd (loaded_value false width (register w.core rn) (read_at u.board w (aligned (register w.core rn) (bytes_in width)) width)) })
-      (record {
-        core = valid-register w.core rd _ g.core (loaded-small false width (register w.core rn) _ (read-small u.board w (aligned (register w.core rn) (bytes_in width)) width g)) other;
-        memory = memory-bytes u.board w.memory (aligned (register w.core rn) (bytes_in width)) width (register w.core rm) g.memory })
+        (record {
+          core = valid-register w.core rd _ g.core (loaded-small false width (register w.core rn) _ (read-small u.board w (aligned (register w.core rn) (bytes_in width)) width g)) other;
+          memory = memory-bytes u.board w.memory (aligned (register w.core rn) (bytes_in width)) width (register w.core rm) g.memory;
+        })
     go false = aborted-good u w b g
 
 -- ---- several registers
@@ -125,6 +130,7 @@ places-set k (suc n) v = go (bit v k) refl (places-set (suc k) n v)
   where
     one : (b : ℕ) → bit v k ≡ suc b → bit v k ≡ 1
     one b e = let two : 0 < 2 = omega arith in let small : v / 2 ^ k % 2 < 2 = mod-lt (v / 2 ^ k) two in omega arith
+
     go : (b : ℕ) → bit v k ≡ b → AllIn (λ j. bit v j ≡ 1) (places_from (suc k) n v) → AllIn (λ j. bit v j ≡ 1) (kept b k (places_from (suc k) n v))
     go zero e h = h
     go (suc b) e h = (one b e, h)
@@ -139,24 +145,49 @@ user-nearly s k v h small other = go (k == 13) (k == 14) (nat_lt k 8) (bank_in s
   where
     plain : IsNearlyValid (with_register s k v)
     plain = nearly-register s k v h small
+
     go : (a b c d : Bool) → IsNearlyValid (
-      if a then record s { banks = record s.banks { r13 = slice_set s.banks.r13 0 v } } else
-      if b then record s { banks = record s.banks { r14 = slice_set s.banks.r14 0 v } } else
-      if c then with_register s k v else
-      if d then record s { banks = record s.banks { high = slice_set s.banks.high (k - 8) v } } else with_register s k v)
+        if a then record s { banks = record s.banks { r13 = slice_set s.banks.r13 0 v } } else
+        if b then record s { banks = record s.banks { r14 = slice_set s.banks.r14 0 v } } else
+        if c then with_register s k v else
+        if d then record s { banks = record s.banks { high = slice_set s.banks.high (k - 8) v } } else with_register s k v)
     go true b c d = record {
-      visible = h.visible; high = h.high; r13 = words-set 6 s.banks.r13 0 v h.r13 small; r14 = h.r14;
-      no_r13 = get_or-set_other s.banks.r13 0 (bank_in s.cpsr) v 0 other ∙ h.no_r13; no_r14 = h.no_r14;
-      mode = h.mode; status = h.status; saved_count = h.saved_count; saved_status = h.saved_status }
+      visible = h.visible;
+      high = h.high;
+      r13 = words-set 6 s.banks.r13 0 v h.r13 small;
+      r14 = h.r14;
+      no_r13 = get_or-set_other s.banks.r13 0 (bank_in s.cpsr) v 0 other ∙ h.no_r13;
+      no_r14 = h.no_r14;
+      mode = h.mode;
+      status = h.status;
+      saved_count = h.saved_count;
+      saved_status = h.saved_status;
+    }
     go false true c d = record {
-      visible = h.visible; high = h.high; r13 = h.r13; r14 = words-set 6 s.banks.r14 0 v h.r14 small;
-      no_r13 = h.no_r13; no_r14 = get_or-set_other s.banks.r14 0 (bank_in s.cpsr) v 0 other ∙ h.no_r14;
-      mode = h.mode; status = h.status; saved_count = h.saved_count; saved_status = h.saved_status }
+      visible = h.visible;
+      high = h.high;
+      r13 = h.r13;
+      r14 = words-set 6 s.banks.r14 0 v h.r14 small;
+      no_r13 = h.no_r13;
+      no_r14 = get_or-set_other s.banks.r14 0 (bank_in s.cpsr) v 0 other ∙ h.no_r14;
+      mode = h.mode;
+      status = h.status;
+      saved_count = h.saved_count;
+      saved_status = h.saved_status;
+    }
     go false false true d = plain
     go false false false true = record {
-      visible = h.visible; high = words-set 5 s.banks.high (k - 8) v h.high small; r13 = h.r13; r14 = h.r14;
-      no_r13 = h.no_r13; no_r14 = h.no_r14;
-      mode = h.mode; status = h.status; saved_count = h.saved_count; saved_status = h.saved_status }
+      visible = h.visible;
+      high = words-set 5 s.banks.high (k - 8) v h.high small;
+      r13 = h.r13;
+      r14 = h.r14;
+      no_r13 = h.no_r13;
+      no_r14 = h.no_r14;
+      mode = h.mode;
+      status = h.status;
+      saved_count = h.saved_count;
+      saved_status = h.saved_status;
+    }
     go false false false false = plain
 
 -- what a listed register's write keeps
@@ -170,10 +201,10 @@ listed-keeps false s k v = record { cpsr = refl; spsr = refl }
 listed-keeps true s k v = go (k == 13) (k == 14) (nat_lt k 8) (bank_in s.cpsr == 1)
   where
     go : (a b c d : Bool) → Keeps s (
-      if a then record s { banks = record s.banks { r13 = slice_set s.banks.r13 0 v } } else
-      if b then record s { banks = record s.banks { r14 = slice_set s.banks.r14 0 v } } else
-      if c then with_register s k v else
-      if d then record s { banks = record s.banks { high = slice_set s.banks.high (k - 8) v } } else with_register s k v)
+        if a then record s { banks = record s.banks { r13 = slice_set s.banks.r13 0 v } } else
+        if b then record s { banks = record s.banks { r14 = slice_set s.banks.r14 0 v } } else
+        if c then with_register s k v else
+        if d then record s { banks = record s.banks { high = slice_set s.banks.high (k - 8) v } } else with_register s k v)
     go true b c d = record { cpsr = refl; spsr = refl }
     go false true c d = record { cpsr = refl; spsr = refl }
     go false false true d = record { cpsr = refl; spsr = refl }
@@ -187,11 +218,12 @@ listed-pc true s k v other = go (k == 13) (k == 14) (nat_lt k 8) (bank_in s.cpsr
   where
     set : slice_index (slice_set s.r k v) 15 ≡ slice_index s.r 15
     set = get_or-set_other s.r k 15 v 0 (λ e. other (sym e))
+
     go : (a b c d : Bool) → slice_index (
-      if a then record s { banks = record s.banks { r13 = slice_set s.banks.r13 0 v } } else
-      if b then record s { banks = record s.banks { r14 = slice_set s.banks.r14 0 v } } else
-      if c then with_register s k v else
-      if d then record s { banks = record s.banks { high = slice_set s.banks.high (k - 8) v } } else with_register s k v).r 15 ≡ slice_index s.r 15
+        if a then record s { banks = record s.banks { r13 = slice_set s.banks.r13 0 v } } else
+        if b then record s { banks = record s.banks { r14 = slice_set s.banks.r14 0 v } } else
+        if c then with_register s k v else
+        if d then record s { banks = record s.banks { high = slice_set s.banks.high (k - 8) v } } else with_register s k v).r 15 ≡ slice_index s.r 15
     go true b c d = refl
     go false true c d = refl
     go false false true d = set
@@ -219,7 +251,7 @@ pub record IsNearlyGood (start : ArmState) (w : Working) : Type 0 where
   pub spsr : w.core.spsr ≡ start.spsr
 
 take_all-good : (board : Board) (user : Bool) (ks : List ℕ) (a : ℕ) (start : ArmState) (w : Working) → IsNearlyGood start w → (user ≡ true → bank_in start.cpsr ≢ 0)
-  → IsNearlyGood start (take_all board user ks a w)
+    → IsNearlyGood start (take_all board user ks a w)
 unfolding after_load read_at
 take_all-good board user [] a start w h other = h
 take_all-good board user (k ∷ ks) a start w h other =
@@ -228,11 +260,12 @@ take_all-good board user (k ∷ ks) a start w h other =
     let Bank : ℕ → Type 0 = λ c. user ≡ true → bank_in c ≢ 0 in
     let keeps = listed-keeps user w.core k v in
     take_all-good board user ks (next_word a) start next
-      (record {
-        core = listed-nearly user w.core k v h.core (read-word board w a h.memory) (subst Bank (sym h.cpsr) other);
-        memory = h.memory;
-        cpsr = keeps.cpsr ∙ h.cpsr;
-        spsr = keeps.spsr ∙ h.spsr }) other
+    (record {
+      core = listed-nearly user w.core k v h.core (read-word board w a h.memory) (subst Bank (sym h.cpsr) other);
+      memory = h.memory;
+      cpsr = keeps.cpsr ∙ h.cpsr;
+      spsr = keeps.spsr ∙ h.spsr;
+    }) other
 
 take_all-pc : (board : Board) (user : Bool) (ks : List ℕ) (a : ℕ) (w : Working) → AllIn (λ j. j ≢ 15) ks → slice_index (take_all board user ks a w).core.r 15 ≡ slice_index w.core.r 15
 unfolding after_load read_at
@@ -242,7 +275,7 @@ take_all-pc board user (k ∷ ks) a w (first, all) =
     ∙ listed-pc user w.core k (read_at board w a Word) first
 
 give_all-bytes : (board : Board) (user : Bool) (core : ArmState) (ks : List ℕ) (a : ℕ) (w : Working) → ((x : ℕ) → w.memory x < 256)
-  → ((x : ℕ) → (give_all board user core ks a w).memory x < 256) × ((give_all board user core ks a w).core ≡ w.core)
+    → ((x : ℕ) → (give_all board user core ks a w).memory x < 256) × ((give_all board user core ks a w).core ≡ w.core)
 unfolding after_store
 give_all-bytes board user core [] a w h = (h, refl)
 give_all-bytes board user core (k ∷ ks) a w h =
@@ -269,67 +302,78 @@ loaded_pc-valid false s h mode = valid-pc s (register s 15) h (register-small s 
 
 -- the whole block: a base other than pc; with ^ a mode with an SPSR and, with pc, one of a mode
 pub block_moved-good : (u : Under) (thumb load pre up user write_back : Bool) (rn list : ℕ) (w : Working) → IsValidState u.before → IsGood w → rn ≢ 15
-  → (user ≡ true → bank_in w.core.cpsr ≢ 0) → (user ≡ true → load ≡ true → lists list 15 ≡ true → has_mode (saved w.core) ≡ true)
-  → IsValidState (block_moved u thumb load pre up user write_back rn list w).state
+    → (user ≡ true → bank_in w.core.cpsr ≢ 0) → (user ≡ true → load ≡ true → lists list 15 ≡ true → has_mode (saved w.core) ≡ true)
+    → IsValidState (block_moved u thumb load pre up user write_back rn list w).state
 unfolding block_moved block_loaded block_stored take_end saved
 block_moved-good u thumb load pre up user write_back rn list w b g other banks mode = go load refl
   where
     ks : List ℕ
     ks = registers 16 list
+
     end : ℕ
     end = block_end up (register w.core rn) (length (registers 16 list))
+
     based : IsValid (with_block_base write_back rn (block_end up (register w.core rn) (length (registers 16 list))) w.core)
     based = block_base-valid write_back rn (block_end up (register w.core rn) (length (registers 16 list))) w.core g.core (end-small up (register w.core rn) (length (registers 16 list))) other
+
     begun : IsNearlyGood w.core (record w { core = with_block_base write_back rn (block_end up (register w.core rn) (length (registers 16 list))) w.core })
     begun =
         let keeps = block_base-keeps write_back rn (block_end up (register w.core rn) (length (registers 16 list))) w.core in
         record { core = nearly _ based; memory = g.memory; cpsr = keeps.cpsr; spsr = keeps.spsr }
+
     ended : (l : Bool) → lists list 15 ≡ l → (x : Working) → IsNearlyGood w.core x
-      → (l ≡ false → slice_index x.core.r 15 ≡ slice_index (with_block_base write_back rn (block_end up (register w.core rn) (length (registers 16 list))) w.core).r 15)
-      → load ≡ true
-      → IsValidState (if not l then ran x else if not thumb && (not user && not (register x.core 15 % 4 == 0)) then given_back u x else ran (record x { core = with_loaded_pc user x.core })).state
+        → (l ≡ false → slice_index x.core.r 15 ≡ slice_index (with_block_base write_back rn (block_end up (register w.core rn) (length (registers 16 list))) w.core).r 15)
+        → load ≡ true
+        → IsValidState (if not l then ran x else if not thumb && (not user && not (register x.core 15 % 4 == 0)) then given_back u x else ran (record x { core = with_loaded_pc user x.core })).state
     ended false e x h pc_same loads =
         let keeps = block_base-keeps write_back rn (block_end up (register w.core rn) (length (registers 16 list))) w.core in
         let Thumb : ℕ → Type 0 = λ c. is_thumb c ≡ true in
         ran-good x (record {
           core = whole x.core h.core (λ t. let same = pc_same refl in rw same (based.even (subst Thumb (h.cpsr ∙ sym keeps.cpsr) t)));
-          memory = h.memory })
+          memory = h.memory;
+        })
     ended true e x h pc_same loads = pick (not thumb && (not user && not (register x.core 15 % 4 == 0)))
       where
         mode_kept : user ≡ true → has_mode (slice_index x.core.spsr (bank_in x.core.cpsr - 1)) ≡ true
         mode_kept is_user =
             let Of : ArmState → Type 0 = λ s. has_mode (slice_index s.spsr (bank_in s.cpsr - 1)) ≡ true in
             rw (h.spsr, h.cpsr) (mode is_user loads e)
+
         pick : (c : Bool) → IsValidState (if c then given_back u x else ran (record x { core = with_loaded_pc user x.core })).state
         pick true = given_back-good u x b
         pick false = ran-good (record x { core = with_loaded_pc user x.core }) (record { core = loaded_pc-valid user x.core h.core mode_kept; memory = h.memory })
+
     go : (l : Bool) → load ≡ l → IsValidState (if l
-      then (if all_there u.board (registers 16 list) (aligned (block_start pre up (register w.core rn) (length (registers 16 list))) 4)
+        then (if all_there u.board (registers 16 list) (aligned (block_start pre up (register w.core rn) (length (registers 16 list))) 4)
         then take_end u thumb user (lists list 15) (take_all u.board (user && not (lists list 15)) (registers 16 list) (aligned (block_start pre up (register w.core rn) (length (registers 16 list))) 4)
-          (record w { core = with_block_base write_back rn (block_end up (register w.core rn) (length (registers 16 list))) w.core }))
+        (record w { core = with_block_base write_back rn (block_end up (register w.core rn) (length (registers 16 list))) w.core }))
         else aborted u w)
-      else (if all_may_store u.board (registers 16 list) (aligned (block_start pre up (register w.core rn) (length (registers 16 list))) 4)
+        else (if all_may_store u.board (registers 16 list) (aligned (block_start pre up (register w.core rn) (length (registers 16 list))) 4)
         then ran (give_all u.board user w.core (registers 16 list) (aligned (block_start pre up (register w.core rn) (length (registers 16 list))) 4)
-          (record w { core = with_block_base write_back rn (block_end up (register w.core rn) (length (registers 16 list))) w.core }))
+        (record w { core = with_block_base write_back rn (block_end up (register w.core rn) (length (registers 16 list))) w.core }))
         else aborted u w)).state
     go true loads = try (all_there u.board (registers 16 list) (aligned (block_start pre up (register w.core rn) (length (registers 16 list))) 4))
       where
         a : ℕ
         a = aligned (block_start pre up (register w.core rn) (length (registers 16 list))) 4
+
         begin : Working
         begin = record w { core = with_block_base write_back rn (block_end up (register w.core rn) (length (registers 16 list))) w.core }
+
         only_user : (user && not (lists list 15)) ≡ true → bank_in w.core.cpsr ≢ 0
         only_user h = banks (and_first user (not (lists list 15)) h)
           where
             and_first : (x y : Bool) → (x && y) ≡ true → x ≡ true
             and_first true y h = refl
             and_first false y h = cc
+
         taken : IsNearlyGood w.core (take_all u.board (user && not (lists list 15)) (registers 16 list) (aligned (block_start pre up (register w.core rn) (length (registers 16 list))) 4)
-          (record w { core = with_block_base write_back rn (block_end up (register w.core rn) (length (registers 16 list))) w.core }))
+            (record w { core = with_block_base write_back rn (block_end up (register w.core rn) (length (registers 16 list))) w.core }))
         taken = take_all-good u.board (user && not (lists list 15)) (registers 16 list) _ w.core _ begun only_user
+
         try : (c : Bool) → IsValidState (if c
             then take_end u thumb user (lists list 15) (take_all u.board (user && not (lists list 15)) (registers 16 list) (aligned (block_start pre up (register w.core rn) (length (registers 16 list))) 4)
-              (record w { core = with_block_base write_back rn (block_end up (register w.core rn) (length (registers 16 list))) w.core }))
+            (record w { core = with_block_base write_back rn (block_end up (register w.core rn) (length (registers 16 list))) w.core }))
             else aborted u w).state
         try true = ended (lists list 15) refl _ taken (λ none. take_all-pc u.board (user && not (lists list 15)) (registers 16 list) _ _ (not-pc list (registers 16 list) none (places-set 0 16 list))) loads
         try false = aborted-good u w b g
@@ -337,11 +381,11 @@ block_moved-good u thumb load pre up user write_back rn list w b g other banks m
       where
         try : (c : Bool) → IsValidState (if c
             then ran (give_all u.board user w.core (registers 16 list) (aligned (block_start pre up (register w.core rn) (length (registers 16 list))) 4)
-              (record w { core = with_block_base write_back rn (block_end up (register w.core rn) (length (registers 16 list))) w.core }))
+            (record w { core = with_block_base write_back rn (block_end up (register w.core rn) (length (registers 16 list))) w.core }))
             else aborted u w).state
         try true =
             let both = give_all-bytes u.board user w.core (registers 16 list) (aligned (block_start pre up (register w.core rn) (length (registers 16 list))) 4)
-              (record w { core = with_block_base write_back rn (block_end up (register w.core rn) (length (registers 16 list))) w.core }) g.memory in
+            (record w { core = with_block_base write_back rn (block_end up (register w.core rn) (length (registers 16 list))) w.core }) g.memory in
             let Valid : ArmState → Type 0 = IsValid in
             ran-good _ (record { core = subst Valid (sym both.1) based; memory = both.0 })
         try false = aborted-good u w b g
