@@ -1,6 +1,6 @@
 -- An AIF's start: its header, what its relocator and its zero-init code make of the image, and in how
 -- many steps (SDT 2.50 Reference Guide, ARM Image Format; the code and its counts are this project's).
-use Rattle.std.specs.Prelude.{◌≡◌, ◌≢◌, ℕ, zero, suc, ◌+◌, ◌-◌, ◌*◌, ◌/◌, ◌%◌, ◌^◌, ◌<◌, ◌≤◌, ◌==◌, ◌||◌, Bool, if◌then◌else◌, List, [], ◌∷◌, ◌++◌, length, Option, Some, None, slice_index}
+use Rattle.std.specs.Prelude.{◌≡◌, ◌≢◌, ℕ, ◌+◌, ◌-◌, ◌*◌, ◌/◌, ◌%◌, ◌^◌, ◌<◌, ◌≤◌, ◌==◌, ◌||◌, Bool, if◌then◌else◌, List, [], ◌∷◌, ◌++◌, length, Some, None, slice_index}
 use Rattle.sdt_word.specs.Bytes.{bytes_of, word}
 use Rattle.arm7_model.specs.Memory.{Bytes, Board, store}
 use Rattle.arm7_model.specs.Registers.{State}

@@ -43,5 +43,4 @@ pub fn fixed_aif_is_exact()
     ensures by_veneer { FixedAifVeneerIsExact }
     ensures in_arm_within_the_bound { FixedAifBoots }
     ensures by_veneer_within_the_bound { FixedAifVeneerBoots }
-{
-}
+{}

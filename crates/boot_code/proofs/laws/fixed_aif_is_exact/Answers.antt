@@ -6,4 +6,5 @@ returns c = record {
   in_arm = AifImage.fixed_aif_is_exact;
   by_veneer = AifImage.fixed_aif_veneer_is_exact;
   in_arm_within_the_bound = AifImage.fixed_aif_boots;
-  by_veneer_within_the_bound = AifImage.fixed_aif_veneer_boots }
+  by_veneer_within_the_bound = AifImage.fixed_aif_veneer_boots;
+}
