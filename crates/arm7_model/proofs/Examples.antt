@@ -11,7 +11,7 @@ use Rattle.thumb_isa.specs.declared.instr.ThumbOperation.TheVariants as neg
 use Rattle.arm7_model.specs.declared.event.Event.TheVariants as event
 use Rattle.arm7_model.specs.declared.event.Exception.TheVariants as exception
 use Rattle.arm7_model.specs.Memory.{Board, Bytes}
-use Rattle.arm7_model.specs.Registers.{State, register}
+use Rattle.arm7_model.specs.Registers.{State, register, saved}
 use Rattle.arm7_model.specs.Accesses.{Fetch, Store}
 use Rattle.arm7_model.specs.Outcomes.{Stepped}
 use Rattle.arm7_model.specs.Step.{Levels, Instruction, Arm, Thumb, Unread, stepped}
@@ -259,3 +259,14 @@ irq_masked = refl
 fiq_first : (stepped board (start 0 0 0 0x13) both [] Unread).state.core.cpsr ≡ 0xD1
 unfolding step_opens
 fiq_first = refl
+
+-- an exception saves CPSR in the SPSR of its mode
+entry_saves_status : saved (does (start 0 0 0 0x60000010) (Arm (arm.SoftwareInterrupt condition.Al 5))).state.core ≡ 0x60000010
+unfolding step_opens
+entry_saves_status = refl
+
+-- STM with ^ stores user mode's r13
+user_register_stored : (does (start 7 0x300 0 0xD3) (Arm (arm.TransferBlock condition.Al false true true false false 1 0x2000))).accesses
+    ≡ Fetch 0x8000 width.Word ∷ Store 0x300 width.Word 0x130 ∷ []
+unfolding step_opens
+user_register_stored = refl

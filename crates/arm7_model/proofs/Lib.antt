@@ -8,3 +8,7 @@ pub mod TransferLemmas
 pub mod StepLaws
 pub mod ValidRegisters
 pub mod ValidValues
+pub mod ValidEffects
+pub mod ValidTransfers
+pub mod ValidSteps
+pub mod ValidThumb

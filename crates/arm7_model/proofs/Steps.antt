@@ -1,24 +1,20 @@
 -- Steps of a processor in ARM state with both interrupts masked: a step is then what its instruction
 -- does, whatever the lines are. Runs of such steps join, and are runs by `After`.
-use Rattle.std.proofs.Common.{◌≡◌, ◌≢◌, ℕ, zero, suc, ◌+◌, ◌-◌, ◌*◌, ◌/◌, ◌%◌, ◌^◌, ◌<◌, ◌≤◌, Bool, true, false, ◌&&◌, ◌||◌, not, ◌==◌, List, [], ◌∷◌, ◌++◌, length, refl, sym, ap, subst, ◌∙◌, arith, cond}
-use Rattle.std.specs.Prelude.{slice_index, slice_set, IsTrue}
-use Rattle.sdt_word.specs.Numbers.{bit, bits, flag}
-use Rattle.sdt_word.specs.Bytes.{bytes_of, number_of, load, word}
-use Rattle.sdt_word.specs.Codes.{bytes_in}
+use Rattle.std.proofs.Common.{◌≡◌, ◌≢◌, ℕ, ◌+◌, ◌-◌, ◌%◌, ◌^◌, ◌<◌, ◌≤◌, Bool, true, false, ◌==◌, List, [], ◌∷◌, refl, sym, ◌∙◌, arith, cond}
+use Rattle.std.specs.Prelude.{slice_index, slice_set}
+use Rattle.sdt_word.specs.Numbers.{bit, flag}
+use Rattle.sdt_word.specs.Bytes.{word}
 use Rattle.sdt_word.specs.declared.codes.Width.TheVariants.{Word}
-use Rattle.sdt_word.specs.declared.codes.Condition.TheVariants as condition
 use Rattle.arm_isa.specs.declared.instr.ArmInstr.{ArmInstr}
 use Rattle.arm_isa.specs.ArmRows.{ReadsArm}
 use Rattle.arm7_model.specs.declared.state.ArmState.{ArmState}
-use Rattle.arm7_model.specs.declared.event.Event.TheVariants as event
-use Rattle.arm7_model.specs.Memory.{Bytes, Board, in_memory, is_there, all_from}
-use Rattle.arm7_model.specs.Registers.{State, is_thumb, register, with_register}
+use Rattle.arm7_model.specs.Memory.{Bytes, Board, in_memory}
+use Rattle.arm7_model.specs.Registers.{State}
 use Rattle.arm7_model.specs.Arithmetic.{with_flags, zero_of, sum_with, inverted}
-use Rattle.arm7_model.specs.Accesses.{Access, Fetch, Working}
-use Rattle.arm7_model.specs.Outcomes.{Stepped, Under}
+use Rattle.arm7_model.specs.Accesses.{Fetch, Working}
+use Rattle.arm7_model.specs.Outcomes.{Stepped}
 use Rattle.arm7_model.specs.ArmStep.{arm_done}
-use Rattle.arm7_model.specs.Step.{Levels, Step, Arm, stepped, interrupt, fetches, fetched}
-use Rattle.arm7_model.specs.Runs.{Input, After, stays, goes, first_of_inputs, later_inputs}
+use Rattle.arm7_model.specs.Step.{Levels, Step, Arm}
 use Rattle.arm7_model.proofs.MemoryLemmas.{not-eq}
 use Rattle.arm7_model.proofs.Opens.{step_opens}
 

@@ -1,15 +1,15 @@
 -- Loads and stores of whole words in memory: one of them, and several in a row.
-use Rattle.std.proofs.Common.{◌≡◌, ℕ, zero, suc, ◌+◌, ◌-◌, ◌*◌, ◌/◌, ◌%◌, ◌^◌, ◌<◌, ◌≤◌, Bool, true, false, ◌&&◌, ◌||◌, not, ◌==◌, List, [], ◌∷◌, ◌++◌, length, refl, sym, ap, ◌∙◌, arith, append_assoc, append-nil, div-one}
+use Rattle.std.proofs.Common.{◌≡◌, ℕ, zero, suc, ◌+◌, ◌-◌, ◌*◌, ◌%◌, ◌^◌, ◌<◌, ◌≤◌, Bool, true, false, ◌==◌, List, [], ◌∷◌, ◌++◌, length, refl, sym, ap, ◌∙◌, arith, append_assoc, append-nil}
 use Rattle.std.specs.Prelude.{map}
 use Rattle.sdt_word.specs.Numbers.{rotated}
-use Rattle.sdt_word.specs.Bytes.{bytes_of, number_of, load, word}
+use Rattle.sdt_word.specs.Bytes.{bytes_of, load, word}
 use Rattle.sdt_word.proofs.BytesLemmas.{length-load}
 use Rattle.sdt_word.specs.declared.codes.Width.TheVariants.{Word}
 use Rattle.arm7_model.specs.declared.state.ArmState.{ArmState}
-use Rattle.arm7_model.specs.Memory.{Bytes, Board, store, in_memory, is_there, may_store, all_from, any_from}
-use Rattle.arm7_model.specs.Registers.{with_register, with_result, stored_at, register}
+use Rattle.arm7_model.specs.Memory.{Bytes, Board, store, in_memory, is_there, may_store}
+use Rattle.arm7_model.specs.Registers.{with_register, with_result, stored_at}
 use Rattle.arm7_model.specs.Accesses.{Access, Load, Store, Working, next_word, read_at, answers_after, after_load, after_store, memory_after}
-use Rattle.arm7_model.specs.Outcomes.{Stepped, Under, ran}
+use Rattle.arm7_model.specs.Outcomes.{Under, ran}
 use Rattle.arm7_model.specs.Transfers.{loaded, stored, loaded_value, load_end}
 use Rattle.arm7_model.specs.Blocks.{take_end, block_loaded, block_stored, with_block_base, take_all, give_all, all_there, all_may_store, with_listed, listed_at}
 use Rattle.arm7_model.proofs.MemoryLemmas.{all-from, any-from, store-append, bytes_of-word, load-add}

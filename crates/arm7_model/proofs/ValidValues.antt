@@ -1,9 +1,8 @@
 -- The shifter and the operations give words, and carries and overflows of one bit.
-use Rattle.std.proofs.Common.{◌≡◌, ◌≢◌, ℕ, zero, suc, ◌+◌, ◌-◌, ◌*◌, ◌/◌, ◌%◌, ◌^◌, ◌<◌, ◌≤◌, Bool, true, false, ◌==◌, ◌&&◌, ◌||◌, not, nat_lt, min, bit_and, bit_or, bit_xor, if◌then◌else◌, cond, refl, sym, ap, subst, ◌∙◌, arith, mod-lt, pow_pos, div-le_self}
+use Rattle.std.proofs.Common.{ℕ, ◌+◌, ◌*◌, ◌/◌, ◌%◌, ◌^◌, ◌<◌, ◌≤◌, Bool, true, false, ◌==◌, min, bit_and, bit_or, bit_xor, if◌then◌else◌, arith, mod-lt, div-le_self}
 use Rattle.std.specs.Int.Bits.{and_lt}
 use Rattle.std.proofs.lemmas.Nat.{or_lt, xor_lt}
-use Rattle.std.proofs.lemmas.Bool.{eqb-false}
-use Rattle.sdt_word.specs.Numbers.{bit, bits, flag, rotated, operand, sign_extended}
+use Rattle.sdt_word.specs.Numbers.{bit, flag, operand}
 use Rattle.sdt_word.proofs.NumbersLemmas.{rotated-fits}
 use Rattle.sdt_word.specs.declared.codes.ShiftKind.{ShiftKind}
 use Rattle.sdt_word.specs.declared.codes.ShiftKind.TheVariants.{Lsl, Lsr, Asr, Ror}

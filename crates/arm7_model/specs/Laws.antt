@@ -1,7 +1,7 @@
 -- The laws of steps and runs, as the empty public functions state them. This project's.
 use Rattle.std.specs.Prelude.{◌≡◌, ℕ, ◌+◌, List, ◌++◌, drop}
 use Rattle.arm7_model.specs.Memory.{Board}
-use Rattle.arm7_model.specs.Registers.{State}
+use Rattle.arm7_model.specs.Registers.{State, IsValidState}
 use Rattle.arm7_model.specs.Accesses.{Access}
 use Rattle.arm7_model.specs.Outcomes.{Stepped}
 use Rattle.arm7_model.specs.Step.{Levels, Step}
@@ -24,3 +24,14 @@ abbrev pub RunIsOne : Type 0
 RunIsOne =
     (board : Board) (s t u : State) (n : ℕ) (inputs : List Input) (xs ys : List (List Access))
     → After board s n inputs xs t → After board s n inputs ys u → (t ≡ u) × (xs ≡ ys)
+
+-- a step leaves a valid state, and so does a run
+abbrev pub StepIsValid : Type 0
+StepIsValid =
+    (board : Board) (s : State) (lines : Levels) (answers : List ℕ) (t : Stepped)
+    → IsValidState s → Step board s lines answers t → IsValidState t.state
+
+abbrev pub RunIsValid : Type 0
+RunIsValid =
+    (board : Board) (s t : State) (n : ℕ) (inputs : List Input) (xs : List (List Access))
+    → IsValidState s → After board s n inputs xs t → IsValidState t

@@ -1,7 +1,7 @@
 //! The laws of steps and runs. Their calls do nothing; their contracts are the laws.
 
 ghost use Rattle.std.specs.Prelude.{◌≡◌};
-ghost use Rattle.arm7_model.specs.Laws.{RunIsOne, RunsJoin, StepIsOne};
+ghost use Rattle.arm7_model.specs.Laws.{RunIsOne, RunIsValid, RunsJoin, StepIsOne, StepIsValid};
 
 use arm_isa::arm_reading_law;
 use thumb_isa::thumb_reading_law;
@@ -26,3 +26,13 @@ pub fn run_is_one()
     arm_reading_law();
     thumb_reading_law();
 }
+
+/// A step leaves a valid state.
+pub fn step_is_valid()
+    ensures { StepIsValid }
+{}
+
+/// A run leaves a valid state.
+pub fn run_is_valid()
+    ensures { RunIsValid }
+{}

@@ -7,5 +7,5 @@ mod laws;
 mod state;
 
 pub use event::{Event, Exception};
-pub use laws::{run_is_one, runs_join, step_is_one};
+pub use laws::{run_is_one, run_is_valid, runs_join, step_is_one, step_is_valid};
 pub use state::{ArmState, Banks, Mode};

@@ -1,9 +1,9 @@
 -- A relocatable AIF boots from every address: its header's calls in turn, and the memory at the end.
-use Rattle.std.proofs.Common.{◌≡◌, ◌≢◌, ℕ, zero, suc, ◌+◌, ◌-◌, ◌*◌, ◌/◌, ◌%◌, ◌^◌, ◌<◌, ◌≤◌, Bool, true, false, ◌==◌, ◌&&◌, ◌||◌, nat_lt, nat_le, max, if◌then◌else◌, cond, List, [], ◌∷◌, ◌++◌, length, get_or, refl, sym, ap, subst, ◌∙◌, arith, ◌⊎◌, inl, inr, eqb-true, eq-eqb, Option, Some, None}
+use Rattle.std.proofs.Common.{◌≡◌, ◌≢◌, ℕ, suc, ◌+◌, ◌-◌, ◌*◌, ◌/◌, ◌%◌, ◌^◌, ◌<◌, ◌≤◌, Bool, true, false, ◌==◌, ◌||◌, max, if◌then◌else◌, cond, List, [], ◌∷◌, ◌++◌, length, refl, sym, ap, subst, ◌∙◌, arith, ◌⊎◌, inl, inr, eqb-true, Some, None}
 use Rattle.std.proofs.lemmas.Bool.{eqb-false}
 use Rattle.std.specs.Prelude.{slice_index}
 use Rattle.sdt_word.specs.Numbers.{bit}
-use Rattle.sdt_word.specs.Bytes.{bytes_of, number_of, load, word}
+use Rattle.sdt_word.specs.Bytes.{bytes_of, number_of, word}
 use Rattle.sdt_word.proofs.BytesLemmas.{length-bytes_of}
 use Rattle.arm7_model.specs.declared.state.ArmState.{ArmState}
 use Rattle.arm7_model.specs.Memory.{Bytes, Board, store}
@@ -18,14 +18,14 @@ use Rattle.arm7_model.proofs.Leading.{here, after}
 use Rattle.arm7_model.proofs.MemoryLemmas.{word-store_apart, load-same, store-below, store-above, store-in, below_or_not, not-eq}
 use Rattle.boot_code.specs.Words.{zero_code, relocator_list}
 use Rattle.boot_code.specs.Startup.{HasWords, zeros, IsEntered}
-use Rattle.boot_code.specs.Boots.{ByteMap, InRanges, CanStart, HasBooted, BootsIn, covers}
-use Rattle.boot_code.specs.Aif.{HasCode, Offsets, relocated, marked, moved_image, started_image, clear_steps, aif_steps, IsHeader, IsRelocatable, file_at, shifted_file, aif_written, ShowsImage, IsLoadable, HasVeneer, AifIsExact, AifVeneerIsExact, AifBoots, AifVeneerBoots, aif_bound}
+use Rattle.boot_code.specs.Boots.{ByteMap, InRanges, CanStart, BootsIn, covers}
+use Rattle.boot_code.specs.Aif.{HasCode, Offsets, relocated, marked, moved_image, started_image, clear_steps, aif_steps, IsHeader, IsRelocatable, IsFixedLoadable, FixedAifIsExact, FixedAifVeneerIsExact, FixedAifBoots, FixedAifVeneerBoots, file_at, shifted_file, aif_written, IsLoadable, AifIsExact, AifVeneerIsExact, AifBoots, AifVeneerBoots, aif_bound}
 use Rattle.boot_code.proofs.BootLoops.{AreBytes}
 use Rattle.boot_code.proofs.BootTable.{length-zeros}
 use Rattle.boot_code.proofs.BootPlaces.{tabulated, listed}
-use Rattle.boot_code.proofs.ViewLemmas.{covers-inside, covers-true, covers-false}
+use Rattle.boot_code.proofs.ViewLemmas.{covers-inside}
 use Rattle.boot_code.proofs.AifSteps.{Run, placed, longer, any_step}
-use Rattle.boot_code.proofs.AifRuns.{Room, From, nothing, linked, relocator_same, relocator_other, zero_run, code-kept, spot_mapped, spot_allowed, reads_veneer_load, reads_veneer_exchange}
+use Rattle.boot_code.proofs.AifRuns.{Room, From, nothing, linked, relocator_same, relocator_other, zero_run, spot_mapped, spot_allowed, reads_veneer_load, reads_veneer_exchange}
 
 pc-is : (s : State) (a : ℕ) → register s.core 15 ≡ a → slice_index s.core.r 15 ≡ a
 unfolding register
@@ -75,27 +75,27 @@ moved-code m b base limit offsets fits code i lt =
 -- ---- the run
 
 -- the header's two last calls, over the memory as the first one leaves it
-module _ (board : Board) (Allowed : ℕ → Type 0) (rest : ArmState) (b end : ℕ) (g : Room board Allowed b end)
-    (parts zero_size e : ℕ) (x : Bytes) (i : IsHeader x b parts zero_size e) (zero_room : b + parts + zero_size ≤ end) (parts_room : b + parts ≤ end) where
-  entry_run : {n : ℕ} {u : State → Type 0} (x : Bytes) → word x (b + 12) ≡ 0xEB000000 + (e - 20) / 4 → From board Allowed rest b end g n (b + e) x u → From board Allowed rest b end g (suc n) (b + 12) x u
+module _ (board : Board) (Allowed : ℕ → Type 0) (rest : ArmState) (b end w : ℕ) (g : Room board Allowed b end w)
+    (parts zero_size e : ℕ) (x : Bytes) (i : IsHeader x b parts zero_size e) (free : w ≤ b + parts) (zero_room : b + parts + zero_size ≤ end) (parts_room : b + parts ≤ end) where
+  entry_run : {n : ℕ} {u : State → Type 0} (x : Bytes) → word x (b + 12) ≡ 0xEB000000 + (e - 20) / 4 → From board Allowed rest b end w g n (b + e) x u → From board Allowed rest b end w g (suc n) (b + 12) x u
   entry_run x call next r0 r1 r2 r3 r4 r5 r6 r7 r8 r9 r10 r11 r12 r13 r14 status q =
       let multiple = g.multiple in let room = g.room in
       let whole = i.entry_whole in let low = i.entry_low in let high = i.entry_high in let small = i.parts_small in
-      linked board Allowed rest b end g (b + 12) ((e - 20) / 4) (b + e) (b + 16) call (omega arith) (omega arith) (omega arith) (omega arith) (omega arith) (omega arith) (omega arith) q
+      linked board Allowed rest b end w g (b + 12) ((e - 20) / 4) (b + e) (b + 16) call (omega arith) (omega arith) (omega arith) (omega arith) (omega arith) (omega arith) (omega arith) q
       (next r0 r1 r2 r3 r4 r5 r6 r7 r8 r9 r10 r11 r12 r13 (b + 16) status q)
 
-  pub clear_run : {n : ℕ} {u : State → Type 0} → From board Allowed rest b end g n (b + e) (store x (b + parts) (zeros zero_size)) u
-      → From board Allowed rest b end g (clear_steps zero_size + suc n) (b + 8) x u
+  pub clear_run : {n : ℕ} {u : State → Type 0} → From board Allowed rest b end w g n (b + e) (store x (b + parts) (zeros zero_size)) u
+      → From board Allowed rest b end w g (clear_steps zero_size + suc n) (b + 8) x u
   clear_run {n} {u} next = go (zero_size == 0) refl
     where
-      go : (c : Bool) → (zero_size == 0) ≡ c → From board Allowed rest b end g ((if c then 1 else 10 + 3 * (zero_size / 4)) + suc n) (b + 8) x u
+      go : (c : Bool) → (zero_size == 0) ≡ c → From board Allowed rest b end w g ((if c then 1 else 10 + 3 * (zero_size / 4)) + suc n) (b + 8) x u
       go true h r0 r1 r2 r3 r4 r5 r6 r7 r8 r9 r10 r11 r12 r13 r14 status q =
           let multiple = g.multiple in let room = g.room in let low = i.parts_low in
           let none : zero_size ≡ 0 = eqb-true zero_size 0 h in
           let Call : Bool → Type 0 = λ c. word x (b + 8) ≡ (if c then 0xE1A00000 else 0xEB00000C) in
-          let Rest : ℕ → Type 0 = λ z. From board Allowed rest b end g n (b + e) (store x (b + parts) (zeros z)) u in
+          let Rest : ℕ → Type 0 = λ z. From board Allowed rest b end w g n (b + e) (store x (b + parts) (zeros z)) u in
           longer board Allowed rest (omega arith)
-          (nothing board Allowed rest b end g (b + 8) (b + 12) (subst Call h i.clear_call) (omega arith) (omega arith) (omega arith) (omega arith) q
+          (nothing board Allowed rest b end w g (b + 8) (b + 12) (subst Call h i.clear_call) (omega arith) (omega arith) (omega arith) (omega arith) q
           (entry_run x i.entry_call (subst Rest none next) r0 r1 r2 r3 r4 r5 r6 r7 r8 r9 r10 r11 r12 r13 r14 status q))
       go false h r0 r1 r2 r3 r4 r5 r6 r7 r8 r9 r10 r11 r12 r13 r14 status q =
           let multiple = g.multiple in let room = g.room in let low = i.parts_low in
@@ -104,26 +104,26 @@ module _ (board : Board) (Allowed : ℕ → Type 0) (rest : ArmState) (b end : �
           let to_entry : word (store x (b + parts) (zeros zero_size)) (b + 12) ≡ 0xEB000000 + (e - 20) / 4 =
           word-store_apart x (b + parts) (zeros zero_size) (b + 12) (inl (omega arith)) ∙ i.entry_call in
           longer board Allowed rest (omega arith)
-          (linked board Allowed rest b end g (b + 8) 12 (b + 64 + 0) (b + 12) (subst Call h i.clear_call) (omega arith) (omega arith) (omega arith) (omega arith) (omega arith) (omega arith) (omega arith) q
-          (zero_run board Allowed rest b end g (word x (b + 20)) (word x (b + 24)) parts zero_size refl refl i.zero_word i.sizes
-          i.parts_whole low zero_room (omega (arith, some)) i.zero_whole i.zero_small i.clear_code q
+          (linked board Allowed rest b end w g (b + 8) 12 (b + 64 + 0) (b + 12) (subst Call h i.clear_call) (omega arith) (omega arith) (omega arith) (omega arith) (omega arith) (omega arith) (omega arith) q
+          (zero_run board Allowed rest b end w g (word x (b + 20)) (word x (b + 24)) parts zero_size refl refl i.zero_word i.sizes
+          i.parts_whole free low zero_room (omega (arith, some)) i.zero_whole i.zero_small i.clear_code q
           (entry_run (store x (b + parts) (zeros zero_size)) to_entry next)))
 
   -- an image that calls no relocator
   pub fixed_run : {n r0 r1 r2 r3 r4 r5 r6 r7 r8 r9 r10 r11 r12 r13 r14 status : ℕ} {u : State → Type 0} → word x (b + 4) ≡ 0xE1A00000 → IsQuiet status
-      → From board Allowed rest b end g n (b + e) (store x (b + parts) (zeros zero_size)) u
+      → From board Allowed rest b end w g n (b + e) (store x (b + parts) (zeros zero_size)) u
       → Run board Allowed rest (3 + clear_steps zero_size + n) (placed board Allowed rest r0 r1 r2 r3 r4 r5 r6 r7 r8 r9 r10 r11 r12 r13 r14 b status x) u
   fixed_run {n} no_call q next =
       let multiple = g.multiple in let room = g.room in let low = i.parts_low in
       let steps : suc (suc (clear_steps zero_size + suc n)) ≡ 3 + clear_steps zero_size + n = omega arith in
       longer board Allowed rest steps
-      (nothing board Allowed rest b end g b (b + 4) i.nothing (omega arith) (omega arith) (omega arith) multiple q
-      (nothing board Allowed rest b end g (b + 4) (b + 8) no_call (omega arith) (omega arith) (omega arith) (omega arith) q
+      (nothing board Allowed rest b end w g b (b + 4) i.nothing (omega arith) (omega arith) (omega arith) multiple q
+      (nothing board Allowed rest b end w g (b + 4) (b + 8) no_call (omega arith) (omega arith) (omega arith) (omega arith) q
       (clear_run next _ _ _ _ _ _ _ _ _ _ _ _ _ _ _ _ q)))
 
-module _ (board : Board) (Allowed : ℕ → Type 0) (rest : ArmState) (b end : ℕ) (g : Room board Allowed b end)
+module _ (board : Board) (Allowed : ℕ → Type 0) (rest : ArmState) (b end w : ℕ) (g : Room board Allowed b end w)
     (parts zero_size base e : ℕ) (offsets : List ℕ) (m : Bytes) (bytes : AreBytes m) (i : IsRelocatable m b parts zero_size base e offsets)
-    (list_room : b + parts + 60 + 4 * length offsets + 4 ≤ end) (zero_room : b + parts + zero_size ≤ end) where
+    (wb : w ≤ b) (list_room : b + parts + 60 + 4 * length offsets + 4 ≤ end) (zero_room : b + parts + zero_size ≤ end) where
   moved_header : IsHeader (moved_image m b base offsets) b parts zero_size e
   moved_header =
       let still : (x : ℕ) → x + 4 ≤ b + 128 → (x + 4 ≤ b + 4) ⊎ (b + 8 ≤ x) → (x + 4 ≤ b + 40) ⊎ (b + 44 ≤ x) → word (moved_image m b base offsets) x ≡ word m x =
@@ -147,25 +147,25 @@ module _ (board : Board) (Allowed : ℕ → Type 0) (rest : ArmState) (b end : �
       }
 
   pub image_run : {n r0 r1 r2 r3 r4 r5 r6 r7 r8 r9 r10 r11 r12 r13 r14 status : ℕ} {u : State → Type 0} → IsQuiet status
-      → From board Allowed rest b end g n (b + e) (started_image m b parts zero_size base offsets) u
+      → From board Allowed rest b end w g n (b + e) (started_image m b parts zero_size base offsets) u
       → Run board Allowed rest (aif_steps b base zero_size (length offsets) + n) (placed board Allowed rest r0 r1 r2 r3 r4 r5 r6 r7 r8 r9 r10 r11 r12 r13 r14 b status m) u
-  image_run {n} {r0} {r1} {r2} {r3} {r4} {r5} {r6} {r7} {r8} {r9} {r10} {r11} {r12} {r13} {r14} {status} {u} q next = go (b == base) refl (clear_run board Allowed rest b end g parts zero_size e (moved_image m b base offsets) moved_header zero_room (omega arith) next)
+  image_run {n} {r0} {r1} {r2} {r3} {r4} {r5} {r6} {r7} {r8} {r9} {r10} {r11} {r12} {r13} {r14} {status} {u} q next = go (b == base) refl (clear_run board Allowed rest b end w g parts zero_size e (moved_image m b base offsets) moved_header (omega arith) zero_room (omega arith) next)
     where
       go : (c : Bool) → (b == base) ≡ c
-          → From board Allowed rest b end g (clear_steps zero_size + suc n) (b + 8) (if c then marked m b else relocated (marked m b) b ((b + 4294967296 - base) % 4294967296) offsets) u
+          → From board Allowed rest b end w g (clear_steps zero_size + suc n) (b + 8) (if c then marked m b else relocated (marked m b) b ((b + 4294967296 - base) % 4294967296) offsets) u
           → Run board Allowed rest (3 + (if c then 7 else 15 + 6 * length offsets) + clear_steps zero_size + n) (placed board Allowed rest r0 r1 r2 r3 r4 r5 r6 r7 r8 r9 r10 r11 r12 r13 r14 b status m) u
       go true h clears =
           let multiple = g.multiple in let room = g.room in let low = i.header.parts_low in let whole = i.header.parts_whole in let small = i.header.parts_small in
           longer board Allowed rest (omega arith)
-          (nothing board Allowed rest b end g b (b + 4) i.header.nothing (omega arith) (omega arith) (omega arith) multiple q
-          (linked board Allowed rest b end g (b + 4) ((parts - 12) / 4) (b + parts + 0) (b + 8) i.move_call (omega arith) (omega arith) (omega arith) (omega arith) (omega arith) (omega arith) (omega arith) q
-          (relocator_same board Allowed rest b end g parts (b + parts) refl whole low (omega arith) i.header.nothing i.base_word i.base_small i.move_code q (eqb-true b base h) clears)))
+          (nothing board Allowed rest b end w g b (b + 4) i.header.nothing (omega arith) (omega arith) (omega arith) multiple q
+          (linked board Allowed rest b end w g (b + 4) ((parts - 12) / 4) (b + parts + 0) (b + 8) i.move_call (omega arith) (omega arith) (omega arith) (omega arith) (omega arith) (omega arith) (omega arith) q
+          (relocator_same board Allowed rest b end w g parts (b + parts) refl wb whole low (omega arith) i.header.nothing i.base_word i.base_small i.move_code q (eqb-true b base h) clears)))
       go false h clears =
           let multiple = g.multiple in let room = g.room in let low = i.header.parts_low in let whole = i.header.parts_whole in let small = i.header.parts_small in
           longer board Allowed rest (omega arith)
-          (nothing board Allowed rest b end g b (b + 4) i.header.nothing (omega arith) (omega arith) (omega arith) multiple q
-          (linked board Allowed rest b end g (b + 4) ((parts - 12) / 4) (b + parts + 0) (b + 8) i.move_call (omega arith) (omega arith) (omega arith) (omega arith) (omega arith) (omega arith) (omega arith) q
-          (relocator_other board Allowed rest b end g parts (b + parts) refl whole low offsets list_room i.header.nothing i.base_word i.base_small i.move_code bytes q (eqb-false b base h) i.list_fits i.list_words clears)))
+          (nothing board Allowed rest b end w g b (b + 4) i.header.nothing (omega arith) (omega arith) (omega arith) multiple q
+          (linked board Allowed rest b end w g (b + 4) ((parts - 12) / 4) (b + parts + 0) (b + 8) i.move_call (omega arith) (omega arith) (omega arith) (omega arith) (omega arith) (omega arith) (omega arith) q
+          (relocator_other board Allowed rest b end w g parts (b + parts) refl wb whole low offsets list_room i.header.nothing i.base_word i.base_small i.move_code bytes q (eqb-false b base h) i.list_fits i.list_words clears)))
 
 -- ---- the memory at the end
 
@@ -323,10 +323,10 @@ entered_by r0 r1 r2 r3 r4 r5 r6 r7 r8 r9 r10 r11 r12 r13 r14 entry status rest m
     go true h = refl
     go false h = let odd = eqb-false (entry % 2) 1 h in omega (arith, fair)
 
-module _ (board : Board) (Allowed : ℕ → Type 0) (rest : ArmState) (b end : ℕ) (g : Room board Allowed b end) where
+module _ (board : Board) (Allowed : ℕ → Type 0) (rest : ArmState) (b end w : ℕ) (g : Room board Allowed b end w) where
   pub veneer_run : (parts e entry : ℕ) → b + parts ≤ end → e % 4 ≡ 0 → e + 12 ≤ parts → (m : Bytes)
       → word m (b + e) ≡ 0xE59FC000 → word m (b + e + 4) ≡ 0xE12FFF1C → word m (b + e + 8) ≡ entry → entry % 4 ≢ 2
-      → From board Allowed rest b end g 2 (b + e) m (IsEntered entry m)
+      → From board Allowed rest b end w g 2 (b + e) m (IsEntered entry m)
   unfolding row_opens
   veneer_run parts e entry room whole fits m first second third fair r0 r1 r2 r3 r4 r5 r6 r7 r8 r9 r10 r11 r12 r13 r14 status q =
       let multiple = g.multiple in let top = g.room in
@@ -335,14 +335,14 @@ module _ (board : Board) (Allowed : ℕ → Type 0) (rest : ArmState) (b end : �
       let not_two = not-eq (entry % 4) 2 fair in
       let Loaded : ℕ → Type 0 = λ v. Run board Allowed rest 1 (placed board Allowed rest r0 r1 r2 r3 r4 r5 r6 r7 r8 r9 r10 r11 v r13 r14 (b + e + 4) status m) (IsEntered entry m) in
       let last : Loaded entry =
-      any_step board Allowed rest (b + e + 4) 0xE12FFF1C [] (omega arith) (spot_mapped board Allowed rest b end g (b + e + 4) 4 (omega arith) (omega arith)) (spot_allowed board Allowed rest b end g (b + e + 4) 4 (omega arith) (omega arith))
+      any_step board Allowed rest (b + e + 4) 0xE12FFF1C [] (omega arith) (spot_mapped board Allowed rest b end w g (b + e + 4) 4 (omega arith) (omega arith)) (spot_allowed board Allowed rest b end w g (b + e + 4) 4 (omega arith) (omega arith))
       second reads_veneer_exchange q refl tt
       (_, here, entered_by r0 r1 r2 r3 r4 r5 r6 r7 r8 r9 r10 r11 entry r13 r14 entry status rest m fair)
       (λ answers. rw not_two refl) in
-      any_step board Allowed rest (b + e) 0xE59FC000 (Load (b + e + 8) Word ∷ []) (omega arith) (spot_mapped board Allowed rest b end g (b + e) 4 (omega arith) (omega arith)) (spot_allowed board Allowed rest b end g (b + e) 4 (omega arith) (omega arith))
-      first reads_veneer_load q refl (spot_allowed board Allowed rest b end g (b + e + 8) 4 (omega arith) (omega arith), tt)
+      any_step board Allowed rest (b + e) 0xE59FC000 (Load (b + e + 8) Word ∷ []) (omega arith) (spot_mapped board Allowed rest b end w g (b + e) 4 (omega arith) (omega arith)) (spot_allowed board Allowed rest b end w g (b + e) 4 (omega arith) (omega arith))
+      first reads_veneer_load q refl (spot_allowed board Allowed rest b end w g (b + e + 8) 4 (omega arith) (omega arith), tt)
       (subst Loaded (sym third) last)
-      (λ answers. rw (q.arm, next, from) (loaded-word _ (b + e + 8) 12 _ _ (omega arith) (spot_mapped board Allowed rest b end g (b + e + 8) 4 (omega arith) (omega arith)) refl))
+      (λ answers. rw (q.arm, next, from) (loaded-word _ (b + e + 8) 12 _ _ (omega arith) (spot_mapped board Allowed rest b end w g (b + e + 8) 4 (omega arith) (omega arith)) refl))
 
 -- ---- the law
 
@@ -354,7 +354,7 @@ file_agrees file written b view board s c x low high =
 
 module _ (file : List ℕ) (parts zero_size base e entry extra : ℕ) (offsets : List ℕ) (b : ℕ) (view : ByteMap) (l : IsLoadable file parts zero_size base e offsets b view)
     (board : Board) (s : State) (c : CanStart (file_at file b) view (aif_written file b parts zero_size) b board s)
-    (enters : (end : ℕ) (g : Room board (InRanges (file_at file b) view) b end) → b + parts ≤ end → From board (InRanges (file_at file b) view) s.core b end g extra (b + e)
+    (enters : (end : ℕ) (g : Room board (InRanges (file_at file b) view) b end b) → b + parts ≤ end → From board (InRanges (file_at file b) view) s.core b end b g extra (b + e)
     (started_image s.memory b parts zero_size base offsets) (IsEntered entry (started_image s.memory b parts zero_size base offsets))) where
   in_file : (x : ℕ) → b ≤ x → x < b + length file → file_at file b x ≡ Some (slice_index file (x - b))
   in_file x low high = rw (covers-inside b (length file) x low high) refl
@@ -390,7 +390,7 @@ module _ (file : List ℕ) (parts zero_size base e entry extra : ℕ) (offsets :
       go (inl lt) = inl (slice_index file (x - b), in_file x low lt)
       go (inr le) = inr (l.shows.whole x low (omega arith))
 
-  here_is_room : Room board (InRanges (file_at file b) view) b (max (b + length file) (b + parts + zero_size))
+  here_is_room : Room board (InRanges (file_at file b) view) b (max (b + length file) (b + parts + zero_size)) b
   here_is_room = record {
     multiple = l.whole;
     room = omega (arith, l.file_room, l.zero_room);
@@ -416,7 +416,7 @@ module _ (file : List ℕ) (parts zero_size base e entry extra : ℕ) (offsets :
       let Start : List ℕ → Type 0 = λ l. Run board (InRanges (file_at file b) view) s.core (aif_steps b base zero_size (length offsets) + extra)
       (state_of s.core l s.core.cpsr s.memory) (IsEntered entry (started_image s.memory b parts zero_size base offsets)) in
       subst Start same
-      (image_run board (InRanges (file_at file b) view) s.core b (max (b + length file) (b + parts + zero_size)) here_is_room parts zero_size base e offsets s.memory c.valid.memory header
+      (image_run board (InRanges (file_at file b) view) s.core b (max (b + length file) (b + parts + zero_size)) b here_is_room parts zero_size base e offsets s.memory c.valid.memory header (omega arith)
       (omega (arith, l.size)) (omega arith) {n = extra} quiet (enters (max (b + length file) (b + parts + zero_size)) here_is_room (omega arith)))
 
   pub booted : BootsIn (aif_steps b base zero_size (length offsets) + extra) (file_at file b) view entry board s
@@ -470,7 +470,7 @@ aif_is_exact file parts zero_size base e offsets b view l board s c =
 pub aif_veneer_is_exact : AifVeneerIsExact
 aif_veneer_is_exact file parts zero_size base e entry offsets b view l v board s c =
     booted file parts zero_size base e entry 2 offsets b view l board s c
-    (λ end g room. veneer_run board (InRanges (file_at file b) view) s.core b end g parts e entry room l.image.header.entry_whole v.fits
+    (λ end g room. veneer_run board (InRanges (file_at file b) view) s.core b end b g parts e entry room l.image.header.entry_whole v.fits
     (started_image s.memory b parts zero_size base offsets)
     (here_too (b + e) (omega arith) (omega (arith, v.fits)) ∙ v.load_word) (here_too (b + e + 4) (omega arith) (omega (arith, v.fits)) ∙ v.exchange_word)
     (here_too (b + e + 8) (omega arith) (omega (arith, v.fits)) ∙ v.target) v.fair)
@@ -503,3 +503,118 @@ aif_veneer_boots file parts zero_size base e offsets view entry loads veneers b 
   steps-bound b base zero_size (length offsets),
   aif_veneer_is_exact file parts zero_size base e (entry b) offsets b (view b) (loads b whole file_room zero_room) (veneers b whole file_room zero_room) board s c,
 )
+
+-- ---- an image that isn't relocatable
+
+module _ (file : List ℕ) (parts zero_size e entry extra b : ℕ) (view : ByteMap) (l : IsFixedLoadable file parts zero_size e b view)
+    (board : Board) (s : State) (c : CanStart (file_at file b) view (covers (b + parts) zero_size) b board s)
+    (enters : (g : Room board (InRanges (file_at file b) view) b (b + parts + zero_size) (b + parts)) → From board (InRanges (file_at file b) view) s.core b (b + parts + zero_size) (b + parts) g extra (b + e)
+    (store s.memory (b + parts) (zeros zero_size)) (IsEntered entry (store s.memory (b + parts) (zeros zero_size)))) where
+  fixed_agree : Agree s.memory (shifted_file file b) b (length file)
+  fixed_agree = file_agrees file (covers (b + parts) zero_size) b view board s c
+
+  fixed_header : IsHeader s.memory b parts zero_size e
+  fixed_header = header-same s.memory (shifted_file file b) b (length file) parts zero_size e fixed_agree (omega (arith, l.size, l.image.header.parts_low)) l.image.header
+
+  fixed_no_call : word s.memory (b + 4) ≡ 0xE1A00000
+  fixed_no_call = word-agree s.memory (shifted_file file b) b (length file) (b + 4) fixed_agree (omega arith) (omega (arith, l.size, l.image.header.parts_low)) ∙ l.image.no_call
+
+  fixed_room : Room board (InRanges (file_at file b) view) b (b + parts + zero_size) (b + parts)
+  fixed_room = record {
+    multiple = l.whole;
+    room = l.room;
+    mapped = λ x low high. let (v, at) = l.complete x low high in c.there x v at;
+    writable = λ x low high. c.writable x (covers-inside (b + parts) zero_size x low high);
+    allowed = λ x low high. inr (l.complete x low high);
+  }
+
+  fixed_quiet : IsQuiet s.core.cpsr
+  fixed_quiet = record { arm = c.arm; fiq_masked = c.fiq_masked; irq_masked = c.irq_masked }
+
+  fixed_ends : Run board (InRanges (file_at file b) view) s.core (3 + clear_steps zero_size + extra) s (IsEntered entry (store s.memory (b + parts) (zeros zero_size)))
+  fixed_ends =
+      let r = s.core.r in
+      let k = slice_index r in
+      let all : r ≡ tabulated k 16 = listed r ∙ ap (tabulated k) c.valid.core.visible.count in
+      let registers = λ (v : ℕ). k 0 ∷ k 1 ∷ k 2 ∷ k 3 ∷ k 4 ∷ k 5 ∷ k 6 ∷ k 7 ∷ k 8 ∷ k 9 ∷ k 10 ∷ k 11 ∷ k 12 ∷ k 13 ∷ k 14 ∷ v ∷ [] in
+      let same : registers b ≡ r = sym (all ∙ ap registers (pc-is s b c.pc)) in
+      let Start : List ℕ → Type 0 = λ x. Run board (InRanges (file_at file b) view) s.core (3 + clear_steps zero_size + extra)
+      (state_of s.core x s.core.cpsr s.memory) (IsEntered entry (store s.memory (b + parts) (zeros zero_size))) in
+      subst Start same
+      (fixed_run board (InRanges (file_at file b) view) s.core b (b + parts + zero_size) (b + parts) fixed_room parts zero_size e s.memory fixed_header
+      (omega arith) (omega arith) (omega arith) {n = extra} fixed_no_call fixed_quiet (enters fixed_room))
+
+  pub fixed_booted : BootsIn (3 + clear_steps zero_size + extra) (file_at file b) view entry board s
+  fixed_booted inputs =
+      let (t, run, entered) = fixed_ends in
+      let (accesses, steps, safe) = after run inputs in (
+        t,
+        accesses,
+        steps,
+        record {
+          pc = entered.pc;
+          thumb = entered.thumb;
+          shown = λ x v h.
+              let at = l.inside x v h in
+              ap (λ (f : Bytes). f x) entered.memory ∙ same_end x at.0 at.1 (below_or_not x (b + parts)) ∙ at.2;
+          elsewhere = λ x h. ap (λ (f : Bytes). f x) entered.memory ∙ apart_store s.memory (b + parts) (zeros zero_size) x (outside x h (below_or_not x (b + parts)) (below_or_not x (b + parts + zero_size)));
+          safe = safe;
+        },
+      )
+    where
+      same_end : (x : ℕ) → b ≤ x → x < b + parts + zero_size → (x < b + parts) ⊎ (b + parts ≤ x)
+          → store s.memory (b + parts) (zeros zero_size) x ≡ store (shifted_file file b) (b + parts) (zeros zero_size) x
+      same_end x low high (inl lt) =
+          store-below s.memory (b + parts) (zeros zero_size) x lt ∙ fixed_agree x low (omega (arith, l.size)) ∙ sym (store-below (shifted_file file b) (b + parts) (zeros zero_size) x lt)
+      same_end x low high (inr le) =
+          let size = length-zeros zero_size in
+          store-in s.memory (b + parts) (zeros zero_size) x le (omega (arith, size)) ∙ sym (store-in (shifted_file file b) (b + parts) (zeros zero_size) x le (omega (arith, size)))
+
+      no_value : (v : ℕ) → None ≡ Some v → ⊥
+      no_value v h = cc
+
+      outside : (x : ℕ) → view x ≡ None → (x < b + parts) ⊎ (b + parts ≤ x) → (x < b + parts + zero_size) ⊎ (b + parts + zero_size ≤ x)
+          → (x < b + parts) ⊎ (b + parts + length (zeros zero_size) ≤ x)
+      outside x h (inl lt) _ = inl lt
+      outside x h (inr le) (inr high) = let size = length-zeros zero_size in inr (omega arith)
+      outside x h (inr le) (inl lt) = let (v, at) = l.complete x (omega arith) lt in absurd (no_value v (sym h ∙ at))
+
+pub fixed_aif_is_exact : FixedAifIsExact
+fixed_aif_is_exact file parts zero_size e b view l board s c =
+    let even : (b + e) % 2 ≡ 0 = omega (arith, l.whole, l.image.header.entry_whole) in
+    let m = store s.memory (b + parts) (zeros zero_size) in
+    let all = fixed_booted file parts zero_size e (b + e) 0 b view l board s c
+    (λ g r0 r1 r2 r3 r4 r5 r6 r7 r8 r9 r10 r11 r12 r13 r14 status q.
+    (_, here, entered_arm r0 r1 r2 r3 r4 r5 r6 r7 r8 r9 r10 r11 r12 r13 r14 status s.core (b + e) m even q.arm)) in
+    let n = 3 + clear_steps zero_size in
+    let In : ℕ → Type 0 = λ k. BootsIn k (file_at file b) view (b + e) board s in
+    let same : n + 0 ≡ n = omega arith in
+    subst In same all
+
+pub fixed_aif_veneer_is_exact : FixedAifVeneerIsExact
+fixed_aif_veneer_is_exact file parts zero_size e entry b view l v board s c =
+    fixed_booted file parts zero_size e entry 2 b view l board s c
+    (λ g. veneer_run board (InRanges (file_at file b) view) s.core b (b + parts + zero_size) (b + parts) g parts e entry (omega arith) l.image.header.entry_whole v.fits
+    (store s.memory (b + parts) (zeros zero_size))
+    (still (b + e) (omega arith) (omega (arith, v.fits)) ∙ v.load_word) (still (b + e + 4) (omega arith) (omega (arith, v.fits)) ∙ v.exchange_word)
+    (still (b + e + 8) (omega arith) (omega (arith, v.fits)) ∙ v.target) v.fair)
+  where
+    still : (x : ℕ) → b ≤ x → x + 4 ≤ b + parts → word (store s.memory (b + parts) (zeros zero_size)) x ≡ word (shifted_file file b) x
+    still x low high =
+        word-store_apart s.memory (b + parts) (zeros zero_size) x (inl high)
+        ∙ word-agree s.memory (shifted_file file b) b (length file) x (file_agrees file (covers (b + parts) zero_size) b view board s c) low (omega (arith, l.size))
+
+fixed-bound : (zero_size : ℕ) → 3 + clear_steps zero_size + 2 ≤ aif_bound 0 zero_size
+fixed-bound zero_size = go (zero_size == 0)
+  where
+    go : (z : Bool) → 3 + (if z then 1 else 10 + 3 * (zero_size / 4)) + 2 ≤ 32 + 4 * (zero_size / 4)
+    go true = omega arith
+    go false = omega arith
+
+pub fixed_aif_boots : FixedAifBoots
+fixed_aif_boots file parts zero_size e b view l board s c =
+    (3 + clear_steps zero_size, omega (arith, fixed-bound zero_size), fixed_aif_is_exact file parts zero_size e b view l board s c)
+
+pub fixed_aif_veneer_boots : FixedAifVeneerBoots
+fixed_aif_veneer_boots file parts zero_size e entry b view l v board s c =
+    (3 + clear_steps zero_size + 2, fixed-bound zero_size, fixed_aif_veneer_is_exact file parts zero_size e entry b view l v board s c)

@@ -1,10 +1,8 @@
 -- The runs of the relocator and of the zero-init code, and an AIF's header around them.
-use Rattle.std.proofs.Common.{◌≡◌, ◌≢◌, ℕ, zero, suc, ◌+◌, ◌-◌, ◌*◌, ◌/◌, ◌%◌, ◌^◌, ◌<◌, ◌≤◌, Bool, true, false, ◌==◌, nat_lt, if◌then◌else◌, cond, List, [], ◌∷◌, ◌++◌, length, get_or, refl, sym, ap, subst, ◌∙◌, arith, ◌⊎◌, inl, inr, ltb-true}
-use Rattle.std.specs.Prelude.{slice_index}
-use Rattle.sdt_word.specs.Numbers.{bit, bits, sign_extended}
-use Rattle.sdt_word.specs.Bytes.{bytes_of, load, word}
+use Rattle.std.proofs.Common.{◌≡◌, ◌≢◌, ℕ, zero, suc, ◌+◌, ◌-◌, ◌*◌, ◌/◌, ◌%◌, ◌^◌, ◌<◌, ◌≤◌, true, false, nat_lt, List, [], ◌∷◌, ◌++◌, length, refl, sym, ap, subst, ◌∙◌, arith, ◌⊎◌, inl, inr}
+use Rattle.sdt_word.specs.Numbers.{bit, sign_extended}
+use Rattle.sdt_word.specs.Bytes.{bytes_of, word}
 use Rattle.sdt_word.proofs.BytesLemmas.{length-bytes_of, get_or-bytes_of-lt}
-use Rattle.sdt_word.specs.declared.codes.Width.TheVariants.{Word}
 use Rattle.sdt_word.specs.declared.codes.Condition.TheVariants as condition
 use Rattle.sdt_word.specs.declared.codes.ShiftKind.TheVariants as shift
 use Rattle.arm_isa.specs.declared.instr.ArmInstr.TheVariants as arm
@@ -12,29 +10,25 @@ use Rattle.arm_isa.specs.declared.instr.Operation.TheVariants as operation
 use Rattle.arm_isa.specs.ArmRows.{ReadsArm}
 use Rattle.arm7_model.specs.declared.state.ArmState.{ArmState}
 use Rattle.arm7_model.specs.Memory.{Bytes, Board, store}
-use Rattle.arm7_model.specs.Registers.{State, as_pc, register, is_thumb}
+use Rattle.arm7_model.specs.Registers.{State}
 use Rattle.arm7_model.specs.Arithmetic.{sum_with, inverted}
-use Rattle.arm7_model.specs.Accesses.{Load}
-use Rattle.arm7_model.specs.Branches.{status_with_thumb}
 use Rattle.arm7_model.proofs.Opens.{row_opens}
-use Rattle.arm7_model.proofs.Steps.{IsQuiet, state_of, compared, added, quiet-with_flags, compared-equal, compared-other, added-zero, added-other, difference-below, difference-above}
-use Rattle.arm7_model.proofs.Leading.{here}
-use Rattle.arm7_model.proofs.MemoryLemmas.{word-store_apart, bytes-store, store-append, below_or_not}
-use Rattle.arm7_model.proofs.TransferLemmas.{Mapped, Writable, loaded-word}
+use Rattle.arm7_model.proofs.Steps.{IsQuiet, compared, added, quiet-with_flags, compared-equal, compared-other, added-zero, added-other}
+use Rattle.arm7_model.proofs.MemoryLemmas.{word-store_apart, bytes-store, store-append}
+use Rattle.arm7_model.proofs.TransferLemmas.{Mapped, Writable}
 use Rattle.boot_code.specs.Words.{zero_code, relocator_list}
 use Rattle.boot_code.specs.Safety.{Lies}
-use Rattle.boot_code.specs.Startup.{HasWords, zeros, IsEntered}
+use Rattle.boot_code.specs.Startup.{HasWords, zeros}
 use Rattle.boot_code.specs.Aif.{HasCode, Offsets, marked, relocated}
 use Rattle.boot_code.proofs.BootLoops.{AreBytes, less}
-use Rattle.boot_code.proofs.BootTable.{length-zeros}
 use Rattle.boot_code.proofs.AifSteps.{Place, Run, placed, longer, any_step, move_00, move_04, move_08, move_0C, move_10, move_14, move_18, move_18_taken, move_1C, move_20, move_24, move_28, move_28_not, move_2C, move_2C_not, move_30, move_30_not, move_34, move_34_taken, move_38, zero_00, zero_04, zero_08, zero_0C, zero_10, zero_14, zero_18, zero_1C, zero_20, zero_24, zero_28, zero_28_taken, zero_2C}
 
--- the memory, what may be written in it, and where a step may access it, from b to the end
-pub record Room (board : Board) (Allowed : ℕ → Type 0) (b end : ℕ) : Type 0 where
+-- from b to the end there is memory, which a step may access and, from w on, write
+pub record Room (board : Board) (Allowed : ℕ → Type 0) (b end w : ℕ) : Type 0 where
   pub multiple : b % 4 ≡ 0
   pub room : end ≤ 2 ^ 32
   pub mapped : (x : ℕ) → b ≤ x → x < end → board.memory x ≡ true
-  pub writable : (x : ℕ) → b ≤ x → x < end → board.read_only x ≡ false
+  pub writable : (x : ℕ) → w ≤ x → x < end → board.read_only x ≡ false
   pub allowed : (x : ℕ) → b ≤ x → x < end → Allowed x
 
 zeros-sum : (n k : ℕ) → zeros (n + k) ≡ zeros n ++ zeros k
@@ -72,11 +66,11 @@ reads_veneer_load = grind arith
 pub reads_veneer_exchange : ReadsArm 0xE12FFF1C (arm.BranchExchange condition.Al 12)
 reads_veneer_exchange = grind arith
 
-module _ (board : Board) (Allowed : ℕ → Type 0) (rest : ArmState) (b end : ℕ) (g : Room board Allowed b end) where
+module _ (board : Board) (Allowed : ℕ → Type 0) (rest : ArmState) (b end w : ℕ) (g : Room board Allowed b end w) where
   pub spot_mapped : (x n : ℕ) → b ≤ x → x + n ≤ end → Mapped board x n
   spot_mapped x n low high k lt = g.mapped (x + k) (omega arith) (omega arith)
 
-  pub spot_writable : (x n : ℕ) → b ≤ x → x + n ≤ end → Writable board x n
+  pub spot_writable : (x n : ℕ) → w ≤ x → x + n ≤ end → Writable board x n
   spot_writable x n low high k lt = g.writable (x + k) (omega arith) (omega arith)
 
   pub spot_allowed : (x n : ℕ) → b ≤ x → x + n ≤ end → Lies Allowed x n
@@ -135,11 +129,11 @@ module _ (board : Board) (Allowed : ℕ → Type 0) (rest : ArmState) (b end : �
 
   -- the list: each word named gets the shift
   list_run : (limit at d : ℕ) (offsets : List ℕ) (p : ℕ) {n r3 r4 r5 r6 r7 r8 r9 r10 r11 r12 r13 r14 status : ℕ} {m : Bytes} {u : State → Type 0}
-      → at ≡ b + limit → limit % 4 ≡ 0 → at + 60 ≤ p → p % 4 ≡ 0 → p + 4 * length offsets + 4 ≤ end → d < 2 ^ 32 → r14 % 4 ≡ 0
+      → at ≡ b + limit → w ≤ b → limit % 4 ≡ 0 → at + 60 ≤ p → p % 4 ≡ 0 → p + 4 * length offsets + 4 ≤ end → d < 2 ^ 32 → r14 % 4 ≡ 0
       → Offsets limit offsets → HasWords m p (offsets ++ 0xFFFFFFFF ∷ []) → HasCode m at relocator_list → AreBytes m → IsQuiet status
       → From n r14 (relocated m b d offsets) u
       → Run board Allowed rest (6 * length offsets + 7 + n) (placed board Allowed rest b d p r3 r4 r5 r6 r7 r8 r9 r10 r11 r12 r13 r14 (at + 32) status m) u
-  list_run limit at d [] p {m = m} e1 whole low p_whole high small back fits (last, _) code bytes q next =
+  list_run limit at d [] p {m = m} e1 wb whole low p_whole high small back fits (last, _) code bytes q next =
       let multiple = g.multiple in let room = g.room in
       let h = place at 15 (omega arith) (omega arith) (omega arith) in
       let z : (status : ℕ) → bit (added status (word m p) 1) 30 ≡ 1 = λ status. rw last (added-zero status 0xFFFFFFFF 1 (omega arith) (omega arith) refl) in
@@ -153,7 +147,7 @@ module _ (board : Board) (Allowed : ℕ → Type 0) (rest : ArmState) (b end : �
       (move_34 board Allowed rest at h code q1 (z _)
       (move_38 board Allowed rest at h code q1 back
       (next _ _ _ _ _ _ _ _ _ _ _ _ _ _ _ _ q1))))))))
-  list_run limit at d (o ∷ offsets) p {n} {r3} {r4} {r5} {r6} {r7} {r8} {r9} {r10} {r11} {r12} {r13} {r14} {status} {m} {u} e1 whole low p_whole high small back (o_whole, o_low, o_high, fits) (first, later) code bytes q next =
+  list_run limit at d (o ∷ offsets) p {n} {r3} {r4} {r5} {r6} {r7} {r8} {r9} {r10} {r11} {r12} {r13} {r14} {status} {m} {u} e1 wb whole low p_whole high small back (o_whole, o_low, o_high, fits) (first, later) code bytes q next =
       let multiple = g.multiple in let room = g.room in
       let h = place at 15 (omega arith) (omega arith) (omega arith) in
       let x = b + o in
@@ -174,14 +168,14 @@ module _ (board : Board) (Allowed : ℕ → Type 0) (rest : ArmState) (b end : �
       (move_2C board Allowed rest at h {r = v} code q1 z (sum-below (word m x) d v refl)
       (move_30 board Allowed rest at h {x = x} code q1 z at_x (omega arith) (spot_mapped x 4 (omega arith) (omega arith)) (spot_writable x 4 (omega arith) (omega arith)) (spot_allowed x 4 (omega arith) (omega arith)) (inl (omega arith))
       (move_34_taken board Allowed rest at h code1 q1 z
-      (rw p4 (list_run limit at d offsets (p + 4) e1 whole (omega arith) (omega arith) (omega arith) small back fits words1 code1 (word-bytes-kept m x v bytes) q1 next))))))))
+      (rw p4 (list_run limit at d offsets (p + 4) e1 wb whole (omega arith) (omega arith) (omega arith) small back fits words1 code1 (word-bytes-kept m x v bytes) q1 next))))))))
 
   difference-wraps : (x y : ℕ) → x < 2 ^ 32 → y < 2 ^ 32 → (sum_with x (inverted y) 1).value ≡ (x + 4294967296 - y) % 4294967296
   unfolding sum_with
   difference-wraps x y hx hy = omega arith
 
   -- the relocator: the header is marked as moved, and then, from another base, the list is gone through
-  module _ (limit at : ℕ) (e1 : at ≡ b + limit) (whole : limit % 4 ≡ 0) (low : 128 ≤ limit) where
+  module _ (limit at : ℕ) (e1 : at ≡ b + limit) (wb : w ≤ b) (whole : limit % 4 ≡ 0) (low : 128 ≤ limit) where
     relocator_begins : {n r0 r1 r2 r3 r4 r5 r6 r7 r8 r9 r10 r11 r12 r13 base status : ℕ} {m : Bytes} {u : State → Type 0}
         → at + 64 ≤ end → word m b ≡ 0xE1A00000 → word m (b + 40) ≡ base → base < 2 ^ 32 → HasCode m at relocator_list → IsQuiet status
         → ((status : ℕ) → IsQuiet status → ((b ≡ base → bit status 30 ≡ 1) × (b ≢ base → bit status 30 ≡ 0)) → HasCode (marked m b) at relocator_list
@@ -241,15 +235,15 @@ module _ (board : Board) (Allowed : ℕ → Type 0) (rest : ArmState) (b end : �
         (relocator_begins {n = suc (suc (6 * length offsets + 7 + n))} {base = base} {m = m} (omega arith) first based small code q
         (λ status q1 flags code1. move_18 board Allowed rest at h code1 q1 (flags.1 other)
         (move_1C board Allowed rest at h code1 q1
-        (list_run limit at ((b + 4294967296 - base) % 4294967296) offsets (at + 60) e1 whole (omega arith) (omega arith) high (omega arith) (omega arith) fits words2 code1 bytes2 q1 next))))
+        (list_run limit at ((b + 4294967296 - base) % 4294967296) offsets (at + 60) e1 wb whole (omega arith) (omega arith) high (omega arith) (omega arith) fits words2 code1 bytes2 q1 next))))
 
   -- ---- the zero-init code
 
   zero_loop : (k c t : ℕ) {n r2 r4 r5 r6 r7 r8 r9 r10 r11 r12 r13 r14 status : ℕ} {m : Bytes} {u : State → Type 0}
-      → c ≡ 4 * suc k → c < 2 ^ 32 → t % 4 ≡ 0 → b + 128 ≤ t → t + c ≤ end → r14 % 4 ≡ 0 → HasCode m (b + 64) zero_code → IsQuiet status → bit status 30 ≡ 0
+      → c ≡ 4 * suc k → c < 2 ^ 32 → t % 4 ≡ 0 → w ≤ t → b + 128 ≤ t → t + c ≤ end → r14 % 4 ≡ 0 → HasCode m (b + 64) zero_code → IsQuiet status → bit status 30 ≡ 0
       → From n r14 (store m t (zeros c)) u
       → Run board Allowed rest (3 * suc k + 1 + n) (placed board Allowed rest t 0 r2 c r4 r5 r6 r7 r8 r9 r10 r11 r12 r13 r14 (b + 64 + 32) status m) u
-  zero_loop zero c t {n} {r2} {r4} {r5} {r6} {r7} {r8} {r9} {r10} {r11} {r12} {r13} {r14} {status} {m} {u} e1 small t_whole low high back code q z next =
+  zero_loop zero c t {n} {r2} {r4} {r5} {r6} {r7} {r8} {r9} {r10} {r11} {r12} {r13} {r14} {status} {m} {u} e1 small t_whole free low high back code q z next =
       let multiple = g.multiple in let room = g.room in
       let h = place (b + 64) 12 (omega arith) (omega arith) (omega arith) in
       let Goal : ℕ → Type 0 = λ c. Run board Allowed rest (3 * 1 + 1 + n) (placed board Allowed rest t 0 r2 c r4 r5 r6 r7 r8 r9 r10 r11 r12 r13 r14 (b + 64 + 32) status m) u in
@@ -263,7 +257,7 @@ module _ (board : Board) (Allowed : ℕ → Type 0) (rest : ArmState) (b end : �
       (zero_28 board Allowed rest (b + 64) h code1 q1 (compared-equal status 4 4 (omega arith) (omega arith) refl)
       (zero_2C board Allowed rest (b + 64) h code1 q1 back
       (next4 _ _ _ _ _ _ _ _ _ _ _ _ _ _ _ _ q1))))))
-  zero_loop (suc k) c t {n} {r2} {r4} {r5} {r6} {r7} {r8} {r9} {r10} {r11} {r12} {r13} {r14} {status} {m} {u} e1 small t_whole low high back code q z next =
+  zero_loop (suc k) c t {n} {r2} {r4} {r5} {r6} {r7} {r8} {r9} {r10} {r11} {r12} {r13} {r14} {status} {m} {u} e1 small t_whole free low high back code q z next =
       let multiple = g.multiple in let room = g.room in
       let h = place (b + 64) 12 (omega arith) (omega arith) (omega arith) in
       let d = 4 * suc k in
@@ -281,22 +275,22 @@ module _ (board : Board) (Allowed : ℕ → Type 0) (rest : ArmState) (b end : �
       (zero_20 board Allowed rest (b + 64) h code q z t_whole (spot_mapped t 4 (omega arith) (omega arith)) (spot_writable t 4 (omega arith) (omega arith)) (spot_allowed t 4 (omega arith) (omega arith)) (inr (omega arith))
       (zero_24 board Allowed rest (b + 64) h {r = d} code1 q z (less c 4 d small (omega arith) (sym e2))
       (zero_28_taken board Allowed rest (b + 64) h code1 q1 z1
-      (rw t4 (zero_loop k d (t + 4) refl (omega arith) (omega arith) (omega arith) (omega arith) back code1 q1 z1 next')))))
+      (rw t4 (zero_loop k d (t + 4) refl (omega arith) (omega arith) (omega arith) (omega arith) (omega arith) back code1 q1 z1 next')))))
 
   -- the zero part of c bytes behind parts of two sizes
   pub zero_run : (ro more limit c : ℕ) {n r0 r1 r2 r3 r4 r5 r6 r7 r8 r9 r10 r11 r12 r13 status : ℕ} {m : Bytes} {u : State → Type 0}
       → word m (b + 20) ≡ ro → word m (b + 24) ≡ more → word m (b + 32) ≡ c → ro + more ≡ limit
-      → limit % 4 ≡ 0 → 128 ≤ limit → b + limit + c ≤ end → 0 < c → c % 4 ≡ 0 → c < 2 ^ 32 → HasCode m (b + 64) zero_code → IsQuiet status
+      → limit % 4 ≡ 0 → w ≤ b + limit → 128 ≤ limit → b + limit + c ≤ end → 0 < c → c % 4 ≡ 0 → c < 2 ^ 32 → HasCode m (b + 64) zero_code → IsQuiet status
       → From n (b + 12) (store m (b + limit) (zeros c)) u
       → Run board Allowed rest (9 + 3 * (c / 4) + n) (placed board Allowed rest r0 r1 r2 r3 r4 r5 r6 r7 r8 r9 r10 r11 r12 r13 (b + 12) (b + 64 + 0) status m) u
-  zero_run ro more limit c {n} {r0} {r1} {r2} {r3} {r4} {r5} {r6} {r7} {r8} {r9} {r10} {r11} {r12} {r13} {status} {m} {u} w14 w18 w20 sizes whole low high some c_whole small code q next =
+  zero_run ro more limit c {n} {r0} {r1} {r2} {r3} {r4} {r5} {r6} {r7} {r8} {r9} {r10} {r11} {r12} {r13} {status} {m} {u} w14 w18 w20 sizes whole free low high some c_whole small code q next =
       let multiple = g.multiple in let room = g.room in
       let h = place (b + 64) 12 (omega arith) (omega arith) (omega arith) in
       let k = c / 4 - 1 in
       let q1 : IsQuiet (compared status c 0) = quiet-with_flags _ _ _ _ q in
       let z1 : bit (compared status c 0) 30 ≡ 0 = compared-other status c 0 small (omega arith) (λ h. omega arith) in
       let fill : Run board Allowed rest (3 * suc k + 1 + n) (placed board Allowed rest (b + limit) 0 more c r4 r5 r6 r7 r8 r9 r10 r11 r12 r13 (b + 12) (b + 64 + 32) (compared status c 0) m) u =
-      zero_loop k c (b + limit) (omega arith) small (omega arith) (omega arith) high (omega arith) code q1 z1 next in
+      zero_loop k c (b + limit) (omega arith) small (omega arith) free (omega arith) high (omega arith) code q1 z1 next in
       let steps : suc (suc (suc (suc (suc (suc (suc (suc (3 * suc k + 1 + n)))))))) ≡ 9 + 3 * (c / 4) + n = omega arith in
       let b20 = spot_mapped (b + 20) 4 (omega arith) (omega arith) in
       let Loaded : ℕ → ℕ → ℕ → Type 0 = λ x y z. Run board Allowed rest (suc (suc (suc (suc (3 * suc k + 1 + n))))) (placed board Allowed rest b x y z r4 r5 r6 r7 r8 r9 r10 r11 r12 r13 (b + 12) (b + 64 + 16) status m) u in

@@ -1,10 +1,8 @@
 -- The loops of the startup code: single words and bursts of eight, upwards and downwards, and the zero
 -- fill. Each leads to the head of its part with the memory as the copy or the fill leaves it.
-use Rattle.std.proofs.Common.{◌≡◌, ◌≢◌, ℕ, zero, suc, ◌+◌, ◌-◌, ◌*◌, ◌/◌, ◌%◌, ◌^◌, ◌<◌, ◌≤◌, Bool, true, false, ◌==◌, nat_lt, if◌then◌else◌, cond, List, [], ◌∷◌, ◌++◌, length, get_or, refl, sym, ap, subst, ◌∙◌, arith, eq-eqb, ltb-true, ltb-false, ◌⊎◌, inl, inr, replicate}
-use Rattle.std.specs.Prelude.{slice_index}
-use Rattle.sdt_word.specs.Numbers.{bit}
+use Rattle.std.proofs.Common.{◌≡◌, ℕ, zero, suc, ◌+◌, ◌-◌, ◌*◌, ◌/◌, ◌%◌, ◌^◌, ◌<◌, ◌≤◌, Bool, true, false, ◌==◌, nat_lt, if◌then◌else◌, List, ◌∷◌, ◌++◌, length, get_or, refl, sym, ap, subst, ◌∙◌, arith, ltb-true, ltb-false, ◌⊎◌, inl, inr}
 use Rattle.sdt_word.specs.Bytes.{bytes_of, load, word}
-use Rattle.sdt_word.proofs.BytesLemmas.{length-load, length-bytes_of, get_or-load, get_or-bytes_of-lt}
+use Rattle.sdt_word.proofs.BytesLemmas.{length-load}
 use Rattle.arm7_model.specs.declared.state.ArmState.{ArmState}
 use Rattle.arm7_model.specs.Memory.{Bytes, Board, store}
 use Rattle.arm7_model.specs.Registers.{State}
@@ -13,10 +11,9 @@ use Rattle.arm7_model.proofs.Steps.{IsQuiet, compared, quiet-with_flags, compare
 use Rattle.arm7_model.proofs.MemoryLemmas.{store-append, word-store_apart, copy_up, copy_down, not-eq, bytes-store, bytes_of-word, below_or_not}
 use Rattle.arm7_model.proofs.Placed.{words_at, store_words}
 use Rattle.arm7_model.proofs.TransferLemmas.{Mapped, Writable, store_words-copy}
-use Rattle.boot_code.specs.Words.{boot_list}
 use Rattle.boot_code.specs.Safety.{Lies}
 use Rattle.boot_code.specs.Startup.{zeros}
-use Rattle.boot_code.proofs.BootSteps.{Site, HasBoot, Run, at_place, longer, IsApart, at_04, at_08, at_0C, at_10, at_14, at_14_equal, at_14_taken, at_18, at_1C, at_1C_taken, at_20, at_24, at_28, at_28_taken, at_2C, at_30, at_34, at_38, at_3C, at_40, at_40_taken, at_44, at_48, at_4C, at_50, at_54, at_54_taken, at_58, at_5C, at_60, at_60_taken, at_64, at_68, at_6C, at_70, at_74, at_78, at_78_taken, at_7C, at_90, at_94, at_98, at_98_taken, at_9C}
+use Rattle.boot_code.proofs.BootSteps.{Site, HasBoot, Run, at_place, longer, at_04, at_08, at_0C, at_10, at_14, at_14_equal, at_14_taken, at_18, at_1C, at_1C_taken, at_20, at_24, at_28, at_28_taken, at_2C, at_30, at_34, at_38, at_3C, at_40, at_40_taken, at_44, at_48, at_4C, at_50, at_54, at_54_taken, at_58, at_5C, at_60, at_60_taken, at_64, at_68, at_6C, at_70, at_74, at_78, at_78_taken, at_7C, at_90, at_94, at_98, at_98_taken, at_9C}
 
 -- memory holds bytes
 abbrev pub AreBytes : Bytes → Type 0

@@ -1,14 +1,12 @@
 -- The rows of a placement boot: the startup code with their table leads from every permitted state to
 -- the entry, in exactly the steps that they take, and the memory is then the view.
-use Rattle.std.proofs.Common.{◌≡◌, ◌≢◌, ℕ, zero, suc, ◌+◌, ◌-◌, ◌*◌, ◌/◌, ◌%◌, ◌^◌, ◌<◌, ◌≤◌, Bool, true, false, ◌==◌, nat_lt, if◌then◌else◌, List, [], ◌∷◌, ◌++◌, length, get_or, refl, sym, ap, subst, ◌∙◌, arith, ◌⊎◌, inl, inr, Option, Some, None, length-append}
+use Rattle.std.proofs.Common.{◌≡◌, ℕ, zero, suc, ◌+◌, ◌-◌, ◌*◌, ◌%◌, ◌<◌, ◌≤◌, Bool, List, [], ◌∷◌, ◌++◌, length, get_or, refl, sym, ap, subst, ◌∙◌, arith, ◌⊎◌, inl, inr, Some, None, length-append}
 use Rattle.std.specs.Prelude.{slice_index}
 use Rattle.std.proofs.Math.ListN.{get_or-append}
-use Rattle.sdt_word.specs.Numbers.{bit}
-use Rattle.sdt_word.specs.Bytes.{bytes_of, load, number_of, word}
+use Rattle.sdt_word.specs.Bytes.{bytes_of, number_of, word}
 use Rattle.sdt_word.proofs.BytesLemmas.{number_of-bytes_of}
-use Rattle.arm7_model.specs.declared.state.ArmState.{ArmState}
-use Rattle.arm7_model.specs.Memory.{Bytes, Board, store}
-use Rattle.arm7_model.specs.Registers.{State, IsValidState, register}
+use Rattle.arm7_model.specs.Memory.{Bytes, Board}
+use Rattle.arm7_model.specs.Registers.{State, register}
 use Rattle.arm7_model.proofs.Steps.{IsQuiet, state_of}
 use Rattle.arm7_model.proofs.Leading.{after}
 use Rattle.arm7_model.proofs.MemoryLemmas.{load-same, not-eq, below_or_not}
@@ -16,9 +14,8 @@ use Rattle.boot_code.specs.declared.rows.CopyRow.{CopyRow}
 use Rattle.boot_code.specs.declared.rows.ZeroRow.{ZeroRow}
 use Rattle.boot_code.specs.Words.{boot_list}
 use Rattle.boot_code.specs.Startup.{HasWords, copy_words, zero_words, table_list, copied, cleared, startup_steps, IsEntered}
-use Rattle.boot_code.specs.Boots.{ByteMap, InRanges, CanStart, HasBooted, BootsIn, HoldsWord, HoldsWords, AllCopies, AllParts, CopyPlaced, ZeroPlaced, Places, moved, zeroed}
-use Rattle.boot_code.proofs.BootSteps.{Site, HasBoot, Run, at_place}
-use Rattle.boot_code.proofs.BootLoops.{Copies, Clears}
+use Rattle.boot_code.specs.Boots.{ByteMap, InRanges, CanStart, BootsIn, HoldsWord, HoldsWords, AllCopies, AllParts, CopyPlaced, ZeroPlaced, Places, moved, zeroed}
+use Rattle.boot_code.proofs.BootSteps.{Site, HasBoot, Run}
 use Rattle.boot_code.proofs.BootTable.{CopyFits, ZeroFits, startup_run}
 use Rattle.boot_code.proofs.ViewLemmas.{cleared-at, copied-at, moved-some, zeroed-some, moved-outside, zeroed-outside}
 

@@ -1,32 +1,27 @@
 -- The steps of the startup code, word by word: from the registers before a word, a run that goes on from
 -- the registers after it begins with one step more.
-use Rattle.std.proofs.Common.{◌≡◌, ℕ, zero, suc, ◌+◌, ◌-◌, ◌*◌, ◌/◌, ◌%◌, ◌^◌, ◌<◌, ◌≤◌, Bool, true, false, ◌&&◌, ◌||◌, not, ◌==◌, nat_lt, cond, List, [], ◌∷◌, ◌++◌, length, get_or, refl, sym, ap, subst, ◌∙◌, arith, eq-eqb, ltb-true, ltb-false, ◌⊎◌, inl, inr}
-use Rattle.std.specs.Prelude.{slice_index, slice_set, map}
-use Rattle.sdt_word.specs.Numbers.{bit, bits, flag, sign_extended}
-use Rattle.sdt_word.specs.Bytes.{bytes_of, number_of, load, word}
+use Rattle.std.proofs.Common.{◌≡◌, ℕ, zero, suc, ◌+◌, ◌-◌, ◌*◌, ◌%◌, ◌^◌, ◌<◌, ◌≤◌, true, false, ◌==◌, List, [], ◌∷◌, length, refl, subst, arith, ◌⊎◌, inl, inr}
+use Rattle.std.specs.Prelude.{slice_index}
+use Rattle.sdt_word.specs.Numbers.{bit}
+use Rattle.sdt_word.specs.Bytes.{bytes_of, word}
 use Rattle.sdt_word.specs.declared.codes.Width.TheVariants.{Word}
-use Rattle.sdt_word.specs.declared.codes.Condition.TheVariants as condition
-use Rattle.sdt_word.specs.declared.codes.ShiftKind.TheVariants as shift
 use Rattle.arm_isa.specs.declared.instr.ArmInstr.{ArmInstr}
-use Rattle.arm_isa.specs.declared.instr.ArmInstr.TheVariants as arm
-use Rattle.arm_isa.specs.declared.instr.Operation.TheVariants as operation
 use Rattle.arm_isa.specs.ArmRows.{ReadsArm}
 use Rattle.arm7_model.specs.declared.state.ArmState.{ArmState}
 use Rattle.arm7_model.specs.declared.event.Event.TheVariants as event
-use Rattle.arm7_model.specs.Memory.{Bytes, Board, store, in_memory}
+use Rattle.arm7_model.specs.Memory.{Bytes, Board, store}
 use Rattle.arm7_model.specs.Registers.{State, as_pc}
 use Rattle.arm7_model.specs.Arithmetic.{sum_with, inverted}
 use Rattle.arm7_model.specs.Accesses.{Access, Fetch, Load, Store}
-use Rattle.arm7_model.specs.Outcomes.{Stepped}
 use Rattle.arm7_model.specs.Branches.{status_with_thumb}
 use Rattle.arm7_model.specs.Branches.{status_with_thumb}
 use Rattle.arm7_model.specs.Branches.{status_with_thumb}
 use Rattle.arm7_model.specs.Branches.{status_with_thumb}
 use Rattle.arm7_model.specs.ArmStep.{arm_done}
 use Rattle.arm7_model.proofs.Opens.{row_opens}
-use Rattle.arm7_model.proofs.Steps.{IsQuiet, OneStep, state_of, under_way, arm_step, compared}
+use Rattle.arm7_model.proofs.Steps.{IsQuiet, state_of, under_way, arm_step, compared}
 use Rattle.arm7_model.proofs.Leading.{Leads, on, lasting}
-use Rattle.arm7_model.proofs.Placed.{words_at, store_words, loads_at, stores_at}
+use Rattle.arm7_model.proofs.Placed.{store_words, loads_at, stores_at}
 use Rattle.arm7_model.proofs.TransferLemmas.{Mapped, Writable, in_memory-mapped, loaded-word, stored-word, block_loaded-words, block_stored-words}
 use Rattle.boot_code.specs.Words.{boot_list}
 use Rattle.boot_code.specs.Safety.{Lies, IsSafe, AreSafe}

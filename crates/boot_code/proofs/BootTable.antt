@@ -1,5 +1,5 @@
 -- The whole startup code over its table: every copy and zero part in turn, and then the entry.
-use Rattle.std.proofs.Common.{◌≡◌, ◌≢◌, ℕ, zero, suc, ◌+◌, ◌-◌, ◌*◌, ◌/◌, ◌%◌, ◌^◌, ◌<◌, ◌≤◌, Bool, true, false, ◌==◌, nat_lt, if◌then◌else◌, cond, List, [], ◌∷◌, ◌++◌, length, refl, sym, ap, subst, ◌∙◌, arith, ◌⊎◌, inl, inr, length-append, eqb-true, eq-eqb}
+use Rattle.std.proofs.Common.{◌≡◌, ◌≢◌, ℕ, zero, suc, ◌+◌, ◌-◌, ◌*◌, ◌/◌, ◌%◌, ◌^◌, ◌<◌, ◌≤◌, Bool, true, false, ◌==◌, nat_lt, if◌then◌else◌, List, [], ◌∷◌, ◌++◌, length, refl, sym, ap, subst, ◌∙◌, arith, ◌⊎◌, inl, inr, length-append, eq-eqb}
 use Rattle.sdt_word.specs.Numbers.{bit}
 use Rattle.sdt_word.specs.Bytes.{load, word}
 use Rattle.sdt_word.proofs.BytesLemmas.{length-load}
@@ -10,12 +10,12 @@ use Rattle.arm7_model.specs.Branches.{status_with_thumb}
 use Rattle.arm7_model.proofs.Steps.{IsQuiet, compared, quiet-with_flags, compared-equal, compared-other}
 use Rattle.arm7_model.proofs.Leading.{here}
 use Rattle.std.proofs.lemmas.Bool.{eqb-false}
-use Rattle.arm7_model.proofs.MemoryLemmas.{word-store_apart, not-eq, bytes-store}
+use Rattle.arm7_model.proofs.MemoryLemmas.{word-store_apart, not-eq}
 use Rattle.arm7_model.proofs.TransferLemmas.{Mapped}
 use Rattle.boot_code.specs.declared.rows.CopyRow.{CopyRow}
 use Rattle.boot_code.specs.declared.rows.ZeroRow.{ZeroRow}
 use Rattle.boot_code.specs.Safety.{Lies}
-use Rattle.boot_code.specs.Startup.{HasWords, copy_words, zero_words, table_list, zeros, copied, cleared, upward_steps, copy_steps, copies_steps, parts_steps, startup_steps, IsEntered}
+use Rattle.boot_code.specs.Startup.{HasWords, copy_words, zero_words, table_list, zeros, copied, cleared, upward_steps, copies_steps, parts_steps, startup_steps, IsEntered}
 use Rattle.boot_code.proofs.BootSteps.{Site, HasBoot, Run, at_place, entered_at, longer, at_00, at_04, at_08, at_0C_taken, at_80, at_84, at_88, at_8C, at_8C_taken, at_A0, at_A4}
 use Rattle.boot_code.proofs.BootLoops.{AreBytes, Copies, Clears, Head, copy_row, copy_turn, tail_steps, tail-zero, tail-some, zero_or_not, clears, copy_kept, copy_bytes, boot_kept}
 

@@ -1,8 +1,8 @@
 -- The steps of the startup code are within the bound.
-use Rattle.std.proofs.Common.{◌≡◌, ℕ, zero, suc, ◌+◌, ◌*◌, ◌/◌, ◌%◌, ◌<◌, ◌≤◌, Bool, true, false, ◌==◌, nat_lt, if◌then◌else◌, List, [], ◌∷◌, length, arith}
+use Rattle.std.proofs.Common.{ℕ, ◌+◌, ◌*◌, ◌/◌, ◌%◌, ◌≤◌, Bool, true, false, ◌==◌, nat_lt, if◌then◌else◌, List, [], ◌∷◌, length, arith}
 use Rattle.boot_code.specs.declared.rows.CopyRow.{CopyRow}
 use Rattle.boot_code.specs.declared.rows.ZeroRow.{ZeroRow}
-use Rattle.boot_code.specs.Startup.{upward_steps, copy_steps, copies_steps, parts_steps, startup_steps, copied_words, zeroed_words}
+use Rattle.boot_code.specs.Startup.{copies_steps, parts_steps, startup_steps, copied_words, zeroed_words}
 use Rattle.boot_code.specs.Laws.{StartupIsExact, StartupBoots, bound_of, written_by}
 use Rattle.boot_code.proofs.BootPlaces.{boots_in}
 

@@ -1,9 +1,9 @@
 -- The memory that copies and zero fills leave, address by address.
-use Rattle.std.proofs.Common.{◌≡◌, ◌≢◌, ℕ, zero, suc, ◌+◌, ◌-◌, ◌*◌, ◌%◌, ◌^◌, ◌<◌, ◌≤◌, Bool, true, false, ◌==◌, ◌&&◌, nat_le, nat_lt, if◌then◌else◌, List, [], ◌∷◌, ◌++◌, length, get_or, refl, sym, ap, subst, ◌∙◌, arith, ◌⊎◌, inl, inr, Option, Some, None, ltb-true, ltb-false, leb-true, leb-false, cond}
+use Rattle.std.proofs.Common.{◌≡◌, ℕ, zero, suc, ◌+◌, ◌-◌, ◌<◌, ◌≤◌, Bool, true, false, if◌then◌else◌, List, [], ◌∷◌, get_or, refl, sym, subst, ◌∙◌, arith, ◌⊎◌, inl, inr, Some, None}
 use Rattle.sdt_word.specs.Bytes.{load}
 use Rattle.sdt_word.proofs.BytesLemmas.{length-load, get_or-load}
 use Rattle.arm7_model.specs.Memory.{Bytes, store}
-use Rattle.arm7_model.proofs.MemoryLemmas.{store-in, store-below, store-above, below_or_not}
+use Rattle.arm7_model.proofs.MemoryLemmas.{store-in, store-below, store-above}
 use Rattle.boot_code.specs.declared.rows.CopyRow.{CopyRow}
 use Rattle.boot_code.specs.declared.rows.ZeroRow.{ZeroRow}
 use Rattle.boot_code.specs.Startup.{zeros, copied, cleared}

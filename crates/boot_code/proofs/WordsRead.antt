@@ -1,8 +1,7 @@
 -- Each word reads as its instruction.
-use Rattle.std.proofs.Common.{ℕ, true, false, List, [], ◌∷◌, refl, arith}
+use Rattle.std.proofs.Common.{true, false, arith}
 use Rattle.sdt_word.specs.declared.codes.Condition.TheVariants as condition
 use Rattle.sdt_word.specs.declared.codes.ShiftKind.TheVariants as shift
-use Rattle.arm_isa.specs.declared.instr.ArmInstr.{ArmInstr}
 use Rattle.arm_isa.specs.declared.instr.ArmInstr.TheVariants as arm
 use Rattle.arm_isa.specs.declared.instr.Operation.TheVariants as operation
 use Rattle.arm_isa.specs.ArmRows.{ReadsArm}

@@ -1,6 +1,6 @@
 -- An AIF's start: its header, what its relocator and its zero-init code make of the image, and in how
 -- many steps (SDT 2.50 Reference Guide, ARM Image Format; the code and its counts are this project's).
-use Rattle.std.specs.Prelude.{◌≡◌, ◌≢◌, ℕ, zero, suc, ◌+◌, ◌-◌, ◌*◌, ◌/◌, ◌%◌, ◌^◌, ◌<◌, ◌≤◌, ◌==◌, ◌||◌, Bool, if◌then◌else◌, List, [], ◌∷◌, ◌++◌, length, Option, Some, None, slice_index}
+use Rattle.std.specs.Prelude.{◌≡◌, ◌≢◌, ℕ, ◌+◌, ◌-◌, ◌*◌, ◌/◌, ◌%◌, ◌^◌, ◌<◌, ◌≤◌, ◌==◌, ◌||◌, Bool, if◌then◌else◌, List, [], ◌∷◌, ◌++◌, length, Some, None, slice_index}
 use Rattle.sdt_word.specs.Bytes.{bytes_of, word}
 use Rattle.arm7_model.specs.Memory.{Bytes, Board, store}
 use Rattle.arm7_model.specs.Registers.{State}
@@ -161,3 +161,40 @@ AifVeneerBoots =
     → LoadsAnywhere file parts zero_size base e offsets view
     → ((b : ℕ) → b % 4 ≡ 0 → b + length file ≤ 2 ^ 32 → b + parts + zero_size ≤ 2 ^ 32 → HasVeneer (started_image (shifted_file file b) b parts zero_size base offsets) b parts e (entry b))
     → BootsAif file parts zero_size view (aif_bound (length offsets) zero_size) entry
+
+-- ---- an image that isn't relocatable, at its own base
+
+-- The file is loaded at b, and the view there is the file with its zero part set to zero.
+pub record IsFixedLoadable (file : List ℕ) (parts zero_size e b : ℕ) (view : ByteMap) : Type 0 where
+  pub image : IsFixed (shifted_file file b) b parts zero_size e
+  pub size : length file ≡ parts
+  pub whole : b % 4 ≡ 0
+  pub room : b + parts + zero_size ≤ 2 ^ 32
+  pub inside : (x v : ℕ) → view x ≡ Some v → (b ≤ x) × (x < b + parts + zero_size) × (store (shifted_file file b) (b + parts) (zeros zero_size) x ≡ v)
+  pub complete : (x : ℕ) → b ≤ x → x < b + parts + zero_size → (v : ℕ) × (view x ≡ Some v)
+
+-- only the zero part is written: a read-only range may meet the file
+abbrev pub FixedAifIsExact : Type 0
+FixedAifIsExact =
+    (file : List ℕ) (parts zero_size e b : ℕ) (view : ByteMap) → IsFixedLoadable file parts zero_size e b view
+    → (board : Board) (s : State) → CanStart (file_at file b) view (covers (b + parts) zero_size) b board s
+    → BootsIn (3 + clear_steps zero_size) (file_at file b) view (b + e) board s
+
+abbrev pub FixedAifVeneerIsExact : Type 0
+FixedAifVeneerIsExact =
+    (file : List ℕ) (parts zero_size e entry b : ℕ) (view : ByteMap) → IsFixedLoadable file parts zero_size e b view
+    → HasVeneer (shifted_file file b) b parts e entry
+    → (board : Board) (s : State) → CanStart (file_at file b) view (covers (b + parts) zero_size) b board s
+    → BootsIn (3 + clear_steps zero_size + 2) (file_at file b) view entry board s
+
+-- within the bound of an empty list
+abbrev pub FixedAifBoots : Type 0
+FixedAifBoots =
+    (file : List ℕ) (parts zero_size e b : ℕ) (view : ByteMap) → IsFixedLoadable file parts zero_size e b view
+    → Boots (file_at file b) view (covers (b + parts) zero_size) b (aif_bound 0 zero_size) (b + e)
+
+abbrev pub FixedAifVeneerBoots : Type 0
+FixedAifVeneerBoots =
+    (file : List ℕ) (parts zero_size e entry b : ℕ) (view : ByteMap) → IsFixedLoadable file parts zero_size e b view
+    → HasVeneer (shifted_file file b) b parts e entry
+    → Boots (file_at file b) view (covers (b + parts) zero_size) b (aif_bound 0 zero_size) entry

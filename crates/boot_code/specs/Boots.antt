@@ -1,10 +1,10 @@
 -- What it is to start: from every permitted state the startup code reaches the entry, with the memory as
 -- the view says. Load ranges, execution ranges and their bytes are maps from addresses: the files as they
 -- were loaded, and the view that the program is to see. This project's.
-use Rattle.std.specs.Prelude.{◌≡◌, ◌≢◌, ◌⊎◌, ℕ, zero, suc, ◌+◌, ◌-◌, ◌*◌, ◌%◌, ◌^◌, ◌<◌, ◌≤◌, ◌==◌, ◌&&◌, Bool, true, false, nat_le, nat_lt, if◌then◌else◌, List, [], ◌∷◌, ◌++◌, length, Option, Some, None, slice_index}
+use Rattle.std.specs.Prelude.{◌≡◌, ◌≢◌, ◌⊎◌, ℕ, ◌+◌, ◌-◌, ◌*◌, ◌%◌, ◌^◌, ◌<◌, ◌≤◌, ◌==◌, ◌&&◌, Bool, true, false, nat_le, nat_lt, if◌then◌else◌, List, [], ◌∷◌, ◌++◌, length, Option, Some, None, slice_index}
 use Rattle.sdt_word.specs.Bytes.{bytes_of}
 use Rattle.sdt_word.specs.Numbers.{bit, bits}
-use Rattle.arm7_model.specs.Memory.{Bytes, Board}
+use Rattle.arm7_model.specs.Memory.{Board}
 use Rattle.arm7_model.specs.Registers.{State, IsValidState, register, is_thumb}
 use Rattle.arm7_model.specs.Accesses.{Access}
 use Rattle.arm7_model.specs.Runs.{Input, After, EachStep}

@@ -1,5 +1,5 @@
 -- The laws of the startup code, as its empty public functions state them. This project's.
-use Rattle.std.specs.Prelude.{◌≡◌, ℕ, ◌+◌, ◌*◌, ◌≤◌, Bool, ◌||◌, List, [], ◌∷◌, length}
+use Rattle.std.specs.Prelude.{ℕ, ◌+◌, ◌*◌, Bool, ◌||◌, List, length}
 use Rattle.std.specs.List.{list_any}
 use Rattle.arm7_model.specs.Memory.{Board}
 use Rattle.arm7_model.specs.Registers.{State}

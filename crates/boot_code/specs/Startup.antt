@@ -1,5 +1,5 @@
 -- The startup code's table, what it does to the memory, and how many steps it takes (this project's).
-use Rattle.std.specs.Prelude.{◌≡◌, ℕ, zero, suc, ◌+◌, ◌-◌, ◌*◌, ◌/◌, ◌%◌, ◌<◌, ◌≤◌, ◌==◌, nat_lt, if◌then◌else◌, List, [], ◌∷◌, ◌++◌}
+use Rattle.std.specs.Prelude.{◌≡◌, ℕ, zero, suc, ◌+◌, ◌-◌, ◌*◌, ◌/◌, ◌%◌, ◌==◌, nat_lt, if◌then◌else◌, List, [], ◌∷◌, ◌++◌}
 use Rattle.sdt_word.specs.Bytes.{load, word}
 use Rattle.arm7_model.specs.Memory.{Bytes, store}
 use Rattle.arm7_model.specs.Registers.{State, register, is_thumb}

@@ -1,7 +1,7 @@
 //! The laws of the startup code, over the definition of the machine alone.
 
 ghost use Rattle.std.specs.Prelude.{◌≡◌};
-ghost use Rattle.boot_code.specs.Aif.{AifBoots, AifIsExact, AifVeneerBoots, AifVeneerIsExact};
+ghost use Rattle.boot_code.specs.Aif.{AifBoots, AifIsExact, AifVeneerBoots, AifVeneerIsExact, FixedAifBoots, FixedAifIsExact, FixedAifVeneerBoots, FixedAifVeneerIsExact};
 ghost use Rattle.boot_code.specs.Laws.{StartupBoots, StartupIsExact};
 ghost use Rattle.boot_code.specs.Words.{ReadAs, boot_instructions, boot_list, relocator_instructions, relocator_list, zero_code, zero_instructions};
 
@@ -35,4 +35,12 @@ pub fn aif_is_exact()
 pub fn aif_boots()
     ensures in_arm { AifBoots }
     ensures by_veneer { AifVeneerBoots }
+{}
+
+/// An AIF that isn't relocatable does so at its own base, where a read-only range may meet the file.
+pub fn fixed_aif_is_exact()
+    ensures in_arm { FixedAifIsExact }
+    ensures by_veneer { FixedAifVeneerIsExact }
+    ensures in_arm_within_the_bound { FixedAifBoots }
+    ensures by_veneer_within_the_bound { FixedAifVeneerBoots }
 {}

@@ -6,6 +6,8 @@ mod laws;
 mod rows;
 mod words;
 
-pub use laws::{aif_boots, aif_is_exact, startup_boots, startup_is_exact, words_read};
+pub use laws::{
+    aif_boots, aif_is_exact, fixed_aif_is_exact, startup_boots, startup_is_exact, words_read,
+};
 pub use rows::{CopyRow, ZeroRow, steps_bound, table};
 pub use words::{boot_words, relocator_words, zero_words};
