@@ -1,4 +1,4 @@
-pub mod Found
+pub mod FoundLemmas
 pub mod IndexLemmas
 pub mod NamesLemmas
 pub mod Rows
@@ -11,3 +11,6 @@ pub mod PartsLaw
 pub mod ObjectLaw
 pub mod TableLemmas
 pub mod ValidLaw
+pub mod SpelledNames
+pub mod SpelledRows
+pub mod SpelledObject

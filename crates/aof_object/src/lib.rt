@@ -15,8 +15,14 @@ mod table;
 mod validity;
 mod writing;
 
-pub use crate::laws::{object_law, one_record};
+pub use crate::index::{find_name, note_name};
+pub use crate::laws::{object_law, one_record, spelling_law};
+pub use crate::parts::{Found, find};
 pub use crate::reading::read_object;
 pub use crate::records::{Area, Entry, Object, Reloc, Symbol};
+pub use crate::strings::terminated_name;
 pub use crate::validity::object_is_valid;
 pub use crate::writing::write_object;
+
+#[cfg(test)]
+mod tests;

@@ -52,7 +52,8 @@ fn with_entry(found: Found, span: &Option<Span>, name: [u8; 8]) -> Found
     found
 }
 
-fn find(spans: &[Option<Span>], name: [u8; 8]) -> Found
+/// The chunk of a name in a table.
+pub fn find(spans: &[Option<Span>], name: [u8; 8]) -> Found
     ensures { result ≡ found_of (named name spans.now) }
 {
     let mut found = Found::Absent;

@@ -18,6 +18,16 @@ fn end_of_name(bytes: &[u8]) -> Option<usize>
     None
 }
 
+/// The bytes before the first zero byte, where there is one.
+pub fn terminated_name(alloc: Global, bytes: &[u8]) -> Result<Option<Text>, NoMemory>
+    ensures { IfOk result (λ name. name ≡ terminated bytes.now) }
+{
+    match end_of_name(bytes) {
+        None => Ok(None),
+        Some(end) => Ok(Some(Text::from_slice(alloc, &bytes[..end])?)),
+    }
+}
+
 /// The name at an offset of a string table; `None` where the offset is below 4 or past the end, or where
 /// no zero byte ends the name.
 #[tactic(auto, unfolding(crate::specs::Names::name_at))]
@@ -28,9 +38,5 @@ pub fn read_name(alloc: Global, strings: &[u8], at: u32) -> Result<Option<Text>,
         return Ok(None);
     }
     let start = (at as usize).min(strings.len());
-    let rest = &strings[start..];
-    match end_of_name(rest) {
-        None => Ok(None),
-        Some(end) => Ok(Some(Text::from_slice(alloc, &rest[..end])?)),
-    }
+    terminated_name(alloc, &strings[start..])
 }

@@ -2,7 +2,7 @@ use Rattle.std.proofs.Common.{◌≡◌, ◌∙◌, sym, List, Option}
 use Rattle.std.proofs.lemmas.List.{at_drop_all}
 use Rattle.chunk_file.specs.declared.records.Span.{Span}
 use Rattle.aof_object.specs.Parts.{named, found_with}
-use Rattle.aof_object.proofs.Found.{found_from}
+use Rattle.aof_object.proofs.FoundLemmas.{found_from}
 use Rattle.aof_object.proofs.parts.find.Goals as goal
 
 pub returns : goal.returns
