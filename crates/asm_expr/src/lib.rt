@@ -10,3 +10,6 @@ pub mod value;
 
 pub use crate::read::parse_expr;
 pub use crate::value::evaluate;
+
+#[cfg(test)]
+mod tests;
