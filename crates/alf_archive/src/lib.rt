@@ -1,9 +1,11 @@
 //! ARM object libraries (ALF): a directory of names, and an object for each.
 #![tactic(auto)]
 
+mod defining;
 mod entries;
 mod reading;
 mod records;
 
+pub use crate::defining::members_defining;
 pub use crate::reading::read_archive;
 pub use crate::records::{Archive, Member};
