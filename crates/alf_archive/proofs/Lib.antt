@@ -1,1 +1,2 @@
 pub mod MemberLoop
+pub mod SpellingLoops

@@ -1,3 +1,4 @@
 pub mod Archives
 pub mod Numbered
 pub mod Defining
+pub mod Spelling

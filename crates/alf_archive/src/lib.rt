@@ -5,7 +5,9 @@ mod defining;
 mod entries;
 mod reading;
 mod records;
+mod writing;
 
 pub use crate::defining::members_defining;
 pub use crate::reading::read_archive;
 pub use crate::records::{Archive, Member};
+pub use crate::writing::write_archive;

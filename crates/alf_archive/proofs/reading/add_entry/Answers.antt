@@ -1,4 +1,4 @@
-use Rattle.std.proofs.Common.{◌≡◌, ◌∙◌, sym, ap, List}
+use Rattle.std.proofs.Common.{◌∙◌, sym, ap, List}
 use Rattle.aof_object.specs.Names.{among}
 use Rattle.alf_archive.specs.declared.records.Member.{Member}
 use Rattle.alf_archive.specs.Archives.{member_names}

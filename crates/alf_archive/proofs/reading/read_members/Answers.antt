@@ -1,7 +1,7 @@
-use Rattle.std.proofs.Common.{◌≡◌, ◌+◌, ◌-◌, ◌∙◌, sym, ap, arith, [], ℕ, List, length, take, drop, Ok, Err}
+use Rattle.std.proofs.Common.{◌≡◌, ◌+◌, ◌-◌, arith, take, drop, Ok, Err}
 use Rattle.std.proofs.lemmas.Result.{err_from_is_err_and}
 use Rattle.chunk_file.specs.Reading.{Gives}
-use Rattle.alf_archive.specs.Archives.{with_entry, members_from}
+use Rattle.alf_archive.specs.Archives.{with_entry}
 use Rattle.alf_archive.proofs.MemberLoop.{slot_fails, entry_fails, goes_on, is_done, adds_fails}
 use Rattle.alf_archive.proofs.reading.read_members.Goals as goal
 
