@@ -11,3 +11,6 @@ pub use crate::defining::members_defining;
 pub use crate::reading::read_archive;
 pub use crate::records::{Archive, Member};
 pub use crate::writing::write_archive;
+
+#[cfg(test)]
+mod tests;
