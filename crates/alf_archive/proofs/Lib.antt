@@ -1,2 +1,3 @@
 pub mod MemberLoop
 pub mod SpellingLoops
+pub mod ArchiveLaw

@@ -2,3 +2,4 @@ pub mod Archives
 pub mod Numbered
 pub mod Defining
 pub mod Spelling
+pub mod Grammar

@@ -3,11 +3,13 @@
 
 mod defining;
 mod entries;
+mod laws;
 mod reading;
 mod records;
 mod writing;
 
 pub use crate::defining::members_defining;
+pub use crate::laws::{archive_law, one_record};
 pub use crate::reading::read_archive;
 pub use crate::records::{Archive, Member};
 pub use crate::writing::write_archive;

@@ -1,12 +1,13 @@
 //! Reading a library.
 
-ghost use Rattle.std.specs.Prelude.{◌≡◌, ℕ, List as Items, ◌+◌, ◌^◌, ◌<◌, ◌≤◌, [], length, min, slice_get, is_some, OnOk, IfOk};
+ghost use Rattle.std.specs.Prelude.{◌≡◌, ℕ, List as Items, ◌+◌, ◌^◌, ◌<◌, ◌≤◌, [], length, min, slice_get, is_some, OnOk, IfOk, Ok};
 ghost use Rattle.chunk_file.specs.Reading.{Gives};
 ghost use Rattle.chunk_file.specs.Chunks.{bytes_at};
 ghost use Rattle.aof_object.specs.Names.{terminated, among};
 ghost use Rattle.aof_object.specs.Index.{number_in};
 ghost use Rattle.aof_object.specs.Objects.{object_of};
 ghost use Rattle.alf_archive.specs.Archives.{data_named, moved, moved_by, fault_moved, member_in, member_at, member_names, Adds, with_entry, members_from, directory, archive_of};
+ghost use Rattle.alf_archive.specs.Grammar.{ReadsArchive};
 
 use crate::entries::{Slot, bad_library, read_slot};
 use crate::records::{Archive, Member};
@@ -187,10 +188,8 @@ fn read_directory(alloc: Global, found: Found) -> Result<Span, Fault>
     }
 }
 
-/// The members of a library. Gives `BadChunk`, `BadLibrary` and, for a member, `BadObject`, each with an
-/// empty file name and an offset in the whole file. OFL_SYMT is never read.
 #[tactic(auto, unfolding(crate::specs::Archives::archive_of))]
-pub fn read_archive(alloc: Global, b: &[u8]) -> Result<Archive, Fault>
+fn archive(alloc: Global, b: &[u8]) -> Result<Archive, Fault>
     requires { length b.now < 2 ^ 32 }
     ensures { Gives result (archive_of b.now) }
 {
@@ -200,4 +199,18 @@ pub fn read_archive(alloc: Global, b: &[u8]) -> Result<Archive, Fault>
     let dir = bytes_of_span(b, &place);
     let members = read_members(alloc, b, spans, place.offset as usize, dir)?;
     Ok(Archive { members })
+}
+
+/// The members of a library. Gives `BadChunk`, `BadLibrary` and, for a member, `BadObject`, each with an
+/// empty file name and an offset in the whole file. OFL_SYMT is never read.
+pub fn read_archive(alloc: Global, b: &[u8]) -> Result<Archive, Fault>
+    requires { length b.now < 2 ^ 32 }
+    // What is read is what the bytes say.
+    ensures found { IfOk result (λ a. ReadsArchive b.now a) }
+    // What the bytes say is read, unless memory was refused.
+    ensures only { (a : Archive) → ReadsArchive b.now a → Gives result (Ok a) }
+    // Which check fails first.
+    ensures exact { Gives result (archive_of b.now) }
+{
+    archive(alloc, b)
 }

@@ -1,0 +1,13 @@
+//! Laws of the format, each proved as the contract of an empty function.
+
+ghost use Rattle.alf_archive.specs.Grammar.{ArchiveLaw, OneRecord};
+
+/// The library that reading gives is what the bytes say, and where it gives none they say none.
+pub fn archive_law()
+    ensures { ArchiveLaw }
+{}
+
+/// Bytes have at most one record.
+pub fn one_record()
+    ensures { OneRecord }
+{}
