@@ -1,17 +1,22 @@
 -- What a library says, as a relation between its bytes and a record, apart from how it is read
 -- (SDT 2.50 Reference Guide, ARM Object Library Format).
-use Rattle.std.specs.Prelude.{◌≡◌, ◌≢◌, ◌↔◌, ◌⊎◌, ℕ, ◌+◌, ◌%◌, ◌≤◌, List, [], ◌∷◌, ◌++◌, length, take, drop, slice_get, Option, Some, Ok, codes}
+use Rattle.std.specs.Prelude.{◌≡◌, ◌≢◌, ◌↔◌, ◌⊎◌, ℕ, ◌+◌, ◌%◌, ◌^◌, ◌<◌, ◌≤◌, List, [], ◌∷◌, ◌++◌, length, take, drop, slice_get, Option, Some, Ok, codes}
+use Rattle.std.specs.List.{AllByRecursion}
 use Rattle.sdt_word.specs.Bytes.{word_in}
 use Rattle.chunk_file.specs.declared.records.Span.{Span}
+use Rattle.chunk_file.specs.Reading.{EachStands}
 use Rattle.chunk_file.specs.Chunks.{bytes_at}
 use Rattle.chunk_file.specs.Grammar.{ReadsTable}
 use Rattle.aof_object.specs.Names.{IsText, Lacks}
 use Rattle.aof_object.specs.Parts.{named}
+use Rattle.aof_object.specs.Validity as object
+use Rattle.aof_object.specs.Grammar as grammar
 use Rattle.aof_object.specs.Grammar.{ReadsObject}
 use Rattle.alf_archive.specs.declared.records.Member.{Member}
 use Rattle.alf_archive.specs.declared.records.Archive.{Archive}
 use Rattle.alf_archive.specs.declared.entries.Slot.{Slot}
 use Rattle.alf_archive.specs.Archives.{member_names, archive_of}
+use Rattle.alf_archive.specs.Spelling.{spelled}
 
 -- ---- entries
 
@@ -65,3 +70,19 @@ ArchiveLaw = (b : List ℕ) (a : Archive) → (archive_of b ≡ Ok a) ↔ ReadsA
 -- bytes have at most one record
 abbrev pub OneRecord : Type 0
 OneRecord = (b : List ℕ) (a c : Archive) → ReadsArchive b a → ReadsArchive b c → a ≡ c
+
+-- ---- what is spelled
+
+-- the members' names differ and hold no zero byte, and their objects are valid
+pub record IsValid (a : Archive) : Type 0 where
+  pub fresh : EachStands (λ before m. Lacks (member_names before) m.name) [] a.members
+  pub names : AllByRecursion (λ m. IsText m.name) a.members
+  pub objects : AllByRecursion (λ m. object.IsValid m.object) a.members
+
+-- the numbers of its objects are words, as those of the program's records are
+abbrev pub Fits : Archive → Type 0
+Fits a = AllByRecursion (λ m. grammar.Fits m.object) a.members
+
+-- what is spelled is read
+abbrev pub SpellingLaw : Type 0
+SpellingLaw = (a : Archive) → IsValid a → Fits a → length (spelled a) < 2 ^ 32 → ReadsArchive (spelled a) a

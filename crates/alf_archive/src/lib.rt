@@ -9,7 +9,7 @@ mod records;
 mod writing;
 
 pub use crate::defining::members_defining;
-pub use crate::laws::{archive_law, one_record};
+pub use crate::laws::{archive_law, one_record, spelling_law};
 pub use crate::reading::read_archive;
 pub use crate::records::{Archive, Member};
 pub use crate::writing::write_archive;
