@@ -1,0 +1,4 @@
+pub mod MemberLoop
+pub mod SpellingLoops
+pub mod ArchiveLaw
+pub mod SpelledArchive
