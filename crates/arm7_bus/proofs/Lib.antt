@@ -1,0 +1,3 @@
+pub mod PagingLemmas
+pub mod SeatLemmas
+pub mod TestLemmas

@@ -1,0 +1,5 @@
+pub mod Buses
+pub mod Paging
+pub mod Places
+pub mod Seats
+pub mod States

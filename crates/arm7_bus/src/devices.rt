@@ -1,0 +1,107 @@
+//! The devices on the bus, by the addresses that they have.
+
+ghost use Rattle.std.specs.Prelude.{is_some, IfSome, false, ◌≡◌, ◌<◌, ◌≤◌, ◌+◌, ◌-◌, ◌%◌, ◌^◌, ◌||◌, ℕ, length, map, true, position, IsTrue, vec_len, option_map, slice_get};
+ghost use Rattle.sdt_word.specs.Codes.{bytes_in};
+ghost use Rattle.sdt_outside.specs.Counts.{counted};
+ghost use Rattle.sdt_outside.specs.Devices.{answered, stored, ticked, lines_of};
+ghost use Rattle.arm7_bus.specs.Seats.{first_place, has_access, seats_by, device_at, changed_at, seat_read, seat_written, seat_answer};
+
+use crate::memory::range_has;
+use sdt_outside::{Device, Lines};
+use sdt_word::Width;
+
+fn device_has(device: &Box<dyn Device>, a: u32, n: u32) -> bool
+    ensures { result ≡ has_access (base device.now) (size device.now) a n }
+{
+    range_has(device.range(), u64::from(a), n)
+}
+
+fn read_one(device: &mut Box<dyn Device>, a: u32, width: Width) -> u32
+    requires within { IsTrue (has_access (base device.old) (size device.old) a (bytes_in width)) }
+    requires aligned { a % bytes_in width ≡ 0 }
+    ensures answer { result ≡ answered (state device.old) (a - base device.old) width }
+    ensures state { state device.new ≡ state device.old }
+    ensures place { (base device.new ≡ base device.old) × (size device.new ≡ size device.old) }
+    ensures touched { touched device.new ≡ counted (touched device.old) }
+{
+    let base = device.range().base;
+    device.read(a - base, width)
+}
+
+fn write_one(device: &mut Box<dyn Device>, a: u32, width: Width, value: u32)
+    requires within { IsTrue (has_access (base device.old) (size device.old) a (bytes_in width)) }
+    requires aligned { a % bytes_in width ≡ 0 }
+    ensures state { state device.new ≡ stored (state device.old) (a - base device.old) width value }
+    ensures place { (base device.new ≡ base device.old) × (size device.new ≡ size device.old) }
+    ensures touched { touched device.new ≡ counted (touched device.old) }
+{
+    let base = device.range().base;
+    device.write(a - base, width, value);
+}
+
+fn tick_one(device: &mut Box<dyn Device>) -> Lines
+    ensures lines { result ≡ lines_of (ticked (state device.old)) }
+    ensures state { state device.new ≡ ticked (state device.old) }
+    ensures place { (base device.new ≡ base device.old) × (size device.new ≡ size device.old) }
+    ensures touched { touched device.new ≡ touched device.old }
+{
+    device.tick()
+}
+
+/// The place in the list of the first device that has the access.
+fn find(devices: &[Box<dyn Device>], a: u32, n: u32) -> Option<usize>
+    ensures place { result ≡ first_place (λ d. has_access (base d) (size d) a n) devices.now }
+    ensures within { IfSome result (λ i. i < length devices.now) }
+{
+    let [first, rest @ ..] = devices else {
+        return None;
+    };
+    if device_has(first, a, n) {
+        return Some(0);
+    }
+    match find(rest, a, n) {
+        Some(i) => Some(i + 1),
+        None => None,
+    }
+}
+
+/// The answer of the device that has the access.
+pub fn read(devices: &mut Vec<Box<dyn Device>>, a: u32, width: Width) -> Option<u32>
+    requires { a % bytes_in width ≡ 0 }
+    ensures answer { result ≡ option_map (seat_answer a width) (device_at (seats_by base size state touched devices.old.items) a (bytes_in width)) }
+    ensures devices { seats_by base size state touched devices.new.items ≡ changed_at seat_read a (bytes_in width) (seats_by base size state touched devices.old.items) }
+{
+    match find(devices, a, width.bytes()) {
+        Some(i) => Some(read_one(&mut devices[i], a, width)),
+        None => None,
+    }
+}
+
+/// Writes to the device that has the access; false where there is none.
+pub fn write(devices: &mut Vec<Box<dyn Device>>, a: u32, width: Width, value: u32) -> bool
+    requires { a % bytes_in width ≡ 0 }
+    ensures found { result ≡ is_some (device_at (seats_by base size state touched devices.old.items) a (bytes_in width)) }
+    ensures same { result ≡ false → seats_by base size state touched devices.new.items ≡ seats_by base size state touched devices.old.items }
+    ensures devices { seats_by base size state touched devices.new.items ≡ changed_at (seat_written a width value) a (bytes_in width) (seats_by base size state touched devices.old.items) }
+{
+    match find(devices, a, width.bytes()) {
+        Some(i) => {
+            write_one(&mut devices[i], a, width, value);
+            true
+        }
+        None => false,
+    }
+}
+
+/// Whether a device has the whole access.
+pub fn has(devices: &[Box<dyn Device>], a: u32, n: u32) -> bool
+    ensures { result ≡ is_some (device_at (seats_by base size state touched devices.now) a n) }
+{
+    let [first, rest @ ..] = devices else {
+        return false;
+    };
+    if device_has(first, a, n) {
+        return true;
+    }
+    has(rest, a, n)
+}

@@ -1,0 +1,12 @@
+//! Memory and devices of the machine.
+#![tactic(auto)]
+
+mod bus;
+mod devices;
+mod frames;
+mod memory;
+mod pages;
+
+pub use crate::bus::{Absent, Bus, NoDevice};
+pub use crate::frames::Frames;
+pub use crate::memory::{BusFault, Stores};

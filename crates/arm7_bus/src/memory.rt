@@ -1,0 +1,206 @@
+//! Banks of memory over pages.
+
+ghost use Rattle.std.specs.Prelude.{◌≡◌, ◌<◌, ◌≤◌, ◌+◌, ◌-◌, ◌/◌, ◌%◌, ◌^◌, ◌∷◌, [], ◌++◌, ◌||◌, nat_lt, length, map, take, true, false, IsTrue, is_some, Some, None, Ok, Err, OnOk, OnErr, IfErr, MatchResult, slice_set};
+ghost use Rattle.sdt_word.specs.Bytes.{bytes_of, load, number_of};
+ghost use Rattle.sdt_word.specs.Codes.{bytes_in};
+
+use crate::pages::{PAGE, Pages};
+use sdt_word::{Range32, Width};
+
+/// A bank of memory, and whether it is protected from stores.
+#[derive(Clone, Copy, Debug)]
+pub struct Bank {
+    pub range: Range32,
+    pub read_only: bool,
+}
+
+/// Why a store isn't made.
+#[derive(Clone, Copy, PartialEq, Eq, Debug)]
+pub enum BusFault {
+    /// No bank and no device has the whole access.
+    Absent,
+    /// The page of this address isn't used, and all frames are.
+    NoFrame(u32),
+    /// A byte of the access is protected.
+    ReadOnly,
+}
+
+/// The first `count` ranges of the list, in order.
+#[derive(Clone, Copy, Debug)]
+pub struct Stores {
+    pub list: [Range32; 16],
+    pub count: u32,
+    pub ghost few: { count ≤ 16 },
+}
+
+/// The banks, their bytes, and the stores since the last tick.
+#[derive(Debug, Drop)]
+pub struct Memory {
+    pub banks: Vec<Bank>,
+    pub pages: Pages,
+    pub stores: Stores,
+}
+
+/// Whether the range has the whole access of `n` bytes.
+pub fn range_has(range: Range32, a: u64, n: u32) -> bool
+    requires { a ≤ 2 ^ 33 }
+    ensures { result ≡ has_access range.base range.size a n }
+{
+    let base = u64::from(range.base);
+    base <= a && a + u64::from(n) <= base + range.size
+}
+
+ghost use Rattle.arm7_bus.specs.Seats.{has_access};
+
+fn bank_has_access(banks: &[Bank], a: u64, n: u32) -> bool
+    requires { a ≤ 2 ^ 33 }
+    ensures { result ≡ list_any (λ b. has_access b.range.base b.range.size a n) banks.now }
+{
+    banks.iter().any(|bank| range_has(bank.range, a, n))
+}
+
+ghost use Rattle.std.specs.List.{list_any};
+
+fn byte_protected(banks: &[Bank], a: u64) -> bool
+    requires { a ≤ 2 ^ 33 }
+    ensures { result ≡ list_any (λ b. b.read_only && has_access b.range.base b.range.size a 1) banks.now }
+{
+    banks
+        .iter()
+        .any(|bank| bank.read_only && range_has(bank.range, a, 1))
+}
+
+ghost use Rattle.std.specs.Prelude.{◌&&◌};
+
+impl Memory {
+    ghost use Rattle.std.specs.Prelude.{◌≡◌, ◌≤◌, ◌<◌, ◌+◌, ◌%◌, ◌/◌, true, false, IsTrue, length, MatchOption, is_some, Ok, Err, ◌-◌, Some, None, ◌∷◌, [], ◌++◌};
+    ghost use Rattle.sdt_word.specs.Bytes.{load, number_of};
+    ghost use Rattle.sdt_word.specs.Codes.{bytes_in};
+    ghost use Rattle.arm7_bus.specs.Paging.{page_used_in, used_count};
+    ghost use Rattle.arm7_bus.specs.States.{contents_of, noted, bank_has, is_protected, store_fault, after_store, store_answer, store_leaves, peeked};
+
+    /// Whether one bank has the whole access.
+    pub fn holds(&self, a: u32, n: u32) -> bool
+        ensures { result ≡ bank_has (contents_of self.now).banks a n }
+    {
+        bank_has_access(&self.banks, u64::from(a), n)
+    }
+
+    /// Whether a byte of the access is protected.
+    pub fn is_protected(&self, a: u32, n: u32) -> bool
+        requires { n ≤ 4 }
+        ensures { result ≡ is_protected (contents_of self.now).banks a n }
+    {
+        let first = u64::from(a);
+        for x in first..first + u64::from(n) {
+            if byte_protected(&self.banks, x) {
+                return true;
+            }
+        }
+        false
+    }
+
+    /// The bytes of an access, as a number.
+    pub fn read(&self, a: u32, width: Width) -> u32
+        requires started { length (contents_of self.now).used ≡ 1048576 }
+        requires aligned { a % bytes_in width ≡ 0 }
+        ensures { result ≡ number_of (load (contents_of self.now).memory a (bytes_in width)) }
+    {
+        self.pages.read(a, width)
+    }
+
+    /// The byte at an address, where a bank has it.
+    pub fn peek(&self, a: u32) -> Option<u8>
+        requires { length (contents_of self.now).used ≡ 1048576 }
+        ensures { result ≡ peeked (contents_of self.now) a }
+    {
+        if self.holds(a, 1) {
+            Some(self.pages.peek(a))
+        } else {
+            None
+        }
+    }
+
+    pub fn page_used(&self, a: u32) -> bool
+        requires { length (contents_of self.now).used ≡ 1048576 }
+        ensures { result ≡ page_used_in (contents_of self.now).used a }
+    {
+        self.pages.is_used((a / PAGE) as usize)
+    }
+
+    pub fn pages_left(&self) -> u32
+        ensures { result ≡ (contents_of self.now).frames - used_count (contents_of self.now).used }
+    {
+        self.pages.left()
+    }
+
+    /// Makes a store that lies in a bank, and notes it.
+    pub fn store(&mut self, a: u32, width: Width, v: u32) -> Result<(), BusFault>
+        requires started { length (contents_of self.old).used ≡ 1048576 }
+        requires aligned { a % bytes_in width ≡ 0 }
+        requires few { self.old.stores.count < 16 }
+        ensures answer { result ≡ store_answer (store_fault (contents_of self.old) a (bytes_in width)) }
+        ensures after { contents_of self.new ≡ store_leaves (store_fault (contents_of self.old) a (bytes_in width)) (contents_of self.old) (after_store (contents_of self.old) a width v) }
+    {
+        if self.is_protected(a, width.bytes()) {
+            return Err(BusFault::ReadOnly);
+        }
+        if !self.pages.write(a, width, v) {
+            return Err(BusFault::NoFrame(a));
+        }
+        self.stores.note(a, width);
+        Ok(())
+    }
+
+    /// Notes a store to a device.
+    pub fn note(&mut self, a: u32, width: Width)
+        requires aligned { a % bytes_in width ≡ 0 }
+        requires few { self.old.stores.count < 16 }
+        ensures { contents_of self.new ≡ noted (contents_of self.old) a (bytes_in width) }
+    {
+        self.stores.note(a, width);
+    }
+
+    /// No store is noted any more.
+    pub fn forget_stores(&mut self)
+        ensures { contents_of self.new ≡ record (contents_of self.old) { stores = [] } }
+    {
+        self.stores.count = 0;
+    }
+}
+
+impl Stores {
+    ghost use Rattle.std.specs.Prelude.{◌≡◌, ◌<◌, ◌%◌, ◌∷◌, [], ◌++◌, map, take};
+    ghost use Rattle.sdt_word.specs.Codes.{bytes_in};
+    ghost use Rattle.arm7_bus.specs.Places.{place_of};
+
+    pub fn none() -> Stores
+        ensures { result.count ≡ 0 }
+    {
+        Stores {
+            list: [Range32 { base: 0, size: 0 }; 16],
+            count: 0,
+        }
+    }
+
+    /// Adds the range of an access.
+    pub fn note(&mut self, a: u32, width: Width)
+        requires aligned { a % bytes_in width ≡ 0 }
+        requires few { self.old.count < 16 }
+        ensures { map place_of (take self.new.count self.new.list) ≡ map place_of (take self.old.count self.old.list) ++ (a, bytes_in width) ∷ [] }
+    {
+        self.list[self.count as usize] = access_range(a, width);
+        self.count += 1;
+    }
+}
+
+fn access_range(a: u32, width: Width) -> Range32
+    requires { a % bytes_in width ≡ 0 }
+    ensures { (result.base ≡ a) × (result.size ≡ bytes_in width) }
+{
+    match width {
+        Width::Byte => Range32 { base: a, size: 1 },
+        Width::Half => Range32 { base: a, size: 2 },
+        Width::Word => Range32 { base: a, size: 4 },
+    }
+}

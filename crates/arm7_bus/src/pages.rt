@@ -1,0 +1,131 @@
+//! Memory in pages that take a frame when they are first written.
+
+ghost use Rattle.std.specs.Prelude.{◌≡◌, ℕ, ◌<◌, ◌≤◌, ◌+◌, ◌*◌, ◌/◌, ◌%◌, List, [], length, IsTrue, is_some, None, Some, IfOk, OnOk, map, replicate, false, slice_index, slice_index_or, slice_set, true, ◌-◌, ◌||◌, nat_lt};
+ghost use Rattle.sdt_word.specs.Bytes.{bytes_of, load, number_of};
+ghost use Rattle.sdt_word.specs.Codes.{bytes_in};
+ghost use Rattle.arm7_model.specs.Memory.{store};
+ghost use Rattle.arm7_bus.specs.Paging.{frame_of, memory_in, used_in, page_used_in, used_count, IsPaging};
+
+use crate::frames::Frames;
+use sdt_fault::NoMemory;
+use sdt_word::Width;
+use std::alloc::Global;
+
+/// The bytes in a page.
+pub const PAGE: u32 = 4096;
+
+/// How many pages there are addresses for.
+pub const PAGES: usize = 1048576;
+
+/// The frame of each page, the frames, how many of them are in use, and how many there are. The table is
+/// empty until memory is started.
+#[derive(Debug, Drop)]
+pub struct Pages {
+    pub table: Vec<Option<u16>>,
+    pub frames: Frames,
+    pub used: u32,
+    pub room: u32,
+    pub ghost paging: { IsPaging table.items frames used room },
+}
+
+impl Pages {
+    /// The bytes of an access, as a number.
+    pub fn read(&self, a: u32, width: Width) -> u32
+        requires started { length self.now.table.items ≡ 1048576 }
+        requires aligned { a % bytes_in width ≡ 0 }
+        ensures { result ≡ number_of (load (memory_in self.now.table.items self.now.frames) a (bytes_in width)) }
+    {
+        match self.table[(a / PAGE) as usize] {
+            Some(frame) => self.frames.read(u32::from(frame) * PAGE + a % PAGE, width),
+            None => 0,
+        }
+    }
+
+    /// Sets the bytes of an access in a page that has this frame.
+    fn put(&mut self, frame: u16, a: u32, width: Width, v: u32)
+        requires aligned { a % bytes_in width ≡ 0 }
+        requires frame { frame_of self.old.table.items (a / 4096) ≡ Some frame }
+        ensures memory { memory_in self.new.table.items self.new.frames ≡ store (memory_in self.old.table.items self.old.frames) a (bytes_of v (bytes_in width)) }
+        ensures table { self.new.table ≡ self.old.table }
+        ensures counts { (self.new.used ≡ self.old.used) × (self.new.room ≡ self.old.room) }
+    {
+        self.frames
+            .write(u32::from(frame) * PAGE + a % PAGE, width, v);
+    }
+
+    /// Gives a frame to a page that has none.
+    pub fn claim(&mut self, page: usize)
+        requires page { page < length self.old.table.items }
+        requires fresh { frame_of self.old.table.items page ≡ None }
+        requires left { self.old.used < self.old.room }
+        ensures memory { memory_in self.new.table.items self.new.frames ≡ memory_in self.old.table.items self.old.frames }
+        ensures table { self.new.table.items ≡ slice_set self.old.table.items page (Some self.old.used) }
+        ensures counts { (self.new.used ≡ self.old.used + 1) × (self.new.room ≡ self.old.room) }
+    {
+        self.table[page] = Some(self.used as u16);
+        self.used += 1;
+    }
+
+    /// The byte at an address.
+    pub fn peek(&self, a: u32) -> u8
+        requires { length self.now.table.items ≡ 1048576 }
+        ensures { result ≡ memory_in self.now.table.items self.now.frames a }
+    {
+        match self.table[(a / PAGE) as usize] {
+            Some(frame) => self.frames.read_byte(u32::from(frame) * PAGE + a % PAGE),
+            None => 0,
+        }
+    }
+
+    pub fn is_used(&self, page: usize) -> bool
+        requires { page < length self.now.table.items }
+        ensures { result ≡ slice_index_or (used_in self.now.table.items) page false }
+    {
+        self.table[page].is_some()
+    }
+
+    /// How many pages can still take a frame.
+    pub fn left(&self) -> u32
+        ensures { result ≡ self.now.room - used_count (used_in self.now.table.items) }
+    {
+        self.room - self.used
+    }
+
+    fn put_fresh(&mut self, a: u32, width: Width, v: u32) -> bool
+        requires started { length self.old.table.items ≡ 1048576 }
+        requires aligned { a % bytes_in width ≡ 0 }
+        requires fresh { frame_of self.old.table.items (a / 4096) ≡ None }
+        ensures answer { result ≡ nat_lt (used_count (used_in self.old.table.items)) self.old.room }
+        ensures memory { result ≡ true → memory_in self.new.table.items self.new.frames ≡ store (memory_in self.old.table.items self.old.frames) a (bytes_of v (bytes_in width)) }
+        ensures used { result ≡ true → used_in self.new.table.items ≡ slice_set (used_in self.old.table.items) (a / 4096) true }
+        ensures room { self.new.room ≡ self.old.room }
+        ensures same { result ≡ false → self.new ≡ self.old }
+    {
+        if self.used >= self.room {
+            return false;
+        }
+        let frame = self.used as u16;
+        self.claim((a / PAGE) as usize);
+        self.put(frame, a, width, v);
+        true
+    }
+
+    /// Sets the bytes of an access, for which its page takes a frame where it has none; false where it can't.
+    pub fn write(&mut self, a: u32, width: Width, v: u32) -> bool
+        requires started { length self.old.table.items ≡ 1048576 }
+        requires aligned { a % bytes_in width ≡ 0 }
+        ensures answer { result ≡ (page_used_in (used_in self.old.table.items) a || nat_lt (used_count (used_in self.old.table.items)) self.old.room) }
+        ensures memory { result ≡ true → memory_in self.new.table.items self.new.frames ≡ store (memory_in self.old.table.items self.old.frames) a (bytes_of v (bytes_in width)) }
+        ensures used { result ≡ true → used_in self.new.table.items ≡ slice_set (used_in self.old.table.items) (a / 4096) true }
+        ensures room { self.new.room ≡ self.old.room }
+        ensures same { result ≡ false → self.new ≡ self.old }
+    {
+        match self.table[(a / PAGE) as usize] {
+            Some(frame) => {
+                self.put(frame, a, width, v);
+                true
+            }
+            None => self.put_fresh(a, width, v),
+        }
+    }
+}
