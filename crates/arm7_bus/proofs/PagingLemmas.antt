@@ -1,10 +1,11 @@
 -- Pages: what an access in one page reads and writes, and what a page that takes a frame changes.
-use Rattle.std.proofs.Common.{◌≡◌, ◌≢◌, ℕ, zero, suc, ◌+◌, ◌-◌, ◌*◌, ◌/◌, ◌%◌, ◌<◌, ◌≤◌, Bool, true, false, List, [], ◌∷◌, ◌++◌, length, take, drop, get_or, set, map, Option, Some, None, is_some, count_by, cond, refl, sym, ap, ◌∙◌, arith, ◌⊎◌, inl, inr, length-append, length-drop, length-take-le, drop-cons, ◌==◌, eqb-true, eq-eqb}
+use Rattle.std.proofs.Common.{◌≡◌, ◌≢◌, ℕ, zero, suc, ◌+◌, ◌-◌, ◌*◌, ◌/◌, ◌%◌, ◌<◌, ◌≤◌, Bool, true, false, List, [], ◌∷◌, ◌++◌, length, take, drop, get_or, set, map, Option, Some, None, is_some, count_by, cond, refl, sym, ap, ◌∙◌, arith, ◌⊎◌, inl, inr, length-append, length-drop, length-take-le, replicate, drop-cons, ◌==◌, eqb-true, eq-eqb}
 use Rattle.std.proofs.Math.ListN.{get_or-append}
 use Rattle.std.proofs.Math.Seq.{get_or-append_right, get_or-take, get_or-drop, get_or-set_same, get_or-set_other, map-set}
 use Rattle.std.proofs.lemmas.List.Sums.{sum_by-cons, sum_by-set}
 use Rattle.std.proofs.Math.Path.{fun_ext}
 use Rattle.std.proofs.lemmas.Bool.{true≢false}
+use Rattle.std.proofs.lemmas.List.{length-replicate, length-map}
 use Rattle.sdt_word.specs.Bytes.{bytes_of, load, number_of, written}
 use Rattle.sdt_word.specs.Codes.{bytes_in}
 use Rattle.sdt_word.specs.declared.codes.Width.{Width}
@@ -12,7 +13,7 @@ use Rattle.sdt_word.specs.declared.codes.Width.TheVariants.{Byte, Half, Word}
 use Rattle.sdt_word.proofs.BytesLemmas.{length-bytes_of, length-written}
 use Rattle.arm7_model.specs.Memory.{store}
 use Rattle.arm7_model.proofs.MemoryLemmas.{below_or_not, store-below, store-above, store-in}
-use Rattle.arm7_bus.specs.Paging.{frame_of, byte_of, memory_in, used_in, IsPaging}
+use Rattle.arm7_bus.specs.Paging.{frame_of, byte_of, memory_in, used_in, IsPaging, IsUnused}
 
 -- ---- bytes written over others
 written_before : (old bs : List ℕ) (at i : ℕ) → at + length bs ≤ length old → i < at → get_or (written old at bs) i 0 ≡ get_or old i 0
@@ -248,3 +249,51 @@ used_counted (o ∷ os) =
     let right = sum_by-cons one o os in
     let rest = used_counted os in
     omega (arith, left, right, rest)
+
+-- ---- pages before any is used
+pub none_at : (n page : ℕ) → frame_of (replicate n None) page ≡ None
+none_at zero page = refl
+none_at (suc n) zero = refl
+none_at (suc n) (suc page) = none_at n page
+
+zero_at : (n k : ℕ) → get_or (replicate {A = ℕ} n 0) k 0 ≡ 0
+zero_at zero k = refl
+zero_at (suc n) zero = refl
+zero_at (suc n) (suc k) = zero_at n k
+
+pub none_counted : (n : ℕ) → count_by is_some (replicate {A = Option ℕ} n None) ≡ 0
+none_counted zero = refl
+none_counted (suc n) =
+    let head = sum_by-cons one None (replicate n None) in
+    let rest = none_counted n in
+    omega (arith, head, rest)
+
+pub unused_table : (n : ℕ) (table : List (Option ℕ)) → table ≡ replicate n None → IsUnused table n
+unused_table n table e = rw e (record {
+  pages = length-replicate n None;
+  none = none_at n;
+  count = none_counted n;
+})
+
+pub fresh-paging : (table : List (Option ℕ)) (bytes : List ℕ) (n room : ℕ) → IsUnused table n → bytes ≡ replicate (4096 * room) 0 → room ≤ 65536 → IsPaging table bytes 0 room
+fresh-paging table bytes n room u e few = record {
+  size = ap length e ∙ length-replicate (4096 * room) 0;
+  fits = omega arith;
+  few = few;
+  counted = u.count;
+  below = λ page frame f. absurd (none-some frame (sym (u.none page) ∙ f));
+  distinct = λ p q frame f g. absurd (none-some frame (sym (u.none p) ∙ f));
+  clear = λ k h. ap (λ (bs : List ℕ). get_or bs k 0) e ∙ zero_at (4096 * room) k;
+}
+
+pub fresh-memory : (table : List (Option ℕ)) (bytes : List ℕ) (n : ℕ) (before : List (Option ℕ)) (old : List ℕ) → IsUnused table n → length (used_in before) ≡ 0 → memory_in table bytes ≡ memory_in before old
+unfolding memory_in
+fresh-memory table bytes n [] old u e = fun_ext (λ a. ap (byte_of bytes (a % 4096)) (u.none (a / 4096)))
+fresh-memory table bytes n (o ∷ os) old u e = absurd (omega arith)
+
+pub unused_at : (table : List (Option ℕ)) (n page : ℕ) → IsUnused table n → get_or (used_in table) page false ≡ false
+unused_at table n page u = used_at table page ∙ ap is_some (u.none page)
+
+pub used_length : (table : List (Option ℕ)) → length (used_in table) ≡ length table
+used_length [] = refl
+used_length (o ∷ os) = let rest = used_length os in omega arith

@@ -3,3 +3,4 @@ pub mod Paging
 pub mod Places
 pub mod Seats
 pub mod States
+pub mod Touches

@@ -36,3 +36,9 @@ pub record IsPaging (table : List (Option ℕ)) (bytes : List ℕ) (used room : 
   pub below : (page frame : ℕ) → frame_of table page ≡ Some frame → frame < used
   pub distinct : (p q frame : ℕ) → frame_of table p ≡ Some frame → frame_of table q ≡ Some frame → p ≡ q
   pub clear : (k : ℕ) → 4096 * used ≤ k → slice_index bytes k ≡ 0
+
+-- a table of so many pages, none of which has a frame
+pub record IsUnused (table : List (Option ℕ)) (n : ℕ) : Type 0 where
+  pub pages : length table ≡ n
+  pub none : (page : ℕ) → frame_of table page ≡ None
+  pub count : count_by is_some table ≡ 0

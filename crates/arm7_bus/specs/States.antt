@@ -13,6 +13,7 @@ use Rattle.arm7_bus.specs.declared.memory.BusFault.{BusFault}
 use Rattle.arm7_bus.specs.declared.memory.BusFault.TheVariants.{NoFrame, ReadOnly}
 use Rattle.arm7_bus.specs.Paging.{memory_in, used_in, page_used_in, used_count}
 use Rattle.arm7_bus.specs.Places.{place_of}
+use Rattle.arm7_bus.specs.Touches.{pages_touched}
 use Rattle.arm7_bus.specs.Seats.{Seat, has_access}
 
 -- the memory of a bus. There are no pages until memory is started; then each page is used or not, and at most as many
@@ -94,16 +95,6 @@ abbrev pub peeked : Contents → ℕ → Option ℕ
 peeked c a = if bank_has c.banks a 1 then Some (c.memory a) else None
 
 -- ---- the start of memory
--- a range has an address in a page
-abbrev pub range_touches : ℕ → ℕ → ℕ → Bool
-range_touches base size page = nat_lt (max base (4096 * page)) (min (base + size) (4096 * page + 4096))
-
--- how many of the first n pages the banks touch
-unfoldable pub pages_touched : List Bank → ℕ → ℕ
-pages_touched banks zero = 0
-pages_touched banks (suc n) =
-    pages_touched banks n + (if list_any (λ b. range_touches b.range.base b.range.size n) banks then 1 else 0)
-
 -- memory has its pages, none of them used, and frames for those that the banks touch, as far as there are any
 pub record IsStart (old new : Contents) : Type 0 where
   pub banks : new.banks ≡ old.banks

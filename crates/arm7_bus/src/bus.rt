@@ -7,12 +7,13 @@ ghost use Rattle.arm7_bus.specs.Paging.{page_used_in, used_count};
 ghost use Rattle.arm7_bus.specs.Places.{place_of};
 ghost use Rattle.arm7_bus.specs.Seats.{seats_by};
 ghost use Rattle.std.specs.Prelude.{◌↔◌, IsOk, OnOk, OnErr};
-ghost use Rattle.arm7_bus.specs.States.{is_protected, peeked, store_answer};
+ghost use Rattle.arm7_bus.specs.States.{IsStart, is_protected, peeked, store_answer};
 ghost use Rattle.arm7_bus.specs.Buses.{bus_state, IsStarted, has_whole, read_answer, after_read, write_fault, after_write, after_forget, after_detach};
 ghost use Rattle.std.specs.Prelude.{take};
 
 use crate::devices;
 use crate::memory::{BusFault, Memory, Stores};
+use sdt_fault::NoMemory;
 use sdt_outside::Device;
 use sdt_word::Width;
 
@@ -139,5 +140,15 @@ impl Bus {
         }
         let _device = self.devices.remove(i as usize);
         Ok(())
+    }
+
+    /// Makes the pages, and frames for as many of them as the banks touch, at most 65,536.
+    pub fn start_pages(&mut self) -> Result<(), NoMemory>
+        requires { length (bus_state base size state touched self.old).contents.used ≡ 0 }
+        ensures ok { OnOk result (IsStart (bus_state base size state touched self.old).contents (bus_state base size state touched self.new).contents) }
+        ensures err { OnErr result (bus_state base size state touched self.new ≡ bus_state base size state touched self.old) }
+        ensures devices { (bus_state base size state touched self.new).devices ≡ (bus_state base size state touched self.old).devices }
+    {
+        self.memory.start()
     }
 }

@@ -4,8 +4,10 @@ ghost use Rattle.std.specs.Prelude.{◌≡◌, ◌<◌, ◌≤◌, ◌+◌, ◌-
 ghost use Rattle.sdt_word.specs.Bytes.{bytes_of, load, number_of};
 ghost use Rattle.sdt_word.specs.Codes.{bytes_in};
 
-use crate::pages::{PAGE, Pages};
+use crate::pages::{PAGE, PAGES, Pages};
+use sdt_fault::NoMemory;
 use sdt_word::{Range32, Width};
+use std::alloc::Global;
 
 /// A bank of memory, and whether it is protected from stores.
 #[derive(Clone, Copy, Debug)]
@@ -36,6 +38,7 @@ pub struct Stores {
 /// The banks, their bytes, and the stores since the last tick.
 #[derive(Debug, Drop)]
 pub struct Memory {
+    pub alloc: Global,
     pub banks: Vec<Bank>,
     pub pages: Pages,
     pub stores: Stores,
@@ -60,6 +63,8 @@ fn bank_has_access(banks: &[Bank], a: u64, n: u32) -> bool
 }
 
 ghost use Rattle.std.specs.List.{list_any};
+ghost use Rattle.std.specs.Prelude.{min};
+ghost use Rattle.arm7_bus.specs.Touches.{range_touches, pages_touched};
 
 fn byte_protected(banks: &[Bank], a: u64) -> bool
     requires { a ≤ 2 ^ 33 }
@@ -73,11 +78,11 @@ fn byte_protected(banks: &[Bank], a: u64) -> bool
 ghost use Rattle.std.specs.Prelude.{◌&&◌};
 
 impl Memory {
-    ghost use Rattle.std.specs.Prelude.{◌≡◌, ◌≤◌, ◌<◌, ◌+◌, ◌%◌, ◌/◌, true, false, IsTrue, length, MatchOption, is_some, Ok, Err, ◌-◌, Some, None, ◌∷◌, [], ◌++◌};
+    ghost use Rattle.std.specs.Prelude.{◌≡◌, ◌≤◌, ◌<◌, ◌+◌, ◌%◌, ◌/◌, true, false, IsTrue, length, MatchOption, is_some, OnOk, OnErr, Ok, Err, ◌-◌, Some, None, ◌∷◌, [], ◌++◌};
     ghost use Rattle.sdt_word.specs.Bytes.{load, number_of};
     ghost use Rattle.sdt_word.specs.Codes.{bytes_in};
     ghost use Rattle.arm7_bus.specs.Paging.{page_used_in, used_count};
-    ghost use Rattle.arm7_bus.specs.States.{contents_of, noted, bank_has, is_protected, store_fault, after_store, store_answer, store_leaves, peeked};
+    ghost use Rattle.arm7_bus.specs.States.{contents_of, noted, IsStart, bank_has, is_protected, store_fault, after_store, store_answer, store_leaves, peeked};
 
     /// Whether one bank has the whole access.
     pub fn holds(&self, a: u32, n: u32) -> bool
@@ -152,6 +157,33 @@ impl Memory {
         Ok(())
     }
 
+    /// No banks.
+    pub fn new(alloc: Global) -> Memory
+        ensures banks { (contents_of result).banks ≡ [] }
+        ensures used { (contents_of result).used ≡ [] }
+        ensures frames { (contents_of result).frames ≡ 0 }
+        ensures stores { (contents_of result).stores ≡ [] }
+    {
+        Memory {
+            alloc,
+            banks: Vec::new(alloc),
+            pages: Pages::none(alloc),
+            stores: Stores::none(),
+        }
+    }
+
+    /// Makes the pages, and frames for those that the banks touch.
+    pub fn start(&mut self) -> Result<(), NoMemory>
+        requires { length (contents_of self.old).used ≡ 0 }
+        ensures ok { OnOk result (IsStart (contents_of self.old) (contents_of self.new)) }
+        ensures err { OnErr result (contents_of self.new ≡ contents_of self.old) }
+    {
+        let room = frames_for(&self.banks);
+        let pages = Pages::make(self.alloc, PAGES, room)?;
+        self.pages = pages;
+        Ok(())
+    }
+
     /// Notes a store to a device.
     pub fn note(&mut self, a: u32, width: Width)
         requires aligned { a % bytes_in width ≡ 0 }
@@ -203,4 +235,33 @@ fn access_range(a: u32, width: Width) -> Range32
         Width::Half => Range32 { base: a, size: 2 },
         Width::Word => Range32 { base: a, size: 4 },
     }
+}
+
+fn touches_page(range: Range32, page: u64) -> bool
+    requires { page < 1048576 }
+    ensures { result ≡ range_touches range.base range.size page }
+{
+    let base = u64::from(range.base);
+    base.max(4096 * page) < (base + range.size).min(4096 * page + 4096)
+}
+
+fn page_touched(banks: &[Bank], page: u64) -> bool
+    requires { page < 1048576 }
+    ensures { result ≡ list_any (λ b. range_touches b.range.base b.range.size page) banks.now }
+{
+    banks.iter().any(|bank| touches_page(bank.range, page))
+}
+
+/// How many frames there are for the pages that the banks touch.
+#[tactic(auto, using(crate::proofs::TestLemmas::touched_more, crate::proofs::TestLemmas::touched_none))]
+fn frames_for(banks: &[Bank]) -> u32
+    ensures { result ≡ min 65536 (pages_touched banks.now 1048576) }
+{
+    let mut n: u32 = 0;
+    for page in 0..1048576 {
+        if page_touched(banks, page) {
+            n += 1;
+        }
+    }
+    n.min(65536)
 }

@@ -4,7 +4,7 @@ ghost use Rattle.std.specs.Prelude.{◌≡◌, ℕ, ◌<◌, ◌≤◌, ◌+◌,
 ghost use Rattle.sdt_word.specs.Bytes.{bytes_of, load, number_of};
 ghost use Rattle.sdt_word.specs.Codes.{bytes_in};
 ghost use Rattle.arm7_model.specs.Memory.{store};
-ghost use Rattle.arm7_bus.specs.Paging.{frame_of, memory_in, used_in, page_used_in, used_count, IsPaging};
+ghost use Rattle.arm7_bus.specs.Paging.{frame_of, memory_in, used_in, page_used_in, used_count, IsPaging, IsUnused};
 
 use crate::frames::Frames;
 use sdt_fault::NoMemory;
@@ -128,4 +128,44 @@ impl Pages {
             None => self.put_fresh(a, width, v),
         }
     }
+
+    /// No pages yet.
+    pub fn none(alloc: Global) -> Pages
+        ensures table { result.table.items ≡ [] }
+        ensures room { result.room ≡ 0 }
+    {
+        Pages {
+            table: Vec::new(alloc),
+            frames: Frames::none(alloc),
+            used: 0,
+            room: 0,
+        }
+    }
+
+    /// This many pages, none of them used, and frames for as many.
+    pub fn make(alloc: Global, pages: usize, room: u32) -> Result<Pages, NoMemory>
+        requires { room ≤ 65536 }
+        ensures table { IfOk result (λ made. IsUnused made.table.items pages) }
+        ensures room { IfOk result (λ made. made.room ≡ room) }
+    {
+        let table = empty_table(alloc, pages)?;
+        let frames = Frames::make(alloc, room)?;
+        Ok(Pages {
+            table,
+            frames,
+            used: 0,
+            room,
+        })
+    }
+}
+
+#[tactic(auto, using(crate::proofs::PagingLemmas::unused_table))]
+fn empty_table(alloc: Global, pages: usize) -> Result<Vec<Option<u16>>, NoMemory>
+    ensures { IfOk result (λ table. IsUnused table.items pages) }
+{
+    let mut table = Vec::with_capacity(alloc, pages)?;
+    for _page in 0..pages {
+        table.push(None)?;
+    }
+    Ok(table)
 }
