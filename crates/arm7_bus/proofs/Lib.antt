@@ -1,3 +1,4 @@
+pub mod MeetLemmas
 pub mod PagingLemmas
 pub mod SeatLemmas
 pub mod TestLemmas

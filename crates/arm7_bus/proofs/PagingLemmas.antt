@@ -297,3 +297,14 @@ unused_at table n page u = used_at table page ∙ ap is_some (u.none page)
 pub used_length : (table : List (Option ℕ)) → length (used_in table) ≡ length table
 used_length [] = refl
 used_length (o ∷ os) = let rest = used_length os in omega arith
+
+-- no page has a frame
+pub memory_clear : (table : List (Option ℕ)) (bytes : List ℕ) (a : ℕ) → table ≡ [] → memory_in table bytes a ≡ 0
+unfolding memory_in
+memory_clear table bytes a e = rw e refl
+
+-- the same, where the number of pages is known
+pub memory_before : (table : List (Option ℕ)) (bytes : List ℕ) (a : ℕ) → length (used_in table) ≡ 0 → memory_in table bytes a ≡ 0
+unfolding memory_in
+memory_before [] bytes a e = refl
+memory_before (o ∷ os) bytes a e = absurd (omega arith)

@@ -16,6 +16,15 @@ use Rattle.arm7_bus.specs.States.{Contents, State, contents_of, bank_has, noted,
 abbrev pub bus_state : {X : Type 0} {F : X → Type 0} → (DynBox X Global F → ℕ) → (DynBox X Global F → ℕ) → (DynBox X Global F → DeviceState) → (DynBox X Global F → ℕ) → Bus X F → State
 bus_state base size state touched bus = record { contents = contents_of bus.memory; devices = seats_by base size state touched bus.devices.items }
 
+-- a bus of these devices with no bank, all bytes 0, no pages and no stores
+pub record IsNew (seats : List Seat) (s : State) : Type 0 where
+  pub banks : s.contents.banks ≡ []
+  pub memory : (a : ℕ) → s.contents.memory a ≡ 0
+  pub used : s.contents.used ≡ []
+  pub frames : s.contents.frames ≡ 0
+  pub stores : s.contents.stores ≡ []
+  pub devices : s.devices ≡ seats
+
 -- memory has its pages
 abbrev pub IsStarted : State → Type 0
 IsStarted s = length s.contents.used ≡ 1048576

@@ -1,4 +1,5 @@
 pub mod Buses
+pub mod Meets
 pub mod Paging
 pub mod Places
 pub mod Seats

@@ -9,13 +9,16 @@ ghost use Rattle.arm7_bus.specs.Seats.{seats_by};
 ghost use Rattle.std.specs.Prelude.{◌↔◌, IsOk, OnOk, OnErr};
 ghost use Rattle.arm7_bus.specs.States.{IsStart, is_protected, peeked, store_answer};
 ghost use Rattle.arm7_bus.specs.Buses.{bus_state, IsStarted, has_whole, read_answer, after_read, write_fault, after_write, after_forget, after_detach};
-ghost use Rattle.std.specs.Prelude.{take};
+ghost use Rattle.std.specs.Prelude.{take, ℕ, IfOk, IfErr};
+ghost use Rattle.arm7_bus.specs.Buses.{IsNew};
+ghost use Rattle.arm7_bus.specs.Meets.{IsLeast, IsNowhere, seats_share};
 
 use crate::devices;
 use crate::memory::{BusFault, Memory, Stores};
 use sdt_fault::NoMemory;
 use sdt_outside::Device;
 use sdt_word::Width;
+use std::alloc::Global;
 
 /// No bank and no device has the whole access.
 #[derive(Clone, Copy, PartialEq, Eq, Debug)]
@@ -25,6 +28,13 @@ pub struct Absent;
 #[derive(Clone, Copy, PartialEq, Eq, Debug)]
 pub struct NoDevice;
 
+/// Two devices have this address, the least that two of them have. The devices are handed back.
+#[derive(Drop)]
+pub struct NoBus {
+    pub devices: Vec<Box<dyn Device>>,
+    pub address: u32,
+}
+
 /// Memory and devices. It owns its devices.
 #[derive(Drop)]
 pub struct Bus {
@@ -33,6 +43,22 @@ pub struct Bus {
 }
 
 impl Bus {
+    /// A bus of these devices, with no bank. It is refused exactly where two devices have one address.
+    pub fn new(alloc: Global, devices: Vec<Box<dyn Device>>) -> Result<Bus, NoBus>
+        ensures ok { IfOk result (λ bus. IsNew (seats_by base size state touched devices.items) (bus_state base size state touched bus)) }
+        ensures apart { IfOk result (λ bus. IsNowhere (λ a. seats_share (seats_by base size state touched devices.items) a)) }
+        ensures err { IfErr result (λ e. IsLeast (λ a. seats_share (seats_by base size state touched devices.items) a) e.address) }
+        ensures same { IfErr result (λ e. e.devices ≡ devices) }
+    {
+        match devices::least_shared(&devices) {
+            Some(address) => Err(NoBus { devices, address }),
+            None => Ok(Bus {
+                memory: Memory::new(alloc),
+                devices,
+            }),
+        }
+    }
+
     /// Gives the devices back in their order.
     pub fn into_devices(self) -> Vec<Box<dyn Device>>
         ensures { seats_by base size state touched result.items ≡ (bus_state base size state touched self).devices }

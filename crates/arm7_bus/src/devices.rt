@@ -4,11 +4,14 @@ ghost use Rattle.std.specs.Prelude.{is_some, IfSome, false, ◌≡◌, ◌<◌, 
 ghost use Rattle.sdt_word.specs.Codes.{bytes_in};
 ghost use Rattle.sdt_outside.specs.Counts.{counted};
 ghost use Rattle.sdt_outside.specs.Devices.{answered, stored, ticked, lines_of};
+ghost use Rattle.std.specs.Prelude.{◌&&◌};
+ghost use Rattle.arm7_bus.specs.Meets.{IsFound, seats_have, seats_share};
 ghost use Rattle.arm7_bus.specs.Seats.{first_place, has_access, seats_by, device_at, changed_at, seat_read, seat_written, seat_answer};
 
+use crate::meets::{first_shared, lesser};
 use crate::memory::range_has;
 use sdt_outside::{Device, Lines};
-use sdt_word::Width;
+use sdt_word::{Range32, Width};
 
 fn device_has(device: &Box<dyn Device>, a: u32, n: u32) -> bool
     ensures { result ≡ has_access (base device.now) (size device.now) a n }
@@ -104,4 +107,36 @@ pub fn has(devices: &[Box<dyn Device>], a: u32, n: u32) -> bool
         return true;
     }
     has(rest, a, n)
+}
+
+fn range_of(device: &Box<dyn Device>) -> Range32
+    ensures { (result.base ≡ base device.now) × (result.size ≡ size device.now) }
+{
+    device.range()
+}
+
+fn shared_with(device: &Box<dyn Device>, r: Range32) -> Option<u32>
+    ensures { IsFound (λ a. has_access r.base r.size a 1 && has_access (base device.now) (size device.now) a 1) result }
+{
+    first_shared(r, range_of(device))
+}
+
+/// The least address that the range shares with a device.
+pub fn meeting(devices: &[Box<dyn Device>], r: Range32) -> Option<u32>
+    ensures { IsFound (λ a. has_access r.base r.size a 1 && seats_have (seats_by base size state touched devices.now) a) result }
+{
+    let [first, rest @ ..] = devices else {
+        return None;
+    };
+    lesser(shared_with(first, r), meeting(rest, r))
+}
+
+/// The least address that two devices share.
+pub fn least_shared(devices: &[Box<dyn Device>]) -> Option<u32>
+    ensures { IsFound (λ a. seats_share (seats_by base size state touched devices.now) a) result }
+{
+    let [first, rest @ ..] = devices else {
+        return None;
+    };
+    lesser(meeting(rest, range_of(first)), least_shared(rest))
 }

@@ -4,9 +4,10 @@
 mod bus;
 mod devices;
 mod frames;
+mod meets;
 mod memory;
 mod pages;
 
-pub use crate::bus::{Absent, Bus, NoDevice};
+pub use crate::bus::{Absent, Bus, NoBus, NoDevice};
 pub use crate::frames::Frames;
 pub use crate::memory::{BusFault, Stores};

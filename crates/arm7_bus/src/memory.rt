@@ -78,7 +78,7 @@ fn byte_protected(banks: &[Bank], a: u64) -> bool
 ghost use Rattle.std.specs.Prelude.{◌&&◌};
 
 impl Memory {
-    ghost use Rattle.std.specs.Prelude.{◌≡◌, ◌≤◌, ◌<◌, ◌+◌, ◌%◌, ◌/◌, true, false, IsTrue, length, MatchOption, is_some, OnOk, OnErr, Ok, Err, ◌-◌, Some, None, ◌∷◌, [], ◌++◌};
+    ghost use Rattle.std.specs.Prelude.{◌≡◌, ◌≤◌, ◌<◌, ◌+◌, ◌%◌, ◌/◌, true, false, IsTrue, length, MatchOption, is_some, OnOk, OnErr, Ok, Err, ◌-◌, Some, None, ◌∷◌, [], ◌++◌, ℕ};
     ghost use Rattle.sdt_word.specs.Bytes.{load, number_of};
     ghost use Rattle.sdt_word.specs.Codes.{bytes_in};
     ghost use Rattle.arm7_bus.specs.Paging.{page_used_in, used_count};
@@ -158,8 +158,10 @@ impl Memory {
     }
 
     /// No banks.
+    #[tactic(auto, using(crate::proofs::PagingLemmas::memory_clear))]
     pub fn new(alloc: Global) -> Memory
         ensures banks { (contents_of result).banks ≡ [] }
+        ensures memory { (a : ℕ) → (contents_of result).memory a ≡ 0 }
         ensures used { (contents_of result).used ≡ [] }
         ensures frames { (contents_of result).frames ≡ 0 }
         ensures stores { (contents_of result).stores ≡ [] }
