@@ -2,3 +2,4 @@ pub mod MeetLemmas
 pub mod PagingLemmas
 pub mod SeatLemmas
 pub mod TestLemmas
+pub mod TickLemmas

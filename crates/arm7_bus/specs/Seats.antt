@@ -1,5 +1,5 @@
 -- Devices as the bus sees them: each in its place, with its state. This project's.
-use Rattle.std.specs.Prelude.{◌≡◌, ℕ, ◌+◌, ◌-◌, Bool, true, false, nat_le, ◌&&◌, ◌||◌, if◌then◌else◌, List, [], ◌∷◌, Option, Some, None, map, find, option_map}
+use Rattle.std.specs.Prelude.{◌≡◌, ℕ, zero, suc, ◌+◌, ◌-◌, Bool, true, false, nat_le, ◌&&◌, ◌||◌, if◌then◌else◌, List, [], ◌∷◌, Option, Some, None, map, find, option_map}
 use Rattle.sdt_word.specs.declared.codes.Width.{Width}
 use Rattle.sdt_word.specs.Codes.{bytes_in}
 use Rattle.sdt_outside.specs.declared.device.DeviceState.{DeviceState}
@@ -56,3 +56,14 @@ seat_answer a width d = answered d.state (a - d.base) width
 abbrev pub lines_up : List Seat → Lines
 lines_up [] = record { irq = false; fiq = false }
 lines_up (d ∷ ds) = record { irq = (lines_of d.state).irq || (lines_up ds).irq; fiq = (lines_of d.state).fiq || (lines_up ds).fiq }
+
+-- the device at a place takes a step, and the lines that it raises
+abbrev pub ticked_at : ℕ → List Seat → List Seat
+ticked_at i [] = []
+ticked_at zero (d ∷ ds) = seat_ticked d ∷ ds
+ticked_at (suc i) (d ∷ ds) = d ∷ ticked_at i ds
+
+abbrev pub lines_at : ℕ → List Seat → Lines
+lines_at i [] = record { irq = false; fiq = false }
+lines_at zero (d ∷ ds) = lines_of d.state
+lines_at (suc i) (d ∷ ds) = lines_at i ds

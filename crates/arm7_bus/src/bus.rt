@@ -5,10 +5,10 @@ ghost use Rattle.std.specs.Result.{result_ok};
 ghost use Rattle.sdt_word.specs.Codes.{bytes_in};
 ghost use Rattle.arm7_bus.specs.Paging.{page_used_in, used_count};
 ghost use Rattle.arm7_bus.specs.Places.{place_of};
-ghost use Rattle.arm7_bus.specs.Seats.{seats_by};
+ghost use Rattle.arm7_bus.specs.Seats.{lines_up, seats_by};
 ghost use Rattle.std.specs.Prelude.{◌↔◌, IsOk, OnOk, OnErr};
 ghost use Rattle.arm7_bus.specs.States.{IsStart, is_protected, peeked, store_answer};
-ghost use Rattle.arm7_bus.specs.Buses.{bus_state, IsStarted, has_whole, read_answer, after_read, write_fault, after_write, after_forget, after_detach};
+ghost use Rattle.arm7_bus.specs.Buses.{bus_state, IsStarted, has_whole, read_answer, after_read, write_fault, after_write, after_forget, after_tick, after_detach};
 ghost use Rattle.std.specs.Prelude.{take, ℕ, IfOk, IfErr};
 ghost use Rattle.arm7_bus.specs.Buses.{IsNew};
 ghost use Rattle.arm7_bus.specs.Meets.{IsLeast, IsNowhere, seats_share};
@@ -16,7 +16,7 @@ ghost use Rattle.arm7_bus.specs.Meets.{IsLeast, IsNowhere, seats_share};
 use crate::devices;
 use crate::memory::{BusFault, Memory, Stores};
 use sdt_fault::NoMemory;
-use sdt_outside::Device;
+use sdt_outside::{Device, Lines};
 use sdt_word::Width;
 use std::alloc::Global;
 
@@ -153,6 +153,15 @@ impl Bus {
         ensures { bus_state base size state touched self.new ≡ after_forget (bus_state base size state touched self.old) }
     {
         self.memory.forget_stores();
+    }
+
+    /// Each device ticks once, in order. A line is up exactly where a device gives it; no store is noted any more.
+    pub fn tick(&mut self) -> Lines
+        ensures lines { result ≡ lines_up (bus_state base size state touched self.new).devices }
+        ensures after { bus_state base size state touched self.new ≡ after_tick (bus_state base size state touched self.old) }
+    {
+        self.memory.forget_stores();
+        devices::tick(&mut self.devices)
     }
 
     /// Takes a device out of the list; the later ones move up by one.

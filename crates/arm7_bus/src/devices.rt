@@ -6,7 +6,7 @@ ghost use Rattle.sdt_outside.specs.Counts.{counted};
 ghost use Rattle.sdt_outside.specs.Devices.{answered, stored, ticked, lines_of};
 ghost use Rattle.std.specs.Prelude.{◌&&◌};
 ghost use Rattle.arm7_bus.specs.Meets.{IsFound, seats_have, seats_share};
-ghost use Rattle.arm7_bus.specs.Seats.{first_place, has_access, seats_by, device_at, changed_at, seat_read, seat_written, seat_answer};
+ghost use Rattle.arm7_bus.specs.Seats.{first_place, has_access, seats_by, device_at, changed_at, seat_read, seat_written, seat_answer, seat_ticked, ticked_at, lines_at, lines_up};
 
 use crate::meets::{first_shared, lesser};
 use crate::memory::range_has;
@@ -49,6 +49,41 @@ fn tick_one(device: &mut Box<dyn Device>) -> Lines
     ensures touched { touched device.new ≡ touched device.old }
 {
     device.tick()
+}
+
+/// Ticks the device at a place.
+fn tick_at(devices: &mut Vec<Box<dyn Device>>, i: usize) -> Lines
+    requires { i < length devices.old.items }
+    ensures devices { seats_by base size state touched devices.new.items ≡ ticked_at i (seats_by base size state touched devices.old.items) }
+    ensures lines { result ≡ lines_at i (seats_by base size state touched devices.new.items) }
+    ensures len { length devices.new.items ≡ length devices.old.items }
+{
+    tick_one(&mut devices[i])
+}
+
+/// Ticks each device in its turn. A line is up where a device raises it.
+pub fn tick(devices: &mut Vec<Box<dyn Device>>) -> Lines
+    ensures devices { seats_by base size state touched devices.new.items ≡ map seat_ticked (seats_by base size state touched devices.old.items) }
+    ensures lines { result ≡ lines_up (seats_by base size state touched devices.new.items) }
+{
+    let mut lines = Lines {
+        irq: false,
+        fiq: false,
+    };
+    for i in 0..devices.len() {
+        lines = joined(lines, tick_at(devices, i));
+    }
+    lines
+}
+
+fn joined(a: Lines, b: Lines) -> Lines
+    ensures irq { result.irq ≡ (a.irq || b.irq) }
+    ensures fiq { result.fiq ≡ (a.fiq || b.fiq) }
+{
+    Lines {
+        irq: a.irq || b.irq,
+        fiq: a.fiq || b.fiq,
+    }
 }
 
 /// The place in the list of the first device that has the access.
