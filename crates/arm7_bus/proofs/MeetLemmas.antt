@@ -97,3 +97,10 @@ meets_found r s (Some x) f = record {
       (covers r b (and_left (has_access r.base r.size b 1) (has_access s.base s.size b 1) e))
       (covers s b (and_right (has_access r.base r.size b 1) (has_access s.base s.size b 1) e));
 }
+
+-- where the lesser of two is found
+pub either_found : (p q : ℕ → Bool) (o u w : Option ℕ) (x : ℕ) → IsFound p o → IsFound q u → w ≡ lesser_of o u → w ≡ Some x
+    → IsLeast (λ a. p a || q a) x
+either_found p q o u w x f g e h =
+    let s : lesser_of o u ≡ Some x = sym e ∙ h in
+    subst (λ (z : Option ℕ). IsFound (λ a. p a || q a) z) s (either p q o u f g)

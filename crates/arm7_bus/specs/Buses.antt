@@ -1,5 +1,8 @@
 -- What a read, a write and a step of time of the bus answer and leave. This project's.
 use Rattle.std.specs.Prelude.{◌≡◌, ℕ, ◌+◌, ◌%◌, Bool, if◌then◌else◌, List, Option, Some, None, Result, option_map, is_some, length, map, [], true, remove}
+use Rattle.std.specs.Prelude.{false, ◌++◌, ◌∷◌}
+use Rattle.sdt_word.specs.declared.ranges.Range32.{Range32}
+use Rattle.arm7_bus.specs.declared.memory.Bank.{Bank}
 use Rattle.std.specs.declared.alloc.Global.{Global}
 use Rattle.std.specs.declared.dyn_box.DynBox.{DynBox}
 use Rattle.sdt_word.specs.declared.codes.Width.{Width}
@@ -70,3 +73,10 @@ after_forget s = record s { contents = record s.contents { stores = [] } }
 -- without the device of this number
 abbrev pub after_detach : State → ℕ → State
 after_detach s i = record s { devices = remove s.devices i }
+
+-- one more bank, which isn't protected
+abbrev pub with_bank : Contents → Range32 → Contents
+with_bank c r = record c { banks = c.banks ++ record { range = r; read_only = false } ∷ [] }
+
+abbrev pub after_bank : State → Range32 → State
+after_bank s r = record s { contents = with_bank s.contents r }

@@ -1,5 +1,6 @@
 pub mod Buses
 pub mod Meets
+pub mod Overlaps
 pub mod Paging
 pub mod Places
 pub mod Seats

@@ -8,16 +8,20 @@ ghost use Rattle.arm7_bus.specs.Places.{place_of};
 ghost use Rattle.arm7_bus.specs.Seats.{lines_up, seats_by};
 ghost use Rattle.std.specs.Prelude.{◌↔◌, IsOk, OnOk, OnErr};
 ghost use Rattle.arm7_bus.specs.States.{IsStart, is_protected, peeked, store_answer};
-ghost use Rattle.arm7_bus.specs.Buses.{bus_state, IsStarted, has_whole, read_answer, after_read, write_fault, after_write, after_forget, after_tick, after_detach};
+ghost use Rattle.arm7_bus.specs.Buses.{bus_state, IsStarted, has_whole, read_answer, after_read, write_fault, after_write, after_bank, after_forget, after_tick, after_detach};
 ghost use Rattle.std.specs.Prelude.{take, ℕ, IfOk, IfErr};
 ghost use Rattle.arm7_bus.specs.Buses.{IsNew};
+ghost use Rattle.arm7_bus.specs.Overlaps.{IsBankFault, range_shares};
 ghost use Rattle.arm7_bus.specs.Meets.{IsLeast, IsNowhere, seats_share};
 
 use crate::devices;
+use crate::meets::lesser;
 use crate::memory::{BusFault, Memory, Stores};
 use sdt_fault::NoMemory;
+use sdt_fault::answer::Fault;
+use sdt_fault::refusal::Refusal;
 use sdt_outside::{Device, Lines};
-use sdt_word::Width;
+use sdt_word::{Range32, Width};
 use std::alloc::Global;
 
 /// No bank and no device has the whole access.
@@ -153,6 +157,25 @@ impl Bus {
         ensures { bus_state base size state touched self.new ≡ after_forget (bus_state base size state touched self.old) }
     {
         self.memory.forget_stores();
+    }
+
+    /// Adds a bank of zeros, which isn't protected. It is refused exactly where the range has an address of a bank or a
+    /// device, and where there is no memory.
+    pub fn add_bank(&mut self, r: Range32) -> Result<(), Fault>
+        requires { length (bus_state base size state touched self.old).contents.used ≡ 0 }
+        ensures apart { OnOk result (IsNowhere (range_shares r (bus_state base size state touched self.old))) }
+        ensures after { OnOk result (bus_state base size state touched self.new ≡ after_bank (bus_state base size state touched self.old) r) }
+        ensures zeros { OnOk result ((a : ℕ) → (bus_state base size state touched self.new).contents.memory a ≡ 0) }
+        ensures err { IfErr result (λ fault. IsBankFault (range_shares r (bus_state base size state touched self.old)) fault) }
+        ensures same { OnErr result (bus_state base size state touched self.new ≡ bus_state base size state touched self.old) }
+    {
+        match lesser(self.memory.meeting(r), devices::meeting(&self.devices, r)) {
+            Some(address) => Err(Fault::Refused(Refusal::BankOverlap { address })),
+            None => match self.memory.add_bank(r) {
+                Ok(()) => Ok(()),
+                Err(_) => Err(Fault::NoMemory),
+            },
+        }
     }
 
     /// Each device ticks once, in order. A line is up exactly where a device gives it; no store is noted any more.

@@ -4,6 +4,7 @@ ghost use Rattle.std.specs.Prelude.{◌≡◌, ◌<◌, ◌≤◌, ◌+◌, ◌-
 ghost use Rattle.sdt_word.specs.Bytes.{bytes_of, load, number_of};
 ghost use Rattle.sdt_word.specs.Codes.{bytes_in};
 
+use crate::meets::{first_shared, lesser};
 use crate::pages::{PAGE, PAGES, Pages};
 use sdt_fault::NoMemory;
 use sdt_word::{Range32, Width};
@@ -76,8 +77,23 @@ fn byte_protected(banks: &[Bank], a: u64) -> bool
 }
 
 ghost use Rattle.std.specs.Prelude.{◌&&◌};
+ghost use Rattle.arm7_bus.specs.Meets.{IsFound};
+
+/// The least address that the range shares with a bank.
+fn bank_meeting(banks: &[Bank], r: Range32) -> Option<u32>
+    ensures { IsFound (λ a. has_access r.base r.size a 1 && list_any (λ b. has_access b.range.base b.range.size a 1) banks.now) result }
+{
+    let [first, rest @ ..] = banks else {
+        return None;
+    };
+    lesser(first_shared(r, first.range), bank_meeting(rest, r))
+}
 
 impl Memory {
+    ghost use Rattle.std.specs.Prelude.{◌&&◌};
+    ghost use Rattle.arm7_bus.specs.Buses.{with_bank};
+    ghost use Rattle.arm7_bus.specs.Meets.{IsFound};
+    ghost use Rattle.arm7_bus.specs.Seats.{has_access};
     ghost use Rattle.std.specs.Prelude.{◌≡◌, ◌≤◌, ◌<◌, ◌+◌, ◌%◌, ◌/◌, true, false, IsTrue, length, MatchOption, is_some, OnOk, OnErr, Ok, Err, ◌-◌, Some, None, ◌∷◌, [], ◌++◌, ℕ};
     ghost use Rattle.sdt_word.specs.Bytes.{load, number_of};
     ghost use Rattle.sdt_word.specs.Codes.{bytes_in};
@@ -172,6 +188,25 @@ impl Memory {
             pages: Pages::none(alloc),
             stores: Stores::none(),
         }
+    }
+
+    /// The least address that the range shares with a bank.
+    pub fn meeting(&self, r: Range32) -> Option<u32>
+        ensures { IsFound (λ a. has_access r.base r.size a 1 && bank_has (contents_of self.now).banks a 1) result }
+    {
+        bank_meeting(&self.banks, r)
+    }
+
+    /// One more bank, which isn't protected.
+    pub fn add_bank(&mut self, range: Range32) -> Result<(), NoMemory>
+        ensures ok { OnOk result (contents_of self.new ≡ with_bank (contents_of self.old) range) }
+        ensures err { OnErr result (contents_of self.new ≡ contents_of self.old) }
+    {
+        self.banks.push(Bank {
+            range,
+            read_only: false,
+        })?;
+        Ok(())
     }
 
     /// Makes the pages, and frames for those that the banks touch.
