@@ -1,5 +1,6 @@
 pub mod MeetLemmas
 pub mod PagingLemmas
+pub mod ProtectLemmas
 pub mod SeatLemmas
 pub mod TestLemmas
 pub mod TickLemmas

@@ -1,6 +1,6 @@
 -- What a read, a write and a step of time of the bus answer and leave. This project's.
 use Rattle.std.specs.Prelude.{◌≡◌, ℕ, ◌+◌, ◌%◌, Bool, if◌then◌else◌, List, Option, Some, None, Result, option_map, is_some, length, map, [], true, remove}
-use Rattle.std.specs.Prelude.{false, ◌++◌, ◌∷◌}
+use Rattle.std.specs.Prelude.{false, ◌++◌, ◌∷◌, ◌/◌}
 use Rattle.sdt_word.specs.declared.ranges.Range32.{Range32}
 use Rattle.arm7_bus.specs.declared.memory.Bank.{Bank}
 use Rattle.std.specs.declared.alloc.Global.{Global}
@@ -12,8 +12,9 @@ use Rattle.sdt_outside.specs.declared.device.DeviceState.{DeviceState}
 use Rattle.arm7_bus.specs.declared.bus.Bus.{Bus}
 use Rattle.arm7_bus.specs.declared.memory.BusFault.{BusFault}
 use Rattle.arm7_bus.specs.declared.memory.BusFault.TheVariants.{Absent}
+use Rattle.arm7_bus.specs.Protection.{protected_bank}
 use Rattle.arm7_bus.specs.Seats.{Seat, seats_by, device_at, changed_at, seat_read, seat_written, seat_ticked, seat_answer}
-use Rattle.arm7_bus.specs.States.{Contents, State, contents_of, bank_has, noted, store_fault, store_leaves, after_store}
+use Rattle.arm7_bus.specs.States.{Contents, State, contents_of, claimed, pages_of, bank_has, noted, store_fault, store_leaves, after_store}
 
 -- a bus whose devices have these bases, sizes, states and counts
 abbrev pub bus_state : {X : Type 0} {F : X → Type 0} → (DynBox X Global F → ℕ) → (DynBox X Global F → ℕ) → (DynBox X Global F → DeviceState) → (DynBox X Global F → ℕ) → Bus X F → State
@@ -77,6 +78,17 @@ after_detach s i = record s { devices = remove s.devices i }
 -- one more bank, which isn't protected
 abbrev pub with_bank : Contents → Range32 → Contents
 with_bank c r = record c { banks = c.banks ++ record { range = r; read_only = false } ∷ [] }
+
+-- the banks of this range become protected
+abbrev pub with_protected : Contents → Range32 → Contents
+with_protected c r = record c { banks = map (protected_bank r) c.banks }
+
+abbrev pub after_protect : State → Range32 → State
+after_protect s r = record s { contents = with_protected s.contents r }
+
+-- no pages but those of the range are used that weren't
+abbrev pub after_claim : State → Range32 → State
+after_claim s r = record s { contents = record s.contents { used = claimed s.contents.used (r.base / 4096) (pages_of r.base r.size) } }
 
 abbrev pub after_bank : State → Range32 → State
 after_bank s r = record s { contents = with_bank s.contents r }

@@ -8,7 +8,7 @@ ghost use Rattle.arm7_bus.specs.Places.{place_of};
 ghost use Rattle.arm7_bus.specs.Seats.{lines_up, seats_by};
 ghost use Rattle.std.specs.Prelude.{◌↔◌, IsOk, OnOk, OnErr};
 ghost use Rattle.arm7_bus.specs.States.{IsStart, is_protected, peeked, store_answer};
-ghost use Rattle.arm7_bus.specs.Buses.{bus_state, IsStarted, has_whole, read_answer, after_read, write_fault, after_write, after_bank, after_forget, after_tick, after_detach};
+ghost use Rattle.arm7_bus.specs.Buses.{bus_state, IsStarted, has_whole, read_answer, after_read, write_fault, after_write, after_bank, after_forget, after_protect, after_tick, after_detach};
 ghost use Rattle.std.specs.Prelude.{take, ℕ, IfOk, IfErr};
 ghost use Rattle.arm7_bus.specs.Buses.{IsNew};
 ghost use Rattle.arm7_bus.specs.Overlaps.{IsBankFault, range_shares};
@@ -176,6 +176,13 @@ impl Bus {
                 Err(_) => Err(Fault::NoMemory),
             },
         }
+    }
+
+    /// Protects the bank of this range.
+    pub fn protect(&mut self, r: Range32)
+        ensures { bus_state base size state touched self.new ≡ after_protect (bus_state base size state touched self.old) r }
+    {
+        self.memory.protect(r);
     }
 
     /// Each device ticks once, in order. A line is up exactly where a device gives it; no store is noted any more.

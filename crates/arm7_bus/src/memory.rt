@@ -79,6 +79,26 @@ fn byte_protected(banks: &[Bank], a: u64) -> bool
 ghost use Rattle.std.specs.Prelude.{◌&&◌};
 ghost use Rattle.arm7_bus.specs.Meets.{IsFound};
 
+fn protect_one(bank: &mut Bank, r: Range32)
+    ensures { bank.new ≡ protected_bank r bank.old }
+{
+    if bank.range.base == r.base && bank.range.size == r.size {
+        bank.read_only = true;
+    }
+}
+
+/// Protects the banks of this range.
+#[tactic(auto, using(crate::proofs::ProtectLemmas::protected_start, crate::proofs::ProtectLemmas::protected_next, crate::proofs::ProtectLemmas::protected_all))]
+fn protect_banks(banks: &mut [Bank], r: Range32)
+    ensures { banks.new ≡ map (protected_bank r) banks.old }
+{
+    for i in 0..banks.len() {
+        protect_one(&mut banks[i], r);
+    }
+}
+
+ghost use Rattle.arm7_bus.specs.Protection.{protected_bank};
+
 /// The least address that the range shares with a bank.
 fn bank_meeting(banks: &[Bank], r: Range32) -> Option<u32>
     ensures { IsFound (λ a. has_access r.base r.size a 1 && list_any (λ b. has_access b.range.base b.range.size a 1) banks.now) result }
@@ -91,7 +111,7 @@ fn bank_meeting(banks: &[Bank], r: Range32) -> Option<u32>
 
 impl Memory {
     ghost use Rattle.std.specs.Prelude.{◌&&◌};
-    ghost use Rattle.arm7_bus.specs.Buses.{with_bank};
+    ghost use Rattle.arm7_bus.specs.Buses.{with_bank, with_protected};
     ghost use Rattle.arm7_bus.specs.Meets.{IsFound};
     ghost use Rattle.arm7_bus.specs.Seats.{has_access};
     ghost use Rattle.std.specs.Prelude.{◌≡◌, ◌≤◌, ◌<◌, ◌+◌, ◌%◌, ◌/◌, true, false, IsTrue, length, MatchOption, is_some, OnOk, OnErr, Ok, Err, ◌-◌, Some, None, ◌∷◌, [], ◌++◌, ℕ};
@@ -207,6 +227,13 @@ impl Memory {
             read_only: false,
         })?;
         Ok(())
+    }
+
+    /// Protects the banks of this range.
+    pub fn protect(&mut self, r: Range32)
+        ensures { contents_of self.new ≡ with_protected (contents_of self.old) r }
+    {
+        protect_banks(&mut self.banks, r);
     }
 
     /// Makes the pages, and frames for those that the banks touch.
