@@ -1,3 +1,4 @@
+pub mod ClaimLemmas
 pub mod MeetLemmas
 pub mod PagingLemmas
 pub mod ProtectLemmas

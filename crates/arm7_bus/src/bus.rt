@@ -8,8 +8,8 @@ ghost use Rattle.arm7_bus.specs.Places.{place_of};
 ghost use Rattle.arm7_bus.specs.Seats.{lines_up, seats_by};
 ghost use Rattle.std.specs.Prelude.{◌↔◌, IsOk, OnOk, OnErr};
 ghost use Rattle.arm7_bus.specs.States.{IsStart, is_protected, peeked, store_answer};
-ghost use Rattle.arm7_bus.specs.Buses.{bus_state, IsStarted, has_whole, read_answer, after_read, write_fault, after_write, after_bank, after_forget, after_protect, after_tick, after_detach};
-ghost use Rattle.std.specs.Prelude.{take, ℕ, IfOk, IfErr};
+ghost use Rattle.arm7_bus.specs.Buses.{bus_state, IsStarted, has_whole, read_answer, after_read, write_fault, after_write, after_bank, after_claim, after_forget, after_protect, after_tick, after_detach};
+ghost use Rattle.std.specs.Prelude.{take, ℕ, ◌≤◌, IfOk, IfErr};
 ghost use Rattle.arm7_bus.specs.Buses.{IsNew};
 ghost use Rattle.arm7_bus.specs.Overlaps.{IsBankFault, range_shares};
 ghost use Rattle.arm7_bus.specs.Meets.{IsLeast, IsNowhere, seats_share};
@@ -31,6 +31,10 @@ pub struct Absent;
 /// There is no device of this number.
 #[derive(Clone, Copy, PartialEq, Eq, Debug)]
 pub struct NoDevice;
+
+/// More pages would be used than there are frames.
+#[derive(Clone, Copy, PartialEq, Eq, Debug)]
+pub struct PagesFull;
 
 /// Two devices have this address, the least that two of them have. The devices are handed back.
 #[derive(Drop)]
@@ -183,6 +187,20 @@ impl Bus {
         ensures { bus_state base size state touched self.new ≡ after_protect (bus_state base size state touched self.old) r }
     {
         self.memory.protect(r);
+    }
+
+    /// Uses the pages of the range. It is refused exactly where more pages would be used than there are frames.
+    pub fn claim_pages(&mut self, r: Range32) -> Result<(), PagesFull>
+        requires { IsStarted (bus_state base size state touched self.old) }
+        ensures answer { IsOk result ↔ (used_count (after_claim (bus_state base size state touched self.old) r).contents.used ≤ (bus_state base size state touched self.old).contents.frames) }
+        ensures ok { OnOk result (bus_state base size state touched self.new ≡ after_claim (bus_state base size state touched self.old) r) }
+        ensures err { OnErr result (bus_state base size state touched self.new ≡ bus_state base size state touched self.old) }
+    {
+        if self.memory.claim_pages(r) {
+            Ok(())
+        } else {
+            Err(PagesFull)
+        }
     }
 
     /// Each device ticks once, in order. A line is up exactly where a device gives it; no store is noted any more.

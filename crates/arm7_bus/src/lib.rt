@@ -8,6 +8,6 @@ mod meets;
 mod memory;
 mod pages;
 
-pub use crate::bus::{Absent, Bus, NoBus, NoDevice};
+pub use crate::bus::{Absent, Bus, NoBus, NoDevice, PagesFull};
 pub use crate::frames::Frames;
 pub use crate::memory::{BusFault, Stores};

@@ -110,7 +110,8 @@ fn bank_meeting(banks: &[Bank], r: Range32) -> Option<u32>
 }
 
 impl Memory {
-    ghost use Rattle.std.specs.Prelude.{◌&&◌};
+    ghost use Rattle.std.specs.Prelude.{◌&&◌, nat_le};
+    ghost use Rattle.arm7_bus.specs.States.{claimed, pages_of};
     ghost use Rattle.arm7_bus.specs.Buses.{with_bank, with_protected};
     ghost use Rattle.arm7_bus.specs.Meets.{IsFound};
     ghost use Rattle.arm7_bus.specs.Seats.{has_access};
@@ -246,6 +247,29 @@ impl Memory {
         let pages = Pages::make(self.alloc, PAGES, room)?;
         self.pages = pages;
         Ok(())
+    }
+
+    #[tactic(auto, using(crate::proofs::ClaimLemmas::pages_none, crate::proofs::ClaimLemmas::pages_some))]
+    fn page_count(r: Range32) -> usize
+        ensures count { result ≡ pages_of r.base r.size }
+        ensures within { r.base / 4096 + result ≤ 1048576 }
+    {
+        if r.size == 0 {
+            return 0;
+        }
+        let last = (u64::from(r.base) + (r.size - 1)) / 4096;
+        (last + 1 - u64::from(r.base / PAGE)) as usize
+    }
+
+    /// Uses the pages of the range; false, and nothing changes, where there are fewer frames than pages would be used.
+    pub fn claim_pages(&mut self, r: Range32) -> bool
+        requires { length (contents_of self.old).used ≡ 1048576 }
+        ensures answer { result ≡ nat_le (used_count (claimed (contents_of self.old).used (r.base / 4096) (pages_of r.base r.size))) (contents_of self.old).frames }
+        ensures after { result ≡ true → contents_of self.new ≡ record (contents_of self.old) { used = claimed (contents_of self.old).used (r.base / 4096) (pages_of r.base r.size) } }
+        ensures same { result ≡ false → contents_of self.new ≡ contents_of self.old }
+    {
+        self.pages
+            .claim_all((r.base / PAGE) as usize, Memory::page_count(r))
     }
 
     /// Notes a store to a device.

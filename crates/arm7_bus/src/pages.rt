@@ -29,6 +29,9 @@ pub struct Pages {
 }
 
 impl Pages {
+    ghost use Rattle.std.specs.Prelude.{cond, nat_le};
+    ghost use Rattle.arm7_bus.specs.States.{claimed};
+
     /// The bytes of an access, as a number.
     pub fn read(&self, a: u32, width: Width) -> u32
         requires started { length self.now.table.items ≡ 1048576 }
@@ -127,6 +130,74 @@ impl Pages {
             }
             None => self.put_fresh(a, width, v),
         }
+    }
+
+    fn added(&self, page: usize) -> u32
+        requires { page < length self.now.table.items }
+        ensures { result ≡ cond (slice_index_or (used_in self.now.table.items) page false) 0 1 }
+    {
+        if self.is_used(page) { 0 } else { 1 }
+    }
+
+    /// How many of these pages aren't used.
+    #[tactic(auto, using(crate::proofs::ClaimLemmas::added_more))]
+    fn fresh(&self, first: usize, count: usize) -> u32
+        requires few { first + count ≤ 1048576 }
+        requires within { first + count ≤ length self.now.table.items }
+        ensures { result + used_count (used_in self.now.table.items) ≡ used_count (claimed (used_in self.now.table.items) first count) }
+    {
+        let mut n: u32 = 0;
+        for k in 0..count {
+            n += self.added(first + k);
+        }
+        n
+    }
+
+    /// Uses a page, for which there is a frame where it has none.
+    #[tactic(auto, using(crate::proofs::ClaimLemmas::page_fresh, crate::proofs::ClaimLemmas::page_kept, crate::proofs::ClaimLemmas::page_room))]
+    fn use_page(&mut self, page: usize)
+        requires page { page < length self.old.table.items }
+        requires room { used_count (slice_set (used_in self.old.table.items) page true) ≤ self.old.room }
+        ensures memory { memory_in self.new.table.items self.new.frames ≡ memory_in self.old.table.items self.old.frames }
+        ensures used { used_in self.new.table.items ≡ slice_set (used_in self.old.table.items) page true }
+        ensures room { self.new.room ≡ self.old.room }
+    {
+        if self.is_used(page) {
+            return;
+        }
+        self.claim(page);
+    }
+
+    /// Uses these pages, for which there are frames.
+    fn use_all(&mut self, first: usize, count: usize)
+        requires few { first + count ≤ 1048576 }
+        requires within { first + count ≤ length self.old.table.items }
+        requires room { used_count (claimed (used_in self.old.table.items) first count) ≤ self.old.room }
+        ensures memory { memory_in self.new.table.items self.new.frames ≡ memory_in self.old.table.items self.old.frames }
+        ensures used { used_in self.new.table.items ≡ claimed (used_in self.old.table.items) first count }
+        ensures room { self.new.room ≡ self.old.room }
+    {
+        for k in 0..count {
+            self.use_page(first + k);
+        }
+    }
+
+    /// Uses these pages; false, and nothing changes, where there are fewer frames than pages would be used.
+    #[tactic(auto, using(crate::proofs::ClaimLemmas::paging_count))]
+    pub fn claim_all(&mut self, first: usize, count: usize) -> bool
+        requires few { first + count ≤ 1048576 }
+        requires within { first + count ≤ length self.old.table.items }
+        ensures answer { result ≡ nat_le (used_count (claimed (used_in self.old.table.items) first count)) self.old.room }
+        ensures memory { memory_in self.new.table.items self.new.frames ≡ memory_in self.old.table.items self.old.frames }
+        ensures used { result ≡ true → used_in self.new.table.items ≡ claimed (used_in self.old.table.items) first count }
+        ensures room { self.new.room ≡ self.old.room }
+        ensures same { result ≡ false → self.new ≡ self.old }
+    {
+        if self.fresh(first, count) > self.room - self.used {
+            return false;
+        }
+        self.use_all(first, count);
+        true
     }
 
     /// No pages yet.
