@@ -1,0 +1,13 @@
+//! Memory and devices of the machine.
+#![tactic(auto)]
+
+mod bus;
+mod devices;
+mod frames;
+mod meets;
+mod memory;
+mod pages;
+
+pub use crate::bus::{Absent, Bus, NoBus, NoDevice, PagesFull};
+pub use crate::frames::Frames;
+pub use crate::memory::{BusFault, Stores};

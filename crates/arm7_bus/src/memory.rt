@@ -1,0 +1,355 @@
+//! Banks of memory over pages.
+
+ghost use Rattle.std.specs.Prelude.{◌≡◌, ◌<◌, ◌≤◌, ◌+◌, ◌-◌, ◌/◌, ◌%◌, ◌^◌, ◌∷◌, [], ◌++◌, ◌||◌, nat_lt, length, map, take, true, false, IsTrue, is_some, Some, None, Ok, Err, OnOk, OnErr, IfErr, MatchResult, slice_set};
+ghost use Rattle.sdt_word.specs.Bytes.{bytes_of, load, number_of};
+ghost use Rattle.sdt_word.specs.Codes.{bytes_in};
+
+use crate::meets::{first_shared, lesser};
+use crate::pages::{PAGE, PAGES, Pages};
+use sdt_fault::NoMemory;
+use sdt_word::{Range32, Width};
+use std::alloc::Global;
+
+/// A bank of memory, and whether it is protected from stores.
+#[derive(Clone, Copy, Debug)]
+pub struct Bank {
+    pub range: Range32,
+    pub read_only: bool,
+}
+
+/// Why a store isn't made.
+#[derive(Clone, Copy, PartialEq, Eq, Debug)]
+pub enum BusFault {
+    /// No bank and no device has the whole access.
+    Absent,
+    /// The page of this address isn't used, and all frames are.
+    NoFrame(u32),
+    /// A byte of the access is protected.
+    ReadOnly,
+}
+
+/// The first `count` ranges of the list, in order.
+#[derive(Clone, Copy, Debug)]
+pub struct Stores {
+    pub list: [Range32; 16],
+    pub count: u32,
+    pub ghost few: { count ≤ 16 },
+}
+
+/// The banks, their bytes, and the stores since the last tick.
+#[derive(Debug, Drop)]
+pub struct Memory {
+    pub alloc: Global,
+    pub banks: Vec<Bank>,
+    pub pages: Pages,
+    pub stores: Stores,
+}
+
+/// Whether the range has the whole access of `n` bytes.
+pub fn range_has(range: Range32, a: u64, n: u32) -> bool
+    requires { a ≤ 2 ^ 33 }
+    ensures { result ≡ has_access range.base range.size a n }
+{
+    let base = u64::from(range.base);
+    base <= a && a + u64::from(n) <= base + range.size
+}
+
+ghost use Rattle.arm7_bus.specs.Seats.{has_access};
+
+fn bank_has_access(banks: &[Bank], a: u64, n: u32) -> bool
+    requires { a ≤ 2 ^ 33 }
+    ensures { result ≡ list_any (λ b. has_access b.range.base b.range.size a n) banks.now }
+{
+    banks.iter().any(|bank| range_has(bank.range, a, n))
+}
+
+ghost use Rattle.std.specs.List.{list_any};
+ghost use Rattle.std.specs.Prelude.{min};
+ghost use Rattle.arm7_bus.specs.Touches.{range_touches, pages_touched};
+
+fn byte_protected(banks: &[Bank], a: u64) -> bool
+    requires { a ≤ 2 ^ 33 }
+    ensures { result ≡ list_any (λ b. b.read_only && has_access b.range.base b.range.size a 1) banks.now }
+{
+    banks
+        .iter()
+        .any(|bank| bank.read_only && range_has(bank.range, a, 1))
+}
+
+ghost use Rattle.std.specs.Prelude.{◌&&◌};
+ghost use Rattle.arm7_bus.specs.Meets.{IsFound};
+
+fn protect_one(bank: &mut Bank, r: Range32)
+    ensures { bank.new ≡ protected_bank r bank.old }
+{
+    if bank.range.base == r.base && bank.range.size == r.size {
+        bank.read_only = true;
+    }
+}
+
+/// Protects the banks of this range.
+#[tactic(auto, using(crate::proofs::ProtectLemmas::protected_start, crate::proofs::ProtectLemmas::protected_next, crate::proofs::ProtectLemmas::protected_all))]
+fn protect_banks(banks: &mut [Bank], r: Range32)
+    ensures { banks.new ≡ map (protected_bank r) banks.old }
+{
+    for i in 0..banks.len() {
+        protect_one(&mut banks[i], r);
+    }
+}
+
+ghost use Rattle.arm7_bus.specs.Protection.{protected_bank};
+
+/// The least address that the range shares with a bank.
+fn bank_meeting(banks: &[Bank], r: Range32) -> Option<u32>
+    ensures { IsFound (λ a. has_access r.base r.size a 1 && list_any (λ b. has_access b.range.base b.range.size a 1) banks.now) result }
+{
+    let [first, rest @ ..] = banks else {
+        return None;
+    };
+    lesser(first_shared(r, first.range), bank_meeting(rest, r))
+}
+
+impl Memory {
+    ghost use Rattle.std.specs.Prelude.{◌&&◌, nat_le};
+    ghost use Rattle.arm7_bus.specs.States.{claimed, pages_of};
+    ghost use Rattle.arm7_bus.specs.Buses.{with_bank, with_protected};
+    ghost use Rattle.arm7_bus.specs.Meets.{IsFound};
+    ghost use Rattle.arm7_bus.specs.Seats.{has_access};
+    ghost use Rattle.std.specs.Prelude.{◌≡◌, ◌≤◌, ◌<◌, ◌+◌, ◌%◌, ◌/◌, true, false, IsTrue, length, MatchOption, is_some, OnOk, OnErr, Ok, Err, ◌-◌, Some, None, ◌∷◌, [], ◌++◌, ℕ};
+    ghost use Rattle.sdt_word.specs.Bytes.{load, number_of};
+    ghost use Rattle.sdt_word.specs.Codes.{bytes_in};
+    ghost use Rattle.arm7_bus.specs.Paging.{page_used_in, used_count};
+    ghost use Rattle.arm7_bus.specs.States.{contents_of, noted, IsStart, bank_has, is_protected, store_fault, after_store, store_answer, store_leaves, peeked};
+
+    /// Whether one bank has the whole access.
+    pub fn holds(&self, a: u32, n: u32) -> bool
+        ensures { result ≡ bank_has (contents_of self.now).banks a n }
+    {
+        bank_has_access(&self.banks, u64::from(a), n)
+    }
+
+    /// Whether a byte of the access is protected.
+    pub fn is_protected(&self, a: u32, n: u32) -> bool
+        requires { n ≤ 4 }
+        ensures { result ≡ is_protected (contents_of self.now).banks a n }
+    {
+        let first = u64::from(a);
+        for x in first..first + u64::from(n) {
+            if byte_protected(&self.banks, x) {
+                return true;
+            }
+        }
+        false
+    }
+
+    /// The bytes of an access, as a number.
+    pub fn read(&self, a: u32, width: Width) -> u32
+        requires started { length (contents_of self.now).used ≡ 1048576 }
+        requires aligned { a % bytes_in width ≡ 0 }
+        ensures { result ≡ number_of (load (contents_of self.now).memory a (bytes_in width)) }
+    {
+        self.pages.read(a, width)
+    }
+
+    /// The byte at an address, where a bank has it.
+    pub fn peek(&self, a: u32) -> Option<u8>
+        requires { length (contents_of self.now).used ≡ 1048576 }
+        ensures { result ≡ peeked (contents_of self.now) a }
+    {
+        if self.holds(a, 1) {
+            Some(self.pages.peek(a))
+        } else {
+            None
+        }
+    }
+
+    pub fn page_used(&self, a: u32) -> bool
+        requires { length (contents_of self.now).used ≡ 1048576 }
+        ensures { result ≡ page_used_in (contents_of self.now).used a }
+    {
+        self.pages.is_used((a / PAGE) as usize)
+    }
+
+    pub fn pages_left(&self) -> u32
+        ensures { result ≡ (contents_of self.now).frames - used_count (contents_of self.now).used }
+    {
+        self.pages.left()
+    }
+
+    /// Makes a store that lies in a bank, and notes it.
+    pub fn store(&mut self, a: u32, width: Width, v: u32) -> Result<(), BusFault>
+        requires started { length (contents_of self.old).used ≡ 1048576 }
+        requires aligned { a % bytes_in width ≡ 0 }
+        requires few { self.old.stores.count < 16 }
+        ensures answer { result ≡ store_answer (store_fault (contents_of self.old) a (bytes_in width)) }
+        ensures after { contents_of self.new ≡ store_leaves (store_fault (contents_of self.old) a (bytes_in width)) (contents_of self.old) (after_store (contents_of self.old) a width v) }
+    {
+        if self.is_protected(a, width.bytes()) {
+            return Err(BusFault::ReadOnly);
+        }
+        if !self.pages.write(a, width, v) {
+            return Err(BusFault::NoFrame(a));
+        }
+        self.stores.note(a, width);
+        Ok(())
+    }
+
+    /// No banks.
+    #[tactic(auto, using(crate::proofs::PagingLemmas::memory_clear))]
+    pub fn new(alloc: Global) -> Memory
+        ensures banks { (contents_of result).banks ≡ [] }
+        ensures memory { (a : ℕ) → (contents_of result).memory a ≡ 0 }
+        ensures used { (contents_of result).used ≡ [] }
+        ensures frames { (contents_of result).frames ≡ 0 }
+        ensures stores { (contents_of result).stores ≡ [] }
+    {
+        Memory {
+            alloc,
+            banks: Vec::new(alloc),
+            pages: Pages::none(alloc),
+            stores: Stores::none(),
+        }
+    }
+
+    /// The least address that the range shares with a bank.
+    pub fn meeting(&self, r: Range32) -> Option<u32>
+        ensures { IsFound (λ a. has_access r.base r.size a 1 && bank_has (contents_of self.now).banks a 1) result }
+    {
+        bank_meeting(&self.banks, r)
+    }
+
+    /// One more bank, which isn't protected.
+    pub fn add_bank(&mut self, range: Range32) -> Result<(), NoMemory>
+        ensures ok { OnOk result (contents_of self.new ≡ with_bank (contents_of self.old) range) }
+        ensures err { OnErr result (contents_of self.new ≡ contents_of self.old) }
+    {
+        self.banks.push(Bank {
+            range,
+            read_only: false,
+        })?;
+        Ok(())
+    }
+
+    /// Protects the banks of this range.
+    pub fn protect(&mut self, r: Range32)
+        ensures { contents_of self.new ≡ with_protected (contents_of self.old) r }
+    {
+        protect_banks(&mut self.banks, r);
+    }
+
+    /// Makes the pages, and frames for those that the banks touch.
+    pub fn start(&mut self) -> Result<(), NoMemory>
+        requires { length (contents_of self.old).used ≡ 0 }
+        ensures ok { OnOk result (IsStart (contents_of self.old) (contents_of self.new)) }
+        ensures err { OnErr result (contents_of self.new ≡ contents_of self.old) }
+    {
+        let room = frames_for(&self.banks);
+        let pages = Pages::make(self.alloc, PAGES, room)?;
+        self.pages = pages;
+        Ok(())
+    }
+
+    #[tactic(auto, using(crate::proofs::ClaimLemmas::pages_none, crate::proofs::ClaimLemmas::pages_some))]
+    fn page_count(r: Range32) -> usize
+        ensures count { result ≡ pages_of r.base r.size }
+        ensures within { r.base / 4096 + result ≤ 1048576 }
+    {
+        if r.size == 0 {
+            return 0;
+        }
+        let last = (u64::from(r.base) + (r.size - 1)) / 4096;
+        (last + 1 - u64::from(r.base / PAGE)) as usize
+    }
+
+    /// Uses the pages of the range; false, and nothing changes, where there are fewer frames than pages would be used.
+    pub fn claim_pages(&mut self, r: Range32) -> bool
+        requires { length (contents_of self.old).used ≡ 1048576 }
+        ensures answer { result ≡ nat_le (used_count (claimed (contents_of self.old).used (r.base / 4096) (pages_of r.base r.size))) (contents_of self.old).frames }
+        ensures after { result ≡ true → contents_of self.new ≡ record (contents_of self.old) { used = claimed (contents_of self.old).used (r.base / 4096) (pages_of r.base r.size) } }
+        ensures same { result ≡ false → contents_of self.new ≡ contents_of self.old }
+    {
+        self.pages
+            .claim_all((r.base / PAGE) as usize, Memory::page_count(r))
+    }
+
+    /// Notes a store to a device.
+    pub fn note(&mut self, a: u32, width: Width)
+        requires aligned { a % bytes_in width ≡ 0 }
+        requires few { self.old.stores.count < 16 }
+        ensures { contents_of self.new ≡ noted (contents_of self.old) a (bytes_in width) }
+    {
+        self.stores.note(a, width);
+    }
+
+    /// No store is noted any more.
+    pub fn forget_stores(&mut self)
+        ensures { contents_of self.new ≡ record (contents_of self.old) { stores = [] } }
+    {
+        self.stores.count = 0;
+    }
+}
+
+impl Stores {
+    ghost use Rattle.std.specs.Prelude.{◌≡◌, ◌<◌, ◌%◌, ◌∷◌, [], ◌++◌, map, take};
+    ghost use Rattle.sdt_word.specs.Codes.{bytes_in};
+    ghost use Rattle.arm7_bus.specs.Places.{place_of};
+
+    pub fn none() -> Stores
+        ensures { result.count ≡ 0 }
+    {
+        Stores {
+            list: [Range32 { base: 0, size: 0 }; 16],
+            count: 0,
+        }
+    }
+
+    /// Adds the range of an access.
+    pub fn note(&mut self, a: u32, width: Width)
+        requires aligned { a % bytes_in width ≡ 0 }
+        requires few { self.old.count < 16 }
+        ensures { map place_of (take self.new.count self.new.list) ≡ map place_of (take self.old.count self.old.list) ++ (a, bytes_in width) ∷ [] }
+    {
+        self.list[self.count as usize] = access_range(a, width);
+        self.count += 1;
+    }
+}
+
+fn access_range(a: u32, width: Width) -> Range32
+    requires { a % bytes_in width ≡ 0 }
+    ensures { (result.base ≡ a) × (result.size ≡ bytes_in width) }
+{
+    match width {
+        Width::Byte => Range32 { base: a, size: 1 },
+        Width::Half => Range32 { base: a, size: 2 },
+        Width::Word => Range32 { base: a, size: 4 },
+    }
+}
+
+fn touches_page(range: Range32, page: u64) -> bool
+    requires { page < 1048576 }
+    ensures { result ≡ range_touches range.base range.size page }
+{
+    let base = u64::from(range.base);
+    base.max(4096 * page) < (base + range.size).min(4096 * page + 4096)
+}
+
+fn page_touched(banks: &[Bank], page: u64) -> bool
+    requires { page < 1048576 }
+    ensures { result ≡ list_any (λ b. range_touches b.range.base b.range.size page) banks.now }
+{
+    banks.iter().any(|bank| touches_page(bank.range, page))
+}
+
+/// How many frames there are for the pages that the banks touch.
+#[tactic(auto, using(crate::proofs::TestLemmas::touched_more, crate::proofs::TestLemmas::touched_none))]
+fn frames_for(banks: &[Bank]) -> u32
+    ensures { result ≡ min 65536 (pages_touched banks.now 1048576) }
+{
+    let mut n: u32 = 0;
+    for page in 0..1048576 {
+        if page_touched(banks, page) {
+            n += 1;
+        }
+    }
+    n.min(65536)
+}

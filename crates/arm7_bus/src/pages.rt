@@ -1,0 +1,242 @@
+//! Memory in pages that take a frame when they are first written.
+
+ghost use Rattle.std.specs.Prelude.{◌≡◌, ℕ, ◌<◌, ◌≤◌, ◌+◌, ◌*◌, ◌/◌, ◌%◌, List, [], length, IsTrue, is_some, None, Some, IfOk, OnOk, map, replicate, false, slice_index, slice_index_or, slice_set, true, ◌-◌, ◌||◌, nat_lt};
+ghost use Rattle.sdt_word.specs.Bytes.{bytes_of, load, number_of};
+ghost use Rattle.sdt_word.specs.Codes.{bytes_in};
+ghost use Rattle.arm7_model.specs.Memory.{store};
+ghost use Rattle.arm7_bus.specs.Paging.{frame_of, memory_in, used_in, page_used_in, used_count, IsPaging, IsUnused};
+
+use crate::frames::Frames;
+use sdt_fault::NoMemory;
+use sdt_word::Width;
+use std::alloc::Global;
+
+/// The bytes in a page.
+pub const PAGE: u32 = 4096;
+
+/// How many pages there are addresses for.
+pub const PAGES: usize = 1048576;
+
+/// The frame of each page, the frames, how many of them are in use, and how many there are. The table is
+/// empty until memory is started.
+#[derive(Debug, Drop)]
+pub struct Pages {
+    pub table: Vec<Option<u16>>,
+    pub frames: Frames,
+    pub used: u32,
+    pub room: u32,
+    pub ghost paging: { IsPaging table.items frames used room },
+}
+
+impl Pages {
+    ghost use Rattle.std.specs.Prelude.{cond, nat_le};
+    ghost use Rattle.arm7_bus.specs.States.{claimed};
+
+    /// The bytes of an access, as a number.
+    pub fn read(&self, a: u32, width: Width) -> u32
+        requires started { length self.now.table.items ≡ 1048576 }
+        requires aligned { a % bytes_in width ≡ 0 }
+        ensures { result ≡ number_of (load (memory_in self.now.table.items self.now.frames) a (bytes_in width)) }
+    {
+        match self.table[(a / PAGE) as usize] {
+            Some(frame) => self.frames.read(u32::from(frame) * PAGE + a % PAGE, width),
+            None => 0,
+        }
+    }
+
+    /// Sets the bytes of an access in a page that has this frame.
+    fn put(&mut self, frame: u16, a: u32, width: Width, v: u32)
+        requires aligned { a % bytes_in width ≡ 0 }
+        requires frame { frame_of self.old.table.items (a / 4096) ≡ Some frame }
+        ensures memory { memory_in self.new.table.items self.new.frames ≡ store (memory_in self.old.table.items self.old.frames) a (bytes_of v (bytes_in width)) }
+        ensures table { self.new.table ≡ self.old.table }
+        ensures counts { (self.new.used ≡ self.old.used) × (self.new.room ≡ self.old.room) }
+    {
+        self.frames
+            .write(u32::from(frame) * PAGE + a % PAGE, width, v);
+    }
+
+    /// Gives a frame to a page that has none.
+    pub fn claim(&mut self, page: usize)
+        requires page { page < length self.old.table.items }
+        requires fresh { frame_of self.old.table.items page ≡ None }
+        requires left { self.old.used < self.old.room }
+        ensures memory { memory_in self.new.table.items self.new.frames ≡ memory_in self.old.table.items self.old.frames }
+        ensures table { self.new.table.items ≡ slice_set self.old.table.items page (Some self.old.used) }
+        ensures counts { (self.new.used ≡ self.old.used + 1) × (self.new.room ≡ self.old.room) }
+    {
+        self.table[page] = Some(self.used as u16);
+        self.used += 1;
+    }
+
+    /// The byte at an address.
+    pub fn peek(&self, a: u32) -> u8
+        requires { length self.now.table.items ≡ 1048576 }
+        ensures { result ≡ memory_in self.now.table.items self.now.frames a }
+    {
+        match self.table[(a / PAGE) as usize] {
+            Some(frame) => self.frames.read_byte(u32::from(frame) * PAGE + a % PAGE),
+            None => 0,
+        }
+    }
+
+    pub fn is_used(&self, page: usize) -> bool
+        requires { page < length self.now.table.items }
+        ensures { result ≡ slice_index_or (used_in self.now.table.items) page false }
+    {
+        self.table[page].is_some()
+    }
+
+    /// How many pages can still take a frame.
+    pub fn left(&self) -> u32
+        ensures { result ≡ self.now.room - used_count (used_in self.now.table.items) }
+    {
+        self.room - self.used
+    }
+
+    fn put_fresh(&mut self, a: u32, width: Width, v: u32) -> bool
+        requires started { length self.old.table.items ≡ 1048576 }
+        requires aligned { a % bytes_in width ≡ 0 }
+        requires fresh { frame_of self.old.table.items (a / 4096) ≡ None }
+        ensures answer { result ≡ nat_lt (used_count (used_in self.old.table.items)) self.old.room }
+        ensures memory { result ≡ true → memory_in self.new.table.items self.new.frames ≡ store (memory_in self.old.table.items self.old.frames) a (bytes_of v (bytes_in width)) }
+        ensures used { result ≡ true → used_in self.new.table.items ≡ slice_set (used_in self.old.table.items) (a / 4096) true }
+        ensures room { self.new.room ≡ self.old.room }
+        ensures same { result ≡ false → self.new ≡ self.old }
+    {
+        if self.used >= self.room {
+            return false;
+        }
+        let frame = self.used as u16;
+        self.claim((a / PAGE) as usize);
+        self.put(frame, a, width, v);
+        true
+    }
+
+    /// Sets the bytes of an access, for which its page takes a frame where it has none; false where it can't.
+    pub fn write(&mut self, a: u32, width: Width, v: u32) -> bool
+        requires started { length self.old.table.items ≡ 1048576 }
+        requires aligned { a % bytes_in width ≡ 0 }
+        ensures answer { result ≡ (page_used_in (used_in self.old.table.items) a || nat_lt (used_count (used_in self.old.table.items)) self.old.room) }
+        ensures memory { result ≡ true → memory_in self.new.table.items self.new.frames ≡ store (memory_in self.old.table.items self.old.frames) a (bytes_of v (bytes_in width)) }
+        ensures used { result ≡ true → used_in self.new.table.items ≡ slice_set (used_in self.old.table.items) (a / 4096) true }
+        ensures room { self.new.room ≡ self.old.room }
+        ensures same { result ≡ false → self.new ≡ self.old }
+    {
+        match self.table[(a / PAGE) as usize] {
+            Some(frame) => {
+                self.put(frame, a, width, v);
+                true
+            }
+            None => self.put_fresh(a, width, v),
+        }
+    }
+
+    fn added(&self, page: usize) -> u32
+        requires { page < length self.now.table.items }
+        ensures { result ≡ cond (slice_index_or (used_in self.now.table.items) page false) 0 1 }
+    {
+        if self.is_used(page) { 0 } else { 1 }
+    }
+
+    /// How many of these pages aren't used.
+    #[tactic(auto, using(crate::proofs::ClaimLemmas::added_more))]
+    fn fresh(&self, first: usize, count: usize) -> u32
+        requires few { first + count ≤ 1048576 }
+        requires within { first + count ≤ length self.now.table.items }
+        ensures { result + used_count (used_in self.now.table.items) ≡ used_count (claimed (used_in self.now.table.items) first count) }
+    {
+        let mut n: u32 = 0;
+        for k in 0..count {
+            n += self.added(first + k);
+        }
+        n
+    }
+
+    /// Uses a page, for which there is a frame where it has none.
+    #[tactic(auto, using(crate::proofs::ClaimLemmas::page_fresh, crate::proofs::ClaimLemmas::page_kept, crate::proofs::ClaimLemmas::page_room))]
+    fn use_page(&mut self, page: usize)
+        requires page { page < length self.old.table.items }
+        requires room { used_count (slice_set (used_in self.old.table.items) page true) ≤ self.old.room }
+        ensures memory { memory_in self.new.table.items self.new.frames ≡ memory_in self.old.table.items self.old.frames }
+        ensures used { used_in self.new.table.items ≡ slice_set (used_in self.old.table.items) page true }
+        ensures room { self.new.room ≡ self.old.room }
+    {
+        if self.is_used(page) {
+            return;
+        }
+        self.claim(page);
+    }
+
+    /// Uses these pages, for which there are frames.
+    fn use_all(&mut self, first: usize, count: usize)
+        requires few { first + count ≤ 1048576 }
+        requires within { first + count ≤ length self.old.table.items }
+        requires room { used_count (claimed (used_in self.old.table.items) first count) ≤ self.old.room }
+        ensures memory { memory_in self.new.table.items self.new.frames ≡ memory_in self.old.table.items self.old.frames }
+        ensures used { used_in self.new.table.items ≡ claimed (used_in self.old.table.items) first count }
+        ensures room { self.new.room ≡ self.old.room }
+    {
+        for k in 0..count {
+            self.use_page(first + k);
+        }
+    }
+
+    /// Uses these pages; false, and nothing changes, where there are fewer frames than pages would be used.
+    #[tactic(auto, using(crate::proofs::ClaimLemmas::paging_count))]
+    pub fn claim_all(&mut self, first: usize, count: usize) -> bool
+        requires few { first + count ≤ 1048576 }
+        requires within { first + count ≤ length self.old.table.items }
+        ensures answer { result ≡ nat_le (used_count (claimed (used_in self.old.table.items) first count)) self.old.room }
+        ensures memory { memory_in self.new.table.items self.new.frames ≡ memory_in self.old.table.items self.old.frames }
+        ensures used { result ≡ true → used_in self.new.table.items ≡ claimed (used_in self.old.table.items) first count }
+        ensures room { self.new.room ≡ self.old.room }
+        ensures same { result ≡ false → self.new ≡ self.old }
+    {
+        if self.fresh(first, count) > self.room - self.used {
+            return false;
+        }
+        self.use_all(first, count);
+        true
+    }
+
+    /// No pages yet.
+    pub fn none(alloc: Global) -> Pages
+        ensures table { result.table.items ≡ [] }
+        ensures room { result.room ≡ 0 }
+    {
+        Pages {
+            table: Vec::new(alloc),
+            frames: Frames::none(alloc),
+            used: 0,
+            room: 0,
+        }
+    }
+
+    /// This many pages, none of them used, and frames for as many.
+    pub fn make(alloc: Global, pages: usize, room: u32) -> Result<Pages, NoMemory>
+        requires { room ≤ 65536 }
+        ensures table { IfOk result (λ made. IsUnused made.table.items pages) }
+        ensures room { IfOk result (λ made. made.room ≡ room) }
+    {
+        let table = empty_table(alloc, pages)?;
+        let frames = Frames::make(alloc, room)?;
+        Ok(Pages {
+            table,
+            frames,
+            used: 0,
+            room,
+        })
+    }
+}
+
+#[tactic(auto, using(crate::proofs::PagingLemmas::unused_table))]
+fn empty_table(alloc: Global, pages: usize) -> Result<Vec<Option<u16>>, NoMemory>
+    ensures { IfOk result (λ table. IsUnused table.items pages) }
+{
+    let mut table = Vec::with_capacity(alloc, pages)?;
+    for _page in 0..pages {
+        table.push(None)?;
+    }
+    Ok(table)
+}
