@@ -30,7 +30,7 @@ pub record SaysSlot (dir : List ℕ) (at : ℕ) (s : Slot) : Type 0 where
   pub fits : 12 + s.size ≤ s.length
   pub within : at + s.length ≤ length dir
 
--- its data begins with a name and a zero byte
+-- its data, which begins with a name and a zero byte where the entry is used
 abbrev pub text_of : List ℕ → ℕ → Slot → List ℕ
 text_of dir at s = take s.size (drop (at + 12) dir)
 
