@@ -1,11 +1,11 @@
 -- The least address that passes one of two tests.
-use Rattle.std.proofs.Common.{◌≡◌, ℕ, ◌+◌, ◌<◌, ◌≤◌, Bool, true, false, ◌||◌, ◌⊎◌, inl, inr, Option, None, Some, refl, sym, ap, ◌∙◌, subst, arith, rules}
+use Rattle.std.proofs.Common.{◌≡◌, ℕ, ◌+◌, Bool, true, false, ◌||◌, ◌⊎◌, inl, inr, Option, None, Some, refl, sym, ◌∙◌, subst, arith}
 use Rattle.std.specs.Prelude.{◌&&◌, min, nat_le}
 use Rattle.std.specs.Option.{MatchOption}
 use Rattle.sdt_word.specs.declared.ranges.Range32.{Range32}
 use Rattle.sdt_word.specs.Ranges.{Covers, AreApart, IsLeastShared}
 use Rattle.arm7_bus.specs.Seats.{has_access}
-use Rattle.arm7_bus.specs.Meets.{IsNowhere, IsLeast, IsFound, lesser_of}
+use Rattle.arm7_bus.specs.Meets.{IsLeast, IsFound, lesser_of}
 
 or_left : (x y : Bool) → (x || y) ≡ true → y ≡ false → x ≡ true
 or_left true y e f = refl

@@ -1,16 +1,16 @@
 -- Pages: what an access in one page reads and writes, and what a page that takes a frame changes.
-use Rattle.std.proofs.Common.{◌≡◌, ◌≢◌, ℕ, zero, suc, ◌+◌, ◌-◌, ◌*◌, ◌/◌, ◌%◌, ◌<◌, ◌≤◌, Bool, true, false, List, [], ◌∷◌, ◌++◌, length, take, drop, get_or, set, map, Option, Some, None, is_some, count_by, cond, refl, sym, ap, ◌∙◌, arith, ◌⊎◌, inl, inr, length-append, length-drop, length-take-le, replicate, drop-cons, ◌==◌, eqb-true, eq-eqb}
+use Rattle.std.proofs.Common.{◌≡◌, ◌≢◌, ℕ, zero, suc, ◌+◌, ◌-◌, ◌*◌, ◌/◌, ◌%◌, ◌<◌, ◌≤◌, Bool, true, false, List, [], ◌∷◌, ◌++◌, length, take, drop, get_or, set, Option, Some, None, is_some, count_by, cond, refl, sym, ap, ◌∙◌, arith, ◌⊎◌, inl, inr, length-take-le, replicate, drop-cons, ◌==◌, eqb-true, eq-eqb}
 use Rattle.std.proofs.Math.ListN.{get_or-append}
 use Rattle.std.proofs.Math.Seq.{get_or-append_right, get_or-take, get_or-drop, get_or-set_same, get_or-set_other, map-set}
 use Rattle.std.proofs.lemmas.List.Sums.{sum_by-cons, sum_by-set}
 use Rattle.std.proofs.Math.Path.{fun_ext}
 use Rattle.std.proofs.lemmas.Bool.{true≢false}
-use Rattle.std.proofs.lemmas.List.{length-replicate, length-map}
-use Rattle.sdt_word.specs.Bytes.{bytes_of, load, number_of, written}
+use Rattle.std.proofs.lemmas.List.{length-replicate}
+use Rattle.sdt_word.specs.Bytes.{load, number_of, written}
 use Rattle.sdt_word.specs.Codes.{bytes_in}
 use Rattle.sdt_word.specs.declared.codes.Width.{Width}
 use Rattle.sdt_word.specs.declared.codes.Width.TheVariants.{Byte, Half, Word}
-use Rattle.sdt_word.proofs.BytesLemmas.{length-bytes_of, length-written}
+use Rattle.sdt_word.proofs.BytesLemmas.{length-written}
 use Rattle.arm7_model.specs.Memory.{store}
 use Rattle.arm7_model.proofs.MemoryLemmas.{below_or_not, store-below, store-above, store-in}
 use Rattle.arm7_bus.specs.Paging.{frame_of, byte_of, memory_in, used_in, IsPaging, IsUnused}

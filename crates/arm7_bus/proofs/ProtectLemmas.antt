@@ -1,5 +1,5 @@
 -- Banks that become protected one after another.
-use Rattle.std.proofs.Common.{◌≡◌, ℕ, zero, suc, ◌+◌, ◌<◌, List, [], ◌∷◌, length, get_or, set, map, refl, sym, ap, ◌∙◌, arith}
+use Rattle.std.proofs.Common.{◌≡◌, ℕ, zero, suc, ◌+◌, ◌<◌, List, [], ◌∷◌, length, get_or, set, map, refl, ap, arith}
 use Rattle.sdt_word.specs.declared.ranges.Range32.{Range32}
 use Rattle.arm7_bus.specs.declared.memory.Bank.{Bank}
 use Rattle.arm7_bus.specs.Protection.{protected_bank}

@@ -1,5 +1,5 @@
 -- Devices that take a step one after another.
-use Rattle.std.proofs.Common.{◌≡◌, ℕ, zero, suc, ◌+◌, ◌<◌, Bool, true, false, ◌||◌, List, [], ◌∷◌, length, get_or, set, map, refl, sym, ap, ◌∙◌, arith}
+use Rattle.std.proofs.Common.{◌≡◌, ℕ, zero, suc, ◌<◌, Bool, true, false, ◌||◌, List, [], ◌∷◌, length, get_or, set, map, refl, sym, ap, ◌∙◌, arith}
 use Rattle.sdt_outside.specs.declared.device.DeviceState.{DeviceState}
 use Rattle.sdt_outside.specs.declared.device.Lines.{Lines}
 use Rattle.sdt_outside.specs.Devices.{ticked, lines_of}

@@ -1,8 +1,7 @@
 -- What a read, a write and a step of time of the bus answer and leave. This project's.
-use Rattle.std.specs.Prelude.{◌≡◌, ℕ, ◌+◌, ◌%◌, Bool, if◌then◌else◌, List, Option, Some, None, Result, option_map, is_some, length, map, [], true, remove}
+use Rattle.std.specs.Prelude.{◌≡◌, ℕ, Bool, if◌then◌else◌, List, Option, Some, None, option_map, is_some, length, map, [], true, remove}
 use Rattle.std.specs.Prelude.{false, ◌++◌, ◌∷◌, ◌/◌}
 use Rattle.sdt_word.specs.declared.ranges.Range32.{Range32}
-use Rattle.arm7_bus.specs.declared.memory.Bank.{Bank}
 use Rattle.std.specs.declared.alloc.Global.{Global}
 use Rattle.std.specs.declared.dyn_box.DynBox.{DynBox}
 use Rattle.sdt_word.specs.declared.codes.Width.{Width}

@@ -1,7 +1,6 @@
 -- Devices as the bus sees them: each in its place, with its state. This project's.
-use Rattle.std.specs.Prelude.{◌≡◌, ℕ, zero, suc, ◌+◌, ◌-◌, Bool, true, false, nat_le, ◌&&◌, ◌||◌, if◌then◌else◌, List, [], ◌∷◌, Option, Some, None, map, find, option_map}
+use Rattle.std.specs.Prelude.{ℕ, zero, suc, ◌+◌, ◌-◌, Bool, false, nat_le, ◌&&◌, ◌||◌, if◌then◌else◌, List, [], ◌∷◌, Option, Some, None, map, find, option_map}
 use Rattle.sdt_word.specs.declared.codes.Width.{Width}
-use Rattle.sdt_word.specs.Codes.{bytes_in}
 use Rattle.sdt_outside.specs.declared.device.DeviceState.{DeviceState}
 use Rattle.sdt_outside.specs.declared.device.Lines.{Lines}
 use Rattle.sdt_outside.specs.Counts.{counted}

@@ -1,12 +1,11 @@
 -- What the bus is to those who call it: banks of memory with one map of bytes, pages of which some are used, the stores
 -- since the last tick, and devices in their seats. This project's.
-use Rattle.std.specs.Prelude.{◌≡◌, ℕ, zero, suc, ◌+◌, ◌-◌, ◌*◌, ◌/◌, ◌^◌, ◌<◌, ◌≤◌, Bool, true, false, nat_lt, ◌&&◌, ◌||◌, if◌then◌else◌, List, [], ◌∷◌, ◌++◌, Option, Some, None, Result, Ok, Err, length, map, take, max, min, count_by, slice_set, slice_get, slice_index_or}
+use Rattle.std.specs.Prelude.{◌≡◌, ℕ, zero, suc, ◌+◌, ◌-◌, ◌/◌, Bool, true, false, nat_lt, ◌&&◌, ◌||◌, if◌then◌else◌, List, [], ◌∷◌, ◌++◌, Option, Some, None, Result, Ok, Err, length, map, take, min, slice_set, slice_index_or}
 use Rattle.std.specs.List.{list_any}
 use Rattle.sdt_word.specs.declared.codes.Width.{Width}
-use Rattle.sdt_word.specs.Bytes.{bytes_of, load, number_of}
+use Rattle.sdt_word.specs.Bytes.{bytes_of}
 use Rattle.sdt_word.specs.Codes.{bytes_in}
-use Rattle.sdt_word.specs.Ranges.{Covers}
-use Rattle.arm7_model.specs.Memory.{store, any_from, Board}
+use Rattle.arm7_model.specs.Memory.{store, any_from}
 use Rattle.arm7_bus.specs.declared.memory.Bank.{Bank}
 use Rattle.arm7_bus.specs.declared.memory.Memory.{Memory}
 use Rattle.arm7_bus.specs.declared.memory.BusFault.{BusFault}

@@ -1,4 +1,4 @@
-use Rattle.std.proofs.Common.{◌≡◌, ◌+◌, suc, length, ◌∙◌, sym, arith, refl}
+use Rattle.std.proofs.Common.{◌≡◌, ◌+◌, length, ◌∙◌, sym, arith}
 use Rattle.arm7_bus.specs.Seats.{seats_by, lines_up}
 use Rattle.arm7_bus.specs.contracts.devices.tick.{dyn-1-ghosts}
 use Rattle.arm7_bus.proofs.TickLemmas.{at_next, at_end, both_lines, seats_length}

@@ -1,6 +1,6 @@
-use Rattle.std.proofs.Common.{◌≡◌, ◌∙◌, sym, ap, Some, None, is_some, rules, arith}
+use Rattle.std.proofs.Common.{◌∙◌, sym, ap, is_some}
 use Rattle.sdt_word.specs.Codes.{bytes_in}
-use Rattle.arm7_bus.specs.Seats.{seat_read, seat_written, seat_answer}
+use Rattle.arm7_bus.specs.Seats.{seat_written}
 use Rattle.arm7_bus.specs.contracts.devices.write.{dyn-1-ghosts}
 use Rattle.arm7_bus.proofs.SeatLemmas.{found_in_list, missing_in_list, seat_is}
 use Rattle.arm7_bus.proofs.devices.write.Goals as goal

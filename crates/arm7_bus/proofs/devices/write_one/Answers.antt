@@ -1,5 +1,5 @@
 use Rattle.std.proofs.Common.{ℕ, ◌-◌, ◌∙◌, ap}
-use Rattle.sdt_outside.specs.Devices.{answered, stored}
+use Rattle.sdt_outside.specs.Devices.{stored}
 use Rattle.arm7_bus.specs.contracts.devices.write_one.{dyn-1-ghosts}
 use Rattle.arm7_bus.proofs.SeatLemmas.{along}
 use Rattle.arm7_bus.proofs.devices.write_one.Goals as goal

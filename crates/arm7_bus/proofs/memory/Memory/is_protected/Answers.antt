@@ -1,4 +1,4 @@
-use Rattle.std.proofs.Common.{◌≡◌, ◌∙◌, sym, arith, rules, ◌+◌, ◌<◌}
+use Rattle.std.proofs.Common.{◌∙◌, sym, arith, ◌+◌}
 use Rattle.arm7_bus.specs.States.{protected_at}
 use Rattle.arm7_bus.proofs.TestLemmas.{any_there}
 use Rattle.arm7_bus.proofs.memory.Memory.is_protected.Goals as goal

@@ -1,4 +1,4 @@
-use Rattle.std.proofs.Common.{◌≡◌, ◌+◌, ◌<◌, length, get_or, false, arith}
+use Rattle.std.proofs.Common.{◌+◌, get_or, false, arith}
 use Rattle.arm7_bus.specs.Paging.{used_in}
 use Rattle.arm7_bus.proofs.ClaimLemmas.{added_more, one_at_most}
 use Rattle.arm7_bus.proofs.PagingLemmas.{used_length}

@@ -1,4 +1,4 @@
-use Rattle.std.proofs.Common.{◌≡◌, ◌/◌, ◌*◌, ◌+◌, ◌%◌, ◌<◌, ℕ, Some, None, ◌∙◌, sym, ap, get_or, arith}
+use Rattle.std.proofs.Common.{◌≡◌, ◌/◌, ◌%◌, ℕ, Some, None, ◌∙◌, sym, ap, get_or, arith}
 use Rattle.arm7_bus.specs.Paging.{frame_of, byte_of, memory_in}
 use Rattle.arm7_bus.proofs.PagingLemmas.{frame_read}
 use Rattle.arm7_bus.proofs.pages.Pages.peek.Goals as goal

@@ -1,8 +1,8 @@
-use Rattle.std.proofs.Common.{◌≡◌, ◌+◌, ◌≤◌, ◌%◌, length, ap, sym, arith, refl}
+use Rattle.std.proofs.Common.{arith}
 use Rattle.sdt_word.specs.Bytes.{bytes_of}
 use Rattle.sdt_word.specs.Codes.{bytes_in}
 use Rattle.sdt_word.proofs.BytesLemmas.{length-bytes_of}
-use Rattle.arm7_bus.proofs.PagingLemmas.{in_page, put-memory, put-paging}
+use Rattle.arm7_bus.proofs.PagingLemmas.{in_page, put-memory}
 use Rattle.arm7_bus.proofs.pages.Pages.put.Goals as goal
 
 pub returns-clause-memory : goal.returns-clause-memory

@@ -1,6 +1,6 @@
-use Rattle.std.proofs.Common.{◌≡◌, ◌/◌, ◌*◌, ◌+◌, ◌≤◌, length, Some, None, ◌∙◌, sym, ap, arith, rules}
+use Rattle.std.proofs.Common.{◌≡◌, ◌/◌, Some, None, ◌∙◌, sym, ap, arith}
 use Rattle.sdt_word.specs.Bytes.{number_of}
-use Rattle.arm7_bus.specs.Paging.{frame_of, IsPaging}
+use Rattle.arm7_bus.specs.Paging.{frame_of}
 use Rattle.arm7_bus.proofs.PagingLemmas.{frame_read, in_page, load_frame, load_none}
 use Rattle.arm7_bus.proofs.pages.Pages.read.Goals as goal
 

@@ -1,4 +1,4 @@
-use Rattle.std.proofs.Common.{◌≡◌, ◌+◌, ◌<◌, length, arith}
+use Rattle.std.proofs.Common.{arith}
 use Rattle.arm7_bus.specs.Paging.{used_in}
 use Rattle.arm7_bus.proofs.ClaimLemmas.{use_length, use_room}
 use Rattle.arm7_bus.proofs.PagingLemmas.{used_length}

@@ -1,4 +1,4 @@
-use Rattle.std.proofs.Common.{◌≡◌, ◌+◌, length}
+use Rattle.std.proofs.Common.{◌≡◌}
 use Rattle.arm7_bus.specs.Paging.{used_in, memory_in}
 use Rattle.arm7_bus.specs.States.{claimed}
 use Rattle.arm7_bus.proofs.pages.Pages.use_all.Given as goal
