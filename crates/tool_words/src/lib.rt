@@ -1,0 +1,10 @@
+//! The words of a command line: which command they ask for, with its names and options, or the first
+//! word that breaks a rule.
+#![tactic(auto)]
+
+//pub mod command;
+pub mod items;
+pub mod numerals;
+pub mod rules;
+
+//pub use crate::command::{Command, RunImage, RunWords, Words, read_words};
