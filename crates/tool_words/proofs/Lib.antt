@@ -1,2 +1,3 @@
 pub mod NumeralLemmas
 pub mod ItemLemmas
+pub mod SeenLemmas

@@ -2,3 +2,4 @@
 pub mod Numerals
 pub mod Items
 pub mod Rules
+pub mod Seen

@@ -173,24 +173,20 @@ items_fault verb words mode before (i ∷ is) =
 
 -- ---- names that differ
 
--- the names, each with its place
-abbrev pub name_at : List (List ℕ) → ℕ → Role → List (ℕ × List ℕ) → List (ℕ × List ℕ)
-name_at words at Name later = (at, word_at words at) ∷ later
-name_at words at Unknown later = later
-name_at words at (Known flag) later = later
-
-abbrev pub names_of : List (List ℕ) → List Item → List (ℕ × List ℕ)
-names_of words [] = []
-names_of words (i ∷ is) = name_at words i.at i.role (names_of words is)
+-- the name is one of these items
+abbrev pub stands : List (List ℕ) → List Item → List ℕ → Bool
+stands words items name = list_any (λ i. is_name i.role && bytes_eq (word_at words i.at) name) items
 
 -- the first name that stands before too
-abbrev pub repeated : List (List ℕ) → List (ℕ × List ℕ) → Option ℕ
-repeated before [] = None
-repeated before (n ∷ ns) = if list_any (λ q. bytes_eq q n.1) before then Some n.0 else repeated (before ++ n.1 ∷ []) ns
+abbrev pub repeated : List (List ℕ) → List Item → List Item → Option ℕ
+repeated words before [] = None
+repeated words before (i ∷ is) =
+    if is_name i.role && stands words before (word_at words i.at) then Some i.at
+    else repeated words (before ++ i ∷ []) is
 
 -- the names of a new library's objects differ
 abbrev pub names_fault : Verb → Option Flag → List (List ℕ) → List Item → Option ℕ
-names_fault Library (Some Create) words items = repeated [] (names_of words items)
+names_fault Library (Some Create) words items = repeated words [] items
 names_fault verb mode words items = None
 
 -- ---- what must stand

@@ -303,3 +303,24 @@ fn items_fault(verb: Verb, words: &[String], mode: Option<Flag>, items: &[Item])
 }
 
 ghost use Rattle.std.specs.Prelude.{[]};
+
+fn has_name(items: &[Item]) -> bool
+    ensures { result ≡ nat_lt 0 (rules.name_count items.now) }
+{
+    name_count(items) > 0
+}
+
+ghost use Rattle.std.specs.Prelude.{nat_lt};
+
+/// Whether all that the command needs is there.
+pub fn is_complete(verb: Verb, mode: Option<Flag>, items: &[Item]) -> bool
+    ensures { result ≡ rules.is_complete verb mode items.now }
+{
+    match mode {
+        None => false,
+        Some(Flag::Create) => has_name(items),
+        Some(Flag::Extract) => has_name(items) && has(Flag::Output, items),
+        Some(Flag::Bin) => has(Flag::At, items),
+        Some(_) => true,
+    }
+}
