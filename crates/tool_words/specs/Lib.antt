@@ -3,3 +3,4 @@ pub mod Numerals
 pub mod Items
 pub mod Rules
 pub mod Seen
+pub mod Commands

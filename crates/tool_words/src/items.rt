@@ -1,6 +1,6 @@
 //! The words behind a command, as items.
 
-ghost use Rattle.std.specs.Prelude.{◌≡◌, ◌<◌, ◌≤◌, ◌+◌, ◌^◌, IfOk, length, map, string_bytes};
+ghost use Rattle.std.specs.Prelude.{◌≡◌, ◌<◌, ◌≤◌, ◌+◌, ◌^◌, All, IfOk, length, map, string_bytes};
 ghost use Rattle.tool_words.specs.Items as items;
 
 use sdt_fault::NoMemory;
@@ -180,7 +180,8 @@ fn item_at(verb: Verb, words: &[String], at: usize) -> Item
 
 /// The items behind the command.
 pub fn items_of(alloc: Global, verb: Verb, words: &[String]) -> Result<Vec<Item>, NoMemory>
-    ensures { IfOk result (λ found. found.items ≡ items.items_of verb (map string_bytes words.now)) }
+    ensures value { IfOk result (λ found. found.items ≡ items.items_of verb (map string_bytes words.now)) }
+    ensures within { IfOk result (λ found. All (λ i. i.at < length words.now) found.items) }
 {
     let mut found = Vec::new(alloc);
     let mut at = 1;

@@ -2,10 +2,10 @@
 //! word that breaks a rule.
 #![tactic(auto)]
 
-//pub mod command;
+pub mod command;
 pub mod items;
 pub mod names;
 pub mod numerals;
 pub mod rules;
 
-//pub use crate::command::{Command, RunImage, RunWords, Words, read_words};
+pub use crate::command::{Bank, Command, RunImage, RunWords, WordsFault, read_words};

@@ -289,7 +289,13 @@ fn item_fault(
     }
 }
 
-fn items_fault(verb: Verb, words: &[String], mode: Option<Flag>, items: &[Item]) -> Option<usize>
+/// The first word of the items that breaks a rule.
+pub fn items_fault(
+    verb: Verb,
+    words: &[String],
+    mode: Option<Flag>,
+    items: &[Item],
+) -> Option<usize>
     requires { All (λ i. i.at < length words.now) items.now }
     ensures { result ≡ rules.items_fault verb (map string_bytes words.now) mode [] items.now }
 {
