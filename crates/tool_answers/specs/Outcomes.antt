@@ -73,3 +73,27 @@ Says asked inputs o (answer.WriteFault name) = Rose o.writes o.writes_now × ((o
 Says asked inputs o answer.SinkFault = Rose o.faults o.faults_now × ((out : Outcome) × (asked ≡ Ok out) × AreWritten o.before o.after out.files × GotPart o.printed o.prints out.prints)
 Says asked inputs o (answer.Stopped stop) = ⊥
 Says asked inputs o answer.NoMemory = ((out : Outcome) × (asked ≡ Ok out) × IsCutShort o.before o.after out.files × (o.prints ≡ o.printed)) ⊎ IsLeft o
+
+-- what the input asks for, where the files are told
+abbrev pub IsAsked : (Files → Result Outcome Refusal) → Option Files → Result Outcome Refusal → Type 0
+IsAsked judge None asked = Unit {0}
+IsAsked judge (Some files) asked = asked ≡ judge files
+
+-- the answer to a command whose input asks for what these files tell
+abbrev pub Answers : (Files → Result Outcome Refusal) → List (List ℕ) → Outside → Answer → Type 0
+Answers judge inputs o a = (asked : Result Outcome Refusal) × IsAsked judge o.before asked × Says asked inputs o a
+
+-- ---- the two ends of a command
+
+-- one file was written, or why not
+abbrev pub Writes : List ℕ → List ℕ → Option Files → Option Files → Type 0 → Answer → Type 0
+Writes name bytes before after rose answer.Done = IsWritten before after name bytes
+Writes name bytes before after rose (answer.WriteFault q) = (q ≡ name) × rose × SameBut before after name
+Writes name bytes before after rose answer.NoMemory = after ≡ before
+Writes name bytes before after rose other = ⊥
+
+-- a text was printed, or a beginning of it
+abbrev pub Prints : List ℕ → Option (List ℕ) → Option (List ℕ) → Type 0 → Answer → Type 0
+Prints text before after rose answer.Done = Got before after text
+Prints text before after rose answer.SinkFault = rose × GotPart before after text
+Prints text before after rose other = ⊥

@@ -4,7 +4,7 @@
 #![tactic(auto)]
 
 pub mod inputs;
-//pub mod outcome;
+pub mod outcome;
 
-pub use crate::inputs::{InputEnd, read_input, read_inputs};
-//pub use crate::outcome::{print, write};
+pub use crate::inputs::{InputEnd, named, read_input, read_inputs};
+pub use crate::outcome::{print, write};

@@ -79,6 +79,8 @@ impl From<NoMemory> for WordsFault {
 /// The command that the words ask for, or the first word that breaks a rule.
 pub fn read_words(alloc: Global, words: &[String]) -> Result<Command, WordsFault>
     ensures exact { commands.Reads result (commands.command_of (map string_bytes words.now)) }
+    // Banks are whole words that end at 2^32 or below, and so is the address of a binary image.
+    ensures good { IfOk result (λ command. commands.IsGood command) }
 {
     match verb_named(first_word(words)) {
         None => Err(WordsFault::Place(told(0))),
@@ -135,8 +137,10 @@ fn verb_fault(
     Ok(Some(words.len()))
 }
 
+#[tactic(auto, using(crate::proofs::GoodLemmas::good_words))]
 fn read_verb(alloc: Global, verb: Verb, words: &[String]) -> Result<Command, WordsFault>
-    ensures { commands.Reads result (commands.verb_words (Some verb) (map string_bytes words.now)) }
+    ensures good { IfOk result (λ command. commands.IsGood command) }
+    ensures exact { commands.Reads result (commands.verb_words (Some verb) (map string_bytes words.now)) }
 {
     let items = items_of(alloc, verb, words)?;
     if let Some(place) = verb_fault(alloc, verb, words, items.as_slice())? {
