@@ -97,3 +97,23 @@ abbrev pub Prints : List ℕ → Option (List ℕ) → Option (List ℕ) → Typ
 Prints text before after rose answer.Done = Got before after text
 Prints text before after rose answer.SinkFault = rose × GotPart before after text
 Prints text before after rose other = ⊥
+
+-- the same where nothing is printed
+abbrev pub unprinted : Option Files → Option Files → ℕ → ℕ → ℕ → ℕ → Outside
+unprinted before after reads reads_now writes writes_now = record {
+  before = before;
+  after = after;
+  printed = None;
+  prints = None;
+  reads = reads;
+  reads_now = reads_now;
+  writes = writes;
+  writes_now = writes_now;
+  faults = 0;
+  faults_now = 0;
+}
+
+-- the answer to a command that prints nothing, over the files and counts of a store
+abbrev pub AnswersOver : (Files → Result Outcome Refusal) → List (List ℕ) → Option Files → Option Files → ℕ → ℕ → ℕ → ℕ → Answer → Type 0
+AnswersOver judge inputs before after reads reads_now writes writes_now a =
+    Answers judge inputs (unprinted before after reads reads_now writes writes_now) a
