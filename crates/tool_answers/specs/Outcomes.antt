@@ -98,22 +98,22 @@ Prints text before after rose answer.Done = Got before after text
 Prints text before after rose answer.SinkFault = rose × GotPart before after text
 Prints text before after rose other = ⊥
 
--- the same where nothing is printed
-abbrev pub unprinted : Option Files → Option Files → ℕ → ℕ → ℕ → ℕ → Outside
-unprinted before after reads reads_now writes writes_now = record {
+-- the same where the sink is left alone
+abbrev pub unprinted : Option (List ℕ) → ℕ → Option Files → Option Files → ℕ → ℕ → ℕ → ℕ → Outside
+unprinted printed faults before after reads reads_now writes writes_now = record {
   before = before;
   after = after;
-  printed = None;
-  prints = None;
+  printed = printed;
+  prints = printed;
   reads = reads;
   reads_now = reads_now;
   writes = writes;
   writes_now = writes_now;
-  faults = 0;
-  faults_now = 0;
+  faults = faults;
+  faults_now = faults;
 }
 
--- the answer to a command that prints nothing, over the files and counts of a store
+-- the answer to a command that prints nothing, over the files and counts of a store and beside any sink
 abbrev pub AnswersOver : (Files → Result Outcome Refusal) → List (List ℕ) → Option Files → Option Files → ℕ → ℕ → ℕ → ℕ → Answer → Type 0
 AnswersOver judge inputs before after reads reads_now writes writes_now a =
-    Answers judge inputs (unprinted before after reads reads_now writes writes_now) a
+    (printed : Option (List ℕ)) (faults : ℕ) → Answers judge inputs (unprinted printed faults before after reads reads_now writes writes_now) a

@@ -1,5 +1,6 @@
 -- Answers of commands, by their ends.
 use Rattle.std.proofs.Common.{◌≡◌, ℕ, List, [], ◌∷◌, ◌++◌, Option, Some, None, Result, Ok, Err, refl, sym, ap, ◌∙◌, subst, inl, inr}
+use Rattle.std.proofs.lemmas.List.{append-nil}
 use Rattle.sdt_fault.specs.declared.answer.Answer.{Answer}
 use Rattle.sdt_fault.specs.declared.answer.Answer.TheVariants as answer
 use Rattle.sdt_fault.specs.declared.answer.Fault.{Fault}
@@ -88,16 +89,27 @@ pub wrote : (a : Answer) (name bytes : List ℕ) (asked : Result Outcome Refusal
     → IsAsked judge o.before asked → asked ≡ Ok (writes_one name bytes) → Got o.printed o.prints [] → o.prints ≡ o.printed
     → Writes name bytes o.before o.after (Rose o.writes o.writes_now) a → Answers judge names o a
 wrote answer.Done name bytes asked names judge o is e got same h = (asked, is, (writes_one name bytes, e, written_one o.before o.after name bytes h, got))
-wrote (answer.WriteFault q) name bytes asked names judge o is e got same h =
-    (asked, is, (h.1, (writes_one name bytes, e, record {
-      done = [];
-      bytes = bytes;
-      rest = [];
-      outputs = rw h.0 refl;
-      between = o.before;
-      written_before = written_none o.before;
-      others = rw h.0 h.2;
-    }), same))
+wrote (answer.WriteFault q) name bytes asked names judge o is e got same h = (
+  asked,
+  is,
+  (
+    h.1,
+    (
+      writes_one name bytes,
+      e,
+      record {
+        done = [];
+        bytes = bytes;
+        rest = [];
+        outputs = rw h.0 refl;
+        between = o.before;
+        written_before = written_none o.before;
+        others = rw h.0 h.2;
+      },
+    ),
+    same,
+  ),
+)
 wrote answer.NoMemory name bytes asked names judge o is e got same h = (asked, is, inr (record { files = h; sink = same }))
 wrote (answer.Refused r) name bytes asked names judge o is e got same h = absurd h
 wrote (answer.ReadFault q) name bytes asked names judge o is e got same h = absurd h
@@ -114,3 +126,8 @@ printed answer.NoMemory shown asked names judge o is e same h = absurd h
 printed (answer.Refused r) shown asked names judge o is e same h = absurd h
 printed (answer.ReadFault q) shown asked names judge o is e same h = absurd h
 printed (answer.Stopped stop) shown asked names judge o is e same h = absurd h
+
+-- a sink that is left alone got nothing
+pub got_none : (b : Option (List ℕ)) → Got b b []
+got_none None = refl
+got_none (Some bytes) = ap Some (sym (append-nil bytes))
