@@ -67,6 +67,10 @@ one_unread (end.Failed q) name f o h left =
     (any.0, any.1, (h.1, record { front = []; rest = []; names_are = rw h.0 refl; contents = []; read_before = none_read o.before }, left))
 one_unread end.NoMemory name f o h left = let any = any_asked (λ files. input_of files name >>= f) o.before in (any.0, any.1, inr left)
 
+-- memory was refused before anything was done
+pub no_memory : (judge : Files → Result Outcome Refusal) (names : List (List ℕ)) (o : Outside) → IsLeft o → Answers judge names o answer.NoMemory
+no_memory judge names o left = let any = any_asked judge o.before in (any.0, any.1, inr left)
+
 -- ---- a file that is refused
 
 pub refused : (e : Fault) (x : Result (List ℕ) Refusal) (g : List ℕ → Result Outcome Refusal) (names : List (List ℕ)) (judge : Files → Result Outcome Refusal) (o : Outside)
