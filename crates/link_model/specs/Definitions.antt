@@ -12,12 +12,14 @@ use Rattle.link_model.specs.declared.selection.Named.{Named}
 use Rattle.link_model.specs.declared.selection.Definition.{Definition}
 use Rattle.link_model.specs.declared.selection.LinkedEntry.{LinkedEntry}
 
+-- a symbol's definition, where it is exported
+abbrev pub definition_in : ℕ → ℕ → Symbol → List Definition
+definition_in object k s = if is_exported s.attributes then (record { name = s.name; object = object; symbol = k }) ∷ [] else []
+
 -- the definitions of an object's symbols, which are counted from k on
 abbrev pub definitions_in : ℕ → ℕ → List Symbol → List Definition
 definitions_in object k [] = []
-definitions_in object k (s ∷ ss) =
-    if is_exported s.attributes then (record { name = s.name; object = object; symbol = k }) ∷ definitions_in object (suc k) ss
-    else definitions_in object (suc k) ss
+definitions_in object k (s ∷ ss) = definition_in object k s ++ definitions_in object (suc k) ss
 
 -- those of objects, which are counted from i on
 abbrev pub definitions_from : ℕ → List (Named Object) → List Definition
