@@ -1,13 +1,13 @@
 -- Inputs read one after the other.
-use Rattle.std.proofs.Common.{◌≡◌, ℕ, ◌+◌, ◌<◌, List, [], ◌∷◌, ◌++◌, length, take, drop, get_or, suc, Option, Some, None, Result, Ok, Err, refl, sym, ap, ◌∙◌, subst, append_assoc, arith, add-one, ◌≤◌, min, ◌^◌}
+use Rattle.std.proofs.Common.{◌≡◌, ℕ, ◌+◌, ◌<◌, List, [], ◌∷◌, ◌++◌, length, take, drop, get_or, suc, Option, Some, None, Result, Ok, Err, refl, sym, ap, ◌∙◌, subst, arith, add-one, ◌≤◌}
 use Rattle.std.proofs.Math.Seq.{take-suc, split_at}
 use Rattle.sdt_fault.specs.declared.refusal.Refusal.{Refusal}
 use Rattle.sdt_fault.specs.declared.refusal.Refusal.TheVariants.{Missing}
-use Rattle.sdt_outside.specs.Counts.{Rose, counted}
-use Rattle.sdt_outside.specs.Files.{Files, content, IsFound, IsMissing}
+use Rattle.sdt_outside.specs.Counts.{Rose}
+use Rattle.sdt_outside.specs.Files.{Files, IsFound}
 use Rattle.tool_answers.specs.declared.inputs.InputEnd.{InputEnd}
 use Rattle.tool_answers.specs.declared.inputs.InputEnd.TheVariants as end
-use Rattle.tool_answers.specs.Inputs.{found_or, input_of, before_others, and_others, inputs_of, AreInputs, IsReached, IsEnd, InputsEnd}
+use Rattle.tool_answers.specs.Inputs.{found_or, input_of, before_others, and_others, inputs_of, AreInputs, IsEnd, InputsEnd}
 
 -- what all give, from what those in front and the others give
 behind : Files → List (List ℕ) → Result (List (List ℕ)) Refusal → Result (List (List ℕ)) Refusal

@@ -1,5 +1,5 @@
 -- Answers of commands, by their ends.
-use Rattle.std.proofs.Common.{◌≡◌, ℕ, List, [], ◌∷◌, ◌++◌, Option, Some, None, Result, Ok, Err, refl, sym, ap, ◌∙◌, subst, inl, inr}
+use Rattle.std.proofs.Common.{◌≡◌, ℕ, List, [], ◌∷◌, Option, Some, None, Result, Ok, Err, refl, sym, ap, subst, inr}
 use Rattle.std.proofs.lemmas.List.{append-nil}
 use Rattle.sdt_fault.specs.declared.answer.Answer.{Answer}
 use Rattle.sdt_fault.specs.declared.answer.Answer.TheVariants as answer
@@ -8,13 +8,13 @@ use Rattle.sdt_fault.specs.declared.answer.Fault.TheVariants as fault
 use Rattle.sdt_fault.specs.declared.refusal.Refusal.{Refusal}
 use Rattle.sdt_fault.specs.declared.refusal.Refusal.TheVariants.{Missing}
 use Rattle.sdt_outside.specs.Counts.{Rose}
-use Rattle.sdt_outside.specs.Files.{Files, content, IsFound, IsMissing, IsWritten, SameBut}
-use Rattle.sdt_outside.specs.Sinks.{Got, GotPart}
+use Rattle.sdt_outside.specs.Files.{Files, content, IsFound, IsMissing, IsWritten}
+use Rattle.sdt_outside.specs.Sinks.{Got}
 use Rattle.chunk_file.specs.Reading.{◌>>=◌, Gives}
 use Rattle.tool_answers.specs.declared.inputs.InputEnd.{InputEnd}
 use Rattle.tool_answers.specs.declared.inputs.InputEnd.TheVariants as end
-use Rattle.tool_answers.specs.Inputs.{found_or, inputs_of, input_of, AreInputs, InputsEnd, IsEnd, IsReached}
-use Rattle.tool_answers.specs.Outcomes.{Outcome, Outside, IsLeft, AreWritten, FailsAt, Says, IsAsked, Answers, Writes, Prints, writes_one, prints_only}
+use Rattle.tool_answers.specs.Inputs.{found_or, inputs_of, input_of, AreInputs, InputsEnd, IsEnd}
+use Rattle.tool_answers.specs.Outcomes.{Outcome, Outside, IsLeft, AreWritten, IsAsked, Answers, Writes, Prints, writes_one, prints_only}
 use Rattle.tool_library.specs.Libraries.{end_answer, fault_answer}
 
 -- ---- what is asked

@@ -1,5 +1,5 @@
 -- Members one after the other.
-use Rattle.std.proofs.Common.{◌≡◌, ℕ, suc, ◌+◌, ◌<◌, List, [], ◌∷◌, ◌++◌, length, drop, get_or, Option, Some, None, Result, Ok, Err, refl, sym, ap, ◌∙◌, subst, append_assoc, arith, add-one, bytes_eq, true, cond}
+use Rattle.std.proofs.Common.{◌≡◌, ℕ, suc, ◌+◌, ◌<◌, List, [], ◌∷◌, ◌++◌, length, drop, get_or, Result, Ok, Err, refl, sym, ap, ◌∙◌, subst, append_assoc, add-one, bytes_eq, true, cond}
 use Rattle.std.proofs.Math.Seq.{drop-cons}
 use Rattle.sdt_fault.specs.declared.refusal.Refusal.{Refusal}
 use Rattle.chunk_file.specs.Reading.{◌>>=◌}

@@ -1,12 +1,11 @@
 -- What is written has fewer than 2^32 bytes.
-use Rattle.std.proofs.Common.{◌≡◌, ℕ, ◌<◌, ◌^◌, List, [], ◌∷◌, length, map, Bool, true, false, cond, nat_lt, Result, Ok, Err, IfOk, refl, sym, ap, ◌∙◌, subst, arith, ◌+◌, ◌*◌}
+use Rattle.std.proofs.Common.{◌≡◌, ℕ, ◌<◌, ◌^◌, List, [], ◌∷◌, length, map, Bool, true, false, cond, nat_lt, Result, Ok, Err, IfOk, refl, sym, ap, ◌∙◌, subst, arith}
 use Rattle.std.specs.List.{AllByRecursion}
 use Rattle.std.proofs.lemmas.Bool.Decides.{nat_tests}
 use Rattle.sdt_fault.specs.declared.refusal.Refusal.{Refusal}
 use Rattle.sdt_fault.specs.declared.refusal.Refusal.TheVariants.{TooLarge}
 use Rattle.sdt_fault.specs.declared.kinds.Quantity.TheVariants.{FileBytes}
 use Rattle.sdt_fault.specs.declared.answer.Fault.{Fault}
-use Rattle.sdt_fault.specs.declared.answer.Fault.TheVariants as fault
 use Rattle.chunk_file.specs.declared.records.Chunks.{Chunks}
 use Rattle.chunk_file.specs.Chunks.{file_size, spelled, written}
 use Rattle.chunk_file.specs.Grammar.{IsNamed, AreChunks, SizeLaw}
@@ -14,7 +13,6 @@ use Rattle.chunk_file.specs.Reading.{Gives}
 use Rattle.aof_object.specs.declared.records.Object.{Object}
 use Rattle.aof_object.specs.Spelling as object
 use Rattle.alf_archive.specs.declared.records.Member.{Member}
-use Rattle.alf_archive.specs.declared.records.Archive.{Archive}
 use Rattle.alf_archive.specs.Spelling as library
 
 short : SizeLaw → (c : Chunks) (b : List ℕ) → AreChunks c → written c ≡ Ok b → length b < 2 ^ 32

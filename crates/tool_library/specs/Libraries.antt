@@ -11,7 +11,6 @@ use Rattle.sdt_outside.specs.Files.{Files}
 use Rattle.chunk_file.specs.Reading.{◌>>=◌}
 use Rattle.aof_object.specs.Objects.{object_of}
 use Rattle.aof_object.specs.Spelling as object
-use Rattle.alf_archive.specs.declared.records.Archive.{Archive}
 use Rattle.alf_archive.specs.declared.records.Member.{Member}
 use Rattle.alf_archive.specs.Archives.{archive_of}
 use Rattle.alf_archive.specs.Spelling as library

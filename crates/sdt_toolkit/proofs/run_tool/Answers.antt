@@ -1,6 +1,4 @@
 use Rattle.std.proofs.Common.{map, string_bytes}
-use Rattle.sdt_fault.specs.declared.answer.Answer.TheVariants as answer
-use Rattle.sdt_outside.specs.Counts.{Rose}
 use Rattle.sdt_toolkit.proofs.Meaning.{is_answered, is_built, is_there}
 use Rattle.sdt_toolkit.proofs.run_tool.Goals as goal
 

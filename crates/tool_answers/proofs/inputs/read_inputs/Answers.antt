@@ -1,5 +1,4 @@
-use Rattle.std.proofs.Common.{length, rules, ◌≡◌, sym, ◌∙◌, arith, ◌<◌, ◌^◌, All}
-use Rattle.std.proofs.lemmas.Grind.{common_steps}
+use Rattle.std.proofs.Common.{rules, ◌∙◌, arith}
 use Rattle.tool_answers.proofs.InputLemmas.{inputs_step, inputs_fail}
 use Rattle.tool_answers.proofs.inputs.read_inputs.Goals as goal
 

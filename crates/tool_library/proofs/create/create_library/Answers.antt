@@ -1,4 +1,4 @@
-use Rattle.std.proofs.Common.{◌≡◌, ℕ, List, Result, Ok, sym, ◌∙◌, ap, refl}
+use Rattle.std.proofs.Common.{ℕ, List, Result, Ok, ap, refl}
 use Rattle.sdt_fault.specs.declared.refusal.Refusal.{Refusal}
 use Rattle.chunk_file.specs.Reading.{◌>>=◌}
 use Rattle.tool_answers.specs.Outcomes.{Outcome, writes_one, unprinted}

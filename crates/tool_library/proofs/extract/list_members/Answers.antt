@@ -1,7 +1,7 @@
-use Rattle.std.proofs.Common.{◌≡◌, ℕ, List, [], ◌∷◌, Result, Ok, sym, ◌∙◌, ap, refl}
+use Rattle.std.proofs.Common.{ℕ, List, [], ◌∷◌, Result, Ok, ap, refl}
 use Rattle.sdt_fault.specs.declared.refusal.Refusal.{Refusal}
 use Rattle.chunk_file.specs.Reading.{◌>>=◌}
-use Rattle.tool_answers.specs.Outcomes.{Outcome, Outside, prints_only}
+use Rattle.tool_answers.specs.Outcomes.{Outcome, prints_only}
 use Rattle.tool_library.specs.Libraries.{listing, listed}
 use Rattle.tool_library.proofs.AnswerLemmas.{one_unread, refused, printed, asked_of_one}
 use Rattle.tool_library.proofs.extract.list_members.Goals as goal

@@ -1,4 +1,3 @@
-use Rattle.std.proofs.Common.{sym, ◌∙◌}
 use Rattle.tool_library.proofs.MemberLemmas.{placed}
 use Rattle.tool_library.proofs.members.place_named.Goals as goal
 

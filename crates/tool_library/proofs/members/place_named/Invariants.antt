@@ -1,4 +1,4 @@
-use Rattle.std.proofs.Common.{◌≡◌, ◌≤◌, ◌-◌, drop, length}
+use Rattle.std.proofs.Common.{◌≡◌, ◌-◌, drop, length}
 use Rattle.tool_library.specs.Libraries as libraries
 use Rattle.tool_library.proofs.members.place_named.Given as goal
 
