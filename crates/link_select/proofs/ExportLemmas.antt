@@ -1,5 +1,5 @@
 -- Which object exports a name first, from one object to the one before it.
-use Rattle.std.proofs.Common.{◌≡◌, ℕ, zero, suc, ◌+◌, ◌<◌, ◌≤◌, Bool, true, false, cond, length, List, [], ◌∷◌, ◌++◌, drop, take, get_or, Option, Some, None, refl, sym, ap, ◌∙◌, subst, arith}
+use Rattle.std.proofs.Common.{◌≡◌, ℕ, zero, suc, ◌+◌, ◌<◌, Bool, true, false, cond, length, List, [], ◌∷◌, drop, take, get_or, Option, Some, None, refl, sym, ap, ◌∙◌, subst, arith}
 use Rattle.std.specs.Prelude.{slice_get, ◌&&◌, ◌||◌, ◌-◌, IsSomeAnd}
 use Rattle.std.specs.Option.{option_map}
 use Rattle.std.specs.Str.{bytes_eq}
@@ -106,5 +106,5 @@ index_back m n os i ss h here known new = by (slice_get os (i - 1)) refl here
     by : (r : Option (Named Object)) → slice_get os (i - 1) ≡ r → IsSomeAnd r (λ o. o.value.symbols ≡ ss) → IsIndexOf (i - 1) (drop (i - 1) os) n
     by None e s = absurd s
     by (Some o) e s =
-      index_more m n os (i - 1) o e (subst (λ (k : ℕ). IsIndexOf k (drop k os) m) next known)
-      (λ q. new q ∙ ap (λ (l : List Symbol). cond (among q (exported l)) (Some (i - 1)) (number_in m q)) (sym s))
+        index_more m n os (i - 1) o e (subst (λ (k : ℕ). IsIndexOf k (drop k os) m) next known)
+        (λ q. new q ∙ ap (λ (l : List Symbol). cond (among q (exported l)) (Some (i - 1)) (number_in m q)) (sym s))

@@ -5,3 +5,4 @@ pub mod PlaceLemmas
 pub mod ExportLemmas
 pub mod RegionLemmas
 pub mod SelectionLemmas
+pub mod LawLemmas

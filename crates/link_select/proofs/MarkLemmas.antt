@@ -1,8 +1,7 @@
 -- One more mark, and several.
-use Rattle.std.proofs.Common.{◌≡◌, ◌≢◌, ℕ, zero, suc, ◌+◌, ◌<◌, Bool, true, false, cond, ◌||◌, true≢false, length, List, [], ◌∷◌, ◌++◌, refl, sym, ap, ◌∙◌, subst, get_or, set, inl, inr, arith, length-append, append_assoc, append-nil}
+use Rattle.std.proofs.Common.{◌≡◌, ℕ, zero, suc, ◌+◌, ◌<◌, Bool, true, false, ◌||◌, true≢false, length, List, [], ◌∷◌, ◌++◌, refl, sym, ap, ◌∙◌, subst, set, inl, inr, arith, length-append, append_assoc, append-nil}
 use Rattle.std.specs.Prelude.{◌⊎◌, ◌==◌}
-use Rattle.std.specs.List.{AllByRecursion, list_any}
-use Rattle.std.proofs.lemmas.List.{get_or-set_same, get_or-set_other, length-set}
+use Rattle.std.proofs.lemmas.List.{get_or-set_same, length-set}
 use Rattle.std.proofs.lemmas.Bool.{eqb-true, eq-eqb}
 use Rattle.std.proofs.lemmas.List.Folds.{list_any-append}
 use Rattle.link_model.specs.Chosen.{HasAll}
@@ -83,36 +82,36 @@ set_fewer (b ∷ bs) (suc k) h f = let r = set_fewer bs k (omega arith) f in ome
 
 pub marks_none : (m : List Bool) → Marks m m [] []
 marks_none m = record {
-    size = refl;
-    kept = λ k h. h;
-    all = tt;
-    only = λ k h. inl h;
-    waits = λ k h. inl h;
-    added_marked = tt;
-    fewer = omega arith;
-  }
+  size = refl;
+  kept = λ k h. h;
+  all = tt;
+  only = λ k h. inl h;
+  waits = λ k h. inl h;
+  added_marked = tt;
+  fewer = omega arith;
+}
 
 pub marks_known : (m : List Bool) (k : ℕ) → marked m k ≡ true → Marks m m [] (k ∷ [])
 marks_known m k h = record {
-    size = refl;
-    kept = λ j e. e;
-    all = (h, tt);
-    only = λ j e. inl e;
-    waits = λ j e. inl e;
-    added_marked = tt;
-    fewer = omega arith;
-  }
+  size = refl;
+  kept = λ j e. e;
+  all = (h, tt);
+  only = λ j e. inl e;
+  waits = λ j e. inl e;
+  added_marked = tt;
+  fewer = omega arith;
+}
 
 pub marks_new : (m : List Bool) (k : ℕ) → k < length m → marked m k ≡ false → Marks m (set m k true) (k ∷ []) (k ∷ [])
 marks_new m k h f = record {
-    size = length-set m k true;
-    kept = λ j e. set_kept m k j e;
-    all = (get_or-set_same m k true false h, tt);
-    only = λ j e. one j (set_only m k j e);
-    waits = λ j e. one j (set_only m k j e);
-    added_marked = (get_or-set_same m k true false h, tt);
-    fewer = let r = set_fewer m k h f in omega arith;
-  }
+  size = length-set m k true;
+  kept = λ j e. set_kept m k j e;
+  all = (get_or-set_same m k true false h, tt);
+  only = λ j e. one j (set_only m k j e);
+  waits = λ j e. one j (set_only m k j e);
+  added_marked = (get_or-set_same m k true false h, tt);
+  fewer = let r = set_fewer m k h f in omega arith;
+}
   where
     one : (j : ℕ) → (marked m j ≡ true) ⊎ (k ≡ j) → (marked m j ≡ true) ⊎ (is_in j (k ∷ []) ≡ true)
     one j (inl e) = inl e
@@ -122,14 +121,14 @@ marks_new m k h f = record {
 
 pub marks_both : (a b c : List Bool) (x y w v : List ℕ) → Marks a b x w → Marks b c y v → Marks a c (x ++ y) (w ++ v)
 marks_both a b c x y w v p q = record {
-    size = q.size ∙ p.size;
-    kept = λ k h. q.kept k (p.kept k h);
-    all = all_append (λ k. marked c k ≡ true) w v (all_weaker (λ k. marked b k ≡ true) (λ k. marked c k ≡ true) q.kept w p.all) q.all;
-    only = λ k h. joined k w v (λ e. p.only k e) (q.only k h);
-    waits = λ k h. joined k x y (λ e. p.waits k e) (q.waits k h);
-    added_marked = all_append (λ k. marked c k ≡ true) x y (all_weaker (λ k. marked b k ≡ true) (λ k. marked c k ≡ true) q.kept x p.added_marked) q.added_marked;
-    fewer = let n = length-append x y in let r = p.fewer in let s = q.fewer in omega arith;
-  }
+  size = q.size ∙ p.size;
+  kept = λ k h. q.kept k (p.kept k h);
+  all = all_append (λ k. marked c k ≡ true) w v (all_weaker (λ k. marked b k ≡ true) (λ k. marked c k ≡ true) q.kept w p.all) q.all;
+  only = λ k h. joined k w v (λ e. p.only k e) (q.only k h);
+  waits = λ k h. joined k x y (λ e. p.waits k e) (q.waits k h);
+  added_marked = all_append (λ k. marked c k ≡ true) x y (all_weaker (λ k. marked b k ≡ true) (λ k. marked c k ≡ true) q.kept x p.added_marked) q.added_marked;
+  fewer = let n = length-append x y in let r = p.fewer in let s = q.fewer in omega arith;
+}
   where
     early : (k : ℕ) (xs ys : List ℕ) → (marked a k ≡ true) ⊎ (is_in k xs ≡ true) → (marked a k ≡ true) ⊎ (is_in k (xs ++ ys) ≡ true)
     early k xs ys (inl e) = inl e
@@ -144,7 +143,7 @@ takes_none m waiting = record { added = []; behind = sym (append-nil waiting); m
 
 pub takes_both : (a b c : List Bool) (x y z w v : List ℕ) → Takes a b x y w → Takes b c y z v → Takes a c x z (w ++ v)
 takes_both a b c x y z w v p q = record {
-    added = p.added ++ q.added;
-    behind = q.behind ∙ ap (λ (l : List ℕ). l ++ q.added) p.behind ∙ append_assoc x p.added q.added;
-    marks = marks_both a b c p.added q.added w v p.marks q.marks;
-  }
+  added = p.added ++ q.added;
+  behind = q.behind ∙ ap (λ (l : List ℕ). l ++ q.added) p.behind ∙ append_assoc x p.added q.added;
+  marks = marks_both a b c p.added q.added w v p.marks q.marks;
+}

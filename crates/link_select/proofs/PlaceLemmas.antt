@@ -1,10 +1,8 @@
 -- The member at the place of a number is the member of that number in library order.
-use Rattle.std.proofs.Common.{◌≡◌, ℕ, zero, suc, ◌+◌, ◌-◌, ◌<◌, ◌≤◌, length, List, [], ◌∷◌, ◌++◌, map, Option, Some, None, refl, sym, ap, ◌∙◌, inl, inr, arith, length-append, append_assoc}
+use Rattle.std.proofs.Common.{◌≡◌, ℕ, zero, suc, ◌+◌, ◌-◌, ◌<◌, ◌≤◌, length, List, [], ◌∷◌, ◌++◌, map, Option, Some, refl, sym, ap, ◌∙◌, inl, inr, arith, length-append, append_assoc}
 use Rattle.std.specs.Prelude.{slice_get, ◌⊎◌}
-use Rattle.std.specs.List.{flat_map}
 use Rattle.std.proofs.lemmas.Bool.{cases_lt}
 use Rattle.std.specs.Option.{option_map}
-use Rattle.aof_object.specs.declared.records.Object.{Object}
 use Rattle.alf_archive.specs.declared.records.Member.{Member}
 use Rattle.alf_archive.specs.declared.records.Archive.{Archive}
 use Rattle.link_model.specs.declared.selection.Named.{Named}
@@ -69,19 +67,19 @@ place_from all front (x ∷ xs) a e len i p h = by (cases_lt i (length x.value.m
         → ((j : ℕ) (r : Place) → slice_get (places_from (suc a) xs) j ≡ Some r → member_at all r ≡ slice_get (members_of xs) j)
         → member_at all p ≡ slice_get (members_in x ++ members_of xs) i
     by (inl lt) rest =
-      let within : i < length (places_in a 0 x.value.members) = let n = length_in a 0 x.value.members in omega arith in
-      let r = place_in a 0 x.value.members i p (sym (get_front (places_in a 0 x.value.members) (places_from (suc a) xs) i within) ∙ h) in
-      let at : p.member ≡ i = omega (arith, r.1) in
-      ap (λ (o : Option (Named Archive)). member_in p.member o) (ap (slice_get all) r.0 ∙ here)
-      ∙ ap (λ (k : ℕ). option_map (named_member x.name) (slice_get x.value.members k)) at
-      ∙ sym (get_map (named_member x.name) x.value.members i)
-      ∙ sym (get_front (members_in x) (members_of xs) i (let n = length_from_map (named_member x.name) x.value.members in omega arith))
+        let within : i < length (places_in a 0 x.value.members) = let n = length_in a 0 x.value.members in omega arith in
+        let r = place_in a 0 x.value.members i p (sym (get_front (places_in a 0 x.value.members) (places_from (suc a) xs) i within) ∙ h) in
+        let at : p.member ≡ i = omega (arith, r.1) in
+        ap (λ (o : Option (Named Archive)). member_in p.member o) (ap (slice_get all) r.0 ∙ here)
+        ∙ ap (λ (k : ℕ). option_map (named_member x.name) (slice_get x.value.members k)) at
+        ∙ sym (get_map (named_member x.name) x.value.members i)
+        ∙ sym (get_front (members_in x) (members_of xs) i (let n = length_from_map (named_member x.name) x.value.members in omega arith))
     by (inr ge) rest =
-      let j : ℕ = i - length x.value.members in
-      let at : length (places_in a 0 x.value.members) + j ≡ i = let n = length_in a 0 x.value.members in omega arith in
-      let at' : length (members_in x) + j ≡ i = let n = length_from_map (named_member x.name) x.value.members in omega arith in
-      rest j p (sym (get_back (places_in a 0 x.value.members) (places_from (suc a) xs) j) ∙ ap (slice_get (places_in a 0 x.value.members ++ places_from (suc a) xs)) at ∙ h)
-      ∙ sym (get_back (members_in x) (members_of xs) j) ∙ ap (slice_get (members_in x ++ members_of xs)) at'
+        let j : ℕ = i - length x.value.members in
+        let at : length (places_in a 0 x.value.members) + j ≡ i = let n = length_in a 0 x.value.members in omega arith in
+        let at' : length (members_in x) + j ≡ i = let n = length_from_map (named_member x.name) x.value.members in omega arith in
+        rest j p (sym (get_back (places_in a 0 x.value.members) (places_from (suc a) xs) j) ∙ ap (slice_get (places_in a 0 x.value.members ++ places_from (suc a) xs)) at ∙ h)
+        ∙ sym (get_back (members_in x) (members_of xs) j) ∙ ap (slice_get (members_in x ++ members_of xs)) at'
 
 -- the member at the place of a number
 pub member_at_place : (archives : List (Named Archive)) (i : ℕ) (p : Place) → slice_get (places_from 0 archives) i ≡ Some p → member_at archives p ≡ slice_get (members_of archives) i

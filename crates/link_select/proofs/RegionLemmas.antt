@@ -1,7 +1,7 @@
 -- Indexes of names, and the region symbols that they show.
-use Rattle.std.proofs.Common.{◌≡◌, ℕ, zero, suc, ◌+◌, ◌-◌, ◌<◌, Bool, true, false, cond, List, [], ◌∷◌, ◌++◌, length, map, take, drop, Option, Some, None, refl, sym, ap, ◌∙◌, subst, get_or, arith, length-append}
+use Rattle.std.proofs.Common.{◌≡◌, ℕ, ◌+◌, ◌-◌, ◌<◌, Bool, true, false, cond, List, [], ◌∷◌, ◌++◌, length, map, take, drop, Option, Some, None, refl, sym, ap, ◌∙◌, get_or, arith, length-append}
 use Rattle.std.specs.Prelude.{◌&&◌, ◌||◌, is_some, nat_eq, codes}
-use Rattle.std.specs.List.{flat_map, ends_with}
+use Rattle.std.specs.List.{ends_with}
 use Rattle.std.specs.Str.{bytes_eq}
 use Rattle.std.proofs.lemmas.List.{map_push, take-append-drop}
 use Rattle.std.proofs.lemmas.Slice.Eq.{bytes_eq-Decides}
@@ -12,8 +12,7 @@ use Rattle.aof_object.specs.Names.{among}
 use Rattle.aof_object.specs.Spelling.{area_names}
 use Rattle.aof_object.proofs.NamesLemmas.{among-push}
 use Rattle.link_model.specs.declared.selection.Named.{Named}
-use Rattle.link_model.specs.Chosen.{exporter}
-use Rattle.link_model.specs.RegionNames.{has_region_form, names_of_areas, names_a_region, area_base, area_limit}
+use Rattle.link_model.specs.RegionNames.{names_of_areas, names_a_region}
 use Rattle.link_select.specs.declared.regions.RegionSymbols.{RegionSymbols}
 use Rattle.link_select.specs.declared.regions.RegionSymbols.TheVariants.{AnyOfTheForm, Listed}
 use Rattle.link_select.specs.Index.{Numbers, number_in, IsIndexOf}
@@ -48,7 +47,7 @@ area_names_more m n before areas i a q h e known new =
     ap (λ (o : Option ℕ). is_some o) new ∙ has_more (bytes_eq a.name q) 0 (number_in m q)
     ∙ ap (λ (b : Bool). b || bytes_eq a.name q) known ∙ or_assoc before (among q (area_names (take i areas))) (bytes_eq a.name q)
     ∙ ap (λ (b : Bool). before || b)
-      (sym (among-push q (area_names (take i areas)) a.name) ∙ ap (among q) (sym (map_push (λ (x : Area). x.name) (take i areas) a) ∙ ap (λ (l : List Area). area_names l) (sym (take_item areas i a h e))))
+    (sym (among-push q (area_names (take i areas)) a.name) ∙ ap (among q) (sym (map_push (λ (x : Area). x.name) (take i areas) a) ∙ ap (λ (l : List Area). area_names l) (sym (take_item areas i a h e))))
 
 pub among-append : (q : List ℕ) (xs ys : List (List ℕ)) → among q (xs ++ ys) ≡ (among q xs || among q ys)
 among-append q [] ys = refl
@@ -88,16 +87,16 @@ ended : (a s q : List ℕ) → bytes_eq (a ++ s) q ≡ (ends_with nat_eq q s && 
 ended a s q = same_tests (bytes_eq (a ++ s) q) (ends_with nat_eq q s && bytes_eq a (take (length q - length s) q))
     (λ t. there ((bytes_eq-Decides (a ++ s) q).0 t))
     (λ t. are_equal (a ++ s) q
-      (let e : s ≡ drop (length q - length s) q = (bytes_eq-Decides s (drop (length q - length s) q)).0 (first_true (ends_with nat_eq q s) (bytes_eq a (take (length q - length s) q)) t) in
-      let f : a ≡ take (length q - length s) q = (bytes_eq-Decides a (take (length q - length s) q)).0 (second_true (ends_with nat_eq q s) (bytes_eq a (take (length q - length s) q)) t) in
-      (λ i. f i ++ e i) ∙ take-append-drop (length q - length s) q))
+    (let e : s ≡ drop (length q - length s) q = (bytes_eq-Decides s (drop (length q - length s) q)).0 (first_true (ends_with nat_eq q s) (bytes_eq a (take (length q - length s) q)) t) in
+    let f : a ≡ take (length q - length s) q = (bytes_eq-Decides a (take (length q - length s) q)).0 (second_true (ends_with nat_eq q s) (bytes_eq a (take (length q - length s) q)) t) in
+    (λ i. f i ++ e i) ∙ take-append-drop (length q - length s) q))
   where
     there : a ++ s ≡ q → (ends_with nat_eq q s && bytes_eq a (take (length q - length s) q)) ≡ true
     there e =
-      let m : length a ≡ length q - length s = let k = length-append a s in let l = ap (λ (x : List ℕ). length x) e in omega arith in
-      both_true (ends_with nat_eq q s) (bytes_eq a (take (length q - length s) q))
-      (are_equal s (drop (length q - length s) q) (sym (drop-append_seam a s) ∙ (λ i. drop (m i) (e i))))
-      (are_equal a (take (length q - length s) q) (sym (take-append_seam a s) ∙ (λ i. take (m i) (e i))))
+        let m : length a ≡ length q - length s = let k = length-append a s in let l = ap (λ (x : List ℕ). length x) e in omega arith in
+        both_true (ends_with nat_eq q s) (bytes_eq a (take (length q - length s) q))
+        (are_equal s (drop (length q - length s) q) (sym (drop-append_seam a s) ∙ (λ i. drop (m i) (e i))))
+        (are_equal a (take (length q - length s) q) (sym (take-append_seam a s) ∙ (λ i. take (m i) (e i))))
 
 spread : (e b a : Bool) → ((e && b) || (e && a)) ≡ (e && (b || a))
 spread true b a = refl

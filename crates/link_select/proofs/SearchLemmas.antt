@@ -1,13 +1,13 @@
 -- The search: what holds while members wait to be looked at, and that it ends with the least set.
-use Rattle.std.proofs.Common.{◌≡◌, ℕ, zero, suc, ◌+◌, ◌<◌, Bool, true, false, true≢false, cond, length, List, [], ◌∷◌, ◌++◌, Option, Some, None, refl, sym, ap, ◌∙◌, subst, inl, inr, arith, replicate, get_or, length-append}
+use Rattle.std.proofs.Common.{◌≡◌, ℕ, zero, suc, ◌+◌, ◌<◌, Bool, true, false, true≢false, cond, length, List, [], ◌∷◌, ◌++◌, Option, Some, None, refl, sym, ap, ◌∙◌, subst, inl, inr, arith, replicate, length-append}
 use Rattle.std.specs.Prelude.{◌⊎◌, slice_get, IsSomeAnd}
-use Rattle.std.specs.List.{AllByRecursion, flat_map, list_any, filter_map, cons_option}
+use Rattle.std.specs.List.{AllByRecursion, flat_map, filter_map, cons_option}
 use Rattle.std.specs.Option.{option_to_list}
 use Rattle.aof_object.specs.declared.records.Symbol.{Symbol}
 use Rattle.aof_object.specs.declared.records.Object.{Object}
 use Rattle.link_model.specs.declared.selection.Named.{Named}
 use Rattle.link_model.specs.Chosen.{HasAll, asked, is_needed, wanted, IsClosed, IsLeast}
-use Rattle.link_select.specs.Search.{marked, unmarked, is_in, Marks, Takes, IsWithin}
+use Rattle.link_select.specs.Search.{marked, unmarked, is_in, Takes, IsWithin}
 use Rattle.link_select.proofs.ListLemmas.{all_append, all_front, all_back, all_weaker}
 use Rattle.link_select.proofs.MarkLemmas.{is_in_front, is_in_back, is_in_either, is_the_one, has_one, marked_within}
 
@@ -27,12 +27,12 @@ none_marked (suc n) (suc k) h = none_marked n k h
 pub searched_start : (supply : List ℕ → Option ℕ) (objects members : List (Named Object)) (n : ℕ) (marks : List Bool) (waiting : List ℕ) → n ≡ length members → length (replicate n false) ≡ n
     → Takes (replicate n false) marks [] waiting (flat_map (wanted supply) objects) → Searched supply objects members marks waiting
 searched_start supply objects members n marks waiting e len t = record {
-    size = t.marks.size ∙ len ∙ e;
-    waits = subst (λ (l : List ℕ). HasAll (marked marks) l) (sym t.behind) t.marks.added_marked;
-    looked = λ k m h at. inl (fresh k (t.marks.waits k h));
-    roots = t.marks.all;
-    least = λ other closed k h. in_other other closed k (t.marks.only k h);
-  }
+  size = t.marks.size ∙ len ∙ e;
+  waits = subst (λ (l : List ℕ). HasAll (marked marks) l) (sym t.behind) t.marks.added_marked;
+  looked = λ k m h at. inl (fresh k (t.marks.waits k h));
+  roots = t.marks.all;
+  least = λ other closed k h. in_other other closed k (t.marks.only k h);
+}
   where
     fresh : (k : ℕ) → (marked (replicate n false) k ≡ true) ⊎ (is_in k t.added ≡ true) → is_in k waiting ≡ true
     fresh k (inl e) = absurd (none_marked n k e)
@@ -46,13 +46,13 @@ searched_start supply objects members n marks waiting e len t = record {
 pub searched_next : (supply : List ℕ → Option ℕ) (objects members : List (Named Object)) (marks after : List Bool) (rest wait : List ℕ) (i : ℕ) (m : Named Object)
     → Searched supply objects members marks (rest ++ i ∷ []) → slice_get members i ≡ Some m → Takes marks after rest wait (wanted supply m) → Searched supply objects members after wait
 searched_next supply objects members marks after rest wait i m s at t = record {
-    size = t.marks.size ∙ s.size;
-    waits = subst (λ (l : List ℕ). HasAll (marked after) l) (sym t.behind)
+  size = t.marks.size ∙ s.size;
+  waits = subst (λ (l : List ℕ). HasAll (marked after) l) (sym t.behind)
       (all_append (λ k. marked after k ≡ true) rest t.added (more rest (all_front (λ k. marked marks k ≡ true) rest (i ∷ []) s.waits)) t.marks.added_marked);
-    looked = λ k n h there. fresh k n there (t.marks.waits k h);
-    roots = more (flat_map (wanted supply) objects) s.roots;
-    least = λ other closed k h. in_other other closed k (t.marks.only k h);
-  }
+  looked = λ k n h there. fresh k n there (t.marks.waits k h);
+  roots = more (flat_map (wanted supply) objects) s.roots;
+  least = λ other closed k h. in_other other closed k (t.marks.only k h);
+}
   where
     more : (ks : List ℕ) → HasAll (marked marks) ks → HasAll (marked after) ks
     more ks a = all_weaker (λ k. marked marks k ≡ true) (λ k. marked after k ≡ true) t.marks.kept ks a
@@ -62,8 +62,8 @@ searched_next supply objects members marks after rest wait i m s at t = record {
 
     here : (k : ℕ) (n : Named Object) → slice_get members k ≡ Some n → i ≡ k → HasAll (marked after) (wanted supply n)
     here k n there e =
-      let same : m ≡ n = let f : Some m ≡ Some n = sym at ∙ ap (λ (j : ℕ). slice_get members j) e ∙ there in cc in
-      subst (λ (o : Named Object). HasAll (marked after) (wanted supply o)) same t.marks.all
+        let same : m ≡ n = let f : Some m ≡ Some n = sym at ∙ ap (λ (j : ℕ). slice_get members j) e ∙ there in cc in
+        subst (λ (o : Named Object). HasAll (marked after) (wanted supply o)) same t.marks.all
 
     waiting_or : (k : ℕ) (n : Named Object) → slice_get members k ≡ Some n → (is_in k rest ≡ true) ⊎ (is_in k (i ∷ []) ≡ true) → (is_in k wait ≡ true) ⊎ HasAll (marked after) (wanted supply n)
     waiting_or k n there (inl e) = inl (subst (λ (l : List ℕ). is_in k l ≡ true) (sym t.behind) (is_in_front k rest t.added e))
@@ -83,9 +83,9 @@ searched_next supply objects members marks after rest wait i m s at t = record {
 
 pub searched_end : (supply : List ℕ → Option ℕ) (objects members : List (Named Object)) (marks : List Bool) → Searched supply objects members marks [] → IsLeast supply objects members (marked marks)
 searched_end supply objects members marks s = record {
-    closed = record { of_objects = s.roots; of_members = λ k m h at. done k m (s.looked k m h at) };
-    least = λ other closed k h. s.least other closed k h;
-  }
+  closed = record { of_objects = s.roots; of_members = λ k m h at. done k m (s.looked k m h at) };
+  least = λ other closed k h. s.least other closed k h;
+}
   where
     done : (k : ℕ) (m : Named Object) → (is_in k [] ≡ true) ⊎ HasAll (marked marks) (wanted supply m) → HasAll (marked marks) (wanted supply m)
     done k m (inl e) = absurd (true≢false (sym e))
@@ -123,8 +123,8 @@ searched_look supply objects members marks after waited rest wait i ss s popped 
     by : (r : Option (Named Object)) → slice_get members i ≡ r → IsSomeAnd r (λ m. m.value.symbols ≡ ss) → Searched supply objects members after wait
     by None e none = absurd none
     by (Some m) e same =
-      searched_next supply objects members marks after rest wait i m (subst (λ (l : List ℕ). Searched supply objects members marks l) popped s) e
-      (subst (λ (l : List Symbol). Takes marks after rest wait (filter_map (asked supply) l)) (sym same) t)
+        searched_next supply objects members marks after rest wait i m (subst (λ (l : List ℕ). Searched supply objects members marks l) popped s) e
+        (subst (λ (l : List Symbol). Takes marks after rest wait (filter_map (asked supply) l)) (sym same) t)
 
 -- and it is one of the members
 pub waiting_within : (supply : List ℕ → Option ℕ) (objects members : List (Named Object)) (marks : List Bool) (waited rest : List ℕ) (i n : ℕ) → Searched supply objects members marks waited → waited ≡ rest ++ i ∷ [] → length members ≡ n → i < n

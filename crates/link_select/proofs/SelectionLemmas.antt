@@ -1,5 +1,5 @@
 -- What is linked, and what is selected of it.
-use Rattle.std.proofs.Common.{◌≡◌, ℕ, zero, suc, ◌+◌, ◌<◌, Bool, true, false, cond, List, [], ◌∷◌, ◌++◌, length, take, drop, Option, Some, None, Result, Ok, Err, refl, sym, ap, ◌∙◌, subst, get_or, arith}
+use Rattle.std.proofs.Common.{◌≡◌, ℕ, suc, ◌+◌, ◌<◌, Bool, true, false, cond, List, [], ◌∷◌, ◌++◌, length, drop, Option, Some, None, Result, Ok, Err, refl, sym, ap, ◌∙◌, subst, arith}
 use Rattle.std.specs.Prelude.{slice_get, is_some, IfOk, IsSomeAnd}
 use Rattle.std.specs.Option.{option_to_list}
 use Rattle.std.specs.Map.{lookup}
@@ -14,7 +14,7 @@ use Rattle.link_model.specs.declared.selection.Named.{Named}
 use Rattle.link_model.specs.declared.selection.Linked.{Linked}
 use Rattle.link_model.specs.declared.selection.LinkedEntry.{LinkedEntry}
 use Rattle.link_model.specs.Members.{members_of}
-use Rattle.link_model.specs.Chosen.{exporter, supplied, IsLeast, AreChosen, AreLinked, taken}
+use Rattle.link_model.specs.Chosen.{exporter, supplied, IsLeast, AreLinked, taken}
 use Rattle.link_model.specs.Definitions.{definitions_from}
 use Rattle.link_select.specs.declared.choosing.Supply.{Supply}
 use Rattle.link_select.specs.declared.members.Place.{Place}
@@ -22,8 +22,8 @@ use Rattle.link_select.specs.Index.{Numbers, number_in, IsIndexOf}
 use Rattle.link_select.specs.Places.{places_from, member_at, symbols_of}
 use Rattle.link_select.specs.Search.{supply_of, marked, IsWithin}
 use Rattle.link_select.specs.Selection.{judged, selection_of, Selects}
-use Rattle.link_select.proofs.ListLemmas.{rest_more, some_item, get_item, drop_at, drop_end}
-use Rattle.link_select.proofs.PlaceLemmas.{member_at_place, length_from}
+use Rattle.link_select.proofs.ListLemmas.{rest_more, some_item, get_item, drop_end}
+use Rattle.link_select.proofs.PlaceLemmas.{member_at_place}
 use Rattle.link_select.proofs.ExportLemmas.{exporter_within}
 
 -- ---- the index and the supply
@@ -47,10 +47,10 @@ supply_same s objects members defined offered = λ i q. cond (is_some (defined q
 pub are_linked : (s : Supply) (objects : List (Named Object)) (archives : List (Named Archive)) (marks : List Bool) (linked : List (Named Object)) → IsIndexOf 0 objects s.defined → IsIndexOf 0 (members_of archives) s.offered
     → IsLeast (supply_of s) objects (members_of archives) (marked marks) → linked ≡ objects ++ taken (marked marks) 0 (members_of archives) → AreLinked objects archives linked
 are_linked s objects archives marks linked defined offered least e = record {
-    chosen = marked marks;
-    are_chosen = subst (λ (f : List ℕ → Option ℕ). IsLeast f objects (members_of archives) (marked marks)) (supply_same s objects (members_of archives) defined offered) least;
-    in_order = e;
-  }
+  chosen = marked marks;
+  are_chosen = subst (λ (f : List ℕ → Option ℕ). IsLeast f objects (members_of archives) (marked marks)) (supply_same s objects (members_of archives) defined offered) least;
+  in_order = e;
+}
 
 pub if_ok : {T E : Type 0} (P Q : T → Type 0) → ((x : T) → P x → Q x) → (r : Result T E) → IfOk r P → IfOk r Q
 if_ok P Q f (Ok x) h = f x h

@@ -1,6 +1,6 @@
 -- Names that two linked objects export: the first such name, by the order of the objects and their
 -- symbols, with the first two objects that export it. This project's.
-use Rattle.std.specs.Prelude.{ℕ, Bool, if◌then◌else◌, List, [], ◌∷◌, Option, Some, None}
+use Rattle.std.specs.Prelude.{ℕ, if◌then◌else◌, List, [], ◌∷◌, Option, None}
 use Rattle.std.specs.List.{find}
 use Rattle.std.specs.Option.{option_map, option_or}
 use Rattle.sdt_fault.specs.declared.refusal.Refusal.{Refusal}

@@ -1,5 +1,5 @@
 -- A map from names to numbers, as a function. This project's.
-use Rattle.std.specs.Prelude.{◌≡◌, ℕ, nat_eq, Bool, List, Option, Some, is_some}
+use Rattle.std.specs.Prelude.{◌≡◌, ℕ, nat_eq, List, Option, is_some}
 use Rattle.std.specs.Cmp.Lexicographic.{pointwise}
 use Rattle.std.specs.declared.hash.FoldHasher.{FoldHasher}
 use Rattle.std.specs.declared.hash.BuildHasherDefault.{BuildHasherDefault}

@@ -6,3 +6,4 @@ pub mod Regions
 pub mod Undefined
 pub mod Entries
 pub mod Selection
+pub mod Laws

@@ -1,11 +1,10 @@
 -- The search for the chosen members: which are marked, and which of these wait to be looked at. This
 -- project's.
 use Rattle.std.specs.Prelude.{◌≡◌, ℕ, ◌+◌, ◌<◌, Bool, true, false, is_some, ◌==◌, if◌then◌else◌, ◌⊎◌, List, [], ◌∷◌, ◌++◌, length, slice_index_or, Option, Some, None}
-use Rattle.std.specs.List.{AllByRecursion, list_any}
-use Rattle.aof_object.specs.declared.records.Object.{Object}
+use Rattle.std.specs.List.{list_any}
 use Rattle.link_model.specs.Chosen.{HasAll}
 use Rattle.link_select.specs.declared.choosing.Supply.{Supply}
-use Rattle.link_select.specs.Index.{Numbers, number_in}
+use Rattle.link_select.specs.Index.{number_in}
 
 -- the member that a name asks for, by the names that command-line objects define and those that members offer
 abbrev pub supply_of : Supply → List ℕ → Option ℕ

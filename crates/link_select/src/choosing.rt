@@ -75,7 +75,11 @@ fn take_one(marks: &mut Vec<bool>, waiting: &mut Vec<usize>, number: usize) -> R
 }
 
 /// Marks members; those that were not yet marked are to be looked at.
-fn take_all(marks: &mut Vec<bool>, waiting: &mut Vec<usize>, numbers: &[usize]) -> Result<(), NoMemory>
+fn take_all(
+    marks: &mut Vec<bool>,
+    waiting: &mut Vec<usize>,
+    numbers: &[usize],
+) -> Result<(), NoMemory>
     requires { AllByRecursion (λ k. k < length marks.old.items) numbers.now }
     ensures { OnOk result (Takes marks.old.items marks.new.items waiting.old.items waiting.new.items numbers.now) }
 {

@@ -6,6 +6,7 @@ mod choosing;
 mod entries;
 mod exports;
 mod index;
+mod laws;
 mod limits;
 mod linking;
 mod members;
@@ -13,4 +14,8 @@ mod regions;
 mod selecting;
 mod undefined;
 
+pub use crate::laws::duplicate_law;
 pub use crate::selecting::select;
+
+#[cfg(test)]
+mod tests;

@@ -9,6 +9,7 @@ ghost use Rattle.aof_object.specs.declared.records.Object.{Object as AofObject};
 ghost use Rattle.link_model.specs.Chosen.{AreLinked};
 ghost use Rattle.link_model.specs.Definitions.{definition_in, definitions_in, definitions_from};
 ghost use Rattle.link_model.specs.declared.selection.Named.{Named as NamedValue};
+ghost use Rattle.link_select.specs.Laws.{AreDefinedOnce, HaveMeanings};
 ghost use Rattle.link_select.specs.Selection.{count_symbols, judged, selection_of, Selects};
 
 use crate::choosing::{Supply, choose};
@@ -29,6 +30,7 @@ use std::alloc::Global;
 
 /// The most areas and symbols that a link may have.
 const MOST_AREAS: usize = 65_535;
+
 const MOST_SYMBOLS: usize = 1_000_000;
 
 /// The objects that are linked.
@@ -45,7 +47,13 @@ fn choose_objects(
         offered: index_members(alloc, archives, places.as_slice())?,
     };
     let marks = choose(alloc, &supply, objects, archives, places.as_slice())?;
-    linked_objects(alloc, objects, archives, places.as_slice(), marks.as_slice())
+    linked_objects(
+        alloc,
+        objects,
+        archives,
+        places.as_slice(),
+        marks.as_slice(),
+    )
 }
 
 fn too_large(quantity: Quantity, limit: u64) -> Fault
@@ -89,10 +97,7 @@ fn push_definitions(
 }
 
 /// Each symbol that an object exports.
-fn definitions_of(
-    alloc: Global,
-    objects: &[Named<Object>],
-) -> Result<List<Definition>, NoMemory>
+fn definitions_of(alloc: Global, objects: &[Named<Object>]) -> Result<List<Definition>, NoMemory>
     requires objects { length objects.now < 2 ^ 32 }
     requires symbols { count_symbols objects.now < 2 ^ 32 }
     ensures { IfOk result (λ definitions. definitions ≡ definitions_from 0 objects.now) }
@@ -170,6 +175,9 @@ pub fn select(
 ) -> Result<Linked, Fault>
     // What is linked: the command line's objects, then the least set of members that these need.
     ensures linked { IfOk result (λ l. AreLinked objects.now archives.now l.objects) }
+    // No name is exported by two of them, and each of their non-weak references has a meaning.
+    ensures one_definition { IfOk result (λ l. AreDefinedOnce l.objects) }
+    ensures meanings { IfOk result (λ l. HaveMeanings (option_copied regions.entry) l.objects) }
     // The answer is that of the linked objects, of which there is one list, unless memory was refused.
     ensures exact { Selects objects.now archives.now (option_copied regions.entry) result }
     ensures only { (os : Items (NamedValue AofObject)) → AreLinked objects.now archives.now os → Gives result (selection_of (option_copied regions.entry) os) }

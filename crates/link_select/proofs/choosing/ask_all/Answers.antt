@@ -1,4 +1,4 @@
-use Rattle.std.proofs.Common.{◌≡◌, ℕ, zero, suc, ◌+◌, ◌<◌, ◌≤◌, Bool, true, false, cond, List, [], ◌∷◌, ◌++◌, length, take, drop, Option, Some, None, vec_len, refl, sym, ap, ◌∙◌, subst, arith, rules, get_or, append-nil}
+use Rattle.std.proofs.Common.{◌≡◌, ℕ, List, length, take, sym, ap, ◌∙◌, subst}
 use Rattle.std.specs.List.{flat_map, filter_map}
 use Rattle.link_model.specs.Chosen.{asked, wanted}
 use Rattle.link_select.specs.Search.{Takes, supply_of}
@@ -20,5 +20,5 @@ loop-object-preserved c =
     subst (λ (l : List ℕ). Takes c.args.marks.now.items c.take_all.new.marks.items c.args.waiting.now.items c.take_all.new.waiting.items l)
     (sym (flat_take f c.args.objects.now c.loop-object.object-index c.object-item.result c.loop-object-test.true c.object-item.is))
     (takes_both c.args.marks.now.items c.loop-object.marks.items c.take_all.new.marks.items c.args.waiting.now.items c.loop-object.waiting.items c.take_all.new.waiting.items
-      (flat_map f (take c.loop-object.object-index c.args.objects.now)) (f c.object-item.result) c.loop-object.invariant
-      (subst (λ (l : List ℕ). Takes c.loop-object.marks.items c.take_all.new.marks.items c.loop-object.waiting.items c.take_all.new.waiting.items l) these c.in_ok-take_all.ensures))
+    (flat_map f (take c.loop-object.object-index c.args.objects.now)) (f c.object-item.result) c.loop-object.invariant
+    (subst (λ (l : List ℕ). Takes c.loop-object.marks.items c.take_all.new.marks.items c.loop-object.waiting.items c.take_all.new.waiting.items l) these c.in_ok-take_all.ensures))

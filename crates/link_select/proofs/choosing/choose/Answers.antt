@@ -1,4 +1,4 @@
-use Rattle.std.proofs.Common.{◌≡◌, ℕ, zero, suc, ◌+◌, ◌-◌, ◌<◌, ◌≤◌, Bool, true, false, cond, List, [], ◌∷◌, ◌++◌, length, take, drop, Option, Some, None, vec_len, refl, sym, ap, ◌∙◌, subst, arith, rules, get_or, append-nil, replicate}
+use Rattle.std.proofs.Common.{◌≡◌, ℕ, Bool, false, List, [], length, sym, ap, ◌∙◌, subst, arith}
 use Rattle.std.specs.List.{flat_map, filter_map}
 use Rattle.link_model.specs.Members.{members_of}
 use Rattle.link_model.specs.Chosen.{asked, wanted}
@@ -14,15 +14,15 @@ pub ask_all-requires : goal.ask_all-requires
 ask_all-requires c =
     supply_within c.args.supply.now (members_of c.args.archives.now) (length c.in_ok-marks.marks.items) c.requires.offered
     (ap (λ (l : List Bool). length l) c.in_ok-marks.ensures ∙ length-replicate (length c.args.places.now) false
-      ∙ ap (λ (l : List Place). length l) c.requires.places ∙ length_from 0 c.args.archives.now)
+    ∙ ap (λ (l : List Place). length l) c.requires.places ∙ length_from 0 c.args.archives.now)
 
 pub loop-number-init : goal.loop-number-init
 loop-number-init c =
     searched_start (supply_of c.args.supply.now) c.args.objects.now (members_of c.args.archives.now) (length c.args.places.now) c.ask_all.new.marks.items c.ask_all.new.waiting.items
     (ap (λ (l : List Place). length l) c.requires.places ∙ length_from 0 c.args.archives.now) (length-replicate (length c.args.places.now) false)
     (subst (λ (l : List Bool). Takes l c.ask_all.new.marks.items [] c.ask_all.new.waiting.items (flat_map (wanted (supply_of c.args.supply.now)) c.args.objects.now)) c.in_ok-marks.ensures
-      (subst (λ (l : List ℕ). Takes c.in_ok-marks.marks.items c.ask_all.new.marks.items l c.ask_all.new.waiting.items (flat_map (wanted (supply_of c.args.supply.now)) c.args.objects.now)) c.new-waiting.ensures.items
-        c.in_ok-ask_all.ensures))
+    (subst (λ (l : List ℕ). Takes c.in_ok-marks.marks.items c.ask_all.new.marks.items l c.ask_all.new.waiting.items (flat_map (wanted (supply_of c.args.supply.now)) c.args.objects.now)) c.new-waiting.ensures.items
+    c.in_ok-ask_all.ensures))
 
 pub symbols_of_member-symbols-requires-clause-number : goal.symbols_of_member-symbols-requires-clause-number
 symbols_of_member-symbols-requires-clause-number c =

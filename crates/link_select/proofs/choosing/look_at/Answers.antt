@@ -1,6 +1,4 @@
-use Rattle.std.proofs.Common.{◌≡◌, ℕ, zero, suc, ◌+◌, ◌<◌, ◌≤◌, Bool, true, false, cond, List, [], ◌∷◌, ◌++◌, length, take, drop, Option, Some, None, vec_len, refl, sym, ap, ◌∙◌, subst, arith, rules, get_or, append-nil}
-use Rattle.std.specs.List.{filter_map}
-use Rattle.link_model.specs.Chosen.{asked}
+use Rattle.std.proofs.Common.{length, refl, ◌∙◌}
 use Rattle.link_select.specs.Search.{supply_of}
 use Rattle.link_select.proofs.SearchLemmas.{within_these}
 use Rattle.link_select.proofs.choosing.look_at.Goals as goal

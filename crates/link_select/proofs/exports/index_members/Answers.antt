@@ -1,4 +1,4 @@
-use Rattle.std.proofs.Common.{◌≡◌, ℕ, zero, suc, ◌+◌, ◌-◌, ◌<◌, ◌≤◌, Bool, true, false, cond, List, [], ◌∷◌, ◌++◌, length, take, drop, Option, Some, None, vec_len, refl, sym, ap, ◌∙◌, subst, arith, rules, get_or, append-nil, replicate}
+use Rattle.std.proofs.Common.{List, length, ap, ◌∙◌}
 use Rattle.link_select.specs.declared.members.Place.{Place}
 use Rattle.link_model.specs.Members.{members_of}
 use Rattle.link_select.proofs.PlaceLemmas.{length_from}

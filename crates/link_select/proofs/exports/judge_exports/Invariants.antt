@@ -1,4 +1,4 @@
-use Rattle.std.proofs.Common.{◌≡◌, ℕ, zero, suc, ◌+◌, ◌<◌, ◌≤◌, Bool, true, false, cond, List, [], ◌∷◌, ◌++◌, length, take, drop, Option, Some, None, vec_len}
+use Rattle.std.proofs.Common.{◌≡◌, drop}
 use Rattle.link_select.specs.Index.{IsIndexOf}
 use Rattle.link_select.specs.Exports.{duplicate}
 use Rattle.link_select.proofs.exports.judge_exports.Given as goal

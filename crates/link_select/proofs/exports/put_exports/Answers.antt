@@ -1,4 +1,3 @@
-use Rattle.std.proofs.Common.{◌≡◌, ℕ, zero, suc, ◌+◌, ◌<◌, ◌≤◌, Bool, true, false, cond, List, [], ◌∷◌, ◌++◌, length, take, drop, Option, Some, None, vec_len, refl, sym, ap, ◌∙◌, subst, arith, rules, get_or, append-nil}
 use Rattle.link_select.proofs.ExportLemmas.{exports_more}
 use Rattle.link_select.proofs.exports.put_exports.Goals as goal
 

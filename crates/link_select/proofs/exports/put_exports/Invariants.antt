@@ -1,4 +1,4 @@
-use Rattle.std.proofs.Common.{◌≡◌, ℕ, zero, suc, ◌+◌, ◌<◌, ◌≤◌, Bool, true, false, cond, List, [], ◌∷◌, ◌++◌, length, take, drop, Option, Some, None, vec_len}
+use Rattle.std.proofs.Common.{◌≡◌, ℕ, cond, List, take, Some}
 use Rattle.aof_object.specs.Names.{among}
 use Rattle.aof_object.specs.Objects.{exported}
 use Rattle.link_select.specs.Index.{number_in}

@@ -1,4 +1,4 @@
-use Rattle.std.proofs.Common.{◌≡◌, ℕ, zero, suc, ◌+◌, ◌-◌, ◌<◌, ◌≤◌, Bool, true, false, cond, List, [], ◌∷◌, ◌++◌, length, take, drop, Option, Some, None, vec_len, refl, sym, ap, ◌∙◌, subst, arith, rules, get_or, append-nil}
+use Rattle.std.proofs.Common.{false}
 use Rattle.link_select.proofs.RegionLemmas.{names_more}
 use Rattle.link_select.proofs.regions.index_names.Goals as goal
 

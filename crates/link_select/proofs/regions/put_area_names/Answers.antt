@@ -1,4 +1,3 @@
-use Rattle.std.proofs.Common.{◌≡◌, ℕ, zero, suc, ◌+◌, ◌-◌, ◌<◌, ◌≤◌, Bool, true, false, cond, List, [], ◌∷◌, ◌++◌, length, take, drop, Option, Some, None, vec_len, refl, sym, ap, ◌∙◌, subst, arith, rules, get_or, append-nil}
 use Rattle.std.specs.Prelude.{is_some}
 use Rattle.link_select.specs.Index.{number_in}
 use Rattle.link_select.proofs.RegionLemmas.{area_names_more}

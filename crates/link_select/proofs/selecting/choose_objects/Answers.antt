@@ -1,4 +1,4 @@
-use Rattle.std.proofs.Common.{◌≡◌, ℕ, zero, suc, ◌+◌, ◌-◌, ◌<◌, ◌≤◌, Bool, true, false, cond, List, [], ◌∷◌, ◌++◌, length, take, drop, Option, Some, None, vec_len, refl, sym, ap, ◌∙◌, subst, arith, rules, get_or, append-nil, replicate}
+use Rattle.std.proofs.Common.{◌≡◌, Bool, List, ◌++◌, length, sym, ap, ◌∙◌}
 use Rattle.std.proofs.Common.{Vec, Global}
 use Rattle.aof_object.specs.declared.records.Object.{Object}
 use Rattle.link_model.specs.declared.selection.Named.{Named}
@@ -15,8 +15,8 @@ returns c =
     if_ok (λ (v : Vec (Named Object) Global). v.items ≡ c.args.objects.now ++ taken (marked c.as_slice-4.result.now) 0 (members_of c.args.archives.now))
     (λ v. AreLinked c.args.objects.now c.args.archives.now v.items)
     (λ v e. are_linked (record { defined = c.in_ok-index_objects.field-0; offered = c.in_ok-index_members.field-0 }) c.args.objects.now c.args.archives.now c.in_ok-marks.marks.items v.items
-      c.in_ok-index_objects.ensures c.in_ok-index_members.ensures c.in_ok-marks.ensures.least
-      (e ∙ ap (λ (m : List Bool). c.args.objects.now ++ taken (marked m) 0 (members_of c.args.archives.now)) same))
+    c.in_ok-index_objects.ensures c.in_ok-index_members.ensures c.in_ok-marks.ensures.least
+    (e ∙ ap (λ (m : List Bool). c.args.objects.now ++ taken (marked m) 0 (members_of c.args.archives.now)) same))
     c.linked_objects.result c.linked_objects.ensures
 
 pub linked_objects-requires-clause-marks : goal.linked_objects-requires-clause-marks

@@ -1,4 +1,4 @@
-use Rattle.std.proofs.Common.{◌≡◌, ℕ, zero, suc, ◌+◌, ◌-◌, ◌<◌, ◌≤◌, Bool, true, false, cond, List, [], ◌∷◌, ◌++◌, length, take, drop, Option, Some, None, vec_len, refl, sym, ap, ◌∙◌, subst, arith, rules, get_or, append-nil}
+use Rattle.std.proofs.Common.{◌≡◌, ℕ, Bool, List, Option, subst}
 use Rattle.std.specs.Prelude.{IfOk}
 use Rattle.std.specs.Option.{option_copied}
 use Rattle.sdt_fault.specs.declared.refusal.Refusal.{Refusal}
