@@ -2,11 +2,19 @@
 //! model that touches no memory.
 #![tactic(auto)]
 
+mod arithmetic;
+mod flags;
 mod modes;
 mod registers;
+mod shifter;
 
+pub use crate::arithmetic::{Outcome, computed, difference, is_comparison, sum_with};
+pub use crate::flags::{bit, carry_in, overflow_in, passes, with_flags};
 pub use crate::modes::{bank_in, has_mode, has_saved, is_thumb, is_user};
 pub use crate::registers::{
     operand_at, register, restore, saved, set_cpsr, set_pc, set_register, set_result, set_saved,
     set_user_register, stored_at, user_register,
+};
+pub use crate::shifter::{
+    Operand, as_64_bits, immediate_operand, shifted_by, shifted_by_amount, shifted_by_register,
 };
