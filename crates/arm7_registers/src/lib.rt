@@ -3,14 +3,24 @@
 #![tactic(auto)]
 
 mod arithmetic;
+mod branches;
+mod exceptions;
 mod flags;
 mod modes;
+mod processing;
 mod registers;
 mod shifter;
 
 pub use crate::arithmetic::{Outcome, computed, difference, is_comparison, sum_with};
+pub use crate::branches::{
+    branch, branch_target, exchange_state, is_host, link_first, link_second,
+};
+pub use crate::exceptions::{advance, can_fetch, enter, fetch_width, interrupt};
 pub use crate::flags::{bit, carry_in, overflow_in, passes, with_flags};
 pub use crate::modes::{bank_in, has_mode, has_saved, is_thumb, is_user};
+pub use crate::processing::{
+    calculate, multiply, multiply_long, read_status, status_after, status_with, write_status,
+};
 pub use crate::registers::{
     operand_at, register, restore, saved, set_cpsr, set_pc, set_register, set_result, set_saved,
     set_user_register, stored_at, user_register,

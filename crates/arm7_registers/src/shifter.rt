@@ -29,7 +29,10 @@ fn shifted_left(v: u32, n: u32) -> Operand
     ensures { shifted_of result ≡ shifted_by shift.Lsl v n }
 {
     if n > 32 {
-        return Operand { value: 0, carry: false };
+        return Operand {
+            value: 0,
+            carry: false,
+        };
     }
     let wide = u64::from(v) << n;
     Operand {
@@ -45,7 +48,10 @@ fn shifted_right(v: u32, n: u32) -> Operand
     ensures { shifted_of result ≡ shifted_by shift.Lsr v n }
 {
     if n > 32 {
-        return Operand { value: 0, carry: false };
+        return Operand {
+            value: 0,
+            carry: false,
+        };
     }
     let wide = u64::from(v);
     Operand {
