@@ -11,7 +11,7 @@ use arm_isa::Operation;
 
 /// A result with its carry and overflow.
 #[derive(Clone, Copy, PartialEq, Eq, Debug)]
-pub struct Outcome {
+pub struct Computation {
     pub value: u32,
     pub carry: bool,
     pub overflow: bool,
@@ -26,12 +26,12 @@ fn overflows(a: u32, b: u32, sum: u32) -> bool
 
 /// Two words and a carry.
 #[tactic(auto, unfolding(arm7_model::specs::Arithmetic::sum_with))]
-pub fn sum_with(a: u32, b: u32, carry: bool) -> Outcome
+pub fn sum_with(a: u32, b: u32, carry: bool) -> Computation
     ensures { computed_of result ≡ sum_with a b (flag carry) }
 {
     let sum = u64::from(a) + u64::from(b) + u64::from(carry);
     let value = (sum % 0x1_0000_0000) as u32;
-    Outcome {
+    Computation {
         value,
         carry: sum >= 0x1_0000_0000,
         overflow: overflows(a, b, value),
@@ -39,17 +39,17 @@ pub fn sum_with(a: u32, b: u32, carry: bool) -> Outcome
 }
 
 /// `a` less `b`; the carry is "no borrow".
-pub fn difference(a: u32, b: u32) -> Outcome
+pub fn difference(a: u32, b: u32) -> Computation
     ensures { computed_of result ≡ difference a b }
 {
     sum_with(a, !b, true)
 }
 
 /// A value with the shifter's carry and the overflow of CPSR.
-fn logical(value: u32, carry: bool, status: u32) -> Outcome
+fn logical(value: u32, carry: bool, status: u32) -> Computation
     ensures { computed_of result ≡ record { value = value; carry = flag carry; overflow = overflow_in status } }
 {
-    Outcome {
+    Computation {
         value,
         carry,
         overflow: overflow_in(status),
@@ -58,7 +58,7 @@ fn logical(value: u32, carry: bool, status: u32) -> Outcome
 
 /// The operation on a register's value and the shifter's operand, with CPSR as it is before.
 #[tactic(auto, unfolding(arm7_model::specs::Arithmetic::computed))]
-pub fn computed(operation: Operation, a: u32, operand: Operand, status: u32) -> Outcome
+pub fn computed(operation: Operation, a: u32, operand: Operand, status: u32) -> Computation
     ensures { computed_of result ≡ computed operation a operand.value (flag operand.carry) status }
 {
     let Operand { value: b, carry } = operand;

@@ -2,6 +2,7 @@
 //! model that touches no memory.
 #![tactic(auto)]
 
+mod addresses;
 mod arithmetic;
 mod branches;
 mod exceptions;
@@ -11,7 +12,11 @@ mod processing;
 mod registers;
 mod shifter;
 
-pub use crate::arithmetic::{Outcome, computed, difference, is_comparison, sum_with};
+pub use crate::addresses::{
+    aligned, block_end, block_start, is_lowest, listed_at, lists, loaded_value, moved_by,
+    next_word, set_base, set_block_base, set_listed, set_loaded_pc, transfer_address, writes_back,
+};
+pub use crate::arithmetic::{Computation, computed, difference, is_comparison, sum_with};
 pub use crate::branches::{
     branch, branch_target, exchange_state, is_host, link_first, link_second,
 };

@@ -7,7 +7,7 @@ ghost use Rattle.arm7_model.specs.Data.{calculated, completed, flagged, kept_fla
 ghost use Rattle.arm7_model.specs.Registers.{register, saved};
 ghost use Rattle.arm7_registers.specs.Values.{computed_of, shifted_of};
 
-use crate::arithmetic::{Outcome, computed, is_comparison};
+use crate::arithmetic::{Computation, computed, is_comparison};
 use crate::flags::{bit, carry_in, overflow_in, with_flags};
 use crate::modes::is_user;
 use crate::registers::{
@@ -20,28 +20,39 @@ use sdt_word::field;
 
 /// Sets the flags of a result.
 #[tactic(auto, unfolding(arm7_model::specs::Data::flagged))]
-fn set_flags_of(state: &mut ArmState, outcome: Outcome)
-    ensures { state.new ≡ flagged state.old (computed_of outcome) }
+fn set_flags_of(state: &mut ArmState, computation: Computation)
+    ensures { state.new ≡ flagged state.old (computed_of computation) }
 {
-    state.cpsr = with_flags(state.cpsr, outcome.value, outcome.carry, outcome.overflow);
+    state.cpsr = with_flags(
+        state.cpsr,
+        computation.value,
+        computation.carry,
+        computation.overflow,
+    );
 }
 
 /// Writes a result. With S and pc, CPSR becomes SPSR and pc is cleared by the new state.
 #[tactic(auto, unfolding(arm7_model::specs::Data::completed))]
-fn complete(state: &mut ArmState, operation: Operation, set_flags: bool, rd: u8, outcome: Outcome)
+fn complete(
+    state: &mut ArmState,
+    operation: Operation,
+    set_flags: bool,
+    rd: u8,
+    computation: Computation,
+)
     requires { rd < 16 }
-    ensures { state.new ≡ completed operation set_flags rd (computed_of outcome) state.old }
+    ensures { state.new ≡ completed operation set_flags rd (computed_of computation) state.old }
 {
     if is_comparison(operation) {
-        set_flags_of(state, outcome);
+        set_flags_of(state, computation);
     } else if !set_flags {
-        set_result(state, rd, outcome.value);
+        set_result(state, rd, computation.value);
     } else if rd == 15 {
         restore(state);
-        set_pc(state, outcome.value);
+        set_pc(state, computation.value);
     } else {
-        set_flags_of(state, outcome);
-        set_register(state, rd, outcome.value);
+        set_flags_of(state, computation);
+        set_register(state, rd, computation.value);
     }
 }
 
@@ -59,8 +70,8 @@ pub fn calculate(
     requires target { rd < 16 }
     ensures { state.new ≡ calculated operation set_flags rn rd (shifted_of operand) state.old }
 {
-    let outcome = computed(operation, operand_at(state, rn), operand, state.cpsr);
-    complete(state, operation, set_flags, rd, outcome);
+    let computation = computed(operation, operand_at(state, rn), operand, state.cpsr);
+    complete(state, operation, set_flags, rd, computation);
 }
 
 /// Sets N and Z of a value.
