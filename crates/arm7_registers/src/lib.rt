@@ -4,10 +4,12 @@
 
 mod addresses;
 mod arithmetic;
+mod arm;
 mod branches;
 mod exceptions;
 mod flags;
 mod modes;
+mod operands;
 mod processing;
 mod registers;
 mod shifter;
@@ -17,12 +19,17 @@ pub use crate::addresses::{
     next_word, set_base, set_block_base, set_listed, set_loaded_pc, transfer_address, writes_back,
 };
 pub use crate::arithmetic::{Computation, computed, difference, is_comparison, sum_with};
+pub use crate::arm::{arm_condition, arm_unpredictable};
 pub use crate::branches::{
     branch, branch_target, exchange_state, is_host, link_first, link_second,
 };
 pub use crate::exceptions::{advance, can_fetch, enter, fetch_width, interrupt};
 pub use crate::flags::{bit, carry_in, overflow_in, passes, with_flags};
 pub use crate::modes::{bank_in, has_mode, has_saved, is_thumb, is_user};
+pub use crate::operands::{
+    byte_width, half_offset, half_signed, half_width, register_shifted_operand, shifted_operand,
+    transfer_at,
+};
 pub use crate::processing::{
     calculate, multiply, multiply_long, read_status, status_after, status_with, write_status,
 };
