@@ -13,6 +13,7 @@ mod operands;
 mod processing;
 mod registers;
 mod shifter;
+mod thumb;
 
 pub use crate::addresses::{
     aligned, block_end, block_start, is_lowest, listed_at, lists, loaded_value, moved_by,
@@ -39,4 +40,9 @@ pub use crate::registers::{
 };
 pub use crate::shifter::{
     Operand, as_64_bits, immediate_operand, shifted_by, shifted_by_amount, shifted_by_register,
+};
+pub use crate::thumb::{
+    adjust_stack, branch_thumb, do_high, do_immediate, do_register, has_sign, high_number,
+    immediate_offset, load_address, multiple_write_back, pc_base, plain_operand, shift_kind,
+    signed_load, signed_width, stack_list, thumb_unpredictable,
 };
