@@ -1,2 +1,3 @@
 pub mod BoardLemmas
 pub mod ReadyLemmas
+pub mod DoneLemmas
