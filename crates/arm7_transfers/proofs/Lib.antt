@@ -2,3 +2,4 @@ pub mod BoardLemmas
 pub mod ReadyLemmas
 pub mod DoneLemmas
 pub mod StoreLemmas
+pub mod StoreParts
