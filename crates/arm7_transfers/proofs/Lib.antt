@@ -3,3 +3,4 @@ pub mod ReadyLemmas
 pub mod DoneLemmas
 pub mod StoreLemmas
 pub mod StoreParts
+pub mod SingleLemmas
