@@ -4,3 +4,4 @@ pub mod DoneLemmas
 pub mod StoreLemmas
 pub mod StoreParts
 pub mod SingleLemmas
+pub mod BlockLemmas
