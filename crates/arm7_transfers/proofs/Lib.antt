@@ -5,3 +5,4 @@ pub mod StoreLemmas
 pub mod StoreParts
 pub mod SingleLemmas
 pub mod BlockLemmas
+pub mod PageLemmas
