@@ -6,3 +6,5 @@ pub mod StoreParts
 pub mod SingleLemmas
 pub mod BlockLemmas
 pub mod PageLemmas
+pub mod BlockSteps
+pub mod BlockParts

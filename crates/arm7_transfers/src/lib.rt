@@ -2,9 +2,11 @@
 #![tactic(auto)]
 
 mod access;
+mod block;
 mod outcome;
 mod single;
 
 pub use crate::access::{is_there, lacks_frame, may_store, read, write};
+pub use crate::block::Block;
 pub use crate::outcome::Outcome;
 pub use crate::single::{Base, loaded, stored, swapped, transferred};
