@@ -3,9 +3,9 @@ use Rattle.std.proofs.Common.{◌≡◌, ℕ, ◌+◌, ◌-◌, ◌*◌, ◌/◌
 use Rattle.std.specs.Prelude.{◌&&◌, nat_le}
 use Rattle.arm7_model.specs.declared.state.ArmState.{ArmState}
 use Rattle.sdt_word.specs.declared.codes.Width.TheVariants.{Word}
-use Rattle.arm7_model.specs.Accesses.{Access, Store, Working, next_word}
+use Rattle.arm7_model.specs.Accesses.{Access, Store, Working, aligned, next_word}
 use Rattle.arm7_model.specs.Accesses.{after_store as model_store}
-use Rattle.arm7_model.specs.Blocks.{all_there, all_may_store, listed_at, block_loaded, block_stored, take_end, give_all, take_all, with_block_base, with_loaded_pc}
+use Rattle.arm7_model.specs.Blocks.{all_there, all_may_store, listed_at, lists, block_moved, block_start, block_end, block_loaded, block_stored, take_end, give_all, take_all, with_block_base, with_loaded_pc}
 use Rattle.arm7_model.specs.Memory.{Board}
 use Rattle.arm7_model.specs.Outcomes.{Stepped, Under, ran, aborted, given_back}
 use Rattle.arm7_model.specs.Registers.{register}
@@ -14,12 +14,14 @@ use Rattle.arm7_bus.specs.States.{State, Contents}
 use Rattle.arm7_transfers.specs.declared.outcome.Outcome.TheVariants as outcome
 use Rattle.arm7_transfers.specs.BlockAccesses.{loads_of, stores_of, taken, words_in}
 use Rattle.arm7_transfers.specs.Boards.{board_of, working}
-use Rattle.arm7_transfers.specs.Done.{Part, Makes, Lacks, ended_by}
+use Rattle.arm7_transfers.specs.Done.{Part, Makes, Lacks, IsDone, ended_by}
+use Rattle.arm7_transfers.specs.declared.outcome.Outcome.{Outcome}
+use Rattle.sdt_word.specs.Numbers.{registers}
 use Rattle.arm7_transfers.specs.Frames.{has_frames, least_unused, stored_to, used_with}
 use Rattle.arm7_transfers.specs.Ready.{IsReady}
 use Rattle.arm7_transfers.specs.Served.{served, answers_to}
 use Rattle.arm7_transfers.proofs.BlockLemmas.{contents-loads, no-stores, take-served, no-answers, stored-words, give-served}
-use Rattle.arm7_transfers.proofs.DoneLemmas.{makes-nothing, fits}
+use Rattle.arm7_transfers.proofs.DoneLemmas.{done-as, makes-nothing, fits}
 
 -- ---- stores
 
@@ -159,3 +161,32 @@ module _ (thumb user write_back : Bool) (ks : List ℕ) (a rn end : ℕ) (loads_
     frames = frames-loads ks a s r;
     kept = tt;
   }
+
+-- ---- what the calls of the code gave
+pub taken_by : (user write_back : Bool) (ks : List ℕ) (a rn end : ℕ) (loads_pc : Bool) (core based next : ArmState) (s : State) (pc names : Bool)
+    → pc ≡ loads_pc → names ≡ (user && not pc) → based ≡ with_block_base write_back rn end core → next ≡ taken names ks a based s
+    → next ≡ taken (user && not loads_pc) ks a (with_block_base write_back rn end core) s
+taken_by user write_back ks a rn end loads_pc core based next s pc names e f b h =
+    h ∙ ap (λ (c : ArmState). taken names ks a c s) b
+    ∙ ap (λ (n : Bool). taken n ks a (with_block_base write_back rn end core) s) (f ∙ ap (λ (p : Bool). user && not p) e)
+
+pub no_return : (thumb user : Bool) (next : ArmState) (pc : ℕ) (odd : Bool) → pc ≡ register next 15 → odd ≡ (not thumb && (not user && not (pc % 4 == 0)))
+    → odd ≡ (not thumb && (not user && not (register next 15 % 4 == 0)))
+no_return thumb user next pc odd e h = h ∙ ap (λ (v : ℕ). not thumb && (not user && not (v % 4 == 0))) e
+
+module _ (thumb load pre up user write_back : Bool) (rn list : ℕ) (core core' : ArmState) (s s' : State) (o : Outcome) (n b begin a end : ℕ) where
+  pub move_load : load ≡ true → n ≡ length (registers 16 list) → b ≡ register core rn → begin ≡ block_start pre up b n → a ≡ aligned begin 4 → end ≡ block_end up b n
+      → IsDone (take_part thumb user write_back (registers 16 list) a rn end (lists list 15)) core s o core' s'
+      → IsDone (λ u w. block_moved u thumb load pre up user write_back rn list w) core s o core' s'
+  unfolding block_moved
+  move_load l en eb eg ea ee d =
+      done-as (take_part thumb user write_back (registers 16 list) a rn end (lists list 15)) (λ u w. block_moved u thumb load pre up user write_back rn list w) core s o core' s'
+      (λ u later before. rw (l, ea, eg, ee, eb, en) refl) d
+
+  pub move_store : load ≡ false → n ≡ length (registers 16 list) → b ≡ register core rn → begin ≡ block_start pre up b n → a ≡ aligned begin 4 → end ≡ block_end up b n
+      → IsDone (give_part user write_back (registers 16 list) a rn end) core s o core' s'
+      → IsDone (λ u w. block_moved u thumb load pre up user write_back rn list w) core s o core' s'
+  unfolding block_moved
+  move_store l en eb eg ea ee d =
+      done-as (give_part user write_back (registers 16 list) a rn end) (λ u w. block_moved u thumb load pre up user write_back rn list w) core s o core' s'
+      (λ u later before. rw (l, ea, eg, ee, eb, en) refl) d

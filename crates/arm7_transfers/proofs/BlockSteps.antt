@@ -1,7 +1,7 @@
 -- One register of a list after the other: what each step of the code does to what is left.
 use Rattle.std.proofs.Common.{◌≡◌, ℕ, zero, suc, ◌+◌, ◌-◌, ◌*◌, ◌/◌, ◌%◌, ◌^◌, ◌<◌, ◌≤◌, Bool, true, false, not, ◌||◌, ◌==◌, List, [], ◌∷◌, ◌++◌, length, set, Option, Some, None, refl, sym, ap, ◌∙◌, subst, arith, cond, length-append}
 use Rattle.std.specs.Prelude.{◌&&◌, nat_le, nat_lt, is_some}
-use Rattle.sdt_word.specs.Numbers.{places_from}
+use Rattle.sdt_word.specs.Numbers.{bit, kept, places_from}
 use Rattle.sdt_word.specs.declared.codes.Width.{Width}
 use Rattle.sdt_word.specs.declared.codes.Width.TheVariants.{Word}
 use Rattle.sdt_word.specs.Codes.{bytes_in}
@@ -16,11 +16,12 @@ use Rattle.arm7_bus.specs.Seats.{device_at, changed_at, seat_written}
 use Rattle.arm7_bus.specs.States.{State, Contents, bank_has, store_fault, store_leaves, after_store, noted}
 use Rattle.arm7_transfers.specs.BlockAccesses.{loads_of, stores_of, taken, words_in, is_page_of, pages_needed}
 use Rattle.arm7_transfers.specs.Boards.{board_of}
-use Rattle.arm7_transfers.specs.Frames.{may_be_stored, least_unused, used_with}
+use Rattle.arm7_transfers.specs.Frames.{Fits, Misses, may_be_stored, least_unused, used_with}
 use Rattle.arm7_transfers.specs.Ready.{IsReady}
 use Rattle.arm7_transfers.specs.Served.{value_at, served}
 use Rattle.arm7_transfers.proofs.BoardLemmas.{there-whole, may-whole, false-true}
 use Rattle.arm7_transfers.proofs.BlockLemmas.{places_done, places_here, places_skip}
+use Rattle.arm7_transfers.proofs.PageLemmas.{pages-needed}
 use Rattle.arm7_transfers.proofs.ReadyLemmas.{set-used}
 
 abbrev pub left_of : ℕ → ℕ → List ℕ
@@ -132,3 +133,64 @@ none_needed used (a ∷ rest) e = go (page_used_in used a) refl (none_needed use
     go : (u : Bool) → page_used_in used a ≡ u → (least_unused used rest ≡ None → used_with used rest ≡ used) → used_with used (a ∷ rest) ≡ used
     go true p more = ap (λ (us : List Bool). used_with us rest) (set-used used (a / 4096) p) ∙ more (rw p at e)
     go false p more = absurd (lesser-some a (least_unused used rest) (rw p at e))
+
+-- ---- the same at the register k of a list
+pub there_absent_at : (s : State) (k list a : ℕ) (b held : Bool) → IsReady s → a % 4 ≡ 0 → k < 16 → b ≡ lists list k → b ≡ true → held ≡ has_whole s a 4 → held ≡ false
+    → false ≡ all_there (board_of s) (left_of k list) a
+there_absent_at s k list a b held r h lt e t f p =
+    along_here (λ (ks : List ℕ). all_there (board_of s) ks a) k list b false lt e t (there_absent s (left_of (k + 1) list) k a held r h f p)
+
+pub there_rest_at : (s : State) (k list a n : ℕ) (b held x : Bool) → IsReady s → a % 4 ≡ 0 → k < 16 → b ≡ lists list k → b ≡ true → held ≡ has_whole s a 4 → held ≡ true
+    → n ≡ next_word a → x ≡ all_there (board_of s) (left_of (k + 1) list) n → x ≡ all_there (board_of s) (left_of k list) a
+there_rest_at s k list a n b held x r h lt e t f p q d =
+    along_here (λ (ks : List ℕ). all_there (board_of s) ks a) k list b x lt e t
+    (there_rest s (left_of (k + 1) list) k a held x r h f p (d ∙ ap (λ (m : ℕ). all_there (board_of s) (left_of (k + 1) list) m) q))
+
+pub may_refused_at : (s : State) (k list a : ℕ) (b may : Bool) → IsReady s → a % 4 ≡ 0 → k < 16 → b ≡ lists list k → b ≡ true → may ≡ may_be_stored s a 4 → may ≡ false
+    → false ≡ all_may_store (board_of s) (left_of k list) a
+may_refused_at s k list a b may r h lt e t f p =
+    along_here (λ (ks : List ℕ). all_may_store (board_of s) ks a) k list b false lt e t (may_refused s (left_of (k + 1) list) k a may r h f p)
+
+pub may_rest_at : (s : State) (k list a n : ℕ) (b may x : Bool) → IsReady s → a % 4 ≡ 0 → k < 16 → b ≡ lists list k → b ≡ true → may ≡ may_be_stored s a 4 → may ≡ true
+    → n ≡ next_word a → x ≡ all_may_store (board_of s) (left_of (k + 1) list) n → x ≡ all_may_store (board_of s) (left_of k list) a
+may_rest_at s k list a n b may x r h lt e t f p q d =
+    along_here (λ (ks : List ℕ). all_may_store (board_of s) ks a) k list b x lt e t
+    (may_rest s (left_of (k + 1) list) k a may x r h f p (d ∙ ap (λ (m : ℕ). all_may_store (board_of s) (left_of (k + 1) list) m) q))
+
+pub gave_rest_at : (user : Bool) (core : ArmState) (k list a n v : ℕ) (b : Bool) (s t s' : State) → k < 16 → b ≡ lists list k → b ≡ true → v ≡ listed_at user core k
+    → t ≡ after_write s a Word (v % 256 ^ 4) → n ≡ next_word a → s' ≡ served t (stores_of user core (left_of (k + 1) list) n)
+    → s' ≡ served s (stores_of user core (left_of k list) a)
+gave_rest_at user core k list a n v b s t s' lt e p f g q d =
+    along_here (λ (ks : List ℕ). served s (stores_of user core ks a)) k list b s' lt e p
+    (gave_rest user core (left_of (k + 1) list) k a v s t s' f g (d ∙ ap (λ (m : ℕ). served t (stores_of user core (left_of (k + 1) list) m)) q))
+
+-- ---- frames for all words
+pub fits_none : (s : State) (words : List ℕ) (o : Option ℕ) → IsReady s → o ≡ least_unused s.contents.used words → o ≡ None → Fits s words
+fits_none s words o r e t =
+    let same = none_needed s.contents.used words (sym e ∙ t) in
+    record { room = rw same r.room }
+
+pub fits_left : (s : State) (words : List ℕ) (need left : ℕ) → IsReady s
+    → used_count (used_with s.contents.used words) ≡ used_count s.contents.used + need → left ≡ s.contents.frames - used_count s.contents.used → need ≤ left → Fits s words
+fits_left s words need left r e f le = let room = r.room in record { room = omega arith }
+
+pub misses_left : (s : State) (words : List ℕ) (need left x : ℕ) (o : Option ℕ) → IsReady s
+    → used_count (used_with s.contents.used words) ≡ used_count s.contents.used + need → left ≡ s.contents.frames - used_count s.contents.used → left < need
+    → o ≡ least_unused s.contents.used words → o ≡ Some x → Misses s words x
+misses_left s words need left x o r e f lt g t = let room = r.room in record { more = omega arith; least = sym g ∙ t }
+
+-- the count of pages, for the words of a whole list
+pub words_need : (s : State) (list a need : ℕ) → IsReady s → a < 2 ^ 32 → length (places_from 0 16 list) ≤ 16 → need ≡ pages_needed s (places_from 0 16 list) a None
+    → used_count (used_with s.contents.used (words_in s.contents.banks (places_from 0 16 list) a)) ≡ used_count s.contents.used + need
+words_need s list a need r lt few e = pages-needed s (places_from 0 16 list) a r.started lt few ∙ ap (λ (n : ℕ). used_count s.contents.used + n) (sym e)
+
+places-few : (k n list : ℕ) → length (places_from k n list) ≤ n
+places-few k zero list = omega arith
+places-few k (suc n) list = go (bit list k) (places-few (suc k) n list)
+  where
+    go : (b : ℕ) → length (places_from (suc k) n list) ≤ n → length (kept b k (places_from (suc k) n list)) ≤ suc n
+    go zero h = omega arith
+    go (suc b) h = omega arith
+
+pub sixteen : (list : ℕ) → length (places_from 0 16 list) ≤ 16
+sixteen list = places-few 0 16 list

@@ -9,7 +9,7 @@ ghost use Rattle.arm7_bus.specs.Paging.{used_count};
 ghost use Rattle.arm7_transfers.specs.BlockAccesses.{is_page_of, loads_of, pages_needed, stores_of, taken, words_in};
 ghost use Rattle.arm7_transfers.specs.Boards.{board_of};
 ghost use Rattle.arm7_transfers.specs.Done.{IsDone};
-ghost use Rattle.arm7_transfers.specs.Frames.{least_unused, used_with};
+ghost use Rattle.arm7_transfers.specs.Frames.{Fits, Misses, least_unused, used_with};
 ghost use Rattle.arm7_transfers.specs.Ready.{IsReady};
 ghost use Rattle.arm7_transfers.specs.Served.{served};
 ghost use Rattle.arm7_transfers.specs.Views.{state_of};
@@ -199,4 +199,111 @@ fn least_unused(bus: &Bus, list: u32, k: u8, a: u32) -> Option<u32>
         return Some(lesser(a, others));
     }
     others
+}
+
+/// The least address that would be stored in an unused page, where there is no frame for all such pages.
+fn missing_frame(bus: &Bus, list: u32, a: u32) -> Option<u32>
+    requires { IsReady (state_of base size state touched bus.now) }
+    ensures { let s = state_of base size state touched bus.now in MatchOption result (Fits s (words_in s.contents.banks (registers 16 list) a)) (Misses s (words_in s.contents.banks (registers 16 list) a)) }
+{
+    let Some(address) = least_unused(bus, list, 0, a) else {
+        return None;
+    };
+    if pages_needed(bus, list, 0, a, None) > bus.pages_left() {
+        Some(address)
+    } else {
+        None
+    }
+}
+
+fn block_stored(core: &mut ArmState, bus: &mut Bus, by: Block, a: u32, end: u32) -> Outcome
+    requires ready { IsReady (state_of base size state touched bus.old) }
+    requires quiet { (state_of base size state touched bus.old).contents.stores ≡ [] }
+    requires from { by.register < 16 }
+    requires aligned { a % 4 ≡ 0 }
+    ensures done { IsDone (λ u w. block_stored u by.user by.write_back (registers 16 by.list) a by.register end w) core.old (state_of base size state touched bus.old) result core.new (state_of base size state touched bus.new) }
+    ensures ready { IsReady (state_of base size state touched bus.new) }
+{
+    if !all_may_store(bus, by.list, 0, a) {
+        return Outcome::Aborted;
+    }
+    if let Some(address) = missing_frame(bus, by.list, a) {
+        return Outcome::NoFrame(address);
+    }
+    give_all(core, bus, by.user, by.list, 0, a);
+    set_block_base(core, by.write_back, by.register, end);
+    Outcome::Ran
+}
+
+/// Whether a loaded pc is no address of ARM state.
+fn is_no_return(thumb: bool, user: bool, pc: u32) -> bool
+    ensures { result ≡ (not thumb && (not user && not (pc % 4 == 0))) }
+{
+    !thumb && !user && pc % 4 != 0
+}
+
+/// Whether a load's list names user mode's registers: with pc it returns.
+fn names_user(user: bool, loads_pc: bool) -> bool
+    ensures { result ≡ (user && not loads_pc) }
+{
+    user && !loads_pc
+}
+
+fn block_loaded(
+    core: &mut ArmState,
+    bus: &mut Bus,
+    thumb: bool,
+    by: Block,
+    a: u32,
+    end: u32,
+) -> Outcome
+    requires ready { IsReady (state_of base size state touched bus.old) }
+    requires from { by.register < 16 }
+    requires aligned { a % 4 ≡ 0 }
+    ensures done { IsDone (λ u w. block_loaded u thumb by.user by.write_back (registers 16 by.list) a by.register end (lists by.list 15) w) core.old (state_of base size state touched bus.old) result core.new (state_of base size state touched bus.new) }
+    ensures ready { IsReady (state_of base size state touched bus.new) }
+{
+    if !all_there(bus, by.list, 0, a) {
+        return Outcome::Aborted;
+    }
+    let loads_pc = lists(by.list, 15);
+    let user = names_user(by.user, loads_pc);
+    let mut next = *core;
+    set_block_base(&mut next, by.write_back, by.register, end);
+    take_all(&mut next, bus, user, by.list, 0, a);
+    if !loads_pc {
+        *core = next;
+        return Outcome::Ran;
+    }
+    if is_no_return(thumb, by.user, register(&next, 15)) {
+        return Outcome::Unpredictable;
+    }
+    set_loaded_pc(&mut next, by.user);
+    *core = next;
+    Outcome::Ran
+}
+
+/// Loads or stores the registers of a list, in rising order at rising addresses.
+pub fn block_moved(
+    core: &mut ArmState,
+    bus: &mut Bus,
+    thumb: bool,
+    load: bool,
+    by: Block,
+) -> Outcome
+    requires ready { IsReady (state_of base size state touched bus.old) }
+    requires quiet { (state_of base size state touched bus.old).contents.stores ≡ [] }
+    requires from { by.register < 16 }
+    ensures done { IsDone (λ u w. block_moved u thumb load by.pre by.up by.user by.write_back by.register by.list w) core.old (state_of base size state touched bus.old) result core.new (state_of base size state touched bus.new) }
+    ensures ready { IsReady (state_of base size state touched bus.new) }
+{
+    let n = count(by.list, 0);
+    let b = register(core, by.register);
+    let a = aligned(block_start(by.pre, by.up, b, n), Width::Word);
+    let end = block_end(by.up, b, n);
+    if load {
+        block_loaded(core, bus, thumb, by, a, end)
+    } else {
+        block_stored(core, bus, by, a, end)
+    }
 }
