@@ -1,2 +1,4 @@
 pub mod BoardLemmas
 pub mod ReadyLemmas
+pub mod DoneLemmas
+pub mod StoreLemmas

@@ -23,7 +23,7 @@ use Rattle.arm7_transfers.specs.Ready.{IsReady, IsLaidOut}
 
 -- ---- devices that change keep their places
 
-abbrev Keeps : (Seat → Seat) → Type 0
+abbrev pub Keeps : (Seat → Seat) → Type 0
 Keeps change = (d : Seat) → ((change d).base ≡ d.base) × ((change d).size ≡ d.size)
 
 have-changed : (change : Seat → Seat) → Keeps change → (a n : ℕ) (ds : List Seat) (x : ℕ) → seats_have (changed_at change a n ds) x ≡ seats_have ds x
@@ -88,10 +88,10 @@ laid_out-same s t p r = record {
 pub ready-same : (s t : State) → SamePlaces s t → length t.contents.used ≡ length s.contents.used → used_count t.contents.used ≤ t.contents.frames → IsReady s → IsReady t
 ready-same s t p e c r = record { laid_out = laid_out-same s t p r.laid_out; started = e ∙ r.started; room = c }
 
-stays : (s : State) → SamePlaces s s
+pub stays : (s : State) → SamePlaces s s
 stays s = record { banks = refl; have = λ x. refl; share = λ x. refl; whole = λ w. w }
 
-changes : (s : State) (c : Contents) (change : Seat → Seat) (a n : ℕ) → Keeps change → c.banks ≡ s.contents.banks → SamePlaces s (record { contents = c; devices = changed_at change a n s.devices })
+pub changes : (s : State) (c : Contents) (change : Seat → Seat) (a n : ℕ) → Keeps change → c.banks ≡ s.contents.banks → SamePlaces s (record { contents = c; devices = changed_at change a n s.devices })
 changes s c change a n k e = record {
   banks = e;
   have = have-changed change k a n s.devices;
@@ -162,7 +162,7 @@ set-fresh (u ∷ us) (suc p) lt e =
 
 -- ---- a write
 
-written-kept : (a : ℕ) (width : Width) (v : ℕ) → Keeps (seat_written a width v)
+pub written-kept : (a : ℕ) (width : Width) (v : ℕ) → Keeps (seat_written a width v)
 written-kept a width v d = (refl, refl)
 
 -- a page is used, or there is a frame for it

@@ -1,8 +1,9 @@
 -- Which pages the stores of an instruction use, and whether there are frames for them. This project's.
-use Rattle.std.specs.Prelude.{ℕ, ◌/◌, Bool, true, nat_le, if◌then◌else◌, List, [], ◌∷◌, Option, Some, None, slice_set}
+use Rattle.std.specs.Prelude.{ℕ, ◌-◌, ◌/◌, ◌==◌, ◌&&◌, Bool, true, nat_le, if◌then◌else◌, List, [], ◌∷◌, Option, Some, None, slice_set}
 use Rattle.sdt_word.specs.Codes.{bytes_in}
 use Rattle.arm7_model.specs.Accesses.{Access, Fetch, Load, Store}
 use Rattle.arm7_bus.specs.declared.memory.Bank.{Bank}
+use Rattle.arm7_bus.specs.Buses.{needs_page}
 use Rattle.arm7_bus.specs.Meets.{lesser_of}
 use Rattle.arm7_bus.specs.Paging.{page_used_in, used_count}
 use Rattle.arm7_bus.specs.States.{State, bank_has}
@@ -30,3 +31,7 @@ abbrev pub least_unused : List Bool → List ℕ → Option ℕ
 least_unused used [] = None
 least_unused used (a ∷ rest) =
     if page_used_in used a then least_unused used rest else lesser_of (Some a) (least_unused used rest)
+
+-- a store of n bytes at a would use one more page, and there is no frame left
+abbrev pub lacks_frame : State → ℕ → ℕ → Bool
+lacks_frame s a n = needs_page s a n && (s.contents.frames - used_count s.contents.used == 0)
