@@ -7,7 +7,7 @@ use Rattle.sdt_word.specs.Codes.{bytes_in}
 use Rattle.arm7_model.specs.declared.state.ArmState.{ArmState}
 use Rattle.arm7_model.specs.Accesses.{Access, Load, aligned, after_load, read_at}
 use Rattle.arm7_model.specs.Memory.{Board, is_there}
-use Rattle.arm7_model.specs.Outcomes.{Under, ran, aborted, given_back}
+use Rattle.arm7_model.specs.Outcomes.{Stepped, Under, ran, aborted, given_back}
 use Rattle.arm7_model.specs.Registers.{with_result}
 use Rattle.arm7_model.specs.Transfers.{loaded, load_end, loaded_value, with_base}
 use Rattle.arm7_bus.specs.Buses.{after_read, has_whole}
@@ -15,9 +15,9 @@ use Rattle.arm7_bus.specs.States.{State, Contents}
 use Rattle.arm7_transfers.specs.declared.outcome.Outcome.{Outcome}
 use Rattle.arm7_transfers.specs.declared.outcome.Outcome.TheVariants as outcome
 use Rattle.arm7_transfers.specs.Boards.{board_of, working}
-use Rattle.arm7_transfers.specs.Done.{Part, Makes, IsKept, ended_by}
+use Rattle.arm7_transfers.specs.Done.{Part, Makes, Lacks, IsDone, IsKept, ended_by}
 use Rattle.arm7_transfers.specs.Ready.{IsReady}
-use Rattle.arm7_transfers.specs.Served.{given, value_at}
+use Rattle.arm7_transfers.specs.Served.{given, value_at, answers_to}
 use Rattle.arm7_transfers.proofs.BoardLemmas.{there-whole, reads, loads, contents-read}
 
 pub fits : (x y : ℕ) → x ≤ y → nat_le x y ≡ true
@@ -52,6 +52,34 @@ makes-read part core core' s a width o r exact kept = record {
 
 pub memory-read : (s : State) (a : ℕ) (width : Width) → (after_read s a width).contents.memory ≡ s.contents.memory
 memory-read s a width = ap (λ (c : Contents). c.memory) (contents-read s a width)
+
+-- a part that is another, at these registers and this bus, is done where the other is
+abbrev pub Same : Part → Part → ArmState → State → Type 0
+Same part other core s = (u : Under) (later : List ℕ) (before : List Access) → other u (working core s later before) ≡ part u (working core s later before)
+
+makes-as : (part other : Part) (core : ArmState) (s : State) (o : Outcome) (core' : ArmState) (s' : State) → Same part other core s
+    → Makes part core s o core' s' → Makes other core s o core' s'
+makes-as part other core s o core' s' same m = record {
+  made = m.made;
+  exact = λ u later before e. same u (answers_to s m.made ++ later) before ∙ m.exact u later before e;
+  after = m.after;
+  frames = m.frames;
+  kept = m.kept;
+}
+
+pub done-as : (part other : Part) (core : ArmState) (s : State) (o : Outcome) (core' : ArmState) (s' : State) → Same part other core s
+    → IsDone part core s o core' s' → IsDone other core s o core' s'
+done-as part other core s outcome.Ran core' s' same m = makes-as part other core s outcome.Ran core' s' same m
+done-as part other core s outcome.Aborted core' s' same m = makes-as part other core s outcome.Aborted core' s' same m
+done-as part other core s outcome.Unpredictable core' s' same m = makes-as part other core s outcome.Unpredictable core' s' same m
+done-as part other core s (outcome.Raised e) core' s' same m = makes-as part other core s (outcome.Raised e) core' s' same m
+done-as part other core s (outcome.Host n) core' s' same m = makes-as part other core s (outcome.Host n) core' s' same m
+done-as part other core s (outcome.NoFrame a) core' s' same m = (record {
+  asked = m.0.asked;
+  exact = λ u later before e. ap (λ (t : Stepped). t.accesses) (same u (answers_to s m.0.asked ++ later) before) ∙ m.0.exact u later before e;
+  frames = m.0.frames;
+  least = m.0.least;
+}, m.1, m.2)
 
 -- ---- an address that is aligned
 

@@ -203,3 +203,11 @@ places-tick s = record { banks = refl; have = have-ticked s.devices; share = sha
 
 pub ready-tick : (s : State) → IsReady s → IsReady (after_tick s)
 ready-tick s r = ready-same s (after_tick s) (places-tick s) refl r.room r
+
+-- ---- the same, of what a call left
+
+pub ready_after_read : (s t : State) (a : ℕ) (width : Width) → t ≡ after_read s a width → IsReady s → IsReady t
+ready_after_read s t a width e r = subst (λ (x : State). IsReady x) (sym e) (ready-read s a width r)
+
+pub ready_after_write : (s t : State) (a : ℕ) (width : Width) (v : ℕ) → t ≡ after_write s a width v → IsReady s → IsReady t
+ready_after_write s t a width v e r = subst (λ (x : State). IsReady x) (sym e) (ready-write s a width v r)

@@ -1,12 +1,12 @@
 -- Which pages the stores of an instruction use, and whether there are frames for them. This project's.
-use Rattle.std.specs.Prelude.{ℕ, ◌-◌, ◌/◌, ◌==◌, ◌&&◌, Bool, true, nat_le, if◌then◌else◌, List, [], ◌∷◌, Option, Some, None, slice_set}
+use Rattle.std.specs.Prelude.{ℕ, ◌-◌, ◌/◌, ◌==◌, ◌&&◌, Bool, true, not, nat_le, if◌then◌else◌, List, [], ◌∷◌, Option, Some, None, slice_set}
 use Rattle.sdt_word.specs.Codes.{bytes_in}
 use Rattle.arm7_model.specs.Accesses.{Access, Fetch, Load, Store}
 use Rattle.arm7_bus.specs.declared.memory.Bank.{Bank}
-use Rattle.arm7_bus.specs.Buses.{needs_page}
+use Rattle.arm7_bus.specs.Buses.{has_whole, needs_page}
 use Rattle.arm7_bus.specs.Meets.{lesser_of}
 use Rattle.arm7_bus.specs.Paging.{page_used_in, used_count}
-use Rattle.arm7_bus.specs.States.{State, bank_has}
+use Rattle.arm7_bus.specs.States.{State, bank_has, is_protected}
 
 -- the addresses of the stores to memory
 abbrev pub stored_to : List Bank → List Access → List ℕ
@@ -35,3 +35,7 @@ least_unused used (a ∷ rest) =
 -- a store of n bytes at a would use one more page, and there is no frame left
 abbrev pub lacks_frame : State → ℕ → ℕ → Bool
 lacks_frame s a n = needs_page s a n && (s.contents.frames - used_count s.contents.used == 0)
+
+-- a store may be made, as far as banks, devices and protection go
+abbrev pub may_be_stored : State → ℕ → ℕ → Bool
+may_be_stored s a n = has_whole s a n && not (is_protected s.contents.banks a n)

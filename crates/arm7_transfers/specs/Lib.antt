@@ -4,3 +4,4 @@ pub mod Frames
 pub mod Ready
 pub mod Served
 pub mod Views
+pub mod BlockAccesses

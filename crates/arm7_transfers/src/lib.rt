@@ -3,6 +3,8 @@
 
 mod access;
 mod outcome;
+mod single;
 
-pub use crate::access::{read, write};
+pub use crate::access::{is_there, lacks_frame, may_store, read, write};
 pub use crate::outcome::Outcome;
+pub use crate::single::{Base, loaded, stored, swapped, transferred};
