@@ -1,1 +1,3 @@
 pub mod ArmParts
+pub mod ArmSteps
+pub mod MachineSteps

@@ -4,36 +4,28 @@ use Rattle.sdt_outside.specs.declared.device.Lines.{Lines}
 use Rattle.arm7_model.specs.declared.state.ArmState.{ArmState}
 use Rattle.arm7_model.specs.declared.event.Event.{Event}
 use Rattle.arm7_model.specs.declared.event.Event.TheVariants.{NoFrame}
-use Rattle.arm7_model.specs.Accesses.{Access, Fetch, Load, Store}
 use Rattle.arm7_model.specs.Outcomes.{Stepped}
-use Rattle.arm7_model.specs.Step.{Levels, Step}
-use Rattle.arm7_bus.specs.Buses.{after_tick}
+use Rattle.arm7_model.specs.Step.{Levels, Step, fetch_width}
+use Rattle.arm7_model.specs.Registers.{is_thumb, register}
+use Rattle.arm7_bus.specs.Buses.{after_read, after_tick}
 use Rattle.arm7_bus.specs.Seats.{lines_up}
 use Rattle.arm7_bus.specs.States.{State}
 use Rattle.arm7_transfers.specs.Boards.{board_of, over}
 use Rattle.arm7_transfers.specs.Frames.{has_frames, least_unused, stored_to}
 use Rattle.arm7_transfers.specs.Served.{answers_to, served}
-use Rattle.std.specs.Prelude.{[], ◌∷◌}
 
 -- the lines that devices raise, as the processor sees them
 abbrev pub levels : Lines → Levels
 levels lines = record { irq = lines.irq; fiq = lines.fiq }
 
--- the fetches among some accesses
-abbrev pub fetches_in : List Access → List Access
-fetches_in [] = []
-fetches_in (Fetch a width ∷ rest) = Fetch a width ∷ fetches_in rest
-fetches_in (Load a width ∷ rest) = fetches_in rest
-fetches_in (Store a width v ∷ rest) = fetches_in rest
-
 -- how the defined step `first` ends over a bus: as it does, where there are frames for the pages that it stores to;
--- else with the least address of those stores whose page isn't used, and of its accesses the fetches alone are made
+-- else with the least address of those stores whose page isn't used, and of its accesses the fetch alone is made
 abbrev pub Ends : Bool → ArmState → State → Stepped → Event → ArmState → State → Type 0
 Ends true core s first e core' s' = (e ≡ first.event) × (over core' s' ≡ first.state) × (s' ≡ served s first.accesses)
 Ends false core s first e core' s' =
     (a : ℕ) × (e ≡ NoFrame a)
     × (least_unused s.contents.used (stored_to s.contents.banks first.accesses) ≡ Some a)
-    × (core' ≡ core) × (s' ≡ served s (fetches_in first.accesses))
+    × (core' ≡ core) × (s' ≡ after_read s (register core 15) (fetch_width (is_thumb core.cpsr)))
 
 -- From these registers and this bus after its tick, the step ends so.
 pub record IsStepFrom (core : ArmState) (s : State) (e : Event) (core' : ArmState) (s' : State) : Type 0 where
