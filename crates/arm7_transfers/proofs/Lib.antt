@@ -5,3 +5,6 @@ pub mod StoreLemmas
 pub mod StoreParts
 pub mod SingleLemmas
 pub mod BlockLemmas
+pub mod PageLemmas
+pub mod BlockSteps
+pub mod BlockParts

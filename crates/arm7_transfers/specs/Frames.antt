@@ -1,5 +1,5 @@
 -- Which pages the stores of an instruction use, and whether there are frames for them. This project's.
-use Rattle.std.specs.Prelude.{ℕ, ◌-◌, ◌/◌, ◌==◌, ◌&&◌, Bool, true, not, nat_le, if◌then◌else◌, List, [], ◌∷◌, Option, Some, None, slice_set}
+use Rattle.std.specs.Prelude.{◌≡◌, ℕ, ◌<◌, ◌≤◌, ◌-◌, ◌/◌, ◌==◌, ◌&&◌, Bool, true, not, nat_le, if◌then◌else◌, List, [], ◌∷◌, Option, Some, None, slice_set}
 use Rattle.sdt_word.specs.Codes.{bytes_in}
 use Rattle.arm7_model.specs.Accesses.{Access, Fetch, Load, Store}
 use Rattle.arm7_bus.specs.declared.memory.Bank.{Bank}
@@ -39,3 +39,11 @@ lacks_frame s a n = needs_page s a n && (s.contents.frames - used_count s.conten
 -- a store may be made, as far as banks, devices and protection go
 abbrev pub may_be_stored : State → ℕ → ℕ → Bool
 may_be_stored s a n = has_whole s a n && not (is_protected s.contents.banks a n)
+
+-- there are frames for the pages of some addresses; or there aren't, and x is the least whose page isn't used
+pub record Fits (s : State) (words : List ℕ) : Type 0 where
+  pub room : used_count (used_with s.contents.used words) ≤ s.contents.frames
+
+pub record Misses (s : State) (words : List ℕ) (x : ℕ) : Type 0 where
+  pub more : s.contents.frames < used_count (used_with s.contents.used words)
+  pub least : least_unused s.contents.used words ≡ Some x
