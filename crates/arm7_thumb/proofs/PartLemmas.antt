@@ -1,14 +1,17 @@
 -- Parts of a step that agree, and parts that act on registers alone.
 use Rattle.std.proofs.Common.{◌≡◌, ℕ, Bool, true, false, List, ◌++◌, ap, ◌∙◌, sym, subst, refl}
 use Rattle.std.specs.Prelude.{if◌then◌else◌}
+use Rattle.sdt_word.specs.declared.codes.Condition.{Condition}
 use Rattle.thumb_isa.specs.declared.instr.ThumbInstr.{ThumbInstr}
+use Rattle.thumb_isa.specs.declared.instr.ThumbInstr.TheVariants.{BranchConditional}
 use Rattle.arm7_model.specs.declared.state.ArmState.{ArmState}
 use Rattle.arm7_model.specs.declared.event.Exception.{Exception}
 use Rattle.arm7_model.specs.declared.event.Exception.TheVariants as exception
 use Rattle.arm7_model.specs.Accesses.{Access, Working}
 use Rattle.arm7_model.specs.Branches.{interrupted, is_host}
 use Rattle.arm7_model.specs.Outcomes.{Stepped, Under, ran, raised, hosted, given_back}
-use Rattle.arm7_model.specs.ThumbStep.{thumb_effect}
+use Rattle.arm7_model.specs.ThumbStep.{thumb_branched, thumb_effect}
+use Rattle.arm7_model.specs.Arithmetic.{passes}
 use Rattle.arm7_bus.specs.States.{State}
 use Rattle.arm7_transfers.specs.declared.outcome.Outcome.{Outcome}
 use Rattle.arm7_transfers.specs.declared.outcome.Outcome.TheVariants.{Ran, Aborted, Unpredictable, Raised, Host, NoFrame}
@@ -93,10 +96,17 @@ row_like i j p core s o core' s' e same d =
     subst (λ (i : ThumbInstr). IsDone (effect_part i) core s o core' s') (sym e) (done_like p (effect_part j) core s o core' s' same d)
 
 -- a branch where its condition passes
-pub ran_where : (b : Bool) (core core' : ArmState) (w : Working)
+ran_where : (b : Bool) (core core' : ArmState) (w : Working)
     → (if b then ran (record w { core = core' }) else ran (record w { core = core })) ≡ ran (record w { core = if b then core' else core })
 ran_where true core core' w = refl
 ran_where false core core' w = refl
+
+pub row_branches : (i : ThumbInstr) (c : Condition) (offset : ℕ) (core core' : ArmState) (s : State) → i ≡ BranchConditional c offset → IsReady s
+    → core' ≡ (if passes c core.cpsr then thumb_branched 8 offset core else core) → Makes (effect_part i) core s Ran core' s
+unfolding thumb_effect
+row_branches i c offset core core' s e r left =
+    row_runs i (BranchConditional c offset) core core' s e r
+    (λ u answers before. rw left (ran_where (passes c core.cpsr) core (thumb_branched 8 offset core) (working core s answers before)))
 
 -- a software interrupt
 pub interrupts : (n : ℕ) (core : ArmState) (s : State) (o : Outcome) → IsReady s

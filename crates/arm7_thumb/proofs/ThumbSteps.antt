@@ -60,8 +60,8 @@ pub absent_thumb : (core core' : ArmState) (s : State) (a : ℕ) (there : Bool) 
     → a ≡ register core 15 → there ≡ has_whole s a 2 → there ≡ false
     → e ≡ event.Took exception.PrefetchAbort → core' ≡ entered exception.PrefetchAbort ((a + 4) % 2 ^ 32) core
     → IsStepped core s e core' s
-absent_thumb core core' s a there e v t r at found no took left =
-    let none : has_whole s (register core 15) 2 ≡ false = ap (λ (a : ℕ). has_whole s a 2) (sym at) ∙ (sym found ∙ no) in
+absent_thumb core core' s a there e v t r at found gone took left =
+    let none : has_whole s (register core 15) 2 ≡ false = ap (λ (a : ℕ). has_whole s a 2) (sym at) ∙ (sym found ∙ gone) in
     rw (took, left, at) (absent core s (thumb-at core s v t r) (rw t none))
 
 pub finished_thumb : (core core₁ core₂ core' : ArmState) (s s₁ s' : State) (a word : ℕ) (there : Bool) (o : Outcome) (e : Event)
@@ -70,10 +70,10 @@ pub finished_thumb : (core core₁ core₂ core' : ArmState) (s s₁ s' : State)
     → core₁ ≡ advanced core → Executes true word core₁ s₁ o core₂ s'
     → e ≡ event_of o word → core' ≡ registers_after o a core₂
     → IsStepped core s e core' s'
-finished_thumb core core₁ core₂ core' s s₁ s' a word there o e v t r at found yes fetched left on does ended after =
-    let whole : has_whole s (register core 15) 2 ≡ true = ap (λ (a : ℕ). has_whole s a 2) (sym at) ∙ (sym found ∙ yes) in
+finished_thumb core core₁ core₂ core' s s₁ s' a word there o e v t r at found held fetched left on does ended after =
+    let whole : has_whole s (register core 15) 2 ≡ true = ap (λ (a : ℕ). has_whole s a 2) (sym at) ∙ (sym found ∙ held) in
     let does' : Executes true (value_at s (register core 15) Half) (advanced core) (after_read s (register core 15) Half) o core₂ s' =
         rw (← at, ← fetched, ← left, ← on) does in
-    let all : IsStepped core s (event_of o (value_at s (register core 15) Half)) (registers_after o (register core 15) core₂) s' =
-        rw t at finished core s o core₂ s' (thumb-at core s v t r) (rw t whole) (rw t does') in
+    let Ended : Bool → Type 0 = λ b. IsStepped core s (event_of o (value_at s (register core 15) (fetch_width b))) (registers_after o (register core 15) core₂) s' in
+    let all = subst Ended t (finished core s o core₂ s' (thumb-at core s v t r) (rw t whole) (rw t does')) in
     rw (ended, after, fetched, at) all

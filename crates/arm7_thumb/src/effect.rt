@@ -12,7 +12,8 @@ ghost use Rattle.arm7_transfers.specs.Ready.{IsReady};
 ghost use Rattle.arm7_transfers.specs.Views.{state_of};
 
 use crate::rows::{
-    above, add_subtract, branch_where, link_half, literal_address, shift_immediate,
+    above, add_subtract, branch_where, link_half, literal_address, multiple_block, shift_immediate,
+    stack_block,
 };
 use arm7_bus::Bus;
 use arm7_model::{ArmState, Exception};
@@ -21,7 +22,7 @@ use arm7_registers::{
     high_number, immediate_offset, is_host, load_address, register, signed_load, signed_width,
     thumb_unpredictable,
 };
-use arm7_transfers::{Base, Outcome, loaded, transferred};
+use arm7_transfers::{Outcome, block_moved, loaded, transferred};
 use sdt_outside::Device;
 use sdt_word::Width;
 use thumb_isa::ThumbInstr;
@@ -162,10 +163,12 @@ fn effect(core: &mut ArmState, bus: &mut Bus, i: &ThumbInstr) -> Outcome
             transferred(core, bus, load, false, Width::Word, rd, by)
         }
         ThumbInstr::PushPop { load, link, list } => {
-            Outcome::Unpredictable
+            let by = stack_block(load, link, list);
+            block_moved(core, bus, true, load, by)
         }
         ThumbInstr::TransferMultiple { load, rn, list } => {
-            Outcome::Unpredictable
+            let by = multiple_block(load, rn, list);
+            block_moved(core, bus, true, load, by)
         }
     }
 }

@@ -1,20 +1,20 @@
 //! Rows of Thumb state that aren't named operations of the registers.
 
-ghost use Rattle.std.specs.Prelude.{◌≡◌, ◌<◌, ◌+◌, ◌*◌, ◌%◌, ◌^◌, true, false, if◌then◌else◌};
+ghost use Rattle.std.specs.Prelude.{◌≡◌, ◌<◌, ◌+◌, ◌*◌, ◌%◌, ◌^◌, true, false, not, if◌then◌else◌};
 ghost use Rattle.arm_isa.specs.declared.instr.Operation.TheVariants as operation;
 ghost use Rattle.arm7_model.specs.Arithmetic.{carry_in, passes, shifted_by_amount};
-ghost use Rattle.arm7_model.specs.Branches.{is_host, linked_first, linked_second};
+ghost use Rattle.arm7_model.specs.Branches.{linked_first, linked_second};
 ghost use Rattle.arm7_model.specs.Data.{calculated};
 ghost use Rattle.arm7_model.specs.Registers.{register};
-ghost use Rattle.arm7_model.specs.ThumbStep.{pc_base, plain_operand, shift_kind, thumb_branched};
+ghost use Rattle.arm7_model.specs.ThumbStep.{multiple_write_back, pc_base, plain_operand, shift_kind, stack_list, thumb_branched};
 
 use arm_isa::Operation;
-use arm7_model::{ArmState, Exception};
+use arm7_model::ArmState;
 use arm7_registers::{
-    branch_thumb, calculate, carry_in, is_host, link_first, link_second, passes, pc_base,
-    plain_operand, register, shift_kind, shifted_by_amount,
+    branch_thumb, calculate, carry_in, link_first, link_second, multiple_write_back, passes,
+    pc_base, plain_operand, register, shift_kind, shifted_by_amount, stack_list,
 };
-use arm7_transfers::{Base, Outcome};
+use arm7_transfers::{Base, Block};
 use sdt_word::Condition;
 use thumb_isa::ThumbShift;
 
@@ -111,5 +111,34 @@ pub fn link_half(core: &mut ArmState, second: bool, offset: u16)
         link_second(core, u32::from(offset));
     } else {
         link_first(core, u32::from(offset));
+    }
+}
+
+/// The block of PUSH, which stores below sp, and of POP.
+pub fn stack_block(load: bool, link: bool, list: u8) -> Block
+    ensures { result ≡ record { pre = not load; up = load; user = false; write_back = true; register = 13; list = stack_list load link list } }
+{
+    Block {
+        pre: !load,
+        up: load,
+        user: false,
+        write_back: true,
+        register: 13,
+        list: stack_list(load, link, list),
+    }
+}
+
+/// The block of LDMIA and STMIA.
+pub fn multiple_block(load: bool, rn: u8, list: u8) -> Block
+    requires { rn < 16 }
+    ensures { result ≡ record { pre = false; up = true; user = false; write_back = multiple_write_back load rn list; register = rn; list = list } }
+{
+    Block {
+        pre: false,
+        up: true,
+        user: false,
+        write_back: multiple_write_back(load, rn, list),
+        register: rn,
+        list: u32::from(list),
     }
 }

@@ -1,8 +1,7 @@
 use Rattle.std.proofs.Common.{refl}
 use Rattle.arm7_model.specs.ThumbStep.{thumb_effect}
 use Rattle.arm7_model.specs.Transfers.{with_base, writes_back}
-use Rattle.arm7_transfers.specs.Boards.{working}
-use Rattle.arm7_thumb.proofs.PartLemmas.{interrupts, ran_where, row_like, row_raises, row_runs}
+use Rattle.arm7_thumb.proofs.PartLemmas.{interrupts, row_branches, row_like, row_raises, row_runs}
 use Rattle.arm7_thumb.proofs.effect.effect.Goals as goal
 
 pub returns-in-ShiftImmediate-clause-done : goal.returns-in-ShiftImmediate-clause-done
@@ -44,10 +43,8 @@ returns-in-HighRegister-clause-done g c =
     (λ u answers before. rw (c.do_high.ensures, c.high_number-source.ensures.value, c.high_number-target.ensures.value) refl)
 
 pub returns-in-BranchConditional-clause-done : goal.returns-in-BranchConditional-clause-done
-unfolding thumb_effect
 returns-in-BranchConditional-clause-done g c =
-    row_runs _ _ _ _ _ c.in-BranchConditional.is c.requires.ready
-    (λ u answers before. rw c.branch_where.ensures (ran_where _ c.args.core.now _ _))
+    row_branches _ _ _ _ _ _ c.in-BranchConditional.is c.requires.ready c.branch_where.ensures
 
 pub returns-in-SoftwareInterrupt-clause-done : goal.returns-in-SoftwareInterrupt-clause-done
 unfolding thumb_effect
@@ -67,7 +64,11 @@ returns-in-LoadLiteral-clause-done g c =
     (λ u answers before. rw (c.above.ensures, c.literal_address-a.ensures) refl) c.loaded.ensures.done
 
 pub returns-in-PushPop-clause-done : goal.returns-in-PushPop-clause-done
-returns-in-PushPop-clause-done g c = ?
+unfolding thumb_effect
+returns-in-PushPop-clause-done g c =
+    row_like _ _ _ _ _ _ _ _ c.in-PushPop.is (λ u answers before. rw c.stack_block-by.ensures refl) c.block_moved.ensures.done
 
 pub returns-in-TransferMultiple-clause-done : goal.returns-in-TransferMultiple-clause-done
-returns-in-TransferMultiple-clause-done g c = ?
+unfolding thumb_effect
+returns-in-TransferMultiple-clause-done g c =
+    row_like _ _ _ _ _ _ _ _ c.in-TransferMultiple.is (λ u answers before. rw c.multiple_block-by.ensures refl) c.block_moved-in-TransferMultiple.ensures.done
