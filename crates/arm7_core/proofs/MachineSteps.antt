@@ -8,6 +8,8 @@ use Rattle.arm7_model.specs.Accesses.{Access}
 use Rattle.arm7_model.specs.Outcomes.{Stepped, entered, took}
 use Rattle.arm7_model.specs.Registers.{register}
 use Rattle.arm7_model.specs.Step.{Levels, Step, Unread, fetches, interrupt, stepped, stepped_by}
+use Rattle.sdt_outside.specs.declared.device.Lines.{Lines}
+use Rattle.arm7_bus.specs.Buses.{after_tick}
 use Rattle.arm7_bus.specs.Seats.{lines_up}
 use Rattle.arm7_bus.specs.States.{State}
 use Rattle.arm7_transfers.specs.Boards.{board_of, over}
@@ -15,6 +17,7 @@ use Rattle.arm7_transfers.specs.Frames.{has_frames, least_unused, stored_to}
 use Rattle.arm7_transfers.specs.Ready.{IsReady}
 use Rattle.arm7_transfers.specs.Served.{answers_to, served}
 use Rattle.arm7_transfers.proofs.DoneLemmas.{fits}
+use Rattle.arm7_transfers.proofs.ReadyLemmas.{ready-tick}
 use Rattle.arm7_steps.specs.Steps.{IsStepped, MakesStep, LacksFrame}
 use Rattle.arm7_core.specs.Machines.{Ends, IsStepFrom, levels}
 
@@ -63,3 +66,20 @@ step_taken core core' s x at o r h n a e =
   where
     never : false ≡ true → ⊥
     never e = cc
+
+-- ---- by what the calls of the code gave
+pub ready_ticked : (s t : State) → t ≡ after_tick s → IsReady s → IsReady t
+ready_ticked s t e r = subst (λ (x : State). IsReady x) (sym e) (ready-tick s r)
+
+pub plain_step : (core core' : ArmState) (s t s' : State) (e : Event) (o : Option Exception) (lines : Lines) → IsReady s → t ≡ after_tick s → lines ≡ lines_up t.devices
+    → o ≡ interrupt (levels lines) core.cpsr → o ≡ None → IsStepped core t e core' s' → IsStepFrom core (after_tick s) e core' s'
+plain_step core core' s t s' e o lines r after l h n m =
+    subst (λ (x : State). IsStepFrom core x e core' s') after
+    (step_plain core t e core' s' o m (h ∙ ap (λ (y : Lines). interrupt (levels y) core.cpsr) l) n)
+
+pub taken_step : (core core' : ArmState) (s t : State) (x : Exception) (at : ℕ) (o : Option Exception) (lines : Lines) → IsReady s → t ≡ after_tick s → lines ≡ lines_up t.devices
+    → o ≡ interrupt (levels lines) core.cpsr → o ≡ Some x → at ≡ register core 15 → core' ≡ entered x ((at + 4) % 2 ^ 32) core
+    → IsStepFrom core (after_tick s) (event.Took x) core' t
+taken_step core core' s t x at o lines r after l h n a e =
+    subst (λ (y : State). IsStepFrom core y (event.Took x) core' t) after
+    (step_taken core core' t x at o (ready_ticked s t after r) (h ∙ ap (λ (y : Lines). interrupt (levels y) core.cpsr) l) n a e)
