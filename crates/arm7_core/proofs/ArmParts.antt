@@ -1,5 +1,5 @@
 -- Rows of ARM state: parts that do the same, and rows that touch registers alone.
-use Rattle.std.proofs.Common.{◌≡◌, ℕ, Bool, true, false, not, List, ◌++◌, ap, ◌∙◌, sym, subst, refl}
+use Rattle.std.proofs.Common.{◌≡◌, ℕ, Bool, true, false, List, ap, ◌∙◌, sym, subst, refl}
 use Rattle.std.specs.Prelude.{if◌then◌else◌}
 use Rattle.sdt_word.specs.declared.codes.Condition.{Condition}
 use Rattle.sdt_word.specs.declared.codes.ShiftKind.{ShiftKind}
@@ -18,11 +18,11 @@ use Rattle.arm7_model.specs.Accesses.{Access, Working}
 use Rattle.arm7_model.specs.Arithmetic.{Shifted, passes}
 use Rattle.arm7_model.specs.ArmStep.{arm_condition, arm_done, arm_effect, arm_unpredictable, byte_width, half_offset, half_signed, half_width, shifted_operand}
 use Rattle.arm7_model.specs.Branches.{interrupted, is_host}
-use Rattle.arm7_model.specs.Outcomes.{Stepped, Under, ran, raised, hosted, given_back}
+use Rattle.arm7_model.specs.Outcomes.{Under, ran, raised, hosted}
 use Rattle.arm7_bus.specs.States.{State}
 use Rattle.arm7_transfers.specs.declared.outcome.Outcome.{Outcome}
-use Rattle.arm7_transfers.specs.declared.outcome.Outcome.TheVariants.{Ran, Aborted, Unpredictable, Raised, Host, NoFrame}
-use Rattle.arm7_transfers.specs.Boards.{board_of, working}
+use Rattle.arm7_transfers.specs.declared.outcome.Outcome.TheVariants.{Ran, Unpredictable, Raised, Host}
+use Rattle.arm7_transfers.specs.Boards.{working}
 use Rattle.arm7_transfers.specs.Done.{Part, Makes, IsDone}
 use Rattle.arm7_transfers.specs.Ready.{IsReady}
 use Rattle.arm7_transfers.proofs.DoneLemmas.{Same, done-as, makes-nothing}

@@ -1,6 +1,5 @@
 -- A step in ARM state by what its code found.
-use Rattle.std.proofs.Common.{◌≡◌, ℕ, ◌+◌, ◌%◌, ◌^◌, Bool, true, false, not, ◌||◌, ◌==◌, List, [], ◌∷◌, ◌++◌, Option, Some, None, refl, sym, ap, ◌∙◌, subst, eq-eqb, eqb-true}
-use Rattle.std.specs.Prelude.{◌&&◌}
+use Rattle.std.proofs.Common.{◌≡◌, ℕ, ◌+◌, ◌%◌, ◌^◌, Bool, true, false, ◌==◌, [], refl, sym, ap, ◌∙◌, subst, eq-eqb, eqb-true}
 use Rattle.sdt_word.specs.Codes.{bytes_in}
 use Rattle.sdt_word.specs.declared.codes.Width.{Width}
 use Rattle.sdt_word.specs.declared.codes.Width.TheVariants.{Word}
@@ -10,16 +9,14 @@ use Rattle.arm7_model.specs.declared.state.ArmState.{ArmState}
 use Rattle.arm7_model.specs.declared.event.Event.{Event}
 use Rattle.arm7_model.specs.declared.event.Event.TheVariants as event
 use Rattle.arm7_model.specs.declared.event.Exception.TheVariants as exception
-use Rattle.arm7_model.specs.Memory.{is_there}
-use Rattle.arm7_model.specs.Outcomes.{Stepped, entered, given_back}
+use Rattle.arm7_model.specs.Outcomes.{entered, given_back}
 use Rattle.arm7_model.specs.Registers.{is_thumb, register}
-use Rattle.arm7_model.specs.Step.{Instruction, Arm, Unread, Levels, Step, advanced, can_fetch, done, fetch_width, fetched, fetches, interrupt, misaligned, stepped, stepped_by, uninterrupted}
+use Rattle.arm7_model.specs.Step.{Arm, Unread, advanced, can_fetch, done, fetch_width, fetches, misaligned, stepped, uninterrupted}
 use Rattle.arm7_bus.specs.Buses.{after_read, has_whole}
 use Rattle.arm7_bus.specs.States.{State}
 use Rattle.arm7_transfers.specs.declared.outcome.Outcome.{Outcome}
 use Rattle.arm7_transfers.specs.declared.outcome.Outcome.TheVariants.{Unpredictable}
-use Rattle.arm7_transfers.specs.Boards.{board_of, over, working}
-use Rattle.arm7_transfers.specs.Done.{Part, IsDone}
+use Rattle.arm7_transfers.specs.Done.{IsDone}
 use Rattle.arm7_transfers.specs.Ready.{IsReady}
 use Rattle.arm7_transfers.specs.Served.{value_at}
 use Rattle.arm7_transfers.proofs.DoneLemmas.{fits, makes-nothing}
@@ -74,10 +71,10 @@ arm_finished core one core' core'' s t s' at word held o x e r a h p q v l n d y
     let word' : word ≡ word_of core s = v ∙ ap (λ (n : ℕ). value_at s n Word) a ∙ ap (λ (w : Width). value_at s (register core 15) w) (sym wide) in
     let left' : t ≡ left_by_fetch core s = l ∙ ap (λ (n : ℕ). after_read s n Word) a ∙ ap (λ (w : Width). after_read s (register core 15) w) (sym wide) in
     let d' : Executes (is_thumb core.cpsr) (word_of core s) (advanced core) (left_by_fetch core s) o core' s' =
-        subst (λ (b : Bool). Executes b (word_of core s) (advanced core) (left_by_fetch core s) o core' s') (sym e)
-        (subst (λ (n : ℕ). Executes false n (advanced core) (left_by_fetch core s) o core' s') word'
-        (subst (λ (c : ArmState). Executes false word c (left_by_fetch core s) o core' s') n
-        (subst (λ (y : State). Executes false word one y o core' s') left' d))) in
+    subst (λ (b : Bool). Executes b (word_of core s) (advanced core) (left_by_fetch core s) o core' s') (sym e)
+    (subst (λ (n : ℕ). Executes false n (advanced core) (left_by_fetch core s) o core' s') word'
+    (subst (λ (c : ArmState). Executes false word c (left_by_fetch core s) o core' s') n
+    (subst (λ (y : State). Executes false word one y o core' s') left' d))) in
     subst (λ (x : Event). IsStepped core s x core'' s') (ap (event_of o) (sym word') ∙ sym y)
     (subst (λ (c : ArmState). IsStepped core s (event_of o (word_of core s)) c s') (ap (λ (n : ℕ). registers_after o n core') (sym a) ∙ sym z)
     (finished core s o core' s' (at_arm core s e r (subst (λ (n : ℕ). n % 4 ≡ 0) a h))

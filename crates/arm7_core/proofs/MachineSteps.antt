@@ -1,25 +1,26 @@
 -- The machine's step over the bus after its tick.
-use Rattle.std.proofs.Common.{◌≡◌, ℕ, ◌+◌, ◌%◌, ◌^◌, Bool, true, false, List, [], ◌∷◌, ◌++◌, Option, Some, None, refl, sym, ap, ◌∙◌, subst, append-nil}
+use Rattle.std.proofs.Common.{◌≡◌, ℕ, ◌+◌, ◌%◌, ◌^◌, ◌<◌, Bool, true, false, List, [], Option, Some, None, refl, sym, ap, ◌∙◌, subst, append-nil}
 use Rattle.arm7_model.specs.declared.state.ArmState.{ArmState}
 use Rattle.arm7_model.specs.declared.event.Event.{Event}
 use Rattle.arm7_model.specs.declared.event.Event.TheVariants as event
 use Rattle.arm7_model.specs.declared.event.Exception.{Exception}
 use Rattle.arm7_model.specs.Accesses.{Access}
 use Rattle.arm7_model.specs.Outcomes.{Stepped, entered, took}
-use Rattle.arm7_model.specs.Registers.{register}
-use Rattle.arm7_model.specs.Step.{Levels, Step, Unread, fetches, interrupt, stepped, stepped_by}
+use Rattle.arm7_model.specs.Registers.{IsValid, IsValidState, State as Whole, register}
+use Rattle.arm7_model.specs.Laws.{StepIsValid}
+use Rattle.arm7_model.specs.Step.{Step, Unread, fetches, interrupt, stepped}
 use Rattle.sdt_outside.specs.declared.device.Lines.{Lines}
 use Rattle.arm7_bus.specs.Buses.{after_tick}
 use Rattle.arm7_bus.specs.Seats.{lines_up}
 use Rattle.arm7_bus.specs.States.{State}
 use Rattle.arm7_transfers.specs.Boards.{board_of, over}
-use Rattle.arm7_transfers.specs.Frames.{has_frames, least_unused, stored_to}
+use Rattle.arm7_transfers.specs.Frames.{has_frames}
 use Rattle.arm7_transfers.specs.Ready.{IsReady}
-use Rattle.arm7_transfers.specs.Served.{answers_to, served}
+use Rattle.arm7_transfers.specs.Served.{answers_to}
 use Rattle.arm7_transfers.proofs.DoneLemmas.{fits}
 use Rattle.arm7_transfers.proofs.ReadyLemmas.{ready-tick}
 use Rattle.arm7_steps.specs.Steps.{IsStepped, MakesStep, LacksFrame}
-use Rattle.arm7_core.specs.Machines.{Ends, IsStepFrom, levels}
+use Rattle.arm7_core.specs.Machines.{Ends, IsStep, IsStepFrom, levels}
 
 -- no interrupt comes
 made-step : (core : ArmState) (s : State) (e : Event) (core' : ArmState) (s' : State) → MakesStep core s e core' s'
@@ -83,3 +84,15 @@ pub taken_step : (core core' : ArmState) (s t : State) (x : Exception) (at : ℕ
 taken_step core core' s t x at o lines r after l h n a e =
     subst (λ (y : State). IsStepFrom core y (event.Took x) core' t) after
     (step_taken core core' t x at o (ready_ticked s t after r) (h ∙ ap (λ (y : Lines). interrupt (levels y) core.cpsr) l) n a e)
+
+-- ---- the state stays valid
+pub valid_step : (core core' : ArmState) (s s' : State) (e : Event) → IsReady s → StepIsValid → IsValid core → ((a : ℕ) → (after_tick s).contents.memory a < 256)
+    → IsStep core s e core' s' → IsValid core'
+valid_step core core' s s' e r law valid bytes m =
+    let after = law (board_of (after_tick s)) (over core (after_tick s)) (levels (lines_up (after_tick s).devices)) (answers_to (after_tick s) m.first.accesses) m.first
+    (record { core = valid; memory = bytes }) m.step in
+    go (has_frames (after_tick s) m.first.accesses) m.first after m.ends
+  where
+    go : (b : Bool) (first : Stepped) → IsValidState first.state → Ends b core (after_tick s) first e core' s' → IsValid core'
+    go true first v ends = subst (λ (c : ArmState). IsValid c) (sym (ap (λ (x : Whole). x.core) ends.1)) v.core
+    go false first v (a, named, least, same, fetched) = subst (λ (c : ArmState). IsValid c) (sym same) valid

@@ -1,5 +1,5 @@
 -- The instructions of ARM state that touch registers alone (ARM Architecture Reference Manual, ARM instructions).
-use Rattle.std.specs.Prelude.{ℕ, Bool, true, false}
+use Rattle.std.specs.Prelude.{Bool, true, false}
 use Rattle.sdt_word.specs.Numbers.{operand}
 use Rattle.arm_isa.specs.declared.instr.ArmInstr.{ArmInstr}
 use Rattle.arm_isa.specs.declared.instr.ArmInstr.TheVariants.{DataImmediate, DataShifted, DataRegisterShifted, Multiply, MultiplyLong, BranchExchange, ReadStatus, WriteStatus, WriteStatusImmediate, Branch}

@@ -1,5 +1,5 @@
 -- One step of the machine over a bus: the defined step of its state, over the bus after one tick. This project's.
-use Rattle.std.specs.Prelude.{◌≡◌, ℕ, Bool, true, false, List, Some}
+use Rattle.std.specs.Prelude.{◌≡◌, ℕ, Bool, true, false, Some}
 use Rattle.sdt_outside.specs.declared.device.Lines.{Lines}
 use Rattle.arm7_model.specs.declared.state.ArmState.{ArmState}
 use Rattle.arm7_model.specs.declared.event.Event.{Event}

@@ -126,7 +126,9 @@ pub fn act(state: &mut ArmState, i: &ArmInstr)
             write_status(state, saved, u32::from(fields), v);
         }
         ArmInstr::Branch {
-            link, displacement, ..
+            link,
+            displacement,
+            ..
         } => branch(state, link, displacement),
         ArmInstr::Swap { .. }
         | ArmInstr::TransferImmediate { .. }

@@ -45,7 +45,11 @@ fn effect_outside(core: &mut ArmState, bus: &mut Bus, i: &ArmInstr) -> Outcome
 {
     match *i {
         ArmInstr::Swap {
-            byte, rn, rd, rm, ..
+            byte,
+            rn,
+            rd,
+            rm,
+            ..
         } => swapped(core, bus, byte_width(byte), rn, rd, rm),
         ArmInstr::TransferImmediate {
             pre,

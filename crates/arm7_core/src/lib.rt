@@ -5,8 +5,6 @@ mod acts;
 mod arm;
 mod effect;
 mod machine;
+mod step;
 
-pub use crate::acts::{act, is_on_registers};
-pub use crate::arm::step_arm;
-pub use crate::effect::do_arm;
-pub use crate::machine::{Machine, step_state};
+pub use crate::machine::Machine;

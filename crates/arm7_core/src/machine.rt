@@ -6,11 +6,9 @@ ghost use Rattle.arm7_transfers.specs.Ready.{IsReady};
 ghost use Rattle.arm7_transfers.specs.Views.{state_of};
 ghost use Rattle.arm7_core.specs.Machines.{IsStep};
 
-use crate::arm::step_arm;
+use crate::step::step_state;
 use arm7_bus::Bus;
-use arm7_model::{ArmState, Banks, Event};
-use arm7_registers::{enter, interrupt, is_thumb, register};
-use arm7_thumb::step_thumb;
+use arm7_model::{ArmState, Banks, Event, step_is_valid};
 use sdt_outside::Device;
 
 /// An ARM7TDMI.
@@ -42,28 +40,18 @@ impl Machine {
             },
         }
     }
-}
 
-/// One step: each device of the bus ticks, and then the processor takes an interrupt or does one instruction.
-pub fn step_state(core: &mut ArmState, bus: &mut Bus) -> Event
-    requires valid { IsValid core.old }
-    requires ready { IsReady (state_of base size state touched bus.old) }
-    ensures step { IsStep core.old (state_of base size state touched bus.old) result core.new (state_of base size state touched bus.new) }
-    ensures ready { IsReady (state_of base size state touched bus.new) }
-{
-    let lines = bus.tick();
-    match interrupt(lines.irq, lines.fiq, core.cpsr) {
-        Some(exception) => {
-            let at = register(core, 15);
-            enter(core, exception, at.wrapping_add(4));
-            Event::Took(exception)
-        }
-        None => {
-            if is_thumb(core.cpsr) {
-                step_thumb(core, bus)
-            } else {
-                step_arm(core, bus)
-            }
-        }
+    /// One step: each device of the bus ticks, and then the processor takes an interrupt or does one instruction. After
+    /// [`Event::Unpredictable`] and [`Event::NoFrame`] the state is as before.
+    pub fn step(&mut self, bus: &mut Bus) -> Event
+        requires valid { IsValid self.old.state }
+        requires ready { IsReady (state_of base size state touched bus.old) }
+        ensures step { IsStep self.old.state (state_of base size state touched bus.old) result self.new.state (state_of base size state touched bus.new) }
+        ensures valid { IsValid self.new.state }
+        ensures ready { IsReady (state_of base size state touched bus.new) }
+    {
+        let event = step_state(&mut self.state, bus);
+        step_is_valid();
+        event
     }
 }

@@ -1,5 +1,5 @@
 use Rattle.arm7_core.proofs.MachineSteps.{plain_step, ready_ticked, taken_step}
-use Rattle.arm7_core.proofs.machine.step_state.Goals as goal
+use Rattle.arm7_core.proofs.step.step_state.Goals as goal
 
 pub step_thumb-requires-clause-ready : goal.step_thumb-requires-clause-ready
 step_thumb-requires-clause-ready g c = ready_ticked _ _ c.tick-lines.ensures.after c.requires.ready
