@@ -1,6 +1,7 @@
 -- What a read, a write and a step of time of the bus answer and leave. This project's.
 use Rattle.std.specs.Prelude.{◌≡◌, ℕ, Bool, if◌then◌else◌, List, Option, Some, None, option_map, is_some, length, map, [], true, remove}
-use Rattle.std.specs.Prelude.{false, ◌++◌, ◌∷◌, ◌/◌}
+use Rattle.std.specs.Prelude.{false, ◌++◌, ◌∷◌, ◌/◌, ◌&&◌, not}
+use Rattle.arm7_bus.specs.Paging.{page_used_in}
 use Rattle.sdt_word.specs.declared.ranges.Range32.{Range32}
 use Rattle.std.specs.declared.alloc.Global.{Global}
 use Rattle.std.specs.declared.dyn_box.DynBox.{DynBox}
@@ -35,6 +36,10 @@ IsStarted s = length s.contents.used ≡ 1048576
 -- one bank or one device has the whole access
 abbrev pub has_whole : State → ℕ → ℕ → Bool
 has_whole s a n = if bank_has s.contents.banks a n then true else is_some (device_at s.devices a n)
+
+-- a store would use one more page: a bank has the whole access, and its page isn't used
+abbrev pub needs_page : State → ℕ → ℕ → Bool
+needs_page s a n = bank_has s.contents.banks a n && not (page_used_in s.contents.used a)
 
 -- the answer to a read: the bytes that memory has, or what the device answers; None where the access is absent
 abbrev pub read_answer : State → ℕ → Width → Option ℕ

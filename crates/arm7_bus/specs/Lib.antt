@@ -7,3 +7,4 @@ pub mod Protection
 pub mod Seats
 pub mod States
 pub mod Touches
+pub mod WholeWords

@@ -10,7 +10,8 @@ ghost use Rattle.std.specs.Prelude.{◌↔◌, IsOk, OnOk, OnErr};
 ghost use Rattle.arm7_bus.specs.States.{IsStart, is_protected, peeked, store_answer};
 ghost use Rattle.arm7_bus.specs.Buses.{bus_state, IsStarted, has_whole, read_answer, after_read, write_fault, after_write, after_bank, after_claim, after_forget, after_protect, after_tick, after_detach};
 ghost use Rattle.std.specs.Prelude.{take, ℕ, ◌≤◌, IfOk, IfErr};
-ghost use Rattle.arm7_bus.specs.Buses.{IsNew};
+ghost use Rattle.arm7_bus.specs.Buses.{IsNew, needs_page};
+ghost use Rattle.arm7_bus.specs.WholeWords.{IsWhole, AreWholeSeats};
 ghost use Rattle.arm7_bus.specs.Overlaps.{IsBankFault, range_shares};
 ghost use Rattle.arm7_bus.specs.Meets.{IsLeast, IsNowhere, seats_share};
 
@@ -55,6 +56,7 @@ impl Bus {
     pub fn new(alloc: Global, devices: Vec<Box<dyn Device>>) -> Result<Bus, NoBus>
         ensures ok { IfOk result (λ bus. IsNew (seats_by base size state touched devices.items) (bus_state base size state touched bus)) }
         ensures apart { IfOk result (λ bus. IsNowhere (λ a. seats_share (seats_by base size state touched devices.items) a)) }
+        ensures whole { AreWholeSeats (seats_by base size state touched devices.items) }
         ensures err { IfErr result (λ e. IsLeast (λ a. seats_share (seats_by base size state touched devices.items) a) e.address) }
         ensures same { IfErr result (λ e. e.devices ≡ devices) }
     {
@@ -142,6 +144,14 @@ impl Bus {
         self.memory.page_used(a)
     }
 
+    /// Whether a store there would use one more page: it lies in a bank, and its page isn't used.
+    pub fn needs_page(&self, a: u32, w: Width) -> bool
+        requires { IsStarted (bus_state base size state touched self.now) }
+        ensures { result ≡ needs_page (bus_state base size state touched self.now) a (bytes_in w) }
+    {
+        self.memory.holds(a, w.bytes()) && !self.memory.page_used(a)
+    }
+
     /// How many more pages can be used.
     pub fn pages_left(&self) -> u32
         ensures { let c = (bus_state base size state touched self.now).contents in result ≡ c.frames - used_count c.used }
@@ -163,10 +173,11 @@ impl Bus {
         self.memory.forget_stores();
     }
 
-    /// Adds a bank of zeros, which isn't protected. It is refused exactly where the range has an address of a bank or a
-    /// device, and where there is no memory.
+    /// Adds a bank of zeros, which isn't protected: whole words. It is refused exactly where the range has an address of a
+    /// bank or a device, and where there is no memory.
     pub fn add_bank(&mut self, r: Range32) -> Result<(), Fault>
-        requires { length (bus_state base size state touched self.old).contents.used ≡ 0 }
+        requires unstarted { length (bus_state base size state touched self.old).contents.used ≡ 0 }
+        requires whole { IsWhole r.base r.size }
         ensures apart { OnOk result (IsNowhere (range_shares r (bus_state base size state touched self.old))) }
         ensures after { OnOk result (bus_state base size state touched self.new ≡ after_bank (bus_state base size state touched self.old) r) }
         ensures zeros { OnOk result ((a : ℕ) → (bus_state base size state touched self.new).contents.memory a ≡ 0) }
@@ -204,11 +215,14 @@ impl Bus {
     }
 
     /// Each device ticks once, in order. A line is up exactly where a device gives it; no store is noted any more.
+    #[tactic(auto, using(crate::proofs::PagingLemmas::memory_small))]
     pub fn tick(&mut self) -> Lines
         ensures lines { result ≡ lines_up (bus_state base size state touched self.new).devices }
         ensures after { bus_state base size state touched self.new ≡ after_tick (bus_state base size state touched self.old) }
+        ensures bytes { (a : ℕ) → (bus_state base size state touched self.new).contents.memory a < 256 }
     {
         self.memory.forget_stores();
+        self.memory.pages.frames.are_bytes();
         devices::tick(&mut self.devices)
     }
 

@@ -6,6 +6,7 @@ ghost use Rattle.sdt_outside.specs.Counts.{counted};
 ghost use Rattle.sdt_outside.specs.Devices.{answered, stored, ticked, lines_of};
 ghost use Rattle.std.specs.Prelude.{◌&&◌};
 ghost use Rattle.arm7_bus.specs.Meets.{IsFound, seats_have, seats_share};
+ghost use Rattle.arm7_bus.specs.WholeWords.{IsWhole, AreWholeSeats};
 ghost use Rattle.arm7_bus.specs.Seats.{first_place, has_access, seats_by, device_at, changed_at, seat_read, seat_written, seat_answer, seat_ticked, ticked_at, lines_at, lines_up};
 
 use crate::meets::{first_shared, lesser};
@@ -145,7 +146,8 @@ pub fn has(devices: &[Box<dyn Device>], a: u32, n: u32) -> bool
 }
 
 fn range_of(device: &Box<dyn Device>) -> Range32
-    ensures { (result.base ≡ base device.now) × (result.size ≡ size device.now) }
+    ensures place { (result.base ≡ base device.now) × (result.size ≡ size device.now) }
+    ensures whole { IsWhole (base device.now) (size device.now) }
 {
     device.range()
 }
@@ -166,9 +168,10 @@ pub fn meeting(devices: &[Box<dyn Device>], r: Range32) -> Option<u32>
     lesser(shared_with(first, r), meeting(rest, r))
 }
 
-/// The least address that two devices share.
+/// The least address that two devices share. Each device has whole words.
 pub fn least_shared(devices: &[Box<dyn Device>]) -> Option<u32>
-    ensures { IsFound (λ a. seats_share (seats_by base size state touched devices.now) a) result }
+    ensures found { IsFound (λ a. seats_share (seats_by base size state touched devices.now) a) result }
+    ensures whole { AreWholeSeats (seats_by base size state touched devices.now) }
 {
     let [first, rest @ ..] = devices else {
         return None;

@@ -19,4 +19,4 @@ returns-in-Some-clause-err g c =
 pub returns-in-Ok-clause-zeros : goal.returns-in-Ok-clause-zeros
 returns-in-Ok-clause-zeros g c =
     λ a. ap (λ (x : Contents). x.memory a) c.in-Ok.ensures.ok
-    ∙ memory_before c.args.self.now.memory.pages.table.items c.args.self.now.memory.pages.frames a c.requires
+    ∙ memory_before c.args.self.now.memory.pages.table.items c.args.self.now.memory.pages.frames a c.requires.unstarted

@@ -1,0 +1,119 @@
+-- Parts of a step that agree, and parts that act on registers alone.
+use Rattle.std.proofs.Common.{◌≡◌, ℕ, Bool, true, false, List, ◌++◌, ap, ◌∙◌, sym, subst, refl}
+use Rattle.std.specs.Prelude.{if◌then◌else◌}
+use Rattle.sdt_word.specs.declared.codes.Condition.{Condition}
+use Rattle.thumb_isa.specs.declared.instr.ThumbInstr.{ThumbInstr}
+use Rattle.thumb_isa.specs.declared.instr.ThumbInstr.TheVariants.{BranchConditional}
+use Rattle.arm7_model.specs.declared.state.ArmState.{ArmState}
+use Rattle.arm7_model.specs.declared.event.Exception.{Exception}
+use Rattle.arm7_model.specs.declared.event.Exception.TheVariants as exception
+use Rattle.arm7_model.specs.Accesses.{Access, Working}
+use Rattle.arm7_model.specs.Branches.{interrupted, is_host}
+use Rattle.arm7_model.specs.Outcomes.{Stepped, Under, ran, raised, hosted, given_back}
+use Rattle.arm7_model.specs.ThumbStep.{thumb_branched, thumb_effect}
+use Rattle.arm7_model.specs.Arithmetic.{passes}
+use Rattle.arm7_bus.specs.States.{State}
+use Rattle.arm7_transfers.specs.declared.outcome.Outcome.{Outcome}
+use Rattle.arm7_transfers.specs.declared.outcome.Outcome.TheVariants.{Ran, Aborted, Unpredictable, Raised, Host, NoFrame}
+use Rattle.arm7_transfers.specs.Boards.{board_of, working}
+use Rattle.arm7_transfers.specs.Done.{Part, Makes, Lacks, IsDone}
+use Rattle.arm7_transfers.specs.Ready.{IsReady}
+use Rattle.arm7_transfers.specs.Served.{answers_to}
+use Rattle.arm7_transfers.proofs.DoneLemmas.{makes-nothing}
+
+-- two parts do the same from these registers and this bus
+abbrev pub SameFrom : Part → Part → ArmState → State → Type 0
+SameFrom p q core s = (u : Under) (answers : List ℕ) (before : List Access) → q u (working core s answers before) ≡ p u (working core s answers before)
+
+makes-like : (p q : Part) (core : ArmState) (s : State) (o : Outcome) (core' : ArmState) (s' : State) → SameFrom p q core s
+    → Makes p core s o core' s' → Makes q core s o core' s'
+makes-like p q core s o core' s' same m = record {
+  made = m.made;
+  exact = λ u later before e. same u (answers_to s m.made ++ later) before ∙ m.exact u later before e;
+  after = m.after;
+  frames = m.frames;
+  kept = m.kept;
+}
+
+lacks-like : (p q : Part) (core : ArmState) (s : State) (a : ℕ) → SameFrom p q core s → Lacks p core s a → Lacks q core s a
+lacks-like p q core s a same m = record {
+  asked = m.asked;
+  exact = λ u later before e. ap (λ (t : Stepped). t.accesses) (same u (answers_to s m.asked ++ later) before) ∙ m.exact u later before e;
+  frames = m.frames;
+  least = m.least;
+}
+
+pub done_like : (p q : Part) (core : ArmState) (s : State) (o : Outcome) (core' : ArmState) (s' : State) → SameFrom p q core s
+    → IsDone p core s o core' s' → IsDone q core s o core' s'
+done_like p q core s Ran core' s' same m = makes-like p q core s Ran core' s' same m
+done_like p q core s Aborted core' s' same m = makes-like p q core s Aborted core' s' same m
+done_like p q core s Unpredictable core' s' same m = makes-like p q core s Unpredictable core' s' same m
+done_like p q core s (Raised e) core' s' same m = makes-like p q core s (Raised e) core' s' same m
+done_like p q core s (Host n) core' s' same m = makes-like p q core s (Host n) core' s' same m
+done_like p q core s (NoFrame a) core' s' same m = (lacks-like p q core s a same m.0, m.1, m.2)
+
+-- a part that leaves these registers
+pub runs : (q : Part) (core core' : ArmState) (s : State) → IsReady s
+    → ((u : Under) (answers : List ℕ) (before : List Access) → q u (working core s answers before) ≡ ran (working core' s answers before))
+    → IsDone q core s Ran core' s
+runs q core core' s r exact = makes-nothing q core core' s Ran r (λ u later before e. exact u later before) tt
+
+pub raises : (e : Exception) (q : Part) (core : ArmState) (s : State) → IsReady s
+    → ((u : Under) (answers : List ℕ) (before : List Access) → q u (working core s answers before) ≡ raised e (working core s answers before))
+    → IsDone q core s (Raised e) core s
+raises e q core s r exact = makes-nothing q core core s (Raised e) r (λ u later before _. exact u later before) (refl, refl)
+
+pub hosts : (n : ℕ) (q : Part) (core : ArmState) (s : State) → IsReady s
+    → ((u : Under) (answers : List ℕ) (before : List Access) → q u (working core s answers before) ≡ hosted n (working core s answers before))
+    → IsDone q core s (Host n) core s
+hosts n q core s r exact = makes-nothing q core core s (Host n) r (λ u later before e. exact u later before) (refl, refl)
+
+pub gives_back : (q : Part) (core : ArmState) (s : State) → IsReady s
+    → ((u : Under) (answers : List ℕ) (before : List Access) → q u (working core s answers before) ≡ given_back u (working core s answers before))
+    → IsDone q core s Unpredictable core s
+gives_back q core s r exact = makes-nothing q core core s Unpredictable r (λ u later before e. exact u later before) (refl, refl)
+
+-- ---- a row of Thumb state
+
+abbrev pub effect_part : ThumbInstr → Part
+effect_part i u w = thumb_effect u i w
+
+pub row_runs : (i j : ThumbInstr) (core core' : ArmState) (s : State) → i ≡ j → IsReady s
+    → ((u : Under) (answers : List ℕ) (before : List Access) → thumb_effect u j (working core s answers before) ≡ ran (working core' s answers before))
+    → Makes (effect_part i) core s Ran core' s
+row_runs i j core core' s e r exact =
+    subst (λ (i : ThumbInstr). Makes (effect_part i) core s Ran core' s) (sym e) (runs (effect_part j) core core' s r exact)
+
+pub row_raises : (i j : ThumbInstr) (core : ArmState) (s : State) → i ≡ j → IsReady s
+    → ((u : Under) (answers : List ℕ) (before : List Access) → thumb_effect u j (working core s answers before) ≡ raised exception.Undefined (working core s answers before))
+    → Makes (effect_part i) core s (Raised exception.Undefined) core s
+row_raises i j core s e r exact =
+    subst (λ (i : ThumbInstr). Makes (effect_part i) core s (Raised exception.Undefined) core s) (sym e) (raises exception.Undefined (effect_part j) core s r exact)
+
+pub row_like : (i j : ThumbInstr) (p : Part) (core : ArmState) (s : State) (o : Outcome) (core' : ArmState) (s' : State) → i ≡ j
+    → SameFrom p (effect_part j) core s → IsDone p core s o core' s' → IsDone (effect_part i) core s o core' s'
+row_like i j p core s o core' s' e same d =
+    subst (λ (i : ThumbInstr). IsDone (effect_part i) core s o core' s') (sym e) (done_like p (effect_part j) core s o core' s' same d)
+
+-- a branch where its condition passes
+ran_where : (b : Bool) (core core' : ArmState) (w : Working)
+    → (if b then ran (record w { core = core' }) else ran (record w { core = core })) ≡ ran (record w { core = if b then core' else core })
+ran_where true core core' w = refl
+ran_where false core core' w = refl
+
+pub row_branches : (i : ThumbInstr) (c : Condition) (offset : ℕ) (core core' : ArmState) (s : State) → i ≡ BranchConditional c offset → IsReady s
+    → core' ≡ (if passes c core.cpsr then thumb_branched 8 offset core else core) → Makes (effect_part i) core s Ran core' s
+unfolding thumb_effect
+row_branches i c offset core core' s e r left =
+    row_runs i (BranchConditional c offset) core core' s e r
+    (λ u answers before. rw left (ran_where (passes c core.cpsr) core (thumb_branched 8 offset core) (working core s answers before)))
+
+-- a software interrupt
+pub interrupts : (n : ℕ) (core : ArmState) (s : State) (o : Outcome) → IsReady s
+    → o ≡ (if is_host n then Host n else Raised exception.SoftwareInterrupt) → IsDone (λ u w. interrupted n w) core s o core s
+unfolding interrupted
+interrupts n core s o r e = go (is_host n) refl (e)
+  where
+    go : (b : Bool) → is_host n ≡ b → o ≡ (if b then Host n else Raised exception.SoftwareInterrupt) → IsDone (λ u w. interrupted n w) core s o core s
+    go true h e = subst (λ (o : Outcome). IsDone (λ u w. interrupted n w) core s o core s) (sym e) (hosts n (λ u w. interrupted n w) core s r (λ u answers before. rw h refl))
+    go false h e = subst (λ (o : Outcome). IsDone (λ u w. interrupted n w) core s o core s) (sym e) (raises exception.SoftwareInterrupt (λ u w. interrupted n w) core s r (λ u answers before. rw h refl))

@@ -1,0 +1,10 @@
+pub mod BoardLemmas
+pub mod ReadyLemmas
+pub mod DoneLemmas
+pub mod StoreLemmas
+pub mod StoreParts
+pub mod SingleLemmas
+pub mod BlockLemmas
+pub mod PageLemmas
+pub mod BlockSteps
+pub mod BlockParts
