@@ -7,10 +7,8 @@ use Rattle.aof_object.specs.declared.records.Reloc.{Reloc}
 use Rattle.aof_object.specs.declared.records.Symbol.{Symbol}
 use Rattle.link_model.specs.declared.selection.Named.{Named}
 use Rattle.link_model.specs.declared.selection.Linked.{Linked}
-use Rattle.link_model.specs.declared.placing.AreaName.{AreaName}
 use Rattle.link_model.specs.declared.placing.Assigned.{Assigned}
 use Rattle.link_model.specs.declared.placing.Placement.{Placement}
-use Rattle.link_model.specs.declared.placing.Region.{Region}
 use Rattle.link_model.specs.declared.placing.Veneer.{Veneer}
 use Rattle.link_model.specs.RegionNames.{has_region_form}
 use Rattle.link_model.specs.RegionValues.{region_number}
