@@ -1,1 +1,2 @@
 pub mod LinkedOnce
+pub mod Rows

@@ -1,10 +1,7 @@
 -- The least sets are one set, so at most one list of objects is linked.
-use Rattle.std.proofs.Common.{◌≡◌, ℕ, Bool, true, false, List, ◌++◌, refl, sym, ap, ◌∙◌}
-use Rattle.aof_object.specs.declared.records.Object.{Object}
-use Rattle.alf_archive.specs.declared.records.Archive.{Archive}
-use Rattle.link_model.specs.declared.selection.Named.{Named}
+use Rattle.std.proofs.Common.{◌≡◌, ℕ, Bool, true, false, ◌++◌, refl, sym, ap, ◌∙◌}
 use Rattle.link_model.specs.Members.{members_of}
-use Rattle.link_model.specs.Chosen.{IsLeast, AreLinked, LinkedLaw, taken}
+use Rattle.link_model.specs.Chosen.{LinkedLaw, taken}
 
 same_bool : (a b : Bool) → (a ≡ true → b ≡ true) → (b ≡ true → a ≡ true) → a ≡ b
 same_bool true b there back = sym (there refl)

@@ -1,7 +1,7 @@
 -- Where the names of linked objects are defined, and where the program begins (SDT 2.50 Reference Guide,
 -- ARM Object Format: exported symbols and the entry; that a definition is told by numbers is this
 -- project's).
-use Rattle.std.specs.Prelude.{ℕ, suc, Bool, true, false, ◌==◌, if◌then◌else◌, List, [], ◌∷◌, ◌++◌, slice_get, Option, Some, None}
+use Rattle.std.specs.Prelude.{ℕ, suc, Bool, false, ◌==◌, if◌then◌else◌, List, [], ◌∷◌, ◌++◌, slice_get, Option, Some, None}
 use Rattle.sdt_word.specs.Numbers.{bit}
 use Rattle.aof_object.specs.declared.records.Area.{Area}
 use Rattle.aof_object.specs.declared.records.Entry.{Entry}

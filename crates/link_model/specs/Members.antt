@@ -1,7 +1,7 @@
 -- The members of libraries as objects to be linked, in library order: the order of the libraries and of
 -- the members in each (SDT 2.50 Reference Guide, armlink and ARM Object Library Format; the names in
 -- reports are this project's).
-use Rattle.std.specs.Prelude.{ℕ, List, [], ◌∷◌, ◌++◌, map, codes}
+use Rattle.std.specs.Prelude.{ℕ, List, ◌++◌, map, codes}
 use Rattle.std.specs.List.{flat_map}
 use Rattle.aof_object.specs.declared.records.Object.{Object}
 use Rattle.alf_archive.specs.declared.records.Member.{Member}

@@ -1,5 +1,5 @@
 -- The first value that is given. This project's.
-use Rattle.std.specs.Prelude.{List, [], ◌∷◌, Option, Some, None}
+use Rattle.std.specs.Prelude.{List, [], ◌∷◌, Option, None}
 use Rattle.std.specs.Option.{option_or}
 
 -- what f gives of the first item of which it gives something

@@ -1,6 +1,6 @@
 -- The names of region symbols, which the linker defines (SDT 2.50 Reference Guide, scatter loading and
 -- armlink's area and region symbols; Boot$$Start is this project's).
-use Rattle.std.specs.Prelude.{ℕ, Bool, true, ◌||◌, ◌&&◌, nat_lt, nat_le, nat_eq, ◌==◌, List, [], ◌∷◌, ◌++◌, drop, map, codes, Option, Some, None}
+use Rattle.std.specs.Prelude.{ℕ, Bool, ◌||◌, ◌&&◌, nat_lt, nat_le, nat_eq, ◌==◌, List, [], ◌∷◌, ◌++◌, drop, map, codes, Option, Some, None}
 use Rattle.std.specs.List.{flat_map, starts_with, ends_with, prefix_len}
 use Rattle.std.specs.Str.{bytes_eq}
 use Rattle.aof_object.specs.declared.records.Object.{Object}

@@ -1,7 +1,7 @@
 -- The numbers of region symbols over a placement (SDT 2.50 Reference Guide, scatter loading and armlink's
 -- area and region symbols; Boot$$Start, and what stands for 2^32, are this project's). They are taken
 -- before they are reduced modulo 2^32: an address that is written 0 behind a base above 0 stands for 2^32.
-use Rattle.std.specs.Prelude.{ℕ, ◌+◌, ◌^◌, Bool, true, false, ◌&&◌, nat_lt, ◌==◌, if◌then◌else◌, min, max, List, [], ◌∷◌, map, slice_get, unwrap_or, Option, Some, None}
+use Rattle.std.specs.Prelude.{ℕ, ◌+◌, ◌^◌, Bool, false, ◌&&◌, nat_lt, ◌==◌, if◌then◌else◌, min, max, List, [], ◌∷◌, map, slice_get, unwrap_or, Option, Some, None}
 use Rattle.std.specs.List.{flat_map, find, filter}
 use Rattle.std.specs.Option.{option_map, option_and_then, option_or}
 use Rattle.std.specs.Str.{bytes_eq}

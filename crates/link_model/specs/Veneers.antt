@@ -2,7 +2,7 @@
 -- relocated branches of its areas to symbols of the other state (ARM Architecture Reference Manual, the
 -- encodings of B and BL; SDT 2.50 Reference Guide, ARM Object Format, relocation directives, and armlink's
 -- interworking veneers; the order, and that an AIF's header needs its veneer first, are this project's).
-use Rattle.std.specs.Prelude.{ℕ, suc, ◌+◌, ◌-◌, ◌*◌, ◌/◌, ◌%◌, ◌^◌, Bool, true, false, ◌&&◌, ◌||◌, nat_lt, nat_le, ◌==◌, if◌then◌else◌, List, [], ◌∷◌, ◌++◌, length, slice_get, count_by, Option, Some, None}
+use Rattle.std.specs.Prelude.{ℕ, suc, ◌+◌, ◌-◌, ◌*◌, ◌%◌, ◌^◌, Bool, true, false, ◌&&◌, nat_lt, nat_le, ◌==◌, if◌then◌else◌, List, [], ◌∷◌, ◌++◌, length, slice_get, count_by, Option, Some, None}
 use Rattle.std.specs.List.{flat_map, filter_map, list_any}
 use Rattle.std.specs.Option.{option_and_then}
 use Rattle.sdt_word.specs.Bytes.{word_in}
@@ -93,8 +93,8 @@ to_reference l region object from reach k (Some s) =
 abbrev pub needed_by : Linked → ℕ → AreaName → Area → Reloc → Option Veneer
 needed_by l region a area r =
     if is_branch_of area r then
-      to_reference l region a.object (r.offset % 2 == 1) (field_at r + branch_reach (r.offset % 2 == 1) (word_in area.bytes (field_at r)))
-      (r.word % 2 ^ 24) (symbol_of l.objects a.object (r.word % 2 ^ 24))
+    to_reference l region a.object (r.offset % 2 == 1) (field_at r + branch_reach (r.offset % 2 == 1) (word_in area.bytes (field_at r)))
+    (r.word % 2 ^ 24) (symbol_of l.objects a.object (r.word % 2 ^ 24))
     else None
 
 -- ---- all of them
