@@ -2,49 +2,16 @@
 
 ghost use Rattle.std.specs.Prelude.{◌≡◌, ◌∷◌, [], IfOk, OnOk, if◌then◌else◌};
 ghost use Rattle.std.specs.Option.{is_some};
-ghost use Rattle.asm_model.specs.Kinds as kinds;
 ghost use Rattle.asm_model.specs.Meaning as meaning;
 ghost use Rattle.asm_expr.specs.Evaluating as evaluating;
 
+use crate::kinds::earlier;
 use crate::operators::{binary, unary};
 use crate::slots::{Slot, find, known, slot_of};
 use asm_model::{BinaryOp, EvalFault, Expr, ExprItem, LaidName, Names, UnaryOp, Value};
 use sdt_fault::kinds::LineKind;
 use sdt_fault::{NoMemory, Text};
 use std::alloc::Global;
-
-/// The earlier of two kinds in the order in which they are told.
-fn earlier(a: LineKind, b: LineKind) -> LineKind
-    ensures { result ≡ kinds.earlier a b }
-{
-    if rank(b) < rank(a) {
-        return b;
-    }
-    a
-}
-
-/// The place of a kind in the order in which they are told.
-fn rank(kind: LineKind) -> u8
-    ensures { result ≡ kinds.rank kind }
-{
-    match kind {
-        LineKind::Syntax => 0,
-        LineKind::UnknownWord => 1,
-        LineKind::FloatingPoint => 2,
-        LineKind::BadOperand => 3,
-        LineKind::Constant => 4,
-        LineKind::Forward => 5,
-        LineKind::DuplicateName => 6,
-        LineKind::WrongType => 7,
-        LineKind::OutOfRange => 8,
-        LineKind::Nesting => 9,
-        LineKind::Assert => 10,
-        LineKind::NoArea => 11,
-        LineKind::DivideByZero => 12,
-        LineKind::TooDeep => 13,
-        LineKind::TooMany => 14,
-    }
-}
 
 /// The number of bytes of the statement that defines the name at a place of the list.
 fn size_at(list: &[LaidName], place: Option<usize>) -> Result<Value, LineKind>

@@ -65,11 +65,15 @@ is_contradicting words =
 abbrev pub contents_of : List Attribute → Contents
 contents_of words = if has Code words then contents.Code else if has NoInit words then contents.Zeroes else contents.Data
 
--- the attributes of an area; code is read-only and data read-write unless said
+-- code is read-only and data read-write unless said
+abbrev pub is_read_only : List Attribute → Bool
+is_read_only words = if has Code words then not (has ReadWrite words) else has ReadOnly words
+
+-- the attributes of an area
 abbrev pub attributes_of : List Attribute → Option Expr → AreaAttributes
 attributes_of words align = record {
     contents = contents_of words;
-    read_only = if has Code words then not (has ReadWrite words) else has ReadOnly words;
+    read_only = is_read_only words;
     interwork = has Interwork words;
     halfword = has Halfword words;
     pic = has Pic words;
@@ -101,14 +105,14 @@ attribute_in text [] = None
 attribute_in text (t ∷ []) = attribute_named (piece text t)
 attribute_in text (t ∷ u ∷ ts) = if begins_alignment text t u then Some Align else None
 
+abbrev pub listed : Option Attribute → List Attribute
+listed None = []
+listed (Some a) = a ∷ []
+
 -- the attributes that operands write
 abbrev pub attributes_in : List ℕ → List (List Token) → List Attribute
 attributes_in text [] = []
 attributes_in text (o ∷ os) = listed (attribute_in text o) ++ attributes_in text os
-  where
-    listed : Option Attribute → List Attribute
-    listed None = []
-    listed (Some a) = a ∷ []
 
 -- the number of an alignment
 abbrev pub alignment : Result Expr LineKind → Result (Option Expr) LineKind

@@ -129,9 +129,10 @@ weak_mark text (t ∷ w ∷ u ∷ []) =
     if same (piece text t) (codes "[") && same (piece text u) (codes "]") then weak_word w.kind (piece text w) else Err Syntax
 weak_mark text (t ∷ w ∷ u ∷ v ∷ ts) = Err Syntax
 
-abbrev pub import_of : List ℕ → (List ℕ → Bool → DirectiveLine) → List Token → Result DirectiveLine LineKind
-import_of text make [] = Err Syntax
-import_of text make (t ∷ ts) = on_both make (name_of t.kind (piece text t)) (weak_mark text ts)
+-- tokens as a name, and whether it is weak
+abbrev pub import_of : List ℕ → List Token → Result (List ℕ × Bool) LineKind
+import_of text [] = Err Syntax
+import_of text (t ∷ ts) = on_both (λ n weak. (n, weak)) (name_of t.kind (piece text t)) (weak_mark text ts)
 
 -- tokens as a register alone
 abbrev pub register_alone : List ℕ → List Token → Option ℕ
@@ -181,7 +182,7 @@ bare_of l (t ∷ ts) = Err Syntax
 abbrev pub Reads : List ℕ → Form → List Token → Result DirectiveLine LineKind → Type 0
 Reads text (bare l) ts r = r ≡ bare_of l ts
 Reads text (name make) ts r = r ≡ mapped make (name_alone text ts)
-Reads text (imported make) ts r = r ≡ import_of text make ts
+Reads text (imported make) ts r = r ≡ mapped (λ i. make i.0 i.1) (import_of text ts)
 Reads text (expression make) ts r = Expression text make ts r
 Reads text (expressions make) ts r =
     (es : Result (List Expr) LineKind) × SomeExpressions text (operands text ts) es × (r ≡ mapped make es)

@@ -13,6 +13,7 @@ pub mod statements;
 pub mod thumb_lines;
 pub mod tokens;
 pub mod values;
+pub mod words;
 
 pub use crate::arm_lines::ArmLine;
 pub use crate::directives::{
@@ -30,3 +31,4 @@ pub use crate::statements::{PseudoLine, Statement, What};
 pub use crate::thumb_lines::ThumbLine;
 pub use crate::tokens::{Due, Token, TokenKind};
 pub use crate::values::{EvalFault, Value};
+pub use crate::words::is_called;
