@@ -4,6 +4,7 @@
 pub mod areas;
 pub mod directive_names;
 pub mod directives;
+pub mod index;
 pub mod kinds;
 pub mod operands;
 pub mod operators;
@@ -16,9 +17,10 @@ pub mod slots;
 pub mod value;
 
 pub use crate::directives::parse_directive;
+pub use crate::index::NameIndex;
 pub use crate::read::parse_expr;
 pub use crate::registers::register_named;
-pub use crate::value::evaluate;
+pub use crate::value::{evaluate, evaluate_indexed};
 
 #[cfg(test)]
 mod tests;
