@@ -23,4 +23,6 @@ pub use crate::registers::register_named;
 pub use crate::value::{evaluate, evaluate_indexed};
 
 #[cfg(test)]
+mod directive_tests;
+#[cfg(test)]
 mod tests;
