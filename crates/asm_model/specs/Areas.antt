@@ -72,13 +72,14 @@ is_read_only words = if has Code words then not (has ReadWrite words) else has R
 -- the attributes of an area
 abbrev pub attributes_of : List Attribute → Option Expr → AreaAttributes
 attributes_of words align = record {
-    contents = contents_of words;
-    read_only = is_read_only words;
-    interwork = has Interwork words;
-    halfword = has Halfword words;
-    pic = has Pic words;
-    reentrant = has Reentrant words;
-    align = align }
+  contents = contents_of words;
+  read_only = is_read_only words;
+  interwork = has Interwork words;
+  halfword = has Halfword words;
+  pic = has Pic words;
+  reentrant = has Reentrant words;
+  align = align;
+}
 
 -- a word that is an attribute by itself: ALIGN has a number, and no other word is one
 abbrev pub plain_attribute : Option Attribute → Result (Option Expr) LineKind
@@ -148,6 +149,7 @@ agreed words align = if is_repeated words || is_contradicting words then refused
     refused : Result (Option Expr) LineKind → Result AreaAttributes LineKind
     refused (Ok e) = Err BadOperand
     refused (Err k) = Err (earlier BadOperand k)
+
     accepted : Result (Option Expr) LineKind → Result AreaAttributes LineKind
     accepted (Ok e) = Ok (attributes_of words e)
     accepted (Err k) = Err k

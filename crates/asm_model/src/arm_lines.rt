@@ -69,7 +69,10 @@ pub enum ArmLine {
         rn: Register,
     },
     /// `BX{c} Rm`
-    BranchExchange { condition: Condition, rm: Register },
+    BranchExchange {
+        condition: Condition,
+        rm: Register,
+    },
     /// `MRS{c} Rd,CPSR`, or `SPSR` where `saved`.
     ReadStatus {
         condition: Condition,
@@ -137,5 +140,8 @@ pub enum ArmLine {
         target: Expr,
     },
     /// `SWI{c} #n`
-    SoftwareInterrupt { condition: Condition, number: Expr },
+    SoftwareInterrupt {
+        condition: Condition,
+        number: Expr,
+    },
 }

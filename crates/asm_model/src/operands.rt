@@ -45,7 +45,9 @@ pub enum Address {
         offset: Expr,
     },
     /// A label, which is reached from pc.
-    Label { target: Expr },
+    Label {
+        target: Expr,
+    },
 }
 
 /// The offset of a transfer of half-words or signed bytes.

@@ -90,9 +90,15 @@ pub enum ThumbLine {
         offset: Expr,
     },
     /// `ADD sp,#v`, `SUB sp,#v`
-    AdjustStack { subtract: bool, offset: Expr },
+    AdjustStack {
+        subtract: bool,
+        offset: Expr,
+    },
     /// `PUSH {list}`, `POP {list}`
-    PushPop { load: bool, list: RegisterList },
+    PushPop {
+        load: bool,
+        list: RegisterList,
+    },
     /// `STMIA`, `LDMIA Rn!,{list}`
     TransferMultiple {
         load: bool,
@@ -100,11 +106,20 @@ pub enum ThumbLine {
         list: RegisterList,
     },
     /// `B{c}`
-    BranchConditional { condition: Condition, target: Expr },
+    BranchConditional {
+        condition: Condition,
+        target: Expr,
+    },
     /// `SWI n`
-    SoftwareInterrupt { number: Expr },
+    SoftwareInterrupt {
+        number: Expr,
+    },
     /// `B`
-    Branch { target: Expr },
+    Branch {
+        target: Expr,
+    },
     /// `BL`, both halves.
-    BranchLink { target: Expr },
+    BranchLink {
+        target: Expr,
+    },
 }
