@@ -1,8 +1,7 @@
 -- Places of names in a list and in its index.
-use Rattle.std.proofs.Common.{◌≡◌, ℕ, suc, ◌+◌, Bool, true, false, cond, List, [], ◌∷◌, ◌++◌, length, Option, Some, None, refl, sym, ap, ◌∙◌, add-one, arith}
-use Rattle.std.specs.List.{slice_get}
+use Rattle.std.proofs.Common.{◌≡◌, ℕ, ◌+◌, Bool, true, false, cond, List, [], ◌∷◌, ◌++◌, length, Option, Some, None, refl, sym, ap, ◌∙◌, add-one}
 use Rattle.std.specs.Str.{bytes_eq}
-use Rattle.std.specs.Ordering.{nat_cmp, is_eq}
+use Rattle.std.specs.Ordering.{nat_cmp}
 use Rattle.std.specs.Cmp.Lexicographic.{slice_cmp}
 use Rattle.std.specs.BTreeMap.{BTreeMap, UpdatesBy}
 use Rattle.std.proofs.lemmas.Map.Text.{is_eq-slice_cmp}
@@ -79,6 +78,7 @@ entry_there name (n ∷ ns) = by_test (same n.name name) (entry_there name ns)
     later : (o : Option ℕ) → entry (n ∷ ns) (one_later o) ≡ entry ns o
     later None = refl
     later (Some i) = rw add-one refl
+
     by_test : (b : Bool) → entry ns (place_of name ns) ≡ named_in name ns → entry (n ∷ ns) (cond b (Some 0) (one_later (place_of name ns))) ≡ cond b (Some n) (named_in name ns)
     by_test true h = refl
     by_test false h = later (place_of name ns) ∙ h

@@ -1,5 +1,5 @@
 -- Readings of operands, one after another.
-use Rattle.std.proofs.Common.{◌≡◌, ℕ, suc, ◌<◌, ◌≤◌, List, [], ◌∷◌, ◌++◌, length, Bool, true, false, refl, sym, ◌∙◌, ap, arith, cond, append-nil, append_assoc, Option, Some, None}
+use Rattle.std.proofs.Common.{◌≡◌, ℕ, List, [], ◌∷◌, ◌++◌, Bool, true, false, refl, sym, ◌∙◌, ap, arith, append_assoc, Option, Some, None}
 use Rattle.std.specs.Prelude.{Result, Ok, Err, nat_lt}
 use Rattle.std.proofs.lemmas.Bool.{cond-true, cond-false, ltb-true, ltb-false, lt-ltb, le-ltb}
 use Rattle.sdt_fault.specs.declared.kinds.LineKind.{LineKind}
@@ -11,7 +11,7 @@ use Rattle.asm_model.specs.Areas.{attributes_in, attribute_in, listed, ReadsAttr
 use Rattle.asm_model.specs.Directives.{or_else}
 use Rattle.asm_model.specs.Grammar.{ParsesTokens}
 use Rattle.asm_model.specs.Kinds.{earlier, rank}
-use Rattle.asm_model.specs.Operands.{operands_at, operands, lengthened}
+use Rattle.asm_model.specs.Operands.{operands_at, lengthened}
 use Rattle.asm_model.specs.Says.{Expressions, on_both, Aligned}
 use Rattle.asm_expr.specs.Steps.{CutsOperands}
 use Rattle.asm_expr.proofs.OperandLemmas.{begins}

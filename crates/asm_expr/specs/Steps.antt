@@ -1,5 +1,5 @@
 -- Steps of the code. This project's.
-use Rattle.std.specs.Prelude.{◌≡◌, ℕ, ◌<◌, ◌≤◌, ◌+◌, List, [], ◌∷◌, take, drop, length, reverse, Bool, true, false, Option, Some, None, Result, Ok, Err}
+use Rattle.std.specs.Prelude.{◌≡◌, ℕ, ◌<◌, ◌+◌, List, [], ◌∷◌, take, drop, length, reverse, Bool, true, false, Option, Some, None, Result, Ok, Err}
 use Rattle.asm_expr.specs.declared.parser.Held.{Held}
 use Rattle.asm_expr.specs.declared.parser.Parser.{Parser}
 use Rattle.sdt_fault.specs.declared.NoMemory.{NoMemory}

@@ -64,7 +64,10 @@ fn code(attribute: Attribute) -> u8
 fn occurrences(attribute: Attribute, words: &[Attribute]) -> usize
     ensures { result ≡ areas.occurrences attribute words.now }
 {
-    words.iter().filter(|word| code(**word) == code(attribute)).count()
+    words
+        .iter()
+        .filter(|word| code(**word) == code(attribute))
+        .count()
 }
 
 fn has(attribute: Attribute, words: &[Attribute]) -> bool
@@ -92,7 +95,8 @@ const ALL: [Attribute; 10] = [
 fn is_repeated(words: &[Attribute]) -> bool
     ensures { result ≡ areas.is_repeated words.now }
 {
-    ALL.iter().any(|attribute| occurrences(*attribute, words) > 1)
+    ALL.iter()
+        .any(|attribute| occurrences(*attribute, words) > 1)
 }
 
 /// Whether attributes exclude each other.

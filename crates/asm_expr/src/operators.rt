@@ -232,7 +232,12 @@ fn between_places(
     ensures { result ≡ meaning.between_places names.now op s.now p t.now q }
 {
     match op {
-        BinaryOp::Subtract => distance(stands_at(finder, names, s), p, stands_at(finder, names, t), q),
+        BinaryOp::Subtract => distance(
+            stands_at(finder, names, s),
+            p,
+            stands_at(finder, names, t),
+            q,
+        ),
         _ => Err(LineKind::WrongType),
     }
 }

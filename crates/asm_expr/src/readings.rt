@@ -13,7 +13,9 @@ use crate::operands::{first_operand, is, piece_of};
 use crate::parts::inside;
 use crate::read::expression;
 use crate::registers::register_named;
-use asm_model::{AreaAttributes, Boundary, DirectiveLine, Expr, RnOperand, Token, TokenKind, is_called};
+use asm_model::{
+    AreaAttributes, Boundary, DirectiveLine, Expr, RnOperand, Token, TokenKind, is_called,
+};
 use sdt_fault::kinds::LineKind;
 use sdt_fault::{List, NoMemory, Text};
 use std::alloc::Global;
@@ -29,11 +31,7 @@ pub fn bare(line: DirectiveLine, tokens: &[Token]) -> Result<DirectiveLine, Line
 }
 
 /// A token as a name.
-fn name_of(
-    alloc: Global,
-    kind: TokenKind,
-    piece: &[u8],
-) -> Result<Result<Text, LineKind>, NoMemory>
+fn name_of(alloc: Global, kind: TokenKind, piece: &[u8]) -> Result<Result<Text, LineKind>, NoMemory>
     ensures { IfOk result (λ name. name ≡ says.name_of kind piece.now) }
 {
     match kind {

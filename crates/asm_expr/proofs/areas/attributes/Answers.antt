@@ -1,4 +1,4 @@
-use Rattle.std.proofs.Common.{◌≡◌, refl, Ok, None}
+use Rattle.std.proofs.Common.{refl, Ok, None}
 use Rattle.asm_expr.proofs.areas.attributes.Goals as goal
 
 pub returns-in-None : goal.returns-in-None

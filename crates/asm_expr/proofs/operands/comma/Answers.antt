@@ -1,4 +1,4 @@
-use Rattle.std.proofs.Common.{arith, length, refl, ◌≡◌, ◌≤◌, ◌<◌, ◌+◌}
+use Rattle.std.proofs.Common.{arith}
 use Rattle.asm_expr.proofs.OperandLemmas.{begins, comma_step, one_deeper}
 use Rattle.asm_expr.proofs.operands.comma.Goals as goal
 
