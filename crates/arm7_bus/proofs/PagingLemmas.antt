@@ -308,3 +308,12 @@ pub memory_before : (table : List (Option ℕ)) (bytes : List ℕ) (a : ℕ) →
 unfolding memory_in
 memory_before [] bytes a e = refl
 memory_before (o ∷ os) bytes a e = absurd (omega arith)
+
+-- memory holds bytes
+byte_small : (bytes : List ℕ) (at : ℕ) (o : Option ℕ) → ((k : ℕ) → get_or bytes k 0 < 256) → byte_of bytes at o < 256
+byte_small bytes at None h = omega arith
+byte_small bytes at (Some frame) h = h (4096 * frame + at)
+
+pub memory_small : (table : List (Option ℕ)) (bytes : List ℕ) (a : ℕ) → ((k : ℕ) → get_or bytes k 0 < 256) → memory_in table bytes a < 256
+unfolding memory_in
+memory_small table bytes a h = byte_small bytes (a % 4096) (frame_of table (a / 4096)) h

@@ -215,11 +215,14 @@ impl Bus {
     }
 
     /// Each device ticks once, in order. A line is up exactly where a device gives it; no store is noted any more.
+    #[tactic(auto, using(crate::proofs::PagingLemmas::memory_small))]
     pub fn tick(&mut self) -> Lines
         ensures lines { result ≡ lines_up (bus_state base size state touched self.new).devices }
         ensures after { bus_state base size state touched self.new ≡ after_tick (bus_state base size state touched self.old) }
+        ensures bytes { (a : ℕ) → (bus_state base size state touched self.new).contents.memory a < 256 }
     {
         self.memory.forget_stores();
+        self.memory.pages.frames.are_bytes();
         devices::tick(&mut self.devices)
     }
 

@@ -42,6 +42,13 @@ impl Frames {
         })
     }
 
+    /// Each byte is below 256, as bytes are.
+    pub fn are_bytes(&self)
+        ensures { (k : ℕ) → slice_index self.now k < 256 }
+    {
+        each_fits(&self.bytes);
+    }
+
     pub fn read_byte(&self, at: u32) -> u8
         requires { at < length self.now }
         ensures { result ≡ slice_index self.now at }
@@ -97,4 +104,10 @@ impl Frames {
             Width::Word => self.write_word(at, v),
         }
     }
+}
+
+fn each_fits(bytes: &[u8])
+    ensures { (k : ℕ) → slice_index bytes.now k < 256 }
+{
+    let _first = bytes.first();
 }

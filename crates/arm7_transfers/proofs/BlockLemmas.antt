@@ -1,25 +1,24 @@
 -- Blocks of words: they are loaded and stored one after the other.
-use Rattle.std.proofs.Common.{◌≡◌, ℕ, zero, suc, ◌+◌, ◌-◌, ◌*◌, ◌/◌, ◌%◌, ◌^◌, ◌<◌, ◌≤◌, Bool, true, false, not, ◌||◌, ◌==◌, List, [], ◌∷◌, ◌++◌, length, get_or, set, Option, Some, None, refl, sym, ap, ◌∙◌, subst, arith, cond, append-nil, append_assoc, eqb-true}
-use Rattle.std.specs.Prelude.{◌&&◌, nat_le, nat_lt}
+use Rattle.std.proofs.Common.{◌≡◌, ℕ, suc, ◌+◌, ◌-◌, ◌/◌, ◌%◌, ◌^◌, ◌<◌, ◌≤◌, Bool, true, false, not, ◌||◌, List, [], ◌∷◌, ◌++◌, set, refl, sym, ap, ◌∙◌, arith, cond, append-nil, append_assoc, eqb-true}
+use Rattle.std.specs.Prelude.{◌&&◌, nat_lt}
 use Rattle.std.proofs.lemmas.Bool.{eqb-false}
-use Rattle.sdt_word.specs.Numbers.{bit, registers, places_from, kept}
+use Rattle.sdt_word.specs.Numbers.{bit, places_from, kept}
 use Rattle.sdt_word.specs.declared.codes.Width.TheVariants.{Word}
 use Rattle.arm7_model.specs.declared.state.ArmState.{ArmState}
-use Rattle.arm7_model.specs.Accesses.{Access, Load, Store, Working, next_word, read_at, after_load}
-use Rattle.arm7_model.specs.Accesses.{after_store as model_store}
+use Rattle.arm7_model.specs.Accesses.{Access, Load, Store, Working, next_word, after_load}
 use Rattle.arm7_model.specs.Blocks.{all_there, all_may_store, take_all, give_all, lists, listed_at, with_listed}
 use Rattle.arm7_model.specs.Memory.{Board, is_there, may_store}
 use Rattle.arm7_bus.specs.declared.memory.Bank.{Bank}
 use Rattle.arm7_bus.specs.Buses.{after_read, after_write, has_whole}
 use Rattle.arm7_bus.specs.Paging.{used_count, page_used_in}
-use Rattle.arm7_bus.specs.States.{State, Contents, bank_has, is_protected}
+use Rattle.arm7_bus.specs.States.{State, bank_has, is_protected}
 use Rattle.arm7_transfers.specs.BlockAccesses.{loads_of, stores_of, taken, words_in}
 use Rattle.arm7_transfers.specs.Boards.{board_of, working}
-use Rattle.arm7_transfers.specs.Frames.{stored_to, used_with, may_be_stored}
+use Rattle.arm7_transfers.specs.Frames.{stored_to, used_with}
 use Rattle.arm7_transfers.specs.Ready.{IsReady}
 use Rattle.arm7_transfers.specs.Served.{given, value_at, served, answers_to}
 use Rattle.arm7_transfers.proofs.BoardLemmas.{there-whole, may-whole, reads, loads, contents-read, false-true}
-use Rattle.arm7_transfers.proofs.ReadyLemmas.{ready-read, ready-write, board-read, set-grows, set-fresh, set-used}
+use Rattle.arm7_transfers.proofs.ReadyLemmas.{ready-read, ready-write, board-read, set-grows, set-fresh}
 use Rattle.arm7_transfers.proofs.StoreLemmas.{CanStore, Notes, stores-word, board-write, places-write, notes-write}
 
 -- ---- the places of a list
@@ -104,7 +103,7 @@ take-served user (k ∷ ks) a core s later before r h t =
     let rest = answers_to (after_read s a Word) (loads_of ks (next_word a)) ++ later in
     let b = board-read s a Word in
     let t' : all_there (board_of (after_read s a Word)) ks (next_word a) ≡ true =
-        ap (λ (x : Board). all_there x ks (next_word a)) b ∙ and-right (is_there (board_of s) a 4) (all_there (board_of s) ks (next_word a)) t in
+    ap (λ (x : Board). all_there x ks (next_word a)) b ∙ and-right (is_there (board_of s) a 4) (all_there (board_of s) ks (next_word a)) t in
     ap (λ (l : List ℕ). take_all (board_of s) user (k ∷ ks) a (working core s l before)) (append_assoc (given s a Word) (answers_to (after_read s a Word) (loads_of ks (next_word a))) later)
     ∙ ap (λ (v : ℕ). take_all (board_of s) user ks (next_word a) (record (after_load (board_of s) (working core s (given s a Word ++ rest) before) a Word) { core = with_listed user core k v }))
     (reads s a Word core rest before r h there).0
@@ -173,7 +172,7 @@ give-served user from core (k ∷ ks) a s later before r h lt m f =
     let t = after_write s a Word (v % 256 ^ 4) in
     let b = board-write s a Word (v % 256 ^ 4) can in
     let m' : all_may_store (board_of t) ks (next_word a) ≡ true =
-        ap (λ (x : Board). all_may_store x ks (next_word a)) b ∙ and-right (may_store (board_of s) a 4) (all_may_store (board_of s) ks (next_word a)) m in
+    ap (λ (x : Board). all_may_store x ks (next_word a)) b ∙ and-right (may_store (board_of s) a 4) (all_may_store (board_of s) ks (next_word a)) m in
     ap (λ (w : Working). give_all (board_of s) user from ks (next_word a) w) (stores-word s a Word v core later before r h can)
     ∙ ap (λ (x : Board). give_all x user from ks (next_word a) (working core t later (before ++ Store a Word (v % 256 ^ 4) ∷ []))) (sym b)
     ∙ give-served user from core ks (next_word a) t later (before ++ Store a Word (v % 256 ^ 4) ∷ []) (ready-write s a Word (v % 256 ^ 4) r) (next-whole a h) (next-small a) m'

@@ -1,23 +1,23 @@
 -- The two blocks, as the code does them.
-use Rattle.std.proofs.Common.{◌≡◌, ℕ, ◌+◌, ◌-◌, ◌*◌, ◌/◌, ◌%◌, ◌^◌, ◌<◌, ◌≤◌, Bool, true, false, not, ◌==◌, List, [], ◌∷◌, ◌++◌, length, Option, Some, None, refl, sym, ap, ◌∙◌, subst, arith, append-nil, append_assoc}
+use Rattle.std.proofs.Common.{◌≡◌, ℕ, ◌%◌, ◌^◌, ◌<◌, ◌≤◌, Bool, true, false, not, ◌==◌, List, [], ◌∷◌, ◌++◌, length, Some, refl, sym, ap, ◌∙◌, arith, append-nil, append_assoc}
 use Rattle.std.specs.Prelude.{◌&&◌, nat_le}
 use Rattle.arm7_model.specs.declared.state.ArmState.{ArmState}
 use Rattle.sdt_word.specs.declared.codes.Width.TheVariants.{Word}
 use Rattle.arm7_model.specs.Accesses.{Access, Store, Working, aligned, next_word}
 use Rattle.arm7_model.specs.Accesses.{after_store as model_store}
-use Rattle.arm7_model.specs.Blocks.{all_there, all_may_store, listed_at, lists, block_moved, block_start, block_end, block_loaded, block_stored, take_end, give_all, take_all, with_block_base, with_loaded_pc}
+use Rattle.arm7_model.specs.Blocks.{all_there, all_may_store, listed_at, lists, block_moved, block_start, block_end, block_loaded, block_stored, take_end, give_all, with_block_base, with_loaded_pc}
 use Rattle.arm7_model.specs.Memory.{Board}
-use Rattle.arm7_model.specs.Outcomes.{Stepped, Under, ran, aborted, given_back}
+use Rattle.arm7_model.specs.Outcomes.{Under, ran, given_back}
 use Rattle.arm7_model.specs.Registers.{register}
 use Rattle.arm7_bus.specs.Paging.{used_count}
 use Rattle.arm7_bus.specs.States.{State, Contents}
 use Rattle.arm7_transfers.specs.declared.outcome.Outcome.TheVariants as outcome
 use Rattle.arm7_transfers.specs.BlockAccesses.{loads_of, stores_of, taken, words_in}
 use Rattle.arm7_transfers.specs.Boards.{board_of, working}
-use Rattle.arm7_transfers.specs.Done.{Part, Makes, Lacks, IsDone, ended_by}
+use Rattle.arm7_transfers.specs.Done.{Part, Makes, Lacks, IsDone}
 use Rattle.arm7_transfers.specs.declared.outcome.Outcome.{Outcome}
 use Rattle.sdt_word.specs.Numbers.{registers}
-use Rattle.arm7_transfers.specs.Frames.{has_frames, least_unused, stored_to, used_with}
+use Rattle.arm7_transfers.specs.Frames.{has_frames, least_unused, used_with}
 use Rattle.arm7_transfers.specs.Ready.{IsReady}
 use Rattle.arm7_transfers.specs.Served.{served, answers_to}
 use Rattle.arm7_transfers.proofs.BlockLemmas.{contents-loads, no-stores, take-served, no-answers, stored-words, give-served}

@@ -1,22 +1,21 @@
 -- The board of a bus: what it says of an aligned access is what the bus says, and accesses leave it as it is.
-use Rattle.std.proofs.Common.{◌≡◌, ℕ, zero, suc, ◌+◌, ◌-◌, ◌*◌, ◌%◌, ◌^◌, ◌<◌, ◌≤◌, Bool, true, false, not, ◌||◌, List, [], ◌∷◌, ◌++◌, drop, Option, Some, None, is_some, refl, sym, ap, ◌∙◌, arith, cond}
-use Rattle.std.specs.Prelude.{◌&&◌, nat_le, slice_index, if◌then◌else◌}
-use Rattle.std.specs.List.{list_any, find}
+use Rattle.std.proofs.Common.{◌≡◌, ℕ, zero, suc, ◌+◌, ◌%◌, ◌^◌, ◌<◌, ◌≤◌, Bool, true, false, not, ◌||◌, List, [], ◌∷◌, ◌++◌, Option, Some, None, is_some, refl, sym, ap, ◌∙◌, arith, cond}
+use Rattle.std.specs.Prelude.{◌&&◌, nat_le}
 use Rattle.sdt_word.specs.declared.codes.Width.{Width}
 use Rattle.sdt_word.specs.declared.codes.Width.TheVariants.{Byte, Half, Word}
 use Rattle.sdt_word.specs.Codes.{bytes_in}
 use Rattle.arm7_model.specs.declared.state.ArmState.{ArmState}
-use Rattle.arm7_model.specs.Memory.{Board, all_from, any_from, in_memory, is_there, may_store}
-use Rattle.arm7_model.specs.Accesses.{Access, Working, Fetch, Load, read_at, answers_after, after_load, after_fetch}
+use Rattle.arm7_model.specs.Memory.{all_from, in_memory, is_there, may_store}
+use Rattle.arm7_model.specs.Accesses.{Access, Fetch, Load, read_at, answers_after, after_load, after_fetch}
 use Rattle.arm7_model.proofs.MemoryLemmas.{all-from}
 use Rattle.arm7_bus.specs.declared.memory.Bank.{Bank}
 use Rattle.arm7_bus.specs.Buses.{after_read, has_whole}
 use Rattle.arm7_bus.specs.Meets.{seats_have}
 use Rattle.arm7_bus.specs.Seats.{Seat, has_access, device_at, seat_answer}
-use Rattle.arm7_bus.specs.States.{State, Contents, bank_has, is_protected, protected_at}
+use Rattle.arm7_bus.specs.States.{State, bank_has, is_protected}
 use Rattle.arm7_bus.specs.WholeWords.{IsWhole, AreWholeBanks, AreWholeSeats}
 use Rattle.arm7_transfers.specs.Boards.{board_of, working}
-use Rattle.arm7_transfers.specs.Ready.{IsReady, IsLaidOut}
+use Rattle.arm7_transfers.specs.Ready.{IsReady}
 use Rattle.arm7_transfers.specs.Served.{given, value_at}
 
 -- ---- truth values
@@ -118,9 +117,9 @@ pub there-whole : (s : State) (a : ℕ) (width : Width) → IsReady s → a % by
 unfolding is_there board_of
 there-whole s a width r h =
     let memory = all-same (λ x. bank_has s.contents.banks x 1) a (bytes_in width) (bank_has s.contents.banks a (bytes_in width)) (some-bytes width)
-        (λ k lt. bank-whole s.contents.banks a k width r.laid_out.banks h lt) in
+    (λ k lt. bank-whole s.contents.banks a k width r.laid_out.banks h lt) in
     let device = all-same (λ x. seats_have s.devices x) a (bytes_in width) (is_some (device_at s.devices a (bytes_in width))) (some-bytes width)
-        (λ k lt. seat-whole s.devices a k width r.laid_out.devices h lt) in
+    (λ k lt. seat-whole s.devices a k width r.laid_out.devices h lt) in
     rw (memory, device) (or-if (bank_has s.contents.banks a (bytes_in width)) (is_some (device_at s.devices a (bytes_in width))))
 
 pub may-whole : (s : State) (a : ℕ) (width : Width) → IsReady s → a % bytes_in width ≡ 0

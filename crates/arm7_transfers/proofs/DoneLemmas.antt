@@ -1,21 +1,20 @@
 -- Parts of an instruction that make no access, or one read.
-use Rattle.std.proofs.Common.{◌≡◌, ℕ, ◌+◌, ◌*◌, ◌%◌, ◌^◌, ◌<◌, ◌≤◌, Bool, true, false, not, ◌==◌, List, [], ◌∷◌, ◌++◌, length, refl, sym, ap, ◌∙◌, subst, arith, append_assoc, append-nil}
+use Rattle.std.proofs.Common.{◌≡◌, ℕ, ◌%◌, ◌≤◌, Bool, true, false, not, ◌==◌, List, [], ◌∷◌, ◌++◌, refl, sym, ap, ◌∙◌, arith, append-nil}
 use Rattle.std.specs.Prelude.{◌&&◌, nat_le}
 use Rattle.sdt_word.specs.declared.codes.Width.{Width}
 use Rattle.sdt_word.specs.declared.codes.Width.TheVariants.{Byte, Half, Word}
 use Rattle.sdt_word.specs.Codes.{bytes_in}
 use Rattle.arm7_model.specs.declared.state.ArmState.{ArmState}
-use Rattle.arm7_model.specs.Accesses.{Access, Load, aligned, after_load, read_at}
-use Rattle.arm7_model.specs.Memory.{Board, is_there}
-use Rattle.arm7_model.specs.Outcomes.{Stepped, Under, ran, aborted, given_back}
+use Rattle.arm7_model.specs.Accesses.{Access, Load, aligned}
+use Rattle.arm7_model.specs.Outcomes.{Stepped, Under, given_back}
 use Rattle.arm7_model.specs.Registers.{with_result}
-use Rattle.arm7_model.specs.Transfers.{loaded, load_end, loaded_value, with_base}
+use Rattle.arm7_model.specs.Transfers.{loaded, load_end, loaded_value}
 use Rattle.arm7_bus.specs.Buses.{after_read, has_whole}
 use Rattle.arm7_bus.specs.States.{State, Contents}
 use Rattle.arm7_transfers.specs.declared.outcome.Outcome.{Outcome}
 use Rattle.arm7_transfers.specs.declared.outcome.Outcome.TheVariants as outcome
 use Rattle.arm7_transfers.specs.Boards.{board_of, working}
-use Rattle.arm7_transfers.specs.Done.{Part, Makes, Lacks, IsDone, IsKept, ended_by}
+use Rattle.arm7_transfers.specs.Done.{Part, Makes, IsDone, IsKept, ended_by}
 use Rattle.arm7_transfers.specs.Ready.{IsReady}
 use Rattle.arm7_transfers.specs.Served.{given, value_at, answers_to}
 use Rattle.arm7_transfers.proofs.BoardLemmas.{there-whole, reads, loads, contents-read}
@@ -74,12 +73,16 @@ done-as part other core s outcome.Aborted core' s' same m = makes-as part other 
 done-as part other core s outcome.Unpredictable core' s' same m = makes-as part other core s outcome.Unpredictable core' s' same m
 done-as part other core s (outcome.Raised e) core' s' same m = makes-as part other core s (outcome.Raised e) core' s' same m
 done-as part other core s (outcome.Host n) core' s' same m = makes-as part other core s (outcome.Host n) core' s' same m
-done-as part other core s (outcome.NoFrame a) core' s' same m = (record {
-  asked = m.0.asked;
-  exact = λ u later before e. ap (λ (t : Stepped). t.accesses) (same u (answers_to s m.0.asked ++ later) before) ∙ m.0.exact u later before e;
-  frames = m.0.frames;
-  least = m.0.least;
-}, m.1, m.2)
+done-as part other core s (outcome.NoFrame a) core' s' same m = (
+  record {
+    asked = m.0.asked;
+    exact = λ u later before e. ap (λ (t : Stepped). t.accesses) (same u (answers_to s m.0.asked ++ later) before) ∙ m.0.exact u later before e;
+    frames = m.0.frames;
+    least = m.0.least;
+  },
+  m.1,
+  m.2,
+)
 
 -- ---- an address that is aligned
 

@@ -1,19 +1,17 @@
 -- What accesses and time leave as it is: the board, and that a bus is ready.
-use Rattle.std.proofs.Common.{◌≡◌, ℕ, zero, suc, ◌+◌, ◌-◌, ◌*◌, ◌/◌, ◌%◌, ◌^◌, ◌<◌, ◌≤◌, Bool, true, false, not, ◌||◌, List, [], ◌∷◌, ◌++◌, length, get_or, set, map, Option, Some, None, is_some, refl, sym, ap, ◌∙◌, subst, arith, cond}
-use Rattle.std.specs.Prelude.{◌&&◌, nat_le, nat_lt, count_by}
+use Rattle.std.proofs.Common.{◌≡◌, ℕ, zero, suc, ◌+◌, ◌/◌, ◌%◌, ◌<◌, ◌≤◌, Bool, true, false, ◌||◌, List, [], ◌∷◌, length, get_or, set, map, Some, None, is_some, refl, sym, ap, ◌∙◌, subst, arith, cond}
+use Rattle.std.specs.Prelude.{nat_lt}
 use Rattle.std.proofs.Math.Path.{fun_ext}
 use Rattle.std.proofs.lemmas.List.{length-set}
 use Rattle.std.proofs.lemmas.List.Sums.{sum_by-cons}
-use Rattle.std.proofs.lemmas.Bool.{leb-true}
 use Rattle.std.proofs.Common.{ltb-true}
 use Rattle.sdt_word.specs.declared.codes.Width.{Width}
 use Rattle.sdt_word.specs.Codes.{bytes_in}
 use Rattle.arm7_model.specs.Memory.{Board}
 use Rattle.arm7_bus.specs.declared.memory.Bank.{Bank}
-use Rattle.arm7_bus.specs.declared.memory.BusFault.{BusFault}
 use Rattle.arm7_bus.specs.declared.memory.BusFault.TheVariants.{NoFrame, ReadOnly}
 use Rattle.arm7_bus.specs.Buses.{after_read, after_write, after_tick}
-use Rattle.arm7_bus.specs.Meets.{IsNowhere, seats_have, seats_share}
+use Rattle.arm7_bus.specs.Meets.{seats_have, seats_share}
 use Rattle.arm7_bus.specs.Paging.{used_count, page_used_in}
 use Rattle.arm7_bus.specs.Seats.{Seat, has_access, device_at, changed_at, seat_read, seat_written, seat_ticked}
 use Rattle.arm7_bus.specs.States.{State, Contents, bank_has, is_protected, protected_at, store_fault, after_store, noted, store_leaves}

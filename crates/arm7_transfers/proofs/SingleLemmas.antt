@@ -1,5 +1,5 @@
 -- The same of a load, a store and the swap, by what each call of the code gave.
-use Rattle.std.proofs.Common.{◌≡◌, ℕ, ◌%◌, ◌^◌, ◌<◌, ◌≤◌, Bool, true, false, not, ◌==◌, List, [], refl, sym, ap, ◌∙◌, subst, arith}
+use Rattle.std.proofs.Common.{◌≡◌, ℕ, ◌%◌, ◌^◌, ◌<◌, Bool, true, false, not, ◌==◌, refl, sym, ap, ◌∙◌, subst}
 use Rattle.std.specs.Prelude.{◌&&◌}
 use Rattle.sdt_word.specs.declared.codes.Width.{Width}
 use Rattle.sdt_word.specs.Codes.{bytes_in}
@@ -10,7 +10,7 @@ use Rattle.arm7_model.specs.Transfers.{loaded_value, transfer_address, transferr
 use Rattle.arm7_bus.specs.Buses.{after_read, after_write, has_whole}
 use Rattle.arm7_bus.specs.States.{State}
 use Rattle.arm7_transfers.specs.declared.outcome.Outcome.TheVariants as outcome
-use Rattle.arm7_transfers.specs.Done.{Part, Makes, Lacks, IsDone}
+use Rattle.arm7_transfers.specs.Done.{Makes, Lacks, IsDone}
 use Rattle.arm7_transfers.specs.declared.outcome.Outcome.{Outcome}
 use Rattle.arm7_transfers.specs.Frames.{lacks_frame, may_be_stored}
 use Rattle.arm7_transfers.specs.Ready.{IsReady}

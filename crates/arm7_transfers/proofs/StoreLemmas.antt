@@ -1,26 +1,24 @@
 -- Stores: what one leaves of a bus, and when there is a frame for it.
-use Rattle.std.proofs.Common.{◌≡◌, ℕ, zero, suc, ◌+◌, ◌-◌, ◌*◌, ◌/◌, ◌%◌, ◌^◌, ◌<◌, ◌≤◌, Bool, true, false, not, ◌||◌, ◌==◌, List, [], ◌∷◌, ◌++◌, length, get_or, set, Option, Some, None, is_some, refl, sym, ap, ◌∙◌, subst, arith, cond, append-nil, append_assoc, length-append, eqb-true}
-use Rattle.std.specs.Prelude.{◌&&◌, nat_le, nat_lt}
-use Rattle.std.proofs.lemmas.Bool.{eqb-false, ltb-true}
+use Rattle.std.proofs.Common.{◌≡◌, ℕ, ◌+◌, ◌-◌, ◌/◌, ◌%◌, ◌^◌, ◌<◌, ◌≤◌, Bool, true, false, not, ◌||◌, ◌==◌, List, [], ◌∷◌, ◌++◌, length, set, Some, is_some, refl, sym, ap, ◌∙◌, subst, arith, cond, length-append, eqb-true}
+use Rattle.std.specs.Prelude.{nat_le, nat_lt}
+use Rattle.std.proofs.lemmas.Bool.{eqb-false}
 use Rattle.sdt_word.specs.declared.codes.Width.{Width}
 use Rattle.sdt_word.specs.declared.codes.Width.TheVariants.{Byte, Half, Word}
 use Rattle.sdt_word.specs.Bytes.{bytes_of}
 use Rattle.sdt_word.specs.Codes.{bytes_in}
 use Rattle.arm7_model.specs.declared.state.ArmState.{ArmState}
-use Rattle.arm7_model.specs.Accesses.{Access, Store, Working, aligned, memory_after}
+use Rattle.arm7_model.specs.Accesses.{Access, Store, memory_after}
 use Rattle.arm7_model.specs.Accesses.{after_store as model_store}
-use Rattle.arm7_model.specs.Memory.{Board, store, in_memory, may_store}
-use Rattle.arm7_bus.specs.declared.memory.BusFault.{BusFault}
-use Rattle.arm7_bus.specs.declared.memory.BusFault.TheVariants.{NoFrame, ReadOnly}
-use Rattle.arm7_bus.specs.Buses.{after_write, has_whole, needs_page}
+use Rattle.arm7_model.specs.Memory.{store}
+use Rattle.arm7_bus.specs.Buses.{after_write, has_whole}
 use Rattle.arm7_bus.specs.Paging.{used_count, page_used_in}
-use Rattle.arm7_bus.specs.Seats.{Seat, device_at, changed_at, seat_written}
-use Rattle.arm7_bus.specs.States.{State, Contents, bank_has, is_protected, store_fault, after_store, noted, store_leaves}
+use Rattle.arm7_bus.specs.Seats.{device_at, changed_at, seat_written}
+use Rattle.arm7_bus.specs.States.{State, bank_has, is_protected, after_store, noted}
 use Rattle.arm7_transfers.specs.Boards.{board_of, working}
-use Rattle.arm7_transfers.specs.Frames.{has_frames, least_unused, stored_to, used_with, lacks_frame}
+use Rattle.arm7_transfers.specs.Frames.{has_frames, least_unused, stored_to, lacks_frame}
 use Rattle.arm7_transfers.specs.Ready.{IsReady}
 use Rattle.arm7_transfers.proofs.BoardLemmas.{memory-whole, false-true}
-use Rattle.arm7_transfers.proofs.ReadyLemmas.{SamePlaces, board-same, changes, stays, written-kept, set-used, set-fresh}
+use Rattle.arm7_transfers.proofs.ReadyLemmas.{SamePlaces, board-same, changes, written-kept, set-used, set-fresh}
 
 -- ---- what a write changes
 

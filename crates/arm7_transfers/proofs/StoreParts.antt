@@ -1,24 +1,23 @@
 -- The store of one register, and the swap.
-use Rattle.std.proofs.Common.{◌≡◌, ℕ, ◌+◌, ◌-◌, ◌*◌, ◌/◌, ◌%◌, ◌^◌, ◌<◌, ◌≤◌, Bool, true, false, not, ◌==◌, List, [], ◌∷◌, ◌++◌, length, refl, sym, ap, ◌∙◌, subst, arith, append_assoc, append-nil}
-use Rattle.std.specs.Prelude.{◌&&◌, nat_le, Some}
+use Rattle.std.proofs.Common.{◌≡◌, ℕ, ◌%◌, ◌^◌, ◌<◌, Bool, true, false, not, List, [], ◌∷◌, ◌++◌, refl, sym, ap, ◌∙◌, append_assoc, append-nil}
+use Rattle.std.specs.Prelude.{◌&&◌}
 use Rattle.sdt_word.specs.declared.codes.Width.{Width}
 use Rattle.sdt_word.specs.Codes.{bytes_in}
 use Rattle.arm7_model.specs.declared.state.ArmState.{ArmState}
-use Rattle.arm7_model.specs.Accesses.{Access, Load, Store, Working, aligned, after_load, read_at}
+use Rattle.arm7_model.specs.Accesses.{Load, Store, aligned, after_load}
 use Rattle.arm7_model.specs.Accesses.{after_store as model_store}
-use Rattle.arm7_model.specs.Memory.{Board, is_there, may_store}
-use Rattle.arm7_model.specs.Outcomes.{Under, Stepped, ran, aborted}
+use Rattle.arm7_model.specs.Memory.{Board, is_there}
+use Rattle.arm7_model.specs.Outcomes.{ran}
 use Rattle.arm7_model.specs.Registers.{register, with_register, stored_at}
 use Rattle.arm7_model.specs.Transfers.{stored, swapped, loaded_value}
 use Rattle.arm7_bus.specs.Buses.{after_read, after_write, has_whole}
-use Rattle.arm7_bus.specs.Paging.{used_count}
-use Rattle.arm7_bus.specs.States.{State, Contents, bank_has, is_protected}
+use Rattle.arm7_bus.specs.States.{State, Contents, is_protected}
 use Rattle.arm7_transfers.specs.declared.outcome.Outcome.TheVariants as outcome
-use Rattle.arm7_transfers.specs.Boards.{board_of, working}
+use Rattle.arm7_transfers.specs.Boards.{working}
 use Rattle.arm7_transfers.specs.Done.{Part, Makes, Lacks}
-use Rattle.arm7_transfers.specs.Frames.{has_frames, lacks_frame, may_be_stored, stored_to, least_unused}
+use Rattle.arm7_transfers.specs.Frames.{lacks_frame, may_be_stored}
 use Rattle.arm7_transfers.specs.Ready.{IsReady}
-use Rattle.arm7_transfers.specs.Served.{given, value_at, answers_to, served}
+use Rattle.arm7_transfers.specs.Served.{given, value_at}
 use Rattle.arm7_transfers.proofs.BoardLemmas.{there-whole, may-whole, reads, loads, contents-read, false-true}
 use Rattle.arm7_transfers.proofs.ReadyLemmas.{ready-read, board-read}
 use Rattle.arm7_transfers.proofs.DoneLemmas.{makes-nothing, aligned-whole}
@@ -69,8 +68,11 @@ unfolding stored ran
 store-ran width a rd based core s r m l lt = record {
   made = Store (aligned a (bytes_in width)) width (stored_at core rd % 256 ^ bytes_in width) ∷ [];
   exact = λ u later before e.
-      rw (e, may-whole s (aligned a (bytes_in width)) width r (aligned-whole a width) ∙ m,
-      stores-word s (aligned a (bytes_in width)) width (stored_at core rd) core later before r (aligned-whole a width) (may-can s (aligned a (bytes_in width)) (bytes_in width) m l)) refl;
+      rw (
+        e,
+        may-whole s (aligned a (bytes_in width)) width r (aligned-whole a width) ∙ m,
+        stores-word s (aligned a (bytes_in width)) width (stored_at core rd) core later before r (aligned-whole a width) (may-can s (aligned a (bytes_in width)) (bytes_in width) m l),
+      ) refl;
   after = refl;
   frames = one-frame s (aligned a (bytes_in width)) width (stored_at core rd % 256 ^ bytes_in width) r lt ∙ ap not l;
   kept = tt;
@@ -134,10 +136,16 @@ swap-ran width rn rd rm core s v r m l lt ev =
       made = Load a width ∷ Store a width (register core rm % 256 ^ bytes_in width) ∷ [];
       exact = λ u later before e.
           ap (λ (answers : List ℕ). swapped u width rn rd rm (working core s (answers ++ later) before)) (append-nil (given s a width))
-          ∙ rw (e, may-whole s a width r h ∙ m, (reads s a width core later before r h there).0, loads s a width core later before r h there,
-          sym (board-read s a width),
-          stores-word (after_read s a width) a width (register core rm) core later (before ++ Load a width ∷ []) (ready-read s a width r) h can,
-          append_assoc before (Load a width ∷ []) (Store a width (register core rm % 256 ^ bytes_in width) ∷ []), ev) refl;
+          ∙ rw (
+            e,
+            may-whole s a width r h ∙ m,
+            (reads s a width core later before r h there).0,
+            loads s a width core later before r h there,
+            sym (board-read s a width),
+            stores-word (after_read s a width) a width (register core rm) core later (before ++ Load a width ∷ []) (ready-read s a width r) h can,
+            append_assoc before (Load a width ∷ []) (Store a width (register core rm % 256 ^ bytes_in width) ∷ []),
+            ev,
+          ) refl;
       after = refl;
       frames = one-frame s a width (register core rm % 256 ^ bytes_in width) r lt ∙ ap not l;
       kept = tt;

@@ -1,5 +1,5 @@
 -- What accesses leave of a bus, and what its devices answer to them. This project's.
-use Rattle.std.specs.Prelude.{ℕ, ◌^◌, ◌%◌, if◌then◌else◌, List, [], ◌∷◌, ◌++◌, option_map, unwrap_or}
+use Rattle.std.specs.Prelude.{ℕ, if◌then◌else◌, List, [], ◌∷◌, ◌++◌, option_map, unwrap_or}
 use Rattle.std.specs.Option.{option_to_list}
 use Rattle.sdt_word.specs.declared.codes.Width.{Width}
 use Rattle.sdt_word.specs.Codes.{bytes_in}

@@ -66,14 +66,7 @@ pub fn loaded(
 }
 
 /// Stores register `rd` at address `a`, and then writes the base back.
-pub fn stored(
-    core: &mut ArmState,
-    bus: &mut Bus,
-    width: Width,
-    a: u32,
-    rd: u8,
-    by: Base,
-) -> Outcome
+pub fn stored(core: &mut ArmState, bus: &mut Bus, width: Width, a: u32, rd: u8, by: Base) -> Outcome
     requires ready { IsReady (state_of base size state touched bus.old) }
     requires quiet { (state_of base size state touched bus.old).contents.stores ≡ [] }
     requires to { rd < 16 }
@@ -94,14 +87,7 @@ pub fn stored(
 }
 
 /// Loads register `rd` from the address in register `rn`, and stores register `rm` there.
-pub fn swapped(
-    core: &mut ArmState,
-    bus: &mut Bus,
-    width: Width,
-    rn: u8,
-    rd: u8,
-    rm: u8,
-) -> Outcome
+pub fn swapped(core: &mut ArmState, bus: &mut Bus, width: Width, rn: u8, rd: u8, rm: u8) -> Outcome
     requires ready { IsReady (state_of base size state touched bus.old) }
     requires quiet { (state_of base size state touched bus.old).contents.stores ≡ [] }
     requires at { rn < 16 }

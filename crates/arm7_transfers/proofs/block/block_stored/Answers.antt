@@ -9,9 +9,12 @@ returns-then-not-all_may_store-clause-done g c =
     c.requires.ready c.all_may_store.ensures c.if-not-all_may_store.true
 
 pub returns-in-Some-clause-done : goal.returns-in-Some-clause-done
-returns-in-Some-clause-done g c =
-    (give_lacking c.args.by.user c.args.by.write_back (registers 16 c.args.by.list) c.args.a c.args.by.register c.args.end c.in-Some.address c.args.core.now _ c.all_may_store.result
-    c.requires.ready c.all_may_store.ensures c.if-not-all_may_store.false c.in-Some.ensures.more c.in-Some.ensures.least, refl, refl)
+returns-in-Some-clause-done g c = (
+  give_lacking c.args.by.user c.args.by.write_back (registers 16 c.args.by.list) c.args.a c.args.by.register c.args.end c.in-Some.address c.args.core.now _ c.all_may_store.result
+      c.requires.ready c.all_may_store.ensures c.if-not-all_may_store.false c.in-Some.ensures.more c.in-Some.ensures.least,
+  refl,
+  refl,
+)
 
 pub returns-clause-done : goal.returns-clause-done
 returns-clause-done g c =

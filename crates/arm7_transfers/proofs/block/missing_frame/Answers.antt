@@ -1,4 +1,3 @@
-use Rattle.std.proofs.Common.{◌∙◌, sym, arith, refl}
 use Rattle.arm7_transfers.proofs.BlockSteps.{fits_none, fits_left, misses_left, words_need, sixteen}
 use Rattle.arm7_transfers.proofs.block.missing_frame.Goals as goal
 

@@ -10,11 +10,14 @@ returns-then-not-may_store-clause-done g c =
     c.requires.ready c.aligned-at.ensures c.may_store.ensures c.if-not-may_store.true
 
 pub returns-then-lacks_frame-clause-done : goal.returns-then-lacks_frame-clause-done
-returns-then-lacks_frame-clause-done g c =
-    (store_lacking c.args.width c.args.a c.args.rd (with_base c.args.by.pre c.args.by.up c.args.by.write_back c.args.by.register c.args.by.offset)
-    c.args.core.now _ c.aligned-at.result c.may_store.result c.lacks_frame.result
-    c.requires.ready c.aligned-at.type_inv c.aligned-at.ensures c.may_store.ensures c.if-not-may_store.false
-    c.lacks_frame.ensures c.if-lacks_frame.true, refl, refl)
+returns-then-lacks_frame-clause-done g c = (
+  store_lacking c.args.width c.args.a c.args.rd (with_base c.args.by.pre c.args.by.up c.args.by.write_back c.args.by.register c.args.by.offset)
+      c.args.core.now _ c.aligned-at.result c.may_store.result c.lacks_frame.result
+      c.requires.ready c.aligned-at.type_inv c.aligned-at.ensures c.may_store.ensures c.if-not-may_store.false
+      c.lacks_frame.ensures c.if-lacks_frame.true,
+  refl,
+  refl,
+)
 
 pub returns-clause-done : goal.returns-clause-done
 returns-clause-done g c =

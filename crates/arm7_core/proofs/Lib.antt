@@ -1,0 +1,4 @@
+pub mod ArmParts
+pub mod ArmSteps
+pub mod MachineSteps
+pub mod ResetLemmas

@@ -1,0 +1,52 @@
+//! A step in ARM state.
+
+ghost use Rattle.std.specs.Prelude.{◌≡◌, [], false};
+ghost use Rattle.arm7_model.specs.Registers.{is_thumb};
+ghost use Rattle.arm7_steps.specs.Steps.{Executes, IsStepped};
+ghost use Rattle.arm7_transfers.specs.Ready.{IsReady};
+ghost use Rattle.arm7_transfers.specs.Views.{state_of};
+
+use crate::effect::do_arm;
+use arm_isa::decode_arm;
+use arm7_bus::Bus;
+use arm7_model::{ArmState, Event};
+use arm7_registers::{advance, register};
+use arm7_steps::{finish, prefetch_abort};
+use arm7_transfers::{Outcome, is_there, read};
+use sdt_outside::Device;
+use sdt_word::Width;
+
+/// Does what the instruction of a word does; a word that reads as none is unpredictable.
+fn execute(core: &mut ArmState, bus: &mut Bus, word: u32) -> Outcome
+    requires ready { IsReady (state_of base size state touched bus.old) }
+    requires quiet { (state_of base size state touched bus.old).contents.stores ≡ [] }
+    ensures executes { Executes false word core.old (state_of base size state touched bus.old) result core.new (state_of base size state touched bus.new) }
+    ensures ready { IsReady (state_of base size state touched bus.new) }
+{
+    match decode_arm(word) {
+        Some(i) => do_arm(core, bus, &i),
+        None => Outcome::Unpredictable,
+    }
+}
+
+/// A step in ARM state, after the devices' ticks and with no interrupt to come. It is the model's, with the answers of
+/// the bus's devices; where a page has no frame, only its fetch is made.
+pub fn step_arm(core: &mut ArmState, bus: &mut Bus) -> Event
+    requires arm { is_thumb core.old.cpsr ≡ false }
+    requires ready { IsReady (state_of base size state touched bus.old) }
+    requires quiet { (state_of base size state touched bus.old).contents.stores ≡ [] }
+    ensures step { IsStepped core.old (state_of base size state touched bus.old) result core.new (state_of base size state touched bus.new) }
+    ensures ready { IsReady (state_of base size state touched bus.new) }
+{
+    let at = register(core, 15);
+    if at % 4 != 0 {
+        return Event::Unpredictable(0);
+    }
+    if !is_there(bus, at, Width::Word) {
+        return prefetch_abort(core, at);
+    }
+    let word = read(bus, at, Width::Word);
+    advance(core);
+    let outcome = execute(core, bus, word);
+    finish(core, at, word, outcome)
+}

@@ -1,0 +1,10 @@
+//! The machine: an ARM7TDMI over a bus.
+#![tactic(auto)]
+
+mod acts;
+mod arm;
+mod effect;
+mod machine;
+mod step;
+
+pub use crate::machine::Machine;

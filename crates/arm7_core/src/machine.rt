@@ -1,0 +1,57 @@
+//! The machine.
+
+ghost use Rattle.std.specs.Prelude.{◌≡◌};
+ghost use Rattle.arm7_model.specs.Registers.{IsValid};
+ghost use Rattle.arm7_transfers.specs.Ready.{IsReady};
+ghost use Rattle.arm7_transfers.specs.Views.{state_of};
+ghost use Rattle.arm7_core.specs.Machines.{IsStep};
+
+use crate::step::step_state;
+use arm7_bus::Bus;
+use arm7_model::{ArmState, Banks, Event, step_is_valid};
+use sdt_outside::Device;
+
+/// An ARM7TDMI.
+#[derive(Clone, Copy, Debug, PartialEq, Eq)]
+pub struct Machine {
+    pub state: ArmState,
+}
+
+impl Machine {
+    ghost use Rattle.arm7_core.specs.Resets.{IsReset};
+
+    /// The machine after reset, at this address: supervisor mode, ARM state, interrupts masked, all other registers 0.
+    pub fn reset(pc: u32) -> Machine
+        ensures { IsReset pc result.state }
+    {
+        let mut r = [0; 16];
+        r[15] = pc;
+        let banks = Banks {
+            high: [0; 5],
+            r13: [0; 6],
+            r14: [0; 6],
+        };
+        Machine {
+            state: ArmState {
+                r,
+                banks,
+                cpsr: 0xD3,
+                spsr: [0; 5],
+            },
+        }
+    }
+
+    /// One step: each device of the bus ticks, and then the processor takes an interrupt or does one instruction. After
+    /// [`Event::Unpredictable`] and [`Event::NoFrame`] the state is as before.
+    pub fn step(&mut self, bus: &mut Bus) -> Event
+        requires valid { IsValid self.old.state }
+        requires ready { IsReady (state_of base size state touched bus.old) }
+        ensures step { IsStep self.old.state (state_of base size state touched bus.old) result self.new.state (state_of base size state touched bus.new) }
+        ensures valid { IsValid self.new.state }
+        ensures ready { IsReady (state_of base size state touched bus.new) }
+    {
+        let event = step_state(&mut self.state, bus);
+        step_is_valid();
+        event
+    }
+}
