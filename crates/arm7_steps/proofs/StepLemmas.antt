@@ -1,6 +1,6 @@
 -- A step by its fetch and by what its instruction did.
-use Rattle.std.proofs.Common.{◌≡◌, ℕ, zero, suc, ◌+◌, ◌%◌, ◌^◌, Bool, true, false, not, List, [], ◌∷◌, ◌++◌, Option, Some, None, is_none, refl, sym, ap, ◌∙◌, subst, append_assoc, append-nil}
-use Rattle.std.specs.Prelude.{◌&&◌, nat_le, slice_index, slice_set}
+use Rattle.std.proofs.Common.{◌≡◌, ℕ, zero, suc, ◌+◌, ◌%◌, ◌^◌, true, false, List, [], ◌∷◌, ◌++◌, None, refl, sym, ap, ◌∙◌, subst, append_assoc}
+use Rattle.std.specs.Prelude.{nat_le, slice_index, slice_set}
 use Rattle.std.proofs.lemmas.List.{set-set}
 use Rattle.sdt_word.specs.declared.codes.Width.{Width}
 use Rattle.sdt_word.specs.Codes.{bytes_in}
@@ -8,21 +8,21 @@ use Rattle.arm7_model.specs.declared.state.ArmState.{ArmState}
 use Rattle.arm7_model.specs.declared.event.Event.TheVariants as event
 use Rattle.arm7_model.specs.declared.event.Exception.{Exception}
 use Rattle.arm7_model.specs.declared.event.Exception.TheVariants as exception
-use Rattle.arm7_model.specs.Memory.{Board, Bytes, is_there}
-use Rattle.arm7_model.specs.Registers.{State as Whole, register, with_register, is_thumb}
-use Rattle.arm7_model.specs.Accesses.{Access, Fetch, Working}
+use Rattle.arm7_model.specs.Memory.{Bytes}
+use Rattle.arm7_model.specs.Registers.{register, with_register, is_thumb}
+use Rattle.arm7_model.specs.Accesses.{Access, Fetch}
 use Rattle.arm7_model.specs.Outcomes.{Stepped, Under, entered, ran, took, raised, aborted, hosted, given_back}
-use Rattle.arm7_model.specs.Step.{Instruction, Levels, Reads, Step, Unread, advanced, can_fetch, done, executed, fetch_aborted, fetch_width, fetched, fetches, interrupt, misaligned, stepped, stepped_by, uninterrupted}
+use Rattle.arm7_model.specs.Step.{Instruction, Levels, Reads, Step, Unread, advanced, can_fetch, done, executed, fetch_aborted, fetch_width, fetched, fetches, interrupt, stepped, uninterrupted}
 use Rattle.arm7_bus.specs.Buses.{after_read, has_whole}
 use Rattle.arm7_bus.specs.Paging.{used_count}
 use Rattle.arm7_bus.specs.States.{State, Contents}
 use Rattle.arm7_transfers.specs.declared.outcome.Outcome.{Outcome}
 use Rattle.arm7_transfers.specs.declared.outcome.Outcome.TheVariants.{Ran, Aborted, Unpredictable, Raised, Host, NoFrame}
 use Rattle.arm7_transfers.specs.Boards.{board_of, over, working}
-use Rattle.arm7_transfers.specs.Done.{Part, Makes, Lacks, IsDone, IsKept, ended_by}
+use Rattle.arm7_transfers.specs.Done.{Makes, Lacks, IsDone, ended_by}
 use Rattle.arm7_transfers.specs.Frames.{has_frames, least_unused, stored_to, used_with}
 use Rattle.arm7_transfers.specs.Ready.{IsReady}
-use Rattle.arm7_transfers.specs.Served.{answers_to, given, served, value_at}
+use Rattle.arm7_transfers.specs.Served.{answers_to, given, value_at}
 use Rattle.arm7_transfers.proofs.BoardLemmas.{there-whole, reads, fetches-word, contents-read}
 use Rattle.arm7_transfers.proofs.DoneLemmas.{fits}
 use Rattle.arm7_transfers.proofs.ReadyLemmas.{board-read}
@@ -194,11 +194,12 @@ lacked-step core s i a core' s' f m same left = record {
       let answers = answers_to (left_by_fetch core s) m.asked ++ later in
       let u : Under = record { board = board_of s; before = over core s; word = word_of core s } in
       let t : Stepped = part_of core s i answers in
-      let From : List ℕ → Type 0 = λ answers. Step (board_of s) (over core s) lines answers t in
-      (t,
-      subst From (sym (append_assoc (given_to_fetch core s) (answers_to (left_by_fetch core s) m.asked) later))
-      (step-is core s i lines answers f.at f.there f.reads n t refl),
-      m.exact u later (fetch_of core ∷ []) (sym (board-read s (register core 15) (width_of core))));
+      let From : List ℕ → Type 0 = λ answers. Step (board_of s) (over core s) lines answers t in (
+        t,
+        subst From (sym (append_assoc (given_to_fetch core s) (answers_to (left_by_fetch core s) m.asked) later))
+            (step-is core s i lines answers f.at f.there f.reads n t refl),
+        m.exact u later (fetch_of core ∷ []) (sym (board-read s (register core 15) (width_of core))),
+      );
   frames = sym (frames-after s (register core 15) (width_of core) m.asked) ∙ m.frames;
   least = ap (λ (c : Contents). least_unused c.used (stored_to c.banks m.asked)) (sym (contents-read s (register core 15) (width_of core))) ∙ m.least;
   registers = before-end core core' same;

@@ -1,5 +1,5 @@
--- Parts of a step that agree, and parts that act on registers alone.
-use Rattle.std.proofs.Common.{◌≡◌, ℕ, Bool, true, false, List, ◌++◌, ap, ◌∙◌, sym, subst, refl}
+-- What a row of Thumb state does, by what the code of its row did.
+use Rattle.std.proofs.Common.{◌≡◌, ℕ, Bool, true, false, List, sym, subst, refl}
 use Rattle.std.specs.Prelude.{if◌then◌else◌}
 use Rattle.sdt_word.specs.declared.codes.Condition.{Condition}
 use Rattle.thumb_isa.specs.declared.instr.ThumbInstr.{ThumbInstr}
@@ -9,48 +9,16 @@ use Rattle.arm7_model.specs.declared.event.Exception.{Exception}
 use Rattle.arm7_model.specs.declared.event.Exception.TheVariants as exception
 use Rattle.arm7_model.specs.Accesses.{Access, Working}
 use Rattle.arm7_model.specs.Branches.{interrupted, is_host}
-use Rattle.arm7_model.specs.Outcomes.{Stepped, Under, ran, raised, hosted, given_back}
+use Rattle.arm7_model.specs.Outcomes.{Under, ran, raised, hosted, given_back}
 use Rattle.arm7_model.specs.ThumbStep.{thumb_branched, thumb_effect}
 use Rattle.arm7_model.specs.Arithmetic.{passes}
 use Rattle.arm7_bus.specs.States.{State}
 use Rattle.arm7_transfers.specs.declared.outcome.Outcome.{Outcome}
-use Rattle.arm7_transfers.specs.declared.outcome.Outcome.TheVariants.{Ran, Aborted, Unpredictable, Raised, Host, NoFrame}
-use Rattle.arm7_transfers.specs.Boards.{board_of, working}
-use Rattle.arm7_transfers.specs.Done.{Part, Makes, Lacks, IsDone}
+use Rattle.arm7_transfers.specs.declared.outcome.Outcome.TheVariants.{Ran, Unpredictable, Raised, Host}
+use Rattle.arm7_transfers.specs.Boards.{working}
+use Rattle.arm7_transfers.specs.Done.{Part, Makes, IsDone}
 use Rattle.arm7_transfers.specs.Ready.{IsReady}
-use Rattle.arm7_transfers.specs.Served.{answers_to}
-use Rattle.arm7_transfers.proofs.DoneLemmas.{makes-nothing}
-
--- two parts do the same from these registers and this bus
-abbrev pub SameFrom : Part → Part → ArmState → State → Type 0
-SameFrom p q core s = (u : Under) (answers : List ℕ) (before : List Access) → q u (working core s answers before) ≡ p u (working core s answers before)
-
-makes-like : (p q : Part) (core : ArmState) (s : State) (o : Outcome) (core' : ArmState) (s' : State) → SameFrom p q core s
-    → Makes p core s o core' s' → Makes q core s o core' s'
-makes-like p q core s o core' s' same m = record {
-  made = m.made;
-  exact = λ u later before e. same u (answers_to s m.made ++ later) before ∙ m.exact u later before e;
-  after = m.after;
-  frames = m.frames;
-  kept = m.kept;
-}
-
-lacks-like : (p q : Part) (core : ArmState) (s : State) (a : ℕ) → SameFrom p q core s → Lacks p core s a → Lacks q core s a
-lacks-like p q core s a same m = record {
-  asked = m.asked;
-  exact = λ u later before e. ap (λ (t : Stepped). t.accesses) (same u (answers_to s m.asked ++ later) before) ∙ m.exact u later before e;
-  frames = m.frames;
-  least = m.least;
-}
-
-pub done_like : (p q : Part) (core : ArmState) (s : State) (o : Outcome) (core' : ArmState) (s' : State) → SameFrom p q core s
-    → IsDone p core s o core' s' → IsDone q core s o core' s'
-done_like p q core s Ran core' s' same m = makes-like p q core s Ran core' s' same m
-done_like p q core s Aborted core' s' same m = makes-like p q core s Aborted core' s' same m
-done_like p q core s Unpredictable core' s' same m = makes-like p q core s Unpredictable core' s' same m
-done_like p q core s (Raised e) core' s' same m = makes-like p q core s (Raised e) core' s' same m
-done_like p q core s (Host n) core' s' same m = makes-like p q core s (Host n) core' s' same m
-done_like p q core s (NoFrame a) core' s' same m = (lacks-like p q core s a same m.0, m.1, m.2)
+use Rattle.arm7_transfers.proofs.DoneLemmas.{Same, done-as, makes-nothing}
 
 -- a part that leaves these registers
 pub runs : (q : Part) (core core' : ArmState) (s : State) → IsReady s
@@ -91,9 +59,9 @@ row_raises i j core s e r exact =
     subst (λ (i : ThumbInstr). Makes (effect_part i) core s (Raised exception.Undefined) core s) (sym e) (raises exception.Undefined (effect_part j) core s r exact)
 
 pub row_like : (i j : ThumbInstr) (p : Part) (core : ArmState) (s : State) (o : Outcome) (core' : ArmState) (s' : State) → i ≡ j
-    → SameFrom p (effect_part j) core s → IsDone p core s o core' s' → IsDone (effect_part i) core s o core' s'
+    → Same p (effect_part j) core s → IsDone p core s o core' s' → IsDone (effect_part i) core s o core' s'
 row_like i j p core s o core' s' e same d =
-    subst (λ (i : ThumbInstr). IsDone (effect_part i) core s o core' s') (sym e) (done_like p (effect_part j) core s o core' s' same d)
+    subst (λ (i : ThumbInstr). IsDone (effect_part i) core s o core' s') (sym e) (done-as p (effect_part j) core s o core' s' same d)
 
 -- a branch where its condition passes
 ran_where : (b : Bool) (core core' : ArmState) (w : Working)

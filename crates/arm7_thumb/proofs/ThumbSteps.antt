@@ -1,5 +1,5 @@
 -- A step in Thumb state by what its code found.
-use Rattle.std.proofs.Common.{◌≡◌, ℕ, ◌+◌, ◌%◌, ◌^◌, Bool, true, false, not, refl, sym, ap, ◌∙◌, subst}
+use Rattle.std.proofs.Common.{◌≡◌, ℕ, ◌+◌, ◌%◌, ◌^◌, Bool, true, false, refl, sym, ap, ◌∙◌, subst}
 use Rattle.sdt_word.specs.declared.codes.Width.TheVariants.{Half}
 use Rattle.thumb_isa.specs.declared.instr.ThumbInstr.{ThumbInstr}
 use Rattle.thumb_isa.specs.ThumbRows.{IsUnread, ReadsThumb}
@@ -21,7 +21,8 @@ use Rattle.arm7_transfers.specs.Served.{value_at}
 use Rattle.arm7_steps.specs.Ends.{event_of, registers_after}
 use Rattle.arm7_steps.specs.Steps.{Executes, IsStepped}
 use Rattle.arm7_steps.proofs.StepLemmas.{IsAt, absent, finished}
-use Rattle.arm7_thumb.proofs.PartLemmas.{done_like, effect_part, gives_back}
+use Rattle.arm7_thumb.proofs.PartLemmas.{effect_part, gives_back}
+use Rattle.arm7_transfers.proofs.DoneLemmas.{done-as}
 
 -- ---- the instruction
 
@@ -34,7 +35,7 @@ pub predictable : (i : ThumbInstr) (core : ArmState) (s : State) (b : Bool) (o :
     → IsDone (effect_part i) core s o core' s' → IsDone (λ u w. thumb_done u i w) core s o core' s'
 unfolding thumb_done
 predictable i core s b o core' s' e h d =
-    done_like (effect_part i) (λ u w. thumb_done u i w) core s o core' s' (λ u answers before. rw (sym e ∙ h) refl) d
+    done-as (effect_part i) (λ u w. thumb_done u i w) core s o core' s' (λ u answers before. rw (sym e ∙ h) refl) d
 
 pub executes_read : (i : ThumbInstr) (word : ℕ) (core : ArmState) (s : State) (o : Outcome) (core' : ArmState) (s' : State) → ReadsThumb word i
     → IsDone (λ u w. thumb_done u i w) core s o core' s' → Executes true word core s o core' s'
@@ -73,7 +74,7 @@ pub finished_thumb : (core core₁ core₂ core' : ArmState) (s s₁ s' : State)
 finished_thumb core core₁ core₂ core' s s₁ s' a word there o e v t r at found held fetched left on does ended after =
     let whole : has_whole s (register core 15) 2 ≡ true = ap (λ (a : ℕ). has_whole s a 2) (sym at) ∙ (sym found ∙ held) in
     let does' : Executes true (value_at s (register core 15) Half) (advanced core) (after_read s (register core 15) Half) o core₂ s' =
-        rw (← at, ← fetched, ← left, ← on) does in
+    rw (← at, ← fetched, ← left, ← on) does in
     let Ended : Bool → Type 0 = λ b. IsStepped core s (event_of o (value_at s (register core 15) (fetch_width b))) (registers_after o (register core 15) core₂) s' in
     let all = subst Ended t (finished core s o core₂ s' (thumb-at core s v t r) (rw t whole) (rw t does')) in
     rw (ended, after, fetched, at) all
