@@ -6,5 +6,7 @@ mod arm;
 mod effect;
 mod machine;
 mod step;
+#[cfg(test)]
+mod tests;
 
 pub use crate::machine::Machine;
