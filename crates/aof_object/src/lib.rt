@@ -3,6 +3,7 @@
 
 mod areas;
 mod checks;
+mod copies;
 mod faults;
 mod index;
 mod laws;

@@ -196,3 +196,8 @@ ready_built seats r s t u new whole alone words apart after start same =
 
 pub ready_forgotten : (s t : State) → t ≡ after_forget s → IsReady s → IsReady t
 ready_forgotten s t e r = subst (λ (x : State). IsReady x) (sym e) (ready-forget s r)
+
+pub ready_begun : (r : Range32) (s t u : State) → IsLaidOut s → IsWhole r.base r.size → IsNowhere (range_shares r s)
+    → t ≡ after_bank s r → IsStart t.contents u.contents → u.devices ≡ t.devices → IsReady u
+ready_begun r s t u laid_out words apart after start same =
+    ready-start t u (subst (λ (x : State). IsLaidOut x) (sym after) (laid_out-bank s r laid_out words apart)) start same

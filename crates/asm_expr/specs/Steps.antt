@@ -1,11 +1,13 @@
 -- Steps of the code. This project's.
-use Rattle.std.specs.Prelude.{◌≡◌, ℕ, List, [], ◌∷◌, reverse, Bool, true, false, Option, Some, None, Result, Ok, Err}
+use Rattle.std.specs.Prelude.{◌≡◌, ℕ, ◌<◌, ◌+◌, List, [], ◌∷◌, take, drop, length, reverse, Bool, true, false, Option, Some, None, Result, Ok, Err}
 use Rattle.asm_expr.specs.declared.parser.Held.{Held}
 use Rattle.asm_expr.specs.declared.parser.Parser.{Parser}
 use Rattle.sdt_fault.specs.declared.NoMemory.{NoMemory}
 use Rattle.std.specs.List.{list_any}
 use Rattle.asm_model.specs.declared.exprs.Part.{Part}
 use Rattle.asm_model.specs.Parts.{is_large}
+use Rattle.asm_model.specs.declared.tokens.Token.{Token}
+use Rattle.asm_model.specs.Operands.{operands_at}
 use Rattle.asm_expr.specs.declared.read.Reading.{Reading}
 use Rattle.asm_expr.specs.Parsing.{State, is_tight, parsed, started}
 
@@ -32,3 +34,14 @@ Takes next (Err e) new = Unit {0}
 abbrev pub IsRead : List Part → Option Reading → Type 0
 IsRead ps None = parsed (Some started) ps ≡ None
 IsRead ps (Some r) = (parsed (Some started) ps ≡ Some r.items.items) × (r.is_large ≡ list_any is_large ps)
+
+-- the place of the first comma outside brackets, where there is one
+abbrev pub IsComma : List ℕ → List Token → Option ℕ → Type 0
+IsComma text ts None = operands_at text 0 ts ≡ ts ∷ []
+IsComma text ts (Some i) = (i < length ts) × (operands_at text 0 ts ≡ take i ts ∷ operands_at text 0 (drop (i + 1) ts))
+
+-- the first operand, and the tokens of the others
+abbrev pub CutsOperands : List ℕ → List Token → List Token → Option (List Token) → Type 0
+CutsOperands text ts first None = operands_at text 0 ts ≡ first ∷ []
+CutsOperands text ts first (Some rest) =
+    (operands_at text 0 ts ≡ first ∷ operands_at text 0 rest) × (length rest < length ts)

@@ -1,15 +1,28 @@
 //! Expressions: reading them from tokens, and their values.
 #![tactic(auto)]
 
+pub mod areas;
+pub mod directive_names;
+pub mod directives;
+pub mod index;
+pub mod kinds;
+pub mod operands;
 pub mod operators;
 pub mod parser;
 pub mod parts;
 pub mod read;
+pub mod readings;
+pub mod registers;
 pub mod slots;
 pub mod value;
 
+pub use crate::directives::parse_directive;
+pub use crate::index::NameIndex;
 pub use crate::read::parse_expr;
-pub use crate::value::evaluate;
+pub use crate::registers::register_named;
+pub use crate::value::{evaluate, evaluate_indexed};
 
+#[cfg(test)]
+mod directive_tests;
 #[cfg(test)]
 mod tests;

@@ -6,12 +6,13 @@ ghost use Rattle.sdt_fault.specs.Digits.{hexadecimal_places};
 ghost use Rattle.asm_model.specs.declared.exprs.UnaryOp.TheVariants as unary;
 ghost use Rattle.asm_model.specs.declared.values.Value.TheVariants as value;
 ghost use Rattle.asm_expr.specs.Evaluating as evaluating;
+ghost use Rattle.asm_expr.specs.Finding.{Finds};
 ghost use Rattle.std.specs.Ordering.{nat_cmp};
 ghost use Rattle.std.specs.Cmp.Lexicographic.{slice_cmp};
 ghost use Rattle.asm_model.specs.Meaning as meaning;
 ghost use Rattle.asm_model.specs.declared.exprs.BinaryOp.TheVariants as op;
 
-use crate::slots::find;
+use crate::index::{Finder, place_in};
 use asm_model::{BinaryOp, LaidName, Names, UnaryOp, Value};
 use sdt_fault::kinds::LineKind;
 use sdt_fault::{Bytes, NoMemory, Text};
@@ -188,17 +189,17 @@ fn entry_at(list: &[LaidName], place: Option<usize>) -> Option<(u32, u32)>
 }
 
 /// The area of a symbol and its offset there.
-fn stands_at(names: &Names, symbol: &[u8]) -> Option<(u32, u32)>
+fn stands_at(finder: Finder<'_>, names: &Names, symbol: &Text) -> Option<(u32, u32)>
+    requires { Finds finder names.now.list }
     ensures { result ≡ meaning.stands_at names.now symbol.now }
 {
-    if symbol.is_empty() {
+    if symbol.as_slice().is_empty() {
         return match names.area {
             None => None,
             Some(area) => Some((area, 0)),
         };
     }
-    let list = names.list.as_slice();
-    entry_at(list, find(list, symbol))
+    entry_at(names.list.as_slice(), place_in(finder, names, symbol))
 }
 
 /// The distance of two places in one area.
@@ -219,17 +220,24 @@ fn distance(a: Option<(u32, u32)>, p: u32, b: Option<(u32, u32)>, q: u32) -> Res
 
 /// Two places.
 fn between_places(
+    finder: Finder<'_>,
     names: &Names,
     op: BinaryOp,
-    s: &[u8],
+    s: &Text,
     p: u32,
-    t: &[u8],
+    t: &Text,
     q: u32,
 ) -> Result<u32, LineKind>
+    requires { Finds finder names.now.list }
     ensures { result ≡ meaning.between_places names.now op s.now p t.now q }
 {
     match op {
-        BinaryOp::Subtract => distance(stands_at(names, s), p, stands_at(names, t), q),
+        BinaryOp::Subtract => distance(
+            stands_at(finder, names, s),
+            p,
+            stands_at(finder, names, t),
+            q,
+        ),
         _ => Err(LineKind::WrongType),
     }
 }
@@ -296,11 +304,13 @@ fn of_strings(
 /// An operator between two values.
 pub fn binary(
     alloc: Global,
+    finder: Finder<'_>,
     names: &Names,
     op: BinaryOp,
     left: Value,
     right: Value,
 ) -> Result<Result<Value, LineKind>, NoMemory>
+    requires { Finds finder names.now.list }
     ensures { IfOk result (λ value. value ≡ meaning.binary names.now op left right) }
 {
     match (left, right) {
@@ -317,7 +327,7 @@ pub fn binary(
             added(op, n, plus),
         )),
         (Value::Place { symbol: s, plus: p }, Value::Place { symbol: t, plus: q }) => Ok(as_number(
-            between_places(names, op, s.as_slice(), p, t.as_slice(), q),
+            between_places(finder, names, op, &s, p, &t, q),
         )),
         _ => Ok(Err(LineKind::WrongType)),
     }

@@ -55,7 +55,7 @@ fn part_of_kind(alloc: Global, kind: TokenKind, piece: &[u8]) -> Result<Part, No
 }
 
 /// What stands between the first byte and the last.
-fn inside(piece: &[u8]) -> &[u8]
+pub fn inside(piece: &[u8]) -> &[u8]
     ensures { result.now ≡ take (length piece.now - 2) (drop 1 piece.now) }
 {
     if piece.len() < 2 {

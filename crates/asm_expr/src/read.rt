@@ -56,20 +56,35 @@ pub fn read(alloc: Global, text: &[u8], tokens: &[Token]) -> Result<Option<Readi
     }
 }
 
+/// What tokens of a line read as: the expression that they spell, Syntax where they spell none, or Constant where a
+/// number in them is above 2^32 - 1.
+pub fn expression(
+    alloc: Global,
+    text: &[u8],
+    tokens: &[Token],
+) -> Result<Result<Expr, LineKind>, NoMemory>
+    ensures { IfOk result (λ reading. grammar.ParsesTokens text.now tokens.now reading) }
+{
+    let Some(reading) = read(alloc, text, tokens)? else {
+        return Ok(Err(LineKind::Syntax));
+    };
+    if reading.is_large {
+        return Ok(Err(LineKind::Constant));
+    }
+    Ok(Ok(Expr {
+        items: List::from_vec(reading.items),
+    }))
+}
+
 /// The expression that consecutive tokens of the line spell. Syntax where they spell none; Constant where a
 /// number in them is above 2^32 - 1.
 pub fn parse_expr(alloc: Global, line: &Flat, tokens: &[Token]) -> Result<Expr, Fault>
     ensures { Told line.now.source line.now.number (grammar.ParsesTokens line.now.text tokens.now) result }
 {
-    let Some(reading) = read(alloc, line.text.as_slice(), tokens)? else {
-        return Err(bad_line(alloc, &line.source, line.number, LineKind::Syntax));
-    };
-    if reading.is_large {
-        return Err(bad_line(alloc, &line.source, line.number, LineKind::Constant));
+    match expression(alloc, line.text.as_slice(), tokens)? {
+        Ok(expression) => Ok(expression),
+        Err(kind) => Err(bad_line(alloc, &line.source, line.number, kind)),
     }
-    Ok(Expr {
-        items: List::from_vec(reading.items),
-    })
 }
 
 /// Tokens have one list of items, or one fault.

@@ -28,6 +28,8 @@ fn kind_of(first: u8) -> TokenKind {
         b'0'..=b'9' => TokenKind::Number,
         b'&' => TokenKind::Number,
         b'a'..=b'z' => TokenKind::Name,
+        b'A'..=b'Z' => TokenKind::Name,
+        b'|' => TokenKind::Barred,
         b'"' => TokenKind::Quoted,
         b'\'' => TokenKind::Character,
         b'{' => TokenKind::Braced,
@@ -37,12 +39,14 @@ fn kind_of(first: u8) -> TokenKind {
 }
 
 /// The tokens of a text with spaces between them.
-fn tokens(alloc: Global, text: &[u8]) -> Result<Vec<Token>, Fault> {
+pub fn tokens(alloc: Global, text: &[u8]) -> Result<Vec<Token>, Fault> {
     let mut list = Vec::new(alloc);
     let mut start = 0usize;
     for (i, c) in text.iter().enumerate() {
         if *c == b' ' {
-            list.push(token(text, start, i))?;
+            if start < i {
+                list.push(token(text, start, i))?;
+            }
             start = i.saturating_add(1);
         }
     }
@@ -84,7 +88,7 @@ fn label(alloc: Global, name: &[u8], area: Option<u32>, offset: u32) -> Result<L
 }
 
 /// Labels of two areas and an import, at offset 16 of the first area in Thumb state.
-fn names(alloc: Global) -> Result<Names, Fault> {
+pub fn names(alloc: Global) -> Result<Names, Fault> {
     let mut list = Vec::new(alloc);
     list.push(label(alloc, b"here", Some(0), 8)?)?;
     list.push(label(alloc, b"there", Some(0), 16)?)?;
@@ -107,13 +111,13 @@ fn names(alloc: Global) -> Result<Names, Fault> {
     })
 }
 
-fn show_number(alloc: Global, out: &mut Vec<u8>, n: u32) -> Result<(), Fault> {
+pub fn show_number(alloc: Global, out: &mut Vec<u8>, n: u32) -> Result<(), Fault> {
     let text = format!(in alloc; "{n:08X}")?;
     out.extend_from_slice(text.as_str().as_bytes())?;
     Ok(())
 }
 
-fn show_value(alloc: Global, out: &mut Vec<u8>, value: &Value) -> Result<(), Fault> {
+pub fn show_value(alloc: Global, out: &mut Vec<u8>, value: &Value) -> Result<(), Fault> {
     match value {
         Value::Number(n) => show_number(alloc, out, *n)?,
         Value::Truth(true) => out.push(b'T')?,
@@ -130,7 +134,7 @@ fn show_value(alloc: Global, out: &mut Vec<u8>, value: &Value) -> Result<(), Fau
     Ok(())
 }
 
-fn show_kind(out: &mut Vec<u8>, kind: LineKind) -> Result<(), Fault> {
+pub fn show_kind(out: &mut Vec<u8>, kind: LineKind) -> Result<(), Fault> {
     out.extend_from_slice(kind.word().as_bytes())?;
     Ok(())
 }
@@ -146,7 +150,7 @@ fn parsed(alloc: Global, text: &[u8]) -> Result<Expr, Fault> {
 }
 
 /// The word of a refusal's kind.
-fn show_fault(out: &mut Vec<u8>, fault: &Fault) -> Result<(), Fault> {
+pub fn show_fault(out: &mut Vec<u8>, fault: &Fault) -> Result<(), Fault> {
     if let Fault::Refused(Refusal::BadLine { line: 7, kind, .. }) = fault {
         show_kind(out, *kind)?;
     }

@@ -2,49 +2,18 @@
 
 ghost use Rattle.std.specs.Prelude.{◌≡◌, ◌∷◌, [], IfOk, OnOk, if◌then◌else◌};
 ghost use Rattle.std.specs.Option.{is_some};
-ghost use Rattle.asm_model.specs.Kinds as kinds;
 ghost use Rattle.asm_model.specs.Meaning as meaning;
 ghost use Rattle.asm_expr.specs.Evaluating as evaluating;
+ghost use Rattle.asm_expr.specs.Finding.{Finds, Indexes};
 
+use crate::index::{Finder, NameIndex, place_in};
+use crate::kinds::earlier;
 use crate::operators::{binary, unary};
-use crate::slots::{Slot, find, known, slot_of};
+use crate::slots::{Slot, known, slot_of};
 use asm_model::{BinaryOp, EvalFault, Expr, ExprItem, LaidName, Names, UnaryOp, Value};
 use sdt_fault::kinds::LineKind;
 use sdt_fault::{NoMemory, Text};
 use std::alloc::Global;
-
-/// The earlier of two kinds in the order in which they are told.
-fn earlier(a: LineKind, b: LineKind) -> LineKind
-    ensures { result ≡ kinds.earlier a b }
-{
-    if rank(b) < rank(a) {
-        return b;
-    }
-    a
-}
-
-/// The place of a kind in the order in which they are told.
-fn rank(kind: LineKind) -> u8
-    ensures { result ≡ kinds.rank kind }
-{
-    match kind {
-        LineKind::Syntax => 0,
-        LineKind::UnknownWord => 1,
-        LineKind::FloatingPoint => 2,
-        LineKind::BadOperand => 3,
-        LineKind::Constant => 4,
-        LineKind::Forward => 5,
-        LineKind::DuplicateName => 6,
-        LineKind::WrongType => 7,
-        LineKind::OutOfRange => 8,
-        LineKind::Nesting => 9,
-        LineKind::Assert => 10,
-        LineKind::NoArea => 11,
-        LineKind::DivideByZero => 12,
-        LineKind::TooDeep => 13,
-        LineKind::TooMany => 14,
-    }
-}
 
 /// The number of bytes of the statement that defines the name at a place of the list.
 fn size_at(list: &[LaidName], place: Option<usize>) -> Result<Value, LineKind>
@@ -103,17 +72,19 @@ fn applied(
 /// An operator between two operands.
 fn on_both(
     alloc: Global,
+    finder: Finder<'_>,
     names: &Names,
     op: BinaryOp,
     left: Slot,
     right: Slot,
 ) -> Result<Result<Value, LineKind>, NoMemory>
+    requires { Finds finder names.now.list }
     ensures { IfOk result (λ value. value ≡ meaning.on_both (meaning.known (evaluating.operand_in names.now.list left)) (meaning.known (evaluating.operand_in names.now.list right)) (meaning.binary names.now op)) }
 {
     let left = known(alloc, names.list.as_slice(), left)?;
     let right = known(alloc, names.list.as_slice(), right)?;
     match (left, right) {
-        (Ok(left), Ok(right)) => binary(alloc, names, op, left, right),
+        (Ok(left), Ok(right)) => binary(alloc, finder, names, op, left, right),
         (Ok(_), Err(kind)) => Ok(Err(kind)),
         (Err(kind), Ok(_)) => Ok(Err(kind)),
         (Err(kind), Err(other)) => Ok(Err(earlier(kind, other))),
@@ -123,23 +94,33 @@ fn on_both(
 /// The value of a local label, which is found under its reference behind a bar.
 fn local(
     alloc: Global,
-    list: &[LaidName],
+    finder: Finder<'_>,
+    names: &Names,
     reference: &[u8],
 ) -> Result<Result<Value, LineKind>, NoMemory>
-    ensures { IfOk result (λ value. value ≡ meaning.value_of (meaning.named_in (124 ∷ reference.now) list.now)) }
+    requires { Finds finder names.now.list }
+    ensures { IfOk result (λ value. value ≡ meaning.value_of (meaning.named_in (124 ∷ reference.now) names.now.list)) }
 {
-    let mut name = Vec::from_slice(alloc, b"|")?;
-    name.extend_from_slice(reference)?;
-    known(alloc, list, Slot::Name(find(list, name.as_slice())))
+    let mut bytes = Vec::from_slice(alloc, b"|")?;
+    bytes.extend_from_slice(reference)?;
+    let name = Text::from_vec(bytes);
+    let place = place_in(finder, names, &name);
+    known(alloc, names.list.as_slice(), Slot::Name(place))
 }
 
 /// An item that is an operand.
-fn operand(alloc: Global, names: &Names, item: &ExprItem) -> Result<Slot, NoMemory>
+fn operand(
+    alloc: Global,
+    finder: Finder<'_>,
+    names: &Names,
+    item: &ExprItem,
+) -> Result<Slot, NoMemory>
+    requires { Finds finder names.now.list }
     ensures { IfOk result (λ slot. evaluating.operand_in names.now.list slot ≡ meaning.operand_of_item names.now item.now) }
 {
     match item {
-        ExprItem::Name(name) => Ok(Slot::Name(find(names.list.as_slice(), name.as_slice()))),
-        ExprItem::Local(name) => Ok(slot_of(local(alloc, names.list.as_slice(), name.as_slice())?)),
+        ExprItem::Name(name) => Ok(Slot::Name(place_in(finder, names, name))),
+        ExprItem::Local(name) => Ok(slot_of(local(alloc, finder, names, name.as_slice())?)),
         ExprItem::Constant(value) => Ok(Slot::Known(value.try_clone(alloc)?)),
         ExprItem::Here => {
             let symbol = Text::from_slice(alloc, b"")?;
@@ -183,10 +164,12 @@ fn act_unary(
 /// An operator between the two operands on the top.
 fn act_binary(
     alloc: Global,
+    finder: Finder<'_>,
     names: &Names,
     op: BinaryOp,
     stack: &mut Vec<Slot>,
 ) -> Result<(), NoMemory>
+    requires { Finds finder names.now.list }
     ensures { OnOk result (evaluating.operands_in names.now.list stack.new.items ≡ evaluating.act_binary names.now op (evaluating.operands_in names.now.list stack.old.items)) }
 {
     let Some(right) = stack.pop() else {
@@ -197,20 +180,27 @@ fn act_binary(
         stack.push(Slot::Fault(LineKind::Syntax))?;
         return Ok(());
     };
-    let value = on_both(alloc, names, op, left, right)?;
+    let value = on_both(alloc, finder, names, op, left, right)?;
     stack.push(slot_of(value))?;
     Ok(())
 }
 
 /// One item more.
-fn act(alloc: Global, names: &Names, item: &ExprItem, stack: &mut Vec<Slot>) -> Result<(), NoMemory>
+fn act(
+    alloc: Global,
+    finder: Finder<'_>,
+    names: &Names,
+    item: &ExprItem,
+    stack: &mut Vec<Slot>,
+) -> Result<(), NoMemory>
+    requires { Finds finder names.now.list }
     ensures { OnOk result (evaluating.operands_in names.now.list stack.new.items ≡ evaluating.act names.now item.now (evaluating.operands_in names.now.list stack.old.items)) }
 {
     match item {
         ExprItem::Unary(op) => act_unary(alloc, names.list.as_slice(), *op, stack),
-        ExprItem::Binary(op) => act_binary(alloc, names, *op, stack),
+        ExprItem::Binary(op) => act_binary(alloc, finder, names, *op, stack),
         _ => {
-            let slot = operand(alloc, names, item)?;
+            let slot = operand(alloc, finder, names, item)?;
             stack.push(slot)?;
             Ok(())
         }
@@ -218,12 +208,18 @@ fn act(alloc: Global, names: &Names, item: &ExprItem, stack: &mut Vec<Slot>) -> 
 }
 
 /// The operands that items leave.
-fn run(alloc: Global, names: &Names, items: &[ExprItem]) -> Result<Vec<Slot>, NoMemory>
+fn run(
+    alloc: Global,
+    finder: Finder<'_>,
+    names: &Names,
+    items: &[ExprItem],
+) -> Result<Vec<Slot>, NoMemory>
+    requires { Finds finder names.now.list }
     ensures { IfOk result (λ stack. evaluating.operands_in names.now.list stack.items ≡ evaluating.run names.now items.now []) }
 {
     let mut stack = Vec::new(alloc);
     'items: for item in items {
-        act(alloc, names, item, &mut stack)?;
+        act(alloc, finder, names, item, &mut stack)?;
     }
     Ok(stack)
 }
@@ -246,15 +242,42 @@ fn ended(
     known(alloc, list, top)
 }
 
-/// The value of an expression with these names, or the kind of its fault: UnknownWord for a name that isn't
-/// there, WrongType, OutOfRange, DivideByZero, and TooMany for a string of more than `STRING_BYTES` bytes. A
-/// reference to a local label is found under its text behind a bar, as `|%F1`.
-pub fn evaluate(alloc: Global, e: &Expr, names: &Names) -> Result<Value, EvalFault>
+/// The value of an expression with these names, which a finder finds.
+fn evaluate_by(
+    alloc: Global,
+    finder: Finder<'_>,
+    e: &Expr,
+    names: &Names,
+) -> Result<Value, EvalFault>
+    requires { Finds finder names.now.list }
     ensures { meaning.Evaluates names.now e.now.items result }
 {
-    let stack = run(alloc, names, e.items.as_slice())?;
+    let stack = run(alloc, finder, names, e.items.as_slice())?;
     match ended(alloc, names.list.as_slice(), stack)? {
         Ok(value) => Ok(value),
         Err(kind) => Err(EvalFault::Kind(kind)),
     }
+}
+
+/// The value of an expression with these names, or the kind of its fault: UnknownWord for a name that isn't
+/// there, WrongType, OutOfRange, DivideByZero, and TooMany for a string of more than `STRING_BYTES` bytes. A
+/// reference to a local label is found under its text behind a bar, as `|%F1`. Names are found by a search through
+/// the list.
+pub fn evaluate(alloc: Global, e: &Expr, names: &Names) -> Result<Value, EvalFault>
+    ensures { meaning.Evaluates names.now e.now.items result }
+{
+    evaluate_by(alloc, Finder::Search, e, names)
+}
+
+/// What `evaluate` gives, with the names found by an index of their list.
+pub fn evaluate_indexed(
+    alloc: Global,
+    e: &Expr,
+    names: &Names,
+    index: &NameIndex,
+) -> Result<Value, EvalFault>
+    requires { Indexes index.now names.now.list }
+    ensures { meaning.Evaluates names.now e.now.items result }
+{
+    evaluate_by(alloc, Finder::Index(index), e, names)
 }

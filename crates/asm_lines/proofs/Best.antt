@@ -2,7 +2,7 @@
 use Rattle.std.proofs.Common.{◌≡◌, ℕ, zero, suc, ◌+◌, ◌-◌, ◌<◌, ◌≤◌, List, [], ◌∷◌, ◌++◌, length, take, drop, Bool, true, false, cond, refl, sym, ◌∙◌, ap, arith, one-add, length-take, max, ◌⊎◌, inl, inr}
 use Rattle.std.specs.Prelude.{◌==◌, nat_lt, nat_le, ◌&&◌, ◌||◌, nat_eq}
 use Rattle.std.specs.List.{prefix_len, list_all, list_any, slice_split, starts_with}
-use Rattle.std.proofs.lemmas.Bool.{eqb-true, ne_eqb, eq-eqb, cases_lt, and_left, and_right, and_from, and_parts, or_from, or_left, or_right, cond-true, cond-false, false_from_ne_true}
+use Rattle.std.proofs.lemmas.Bool.{eqb-true, ne_eqb, cases_lt, and_left, and_right, and_from, or_from, or_left, or_right, cond-true, cond-false, false_from_ne_true}
 use Rattle.std.proofs.lemmas.Bool.Decides.{Decides-eqb}
 use Rattle.std.proofs.lemmas.List.Sums.{prefix_len-le-length, prefix_len_passes, prefix_len_stops, list_all-from_AllPass}
 use Rattle.std.proofs.lemmas.List.Folds.{list_all_at}
@@ -10,6 +10,7 @@ use Rattle.std.proofs.lemmas.List.{get_or-take, length-append, take-append-drop}
 use Rattle.std.proofs.Math.Seq.{take-append_seam}
 use Rattle.std.proofs.lemmas.Slice.Eq.{starts_is}
 use Rattle.asm_model.specs.Forms.{is_digit, is_hex_digit, is_digit_of, is_letter, is_word, is_between_bars, one_or_more, behind, begun, is_name, ends_with_bar, is_barred, is_based, is_hexadecimal, is_number, ends_string, is_quoted, is_character, is_short, is_local, same, is_one_of}
+use Rattle.asm_model.proofs.WordLemmas.{same_refl, same_true}
 use Rattle.asm_lines.specs.Lengths.{added, kept, behind_len, begun_len, name_len, bar_len, barred_len, based_len, zero_x_len, ampersand_len, number_len, string_len, quoted_len, character_len, short_len, local_len, word_len, words_len, one_of_len}
 
 -- n is the length of the longest prefix with the form, or 0
@@ -345,20 +346,6 @@ number_best rest =
     (behind_best (λ c. c == 48) (behind (λ c. c == 120) (one_or_more is_hex_digit)) (behind_len (λ c. c == 120) (prefix_len is_hex_digit)) refl (behind_best (λ c. c == 120) (one_or_more is_hex_digit) (prefix_len is_hex_digit) refl (run_best is_hex_digit)) rest)
     (behind_best (λ c. c == 38) (one_or_more is_hex_digit) (prefix_len is_hex_digit) refl (run_best is_hex_digit) rest)))
     (based_best rest)
-
-pub same_refl : (s : List ℕ) → same s s ≡ true
-same_refl [] = refl
-same_refl (c ∷ cs) = and_from (c == c) (same cs cs) (eq-eqb c c refl) (same_refl cs)
-
-pub same_true : (s t : List ℕ) → same s t ≡ true → s ≡ t
-same_true [] [] e = refl
-same_true [] (d ∷ ds) e = absurd (cc)
-same_true (c ∷ cs) [] e = absurd (cc)
-same_true (c ∷ cs) (d ∷ ds) e =
-    let h = and_parts (c == d) (same cs ds) e in
-    let x = eqb-true c d h.0 in
-    let y = same_true cs ds h.1 in
-    cc
 
 word_best : (word rest : List ℕ) → IsBest (λ s. same s word) (word_len word rest) rest
 word_best word rest = chosen (starts_with nat_eq rest word) refl

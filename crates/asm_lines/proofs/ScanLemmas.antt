@@ -1,9 +1,8 @@
 -- The token at the front of a rest.
-use Rattle.std.proofs.Common.{◌≡◌, ℕ, ◌≤◌, ◌+◌, List, [], ◌∷◌, ◌++◌, length, take, drop, Bool, true, false, refl, sym, ◌∙◌, ap, arith, Option, Some, None, zero, suc, map, append-nil, append_assoc, inl, inr, length-drop, add_assoc}
-use Rattle.std.specs.Prelude.{MatchBool, IsTrue, ◌↔◌, Result, Ok, Err}
-use Rattle.std.specs.Char.{to_ascii_lowercase}
+use Rattle.std.proofs.Common.{◌≡◌, ℕ, ◌≤◌, ◌+◌, List, [], ◌∷◌, ◌++◌, length, take, drop, Bool, true, false, refl, sym, ◌∙◌, ap, arith, Option, Some, None, zero, suc, append-nil, append_assoc, inl, inr, length-drop, add_assoc}
+use Rattle.std.specs.Prelude.{MatchBool, Result, Ok, Err}
 use Rattle.std.proofs.lemmas.List.{drop-drop}
-use Rattle.std.proofs.lemmas.Bool.{false_from_ne_true, eqb-true}
+use Rattle.std.proofs.lemmas.Bool.{eqb-true}
 use Rattle.sdt_fault.specs.declared.kinds.LineKind.{LineKind}
 use Rattle.asm_model.specs.declared.tokens.Due.{Due}
 use Rattle.asm_model.specs.declared.tokens.Due.TheVariants.{Label, Operation, Operands, Nothing}
@@ -11,9 +10,8 @@ use Rattle.asm_model.specs.declared.tokens.Token.{Token}
 use Rattle.asm_model.specs.declared.tokens.TokenKind.{TokenKind}
 use Rattle.asm_model.specs.declared.tokens.TokenKind.TheVariants.{Sign}
 use Rattle.asm_model.specs.Forms.{form_of}
-use Rattle.asm_model.specs.Tokens.{IsLongest, IsTokenAt, is_operation_sign, is_called, blanks, is_end, due_behind, TokensFrom, Tokens, NoTokens, begins_comment, Scans, first_due}
+use Rattle.asm_model.specs.Tokens.{IsLongest, IsTokenAt, is_operation_sign, blanks, is_end, due_behind, TokensFrom, Tokens, NoTokens, begins_comment, Scans, first_due}
 use Rattle.asm_lines.specs.Steps.{IsTheToken}
-use Rattle.asm_lines.proofs.Best.{same_refl, same_true}
 use Rattle.asm_lines.proofs.KindLemmas.{one_longest, some_longest}
 
 -- a longest token is the one
@@ -30,10 +28,6 @@ any_is_the rest (Some t) e h = (rw e h.0, λ k n p. h.1 k n (rw e at p), h.2, h.
 pub sign_is_the : (rest : List ℕ) → is_operation_sign rest ≡ true → IsTheToken Operation rest (Some (Sign, 1))
 sign_is_the [] e = absurd (cc)
 sign_is_the (c ∷ cs) e = (rw e (refl, refl), λ k n p. rw e at p, omega arith, omega arith)
-
-pub called : (name word : List ℕ) (b : Bool) → IsTrue b ↔ (map to_ascii_lowercase word ≡ map to_ascii_lowercase name) → b ≡ is_called name word
-called name word true h = sym (rw (h.0 refl) (same_refl (map to_ascii_lowercase name)))
-called name word false h = sym (false_from_ne_true (is_called name word) (λ e. let z = h.1 (same_true (map to_ascii_lowercase word) (map to_ascii_lowercase name) e) in absurd (cc)))
 
 pub label_is_the : (rest : List ℕ) (o : Option (TokenKind × ℕ)) → IsTheToken Operands rest o → IsTheToken Label rest o
 label_is_the rest None h = h

@@ -12,7 +12,7 @@ use crate::bytes::{Class, run_len};
 use crate::forms::{
     barred_len, character_len, local_len, name_len, number_len, one_of_len, quoted_len,
 };
-use asm_model::{Due, Flat, Token, TokenKind, bad_line};
+use asm_model::{Due, Flat, Token, TokenKind, bad_line, is_called};
 use sdt_fault::answer::Fault;
 use sdt_fault::kinds::LineKind;
 use sdt_fault::{List, NoMemory};
@@ -98,13 +98,6 @@ fn starts_operation(rest: &[u8]) -> bool
         return false;
     };
     *first == b'&' || *first == b'=' || *first == b'%'
-}
-
-/// Whether a word is a name, in any case.
-pub fn is_called(name: &[u8], word: &[u8]) -> bool
-    ensures { result ≡ model.is_called name.now word.now }
-{
-    word.eq_ignore_ascii_case(name)
 }
 
 /// What is due behind a token.

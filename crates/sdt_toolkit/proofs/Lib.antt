@@ -1,3 +1,4 @@
 mod Meaning
 mod Seen
 mod ViewLaws
+pub mod CommandLemmas

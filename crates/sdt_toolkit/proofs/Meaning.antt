@@ -1,5 +1,5 @@
 -- What an answer means over a store that tells its files, from what a build answers and leaves.
-use Rattle.std.proofs.Common.{Bool, true, false, nat_lt, ◌^◌, length, ◌≡◌, ◌≢◌, ◌⊎◌, ℕ, List, Option, Some, None, Result, Ok, Err, refl, ap, sym, ◌∙◌, inl, inr, cond}
+use Rattle.std.proofs.Common.{Bool, true, false, nat_lt, ◌^◌, length, ◌≡◌, ◌≢◌, ℕ, List, Option, Some, None, Result, Ok, Err, refl, ap, ◌∙◌, inl, inr, cond}
 use Rattle.std.specs.Cmp.{Equal-is, eq_by_cmp_equiv}
 use Rattle.std.specs.Cmp.Lexicographic.{slice_cmp, nat_list_cmp_total}
 use Rattle.std.specs.Ordering.{nat_cmp, eq_by_cmp}
@@ -17,7 +17,7 @@ use Rattle.number_source.specs.Source.{numbers_of}
 use Rattle.number_source.proofs.SourceLaws.{source_is}
 use Rattle.sdt_toolkit.specs.Words.{bad_place}
 use Rattle.sdt_outside.specs.Files.{Files, content}
-use Rattle.sdt_toolkit.specs.Build.{AreSeen, BuildAnswers, Leaves, SaysBuilt, file_judged, file_of, input_judged, judged, lines_judged, output_of, source_of}
+use Rattle.sdt_toolkit.specs.Build.{BuildAnswers, SaysBuilt, file_judged, file_of, input_judged, judged, lines_judged, output_of, source_of}
 use Rattle.sdt_toolkit.specs.Clauses.{Builds, IsAnswered, IsBuilt, IsThere, Judges}
 use Rattle.sdt_toolkit.proofs.ViewLaws.{view_of_file}
 

@@ -1,10 +1,9 @@
 -- The bytes of numbers, loaded at a base, are the view of these numbers.
-use Rattle.std.proofs.Common.{◌≡◌, ℕ, zero, suc, ◌+◌, ◌-◌, ◌*◌, ◌<◌, ◌≤◌, List, [], ◌∷◌, ◌++◌, length, slice_get, slice_index, Option, Some, None, IsSome, ◌↔◌, nat_lt, refl, ap, sym, ◌∙◌, arith, rules, Bool, true, false, cond, zero-add}
+use Rattle.std.proofs.Common.{◌≡◌, ℕ, zero, suc, ◌+◌, ◌-◌, ◌*◌, ◌<◌, ◌≤◌, List, [], ◌∷◌, ◌++◌, length, slice_get, slice_index, None, IsSome, nat_lt, refl, ap, ◌∙◌, arith, Bool, true, false, cond, zero-add}
 use Rattle.std.proofs.lemmas.Bool.{le-ltb, ltb-false, false≢true}
-use Rattle.std.proofs.lemmas.Grind.{common_steps}
 use Rattle.sdt_word.specs.Bytes.{bytes_of}
 use Rattle.sdt_toolkit.specs.Build.{file_of}
-use Rattle.sdt_toolkit.specs.Views.{IsView, Shows, loaded}
+use Rattle.sdt_toolkit.specs.Views.{IsView, loaded}
 
 length-file_of : (numbers : List ℕ) → length (file_of numbers) ≡ 4 * length numbers
 length-file_of [] = refl

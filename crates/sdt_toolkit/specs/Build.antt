@@ -1,6 +1,6 @@
 -- `build -bin` of one source of numbers: which refusal its input has, what each answer says, and what it leaves of
 -- the files. This project's.
-use Rattle.std.specs.Prelude.{◌≡◌, ◌≢◌, ℕ, ◌^◌, List, [], ◌∷◌, length, slice_get, nat_lt, Option, Some, None, Result, Ok, Err, unwrap_or, if◌then◌else◌, ⊤}
+use Rattle.std.specs.Prelude.{◌≡◌, ℕ, ◌^◌, List, [], length, slice_get, nat_lt, Option, Some, None, Result, Ok, Err, unwrap_or, if◌then◌else◌, ⊤}
 use Rattle.std.specs.List.{flat_map}
 use Rattle.std.specs.Option.{option_map_or}
 use Rattle.std.specs.Str.Lines.{lines}

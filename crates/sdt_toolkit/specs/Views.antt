@@ -1,5 +1,5 @@
 -- Execution views: what memory is to hold, as a map from addresses to bytes. This project's.
-use Rattle.std.specs.Prelude.{◌≡◌, ℕ, ◌+◌, ◌-◌, ◌*◌, ◌<◌, ◌≤◌, ◌↔◌, List, length, slice_get, slice_index, Option, Some, None, IsSome, nat_lt, if◌then◌else◌}
+use Rattle.std.specs.Prelude.{◌≡◌, ℕ, ◌+◌, ◌-◌, ◌*◌, ◌<◌, ◌≤◌, ◌↔◌, List, length, slice_get, slice_index, Option, None, IsSome, nat_lt, if◌then◌else◌}
 use Rattle.sdt_word.specs.Bytes.{bytes_of}
 
 -- the map that some bytes make when they are loaded at a base

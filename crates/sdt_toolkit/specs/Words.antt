@@ -1,5 +1,5 @@
 -- The words of a command. This project's.
-use Rattle.std.specs.Prelude.{◌≡◌, ℕ, ◌+◌, ◌-◌, ◌<◌, List, [], ◌∷◌, length, drop, Bool, true, false, Option, Some, None, codes, nat_lt, nat_eq, ◌==◌, ◌&&◌, not, if◌then◌else◌, bytes_eq}
+use Rattle.std.specs.Prelude.{ℕ, ◌+◌, ◌-◌, List, [], ◌∷◌, length, drop, Bool, false, Option, Some, None, codes, nat_lt, nat_eq, ◌==◌, ◌&&◌, not, if◌then◌else◌, bytes_eq}
 use Rattle.std.specs.List.{starts_with, list_all}
 
 -- a word without a zero byte, as all words are

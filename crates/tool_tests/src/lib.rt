@@ -4,4 +4,6 @@
 #[cfg(test)]
 mod first_path;
 #[cfg(test)]
+mod librarian;
+#[cfg(test)]
 mod table;

@@ -1,5 +1,4 @@
-use Rattle.std.proofs.Common.{map, string_bytes, sym, ◌∙◌, ap}
-use Rattle.sdt_outside.specs.Counts.{Rose}
+use Rattle.std.proofs.Common.{map, string_bytes, sym, ◌∙◌}
 use Rattle.sdt_toolkit.proofs.Seen.{built_words, refused_words, without_memory}
 use Rattle.sdt_toolkit.proofs.build.build.Goals as goal
 

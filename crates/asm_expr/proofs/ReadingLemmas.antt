@@ -1,0 +1,155 @@
+-- Readings of operands, one after another.
+use Rattle.std.proofs.Common.{◌≡◌, ℕ, List, [], ◌∷◌, ◌++◌, Bool, true, false, refl, sym, ◌∙◌, ap, arith, append_assoc, Option, Some, None}
+use Rattle.std.specs.Prelude.{Result, Ok, Err, nat_lt}
+use Rattle.std.proofs.lemmas.Bool.{cond-true, cond-false, ltb-true, ltb-false, lt-ltb, le-ltb}
+use Rattle.sdt_fault.specs.declared.kinds.LineKind.{LineKind}
+use Rattle.sdt_fault.specs.declared.kinds.LineKind.TheVariants.{Syntax}
+use Rattle.asm_model.specs.declared.tokens.Token.{Token}
+use Rattle.asm_model.specs.declared.exprs.Expr.{Expr}
+use Rattle.asm_model.specs.declared.directives.Attribute.{Attribute}
+use Rattle.asm_model.specs.Areas.{attributes_in, attribute_in, listed, ReadsAttribute, ReadsAttributes, either}
+use Rattle.asm_model.specs.Directives.{or_else}
+use Rattle.asm_model.specs.Grammar.{ParsesTokens}
+use Rattle.asm_model.specs.Kinds.{earlier, rank}
+use Rattle.asm_model.specs.Operands.{operands_at, lengthened}
+use Rattle.asm_model.specs.Says.{Expressions, on_both, Aligned}
+use Rattle.asm_expr.specs.Steps.{CutsOperands}
+use Rattle.asm_expr.proofs.OperandLemmas.{begins}
+
+-- the order of kinds
+takes : (a b : LineKind) → nat_lt (rank b) (rank a) ≡ true → earlier a b ≡ b
+takes a b h = cond-true (nat_lt (rank b) (rank a)) b a h
+
+stays : (a b : LineKind) → nat_lt (rank b) (rank a) ≡ false → earlier a b ≡ a
+stays a b h = cond-false (nat_lt (rank b) (rank a)) b a h
+
+below_trans : (x y z : ℕ) → nat_lt y x ≡ true → nat_lt z y ≡ true → nat_lt z x ≡ true
+below_trans x y z h k = let a = ltb-true y x h in let b = ltb-true z y k in lt-ltb z x (omega arith)
+
+above_trans : (x y z : ℕ) → nat_lt y x ≡ false → nat_lt z y ≡ false → nat_lt z x ≡ false
+above_trans x y z h k = let a = ltb-false y x h in let b = ltb-false z y k in le-ltb z x (omega arith)
+
+pub earlier_assoc : (a b c : LineKind) → earlier a (earlier b c) ≡ earlier (earlier a b) c
+earlier_assoc a b c = by_tests (nat_lt (rank b) (rank a)) (nat_lt (rank c) (rank b)) refl refl
+  where
+    by_tests : (p q : Bool) → nat_lt (rank b) (rank a) ≡ p → nat_lt (rank c) (rank b) ≡ q → earlier a (earlier b c) ≡ earlier (earlier a b) c
+    by_tests true true p q =
+        ap (earlier a) (takes b c q) ∙ takes a c (below_trans (rank a) (rank b) (rank c) p q) ∙ sym (takes b c q) ∙ ap (λ x. earlier x c) (sym (takes a b p))
+    by_tests true false p q = ap (earlier a) (stays b c q) ∙ takes a b p ∙ sym (stays b c q) ∙ ap (λ x. earlier x c) (sym (takes a b p))
+    by_tests false true p q = ap (earlier a) (takes b c q) ∙ ap (λ x. earlier x c) (sym (stays a b p))
+    by_tests false false p q =
+        ap (earlier a) (stays b c q) ∙ stays a b p ∙ sym (stays a c (above_trans (rank a) (rank b) (rank c) p q)) ∙ ap (λ x. earlier x c) (sym (stays a b p))
+
+-- expressions
+pub nothing_before : (b : Result (List Expr) LineKind) → on_both (λ es fs. es ++ fs) (Ok []) b ≡ b
+nothing_before (Ok es) = refl
+nothing_before (Err k) = refl
+
+nothing_behind : (s : Result (List Expr) LineKind) (e : Result Expr LineKind) → on_both (λ es fs. es ++ fs) s (on_both (λ x xs. x ∷ xs) e (Ok [])) ≡ on_both (λ es x. es ++ x ∷ []) s e
+nothing_behind (Ok es) (Ok e) = refl
+nothing_behind (Ok es) (Err k) = refl
+nothing_behind (Err k) (Ok e) = refl
+nothing_behind (Err k) (Err j) = refl
+
+one_between : (s : Result (List Expr) LineKind) (e : Result Expr LineKind) (b : Result (List Expr) LineKind)
+    → on_both (λ es fs. es ++ fs) s (on_both (λ x xs. x ∷ xs) e b) ≡ on_both (λ es fs. es ++ fs) (on_both (λ es x. es ++ x ∷ []) s e) b
+one_between (Ok es) (Ok e) (Ok fs) = ap Ok (sym (append_assoc es (e ∷ []) fs))
+one_between (Ok es) (Ok e) (Err k) = refl
+one_between (Ok es) (Err j) (Ok fs) = refl
+one_between (Ok es) (Err j) (Err k) = refl
+one_between (Err i) (Ok e) (Ok fs) = refl
+one_between (Err i) (Ok e) (Err k) = refl
+one_between (Err i) (Err j) (Ok fs) = refl
+one_between (Err i) (Err j) (Err k) = ap Err (earlier_assoc i j k)
+
+pub expressions_step : (text : List ℕ) (all : List (List Token)) (left o behind : List Token) (s n : Result (List Expr) LineKind) (e : Result Expr LineKind)
+    → CutsOperands text left o (Some behind) → ParsesTokens text o e → n ≡ on_both (λ es x. es ++ x ∷ []) s e
+    → ((b : Result (List Expr) LineKind) → Expressions text (operands_at text 0 left) b → Expressions text all (on_both (λ es fs. es ++ fs) s b))
+    → (b : Result (List Expr) LineKind) → Expressions text (operands_at text 0 behind) b → Expressions text all (on_both (λ es fs. es ++ fs) n b)
+expressions_step text all left o behind s n e cut parsed more inv b h =
+    let before : Expressions text (operands_at text 0 left) (on_both (λ x xs. x ∷ xs) e b) = rw cut.0 (e, b, parsed, h, refl) in
+    let next = inv (on_both (λ x xs. x ∷ xs) e b) before in
+    rw more (rw one_between at next)
+
+pub expressions_end : (text : List ℕ) (all : List (List Token)) (left o : List Token) (s n : Result (List Expr) LineKind) (e : Result Expr LineKind)
+    → CutsOperands text left o None → ParsesTokens text o e → n ≡ on_both (λ es x. es ++ x ∷ []) s e
+    → ((b : Result (List Expr) LineKind) → Expressions text (operands_at text 0 left) b → Expressions text all (on_both (λ es fs. es ++ fs) s b))
+    → Expressions text all n
+expressions_end text all left o s n e cut parsed more inv =
+    let before : Expressions text (operands_at text 0 left) (on_both (λ x xs. x ∷ xs) e (Ok [])) = rw cut (e, Ok [], parsed, refl, refl) in
+    let next = inv (on_both (λ x xs. x ∷ xs) e (Ok [])) before in
+    rw more (rw nothing_behind at next)
+
+-- three operands or more
+some_operand : (front : List Token) (os : List (List Token)) → (o : List Token) × (rest : List (List Token)) × (lengthened front os ≡ o ∷ rest)
+some_operand front [] = (front, [], refl)
+some_operand front (o ∷ os) = (front ++ o, os, refl)
+
+pub past_two : (text : List ℕ) (os : List (List Token)) (o p ts : List Token) → os ≡ o ∷ p ∷ operands_at text 0 ts → Aligned text os (Err Syntax)
+past_two text os o p ts e =
+    let more = some_operand [] (operands_at text 0 ts) in
+    rw (e, begins text 0 ts, more.2) refl
+
+-- attributes
+pub no_number : (b : Result (Option Expr) LineKind) → either (Ok None) b ≡ b
+no_number (Ok e) = refl
+no_number (Err k) = refl
+
+no_number_behind : (a : Result (Option Expr) LineKind) → either a (Ok None) ≡ a
+no_number_behind (Ok None) = refl
+no_number_behind (Ok (Some e)) = refl
+no_number_behind (Err k) = refl
+
+first_of_three : (a b c : Option Expr) → or_else a (or_else b c) ≡ or_else (or_else a b) c
+first_of_three None b c = refl
+first_of_three (Some e) b c = refl
+
+either_assoc : (a b c : Result (Option Expr) LineKind) → either a (either b c) ≡ either (either a b) c
+either_assoc (Ok a) (Ok b) (Ok c) = ap Ok (first_of_three a b c)
+either_assoc (Ok a) (Ok b) (Err k) = refl
+either_assoc (Ok a) (Err j) (Ok c) = refl
+either_assoc (Ok a) (Err j) (Err k) = refl
+either_assoc (Err i) (Ok b) (Ok c) = refl
+either_assoc (Err i) (Ok b) (Err k) = refl
+either_assoc (Err i) (Err j) (Ok c) = refl
+either_assoc (Err i) (Err j) (Err k) = ap Err (earlier_assoc i j k)
+
+pub attribute_step : (text : List ℕ) (all : List (List Token)) (left o behind : List Token) (s n a : Result (Option Expr) LineKind)
+    → CutsOperands text left o (Some behind) → ReadsAttribute text o a → n ≡ either s a
+    → ((b : Result (Option Expr) LineKind) → ReadsAttributes text (operands_at text 0 left) b → ReadsAttributes text all (either s b))
+    → (b : Result (Option Expr) LineKind) → ReadsAttributes text (operands_at text 0 behind) b → ReadsAttributes text all (either n b)
+attribute_step text all left o behind s n a cut reads more inv b h =
+    let before : ReadsAttributes text (operands_at text 0 left) (either a b) = rw cut.0 (a, b, reads, h, refl) in
+    let next = inv (either a b) before in
+    rw more (rw either_assoc at next)
+
+pub attribute_end : (text : List ℕ) (all : List (List Token)) (left o : List Token) (s n a : Result (Option Expr) LineKind)
+    → CutsOperands text left o None → ReadsAttribute text o a → n ≡ either s a
+    → ((b : Result (Option Expr) LineKind) → ReadsAttributes text (operands_at text 0 left) b → ReadsAttributes text all (either s b))
+    → ReadsAttributes text all n
+attribute_end text all left o s n a cut reads more inv =
+    let before : ReadsAttributes text (operands_at text 0 left) (either a (Ok None)) = rw cut (a, Ok None, reads, refl, refl) in
+    let next = inv (either a (Ok None)) before in
+    rw more (rw no_number_behind at next)
+
+-- the words of operands
+words_cons : (text : List ℕ) (o : List Token) (os : List (List Token)) → attributes_in text (o ∷ os) ≡ attributes_in text (o ∷ []) ++ attributes_in text os
+words_cons text o os = by_word (attribute_in text o)
+  where
+    by_word : (w : Option Attribute) → listed w ++ attributes_in text os ≡ (listed w ++ []) ++ attributes_in text os
+    by_word None = refl
+    by_word (Some a) = refl
+
+pub words_step : (text : List ℕ) (all : List Attribute) (left o behind : List Token) (s n : List Attribute)
+    → CutsOperands text left o (Some behind) → n ≡ s ++ attributes_in text (o ∷ [])
+    → s ++ attributes_in text (operands_at text 0 left) ≡ all → n ++ attributes_in text (operands_at text 0 behind) ≡ all
+words_step text all left o behind s n cut more inv =
+    ap (λ x. x ++ attributes_in text (operands_at text 0 behind)) more
+    ∙ append_assoc s (attributes_in text (o ∷ [])) (attributes_in text (operands_at text 0 behind))
+    ∙ ap (λ x. s ++ x) (sym (words_cons text o (operands_at text 0 behind)))
+    ∙ ap (λ x. s ++ attributes_in text x) (sym cut.0) ∙ inv
+
+pub words_end : (text : List ℕ) (all : List Attribute) (left o : List Token) (s n : List Attribute)
+    → CutsOperands text left o None → n ≡ s ++ attributes_in text (o ∷ [])
+    → s ++ attributes_in text (operands_at text 0 left) ≡ all → n ≡ all
+words_end text all left o s n cut more inv = more ∙ ap (λ x. s ++ attributes_in text x) (sym cut) ∙ inv

@@ -1,0 +1,114 @@
+-- What a line says as a directive, from its readings, and that it says one thing.
+use Rattle.std.proofs.Common.{◌≡◌, ℕ, List, [], ◌∷◌, Bool, true, false, refl, sym, ◌∙◌, ap, Option, Some, None, map}
+use Rattle.std.specs.Prelude.{Result, Ok, Err, MatchBool}
+use Rattle.sdt_fault.specs.declared.kinds.LineKind.{LineKind}
+use Rattle.asm_model.specs.declared.lines.Flat.{Flat}
+use Rattle.asm_model.specs.declared.tokens.Token.{Token}
+use Rattle.asm_model.specs.declared.exprs.Expr.{Expr}
+use Rattle.asm_model.specs.declared.directives.Directive.{Directive}
+use Rattle.asm_model.specs.declared.directives.DirectiveLine.{DirectiveLine}
+use Rattle.asm_model.specs.declared.statements.Statement.{Statement}
+use Rattle.asm_model.specs.declared.statements.What.TheVariants as what
+use Rattle.asm_model.specs.Areas.{ReadsAttribute, ReadsAttributes, begins_alignment, alignment, either}
+use Rattle.asm_model.specs.Grammar.{ParsesTokens}
+use Rattle.asm_model.specs.Operands.{operands}
+use Rattle.asm_model.specs.Parts.{part_of}
+use Rattle.asm_model.specs.Says.{Form, bare, name, imported, expression, expressions, area, register, boundary, refused, on_both, mapped, Sentence, sentence, directive_of, statement_of, SaysAs, SaysDirective, Expression, Expressions, SomeExpressions, Area, Register, Aligned, Reads, register_alone}
+use Rattle.asm_expr.specs.SentenceSteps.{IsReadAs}
+use Rattle.asm_expr.proofs.ParseLaws.{one_reading}
+
+-- what is made of two readings
+made_of_both : {A B C D : Type 0} (f : C → D) (g : A → B → C) (a : Result A LineKind) (b : Result B LineKind)
+    → mapped f (on_both g a b) ≡ on_both (λ x y. f (g x y)) a b
+made_of_both f g (Ok a) (Ok b) = refl
+made_of_both f g (Ok a) (Err k) = refl
+made_of_both f g (Err k) (Ok b) = refl
+made_of_both f g (Err k) (Err j) = refl
+
+pub said : (flat : Flat) (ts : List Token) (text : List ℕ) (s : Sentence) (o : Option Directive) (d : Directive) (r : Result (Option (List ℕ) × DirectiveLine) LineKind)
+    → text ≡ flat.text → s ≡ sentence ts → o ≡ directive_of text s.operation → o ≡ Some d → IsReadAs text s d r
+    → SaysDirective flat ts (mapped (λ p. statement_of flat p.0 p.1) r)
+said flat ts text s o d r et es eo ed h =
+    let read : IsReadAs flat.text (sentence ts) d r = rw (et, es) at h in
+    let named : directive_of flat.text (sentence ts).operation ≡ Some d = rw (et, es) at (sym eo ∙ ed) in
+    rw named (read.0, read.1, ap (mapped (λ p. statement_of flat p.0 p.1)) read.2 ∙ made_of_both (λ p. statement_of flat p.0 p.1) (λ label line. (label, line)) _ read.0)
+
+pub said_fault : (flat : Flat) (ts : List Token) (text : List ℕ) (s : Sentence) (o : Option Directive) (d : Directive) (r : Result (Option (List ℕ) × DirectiveLine) LineKind) (k : LineKind)
+    → text ≡ flat.text → s ≡ sentence ts → o ≡ directive_of text s.operation → o ≡ Some d → IsReadAs text s d r → r ≡ Err k
+    → SaysDirective flat ts (Err k)
+said_fault flat ts text s o d r k et es eo ed h e = let all = said flat ts text s o d r et es eo ed h in rw e at all
+
+pub said_statement : (flat : Flat) (ts : List Token) (text : List ℕ) (s : Sentence) (o : Option Directive) (d : Directive) (r : Result (Option (List ℕ) × DirectiveLine) LineKind)
+    (source : List ℕ) (label : Option (List ℕ)) (l : DirectiveLine)
+    → text ≡ flat.text → s ≡ sentence ts → o ≡ directive_of text s.operation → o ≡ Some d → IsReadAs text s d r → r ≡ Ok (label, l) → source ≡ flat.source
+    → SaysDirective flat ts (Ok (Some (record { source = source; number = flat.number; label = label; what = what.Directive l })))
+said_statement flat ts text s o d r source label l et es eo ed h e same =
+    let all = said flat ts text s o d r et es eo ed h in
+    let found : SaysDirective flat ts (Ok (statement_of flat label l)) = rw e at all in
+    rw same found
+
+-- one outcome
+one_expression : {A : Type 0} (text : List ℕ) (make : Expr → A) (ts : List Token) (a b : Result A LineKind) → Expression text make ts a → Expression text make ts b → a ≡ b
+one_expression text make ts a b p q =
+    p.2 ∙ ap (mapped make) (one_reading (map (part_of text) ts) p.0 q.0 p.1 q.1) ∙ sym q.2
+
+one_list : (text : List ℕ) (os : List (List Token)) (a b : Result (List Expr) LineKind) → Expressions text os a → Expressions text os b → a ≡ b
+one_list text [] a b p q = p ∙ sym q
+one_list text (o ∷ os) a b p q =
+    p.4 ∙ ap (λ e. on_both (λ x xs. x ∷ xs) e p.1) (one_reading (map (part_of text) o) p.0 q.0 p.2 q.2)
+    ∙ ap (λ es. on_both (λ x xs. x ∷ xs) q.0 es) (one_list text os p.1 q.1 p.3 q.3) ∙ sym q.4
+
+one_some : (text : List ℕ) (os : List (List Token)) (a b : Result (List Expr) LineKind) → SomeExpressions text os a → SomeExpressions text os b → a ≡ b
+one_some text [] a b p q = p ∙ sym q
+one_some text (o ∷ os) a b p q = one_list text (o ∷ os) a b p q
+
+one_alignment : (text : List ℕ) (ts : List Token) (t : Bool) (n a b : Result (Option Expr) LineKind)
+    → MatchBool t ((e : Result Expr LineKind) × ParsesTokens text ts e × (a ≡ alignment e)) (a ≡ n)
+    → MatchBool t ((e : Result Expr LineKind) × ParsesTokens text ts e × (b ≡ alignment e)) (b ≡ n) → a ≡ b
+one_alignment text ts true n a b p q = p.2 ∙ ap alignment (one_reading (map (part_of text) ts) p.0 q.0 p.1 q.1) ∙ sym q.2
+one_alignment text ts false n a b p q = p ∙ sym q
+
+one_attribute : (text : List ℕ) (o : List Token) (a b : Result (Option Expr) LineKind) → ReadsAttribute text o a → ReadsAttribute text o b → a ≡ b
+one_attribute text [] a b p q = p ∙ sym q
+one_attribute text (t ∷ []) a b p q = p ∙ sym q
+one_attribute text (t ∷ u ∷ ts) a b p q = one_alignment text ts (begins_alignment text t u) _ a b p q
+
+one_attributes : (text : List ℕ) (os : List (List Token)) (a b : Result (Option Expr) LineKind) → ReadsAttributes text os a → ReadsAttributes text os b → a ≡ b
+one_attributes text [] a b p q = p ∙ sym q
+one_attributes text (o ∷ os) a b p q =
+    p.4 ∙ ap (λ x. either x p.1) (one_attribute text o p.0 q.0 p.2 q.2) ∙ ap (either q.0) (one_attributes text os p.1 q.1 p.3 q.3) ∙ sym q.4
+
+one_area : (text : List ℕ) (os : List (List Token)) (a b : Result DirectiveLine LineKind) → Area text os a → Area text os b → a ≡ b
+one_area text [] a b p q = p ∙ sym q
+one_area text (o ∷ os) a b p q = let e = one_attributes text os p.0 q.0 p.1 q.1 in let x = p.2 in let y = q.2 in rw (x, y, e) refl
+
+one_register : (text : List ℕ) (n : Option ℕ) (ts : List Token) (a b : Result DirectiveLine LineKind) → Register text n ts a → Register text n ts b → a ≡ b
+one_register text (Some n) ts a b p q = p ∙ sym q
+one_register text None ts a b p q = one_expression text _ ts a b p q
+
+one_boundary : (text : List ℕ) (os : List (List Token)) (a b : Result DirectiveLine LineKind) → Aligned text os a → Aligned text os b → a ≡ b
+one_boundary text [] a b p q = p ∙ sym q
+one_boundary text (o ∷ []) a b p q = one_expression text _ o a b p q
+one_boundary text (o ∷ u ∷ []) a b p q =
+    let e = one_reading (map (part_of text) o) p.0 q.0 p.2 q.2 in
+    let f = one_reading (map (part_of text) u) p.1 q.1 p.3 q.3 in
+    let x = p.4 in
+    let y = q.4 in
+    rw (x, y, e, f) refl
+one_boundary text (o ∷ u ∷ v ∷ os) a b p q = p ∙ sym q
+
+one_reads : (text : List ℕ) (form : Form) (ts : List Token) (a b : Result DirectiveLine LineKind) → Reads text form ts a → Reads text form ts b → a ≡ b
+one_reads text (bare l) ts a b p q = p ∙ sym q
+one_reads text (name make) ts a b p q = p ∙ sym q
+one_reads text (imported make) ts a b p q = p ∙ sym q
+one_reads text (expression make) ts a b p q = one_expression text make ts a b p q
+one_reads text (expressions make) ts a b p q = p.2 ∙ ap (mapped make) (one_some text (operands text ts) p.0 q.0 p.1 q.1) ∙ sym q.2
+one_reads text area ts a b p q = one_area text (operands text ts) a b p q
+one_reads text register ts a b p q = one_register text (register_alone text ts) ts a b p q
+one_reads text boundary ts a b p q = one_boundary text (operands text ts) a b p q
+one_reads text (refused k) ts a b p q = p ∙ sym q
+
+pub one_saying : (flat : Flat) (s : Sentence) (d : Option Directive) (a b : Result (Option Statement) LineKind) → SaysAs flat s d a → SaysAs flat s d b → a ≡ b
+one_saying flat s None a b p q = p ∙ sym q
+one_saying flat s (Some d) a b p q =
+    p.2 ∙ ap (on_both (statement_of flat) _) (one_reads flat.text _ s.behind p.0 q.0 p.1 q.1) ∙ sym q.2

@@ -1,0 +1,13 @@
+use Rattle.std.proofs.Common.{◌∙◌}
+use Rattle.asm_expr.proofs.EvalLemmas.{evaluated}
+use Rattle.asm_expr.proofs.value.evaluate_by.Goals as goal
+
+pub returns-in-Ok : goal.returns-in-Ok
+returns-in-Ok c ps t d i =
+    evaluated c.args.names.now c.as_slice-2.result.now c.args.e.now.items c.as_slice.result.now c.in_ok-stack.stack.items c.in_ok-value.field-0
+    c.as_slice.ensures c.as_slice-2.ensures c.in_ok-stack.ensures c.in_ok-value.ensures ps t d i ∙ c.in-Ok.is
+
+pub returns-in-Err : goal.returns-in-Err
+returns-in-Err c ps t d i =
+    evaluated c.args.names.now c.as_slice-2.result.now c.args.e.now.items c.as_slice.result.now c.in_ok-stack.stack.items c.in_ok-value.field-0
+    c.as_slice.ensures c.as_slice-2.ensures c.in_ok-stack.ensures c.in_ok-value.ensures ps t d i ∙ c.in-Err.is

@@ -1,0 +1,34 @@
+-- Steps of the code that reads the attributes of an area. This project's.
+use Rattle.std.specs.Prelude.{◌≡◌, ℕ, List, [], ◌∷◌, ◌++◌, Option, Some, None, Result}
+use Rattle.sdt_fault.specs.declared.kinds.LineKind.{LineKind}
+use Rattle.asm_model.specs.declared.tokens.Token.{Token}
+use Rattle.asm_model.specs.declared.exprs.Expr.{Expr}
+use Rattle.asm_model.specs.declared.directives.AreaAttributes.{AreaAttributes}
+use Rattle.asm_model.specs.Areas.{alignment, ReadsAttribute, ReadsAttributes, attributes_in, either, agreed}
+use Rattle.asm_model.specs.Grammar.{ParsesTokens}
+use Rattle.asm_model.specs.Operands.{operands_at}
+use Rattle.asm_expr.specs.declared.areas.Written.{Written}
+
+-- the number behind ALIGN and its equals sign
+abbrev pub ReadsAlignment : List ℕ → List Token → Result (Option Expr) LineKind → Type 0
+ReadsAlignment text ts r = (e : Result Expr LineKind) × ParsesTokens text ts e × (r ≡ alignment e)
+
+-- one operand more
+abbrev pub TakesAttribute : List ℕ → List Token → Written → Written → Type 0
+TakesAttribute text o old new =
+    (new.words.items ≡ old.words.items ++ attributes_in text (o ∷ []))
+    × ((a : Result (Option Expr) LineKind) × ReadsAttribute text o a × (new.align ≡ either old.align a))
+
+-- the attributes of operands
+abbrev pub IsWritten : List ℕ → List (List Token) → Written → Type 0
+IsWritten text os w = (w.words.items ≡ attributes_in text os) × ReadsAttributes text os w.align
+
+-- operands, where there are tokens behind a comma
+abbrev pub operands_behind : List ℕ → Option (List Token) → List (List Token)
+operands_behind text None = []
+operands_behind text (Some ts) = operands_at text 0 ts
+
+-- the attributes of an area, from the operands behind its name
+abbrev pub ReadsBehind : List ℕ → List (List Token) → Result AreaAttributes LineKind → Type 0
+ReadsBehind text os r =
+    (align : Result (Option Expr) LineKind) × ReadsAttributes text os align × (r ≡ agreed (attributes_in text os) align)

@@ -1,0 +1,25 @@
+-- A map from names to places in a list. This project's.
+use Rattle.std.specs.Prelude.{ℕ, ◌+◌, List, [], ◌∷◌, Option, Some, None, if◌then◌else◌}
+use Rattle.std.specs.Ordering.{nat_cmp}
+use Rattle.std.specs.Cmp.Lexicographic.{slice_cmp}
+use Rattle.std.specs.BTreeMap.{BTreeMap, get}
+use Rattle.asm_model.specs.declared.names.LaidName.{LaidName}
+use Rattle.asm_model.specs.Forms.{same}
+
+abbrev pub number_in : BTreeMap (List ℕ) ℕ → List ℕ → Option ℕ
+number_in m q = get (slice_cmp nat_cmp) m q
+
+-- what was there, or the number where the name is q
+abbrev pub or_number : Option ℕ → List ℕ → ℕ → List ℕ → Option ℕ
+or_number (Some k) name number q = Some k
+or_number None name number q = if same name q then Some number else None
+
+-- a place, counted from one entry before
+abbrev pub one_later : Option ℕ → Option ℕ
+one_later None = None
+one_later (Some i) = Some (i + 1)
+
+-- the place of the first entry with the name
+abbrev pub place_of : List ℕ → List LaidName → Option ℕ
+place_of name [] = None
+place_of name (n ∷ ns) = if same n.name name then Some 0 else one_later (place_of name ns)

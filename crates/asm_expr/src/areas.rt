@@ -1,0 +1,342 @@
+//! The attributes of AREA.
+
+ghost use Rattle.std.specs.Prelude.{◌≡◌, IfOk};
+ghost use Rattle.asm_model.specs.Areas as areas;
+ghost use Rattle.asm_model.specs.Directives as directives;
+ghost use Rattle.asm_model.specs.Operands as operands;
+ghost use Rattle.std.specs.Option.{option_copied};
+ghost use Rattle.asm_expr.specs.AreaSteps.{ReadsAlignment, TakesAttribute, IsWritten, ReadsBehind, operands_behind};
+
+use crate::kinds::earlier;
+use crate::operands::{first_operand, is, piece_of};
+use crate::read::expression;
+use asm_model::{AreaAttributes, Attribute, Contents, Expr, Token, TokenKind, is_called};
+use sdt_fault::NoMemory;
+use sdt_fault::kinds::LineKind;
+use std::alloc::Global;
+
+/// The attribute that a word names, in any case; None where it names none.
+#[tactic(auto, unfolding(asm_model::specs::Areas::attribute_named))]
+fn attribute_named(word: &[u8]) -> Option<Attribute>
+    ensures { result ≡ areas.attribute_named word.now }
+{
+    if is_called(b"CODE", word) {
+        return Some(Attribute::Code);
+    }
+    if is_called(b"DATA", word) {
+        return Some(Attribute::Data);
+    }
+    if is_called(b"READONLY", word) {
+        return Some(Attribute::ReadOnly);
+    }
+    if is_called(b"READWRITE", word) {
+        return Some(Attribute::ReadWrite);
+    }
+    if is_called(b"NOINIT", word) {
+        return Some(Attribute::NoInit);
+    }
+    if is_called(b"INTERWORK", word) {
+        return Some(Attribute::Interwork);
+    }
+    if is_called(b"HALFWORD", word) {
+        return Some(Attribute::Halfword);
+    }
+    if is_called(b"PIC", word) {
+        return Some(Attribute::Pic);
+    }
+    if is_called(b"REENTRANT", word) {
+        return Some(Attribute::Reentrant);
+    }
+    if is_called(b"ALIGN", word) {
+        return Some(Attribute::Align);
+    }
+    None
+}
+
+/// A number that tells attributes apart.
+fn code(attribute: Attribute) -> u8
+    ensures { result ≡ areas.attribute_code attribute }
+{
+    attribute as u8
+}
+
+/// How often an attribute stands among these.
+fn occurrences(attribute: Attribute, words: &[Attribute]) -> usize
+    ensures { result ≡ areas.occurrences attribute words.now }
+{
+    words
+        .iter()
+        .filter(|word| code(**word) == code(attribute))
+        .count()
+}
+
+fn has(attribute: Attribute, words: &[Attribute]) -> bool
+    ensures { result ≡ areas.has attribute words.now }
+{
+    occurrences(attribute, words) > 0
+}
+
+/// The attributes.
+const ALL: [Attribute; 10] = [
+    Attribute::Code,
+    Attribute::Data,
+    Attribute::ReadOnly,
+    Attribute::ReadWrite,
+    Attribute::NoInit,
+    Attribute::Interwork,
+    Attribute::Halfword,
+    Attribute::Pic,
+    Attribute::Reentrant,
+    Attribute::Align,
+];
+
+/// Whether an attribute stands twice.
+#[tactic(auto, unfolding(asm_model::specs::Areas::is_repeated))]
+fn is_repeated(words: &[Attribute]) -> bool
+    ensures { result ≡ areas.is_repeated words.now }
+{
+    ALL.iter()
+        .any(|attribute| occurrences(*attribute, words) > 1)
+}
+
+/// Whether attributes exclude each other.
+#[tactic(auto, unfolding(asm_model::specs::Areas::is_contradicting))]
+fn is_contradicting(words: &[Attribute]) -> bool
+    ensures { result ≡ areas.is_contradicting words.now }
+{
+    let code = has(Attribute::Code, words);
+    let data = has(Attribute::Data, words);
+    let zero = has(Attribute::NoInit, words);
+    let read_only = has(Attribute::ReadOnly, words);
+    let read_write = has(Attribute::ReadWrite, words);
+    let interwork = has(Attribute::Interwork, words);
+    let halfword = has(Attribute::Halfword, words);
+    (code && (data || zero))
+        || (!code && !data && !zero)
+        || (read_only && read_write)
+        || (!code && (interwork || halfword))
+}
+
+/// What an area with these attributes holds.
+fn contents_of(words: &[Attribute]) -> Contents
+    ensures { result ≡ areas.contents_of words.now }
+{
+    if has(Attribute::Code, words) {
+        return Contents::Code;
+    }
+    if has(Attribute::NoInit, words) {
+        return Contents::Zeroes;
+    }
+    Contents::Data
+}
+
+/// Whether an area with these attributes is read-only.
+fn is_read_only(words: &[Attribute]) -> bool
+    ensures { result ≡ areas.is_read_only words.now }
+{
+    if has(Attribute::Code, words) {
+        return !has(Attribute::ReadWrite, words);
+    }
+    has(Attribute::ReadOnly, words)
+}
+
+fn attributes_of(words: &[Attribute], align: Option<Expr>) -> AreaAttributes
+    ensures { result ≡ areas.attributes_of words.now align }
+{
+    AreaAttributes {
+        contents: contents_of(words),
+        read_only: is_read_only(words),
+        interwork: has(Attribute::Interwork, words),
+        halfword: has(Attribute::Halfword, words),
+        pic: has(Attribute::Pic, words),
+        reentrant: has(Attribute::Reentrant, words),
+        align,
+    }
+}
+
+/// A word that is an attribute by itself.
+fn plain_attribute(attribute: Option<Attribute>) -> Result<Option<Expr>, LineKind>
+    ensures { result ≡ areas.plain_attribute attribute }
+{
+    match attribute {
+        None => Err(LineKind::BadOperand),
+        Some(Attribute::Align) => Err(LineKind::Syntax),
+        Some(_) => Ok(None),
+    }
+}
+
+/// An operand that is one token.
+fn word_attribute(kind: TokenKind, word: &[u8]) -> Result<Option<Expr>, LineKind>
+    ensures { result ≡ areas.word_attribute kind word.now }
+{
+    match kind {
+        TokenKind::Name => plain_attribute(attribute_named(word)),
+        _ => Err(LineKind::Syntax),
+    }
+}
+
+/// Whether two tokens begin an alignment.
+fn begins_alignment(text: &[u8], word: Token, sign: Token) -> bool
+    ensures { result ≡ areas.begins_alignment text.now word sign }
+{
+    match attribute_named(piece_of(text, word)) {
+        None => false,
+        Some(attribute) => {
+            if code(attribute) != 9 {
+                return false;
+            }
+            is(piece_of(text, sign), b"=")
+        }
+    }
+}
+
+/// The attribute that an operand writes.
+fn attribute_in(text: &[u8], operand: &[Token]) -> Option<Attribute>
+    ensures { result ≡ areas.attribute_in text.now operand.now }
+{
+    match operand {
+        [] => None,
+        [word] => attribute_named(piece_of(text, *word)),
+        [word, sign, ..] => {
+            if begins_alignment(text, *word, *sign) {
+                return Some(Attribute::Align);
+            }
+            None
+        }
+    }
+}
+
+/// The number of an alignment.
+fn alignment(
+    alloc: Global,
+    text: &[u8],
+    tokens: &[Token],
+) -> Result<Result<Option<Expr>, LineKind>, NoMemory>
+    ensures { IfOk result (λ reading. ReadsAlignment text.now tokens.now reading) }
+{
+    match expression(alloc, text, tokens)? {
+        Ok(expression) => Ok(Ok(Some(expression))),
+        Err(kind) => Ok(Err(kind)),
+    }
+}
+
+/// What an operand reads as: the number of an alignment, where it is one.
+fn read_attribute(
+    alloc: Global,
+    text: &[u8],
+    operand: &[Token],
+) -> Result<Result<Option<Expr>, LineKind>, NoMemory>
+    ensures { IfOk result (λ reading. areas.ReadsAttribute text.now operand.now reading) }
+{
+    match operand {
+        [] => Ok(Err(LineKind::Syntax)),
+        [word] => Ok(word_attribute(word.kind, piece_of(text, *word))),
+        [word, sign, tokens @ ..] => {
+            if begins_alignment(text, *word, *sign) {
+                return alignment(alloc, text, tokens);
+            }
+            Ok(Err(LineKind::Syntax))
+        }
+    }
+}
+
+/// The first number that is there.
+fn or_else(a: Option<Expr>, b: Option<Expr>) -> Option<Expr>
+    ensures { result ≡ directives.or_else a b }
+{
+    match a {
+        Some(number) => Some(number),
+        None => b,
+    }
+}
+
+/// The first number of two readings, or the fault of them that is told.
+fn either(
+    a: Result<Option<Expr>, LineKind>,
+    b: Result<Option<Expr>, LineKind>,
+) -> Result<Option<Expr>, LineKind>
+    ensures { result ≡ areas.either a b }
+{
+    match (a, b) {
+        (Ok(a), Ok(b)) => Ok(or_else(a, b)),
+        (Ok(_), Err(kind)) => Err(kind),
+        (Err(kind), Ok(_)) => Err(kind),
+        (Err(kind), Err(other)) => Err(earlier(kind, other)),
+    }
+}
+
+/// Attributes as they are written: their words, and the number of an alignment among them.
+#[derive(Debug, Drop)]
+pub struct Written {
+    pub words: Vec<Attribute>,
+    pub align: Result<Option<Expr>, LineKind>,
+}
+
+impl Written {
+    /// One operand more.
+    fn take(self, alloc: Global, text: &[u8], operand: &[Token]) -> Result<Written, NoMemory>
+        ensures { IfOk result (λ written. TakesAttribute text.now operand.now self written) }
+    {
+        let Written { mut words, align } = self;
+        if let Some(word) = attribute_in(text, operand) {
+            words.push(word)?;
+        }
+        let reading = read_attribute(alloc, text, operand)?;
+        Ok(Written {
+            words,
+            align: either(align, reading),
+        })
+    }
+}
+
+/// The attributes that operands write.
+fn read_attributes(alloc: Global, text: &[u8], tokens: &[Token]) -> Result<Written, NoMemory>
+    ensures { IfOk result (λ written. IsWritten text.now (operands.operands_at text.now 0 tokens.now) written) }
+{
+    let mut written = Written {
+        words: Vec::new(alloc),
+        align: Ok(None),
+    };
+    let mut left = tokens;
+    'operands: loop {
+        let (operand, behind) = first_operand(text, left);
+        written = written.take(alloc, text, operand)?;
+        match behind {
+            None => return Ok(written),
+            Some(tokens) => left = tokens,
+        }
+    }
+}
+
+/// Attributes that agree.
+fn agreed(
+    words: &[Attribute],
+    align: Result<Option<Expr>, LineKind>,
+) -> Result<AreaAttributes, LineKind>
+    ensures { result ≡ areas.agreed words.now align }
+{
+    let disagree = is_repeated(words) || is_contradicting(words);
+    match (disagree, align) {
+        (true, Ok(_)) => Err(LineKind::BadOperand),
+        (true, Err(kind)) => Err(earlier(LineKind::BadOperand, kind)),
+        (false, Ok(number)) => Ok(attributes_of(words, number)),
+        (false, Err(kind)) => Err(kind),
+    }
+}
+
+/// The attributes behind the name of an area, where there are operands behind it.
+pub fn attributes(
+    alloc: Global,
+    text: &[u8],
+    behind: Option<&[Token]>,
+) -> Result<Result<AreaAttributes, LineKind>, NoMemory>
+    ensures { IfOk result (λ reading. ReadsBehind text.now (operands_behind text.now (option_copied behind.entry)) reading) }
+{
+    match behind {
+        None => Ok(agreed(&[], Ok(None))),
+        Some(tokens) => {
+            let Written { words, align } = read_attributes(alloc, text, tokens)?;
+            Ok(agreed(words.as_slice(), align))
+        }
+    }
+}

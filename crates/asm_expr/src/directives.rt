@@ -1,0 +1,306 @@
+//! What a line says as a directive.
+
+ghost use Rattle.std.specs.Prelude.{◌≡◌, ◌∷◌, IfOk};
+ghost use Rattle.asm_model.specs.declared.tokens.TokenKind.TheVariants as kind;
+ghost use Rattle.asm_model.specs.Directives as directives;
+ghost use Rattle.asm_model.specs.Forms as forms;
+ghost use Rattle.asm_model.specs.Says as says;
+ghost use Rattle.asm_model.specs.Told.{Told};
+ghost use Rattle.asm_expr.specs.SentenceSteps.{sentence_of, IsReadAs};
+
+use crate::directive_names::directive_named;
+use crate::kinds::earlier;
+use crate::operands::piece_of;
+use crate::parts::inside;
+use crate::read::expression;
+use crate::readings::{area, bare, boundary, expressions, import, name_alone, register};
+use asm_model::{
+    Directive, DirectiveLine, Flat, LabelNeed, Statement, Token, TokenKind, What, bad_line,
+};
+use sdt_fault::answer::Fault;
+use sdt_fault::kinds::LineKind;
+use sdt_fault::{NoMemory, Text};
+use std::alloc::Global;
+
+/// What a directive asks of the label field.
+fn label_need(directive: Directive) -> LabelNeed
+    ensures { result ≡ directives.label_need directive }
+{
+    match directive {
+        Directive::Equ => LabelNeed::Name,
+        Directive::Rn => LabelNeed::Name,
+        Directive::Field => LabelNeed::Name,
+        Directive::Data => LabelNeed::Label,
+        _ => LabelNeed::Optional,
+    }
+}
+
+/// Whether a number is one digit or two.
+fn is_short(piece: &[u8]) -> bool
+    ensures { result ≡ forms.is_short piece.now }
+{
+    match piece {
+        [first] => first.is_ascii_digit(),
+        [first, second] => first.is_ascii_digit() && second.is_ascii_digit(),
+        _ => false,
+    }
+}
+
+/// A local label, which is kept behind a bar.
+fn local(alloc: Global, digits: &[u8]) -> Result<Text, NoMemory>
+    ensures { IfOk result (λ name. name ≡ 124 ∷ digits.now) }
+{
+    let mut name = Vec::from_slice(alloc, b"|")?;
+    name.extend_from_slice(digits)?;
+    Ok(Text::from_vec(name))
+}
+
+/// A number as a label.
+fn numbered(
+    alloc: Global,
+    need: LabelNeed,
+    piece: &[u8],
+) -> Result<Result<Option<Text>, LineKind>, NoMemory>
+    ensures { IfOk result (λ label. label ≡ says.label_of need kind.Number piece.now) }
+{
+    match need {
+        LabelNeed::Name => Ok(Err(LineKind::Syntax)),
+        _ => {
+            if is_short(piece) {
+                return Ok(Ok(Some(local(alloc, piece)?)));
+            }
+            Ok(Err(LineKind::Syntax))
+        }
+    }
+}
+
+/// A token as a label.
+fn label_of(
+    alloc: Global,
+    need: LabelNeed,
+    kind: TokenKind,
+    piece: &[u8],
+) -> Result<Result<Option<Text>, LineKind>, NoMemory>
+    ensures { IfOk result (λ label. label ≡ says.label_of need kind piece.now) }
+{
+    match kind {
+        TokenKind::Name => Ok(Ok(Some(Text::from_slice(alloc, piece)?))),
+        TokenKind::Barred => Ok(Ok(Some(Text::from_slice(alloc, inside(piece))?))),
+        TokenKind::Number => numbered(alloc, need, piece),
+        _ => Ok(Err(LineKind::Syntax)),
+    }
+}
+
+/// What the label field reads as.
+fn label_field(
+    alloc: Global,
+    need: LabelNeed,
+    text: &[u8],
+    token: Option<Token>,
+) -> Result<Result<Option<Text>, LineKind>, NoMemory>
+    ensures { IfOk result (λ label. label ≡ says.label_field need text.now token) }
+{
+    match token {
+        Some(token) => label_of(alloc, need, token.kind, piece_of(text, token)),
+        None => match need {
+            LabelNeed::Optional => Ok(Ok(None)),
+            _ => Ok(Err(LineKind::Syntax)),
+        },
+    }
+}
+
+/// The tokens of a line.
+#[derive(Clone, Copy, Debug)]
+pub struct Sentence<'a> {
+    pub label: Option<Token>,
+    pub operation: Option<Token>,
+    pub behind: &'a [Token],
+}
+
+/// The operation, and what stands behind it.
+fn operated(label: Option<Token>, tokens: &[Token]) -> Sentence<'_>
+    ensures { sentence_of result ≡ says.operated label tokens.now }
+{
+    match tokens {
+        [] => Sentence {
+            label,
+            operation: None,
+            behind: tokens,
+        },
+        [operation, behind @ ..] => Sentence {
+            label,
+            operation: Some(*operation),
+            behind,
+        },
+    }
+}
+
+/// The tokens of a line by what they are: a token in column 1 is the label.
+fn parts_of(tokens: &[Token]) -> Sentence<'_>
+    ensures { sentence_of result ≡ says.sentence tokens.now }
+{
+    match tokens {
+        [] => operated(None, tokens),
+        [label, behind @ ..] => {
+            if label.start == 0 {
+                return operated(Some(*label), behind);
+            }
+            operated(None, tokens)
+        }
+    }
+}
+
+/// A line that is made of what was read, or the fault of the reading.
+macro_rules! made {
+    ($reading:expr, $read:pat => $line:expr) => {
+        match $reading {
+            Ok($read) => Ok(Ok($line)),
+            Err(kind) => Ok(Err(kind)),
+        }
+    };
+}
+
+/// What the operands of a directive read as.
+fn reading(
+    alloc: Global,
+    text: &[u8],
+    directive: Directive,
+    tokens: &[Token],
+) -> Result<Result<DirectiveLine, LineKind>, NoMemory>
+    ensures { IfOk result (λ line. says.Reads text.now (says.form_of_directive directive) tokens.now line) }
+{
+    match directive {
+        Directive::Area => area(alloc, text, tokens),
+        Directive::Entry => Ok(bare(DirectiveLine::Entry, tokens)),
+        Directive::End => Ok(bare(DirectiveLine::End, tokens)),
+        Directive::Export => {
+            made!(name_alone(alloc, text, tokens)?, name => DirectiveLine::Export { name })
+        }
+        Directive::Import => {
+            made!(import(alloc, text, tokens)?, (name, weak) => DirectiveLine::Import { name, weak })
+        }
+        Directive::Extern => {
+            made!(import(alloc, text, tokens)?, (name, weak) => DirectiveLine::Extern { name, weak })
+        }
+        Directive::Keep => {
+            made!(name_alone(alloc, text, tokens)?, name => DirectiveLine::Keep { name })
+        }
+        Directive::Equ => {
+            made!(expression(alloc, text, tokens)?, value => DirectiveLine::Equ { value })
+        }
+        Directive::Rn => register(alloc, text, tokens),
+        Directive::Rout => Ok(bare(DirectiveLine::Rout, tokens)),
+        Directive::Assert => {
+            made!(expression(alloc, text, tokens)?, condition => DirectiveLine::Assert { condition })
+        }
+        Directive::Nofp => Ok(bare(DirectiveLine::Nofp, tokens)),
+        Directive::Opt => {
+            made!(expression(alloc, text, tokens)?, options => DirectiveLine::Opt { options })
+        }
+        Directive::Ttl => Ok(bare(DirectiveLine::Ttl, tokens)),
+        Directive::Subt => Ok(bare(DirectiveLine::Subt, tokens)),
+        Directive::Dcd => {
+            made!(expressions(alloc, text, tokens)?, values => DirectiveLine::Dcd { values })
+        }
+        Directive::Dcdu => {
+            made!(expressions(alloc, text, tokens)?, values => DirectiveLine::Dcdu { values })
+        }
+        Directive::Dcw => {
+            made!(expressions(alloc, text, tokens)?, values => DirectiveLine::Dcw { values })
+        }
+        Directive::Dcb => {
+            made!(expressions(alloc, text, tokens)?, values => DirectiveLine::Dcb { values })
+        }
+        Directive::Space => {
+            made!(expression(alloc, text, tokens)?, size => DirectiveLine::Space { size })
+        }
+        Directive::Align => boundary(alloc, text, tokens),
+        Directive::Ltorg => Ok(bare(DirectiveLine::Ltorg, tokens)),
+        Directive::Data => Ok(bare(DirectiveLine::Data, tokens)),
+        Directive::Map => {
+            made!(expression(alloc, text, tokens)?, value => DirectiveLine::Map { value })
+        }
+        Directive::Field => {
+            made!(expression(alloc, text, tokens)?, size => DirectiveLine::Field { size })
+        }
+        Directive::Code16 => Ok(bare(DirectiveLine::Code16, tokens)),
+        Directive::Code32 => Ok(bare(DirectiveLine::Code32, tokens)),
+        Directive::FloatingPoint => Ok(Err(LineKind::FloatingPoint)),
+        Directive::Expansion => Ok(Err(LineKind::UnknownWord)),
+    }
+}
+
+/// A label and a directive, where both are read.
+fn labelled(
+    label: Result<Option<Text>, LineKind>,
+    line: Result<DirectiveLine, LineKind>,
+) -> Result<(Option<Text>, DirectiveLine), LineKind>
+    ensures { result ≡ says.on_both (λ label line. (label, line)) label line }
+{
+    match (label, line) {
+        (Ok(label), Ok(line)) => Ok((label, line)),
+        (Ok(_), Err(kind)) => Err(kind),
+        (Err(kind), Ok(_)) => Err(kind),
+        (Err(kind), Err(other)) => Err(earlier(kind, other)),
+    }
+}
+
+/// The label and the directive of a line.
+fn read_directive(
+    alloc: Global,
+    text: &[u8],
+    sentence: Sentence<'_>,
+    directive: Directive,
+) -> Result<Result<(Option<Text>, DirectiveLine), LineKind>, NoMemory>
+    ensures { IfOk result (λ read. IsReadAs text.now (sentence_of sentence.entry) directive read) }
+{
+    let label = label_field(alloc, label_need(directive), text, sentence.label)?;
+    let line = reading(alloc, text, directive, sentence.behind)?;
+    Ok(labelled(label, line))
+}
+
+/// The directive that an operation names.
+fn directive_of(text: &[u8], operation: Option<Token>) -> Option<Directive>
+    ensures { result ≡ says.directive_of text.now operation }
+{
+    match operation {
+        None => None,
+        Some(token) => directive_named(piece_of(text, token)),
+    }
+}
+
+/// What a line says as a directive, from its tokens; None where it has no operation, or its operation is no
+/// directive. A line with faults is refused, and of several kinds the first in the order of the kinds is told:
+/// Syntax where the tokens have no form, UnknownWord for a word that expansion takes away, FloatingPoint for
+/// DCFS, DCFD and FN, BadOperand for attributes of AREA that no area has or that exclude each other, and for a
+/// mark of an import other than WEAK, Constant for a number above 2^32 - 1.
+pub fn parse_directive(
+    alloc: Global,
+    line: &Flat,
+    tokens: &[Token],
+) -> Result<Option<Statement>, Fault>
+    ensures { Told line.now.source line.now.number (says.SaysDirective line.now tokens.now) result }
+{
+    let text = line.text.as_slice();
+    let sentence = parts_of(tokens);
+    let Some(directive) = directive_of(text, sentence.operation) else {
+        return Ok(None);
+    };
+    match read_directive(alloc, text, sentence, directive)? {
+        Err(kind) => Err(bad_line(alloc, &line.source, line.number, kind)),
+        Ok((label, said)) => {
+            let source = line.source.try_clone(alloc)?;
+            Ok(Some(Statement {
+                source,
+                number: line.number,
+                label,
+                what: What::Directive(said),
+            }))
+        }
+    }
+}
+
+/// Tokens say one statement, or have one fault.
+pub fn one_directive()
+    ensures { says.OneDirective }
+{}

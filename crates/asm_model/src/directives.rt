@@ -1,0 +1,183 @@
+//! Directives: their names, and what a line says with one.
+
+use crate::exprs::Expr;
+use sdt_fault::{List, Text};
+
+/// A directive, whichever of its names is written.
+#[derive(Clone, Copy, PartialEq, Eq, Debug)]
+pub enum Directive {
+    Area,
+    Entry,
+    End,
+    /// EXPORT or GLOBAL
+    Export,
+    Import,
+    Extern,
+    Keep,
+    /// EQU or `*`
+    Equ,
+    Rn,
+    Rout,
+    Assert,
+    Nofp,
+    Opt,
+    Ttl,
+    Subt,
+    /// DCD or `&`
+    Dcd,
+    Dcdu,
+    Dcw,
+    /// DCB or `=`
+    Dcb,
+    /// SPACE or `%`
+    Space,
+    Align,
+    Ltorg,
+    Data,
+    /// MAP or `^`
+    Map,
+    /// FIELD or `#`
+    Field,
+    Code16,
+    Code32,
+    /// DCFS, DCFD and FN
+    FloatingPoint,
+    /// A word that expansion takes away.
+    Expansion,
+}
+
+/// What a directive asks of the label field.
+#[derive(Clone, Copy, PartialEq, Eq, Debug)]
+pub enum LabelNeed {
+    /// A label may stand there.
+    Optional,
+    /// A label stands there.
+    Label,
+    /// A name stands there, which the directive defines.
+    Name,
+}
+
+/// What a line says with a directive. A name that the directive defines is the line's label.
+#[derive(Debug, Drop)]
+pub enum DirectiveLine {
+    Area {
+        name: Text,
+        attributes: AreaAttributes,
+    },
+    Entry,
+    End,
+    Export {
+        name: Text,
+    },
+    Import {
+        name: Text,
+        weak: bool,
+    },
+    Extern {
+        name: Text,
+        weak: bool,
+    },
+    Keep {
+        name: Text,
+    },
+    Equ {
+        value: Expr,
+    },
+    Rn {
+        register: RnOperand,
+    },
+    Rout,
+    Assert {
+        condition: Expr,
+    },
+    Nofp,
+    Opt {
+        options: Expr,
+    },
+    Ttl,
+    Subt,
+    Dcd {
+        values: List<Expr>,
+    },
+    Dcdu {
+        values: List<Expr>,
+    },
+    Dcw {
+        values: List<Expr>,
+    },
+    Dcb {
+        values: List<Expr>,
+    },
+    Space {
+        size: Expr,
+    },
+    Align {
+        boundary: Boundary,
+    },
+    Ltorg,
+    Data,
+    Map {
+        value: Expr,
+    },
+    Field {
+        size: Expr,
+    },
+    Code16,
+    Code32,
+}
+
+/// The attributes of an area, with those that are not written.
+#[derive(Debug, Drop)]
+pub struct AreaAttributes {
+    pub contents: Contents,
+    /// Code is read-only and data read-write unless said.
+    pub read_only: bool,
+    pub interwork: bool,
+    pub halfword: bool,
+    pub pic: bool,
+    pub reentrant: bool,
+    /// The exponent of the area's alignment.
+    pub align: Option<Expr>,
+}
+
+/// What an area holds.
+#[derive(Clone, Copy, PartialEq, Eq, Debug)]
+pub enum Contents {
+    Code,
+    Data,
+    /// Data that is zero: NOINIT.
+    Zeroes,
+}
+
+/// A word among the attributes of an area.
+#[derive(Clone, Copy, PartialEq, Eq, Debug)]
+pub enum Attribute {
+    Code,
+    Data,
+    ReadOnly,
+    ReadWrite,
+    NoInit,
+    Interwork,
+    Halfword,
+    Pic,
+    Reentrant,
+    Align,
+}
+
+/// What an RN name stands for.
+#[derive(Debug, Drop)]
+pub enum RnOperand {
+    /// A register, 0 to 15.
+    Register(u8),
+    Number(Expr),
+}
+
+/// What ALIGN aligns to.
+#[derive(Debug, Drop)]
+pub enum Boundary {
+    /// A word.
+    Word,
+    Multiple { of: Expr },
+    /// An offset behind a multiple.
+    Behind { multiple: Expr, offset: Expr },
+}

@@ -1,0 +1,96 @@
+//! Operands of instructions, as a line says them.
+
+use crate::exprs::Expr;
+use sdt_fault::{List, Text};
+use sdt_word::ShiftKind;
+
+/// A register, 0 to 15, or a name that an RN directive gives one.
+#[derive(Debug, Drop)]
+pub enum Register {
+    Number(u8),
+    Named(Text),
+}
+
+/// The shift of a register operand.
+#[derive(Debug, Drop)]
+pub enum Shift {
+    /// None is written, which stands for `LSL #0`.
+    Unshifted,
+    /// `LSL #a`
+    By { kind: ShiftKind, amount: Expr },
+    /// `RRX`
+    Extended,
+}
+
+/// Where a transfer adds its offset to the base.
+#[derive(Clone, Copy, PartialEq, Eq, Debug)]
+pub enum Indexing {
+    /// `[Rn,..]`
+    Offset,
+    /// `[Rn,..]!`
+    Before,
+    /// `[Rn],..`
+    After,
+    /// `[Rn],..` with the suffix T.
+    Translated,
+}
+
+/// The place that a transfer with a number as its offset names.
+#[derive(Debug, Drop)]
+pub enum Address {
+    /// `[Rn,#v]{!}` or `[Rn],#v`; without a number v is 0.
+    Based {
+        rn: Register,
+        indexing: Indexing,
+        offset: Expr,
+    },
+    /// A label, which is reached from pc.
+    Label {
+        target: Expr,
+    },
+}
+
+/// The offset of a transfer of half-words or signed bytes.
+#[derive(Debug, Drop)]
+pub enum HalfOffset {
+    Number { offset: Expr },
+    /// `Rm`, or `-Rm` where `subtract`.
+    Register { subtract: bool, rm: Register },
+}
+
+/// The order in which LDM and STM go through memory.
+#[derive(Clone, Copy, PartialEq, Eq, Debug)]
+pub enum BlockMode {
+    IncrementAfter,
+    IncrementBefore,
+    DecrementAfter,
+    DecrementBefore,
+}
+
+/// A register of a list, or all from one to another.
+#[derive(Debug, Drop)]
+pub enum ListItem {
+    One(Register),
+    Range { first: Register, last: Register },
+}
+
+/// A register list, as it is written; `{PC}` is the list of pc alone.
+#[derive(Debug, Drop)]
+pub struct RegisterList {
+    pub items: List<ListItem>,
+}
+
+/// The last operand of Thumb's ADD and SUB with two registers before it.
+#[derive(Debug, Drop)]
+pub enum ThumbOperand {
+    Register(Register),
+    Number(Expr),
+}
+
+/// The place from which Thumb's LDR loads by pc.
+#[derive(Debug, Drop)]
+pub enum LiteralAddress {
+    /// `[pc,#v]`
+    Offset(Expr),
+    Label(Expr),
+}

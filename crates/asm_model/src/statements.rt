@@ -1,0 +1,54 @@
+//! What a line says.
+
+use crate::arm_lines::ArmLine;
+use crate::directives::DirectiveLine;
+use crate::exprs::Expr;
+use crate::operands::Register;
+use crate::thumb_lines::ThumbLine;
+use sdt_fault::Text;
+use sdt_word::Condition;
+
+/// What a line says, with the file and line where its text stands. A local label is kept as its digits behind
+/// a bar, which no name has.
+#[derive(Debug, Drop)]
+pub struct Statement {
+    pub source: Text,
+    pub number: u32,
+    pub label: Option<Text>,
+    pub what: What,
+}
+
+#[derive(Debug, Drop)]
+pub enum What {
+    /// The line has no operation.
+    Nothing,
+    Arm(ArmLine),
+    Thumb(ThumbLine),
+    Pseudo(PseudoLine),
+    Directive(DirectiveLine),
+}
+
+/// A pseudo-instruction; the state in which it stands decides its instructions. In Thumb state the condition
+/// is AL.
+#[derive(Debug, Drop)]
+pub enum PseudoLine {
+    /// `LDR{c} Rd,=v`
+    LoadConstant {
+        condition: Condition,
+        rd: Register,
+        value: Expr,
+    },
+    /// `ADR{c} Rd,label`
+    Address {
+        condition: Condition,
+        rd: Register,
+        target: Expr,
+    },
+    /// `ADRL{c} Rd,label`, in ARM state alone.
+    LongAddress {
+        condition: Condition,
+        rd: Register,
+        target: Expr,
+    },
+    NoOperation,
+}

@@ -1,0 +1,2 @@
+pub mod LinkedOnce
+pub mod Rows

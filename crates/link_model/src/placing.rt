@@ -1,0 +1,66 @@
+//! Where areas go. A region is named by its number in the order of the description, counted from 0; without
+//! a scatter description there are three, RO, RW and ZI.
+
+use sdt_fault::{List, Text};
+
+/// An area of a linked object, both by their numbers counted from 0.
+#[derive(Clone, Copy, PartialEq, Eq, Debug)]
+pub struct AreaName {
+    pub object: u32,
+    pub area: u32,
+}
+
+/// The areas of each region, in the order in which they stand there.
+#[derive(Debug, Drop)]
+pub struct Assigned {
+    pub regions: List<List<AreaName>>,
+}
+
+/// An area with the number of its region and its execution address. An address of 2^32, which only an
+/// empty area has, is written 0.
+#[derive(Clone, Copy, PartialEq, Eq, Debug)]
+pub struct PlacedArea {
+    pub area: AreaName,
+    pub region: u32,
+    pub address: u32,
+}
+
+/// A piece of code in a region by which branches there reach a target of the other state. The target is an
+/// offset in bytes, counted modulo 2^32, from the start of an area; `thumb` is the target's state.
+#[derive(Clone, Copy, PartialEq, Eq, Debug)]
+pub struct Veneer {
+    pub region: u32,
+    pub area: AreaName,
+    pub offset: u32,
+    pub thumb: bool,
+}
+
+/// A veneer and its execution address, a multiple of 4.
+#[derive(Clone, Copy, PartialEq, Eq, Debug)]
+pub struct PlacedVeneer {
+    pub veneer: Veneer,
+    pub address: u32,
+}
+
+/// Where regions, areas and veneers stand. `boot` is the address of the startup code, which a scatter image
+/// has and no other.
+#[derive(Debug, Drop)]
+pub struct Placement {
+    pub regions: List<Region>,
+    pub areas: List<PlacedArea>,
+    pub veneers: List<PlacedVeneer>,
+    pub boot: Option<u32>,
+}
+
+/// An execution region: the number of the load region that holds it, its load and execution addresses, and
+/// in bytes what is loaded and the zero-initialised part behind it. An address of 2^32, which only an empty
+/// region has, is written 0.
+#[derive(Debug, Drop)]
+pub struct Region {
+    pub name: Text,
+    pub load_region: u32,
+    pub load: u32,
+    pub base: u32,
+    pub length: u64,
+    pub zero: u64,
+}

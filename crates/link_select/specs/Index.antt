@@ -1,0 +1,24 @@
+-- A map from names to numbers, as a function. This project's.
+use Rattle.std.specs.Prelude.{◌≡◌, ℕ, nat_eq, List, Option, is_some}
+use Rattle.std.specs.Cmp.Lexicographic.{pointwise}
+use Rattle.std.specs.declared.hash.FoldHasher.{FoldHasher}
+use Rattle.std.specs.declared.hash.BuildHasherDefault.{BuildHasherDefault}
+use Rattle.indexmap.specs.IndexMap.{IndexMap, get}
+use Rattle.aof_object.specs.declared.records.Object.{Object}
+use Rattle.aof_object.specs.Names.{among}
+use Rattle.link_model.specs.declared.selection.Named.{Named}
+use Rattle.link_model.specs.Chosen.{exporter}
+
+abbrev pub Numbers : Type 0
+Numbers = IndexMap (List ℕ) ℕ (BuildHasherDefault FoldHasher)
+
+abbrev pub number_in : Numbers → List ℕ → Option ℕ
+number_in m q = get (pointwise nat_eq) m q
+
+-- each name has the number of the first of these objects that exports it, where they are counted from i on
+abbrev pub IsIndexOf : ℕ → List (Named Object) → Numbers → Type 0
+IsIndexOf i os m = (q : List ℕ) → number_in m q ≡ exporter i q os
+
+-- a name has a number exactly where it is one of these
+abbrev pub IsSetOf : List (List ℕ) → Numbers → Type 0
+IsSetOf names m = (q : List ℕ) → is_some (number_in m q) ≡ among q names

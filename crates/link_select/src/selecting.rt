@@ -1,0 +1,187 @@
+//! The selection.
+
+ghost use Rattle.std.specs.Prelude.{◌≡◌, ◌++◌, ◌+◌, ◌^◌, ◌<◌, ◌≤◌, length, OnOk, IfOk, List as Items};
+ghost use Rattle.std.specs.Option.{option_copied};
+ghost use Rattle.sdt_fault.specs.declared.answer.Fault.TheVariants.{Refused};
+ghost use Rattle.sdt_fault.specs.declared.refusal.Refusal.TheVariants.{TooLarge};
+ghost use Rattle.chunk_file.specs.Reading.{Gives};
+ghost use Rattle.aof_object.specs.declared.records.Object.{Object as AofObject};
+ghost use Rattle.link_model.specs.Chosen.{AreLinked};
+ghost use Rattle.link_model.specs.Definitions.{definition_in, definitions_in, definitions_from};
+ghost use Rattle.link_model.specs.declared.selection.Named.{Named as NamedValue};
+ghost use Rattle.link_select.specs.Laws.{AreDefinedOnce, HaveMeanings};
+ghost use Rattle.link_select.specs.Selection.{count_symbols, judged, selection_of, Selects};
+
+use crate::choosing::{Supply, choose};
+use crate::entries::one_entry;
+use crate::exports::{Exports, index_members, index_objects, judge_exports};
+use crate::limits::{more_areas_than, more_symbols_than};
+use crate::linking::linked_objects;
+use crate::members::places_of;
+use crate::undefined::undefined;
+use alf_archive::Archive;
+use aof_object::{Object, Symbol};
+use link_model::{Definition, Linked, LinkedEntry, Named};
+use sdt_fault::answer::Fault;
+use sdt_fault::kinds::Quantity;
+use sdt_fault::refusal::Refusal;
+use sdt_fault::{List, NoMemory, Text};
+use std::alloc::Global;
+
+/// The most areas and symbols that a link may have.
+const MOST_AREAS: usize = 65_535;
+
+const MOST_SYMBOLS: usize = 1_000_000;
+
+/// The objects that are linked.
+fn choose_objects(
+    alloc: Global,
+    objects: &[Named<Object>],
+    archives: &[Named<Archive>],
+) -> Result<Vec<Named<Object>>, NoMemory>
+    ensures { IfOk result (λ linked. AreLinked objects.now archives.now linked.items) }
+{
+    let places = places_of(alloc, archives)?;
+    let supply = Supply {
+        defined: index_objects(alloc, objects)?,
+        offered: index_members(alloc, archives, places.as_slice())?,
+    };
+    let marks = choose(alloc, &supply, objects, archives, places.as_slice())?;
+    linked_objects(
+        alloc,
+        objects,
+        archives,
+        places.as_slice(),
+        marks.as_slice(),
+    )
+}
+
+fn too_large(quantity: Quantity, limit: u64) -> Fault
+    ensures { result ≡ Refused (TooLarge quantity limit) }
+{
+    Fault::Refused(Refusal::TooLarge { quantity, limit })
+}
+
+fn push_definition(
+    alloc: Global,
+    definitions: &mut Vec<Definition>,
+    object: u32,
+    number: u32,
+    symbol: &Symbol,
+) -> Result<(), NoMemory>
+    ensures { OnOk result (definitions.new.items ≡ definitions.old.items ++ definition_in object number symbol.now) }
+{
+    if symbol.attributes % 4 == 3 {
+        definitions.push(Definition {
+            name: symbol.name.try_clone(alloc)?,
+            object,
+            symbol: number,
+        })?;
+    }
+    Ok(())
+}
+
+fn push_definitions(
+    alloc: Global,
+    definitions: &mut Vec<Definition>,
+    object: u32,
+    symbols: &[Symbol],
+) -> Result<(), NoMemory>
+    requires { length symbols.now < 2 ^ 32 }
+    ensures { OnOk result (definitions.new.items ≡ definitions.old.items ++ definitions_in object 0 symbols.now) }
+{
+    for (k, symbol) in symbols.iter().enumerate() {
+        push_definition(alloc, definitions, object, k as u32, symbol)?;
+    }
+    Ok(())
+}
+
+/// Each symbol that an object exports.
+fn definitions_of(alloc: Global, objects: &[Named<Object>]) -> Result<List<Definition>, NoMemory>
+    requires objects { length objects.now < 2 ^ 32 }
+    requires symbols { count_symbols objects.now < 2 ^ 32 }
+    ensures { IfOk result (λ definitions. definitions ≡ definitions_from 0 objects.now) }
+{
+    let mut definitions = Vec::new(alloc);
+    for (i, object) in objects.iter().enumerate() {
+        let symbols = object.value.symbols.as_slice();
+        push_definitions(alloc, &mut definitions, i as u32, symbols)?;
+    }
+    Ok(List::from_vec(definitions))
+}
+
+/// The entry of the linked objects, where their names have one meaning each and there are not too many.
+fn judge(
+    alloc: Global,
+    objects: &[Named<Object>],
+    regions: Option<&[Text]>,
+) -> Result<LinkedEntry, Fault>
+    requires { length objects.now < 2 ^ 32 }
+    ensures { Gives result (judged (option_copied regions.entry) objects.now) }
+{
+    let Exports { index, duplicate } = judge_exports(alloc, objects)?;
+    if let Some(refusal) = duplicate {
+        return Err(Fault::Refused(refusal));
+    }
+    if let Some(refusal) = undefined(alloc, &index, regions, objects)? {
+        return Err(Fault::Refused(refusal));
+    }
+    let entry = one_entry(alloc, objects)?;
+    if more_areas_than(MOST_AREAS, objects) {
+        return Err(too_large(Quantity::Areas, 65_535));
+    }
+    if more_symbols_than(MOST_SYMBOLS, objects) {
+        return Err(too_large(Quantity::Symbols, 1_000_000));
+    }
+    Ok(entry)
+}
+
+/// What is linked of these objects.
+#[tactic(auto, unfolding(crate::specs::Selection::selection_of))]
+fn link(
+    alloc: Global,
+    objects: Vec<Named<Object>>,
+    regions: Option<&[Text]>,
+) -> Result<Linked, Fault>
+    ensures { Gives result (selection_of (option_copied regions.entry) objects.items) }
+{
+    // No memory holds so many objects, whose numbers have 32 bits.
+    if objects.len() > u32::MAX as usize {
+        return Err(Fault::NoMemory);
+    }
+    let entry = judge(alloc, objects.as_slice(), regions)?;
+    let definitions = definitions_of(alloc, objects.as_slice())?;
+    Ok(Linked {
+        objects: List::from_vec(objects),
+        definitions,
+        entry,
+    })
+}
+
+/// The objects of the command line and the members of the libraries that they need, with each exported
+/// name's definition and the entry.
+///
+/// `regions` lists the region symbols that the image has, without the Base and Limit of areas, which are
+/// those of the linked areas; without such a list every name of a region symbol's form has a meaning.
+///
+/// Refusals, the first of these that is present: `Duplicate` where two linked objects export a name,
+/// `Undefined` where a non-weak reference has no meaning, `NoEntry`, `TwoEntries`, `TooLarge` above 65,535
+/// areas or 1,000,000 symbols.
+pub fn select(
+    alloc: Global,
+    objects: &[Named<Object>],
+    archives: &[Named<Archive>],
+    regions: Option<&[Text]>,
+) -> Result<Linked, Fault>
+    // What is linked: the command line's objects, then the least set of members that these need.
+    ensures linked { IfOk result (λ l. AreLinked objects.now archives.now l.objects) }
+    // No name is exported by two of them, and each of their non-weak references has a meaning.
+    ensures one_definition { IfOk result (λ l. AreDefinedOnce l.objects) }
+    ensures meanings { IfOk result (λ l. HaveMeanings (option_copied regions.entry) l.objects) }
+    // The answer is that of the linked objects, of which there is one list, unless memory was refused.
+    ensures exact { Selects objects.now archives.now (option_copied regions.entry) result }
+    ensures only { (os : Items (NamedValue AofObject)) → AreLinked objects.now archives.now os → Gives result (selection_of (option_copied regions.entry) os) }
+{
+    let chosen = choose_objects(alloc, objects, archives)?;
+    link(alloc, chosen, regions)
+}

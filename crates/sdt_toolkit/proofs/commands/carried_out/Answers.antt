@@ -1,0 +1,6 @@
+use Rattle.sdt_toolkit.proofs.commands.carried_out.Goals as goal
+
+pub returns-in-CreateLibrary : goal.returns-in-CreateLibrary
+returns-in-CreateLibrary g c =
+    let says = rw c.as_slice.ensures at c.create_library.ensures in
+    rw c.in-CreateLibrary.is (says (g.K.Sink.bytes c.args.sink.now) (g.K.Sink.faults c.args.sink.now))

@@ -1,0 +1,32 @@
+use Rattle.std.proofs.Common.{map, string_bytes, refl}
+use Rattle.tool_words.specs.Commands.{command_of}
+use Rattle.sdt_toolkit.proofs.CommandLemmas.{asked, refused}
+use Rattle.sdt_toolkit.proofs.commands.other.Goals as goal
+
+pub returns-in-Ok : goal.returns-in-Ok
+returns-in-Ok g c = asked c.in-Ok.command (command_of (map string_bytes c.args.words.now)) (record {
+  before = g.S.Store.files c.args.store.now;
+  after = g.S.Store.files c.carried_out.new.store;
+  printed = g.K.Sink.bytes c.args.sink.now;
+  prints = g.K.Sink.bytes c.carried_out.new.sink;
+  reads = g.S.Store.read_faults c.args.store.now;
+  reads_now = g.S.Store.read_faults c.carried_out.new.store;
+  writes = g.S.Store.write_faults c.args.store.now;
+  writes_now = g.S.Store.write_faults c.carried_out.new.store;
+  faults = g.K.Sink.faults c.args.sink.now;
+  faults_now = g.K.Sink.faults c.carried_out.new.sink;
+}) c.carried_out.result c.in-Ok.ensures.exact c.carried_out.ensures
+
+pub returns-in-Err : goal.returns-in-Err
+returns-in-Err g c = refused c.in-Err.fault (command_of (map string_bytes c.args.words.now)) (record {
+  before = g.S.Store.files c.args.store.now;
+  after = g.S.Store.files c.args.store.now;
+  printed = g.K.Sink.bytes c.args.sink.now;
+  prints = g.K.Sink.bytes c.args.sink.now;
+  reads = g.S.Store.read_faults c.args.store.now;
+  reads_now = g.S.Store.read_faults c.args.store.now;
+  writes = g.S.Store.write_faults c.args.store.now;
+  writes_now = g.S.Store.write_faults c.args.store.now;
+  faults = g.K.Sink.faults c.args.sink.now;
+  faults_now = g.K.Sink.faults c.args.sink.now;
+}) c.refused.result c.in-Err.ensures.exact c.refused.ensures (record { files = refl; sink = refl })

@@ -1,0 +1,40 @@
+-- Which command words ask for, and what its answer says of the input and leaves of store and sink. This project's.
+use Rattle.std.specs.Prelude.{◌≡◌, ℕ, List, [], ◌∷◌, Bool, codes, bytes_eq, Result, Ok, Err}
+use Rattle.sdt_fault.specs.declared.answer.Answer.{Answer}
+use Rattle.sdt_fault.specs.declared.answer.Answer.TheVariants as answer
+use Rattle.sdt_fault.specs.declared.refusal.Refusal.TheVariants.{BadWords}
+use Rattle.tool_words.specs.declared.command.Command.{Command}
+use Rattle.tool_words.specs.declared.command.Command.TheVariants as command
+use Rattle.tool_words.specs.declared.command.WordsFault.{WordsFault}
+use Rattle.tool_words.specs.declared.command.WordsFault.TheVariants as fault
+use Rattle.tool_words.specs.Items.{word_at}
+use Rattle.tool_answers.specs.Outcomes.{Outside, IsLeft, Answers}
+use Rattle.tool_library.specs.Libraries.{created, listed, extracted}
+
+-- the command `build`, whose words are judged apart until sources of every kind are built
+abbrev pub is_build : List (List ℕ) → Bool
+is_build words = bytes_eq (word_at words 0) (codes "build")
+
+-- a word breaks a rule
+abbrev pub RefusesWords : ℕ → Outside → Answer → Type 0
+RefusesWords place o answer.Done = ⊥
+RefusesWords place o (answer.Refused r) = (r ≡ BadWords place) × IsLeft o
+RefusesWords place o (answer.ReadFault name) = ⊥
+RefusesWords place o (answer.WriteFault name) = ⊥
+RefusesWords place o answer.SinkFault = ⊥
+RefusesWords place o (answer.Stopped stop) = ⊥
+RefusesWords place o answer.NoMemory = IsLeft o
+
+-- the answer to a command, or to words that break a rule. The command `run` is refused at its word until the machine
+-- stands
+abbrev pub Commanded : Result Command ℕ → Outside → Answer → Type 0
+Commanded (Err place) o a = RefusesWords place o a
+Commanded (Ok (command.CreateLibrary library objects)) o a = Answers (created library objects) objects o a
+Commanded (Ok (command.ListMembers library)) o a = Answers (listed library) (library ∷ []) o a
+Commanded (Ok (command.ExtractMember library member output)) o a = Answers (extracted library member output) (library ∷ []) o a
+Commanded (Ok (command.Run run)) o a = RefusesWords 1 o a
+
+-- the answer to words that ask for nothing
+abbrev pub RefusedBy : WordsFault → Answer → Type 0
+RefusedBy (fault.Place place) a = a ≡ answer.Refused (BadWords place)
+RefusedBy fault.NoMemory a = a ≡ answer.NoMemory

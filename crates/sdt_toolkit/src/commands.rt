@@ -1,0 +1,92 @@
+//! The commands, each by its words.
+
+ghost use Rattle.std.specs.Prelude.{◌≡◌, Ok, map, string_bytes};
+ghost use Rattle.sdt_toolkit.specs.Commands.{Commanded, is_build};
+ghost use Rattle.tool_words.specs.Commands.{command_of};
+
+use sdt_fault::answer::Answer;
+use sdt_fault::refusal::Refusal;
+use sdt_outside::{Sink, Store};
+use std::alloc::Global;
+use tool_library::{create_library, extract_member, list_members};
+use tool_words::{Command, WordsFault, read_words};
+
+/// Whether the words ask for `build`.
+pub fn is_build(words: &[String]) -> bool
+    ensures { result ≡ is_build (map string_bytes words.now) }
+{
+    match words.first() {
+        None => false,
+        Some(word) => word.as_bytes() == b"build".as_slice(),
+    }
+}
+
+fn refused(fault: WordsFault) -> Answer
+    ensures { RefusedBy fault result }
+{
+    match fault {
+        WordsFault::Place(place) => Answer::Refused(Refusal::BadWords { place }),
+        WordsFault::NoMemory => Answer::NoMemory,
+    }
+}
+
+ghost use Rattle.sdt_toolkit.specs.Commands.{RefusedBy};
+
+fn carried_out<S: Store, K: Sink>(
+    alloc: Global,
+    command: Command,
+    store: &mut S,
+    sink: &mut K,
+) -> Answer
+    ensures { Commanded (Ok command) (record {
+      before = S.files store.old;
+      after = S.files store.new;
+      printed = K.bytes sink.old;
+      prints = K.bytes sink.new;
+      reads = S.read_faults store.old;
+      reads_now = S.read_faults store.new;
+      writes = S.write_faults store.old;
+      writes_now = S.write_faults store.new;
+      faults = K.faults sink.old;
+      faults_now = K.faults sink.new;
+    }) result }
+{
+    match command {
+        Command::CreateLibrary { library, objects } => {
+            create_library(alloc, store, library, objects.as_slice())
+        }
+        Command::ListMembers { library } => list_members(alloc, store, sink, &library),
+        Command::ExtractMember {
+            library,
+            member,
+            output,
+        } => extract_member(alloc, store, &library, &member, output),
+        Command::Run(_run) => Answer::Refused(Refusal::BadWords { place: 1 }),
+    }
+}
+
+/// Carries out any command but `build`.
+pub fn other<S: Store, K: Sink>(
+    alloc: Global,
+    words: &[String],
+    store: &mut S,
+    sink: &mut K,
+) -> Answer
+    ensures { Commanded (command_of (map string_bytes words.now)) (record {
+      before = S.files store.old;
+      after = S.files store.new;
+      printed = K.bytes sink.old;
+      prints = K.bytes sink.new;
+      reads = S.read_faults store.old;
+      reads_now = S.read_faults store.new;
+      writes = S.write_faults store.old;
+      writes_now = S.write_faults store.new;
+      faults = K.faults sink.old;
+      faults_now = K.faults sink.new;
+    }) result }
+{
+    match read_words(alloc, words) {
+        Ok(command) => carried_out(alloc, command, store, sink),
+        Err(fault) => refused(fault),
+    }
+}

@@ -1,0 +1,10 @@
+//! What a command answers: it reads its inputs in order, judges them, and then writes its files or prints
+//! its text. What each answer says of the input and leaves of store and sink is defined here, once for all
+//! commands.
+#![tactic(auto)]
+
+pub mod inputs;
+pub mod outcome;
+
+pub use crate::inputs::{InputEnd, named, read_input, read_inputs};
+pub use crate::outcome::{print, write};

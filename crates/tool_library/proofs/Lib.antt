@@ -1,0 +1,3 @@
+pub mod MemberLemmas
+pub mod SizeLemmas
+pub mod AnswerLemmas

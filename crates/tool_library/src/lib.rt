@@ -1,0 +1,11 @@
+//! The librarian's commands: a new library of objects, the names of its members, and a member as an
+//! object.
+#![tactic(auto)]
+
+pub mod create;
+pub mod ends;
+pub mod extract;
+pub mod members;
+
+pub use crate::create::create_library;
+pub use crate::extract::{extract_member, list_members};

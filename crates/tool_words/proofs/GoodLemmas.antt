@@ -1,0 +1,180 @@
+-- What words keep in which no word breaks a rule.
+use Rattle.std.proofs.Common.{◌≡◌, ℕ, ◌+◌, ◌%◌, ◌^◌, ◌<◌, ◌≤◌, ◌==◌, nat_lt, nat_le, Bool, true, false, cond, not, ◌&&◌, ◌||◌, List, [], ◌∷◌, ◌++◌, length, map, Option, Some, None, unwrap_or, refl, sym, ap, ◌∙◌, arith, rules}
+use Rattle.std.specs.Prelude.{filter, find, option_map, if◌then◌else◌}
+use Rattle.std.specs.List.{AllByRecursion}
+use Rattle.std.specs.Option.{option_map_or}
+use Rattle.std.proofs.lemmas.Bool.Decides.{nat_tests}
+use Rattle.tool_words.specs.declared.items.Verb.{Verb}
+use Rattle.tool_words.specs.declared.items.Verb.TheVariants.{Library, Run}
+use Rattle.tool_words.specs.declared.items.Flag.{Flag}
+use Rattle.tool_words.specs.declared.items.Flag.TheVariants as flag
+use Rattle.tool_words.specs.declared.items.Role.{Role}
+use Rattle.tool_words.specs.declared.items.Role.TheVariants.{Name, Known, Unknown}
+use Rattle.tool_words.specs.declared.items.Item.{Item}
+use Rattle.tool_words.specs.declared.command.Command.{Command}
+use Rattle.tool_words.specs.Items.{word_at, value_count}
+use Rattle.tool_words.specs.Rules.{code, is_flag, is_name, number_at, is_aligned, is_size, first_is_good, second_is_good, value_fault, or_else, values_fault, is_allowed, is_surplus, is_plain, is_below, most_names, name_count, role_fault, items_fault, names_fault, is_complete, lesser, verb_fault, mode_of}
+use Rattle.tool_words.specs.Commands.{place_of, number_of, bank_at, banks_in, image_of, library_command, verb_command, IsBank, IsPlaced, IsGood}
+
+-- ---- no fault at all
+
+first_none : (a b : Option ℕ) → or_else a b ≡ None → a ≡ None
+first_none None b h = refl
+first_none (Some n) b h = h
+
+later_none : (a b : Option ℕ) → or_else a b ≡ None → b ≡ None
+later_none None b h = h
+later_none (Some n) b h = absurd (let bad : Some n ≡ None = h in cc)
+
+chosen : (b : Bool) (x : Option ℕ) (n : ℕ) → cond b x (Some n) ≡ None → (b ≡ true) × (x ≡ None)
+chosen true x n h = (refl, h)
+chosen false x n h = absurd (let bad : Some n ≡ None = h in cc)
+
+is_good : (words : List (List ℕ)) (at : ℕ) (good : Bool) → value_fault words at good ≡ None → good ≡ true
+is_good words at true h = refl
+is_good words at false h = absurd (let bad : Some at ≡ None = (chosen (nat_lt at (length words)) (Some at) (length words) h).1 in cc)
+
+-- ---- banks
+
+aligned_bank : (base size : Option ℕ) → is_aligned base ≡ true → is_size base size ≡ true → IsBank (record { base = unwrap_or base 0; size = unwrap_or size 0 })
+aligned_bank None size a s = absurd (let bad : false ≡ true = a in cc)
+aligned_bank (Some base) None a s = absurd (let bad : false ≡ true = s in cc)
+aligned_bank (Some base) (Some size) a s = record {
+  base = grind (arith, nat_tests);
+  size = grind (arith, nat_tests);
+  some = grind (arith, nat_tests);
+  end = grind (arith, nat_tests);
+}
+
+-- the values of banks
+pub data Banks : Flag → Type 0 where
+  memory : Banks flag.Memory
+  rom : Banks flag.Rom
+
+bank_of : (f : Flag) → Banks f → (words : List (List ℕ)) (at : ℕ) → values_fault f words at ≡ None → IsBank (bank_at words at)
+bank_of f memory words at h =
+    aligned_bank (number_at words (at + 1)) (number_at words (at + 2))
+    (is_good words (at + 1) _ (first_none (value_fault words (at + 1) (first_is_good flag.Memory words at)) _ h))
+    (is_good words (at + 2) _ (later_none (value_fault words (at + 1) (first_is_good flag.Memory words at)) _ h))
+bank_of f rom words at h =
+    aligned_bank (number_at words (at + 1)) (number_at words (at + 2))
+    (is_good words (at + 1) _ (first_none (value_fault words (at + 1) (first_is_good flag.Rom words at)) _ h))
+    (is_good words (at + 2) _ (later_none (value_fault words (at + 1) (first_is_good flag.Rom words at)) _ h))
+
+-- ---- an option's number tells it
+
+flag_at : ℕ → Flag
+flag_at n =
+    if n == 0 then flag.Create else (if n == 1 then flag.Table else (if n == 2 then flag.Extract else (
+    if n == 3 then flag.Output else (if n == 4 then flag.Map else (if n == 5 then flag.Bin else (
+    if n == 6 then flag.At else (if n == 7 then flag.Memory else (if n == 8 then flag.Rom else flag.Steps))))))))
+
+back : (f : Flag) → flag_at (code f) ≡ f
+unfolding flag_at
+back flag.Create = refl
+back flag.Table = refl
+back flag.Extract = refl
+back flag.Output = refl
+back flag.Map = refl
+back flag.Bin = refl
+back flag.At = refl
+back flag.Memory = refl
+back flag.Rom = refl
+back flag.Steps = refl
+
+same_flag : (f g : Flag) → (code f == code g) ≡ true → f ≡ g
+same_flag f g h = let e : code f ≡ code g = grind (arith, nat_tests) in sym (back f) ∙ (ap flag_at e ∙ back g)
+
+role_of_flag : (f : Flag) (role : Role) → is_flag f role ≡ true → role ≡ Known f
+role_of_flag f Name h = absurd (let bad : false ≡ true = h in cc)
+role_of_flag f Unknown h = absurd (let bad : false ≡ true = h in cc)
+role_of_flag f (Known g) h = ap Known (sym (same_flag f g h))
+
+-- ---- each item's values
+
+abbrev HasValues : List (List ℕ) → Item → Type 0
+HasValues words i = (f : Flag) → i.role ≡ Known f → values_fault f words i.at ≡ None
+
+values_fine : (verb : Verb) (words : List (List ℕ)) (mode : Option Flag) (before : List Item) (at : ℕ) (role : Role) (f : Flag) → role ≡ Known f → role_fault verb words mode before at role ≡ None → values_fault f words at ≡ None
+values_fine verb words mode before at role f e h =
+    let k : role_fault verb words mode before at (Known f) ≡ None = ap (role_fault verb words mode before at) (sym e) ∙ h in
+    (chosen (is_allowed verb mode f && not (is_surplus before f)) (values_fault f words at) at k).1
+
+all_fine : (verb : Verb) (words : List (List ℕ)) (mode : Option Flag) (before items : List Item) → items_fault verb words mode before items ≡ None → AllByRecursion (HasValues words) items
+all_fine verb words mode before [] h = tt
+all_fine verb words mode before (i ∷ is) h = (
+  λ f e. values_fine verb words mode before i.at i.role f e (first_none (role_fault verb words mode before i.at i.role) _ h),
+  all_fine verb words mode (before ++ i ∷ []) is (later_none (role_fault verb words mode before i.at i.role) _ h),
+)
+
+bank_more : (f : Flag) → Banks f → (words : List (List ℕ)) (i : Item) (is : List Item) (b : Bool) → is_flag f i.role ≡ b → HasValues words i → AllByRecursion IsBank (banks_in words is f)
+    → AllByRecursion IsBank (map (λ j. bank_at words j.at) (cond b (i ∷ filter (λ j. is_flag f j.role) is) (filter (λ j. is_flag f j.role) is)))
+bank_more f k words i is true e fine rest = (bank_of f k words i.at (fine f (role_of_flag f i.role e)), rest)
+bank_more f k words i is false e fine rest = rest
+
+banks_fine : (f : Flag) → Banks f → (words : List (List ℕ)) (items : List Item) → AllByRecursion (HasValues words) items → AllByRecursion IsBank (banks_in words items f)
+banks_fine f k words [] all = tt
+banks_fine f k words (i ∷ is) all = bank_more f k words i is _ refl all.0 (banks_fine f k words is all.1)
+
+-- ---- the address of a binary image
+
+aligned_number : (o : Option ℕ) → is_aligned o ≡ true → unwrap_or o 0 % 4 ≡ 0
+aligned_number None h = refl
+aligned_number (Some n) h = grind (arith, nat_tests)
+
+address_of : (words : List (List ℕ)) (at : ℕ) → values_fault flag.At words at ≡ None → unwrap_or (number_at words (at + 1)) 0 % 4 ≡ 0
+address_of words at h = aligned_number (number_at words (at + 1)) (is_good words (at + 1) _ (first_none (value_fault words (at + 1) (first_is_good flag.At words at)) _ h))
+
+found_at : (words : List (List ℕ)) (o : Option Item) → ℕ
+found_at words o = option_map_or (λ at. unwrap_or (number_at words (at + 1)) 0) (option_map (λ i. i.at) o) 0
+
+address_more : (words : List (List ℕ)) (i : Item) (is : List Item) (b : Bool) → is_flag flag.At i.role ≡ b → HasValues words i → found_at words (find (λ j. is_flag flag.At j.role) is) % 4 ≡ 0
+    → found_at words (cond b (Some i) (find (λ j. is_flag flag.At j.role) is)) % 4 ≡ 0
+unfolding found_at
+address_more words i is true e fine rest = address_of words i.at (fine flag.At (role_of_flag flag.At i.role e))
+address_more words i is false e fine rest = rest
+
+address_fine : (words : List (List ℕ)) (items : List Item) → AllByRecursion (HasValues words) items → found_at words (find (λ j. is_flag flag.At j.role) items) % 4 ≡ 0
+unfolding found_at
+address_fine words [] all = refl
+address_fine words (i ∷ is) all = address_more words i is _ refl all.0 (address_fine words is all.1)
+
+image_fine : (mode : Option Flag) (words : List (List ℕ)) (items : List Item) → AllByRecursion (HasValues words) items → IsPlaced (image_of mode words items)
+unfolding found_at
+image_fine None words items all = address_fine words items all
+image_fine (Some flag.Map) words items all = tt
+image_fine (Some flag.Create) words items all = address_fine words items all
+image_fine (Some flag.Table) words items all = address_fine words items all
+image_fine (Some flag.Extract) words items all = address_fine words items all
+image_fine (Some flag.Output) words items all = address_fine words items all
+image_fine (Some flag.Bin) words items all = address_fine words items all
+image_fine (Some flag.At) words items all = address_fine words items all
+image_fine (Some flag.Memory) words items all = address_fine words items all
+image_fine (Some flag.Rom) words items all = address_fine words items all
+image_fine (Some flag.Steps) words items all = address_fine words items all
+
+-- ---- the command
+
+lesser_none : (a b : Option ℕ) → lesser a b ≡ None → a ≡ None
+lesser_none None b h = refl
+lesser_none (Some n) None h = absurd (let bad : Some n ≡ None = h in cc)
+lesser_none (Some n) (Some m) h = absurd (cc)
+
+library_good : (mode : Option Flag) (words : List (List ℕ)) (items : List Item) → IsGood (library_command mode words items)
+library_good None words items = tt
+library_good (Some flag.Map) words items = tt
+library_good (Some flag.Create) words items = tt
+library_good (Some flag.Table) words items = tt
+library_good (Some flag.Extract) words items = tt
+library_good (Some flag.Output) words items = tt
+library_good (Some flag.Bin) words items = tt
+library_good (Some flag.At) words items = tt
+library_good (Some flag.Memory) words items = tt
+library_good (Some flag.Rom) words items = tt
+library_good (Some flag.Steps) words items = tt
+
+pub good_words : (verb : Verb) (words : List (List ℕ)) (items : List Item) → verb_fault verb words items ≡ None → IsGood (verb_command verb (mode_of items) words items)
+good_words Library words items h = library_good (mode_of items) words items
+good_words Run words items h =
+    let all = all_fine Run words (mode_of items) [] items (lesser_none _ (names_fault Run (mode_of items) words items) (first_none _ _ h)) in
+    (image_fine (mode_of items) words items all, banks_fine flag.Memory memory words items all, banks_fine flag.Rom rom words items all)

@@ -1,0 +1,4 @@
+pub mod NumeralLemmas
+pub mod ItemLemmas
+pub mod SeenLemmas
+pub mod GoodLemmas

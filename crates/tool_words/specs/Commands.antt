@@ -1,0 +1,114 @@
+-- What good words ask for. This project's.
+use Rattle.std.specs.Prelude.{◌≡◌, ℕ, ◌+◌, ◌-◌, ◌%◌, ◌^◌, ◌<◌, ◌≤◌, List, [], map, filter, find, min, length, Option, Some, None, Result, Ok, Err, unwrap_or, option_map}
+use Rattle.std.specs.List.{AllByRecursion}
+use Rattle.std.specs.Option.{option_map_or}
+use Rattle.tool_words.specs.declared.items.Verb.{Verb}
+use Rattle.tool_words.specs.declared.items.Verb.TheVariants.{Library, Run}
+use Rattle.tool_words.specs.declared.items.Flag.{Flag}
+use Rattle.tool_words.specs.declared.items.Flag.TheVariants.{Create, Table, Extract, Output, Bin, At, Memory, Rom, Steps}
+use Rattle.tool_words.specs.declared.items.Flag.TheVariants as flag
+use Rattle.tool_words.specs.declared.items.Item.{Item}
+use Rattle.tool_words.specs.declared.command.Bank.{Bank}
+use Rattle.tool_words.specs.declared.command.Command.{Command}
+use Rattle.tool_words.specs.declared.command.Command.TheVariants as command
+use Rattle.tool_words.specs.declared.command.RunImage.{RunImage}
+use Rattle.tool_words.specs.declared.command.RunImage.TheVariants as image
+use Rattle.tool_words.specs.declared.command.WordsFault.{WordsFault}
+use Rattle.tool_words.specs.declared.command.WordsFault.TheVariants as fault
+use Rattle.tool_words.specs.Items.{word_at, verb_named, items_of}
+use Rattle.tool_words.specs.Rules.{is_flag, is_name, mode_of, number_at, verb_fault}
+
+-- the place of an option
+abbrev pub place_of : Flag → List Item → Option ℕ
+place_of f items = option_map (λ i. i.at) (find (λ i. is_flag f i.role) items)
+
+-- the first value of an option, and its number
+abbrev pub value_of : List (List ℕ) → List Item → Flag → List ℕ
+value_of words items f = option_map_or (λ at. word_at words (at + 1)) (place_of f items) []
+
+abbrev pub number_of : List (List ℕ) → List Item → Flag → ℕ → ℕ
+number_of words items f usual = option_map_or (λ at. unwrap_or (number_at words (at + 1)) 0) (place_of f items) usual
+
+abbrev pub names_in : List (List ℕ) → List Item → List (List ℕ)
+names_in words items = map (λ i. word_at words i.at) (filter (λ i. is_name i.role) items)
+
+abbrev pub name_place : List Item → Option ℕ
+name_place items = option_map (λ i. i.at) (find (λ i. is_name i.role) items)
+
+abbrev pub first_name : List (List ℕ) → List Item → List ℕ
+first_name words items = option_map_or (λ at. word_at words at) (name_place items) []
+
+-- the banks of an option
+abbrev pub bank_at : List (List ℕ) → ℕ → Bank
+bank_at words at = record { base = unwrap_or (number_at words (at + 1)) 0; size = unwrap_or (number_at words (at + 2)) 0 }
+
+abbrev pub banks_in : List (List ℕ) → List Item → Flag → List Bank
+banks_in words items f = map (λ i. bank_at words i.at) (filter (λ i. is_flag f i.role) items)
+
+abbrev pub image_of : Option Flag → List (List ℕ) → List Item → RunImage
+image_of (Some flag.Map) words items = image.Map (value_of words items flag.Map)
+image_of mode words items = image.Binary (value_of words items Bin) (number_of words items At 0)
+
+abbrev pub library_command : Option Flag → List (List ℕ) → List Item → Command
+library_command (Some Create) words items = command.CreateLibrary (value_of words items Create) (names_in words items)
+library_command (Some Extract) words items = command.ExtractMember (value_of words items Extract) (first_name words items) (value_of words items Output)
+library_command mode words items = command.ListMembers (value_of words items Table)
+
+abbrev pub verb_command : Verb → Option Flag → List (List ℕ) → List Item → Command
+verb_command Library mode words items = library_command mode words items
+verb_command Run mode words items = command.Run (record {
+  image = image_of mode words items;
+  memory = banks_in words items Memory;
+  rom = banks_in words items Rom;
+  steps = number_of words items Steps 10000000;
+})
+
+-- a place as it is told: counted from 1, and at most 2^32 - 1
+abbrev pub told : ℕ → ℕ
+told place = min (place + 1) 0xFFFFFFFF
+
+abbrev pub unless : Option ℕ → Command → Result Command ℕ
+unless None c = Ok c
+unless (Some place) c = Err (told place)
+
+abbrev pub verb_words : Option Verb → List (List ℕ) → Result Command ℕ
+verb_words None words = Err (told 0)
+verb_words (Some verb) words =
+    let items = items_of verb words in
+    unless (verb_fault verb words items) (verb_command verb (mode_of items) words items)
+
+-- the command that words ask for, or the place of the first that breaks a rule
+abbrev pub command_of : List (List ℕ) → Result Command ℕ
+command_of words = verb_words (verb_named (word_at words 0)) words
+
+-- an answer that is this, unless memory was refused
+abbrev pub IsPlace : ℕ → WordsFault → Type 0
+IsPlace place (fault.Place told) = told ≡ place
+IsPlace place fault.NoMemory = Unit {0}
+
+abbrev pub IsRefused : WordsFault → Type 0
+IsRefused (fault.Place told) = ⊥
+IsRefused fault.NoMemory = Unit {0}
+
+abbrev pub Reads : Result Command WordsFault → Result Command ℕ → Type 0
+Reads (Ok c) (Ok asked) = c ≡ asked
+Reads (Ok c) (Err place) = ⊥
+Reads (Err e) (Ok asked) = IsRefused e
+Reads (Err e) (Err place) = IsPlace place e
+
+-- ---- what good words keep
+
+-- whole words, one at least, that end at 2^32 or below
+pub record IsBank (b : Bank) : Type 0 where
+  pub base : b.base % 4 ≡ 0
+  pub size : b.size % 4 ≡ 0
+  pub some : 0 < b.size
+  pub end : b.base + b.size ≤ 2 ^ 32
+
+abbrev pub IsPlaced : RunImage → Type 0
+IsPlaced (image.Map file) = Unit {0}
+IsPlaced (image.Binary file at) = at % 4 ≡ 0
+
+abbrev pub IsGood : Command → Type 0
+IsGood (command.Run run) = IsPlaced run.image × AllByRecursion IsBank run.memory × AllByRecursion IsBank run.rom
+IsGood other = Unit {0}

@@ -1,0 +1,91 @@
+-- The words behind a command, as items: names, and options with their values. This project's.
+use Rattle.std.specs.Prelude.{ℕ, zero, suc, ◌+◌, ◌-◌, ◌==◌, nat_lt, Bool, true, false, if◌then◌else◌, List, [], ◌∷◌, ◌++◌, length, slice_get, unwrap_or, min, Option, Some, None, codes, bytes_eq}
+use Rattle.tool_words.specs.declared.items.Verb.{Verb}
+use Rattle.tool_words.specs.declared.items.Verb.TheVariants.{Library, Run}
+use Rattle.tool_words.specs.declared.items.Flag.{Flag}
+use Rattle.tool_words.specs.declared.items.Flag.TheVariants.{Create, Table, Extract, Output, Map, Bin, At, Memory, Rom, Steps}
+use Rattle.tool_words.specs.declared.items.Role.{Role}
+use Rattle.tool_words.specs.declared.items.Role.TheVariants.{Name, Known, Unknown}
+use Rattle.tool_words.specs.declared.items.Item.{Item}
+
+-- the word at a place, counted from 0
+abbrev pub word_at : List (List ℕ) → ℕ → List ℕ
+word_at words n = unwrap_or (slice_get words n) []
+
+-- the command of a name
+abbrev pub verb_named : List ℕ → Option Verb
+verb_named word =
+    if bytes_eq word (codes "lib") then Some Library else (
+    if bytes_eq word (codes "run") then Some Run else None)
+
+-- the option of a spelling
+abbrev pub flag_named : List ℕ → Option Flag
+flag_named word =
+    if bytes_eq word (codes "-c") then Some Create else (
+    if bytes_eq word (codes "-t") then Some Table else (
+    if bytes_eq word (codes "-e") then Some Extract else (
+    if bytes_eq word (codes "-o") then Some Output else (
+    if bytes_eq word (codes "-map") then Some Map else (
+    if bytes_eq word (codes "-bin") then Some Bin else (
+    if bytes_eq word (codes "-at") then Some At else (
+    if bytes_eq word (codes "-mem") then Some Memory else (
+    if bytes_eq word (codes "-rom") then Some Rom else (
+    if bytes_eq word (codes "-steps") then Some Steps else None)))))))))
+
+-- the options of a command
+abbrev pub has_flag : Verb → Flag → Bool
+has_flag Library Create = true
+has_flag Library Table = true
+has_flag Library Extract = true
+has_flag Library Output = true
+has_flag Library other = false
+has_flag Run Map = true
+has_flag Run Bin = true
+has_flag Run At = true
+has_flag Run Memory = true
+has_flag Run Rom = true
+has_flag Run Steps = true
+has_flag Run other = false
+
+-- an option of the command, or one that it hasn't
+abbrev pub flag_role : Verb → Option Flag → Role
+flag_role verb None = Unknown
+flag_role verb (Some flag) = if has_flag verb flag then Known flag else Unknown
+
+-- a word that begins with '-' is an option
+abbrev pub begins_with_dash : List ℕ → Bool
+begins_with_dash [] = false
+begins_with_dash (c ∷ cs) = c == 45
+
+abbrev pub role_of : Verb → List ℕ → Role
+role_of verb word = if begins_with_dash word then flag_role verb (flag_named word) else Name
+
+-- how many values an option has: a base and a size, or one word
+abbrev pub value_count : Flag → ℕ
+value_count Memory = 2
+value_count Rom = 2
+value_count other = 1
+
+-- how many values follow; none follow an option that the command hasn't
+abbrev pub count_of : Role → ℕ
+count_of Name = 0
+count_of (Known flag) = value_count flag
+count_of Unknown = 0
+
+-- the item that begins at a place; its values are fewer where the words end
+abbrev pub item_at : Verb → List (List ℕ) → ℕ → Item
+item_at verb words at =
+    let role = role_of verb (word_at words at) in
+    record { at = at; role = role; count = min (count_of role) (length words - (at + 1)) }
+
+-- the items from a place on, one after the other; each has one word at least
+abbrev pub items_from : Verb → List (List ℕ) → ℕ → ℕ → List Item
+items_from verb words zero at = []
+items_from verb words (suc turns) at =
+    if nat_lt at (length words)
+    then item_at verb words at ∷ items_from verb words turns (at + 1 + (item_at verb words at).count)
+    else []
+
+-- the items behind the command
+abbrev pub items_of : Verb → List (List ℕ) → List Item
+items_of verb words = items_from verb words (length words) 1

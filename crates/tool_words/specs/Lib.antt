@@ -1,0 +1,6 @@
+-- What the clauses of the crate cite.
+pub mod Numerals
+pub mod Items
+pub mod Rules
+pub mod Seen
+pub mod Commands

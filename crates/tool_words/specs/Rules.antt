@@ -1,0 +1,210 @@
+-- Which words of a command break a rule, and the first that does: the place is counted from 0, and where something
+-- is missing it is one past the last word. This project's.
+use Rattle.std.specs.Prelude.{ℕ, ◌+◌, ◌%◌, ◌^◌, ◌==◌, nat_lt, nat_le, Bool, true, false, not, ◌&&◌, ◌||◌, if◌then◌else◌, List, [], ◌∷◌, ◌++◌, length, min, Option, Some, None, is_some, bytes_eq, count_by}
+use Rattle.std.specs.List.{list_any, list_all}
+use Rattle.tool_words.specs.declared.items.Verb.{Verb}
+use Rattle.tool_words.specs.declared.items.Verb.TheVariants.{Library, Run}
+use Rattle.tool_words.specs.declared.items.Flag.{Flag}
+use Rattle.tool_words.specs.declared.items.Flag.TheVariants.{Create, Table, Extract, Output, Map, Bin, At, Memory, Rom, Steps}
+use Rattle.tool_words.specs.declared.items.Role.{Role}
+use Rattle.tool_words.specs.declared.items.Role.TheVariants.{Name, Known, Unknown}
+use Rattle.tool_words.specs.declared.items.Item.{Item}
+use Rattle.tool_words.specs.Numerals.{number}
+use Rattle.tool_words.specs.Items.{word_at, value_count}
+
+-- ---- items of a kind
+
+-- an option's number among all
+abbrev pub code : Flag → ℕ
+code Create = 0
+code Table = 1
+code Extract = 2
+code Output = 3
+code Map = 4
+code Bin = 5
+code At = 6
+code Memory = 7
+code Rom = 8
+code Steps = 9
+
+abbrev pub is_flag : Flag → Role → Bool
+is_flag flag Name = false
+is_flag flag Unknown = false
+is_flag flag (Known other) = code flag == code other
+
+abbrev pub is_name : Role → Bool
+is_name Name = true
+is_name Unknown = false
+is_name (Known flag) = false
+
+abbrev pub has : Flag → List Item → Bool
+has flag items = list_any (λ i. is_flag flag i.role) items
+
+abbrev pub name_count : List Item → ℕ
+name_count items = count_by (λ i. is_name i.role) items
+
+-- options that may stand more than once: the banks of memory
+abbrev pub is_bank : Flag → Bool
+is_bank Memory = true
+is_bank Rom = true
+is_bank other = false
+
+abbrev pub is_bank_role : Role → Bool
+is_bank_role Name = false
+is_bank_role Unknown = false
+is_bank_role (Known flag) = is_bank flag
+
+abbrev pub bank_count : List Item → ℕ
+bank_count items = count_by (λ i. is_bank_role i.role) items
+
+-- options of which a command has one: what a library is wanted for, or an image's form
+abbrev pub is_mode : Flag → Bool
+is_mode Create = true
+is_mode Table = true
+is_mode Extract = true
+is_mode Map = true
+is_mode Bin = true
+is_mode other = false
+
+-- the first such option
+abbrev pub role_mode : Role → Option Flag
+role_mode Name = None
+role_mode Unknown = None
+role_mode (Known flag) = if is_mode flag then Some flag else None
+
+abbrev pub flag_or : Option Flag → Option Flag → Option Flag
+flag_or None later = later
+flag_or (Some flag) later = Some flag
+
+abbrev pub mode_of : List Item → Option Flag
+mode_of [] = None
+mode_of (i ∷ is) = flag_or (role_mode i.role) (mode_of is)
+
+abbrev pub is_the_mode : Flag → Option Flag → Bool
+is_the_mode flag None = false
+is_the_mode flag (Some mode) = code flag == code mode
+
+-- ---- values
+
+-- no file has a name with a zero byte
+abbrev pub is_plain : List ℕ → Bool
+is_plain word = list_all (λ c. not (c == 0)) word
+
+abbrev pub is_aligned : Option ℕ → Bool
+is_aligned None = false
+is_aligned (Some n) = n % 4 == 0
+
+abbrev pub is_at_most : ℕ → Option ℕ → Bool
+is_at_most most None = false
+is_at_most most (Some n) = nat_le n most
+
+-- whole words, one at least, from the base on that end at 2^32 or below
+abbrev pub is_size : Option ℕ → Option ℕ → Bool
+is_size None size = false
+is_size (Some base) None = false
+is_size (Some base) (Some size) = nat_lt 0 size && (size % 4 == 0 && nat_le (base + size) (2 ^ 32))
+
+abbrev pub number_at : List (List ℕ) → ℕ → Option ℕ
+number_at words at = number (word_at words at)
+
+-- the first value of an option, behind its word at a place
+abbrev pub first_is_good : Flag → List (List ℕ) → ℕ → Bool
+first_is_good At words at = is_aligned (number_at words (at + 1))
+first_is_good Memory words at = is_aligned (number_at words (at + 1))
+first_is_good Rom words at = is_aligned (number_at words (at + 1))
+first_is_good Steps words at = is_at_most 1000000000 (number_at words (at + 1))
+first_is_good other words at = is_plain (word_at words (at + 1))
+
+-- the second: a size
+abbrev pub second_is_good : List (List ℕ) → ℕ → Bool
+second_is_good words at = is_size (number_at words (at + 1)) (number_at words (at + 2))
+
+-- a value that is missing or bad
+abbrev pub value_fault : List (List ℕ) → ℕ → Bool → Option ℕ
+value_fault words at good = if nat_lt at (length words) then (if good then None else Some at) else Some (length words)
+
+abbrev pub or_else : Option ℕ → Option ℕ → Option ℕ
+or_else None later = later
+or_else (Some n) later = Some n
+
+abbrev pub values_fault : Flag → List (List ℕ) → ℕ → Option ℕ
+values_fault flag words at =
+    or_else (value_fault words (at + 1) (first_is_good flag words at))
+    (if value_count flag == 2 then value_fault words (at + 2) (second_is_good words at) else None)
+
+-- ---- rules
+
+-- an option that depends on another: -o of a library on -e, -at on -bin
+abbrev pub is_allowed : Verb → Option Flag → Flag → Bool
+is_allowed Library mode Output = is_the_mode Extract mode
+is_allowed Run mode At = is_the_mode Bin mode
+is_allowed verb mode flag = true
+
+-- an option stands once, or sixteen times if it is of banks, and beside no other of which there is one
+abbrev pub is_surplus : List Item → Flag → Bool
+is_surplus before flag =
+    if is_bank flag then not (nat_lt (bank_count before) 16)
+    else has flag before || (is_mode flag && is_some (mode_of before))
+
+-- the most names of a command, where there is a limit
+abbrev pub most_names : Verb → Option Flag → Option ℕ
+most_names Library None = None
+most_names Library (Some Table) = Some 0
+most_names Library (Some Extract) = Some 1
+most_names Library (Some other) = None
+most_names Run mode = Some 0
+
+abbrev pub is_below : ℕ → Option ℕ → Bool
+is_below n None = true
+is_below n (Some most) = nat_lt n most
+
+-- an item, with all items and those before it
+abbrev pub role_fault : Verb → List (List ℕ) → Option Flag → List Item → ℕ → Role → Option ℕ
+role_fault verb words mode before at Name =
+    if is_plain (word_at words at) && is_below (name_count before) (most_names verb mode) then None else Some at
+role_fault verb words mode before at Unknown = Some at
+role_fault verb words mode before at (Known flag) =
+    if is_allowed verb mode flag && not (is_surplus before flag) then values_fault flag words at else Some at
+
+abbrev pub items_fault : Verb → List (List ℕ) → Option Flag → List Item → List Item → Option ℕ
+items_fault verb words mode before [] = None
+items_fault verb words mode before (i ∷ is) =
+    or_else (role_fault verb words mode before i.at i.role) (items_fault verb words mode (before ++ i ∷ []) is)
+
+-- ---- names that differ
+
+-- the name is one of these items
+abbrev pub stands : List (List ℕ) → List Item → List ℕ → Bool
+stands words items name = list_any (λ i. is_name i.role && bytes_eq (word_at words i.at) name) items
+
+-- the first name that stands before too
+abbrev pub repeated : List (List ℕ) → List Item → List Item → Option ℕ
+repeated words before [] = None
+repeated words before (i ∷ is) =
+    if is_name i.role && stands words before (word_at words i.at) then Some i.at
+    else repeated words (before ++ i ∷ []) is
+
+-- the names of a new library's objects differ
+abbrev pub names_fault : Verb → Option Flag → List (List ℕ) → List Item → Option ℕ
+names_fault Library (Some Create) words items = repeated words [] items
+names_fault verb mode words items = None
+
+-- ---- what must stand
+
+abbrev pub is_complete : Verb → Option Flag → List Item → Bool
+is_complete verb None items = false
+is_complete verb (Some Create) items = nat_lt 0 (name_count items)
+is_complete verb (Some Extract) items = nat_lt 0 (name_count items) && has Output items
+is_complete verb (Some Bin) items = has At items
+is_complete verb (Some other) items = true
+
+abbrev pub lesser : Option ℕ → Option ℕ → Option ℕ
+lesser None o = o
+lesser (Some a) None = Some a
+lesser (Some a) (Some b) = Some (min a b)
+
+-- the first word that breaks a rule behind a command, or the place of what is missing
+abbrev pub verb_fault : Verb → List (List ℕ) → List Item → Option ℕ
+verb_fault verb words items =
+    or_else (lesser (items_fault verb words (mode_of items) [] items) (names_fault verb (mode_of items) words items))
+    (if is_complete verb (mode_of items) items then None else Some (length words))

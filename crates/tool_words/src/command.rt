@@ -1,0 +1,345 @@
+//! The command that words ask for.
+
+ghost use Rattle.std.specs.Prelude.{◌≡◌, ◌<◌, ◌+◌, All, IfOk, IfSome, List as Items, length, map, string_bytes, unwrap_or};
+ghost use Rattle.tool_words.specs.Items as items;
+ghost use Rattle.tool_words.specs.Rules as rules;
+ghost use Rattle.tool_words.specs.Commands as commands;
+
+use crate::items::{Flag, Item, Verb, items_of, verb_named};
+use crate::names::names_fault;
+use crate::rules::{is_complete, is_flag, is_name, items_fault, mode_of, number_at};
+use sdt_fault::{List, NoMemory, Text};
+use std::alloc::{AllocError, AllocFailed, Global};
+
+/// A bank of memory, with its base and size in bytes.
+#[derive(Clone, Copy, PartialEq, Eq, Debug)]
+pub struct Bank {
+    pub base: u32,
+    pub size: u32,
+}
+
+/// Where the image of a run stands.
+#[derive(Debug, Drop)]
+pub enum RunImage {
+    /// In the load files of this map.
+    Map { file: Text },
+    /// In this file, which is loaded at an address and entered there.
+    Binary { file: Text, at: u32 },
+}
+
+/// What to run: the image, the banks of memory and of read-only memory, and the most steps. With no bank
+/// at all, a run has its default bank.
+#[derive(Debug, Drop)]
+pub struct RunWords {
+    pub image: RunImage,
+    pub memory: List<Bank>,
+    pub rom: List<Bank>,
+    pub steps: u32,
+}
+
+#[derive(Debug, Drop)]
+pub enum Command {
+    /// Writes a library of these objects.
+    CreateLibrary {
+        library: Text,
+        objects: List<Text>,
+    },
+    /// Prints the names of a library's members.
+    ListMembers {
+        library: Text,
+    },
+    /// Writes a member as an object.
+    ExtractMember {
+        library: Text,
+        member: Text,
+        output: Text,
+    },
+    Run(RunWords),
+}
+
+/// Why words ask for nothing.
+#[derive(Clone, Copy, PartialEq, Eq, Debug)]
+pub enum WordsFault {
+    /// The place of the first word that breaks a rule, counted from 1; where something is missing, the
+    /// number of words plus 1. A place that would be 2^32 or more is told as 2^32 - 1.
+    Place(u32),
+    NoMemory,
+}
+
+impl From<NoMemory> for WordsFault {
+    ghost use Rattle.tool_words.specs.declared.command.WordsFault.TheVariants as fault;
+
+    ghost from_gives = { λ _ e. e ≡ fault.NoMemory };
+
+    fn from(_e: NoMemory) -> WordsFault {
+        WordsFault::NoMemory
+    }
+}
+
+/// The command that the words ask for, or the first word that breaks a rule.
+pub fn read_words(alloc: Global, words: &[String]) -> Result<Command, WordsFault>
+    ensures exact { commands.Reads result (commands.command_of (map string_bytes words.now)) }
+    // Banks are whole words that end at 2^32 or below, and so is the address of a binary image.
+    ensures good { IfOk result (λ command. commands.IsGood command) }
+{
+    match verb_named(first_word(words)) {
+        None => Err(WordsFault::Place(told(0))),
+        Some(verb) => read_verb(alloc, verb, words),
+    }
+}
+
+fn first_word(words: &[String]) -> &[u8]
+    ensures { result.now ≡ items.word_at (map string_bytes words.now) 0 }
+{
+    match words.first() {
+        None => b"",
+        Some(word) => word.as_bytes(),
+    }
+}
+
+fn told(place: usize) -> u32
+    ensures { result ≡ commands.told place }
+{
+    if place >= 0xFFFF_FFFF {
+        return 0xFFFF_FFFF;
+    }
+    (place + 1) as u32
+}
+
+fn lesser(a: Option<usize>, b: Option<usize>) -> Option<usize>
+    ensures { result ≡ rules.lesser a b }
+{
+    match (a, b) {
+        (None, other) => other,
+        (Some(place), None) => Some(place),
+        (Some(place), Some(other)) => Some(place.min(other)),
+    }
+}
+
+fn verb_fault(
+    alloc: Global,
+    verb: Verb,
+    words: &[String],
+    items: &[Item],
+) -> Result<Option<usize>, NoMemory>
+    requires { All (λ i. i.at < length words.now) items.now }
+    ensures { IfOk result (λ place. place ≡ rules.verb_fault verb (map string_bytes words.now) items.now) }
+{
+    let mode = mode_of(items);
+    let repeated = names_fault(alloc, verb, mode, words, items)?;
+    let place = lesser(items_fault(verb, words, mode, items), repeated);
+    if place.is_some() {
+        return Ok(place);
+    }
+    if is_complete(verb, mode, items) {
+        return Ok(None);
+    }
+    Ok(Some(words.len()))
+}
+
+#[tactic(auto, using(crate::proofs::GoodLemmas::good_words))]
+fn read_verb(alloc: Global, verb: Verb, words: &[String]) -> Result<Command, WordsFault>
+    ensures good { IfOk result (λ command. commands.IsGood command) }
+    ensures exact { commands.Reads result (commands.verb_words (Some verb) (map string_bytes words.now)) }
+{
+    let items = items_of(alloc, verb, words)?;
+    if let Some(place) = verb_fault(alloc, verb, words, items.as_slice())? {
+        return Err(WordsFault::Place(told(place)));
+    }
+    let command = verb_command(alloc, verb, words, items.as_slice())?;
+    Ok(command)
+}
+
+ghost use Rattle.std.specs.Prelude.{Some};
+
+fn place_of(words: &[String], items: &[Item], flag: Flag) -> Option<usize>
+    requires { All (λ i. i.at < length words.now) items.now }
+    ensures value { result ≡ commands.place_of flag items.now }
+    ensures within { IfSome result (λ at. at < length words.now) }
+{
+    for item in items {
+        if is_flag(flag, item.role) {
+            return Some(item.at);
+        }
+    }
+    None
+}
+
+fn name_place(items: &[Item]) -> Option<usize>
+    ensures { result ≡ commands.name_place items.now }
+{
+    for item in items {
+        if is_name(item.role) {
+            return Some(item.at);
+        }
+    }
+    None
+}
+
+/// The word at a place; an empty one where there is none.
+fn text_at(alloc: Global, words: &[String], at: usize) -> Result<Text, NoMemory>
+    ensures { IfOk result (λ text. text ≡ items.word_at (map string_bytes words.now) at) }
+{
+    match words.get(at) {
+        None => Text::from_slice(alloc, b""),
+        Some(word) => Text::from_slice(alloc, word.as_bytes()),
+    }
+}
+
+fn value_of(alloc: Global, words: &[String], items: &[Item], flag: Flag) -> Result<Text, NoMemory>
+    requires { All (λ i. i.at < length words.now) items.now }
+    ensures { IfOk result (λ text. text ≡ commands.value_of (map string_bytes words.now) items.now flag) }
+{
+    match place_of(words, items, flag) {
+        None => Text::from_slice(alloc, b""),
+        Some(at) => text_at(alloc, words, at + 1),
+    }
+}
+
+fn number_of(words: &[String], items: &[Item], flag: Flag, usual: u32) -> u32
+    requires { All (λ i. i.at < length words.now) items.now }
+    ensures { result ≡ commands.number_of (map string_bytes words.now) items.now flag usual }
+{
+    match place_of(words, items, flag) {
+        None => usual,
+        Some(at) => number_at(words, at + 1).unwrap_or(0),
+    }
+}
+
+fn names_in(alloc: Global, words: &[String], items: &[Item]) -> Result<List<Text>, NoMemory>
+    ensures { IfOk result (λ names. names ≡ commands.names_in (map string_bytes words.now) items.now) }
+{
+    let mut names = Vec::new(alloc);
+    for item in items {
+        if is_name(item.role) {
+            names.push(text_at(alloc, words, item.at)?)?;
+        }
+    }
+    Ok(List::from_vec(names))
+}
+
+fn first_name(alloc: Global, words: &[String], items: &[Item]) -> Result<Text, NoMemory>
+    ensures { IfOk result (λ text. text ≡ commands.first_name (map string_bytes words.now) items.now) }
+{
+    match name_place(items) {
+        None => Text::from_slice(alloc, b""),
+        Some(at) => text_at(alloc, words, at),
+    }
+}
+
+fn bank_at(words: &[String], at: usize) -> Bank
+    requires { at < length words.now }
+    ensures { result ≡ commands.bank_at (map string_bytes words.now) at }
+{
+    Bank {
+        base: number_at(words, at + 1).unwrap_or(0),
+        size: number_at(words, at + 2).unwrap_or(0),
+    }
+}
+
+fn banks_in(
+    alloc: Global,
+    words: &[String],
+    items: &[Item],
+    flag: Flag,
+) -> Result<List<Bank>, NoMemory>
+    requires { All (λ i. i.at < length words.now) items.now }
+    ensures { IfOk result (λ banks. banks ≡ commands.banks_in (map string_bytes words.now) items.now flag) }
+{
+    let mut banks = Vec::new(alloc);
+    for item in items {
+        if is_flag(flag, item.role) {
+            banks.push(bank_at(words, item.at))?;
+        }
+    }
+    Ok(List::from_vec(banks))
+}
+
+fn image_of(
+    alloc: Global,
+    mode: Option<Flag>,
+    words: &[String],
+    items: &[Item],
+) -> Result<RunImage, NoMemory>
+    requires { All (λ i. i.at < length words.now) items.now }
+    ensures { IfOk result (λ image. image ≡ commands.image_of mode (map string_bytes words.now) items.now) }
+{
+    if let Some(Flag::Map) = mode {
+        let file = value_of(alloc, words, items, Flag::Map)?;
+        return Ok(RunImage::Map { file });
+    }
+    let file = value_of(alloc, words, items, Flag::Bin)?;
+    let at = number_of(words, items, Flag::At, 0);
+    Ok(RunImage::Binary { file, at })
+}
+
+fn library_command(
+    alloc: Global,
+    mode: Option<Flag>,
+    words: &[String],
+    items: &[Item],
+) -> Result<Command, NoMemory>
+    requires { All (λ i. i.at < length words.now) items.now }
+    ensures { IfOk result (λ command. command ≡ commands.library_command mode (map string_bytes words.now) items.now) }
+{
+    match mode {
+        Some(Flag::Create) => {
+            let library = value_of(alloc, words, items, Flag::Create)?;
+            let objects = names_in(alloc, words, items)?;
+            Ok(Command::CreateLibrary { library, objects })
+        }
+        Some(Flag::Extract) => {
+            let library = value_of(alloc, words, items, Flag::Extract)?;
+            let member = first_name(alloc, words, items)?;
+            let output = value_of(alloc, words, items, Flag::Output)?;
+            Ok(Command::ExtractMember {
+                library,
+                member,
+                output,
+            })
+        }
+        _ => {
+            let library = value_of(alloc, words, items, Flag::Table)?;
+            Ok(Command::ListMembers { library })
+        }
+    }
+}
+
+fn run_words(
+    alloc: Global,
+    mode: Option<Flag>,
+    words: &[String],
+    items: &[Item],
+) -> Result<Command, NoMemory>
+    requires { All (λ i. i.at < length words.now) items.now }
+    ensures { IfOk result (λ command. command ≡ commands.verb_command Run mode (map string_bytes words.now) items.now) }
+{
+    let image = image_of(alloc, mode, words, items)?;
+    let memory = banks_in(alloc, words, items, Flag::Memory)?;
+    let rom = banks_in(alloc, words, items, Flag::Rom)?;
+    let steps = number_of(words, items, Flag::Steps, 10_000_000);
+    Ok(Command::Run(RunWords {
+        image,
+        memory,
+        rom,
+        steps,
+    }))
+}
+
+ghost use Rattle.tool_words.specs.declared.items.Verb.TheVariants.{Run};
+
+fn verb_command(
+    alloc: Global,
+    verb: Verb,
+    words: &[String],
+    items: &[Item],
+) -> Result<Command, NoMemory>
+    requires { All (λ i. i.at < length words.now) items.now }
+    ensures { IfOk result (λ command. command ≡ commands.verb_command verb (rules.mode_of items.now) (map string_bytes words.now) items.now) }
+{
+    let mode = mode_of(items);
+    match verb {
+        Verb::Library => library_command(alloc, mode, words, items),
+        Verb::Run => run_words(alloc, mode, words, items),
+    }
+}

@@ -1,0 +1,194 @@
+//! The words behind a command, as items.
+
+ghost use Rattle.std.specs.Prelude.{◌≡◌, ◌<◌, ◌≤◌, ◌+◌, ◌^◌, All, IfOk, length, map, string_bytes};
+ghost use Rattle.tool_words.specs.Items as items;
+
+use sdt_fault::NoMemory;
+use std::alloc::Global;
+
+/// A command.
+#[derive(Clone, Copy, PartialEq, Eq, Debug)]
+pub enum Verb {
+    /// `lib`
+    Library,
+    /// `run`
+    Run,
+}
+
+/// An option of some command.
+#[derive(Clone, Copy, PartialEq, Eq, Debug)]
+pub enum Flag {
+    /// `-c`
+    Create,
+    /// `-t`
+    Table,
+    /// `-e`
+    Extract,
+    /// `-o`
+    Output,
+    /// `-map`
+    Map,
+    /// `-bin`
+    Bin,
+    /// `-at`
+    At,
+    /// `-mem`
+    Memory,
+    /// `-rom`
+    Rom,
+    /// `-steps`
+    Steps,
+}
+
+/// What a word is to a command.
+#[derive(Clone, Copy, PartialEq, Eq, Debug)]
+pub enum Role {
+    Name,
+    /// One of the command's options.
+    Known(Flag),
+    /// Another word that begins with `-`.
+    Unknown,
+}
+
+/// The word at a place, counted from 0, and the number of its values, which follow it.
+#[derive(Clone, Copy, PartialEq, Eq, Debug)]
+pub struct Item {
+    pub at: usize,
+    pub role: Role,
+    pub count: usize,
+}
+
+fn is(word: &[u8], other: &[u8]) -> bool
+    ensures { result ≡ bytes_eq word.now other.now }
+{
+    word == other
+}
+
+ghost use Rattle.std.specs.Prelude.{bytes_eq};
+
+/// The command of a name.
+pub fn verb_named(word: &[u8]) -> Option<Verb>
+    ensures { result ≡ items.verb_named word.now }
+{
+    if is(word, b"lib") {
+        return Some(Verb::Library);
+    }
+    if is(word, b"run") {
+        return Some(Verb::Run);
+    }
+    None
+}
+
+fn flag_named(word: &[u8]) -> Option<Flag>
+    ensures { result ≡ items.flag_named word.now }
+{
+    if is(word, b"-c") {
+        return Some(Flag::Create);
+    }
+    if is(word, b"-t") {
+        return Some(Flag::Table);
+    }
+    if is(word, b"-e") {
+        return Some(Flag::Extract);
+    }
+    if is(word, b"-o") {
+        return Some(Flag::Output);
+    }
+    if is(word, b"-map") {
+        return Some(Flag::Map);
+    }
+    if is(word, b"-bin") {
+        return Some(Flag::Bin);
+    }
+    if is(word, b"-at") {
+        return Some(Flag::At);
+    }
+    if is(word, b"-mem") {
+        return Some(Flag::Memory);
+    }
+    if is(word, b"-rom") {
+        return Some(Flag::Rom);
+    }
+    if is(word, b"-steps") {
+        return Some(Flag::Steps);
+    }
+    None
+}
+
+fn has_flag(verb: Verb, flag: Flag) -> bool
+    ensures { result ≡ items.has_flag verb flag }
+{
+    match verb {
+        Verb::Library => matches!(
+            flag,
+            Flag::Create | Flag::Table | Flag::Extract | Flag::Output
+        ),
+        Verb::Run => !matches!(
+            flag,
+            Flag::Create | Flag::Table | Flag::Extract | Flag::Output
+        ),
+    }
+}
+
+fn role_of(verb: Verb, word: &[u8]) -> Role
+    ensures { result ≡ items.role_of verb word.now }
+{
+    match word.first() {
+        Some(b'-') => flag_role(verb, flag_named(word)),
+        _ => Role::Name,
+    }
+}
+
+fn flag_role(verb: Verb, named: Option<Flag>) -> Role
+    ensures { result ≡ items.flag_role verb named }
+{
+    match named {
+        None => Role::Unknown,
+        Some(flag) => {
+            if has_flag(verb, flag) {
+                return Role::Known(flag);
+            }
+            Role::Unknown
+        }
+    }
+}
+
+fn count_of(role: Role) -> usize
+    ensures { result ≡ items.count_of role }
+{
+    match role {
+        Role::Known(Flag::Memory) => 2,
+        Role::Known(Flag::Rom) => 2,
+        Role::Known(_) => 1,
+        Role::Name => 0,
+        Role::Unknown => 0,
+    }
+}
+
+fn item_at(verb: Verb, words: &[String], at: usize) -> Item
+    requires { at < length words.now }
+    ensures { result ≡ items.item_at verb (map string_bytes words.now) at }
+{
+    let role = role_of(verb, words[at].as_bytes());
+    let left = words.len() - (at + 1);
+    Item {
+        at,
+        role,
+        count: count_of(role).min(left),
+    }
+}
+
+/// The items behind the command.
+pub fn items_of(alloc: Global, verb: Verb, words: &[String]) -> Result<Vec<Item>, NoMemory>
+    ensures value { IfOk result (λ found. found.items ≡ items.items_of verb (map string_bytes words.now)) }
+    ensures within { IfOk result (λ found. All (λ i. i.at < length words.now) found.items) }
+{
+    let mut found = Vec::new(alloc);
+    let mut at = 1;
+    'words: while at < words.len() {
+        let item = item_at(verb, words, at);
+        at += 1 + item.count;
+        found.push(item)?;
+    }
+    Ok(found)
+}

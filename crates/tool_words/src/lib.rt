@@ -1,0 +1,13 @@
+//! The words of a command line: which command they ask for, with its names and options, or the first
+//! word that breaks a rule.
+#![tactic(auto)]
+
+pub mod command;
+pub mod items;
+pub mod names;
+pub mod numerals;
+pub mod rules;
+#[cfg(test)]
+mod tests;
+
+pub use crate::command::{Bank, Command, RunImage, RunWords, WordsFault, read_words};

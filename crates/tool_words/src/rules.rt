@@ -1,0 +1,332 @@
+//! Which words break a rule.
+
+ghost use Rattle.std.specs.Prelude.{◌≡◌, ◌==◌, ◌<◌, ◌≤◌, ◌+◌, ◌^◌, IfOk, length, map, string_bytes, count_by, ℕ, All, IfSome};
+ghost use Rattle.std.specs.List.{list_any, list_all};
+ghost use Rattle.tool_words.specs.Items as items;
+ghost use Rattle.tool_words.specs.Rules as rules;
+
+use crate::items::{Flag, Item, Role, Verb};
+use crate::numerals::number;
+
+fn code(flag: Flag) -> u8
+    ensures { result ≡ rules.code flag }
+{
+    flag as u8
+}
+
+pub fn is_flag(flag: Flag, role: Role) -> bool
+    ensures { result ≡ rules.is_flag flag role }
+{
+    match role {
+        Role::Known(other) => code(flag) == code(other),
+        Role::Name => false,
+        Role::Unknown => false,
+    }
+}
+
+pub fn is_name(role: Role) -> bool
+    ensures { result ≡ rules.is_name role }
+{
+    match role {
+        Role::Name => true,
+        Role::Known(_) => false,
+        Role::Unknown => false,
+    }
+}
+
+/// Whether the option is one of the items.
+pub fn has(flag: Flag, items: &[Item]) -> bool
+    ensures { result ≡ rules.has flag items.now }
+{
+    items.iter().any(|item| is_flag(flag, item.role))
+}
+
+fn name_count(items: &[Item]) -> usize
+    ensures { result ≡ rules.name_count items.now }
+{
+    items.iter().filter(|item| is_name(item.role)).count()
+}
+
+fn is_bank(flag: Flag) -> bool
+    ensures { result ≡ rules.is_bank flag }
+{
+    matches!(flag, Flag::Memory | Flag::Rom)
+}
+
+fn is_bank_role(role: Role) -> bool
+    ensures { result ≡ rules.is_bank_role role }
+{
+    match role {
+        Role::Known(flag) => is_bank(flag),
+        Role::Name => false,
+        Role::Unknown => false,
+    }
+}
+
+fn bank_count(items: &[Item]) -> usize
+    ensures { result ≡ rules.bank_count items.now }
+{
+    items.iter().filter(|item| is_bank_role(item.role)).count()
+}
+
+fn is_mode(flag: Flag) -> bool
+    ensures { result ≡ rules.is_mode flag }
+{
+    matches!(
+        flag,
+        Flag::Create | Flag::Table | Flag::Extract | Flag::Map | Flag::Bin
+    )
+}
+
+fn role_mode(role: Role) -> Option<Flag>
+    ensures { result ≡ rules.role_mode role }
+{
+    match role {
+        Role::Known(flag) => {
+            if is_mode(flag) {
+                return Some(flag);
+            }
+            None
+        }
+        Role::Name => None,
+        Role::Unknown => None,
+    }
+}
+
+/// What a library is wanted for, or an image's form: the first option of which there is one.
+pub fn mode_of(items: &[Item]) -> Option<Flag>
+    ensures { result ≡ rules.mode_of items.now }
+{
+    for item in items {
+        let mode = role_mode(item.role);
+        if mode.is_some() {
+            return mode;
+        }
+    }
+    None
+}
+
+fn is_the_mode(flag: Flag, mode: Option<Flag>) -> bool
+    ensures { result ≡ rules.is_the_mode flag mode }
+{
+    match mode {
+        None => false,
+        Some(mode) => code(flag) == code(mode),
+    }
+}
+
+fn is_plain(word: &[u8]) -> bool
+    ensures { result ≡ rules.is_plain word.now }
+{
+    word.iter().all(|byte| *byte != 0)
+}
+
+fn is_aligned(number: Option<u32>) -> bool
+    ensures { result ≡ rules.is_aligned number }
+{
+    match number {
+        None => false,
+        Some(n) => n % 4 == 0,
+    }
+}
+
+fn is_at_most(most: u32, number: Option<u32>) -> bool
+    ensures { result ≡ rules.is_at_most most number }
+{
+    match number {
+        None => false,
+        Some(n) => n <= most,
+    }
+}
+
+fn is_size(base: Option<u32>, size: Option<u32>) -> bool
+    ensures { result ≡ rules.is_size base size }
+{
+    match (base, size) {
+        (Some(base), Some(size)) => {
+            0 < size && size % 4 == 0 && u64::from(base) + u64::from(size) <= 1 << 32
+        }
+        (_, _) => false,
+    }
+}
+
+/// The number that the word at a place writes.
+pub fn number_at(words: &[String], at: usize) -> Option<u32>
+    ensures { result ≡ number_at (map string_bytes words.now) at }
+{
+    match words.get(at) {
+        None => None,
+        Some(word) => number(word.as_str()),
+    }
+}
+
+ghost use Rattle.tool_words.specs.Rules.{number_at};
+
+fn plain_at(words: &[String], at: usize) -> bool
+    ensures { result ≡ rules.is_plain (items.word_at (map string_bytes words.now) at) }
+{
+    match words.get(at) {
+        None => true,
+        Some(word) => is_plain(word.as_bytes()),
+    }
+}
+
+fn first_is_good(flag: Flag, words: &[String], at: usize) -> bool
+    requires { at < length words.now }
+    ensures { result ≡ rules.first_is_good flag (map string_bytes words.now) at }
+{
+    match flag {
+        Flag::At => is_aligned(number_at(words, at + 1)),
+        Flag::Memory => is_aligned(number_at(words, at + 1)),
+        Flag::Rom => is_aligned(number_at(words, at + 1)),
+        Flag::Steps => is_at_most(1_000_000_000, number_at(words, at + 1)),
+        _ => plain_at(words, at + 1),
+    }
+}
+
+fn second_is_good(words: &[String], at: usize) -> bool
+    requires { at + 1 < length words.now }
+    ensures { result ≡ rules.second_is_good (map string_bytes words.now) at }
+{
+    is_size(number_at(words, at + 1), number_at(words, at + 2))
+}
+
+fn value_fault(words: &[String], at: usize, good: bool) -> Option<usize>
+    ensures { result ≡ rules.value_fault (map string_bytes words.now) at good }
+{
+    if at >= words.len() {
+        return Some(words.len());
+    }
+    if good { None } else { Some(at) }
+}
+
+fn second_fault(flag: Flag, words: &[String], at: usize) -> Option<usize>
+    requires { at + 1 < length words.now }
+    ensures { result ≡ (if items.value_count flag == 2 then rules.value_fault (map string_bytes words.now) (at + 2) (rules.second_is_good (map string_bytes words.now) at) else None) }
+{
+    if is_bank(flag) {
+        return value_fault(words, at + 2, second_is_good(words, at));
+    }
+    None
+}
+
+fn values_fault(flag: Flag, words: &[String], at: usize) -> Option<usize>
+    requires { at < length words.now }
+    ensures { result ≡ rules.values_fault flag (map string_bytes words.now) at }
+{
+    let first = value_fault(words, at + 1, first_is_good(flag, words, at));
+    if first.is_some() {
+        return first;
+    }
+    second_fault(flag, words, at)
+}
+
+ghost use Rattle.std.specs.Prelude.{if◌then◌else◌, None};
+
+fn is_allowed(verb: Verb, mode: Option<Flag>, flag: Flag) -> bool
+    ensures { result ≡ rules.is_allowed verb mode flag }
+{
+    match (verb, flag) {
+        (Verb::Library, Flag::Output) => is_the_mode(Flag::Extract, mode),
+        (Verb::Run, Flag::At) => is_the_mode(Flag::Bin, mode),
+        (_, _) => true,
+    }
+}
+
+fn is_surplus(before: &[Item], flag: Flag) -> bool
+    ensures { result ≡ rules.is_surplus before.now flag }
+{
+    if is_bank(flag) {
+        return bank_count(before) >= 16;
+    }
+    has(flag, before) || is_mode(flag) && mode_of(before).is_some()
+}
+
+fn most_names(verb: Verb, mode: Option<Flag>) -> Option<usize>
+    ensures { result ≡ rules.most_names verb mode }
+{
+    match (verb, mode) {
+        (Verb::Library, Some(Flag::Table)) => Some(0),
+        (Verb::Library, Some(Flag::Extract)) => Some(1),
+        (Verb::Library, _) => None,
+        (Verb::Run, _) => Some(0),
+    }
+}
+
+fn may_follow(before: &[Item], most: Option<usize>) -> bool
+    ensures { result ≡ rules.is_below (rules.name_count before.now) most }
+{
+    match most {
+        None => true,
+        Some(most) => name_count(before) < most,
+    }
+}
+
+fn item_fault(
+    verb: Verb,
+    words: &[String],
+    mode: Option<Flag>,
+    before: &[Item],
+    item: Item,
+) -> Option<usize>
+    requires { item.at < length words.now }
+    ensures { result ≡ rules.role_fault verb (map string_bytes words.now) mode before.now item.at item.role }
+{
+    match item.role {
+        Role::Name => {
+            if plain_at(words, item.at) && may_follow(before, most_names(verb, mode)) {
+                return None;
+            }
+            Some(item.at)
+        }
+        Role::Unknown => Some(item.at),
+        Role::Known(flag) => {
+            if is_allowed(verb, mode, flag) && !is_surplus(before, flag) {
+                return values_fault(flag, words, item.at);
+            }
+            Some(item.at)
+        }
+    }
+}
+
+/// The first word of the items that breaks a rule.
+pub fn items_fault(
+    verb: Verb,
+    words: &[String],
+    mode: Option<Flag>,
+    items: &[Item],
+) -> Option<usize>
+    requires { All (λ i. i.at < length words.now) items.now }
+    ensures { result ≡ rules.items_fault verb (map string_bytes words.now) mode [] items.now }
+{
+    for (k, item) in items.iter().enumerate() {
+        let fault = item_fault(verb, words, mode, &items[..k], *item);
+        if fault.is_some() {
+            return fault;
+        }
+    }
+    None
+}
+
+ghost use Rattle.std.specs.Prelude.{[]};
+
+fn has_name(items: &[Item]) -> bool
+    ensures { result ≡ nat_lt 0 (rules.name_count items.now) }
+{
+    name_count(items) > 0
+}
+
+ghost use Rattle.std.specs.Prelude.{nat_lt};
+
+/// Whether all that the command needs is there.
+pub fn is_complete(verb: Verb, mode: Option<Flag>, items: &[Item]) -> bool
+    ensures { result ≡ rules.is_complete verb mode items.now }
+{
+    match mode {
+        None => false,
+        Some(Flag::Create) => has_name(items),
+        Some(Flag::Extract) => has_name(items) && has(Flag::Output, items),
+        Some(Flag::Bin) => has(Flag::At, items),
+        Some(_) => true,
+    }
+}
