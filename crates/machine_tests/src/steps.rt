@@ -132,8 +132,12 @@ fn step_if(machine: &mut Machine, bus: &mut Bus, wanted: bool)
 
 fn compare(rt: &impl Abort, machine: &Machine, total: u32, row: &[u32; 17]) {
     let r = machine.state.r;
-    assert_eq!(rt; r[0..8], row[3..11], "{row:?}");
-    assert_eq!(rt; r[13..16], row[11..14], "{row:?}");
+    for i in 0..8 {
+        assert_eq!(rt; r[i], row[i + 3], "{row:?}");
+    }
+    for i in 13..16 {
+        assert_eq!(rt; r[i], row[i - 2], "{row:?}");
+    }
     assert_eq!(rt; machine.state.cpsr >> 28, row[14], "{row:?}");
     assert_eq!(rt; machine.state.cpsr >> 5 & 1, row[15], "{row:?}");
     assert_eq!(rt; total, row[16], "{row:?}");
