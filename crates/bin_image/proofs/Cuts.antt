@@ -1,6 +1,6 @@
 -- A text cut at a byte, and at each.
-use Rattle.std.proofs.Common.{◌≡◌, ◌∙◌, ℕ, zero, suc, ◌+◌, ◌<◌, ◌≤◌, List, [], ◌∷◌, ◌++◌, length, take, drop, Bool, true, false, cond, ◌==◌, not, ◌&&◌, nat_lt, Option, Some, None, option_map, MatchOption, refl, ap, sym, subst, arith, eq-eqb, eqb-true, lt-ltb, ltb-true, ltb-false, le-ltb, append_assoc}
-use Rattle.std.specs.List.{list_all, position, position_or_len, slice_split, onto_first, AllByRecursion, join_with_byte, flat_map}
+use Rattle.std.proofs.Common.{◌≡◌, ◌∙◌, ℕ, suc, ◌+◌, ◌<◌, ◌≤◌, List, [], ◌∷◌, ◌++◌, length, take, drop, Bool, true, false, cond, ◌==◌, not, nat_lt, Option, Some, None, option_map, MatchOption, refl, ap, sym, subst, arith, eq-eqb, eqb-true, lt-ltb, ltb-true, ltb-false, le-ltb, append_assoc}
+use Rattle.std.specs.List.{position, position_or_len, slice_split, onto_first, AllByRecursion, join_with_byte, flat_map}
 use Rattle.std.proofs.lemmas.Bool.{and_parts}
 use Rattle.bin_image.specs.Fields.{lacks, cut}
 use Rattle.bin_image.specs.Maps.{ended}

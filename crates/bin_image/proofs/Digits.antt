@@ -1,5 +1,5 @@
 -- Numbers in digits: what is written is read, and what is read is written so.
-use Rattle.std.proofs.Common.{◌≡◌, ◌∙◌, ◌⊎◌, ℕ, zero, suc, ◌+◌, ◌-◌, ◌*◌, ◌/◌, ◌%◌, ◌^◌, ◌<◌, ◌≤◌, List, [], ◌∷◌, ◌++◌, length, drop, get_or, Bool, true, false, cond, ◌==◌, not, ◌&&◌, ◌||◌, nat_lt, nat_le, Option, Some, None, refl, ap, sym, subst, arith, eq-eqb, eqb-true, lt-ltb, ltb-true, le-leb, leb-true, append_assoc, append-nil, length-append}
+use Rattle.std.proofs.Common.{◌≡◌, ◌∙◌, ℕ, zero, suc, ◌+◌, ◌-◌, ◌*◌, ◌/◌, ◌%◌, ◌^◌, ◌<◌, ◌≤◌, List, [], ◌∷◌, ◌++◌, length, drop, get_or, Bool, true, false, cond, ◌==◌, not, ◌&&◌, ◌||◌, nat_lt, nat_le, Option, Some, None, refl, ap, sym, subst, arith, eq-eqb, eqb-true, ltb-true, le-leb, leb-true, append_assoc, append-nil, length-append}
 use Rattle.std.proofs.Math.Seq.{drop-cons}
 use Rattle.std.proofs.lemmas.Bool.{and_parts, and_from}
 use Rattle.std.proofs.lemmas.Bool.Decides.{nat_tests}
@@ -14,7 +14,7 @@ use Rattle.std.specs.Str.Parse.{digits_value, digits_value_after, AllDigits}
 use Rattle.std.specs.Fmt.{decimal, digit_glyph}
 use Rattle.sdt_fault.specs.Digits.{hexadecimal_places}
 use Rattle.bin_image.specs.Fields.{◌>>=◌, lacks, is_upper_digit, at_most, address, address_of, decimal_of}
-use Rattle.bin_image.proofs.Cuts.{same, not_true}
+use Rattle.bin_image.proofs.Cuts.{same}
 
 -- ---- the loop over digits
 

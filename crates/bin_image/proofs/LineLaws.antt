@@ -1,8 +1,6 @@
 -- Each line: what is spelled is read, what is read is spelled so, and no spelled line has a line feed.
-use Rattle.std.proofs.Common.{◌≡◌, ◌∙◌, ℕ, ◌+◌, ◌%◌, ◌^◌, ◌<◌, ◌≤◌, List, [], ◌∷◌, ◌++◌, length, Bool, true, false, cond, ◌==◌, not, ◌&&◌, nat_le, Option, Some, None, refl, ap, sym, subst, arith, eq-eqb, eqb-true, le-leb, leb-true, option_and_then}
+use Rattle.std.proofs.Common.{◌≡◌, ◌∙◌, ℕ, ◌+◌, ◌%◌, ◌^◌, ◌<◌, List, ◌∷◌, ◌++◌, Bool, true, false, cond, ◌==◌, not, nat_le, Option, Some, None, refl, ap, sym, subst, arith, eq-eqb, eqb-true, le-leb, leb-true, option_and_then}
 use Rattle.std.specs.Prelude.{codes, bytes_eq}
-use Rattle.std.specs.List.{list_all}
-use Rattle.std.specs.Fmt.{decimal}
 use Rattle.std.proofs.lemmas.Bool.{and_parts, and_from}
 use Rattle.std.proofs.lemmas.Bool.Decides.{nat_tests}
 use Rattle.std.proofs.lemmas.List.Folds.{list_all-append}
@@ -12,8 +10,8 @@ use Rattle.bin_image.specs.declared.records.MapRegion.{MapRegion}
 use Rattle.bin_image.specs.Fields.{◌>>=◌, lacks, cut, is_word, is_name, address, address_of, decimal_of}
 use Rattle.bin_image.specs.Maps.{load_line, region_line, start_line, entry_line, bound_line, state_word, IsLoad, IsRegion}
 use Rattle.bin_image.specs.Reading.{load_of, load_in, region_of, region_in, start_in, state_of, entry_in, bound_in}
-use Rattle.bin_image.proofs.Cuts.{Pair, same, not_true, cut_at, cut_is, IsCut}
-use Rattle.bin_image.proofs.Digits.{IsAddress, address_is, address_read, address_lacks_feed, address_lacks_space, IsDecimal, decimal_is, decimal_read, decimal_lacks_feed, implied}
+use Rattle.bin_image.proofs.Cuts.{Pair, same, cut_at, cut_is}
+use Rattle.bin_image.proofs.Digits.{address_is, address_read, address_lacks_feed, address_lacks_space, decimal_is, decimal_read, decimal_lacks_feed, implied}
 
 -- what an option that came through a step was before, and a test
 came_through : {A B : Type 0} (f : A → Option B) (o : Option A) (y : B) → option_and_then f o ≡ Some y → (x : A) × (o ≡ Some x) × (f x ≡ Some y)

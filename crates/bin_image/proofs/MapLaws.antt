@@ -1,9 +1,8 @@
 -- The laws: what reading gives is the map that the bytes spell, or their first wrong line.
-use Rattle.std.proofs.Common.{◌≡◌, ◌∙◌, ◌⊎◌, ℕ, ◌+◌, List, [], ◌∷◌, ◌++◌, length, drop, Bool, true, false, cond, ◌==◌, ◌&&◌, Option, Some, None, Result, Ok, Err, refl, ap, sym, subst, arith, inl, inr, eqb-true, append_assoc, append-nil}
-use Rattle.std.specs.Prelude.{◌↔◌, IfOk, IfErr}
-use Rattle.std.specs.List.{flat_map, join_with_byte, AllByRecursion}
+use Rattle.std.proofs.Common.{◌≡◌, ◌∙◌, ℕ, ◌+◌, List, [], ◌∷◌, ◌++◌, length, drop, Bool, true, false, cond, ◌==◌, ◌&&◌, Option, Some, None, Result, Ok, Err, refl, ap, sym, subst, arith, eqb-true, append_assoc, append-nil}
+use Rattle.std.specs.Prelude.{IfOk, IfErr}
+use Rattle.std.specs.List.{flat_map, join_with_byte}
 use Rattle.std.specs.Option.{option_map_or}
-use Rattle.std.proofs.lemmas.Bool.{and_parts}
 use Rattle.std.proofs.lemmas.List.Splits.{join_with_byte-slice_split}
 use Rattle.std.proofs.lemmas.List.Concat.{flat_map-append}
 use Rattle.sdt_fault.specs.declared.answer.Fault.{Fault}
@@ -12,14 +11,13 @@ use Rattle.sdt_fault.specs.declared.kinds.FileKind.TheVariants as kind
 use Rattle.sdt_fault.specs.declared.refusal.Refusal.{Refusal}
 use Rattle.sdt_fault.specs.declared.refusal.Refusal.TheVariants.{BadImage}
 use Rattle.bin_image.specs.declared.records.MapFile.{MapFile}
-use Rattle.bin_image.specs.declared.reading.Stage.{Stage}
 use Rattle.bin_image.specs.declared.reading.Stage.TheVariants.{Head, Done}
 use Rattle.bin_image.specs.Fields.{◌>>=◌, lacks}
-use Rattle.bin_image.specs.Maps.{ended, map_text, IsValid, ReadsMap, Begins, AreLines, IsFirstWrong}
-use Rattle.bin_image.specs.Reading.{State, next, is_done, last, read, pieces_of, empty_map, told, map_of, Gives, IsFaultOf, MapLaw, OneRecord, SpellingLaw, FirstWrongLaw}
+use Rattle.bin_image.specs.Maps.{ended, map_text, ReadsMap, Begins, IsFirstWrong}
+use Rattle.bin_image.specs.Reading.{State, next, is_done, read, pieces_of, empty_map, told, map_of, Gives, IsFaultOf, MapLaw, OneRecord, SpellingLaw, FirstWrongLaw}
 use Rattle.bin_image.proofs.Cuts.{pieces_at, pieces_lack, joined, pieces_of_lines}
 use Rattle.bin_image.proofs.Steps.{steps, steps_append, steps_spell, Spells, so_far, Plain, begins_at, nothing_good, text_of_lines}
-use Rattle.bin_image.proofs.Pieces.{read_through, reached_of, Stuck, Stops, stops, split_some, done_is, map_read}
+use Rattle.bin_image.proofs.Pieces.{read_through, reached_of, Stuck, stops, split_some, done_is, map_read}
 
 abbrev Read : Type 0
 Read = Result MapFile ℕ

@@ -1,6 +1,6 @@
 -- Reading the pieces of a text: where it stops, and with what.
-use Rattle.std.proofs.Common.{◌≡◌, ◌∙◌, ℕ, ◌+◌, List, [], ◌∷◌, ◌++◌, length, Bool, true, false, cond, ◌==◌, ◌&&◌, Option, Some, None, Result, Ok, Err, option_map, refl, ap, sym, subst, arith, length-append, append-nil, eqb-true}
-use Rattle.std.specs.List.{flat_map, slice_split, onto_first, AllByRecursion}
+use Rattle.std.proofs.Common.{◌≡◌, ◌∙◌, ℕ, ◌+◌, List, [], ◌∷◌, ◌++◌, length, Bool, true, false, cond, ◌==◌, Option, Some, None, Result, Ok, Err, option_map, refl, ap, sym, subst, arith, length-append, append-nil}
+use Rattle.std.specs.List.{flat_map, slice_split, onto_first}
 use Rattle.std.specs.Option.{option_map_or}
 use Rattle.sdt_fault.specs.declared.answer.Fault.{Fault}
 use Rattle.sdt_fault.specs.declared.answer.Fault.TheVariants as fault
@@ -9,12 +9,12 @@ use Rattle.sdt_fault.specs.declared.refusal.Refusal.TheVariants.{BadImage}
 use Rattle.bin_image.specs.declared.records.MapFile.{MapFile}
 use Rattle.bin_image.specs.declared.reading.Stage.{Stage}
 use Rattle.bin_image.specs.declared.reading.Stage.TheVariants.{Head, Loads, Regions, Entry, Bound, End, Done}
-use Rattle.bin_image.specs.Fields.{◌>>=◌, lacks, cut}
+use Rattle.bin_image.specs.Fields.{◌>>=◌, cut}
 use Rattle.bin_image.specs.Maps.{ended, map_text, IsValid}
 use Rattle.bin_image.specs.Reading.{State, next, is_done, last, read, pieces_of, empty_map, shown, told, map_of, Gives}
 use Rattle.bin_image.specs.declared.reading.Reader.{Reader}
 use Rattle.bin_image.proofs.Cuts.{same, cut_is, pieces_at, pieces_none, pieces_of_lines}
-use Rattle.bin_image.proofs.Steps.{steps, so_far, Plain, map_reached, map_plain, text_of_lines}
+use Rattle.bin_image.proofs.Steps.{steps, so_far, map_reached, map_plain, text_of_lines}
 
 read_line : (ls : List (List ℕ)) (l : List ℕ) (at : ℕ) (s : Stage) (m : MapFile) (x : List ℕ) (xs : List (List ℕ))
     → read at s m (l ∷ (ls ++ x ∷ xs)) ≡ option_map_or (λ u. read (at + (length l + 1)) u.0 u.1 (ls ++ x ∷ xs)) (next s m l) (Err at)

@@ -1,23 +1,22 @@
 -- The lines so far: each state is reached by exactly the lines that its map spells so far, and some valid map goes
 -- on from it.
-use Rattle.std.proofs.Common.{◌≡◌, ◌∙◌, ℕ, ◌+◌, ◌%◌, ◌^◌, ◌<◌, ◌≤◌, List, [], ◌∷◌, ◌++◌, length, map, Bool, true, false, cond, not, ◌&&◌, ◌||◌, nat_lt, nat_le, Option, Some, None, refl, ap, sym, subst, arith, lt-ltb, ltb-true, le-leb, leb-true, leb-false, append_assoc, append-nil, option_and_then, option_map}
-use Rattle.std.specs.Prelude.{codes, bytes_eq}
+use Rattle.std.proofs.Common.{◌≡◌, ◌∙◌, ℕ, ◌+◌, ◌%◌, ◌^◌, ◌<◌, List, [], ◌∷◌, ◌++◌, map, Bool, true, false, cond, ◌&&◌, ◌||◌, nat_lt, nat_le, Option, Some, None, refl, ap, sym, subst, arith, lt-ltb, ltb-true, leb-true, leb-false, append_assoc, append-nil, option_map}
+use Rattle.std.specs.Prelude.{bytes_eq}
 use Rattle.std.specs.List.{list_any, AllByRecursion, flat_map}
 use Rattle.std.specs.Option.{option_map_or}
-use Rattle.std.proofs.lemmas.Bool.{and_parts, and_from}
+use Rattle.std.proofs.lemmas.Bool.{and_parts}
 use Rattle.std.proofs.lemmas.List.Concat.{flat_map-append}
 use Rattle.std.proofs.lemmas.List.Folds.{flat_map-map}
-use Rattle.std.proofs.lemmas.Slice.Eq.{bytes_eq-Decides}
 use Rattle.bin_image.specs.declared.records.MapFile.{MapFile}
 use Rattle.bin_image.specs.declared.records.MapLoad.{MapLoad}
 use Rattle.bin_image.specs.declared.records.MapRegion.{MapRegion}
 use Rattle.bin_image.specs.declared.reading.Stage.{Stage}
 use Rattle.bin_image.specs.declared.reading.Stage.TheVariants.{Head, Loads, Regions, Entry, Bound, End, Done}
 use Rattle.bin_image.specs.Fields.{◌>>=◌, lacks}
-use Rattle.bin_image.specs.Maps.{header, load_line, region_line, start_line, entry_line, bound_line, end_line, ended, map_text, IsLoad, IsRegion, InLoad, IsApart, AreApart, IsValid, Begins}
+use Rattle.bin_image.specs.Maps.{header, load_line, region_line, start_line, entry_line, bound_line, end_line, ended, map_text, IsLoad, IsRegion, IsApart, AreApart, IsValid, Begins}
 use Rattle.bin_image.specs.Reading.{load_in, region_in, start_in, entry_in, bound_in, meets, State, after_head, add_load, after_load, add_region, after_region, after_start, after_entry, after_bound, after_end, next, empty_map}
 use Rattle.bin_image.proofs.Cuts.{same}
-use Rattle.bin_image.proofs.LineLaws.{when, equal, load_read, load_is, load_lacks, region_read, region_is, region_lacks, start_read, start_is, start_lacks, IsStart, Told, entry_read, entry_is, entry_lacks, IsEntry, bound_read, bound_is, bound_lacks, IsBound}
+use Rattle.bin_image.proofs.LineLaws.{when, equal, load_read, load_is, load_lacks, region_read, region_is, region_lacks, start_read, start_is, start_lacks, entry_read, entry_is, entry_lacks, bound_read, bound_is, bound_lacks}
 
 -- ---- load ranges
 

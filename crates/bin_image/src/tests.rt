@@ -44,9 +44,16 @@ fn hello_with(rt: &HostRuntime, from: usize, to: usize, lines: &[&str]) -> Resul
     Ok(out)
 }
 
+fn read(rt: &HostRuntime, bytes: &[u8]) -> Result<MapFile, Fault> {
+    if bytes.len() >= 1 << 32 {
+        return Err(Fault::NoMemory);
+    }
+    read_map(rt.alloc(), bytes)
+}
+
 /// The offset that is told; None where the bytes are a map.
 fn wrong_line(rt: &HostRuntime, bytes: &[u8]) -> Result<Option<u32>, Fail> {
-    match read_map(rt.alloc(), bytes) {
+    match read(rt, bytes) {
         Ok(_map) => Ok(None),
         Err(
             Fault::Refused(
@@ -64,9 +71,7 @@ fn wrong_line(rt: &HostRuntime, bytes: &[u8]) -> Result<Option<u32>, Fail> {
 #[test]
 fn both_ways(rt: HostRuntime) -> Result<(), Fail> {
     let bytes = hello_with(&rt, 8, 8, &[])?;
-    let map = read_map(rt.alloc(), bytes.as_slice())
-        .ok()
-        .ok_or("it is read")?;
+    let map = read(&rt, bytes.as_slice()).ok().ok_or("it is read")?;
     let written = write_map(rt.alloc(), &map).ok().ok_or("it is written")?;
     assert_eq!(&rt; written.as_slice(), bytes.as_slice());
     assert_eq!(&rt; map.loads.as_slice().len(), 1);
@@ -99,7 +104,12 @@ fn first_wrong_lines(rt: HostRuntime) -> Result<(), Fail> {
         (6, 7, &["bound 18446744073709551615"], None),
         (2, 2, &["load RAM 00000107 00000010 img.RAM"], Some(48)),
         (2, 2, &["load RAM 00000108 00000010 my img"], None),
-        (1, 1, &[HELLO[2]], Some(59)),
+        (
+            1,
+            1,
+            &["exec CODE 00000000 00000000 00000100 00000000"],
+            Some(59),
+        ),
         (1, 2, &["load ROM FFFFFFFF 00000002 img.ROM"], Some(13)),
         (
             2,
@@ -120,9 +130,9 @@ fn first_wrong_lines(rt: HostRuntime) -> Result<(), Fail> {
         (6, 8, &[], Some(173)),
         (7, 8, &[], Some(183)),
     ];
-    for (from, to, lines, offset) in &cases {
-        let bytes = hello_with(&rt, *from, *to, lines)?;
-        assert_eq!(&rt; wrong_line(&rt, bytes.as_slice())?, *offset, "{lines:?}");
+    for (from, to, lines, offset) in cases {
+        let bytes = hello_with(&rt, from, to, lines)?;
+        assert_eq!(&rt; wrong_line(&rt, bytes.as_slice())?, offset, "{lines:?}");
     }
     let mut bytes = hello_with(&rt, 8, 8, &[])?;
     bytes.pop();
