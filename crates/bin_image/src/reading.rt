@@ -19,7 +19,7 @@ use sdt_fault::refusal::Refusal;
 use sdt_fault::{List, NoMemory, Text};
 use std::alloc::Global;
 
-// Which lines may follow.
+/// Which lines may follow.
 #[derive(Clone, Copy, PartialEq, Eq, Debug)]
 pub enum Stage {
     /// The first line.
@@ -35,7 +35,7 @@ pub enum Stage {
     Done,
 }
 
-// What is read so far.
+/// What is read so far.
 #[derive(Debug, Drop)]
 pub struct Reader {
     stage: Stage,
