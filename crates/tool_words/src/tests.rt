@@ -85,16 +85,18 @@ fn run_of(rt: &HostRuntime, words: &[String]) -> Result<RunWords, Fail> {
     }
 }
 
+/// What the words `-mem 0 0x100 -bin t.bin -rom 0x100 4 -at 0xfC` say.
+fn is_the_run(run: &RunWords) -> bool {
+    let banks = run.memory.as_slice().len() == 1 && run.rom.as_slice().len() == 1;
+    let named = match &run.image {
+        RunImage::Binary { file, at } => file.as_slice() == b"t.bin".as_slice() && *at == 0xFC,
+        RunImage::Map { file: _ } => false,
+    };
+    banks && named && run.steps == 10_000_000
+}
+
 #[test]
 fn a_run(rt: HostRuntime) -> Result<(), Fail> {
-    let words = strings(
-        &rt,
-        &[
-            "run", "-mem", "0", "0x100", "-bin", "t.bin", "-rom", "0x100", "4", "-at", "0XFF",
-        ],
-    )?;
-    let refused = read_words(rt.alloc(), &words).err();
-    assert_eq!(&rt; refused, Some(WordsFault::Place(11)));
     let words = strings(
         &rt,
         &[
@@ -102,18 +104,12 @@ fn a_run(rt: HostRuntime) -> Result<(), Fail> {
         ],
     )?;
     let run = run_of(&rt, &words)?;
-    assert_eq!(&rt; run.steps, 10_000_000);
-    assert_eq!(&rt; run.memory.as_slice().len(), 1);
-    assert_eq!(&rt; run.rom.as_slice().len(), 1);
-    assert_eq!(&rt; run.rom.as_slice()[0].base, 0x100);
-    assert_eq!(&rt; run.rom.as_slice()[0].size, 4);
-    match run.image {
-        RunImage::Binary { file, at } => {
-            let named = file.as_slice() == b"t.bin".as_slice();
-            assert!(&rt; named);
-            assert_eq!(&rt; at, 0xFC);
-            Ok(())
-        }
-        RunImage::Map { file: _ } => Err("a binary image is asked for".into()),
-    }
+    assert!(&rt; is_the_run(&run));
+    Ok(())
+}
+
+#[test]
+fn an_upper_case_prefix(rt: HostRuntime) -> Result<(), Fail> {
+    assert_eq!(&rt; place(&rt, &["run", "-bin", "t.bin", "-at", "0XFF"])?, 5);
+    Ok(())
 }

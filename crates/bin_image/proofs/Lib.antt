@@ -1,0 +1,6 @@
+mod Cuts
+mod Digits
+mod LineLaws
+mod Steps
+mod Pieces
+mod MapLaws

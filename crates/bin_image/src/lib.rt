@@ -1,0 +1,18 @@
+//! The map of a scatter image, a text that says where each written file is loaded, where its parts run and how
+//! the run begins: read and written.
+#![tactic(auto)]
+
+mod fields;
+mod laws;
+mod lines;
+mod reading;
+mod records;
+mod writing;
+
+pub use crate::laws::{first_wrong_law, map_law, one_record, spelling_law};
+pub use crate::reading::read_map;
+pub use crate::records::{MapFile, MapLoad, MapRegion, OutFile};
+pub use crate::writing::write_map;
+
+#[cfg(test)]
+mod tests;
