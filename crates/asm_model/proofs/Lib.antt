@@ -1,3 +1,7 @@
+pub mod FaultLemmas
+pub mod LateLemmas
+pub mod LineLemmas
+pub mod LineRows
 pub mod Rows
 pub mod ToldLemmas
 pub mod WordLemmas

@@ -1,7 +1,6 @@
 -- Worked rows of the definitions: names and labels of directives, operands, attributes, and whole lines.
-use Rattle.std.proofs.Common.{◌≡◌, ℕ, List, [], ◌∷◌, Bool, true, false, refl, Option, Some, None, codes}
-use Rattle.std.specs.Prelude.{Result, Ok, Err}
-use Rattle.sdt_fault.specs.declared.kinds.LineKind.{LineKind}
+use Rattle.std.proofs.Common.{◌≡◌, ℕ, List, [], ◌∷◌, true, false, refl, Some, None, codes}
+use Rattle.std.specs.Prelude.{Ok, Err}
 use Rattle.sdt_fault.specs.declared.kinds.LineKind.TheVariants.{Syntax, BadOperand, UnknownWord}
 use Rattle.asm_model.specs.declared.lines.Flat.{Flat}
 use Rattle.asm_model.specs.declared.tokens.Token.{Token}
@@ -16,7 +15,7 @@ use Rattle.asm_model.specs.Areas.{attribute_named, attributes_in, is_repeated, i
 use Rattle.asm_model.specs.Directives.{directive_named, named_data, named_symbol, named_report, named_variable, named_structure}
 use Rattle.asm_model.specs.Operands.{operands, depth_behind}
 use Rattle.asm_model.specs.Registers.{register_named, numbered_register, special_register, call_register}
-use Rattle.asm_model.specs.Says.{SaysDirective, sentence, label_field, weak_mark, statement_of}
+use Rattle.asm_model.specs.Says.{SaysDirective, label_field, weak_mark, statement_of}
 
 abbrev at : TokenKind → ℕ → ℕ → Token
 at k start end = record { kind = k; start = start; end = end }

@@ -1,6 +1,8 @@
 -- What the clauses of the assembler cite.
 pub mod Areas
+pub mod AtLine
 pub mod Directives
+pub mod FaultSets
 pub mod Forms
 pub mod Grammar
 pub mod Kinds

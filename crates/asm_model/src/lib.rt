@@ -6,6 +6,7 @@ pub mod arm_lines;
 pub mod directives;
 pub mod exprs;
 pub mod faults;
+pub mod laws;
 pub mod lines;
 pub mod names;
 pub mod operands;
