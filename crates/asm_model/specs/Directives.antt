@@ -1,6 +1,7 @@
 -- The names of directives, read in any case, and what each asks of the label field. ARM SDT 2.50 Reference Guide,
 -- chapter on the assembler. This project's: a directive whose form names what it defines takes a name there,
--- DATA takes a label, and every other directive may have one, which is then a label of the line's place.
+-- DATA takes a label, and every other directive may have one, which is then a label of the line's place; on ROUT it
+-- names nothing.
 use Rattle.std.specs.Prelude.{ℕ, List, [], ◌∷◌, codes, if◌then◌else◌, Option, Some, None}
 use Rattle.asm_model.specs.Tokens.{is_called}
 use Rattle.asm_model.specs.declared.directives.Directive.{Directive}
