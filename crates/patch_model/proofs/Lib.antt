@@ -1,0 +1,4 @@
+mod SumLemmas
+mod BranchLemmas
+mod VeneerLemmas
+mod PatchLemmas

@@ -1,0 +1,85 @@
+-- What follows from the definitions of patched bytes and of branches. This project's.
+use Rattle.std.specs.Prelude.{◌≡◌, ℕ, ◌+◌, ◌*◌, ◌/◌, ◌%◌, ◌^◌, ◌<◌, ◌≤◌, Bool, true, false, List, [], ◌∷◌, take, drop, length, get_or, slice_get, Option, Some, None}
+use Rattle.sdt_word.specs.Bytes.{bytes_of, word_in}
+use Rattle.sdt_word.specs.Numbers.{bits, flag, sign_extended}
+use Rattle.sdt_word.specs.declared.codes.Condition.{Condition}
+use Rattle.arm_isa.specs.ArmRows.{ReadsArm}
+use Rattle.arm_isa.specs.declared.instr.ArmInstr.TheVariants as arm
+use Rattle.thumb_isa.specs.ThumbRows.{ReadsThumb}
+use Rattle.thumb_isa.specs.declared.instr.ThumbInstr.TheVariants as thumb
+use Rattle.aof_object.specs.declared.records.Reloc.{Reloc}
+use Rattle.patch_model.specs.Fields.{Byte, Half, Word, Branch, Field, Home, Values, field_of, kind_of, is_relative, value_named, mark_of, directives, added, taken, number_in}
+use Rattle.patch_model.specs.Patched.{total, IsBranch, SameBranch, span, middle, ahead, Veneers, Way, Directly, ByVeneer, first_symbol, way_to, IsPatched, IsOutside, AreaPatched}
+use Rattle.patch_model.specs.Reaches.{View, Shows, BranchesTo, IsVeneer, veneer_bytes}
+
+-- ---- bytes
+
+-- an area has at most one list of patched bytes
+abbrev pub OnePatched : Type 0
+OnePatched =
+    (relocs : List Reloc) (old : List ℕ) (base : ℕ) (values : Values) (veneers : Veneers) (new other : List ℕ)
+    → AreaPatched relocs old base values veneers new → AreaPatched relocs old base values veneers other → new ≡ other
+
+-- bytes that no field has are as they were
+abbrev pub OutsideLaw : Type 0
+OutsideLaw =
+    (relocs : List Reloc) (old : List ℕ) (base : ℕ) (values : Values) (veneers : Veneers) (new : List ℕ) (place size : ℕ)
+    → AreaPatched relocs old base values veneers new → ((i : ℕ) → place ≤ i → i < place + size → IsOutside relocs i)
+    → take size (drop place new) ≡ take size (drop place old)
+
+-- ---- sums
+
+pub record SumLaw : Type 0 where
+  -- nothing is added
+  pub none : (old : ℕ) → old < 2 ^ 32 → total old 0 0 ≡ old
+  -- directives that are applied one after the other add up
+  pub both : (old a t b u : ℕ) → total (total old a t) b u ≡ total old (a + b) (t + u)
+  -- a directive that takes nothing
+  pub plain : (old a : ℕ) → total old a 0 ≡ (old + a) % 2 ^ 32
+  -- two directives of one field
+  pub two : (values : Values) (base : ℕ) (r s : Reloc) (old : ℕ)
+      → total old (added values (r ∷ s ∷ [])) (taken base (r ∷ s ∷ []))
+        ≡ total (total old (value_named values r + mark_of values r) (base * flag (is_relative r))) (value_named values s + mark_of values s) (base * flag (is_relative s))
+
+-- the number of a word field
+abbrev pub WordLaw : Type 0
+WordLaw =
+    (relocs : List Reloc) (old : List ℕ) (base : ℕ) (values : Values) (veneers : Veneers) (new : List ℕ) (k : ℕ) (r : Reloc)
+    → AreaPatched relocs old base values veneers new → slice_get relocs k ≡ Some r → kind_of r ≡ Word
+    → word_in new (field_of r).place
+      ≡ total (word_in old (field_of r).place) (added values (directives relocs (field_of r))) (taken base (directives relocs (field_of r)))
+
+-- ---- branches
+
+pub record BranchLaw : Type 0 where
+  -- bytes that read as a branch lead where its span says
+  pub leads : (view : View) (thumb : Bool) (a w target : ℕ) → Shows view a (bytes_of w 4) → w < 2 ^ 32 → IsBranch thumb w
+      → (a + ahead thumb + span thumb w) % 2 ^ 32 ≡ (target + middle thumb) % 2 ^ 32 → BranchesTo view thumb a target
+  -- a patched branch is the same instruction with another field
+  pub arm_stays : (condition : Condition) (link : Bool) (field old new : ℕ) → ReadsArm old (arm.Branch condition link field) → new < 2 ^ 32
+      → SameBranch false old new → ReadsArm new (arm.Branch condition link (new % 2 ^ 24))
+  pub pair_stays : (old new : ℕ) → new < 2 ^ 32 → IsBranch true old → SameBranch true old new
+      → ReadsThumb (new % 2 ^ 16) (thumb.BranchLink false (bits new 0 11)) × ReadsThumb (new / 2 ^ 16) (thumb.BranchLink true (bits new 16 11))
+
+-- in a view: to what the old branch names with its directives, or to the veneer
+abbrev pub LeadsBy : View → Veneers → Bool → ℕ → ℕ → ℕ → ℕ → Way → Type 0
+LeadsBy view veneers thumb a old more less Directly = BranchesTo view thumb a (total (a + ahead thumb + span thumb old) more (middle thumb + less))
+LeadsBy view veneers thumb a old more less (ByVeneer target state) = (v : ℕ) × (veneers target state ≡ Some v) × BranchesTo view thumb a v
+
+-- where a patched branch leads, in a view that shows the area's bytes
+abbrev pub PatchedBranchLaw : Type 0
+PatchedBranchLaw =
+    (relocs : List Reloc) (old : List ℕ) (base : ℕ) (values : Values) (veneers : Veneers) (new : List ℕ) (k : ℕ) (r : Reloc) (thumb : Bool) (view : View)
+    → AreaPatched relocs old base values veneers new → slice_get relocs k ≡ Some r → kind_of r ≡ Branch thumb → Shows view base new
+    → LeadsBy view veneers thumb (base + (field_of r).place) (word_in old (field_of r).place) (added values (directives relocs (field_of r)))
+      (taken base (directives relocs (field_of r)))
+      (way_to thumb (total (base + (field_of r).place + ahead thumb + span thumb (word_in old (field_of r).place)) 0 (middle thumb))
+      (added values (directives relocs (field_of r))) (taken base (directives relocs (field_of r))) values (first_symbol (directives relocs (field_of r))))
+
+-- ---- veneers
+
+-- a veneer's bytes read as its instructions
+abbrev pub VeneerLaw : Type 0
+VeneerLaw =
+    (view : View) (v field target : ℕ) (state : Bool) → Shows view v (veneer_bytes field target state) → field < 2 ^ 24
+    → (state ≡ false → (v + 12 + sign_extended field 24 * 4) % 2 ^ 32 ≡ target % 2 ^ 32) → IsVeneer view v target state

@@ -1,0 +1,9 @@
+//! What linking makes of an area's bytes: each field with what its relocation directives add, and branches that reach
+//! what they name. Definitions and their laws; there is no engine.
+#![tactic(auto)]
+
+mod laws;
+
+pub use crate::laws::{
+    branch_law, one_patched, outside_law, patched_branch_law, sum_law, veneer_law, word_law,
+};
