@@ -25,7 +25,7 @@ reads_arm c l d h = grind arith
 arm_stays : (c : Condition) (l : Bool) (d old new : ℕ) → ReadsArm old (arm.Branch c l d) → new < 2 ^ 32 → SameBranch false old new → ReadsArm new (arm.Branch c l (new % 2 ^ 24))
 arm_stays c l d old new reads small same = grind arith
 
-span_arm : (a w : ℕ) → (a + 8 + sign_extended (w % 2 ^ 24) 24 * 4 + 2 ^ 25) % 2 ^ 32 ≡ (a + 8 + span false w) % 2 ^ 32
+pub span_arm : (a w : ℕ) → (a + 8 + sign_extended (w % 2 ^ 24) 24 * 4 + 2 ^ 25) % 2 ^ 32 ≡ (a + 8 + span false w) % 2 ^ 32
 span_arm a w = grind arith
 
 span_pair : (a w : ℕ) → (a + 4 + sign_extended (bits w 0 11 * 2 ^ 11 + bits w 16 11) 22 * 2 + 2 ^ 22) % 2 ^ 32 ≡ (a + 4 + span true w) % 2 ^ 32

@@ -2,3 +2,4 @@ mod SumLemmas
 mod BranchLemmas
 mod VeneerLemmas
 mod PatchLemmas
+mod Rows

@@ -1,16 +1,20 @@
 -- Fields of patched bytes.
 use Rattle.std.proofs.Common.{◌≡◌, ◌≢◌, ◌⊎◌, inl, inr, ℕ, zero, suc, ◌+◌, ◌*◌, ◌-◌, ◌/◌, ◌%◌, ◌^◌, ◌<◌, ◌≤◌, Bool, true, false, List, [], ◌∷◌, ◌++◌, length, take, drop, get_or, length-take-le, length-drop, length-append, refl, sym, ap, subst, ◌∙◌, arith}
-use Rattle.std.specs.Prelude.{Option, Some, None, slice_get}
+use Rattle.std.specs.Prelude.{Option, Some, None, slice_get, if◌then◌else◌}
 use Rattle.std.proofs.lemmas.List.{get_or-take, get_or-drop, get_or_past, take-append-drop, length-take}
 use Rattle.std.proofs.lemmas.Grind.{same_number_lists}
 use Rattle.std.proofs.lemmas.Bool.{cases_lt}
 use Rattle.sdt_word.specs.Bytes.{bytes_of, number_of, word_in}
 use Rattle.sdt_word.proofs.BytesLemmas.{number_of-lt, bytes_of-number_of}
+use Rattle.std.specs.Option.{IsSomeAnd}
+use Rattle.sdt_word.specs.declared.ranges.Range32.{Range32}
+use Rattle.aof_object.specs.declared.records.Area.{Area}
 use Rattle.aof_object.specs.declared.records.Reloc.{Reloc}
 use Rattle.patch_model.specs.Fields.{Kind, Byte, Half, Word, Branch, Field, Home, Meant, Values, field_of, kind_of, directives, added, taken, size_of, number_in}
-use Rattle.patch_model.specs.Patched.{total, IsBranch, SameBranch, span, middle, ahead, Veneers, Way, Directly, ByVeneer, first_symbol, way_to, LeadsAt, Leads, Turned, AddsUp, IsPatched, IsOutside, AreaPatched}
-use Rattle.patch_model.specs.Laws.{OnePatched, OutsideLaw, WordLaw, LeadsBy, PatchedBranchLaw}
-use Rattle.patch_model.specs.Reaches.{View, Shows}
+use Rattle.patch_model.specs.Patched.{total, IsBranch, SameBranch, span, middle, ahead, Veneers, Way, Directly, ByVeneer, first_symbol, other_state, way_home, way_to, LeadsAt, Leads, Turned, AddsUp, IsPatched, IsOutside, AreaPatched}
+use Rattle.patch_model.specs.Laws.{OnePatched, OneObjectPatched, OutsideLaw, WordLaw, LeadsBy, PatchedBranchLaw, WayLaw, ReachLaw, state_of, StandsAt}
+use Rattle.patch_model.specs.Reaches.{View, Shows, IsVeneer, VeneersStand, Reaches}
+use Rattle.sdt_word.specs.Ranges.{Covers}
 use Rattle.patch_model.proofs.BranchLemmas.{leads_to, arm_same, pair_same, branch_stays}
 use Rattle.patch_model.proofs.VeneerLemmas.{shows_parts}
 
@@ -204,3 +208,66 @@ one_patched relocs old base values veneers new other n m =
     by_place : (i : ℕ) → IsOutside relocs i ⊎ Covered relocs i → get_or new i 0 ≡ get_or other i 0
     by_place i (inl out) = n.others i out ∙ sym (m.others i out)
     by_place i (inr c) = by_field i c
+
+pub one_object : OneObjectPatched
+one_object object area values veneers new other = by_area (slice_get object.areas area)
+  where
+    by_area : (o : Option Area) → IsSomeAnd o (λ (a : Area). AreaPatched a.relocs a.bytes (values.base area) values veneers new)
+        → IsSomeAnd o (λ (a : Area). AreaPatched a.relocs a.bytes (values.base area) values veneers other) → new ≡ other
+    by_area None n m = absurd n
+    by_area (Some a) n m = one_patched a.relocs a.bytes (values.base area) values veneers new other n m
+
+-- ---- reaching
+
+way_offset : (t : Bool) (base place old h number : ℕ)
+    → total (h + total (base + place + ahead t + span t old) 0 (middle t)) number (base + number) ≡ total (h + place + ahead t + span t old) 0 (middle t)
+way_offset t base place old h number = by_numbers (ahead t) (span t old) (middle t)
+  where
+    by_numbers : (a s m : ℕ) → total (h + total (base + place + a + s) 0 m) number (base + number) ≡ total (h + place + a + s) 0 m
+    by_numbers a s m = omega arith
+
+pub way_law : WayLaw
+way_law t base place old m h home other =
+    rw (home, other) (ap (λ (o : ℕ). ByVeneer (record { object = h.object; area = h.area; offset = o }) m.thumb) (way_offset t base place old h.offset m.number))
+
+-- the address of a veneer's target
+target_address : (start offset number a s d more less : ℕ) → number % 2 ^ 32 ≡ (start + offset) % 2 ^ 32
+    → (start + total (offset + total (a + s) 0 d) more (less + number)) % 2 ^ 32 ≡ total (a + s) more (d + less)
+target_address start offset number a s d more less e = omega arith
+
+reach_state : (view : View) (region : Range32) (veneers : Veneers) (t state : Bool) (a old more less goal : ℕ) (target : Home)
+    → ((v : ℕ) → veneers target state ≡ Some v → Covers region v × IsVeneer view v goal state)
+    → goal ≡ total (a + ahead t + span t old) more (middle t + less)
+    → LeadsBy view veneers t a old more less (if other_state t state then ByVeneer target state else Directly)
+    → Reaches view region t a (total (a + ahead t + span t old) more (middle t + less)) state
+reach_state view region veneers true true a old more less goal target stand e leads = inl (leads, refl)
+reach_state view region veneers false false a old more less goal target stand e leads = inl (leads, refl)
+reach_state view region veneers true false a old more less goal target stand e (v, there, leads) =
+    let Enters : ℕ → Type 0 = λ n. IsVeneer view v n false in
+    let stands = stand v there in
+    inr (record { veneer = v; leads = leads; own = stands.0; enters = subst Enters e stands.1; other = λ same. absurd (cc) })
+reach_state view region veneers false true a old more less goal target stand e (v, there, leads) =
+    let Enters : ℕ → Type 0 = λ n. IsVeneer view v n true in
+    let stands = stand v there in
+    inr (record { veneer = v; leads = leads; own = stands.0; enters = subst Enters e stands.1; other = λ same. absurd (cc) })
+
+reach_home : (view : View) (region : Range32) (area_at : ℕ → ℕ → ℕ) (veneers : Veneers) (t : Bool) (a old more less : ℕ) (m : Meant) (home : Option Home)
+    → VeneersStand view region area_at veneers → StandsAt area_at m home
+    → LeadsBy view veneers t a old more less (way_home t (total (a + ahead t + span t old) 0 (middle t)) more less m home)
+    → Reaches view region t a (total (a + ahead t + span t old) more (middle t + less)) (state_of t m home)
+reach_home view region area_at veneers t a old more less m None stand at leads = inl (leads, refl)
+reach_home view region area_at veneers t a old more less m (Some h) stand at leads =
+    let target : Home = record { object = h.object; area = h.area; offset = total (h.offset + total (a + ahead t + span t old) 0 (middle t)) more (less + m.number) } in
+    reach_state view region veneers t m.thumb a old more less ((area_at h.object h.area + target.offset) % 2 ^ 32) target (λ v there. stand target m.thumb v there)
+    (target_address (area_at h.object h.area) h.offset m.number (a + ahead t) (span t old) (middle t) more less at) leads
+
+pub reach_law : ReachLaw
+reach_law relocs old base values veneers new k r t view region area_at n patched there is_branch shows stand first at =
+    let a = base + (field_of r).place in
+    let Leads : Option ℕ → Type 0 = λ symbol.
+            LeadsBy view veneers t (base + (field_of r).place) (word_in old (field_of r).place) (added values (directives relocs (field_of r))) (taken base (directives relocs (field_of r)))
+            (way_to t (total (base + (field_of r).place + ahead t + span t (word_in old (field_of r).place)) 0 (middle t))
+            (added values (directives relocs (field_of r))) (taken base (directives relocs (field_of r))) values symbol) in
+    reach_home view region area_at veneers t (base + (field_of r).place) (word_in old (field_of r).place) (added values (directives relocs (field_of r)))
+    (taken base (directives relocs (field_of r))) (values.symbol n) (values.symbol n).home stand at
+    (subst Leads first (patched_branch_law relocs old base values veneers new k r t view patched there is_branch shows))

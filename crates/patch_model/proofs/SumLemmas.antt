@@ -15,6 +15,13 @@ both old a t b u = omega arith
 plain : (old a : ℕ) → total old a 0 ≡ (old + a) % 2 ^ 32
 plain old a = omega arith
 
+pub one : (values : Values) (base : ℕ) (r : Reloc)
+    → (added values (r ∷ []) ≡ value_named values r + mark_of values r) × (taken base (r ∷ []) ≡ base * flag (is_relative r))
+one values base r = (bare (value_named values r + mark_of values r), bare (base * flag (is_relative r)))
+  where
+    bare : (n : ℕ) → n + 0 ≡ n
+    bare n = omega arith
+
 two : (values : Values) (base : ℕ) (r s : Reloc) (old : ℕ)
     → total old (added values (r ∷ s ∷ [])) (taken base (r ∷ s ∷ []))
       ≡ total (total old (value_named values r + mark_of values r) (base * flag (is_relative r))) (value_named values s + mark_of values s) (base * flag (is_relative s))
@@ -25,4 +32,4 @@ two values base r s old =
     by_numbers a b t u = omega arith
 
 pub sum_law : SumLaw
-sum_law = record { none = none; both = both; plain = plain; two = two }
+sum_law = record { none = none; both = both; plain = plain; one = one; two = two }

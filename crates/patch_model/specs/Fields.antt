@@ -1,6 +1,6 @@
 -- Relocation directives: which field each has, and what it adds there (SDT 2.50 Reference Guide, ARM Object Format,
 -- relocation directives; that a label of Thumb code counts 1 more in a word is this project's).
-use Rattle.std.specs.Prelude.{ℕ, ◌+◌, ◌-◌, ◌*◌, ◌%◌, ◌^◌, Bool, true, false, not, ◌&&◌, ◌==◌, if◌then◌else◌, List, [], ◌∷◌, take, drop, Option, Some, None}
+use Rattle.std.specs.Prelude.{ℕ, ◌+◌, ◌-◌, ◌*◌, ◌%◌, ◌^◌, Bool, true, false, not, ◌&&◌, ◌==◌, if◌then◌else◌, List, [], ◌∷◌, take, drop, Option}
 use Rattle.std.specs.List.{filter}
 use Rattle.std.specs.Option.{is_some}
 use Rattle.sdt_word.specs.Numbers.{bit, bits, flag}
@@ -35,6 +35,10 @@ field_of r = record { place = place_by (bits r.word 24 2) r.offset; kind = kind_
 -- bit 26: less the base of the area that has the field
 abbrev pub is_relative : Reloc → Bool
 is_relative r = bit r.word 26 == 1
+
+-- bit 28, which means nothing beside bit 26
+abbrev pub is_based : Reloc → Bool
+is_based r = bit r.word 28 == 1
 
 -- bit 27: by a symbol, and else by an area; the low 24 bits are its number
 abbrev pub is_by_symbol : Reloc → Bool

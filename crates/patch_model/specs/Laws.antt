@@ -7,10 +7,12 @@ use Rattle.arm_isa.specs.ArmRows.{ReadsArm}
 use Rattle.arm_isa.specs.declared.instr.ArmInstr.TheVariants as arm
 use Rattle.thumb_isa.specs.ThumbRows.{ReadsThumb}
 use Rattle.thumb_isa.specs.declared.instr.ThumbInstr.TheVariants as thumb
+use Rattle.aof_object.specs.declared.records.Object.{Object}
 use Rattle.aof_object.specs.declared.records.Reloc.{Reloc}
-use Rattle.patch_model.specs.Fields.{Byte, Half, Word, Branch, Field, Home, Values, field_of, kind_of, is_relative, value_named, mark_of, directives, added, taken, number_in}
-use Rattle.patch_model.specs.Patched.{total, IsBranch, SameBranch, span, middle, ahead, Veneers, Way, Directly, ByVeneer, first_symbol, way_to, IsPatched, IsOutside, AreaPatched}
-use Rattle.patch_model.specs.Reaches.{View, Shows, BranchesTo, IsVeneer, veneer_bytes}
+use Rattle.sdt_word.specs.declared.ranges.Range32.{Range32}
+use Rattle.patch_model.specs.Fields.{Byte, Half, Word, Branch, Home, Meant, Values, field_of, kind_of, is_relative, value_named, mark_of, directives, added, taken, number_in}
+use Rattle.patch_model.specs.Patched.{total, IsBranch, SameBranch, span, middle, ahead, Veneers, Way, Directly, ByVeneer, first_symbol, other_state, way_home, way_to, IsOutside, AreaPatched, Patched}
+use Rattle.patch_model.specs.Reaches.{View, Shows, BranchesTo, IsVeneer, HasVeneer, VeneersStand, Reaches}
 
 -- ---- bytes
 
@@ -19,6 +21,11 @@ abbrev pub OnePatched : Type 0
 OnePatched =
     (relocs : List Reloc) (old : List ℕ) (base : ℕ) (values : Values) (veneers : Veneers) (new other : List ℕ)
     → AreaPatched relocs old base values veneers new → AreaPatched relocs old base values veneers other → new ≡ other
+
+abbrev pub OneObjectPatched : Type 0
+OneObjectPatched =
+    (object : Object) (area : ℕ) (values : Values) (veneers : Veneers) (new other : List ℕ)
+    → Patched object area values veneers new → Patched object area values veneers other → new ≡ other
 
 -- bytes that no field has are as they were
 abbrev pub OutsideLaw : Type 0
@@ -36,6 +43,9 @@ pub record SumLaw : Type 0 where
   pub both : (old a t b u : ℕ) → total (total old a t) b u ≡ total old (a + b) (t + u)
   -- a directive that takes nothing
   pub plain : (old a : ℕ) → total old a 0 ≡ (old + a) % 2 ^ 32
+  -- what one directive adds and takes
+  pub one : (values : Values) (base : ℕ) (r : Reloc)
+      → (added values (r ∷ []) ≡ value_named values r + mark_of values r) × (taken base (r ∷ []) ≡ base * flag (is_relative r))
   -- two directives of one field
   pub two : (values : Values) (base : ℕ) (r s : Reloc) (old : ℕ)
       → total old (added values (r ∷ s ∷ [])) (taken base (r ∷ s ∷ []))
@@ -76,10 +86,41 @@ PatchedBranchLaw =
       (way_to thumb (total (base + (field_of r).place + ahead thumb + span thumb (word_in old (field_of r).place)) 0 (middle thumb))
       (added values (directives relocs (field_of r))) (taken base (directives relocs (field_of r))) values (first_symbol (directives relocs (field_of r))))
 
+-- the target of a branch to a symbol with one directive: as far behind the symbol as the branch names, counted from the
+-- start of its area
+abbrev pub WayLaw : Type 0
+WayLaw =
+    (thumb : Bool) (base place old : ℕ) (m : Meant) (h : Home) → m.home ≡ Some h → other_state thumb m.thumb ≡ true
+    → way_home thumb (total (base + place + ahead thumb + span thumb old) 0 (middle thumb)) m.number base m m.home
+      ≡ ByVeneer (record { object = h.object; area = h.area; offset = total (h.offset + place + ahead thumb + span thumb old) 0 (middle thumb) }) m.thumb
+
+-- the state in which a branch of a state reaches a symbol: that of a symbol in an area, and else the branch's own
+abbrev pub state_of : Bool → Meant → Option Home → Bool
+state_of thumb m None = thumb
+state_of thumb m (Some h) = m.thumb
+
+-- where a symbol in an area stands
+abbrev pub StandsAt : (ℕ → ℕ → ℕ) → Meant → Option Home → Type 0
+StandsAt area_at m None = Unit {0}
+StandsAt area_at m (Some h) = m.number % 2 ^ 32 ≡ (area_at h.object h.area + h.offset) % 2 ^ 32
+
+-- a patched branch reaches what it names, in a view that shows the area's bytes and the veneers
+abbrev pub ReachLaw : Type 0
+ReachLaw =
+    (relocs : List Reloc) (old : List ℕ) (base : ℕ) (values : Values) (veneers : Veneers) (new : List ℕ) (k : ℕ) (r : Reloc) (thumb : Bool)
+    (view : View) (region : Range32) (area_at : ℕ → ℕ → ℕ) (n : ℕ)
+    → AreaPatched relocs old base values veneers new → slice_get relocs k ≡ Some r → kind_of r ≡ Branch thumb → Shows view base new
+    → VeneersStand view region area_at veneers → first_symbol (directives relocs (field_of r)) ≡ Some n
+    → StandsAt area_at (values.symbol n) (values.symbol n).home
+    → Reaches view region thumb (base + (field_of r).place)
+      (total (base + (field_of r).place + ahead thumb + span thumb (word_in old (field_of r).place)) (added values (directives relocs (field_of r)))
+      (middle thumb + taken base (directives relocs (field_of r))))
+      (state_of thumb (values.symbol n) (values.symbol n).home)
+
 -- ---- veneers
 
--- a veneer's bytes read as its instructions
-abbrev pub VeneerLaw : Type 0
-VeneerLaw =
-    (view : View) (v field target : ℕ) (state : Bool) → Shows view v (veneer_bytes field target state) → field < 2 ^ 24
-    → (state ≡ false → (v + 12 + sign_extended field 24 * 4) % 2 ^ 32 ≡ target % 2 ^ 32) → IsVeneer view v target state
+pub record VeneerLaw : Type 0 where
+  -- a veneer's bytes read as its instructions
+  pub reads : (view : View) (v target : ℕ) (state : Bool) (bytes : List ℕ) → Shows view v bytes → HasVeneer v target state bytes → IsVeneer view v target state
+  -- a veneer has at most one spelling
+  pub once : (v target : ℕ) (state : Bool) (bytes other : List ℕ) → HasVeneer v target state bytes → HasVeneer v target state other → bytes ≡ other

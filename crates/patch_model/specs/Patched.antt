@@ -3,7 +3,7 @@
 -- encodings of B and BL; the ranges of bytes and half-words are this project's). Numbers have no signs here: a
 -- displacement is counted from the least one, and a sum is compared with what was taken away from it.
 use Rattle.std.specs.Prelude.{◌≡◌, ◌≢◌, ◌⊎◌, ℕ, ◌+◌, ◌-◌, ◌*◌, ◌/◌, ◌%◌, ◌^◌, ◌<◌, ◌≤◌, Bool, true, false, not, ◌&&◌, ◌==◌, if◌then◌else◌, List, [], ◌∷◌, length, get_or, slice_get, Option, Some, None}
-use Rattle.std.specs.Option.{IfSome}
+use Rattle.std.specs.Option.{IsSomeAnd}
 use Rattle.sdt_word.specs.Numbers.{bits}
 use Rattle.aof_object.specs.declared.records.Area.{Area}
 use Rattle.aof_object.specs.declared.records.Object.{Object}
@@ -121,4 +121,4 @@ pub record AreaPatched (relocs : List Reloc) (old : List ℕ) (base : ℕ) (valu
 -- of an area of an object
 abbrev pub Patched : Object → ℕ → Values → Veneers → List ℕ → Type 0
 Patched object area values veneers out =
-    IfSome (slice_get object.areas area) (λ (a : Area). AreaPatched a.relocs a.bytes (values.base area) values veneers out)
+    IsSomeAnd (slice_get object.areas area) (λ (a : Area). AreaPatched a.relocs a.bytes (values.base area) values veneers out)

@@ -1,6 +1,6 @@
 -- How a branch reaches what it names: itself, or by a veneer (ARM Architecture Reference Manual, the encodings of
 -- branches, LDR, BX and MOV; the veneers' instructions are this project's).
-use Rattle.std.specs.Prelude.{◌≡◌, ◌≢◌, ◌⊎◌, ℕ, suc, ◌+◌, ◌*◌, ◌%◌, ◌^◌, Bool, true, false, List, [], ◌∷◌, ◌++◌, Option, Some}
+use Rattle.std.specs.Prelude.{◌≡◌, ◌≢◌, ◌⊎◌, ℕ, suc, ◌+◌, ◌*◌, ◌%◌, ◌^◌, ◌<◌, Bool, true, false, List, [], ◌∷◌, ◌++◌, Option, Some}
 use Rattle.sdt_word.specs.Bytes.{bytes_of}
 use Rattle.sdt_word.specs.Numbers.{sign_extended}
 use Rattle.sdt_word.specs.Ranges.{Covers}
@@ -12,6 +12,8 @@ use Rattle.arm_isa.specs.declared.instr.ArmInstr.TheVariants as arm
 use Rattle.thumb_isa.specs.ThumbRows.{ReadsThumb}
 use Rattle.thumb_isa.specs.declared.instr.ThumbInstr.TheVariants as thumb
 use Rattle.thumb_isa.specs.declared.instr.HighOperation.TheVariants as high
+use Rattle.patch_model.specs.Fields.{Home}
+use Rattle.patch_model.specs.Patched.{Veneers, span, middle, ahead}
 
 -- what is seen of memory
 abbrev pub View : Type 0
@@ -104,10 +106,23 @@ abbrev pub IsVeneer : View → ℕ → ℕ → Bool → Type 0
 IsVeneer view v target true = VeneerToThumb view v target
 IsVeneer view v target false = VeneerToArm view v target
 
--- a veneer's bytes, where the distance is that of a veneer to ARM code, as its branch has it
-abbrev pub veneer_bytes : ℕ → ℕ → Bool → List ℕ
-veneer_bytes field target true = bytes_of 0xE59FC000 4 ++ bytes_of 0xE12FFF1C 4 ++ bytes_of ((target + 1) % 2 ^ 32) 4
-veneer_bytes field target false = bytes_of 0x4778 2 ++ bytes_of 0x46C0 2 ++ bytes_of (0xEA000000 + field) 4
+-- the bytes of a veneer to ARM code, whose branch has this field
+pub record HasArmVeneer (v target : ℕ) (bytes : List ℕ) : Type 0 where
+  pub field : ℕ
+  pub fits : field < 2 ^ 24
+  pub contents : bytes ≡ bytes_of 0x4778 2 ++ bytes_of 0x46C0 2 ++ bytes_of (0xEA000000 + field) 4
+  pub leads : v + 4 + ahead false + span false (0xEA000000 + field) ≡ target + middle false
+
+-- the bytes of a veneer at an address
+abbrev pub HasVeneer : ℕ → ℕ → Bool → List ℕ → Type 0
+HasVeneer v target true bytes = bytes ≡ bytes_of 0xE59FC000 4 ++ bytes_of 0xE12FFF1C 4 ++ bytes_of ((target + 1) % 2 ^ 32) 4
+HasVeneer v target false bytes = HasArmVeneer v target bytes
+
+-- the veneers stand in the region, each with the target's address, by the addresses of areas
+abbrev pub VeneersStand : View → Range32 → (ℕ → ℕ → ℕ) → Veneers → Type 0
+VeneersStand view region area_at veneers =
+    (target : Home) (state : Bool) (v : ℕ) → veneers target state ≡ Some v
+    → Covers region v × IsVeneer view v ((area_at target.object target.area + target.offset) % 2 ^ 32) state
 
 -- ---- reaching
 

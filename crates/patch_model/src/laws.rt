@@ -1,10 +1,11 @@
 //! Laws of the definitions, each proved as the contract of an empty function.
 
-ghost use Rattle.patch_model.specs.Laws.{BranchLaw, OnePatched, OutsideLaw, PatchedBranchLaw, SumLaw, VeneerLaw, WordLaw};
+ghost use Rattle.patch_model.specs.Laws.{BranchLaw, OneObjectPatched, OnePatched, OutsideLaw, PatchedBranchLaw, ReachLaw, SumLaw, VeneerLaw, WayLaw, WordLaw};
 
 /// An area has at most one list of patched bytes.
 pub fn one_patched()
-    ensures { OnePatched }
+    ensures area { OnePatched }
+    ensures object { OneObjectPatched }
 {}
 
 /// Bytes outside all fields are as they were.
@@ -30,6 +31,16 @@ pub fn branch_law()
 /// A patched branch leads to what it names, or to the veneer of that.
 pub fn patched_branch_law()
     ensures { PatchedBranchLaw }
+{}
+
+/// Which target a branch to a symbol of the other state needs a veneer of.
+pub fn way_law()
+    ensures { WayLaw }
+{}
+
+/// A patched branch reaches what it names.
+pub fn reach_law()
+    ensures { ReachLaw }
 {}
 
 /// A veneer's bytes read as its instructions.
