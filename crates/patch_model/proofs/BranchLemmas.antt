@@ -1,6 +1,6 @@
 -- Branches: where they lead, and what patching keeps.
-use Rattle.std.proofs.Common.{◌≡◌, ℕ, zero, suc, subst, ◌+◌, ◌*◌, ◌-◌, ◌/◌, ◌%◌, ◌^◌, ◌<◌, ◌≤◌, Bool, true, false, cond, nat_lt, List, [], ◌∷◌, ◌++◌, get_or, refl, sym, ap, ◌∙◌, arith, inl, inr}
-use Rattle.std.specs.Prelude.{Option, Some, None}
+use Rattle.std.proofs.Common.{◌≡◌, ℕ, zero, suc, subst, ◌+◌, ◌*◌, ◌/◌, ◌%◌, ◌^◌, ◌<◌, Bool, true, false, refl, ap, ◌∙◌, arith, inl}
+use Rattle.std.specs.Prelude.{Some}
 use Rattle.sdt_word.specs.Bytes.{bytes_of}
 use Rattle.sdt_word.specs.Numbers.{bits, flag, sign_extended}
 use Rattle.sdt_word.specs.Codes.{condition_code}
@@ -12,7 +12,7 @@ use Rattle.thumb_isa.specs.ThumbRows.{ReadsThumb}
 use Rattle.thumb_isa.specs.declared.instr.ThumbInstr.TheVariants as thumb
 use Rattle.patch_model.specs.Patched.{IsBranch, SameBranch, span, middle, ahead}
 use Rattle.patch_model.specs.Laws.{BranchLaw}
-use Rattle.patch_model.specs.Reaches.{View, Shows, ShowsWord, ShowsHalf, ArmBranch, ThumbPair, BranchesTo}
+use Rattle.patch_model.specs.Reaches.{View, Shows, ShowsHalf, BranchesTo}
 
 -- ---- ARM
 
@@ -30,6 +30,12 @@ span_arm a w = grind arith
 
 span_pair : (a w : ℕ) → (a + 4 + sign_extended (bits w 0 11 * 2 ^ 11 + bits w 16 11) 22 * 2 + 2 ^ 22) % 2 ^ 32 ≡ (a + 4 + span true w) % 2 ^ 32
 span_pair a w = grind arith
+
+arm_span : (a w : ℕ) → (a + sign_extended w 24 * 4 + middle false) % 2 ^ 32 ≡ (a + span false w) % 2 ^ 32
+arm_span a w = grind arith
+
+pair_span : (a w : ℕ) → (a + sign_extended (bits w 0 11 * 2 ^ 11 + bits w 16 11) 22 * 2 + middle true) % 2 ^ 32 ≡ (a + span true w) % 2 ^ 32
+pair_span a w = grind arith
 
 pair_high : (old new : ℕ) → new < 2 ^ 32 → IsBranch true old → SameBranch true old new → ReadsThumb (new % 2 ^ 16) (thumb.BranchLink false (bits new 0 11))
 pair_high old new small branch same = grind arith
@@ -91,8 +97,15 @@ leads_to view true a w target shows small branch e =
     let h = shows_word view a w shows in
     let s = span_pair a w in
     inl (record {
-      first = bits w 0 11; second = bits w 16 11; high_half = w % 2 ^ 16; low_half = w / 2 ^ 16; shows_high = h.0; shows_low = h.1;
-      reads_high = pair_high w w small branch (refl, refl); reads_low = pair_low w w small branch (refl, refl); leads = omega arith;
+      first = bits w 0 11;
+      second = bits w 16 11;
+      high_half = w % 2 ^ 16;
+      low_half = w / 2 ^ 16;
+      shows_high = h.0;
+      shows_low = h.1;
+      reads_high = pair_high w w small branch (refl, refl);
+      reads_low = pair_low w w small branch (refl, refl);
+      leads = omega arith;
     })
 
 -- a branch with another displacement
@@ -101,4 +114,4 @@ branch_stays false old new branch same = (omega (arith, branch.0, same), omega (
 branch_stays true old new branch same = (same.0 ∙ branch.0, same.1 ∙ branch.1)
 
 pub branch_law : BranchLaw
-branch_law = record { leads = leads_to; arm_stays = arm_stays; pair_stays = λ old new small branch same. (pair_high old new small branch same, pair_low old new small branch same) }
+branch_law = record { leads = leads_to; arm_span = arm_span; pair_span = pair_span; arm_stays = arm_stays; pair_stays = λ old new small branch same. (pair_high old new small branch same, pair_low old new small branch same) }

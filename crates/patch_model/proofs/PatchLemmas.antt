@@ -1,5 +1,5 @@
 -- Fields of patched bytes.
-use Rattle.std.proofs.Common.{◌≡◌, ◌≢◌, ◌⊎◌, inl, inr, ℕ, zero, suc, ◌+◌, ◌*◌, ◌-◌, ◌/◌, ◌%◌, ◌^◌, ◌<◌, ◌≤◌, Bool, true, false, List, [], ◌∷◌, ◌++◌, length, take, drop, get_or, length-take-le, length-drop, length-append, refl, sym, ap, subst, ◌∙◌, arith}
+use Rattle.std.proofs.Common.{◌≡◌, ◌⊎◌, inl, inr, ℕ, zero, suc, ◌+◌, ◌-◌, ◌%◌, ◌^◌, ◌<◌, ◌≤◌, Bool, true, false, List, [], ◌∷◌, length, take, drop, get_or, length-take-le, length-drop, refl, sym, ap, subst, ◌∙◌, arith}
 use Rattle.std.specs.Prelude.{Option, Some, None, slice_get, if◌then◌else◌}
 use Rattle.std.proofs.lemmas.List.{get_or-take, get_or-drop, get_or_past, take-append-drop, length-take}
 use Rattle.std.proofs.lemmas.Grind.{same_number_lists}
@@ -10,8 +10,8 @@ use Rattle.std.specs.Option.{IsSomeAnd}
 use Rattle.sdt_word.specs.declared.ranges.Range32.{Range32}
 use Rattle.aof_object.specs.declared.records.Area.{Area}
 use Rattle.aof_object.specs.declared.records.Reloc.{Reloc}
-use Rattle.patch_model.specs.Fields.{Kind, Byte, Half, Word, Branch, Field, Home, Meant, Values, field_of, kind_of, directives, added, taken, size_of, number_in}
-use Rattle.patch_model.specs.Patched.{total, IsBranch, SameBranch, span, middle, ahead, Veneers, Way, Directly, ByVeneer, first_symbol, other_state, way_home, way_to, LeadsAt, Leads, Turned, AddsUp, IsPatched, IsOutside, AreaPatched}
+use Rattle.patch_model.specs.Fields.{Kind, Byte, Half, Word, Branch, Home, Meant, Values, field_of, directives, added, taken, size_of, number_in}
+use Rattle.patch_model.specs.Patched.{total, span, middle, ahead, Veneers, Way, Directly, ByVeneer, first_symbol, other_state, way_home, way_to, LeadsAt, Leads, Turned, AddsUp, IsOutside, AreaPatched}
 use Rattle.patch_model.specs.Laws.{OnePatched, OneObjectPatched, OutsideLaw, WordLaw, LeadsBy, PatchedBranchLaw, WayLaw, ReachLaw, state_of, StandsAt}
 use Rattle.patch_model.specs.Reaches.{View, Shows, IsVeneer, VeneersStand, Reaches}
 use Rattle.sdt_word.specs.Ranges.{Covers}
@@ -66,8 +66,8 @@ parts_same xs ys n p size same =
 pub word_law : WordLaw
 word_law relocs old base values veneers new k r patched there is_word =
     let Adds : Kind → Type 0 = λ kind.
-            AddsUp kind (base + (field_of r).place) values veneers (number_of (take (size_of kind) (drop (field_of r).place old))) (number_of (take (size_of kind) (drop (field_of r).place new)))
-            (added values (directives relocs (field_of r))) (taken base (directives relocs (field_of r))) (first_symbol (directives relocs (field_of r))) in
+    AddsUp kind (base + (field_of r).place) values veneers (number_of (take (size_of kind) (drop (field_of r).place old))) (number_of (take (size_of kind) (drop (field_of r).place new)))
+    (added values (directives relocs (field_of r))) (taken base (directives relocs (field_of r))) (first_symbol (directives relocs (field_of r))) in
     subst Adds is_word (patched.fields k r there)
 
 -- ---- branches
@@ -105,8 +105,8 @@ patched_branch_law relocs old base values veneers new k r t view patched there i
     let within : (field_of r).place + 4 ≤ length new = omega arith in
     let small = part_lt new 4 (field_of r).place within patched.bytes in
     let Adds : Kind → Type 0 = λ kind.
-            AddsUp kind (base + (field_of r).place) values veneers (number_of (take (size_of kind) (drop (field_of r).place old))) (number_of (take (size_of kind) (drop (field_of r).place new)))
-            (added values (directives relocs (field_of r))) (taken base (directives relocs (field_of r))) (first_symbol (directives relocs (field_of r))) in
+    AddsUp kind (base + (field_of r).place) values veneers (number_of (take (size_of kind) (drop (field_of r).place old))) (number_of (take (size_of kind) (drop (field_of r).place new)))
+    (added values (directives relocs (field_of r))) (taken base (directives relocs (field_of r))) (first_symbol (directives relocs (field_of r))) in
     let turned = subst Adds is_branch (patched.fields k r there) in
     leads_by view veneers t (base + (field_of r).place) (word_in old (field_of r).place) (word_in new (field_of r).place) (added values (directives relocs (field_of r)))
     (taken base (directives relocs (field_of r)))
@@ -195,11 +195,11 @@ one_patched relocs old base values veneers new other n m =
         let first : (field_of c.reloc).place + size_of (field_of c.reloc).kind ≤ length new = omega arith in
         let second : (field_of c.reloc).place + size_of (field_of c.reloc).kind ≤ length other = omega arith in
         let number = adds_once (field_of c.reloc).kind (base + (field_of c.reloc).place) values veneers (number_in old (field_of c.reloc)) (number_in new (field_of c.reloc))
-                (number_in other (field_of c.reloc)) (added values (directives relocs (field_of c.reloc))) (taken base (directives relocs (field_of c.reloc)))
-                (first_symbol (directives relocs (field_of c.reloc)))
-                (part_lt new (size_of (field_of c.reloc).kind) (field_of c.reloc).place first n.bytes)
-                (part_lt other (size_of (field_of c.reloc).kind) (field_of c.reloc).place second m.bytes)
-                (n.fields c.number c.reloc c.there) (m.fields c.number c.reloc c.there) in
+        (number_in other (field_of c.reloc)) (added values (directives relocs (field_of c.reloc))) (taken base (directives relocs (field_of c.reloc)))
+        (first_symbol (directives relocs (field_of c.reloc)))
+        (part_lt new (size_of (field_of c.reloc).kind) (field_of c.reloc).place first n.bytes)
+        (part_lt other (size_of (field_of c.reloc).kind) (field_of c.reloc).place second m.bytes)
+        (n.fields c.number c.reloc c.there) (m.fields c.number c.reloc c.there) in
         in_field new other (size_of (field_of c.reloc).kind) (field_of c.reloc).place i c.from c.below
         (part_is new (size_of (field_of c.reloc).kind) (field_of c.reloc).place first n.bytes
         ∙ ap (λ v. bytes_of v (size_of (field_of c.reloc).kind)) number
@@ -265,9 +265,9 @@ pub reach_law : ReachLaw
 reach_law relocs old base values veneers new k r t view region area_at n patched there is_branch shows stand first at =
     let a = base + (field_of r).place in
     let Leads : Option ℕ → Type 0 = λ symbol.
-            LeadsBy view veneers t (base + (field_of r).place) (word_in old (field_of r).place) (added values (directives relocs (field_of r))) (taken base (directives relocs (field_of r)))
-            (way_to t (total (base + (field_of r).place + ahead t + span t (word_in old (field_of r).place)) 0 (middle t))
-            (added values (directives relocs (field_of r))) (taken base (directives relocs (field_of r))) values symbol) in
+    LeadsBy view veneers t (base + (field_of r).place) (word_in old (field_of r).place) (added values (directives relocs (field_of r))) (taken base (directives relocs (field_of r)))
+    (way_to t (total (base + (field_of r).place + ahead t + span t (word_in old (field_of r).place)) 0 (middle t))
+    (added values (directives relocs (field_of r))) (taken base (directives relocs (field_of r))) values symbol) in
     reach_home view region area_at veneers t (base + (field_of r).place) (word_in old (field_of r).place) (added values (directives relocs (field_of r)))
     (taken base (directives relocs (field_of r))) (values.symbol n) (values.symbol n).home stand at
     (subst Leads first (patched_branch_law relocs old base values veneers new k r t view patched there is_branch shows))

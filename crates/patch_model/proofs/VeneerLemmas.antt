@@ -1,8 +1,6 @@
 -- A veneer's bytes read as its instructions.
-use Rattle.std.proofs.Common.{◌≡◌, ℕ, suc, ◌+◌, ◌*◌, ◌%◌, ◌^◌, ◌<◌, Bool, true, false, List, [], ◌∷◌, ◌++◌, length, refl, sym, ap, subst, ◌∙◌, arith}
-use Rattle.std.specs.Prelude.{Option, Some, None}
+use Rattle.std.proofs.Common.{◌≡◌, ℕ, suc, ◌+◌, ◌%◌, ◌^◌, ◌<◌, Bool, true, false, List, [], ◌∷◌, ◌++◌, length, sym, ap, subst, ◌∙◌, arith}
 use Rattle.sdt_word.specs.Bytes.{bytes_of}
-use Rattle.sdt_word.specs.Numbers.{sign_extended}
 use Rattle.sdt_word.specs.declared.codes.Condition.TheVariants.{Al}
 use Rattle.arm_isa.specs.ArmRows.{ReadsArm}
 use Rattle.arm_isa.specs.declared.instr.ArmInstr.TheVariants as arm
@@ -12,7 +10,7 @@ use Rattle.thumb_isa.specs.declared.instr.HighOperation.TheVariants as high
 use Rattle.patch_model.specs.Patched.{span, middle, ahead}
 use Rattle.patch_model.proofs.BranchLemmas.{span_arm}
 use Rattle.patch_model.specs.Laws.{VeneerLaw}
-use Rattle.patch_model.specs.Reaches.{View, Shows, ShowsWord, ShowsHalf, VeneerToThumb, VeneerToArm, IsVeneer, HasVeneer, HasArmVeneer}
+use Rattle.patch_model.specs.Reaches.{View, Shows, VeneerToThumb, VeneerToArm, IsVeneer, HasVeneer}
 
 reads_load : ReadsArm 0xE59FC000 (arm.TransferImmediate Al true true false false true 15 12 0)
 reads_load = grind arith
@@ -46,8 +44,13 @@ to_thumb view v target shows =
     let first = shows_parts view v (bytes_of 0xE59FC000 4 ++ bytes_of 0xE12FFF1C 4) (bytes_of ((target + 1) % 2 ^ 32) 4) shows in
     let second = shows_parts view v (bytes_of 0xE59FC000 4) (bytes_of 0xE12FFF1C 4) first.0 in
     record {
-      load = 0xE59FC000; exchange = 0xE12FFF1C; shows_load = second.0; shows_exchange = second.1; shows_target = first.1;
-      reads_load = reads_load; reads_exchange = reads_exchange;
+      load = 0xE59FC000;
+      exchange = 0xE12FFF1C;
+      shows_load = second.0;
+      shows_exchange = second.1;
+      shows_target = first.1;
+      reads_load = reads_load;
+      reads_exchange = reads_exchange;
     }
 
 to_arm : (view : View) (v field target : ℕ) → Shows view v (bytes_of 0x4778 2 ++ bytes_of 0x46C0 2 ++ bytes_of (0xEA000000 + field) 4) → field < 2 ^ 24
@@ -59,8 +62,17 @@ to_arm view v field target shows small leads =
     let s = span_arm (v + 4) (0xEA000000 + field) in
     let t = rw low at s in
     record {
-      exchange = 0x4778; nothing = 0x46C0; branch = 0xEA000000 + field; field = field; shows_exchange = second.0; shows_nothing = second.1;
-      shows_branch = first.1; reads_exchange = reads_thumb_exchange; reads_nothing = reads_nothing; reads_branch = reads_branch field small; leads = omega arith;
+      exchange = 0x4778;
+      nothing = 0x46C0;
+      branch = 0xEA000000 + field;
+      field = field;
+      shows_exchange = second.0;
+      shows_nothing = second.1;
+      shows_branch = first.1;
+      reads_exchange = reads_thumb_exchange;
+      reads_nothing = reads_nothing;
+      reads_branch = reads_branch field small;
+      leads = omega arith;
     }
 
 reads : (view : View) (v target : ℕ) (state : Bool) (bytes : List ℕ) → Shows view v bytes → HasVeneer v target state bytes → IsVeneer view v target state

@@ -1,5 +1,5 @@
 -- What follows from the definitions of patched bytes and of branches. This project's.
-use Rattle.std.specs.Prelude.{◌≡◌, ℕ, ◌+◌, ◌*◌, ◌/◌, ◌%◌, ◌^◌, ◌<◌, ◌≤◌, Bool, true, false, List, [], ◌∷◌, take, drop, length, get_or, slice_get, Option, Some, None}
+use Rattle.std.specs.Prelude.{◌≡◌, ◌≢◌, ◌++◌, ℕ, ◌+◌, ◌*◌, ◌/◌, ◌%◌, ◌^◌, ◌<◌, ◌≤◌, Bool, true, false, List, [], ◌∷◌, take, drop, slice_get, Option, Some, None}
 use Rattle.sdt_word.specs.Bytes.{bytes_of, word_in}
 use Rattle.sdt_word.specs.Numbers.{bits, flag, sign_extended}
 use Rattle.sdt_word.specs.declared.codes.Condition.{Condition}
@@ -10,7 +10,7 @@ use Rattle.thumb_isa.specs.declared.instr.ThumbInstr.TheVariants as thumb
 use Rattle.aof_object.specs.declared.records.Object.{Object}
 use Rattle.aof_object.specs.declared.records.Reloc.{Reloc}
 use Rattle.sdt_word.specs.declared.ranges.Range32.{Range32}
-use Rattle.patch_model.specs.Fields.{Byte, Half, Word, Branch, Home, Meant, Values, field_of, kind_of, is_relative, value_named, mark_of, directives, added, taken, number_in}
+use Rattle.patch_model.specs.Fields.{Word, Branch, Field, Home, Meant, Values, field_of, kind_of, is_relative, value_named, mark_of, directives, added, taken}
 use Rattle.patch_model.specs.Patched.{total, IsBranch, SameBranch, span, middle, ahead, Veneers, Way, Directly, ByVeneer, first_symbol, other_state, way_home, way_to, IsOutside, AreaPatched, Patched}
 use Rattle.patch_model.specs.Reaches.{View, Shows, BranchesTo, IsVeneer, HasVeneer, VeneersStand, Reaches}
 
@@ -49,7 +49,14 @@ pub record SumLaw : Type 0 where
   -- two directives of one field
   pub two : (values : Values) (base : ℕ) (r s : Reloc) (old : ℕ)
       → total old (added values (r ∷ s ∷ [])) (taken base (r ∷ s ∷ []))
-        ≡ total (total old (value_named values r + mark_of values r) (base * flag (is_relative r))) (value_named values s + mark_of values s) (base * flag (is_relative s))
+      ≡ total (total old (value_named values r + mark_of values r) (base * flag (is_relative r))) (value_named values s + mark_of values s) (base * flag (is_relative s))
+
+-- which directives a field has
+pub record DirectiveLaw : Type 0 where
+  pub joined : (f : Field) (xs ys : List Reloc) → directives (xs ++ ys) f ≡ directives xs f ++ directives ys f
+  -- none where all others begin elsewhere, and one beside those
+  pub none : (f : Field) (xs : List Reloc) → ((k : ℕ) (r : Reloc) → slice_get xs k ≡ Some r → (field_of r).place ≢ f.place) → directives xs f ≡ []
+  pub own : (r : Reloc) → directives (r ∷ []) (field_of r) ≡ r ∷ []
 
 -- the number of a word field
 abbrev pub WordLaw : Type 0
@@ -57,7 +64,7 @@ WordLaw =
     (relocs : List Reloc) (old : List ℕ) (base : ℕ) (values : Values) (veneers : Veneers) (new : List ℕ) (k : ℕ) (r : Reloc)
     → AreaPatched relocs old base values veneers new → slice_get relocs k ≡ Some r → kind_of r ≡ Word
     → word_in new (field_of r).place
-      ≡ total (word_in old (field_of r).place) (added values (directives relocs (field_of r))) (taken base (directives relocs (field_of r)))
+    ≡ total (word_in old (field_of r).place) (added values (directives relocs (field_of r))) (taken base (directives relocs (field_of r)))
 
 -- ---- branches
 
@@ -65,6 +72,9 @@ pub record BranchLaw : Type 0 where
   -- bytes that read as a branch lead where its span says
   pub leads : (view : View) (thumb : Bool) (a w target : ℕ) → Shows view a (bytes_of w 4) → w < 2 ^ 32 → IsBranch thumb w
       → (a + ahead thumb + span thumb w) % 2 ^ 32 ≡ (target + middle thumb) % 2 ^ 32 → BranchesTo view thumb a target
+  -- a span as two's complement
+  pub arm_span : (a w : ℕ) → (a + sign_extended w 24 * 4 + middle false) % 2 ^ 32 ≡ (a + span false w) % 2 ^ 32
+  pub pair_span : (a w : ℕ) → (a + sign_extended (bits w 0 11 * 2 ^ 11 + bits w 16 11) 22 * 2 + middle true) % 2 ^ 32 ≡ (a + span true w) % 2 ^ 32
   -- a patched branch is the same instruction with another field
   pub arm_stays : (condition : Condition) (link : Bool) (field old new : ℕ) → ReadsArm old (arm.Branch condition link field) → new < 2 ^ 32
       → SameBranch false old new → ReadsArm new (arm.Branch condition link (new % 2 ^ 24))
@@ -82,9 +92,9 @@ PatchedBranchLaw =
     (relocs : List Reloc) (old : List ℕ) (base : ℕ) (values : Values) (veneers : Veneers) (new : List ℕ) (k : ℕ) (r : Reloc) (thumb : Bool) (view : View)
     → AreaPatched relocs old base values veneers new → slice_get relocs k ≡ Some r → kind_of r ≡ Branch thumb → Shows view base new
     → LeadsBy view veneers thumb (base + (field_of r).place) (word_in old (field_of r).place) (added values (directives relocs (field_of r)))
-      (taken base (directives relocs (field_of r)))
-      (way_to thumb (total (base + (field_of r).place + ahead thumb + span thumb (word_in old (field_of r).place)) 0 (middle thumb))
-      (added values (directives relocs (field_of r))) (taken base (directives relocs (field_of r))) values (first_symbol (directives relocs (field_of r))))
+    (taken base (directives relocs (field_of r)))
+    (way_to thumb (total (base + (field_of r).place + ahead thumb + span thumb (word_in old (field_of r).place)) 0 (middle thumb))
+    (added values (directives relocs (field_of r))) (taken base (directives relocs (field_of r))) values (first_symbol (directives relocs (field_of r))))
 
 -- the target of a branch to a symbol with one directive: as far behind the symbol as the branch names, counted from the
 -- start of its area
@@ -92,7 +102,7 @@ abbrev pub WayLaw : Type 0
 WayLaw =
     (thumb : Bool) (base place old : ℕ) (m : Meant) (h : Home) → m.home ≡ Some h → other_state thumb m.thumb ≡ true
     → way_home thumb (total (base + place + ahead thumb + span thumb old) 0 (middle thumb)) m.number base m m.home
-      ≡ ByVeneer (record { object = h.object; area = h.area; offset = total (h.offset + place + ahead thumb + span thumb old) 0 (middle thumb) }) m.thumb
+    ≡ ByVeneer (record { object = h.object; area = h.area; offset = total (h.offset + place + ahead thumb + span thumb old) 0 (middle thumb) }) m.thumb
 
 -- the state in which a branch of a state reaches a symbol: that of a symbol in an area, and else the branch's own
 abbrev pub state_of : Bool → Meant → Option Home → Bool
@@ -113,9 +123,9 @@ ReachLaw =
     → VeneersStand view region area_at veneers → first_symbol (directives relocs (field_of r)) ≡ Some n
     → StandsAt area_at (values.symbol n) (values.symbol n).home
     → Reaches view region thumb (base + (field_of r).place)
-      (total (base + (field_of r).place + ahead thumb + span thumb (word_in old (field_of r).place)) (added values (directives relocs (field_of r)))
-      (middle thumb + taken base (directives relocs (field_of r))))
-      (state_of thumb (values.symbol n) (values.symbol n).home)
+    (total (base + (field_of r).place + ahead thumb + span thumb (word_in old (field_of r).place)) (added values (directives relocs (field_of r)))
+    (middle thumb + taken base (directives relocs (field_of r))))
+    (state_of thumb (values.symbol n) (values.symbol n).home)
 
 -- ---- veneers
 

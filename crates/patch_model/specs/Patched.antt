@@ -2,7 +2,7 @@
 -- Object Format, relocation directives, and armlink's interworking veneers; ARM Architecture Reference Manual, the
 -- encodings of B and BL; the ranges of bytes and half-words are this project's). Numbers have no signs here: a
 -- displacement is counted from the least one, and a sum is compared with what was taken away from it.
-use Rattle.std.specs.Prelude.{◌≡◌, ◌≢◌, ◌⊎◌, ℕ, ◌+◌, ◌-◌, ◌*◌, ◌/◌, ◌%◌, ◌^◌, ◌<◌, ◌≤◌, Bool, true, false, not, ◌&&◌, ◌==◌, if◌then◌else◌, List, [], ◌∷◌, length, get_or, slice_get, Option, Some, None}
+use Rattle.std.specs.Prelude.{◌≡◌, ◌⊎◌, ℕ, ◌+◌, ◌-◌, ◌*◌, ◌/◌, ◌%◌, ◌^◌, ◌<◌, ◌≤◌, Bool, true, false, not, if◌then◌else◌, List, [], ◌∷◌, length, get_or, slice_get, Option, Some, None}
 use Rattle.std.specs.Option.{IsSomeAnd}
 use Rattle.sdt_word.specs.Numbers.{bits}
 use Rattle.aof_object.specs.declared.records.Area.{Area}

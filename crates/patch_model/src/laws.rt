@@ -1,6 +1,6 @@
 //! Laws of the definitions, each proved as the contract of an empty function.
 
-ghost use Rattle.patch_model.specs.Laws.{BranchLaw, OneObjectPatched, OnePatched, OutsideLaw, PatchedBranchLaw, ReachLaw, SumLaw, VeneerLaw, WayLaw, WordLaw};
+ghost use Rattle.patch_model.specs.Laws.{BranchLaw, DirectiveLaw, OneObjectPatched, OnePatched, OutsideLaw, PatchedBranchLaw, ReachLaw, SumLaw, VeneerLaw, WayLaw, WordLaw};
 
 /// An area has at most one list of patched bytes.
 pub fn one_patched()
@@ -11,6 +11,11 @@ pub fn one_patched()
 /// Bytes outside all fields are as they were.
 pub fn outside_law()
     ensures { OutsideLaw }
+{}
+
+/// Which directives a field has.
+pub fn directive_law()
+    ensures { DirectiveLaw }
 {}
 
 /// Directives of one field add up.

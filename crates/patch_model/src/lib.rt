@@ -5,6 +5,6 @@
 mod laws;
 
 pub use crate::laws::{
-    branch_law, one_patched, outside_law, patched_branch_law, reach_law, sum_law, veneer_law,
-    way_law, word_law,
+    branch_law, directive_law, one_patched, outside_law, patched_branch_law, reach_law, sum_law,
+    veneer_law, way_law, word_law,
 };
