@@ -12,7 +12,7 @@ use Rattle.aof_object.specs.declared.records.Area.{Area}
 use Rattle.aof_object.specs.declared.records.Reloc.{Reloc}
 use Rattle.patch_model.specs.Fields.{Kind, Byte, Half, Word, Branch, Home, Meant, Values, field_of, directives, added, taken, size_of, number_in}
 use Rattle.patch_model.specs.Patched.{total, span, middle, ahead, Veneers, Way, Directly, ByVeneer, first_symbol, other_state, way_home, way_to, LeadsAt, Leads, Turned, AddsUp, IsOutside, AreaPatched}
-use Rattle.patch_model.specs.Laws.{OnePatched, OneObjectPatched, OutsideLaw, WordLaw, LeadsBy, PatchedBranchLaw, WayLaw, ReachLaw, state_of, StandsAt}
+use Rattle.patch_model.specs.Laws.{OnePatched, OneObjectPatched, OutsideLaw, WordLaw, LeadsBy, PatchedBranchLaw, WayLaw, ReachLaw, state_of, StandsAt, state_to, StandsTo}
 use Rattle.patch_model.specs.Reaches.{View, Shows, IsVeneer, VeneersStand, Reaches}
 use Rattle.sdt_word.specs.Ranges.{Covers}
 use Rattle.patch_model.proofs.BranchLemmas.{leads_to, arm_same, pair_same, branch_stays}
@@ -261,13 +261,16 @@ reach_home view region area_at veneers t a old more less m (Some h) stand at lea
     reach_state view region veneers t m.thumb a old more less ((area_at h.object h.area + target.offset) % 2 ^ 32) target (λ v there. stand target m.thumb v there)
     (target_address (area_at h.object h.area) h.offset m.number (a + ahead t) (span t old) (middle t) more less at) leads
 
+reach_symbol : (view : View) (region : Range32) (area_at : ℕ → ℕ → ℕ) (values : Values) (veneers : Veneers) (t : Bool) (a old more less : ℕ) (symbol : Option ℕ)
+    → VeneersStand view region area_at veneers → StandsTo area_at values symbol
+    → LeadsBy view veneers t a old more less (way_to t (total (a + ahead t + span t old) 0 (middle t)) more less values symbol)
+    → Reaches view region t a (total (a + ahead t + span t old) more (middle t + less)) (state_to t values symbol)
+reach_symbol view region area_at values veneers t a old more less None stand at leads = inl (leads, refl)
+reach_symbol view region area_at values veneers t a old more less (Some n) stand at leads =
+    reach_home view region area_at veneers t a old more less (values.symbol n) (values.symbol n).home stand at leads
+
 pub reach_law : ReachLaw
-reach_law relocs old base values veneers new k r t view region area_at n patched there is_branch shows stand first at =
-    let a = base + (field_of r).place in
-    let Leads : Option ℕ → Type 0 = λ symbol.
-    LeadsBy view veneers t (base + (field_of r).place) (word_in old (field_of r).place) (added values (directives relocs (field_of r))) (taken base (directives relocs (field_of r)))
-    (way_to t (total (base + (field_of r).place + ahead t + span t (word_in old (field_of r).place)) 0 (middle t))
-    (added values (directives relocs (field_of r))) (taken base (directives relocs (field_of r))) values symbol) in
-    reach_home view region area_at veneers t (base + (field_of r).place) (word_in old (field_of r).place) (added values (directives relocs (field_of r)))
-    (taken base (directives relocs (field_of r))) (values.symbol n) (values.symbol n).home stand at
-    (subst Leads first (patched_branch_law relocs old base values veneers new k r t view patched there is_branch shows))
+reach_law relocs old base values veneers new k r t view region area_at patched there is_branch shows stand at =
+    reach_symbol view region area_at values veneers t (base + (field_of r).place) (word_in old (field_of r).place) (added values (directives relocs (field_of r)))
+    (taken base (directives relocs (field_of r))) (first_symbol (directives relocs (field_of r))) stand at
+    (patched_branch_law relocs old base values veneers new k r t view patched there is_branch shows)

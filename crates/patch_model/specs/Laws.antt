@@ -114,18 +114,26 @@ abbrev pub StandsAt : (ℕ → ℕ → ℕ) → Meant → Option Home → Type 0
 StandsAt area_at m None = Unit {0}
 StandsAt area_at m (Some h) = m.number % 2 ^ 32 ≡ (area_at h.object h.area + h.offset) % 2 ^ 32
 
+-- the same for the first symbol of directives, if there is one
+abbrev pub state_to : Bool → Values → Option ℕ → Bool
+state_to thumb values None = thumb
+state_to thumb values (Some n) = state_of thumb (values.symbol n) (values.symbol n).home
+
+abbrev pub StandsTo : (ℕ → ℕ → ℕ) → Values → Option ℕ → Type 0
+StandsTo area_at values None = Unit {0}
+StandsTo area_at values (Some n) = StandsAt area_at (values.symbol n) (values.symbol n).home
+
 -- a patched branch reaches what it names, in a view that shows the area's bytes and the veneers
 abbrev pub ReachLaw : Type 0
 ReachLaw =
     (relocs : List Reloc) (old : List ℕ) (base : ℕ) (values : Values) (veneers : Veneers) (new : List ℕ) (k : ℕ) (r : Reloc) (thumb : Bool)
-    (view : View) (region : Range32) (area_at : ℕ → ℕ → ℕ) (n : ℕ)
+    (view : View) (region : Range32) (area_at : ℕ → ℕ → ℕ)
     → AreaPatched relocs old base values veneers new → slice_get relocs k ≡ Some r → kind_of r ≡ Branch thumb → Shows view base new
-    → VeneersStand view region area_at veneers → first_symbol (directives relocs (field_of r)) ≡ Some n
-    → StandsAt area_at (values.symbol n) (values.symbol n).home
+    → VeneersStand view region area_at veneers → StandsTo area_at values (first_symbol (directives relocs (field_of r)))
     → Reaches view region thumb (base + (field_of r).place)
-    (total (base + (field_of r).place + ahead thumb + span thumb (word_in old (field_of r).place)) (added values (directives relocs (field_of r)))
-    (middle thumb + taken base (directives relocs (field_of r))))
-    (state_of thumb (values.symbol n) (values.symbol n).home)
+      (total (base + (field_of r).place + ahead thumb + span thumb (word_in old (field_of r).place)) (added values (directives relocs (field_of r)))
+      (middle thumb + taken base (directives relocs (field_of r))))
+      (state_to thumb values (first_symbol (directives relocs (field_of r))))
 
 -- ---- veneers
 
