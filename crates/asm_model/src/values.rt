@@ -7,7 +7,7 @@ use sdt_fault::kinds::LineKind;
 use sdt_fault::{Bytes, NoMemory, Text};
 use std::alloc::{AllocError, AllocFailed, Global};
 
-#[derive(Debug, Drop)]
+#[derive(PartialEq, Eq, PartialOrd, Ord, Debug, Drop)]
 pub enum Value {
     Number(u32),
     Truth(bool),

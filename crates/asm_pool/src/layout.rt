@@ -1,0 +1,39 @@
+//! What a source is laid out as.
+
+use crate::pools::Pools;
+use asm_model::{LaidName, Statement};
+use sdt_fault::{List, Text};
+
+/// The areas in the order of their first lines, the statements in the order of the source, and the names.
+#[derive(Debug, Drop)]
+pub struct Layout {
+    pub areas: List<LaidArea>,
+    pub statements: List<LaidStatement>,
+    pub names: List<LaidName>,
+}
+
+/// An area; its attributes have its alignment.
+#[derive(Debug, Drop)]
+pub struct LaidArea {
+    pub name: Text,
+    pub attributes: u32,
+    /// In bytes, with its pools.
+    pub size: u32,
+    pub pools: Pools,
+}
+
+/// A statement where it stands.
+#[derive(Debug, Drop)]
+pub struct LaidStatement {
+    pub statement: Statement,
+    /// The statement's area, counted from 0; None before the first.
+    pub area: Option<u32>,
+    /// The statement's offset in its area.
+    pub offset: u32,
+    /// In bytes.
+    pub size: u32,
+    /// Whether it stands in Thumb state.
+    pub thumb: bool,
+    /// The number of its literal's entry in the pools of its area.
+    pub literal: Option<u32>,
+}

@@ -1,0 +1,5 @@
+mod SumLemmas
+mod BranchLemmas
+mod VeneerLemmas
+mod PatchLemmas
+mod Rows

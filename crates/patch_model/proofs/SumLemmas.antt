@@ -1,0 +1,68 @@
+-- Sums of what directives add and take away.
+use Rattle.std.proofs.Common.{◌≡◌, ◌≢◌, ◌++◌, cond, eq-eqb, ne_eqb, Some, slice_get, suc, ℕ, ◌+◌, ◌*◌, ◌%◌, ◌^◌, ◌<◌, Bool, true, false, List, [], ◌∷◌, refl, ap, arith}
+use Rattle.sdt_word.specs.Numbers.{flag}
+use Rattle.aof_object.specs.declared.records.Reloc.{Reloc}
+use Rattle.patch_model.specs.Fields.{Kind, Byte, Half, Word, Branch, Field, Values, field_of, kind_of, is_same_kind, is_field, directives, is_relative, value_named, mark_of, added, taken}
+use Rattle.patch_model.specs.Patched.{total}
+use Rattle.patch_model.specs.Laws.{SumLaw, DirectiveLaw}
+
+none : (old : ℕ) → old < 2 ^ 32 → total old 0 0 ≡ old
+none old h = omega arith
+
+both : (old a t b u : ℕ) → total (total old a t) b u ≡ total old (a + b) (t + u)
+both old a t b u = omega arith
+
+plain : (old a : ℕ) → total old a 0 ≡ (old + a) % 2 ^ 32
+plain old a = omega arith
+
+pub one : (values : Values) (base : ℕ) (r : Reloc)
+    → (added values (r ∷ []) ≡ value_named values r + mark_of values r) × (taken base (r ∷ []) ≡ base * flag (is_relative r))
+one values base r = (bare (value_named values r + mark_of values r), bare (base * flag (is_relative r)))
+  where
+    bare : (n : ℕ) → n + 0 ≡ n
+    bare n = omega arith
+
+two : (values : Values) (base : ℕ) (r s : Reloc) (old : ℕ)
+    → total old (added values (r ∷ s ∷ [])) (taken base (r ∷ s ∷ []))
+    ≡ total (total old (value_named values r + mark_of values r) (base * flag (is_relative r))) (value_named values s + mark_of values s) (base * flag (is_relative s))
+two values base r s old =
+    by_numbers (value_named values r + mark_of values r) (value_named values s + mark_of values s) (base * flag (is_relative r)) (base * flag (is_relative s))
+  where
+    by_numbers : (a b t u : ℕ) → total old (a + (b + 0)) (t + (u + 0)) ≡ total (total old a t) b u
+    by_numbers a b t u = omega arith
+
+pub sum_law : SumLaw
+sum_law = record { none = none; both = both; plain = plain; one = one; two = two }
+
+-- ---- the directives of a field
+
+joined : (f : Field) (xs ys : List Reloc) → directives (xs ++ ys) f ≡ directives xs f ++ directives ys f
+joined f [] ys = refl
+joined f (x ∷ xs) ys = by_test (is_field f x) (joined f xs ys)
+  where
+    by_test : (b : Bool) → directives (xs ++ ys) f ≡ directives xs f ++ directives ys f
+        → cond b (x ∷ directives (xs ++ ys) f) (directives (xs ++ ys) f) ≡ cond b (x ∷ directives xs f) (directives xs f) ++ directives ys f
+    by_test true h = ap (λ l. x ∷ l) h
+    by_test false h = h
+
+apart : (f : Field) (r : Reloc) → (field_of r).place ≢ f.place → is_field f r ≡ false
+apart f r h = rw (ne_eqb (field_of r).place f.place h) refl
+
+none_of : (f : Field) (xs : List Reloc) → ((k : ℕ) (r : Reloc) → slice_get xs k ≡ Some r → (field_of r).place ≢ f.place) → directives xs f ≡ []
+none_of f [] h = refl
+none_of f (x ∷ xs) h = rw (apart f x (h 0 x refl)) (none_of f xs (λ k r e. h (suc k) r e))
+
+same_kind : (k : Kind) → is_same_kind k k ≡ true
+same_kind Byte = refl
+same_kind Half = refl
+same_kind Word = refl
+same_kind (Branch true) = refl
+same_kind (Branch false) = refl
+
+own : (r : Reloc) → directives (r ∷ []) (field_of r) ≡ r ∷ []
+own r =
+    let e : is_field (field_of r) r ≡ true = rw (eq-eqb (field_of r).place (field_of r).place refl, same_kind (kind_of r)) refl in
+    ap (λ b. cond b (r ∷ []) []) e
+
+pub directive_law : DirectiveLaw
+directive_law = record { joined = joined; none = none_of; own = own }

@@ -1,0 +1,144 @@
+-- What follows from the definitions of patched bytes and of branches. This project's.
+use Rattle.std.specs.Prelude.{◌≡◌, ◌≢◌, ◌++◌, ℕ, ◌+◌, ◌*◌, ◌/◌, ◌%◌, ◌^◌, ◌<◌, ◌≤◌, Bool, true, false, List, [], ◌∷◌, take, drop, slice_get, Option, Some, None}
+use Rattle.sdt_word.specs.Bytes.{bytes_of, word_in}
+use Rattle.sdt_word.specs.Numbers.{bits, flag, sign_extended}
+use Rattle.sdt_word.specs.declared.codes.Condition.{Condition}
+use Rattle.arm_isa.specs.ArmRows.{ReadsArm}
+use Rattle.arm_isa.specs.declared.instr.ArmInstr.TheVariants as arm
+use Rattle.thumb_isa.specs.ThumbRows.{ReadsThumb}
+use Rattle.thumb_isa.specs.declared.instr.ThumbInstr.TheVariants as thumb
+use Rattle.aof_object.specs.declared.records.Object.{Object}
+use Rattle.aof_object.specs.declared.records.Reloc.{Reloc}
+use Rattle.sdt_word.specs.declared.ranges.Range32.{Range32}
+use Rattle.patch_model.specs.Fields.{Word, Branch, Field, Home, Meant, Values, field_of, kind_of, is_relative, value_named, mark_of, directives, added, taken}
+use Rattle.patch_model.specs.Patched.{total, IsBranch, SameBranch, span, middle, ahead, Veneers, Way, Directly, ByVeneer, first_symbol, other_state, way_home, way_to, IsOutside, AreaPatched, Patched}
+use Rattle.patch_model.specs.Reaches.{View, Shows, BranchesTo, IsVeneer, HasVeneer, VeneersStand, Reaches}
+
+-- ---- bytes
+
+-- an area has at most one list of patched bytes
+abbrev pub OnePatched : Type 0
+OnePatched =
+    (relocs : List Reloc) (old : List ℕ) (base : ℕ) (values : Values) (veneers : Veneers) (new other : List ℕ)
+    → AreaPatched relocs old base values veneers new → AreaPatched relocs old base values veneers other → new ≡ other
+
+abbrev pub OneObjectPatched : Type 0
+OneObjectPatched =
+    (object : Object) (area : ℕ) (values : Values) (veneers : Veneers) (new other : List ℕ)
+    → Patched object area values veneers new → Patched object area values veneers other → new ≡ other
+
+-- bytes that no field has are as they were
+abbrev pub OutsideLaw : Type 0
+OutsideLaw =
+    (relocs : List Reloc) (old : List ℕ) (base : ℕ) (values : Values) (veneers : Veneers) (new : List ℕ) (place size : ℕ)
+    → AreaPatched relocs old base values veneers new → ((i : ℕ) → place ≤ i → i < place + size → IsOutside relocs i)
+    → take size (drop place new) ≡ take size (drop place old)
+
+-- ---- sums
+
+pub record SumLaw : Type 0 where
+  -- nothing is added
+  pub none : (old : ℕ) → old < 2 ^ 32 → total old 0 0 ≡ old
+  -- directives that are applied one after the other add up
+  pub both : (old a t b u : ℕ) → total (total old a t) b u ≡ total old (a + b) (t + u)
+  -- a directive that takes nothing
+  pub plain : (old a : ℕ) → total old a 0 ≡ (old + a) % 2 ^ 32
+  -- what one directive adds and takes
+  pub one : (values : Values) (base : ℕ) (r : Reloc)
+      → (added values (r ∷ []) ≡ value_named values r + mark_of values r) × (taken base (r ∷ []) ≡ base * flag (is_relative r))
+  -- two directives of one field
+  pub two : (values : Values) (base : ℕ) (r s : Reloc) (old : ℕ)
+      → total old (added values (r ∷ s ∷ [])) (taken base (r ∷ s ∷ []))
+      ≡ total (total old (value_named values r + mark_of values r) (base * flag (is_relative r))) (value_named values s + mark_of values s) (base * flag (is_relative s))
+
+-- which directives a field has
+pub record DirectiveLaw : Type 0 where
+  pub joined : (f : Field) (xs ys : List Reloc) → directives (xs ++ ys) f ≡ directives xs f ++ directives ys f
+  -- none where all others begin elsewhere, and one beside those
+  pub none : (f : Field) (xs : List Reloc) → ((k : ℕ) (r : Reloc) → slice_get xs k ≡ Some r → (field_of r).place ≢ f.place) → directives xs f ≡ []
+  pub own : (r : Reloc) → directives (r ∷ []) (field_of r) ≡ r ∷ []
+
+-- the number of a word field
+abbrev pub WordLaw : Type 0
+WordLaw =
+    (relocs : List Reloc) (old : List ℕ) (base : ℕ) (values : Values) (veneers : Veneers) (new : List ℕ) (k : ℕ) (r : Reloc)
+    → AreaPatched relocs old base values veneers new → slice_get relocs k ≡ Some r → kind_of r ≡ Word
+    → word_in new (field_of r).place
+    ≡ total (word_in old (field_of r).place) (added values (directives relocs (field_of r))) (taken base (directives relocs (field_of r)))
+
+-- ---- branches
+
+pub record BranchLaw : Type 0 where
+  -- bytes that read as a branch lead where its span says
+  pub leads : (view : View) (thumb : Bool) (a w target : ℕ) → Shows view a (bytes_of w 4) → w < 2 ^ 32 → IsBranch thumb w
+      → (a + ahead thumb + span thumb w) % 2 ^ 32 ≡ (target + middle thumb) % 2 ^ 32 → BranchesTo view thumb a target
+  -- a span as two's complement
+  pub arm_span : (a w : ℕ) → (a + sign_extended w 24 * 4 + middle false) % 2 ^ 32 ≡ (a + span false w) % 2 ^ 32
+  pub pair_span : (a w : ℕ) → (a + sign_extended (bits w 0 11 * 2 ^ 11 + bits w 16 11) 22 * 2 + middle true) % 2 ^ 32 ≡ (a + span true w) % 2 ^ 32
+  -- a patched branch is the same instruction with another field
+  pub arm_stays : (condition : Condition) (link : Bool) (field old new : ℕ) → ReadsArm old (arm.Branch condition link field) → new < 2 ^ 32
+      → SameBranch false old new → ReadsArm new (arm.Branch condition link (new % 2 ^ 24))
+  pub pair_stays : (old new : ℕ) → new < 2 ^ 32 → IsBranch true old → SameBranch true old new
+      → ReadsThumb (new % 2 ^ 16) (thumb.BranchLink false (bits new 0 11)) × ReadsThumb (new / 2 ^ 16) (thumb.BranchLink true (bits new 16 11))
+
+-- in a view: to what the old branch names with its directives, or to the veneer
+abbrev pub LeadsBy : View → Veneers → Bool → ℕ → ℕ → ℕ → ℕ → Way → Type 0
+LeadsBy view veneers thumb a old more less Directly = BranchesTo view thumb a (total (a + ahead thumb + span thumb old) more (middle thumb + less))
+LeadsBy view veneers thumb a old more less (ByVeneer target state) = (v : ℕ) × (veneers target state ≡ Some v) × BranchesTo view thumb a v
+
+-- where a patched branch leads, in a view that shows the area's bytes
+abbrev pub PatchedBranchLaw : Type 0
+PatchedBranchLaw =
+    (relocs : List Reloc) (old : List ℕ) (base : ℕ) (values : Values) (veneers : Veneers) (new : List ℕ) (k : ℕ) (r : Reloc) (thumb : Bool) (view : View)
+    → AreaPatched relocs old base values veneers new → slice_get relocs k ≡ Some r → kind_of r ≡ Branch thumb → Shows view base new
+    → LeadsBy view veneers thumb (base + (field_of r).place) (word_in old (field_of r).place) (added values (directives relocs (field_of r)))
+    (taken base (directives relocs (field_of r)))
+    (way_to thumb (total (base + (field_of r).place + ahead thumb + span thumb (word_in old (field_of r).place)) 0 (middle thumb))
+    (added values (directives relocs (field_of r))) (taken base (directives relocs (field_of r))) values (first_symbol (directives relocs (field_of r))))
+
+-- the target of a branch to a symbol with one directive: as far behind the symbol as the branch names, counted from the
+-- start of its area
+abbrev pub WayLaw : Type 0
+WayLaw =
+    (thumb : Bool) (base place old : ℕ) (m : Meant) (h : Home) → m.home ≡ Some h → other_state thumb m.thumb ≡ true
+    → way_home thumb (total (base + place + ahead thumb + span thumb old) 0 (middle thumb)) m.number base m m.home
+    ≡ ByVeneer (record { object = h.object; area = h.area; offset = total (h.offset + place + ahead thumb + span thumb old) 0 (middle thumb) }) m.thumb
+
+-- the state in which a branch of a state reaches a symbol: that of a symbol in an area, and else the branch's own
+abbrev pub state_of : Bool → Meant → Option Home → Bool
+state_of thumb m None = thumb
+state_of thumb m (Some h) = m.thumb
+
+-- where a symbol in an area stands
+abbrev pub StandsAt : (ℕ → ℕ → ℕ) → Meant → Option Home → Type 0
+StandsAt area_at m None = Unit {0}
+StandsAt area_at m (Some h) = m.number % 2 ^ 32 ≡ (area_at h.object h.area + h.offset) % 2 ^ 32
+
+-- the same for the first symbol of directives, if there is one
+abbrev pub state_to : Bool → Values → Option ℕ → Bool
+state_to thumb values None = thumb
+state_to thumb values (Some n) = state_of thumb (values.symbol n) (values.symbol n).home
+
+abbrev pub StandsTo : (ℕ → ℕ → ℕ) → Values → Option ℕ → Type 0
+StandsTo area_at values None = Unit {0}
+StandsTo area_at values (Some n) = StandsAt area_at (values.symbol n) (values.symbol n).home
+
+-- a patched branch reaches what it names, in a view that shows the area's bytes and the veneers
+abbrev pub ReachLaw : Type 0
+ReachLaw =
+    (relocs : List Reloc) (old : List ℕ) (base : ℕ) (values : Values) (veneers : Veneers) (new : List ℕ) (k : ℕ) (r : Reloc) (thumb : Bool)
+    (view : View) (region : Range32) (area_at : ℕ → ℕ → ℕ)
+    → AreaPatched relocs old base values veneers new → slice_get relocs k ≡ Some r → kind_of r ≡ Branch thumb → Shows view base new
+    → VeneersStand view region area_at veneers → StandsTo area_at values (first_symbol (directives relocs (field_of r)))
+    → Reaches view region thumb (base + (field_of r).place)
+      (total (base + (field_of r).place + ahead thumb + span thumb (word_in old (field_of r).place)) (added values (directives relocs (field_of r)))
+      (middle thumb + taken base (directives relocs (field_of r))))
+      (state_to thumb values (first_symbol (directives relocs (field_of r))))
+
+-- ---- veneers
+
+pub record VeneerLaw : Type 0 where
+  -- a veneer's bytes read as its instructions
+  pub reads : (view : View) (v target : ℕ) (state : Bool) (bytes : List ℕ) → Shows view v bytes → HasVeneer v target state bytes → IsVeneer view v target state
+  -- a veneer has at most one spelling
+  pub once : (v target : ℕ) (state : Bool) (bytes other : List ℕ) → HasVeneer v target state bytes → HasVeneer v target state other → bytes ≡ other
