@@ -1,0 +1,7 @@
+//! The opening of a run: the banks of memory that its words tell, with the files of its image in them, before the first
+//! step.
+#![tactic(auto)]
+
+mod image;
+
+pub use crate::image::{Image, Load, Need};
