@@ -1,5 +1,6 @@
 -- The banks of a run, and what can be wrong with them: two banks or devices that meet, a range of the image that no bank
 -- has, and more pages in use than there are frames. This project's.
+use Rattle.std.proofs.Common.{arith}
 use Rattle.std.specs.Prelude.{◌≡◌, ℕ, ◌+◌, ◌^◌, ◌%◌, ◌<◌, ◌≤◌, ◌==◌, ◌&&◌, ◌||◌, not, nat_le, Bool, true, false, if◌then◌else◌, List, [], ◌∷◌, ◌++◌, length, map, min, slice_index_or}
 use Rattle.std.specs.List.{list_any, AllByRecursion}
 use Rattle.sdt_word.specs.declared.ranges.Range32.{Range32}
@@ -24,7 +25,7 @@ rom_bank r = record { range = r; read_only = true }
 
 -- those of memory, then the read-only ones; where none is told, 0x01000000 bytes of memory from 0 on
 abbrev pub banks_of : List Range32 → List Range32 → List Bank
-banks_of [] [] = memory_bank (record { base = 0; size = 0x01000000 }) ∷ []
+banks_of [] [] = memory_bank (record { base = 0; size = 0x01000000; in_space = omega arith }) ∷ []
 banks_of memory rom = map memory_bank memory ++ map rom_bank rom
 
 -- whole words, one at least

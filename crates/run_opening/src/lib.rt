@@ -3,5 +3,6 @@
 #![tactic(auto)]
 
 mod image;
+mod judging;
 
 pub use crate::image::{Image, Load, Need};
