@@ -93,7 +93,7 @@ one_more_need bs all ns n o u x f g e is =
     subst (λ (xs : List Need). IsFound (λ a. is_lacking bs xs a) x) (sym is)
     (subst (λ (z : Option ℕ). IsFound (λ a. is_lacking bs (n ∷ ns) a) z) (sym e) (either (λ a. lacks bs n a) (λ a. is_lacking bs ns a) o u f g))
 
-take_all : {A : Type 0} (xs : List A) → take (length xs) xs ≡ xs
+pub take_all : {A : Type 0} (xs : List A) → take (length xs) xs ≡ xs
 take_all [] = refl
 take_all {A} (x ∷ xs) = ap (λ (ys : List A). x ∷ ys) (take_all xs)
 

@@ -2,7 +2,10 @@
 //! step.
 #![tactic(auto)]
 
+mod filling;
 mod image;
 mod judging;
+mod opening;
 
 pub use crate::image::{Image, Load, Need};
+pub use crate::opening::{Closed, open};
