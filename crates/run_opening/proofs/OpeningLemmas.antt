@@ -1,10 +1,12 @@
 -- From the ranges of the banks to the banks, and from a bus that was filled to the opening of a run.
-use Rattle.std.proofs.Common.{◌≡◌, ◌≢◌, ℕ, zero, suc, ◌+◌, ◌-◌, ◌*◌, ◌/◌, ◌%◌, ◌^◌, ◌<◌, ◌≤◌, Bool, true, false, not, ◌||◌, List, [], ◌∷◌, ◌++◌, length, map, refl, sym, ap, ◌∙◌, subst, arith, le-leb}
-use Rattle.std.specs.Prelude.{◌&&◌, ◌==◌, cond, nat_le, nat_lt, max, min}
+use Rattle.std.proofs.Common.{◌≡◌, ◌≢◌, ℕ, zero, suc, ◌+◌, ◌-◌, ◌*◌, ◌/◌, ◌%◌, ◌^◌, ◌<◌, ◌≤◌, Bool, true, false, not, ◌||◌, List, [], ◌∷◌, ◌++◌, length, map, Result, Ok, Err, refl, sym, ap, ◌∙◌, subst, arith, le-leb}
+use Rattle.std.specs.Prelude.{◌&&◌, ◌==◌, cond, nat_le, nat_lt, max, min, IfErr, IfOk}
 use Rattle.std.specs.Coded.{le_prop}
 use Rattle.std.specs.List.{list_any, AllByRecursion}
 use Rattle.std.proofs.lemmas.Bool.Decides.{nat_tests}
 use Rattle.sdt_word.specs.declared.ranges.Range32.{Range32}
+use Rattle.sdt_fault.specs.declared.answer.Fault.{Fault}
+use Rattle.sdt_fault.specs.declared.answer.Fault.TheVariants as fault
 use Rattle.sdt_fault.specs.declared.refusal.Refusal.{Refusal}
 use Rattle.sdt_fault.specs.declared.refusal.Refusal.TheVariants.{BankOverlap, NoRoom, TooLarge}
 use Rattle.arm7_bus.specs.declared.memory.Bank.{Bank}
@@ -21,8 +23,8 @@ use Rattle.run_opening.specs.declared.image.Image.{Image}
 use Rattle.run_opening.specs.declared.image.Load.{Load}
 use Rattle.run_opening.specs.declared.image.Need.{Need}
 use Rattle.run_opening.specs.Banks.{AreUsed, IsBank, IsDefect, IsRoomy, LacksFrames, banks_of, banks_share, frames_of, is_lacking, lacks, memory_bank, rom_bank, two_have}
-use Rattle.run_opening.specs.Fills.{EndsBelow, IsFilled, IsOpen, IsPrepared, IsUsable, after_loads, protected_all, ranges_of, with_banks}
-use Rattle.run_opening.specs.Openings.{IsNeeded, IsOpening, loaded}
+use Rattle.run_opening.specs.Fills.{EndsBelow, IsFilled, IsOpen, IsPrepared, IsUnprepared, IsUsable, LacksPages, after_loads, protected_all, ranges_of, with_banks}
+use Rattle.run_opening.specs.Openings.{AreNeeded, IsClosed, IsNeeded, IsOpening, loaded}
 
 -- ---- banks by their ranges alone
 
@@ -375,26 +377,36 @@ open_for ranges needs seats s banks p = record {
 
 -- ---- the bus that was filled
 
-pub filled : (banks : List Bank) (rom : List Range32) (image : Image) (seats : List Seat) (s t u : State) → IsPrepared banks image.needs seats s → t ≡ after_loads s image.loads
-    → u ≡ with_banks t (protected_all rom t.contents.banks) → IsFilled banks (protected_all rom banks) image seats u
-filled banks rom image seats s t u p e k =
-    let is : u ≡ with_banks (after_loads s image.loads) (protected_all rom s.contents.banks) = k ∙ ap (λ (x : State). with_banks x (protected_all rom x.contents.banks)) e in
-    record {
-      banks_are = ap (λ (x : State). x.contents.banks) is ∙ ap (protected_all rom) p.banks_are;
-      memory = ap (λ (x : State). x.contents.memory) is ∙ ap (λ (m : memory.Bytes). loaded m image.loads) (λ i a. p.memory a i);
-      used = subst (λ (x : State). AreUsed x.contents.used image.needs) (sym is) p.used;
-      room = subst (λ (x : State). used_count x.contents.used ≤ x.contents.frames) (sym is) p.room;
-      frames = ap (λ (x : State). x.contents.frames) is ∙ p.frames;
-      stores = ap (λ (x : State). x.contents.stores) is ∙ p.stores;
-      devices = ap (λ (x : State). x.devices) is ∙ p.devices;
-    }
+module _ (image : Image) (needs : List Need) (loads : List Load) (en : needs ≡ image.needs) (el : loads ≡ image.loads) where
+  pub ends_for : (bs : List Bank) → IsNowhere (is_lacking bs image.needs) → AllByRecursion EndsBelow needs
+  ends_for bs none = ends_below bs needs (subst (λ (ns : List Need). IsNowhere (is_lacking bs ns)) (sym en) none)
+
+  pub usable_for : (ranges : List Range32) (seats : List Seat) (s : State) → IsPrepared (map memory_bank ranges) needs seats s → IsNowhere (is_lacking (map memory_bank ranges) image.needs)
+      → AreNeeded image → AllByRecursion (λ (l : Load). IsUsable s.contents l.base (length l.bytes)) loads
+  usable_for ranges seats s p none needed =
+      subst (λ (ls : List Load). AllByRecursion (λ (l : Load). IsUsable s.contents l.base (length l.bytes)) ls) (sym el)
+      (usable ranges image.needs seats s image.loads (subst (λ (ns : List Need). IsPrepared (map memory_bank ranges) ns seats s) en p) none needed)
+
+  pub filled : (banks : List Bank) (rom : List Range32) (seats : List Seat) (s t u : State) → IsPrepared banks needs seats s → t ≡ after_loads s loads
+      → u ≡ with_banks t (protected_all rom t.contents.banks) → IsFilled banks (protected_all rom banks) image seats u
+  filled banks rom seats s t u p e k =
+      let is : u ≡ with_banks (after_loads s loads) (protected_all rom s.contents.banks) = k ∙ ap (λ (x : State). with_banks x (protected_all rom x.contents.banks)) e in
+      record {
+        banks_are = ap (λ (x : State). x.contents.banks) is ∙ ap (protected_all rom) p.banks_are;
+        memory = ap (λ (x : State). x.contents.memory) is ∙ ap (λ (m : memory.Bytes). loaded m loads) (λ i a. p.memory a i) ∙ ap (λ (ls : List Load). loaded (λ a. 0) ls) el;
+        used = subst (λ (ns : List Need). AreUsed u.contents.used ns) en (subst (λ (x : State). AreUsed x.contents.used needs) (sym is) p.used);
+        room = subst (λ (x : State). used_count x.contents.used ≤ x.contents.frames) (sym is) p.room;
+        frames = ap (λ (x : State). x.contents.frames) is ∙ p.frames;
+        stores = ap (λ (x : State). x.contents.stores) is ∙ p.stores;
+        devices = ap (λ (x : State). x.devices) is ∙ p.devices;
+      }
 
 -- ---- the opening
 
-module _ (memory rom : List Range32) (image : Image) (seats : List Seat) (s : State) (f : IsFilled (map memory_bank (ranges_of memory rom)) (protected_all rom (map memory_bank (ranges_of memory rom))) image seats s)
-    (mb : AllByRecursion IsBank memory) (rb : AllByRecursion IsBank rom) (two : IsNowhere (two_have (map memory_bank (ranges_of memory rom)) seats)) (room : IsNowhere (is_lacking (map memory_bank (ranges_of memory rom)) image.needs)) where
-  plain_is : map memory_bank (ranges_of memory rom) ≡ plain (banks_of memory rom)
-  plain_is = ap (λ (rs : List Range32). map memory_bank rs) (sym (of_ranges memory rom))
+module _ (memory rom rs : List Range32) (e : rs ≡ ranges_of memory rom) (image : Image) (seats : List Seat) (mb : AllByRecursion IsBank memory) (rb : AllByRecursion IsBank rom)
+    (two : IsNowhere (two_have (map memory_bank rs) seats)) (room : IsNowhere (is_lacking (map memory_bank rs) image.needs)) where
+  plain_is : map memory_bank rs ≡ plain (banks_of memory rom)
+  plain_is = ap (λ (xs : List Range32). map memory_bank xs) (e ∙ sym (of_ranges memory rom))
 
   two_is : IsNowhere (two_have (banks_of memory rom) seats)
   two_is = subst (λ (t : ℕ → Bool). IsNowhere t) (ap (λ (bs : List Bank). two_have bs seats) plain_is ∙ two_plain (banks_of memory rom) seats) two
@@ -412,34 +424,75 @@ module _ (memory rom : List Range32) (image : Image) (seats : List Seat) (s : St
   both_none a h = not_both (bank_has (banks_of memory rom) a 1) (seats_have seats a)
       (none_right (banks_share (banks_of memory rom) a || seats_share seats a) (bank_has (banks_of memory rom) a 1 && seats_have seats a) (two_is.none a)) h
 
-  frames_are : s.contents.frames ≡ frames_of (banks_of memory rom)
-  frames_are = f.frames ∙ ap (λ (bs : List Bank). frames_of bs) plain_is ∙ frames_plain (banks_of memory rom)
+  frames_are : (n : ℕ) → n ≡ frames_of (map memory_bank rs) → n ≡ frames_of (banks_of memory rom)
+  frames_are n f = f ∙ ap (λ (bs : List Bank). frames_of bs) plain_is ∙ frames_plain (banks_of memory rom)
 
-  banks_are : s.contents.banks ≡ banks_of memory rom
-  banks_are = f.banks_are ∙ protected_is memory rom mb shares_none
+  banks_are : (bs : List Bank) → bs ≡ protected_all rom (map memory_bank rs) → bs ≡ banks_of memory rom
+  banks_are bs f = f ∙ ap (λ (xs : List Range32). protected_all rom (map memory_bank xs)) e ∙ protected_is memory rom mb shares_none
 
-  pub opened : IsOpening (banks_of memory rom) image seats s
-  opened = record { banks_are = banks_are; memory = f.memory; used = f.used; frames = frames_are; stores = f.stores; devices = f.devices }
-
-  pub roomy : IsRoomy (banks_of memory rom) seats image.needs
-  roomy = record {
-    apart = two_is;
-    room = room_is;
-    frames = record { used = s.contents.used; are_used = f.used; enough = subst (λ (n : ℕ). used_count s.contents.used ≤ n) frames_are f.room };
+  pub opened : (s : State) → IsFilled (map memory_bank rs) (protected_all rom (map memory_bank rs)) image seats s → IsOpening (banks_of memory rom) image seats s
+  opened s f = record {
+    banks_are = banks_are s.contents.banks f.banks_are;
+    memory = f.memory;
+    used = f.used;
+    frames = frames_are s.contents.frames f.frames;
+    stores = f.stores;
+    devices = f.devices;
   }
 
-  pub ready : AreWholeSeats seats → IsReady s
-  ready whole = record {
+  pub roomy : (s : State) → IsFilled (map memory_bank rs) (protected_all rom (map memory_bank rs)) image seats s → IsRoomy (banks_of memory rom) seats image.needs
+  roomy s f = record {
+    apart = two_is;
+    room = room_is;
+    frames = record {
+      used = s.contents.used;
+      are_used = f.used;
+      enough = subst (λ (n : ℕ). used_count s.contents.used ≤ n) (frames_are s.contents.frames f.frames) f.room;
+    };
+  }
+
+  pub ready : AreWholeSeats seats → (s : State) → IsFilled (map memory_bank rs) (protected_all rom (map memory_bank rs)) image seats s → IsReady s
+  ready whole s f = record {
     laid_out = record {
-      banks = subst (λ (bs : List Bank). AreWholeBanks bs) (sym banks_are)
-          (whole_back (banks_of memory rom) (subst (λ (bs : List Bank). AreWholeBanks bs) plain_is (whole_plain (ranges_of memory rom) (are_banks memory rom mb rb))));
+      banks = subst (λ (bs : List Bank). AreWholeBanks bs) (sym (banks_are s.contents.banks f.banks_are))
+          (whole_back (banks_of memory rom) (subst (λ (bs : List Bank). AreWholeBanks bs) (ap (λ (xs : List Range32). map memory_bank xs) (sym (of_ranges memory rom))) (whole_plain (ranges_of memory rom) (are_banks memory rom mb rb))));
       devices = subst (λ (ds : List Seat). AreWholeSeats ds) (sym f.devices) whole;
-      apart = λ a h. ap (λ (bs : List Bank). bank_has bs a 1) banks_are ∙ both_none a (sym (ap (λ (ds : List Seat). seats_have ds a) f.devices) ∙ h);
+      apart = λ a h. ap (λ (bs : List Bank). bank_has bs a 1) (banks_are s.contents.banks f.banks_are) ∙ both_none a (sym (ap (λ (ds : List Seat). seats_have ds a) f.devices) ∙ h);
       alone = record { none = λ a. ap (λ (ds : List Seat). seats_share ds a) f.devices ∙ seats_none a };
     };
     started = f.used.pages;
     room = f.room;
   }
+
+  lacking_pages : (r : Refusal) → LacksPages (map memory_bank rs) image.needs r → IsDefect (banks_of memory rom) seats image.needs r
+  lacking_pages (TooLarge quantity limit) h =
+      (h.0, h.1, two_is, room_is, lacks_plain (banks_of memory rom) image.needs (subst (λ (bs : List Bank). LacksFrames bs image.needs) plain_is h.2))
+  lacking_pages other h = absurd h
+
+  pub unfilled : (f : Fault) → IsUnprepared (map memory_bank rs) image.needs f → IsClosed (banks_of memory rom) seats image f
+  unfilled (fault.Refused r) h = lacking_pages r h
+  unfilled (fault.ReadFault name) h = h
+  unfilled fault.NoMemory h = h
+
+placed : (memory rom rs : List Range32) (needs : List Need) (image : Image) (seats : List Seat) (r : Refusal) → rs ≡ ranges_of memory rom → needs ≡ image.needs
+    → IsDefect (map memory_bank rs) seats needs r → IsDefect (banks_of memory rom) seats image.needs r
+placed memory rom rs needs image seats r e en h =
+    defect_plain (banks_of memory rom) seats image.needs r
+    (subst (λ (bs : List Bank). IsDefect bs seats image.needs r) (ap (λ (xs : List Range32). map memory_bank xs) (e ∙ sym (of_ranges memory rom)))
+    (subst (λ (ns : List Need). IsDefect (map memory_bank rs) seats ns r) en h))
+
+pub misplaced : (memory rom rs : List Range32) (needs : List Need) (image : Image) (told seats : List Seat) (r : Refusal) → rs ≡ ranges_of memory rom → needs ≡ image.needs → told ≡ seats
+    → IsDefect (map memory_bank rs) told needs r → IsDefect (banks_of memory rom) seats image.needs r
+misplaced memory rom rs needs image told seats r e en es h =
+    subst (λ (ds : List Seat). IsDefect (banks_of memory rom) ds image.needs r) es (placed memory rom rs needs image told r e en h)
+
+pub if_ok : {A B : Type 0} {P Q : A → Type 0} (r : Result A B) → ((a : A) → P a → Q a) → IfOk r P → IfOk r Q
+if_ok (Ok a) f h = f a h
+if_ok (Err e) f h = tt
+
+pub if_err : {A B : Type 0} {P Q : B → Type 0} (r : Result A B) → ((e : B) → P e → Q e) → IfErr r P → IfErr r Q
+if_err (Ok a) f h = tt
+if_err (Err e) f h = f e h
 
 -- ---- the ranges of all banks
 
