@@ -1,5 +1,5 @@
 -- From the ranges of the banks to the banks, and from a bus that was filled to the opening of a run.
-use Rattle.std.proofs.Common.{◌≡◌, ◌≢◌, ℕ, zero, suc, ◌+◌, ◌-◌, ◌*◌, ◌/◌, ◌%◌, ◌^◌, ◌<◌, ◌≤◌, Bool, true, false, not, ◌||◌, List, [], ◌∷◌, ◌++◌, length, map, Result, Ok, Err, refl, sym, ap, ◌∙◌, subst, arith, le-leb}
+use Rattle.std.proofs.Common.{◌≡◌, ℕ, zero, suc, ◌+◌, ◌*◌, ◌/◌, ◌^◌, ◌<◌, ◌≤◌, Bool, true, false, not, ◌||◌, List, [], ◌∷◌, ◌++◌, length, map, Result, Ok, Err, refl, sym, ap, ◌∙◌, subst, arith, le-leb}
 use Rattle.std.specs.Prelude.{◌&&◌, ◌==◌, cond, nat_le, nat_lt, max, min, IfErr, IfOk}
 use Rattle.std.specs.Coded.{le_prop}
 use Rattle.std.specs.List.{list_any, AllByRecursion}
@@ -12,12 +12,12 @@ use Rattle.sdt_fault.specs.declared.refusal.Refusal.TheVariants.{BankOverlap, No
 use Rattle.arm7_bus.specs.declared.memory.Bank.{Bank}
 use Rattle.arm7_bus.specs.Meets.{IsLeast, IsNowhere, seats_have, seats_share}
 use Rattle.arm7_bus.specs.Seats.{Seat, has_access}
-use Rattle.arm7_bus.specs.Paging.{page_used_in, used_count}
+use Rattle.arm7_bus.specs.Paging.{used_count}
 use Rattle.arm7_bus.specs.Protection.{protected_bank}
 use Rattle.arm7_bus.specs.States.{State, bank_has, protected_at}
 use Rattle.arm7_bus.specs.WholeWords.{AreWholeBanks, AreWholeSeats}
 use Rattle.arm7_model.specs.Memory as memory
-use Rattle.arm7_transfers.specs.Ready.{IsLaidOut, IsReady}
+use Rattle.arm7_transfers.specs.Ready.{IsReady}
 use Rattle.arm7_bus.specs.Touches.{pages_touched, range_touches}
 use Rattle.run_opening.specs.declared.image.Image.{Image}
 use Rattle.run_opening.specs.declared.image.Load.{Load}
@@ -193,11 +193,10 @@ same_self q = both q.base q.size
 
 selves : (rs qs : List Range32) → ((q : Range32) → any_same qs q ≡ true → any_same rs q ≡ true) → AllByRecursion (λ (q : Range32). any_same rs q ≡ true) qs
 selves rs [] f = tt
-selves rs (q ∷ qs) f =
-    (
-      f q (or_left (q.base == q.base && q.size == q.size) (any_same qs q) (same_self q)),
-      selves rs qs (λ x e. f x (or_right (x.base == q.base && x.size == q.size) (any_same qs x) e)),
-    )
+selves rs (q ∷ qs) f = (
+  f q (or_left (q.base == q.base && q.size == q.size) (any_same qs q) (same_self q)),
+  selves rs qs (λ x e. f x (or_right (x.base == q.base && x.size == q.size) (any_same qs x) e)),
+)
 
 -- ---- memory that meets no read-only bank
 
@@ -224,11 +223,10 @@ has_behind (b ∷ bs) cs a e = or_right (has_access b.range.base b.range.size a 
 apart : (memory rom : List Range32) → AllByRecursion IsBank memory → ((a : ℕ) → banks_share (map memory_bank memory ++ map rom_bank rom) a ≡ false)
     → AllByRecursion (λ (m : Range32). any_same rom m ≡ false) memory
 apart [] rom banks none = tt
-apart (m ∷ ms) rom banks none =
-    (
-      go (any_same rom m) refl,
-      apart ms rom banks.1 (λ a. none_right (has_access m.base m.size a 1 && bank_has (map memory_bank ms ++ map rom_bank rom) a 1) (banks_share (map memory_bank ms ++ map rom_bank rom) a) (none a)),
-    )
+apart (m ∷ ms) rom banks none = (
+  go (any_same rom m) refl,
+  apart ms rom banks.1 (λ a. none_right (has_access m.base m.size a 1 && bank_has (map memory_bank ms ++ map rom_bank rom) a 1) (banks_share (map memory_bank ms ++ map rom_bank rom) a) (none a)),
+)
   where
     go : (t : Bool) → any_same rom m ≡ t → any_same rom m ≡ false
     go false e = e
@@ -284,6 +282,7 @@ lacks_base bs n lt = rw (above (n.base + n.size) (2 ^ 32) lt) (same n.base)
   where
     above : (a b : ℕ) → b < a → nat_le a b ≡ false
     above a b lt = grind (arith, nat_tests)
+
     same : (a : ℕ) → (a == a) ≡ true
     same a = grind (arith, nat_tests)
 
@@ -299,11 +298,10 @@ ends_of bs n none = go (nat_le (n.base + n.size) 4294967296) refl
 
 pub ends_below : (bs : List Bank) (needs : List Need) → IsNowhere (is_lacking bs needs) → AllByRecursion EndsBelow needs
 ends_below bs [] none = tt
-ends_below bs (n ∷ ns) none =
-    (
-      record { end = ends_of bs n (λ a. none_left (lacks bs n a) (is_lacking bs ns a) (none.none a)) },
-      ends_below bs ns (record { none = λ a. none_right (lacks bs n a) (is_lacking bs ns a) (none.none a) }),
-    )
+ends_below bs (n ∷ ns) none = (
+  record { end = ends_of bs n (λ a. none_left (lacks bs n a) (is_lacking bs ns a) (none.none a)) },
+  ends_below bs ns (record { none = λ a. none_right (lacks bs n a) (is_lacking bs ns a) (none.none a) }),
+)
 
 -- a byte of an access in a need is memory, in a page that the need touches, and it is below 2^32
 record IsIn (bs : List Bank) (needs : List Need) (a n x : ℕ) : Type 0 where
@@ -355,7 +353,7 @@ one_usable : (ranges : List Range32) (needs : List Need) (seats : List Seat) (s 
     → IsNeeded needs l → IsUsable s.contents l.base (length l.bytes)
 one_usable ranges needs seats s l p none needed =
     let at : (x : ℕ) → l.base ≤ x → x < l.base + length l.bytes → IsIn (map memory_bank ranges) needs l.base (length l.bytes) x =
-        λ x lo hi. is_in (map memory_bank ranges) needs l.base (length l.bytes) x (ends_below (map memory_bank ranges) needs none) (none.none x) (needed.within (omega (arith, lo, hi))) lo hi in
+    λ x lo hi. is_in (map memory_bank ranges) needs l.base (length l.bytes) x (ends_below (map memory_bank ranges) needs none) (none.none x) (needed.within (omega (arith, lo, hi))) lo hi in
     record {
       bank = λ x lo hi. ap (λ (bs : List Bank). bank_has bs x 1) p.banks_are ∙ (at x lo hi).bank;
       page = λ x lo hi. let i = at x lo hi in let b = i.below in p.used.each (x / 4096) (omega (arith, lo, hi, b)) ∙ i.page;

@@ -1,5 +1,5 @@
 -- Pages that are used for one need after another.
-use Rattle.std.proofs.Common.{◌≡◌, ℕ, zero, suc, ◌+◌, ◌-◌, ◌*◌, ◌/◌, ◌<◌, ◌≤◌, Bool, true, false, ◌||◌, List, [], ◌∷◌, ◌++◌, length, get_or, set, map, take, drop, Result, Ok, Err, refl, sym, ap, ◌∙◌, subst, arith}
+use Rattle.std.proofs.Common.{◌≡◌, ℕ, zero, suc, ◌+◌, ◌-◌, ◌*◌, ◌/◌, ◌<◌, ◌≤◌, Bool, true, false, ◌||◌, List, [], ◌∷◌, ◌++◌, length, get_or, map, take, drop, Result, Ok, Err, refl, sym, ap, ◌∙◌, subst, arith}
 use Rattle.std.specs.Prelude.{◌&&◌, nat_le, nat_lt, min, max, OnErr}
 use Rattle.std.specs.List.{list_any, AllByRecursion}
 use Rattle.std.proofs.lemmas.List.{get_or-set_same, get_or-set_other}
@@ -71,18 +71,23 @@ pages_next us first n p lt h = go (nat_lt p (first + n)) (nat_lt (first + n) p) 
   where
     other : (p ≡ first + n → ⊥) → get_or (claimed us first (suc n)) p false ≡ (get_or us p false || among first (suc n) p)
     other e = get_or-set_other (claimed us first n) (first + n) p true false e ∙ h ∙ ap (λ (x : Bool). get_or us p false || x) (sym (among_other first n p e))
+
     here : p ≡ first + n → get_or (claimed us first (suc n)) p false ≡ (get_or us p false || among first (suc n) p)
     here e =
         let len = claimed_length us first n in
         ap (λ (q : ℕ). get_or (claimed us first (suc n)) q false) e
         ∙ get_or-set_same (claimed us first n) (first + n) true false (omega arith)
         ∙ sym (ap (λ (x : Bool). get_or us p false || x) (among_last first n p e) ∙ or_true (get_or us p false))
+
     below : (a b : ℕ) → nat_lt a b ≡ true → a ≡ b → ⊥
     below a b e k = grind (arith, nat_tests)
+
     above : (a b : ℕ) → nat_lt b a ≡ true → a ≡ b → ⊥
     above a b e k = grind (arith, nat_tests)
+
     equal : (a b : ℕ) → nat_lt a b ≡ false → nat_lt b a ≡ false → a ≡ b
     equal a b e f = grind (arith, nat_tests)
+
     go : (x y : Bool) → nat_lt p (first + n) ≡ x → nat_lt (first + n) p ≡ y → get_or (claimed us first (suc n)) p false ≡ (get_or us p false || among first (suc n) p)
     go true y e f = other (below p (first + n) e)
     go false true e f = other (above p (first + n) f)

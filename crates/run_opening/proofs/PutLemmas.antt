@@ -1,6 +1,5 @@
 -- Bytes that are put into memory, an access at a time.
-use Rattle.std.proofs.Common.{◌≡◌, ℕ, zero, suc, ◌+◌, ◌-◌, ◌/◌, ◌%◌, ◌<◌, ◌≤◌, Bool, true, false, ◌||◌, List, [], ◌∷◌, ◌++◌, length, take, drop, get_or, Option, None, Some, refl, sym, ap, ◌∙◌, subst, arith, length-take-le, length-drop}
-use Rattle.std.specs.Prelude.{◌&&◌, nat_le}
+use Rattle.std.proofs.Common.{◌≡◌, ℕ, zero, suc, ◌+◌, ◌-◌, ◌/◌, ◌%◌, ◌<◌, ◌≤◌, Bool, true, false, ◌||◌, List, [], ◌∷◌, ◌++◌, length, take, drop, get_or, None, refl, sym, ap, ◌∙◌, subst, arith, length-take-le, length-drop}
 use Rattle.std.proofs.lemmas.Bool.Decides.{nat_tests}
 use Rattle.sdt_word.specs.declared.codes.Width.{Width}
 use Rattle.sdt_word.specs.declared.codes.Width.TheVariants.{Byte, Half, Word}
@@ -10,11 +9,10 @@ use Rattle.sdt_word.proofs.BytesLemmas.{bytes_of-number_of}
 use Rattle.arm7_model.specs.Memory.{store}
 use Rattle.arm7_model.proofs.MemoryLemmas.{any-from, store-append}
 use Rattle.arm7_bus.specs.declared.memory.Bank.{Bank}
-use Rattle.arm7_bus.specs.declared.memory.BusFault.{BusFault}
 use Rattle.arm7_bus.specs.Buses.{after_forget, after_write}
 use Rattle.arm7_bus.specs.Paging.{page_used_in}
 use Rattle.arm7_bus.specs.Seats.{has_access}
-use Rattle.arm7_bus.specs.States.{Contents, State, after_store, bank_has, is_protected, protected_at, store_fault, store_leaves}
+use Rattle.arm7_bus.specs.States.{Contents, State, after_store, bank_has, is_protected, protected_at, store_fault}
 use Rattle.arm7_bus.specs.WholeWords.{AreWholeBanks}
 use Rattle.arm7_transfers.proofs.ReadyLemmas.{set-used}
 use Rattle.run_opening.specs.Fills.{IsOpen, IsUsable, after_put}
@@ -80,11 +78,13 @@ word_bytes xs i v le small e =
     drop_small [] (suc i) k h = h k
     drop_small (x ∷ xs) zero k h = h k
     drop_small (x ∷ xs) (suc i) k h = drop_small xs i k (λ j. h (suc j))
+
     take_small : (xs : List ℕ) (n k : ℕ) → ((k : ℕ) → get_or xs k 0 < 256) → get_or (take n xs) k 0 < 256
     take_small xs zero k h = omega arith
     take_small [] (suc n) k h = h k
     take_small (x ∷ xs) (suc n) zero h = h 0
     take_small (x ∷ xs) (suc n) (suc k) h = take_small xs n k (λ j. h (suc j))
+
     part_small : (xs : List ℕ) (i n k : ℕ) → ((k : ℕ) → get_or xs k 0 < 256) → get_or (take n (drop i xs)) k 0 < 256
     part_small xs i n k h = take_small (drop i xs) n k (λ j. drop_small xs i j h)
 

@@ -1,5 +1,5 @@
 -- What each step of an opening makes of a bus. This project's.
-use Rattle.std.specs.Prelude.{◌≡◌, ℕ, ◌+◌, ◌/◌, ◌<◌, ◌≤◌, Bool, true, false, List, [], ◌∷◌, ◌++◌, length, map}
+use Rattle.std.specs.Prelude.{◌≡◌, ℕ, ◌+◌, ◌/◌, ◌<◌, ◌≤◌, Bool, true, false, List, [], ◌∷◌, ◌++◌, map}
 use Rattle.std.proofs.Common.{arith}
 use Rattle.sdt_word.specs.declared.ranges.Range32.{Range32}
 use Rattle.sdt_fault.specs.declared.answer.Fault.{Fault}
@@ -18,7 +18,7 @@ use Rattle.arm7_model.specs.Memory.{store}
 use Rattle.run_opening.specs.declared.image.Image.{Image}
 use Rattle.run_opening.specs.declared.image.Load.{Load}
 use Rattle.run_opening.specs.declared.image.Need.{Need}
-use Rattle.run_opening.specs.Banks.{AreUsed, LacksFrames, frames_of, memory_bank}
+use Rattle.run_opening.specs.Banks.{AreUsed, LacksFrames, frames_of}
 use Rattle.run_opening.specs.Openings.{loaded}
 
 -- ---- banks and pages

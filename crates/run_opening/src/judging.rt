@@ -80,7 +80,10 @@ fn shared_by_devices(devices: &[Box<dyn Device>]) -> Option<u32>
     let [first, rest @ ..] = devices else {
         return None;
     };
-    lesser(shared_with_devices(rest, range_of(first)), shared_by_devices(rest))
+    lesser(
+        shared_with_devices(rest, range_of(first)),
+        shared_by_devices(rest),
+    )
 }
 
 /// The least address that a bank shares with a device.
@@ -90,7 +93,10 @@ fn shared_by_both(banks: &[Range32], devices: &[Box<dyn Device>]) -> Option<u32>
     let [first, rest @ ..] = banks else {
         return None;
     };
-    lesser(shared_with_devices(devices, *first), shared_by_both(rest, devices))
+    lesser(
+        shared_with_devices(devices, *first),
+        shared_by_both(rest, devices),
+    )
 }
 
 /// The least address that two banks, two devices, or one of each have.

@@ -59,7 +59,13 @@ fn misplaced(ranges: &[Range32], devices: &[Box<dyn Device>], needs: &[Need]) ->
 }
 
 /// A bus of these devices with the banks of these ranges. None of them meets another, and all that is needed is memory.
-fn build(alloc: Global, devices: Vec<Box<dyn Device>>, ranges: &[Range32], rom: &[Range32], image: &Image) -> Result<Bus, Closed>
+fn build(
+    alloc: Global,
+    devices: Vec<Box<dyn Device>>,
+    ranges: &[Range32],
+    rom: &[Range32],
+    image: &Image,
+) -> Result<Bus, Closed>
     requires banks { AllByRecursion IsBank ranges.now }
     requires apart { IsNowhere (two_have (map memory_bank ranges.now) (seats_by base size state touched devices.items)) }
     requires room { IsNowhere (is_lacking (map memory_bank ranges.now) image.now.needs) }
@@ -86,7 +92,13 @@ fn build(alloc: Global, devices: Vec<Box<dyn Device>>, ranges: &[Range32], rom: 
 
 /// Banks of memory with the image's files in them: those of `memory`, and those of `rom`, which are read-only; where there
 /// is neither, 0x01000000 bytes from 0 on.
-pub fn open(alloc: Global, devices: Vec<Box<dyn Device>>, memory: &[Range32], rom: &[Range32], image: &Image) -> Result<Bus, Closed>
+pub fn open(
+    alloc: Global,
+    devices: Vec<Box<dyn Device>>,
+    memory: &[Range32],
+    rom: &[Range32],
+    image: &Image,
+) -> Result<Bus, Closed>
     requires memory { AllByRecursion IsBank memory.now }
     requires rom { AllByRecursion IsBank rom.now }
     requires needed { AreNeeded image.now }

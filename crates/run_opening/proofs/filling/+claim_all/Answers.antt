@@ -8,8 +8,7 @@ returns-in_err-claim-clause-err g t c =
 
 pub claim_all-requires : goal.claim_all-requires
 claim_all-requires g t c =
-    let first = get_or c.args.needs.now 0 (record { base = 0; size = 0 }) in
-    (
+    let first = get_or c.args.needs.now 0 (record { base = 0; size = 0 }) in (
       search rules,
       (
         still_started _ _ first.base first.size c.in_ok-claim.ensures.ok c.requires.started,

@@ -1,4 +1,3 @@
-use Rattle.std.proofs.Common.{refl}
 use Rattle.run_opening.proofs.PutLemmas.{put}
 use Rattle.run_opening.proofs.filling.put.Goals as goal
 

@@ -1,4 +1,4 @@
-use Rattle.std.proofs.Common.{arith, ap, ◌∙◌, refl}
+use Rattle.std.proofs.Common.{arith}
 use Rattle.run_opening.proofs.PutLemmas.{put_on}
 use Rattle.run_opening.proofs.filling.put_all.Goals as goal
 

@@ -1,6 +1,6 @@
-use Rattle.std.proofs.Common.{◌≡◌, sym, ◌∙◌, arith, map, rules}
+use Rattle.std.proofs.Common.{arith, map}
 use Rattle.run_opening.specs.Banks.{memory_bank}
-use Rattle.run_opening.proofs.RoomLemmas.{lack_above, lack_some, lack_none, walked}
+use Rattle.run_opening.proofs.RoomLemmas.{lack_some, lack_none, walked}
 use Rattle.run_opening.proofs.judging.first_lacking.Goals as goal
 
 pub banks-init : goal.banks-init

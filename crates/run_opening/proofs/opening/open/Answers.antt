@@ -1,4 +1,4 @@
-use Rattle.std.proofs.Common.{◌∙◌, ap, map, refl}
+use Rattle.std.proofs.Common.{◌∙◌, ap}
 use Rattle.arm7_bus.specs.Seats.{seats_by}
 use Rattle.run_opening.specs.contracts.opening.open.{dyn-1-ghosts}
 use Rattle.run_opening.proofs.OpeningLemmas.{if_ok, if_err, misplaced, opened, roomy, ready, unfilled}
