@@ -1,0 +1,4 @@
+pub mod OpeningLemmas
+pub mod PageLemmas
+pub mod PutLemmas
+pub mod RoomLemmas

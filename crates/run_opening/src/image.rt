@@ -1,0 +1,26 @@
+//! What a run begins with.
+
+use sdt_fault::{Bytes, List};
+
+/// A file's bytes, to be loaded from an address on.
+#[derive(Debug, Drop)]
+pub struct Load {
+    pub base: u32,
+    pub bytes: Bytes,
+}
+
+/// The `size` bytes from `base` on, which are to be memory. They may end above 2^32.
+#[derive(Clone, Copy, PartialEq, Eq, Debug)]
+pub struct Need {
+    pub base: u32,
+    pub size: u64,
+}
+
+/// The image of a run: its load files, the load and execution ranges with their zero parts, and the address at which
+/// the machine starts, a multiple of 4.
+#[derive(Debug, Drop)]
+pub struct Image {
+    pub loads: List<Load>,
+    pub needs: List<Need>,
+    pub start: u32,
+}
