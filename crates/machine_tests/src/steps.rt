@@ -1,17 +1,17 @@
 //! One instruction on this machine, and what it does on another one.
 
-ghost use Rattle.std.specs.Prelude.{◌≡◌, ◌≤◌, ◌+◌, ◌*◌, ◌%◌, ◌^◌, [], length, OnOk};
+ghost use Rattle.std.specs.Prelude.{◌≤◌, ◌^◌};
 ghost use Rattle.arm7_bus.specs.Buses.{IsStarted};
 ghost use Rattle.arm7_model.specs.Registers.{IsValid};
-ghost use Rattle.arm7_transfers.specs.Ready.{IsLaidOut, IsReady};
+ghost use Rattle.arm7_transfers.specs.Ready.{IsReady};
 ghost use Rattle.arm7_transfers.specs.Views.{state_of};
 
+use crate::board::{put, put_all, start};
 use crate::vectors::{ARM, SETS, THUMB};
 use arm7_bus::Bus;
 use arm7_core::Machine;
-use arm7_transfers::write;
 use sdt_outside::Device;
-use sdt_word::{Range32, Width};
+use sdt_word::Range32;
 use std::alloc::Global;
 use std::process::Abort;
 use std::test::*;
@@ -21,54 +21,10 @@ const SETUP: [u32; 4] = [0xE3A0_DA01, 0xE89D_03FF, 0xE128_F008, 0xE12F_FF19];
 
 const ZEROS: [u32; 16] = [0; 16];
 
-/// Gives a new bus memory from 0 to 0x2FFF.
-fn start(bus: &mut Bus) -> Result<(), &'static str>
-    requires laid_out { IsLaidOut (state_of base size state touched bus.old) }
-    requires unstarted { length (state_of base size state touched bus.old).contents.used ≡ 0 }
-    requires quiet { (state_of base size state touched bus.old).contents.stores ≡ [] }
-    ensures ready { OnOk result (IsReady (state_of base size state touched bus.new)) }
-    ensures quiet { OnOk result ((state_of base size state touched bus.new).contents.stores ≡ []) }
-{
-    let bank = Range32 {
-        base: 0,
-        size: 0x3000,
-    };
-    let Ok(()) = bus.add_bank(bank) else {
-        return Err("no bank");
-    };
-    let Ok(()) = bus.start_pages() else {
-        return Err("no pages");
-    };
-    Ok(())
-}
-
-/// Puts a word into memory.
-fn put(bus: &mut Bus, a: u32, word: u32)
-    requires ready { IsReady (state_of base size state touched bus.old) }
-    requires quiet { (state_of base size state touched bus.old).contents.stores ≡ [] }
-    requires aligned { a % 4 ≡ 0 }
-    ensures ready { IsReady (state_of base size state touched bus.new) }
-    ensures quiet { (state_of base size state touched bus.new).contents.stores ≡ [] }
-{
-    write(bus, a, Width::Word, word);
-    bus.forget_stores();
-}
-
-/// Puts words into memory.
-fn put_all(bus: &mut Bus, a: u32, words: &[u32])
-    requires ready { IsReady (state_of base size state touched bus.old) }
-    requires quiet { (state_of base size state touched bus.old).contents.stores ≡ [] }
-    requires aligned { a % 4 ≡ 0 }
-    requires within { a + 4 * length words.now ≤ 2 ^ 16 }
-    ensures ready { IsReady (state_of base size state touched bus.new) }
-    ensures quiet { (state_of base size state touched bus.new).contents.stores ≡ [] }
-{
-    let [first, rest @ ..] = words else {
-        return;
-    };
-    put(bus, a, *first);
-    put_all(bus, a + 4, rest)
-}
+const BANK: Range32 = Range32 {
+    base: 0,
+    size: 0x3000,
+};
 
 fn pattern() -> [u32; 16] {
     let mut words = [0; 16];
@@ -81,9 +37,7 @@ fn pattern() -> [u32; 16] {
 /// The setup and the instruction at 0x100, the set at 0x1000 and a pattern at 0x2000.
 fn prepare(bus: &mut Bus, word: u32, set: &[u32; 10], thumb: bool)
     requires ready { IsReady (state_of base size state touched bus.old) }
-    requires quiet { (state_of base size state touched bus.old).contents.stores ≡ [] }
     ensures ready { IsReady (state_of base size state touched bus.new) }
-    ensures quiet { (state_of base size state touched bus.new).contents.stores ≡ [] }
 {
     put_all(bus, 0x100, &SETUP);
     put(bus, if thumb { 0x110 } else { 0x10C }, word);
@@ -145,9 +99,7 @@ fn compare(rt: &impl Abort, machine: &Machine, total: u32, row: &[u32; 17]) {
 
 fn check(rt: &impl Abort, bus: &mut Bus, row: &[u32; 17], thumb: bool)
     requires ready { IsReady (state_of base size state touched bus.old) }
-    requires quiet { (state_of base size state touched bus.old).contents.stores ≡ [] }
     ensures ready { IsReady (state_of base size state touched bus.new) }
-    ensures quiet { (state_of base size state touched bus.new).contents.stores ≡ [] }
 {
     let set = &SETS[row[1] as usize % 3];
     prepare(bus, row[0], set, thumb);
@@ -160,12 +112,10 @@ fn check(rt: &impl Abort, bus: &mut Bus, row: &[u32; 17], thumb: bool)
     step_if(&mut machine, bus, row[2] == 2);
     let total = sum(bus, 0x2000, sum(bus, 0xFF0, 0));
     compare(rt, &machine, total, row);
-    bus.forget_stores();
 }
 
 fn check_all(rt: &impl Abort, bus: &mut Bus, rows: &[[u32; 17]], thumb: bool)
     requires ready { IsReady (state_of base size state touched bus.old) }
-    requires quiet { (state_of base size state touched bus.old).contents.stores ≡ [] }
 {
     let [row, rest @ ..] = rows else {
         return;
@@ -178,7 +128,7 @@ fn on_a_bus(rt: &impl Abort, alloc: Global, rows: &[[u32; 17]], thumb: bool) -> 
     let devices: Vec<Box<dyn Device>> = Vec::new(alloc);
     match Bus::new(alloc, devices) {
         Ok(mut bus) => {
-            start(&mut bus)?;
+            start(&mut bus, BANK)?;
             check_all(rt, &mut bus, rows, thumb);
             Ok(())
         }
