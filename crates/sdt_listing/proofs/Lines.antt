@@ -37,7 +37,7 @@ small names areas symbols a is h =
 
 are_short : (areas symbols : ℕ) (before after : List Area) → EachStands (λ b a. IsArea (area_names b) (head_of a)) before after → AllByRecursion (Holds areas symbols) after → AllByRecursion (λ a. length a.bytes < 2 ^ 32) after
 are_short areas symbols before [] e h = tt
-are_short areas symbols before (a ∷ as) e h = (small (area_names before) areas symbols a e.0 h.0, are_short areas symbols (before ++ a ∷ []) as e.1 h.1)
+are_short areas symbols before (a ∷ rest) e h = (small (area_names before) areas symbols a e.0 h.0, are_short areas symbols (before ++ a ∷ []) rest e.1 h.1)
 
 pub short_areas : (o : Object) → IsValid o → All (λ a. length a.bytes < 2 ^ 32) o.areas
-short_areas o v = All-from_recursion (are_short (length o.areas) (length o.symbols) [] o.areas v.areas v.contents)
+short_areas o v = All-from_recursion (λ a. length a.bytes < 2 ^ 32) o.areas (are_short (length o.areas) (length o.symbols) [] o.areas v.areas v.contents)
