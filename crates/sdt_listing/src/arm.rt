@@ -8,8 +8,12 @@ ghost use Rattle.sdt_listing.specs.ArmTexts as texts;
 ghost use Rattle.sdt_listing.specs.Parts as parts;
 ghost use Rattle.sdt_listing.specs.Readings.{arm_of};
 
+use crate::arm_names::{
+    block_mode, block_name, branch_name, half_suffix, is_comparison, is_move, long_name,
+    marks_flags, multiply_name, operation_name, sign, status_name, transfer_name, word_suffix,
+};
 use crate::parts::{
-    mark, push, push_address, push_hex, push_indexed, push_indexed_by, push_list, push_next,
+    Place, mark, push, push_address, push_hex, push_indexed, push_indexed_by, push_list, push_next,
     push_number, push_operation, push_plain, push_register, push_shifted, push_shifted_by, target,
 };
 use arm_isa::{ArmInstr, HalfKind, Operation, decode_arm};
@@ -17,45 +21,22 @@ use sdt_fault::{NoMemory, Text};
 use sdt_word::{Condition, ShiftKind, field, rotate};
 use std::alloc::Global;
 
-fn operation_name(operation: Operation) -> &'static [u8]
-    ensures { result.now ≡ texts.operation_name operation }
-{
-    match operation {
-        Operation::And => b"AND",
-        Operation::Eor => b"EOR",
-        Operation::Sub => b"SUB",
-        Operation::Rsb => b"RSB",
-        Operation::Add => b"ADD",
-        Operation::Adc => b"ADC",
-        Operation::Sbc => b"SBC",
-        Operation::Rsc => b"RSC",
-        Operation::Tst => b"TST",
-        Operation::Teq => b"TEQ",
-        Operation::Cmp => b"CMP",
-        Operation::Cmn => b"CMN",
-        Operation::Orr => b"ORR",
-        Operation::Mov => b"MOV",
-        Operation::Bic => b"BIC",
-        Operation::Mvn => b"MVN",
-    }
+// What data-processing instructions share.
+#[derive(Clone, Copy, PartialEq, Eq, Debug)]
+struct DataHead {
+    condition: Condition,
+    operation: Operation,
+    set_flags: bool,
+    rn: u8,
+    rd: u8,
 }
 
-fn is_comparison(operation: Operation) -> bool
-    ensures { result ≡ texts.is_comparison operation }
-{
-    match operation {
-        Operation::Tst | Operation::Teq | Operation::Cmp | Operation::Cmn => true,
-        _ => false,
-    }
-}
-
-fn is_move(operation: Operation) -> bool
-    ensures { result ≡ texts.is_move operation }
-{
-    match operation {
-        Operation::Mov | Operation::Mvn => true,
-        _ => false,
-    }
+// What transfers of one register share.
+#[derive(Clone, Copy, PartialEq, Eq, Debug)]
+struct TransferHead {
+    condition: Condition,
+    load: bool,
+    rd: u8,
 }
 
 #[tactic(auto, unfolding(crate::specs::ArmTexts::sources))]
@@ -78,28 +59,14 @@ fn push_sources(
     push_next(alloc, out, rn)
 }
 
-fn marks_flags(operation: Operation, set_flags: bool) -> bool
-    ensures { result ≡ texts.marks_flags operation set_flags }
-{
-    !is_comparison(operation) && set_flags
-}
-
 // A data-processing instruction up to its operand.
 #[tactic(auto, unfolding(crate::specs::ArmTexts::processing))]
-fn push_data(
-    alloc: Global,
-    out: &mut Vec<u8>,
-    condition: Condition,
-    operation: Operation,
-    set_flags: bool,
-    rn: u8,
-    rd: u8,
-) -> Result<(), NoMemory>
-    ensures { OnOk result (out.new.items ≡ out.old.items ++ texts.processing condition operation set_flags rn rd []) }
+fn push_data(alloc: Global, out: &mut Vec<u8>, head: DataHead) -> Result<(), NoMemory>
+    ensures { OnOk result (out.new.items ≡ out.old.items ++ texts.processing head.condition head.operation head.set_flags head.rn head.rd []) }
 {
-    let flags = mark(marks_flags(operation, set_flags), b"S");
-    push_operation(out, operation_name(operation), condition, flags)?;
-    push_sources(alloc, out, operation, rn, rd)?;
+    let flags = mark(marks_flags(head.operation, head.set_flags), b"S");
+    push_operation(out, operation_name(head.operation), head.condition, flags)?;
+    push_sources(alloc, out, head.operation, head.rn, head.rd)?;
     push(out, b",")
 }
 
@@ -125,7 +92,12 @@ fn push_multiply(
 ) -> Result<(), NoMemory>
     ensures { OnOk result (out.new.items ≡ out.old.items ++ texts.multiply condition accumulate set_flags rd rn rs rm) }
 {
-    push_operation(out, multiply_name(accumulate), condition, mark(set_flags, b"S"))?;
+    push_operation(
+        out,
+        multiply_name(accumulate),
+        condition,
+        mark(set_flags, b"S"),
+    )?;
     push_register(alloc, out, rd)?;
     push_next(alloc, out, rm)?;
     push_next(alloc, out, rs)?;
@@ -133,23 +105,6 @@ fn push_multiply(
         return push_next(alloc, out, rn);
     }
     Ok(())
-}
-
-fn multiply_name(accumulate: bool) -> &'static [u8]
-    ensures { result.now ≡ texts.multiply_name accumulate }
-{
-    if accumulate { b"MLA" } else { b"MUL" }
-}
-
-fn long_name(signed: bool, accumulate: bool) -> &'static [u8]
-    ensures { result.now ≡ texts.long_name signed accumulate }
-{
-    match (signed, accumulate) {
-        (true, true) => b"SMLAL",
-        (true, false) => b"SMULL",
-        (false, true) => b"UMLAL",
-        (false, false) => b"UMULL",
-    }
 }
 
 #[tactic(auto, unfolding(crate::specs::ArmTexts::multiply_long))]
@@ -167,7 +122,12 @@ fn push_multiply_long(
 ) -> Result<(), NoMemory>
     ensures { OnOk result (out.new.items ≡ out.old.items ++ texts.multiply_long condition signed accumulate set_flags high low rs rm) }
 {
-    push_operation(out, long_name(signed, accumulate), condition, mark(set_flags, b"S"))?;
+    push_operation(
+        out,
+        long_name(signed, accumulate),
+        condition,
+        mark(set_flags, b"S"),
+    )?;
     push_register(alloc, out, low)?;
     push_next(alloc, out, high)?;
     push_next(alloc, out, rm)?;
@@ -191,12 +151,6 @@ fn push_swap(
     push_next(alloc, out, rm)?;
     push(out, b",")?;
     push_plain(alloc, out, rn)
-}
-
-fn status_name(saved: bool) -> &'static [u8]
-    ensures { result.now ≡ texts.status_name saved }
-{
-    if saved { b"SPSR" } else { b"CPSR" }
 }
 
 #[tactic(auto, unfolding(crate::specs::ArmTexts::read_status))]
@@ -249,54 +203,19 @@ fn push_write_status(
     push(out, b",")
 }
 
-fn transfer_name(load: bool) -> &'static [u8]
-    ensures { result.now ≡ texts.transfer_name load }
-{
-    if load { b"LDR" } else { b"STR" }
-}
-
 // A transfer up to its address.
 #[tactic(auto, unfolding(crate::specs::ArmTexts::transfer))]
 fn push_transfer(
     alloc: Global,
     out: &mut Vec<u8>,
-    condition: Condition,
-    load: bool,
+    head: TransferHead,
     suffix: &[u8],
-    rd: u8,
 ) -> Result<(), NoMemory>
-    ensures { OnOk result (out.new.items ≡ out.old.items ++ texts.transfer condition load suffix.now rd []) }
+    ensures { OnOk result (out.new.items ≡ out.old.items ++ texts.transfer head.condition head.load suffix.now head.rd []) }
 {
-    push_operation(out, transfer_name(load), condition, suffix)?;
-    push_register(alloc, out, rd)?;
+    push_operation(out, transfer_name(head.load), head.condition, suffix)?;
+    push_register(alloc, out, head.rd)?;
     push(out, b",")
-}
-
-fn word_suffix(pre: bool, byte: bool, write_back: bool) -> &'static [u8]
-    ensures { result.now ≡ texts.word_suffix pre byte write_back }
-{
-    match (byte, !pre && write_back) {
-        (true, true) => b"BT",
-        (true, false) => b"B",
-        (false, true) => b"T",
-        (false, false) => b"",
-    }
-}
-
-fn half_suffix(kind: HalfKind) -> &'static [u8]
-    ensures { result.now ≡ texts.half_suffix kind }
-{
-    match kind {
-        HalfKind::Half => b"H",
-        HalfKind::SignedByte => b"SB",
-        HalfKind::SignedHalf => b"SH",
-    }
-}
-
-fn sign(up: bool) -> &'static [u8]
-    ensures { result.now ≡ texts.sign up }
-{
-    if up { b"" } else { b"-" }
 }
 
 // An address with a shifted register as its offset.
@@ -304,20 +223,17 @@ fn sign(up: bool) -> &'static [u8]
 fn push_shifted_place(
     alloc: Global,
     out: &mut Vec<u8>,
-    pre: bool,
-    up: bool,
-    write_back: bool,
-    rn: u8,
+    place: Place,
     amount: u8,
     shift: ShiftKind,
     rm: u8,
 ) -> Result<(), NoMemory>
-    ensures { OnOk result (out.new.items ≡ out.old.items ++ texts.shifted_place pre up write_back rn amount shift rm) }
+    ensures { OnOk result (out.new.items ≡ out.old.items ++ texts.shifted_place place.pre place.up place.write_back place.base amount shift rm) }
 {
     let mut by = Vec::new(alloc);
-    push(&mut by, sign(up))?;
+    push(&mut by, sign(place.up))?;
     push_shifted(alloc, &mut by, rm, shift, amount)?;
-    push_indexed(alloc, out, pre, write_back, rn, by.as_slice())
+    push_indexed(alloc, out, place, by.as_slice())
 }
 
 // The address of a half-word's transfer.
@@ -325,41 +241,21 @@ fn push_shifted_place(
 fn push_half_place(
     alloc: Global,
     out: &mut Vec<u8>,
-    pre: bool,
-    up: bool,
+    place: Place,
     immediate: bool,
-    write_back: bool,
-    rn: u8,
     high: u8,
     low: u8,
 ) -> Result<(), NoMemory>
-    ensures { OnOk result (out.new.items ≡ out.old.items ++ texts.half_place pre up immediate write_back rn high low) }
+    ensures { OnOk result (out.new.items ≡ out.old.items ++ texts.half_place place.pre place.up immediate place.write_back place.base high low) }
 {
     if immediate {
         let offset = 16 * u32::from(high) + u32::from(low);
-        return push_indexed_by(alloc, out, pre, up, write_back, rn, offset);
+        return push_indexed_by(alloc, out, place, offset);
     }
     let mut by = Vec::new(alloc);
-    push(&mut by, sign(up))?;
+    push(&mut by, sign(place.up))?;
     push_register(alloc, &mut by, low)?;
-    push_indexed(alloc, out, pre, write_back, rn, by.as_slice())
-}
-
-fn block_mode(pre: bool, up: bool) -> &'static [u8]
-    ensures { result.now ≡ texts.block_mode pre up }
-{
-    match (pre, up) {
-        (true, true) => b"IB",
-        (true, false) => b"DB",
-        (false, true) => b"IA",
-        (false, false) => b"DA",
-    }
-}
-
-fn block_name(load: bool) -> &'static [u8]
-    ensures { result.now ≡ texts.block_name load }
-{
-    if load { b"LDM" } else { b"STM" }
+    push_indexed(alloc, out, place, by.as_slice())
 }
 
 #[tactic(auto, unfolding(crate::specs::ArmTexts::block))]
@@ -367,28 +263,24 @@ fn push_block(
     alloc: Global,
     out: &mut Vec<u8>,
     condition: Condition,
-    pre: bool,
-    up: bool,
-    user: bool,
-    write_back: bool,
     load: bool,
-    rn: u8,
+    user: bool,
+    place: Place,
     list: u16,
 ) -> Result<(), NoMemory>
-    ensures { OnOk result (out.new.items ≡ out.old.items ++ texts.block condition pre up user write_back load rn list) }
+    ensures { OnOk result (out.new.items ≡ out.old.items ++ texts.block condition place.pre place.up user place.write_back load place.base list) }
 {
-    push_operation(out, block_name(load), condition, block_mode(pre, up))?;
-    push_register(alloc, out, rn)?;
-    push(out, mark(write_back, b"!"))?;
+    push_operation(
+        out,
+        block_name(load),
+        condition,
+        block_mode(place.pre, place.up),
+    )?;
+    push_register(alloc, out, place.base)?;
+    push(out, mark(place.write_back, b"!"))?;
     push(out, b",")?;
     push_list(alloc, out, list, 16)?;
     push(out, mark(user, b"^"))
-}
-
-fn branch_name(link: bool) -> &'static [u8]
-    ensures { result.now ≡ texts.branch_name link }
-{
-    if link { b"BL" } else { b"B" }
 }
 
 #[tactic(auto, unfolding(crate::specs::ArmTexts::branch))]
@@ -418,18 +310,14 @@ fn push_data_word(out: &mut Vec<u8>, w: u32) -> Result<(), NoMemory>
 fn push_data_immediate(
     alloc: Global,
     out: &mut Vec<u8>,
-    condition: Condition,
-    operation: Operation,
-    set_flags: bool,
-    rn: u8,
-    rd: u8,
+    head: DataHead,
     rotation: u8,
     byte: u8,
 ) -> Result<(), NoMemory>
     requires { rotation < 16 }
-    ensures { OnOk result (out.new.items ≡ out.old.items ++ texts.processing condition operation set_flags rn rd (parts.number (operand rotation byte))) }
+    ensures { OnOk result (out.new.items ≡ out.old.items ++ texts.processing head.condition head.operation head.set_flags head.rn head.rd (parts.number (operand rotation byte))) }
 {
-    push_data(alloc, out, condition, operation, set_flags, rn, rd)?;
+    push_data(alloc, out, head)?;
     push_operand(alloc, out, rotation, byte)
 }
 
@@ -437,18 +325,14 @@ fn push_data_immediate(
 fn push_data_shifted(
     alloc: Global,
     out: &mut Vec<u8>,
-    condition: Condition,
-    operation: Operation,
-    set_flags: bool,
-    rn: u8,
-    rd: u8,
+    head: DataHead,
     amount: u8,
     shift: ShiftKind,
     rm: u8,
 ) -> Result<(), NoMemory>
-    ensures { OnOk result (out.new.items ≡ out.old.items ++ texts.processing condition operation set_flags rn rd (parts.shifted rm shift amount)) }
+    ensures { OnOk result (out.new.items ≡ out.old.items ++ texts.processing head.condition head.operation head.set_flags head.rn head.rd (parts.shifted rm shift amount)) }
 {
-    push_data(alloc, out, condition, operation, set_flags, rn, rd)?;
+    push_data(alloc, out, head)?;
     push_shifted(alloc, out, rm, shift, amount)
 }
 
@@ -456,18 +340,14 @@ fn push_data_shifted(
 fn push_data_register_shifted(
     alloc: Global,
     out: &mut Vec<u8>,
-    condition: Condition,
-    operation: Operation,
-    set_flags: bool,
-    rn: u8,
-    rd: u8,
+    head: DataHead,
     rs: u8,
     shift: ShiftKind,
     rm: u8,
 ) -> Result<(), NoMemory>
-    ensures { OnOk result (out.new.items ≡ out.old.items ++ texts.processing condition operation set_flags rn rd (parts.shifted_by rm shift rs)) }
+    ensures { OnOk result (out.new.items ≡ out.old.items ++ texts.processing head.condition head.operation head.set_flags head.rn head.rd (parts.shifted_by rm shift rs)) }
 {
-    push_data(alloc, out, condition, operation, set_flags, rn, rd)?;
+    push_data(alloc, out, head)?;
     push_shifted_by(alloc, out, rm, shift, rs)
 }
 
@@ -507,64 +387,59 @@ fn push_write_status_immediate(
 fn push_transfer_immediate(
     alloc: Global,
     out: &mut Vec<u8>,
-    condition: Condition,
-    pre: bool,
-    up: bool,
+    head: TransferHead,
     byte: bool,
-    write_back: bool,
-    load: bool,
-    rn: u8,
-    rd: u8,
+    place: Place,
     offset: u16,
 ) -> Result<(), NoMemory>
-    ensures { OnOk result (out.new.items ≡ out.old.items ++ texts.transfer condition load (texts.word_suffix pre byte write_back) rd (parts.indexed_by pre up write_back rn offset)) }
+    ensures { OnOk result (out.new.items ≡ out.old.items ++ texts.transfer head.condition head.load (texts.word_suffix place.pre byte place.write_back) head.rd (parts.indexed_by place.pre place.up place.write_back place.base offset)) }
 {
-    push_transfer(alloc, out, condition, load, word_suffix(pre, byte, write_back), rd)?;
-    push_indexed_by(alloc, out, pre, up, write_back, rn, u32::from(offset))
+    push_transfer(
+        alloc,
+        out,
+        head,
+        word_suffix(place.pre, byte, place.write_back),
+    )?;
+    push_indexed_by(alloc, out, place, u32::from(offset))
 }
 
 #[tactic(auto, unfolding(crate::specs::ArmTexts::transfer))]
 fn push_transfer_shifted(
     alloc: Global,
     out: &mut Vec<u8>,
-    condition: Condition,
-    pre: bool,
-    up: bool,
+    head: TransferHead,
     byte: bool,
-    write_back: bool,
-    load: bool,
-    rn: u8,
-    rd: u8,
+    place: Place,
     amount: u8,
     shift: ShiftKind,
     rm: u8,
 ) -> Result<(), NoMemory>
-    ensures { OnOk result (out.new.items ≡ out.old.items ++ texts.transfer condition load (texts.word_suffix pre byte write_back) rd (texts.shifted_place pre up write_back rn amount shift rm)) }
+    ensures { OnOk result (out.new.items ≡ out.old.items ++ texts.transfer head.condition head.load (texts.word_suffix place.pre byte place.write_back) head.rd (texts.shifted_place place.pre place.up place.write_back place.base amount shift rm)) }
 {
-    push_transfer(alloc, out, condition, load, word_suffix(pre, byte, write_back), rd)?;
-    push_shifted_place(alloc, out, pre, up, write_back, rn, amount, shift, rm)
+    push_transfer(
+        alloc,
+        out,
+        head,
+        word_suffix(place.pre, byte, place.write_back),
+    )?;
+    push_shifted_place(alloc, out, place, amount, shift, rm)
 }
 
 #[tactic(auto, unfolding(crate::specs::ArmTexts::transfer))]
 fn push_transfer_half(
     alloc: Global,
     out: &mut Vec<u8>,
-    condition: Condition,
-    pre: bool,
-    up: bool,
-    immediate: bool,
-    write_back: bool,
-    load: bool,
-    rn: u8,
-    rd: u8,
-    high: u8,
+    head: TransferHead,
     kind: HalfKind,
+    place: Place,
+    immediate: bool,
+    high: u8,
     low: u8,
 ) -> Result<(), NoMemory>
-    ensures { OnOk result (out.new.items ≡ out.old.items ++ texts.transfer condition load (texts.half_suffix kind) rd (texts.half_place pre up immediate write_back rn high low)) }
+    ensures { OnOk result (out.new.items ≡ out.old.items ++ texts.transfer head.condition head.load (texts.half_suffix kind) head.rd (texts.half_place place.pre place.up immediate place.write_back place.base high low)) }
 {
-    push_transfer(alloc, out, condition, load, half_suffix(kind), rd)?;
-    push_half_place(alloc, out, pre, up, immediate, write_back, rn, high, low)
+    push_transfer(alloc, out, head, half_suffix(kind))?;
+    push_half_place(alloc, out, place, immediate, high, low)
 }
 
 fn push_exchange(
@@ -604,22 +479,240 @@ fn push_instruction(
     ensures { OnOk result (out.new.items ≡ out.old.items ++ texts.instruction_text at w instruction) }
 {
     match instruction {
-        ArmInstr::DataImmediate { condition, operation, set_flags, rn, rd, rotation, byte } => push_data_immediate(alloc, out, condition, operation, set_flags, rn, rd, rotation, byte),
-        ArmInstr::DataShifted { condition, operation, set_flags, rn, rd, amount, shift, rm } => push_data_shifted(alloc, out, condition, operation, set_flags, rn, rd, amount, shift, rm),
-        ArmInstr::DataRegisterShifted { condition, operation, set_flags, rn, rd, rs, shift, rm } => push_data_register_shifted(alloc, out, condition, operation, set_flags, rn, rd, rs, shift, rm),
-        ArmInstr::Multiply { condition, accumulate, set_flags, rd, rn, rs, rm } => push_multiply(alloc, out, condition, accumulate, set_flags, rd, rn, rs, rm),
-        ArmInstr::MultiplyLong { condition, signed, accumulate, set_flags, high, low, rs, rm } => push_multiply_long(alloc, out, condition, signed, accumulate, set_flags, high, low, rs, rm),
-        ArmInstr::Swap { condition, byte, rn, rd, rm } => push_swap(alloc, out, condition, byte, rn, rd, rm),
+        ArmInstr::DataImmediate {
+            condition,
+            operation,
+            set_flags,
+            rn,
+            rd,
+            rotation,
+            byte,
+        } => push_data_immediate(
+            alloc,
+            out,
+            DataHead {
+                condition,
+                operation,
+                set_flags,
+                rn,
+                rd,
+            },
+            rotation,
+            byte,
+        ),
+        ArmInstr::DataShifted {
+            condition,
+            operation,
+            set_flags,
+            rn,
+            rd,
+            amount,
+            shift,
+            rm,
+        } => push_data_shifted(
+            alloc,
+            out,
+            DataHead {
+                condition,
+                operation,
+                set_flags,
+                rn,
+                rd,
+            },
+            amount,
+            shift,
+            rm,
+        ),
+        ArmInstr::DataRegisterShifted {
+            condition,
+            operation,
+            set_flags,
+            rn,
+            rd,
+            rs,
+            shift,
+            rm,
+        } => push_data_register_shifted(
+            alloc,
+            out,
+            DataHead {
+                condition,
+                operation,
+                set_flags,
+                rn,
+                rd,
+            },
+            rs,
+            shift,
+            rm,
+        ),
+        ArmInstr::Multiply {
+            condition,
+            accumulate,
+            set_flags,
+            rd,
+            rn,
+            rs,
+            rm,
+        } => push_multiply(alloc, out, condition, accumulate, set_flags, rd, rn, rs, rm),
+        ArmInstr::MultiplyLong {
+            condition,
+            signed,
+            accumulate,
+            set_flags,
+            high,
+            low,
+            rs,
+            rm,
+        } => push_multiply_long(
+            alloc, out, condition, signed, accumulate, set_flags, high, low, rs, rm,
+        ),
+        ArmInstr::Swap {
+            condition,
+            byte,
+            rn,
+            rd,
+            rm,
+        } => push_swap(alloc, out, condition, byte, rn, rd, rm),
         ArmInstr::BranchExchange { condition, rm } => push_exchange(alloc, out, condition, rm),
-        ArmInstr::ReadStatus { condition, saved, rd } => push_read_status(alloc, out, condition, saved, rd),
-        ArmInstr::WriteStatus { condition, saved, fields, rm } => push_write_status_register(alloc, out, condition, saved, fields, rm),
-        ArmInstr::WriteStatusImmediate { condition, saved, fields, rotation, byte } => push_write_status_immediate(alloc, out, condition, saved, fields, rotation, byte),
-        ArmInstr::TransferImmediate { condition, pre, up, byte, write_back, load, rn, rd, offset } => push_transfer_immediate(alloc, out, condition, pre, up, byte, write_back, load, rn, rd, offset),
-        ArmInstr::TransferShifted { condition, pre, up, byte, write_back, load, rn, rd, amount, shift, rm } => push_transfer_shifted(alloc, out, condition, pre, up, byte, write_back, load, rn, rd, amount, shift, rm),
-        ArmInstr::TransferHalf { condition, pre, up, immediate, write_back, load, rn, rd, high, kind, low } => push_transfer_half(alloc, out, condition, pre, up, immediate, write_back, load, rn, rd, high, kind, low),
-        ArmInstr::TransferBlock { condition, pre, up, user, write_back, load, rn, list } => push_block(alloc, out, condition, pre, up, user, write_back, load, rn, list),
-        ArmInstr::Branch { condition, link, displacement } => push_branch(out, at, condition, link, displacement),
-        ArmInstr::SoftwareInterrupt { condition, number } => push_interrupt(alloc, out, condition, number),
+        ArmInstr::ReadStatus {
+            condition,
+            saved,
+            rd,
+        } => push_read_status(alloc, out, condition, saved, rd),
+        ArmInstr::WriteStatus {
+            condition,
+            saved,
+            fields,
+            rm,
+        } => push_write_status_register(alloc, out, condition, saved, fields, rm),
+        ArmInstr::WriteStatusImmediate {
+            condition,
+            saved,
+            fields,
+            rotation,
+            byte,
+        } => push_write_status_immediate(alloc, out, condition, saved, fields, rotation, byte),
+        ArmInstr::TransferImmediate {
+            condition,
+            pre,
+            up,
+            byte,
+            write_back,
+            load,
+            rn,
+            rd,
+            offset,
+        } => push_transfer_immediate(
+            alloc,
+            out,
+            TransferHead {
+                condition,
+                load,
+                rd,
+            },
+            byte,
+            Place {
+                pre,
+                up,
+                write_back,
+                base: rn,
+            },
+            offset,
+        ),
+        ArmInstr::TransferShifted {
+            condition,
+            pre,
+            up,
+            byte,
+            write_back,
+            load,
+            rn,
+            rd,
+            amount,
+            shift,
+            rm,
+        } => push_transfer_shifted(
+            alloc,
+            out,
+            TransferHead {
+                condition,
+                load,
+                rd,
+            },
+            byte,
+            Place {
+                pre,
+                up,
+                write_back,
+                base: rn,
+            },
+            amount,
+            shift,
+            rm,
+        ),
+        ArmInstr::TransferHalf {
+            condition,
+            pre,
+            up,
+            immediate,
+            write_back,
+            load,
+            rn,
+            rd,
+            high,
+            kind,
+            low,
+        } => push_transfer_half(
+            alloc,
+            out,
+            TransferHead {
+                condition,
+                load,
+                rd,
+            },
+            kind,
+            Place {
+                pre,
+                up,
+                write_back,
+                base: rn,
+            },
+            immediate,
+            high,
+            low,
+        ),
+        ArmInstr::TransferBlock {
+            condition,
+            pre,
+            up,
+            user,
+            write_back,
+            load,
+            rn,
+            list,
+        } => push_block(
+            alloc,
+            out,
+            condition,
+            load,
+            user,
+            Place {
+                pre,
+                up,
+                write_back,
+                base: rn,
+            },
+            list,
+        ),
+        ArmInstr::Branch {
+            condition,
+            link,
+            displacement,
+        } => push_branch(out, at, condition, link, displacement),
+        ArmInstr::SoftwareInterrupt { condition, number } => push_interrupt(
+            alloc, out, condition, number,
+        ),
         ArmInstr::Undefined { .. } => push_data_word(out, w),
     }
 }

@@ -2,6 +2,7 @@
 #![tactic(auto)]
 
 mod arm;
+mod arm_names;
 mod laws;
 mod listing;
 mod parts;

@@ -56,12 +56,7 @@ fn push_half_line(alloc: Global, out: &mut Vec<u8>, at: u32, h: u16) -> Result<(
 }
 
 #[tactic(auto, unfolding(crate::specs::Listings::data_line))]
-fn push_data_line(
-    alloc: Global,
-    out: &mut Vec<u8>,
-    at: u32,
-    bytes: &[u8],
-) -> Result<(), NoMemory>
+fn push_data_line(alloc: Global, out: &mut Vec<u8>, at: u32, bytes: &[u8]) -> Result<(), NoMemory>
     ensures { OnOk result (out.new.items ≡ out.old.items ++ listings.data_line at bytes.now) }
 {
     push_eight(out, at)?;

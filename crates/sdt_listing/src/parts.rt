@@ -9,6 +9,16 @@ use sdt_fault::digits::{push_decimal, push_hexadecimal_places};
 use sdt_word::{Condition, ShiftKind, field, sign_extend};
 use std::alloc::Global;
 
+/// Where a transfer reaches: before or after an offset is added to the base or taken away, which may be
+/// written back.
+#[derive(Clone, Copy, PartialEq, Eq, Debug)]
+pub struct Place {
+    pub pre: bool,
+    pub up: bool,
+    pub write_back: bool,
+    pub base: u8,
+}
+
 /// Appends a piece.
 pub fn push(out: &mut Vec<u8>, piece: &[u8]) -> Result<(), NoMemory>
     ensures { OnOk result (out.new.items ≡ out.old.items ++ piece.now) }
@@ -213,22 +223,20 @@ pub fn push_plain(alloc: Global, out: &mut Vec<u8>, n: u8) -> Result<(), NoMemor
 pub fn push_indexed(
     alloc: Global,
     out: &mut Vec<u8>,
-    pre: bool,
-    write_back: bool,
-    n: u8,
+    place: Place,
     by: &[u8],
 ) -> Result<(), NoMemory>
-    ensures { OnOk result (out.new.items ≡ out.old.items ++ parts.indexed pre write_back n by.now) }
+    ensures { OnOk result (out.new.items ≡ out.old.items ++ parts.indexed place.pre place.write_back place.base by.now) }
 {
-    if pre {
+    if place.pre {
         push(out, b"[")?;
-        push_register(alloc, out, n)?;
+        push_register(alloc, out, place.base)?;
         push(out, b",")?;
         push(out, by)?;
         push(out, b"]")?;
-        return push(out, mark(write_back, b"!"));
+        return push(out, mark(place.write_back, b"!"));
     }
-    push_plain(alloc, out, n)?;
+    push_plain(alloc, out, place.base)?;
     push(out, b",")?;
     push(out, by)
 }
@@ -238,26 +246,23 @@ pub fn push_indexed(
 pub fn push_indexed_by(
     alloc: Global,
     out: &mut Vec<u8>,
-    pre: bool,
-    up: bool,
-    write_back: bool,
-    n: u8,
+    place: Place,
     v: u32,
 ) -> Result<(), NoMemory>
-    ensures { OnOk result (out.new.items ≡ out.old.items ++ parts.indexed_by pre up write_back n v) }
+    ensures { OnOk result (out.new.items ≡ out.old.items ++ parts.indexed_by place.pre place.up place.write_back place.base v) }
 {
-    if is_left_out(pre, up, write_back, v) {
-        return push_plain(alloc, out, n);
+    if is_left_out(place, v) {
+        return push_plain(alloc, out, place.base);
     }
     let mut by = Vec::new(alloc);
-    push_offset(alloc, &mut by, up, v)?;
-    push_indexed(alloc, out, pre, write_back, n, by.as_slice())
+    push_offset(alloc, &mut by, place.up, v)?;
+    push_indexed(alloc, out, place, by.as_slice())
 }
 
-fn is_left_out(pre: bool, up: bool, write_back: bool, v: u32) -> bool
-    ensures { result ≡ parts.is_left_out pre up write_back v }
+fn is_left_out(place: Place, v: u32) -> bool
+    ensures { result ≡ parts.is_left_out place.pre place.up place.write_back v }
 {
-    pre && up && !write_back && v == 0
+    place.pre && place.up && !place.write_back && v == 0
 }
 
 // Whether a list has a register.

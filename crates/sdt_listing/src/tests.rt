@@ -157,9 +157,7 @@ end
 
 #[test]
 fn object_listing(rt: HostRuntime) -> Result<(), Fail> {
-    let object = read_object(rt.alloc(), &TWO_WORDS)
-        .ok()
-        .ok_or("an object")?;
+    let object = read_object(rt.alloc(), &TWO_WORDS).ok().ok_or("an object")?;
     let text = list_object(rt.alloc(), &object).ok().ok_or("memory")?;
     assert_eq!(rt; text.as_slice(), TWO_WORDS_LISTED.as_bytes());
     Ok(())

@@ -1,6 +1,6 @@
 //! The text of a half-word of Thumb code.
 
-ghost use Rattle.std.specs.Prelude.{◌≡◌, ◌+◌, ◌*◌, ◌<◌, ◌++◌, [], OnOk, IfOk, IfSome, codes};
+ghost use Rattle.std.specs.Prelude.{◌≡◌, ◌+◌, ◌*◌, ◌<◌, ◌++◌, [], OnOk, IfOk, IfSome, codes, true, false};
 ghost use Rattle.thumb_isa.specs.ThumbRows.{IsUnread, ReadsThumb};
 ghost use Rattle.thumb_isa.specs.declared.instr.ThumbInstr.{ThumbInstr};
 ghost use Rattle.sdt_word.specs.Numbers.{registers};
@@ -9,16 +9,16 @@ ghost use Rattle.sdt_listing.specs.Readings.{thumb_of};
 ghost use Rattle.sdt_listing.specs.ThumbTexts as texts;
 
 use crate::parts::{
-    mark, push, push_address, push_braced, push_four, push_hex, push_indexed, push_indexed_by,
+    Place, push, push_address, push_braced, push_four, push_hex, push_indexed, push_indexed_by,
     push_list, push_named, push_next, push_number, push_operation, push_register, target,
 };
 use sdt_fault::{NoMemory, Text};
 use sdt_word::Condition;
 use std::alloc::Global;
+use thumb_isa::decode_thumb;
 use thumb_isa::instr::{
     HighOperation, ImmediateOperation, SignedTransfer, ThumbInstr, ThumbOperation, ThumbShift,
 };
-use thumb_isa::decode_thumb;
 
 fn shift_name(shift: ThumbShift) -> &'static [u8]
     ensures { result.now ≡ texts.shift_name shift }
@@ -171,6 +171,21 @@ fn base(stack: bool) -> u8
     if stack { 13 } else { 15 }
 }
 
+// A place above a register.
+fn above(base: u8) -> Place
+    ensures pre { result.pre ≡ true }
+    ensures up { result.up ≡ true }
+    ensures write_back { result.write_back ≡ false }
+    ensures base { result.base ≡ base }
+{
+    Place {
+        pre: true,
+        up: true,
+        write_back: false,
+        base,
+    }
+}
+
 // An operation and a space.
 fn push_said(out: &mut Vec<u8>, operation: &[u8]) -> Result<(), NoMemory>
     ensures { OnOk result (out.new.items ≡ out.old.items ++ texts.said operation.now []) }
@@ -301,7 +316,7 @@ fn push_above(
     ensures { OnOk result (out.new.items ≡ out.old.items ++ texts.on operation.now rd (texts.above rn offset)) }
 {
     push_on(alloc, out, operation, rd)?;
-    push_indexed_by(alloc, out, true, true, false, rn, offset)
+    push_indexed_by(alloc, out, above(rn), offset)
 }
 
 // A transfer at a register above another.
@@ -319,7 +334,7 @@ fn push_above_by(
     push_on(alloc, out, operation, rd)?;
     let mut by = Vec::new(alloc);
     push_register(alloc, &mut by, ro)?;
-    push_indexed(alloc, out, true, false, rn, by.as_slice())
+    push_indexed(alloc, out, above(rn), by.as_slice())
 }
 
 #[tactic(auto, unfolding(crate::specs::ThumbTexts::on))]
@@ -455,7 +470,13 @@ fn push_instruction(
             operation,
             rd,
             immediate,
-        } => push_on_number(alloc, out, immediate_name(operation), rd, u32::from(immediate)),
+        } => push_on_number(
+            alloc,
+            out,
+            immediate_name(operation),
+            rd,
+            u32::from(immediate),
+        ),
         ThumbInstr::DataRegister { operation, rs, rd } => push_on_register(
             alloc,
             out,
@@ -499,7 +520,14 @@ fn push_instruction(
             offset,
             rn,
             rd,
-        } => push_above(alloc, out, byte_name(load, byte), rd, rn, scaled(byte, offset)),
+        } => push_above(
+            alloc,
+            out,
+            byte_name(load, byte),
+            rd,
+            rn,
+            scaled(byte, offset),
+        ),
         ThumbInstr::TransferHalf {
             load,
             offset,
@@ -531,17 +559,10 @@ fn push_instruction(
         ),
         ThumbInstr::PushPop { load, link, list } => push_stack(alloc, out, load, link, list),
         ThumbInstr::TransferMultiple { load, rn, list } => push_multiple(
-            alloc,
-            out,
-            load,
-            rn,
-            list,
+            alloc, out, load, rn, list,
         ),
         ThumbInstr::BranchConditional { condition, offset } => push_conditional(
-            out,
-            at,
-            condition,
-            offset,
+            out, at, condition, offset,
         ),
         ThumbInstr::SoftwareInterrupt { number } => push_said_hex(
             alloc,
