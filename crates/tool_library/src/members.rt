@@ -16,8 +16,8 @@ use sdt_fault::{Bytes, List, NoMemory, Text};
 use std::alloc::Global;
 use tool_answers::named;
 
-// A reader's fault, with the name of the file.
-fn named_fault(alloc: Global, name: &Text, fault: Fault) -> Fault
+/// A reader's fault, with the name of the file.
+pub fn named_fault(alloc: Global, name: &Text, fault: Fault) -> Fault
     ensures { libraries.NamesFault name.now fault result }
 {
     match fault {

@@ -1,7 +1,7 @@
 -- The words behind a command, as items: names, and options with their values. This project's.
 use Rattle.std.specs.Prelude.{ℕ, zero, suc, ◌+◌, ◌-◌, ◌==◌, nat_lt, Bool, true, false, if◌then◌else◌, List, [], ◌∷◌, ◌++◌, length, slice_get, unwrap_or, min, Option, Some, None, codes, bytes_eq}
 use Rattle.tool_words.specs.declared.items.Verb.{Verb}
-use Rattle.tool_words.specs.declared.items.Verb.TheVariants.{Library, Run}
+use Rattle.tool_words.specs.declared.items.Verb.TheVariants.{Library, List as Listing, Run}
 use Rattle.tool_words.specs.declared.items.Flag.{Flag}
 use Rattle.tool_words.specs.declared.items.Flag.TheVariants.{Create, Table, Extract, Output, Map, Bin, At, Memory, Rom, Steps}
 use Rattle.tool_words.specs.declared.items.Role.{Role}
@@ -16,7 +16,8 @@ word_at words n = unwrap_or (slice_get words n) []
 abbrev pub verb_named : List ℕ → Option Verb
 verb_named word =
     if bytes_eq word (codes "lib") then Some Library else (
-    if bytes_eq word (codes "run") then Some Run else None)
+    if bytes_eq word (codes "list") then Some Listing else (
+    if bytes_eq word (codes "run") then Some Run else None))
 
 -- the option of a spelling
 abbrev pub flag_named : List ℕ → Option Flag
@@ -39,6 +40,7 @@ has_flag Library Table = true
 has_flag Library Extract = true
 has_flag Library Output = true
 has_flag Library other = false
+has_flag Listing flag = false
 has_flag Run Map = true
 has_flag Run Bin = true
 has_flag Run At = true

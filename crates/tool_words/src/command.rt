@@ -54,6 +54,10 @@ pub enum Command {
         member: Text,
         output: Text,
     },
+    /// Prints the listing of an object or a library.
+    List {
+        file: Text,
+    },
     Run(RunWords),
 }
 
@@ -340,6 +344,10 @@ fn verb_command(
     let mode = mode_of(items);
     match verb {
         Verb::Library => library_command(alloc, mode, words, items),
+        Verb::List => {
+            let file = first_name(alloc, words, items)?;
+            Ok(Command::List { file })
+        }
         Verb::Run => run_words(alloc, mode, words, items),
     }
 }

@@ -11,6 +11,8 @@ use std::alloc::Global;
 pub enum Verb {
     /// `lib`
     Library,
+    /// `list`
+    List,
     /// `run`
     Run,
 }
@@ -73,6 +75,9 @@ pub fn verb_named(word: &[u8]) -> Option<Verb>
     if is(word, b"lib") {
         return Some(Verb::Library);
     }
+    if is(word, b"list") {
+        return Some(Verb::List);
+    }
     if is(word, b"run") {
         return Some(Verb::Run);
     }
@@ -123,6 +128,7 @@ fn has_flag(verb: Verb, flag: Flag) -> bool
             flag,
             Flag::Create | Flag::Table | Flag::Extract | Flag::Output
         ),
+        Verb::List => false,
         Verb::Run => !matches!(
             flag,
             Flag::Create | Flag::Table | Flag::Extract | Flag::Output

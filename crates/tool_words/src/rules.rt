@@ -249,6 +249,7 @@ fn most_names(verb: Verb, mode: Option<Flag>) -> Option<usize>
         (Verb::Library, Some(Flag::Table)) => Some(0),
         (Verb::Library, Some(Flag::Extract)) => Some(1),
         (Verb::Library, _) => None,
+        (Verb::List, _) => Some(1),
         (Verb::Run, _) => Some(0),
     }
 }
@@ -322,11 +323,12 @@ ghost use Rattle.std.specs.Prelude.{nat_lt};
 pub fn is_complete(verb: Verb, mode: Option<Flag>, items: &[Item]) -> bool
     ensures { result ≡ rules.is_complete verb mode items.now }
 {
-    match mode {
-        None => false,
-        Some(Flag::Create) => has_name(items),
-        Some(Flag::Extract) => has_name(items) && has(Flag::Output, items),
-        Some(Flag::Bin) => has(Flag::At, items),
-        Some(_) => true,
+    match (verb, mode) {
+        (Verb::List, _) => has_name(items),
+        (_, None) => false,
+        (_, Some(Flag::Create)) => has_name(items),
+        (_, Some(Flag::Extract)) => has_name(items) && has(Flag::Output, items),
+        (_, Some(Flag::Bin)) => has(Flag::At, items),
+        (_, Some(_)) => true,
     }
 }

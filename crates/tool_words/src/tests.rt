@@ -22,7 +22,7 @@ fn place(rt: &HostRuntime, words: &[&str]) -> Result<u32, Fail> {
 
 #[test]
 fn places(rt: HostRuntime) -> Result<(), Fail> {
-    let cases: [(&[&str], u32); 32] = [
+    let cases: [(&[&str], u32); 37] = [
         (&[], 1),
         (&["lob", "-t", "p"], 1),
         (&["lib"], 2),
@@ -40,6 +40,11 @@ fn places(rt: HostRuntime) -> Result<(), Fail> {
         (&["lib", "-o", "a", "-c", "p.alf", "a.o"], 2),
         (&["lib", "-c", "p", "-t", "q", "a.o"], 4),
         (&["lib", "-x", "-c", "p", "a.o"], 2),
+        (&["list"], 2),
+        (&["list", "a.o"], 0),
+        (&["list", "a.o", "b.o"], 3),
+        (&["list", "-o", "a.o"], 2),
+        (&["list", "a\0"], 2),
         (&["run"], 2),
         (&["run", "-bin", "t.bin"], 4),
         (&["run", "-at", "0x8000", "-bin", "t.bin"], 0),

@@ -1,0 +1,298 @@
+//! The listing of an object and of a library.
+
+ghost use Rattle.std.specs.Prelude.{◌≡◌, ◌<◌, ◌+◌, ◌*◌, ◌/◌, ◌^◌, ◌++◌, ◌∷◌, [], All, length, take, drop, OnOk, IfOk};
+ghost use Rattle.std.specs.List.{flat_map};
+ghost use Rattle.sdt_word.specs.Bytes.{half_in, word_in};
+ghost use Rattle.aof_object.specs.Validity.{IsValid};
+ghost use Rattle.sdt_listing.specs.Listings as listings;
+ghost use Rattle.sdt_listing.specs.Parts as parts;
+
+use crate::arm::push_word;
+use crate::parts::{push, push_eight, push_four};
+use crate::thumb::push_half;
+use alf_archive::{Archive, Member};
+use aof_object::{Area, Entry, Object, Reloc, Symbol};
+use sdt_fault::digits::push_decimal;
+use sdt_fault::{NoMemory, Text};
+use sdt_word::{field, half_at, word_at};
+use std::alloc::Global;
+
+// The field behind a space.
+fn push_field(out: &mut Vec<u8>, field: &[u8]) -> Result<(), NoMemory>
+    ensures { OnOk result (out.new.items ≡ out.old.items ++ (32 ∷ field.now)) }
+{
+    push(out, b" ")?;
+    push(out, field)
+}
+
+fn push_eight_field(out: &mut Vec<u8>, number: u32) -> Result<(), NoMemory>
+    ensures { OnOk result (out.new.items ≡ out.old.items ++ (32 ∷ parts.eight number)) }
+{
+    push(out, b" ")?;
+    push_eight(out, number)
+}
+
+#[tactic(auto, unfolding(crate::specs::Listings::word_line))]
+fn push_word_line(alloc: Global, out: &mut Vec<u8>, at: u32, w: u32) -> Result<(), NoMemory>
+    ensures { OnOk result (out.new.items ≡ out.old.items ++ listings.word_line at w) }
+{
+    push_eight(out, at)?;
+    push_eight_field(out, w)?;
+    push(out, b" ")?;
+    push_word(alloc, out, at, w)?;
+    push(out, b"\n")
+}
+
+#[tactic(auto, unfolding(crate::specs::Listings::half_line))]
+fn push_half_line(alloc: Global, out: &mut Vec<u8>, at: u32, h: u16) -> Result<(), NoMemory>
+    ensures { OnOk result (out.new.items ≡ out.old.items ++ listings.half_line at h) }
+{
+    push_eight(out, at)?;
+    push(out, b" ")?;
+    push_four(out, h)?;
+    push(out, b" ")?;
+    push_half(alloc, out, at, h)?;
+    push(out, b"\n")
+}
+
+#[tactic(auto, unfolding(crate::specs::Listings::data_line))]
+fn push_data_line(alloc: Global, out: &mut Vec<u8>, at: u32, bytes: &[u8]) -> Result<(), NoMemory>
+    ensures { OnOk result (out.new.items ≡ out.old.items ++ listings.data_line at bytes.now) }
+{
+    push_eight(out, at)?;
+    push_field(out, hex::encode(alloc, bytes)?.as_bytes())?;
+    push(out, b"\n")
+}
+
+fn push_word_of(alloc: Global, out: &mut Vec<u8>, bytes: &[u8], k: usize) -> Result<(), NoMemory>
+    requires bounded { length bytes.now < 2 ^ 32 }
+    requires within { k < length bytes.now / 4 }
+    ensures { OnOk result (out.new.items ≡ out.old.items ++ listings.word_line (4 * k) (word_in bytes.now (4 * k))) }
+{
+    push_word_line(alloc, out, (4 * k) as u32, word_at(bytes, 4 * k))
+}
+
+fn push_word_lines(alloc: Global, out: &mut Vec<u8>, bytes: &[u8]) -> Result<(), NoMemory>
+    requires { length bytes.now < 2 ^ 32 }
+    ensures { OnOk result (out.new.items ≡ out.old.items ++ listings.word_lines bytes.now (listings.from 0 (length bytes.now / 4))) }
+{
+    for k in 0..bytes.len() / 4 {
+        push_word_of(alloc, out, bytes, k)?;
+    }
+    Ok(())
+}
+
+fn push_half_of(alloc: Global, out: &mut Vec<u8>, bytes: &[u8], k: usize) -> Result<(), NoMemory>
+    requires bounded { length bytes.now < 2 ^ 32 }
+    requires within { k < length bytes.now / 2 }
+    ensures { OnOk result (out.new.items ≡ out.old.items ++ listings.half_line (2 * k) (half_in bytes.now (2 * k))) }
+{
+    push_half_line(alloc, out, (2 * k) as u32, half_at(bytes, 2 * k))
+}
+
+fn push_half_lines(alloc: Global, out: &mut Vec<u8>, bytes: &[u8]) -> Result<(), NoMemory>
+    requires { length bytes.now < 2 ^ 32 }
+    ensures { OnOk result (out.new.items ≡ out.old.items ++ listings.half_lines bytes.now (listings.from 0 (length bytes.now / 2))) }
+{
+    for k in 0..bytes.len() / 2 {
+        push_half_of(alloc, out, bytes, k)?;
+    }
+    Ok(())
+}
+
+// At most sixteen bytes from a place on.
+fn piece(bytes: &[u8], at: usize) -> &[u8]
+    requires { at < length bytes.now }
+    ensures { result.now ≡ take 16 (drop at bytes.now) }
+{
+    let rest = &bytes[at..];
+    let size = rest.len().min(16);
+    &rest[..size]
+}
+
+fn push_data_of(alloc: Global, out: &mut Vec<u8>, bytes: &[u8], k: usize) -> Result<(), NoMemory>
+    requires bounded { length bytes.now < 2 ^ 32 }
+    requires within { k < (length bytes.now + 15) / 16 }
+    ensures { OnOk result (out.new.items ≡ out.old.items ++ listings.data_line (16 * k) (take 16 (drop (16 * k) bytes.now))) }
+{
+    push_data_line(alloc, out, (16 * k) as u32, piece(bytes, 16 * k))
+}
+
+fn push_data_lines(alloc: Global, out: &mut Vec<u8>, bytes: &[u8]) -> Result<(), NoMemory>
+    requires { length bytes.now < 2 ^ 32 }
+    ensures { OnOk result (out.new.items ≡ out.old.items ++ listings.data_lines bytes.now (listings.from 0 ((length bytes.now + 15) / 16))) }
+{
+    for k in 0..bytes.len().div_ceil(16) {
+        push_data_of(alloc, out, bytes, k)?;
+    }
+    Ok(())
+}
+
+#[tactic(auto, unfolding(crate::specs::Listings::contents))]
+fn push_contents(
+    alloc: Global,
+    out: &mut Vec<u8>,
+    attributes: u32,
+    bytes: &[u8],
+) -> Result<(), NoMemory>
+    requires { length bytes.now < 2 ^ 32 }
+    ensures { OnOk result (out.new.items ≡ out.old.items ++ listings.contents attributes bytes.now) }
+{
+    if field(attributes, 12, 1) == 1 {
+        return Ok(());
+    }
+    if field(attributes, 9, 1) != 1 {
+        return push_data_lines(alloc, out, bytes);
+    }
+    if field(attributes, 20, 1) == 1 {
+        return push_half_lines(alloc, out, bytes);
+    }
+    push_word_lines(alloc, out, bytes)
+}
+
+fn push_reloc(out: &mut Vec<u8>, reloc: Reloc) -> Result<(), NoMemory>
+    ensures { OnOk result (out.new.items ≡ out.old.items ++ listings.reloc_line reloc) }
+{
+    push(out, b"reloc")?;
+    push_eight_field(out, reloc.offset)?;
+    push_eight_field(out, reloc.word)?;
+    push(out, b"\n")
+}
+
+fn push_relocs(out: &mut Vec<u8>, relocs: &[Reloc]) -> Result<(), NoMemory>
+    ensures { OnOk result (out.new.items ≡ out.old.items ++ flat_map listings.reloc_line relocs.now) }
+{
+    for reloc in relocs {
+        push_reloc(out, *reloc)?;
+    }
+    Ok(())
+}
+
+fn push_area_line(alloc: Global, out: &mut Vec<u8>, area: &Area) -> Result<(), NoMemory>
+    ensures { OnOk result (out.new.items ≡ out.old.items ++ listings.area_line area.now) }
+{
+    push(out, b"area")?;
+    push_field(out, area.name.as_slice())?;
+    push_eight_field(out, area.attributes)?;
+    push_eight_field(out, area.size)?;
+    push(out, b" ")?;
+    push_decimal(alloc, out, area.relocs.as_slice().len() as u64)?;
+    push(out, b"\n")
+}
+
+fn push_area(alloc: Global, out: &mut Vec<u8>, area: &Area) -> Result<(), NoMemory>
+    requires { length area.now.bytes < 2 ^ 32 }
+    ensures { OnOk result (out.new.items ≡ out.old.items ++ listings.area_text area.now) }
+{
+    push_area_line(alloc, out, area)?;
+    push_contents(alloc, out, area.attributes, area.bytes.as_slice())?;
+    push_relocs(out, area.relocs.as_slice())
+}
+
+fn push_areas(alloc: Global, out: &mut Vec<u8>, areas: &[Area]) -> Result<(), NoMemory>
+    requires { All (λ area. length area.bytes < 2 ^ 32) areas.now }
+    ensures { OnOk result (out.new.items ≡ out.old.items ++ flat_map listings.area_text areas.now) }
+{
+    for area in areas {
+        push_area(alloc, out, area)?;
+    }
+    Ok(())
+}
+
+fn area_name(areas: &[Area], area: Option<u32>) -> &[u8]
+    ensures { result.now ≡ listings.area_name areas.now area }
+{
+    let Some(number) = area else {
+        return b"-";
+    };
+    match areas.get(number as usize) {
+        None => b"-",
+        Some(area) => area.name.as_slice(),
+    }
+}
+
+fn push_symbol(out: &mut Vec<u8>, areas: &[Area], symbol: &Symbol) -> Result<(), NoMemory>
+    ensures { OnOk result (out.new.items ≡ out.old.items ++ listings.symbol_line areas.now symbol.now) }
+{
+    push(out, b"symbol")?;
+    push_field(out, symbol.name.as_slice())?;
+    push_eight_field(out, symbol.attributes)?;
+    push_eight_field(out, symbol.value)?;
+    push_field(out, area_name(areas, symbol.area))?;
+    push(out, b"\n")
+}
+
+fn push_symbols(out: &mut Vec<u8>, areas: &[Area], symbols: &[Symbol]) -> Result<(), NoMemory>
+    ensures { OnOk result (out.new.items ≡ out.old.items ++ flat_map (listings.symbol_line areas.now) symbols.now) }
+{
+    for symbol in symbols {
+        push_symbol(out, areas, symbol)?;
+    }
+    Ok(())
+}
+
+fn push_entry(out: &mut Vec<u8>, areas: &[Area], entry: Option<Entry>) -> Result<(), NoMemory>
+    ensures { OnOk result (out.new.items ≡ out.old.items ++ listings.entry_text areas.now entry) }
+{
+    let Some(entry) = entry else {
+        return Ok(());
+    };
+    push(out, b"entry")?;
+    push_field(out, area_name(areas, Some(entry.area)))?;
+    push_eight_field(out, entry.offset)?;
+    push(out, b"\n")
+}
+
+fn push_object(alloc: Global, out: &mut Vec<u8>, o: &Object) -> Result<(), NoMemory>
+    requires { IsValid o.now }
+    ensures { OnOk result (out.new.items ≡ out.old.items ++ listings.object_lines o.now) }
+{
+    let areas = o.areas.as_slice();
+    push_areas(alloc, out, areas)?;
+    push_symbols(out, areas, o.symbols.as_slice())?;
+    push_entry(out, areas, o.entry)
+}
+
+fn push_member(alloc: Global, out: &mut Vec<u8>, member: &Member) -> Result<(), NoMemory>
+    requires { IsValid member.now.object }
+    ensures { OnOk result (out.new.items ≡ out.old.items ++ listings.member_text member.now) }
+{
+    push(out, b"member")?;
+    push_field(out, member.name.as_slice())?;
+    push(out, b"\n")?;
+    push_object(alloc, out, &member.object)
+}
+
+fn push_members(alloc: Global, out: &mut Vec<u8>, members: &[Member]) -> Result<(), NoMemory>
+    requires { All (λ member. IsValid member.object) members.now }
+    ensures { OnOk result (out.new.items ≡ out.old.items ++ flat_map listings.member_text members.now) }
+{
+    for member in members {
+        push_member(alloc, out, member)?;
+    }
+    Ok(())
+}
+
+/// The listing of an object: its areas with what they hold and their relocations, its symbols, and its entry.
+pub fn list_object(alloc: Global, o: &Object) -> Result<Text, NoMemory>
+    requires { IsValid o.now }
+    ensures { IfOk result (λ text. text ≡ listings.object_text o.now) }
+{
+    let mut out = Vec::new(alloc);
+    push(&mut out, b"object\n")?;
+    push_object(alloc, &mut out, o)?;
+    push(&mut out, b"end\n")?;
+    Ok(Text::from_vec(out))
+}
+
+/// The listing of a library: the listings of its members' objects, each behind the member's name.
+pub fn list_archive(alloc: Global, a: &Archive) -> Result<Text, NoMemory>
+    requires { All (λ member. IsValid member.object) a.now.members }
+    ensures { IfOk result (λ text. text ≡ listings.archive_text a.now) }
+{
+    let mut out = Vec::new(alloc);
+    push(&mut out, b"library\n")?;
+    push_members(alloc, &mut out, a.members.as_slice())?;
+    push(&mut out, b"end\n")?;
+    Ok(Text::from_vec(out))
+}

@@ -1,0 +1,43 @@
+//! The command.
+
+ghost use Rattle.std.specs.Prelude.{◌≡◌, ◌∷◌, [], ℕ, List as Items};
+ghost use Rattle.tool_answers.specs.Outcomes.{Answers};
+ghost use Rattle.tool_listing.specs.Lists.{listing_of};
+
+use crate::listings::listing;
+use sdt_fault::Text;
+use sdt_fault::answer::Answer;
+use sdt_outside::{Sink, Store};
+use std::alloc::Global;
+use tool_answers::{print, read_input};
+use tool_library::ends::{end_answer, fault_answer};
+
+/// Prints the listing of an object or of a library.
+pub fn list_file<S: Store, K: Sink>(
+    alloc: Global,
+    store: &mut S,
+    sink: &mut K,
+    file: &Text,
+) -> Answer
+    ensures { Answers (listing_of file.now) (file.now ∷ []) (record {
+      before = S.files store.old;
+      after = S.files store.new;
+      printed = K.bytes sink.old;
+      prints = K.bytes sink.new;
+      reads = S.read_faults store.old;
+      reads_now = S.read_faults store.new;
+      writes = S.write_faults store.old;
+      writes_now = S.write_faults store.new;
+      faults = K.faults sink.old;
+      faults_now = K.faults sink.new;
+    }) result }
+{
+    let bytes = match read_input(alloc, store, file) {
+        Ok(bytes) => bytes,
+        Err(end) => return end_answer(end),
+    };
+    match listing(alloc, file, bytes.as_slice()) {
+        Ok(text) => print(sink, text.as_slice()),
+        Err(fault) => fault_answer(fault),
+    }
+}
