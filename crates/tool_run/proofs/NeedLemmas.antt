@@ -14,7 +14,7 @@ use Rattle.run_opening.specs.declared.image.Image.{Image}
 use Rattle.run_opening.specs.declared.image.Load.{Load}
 use Rattle.run_opening.specs.declared.image.Need.{Need}
 use Rattle.run_opening.specs.Openings.{AreNeeded, IsNeeded}
-use Rattle.tool_run.specs.Images.{binary_image, length_judged, lengths_judged, load_need, load_of, loads_of, map_image, region_need}
+use Rattle.tool_run.specs.Images.{length_judged, lengths_judged, load_need, load_of, loads_of, map_image, region_need}
 
 itself : (a n size : ℕ) → n ≡ size → has_access a size a n ≡ true
 itself a n size e = grind (arith, nat_tests)
@@ -56,6 +56,3 @@ loads_needed (l ∷ ls) (b ∷ bs) others h =
 
 pub map_needed : (m : MapFile) (contents : List (List ℕ)) (i : Image) (u : Unit {0}) → i ≡ map_image m contents → lengths_judged m.loads contents ≡ Ok u → AreNeeded i
 map_needed m contents i u is h = subst AreNeeded (sym is) (loads_needed m.loads contents (map region_need m.regions) h)
-
-pub binary_needed : (at : ℕ) (bytes : List ℕ) (i : Image) → i ≡ binary_image at bytes → AreNeeded i
-binary_needed at bytes i is = subst AreNeeded (sym is) (first_has [] (record { base = at; size = length bytes }) (record { base = at; bytes = bytes }) refl refl, tt)

@@ -1,5 +1,5 @@
 -- An image that was read, or why not, by what the store told.
-use Rattle.std.proofs.Common.{◌≡◌, ℕ, List, [], ◌∷◌, length, Option, Some, None, Result, Ok, Err, refl, sym, ap, ◌∙◌, inl, inr, Bool, true, false}
+use Rattle.std.proofs.Common.{◌≡◌, ℕ, List, [], ◌∷◌, length, Option, Some, None, Result, Ok, Err, refl, sym, ap, ◌∙◌, inr, Bool, true, false}
 use Rattle.std.specs.Prelude.{◌==◌}
 use Rattle.sdt_fault.specs.declared.answer.Fault.{Fault}
 use Rattle.sdt_fault.specs.declared.answer.Fault.TheVariants as fault
@@ -15,38 +15,14 @@ use Rattle.bin_image.specs.Maps.{ReadsMap}
 use Rattle.bin_image.specs.Reading.{empty_map, map_of, pieces_of, read, told as told_map}
 use Rattle.bin_image.specs.declared.reading.Stage.TheVariants.{Head}
 use Rattle.run_opening.specs.declared.image.Image.{Image}
-use Rattle.tool_answers.specs.declared.inputs.InputEnd.{InputEnd}
-use Rattle.tool_answers.specs.declared.inputs.InputEnd.TheVariants as input
-use Rattle.tool_answers.specs.Inputs.{AreInputs, InputsEnd, IsEnd, IsReached, found_or}
+use Rattle.tool_answers.specs.Inputs.{AreInputs, IsReached, found_or}
 use Rattle.tool_words.specs.declared.command.RunImage.TheVariants as image
 use Rattle.tool_run.specs.declared.ends.ImageEnd.{ImageEnd}
 use Rattle.tool_run.specs.declared.ends.ImageEnd.TheVariants as end
-use Rattle.tool_run.specs.Ends.{Reads, fault_end, input_end}
-use Rattle.tool_run.specs.Images.{IsGiven, IsInput, IsLost, IsRead, binary_image, files_in, lengths_judged, loaded_image, map_image, mapped_image, named_by}
-
--- ---- a binary
-
-pub binary_read : (told : Option Files) (rose : Type 0) (file bytes : List ℕ) (at : ℕ) → IsFound told file bytes
-    → IsRead told rose (image.Binary file at) (Ok (binary_image at bytes))
-binary_read None rose file bytes at h = tt
-binary_read (Some files) rose file bytes at h = sym (ap (λ x. found_or file x >>= λ b. Ok (binary_image at b)) h)
-
-pub binary_unread : (e : InputEnd) (told : Option Files) (rose : Type 0) (file : List ℕ) (at : ℕ) → IsEnd e told file rose
-    → Reads (IsRead told rose (image.Binary file at)) rose (IsInput told (image.Binary file at)) (Err (input_end e))
-binary_unread (input.Missing q) None rose file at h = (h.1, h.0)
-binary_unread (input.Missing q) (Some files) rose file at h = rw h.0 (sym (ap (λ x. found_or file x >>= λ b. Ok (binary_image at b)) h.1))
-binary_unread (input.Failed q) told rose file at h = (h.1, h.0)
-binary_unread input.NoMemory told rose file at h = tt
+use Rattle.tool_run.specs.Ends.{Reads, fault_end}
+use Rattle.tool_run.specs.Images.{IsGiven, IsInput, IsLost, IsRead, files_in, lengths_judged, loaded_image, map_image, mapped_image, named_by}
 
 -- ---- a map's text
-
-pub map_unread : (e : InputEnd) (told : Option Files) (rose : Type 0) (file : List ℕ) → IsEnd e told file rose
-    → Reads (IsRead told rose (image.Map file)) rose (IsInput told (image.Map file)) (Err (input_end e))
-map_unread (input.Missing q) None rose file h = (h.1, inl h.0)
-map_unread (input.Missing q) (Some files) rose file h =
-    rw h.0 (sym (ap (λ x. found_or file x >>= λ text. named_by file (map_of text) >>= λ m. mapped_image m files) h.1))
-map_unread (input.Failed q) told rose file h = (h.1, inl h.0)
-map_unread input.NoMemory told rose file h = tt
 
 -- with the name of the file a wrong text is still one
 wrong_text : (r : Result MapFile ℕ) (file : List ℕ) (q : Refusal) → named_by file (told_map r) ≡ Err q → (at : ℕ) × (q ≡ BadImage file at kind.Map)
@@ -87,13 +63,6 @@ map_read (Err end.NoMemory) told before after file text m more found reads is h 
 
 -- ---- load files
 
-pub loads_unread : (e : InputEnd) (told : Option Files) (rose : Type 0) (m : MapFile) → InputsEnd e told (files_in m) rose
-    → Reads (IsGiven (mapped_image m) told rose (IsReached told (files_in m))) rose (IsReached told (files_in m)) (Err (input_end e))
-loads_unread (input.Missing q) None rose m h = h
-loads_unread (input.Missing q) (Some files) rose m h = sym (ap (λ x. x >>= λ contents. loaded_image m contents) h)
-loads_unread (input.Failed q) told rose m h = h
-loads_unread input.NoMemory told rose m h = tt
-
 -- a wrong length is no missing file
 lengths_lost : (lines : List MapLoad) (contents : List (List ℕ)) (i : Image) (q : Refusal) (rose : Type 0) (is_input : List ℕ → Type 0)
     → (lengths_judged lines contents >>= λ right. Ok i) ≡ Err q → IsLost rose is_input (Err q)
@@ -104,12 +73,6 @@ lengths_lost (l ∷ ls) (b ∷ bs) i q rose is_input h = split (length b == l.si
     split : (t : Bool) → (length b == l.size) ≡ t → ((lengths_judged ls bs >>= λ right. Ok i) ≡ Err q → IsLost rose is_input (Err q)) → IsLost rose is_input (Err q)
     split true e others = others (rw e at h)
     split false e others = let same : ◌≡◌ {A = Result Image Refusal} (Err (BadImage l.file (length b) kind.Length)) (Err q) = (rw e at h) in not_lost rose is_input q l.file (length b) kind.Length (let k : q ≡ BadImage l.file (length b) kind.Length = cc in k)
-
-pub loads_read : (i : Image) (told : Option Files) (rose : Type 0) (m : MapFile) (contents : List (List ℕ)) → AreInputs told (files_in m) contents
-    → Gives {A = Image} (Ok i) (loaded_image m contents)
-    → Reads (IsGiven (mapped_image m) told rose (IsReached told (files_in m))) rose (IsReached told (files_in m)) (Ok i)
-loads_read i None rose m contents found h = tt
-loads_read i (Some files) rose m contents found h = sym (ap (λ x. x >>= λ c. loaded_image m c) found ∙ h)
 
 pub loads_refused : (e : Fault) (told : Option Files) (rose : Type 0) (m : MapFile) (contents : List (List ℕ)) → AreInputs told (files_in m) contents
     → Gives {A = Image} (Err e) (loaded_image m contents)
