@@ -1,5 +1,5 @@
 -- Which command words ask for, and what its answer says of the input and leaves of store and sink. This project's.
-use Rattle.std.specs.Prelude.{◌≡◌, ℕ, List, [], ◌∷◌, Bool, codes, bytes_eq, Result, Ok, Err}
+use Rattle.std.specs.Prelude.{◌≡◌, ℕ, List, [], ◌∷◌, Bool, true, false, codes, bytes_eq, Result, Ok, Err}
 use Rattle.sdt_fault.specs.declared.answer.Answer.{Answer}
 use Rattle.sdt_fault.specs.declared.answer.Answer.TheVariants as answer
 use Rattle.sdt_fault.specs.declared.refusal.Refusal.TheVariants.{BadWords}
@@ -10,6 +10,8 @@ use Rattle.tool_words.specs.declared.command.WordsFault.TheVariants as fault
 use Rattle.tool_words.specs.Items.{word_at}
 use Rattle.tool_answers.specs.Outcomes.{Outside, IsLeft, Answers}
 use Rattle.tool_library.specs.Libraries.{created, listed, extracted}
+use Rattle.arm7_bus.specs.Seats.{Seat}
+use Rattle.tool_run.specs.Runs.{RunAnswers}
 
 -- the command `build`, whose words are judged apart until sources of every kind are built
 abbrev pub is_build : List (List ℕ) → Bool
@@ -25,14 +27,18 @@ RefusesWords place o answer.SinkFault = ⊥
 RefusesWords place o (answer.Stopped stop) = ⊥
 RefusesWords place o answer.NoMemory = IsLeft o
 
--- the answer to a command, or to words that break a rule. The command `run` is refused at its word until the machine
--- stands
-abbrev pub Commanded : Result Command ℕ → Outside → Answer → Type 0
-Commanded (Err place) o a = RefusesWords place o a
-Commanded (Ok (command.CreateLibrary library objects)) o a = Answers (created library objects) objects o a
-Commanded (Ok (command.ListMembers library)) o a = Answers (listed library) (library ∷ []) o a
-Commanded (Ok (command.ExtractMember library member output)) o a = Answers (extracted library member output) (library ∷ []) o a
-Commanded (Ok (command.Run run)) o a = RefusesWords 1 o a
+-- the answer to a command, or to words that break a rule, over devices, which are left so; `run` alone touches them
+abbrev pub Commanded : Result Command ℕ → Outside → List Seat → List Seat → Answer → Type 0
+Commanded (Err place) o seats left a = RefusesWords place o a × (left ≡ seats)
+Commanded (Ok (command.CreateLibrary library objects)) o seats left a = Answers (created library objects) objects o a × (left ≡ seats)
+Commanded (Ok (command.ListMembers library)) o seats left a = Answers (listed library) (library ∷ []) o a × (left ≡ seats)
+Commanded (Ok (command.ExtractMember library member output)) o seats left a = Answers (extracted library member output) (library ∷ []) o a × (left ≡ seats)
+Commanded (Ok (command.Run run)) o seats left a = RunAnswers run o seats left a
+
+-- the words ask for a run
+abbrev pub is_run : Result Command ℕ → Bool
+is_run (Ok (command.Run run)) = true
+is_run other = false
 
 -- the answer to words that ask for nothing
 abbrev pub RefusedBy : WordsFault → Answer → Type 0

@@ -1,14 +1,16 @@
 //! The commands, each by its words.
 
-ghost use Rattle.std.specs.Prelude.{◌≡◌, Ok, map, string_bytes};
-ghost use Rattle.sdt_toolkit.specs.Commands.{Commanded, is_build};
-ghost use Rattle.tool_words.specs.Commands.{command_of};
+ghost use Rattle.std.specs.Prelude.{◌≡◌, Ok, false, map, string_bytes};
+ghost use Rattle.arm7_bus.specs.Seats.{seats_by};
+ghost use Rattle.sdt_toolkit.specs.Commands.{Commanded, is_build, is_run};
+ghost use Rattle.tool_words.specs.Commands.{IsGood, command_of};
 
 use sdt_fault::answer::Answer;
 use sdt_fault::refusal::Refusal;
-use sdt_outside::{Sink, Store};
+use sdt_outside::{Device, Sink, Store};
 use std::alloc::Global;
 use tool_library::{create_library, extract_member, list_members};
+use tool_run::run;
 use tool_words::{Command, WordsFault, read_words};
 
 /// Whether the words ask for `build`.
@@ -37,8 +39,11 @@ fn carried_out<S: Store, K: Sink>(
     command: Command,
     store: &mut S,
     sink: &mut K,
+    devices: &mut Vec<Box<dyn Device>>,
 ) -> Answer
-    ensures { Commanded (Ok command) (record {
+    requires { IsGood command }
+    ensures devices { is_run (Ok command) ≡ false → devices.new ≡ devices.old }
+    ensures commanded { Commanded (Ok command) (record {
       before = S.files store.old;
       after = S.files store.new;
       printed = K.bytes sink.old;
@@ -49,7 +54,7 @@ fn carried_out<S: Store, K: Sink>(
       writes_now = S.write_faults store.new;
       faults = K.faults sink.old;
       faults_now = K.faults sink.new;
-    }) result }
+    }) (seats_by base size state touched devices.old.items) (seats_by base size state touched devices.new.items) result }
 {
     match command {
         Command::CreateLibrary { library, objects } => {
@@ -61,7 +66,7 @@ fn carried_out<S: Store, K: Sink>(
             member,
             output,
         } => extract_member(alloc, store, &library, &member, output),
-        Command::Run(_run) => Answer::Refused(Refusal::BadWords { place: 1 }),
+        Command::Run(words) => run(alloc, store, sink, devices, &words),
     }
 }
 
@@ -71,8 +76,10 @@ pub fn other<S: Store, K: Sink>(
     words: &[String],
     store: &mut S,
     sink: &mut K,
+    devices: &mut Vec<Box<dyn Device>>,
 ) -> Answer
-    ensures { Commanded (command_of (map string_bytes words.now)) (record {
+    ensures devices { is_run (command_of (map string_bytes words.now)) ≡ false → devices.new ≡ devices.old }
+    ensures commanded { Commanded (command_of (map string_bytes words.now)) (record {
       before = S.files store.old;
       after = S.files store.new;
       printed = K.bytes sink.old;
@@ -83,10 +90,10 @@ pub fn other<S: Store, K: Sink>(
       writes_now = S.write_faults store.new;
       faults = K.faults sink.old;
       faults_now = K.faults sink.new;
-    }) result }
+    }) (seats_by base size state touched devices.old.items) (seats_by base size state touched devices.new.items) result }
 {
     match read_words(alloc, words) {
-        Ok(command) => carried_out(alloc, command, store, sink),
+        Ok(command) => carried_out(alloc, command, store, sink, devices),
         Err(fault) => refused(fault),
     }
 }

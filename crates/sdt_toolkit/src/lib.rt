@@ -7,7 +7,8 @@ ghost use Rattle.sdt_fault.specs.declared.answer.Answer.TheVariants as answer;
 ghost use Rattle.sdt_outside.specs.Counts.{Rose};
 ghost use Rattle.sdt_toolkit.specs.Build.{BuildAnswers, input_judged, output_of, source_of};
 ghost use Rattle.sdt_toolkit.specs.Words.{bad_place};
-ghost use Rattle.sdt_toolkit.specs.Commands.{Commanded, is_build};
+ghost use Rattle.arm7_bus.specs.Seats.{seats_by};
+ghost use Rattle.sdt_toolkit.specs.Commands.{Commanded, is_build, is_run};
 ghost use Rattle.tool_words.specs.Commands.{command_of};
 ghost use Rattle.sdt_toolkit.specs.Clauses.{Builds, IsAnswered, IsThere};
 
@@ -19,12 +20,12 @@ mod build;
 mod commands;
 mod words;
 
-/// Carries out a command: `build -bin -o OUT SRC`, where SRC is a source of numbers, or one of the
-/// librarian's.
+/// Carries out a command: `build -bin -o OUT SRC`, where SRC is a source of numbers, one of the
+/// librarian's, or `run`.
 ///
 /// A refusal names the first defect of the words, then of the files, in order. `ReadFault`, `WriteFault`
-/// and `SinkFault` come only where the store's or the sink's count of such faults rose. The devices are
-/// left alone.
+/// and `SinkFault` come only where the store's or the sink's count of such faults rose. A run takes the devices
+/// onto its bus and hands them back as it left them.
 pub fn run_tool<S: Store, K: Sink>(
     alloc: Global,
     words: &[String],
@@ -62,13 +63,13 @@ pub fn run_tool<S: Store, K: Sink>(
       writes_now = S.write_faults store.new;
       faults = K.faults sink.old;
       faults_now = K.faults sink.new;
-    }) result }
-
-    ensures devices { devices.new ≡ devices.old }
+    }) (seats_by base size state touched devices.old.items) (seats_by base size state touched devices.new.items) result }
+    // The devices are touched by `run` alone.
+    ensures devices { is_run (command_of (map string_bytes words.now)) ≡ false → devices.new ≡ devices.old }
 {
     if commands::is_build(words) {
         build::build(alloc, words, store)
     } else {
-        commands::other(alloc, words, store, sink)
+        commands::other(alloc, words, store, sink, devices)
     }
 }

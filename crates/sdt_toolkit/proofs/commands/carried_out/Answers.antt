@@ -1,6 +1,7 @@
+use Rattle.std.proofs.Common.{refl}
 use Rattle.sdt_toolkit.proofs.commands.carried_out.Goals as goal
 
-pub returns-in-CreateLibrary : goal.returns-in-CreateLibrary
-returns-in-CreateLibrary g c =
+pub returns-in-CreateLibrary-clause-commanded : goal.returns-in-CreateLibrary-clause-commanded
+returns-in-CreateLibrary-clause-commanded g c =
     let says = rw c.as_slice.ensures at c.create_library.ensures in
-    rw c.in-CreateLibrary.is (says (g.K.Sink.bytes c.args.sink.now) (g.K.Sink.faults c.args.sink.now))
+    rw c.in-CreateLibrary.is (says (g.K.Sink.bytes c.args.sink.now) (g.K.Sink.faults c.args.sink.now), refl)

@@ -3,8 +3,8 @@ use Rattle.tool_words.specs.Commands.{command_of}
 use Rattle.sdt_toolkit.proofs.CommandLemmas.{asked, refused}
 use Rattle.sdt_toolkit.proofs.commands.other.Goals as goal
 
-pub returns-in-Ok : goal.returns-in-Ok
-returns-in-Ok g c = asked c.in-Ok.command (command_of (map string_bytes c.args.words.now)) (record {
+pub returns-in-Ok-clause-commanded : goal.returns-in-Ok-clause-commanded
+returns-in-Ok-clause-commanded g c = asked c.in-Ok.command (command_of (map string_bytes c.args.words.now)) (record {
   before = g.S.Store.files c.args.store.now;
   after = g.S.Store.files c.carried_out.new.store;
   printed = g.K.Sink.bytes c.args.sink.now;
@@ -17,8 +17,8 @@ returns-in-Ok g c = asked c.in-Ok.command (command_of (map string_bytes c.args.w
   faults_now = g.K.Sink.faults c.carried_out.new.sink;
 }) c.carried_out.result c.in-Ok.ensures.exact c.carried_out.ensures
 
-pub returns-in-Err : goal.returns-in-Err
-returns-in-Err g c = refused c.in-Err.fault (command_of (map string_bytes c.args.words.now)) (record {
+pub returns-in-Err-clause-commanded : goal.returns-in-Err-clause-commanded
+returns-in-Err-clause-commanded g c = refused c.in-Err.fault (command_of (map string_bytes c.args.words.now)) (record {
   before = g.S.Store.files c.args.store.now;
   after = g.S.Store.files c.args.store.now;
   printed = g.K.Sink.bytes c.args.sink.now;

@@ -1,0 +1,6 @@
+use Rattle.std.proofs.Common.{◌≡◌, ◌++◌, map, take}
+use Rattle.tool_run.specs.Images as images
+use Rattle.tool_run.proofs.maps.push_load_needs.Given as goal
+
+abbrev pub invariant-loop-line : goal.invariant-loop-line
+invariant-loop-line l = l.needs.items ≡ l.fn.needs.items ++ map images.load_need (take l.line-index l.lines)

@@ -1,0 +1,4 @@
+-- What the clauses of the crate cite.
+pub mod Ends
+pub mod Images
+pub mod Runs

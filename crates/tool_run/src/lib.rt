@@ -1,0 +1,12 @@
+//! The command `run`: an image from files, the machine's run of it over banks and devices, and the answer.
+#![tactic(auto)]
+
+mod banks;
+mod command;
+mod ends;
+mod image;
+mod maps;
+
+pub use crate::command::run;
+pub use crate::ends::ImageEnd;
+pub use crate::image::read_image;
