@@ -10,6 +10,7 @@ use Rattle.tool_words.specs.declared.command.WordsFault.TheVariants as fault
 use Rattle.tool_words.specs.Commands.{Reads}
 use Rattle.tool_answers.specs.Outcomes.{Outside, IsLeft}
 use Rattle.tool_library.specs.Libraries.{created, listed, extracted}
+use Rattle.tool_listing.specs.Lists.{listing_of}
 use Rattle.arm7_bus.specs.Seats.{Seat}
 use Rattle.tool_library.proofs.AnswerLemmas as library
 use Rattle.tool_run.proofs.RunLemmas.{no_memory}
@@ -27,6 +28,7 @@ unasked : (c : Command) (o : Outside) (seats : List Seat) → IsLeft o → Comma
 unasked (command.CreateLibrary library objects) o seats left = (library.no_memory (created library objects) objects o left, refl)
 unasked (command.ListMembers library) o seats left = (library.no_memory (listed library) (library ∷ []) o left, refl)
 unasked (command.ExtractMember library member output) o seats left = (library.no_memory (extracted library member output) (library ∷ []) o left, refl)
+unasked (command.List file) o seats left = (library.no_memory (listing_of file) (file ∷ []) o left, refl)
 unasked (command.Run run) o seats left = no_memory run o seats seats (record { outside = left; devices = refl })
 
 pub refused : (e : WordsFault) (x : Result Command ℕ) (o : Outside) (seats : List Seat) (a : Answer) → Reads (Err e) x → RefusedBy e a → IsLeft o → Commanded x o seats seats a

@@ -11,6 +11,7 @@ use Rattle.tool_words.specs.Items.{word_at}
 use Rattle.tool_answers.specs.Outcomes.{Outside, IsLeft, Answers}
 use Rattle.tool_library.specs.Libraries.{created, listed, extracted}
 use Rattle.arm7_bus.specs.Seats.{Seat}
+use Rattle.tool_listing.specs.Lists.{listing_of}
 use Rattle.tool_run.specs.Runs.{RunAnswers}
 
 -- the command `build`, whose words are judged apart until sources of every kind are built
@@ -33,6 +34,7 @@ Commanded (Err place) o seats left a = RefusesWords place o a × (left ≡ seats
 Commanded (Ok (command.CreateLibrary library objects)) o seats left a = Answers (created library objects) objects o a × (left ≡ seats)
 Commanded (Ok (command.ListMembers library)) o seats left a = Answers (listed library) (library ∷ []) o a × (left ≡ seats)
 Commanded (Ok (command.ExtractMember library member output)) o seats left a = Answers (extracted library member output) (library ∷ []) o a × (left ≡ seats)
+Commanded (Ok (command.List file)) o seats left a = Answers (listing_of file) (file ∷ []) o a × (left ≡ seats)
 Commanded (Ok (command.Run run)) o seats left a = RunAnswers run o seats left a
 
 -- the words ask for a run

@@ -10,6 +10,7 @@ use sdt_fault::refusal::Refusal;
 use sdt_outside::{Device, Sink, Store};
 use std::alloc::Global;
 use tool_library::{create_library, extract_member, list_members};
+use tool_listing::list_file;
 use tool_run::run;
 use tool_words::{Command, WordsFault, read_words};
 
@@ -66,6 +67,7 @@ fn carried_out<S: Store, K: Sink>(
             member,
             output,
         } => extract_member(alloc, store, &library, &member, output),
+        Command::List { file } => list_file(alloc, store, sink, &file),
         Command::Run(words) => run(alloc, store, sink, devices, &words),
     }
 }
