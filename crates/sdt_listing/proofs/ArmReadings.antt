@@ -1,24 +1,24 @@
 -- The instruction that a word reads as is found.
-use Rattle.std.proofs.Common.{◌≡◌, ◌⊎◌, ℕ, ◌+◌, ◌*◌, ◌/◌, ◌%◌, ◌^◌, Bool, true, false, not, ◌&&◌, ◌||◌, ◌==◌, List, [], ◌∷◌, map, find, Option, Some, None, MatchOption, IfSome, Result, Ok, Err, IfOk, Decides, refl, inl, inr, sym, ap, ◌∙◌, subst, arith}
+use Rattle.std.proofs.Common.{◌≡◌, ℕ, ◌/◌, Bool, true, false, not, ◌&&◌, ◌||◌, ◌==◌, List, map, find, Option, Some, None, MatchOption, IfSome, Result, Ok, Err, IfOk, Decides, refl, inl, inr, ap, ◌∙◌, subst, arith}
 use Rattle.std.proofs.lemmas.Bool.Decides.{Decides-and, Decides-or, Decides-not, Decides-eqb, Decides-like}
 use Rattle.sdt_word.specs.Numbers.{bit, bits, flag}
 use Rattle.sdt_word.specs.Codes.{condition_code, shift_code}
-use Rattle.sdt_word.specs.Rows.{FitsRow, Part, width_of, word_of}
+use Rattle.sdt_word.specs.Rows.{word_of}
 use Rattle.sdt_word.specs.declared.codes.Condition.{Condition}
-use Rattle.sdt_word.specs.declared.codes.Condition.TheVariants.{Eq, Ne, Cs, Cc, Mi, Pl, Vs, Vc, Hi, Ls, Ge, Lt, Gt, Le, Al}
+use Rattle.sdt_word.specs.declared.codes.Condition.TheVariants.{Eq}
 use Rattle.sdt_word.specs.declared.codes.ShiftKind.{ShiftKind}
-use Rattle.sdt_word.specs.declared.codes.ShiftKind.TheVariants.{Lsl, Lsr, Asr, Ror}
+use Rattle.sdt_word.specs.declared.codes.ShiftKind.TheVariants.{Lsl}
 use Rattle.arm_isa.specs.ArmRows.{FitsConditions, FitsHalf, FitsOperation, IsUndefined, IsUnread, ReadsArm, arm_fields, arm_row}
 use Rattle.arm_isa.specs.Codes.{half_code, operation_code}
 use Rattle.arm_isa.specs.declared.instr.ArmInstr.{ArmInstr}
 use Rattle.arm_isa.specs.declared.instr.ArmInstr.TheVariants as ai
 use Rattle.arm_isa.specs.declared.instr.HalfKind.{HalfKind}
-use Rattle.arm_isa.specs.declared.instr.HalfKind.TheVariants.{Half, SignedByte, SignedHalf}
+use Rattle.arm_isa.specs.declared.instr.HalfKind.TheVariants.{Half}
 use Rattle.arm_isa.specs.declared.instr.Operation.{Operation}
-use Rattle.arm_isa.specs.declared.instr.Operation.TheVariants.{And, Eor, Sub, Rsb, Add, Adc, Sbc, Rsc, Tst, Teq, Cmp, Cmn, Orr, Mov, Bic, Mvn}
+use Rattle.arm_isa.specs.declared.instr.Operation.TheVariants.{And}
 use Rattle.sdt_listing.specs.ArmTexts.{word_text, instruction_text}
 use Rattle.sdt_listing.specs.Parts.{data_word}
-use Rattle.sdt_listing.specs.Readings.{ArmIs, arm_as, arm_fits, arm_of, arm_reads, arm_rows, arm_with, condition_at, fields_in, fits_half, fits_operation, fits_row, flag_at, half_at, is_undefined, operation_at, shift_at}
+use Rattle.sdt_listing.specs.Readings.{ArmIs, arm_as, arm_fits, arm_of, arm_reads, arm_rows, arm_with, condition_at, fits_half, fits_operation, fits_row, flag_at, half_at, is_undefined, operation_at, shift_at}
 use Rattle.sdt_listing.proofs.RowFields.{Decides-fits_row, fields_in-word, is_binary}
 use Rattle.arm_isa.proofs.ArmLemmas.{instruction-same}
 use Rattle.sdt_listing.proofs.Firsts.{Decides-implies, Has, first_holds}

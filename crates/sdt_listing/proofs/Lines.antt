@@ -1,12 +1,11 @@
 -- Lines for numbers in a row, and areas that are short.
-use Rattle.std.proofs.Common.{◌≡◌, ℕ, zero, suc, ◌+◌, ◌-◌, ◌<◌, ◌≤◌, ◌^◌, ◌==◌, Bool, true, false, cond, List, [], ◌∷◌, ◌++◌, length, flat_map, All, refl, sym, ap, ◌∙◌, append_assoc, arith}
+use Rattle.std.proofs.Common.{◌≡◌, ℕ, suc, ◌+◌, ◌-◌, ◌<◌, ◌≤◌, ◌^◌, ◌==◌, Bool, true, false, cond, List, [], ◌∷◌, ◌++◌, length, flat_map, All, refl, sym, ap, ◌∙◌, append_assoc, arith}
 use Rattle.std.specs.List.{AllByRecursion}
 use Rattle.std.proofs.lemmas.List.Elements.{All-from_recursion}
 use Rattle.sdt_word.specs.Numbers.{bit}
 use Rattle.chunk_file.specs.Reading.{EachStands}
 use Rattle.aof_object.specs.declared.records.Area.{Area}
 use Rattle.aof_object.specs.declared.records.Object.{Object}
-use Rattle.aof_object.specs.Objects.{stored}
 use Rattle.aof_object.specs.Spelling.{area_names}
 use Rattle.aof_object.specs.Validity.{Holds, IsArea, IsValid, head_of}
 use Rattle.sdt_listing.specs.Listings.{from}

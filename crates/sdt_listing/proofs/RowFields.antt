@@ -1,10 +1,10 @@
 -- The fields that a row's word has are those that it was made of, and the test of fields decides.
 use Rattle.std.proofs.Common.{◌≡◌, ℕ, ◌+◌, ◌*◌, ◌/◌, ◌%◌, ◌^◌, ◌<◌, ◌≤◌, Bool, true, false, ◌&&◌, nat_lt, List, [], ◌∷◌, Decides, refl, sym, ap, ◌∙◌, arith, mul-le-mul_right, pow-add, ltb-true}
-use Rattle.std.proofs.lemmas.Nat.{div-mul-add, mod-mul-add, pow_pos}
+use Rattle.std.proofs.lemmas.Nat.{div-mul-add, mod-mul-add}
 use Rattle.std.proofs.lemmas.Bool.Decides.{Decides-and, Decides-ltb}
 use mathlib.Core.Bool.{true≢false}
 use Rattle.sdt_word.specs.Numbers.{bits}
-use Rattle.sdt_word.specs.Rows.{Blank, Digit, Field, FitsRow, Part, digits_of, placed_of, width_of, word_of}
+use Rattle.sdt_word.specs.Rows.{Blank, Digit, Field, FitsRow, Part, width_of, word_of}
 use Rattle.sdt_listing.specs.Readings.{fields_in, fits_row}
 
 -- a row's digits are bits

@@ -1,17 +1,17 @@
 -- The instruction that a half-word reads as is found.
-use Rattle.std.proofs.Common.{◌≡◌, ◌⊎◌, ℕ, ◌+◌, ◌*◌, ◌/◌, ◌%◌, ◌^◌, Bool, true, false, not, ◌&&◌, ◌||◌, ◌==◌, nat_lt, List, [], ◌∷◌, map, find, Option, Some, None, MatchOption, IfSome, Result, Ok, Err, IfOk, Decides, refl, inl, inr, sym, ap, ◌∙◌, subst, arith}
+use Rattle.std.proofs.Common.{◌≡◌, ℕ, true, not, ◌&&◌, ◌||◌, ◌==◌, List, map, find, Option, Some, None, MatchOption, IfSome, Result, Ok, Err, IfOk, Decides, refl, inl, inr, ap, ◌∙◌, subst, arith}
 use Rattle.std.proofs.lemmas.Bool.Decides.{Decides-and, Decides-eqb, Decides-like, Decides-ltb}
-use Rattle.sdt_word.specs.Numbers.{bits, flag}
+use Rattle.sdt_word.specs.Numbers.{flag}
 use Rattle.sdt_word.specs.Codes.{condition_code}
-use Rattle.sdt_word.specs.Rows.{FitsRow, Part, width_of, word_of}
-use Rattle.thumb_isa.specs.ThumbRows.{FitsConditions, FitsHigh, IsUnread, ReadsThumb, thumb_fields, thumb_row}
+use Rattle.sdt_word.specs.Rows.{word_of}
+use Rattle.thumb_isa.specs.ThumbRows.{FitsConditions, IsUnread, ReadsThumb, thumb_fields, thumb_row}
 use Rattle.thumb_isa.specs.Codes.{high_code, immediate_code, signed_code, thumb_operation_code, thumb_shift_code}
 use Rattle.thumb_isa.specs.declared.instr.HighOperation.{HighOperation}
 use Rattle.thumb_isa.specs.declared.instr.HighOperation.TheVariants as high
 use Rattle.thumb_isa.specs.declared.instr.ImmediateOperation.{ImmediateOperation}
 use Rattle.thumb_isa.specs.declared.instr.ImmediateOperation.TheVariants as imm
 use Rattle.thumb_isa.specs.declared.instr.SignedTransfer.{SignedTransfer}
-use Rattle.thumb_isa.specs.declared.instr.SignedTransfer.TheVariants.{StoreHalf, LoadSignedByte, LoadHalf, LoadSignedHalf}
+use Rattle.thumb_isa.specs.declared.instr.SignedTransfer.TheVariants.{StoreHalf}
 use Rattle.thumb_isa.specs.declared.instr.ThumbInstr.{ThumbInstr}
 use Rattle.thumb_isa.specs.declared.instr.ThumbInstr.TheVariants as ti
 use Rattle.thumb_isa.specs.declared.instr.ThumbOperation.{ThumbOperation}
@@ -21,7 +21,7 @@ use Rattle.thumb_isa.specs.declared.instr.ThumbShift.TheVariants as tsh
 use Rattle.thumb_isa.proofs.ThumbLemmas.{instruction-same}
 use Rattle.sdt_listing.specs.ThumbTexts.{half_text, instruction_text}
 use Rattle.sdt_listing.specs.Parts.{data_half}
-use Rattle.sdt_listing.specs.Readings.{ThumbIs, fields_in, fits_row, flag_at, high_at, immediate_at, signed_at, thumb_as, thumb_fits, thumb_of, thumb_operation_at, thumb_reads, thumb_rows, thumb_shift_at, thumb_with}
+use Rattle.sdt_listing.specs.Readings.{ThumbIs, fits_row, high_at, immediate_at, signed_at, thumb_as, thumb_fits, thumb_of, thumb_operation_at, thumb_reads, thumb_rows, thumb_shift_at, thumb_with}
 use Rattle.sdt_listing.proofs.RowFields.{Decides-fits_row, fields_in-word, is_binary}
 use Rattle.sdt_listing.proofs.Firsts.{Decides-implies, Has, first_holds}
 use Rattle.sdt_listing.proofs.ArmReadings.{condition_at-code, flag_at-flag}

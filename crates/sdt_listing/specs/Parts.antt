@@ -1,7 +1,7 @@
 -- The parts of an instruction's text: names, numbers, shifted registers and addresses (SDT 2.50 Reference
 -- Guide, chapter on the assembler, instructions). That numbers are hexadecimal, which offsets are left out and
 -- how a negative offset of 0 is written are this project's. The names are tables, as in the code.
-use Rattle.std.specs.Prelude.{ℕ, ◌+◌, ◌*◌, ◌%◌, ◌^◌, ◌==◌, ◌&&◌, not, Bool, true, if◌then◌else◌, List, [], ◌∷◌, ◌++◌, drop, codes}
+use Rattle.std.specs.Prelude.{ℕ, ◌+◌, ◌*◌, ◌%◌, ◌^◌, ◌==◌, ◌&&◌, not, Bool, true, if◌then◌else◌, List, [], ◌++◌, drop, codes}
 use Rattle.std.specs.List.{flat_map}
 use Rattle.std.specs.Fmt.{decimal, digits}
 use Rattle.sdt_fault.specs.Digits.{hexadecimal_places}

@@ -1,7 +1,7 @@
 -- The instruction that a word or a half-word reads as, as a function: the bits of the word make one instruction of
 -- each row, and the first of them that the word reads as is the instruction. That this is what the tables of
 -- `arm_isa` and `thumb_isa` say is the contract of `readings_law`.
-use Rattle.std.specs.Prelude.{◌≡◌, ℕ, ◌/◌, ◌==◌, ◌&&◌, ◌||◌, not, nat_lt, ◌^◌, ◌<◌, Bool, true, false, List, [], ◌∷◌, map, slice_index, slice_index_or, Option, Some, None}
+use Rattle.std.specs.Prelude.{ℕ, ◌/◌, ◌==◌, ◌&&◌, ◌||◌, not, nat_lt, ◌^◌, Bool, true, false, List, [], ◌∷◌, map, slice_index, slice_index_or, Option, Some, None}
 use Rattle.std.specs.List.{find}
 use Rattle.sdt_word.specs.Codes.{condition_code}
 use Rattle.sdt_word.specs.Numbers.{bit, bits, flag}

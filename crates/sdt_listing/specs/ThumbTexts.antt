@@ -1,10 +1,8 @@
 -- The text of an instruction of Thumb state, a line for each row of the ARM Architecture Reference Manual's
 -- encodings, in the syntax of the SDT 2.50 Reference Guide, chapter on the assembler. The names of BL's halves
 -- are this project's.
-use Rattle.std.specs.Prelude.{ℕ, ◌+◌, ◌*◌, ◌==◌, Bool, true, false, if◌then◌else◌, List, [], ◌∷◌, ◌++◌, Option, Some, None, codes}
-use Rattle.std.specs.Fmt.{digits}
+use Rattle.std.specs.Prelude.{ℕ, ◌+◌, ◌*◌, ◌==◌, Bool, true, false, if◌then◌else◌, List, [], ◌++◌, Option, Some, None, codes}
 use Rattle.sdt_word.specs.Numbers.{flag, registers}
-use Rattle.sdt_word.specs.declared.codes.Condition.{Condition}
 use Rattle.sdt_word.specs.declared.codes.Condition.TheVariants.{Al}
 use Rattle.thumb_isa.specs.declared.instr.HighOperation.{HighOperation}
 use Rattle.thumb_isa.specs.declared.instr.HighOperation.TheVariants.{Add as HighAdd, Cmp as HighCmp, Mov as HighMov, Bx}

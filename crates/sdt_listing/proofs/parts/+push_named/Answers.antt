@@ -1,4 +1,4 @@
-use Rattle.std.proofs.Common.{rules, ◌++◌, append_assoc, arith}
+use Rattle.std.proofs.Common.{rules, append_assoc, arith}
 use Rattle.sdt_listing.proofs.Names.{listed, unlisted}
 use Rattle.sdt_listing.proofs.parts.+push_named.Goals as goal
 
