@@ -1,3 +1,3 @@
-mod LawLemmas
+pub mod LawLemmas
 mod LiteralLemmas
 mod PoolLemmas

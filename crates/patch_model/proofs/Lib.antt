@@ -1,5 +1,5 @@
-mod SumLemmas
-mod BranchLemmas
-mod VeneerLemmas
-mod PatchLemmas
+pub mod SumLemmas
+pub mod BranchLemmas
+pub mod VeneerLemmas
+pub mod PatchLemmas
 mod Rows

@@ -131,9 +131,9 @@ ReachLaw =
     → AreaPatched relocs old base values veneers new → slice_get relocs k ≡ Some r → kind_of r ≡ Branch thumb → Shows view base new
     → VeneersStand view region area_at veneers → StandsTo area_at values (first_symbol (directives relocs (field_of r)))
     → Reaches view region thumb (base + (field_of r).place)
-      (total (base + (field_of r).place + ahead thumb + span thumb (word_in old (field_of r).place)) (added values (directives relocs (field_of r)))
-      (middle thumb + taken base (directives relocs (field_of r))))
-      (state_to thumb values (first_symbol (directives relocs (field_of r))))
+    (total (base + (field_of r).place + ahead thumb + span thumb (word_in old (field_of r).place)) (added values (directives relocs (field_of r)))
+    (middle thumb + taken base (directives relocs (field_of r))))
+    (state_to thumb values (first_symbol (directives relocs (field_of r))))
 
 -- ---- veneers
 
