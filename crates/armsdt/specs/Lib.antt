@@ -1,0 +1,2 @@
+-- What the clauses of the program cite.
+pub mod Carried
