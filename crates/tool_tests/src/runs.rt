@@ -28,10 +28,7 @@ fn binaries(rt: HostRuntime) -> Result<(), Fail> {
     )?;
     let cases: [(&[&str], &str); 10] = [
         (&["run", "-bin", "t.bin", "-at", "0x8000"], "done"),
-        (
-            &["run", "-bin", "t.bin", "-at", "0", "-steps", "2"],
-            "done",
-        ),
+        (&["run", "-bin", "t.bin", "-at", "0", "-steps", "2"], "done"),
         (
             &["run", "-bin", "t.bin", "-at", "0", "-steps", "1"],
             "stopped: budget",
