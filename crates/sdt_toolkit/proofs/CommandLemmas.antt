@@ -1,5 +1,5 @@
 -- Answers to commands, by what their words ask for.
-use Rattle.std.proofs.Common.{◌≡◌, ℕ, List, [], ◌∷◌, false, Result, Ok, Err, refl, sym, ap, subst}
+use Rattle.std.proofs.Common.{ℕ, List, [], ◌∷◌, Result, Ok, Err, refl, sym, ap, subst}
 use Rattle.sdt_fault.specs.declared.answer.Answer.{Answer}
 use Rattle.sdt_fault.specs.declared.answer.Answer.TheVariants as answer
 use Rattle.sdt_fault.specs.declared.refusal.Refusal.TheVariants.{BadWords}
@@ -12,23 +12,19 @@ use Rattle.tool_answers.specs.Outcomes.{Outside, IsLeft}
 use Rattle.tool_library.specs.Libraries.{created, listed, extracted}
 use Rattle.tool_listing.specs.Lists.{listing_of}
 use Rattle.arm7_bus.specs.Seats.{Seat}
-use Rattle.tool_library.proofs.AnswerLemmas as library
+use Rattle.tool_library.proofs.AnswerLemmas as answers
 use Rattle.tool_run.proofs.RunLemmas.{no_memory}
-use Rattle.sdt_toolkit.specs.Commands.{Commanded, RefusesWords, RefusedBy, is_run}
+use Rattle.sdt_toolkit.specs.Commands.{Commanded, RefusesWords, RefusedBy}
 
 pub asked : (c : Command) (x : Result Command ℕ) (o : Outside) (seats left : List Seat) (a : Answer) → Reads (Ok c) x → Commanded (Ok c) o seats left a → Commanded x o seats left a
 asked c (Ok d) o seats left a h says = subst (λ (e : Command). Commanded (Ok e) o seats left a) h says
 asked c (Err place) o seats left a h says = absurd h
 
-pub runs_so : (c : Command) (x : Result Command ℕ) → Reads (Ok c) x → is_run x ≡ false → is_run (Ok c) ≡ false
-runs_so c (Ok d) h no = rw h no
-runs_so c (Err place) h no = absurd h
-
 unasked : (c : Command) (o : Outside) (seats : List Seat) → IsLeft o → Commanded (Ok c) o seats seats answer.NoMemory
-unasked (command.CreateLibrary library objects) o seats left = (library.no_memory (created library objects) objects o left, refl)
-unasked (command.ListMembers library) o seats left = (library.no_memory (listed library) (library ∷ []) o left, refl)
-unasked (command.ExtractMember library member output) o seats left = (library.no_memory (extracted library member output) (library ∷ []) o left, refl)
-unasked (command.List file) o seats left = (library.no_memory (listing_of file) (file ∷ []) o left, refl)
+unasked (command.CreateLibrary library objects) o seats left = (answers.no_memory (created library objects) objects o left, refl)
+unasked (command.ListMembers library) o seats left = (answers.no_memory (listed library) (library ∷ []) o left, refl)
+unasked (command.ExtractMember library member output) o seats left = (answers.no_memory (extracted library member output) (library ∷ []) o left, refl)
+unasked (command.List file) o seats left = (answers.no_memory (listing_of file) (file ∷ []) o left, refl)
 unasked (command.Run run) o seats left = no_memory run o seats seats (record { outside = left; devices = refl })
 
 pub refused : (e : WordsFault) (x : Result Command ℕ) (o : Outside) (seats : List Seat) (a : Answer) → Reads (Err e) x → RefusedBy e a → IsLeft o → Commanded x o seats seats a

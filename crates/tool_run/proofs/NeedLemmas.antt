@@ -50,9 +50,10 @@ loads_needed : (lines : List MapLoad) (contents : List (List ℕ)) (others : Lis
 loads_needed [] contents others h = tt
 loads_needed (l ∷ ls) [] others h = tt
 loads_needed (l ∷ ls) (b ∷ bs) others h =
-    let one = judged_one l b (lengths_judged ls bs) h in
-    (first_has (map load_need ls ++ others) (load_need l) (load_of (l, b)) refl one.0,
-    all_more (map load_need ls ++ others) (load_need l) (loads_of ls bs) (loads_needed ls bs others one.1))
+    let one = judged_one l b (lengths_judged ls bs) h in (
+      first_has (map load_need ls ++ others) (load_need l) (load_of (l, b)) refl one.0,
+      all_more (map load_need ls ++ others) (load_need l) (loads_of ls bs) (loads_needed ls bs others one.1),
+    )
 
 pub map_needed : (m : MapFile) (contents : List (List ℕ)) (i : Image) (u : Unit {0}) → i ≡ map_image m contents → lengths_judged m.loads contents ≡ Ok u → AreNeeded i
 map_needed m contents i u is h = subst AreNeeded (sym is) (loads_needed m.loads contents (map region_need m.regions) h)

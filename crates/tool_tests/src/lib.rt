@@ -6,4 +6,6 @@ mod first_path;
 #[cfg(test)]
 mod librarian;
 #[cfg(test)]
+mod runs;
+#[cfg(test)]
 mod table;

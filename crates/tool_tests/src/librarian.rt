@@ -25,7 +25,7 @@ const PRINT_OBJECT: [u8; 0xBE] = [
     0x12, 0, 0, 0, b'p', b'r', b'i', b'n', b't', b'e', b'r', 0, b'p', b'r', b'i', b'n', b't', 0, //
 ];
 
-fn stored(alloc: Global, files: &[(&str, &[u8])]) -> Result<MemoryStore, Fail> {
+pub fn stored(alloc: Global, files: &[(&str, &[u8])]) -> Result<MemoryStore, Fail> {
     let mut store = MemoryStore::new(alloc);
     for (name, bytes) in files {
         let name = Text::from_slice(alloc, name.as_bytes())?;
@@ -35,7 +35,7 @@ fn stored(alloc: Global, files: &[(&str, &[u8])]) -> Result<MemoryStore, Fail> {
 }
 
 /// Carries out a command, and compares the answer's text and what was printed.
-fn check(
+pub fn check(
     rt: &impl Abort,
     alloc: Global,
     store: &mut MemoryStore,

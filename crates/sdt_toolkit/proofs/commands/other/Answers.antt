@@ -15,7 +15,7 @@ returns-in-Ok-clause-commanded g c = asked c.in-Ok.command (command_of (map stri
   writes_now = g.S.Store.write_faults c.carried_out.new.store;
   faults = g.K.Sink.faults c.args.sink.now;
   faults_now = g.K.Sink.faults c.carried_out.new.sink;
-}) c.carried_out.result c.in-Ok.ensures.exact c.carried_out.ensures
+}) _ _ c.carried_out.result c.in-Ok.ensures.exact c.carried_out.ensures.commanded
 
 pub returns-in-Err-clause-commanded : goal.returns-in-Err-clause-commanded
 returns-in-Err-clause-commanded g c = refused c.in-Err.fault (command_of (map string_bytes c.args.words.now)) (record {
@@ -29,4 +29,4 @@ returns-in-Err-clause-commanded g c = refused c.in-Err.fault (command_of (map st
   writes_now = g.S.Store.write_faults c.args.store.now;
   faults = g.K.Sink.faults c.args.sink.now;
   faults_now = g.K.Sink.faults c.args.sink.now;
-}) c.refused.result c.in-Err.ensures.exact c.refused.ensures (record { files = refl; sink = refl })
+}) _ c.refused.result c.in-Err.ensures.exact c.refused.ensures (record { files = refl; sink = refl })
