@@ -1,1 +1,4 @@
+pub mod EntryLemmas
+pub mod OffsetRows
 pub mod PlacingLemmas
+pub mod TreeLemmas

@@ -1,1 +1,6 @@
+-- What the clauses of the layout cite.
+pub mod Entries
+pub mod Extents
+pub mod Offsets
 pub mod Placing
+pub mod Trees

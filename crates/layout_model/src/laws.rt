@@ -1,8 +1,30 @@
 //! Laws of the definitions, each proved as the contract of an empty function.
 
+ghost use Rattle.layout_model.specs.Entries.{EqualNamesHaveSymbols, EqualNamesStay, LinesCountFromHere};
 ghost use Rattle.layout_model.specs.Placing.{PlacingLaw};
+ghost use Rattle.layout_model.specs.Trees.{TreesReadBack};
 
 /// Evaluating and then placing is evaluating what is placed.
 pub fn placing_law()
     ensures { PlacingLaw }
+{}
+
+/// The value of a name for an expression has a symbol.
+pub fn equal_names_have_symbols()
+    ensures { EqualNamesHaveSymbols }
+{}
+
+/// A name for an expression means the same place in every area.
+pub fn equal_names_stay()
+    ensures { EqualNamesStay }
+{}
+
+/// Of the names that a line sees, those without a symbol count from its area.
+pub fn lines_count_from_here()
+    ensures { LinesCountFromHere }
+{}
+
+/// An expression has the tree that its tokens spell.
+pub fn trees_read_back()
+    ensures { TreesReadBack }
 {}
