@@ -1,4 +1,5 @@
 pub mod EntryLemmas
+pub mod OffsetLemmas
 pub mod OffsetRows
 pub mod PlacingLemmas
 pub mod TreeLemmas

@@ -110,15 +110,16 @@ place_among v (w ∷ ws) = if same_literal v w then 0 else place_among v ws + 1
 abbrev pub word_behind : ℕ → List Piece → Value → ℕ
 word_behind area before v = start_in area before Pool + 4 * place_among v (waiting area before)
 
-abbrev pub ends_stretch : ℕ → Piece → Bool
-ends_stretch area s = is_of area s.area && is_pool s.extent
-  where
-    is_pool : Extent → Bool
-    is_pool Pool = true
-    is_pool _ = false
+abbrev pub is_pool : Extent → Bool
+is_pool Pool = true
+is_pool _ = false
+
+-- whether a statement is a pool of the area
+abbrev pub is_pool_of : ℕ → Piece → Bool
+is_pool_of area s = is_of area s.area && is_pool s.extent
 
 -- the offset of a literal's word: in the next pool of the area, among these statements, or at the area's end
 abbrev pub literal_word : ℕ → List Piece → List Piece → Value → ℕ
 literal_word area before [] v = word_behind area before v
 literal_word area before (s ∷ rest) v =
-    if ends_stretch area s then word_behind area before v else literal_word area (s ∷ before) rest v
+    if is_pool_of area s then word_behind area before v else literal_word area (s ∷ before) rest v

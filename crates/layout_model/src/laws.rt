@@ -1,6 +1,7 @@
 //! Laws of the definitions, each proved as the contract of an empty function.
 
 ghost use Rattle.layout_model.specs.Entries.{EqualNamesHaveSymbols, EqualNamesStay, LinesCountFromHere};
+ghost use Rattle.layout_model.specs.OffsetLaws.{LiteralsHaveWords, PaddingIsLeast, StatementsFollow};
 ghost use Rattle.layout_model.specs.Placing.{PlacingLaw};
 ghost use Rattle.layout_model.specs.Trees.{TreesReadBack};
 
@@ -27,4 +28,19 @@ pub fn lines_count_from_here()
 /// An expression has the tree that its tokens spell.
 pub fn trees_read_back()
     ensures { TreesReadBack }
+{}
+
+/// Padding is the least that serves.
+pub fn padding_is_least()
+    ensures { PaddingIsLeast }
+{}
+
+/// Statements of an area don't overlap.
+pub fn statements_follow()
+    ensures { StatementsFollow }
+{}
+
+/// The word of each literal lies in its area, aligned to 4.
+pub fn literals_have_words()
+    ensures { LiteralsHaveWords }
 {}
