@@ -142,3 +142,28 @@ extent_of s (what.Arm l) = Ok (Block 4 4)
 extent_of s (what.Thumb l) = Ok (thumb_extent l)
 extent_of s (what.Pseudo l) = pseudo_extent s l
 extent_of s (what.Directive l) = directive_extent s l
+
+-- ---- alignments, which need no values
+
+abbrev pub pool_alignment : List Value → ℕ
+pool_alignment [] = 1
+pool_alignment (v ∷ vs) = 4
+
+abbrev pub pseudo_alignment : Bool → PseudoLine → ℕ
+pseudo_alignment thumb (pseudo.LongAddress condition rd target) = 4
+pseudo_alignment thumb _ = if thumb then 2 else 4
+
+abbrev pub directive_alignment : Bool → List Value → DirectiveLine → ℕ
+directive_alignment thumb literals line.Entry = if thumb then 2 else 4
+directive_alignment thumb literals (line.Dcd es) = 4
+directive_alignment thumb literals (line.Dcw es) = 2
+directive_alignment thumb literals line.Ltorg = pool_alignment literals
+directive_alignment thumb literals _ = 1
+
+-- the alignment of a statement in a state, where these literals wait for a pool
+abbrev pub alignment : Bool → List Value → What → ℕ
+alignment thumb literals what.Nothing = 1
+alignment thumb literals (what.Arm l) = 4
+alignment thumb literals (what.Thumb l) = 2
+alignment thumb literals (what.Pseudo l) = pseudo_alignment thumb l
+alignment thumb literals (what.Directive l) = directive_alignment thumb literals l

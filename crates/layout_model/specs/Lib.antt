@@ -1,6 +1,10 @@
 -- What the clauses of the layout cite.
+pub mod Before
 pub mod Entries
 pub mod Extents
+pub mod Labels
+pub mod Laid
+pub mod Locals
 pub mod OffsetLaws
 pub mod Offsets
 pub mod Placing

@@ -7,7 +7,7 @@ use Rattle.std.specs.List.{list_any}
 use Rattle.asm_model.specs.declared.values.Value.{Value}
 use Rattle.asm_model.specs.declared.values.Value.TheVariants.{Number, Place}
 use Rattle.asm_model.specs.Forms.{same}
-use Rattle.layout_model.specs.Extents.{Extent, Block, Padding, Loading, Pool}
+use Rattle.layout_model.specs.Extents.{Extent, Block, Padding, Loading, Pool, pool_alignment}
 
 -- a statement: its area, none before the first, and what it takes up there
 pub record Piece : Type 0 where
@@ -55,8 +55,7 @@ abbrev pub alignment_of : List Value → Extent → ℕ
 alignment_of literals (Block alignment n) = alignment
 alignment_of literals (Padding multiple n) = 1
 alignment_of literals (Loading n v) = n
-alignment_of [] Pool = 1
-alignment_of (v ∷ vs) Pool = 4
+alignment_of literals Pool = pool_alignment literals
 
 -- the size of a statement that starts at the offset
 abbrev pub size_of : List Value → ℕ → Extent → ℕ
