@@ -1,4 +1,6 @@
 pub mod EntryLemmas
+pub mod ExtentLemmas
+pub mod LaidRows
 pub mod OffsetLemmas
 pub mod OffsetRows
 pub mod PlacingLemmas

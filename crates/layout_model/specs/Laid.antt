@@ -43,15 +43,16 @@ pub record LaidLine : Type 0 where
   pub size : ℕ
   -- what its expressions see, before its size is known
   pub seen : Sight
-  -- what the lines behind it see of it: its label, and behind that a name that it imports, the nearest first
-  pub lines : List SourceLine
+  -- what the lines behind it see of it: what its label defines, and behind that a name that it imports
+  pub line : SourceLine
+  pub imported : List SourceLine
 
 abbrev pub statements_of : List LaidLine → List Statement
 statements_of lines = map (λ l. l.statement) lines
 
 abbrev pub lines_of : List LaidLine → List SourceLine
 lines_of [] = []
-lines_of (l ∷ ls) = l.lines ++ lines_of ls
+lines_of (l ∷ ls) = l.imported ++ l.line ∷ lines_of ls
 
 -- a statement whose extent isn't known takes up nothing
 abbrev pub taken : Result Extent LineKind → Extent
@@ -154,7 +155,8 @@ with_extent d s before extent size = record {
   extent = extent;
   size = size;
   seen = sight_behind d s before;
-  lines = imported_lines d s before (imported_in s.what) ++ line_behind d s before (definition_behind d s before size) ∷ [];
+  line = line_behind d s before (definition_behind d s before size);
+  imported = imported_lines d s before (imported_in s.what);
 }
 
 abbrev pub sized : Declared → Statement → List LaidLine → Result Extent LineKind → LaidLine
@@ -185,15 +187,20 @@ reversed (x ∷ xs) after = reversed xs (x ∷ after)
 abbrev pub with_forth : List LaidName → SourceLine → SourceLine
 with_forth forth l = record l { forth = forth }
 
--- the lines with the places of all local labels, in the order of the source
+-- a line of a source, with the places of all its local labels, which are listed in the order of the source
+abbrev pub final_line : List Local → LaidLine → List LaidLine → SourceLine
+final_line locals l before = with_forth (forth_of (stretch_behind (statements_of (l ∷ before))) (length before) locals) l.line
+
+-- the lines of a source, in its order
 abbrev pub final_lines : List Local → List LaidLine → List SourceLine
 final_lines locals [] = []
-final_lines locals (l ∷ before) =
-    final_lines locals before
-    ++ reversed (map (with_forth (forth_of (stretch_behind (statements_of (l ∷ before))) (length before) locals)) l.lines) []
+final_lines locals (l ∷ before) = final_lines locals before ++ final_line locals l before ∷ l.imported
+
+abbrev pub all_locals : List LaidLine → List Local
+all_locals lines = reversed (locals_of lines) []
 
 abbrev pub source_lines : List LaidLine → List SourceLine
-source_lines lines = final_lines (reversed (locals_of lines) []) lines
+source_lines lines = final_lines (all_locals lines) lines
 
 -- the entry of a line, where the source has these names
 abbrev pub entries_with : List LaidName → SourceLine → Definition → List LaidName

@@ -8,4 +8,5 @@ pub mod Locals
 pub mod OffsetLaws
 pub mod Offsets
 pub mod Placing
+pub mod Symbols
 pub mod Trees

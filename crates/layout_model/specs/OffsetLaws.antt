@@ -1,10 +1,18 @@
 -- What offsets keep: padding is the least that serves, statements of an area don't overlap, and the word of each literal
--- lies in its area, aligned to 4. This project's.
-use Rattle.std.specs.Prelude.{◌≡◌, ℕ, ◌+◌, ◌%◌, ◌≤◌, List, [], ◌∷◌, ◌++◌, Option, Some}
+-- lies in its area, aligned to 4. A statement's alignment needs no values. This project's.
+use Rattle.std.specs.Prelude.{◌≡◌, ℕ, ◌+◌, ◌%◌, ◌≤◌, List, [], ◌∷◌, ◌++◌, Option, Some, Result, Ok}
 use Rattle.asm_model.specs.declared.values.Value.{Value}
 use Rattle.asm_model.specs.declared.values.Value.TheVariants.{Number, Truth, Words, Place}
-use Rattle.layout_model.specs.Extents.{Extent, Loading}
-use Rattle.layout_model.specs.Offsets.{Piece, lacking, waiting, start_in, size_of, area_size, literal_word}
+use Rattle.asm_model.specs.declared.statements.What.{What}
+use Rattle.asm_model.specs.AtLine.{Sight}
+use Rattle.layout_model.specs.Extents.{Extent, Loading, extent_of, alignment}
+use Rattle.layout_model.specs.Offsets.{Piece, alignment_of, lacking, waiting, start_in, size_of, area_size, literal_word}
+
+-- the alignment of a statement is that of what it takes up
+abbrev pub AlignmentsAgree : Type 0
+AlignmentsAgree =
+    (s : Sight) (w : What) (literals : List Value) (e : Extent)
+    → extent_of s w ≡ Ok e → alignment_of literals e ≡ alignment s.known.thumb literals w
 
 -- so many bytes reach an offset that is the multiple plus the number, and no fewer do
 abbrev pub PaddingIsLeast : Type 0

@@ -1,7 +1,7 @@
 //! Laws of the definitions, each proved as the contract of an empty function.
 
 ghost use Rattle.layout_model.specs.Entries.{EqualNamesHaveSymbols, EqualNamesStay, LinesCountFromHere};
-ghost use Rattle.layout_model.specs.OffsetLaws.{LiteralsHaveWords, PaddingIsLeast, StatementsFollow};
+ghost use Rattle.layout_model.specs.OffsetLaws.{AlignmentsAgree, LiteralsHaveWords, PaddingIsLeast, StatementsFollow};
 ghost use Rattle.layout_model.specs.Placing.{PlacingLaw};
 ghost use Rattle.layout_model.specs.Trees.{TreesReadBack};
 
@@ -28,6 +28,11 @@ pub fn lines_count_from_here()
 /// An expression has the tree that its tokens spell.
 pub fn trees_read_back()
     ensures { TreesReadBack }
+{}
+
+/// The alignment of a statement needs no values.
+pub fn alignments_agree()
+    ensures { AlignmentsAgree }
 {}
 
 /// Padding is the least that serves.
