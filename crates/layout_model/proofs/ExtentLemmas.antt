@@ -1,5 +1,5 @@
 -- The alignment of a statement is that of what it takes up.
-use Rattle.std.proofs.Common.{◌≡◌, ℕ, List, [], ◌∷◌, Bool, true, false, cond, refl, sym, ◌∙◌, ap, subst, Option, Some, None}
+use Rattle.std.proofs.Common.{◌≡◌, ℕ, List, Bool, true, false, cond, refl, subst}
 use Rattle.std.specs.Prelude.{Result, Ok, Err}
 use Rattle.sdt_fault.specs.declared.kinds.LineKind.{LineKind}
 use Rattle.asm_model.specs.declared.values.Value.{Value}
@@ -16,7 +16,7 @@ use Rattle.asm_model.specs.declared.directives.DirectiveLine.{DirectiveLine}
 use Rattle.asm_model.specs.declared.directives.DirectiveLine.TheVariants as line
 use Rattle.asm_model.specs.AtLine.{Sight}
 use Rattle.asm_model.specs.Says.{on_both, mapped}
-use Rattle.layout_model.specs.Extents.{Extent, Block, Padding, Loading, Pool, number_there, literal_there, is_moved, instruction, loading, thumb_extent, pseudo_extent, as_multiple, padding, directive_extent, extent_of, pseudo_alignment, directive_alignment, alignment}
+use Rattle.layout_model.specs.Extents.{Extent, Block, Padding, Loading, number_there, literal_there, is_moved, instruction, loading, thumb_extent, pseudo_extent, as_multiple, padding, directive_extent, extent_of, pseudo_alignment, directive_alignment, alignment}
 use Rattle.layout_model.specs.Offsets.{alignment_of}
 
 abbrev AlignsAs : List Value → ℕ → Result Extent LineKind → Type 0

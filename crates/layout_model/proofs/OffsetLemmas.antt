@@ -1,13 +1,12 @@
 -- Offsets: padding is the least that serves, statements don't overlap, and literals have words.
-use Rattle.std.proofs.Common.{◌≡◌, ℕ, suc, ◌+◌, ◌-◌, ◌*◌, ◌%◌, ◌<◌, ◌≤◌, ◌==◌, ◌&&◌, ◌||◌, List, [], ◌∷◌, ◌++◌, length, Bool, true, false, cond, refl, sym, ◌∙◌, ap, subst, arith, eq-eqb, Option, Some, None}
+use Rattle.std.proofs.Common.{◌≡◌, ℕ, suc, ◌+◌, ◌-◌, ◌*◌, ◌%◌, ◌<◌, ◌≤◌, ◌==◌, ◌&&◌, ◌||◌, List, [], ◌∷◌, ◌++◌, length, Bool, true, false, cond, refl, sym, ◌∙◌, ap, subst, arith, eq-eqb, Option, Some}
 use Rattle.std.specs.List.{list_any}
 use Rattle.std.proofs.Math.Nat.{mod-add-mod, add-mod_left, mod-le, mod-lt}
 use Rattle.asm_model.specs.declared.values.Value.{Value}
 use Rattle.asm_model.specs.declared.values.Value.TheVariants.{Number, Truth, Words, Place}
-use Rattle.asm_model.specs.Forms.{same}
 use Rattle.asm_model.proofs.WordLemmas.{same_refl}
 use Rattle.layout_model.specs.Extents.{Extent, Block, Padding, Loading, Pool}
-use Rattle.layout_model.specs.Offsets.{Piece, is_of, lacking, raised, same_literal, noted, waiting_behind, waiting, alignment_of, size_of, start_from, end_at, end_from, end_behind, start_in, area_size, place_among, word_behind, is_pool, is_pool_of, literal_word}
+use Rattle.layout_model.specs.Offsets.{Piece, is_of, lacking, raised, same_literal, noted, waiting_behind, waiting, alignment_of, size_of, start_from, end_from, end_behind, start_in, area_size, place_among, word_behind, is_pool, is_pool_of, literal_word}
 use Rattle.layout_model.specs.OffsetLaws.{joined, IsLiteral}
 
 -- ---- padding
@@ -242,6 +241,7 @@ loaded_waits area before s n v here loads h =
 pub literals_have_words : (area : ℕ) (before rest : List Piece) (s : Piece) (n : ℕ) (v : Value) → s.area ≡ Some area → s.extent ≡ Loading n v → IsLiteral v
     → (literal_word area (s ∷ before) rest v % 4 ≡ 0)
     × (literal_word area (s ∷ before) rest v + 4 ≤ area_size area (joined (s ∷ before) rest))
-literals_have_words area before rest s n v here loads h =
-    (word_aligned area (s ∷ before) rest v (loaded_waits area before s n v here loads h),
-    word_inside area (s ∷ before) rest v (loaded_waits area before s n v here loads h))
+literals_have_words area before rest s n v here loads h = (
+  word_aligned area (s ∷ before) rest v (loaded_waits area before s n v here loads h),
+  word_inside area (s ∷ before) rest v (loaded_waits area before s n v here loads h),
+)

@@ -1,5 +1,5 @@
 -- Worked rows: what statements take up, and where they stand.
-use Rattle.std.proofs.Common.{◌≡◌, ℕ, List, [], ◌∷◌, Bool, true, false, refl, Some, None, codes}
+use Rattle.std.proofs.Common.{◌≡◌, ℕ, List, [], ◌∷◌, Bool, true, false, refl, Some, codes}
 use Rattle.std.specs.Prelude.{Result, Ok, Err}
 use Rattle.sdt_word.specs.declared.codes.Condition.TheVariants.{Al}
 use Rattle.sdt_fault.specs.declared.kinds.LineKind.{LineKind}

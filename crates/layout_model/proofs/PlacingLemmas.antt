@@ -1,5 +1,5 @@
 -- Evaluating and then placing is evaluating what is placed.
-use Rattle.std.proofs.Common.{◌≡◌, ℕ, ◌+◌, ◌-◌, ◌%◌, ◌^◌, ◌==◌, List, [], ◌∷◌, length, map, Bool, true, false, cond, refl, sym, ◌∙◌, ap, subst, arith, Option, Some, None}
+use Rattle.std.proofs.Common.{◌≡◌, ℕ, ◌+◌, ◌%◌, ◌^◌, ◌==◌, List, [], ◌∷◌, length, map, Bool, true, false, cond, refl, sym, ◌∙◌, ap, arith, Option, Some, None}
 use Rattle.std.proofs.lemmas.Bool.{eqb-true}
 use Rattle.std.specs.Prelude.{Result, Ok, Err, nat_lt}
 use Rattle.std.specs.Ordering.{nat_cmp}
@@ -20,9 +20,9 @@ use Rattle.asm_model.specs.declared.names.Names.{Names}
 use Rattle.asm_model.specs.Forms.{same}
 use Rattle.asm_model.specs.Grammar.{Tree, Leaf, Before, Between}
 use Rattle.asm_model.specs.Limits.{string_bytes}
-use Rattle.asm_model.specs.Meaning.{named_in, in_area, less, arithmetic, related, logical, joined_strings, cut_string, moved_place, added_place, entry_stands_at, stands_at, distance, between_places, as_number, as_truth, as_words, as_place, truth_or, binary, unary_of, Operand, Known, Unread, value_of, size_of, known, then_of, on_both, applied, operand_of_item, operand_of_tree, meaning}
+use Rattle.asm_model.specs.Meaning.{named_in, in_area, less, arithmetic, related, logical, joined_strings, cut_string, moved_place, added_place, stands_at, distance, between_places, as_number, as_truth, as_words, as_place, truth_or, binary, unary_of, Known, Unread, value_of, size_of, known, then_of, on_both, applied, operand_of_item, meaning}
 use Rattle.asm_model.proofs.LineLemmas.{applied_known}
-use Rattle.layout_model.specs.Placing.{Placing, address_at, address_of, placed_value, seen_from, placed_name, placed_names, placed_item, placed_tree, placed_meaning, IsOfArea, CountFromHere}
+use Rattle.layout_model.specs.Placing.{Placing, address_at, address_of, placed_value, seen_from, placed_name, placed_names, placed_item, placed_meaning, IsOfArea, CountFromHere}
 
 -- ---- numbers
 

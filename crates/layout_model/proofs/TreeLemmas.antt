@@ -1,5 +1,5 @@
 -- An expression has the tree that its tokens spell.
-use Rattle.std.proofs.Common.{◌≡◌, ℕ, suc, List, [], ◌∷◌, ◌++◌, refl, sym, ◌∙◌, ap, append_assoc, append-nil, Option, Some, None}
+use Rattle.std.proofs.Common.{◌≡◌, ℕ, suc, List, [], ◌∷◌, ◌++◌, refl, sym, ◌∙◌, ap, append_assoc, append-nil, Some}
 use Rattle.asm_model.specs.declared.exprs.Expr.{Expr}
 use Rattle.asm_model.specs.declared.exprs.ExprItem.{ExprItem}
 use Rattle.asm_model.specs.declared.exprs.ExprItem.TheVariants as item
@@ -7,7 +7,7 @@ use Rattle.asm_model.specs.declared.exprs.Part.{Part}
 use Rattle.asm_model.specs.declared.exprs.Part.TheVariants as part
 use Rattle.asm_model.specs.declared.values.Value.TheVariants.{Number}
 use Rattle.asm_model.specs.Grammar.{Tree, Leaf, Before, Between, postfix, plain, operand_of, Spells, operand, of_name, before, grouped, between, tighter, IsSpelled}
-use Rattle.layout_model.specs.Trees.{grown, grown_behind, tree_behind, tree_of}
+use Rattle.layout_model.specs.Trees.{grown, tree_behind, tree_of}
 
 abbrev IsPlain : Tree → Type 0
 IsPlain (Leaf i) = plain i ≡ Some i

@@ -8,12 +8,11 @@ use Rattle.asm_model.specs.declared.exprs.Expr.{Expr}
 use Rattle.asm_model.specs.declared.values.Value.{Value}
 use Rattle.asm_model.specs.declared.values.Value.TheVariants.{Number}
 use Rattle.asm_model.specs.declared.names.LaidName.{LaidName}
-use Rattle.asm_model.specs.declared.names.Names.{Names}
 use Rattle.asm_model.specs.declared.directives.DirectiveLine.TheVariants as line
 use Rattle.asm_model.specs.declared.statements.Statement.{Statement}
 use Rattle.asm_model.specs.declared.statements.What.{What}
 use Rattle.asm_model.specs.declared.statements.What.TheVariants as what
-use Rattle.asm_model.specs.AtLine.{Definition, Nameless, Named, Equated, SourceLine, Sight, sight, seen_behind, with_names, all_names, own_names, made_name}
+use Rattle.asm_model.specs.AtLine.{Definition, Nameless, Named, Equated, SourceLine, Sight, sight, seen_behind, with_names, all_names, made_name}
 use Rattle.asm_model.specs.Grammar.{Tree}
 use Rattle.asm_model.specs.Meaning.{meaning}
 use Rattle.layout_model.specs.Before.{thumb_behind, area_behind, stretch_behind, is_thumb_label}
@@ -122,8 +121,8 @@ line_behind d s before definition = record {
   map = map_behind before;
   thumb = thumb_behind (statements_of before);
   back = back_of (stretch_behind (s ∷ statements_of before)) (length before)
-    (local_entries (defined_by s) (stretch_behind (s ∷ statements_of before)) (length before) (area_behind (s ∷ statements_of before)) (offset_behind s before)
-    ++ locals_of before);
+      (local_entries (defined_by s) (stretch_behind (s ∷ statements_of before)) (length before) (area_behind (s ∷ statements_of before)) (offset_behind s before)
+      ++ locals_of before);
   forth = forth_of (stretch_behind (s ∷ statements_of before)) (length before) d.locals;
   definition = definition;
 }

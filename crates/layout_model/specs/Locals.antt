@@ -1,12 +1,12 @@
 -- Local labels: what a reference names. A reference counts in the stretch of lines of its own line. `%B1` is the nearest
 -- label 1 on its line or before, `%F1` the nearest on a later line, and `%1` the one before, or else the later one.
 -- SDT 2.50 Reference Guide, chapter on the assembler; that labels are compared as numbers is this project's.
-use Rattle.std.specs.Prelude.{ℕ, ◌+◌, ◌/◌, ◌%◌, ◌==◌, ◌&&◌, nat_lt, nat_le, List, [], ◌∷◌, ◌++◌, length, codes, map, false, if◌then◌else◌, Option, Some, None}
+use Rattle.std.specs.Prelude.{ℕ, ◌+◌, ◌/◌, ◌%◌, ◌==◌, ◌&&◌, nat_lt, nat_le, List, [], ◌∷◌, ◌++◌, length, codes, map, false, if◌then◌else◌, Option, None}
 use Rattle.asm_model.specs.declared.values.Value.TheVariants.{Place}
 use Rattle.asm_model.specs.declared.names.LaidName.{LaidName}
 use Rattle.asm_model.specs.declared.statements.Statement.{Statement}
 use Rattle.layout_model.specs.Before.{stretch_behind}
-use Rattle.layout_model.specs.Labels.{Defined, Unnamed, LocalLabel, Label, Equal, MapField, RegisterName, defined_by}
+use Rattle.layout_model.specs.Labels.{Defined, LocalLabel, defined_by}
 
 -- a local label: its number, the stretch and the statement where it stands, counted from 0, and its place
 pub record Local : Type 0 where

@@ -3,7 +3,7 @@
 -- evaluating and then placing is evaluating what is placed. This project's.
 -- The law says nothing of an expression that has no value with symbols, though it may have one when placed, as a
 -- product with a label has.
-use Rattle.std.specs.Prelude.{◌≡◌, ℕ, ◌+◌, ◌%◌, ◌^◌, List, [], ◌∷◌, map, Option, Some, None, Result, Ok, Err}
+use Rattle.std.specs.Prelude.{◌≡◌, ℕ, ◌+◌, ◌%◌, ◌^◌, List, [], ◌∷◌, map, Option, Some, None, Result, Ok}
 use Rattle.sdt_fault.specs.declared.kinds.LineKind.{LineKind}
 use Rattle.asm_model.specs.declared.exprs.ExprItem.{ExprItem}
 use Rattle.asm_model.specs.declared.exprs.ExprItem.TheVariants as item
@@ -12,7 +12,7 @@ use Rattle.asm_model.specs.declared.values.Value.TheVariants.{Number, Truth, Wor
 use Rattle.asm_model.specs.declared.names.LaidName.{LaidName}
 use Rattle.asm_model.specs.declared.names.Names.{Names}
 use Rattle.asm_model.specs.Grammar.{Tree, Leaf, Before, Between}
-use Rattle.asm_model.specs.Meaning.{named_in, in_area, stands_at, meaning}
+use Rattle.asm_model.specs.Meaning.{named_in, stands_at, meaning}
 
 -- a base for each area, and a value for each symbol that stands in none, as an imported one
 pub record Placing : Type 0 where

@@ -2,7 +2,7 @@
 -- symbol relocation needs, in order of the first line that so names them; a literal's name counts for the line of its
 -- LDR. A word needs a symbol that stands in no area of the source. A branch of ARM state, and BL in Thumb state, needs one
 -- that isn't a label of the same area and state. ARM Object Format, symbols; the order is this project's.
-use Rattle.std.specs.Prelude.{ℕ, List, [], ◌∷◌, ◌++◌, ◌==◌, ◌&&◌, not, Bool, true, false, if◌then◌else◌, Option, Some, None, Result, Ok, Err}
+use Rattle.std.specs.Prelude.{ℕ, List, [], ◌∷◌, ◌++◌, ◌==◌, ◌&&◌, not, Bool, false, if◌then◌else◌, Option, Some, None, Result, Ok}
 use Rattle.sdt_fault.specs.declared.kinds.LineKind.{LineKind}
 use Rattle.asm_model.specs.declared.exprs.Expr.{Expr}
 use Rattle.asm_model.specs.declared.exprs.ExprItem.TheVariants as item
@@ -17,11 +17,10 @@ use Rattle.asm_model.specs.declared.thumb_lines.ThumbLine.{ThumbLine}
 use Rattle.asm_model.specs.declared.thumb_lines.ThumbLine.TheVariants as thumb
 use Rattle.asm_model.specs.declared.directives.DirectiveLine.{DirectiveLine}
 use Rattle.asm_model.specs.declared.directives.DirectiveLine.TheVariants as line
-use Rattle.asm_model.specs.declared.statements.Statement.{Statement}
 use Rattle.asm_model.specs.declared.statements.What.{What}
 use Rattle.asm_model.specs.declared.statements.What.TheVariants as what
 use Rattle.asm_model.specs.AtLine.{SourceLine, with_names, all_names}
-use Rattle.asm_model.specs.Grammar.{Tree, Leaf, Between}
+use Rattle.asm_model.specs.Grammar.{Leaf, Between}
 use Rattle.asm_model.specs.Meaning.{named_in, stands_at, meaning}
 use Rattle.layout_model.specs.Before.{with_name}
 use Rattle.layout_model.specs.Entries.{thumb_of}
