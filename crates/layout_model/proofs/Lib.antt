@@ -1,5 +1,7 @@
 pub mod EntryLemmas
 pub mod ExtentLemmas
+pub mod KindRows
+pub mod LaidLemmas
 pub mod LaidRows
 pub mod OffsetLemmas
 pub mod OffsetRows

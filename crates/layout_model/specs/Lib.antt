@@ -4,6 +4,8 @@ pub mod Entries
 pub mod Extents
 pub mod Labels
 pub mod Laid
+pub mod LaidLaws
+pub mod LayoutKinds
 pub mod Locals
 pub mod OffsetLaws
 pub mod Offsets

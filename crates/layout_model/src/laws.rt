@@ -1,6 +1,7 @@
 //! Laws of the definitions, each proved as the contract of an empty function.
 
 ghost use Rattle.layout_model.specs.Entries.{EqualNamesHaveSymbols, EqualNamesStay, LinesCountFromHere};
+ghost use Rattle.layout_model.specs.LaidLaws.{LinesStandAtOffsets, LoadingsAreLiterals};
 ghost use Rattle.layout_model.specs.OffsetLaws.{AlignmentsAgree, LiteralsHaveWords, PaddingIsLeast, StatementsFollow};
 ghost use Rattle.layout_model.specs.Placing.{PlacingLaw};
 ghost use Rattle.layout_model.specs.Trees.{TreesReadBack};
@@ -48,4 +49,14 @@ pub fn statements_follow()
 /// The word of each literal lies in its area, aligned to 4.
 pub fn literals_have_words()
     ensures { LiteralsHaveWords }
+{}
+
+/// A laid line stands where what it takes up starts behind the lines before.
+pub fn lines_stand_at_offsets()
+    ensures { LinesStandAtOffsets }
+{}
+
+/// What a statement loads from a pool is a number, or a name plus a number.
+pub fn loadings_are_literals()
+    ensures { LoadingsAreLiterals }
 {}
