@@ -57,6 +57,9 @@ before_area = refl
 label_before_area : told (area 2 contents.Code false ∷ says 1 (Some (codes "x")) line.Code16 ∷ []) ≡ Some (1, NoArea)
 label_before_area = refl
 
+place_before_area : told (area 2 contents.Code false ∷ says 1 (Some (codes "x")) (line.Equ (record { items = item.Here ∷ [] })) ∷ []) ≡ Some (1, NoArea)
+place_before_area = refl
+
 two_labels : told (words 3 (Some (codes "x")) ∷ words 2 (Some (codes "x")) ∷ area 1 contents.Code false ∷ []) ≡ Some (3, DuplicateName)
 two_labels = refl
 

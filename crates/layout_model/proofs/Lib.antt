@@ -3,6 +3,7 @@ pub mod ExtentLemmas
 pub mod KindRows
 pub mod LaidLemmas
 pub mod LaidRows
+pub mod NameLemmas
 pub mod OffsetLemmas
 pub mod OffsetRows
 pub mod PlacingLemmas

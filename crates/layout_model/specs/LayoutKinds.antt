@@ -67,9 +67,18 @@ has_place (LocalLabel n) = true
 has_place (Label name) = true
 has_place _ = false
 
+abbrev pub is_here : ExprItem → Bool
+is_here item.Here = true
+is_here _ = false
+
+-- whether a name is for an expression of this place
+abbrev pub names_here : Defined → Bool
+names_here (Equal name e) = list_any is_here e.items
+names_here _ = false
+
 abbrev pub no_area_kinds : Option ℕ → Defined → What → List LineKind
 no_area_kinds (Some area) d w = []
-no_area_kinds None d w = kind_if (not (is_free w) || has_place d) NoArea
+no_area_kinds None d w = kind_if (not (is_free w) || has_place d || names_here d) NoArea
 
 -- whether a statement may stand among data that is zero
 abbrev pub is_zero_statement : What → Bool

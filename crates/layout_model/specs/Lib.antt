@@ -7,6 +7,7 @@ pub mod Laid
 pub mod LaidLaws
 pub mod LayoutKinds
 pub mod Locals
+pub mod Marks
 pub mod OffsetLaws
 pub mod Offsets
 pub mod Placing

@@ -1,7 +1,7 @@
 //! Laws of the definitions, each proved as the contract of an empty function.
 
 ghost use Rattle.layout_model.specs.Entries.{EqualNamesHaveSymbols, EqualNamesStay, LinesCountFromHere};
-ghost use Rattle.layout_model.specs.LaidLaws.{LinesStandAtOffsets, LoadingsAreLiterals};
+ghost use Rattle.layout_model.specs.LaidLaws.{LaterNamesAloneCount, LinesStandAtOffsets, LoadingsAreLiterals};
 ghost use Rattle.layout_model.specs.OffsetLaws.{AlignmentsAgree, LiteralsHaveWords, PaddingIsLeast, StatementsFollow};
 ghost use Rattle.layout_model.specs.Placing.{PlacingLaw};
 ghost use Rattle.layout_model.specs.Trees.{TreesReadBack};
@@ -59,4 +59,9 @@ pub fn lines_stand_at_offsets()
 /// What a statement loads from a pool is a number, or a name plus a number.
 pub fn loadings_are_literals()
     ensures { LoadingsAreLiterals }
+{}
+
+/// What is known at a line needs no places and values of later names.
+pub fn later_names_alone_count()
+    ensures { LaterNamesAloneCount }
 {}
