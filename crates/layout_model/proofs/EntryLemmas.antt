@@ -47,7 +47,7 @@ symbols_of_area : (here : Option ℕ) (ns : List LaidName) → EachHasSymbol ns 
 symbols_of_area here [] h = tt
 symbols_of_area here (n ∷ ns) h = (symbol_of_area here n.area n.value h.0, symbols_of_area here ns h.1)
 
-joined_of_area : (here : Option ℕ) (ns ms : List LaidName) → EachOfArea here ns → EachOfArea here ms → EachOfArea here (ns ++ ms)
+pub joined_of_area : (here : Option ℕ) (ns ms : List LaidName) → EachOfArea here ns → EachOfArea here ms → EachOfArea here (ns ++ ms)
 joined_of_area here [] ms h k = k
 joined_of_area here (n ∷ ns) ms h k = (h.0, joined_of_area here ns ms h.1 k)
 

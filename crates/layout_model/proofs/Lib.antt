@@ -6,5 +6,6 @@ pub mod LaidRows
 pub mod NameLemmas
 pub mod OffsetLemmas
 pub mod OffsetRows
+pub mod PlacedLemmas
 pub mod PlacingLemmas
 pub mod TreeLemmas

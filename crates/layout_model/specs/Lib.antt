@@ -10,6 +10,7 @@ pub mod Locals
 pub mod Marks
 pub mod OffsetLaws
 pub mod Offsets
+pub mod PlacedLines
 pub mod Placing
 pub mod Symbols
 pub mod Trees

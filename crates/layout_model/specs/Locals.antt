@@ -8,24 +8,24 @@ use Rattle.asm_model.specs.declared.statements.Statement.{Statement}
 use Rattle.layout_model.specs.Before.{stretch_behind}
 use Rattle.layout_model.specs.Labels.{Defined, LocalLabel, defined_by}
 
--- a local label: its number, the stretch and the statement where it stands, counted from 0, and its place
+-- a local label: its number, the stretch and the statement where it stands, counted from 0, and its offset; a stretch lies
+-- in one area
 pub record Local : Type 0 where
   pub number : ℕ
   pub stretch : ℕ
   pub statement : ℕ
-  pub area : Option ℕ
   pub offset : ℕ
 
-abbrev pub local_entries : Defined → ℕ → ℕ → Option ℕ → ℕ → List Local
-local_entries (LocalLabel n) stretch statement area offset =
-    record { number = n; stretch = stretch; statement = statement; area = area; offset = offset } ∷ []
-local_entries _ stretch statement area offset = []
+abbrev pub local_entries : Defined → ℕ → ℕ → ℕ → List Local
+local_entries (LocalLabel n) stretch statement offset =
+    record { number = n; stretch = stretch; statement = statement; offset = offset } ∷ []
+local_entries _ stretch statement offset = []
 
 -- the local labels of a source, without their places
 abbrev pub declared_locals : List Statement → List Local
 declared_locals [] = []
 declared_locals (s ∷ before) =
-    declared_locals before ++ local_entries (defined_by s) (stretch_behind (s ∷ before)) (length before) None 0
+    declared_locals before ++ local_entries (defined_by s) (stretch_behind (s ∷ before)) (length before) 0
 
 -- ---- references
 
@@ -34,27 +34,27 @@ abbrev pub digits_of : ℕ → List (List ℕ)
 digits_of n =
     if nat_lt n 10 then ((48 + n) ∷ []) ∷ (48 ∷ (48 + n) ∷ []) ∷ [] else ((48 + n / 10) ∷ (48 + n % 10) ∷ []) ∷ []
 
--- the entry of a reference: its text behind a bar, and a place in the area
-abbrev pub reference : Local → List ℕ → LaidName
-reference l text =
-    record { name = 124 ∷ text; value = Place [] l.offset; area = l.area; offset = l.offset; size = 0; thumb = false }
+-- the entry of a reference: its text behind a bar, and a place in the area of its line
+abbrev pub reference : Option ℕ → Local → List ℕ → LaidName
+reference area l text =
+    record { name = 124 ∷ text; value = Place [] l.offset; area = area; offset = l.offset; size = 0; thumb = false }
 
 -- what a label is referred to as, behind one of these marks
-abbrev pub references_to : Local → List (List ℕ) → List LaidName
-references_to l [] = []
-references_to l (mark ∷ marks) = map (λ digits. reference l (mark ++ digits)) (digits_of l.number) ++ references_to l marks
+abbrev pub references_to : Option ℕ → Local → List (List ℕ) → List LaidName
+references_to area l [] = []
+references_to area l (mark ∷ marks) = map (λ digits. reference area l (mark ++ digits)) (digits_of l.number) ++ references_to area l marks
 
 -- what references of a statement name on its line and before, the nearest first, where these labels are listed with
 -- the nearest first
-abbrev pub back_of : ℕ → ℕ → List Local → List LaidName
-back_of stretch statement [] = []
-back_of stretch statement (l ∷ ls) =
-    if l.stretch == stretch && nat_le l.statement statement then references_to l (codes "%B" ∷ codes "%" ∷ []) ++ back_of stretch statement ls
-    else back_of stretch statement ls
+abbrev pub back_of : Option ℕ → ℕ → ℕ → List Local → List LaidName
+back_of area stretch statement [] = []
+back_of area stretch statement (l ∷ ls) =
+    if l.stretch == stretch && nat_le l.statement statement then references_to area l (codes "%B" ∷ codes "%" ∷ []) ++ back_of area stretch statement ls
+    else back_of area stretch statement ls
 
 -- and on later lines, where the labels are listed in the order of the source
-abbrev pub forth_of : ℕ → ℕ → List Local → List LaidName
-forth_of stretch statement [] = []
-forth_of stretch statement (l ∷ ls) =
-    if l.stretch == stretch && nat_lt statement l.statement then references_to l (codes "%F" ∷ codes "%" ∷ []) ++ forth_of stretch statement ls
-    else forth_of stretch statement ls
+abbrev pub forth_of : Option ℕ → ℕ → ℕ → List Local → List LaidName
+forth_of area stretch statement [] = []
+forth_of area stretch statement (l ∷ ls) =
+    if l.stretch == stretch && nat_lt statement l.statement then references_to area l (codes "%F" ∷ codes "%" ∷ []) ++ forth_of area stretch statement ls
+    else forth_of area stretch statement ls

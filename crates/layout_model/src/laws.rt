@@ -3,6 +3,7 @@
 ghost use Rattle.layout_model.specs.Entries.{EqualNamesHaveSymbols, EqualNamesStay, LinesCountFromHere};
 ghost use Rattle.layout_model.specs.LaidLaws.{LaterNamesAloneCount, LinesStandAtOffsets, LoadingsAreLiterals};
 ghost use Rattle.layout_model.specs.OffsetLaws.{AlignmentsAgree, LiteralsHaveWords, PaddingIsLeast, StatementsFollow};
+ghost use Rattle.layout_model.specs.PlacedLines.{FinalNamesHaveSymbols, LaidLinesCountFromHere};
 ghost use Rattle.layout_model.specs.Placing.{PlacingLaw};
 ghost use Rattle.layout_model.specs.Trees.{TreesReadBack};
 
@@ -64,4 +65,14 @@ pub fn loadings_are_literals()
 /// What is known at a line needs no places and values of later names.
 pub fn later_names_alone_count()
     ensures { LaterNamesAloneCount }
+{}
+
+/// The names of a source have symbols.
+pub fn final_names_have_symbols()
+    ensures { FinalNamesHaveSymbols }
+{}
+
+/// What a laid line sees in the end without a symbol counts from its area.
+pub fn laid_lines_count_from_here()
+    ensures { LaidLinesCountFromHere }
 {}
