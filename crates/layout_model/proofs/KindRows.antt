@@ -8,7 +8,6 @@ use Rattle.asm_model.specs.declared.exprs.ExprItem.TheVariants as item
 use Rattle.asm_model.specs.declared.values.Value.TheVariants.{Number}
 use Rattle.asm_model.specs.declared.operands.Register.TheVariants as register
 use Rattle.asm_model.specs.declared.statements.Statement.{Statement}
-use Rattle.asm_model.specs.declared.statements.What.{What}
 use Rattle.asm_model.specs.declared.statements.What.TheVariants as what
 use Rattle.asm_model.specs.declared.statements.PseudoLine.TheVariants as pseudo
 use Rattle.asm_model.specs.declared.directives.Contents.{Contents}

@@ -1,5 +1,5 @@
 -- Laid lines stand at their offsets, and load literals.
-use Rattle.std.proofs.Common.{◌≡◌, ℕ, List, [], ◌∷◌, Bool, true, false, cond, refl, sym, ap, subst, Option, Some, None}
+use Rattle.std.proofs.Common.{◌≡◌, ℕ, List, ◌∷◌, Bool, true, false, cond, refl, sym, ap, subst, Option, Some, None}
 use Rattle.std.specs.Prelude.{Result, Ok, Err}
 use Rattle.sdt_fault.specs.declared.kinds.LineKind.{LineKind}
 use Rattle.asm_model.specs.declared.values.Value.{Value}
@@ -18,8 +18,8 @@ use Rattle.asm_model.specs.declared.directives.DirectiveLine.TheVariants as line
 use Rattle.asm_model.specs.AtLine.{Sight, value_at, kept_names, literal_or}
 use Rattle.asm_model.specs.Grammar.{Tree}
 use Rattle.asm_model.specs.Says.{on_both, mapped}
-use Rattle.layout_model.specs.Before.{thumb_behind, area_behind}
-use Rattle.layout_model.specs.Extents.{Extent, Block, Padding, Loading, Pool, number_there, literal_there, tree_literal, is_moved, instruction, loading, thumb_extent, pseudo_extent, as_multiple, padding, directive_extent, extent_of, alignment}
+use Rattle.layout_model.specs.Before.{area_behind}
+use Rattle.layout_model.specs.Extents.{Extent, Block, Padding, Loading, number_there, literal_there, tree_literal, is_moved, instruction, loading, thumb_extent, pseudo_extent, as_multiple, padding, directive_extent, extent_of}
 use Rattle.layout_model.specs.Laid.{Declared, LaidLine, statements_of, pieces_of, taken, aligned_end, sight_behind, laid_behind}
 use Rattle.layout_model.specs.OffsetLaws.{IsLiteral}
 use Rattle.layout_model.specs.Offsets.{Piece, raised, waiting, end_behind, offset_of, size_behind}
@@ -36,9 +36,10 @@ starts_there (Some area) pieces s w e h = ap (raised (end_behind area pieces)) (
 pub lines_stand_at_offsets : (d : Declared) (s : Statement) (before : List LaidLine) (e : Extent) → (laid_behind d s before).extent ≡ Ok e
     → ((laid_behind d s before).offset ≡ offset_of (laid_behind d s before).area (pieces_of before) e)
     × ((laid_behind d s before).size ≡ size_behind (laid_behind d s before).area (pieces_of before) e)
-lines_stand_at_offsets d s before e h =
-    (starts_there (area_behind (s ∷ statements_of before)) (pieces_of before) (sight_behind d s before) s.what e h,
-    ap (λ r. size_behind (area_behind (s ∷ statements_of before)) (pieces_of before) (taken r)) h)
+lines_stand_at_offsets d s before e h = (
+  starts_there (area_behind (s ∷ statements_of before)) (pieces_of before) (sight_behind d s before) s.what e h,
+  ap (λ r. size_behind (area_behind (s ∷ statements_of before)) (pieces_of before) (taken r)) h,
+)
 
 -- ---- literals
 

@@ -141,6 +141,7 @@ forward = refl
 either_way : value_on (laid routines) (dropped 4) (reference (codes "%1")) ≡ Ok (Place [] 0)
 either_way = refl
 
+-- the nearest of two, on its own line
 own_line : value_on (laid routines) (dropped 3) (reference (codes "%B1")) ≡ Ok (Place [] 8)
 own_line = refl
 

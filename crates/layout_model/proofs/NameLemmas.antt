@@ -1,8 +1,6 @@
 -- What is known at a line needs no places and values of later names.
-use Rattle.std.proofs.Common.{◌≡◌, ℕ, List, [], ◌∷◌, ◌++◌, ◌||◌, Bool, true, false, cond, refl, sym, ◌∙◌, ap, Option, Some, None}
-use Rattle.std.specs.Prelude.{Result, Ok, Err}
+use Rattle.std.proofs.Common.{◌≡◌, ℕ, List, [], ◌∷◌, ◌++◌, ◌||◌, Bool, true, false, cond, refl, sym, ◌∙◌, ap, Some}
 use Rattle.std.specs.Option.{is_some}
-use Rattle.sdt_fault.specs.declared.kinds.LineKind.{LineKind}
 use Rattle.sdt_fault.specs.declared.kinds.LineKind.TheVariants.{Forward, UnknownWord}
 use Rattle.asm_model.specs.declared.exprs.ExprItem.{ExprItem}
 use Rattle.asm_model.specs.declared.exprs.ExprItem.TheVariants as item
@@ -15,7 +13,6 @@ use Rattle.asm_model.specs.Forms.{same}
 use Rattle.asm_model.specs.Grammar.{Tree, Leaf, Before, Between}
 use Rattle.asm_model.specs.Kinds.{told_kind}
 use Rattle.asm_model.specs.Meaning.{named_in, meaning}
-use Rattle.layout_model.specs.Laid.{with_forth}
 use Rattle.layout_model.specs.LaidLaws.{SameNames, SameLine, SameLines}
 
 -- ---- names in lists

@@ -1,5 +1,5 @@
 -- What lines see when areas are placed.
-use Rattle.std.proofs.Common.{◌≡◌, ℕ, zero, suc, ◌==◌, ◌&&◌, List, [], ◌∷◌, ◌++◌, length, codes, map, Bool, true, false, cond, refl, Option, Some, None}
+use Rattle.std.proofs.Common.{ℕ, zero, suc, ◌==◌, ◌&&◌, List, [], ◌∷◌, ◌++◌, length, codes, map, Bool, true, false, cond, refl, Option, Some, None}
 use Rattle.std.specs.Prelude.{Result, Ok, Err, nat_lt, nat_le}
 use Rattle.sdt_fault.specs.declared.kinds.LineKind.{LineKind}
 use Rattle.asm_model.specs.declared.values.Value.{Value}
@@ -10,10 +10,10 @@ use Rattle.asm_model.specs.AtLine.{Definition, Nameless, Named, Equated, SourceL
 use Rattle.asm_model.specs.Grammar.{Tree}
 use Rattle.asm_model.specs.Meaning.{meaning}
 use Rattle.layout_model.specs.Before.{stretch_behind, area_behind, is_thumb_label}
-use Rattle.layout_model.specs.Entries.{equal_entry, HasSymbol, EachHasSymbol, EachOfArea}
+use Rattle.layout_model.specs.Entries.{HasSymbol, EachHasSymbol, EachOfArea}
 use Rattle.layout_model.specs.Labels.{Defined, Unnamed, LocalLabel, Label, Equal, MapField, RegisterName, defined_by, imported_in}
 use Rattle.layout_model.specs.Laid.{Declared, declared, LaidLine, statements_of, locals_of, map_behind, offset_behind, tree_equated, definition_of, imported_lines, laid_behind, laid_of, laid, final_line, final_lines, all_locals, source_lines, entries_with, all_entries, names_after, final_names}
-use Rattle.layout_model.specs.Locals.{Local, local_entries, digits_of, reference, references_to, back_of, forth_of}
+use Rattle.layout_model.specs.Locals.{Local, local_entries, digits_of, reference, references_to, is_new, back_of, forth_of}
 use Rattle.layout_model.specs.PlacedLines.{IsName, HasName, HasImport, AllNamed}
 use Rattle.layout_model.specs.Placing.{CountFromHere}
 use Rattle.layout_model.specs.Symbols.{final_sight}
@@ -32,29 +32,31 @@ references_here area l (mark ∷ marks) =
     joined_of_area area (map (λ digits. reference area l (mark ++ digits)) (digits_of l.number)) (references_to area l marks)
     (spelled_here area l mark (digits_of l.number)) (references_here area l marks)
 
-either_here : (area : Option ℕ) (b : Bool) (ns ms : List LaidName) → EachOfArea area ns → EachOfArea area ms → EachOfArea area (cond b (ns ++ ms) ms)
-either_here area true ns ms h g = joined_of_area area ns ms h g
-either_here area false ns ms h g = g
+either_here : (area : Option ℕ) (b : Bool) (ns ms us : List LaidName) → EachOfArea area ns → EachOfArea area ms → EachOfArea area us → EachOfArea area (cond b (ns ++ ms) us)
+either_here area true ns ms us h g k = joined_of_area area ns ms h g
+either_here area false ns ms us h g k = k
 
-back_here : (area : Option ℕ) (stretch statement : ℕ) (ls : List Local) → EachOfArea area (back_of area stretch statement ls)
-back_here area stretch statement [] = tt
-back_here area stretch statement (l ∷ ls) =
-    either_here area (l.stretch == stretch && nat_le l.statement statement) (references_to area l (codes "%B" ∷ codes "%" ∷ [])) (back_of area stretch statement ls)
-    (references_here area l (codes "%B" ∷ codes "%" ∷ [])) (back_here area stretch statement ls)
+back_here : (area : Option ℕ) (stretch statement : ℕ) (nearer : List ℕ) (ls : List Local) → EachOfArea area (back_of area stretch statement nearer ls)
+back_here area stretch statement nearer [] = tt
+back_here area stretch statement nearer (l ∷ ls) =
+    either_here area (l.stretch == stretch && nat_le l.statement statement && is_new l.number nearer) (references_to area l (codes "%B" ∷ codes "%" ∷ []))
+    (back_of area stretch statement (l.number ∷ nearer) ls) (back_of area stretch statement nearer ls)
+    (references_here area l (codes "%B" ∷ codes "%" ∷ [])) (back_here area stretch statement (l.number ∷ nearer) ls) (back_here area stretch statement nearer ls)
 
-forth_here : (area : Option ℕ) (stretch statement : ℕ) (ls : List Local) → EachOfArea area (forth_of area stretch statement ls)
-forth_here area stretch statement [] = tt
-forth_here area stretch statement (l ∷ ls) =
-    either_here area (l.stretch == stretch && nat_lt statement l.statement) (references_to area l (codes "%F" ∷ codes "%" ∷ [])) (forth_of area stretch statement ls)
-    (references_here area l (codes "%F" ∷ codes "%" ∷ [])) (forth_here area stretch statement ls)
+forth_here : (area : Option ℕ) (stretch statement : ℕ) (nearer : List ℕ) (ls : List Local) → EachOfArea area (forth_of area stretch statement nearer ls)
+forth_here area stretch statement nearer [] = tt
+forth_here area stretch statement nearer (l ∷ ls) =
+    either_here area (l.stretch == stretch && nat_lt statement l.statement && is_new l.number nearer) (references_to area l (codes "%F" ∷ codes "%" ∷ []))
+    (forth_of area stretch statement (l.number ∷ nearer) ls) (forth_of area stretch statement nearer ls)
+    (references_here area l (codes "%F" ∷ codes "%" ∷ [])) (forth_here area stretch statement (l.number ∷ nearer) ls) (forth_here area stretch statement nearer ls)
 
 pub laid_lines_count_from_here : (names : List LaidName) (locals : List Local) (d : Declared) (s : Statement) (before : List LaidLine)
     → EachHasSymbol names → CountFromHere (final_sight names (final_line locals (laid_behind d s before) before))
 laid_lines_count_from_here names locals d s before h =
     lines_count_from_here names (final_line locals (laid_behind d s before) before) h
-    (back_here (area_behind (s ∷ statements_of before)) (stretch_behind (s ∷ statements_of before)) (length before)
+    (back_here (area_behind (s ∷ statements_of before)) (stretch_behind (s ∷ statements_of before)) (length before) []
     (local_entries (defined_by s) (stretch_behind (s ∷ statements_of before)) (length before) (offset_behind s before) ++ locals_of before))
-    (forth_here (area_behind (s ∷ statements_of before)) (stretch_behind (s ∷ statements_of before)) (length before) locals)
+    (forth_here (area_behind (s ∷ statements_of before)) (stretch_behind (s ∷ statements_of before)) (length before) [] locals)
 
 -- ---- names
 
@@ -121,10 +123,11 @@ lines_make : (d : Declared) (locals : List Local) (ss : List Statement) → AllN
 lines_make d locals [] h = tt
 lines_make d locals (s ∷ ss) h =
     makes_joined (final_lines locals (laid_of d ss)) (final_line locals (laid_behind d s (laid_of d ss)) (laid_of d ss) ∷ imported_lines d s (laid_of d ss) (imported_in s.what))
-    (lines_make d locals ss h.2)
-    (definition_makes d.names (defined_by s) (area_behind (s ∷ statements_of (laid_of d ss))) (offset_behind s (laid_of d ss))
-    (laid_behind d s (laid_of d ss)).size (is_thumb_label s (statements_of (laid_of d ss))) (map_behind (laid_of d ss)) h.0,
-    imported_makes d s (laid_of d ss) (imported_in s.what) h.1)
+    (lines_make d locals ss h.2) (
+      definition_makes d.names (defined_by s) (area_behind (s ∷ statements_of (laid_of d ss))) (offset_behind s (laid_of d ss))
+          (laid_behind d s (laid_of d ss)).size (is_thumb_label s (statements_of (laid_of d ss))) (map_behind (laid_of d ss)) h.0,
+      imported_makes d s (laid_of d ss) (imported_in s.what) h.1,
+    )
 
 pub final_names_have_symbols : (statements : List Statement) → AllNamed statements → EachHasSymbol (final_names (laid statements))
 final_names_have_symbols ss h =

@@ -120,10 +120,10 @@ line_behind d s before definition = record {
   offset = offset_behind s before;
   map = map_behind before;
   thumb = thumb_behind (statements_of before);
-  back = back_of (area_behind (s ∷ statements_of before)) (stretch_behind (s ∷ statements_of before)) (length before)
+  back = back_of (area_behind (s ∷ statements_of before)) (stretch_behind (s ∷ statements_of before)) (length before) []
       (local_entries (defined_by s) (stretch_behind (s ∷ statements_of before)) (length before) (offset_behind s before)
       ++ locals_of before);
-  forth = forth_of (area_behind (s ∷ statements_of before)) (stretch_behind (s ∷ statements_of before)) (length before) d.locals;
+  forth = forth_of (area_behind (s ∷ statements_of before)) (stretch_behind (s ∷ statements_of before)) (length before) [] d.locals;
   definition = definition;
 }
 
@@ -188,7 +188,7 @@ with_forth forth l = record l { forth = forth }
 
 -- a line of a source, with the places of all its local labels, which are listed in the order of the source
 abbrev pub final_line : List Local → LaidLine → List LaidLine → SourceLine
-final_line locals l before = with_forth (forth_of l.line.area (stretch_behind (statements_of (l ∷ before))) (length before) locals) l.line
+final_line locals l before = with_forth (forth_of l.line.area (stretch_behind (statements_of (l ∷ before))) (length before) [] locals) l.line
 
 -- the lines of a source, in its order
 abbrev pub final_lines : List Local → List LaidLine → List SourceLine

@@ -1,7 +1,7 @@
 -- What laid lines keep: a line stands at the end of the line before it in the same area, raised to the alignment of what it
 -- takes up, and what it loads from a pool is a literal. Of all names of a source
 -- what is known at a line asks only whether they are there. This project's.
-use Rattle.std.specs.Prelude.{◌≡◌, ℕ, List, [], ◌∷◌, Result, Ok}
+use Rattle.std.specs.Prelude.{◌≡◌, ℕ, List, [], ◌∷◌, Ok}
 use Rattle.asm_model.specs.declared.values.Value.{Value}
 use Rattle.asm_model.specs.declared.statements.Statement.{Statement}
 use Rattle.asm_model.specs.declared.statements.What.{What}

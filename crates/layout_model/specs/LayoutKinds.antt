@@ -3,7 +3,7 @@
 -- themselves, and areas that grow too large. SDT 2.50 Reference Guide, chapter on the assembler; the kinds are this
 -- project's. What needs the whole layout, as an ENTRY's state and the pool at an area's end, counts only where no line
 -- has a kind of these.
-use Rattle.std.specs.Prelude.{ℕ, zero, suc, ◌+◌, ◌^◌, ◌==◌, ◌&&◌, ◌||◌, not, nat_lt, List, [], ◌∷◌, ◌++◌, length, map, Bool, true, false, if◌then◌else◌, Option, Some, None, Result, Ok, Err}
+use Rattle.std.specs.Prelude.{ℕ, zero, suc, ◌+◌, ◌^◌, ◌==◌, ◌&&◌, ◌||◌, not, nat_lt, List, [], ◌∷◌, ◌++◌, length, Bool, true, false, if◌then◌else◌, Option, Some, None, Result, Ok, Err}
 use Rattle.std.specs.List.{list_any}
 use Rattle.sdt_fault.specs.declared.kinds.LineKind.{LineKind}
 use Rattle.sdt_fault.specs.declared.kinds.LineKind.TheVariants.{BadOperand, Forward, DuplicateName, NoArea, TooMany}
@@ -23,7 +23,7 @@ use Rattle.asm_model.specs.Directives.{or_else}
 use Rattle.asm_model.specs.Forms.{same}
 use Rattle.asm_model.specs.Kinds.{told_kind}
 use Rattle.layout_model.specs.Extents.{Extent, Loading, number_there}
-use Rattle.layout_model.specs.Labels.{Defined, Unnamed, LocalLabel, Label, Equal, MapField, RegisterName, defined_by, imported_in}
+use Rattle.layout_model.specs.Labels.{Defined, LocalLabel, Label, Equal, MapField, RegisterName, defined_by, imported_in}
 use Rattle.layout_model.specs.Laid.{LaidLine, statements_of, taken, pieces_of, laid, reversed}
 use Rattle.layout_model.specs.Offsets.{Piece, is_of, area_size, literal_word}
 

@@ -1,7 +1,8 @@
 -- Local labels: what a reference names. A reference counts in the stretch of lines of its own line. `%B1` is the nearest
 -- label 1 on its line or before, `%F1` the nearest on a later line, and `%1` the one before, or else the later one.
 -- SDT 2.50 Reference Guide, chapter on the assembler; that labels are compared as numbers is this project's.
-use Rattle.std.specs.Prelude.{ℕ, ◌+◌, ◌/◌, ◌%◌, ◌==◌, ◌&&◌, nat_lt, nat_le, List, [], ◌∷◌, ◌++◌, length, codes, map, false, if◌then◌else◌, Option, None}
+use Rattle.std.specs.Prelude.{ℕ, ◌+◌, ◌/◌, ◌%◌, ◌==◌, ◌&&◌, nat_lt, nat_le, List, [], ◌∷◌, ◌++◌, length, codes, map, false, if◌then◌else◌, Option, not, Bool}
+use Rattle.std.specs.List.{list_any}
 use Rattle.asm_model.specs.declared.values.Value.TheVariants.{Place}
 use Rattle.asm_model.specs.declared.names.LaidName.{LaidName}
 use Rattle.asm_model.specs.declared.statements.Statement.{Statement}
@@ -44,17 +45,23 @@ abbrev pub references_to : Option ℕ → Local → List (List ℕ) → List Lai
 references_to area l [] = []
 references_to area l (mark ∷ marks) = map (λ digits. reference area l (mark ++ digits)) (digits_of l.number) ++ references_to area l marks
 
--- what references of a statement name on its line and before, the nearest first, where these labels are listed with
--- the nearest first
-abbrev pub back_of : Option ℕ → ℕ → ℕ → List Local → List LaidName
-back_of area stretch statement [] = []
-back_of area stretch statement (l ∷ ls) =
-    if l.stretch == stretch && nat_le l.statement statement then references_to area l (codes "%B" ∷ codes "%" ∷ []) ++ back_of area stretch statement ls
-    else back_of area stretch statement ls
+-- whether no label of these has the number
+abbrev pub is_new : ℕ → List ℕ → Bool
+is_new n numbers = not (list_any (λ m. m == n) numbers)
+
+-- what references of a statement name on its line and before, where the labels are listed with the nearest first; a
+-- nearer label hides those of its number
+abbrev pub back_of : Option ℕ → ℕ → ℕ → List ℕ → List Local → List LaidName
+back_of area stretch statement nearer [] = []
+back_of area stretch statement nearer (l ∷ ls) =
+    if l.stretch == stretch && nat_le l.statement statement && is_new l.number nearer
+    then references_to area l (codes "%B" ∷ codes "%" ∷ []) ++ back_of area stretch statement (l.number ∷ nearer) ls
+    else back_of area stretch statement nearer ls
 
 -- and on later lines, where the labels are listed in the order of the source
-abbrev pub forth_of : Option ℕ → ℕ → ℕ → List Local → List LaidName
-forth_of area stretch statement [] = []
-forth_of area stretch statement (l ∷ ls) =
-    if l.stretch == stretch && nat_lt statement l.statement then references_to area l (codes "%F" ∷ codes "%" ∷ []) ++ forth_of area stretch statement ls
-    else forth_of area stretch statement ls
+abbrev pub forth_of : Option ℕ → ℕ → ℕ → List ℕ → List Local → List LaidName
+forth_of area stretch statement nearer [] = []
+forth_of area stretch statement nearer (l ∷ ls) =
+    if l.stretch == stretch && nat_lt statement l.statement && is_new l.number nearer
+    then references_to area l (codes "%F" ∷ codes "%" ∷ []) ++ forth_of area stretch statement (l.number ∷ nearer) ls
+    else forth_of area stretch statement nearer ls
