@@ -1,0 +1,11 @@
+pub mod EntryLemmas
+pub mod ExtentLemmas
+pub mod KindRows
+pub mod LaidLemmas
+pub mod LaidRows
+pub mod NameLemmas
+pub mod OffsetLemmas
+pub mod OffsetRows
+pub mod PlacedLemmas
+pub mod PlacingLemmas
+pub mod TreeLemmas

@@ -1,0 +1,85 @@
+-- Placing areas: what becomes of values when each area has a base. Names and this place then are numbers, and an
+-- expression of them is evaluated as any other. A value that has symbols is a number plus a symbol's address, and so
+-- evaluating and then placing is evaluating what is placed. This project's.
+-- The law says nothing of an expression that has no value with symbols, though it may have one when placed, as a
+-- product with a label has.
+use Rattle.std.specs.Prelude.{◌≡◌, ℕ, ◌+◌, ◌%◌, ◌^◌, List, [], ◌∷◌, map, Option, Some, None, Result, Ok}
+use Rattle.sdt_fault.specs.declared.kinds.LineKind.{LineKind}
+use Rattle.asm_model.specs.declared.exprs.ExprItem.{ExprItem}
+use Rattle.asm_model.specs.declared.exprs.ExprItem.TheVariants as item
+use Rattle.asm_model.specs.declared.values.Value.{Value}
+use Rattle.asm_model.specs.declared.values.Value.TheVariants.{Number, Truth, Words, Place}
+use Rattle.asm_model.specs.declared.names.LaidName.{LaidName}
+use Rattle.asm_model.specs.declared.names.Names.{Names}
+use Rattle.asm_model.specs.Grammar.{Tree, Leaf, Before, Between}
+use Rattle.asm_model.specs.Meaning.{named_in, stands_at, meaning}
+
+-- a base for each area, and a value for each symbol that stands in none, as an imported one
+pub record Placing : Type 0 where
+  pub base : ℕ → ℕ
+  pub imported : List ℕ → ℕ
+
+-- the address of a symbol, by the area where it stands and its offset there
+abbrev pub address_at : Placing → List ℕ → Option (ℕ × ℕ) → ℕ
+address_at p s None = p.imported s
+address_at p s (Some a) = p.base a.0 + a.1
+
+-- the address of a symbol as a statement sees it; the empty symbol is the start of the statement's area
+abbrev pub address_of : Placing → Names → List ℕ → ℕ
+address_of p names s = address_at p s (stands_at names s)
+
+-- a value of a statement, placed: only a place changes, into a number
+abbrev pub placed_value : Placing → Names → Value → Value
+placed_value p names (Place s n) = Number ((address_of p names s + n) % 2 ^ 32)
+placed_value p names (Number n) = Number n
+placed_value p names (Truth b) = Truth b
+placed_value p names (Words w) = Words w
+
+-- the same names, seen from an area
+abbrev pub seen_from : Names → Option ℕ → Names
+seen_from names area = record names { area = area }
+
+-- an entry, placed: an empty symbol is the start of the entry's own area
+abbrev pub placed_name : Placing → Names → LaidName → LaidName
+placed_name p names n = record n { value = placed_value p (seen_from names n.area) n.value }
+
+abbrev pub placed_names : Placing → Names → Names
+placed_names p names = record names { list = map (placed_name p names) names.list }
+
+-- an item, placed: this place is a number
+abbrev pub placed_item : Placing → Names → ExprItem → ExprItem
+placed_item p names item.Here = item.Constant (placed_value p names (Place [] names.offset))
+placed_item p names (item.Constant v) = item.Constant (placed_value p names v)
+placed_item p names (item.Name s) = item.Name s
+placed_item p names (item.Local s) = item.Local s
+placed_item p names item.Map = item.Map
+placed_item p names item.CodeSize = item.CodeSize
+placed_item p names (item.Unary op) = item.Unary op
+placed_item p names (item.Binary op) = item.Binary op
+
+abbrev pub placed_tree : Placing → Names → Tree → Tree
+placed_tree p names (Leaf i) = Leaf (placed_item p names i)
+placed_tree p names (Before op t) = Before op (placed_tree p names t)
+placed_tree p names (Between op t u) = Between op (placed_tree p names t) (placed_tree p names u)
+
+-- the value of an expression of a statement whose names and constants are placed
+abbrev pub placed_meaning : Placing → Names → Tree → Result Value LineKind
+placed_meaning p names t = meaning (placed_names p names) (placed_tree p names t)
+
+-- a value without a symbol counts from this area
+abbrev pub IsOfArea : Option ℕ → Option ℕ → Value → Type 0
+IsOfArea here area (Place [] n) = area ≡ here
+IsOfArea here area (Place (c ∷ cs) n) = Unit {0}
+IsOfArea here area (Number n) = Unit {0}
+IsOfArea here area (Truth b) = Unit {0}
+IsOfArea here area (Words w) = Unit {0}
+
+-- entries whose values have no symbol, as local labels have, count from the statement's area
+abbrev pub CountFromHere : Names → Type 0
+CountFromHere names = (q : List ℕ) (n : LaidName) → named_in q names.list ≡ Some n → IsOfArea names.area n.area n.value
+
+-- evaluating and then placing is evaluating what is placed, for all operators
+abbrev pub PlacingLaw : Type 0
+PlacingLaw =
+    (p : Placing) (names : Names) (t : Tree) (v : Value)
+    → CountFromHere names → meaning names t ≡ Ok v → placed_meaning p names t ≡ Ok (placed_value p names v)
