@@ -1,5 +1,6 @@
 pub mod EntryLemmas
 pub mod ExtentLemmas
+pub mod ImmediateLemmas
 pub mod KindRows
 pub mod LaidLemmas
 pub mod LaidRows

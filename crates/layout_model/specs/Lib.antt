@@ -2,6 +2,7 @@
 pub mod Before
 pub mod Entries
 pub mod Extents
+pub mod Immediates
 pub mod Labels
 pub mod Laid
 pub mod LaidLaws

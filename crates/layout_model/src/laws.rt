@@ -1,6 +1,7 @@
 //! Laws of the definitions, each proved as the contract of an empty function.
 
 ghost use Rattle.layout_model.specs.Entries.{EqualNamesHaveSymbols, EqualNamesStay, LinesCountFromHere};
+ghost use Rattle.layout_model.specs.Immediates.{ImmediatesHaveRotations, RotationsAreImmediates};
 ghost use Rattle.layout_model.specs.LaidLaws.{LaterNamesAloneCount, LinesStandAtOffsets, LoadingsAreLiterals};
 ghost use Rattle.layout_model.specs.OffsetLaws.{AlignmentsAgree, LiteralsHaveWords, PaddingIsLeast, StatementsFollow};
 ghost use Rattle.layout_model.specs.PlacedLines.{FinalNamesHaveSymbols, LaidLinesCountFromHere};
@@ -75,4 +76,14 @@ pub fn final_names_have_symbols()
 /// What a laid line sees in the end without a symbol counts from its area.
 pub fn laid_lines_count_from_here()
     ensures { LaidLinesCountFromHere }
+{}
+
+/// A number that counts as an immediate is a rotated byte.
+pub fn immediates_have_rotations()
+    ensures { ImmediatesHaveRotations }
+{}
+
+/// A rotated byte counts as an immediate.
+pub fn rotations_are_immediates()
+    ensures { RotationsAreImmediates }
 {}
