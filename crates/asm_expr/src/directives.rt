@@ -92,7 +92,7 @@ fn label_of(
 }
 
 /// What the label field reads as.
-fn label_field(
+pub fn label_field(
     alloc: Global,
     need: LabelNeed,
     text: &[u8],
@@ -136,7 +136,7 @@ fn operated(label: Option<Token>, tokens: &[Token]) -> Sentence<'_>
 }
 
 /// The tokens of a line by what they are: a token in column 1 is the label.
-fn parts_of(tokens: &[Token]) -> Sentence<'_>
+pub fn parts_of(tokens: &[Token]) -> Sentence<'_>
     ensures { sentence_of result ≡ says.sentence tokens.now }
 {
     match tokens {
