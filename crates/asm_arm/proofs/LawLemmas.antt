@@ -1,5 +1,5 @@
 -- A line says one thing.
-use Rattle.std.proofs.Common.{◌≡◌, ℕ, List, [], ◌∷◌, Bool, true, false, refl, sym, ◌∙◌, ap, Option, Some, None, map}
+use Rattle.std.proofs.Common.{◌≡◌, ℕ, List, [], ◌∷◌, Bool, true, false, sym, ◌∙◌, ap, Option, Some, None, map}
 use Rattle.std.specs.Prelude.{Result, Ok, Err}
 use Rattle.sdt_fault.specs.declared.kinds.LineKind.{LineKind}
 use Rattle.sdt_word.specs.declared.codes.Condition.{Condition}
@@ -16,7 +16,7 @@ use Rattle.asm_model.specs.declared.statements.What.{What}
 use Rattle.asm_model.specs.Grammar.{OneParse, ParsesTokens}
 use Rattle.asm_model.specs.Operands.{operands}
 use Rattle.asm_model.specs.Parts.{part_of, piece}
-use Rattle.asm_model.specs.Says.{on_both, mapped, Expression, sentence, OneDirective}
+use Rattle.asm_model.specs.Says.{mapped, Expression, sentence, OneDirective}
 use Rattle.asm_model.specs.Tokens.{OneScan}
 use Rattle.asm_arm.specs.declared.words.Mnemonic.{Mnemonic}
 use Rattle.asm_arm.specs.declared.words.Mnemonic.TheVariants as mnemonic
@@ -28,7 +28,7 @@ use Rattle.asm_arm.specs.declared.addresses.Offset.{Offset}
 use Rattle.asm_arm.specs.declared.addresses.Addressed.{Addressed}
 use Rattle.asm_arm.specs.Addresses.{ReadsPlainOffset, ReadsOffset, ReadsAt, ReadsScaledAt, ReadsInside, ReadsBracketed, ReadsBefore, ReadsBehind, ReadsAfter, bracketed, base}
 use Rattle.asm_arm.specs.Lines as lines
-use Rattle.asm_arm.specs.Operands.{Cuts, none, one, two, three, four, more, cut, both, without_first, ReadsAmount, ReadsKind, ReadsScale, ReadsPlain, ReadsSecond}
+use Rattle.asm_arm.specs.Operands.{Cuts, none, one, two, three, four, more, cut, ReadsAmount, ReadsKind, ReadsScale, ReadsPlain, ReadsSecond}
 use Rattle.asm_arm.specs.Says.{SaysWords, SaysTokens, SaysOr, SaysScanned, OneArm}
 use Rattle.asm_arm.specs.Words.{operation_named, shape_of}
 

@@ -1,6 +1,6 @@
 -- The addresses of ARM transfers: a base in brackets, behind which `!` may stand, with an offset inside the brackets
 -- or behind them. ARM SDT 2.50 Reference Guide, chapter on the assembler.
-use Rattle.std.specs.Prelude.{◌≡◌, ℕ, List, [], ◌∷◌, codes, Bool, true, false, if◌then◌else◌, Option, Some, None, Result, Ok, Err}
+use Rattle.std.specs.Prelude.{◌≡◌, ℕ, List, [], ◌∷◌, codes, Bool, true, false, Option, Some, None, Result, Ok, Err}
 use Rattle.sdt_fault.specs.declared.kinds.LineKind.{LineKind}
 use Rattle.sdt_fault.specs.declared.kinds.LineKind.TheVariants.{Syntax, BadOperand}
 use Rattle.asm_model.specs.declared.tokens.Token.{Token}
@@ -22,7 +22,7 @@ use Rattle.asm_arm.specs.declared.operands.Scale.TheVariants as scale
 use Rattle.asm_arm.specs.declared.addresses.Offset.{Offset}
 use Rattle.asm_arm.specs.declared.addresses.Offset.TheVariants as offset_is
 use Rattle.asm_arm.specs.declared.addresses.Addressed.{Addressed}
-use Rattle.asm_arm.specs.Operands.{Cuts, none, one, two, three, four, more, cut, both, followed, without_first, marked, between, register, ReadsScale}
+use Rattle.asm_arm.specs.Operands.{Cuts, one, two, three, cut, followed, without_first, marked, between, register, ReadsScale}
 
 -- the number that an offset is which isn't written
 abbrev pub zero : Expr

@@ -1,7 +1,7 @@
 -- What the tokens behind an operation word say, in each form of an ARM line. The forms are those of the ARM SDT 2.50
 -- Reference Guide, chapter on the assembler: data processing, multiplication, transfers, branches, status registers,
 -- and the pseudo-instructions. A form that the tokens don't have is Syntax. Values are judged elsewhere.
-use Rattle.std.specs.Prelude.{◌≡◌, ℕ, List, [], ◌∷◌, codes, ◌==◌, not, ◌&&◌, Bool, true, false, if◌then◌else◌, Option, Some, None, Result, Ok, Err, MatchBool}
+use Rattle.std.specs.Prelude.{◌≡◌, ℕ, List, [], ◌∷◌, codes, ◌==◌, not, ◌&&◌, Bool, true, false, if◌then◌else◌, Option, Some, None, Result, Ok, Err}
 use Rattle.sdt_fault.specs.declared.kinds.LineKind.{LineKind}
 use Rattle.sdt_fault.specs.declared.kinds.LineKind.TheVariants.{Syntax, UnknownWord, FloatingPoint, BadOperand}
 use Rattle.sdt_word.specs.declared.codes.Condition.{Condition}
@@ -15,9 +15,7 @@ use Rattle.asm_model.specs.declared.operands.Register.TheVariants as register_is
 use Rattle.asm_model.specs.declared.operands.ListItem.{ListItem}
 use Rattle.asm_model.specs.declared.operands.Address.TheVariants as address
 use Rattle.asm_model.specs.declared.operands.Indexing.{Indexing}
-use Rattle.asm_model.specs.declared.operands.HalfOffset.{HalfOffset}
 use Rattle.asm_model.specs.declared.operands.BlockMode.{BlockMode}
-use Rattle.asm_model.specs.declared.operands.RegisterList.{RegisterList}
 use Rattle.asm_model.specs.declared.statements.PseudoLine.TheVariants as pseudo
 use Rattle.asm_model.specs.declared.statements.What.{What}
 use Rattle.asm_model.specs.declared.statements.What.TheVariants as what
@@ -35,7 +33,7 @@ use Rattle.asm_arm.specs.declared.addresses.Offset.TheVariants as offset_is
 use Rattle.asm_arm.specs.declared.addresses.Addressed.{Addressed}
 use Rattle.asm_arm.specs.Addresses.{zero, ReadsBefore, ReadsAfter, base, before_as, after_as, half_offset}
 use Rattle.asm_arm.specs.Lists as lists
-use Rattle.asm_arm.specs.Operands.{Cuts, none, one, two, three, four, more, cut, both, followed, without_first, no_register, register, ReadsSecond}
+use Rattle.asm_arm.specs.Operands.{Cuts, one, two, three, four, cut, both, followed, without_first, no_register, register, ReadsSecond}
 use Rattle.asm_arm.specs.Words.{shape_of}
 
 -- the signs in front of operands

@@ -1,7 +1,7 @@
 -- Register lists, bases that are written back, and status registers. ARM SDT 2.50 Reference Guide, chapter on the
 -- assembler. This project's: a name in the place of a status register that is none, or whose fields are not one or more
 -- of f, s, x and c, each at most once, is BadOperand, and so is a range that falls.
-use Rattle.std.specs.Prelude.{◌≡◌, ℕ, ◌+◌, ◌*◌, List, [], ◌∷◌, length, take, drop, codes, nat_lt, nat_le, ◌==◌, ◌&&◌, Bool, true, false, if◌then◌else◌, Option, Some, None, Result, Ok, Err}
+use Rattle.std.specs.Prelude.{ℕ, ◌+◌, ◌*◌, List, [], ◌∷◌, length, take, drop, codes, nat_lt, nat_le, ◌==◌, ◌&&◌, Bool, true, false, if◌then◌else◌, Option, Some, None, Result, Ok, Err}
 use Rattle.std.specs.List.{count_by}
 use Rattle.std.specs.Char.{to_ascii_lowercase}
 use Rattle.sdt_fault.specs.declared.kinds.LineKind.{LineKind}

@@ -10,10 +10,8 @@ use Rattle.sdt_word.specs.declared.codes.ShiftKind.TheVariants as shift_kind
 use Rattle.asm_model.specs.declared.tokens.Token.{Token}
 use Rattle.asm_model.specs.declared.tokens.TokenKind.{TokenKind}
 use Rattle.asm_model.specs.declared.tokens.TokenKind.TheVariants as kind
-use Rattle.asm_model.specs.declared.exprs.Expr.{Expr}
 use Rattle.asm_model.specs.declared.operands.Register.{Register}
 use Rattle.asm_model.specs.declared.operands.Register.TheVariants as register_is
-use Rattle.asm_model.specs.declared.operands.Shift.{Shift}
 use Rattle.asm_model.specs.declared.operands.Shift.TheVariants as shift
 use Rattle.asm_model.specs.Directives.{row_of}
 use Rattle.asm_model.specs.Forms.{same}

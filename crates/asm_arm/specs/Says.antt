@@ -2,7 +2,7 @@
 -- directive, or else an instruction or a pseudo-instruction; or the kind of its faults that is told. All faults of a
 -- line count, and of several kinds the first in the order of the kinds is told; the operands of an operation that
 -- nothing names are not read. ARM SDT 2.50 Reference Guide, chapter on the assembler.
-use Rattle.std.specs.Prelude.{◌≡◌, ℕ, List, [], ◌∷◌, Option, Some, None, Result, Ok, Err}
+use Rattle.std.specs.Prelude.{◌≡◌, ℕ, List, Option, Some, None, Result, Ok, Err}
 use Rattle.sdt_fault.specs.declared.kinds.LineKind.{LineKind}
 use Rattle.asm_model.specs.declared.lines.Flat.{Flat}
 use Rattle.asm_model.specs.declared.tokens.Token.{Token}

@@ -1,7 +1,7 @@
 -- The operation words of ARM state: a stem, a condition, and a suffix, in any case. ARM SDT 2.50 Reference Guide,
 -- chapter on the assembler, and ARM Architecture Reference Manual. The condition stands before the suffix, and no
--- condition is AL. The floating-point words are those of the FPA, which no state reads. No suffix begins with a
--- condition, and no word has two readings. The code has the same tables.
+-- condition is AL; letters behind the stem that name a condition are one. The floating-point words are those of the
+-- FPA, which no state reads. The code has the same tables.
 use Rattle.std.specs.Prelude.{ℕ, List, [], ◌∷◌, take, drop, codes, ◌==◌, ◌&&◌, ◌||◌, Bool, true, false, if◌then◌else◌, Option, Some, None}
 use Rattle.std.specs.Char.{to_ascii_lowercase}
 use Rattle.sdt_word.specs.declared.codes.Condition.{Condition}

@@ -1,4 +1,4 @@
-use Rattle.asm_arm.proofs.ListLemmas.{nothing_before, entries_end, entries_step}
+use Rattle.asm_arm.proofs.ListLemmas.{entries_end, entries_step}
 use Rattle.asm_model.specs.Operands.{operands_at}
 use Rattle.asm_arm.specs.Lists.{items}
 use Rattle.asm_arm.proofs.lists.items.Goals as goal
