@@ -7,6 +7,7 @@ pub mod lists;
 pub mod operands;
 pub mod says;
 pub mod stems;
+pub mod transfers;
 pub mod words;
 
 pub use crate::says::parse_arm;

@@ -1,7 +1,7 @@
 //! Lines of ARM state. The expected statements and faults were written by hand from the language's rules.
 
 use crate::parse_arm;
-use asm_model::Flat;
+use asm_model::{Flat, Statement};
 use sdt_fault::answer::Fault;
 use sdt_fault::refusal::Refusal;
 use sdt_fault::{Bytes, Text};
@@ -50,6 +50,23 @@ x\x01x:Nothing\n\x01-\n ; c\x01-\n LTORG\x01Directive(Ltorg)\n FOO r0\x01Unknown
 \x20LDR r0,[r1,r2],r3\x01Syntax\n LDMIA r0,{r3-r1}\x01BadOperand\n LDRT r0,[r1,#4294967296]\x01BadOperand\n MSR CPSR,r0\x01BadOperand\n MSR CPSR_ff,#4294967296\x01BadOperand\n\
 \x20MRS r0,r1\x01BadOperand\n ADRL pc,x\x01BadOperand\n MOV r0,#4294967296\x01Constant\n";
 
+fn put_statement(alloc: Global, out: &mut Vec<u8>, statement: &Statement) -> Result<(), Fault> {
+    if let Some(label) = &statement.label {
+        out.extend_from_slice(label.as_slice())?;
+        out.push(b':')?;
+    }
+    let what = format!(in alloc; "{:?}", statement.what)?;
+    out.extend_from_slice(what.as_str().as_bytes())?;
+    Ok(())
+}
+
+fn put_fault(out: &mut Vec<u8>, fault: &Fault) -> Result<(), Fault> {
+    if let Fault::Refused(Refusal::BadLine { line: 7, kind, .. }) = fault {
+        out.extend_from_slice(kind.word().as_bytes())?;
+    }
+    Ok(())
+}
+
 /// What a line says, as a row shows it.
 fn shown(alloc: Global, text: &[u8]) -> Result<Vec<u8>, Fault> {
     let mut out = Vec::new(alloc);
@@ -63,18 +80,8 @@ fn shown(alloc: Global, text: &[u8]) -> Result<Vec<u8>, Fault> {
     };
     match parse_arm(alloc, &line) {
         Ok(None) => out.push(b'-')?,
-        Ok(Some(statement)) => {
-            if let Some(label) = &statement.label {
-                out.extend_from_slice(label.as_slice())?;
-                out.push(b':')?;
-            }
-            let what = format!(in alloc; "{:?}", statement.what)?;
-            out.extend_from_slice(what.as_str().as_bytes())?;
-        }
-        Err(Fault::Refused(Refusal::BadLine { line: 7, kind, .. })) => {
-            out.extend_from_slice(kind.word().as_bytes())?;
-        }
-        Err(_) => out.push(b'?')?,
+        Ok(Some(statement)) => put_statement(alloc, &mut out, &statement)?,
+        Err(fault) => put_fault(&mut out, &fault)?,
     }
     Ok(out)
 }
