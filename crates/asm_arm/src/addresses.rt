@@ -1,0 +1,424 @@
+//! The addresses of ARM transfers.
+
+ghost use Rattle.std.specs.Prelude.{◌≡◌, IfOk, Some, None};
+ghost use Rattle.std.specs.Option.{option_copied};
+ghost use Rattle.asm_model.specs.Operands as model;
+ghost use Rattle.asm_model.specs.Says as says;
+ghost use Rattle.asm_model.specs.declared.operands.Indexing.TheVariants as indexing_is;
+ghost use Rattle.asm_arm.specs.Addresses as addresses;
+ghost use Rattle.asm_arm.specs.Operands as operands;
+ghost use Rattle.asm_arm.specs.Steps.{cut_of};
+ghost use Rattle.asm_arm.specs.declared.addresses.Offset.TheVariants as offset_is;
+ghost use Rattle.sdt_fault.specs.declared.kinds.LineKind.TheVariants as line;
+
+use crate::operands::{
+    Cut, Scale, between, both, cut_operands, marked, register, shift_of, without_first,
+};
+use asm_expr::kinds::earlier;
+use asm_expr::read::expression;
+use asm_model::{Expr, ExprItem, HalfOffset, Indexing, Register, Shift, Token, Value};
+use sdt_fault::kinds::LineKind;
+use sdt_fault::{List, NoMemory};
+use std::alloc::Global;
+
+/// The offset of an address.
+#[derive(Debug, Drop)]
+pub enum Offset {
+    /// None is written.
+    Absent,
+    /// `#v`
+    Number(Expr),
+    /// `Rm,LSL #a`, or `-Rm` where `subtract`.
+    Register {
+        subtract: bool,
+        rm: Register,
+        shift: Shift,
+    },
+}
+
+/// An address as it is written.
+#[derive(Debug, Drop)]
+pub struct Addressed {
+    pub rn: Register,
+    pub indexing: Indexing,
+    pub offset: Offset,
+}
+
+/// The number that an offset is which isn't written.
+pub fn zero(alloc: Global) -> Result<Expr, NoMemory>
+    ensures { IfOk result (λ number. number ≡ addresses.zero) }
+{
+    let mut items = Vec::new(alloc);
+    items.push(ExprItem::Constant(Value::Number(0)))?;
+    Ok(Expr {
+        items: List::from_vec(items),
+    })
+}
+
+/// A register with a sign.
+fn with_sign(
+    alloc: Global,
+    text: &[u8],
+    subtract: bool,
+    tokens: &[Token],
+) -> Result<Result<(bool, Register), LineKind>, NoMemory>
+    ensures { IfOk result (λ signed. signed ≡ says.mapped (λ rm. (subtract, rm)) (operands.register text.now tokens.now)) }
+{
+    match register(alloc, text, tokens)? {
+        Ok(rm) => Ok(Ok((subtract, rm))),
+        Err(kind) => Ok(Err(kind)),
+    }
+}
+
+/// A register, before which a minus may stand.
+fn signed_register(
+    alloc: Global,
+    text: &[u8],
+    tokens: &[Token],
+) -> Result<Result<(bool, Register), LineKind>, NoMemory>
+    ensures { IfOk result (λ signed. signed ≡ addresses.signed_register text.now tokens.now) }
+{
+    match without_first(text, b"-", tokens) {
+        Some(behind) => with_sign(alloc, text, true, behind),
+        None => with_sign(alloc, text, false, tokens),
+    }
+}
+
+/// A shift of an offset, which has no register.
+fn number_shift(scale: Result<Scale, LineKind>) -> Result<Shift, LineKind>
+    ensures { result ≡ operands.followed scale addresses.number_shift }
+{
+    match scale {
+        Ok(Scale::By { kind, amount }) => Ok(Shift::By { kind, amount }),
+        Ok(Scale::Register { .. }) => Err(LineKind::Syntax),
+        Ok(Scale::Extended) => Ok(Shift::Extended),
+        Err(kind) => Err(kind),
+    }
+}
+
+/// A register with a shift as an offset.
+fn shifted_offset(
+    signed: Result<(bool, Register), LineKind>,
+    shift: Result<Shift, LineKind>,
+) -> Result<Offset, LineKind>
+    ensures { result ≡ says.on_both (λ p x. offset_is.Register p.0 p.1 x) signed shift }
+{
+    match both(signed, shift) {
+        Ok(((subtract, rm), shift)) => Ok(Offset::Register {
+            subtract,
+            rm,
+            shift,
+        }),
+        Err(kind) => Err(kind),
+    }
+}
+
+/// A number as an offset.
+fn number_offset(
+    alloc: Global,
+    text: &[u8],
+    tokens: &[Token],
+) -> Result<Result<Offset, LineKind>, NoMemory>
+    ensures { IfOk result (λ offset. says.Expression text.now (λ v. offset_is.Number v) tokens.now offset) }
+{
+    match expression(alloc, text, tokens)? {
+        Ok(value) => Ok(Ok(Offset::Number(value))),
+        Err(kind) => Ok(Err(kind)),
+    }
+}
+
+/// An offset without a shift.
+fn plain_offset(
+    alloc: Global,
+    text: &[u8],
+    tokens: &[Token],
+) -> Result<Result<Offset, LineKind>, NoMemory>
+    ensures { IfOk result (λ offset. addresses.ReadsOffset text.now tokens.now None offset) }
+{
+    if let Some(number) = without_first(text, b"#", tokens) {
+        return number_offset(alloc, text, number);
+    }
+    match signed_register(alloc, text, tokens)? {
+        Ok((subtract, rm)) => Ok(Ok(Offset::Register {
+            subtract,
+            rm,
+            shift: Shift::Unshifted,
+        })),
+        Err(kind) => Ok(Err(kind)),
+    }
+}
+
+/// An offset.
+fn any_offset(
+    alloc: Global,
+    text: &[u8],
+    tokens: &[Token],
+    shift: Option<&[Token]>,
+) -> Result<Result<Offset, LineKind>, NoMemory>
+    ensures { IfOk result (λ offset. addresses.ReadsOffset text.now tokens.now (option_copied shift.entry) offset) }
+{
+    let Some(shift) = shift else {
+        return plain_offset(alloc, text, tokens);
+    };
+    let shift = number_shift(shift_of(alloc, text, shift)?);
+    let signed = signed_register(alloc, text, tokens)?;
+    Ok(shifted_offset(signed, shift))
+}
+
+/// A base and an offset, where both are read.
+fn based(
+    indexing: Indexing,
+    rn: Result<Register, LineKind>,
+    offset: Result<Offset, LineKind>,
+) -> Result<Addressed, LineKind>
+    ensures { result ≡ says.on_both (λ rn x. addresses.at indexing rn x) rn offset }
+{
+    match both(rn, offset) {
+        Ok((rn, offset)) => Ok(Addressed {
+            rn,
+            indexing,
+            offset,
+        }),
+        Err(kind) => Err(kind),
+    }
+}
+
+/// A base and an offset.
+fn at(
+    alloc: Global,
+    text: &[u8],
+    indexing: Indexing,
+    base: &[Token],
+    tokens: &[Token],
+    shift: Option<&[Token]>,
+) -> Result<Result<Addressed, LineKind>, NoMemory>
+    ensures { IfOk result (λ address. addresses.ReadsAt text.now indexing base.now tokens.now (option_copied shift.entry) address) }
+{
+    let offset = any_offset(alloc, text, tokens, shift)?;
+    let rn = register(alloc, text, base)?;
+    Ok(based(indexing, rn, offset))
+}
+
+/// A base alone.
+fn bare_base(
+    alloc: Global,
+    text: &[u8],
+    indexing: Indexing,
+    base: &[Token],
+) -> Result<Result<Addressed, LineKind>, NoMemory>
+    ensures { IfOk result (λ address. address ≡ says.mapped (λ rn. addresses.at indexing rn offset_is.Absent) (operands.register text.now base.now)) }
+{
+    match register(alloc, text, base)? {
+        Ok(rn) => Ok(Ok(Addressed {
+            rn,
+            indexing,
+            offset: Offset::Absent,
+        })),
+        Err(kind) => Ok(Err(kind)),
+    }
+}
+
+/// A base and an offset with a shift, where offsets have one.
+fn scaled_at(
+    alloc: Global,
+    text: &[u8],
+    indexing: Indexing,
+    shifts: bool,
+    operands: (&[Token], &[Token], &[Token]),
+) -> Result<Result<Addressed, LineKind>, NoMemory>
+    ensures { IfOk result (λ address. addresses.ReadsScaledAt text.now indexing shifts operands.entry.0.now operands.entry.1.now operands.entry.2.now address) }
+{
+    if shifts {
+        return at(
+            alloc,
+            text,
+            indexing,
+            operands.0,
+            operands.1,
+            Some(operands.2),
+        );
+    }
+    Ok(Err(LineKind::Syntax))
+}
+
+/// What stands in brackets.
+fn inside(
+    alloc: Global,
+    text: &[u8],
+    indexing: Indexing,
+    shifts: bool,
+    cut: Cut<'_>,
+) -> Result<Result<Addressed, LineKind>, NoMemory>
+    ensures { IfOk result (λ address. addresses.ReadsInside text.now indexing shifts (cut_of cut.entry) address) }
+{
+    match cut {
+        Cut::One(base) => bare_base(alloc, text, indexing, base),
+        Cut::Two(base, tokens) => at(alloc, text, indexing, base, tokens, None),
+        Cut::Three(base, tokens, shift) => {
+            scaled_at(alloc, text, indexing, shifts, (base, tokens, shift))
+        }
+        _ => Ok(Err(LineKind::Syntax)),
+    }
+}
+
+/// The tokens in brackets, and whether `!` stands behind them.
+fn bracketed<'a>(text: &[u8], tokens: &'a [Token]) -> (Option<&'a [Token]>, bool)
+    ensures { (option_copied result.0, result.1) ≡ addresses.bracketed text.now tokens.now }
+{
+    let (tokens, mark) = marked(text, b"!", tokens);
+    (between(text, b"[", b"]", tokens), mark)
+}
+
+/// `!` writes the base back.
+fn before_of(mark: bool) -> Indexing
+    ensures { result ≡ addresses.before_of mark }
+{
+    if mark {
+        return Indexing::Before;
+    }
+    Indexing::Offset
+}
+
+/// An address with its offset in the brackets, which may have a shift where `shifts`.
+pub fn before(
+    alloc: Global,
+    text: &[u8],
+    shifts: bool,
+    tokens: &[Token],
+) -> Result<Result<Addressed, LineKind>, NoMemory>
+    ensures { IfOk result (λ address. addresses.ReadsBefore text.now shifts tokens.now address) }
+{
+    let (content, mark) = bracketed(text, tokens);
+    match content {
+        None => Ok(Err(LineKind::Syntax)),
+        Some(content) => inside(
+            alloc,
+            text,
+            before_of(mark),
+            shifts,
+            cut_operands(text, content),
+        ),
+    }
+}
+
+/// The base alone in brackets.
+pub fn base<'a>(text: &[u8], tokens: &'a [Token]) -> Option<&'a [Token]>
+    ensures { option_copied result ≡ addresses.base text.now tokens.now }
+{
+    let (content, mark) = bracketed(text, tokens);
+    if mark {
+        return None;
+    }
+    content
+}
+
+/// An address with its offset behind the brackets.
+pub fn after(
+    alloc: Global,
+    text: &[u8],
+    brackets: &[Token],
+    tokens: &[Token],
+    shift: Option<&[Token]>,
+) -> Result<Result<Addressed, LineKind>, NoMemory>
+    ensures { IfOk result (λ address. addresses.ReadsAfter text.now brackets.now tokens.now (option_copied shift.entry) address) }
+{
+    match base(text, brackets) {
+        None => Ok(Err(LineKind::Syntax)),
+        Some(base) => at(alloc, text, Indexing::After, base, tokens, shift),
+    }
+}
+
+/// An address with the suffix T.
+fn translated_of(address: Result<Addressed, LineKind>) -> Result<Addressed, LineKind>
+    ensures { result ≡ says.mapped addresses.translated_of address }
+{
+    match address {
+        Ok(Addressed { rn, offset, .. }) => Ok(Addressed {
+            rn,
+            indexing: Indexing::Translated,
+            offset,
+        }),
+        Err(kind) => Err(kind),
+    }
+}
+
+/// Whether brackets hold a base alone.
+fn is_base(text: &[u8], base: Option<&[Token]>) -> bool
+    ensures { result ≡ addresses.is_base text.now (option_copied base.entry) }
+{
+    let Some(tokens) = base else {
+        return false;
+    };
+    match cut_operands(text, tokens) {
+        Cut::One(_) => true,
+        _ => false,
+    }
+}
+
+/// An offset in the brackets, or `!` behind them, where the suffix T allows none.
+fn refused(address: Result<Addressed, LineKind>) -> Result<Addressed, LineKind>
+    ensures { result ≡ addresses.refused line.BadOperand address }
+{
+    match address {
+        Ok(_) => Err(LineKind::BadOperand),
+        Err(kind) => Err(earlier(LineKind::BadOperand, kind)),
+    }
+}
+
+/// An address with its offset in the brackets, with the suffix T or without it.
+pub fn before_as(
+    text: &[u8],
+    translated: bool,
+    tokens: &[Token],
+    address: Result<Addressed, LineKind>,
+) -> Result<Addressed, LineKind>
+    ensures { result ≡ addresses.before_as text.now translated tokens.now address }
+{
+    if !translated {
+        return address;
+    }
+    if is_base(text, base(text, tokens)) {
+        return translated_of(address);
+    }
+    refused(address)
+}
+
+/// The same of an address with its offset behind the brackets.
+pub fn after_as(
+    translated: bool,
+    address: Result<Addressed, LineKind>,
+) -> Result<Addressed, LineKind>
+    ensures { result ≡ addresses.after_as translated address }
+{
+    if translated {
+        return translated_of(address);
+    }
+    address
+}
+
+/// A register offset of a half-word, which has no shift.
+fn unshifted(subtract: bool, rm: Register, shift: Shift) -> Result<HalfOffset, LineKind>
+    ensures { result ≡ addresses.unshifted subtract rm shift }
+{
+    match shift {
+        Shift::Unshifted => Ok(HalfOffset::Register { subtract, rm }),
+        _ => Err(LineKind::Syntax),
+    }
+}
+
+/// The offset of a half-word.
+pub fn half_offset(alloc: Global, offset: Offset) -> Result<Result<HalfOffset, LineKind>, NoMemory>
+    ensures { IfOk result (λ half. half ≡ addresses.half_offset offset) }
+{
+    match offset {
+        Offset::Absent => Ok(Ok(HalfOffset::Number {
+            offset: zero(alloc)?,
+        })),
+        Offset::Number(value) => Ok(Ok(HalfOffset::Number { offset: value })),
+        Offset::Register {
+            subtract,
+            rm,
+            shift,
+        } => Ok(unshifted(subtract, rm, shift)),
+    }
+}

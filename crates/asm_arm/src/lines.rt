@@ -1,0 +1,723 @@
+//! What the tokens behind an operation word say, in each form of a line.
+
+ghost use Rattle.std.specs.Prelude.{◌≡◌, IfOk, ◌&&◌, Some, None, true, false};
+ghost use Rattle.std.specs.Option.{option_copied};
+ghost use Rattle.asm_model.specs.Says as says;
+ghost use Rattle.asm_model.specs.declared.arm_lines.ArmLine.TheVariants as line;
+ghost use Rattle.asm_model.specs.declared.statements.What.TheVariants as what;
+ghost use Rattle.asm_model.specs.declared.statements.PseudoLine.TheVariants as pseudo;
+ghost use Rattle.asm_arm.specs.Addresses as addresses;
+ghost use Rattle.asm_arm.specs.Lines as lines;
+ghost use Rattle.asm_arm.specs.Operands as operands;
+ghost use Rattle.asm_arm.specs.Steps.{cut_of};
+ghost use Rattle.asm_arm.specs.Words as words;
+ghost use Rattle.asm_model.specs.Operands as model;
+ghost use Rattle.asm_model.specs.declared.operands.Address.TheVariants as address;
+
+use crate::addresses::base;
+use crate::lists;
+use crate::operands::{Cut, Second, both, cut_operands, register, second_operand, without_first};
+use crate::transfers::{HalfTransfer, Transfer, block, transfer_half, word_transfer};
+use crate::words::{Mnemonic, Shape, shape_of};
+use arm_isa::Operation;
+use asm_expr::read::expression;
+use asm_model::{ArmLine, Expr, PseudoLine, Register, Token, What};
+use sdt_fault::NoMemory;
+use sdt_fault::kinds::LineKind;
+use sdt_word::Condition;
+use std::alloc::Global;
+
+/// The outcome of a reading: what is said or the kind of its fault, or want of memory.
+type Said = Result<Result<What, LineKind>, NoMemory>;
+
+/// Data processing as its word says it.
+#[derive(Clone, Copy, Debug)]
+pub struct Process {
+    pub condition: Condition,
+    pub operation: Operation,
+    pub set_flags: bool,
+}
+
+/// Data processing, from its operands.
+fn data_line(process: Process, rd: Register, rn: Register, second: Second) -> What
+    ensures { result ≡ lines.data_line process.condition process.operation process.set_flags rd rn second }
+{
+    let Process {
+        condition,
+        operation,
+        set_flags,
+    } = process;
+    What::Arm(match second {
+        Second::Number(value) => ArmLine::DataImmediate {
+            condition,
+            operation,
+            set_flags,
+            rd,
+            rn,
+            value,
+        },
+        Second::Shifted { rm, shift } => ArmLine::DataShifted {
+            condition,
+            operation,
+            set_flags,
+            rd,
+            rn,
+            rm,
+            shift,
+        },
+        Second::RegisterShifted { rm, kind, rs } => ArmLine::DataRegisterShifted {
+            condition,
+            operation,
+            set_flags,
+            rd,
+            rn,
+            rm,
+            shift: kind,
+            rs,
+        },
+    })
+}
+
+/// Data processing, where its registers and its second operand are read.
+fn data_of(
+    process: Process,
+    registers: Result<(Register, Register), LineKind>,
+    second: Result<Second, LineKind>,
+) -> Result<What, LineKind>
+    ensures { result ≡ says.on_both (λ p z. lines.data_line process.condition process.operation process.set_flags p.0 p.1 z) registers second }
+{
+    match both(registers, second) {
+        Ok(((rd, rn), second)) => Ok(data_line(process, rd, rn, second)),
+        Err(kind) => Err(kind),
+    }
+}
+
+/// Data processing, from its registers and the tokens of its second operand.
+fn data(
+    alloc: Global,
+    text: &[u8],
+    process: Process,
+    registers: Result<(Register, Register), LineKind>,
+    second: (&[Token], Option<&[Token]>),
+) -> Said
+    ensures { IfOk result (λ said. lines.ReadsData text.now process.condition process.operation process.set_flags registers second.entry.0.now (option_copied second.entry.1) said) }
+{
+    let second = second_operand(alloc, text, second.0, second.1)?;
+    Ok(data_of(process, registers, second))
+}
+
+/// A register that the form leaves out.
+fn no_register() -> Result<Register, LineKind>
+    ensures { result ≡ lines.absent }
+{
+    Ok(Register::Number(0))
+}
+
+/// MOV and MVN.
+fn move_line(
+    alloc: Global,
+    text: &[u8],
+    process: Process,
+    rd: &[Token],
+    second: (&[Token], Option<&[Token]>),
+) -> Said
+    ensures { IfOk result (λ said. lines.ReadsData text.now process.condition process.operation process.set_flags (operands.both (operands.register text.now rd.now) lines.absent) second.entry.0.now (option_copied second.entry.1) said) }
+{
+    let rd = register(alloc, text, rd)?;
+    data(alloc, text, process, both(rd, no_register()), second)
+}
+
+/// TST, TEQ, CMP and CMN.
+fn comparison_line(
+    alloc: Global,
+    text: &[u8],
+    process: Process,
+    rn: &[Token],
+    second: (&[Token], Option<&[Token]>),
+) -> Said
+    ensures { IfOk result (λ said. lines.ReadsData text.now process.condition process.operation process.set_flags (operands.both lines.absent (operands.register text.now rn.now)) second.entry.0.now (option_copied second.entry.1) said) }
+{
+    let rn = register(alloc, text, rn)?;
+    data(alloc, text, process, both(no_register(), rn), second)
+}
+
+/// The other operations of data processing.
+fn sum_line(
+    alloc: Global,
+    text: &[u8],
+    process: Process,
+    registers: (&[Token], &[Token]),
+    second: (&[Token], Option<&[Token]>),
+) -> Said
+    ensures { IfOk result (λ said. lines.ReadsData text.now process.condition process.operation process.set_flags (operands.both (operands.register text.now registers.entry.0.now) (operands.register text.now registers.entry.1.now)) second.entry.0.now (option_copied second.entry.1) said) }
+{
+    let rd = register(alloc, text, registers.0)?;
+    let rn = register(alloc, text, registers.1)?;
+    data(alloc, text, process, both(rd, rn), second)
+}
+
+fn moves(alloc: Global, text: &[u8], process: Process, cut: Cut<'_>) -> Said
+    ensures { IfOk result (λ said. lines.ReadsMove text.now process.condition process.operation process.set_flags (cut_of cut.entry) said) }
+{
+    match cut {
+        Cut::Two(rd, second) => move_line(alloc, text, process, rd, (second, None)),
+        Cut::Three(rd, second, shift) => {
+            move_line(alloc, text, process, rd, (second, Some(shift)))
+        }
+        _ => Ok(Err(LineKind::Syntax)),
+    }
+}
+
+fn comparisons(alloc: Global, text: &[u8], process: Process, cut: Cut<'_>) -> Said
+    ensures { IfOk result (λ said. lines.ReadsComparison text.now process.condition process.operation process.set_flags (cut_of cut.entry) said) }
+{
+    match cut {
+        Cut::Two(rn, second) => comparison_line(alloc, text, process, rn, (second, None)),
+        Cut::Three(rn, second, shift) => {
+            comparison_line(alloc, text, process, rn, (second, Some(shift)))
+        }
+        _ => Ok(Err(LineKind::Syntax)),
+    }
+}
+
+fn sums(alloc: Global, text: &[u8], process: Process, cut: Cut<'_>) -> Said
+    ensures { IfOk result (λ said. lines.ReadsSum text.now process.condition process.operation process.set_flags (cut_of cut.entry) said) }
+{
+    match cut {
+        Cut::Three(rd, rn, second) => sum_line(alloc, text, process, (rd, rn), (second, None)),
+        Cut::Four(rd, rn, second, shift) => {
+            sum_line(alloc, text, process, (rd, rn), (second, Some(shift)))
+        }
+        _ => Ok(Err(LineKind::Syntax)),
+    }
+}
+
+fn data_words(alloc: Global, text: &[u8], process: Process, tokens: &[Token]) -> Said
+    ensures { IfOk result (λ said. lines.ReadsShape text.now process.condition process.operation process.set_flags (words.shape_of process.operation) (operands.cut (model.operands text.now tokens.now)) said) }
+{
+    let cut = cut_operands(text, tokens);
+    match shape_of(process.operation) {
+        Shape::Move => moves(alloc, text, process, cut),
+        Shape::Comparison => comparisons(alloc, text, process, cut),
+        Shape::Sum => sums(alloc, text, process, cut),
+    }
+}
+
+/// Two registers.
+fn two_registers(
+    alloc: Global,
+    text: &[u8],
+    first: &[Token],
+    second: &[Token],
+) -> Result<Result<(Register, Register), LineKind>, NoMemory>
+    ensures { IfOk result (λ pair. pair ≡ operands.both (operands.register text.now first.now) (operands.register text.now second.now)) }
+{
+    let first = register(alloc, text, first)?;
+    let second = register(alloc, text, second)?;
+    Ok(both(first, second))
+}
+
+/// Rd, Rm and Rs of a multiplication.
+fn product(
+    condition: Condition,
+    set_flags: bool,
+    registers: Result<((Register, Register), Register), LineKind>,
+) -> Result<What, LineKind>
+    ensures { result ≡ says.mapped (λ p. what.Arm (line.Multiply condition false set_flags p.0.0 p.0.1 p.1 operands.no_register)) registers }
+{
+    match registers {
+        Ok(((rd, rm), rs)) => Ok(What::Arm(ArmLine::Multiply {
+            condition,
+            accumulate: false,
+            set_flags,
+            rd,
+            rm,
+            rs,
+            rn: Register::Number(0),
+        })),
+        Err(kind) => Err(kind),
+    }
+}
+
+/// Rd, Rm, Rs and Rn of a multiplication that accumulates.
+fn accumulation(
+    condition: Condition,
+    set_flags: bool,
+    registers: Result<((Register, Register), (Register, Register)), LineKind>,
+) -> Result<What, LineKind>
+    ensures { result ≡ says.mapped (λ p. what.Arm (line.Multiply condition true set_flags p.0.0 p.0.1 p.1.0 p.1.1)) registers }
+{
+    match registers {
+        Ok(((rd, rm), (rs, rn))) => Ok(What::Arm(ArmLine::Multiply {
+            condition,
+            accumulate: true,
+            set_flags,
+            rd,
+            rm,
+            rs,
+            rn,
+        })),
+        Err(kind) => Err(kind),
+    }
+}
+
+fn multiply(alloc: Global, text: &[u8], condition: Condition, set_flags: bool, cut: Cut<'_>) -> Said
+    ensures { IfOk result (λ said. said ≡ lines.multiply text.now condition false set_flags (cut_of cut.entry)) }
+{
+    match cut {
+        Cut::Three(rd, rm, rs) => {
+            let first = two_registers(alloc, text, rd, rm)?;
+            let rs = register(alloc, text, rs)?;
+            Ok(product(condition, set_flags, both(first, rs)))
+        }
+        _ => Ok(Err(LineKind::Syntax)),
+    }
+}
+
+fn multiply_accumulate(
+    alloc: Global,
+    text: &[u8],
+    condition: Condition,
+    set_flags: bool,
+    cut: Cut<'_>,
+) -> Said
+    ensures { IfOk result (λ said. said ≡ lines.multiply text.now condition true set_flags (cut_of cut.entry)) }
+{
+    match cut {
+        Cut::Four(rd, rm, rs, rn) => {
+            let first = two_registers(alloc, text, rd, rm)?;
+            let second = two_registers(alloc, text, rs, rn)?;
+            Ok(accumulation(condition, set_flags, both(first, second)))
+        }
+        _ => Ok(Err(LineKind::Syntax)),
+    }
+}
+
+fn multiplication(
+    alloc: Global,
+    text: &[u8],
+    condition: Condition,
+    accumulate: bool,
+    set_flags: bool,
+    cut: Cut<'_>,
+) -> Said
+    ensures { IfOk result (λ said. said ≡ lines.multiply text.now condition accumulate set_flags (cut_of cut.entry)) }
+{
+    if accumulate {
+        return multiply_accumulate(alloc, text, condition, set_flags, cut);
+    }
+    multiply(alloc, text, condition, set_flags, cut)
+}
+
+/// A long multiplication as its word says it.
+#[derive(Clone, Copy, Debug)]
+pub struct LongProduct {
+    pub condition: Condition,
+    pub signed: bool,
+    pub accumulate: bool,
+    pub set_flags: bool,
+}
+
+fn long_line(
+    word: LongProduct,
+    registers: Result<((Register, Register), (Register, Register)), LineKind>,
+) -> Result<What, LineKind>
+    ensures { result ≡ says.mapped (λ p. what.Arm (line.MultiplyLong word.condition word.signed word.accumulate word.set_flags p.0.0 p.0.1 p.1.0 p.1.1)) registers }
+{
+    match registers {
+        Ok(((low, high), (rm, rs))) => Ok(What::Arm(ArmLine::MultiplyLong {
+            condition: word.condition,
+            signed: word.signed,
+            accumulate: word.accumulate,
+            set_flags: word.set_flags,
+            low,
+            high,
+            rm,
+            rs,
+        })),
+        Err(kind) => Err(kind),
+    }
+}
+
+fn multiply_long(alloc: Global, text: &[u8], word: LongProduct, cut: Cut<'_>) -> Said
+    ensures { IfOk result (λ said. said ≡ lines.multiply_long text.now word.condition word.signed word.accumulate word.set_flags (cut_of cut.entry)) }
+{
+    match cut {
+        Cut::Four(low, high, rm, rs) => {
+            let first = two_registers(alloc, text, low, high)?;
+            let second = two_registers(alloc, text, rm, rs)?;
+            Ok(long_line(word, both(first, second)))
+        }
+        _ => Ok(Err(LineKind::Syntax)),
+    }
+}
+
+/// A base alone in brackets.
+fn based(
+    alloc: Global,
+    text: &[u8],
+    tokens: &[Token],
+) -> Result<Result<Register, LineKind>, NoMemory>
+    ensures { IfOk result (λ rn. rn ≡ lines.based text.now (addresses.base text.now tokens.now)) }
+{
+    match base(text, tokens) {
+        None => Ok(Err(LineKind::Syntax)),
+        Some(base) => register(alloc, text, base),
+    }
+}
+
+fn swap_line(
+    condition: Condition,
+    byte: bool,
+    registers: Result<((Register, Register), Register), LineKind>,
+) -> Result<What, LineKind>
+    ensures { result ≡ says.mapped (λ p. what.Arm (line.Swap condition byte p.0.0 p.0.1 p.1)) registers }
+{
+    match registers {
+        Ok(((rd, rm), rn)) => Ok(What::Arm(ArmLine::Swap {
+            condition,
+            byte,
+            rd,
+            rm,
+            rn,
+        })),
+        Err(kind) => Err(kind),
+    }
+}
+
+fn swap(alloc: Global, text: &[u8], condition: Condition, byte: bool, cut: Cut<'_>) -> Said
+    ensures { IfOk result (λ said. said ≡ lines.swap text.now condition byte (cut_of cut.entry)) }
+{
+    match cut {
+        Cut::Three(rd, rm, address) => {
+            let first = two_registers(alloc, text, rd, rm)?;
+            let rn = based(alloc, text, address)?;
+            Ok(swap_line(condition, byte, both(first, rn)))
+        }
+        _ => Ok(Err(LineKind::Syntax)),
+    }
+}
+
+fn exchange_line(condition: Condition, rm: Result<Register, LineKind>) -> Result<What, LineKind>
+    ensures { result ≡ says.mapped (λ rm. what.Arm (line.BranchExchange condition rm)) rm }
+{
+    match rm {
+        Ok(rm) => Ok(What::Arm(ArmLine::BranchExchange { condition, rm })),
+        Err(kind) => Err(kind),
+    }
+}
+
+fn exchange(alloc: Global, text: &[u8], condition: Condition, cut: Cut<'_>) -> Said
+    ensures { IfOk result (λ said. said ≡ lines.exchange text.now condition (cut_of cut.entry)) }
+{
+    match cut {
+        Cut::One(rm) => Ok(exchange_line(condition, register(alloc, text, rm)?)),
+        _ => Ok(Err(LineKind::Syntax)),
+    }
+}
+
+fn read_status_line(
+    condition: Condition,
+    rd: Result<Register, LineKind>,
+    saved: Result<bool, LineKind>,
+) -> Result<What, LineKind>
+    ensures { result ≡ says.on_both (λ rd saved. what.Arm (line.ReadStatus condition saved rd)) rd saved }
+{
+    match both(rd, saved) {
+        Ok((rd, saved)) => Ok(What::Arm(ArmLine::ReadStatus {
+            condition,
+            saved,
+            rd,
+        })),
+        Err(kind) => Err(kind),
+    }
+}
+
+fn read_status(alloc: Global, text: &[u8], condition: Condition, cut: Cut<'_>) -> Said
+    ensures { IfOk result (λ said. said ≡ lines.read_status text.now condition (cut_of cut.entry)) }
+{
+    match cut {
+        Cut::Two(rd, status) => {
+            let rd = register(alloc, text, rd)?;
+            Ok(read_status_line(condition, rd, lists::status(text, status)))
+        }
+        _ => Ok(Err(LineKind::Syntax)),
+    }
+}
+
+fn status_number(
+    condition: Condition,
+    fields: Result<(bool, u8), LineKind>,
+    value: Result<Expr, LineKind>,
+) -> Result<What, LineKind>
+    ensures { result ≡ says.on_both (λ p x. what.Arm (line.WriteStatusImmediate condition p.0 p.1 x)) fields value }
+{
+    match both(fields, value) {
+        Ok(((saved, fields), value)) => Ok(What::Arm(ArmLine::WriteStatusImmediate {
+            condition,
+            saved,
+            fields,
+            value,
+        })),
+        Err(kind) => Err(kind),
+    }
+}
+
+fn status_register(
+    condition: Condition,
+    fields: Result<(bool, u8), LineKind>,
+    rm: Result<Register, LineKind>,
+) -> Result<What, LineKind>
+    ensures { result ≡ says.on_both (λ p rm. what.Arm (line.WriteStatus condition p.0 p.1 rm)) fields rm }
+{
+    match both(fields, rm) {
+        Ok(((saved, fields), rm)) => Ok(What::Arm(ArmLine::WriteStatus {
+            condition,
+            saved,
+            fields,
+            rm,
+        })),
+        Err(kind) => Err(kind),
+    }
+}
+
+/// A number or a register, written to a status register.
+fn status_value(
+    alloc: Global,
+    text: &[u8],
+    condition: Condition,
+    fields: Result<(bool, u8), LineKind>,
+    tokens: &[Token],
+) -> Said
+    ensures { IfOk result (λ said. lines.ReadsStatusValue text.now condition fields tokens.now (operands.without_first text.now lines.hash tokens.now) said) }
+{
+    match without_first(text, b"#", tokens) {
+        Some(number) => {
+            let value = expression(alloc, text, number)?;
+            Ok(status_number(condition, fields, value))
+        }
+        None => {
+            let rm = register(alloc, text, tokens)?;
+            Ok(status_register(condition, fields, rm))
+        }
+    }
+}
+
+fn write_status(alloc: Global, text: &[u8], condition: Condition, cut: Cut<'_>) -> Said
+    ensures { IfOk result (λ said. lines.ReadsWriteStatus text.now condition (cut_of cut.entry) said) }
+{
+    match cut {
+        Cut::Two(fields, value) => {
+            status_value(alloc, text, condition, lists::fields(text, fields), value)
+        }
+        _ => Ok(Err(LineKind::Syntax)),
+    }
+}
+
+fn branch(alloc: Global, text: &[u8], condition: Condition, link: bool, tokens: &[Token]) -> Said
+    ensures { IfOk result (λ said. says.Expression text.now (λ e. what.Arm (line.Branch condition link e)) tokens.now said) }
+{
+    match expression(alloc, text, tokens)? {
+        Ok(target) => Ok(Ok(What::Arm(ArmLine::Branch {
+            condition,
+            link,
+            target,
+        }))),
+        Err(kind) => Ok(Err(kind)),
+    }
+}
+
+/// A number, before which # may stand.
+fn numbered<'a>(text: &[u8], tokens: &'a [Token]) -> &'a [Token]
+    ensures { result.now ≡ lines.numbered tokens.now (operands.without_first text.now lines.hash tokens.now) }
+{
+    match without_first(text, b"#", tokens) {
+        Some(number) => number,
+        None => tokens,
+    }
+}
+
+fn interrupt(alloc: Global, text: &[u8], condition: Condition, tokens: &[Token]) -> Said
+    ensures { IfOk result (λ said. says.Expression text.now (λ e. what.Arm (line.SoftwareInterrupt condition e)) tokens.now said) }
+{
+    match expression(alloc, text, tokens)? {
+        Ok(number) => Ok(Ok(What::Arm(ArmLine::SoftwareInterrupt { condition, number }))),
+        Err(kind) => Ok(Err(kind)),
+    }
+}
+
+fn address_line(
+    condition: Condition,
+    rd: Result<Register, LineKind>,
+    target: Result<Expr, LineKind>,
+) -> Result<What, LineKind>
+    ensures { result ≡ says.on_both (λ rd x. what.Pseudo (pseudo.Address condition rd x)) rd target }
+{
+    match both(rd, target) {
+        Ok((rd, target)) => Ok(What::Pseudo(PseudoLine::Address {
+            condition,
+            rd,
+            target,
+        })),
+        Err(kind) => Err(kind),
+    }
+}
+
+fn near_address(alloc: Global, text: &[u8], condition: Condition, cut: Cut<'_>) -> Said
+    ensures { IfOk result (λ said. lines.ReadsAddress text.now condition (cut_of cut.entry) said) }
+{
+    match cut {
+        Cut::Two(rd, target) => {
+            let target = expression(alloc, text, target)?;
+            let rd = register(alloc, text, rd)?;
+            Ok(address_line(condition, rd, target))
+        }
+        _ => Ok(Err(LineKind::Syntax)),
+    }
+}
+
+/// ADRL has no place in pc.
+fn long_register(rd: Result<Register, LineKind>) -> Result<Register, LineKind>
+    ensures { result ≡ operands.followed rd lines.long_register }
+{
+    match rd {
+        Ok(Register::Number(number)) => {
+            if number == 15 {
+                return Err(LineKind::BadOperand);
+            }
+            Ok(Register::Number(number))
+        }
+        Ok(Register::Named(name)) => Ok(Register::Named(name)),
+        Err(kind) => Err(kind),
+    }
+}
+
+fn long_address_line(
+    condition: Condition,
+    rd: Result<Register, LineKind>,
+    target: Result<Expr, LineKind>,
+) -> Result<What, LineKind>
+    ensures { result ≡ says.on_both (λ rd x. what.Pseudo (pseudo.LongAddress condition rd x)) rd target }
+{
+    match both(rd, target) {
+        Ok((rd, target)) => Ok(What::Pseudo(PseudoLine::LongAddress {
+            condition,
+            rd,
+            target,
+        })),
+        Err(kind) => Err(kind),
+    }
+}
+
+fn long_address(alloc: Global, text: &[u8], condition: Condition, cut: Cut<'_>) -> Said
+    ensures { IfOk result (λ said. lines.ReadsLongAddress text.now condition (cut_of cut.entry) said) }
+{
+    match cut {
+        Cut::Two(rd, target) => {
+            let target = expression(alloc, text, target)?;
+            let rd = long_register(register(alloc, text, rd)?);
+            Ok(long_address_line(condition, rd, target))
+        }
+        _ => Ok(Err(LineKind::Syntax)),
+    }
+}
+
+/// No operands.
+fn idle(tokens: &[Token]) -> Result<What, LineKind>
+    ensures { result ≡ lines.idle tokens.now }
+{
+    if tokens.is_empty() {
+        return Ok(What::Pseudo(PseudoLine::NoOperation));
+    }
+    Err(LineKind::Syntax)
+}
+
+/// What the tokens behind an operation word say.
+fn of_word(
+    alloc: Global,
+    text: &[u8],
+    mnemonic: Mnemonic,
+    condition: Condition,
+    tokens: &[Token],
+) -> Said
+    ensures { IfOk result (λ said. lines.ReadsWord text.now mnemonic condition tokens.now said) }
+{
+    let cut = cut_operands(text, tokens);
+    match mnemonic {
+        Mnemonic::Data {
+            operation,
+            set_flags,
+        } => {
+            let process = Process {
+                condition,
+                operation,
+                set_flags,
+            };
+            data_words(alloc, text, process, tokens)
+        }
+        Mnemonic::Multiply {
+            accumulate,
+            set_flags,
+        } => multiplication(alloc, text, condition, accumulate, set_flags, cut),
+        Mnemonic::MultiplyLong {
+            signed,
+            accumulate,
+            set_flags,
+        } => {
+            let word = LongProduct {
+                condition,
+                signed,
+                accumulate,
+                set_flags,
+            };
+            multiply_long(alloc, text, word, cut)
+        }
+        Mnemonic::Swap { byte } => swap(alloc, text, condition, byte, cut),
+        Mnemonic::BranchExchange => exchange(alloc, text, condition, cut),
+        Mnemonic::ReadStatus => read_status(alloc, text, condition, cut),
+        Mnemonic::WriteStatus => write_status(alloc, text, condition, cut),
+        Mnemonic::Transfer {
+            load,
+            byte,
+            translated,
+        } => {
+            let word = Transfer {
+                condition,
+                load,
+                byte,
+                translated,
+            };
+            word_transfer(alloc, text, word, cut)
+        }
+        Mnemonic::TransferHalf { load, kind } => {
+            let word = HalfTransfer {
+                condition,
+                load,
+                kind,
+            };
+            transfer_half(alloc, text, word, cut)
+        }
+        Mnemonic::TransferBlock { load, mode } => block(alloc, text, condition, load, mode, cut),
+        Mnemonic::Branch { link } => branch(alloc, text, condition, link, tokens),
+        Mnemonic::SoftwareInterrupt => interrupt(alloc, text, condition, numbered(text, tokens)),
+        Mnemonic::Address => near_address(alloc, text, condition, cut),
+        Mnemonic::LongAddress => long_address(alloc, text, condition, cut),
+        Mnemonic::NoOperation => Ok(idle(tokens)),
+        Mnemonic::FloatingPoint => Ok(Err(LineKind::FloatingPoint)),
+    }
+}
+
+/// What the tokens behind an operation word say; UnknownWord where no operation has that word.
+pub fn instruction(
+    alloc: Global,
+    text: &[u8],
+    word: Option<(Mnemonic, Condition)>,
+    tokens: &[Token],
+) -> Said
+    ensures { IfOk result (λ said. lines.Reads text.now word tokens.now said) }
+{
+    match word {
+        None => Ok(Err(LineKind::UnknownWord)),
+        Some((mnemonic, condition)) => of_word(alloc, text, mnemonic, condition, tokens),
+    }
+}

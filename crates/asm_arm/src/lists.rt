@@ -1,0 +1,328 @@
+//! Register lists, bases that are written back, and status registers.
+
+ghost use Rattle.std.specs.Prelude.{◌≡◌, ◌∷◌, ◌++◌, [], IfOk, Some, None, length, ◌<◌, ◌≤◌, ◌^◌};
+ghost use Rattle.std.specs.Option.{option_copied};
+ghost use Rattle.asm_model.specs.Operands as model;
+ghost use Rattle.asm_model.specs.Says as says;
+ghost use Rattle.asm_arm.specs.Lists as lists;
+
+use crate::operands::{between, both, marked, register, register_of};
+use crate::words::{begin, behind};
+use asm_expr::kinds::earlier;
+use asm_expr::operands::{first_operand, is, piece_of};
+use asm_model::{ListItem, Register, Token, TokenKind, is_called};
+use sdt_fault::kinds::LineKind;
+use sdt_fault::{List, NoMemory};
+use std::alloc::Global;
+
+/// A base, and whether `!` stands behind it.
+pub fn base(
+    alloc: Global,
+    text: &[u8],
+    tokens: &[Token],
+) -> Result<Result<(Register, bool), LineKind>, NoMemory>
+    ensures { IfOk result (λ base. base ≡ lists.base text.now tokens.now) }
+{
+    let (tokens, mark) = marked(text, b"!", tokens);
+    match register(alloc, text, tokens)? {
+        Ok(rn) => Ok(Ok((rn, mark))),
+        Err(kind) => Ok(Err(kind)),
+    }
+}
+
+/// A range of registers, which rises; that of names is judged elsewhere.
+fn range(first: Register, last: Register) -> Result<ListItem, LineKind>
+    ensures { result ≡ lists.range first last }
+{
+    if let (Register::Number(low), Register::Number(high)) = (&first, &last) {
+        if *high < *low {
+            return Err(LineKind::BadOperand);
+        }
+    }
+    Ok(ListItem::Range { first, last })
+}
+
+/// A register to another, where both are read.
+fn range_of(
+    first: Result<Register, LineKind>,
+    last: Result<Register, LineKind>,
+) -> Result<ListItem, LineKind>
+    ensures { result ≡ lists.range_of first last }
+{
+    match both(first, last) {
+        Ok((first, last)) => range(first, last),
+        Err(kind) => Err(kind),
+    }
+}
+
+/// A register of a list.
+fn one_register(
+    alloc: Global,
+    text: &[u8],
+    token: Token,
+) -> Result<Result<ListItem, LineKind>, NoMemory>
+    ensures { IfOk result (λ item. item ≡ lists.item text.now (token ∷ [])) }
+{
+    match register_of(alloc, token.kind, piece_of(text, token))? {
+        Ok(register) => Ok(Ok(ListItem::One(register))),
+        Err(kind) => Ok(Err(kind)),
+    }
+}
+
+/// All registers from one to another.
+fn register_range(
+    alloc: Global,
+    text: &[u8],
+    first: Token,
+    sign: Token,
+    last: Token,
+) -> Result<Result<ListItem, LineKind>, NoMemory>
+    ensures { IfOk result (λ item. item ≡ lists.item text.now (first ∷ sign ∷ last ∷ [])) }
+{
+    if !is(piece_of(text, sign), b"-") {
+        return Ok(Err(LineKind::Syntax));
+    }
+    let first = register_of(alloc, first.kind, piece_of(text, first))?;
+    let last = register_of(alloc, last.kind, piece_of(text, last))?;
+    Ok(range_of(first, last))
+}
+
+/// An entry of a list.
+fn item(
+    alloc: Global,
+    text: &[u8],
+    tokens: &[Token],
+) -> Result<Result<ListItem, LineKind>, NoMemory>
+    ensures { IfOk result (λ item. item ≡ lists.item text.now tokens.now) }
+{
+    match tokens {
+        [] => Ok(Err(LineKind::Syntax)),
+        [token] => one_register(alloc, text, *token),
+        [_, _] => Ok(Err(LineKind::Syntax)),
+        [first, sign, last] => register_range(alloc, text, *first, *sign, *last),
+        [_, _, _, _, ..] => Ok(Err(LineKind::Syntax)),
+    }
+}
+
+/// Entries, with one reading more.
+fn with_one_more(
+    so_far: Result<List<ListItem>, LineKind>,
+    reading: Result<ListItem, LineKind>,
+) -> Result<Result<List<ListItem>, LineKind>, NoMemory>
+    ensures { IfOk result (λ all. all ≡ says.on_both (λ es e. es ++ e ∷ []) so_far reading) }
+{
+    match (so_far, reading) {
+        (Ok(list), Ok(item)) => {
+            let mut items = list.into_vec();
+            items.push(item)?;
+            Ok(Ok(List::from_vec(items)))
+        }
+        (Ok(_), Err(kind)) => Ok(Err(kind)),
+        (Err(kind), Ok(_)) => Ok(Err(kind)),
+        (Err(kind), Err(other)) => Ok(Err(earlier(kind, other))),
+    }
+}
+
+/// The entries of a list.
+fn items(
+    alloc: Global,
+    text: &[u8],
+    tokens: &[Token],
+) -> Result<Result<List<ListItem>, LineKind>, NoMemory>
+    ensures { IfOk result (λ all. all ≡ lists.items text.now (model.operands_at text.now 0 tokens.now)) }
+{
+    let mut so_far = Ok(List::from_vec(Vec::new(alloc)));
+    let mut left = tokens;
+    'operands: loop {
+        let (operand, behind) = first_operand(text, left);
+        let reading = item(alloc, text, operand)?;
+        so_far = with_one_more(so_far, reading)?;
+        match behind {
+            None => return Ok(so_far),
+            Some(tokens) => left = tokens,
+        }
+    }
+}
+
+/// Whether tokens are `{PC}` alone.
+fn is_pc(text: &[u8], tokens: &[Token]) -> bool
+    ensures { result ≡ lists.is_pc text.now tokens.now }
+{
+    match tokens {
+        [] => false,
+        [token] => is(piece_of(text, *token), b"{PC}"),
+        [_, _, ..] => false,
+    }
+}
+
+/// The list of pc alone.
+fn pc_alone(alloc: Global) -> Result<List<ListItem>, NoMemory>
+    ensures { IfOk result (λ list. list ≡ lists.pc_alone) }
+{
+    let mut items = Vec::new(alloc);
+    items.push(ListItem::One(Register::Number(15)))?;
+    Ok(List::from_vec(items))
+}
+
+/// A register list.
+fn list(
+    alloc: Global,
+    text: &[u8],
+    tokens: &[Token],
+) -> Result<Result<List<ListItem>, LineKind>, NoMemory>
+    ensures { IfOk result (λ list. list ≡ lists.list text.now tokens.now) }
+{
+    if is_pc(text, tokens) {
+        return Ok(Ok(pc_alone(alloc)?));
+    }
+    match between(text, b"{", b"}", tokens) {
+        None => Ok(Err(LineKind::Syntax)),
+        Some(content) => items(alloc, text, content),
+    }
+}
+
+/// A register list, and whether `^` stands behind it.
+pub fn register_list(
+    alloc: Global,
+    text: &[u8],
+    tokens: &[Token],
+) -> Result<Result<(List<ListItem>, bool), LineKind>, NoMemory>
+    ensures { IfOk result (λ list. list ≡ lists.register_list text.now tokens.now) }
+{
+    let (tokens, mark) = marked(text, b"^", tokens);
+    match list(alloc, text, tokens)? {
+        Ok(list) => Ok(Ok((list, mark))),
+        Err(kind) => Ok(Err(kind)),
+    }
+}
+
+/// Whether a status register is the saved one.
+#[tactic(auto, unfolding(crate::specs::Lists::status_named))]
+fn status_named(word: &[u8]) -> Option<bool>
+    ensures { result ≡ lists.status_named word.now }
+{
+    if is_called(b"CPSR", word) {
+        return Some(false);
+    }
+    if is_called(b"SPSR", word) {
+        return Some(true);
+    }
+    None
+}
+
+/// The same, of a word with fields.
+#[tactic(auto, unfolding(crate::specs::Lists::status_begun))]
+fn status_begun(word: &[u8]) -> Option<bool>
+    ensures { result ≡ lists.status_begun word.now }
+{
+    if is_called(b"CPSR_", word) {
+        return Some(false);
+    }
+    if is_called(b"SPSR_", word) {
+        return Some(true);
+    }
+    None
+}
+
+/// A token as a status register.
+fn status_of(kind: TokenKind, word: &[u8]) -> Result<bool, LineKind>
+    ensures { result ≡ lists.status_of kind word.now }
+{
+    match kind {
+        TokenKind::Name => match status_named(word) {
+            None => Err(LineKind::BadOperand),
+            Some(saved) => Ok(saved),
+        },
+        _ => Err(LineKind::Syntax),
+    }
+}
+
+/// A status register.
+pub fn status(text: &[u8], tokens: &[Token]) -> Result<bool, LineKind>
+    ensures { result ≡ lists.status text.now tokens.now }
+{
+    match tokens {
+        [] => Err(LineKind::Syntax),
+        [token] => status_of(token.kind, piece_of(text, *token)),
+        [_, _, ..] => Err(LineKind::Syntax),
+    }
+}
+
+/// How often a letter stands among these, in any case.
+fn occurrences(letter: u8, letters: &[u8]) -> usize
+    ensures { result ≡ lists.occurrences letter letters.now }
+{
+    letters
+        .iter()
+        .filter(|other| other.to_ascii_lowercase() == letter)
+        .count()
+}
+
+/// Whether so many of the letters f, s, x and c among so many letters name fields.
+fn are_fields(f: usize, s: usize, x: usize, c: usize, count: usize) -> bool
+    ensures { result ≡ lists.are_fields f s x c count }
+{
+    if f > 1 {
+        return false;
+    }
+    if s > 1 {
+        return false;
+    }
+    if x > 1 {
+        return false;
+    }
+    if c > 1 {
+        return false;
+    }
+    if count == 0 {
+        return false;
+    }
+    f + s + x + c == count
+}
+
+/// The fields that so many letters name.
+fn fields_with(f: usize, s: usize, x: usize, c: usize, count: usize) -> Option<u8>
+    ensures { result ≡ lists.fields_with f s x c count }
+{
+    if are_fields(f, s, x, c, count) {
+        return Some((8 * f + 4 * s + 2 * x + c) as u8);
+    }
+    None
+}
+
+/// The fields that letters name.
+fn fields_named(letters: &[u8]) -> Option<u8>
+    ensures { result ≡ lists.fields_named letters.now }
+{
+    fields_with(
+        occurrences(b'f', letters),
+        occurrences(b's', letters),
+        occurrences(b'x', letters),
+        occurrences(b'c', letters),
+        letters.len(),
+    )
+}
+
+/// A token as a status register with its fields.
+fn fields_of(kind: TokenKind, word: &[u8]) -> Result<(bool, u8), LineKind>
+    ensures { result ≡ lists.fields_of kind word.now }
+{
+    match kind {
+        TokenKind::Name => match (status_begun(begin(word, 5)), fields_named(behind(word, 5))) {
+            (Some(saved), Some(fields)) => Ok((saved, fields)),
+            _ => Err(LineKind::BadOperand),
+        },
+        _ => Err(LineKind::Syntax),
+    }
+}
+
+/// A status register with its fields.
+pub fn fields(text: &[u8], tokens: &[Token]) -> Result<(bool, u8), LineKind>
+    ensures { result ≡ lists.fields text.now tokens.now }
+{
+    match tokens {
+        [] => Err(LineKind::Syntax),
+        [token] => fields_of(token.kind, piece_of(text, *token)),
+        [_, _, ..] => Err(LineKind::Syntax),
+    }
+}

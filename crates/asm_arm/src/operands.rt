@@ -1,0 +1,419 @@
+//! The operands of ARM instructions.
+
+ghost use Rattle.std.specs.Prelude.{◌≡◌, ◌∷◌, [], IfOk, length, take, ◌-◌, Some, None};
+ghost use Rattle.std.specs.Option.{option_copied};
+ghost use Rattle.asm_model.specs.Operands as model;
+ghost use Rattle.asm_model.specs.Registers as registers;
+ghost use Rattle.asm_model.specs.Says as says;
+ghost use Rattle.asm_arm.specs.Operands as operands;
+ghost use Rattle.asm_arm.specs.Steps.{cut_of};
+ghost use Rattle.asm_arm.specs.declared.operands.Scale.TheVariants as scale;
+ghost use Rattle.asm_arm.specs.declared.operands.Second.TheVariants as second;
+
+use asm_expr::kinds::earlier;
+use asm_expr::operands::{first_operand, is, piece_of};
+use asm_expr::parts::inside;
+use asm_expr::read::expression;
+use asm_expr::register_named;
+use asm_model::{Expr, Register, Shift, Token, TokenKind, is_called};
+use sdt_fault::kinds::LineKind;
+use sdt_fault::{NoMemory, Text};
+use sdt_word::ShiftKind;
+use std::alloc::Global;
+
+/// The operands of a line, up to four.
+#[derive(Clone, Copy, Debug)]
+pub enum Cut<'a> {
+    None,
+    One(&'a [Token]),
+    Two(&'a [Token], &'a [Token]),
+    Three(&'a [Token], &'a [Token], &'a [Token]),
+    Four(&'a [Token], &'a [Token], &'a [Token], &'a [Token]),
+    More,
+}
+
+/// The shift of a register, as a line says it.
+#[derive(Debug, Drop)]
+pub enum Scale {
+    /// `LSL #a`
+    By { kind: ShiftKind, amount: Expr },
+    /// `LSL Rs`
+    Register { kind: ShiftKind, rs: Register },
+    /// `RRX`
+    Extended,
+}
+
+/// The second operand of data processing.
+#[derive(Debug, Drop)]
+pub enum Second {
+    /// `#v`
+    Number(Expr),
+    /// `Rm,LSL #a`
+    Shifted {
+        rm: Register,
+        shift: Shift,
+    },
+    /// `Rm,LSL Rs`
+    RegisterShifted {
+        rm: Register,
+        kind: ShiftKind,
+        rs: Register,
+    },
+}
+
+/// The operands of the tokens behind an operation.
+pub fn cut_operands<'a>(text: &[u8], tokens: &'a [Token]) -> Cut<'a>
+    ensures { cut_of result ≡ operands.cut (model.operands text.now tokens.now) }
+{
+    if tokens.is_empty() {
+        return Cut::None;
+    }
+    let (first, behind) = first_operand(text, tokens);
+    match behind {
+        None => Cut::One(first),
+        Some(behind) => with_one(text, first, behind),
+    }
+}
+
+/// Operands behind one.
+fn with_one<'a>(text: &[u8], first: &'a [Token], tokens: &'a [Token]) -> Cut<'a>
+    ensures { cut_of result ≡ operands.cut (first.now ∷ model.operands_at text.now 0 tokens.now) }
+{
+    let (second, behind) = first_operand(text, tokens);
+    match behind {
+        None => Cut::Two(first, second),
+        Some(behind) => with_two(text, first, second, behind),
+    }
+}
+
+/// Operands behind two.
+fn with_two<'a>(
+    text: &[u8],
+    first: &'a [Token],
+    second: &'a [Token],
+    tokens: &'a [Token],
+) -> Cut<'a>
+    ensures { cut_of result ≡ operands.cut (first.now ∷ second.now ∷ model.operands_at text.now 0 tokens.now) }
+{
+    let (third, behind) = first_operand(text, tokens);
+    match behind {
+        None => Cut::Three(first, second, third),
+        Some(behind) => with_three(text, first, second, third, behind),
+    }
+}
+
+/// Operands behind three.
+fn with_three<'a>(
+    text: &[u8],
+    first: &'a [Token],
+    second: &'a [Token],
+    third: &'a [Token],
+    tokens: &'a [Token],
+) -> Cut<'a>
+    ensures { cut_of result ≡ operands.cut (first.now ∷ second.now ∷ third.now ∷ model.operands_at text.now 0 tokens.now) }
+{
+    let (fourth, behind) = first_operand(text, tokens);
+    match behind {
+        None => Cut::Four(first, second, third, fourth),
+        Some(_) => Cut::More,
+    }
+}
+
+/// Two readings of one line, of which the fault that is told counts.
+pub fn both<A: Drop, B: Drop>(
+    a: Result<A, LineKind>,
+    b: Result<B, LineKind>,
+) -> Result<(A, B), LineKind>
+    ensures { result ≡ operands.both a b }
+{
+    match (a, b) {
+        (Ok(a), Ok(b)) => Ok((a, b)),
+        (Ok(_), Err(kind)) => Err(kind),
+        (Err(kind), Ok(_)) => Err(kind),
+        (Err(kind), Err(other)) => Err(earlier(kind, other)),
+    }
+}
+
+/// The tokens behind a sign that stands in front.
+pub fn without_first<'a>(text: &[u8], sign: &[u8], tokens: &'a [Token]) -> Option<&'a [Token]>
+    ensures { option_copied result ≡ operands.without_first text.now sign.now tokens.now }
+{
+    match tokens {
+        [] => None,
+        [token, behind @ ..] => {
+            if is(piece_of(text, *token), sign) {
+                return Some(behind);
+            }
+            None
+        }
+    }
+}
+
+/// The bytes of the last token; none where there is no token.
+fn last_piece<'a>(text: &'a [u8], tokens: &[Token]) -> &'a [u8]
+    ensures { result.now ≡ operands.last_piece text.now tokens.now }
+{
+    match tokens.last() {
+        None => &text[..0],
+        Some(token) => piece_of(text, *token),
+    }
+}
+
+/// All tokens but the last.
+fn front(tokens: &[Token]) -> &[Token]
+    ensures { result.now ≡ operands.front tokens.now }
+{
+    if tokens.is_empty() {
+        return tokens;
+    }
+    &tokens[..tokens.len() - 1]
+}
+
+/// The tokens before a sign that stands at the end.
+fn without_last<'a>(text: &[u8], sign: &[u8], tokens: &'a [Token]) -> Option<&'a [Token]>
+    ensures { option_copied result ≡ operands.without_last text.now sign.now tokens.now }
+{
+    if is(last_piece(text, tokens), sign) {
+        return Some(front(tokens));
+    }
+    None
+}
+
+/// Tokens behind which a mark may stand, and whether it does.
+pub fn marked<'a>(text: &[u8], mark: &[u8], tokens: &'a [Token]) -> (&'a [Token], bool)
+    ensures { (result.0.now, result.1) ≡ operands.marked text.now mark.now tokens.now }
+{
+    if is(last_piece(text, tokens), mark) {
+        return (front(tokens), true);
+    }
+    (tokens, false)
+}
+
+/// What stands between two brackets.
+pub fn between<'a>(
+    text: &[u8],
+    left: &[u8],
+    right: &[u8],
+    tokens: &'a [Token],
+) -> Option<&'a [Token]>
+    ensures { option_copied result ≡ operands.between text.now left.now right.now tokens.now }
+{
+    match without_first(text, left, tokens) {
+        None => None,
+        Some(behind) => without_last(text, right, behind),
+    }
+}
+
+/// A name as a register.
+fn named(alloc: Global, name: &[u8]) -> Result<Register, NoMemory>
+    ensures { IfOk result (λ register. register ≡ operands.named name.now (registers.register_named name.now)) }
+{
+    match register_named(name) {
+        Some(number) => Ok(Register::Number(number)),
+        None => Ok(Register::Named(Text::from_slice(alloc, name)?)),
+    }
+}
+
+/// A token as a register.
+pub fn register_of(
+    alloc: Global,
+    kind: TokenKind,
+    piece: &[u8],
+) -> Result<Result<Register, LineKind>, NoMemory>
+    ensures { IfOk result (λ register. register ≡ operands.register_of kind piece.now) }
+{
+    match kind {
+        TokenKind::Name => Ok(Ok(named(alloc, piece)?)),
+        TokenKind::Barred => Ok(Ok(Register::Named(Text::from_slice(alloc, inside(piece))?))),
+        _ => Ok(Err(LineKind::Syntax)),
+    }
+}
+
+/// Tokens as a register alone.
+pub fn register(
+    alloc: Global,
+    text: &[u8],
+    tokens: &[Token],
+) -> Result<Result<Register, LineKind>, NoMemory>
+    ensures { IfOk result (λ register. register ≡ operands.register text.now tokens.now) }
+{
+    match tokens {
+        [] => Ok(Err(LineKind::Syntax)),
+        [token] => register_of(alloc, token.kind, piece_of(text, *token)),
+        [_, _, ..] => Ok(Err(LineKind::Syntax)),
+    }
+}
+
+/// The kind of a shift.
+#[tactic(auto, unfolding(crate::specs::Operands::shift_named))]
+fn shift_named(word: &[u8]) -> Option<ShiftKind>
+    ensures { result ≡ operands.shift_named word.now }
+{
+    if is_called(b"LSL", word) {
+        return Some(ShiftKind::Lsl);
+    }
+    if is_called(b"LSR", word) {
+        return Some(ShiftKind::Lsr);
+    }
+    if is_called(b"ASR", word) {
+        return Some(ShiftKind::Asr);
+    }
+    if is_called(b"ROR", word) {
+        return Some(ShiftKind::Ror);
+    }
+    None
+}
+
+/// RRX, which stands alone.
+fn extended(word: &[u8]) -> Result<Scale, LineKind>
+    ensures { result ≡ operands.extended word.now }
+{
+    if is_called(b"RRX", word) {
+        return Ok(Scale::Extended);
+    }
+    Err(LineKind::Syntax)
+}
+
+/// A number as the amount of a shift.
+fn amount(
+    alloc: Global,
+    text: &[u8],
+    kind: ShiftKind,
+    tokens: &[Token],
+) -> Result<Result<Scale, LineKind>, NoMemory>
+    ensures { IfOk result (λ shift. says.Expression text.now (λ a. scale.By kind a) tokens.now shift) }
+{
+    match expression(alloc, text, tokens)? {
+        Ok(amount) => Ok(Ok(Scale::By { kind, amount })),
+        Err(fault) => Ok(Err(fault)),
+    }
+}
+
+/// A register as the amount of a shift.
+fn register_amount(
+    alloc: Global,
+    text: &[u8],
+    kind: ShiftKind,
+    tokens: &[Token],
+) -> Result<Result<Scale, LineKind>, NoMemory>
+    ensures { IfOk result (λ shift. shift ≡ says.mapped (λ rs. scale.Register kind rs) (operands.register text.now tokens.now)) }
+{
+    match register(alloc, text, tokens)? {
+        Ok(rs) => Ok(Ok(Scale::Register { kind, rs })),
+        Err(fault) => Ok(Err(fault)),
+    }
+}
+
+/// The amount of a shift.
+fn shifted_by(
+    alloc: Global,
+    text: &[u8],
+    kind: Option<ShiftKind>,
+    tokens: &[Token],
+) -> Result<Result<Scale, LineKind>, NoMemory>
+    ensures { IfOk result (λ shift. operands.ReadsKind text.now kind tokens.now shift) }
+{
+    let Some(kind) = kind else {
+        return Ok(Err(LineKind::Syntax));
+    };
+    match without_first(text, b"#", tokens) {
+        Some(number) => amount(alloc, text, kind, number),
+        None => register_amount(alloc, text, kind, tokens),
+    }
+}
+
+/// A shift.
+pub fn shift_of(
+    alloc: Global,
+    text: &[u8],
+    tokens: &[Token],
+) -> Result<Result<Scale, LineKind>, NoMemory>
+    ensures { IfOk result (λ shift. operands.ReadsScale text.now tokens.now shift) }
+{
+    match tokens {
+        [] => Ok(Err(LineKind::Syntax)),
+        [word] => Ok(extended(piece_of(text, *word))),
+        [word, behind @ ..] => shifted_by(alloc, text, shift_named(piece_of(text, *word)), behind),
+    }
+}
+
+/// A register with a shift.
+fn scaled(rm: Register, scale: Scale) -> Second
+    ensures { result ≡ operands.scaled rm scale }
+{
+    match scale {
+        Scale::By { kind, amount } => Second::Shifted {
+            rm,
+            shift: Shift::By { kind, amount },
+        },
+        Scale::Register { kind, rs } => Second::RegisterShifted { rm, kind, rs },
+        Scale::Extended => Second::Shifted {
+            rm,
+            shift: Shift::Extended,
+        },
+    }
+}
+
+/// A register with a shift, where both are read.
+fn both_scaled(
+    rm: Result<Register, LineKind>,
+    shift: Result<Scale, LineKind>,
+) -> Result<Second, LineKind>
+    ensures { result ≡ says.on_both (λ rm x. operands.scaled rm x) rm shift }
+{
+    match both(rm, shift) {
+        Ok((rm, shift)) => Ok(scaled(rm, shift)),
+        Err(kind) => Err(kind),
+    }
+}
+
+/// A number as the second operand.
+fn number_operand(
+    alloc: Global,
+    text: &[u8],
+    tokens: &[Token],
+) -> Result<Result<Second, LineKind>, NoMemory>
+    ensures { IfOk result (λ operand. says.Expression text.now (λ v. second.Number v) tokens.now operand) }
+{
+    match expression(alloc, text, tokens)? {
+        Ok(value) => Ok(Ok(Second::Number(value))),
+        Err(kind) => Ok(Err(kind)),
+    }
+}
+
+/// A number, or a register without a shift.
+fn plain_operand(
+    alloc: Global,
+    text: &[u8],
+    tokens: &[Token],
+) -> Result<Result<Second, LineKind>, NoMemory>
+    ensures { IfOk result (λ operand. operands.ReadsSecond text.now tokens.now None operand) }
+{
+    if let Some(number) = without_first(text, b"#", tokens) {
+        return number_operand(alloc, text, number);
+    }
+    match register(alloc, text, tokens)? {
+        Ok(rm) => Ok(Ok(Second::Shifted {
+            rm,
+            shift: Shift::Unshifted,
+        })),
+        Err(kind) => Ok(Err(kind)),
+    }
+}
+
+/// The second operand of data processing.
+pub fn second_operand(
+    alloc: Global,
+    text: &[u8],
+    tokens: &[Token],
+    shift: Option<&[Token]>,
+) -> Result<Result<Second, LineKind>, NoMemory>
+    ensures { IfOk result (λ operand. operands.ReadsSecond text.now tokens.now (option_copied shift.entry) operand) }
+{
+    let Some(shift) = shift else {
+        return plain_operand(alloc, text, tokens);
+    };
+    let shift = shift_of(alloc, text, shift)?;
+    let rm = register(alloc, text, tokens)?;
+    Ok(both_scaled(rm, shift))
+}
