@@ -5,6 +5,7 @@ use boot_code::{CopyRow, ZeroRow, boot_words, table};
 use sdt_fault::NoMemory;
 use sdt_word::push_word;
 use std::alloc::Global;
+use std::process::Abort;
 use std::test::Fail;
 
 /// MOV r0,#0x12; SWI 0x11.
@@ -16,23 +17,38 @@ const ENDLESS: &[u8] = b"\xFE\xFF\xFF\xEA";
 /// A word whose condition is 15.
 const UNPREDICTABLE: &[u8] = b"\x00\x00\x00\xF0";
 
-#[test]
-fn binaries(rt: HostRuntime) -> Result<(), Fail> {
+/// Carries out commands over three binaries, and compares the answers' texts.
+fn check_all(rt: &impl Abort, alloc: Global, rows: &[(&[&str], &str)]) -> Result<(), Fail> {
     let mut store = stored(
-        rt.alloc(),
+        alloc,
         &[
             ("t.bin", TWO_WORDS),
             ("endless", ENDLESS),
             ("bad", UNPREDICTABLE),
         ],
     )?;
-    let cases: [(&[&str], &str); 10] = [
+    for (words, wanted) in rows {
+        check(rt, alloc, &mut store, 0, words, (wanted, ""))?;
+    }
+    Ok(())
+}
+
+#[test]
+fn two_words(rt: HostRuntime) -> Result<(), Fail> {
+    let rows: [(&[&str], &str); 3] = [
         (&["run", "-bin", "t.bin", "-at", "0x8000"], "done"),
         (&["run", "-bin", "t.bin", "-at", "0", "-steps", "2"], "done"),
         (
             &["run", "-bin", "t.bin", "-at", "0", "-steps", "1"],
             "stopped: budget",
         ),
+    ];
+    check_all(&rt, rt.alloc(), &rows)
+}
+
+#[test]
+fn stopped_runs(rt: HostRuntime) -> Result<(), Fail> {
+    let rows: [(&[&str], &str); 2] = [
         (
             &["run", "-bin", "endless", "-at", "0", "-steps", "10"],
             "stopped: budget",
@@ -41,6 +57,13 @@ fn binaries(rt: HostRuntime) -> Result<(), Fail> {
             &["run", "-bin", "bad", "-at", "0"],
             "stopped: unpredictable 00000000 F0000000",
         ),
+    ];
+    check_all(&rt, rt.alloc(), &rows)
+}
+
+#[test]
+fn memory_ranges(rt: HostRuntime) -> Result<(), Fail> {
+    let rows: [(&[&str], &str); 2] = [
         (
             &["run", "-bin", "t.bin", "-at", "0x2000000"],
             "refused 25 NoRoom 02000000",
@@ -51,17 +74,21 @@ fn binaries(rt: HostRuntime) -> Result<(), Fail> {
             ],
             "refused 24 BankOverlap 00000080",
         ),
+    ];
+    check_all(&rt, rt.alloc(), &rows)
+}
+
+#[test]
+fn missing_words(rt: HostRuntime) -> Result<(), Fail> {
+    let rows: [(&[&str], &str); 3] = [
+        (&["run"], "refused 1 BadWords 2"),
+        (&["run", "-bin", "t.bin"], "refused 1 BadWords 4"),
         (
             &["run", "-bin", "none", "-at", "0"],
             "refused 26 Missing none",
         ),
-        (&["run", "-bin", "t.bin"], "refused 1 BadWords 4"),
-        (&["run"], "refused 1 BadWords 2"),
     ];
-    for (words, wanted) in cases {
-        check(&rt, rt.alloc(), &mut store, 0, words, (wanted, ""))?;
-    }
-    Ok(())
+    check_all(&rt, rt.alloc(), &rows)
 }
 
 /// The map of a program that prints a text behind the startup code.
@@ -120,7 +147,7 @@ fn load_file(alloc: Global) -> Result<Vec<u8>, NoMemory> {
 
 /// The entry comes after 801 steps, and the end after 808.
 #[test]
-fn a_map(rt: HostRuntime) -> Result<(), Fail> {
+fn hello(rt: HostRuntime) -> Result<(), Fail> {
     let file = load_file(rt.alloc())?;
     let mut store = stored(
         rt.alloc(),
