@@ -13,6 +13,3 @@ pub use crate::laws::{archive_law, one_record, spelling_law};
 pub use crate::reading::read_archive;
 pub use crate::records::{Archive, Member};
 pub use crate::writing::write_archive;
-
-#[cfg(test)]
-mod tests;

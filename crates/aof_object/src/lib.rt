@@ -24,6 +24,3 @@ pub use crate::records::{Area, Entry, Object, Reloc, Symbol};
 pub use crate::strings::terminated_name;
 pub use crate::validity::object_is_valid;
 pub use crate::writing::write_object;
-
-#[cfg(test)]
-mod tests;

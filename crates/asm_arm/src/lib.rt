@@ -11,6 +11,3 @@ pub mod transfers;
 pub mod words;
 
 pub use crate::says::parse_arm;
-
-#[cfg(test)]
-mod tests;

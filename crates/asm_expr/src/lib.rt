@@ -21,8 +21,3 @@ pub use crate::index::NameIndex;
 pub use crate::read::parse_expr;
 pub use crate::registers::register_named;
 pub use crate::value::{evaluate, evaluate_indexed};
-
-#[cfg(test)]
-mod directive_tests;
-#[cfg(test)]
-mod tests;

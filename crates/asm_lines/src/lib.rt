@@ -8,6 +8,3 @@ pub mod split;
 
 pub use crate::scan::tokens;
 pub use crate::split::split_lines;
-
-#[cfg(test)]
-mod tests;

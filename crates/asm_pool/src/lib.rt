@@ -9,6 +9,3 @@ pub mod pools;
 pub use crate::laws::{literal_law, pool_law};
 pub use crate::layout::{LaidArea, LaidStatement, Layout};
 pub use crate::pools::Pools;
-
-#[cfg(test)]
-mod tests;

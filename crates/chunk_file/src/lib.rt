@@ -11,6 +11,3 @@ pub use crate::laws::{chunks_law, one_record, size_law, spelling_law, table_law}
 pub use crate::reading::{bytes_of_span, read_chunks, read_table};
 pub use crate::records::{Chunk, Chunks, Span};
 pub use crate::writing::{push_word, write_chunks};
-
-#[cfg(test)]
-mod tests;

@@ -16,6 +16,3 @@ mod undefined;
 
 pub use crate::laws::duplicate_law;
 pub use crate::selecting::select;
-
-#[cfg(test)]
-mod tests;

@@ -12,6 +12,3 @@ pub use crate::arm::print_arm;
 pub use crate::laws::readings_law;
 pub use crate::listing::{list_archive, list_object};
 pub use crate::thumb::print_thumb;
-
-#[cfg(test)]
-mod tests;

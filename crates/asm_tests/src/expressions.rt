@@ -1,6 +1,6 @@
 //! Expressions and their values. The expected values were worked by hand from the operators' meanings.
 
-use crate::{evaluate, parse_expr};
+use asm_expr::{evaluate, parse_expr};
 use asm_model::{EvalFault, Expr, Flat, LaidName, Names, Token, TokenKind, Value};
 use sdt_fault::answer::Fault;
 use sdt_fault::kinds::LineKind;

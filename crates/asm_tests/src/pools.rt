@@ -1,8 +1,7 @@
 //! Pools beside rows that were worked by hand.
 
-use crate::layout::{LaidArea, LaidStatement, Layout};
-use crate::pools::Pools;
 use asm_model::{LaidName, Statement, Value, What};
+use asm_pool::{LaidArea, LaidStatement, Layout, Pools};
 use sdt_fault::{List, NoMemory, Text};
 use std::alloc::Global;
 use std::test::Fail;

@@ -2,7 +2,7 @@
 
 ghost use Rattle.std.specs.Prelude.{◌≡◌, IfOk};
 
-use crate::{split_lines, tokens};
+use asm_lines::{split_lines, tokens};
 use asm_model::{Flat, Token, TokenKind};
 use sdt_fault::answer::Fault;
 use sdt_fault::refusal::Refusal;

@@ -1,7 +1,7 @@
-use super::*;
 use alf_archive::{Archive, Member};
 use aof_object::{Area, Entry, Object, Symbol};
 use link_model::{Linked, Named};
+use link_select::select;
 use sdt_fault::answer::{Answer, Fault};
 use sdt_fault::report::text_of;
 use sdt_fault::{Bytes, List, Text};

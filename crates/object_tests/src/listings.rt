@@ -1,8 +1,8 @@
 //! Texts of words and half-words of each row, taken from the tables, and the listing of a small object.
 
-use super::*;
 use aof_object::{Area, Entry, Object, Reloc, Symbol, object_is_valid, read_object};
 use sdt_fault::{Bytes, List, NoMemory, Text};
+use sdt_listing::{list_archive, list_object, print_arm, print_thumb};
 use std::test::*;
 
 const ARM_TEXTS: [(u32, u32, &str); 61] = [

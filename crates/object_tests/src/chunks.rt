@@ -1,4 +1,4 @@
-use super::*;
+use chunk_file::{Chunk, Chunks, read_chunks, write_chunks};
 use sdt_fault::answer::Fault;
 use sdt_fault::kinds::FileKind;
 use sdt_fault::refusal::Refusal;

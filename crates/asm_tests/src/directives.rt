@@ -1,7 +1,7 @@
 //! Lines of directives. The expected statements and faults were written by hand from the language's rules.
 
-use crate::tests::{names, show_fault, show_number, show_value, tokens};
-use crate::{NameIndex, evaluate_indexed, parse_directive};
+use crate::expressions::{names, show_fault, show_number, show_value, tokens};
+use asm_expr::{NameIndex, evaluate_indexed, parse_directive};
 use asm_model::{
     AreaAttributes, Boundary, Contents, DirectiveLine, EvalFault, Expr, Flat, Names, RnOperand,
     Statement, What,

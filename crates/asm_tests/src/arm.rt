@@ -1,6 +1,6 @@
 //! Lines of ARM state. The expected statements and faults were written by hand from the language's rules.
 
-use crate::parse_arm;
+use asm_arm::parse_arm;
 use asm_model::{Flat, Statement};
 use sdt_fault::answer::Fault;
 use sdt_fault::refusal::Refusal;

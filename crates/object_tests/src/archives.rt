@@ -1,6 +1,6 @@
 ghost use Rattle.std.specs.Prelude.{◌≤◌, length};
 
-use super::*;
+use alf_archive::{Archive, Member, members_defining, read_archive, write_archive};
 use aof_object::{Object, Symbol, read_object};
 use sdt_fault::answer::Fault;
 use sdt_fault::kinds::FileKind;

@@ -1,6 +1,6 @@
 ghost use Rattle.std.specs.Prelude.{◌≤◌, length};
 
-use super::*;
+use aof_object::{Area, Entry, Object, Reloc, Symbol, object_is_valid, read_object, write_object};
 use sdt_fault::answer::Fault;
 use sdt_fault::kinds::FileKind;
 use sdt_fault::refusal::Refusal;
