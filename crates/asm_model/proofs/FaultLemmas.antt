@@ -44,7 +44,7 @@ record IsEarlier (a b c : LineKind) : Type 0 where
   first : rank c ≤ rank a
   second : rank c ≤ rank b
 
-is_earlier : (a b : LineKind) → IsEarlier a b (earlier a b)
+pub is_earlier : (a b : LineKind) → IsEarlier a b (earlier a b)
 is_earlier a b = by_test (nat_lt (rank b) (rank a)) refl
   where
     by_test : (t : Bool) → nat_lt (rank b) (rank a) ≡ t → IsEarlier a b (earlier a b)
@@ -55,13 +55,13 @@ is_earlier a b = by_test (nat_lt (rank b) (rank a)) refl
         let behind = ltb-false (rank b) (rank a) t in
         rw (stays a b t) (record { one = inl refl; first = omega arith; second = omega arith })
 
-below_trans : (x y z : ℕ) → nat_lt y x ≡ true → nat_lt z y ≡ true → nat_lt z x ≡ true
+pub below_trans : (x y z : ℕ) → nat_lt y x ≡ true → nat_lt z y ≡ true → nat_lt z x ≡ true
 below_trans x y z h k = let a = ltb-true y x h in let b = ltb-true z y k in lt-ltb z x (omega arith)
 
-above_trans : (x y z : ℕ) → nat_lt y x ≡ false → nat_lt z y ≡ false → nat_lt z x ≡ false
+pub above_trans : (x y z : ℕ) → nat_lt y x ≡ false → nat_lt z y ≡ false → nat_lt z x ≡ false
 above_trans x y z h k = let a = ltb-false y x h in let b = ltb-false z y k in le-ltb z x (omega arith)
 
-earlier_assoc : (a b c : LineKind) → earlier a (earlier b c) ≡ earlier (earlier a b) c
+pub earlier_assoc : (a b c : LineKind) → earlier a (earlier b c) ≡ earlier (earlier a b) c
 earlier_assoc a b c = by_tests (nat_lt (rank b) (rank a)) (nat_lt (rank c) (rank b)) refl refl
   where
     by_tests : (p q : Bool) → nat_lt (rank b) (rank a) ≡ p → nat_lt (rank c) (rank b) ≡ q → earlier a (earlier b c) ≡ earlier (earlier a b) c
@@ -104,7 +104,7 @@ told_same (Some k) A B f g p = (f k p.0, λ j h. p.1 j (g j h))
 
 -- ---- lists of kinds
 
-earliest_told : (k : LineKind) (ks : List LineKind) → Some (earliest k ks) ≡ first_told (Some k) (told_kind ks)
+pub earliest_told : (k : LineKind) (ks : List LineKind) → Some (earliest k ks) ≡ first_told (Some k) (told_kind ks)
 earliest_told k [] = refl
 earliest_told k (j ∷ js) =
     earliest_told (earlier k j) js ∙ moved (told_kind js) ∙ ap (first_told (Some k)) (sym (earliest_told j js))
@@ -113,7 +113,7 @@ earliest_told k (j ∷ js) =
     moved None = refl
     moved (Some i) = ap Some (sym (earlier_assoc k j i))
 
-first_assoc : (a b c : Option LineKind) → first_told a (first_told b c) ≡ first_told (first_told a b) c
+pub first_assoc : (a b c : Option LineKind) → first_told a (first_told b c) ≡ first_told (first_told a b) c
 first_assoc None b c = refl
 first_assoc (Some k) None c = refl
 first_assoc (Some k) (Some j) None = refl
@@ -202,58 +202,58 @@ told_of_values names (Between op t u) =
 -- ---- directives
 
 -- readings
-told_mapped : {X Y : Type 0} (f : X → Y) (r : Result X LineKind) (A : LineKind → Type 0) → IsToldOf (fault r) A → IsToldOf (fault (mapped f r)) A
+pub told_mapped : {X Y : Type 0} (f : X → Y) (r : Result X LineKind) (A : LineKind → Type 0) → IsToldOf (fault r) A → IsToldOf (fault (mapped f r)) A
 told_mapped f (Ok x) A p = p
 told_mapped f (Err k) A p = p
 
-told_both : {X Y Z : Type 0} (f : X → Y → Z) (r : Result X LineKind) (s : Result Y LineKind) (A B : LineKind → Type 0)
+pub told_both : {X Y Z : Type 0} (f : X → Y → Z) (r : Result X LineKind) (s : Result Y LineKind) (A B : LineKind → Type 0)
     → IsToldOf (fault r) A → IsToldOf (fault s) B → IsToldOf (fault (on_both f r s)) (λ k. A k ⊎ B k)
 told_both f (Ok x) (Ok y) A B p q = told_union None None A B p q
 told_both f (Ok x) (Err j) A B p q = told_union None (Some j) A B p q
 told_both f (Err k) (Ok y) A B p q = told_union (Some k) None A B p q
 told_both f (Err k) (Err j) A B p q = told_union (Some k) (Some j) A B p q
 
-told_either : (r s : Result (Option Expr) LineKind) (A B : LineKind → Type 0)
+pub told_either : (r s : Result (Option Expr) LineKind) (A B : LineKind → Type 0)
     → IsToldOf (fault r) A → IsToldOf (fault s) B → IsToldOf (fault (either r s)) (λ k. A k ⊎ B k)
 told_either (Ok x) (Ok y) A B p q = told_union None None A B p q
 told_either (Ok x) (Err j) A B p q = told_union None (Some j) A B p q
 told_either (Err k) (Ok y) A B p q = told_union (Some k) None A B p q
 told_either (Err k) (Err j) A B p q = told_union (Some k) (Some j) A B p q
 
-not_parsed : (ps : List Part) (e : Expr) (k : LineKind) → Parses ps (Ok e) → Parses ps (Err k) → ⊥
+pub not_parsed : (ps : List Part) (e : Expr) (k : LineKind) → Parses ps (Ok e) → Parses ps (Err k) → ⊥
 not_parsed ps e k p q = elim q [ inl none ↦ none.1 p.0.0 p.0.1 | inr large ↦ (let a = p.1 in let b = large.2 in cc) ]
 
-one_kind : (ps : List Part) (k j : LineKind) → Parses ps (Err k) → Parses ps (Err j) → k ≡ j
+pub one_kind : (ps : List Part) (k j : LineKind) → Parses ps (Err k) → Parses ps (Err j) → k ≡ j
 one_kind ps k j p q =
     elim p [
       | inl none ↦ elim q [ inl other ↦ none.0 ∙ sym other.0 | inr large ↦ absurd (none.1 large.1.0 large.1.1) ]
       | inr large ↦ elim q [ inl other ↦ absurd (other.1 large.1.0 large.1.1) | inr more ↦ large.0 ∙ sym more.0 ]
     ]
 
-told_parsed : (text : List ℕ) (ts : List Token) (e : Result Expr LineKind) → ParsesTokens text ts e → IsToldOf (fault e) (λ k. ParsesTokens text ts (Err k))
+pub told_parsed : (text : List ℕ) (ts : List Token) (e : Result Expr LineKind) → ParsesTokens text ts e → IsToldOf (fault e) (λ k. ParsesTokens text ts (Err k))
 told_parsed text ts (Ok e) p = λ k q. not_parsed (map (part_of text) ts) e k p q
 told_parsed text ts (Err k) p = (p, λ j q. (let equal = ap rank (one_kind (map (part_of text) ts) k j p q) in omega arith))
 
-told_expression : {X : Type 0} (text : List ℕ) (make : Expr → X) (ts : List Token) (r : Result X LineKind) → Expression text make ts r
+pub told_expression : {X : Type 0} (text : List ℕ) (make : Expr → X) (ts : List Token) (r : Result X LineKind) → Expression text make ts r
     → IsToldOf (fault r) (λ k. ParsesTokens text ts (Err k))
 told_expression text make ts r p = rw (p.2) (told_mapped make p.0 (λ k. ParsesTokens text ts (Err k)) (told_parsed text ts p.0 p.1))
 
-told_expressions : (text : List ℕ) (os : List (List Token)) (r : Result (List Expr) LineKind) → Expressions text os r → IsToldOf (fault r) (OperandsKind text os)
+pub told_expressions : (text : List ℕ) (os : List (List Token)) (r : Result (List Expr) LineKind) → Expressions text os r → IsToldOf (fault r) (OperandsKind text os)
 told_expressions text [] r p = rw p (λ k h. h)
 told_expressions text (o ∷ os) r p =
     rw (p.4) (told_both (λ x xs. x ∷ xs) p.0 p.1 (λ k. ParsesTokens text o (Err k)) (OperandsKind text os) (told_parsed text o p.0 p.2) (told_expressions text os p.1 p.3))
 
-told_some : (text : List ℕ) (os : List (List Token)) (r : Result (List Expr) LineKind) → SomeExpressions text os r → IsToldOf (fault r) (SomeOperandsKind text os)
+pub told_some : (text : List ℕ) (os : List (List Token)) (r : Result (List Expr) LineKind) → SomeExpressions text os r → IsToldOf (fault r) (SomeOperandsKind text os)
 told_some text [] r p = rw p (told_kind_alone Syntax)
 told_some text (o ∷ os) r p = told_expressions text (o ∷ os) r p
 
-told_import : (text : List ℕ) (ts : List Token) → IsToldOf (fault (import_of text ts)) (ImportKind text ts)
+pub told_import : (text : List ℕ) (ts : List Token) → IsToldOf (fault (import_of text ts)) (ImportKind text ts)
 told_import text [] = told_kind_alone Syntax
 told_import text (t ∷ ts) =
     told_both (λ n weak. (n, weak)) (name_of t.kind (piece text t)) (weak_mark text ts) (λ k. name_of t.kind (piece text t) ≡ Err k) (λ k. weak_mark text ts ≡ Err k)
     (told_self (name_of t.kind (piece text t))) (told_self (weak_mark text ts))
 
-told_alignment : (text : List ℕ) (ts : List Token) (b : Bool) (r : Result (Option Expr) LineKind)
+pub told_alignment : (text : List ℕ) (ts : List Token) (b : Bool) (r : Result (Option Expr) LineKind)
     → MatchBool b ((e : Result Expr LineKind) × ParsesTokens text ts e × (r ≡ alignment e)) (r ≡ Err Syntax)
     → IsToldOf (fault r) (λ k. MatchBool b (ParsesTokens text ts (Err k)) (k ≡ Syntax))
 told_alignment text ts true r p = rw (p.2) (by_reading p.0 p.1)
@@ -263,17 +263,17 @@ told_alignment text ts true r p = rw (p.2) (by_reading p.0 p.1)
     by_reading (Err k) q = told_parsed text ts (Err k) q
 told_alignment text ts false r p = rw p (told_kind_alone Syntax)
 
-told_attribute : (text : List ℕ) (o : List Token) (r : Result (Option Expr) LineKind) → ReadsAttribute text o r → IsToldOf (fault r) (AttributeKind text o)
+pub told_attribute : (text : List ℕ) (o : List Token) (r : Result (Option Expr) LineKind) → ReadsAttribute text o r → IsToldOf (fault r) (AttributeKind text o)
 told_attribute text [] r p = rw p (told_kind_alone Syntax)
 told_attribute text (t ∷ []) r p = rw p (told_self (word_attribute t.kind (piece text t)))
 told_attribute text (t ∷ u ∷ ts) r p = told_alignment text ts (begins_alignment text t u) r p
 
-told_attributes : (text : List ℕ) (os : List (List Token)) (r : Result (Option Expr) LineKind) → ReadsAttributes text os r → IsToldOf (fault r) (AttributesKind text os)
+pub told_attributes : (text : List ℕ) (os : List (List Token)) (r : Result (Option Expr) LineKind) → ReadsAttributes text os r → IsToldOf (fault r) (AttributesKind text os)
 told_attributes text [] r p = rw p (λ k h. h)
 told_attributes text (o ∷ os) r p =
     rw (p.4) (told_either p.0 p.1 (AttributeKind text o) (AttributesKind text os) (told_attribute text o p.0 p.2) (told_attributes text os p.1 p.3))
 
-told_agreed : (words : List Attribute) (b : Bool) (align : Result (Option Expr) LineKind) (A : LineKind → Type 0) → (is_repeated words || is_contradicting words) ≡ b
+pub told_agreed : (words : List Attribute) (b : Bool) (align : Result (Option Expr) LineKind) (A : LineKind → Type 0) → (is_repeated words || is_contradicting words) ≡ b
     → IsToldOf (fault align) A → IsToldOf (fault (agreed words align)) (λ k. DisagreeKind words k ⊎ A k)
 told_agreed words true (Ok e) A t p =
     let is : agreed words (Ok e) ≡ Err BadOperand = cond-true (is_repeated words || is_contradicting words) _ _ t in
@@ -295,7 +295,7 @@ told_agreed words false (Err k) A t p =
     subst (λ r. IsToldOf (fault r) (λ j. DisagreeKind words j ⊎ A j)) (sym is)
     (inr p.0, λ j h. elim h [ inl d ↦ absurd (true≢false (sym d.0 ∙ t)) | inr a ↦ p.1 j a ])
 
-told_area : (text : List ℕ) (os : List (List Token)) (r : Result DirectiveLine LineKind) → Area text os r → IsToldOf (fault r) (AreaKind text os)
+pub told_area : (text : List ℕ) (os : List (List Token)) (r : Result DirectiveLine LineKind) → Area text os r → IsToldOf (fault r) (AreaKind text os)
 told_area text [] r p = rw p (told_kind_alone Syntax)
 told_area text (o ∷ os) r p =
     rw (p.2) (told_both (λ n attributes. line.Area n attributes) (name_alone text o) (agreed (attributes_in text os) p.0)
@@ -304,11 +304,11 @@ told_area text (o ∷ os) r p =
     (told_agreed (attributes_in text os) (is_repeated (attributes_in text os) || is_contradicting (attributes_in text os)) p.0 (AttributesKind text os) refl
     (told_attributes text os p.0 p.1)))
 
-told_register : (text : List ℕ) (n : Option ℕ) (ts : List Token) (r : Result DirectiveLine LineKind) → Register text n ts r → IsToldOf (fault r) (RegisterKind text n ts)
+pub told_register : (text : List ℕ) (n : Option ℕ) (ts : List Token) (r : Result DirectiveLine LineKind) → Register text n ts r → IsToldOf (fault r) (RegisterKind text n ts)
 told_register text (Some n) ts r p = rw p (λ k h. h)
 told_register text None ts r p = told_expression text _ ts r p
 
-told_boundary : (text : List ℕ) (os : List (List Token)) (r : Result DirectiveLine LineKind) → Aligned text os r → IsToldOf (fault r) (BoundaryKind text os)
+pub told_boundary : (text : List ℕ) (os : List (List Token)) (r : Result DirectiveLine LineKind) → Aligned text os r → IsToldOf (fault r) (BoundaryKind text os)
 told_boundary text [] r p = rw p (λ k h. h)
 told_boundary text (o ∷ []) r p = told_expression text _ o r p
 told_boundary text (o ∷ u ∷ []) r p =
@@ -316,7 +316,7 @@ told_boundary text (o ∷ u ∷ []) r p =
     (λ k. ParsesTokens text o (Err k)) (λ k. ParsesTokens text u (Err k)) (told_parsed text o p.0 p.2) (told_parsed text u p.1 p.3))
 told_boundary text (o ∷ u ∷ v ∷ os) r p = rw p (told_kind_alone Syntax)
 
-told_form : (text : List ℕ) (form : Form) (ts : List Token) (r : Result DirectiveLine LineKind) → Reads text form ts r → IsToldOf (fault r) (FormKind text form ts)
+pub told_form : (text : List ℕ) (form : Form) (ts : List Token) (r : Result DirectiveLine LineKind) → Reads text form ts r → IsToldOf (fault r) (FormKind text form ts)
 told_form text (bare l) ts r p = rw p (told_self (bare_of l ts))
 told_form text (name make) ts r p = rw p (told_mapped make (name_alone text ts) (λ k. name_alone text ts ≡ Err k) (told_self (name_alone text ts)))
 told_form text (imported make) ts r p = rw p (told_mapped (λ i. make i.0 i.1) (import_of text ts) (ImportKind text ts) (told_import text ts))
@@ -328,7 +328,7 @@ told_form text register ts r p = told_register text (register_alone text ts) ts 
 told_form text boundary ts r p = told_boundary text (operands text ts) r p
 told_form text (refused k) ts r p = rw p (told_kind_alone k)
 
-told_sentence : (flat : Flat) (s : Sentence) (d : Option Directive) (r : Result (Option Statement) LineKind) → SaysAs flat s d r → IsToldOf (fault r) (SentenceKind flat s d)
+pub told_sentence : (flat : Flat) (s : Sentence) (d : Option Directive) (r : Result (Option Statement) LineKind) → SaysAs flat s d r → IsToldOf (fault r) (SentenceKind flat s d)
 told_sentence flat s None r p = rw p (λ k h. h)
 told_sentence flat s (Some d) r p =
     rw (p.2) (told_both (statement_of flat) (label_field (label_need d) flat.text s.label) p.0

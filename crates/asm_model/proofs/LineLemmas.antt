@@ -26,7 +26,7 @@ use Rattle.asm_model.proofs.WordLemmas.{same_true}
 abbrev Has : List LaidName → List LaidName → Type 0
 Has xs ys = (q : List ℕ) (e : LaidName) → named_in q xs ≡ Some e → named_in q ys ≡ Some e
 
-named_front : (xs ys : List LaidName) → Has xs (xs ++ ys)
+pub named_front : (xs ys : List LaidName) → Has xs (xs ++ ys)
 named_front [] ys q e h = absurd (cc)
 named_front (n ∷ ns) ys q e h = by_test (same n.name q) (named_front ns ys q e) h
   where
@@ -35,7 +35,7 @@ named_front (n ∷ ns) ys q e h = by_test (same n.name q) (named_front ns ys q e
     by_test true rest g = g
     by_test false rest g = rest g
 
-each_has : (ys ns : List LaidName) → HoldsEach ys ns → Has ns ys
+pub each_has : (ys ns : List LaidName) → HoldsEach ys ns → Has ns ys
 each_has ys [] h q e g = absurd (cc)
 each_has ys (n ∷ ns) h q e g = by_test (same n.name q) refl (each_has ys ns h.1 q e) g
   where
@@ -44,36 +44,36 @@ each_has ys (n ∷ ns) h q e g = by_test (same n.name q) refl (each_has ys ns h.
     by_test true s rest k = ap (λ x. named_in x ys) (sym (same_true n.name q s)) ∙ h.0 ∙ k
     by_test false s rest k = rest k
 
-each_more : (xs ys ns : List LaidName) → HoldsEach xs ns → HoldsEach (xs ++ ys) ns
+pub each_more : (xs ys ns : List LaidName) → HoldsEach xs ns → HoldsEach (xs ++ ys) ns
 each_more xs ys [] h = tt
 each_more xs ys (n ∷ ns) h = (named_front xs ys n.name n h.0, each_more xs ys ns h.1)
 
-each_append : (ys ns ms : List LaidName) → HoldsEach ys ns → HoldsEach ys ms → HoldsEach ys (ns ++ ms)
+pub each_append : (ys ns ms : List LaidName) → HoldsEach ys ns → HoldsEach ys ms → HoldsEach ys (ns ++ ms)
 each_append ys [] ms h k = k
 each_append ys (n ∷ ns) ms h k = (h.0, each_append ys ns ms h.1 k)
 
 -- ---- values with more names
 
-value_more : (o p : Option LaidName) (v : Value) → ((e : LaidName) → o ≡ Some e → p ≡ Some e) → value_of o ≡ Ok v → value_of p ≡ Ok v
+pub value_more : (o p : Option LaidName) (v : Value) → ((e : LaidName) → o ≡ Some e → p ≡ Some e) → value_of o ≡ Ok v → value_of p ≡ Ok v
 value_more None p v more h = absurd (cc)
 value_more (Some e) p v more h = ap value_of (more e refl) ∙ h
 
-size_more : (o p : Option LaidName) (v : Value) → ((e : LaidName) → o ≡ Some e → p ≡ Some e) → size_of o ≡ Ok v → size_of p ≡ Ok v
+pub size_more : (o p : Option LaidName) (v : Value) → ((e : LaidName) → o ≡ Some e → p ≡ Some e) → size_of o ≡ Ok v → size_of p ≡ Ok v
 size_more None p v more h = absurd (cc)
 size_more (Some e) p v more h = ap size_of (more e refl) ∙ h
 
-defined_more : (o p : Option LaidName) → ((e : LaidName) → o ≡ Some e → p ≡ Some e)
+pub defined_more : (o p : Option LaidName) → ((e : LaidName) → o ≡ Some e → p ≡ Some e)
     → cond (is_some o) [] (cond (is_some p) (Forward ∷ []) []) ≡ [] → is_some o ≡ is_some p
 defined_more None None more h = refl
 defined_more None (Some e) more h = absurd (cc)
 defined_more (Some e) p more h = sym (ap is_some (more e refl))
 
-then_more : (x y : Result Value LineKind) (f : Value → Result Value LineKind) (v : Value)
+pub then_more : (x y : Result Value LineKind) (f : Value → Result Value LineKind) (v : Value)
     → ((w : Value) → x ≡ Ok w → y ≡ Ok w) → then_of x f ≡ Ok v → then_of y f ≡ Ok v
 then_more (Ok w) y f v more h = ap (λ z. then_of z f) (more w refl) ∙ h
 then_more (Err k) y f v more h = absurd (cc)
 
-stands_more : (l : SourceLine) (xs ys : List LaidName) → Has xs ys → (s : List ℕ) (a : ℕ × ℕ)
+pub stands_more : (l : SourceLine) (xs ys : List LaidName) → Has xs ys → (s : List ℕ) (a : ℕ × ℕ)
     → stands_at (with_names l xs) s ≡ Some a → stands_at (with_names l ys) s ≡ Some a
 stands_more l xs ys more [] a h = h
 stands_more l xs ys more (c ∷ cs) a h = by_entry (named_in (c ∷ cs) xs) (more (c ∷ cs)) h
@@ -83,25 +83,25 @@ stands_more l xs ys more (c ∷ cs) a h = by_entry (named_in (c ∷ cs) xs) (mor
     by_entry None g k = absurd (cc)
     by_entry (Some e) g k = ap entry_stands_at (g e refl) ∙ k
 
-distance_more : (a b c d : Option (ℕ × ℕ)) (p q n : ℕ) → ((x : ℕ × ℕ) → a ≡ Some x → c ≡ Some x) → ((x : ℕ × ℕ) → b ≡ Some x → d ≡ Some x)
+pub distance_more : (a b c d : Option (ℕ × ℕ)) (p q n : ℕ) → ((x : ℕ × ℕ) → a ≡ Some x → c ≡ Some x) → ((x : ℕ × ℕ) → b ≡ Some x → d ≡ Some x)
     → distance a p b q ≡ Ok n → distance c p d q ≡ Ok n
 distance_more (Some x) (Some y) c d p q n f g h = ap (λ z. distance z p d q) (f x refl) ∙ ap (λ z. distance (Some x) p z q) (g y refl) ∙ h
 distance_more (Some x) None c d p q n f g h = absurd (cc)
 distance_more None (Some y) c d p q n f g h = absurd (cc)
 distance_more None None c d p q n f g h = absurd (cc)
 
-between_more : (l : SourceLine) (xs ys : List LaidName) → Has xs ys → (op : BinaryOp) (s t : List ℕ) (p q n : ℕ)
+pub between_more : (l : SourceLine) (xs ys : List LaidName) → Has xs ys → (op : BinaryOp) (s t : List ℕ) (p q n : ℕ)
     → between_places (with_names l xs) op s p t q ≡ Ok n → between_places (with_names l ys) op s p t q ≡ Ok n
 between_more l xs ys more Subtract s t p q n h =
     distance_more (stands_at (with_names l xs) s) (stands_at (with_names l xs) t) (stands_at (with_names l ys) s) (stands_at (with_names l ys) t) p q n
     (stands_more l xs ys more s) (stands_more l xs ys more t) h
 between_more l xs ys more op s t p q n h = absurd (cc)
 
-number_more : (a b : Result ℕ LineKind) (v : Value) → ((n : ℕ) → a ≡ Ok n → b ≡ Ok n) → as_number a ≡ Ok v → as_number b ≡ Ok v
+pub number_more : (a b : Result ℕ LineKind) (v : Value) → ((n : ℕ) → a ≡ Ok n → b ≡ Ok n) → as_number a ≡ Ok v → as_number b ≡ Ok v
 number_more (Ok n) b v more h = ap as_number (more n refl) ∙ h
 number_more (Err k) b v more h = absurd (cc)
 
-binary_more : (l : SourceLine) (xs ys : List LaidName) → Has xs ys → (op : BinaryOp) (v w r : Value)
+pub binary_more : (l : SourceLine) (xs ys : List LaidName) → Has xs ys → (op : BinaryOp) (v w r : Value)
     → binary (with_names l xs) op v w ≡ Ok r → binary (with_names l ys) op v w ≡ Ok r
 binary_more l xs ys more op (Number m) (Number n) r h = h
 binary_more l xs ys more op (Number m) (Truth b) r h = h
@@ -121,7 +121,7 @@ binary_more l xs ys more op (Place s p) (Words w) r h = h
 binary_more l xs ys more op (Place s p) (Place t q) r h =
     number_more (between_places (with_names l xs) op s p t q) (between_places (with_names l ys) op s p t q) r (λ n. between_more l xs ys more op s t p q n) h
 
-on_both_more : (l : SourceLine) (xs ys : List LaidName) → Has xs ys → (op : BinaryOp) (a b c d : Result Value LineKind) (r : Value)
+pub on_both_more : (l : SourceLine) (xs ys : List LaidName) → Has xs ys → (op : BinaryOp) (a b c d : Result Value LineKind) (r : Value)
     → ((v : Value) → a ≡ Ok v → c ≡ Ok v) → ((v : Value) → b ≡ Ok v → d ≡ Ok v)
     → on_both a b (binary (with_names l xs) op) ≡ Ok r → on_both c d (binary (with_names l ys) op) ≡ Ok r
 on_both_more l xs ys more op (Ok v) (Ok w) c d r f g h =
@@ -139,7 +139,7 @@ applied_known unary.Size x = refl
 applied_known unary.Defined x = refl
 applied_known op x = refl
 
-item_more : (l : SourceLine) (xs ys : List LaidName) → Has xs ys → (i : ExprItem) (v : Value)
+pub item_more : (l : SourceLine) (xs ys : List LaidName) → Has xs ys → (i : ExprItem) (v : Value)
     → known (operand_of_item (with_names l xs) i) ≡ Ok v → known (operand_of_item (with_names l ys) i) ≡ Ok v
 item_more l xs ys more (item.Name q) v h = value_more (named_in q xs) (named_in q ys) v (more q) h
 item_more l xs ys more (item.Local q) v h = value_more (named_in (124 ∷ q) xs) (named_in (124 ∷ q) ys) v (more (124 ∷ q)) h
@@ -150,11 +150,11 @@ item_more l xs ys more item.CodeSize v h = h
 item_more l xs ys more (item.Unary op) v h = h
 item_more l xs ys more (item.Binary op) v h = h
 
-known_before : (l : SourceLine) (xs ys : List LaidName) → Has xs ys → (op : UnaryOp) (x y : Result Value LineKind) (v : Value)
+pub known_before : (l : SourceLine) (xs ys : List LaidName) → Has xs ys → (op : UnaryOp) (x y : Result Value LineKind) (v : Value)
     → ((w : Value) → x ≡ Ok w → y ≡ Ok w) → applied op (Known x) ≡ Ok v → applied op (Known y) ≡ Ok v
 known_before l xs ys more op x y v f h = applied_known op y ∙ then_more x y (unary_of op) v f (sym (applied_known op x) ∙ h)
 
-named_before : (l : SourceLine) (xs us ys : List LaidName) → Has xs ys → (op : UnaryOp) (q : List ℕ) (v : Value)
+pub named_before : (l : SourceLine) (xs us ys : List LaidName) → Has xs ys → (op : UnaryOp) (q : List ℕ) (v : Value)
     → asked_kinds (record { known = with_names l xs; unsized = us; all = ys }) op (item.Name q) ≡ []
     → applied op (Unread (named_in q xs)) ≡ Ok v → applied op (Unread (named_in q ys)) ≡ Ok v
 named_before l xs us ys more unary.Size q v none h = size_more (named_in q xs) (named_in q ys) v (more q) h
@@ -163,7 +163,7 @@ named_before l xs us ys more unary.Defined q v none h =
 named_before l xs us ys more op q v none h =
     then_more (value_of (named_in q xs)) (value_of (named_in q ys)) (unary_of op) v (λ w. value_more (named_in q xs) (named_in q ys) w (more q)) h
 
-item_before : (l : SourceLine) (xs us ys : List LaidName) → Has xs ys → (op : UnaryOp) (i : ExprItem) (v : Value)
+pub item_before : (l : SourceLine) (xs us ys : List LaidName) → Has xs ys → (op : UnaryOp) (i : ExprItem) (v : Value)
     → asked_kinds (record { known = with_names l xs; unsized = us; all = ys }) op i ≡ []
     → applied op (operand_of_item (with_names l xs) i) ≡ Ok v → applied op (operand_of_item (with_names l ys) i) ≡ Ok v
 item_before l xs us ys more op (item.Name q) v none h = named_before l xs us ys more op q v none h
@@ -181,7 +181,7 @@ pub both_empty : (ks js : List LineKind) → ks ++ js ≡ [] → (ks ≡ []) × 
 both_empty [] js h = (refl, h)
 both_empty (k ∷ ks) js h = absurd (cc)
 
-tree_more : (l : SourceLine) (xs us ys : List LaidName) → Has xs ys → (t : Tree) (v : Value)
+pub tree_more : (l : SourceLine) (xs us ys : List LaidName) → Has xs ys → (t : Tree) (v : Value)
     → name_kinds (record { known = with_names l xs; unsized = us; all = ys }) t ≡ []
     → meaning (with_names l xs) t ≡ Ok v → meaning (with_names l ys) t ≡ Ok v
 tree_more l xs us ys more (Leaf i) v none h = item_more l xs ys more i v h
@@ -199,40 +199,40 @@ tree_more l xs us ys more (Between op t u) v none h =
 
 -- ---- lines
 
-told_nothing : (ks : List LineKind) (r : Result Value LineKind) (v : Value) → unless_told (told_kind ks) r ≡ Ok v → (ks ≡ []) × (r ≡ Ok v)
+pub told_nothing : (ks : List LineKind) (r : Result Value LineKind) (v : Value) → unless_told (told_kind ks) r ≡ Ok v → (ks ≡ []) × (r ≡ Ok v)
 told_nothing [] r v h = (refl, h)
 told_nothing (k ∷ ks) r v h = absurd (cc)
 
 -- what a line knows has its entries among all names
-among_all : (all : List LaidName) (l : SourceLine) (ns : List LaidName) → HoldsEach all ns → HoldsEach (all_names all l) ns
+pub among_all : (all : List LaidName) (l : SourceLine) (ns : List LaidName) → HoldsEach all ns → HoldsEach (all_names all l) ns
 among_all all l ns h = each_more (all ++ l.back) l.forth ns (each_more all l.back ns h)
 
-known_has : (all seen : List LaidName) (l : SourceLine) → HoldsEach all seen → Holds all l → Has (known_names seen l) (all_names all l)
+pub known_has : (all seen : List LaidName) (l : SourceLine) → HoldsEach all seen → Holds all l → Has (known_names seen l) (all_names all l)
 known_has all seen l h k =
     let own = each_append (all_names all l) seen (own_names l.definition) (among_all all l seen h) (among_all all l (own_names l.definition) k.own) in
     each_has (all_names all l) (known_names seen l) (each_append (all_names all l) (seen ++ own_names l.definition) l.back own k.back)
 
-value_stays : (all seen : List LaidName) (l : SourceLine) → HoldsEach all seen → Holds all l → (t : Tree) (v : Value)
+pub value_stays : (all seen : List LaidName) (l : SourceLine) → HoldsEach all seen → Holds all l → (t : Tree) (v : Value)
     → value_at (sight all seen l) t ≡ Ok v → meaning (with_names l (all_names all l)) t ≡ Ok v
 value_stays all seen l h k t v e =
     let parts = told_nothing (name_kinds (sight all seen l) t) (meaning (with_names l (known_names seen l)) t) v e in
     tree_more l (known_names seen l) (own_names l.definition) (all_names all l) (known_has all seen l h k) t v parts.0 parts.1
 
 -- what a line adds
-made_holds : (all : List LaidName) (l : SourceLine) (make : Value → LaidName) (t : Tree) (r : Result Value LineKind)
+pub made_holds : (all : List LaidName) (l : SourceLine) (make : Value → LaidName) (t : Tree) (r : Result Value LineKind)
     → ((v : Value) → r ≡ Ok v → meaning (with_names l (all_names all l)) t ≡ Ok v) → HoldsValue all l (Equated make t)
     → HoldsEach all (made_name make r)
 made_holds all l make t (Ok v) stays holds = (holds v (stays v refl), tt)
 made_holds all l make t (Err k) stays holds = tt
 
-added_holds : (all seen : List LaidName) (l : SourceLine) → HoldsEach all seen → Holds all l → (d : Definition)
+pub added_holds : (all seen : List LaidName) (l : SourceLine) → HoldsEach all seen → Holds all l → (d : Definition)
     → HoldsEach all (own_names d) → HoldsValue all l d → HoldsEach all (added_names (sight all seen l) d)
 added_holds all seen l h k Nameless own value = tt
 added_holds all seen l h k (Named n) own value = own
 added_holds all seen l h k (Equated make t) own value =
     made_holds all l make t (value_at (sight all seen l) t) (value_stays all seen l h k t) value
 
-seen_holds : (all : List LaidName) (before : List SourceLine) → AllHold all before → HoldsEach all (seen_behind all before)
+pub seen_holds : (all : List LaidName) (before : List SourceLine) → AllHold all before → HoldsEach all (seen_behind all before)
 seen_holds all [] h = tt
 seen_holds all (l ∷ ls) h =
     let seen = seen_holds all ls h.1 in

@@ -45,56 +45,56 @@ value t = known_value all before_here (line_at 8 (Named (label (codes "here") 8)
 abbrev literal : Tree → Result Value LineKind
 literal t = literal_at (sight all (seen_behind all before_here) (line_at 8 (Named (label (codes "here") 8)))) t
 
-own_place : value (Between Subtract (name (codes "here")) (name (codes "start"))) ≡ Ok (Number 8)
+pub own_place : value (Between Subtract (name (codes "here")) (name (codes "start"))) ≡ Ok (Number 8)
 own_place = refl
 
-this_place : value (Between Subtract (Leaf item.Here) (name (codes "start"))) ≡ Ok (Number 8)
+pub this_place : value (Between Subtract (Leaf item.Here) (name (codes "start"))) ≡ Ok (Number 8)
 this_place = refl
 
-own_size : value (Before unary.Size (name (codes "here"))) ≡ Err Forward
+pub own_size : value (Before unary.Size (name (codes "here"))) ≡ Err Forward
 own_size = refl
 
-size_before : value (Before unary.Size (name (codes "start"))) ≡ Ok (Number 4)
+pub size_before : value (Before unary.Size (name (codes "start"))) ≡ Ok (Number 4)
 size_before = refl
 
-later_label : value (Between Subtract (name (codes "end")) (name (codes "start"))) ≡ Err Forward
+pub later_label : value (Between Subtract (name (codes "end")) (name (codes "start"))) ≡ Err Forward
 later_label = refl
 
-expression_of_a_later_label : value (name (codes "m")) ≡ Err Forward
+pub expression_of_a_later_label : value (name (codes "m")) ≡ Err Forward
 expression_of_a_later_label = refl
 
-local_label_forward : value (Leaf (item.Local (codes "%F1"))) ≡ Err Forward
+pub local_label_forward : value (Leaf (item.Local (codes "%F1"))) ≡ Err Forward
 local_label_forward = refl
 
-no_such_name : value (Between Add (name (codes "end")) (name (codes "none"))) ≡ Err UnknownWord
+pub no_such_name : value (Between Add (name (codes "end")) (name (codes "none"))) ≡ Err UnknownWord
 no_such_name = refl
 
-name_before_division : value (Between Add (Between Divide (number 1) (number 0)) (name (codes "end"))) ≡ Err Forward
+pub name_before_division : value (Between Add (Between Divide (number 1) (number 0)) (name (codes "end"))) ≡ Err Forward
 name_before_division = refl
 
-division : value (Between Divide (name (codes "n")) (number 0)) ≡ Err DivideByZero
+pub division : value (Between Divide (name (codes "n")) (number 0)) ≡ Err DivideByZero
 division = refl
 
-product_of_a_label : value (Between Multiply (name (codes "start")) (number 2)) ≡ Err WrongType
+pub product_of_a_label : value (Between Multiply (name (codes "start")) (number 2)) ≡ Err WrongType
 product_of_a_label = refl
 
-defined_nowhere : value (Before unary.Defined (name (codes "none"))) ≡ Ok (Truth false)
+pub defined_nowhere : value (Before unary.Defined (name (codes "none"))) ≡ Ok (Truth false)
 defined_nowhere = refl
 
-defined_later : value (Before unary.Defined (name (codes "end"))) ≡ Err Forward
+pub defined_later : value (Before unary.Defined (name (codes "end"))) ≡ Err Forward
 defined_later = refl
 
-known_literal : literal (Between Multiply (name (codes "n")) (number 2)) ≡ Ok (Number 8)
+pub known_literal : literal (Between Multiply (name (codes "n")) (number 2)) ≡ Ok (Number 8)
 known_literal = refl
 
-later_literal : literal (Between Add (name (codes "m")) (number 4)) ≡ Ok (Place (codes "m") 4)
+pub later_literal : literal (Between Add (name (codes "m")) (number 4)) ≡ Ok (Place (codes "m") 4)
 later_literal = refl
 
-literal_of_no_name : literal (Between Subtract (name (codes "none")) (number 4)) ≡ Ok (Place (codes "none") 4294967292)
+pub literal_of_no_name : literal (Between Subtract (name (codes "none")) (number 4)) ≡ Ok (Place (codes "none") 4294967292)
 literal_of_no_name = refl
 
-literal_product : literal (Between Multiply (name (codes "end")) (number 2)) ≡ Err Forward
+pub literal_product : literal (Between Multiply (name (codes "end")) (number 2)) ≡ Err Forward
 literal_product = refl
 
-literal_local_label : literal (Leaf (item.Local (codes "%F1"))) ≡ Err Forward
+pub literal_local_label : literal (Leaf (item.Local (codes "%F1"))) ≡ Err Forward
 literal_local_label = refl

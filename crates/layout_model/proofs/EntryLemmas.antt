@@ -17,7 +17,7 @@ equal_names_have_symbols list here c cs (Number n) = tt
 equal_names_have_symbols list here c cs (Truth b) = tt
 equal_names_have_symbols list here c cs (Words w) = tt
 
-turned : (b n : ℕ) → (b + n + 0) % 2 ^ 32 ≡ (b + 0 + n) % 2 ^ 32
+pub turned : (b n : ℕ) → (b + n + 0) % 2 ^ 32 ≡ (b + 0 + n) % 2 ^ 32
 turned b n = omega arith
 
 pub equal_names_stay : (p : Placing) (names : Names) (here : ℕ) (other : Option ℕ) (c : ℕ) (cs : List ℕ) (v : Value)
@@ -36,14 +36,14 @@ equal_names_stay p names here other c cs (Words w) area found = refl
 
 -- ---- what a line sees
 
-symbol_of_area : (here area : Option ℕ) (v : Value) → HasSymbol v → IsOfArea here area v
+pub symbol_of_area : (here area : Option ℕ) (v : Value) → HasSymbol v → IsOfArea here area v
 symbol_of_area here area (Place [] n) h = absurd h
 symbol_of_area here area (Place (c ∷ cs) n) h = tt
 symbol_of_area here area (Number n) h = tt
 symbol_of_area here area (Truth b) h = tt
 symbol_of_area here area (Words w) h = tt
 
-symbols_of_area : (here : Option ℕ) (ns : List LaidName) → EachHasSymbol ns → EachOfArea here ns
+pub symbols_of_area : (here : Option ℕ) (ns : List LaidName) → EachHasSymbol ns → EachOfArea here ns
 symbols_of_area here [] h = tt
 symbols_of_area here (n ∷ ns) h = (symbol_of_area here n.area n.value h.0, symbols_of_area here ns h.1)
 
@@ -51,7 +51,7 @@ pub joined_of_area : (here : Option ℕ) (ns ms : List LaidName) → EachOfArea 
 joined_of_area here [] ms h k = k
 joined_of_area here (n ∷ ns) ms h k = (h.0, joined_of_area here ns ms h.1 k)
 
-found_of_area : (here : Option ℕ) (q : List ℕ) (ns : List LaidName) → EachOfArea here ns → (m : LaidName) → named_in q ns ≡ Some m → IsOfArea here m.area m.value
+pub found_of_area : (here : Option ℕ) (q : List ℕ) (ns : List LaidName) → EachOfArea here ns → (m : LaidName) → named_in q ns ≡ Some m → IsOfArea here m.area m.value
 found_of_area here q [] h m e = absurd (cc)
 found_of_area here q (n ∷ ns) h m e = by_test (same n.name q) (found_of_area here q ns h.1 m) e
   where

@@ -23,23 +23,23 @@ abbrev AlignsAs : List Value → ℕ → Result Extent LineKind → Type 0
 AlignsAs literals a (Ok e) = alignment_of literals e ≡ a
 AlignsAs literals a (Err k) = Unit {0}
 
-aligns_mapped : {A : Type 0} (literals : List Value) (a : ℕ) (f : A → Extent) (r : Result A LineKind)
+pub aligns_mapped : {A : Type 0} (literals : List Value) (a : ℕ) (f : A → Extent) (r : Result A LineKind)
     → ((x : A) → alignment_of literals (f x) ≡ a) → AlignsAs literals a (mapped f r)
 aligns_mapped literals a f (Ok x) h = h x
 aligns_mapped literals a f (Err k) h = tt
 
-aligns_both : {A B : Type 0} (literals : List Value) (a : ℕ) (f : A → B → Extent) (r : Result A LineKind) (q : Result B LineKind)
+pub aligns_both : {A B : Type 0} (literals : List Value) (a : ℕ) (f : A → B → Extent) (r : Result A LineKind) (q : Result B LineKind)
     → ((x : A) (y : B) → alignment_of literals (f x y) ≡ a) → AlignsAs literals a (on_both f r q)
 aligns_both literals a f (Ok x) (Ok y) h = h x y
 aligns_both literals a f (Ok x) (Err k) h = tt
 aligns_both literals a f (Err k) (Ok y) h = tt
 aligns_both literals a f (Err k) (Err j) h = tt
 
-aligns_instruction : (literals : List Value) (thumb : Bool) → alignment_of literals (instruction thumb) ≡ cond thumb 2 4
+pub aligns_instruction : (literals : List Value) (thumb : Bool) → alignment_of literals (instruction thumb) ≡ cond thumb 2 4
 aligns_instruction literals true = refl
 aligns_instruction literals false = refl
 
-aligns_loading : (literals : List Value) (thumb : Bool) (v : Value) → alignment_of literals (loading thumb v) ≡ cond thumb 2 4
+pub aligns_loading : (literals : List Value) (thumb : Bool) (v : Value) → alignment_of literals (loading thumb v) ≡ cond thumb 2 4
 aligns_loading literals true (Number n) = refl
 aligns_loading literals true (Truth b) = refl
 aligns_loading literals true (Words w) = refl
@@ -53,29 +53,29 @@ aligns_loading literals false (Truth b) = refl
 aligns_loading literals false (Words w) = refl
 aligns_loading literals false (Place s n) = refl
 
-aligns_thumb : (literals : List Value) (l : ThumbLine) → alignment_of literals (thumb_extent l) ≡ 2
+pub aligns_thumb : (literals : List Value) (l : ThumbLine) → alignment_of literals (thumb_extent l) ≡ 2
 aligns_thumb literals (thumb.BranchLink target) = refl
 aligns_thumb literals l = refl
 
-aligns_pseudo : (s : Sight) (literals : List Value) (l : PseudoLine) → AlignsAs literals (pseudo_alignment s.known.thumb l) (pseudo_extent s l)
+pub aligns_pseudo : (s : Sight) (literals : List Value) (l : PseudoLine) → AlignsAs literals (pseudo_alignment s.known.thumb l) (pseudo_extent s l)
 aligns_pseudo s literals (pseudo.LoadConstant condition rd value) =
     aligns_mapped literals (cond s.known.thumb 2 4) (loading s.known.thumb) (literal_there s value) (aligns_loading literals s.known.thumb)
 aligns_pseudo s literals (pseudo.Address condition rd target) = aligns_instruction literals s.known.thumb
 aligns_pseudo s literals (pseudo.LongAddress condition rd target) = refl
 aligns_pseudo s literals pseudo.NoOperation = aligns_instruction literals s.known.thumb
 
-aligns_padding : (s : Sight) (literals : List Value) (b : Boundary) → AlignsAs literals 1 (padding s b)
+pub aligns_padding : (s : Sight) (literals : List Value) (b : Boundary) → AlignsAs literals 1 (padding s b)
 aligns_padding s literals limit.Word = refl
 aligns_padding s literals (limit.Multiple e) =
     aligns_mapped literals 1 (λ m. Padding m 0) (as_multiple (number_there s e)) (λ x. refl)
 aligns_padding s literals (limit.Behind e f) =
     aligns_both literals 1 (λ m n. Padding m n) (as_multiple (number_there s e)) (number_there s f) (λ x y. refl)
 
-aligns_entry : (literals : List Value) (thumb : Bool) → alignment_of literals (cond thumb (Block 2 0) (Block 4 0)) ≡ cond thumb 2 4
+pub aligns_entry : (literals : List Value) (thumb : Bool) → alignment_of literals (cond thumb (Block 2 0) (Block 4 0)) ≡ cond thumb 2 4
 aligns_entry literals true = refl
 aligns_entry literals false = refl
 
-aligns_directive : (s : Sight) (literals : List Value) (l : DirectiveLine) → AlignsAs literals (directive_alignment s.known.thumb literals l) (directive_extent s l)
+pub aligns_directive : (s : Sight) (literals : List Value) (l : DirectiveLine) → AlignsAs literals (directive_alignment s.known.thumb literals l) (directive_extent s l)
 aligns_directive s literals line.Entry = aligns_entry literals s.known.thumb
 aligns_directive s literals (line.Space e) = aligns_mapped literals 1 (λ n. Block 1 n) (number_there s e) (λ x. refl)
 aligns_directive s literals (line.Align b) = aligns_padding s literals b
@@ -86,7 +86,7 @@ aligns_directive s literals (line.Dcb es) = refl
 aligns_directive s literals line.Ltorg = refl
 aligns_directive s literals l = refl
 
-aligns : (s : Sight) (literals : List Value) (w : What) → AlignsAs literals (alignment s.known.thumb literals w) (extent_of s w)
+pub aligns : (s : Sight) (literals : List Value) (w : What) → AlignsAs literals (alignment s.known.thumb literals w) (extent_of s w)
 aligns s literals what.Nothing = refl
 aligns s literals (what.Arm l) = refl
 aligns s literals (what.Thumb l) = aligns_thumb literals l

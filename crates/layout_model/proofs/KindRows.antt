@@ -47,70 +47,70 @@ numbered (Some f) = Some (f.0.number, f.1)
 abbrev told : List Statement → Option (ℕ × LineKind)
 told statements = numbered (layout_fault statements)
 
-without_fault : told (words 3 (Some (codes "x")) ∷ says 2 None line.Entry ∷ area 1 contents.Code false ∷ []) ≡ None
+pub without_fault : told (words 3 (Some (codes "x")) ∷ says 2 None line.Entry ∷ area 1 contents.Code false ∷ []) ≡ None
 without_fault = refl
 
-before_area : told (area 2 contents.Code false ∷ words 1 None ∷ []) ≡ Some (1, NoArea)
+pub before_area : told (area 2 contents.Code false ∷ words 1 None ∷ []) ≡ Some (1, NoArea)
 before_area = refl
 
-label_before_area : told (area 2 contents.Code false ∷ says 1 (Some (codes "x")) line.Code16 ∷ []) ≡ Some (1, NoArea)
+pub label_before_area : told (area 2 contents.Code false ∷ says 1 (Some (codes "x")) line.Code16 ∷ []) ≡ Some (1, NoArea)
 label_before_area = refl
 
-place_before_area : told (area 2 contents.Code false ∷ says 1 (Some (codes "x")) (line.Equ (record { items = item.Here ∷ [] })) ∷ []) ≡ Some (1, NoArea)
+pub place_before_area : told (area 2 contents.Code false ∷ says 1 (Some (codes "x")) (line.Equ (record { items = item.Here ∷ [] })) ∷ []) ≡ Some (1, NoArea)
 place_before_area = refl
 
-two_labels : told (words 3 (Some (codes "x")) ∷ words 2 (Some (codes "x")) ∷ area 1 contents.Code false ∷ []) ≡ Some (3, DuplicateName)
+pub two_labels : told (words 3 (Some (codes "x")) ∷ words 2 (Some (codes "x")) ∷ area 1 contents.Code false ∷ []) ≡ Some (3, DuplicateName)
 two_labels = refl
 
-imported_label : told (says 3 None (line.Import (codes "x") false) ∷ words 2 (Some (codes "x")) ∷ area 1 contents.Code false ∷ []) ≡ Some (3, DuplicateName)
+pub imported_label : told (says 3 None (line.Import (codes "x") false) ∷ words 2 (Some (codes "x")) ∷ area 1 contents.Code false ∷ []) ≡ Some (3, DuplicateName)
 imported_label = refl
 
-two_entries : told (words 4 None ∷ says 3 None line.Entry ∷ says 2 None line.Entry ∷ area 1 contents.Code false ∷ []) ≡ Some (3, DuplicateName)
+pub two_entries : told (words 4 None ∷ says 3 None line.Entry ∷ says 2 None line.Entry ∷ area 1 contents.Code false ∷ []) ≡ Some (3, DuplicateName)
 two_entries = refl
 
 -- behind the last word
-entry_behind : told (says 3 None line.Entry ∷ words 2 None ∷ area 1 contents.Code false ∷ []) ≡ Some (3, BadOperand)
+pub entry_behind : told (says 3 None line.Entry ∷ words 2 None ∷ area 1 contents.Code false ∷ []) ≡ Some (3, BadOperand)
 entry_behind = refl
 
-entry_in_data : told (words 3 None ∷ says 2 None line.Entry ∷ area 1 contents.Data false ∷ []) ≡ Some (2, BadOperand)
+pub entry_in_data : told (words 3 None ∷ says 2 None line.Entry ∷ area 1 contents.Data false ∷ []) ≡ Some (2, BadOperand)
 entry_in_data = refl
 
 -- a fault of a line itself comes first
-entry_and_label : told (words 5 (Some (codes "x")) ∷ words 4 (Some (codes "x")) ∷ says 3 None line.Entry ∷ says 2 None line.Code16 ∷ area 1 contents.Code false ∷ []) ≡ Some (5, DuplicateName)
+pub entry_and_label : told (words 5 (Some (codes "x")) ∷ words 4 (Some (codes "x")) ∷ says 3 None line.Entry ∷ says 2 None line.Code16 ∷ area 1 contents.Code false ∷ []) ≡ Some (5, DuplicateName)
 entry_and_label = refl
 
 -- the area's only instruction is one of ARM state
-entry_in_thumb : told
+pub entry_in_thumb : told
     (record { source = codes "t.s"; number = 5; label = None; what = what.Pseudo pseudo.NoOperation }
     ∷ says 4 None line.Code32 ∷ says 3 None line.Entry ∷ says 2 None line.Code16 ∷ area 1 contents.Code false ∷ []) ≡ Some (3, BadOperand)
 entry_in_thumb = refl
 
-same_again : told (area 3 contents.Code false ∷ words 2 None ∷ area 1 contents.Code false ∷ []) ≡ None
+pub same_again : told (area 3 contents.Code false ∷ words 2 None ∷ area 1 contents.Code false ∷ []) ≡ None
 same_again = refl
 
-other_again : told (area 3 contents.Code true ∷ words 2 None ∷ area 1 contents.Code false ∷ []) ≡ Some (3, BadOperand)
+pub other_again : told (area 3 contents.Code true ∷ words 2 None ∷ area 1 contents.Code false ∷ []) ≡ Some (3, BadOperand)
 other_again = refl
 
-data_among_zeroes : told (words 3 None ∷ says 2 None (line.Space (number 4)) ∷ area 1 contents.Zeroes false ∷ []) ≡ Some (3, BadOperand)
+pub data_among_zeroes : told (words 3 None ∷ says 2 None (line.Space (number 4)) ∷ area 1 contents.Zeroes false ∷ []) ≡ Some (3, BadOperand)
 data_among_zeroes = refl
 
-names_in_a_circle : told (says 2 (Some (codes "f")) (line.Equ (name (codes "e"))) ∷ says 1 (Some (codes "e")) (line.Equ (name (codes "f"))) ∷ []) ≡ Some (1, Forward)
+pub names_in_a_circle : told (says 2 (Some (codes "f")) (line.Equ (name (codes "e"))) ∷ says 1 (Some (codes "e")) (line.Equ (name (codes "f"))) ∷ []) ≡ Some (1, Forward)
 names_in_a_circle = refl
 
-later_name : told (says 2 (Some (codes "f")) (line.Equ (number 1)) ∷ says 1 (Some (codes "e")) (line.Equ (name (codes "f"))) ∷ []) ≡ None
+pub later_name : told (says 2 (Some (codes "f")) (line.Equ (number 1)) ∷ says 1 (Some (codes "e")) (line.Equ (name (codes "f"))) ∷ []) ≡ None
 later_name = refl
 
-space_of_later : told (words 3 (Some (codes "x")) ∷ says 2 None (line.Space (name (codes "x"))) ∷ area 1 contents.Code false ∷ []) ≡ Some (2, Forward)
+pub space_of_later : told (words 3 (Some (codes "x")) ∷ says 2 None (line.Space (name (codes "x"))) ∷ area 1 contents.Code false ∷ []) ≡ Some (2, Forward)
 space_of_later = refl
 
-largest_area : told (says 2 None (line.Space (number 0x1000000)) ∷ area 1 contents.Data false ∷ []) ≡ None
+pub largest_area : told (says 2 None (line.Space (number 0x1000000)) ∷ area 1 contents.Data false ∷ []) ≡ None
 largest_area = refl
 
-larger_area : told (says 2 None (line.Space (number 0x1000001)) ∷ area 1 contents.Data false ∷ []) ≡ Some (2, TooMany)
+pub larger_area : told (says 2 None (line.Space (number 0x1000001)) ∷ area 1 contents.Data false ∷ []) ≡ Some (2, TooMany)
 larger_area = refl
 
 -- the pool at the area's end ends behind the limit
-larger_pool : told
+pub larger_pool : told
     (says 3 None (line.Space (number 0xFFFFFC))
     ∷ record { source = codes "t.s"; number = 2; label = None; what = what.Pseudo (pseudo.LoadConstant Al (register.Number 0) (name (codes "x"))) }
     ∷ area 1 contents.Code false ∷ []) ≡ Some (2, TooMany)

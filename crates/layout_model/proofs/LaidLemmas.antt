@@ -28,7 +28,7 @@ use Rattle.layout_model.proofs.ExtentLemmas.{alignments_agree}
 
 -- ---- offsets
 
-starts_there : (area : Option ℕ) (pieces : List Piece) (s : Sight) (w : What) (e : Extent) → extent_of s w ≡ Ok e
+pub starts_there : (area : Option ℕ) (pieces : List Piece) (s : Sight) (w : What) (e : Extent) → extent_of s w ≡ Ok e
     → aligned_end area pieces s.known.thumb w ≡ offset_of area pieces e
 starts_there None pieces s w e h = refl
 starts_there (Some area) pieces s w e h = ap (raised (end_behind area pieces)) (sym (alignments_agree s w (waiting area pieces) e h))
@@ -55,26 +55,26 @@ abbrev OkLiteral : Result Value LineKind → Type 0
 OkLiteral (Ok v) = IsLiteral v
 OkLiteral (Err k) = Unit {0}
 
-literal_or_is : (x y : Result Value LineKind) → OkLiteral (literal_or x y)
+pub literal_or_is : (x y : Result Value LineKind) → OkLiteral (literal_or x y)
 literal_or_is (Ok (Number n)) y = tt
 literal_or_is x (Ok (Place s n)) = tt
 literal_or_is x y = tt
 
-literal_there_is : (s : Sight) (t : Option Tree) → OkLiteral (tree_literal s t)
+pub literal_there_is : (s : Sight) (t : Option Tree) → OkLiteral (tree_literal s t)
 literal_there_is s None = tt
 literal_there_is s (Some t) = literal_or_is (value_at s t) (value_at s (kept_names s t))
 
-loads_mapped : {A : Type 0} (f : A → Extent) (r : Result A LineKind) → ((x : A) → LoadsLiteral (f x)) → OkLoads (mapped f r)
+pub loads_mapped : {A : Type 0} (f : A → Extent) (r : Result A LineKind) → ((x : A) → LoadsLiteral (f x)) → OkLoads (mapped f r)
 loads_mapped f (Ok x) h = h x
 loads_mapped f (Err k) h = tt
 
-loads_both : {A B : Type 0} (f : A → B → Extent) (r : Result A LineKind) (q : Result B LineKind) → ((x : A) (y : B) → LoadsLiteral (f x y)) → OkLoads (on_both f r q)
+pub loads_both : {A B : Type 0} (f : A → B → Extent) (r : Result A LineKind) (q : Result B LineKind) → ((x : A) (y : B) → LoadsLiteral (f x y)) → OkLoads (on_both f r q)
 loads_both f (Ok x) (Ok y) h = h x y
 loads_both f (Ok x) (Err k) h = tt
 loads_both f (Err k) (Ok y) h = tt
 loads_both f (Err k) (Err j) h = tt
 
-loads_value : (thumb : Bool) (v : Value) → IsLiteral v → LoadsLiteral (loading thumb v)
+pub loads_value : (thumb : Bool) (v : Value) → IsLiteral v → LoadsLiteral (loading thumb v)
 loads_value true (Number n) h = tt
 loads_value true (Place s n) h = tt
 loads_value true (Truth b) h = absurd h
@@ -88,34 +88,34 @@ loads_value false (Place s n) h = tt
 loads_value false (Truth b) h = absurd h
 loads_value false (Words w) h = absurd h
 
-loads_there : (thumb : Bool) (r : Result Value LineKind) → OkLiteral r → OkLoads (mapped (loading thumb) r)
+pub loads_there : (thumb : Bool) (r : Result Value LineKind) → OkLiteral r → OkLoads (mapped (loading thumb) r)
 loads_there thumb (Ok v) h = loads_value thumb v h
 loads_there thumb (Err k) h = tt
 
-loads_instruction : (thumb : Bool) → LoadsLiteral (instruction thumb)
+pub loads_instruction : (thumb : Bool) → LoadsLiteral (instruction thumb)
 loads_instruction true = tt
 loads_instruction false = tt
 
-loads_thumb : (l : ThumbLine) → LoadsLiteral (thumb_extent l)
+pub loads_thumb : (l : ThumbLine) → LoadsLiteral (thumb_extent l)
 loads_thumb (thumb.BranchLink target) = tt
 loads_thumb l = tt
 
-loads_pseudo : (s : Sight) (l : PseudoLine) → OkLoads (pseudo_extent s l)
+pub loads_pseudo : (s : Sight) (l : PseudoLine) → OkLoads (pseudo_extent s l)
 loads_pseudo s (pseudo.LoadConstant condition rd value) = loads_there s.known.thumb (literal_there s value) (literal_there_is s (tree_of value))
 loads_pseudo s (pseudo.Address condition rd target) = loads_instruction s.known.thumb
 loads_pseudo s (pseudo.LongAddress condition rd target) = tt
 loads_pseudo s pseudo.NoOperation = loads_instruction s.known.thumb
 
-loads_padding : (s : Sight) (b : Boundary) → OkLoads (padding s b)
+pub loads_padding : (s : Sight) (b : Boundary) → OkLoads (padding s b)
 loads_padding s limit.Word = tt
 loads_padding s (limit.Multiple e) = loads_mapped (λ m. Padding m 0) (as_multiple (number_there s e)) (λ x. tt)
 loads_padding s (limit.Behind e f) = loads_both (λ m n. Padding m n) (as_multiple (number_there s e)) (number_there s f) (λ x y. tt)
 
-loads_entry : (thumb : Bool) → LoadsLiteral (cond thumb (Block 2 0) (Block 4 0))
+pub loads_entry : (thumb : Bool) → LoadsLiteral (cond thumb (Block 2 0) (Block 4 0))
 loads_entry true = tt
 loads_entry false = tt
 
-loads_directive : (s : Sight) (l : DirectiveLine) → OkLoads (directive_extent s l)
+pub loads_directive : (s : Sight) (l : DirectiveLine) → OkLoads (directive_extent s l)
 loads_directive s line.Entry = loads_entry s.known.thumb
 loads_directive s (line.Space e) = loads_mapped (λ n. Block 1 n) (number_there s e) (λ x. tt)
 loads_directive s (line.Align b) = loads_padding s b
@@ -126,7 +126,7 @@ loads_directive s (line.Dcb es) = tt
 loads_directive s line.Ltorg = tt
 loads_directive s l = tt
 
-loads : (s : Sight) (w : What) → OkLoads (extent_of s w)
+pub loads : (s : Sight) (w : What) → OkLoads (extent_of s w)
 loads s what.Nothing = tt
 loads s (what.Arm l) = tt
 loads s (what.Thumb l) = loads_thumb l

@@ -78,27 +78,27 @@ source =
 abbrev place : LaidLine → Option ℕ × ℕ × ℕ
 place l = (l.area, l.offset, l.size)
 
-places : map place (laid source)
+pub places : map place (laid source)
     ≡ (Some 0, 12, 12) ∷ (Some 0, 12, 0) ∷ (Some 1, 3, 0) ∷ (Some 1, 0, 3) ∷ (Some 1, 0, 0) ∷ (Some 0, 12, 0) ∷ (Some 0, 12, 0)
     ∷ (Some 0, 8, 4) ∷ (Some 0, 4, 4) ∷ (Some 0, 0, 4) ∷ (Some 0, 0, 0) ∷ []
 places = refl
 
 -- the pool has one word
-size : area_size 0 (pieces_of (laid source)) ≡ 28
+pub size : area_size 0 (pieces_of (laid source)) ≡ 28
 size = refl
 
-difference : named_in (codes "n") (final_names (laid source)) ≡ Some (valued_entry (codes "n") (Number 4) false)
+pub difference : named_in (codes "n") (final_names (laid source)) ≡ Some (valued_entry (codes "n") (Number 4) false)
 difference = refl
 
 -- this place becomes a symbol of its own
-own_symbol : named_in (codes "out") (final_names (laid source)) ≡ Some (label_entry (codes "out") (Some 0) 12 0 false)
+pub own_symbol : named_in (codes "out") (final_names (laid source)) ≡ Some (label_entry (codes "out") (Some 0) 12 0 false)
 own_symbol = refl
 
-label : named_in (codes "x") (final_names (laid source)) ≡ Some (label_entry (codes "x") (Some 1) 0 3 false)
+pub label : named_in (codes "x") (final_names (laid source)) ≡ Some (label_entry (codes "x") (Some 1) 0 3 false)
 label = refl
 
 -- B needs no symbol, nor does the word of a label
-symbols : symbols_of (final_names (laid source)) (laid source) ≡ codes "far" ∷ []
+pub symbols : symbols_of (final_names (laid source)) (laid source) ≡ codes "far" ∷ []
 symbols = refl
 
 -- ---- local labels
@@ -132,28 +132,28 @@ routines =
 abbrev dropped : ℕ → List LaidLine
 dropped n = drop n (laid routines)
 
-backward : value_on (laid routines) (dropped 4) (reference (codes "%B1")) ≡ Ok (Place [] 0)
+pub backward : value_on (laid routines) (dropped 4) (reference (codes "%B1")) ≡ Ok (Place [] 0)
 backward = refl
 
-forward : value_on (laid routines) (dropped 4) (reference (codes "%F01")) ≡ Ok (Place [] 8)
+pub forward : value_on (laid routines) (dropped 4) (reference (codes "%F01")) ≡ Ok (Place [] 8)
 forward = refl
 
-either_way : value_on (laid routines) (dropped 4) (reference (codes "%1")) ≡ Ok (Place [] 0)
+pub either_way : value_on (laid routines) (dropped 4) (reference (codes "%1")) ≡ Ok (Place [] 0)
 either_way = refl
 
 -- the nearest of two, on its own line
-own_line : value_on (laid routines) (dropped 3) (reference (codes "%B1")) ≡ Ok (Place [] 8)
+pub own_line : value_on (laid routines) (dropped 3) (reference (codes "%B1")) ≡ Ok (Place [] 8)
 own_line = refl
 
 -- a stretch ends at ROUT, whose label names nothing
-not_forward : value_on (laid routines) (dropped 3) (reference (codes "%F1")) ≡ Err UnknownWord
+pub not_forward : value_on (laid routines) (dropped 3) (reference (codes "%F1")) ≡ Err UnknownWord
 not_forward = refl
 
-not_backward : value_on (laid routines) (dropped 1) (reference (codes "%B1")) ≡ Err UnknownWord
+pub not_backward : value_on (laid routines) (dropped 1) (reference (codes "%B1")) ≡ Err UnknownWord
 not_backward = refl
 
-no_routine : value_on (laid routines) (dropped 1) (reference (codes "%B2")) ≡ Err UnknownWord
+pub no_routine : value_on (laid routines) (dropped 1) (reference (codes "%B2")) ≡ Err UnknownWord
 no_routine = refl
 
-later_routine : value_on (laid routines) (dropped 1) (reference (codes "%1")) ≡ Ok (Place [] 16)
+pub later_routine : value_on (laid routines) (dropped 1) (reference (codes "%1")) ≡ Ok (Place [] 16)
 later_routine = refl

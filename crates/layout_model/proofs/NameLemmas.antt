@@ -17,7 +17,7 @@ use Rattle.layout_model.specs.LaidLaws.{SameNames, SameLine, SameLines}
 
 -- ---- names in lists
 
-in_either : (q : List ℕ) (xs ys : List LaidName) → is_in (xs ++ ys) q ≡ (is_in xs q || is_in ys q)
+pub in_either : (q : List ℕ) (xs ys : List LaidName) → is_in (xs ++ ys) q ≡ (is_in xs q || is_in ys q)
 in_either q [] ys = refl
 in_either q (n ∷ ns) ys = by_test (same n.name q) (in_either q ns ys)
   where
@@ -26,7 +26,7 @@ in_either q (n ∷ ns) ys = by_test (same n.name q) (in_either q ns ys)
     by_test true rest = refl
     by_test false rest = rest
 
-same_joined : (xs ys us vs : List LaidName) → SameNames xs ys → SameNames us vs → SameNames (xs ++ us) (ys ++ vs)
+pub same_joined : (xs ys us vs : List LaidName) → SameNames xs ys → SameNames us vs → SameNames (xs ++ us) (ys ++ vs)
 same_joined xs ys us vs h g q =
     in_either q xs us ∙ ap (λ b. b || is_in us q) (h q) ∙ ap (λ b. is_in ys q || b) (g q) ∙ sym (in_either q ys vs)
 
@@ -35,7 +35,7 @@ same_joined xs ys us vs h g q =
 abbrev sees : Names → List LaidName → List LaidName → Sight
 sees k u all = record { known = k; unsized = u; all = all }
 
-same_item : (k : Names) (u xs ys : List LaidName) → SameNames xs ys → (i : ExprItem) → item_kinds (sees k u xs) i ≡ item_kinds (sees k u ys) i
+pub same_item : (k : Names) (u xs ys : List LaidName) → SameNames xs ys → (i : ExprItem) → item_kinds (sees k u xs) i ≡ item_kinds (sees k u ys) i
 same_item k u xs ys h (item.Name q) = ap (λ b. cond (is_in k.list q) [] (cond b Forward UnknownWord ∷ [])) (h q)
 same_item k u xs ys h (item.Local q) = ap (λ b. cond (is_in k.list (124 ∷ q)) [] (cond b Forward UnknownWord ∷ [])) (h (124 ∷ q))
 same_item k u xs ys h (item.Constant v) = refl
@@ -45,13 +45,13 @@ same_item k u xs ys h item.CodeSize = refl
 same_item k u xs ys h (item.Unary op) = refl
 same_item k u xs ys h (item.Binary op) = refl
 
-same_asked : (k : Names) (u xs ys : List LaidName) → SameNames xs ys → (op : UnaryOp) (i : ExprItem) → asked_kinds (sees k u xs) op i ≡ asked_kinds (sees k u ys) op i
+pub same_asked : (k : Names) (u xs ys : List LaidName) → SameNames xs ys → (op : UnaryOp) (i : ExprItem) → asked_kinds (sees k u xs) op i ≡ asked_kinds (sees k u ys) op i
 same_asked k u xs ys h unary.Size (item.Name q) =
     ap (λ b. cond (is_in u q) (Forward ∷ []) (cond (is_in k.list q) [] (cond b Forward UnknownWord ∷ []))) (h q)
 same_asked k u xs ys h unary.Defined (item.Name q) = ap (λ b. cond (is_in k.list q) [] (cond b (Forward ∷ []) [])) (h q)
 same_asked k u xs ys h op i = same_item k u xs ys h i
 
-same_kinds : (k : Names) (u xs ys : List LaidName) → SameNames xs ys → (t : Tree) → name_kinds (sees k u xs) t ≡ name_kinds (sees k u ys) t
+pub same_kinds : (k : Names) (u xs ys : List LaidName) → SameNames xs ys → (t : Tree) → name_kinds (sees k u xs) t ≡ name_kinds (sees k u ys) t
 same_kinds k u xs ys h (Leaf i) = same_item k u xs ys h i
 same_kinds k u xs ys h (Before op (Leaf i)) = same_asked k u xs ys h op i
 same_kinds k u xs ys h (Before op (Before o t)) = same_kinds k u xs ys h (Before o t)
@@ -62,7 +62,7 @@ same_kinds k u xs ys h (Between op t v) =
 
 -- ---- values at a line
 
-same_value : (xs ys seen : List LaidName) (l m : SourceLine) (t : Tree) → SameNames xs ys → SameLine l m
+pub same_value : (xs ys seen : List LaidName) (l m : SourceLine) (t : Tree) → SameNames xs ys → SameLine l m
     → value_at (sight xs seen l) t ≡ value_at (sight ys seen m) t
 same_value xs ys seen l m t h g =
     ap (λ z. unless_told (told_kind z) (meaning (sight xs seen l).known t))
@@ -70,13 +70,13 @@ same_value xs ys seen l m t h g =
     (same_joined (xs ++ l.back) (ys ++ l.back) l.forth m.forth (same_joined xs ys l.back l.back h (λ q. refl)) g.1) t)
     ∙ ap (λ z. value_at (sight ys seen z) t) (sym g.0)
 
-same_made : (xs ys seen : List LaidName) (l m : SourceLine) → SameNames xs ys → SameLine l m → (d : Definition)
+pub same_made : (xs ys seen : List LaidName) (l m : SourceLine) → SameNames xs ys → SameLine l m → (d : Definition)
     → added_names (sight xs seen l) d ≡ added_names (sight ys seen m) d
 same_made xs ys seen l m h g Nameless = refl
 same_made xs ys seen l m h g (Named n) = refl
 same_made xs ys seen l m h g (Equated make t) = ap (made_name make) (same_value xs ys seen l m t h g)
 
-same_seen : (xs ys : List LaidName) (ls ms : List SourceLine) → SameNames xs ys → SameLines ls ms → seen_behind xs ls ≡ seen_behind ys ms
+pub same_seen : (xs ys : List LaidName) (ls ms : List SourceLine) → SameNames xs ys → SameLines ls ms → seen_behind xs ls ≡ seen_behind ys ms
 same_seen xs ys [] [] h g = refl
 same_seen xs ys [] (m ∷ ms) h g = absurd g
 same_seen xs ys (l ∷ ls) [] h g = absurd g

@@ -11,28 +11,28 @@ use Rattle.layout_model.specs.OffsetLaws.{joined, IsLiteral}
 
 -- ---- padding
 
-around : (m k r : ℕ) → r < m → r + (m + k - r) ≡ m + k
+pub around : (m k r : ℕ) → r < m → r + (m + k - r) ≡ m + k
 around m k r h = omega arith
 
-turned : (m k r : ℕ) → r < m → m + k - r ≡ k + (m - r)
+pub turned : (m k r : ℕ) → r < m → m + k - r ≡ k + (m - r)
 turned m k r h = omega arith
 
-back : (m d r : ℕ) → r < m → r + (d + (m - r)) ≡ m + d
+pub back : (m d r : ℕ) → r < m → r + (d + (m - r)) ≡ m + d
 back m d r h = omega arith
 
-swapped : (a b c : ℕ) → a + b + c ≡ a + (b + c)
+pub swapped : (a b c : ℕ) → a + b + c ≡ a + (b + c)
 swapped a b c = omega arith
 
-other_way : (a b : ℕ) → a + b ≡ b + a
+pub other_way : (a b : ℕ) → a + b ≡ b + a
 other_way a b = omega arith
 
-plus_nothing : (a : ℕ) → a + 0 ≡ a
+pub plus_nothing : (a : ℕ) → a + 0 ≡ a
 plus_nothing a = omega arith
 
-again : (n m : ℕ) → n % m % m ≡ n % m
+pub again : (n m : ℕ) → n % m % m ≡ n % m
 again n m = ap (λ z. z % m) (sym (plus_nothing (n % m))) ∙ mod-add-mod n m 0 ∙ ap (λ z. z % m) (plus_nothing n)
 
-reaches : (at m n : ℕ) → 1 ≤ m → (at + lacking at m n) % m ≡ n % m
+pub reaches : (at m n : ℕ) → 1 ≤ m → (at + lacking at m n) % m ≡ n % m
 reaches at m n h =
     ap (λ z. z % m) (other_way at (lacking at m n))
     ∙ mod-add-mod (m + n % m - at % m) m at
@@ -42,7 +42,7 @@ reaches at m n h =
     ∙ add-mod_left m (n % m)
     ∙ again n m
 
-least : (at m n d : ℕ) → 1 ≤ m → (at + d) % m ≡ n % m → lacking at m n ≤ d
+pub least : (at m n d : ℕ) → 1 ≤ m → (at + d) % m ≡ n % m → lacking at m n ≤ d
 least at m n d h e = subst (λ z. z ≤ d) (sym found) (mod-le d m)
   where
     found : lacking at m n ≡ d % m
@@ -62,44 +62,44 @@ padding_is_least at m n h = (reaches at m n h, λ d. least at m n d h)
 
 -- ---- ends
 
-more : (a b : ℕ) → a ≤ a + b
+pub more : (a b : ℕ) → a ≤ a + b
 more a b = omega arith
 
-more_twice : (a b c : ℕ) → a ≤ a + b + c
+pub more_twice : (a b c : ℕ) → a ≤ a + b + c
 more_twice a b c = omega arith
 
-same_le : (a : ℕ) → a ≤ a
+pub same_le : (a : ℕ) → a ≤ a
 same_le a = omega arith
 
-through : (a b c : ℕ) → a ≤ b → b ≤ c → a ≤ c
+pub through : (a b c : ℕ) → a ≤ b → b ≤ c → a ≤ c
 through a b c h k = omega arith
 
-end_rises : (at : ℕ) (literals : List Value) (e : Extent) → at ≤ end_from at literals e
+pub end_rises : (at : ℕ) (literals : List Value) (e : Extent) → at ≤ end_from at literals e
 end_rises at literals e = more_twice at (lacking at (alignment_of literals e) 0) (size_of literals (start_from at literals e) e)
 
-behind_rises : (area : ℕ) (before : List Piece) (s : Piece) → end_behind area before ≤ end_behind area (s ∷ before)
+pub behind_rises : (area : ℕ) (before : List Piece) (s : Piece) → end_behind area before ≤ end_behind area (s ∷ before)
 behind_rises area before s = by_test (is_of area s.area)
   where
     by_test : (b : Bool) → end_behind area before ≤ cond b (end_from (end_behind area before) (waiting area before) s.extent) (end_behind area before)
     by_test true = end_rises (end_behind area before) (waiting area before) s.extent
     by_test false = same_le (end_behind area before)
 
-all_rise : (area : ℕ) (later before : List Piece) → end_behind area before ≤ end_behind area (later ++ before)
+pub all_rise : (area : ℕ) (later before : List Piece) → end_behind area before ≤ end_behind area (later ++ before)
 all_rise area [] before = same_le (end_behind area before)
 all_rise area (s ∷ later) before =
     through (end_behind area before) (end_behind area (later ++ before)) (end_behind area (s ∷ later ++ before))
     (all_rise area later before) (behind_rises area (later ++ before) s)
 
-joined_rises : (area : ℕ) (before rest : List Piece) → end_behind area before ≤ end_behind area (joined before rest)
+pub joined_rises : (area : ℕ) (before rest : List Piece) → end_behind area before ≤ end_behind area (joined before rest)
 joined_rises area before [] = same_le (end_behind area before)
 joined_rises area before (s ∷ rest) =
     through (end_behind area before) (end_behind area (s ∷ before)) (end_behind area (joined (s ∷ before) rest))
     (behind_rises area before s) (joined_rises area (s ∷ before) rest)
 
-is_here : (area : ℕ) (o : Option ℕ) → o ≡ Some area → is_of area o ≡ true
+pub is_here : (area : ℕ) (o : Option ℕ) → o ≡ Some area → is_of area o ≡ true
 is_here area o e = ap (is_of area) e ∙ eq-eqb area area refl
 
-end_here : (area : ℕ) (before : List Piece) (s : Piece) → s.area ≡ Some area
+pub end_here : (area : ℕ) (before : List Piece) (s : Piece) → s.area ≡ Some area
     → end_from (end_behind area before) (waiting area before) s.extent ≡ end_behind area (s ∷ before)
 end_here area before s e =
     sym (ap (λ b. cond b (end_from (end_behind area before) (waiting area before) s.extent) (end_behind area before)) (is_here area s.area e))
@@ -117,13 +117,13 @@ statements_follow area later before s e here =
 abbrev Waits : Value → List Value → Type 0
 Waits v ws = list_any (same_literal v) ws ≡ true
 
-same_itself : (v : Value) → IsLiteral v → same_literal v v ≡ true
+pub same_itself : (v : Value) → IsLiteral v → same_literal v v ≡ true
 same_itself (Number n) h = eq-eqb n n refl
 same_itself (Place s n) h = ap (λ b. b && n == n) (same_refl s) ∙ eq-eqb n n refl
 same_itself (Truth b) h = absurd h
 same_itself (Words w) h = absurd h
 
-waits_front : (v : Value) (ws us : List Value) → Waits v ws → Waits v (ws ++ us)
+pub waits_front : (v : Value) (ws us : List Value) → Waits v ws → Waits v (ws ++ us)
 waits_front v [] us h = absurd (cc)
 waits_front v (w ∷ ws) us h = by_test (same_literal v w) (waits_front v ws us) h
   where
@@ -131,7 +131,7 @@ waits_front v (w ∷ ws) us h = by_test (same_literal v w) (waits_front v ws us)
     by_test true rest k = refl
     by_test false rest k = rest k
 
-waits_last : (v : Value) (ws : List Value) → same_literal v v ≡ true → Waits v (ws ++ v ∷ [])
+pub waits_last : (v : Value) (ws : List Value) → same_literal v v ≡ true → Waits v (ws ++ v ∷ [])
 waits_last v [] h = ap (λ b. b || false) h
 waits_last v (w ∷ ws) h = by_test (same_literal v w) (waits_last v ws h)
   where
@@ -139,28 +139,28 @@ waits_last v (w ∷ ws) h = by_test (same_literal v w) (waits_last v ws h)
     by_test true rest = refl
     by_test false rest = rest
 
-noted_waits : (v : Value) (ws : List Value) → IsLiteral v → Waits v (noted v ws)
+pub noted_waits : (v : Value) (ws : List Value) → IsLiteral v → Waits v (noted v ws)
 noted_waits v ws h = by_test (list_any (same_literal v) ws) refl
   where
     by_test : (b : Bool) → list_any (same_literal v) ws ≡ b → Waits v (cond b ws (ws ++ v ∷ []))
     by_test true e = e
     by_test false e = waits_last v ws (same_itself v h)
 
-noted_keeps : (v w : Value) (ws : List Value) → Waits v ws → Waits v (noted w ws)
+pub noted_keeps : (v w : Value) (ws : List Value) → Waits v ws → Waits v (noted w ws)
 noted_keeps v w ws h = by_test (list_any (same_literal w) ws)
   where
     by_test : (b : Bool) → Waits v (cond b ws (ws ++ w ∷ []))
     by_test true = h
     by_test false = waits_front v ws (w ∷ []) h
 
-behind_keeps : (v : Value) (b : Bool) (e : Extent) (ws : List Value) → (b && is_pool e) ≡ false → Waits v ws → Waits v (cond b (waiting_behind e ws) ws)
+pub behind_keeps : (v : Value) (b : Bool) (e : Extent) (ws : List Value) → (b && is_pool e) ≡ false → Waits v ws → Waits v (cond b (waiting_behind e ws) ws)
 behind_keeps v false e ws other h = h
 behind_keeps v true (Block a n) ws other h = h
 behind_keeps v true (Padding m n) ws other h = h
 behind_keeps v true (Loading n w) ws other h = noted_keeps v w ws h
 behind_keeps v true Pool ws other h = absurd (cc)
 
-place_below : (v : Value) (ws : List Value) → Waits v ws → place_among v ws + 1 ≤ length ws
+pub place_below : (v : Value) (ws : List Value) → Waits v ws → place_among v ws + 1 ≤ length ws
 place_below v [] h = absurd (cc)
 place_below v (w ∷ ws) h = by_test (same_literal v w) (place_below v ws) h
   where
@@ -169,26 +169,26 @@ place_below v (w ∷ ws) h = by_test (same_literal v w) (place_below v ws) h
     by_test true rest k = let size : length (w ∷ ws) ≡ suc (length ws) = refl in omega arith
     by_test false rest k = let below = rest k in let size : length (w ∷ ws) ≡ suc (length ws) = refl in omega arith
 
-four_on : (a k n : ℕ) → k + 1 ≤ n → a + 4 * k + 4 ≤ a + 4 * n
+pub four_on : (a k n : ℕ) → k + 1 ≤ n → a + 4 * k + 4 ≤ a + 4 * n
 four_on a k n h = omega arith
 
 -- the word lies before the end of its pool
-word_below : (area : ℕ) (before : List Piece) (v : Value) → Waits v (waiting area before)
+pub word_below : (area : ℕ) (before : List Piece) (v : Value) → Waits v (waiting area before)
     → word_behind area before v + 4 ≤ end_from (end_behind area before) (waiting area before) Pool
 word_below area before v h =
     four_on (start_in area before Pool) (place_among v (waiting area before)) (length (waiting area before)) (place_below v (waiting area before) h)
 
-pool_end : (b : Bool) (e : Extent) (at : ℕ) (ws : List Value) → (b && is_pool e) ≡ true → end_from at ws Pool ≡ cond b (end_from at ws e) at
+pub pool_end : (b : Bool) (e : Extent) (at : ℕ) (ws : List Value) → (b && is_pool e) ≡ true → end_from at ws Pool ≡ cond b (end_from at ws e) at
 pool_end true Pool at ws h = refl
 pool_end true (Block a n) at ws h = absurd (cc)
 pool_end true (Padding m n) at ws h = absurd (cc)
 pool_end true (Loading n v) at ws h = absurd (cc)
 pool_end false e at ws h = absurd (cc)
 
-up_to_size : (area : ℕ) (all : List Piece) → end_from (end_behind area all) (waiting area all) Pool ≤ area_size area all
+pub up_to_size : (area : ℕ) (all : List Piece) → end_from (end_behind area all) (waiting area all) Pool ≤ area_size area all
 up_to_size area all = more (end_from (end_behind area all) (waiting area all) Pool) (lacking (end_from (end_behind area all) (waiting area all) Pool) 4 0)
 
-word_inside : (area : ℕ) (before rest : List Piece) (v : Value) → Waits v (waiting area before)
+pub word_inside : (area : ℕ) (before rest : List Piece) (v : Value) → Waits v (waiting area before)
     → literal_word area before rest v + 4 ≤ area_size area (joined before rest)
 word_inside area before [] v h =
     through (word_behind area before v + 4) (end_from (end_behind area before) (waiting area before) Pool) (area_size area before)
@@ -211,17 +211,17 @@ word_inside area before (s ∷ rest) v h =
     by_test false e later = later e
 
 -- a pool that has literals is aligned
-aligned_sum : (a k : ℕ) → a % 4 ≡ 0 → (a + 4 * k) % 4 ≡ 0
+pub aligned_sum : (a k : ℕ) → a % 4 ≡ 0 → (a + 4 * k) % 4 ≡ 0
 aligned_sum a k h = omega arith
 
-raised_four : (at : ℕ) → raised at 4 % 4 ≡ 0
+pub raised_four : (at : ℕ) → raised at 4 % 4 ≡ 0
 raised_four at = omega arith
 
-pool_aligned : (at : ℕ) (v : Value) (ws : List Value) → Waits v ws → start_from at ws Pool % 4 ≡ 0
+pub pool_aligned : (at : ℕ) (v : Value) (ws : List Value) → Waits v ws → start_from at ws Pool % 4 ≡ 0
 pool_aligned at v [] h = absurd (cc)
 pool_aligned at v (w ∷ ws) h = raised_four at
 
-word_aligned : (area : ℕ) (before rest : List Piece) (v : Value) → Waits v (waiting area before) → literal_word area before rest v % 4 ≡ 0
+pub word_aligned : (area : ℕ) (before rest : List Piece) (v : Value) → Waits v (waiting area before) → literal_word area before rest v % 4 ≡ 0
 word_aligned area before [] v h =
     aligned_sum (start_in area before Pool) (place_among v (waiting area before)) (pool_aligned (end_behind area before) v (waiting area before) h)
 word_aligned area before (s ∷ rest) v h =
@@ -233,7 +233,7 @@ word_aligned area before (s ∷ rest) v h =
     by_test true e later = aligned_sum (start_in area before Pool) (place_among v (waiting area before)) (pool_aligned (end_behind area before) v (waiting area before) h)
     by_test false e later = later e
 
-loaded_waits : (area : ℕ) (before : List Piece) (s : Piece) (n : ℕ) (v : Value) → s.area ≡ Some area → s.extent ≡ Loading n v → IsLiteral v → Waits v (waiting area (s ∷ before))
+pub loaded_waits : (area : ℕ) (before : List Piece) (s : Piece) (n : ℕ) (v : Value) → s.area ≡ Some area → s.extent ≡ Loading n v → IsLiteral v → Waits v (waiting area (s ∷ before))
 loaded_waits area before s n v here loads h =
     subst (λ b. Waits v (cond b (waiting_behind s.extent (waiting area before)) (waiting area before))) (sym (is_here area s.area here))
     (subst (λ e. Waits v (waiting_behind e (waiting area before))) (sym loads) (noted_waits v (waiting area before) h))

@@ -58,45 +58,45 @@ arm w = extent_of (sight_in false) w
 abbrev data_extent : DirectiveLine → Result Extent LineKind
 data_extent l = extent_of (sight_in false) (what.Directive l)
 
-loads_number : arm (load (number 0x12345678)) ≡ Ok (Loading 4 (Number 0x12345678))
+pub loads_number : arm (load (number 0x12345678)) ≡ Ok (Loading 4 (Number 0x12345678))
 unfolding is_moved
 loads_number = refl
 
-moves_number : arm (load (number 0xFFFFFF00)) ≡ Ok (Block 4 4)
+pub moves_number : arm (load (number 0xFFFFFF00)) ≡ Ok (Block 4 4)
 unfolding is_moved
 moves_number = refl
 
-thumb_loads : extent_of (sight_in true) (load (number 1)) ≡ Ok (Loading 2 (Number 1))
+pub thumb_loads : extent_of (sight_in true) (load (number 1)) ≡ Ok (Loading 2 (Number 1))
 thumb_loads = refl
 
-loads_later_name : arm (load (items (item.Name (codes "end") ∷ item.Constant (Number 4) ∷ item.Binary op.Add ∷ []))) ≡ Ok (Loading 4 (Place (codes "end") 4))
+pub loads_later_name : arm (load (items (item.Name (codes "end") ∷ item.Constant (Number 4) ∷ item.Binary op.Add ∷ []))) ≡ Ok (Loading 4 (Place (codes "end") 4))
 loads_later_name = refl
 
-loads_no_product : arm (load (items (item.Name (codes "start") ∷ item.Constant (Number 4) ∷ item.Binary op.Multiply ∷ []))) ≡ Err Forward
+pub loads_no_product : arm (load (items (item.Name (codes "start") ∷ item.Constant (Number 4) ∷ item.Binary op.Multiply ∷ []))) ≡ Err Forward
 loads_no_product = refl
 
-long_address : arm (what.Pseudo (pseudo.LongAddress Al (register.Number 0) (name (codes "end")))) ≡ Ok (Block 4 8)
+pub long_address : arm (what.Pseudo (pseudo.LongAddress Al (register.Number 0) (name (codes "end")))) ≡ Ok (Block 4 8)
 long_address = refl
 
-thumb_call : extent_of (sight_in true) (what.Thumb (thumb.BranchLink (name (codes "end")))) ≡ Ok (Block 2 4)
+pub thumb_call : extent_of (sight_in true) (what.Thumb (thumb.BranchLink (name (codes "end")))) ≡ Ok (Block 2 4)
 thumb_call = refl
 
-words : data_extent (line.Dcd (number 1 ∷ name (codes "end") ∷ [])) ≡ Ok (Block 4 8)
+pub words : data_extent (line.Dcd (number 1 ∷ name (codes "end") ∷ [])) ≡ Ok (Block 4 8)
 words = refl
 
-strings_and_bytes : data_extent (line.Dcb (string (codes "abc") ∷ number 7 ∷ name (codes "s") ∷ name (codes "end") ∷ [])) ≡ Ok (Block 1 9)
+pub strings_and_bytes : data_extent (line.Dcb (string (codes "abc") ∷ number 7 ∷ name (codes "s") ∷ name (codes "end") ∷ [])) ≡ Ok (Block 1 9)
 strings_and_bytes = refl
 
-space_to_here : data_extent (line.Space (items (item.Here ∷ item.Name (codes "start") ∷ item.Binary op.Subtract ∷ []))) ≡ Ok (Block 1 8)
+pub space_to_here : data_extent (line.Space (items (item.Here ∷ item.Name (codes "start") ∷ item.Binary op.Subtract ∷ []))) ≡ Ok (Block 1 8)
 space_to_here = refl
 
-space_to_later : data_extent (line.Space (name (codes "end"))) ≡ Err Forward
+pub space_to_later : data_extent (line.Space (name (codes "end"))) ≡ Err Forward
 space_to_later = refl
 
-space_of_label : data_extent (line.Space (name (codes "start"))) ≡ Err WrongType
+pub space_of_label : data_extent (line.Space (name (codes "start"))) ≡ Err WrongType
 space_of_label = refl
 
-aligned_to_three : data_extent (line.Align (limit.Multiple (number 3))) ≡ Err OutOfRange
+pub aligned_to_three : data_extent (line.Align (limit.Multiple (number 3))) ≡ Err OutOfRange
 unfolding is_power
 aligned_to_three = refl
 
@@ -109,62 +109,62 @@ abbrev literal : Value
 literal = Number 0x12345678
 
 -- LDR r0,=0x12345678 and SPACE 4096
-pool_word : literal_word 0 (piece_in 0 (Loading 4 literal) ∷ []) (piece_in 0 (Block 1 4096) ∷ []) literal ≡ 4100
+pub pool_word : literal_word 0 (piece_in 0 (Loading 4 literal) ∷ []) (piece_in 0 (Block 1 4096) ∷ []) literal ≡ 4100
 pool_word = refl
 
-size_with_pool : area_size 0 (piece_in 0 (Block 1 4096) ∷ piece_in 0 (Loading 4 literal) ∷ []) ≡ 4104
+pub size_with_pool : area_size 0 (piece_in 0 (Block 1 4096) ∷ piece_in 0 (Loading 4 literal) ∷ []) ≡ 4104
 size_with_pool = refl
 
 -- DCB of 5 bytes, DCW, DCD, the nearest first
 abbrev mixed : List Piece
 mixed = piece_in 0 (Block 4 4) ∷ piece_in 0 (Block 2 2) ∷ piece_in 0 (Block 1 5) ∷ []
 
-mixed_data : end_behind 0 mixed ≡ 12
+pub mixed_data : end_behind 0 mixed ≡ 12
 mixed_data = refl
 
 -- another area between
-goes_on : start_in 0 (piece_in 1 (Block 4 4) ∷ mixed) (Block 1 1) ≡ 12
+pub goes_on : start_in 0 (piece_in 1 (Block 4 4) ∷ mixed) (Block 1 1) ≡ 12
 goes_on = refl
 
-other_area : start_in 1 (piece_in 1 (Block 1 3) ∷ mixed) (Block 4 4) ≡ 4
+pub other_area : start_in 1 (piece_in 1 (Block 1 3) ∷ mixed) (Block 4 4) ≡ 4
 other_area = refl
 
 -- ALIGN behind 5 bytes
-align_word : size_behind (Some 0) (piece_in 0 (Block 1 5) ∷ []) (Padding 4 0) ≡ 3
+pub align_word : size_behind (Some 0) (piece_in 0 (Block 1 5) ∷ []) (Padding 4 0) ≡ 3
 align_word = refl
 
 -- ALIGN 8,2, where a label stands before the padding
-align_behind : size_behind (Some 0) (piece_in 0 (Block 1 5) ∷ []) (Padding 8 2) ≡ 5
+pub align_behind : size_behind (Some 0) (piece_in 0 (Block 1 5) ∷ []) (Padding 8 2) ≡ 5
 align_behind = refl
 
-align_label : start_in 0 (piece_in 0 (Block 1 5) ∷ []) (Padding 8 2) ≡ 5
+pub align_label : start_in 0 (piece_in 0 (Block 1 5) ∷ []) (Padding 8 2) ≡ 5
 align_label = refl
 
 -- the padding of an offset that stands right is empty
-align_nothing : size_behind (Some 0) (piece_in 0 (Block 1 10) ∷ []) (Padding 8 10) ≡ 0
+pub align_nothing : size_behind (Some 0) (piece_in 0 (Block 1 10) ∷ []) (Padding 8 10) ≡ 0
 align_nothing = refl
 
 -- two loads of one literal, one of another, and the first again behind LTORG
 abbrev loads : List Piece
 loads = piece_in 0 (Loading 4 literal) ∷ piece_in 0 Pool ∷ piece_in 0 (Loading 4 (Place (codes "f") 0)) ∷ piece_in 0 (Loading 4 literal) ∷ piece_in 0 (Loading 4 literal) ∷ []
 
-pool_size : size_behind (Some 0) (piece_in 0 (Loading 4 (Place (codes "f") 0)) ∷ piece_in 0 (Loading 4 literal) ∷ piece_in 0 (Loading 4 literal) ∷ []) Pool ≡ 8
+pub pool_size : size_behind (Some 0) (piece_in 0 (Loading 4 (Place (codes "f") 0)) ∷ piece_in 0 (Loading 4 literal) ∷ piece_in 0 (Loading 4 literal) ∷ []) Pool ≡ 8
 pool_size = refl
 
-behind_pool : end_behind 0 loads ≡ 24
+pub behind_pool : end_behind 0 loads ≡ 24
 behind_pool = refl
 
-waits_again : waiting 0 loads ≡ literal ∷ []
+pub waits_again : waiting 0 loads ≡ literal ∷ []
 waits_again = refl
 
 -- an LTORG without literals neither aligns nor takes bytes
-empty_pool : end_behind 0 (piece_in 0 Pool ∷ piece_in 0 (Block 1 5) ∷ []) ≡ 5
+pub empty_pool : end_behind 0 (piece_in 0 Pool ∷ piece_in 0 (Block 1 5) ∷ []) ≡ 5
 empty_pool = refl
 
 -- a Thumb load at 0, its pool aligned
-thumb_pool : literal_word 0 (piece_in 0 (Loading 2 literal) ∷ []) [] literal ≡ 4
+pub thumb_pool : literal_word 0 (piece_in 0 (Loading 2 literal) ∷ []) [] literal ≡ 4
 thumb_pool = refl
 
 -- the end of an area is padded
-padded_end : area_size 0 (piece_in 0 (Block 1 5) ∷ []) ≡ 8
+pub padded_end : area_size 0 (piece_in 0 (Block 1 5) ∷ []) ≡ 8
 padded_end = refl

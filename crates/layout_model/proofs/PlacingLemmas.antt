@@ -26,16 +26,16 @@ use Rattle.layout_model.specs.Placing.{Placing, address_at, address_of, placed_v
 
 -- ---- numbers
 
-moved_up : (a p n : ℕ) → ((a + p) % 2 ^ 32 + n) % 2 ^ 32 ≡ (a + (p + n) % 2 ^ 32) % 2 ^ 32
+pub moved_up : (a p n : ℕ) → ((a + p) % 2 ^ 32 + n) % 2 ^ 32 ≡ (a + (p + n) % 2 ^ 32) % 2 ^ 32
 moved_up a p n = omega arith
 
-moved_down : (a p n : ℕ) → less ((a + p) % 2 ^ 32) n ≡ (a + less p n) % 2 ^ 32
+pub moved_down : (a p n : ℕ) → less ((a + p) % 2 ^ 32) n ≡ (a + less p n) % 2 ^ 32
 moved_down a p n = omega arith
 
-moved_onto : (a p n : ℕ) → (n + (a + p) % 2 ^ 32) % 2 ^ 32 ≡ (a + (p + n) % 2 ^ 32) % 2 ^ 32
+pub moved_onto : (a p n : ℕ) → (n + (a + p) % 2 ^ 32) % 2 ^ 32 ≡ (a + (p + n) % 2 ^ 32) % 2 ^ 32
 moved_onto a p n = omega arith
 
-apart : (b x y p q : ℕ) → less ((b + x + p) % 2 ^ 32) ((b + y + q) % 2 ^ 32) ≡ less ((x + p) % 2 ^ 32) ((y + q) % 2 ^ 32)
+pub apart : (b x y p q : ℕ) → less ((b + x + p) % 2 ^ 32) ((b + y + q) % 2 ^ 32) ≡ less ((x + p) % 2 ^ 32) ((y + q) % 2 ^ 32)
 apart b x y p q = omega arith
 
 -- ---- names
@@ -44,7 +44,7 @@ abbrev placed_option : Placing → Names → Option LaidName → Option LaidName
 placed_option p names None = None
 placed_option p names (Some n) = Some (placed_name p names n)
 
-placed_found : (p : Placing) (names : Names) (q : List ℕ) (ns : List LaidName)
+pub placed_found : (p : Placing) (names : Names) (q : List ℕ) (ns : List LaidName)
     → named_in q (map (placed_name p names) ns) ≡ placed_option p names (named_in q ns)
 placed_found p names q [] = refl
 placed_found p names q (n ∷ ns) = by_test (same n.name q) (placed_found p names q ns)
@@ -60,7 +60,7 @@ abbrev placed_result : Placing → Names → Result Value LineKind → Result Va
 placed_result p names (Ok v) = Ok (placed_value p names v)
 placed_result p names (Err k) = Err k
 
-same_seen : (p : Placing) (names : Names) (area : Option ℕ) (v : Value) → IsOfArea names.area area v
+pub same_seen : (p : Placing) (names : Names) (area : Option ℕ) (v : Value) → IsOfArea names.area area v
     → placed_value p (seen_from names area) v ≡ placed_value p names v
 same_seen p names area (Place [] n) h = ap (λ a. Number ((address_at p [] (in_area a 0) + n) % 2 ^ 32)) h
 same_seen p names area (Place (c ∷ cs) n) h = refl
@@ -68,32 +68,32 @@ same_seen p names area (Number n) h = refl
 same_seen p names area (Truth b) h = refl
 same_seen p names area (Words w) h = refl
 
-value_placed : (p : Placing) (names : Names) (o : Option LaidName) (v : Value)
+pub value_placed : (p : Placing) (names : Names) (o : Option LaidName) (v : Value)
     → ((n : LaidName) → o ≡ Some n → IsOfArea names.area n.area n.value)
     → value_of o ≡ Ok v → value_of (placed_option p names o) ≡ Ok (placed_value p names v)
 value_placed p names None v here h = absurd (cc)
 value_placed p names (Some n) v here h =
     ap (λ w. Ok w) (same_seen p names n.area n.value (here n refl)) ∙ ap (placed_result p names) h
 
-size_placed : (p : Placing) (names : Names) (o : Option LaidName) (v : Value)
+pub size_placed : (p : Placing) (names : Names) (o : Option LaidName) (v : Value)
     → size_of o ≡ Ok v → size_of (placed_option p names o) ≡ Ok (placed_value p names v)
 size_placed p names None v h = absurd (cc)
 size_placed p names (Some n) v h = ap (placed_result p names) h
 
-defined_placed : (p : Placing) (names : Names) (o : Option LaidName) (v : Value) → as_truth (Ok (is_some o)) ≡ Ok v
+pub defined_placed : (p : Placing) (names : Names) (o : Option LaidName) (v : Value) → as_truth (Ok (is_some o)) ≡ Ok v
     → as_truth (Ok (is_some (placed_option p names o))) ≡ Ok (placed_value p names v)
 defined_placed p names None v h = ap (placed_result p names) h
 defined_placed p names (Some n) v h = ap (placed_result p names) h
 
 -- ---- operators before an operand
 
-plain_cond : (p : Placing) (names : Names) (b : Bool) (x y : Result Value LineKind)
+pub plain_cond : (p : Placing) (names : Names) (b : Bool) (x y : Result Value LineKind)
     → placed_result p names x ≡ x → placed_result p names y ≡ y → placed_result p names (cond b x y) ≡ cond b x y
 plain_cond p names true x y h k = h
 plain_cond p names false x y h k = k
 
 -- no operator before a value makes a place
-plain_unary : (p : Placing) (names : Names) (op : UnaryOp) (v : Value) → placed_result p names (unary_of op v) ≡ unary_of op v
+pub plain_unary : (p : Placing) (names : Names) (op : UnaryOp) (v : Value) → placed_result p names (unary_of op v) ≡ unary_of op v
 plain_unary p names unary.Length (Words w) =
     plain_cond p names (nat_lt string_bytes (length w)) (Err TooMany) (Ok (Number (length w))) refl refl
 plain_unary p names unary.Character (Number n) =
@@ -115,29 +115,29 @@ plain_unary p names unary.String v = refl
 plain_unary p names unary.Defined v = refl
 
 -- and none takes one
-no_place : (op : UnaryOp) (s : List ℕ) (n : ℕ) (r : Value) → unary_of op (Place s n) ≡ Ok r → ⊥
+pub no_place : (op : UnaryOp) (s : List ℕ) (n : ℕ) (r : Value) → unary_of op (Place s n) ≡ Ok r → ⊥
 no_place unary.Plus s n r h = cc
 no_place op s n r h = cc
 
-unary_placed : (p : Placing) (names : Names) (op : UnaryOp) (v r : Value)
+pub unary_placed : (p : Placing) (names : Names) (op : UnaryOp) (v r : Value)
     → unary_of op v ≡ Ok r → unary_of op (placed_value p names v) ≡ Ok (placed_value p names r)
 unary_placed p names op (Number n) r h = sym (plain_unary p names op (Number n)) ∙ ap (placed_result p names) h
 unary_placed p names op (Truth b) r h = sym (plain_unary p names op (Truth b)) ∙ ap (placed_result p names) h
 unary_placed p names op (Words w) r h = sym (plain_unary p names op (Words w)) ∙ ap (placed_result p names) h
 unary_placed p names op (Place s n) r h = absurd (no_place op s n r h)
 
-then_placed : (p : Placing) (names : Names) (op : UnaryOp) (x y : Result Value LineKind) (v : Value)
+pub then_placed : (p : Placing) (names : Names) (op : UnaryOp) (x y : Result Value LineKind) (v : Value)
     → ((w : Value) → x ≡ Ok w → y ≡ Ok (placed_value p names w))
     → then_of x (unary_of op) ≡ Ok v → then_of y (unary_of op) ≡ Ok (placed_value p names v)
 then_placed p names op (Ok w) y v more h = ap (λ z. then_of z (unary_of op)) (more w refl) ∙ unary_placed p names op w v h
 then_placed p names op (Err k) y v more h = absurd (cc)
 
-known_placed : (p : Placing) (names : Names) (op : UnaryOp) (x y : Result Value LineKind) (v : Value)
+pub known_placed : (p : Placing) (names : Names) (op : UnaryOp) (x y : Result Value LineKind) (v : Value)
     → ((w : Value) → x ≡ Ok w → y ≡ Ok (placed_value p names w))
     → applied op (Known x) ≡ Ok v → applied op (Known y) ≡ Ok (placed_value p names v)
 known_placed p names op x y v more h = applied_known op y ∙ then_placed p names op x y v more (sym (applied_known op x) ∙ h)
 
-unread_placed : (p : Placing) (names : Names) (op : UnaryOp) (o : Option LaidName) (v : Value)
+pub unread_placed : (p : Placing) (names : Names) (op : UnaryOp) (o : Option LaidName) (v : Value)
     → ((n : LaidName) → o ≡ Some n → IsOfArea names.area n.area n.value)
     → applied op (Unread o) ≡ Ok v → applied op (Unread (placed_option p names o)) ≡ Ok (placed_value p names v)
 unread_placed p names unary.Size o v here h = size_placed p names o v h
@@ -147,24 +147,24 @@ unread_placed p names op o v here h =
 
 -- ---- operators between operands
 
-plain_number : (p : Placing) (names : Names) (r : Result ℕ LineKind) → placed_result p names (as_number r) ≡ as_number r
+pub plain_number : (p : Placing) (names : Names) (r : Result ℕ LineKind) → placed_result p names (as_number r) ≡ as_number r
 plain_number p names (Ok n) = refl
 plain_number p names (Err k) = refl
 
-plain_truth : (p : Placing) (names : Names) (r : Result Bool LineKind) → placed_result p names (as_truth r) ≡ as_truth r
+pub plain_truth : (p : Placing) (names : Names) (r : Result Bool LineKind) → placed_result p names (as_truth r) ≡ as_truth r
 plain_truth p names (Ok b) = refl
 plain_truth p names (Err k) = refl
 
-plain_words : (p : Placing) (names : Names) (r : Result (List ℕ) LineKind) → placed_result p names (as_words r) ≡ as_words r
+pub plain_words : (p : Placing) (names : Names) (r : Result (List ℕ) LineKind) → placed_result p names (as_words r) ≡ as_words r
 plain_words p names (Ok w) = refl
 plain_words p names (Err k) = refl
 
-plain_or : (p : Placing) (names : Names) (o : Option Bool) (r : Result Value LineKind)
+pub plain_or : (p : Placing) (names : Names) (o : Option Bool) (r : Result Value LineKind)
     → placed_result p names r ≡ r → placed_result p names (truth_or o r) ≡ truth_or o r
 plain_or p names (Some b) r h = refl
 plain_or p names None r h = h
 
-place_and_number : (p : Placing) (names : Names) (op : BinaryOp) (s : List ℕ) (q n : ℕ) (r : Value)
+pub place_and_number : (p : Placing) (names : Names) (op : BinaryOp) (s : List ℕ) (q n : ℕ) (r : Value)
     → as_place s (moved_place op q n) ≡ Ok r
     → binary (placed_names p names) op (Number ((address_of p names s + q) % 2 ^ 32)) (Number n) ≡ Ok (placed_value p names r)
 place_and_number p names Add s q n r h =
@@ -173,14 +173,14 @@ place_and_number p names Subtract s q n r h =
     ap (λ z. as_number (Ok z)) (moved_down (address_of p names s) q n) ∙ ap (placed_result p names) h
 place_and_number p names op s q n r h = absurd (cc)
 
-number_and_place : (p : Placing) (names : Names) (op : BinaryOp) (n : ℕ) (s : List ℕ) (q : ℕ) (r : Value)
+pub number_and_place : (p : Placing) (names : Names) (op : BinaryOp) (n : ℕ) (s : List ℕ) (q : ℕ) (r : Value)
     → as_place s (added_place op n q) ≡ Ok r
     → binary (placed_names p names) op (Number n) (Number ((address_of p names s + q) % 2 ^ 32)) ≡ Ok (placed_value p names r)
 number_and_place p names Add n s q r h =
     ap (λ z. as_number (Ok z)) (moved_onto (address_of p names s) q n) ∙ ap (placed_result p names) h
 number_and_place p names op n s q r h = absurd (cc)
 
-distance_placed : (p : Placing) (names : Names) (s t : List ℕ) (a b : Option (ℕ × ℕ)) (q n : ℕ) (r : Value)
+pub distance_placed : (p : Placing) (names : Names) (s t : List ℕ) (a b : Option (ℕ × ℕ)) (q n : ℕ) (r : Value)
     → as_number (distance a q b n) ≡ Ok r
     → as_number (Ok (less ((address_at p s a + q) % 2 ^ 32) ((address_at p t b + n) % 2 ^ 32))) ≡ Ok (placed_value p names r)
 distance_placed p names s t (Some x) (Some y) q n r h = by_test (x.0 == y.0) refl h
@@ -196,13 +196,13 @@ distance_placed p names s t (Some x) (Some y) q n r h = by_test (x.0 == y.0) ref
 distance_placed p names s t (Some x) None q n r h = absurd (cc)
 distance_placed p names s t None b q n r h = absurd (cc)
 
-two_places : (p : Placing) (names : Names) (op : BinaryOp) (s : List ℕ) (q : ℕ) (t : List ℕ) (n : ℕ) (r : Value)
+pub two_places : (p : Placing) (names : Names) (op : BinaryOp) (s : List ℕ) (q : ℕ) (t : List ℕ) (n : ℕ) (r : Value)
     → as_number (between_places names op s q t n) ≡ Ok r
     → binary (placed_names p names) op (Number ((address_of p names s + q) % 2 ^ 32)) (Number ((address_of p names t + n) % 2 ^ 32)) ≡ Ok (placed_value p names r)
 two_places p names Subtract s q t n r h = distance_placed p names s t (stands_at names s) (stands_at names t) q n r h
 two_places p names op s q t n r h = absurd (cc)
 
-binary_placed : (p : Placing) (names : Names) (op : BinaryOp) (v w r : Value) → binary names op v w ≡ Ok r
+pub binary_placed : (p : Placing) (names : Names) (op : BinaryOp) (v w r : Value) → binary names op v w ≡ Ok r
     → binary (placed_names p names) op (placed_value p names v) (placed_value p names w) ≡ Ok (placed_value p names r)
 binary_placed p names op (Number m) (Number n) r h =
     sym (plain_or p names (related op (nat_cmp m n)) (as_number (arithmetic op m n)) (plain_number p names (arithmetic op m n)))
@@ -225,7 +225,7 @@ binary_placed p names op (Words v) (Place t n) r h = absurd (cc)
 binary_placed p names op (Place s q) (Truth b) r h = absurd (cc)
 binary_placed p names op (Place s q) (Words w) r h = absurd (cc)
 
-both_placed : (p : Placing) (names : Names) (op : BinaryOp) (a b c d : Result Value LineKind) (r : Value)
+pub both_placed : (p : Placing) (names : Names) (op : BinaryOp) (a b c d : Result Value LineKind) (r : Value)
     → ((v : Value) → a ≡ Ok v → c ≡ Ok (placed_value p names v)) → ((v : Value) → b ≡ Ok v → d ≡ Ok (placed_value p names v))
     → on_both a b (binary names op) ≡ Ok r → on_both c d (binary (placed_names p names) op) ≡ Ok (placed_value p names r)
 both_placed p names op (Ok v) (Ok w) c d r f g h =
@@ -238,13 +238,13 @@ both_placed p names op (Err k) (Err j) c d r f g h = absurd (cc)
 
 -- ---- expressions
 
-name_placed : (p : Placing) (names : Names) (q : List ℕ) (v : Value) → CountFromHere names
+pub name_placed : (p : Placing) (names : Names) (q : List ℕ) (v : Value) → CountFromHere names
     → value_of (named_in q names.list) ≡ Ok v
     → value_of (named_in q (map (placed_name p names) names.list)) ≡ Ok (placed_value p names v)
 name_placed p names q v here h =
     ap value_of (placed_found p names q names.list) ∙ value_placed p names (named_in q names.list) v (here q) h
 
-item_placed : (p : Placing) (names : Names) (i : ExprItem) (v : Value) → CountFromHere names
+pub item_placed : (p : Placing) (names : Names) (i : ExprItem) (v : Value) → CountFromHere names
     → known (operand_of_item names i) ≡ Ok v
     → known (operand_of_item (placed_names p names) (placed_item p names i)) ≡ Ok (placed_value p names v)
 item_placed p names (item.Name q) v here h = name_placed p names q v here h
@@ -256,7 +256,7 @@ item_placed p names item.CodeSize v here h = ap (placed_result p names) h
 item_placed p names (item.Unary op) v here h = ap (placed_result p names) h
 item_placed p names (item.Binary op) v here h = ap (placed_result p names) h
 
-before_item : (p : Placing) (names : Names) (op : UnaryOp) (i : ExprItem) (v : Value) → CountFromHere names
+pub before_item : (p : Placing) (names : Names) (op : UnaryOp) (i : ExprItem) (v : Value) → CountFromHere names
     → applied op (operand_of_item names i) ≡ Ok v
     → applied op (operand_of_item (placed_names p names) (placed_item p names i)) ≡ Ok (placed_value p names v)
 before_item p names op (item.Name q) v here h =

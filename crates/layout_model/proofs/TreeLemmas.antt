@@ -14,7 +14,7 @@ IsPlain (Leaf i) = plain i ≡ Some i
 IsPlain (Before op t) = IsPlain t
 IsPlain (Between op t u) = IsPlain t × IsPlain u
 
-kept : (j i : ExprItem) → plain j ≡ Some i → plain i ≡ Some i
+pub kept : (j i : ExprItem) → plain j ≡ Some i → plain i ≡ Some i
 kept (item.Name n) i e = let x : item.Name n ≡ i = cc in rw (← x) refl
 kept (item.Local n) i e = let x : item.Local n ≡ i = cc in rw (← x) refl
 kept (item.Constant v) i e = let x : item.Constant v ≡ i = cc in rw (← x) refl
@@ -24,7 +24,7 @@ kept item.CodeSize i e = let x : item.CodeSize ≡ i = cc in rw (← x) refl
 kept (item.Unary op) i e = absurd (cc)
 kept (item.Binary op) i e = absurd (cc)
 
-plain_operand : (p : Part) (i : ExprItem) → operand_of p ≡ Some i → plain i ≡ Some i
+pub plain_operand : (p : Part) (i : ExprItem) → operand_of p ≡ Some i → plain i ≡ Some i
 plain_operand (part.Operand j) i e = kept j i e
 plain_operand part.TooLarge i e = kept (item.Constant (Number 0)) i e
 plain_operand part.Open i e = absurd (cc)
@@ -35,7 +35,7 @@ plain_operand (part.Infix op) i e = absurd (cc)
 plain_operand (part.Sum u b) i e = absurd (cc)
 plain_operand part.Other i e = absurd (cc)
 
-spelled_plain : (l : ℕ) (ps : List Part) (t : Tree) → Spells l ps t → IsPlain t
+pub spelled_plain : (l : ℕ) (ps : List Part) (t : Tree) → Spells l ps t → IsPlain t
 spelled_plain l ps t (operand p i e) = plain_operand p i e
 spelled_plain l ps t (of_name op n) = refl
 spelled_plain l ps t (before p op qs u e d) = spelled_plain 0 qs u d
@@ -43,7 +43,7 @@ spelled_plain l ps t (grouped qs u d) = spelled_plain 6 qs u d
 spelled_plain l ps t (between k p op qs rs u v e lev d r) = (spelled_plain (suc k) qs u d, spelled_plain k rs v r)
 spelled_plain l ps t (tighter k qs u d) = spelled_plain k qs u d
 
-grown_leaf : (i : ExprItem) (ts : List Tree) → plain i ≡ Some i → grown i ts ≡ Some (Leaf i ∷ ts)
+pub grown_leaf : (i : ExprItem) (ts : List Tree) → plain i ≡ Some i → grown i ts ≡ Some (Leaf i ∷ ts)
 grown_leaf (item.Name n) ts e = refl
 grown_leaf (item.Local n) ts e = refl
 grown_leaf (item.Constant v) ts e = refl
@@ -53,7 +53,7 @@ grown_leaf item.CodeSize ts e = refl
 grown_leaf (item.Unary op) ts e = absurd (cc)
 grown_leaf (item.Binary op) ts e = absurd (cc)
 
-read_back : (t : Tree) (ts : List Tree) (rest : List ExprItem) → IsPlain t
+pub read_back : (t : Tree) (ts : List Tree) (rest : List ExprItem) → IsPlain t
     → tree_behind (Some ts) (postfix t ++ rest) ≡ tree_behind (Some (t ∷ ts)) rest
 read_back (Leaf i) ts rest p = ap (λ o. tree_behind o rest) (grown_leaf i ts p)
 read_back (Before op t) ts rest p =
