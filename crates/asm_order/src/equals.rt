@@ -1,0 +1,20 @@
+//! Names for expressions, and an order of them.
+
+use asm_model::Expr;
+use sdt_fault::Text;
+
+/// A name for an expression, by the statement that defines it.
+#[derive(Clone, Copy, Debug)]
+pub struct Equal<'a> {
+    pub name: &'a Text,
+    pub value: &'a Expr,
+}
+
+/// Which names can be evaluated, and when.
+#[derive(Debug, Drop)]
+pub struct Order {
+    /// The numbers of the names that can be evaluated, each behind those that its expression mentions.
+    pub places: Vec<u32>,
+    /// For each name, whether it depends neither on itself nor on one that does.
+    pub settled: Vec<bool>,
+}
