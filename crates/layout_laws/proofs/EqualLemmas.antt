@@ -1,0 +1,175 @@
+-- The names for expressions of a source, and its lines.
+use Rattle.std.proofs.Common.{◌≡◌, ℕ, ◌==◌, ◌&&◌, List, [], ◌∷◌, ◌++◌, length, codes, map, Bool, true, false, cond, refl, Option, Some, None, inl, inr}
+use Rattle.std.specs.Prelude.{nat_lt, nat_le}
+use Rattle.asm_model.specs.declared.exprs.Expr.{Expr}
+use Rattle.asm_model.specs.declared.values.Value.{Value}
+use Rattle.asm_model.specs.declared.values.Value.TheVariants.{Number, Truth, Words, Place}
+use Rattle.asm_model.specs.declared.names.LaidName.{LaidName}
+use Rattle.asm_model.specs.declared.statements.Statement.{Statement}
+use Rattle.asm_model.specs.AtLine.{SourceLine}
+use Rattle.asm_model.specs.Grammar.{Tree}
+use Rattle.layout_model.specs.Before.{stretch_behind, area_behind, is_thumb_label}
+use Rattle.layout_model.specs.Entries.{equal_entry}
+use Rattle.layout_model.specs.Labels.{Defined, Unnamed, LocalLabel, Label, Equal, MapField, RegisterName, defined_by, imported_in}
+use Rattle.layout_model.specs.Laid.{Declared, LaidLine, statements_of, locals_of, map_behind, offset_behind, tree_equated, definition_of, imported_lines, laid_behind, laid_of, final_line, final_lines}
+use Rattle.layout_model.specs.LayoutKinds.{equal_of, equals_in}
+use Rattle.layout_model.specs.Locals.{Local, local_entries, digits_of, reference, references_to, is_new, back_of, forth_of}
+use Rattle.layout_model.specs.Trees.{tree_of}
+use Rattle.layout_laws.proofs.RoundLemmas.{SymbolIs, EachIs}
+use Rattle.layout_laws.proofs.StepLemmas.{HoldsOf, EachEquated, IsMade, IsRegular, AreRegular, nothing}
+
+-- ---- names for expressions
+
+abbrev pub EachEqual : (List ℕ → Expr → Type 0) → List (List ℕ × Expr) → Type 0
+EachEqual R [] = Unit {0}
+EachEqual R (x ∷ xs) = R x.0 x.1 × EachEqual R xs
+
+pub equal_all : (R : List ℕ → Expr → Type 0) → ((p : List ℕ) (e : Expr) → R p e) → (xs : List (List ℕ × Expr)) → EachEqual R xs
+equal_all R f [] = tt
+equal_all R f (x ∷ xs) = (f x.0 x.1, equal_all R f xs)
+
+pub equal_weaker : (R S : List ℕ → Expr → Type 0) → ((p : List ℕ) (e : Expr) → R p e → S p e) → (xs : List (List ℕ × Expr)) → EachEqual R xs → EachEqual S xs
+equal_weaker R S f [] h = tt
+equal_weaker R S f (x ∷ xs) h = (f x.0 x.1 h.0, equal_weaker R S f xs h.1)
+
+pub equal_both : (Q R S : List ℕ → Expr → Type 0) → ((p : List ℕ) (e : Expr) → Q p e → R p e → S p e) → (xs : List (List ℕ × Expr))
+    → EachEqual Q xs → EachEqual R xs → EachEqual S xs
+equal_both Q R S f [] h k = tt
+equal_both Q R S f (x ∷ xs) h k = (f x.0 x.1 h.0 k.0, equal_both Q R S f xs h.1 k.1)
+
+pub equal_joined : (R : List ℕ → Expr → Type 0) (xs ys : List (List ℕ × Expr)) → EachEqual R xs → EachEqual R ys → EachEqual R (xs ++ ys)
+equal_joined R [] ys h k = k
+equal_joined R (x ∷ xs) ys h k = (h.0, equal_joined R xs ys h.1 k)
+
+pub equal_parts : (R : List ℕ → Expr → Type 0) (xs ys : List (List ℕ × Expr)) → EachEqual R (xs ++ ys) → EachEqual R xs × EachEqual R ys
+equal_parts R [] ys h = (tt, h)
+equal_parts R (x ∷ xs) ys h = let rest = equal_parts R xs ys h.1 in ((h.0, rest.0), rest.1)
+
+-- ---- lines for them
+
+abbrev pub OfTrees : (List ℕ → Tree → Type 0) → List ℕ → Expr → Type 0
+OfTrees R p e = (t : Tree) → tree_of e ≡ Some t → R p t
+
+pub tree_holds : (R : List ℕ → Tree → Type 0) (names : List LaidName) (area : Option ℕ) (name : List ℕ) (o : Option Tree)
+    → ((t : Tree) → o ≡ Some t → R name t) → HoldsOf R (tree_equated names area name o)
+tree_holds R names area name None f = tt
+tree_holds R names area name (Some t) f = f t refl
+
+pub definition_holds : (R : List ℕ → Tree → Type 0) (names : List LaidName) (x : Defined) (area : Option ℕ) (offset size : ℕ) (thumb : Bool) (m : ℕ)
+    → EachEqual (OfTrees R) (equal_of x) → HoldsOf R (definition_of names x area offset size thumb m)
+definition_holds R names Unnamed area offset size thumb m h = tt
+definition_holds R names (LocalLabel n) area offset size thumb m h = tt
+definition_holds R names (Label name) area offset size thumb m h = tt
+definition_holds R names (Equal name e) area offset size thumb m h = tree_holds R names area name (tree_of e) h.0
+definition_holds R names (MapField name) area offset size thumb m h = tt
+definition_holds R names (RegisterName name r) area offset size thumb m h = tt
+
+pub imported_holds : (R : List ℕ → Tree → Type 0) (d : Declared) (s : Statement) (before : List LaidLine) (o : Option (List ℕ)) → EachEquated R (imported_lines d s before o)
+imported_holds R d s before None = tt
+imported_holds R d s before (Some name) = (tt, tt)
+
+pub holds_joined : (R : List ℕ → Tree → Type 0) (ls ms : List SourceLine) → EachEquated R ls → EachEquated R ms → EachEquated R (ls ++ ms)
+holds_joined R [] ms h k = k
+holds_joined R (l ∷ ls) ms h k = (h.0, holds_joined R ls ms h.1 k)
+
+pub lines_hold : (R : List ℕ → Tree → Type 0) (d : Declared) (locals : List Local) (ss : List Statement) → EachEqual (OfTrees R) (equals_in ss)
+    → EachEquated R (final_lines locals (laid_of d ss))
+lines_hold R d locals [] h = tt
+lines_hold R d locals (s ∷ ss) h =
+    let parts = equal_parts (OfTrees R) (equals_in ss) (equal_of (defined_by s)) h in
+    holds_joined R (final_lines locals (laid_of d ss)) (final_line locals (laid_behind d s (laid_of d ss)) (laid_of d ss) ∷ imported_lines d s (laid_of d ss) (imported_in s.what))
+    (lines_hold R d locals ss parts.0) (
+      definition_holds R d.names (defined_by s) (area_behind (s ∷ statements_of (laid_of d ss))) (offset_behind s (laid_of d ss))
+          (laid_behind d s (laid_of d ss)).size (is_thumb_label s (statements_of (laid_of d ss))) (map_behind (laid_of d ss)) parts.1,
+      imported_holds R d s (laid_of d ss) (imported_in s.what),
+    )
+
+-- ---- regular lines
+
+pub each_is_joined : (P : List ℕ → Type 0) (ns ms : List LaidName) → EachIs P ns → EachIs P ms → EachIs P (ns ++ ms)
+each_is_joined P [] ms h k = k
+each_is_joined P (n ∷ ns) ms h k = (h.0, each_is_joined P ns ms h.1 k)
+
+pub spelled_is : (area : Option ℕ) (l : Local) (mark : List ℕ) (texts : List (List ℕ)) → EachIs nothing (map (λ digits. reference area l (mark ++ digits)) texts)
+spelled_is area l mark [] = tt
+spelled_is area l mark (t ∷ ts) = (tt, spelled_is area l mark ts)
+
+pub references_are : (area : Option ℕ) (l : Local) (marks : List (List ℕ)) → EachIs nothing (references_to area l marks)
+references_are area l [] = tt
+references_are area l (mark ∷ marks) =
+    each_is_joined nothing (map (λ digits. reference area l (mark ++ digits)) (digits_of l.number)) (references_to area l marks)
+    (spelled_is area l mark (digits_of l.number)) (references_are area l marks)
+
+pub either_is : (P : List ℕ → Type 0) (b : Bool) (ns ms us : List LaidName) → EachIs P ns → EachIs P ms → EachIs P us → EachIs P (cond b (ns ++ ms) us)
+either_is P true ns ms us h g k = each_is_joined P ns ms h g
+either_is P false ns ms us h g k = k
+
+pub back_is : (area : Option ℕ) (stretch statement : ℕ) (nearer : List ℕ) (ls : List Local) → EachIs nothing (back_of area stretch statement nearer ls)
+back_is area stretch statement nearer [] = tt
+back_is area stretch statement nearer (l ∷ ls) =
+    either_is nothing (l.stretch == stretch && nat_le l.statement statement && is_new l.number nearer) (references_to area l (codes "%B" ∷ codes "%" ∷ []))
+    (back_of area stretch statement (l.number ∷ nearer) ls) (back_of area stretch statement nearer ls)
+    (references_are area l (codes "%B" ∷ codes "%" ∷ [])) (back_is area stretch statement (l.number ∷ nearer) ls) (back_is area stretch statement nearer ls)
+
+pub forth_is : (area : Option ℕ) (stretch statement : ℕ) (nearer : List ℕ) (ls : List Local) → EachIs nothing (forth_of area stretch statement nearer ls)
+forth_is area stretch statement nearer [] = tt
+forth_is area stretch statement nearer (l ∷ ls) =
+    either_is nothing (l.stretch == stretch && nat_lt statement l.statement && is_new l.number nearer) (references_to area l (codes "%F" ∷ codes "%" ∷ []))
+    (forth_of area stretch statement (l.number ∷ nearer) ls) (forth_of area stretch statement nearer ls)
+    (references_are area l (codes "%F" ∷ codes "%" ∷ [])) (forth_is area stretch statement (l.number ∷ nearer) ls) (forth_is area stretch statement nearer ls)
+
+pub own_place : (name : List ℕ) → SymbolIs (λ s. s ≡ name) (Place name 0)
+own_place [] = tt
+own_place (c ∷ cs) = refl
+
+pub equal_made : (names : List LaidName) (area : Option ℕ) (name : List ℕ) (v : Value) → IsMade (equal_entry names area name) v
+equal_made names area name (Place [] n) = (refl, inr refl)
+equal_made names area name (Place (c ∷ cs) n) = (refl, inl refl)
+equal_made names area name (Number n) = (refl, inl refl)
+equal_made names area name (Truth b) = (refl, inl refl)
+equal_made names area name (Words w) = (refl, inl refl)
+
+pub tree_regular : (names : List LaidName) (area : Option ℕ) (name : List ℕ) (o : Option Tree) → IsRegular (tree_equated names area name o)
+tree_regular names area name None = tt
+tree_regular names area name (Some t) = equal_made names area name
+
+pub definition_regular : (names : List LaidName) (x : Defined) (area : Option ℕ) (offset size : ℕ) (thumb : Bool) (m : ℕ)
+    → IsRegular (definition_of names x area offset size thumb m)
+definition_regular names Unnamed area offset size thumb m = tt
+definition_regular names (LocalLabel n) area offset size thumb m = tt
+definition_regular names (Label name) area offset size thumb m = own_place name
+definition_regular names (Equal name e) area offset size thumb m = tree_regular names area name (tree_of e)
+definition_regular names (MapField name) area offset size thumb m = tt
+definition_regular names (RegisterName name r) area offset size thumb m = tt
+
+pub regular_joined : (ls ms : List SourceLine) → AreRegular ls → AreRegular ms → AreRegular (ls ++ ms)
+regular_joined [] ms h k = k
+regular_joined (l ∷ ls) ms h k = (h.0, h.1, h.2, regular_joined ls ms h.3 k)
+
+pub back_behind_is : (s : Statement) (before : List LaidLine)
+    → EachIs nothing (back_of (area_behind (s ∷ statements_of before)) (stretch_behind (s ∷ statements_of before)) (length before) []
+    (local_entries (defined_by s) (stretch_behind (s ∷ statements_of before)) (length before) (offset_behind s before) ++ locals_of before))
+back_behind_is s before =
+    back_is (area_behind (s ∷ statements_of before)) (stretch_behind (s ∷ statements_of before)) (length before) []
+    (local_entries (defined_by s) (stretch_behind (s ∷ statements_of before)) (length before) (offset_behind s before) ++ locals_of before)
+
+pub imported_regular : (d : Declared) (s : Statement) (before : List LaidLine) (o : Option (List ℕ)) → AreRegular (imported_lines d s before o)
+imported_regular d s before None = tt
+imported_regular d s before (Some name) = (
+  back_behind_is s before,
+  forth_is (area_behind (s ∷ statements_of before)) (stretch_behind (s ∷ statements_of before)) (length before) [] d.locals,
+  own_place name,
+  tt,
+)
+
+pub lines_regular : (d : Declared) (locals : List Local) (ss : List Statement) → AreRegular (final_lines locals (laid_of d ss))
+lines_regular d locals [] = tt
+lines_regular d locals (s ∷ ss) =
+    regular_joined (final_lines locals (laid_of d ss)) (final_line locals (laid_behind d s (laid_of d ss)) (laid_of d ss) ∷ imported_lines d s (laid_of d ss) (imported_in s.what))
+    (lines_regular d locals ss) (
+      back_behind_is s (laid_of d ss),
+      forth_is (area_behind (s ∷ statements_of (laid_of d ss))) (stretch_behind (s ∷ statements_of (laid_of d ss))) (length (laid_of d ss)) [] locals,
+      definition_regular d.names (defined_by s) (area_behind (s ∷ statements_of (laid_of d ss))) (offset_behind s (laid_of d ss))
+          (laid_behind d s (laid_of d ss)).size (is_thumb_label s (statements_of (laid_of d ss))) (map_behind (laid_of d ss)),
+      imported_regular d s (laid_of d ss) (imported_in s.what),
+    )

@@ -1,0 +1,211 @@
+-- In a source without faults each name for an expression has its final entry after as many rounds as there are lines.
+use Rattle.std.proofs.Common.{◌≡◌, ℕ, zero, suc, ◌≤◌, List, [], ◌∷◌, ◌++◌, length, Bool, true, false, not, ◌||◌, refl, sym, ◌∙◌, ap, subst, arith, Option, Some, None, length-append}
+use Rattle.std.specs.List.{list_any}
+use Rattle.std.proofs.lemmas.Bool.{and_parts, or_parts}
+use Rattle.asm_model.specs.declared.exprs.Expr.{Expr}
+use Rattle.asm_model.specs.declared.exprs.ExprItem.{ExprItem}
+use Rattle.asm_model.specs.declared.exprs.ExprItem.TheVariants as item
+use Rattle.asm_model.specs.declared.values.Value.{Value}
+use Rattle.asm_model.specs.declared.values.Value.TheVariants.{Number, Truth, Words, Place}
+use Rattle.asm_model.specs.declared.names.LaidName.{LaidName}
+use Rattle.asm_model.specs.declared.statements.Statement.{Statement}
+use Rattle.asm_model.specs.AtLine.{SourceLine}
+use Rattle.asm_model.specs.Forms.{same}
+use Rattle.asm_model.specs.Grammar.{Tree}
+use Rattle.asm_model.proofs.WordLemmas.{same_refl}
+use Rattle.layout_model.specs.Labels.{Defined, Unnamed, LocalLabel, Label, Equal, MapField, RegisterName, defined_by}
+use Rattle.layout_model.specs.Laid.{Declared, declared, laid_of, laid, final_lines, all_locals, source_lines, all_entries, names_after, final_names}
+use Rattle.layout_model.specs.LayoutKinds.{equal_of, equals_in, is_settled_item, are_settled, settled_by, settled_after, settled}
+use Rattle.layout_model.specs.Locals.{Local}
+use Rattle.layout_model.specs.Trees.{grown, grown_behind, alone, tree_behind}
+use Rattle.layout_laws.specs.Sound.{IsSound, IsBare, IsNoPlace, HaveNoPlaces, ArePlain}
+use Rattle.layout_laws.proofs.EqualLemmas.{EachEqual, OfTrees, equal_all, equal_weaker, equal_both, lines_hold, lines_regular}
+use Rattle.layout_laws.proofs.RoundLemmas.{SymbolIs, ItemIs, TreeIs, tree_weaker}
+use Rattle.layout_laws.proofs.SoundLemmas.{EachSound, sound_each, equals_distinct, equals_settled, IsPlainEqual, equals_plain, IsSettledIn, settled_unique}
+use Rattle.layout_laws.proofs.StepLemmas.{EachEquated, each_weaker, IsGood, good_more, rounds, rounds_end}
+
+-- ---- trees of items
+
+abbrev pub ItemsAre : (List ℕ → Type 0) → List ExprItem → Type 0
+ItemsAre P [] = Unit {0}
+ItemsAre P (i ∷ is) = ItemIs P i × ItemsAre P is
+
+abbrev pub TreesAre : (List ℕ → Type 0) → List Tree → Type 0
+TreesAre P [] = Unit {0}
+TreesAre P (t ∷ ts) = TreeIs P t × TreesAre P ts
+
+abbrev pub SomeAre : (List ℕ → Type 0) → Option (List Tree) → Type 0
+SomeAre P None = Unit {0}
+SomeAre P (Some ts) = TreesAre P ts
+
+pub grown_are : (P : List ℕ → Type 0) (i : ExprItem) (ts : List Tree) → ItemIs P i → TreesAre P ts → SomeAre P (grown i ts)
+grown_are P (item.Unary op) [] h k = tt
+grown_are P (item.Unary op) (t ∷ ts) h k = k
+grown_are P (item.Binary op) [] h k = tt
+grown_are P (item.Binary op) (u ∷ []) h k = tt
+grown_are P (item.Binary op) (u ∷ t ∷ ts) h k = ((k.1.0, k.0), k.1.1)
+grown_are P (item.Name q) ts h k = (h, k)
+grown_are P (item.Local q) ts h k = (h, k)
+grown_are P (item.Constant v) ts h k = (h, k)
+grown_are P item.Here ts h k = (h, k)
+grown_are P item.Map ts h k = (h, k)
+grown_are P item.CodeSize ts h k = (h, k)
+
+pub grown_behind_are : (P : List ℕ → Type 0) (i : ExprItem) (o : Option (List Tree)) → ItemIs P i → SomeAre P o → SomeAre P (grown_behind o i)
+grown_behind_are P i None h k = tt
+grown_behind_are P i (Some ts) h k = grown_are P i ts h k
+
+pub alone_is : (P : List ℕ → Type 0) (o : Option (List Tree)) (t : Tree) → SomeAre P o → alone o ≡ Some t → TreeIs P t
+alone_is P None t h e = absurd (cc)
+alone_is P (Some []) t h e = absurd (cc)
+alone_is P (Some (u ∷ [])) t h e = let x : u ≡ t = cc in subst (λ z. TreeIs P z) x h.0
+alone_is P (Some (u ∷ v ∷ ts)) t h e = absurd (cc)
+
+pub tree_of_items : (P : List ℕ → Type 0) (is : List ExprItem) (o : Option (List Tree)) (t : Tree) → ItemsAre P is → SomeAre P o
+    → tree_behind o is ≡ Some t → TreeIs P t
+tree_of_items P [] o t h k e = alone_is P o t k e
+tree_of_items P (i ∷ is) o t h k e = tree_of_items P is (grown_behind o i) t h.1 (grown_behind_are P i o h.0 k) e
+
+-- ---- settled names are good
+
+pub no_place_is : (P : List ℕ → Type 0) (v : Value) → IsNoPlace v → SymbolIs P v
+no_place_is P (Place s n) h = absurd h
+no_place_is P (Number n) h = tt
+no_place_is P (Truth b) h = tt
+no_place_is P (Words w) h = tt
+
+pub either_good : (X : Type 0) (a b : Bool) → (a ≡ false → X) → (b ≡ true → X) → (not a || b) ≡ true → X
+either_good X false b f g h = f refl
+either_good X true b f g h = g h
+
+pub items_are : (P : List ℕ → Type 0) (E : List (List ℕ × Expr)) (S : List (List ℕ))
+    → ((r : List ℕ) → list_any (λ e. same r e.0) E ≡ false → P r) → ((r : List ℕ) → list_any (same r) S ≡ true → P r) → ((r : List ℕ) → P (124 ∷ r))
+    → (is : List ExprItem) → are_settled E S is ≡ true → HaveNoPlaces is → ItemsAre P is
+items_are P E S free deep bare [] h k = tt
+items_are P E S free deep bare (i ∷ is) h k =
+    let p = and_parts (is_settled_item E S i) (are_settled E S is) h in (by_item i p.0 (k.0, tt), items_are P E S free deep bare is p.1 k.1)
+  where
+    by_item : (i : ExprItem) → is_settled_item E S i ≡ true → HaveNoPlaces (i ∷ []) → ItemIs P i
+    by_item (item.Name r) e n = either_good (P r) (list_any (λ e. same r e.0) E) (list_any (same r) S) (free r) (deep r) e
+    by_item (item.Local r) e n = bare r
+    by_item (item.Constant v) e n = no_place_is P v n.0
+    by_item item.Here e n = tt
+    by_item item.Map e n = tt
+    by_item item.CodeSize e n = tt
+    by_item (item.Unary op) e n = tt
+    by_item (item.Binary op) e n = tt
+
+pub found_name : (E : List (List ℕ × Expr)) (r : List ℕ) → list_any (λ e. same r e.0) E ≡ false → EachEqual (λ p e. same r p ≡ false) E
+found_name [] r h = tt
+found_name (x ∷ xs) r h = let p = or_parts (same r x.0) (list_any (λ e. same r e.0) xs) h in (p.0, found_name xs r p.1)
+
+pub other_name : (X : Type 0) (r p : List ℕ) → same r p ≡ false → p ≡ r → X
+other_name X r p h e = let x : same r p ≡ true = subst (λ z. same r z ≡ true) (sym e) (same_refl r) in absurd (cc)
+
+pub not_bare : (X : Type 0) (p r : List ℕ) → IsBare p → p ≡ 124 ∷ r → X
+not_bare X p r h e = absurd ((subst IsBare e h) refl)
+
+-- what has no expression is good
+pub free_good : (d : Declared) (locals : List Local) (ss : List Statement) (k : ℕ) (r : List ℕ) → list_any (λ e. same r e.0) (equals_in ss) ≡ false
+    → IsGood (final_lines locals (laid_of d ss)) (suc k) r
+free_good d locals ss k r h =
+    let P = IsGood (final_lines locals (laid_of d ss)) k in
+    lines_hold (λ p t. p ≡ r → TreeIs P t) d locals ss
+    (equal_weaker (λ p e. same r p ≡ false) (OfTrees (λ p t. p ≡ r → TreeIs P t)) (λ p e a t s x. other_name (TreeIs P t) r p a x) (equals_in ss)
+    (found_name (equals_in ss) r h))
+
+pub local_good : (d : Declared) (locals : List Local) (ss : List Statement) (k : ℕ) (r : List ℕ) → EachEqual IsPlainEqual (equals_in ss)
+    → IsGood (final_lines locals (laid_of d ss)) (suc k) (124 ∷ r)
+local_good d locals ss k r plain =
+    let P = IsGood (final_lines locals (laid_of d ss)) k in
+    lines_hold (λ p t. p ≡ 124 ∷ r → TreeIs P t) d locals ss
+    (equal_weaker IsPlainEqual (OfTrees (λ p t. p ≡ 124 ∷ r → TreeIs P t)) (λ p e a t s x. not_bare (TreeIs P t) p r a.0 x) (equals_in ss) plain)
+
+-- the names in the expression of a settled name are good
+abbrev pub Leads : List SourceLine → List (List ℕ × Expr) → ℕ → List ℕ → Expr → Type 0
+Leads ls E k p e = list_any (same p) (settled_after k E) ≡ true → OfTrees (λ q t. TreeIs (IsGood ls k) t) p e
+
+pub deep_good : (d : Declared) (locals : List Local) (ss : List Statement) (k : ℕ) (r : List ℕ)
+    → EachEqual (Leads (final_lines locals (laid_of d ss)) (equals_in ss) k) (equals_in ss)
+    → list_any (same r) (settled_after k (equals_in ss)) ≡ true → IsGood (final_lines locals (laid_of d ss)) (suc k) r
+deep_good d locals ss k r before h =
+    let P = IsGood (final_lines locals (laid_of d ss)) k in
+    lines_hold (λ p t. p ≡ r → TreeIs P t) d locals ss
+    (equal_weaker (Leads (final_lines locals (laid_of d ss)) (equals_in ss) k) (OfTrees (λ p t. p ≡ r → TreeIs P t))
+    (λ p e f t s x. f (subst (λ z. list_any (same z) (settled_after k (equals_in ss)) ≡ true) (sym x) h) t s) (equals_in ss) before)
+
+pub settled_lead : (d : Declared) (locals : List Local) (ss : List Statement) (S : List (List ℕ)) → EachSound S ss → ArePlain ss → (k : ℕ)
+    → EachEqual (Leads (final_lines locals (laid_of d ss)) (equals_in ss) k) (equals_in ss)
+settled_lead d locals ss S sound plain zero =
+    equal_all (Leads (final_lines locals (laid_of d ss)) (equals_in ss) zero) (λ p e h. absurd (cc)) (equals_in ss)
+settled_lead d locals ss S sound plain (suc k) =
+    let E = equals_in ss in
+    let ls = final_lines locals (laid_of d ss) in
+    let before = settled_lead d locals ss S sound plain k in
+    let plains = equals_plain ss plain in
+    equal_both (IsSettledIn E (settled_after k E) (settled_by E (settled_after k E) E)) IsPlainEqual (Leads ls E (suc k))
+    (λ p e f a h t s.
+    tree_of_items (IsGood ls (suc k)) e.items (Some []) t
+    (items_are (IsGood ls (suc k)) E (settled_after k E) (free_good d locals ss k) (λ r. deep_good d locals ss k r before)
+    (λ r. local_good d locals ss k r plains) e.items (f h) a.1) tt s) E
+    (settled_unique E (settled_after k E) E (equals_distinct S ss sound)) plains
+
+-- ---- enough rounds
+
+pub few_equals : (x : Defined) (xs : List (List ℕ × Expr)) (n : ℕ) → length xs ≤ n → length (xs ++ equal_of x) ≤ suc n
+few_equals Unnamed xs n h = omega (arith, length-append xs (equal_of Unnamed))
+few_equals (LocalLabel m) xs n h = omega (arith, length-append xs (equal_of (LocalLabel m)))
+few_equals (Label name) xs n h = omega (arith, length-append xs (equal_of (Label name)))
+few_equals (Equal name e) xs n h = omega (arith, length-append xs (equal_of (Equal name e)))
+few_equals (MapField name) xs n h = omega (arith, length-append xs (equal_of (MapField name)))
+few_equals (RegisterName name r) xs n h = omega (arith, length-append xs (equal_of (RegisterName name r)))
+
+pub equals_few : (d : Declared) (ss : List Statement) → length (equals_in ss) ≤ length (laid_of d ss)
+equals_few d [] = omega arith
+equals_few d (s ∷ ss) = few_equals (defined_by s) (equals_in ss) (length (laid_of d ss)) (equals_few d ss)
+
+pub all_lead : (ss : List Statement) → IsSound ss → ArePlain ss
+    → EachEquated (λ p t. TreeIs (IsGood (source_lines (laid ss)) (length (laid ss))) t) (source_lines (laid ss))
+all_lead ss h plain =
+    let E = equals_in ss in
+    let ls = source_lines (laid ss) in
+    let sound = sound_each (settled E) (declared ss) ss h in
+    let m = length E in
+    let R = λ (p : List ℕ) (t : Tree). TreeIs (IsGood ls m) t in
+    each_weaker R (λ p t. TreeIs (IsGood ls (length (laid ss))) t)
+    (λ p t x. tree_weaker (IsGood ls m) (IsGood ls (length (laid ss))) (good_more ls m (length (laid ss)) (equals_few (declared ss) ss)) t x) ls
+    (lines_hold R (declared ss) (all_locals (laid ss)) ss
+    (equal_both (λ p e. list_any (same p) (settled E) ≡ true) (Leads ls E m) (OfTrees R) (λ p e a f. f a) E
+    (equals_settled (settled E) ss sound)
+    (settled_lead (declared ss) (all_locals (laid ss)) ss (settled E) sound plain m)))
+
+pub source_end : (ss : List Statement) → IsSound ss → ArePlain ss → (xs ys : List LaidName)
+    → rounds (suc (length (laid ss))) (source_lines (laid ss)) xs ≡ rounds (suc (length (laid ss))) (source_lines (laid ss)) ys
+source_end ss h plain =
+    rounds_end (source_lines (laid ss)) (lines_regular (declared ss) (all_locals (laid ss)) ss) (length (laid ss)) (all_lead ss h plain)
+
+pub after_rounds : (k : ℕ) (ls : List SourceLine) → names_after k ls ≡ rounds (suc k) ls []
+after_rounds zero ls = refl
+after_rounds (suc k) ls = ap (λ z. all_entries z ls) (after_rounds k ls)
+
+pub rounds_on : (k : ℕ) (ls : List SourceLine) (xs : List LaidName) → rounds (suc k) ls xs ≡ rounds k ls (all_entries xs ls)
+rounds_on zero ls xs = refl
+rounds_on (suc k) ls xs = ap (λ z. all_entries z ls) (rounds_on k ls xs)
+
+pub rounds_stay : (k : ℕ) (ls : List SourceLine) (xs : List LaidName) → all_entries xs ls ≡ xs → rounds k ls xs ≡ xs
+rounds_stay zero ls xs h = refl
+rounds_stay (suc k) ls xs h = ap (λ z. all_entries z ls) (rounds_stay k ls xs h) ∙ h
+
+pub final_names_are_their_entries : (ss : List Statement) → IsSound ss → ArePlain ss
+    → all_entries (final_names (laid ss)) (source_lines (laid ss)) ≡ final_names (laid ss)
+final_names_are_their_entries ss h plain =
+    let ls = source_lines (laid ss) in
+    let n = length (laid ss) in
+    ap (λ z. all_entries z ls) (after_rounds n ls) ∙ rounds_on (suc n) ls [] ∙ source_end ss h plain (all_entries [] ls) [] ∙ sym (after_rounds n ls)
+
+pub no_other_names_are : (ss : List Statement) → IsSound ss → ArePlain ss → (names : List LaidName) → all_entries names (source_lines (laid ss)) ≡ names
+    → names ≡ final_names (laid ss)
+no_other_names_are ss h plain names e =
+    let ls = source_lines (laid ss) in
+    let n = length (laid ss) in
+    sym (rounds_stay (suc n) ls names e) ∙ source_end ss h plain names [] ∙ sym (after_rounds n ls)

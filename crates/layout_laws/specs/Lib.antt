@@ -1,0 +1,3 @@
+-- What the laws of final names cite.
+pub mod Final
+pub mod Sound

@@ -1,0 +1,13 @@
+//! Laws of the definitions, each proved as the contract of an empty function.
+
+ghost use Rattle.layout_laws.specs.Final.{FinalNamesAreTheirEntries, NoOtherNamesAre};
+
+/// One more round changes no final name.
+pub fn final_names_are_their_entries()
+    ensures { FinalNamesAreTheirEntries }
+{}
+
+/// Names that a round doesn't change are the final ones.
+pub fn no_other_names_are()
+    ensures { NoOtherNamesAre }
+{}
