@@ -1,4 +1,8 @@
 pub mod EqualLemmas
+pub mod FinalLemmas
+pub mod ForthLemmas
+pub mod KnownLemmas
+pub mod NamedLemmas
 pub mod RoundLemmas
 pub mod SettledLemmas
 pub mod SoundLemmas

@@ -1,9 +1,12 @@
 -- The final names of a source without faults are the only ones that a round doesn't change; so they can be found in any
--- order. This project's.
-use Rattle.std.specs.Prelude.{◌≡◌, List}
+-- order. What is known at a line has its final value there. This project's.
+use Rattle.std.specs.Prelude.{◌≡◌, List, ◌∷◌, ◌++◌, Ok}
+use Rattle.asm_model.specs.declared.exprs.Expr.{Expr}
+use Rattle.asm_model.specs.declared.values.Value.{Value}
 use Rattle.asm_model.specs.declared.names.LaidName.{LaidName}
 use Rattle.asm_model.specs.declared.statements.Statement.{Statement}
-use Rattle.layout_model.specs.Laid.{laid, source_lines, all_entries, final_names}
+use Rattle.layout_model.specs.Extents.{value_there}
+use Rattle.layout_model.specs.Laid.{LaidLine, laid, all_locals, final_line, source_lines, all_entries, final_names, final_value}
 use Rattle.layout_laws.specs.Sound.{IsSound, ArePlain}
 
 -- one more round changes nothing
@@ -18,3 +21,11 @@ NoOtherNamesAre =
     (statements : List Statement) → IsSound statements → ArePlain statements
     → (names : List LaidName) → all_entries names (source_lines (laid statements)) ≡ names
     → names ≡ final_names (laid statements)
+
+-- at each line, behind those before it, a value that is known is the final one
+abbrev pub KnownValuesAreFinal : Type 0
+KnownValuesAreFinal =
+    (statements : List Statement) → IsSound statements → ArePlain statements
+    → (after before : List LaidLine) (l : LaidLine) → laid statements ≡ after ++ l ∷ before
+    → (e : Expr) (v : Value) → value_there l.seen e ≡ Ok v
+    → final_value (final_names (laid statements)) (final_line (all_locals (laid statements)) l before) e ≡ Ok v

@@ -1,6 +1,6 @@
 //! Laws of the definitions, each proved as the contract of an empty function.
 
-ghost use Rattle.layout_laws.specs.Final.{FinalNamesAreTheirEntries, NoOtherNamesAre};
+ghost use Rattle.layout_laws.specs.Final.{FinalNamesAreTheirEntries, KnownValuesAreFinal, NoOtherNamesAre};
 
 /// One more round changes no final name.
 pub fn final_names_are_their_entries()
@@ -10,4 +10,9 @@ pub fn final_names_are_their_entries()
 /// Names that a round doesn't change are the final ones.
 pub fn no_other_names_are()
     ensures { NoOtherNamesAre }
+{}
+
+/// A value that is known at its line is the final one.
+pub fn known_values_are_final()
+    ensures { KnownValuesAreFinal }
 {}
