@@ -1,6 +1,7 @@
 pub mod EqualLemmas
 pub mod FinalLemmas
 pub mod ForthLemmas
+pub mod FoundLemmas
 pub mod KnownLemmas
 pub mod NamedLemmas
 pub mod RoundLemmas

@@ -1,3 +1,4 @@
 -- What the laws of final names cite.
 pub mod Final
+pub mod Found
 pub mod Sound
