@@ -1,4 +1,5 @@
 -- What the laws of final names cite.
 pub mod Final
 pub mod Found
+pub mod Said
 pub mod Sound

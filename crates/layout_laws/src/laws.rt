@@ -2,6 +2,7 @@
 
 ghost use Rattle.layout_laws.specs.Final.{FinalNamesAreTheirEntries, KnownValuesAreFinal, NoOtherNamesAre};
 ghost use Rattle.layout_laws.specs.Found.{EachNameIsOnce, EqualNamesStand, ImportsStand, LabelsStand, MapFieldsStand};
+ghost use Rattle.layout_laws.specs.Said.{ReadExpressionsArePlain, ReadNamesAreBare};
 
 /// One more round changes no final name.
 pub fn final_names_are_their_entries()
@@ -41,4 +42,14 @@ pub fn equal_names_stand()
 /// Each name has one entry.
 pub fn each_name_is_once()
     ensures { EachNameIsOnce }
+{}
+
+/// An expression that tokens spell has no place as a constant.
+pub fn read_expressions_are_plain()
+    ensures { ReadExpressionsArePlain }
+{}
+
+/// A name that is read begins with no bar.
+pub fn read_names_are_bare()
+    ensures { ReadNamesAreBare }
 {}
