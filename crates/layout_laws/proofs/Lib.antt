@@ -5,6 +5,7 @@ pub mod FoundLemmas
 pub mod KnownLemmas
 pub mod NamedLemmas
 pub mod RoundLemmas
+pub mod Rows
 pub mod SaidLemmas
 pub mod SettledLemmas
 pub mod SoundLemmas

@@ -1,0 +1,89 @@
+-- Worked sources: final names; and sources that no lines say, where other names don't change either.
+use Rattle.std.proofs.Common.{◌≡◌, ℕ, List, [], ◌∷◌, false, refl, Option, Some, None, codes, arith}
+use Rattle.asm_model.specs.declared.exprs.BinaryOp.TheVariants.{Add, Subtract}
+use Rattle.asm_model.specs.declared.exprs.ExprItem.{ExprItem}
+use Rattle.asm_model.specs.declared.exprs.ExprItem.TheVariants as item
+use Rattle.asm_model.specs.declared.names.LaidName.{LaidName}
+use Rattle.asm_model.specs.declared.values.Value.TheVariants.{Number, Place}
+use Rattle.asm_model.specs.declared.statements.Statement.{Statement}
+use Rattle.asm_model.specs.declared.statements.What.TheVariants as what
+use Rattle.asm_model.specs.declared.directives.Contents.TheVariants as contents
+use Rattle.asm_model.specs.declared.directives.DirectiveLine.{DirectiveLine}
+use Rattle.asm_model.specs.declared.directives.DirectiveLine.TheVariants as line
+use Rattle.layout_model.specs.Entries.{label_entry, valued_entry}
+use Rattle.layout_model.specs.Laid.{laid, source_lines, all_entries, final_names}
+use Rattle.layout_laws.specs.Sound.{IsSound, ArePlain}
+
+abbrev says : ℕ → Option (List ℕ) → DirectiveLine → Statement
+says n label l = record { source = codes "t.s"; number = n; label = label; what = what.Directive l }
+
+abbrev area : Statement
+area = says 1 None (line.Area (codes "a") (record {
+  contents = contents.Data;
+  read_only = false;
+  interwork = false;
+  halfword = false;
+  pic = false;
+  reentrant = false;
+  align = None;
+}))
+
+abbrev equal : ℕ → List ℕ → List ExprItem → Statement
+equal n name items = says n (Some name) (line.Equ (record { items = items }))
+
+-- AREA a,DATA / y EQU x + 4 / DCD 1 / x EQU z / z DCD 1, the last first
+abbrev forward : List Statement
+forward =
+    says 5 (Some (codes "z")) (line.Dcd (record { items = item.Constant (Number 1) ∷ [] } ∷ []))
+    ∷ equal 4 (codes "x") (item.Name (codes "z") ∷ [])
+    ∷ says 3 None (line.Dcd (record { items = item.Constant (Number 1) ∷ [] } ∷ []))
+    ∷ equal 2 (codes "y") (item.Name (codes "x") ∷ item.Constant (Number 4) ∷ item.Binary Add ∷ [])
+    ∷ area
+    ∷ []
+
+pub forward_sound : IsSound forward
+forward_sound = refl
+
+pub forward_plain : ArePlain forward
+forward_plain = (λ e. absurd (omega arith), tt, ((λ e. absurd (omega arith), (tt, tt)), tt, (tt, tt, ((λ e. absurd (omega arith), (tt, (tt, (tt, tt)))), tt, (tt, tt, tt)))))
+
+pub forward_final : final_names (laid forward)
+    ≡ valued_entry (codes "y") (Place (codes "z") 4) false ∷ valued_entry (codes "x") (Place (codes "z") 0) false ∷ label_entry (codes "z") (Some 0) 4 4 false ∷ []
+forward_final = refl
+
+-- a name with a bar before it, which is what its own reference to a local label names
+abbrev barred : List Statement
+barred = equal 1 (124 ∷ codes "%B1") (item.Local (codes "%B1") ∷ []) ∷ []
+
+pub barred_sound : IsSound barred
+barred_sound = refl
+
+pub barred_final : final_names (laid barred) ≡ []
+barred_final = refl
+
+abbrev others : ℕ → List LaidName
+others n = valued_entry (124 ∷ codes "%B1") (Number n) false ∷ []
+
+pub barred_others : (n : ℕ) → all_entries (others n) (source_lines (laid barred)) ≡ others n
+barred_others n = refl
+
+-- AREA a,DATA / l EQU . / b EQU . + a / a EQU b - l, of places as constants
+abbrev placed : List Statement
+placed =
+    equal 4 (codes "a") (item.Constant (Place (codes "b") 0) ∷ item.Constant (Place (codes "l") 0) ∷ item.Binary Subtract ∷ [])
+    ∷ equal 3 (codes "b") (item.Here ∷ item.Name (codes "a") ∷ item.Binary Add ∷ [])
+    ∷ equal 2 (codes "l") (item.Here ∷ [])
+    ∷ area
+    ∷ []
+
+pub placed_sound : IsSound placed
+placed_sound = refl
+
+pub placed_final : final_names (laid placed) ≡ label_entry (codes "l") (Some 0) 0 0 false ∷ []
+placed_final = refl
+
+abbrev moved : List LaidName
+moved = label_entry (codes "l") (Some 0) 0 0 false ∷ label_entry (codes "b") (Some 0) 8 0 false ∷ valued_entry (codes "a") (Number 8) false ∷ []
+
+pub placed_others : all_entries moved (source_lines (laid placed)) ≡ moved
+placed_others = refl
