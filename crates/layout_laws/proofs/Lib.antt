@@ -3,6 +3,7 @@ pub mod FinalLemmas
 pub mod ForthLemmas
 pub mod FoundLemmas
 pub mod KnownLemmas
+pub mod LineLemmas
 pub mod NamedLemmas
 pub mod RoundLemmas
 pub mod Rows

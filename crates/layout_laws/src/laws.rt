@@ -2,7 +2,7 @@
 
 ghost use Rattle.layout_laws.specs.Final.{FinalNamesAreTheirEntries, KnownValuesAreFinal, NoOtherNamesAre};
 ghost use Rattle.layout_laws.specs.Found.{EachNameIsOnce, EqualNamesStand, ImportsStand, LabelsStand, MapFieldsStand};
-ghost use Rattle.layout_laws.specs.Said.{ReadExpressionsArePlain, ReadNamesAreBare};
+ghost use Rattle.layout_laws.specs.Said.{OtherStatementsArePlain, ReadDirectivesArePlain, ReadExpressionsArePlain, ReadNamesAreBare};
 
 /// One more round changes no final name.
 pub fn final_names_are_their_entries()
@@ -52,4 +52,14 @@ pub fn read_expressions_are_plain()
 /// A name that is read begins with no bar.
 pub fn read_names_are_bare()
     ensures { ReadNamesAreBare }
+{}
+
+/// What a line says as a directive is as sources have it.
+pub fn read_directives_are_plain()
+    ensures { ReadDirectivesArePlain }
+{}
+
+/// So is each statement that is no directive.
+pub fn other_statements_are_plain()
+    ensures { OtherStatementsArePlain }
 {}
