@@ -128,11 +128,6 @@ pub field_bare : (text : List ℕ) (t : Option Token) (o : Option (List ℕ)) �
 field_bare text None o h e = absurd (cc)
 field_bare text (Some t) o h e = label_bare t.kind (piece text t) o h e
 
-pub alone_bare : (text : List ℕ) (ts : List Token) (n : List ℕ) → EachHasForm text ts → name_alone text ts ≡ Ok n → IsBare n
-alone_bare text [] n h e = absurd (cc)
-alone_bare text (t ∷ []) n h e = word_bare t.kind (piece text t) n h.0 e
-alone_bare text (t ∷ u ∷ ts) n h e = absurd (cc)
-
 -- ---- directives
 
 -- what the operands of a form give
