@@ -1,0 +1,48 @@
+//! Copies of entries and items.
+
+ghost use Rattle.std.specs.Prelude.{◌≡◌, ◌∷◌, IfOk};
+
+use asm_model::{ExprItem, LaidName};
+use sdt_fault::{NoMemory, Text};
+use std::alloc::Global;
+
+/// A copy of an entry.
+pub fn entry_copy(alloc: Global, entry: &LaidName) -> Result<LaidName, NoMemory>
+    ensures { IfOk result (λ copy. copy ≡ entry.now) }
+{
+    let name = entry.name.try_clone(alloc)?;
+    let value = entry.value.try_clone(alloc)?;
+    Ok(LaidName {
+        name,
+        value,
+        area: entry.area,
+        offset: entry.offset,
+        size: entry.size,
+        thumb: entry.thumb,
+    })
+}
+
+/// A copy of an item.
+pub fn item_copy(alloc: Global, item: &ExprItem) -> Result<ExprItem, NoMemory>
+    ensures { IfOk result (λ copy. copy ≡ item.now) }
+{
+    match item {
+        ExprItem::Name(name) => Ok(ExprItem::Name(name.try_clone(alloc)?)),
+        ExprItem::Local(name) => Ok(ExprItem::Local(name.try_clone(alloc)?)),
+        ExprItem::Constant(value) => Ok(ExprItem::Constant(value.try_clone(alloc)?)),
+        ExprItem::Here => Ok(ExprItem::Here),
+        ExprItem::Map => Ok(ExprItem::Map),
+        ExprItem::CodeSize => Ok(ExprItem::CodeSize),
+        ExprItem::Unary(op) => Ok(ExprItem::Unary(*op)),
+        ExprItem::Binary(op) => Ok(ExprItem::Binary(*op)),
+    }
+}
+
+/// The name under which a reference to a local label is found: its text behind a bar.
+pub fn barred(alloc: Global, reference: &Text) -> Result<Text, NoMemory>
+    ensures { IfOk result (λ name. name ≡ 124 ∷ reference.now) }
+{
+    let mut bytes = Vec::from_slice(alloc, b"|")?;
+    bytes.extend_from_slice(reference.as_slice())?;
+    Ok(Text::from_vec(bytes))
+}
