@@ -39,7 +39,7 @@ pub stays : (a b : LineKind) → nat_lt (rank b) (rank a) ≡ false → earlier 
 stays a b h = cond-false (nat_lt (rank b) (rank a)) b a h
 
 -- the earlier of two is one of them, and no later than both
-record IsEarlier (a b c : LineKind) : Type 0 where
+pub record IsEarlier (a b c : LineKind) : Type 0 where
   one : (c ≡ a) ⊎ (c ≡ b)
   first : rank c ≤ rank a
   second : rank c ≤ rank b
