@@ -18,11 +18,6 @@ use Rattle.asm_offsets.proofs.PlaceLemmas.{notes, waits_behind}
 
 -- ---- entries that are placed stay
 
-get_front : {X : Type 0} (xs ys : List X) (i : ℕ) (x : X) → slice_get xs i ≡ Some x → slice_get (xs ++ ys) i ≡ Some x
-get_front [] ys i x e = absurd (cc)
-get_front (y ∷ xs) ys zero x e = e
-get_front (y ∷ xs) ys (suc i) x e = get_front xs ys i x e
-
 place_front : (xs ys : List (Value × ℕ)) (i w : ℕ) → option_map (λ (e : Value × ℕ). e.1) (slice_get xs i) ≡ Some w
     → option_map (λ (e : Value × ℕ). e.1) (slice_get (xs ++ ys) i) ≡ Some w
 place_front [] ys i w e = absurd (cc)

@@ -1,4 +1,4 @@
--- Where the word of a statement's literal stands, and what statements' extents are.
+-- Where the word of a statement's literal stands, and what statements' extents are. This project's.
 use Rattle.std.specs.Prelude.{◌≡◌, ℕ, List, [], ◌∷◌, Some, Ok}
 use Rattle.asm_model.specs.declared.values.Value.{Value}
 use Rattle.asm_model.specs.declared.statements.What.{What}
