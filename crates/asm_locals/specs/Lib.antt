@@ -1,0 +1,3 @@
+-- What the clauses of layout cite.
+pub mod Found
+pub mod Tables

@@ -1,0 +1,4 @@
+mod EndLemmas
+mod ExtentLemmas
+mod PlaceLemmas
+mod WordLemmas
