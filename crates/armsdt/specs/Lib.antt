@@ -1,2 +1,3 @@
 -- What the clauses of the program cite.
 pub mod Carried
+pub mod Shown

@@ -8,9 +8,10 @@ use Rattle.tool_words.specs.declared.command.Command.TheVariants as command
 use Rattle.tool_words.specs.declared.command.WordsFault.{WordsFault}
 use Rattle.tool_words.specs.declared.command.WordsFault.TheVariants as fault
 use Rattle.tool_words.specs.Commands.{Reads}
-use Rattle.tool_answers.specs.Outcomes.{Outside, IsLeft}
-use Rattle.tool_library.specs.Libraries.{created, listed, extracted}
+use Rattle.tool_answers.specs.Outcomes.{Outside, IsLeft, OfAll, OfOne}
+use Rattle.tool_library.specs.Libraries.{created, creates, listed, lists, extracted, extracts}
 use Rattle.tool_listing.specs.Lists.{listing_of}
+use Rattle.tool_listing.specs.Lists as listing
 use Rattle.arm7_bus.specs.Seats.{Seat}
 use Rattle.tool_library.proofs.AnswerLemmas as answers
 use Rattle.tool_run.proofs.RunLemmas.{no_memory}
@@ -21,10 +22,10 @@ asked c (Ok d) o seats left a h says = subst (λ (e : Command). Commanded (Ok e)
 asked c (Err place) o seats left a h says = absurd h
 
 unasked : (c : Command) (o : Outside) (seats : List Seat) → IsLeft o → Commanded (Ok c) o seats seats answer.NoMemory
-unasked (command.CreateLibrary library objects) o seats left = (answers.no_memory (created library objects) objects o left, refl)
-unasked (command.ListMembers library) o seats left = (answers.no_memory (listed library) (library ∷ []) o left, refl)
-unasked (command.ExtractMember library member output) o seats left = (answers.no_memory (extracted library member output) (library ∷ []) o left, refl)
-unasked (command.List file) o seats left = (answers.no_memory (listing_of file) (file ∷ []) o left, refl)
+unasked (command.CreateLibrary library objects) o seats left = (answers.no_memory (created library objects) (OfAll (creates library objects) objects) objects o (creates library objects objects) (objects, refl, refl) left, refl)
+unasked (command.ListMembers library) o seats left = (answers.no_memory (listed library) (OfOne (lists library)) (library ∷ []) o (lists library []) ([], refl) left, refl)
+unasked (command.ExtractMember library member output) o seats left = (answers.no_memory (extracted library member output) (OfOne (extracts library member output)) (library ∷ []) o (extracts library member output []) ([], refl) left, refl)
+unasked (command.List file) o seats left = (answers.no_memory (listing_of file) (OfOne (listing.lists file)) (file ∷ []) o (listing.lists file []) ([], refl) left, refl)
 unasked (command.Run run) o seats left = no_memory run o seats seats (record { outside = left; devices = refl })
 
 pub refused : (e : WordsFault) (x : Result Command ℕ) (o : Outside) (seats : List Seat) (a : Answer) → Reads (Err e) x → RefusedBy e a → IsLeft o → Commanded x o seats seats a

@@ -8,10 +8,11 @@ use Rattle.tool_words.specs.declared.command.Command.TheVariants as command
 use Rattle.tool_words.specs.declared.command.WordsFault.{WordsFault}
 use Rattle.tool_words.specs.declared.command.WordsFault.TheVariants as fault
 use Rattle.tool_words.specs.Items.{word_at}
-use Rattle.tool_answers.specs.Outcomes.{Outside, IsLeft, Answers}
-use Rattle.tool_library.specs.Libraries.{created, listed, extracted}
+use Rattle.tool_answers.specs.Outcomes.{Outside, IsLeft, Answers, OfAll, OfOne}
+use Rattle.tool_library.specs.Libraries.{created, creates, listed, lists, extracted, extracts}
 use Rattle.arm7_bus.specs.Seats.{Seat}
 use Rattle.tool_listing.specs.Lists.{listing_of}
+use Rattle.tool_listing.specs.Lists as listing
 use Rattle.tool_run.specs.Runs.{RunAnswers}
 
 -- the command `build`, whose words are judged apart until sources of every kind are built
@@ -31,10 +32,10 @@ RefusesWords place o answer.NoMemory = IsLeft o
 -- the answer to a command, or to words that break a rule, over devices, which are left so; `run` alone touches them
 abbrev pub Commanded : Result Command ℕ → Outside → List Seat → List Seat → Answer → Type 0
 Commanded (Err place) o seats left a = RefusesWords place o a × (left ≡ seats)
-Commanded (Ok (command.CreateLibrary library objects)) o seats left a = Answers (created library objects) objects o a × (left ≡ seats)
-Commanded (Ok (command.ListMembers library)) o seats left a = Answers (listed library) (library ∷ []) o a × (left ≡ seats)
-Commanded (Ok (command.ExtractMember library member output)) o seats left a = Answers (extracted library member output) (library ∷ []) o a × (left ≡ seats)
-Commanded (Ok (command.List file)) o seats left a = Answers (listing_of file) (file ∷ []) o a × (left ≡ seats)
+Commanded (Ok (command.CreateLibrary library objects)) o seats left a = Answers (created library objects) (OfAll (creates library objects) objects) objects o a × (left ≡ seats)
+Commanded (Ok (command.ListMembers library)) o seats left a = Answers (listed library) (OfOne (lists library)) (library ∷ []) o a × (left ≡ seats)
+Commanded (Ok (command.ExtractMember library member output)) o seats left a = Answers (extracted library member output) (OfOne (extracts library member output)) (library ∷ []) o a × (left ≡ seats)
+Commanded (Ok (command.List file)) o seats left a = Answers (listing_of file) (OfOne (listing.lists file)) (file ∷ []) o a × (left ≡ seats)
 Commanded (Ok (command.Run run)) o seats left a = RunAnswers run o seats left a
 
 -- the words ask for a run

@@ -1,9 +1,10 @@
 -- What a command is to do, and what each answer says and leaves. This project's.
-use Rattle.std.specs.Prelude.{◌≡◌, ℕ, List, [], ◌∷◌, ◌++◌, Option, Some, None, Result, Ok, Err, ◌⊎◌}
+use Rattle.std.specs.Prelude.{◌≡◌, ℕ, List, [], ◌∷◌, ◌++◌, length, Option, Some, None, Result, Ok, Err, ◌⊎◌}
 use Rattle.std.specs.FinMap.{insert}
 use Rattle.sdt_fault.specs.declared.answer.Answer.{Answer}
 use Rattle.sdt_fault.specs.declared.answer.Answer.TheVariants as answer
 use Rattle.sdt_fault.specs.declared.refusal.Refusal.{Refusal}
+use Rattle.sdt_fault.specs.declared.refusal.Refusal.TheVariants.{Missing}
 use Rattle.sdt_outside.specs.Files.{Files, IsWritten, SameBut}
 use Rattle.tool_answers.specs.Inputs.{IsReached}
 use Rattle.sdt_outside.specs.Counts.{Rose}
@@ -74,14 +75,27 @@ Says asked inputs o answer.SinkFault = Rose o.faults o.faults_now × ((out : Out
 Says asked inputs o (answer.Stopped stop) = ⊥
 Says asked inputs o answer.NoMemory = ((out : Outcome) × (asked ≡ Ok out) × IsCutShort o.before o.after out.files × (o.prints ≡ o.printed)) ⊎ IsLeft o
 
--- what the input asks for, where the files are told
-abbrev pub IsAsked : (Files → Result Outcome Refusal) → Option Files → Result Outcome Refusal → Type 0
-IsAsked judge None asked = Unit {0}
-IsAsked judge (Some files) asked = asked ≡ judge files
+-- what some contents of so many files ask for, and of one file
+abbrev pub OfAll : (List (List ℕ) → Result Outcome Refusal) → List (List ℕ) → Result Outcome Refusal → Type 0
+OfAll makes inputs asked = (contents : List (List ℕ)) × (length contents ≡ length inputs) × (asked ≡ makes contents)
 
--- the answer to a command whose input asks for what these files tell
-abbrev pub Answers : (Files → Result Outcome Refusal) → List (List ℕ) → Outside → Answer → Type 0
-Answers judge inputs o a = (asked : Result Outcome Refusal) × IsAsked judge o.before asked × Says asked inputs o a
+abbrev pub OfOne : (List ℕ → Result Outcome Refusal) → Result Outcome Refusal → Type 0
+OfOne makes asked = (bytes : List ℕ) × (asked ≡ makes bytes)
+
+-- a file is told as missing, and a read failed
+abbrev pub IsLost : List (List ℕ) → Type 0 → Result Outcome Refusal → Type 0
+IsLost inputs rose asked = (name : List ℕ) × (asked ≡ Err (Missing name)) × rose × IsReached None inputs name
+
+-- what the input asks for: what the files tell; and where they aren't told, what some contents of them ask for, or else
+-- one is missing, for which a read failed
+abbrev pub IsAsked : (Files → Result Outcome Refusal) → (Result Outcome Refusal → Type 0) → Option Files → List (List ℕ) → Type 0 → Result Outcome Refusal → Type 0
+IsAsked judge some_ask None inputs rose asked = some_ask asked ⊎ IsLost inputs rose asked
+IsAsked judge some_ask (Some files) inputs rose asked = asked ≡ judge files
+
+-- the answer to a command whose input asks for what these files tell, or such contents ask for
+abbrev pub Answers : (Files → Result Outcome Refusal) → (Result Outcome Refusal → Type 0) → List (List ℕ) → Outside → Answer → Type 0
+Answers judge some_ask inputs o a =
+    (asked : Result Outcome Refusal) × IsAsked judge some_ask o.before inputs (Rose o.reads o.reads_now) asked × Says asked inputs o a
 
 -- ---- the two ends of a command
 
@@ -114,6 +128,6 @@ unprinted printed faults before after reads reads_now writes writes_now = record
 }
 
 -- the answer to a command that prints nothing, over the files and counts of a store and beside any sink
-abbrev pub AnswersOver : (Files → Result Outcome Refusal) → List (List ℕ) → Option Files → Option Files → ℕ → ℕ → ℕ → ℕ → Answer → Type 0
-AnswersOver judge inputs before after reads reads_now writes writes_now a =
-    (printed : Option (List ℕ)) (faults : ℕ) → Answers judge inputs (unprinted printed faults before after reads reads_now writes writes_now) a
+abbrev pub AnswersOver : (Files → Result Outcome Refusal) → (Result Outcome Refusal → Type 0) → List (List ℕ) → Option Files → Option Files → ℕ → ℕ → ℕ → ℕ → Answer → Type 0
+AnswersOver judge some_ask inputs before after reads reads_now writes writes_now a =
+    (printed : Option (List ℕ)) (faults : ℕ) → Answers judge some_ask inputs (unprinted printed faults before after reads reads_now writes writes_now) a

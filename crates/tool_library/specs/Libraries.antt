@@ -40,9 +40,11 @@ members_of (n ∷ ns) (b ∷ bs) = member_of n b >>= λ m. members_of ns bs >>= 
 abbrev pub library_of : List (List ℕ) → List (List ℕ) → Result (List ℕ) Refusal
 library_of names contents = members_of names contents >>= λ ms. library.written (record { members = ms })
 
+abbrev pub creates : List ℕ → List (List ℕ) → List (List ℕ) → Result Outcome Refusal
+creates output names contents = library_of names contents >>= λ bytes. Ok (writes_one output bytes)
+
 abbrev pub created : List ℕ → List (List ℕ) → Files → Result Outcome Refusal
-created output names files =
-    inputs_of files names >>= λ contents. library_of names contents >>= λ bytes. Ok (writes_one output bytes)
+created output names files = inputs_of files names >>= creates output names
 
 -- ---- the members' names
 
@@ -52,8 +54,11 @@ names_text ms = flat_map (λ m. m.name ++ 10 ∷ []) ms
 abbrev pub listing : List ℕ → List ℕ → Result (List ℕ) Refusal
 listing name bytes = named_by name (archive_of bytes) >>= λ a. Ok (names_text a.members)
 
+abbrev pub lists : List ℕ → List ℕ → Result Outcome Refusal
+lists name bytes = listing name bytes >>= λ text. Ok (prints_only text)
+
 abbrev pub listed : List ℕ → Files → Result Outcome Refusal
-listed name files = input_of files name >>= λ bytes. listing name bytes >>= λ text. Ok (prints_only text)
+listed name files = input_of files name >>= lists name
 
 -- ---- a member as an object
 
@@ -67,9 +72,11 @@ extract_from member ms = member_named member ms >>= λ m. object.written m.objec
 abbrev pub extract : List ℕ → List ℕ → List ℕ → Result (List ℕ) Refusal
 extract name member bytes = named_by name (archive_of bytes) >>= λ a. extract_from member a.members
 
+abbrev pub extracts : List ℕ → List ℕ → List ℕ → List ℕ → Result Outcome Refusal
+extracts name member output bytes = extract name member bytes >>= λ o. Ok (writes_one output o)
+
 abbrev pub extracted : List ℕ → List ℕ → List ℕ → Files → Result Outcome Refusal
-extracted name member output files =
-    input_of files name >>= λ bytes. extract name member bytes >>= λ o. Ok (writes_one output o)
+extracted name member output files = input_of files name >>= extracts name member output
 
 -- ---- ends
 

@@ -3,7 +3,7 @@
 ghost use Rattle.std.specs.Prelude.{◌≡◌, ◌<◌, ◌^◌, ℕ, List as Items, IfOk, length};
 ghost use Rattle.sdt_fault.specs.declared.answer.Answer.TheVariants as answer;
 ghost use Rattle.sdt_outside.specs.Counts.{Rose};
-ghost use Rattle.tool_answers.specs.Outcomes.{Answers, AnswersOver};
+ghost use Rattle.tool_answers.specs.Outcomes.{AnswersOver, OfAll};
 ghost use Rattle.tool_library.specs.Libraries as libraries;
 
 use crate::ends::{end_answer, fault_answer};
@@ -21,7 +21,7 @@ pub fn create_library<S: Store>(
     library: Text,
     objects: &[Text],
 ) -> Answer
-    ensures { AnswersOver (libraries.created library objects.now) objects.now
+    ensures { AnswersOver (libraries.created library objects.now) (OfAll (libraries.creates library objects.now) objects.now) objects.now
         (S.files store.old) (S.files store.new) (S.read_faults store.old) (S.read_faults store.new) (S.write_faults store.old) (S.write_faults store.new) result }
 {
     let contents = match read_inputs(alloc, store, objects) {

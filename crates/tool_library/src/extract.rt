@@ -1,7 +1,7 @@
 //! What a library holds: the names of its members, and a member as an object file.
 
 ghost use Rattle.std.specs.Prelude.{◌≡◌, ◌∷◌, [], ℕ, List as Items};
-ghost use Rattle.tool_answers.specs.Outcomes.{Answers, AnswersOver};
+ghost use Rattle.tool_answers.specs.Outcomes.{Answers, AnswersOver, OfOne};
 ghost use Rattle.tool_library.specs.Libraries as libraries;
 
 use crate::ends::{end_answer, fault_answer};
@@ -19,7 +19,7 @@ pub fn list_members<S: Store, K: Sink>(
     sink: &mut K,
     library: &Text,
 ) -> Answer
-    ensures { Answers (libraries.listed library.now) (library.now ∷ []) (record {
+    ensures { Answers (libraries.listed library.now) (OfOne (libraries.lists library.now)) (library.now ∷ []) (record {
       before = S.files store.old;
       after = S.files store.new;
       printed = K.bytes sink.old;
@@ -50,7 +50,7 @@ pub fn extract_member<S: Store>(
     member: &Text,
     output: Text,
 ) -> Answer
-    ensures { AnswersOver (libraries.extracted library.now member.now output) (library.now ∷ [])
+    ensures { AnswersOver (libraries.extracted library.now member.now output) (OfOne (libraries.extracts library.now member.now output)) (library.now ∷ [])
         (S.files store.old) (S.files store.new) (S.read_faults store.old) (S.read_faults store.new) (S.write_faults store.old) (S.write_faults store.new) result }
 {
     let bytes = match read_input(alloc, store, library) {

@@ -42,5 +42,8 @@ object_listing name bytes = named_by name (object_of bytes) >>= λ o. Ok (object
 unfoldable pub listing : List ℕ → List ℕ → Result (List ℕ) Refusal
 listing name bytes = if is_library bytes then archive_listing name bytes else object_listing name bytes
 
+abbrev pub lists : List ℕ → List ℕ → Result Outcome Refusal
+lists name bytes = listing name bytes >>= λ text. Ok (prints_only text)
+
 abbrev pub listing_of : List ℕ → Files → Result Outcome Refusal
-listing_of name files = input_of files name >>= λ bytes. listing name bytes >>= λ text. Ok (prints_only text)
+listing_of name files = input_of files name >>= lists name

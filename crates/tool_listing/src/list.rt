@@ -1,8 +1,8 @@
 //! The command.
 
 ghost use Rattle.std.specs.Prelude.{◌≡◌, ◌∷◌, [], ℕ, List as Items};
-ghost use Rattle.tool_answers.specs.Outcomes.{Answers};
-ghost use Rattle.tool_listing.specs.Lists.{listing_of};
+ghost use Rattle.tool_answers.specs.Outcomes.{Answers, OfOne};
+ghost use Rattle.tool_listing.specs.Lists.{listing_of, lists};
 
 use crate::listings::listing;
 use sdt_fault::Text;
@@ -19,7 +19,7 @@ pub fn list_file<S: Store, K: Sink>(
     sink: &mut K,
     file: &Text,
 ) -> Answer
-    ensures { Answers (listing_of file.now) (file.now ∷ []) (record {
+    ensures { Answers (listing_of file.now) (OfOne (lists file.now)) (file.now ∷ []) (record {
       before = S.files store.old;
       after = S.files store.new;
       printed = K.bytes sink.old;

@@ -1,7 +1,7 @@
 use Rattle.std.proofs.Common.{ℕ, List, [], ◌∷◌, Result, Ok, ap, refl}
 use Rattle.sdt_fault.specs.declared.refusal.Refusal.{Refusal}
 use Rattle.chunk_file.specs.Reading.{◌>>=◌}
-use Rattle.tool_answers.specs.Outcomes.{Outcome, prints_only}
+use Rattle.tool_answers.specs.Outcomes.{Outcome, OfOne, prints_only}
 use Rattle.tool_listing.specs.Lists.{listing, listing_of}
 use Rattle.tool_library.proofs.AnswerLemmas.{one_unread, refused, printed, asked_of_one}
 use Rattle.tool_listing.proofs.list.list_file.Goals as goal
@@ -33,10 +33,10 @@ pub returns-in-Ok-listing : goal.returns-in-Ok-listing
 unfolding asked outcome
 returns-in-Ok-listing g c =
     let f = asked c.args.file.now in
-    let is = asked_of_one (g.S.Store.files c.args.store.now) c.args.file.now c.in-Ok.bytes f c.in-Ok.ensures.found in
+    let is = asked_of_one (g.S.Store.files c.args.store.now) c.args.file.now c.in-Ok.bytes f _ c.in-Ok.ensures.found in
     let made = rw c.as_slice.ensures at c.in-Ok-listing.ensures in
     let says = rw c.as_slice-in-Ok-listing.ensures at c.print.ensures.says in
-    printed c.print.result c.in-Ok-listing.text (f c.in-Ok.bytes) (c.args.file.now ∷ []) (listing_of c.args.file.now) (record {
+    printed c.print.result c.in-Ok-listing.text (f c.in-Ok.bytes) (c.args.file.now ∷ []) (listing_of c.args.file.now) (OfOne f) (record {
       before = g.S.Store.files c.args.store.now;
       after = g.S.Store.files c.read_input.new.store;
       printed = g.K.Sink.bytes c.args.sink.now;
@@ -53,9 +53,9 @@ pub returns : goal.returns
 unfolding asked outcome
 returns g c =
     let f = asked c.args.file.now in
-    let is = asked_of_one (g.S.Store.files c.args.store.now) c.args.file.now c.in-Ok.bytes f c.in-Ok.ensures.found in
+    let is = asked_of_one (g.S.Store.files c.args.store.now) c.args.file.now c.in-Ok.bytes f _ c.in-Ok.ensures.found in
     let gives = rw c.as_slice.ensures at c.in-Err-listing.ensures in
-    rw c.fault_answer.ensures (refused c.in-Err-listing.fault (listing c.args.file.now c.in-Ok.bytes) outcome (c.args.file.now ∷ []) (listing_of c.args.file.now) (record {
+    rw c.fault_answer.ensures (refused c.in-Err-listing.fault (listing c.args.file.now c.in-Ok.bytes) outcome (c.args.file.now ∷ []) (listing_of c.args.file.now) (OfOne f) (record {
       before = g.S.Store.files c.args.store.now;
       after = g.S.Store.files c.read_input.new.store;
       printed = g.K.Sink.bytes c.args.sink.now;
