@@ -1,0 +1,75 @@
+-- What the operands of a statement mean in the end: its registers by their numbers, and its expressions with all names of
+-- the source. This project's.
+use Rattle.std.specs.Prelude.{ℕ, ◌+◌, ◌-◌, ◌%◌, ◌^◌, ◌==◌, nat_lt, List, Bool, if◌then◌else◌, Option, Some, None, Result, Ok, Err}
+use Rattle.sdt_fault.specs.declared.kinds.LineKind.{LineKind}
+use Rattle.sdt_fault.specs.declared.kinds.LineKind.TheVariants.{WrongType, BadOperand, OutOfRange}
+use Rattle.asm_model.specs.declared.exprs.Expr.{Expr}
+use Rattle.asm_model.specs.declared.names.LaidName.{LaidName}
+use Rattle.asm_model.specs.declared.names.Names.{Names}
+use Rattle.asm_model.specs.declared.operands.Register.{Register}
+use Rattle.asm_model.specs.declared.values.Value.{Value}
+use Rattle.asm_model.specs.declared.values.Value.TheVariants.{Place}
+use Rattle.asm_model.specs.AtLine.{SourceLine}
+use Rattle.asm_model.specs.Meaning.{stands_at}
+use Rattle.layout_model.specs.Extents.{as_number}
+use Rattle.layout_model.specs.Laid.{final_value}
+use Rattle.layout_model.specs.Symbols.{final_sight}
+use Rattle.source_model.specs.Registers.{Named, number_of}
+
+-- all names of the source, the statement's line, the names for registers that are known there, and the names that
+-- symbols may have: those of labels and imports
+pub record Context : Type 0 where
+  pub names : List LaidName
+  pub line : SourceLine
+  pub registers : List Named
+  pub symbols : List (List ℕ)
+
+abbrev pub sees : Context → Names
+sees c = final_sight c.names c.line
+
+abbrev pub value_of : Context → Expr → Result Value LineKind
+value_of c e = final_value c.names c.line e
+
+abbrev pub number_in : Context → Expr → Result ℕ LineKind
+number_in c e = as_number (value_of c e)
+
+abbrev pub or_zero : Option ℕ → ℕ
+or_zero None = 0
+or_zero (Some n) = n
+
+-- the number of a register; each name of a source without faults has one
+abbrev pub register : Context → Register → ℕ
+register c r = or_zero (number_of c.registers r)
+
+-- what comes behind a result
+abbrev pub and_then : {A B : Type 0} → Result A LineKind → (A → Result B LineKind) → Result B LineKind
+and_then (Ok a) f = f a
+and_then (Err k) f = Err k
+
+-- ---- numbers that are read as signed
+
+abbrev pub is_positive : ℕ → Bool
+is_positive n = nat_lt n (2 ^ 31)
+
+abbrev pub magnitude : ℕ → ℕ
+magnitude n = if is_positive n then n else 2 ^ 32 - n
+
+-- an offset: whether it is added, and its magnitude, which is below a limit
+abbrev pub offset_below : ℕ → ℕ → Result (Bool × ℕ) LineKind
+offset_below limit n = if nat_lt (magnitude n) limit then Ok (is_positive n, magnitude n) else Err OutOfRange
+
+-- ---- labels of the statement's area
+
+abbrev pub in_own_area : Option ℕ → Option (ℕ × ℕ) → ℕ → Result ℕ LineKind
+in_own_area (Some area) (Some a) n = if a.0 == area then Ok ((a.1 + n) % 2 ^ 32) else Err BadOperand
+in_own_area _ _ n = Err BadOperand
+
+-- the offset of a label in the statement's own area
+abbrev pub own_offset : Context → Result Value LineKind → Result ℕ LineKind
+own_offset c (Ok (Place s n)) = in_own_area c.line.area (stands_at (sees c) s) n
+own_offset c (Ok _) = Err WrongType
+own_offset c (Err k) = Err k
+
+-- how far an offset lies behind pc as the statement's instruction reads it in ARM state, modulo 2^32
+abbrev pub from_pc : Context → ℕ → ℕ
+from_pc c offset = (offset + (2 ^ 32 - (c.line.offset + 8))) % 2 ^ 32

@@ -1,0 +1,286 @@
+-- The object that statements make: areas with their attributes and bytes, symbols, relocations and the entry. SDT 2.50
+-- Reference Guide, ARM Object Format; which symbols there are and their order are this project's.
+use Rattle.std.specs.Prelude.{◌≡◌, ◌⊎◌, ℕ, ◌+◌, ◌*◌, ◌%◌, ◌^◌, ◌<◌, ◌≤◌, ◌==◌, ◌&&◌, List, [], ◌∷◌, ◌++◌, length, take, drop, map, get_or, slice_get, Bool, true, false, if◌then◌else◌, Option, Some, None, Result, Ok, Err}
+use Rattle.std.specs.List.{list_any}
+use Rattle.sdt_word.specs.Bytes.{bytes_of}
+use Rattle.sdt_word.specs.Numbers.{flag}
+use Rattle.sdt_word.specs.Rows.{word_of}
+use Rattle.sdt_fault.specs.declared.kinds.LineKind.{LineKind}
+use Rattle.arm_isa.specs.ArmRows.{arm_row, arm_fields}
+use Rattle.aof_object.specs.declared.records.Area.{Area}
+use Rattle.aof_object.specs.declared.records.Entry.{Entry}
+use Rattle.aof_object.specs.declared.records.Object.{Object}
+use Rattle.aof_object.specs.declared.records.Reloc.{Reloc}
+use Rattle.aof_object.specs.declared.records.Symbol.{Symbol}
+use Rattle.asm_model.specs.declared.directives.AreaAttributes.{AreaAttributes}
+use Rattle.asm_model.specs.declared.directives.Contents.{Contents}
+use Rattle.asm_model.specs.declared.directives.Contents.TheVariants as contents
+use Rattle.asm_model.specs.declared.directives.DirectiveLine.TheVariants as line
+use Rattle.asm_model.specs.declared.names.LaidName.{LaidName}
+use Rattle.asm_model.specs.declared.statements.Statement.{Statement}
+use Rattle.asm_model.specs.declared.statements.What.{What}
+use Rattle.asm_model.specs.declared.statements.What.TheVariants as what
+use Rattle.asm_model.specs.declared.values.Value.{Value}
+use Rattle.asm_model.specs.declared.values.Value.TheVariants.{Number, Place}
+use Rattle.asm_model.specs.AtLine.{Nameless}
+use Rattle.asm_model.specs.Directives.{or_else}
+use Rattle.asm_model.specs.Forms.{same}
+use Rattle.asm_model.specs.Meaning.{named_in, stands_at}
+use Rattle.layout_model.specs.Before.{areas_behind, place_of, is_code}
+use Rattle.layout_model.specs.Entries.{thumb_of}
+use Rattle.layout_model.specs.Extents.{Extent, Loading}
+use Rattle.layout_model.specs.Laid.{LaidLine, taken, pieces_of, laid, all_locals, final_names}
+use Rattle.layout_model.specs.LayoutKinds.{exponent, is_entry, is_thumb_area}
+use Rattle.layout_model.specs.Marks.{datum_names}
+use Rattle.layout_model.specs.Offsets.{is_of, area_size}
+use Rattle.layout_model.specs.Symbols.{symbols_of, literal_value}
+use Rattle.source_model.specs.Contexts.{Context, sees}
+use Rattle.source_model.specs.SourceFaults.{context_of, symbol_names, word_of as literal_place}
+use Rattle.source_model.specs.Units.{Emitted, Bytes, Word, Instruction, Stored, Target, Nothing, ByArea, BySymbol, stored, units}
+
+-- ---- areas
+
+abbrev pub contents_bits : Contents → ℕ
+contents_bits contents.Code = 2 ^ 9
+contents_bits contents.Data = 0
+contents_bits contents.Zeroes = 2 ^ 12
+
+-- by what AREA says, the exponent of the alignment, and whether the first instruction is of Thumb state
+abbrev pub attributes_word : AreaAttributes → ℕ → Bool → ℕ
+attributes_word a exponent thumb =
+    exponent + contents_bits a.contents + flag a.read_only * 2 ^ 13 + flag a.pic * 2 ^ 14 + flag a.reentrant * 2 ^ 17 + flag thumb * 2 ^ 20
+    + flag a.halfword * 2 ^ 21 + flag a.interwork * 2 ^ 22
+
+abbrev pub or_two : Result ℕ LineKind → ℕ
+or_two (Ok n) = n
+or_two (Err k) = 2
+
+abbrev pub says_area : ℕ → LaidLine → What → Bool → Option ℕ
+says_area area l (what.Directive (line.Area name a)) thumb =
+    if is_of area l.area then Some (attributes_word a (or_two (exponent l.seen a.align)) thumb) else None
+says_area area l _ thumb = None
+
+-- the attributes of an area, by its first line; lines are listed with the last first
+abbrev pub attributes_of : ℕ → Bool → List LaidLine → Option ℕ
+attributes_of area thumb [] = None
+attributes_of area thumb (l ∷ before) = or_else (attributes_of area thumb before) (says_area area l l.statement.what thumb)
+
+-- ---- what stands in an area
+
+abbrev pub unit_bytes : Emitted → List ℕ
+unit_bytes (Bytes b) = b
+unit_bytes (Word w) = bytes_of w.number 4
+unit_bytes (Instruction i s) = bytes_of (word_of (arm_row i) (arm_fields i)) 4
+
+abbrev pub units_bytes : List Emitted → List ℕ
+units_bytes [] = []
+units_bytes (u ∷ us) = unit_bytes u ++ units_bytes us
+
+-- one thing of an area: where it stands, and what it is
+abbrev pub Piece : Type 0
+Piece = ℕ × Emitted
+
+-- units one behind the other from an offset on
+abbrev pub units_from : ℕ → List Emitted → List Piece
+units_from at [] = []
+units_from at (u ∷ us) = (at, u) ∷ units_from (at + length (unit_bytes u)) us
+
+abbrev pub or_none : Result (List Emitted) LineKind → List Emitted
+or_none (Ok us) = us
+or_none (Err k) = []
+
+abbrev pub literal_unit : Option ℕ → Result Stored LineKind → List Piece
+literal_unit (Some at) (Ok w) = (at, Word w) ∷ []
+literal_unit _ _ = []
+
+abbrev pub literal_piece : Context → List (List ℕ) → Extent → Option ℕ → List Piece
+literal_piece c data_names (Loading n v) word = literal_unit word (stored c data_names (literal_value (sees c) v))
+literal_piece c data_names _ word = []
+
+-- what a line puts into its area, the word of its literal too
+abbrev pub pieces_in : Context → List (List ℕ) → LaidLine → Option ℕ → List Piece
+pieces_in c data_names l word =
+    units_from l.offset (or_none (units c data_names l.seen word l.statement.what)) ++ literal_piece c data_names (taken l.extent) word
+
+-- ---- the whole source
+
+-- what all statements share
+pub record Source : Type 0 where
+  pub statements : List Statement
+  pub lines : List LaidLine
+  pub names : List LaidName
+
+abbrev pub source_of : List Statement → Source
+source_of statements = record { statements = statements; lines = laid statements; names = final_names (laid statements) }
+
+-- a line of a source, with the lines before it, the nearest first, and those behind it
+pub record At (s : Source) (l : LaidLine) : Type 0 where
+  pub before : List LaidLine
+  pub rest : List LaidLine
+  pub parts : s.lines ≡ rest ++ l ∷ before
+
+abbrev pub in_order : List LaidLine → List LaidLine → List LaidLine
+in_order [] after = after
+in_order (l ∷ ls) after = in_order ls (l ∷ after)
+
+abbrev pub context_at : (s : Source) (l : LaidLine) → At s l → Context
+context_at s l at = context_of s.names (all_locals s.lines) (symbol_names s.statements) l at.before
+
+abbrev pub word_at : (s : Source) (l : LaidLine) → At s l → Option ℕ
+word_at s l at = literal_place l.area (taken l.extent) (pieces_of (l ∷ at.before)) (pieces_of (in_order at.rest []))
+
+abbrev pub pieces_at : (s : Source) (l : LaidLine) → At s l → List Piece
+pieces_at s l at = pieces_in (context_at s l at) (datum_names s.statements) l (word_at s l at)
+
+abbrev pub IsAmong : Piece → List Piece → Type 0
+IsAmong p [] = ⊥
+IsAmong p (q ∷ qs) = (p ≡ q) ⊎ IsAmong p qs
+
+-- a thing that stands in the area
+pub record StandsIn (s : Source) (area : ℕ) (p : Piece) : Type 0 where
+  pub owner : LaidLine
+  pub at : At s owner
+  pub own : owner.area ≡ Some area
+  pub among : IsAmong p (pieces_at s owner at)
+
+-- the bytes of an area: those of what stands there, and else zeros
+pub record HoldsBytes (s : Source) (area : ℕ) (bytes : List ℕ) : Type 0 where
+  pub size : length bytes ≡ area_size area (pieces_of s.lines)
+  pub standing : (p : Piece) → StandsIn s area p → take (length (unit_bytes p.1)) (drop p.0 bytes) ≡ unit_bytes p.1
+  pub others : (i : ℕ) → ((p : Piece) → StandsIn s area p → (i < p.0) ⊎ (p.0 + length (unit_bytes p.1) ≤ i)) → get_or bytes i 0 ≡ 0
+
+-- ---- relocations
+
+abbrev pub symbol_number : Source → List ℕ → ℕ
+symbol_number s name = place_of name (symbols_of s.names s.lines)
+
+abbrev pub word_relocs : Source → ℕ → Target → List Reloc
+word_relocs s at Nothing = []
+word_relocs s at (ByArea area) = record { offset = at; word = 2 ^ 31 + 2 * 2 ^ 24 + area } ∷ []
+word_relocs s at (BySymbol name) = record { offset = at; word = 2 ^ 31 + 2 ^ 27 + 2 * 2 ^ 24 + symbol_number s name } ∷ []
+
+abbrev pub branch_relocs : Source → ℕ → Option (List ℕ) → List Reloc
+branch_relocs s at None = []
+branch_relocs s at (Some name) = record { offset = at; word = 2 ^ 31 + 2 ^ 27 + 2 ^ 26 + 3 * 2 ^ 24 + symbol_number s name } ∷ []
+
+abbrev pub relocs_of : Source → Piece → List Reloc
+relocs_of s (at, Bytes b) = []
+relocs_of s (at, Word w) = word_relocs s at w.target
+relocs_of s (at, Instruction i symbol) = branch_relocs s at symbol
+
+abbrev pub IsRelocOf : List Reloc → Reloc → Type 0
+IsRelocOf [] r = ⊥
+IsRelocOf (q ∷ qs) r = (r ≡ q) ⊎ IsRelocOf qs r
+
+abbrev pub IsRising : List Reloc → Type 0
+IsRising [] = Unit {0}
+IsRising (r ∷ []) = Unit {0}
+IsRising (r ∷ q ∷ rs) = (r.offset < q.offset) × IsRising (q ∷ rs)
+
+-- the relocations of what stands in an area, in the order of their offsets
+pub record HasRelocs (s : Source) (area : ℕ) (relocs : List Reloc) : Type 0 where
+  pub order : IsRising relocs
+  pub all : (p : Piece) (r : Reloc) → StandsIn s area p → IsRelocOf (relocs_of s p) r → IsRelocOf relocs r
+  pub no_others : (r : Reloc) → IsRelocOf relocs r → (p : Piece) × StandsIn s area p × IsRelocOf (relocs_of s p) r
+
+-- ---- symbols
+
+abbrev pub exports_name : List ℕ → What → Bool
+exports_name name (what.Directive (line.Export n)) = same n name
+exports_name name _ = false
+
+abbrev pub is_weak_import : List ℕ → What → Bool
+is_weak_import name (what.Directive (line.Import n weak)) = same n name && weak
+is_weak_import name (what.Directive (line.Extern n weak)) = same n name && weak
+is_weak_import name _ = false
+
+abbrev pub is_exported : Source → List ℕ → Bool
+is_exported s name = list_any (λ t. exports_name name t.what) s.statements
+
+abbrev pub is_weak : Source → List ℕ → Bool
+is_weak s name = list_any (λ t. is_weak_import name t.what) s.statements
+
+abbrev pub scope : Source → List ℕ → ℕ
+scope s name = if is_exported s name then 3 else 1
+
+abbrev pub contents_in : ℕ → LaidLine → What → Option Contents
+contents_in area l (what.Directive (line.Area name a)) = if is_of area l.area then Some a.contents else None
+contents_in area l _ = None
+
+abbrev pub contents_of : ℕ → List LaidLine → Option Contents
+contents_of area [] = None
+contents_of area (l ∷ before) = or_else (contents_of area before) (contents_in area l l.statement.what)
+
+abbrev pub holds_code : Option Contents → Bool
+holds_code None = false
+holds_code (Some c) = is_code c
+
+-- a datum is marked in a code area alone
+abbrev pub marks_of : Source → List ℕ → ℕ → ℕ
+marks_of s label area =
+    flag (list_any (same label) (datum_names s.statements) && holds_code (contents_of area s.lines)) * 2 ^ 8
+    + flag (thumb_of (named_in label s.names)) * 2 ^ 12
+
+abbrev pub symbol_placed : Source → List ℕ → List ℕ → ℕ → Option (ℕ × ℕ) → Symbol
+symbol_placed s name label n None = record { name = name; attributes = 2 + flag (is_weak s name) * 2 ^ 4; value = 0; area = None }
+symbol_placed s name label n (Some a) = record {
+  name = name;
+  attributes = scope s name + marks_of s label a.0;
+  value = (a.1 + n) % 2 ^ 32;
+  area = Some a.0;
+}
+
+abbrev pub in_no_line : Source → Context
+in_no_line s = record {
+  names = s.names;
+  line = record { area = None; offset = 0; map = 0; thumb = false; back = []; forth = []; definition = Nameless };
+  registers = [];
+  symbols = [];
+}
+
+abbrev pub symbol_valued : Source → List ℕ → Value → Symbol
+symbol_valued s name (Number n) = record { name = name; attributes = scope s name + 2 ^ 2; value = n; area = None }
+symbol_valued s name (Place label n) = symbol_placed s name label n (stands_at (sees (in_no_line s)) label)
+symbol_valued s name _ = record { name = name; attributes = 0; value = 0; area = None }
+
+abbrev pub symbol_named : Source → List ℕ → Option LaidName → Symbol
+symbol_named s name None = record { name = name; attributes = 0; value = 0; area = None }
+symbol_named s name (Some n) = symbol_valued s name n.value
+
+abbrev pub symbol_records : Source → List Symbol
+symbol_records s = map (λ name. symbol_named s name (named_in name s.names)) (symbols_of s.names s.lines)
+
+-- ---- the entry
+
+abbrev pub entry_by : Bool → Option ℕ → ℕ → Option Entry
+entry_by true (Some area) offset = Some (record { area = area; offset = offset })
+entry_by _ _ offset = None
+
+abbrev pub entry_of : List LaidLine → Option Entry
+entry_of [] = None
+entry_of (l ∷ before) = or_else (entry_of before) (entry_by (is_entry l.statement.what) l.area l.offset)
+
+-- ---- the object
+
+-- whether an area keeps its bytes in the object
+abbrev pub is_kept : Option Contents → Bool
+is_kept (Some contents.Zeroes) = false
+is_kept _ = true
+
+abbrev pub KeepsBytes : Source → ℕ → Bool → List ℕ → Type 0
+KeepsBytes s area true bytes = HoldsBytes s area bytes
+KeepsBytes s area false bytes = bytes ≡ []
+
+pub record IsArea (s : Source) (area : ℕ) (a : Area) : Type 0 where
+  pub name : slice_get (areas_behind s.statements) area ≡ Some a.name
+  pub attributes : attributes_of area (is_thumb_area area s.lines) s.lines ≡ Some a.attributes
+  pub size : a.size ≡ area_size area (pieces_of s.lines)
+  pub bytes : KeepsBytes s area (is_kept (contents_of area s.lines)) a.bytes
+  pub relocs : HasRelocs s area a.relocs
+
+-- the object of statements without faults
+pub record IsObject (statements : List Statement) (o : Object) : Type 0 where
+  pub count : length o.areas ≡ length (areas_behind statements)
+  pub areas : (area : ℕ) (a : Area) → slice_get o.areas area ≡ Some a → IsArea (source_of statements) area a
+  pub symbols : o.symbols ≡ symbol_records (source_of statements)
+  pub entry : o.entry ≡ entry_of (laid statements)

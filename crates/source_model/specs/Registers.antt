@@ -1,0 +1,173 @@
+-- Names for registers. RN gives a name a register, or a number below 16 that is known at its line; the name counts on the
+-- lines behind it. A register's own name always means that register, and reading tells it as one. SDT 2.50 Reference
+-- Guide, chapter on the assembler; the kinds of faults are this project's.
+use Rattle.std.specs.Prelude.{ℕ, ◌==◌, nat_lt, List, [], ◌∷◌, ◌++◌, Bool, false, if◌then◌else◌, Option, Some, None, Result, Ok, Err}
+use Rattle.std.specs.List.{list_any}
+use Rattle.sdt_fault.specs.declared.kinds.LineKind.{LineKind}
+use Rattle.sdt_fault.specs.declared.kinds.LineKind.TheVariants.{UnknownWord, BadOperand, Forward, WrongType, OutOfRange}
+use Rattle.asm_model.specs.declared.directives.RnOperand.{RnOperand}
+use Rattle.asm_model.specs.declared.directives.RnOperand.TheVariants as rn
+use Rattle.asm_model.specs.declared.names.LaidName.{LaidName}
+use Rattle.asm_model.specs.declared.operands.Register.{Register}
+use Rattle.asm_model.specs.declared.operands.Register.TheVariants as register
+use Rattle.asm_model.specs.declared.operands.ListItem.{ListItem}
+use Rattle.asm_model.specs.declared.operands.ListItem.TheVariants as item
+use Rattle.asm_model.specs.declared.operands.Address.{Address}
+use Rattle.asm_model.specs.declared.operands.Address.TheVariants as address
+use Rattle.asm_model.specs.declared.operands.HalfOffset.{HalfOffset}
+use Rattle.asm_model.specs.declared.operands.HalfOffset.TheVariants as half
+use Rattle.asm_model.specs.declared.arm_lines.ArmLine.{ArmLine}
+use Rattle.asm_model.specs.declared.arm_lines.ArmLine.TheVariants as arm
+use Rattle.asm_model.specs.declared.statements.Statement.{Statement}
+use Rattle.asm_model.specs.declared.statements.PseudoLine.{PseudoLine}
+use Rattle.asm_model.specs.declared.statements.PseudoLine.TheVariants as pseudo
+use Rattle.asm_model.specs.declared.statements.What.{What}
+use Rattle.asm_model.specs.declared.statements.What.TheVariants as what
+use Rattle.asm_model.specs.AtLine.{Sight, is_in}
+use Rattle.asm_model.specs.Forms.{same}
+use Rattle.layout_model.specs.Extents.{number_there}
+use Rattle.layout_model.specs.Labels.{Defined, RegisterName, defined_by}
+use Rattle.layout_model.specs.Laid.{LaidLine}
+use Rattle.layout_model.specs.LayoutKinds.{fault_kinds, kind_if}
+
+-- a name with its register
+abbrev pub Named : Type 0
+Named = List ℕ × ℕ
+
+abbrev pub register_in : List ℕ → List Named → Option ℕ
+register_in name [] = None
+register_in name (r ∷ rs) = if same r.0 name then Some r.1 else register_in name rs
+
+-- ---- what RN gives
+
+abbrev pub as_register : Result ℕ LineKind → Result ℕ LineKind
+as_register (Ok n) = if nat_lt n 16 then Ok n else Err OutOfRange
+as_register (Err k) = Err k
+
+abbrev pub given : Sight → RnOperand → Result ℕ LineKind
+given s (rn.Register n) = Ok n
+given s (rn.Number e) = as_register (number_there s e)
+
+abbrev pub with_register : List ℕ → Result ℕ LineKind → List Named
+with_register name (Ok n) = (name, n) ∷ []
+with_register name (Err k) = []
+
+abbrev pub named_by : Sight → Defined → List Named
+named_by s (RegisterName name r) = with_register name (given s r)
+named_by s _ = []
+
+-- the names for registers behind lines, the nearest first
+abbrev pub registers_behind : List LaidLine → List Named
+registers_behind [] = []
+registers_behind (l ∷ before) = registers_behind before ++ named_by l.seen (defined_by l.statement)
+
+abbrev pub register_name : Defined → List (List ℕ)
+register_name (RegisterName name r) = name ∷ []
+register_name _ = []
+
+-- all names for registers of a source
+abbrev pub register_names : List Statement → List (List ℕ)
+register_names [] = []
+register_names (s ∷ before) = register_names before ++ register_name (defined_by s)
+
+-- ---- the registers of a statement
+
+abbrev pub item_registers : ListItem → List Register
+item_registers (item.One r) = r ∷ []
+item_registers (item.Range first last) = first ∷ last ∷ []
+
+abbrev pub list_registers : List ListItem → List Register
+list_registers [] = []
+list_registers (i ∷ is) = item_registers i ++ list_registers is
+
+abbrev pub address_registers : Address → List Register
+address_registers (address.Based rn indexing offset) = rn ∷ []
+address_registers (address.Label target) = []
+
+abbrev pub half_registers : HalfOffset → List Register
+half_registers (half.Number offset) = []
+half_registers (half.Register subtract rm) = rm ∷ []
+
+abbrev pub arm_registers : ArmLine → List Register
+arm_registers (arm.DataImmediate condition operation set_flags rd rn value) = rd ∷ rn ∷ []
+arm_registers (arm.DataShifted condition operation set_flags rd rn rm shift) = rd ∷ rn ∷ rm ∷ []
+arm_registers (arm.DataRegisterShifted condition operation set_flags rd rn rm shift rs) = rd ∷ rn ∷ rm ∷ rs ∷ []
+arm_registers (arm.Multiply condition accumulate set_flags rd rm rs rn) = rd ∷ rm ∷ rs ∷ rn ∷ []
+arm_registers (arm.MultiplyLong condition signed accumulate set_flags low high rm rs) = low ∷ high ∷ rm ∷ rs ∷ []
+arm_registers (arm.Swap condition byte rd rm rn) = rd ∷ rm ∷ rn ∷ []
+arm_registers (arm.BranchExchange condition rm) = rm ∷ []
+arm_registers (arm.ReadStatus condition saved rd) = rd ∷ []
+arm_registers (arm.WriteStatus condition saved fields rm) = rm ∷ []
+arm_registers (arm.WriteStatusImmediate condition saved fields value) = []
+arm_registers (arm.TransferImmediate condition load byte rd a) = rd ∷ address_registers a
+arm_registers (arm.TransferShifted condition load byte rd rn indexing subtract rm shift) = rd ∷ rn ∷ rm ∷ []
+arm_registers (arm.TransferHalf condition load kind rd rn indexing offset) = rd ∷ rn ∷ half_registers offset
+arm_registers (arm.TransferBlock condition load mode rn write_back list user) = rn ∷ list_registers list.items
+arm_registers (arm.Branch condition link target) = []
+arm_registers (arm.SoftwareInterrupt condition number) = []
+
+abbrev pub pseudo_registers : PseudoLine → List Register
+pseudo_registers (pseudo.LoadConstant condition rd value) = rd ∷ []
+pseudo_registers (pseudo.Address condition rd target) = rd ∷ []
+pseudo_registers (pseudo.LongAddress condition rd target) = rd ∷ []
+pseudo_registers pseudo.NoOperation = []
+
+abbrev pub registers_of : What → List Register
+registers_of (what.Arm l) = arm_registers l
+registers_of (what.Pseudo l) = pseudo_registers l
+registers_of _ = []
+
+-- ---- faults of names for registers
+
+-- a name that is none yet, another name, or no name
+abbrev pub no_register : List (List ℕ) → List LaidName → List ℕ → LineKind
+no_register registers names name =
+    if list_any (same name) registers then Forward else if is_in names name then WrongType else UnknownWord
+
+abbrev pub kinds_unless : Option ℕ → LineKind → List LineKind
+kinds_unless (Some n) k = []
+kinds_unless None k = k ∷ []
+
+-- of a register, where a source has these names for registers and these other names, and those are known
+abbrev pub name_kinds : List (List ℕ) → List LaidName → List Named → Register → List LineKind
+name_kinds registers names known (register.Number n) = []
+name_kinds registers names known (register.Named name) = kinds_unless (register_in name known) (no_register registers names name)
+
+abbrev pub names_kinds : List (List ℕ) → List LaidName → List Named → List Register → List LineKind
+names_kinds registers names known [] = []
+names_kinds registers names known (r ∷ rs) = name_kinds registers names known r ++ names_kinds registers names known rs
+
+-- the number of a register, where its name is known
+abbrev pub number_of : List Named → Register → Option ℕ
+number_of known (register.Number n) = Some n
+number_of known (register.Named name) = register_in name known
+
+abbrev pub falls : Option ℕ → Option ℕ → Bool
+falls (Some m) (Some n) = nat_lt n m
+falls _ _ = false
+
+abbrev pub range_kinds : List Named → List ListItem → List LineKind
+range_kinds known [] = []
+range_kinds known (item.One r ∷ is) = range_kinds known is
+range_kinds known (item.Range first last ∷ is) = kind_if (falls (number_of known first) (number_of known last)) BadOperand ++ range_kinds known is
+
+abbrev pub is_pc : Option ℕ → Bool
+is_pc None = false
+is_pc (Some n) = n == 15
+
+-- operands that no instruction has: a range that falls, and pc as the register of ADRL
+abbrev pub operand_kinds : List Named → What → List LineKind
+operand_kinds known (what.Arm (arm.TransferBlock condition load mode rn write_back list user)) = range_kinds known list.items
+operand_kinds known (what.Pseudo (pseudo.LongAddress condition rd target)) = kind_if (is_pc (number_of known rd)) BadOperand
+operand_kinds known _ = []
+
+abbrev pub given_kinds : Sight → Defined → List LineKind
+given_kinds s (RegisterName name r) = fault_kinds (given s r)
+given_kinds s _ = []
+
+-- of a line behind others, in a source with these names for registers
+abbrev pub register_kinds : List (List ℕ) → LaidLine → List LaidLine → List LineKind
+register_kinds registers l before =
+    given_kinds l.seen (defined_by l.statement)
+    ++ names_kinds registers l.seen.all (registers_behind before) (registers_of l.statement.what)
+    ++ operand_kinds (registers_behind before) l.statement.what

@@ -1,0 +1,67 @@
+-- The first faulty line of statements: in the pass of layout, and, where that has none, in the pass of values. This
+-- project's. What a source without an AREA and lines that can't be read tell is judged with the lines.
+use Rattle.std.specs.Prelude.{ℕ, List, [], ◌∷◌, ◌++◌, Option, Some, None}
+use Rattle.sdt_fault.specs.declared.kinds.LineKind.{LineKind}
+use Rattle.asm_model.specs.declared.names.LaidName.{LaidName}
+use Rattle.asm_model.specs.declared.statements.Statement.{Statement}
+use Rattle.asm_model.specs.Directives.{or_else}
+use Rattle.asm_model.specs.Kinds.{told_kind}
+use Rattle.layout_model.specs.Extents.{Extent, Loading}
+use Rattle.layout_model.specs.Labels.{Defined, Label, defined_by, imported_in}
+use Rattle.layout_model.specs.Laid.{LaidLine, taken, pieces_of, laid, reversed, all_locals, final_line, final_names}
+use Rattle.layout_model.specs.LayoutKinds.{layout_kinds, told_at, first_late, settled, equals_in, listed}
+use Rattle.layout_model.specs.Locals.{Local}
+use Rattle.layout_model.specs.Marks.{datum_names}
+use Rattle.layout_model.specs.Offsets.{Piece, area_size, literal_word}
+use Rattle.source_model.specs.Contexts.{Context}
+use Rattle.source_model.specs.Registers.{register_names, register_kinds, registers_behind}
+use Rattle.source_model.specs.ValueKinds.{value_kinds}
+
+-- ---- the pass of layout
+
+-- the first line with a fault of its own, where a source has these names for registers and these settled names
+abbrev pub first_laid : List (List ℕ) → List (List ℕ) → List LaidLine → Option (Statement × LineKind)
+first_laid registers settled [] = None
+first_laid registers settled (l ∷ before) =
+    or_else (first_laid registers settled before)
+    (told_at l.statement (told_kind (layout_kinds settled l before ++ register_kinds registers l before)))
+
+abbrev pub layout_faults : List Statement → Option (Statement × LineKind)
+layout_faults statements =
+    or_else (first_laid (register_names statements) (settled (equals_in statements)) (laid statements))
+    (first_late (laid statements) [] (reversed (laid statements) []))
+
+-- ---- the pass of values
+
+abbrev pub label_of : Defined → List (List ℕ)
+label_of (Label name) = name ∷ []
+label_of _ = []
+
+-- the names of labels and imports
+abbrev pub symbol_names : List Statement → List (List ℕ)
+symbol_names [] = []
+symbol_names (s ∷ before) = symbol_names before ++ label_of (defined_by s) ++ listed (imported_in s.what)
+
+-- the offset of the word of a statement's literal, where these pieces stand before it and these behind
+abbrev pub word_of : Option ℕ → Extent → List Piece → List Piece → Option ℕ
+word_of (Some area) (Loading n v) before rest = Some (literal_word area before rest v)
+word_of _ _ before rest = None
+
+abbrev pub context_of : List LaidName → List Local → List (List ℕ) → LaidLine → List LaidLine → Context
+context_of names locals symbols l before =
+    record { names = names; line = final_line locals l before; registers = registers_behind before; symbols = symbols }
+
+-- the first line with a fault of values, where these lines stand before it, the nearest first, and these from it on
+abbrev pub first_valued : List LaidLine → List Statement → List LaidLine → List LaidLine → Option (Statement × LineKind)
+first_valued all statements before [] = None
+first_valued all statements before (l ∷ rest) =
+    or_else
+    (told_at l.statement
+    (told_kind
+    (value_kinds (context_of (final_names all) (all_locals all) (symbol_names statements) l before) (datum_names statements)
+    (λ area. area_size area (pieces_of all)) l.seen (taken l.extent) (word_of l.area (taken l.extent) (pieces_of (l ∷ before)) (pieces_of rest))
+    l.statement.what)))
+    (first_valued all statements (l ∷ before) rest)
+
+abbrev pub value_faults : List Statement → Option (Statement × LineKind)
+value_faults statements = first_valued (laid statements) statements [] (reversed (laid statements) [])

@@ -1,0 +1,3 @@
+//! What the statements of a source say once they are laid out, as definitions: names for registers, instructions, words,
+//! and the first faulty line.
+#![tactic(auto)]
