@@ -5,7 +5,7 @@ use Rattle.sdt_word.specs.declared.codes.Condition.TheVariants.{Al, Ne}
 use Rattle.sdt_word.specs.declared.codes.ShiftKind.TheVariants.{Lsl, Lsr}
 use Rattle.sdt_word.specs.Rows.{word_of}
 use Rattle.sdt_fault.specs.declared.kinds.LineKind.{LineKind}
-use Rattle.sdt_fault.specs.declared.kinds.LineKind.TheVariants.{BadOperand, Constant, WrongType, OutOfRange}
+use Rattle.sdt_fault.specs.declared.kinds.LineKind.TheVariants.{UnknownWord, BadOperand, Constant, Forward, WrongType, OutOfRange}
 use Rattle.arm_isa.specs.ArmRows.{arm_row, arm_fields}
 use Rattle.arm_isa.specs.declared.instr.ArmInstr.{ArmInstr}
 use Rattle.arm_isa.specs.declared.instr.HalfKind.TheVariants as kind
@@ -33,6 +33,8 @@ use Rattle.asm_model.specs.declared.statements.What.TheVariants as what
 use Rattle.asm_model.specs.AtLine.{SourceLine, Sight, Nameless, sight}
 use Rattle.layout_model.specs.Entries.{label_entry, imported_entry, valued_entry}
 use Rattle.source_model.specs.Contexts.{Context}
+use Rattle.source_model.specs.Registers.{name_kinds, operand_kinds}
+use Rattle.source_model.specs.ValueKinds.{statement_kinds}
 use Rattle.source_model.specs.Immediates.{immediate, data_immediate}
 use Rattle.source_model.specs.ArmForms.{arm_instruction}
 use Rattle.source_model.specs.PseudoForms.{pseudo_instructions}
@@ -54,6 +56,7 @@ context = record {
   line = here;
   registers = (codes "base", 9) ∷ [];
   symbols = codes "start" ∷ codes "other" ∷ codes "far" ∷ [];
+  defined = codes "base" ∷ [];
 }
 
 abbrev seen : Sight
@@ -191,3 +194,39 @@ bytes_and_strings = refl
 
 pub half_too_large : units context [] seen None (what.Directive (line.Dcw (number 65536 ∷ []))) ≡ Err OutOfRange
 half_too_large = refl
+
+-- ---- EXPORT
+
+abbrev sizes : ℕ → ℕ
+sizes area = 12
+
+abbrev exported : List ℕ → List LineKind
+exported s = statement_kinds context sizes (what.Directive (line.Export s))
+
+pub label_exported : exported (codes "start") ≡ []
+label_exported = refl
+
+pub number_exported : exported (codes "six") ≡ []
+number_exported = refl
+
+pub import_exported : exported (codes "far") ≡ WrongType ∷ []
+import_exported = refl
+
+pub register_exported : exported (codes "base") ≡ WrongType ∷ []
+register_exported = refl
+
+pub nothing_exported : exported (codes "none") ≡ UnknownWord ∷ []
+nothing_exported = refl
+
+-- ---- names for registers
+
+pub register_too_early : name_kinds (codes "base" ∷ []) names [] (register.Named (codes "base")) ≡ Forward ∷ []
+register_too_early = refl
+
+pub register_of_a_label : name_kinds (codes "base" ∷ []) names [] (register.Named (codes "start")) ≡ WrongType ∷ []
+register_of_a_label = refl
+
+pub falling_range :
+    operand_kinds ((codes "base", 9) ∷ []) (what.Arm (arm.TransferBlock Al true mode.IncrementAfter (r 0) false (record { items = listed.Range (register.Named (codes "base")) (r 1) ∷ [] }) false))
+    ≡ BadOperand ∷ []
+falling_range = refl

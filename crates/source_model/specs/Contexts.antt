@@ -16,13 +16,14 @@ use Rattle.layout_model.specs.Laid.{final_value}
 use Rattle.layout_model.specs.Symbols.{final_sight}
 use Rattle.source_model.specs.Registers.{Named, number_of}
 
--- all names of the source, the statement's line, the names for registers that are known there, and the names that
--- symbols may have: those of labels and imports
+-- all names of the source, the statement's line, the names for registers that are known there, the names that symbols may
+-- have, those of labels and imports, and the names that the source defines or imports, values or none
 pub record Context : Type 0 where
   pub names : List LaidName
   pub line : SourceLine
   pub registers : List Named
   pub symbols : List (List ℕ)
+  pub defined : List (List ℕ)
 
 abbrev pub sees : Context → Names
 sees c = final_sight c.names c.line

@@ -1,6 +1,6 @@
 -- The object that statements make: areas with their attributes and bytes, symbols, relocations and the entry. SDT 2.50
 -- Reference Guide, ARM Object Format; which symbols there are and their order are this project's.
-use Rattle.std.specs.Prelude.{◌≡◌, ◌⊎◌, ℕ, ◌+◌, ◌*◌, ◌%◌, ◌^◌, ◌<◌, ◌≤◌, ◌==◌, ◌&&◌, List, [], ◌∷◌, ◌++◌, length, take, drop, map, get_or, slice_get, Bool, true, false, if◌then◌else◌, Option, Some, None, Result, Ok, Err}
+use Rattle.std.specs.Prelude.{◌≡◌, ◌⊎◌, ℕ, ◌+◌, ◌*◌, ◌%◌, ◌^◌, ◌<◌, ◌≤◌, ◌&&◌, List, [], ◌∷◌, ◌++◌, length, take, drop, map, get_or, slice_get, Bool, true, false, if◌then◌else◌, Option, Some, None, Result, Ok, Err}
 use Rattle.std.specs.List.{list_any}
 use Rattle.sdt_word.specs.Bytes.{bytes_of}
 use Rattle.sdt_word.specs.Numbers.{flag}
@@ -35,7 +35,7 @@ use Rattle.layout_model.specs.Marks.{datum_names}
 use Rattle.layout_model.specs.Offsets.{is_of, area_size}
 use Rattle.layout_model.specs.Symbols.{symbols_of, literal_value}
 use Rattle.source_model.specs.Contexts.{Context, sees}
-use Rattle.source_model.specs.SourceFaults.{context_of, symbol_names, word_of as literal_place}
+use Rattle.source_model.specs.SourceFaults.{context_of, word_of as literal_place}
 use Rattle.source_model.specs.Units.{Emitted, Bytes, Word, Instruction, Stored, Target, Nothing, ByArea, BySymbol, stored, units}
 
 -- ---- areas
@@ -124,7 +124,7 @@ in_order [] after = after
 in_order (l ∷ ls) after = in_order ls (l ∷ after)
 
 abbrev pub context_at : (s : Source) (l : LaidLine) → At s l → Context
-context_at s l at = context_of s.names (all_locals s.lines) (symbol_names s.statements) l at.before
+context_at s l at = context_of s.names (all_locals s.lines) s.statements l at.before
 
 abbrev pub word_at : (s : Source) (l : LaidLine) → At s l → Option ℕ
 word_at s l at = literal_place l.area (taken l.extent) (pieces_of (l ∷ at.before)) (pieces_of (in_order at.rest []))
@@ -236,6 +236,7 @@ in_no_line s = record {
   line = record { area = None; offset = 0; map = 0; thumb = false; back = []; forth = []; definition = Nameless };
   registers = [];
   symbols = [];
+  defined = [];
 }
 
 abbrev pub symbol_valued : Source → List ℕ → Value → Symbol

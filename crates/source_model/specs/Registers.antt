@@ -56,7 +56,7 @@ abbrev pub named_by : Sight → Defined → List Named
 named_by s (RegisterName name r) = with_register name (given s r)
 named_by s _ = []
 
--- the names for registers behind lines, the nearest first
+-- the names for registers behind lines, in the order of the source
 abbrev pub registers_behind : List LaidLine → List Named
 registers_behind [] = []
 registers_behind (l ∷ before) = registers_behind before ++ named_by l.seen (defined_by l.statement)

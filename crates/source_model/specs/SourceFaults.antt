@@ -9,7 +9,7 @@ use Rattle.asm_model.specs.Kinds.{told_kind}
 use Rattle.layout_model.specs.Extents.{Extent, Loading}
 use Rattle.layout_model.specs.Labels.{Defined, Label, defined_by, imported_in}
 use Rattle.layout_model.specs.Laid.{LaidLine, taken, pieces_of, laid, reversed, all_locals, final_line, final_names}
-use Rattle.layout_model.specs.LayoutKinds.{layout_kinds, told_at, first_late, settled, equals_in, listed}
+use Rattle.layout_model.specs.LayoutKinds.{layout_kinds, told_at, first_late, names_behind, settled, equals_in, listed}
 use Rattle.layout_model.specs.Locals.{Local}
 use Rattle.layout_model.specs.Marks.{datum_names}
 use Rattle.layout_model.specs.Offsets.{Piece, area_size, literal_word}
@@ -47,9 +47,14 @@ abbrev pub word_of : Option ℕ → Extent → List Piece → List Piece → Opt
 word_of (Some area) (Loading n v) before rest = Some (literal_word area before rest v)
 word_of _ _ before rest = None
 
-abbrev pub context_of : List LaidName → List Local → List (List ℕ) → LaidLine → List LaidLine → Context
-context_of names locals symbols l before =
-    record { names = names; line = final_line locals l before; registers = registers_behind before; symbols = symbols }
+abbrev pub context_of : List LaidName → List Local → List Statement → LaidLine → List LaidLine → Context
+context_of names locals statements l before = record {
+  names = names;
+  line = final_line locals l before;
+  registers = registers_behind before;
+  symbols = symbol_names statements;
+  defined = names_behind statements;
+}
 
 -- the first line with a fault of values, where these lines stand before it, the nearest first, and these from it on
 abbrev pub first_valued : List LaidLine → List Statement → List LaidLine → List LaidLine → Option (Statement × LineKind)
@@ -58,10 +63,16 @@ first_valued all statements before (l ∷ rest) =
     or_else
     (told_at l.statement
     (told_kind
-    (value_kinds (context_of (final_names all) (all_locals all) (symbol_names statements) l before) (datum_names statements)
+    (value_kinds (context_of (final_names all) (all_locals all) statements l before) (datum_names statements)
     (λ area. area_size area (pieces_of all)) l.seen (taken l.extent) (word_of l.area (taken l.extent) (pieces_of (l ∷ before)) (pieces_of rest))
     l.statement.what)))
     (first_valued all statements (l ∷ before) rest)
 
 abbrev pub value_faults : List Statement → Option (Statement × LineKind)
 value_faults statements = first_valued (laid statements) statements [] (reversed (laid statements) [])
+
+-- ---- both
+
+-- the first faulty line of statements: the pass of layout counts before that of values
+abbrev pub statements_fault : List Statement → Option (Statement × LineKind)
+statements_fault statements = or_else (layout_faults statements) (value_faults statements)

@@ -1,6 +1,7 @@
 -- The kinds of faults that values have, once all names of a source are known: of operands, of names for expressions, of
 -- EXPORT and KEEP, and of ASSERT. SDT 2.50 Reference Guide, chapter on the assembler; the kinds are this project's.
 use Rattle.std.specs.Prelude.{ℕ, ◌+◌, ◌%◌, ◌^◌, nat_le, List, [], ◌∷◌, ◌++◌, Bool, false, if◌then◌else◌, Option, Some, None, Result, Ok, Err}
+use Rattle.std.specs.List.{list_any}
 use Rattle.sdt_fault.specs.declared.kinds.LineKind.{LineKind}
 use Rattle.sdt_fault.specs.declared.kinds.LineKind.TheVariants.{UnknownWord, WrongType, Assert}
 use Rattle.asm_model.specs.declared.directives.DirectiveLine.{DirectiveLine}
@@ -11,6 +12,7 @@ use Rattle.asm_model.specs.declared.statements.What.TheVariants as what
 use Rattle.asm_model.specs.declared.values.Value.{Value}
 use Rattle.asm_model.specs.declared.values.Value.TheVariants.{Number, Truth, Place}
 use Rattle.asm_model.specs.AtLine.{Sight}
+use Rattle.asm_model.specs.Forms.{same}
 use Rattle.asm_model.specs.Meaning.{named_in, stands_at}
 use Rattle.layout_model.specs.Extents.{Extent, Loading}
 use Rattle.layout_model.specs.LayoutKinds.{fault_kinds}
@@ -28,9 +30,9 @@ lies_within sizes (Some a) n = nat_le ((a.1 + n) % 2 ^ 32) (sizes a.0)
 abbrev pub kinds_unless : Bool → LineKind → List LineKind
 kinds_unless holds k = if holds then [] else k ∷ []
 
-abbrev pub export_kinds : Context → (ℕ → ℕ) → Option LaidName → List LineKind
-export_kinds c sizes None = UnknownWord ∷ []
-export_kinds c sizes (Some n) = by_value n.value
+abbrev pub export_kinds : Context → (ℕ → ℕ) → List ℕ → Option LaidName → List LineKind
+export_kinds c sizes name None = (if list_any (same name) c.defined then WrongType else UnknownWord) ∷ []
+export_kinds c sizes name (Some n) = by_value n.value
   where
     by_value : Value → List LineKind
     by_value (Number m) = []
@@ -47,8 +49,8 @@ assert_kinds (Err k) = k ∷ []
 -- ---- all
 
 abbrev pub directive_kinds : Context → (ℕ → ℕ) → DirectiveLine → List LineKind
-directive_kinds c sizes (line.Export name) = export_kinds c sizes (named_in name c.names)
-directive_kinds c sizes (line.Keep name) = export_kinds c sizes (named_in name c.names)
+directive_kinds c sizes (line.Export name) = export_kinds c sizes name (named_in name c.names)
+directive_kinds c sizes (line.Keep name) = export_kinds c sizes name (named_in name c.names)
 directive_kinds c sizes (line.Equ e) = fault_kinds (value_of c e)
 directive_kinds c sizes (line.Assert e) = assert_kinds (value_of c e)
 directive_kinds c sizes _ = []
