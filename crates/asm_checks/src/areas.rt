@@ -156,7 +156,7 @@ fn named_kind(
     ))
 }
 
-/// The fault of a line by the attributes that it gives its area. Behind a line without one its area is known.
+/// The fault of a line by the attributes that it gives an area. Behind a line without one its area is known.
 pub fn area_kind(
     alloc: Global,
     areas: &mut BTreeMap<Text, AreaMarks>,

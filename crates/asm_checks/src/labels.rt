@@ -95,8 +95,8 @@ pub fn imported_name(statement: &Statement) -> Option<&Text>
     ensures { option_copied result ≡ defined.imported_in statement.now.what }
 {
     match &statement.what {
-        What::Directive(DirectiveLine::Import { name, .. } | DirectiveLine::Extern { name, .. }) =>
-            { Some(name) }
+        What::Directive(DirectiveLine::Import { name, .. }) => Some(name),
+        What::Directive(DirectiveLine::Extern { name, .. }) => Some(name),
         _ => None,
     }
 }
@@ -122,7 +122,7 @@ pub fn names_here(statement: &Statement) -> bool
     ensures { result ≡ layout.names_here (defined.defined_by statement.now) }
 {
     match (&statement.label, &statement.what) {
-        (Some(_), What::Directive(DirectiveLine::Equ { value })) => { mentions_here(value) }
+        (Some(_), What::Directive(DirectiveLine::Equ { value })) => mentions_here(value),
         (_, _) => false,
     }
 }
