@@ -1,0 +1,4 @@
+pub mod AreaLemmas
+pub mod DeclareLemmas
+pub mod NumberLemmas
+pub mod ReadLemmas

@@ -1,6 +1,11 @@
 //! The lines of a source, laid one behind the other.
 #![tactic(auto)]
 
+pub mod areas;
 pub mod behind;
+pub mod declarations;
 pub mod defining;
 pub mod entries;
+pub mod extents;
+pub mod numbers;
+pub mod values;
