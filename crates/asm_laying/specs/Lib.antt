@@ -2,5 +2,6 @@
 pub mod Behind
 pub mod Declaring
 pub mod Defining
+pub mod Laying
 pub mod Numbered
 pub mod Reading

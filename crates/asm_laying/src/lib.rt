@@ -7,5 +7,7 @@ pub mod declarations;
 pub mod defining;
 pub mod entries;
 pub mod extents;
+pub mod finding;
+pub mod laying;
 pub mod numbers;
 pub mod values;
