@@ -20,7 +20,7 @@ use Rattle.asm_sight.proofs.AgreeLemmas.{SoundValue, SoundEntry, AgreeItem, Agre
 -- ---- each entry is the first with its name
 
 -- an entry that is found has the name
-found_name : (q : List ℕ) (list : List LaidName) (e : LaidName) → named_in q list ≡ Some e → e.name ≡ q
+pub found_name : (q : List ℕ) (list : List LaidName) (e : LaidName) → named_in q list ≡ Some e → e.name ≡ q
 found_name q [] e h = absurd (cc)
 found_name q (n ∷ ns) e h = by_test (same n.name q) refl h (found_name q ns e)
   where
@@ -28,10 +28,10 @@ found_name q (n ∷ ns) e h = by_test (same n.name q) refl h (found_name q ns e)
     by_test true s k rest = let x : n ≡ e = cc in rw (← x) (same_true n.name q s)
     by_test false s k rest = rest k
 
-named_same : (q : List ℕ) (list : List LaidName) (e : LaidName) → named_in q list ≡ Some e → named_in e.name list ≡ Some e
+pub named_same : (q : List ℕ) (list : List LaidName) (e : LaidName) → named_in q list ≡ Some e → named_in e.name list ≡ Some e
 named_same q list e h = ap (λ x. named_in x list) (found_name q list e h) ∙ h
 
-each_one : (list : List LaidName) (o : Option LaidName) → ((e : LaidName) → o ≡ Some e → named_in e.name list ≡ Some e) → HoldsEach list (one_entry o)
+pub each_one : (list : List LaidName) (o : Option LaidName) → ((e : LaidName) → o ≡ Some e → named_in e.name list ≡ Some e) → HoldsEach list (one_entry o)
 each_one list None h = tt
 each_one list (Some e) h = (h e refl, tt)
 

@@ -86,11 +86,14 @@ agree_each : (s r : Sight) → SeesTheSame s r → (is : List ExprItem) → Agre
 agree_each s r h [] = tt
 agree_each s r h (i ∷ is) = (agree_any s r h i, agree_each s r h is)
 
+pub same_known : (s r : Sight) → SeesTheSame s r → (t : Tree) → meaning s.known t ≡ meaning r.known t
+same_known s r h t =
+    same_meaning s.known r.known (record { area = h.area; offset = h.offset; map = h.map; thumb = h.thumb }) t (agree_each s r h (postfix t))
+
 same_value : (s r : Sight) → SeesTheSame s r → (t : Tree) → value_at s t ≡ value_at r t
 same_value s r h t =
     ap (λ ks. unless_told (told_kind ks) (meaning s.known t)) (same_name_kinds s r h t)
-    ∙ ap (unless_told (told_kind (name_kinds r t)))
-    (same_meaning s.known r.known (record { area = h.area; offset = h.offset; map = h.map; thumb = h.thumb }) t (agree_each s r h (postfix t)))
+    ∙ ap (unless_told (told_kind (name_kinds r t))) (same_known s r h t)
 
 -- ---- names that stay names
 

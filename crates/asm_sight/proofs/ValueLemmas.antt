@@ -31,14 +31,15 @@ pub sees_fault : (s : Sight) (items : List ExprItem) (k : LineKind) → told_thr
     → SeesValue s items (Err (eval.Kind k))
 sees_fault s items k h ps t d e = ap (λ o. unless_told o (meaning s.known t)) (told_there s items ps t d e ∙ h)
 
-pub sees_value : (s : Sight) (items : List ExprItem) (names : Names) (r : Result Value EvalFault) → told_through s None items ≡ None
-    → names ≡ with_list s.known (items_entries s.known.list items) → Evaluates names items r → SeesValue s items r
-sees_value s items names r h n ev ps t d e =
-    let same : meaning names t ≡ value_at s t =
-    ap (λ (m : Names). meaning m t) (n ∙ ap (λ is. with_list s.known (items_entries s.known.list is)) e)
-    ∙ few_meaning s.known t
-    ∙ ap (λ o. unless_told o (meaning s.known t)) (sym (told_there s items ps t d e ∙ h)) in
+pub with_few : (n : Names) (items : List ExprItem) (names : Names) (r : Result Value EvalFault) → names ≡ with_list n (items_entries n.list items) → Evaluates names items r → Evaluates n items r
+with_few n items names r h ev ps t d e =
+    let same : meaning names t ≡ meaning n t =
+    ap (λ (m : Names). meaning m t) (h ∙ ap (λ is. with_list n (items_entries n.list is)) e) ∙ few_meaning n t in
     subst (λ (m : Result Value LineKind). IsValue m r) same (ev ps t d e)
+
+pub sees_value : (s : Sight) (items : List ExprItem) (r : Result Value EvalFault) → told_through s None items ≡ None → Evaluates s.known items r → SeesValue s items r
+sees_value s items r h ev ps t d e =
+    subst (λ (m : Result Value LineKind). IsValue m r) (ap (λ o. unless_told o (meaning s.known t)) (sym (told_there s items ps t d e ∙ h))) (ev ps t d e)
 
 pub sees_kept : (s : Sight) (items kept : List ExprItem) (r : Result Value EvalFault) → kept ≡ kept_items s items → SeesValue s kept r → SeesKept s items r
 sees_kept s items kept r k h ps t d e =

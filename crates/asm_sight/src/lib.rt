@@ -14,4 +14,4 @@ pub mod values;
 pub use crate::known::KnownNames;
 pub use crate::laws::sights_alone_count;
 pub use crate::places::Place;
-pub use crate::values::{literal_at, number_at, value_at};
+pub use crate::values::{literal_at, number_at, value_at, value_with};

@@ -33,17 +33,23 @@ fn evaluated(alloc: Global, e: &Expr, names: &Names) -> Result<Value, EvalFault>
     evaluate_indexed(alloc, e, names, &index)
 }
 
+/// The value of an expression with the names that its line knows, whatever the source has besides.
+pub fn value_with(alloc: Global, e: &Expr, place: &Place<'_>) -> Result<Value, EvalFault>
+    ensures { Evaluates (sight_of place.now).known e.now.items result }
+{
+    let names = names_for(alloc, place, e.items.as_slice())?;
+    evaluated(alloc, e, &names)
+}
+
 /// The value of an expression by what is known at its line, or the kind of its fault: Forward for a name that the
 /// source defines and the line doesn't know, and UnknownWord for one that nothing defines.
 pub fn value_at(alloc: Global, e: &Expr, place: &Place<'_>) -> Result<Value, EvalFault>
     ensures { SeesValue (sight_of place.now) e.now.items result }
 {
-    let items = e.items.as_slice();
-    if let Some(kind) = names_fault(alloc, place, items)? {
+    if let Some(kind) = names_fault(alloc, place, e.items.as_slice())? {
         return Err(EvalFault::Kind(kind));
     }
-    let names = names_for(alloc, place, items)?;
-    evaluated(alloc, e, &names)
+    value_with(alloc, e, place)
 }
 
 /// A value as a number.

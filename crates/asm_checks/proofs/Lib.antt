@@ -1,0 +1,4 @@
+mod AreaLemmas
+mod LineLemmas
+mod NameLemmas
+mod ToldLemmas

@@ -1,0 +1,26 @@
+-- What is told of a line's faults, part by part.
+use Rattle.std.proofs.Common.{◌≡◌, List, ◌++◌, Option, Some, None, refl, sym, ◌∙◌}
+use Rattle.sdt_fault.specs.declared.kinds.LineKind.{LineKind}
+use Rattle.asm_model.specs.FaultSets.{first_told}
+use Rattle.asm_model.specs.Kinds.{told_kind}
+use Rattle.asm_model.proofs.FaultLemmas.{first_assoc, told_by_parts}
+
+pub told_of_two : (a b : Option LineKind) (ks js : List LineKind) → a ≡ told_kind ks → b ≡ told_kind js → first_told a b ≡ told_kind (ks ++ js)
+told_of_two a b ks js e f = rw (e, f) (sym (told_by_parts ks js))
+
+pub told_of_five : (here attributes defined : Option LineKind) (ks ls ms ns os : List LineKind)
+    → here ≡ first_told (told_kind ks) (told_kind ls) → attributes ≡ told_kind ms → defined ≡ first_told (told_kind ns) (told_kind os)
+    → first_told here (first_told attributes defined) ≡ told_kind (ks ++ ls ++ ms ++ ns ++ os)
+told_of_five here attributes defined ks ls ms ns os e f g =
+    rw (e, f, g)
+    (first_assoc (first_told (told_kind ks) (told_kind ls)) (told_kind ms) (first_told (told_kind ns) (told_kind os))
+    ∙ first_assoc (first_told (first_told (told_kind ks) (told_kind ls)) (told_kind ms)) (told_kind ns) (told_kind os)
+    ∙ sym (rw (told_by_parts (((ks ++ ls) ++ ms) ++ ns) os, told_by_parts ((ks ++ ls) ++ ms) ns, told_by_parts (ks ++ ls) ms, told_by_parts ks ls) refl))
+
+-- where nothing is told, nothing is told of a part
+pub none_of_attributes : (here attributes defined : Option LineKind) → first_told here (first_told attributes defined) ≡ None → attributes ≡ None
+none_of_attributes here None defined e = refl
+none_of_attributes None (Some k) None e = absurd (cc)
+none_of_attributes None (Some k) (Some j) e = absurd (cc)
+none_of_attributes (Some i) (Some k) None e = absurd (cc)
+none_of_attributes (Some i) (Some k) (Some j) e = absurd (cc)

@@ -1,0 +1,176 @@
+//! Areas that are named again.
+
+ghost use Rattle.std.specs.Prelude.{◌≡◌, ◌++◌, ◌∷◌, List, None, Ok, IfOk, OnOk};
+ghost use Rattle.sdt_fault.specs.declared.kinds.LineKind.TheVariants.{BadOperand};
+ghost use Rattle.asm_model.specs.AtLine.{Sight};
+ghost use Rattle.asm_model.specs.Kinds.{told_kind};
+ghost use Rattle.layout_model.specs.Laid.{LaidLine};
+ghost use Rattle.layout_model.specs.LayoutKinds as layout;
+ghost use Rattle.asm_checks.specs.Areas as areas_of;
+ghost use Rattle.asm_checks.specs.Areas.{AreAreasOf, IsExponent, IsNoted};
+
+use crate::told::{first_told, kind_if};
+use asm_model::{AreaAttributes, Contents, DirectiveLine, What};
+use sdt_fault::kinds::LineKind;
+use sdt_fault::{NoMemory, Text};
+use std::alloc::Global;
+use std::collections::BTreeMap;
+
+/// The attributes of an area.
+#[derive(Clone, Copy, Debug)]
+pub struct AreaMarks {
+    pub contents: Contents,
+    pub read_only: bool,
+    pub interwork: bool,
+    pub halfword: bool,
+    pub pic: bool,
+    pub reentrant: bool,
+    /// The exponent of its alignment.
+    pub exponent: u32,
+}
+
+fn same_contents(a: Contents, b: Contents) -> bool
+    ensures { result ≡ layout.same_contents a b }
+{
+    match (a, b) {
+        (Contents::Code, Contents::Code) => true,
+        (Contents::Data, Contents::Data) => true,
+        (Contents::Zeroes, Contents::Zeroes) => true,
+        (_, _) => false,
+    }
+}
+
+fn same_mark(a: bool, b: bool) -> bool
+    ensures { result ≡ layout.same_mark a b }
+{
+    if a {
+        return b;
+    }
+    !b
+}
+
+/// Whether exponents agree; one that isn't known is told by itself.
+fn same_exponent(exponent: Result<u32, LineKind>, known: u32) -> bool
+    ensures { result ≡ layout.same_exponent exponent (Ok known) }
+{
+    match exponent {
+        Ok(exponent) => exponent == known,
+        Err(_) => true,
+    }
+}
+
+/// Whether attributes agree with those of an area.
+fn agrees(attributes: &AreaAttributes, exponent: Result<u32, LineKind>, marks: &AreaMarks) -> bool
+    ensures { result ≡ areas_of.agrees attributes.now exponent marks.now }
+{
+    same_contents(attributes.contents, marks.contents)
+        && same_mark(attributes.read_only, marks.read_only)
+        && same_mark(attributes.interwork, marks.interwork)
+        && same_mark(attributes.halfword, marks.halfword)
+        && same_mark(attributes.pic, marks.pic)
+        && same_mark(attributes.reentrant, marks.reentrant)
+        && same_exponent(exponent, marks.exponent)
+}
+
+/// The fault of an exponent.
+fn exponent_kind(exponent: Result<u32, LineKind>) -> Option<LineKind>
+    ensures { result ≡ told_kind (layout.exponent_kinds exponent) }
+{
+    match exponent {
+        Ok(exponent) => kind_if(exponent < 2 || 16 < exponent, LineKind::BadOperand),
+        Err(kind) => Some(kind),
+    }
+}
+
+fn marks_of(attributes: &AreaAttributes, exponent: u32) -> AreaMarks
+    ensures { result ≡ areas_of.marks_of attributes.now exponent }
+{
+    AreaMarks {
+        contents: attributes.contents,
+        read_only: attributes.read_only,
+        interwork: attributes.interwork,
+        halfword: attributes.halfword,
+        pic: attributes.pic,
+        reentrant: attributes.reentrant,
+        exponent,
+    }
+}
+
+/// The attributes of the area with the name.
+fn marks_in(areas: &BTreeMap<Text, AreaMarks>, name: &Text) -> Option<AreaMarks>
+    ensures { result ≡ areas_of.marks_in areas.now name.now }
+{
+    areas.get(name).copied()
+}
+
+/// Notes the attributes of an area that has none yet, where its exponent is known.
+fn note(
+    alloc: Global,
+    areas: &mut BTreeMap<Text, AreaMarks>,
+    name: &Text,
+    attributes: &AreaAttributes,
+    exponent: Result<u32, LineKind>,
+) -> Result<(), NoMemory>
+    ensures { OnOk result (IsNoted name.now attributes.now exponent areas.old areas.new) }
+{
+    match (exponent, marks_in(areas, name)) {
+        (Err(_), _) => Ok(()),
+        (Ok(_), Some(_)) => Ok(()),
+        (Ok(exponent), None) => {
+            areas.insert(name.try_clone(alloc)?, marks_of(attributes, exponent))?;
+            Ok(())
+        }
+    }
+}
+
+/// Whether the area has other attributes.
+fn is_otherwise(
+    attributes: &AreaAttributes,
+    exponent: Result<u32, LineKind>,
+    marks: Option<AreaMarks>,
+) -> bool
+    ensures { result ≡ areas_of.is_otherwise attributes.now exponent marks }
+{
+    match marks {
+        None => false,
+        Some(marks) => !agrees(attributes, exponent, &marks),
+    }
+}
+
+/// The fault of an AREA line. From now on its area is known.
+fn named_kind(
+    alloc: Global,
+    areas: &mut BTreeMap<Text, AreaMarks>,
+    name: &Text,
+    attributes: &AreaAttributes,
+    exponent: Result<u32, LineKind>,
+) -> Result<Option<LineKind>, NoMemory>
+    ensures told { IfOk result (λ told. told ≡ told_kind (layout.exponent_kinds exponent ++ layout.kind_if (areas_of.is_otherwise attributes.now exponent (areas_of.marks_in areas.old name.now)) BadOperand)) }
+    ensures noted { OnOk result (IsNoted name.now attributes.now exponent areas.old areas.new) }
+{
+    let otherwise = is_otherwise(attributes, exponent, marks_in(areas, name));
+    note(alloc, areas, name, attributes, exponent)?;
+    Ok(first_told(
+        exponent_kind(exponent),
+        kind_if(otherwise, LineKind::BadOperand),
+    ))
+}
+
+/// The fault of a line by the attributes that it gives an area. Behind a line without one its area is known.
+pub fn area_kind(
+    alloc: Global,
+    areas: &mut BTreeMap<Text, AreaMarks>,
+    what: &What,
+    exponent: Result<u32, LineKind>,
+) -> Result<Option<LineKind>, NoMemory>
+    ensures told { IfOk result (λ told. (s : Sight) (before : List LaidLine) → AreAreasOf before areas.old → IsExponent s what.now exponent → told ≡ told_kind (layout.area_kinds s what.now before)) }
+    ensures noted { IfOk result (λ told. (l : LaidLine) (before : List LaidLine) → AreAreasOf before areas.old → l.statement.what ≡ what.now → IsExponent l.seen what.now exponent → told ≡ None → AreAreasOf (l ∷ before) areas.new) }
+{
+    match what {
+        What::Directive(DirectiveLine::Area { name, attributes }) => {
+            let told = named_kind(alloc, areas, name, attributes, exponent)?;
+            Ok(told)
+        }
+        _ => Ok(None),
+    }
+}

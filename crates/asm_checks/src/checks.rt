@@ -1,0 +1,110 @@
+//! The checks of a source's lines, one behind the other.
+
+ghost use Rattle.std.specs.Prelude.{◌≡◌, ◌&&◌, ◌||◌, ◌∷◌, [], ℕ, List, None, IfOk};
+ghost use Rattle.sdt_fault.specs.declared.kinds.LineKind.TheVariants.{DuplicateName};
+ghost use Rattle.asm_model.specs.Kinds.{told_kind};
+ghost use Rattle.layout_model.specs.Labels.{defined_by};
+ghost use Rattle.layout_model.specs.Laid.{LaidLine};
+ghost use Rattle.layout_model.specs.LayoutKinds as layout;
+ghost use Rattle.asm_checks.specs.Checked.{checked_kinds, IsChecked, IsLine, IsSettled};
+
+use crate::areas::{AreaMarks, area_kind};
+use crate::labels::is_equal;
+use crate::names::is_repeated;
+use crate::places::{contents_from, contents_kind, is_entry, no_area_kind};
+use crate::told::{first_told, kind_if};
+use asm_model::{Contents, Statement, What};
+use sdt_fault::kinds::LineKind;
+use sdt_fault::{NoMemory, Text};
+use std::alloc::Global;
+use std::collections::{BTreeMap, BTreeSet};
+
+/// What lines leave for the checks of those behind them.
+#[derive(Debug, Drop)]
+pub struct Checks {
+    alloc: Global,
+    /// The contents of the area in which the last line stands.
+    contents: Option<Contents>,
+    /// The attributes of each area.
+    areas: BTreeMap<Text, AreaMarks>,
+    /// The names that are defined or imported.
+    names: BTreeSet<Text>,
+    has_entry: bool,
+}
+
+/// The fault of a name for an expression that isn't settled.
+fn settled_kind(statement: &Statement, is_settled: bool) -> Option<LineKind>
+    ensures { (settled : List (List ℕ)) → IsSettled settled (defined_by statement.now) is_settled → result ≡ told_kind (layout.settled_kinds settled (defined_by statement.now)) }
+{
+    if is_settled {
+        return None;
+    }
+    kind_if(is_equal(statement), LineKind::Forward)
+}
+
+/// Whether a statement is an ENTRY behind another one. From now on there is one.
+fn is_second_entry(has_entry: &mut bool, what: &What) -> bool
+    ensures answer { result ≡ (layout.is_entry what.now && has_entry.old) }
+    ensures now { has_entry.new ≡ (layout.is_entry what.now || has_entry.old) }
+{
+    if !is_entry(what) {
+        return false;
+    }
+    let second = *has_entry;
+    *has_entry = true;
+    second
+}
+
+/// The fault of a name twice, or of a second ENTRY.
+fn name_kind(repeated: bool, second: bool) -> Option<LineKind>
+    ensures { result ≡ told_kind (layout.kind_if (repeated || second) DuplicateName) }
+{
+    if repeated {
+        return Some(LineKind::DuplicateName);
+    }
+    kind_if(second, LineKind::DuplicateName)
+}
+
+impl Checks {
+    /// Before the first line. The allocator is kept for `check`.
+    pub fn new(alloc: Global) -> Checks
+        ensures { IsChecked [] result }
+    {
+        Checks {
+            alloc,
+            contents: None,
+            areas: BTreeMap::new(alloc),
+            names: BTreeSet::new(alloc),
+            has_entry: false,
+        }
+    }
+
+    /// The fault of the next line that is told, of those that need no values but the exponent of an area. Where a
+    /// statement is no AREA its `exponent` isn't looked at, and `is_settled` only where it has a name for an expression.
+    /// Behind a line with a fault, or an `Err`, nothing more can be checked.
+    pub fn check(
+        &mut self,
+        statement: &Statement,
+        area: Option<u32>,
+        thumb: bool,
+        exponent: Result<u32, LineKind>,
+        is_settled: bool,
+    ) -> Result<Option<LineKind>, NoMemory>
+        ensures told { IfOk result (λ told. (settled : List (List ℕ)) (l : LaidLine) (before : List LaidLine) → IsChecked before self.old → IsLine settled statement.now area thumb exponent is_settled l → told ≡ told_kind (checked_kinds settled l before)) }
+        ensures behind { IfOk result (λ told. (settled : List (List ℕ)) (l : LaidLine) (before : List LaidLine) → IsChecked before self.old → IsLine settled statement.now area thumb exponent is_settled l → told ≡ None → IsChecked (l ∷ before) self.new) }
+    {
+        self.contents = contents_from(&statement.what, self.contents);
+        let here = first_told(
+            no_area_kind(area, statement),
+            contents_kind(self.contents, thumb, &statement.what),
+        );
+        let attributes = area_kind(self.alloc, &mut self.areas, &statement.what, exponent)?;
+        let repeated = is_repeated(self.alloc, &mut self.names, statement)?;
+        let second = is_second_entry(&mut self.has_entry, &statement.what);
+        let defined = first_told(
+            name_kind(repeated, second),
+            settled_kind(statement, is_settled),
+        );
+        Ok(first_told(here, first_told(attributes, defined)))
+    }
+}

@@ -1,0 +1,12 @@
+//! Faults of a line that laying out finds without values: where statements stand, areas that are named again, and names
+//! that are defined twice.
+#![tactic(auto)]
+
+mod areas;
+pub mod checks;
+mod labels;
+mod names;
+mod places;
+mod told;
+
+pub use crate::checks::Checks;

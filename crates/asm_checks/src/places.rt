@@ -1,0 +1,119 @@
+//! Where statements may stand.
+
+ghost use Rattle.std.specs.Prelude.{◌≡◌, Some};
+ghost use Rattle.asm_model.specs.declared.directives.Contents.TheVariants as contents;
+ghost use Rattle.asm_model.specs.Kinds.{told_kind};
+ghost use Rattle.layout_model.specs.Labels.{defined_by};
+ghost use Rattle.layout_model.specs.LayoutKinds as layout;
+
+use crate::labels::{has_place, names_here};
+use crate::told::kind_if;
+use asm_model::{Contents, DirectiveLine, Statement, What};
+use sdt_fault::kinds::LineKind;
+
+/// Whether a directive takes up nothing in an area.
+fn is_free_directive(line: &DirectiveLine) -> bool
+    ensures { result ≡ layout.is_free_directive line.now }
+{
+    match line {
+        DirectiveLine::Area { .. }
+        | DirectiveLine::Entry
+        | DirectiveLine::Dcd { .. }
+        | DirectiveLine::Dcdu { .. }
+        | DirectiveLine::Dcw { .. }
+        | DirectiveLine::Dcb { .. }
+        | DirectiveLine::Space { .. }
+        | DirectiveLine::Align { .. }
+        | DirectiveLine::Ltorg
+        | DirectiveLine::Data => false,
+        _ => true,
+    }
+}
+
+fn is_free(what: &What) -> bool
+    ensures { result ≡ layout.is_free what.now }
+{
+    match what {
+        What::Directive(line) => is_free_directive(line),
+        _ => false,
+    }
+}
+
+/// The fault of a statement before the first AREA.
+pub fn no_area_kind(area: Option<u32>, statement: &Statement) -> Option<LineKind>
+    ensures { result ≡ told_kind (layout.no_area_kinds area (defined_by statement.now) statement.now.what) }
+{
+    if area.is_some() {
+        return None;
+    }
+    if !is_free(&statement.what) {
+        return Some(LineKind::NoArea);
+    }
+    if has_place(statement) {
+        return Some(LineKind::NoArea);
+    }
+    kind_if(names_here(statement), LineKind::NoArea)
+}
+
+/// Whether a statement may stand among data that is zero.
+fn is_zero_statement(what: &What) -> bool
+    ensures { result ≡ layout.is_zero_statement what.now }
+{
+    match what {
+        What::Nothing => true,
+        What::Directive(
+            DirectiveLine::Area { .. } | DirectiveLine::Space { .. } | DirectiveLine::Align { .. },
+        ) => true,
+        _ => is_free(what),
+    }
+}
+
+fn is_thumb_instruction(thumb: bool, what: &What) -> bool
+    ensures { result ≡ layout.is_thumb_instruction thumb what.now }
+{
+    match what {
+        What::Thumb(_) => true,
+        What::Pseudo(_) => thumb,
+        _ => false,
+    }
+}
+
+pub fn is_entry(what: &What) -> bool
+    ensures { result ≡ layout.is_entry what.now }
+{
+    match what {
+        What::Directive(DirectiveLine::Entry) => true,
+        _ => false,
+    }
+}
+
+/// The fault of a statement among data.
+fn data_kind(thumb: bool, what: &What) -> Option<LineKind>
+    ensures { result ≡ told_kind (layout.contents_kinds (Some contents.Data) thumb what.now) }
+{
+    if is_thumb_instruction(thumb, what) {
+        return Some(LineKind::BadOperand);
+    }
+    kind_if(is_entry(what), LineKind::BadOperand)
+}
+
+/// The fault of a statement that may not stand in its area.
+pub fn contents_kind(contents: Option<Contents>, thumb: bool, what: &What) -> Option<LineKind>
+    ensures { result ≡ told_kind (layout.contents_kinds contents thumb what.now) }
+{
+    match contents {
+        Some(Contents::Data) => data_kind(thumb, what),
+        Some(Contents::Zeroes) => kind_if(!is_zero_statement(what), LineKind::BadOperand),
+        _ => None,
+    }
+}
+
+/// The contents of the area in which a statement stands, behind others that stand in one of these.
+pub fn contents_from(what: &What, before: Option<Contents>) -> Option<Contents>
+    ensures { result ≡ layout.contents_from what.now before }
+{
+    match what {
+        What::Directive(DirectiveLine::Area { attributes, .. }) => Some(attributes.contents),
+        _ => before,
+    }
+}

@@ -1,0 +1,5 @@
+mod LineLemmas
+mod MatchLemmas
+mod OnceLemmas
+mod SettleLemmas
+mod SourceLemmas

@@ -1,0 +1,12 @@
+//! The names of a source that is laid out, and the values of expressions with them.
+#![tactic(auto)]
+
+mod defined;
+mod entries;
+pub mod lines;
+mod names;
+pub mod values;
+
+pub use crate::lines::PlacedLine;
+pub use crate::names::final_names;
+pub use crate::values::{final_value, references_of};

@@ -1,0 +1,369 @@
+-- A line more.
+use Rattle.std.proofs.Common.{◌≡◌, ◌<◌, ◌≤◌, ℕ, suc, ◌+◌, ◌*◌, ◌%◌, ◌^◌, Bool, true, false, cond, List, [], ◌∷◌, ◌++◌, length, Option, Some, None, refl, sym, ap, ◌∙◌, subst, arith, length-append, nat_lt, min, slice_get, append-nil, append_assoc}
+use Rattle.std.specs.Prelude.{Result, Ok, Err}
+use Rattle.std.proofs.lemmas.Bool.{lt-ltb, le-ltb}
+use Rattle.sdt_fault.specs.declared.NoMemory.{NoMemory}
+use Rattle.sdt_fault.specs.declared.kinds.LineKind.{LineKind}
+use Rattle.sdt_fault.specs.declared.kinds.LineKind.TheVariants.{Syntax, UnknownWord, FloatingPoint, BadOperand, Constant, Forward, DuplicateName, WrongType, OutOfRange, Nesting, Assert, NoArea, DivideByZero, TooDeep, TooMany}
+use Rattle.asm_model.specs.declared.directives.DirectiveLine.{DirectiveLine}
+use Rattle.asm_model.specs.declared.directives.DirectiveLine.TheVariants as line
+use Rattle.asm_model.specs.declared.values.Value.{Value}
+use Rattle.asm_model.specs.declared.names.LaidName.{LaidName}
+use Rattle.asm_model.specs.declared.statements.Statement.{Statement}
+use Rattle.asm_model.specs.declared.statements.What.{What}
+use Rattle.asm_model.specs.declared.statements.What.TheVariants as what
+use Rattle.asm_model.specs.AtLine.{Definition, SourceLine, Sight, sight, added_names, seen_behind, made_name}
+use Rattle.asm_model.specs.Grammar.{Tree}
+use Rattle.asm_model.specs.Kinds.{earlier, told_kind}
+use Rattle.asm_model.specs.Says.{mapped}
+use Rattle.layout_model.specs.Before.{thumb_behind, areas_behind, area_behind, stretch_behind, is_thumb_label}
+use Rattle.layout_model.specs.Entries.{equal_entry}
+use Rattle.layout_model.specs.Extents.{Extent, Block, Padding, Loading, Pool, number_there, value_there, tree_value, extent_of}
+use Rattle.layout_model.specs.Labels.{Defined, Unnamed, LocalLabel, Label, Equal, MapField, RegisterName, defined_by, imported_in, imported_entries}
+use Rattle.layout_model.specs.Laid.{Declared, LaidLine, reversed, statements_of, lines_of, taken, pieces_of, locals_of, map_behind, map_from, added, set_or, aligned_end, offset_behind, tree_equated, definition_of, line_behind, definition_behind, imported_lines, sight_behind, sized, laid_behind}
+use Rattle.layout_model.specs.LayoutKinds.{fault_kinds, kind_if, map_kinds, area_bytes}
+use Rattle.layout_model.specs.Offsets.{Piece, offset_of, size_behind, start_in}
+use Rattle.layout_model.specs.Trees.{tree_of}
+use Rattle.layout_model.proofs.LaidLemmas.{starts_there}
+use Rattle.asm_offsets.specs.declared.extents.Extent.{Extent as Code}
+use Rattle.asm_offsets.specs.declared.extents.Placed.{Placed as Put}
+use Rattle.asm_offsets.specs.declared.extents.TooLarge.{TooLarge}
+use Rattle.asm_offsets.specs.Coded.{extent_of_code, IsExtent}
+use Rattle.asm_offsets.specs.Running.{Standing, piece, IsStanding, IsBehind, IsPlaced, IsThere, Places, Keeps, entry_behind}
+use Rattle.asm_offsets.specs.Laws.{ExtentsArePlaceable}
+use Rattle.asm_expr.specs.Places.{number_in}
+use Rattle.asm_locals.specs.Found.{AllBefore}
+use Rattle.asm_laying.specs.declared.behind.Behind.{Behind}
+use Rattle.asm_laying.specs.declared.finding.Found.{Found}
+use Rattle.asm_laying.specs.declared.finding.Spot.{Spot}
+use Rattle.asm_laying.specs.declared.laying.Laying.{Laying}
+use Rattle.asm_laying.specs.declared.laying.Placed.{Placed}
+use Rattle.asm_laying.specs.Behind.{most_statements}
+use Rattle.asm_laying.specs.Defining.{own_entry, listed}
+use Rattle.asm_laying.specs.Laying.{IsLaying, IsAt, IsSpot, IsFound, Reaches, ShowsLines, MayPlace, OkExtent, equal_names, told_of, IsLaid}
+use Rattle.asm_laying.specs.Numbered.{AreNumbered}
+use Rattle.asm_laying.specs.Reading.{most_bytes, capped, all_capped, coded, map_after}
+use Rattle.asm_laying.proofs.DeclareLemmas.{listed_short, imported_short}
+
+-- ---- kinds
+
+earlier_many : (k : LineKind) → earlier k TooMany ≡ k
+earlier_many Syntax = refl
+earlier_many UnknownWord = refl
+earlier_many FloatingPoint = refl
+earlier_many BadOperand = refl
+earlier_many Constant = refl
+earlier_many Forward = refl
+earlier_many DuplicateName = refl
+earlier_many WrongType = refl
+earlier_many OutOfRange = refl
+earlier_many Nesting = refl
+earlier_many Assert = refl
+earlier_many NoArea = refl
+earlier_many DivideByZero = refl
+earlier_many TooDeep = refl
+earlier_many TooMany = refl
+
+told_first : (k : LineKind) (b : Bool) → told_kind (k ∷ kind_if b TooMany) ≡ Some k
+told_first k true = ap Some (earlier_many k)
+told_first k false = refl
+
+no_directive_map : (s : Sight) (l : DirectiveLine) (k : LineKind) → extent_of s (what.Directive l) ≡ Err k → map_kinds s (what.Directive l) ≡ []
+no_directive_map s (line.Map e) k h = absurd (cc)
+no_directive_map s (line.Field e) k h = absurd (cc)
+no_directive_map s l k h = refl
+
+no_map : (s : Sight) (w : What) (k : LineKind) → extent_of s w ≡ Err k → map_kinds s w ≡ []
+no_map s what.Nothing k h = refl
+no_map s (what.Arm l) k h = refl
+no_map s (what.Thumb l) k h = refl
+no_map s (what.Pseudo l) k h = refl
+no_map s (what.Directive l) k h = no_directive_map s l k h
+
+mapped_faults : {A B : Type 0} (f : A → B) (r : Result A LineKind) → fault_kinds r ≡ fault_kinds (mapped f r)
+mapped_faults f (Ok x) = refl
+mapped_faults f (Err k) = refl
+
+directive_map_is : (map : ℕ) (s : Sight) (l : DirectiveLine) → map_kinds s (what.Directive l) ≡ fault_kinds (map_after map s (what.Directive l))
+directive_map_is map s (line.Map e) = refl
+directive_map_is map s (line.Field e) = mapped_faults (λ n. (map + n) % 2 ^ 32) (number_there s e)
+directive_map_is map s l = refl
+
+map_is : (map : ℕ) (s : Sight) (w : What) → map_kinds s w ≡ fault_kinds (map_after map s w)
+map_is map s what.Nothing = refl
+map_is map s (what.Arm l) = refl
+map_is map s (what.Thumb l) = refl
+map_is map s (what.Pseudo l) = refl
+map_is map s (what.Directive l) = directive_map_is map s l
+
+abbrev is_large : Declared → Statement → List LaidLine → Bool
+is_large d s before = nat_lt area_bytes ((laid_behind d s before).offset + (laid_behind d s before).size)
+
+pub told_extent : (d : Declared) (s : Statement) (before : List LaidLine) (k : LineKind) → extent_of (sight_behind d s before) s.what ≡ Err k
+    → told_of (laid_behind d s before) ≡ Some k
+told_extent d s before k h =
+    ap (λ r. told_kind (fault_kinds r ++ map_kinds (sight_behind d s before) s.what ++ kind_if (is_large d s before) TooMany)) h
+    ∙ ap (λ ks. told_kind ((k ∷ []) ++ ks ++ kind_if (is_large d s before) TooMany)) (no_map (sight_behind d s before) s.what k h)
+    ∙ told_first k (is_large d s before)
+
+told_placed : (d : Declared) (s : Statement) (before : List LaidLine) (e : Extent) (map : ℕ) (r : Result ℕ LineKind)
+    → extent_of (sight_behind d s before) s.what ≡ Ok e → map_after map (sight_behind d s before) s.what ≡ r
+    → told_of (laid_behind d s before) ≡ told_kind (fault_kinds r ++ kind_if (is_large d s before) TooMany)
+told_placed d s before e map r h g =
+    ap (λ x. told_kind (fault_kinds x ++ map_kinds (sight_behind d s before) s.what ++ kind_if (is_large d s before) TooMany)) h
+    ∙ ap (λ ks. told_kind (ks ++ kind_if (is_large d s before) TooMany)) (map_is map (sight_behind d s before) s.what ∙ ap (λ x. fault_kinds x) g)
+
+pub told_map : (d : Declared) (s : Statement) (before : List LaidLine) (e : Extent) (map : ℕ) (k : LineKind)
+    → extent_of (sight_behind d s before) s.what ≡ Ok e → map_after map (sight_behind d s before) s.what ≡ Err k
+    → told_of (laid_behind d s before) ≡ Some k
+told_map d s before e map k h g = told_placed d s before e map (Err k) h g ∙ told_first k (is_large d s before)
+
+told_large : (d : Declared) (s : Statement) (before : List LaidLine) (e : Extent) (map n : ℕ) (b : Bool)
+    → extent_of (sight_behind d s before) s.what ≡ Ok e → map_after map (sight_behind d s before) s.what ≡ Ok n → is_large d s before ≡ b
+    → told_of (laid_behind d s before) ≡ told_kind (kind_if b TooMany)
+told_large d s before e map n b h g t = told_placed d s before e map (Ok n) h g ∙ ap (λ x. told_kind (kind_if x TooMany)) t
+
+-- ---- the storage map
+
+set_is : (map n : ℕ) (r : Result ℕ LineKind) → r ≡ Ok n → n ≡ set_or map r
+set_is map n r h = rw h refl
+
+added_is : (map n : ℕ) (r : Result ℕ LineKind) → mapped (λ k. (map + k) % 2 ^ 32) r ≡ Ok n → n ≡ added map r
+added_is map n (Ok k) h = cc
+added_is map n (Err k) h = absurd (cc)
+
+directive_map_from : (map n : ℕ) (s : Sight) (l : DirectiveLine) → map_after map s (what.Directive l) ≡ Ok n → n ≡ map_from map s (what.Directive l)
+directive_map_from map n s (line.Map e) h = set_is map n (number_there s e) h
+directive_map_from map n s (line.Field e) h = added_is map n (number_there s e) h
+directive_map_from map n s l h = let e : Ok map ≡ Ok n = h in cc
+
+pub map_from_is : (map n : ℕ) (s : Sight) (w : What) → map_after map s w ≡ Ok n → n ≡ map_from map s w
+map_from_is map n s what.Nothing h = cc
+map_from_is map n s (what.Arm l) h = cc
+map_from_is map n s (what.Thumb l) h = cc
+map_from_is map n s (what.Pseudo l) h = cc
+map_from_is map n s (what.Directive l) h = directive_map_from map n s l h
+
+-- ---- what is taken up
+
+coded_is : (x : Code) (r : Result Extent LineKind) → coded (Ok x) ≡ all_capped r → (e : Extent) × (r ≡ Ok e) × (extent_of_code x ≡ capped e)
+coded_is x (Ok e) h = let g : Ok (extent_of_code x) ≡ Ok (capped e) = h in (e, refl, cc)
+coded_is x (Err k) h = absurd (let g : Ok (extent_of_code x) ≡ Err k = h in cc)
+
+pub fault_is : (k : LineKind) (r : Result Extent LineKind) → coded (Err k) ≡ all_capped r → r ≡ Err k
+fault_is k (Ok e) h = absurd (cc)
+fault_is k (Err j) h = cc
+
+standing_any : (area : ℕ) (before : List Piece) (e f : Extent) (o : Option Standing) → IsStanding area (piece None e ∷ before) o → IsStanding area (piece None f ∷ before) o
+standing_any area before e f None h = h
+standing_any area before e f (Some a) h = record { end = h.end; waiting = h.waiting; pools = h.pools }
+
+all_there : (n : ℕ) (m : ℕ) → min n most_bytes ≡ m → m ≤ 2 ^ 24 → min n most_bytes ≡ n
+all_there n m h g = omega arith
+
+pub placed_all : (area : Option ℕ) (e : Extent) (before : List Piece) (areas : List Standing) (p : Put) → IsPlaced area (capped e) before areas p → IsPlaced area e before areas p
+placed_all None (Block a n) before areas p h = record {
+  offset = h.offset;
+  size = h.size;
+  fits = h.fits;
+  literal = h.literal;
+  behind = record { each = λ i. standing_any i before (Block a (min n most_bytes)) (Block a n) (slice_get areas i) (h.behind.each i) };
+}
+placed_all (Some k) (Block a n) before areas p h =
+    let size : p.size ≡ min n most_bytes = h.size in
+    let fits : p.offset + p.size ≤ 2 ^ 24 = h.fits in
+    let same : min n most_bytes ≡ n = all_there n p.size (sym size) (omega (arith, fits)) in
+    subst (λ m. IsPlaced (Some k) (Block a m) before areas p) same h
+placed_all area (Padding m n) before areas p h = h
+placed_all area (Loading n v) before areas p h = h
+placed_all area Pool before areas p h = h
+
+pub large_all : (area : Option ℕ) (e : Extent) (before : List Piece) → 2 ^ 24 < offset_of area before (capped e) + size_behind area before (capped e)
+    → 2 ^ 24 < offset_of area before e + size_behind area before e
+large_all None (Block a n) before h = h
+large_all (Some k) (Block a n) before h =
+    let g : 2 ^ 24 < start_in k before (Block a n) + min n most_bytes = h in
+    let less : min n most_bytes ≤ n = omega arith in
+    let goal : 2 ^ 24 < start_in k before (Block a n) + n = omega (arith, g, less) in goal
+large_all area (Padding m n) before h = h
+large_all area (Loading n v) before h = h
+large_all area Pool before h = h
+
+pub capped_fits : (e : Extent) → IsExtent e → IsExtent (capped e)
+capped_fits (Block a n) h = h
+capped_fits (Padding m n) h = h
+capped_fits (Loading n v) h = h
+capped_fits Pool h = h
+
+pub found_fits : ExtentsArePlaceable → (s : Sight) (w : What) (x : Code) → coded (Ok x) ≡ all_capped (extent_of s w) → IsExtent (extent_of_code x)
+found_fits law s w x h =
+    let e = coded_is x (extent_of s w) h in
+    subst IsExtent (sym e.2) (capped_fits e.0 (law s w e.0 e.1))
+
+-- ---- names
+
+made_is : (make : Value → LaidName) (s : Sight) (names : List LaidName) (area : Option ℕ) (name : List ℕ) (o : Option Tree)
+    → added_names s (tree_equated names area name o) ≡ made_name (equal_entry names area name) (tree_value s o)
+made_is make s names area name None = refl
+made_is make s names area name (Some t) = refl
+
+-- a definition adds its own name, or that of an expression; the sight of a name for an expression does not hang on its size
+adds : (d : Declared) (s : Statement) (before : List LaidLine) (size : ℕ) (x : Defined)
+    → added_names (sight d.names (seen_behind d.names (lines_of before)) (line_behind d s before (definition_of d.names x (area_behind (s ∷ statements_of before)) (offset_behind s before) size (is_thumb_label s (statements_of before)) (map_behind before))))
+        (definition_of d.names x (area_behind (s ∷ statements_of before)) (offset_behind s before) size (is_thumb_label s (statements_of before)) (map_behind before))
+    ≡ listed (own_entry x (area_behind (s ∷ statements_of before)) (offset_behind s before) size (is_thumb_label s (statements_of before)) (map_behind before))
+    ++ equal_names d.names (area_behind (s ∷ statements_of before))
+        (sight d.names (seen_behind d.names (lines_of before)) (line_behind d s before (definition_of d.names x (area_behind (s ∷ statements_of before)) (offset_behind s before) 0 (is_thumb_label s (statements_of before)) (map_behind before)))) x
+adds d s before size Unnamed = refl
+adds d s before size (LocalLabel n) = refl
+adds d s before size (Label name) = refl
+adds d s before size (Equal name e) =
+    made_is (equal_entry d.names (area_behind (s ∷ statements_of before)) name)
+    (sight d.names (seen_behind d.names (lines_of before)) (line_behind d s before (definition_of d.names (Equal name e) (area_behind (s ∷ statements_of before)) (offset_behind s before) 0 (is_thumb_label s (statements_of before)) (map_behind before))))
+    d.names (area_behind (s ∷ statements_of before)) name (tree_of e)
+adds d s before size (MapField name) = refl
+adds d s before size (RegisterName name r) = refl
+
+imports : (d : Declared) (s : Statement) (before : List LaidLine) (rest : List SourceLine) (o : Option (List ℕ))
+    → seen_behind d.names (imported_lines d s before o ++ rest) ≡ seen_behind d.names rest ++ imported_entries o
+imports d s before rest None = sym (append-nil (seen_behind d.names rest))
+imports d s before rest (Some name) = refl
+
+pub names_more : (d : Declared) (s : Statement) (before : List LaidLine) (e : Extent) (own equal : List LaidName) → extent_of (sight_behind d s before) s.what ≡ Ok e
+    → own ≡ listed (own_entry (defined_by s) (area_behind (s ∷ statements_of before)) (offset_behind s before) (laid_behind d s before).size (is_thumb_label s (statements_of before)) (map_behind before))
+    → equal ≡ equal_names d.names (area_behind (s ∷ statements_of before)) (sight_behind d s before) (defined_by s)
+    → seen_behind d.names (lines_of before) ++ own ++ equal ++ imported_entries (imported_in s.what) ≡ seen_behind d.names (lines_of (laid_behind d s before ∷ before))
+names_more d s before e own equal h o q =
+    let seen = seen_behind d.names (lines_of before) in
+    let import = imported_entries (imported_in s.what) in
+    let laid = laid_behind d s before in
+    let one : seen ++ own ++ equal ≡ seen_behind d.names (laid.line ∷ lines_of before) =
+        append_assoc seen own equal ∙ ap (λ x. seen ++ (x ++ equal)) o ∙ ap (λ x. seen ++ (listed (own_entry (defined_by s) (area_behind (s ∷ statements_of before)) (offset_behind s before) laid.size (is_thumb_label s (statements_of before)) (map_behind before)) ++ x)) q
+        ∙ ap (λ x. seen ++ x) (sym (adds d s before laid.size (defined_by s))) in
+    ap (λ x. x ++ import) one ∙ sym (imports d s before (laid.line ∷ lines_of before) (imported_in s.what))
+
+own_there : (x : Defined) (a b : Option ℕ) (o p n m : ℕ) (t u : Bool) (k j : ℕ) → a ≡ b → o ≡ p → n ≡ m → t ≡ u → k ≡ j
+    → listed (own_entry x a o n t k) ≡ listed (own_entry x b p m u j)
+own_there x a b o p n m t u k j e f g h i = rw (e, f, g, h, i) refl
+
+-- ---- a line more
+
+fits_low : (a b c d : ℕ) → a ≡ c → b ≡ d → a + b ≤ 2 ^ 24 → nat_lt area_bytes (c + d) ≡ false
+fits_low a b c d h g f = le-ltb area_bytes (c + d) (omega arith)
+
+fits_not : (a b c d : ℕ) → a ≡ c → b ≡ d → 2 ^ 24 < a + b → nat_lt area_bytes (c + d) ≡ true
+fits_not a b c d h g f = lt-ltb area_bytes (c + d) (omega arith)
+
+pub told_too_large : (d : Declared) (s : Statement) (before : List LaidLine) (spot : Spot) (x : Code) (map : ℕ) (equal : Option LaidName) → IsSpot s before spot
+    → IsFound d.names spot.area spot.map (sight_behind d s before) s (record { extent = Ok x; map = Ok map; equal = equal })
+    → 2 ^ 24 < offset_of spot.area (pieces_of before) (extent_of_code x) + size_behind spot.area (pieces_of before) (extent_of_code x)
+    → told_of (laid_behind d s before) ≡ Some TooMany
+told_too_large d s before spot x map equal sp found large =
+    let area = area_behind (s ∷ statements_of before) in
+    let pieces = pieces_of before in
+    let r = sight_behind d s before in
+    let e = coded_is x (extent_of r s.what) found.extent in
+    let over : 2 ^ 24 < offset_of area pieces e.0 + size_behind area pieces e.0 =
+        large_all area e.0 pieces
+        (subst (λ c. 2 ^ 24 < offset_of area pieces c + size_behind area pieces c) e.2
+        (subst (λ a. 2 ^ 24 < offset_of a pieces (extent_of_code x) + size_behind a pieces (extent_of_code x)) sp.area large)) in
+    told_large d s before e.0 spot.map map true e.1 (sym found.after)
+    (fits_not (offset_of area pieces e.0) (size_behind area pieces e.0) (laid_behind d s before).offset (laid_behind d s before).size
+    (sym (starts_there area pieces r s.what e.0 e.1)) (ap (λ q. size_behind area pieces (taken q)) (sym e.1)) over)
+
+there_same : (o p : Option ℕ) (xs ys : List Standing) → p ≡ o → length ys ≡ length xs → IsThere o xs → IsThere p ys
+there_same None p xs ys h g t = rw h t
+there_same (Some k) p xs ys h g t = let less : k < length xs = t in let more : k < length ys = omega arith in rw h more
+
+few_more : (a b c n m : ℕ) → a ≤ 3 * n → b ≤ 1 → c ≤ 1 → m ≤ 1 → a + b + c + m ≤ 3 * suc n
+few_more a b c n m h g f e = omega arith
+
+pub lays : (d : Declared) (s : Statement) (before : List LaidLine) (old new : Laying) (spot : Spot) (x : Code) (map : ℕ) (equal : Option LaidName) (p : Put)
+    → IsAt d s before old → IsSpot s before spot
+    → IsFound d.names spot.area spot.map (sight_behind d s before) s (record { extent = Ok x; map = Ok map; equal = equal })
+    → IsPlaced spot.area (extent_of_code x) (pieces_of before) new.areas.ends p → length new.areas.ends ≡ length old.areas.ends
+    → new.behind ≡ old.behind → new.locals ≡ old.locals → new.map ≡ map → new.areas.numbers ≡ old.areas.numbers → new.areas.count ≡ old.areas.count → new.areas.current ≡ old.areas.current
+    → new.names ≡ old.names ++ listed (own_entry (defined_by s) spot.area spot.offset p.size spot.label_thumb spot.map) ++ listed equal ++ imported_entries (imported_in s.what)
+    → IsLaid d (laid_behind d s before) before new (record { area = spot.area; offset = p.offset; size = p.size; thumb = spot.thumb; map = spot.map; literal = p.literal })
+lays d s before old new spot x map equal p at sp found placed long behind locals mapped numbers count current names =
+    let area = area_behind (s ∷ statements_of before) in
+    let pieces = pieces_of before in
+    let r = sight_behind d s before in
+    let l = laid_behind d s before in
+    let e = coded_is x (extent_of r s.what) found.extent in
+    let here : IsPlaced area e.0 pieces new.areas.ends p =
+        placed_all area e.0 pieces new.areas.ends p
+        (subst (λ c. IsPlaced area c pieces new.areas.ends p) e.2
+        (subst (λ a. IsPlaced a (extent_of_code x) pieces new.areas.ends p) sp.area placed)) in
+    let offset : p.offset ≡ l.offset = here.offset ∙ sym (starts_there area pieces r s.what e.0 e.1) in
+    let size : p.size ≡ l.size = here.size ∙ ap (λ q. size_behind area pieces (taken q)) (sym e.1) in
+    let own = listed (own_entry (defined_by s) spot.area spot.offset p.size spot.label_thumb spot.map) in
+    let import = imported_entries (imported_in s.what) in
+    let own_eq : own ≡ listed (own_entry (defined_by s) area (offset_behind s before) l.size (is_thumb_label s (statements_of before)) (map_behind before)) =
+        own_there (defined_by s) spot.area area spot.offset (offset_behind s before) p.size l.size spot.label_thumb (is_thumb_label s (statements_of before)) spot.map (map_behind before)
+        sp.area sp.offset size sp.label_thumb sp.map in
+    let equal_eq : listed equal ≡ equal_names d.names area r (defined_by s) = found.equal ∙ ap (λ a. equal_names d.names a r (defined_by s)) sp.area in
+    let grown : length new.names ≡ length old.names + length own + length (listed equal) + length import =
+        ap (λ (ns : List LaidName). length ns) names ∙ length-append (old.names ++ own ++ listed equal) import
+        ∙ ap (λ n. n + length import) (length-append (old.names ++ own) (listed equal))
+        ∙ ap (λ n. n + length (listed equal) + length import) (length-append old.names own) in
+    record {
+      told = told_large d s before e.0 spot.map map false e.1 (sym found.after) (fits_low p.offset p.size l.offset l.size offset size here.fits);
+      area = sp.area;
+      offset = offset;
+      size = size;
+      thumb = sp.thumb;
+      map = sp.map;
+      literal = here.literal ∙ ap (λ q. entry_behind area pieces (taken q)) (sym e.1);
+      laying = record {
+        standing = behind ∙ at.standing;
+        areas = record {
+          numbers = λ q. ap (λ m. number_in m q) numbers ∙ at.areas.numbers q;
+          count = count ∙ at.areas.count;
+          here = current ∙ at.areas.here;
+          there = there_same old.areas.current new.areas.current old.areas.ends new.areas.ends current long at.areas.there;
+          each = long ∙ at.areas.each ∙ sym count;
+          ends = subst (λ q. IsBehind (piece area (taken q) ∷ pieces) new.areas.ends) (sym e.1) here.behind;
+        };
+        map = mapped ∙ map_from_is spot.map map r s.what (sym found.after) ∙ ap (λ m. map_from m r s.what) sp.map;
+        names =
+          names ∙ ap (λ ns. ns ++ own ++ listed equal ++ import) at.names
+          ∙ names_more d s before e.0 own (listed equal) e.1 own_eq equal_eq;
+        few = subst (λ n. n ≤ 3 * suc (length before)) (sym grown)
+          (few_more (length old.names) (length own) (length (listed equal)) (length before) (length import) at.few
+          (listed_short (own_entry (defined_by s) spot.area spot.offset p.size spot.label_thumb spot.map)) (listed_short equal) (imported_short (imported_in s.what)));
+        locals = ap (λ ls. reversed ls []) locals ∙ at.locals;
+        order = subst (λ (b : Behind). AllBefore b.stretch b.count new.locals) (sym behind) (subst (λ ls. AllBefore old.behind.stretch old.behind.count ls) (sym locals) at.order);
+      };
+    }
+
+-- ---- other answers
+
+pub told_no_extent : (d : Declared) (s : Statement) (before : List LaidLine) (spot : Spot) (k : LineKind) (map : Result ℕ LineKind) (equal : Option LaidName)
+    → IsFound d.names spot.area spot.map (sight_behind d s before) s (record { extent = Err k; map = map; equal = equal })
+    → told_of (laid_behind d s before) ≡ Some k
+told_no_extent d s before spot k map equal found = told_extent d s before k (fault_is k (extent_of (sight_behind d s before) s.what) found.extent)
+
+pub told_no_map : (d : Declared) (s : Statement) (before : List LaidLine) (spot : Spot) (x : Code) (k : LineKind) (equal : Option LaidName)
+    → IsFound d.names spot.area spot.map (sight_behind d s before) s (record { extent = Ok x; map = Err k; equal = equal })
+    → told_of (laid_behind d s before) ≡ Some k
+told_no_map d s before spot x k equal found =
+    let e = coded_is x (extent_of (sight_behind d s before) s.what) found.extent in
+    told_map d s before e.0 spot.map k e.1 (sym found.after)
+
+pub may_place : (d : Declared) (s : Statement) (before : List LaidLine) (state : Laying) (spot : Spot) → Reaches d s before state spot → length before < most_statements
+    → MayPlace state spot
+may_place d s before state spot h few =
+    let names : length state.names ≤ 3 * length before = h.at.few in
+    record {
+      there = there_same state.areas.current spot.area state.areas.ends state.areas.ends (h.spot.area ∙ sym h.at.areas.here) refl h.at.areas.there;
+      few = omega arith;
+    }
+
+pub fits_all : ExtentsArePlaceable → (s : Sight) (w : What) (r : Result Code LineKind) → coded r ≡ all_capped (extent_of s w) → OkExtent r
+fits_all law s w (Ok x) h = found_fits law s w x h
+fits_all law s w (Err k) h = tt
+
+pub shows : (d : Declared) (s : Statement) (before : List LaidLine) (state : Laying) (spot : Spot) → Reaches d s before state spot
+    → ShowsLines d s before state.names state.locals spot
+shows d s before state spot h = record { spot = h.spot; known = h.at.names; labels = h.at.locals }

@@ -1,0 +1,7 @@
+pub mod AreaLemmas
+pub mod DeclareLemmas
+pub mod EnterLemmas
+pub mod LayLemmas
+pub mod NumberLemmas
+pub mod ReadLemmas
+pub mod SeeLemmas

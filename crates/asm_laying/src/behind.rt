@@ -1,0 +1,81 @@
+//! What the statements before another say of it.
+
+ghost use Rattle.std.specs.Prelude.{◌≡◌};
+ghost use Rattle.layout_model.specs.Before as before;
+ghost use Rattle.asm_laying.specs.Behind.{behind, stepped, IsEarly};
+
+use asm_model::{Contents, DirectiveLine, What};
+
+/// What the statements before another say of it, but for its area.
+#[derive(Clone, Copy, Debug)]
+pub struct Behind {
+    /// Whether it stands in Thumb state.
+    pub thumb: bool,
+    /// Whether the last of them stands in a code area.
+    pub code: bool,
+    /// The number of the last of their stretches, in each of which local labels count.
+    pub stretch: u32,
+    pub count: u32,
+}
+
+/// Before the first statement.
+pub const START: Behind = Behind {
+    thumb: false,
+    code: false,
+    stretch: 0,
+    count: 0,
+};
+
+fn state_behind(what: &What, thumb: bool) -> bool
+    ensures { result ≡ before.state_behind what.now thumb }
+{
+    match what {
+        What::Directive(DirectiveLine::Code16) => true,
+        What::Directive(DirectiveLine::Code32) => false,
+        _ => thumb,
+    }
+}
+
+fn is_code(contents: Contents) -> bool
+    ensures { result ≡ before.is_code contents }
+{
+    match contents {
+        Contents::Code => true,
+        _ => false,
+    }
+}
+
+fn code_from(what: &What, code: bool) -> bool
+    ensures { result ≡ before.code_from what.now code }
+{
+    match what {
+        What::Directive(DirectiveLine::Area { attributes, .. }) => is_code(attributes.contents),
+        _ => code,
+    }
+}
+
+fn begins_stretch(what: &What) -> bool
+    ensures { result ≡ before.begins_stretch what.now }
+{
+    match what {
+        What::Directive(DirectiveLine::Area { .. }) => true,
+        What::Directive(DirectiveLine::Rout) => true,
+        _ => false,
+    }
+}
+
+impl Behind {
+    /// The same, with a statement more.
+    pub fn stepped(self, what: &What) -> Behind
+        requires { IsEarly self }
+        ensures { result ≡ stepped what.now self }
+    {
+        let stretch = if begins_stretch(what) { self.stretch + 1 } else { self.stretch };
+        Behind {
+            thumb: state_behind(what, self.thumb),
+            code: code_from(what, self.code),
+            stretch,
+            count: self.count + 1,
+        }
+    }
+}

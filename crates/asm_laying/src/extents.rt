@@ -1,0 +1,269 @@
+//! What statements take up in their areas.
+
+ghost use Rattle.std.specs.Prelude.{◌≡◌, ◌*◌, length, min, if◌then◌else◌, IfOk};
+ghost use Rattle.asm_model.specs.Says.{mapped, on_both};
+ghost use Rattle.layout_model.specs.Extents as extents;
+ghost use Rattle.layout_model.specs.Extents.{Block, Padding, Loading};
+ghost use Rattle.asm_model.specs.declared.values.Value.TheVariants as value;
+ghost use Rattle.asm_model.specs.declared.statements.What.TheVariants as kinds;
+ghost use Rattle.asm_offsets.specs.Coded.{extent_of_code};
+ghost use Rattle.asm_sight.specs.Sights.{sight_of};
+ghost use Rattle.asm_laying.specs.Reading.{all_capped, capped, coded, most_bytes, AllRead, AreRead, BoundaryRead, DirectiveRead, IsRead};
+
+use crate::numbers::{as_multiple, bytes_of, is_moved, more_bytes};
+use crate::values::{literal_there, number_there, value_there};
+use asm_expr::kinds::earlier;
+use asm_model::{Boundary, DirectiveLine, Expr, PseudoLine, ThumbLine, Value, What};
+use asm_offsets::Extent;
+use asm_sight::Place;
+use sdt_fault::kinds::LineKind;
+use sdt_fault::NoMemory;
+use std::alloc::Global;
+
+/// Bytes that are aligned so.
+fn block(alignment: u32, bytes: u32) -> Extent
+    ensures { extent_of_code result ≡ capped (Block alignment bytes) }
+{
+    Extent::Block { alignment, bytes }
+}
+
+/// So many items of a width.
+fn items(alignment: u32, width: u32, count: usize) -> Extent
+    ensures { extent_of_code result ≡ capped (Block alignment (width * count)) }
+{
+    Extent::Block {
+        alignment,
+        bytes: bytes_of(width, count),
+    }
+}
+
+fn instruction(thumb: bool) -> Extent
+    ensures { extent_of_code result ≡ capped (extents.instruction thumb) }
+{
+    if thumb {
+        return block(2, 2);
+    }
+    block(4, 4)
+}
+
+/// Where an ENTRY stands: aligned as an instruction.
+fn entry(thumb: bool) -> Extent
+    ensures { extent_of_code result ≡ capped (if thumb then Block 2 0 else Block 4 0) }
+{
+    if thumb {
+        return block(2, 0);
+    }
+    block(4, 0)
+}
+
+fn thumb_extent(line: &ThumbLine) -> Extent
+    ensures { extent_of_code result ≡ capped (extents.thumb_extent line.now) }
+{
+    match line {
+        ThumbLine::BranchLink { .. } => block(2, 4),
+        _ => block(2, 2),
+    }
+}
+
+/// An instruction that loads a literal.
+fn load(thumb: bool, literal: Value) -> Extent
+    ensures { extent_of_code result ≡ (if thumb then Loading 2 literal else Loading 4 literal) }
+{
+    if thumb {
+        return Extent::Loading { bytes: 2, literal };
+    }
+    Extent::Loading { bytes: 4, literal }
+}
+
+fn load_number(thumb: bool, number: u32) -> Extent
+    ensures { extent_of_code result ≡ capped (extents.loading thumb (value.Number number)) }
+{
+    if thumb {
+        return load(true, Value::Number(number));
+    }
+    if is_moved(number) {
+        return block(4, 4);
+    }
+    load(false, Value::Number(number))
+}
+
+fn load_place(thumb: bool, literal: Value) -> Extent
+    ensures { extent_of_code result ≡ capped (if thumb then Loading 2 literal else Loading 4 literal) }
+{
+    load(thumb, literal)
+}
+
+/// LDR with a literal.
+fn loading(thumb: bool, literal: Value) -> Extent
+    ensures { extent_of_code result ≡ capped (extents.loading thumb literal) }
+{
+    match literal {
+        Value::Number(number) => load_number(thumb, number),
+        _ => load_place(thumb, literal),
+    }
+}
+
+fn loading_of(thumb: bool, literal: Result<Value, LineKind>) -> Result<Extent, LineKind>
+    ensures { coded result ≡ all_capped (mapped (extents.loading thumb) literal) }
+{
+    match literal {
+        Ok(literal) => Ok(loading(thumb, literal)),
+        Err(kind) => Err(kind),
+    }
+}
+
+fn pseudo_extent(
+    alloc: Global,
+    place: &Place<'_>,
+    line: &PseudoLine,
+) -> Result<Result<Extent, LineKind>, NoMemory>
+    requires { AreRead (kinds.Pseudo line.now) }
+    ensures { IfOk result (λ extent. coded extent ≡ all_capped (extents.pseudo_extent (sight_of place.now) line.now)) }
+{
+    match line {
+        PseudoLine::LoadConstant { value, .. } => {
+            let literal = literal_there(alloc, value, place)?;
+            Ok(loading_of(place.thumb, literal))
+        }
+        PseudoLine::Address { .. } => Ok(Ok(instruction(place.thumb))),
+        PseudoLine::LongAddress { .. } => Ok(Ok(block(4, 8))),
+        PseudoLine::NoOperation => Ok(Ok(instruction(place.thumb))),
+    }
+}
+
+/// The bytes of an operand of DCB.
+fn byte_count(value: &Result<Value, LineKind>) -> usize
+    ensures { result ≡ extents.byte_count value.now }
+{
+    match value {
+        Ok(Value::Words(words)) => words.as_slice().len(),
+        _ => 1,
+    }
+}
+
+/// The bytes of operands of DCB.
+fn byte_counts(alloc: Global, place: &Place<'_>, operands: &[Expr]) -> Result<u32, NoMemory>
+    requires { AllRead operands.now }
+    ensures { IfOk result (λ bytes. bytes ≡ min (extents.byte_counts (sight_of place.now) operands.now) most_bytes) }
+{
+    let mut bytes: u32 = 0;
+    let mut left = operands;
+    'operands: loop {
+        match left {
+            [] => return Ok(bytes),
+            [operand, behind @ ..] => {
+                let value = value_there(alloc, operand, place)?;
+                bytes = more_bytes(bytes, byte_count(&value));
+                left = behind;
+            }
+        }
+    }
+}
+
+fn space_of(number: Result<u32, LineKind>) -> Result<Extent, LineKind>
+    ensures { coded result ≡ all_capped (mapped (λ n. Block 1 n) number) }
+{
+    match number {
+        Ok(number) => Ok(block(1, number)),
+        Err(kind) => Err(kind),
+    }
+}
+
+fn multiple_of(multiple: Result<u32, LineKind>) -> Result<Extent, LineKind>
+    ensures { coded result ≡ all_capped (mapped (λ m. Padding m 0) multiple) }
+{
+    match multiple {
+        Ok(multiple) => Ok(Extent::Padding {
+            multiple,
+            offset: 0,
+        }),
+        Err(kind) => Err(kind),
+    }
+}
+
+fn behind_of(
+    multiple: Result<u32, LineKind>,
+    offset: Result<u32, LineKind>,
+) -> Result<Extent, LineKind>
+    ensures { coded result ≡ all_capped (on_both (λ m n. Padding m n) multiple offset) }
+{
+    match (multiple, offset) {
+        (Ok(multiple), Ok(offset)) => Ok(Extent::Padding { multiple, offset }),
+        (Ok(_), Err(kind)) => Err(kind),
+        (Err(kind), Ok(_)) => Err(kind),
+        (Err(kind), Err(other)) => Err(earlier(kind, other)),
+    }
+}
+
+fn padding(
+    alloc: Global,
+    place: &Place<'_>,
+    boundary: &Boundary,
+) -> Result<Result<Extent, LineKind>, NoMemory>
+    requires { BoundaryRead boundary.now }
+    ensures { IfOk result (λ extent. coded extent ≡ all_capped (extents.padding (sight_of place.now) boundary.now)) }
+{
+    match boundary {
+        Boundary::Word => Ok(Ok(Extent::Padding {
+            multiple: 4,
+            offset: 0,
+        })),
+        Boundary::Multiple { of } => {
+            let number = number_there(alloc, of, place)?;
+            Ok(multiple_of(as_multiple(number)))
+        }
+        Boundary::Behind { multiple, offset } => {
+            let number = number_there(alloc, multiple, place)?;
+            let offset = number_there(alloc, offset, place)?;
+            Ok(behind_of(as_multiple(number), offset))
+        }
+    }
+}
+
+fn directive_extent(
+    alloc: Global,
+    place: &Place<'_>,
+    line: &DirectiveLine,
+) -> Result<Result<Extent, LineKind>, NoMemory>
+    requires { DirectiveRead line.now }
+    ensures { IfOk result (λ extent. coded extent ≡ all_capped (extents.directive_extent (sight_of place.now) line.now)) }
+{
+    match line {
+        DirectiveLine::Entry => Ok(Ok(entry(place.thumb))),
+        DirectiveLine::Dcd { values } => Ok(Ok(items(4, 4, values.as_slice().len()))),
+        DirectiveLine::Dcdu { values } => Ok(Ok(items(1, 4, values.as_slice().len()))),
+        DirectiveLine::Dcw { values } => Ok(Ok(items(2, 2, values.as_slice().len()))),
+        DirectiveLine::Dcb { values } => {
+            let bytes = byte_counts(alloc, place, values.as_slice())?;
+            Ok(Ok(Extent::Block {
+                alignment: 1,
+                bytes,
+            }))
+        }
+        DirectiveLine::Space { size } => {
+            let number = number_there(alloc, size, place)?;
+            Ok(space_of(number))
+        }
+        DirectiveLine::Align { boundary } => padding(alloc, place, boundary),
+        DirectiveLine::Ltorg => Ok(Ok(Extent::Pool)),
+        _ => Ok(Ok(block(1, 0))),
+    }
+}
+
+/// What a statement takes up, by what is known at its line, or the kind of its fault.
+pub fn extent_of(
+    alloc: Global,
+    place: &Place<'_>,
+    what: &What,
+) -> Result<Result<Extent, LineKind>, NoMemory>
+    requires { AreRead what.now }
+    ensures { IfOk result (λ extent. coded extent ≡ all_capped (extents.extent_of (sight_of place.now) what.now)) }
+{
+    match what {
+        What::Nothing => Ok(Ok(block(1, 0))),
+        What::Arm(_) => Ok(Ok(block(4, 4))),
+        What::Thumb(line) => Ok(Ok(thumb_extent(line))),
+        What::Pseudo(line) => pseudo_extent(alloc, place, line),
+        What::Directive(line) => directive_extent(alloc, place, line),
+    }
+}

@@ -1,0 +1,226 @@
+//! The lines of a source, laid one behind the other.
+
+ghost use Rattle.std.specs.Prelude.{◌≡◌, ◌++◌, ◌*◌, ◌≤◌, [], ℕ, List, Ok, length, IfOk, OnOk};
+ghost use Rattle.layout_model.specs.Labels as labels;
+ghost use Rattle.layout_model.specs.Laid.{laid_behind, sight_behind, Declared, LaidLine};
+ghost use Rattle.asm_offsets.specs.Coded.{extent_of_code, IsExtent};
+ghost use Rattle.asm_laying.specs.Behind.{most_statements};
+ghost use Rattle.asm_laying.specs.Declaring.{declared_in};
+ghost use Rattle.asm_laying.specs.Defining.{own_entry as entry_of_own, listed, IsShort};
+ghost use Rattle.asm_laying.specs.Laying as laying;
+
+use crate::areas::Areas;
+use crate::behind::{Behind, START};
+use crate::declarations::{Declarations, add_entry, add_imported, add_local, is_thumb_label};
+use crate::defining::{defined_by, own_entry};
+use crate::finding::{Found, Spot, find};
+use asm_locals::Locals;
+use asm_model::{LaidName, Statement};
+use asm_offsets::{Extent, TooLarge, extents_are_placeable};
+use asm_sight::KnownNames;
+use sdt_fault::NoMemory;
+use sdt_fault::kinds::LineKind;
+use std::alloc::Global;
+
+/// A statement with its place.
+#[derive(Clone, Copy, PartialEq, Eq, Debug)]
+pub struct Placed {
+    /// Its area, counted from 0; None before the first.
+    pub area: Option<u32>,
+    pub offset: u32,
+    /// In bytes.
+    pub size: u32,
+    /// Whether it stands in Thumb state.
+    pub thumb: bool,
+    /// The storage map before it.
+    pub map: u32,
+    /// The number of its literal's entry in the pools of its area.
+    pub literal: Option<u32>,
+}
+
+/// The state behind the lines so far.
+#[derive(Debug, Drop)]
+pub struct Laying {
+    behind: Behind,
+    areas: Areas,
+    map: u32,
+    /// The names that are known.
+    names: KnownNames,
+    /// The local labels so far.
+    locals: Locals,
+}
+
+/// The names that a statement adds to those that are known.
+fn add_names(
+    names: &mut KnownNames,
+    alloc: Global,
+    statement: &Statement,
+    spot: &Spot,
+    size: u32,
+    equal: Option<LaidName>,
+) -> Result<(), NoMemory>
+    requires few { length names.old ≤ 3 * most_statements }
+    requires short { IsShort (labels.defined_by statement.now) }
+    ensures { OnOk result (names.new ≡ names.old ++ listed (entry_of_own (labels.defined_by statement.now) spot.now.area spot.now.offset size spot.now.label_thumb spot.now.map) ++ listed equal ++ labels.imported_entries (labels.imported_in statement.now.what)) }
+{
+    let defines = defined_by(statement);
+    let own = own_entry(
+        alloc,
+        &defines,
+        spot.area,
+        spot.offset,
+        size,
+        spot.label_thumb,
+        spot.map,
+    )?;
+    add_entry(names, alloc, own)?;
+    add_entry(names, alloc, equal)?;
+    add_imported(names, alloc, &statement.what)
+}
+
+impl Laying {
+    /// Before the first line.
+    pub fn new(alloc: Global) -> Laying
+        ensures { (d : Declared) → laying.IsLaying d [] result }
+    {
+        Laying {
+            behind: START,
+            areas: Areas::new(alloc),
+            map: 0,
+            names: KnownNames::new(alloc),
+            locals: Locals::new(alloc),
+        }
+    }
+
+    /// Reaches a statement: its area, its offset and its local label.
+    fn enter(&mut self, alloc: Global, statement: &Statement) -> Result<Spot, NoMemory>
+        requires may { laying.MayStep self.old }
+        requires said { laying.IsSaid statement.now }
+        ensures { IfOk result (λ spot. (d : Declared) (before : List LaidLine) → laying.IsLaying d before self.old → laying.Reaches d statement.now before self.new spot) }
+    {
+        let defines = defined_by(statement);
+        let behind = self.behind;
+        let next = behind.stepped(&statement.what);
+        self.areas.enter(alloc, &statement.what)?;
+        let offset = self.areas.start(&statement.what, behind.thumb);
+        add_local(
+            &mut self.locals,
+            &defines,
+            next.stretch,
+            behind.count,
+            offset,
+        )?;
+        self.behind = next;
+        let label_thumb = is_thumb_label(behind.thumb, next.code);
+        Ok(Spot {
+            area: self.areas.current,
+            offset,
+            map: self.map,
+            thumb: behind.thumb,
+            label_thumb,
+            stretch: next.stretch,
+            count: behind.count,
+        })
+    }
+
+    /// Places a statement, and adds its names.
+    fn put(
+        &mut self,
+        alloc: Global,
+        statement: &Statement,
+        spot: &Spot,
+        extent: Extent,
+        map: u32,
+        equal: Option<LaidName>,
+    ) -> Result<Result<Placed, LineKind>, NoMemory>
+        requires may { laying.MayPlace self.old spot.now }
+        requires extent { IsExtent (extent_of_code extent) }
+        requires short { IsShort (labels.defined_by statement.now) }
+        ensures { (d : Declared) (before : List LaidLine) → laying.Reaches d statement.now before self.old spot.now → laying.IsFound d.names spot.now.area spot.now.map (sight_behind d statement.now before) statement.now (record { extent = Ok extent; map = Ok map; equal = equal }) → laying.Lays d (laid_behind d statement.now before) before self.new result }
+    {
+        let placed = self.areas.ends.place(spot.area, extent)?;
+        match placed {
+            Err(TooLarge) => Ok(Err(LineKind::TooMany)),
+            Ok(placed) => {
+                self.map = map;
+                add_names(&mut self.names, alloc, statement, spot, placed.size, equal)?;
+                Ok(Ok(Placed {
+                    area: spot.area,
+                    offset: placed.offset,
+                    size: placed.size,
+                    thumb: spot.thumb,
+                    map: spot.map,
+                    literal: placed.literal,
+                }))
+            }
+        }
+    }
+
+    /// Places a statement that takes up so much.
+    fn settle_map(
+        &mut self,
+        alloc: Global,
+        statement: &Statement,
+        spot: &Spot,
+        extent: Extent,
+        map: Result<u32, LineKind>,
+        equal: Option<LaidName>,
+    ) -> Result<Result<Placed, LineKind>, NoMemory>
+        requires may { laying.MayPlace self.old spot.now }
+        requires extent { IsExtent (extent_of_code extent) }
+        requires short { IsShort (labels.defined_by statement.now) }
+        ensures { (d : Declared) (before : List LaidLine) → laying.Reaches d statement.now before self.old spot.now → laying.IsFound d.names spot.now.area spot.now.map (sight_behind d statement.now before) statement.now (record { extent = Ok extent; map = map; equal = equal }) → laying.Lays d (laid_behind d statement.now before) before self.new result }
+    {
+        match map {
+            Err(kind) => Ok(Err(kind)),
+            Ok(map) => self.put(alloc, statement, spot, extent, map, equal),
+        }
+    }
+
+    /// Places a statement by what it needs of values.
+    fn settle(
+        &mut self,
+        alloc: Global,
+        statement: &Statement,
+        spot: &Spot,
+        extent: Result<Extent, LineKind>,
+        map: Result<u32, LineKind>,
+        equal: Option<LaidName>,
+    ) -> Result<Result<Placed, LineKind>, NoMemory>
+        requires may { laying.MayPlace self.old spot.now }
+        requires extent { laying.OkExtent extent }
+        requires short { IsShort (labels.defined_by statement.now) }
+        ensures { (d : Declared) (before : List LaidLine) → laying.Reaches d statement.now before self.old spot.now → laying.IsFound d.names spot.now.area spot.now.map (sight_behind d statement.now before) statement.now (record { extent = extent; map = map; equal = equal }) → laying.Lays d (laid_behind d statement.now before) before self.new result }
+    {
+        match extent {
+            Err(kind) => Ok(Err(kind)),
+            Ok(extent) => self.settle_map(alloc, statement, spot, extent, map, equal),
+        }
+    }
+
+    /// Lays a statement behind the lines so far. Where it has a fault, or memory runs out, the state isn't to be used any
+    /// more.
+    pub fn lay(
+        &mut self,
+        alloc: Global,
+        declarations: &Declarations,
+        statement: &Statement,
+    ) -> Result<Result<Placed, LineKind>, NoMemory>
+        requires may { laying.MayLay (declared_in declarations.now) self.old }
+        requires said { laying.IsSaid statement.now }
+        ensures { (before : List LaidLine) → laying.IsLaying (declared_in declarations.now) before self.old → laying.Lays (declared_in declarations.now) (laid_behind (declared_in declarations.now) statement.now before) before self.new result }
+    {
+        extents_are_placeable();
+        let spot = self.enter(alloc, statement)?;
+        let found = find(
+            alloc,
+            &self.names,
+            &self.locals,
+            declarations,
+            &spot,
+            statement,
+        )?;
+        let Found { extent, map, equal } = found;
+        self.settle(alloc, statement, &spot, extent, map, equal)
+    }
+}

@@ -1,0 +1,118 @@
+//! Values of a statement's expressions by what is known at its line.
+
+ghost use Rattle.std.specs.Prelude.{◌≡◌, ◌+◌, ◌%◌, ◌^◌, ℕ, Result, IfOk};
+ghost use Rattle.asm_model.specs.Says.{mapped};
+ghost use Rattle.sdt_fault.specs.declared.kinds.LineKind.{LineKind};
+ghost use Rattle.asm_model.specs.declared.values.Value.{Value};
+ghost use Rattle.asm_model.specs.Meaning.{IsValue};
+ghost use Rattle.layout_model.specs.Extents as extents;
+ghost use Rattle.layout_model.specs.LayoutKinds.{exponent};
+ghost use Rattle.asm_sight.specs.Sights.{sight_of, IsNumber};
+ghost use Rattle.asm_laying.specs.Reading.{map_after, IsRead, AreRead, OptionRead};
+
+use asm_model::{DirectiveLine, EvalFault, Expr, Value, What};
+use asm_sight::{Place, literal_at, number_at, value_at};
+use sdt_fault::NoMemory;
+use sdt_fault::kinds::LineKind;
+use std::alloc::Global;
+
+fn told_value(value: Result<Value, EvalFault>) -> Result<Result<Value, LineKind>, NoMemory>
+    ensures { (m : Result Value LineKind) → IsValue m value → IfOk result (λ told. told ≡ m) }
+{
+    match value {
+        Ok(value) => Ok(Ok(value)),
+        Err(EvalFault::Kind(kind)) => Ok(Err(kind)),
+        Err(EvalFault::NoMemory) => Err(NoMemory),
+    }
+}
+
+fn told_number(number: Result<u32, EvalFault>) -> Result<Result<u32, LineKind>, NoMemory>
+    ensures { (m : Result ℕ LineKind) → IsNumber m number → IfOk result (λ told. told ≡ m) }
+{
+    match number {
+        Ok(number) => Ok(Ok(number)),
+        Err(EvalFault::Kind(kind)) => Ok(Err(kind)),
+        Err(EvalFault::NoMemory) => Err(NoMemory),
+    }
+}
+
+/// The value of an expression, or the kind of its fault.
+pub fn value_there(
+    alloc: Global,
+    e: &Expr,
+    place: &Place<'_>,
+) -> Result<Result<Value, LineKind>, NoMemory>
+    requires { IsRead e.now }
+    ensures { IfOk result (λ value. value ≡ extents.value_there (sight_of place.now) e.now) }
+{
+    told_value(value_at(alloc, e, place))
+}
+
+/// The number of an expression, or the kind of its fault.
+pub fn number_there(
+    alloc: Global,
+    e: &Expr,
+    place: &Place<'_>,
+) -> Result<Result<u32, LineKind>, NoMemory>
+    requires { IsRead e.now }
+    ensures { IfOk result (λ number. number ≡ extents.number_there (sight_of place.now) e.now) }
+{
+    told_number(number_at(alloc, e, place))
+}
+
+/// The literal of an expression, or the kind of its fault.
+pub fn literal_there(
+    alloc: Global,
+    e: &Expr,
+    place: &Place<'_>,
+) -> Result<Result<Value, LineKind>, NoMemory>
+    requires { IsRead e.now }
+    ensures { IfOk result (λ literal. literal ≡ extents.literal_there (sight_of place.now) e.now) }
+{
+    told_value(literal_at(alloc, e, place))
+}
+
+/// The exponent of an area's alignment, or the kind of its fault.
+pub fn exponent_there(
+    alloc: Global,
+    align: &Option<Expr>,
+    place: &Place<'_>,
+) -> Result<Result<u32, LineKind>, NoMemory>
+    requires { OptionRead align.now }
+    ensures { IfOk result (λ number. number ≡ exponent (sight_of place.now) align.now) }
+{
+    match align {
+        None => Ok(Ok(2)),
+        Some(e) => number_there(alloc, e, place),
+    }
+}
+
+/// The storage map behind a field of so many bytes.
+fn added(map: u32, number: Result<u32, LineKind>) -> Result<u32, LineKind>
+    ensures { result ≡ mapped (λ n. (map + n) % 2 ^ 32) number }
+{
+    match number {
+        Ok(number) => Ok(map.wrapping_add(number)),
+        Err(kind) => Err(kind),
+    }
+}
+
+/// The storage map behind a statement, or the kind of its fault.
+pub fn map_after(
+    alloc: Global,
+    map: u32,
+    place: &Place<'_>,
+    what: &What,
+) -> Result<Result<u32, LineKind>, NoMemory>
+    requires { AreRead what.now }
+    ensures { IfOk result (λ after. after ≡ map_after map (sight_of place.now) what.now) }
+{
+    match what {
+        What::Directive(DirectiveLine::Map { value }) => number_there(alloc, value, place),
+        What::Directive(DirectiveLine::Field { size }) => {
+            let number = number_there(alloc, size, place)?;
+            Ok(added(map, number))
+        }
+        _ => Ok(Ok(map)),
+    }
+}
