@@ -14,39 +14,54 @@ fn placed(offset: u32, size: u32, literal: Option<u32>) -> Result<Placed, TooLar
     })
 }
 
-fn word() -> Extent {
-    Extent::Block {
-        alignment: 4,
-        bytes: 4,
-    }
-}
-
-fn bytes(bytes: u32) -> Extent {
-    Extent::Block {
-        alignment: 1,
-        bytes,
-    }
-}
-
-fn loading(number: u32) -> Extent {
-    Extent::Loading {
-        bytes: 4,
-        literal: Value::Number(number),
-    }
-}
-
 /// A word, three bytes, two loads of one literal, its pool, and what is too large.
 fn five(alloc: Global) -> Result<(Vec<Result<Placed, TooLarge>>, Vec<LaidPools>), NoMemory> {
     let mut ends = Ends::new(alloc);
     ends.add_area()?;
     let mut found = Vec::new(alloc);
-    found.push(ends.place(Some(0), word())?)?;
-    found.push(ends.place(Some(0), bytes(3))?)?;
-    found.push(ends.place(Some(0), loading(0x1234_5678))?)?;
-    found.push(ends.place(Some(0), loading(0x1234_5678))?)?;
+    found.push(ends.place(
+        Some(0),
+        Extent::Block {
+            alignment: 4,
+            bytes: 4,
+        },
+    )?)?;
+    found.push(ends.place(
+        Some(0),
+        Extent::Block {
+            alignment: 1,
+            bytes: 3,
+        },
+    )?)?;
+    found.push(ends.place(
+        Some(0),
+        Extent::Loading {
+            bytes: 4,
+            literal: Value::Number(0x1234_5678),
+        },
+    )?)?;
+    found.push(ends.place(
+        Some(0),
+        Extent::Loading {
+            bytes: 4,
+            literal: Value::Number(0x1234_5678),
+        },
+    )?)?;
     found.push(ends.place(Some(0), Extent::Pool)?)?;
-    found.push(ends.place(Some(0), bytes(0x0100_0000))?)?;
-    found.push(ends.place(None, word())?)?;
+    found.push(ends.place(
+        Some(0),
+        Extent::Block {
+            alignment: 1,
+            bytes: 0x0100_0000,
+        },
+    )?)?;
+    found.push(ends.place(
+        None,
+        Extent::Block {
+            alignment: 4,
+            bytes: 4,
+        },
+    )?)?;
     let areas = ends.finish()?;
     Ok((found, areas))
 }
