@@ -25,7 +25,7 @@ use Rattle.asm_order.proofs.SearchLemmas.{names_more, one_more}
 use Rattle.asm_order.proofs.SettledLemmas.{or_right, rounds_stop}
 use Rattle.asm_sight.specs.Steps.{one_entry}
 use Rattle.asm_final.specs.declared.lines.PlacedLine.{PlacedLine}
-use Rattle.asm_final.specs.declared.names.Due.{Due}
+use Rattle.asm_final.specs.declared.dues.Due.{Due}
 use Rattle.asm_final.specs.Owing.{owed_of}
 use Rattle.asm_final.specs.Source.{IsSource, Owed, line_entries, owed_in, equal_pair, Settles}
 use Rattle.asm_final.proofs.OnceLemmas.{EachFound, each_found}

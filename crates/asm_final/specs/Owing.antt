@@ -1,5 +1,5 @@
 -- What the code has of a name for an expression. This project's.
-use Rattle.asm_final.specs.declared.names.Due.{Due}
+use Rattle.asm_final.specs.declared.dues.Due.{Due}
 use Rattle.asm_final.specs.Source.{Owed}
 
 abbrev pub owed_of : Due → Owed

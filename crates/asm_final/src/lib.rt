@@ -2,9 +2,12 @@
 #![tactic(auto)]
 
 mod defined;
+mod dues;
 mod entries;
 pub mod lines;
+mod listing;
 mod names;
+mod settling;
 pub mod values;
 
 pub use crate::lines::PlacedLine;

@@ -1,8 +1,8 @@
 -- Areas by their names.
-use Rattle.std.proofs.Common.{◌≡◌, ◌<◌, ◌≤◌, ℕ, suc, ◌+◌, ◌||◌, Bool, true, false, cond, List, [], ◌∷◌, ◌++◌, length, Option, Some, None, refl, sym, ap, ◌∙◌, subst, add-one, arith, length-append}
+use Rattle.std.proofs.Common.{◌≡◌, ◌<◌, ℕ, ◌+◌, ◌||◌, Bool, true, false, cond, List, [], ◌∷◌, ◌++◌, length, Option, Some, None, refl, sym, ap, ◌∙◌, subst, add-one, arith, length-append}
 use Rattle.std.specs.Ordering.{nat_cmp}
 use Rattle.std.specs.Cmp.Lexicographic.{slice_cmp}
-use Rattle.std.specs.BTreeMap.{BTreeMap, UpdatesBy}
+use Rattle.std.specs.BTreeMap.{UpdatesBy}
 use Rattle.std.specs.List.{list_any}
 use Rattle.std.proofs.lemmas.Bool.{false_from_ne_true}
 use Rattle.asm_model.specs.declared.values.Value.{Value}
@@ -11,7 +11,7 @@ use Rattle.asm_model.specs.Forms.{same}
 use Rattle.asm_model.proofs.WordLemmas.{same_refl, same_true}
 use Rattle.asm_expr.specs.Places.{number_in, or_number, one_later}
 use Rattle.asm_expr.proofs.PlaceLemmas.{noted}
-use Rattle.layout_model.specs.Before.{with_name, place_of, area_from}
+use Rattle.layout_model.specs.Before.{with_name, place_of}
 use Rattle.layout_model.specs.Extents.{pool_alignment, alignment}
 use Rattle.layout_model.specs.Laid.{aligned_end}
 use Rattle.layout_model.specs.Offsets.{Piece, raised, waiting, end_behind}

@@ -1,18 +1,17 @@
 -- What a statement more declares.
-use Rattle.std.proofs.Common.{◌≡◌, ◌<◌, ◌≤◌, ℕ, suc, ◌+◌, ◌*◌, ◌&&◌, Bool, true, false, cond, List, [], ◌∷◌, ◌++◌, length, Option, Some, None, refl, sym, ap, ◌∙◌, subst, arith, length-append, ◌-◌, get_or, take, drop}
+use Rattle.std.proofs.Common.{◌≡◌, ◌<◌, ◌≤◌, ℕ, suc, ◌+◌, ◌*◌, Bool, true, false, cond, List, [], ◌∷◌, ◌++◌, length, Option, Some, None, refl, sym, ap, ◌∙◌, subst, arith, length-append, ◌-◌, get_or, take, drop}
 use Rattle.std.proofs.lemmas.Grind.{common_steps}
 use Rattle.asm_model.specs.declared.names.LaidName.{LaidName}
 use Rattle.asm_model.specs.declared.statements.Statement.{Statement}
 use Rattle.asm_locals.specs.Found.{AllBefore}
-use Rattle.layout_model.specs.Before.{code_from, begins_stretch, stretch_behind, is_thumb_label}
+use Rattle.layout_model.specs.Before.{begins_stretch, stretch_behind, is_thumb_label}
 use Rattle.layout_model.specs.Labels.{Defined, Unnamed, LocalLabel, Label, Equal, MapField, RegisterName, defined_by, imported_in, imported_entries, declared_names, declared_entries}
-use Rattle.layout_model.specs.Laid.{reversed}
 use Rattle.layout_model.specs.Locals.{Local, local_entries, declared_locals}
 use Rattle.asm_laying.specs.declared.behind.Behind.{Behind}
 use Rattle.asm_laying.specs.declared.declarations.Declarations.{Declarations}
-use Rattle.asm_laying.specs.Behind.{behind, stepped, IsEarly, most_statements}
-use Rattle.asm_laying.specs.Declaring.{AllShort, Declares, AreDeclared, IsBetween}
-use Rattle.asm_laying.specs.Defining.{IsShort, declared_entry, own_entry, listed}
+use Rattle.asm_laying.specs.Behind.{behind, IsEarly, most_statements}
+use Rattle.asm_laying.specs.Declaring.{Declares, AreDeclared, IsBetween}
+use Rattle.asm_laying.specs.Defining.{declared_entry, listed}
 
 -- ---- counts
 
@@ -84,7 +83,7 @@ declared_step : (s : Statement) (before : List Statement) (old new : Declaration
     → AreDeclared before (behind before) old → Declares s (behind before) old new next → AreDeclared (s ∷ before) next new
 declared_step s before old new next h g =
     let names = g.names ∙ ap (λ ns. ns ++ listed (declared_entry (defined_by s) (is_thumb_label s before)) ++ imported_entries (imported_in s.what)) h.names
-        ∙ ap (λ ns. declared_names before ++ ns ++ imported_entries (imported_in s.what)) (declared_is (defined_by s) s before) in
+    ∙ ap (λ ns. declared_names before ++ ns ++ imported_entries (imported_in s.what)) (declared_is (defined_by s) s before) in
     let steps = g.steps in
     let stretch : next.stretch ≡ stretch_behind (s ∷ before) = ap (λ (b : Behind). b.stretch) steps in
     let locals = g.locals ∙ ap (λ ls. ls ++ local_entries (defined_by s) next.stretch (length before) 0) h.locals in
@@ -92,7 +91,7 @@ declared_step s before old new next h g =
     let import = imported_entries (imported_in s.what) in
     let few : length old.names ≤ 2 * length before = h.few in
     let long : length new.names ≡ length old.names + length own + length import =
-        ap (λ (l : List LaidName). length l) g.names ∙ length-append (old.names ++ own) import ∙ ap (λ n. n + length import) (length-append old.names own) in
+    ap (λ (l : List LaidName). length l) g.names ∙ length-append (old.names ++ own) import ∙ ap (λ n. n + length import) (length-append old.names own) in
     let a = listed_short (declared_entry (defined_by s) (is_thumb_label s before)) in
     let b = imported_short (imported_in s.what) in
     record {

@@ -1,5 +1,5 @@
 -- A statement is reached behind lines.
-use Rattle.std.proofs.Common.{◌≡◌, ◌<◌, ◌≤◌, ℕ, suc, ◌+◌, ◌*◌, ◌&&◌, Bool, true, false, cond, List, [], ◌∷◌, ◌++◌, length, map, Option, Some, None, refl, sym, ap, ◌∙◌, subst, arith, append-nil, length-append}
+use Rattle.std.proofs.Common.{◌≡◌, ◌<◌, ◌≤◌, ℕ, ◌+◌, ◌*◌, ◌&&◌, Bool, true, false, cond, List, [], ◌∷◌, ◌++◌, length, map, Option, Some, None, refl, sym, ap, ◌∙◌, subst, arith, append-nil, length-append}
 use Rattle.std.specs.List.{list_any}
 use Rattle.std.proofs.lemmas.List.{length-map}
 use Rattle.asm_model.specs.declared.statements.Statement.{Statement}
@@ -7,14 +7,13 @@ use Rattle.asm_model.specs.declared.statements.What.{What}
 use Rattle.asm_model.specs.Forms.{same}
 use Rattle.asm_locals.specs.Found.{AllBefore}
 use Rattle.asm_offsets.specs.Running.{IsBehind}
-use Rattle.layout_model.specs.Before.{thumb_behind, area_named, with_name, areas_behind, area_behind, code_behind, code_from, begins_stretch, stretch_behind, is_thumb_label}
+use Rattle.layout_model.specs.Before.{thumb_behind, area_named, with_name, areas_behind, area_behind, code_behind, begins_stretch, stretch_behind}
 use Rattle.layout_model.specs.Labels.{Defined, Unnamed, LocalLabel, Label, Equal, MapField, RegisterName, defined_by}
-use Rattle.layout_model.specs.Laid.{Declared, LaidLine, reversed, statements_of, pieces_of, locals_of, map_behind, aligned_end, offset_behind}
+use Rattle.layout_model.specs.Laid.{Declared, LaidLine, reversed, statements_of, pieces_of, locals_of, aligned_end, offset_behind}
 use Rattle.layout_model.specs.Locals.{Local, local_entries}
 use Rattle.layout_model.specs.Offsets.{Piece}
 use Rattle.asm_laying.specs.declared.areas.Areas.{Areas}
 use Rattle.asm_laying.specs.declared.behind.Behind.{Behind}
-use Rattle.asm_laying.specs.declared.finding.Spot.{Spot}
 use Rattle.asm_laying.specs.declared.laying.Laying.{Laying}
 use Rattle.asm_laying.specs.Behind.{stepped, IsEarly, most_statements}
 use Rattle.asm_laying.specs.Laying.{behind_lines, IsLaying, MayStep, Reaches}
@@ -89,15 +88,15 @@ reaches d s before old new next offset label h steps behind enters starts locals
     let area = area_behind (s ∷ statements_of before) in
     let pieces = pieces_of before in
     let areas : AreNumbered (areas_behind (s ∷ statements_of before)) area pieces new.areas =
-        enters (areas_behind (statements_of before)) (area_behind (statements_of before)) pieces h.areas in
+    enters (areas_behind (statements_of before)) (area_behind (statements_of before)) pieces h.areas in
     let after : next ≡ stepped s.what (behind_lines before) = steps ∙ ap (λ b. stepped s.what b) h.standing in
     let stretch : next.stretch ≡ stretch_behind (s ∷ statements_of before) = ap (λ (b : Behind). b.stretch) after in
     let count : old.behind.count ≡ length before = ap (λ (b : Behind). b.count) h.standing in
     let thumb : old.behind.thumb ≡ thumb_behind (statements_of before) = ap (λ (b : Behind). b.thumb) h.standing in
     let code : next.code ≡ code_behind (s ∷ statements_of before) = ap (λ (b : Behind). b.code) after in
     let start : offset ≡ offset_behind s before =
-        starts pieces areas.ends ∙ ap (λ a. aligned_end a pieces old.behind.thumb s.what) areas.here
-        ∙ ap (λ t. aligned_end area pieces t s.what) thumb in
+    starts pieces areas.ends ∙ ap (λ a. aligned_end a pieces old.behind.thumb s.what) areas.here
+    ∙ ap (λ t. aligned_end area pieces t s.what) thumb in
     record {
       at = record {
         standing = behind ∙ after;
@@ -106,13 +105,13 @@ reaches d s before old new next offset label h steps behind enters starts locals
         names = names ∙ h.names;
         few = subst (λ ns. length ns ≤ 3 * length before) (sym names) h.few;
         locals =
-          ap (λ ls. reversed ls []) locals ∙ reversed_own old.locals (defined_by s) next.stretch old.behind.count offset
-          ∙ ap (λ ls. local_entries (defined_by s) next.stretch old.behind.count offset ++ ls) h.locals
-          ∙ locals_there (defined_by s) next.stretch (stretch_behind (s ∷ statements_of before)) old.behind.count (length before) offset (offset_behind s before) (locals_of before) stretch count start;
+            ap (λ ls. reversed ls []) locals ∙ reversed_own old.locals (defined_by s) next.stretch old.behind.count offset
+            ∙ ap (λ ls. local_entries (defined_by s) next.stretch old.behind.count offset ++ ls) h.locals
+            ∙ locals_there (defined_by s) next.stretch (stretch_behind (s ∷ statements_of before)) old.behind.count (length before) offset (offset_behind s before) (locals_of before) stretch count start;
         order = subst (λ (b : Behind). AllBefore b.stretch b.count new.locals) (sym behind)
-          (subst (λ ls. AllBefore next.stretch next.count ls) (sym locals)
-          (subst (λ (b : Behind). AllBefore b.stretch b.count (old.locals ++ local_entries (defined_by s) b.stretch old.behind.count offset)) (sym steps)
-          (order_more old.behind (begins_stretch s.what) (defined_by s) offset old.locals h.order)));
+            (subst (λ ls. AllBefore next.stretch next.count ls) (sym locals)
+            (subst (λ (b : Behind). AllBefore b.stretch b.count (old.locals ++ local_entries (defined_by s) b.stretch old.behind.count offset)) (sym steps)
+            (order_more old.behind (begins_stretch s.what) (defined_by s) offset old.locals h.order)));
       };
       spot = record {
         area = areas.here;

@@ -1,8 +1,7 @@
 -- A line more.
-use Rattle.std.proofs.Common.{◌≡◌, ◌<◌, ◌≤◌, ℕ, suc, ◌+◌, ◌*◌, ◌%◌, ◌^◌, Bool, true, false, cond, List, [], ◌∷◌, ◌++◌, length, Option, Some, None, refl, sym, ap, ◌∙◌, subst, arith, length-append, nat_lt, min, slice_get, append-nil, append_assoc}
+use Rattle.std.proofs.Common.{◌≡◌, ◌<◌, ◌≤◌, ℕ, suc, ◌+◌, ◌*◌, ◌%◌, ◌^◌, Bool, true, false, List, [], ◌∷◌, ◌++◌, length, Option, Some, None, refl, sym, ap, ◌∙◌, subst, arith, length-append, nat_lt, min, slice_get, append-nil, append_assoc}
 use Rattle.std.specs.Prelude.{Result, Ok, Err}
 use Rattle.std.proofs.lemmas.Bool.{lt-ltb, le-ltb}
-use Rattle.sdt_fault.specs.declared.NoMemory.{NoMemory}
 use Rattle.sdt_fault.specs.declared.kinds.LineKind.{LineKind}
 use Rattle.sdt_fault.specs.declared.kinds.LineKind.TheVariants.{Syntax, UnknownWord, FloatingPoint, BadOperand, Constant, Forward, DuplicateName, WrongType, OutOfRange, Nesting, Assert, NoArea, DivideByZero, TooDeep, TooMany}
 use Rattle.asm_model.specs.declared.directives.DirectiveLine.{DirectiveLine}
@@ -12,36 +11,32 @@ use Rattle.asm_model.specs.declared.names.LaidName.{LaidName}
 use Rattle.asm_model.specs.declared.statements.Statement.{Statement}
 use Rattle.asm_model.specs.declared.statements.What.{What}
 use Rattle.asm_model.specs.declared.statements.What.TheVariants as what
-use Rattle.asm_model.specs.AtLine.{Definition, SourceLine, Sight, sight, added_names, seen_behind, made_name}
+use Rattle.asm_model.specs.AtLine.{SourceLine, Sight, sight, added_names, seen_behind, made_name}
 use Rattle.asm_model.specs.Grammar.{Tree}
 use Rattle.asm_model.specs.Kinds.{earlier, told_kind}
 use Rattle.asm_model.specs.Says.{mapped}
-use Rattle.layout_model.specs.Before.{thumb_behind, areas_behind, area_behind, stretch_behind, is_thumb_label}
+use Rattle.layout_model.specs.Before.{area_behind, is_thumb_label}
 use Rattle.layout_model.specs.Entries.{equal_entry}
-use Rattle.layout_model.specs.Extents.{Extent, Block, Padding, Loading, Pool, number_there, value_there, tree_value, extent_of}
+use Rattle.layout_model.specs.Extents.{Extent, Block, Padding, Loading, Pool, number_there, tree_value, extent_of}
 use Rattle.layout_model.specs.Labels.{Defined, Unnamed, LocalLabel, Label, Equal, MapField, RegisterName, defined_by, imported_in, imported_entries}
-use Rattle.layout_model.specs.Laid.{Declared, LaidLine, reversed, statements_of, lines_of, taken, pieces_of, locals_of, map_behind, map_from, added, set_or, aligned_end, offset_behind, tree_equated, definition_of, line_behind, definition_behind, imported_lines, sight_behind, sized, laid_behind}
+use Rattle.layout_model.specs.Laid.{Declared, LaidLine, reversed, statements_of, lines_of, taken, pieces_of, map_behind, map_from, added, set_or, offset_behind, tree_equated, definition_of, line_behind, imported_lines, sight_behind, laid_behind}
 use Rattle.layout_model.specs.LayoutKinds.{fault_kinds, kind_if, map_kinds, area_bytes}
 use Rattle.layout_model.specs.Offsets.{Piece, offset_of, size_behind, start_in}
 use Rattle.layout_model.specs.Trees.{tree_of}
 use Rattle.layout_model.proofs.LaidLemmas.{starts_there}
 use Rattle.asm_offsets.specs.declared.extents.Extent.{Extent as Code}
 use Rattle.asm_offsets.specs.declared.extents.Placed.{Placed as Put}
-use Rattle.asm_offsets.specs.declared.extents.TooLarge.{TooLarge}
 use Rattle.asm_offsets.specs.Coded.{extent_of_code, IsExtent}
-use Rattle.asm_offsets.specs.Running.{Standing, piece, IsStanding, IsBehind, IsPlaced, IsThere, Places, Keeps, entry_behind}
+use Rattle.asm_offsets.specs.Running.{Standing, piece, IsStanding, IsBehind, IsPlaced, IsThere, entry_behind}
 use Rattle.asm_offsets.specs.Laws.{ExtentsArePlaceable}
 use Rattle.asm_expr.specs.Places.{number_in}
 use Rattle.asm_locals.specs.Found.{AllBefore}
 use Rattle.asm_laying.specs.declared.behind.Behind.{Behind}
-use Rattle.asm_laying.specs.declared.finding.Found.{Found}
 use Rattle.asm_laying.specs.declared.finding.Spot.{Spot}
 use Rattle.asm_laying.specs.declared.laying.Laying.{Laying}
-use Rattle.asm_laying.specs.declared.laying.Placed.{Placed}
 use Rattle.asm_laying.specs.Behind.{most_statements}
 use Rattle.asm_laying.specs.Defining.{own_entry, listed}
-use Rattle.asm_laying.specs.Laying.{IsLaying, IsAt, IsSpot, IsFound, Reaches, ShowsLines, MayPlace, OkExtent, equal_names, told_of, IsLaid}
-use Rattle.asm_laying.specs.Numbered.{AreNumbered}
+use Rattle.asm_laying.specs.Laying.{IsAt, IsSpot, IsFound, Reaches, ShowsLines, MayPlace, OkExtent, equal_names, told_of, IsLaid}
 use Rattle.asm_laying.specs.Reading.{most_bytes, capped, all_capped, coded, map_after}
 use Rattle.asm_laying.proofs.DeclareLemmas.{listed_short, imported_short}
 
@@ -210,10 +205,10 @@ made_is make s names area name (Some t) = refl
 -- a definition adds its own name, or that of an expression; the sight of a name for an expression does not hang on its size
 adds : (d : Declared) (s : Statement) (before : List LaidLine) (size : ℕ) (x : Defined)
     → added_names (sight d.names (seen_behind d.names (lines_of before)) (line_behind d s before (definition_of d.names x (area_behind (s ∷ statements_of before)) (offset_behind s before) size (is_thumb_label s (statements_of before)) (map_behind before))))
-        (definition_of d.names x (area_behind (s ∷ statements_of before)) (offset_behind s before) size (is_thumb_label s (statements_of before)) (map_behind before))
+    (definition_of d.names x (area_behind (s ∷ statements_of before)) (offset_behind s before) size (is_thumb_label s (statements_of before)) (map_behind before))
     ≡ listed (own_entry x (area_behind (s ∷ statements_of before)) (offset_behind s before) size (is_thumb_label s (statements_of before)) (map_behind before))
     ++ equal_names d.names (area_behind (s ∷ statements_of before))
-        (sight d.names (seen_behind d.names (lines_of before)) (line_behind d s before (definition_of d.names x (area_behind (s ∷ statements_of before)) (offset_behind s before) 0 (is_thumb_label s (statements_of before)) (map_behind before)))) x
+    (sight d.names (seen_behind d.names (lines_of before)) (line_behind d s before (definition_of d.names x (area_behind (s ∷ statements_of before)) (offset_behind s before) 0 (is_thumb_label s (statements_of before)) (map_behind before)))) x
 adds d s before size Unnamed = refl
 adds d s before size (LocalLabel n) = refl
 adds d s before size (Label name) = refl
@@ -238,8 +233,8 @@ names_more d s before e own equal h o q =
     let import = imported_entries (imported_in s.what) in
     let laid = laid_behind d s before in
     let one : seen ++ own ++ equal ≡ seen_behind d.names (laid.line ∷ lines_of before) =
-        append_assoc seen own equal ∙ ap (λ x. seen ++ (x ++ equal)) o ∙ ap (λ x. seen ++ (listed (own_entry (defined_by s) (area_behind (s ∷ statements_of before)) (offset_behind s before) laid.size (is_thumb_label s (statements_of before)) (map_behind before)) ++ x)) q
-        ∙ ap (λ x. seen ++ x) (sym (adds d s before laid.size (defined_by s))) in
+    append_assoc seen own equal ∙ ap (λ x. seen ++ (x ++ equal)) o ∙ ap (λ x. seen ++ (listed (own_entry (defined_by s) (area_behind (s ∷ statements_of before)) (offset_behind s before) laid.size (is_thumb_label s (statements_of before)) (map_behind before)) ++ x)) q
+    ∙ ap (λ x. seen ++ x) (sym (adds d s before laid.size (defined_by s))) in
     ap (λ x. x ++ import) one ∙ sym (imports d s before (laid.line ∷ lines_of before) (imported_in s.what))
 
 own_there : (x : Defined) (a b : Option ℕ) (o p n m : ℕ) (t u : Bool) (k j : ℕ) → a ≡ b → o ≡ p → n ≡ m → t ≡ u → k ≡ j
@@ -264,9 +259,9 @@ told_too_large d s before spot x map equal sp found large =
     let r = sight_behind d s before in
     let e = coded_is x (extent_of r s.what) found.extent in
     let over : 2 ^ 24 < offset_of area pieces e.0 + size_behind area pieces e.0 =
-        large_all area e.0 pieces
-        (subst (λ c. 2 ^ 24 < offset_of area pieces c + size_behind area pieces c) e.2
-        (subst (λ a. 2 ^ 24 < offset_of a pieces (extent_of_code x) + size_behind a pieces (extent_of_code x)) sp.area large)) in
+    large_all area e.0 pieces
+    (subst (λ c. 2 ^ 24 < offset_of area pieces c + size_behind area pieces c) e.2
+    (subst (λ a. 2 ^ 24 < offset_of a pieces (extent_of_code x) + size_behind a pieces (extent_of_code x)) sp.area large)) in
     told_large d s before e.0 spot.map map true e.1 (sym found.after)
     (fits_not (offset_of area pieces e.0) (size_behind area pieces e.0) (laid_behind d s before).offset (laid_behind d s before).size
     (sym (starts_there area pieces r s.what e.0 e.1)) (ap (λ q. size_behind area pieces (taken q)) (sym e.1)) over)
@@ -292,21 +287,21 @@ lays d s before old new spot x map equal p at sp found placed long behind locals
     let l = laid_behind d s before in
     let e = coded_is x (extent_of r s.what) found.extent in
     let here : IsPlaced area e.0 pieces new.areas.ends p =
-        placed_all area e.0 pieces new.areas.ends p
-        (subst (λ c. IsPlaced area c pieces new.areas.ends p) e.2
-        (subst (λ a. IsPlaced a (extent_of_code x) pieces new.areas.ends p) sp.area placed)) in
+    placed_all area e.0 pieces new.areas.ends p
+    (subst (λ c. IsPlaced area c pieces new.areas.ends p) e.2
+    (subst (λ a. IsPlaced a (extent_of_code x) pieces new.areas.ends p) sp.area placed)) in
     let offset : p.offset ≡ l.offset = here.offset ∙ sym (starts_there area pieces r s.what e.0 e.1) in
     let size : p.size ≡ l.size = here.size ∙ ap (λ q. size_behind area pieces (taken q)) (sym e.1) in
     let own = listed (own_entry (defined_by s) spot.area spot.offset p.size spot.label_thumb spot.map) in
     let import = imported_entries (imported_in s.what) in
     let own_eq : own ≡ listed (own_entry (defined_by s) area (offset_behind s before) l.size (is_thumb_label s (statements_of before)) (map_behind before)) =
-        own_there (defined_by s) spot.area area spot.offset (offset_behind s before) p.size l.size spot.label_thumb (is_thumb_label s (statements_of before)) spot.map (map_behind before)
-        sp.area sp.offset size sp.label_thumb sp.map in
+    own_there (defined_by s) spot.area area spot.offset (offset_behind s before) p.size l.size spot.label_thumb (is_thumb_label s (statements_of before)) spot.map (map_behind before)
+    sp.area sp.offset size sp.label_thumb sp.map in
     let equal_eq : listed equal ≡ equal_names d.names area r (defined_by s) = found.equal ∙ ap (λ a. equal_names d.names a r (defined_by s)) sp.area in
     let grown : length new.names ≡ length old.names + length own + length (listed equal) + length import =
-        ap (λ (ns : List LaidName). length ns) names ∙ length-append (old.names ++ own ++ listed equal) import
-        ∙ ap (λ n. n + length import) (length-append (old.names ++ own) (listed equal))
-        ∙ ap (λ n. n + length (listed equal) + length import) (length-append old.names own) in
+    ap (λ (ns : List LaidName). length ns) names ∙ length-append (old.names ++ own ++ listed equal) import
+    ∙ ap (λ n. n + length import) (length-append (old.names ++ own) (listed equal))
+    ∙ ap (λ n. n + length (listed equal) + length import) (length-append old.names own) in
     record {
       told = told_large d s before e.0 spot.map map false e.1 (sym found.after) (fits_low p.offset p.size l.offset l.size offset size here.fits);
       area = sp.area;
@@ -327,11 +322,11 @@ lays d s before old new spot x map equal p at sp found placed long behind locals
         };
         map = mapped ∙ map_from_is spot.map map r s.what (sym found.after) ∙ ap (λ m. map_from m r s.what) sp.map;
         names =
-          names ∙ ap (λ ns. ns ++ own ++ listed equal ++ import) at.names
-          ∙ names_more d s before e.0 own (listed equal) e.1 own_eq equal_eq;
+            names ∙ ap (λ ns. ns ++ own ++ listed equal ++ import) at.names
+            ∙ names_more d s before e.0 own (listed equal) e.1 own_eq equal_eq;
         few = subst (λ n. n ≤ 3 * suc (length before)) (sym grown)
-          (few_more (length old.names) (length own) (length (listed equal)) (length before) (length import) at.few
-          (listed_short (own_entry (defined_by s) spot.area spot.offset p.size spot.label_thumb spot.map)) (listed_short equal) (imported_short (imported_in s.what)));
+            (few_more (length old.names) (length own) (length (listed equal)) (length before) (length import) at.few
+            (listed_short (own_entry (defined_by s) spot.area spot.offset p.size spot.label_thumb spot.map)) (listed_short equal) (imported_short (imported_in s.what)));
         locals = ap (λ ls. reversed ls []) locals ∙ at.locals;
         order = subst (λ (b : Behind). AllBefore b.stretch b.count new.locals) (sym behind) (subst (λ ls. AllBefore old.behind.stretch old.behind.count ls) (sym locals) at.order);
       };

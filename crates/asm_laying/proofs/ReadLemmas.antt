@@ -1,5 +1,5 @@
 -- Values of expressions that tokens spell.
-use Rattle.std.proofs.Common.{◌≡◌, ℕ, sym, subst, Option}
+use Rattle.std.proofs.Common.{ℕ, sym, subst, Option}
 use Rattle.std.specs.Prelude.{Result}
 use Rattle.asm_model.specs.declared.exprs.Expr.{Expr}
 use Rattle.asm_model.specs.declared.values.Value.{Value}
@@ -8,7 +8,6 @@ use Rattle.asm_model.specs.AtLine.{Sight}
 use Rattle.asm_model.specs.Grammar.{Tree}
 use Rattle.asm_model.specs.Meaning.{IsValue}
 use Rattle.layout_model.specs.Extents.{tree_value, tree_literal, value_there, number_there, literal_there, as_number}
-use Rattle.layout_model.specs.Trees.{tree_of}
 use Rattle.layout_model.proofs.TreeLemmas.{trees_read_back}
 use Rattle.asm_sight.specs.Sights.{SeesValue, SeesNumber, SeesLiteral, IsNumber}
 use Rattle.asm_laying.specs.Reading.{IsRead}

@@ -1,8 +1,7 @@
 -- What a statement sees at its line, and what it needs of values there.
 use Rattle.std.proofs.Common.{◌≡◌, ℕ, ◌==◌, Bool, true, false, cond, List, [], ◌∷◌, ◌++◌, ◌+◌, ◌%◌, ◌^◌, length, Option, Some, None, refl, sym, ap, ◌∙◌}
-use Rattle.std.specs.Prelude.{Result, Ok, Err}
+use Rattle.std.specs.Prelude.{Ok}
 use Rattle.std.specs.Option.{is_some}
-use Rattle.sdt_fault.specs.declared.kinds.LineKind.{LineKind}
 use Rattle.asm_model.specs.declared.exprs.Expr.{Expr}
 use Rattle.asm_model.specs.declared.names.LaidName.{LaidName}
 use Rattle.asm_model.specs.declared.directives.Boundary.{Boundary}
@@ -19,10 +18,10 @@ use Rattle.asm_model.specs.Forms.{same}
 use Rattle.asm_model.specs.Grammar.{Tree}
 use Rattle.asm_model.specs.Meaning.{named_in}
 use Rattle.asm_model.specs.Says.{mapped, on_both}
-use Rattle.layout_model.specs.Before.{thumb_behind, area_behind, stretch_behind, is_thumb_label}
+use Rattle.layout_model.specs.Before.{area_behind, stretch_behind, is_thumb_label}
 use Rattle.layout_model.specs.Entries.{equal_entry}
-use Rattle.layout_model.specs.Extents.{Extent, Block, Padding, tree_value, value_there, number_there, tree_literal, literal_there, as_number, byte_count, byte_counts, instruction, loading, pseudo_extent, as_multiple, padding, directive_extent, extent_of}
-use Rattle.layout_model.specs.Labels.{Defined, Unnamed, LocalLabel, Label, Equal, MapField, RegisterName, number_in, labelled, directive_defines, what_defines, field_defines, defined_by}
+use Rattle.layout_model.specs.Extents.{Block, Padding, tree_value, value_there, number_there, tree_literal, literal_there, as_number, byte_count, byte_counts, instruction, loading, pseudo_extent, as_multiple, padding, directive_extent, extent_of}
+use Rattle.layout_model.specs.Labels.{Defined, Unnamed, LocalLabel, Label, Equal, MapField, RegisterName, number_in, labelled, directive_defines, field_defines, defined_by}
 use Rattle.layout_model.specs.Laid.{Declared, LaidLine, statements_of, lines_of, locals_of, map_behind, offset_behind, tree_equated, definition_of, sight_behind, reversed}
 use Rattle.layout_model.specs.Locals.{Local, local_entries, back_of, forth_of}
 use Rattle.layout_model.specs.Trees.{tree_of}
@@ -34,7 +33,7 @@ use Rattle.asm_laying.specs.declared.finding.Found.{Found}
 use Rattle.asm_laying.specs.declared.finding.Spot.{Spot}
 use Rattle.asm_laying.specs.Defining.{own_entry}
 use Rattle.asm_laying.specs.Laying.{needs_values, equal_names, sight_shown, DefinedRead, IsFound, IsSpot, Sees, ShowsLines}
-use Rattle.asm_laying.specs.Reading.{IsRead, AreRead, all_capped, map_after}
+use Rattle.asm_laying.specs.Reading.{AreRead, all_capped, map_after}
 
 -- ---- names in lists
 
@@ -87,15 +86,15 @@ sees d s before known own back forth p sp is_known is_own is_back is_forth =
     let seen = seen_behind d.names (lines_of before) in
     let mine = own_names (definition_of d.names (defined_by s) (area_behind (s ∷ statements_of before)) (offset_behind s before) 0 (is_thumb_label s (statements_of before)) (map_behind before)) in
     let owns : own_list own ≡ mine =
-        ap own_list is_own ∙ own_there (defined_by s) p.area (area_behind (s ∷ statements_of before)) p.offset (offset_behind s before) p.label_thumb (is_thumb_label s (statements_of before)) p.map (map_behind before)
-        sp.area sp.offset sp.label_thumb sp.map
-        ∙ own_is d.names (defined_by s) (area_behind (s ∷ statements_of before)) (offset_behind s before) 0 (is_thumb_label s (statements_of before)) (map_behind before) in
+    ap own_list is_own ∙ own_there (defined_by s) p.area (area_behind (s ∷ statements_of before)) p.offset (offset_behind s before) p.label_thumb (is_thumb_label s (statements_of before)) p.map (map_behind before)
+    sp.area sp.offset sp.label_thumb sp.map
+    ∙ own_is d.names (defined_by s) (area_behind (s ∷ statements_of before)) (offset_behind s before) 0 (is_thumb_label s (statements_of before)) (map_behind before) in
     let front : known ++ own_list own ≡ seen ++ mine = ap (λ k. k ++ own_list own) is_known ∙ ap (λ o. seen ++ o) owns in
     record {
       known = λ q. same_joined q (known ++ own_list own) (seen ++ mine) back (backs s before) (ap (named_in q) front) (is_back q);
       unsized = λ q. ap (named_in q) owns;
       all = λ q. ap is_some (same_joined q (d.names ++ back) (d.names ++ backs s before) forth (forths d s before)
-        (same_joined q d.names d.names back (backs s before) refl (is_back q)) (is_forth q));
+          (same_joined q d.names d.names back (backs s before) refl (is_back q)) (is_forth q));
       area = sp.area;
       offset = sp.offset;
       map = sp.map;
@@ -117,10 +116,10 @@ pub sees_lines : (d : Declared) (s : Statement) (before : List LaidLine) (known 
 sees_lines d s before known locals own back forth p h is_own is_back is_forth = record {
   thumb = h.spot.thumb;
   all = λ t.
-    sees d s before known own back forth p h.spot h.known is_own
-    (λ q. is_back t q ∙ ap (named_in q) (back_at p.area (area_behind (s ∷ statements_of before)) p.stretch (stretch_behind (s ∷ statements_of before)) p.count (length before) (reversed locals [])
+      sees d s before known own back forth p h.spot h.known is_own
+      (λ q. is_back t q ∙ ap (named_in q) (back_at p.area (area_behind (s ∷ statements_of before)) p.stretch (stretch_behind (s ∷ statements_of before)) p.count (length before) (reversed locals [])
       (local_entries (defined_by s) (stretch_behind (s ∷ statements_of before)) (length before) (offset_behind s before) ++ locals_of before) h.spot.area h.spot.stretch h.spot.count h.labels))
-    (λ q. is_forth t q ∙ ap (named_in q) (forth_at p.area (area_behind (s ∷ statements_of before)) p.stretch (stretch_behind (s ∷ statements_of before)) p.count (length before) d.locals h.spot.area h.spot.stretch h.spot.count));
+      (λ q. is_forth t q ∙ ap (named_in q) (forth_at p.area (area_behind (s ∷ statements_of before)) p.stretch (stretch_behind (s ∷ statements_of before)) p.count (length before) d.locals h.spot.area h.spot.stretch h.spot.count));
 }
 
 -- ---- values of the same names

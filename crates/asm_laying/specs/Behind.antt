@@ -1,6 +1,6 @@
 -- What the statements before another say of it, as one record. SDT 2.50 Reference Guide, chapter on the assembler; how it is
 -- kept is this project's.
-use Rattle.std.specs.Prelude.{ℕ, suc, ◌+◌, ◌^◌, ◌≤◌, ◌<◌, List, [], ◌∷◌, length, Bool, if◌then◌else◌}
+use Rattle.std.specs.Prelude.{ℕ, suc, ◌+◌, ◌^◌, ◌≤◌, ◌<◌, List, length, if◌then◌else◌}
 use Rattle.asm_model.specs.declared.statements.Statement.{Statement}
 use Rattle.asm_model.specs.declared.statements.What.{What}
 use Rattle.layout_model.specs.Before.{state_behind, thumb_behind, code_from, code_behind, begins_stretch, stretch_behind}

@@ -1,5 +1,5 @@
 -- The names and local labels of a source, by its lines so far. This project's.
-use Rattle.std.specs.Prelude.{◌≡◌, ℕ, ◌+◌, ◌*◌, ◌≤◌, List, [], ◌∷◌, ◌++◌, length, ◌&&◌}
+use Rattle.std.specs.Prelude.{◌≡◌, ◌+◌, ◌*◌, ◌≤◌, List, [], ◌∷◌, ◌++◌, length, ◌&&◌}
 use Rattle.asm_model.specs.declared.statements.Statement.{Statement}
 use Rattle.asm_locals.specs.Found.{AllBefore}
 use Rattle.layout_model.specs.Before.{code_from}

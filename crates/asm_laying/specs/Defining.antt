@@ -1,5 +1,5 @@
 -- What a statement defines, as code keeps it, and the entries of its names. This project's.
-use Rattle.std.specs.Prelude.{ℕ, ◌<◌, List, [], ◌∷◌, ◌++◌, Bool, false, Option, Some, None}
+use Rattle.std.specs.Prelude.{ℕ, ◌<◌, List, [], ◌∷◌, Bool, false, Option, Some, None}
 use Rattle.asm_model.specs.declared.values.Value.TheVariants.{Number}
 use Rattle.asm_model.specs.declared.names.LaidName.{LaidName}
 use Rattle.layout_model.specs.Entries.{label_entry, valued_entry}

@@ -17,7 +17,7 @@ use Rattle.layout_model.specs.Before.{thumb_behind, areas_behind, area_behind, c
 use Rattle.layout_model.specs.Entries.{equal_entry}
 use Rattle.layout_model.specs.Extents.{value_there, extent_of}
 use Rattle.layout_model.specs.Labels.{Defined, Equal, defined_by}
-use Rattle.layout_model.specs.Laid.{Declared, LaidLine, reversed, statements_of, lines_of, taken, pieces_of, locals_of, map_behind, offset_behind, sight_behind, laid_behind}
+use Rattle.layout_model.specs.Laid.{Declared, LaidLine, reversed, statements_of, lines_of, taken, pieces_of, locals_of, map_behind, offset_behind}
 use Rattle.layout_model.specs.LayoutKinds.{fault_kinds, kind_if, map_kinds, area_bytes}
 use Rattle.layout_model.specs.Locals.{Local, local_entries}
 use Rattle.asm_locals.specs.Found.{AllBefore}

@@ -1,10 +1,8 @@
 -- Expressions of a statement that its place needs, and what it takes up as code keeps it. This project's.
-use Rattle.std.specs.Prelude.{◌≡◌, ℕ, ◌+◌, ◌%◌, ◌^◌, List, [], ◌∷◌, min, Option, Some, None, Result, Ok, Err}
+use Rattle.std.specs.Prelude.{◌≡◌, ℕ, ◌+◌, ◌%◌, ◌^◌, List, [], ◌∷◌, min, Option, Some, None, Result, Ok}
 use Rattle.sdt_fault.specs.declared.kinds.LineKind.{LineKind}
 use Rattle.asm_model.specs.declared.exprs.Expr.{Expr}
 use Rattle.asm_model.specs.declared.exprs.Part.{Part}
-use Rattle.asm_model.specs.declared.values.Value.{Value}
-use Rattle.asm_model.specs.declared.values.EvalFault.{EvalFault}
 use Rattle.asm_model.specs.declared.directives.Boundary.{Boundary}
 use Rattle.asm_model.specs.declared.directives.Boundary.TheVariants as limit
 use Rattle.asm_model.specs.declared.directives.DirectiveLine.{DirectiveLine}

@@ -70,7 +70,11 @@ impl Behind {
         requires { IsEarly self }
         ensures { result ≡ stepped what.now self }
     {
-        let stretch = if begins_stretch(what) { self.stretch + 1 } else { self.stretch };
+        let stretch = if begins_stretch(what) {
+            self.stretch + 1
+        } else {
+            self.stretch
+        };
         Behind {
             thumb: state_behind(what, self.thumb),
             code: code_from(what, self.code),

@@ -16,8 +16,8 @@ use asm_expr::kinds::earlier;
 use asm_model::{Boundary, DirectiveLine, Expr, PseudoLine, ThumbLine, Value, What};
 use asm_offsets::Extent;
 use asm_sight::Place;
-use sdt_fault::kinds::LineKind;
 use sdt_fault::NoMemory;
+use sdt_fault::kinds::LineKind;
 use std::alloc::Global;
 
 /// Bytes that are aligned so.

@@ -2,7 +2,7 @@ use Rattle.std.proofs.Common.{◌≡◌, length, map, take}
 use Rattle.asm_order.specs.Equals.{pairs_of}
 use Rattle.asm_final.specs.Owing.{owed_of}
 use Rattle.asm_final.specs.Source.{equal_pair}
-use Rattle.asm_final.proofs.names.equals_of.Given as goal
+use Rattle.asm_final.proofs.dues.equals_of.Given as goal
 
 abbrev pub invariant-dues : goal.invariant-dues
 invariant-dues l = record {

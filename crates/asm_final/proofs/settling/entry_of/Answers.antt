@@ -2,7 +2,7 @@ use Rattle.std.proofs.Common.{[], ◌∷◌, ap, ◌∙◌}
 use Rattle.std.specs.Prelude.{Err}
 use Rattle.layout_model.specs.Entries.{equal_entry}
 use Rattle.asm_final.proofs.LineLemmas.{made_by_value, made_by_fault, entry_there}
-use Rattle.asm_final.proofs.names.entry_of.Goals as goal
+use Rattle.asm_final.proofs.settling.entry_of.Goals as goal
 
 pub returns-in-Ok : goal.returns-in-Ok
 returns-in-Ok c =

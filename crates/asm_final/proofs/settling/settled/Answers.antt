@@ -2,7 +2,7 @@ use Rattle.std.proofs.Common.{map}
 use Rattle.asm_final.specs.Owing.{owed_of}
 use Rattle.asm_final.specs.Source.{begun}
 use Rattle.asm_final.proofs.SettleLemmas.{settles_more}
-use Rattle.asm_final.proofs.names.settled.Goals as goal
+use Rattle.asm_final.proofs.settling.settled.Goals as goal
 
 pub places-init : goal.places-init
 places-init c = begun
