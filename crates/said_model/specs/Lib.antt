@@ -1,0 +1,2 @@
+-- What layout and emission ask of statements.
+pub mod Said

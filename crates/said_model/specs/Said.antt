@@ -1,0 +1,195 @@
+-- Statements as lines say them. Their expressions are what tokens spell, names begin with no bar, a local label has two
+-- digits at most, registers are 0 to 15, and what an instruction's form leaves out is register 0. SDT 2.50 Reference
+-- Guide, chapter on the assembler.
+use Rattle.std.specs.Prelude.{◌≡◌, ℕ, ◌<◌, List, [], ◌∷◌, Bool, true, false, Option, Some, None}
+use Rattle.arm_isa.specs.declared.instr.Operation.{Operation}
+use Rattle.arm_isa.specs.declared.instr.Operation.TheVariants.{Tst, Teq, Cmp, Cmn, Mov, Mvn}
+use Rattle.arm_isa.specs.declared.instr.HalfKind.{HalfKind}
+use Rattle.arm_isa.specs.declared.instr.HalfKind.TheVariants.{Half, SignedByte, SignedHalf}
+use Rattle.asm_model.specs.declared.exprs.Expr.{Expr}
+use Rattle.asm_model.specs.declared.exprs.Part.{Part}
+use Rattle.asm_model.specs.declared.operands.Register.{Register}
+use Rattle.asm_model.specs.declared.operands.Register.TheVariants as register
+use Rattle.asm_model.specs.declared.operands.Shift.{Shift}
+use Rattle.asm_model.specs.declared.operands.Shift.TheVariants as shift
+use Rattle.asm_model.specs.declared.operands.Indexing.{Indexing}
+use Rattle.asm_model.specs.declared.operands.Indexing.TheVariants as indexing
+use Rattle.asm_model.specs.declared.operands.Address.{Address}
+use Rattle.asm_model.specs.declared.operands.Address.TheVariants as address
+use Rattle.asm_model.specs.declared.operands.HalfOffset.{HalfOffset}
+use Rattle.asm_model.specs.declared.operands.HalfOffset.TheVariants as half
+use Rattle.asm_model.specs.declared.operands.ListItem.{ListItem}
+use Rattle.asm_model.specs.declared.operands.ListItem.TheVariants as item
+use Rattle.asm_model.specs.declared.arm_lines.ArmLine.{ArmLine}
+use Rattle.asm_model.specs.declared.arm_lines.ArmLine.TheVariants as arm
+use Rattle.asm_model.specs.declared.directives.Boundary.{Boundary}
+use Rattle.asm_model.specs.declared.directives.Boundary.TheVariants as limit
+use Rattle.asm_model.specs.declared.directives.RnOperand.{RnOperand}
+use Rattle.asm_model.specs.declared.directives.RnOperand.TheVariants as rn
+use Rattle.asm_model.specs.declared.directives.DirectiveLine.{DirectiveLine}
+use Rattle.asm_model.specs.declared.directives.DirectiveLine.TheVariants as line
+use Rattle.asm_model.specs.declared.statements.PseudoLine.{PseudoLine}
+use Rattle.asm_model.specs.declared.statements.PseudoLine.TheVariants as pseudo
+use Rattle.asm_model.specs.declared.statements.Statement.{Statement}
+use Rattle.asm_model.specs.declared.statements.What.{What}
+use Rattle.asm_model.specs.declared.statements.What.TheVariants as what
+use Rattle.asm_model.specs.Grammar.{Tree, postfix, IsSpelled}
+use Rattle.layout_model.specs.Labels.{Defined, LocalLabel, defined_by, imported_in}
+use Rattle.layout_laws.specs.Sound.{IsBare, IsPlainDefined, IsPlainImport}
+
+-- ---- operands
+
+-- an expression is what tokens spell
+pub record IsRead (e : Expr) : Type 0 where
+  pub parts : List Part
+  pub tree : Tree
+  pub spelled : IsSpelled parts tree
+  pub items : e.items ≡ postfix tree
+
+abbrev pub AllRead : List Expr → Type 0
+AllRead [] = Unit {0}
+AllRead (e ∷ es) = IsRead e × AllRead es
+
+abbrev pub OptionRead : Option Expr → Type 0
+OptionRead None = Unit {0}
+OptionRead (Some e) = IsRead e
+
+abbrev pub RegisterSaid : Register → Type 0
+RegisterSaid (register.Number n) = n < 16
+RegisterSaid (register.Named name) = IsBare name
+
+abbrev pub ShiftSaid : Shift → Type 0
+ShiftSaid shift.Unshifted = Unit {0}
+ShiftSaid (shift.By kind e) = IsRead e
+ShiftSaid shift.Extended = Unit {0}
+
+abbrev pub AddressSaid : Address → Type 0
+AddressSaid (address.Based rn ix e) = RegisterSaid rn × IsRead e
+AddressSaid (address.Label e) = IsRead e
+
+abbrev pub HalfOffsetSaid : HalfOffset → Type 0
+HalfOffsetSaid (half.Number e) = IsRead e
+HalfOffsetSaid (half.Register subtract rm) = RegisterSaid rm
+
+abbrev pub ItemSaid : ListItem → Type 0
+ItemSaid (item.One r) = RegisterSaid r
+ItemSaid (item.Range first last) = RegisterSaid first × RegisterSaid last
+
+abbrev pub AllItemsSaid : List ListItem → Type 0
+AllItemsSaid [] = Unit {0}
+AllItemsSaid (i ∷ is) = ItemSaid i × AllItemsSaid is
+
+-- ---- instructions
+
+-- a comparison sets the flags and names no Rd
+pub record IsComparison (set_flags : Bool) (rd : Register) : Type 0 where
+  pub flags : set_flags ≡ true
+  pub none : rd ≡ register.Number 0
+
+-- what data processing leaves out: a move names no Rn
+abbrev pub OperationSaid : Operation → Bool → Register → Register → Type 0
+OperationSaid Tst set_flags rd rn = IsComparison set_flags rd
+OperationSaid Teq set_flags rd rn = IsComparison set_flags rd
+OperationSaid Cmp set_flags rd rn = IsComparison set_flags rd
+OperationSaid Cmn set_flags rd rn = IsComparison set_flags rd
+OperationSaid Mov set_flags rd rn = rn ≡ register.Number 0
+OperationSaid Mvn set_flags rd rn = rn ≡ register.Number 0
+OperationSaid _ set_flags rd rn = Unit {0}
+
+abbrev pub FactorSaid : Bool → Register → Type 0
+FactorSaid true rn = Unit {0}
+FactorSaid false rn = rn ≡ register.Number 0
+
+-- a store moves a half-word
+abbrev pub HalfSaid : Bool → HalfKind → Type 0
+HalfSaid true kind = Unit {0}
+HalfSaid false Half = Unit {0}
+HalfSaid false SignedByte = ⊥
+HalfSaid false SignedHalf = ⊥
+
+-- the suffix T is one of words and bytes
+abbrev pub IsUntranslated : Indexing → Type 0
+IsUntranslated indexing.Translated = ⊥
+IsUntranslated _ = Unit {0}
+
+abbrev pub ArmSaid : ArmLine → Type 0
+ArmSaid (arm.DataImmediate condition operation set_flags rd rn e) =
+    RegisterSaid rd × RegisterSaid rn × OperationSaid operation set_flags rd rn × IsRead e
+ArmSaid (arm.DataShifted condition operation set_flags rd rn rm by) =
+    RegisterSaid rd × RegisterSaid rn × OperationSaid operation set_flags rd rn × RegisterSaid rm × ShiftSaid by
+ArmSaid (arm.DataRegisterShifted condition operation set_flags rd rn rm kind rs) =
+    RegisterSaid rd × RegisterSaid rn × OperationSaid operation set_flags rd rn × RegisterSaid rm × RegisterSaid rs
+ArmSaid (arm.Multiply condition accumulate set_flags rd rm rs rn) =
+    RegisterSaid rd × RegisterSaid rm × RegisterSaid rs × RegisterSaid rn × FactorSaid accumulate rn
+ArmSaid (arm.MultiplyLong condition signed accumulate set_flags low high rm rs) =
+    RegisterSaid low × RegisterSaid high × RegisterSaid rm × RegisterSaid rs
+ArmSaid (arm.Swap condition byte rd rm rn) = RegisterSaid rd × RegisterSaid rm × RegisterSaid rn
+ArmSaid (arm.BranchExchange condition rm) = RegisterSaid rm
+ArmSaid (arm.ReadStatus condition saved rd) = RegisterSaid rd
+ArmSaid (arm.WriteStatus condition saved fields rm) = (fields < 16) × RegisterSaid rm
+ArmSaid (arm.WriteStatusImmediate condition saved fields e) = (fields < 16) × IsRead e
+ArmSaid (arm.TransferImmediate condition load byte rd a) = RegisterSaid rd × AddressSaid a
+ArmSaid (arm.TransferShifted condition load byte rd rn ix subtract rm by) =
+    RegisterSaid rd × RegisterSaid rn × RegisterSaid rm × ShiftSaid by
+ArmSaid (arm.TransferHalf condition load kind rd rn ix o) =
+    RegisterSaid rd × RegisterSaid rn × HalfSaid load kind × IsUntranslated ix × HalfOffsetSaid o
+ArmSaid (arm.TransferBlock condition load mode rn write_back list user) = RegisterSaid rn × AllItemsSaid list.items
+ArmSaid (arm.Branch condition link e) = IsRead e
+ArmSaid (arm.SoftwareInterrupt condition e) = IsRead e
+
+abbrev pub PseudoSaid : PseudoLine → Type 0
+PseudoSaid (pseudo.LoadConstant condition rd e) = RegisterSaid rd × IsRead e
+PseudoSaid (pseudo.Address condition rd e) = RegisterSaid rd × IsRead e
+PseudoSaid (pseudo.LongAddress condition rd e) = RegisterSaid rd × IsRead e
+PseudoSaid pseudo.NoOperation = Unit {0}
+
+-- ---- directives
+
+abbrev pub BoundaryRead : Boundary → Type 0
+BoundaryRead limit.Word = Unit {0}
+BoundaryRead (limit.Multiple e) = IsRead e
+BoundaryRead (limit.Behind e f) = IsRead e × IsRead f
+
+abbrev pub GivenSaid : RnOperand → Type 0
+GivenSaid (rn.Register n) = n < 16
+GivenSaid (rn.Number e) = IsRead e
+
+abbrev pub DirectiveSaid : DirectiveLine → Type 0
+DirectiveSaid (line.Area name a) = OptionRead a.align
+DirectiveSaid (line.Equ e) = IsRead e
+DirectiveSaid (line.Rn r) = GivenSaid r
+DirectiveSaid (line.Assert e) = IsRead e
+DirectiveSaid (line.Opt e) = IsRead e
+DirectiveSaid (line.Dcd es) = AllRead es
+DirectiveSaid (line.Dcdu es) = AllRead es
+DirectiveSaid (line.Dcw es) = AllRead es
+DirectiveSaid (line.Dcb es) = AllRead es
+DirectiveSaid (line.Space e) = IsRead e
+DirectiveSaid (line.Align b) = BoundaryRead b
+DirectiveSaid (line.Map e) = IsRead e
+DirectiveSaid (line.Field e) = IsRead e
+DirectiveSaid _ = Unit {0}
+
+-- ---- statements
+
+-- of instructions of Thumb state nothing is asked yet
+abbrev pub WhatSaid : What → Type 0
+WhatSaid what.Nothing = Unit {0}
+WhatSaid (what.Arm l) = ArmSaid l
+WhatSaid (what.Thumb l) = Unit {0}
+WhatSaid (what.Pseudo l) = PseudoSaid l
+WhatSaid (what.Directive l) = DirectiveSaid l
+
+abbrev pub LocalSaid : Defined → Type 0
+LocalSaid (LocalLabel n) = n < 100
+LocalSaid _ = Unit {0}
+
+pub record IsSaid (s : Statement) : Type 0 where
+  pub local : LocalSaid (defined_by s)
+  pub named : IsPlainDefined (defined_by s)
+  pub imported : IsPlainImport (imported_in s.what)
+  pub read : WhatSaid s.what
+
+abbrev pub AllSaid : List Statement → Type 0
+AllSaid [] = Unit {0}
+AllSaid (s ∷ ss) = IsSaid s × AllSaid ss
