@@ -1,4 +1,4 @@
 mod AreaLemmas
 mod LineLemmas
 mod NameLemmas
-mod ToldLemmas
+pub mod ToldLemmas

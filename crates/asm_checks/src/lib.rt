@@ -7,6 +7,6 @@ pub mod checks;
 mod labels;
 mod names;
 mod places;
-mod told;
+pub mod told;
 
 pub use crate::checks::Checks;

@@ -1,0 +1,8 @@
+//! The areas of a source by its lines, and the faults that need the whole layout.
+#![tactic(auto)]
+
+mod late;
+mod starts;
+
+pub use crate::late::{Stand, late_kind};
+pub use crate::starts::{AreaStart, Starts};
