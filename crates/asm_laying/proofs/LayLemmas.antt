@@ -34,10 +34,11 @@ use Rattle.asm_locals.specs.Found.{AllBefore}
 use Rattle.asm_laying.specs.declared.behind.Behind.{Behind}
 use Rattle.asm_laying.specs.declared.finding.Spot.{Spot}
 use Rattle.asm_laying.specs.declared.laying.Laying.{Laying}
+use Rattle.asm_laying.specs.declared.laying.Placed.{Placed}
 use Rattle.asm_laying.specs.Behind.{most_statements}
 use Rattle.asm_laying.specs.Defining.{own_entry, listed}
-use Rattle.asm_laying.specs.Laying.{IsAt, IsSpot, IsFound, Reaches, ShowsLines, MayPlace, OkExtent, equal_names, told_of, IsLaid}
-use Rattle.asm_laying.specs.Reading.{most_bytes, capped, all_capped, coded, map_after}
+use Rattle.asm_laying.specs.Laying.{IsAt, IsSpot, AreNeeded, Reaches, ShowsLines, MayPlace, OkExtent, equal_names, told_of, IsLaid, IsPlaced as IsPlacedLine, Tells}
+use Rattle.asm_laying.specs.Reading.{most_bytes, capped, all_capped, coded, map_after, said_number, string_marks}
 use Rattle.asm_laying.proofs.DeclareLemmas.{listed_short, imported_short}
 
 -- ---- kinds
@@ -250,19 +251,19 @@ fits_not : (a b c d : ℕ) → a ≡ c → b ≡ d → 2 ^ 24 < a + b → nat_lt
 fits_not a b c d h g f = lt-ltb area_bytes (c + d) (omega arith)
 
 pub told_too_large : (d : Declared) (s : Statement) (before : List LaidLine) (spot : Spot) (x : Code) (map : ℕ) (equal : Option LaidName) → IsSpot s before spot
-    → IsFound d.names spot.area spot.map (sight_behind d s before) s (record { extent = Ok x; map = Ok map; equal = equal })
+    → AreNeeded d.names spot.area spot.map (sight_behind d s before) s (Ok x) (Ok map) equal
     → 2 ^ 24 < offset_of spot.area (pieces_of before) (extent_of_code x) + size_behind spot.area (pieces_of before) (extent_of_code x)
     → told_of (laid_behind d s before) ≡ Some TooMany
 told_too_large d s before spot x map equal sp found large =
     let area = area_behind (s ∷ statements_of before) in
     let pieces = pieces_of before in
     let r = sight_behind d s before in
-    let e = coded_is x (extent_of r s.what) found.extent in
+    let e = coded_is x (extent_of r s.what) found.extent_is in
     let over : 2 ^ 24 < offset_of area pieces e.0 + size_behind area pieces e.0 =
     large_all area e.0 pieces
     (subst (λ c. 2 ^ 24 < offset_of area pieces c + size_behind area pieces c) e.2
     (subst (λ a. 2 ^ 24 < offset_of a pieces (extent_of_code x) + size_behind a pieces (extent_of_code x)) sp.area large)) in
-    told_large d s before e.0 spot.map map true e.1 (sym found.after)
+    told_large d s before e.0 spot.map map true e.1 (sym found.after_is)
     (fits_not (offset_of area pieces e.0) (size_behind area pieces e.0) (laid_behind d s before).offset (laid_behind d s before).size
     (sym (starts_there area pieces r s.what e.0 e.1)) (ap (λ q. size_behind area pieces (taken q)) (sym e.1)) over)
 
@@ -275,17 +276,18 @@ few_more a b c n m h g f e = omega arith
 
 pub lays : (d : Declared) (s : Statement) (before : List LaidLine) (old new : Laying) (spot : Spot) (x : Code) (map : ℕ) (equal : Option LaidName) (p : Put)
     → IsAt d s before old → IsSpot s before spot
-    → IsFound d.names spot.area spot.map (sight_behind d s before) s (record { extent = Ok x; map = Ok map; equal = equal })
+    → AreNeeded d.names spot.area spot.map (sight_behind d s before) s (Ok x) (Ok map) equal
     → IsPlaced spot.area (extent_of_code x) (pieces_of before) new.areas.ends p → length new.areas.ends ≡ length old.areas.ends
     → new.behind ≡ old.behind → new.locals ≡ old.locals → new.map ≡ map → new.areas.numbers ≡ old.areas.numbers → new.areas.count ≡ old.areas.count → new.areas.current ≡ old.areas.current
     → new.names ≡ old.names ++ listed (own_entry (defined_by s) spot.area spot.offset p.size spot.label_thumb spot.map) ++ listed equal ++ imported_entries (imported_in s.what)
-    → IsLaid d (laid_behind d s before) before new (record { area = spot.area; offset = p.offset; size = p.size; thumb = spot.thumb; map = spot.map; literal = p.literal })
-lays d s before old new spot x map equal p at sp found placed long behind locals mapped numbers count current names =
+    → (strings : List Bool) → strings ≡ string_marks (sight_behind d s before) s.what
+    → IsLaid d (laid_behind d s before) before new (record { area = spot.area; offset = p.offset; size = p.size; thumb = spot.thumb; map = spot.map; literal = p.literal; strings = strings })
+lays d s before old new spot x map equal p at sp found placed long behind locals mapped numbers count current names strings marked =
     let area = area_behind (s ∷ statements_of before) in
     let pieces = pieces_of before in
     let r = sight_behind d s before in
     let l = laid_behind d s before in
-    let e = coded_is x (extent_of r s.what) found.extent in
+    let e = coded_is x (extent_of r s.what) found.extent_is in
     let here : IsPlaced area e.0 pieces new.areas.ends p =
     placed_all area e.0 pieces new.areas.ends p
     (subst (λ c. IsPlaced area c pieces new.areas.ends p) e.2
@@ -297,19 +299,20 @@ lays d s before old new spot x map equal p at sp found placed long behind locals
     let own_eq : own ≡ listed (own_entry (defined_by s) area (offset_behind s before) l.size (is_thumb_label s (statements_of before)) (map_behind before)) =
     own_there (defined_by s) spot.area area spot.offset (offset_behind s before) p.size l.size spot.label_thumb (is_thumb_label s (statements_of before)) spot.map (map_behind before)
     sp.area sp.offset size sp.label_thumb sp.map in
-    let equal_eq : listed equal ≡ equal_names d.names area r (defined_by s) = found.equal ∙ ap (λ a. equal_names d.names a r (defined_by s)) sp.area in
+    let equal_eq : listed equal ≡ equal_names d.names area r (defined_by s) = found.equal_is ∙ ap (λ a. equal_names d.names a r (defined_by s)) sp.area in
     let grown : length new.names ≡ length old.names + length own + length (listed equal) + length import =
     ap (λ (ns : List LaidName). length ns) names ∙ length-append (old.names ++ own ++ listed equal) import
     ∙ ap (λ n. n + length import) (length-append (old.names ++ own) (listed equal))
     ∙ ap (λ n. n + length (listed equal) + length import) (length-append old.names own) in
     record {
-      told = told_large d s before e.0 spot.map map false e.1 (sym found.after) (fits_low p.offset p.size l.offset l.size offset size here.fits);
+      told = told_large d s before e.0 spot.map map false e.1 (sym found.after_is) (fits_low p.offset p.size l.offset l.size offset size here.fits);
       area = sp.area;
       offset = offset;
       size = size;
       thumb = sp.thumb;
       map = sp.map;
       literal = here.literal ∙ ap (λ q. entry_behind area pieces (taken q)) (sym e.1);
+      strings = marked;
       laying = record {
         standing = behind ∙ at.standing;
         areas = record {
@@ -320,7 +323,7 @@ lays d s before old new spot x map equal p at sp found placed long behind locals
           each = long ∙ at.areas.each ∙ sym count;
           ends = subst (λ q. IsBehind (piece area (taken q) ∷ pieces) new.areas.ends) (sym e.1) here.behind;
         };
-        map = mapped ∙ map_from_is spot.map map r s.what (sym found.after) ∙ ap (λ m. map_from m r s.what) sp.map;
+        map = mapped ∙ map_from_is spot.map map r s.what (sym found.after_is) ∙ ap (λ m. map_from m r s.what) sp.map;
         names =
             names ∙ ap (λ ns. ns ++ own ++ listed equal ++ import) at.names
             ∙ names_more d s before e.0 own (listed equal) e.1 own_eq equal_eq;
@@ -335,16 +338,16 @@ lays d s before old new spot x map equal p at sp found placed long behind locals
 -- ---- other answers
 
 pub told_no_extent : (d : Declared) (s : Statement) (before : List LaidLine) (spot : Spot) (k : LineKind) (map : Result ℕ LineKind) (equal : Option LaidName)
-    → IsFound d.names spot.area spot.map (sight_behind d s before) s (record { extent = Err k; map = map; equal = equal })
+    → AreNeeded d.names spot.area spot.map (sight_behind d s before) s (Err k) map equal
     → told_of (laid_behind d s before) ≡ Some k
-told_no_extent d s before spot k map equal found = told_extent d s before k (fault_is k (extent_of (sight_behind d s before) s.what) found.extent)
+told_no_extent d s before spot k map equal found = told_extent d s before k (fault_is k (extent_of (sight_behind d s before) s.what) found.extent_is)
 
 pub told_no_map : (d : Declared) (s : Statement) (before : List LaidLine) (spot : Spot) (x : Code) (k : LineKind) (equal : Option LaidName)
-    → IsFound d.names spot.area spot.map (sight_behind d s before) s (record { extent = Ok x; map = Err k; equal = equal })
+    → AreNeeded d.names spot.area spot.map (sight_behind d s before) s (Ok x) (Err k) equal
     → told_of (laid_behind d s before) ≡ Some k
 told_no_map d s before spot x k equal found =
-    let e = coded_is x (extent_of (sight_behind d s before) s.what) found.extent in
-    told_map d s before e.0 spot.map k e.1 (sym found.after)
+    let e = coded_is x (extent_of (sight_behind d s before) s.what) found.extent_is in
+    told_map d s before e.0 spot.map k e.1 (sym found.after_is)
 
 pub may_place : (d : Declared) (s : Statement) (before : List LaidLine) (state : Laying) (spot : Spot) → Reaches d s before state spot → length before < most_statements
     → MayPlace state spot
@@ -362,3 +365,8 @@ fits_all law s w (Err k) h = tt
 pub shows : (d : Declared) (s : Statement) (before : List LaidLine) (state : Laying) (spot : Spot) → Reaches d s before state spot
     → ShowsLines d s before state.names state.locals spot
 shows d s before state spot h = record { spot = h.spot; known = h.at.names; labels = h.at.locals }
+
+pub tells : (d : Declared) (s : Statement) (before : List LaidLine) (spot : Spot) (number : Result ℕ LineKind) (placed : Result Placed LineKind) (state : Laying)
+    → IsSpot s before spot → number ≡ said_number (sight_behind d s before) s.what → IsPlacedLine d (laid_behind d s before) before state placed
+    → Tells d (laid_behind d s before) before state (record { area = spot.area; thumb = spot.thumb; number = number; placed = placed })
+tells d s before spot number placed state sp h g = record { area = sp.area; thumb = sp.thumb; number = h; placed = g }

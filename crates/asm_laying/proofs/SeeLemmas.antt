@@ -6,6 +6,9 @@ use Rattle.asm_model.specs.declared.exprs.Expr.{Expr}
 use Rattle.asm_model.specs.declared.names.LaidName.{LaidName}
 use Rattle.asm_model.specs.declared.directives.Boundary.{Boundary}
 use Rattle.asm_model.specs.declared.directives.Boundary.TheVariants as limit
+use Rattle.asm_model.specs.declared.directives.AreaAttributes.{AreaAttributes}
+use Rattle.asm_model.specs.declared.directives.RnOperand.{RnOperand}
+use Rattle.asm_model.specs.declared.directives.RnOperand.TheVariants as rn
 use Rattle.asm_model.specs.declared.directives.DirectiveLine.{DirectiveLine}
 use Rattle.asm_model.specs.declared.directives.DirectiveLine.TheVariants as line
 use Rattle.asm_model.specs.declared.statements.PseudoLine.{PseudoLine}
@@ -22,6 +25,7 @@ use Rattle.layout_model.specs.Before.{area_behind, stretch_behind, is_thumb_labe
 use Rattle.layout_model.specs.Entries.{equal_entry}
 use Rattle.layout_model.specs.Extents.{Block, Padding, tree_value, value_there, number_there, tree_literal, literal_there, as_number, byte_count, byte_counts, instruction, loading, pseudo_extent, as_multiple, padding, directive_extent, extent_of}
 use Rattle.layout_model.specs.Labels.{Defined, Unnamed, LocalLabel, Label, Equal, MapField, RegisterName, number_in, labelled, directive_defines, field_defines, defined_by}
+use Rattle.layout_model.specs.LayoutKinds.{exponent}
 use Rattle.layout_model.specs.Laid.{Declared, LaidLine, statements_of, lines_of, locals_of, map_behind, offset_behind, tree_equated, definition_of, sight_behind, reversed}
 use Rattle.layout_model.specs.Locals.{Local, local_entries, back_of, forth_of}
 use Rattle.layout_model.specs.Trees.{tree_of}
@@ -32,8 +36,9 @@ use Rattle.asm_sight.proofs.SightLemmas.{sights_alone_count}
 use Rattle.asm_laying.specs.declared.finding.Found.{Found}
 use Rattle.asm_laying.specs.declared.finding.Spot.{Spot}
 use Rattle.asm_laying.specs.Defining.{own_entry}
-use Rattle.asm_laying.specs.Laying.{needs_values, equal_names, sight_shown, DefinedRead, IsFound, IsSpot, Sees, ShowsLines}
-use Rattle.asm_laying.specs.Reading.{AreRead, all_capped, map_after}
+use Rattle.asm_laying.specs.Laying.{align_needs, needs_values, equal_names, sight_shown, DefinedRead, IsFound, IsSpot, Sees, ShowsLines}
+use Rattle.asm_laying.specs.Reading.{all_capped, map_after, said_number, is_words, marks, string_marks}
+use Rattle.said_model.specs.Said.{WhatSaid}
 
 -- ---- names in lists
 
@@ -210,12 +215,53 @@ equal_same names area s r (Some name) (what.Arm l) h = labelled_same names area 
 equal_same names area s r (Some name) (what.Thumb l) h = labelled_same names area s r name
 equal_same names area s r (Some name) (what.Pseudo l) h = labelled_same names area s r name
 
+-- ---- numbers and strings
+
+exponent_same : (s r : Sight) (name : List ℕ) (a : AreaAttributes) (o : Option Expr) → a.align ≡ o → Sees (what.Directive (line.Area name a)) s r → exponent s o ≡ exponent r o
+exponent_same s r name a None e h = refl
+exponent_same s r name a (Some x) e h = number_same s r (h.all (ap align_needs e)) x
+
+given_same : (s r : Sight) (g : RnOperand) → Sees (what.Directive (line.Rn g)) s r → said_number s (what.Directive (line.Rn g)) ≡ said_number r (what.Directive (line.Rn g))
+given_same s r (rn.Register n) h = refl
+given_same s r (rn.Number e) h = number_same s r (h.all refl) e
+
+said_directive : (s r : Sight) (l : DirectiveLine) → Sees (what.Directive l) s r → said_number s (what.Directive l) ≡ said_number r (what.Directive l)
+said_directive s r (line.Area name a) h = exponent_same s r name a a.align refl h
+said_directive s r (line.Rn g) h = given_same s r g h
+said_directive s r l h = refl
+
+said_same : (s r : Sight) (w : What) → Sees w s r → said_number s w ≡ said_number r w
+said_same s r what.Nothing h = refl
+said_same s r (what.Arm l) h = refl
+said_same s r (what.Thumb l) h = refl
+said_same s r (what.Pseudo l) h = refl
+said_same s r (what.Directive l) h = said_directive s r l h
+
+marks_same : (s r : Sight) → SeesTheSame s r → (es : List Expr) → marks s es ≡ marks r es
+marks_same s r h [] = refl
+marks_same s r h (e ∷ es) = ap (λ v. is_words v ∷ marks s es) (value_same s r h e) ∙ ap (λ l. is_words (value_there r e) ∷ l) (marks_same s r h es)
+
+strings_directive : (s r : Sight) (l : DirectiveLine) → Sees (what.Directive l) s r → string_marks s (what.Directive l) ≡ string_marks r (what.Directive l)
+strings_directive s r (line.Dcb es) h = marks_same s r (h.all refl) es
+strings_directive s r l h = refl
+
+strings_same : (s r : Sight) (w : What) → Sees w s r → string_marks s w ≡ string_marks r w
+strings_same s r what.Nothing h = refl
+strings_same s r (what.Arm l) h = refl
+strings_same s r (what.Thumb l) h = refl
+strings_same s r (what.Pseudo l) h = refl
+strings_same s r (what.Directive l) h = strings_directive s r l h
+
 pub found_same : (names : List LaidName) (area : Option ℕ) (map : ℕ) (s r : Sight) (st : Statement) (f : Found) → Sees st.what s r
     → IsFound names area map s st f → IsFound names area map r st f
 found_same names area map s r st f h g = record {
-  extent = g.extent ∙ ap all_capped (extent_same s r st.what h);
-  after = g.after ∙ map_same map s r st.what h;
-  equal = g.equal ∙ equal_same names area s r st.label st.what h;
+  needed = record {
+    extent_is = g.needed.extent_is ∙ ap all_capped (extent_same s r st.what h);
+    after_is = g.needed.after_is ∙ map_same map s r st.what h;
+    equal_is = g.needed.equal_is ∙ equal_same names area s r st.label st.what h;
+  };
+  number = g.number ∙ said_same s r st.what h;
+  strings = g.strings ∙ strings_same s r st.what h;
 }
 
 -- ---- expressions of names
@@ -228,14 +274,14 @@ labelled_read (c ∷ cs) = by_test (c == 124)
     by_test true = tt
     by_test false = tt
 
-directive_read : (name : List ℕ) (l : DirectiveLine) → AreRead (what.Directive l) → DefinedRead (directive_defines name l)
+directive_read : (name : List ℕ) (l : DirectiveLine) → WhatSaid (what.Directive l) → DefinedRead (directive_defines name l)
 directive_read name (line.Equ e) h = h
 directive_read name (line.Rn x) h = tt
 directive_read name (line.Field e) h = tt
 directive_read name line.Rout h = tt
 directive_read name l h = labelled_read name
 
-pub defined_read : (label : Option (List ℕ)) (w : What) → AreRead w → DefinedRead (field_defines label w)
+pub defined_read : (label : Option (List ℕ)) (w : What) → WhatSaid w → DefinedRead (field_defines label w)
 defined_read None w h = tt
 defined_read (Some name) (what.Directive l) h = directive_read name l h
 defined_read (Some name) what.Nothing h = labelled_read name

@@ -6,15 +6,16 @@ use Rattle.layout_model.specs.Before.{code_from}
 use Rattle.layout_model.specs.Labels.{defined_by, imported_in, imported_entries, declared_names}
 use Rattle.layout_model.specs.Laid.{Declared, reversed}
 use Rattle.layout_model.specs.Locals.{local_entries, declared_locals}
+use Rattle.said_model.specs.Said.{LocalSaid}
 use Rattle.asm_laying.specs.declared.behind.Behind.{Behind}
 use Rattle.asm_laying.specs.declared.declarations.Declarations.{Declarations}
 use Rattle.asm_laying.specs.Behind.{behind, stepped}
-use Rattle.asm_laying.specs.Defining.{IsShort, declared_entry, listed}
+use Rattle.asm_laying.specs.Defining.{declared_entry, listed}
 
 -- the local labels of statements have two digits at most
 abbrev pub AllShort : List Statement → Type 0
 AllShort [] = Unit {0}
-AllShort (s ∷ ss) = IsShort (defined_by s) × AllShort ss
+AllShort (s ∷ ss) = LocalSaid (defined_by s) × AllShort ss
 
 abbrev pub declared_in : Declarations → Declared
 declared_in d = record { names = d.names; locals = d.locals }

@@ -1,5 +1,5 @@
 -- What a statement defines, as code keeps it, and the entries of its names. This project's.
-use Rattle.std.specs.Prelude.{ℕ, ◌<◌, List, [], ◌∷◌, Bool, false, Option, Some, None}
+use Rattle.std.specs.Prelude.{ℕ, List, [], ◌∷◌, Bool, false, Option, Some, None}
 use Rattle.asm_model.specs.declared.values.Value.TheVariants.{Number}
 use Rattle.asm_model.specs.declared.names.LaidName.{LaidName}
 use Rattle.layout_model.specs.Entries.{label_entry, valued_entry}
@@ -14,11 +14,6 @@ defined_of (code.Label name) = Label name.now
 defined_of (code.Equal name e) = Equal name.now e.now
 defined_of (code.MapField name) = MapField name.now
 defined_of (code.RegisterName name r) = RegisterName name.now r.now
-
--- a local label has two digits at most, as all that lines say have
-abbrev pub IsShort : Defined → Type 0
-IsShort (LocalLabel n) = n < 100
-IsShort _ = Unit {0}
 
 -- the entry of a statement's own name, where its expressions see one
 abbrev pub own_entry : Defined → Option ℕ → ℕ → ℕ → Bool → ℕ → Option LaidName

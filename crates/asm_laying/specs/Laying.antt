@@ -7,6 +7,9 @@ use Rattle.sdt_fault.specs.declared.kinds.LineKind.TheVariants.{TooMany}
 use Rattle.asm_model.specs.declared.names.LaidName.{LaidName}
 use Rattle.asm_model.specs.declared.directives.DirectiveLine.{DirectiveLine}
 use Rattle.asm_model.specs.declared.directives.DirectiveLine.TheVariants as line
+use Rattle.asm_model.specs.declared.directives.RnOperand.{RnOperand}
+use Rattle.asm_model.specs.declared.directives.RnOperand.TheVariants as rn
+use Rattle.asm_model.specs.declared.exprs.Expr.{Expr}
 use Rattle.asm_model.specs.declared.statements.PseudoLine.TheVariants as pseudo
 use Rattle.asm_model.specs.declared.statements.Statement.{Statement}
 use Rattle.asm_model.specs.declared.statements.What.{What}
@@ -24,17 +27,19 @@ use Rattle.asm_locals.specs.Found.{AllBefore}
 use Rattle.asm_offsets.specs.Running.{entry_behind, IsThere}
 use Rattle.asm_offsets.specs.declared.extents.Extent.{Extent as Code}
 use Rattle.asm_offsets.specs.Coded.{extent_of_code, IsExtent}
+use Rattle.said_model.specs.Said.{IsRead}
 use Rattle.asm_sight.specs.Sights.{own_list}
 use Rattle.asm_sight.specs.SightLaws.{SeesTheSame}
 use Rattle.asm_laying.specs.declared.behind.Behind.{Behind}
 use Rattle.asm_laying.specs.declared.finding.Found.{Found}
 use Rattle.asm_laying.specs.declared.finding.Spot.{Spot}
+use Rattle.asm_laying.specs.declared.laying.Laid.{Laid}
 use Rattle.asm_laying.specs.declared.laying.Laying.{Laying}
 use Rattle.asm_laying.specs.declared.laying.Placed.{Placed}
 use Rattle.asm_laying.specs.Behind.{most_statements}
-use Rattle.asm_laying.specs.Defining.{IsShort, listed}
+use Rattle.asm_laying.specs.Defining.{listed}
 use Rattle.asm_laying.specs.Numbered.{AreNumbered}
-use Rattle.asm_laying.specs.Reading.{IsRead, AreRead, all_capped, coded, map_after}
+use Rattle.asm_laying.specs.Reading.{all_capped, coded, map_after, said_number, string_marks}
 
 -- ---- the state
 
@@ -69,11 +74,6 @@ pub record MayStep (state : Laying) : Type 0 where
   pub few : length before < most_statements
 
 -- ---- a statement more
-
--- a statement's local label has two digits at most, and its expressions are what tokens spell
-pub record IsSaid (s : Statement) : Type 0 where
-  pub short : IsShort (defined_by s)
-  pub read : AreRead s.what
 
 -- where a statement stands behind lines
 pub record IsSpot (s : Statement) (before : List LaidLine) (p : Spot) : Type 0 where
@@ -117,7 +117,17 @@ abbrev pub DefinedRead : Defined → Type 0
 DefinedRead (Equal name e) = IsRead e
 DefinedRead _ = Unit {0}
 
+abbrev pub align_needs : Option Expr → Bool
+align_needs None = false
+align_needs (Some e) = true
+
+abbrev pub given_needs : RnOperand → Bool
+given_needs (rn.Register n) = false
+given_needs (rn.Number e) = true
+
 abbrev pub directive_needs : DirectiveLine → Bool
+directive_needs (line.Area name a) = align_needs a.align
+directive_needs (line.Rn r) = given_needs r
 directive_needs (line.Equ e) = true
 directive_needs (line.Dcb es) = true
 directive_needs (line.Space e) = true
@@ -126,7 +136,7 @@ directive_needs (line.Map e) = true
 directive_needs (line.Field e) = true
 directive_needs _ = false
 
--- whether a statement's place needs values of its expressions
+-- whether values of a statement's expressions are needed where it is laid
 abbrev pub needs_values : What → Bool
 needs_values (what.Pseudo (pseudo.LoadConstant condition rd value)) = true
 needs_values (what.Directive l) = directive_needs l
@@ -137,10 +147,16 @@ abbrev pub equal_names : List LaidName → Option ℕ → Sight → Defined → 
 equal_names names area s (Equal name e) = made_name (equal_entry names area name) (value_there s e)
 equal_names names area s _ = []
 
+-- what a statement takes up, the storage map behind it and the entry of its name for an expression
+pub record AreNeeded (names : List LaidName) (area : Option ℕ) (map : ℕ) (s : Sight) (statement : Statement) (extent : Result Code LineKind) (after : Result ℕ LineKind) (equal : Option LaidName) : Type 0 where
+  pub extent_is : coded extent ≡ all_capped (extent_of s statement.what)
+  pub after_is : after ≡ map_after map s statement.what
+  pub equal_is : listed equal ≡ equal_names names area s (defined_by statement)
+
 pub record IsFound (names : List LaidName) (area : Option ℕ) (map : ℕ) (s : Sight) (statement : Statement) (f : Found) : Type 0 where
-  pub extent : coded f.extent ≡ all_capped (extent_of s statement.what)
-  pub after : f.map ≡ map_after map s statement.what
-  pub equal : listed f.equal ≡ equal_names names area s (defined_by statement)
+  pub needed : AreNeeded names area map s statement f.extent f.map f.equal
+  pub number : f.number ≡ said_number s statement.what
+  pub strings : f.strings ≡ string_marks s statement.what
 
 -- what an expression sees at a spot
 abbrev pub sight_shown : List LaidName → List LaidName → Option LaidName → List LaidName → List LaidName → Spot → Sight
@@ -179,10 +195,22 @@ pub record IsLaid (d : Declared) (l : LaidLine) (before : List LaidLine) (state 
   pub thumb : p.thumb ≡ l.thumb
   pub map : p.map ≡ l.line.map
   pub literal : p.literal ≡ entry_behind l.area (pieces_of before) (taken l.extent)
+  pub strings : p.strings ≡ string_marks l.seen l.statement.what
   pub laying : IsLaying d (l ∷ before) state
 
+-- where a line more stands, or the kind that is told of it
+abbrev pub IsPlaced : Declared → LaidLine → List LaidLine → Laying → Result Placed LineKind → Type 0
+IsPlaced d l before state (Ok p) = IsLaid d l before state p
+IsPlaced d l before state (Err kind) = told_of l ≡ Some kind
+
+-- what laying a line tells of it
+pub record Tells (d : Declared) (l : LaidLine) (before : List LaidLine) (state : Laying) (x : Laid) : Type 0 where
+  pub area : x.area ≡ l.area
+  pub thumb : x.thumb ≡ l.thumb
+  pub number : x.number ≡ said_number l.seen l.statement.what
+  pub placed : IsPlaced d l before state x.placed
+
 -- what a line more gives
-abbrev pub Lays : Declared → LaidLine → List LaidLine → Laying → Result (Result Placed LineKind) NoMemory → Type 0
-Lays d l before state (Ok (Ok p)) = IsLaid d l before state p
-Lays d l before state (Ok (Err kind)) = told_of l ≡ Some kind
+abbrev pub Lays : Declared → LaidLine → List LaidLine → Laying → Result Laid NoMemory → Type 0
+Lays d l before state (Ok x) = Tells d l before state x
 Lays d l before state (Err m) = Unit {0}

@@ -1,56 +1,20 @@
--- Expressions of a statement that its place needs, and what it takes up as code keeps it. This project's.
-use Rattle.std.specs.Prelude.{◌≡◌, ℕ, ◌+◌, ◌%◌, ◌^◌, List, [], ◌∷◌, min, Option, Some, None, Result, Ok}
+-- What a statement takes up, as code keeps it, and what more its values say. This project's.
+use Rattle.std.specs.Prelude.{◌≡◌, ℕ, ◌+◌, ◌%◌, ◌^◌, List, [], Bool, true, false, map, min, Result, Ok}
 use Rattle.sdt_fault.specs.declared.kinds.LineKind.{LineKind}
 use Rattle.asm_model.specs.declared.exprs.Expr.{Expr}
-use Rattle.asm_model.specs.declared.exprs.Part.{Part}
-use Rattle.asm_model.specs.declared.directives.Boundary.{Boundary}
-use Rattle.asm_model.specs.declared.directives.Boundary.TheVariants as limit
-use Rattle.asm_model.specs.declared.directives.DirectiveLine.{DirectiveLine}
+use Rattle.asm_model.specs.declared.values.Value.{Value}
+use Rattle.asm_model.specs.declared.values.Value.TheVariants.{Words}
 use Rattle.asm_model.specs.declared.directives.DirectiveLine.TheVariants as line
-use Rattle.asm_model.specs.declared.statements.PseudoLine.TheVariants as pseudo
+use Rattle.asm_model.specs.declared.directives.RnOperand.TheVariants as rn
 use Rattle.asm_model.specs.declared.statements.What.{What}
 use Rattle.asm_model.specs.declared.statements.What.TheVariants as what
 use Rattle.asm_model.specs.AtLine.{Sight}
-use Rattle.asm_model.specs.Grammar.{Tree, postfix, IsSpelled}
 use Rattle.asm_model.specs.Says.{mapped}
-use Rattle.layout_model.specs.Extents.{Extent, Block, number_there}
+use Rattle.layout_model.specs.Extents.{Extent, Block, value_there, number_there, extent_of}
+use Rattle.layout_model.specs.LayoutKinds.{exponent}
 use Rattle.asm_offsets.specs.declared.extents.Extent.{Extent as Code}
 use Rattle.asm_offsets.specs.Coded.{extent_of_code}
-
--- an expression is what tokens spell
-pub record IsRead (e : Expr) : Type 0 where
-  pub parts : List Part
-  pub tree : Tree
-  pub spelled : IsSpelled parts tree
-  pub items : e.items ≡ postfix tree
-
-abbrev pub AllRead : List Expr → Type 0
-AllRead [] = Unit {0}
-AllRead (e ∷ es) = IsRead e × AllRead es
-
-abbrev pub BoundaryRead : Boundary → Type 0
-BoundaryRead limit.Word = Unit {0}
-BoundaryRead (limit.Multiple e) = IsRead e
-BoundaryRead (limit.Behind e f) = IsRead e × IsRead f
-
-abbrev pub DirectiveRead : DirectiveLine → Type 0
-DirectiveRead (line.Equ e) = IsRead e
-DirectiveRead (line.Dcb es) = AllRead es
-DirectiveRead (line.Space e) = IsRead e
-DirectiveRead (line.Align b) = BoundaryRead b
-DirectiveRead (line.Map e) = IsRead e
-DirectiveRead (line.Field e) = IsRead e
-DirectiveRead _ = Unit {0}
-
--- the expressions that a statement's place and size need are what tokens spell
-abbrev pub AreRead : What → Type 0
-AreRead (what.Pseudo (pseudo.LoadConstant condition rd value)) = IsRead value
-AreRead (what.Directive l) = DirectiveRead l
-AreRead _ = Unit {0}
-
-abbrev pub OptionRead : Option Expr → Type 0
-OptionRead None = Unit {0}
-OptionRead (Some e) = IsRead e
+use Rattle.asm_laying.specs.declared.extents.Taken.{Taken}
 
 -- ---- what a statement takes up
 
@@ -76,3 +40,31 @@ abbrev pub map_after : ℕ → Sight → What → Result ℕ LineKind
 map_after map s (what.Directive (line.Map e)) = number_there s e
 map_after map s (what.Directive (line.Field e)) = mapped (λ n. (map + n) % 2 ^ 32) (number_there s e)
 map_after map s _ = Ok map
+
+-- ---- numbers and strings
+
+-- the number that a line says which checks ask for
+abbrev pub said_number : Sight → What → Result ℕ LineKind
+said_number s (what.Directive (line.Area name a)) = exponent s a.align
+said_number s (what.Directive (line.Rn (rn.Number e))) = number_there s e
+-- nobody asks for one
+said_number s _ = Ok 0
+
+-- whether a value is a string
+abbrev pub is_words : Result Value LineKind → Bool
+is_words (Ok (Words w)) = true
+is_words _ = false
+
+-- which operands are strings
+abbrev pub marks : Sight → List Expr → List Bool
+marks s es = map (λ e. is_words (value_there s e)) es
+
+-- which operands of DCB are strings by what is known at their line
+abbrev pub string_marks : Sight → What → List Bool
+string_marks s (what.Directive (line.Dcb es)) = marks s es
+string_marks s _ = []
+
+-- what a statement takes up, as code keeps it, with its strings
+pub record IsTaken (s : Sight) (w : What) (t : Taken) : Type 0 where
+  pub extent : coded t.extent ≡ all_capped (extent_of s w)
+  pub strings : t.strings ≡ string_marks s w

@@ -5,9 +5,10 @@ ghost use Rattle.asm_locals.specs.Found.{AllBefore};
 ghost use Rattle.layout_model.specs.Labels as labels;
 ghost use Rattle.layout_model.specs.Laid.{reversed};
 ghost use Rattle.layout_model.specs.Locals.{declared_locals, local_entries};
+ghost use Rattle.said_model.specs.Said.{LocalSaid};
 ghost use Rattle.asm_laying.specs.Behind.{IsEarly, most_statements};
 ghost use Rattle.asm_laying.specs.Declaring.{AllShort, Declares};
-ghost use Rattle.asm_laying.specs.Defining.{IsShort, defined_of, listed};
+ghost use Rattle.asm_laying.specs.Defining.{defined_of, listed};
 
 use crate::behind::{Behind, START};
 use crate::defining::{Defines, declared_entry, defined_by, imported_in};
@@ -63,7 +64,7 @@ pub fn add_local(
     statement: u32,
     offset: u32,
 ) -> Result<(), NoMemory>
-    requires short { IsShort (defined_of defines.now) }
+    requires short { LocalSaid (defined_of defines.now) }
     requires order { AllBefore stretch statement locals.old }
     ensures { OnOk result (locals.new ≡ locals.old ++ local_entries (defined_of defines.now) stretch statement offset) }
 {
@@ -92,7 +93,7 @@ fn declare_one(
 ) -> Result<Behind, NoMemory>
     requires early { IsEarly behind }
     requires few { length declarations.old.names ≤ 2 * behind.count }
-    requires short { IsShort (labels.defined_by statement.now) }
+    requires short { LocalSaid (labels.defined_by statement.now) }
     requires order { AllBefore behind.stretch behind.count declarations.old.locals }
     ensures { IfOk result (λ next. Declares statement.now behind declarations.old declarations.new next) }
 {

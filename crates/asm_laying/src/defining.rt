@@ -3,7 +3,8 @@
 ghost use Rattle.std.specs.Prelude.{◌≡◌, ◌<◌, None, IfOk};
 ghost use Rattle.std.specs.Option.{option_map};
 ghost use Rattle.layout_model.specs.Labels as labels;
-ghost use Rattle.asm_laying.specs.Defining.{declared_entry, defined_of, own_entry, IsShort};
+ghost use Rattle.said_model.specs.Said.{LocalSaid};
+ghost use Rattle.asm_laying.specs.Defining.{declared_entry, defined_of, own_entry};
 
 use crate::entries::{label_entry, valued_entry};
 use asm_model::{DirectiveLine, Expr, LaidName, RnOperand, Statement, Value, What};
@@ -38,7 +39,7 @@ fn number_in(digits: &[u8]) -> u8
 
 /// A label; a local label's digits stand behind a bar.
 fn labelled(label: &Text) -> Defines<'_>
-    requires { IsShort (labels.labelled label.now) }
+    requires { LocalSaid (labels.labelled label.now) }
     ensures { defined_of result ≡ labels.labelled label.now }
 {
     match label.as_slice() {
@@ -53,7 +54,7 @@ fn labelled(label: &Text) -> Defines<'_>
 }
 
 fn named<'a>(label: &'a Text, what: &'a What) -> Defines<'a>
-    requires { IsShort (labels.what_defines label.now what.now) }
+    requires { LocalSaid (labels.what_defines label.now what.now) }
     ensures { defined_of result ≡ labels.what_defines label.now what.now }
 {
     match what {
@@ -67,7 +68,7 @@ fn named<'a>(label: &'a Text, what: &'a What) -> Defines<'a>
 
 /// What a statement defines.
 pub fn defined_by(statement: &Statement) -> Defines<'_>
-    requires { IsShort (labels.defined_by statement.now) }
+    requires { LocalSaid (labels.defined_by statement.now) }
     ensures { defined_of result ≡ labels.defined_by statement.now }
 {
     match &statement.label {

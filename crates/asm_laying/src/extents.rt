@@ -1,6 +1,6 @@
 //! What statements take up in their areas.
 
-ghost use Rattle.std.specs.Prelude.{◌≡◌, ◌*◌, length, min, if◌then◌else◌, IfOk};
+ghost use Rattle.std.specs.Prelude.{◌≡◌, ◌*◌, [], length, min, if◌then◌else◌, IfOk};
 ghost use Rattle.asm_model.specs.Says.{mapped, on_both};
 ghost use Rattle.layout_model.specs.Extents as extents;
 ghost use Rattle.layout_model.specs.Extents.{Block, Padding, Loading};
@@ -8,7 +8,9 @@ ghost use Rattle.asm_model.specs.declared.values.Value.TheVariants as value;
 ghost use Rattle.asm_model.specs.declared.statements.What.TheVariants as kinds;
 ghost use Rattle.asm_offsets.specs.Coded.{extent_of_code};
 ghost use Rattle.asm_sight.specs.Sights.{sight_of};
-ghost use Rattle.asm_laying.specs.Reading.{all_capped, capped, coded, most_bytes, AllRead, AreRead, BoundaryRead, DirectiveRead, IsRead};
+ghost use Rattle.said_model.specs.Said.{AllRead, BoundaryRead, DirectiveSaid, PseudoSaid, WhatSaid};
+ghost use Rattle.asm_model.specs.declared.directives.DirectiveLine.TheVariants as lines;
+ghost use Rattle.asm_laying.specs.Reading.{all_capped, capped, coded, is_words, marks, most_bytes, IsTaken};
 
 use crate::numbers::{as_multiple, bytes_of, is_moved, more_bytes};
 use crate::values::{literal_there, number_there, value_there};
@@ -16,9 +18,23 @@ use asm_expr::kinds::earlier;
 use asm_model::{Boundary, DirectiveLine, Expr, PseudoLine, ThumbLine, Value, What};
 use asm_offsets::Extent;
 use asm_sight::Place;
-use sdt_fault::NoMemory;
 use sdt_fault::kinds::LineKind;
+use sdt_fault::{List as Listed, NoMemory};
 use std::alloc::Global;
+
+/// What a statement takes up, and of each operand of DCB whether it is a string.
+#[derive(Debug, Drop)]
+pub struct Taken {
+    pub extent: Result<Extent, LineKind>,
+    pub strings: Listed<bool>,
+}
+
+/// The bytes of operands of DCB, and of each whether it is a string.
+#[derive(Debug, Drop)]
+pub struct Counted {
+    pub bytes: u32,
+    pub strings: Vec<bool>,
+}
 
 /// Bytes that are aligned so.
 fn block(alignment: u32, bytes: u32) -> Extent
@@ -117,7 +133,7 @@ fn pseudo_extent(
     place: &Place<'_>,
     line: &PseudoLine,
 ) -> Result<Result<Extent, LineKind>, NoMemory>
-    requires { AreRead (kinds.Pseudo line.now) }
+    requires { PseudoSaid line.now }
     ensures { IfOk result (λ extent. coded extent ≡ all_capped (extents.pseudo_extent (sight_of place.now) line.now)) }
 {
     match line {
@@ -141,22 +157,62 @@ fn byte_count(value: &Result<Value, LineKind>) -> usize
     }
 }
 
-/// The bytes of operands of DCB.
-fn byte_counts(alloc: Global, place: &Place<'_>, operands: &[Expr]) -> Result<u32, NoMemory>
+/// Whether an operand of DCB is a string.
+fn is_string(value: &Result<Value, LineKind>) -> bool
+    ensures { result ≡ is_words value.now }
+{
+    match value {
+        Ok(Value::Words(_)) => true,
+        _ => false,
+    }
+}
+
+/// The bytes and marks of operands of DCB.
+fn byte_counts(alloc: Global, place: &Place<'_>, operands: &[Expr]) -> Result<Counted, NoMemory>
     requires { AllRead operands.now }
-    ensures { IfOk result (λ bytes. bytes ≡ min (extents.byte_counts (sight_of place.now) operands.now) most_bytes) }
+    ensures bytes { IfOk result (λ counted. counted.bytes ≡ min (extents.byte_counts (sight_of place.now) operands.now) most_bytes) }
+    ensures strings { IfOk result (λ counted. counted.strings.items ≡ marks (sight_of place.now) operands.now) }
 {
     let mut bytes: u32 = 0;
+    let mut strings = Vec::new(alloc);
     let mut left = operands;
     'operands: loop {
         match left {
-            [] => return Ok(bytes),
+            [] => return Ok(Counted { bytes, strings }),
             [operand, behind @ ..] => {
                 let value = value_there(alloc, operand, place)?;
                 bytes = more_bytes(bytes, byte_count(&value));
+                strings.push(is_string(&value))?;
                 left = behind;
             }
         }
+    }
+}
+
+/// What operands of DCB take up.
+fn bytes_taken(alloc: Global, place: &Place<'_>, operands: &[Expr]) -> Result<Taken, NoMemory>
+    requires { AllRead operands.now }
+    ensures { IfOk result (λ taken. IsTaken (sight_of place.now) (kinds.Directive (lines.Dcb operands.now)) taken) }
+{
+    let counted = byte_counts(alloc, place, operands)?;
+    let Counted { bytes, strings } = counted;
+    Ok(Taken {
+        extent: Ok(Extent::Block {
+            alignment: 1,
+            bytes,
+        }),
+        strings: Listed::from_vec(strings),
+    })
+}
+
+/// What a statement without strings takes up.
+fn plainly(alloc: Global, extent: Result<Extent, LineKind>) -> Taken
+    ensures extent { result.extent ≡ extent }
+    ensures strings { result.strings ≡ [] }
+{
+    Taken {
+        extent,
+        strings: Listed::from_vec(Vec::new(alloc)),
     }
 }
 
@@ -224,46 +280,51 @@ fn directive_extent(
     alloc: Global,
     place: &Place<'_>,
     line: &DirectiveLine,
-) -> Result<Result<Extent, LineKind>, NoMemory>
-    requires { DirectiveRead line.now }
-    ensures { IfOk result (λ extent. coded extent ≡ all_capped (extents.directive_extent (sight_of place.now) line.now)) }
+) -> Result<Taken, NoMemory>
+    requires { DirectiveSaid line.now }
+    ensures { IfOk result (λ taken. IsTaken (sight_of place.now) (kinds.Directive line.now) taken) }
 {
     match line {
-        DirectiveLine::Entry => Ok(Ok(entry(place.thumb))),
-        DirectiveLine::Dcd { values } => Ok(Ok(items(4, 4, values.as_slice().len()))),
-        DirectiveLine::Dcdu { values } => Ok(Ok(items(1, 4, values.as_slice().len()))),
-        DirectiveLine::Dcw { values } => Ok(Ok(items(2, 2, values.as_slice().len()))),
-        DirectiveLine::Dcb { values } => {
-            let bytes = byte_counts(alloc, place, values.as_slice())?;
-            Ok(Ok(Extent::Block {
-                alignment: 1,
-                bytes,
-            }))
-        }
+        DirectiveLine::Entry => Ok(plainly(alloc, Ok(entry(place.thumb)))),
+        DirectiveLine::Dcd { values } => Ok(plainly(
+            alloc,
+            Ok(items(4, 4, values.as_slice().len())),
+        )),
+        DirectiveLine::Dcdu { values } => Ok(plainly(
+            alloc,
+            Ok(items(1, 4, values.as_slice().len())),
+        )),
+        DirectiveLine::Dcw { values } => Ok(plainly(
+            alloc,
+            Ok(items(2, 2, values.as_slice().len())),
+        )),
+        DirectiveLine::Dcb { values } => bytes_taken(alloc, place, values.as_slice()),
         DirectiveLine::Space { size } => {
             let number = number_there(alloc, size, place)?;
-            Ok(space_of(number))
+            Ok(plainly(alloc, space_of(number)))
         }
-        DirectiveLine::Align { boundary } => padding(alloc, place, boundary),
-        DirectiveLine::Ltorg => Ok(Ok(Extent::Pool)),
-        _ => Ok(Ok(block(1, 0))),
+        DirectiveLine::Align { boundary } => {
+            let extent = padding(alloc, place, boundary)?;
+            Ok(plainly(alloc, extent))
+        }
+        DirectiveLine::Ltorg => Ok(plainly(alloc, Ok(Extent::Pool))),
+        _ => Ok(plainly(alloc, Ok(block(1, 0)))),
     }
 }
 
-/// What a statement takes up, by what is known at its line, or the kind of its fault.
-pub fn extent_of(
-    alloc: Global,
-    place: &Place<'_>,
-    what: &What,
-) -> Result<Result<Extent, LineKind>, NoMemory>
-    requires { AreRead what.now }
-    ensures { IfOk result (λ extent. coded extent ≡ all_capped (extents.extent_of (sight_of place.now) what.now)) }
+/// What a statement takes up, by what is known at its line, or the kind of its fault; and which operands are strings.
+pub fn extent_of(alloc: Global, place: &Place<'_>, what: &What) -> Result<Taken, NoMemory>
+    requires { WhatSaid what.now }
+    ensures { IfOk result (λ taken. IsTaken (sight_of place.now) what.now taken) }
 {
     match what {
-        What::Nothing => Ok(Ok(block(1, 0))),
-        What::Arm(_) => Ok(Ok(block(4, 4))),
-        What::Thumb(line) => Ok(Ok(thumb_extent(line))),
-        What::Pseudo(line) => pseudo_extent(alloc, place, line),
+        What::Nothing => Ok(plainly(alloc, Ok(block(1, 0)))),
+        What::Arm(_) => Ok(plainly(alloc, Ok(block(4, 4)))),
+        What::Thumb(line) => Ok(plainly(alloc, Ok(thumb_extent(line)))),
+        What::Pseudo(line) => {
+            let extent = pseudo_extent(alloc, place, line)?;
+            Ok(plainly(alloc, extent))
+        }
         What::Directive(line) => directive_extent(alloc, place, line),
     }
 }

@@ -7,23 +7,24 @@ ghost use Rattle.asm_model.specs.Meaning.{named_in};
 ghost use Rattle.layout_model.specs.Entries.{equal_entry as entry_of_equal};
 ghost use Rattle.layout_model.specs.Laid.{reversed, sight_behind, LaidLine};
 ghost use Rattle.layout_model.specs.Locals as locals_model;
+ghost use Rattle.said_model.specs.Said.{IsSaid};
 ghost use Rattle.asm_sight.specs.Sights.{sight_of};
 ghost use Rattle.asm_laying.specs.Declaring.{declared_in};
 ghost use Rattle.asm_laying.specs.Defining.{defined_of, listed};
 ghost use Rattle.asm_laying.specs.Laying as laying;
-ghost use Rattle.asm_laying.specs.Laying.{equal_names, DefinedRead, IsFound, IsSaid, ShowsLines};
+ghost use Rattle.asm_laying.specs.Laying.{equal_names, DefinedRead, IsFound, ShowsLines};
 
 use crate::declarations::Declarations;
 use crate::defining::{Defines, defined_by, own_entry};
 use crate::entries::equal_entry;
-use crate::extents::extent_of;
-use crate::values::{map_after, value_there};
+use crate::extents::{Taken, extent_of};
+use crate::values::{map_after, said_number, value_there};
 use asm_locals::Locals;
-use asm_model::{DirectiveLine, LaidName, PseudoLine, Statement, Value, What};
+use asm_model::{DirectiveLine, Expr, LaidName, PseudoLine, RnOperand, Statement, Value, What};
 use asm_offsets::Extent;
 use asm_sight::{KnownNames, Place};
 use sdt_fault::kinds::LineKind;
-use sdt_fault::{NoMemory, Text};
+use sdt_fault::{List as Listed, NoMemory, Text};
 use std::alloc::Global;
 
 /// Where a statement stands.
@@ -42,7 +43,7 @@ pub struct Spot {
     pub count: u32,
 }
 
-/// What a statement's place needs of the values of its expressions.
+/// What laying a statement needs of the values of its expressions.
 #[derive(Debug, Drop)]
 pub struct Found {
     pub extent: Result<Extent, LineKind>,
@@ -50,12 +51,36 @@ pub struct Found {
     pub map: Result<u32, LineKind>,
     /// The entry of its name for an expression, where the value is known.
     pub equal: Option<LaidName>,
+    /// The number that checks ask for.
+    pub number: Result<u32, LineKind>,
+    /// Of each operand of DCB whether it is a string.
+    pub strings: Listed<bool>,
+}
+
+fn align_needs(align: &Option<Expr>) -> bool
+    ensures { result ≡ laying.align_needs align.now }
+{
+    match align {
+        None => false,
+        Some(_) => true,
+    }
+}
+
+fn given_needs(given: &RnOperand) -> bool
+    ensures { result ≡ laying.given_needs given.now }
+{
+    match given {
+        RnOperand::Register(_) => false,
+        RnOperand::Number(_) => true,
+    }
 }
 
 fn directive_needs(line: &DirectiveLine) -> bool
     ensures { result ≡ laying.directive_needs line.now }
 {
     match line {
+        DirectiveLine::Area { attributes, .. } => align_needs(&attributes.align),
+        DirectiveLine::Rn { register } => given_needs(register),
         DirectiveLine::Equ { .. } => true,
         DirectiveLine::Dcb { .. } => true,
         DirectiveLine::Space { .. } => true,
@@ -66,7 +91,7 @@ fn directive_needs(line: &DirectiveLine) -> bool
     }
 }
 
-/// Whether a statement's place needs values of its expressions.
+/// Whether values of a statement's expressions are needed where it is laid.
 fn needs_values(what: &What) -> bool
     ensures { result ≡ laying.needs_values what.now }
 {
@@ -156,9 +181,16 @@ fn found_at(
 {
     let defines = defined_by(statement);
     let equal = equal_there(alloc, declared, place, &defines)?;
-    let extent = extent_of(alloc, place, &statement.what)?;
+    let Taken { extent, strings } = extent_of(alloc, place, &statement.what)?;
     let map = map_after(alloc, place.map, place, &statement.what)?;
-    Ok(Found { extent, map, equal })
+    let number = said_number(alloc, &statement.what, place)?;
+    Ok(Found {
+        extent,
+        map,
+        equal,
+        number,
+        strings,
+    })
 }
 
 /// What a statement at a spot needs, where these names are known.

@@ -3,11 +3,13 @@
 ghost use Rattle.std.specs.Prelude.{◌≡◌, ◌++◌, ◌*◌, ◌≤◌, [], ℕ, List, Ok, length, IfOk, OnOk};
 ghost use Rattle.layout_model.specs.Labels as labels;
 ghost use Rattle.layout_model.specs.Laid.{laid_behind, sight_behind, Declared, LaidLine};
+ghost use Rattle.said_model.specs.Said.{IsSaid, LocalSaid};
 ghost use Rattle.asm_offsets.specs.Coded.{extent_of_code, IsExtent};
 ghost use Rattle.asm_laying.specs.Behind.{most_statements};
 ghost use Rattle.asm_laying.specs.Declaring.{declared_in};
-ghost use Rattle.asm_laying.specs.Defining.{own_entry as entry_of_own, listed, IsShort};
+ghost use Rattle.asm_laying.specs.Defining.{own_entry as entry_of_own, listed};
 ghost use Rattle.asm_laying.specs.Laying as laying;
+ghost use Rattle.asm_laying.specs.Reading.{string_marks};
 
 use crate::areas::Areas;
 use crate::behind::{Behind, START};
@@ -18,12 +20,12 @@ use asm_locals::Locals;
 use asm_model::{LaidName, Statement};
 use asm_offsets::{Extent, TooLarge, extents_are_placeable};
 use asm_sight::KnownNames;
-use sdt_fault::NoMemory;
 use sdt_fault::kinds::LineKind;
+use sdt_fault::{List as Listed, NoMemory};
 use std::alloc::Global;
 
 /// A statement with its place.
-#[derive(Clone, Copy, PartialEq, Eq, Debug)]
+#[derive(Debug, Drop)]
 pub struct Placed {
     /// Its area, counted from 0; None before the first.
     pub area: Option<u32>,
@@ -36,6 +38,21 @@ pub struct Placed {
     pub map: u32,
     /// The number of its literal's entry in the pools of its area.
     pub literal: Option<u32>,
+    /// For DCB, of each operand whether it is a string by what is known at its line.
+    pub strings: Listed<bool>,
+}
+
+/// What laying a statement tells of it.
+#[derive(Debug, Drop)]
+pub struct Laid {
+    /// Its area, counted from 0; None before the first.
+    pub area: Option<u32>,
+    /// Whether it stands in Thumb state.
+    pub thumb: bool,
+    /// The number that checks ask for: the exponent of an AREA's alignment, or what RN gives a name.
+    pub number: Result<u32, LineKind>,
+    /// The statement with its place, or the kind of its fault that is told, of those that laying finds.
+    pub placed: Result<Placed, LineKind>,
 }
 
 /// The state behind the lines so far.
@@ -60,7 +77,7 @@ fn add_names(
     equal: Option<LaidName>,
 ) -> Result<(), NoMemory>
     requires few { length names.old ≤ 3 * most_statements }
-    requires short { IsShort (labels.defined_by statement.now) }
+    requires short { LocalSaid (labels.defined_by statement.now) }
     ensures { OnOk result (names.new ≡ names.old ++ listed (entry_of_own (labels.defined_by statement.now) spot.now.area spot.now.offset size spot.now.label_thumb spot.now.map) ++ listed equal ++ labels.imported_entries (labels.imported_in statement.now.what)) }
 {
     let defines = defined_by(statement);
@@ -95,7 +112,7 @@ impl Laying {
     /// Reaches a statement: its area, its offset and its local label.
     fn enter(&mut self, alloc: Global, statement: &Statement) -> Result<Spot, NoMemory>
         requires may { laying.MayStep self.old }
-        requires said { laying.IsSaid statement.now }
+        requires said { IsSaid statement.now }
         ensures { IfOk result (λ spot. (d : Declared) (before : List LaidLine) → laying.IsLaying d before self.old → laying.Reaches d statement.now before self.new spot) }
     {
         let defines = defined_by(statement);
@@ -132,11 +149,12 @@ impl Laying {
         extent: Extent,
         map: u32,
         equal: Option<LaidName>,
+        strings: Listed<bool>,
     ) -> Result<Result<Placed, LineKind>, NoMemory>
         requires may { laying.MayPlace self.old spot.now }
         requires extent { IsExtent (extent_of_code extent) }
-        requires short { IsShort (labels.defined_by statement.now) }
-        ensures { (d : Declared) (before : List LaidLine) → laying.Reaches d statement.now before self.old spot.now → laying.IsFound d.names spot.now.area spot.now.map (sight_behind d statement.now before) statement.now (record { extent = Ok extent; map = Ok map; equal = equal }) → laying.Lays d (laid_behind d statement.now before) before self.new result }
+        requires short { LocalSaid (labels.defined_by statement.now) }
+        ensures { (d : Declared) (before : List LaidLine) → laying.Reaches d statement.now before self.old spot.now → laying.AreNeeded d.names spot.now.area spot.now.map (sight_behind d statement.now before) statement.now (Ok extent) (Ok map) equal → strings ≡ string_marks (sight_behind d statement.now before) statement.now.what → IfOk result (λ placed. laying.IsPlaced d (laid_behind d statement.now before) before self.new placed) }
     {
         let placed = self.areas.ends.place(spot.area, extent)?;
         match placed {
@@ -151,6 +169,7 @@ impl Laying {
                     thumb: spot.thumb,
                     map: spot.map,
                     literal: placed.literal,
+                    strings,
                 }))
             }
         }
@@ -165,15 +184,16 @@ impl Laying {
         extent: Extent,
         map: Result<u32, LineKind>,
         equal: Option<LaidName>,
+        strings: Listed<bool>,
     ) -> Result<Result<Placed, LineKind>, NoMemory>
         requires may { laying.MayPlace self.old spot.now }
         requires extent { IsExtent (extent_of_code extent) }
-        requires short { IsShort (labels.defined_by statement.now) }
-        ensures { (d : Declared) (before : List LaidLine) → laying.Reaches d statement.now before self.old spot.now → laying.IsFound d.names spot.now.area spot.now.map (sight_behind d statement.now before) statement.now (record { extent = Ok extent; map = map; equal = equal }) → laying.Lays d (laid_behind d statement.now before) before self.new result }
+        requires short { LocalSaid (labels.defined_by statement.now) }
+        ensures { (d : Declared) (before : List LaidLine) → laying.Reaches d statement.now before self.old spot.now → laying.AreNeeded d.names spot.now.area spot.now.map (sight_behind d statement.now before) statement.now (Ok extent) map equal → strings ≡ string_marks (sight_behind d statement.now before) statement.now.what → IfOk result (λ placed. laying.IsPlaced d (laid_behind d statement.now before) before self.new placed) }
     {
         match map {
             Err(kind) => Ok(Err(kind)),
-            Ok(map) => self.put(alloc, statement, spot, extent, map, equal),
+            Ok(map) => self.put(alloc, statement, spot, extent, map, equal, strings),
         }
     }
 
@@ -186,15 +206,16 @@ impl Laying {
         extent: Result<Extent, LineKind>,
         map: Result<u32, LineKind>,
         equal: Option<LaidName>,
+        strings: Listed<bool>,
     ) -> Result<Result<Placed, LineKind>, NoMemory>
         requires may { laying.MayPlace self.old spot.now }
         requires extent { laying.OkExtent extent }
-        requires short { IsShort (labels.defined_by statement.now) }
-        ensures { (d : Declared) (before : List LaidLine) → laying.Reaches d statement.now before self.old spot.now → laying.IsFound d.names spot.now.area spot.now.map (sight_behind d statement.now before) statement.now (record { extent = extent; map = map; equal = equal }) → laying.Lays d (laid_behind d statement.now before) before self.new result }
+        requires short { LocalSaid (labels.defined_by statement.now) }
+        ensures { (d : Declared) (before : List LaidLine) → laying.Reaches d statement.now before self.old spot.now → laying.AreNeeded d.names spot.now.area spot.now.map (sight_behind d statement.now before) statement.now extent map equal → strings ≡ string_marks (sight_behind d statement.now before) statement.now.what → IfOk result (λ placed. laying.IsPlaced d (laid_behind d statement.now before) before self.new placed) }
     {
         match extent {
             Err(kind) => Ok(Err(kind)),
-            Ok(extent) => self.settle_map(alloc, statement, spot, extent, map, equal),
+            Ok(extent) => self.settle_map(alloc, statement, spot, extent, map, equal, strings),
         }
     }
 
@@ -205,9 +226,9 @@ impl Laying {
         alloc: Global,
         declarations: &Declarations,
         statement: &Statement,
-    ) -> Result<Result<Placed, LineKind>, NoMemory>
+    ) -> Result<Laid, NoMemory>
         requires may { laying.MayLay (declared_in declarations.now) self.old }
-        requires said { laying.IsSaid statement.now }
+        requires said { IsSaid statement.now }
         ensures { (before : List LaidLine) → laying.IsLaying (declared_in declarations.now) before self.old → laying.Lays (declared_in declarations.now) (laid_behind (declared_in declarations.now) statement.now before) before self.new result }
     {
         extents_are_placeable();
@@ -220,7 +241,19 @@ impl Laying {
             &spot,
             statement,
         )?;
-        let Found { extent, map, equal } = found;
-        self.settle(alloc, statement, &spot, extent, map, equal)
+        let Found {
+            extent,
+            map,
+            equal,
+            number,
+            strings,
+        } = found;
+        let placed = self.settle(alloc, statement, &spot, extent, map, equal, strings)?;
+        Ok(Laid {
+            area: spot.area,
+            thumb: spot.thumb,
+            number,
+            placed,
+        })
     }
 }

@@ -8,9 +8,12 @@ ghost use Rattle.asm_model.specs.Meaning.{IsValue};
 ghost use Rattle.layout_model.specs.Extents as extents;
 ghost use Rattle.layout_model.specs.LayoutKinds.{exponent};
 ghost use Rattle.asm_sight.specs.Sights.{sight_of, IsNumber};
-ghost use Rattle.asm_laying.specs.Reading.{map_after, IsRead, AreRead, OptionRead};
+ghost use Rattle.said_model.specs.Said.{DirectiveSaid, GivenSaid, IsRead, OptionRead, WhatSaid};
+ghost use Rattle.asm_model.specs.declared.statements.What.TheVariants as kinds;
+ghost use Rattle.asm_model.specs.declared.directives.DirectiveLine.TheVariants as lines;
+ghost use Rattle.asm_laying.specs.Reading.{map_after, said_number};
 
-use asm_model::{DirectiveLine, EvalFault, Expr, Value, What};
+use asm_model::{DirectiveLine, EvalFault, Expr, RnOperand, Value, What};
 use asm_sight::{Place, literal_at, number_at, value_at};
 use sdt_fault::NoMemory;
 use sdt_fault::kinds::LineKind;
@@ -73,7 +76,7 @@ pub fn literal_there(
 }
 
 /// The exponent of an area's alignment, or the kind of its fault.
-pub fn exponent_there(
+fn exponent_there(
     alloc: Global,
     align: &Option<Expr>,
     place: &Place<'_>,
@@ -84,6 +87,51 @@ pub fn exponent_there(
     match align {
         None => Ok(Ok(2)),
         Some(e) => number_there(alloc, e, place),
+    }
+}
+
+/// The number that RN gives a name, or the kind of its fault; 0 for a register.
+fn given_there(
+    alloc: Global,
+    given: &RnOperand,
+    place: &Place<'_>,
+) -> Result<Result<u32, LineKind>, NoMemory>
+    requires { GivenSaid given.now }
+    ensures { IfOk result (λ number. number ≡ said_number (sight_of place.now) (kinds.Directive (lines.Rn given.now))) }
+{
+    match given {
+        RnOperand::Register(_) => Ok(Ok(0)),
+        RnOperand::Number(e) => number_there(alloc, e, place),
+    }
+}
+
+fn directive_number(
+    alloc: Global,
+    line: &DirectiveLine,
+    place: &Place<'_>,
+) -> Result<Result<u32, LineKind>, NoMemory>
+    requires { DirectiveSaid line.now }
+    ensures { IfOk result (λ number. number ≡ said_number (sight_of place.now) (kinds.Directive line.now)) }
+{
+    match line {
+        DirectiveLine::Area { attributes, .. } => exponent_there(alloc, &attributes.align, place),
+        DirectiveLine::Rn { register } => given_there(alloc, register, place),
+        _ => Ok(Ok(0)),
+    }
+}
+
+/// The number of a statement that checks ask for, or the kind of its fault; 0 where they ask for none.
+pub fn said_number(
+    alloc: Global,
+    what: &What,
+    place: &Place<'_>,
+) -> Result<Result<u32, LineKind>, NoMemory>
+    requires { WhatSaid what.now }
+    ensures { IfOk result (λ number. number ≡ said_number (sight_of place.now) what.now) }
+{
+    match what {
+        What::Directive(line) => directive_number(alloc, line, place),
+        _ => Ok(Ok(0)),
     }
 }
 
@@ -104,7 +152,7 @@ pub fn map_after(
     place: &Place<'_>,
     what: &What,
 ) -> Result<Result<u32, LineKind>, NoMemory>
-    requires { AreRead what.now }
+    requires { WhatSaid what.now }
     ensures { IfOk result (λ after. after ≡ map_after map (sight_of place.now) what.now) }
 {
     match what {

@@ -9,15 +9,15 @@ use Rattle.asm_laying.proofs.LayLemmas.{told_too_large, lays}
 use Rattle.asm_laying.proofs.laying.Laying.put.Goals as goal
 
 pub returns-in-Err : goal.returns-in-Err
-returns-in-Err c = λ d before reach found.
+returns-in-Err c = λ d before reach found marked.
     told_too_large d c.args.statement.now before c.args.spot.now c.args.extent c.args.map c.args.equal reach.spot found
     (subst (λ (r : Result Placed TooLarge). Places c.args.spot.now.area (extent_of_code c.args.extent) (pieces_of before) c.place.new.self (Ok r)) c.in-Err.is
     (c.in_ok-placed.ensures.places (pieces_of before) reach.at.areas.ends))
 
 pub returns-in_ok-add_names-in-Ok : goal.returns-in_ok-add_names-in-Ok
-returns-in_ok-add_names-in-Ok c = λ d before reach found.
+returns-in_ok-add_names-in-Ok c = λ d before reach found marked.
     lays d c.args.statement.now before c.args.self.now _ c.args.spot.now c.args.extent c.args.map c.args.equal c.in-Ok.placed reach.at reach.spot found
     (subst (λ (r : Result Placed TooLarge). Places c.args.spot.now.area (extent_of_code c.args.extent) (pieces_of before) c.place.new.self (Ok r)) c.in-Ok.is
     (c.in_ok-placed.ensures.places (pieces_of before) reach.at.areas.ends))
     (subst (λ (r : Result Placed TooLarge). Keeps c.args.self.now.areas.ends c.place.new.self (Ok r)) c.in-Ok.is c.in_ok-placed.ensures.keeps)
-    refl refl refl refl refl refl c.in_ok-add_names-in-Ok.ensures
+    refl refl refl refl refl refl c.in_ok-add_names-in-Ok.ensures c.args.strings marked
