@@ -281,7 +281,7 @@ pub lays : (d : Declared) (s : Statement) (before : List LaidLine) (old new : La
     → new.behind ≡ old.behind → new.locals ≡ old.locals → new.map ≡ map → new.areas.numbers ≡ old.areas.numbers → new.areas.count ≡ old.areas.count → new.areas.current ≡ old.areas.current
     → new.names ≡ old.names ++ listed (own_entry (defined_by s) spot.area spot.offset p.size spot.label_thumb spot.map) ++ listed equal ++ imported_entries (imported_in s.what)
     → (strings : List Bool) → strings ≡ string_marks (sight_behind d s before) s.what
-    → IsLaid d (laid_behind d s before) before new (record { area = spot.area; offset = p.offset; size = p.size; thumb = spot.thumb; map = spot.map; literal = p.literal; strings = strings })
+    → IsLaid d (laid_behind d s before) before new (record { number = spot.count; area = spot.area; stretch = spot.stretch; offset = p.offset; size = p.size; thumb = spot.thumb; thumb_label = spot.label_thumb; map = spot.map; literal = p.literal; strings = strings })
 lays d s before old new spot x map equal p at sp found placed long behind locals mapped numbers count current names strings marked =
     let area = area_behind (s ∷ statements_of before) in
     let pieces = pieces_of before in
@@ -306,10 +306,13 @@ lays d s before old new spot x map equal p at sp found placed long behind locals
     ∙ ap (λ n. n + length (listed equal) + length import) (length-append old.names own) in
     record {
       told = told_large d s before e.0 spot.map map false e.1 (sym found.after_is) (fits_low p.offset p.size l.offset l.size offset size here.fits);
+      number = sp.count;
       area = sp.area;
+      stretch = sp.stretch;
       offset = offset;
       size = size;
       thumb = sp.thumb;
+      thumb_label = sp.label_thumb;
       map = sp.map;
       literal = here.literal ∙ ap (λ q. entry_behind area pieces (taken q)) (sym e.1);
       strings = marked;

@@ -189,11 +189,14 @@ told_of l =
 
 pub record IsLaid (d : Declared) (l : LaidLine) (before : List LaidLine) (state : Laying) (p : Placed) : Type 0 where
   pub told : told_of l ≡ None
+  pub number : p.number ≡ length before
   pub area : p.area ≡ l.area
+  pub stretch : p.stretch ≡ stretch_behind (statements_of (l ∷ before))
   pub offset : p.offset ≡ l.offset
   pub size : p.size ≡ l.size
   pub thumb : p.thumb ≡ l.thumb
-  pub map : p.map ≡ l.line.map
+  pub thumb_label : p.thumb_label ≡ is_thumb_label l.statement (statements_of before)
+  pub map : p.map ≡ map_behind before
   pub literal : p.literal ≡ entry_behind l.area (pieces_of before) (taken l.extent)
   pub strings : p.strings ≡ string_marks l.seen l.statement.what
   pub laying : IsLaying d (l ∷ before) state

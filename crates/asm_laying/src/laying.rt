@@ -2,9 +2,10 @@
 
 ghost use Rattle.std.specs.Prelude.{◌≡◌, ◌++◌, ◌*◌, ◌≤◌, [], ℕ, List, Ok, length, IfOk, OnOk};
 ghost use Rattle.layout_model.specs.Labels as labels;
-ghost use Rattle.layout_model.specs.Laid.{laid_behind, sight_behind, Declared, LaidLine};
+ghost use Rattle.layout_model.specs.Laid.{all_locals, laid_behind, pieces_of, sight_behind, Declared, LaidLine};
 ghost use Rattle.said_model.specs.Said.{IsSaid, LocalSaid};
 ghost use Rattle.asm_offsets.specs.Coded.{extent_of_code, IsExtent};
+ghost use Rattle.asm_offsets.specs.Running.{IsBehind};
 ghost use Rattle.asm_laying.specs.Behind.{most_statements};
 ghost use Rattle.asm_laying.specs.Declaring.{declared_in};
 ghost use Rattle.asm_laying.specs.Defining.{own_entry as entry_of_own, listed};
@@ -18,7 +19,7 @@ use crate::defining::{defined_by, own_entry};
 use crate::finding::{Found, Spot, find};
 use asm_locals::Locals;
 use asm_model::{LaidName, Statement};
-use asm_offsets::{Extent, TooLarge, extents_are_placeable};
+use asm_offsets::{Ends, Extent, TooLarge, extents_are_placeable};
 use asm_sight::KnownNames;
 use sdt_fault::kinds::LineKind;
 use sdt_fault::{List as Listed, NoMemory};
@@ -27,13 +28,19 @@ use std::alloc::Global;
 /// A statement with its place.
 #[derive(Debug, Drop)]
 pub struct Placed {
+    /// How many statements stand before it.
+    pub number: u32,
     /// Its area, counted from 0; None before the first.
     pub area: Option<u32>,
+    /// The number of the stretch of lines in which its local labels count.
+    pub stretch: u32,
     pub offset: u32,
     /// In bytes.
     pub size: u32,
     /// Whether it stands in Thumb state.
     pub thumb: bool,
+    /// Whether its label is one of Thumb code.
+    pub thumb_label: bool,
     /// The storage map before it.
     pub map: u32,
     /// The number of its literal's entry in the pools of its area.
@@ -93,6 +100,13 @@ fn add_names(
     add_entry(names, alloc, own)?;
     add_entry(names, alloc, equal)?;
     add_imported(names, alloc, &statement.what)
+}
+
+/// What is left of laying behind the last line.
+#[derive(Debug, Drop)]
+pub struct Ended {
+    pub ends: Ends,
+    pub locals: Locals,
 }
 
 impl Laying {
@@ -163,10 +177,13 @@ impl Laying {
                 self.map = map;
                 add_names(&mut self.names, alloc, statement, spot, placed.size, equal)?;
                 Ok(Ok(Placed {
+                    number: spot.count,
                     area: spot.area,
+                    stretch: spot.stretch,
                     offset: placed.offset,
                     size: placed.size,
                     thumb: spot.thumb,
+                    thumb_label: spot.label_thumb,
                     map: spot.map,
                     literal: placed.literal,
                     strings,
@@ -217,6 +234,16 @@ impl Laying {
             Err(kind) => Ok(Err(kind)),
             Ok(extent) => self.settle_map(alloc, statement, spot, extent, map, equal, strings),
         }
+    }
+
+    /// Behind the last line, what is left of laying: the areas' ends, and the local labels with their places.
+    pub fn end(self) -> Ended
+        ensures ends { (d : Declared) (before : List LaidLine) → laying.IsLaying d before self → IsBehind (pieces_of before) result.ends }
+        ensures locals { (d : Declared) (before : List LaidLine) → laying.IsLaying d before self → result.locals ≡ all_locals before }
+    {
+        let Laying { areas, locals, .. } = self;
+        let Areas { ends, .. } = areas;
+        Ended { ends, locals }
     }
 
     /// Lays a statement behind the lines so far. Where it has a fault, or memory runs out, the state isn't to be used any
