@@ -1,0 +1,120 @@
+-- What is told of a line's registers, and what the line leaves: a list of names counts by what is found in it alone.
+use Rattle.std.proofs.Common.{◌≡◌, ℕ, Bool, cond, List, [], ◌∷◌, ◌++◌, Option, refl, sym, ap, ◌∙◌}
+use Rattle.std.specs.Prelude.{Result}
+use Rattle.std.specs.List.{list_any}
+use Rattle.sdt_fault.specs.declared.kinds.LineKind.{LineKind}
+use Rattle.sdt_fault.specs.declared.kinds.LineKind.TheVariants.{BadOperand, Forward, WrongType, UnknownWord}
+use Rattle.asm_model.specs.declared.names.LaidName.{LaidName}
+use Rattle.asm_model.specs.declared.operands.Register.{Register}
+use Rattle.asm_model.specs.declared.operands.Register.TheVariants as register
+use Rattle.asm_model.specs.declared.operands.ListItem.{ListItem}
+use Rattle.asm_model.specs.declared.operands.ListItem.TheVariants as item
+use Rattle.asm_model.specs.declared.arm_lines.ArmLine.TheVariants as arm
+use Rattle.asm_model.specs.declared.statements.PseudoLine.TheVariants as pseudo
+use Rattle.asm_model.specs.declared.statements.Statement.{Statement}
+use Rattle.asm_model.specs.declared.statements.What.{What}
+use Rattle.asm_model.specs.declared.statements.What.TheVariants as what
+use Rattle.asm_model.specs.AtLine.{is_in}
+use Rattle.asm_model.specs.FaultSets.{first_told}
+use Rattle.asm_model.specs.Forms.{same}
+use Rattle.asm_model.specs.Kinds.{told_kind}
+use Rattle.asm_model.proofs.FaultLemmas.{told_by_parts}
+use Rattle.layout_laws.specs.Sound.{IsBare}
+use Rattle.layout_model.specs.Labels.{defined_by}
+use Rattle.layout_model.specs.Laid.{LaidLine, reversed}
+use Rattle.layout_model.specs.LayoutKinds.{kind_if}
+use Rattle.said_model.specs.Said.{IsSaid}
+use Rattle.source_model.specs.Registers.{Named, register_in, named_by, register_names, registers_behind, registers_of, kinds_unless, name_kinds, names_kinds, number_of, range_kinds, is_pc, operand_kinds, given_kinds, register_kinds}
+use Rattle.asm_registers.specs.declared.registers.Registers.{Registers}
+use Rattle.asm_registers.specs.Giving.{AreNames}
+use Rattle.asm_registers.specs.Kept.{AreRegisters, IsLine}
+use Rattle.asm_registers.proofs.FormLemmas.{AllRegistersSaid, registers_said}
+use Rattle.asm_registers.proofs.NameLemmas.{found, in_set, before_more}
+
+-- ---- names
+
+-- the same names are found
+pub record FindTheSame (names names' : List (List ℕ)) (all all' : List LaidName) (known known' : List Named) : Type 0 where
+  pub registers : (q : List ℕ) → list_any (same q) names ≡ list_any (same q) names'
+  pub others : (q : List ℕ) → IsBare q → is_in all q ≡ is_in all' q
+  pub numbers : (q : List ℕ) → register_in q known ≡ register_in q known'
+
+name_same : (names names' : List (List ℕ)) (all all' : List LaidName) (known known' : List Named) → FindTheSame names names' all all' known known'
+    → (q : List ℕ) → IsBare q → name_kinds names all known (register.Named q) ≡ name_kinds names' all' known' (register.Named q)
+name_same names names' all all' known known' h q bare = by (list_any (same q) names) (list_any (same q) names') (is_in all q) (is_in all' q) (register_in q known) (register_in q known') (h.registers q) (h.others q bare) (h.numbers q)
+  where
+    by : (a a' b b' : Bool) (o o' : Option ℕ) → a ≡ a' → b ≡ b' → o ≡ o'
+        → kinds_unless o (cond a Forward (cond b WrongType UnknownWord)) ≡ kinds_unless o' (cond a' Forward (cond b' WrongType UnknownWord))
+    by a a' b b' o o' e f g = rw (e, f, g) refl
+
+names_same : (names names' : List (List ℕ)) (all all' : List LaidName) (known known' : List Named) → FindTheSame names names' all all' known known'
+    → (rs : List Register) → AllRegistersSaid rs → names_kinds names all known rs ≡ names_kinds names' all' known' rs
+names_same names names' all all' known known' h [] said = refl
+names_same names names' all all' known known' h (register.Number n ∷ rs) said = names_same names names' all all' known known' h rs said.1
+names_same names names' all all' known known' h (register.Named q ∷ rs) said =
+    ap (λ ks. ks ++ names_kinds names all known rs) (name_same names names' all all' known known' h q said.0)
+    ∙ ap (λ ks. name_kinds names' all' known' (register.Named q) ++ ks) (names_same names names' all all' known known' h rs said.1)
+
+-- ---- operands
+
+pub number_same : (known known' : List Named) → ((q : List ℕ) → register_in q known ≡ register_in q known') → (r : Register) → number_of known r ≡ number_of known' r
+number_same known known' h (register.Number n) = refl
+number_same known known' h (register.Named q) = h q
+
+ranges_same : (known known' : List Named) → ((q : List ℕ) → register_in q known ≡ register_in q known') → (is : List ListItem) → range_kinds known is ≡ range_kinds known' is
+ranges_same known known' h [] = refl
+ranges_same known known' h (item.One r ∷ is) = ranges_same known known' h is
+ranges_same known known' h (item.Range first last ∷ is) =
+    rw (number_same known known' h first, number_same known known' h last, ranges_same known known' h is) refl
+
+operands_same : (known known' : List Named) → ((q : List ℕ) → register_in q known ≡ register_in q known') → (w : What) → operand_kinds known w ≡ operand_kinds known' w
+operands_same known known' h (what.Arm (arm.TransferBlock condition load mode rn write_back list user)) = ranges_same known known' h list.items
+operands_same known known' h (what.Pseudo (pseudo.LongAddress condition rd target)) = ap (λ o. kind_if (is_pc o) BadOperand) (number_same known known' h rd)
+operands_same known known' h _ = refl
+
+-- ---- lines
+
+pub numbers_kept : (names : List (List ℕ)) (before : List LaidLine) (r : Registers) → AreRegisters names before r
+    → (q : List ℕ) → register_in q r.known.entries ≡ register_in q (registers_behind before)
+numbers_kept names before r k q = sym (found q r.known) ∙ k.known q
+
+pub line_told : (names : List (List ℕ)) (s : Statement) (number : Result ℕ LineKind) (declared : List LaidName) (l : LaidLine) (before : List LaidLine) (old : Registers)
+    (given named operand : Option LineKind)
+    → IsSaid s → AreRegisters names before old → IsLine s number declared l
+    → given ≡ told_kind (given_kinds l.seen (defined_by s))
+    → named ≡ told_kind (names_kinds old.all.keys declared old.known.entries (registers_of s.what))
+    → operand ≡ told_kind (operand_kinds old.known.entries s.what)
+    → first_told (first_told given named) operand ≡ told_kind (register_kinds names l before)
+line_told names s number declared l before old given named operand said k i a b c =
+    let numbers = numbers_kept names before old k in
+    let alike : FindTheSame old.all.keys names declared l.seen.all old.known.entries (registers_behind before) = record {
+      registers = λ q. sym (in_set q old.all) ∙ k.all q;
+      others = λ q bare. sym (i.names q bare);
+      numbers = numbers;
+    } in
+    let names_told : named ≡ told_kind (names_kinds names l.seen.all (registers_behind before) (registers_of s.what)) =
+    b ∙ ap told_kind (names_same old.all.keys names declared l.seen.all old.known.entries (registers_behind before) alike (registers_of s.what) (registers_said s.what said.read)) in
+    let operands_told : operand ≡ told_kind (operand_kinds (registers_behind before) s.what) =
+    c ∙ ap told_kind (operands_same old.known.entries (registers_behind before) numbers s.what) in
+    rw (i.said, a, names_told, operands_told)
+    (sym (told_by_parts (given_kinds l.seen (defined_by s) ++ names_kinds names l.seen.all (registers_behind before) (registers_of s.what)) (operand_kinds (registers_behind before) s.what)
+    ∙ ap (λ o. first_told o (told_kind (operand_kinds (registers_behind before) s.what)))
+    (told_by_parts (given_kinds l.seen (defined_by s)) (names_kinds names l.seen.all (registers_behind before) (registers_of s.what)))))
+
+pub line_left : (names : List (List ℕ)) (s : Statement) (number : Result ℕ LineKind) (declared : List LaidName) (l : LaidLine) (before : List LaidLine) (old new : Registers)
+    → AreRegisters names before old → IsLine s number declared l → new.all ≡ old.all
+    → ((q : List ℕ) → register_in q new.known.entries ≡ register_in q (old.known.entries ++ named_by l.seen (defined_by s)))
+    → AreRegisters names (l ∷ before) new
+line_left names s number declared l before old new k i same_all noted = record {
+  all = rw same_all k.all;
+  known = rw i.said (λ q. found q new.known ∙ noted q
+      ∙ before_more q old.known.entries (registers_behind before) (named_by l.seen (defined_by s)) (numbers_kept names before old k q));
+}
+
+-- before the first line
+pub all_new : (statements : List Statement) (r : Registers) → AreNames (reversed statements []) r.all → r.known.entries ≡ []
+    → AreRegisters (register_names (reversed statements [])) [] r
+all_new statements r names empty = record {
+  all = λ q. in_set q r.all ∙ names q;
+  known = λ q. found q r.known ∙ ap (register_in q) empty;
+}

@@ -1,0 +1,121 @@
+//! The registers of each form of instruction.
+
+ghost use Rattle.std.specs.Prelude.{◌≡◌, ◌∷◌};
+ghost use Rattle.asm_model.specs.Kinds.{told_kind};
+ghost use Rattle.source_model.specs.Registers as registers;
+ghost use Rattle.asm_registers.specs.Scoped.{told_of};
+
+use crate::lists::{items_kind, ranges_kind};
+use crate::naming::{Scope, four, one, three, two, with_rest};
+use crate::numbers::number_of;
+use crate::told::kind_if;
+use asm_model::{Address, ArmLine, HalfOffset, PseudoLine, Register, What};
+use sdt_fault::Text;
+use sdt_fault::kinds::LineKind;
+use std::collections::BTreeMap;
+
+fn address_kind(scope: &Scope<'_>, address: &Address) -> Option<LineKind>
+    ensures { result ≡ told_of scope.now (registers.address_registers address.now) }
+{
+    match address {
+        Address::Based { rn, .. } => one(scope, rn),
+        Address::Label { .. } => None,
+    }
+}
+
+fn half_kind(scope: &Scope<'_>, offset: &HalfOffset) -> Option<LineKind>
+    ensures { result ≡ told_of scope.now (registers.half_registers offset.now) }
+{
+    match offset {
+        HalfOffset::Number { .. } => None,
+        HalfOffset::Register { rm, .. } => one(scope, rm),
+    }
+}
+
+fn half_transfer_kind(
+    scope: &Scope<'_>,
+    rd: &Register,
+    rn: &Register,
+    offset: &HalfOffset,
+) -> Option<LineKind>
+    ensures { result ≡ told_of scope.now (rd.now ∷ rn.now ∷ registers.half_registers offset.now) }
+{
+    with_rest(scope, rd, with_rest(scope, rn, half_kind(scope, offset)))
+}
+
+fn arm_kind(scope: &Scope<'_>, line: &ArmLine) -> Option<LineKind>
+    ensures { result ≡ told_of scope.now (registers.arm_registers line.now) }
+{
+    match line {
+        ArmLine::DataImmediate { rd, rn, .. } => two(scope, rd, rn),
+        ArmLine::DataShifted { rd, rn, rm, .. } => three(scope, rd, rn, rm),
+        ArmLine::DataRegisterShifted { rd, rn, rm, rs, .. } => four(scope, rd, rn, rm, rs),
+        ArmLine::Multiply { rd, rm, rs, rn, .. } => four(scope, rd, rm, rs, rn),
+        ArmLine::MultiplyLong {
+            low,
+            high,
+            rm,
+            rs,
+            ..
+        } => four(scope, low, high, rm, rs),
+        ArmLine::Swap { rd, rm, rn, .. } => three(scope, rd, rm, rn),
+        ArmLine::BranchExchange { rm, .. } => one(scope, rm),
+        ArmLine::ReadStatus { rd, .. } => one(scope, rd),
+        ArmLine::WriteStatus { rm, .. } => one(scope, rm),
+        ArmLine::WriteStatusImmediate { .. } => None,
+        ArmLine::TransferImmediate { rd, address, .. } => {
+            with_rest(scope, rd, address_kind(scope, address))
+        }
+        ArmLine::TransferShifted { rd, rn, rm, .. } => three(scope, rd, rn, rm),
+        ArmLine::TransferHalf { rd, rn, offset, .. } => half_transfer_kind(scope, rd, rn, offset),
+        ArmLine::TransferBlock { rn, list, .. } => {
+            with_rest(scope, rn, items_kind(scope, list.items.as_slice()))
+        }
+        ArmLine::Branch { .. } => None,
+        ArmLine::SoftwareInterrupt { .. } => None,
+    }
+}
+
+fn pseudo_kind(scope: &Scope<'_>, line: &PseudoLine) -> Option<LineKind>
+    ensures { result ≡ told_of scope.now (registers.pseudo_registers line.now) }
+{
+    match line {
+        PseudoLine::LoadConstant { rd, .. } => one(scope, rd),
+        PseudoLine::Address { rd, .. } => one(scope, rd),
+        PseudoLine::LongAddress { rd, .. } => one(scope, rd),
+        PseudoLine::NoOperation => None,
+    }
+}
+
+/// The fault of the names among a statement's registers.
+pub fn names_kind(scope: &Scope<'_>, what: &What) -> Option<LineKind>
+    ensures { result ≡ told_of scope.now (registers.registers_of what.now) }
+{
+    match what {
+        What::Arm(line) => arm_kind(scope, line),
+        What::Pseudo(line) => pseudo_kind(scope, line),
+        _ => None,
+    }
+}
+
+fn is_pc(number: Option<u8>) -> bool
+    ensures { result ≡ registers.is_pc number }
+{
+    match number {
+        None => false,
+        Some(number) => number == 15,
+    }
+}
+
+/// The fault of registers that no instruction has: a range that falls, and pc as the register of ADRL.
+pub fn operand_kind(known: &BTreeMap<Text, u8>, what: &What) -> Option<LineKind>
+    ensures { result ≡ told_kind (registers.operand_kinds known.now.entries what.now) }
+{
+    match what {
+        What::Arm(ArmLine::TransferBlock { list, .. }) => ranges_kind(known, list.items.as_slice()),
+        What::Pseudo(PseudoLine::LongAddress { rd, .. }) => {
+            kind_if(is_pc(number_of(known, rd)), LineKind::BadOperand)
+        }
+        _ => None,
+    }
+}

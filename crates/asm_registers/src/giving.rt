@@ -1,0 +1,146 @@
+//! What RN gives.
+
+ghost use Rattle.std.specs.Prelude.{◌≡◌, ◌++◌, [], ℕ, List, IfOk, OnOk};
+ghost use Rattle.std.specs.List.{list_any};
+ghost use Rattle.std.specs.Option.{option_copied};
+ghost use Rattle.asm_model.specs.AtLine.{Sight};
+ghost use Rattle.asm_model.specs.Forms.{same};
+ghost use Rattle.asm_model.specs.Kinds.{told_kind};
+ghost use Rattle.layout_model.specs.Labels.{defined_by};
+ghost use Rattle.layout_model.specs.LayoutKinds.{fault_kinds, listed};
+ghost use Rattle.layout_model.specs.Laid.{reversed};
+ghost use Rattle.source_model.specs.Registers as registers;
+ghost use Rattle.asm_registers.specs.Giving.{given_by, AreNames, IsGiven};
+
+use crate::numbers::register_in;
+use asm_model::{DirectiveLine, RnOperand, Statement, What};
+use sdt_fault::kinds::LineKind;
+use sdt_fault::{NoMemory, Text};
+use std::alloc::Global;
+use std::collections::{BTreeMap, BTreeSet};
+
+/// A number as a register.
+fn as_register(number: Result<u32, LineKind>) -> Result<u8, LineKind>
+    ensures { result ≡ registers.as_register number }
+{
+    match number {
+        Ok(number) => {
+            if number < 16 {
+                return Ok(number as u8);
+            }
+            Err(LineKind::OutOfRange)
+        }
+        Err(kind) => Err(kind),
+    }
+}
+
+/// The register that RN gives, by the number that it is given.
+fn given(operand: &RnOperand, number: Result<u32, LineKind>) -> Result<u8, LineKind>
+    ensures { result ≡ given_by operand.now number }
+{
+    match operand {
+        RnOperand::Register(register) => Ok(*register),
+        RnOperand::Number(_) => as_register(number),
+    }
+}
+
+fn fault_of(register: Result<u8, LineKind>) -> Option<LineKind>
+    ensures { result ≡ told_kind (fault_kinds register) }
+{
+    match register {
+        Ok(_) => None,
+        Err(kind) => Some(kind),
+    }
+}
+
+/// Notes the register of a name that stands for none yet.
+fn note(
+    alloc: Global,
+    known: &mut BTreeMap<Text, u8>,
+    name: &Text,
+    register: Result<u8, LineKind>,
+) -> Result<(), NoMemory>
+    ensures { OnOk result ((q : List ℕ) → registers.register_in q known.new.entries ≡ registers.register_in q (known.old.entries ++ registers.with_register name.now register)) }
+{
+    match (register, register_in(known, name)) {
+        (Err(_), _) => Ok(()),
+        (Ok(_), Some(_)) => Ok(()),
+        (Ok(register), None) => {
+            known.insert(name.try_clone(alloc)?, register)?;
+            Ok(())
+        }
+    }
+}
+
+/// The fault of a register that RN gives a name. From now on the name stands for it.
+fn give(
+    alloc: Global,
+    known: &mut BTreeMap<Text, u8>,
+    name: &Text,
+    register: Result<u8, LineKind>,
+) -> Result<Option<LineKind>, NoMemory>
+    ensures told { IfOk result (λ told. told ≡ told_kind (fault_kinds register)) }
+    ensures noted { OnOk result ((q : List ℕ) → registers.register_in q known.new.entries ≡ registers.register_in q (known.old.entries ++ registers.with_register name.now register)) }
+{
+    note(alloc, known, name, register)?;
+    Ok(fault_of(register))
+}
+
+/// The fault of the register that a statement gives its name. From now on the name stands for it.
+pub fn given_kind(
+    alloc: Global,
+    known: &mut BTreeMap<Text, u8>,
+    statement: &Statement,
+    number: Result<u32, LineKind>,
+) -> Result<Option<LineKind>, NoMemory>
+    ensures told { IfOk result (λ told. (s : Sight) → IsGiven s statement.now.what number → told ≡ told_kind (registers.given_kinds s (defined_by statement.now))) }
+    ensures noted { OnOk result ((s : Sight) → IsGiven s statement.now.what number → (q : List ℕ) → registers.register_in q known.new.entries ≡ registers.register_in q (known.old.entries ++ registers.named_by s (defined_by statement.now))) }
+{
+    match (&statement.label, &statement.what) {
+        (Some(name), What::Directive(DirectiveLine::Rn { register })) => {
+            let told = give(alloc, known, name, given(register, number))?;
+            Ok(told)
+        }
+        (_, _) => Ok(None),
+    }
+}
+
+/// The name that a statement gives a register.
+fn register_name(statement: &Statement) -> Option<&Text>
+    ensures { listed (option_copied result) ≡ registers.register_name (defined_by statement.now) }
+{
+    match (&statement.label, &statement.what) {
+        (Some(name), What::Directive(DirectiveLine::Rn { .. })) => Some(name),
+        (_, _) => None,
+    }
+}
+
+/// Notes that the name which a statement gives a register is one.
+fn note_name(alloc: Global, all: &mut BTreeSet<Text>, statement: &Statement) -> Result<(), NoMemory>
+    ensures { OnOk result ((q : List ℕ) → list_any (same q) all.new.keys ≡ list_any (same q) (all.old.keys ++ registers.register_name (defined_by statement.now))) }
+{
+    match register_name(statement) {
+        None => Ok(()),
+        Some(name) => {
+            all.insert(name.try_clone(alloc)?)?;
+            Ok(())
+        }
+    }
+}
+
+/// All names for registers of a source.
+pub fn register_names(alloc: Global, statements: &[Statement]) -> Result<BTreeSet<Text>, NoMemory>
+    ensures { IfOk result (λ all. AreNames (reversed statements.now []) all) }
+{
+    let mut all = BTreeSet::new(alloc);
+    let mut left = statements;
+    'statements: loop {
+        match left {
+            [] => return Ok(all),
+            [statement, rest @ ..] => {
+                note_name(alloc, &mut all, statement)?;
+                left = rest;
+            }
+        }
+    }
+}

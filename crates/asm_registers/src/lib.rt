@@ -1,0 +1,12 @@
+//! Names for registers, which RN gives them, and the faults of registers that a line names.
+#![tactic(auto)]
+
+mod forms;
+mod giving;
+mod lists;
+mod naming;
+mod numbers;
+pub mod registers;
+mod told;
+
+pub use crate::registers::Registers;

@@ -1,0 +1,98 @@
+//! The faults of registers.
+
+ghost use Rattle.std.specs.Prelude.{◌≡◌, ◌∷◌, [], List};
+ghost use Rattle.std.specs.List.{list_any};
+ghost use Rattle.asm_model.specs.declared.operands.Register.{Register};
+ghost use Rattle.asm_model.specs.Forms.{same};
+ghost use Rattle.asm_model.specs.Kinds.{told_kind};
+ghost use Rattle.source_model.specs.Registers as registers;
+ghost use Rattle.asm_registers.specs.Scoped.{told_of};
+
+use crate::numbers::register_in;
+use crate::told::first_told;
+use asm_model::Register;
+use asm_sight::KnownNames;
+use sdt_fault::Text;
+use sdt_fault::kinds::LineKind;
+use std::collections::{BTreeMap, BTreeSet};
+
+/// What the names of a line's registers are judged by.
+#[derive(Clone, Copy, Debug)]
+pub struct Scope<'a> {
+    /// All names for registers of the source.
+    pub all: &'a BTreeSet<Text>,
+    /// All other names of the source; of their entries the names alone count.
+    pub declared: &'a KnownNames,
+    /// The registers that names stand for at the line.
+    pub known: &'a BTreeMap<Text, u8>,
+}
+
+fn is_register_name(all: &BTreeSet<Text>, name: &Text) -> bool
+    ensures { result ≡ list_any (same name.now) all.now.keys }
+{
+    all.contains(name)
+}
+
+/// Why a name stands for no register.
+fn no_register(scope: &Scope<'_>, name: &Text) -> LineKind
+    ensures { result ≡ registers.no_register scope.now.all.now.keys scope.now.declared.now name.now }
+{
+    if is_register_name(scope.all, name) {
+        return LineKind::Forward;
+    }
+    if scope.declared.find(name).is_some() {
+        return LineKind::WrongType;
+    }
+    LineKind::UnknownWord
+}
+
+/// The fault of a name.
+fn name_kind(scope: &Scope<'_>, name: &Text) -> Option<LineKind>
+    ensures { result ≡ told_kind (registers.kinds_unless (registers.register_in name.now scope.now.known.now.entries) (registers.no_register scope.now.all.now.keys scope.now.declared.now name.now)) }
+{
+    if register_in(scope.known, name).is_some() {
+        return None;
+    }
+    Some(no_register(scope, name))
+}
+
+/// The fault of a register before others, of which this is told.
+pub fn with_rest(scope: &Scope<'_>, register: &Register, rest: Option<LineKind>) -> Option<LineKind>
+    ensures { (rs : List Register) → rest ≡ told_of scope.now rs → result ≡ told_of scope.now (register.now ∷ rs) }
+{
+    match register {
+        Register::Number(_) => rest,
+        Register::Named(name) => first_told(name_kind(scope, name), rest),
+    }
+}
+
+/// The fault of one register.
+pub fn one(scope: &Scope<'_>, a: &Register) -> Option<LineKind>
+    ensures { result ≡ told_of scope.now (a.now ∷ []) }
+{
+    with_rest(scope, a, None)
+}
+
+pub fn two(scope: &Scope<'_>, a: &Register, b: &Register) -> Option<LineKind>
+    ensures { result ≡ told_of scope.now (a.now ∷ b.now ∷ []) }
+{
+    with_rest(scope, a, one(scope, b))
+}
+
+pub fn three(scope: &Scope<'_>, a: &Register, b: &Register, c: &Register) -> Option<LineKind>
+    ensures { result ≡ told_of scope.now (a.now ∷ b.now ∷ c.now ∷ []) }
+{
+    with_rest(scope, a, two(scope, b, c))
+}
+
+pub fn four(
+    scope: &Scope<'_>,
+    a: &Register,
+    b: &Register,
+    c: &Register,
+    d: &Register,
+) -> Option<LineKind>
+    ensures { result ≡ told_of scope.now (a.now ∷ b.now ∷ c.now ∷ d.now ∷ []) }
+{
+    with_rest(scope, a, three(scope, b, c, d))
+}
