@@ -45,6 +45,7 @@ pub record IsLineOf (w : What) (area : Option ℕ) (thumb : Bool) (x : Result �
   pub counted : l.area ≡ area_behind (l.statement ∷ statements_of before)
   pub state : l.thumb ≡ thumb
   pub aligned : IsAligned w x l
+  pub small : IsSmall x
 
 abbrev pub begun : List ℕ → AreaAttributes → Result ℕ LineKind → AreaStart
 begun name a x = record { name = name; attributes = attributes_word a (or_two x) false; state = None }

@@ -56,15 +56,22 @@ fn bit(holds: bool, value: u32) -> u32
     if holds { value } else { 0 }
 }
 
+/// An exponent that isn't known, or above 16, is a fault of the line; it counts as 2.
 fn or_two(exponent: Result<u32, LineKind>) -> u32
-    requires { IsSmall exponent }
-    ensures two { result ≡ objects.or_two exponent }
+    ensures two { IsSmall exponent → result ≡ objects.or_two exponent }
     ensures small { result ≤ 16 }
 {
     match exponent {
-        Ok(exponent) => exponent,
+        Ok(exponent) => small_or_two(exponent),
         Err(_) => 2,
     }
+}
+
+fn small_or_two(exponent: u32) -> u32
+    ensures same { exponent ≤ 16 → result ≡ exponent }
+    ensures small { result ≤ 16 }
+{
+    if exponent > 16 { 2 } else { exponent }
 }
 
 fn attributes_word(attributes: &AreaAttributes, exponent: u32) -> u32
@@ -102,6 +109,14 @@ impl Starts {
         }
     }
 
+    /// The areas alone, with no copy.
+    pub fn into_vec(self) -> Vec<AreaStart>
+        ensures { result.items ≡ self }
+    {
+        let Starts { areas, .. } = self;
+        areas
+    }
+
     /// The areas, by their numbers.
     pub fn areas(&self) -> &[AreaStart]
         ensures { result.now ≡ self.now }
@@ -125,8 +140,7 @@ impl Starts {
         attributes: &AreaAttributes,
         exponent: Result<u32, LineKind>,
     ) -> Result<(), NoMemory>
-        requires { IsSmall exponent }
-        ensures { OnOk result (self.new ≡ self.old ++ begun name.now attributes.now exponent ∷ []) }
+        ensures { OnOk result (IsSmall exponent → self.new ≡ self.old ++ begun name.now attributes.now exponent ∷ []) }
     {
         let name = name.try_clone(self.alloc)?;
         let attributes = attributes_word(attributes, or_two(exponent));
@@ -146,8 +160,7 @@ impl Starts {
         area: Option<u32>,
         exponent: Result<u32, LineKind>,
     ) -> Result<(), NoMemory>
-        requires { IsSmall exponent }
-        ensures { OnOk result (self.new ≡ with_area name.now attributes.now area exponent self.old) }
+        ensures { OnOk result (IsSmall exponent → self.new ≡ with_area name.now attributes.now area exponent self.old) }
     {
         if self.is_next(area) {
             return self.begin(name, attributes, exponent);

@@ -22,18 +22,28 @@ pub struct LaidArea {
     pub pools: Pools,
 }
 
-/// A statement where it stands.
+/// A statement where it stands, with what its values are made of.
 #[derive(Debug, Drop)]
 pub struct LaidStatement {
     pub statement: Statement,
+    /// How many statements stand before it.
+    pub number: u32,
     /// The statement's area, counted from 0; None before the first.
     pub area: Option<u32>,
+    /// The number of the stretch of lines in which its local labels count.
+    pub stretch: u32,
     /// The statement's offset in its area.
     pub offset: u32,
     /// In bytes.
     pub size: u32,
     /// Whether it stands in Thumb state.
     pub thumb: bool,
+    /// Whether its label is one of Thumb code.
+    pub thumb_label: bool,
+    /// The storage map before it.
+    pub map: u32,
     /// The number of its literal's entry in the pools of its area.
     pub literal: Option<u32>,
+    /// For DCB, of each operand whether it is a string by what is known at its line.
+    pub strings: List<bool>,
 }

@@ -128,4 +128,12 @@ impl KnownNames {
     {
         self.entries.len()
     }
+
+    /// The entries alone, with no copy.
+    pub fn into_vec(self) -> Vec<LaidName>
+        ensures { result.items ≡ self }
+    {
+        let KnownNames { entries, .. } = self;
+        entries
+    }
 }

@@ -4,7 +4,7 @@ use Rattle.sdt_fault.specs.declared.NoMemory.{NoMemory}
 use Rattle.asm_model.specs.declared.directives.DirectiveLine.TheVariants as line
 use Rattle.asm_model.specs.declared.statements.What.TheVariants as what
 use Rattle.layout_model.specs.Laid.{LaidLine}
-use Rattle.asm_areas.specs.Starts.{with_area, AreStarts, IsLineOf}
+use Rattle.asm_areas.specs.Starts.{with_area, AreStarts, IsLineOf, IsSmall}
 use Rattle.asm_areas.proofs.StartLemmas.{area_more, state_more}
 use Rattle.asm_areas.proofs.starts.Starts.note.Goals as goal
 
@@ -12,7 +12,7 @@ use Rattle.asm_areas.proofs.starts.Starts.note.Goals as goal
 pub returns-in-Directive-Area : goal.returns-in-Directive-Area
 returns-in-Directive-Area c = on_ok c.note_area.result c.note_area.ensures
   where
-    on_ok : (r : Result (Unit {0}) NoMemory) → OnOk r (c.note_area.new.self ≡ with_area c.in-Directive-Area.name c.in-Directive-Area.attributes c.args.area c.args.exponent c.args.self.now)
+    on_ok : (r : Result (Unit {0}) NoMemory) → OnOk r (IsSmall c.args.exponent → c.note_area.new.self ≡ with_area c.in-Directive-Area.name c.in-Directive-Area.attributes c.args.area c.args.exponent c.args.self.now)
         → OnOk r ((l : LaidLine) (before : List LaidLine) → AreStarts before c.args.self.now
         → IsLineOf c.args.what.now c.args.area c.args.thumb c.args.exponent l before → AreStarts (l ∷ before) c.note_area.new.self)
     on_ok (Err n) e = e
@@ -20,7 +20,7 @@ returns-in-Directive-Area c = on_ok c.note_area.result c.note_area.ensures
         let here : c.args.what.now ≡ what.Directive (line.Area c.in-Directive-Area.name c.in-Directive-Area.attributes) = search rules in
         let said : IsLineOf (what.Directive (line.Area c.in-Directive-Area.name c.in-Directive-Area.attributes)) c.args.area c.args.thumb c.args.exponent l before =
         rw here at i in
-        rw e (area_more l before c.args.self.now c.in-Directive-Area.name c.in-Directive-Area.attributes c.args.area c.args.thumb c.args.exponent h said)
+        rw (e i.small) (area_more l before c.args.self.now c.in-Directive-Area.name c.in-Directive-Area.attributes c.args.area c.args.thumb c.args.exponent h said)
 
 -- src/starts.rt:171:5
 pub returns-then-is_instruction : goal.returns-then-is_instruction
