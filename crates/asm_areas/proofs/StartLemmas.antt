@@ -1,5 +1,5 @@
 -- Areas with a line more.
-use Rattle.std.proofs.Common.{◌≡◌, ◌≢◌, ◌<◌, ◌≤◌, ℕ, zero, suc, ◌+◌, ◌*◌, ◌^◌, ◌||◌, Bool, true, false, cond, List, [], ◌∷◌, ◌++◌, length, map, Option, Some, None, refl, sym, ap, ◌∙◌, arith, length-append, slice_set}
+use Rattle.std.proofs.Common.{subst, Ok, Err, ◌≡◌, ◌≢◌, ◌<◌, ◌≤◌, ℕ, zero, suc, ◌+◌, ◌*◌, ◌^◌, ◌||◌, Bool, true, false, cond, List, [], ◌∷◌, ◌++◌, length, map, Option, Some, None, refl, sym, ap, ◌∙◌, arith, length-append, slice_set}
 use Rattle.std.specs.Prelude.{◌==◌, ◌&&◌, if◌then◌else◌, Result}
 use Rattle.std.specs.List.{list_any, slice_get}
 use Rattle.std.specs.Option.{option_map}
@@ -18,9 +18,11 @@ use Rattle.layout_model.specs.Before.{area_named, with_name, areas_behind, place
 use Rattle.layout_model.specs.Laid.{LaidLine, statements_of}
 use Rattle.layout_model.specs.LayoutKinds.{is_instruction, state_of, first_state, exponent}
 use Rattle.layout_model.specs.Offsets.{is_of}
-use Rattle.source_model.specs.Objects.{attributes_word, or_two, says_area}
+use Rattle.asm_model.specs.declared.directives.Contents.{Contents}
+use Rattle.asm_model.specs.declared.directives.Contents.TheVariants as contents
+use Rattle.source_model.specs.Objects.{contents_bits, attributes_word, or_two, says_area}
 use Rattle.asm_areas.specs.declared.starts.AreaStart.{AreaStart}
-use Rattle.asm_areas.specs.Starts.{IsStart, AreStarts, IsLineOf, begun, is_next, with_area, run, run_in, AreRun}
+use Rattle.asm_areas.specs.Starts.{IsStart, AreStarts, IsSmall, IsLineOf, begun, is_next, with_area, run, run_in, AreRun}
 
 -- ---- lists
 
@@ -160,7 +162,7 @@ as_many before starts h = sym (length_map starts) ∙ ap (λ (ns : List (List �
 -- ---- parts of a line more
 
 kept_some : (l : LaidLine) (before : List LaidLine) (k : ℕ) (x : AreaStart) → state_of k l ≡ None → IsStart before k (Some x) → IsStart (l ∷ before) k (Some x)
-kept_some l before k x s h = (λ thumb. rw (h.0 thumb) refl, rw s (or_none (first_state k before)) ∙ h.1)
+kept_some l before k x s h = (λ thumb. rw (h.0 thumb) refl, rw s (or_none (first_state k before)) ∙ h.1, h.2)
 
 kept_none : (l : LaidLine) (before : List LaidLine) (k : ℕ) → ((thumb : Bool) → says_area k l l.statement.what thumb ≡ None) → state_of k l ≡ None
     → IsStart before k None → IsStart (l ∷ before) k None
@@ -177,6 +179,32 @@ quiet k l e = by_test (is_of k l.area)
 -- nor has one of another area
 other_state : (k : ℕ) (l : LaidLine) → is_of k l.area ≡ false → state_of k l ≡ None
 other_state k l e = rw e refl
+
+-- ---- attributes are small
+
+flag_low : (b : Bool) → flag b ≤ 1
+flag_low true = omega arith
+flag_low false = omega arith
+
+contents_low : (c : Contents) → contents_bits c ≤ 2 ^ 12
+contents_low contents.Code = omega arith
+contents_low contents.Data = omega arith
+contents_low contents.Zeroes = omega arith
+
+or_two_low : (x : Result ℕ LineKind) → IsSmall x → or_two x ≤ 16
+or_two_low (Ok n) low = low
+or_two_low (Err k) low = omega arith
+
+word_small : (a : AreaAttributes) (x : Result ℕ LineKind) → IsSmall x → attributes_word a (or_two x) false < 2 ^ 23
+word_small a x low =
+    let e : or_two x ≤ 16 = or_two_low x low in
+    let c : contents_bits a.contents ≤ 2 ^ 12 = contents_low a.contents in
+    let r : flag a.read_only ≤ 1 = flag_low a.read_only in
+    let p : flag a.pic ≤ 1 = flag_low a.pic in
+    let n : flag a.reentrant ≤ 1 = flag_low a.reentrant in
+    let h : flag a.halfword ≤ 1 = flag_low a.halfword in
+    let i : flag a.interwork ≤ 1 = flag_low a.interwork in
+    omega arith
 
 -- ---- an AREA more
 
@@ -213,10 +241,10 @@ old_area l before starts name a w there within h = record {
     by_start k None e s = kept_none l before k (says_none k l name a w (is_other k l.area (length starts) within (past starts k e))) (quiet_area k l name a w) s
 
 -- and a new one stands behind the others
-new_area : (l : LaidLine) (before : List LaidLine) (starts : List AreaStart) (name : List ℕ) (a : AreaAttributes) (x : Result ℕ LineKind) → IsArea l name a
+new_area : (l : LaidLine) (before : List LaidLine) (starts : List AreaStart) (name : List ℕ) (a : AreaAttributes) (x : Result ℕ LineKind) → IsArea l name a → IsSmall x
     → list_any (same name) (areas_behind (statements_of before)) ≡ false → l.area ≡ Some (length starts) → x ≡ exponent l.seen a.align
     → AreStarts before starts → AreStarts (l ∷ before) (starts ++ begun name a x ∷ [])
-new_area l before starts name a x w there at is h = record {
+new_area l before starts name a x w low there at is h = record {
   names = map_more starts (begun name a x) ∙ ap (λ (ns : List (List ℕ)). ns ++ name ∷ []) h.names ∙ sym (rw (w, there) refl);
   each = λ k. by_start k (slice_get starts k) refl (h.each k);
 }
@@ -231,7 +259,7 @@ new_area l before starts name a x w there at is h = record {
         let e : k ≡ length starts = grind arith in
         let own : is_of k l.area ≡ true = rw at t in
         rw (ap (slice_get (starts ++ begun name a x ∷ [])) e ∙ get_last starts (begun name a x))
-        (λ thumb. rw (s.0 thumb) (says_word k l name a x w own is thumb), rw s.1 (quiet_area k l name a w))
+        (λ thumb. rw (s.0 thumb) (says_word k l name a x w own is thumb), rw s.1 (quiet_area k l name a w), word_small a x low)
     by_place k false t far s =
         let long : length (starts ++ begun name a x ∷ []) ≡ length starts + 1 = length-append starts (begun name a x ∷ []) in
         let n : length starts ≢ k = λ e. let g : (length starts == k) ≡ true = grind arith in cc in
@@ -266,7 +294,7 @@ area_more l before starts name a area thumb x h i = by_test (list_any (same name
         stands ∙ ap (λ b. Some (place_of name (cond b (areas_behind (statements_of before)) (areas_behind (statements_of before) ++ name ∷ [])))) t
         ∙ ap Some (place_new name (areas_behind (statements_of before)) t ∙ sym many) in
         let yes : is_next area (length starts) ≡ true = rw (sym i.stands ∙ here) (self (length starts)) in
-        rw yes (new_area l before starts name a x i.said t here i.aligned h)
+        rw yes (new_area l before starts name a x i.said i.aligned.1 t here i.aligned.0 h)
 
 -- ---- an instruction more
 
@@ -325,5 +353,5 @@ state_more l before old new w area thumb x is r h i = record {
     by_start k None e s = kept_none l before k (says k) (other_state k l (is_other k l.area (length old) within (past old k e))) s
     by_start k (Some y) e s = (
       λ t. rw (s.0 t) (ap (λ n. Some (n + flag t * 2 ^ 20)) (sym (attributes_stay k area y))),
-      rw (s.1, state_is k) (run_state k area y),
+      rw (s.1, state_is k) (run_state k area y), subst (λ n. n < 2 ^ 23) (sym (attributes_stay k area y)) s.2,
     )

@@ -1,6 +1,6 @@
 -- What is kept of a source's areas by their lines: names, attributes, and the state of the first instruction. Lines are
 -- listed with the nearest first. SDT 2.50 Reference Guide, chapter on the assembler, and ARM Object Format.
-use Rattle.std.specs.Prelude.{◌≡◌, ℕ, ◌+◌, ◌*◌, ◌^◌, ◌≤◌, ◌==◌, List, [], ◌∷◌, ◌++◌, map, length, slice_get, Bool, false, if◌then◌else◌, Option, Some, None, Result, Ok, Err}
+use Rattle.std.specs.Prelude.{◌≡◌, ℕ, ◌+◌, ◌*◌, ◌^◌, ◌<◌, ◌≤◌, ◌==◌, List, [], ◌∷◌, ◌++◌, map, length, slice_get, Bool, false, if◌then◌else◌, Option, Some, None, Result, Ok, Err}
 use Rattle.std.specs.Option.{option_map}
 use Rattle.sdt_word.specs.Numbers.{flag}
 use Rattle.sdt_fault.specs.declared.kinds.LineKind.{LineKind}
@@ -21,6 +21,7 @@ abbrev pub IsStart : List LaidLine → ℕ → Option AreaStart → Type 0
 IsStart before area None = ((thumb : Bool) → attributes_of area thumb before ≡ None) × (first_state area before ≡ None)
 IsStart before area (Some s) =
     ((thumb : Bool) → attributes_of area thumb before ≡ Some (s.attributes + flag thumb * 2 ^ 20)) × (first_state area before ≡ s.state)
+    × (s.attributes < 2 ^ 23)
 
 -- the areas of lines, and no others
 pub record AreStarts (before : List LaidLine) (starts : List AreaStart) : Type 0 where
@@ -33,9 +34,9 @@ abbrev pub IsSmall : Result ℕ LineKind → Type 0
 IsSmall (Ok n) = n ≤ 16
 IsSmall (Err k) = Unit {0}
 
--- the exponent of an AREA's alignment
+-- the exponent of an AREA's alignment, which is no fault
 abbrev pub IsAligned : What → Result ℕ LineKind → LaidLine → Type 0
-IsAligned (what.Directive (line.Area name a)) x l = x ≡ exponent l.seen a.align
+IsAligned (what.Directive (line.Area name a)) x l = (x ≡ exponent l.seen a.align) × IsSmall x
 IsAligned _ x l = Unit {0}
 
 -- what is known of a line behind others
@@ -45,7 +46,6 @@ pub record IsLineOf (w : What) (area : Option ℕ) (thumb : Bool) (x : Result �
   pub counted : l.area ≡ area_behind (l.statement ∷ statements_of before)
   pub state : l.thumb ≡ thumb
   pub aligned : IsAligned w x l
-  pub small : IsSmall x
 
 abbrev pub begun : List ℕ → AreaAttributes → Result ℕ LineKind → AreaStart
 begun name a x = record { name = name; attributes = attributes_word a (or_two x) false; state = None }

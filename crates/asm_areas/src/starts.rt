@@ -188,7 +188,6 @@ impl Starts {
         thumb: bool,
         exponent: Result<u32, LineKind>,
     ) -> Result<(), NoMemory>
-        requires { IsSmall exponent }
         ensures { OnOk result ((l : LaidLine) (before : List LaidLine) → AreStarts before self.old → IsLineOf what.now area thumb exponent l before → AreStarts (l ∷ before) self.new) }
     {
         match what {

@@ -20,7 +20,7 @@ returns-in-Directive-Area c = on_ok c.note_area.result c.note_area.ensures
         let here : c.args.what.now ≡ what.Directive (line.Area c.in-Directive-Area.name c.in-Directive-Area.attributes) = search rules in
         let said : IsLineOf (what.Directive (line.Area c.in-Directive-Area.name c.in-Directive-Area.attributes)) c.args.area c.args.thumb c.args.exponent l before =
         rw here at i in
-        rw (e i.small) (area_more l before c.args.self.now c.in-Directive-Area.name c.in-Directive-Area.attributes c.args.area c.args.thumb c.args.exponent h said)
+        rw (e said.aligned.1) (area_more l before c.args.self.now c.in-Directive-Area.name c.in-Directive-Area.attributes c.args.area c.args.thumb c.args.exponent h said)
 
 -- src/starts.rt:171:5
 pub returns-then-is_instruction : goal.returns-then-is_instruction

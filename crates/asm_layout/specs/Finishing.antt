@@ -1,0 +1,33 @@
+-- A source whose lines have no fault of their own. This project's.
+use Rattle.std.specs.Prelude.{◌≡◌, ℕ, List}
+use Rattle.asm_model.specs.declared.names.LaidName.{LaidName}
+use Rattle.asm_model.specs.declared.statements.Statement.{Statement}
+use Rattle.asm_model.specs.Meaning.{named_in}
+use Rattle.asm_pool.specs.declared.layout.LaidStatement.{LaidStatement}
+use Rattle.asm_final.specs.Source.{AreRead}
+use Rattle.layout_laws.specs.Sound.{IsSound, ArePlain}
+use Rattle.layout_model.specs.Labels.{declared_names}
+use Rattle.layout_model.specs.Laid.{laid, all_locals}
+use Rattle.layout_model.specs.Locals.{Local}
+use Rattle.said_model.specs.Said.{AllSaid}
+use Rattle.asm_layout.specs.declared.outline.Outline.{Outline}
+use Rattle.asm_layout.specs.declared.walking.Walk.{Walk}
+use Rattle.asm_layout.specs.Layout.{AreStatements}
+use Rattle.asm_layout.specs.Outline.{IsOutline}
+use Rattle.asm_layout.specs.Walking.{IsWalked}
+use Rattle.std.specs.Prelude.{Ok}
+
+-- the names of a source are made of its lines, its local labels and the names that it declares
+pub record IsNamed (statements : List Statement) (statements_laid : List LaidStatement) (locals : List Local) (declared : List LaidName) : Type 0 where
+  pub sound : IsSound statements
+  pub plain : ArePlain statements
+  pub read : AreRead statements
+  pub lines : AreStatements (laid statements) statements_laid
+  pub labels : locals ≡ all_locals (laid statements)
+  pub found : (q : List ℕ) → named_in q declared ≡ named_in q (declared_names statements)
+
+-- a source whose lines are laid
+pub record IsWhole (statements : List Statement) (o : Outline) (w : Walk) : Type 0 where
+  pub said : AllSaid statements
+  pub outlined : IsOutline statements o
+  pub walked : IsWalked statements (Ok w)

@@ -1,0 +1,81 @@
+-- The layout of a source, and the refusal of its first faulty line. Statements and laid lines are listed with the nearest
+-- first, those of a layout in the order of the source. SDT 2.50 Reference Guide, chapter on the assembler.
+use Rattle.std.specs.Prelude.{◌≡◌, ℕ, List, [], ◌∷◌, ◌++◌, length, slice_get, Option, Some, None, Result, Ok, Err}
+use Rattle.sdt_fault.specs.declared.answer.Fault.{Fault}
+use Rattle.sdt_fault.specs.declared.answer.Fault.TheVariants as fault
+use Rattle.sdt_fault.specs.declared.kinds.LineKind.{LineKind}
+use Rattle.sdt_fault.specs.declared.refusal.Refusal.{Refusal}
+use Rattle.sdt_fault.specs.declared.refusal.Refusal.TheVariants.{BadLine}
+use Rattle.asm_model.specs.declared.statements.Statement.{Statement}
+use Rattle.asm_pool.specs.declared.layout.LaidArea.{LaidArea}
+use Rattle.asm_pool.specs.declared.layout.LaidStatement.{LaidStatement}
+use Rattle.asm_pool.specs.declared.layout.Layout.{Layout}
+use Rattle.asm_pool.specs.Pooled.{flushed}
+use Rattle.asm_laying.specs.Reading.{string_marks}
+use Rattle.asm_offsets.specs.Running.{entry_behind, pools_behind}
+use Rattle.layout_model.specs.Before.{areas_behind, stretch_behind, is_thumb_label}
+use Rattle.layout_model.specs.Extents.{Pool}
+use Rattle.layout_model.specs.Laid.{LaidLine, statements_of, taken, pieces_of, map_behind, laid, final_names}
+use Rattle.layout_model.specs.LayoutKinds.{is_thumb_area}
+use Rattle.layout_model.specs.Offsets.{area_size, start_in}
+use Rattle.source_model.specs.Objects.{attributes_of}
+use Rattle.source_model.specs.SourceFaults.{layout_faults}
+
+-- ---- statements
+
+-- a statement of a layout is a laid line behind those before it
+pub record IsStatement (x : LaidStatement) (l : LaidLine) (before : List LaidLine) : Type 0 where
+  pub statement : x.statement ≡ l.statement
+  pub number : x.number ≡ length before
+  pub area : x.area ≡ l.area
+  pub stretch : x.stretch ≡ stretch_behind (statements_of (l ∷ before))
+  pub offset : x.offset ≡ l.offset
+  pub size : x.size ≡ l.size
+  pub thumb : x.thumb ≡ l.thumb
+  pub thumb_label : x.thumb_label ≡ is_thumb_label l.statement (statements_of before)
+  pub map : x.map ≡ map_behind before
+  pub literal : x.literal ≡ entry_behind l.area (pieces_of before) (taken l.extent)
+  pub strings : x.strings ≡ string_marks l.seen l.statement.what
+
+-- the statements of a layout are the laid lines
+abbrev pub AreStatements : List LaidLine → List LaidStatement → Type 0
+AreStatements [] xs = xs ≡ []
+AreStatements (l ∷ before) xs =
+    (front : List LaidStatement) × (x : LaidStatement) × (xs ≡ front ++ x ∷ []) × IsStatement x l before × AreStatements before front
+
+-- ---- areas
+
+pub record IsArea (all : List LaidLine) (area : ℕ) (a : LaidArea) : Type 0 where
+  pub name : slice_get (areas_behind (statements_of all)) area ≡ Some a.name
+  pub attributes : attributes_of area (is_thumb_area area all) all ≡ Some a.attributes
+  pub size : a.size ≡ area_size area (pieces_of all)
+  pub pools : a.pools ≡ flushed (start_in area (pieces_of all) Pool) (pools_behind area (pieces_of all))
+
+-- each area with its number, and no others
+pub record AreAreas (all : List LaidLine) (areas : List LaidArea) : Type 0 where
+  pub count : length areas ≡ length (areas_behind (statements_of all))
+  pub each : (area : ℕ) (a : LaidArea) → slice_get areas area ≡ Some a → IsArea all area a
+
+-- ---- the layout
+
+pub record IsLayout (statements : List Statement) (l : Layout) : Type 0 where
+  pub areas : AreAreas (laid statements) l.areas
+  pub lines : AreStatements (laid statements) l.statements
+  pub names : l.names ≡ final_names (laid statements)
+
+-- ---- the refusal of a line
+
+abbrev pub IsBadLine : Option (Statement × LineKind) → Refusal → Type 0
+IsBadLine told (BadLine source line kind) = (s : Statement) × (told ≡ Some (s, kind)) × (source ≡ s.source) × (line ≡ s.number)
+IsBadLine told _ = ⊥
+
+-- a fault is the refusal of the line that is told, or want of memory
+abbrev pub IsTold : Option (Statement × LineKind) → Fault → Type 0
+IsTold told (fault.Refused r) = IsBadLine told r
+IsTold told (fault.ReadFault name) = ⊥
+IsTold told fault.NoMemory = Unit {0}
+
+-- a layout where no line is told, and else the refusal
+abbrev pub IsOutcome : List Statement → Result Layout Fault → Type 0
+IsOutcome statements (Ok l) = (layout_faults statements ≡ None) × IsLayout statements l
+IsOutcome statements (Err f) = IsTold (layout_faults statements) f

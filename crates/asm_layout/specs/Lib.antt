@@ -1,0 +1,7 @@
+-- What the clauses of the crate cite.
+pub mod Finishing
+pub mod Late
+pub mod Layout
+pub mod Lines
+pub mod Outline
+pub mod Walking

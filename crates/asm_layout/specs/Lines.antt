@@ -1,0 +1,15 @@
+-- Laid lines, as names and values are made of them. This project's.
+use Rattle.std.specs.Prelude.{◌≡◌}
+use Rattle.asm_final.specs.declared.lines.PlacedLine.{PlacedLine}
+use Rattle.asm_pool.specs.declared.layout.LaidStatement.{LaidStatement}
+
+pub record IsLineOf (x : LaidStatement) (y : PlacedLine) : Type 0 where
+  pub statement : y.statement.now ≡ x.statement
+  pub number : y.number ≡ x.number
+  pub area : y.area ≡ x.area
+  pub stretch : y.stretch ≡ x.stretch
+  pub offset : y.offset ≡ x.offset
+  pub size : y.size ≡ x.size
+  pub thumb : y.thumb ≡ x.thumb
+  pub thumb_label : y.thumb_label ≡ x.thumb_label
+  pub map : y.map ≡ x.map

@@ -1,0 +1,19 @@
+-- What laying a line needs to know of the whole source. This project's.
+use Rattle.std.specs.Prelude.{◌≡◌, ℕ, List, [], ◌∷◌, ◌++◌, map}
+use Rattle.asm_model.specs.declared.exprs.Expr.{Expr}
+use Rattle.asm_model.specs.declared.statements.Statement.{Statement}
+use Rattle.asm_laying.specs.Declaring.{declared_in}
+use Rattle.asm_order.specs.Order.{is_settled}
+use Rattle.layout_model.specs.Labels.{defined_by}
+use Rattle.layout_model.specs.Laid.{declared}
+use Rattle.layout_model.specs.LayoutKinds.{equal_of, equals_in}
+use Rattle.asm_layout.specs.declared.outline.Outline.{Outline}
+
+-- the names for expressions of statements in the order of the source
+abbrev pub equals_on : List Statement → List (List ℕ × Expr)
+equals_on [] = []
+equals_on (s ∷ ss) = equal_of (defined_by s) ++ equals_on ss
+
+pub record IsOutline (statements : List Statement) (o : Outline) : Type 0 where
+  pub declares : declared_in o.declarations ≡ declared statements
+  pub marks : o.settled.items ≡ map (λ (e : List ℕ × Expr). is_settled (equals_in statements) e.0) (equals_in statements)

@@ -1,0 +1,117 @@
+-- The lines of a source so far, laid and judged. This project's. Lines are listed with the nearest first.
+use Rattle.std.specs.Prelude.{◌≡◌, ℕ, ◌+◌, List, [], ◌∷◌, ◌++◌, length, slice_get, Bool, false, Option, Some, None, Result, Ok, Err}
+use Rattle.std.specs.List.{list_any}
+use Rattle.sdt_fault.specs.declared.answer.Fault.{Fault}
+use Rattle.sdt_fault.specs.declared.kinds.LineKind.{LineKind}
+use Rattle.asm_model.specs.declared.statements.Statement.{Statement}
+use Rattle.asm_model.specs.FaultSets.{first_told}
+use Rattle.asm_model.specs.Forms.{same}
+use Rattle.asm_model.specs.Kinds.{told_kind}
+use Rattle.asm_pool.specs.declared.layout.LaidStatement.{LaidStatement}
+use Rattle.asm_areas.specs.Starts.{AreStarts, IsLineOf}
+use Rattle.asm_checks.specs.Checked.{checked_kinds, IsChecked}
+use Rattle.asm_laying.specs.declared.laying.Placed.{Placed}
+use Rattle.asm_laying.specs.Laying.{IsLaying, Tells}
+use Rattle.asm_registers.specs.Kept.{AreRegisters}
+use Rattle.layout_model.specs.Labels.{Defined, Equal, defined_by}
+use Rattle.layout_model.specs.Laid.{Declared, LaidLine, declared, statements_of, laid}
+use Rattle.layout_model.specs.LayoutKinds.{layout_kinds, equals_in, settled, told_at}
+use Rattle.source_model.specs.Registers.{register_names, register_kinds}
+use Rattle.source_model.specs.SourceFaults.{first_laid}
+use Rattle.asm_layout.specs.declared.walking.Judged.{Judged}
+use Rattle.asm_layout.specs.declared.walking.Walk.{Walk}
+use Rattle.asm_layout.specs.Layout.{AreStatements, IsTold}
+
+-- ---- names for expressions
+
+abbrev pub or_false : Option Bool → Bool
+or_false None = false
+or_false (Some b) = b
+
+-- the mark of the next name for an expression
+abbrev pub IsMark : List Bool → ℕ → Defined → Bool → Type 0
+IsMark marks n (Equal name e) b = b ≡ or_false (slice_get marks n)
+IsMark marks n d b = Unit {0}
+
+abbrev pub one_more : Option Bool → ℕ → ℕ
+one_more None n = n
+one_more (Some b) n = n + 1
+
+abbrev pub IsCounted : List Bool → ℕ → Defined → ℕ → Type 0
+IsCounted marks n (Equal name e) m = m ≡ one_more (slice_get marks n) n
+IsCounted marks n d m = m ≡ n
+
+pub record IsNext (marks : List Bool) (old new : ℕ) (b : Bool) : Type 0 where
+  pub mark : b ≡ or_false (slice_get marks old)
+  pub count : new ≡ one_more (slice_get marks old) old
+
+abbrev pub HasMark : List (List ℕ) → List Bool → ℕ → Defined → Type 0
+HasMark settled marks n (Equal name e) = slice_get marks n ≡ Some (list_any (same name) settled)
+HasMark settled marks n d = Unit {0}
+
+-- the marks say of the next name for an expression whether it is settled
+abbrev pub IsMarked : List (List ℕ) → List Bool → Statement → List LaidLine → Type 0
+IsMarked settled marks s before = HasMark settled marks (length (equals_in (statements_of before))) (defined_by s)
+
+-- ---- lines so far
+
+-- lines without faults, where a source has these names for registers and these settled names
+pub record IsWalking (d : Declared) (names settled : List (List ℕ)) (before : List LaidLine) (w : Walk) : Type 0 where
+  pub lays : IsLaying d before w.laying
+  pub checked : IsChecked before w.checks
+  pub named : AreRegisters names before w.registers
+  pub begun : AreStarts before w.starts
+  pub kept : AreStatements before w.lines.items
+  pub counted : w.equals ≡ length (equals_in (statements_of before))
+  pub none : first_laid names settled before ≡ None
+
+-- ---- a line more
+
+-- what is known of a line before it is kept
+pub record IsJudged (d : Declared) (names settled : List (List ℕ)) (l : LaidLine) (before : List LaidLine) (old new : Walk) (j : Judged) : Type 0 where
+  pub tells : Tells d l before new.laying j.laid
+  pub told : j.found ≡ first_told (told_kind (checked_kinds settled l before)) (told_kind (register_kinds names l before))
+  pub checked : j.found ≡ None → IsChecked (l ∷ before) new.checks
+  pub named : j.found ≡ None → AreRegisters names (l ∷ before) new.registers
+  pub begun : new.starts ≡ old.starts
+  pub kept : new.lines ≡ old.lines
+  pub counted : new.equals ≡ length (equals_in (statements_of (l ∷ before)))
+
+abbrev pub laid_as : Statement → Placed → LaidStatement
+laid_as s p = record {
+  statement = s;
+  number = p.number;
+  area = p.area;
+  stretch = p.stretch;
+  offset = p.offset;
+  size = p.size;
+  thumb = p.thumb;
+  thumb_label = p.thumb_label;
+  map = p.map;
+  literal = p.literal;
+  strings = p.strings;
+}
+
+-- a line without a fault is kept
+pub record Keeps (s : Statement) (number : Result ℕ LineKind) (p : Placed) (old new : Walk) : Type 0 where
+  pub laying : new.laying ≡ old.laying
+  pub checks : new.checks ≡ old.checks
+  pub registers : new.registers ≡ old.registers
+  pub lines : new.lines.items ≡ old.lines.items ++ laid_as s p ∷ []
+  pub equals : new.equals ≡ old.equals
+  pub starts : (l : LaidLine) (before : List LaidLine) → AreStarts before old.starts → IsLineOf s.what p.area p.thumb number l before → AreStarts (l ∷ before) new.starts
+
+-- the kind that is told of a line
+abbrev pub told_by : List (List ℕ) → List (List ℕ) → LaidLine → List LaidLine → Option LineKind
+told_by names settled l before = told_kind (layout_kinds settled l before ++ register_kinds names l before)
+
+abbrev pub Steps : Declared → List (List ℕ) → List (List ℕ) → LaidLine → List LaidLine → Walk → Result (Unit {0}) Fault → Type 0
+Steps d names settled l before new (Ok u) = IsWalking d names settled (l ∷ before) new
+Steps d names settled l before new (Err f) = IsTold (told_at l.statement (told_by names settled l before)) f
+
+-- ---- all lines
+
+-- the lines of a source, or its first with a fault that is told at it
+abbrev pub IsWalked : List Statement → Result Walk Fault → Type 0
+IsWalked statements (Ok w) = IsWalking (declared statements) (register_names statements) (settled (equals_in statements)) (laid statements) w
+IsWalked statements (Err f) = IsTold (first_laid (register_names statements) (settled (equals_in statements)) (laid statements)) f

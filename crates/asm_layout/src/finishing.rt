@@ -1,0 +1,62 @@
+//! The layout of a source whose lines have no fault of their own.
+
+ghost use Rattle.std.specs.Prelude.{◌≡◌, List, IfOk};
+ghost use Rattle.layout_model.specs.Laid as laid_model;
+ghost use Rattle.asm_model.specs.declared.statements.Statement.{Statement};
+ghost use Rattle.asm_layout.specs.Layout.{IsOutcome};
+ghost use Rattle.asm_layout.specs.Finishing.{IsNamed, IsWhole};
+
+use crate::areas::areas_of;
+use crate::late::cleared;
+use crate::lines::lines_of;
+use crate::outline::Outline;
+use crate::walking::Walk;
+use asm_final::final_names;
+use asm_laying::laying::Ended;
+use asm_locals::Locals;
+use asm_pool::{LaidStatement, Layout};
+use asm_sight::KnownNames;
+use sdt_fault::answer::Fault;
+use sdt_fault::{List as Listed, NoMemory};
+use std::alloc::Global;
+
+/// All names of a source.
+fn names_of(
+    alloc: Global,
+    laid: &[LaidStatement],
+    locals: &Locals,
+    declared: &KnownNames,
+) -> Result<KnownNames, NoMemory>
+    ensures { IfOk result (λ names. (statements : List Statement) → IsNamed statements laid.now locals.now declared.now → names ≡ laid_model.final_names (laid_model.laid statements)) }
+{
+    let lines = lines_of(alloc, laid)?;
+    let names = final_names(alloc, lines.as_slice(), locals, declared)?;
+    Ok(names)
+}
+
+/// The layout, or the refusal of the first line with a fault that needs the whole layout.
+pub fn finished(alloc: Global, outline: &Outline, walk: Walk) -> Result<Layout, Fault>
+    ensures { (statements : List Statement) → IsWhole statements outline.now walk → IsOutcome statements result }
+{
+    let Walk {
+        laying,
+        starts,
+        lines,
+        ..
+    } = walk;
+    let Ended { ends, locals } = laying.end();
+    let pools = ends.finish()?;
+    cleared(alloc, lines.as_slice(), pools.as_slice(), starts.areas())?;
+    let names = names_of(
+        alloc,
+        lines.as_slice(),
+        &locals,
+        &outline.declarations.names,
+    )?;
+    let areas = areas_of(alloc, starts.into_vec(), pools)?;
+    Ok(Layout {
+        areas: Listed::from_vec(areas),
+        statements: Listed::from_vec(lines),
+        names: Listed::from_vec(names.into_vec()),
+    })
+}

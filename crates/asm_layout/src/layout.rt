@@ -1,0 +1,28 @@
+//! The layout of a source.
+
+ghost use Rattle.std.specs.Prelude.{◌+◌, ◌<◌, [], length};
+ghost use Rattle.layout_model.specs.Laid.{reversed};
+ghost use Rattle.said_model.specs.Said.{AllSaid};
+ghost use Rattle.asm_laying.specs.Behind.{most_statements};
+ghost use Rattle.asm_layout.specs.Layout.{IsOutcome};
+
+use crate::finishing::finished;
+use crate::outline::outline_of;
+use crate::walking::walked;
+use asm_model::Statement;
+use asm_pool::Layout;
+use sdt_fault::answer::Fault;
+use std::alloc::Global;
+
+/// Lays out statements in the order of their source. A refusal is BadLine at the first line with a fault, of those that need
+/// no values. That a source has no AREA is judged elsewhere; statements without one, each of which may stand before the
+/// first, give a layout without areas.
+pub fn lay_out(alloc: Global, statements: Vec<Statement>) -> Result<Layout, Fault>
+    requires few { length statements.items < most_statements + 1 }
+    requires said { AllSaid statements.items }
+    ensures { IsOutcome (reversed statements.items []) result }
+{
+    let outline = outline_of(alloc, statements.as_slice())?;
+    let walk = walked(alloc, &outline, statements)?;
+    finished(alloc, &outline, walk)
+}

@@ -1,0 +1,201 @@
+//! The lines of a source, laid and judged one behind the other.
+
+ghost use Rattle.std.specs.Prelude.{◌≡◌, ◌∷◌, ◌+◌, ◌<◌, [], ℕ, List, Bool, Some, length, IfOk, OnOk};
+ghost use Rattle.layout_model.specs.Labels as labels;
+ghost use Rattle.layout_model.specs.Laid.{laid_behind, reversed, Declared, LaidLine};
+ghost use Rattle.said_model.specs.Said.{AllSaid, IsSaid, LocalSaid};
+ghost use Rattle.asm_laying.specs.Behind.{most_statements};
+ghost use Rattle.asm_laying.specs.Declaring.{declared_in};
+ghost use Rattle.asm_laying.specs.Laying as laying;
+ghost use Rattle.asm_model.specs.FaultSets as sets;
+ghost use Rattle.asm_layout.specs.Layout.{IsTold};
+ghost use Rattle.asm_layout.specs.Outline.{IsOutline};
+ghost use Rattle.source_model.specs.Registers.{register_names};
+ghost use Rattle.asm_layout.specs.Walking as walking;
+
+use crate::outline::Outline;
+use crate::telling::told;
+use asm_areas::Starts;
+use asm_checks::Checks;
+use asm_checks::told::first_told;
+use asm_expr::kinds::earlier;
+use asm_laying::defining::{Defines, defined_by};
+use asm_laying::laying::{Laid, Laying, Placed};
+use asm_model::Statement;
+use asm_pool::LaidStatement;
+use asm_registers::Registers;
+use sdt_fault::NoMemory;
+use sdt_fault::answer::Fault;
+use sdt_fault::kinds::LineKind;
+use std::alloc::Global;
+
+/// What lines leave for those behind them.
+#[derive(Debug, Drop)]
+pub struct Walk {
+    alloc: Global,
+    pub laying: Laying,
+    checks: Checks,
+    registers: Registers,
+    pub starts: Starts,
+    /// The lines, in the order of the source.
+    pub lines: Vec<LaidStatement>,
+    /// How many names for expressions there are so far.
+    equals: usize,
+}
+
+/// What is known of a line before it is kept.
+#[derive(Debug, Drop)]
+struct Judged {
+    laid: Laid,
+    /// The fault that is told, of those that need no values.
+    found: Option<LineKind>,
+}
+
+/// Whether a statement's name for an expression is settled; of other statements nothing is said.
+fn take_mark(equals: &mut usize, settled: &[bool], statement: &Statement) -> bool
+    requires { LocalSaid (labels.defined_by statement.now) }
+    ensures mark { walking.IsMark settled.now equals.old (labels.defined_by statement.now) result }
+    ensures count { walking.IsCounted settled.now equals.old (labels.defined_by statement.now) equals.new }
+{
+    match defined_by(statement) {
+        Defines::Equal(_, _) => next_mark(equals, settled),
+        _ => false,
+    }
+}
+
+fn next_mark(equals: &mut usize, settled: &[bool]) -> bool
+    ensures { walking.IsNext settled.now equals.old equals.new result }
+{
+    match settled.get(*equals) {
+        None => false,
+        Some(mark) => {
+            *equals += 1;
+            *mark
+        }
+    }
+}
+
+fn laid_statement(statement: Statement, placed: Placed) -> LaidStatement
+    ensures { result ≡ walking.laid_as statement placed }
+{
+    let Placed {
+        number,
+        area,
+        stretch,
+        offset,
+        size,
+        thumb,
+        thumb_label,
+        map,
+        literal,
+        strings,
+    } = placed;
+    LaidStatement {
+        statement,
+        number,
+        area,
+        stretch,
+        offset,
+        size,
+        thumb,
+        thumb_label,
+        map,
+        literal,
+        strings,
+    }
+}
+
+impl Walk {
+    /// Before the first line.
+    fn new(alloc: Global, statements: &[Statement]) -> Result<Walk, NoMemory>
+        ensures { IfOk result (λ w. (d : Declared) (settled : List (List ℕ)) → walking.IsWalking d (register_names (reversed statements.now [])) settled [] w) }
+    {
+        Ok(Walk {
+            alloc,
+            laying: Laying::new(alloc),
+            checks: Checks::new(alloc),
+            registers: Registers::new(alloc, statements)?,
+            starts: Starts::new(alloc),
+            lines: Vec::new(alloc),
+            equals: 0,
+        })
+    }
+
+    /// What is told of a line more.
+    fn judge(&mut self, outline: &Outline, statement: &Statement) -> Result<Judged, NoMemory>
+        requires may { laying.MayLay (declared_in outline.now.declarations) self.old.laying }
+        requires said { IsSaid statement.now }
+        ensures { IfOk result (λ j. (names settled : List (List ℕ)) (before : List LaidLine) → walking.IsWalking (declared_in outline.now.declarations) names settled before self.old → walking.IsMarked settled outline.now.settled.items statement.now before → walking.IsJudged (declared_in outline.now.declarations) names settled (laid_behind (declared_in outline.now.declarations) statement.now before) before self.old self.new j) }
+    {
+        let laid = self
+            .laying
+            .lay(self.alloc, &outline.declarations, statement)?;
+        let is_settled = take_mark(&mut self.equals, outline.settled.as_slice(), statement);
+        let checked = self
+            .checks
+            .check(statement, laid.area, laid.thumb, laid.number, is_settled)?;
+        let named = self
+            .registers
+            .check(statement, laid.number, &outline.declarations.names)?;
+        Ok(Judged {
+            laid,
+            found: first_told(checked, named),
+        })
+    }
+
+    /// Keeps a line without a fault.
+    fn keep(
+        &mut self,
+        statement: Statement,
+        number: Result<u32, LineKind>,
+        placed: Placed,
+    ) -> Result<(), NoMemory>
+        ensures { OnOk result (walking.Keeps statement number placed self.old self.new) }
+    {
+        self.starts
+            .note(&statement.what, placed.area, placed.thumb, number)?;
+        self.lines.push(laid_statement(statement, placed))?;
+        Ok(())
+    }
+
+    /// Keeps a line, or tells its fault.
+    fn keep_or_tell(&mut self, statement: Statement, judged: Judged) -> Result<(), Fault>
+        ensures { (d : Declared) (names settled : List (List ℕ)) (old : Walk) (before : List LaidLine) → walking.IsWalking d names settled before old → walking.IsJudged d names settled (laid_behind d statement before) before old self.old judged → walking.Steps d names settled (laid_behind d statement before) before self.new result }
+    {
+        let Judged { laid, found } = judged;
+        let Laid { number, placed, .. } = laid;
+        match (placed, found) {
+            (Err(kind), None) => Err(told(statement, kind)),
+            (Err(kind), Some(other)) => Err(told(statement, earlier(kind, other))),
+            (Ok(_), Some(kind)) => Err(told(statement, kind)),
+            (Ok(placed), None) => {
+                self.keep(statement, number, placed)?;
+                Ok(())
+            }
+        }
+    }
+
+    /// Lays a line more; or tells its fault, behind which nothing more can be laid.
+    fn step(&mut self, outline: &Outline, statement: Statement) -> Result<(), Fault>
+        requires may { laying.MayLay (declared_in outline.now.declarations) self.old.laying }
+        requires said { IsSaid statement }
+        ensures { (names settled : List (List ℕ)) (before : List LaidLine) → walking.IsWalking (declared_in outline.now.declarations) names settled before self.old → walking.IsMarked settled outline.now.settled.items statement before → walking.Steps (declared_in outline.now.declarations) names settled (laid_behind (declared_in outline.now.declarations) statement before) before self.new result }
+    {
+        let judged = self.judge(outline, &statement)?;
+        self.keep_or_tell(statement, judged)
+    }
+}
+
+/// Lays the lines of a source, up to the first with a fault that is told at it.
+pub fn walked(alloc: Global, outline: &Outline, statements: Vec<Statement>) -> Result<Walk, Fault>
+    requires outline { IsOutline (reversed statements.items []) outline.now }
+    requires few { length statements.items < most_statements + 1 }
+    requires said { AllSaid statements.items }
+    ensures { walking.IsWalked (reversed statements.items []) result }
+{
+    let mut walk = Walk::new(alloc, statements.as_slice())?;
+    'statements: for statement in statements {
+        walk.step(outline, statement)?;
+    }
+    Ok(walk)
+}
