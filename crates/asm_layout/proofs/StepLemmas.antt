@@ -1,0 +1,215 @@
+-- A line more.
+use Rattle.std.proofs.Common.{◌≡◌, ◌≢◌, ◌≤◌, ◌<◌, ℕ, ◌+◌, ◌&&◌, ◌||◌, Bool, true, false, cond, List, [], ◌∷◌, ◌++◌, length, map, Option, Some, None, Result, Ok, Err, refl, sym, ap, ◌∙◌, subst, arith, codes}
+use Rattle.std.specs.Prelude.{nat_lt, nat_le, ◌==◌, not, is_some}
+use Rattle.std.specs.List.{list_any, slice_get}
+use Rattle.sdt_fault.specs.declared.kinds.LineKind.{LineKind}
+use Rattle.sdt_fault.specs.declared.kinds.LineKind.TheVariants.{BadOperand}
+use Rattle.asm_areas.specs.Starts.{IsSmall, IsAligned}
+use Rattle.asm_checks.specs.Areas.{IsExponent}
+use Rattle.asm_checks.specs.Checked.{checked_kinds, IsSettled}
+use Rattle.asm_laying.specs.Reading.{said_number}
+use Rattle.asm_registers.specs.Giving.{IsGiven}
+use Rattle.asm_model.specs.declared.directives.AreaAttributes.{AreaAttributes}
+use Rattle.asm_model.specs.declared.directives.DirectiveLine.{DirectiveLine}
+use Rattle.asm_model.specs.declared.directives.DirectiveLine.TheVariants as line
+use Rattle.asm_model.specs.declared.directives.RnOperand.TheVariants as rn
+use Rattle.asm_model.specs.declared.names.LaidName.{LaidName}
+use Rattle.asm_model.specs.declared.statements.Statement.{Statement}
+use Rattle.asm_model.specs.declared.statements.What.{What}
+use Rattle.asm_model.specs.declared.statements.What.TheVariants as what
+use Rattle.asm_model.specs.AtLine.{Sight, is_in}
+use Rattle.asm_model.specs.FaultSets.{first_told}
+use Rattle.asm_model.specs.Forms.{same}
+use Rattle.asm_model.specs.Kinds.{told_kind}
+use Rattle.asm_model.specs.Meaning.{named_in}
+use Rattle.asm_model.proofs.FaultLemmas.{told_by_parts}
+use Rattle.layout_laws.specs.Sound.{IsBare}
+use Rattle.layout_model.specs.Labels.{Defined, Unnamed, LocalLabel, Label, Equal, MapField, RegisterName, defined_by}
+use Rattle.layout_model.specs.Laid.{Declared, LaidLine, laid_behind, sight_behind, line_behind, definition_behind, statements_of, locals_of, offset_behind}
+use Rattle.layout_model.specs.Before.{area_behind, stretch_behind}
+use Rattle.layout_model.specs.LayoutKinds.{exponent, exponent_kinds, kind_if, area_kinds, no_area_kinds, contents_kinds, contents_behind, name_kinds, settled_kinds, is_named_otherwise}
+use Rattle.layout_model.specs.Locals.{Local, local_entries, digits_of, reference, references_to, is_new, back_of, forth_of}
+use Rattle.asm_layout.specs.Walking.{IsMark, HasMark, IsMarked, or_false}
+use Rattle.asm_layout.proofs.ToldLemmas.{none_first, none_second}
+
+-- ---- the number that checks ask for
+
+record AreNumbers (w : What) (l : LaidLine) (x : Result ℕ LineKind) : Type 0 where
+  pub exponent_is : IsExponent l.seen w x
+  pub given_is : IsGiven l.seen w x
+
+directive_numbers : (d : DirectiveLine) (l : LaidLine) (x : Result ℕ LineKind) → x ≡ said_number l.seen (what.Directive d) → AreNumbers (what.Directive d) l x
+directive_numbers (line.Area name a) l x e = record { exponent_is = e; given_is = tt }
+directive_numbers (line.Rn (rn.Register n)) l x e = record { exponent_is = tt; given_is = tt }
+directive_numbers (line.Rn (rn.Number n)) l x e = record { exponent_is = tt; given_is = e }
+directive_numbers line.Entry l x e = record { exponent_is = tt; given_is = tt }
+directive_numbers line.End l x e = record { exponent_is = tt; given_is = tt }
+directive_numbers (line.Export name) l x e = record { exponent_is = tt; given_is = tt }
+directive_numbers (line.Import name weak) l x e = record { exponent_is = tt; given_is = tt }
+directive_numbers (line.Extern name weak) l x e = record { exponent_is = tt; given_is = tt }
+directive_numbers (line.Keep name) l x e = record { exponent_is = tt; given_is = tt }
+directive_numbers (line.Equ v) l x e = record { exponent_is = tt; given_is = tt }
+directive_numbers line.Rout l x e = record { exponent_is = tt; given_is = tt }
+directive_numbers (line.Assert v) l x e = record { exponent_is = tt; given_is = tt }
+directive_numbers line.Nofp l x e = record { exponent_is = tt; given_is = tt }
+directive_numbers (line.Opt v) l x e = record { exponent_is = tt; given_is = tt }
+directive_numbers line.Ttl l x e = record { exponent_is = tt; given_is = tt }
+directive_numbers line.Subt l x e = record { exponent_is = tt; given_is = tt }
+directive_numbers (line.Dcd v) l x e = record { exponent_is = tt; given_is = tt }
+directive_numbers (line.Dcdu v) l x e = record { exponent_is = tt; given_is = tt }
+directive_numbers (line.Dcw v) l x e = record { exponent_is = tt; given_is = tt }
+directive_numbers (line.Dcb v) l x e = record { exponent_is = tt; given_is = tt }
+directive_numbers (line.Space v) l x e = record { exponent_is = tt; given_is = tt }
+directive_numbers (line.Align b) l x e = record { exponent_is = tt; given_is = tt }
+directive_numbers line.Ltorg l x e = record { exponent_is = tt; given_is = tt }
+directive_numbers line.Data l x e = record { exponent_is = tt; given_is = tt }
+directive_numbers (line.Map v) l x e = record { exponent_is = tt; given_is = tt }
+directive_numbers (line.Field v) l x e = record { exponent_is = tt; given_is = tt }
+directive_numbers line.Code16 l x e = record { exponent_is = tt; given_is = tt }
+directive_numbers line.Code32 l x e = record { exponent_is = tt; given_is = tt }
+
+pub numbers : (w : What) (l : LaidLine) (x : Result ℕ LineKind) → x ≡ said_number l.seen w → AreNumbers w l x
+numbers what.Nothing l x e = record { exponent_is = tt; given_is = tt }
+numbers (what.Arm a) l x e = record { exponent_is = tt; given_is = tt }
+numbers (what.Thumb a) l x e = record { exponent_is = tt; given_is = tt }
+numbers (what.Pseudo a) l x e = record { exponent_is = tt; given_is = tt }
+numbers (what.Directive d) l x e = directive_numbers d l x e
+
+-- ---- an exponent that is no fault
+
+exponent_small : (x : Result ℕ LineKind) → told_kind (exponent_kinds x) ≡ None → IsSmall x
+exponent_small (Err k) e = absurd (cc)
+exponent_small (Ok n) e = by_test (nat_lt n 2 || nat_lt 16 n) refl e
+  where
+    by_test : (b : Bool) → (nat_lt n 2 || nat_lt 16 n) ≡ b → told_kind (kind_if b BadOperand) ≡ None → n ≤ 16
+    by_test true t e = absurd (cc)
+    by_test false t e = grind arith
+
+-- nothing is told of an AREA's attributes
+area_part : (w : What) (settled : List (List ℕ)) (l : LaidLine) (before : List LaidLine) → l.statement.what ≡ w → told_kind (checked_kinds settled l before) ≡ None
+    → told_kind (area_kinds l.seen w before) ≡ None
+area_part w settled l before is none =
+    let here = no_area_kinds l.area (defined_by l.statement) l.statement.what ++ contents_kinds (contents_behind (l.statement ∷ statements_of before)) l.thumb l.statement.what in
+    let names = name_kinds l.statement (statements_of before) in
+    let last = settled_kinds settled (defined_by l.statement) in
+    let a = none_first (told_kind (here ++ area_kinds l.seen l.statement.what before ++ names)) (told_kind last) (sym none ∙ told_by_parts (here ++ area_kinds l.seen l.statement.what before ++ names) last) in
+    let b = none_first (told_kind (here ++ area_kinds l.seen l.statement.what before)) (told_kind names) (sym a ∙ told_by_parts (here ++ area_kinds l.seen l.statement.what before) names) in
+    let c = none_second (told_kind here) (told_kind (area_kinds l.seen l.statement.what before)) (sym b ∙ told_by_parts here (area_kinds l.seen l.statement.what before)) in
+    subst (λ (v : What). told_kind (area_kinds l.seen v before) ≡ None) is c
+
+directive_aligned : (d : DirectiveLine) (l : LaidLine) (before : List LaidLine) (settled : List (List ℕ)) (x : Result ℕ LineKind) → l.statement.what ≡ what.Directive d
+    → IsExponent l.seen (what.Directive d) x → told_kind (checked_kinds settled l before) ≡ None → IsAligned (what.Directive d) x l
+directive_aligned (line.Area name a) l before settled x w e none =
+    let parts = area_part (what.Directive (line.Area name a)) settled l before w none in
+    (e, exponent_small x (subst (λ (y : Result ℕ LineKind). told_kind (exponent_kinds y) ≡ None) (sym e)
+    (none_first (told_kind (exponent_kinds (exponent l.seen a.align))) (told_kind (kind_if (is_named_otherwise name l.seen a before) BadOperand))
+    (sym parts ∙ told_by_parts (exponent_kinds (exponent l.seen a.align)) (kind_if (is_named_otherwise name l.seen a before) BadOperand)))))
+directive_aligned (line.Rn r) l before settled x w e none = tt
+directive_aligned line.Entry l before settled x w e none = tt
+directive_aligned line.End l before settled x w e none = tt
+directive_aligned (line.Export name) l before settled x w e none = tt
+directive_aligned (line.Import name weak) l before settled x w e none = tt
+directive_aligned (line.Extern name weak) l before settled x w e none = tt
+directive_aligned (line.Keep name) l before settled x w e none = tt
+directive_aligned (line.Equ v) l before settled x w e none = tt
+directive_aligned line.Rout l before settled x w e none = tt
+directive_aligned (line.Assert v) l before settled x w e none = tt
+directive_aligned line.Nofp l before settled x w e none = tt
+directive_aligned (line.Opt v) l before settled x w e none = tt
+directive_aligned line.Ttl l before settled x w e none = tt
+directive_aligned line.Subt l before settled x w e none = tt
+directive_aligned (line.Dcd v) l before settled x w e none = tt
+directive_aligned (line.Dcdu v) l before settled x w e none = tt
+directive_aligned (line.Dcw v) l before settled x w e none = tt
+directive_aligned (line.Dcb v) l before settled x w e none = tt
+directive_aligned (line.Space v) l before settled x w e none = tt
+directive_aligned (line.Align b) l before settled x w e none = tt
+directive_aligned line.Ltorg l before settled x w e none = tt
+directive_aligned line.Data l before settled x w e none = tt
+directive_aligned (line.Map v) l before settled x w e none = tt
+directive_aligned (line.Field v) l before settled x w e none = tt
+directive_aligned line.Code16 l before settled x w e none = tt
+directive_aligned line.Code32 l before settled x w e none = tt
+
+pub aligned : (v : What) (l : LaidLine) (before : List LaidLine) (settled : List (List ℕ)) (x : Result ℕ LineKind) → l.statement.what ≡ v
+    → IsExponent l.seen v x → told_kind (checked_kinds settled l before) ≡ None → IsAligned v x l
+aligned what.Nothing l before settled x w e none = tt
+aligned (what.Arm a) l before settled x w e none = tt
+aligned (what.Thumb a) l before settled x w e none = tt
+aligned (what.Pseudo a) l before settled x w e none = tt
+aligned (what.Directive d) l before settled x w e none = directive_aligned d l before settled x w e none
+
+-- ---- the names of a source, but for references
+
+no_reference : (q t : List ℕ) → IsBare q → same (124 ∷ t) q ≡ false
+no_reference [] t h = refl
+no_reference (c ∷ cs) t h = by_test (124 == c) refl
+  where
+    by_test : (b : Bool) → (124 == c) ≡ b → (b && same t cs) ≡ false
+    by_test true e = let s : c ≡ 124 = grind arith in absurd (h s)
+    by_test false e = refl
+
+absent_joined : (q : List ℕ) (xs ys : List LaidName) → named_in q xs ≡ None → named_in q ys ≡ None → named_in q (xs ++ ys) ≡ None
+absent_joined q [] ys h k = k
+absent_joined q (x ∷ xs) ys h k = by_test (same x.name q) h
+  where
+    by_test : (b : Bool) → cond b (Some x) (named_in q xs) ≡ None → cond b (Some x) (named_in q (xs ++ ys)) ≡ None
+    by_test true e = absurd (cc)
+    by_test false e = absent_joined q xs ys e k
+
+present_joined : (q : List ℕ) (xs ys : List LaidName) → named_in q ys ≡ None → named_in q (xs ++ ys) ≡ named_in q xs
+present_joined q [] ys h = h
+present_joined q (x ∷ xs) ys h = ap (λ o. cond (same x.name q) (Some x) o) (present_joined q xs ys h)
+
+spelled : (q : List ℕ) → IsBare q → (area : Option ℕ) (l : Local) (mark : List ℕ) (texts : List (List ℕ))
+    → named_in q (map (λ digits. reference area l (mark ++ digits)) texts) ≡ None
+spelled q bare area l mark [] = refl
+spelled q bare area l mark (t ∷ ts) = rw (no_reference q (mark ++ t) bare) (spelled q bare area l mark ts)
+
+referred : (q : List ℕ) → IsBare q → (area : Option ℕ) (l : Local) (marks : List (List ℕ)) → named_in q (references_to area l marks) ≡ None
+referred q bare area l [] = refl
+referred q bare area l (mark ∷ marks) =
+    absent_joined q (map (λ digits. reference area l (mark ++ digits)) (digits_of l.number)) (references_to area l marks)
+    (spelled q bare area l mark (digits_of l.number)) (referred q bare area l marks)
+
+either : (q : List ℕ) (b : Bool) (xs ys zs : List LaidName) → named_in q xs ≡ None → named_in q ys ≡ None → named_in q zs ≡ None → named_in q (cond b (xs ++ ys) zs) ≡ None
+either q true xs ys zs h k m = absent_joined q xs ys h k
+either q false xs ys zs h k m = m
+
+no_back : (q : List ℕ) → IsBare q → (area : Option ℕ) (stretch statement : ℕ) (nearer : List ℕ) (ls : List Local) → named_in q (back_of area stretch statement nearer ls) ≡ None
+no_back q bare area stretch statement nearer [] = refl
+no_back q bare area stretch statement nearer (l ∷ ls) =
+    either q (l.stretch == stretch && nat_le l.statement statement && is_new l.number nearer) (references_to area l (codes "%B" ∷ codes "%" ∷ []))
+    (back_of area stretch statement (l.number ∷ nearer) ls) (back_of area stretch statement nearer ls)
+    (referred q bare area l (codes "%B" ∷ codes "%" ∷ [])) (no_back q bare area stretch statement (l.number ∷ nearer) ls)
+    (no_back q bare area stretch statement nearer ls)
+
+no_forth : (q : List ℕ) → IsBare q → (area : Option ℕ) (stretch statement : ℕ) (nearer : List ℕ) (ls : List Local) → named_in q (forth_of area stretch statement nearer ls) ≡ None
+no_forth q bare area stretch statement nearer [] = refl
+no_forth q bare area stretch statement nearer (l ∷ ls) =
+    either q (l.stretch == stretch && nat_lt statement l.statement && is_new l.number nearer) (references_to area l (codes "%F" ∷ codes "%" ∷ []))
+    (forth_of area stretch statement (l.number ∷ nearer) ls) (forth_of area stretch statement nearer ls)
+    (referred q bare area l (codes "%F" ∷ codes "%" ∷ [])) (no_forth q bare area stretch statement (l.number ∷ nearer) ls)
+    (no_forth q bare area stretch statement nearer ls)
+
+pub seen_names : (d : Declared) (s : Statement) (before : List LaidLine) (q : List ℕ) → IsBare q → is_in (laid_behind d s before).seen.all q ≡ is_in d.names q
+seen_names d s before q bare =
+    ap is_some
+    (present_joined q (d.names ++ back) forth (no_forth q bare (area_behind (s ∷ statements_of before)) (stretch_behind (s ∷ statements_of before)) (length before) [] d.locals)
+    ∙ present_joined q d.names back (no_back q bare (area_behind (s ∷ statements_of before)) (stretch_behind (s ∷ statements_of before)) (length before) []
+    (local_entries (defined_by s) (stretch_behind (s ∷ statements_of before)) (length before) (offset_behind s before) ++ locals_of before)))
+  where
+    back : List LaidName
+    back = (line_behind d s before (definition_behind d s before 0)).back
+    forth : List LaidName
+    forth = (line_behind d s before (definition_behind d s before 0)).forth
+
+-- ---- the mark of a name for an expression
+
+pub mark_is : (settled : List (List ℕ)) (marks : List Bool) (n : ℕ) (x : Defined) (b : Bool) → IsMark marks n x b → HasMark settled marks n x → IsSettled settled x b
+mark_is settled marks n (Equal name e) b h k = h ∙ ap or_false k
+mark_is settled marks n Unnamed b h k = tt
+mark_is settled marks n (LocalLabel m) b h k = tt
+mark_is settled marks n (Label name) b h k = tt
+mark_is settled marks n (MapField name) b h k = tt
+mark_is settled marks n (RegisterName name r) b h k = tt

@@ -1,0 +1,118 @@
+-- The kind that is told of a line, by the parts that are found one after the other.
+use Rattle.std.proofs.Common.{◌≡◌, ◌<◌, ℕ, Bool, true, false, List, [], ◌∷◌, ◌++◌, Option, Some, None, Result, Ok, Err, refl, sym, ap, ◌∙◌, arith}
+use Rattle.std.specs.Prelude.{nat_lt, ◌||◌}
+use Rattle.sdt_fault.specs.declared.kinds.LineKind.{LineKind}
+use Rattle.sdt_fault.specs.declared.kinds.LineKind.TheVariants.{Syntax, UnknownWord, FloatingPoint, BadOperand, Constant, Forward, DuplicateName, WrongType, OutOfRange, Nesting, Assert, NoArea, DivideByZero, TooDeep, TooMany}
+use Rattle.asm_checks.specs.Checked.{checked_kinds}
+use Rattle.asm_laying.specs.Laying.{told_of}
+use Rattle.asm_model.specs.FaultSets.{first_told}
+use Rattle.asm_model.specs.Kinds.{rank, earlier, told_kind}
+use Rattle.asm_model.proofs.FaultLemmas.{takes, stays, first_assoc, told_by_parts}
+use Rattle.layout_model.specs.Labels.{defined_by}
+use Rattle.layout_model.specs.Laid.{LaidLine, statements_of}
+use Rattle.layout_model.specs.LayoutKinds.{fault_kinds, map_kinds, no_area_kinds, contents_kinds, contents_behind, area_kinds, name_kinds, settled_kinds, kind_if, area_bytes, layout_kinds}
+use Rattle.source_model.specs.Registers.{register_kinds}
+use Rattle.asm_layout.specs.Walking.{told_by}
+
+-- ---- the order of two kinds doesn't count
+
+ranked : ℕ → LineKind
+ranked 0 = Syntax
+ranked 1 = UnknownWord
+ranked 2 = FloatingPoint
+ranked 3 = BadOperand
+ranked 4 = Constant
+ranked 5 = Forward
+ranked 6 = DuplicateName
+ranked 7 = WrongType
+ranked 8 = OutOfRange
+ranked 9 = Nesting
+ranked 10 = Assert
+ranked 11 = NoArea
+ranked 12 = DivideByZero
+ranked 13 = TooDeep
+ranked n = TooMany
+
+ranked_back : (k : LineKind) → ranked (rank k) ≡ k
+ranked_back Syntax = refl
+ranked_back UnknownWord = refl
+ranked_back FloatingPoint = refl
+ranked_back BadOperand = refl
+ranked_back Constant = refl
+ranked_back Forward = refl
+ranked_back DuplicateName = refl
+ranked_back WrongType = refl
+ranked_back OutOfRange = refl
+ranked_back Nesting = refl
+ranked_back Assert = refl
+ranked_back NoArea = refl
+ranked_back DivideByZero = refl
+ranked_back TooDeep = refl
+ranked_back TooMany = refl
+
+same_rank : (a b : LineKind) → rank a ≡ rank b → a ≡ b
+same_rank a b e = sym (ranked_back a) ∙ ap ranked e ∙ ranked_back b
+
+earlier_swaps : (a b : LineKind) → earlier a b ≡ earlier b a
+earlier_swaps a b = by_tests (nat_lt (rank b) (rank a)) (nat_lt (rank a) (rank b)) refl refl
+  where
+    by_tests : (p q : Bool) → nat_lt (rank b) (rank a) ≡ p → nat_lt (rank a) (rank b) ≡ q → earlier a b ≡ earlier b a
+    by_tests true true p q = absurd (grind arith)
+    by_tests true false p q = takes a b p ∙ sym (stays b a q)
+    by_tests false true p q = stays a b p ∙ sym (takes b a q)
+    by_tests false false p q = let e : rank a ≡ rank b = grind arith in stays a b p ∙ same_rank a b e ∙ sym (stays b a q)
+
+first_swaps : (a b : Option LineKind) → first_told a b ≡ first_told b a
+first_swaps None None = refl
+first_swaps None (Some k) = refl
+first_swaps (Some k) None = refl
+first_swaps (Some k) (Some j) = ap Some (earlier_swaps k j)
+
+-- ---- the parts of a line
+
+-- what laying finds, with what is found of its end
+split_kinds : (es ms cs ts rs : List LineKind)
+    → told_kind ((es ++ ms ++ cs ++ ts) ++ rs) ≡ first_told (told_kind (es ++ ms ++ ts)) (first_told (told_kind cs) (told_kind rs))
+split_kinds es ms cs ts rs =
+    told_by_parts (es ++ ms ++ cs ++ ts) rs
+    ∙ ap (λ o. first_told o (told_kind rs)) (told_by_parts (es ++ ms ++ cs) ts ∙ ap (λ o. first_told o (told_kind ts)) (told_by_parts (es ++ ms) cs)
+    ∙ sym (first_assoc (told_kind (es ++ ms)) (told_kind cs) (told_kind ts))
+    ∙ ap (first_told (told_kind (es ++ ms))) (first_swaps (told_kind cs) (told_kind ts))
+    ∙ first_assoc (told_kind (es ++ ms)) (told_kind ts) (told_kind cs)
+    ∙ ap (λ o. first_told o (told_kind cs)) (sym (told_by_parts (es ++ ms) ts)))
+    ∙ sym (first_assoc (told_kind (es ++ ms ++ ts)) (told_kind cs) (told_kind rs))
+
+append_assoc : (xs ys zs : List LineKind) → (xs ++ ys) ++ zs ≡ xs ++ (ys ++ zs)
+append_assoc [] ys zs = refl
+append_assoc (x ∷ xs) ys zs = ap (λ l. x ∷ l) (append_assoc xs ys zs)
+
+joined_kinds : (es ms as bs cs ds fs ts rs : List LineKind)
+    → told_kind ((es ++ ms ++ as ++ bs ++ cs ++ ds ++ fs ++ ts) ++ rs)
+    ≡ first_told (told_kind (es ++ ms ++ ts)) (first_told (told_kind (as ++ bs ++ cs ++ ds ++ fs)) (told_kind rs))
+joined_kinds es ms as bs cs ds fs ts rs =
+    ap (λ l. told_kind ((l ++ ts) ++ rs)) (grouped (es ++ ms)) ∙ split_kinds es ms (as ++ bs ++ cs ++ ds ++ fs) ts rs
+  where
+    grouped : (ks : List LineKind) → ks ++ as ++ bs ++ cs ++ ds ++ fs ≡ ks ++ (as ++ bs ++ cs ++ ds ++ fs)
+    grouped ks =
+        append_assoc (ks ++ as ++ bs ++ cs) ds fs ∙ append_assoc (ks ++ as ++ bs) cs (ds ++ fs) ∙ append_assoc (ks ++ as) bs (cs ++ (ds ++ fs))
+        ∙ append_assoc ks as (bs ++ (cs ++ (ds ++ fs)))
+        ∙ ap (λ l. ks ++ l) (sym (append_assoc (as ++ bs ++ cs) ds fs ∙ append_assoc (as ++ bs) cs (ds ++ fs) ∙ append_assoc as bs (cs ++ (ds ++ fs))))
+
+pub told_parts : (names settled : List (List ℕ)) (l : LaidLine) (before : List LaidLine)
+    → told_by names settled l before ≡ first_told (told_of l) (first_told (told_kind (checked_kinds settled l before)) (told_kind (register_kinds names l before)))
+told_parts names settled l before =
+    joined_kinds (fault_kinds l.extent) (map_kinds l.seen l.statement.what) (no_area_kinds l.area (defined_by l.statement) l.statement.what)
+    (contents_kinds (contents_behind (l.statement ∷ statements_of before)) l.thumb l.statement.what) (area_kinds l.seen l.statement.what before)
+    (name_kinds l.statement (statements_of before)) (settled_kinds settled (defined_by l.statement)) (kind_if (nat_lt area_bytes (l.offset + l.size)) TooMany)
+    (register_kinds names l before)
+
+-- where nothing is told of two, nothing is told of each
+pub none_first : (a b : Option LineKind) → None ≡ first_told a b → a ≡ None
+none_first None b e = refl
+none_first (Some k) None e = absurd (cc)
+none_first (Some k) (Some j) e = absurd (cc)
+
+pub none_second : (a b : Option LineKind) → None ≡ first_told a b → b ≡ None
+none_second a None e = refl
+none_second None (Some j) e = absurd (cc)
+none_second (Some k) (Some j) e = absurd (cc)
