@@ -1,0 +1,3 @@
+mod AlikeLemmas
+mod ContextLemmas
+mod RotationLemmas
