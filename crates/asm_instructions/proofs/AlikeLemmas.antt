@@ -1,14 +1,12 @@
 -- Contexts that find the same say the same instructions.
-use Rattle.std.proofs.Common.{◌≡◌, ℕ, zero, suc, ◌+◌, ◌-◌, ◌*◌, ◌%◌, ◌^◌, ◌==◌, ◌&&◌, ◌||◌, List, [], ◌∷◌, Bool, true, false, cond, Option, Some, None, refl, sym, ap, ◌∙◌}
+use Rattle.std.proofs.Common.{◌≡◌, ℕ, zero, suc, ◌+◌, ◌-◌, ◌*◌, ◌%◌, ◌^◌, ◌&&◌, ◌||◌, List, [], ◌∷◌, cond, Option, Some, None, refl, ap, ◌∙◌}
 use Rattle.std.specs.Prelude.{Result, Ok, Err}
 use Rattle.std.specs.List.{list_any}
 use Rattle.sdt_word.specs.Numbers.{flag}
 use Rattle.sdt_fault.specs.declared.kinds.LineKind.{LineKind}
-use Rattle.arm_isa.specs.declared.instr.ArmInstr.{ArmInstr}
+use Rattle.sdt_fault.specs.declared.kinds.LineKind.TheVariants.{BadOperand}
 use Rattle.asm_model.specs.declared.exprs.Expr.{Expr}
-use Rattle.asm_model.specs.declared.operands.Address.{Address}
 use Rattle.asm_model.specs.declared.operands.Address.TheVariants as address
-use Rattle.asm_model.specs.declared.operands.HalfOffset.{HalfOffset}
 use Rattle.asm_model.specs.declared.operands.HalfOffset.TheVariants as half
 use Rattle.asm_model.specs.declared.operands.ListItem.{ListItem}
 use Rattle.asm_model.specs.declared.operands.ListItem.TheVariants as item
@@ -20,11 +18,12 @@ use Rattle.asm_model.specs.declared.statements.PseudoLine.{PseudoLine}
 use Rattle.asm_model.specs.declared.statements.PseudoLine.TheVariants as pseudo
 use Rattle.asm_model.specs.declared.values.Value.{Value}
 use Rattle.asm_model.specs.declared.values.Value.TheVariants.{Number, Truth, Words, Place}
+use Rattle.asm_model.specs.Forms.{same}
 use Rattle.asm_model.specs.Meaning.{named_in, in_area, entry_stands_at, stands_at}
 use Rattle.layout_model.specs.Entries.{thumb_of}
 use Rattle.layout_model.specs.Extents.{as_number}
 use Rattle.layout_model.specs.Symbols.{is_in_area, same_state}
-use Rattle.source_model.specs.Contexts.{Context, sees, value_of, number_in, register, in_own_area, own_offset, from_pc}
+use Rattle.source_model.specs.Contexts.{Context, sees, value_of, number_in, in_own_area, own_offset, from_pc}
 use Rattle.source_model.specs.ArmForms.{shift_fields, is_listed_by, list_bits, is_settled, branch_from, has_symbol, branch_displacement, arm_instruction, offset_at}
 use Rattle.source_model.specs.PseudoForms.{pseudo_instructions}
 use Rattle.source_model.specs.Units.{linked_symbol, branch_symbol}
@@ -57,18 +56,29 @@ module _ (a b : Context) (s : Alike a b) where
   shift_alike shift.Extended = refl
 
   settled_alike : (q : List ℕ) → is_settled a q ≡ is_settled b q
-  settled_alike q = rw (s.area, s.thumb, stands_alike q, s.entry q) refl
+  settled_alike q =
+      ap (λ t. is_in_area t (stands_at (sees a) q) && same_state a.line.thumb (thumb_of (named_in q (sees a).list))) s.area
+      ∙ ap (λ t. is_in_area b.line.area t && same_state a.line.thumb (thumb_of (named_in q (sees a).list))) (stands_alike q)
+      ∙ ap (λ t. is_in_area b.line.area (stands_at (sees b) q) && same_state t (thumb_of (named_in q (sees a).list))) s.thumb
+      ∙ ap (λ t. is_in_area b.line.area (stands_at (sees b) q) && same_state b.line.thumb (thumb_of t)) (s.entry q)
 
   from_alike : (q : List ℕ) (n : ℕ) → branch_from a q n ≡ branch_from b q n
   from_alike [] n = pc_alike n
-  from_alike (x ∷ xs) n = rw (settled_alike (x ∷ xs), stands_alike (x ∷ xs), s.offset) refl
+  from_alike (x ∷ xs) n =
+      ap (λ t. from_pc a (cond t (offset_at (stands_at (sees a) (x ∷ xs)) + n) n)) (settled_alike (x ∷ xs))
+      ∙ ap (λ t. from_pc a (cond (is_settled b (x ∷ xs)) (offset_at t + n) n)) (stands_alike (x ∷ xs))
+      ∙ pc_alike (cond (is_settled b (x ∷ xs)) (offset_at (stands_at (sees b) (x ∷ xs)) + n) n)
 
   symbol_alike : (q : List ℕ) → has_symbol a q ≡ has_symbol b q
   symbol_alike [] = refl
-  symbol_alike (x ∷ xs) = rw (settled_alike (x ∷ xs), s.symbol (x ∷ xs)) refl
+  symbol_alike (x ∷ xs) =
+      ap (λ t. t || list_any (same (x ∷ xs)) a.symbols) (settled_alike (x ∷ xs))
+      ∙ ap (λ t. is_settled b (x ∷ xs) || t) (s.symbol (x ∷ xs))
 
   displacement_alike : (v : Result Value LineKind) → branch_displacement a v ≡ branch_displacement b v
-  displacement_alike (Ok (Place q n)) = rw (symbol_alike q, from_alike q n) refl
+  displacement_alike (Ok (Place q n)) =
+      ap (λ t. cond t (Ok (branch_from a q n)) (Err BadOperand)) (symbol_alike q)
+      ∙ ap (λ t. cond (has_symbol b q) (Ok t) (Err BadOperand)) (from_alike q n)
   displacement_alike (Ok (Number n)) = refl
   displacement_alike (Ok (Truth t)) = refl
   displacement_alike (Ok (Words w)) = refl

@@ -3,7 +3,7 @@ use Rattle.std.proofs.Common.{◌≡◌, ℕ, Bool, true, false, cond, List, [],
 use Rattle.std.specs.Prelude.{Result, Ok, Err, IfOk}
 use Rattle.std.specs.List.{list_any}
 use Rattle.std.specs.Str.{bytes_eq}
-use Rattle.std.specs.Ordering.{nat_cmp, is_eq}
+use Rattle.std.specs.Ordering.{nat_cmp}
 use Rattle.std.specs.Cmp.Lexicographic.{slice_cmp}
 use Rattle.std.specs.BTreeMap.{BTreeMap, is_at}
 use Rattle.std.specs.BTreeSet.{BTreeSet}
@@ -11,9 +11,7 @@ use Rattle.std.specs.Map.{lookup}
 use Rattle.std.proofs.lemmas.Bool.{false_from_ne_true}
 use Rattle.std.proofs.lemmas.Map.Text.{is_eq-slice_cmp}
 use Rattle.std.proofs.lemmas.Slice.Eq.{bytes_eq-Decides}
-use Rattle.sdt_fault.specs.declared.kinds.LineKind.{LineKind}
 use Rattle.asm_model.specs.declared.exprs.Expr.{Expr}
-use Rattle.asm_model.specs.declared.exprs.Part.{Part}
 use Rattle.asm_model.specs.declared.operands.Register.{Register}
 use Rattle.asm_model.specs.declared.operands.Register.TheVariants as reg
 use Rattle.asm_model.specs.declared.values.Value.{Value}
@@ -22,10 +20,9 @@ use Rattle.asm_model.specs.declared.names.LaidName.{LaidName}
 use Rattle.asm_model.specs.AtLine.{SourceLine, with_names, all_names}
 use Rattle.asm_model.specs.Directives.{or_else}
 use Rattle.asm_model.specs.Forms.{same}
-use Rattle.asm_model.specs.Grammar.{Tree, postfix}
-use Rattle.asm_model.specs.Meaning.{named_in, meaning, IsValue, Evaluates}
+use Rattle.asm_model.specs.Grammar.{Tree}
+use Rattle.asm_model.specs.Meaning.{named_in, IsValue, Evaluates}
 use Rattle.asm_model.proofs.WordLemmas.{same_refl, same_true}
-use Rattle.layout_model.specs.Laid.{final_value}
 use Rattle.layout_model.specs.Trees.{tree_of}
 use Rattle.layout_model.proofs.TreeLemmas.{trees_read_back}
 use Rattle.layout_laws.proofs.FoundLemmas.{tree_final, final_tree}

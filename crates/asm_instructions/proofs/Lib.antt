@@ -1,3 +1,4 @@
 mod AlikeLemmas
 mod ContextLemmas
+mod PlaceLemmas
 mod RotationLemmas

@@ -1,10 +1,10 @@
 -- The least rotation that code finds is the first of the sixteen.
-use Rattle.std.proofs.Common.{◌≡◌, ℕ, zero, suc, ◌+◌, ◌-◌, ◌*◌, ◌%◌, ◌^◌, ◌<◌, ◌≤◌, List, [], ◌∷◌, Bool, true, false, cond, Option, Some, None, refl, sym, ap, ◌∙◌, subst, arith, ◌⊎◌, inl, inr}
+use Rattle.std.proofs.Common.{◌≡◌, ℕ, zero, suc, ◌+◌, ◌^◌, ◌<◌, ◌≤◌, List, [], ◌∷◌, Bool, true, false, cond, Some, None, refl, sym, ap, ◌∙◌, subst, arith, ◌⊎◌, inl, inr}
 use Rattle.std.specs.Prelude.{nat_lt}
 use Rattle.std.proofs.lemmas.Bool.{ltb-true, lt-ltb}
-use Rattle.sdt_word.specs.Numbers.{rotated, operand, IsLeastRotation}
+use Rattle.sdt_word.specs.Numbers.{operand, IsLeastRotation}
 use Rattle.layout_model.proofs.ImmediateLemmas.{undone_0, undone_2, undone_4, undone_6, undone_8, undone_10, undone_12, undone_14, undone_16, undone_18, undone_20, undone_22, undone_24, undone_26, undone_28, undone_30}
-use Rattle.source_model.specs.Immediates.{rotations, turned_back, immediate_among, immediate}
+use Rattle.source_model.specs.Immediates.{turned_back, immediate_among, immediate}
 
 -- ---- what holds of each number from one on, for so many
 
@@ -21,7 +21,7 @@ meets_next k r h = by_test (nat_lt k r) refl
   where
     by_test : (b : Bool) → nat_lt k r ≡ b → (k ≡ r) ⊎ (suc k ≤ r)
     by_test true e = let x : k < r = ltb-true k r e in inr (omega arith)
-    by_test false e = inl (let no : k < r → ⊥ = (λ x. let y = lt-ltb k r x in cc) in omega (arith, no))
+    by_test false e = inl (let never : k < r → ⊥ = (λ x. let y = lt-ltb k r x in cc) in omega (arith, never))
 
 of_each : (P : ℕ → Type 0) (k n r : ℕ) → EachFrom P k n → k ≤ r → r < k + n → P r
 of_each P k zero r h low high = absurd (omega arith)
@@ -123,10 +123,10 @@ none_from n k (suc count) h =
     ∙ none_from n (suc k) count (λ s l. h s (omega arith))
 
 not_below : (n s : ℕ) → (nat_lt (turned_back n s) 256 ≡ true → ⊥) → nat_lt (turned_back n s) 256 ≡ false
-not_below n s no = by_test (nat_lt (turned_back n s) 256) refl
+not_below n s never = by_test (nat_lt (turned_back n s) 256) refl
   where
     by_test : (b : Bool) → nat_lt (turned_back n s) 256 ≡ b → nat_lt (turned_back n s) 256 ≡ false
-    by_test true e = absurd (no e)
+    by_test true e = absurd (never e)
     by_test false e = e
 
 pub least_rotation : (n r byte : ℕ) → n < 2 ^ 32 → IsLeastRotation n r byte → immediate n ≡ Some (r, byte)
@@ -135,9 +135,9 @@ least_rotation n r byte word h =
     let low : r < 16 = h.rotation in
     first_from n r byte 0 16 (omega arith) (omega arith)
     (λ s l.
-        not_below n s (λ t.
-            let there = h.least s (turned_back n s) (omega arith) (ltb-true (turned_back n s) 256 t) (undone s (omega arith) n word) in
-            omega arith))
+    not_below n s (λ t.
+    let there = h.least s (turned_back n s) (omega arith) (ltb-true (turned_back n s) 256 t) (undone s (omega arith) n word) in
+    omega arith))
     (ap (λ v. turned_back v r) (sym h.value) ∙ back r low byte h.is_byte)
     (lt-ltb byte 256 h.is_byte)
 
@@ -145,4 +145,4 @@ pub no_rotation : (n : ℕ) → n < 2 ^ 32 → ((r byte : ℕ) → r < 16 → by
 unfolding immediate
 no_rotation n word h =
     none_from n 0 16 (λ s l.
-        not_below n s (λ t. h s (turned_back n s) (omega arith) (ltb-true (turned_back n s) 256 t) (undone s (omega arith) n word)))
+    not_below n s (λ t. h s (turned_back n s) (omega arith) (ltb-true (turned_back n s) 256 t) (undone s (omega arith) n word)))

@@ -8,7 +8,6 @@ use Rattle.std.specs.BTreeSet.{BTreeSet, contains}
 use Rattle.asm_model.specs.declared.names.LaidName.{LaidName}
 use Rattle.asm_model.specs.AtLine.{Nameless, SourceLine}
 use Rattle.asm_model.specs.Forms.{same}
-use Rattle.asm_model.specs.Meaning.{stands_at, named_in}
 use Rattle.asm_final.specs.declared.lines.PlacedLine.{PlacedLine}
 use Rattle.asm_final.specs.Lines.{Sees}
 use Rattle.source_model.specs.Contexts.{Context}

@@ -1,7 +1,8 @@
 //! Loads and stores of several registers.
 
-ghost use Rattle.std.specs.Prelude.{◌≡◌, Ok};
+ghost use Rattle.std.specs.Prelude.{◌≡◌, ◌<◌, ◌*◌, ◌^◌, Ok};
 ghost use Rattle.std.specs.List.{list_any};
+ghost use Rattle.sdt_word.specs.Numbers.{flag};
 ghost use Rattle.asm_model.specs.declared.arm_lines.ArmLine.TheVariants as arm;
 ghost use Rattle.source_model.specs.ArmForms as forms;
 ghost use Rattle.asm_instructions.specs.Scenes.{context_of};
@@ -30,13 +31,24 @@ fn is_listed(scene: &Scene<'_>, number: u32, items: &[ListItem]) -> bool
     items.iter().any(|item| is_listed_by(scene, number, item))
 }
 
+/// The bit of a register, where it is listed.
+fn bit_of(number: u32, listed: bool) -> u32
+    requires { number < 16 }
+    ensures { result ≡ flag listed * 2 ^ number }
+{
+    if listed {
+        return 1 << number;
+    }
+    0
+}
+
 /// A bit for each register of a list.
 fn list_bits(scene: &Scene<'_>, items: &[ListItem]) -> u16
     ensures { result ≡ forms.list_bits (context_of scene.now) items.now 0 16 }
 {
     let mut bits = 0_u32;
     'registers: for number in 0..16_u32 {
-        bits += u32::from(is_listed(scene, number, items)) << number;
+        bits += bit_of(number, is_listed(scene, number, items));
     }
     bits as u16
 }

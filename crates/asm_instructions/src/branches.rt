@@ -124,10 +124,7 @@ fn place_displacement(scene: &Scene<'_>, symbol: &Text, plus: u32) -> Result<u32
     Err(LineKind::BadOperand)
 }
 
-fn branch_displacement(
-    scene: &Scene<'_>,
-    target: Result<Value, LineKind>,
-) -> Result<u32, LineKind>
+fn branch_displacement(scene: &Scene<'_>, target: Result<Value, LineKind>) -> Result<u32, LineKind>
     ensures { result ≡ forms.branch_displacement (context_of scene.now) target }
 {
     match target {

@@ -100,9 +100,7 @@ pub fn data_shifted(
     let to = register(scene, rd);
     let second = register(scene, rm);
     let fields = shift_fields(alloc, scene, shift)?;
-    Ok(data_with_shift(
-        condition, operation, set_flags, first, to, second, fields,
-    ))
+    Ok(data_with_shift(condition, operation, set_flags, first, to, second, fields))
 }
 
 pub fn data_register_shifted(

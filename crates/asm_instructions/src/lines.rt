@@ -58,54 +58,182 @@ fn instruction_there(
     ensures { IfOk result (λ i. i ≡ forms.arm_instruction (context_of scene.now) line.now) }
 {
     match line {
-        ArmLine::DataImmediate { condition, operation, set_flags, rd, rn, value } => {
-            data_number(alloc, scene, *condition, *operation, *set_flags, rd, rn, value)
+        ArmLine::DataImmediate {
+            condition,
+            operation,
+            set_flags,
+            rd,
+            rn,
+            value,
+        } => {
+            data_number(
+                alloc, scene, *condition, *operation, *set_flags, rd, rn, value,
+            )
         }
-        ArmLine::DataShifted { condition, operation, set_flags, rd, rn, rm, shift } => {
-            data_shifted(alloc, scene, *condition, *operation, *set_flags, rd, rn, rm, shift)
+        ArmLine::DataShifted {
+            condition,
+            operation,
+            set_flags,
+            rd,
+            rn,
+            rm,
+            shift,
+        } => {
+            data_shifted(
+                alloc, scene, *condition, *operation, *set_flags, rd, rn, rm, shift,
+            )
         }
-        ArmLine::DataRegisterShifted { condition, operation, set_flags, rd, rn, rm, shift, rs } => {
-            Ok(Ok(data_register_shifted(scene, *condition, *operation, *set_flags, rd, rn, rm, *shift, rs)))
+        ArmLine::DataRegisterShifted {
+            condition,
+            operation,
+            set_flags,
+            rd,
+            rn,
+            rm,
+            shift,
+            rs,
+        } => {
+            Ok(Ok(data_register_shifted(
+                scene, *condition, *operation, *set_flags, rd, rn, rm, *shift, rs,
+            )))
         }
-        ArmLine::Multiply { condition, accumulate, set_flags, rd, rm, rs, rn } => {
-            Ok(Ok(multiply(scene, *condition, *accumulate, *set_flags, rd, rm, rs, rn)))
+        ArmLine::Multiply {
+            condition,
+            accumulate,
+            set_flags,
+            rd,
+            rm,
+            rs,
+            rn,
+        } => { Ok(Ok(multiply(scene, *condition, *accumulate, *set_flags, rd, rm, rs, rn))) }
+        ArmLine::MultiplyLong {
+            condition,
+            signed,
+            accumulate,
+            set_flags,
+            low,
+            high,
+            rm,
+            rs,
+        } => {
+            Ok(Ok(multiply_long(
+                scene,
+                *condition,
+                *signed,
+                *accumulate,
+                *set_flags,
+                low,
+                high,
+                rm,
+                rs,
+            )))
         }
-        ArmLine::MultiplyLong { condition, signed, accumulate, set_flags, low, high, rm, rs } => {
-            Ok(Ok(multiply_long(scene, *condition, *signed, *accumulate, *set_flags, low, high, rm, rs)))
-        }
-        ArmLine::Swap { condition, byte, rd, rm, rn } => {
-            Ok(Ok(swap(scene, *condition, *byte, rd, rm, rn)))
-        }
+        ArmLine::Swap {
+            condition,
+            byte,
+            rd,
+            rm,
+            rn,
+        } => { Ok(Ok(swap(scene, *condition, *byte, rd, rm, rn))) }
         ArmLine::BranchExchange { condition, rm } => {
             let rm = register(scene, rm);
-            Ok(Ok(ArmInstr::BranchExchange { condition: *condition, rm }))
+            Ok(Ok(ArmInstr::BranchExchange {
+                condition: *condition,
+                rm,
+            }))
         }
-        ArmLine::ReadStatus { condition, saved, rd } => {
+        ArmLine::ReadStatus {
+            condition,
+            saved,
+            rd,
+        } => {
             let rd = register(scene, rd);
-            Ok(Ok(ArmInstr::ReadStatus { condition: *condition, saved: *saved, rd }))
+            Ok(Ok(ArmInstr::ReadStatus {
+                condition: *condition,
+                saved: *saved,
+                rd,
+            }))
         }
-        ArmLine::WriteStatus { condition, saved, fields, rm } => {
+        ArmLine::WriteStatus {
+            condition,
+            saved,
+            fields,
+            rm,
+        } => {
             let rm = register(scene, rm);
-            Ok(Ok(ArmInstr::WriteStatus { condition: *condition, saved: *saved, fields: *fields, rm }))
+            Ok(Ok(ArmInstr::WriteStatus {
+                condition: *condition,
+                saved: *saved,
+                fields: *fields,
+                rm,
+            }))
         }
-        ArmLine::WriteStatusImmediate { condition, saved, fields, value } => {
-            status_number(alloc, scene, *condition, *saved, *fields, value)
+        ArmLine::WriteStatusImmediate {
+            condition,
+            saved,
+            fields,
+            value,
+        } => { status_number(alloc, scene, *condition, *saved, *fields, value) }
+        ArmLine::TransferImmediate {
+            condition,
+            load,
+            byte,
+            rd,
+            address,
+        } => { transfer(alloc, scene, *condition, *load, *byte, rd, address) }
+        ArmLine::TransferShifted {
+            condition,
+            load,
+            byte,
+            rd,
+            rn,
+            indexing,
+            subtract,
+            rm,
+            shift,
+        } => {
+            transfer_shifted(
+                alloc, scene, *condition, *load, *byte, rd, rn, *indexing, *subtract, rm, shift,
+            )
         }
-        ArmLine::TransferImmediate { condition, load, byte, rd, address } => {
-            transfer(alloc, scene, *condition, *load, *byte, rd, address)
+        ArmLine::TransferHalf {
+            condition,
+            load,
+            kind,
+            rd,
+            rn,
+            indexing,
+            offset,
+        } => {
+            transfer_half(
+                alloc, scene, *condition, *load, *kind, rd, rn, *indexing, offset,
+            )
         }
-        ArmLine::TransferShifted { condition, load, byte, rd, rn, indexing, subtract, rm, shift } => {
-            transfer_shifted(alloc, scene, *condition, *load, *byte, rd, rn, *indexing, *subtract, rm, shift)
+        ArmLine::TransferBlock {
+            condition,
+            load,
+            mode,
+            rn,
+            write_back,
+            list,
+            user,
+        } => {
+            Ok(Ok(transfer_block(
+                scene,
+                *condition,
+                *load,
+                *mode,
+                rn,
+                *write_back,
+                list,
+                *user,
+            )))
         }
-        ArmLine::TransferHalf { condition, load, kind, rd, rn, indexing, offset } => {
-            transfer_half(alloc, scene, *condition, *load, *kind, rd, rn, *indexing, offset)
-        }
-        ArmLine::TransferBlock { condition, load, mode, rn, write_back, list, user } => {
-            Ok(Ok(transfer_block(scene, *condition, *load, *mode, rn, *write_back, list, *user)))
-        }
-        ArmLine::Branch { condition, link, target } => {
-            branch(alloc, scene, *condition, *link, target)
-        }
+        ArmLine::Branch {
+            condition,
+            link,
+            target,
+        } => { branch(alloc, scene, *condition, *link, target) }
         ArmLine::SoftwareInterrupt { condition, number } => {
             interrupt(alloc, scene, *condition, number)
         }
@@ -125,11 +253,7 @@ pub fn arm_instruction(
     instruction_there(alloc, scene, line)
 }
 
-fn symbol_there(
-    alloc: Global,
-    scene: &Scene<'_>,
-    line: &ArmLine,
-) -> Result<Option<Text>, NoMemory>
+fn symbol_there(alloc: Global, scene: &Scene<'_>, line: &ArmLine) -> Result<Option<Text>, NoMemory>
     requires { ArmSaid line.now }
     ensures { IfOk result (λ s. s ≡ units.branch_symbol (context_of scene.now) line.now) }
 {

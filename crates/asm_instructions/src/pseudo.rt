@@ -1,6 +1,6 @@
 //! Pseudo-instructions in ARM state.
 
-ghost use Rattle.std.specs.Prelude.{◌≡◌, ℕ, false, Option, None, IfOk};
+ghost use Rattle.std.specs.Prelude.{◌≡◌, true, false, None, IfOk};
 ghost use Rattle.sdt_word.specs.declared.codes.Condition.TheVariants as condition;
 ghost use Rattle.sdt_word.specs.declared.codes.ShiftKind.TheVariants as shift;
 ghost use Rattle.arm_isa.specs.declared.instr.Operation.TheVariants as operation;
@@ -25,13 +25,7 @@ use sdt_fault::{List, NoMemory};
 use sdt_word::{Condition, ShiftKind};
 use std::alloc::Global;
 
-fn adding(
-    condition: Condition,
-    operation: Operation,
-    rn: u8,
-    rd: u8,
-    operand: (u8, u8),
-) -> ArmInstr
+fn adding(condition: Condition, operation: Operation, rn: u8, rd: u8, operand: (u8, u8)) -> ArmInstr
     ensures { result ≡ forms.adding condition operation rn rd operand }
 {
     let (rotation, byte) = operand;
@@ -47,11 +41,7 @@ fn adding(
 }
 
 /// ADR of what lies so far behind pc, modulo 2^32.
-fn address_instruction(
-    condition: Condition,
-    rd: u8,
-    distance: u32,
-) -> Result<ArmInstr, LineKind>
+fn address_instruction(condition: Condition, rd: u8, distance: u32) -> Result<ArmInstr, LineKind>
     ensures { result ≡ forms.address_instruction condition rd distance }
 {
     if let Some(operand) = immediate(distance) {
@@ -110,11 +100,7 @@ fn two_of(
 }
 
 /// ADRL of what lies so far behind pc, modulo 2^32.
-fn long_address(
-    condition: Condition,
-    rd: u8,
-    distance: u32,
-) -> Result<[ArmInstr; 2], LineKind>
+fn long_address(condition: Condition, rd: u8, distance: u32) -> Result<[ArmInstr; 2], LineKind>
     ensures { result ≡ forms.long_address condition rd distance }
 {
     if let Some(two) = two_of(condition, Operation::Add, rd, distance) {
@@ -162,18 +148,38 @@ fn two(
     }
 }
 
+/// A literal that has no word is moved.
 fn moved_literal(
     alloc: Global,
+    scene: &Scene<'_>,
     condition: Condition,
-    rd: u8,
-    number: Result<u32, LineKind>,
+    rd: &Register,
+    value: &Expr,
 ) -> Result<Result<List<ArmInstr>, LineKind>, NoMemory>
-    ensures { IfOk result (λ list. (c : Context) → list ≡ forms.load_literal c condition rd number None) }
+    requires { IsRead value.now }
+    ensures { IfOk result (λ list. list ≡ forms.pseudo_instructions (context_of scene.now) None (pseudo.LoadConstant condition rd.now value.now)) }
 {
+    let to = register(scene, rd);
+    let number = number_there(alloc, scene, value)?;
     one(
         alloc,
-        data_with_number(condition, Operation::Mov, false, 0, rd, number),
+        data_with_number(condition, Operation::Mov, false, 0, to, number),
     )
+}
+
+/// The load of a literal from its word.
+fn loaded_literal(
+    alloc: Global,
+    scene: &Scene<'_>,
+    word: u32,
+    condition: Condition,
+    rd: &Register,
+) -> Result<Result<List<ArmInstr>, LineKind>, NoMemory>
+    ensures { IfOk result (λ list. list ≡ mapped (λ o. forms.one (instr.TransferImmediate condition true o.0 false false true 15 (contexts.register (context_of scene.now) rd.now) o.1)) (contexts.offset_below 4096 (contexts.from_pc (context_of scene.now) word))) }
+{
+    let to = register(scene, rd);
+    let distance = from_pc(scene, word);
+    one(alloc, behind_pc(condition, true, false, to, distance))
 }
 
 fn load_literal(
@@ -187,16 +193,9 @@ fn load_literal(
     requires { IsRead value.now }
     ensures { IfOk result (λ list. list ≡ forms.pseudo_instructions (context_of scene.now) word (pseudo.LoadConstant condition rd.now value.now)) }
 {
-    let to = register(scene, rd);
     match word {
-        None => {
-            let number = number_there(alloc, scene, value)?;
-            moved_literal(alloc, condition, to, number)
-        }
-        Some(at) => one(
-            alloc,
-            behind_pc(condition, true, false, to, from_pc(scene, at)),
-        ),
+        None => moved_literal(alloc, scene, condition, rd, value),
+        Some(word) => loaded_literal(alloc, scene, word, condition, rd),
     }
 }
 
@@ -222,7 +221,7 @@ fn address(
     target: &Expr,
 ) -> Result<Result<List<ArmInstr>, LineKind>, NoMemory>
     requires { IsRead target.now }
-    ensures { IfOk result (λ list. (word : Option ℕ) → list ≡ forms.pseudo_instructions (context_of scene.now) word (pseudo.Address condition rd.now target.now)) }
+    ensures { IfOk result (λ list. list ≡ forms.pseudo_instructions (context_of scene.now) None (pseudo.Address condition rd.now target.now)) }
 {
     let to = register(scene, rd);
     let value = value_there(alloc, scene, target)?;
@@ -252,7 +251,7 @@ fn far_address(
     target: &Expr,
 ) -> Result<Result<List<ArmInstr>, LineKind>, NoMemory>
     requires { IsRead target.now }
-    ensures { IfOk result (λ list. (word : Option ℕ) → list ≡ forms.pseudo_instructions (context_of scene.now) word (pseudo.LongAddress condition rd.now target.now)) }
+    ensures { IfOk result (λ list. list ≡ forms.pseudo_instructions (context_of scene.now) None (pseudo.LongAddress condition rd.now target.now)) }
 {
     let to = register(scene, rd);
     let value = value_there(alloc, scene, target)?;

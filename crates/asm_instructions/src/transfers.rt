@@ -286,9 +286,7 @@ fn half_at(
         }
         HalfOffset::Register { subtract, rm } => {
             let by = register(scene, rm);
-            Ok(Ok(half_by_register(
-                condition, load, kind, rd, rn, indexing, *subtract, by,
-            )))
+            Ok(Ok(half_by_register(condition, load, kind, rd, rn, indexing, *subtract, by)))
         }
     }
 }

@@ -117,11 +117,7 @@ pub fn offset_below(limit: u32, number: u32) -> Result<(bool, u32), LineKind>
 }
 
 /// The offset of a place that stands in an area.
-fn in_own_area(
-    area: Option<u32>,
-    place: Option<(u32, u32)>,
-    plus: u32,
-) -> Result<u32, LineKind>
+fn in_own_area(area: Option<u32>, place: Option<(u32, u32)>, plus: u32) -> Result<u32, LineKind>
     ensures { result ≡ contexts.in_own_area area place plus }
 {
     let Some(own) = area else {
