@@ -1,4 +1,5 @@
 mod AlikeLemmas
 mod ContextLemmas
+mod FitLemmas
 mod PlaceLemmas
 mod RotationLemmas
