@@ -332,8 +332,25 @@ module _ (c : Context) (named : NamesRegisters c) where
       (λ f. instr.TransferShifted k (is_before ix) (not subtract) byte (writes_back ix) load (register c rn) (register c rd) f.1 f.0 (register c rm))
       (shift_fields c by) (shift_fits by)
       (λ f a. record {
-        fields = (condition_below k, (flag_below (is_before ix), (flag_below (not subtract), (flag_below byte, (flag_below (writes_back ix), (flag_below load,
-        (fits_register rn h.1, (fits_register rd h.0, (a, (shift_below f.0, (fits_register rm h.2, tt)))))))))));
+        fields = (
+          condition_below k,
+          (
+            flag_below (is_before ix),
+            (
+              flag_below (not subtract),
+              (
+                flag_below byte,
+                (
+                  flag_below (writes_back ix),
+                  (
+                    flag_below load,
+                    (fits_register rn h.1, (fits_register rd h.0, (a, (shift_below f.0, (fits_register rm h.2, tt))))),
+                  ),
+                ),
+              ),
+            ),
+          ),
+        );
         conditions = tt;
       })
   arm_fits (arm.TransferHalf k load kind rd rn ix (half.Number e)) h =
@@ -341,11 +358,11 @@ module _ (c : Context) (named : NamesRegisters c) where
       (λ n. mapped (λ o. instr.TransferHalf k (is_before ix) o.0 true (writes_back ix) load (register c rn) (register c rd) (o.1 / 16) kind (o.1 % 16)) (offset_below 256 n))
       (number_in c e)
       (λ n.
-          mapped_holds (λ o. o.1 < 256) Fits
-          (λ o. instr.TransferHalf k (is_before ix) o.0 true (writes_back ix) load (register c rn) (register c rd) (o.1 / 16) kind (o.1 % 16)) (offset_below 256 n) (offset_fits 256 n)
-          (λ o a.
-              half_transfer k ix o.0 true load (register c rn) (register c rd) (o.1 / 16) (o.1 % 16) kind h.2 h.3 (fits_register rn h.1) (fits_register rd h.0)
-              (omega arith) (omega arith) (λ z. absurd (omega arith))))
+      mapped_holds (λ o. o.1 < 256) Fits
+      (λ o. instr.TransferHalf k (is_before ix) o.0 true (writes_back ix) load (register c rn) (register c rd) (o.1 / 16) kind (o.1 % 16)) (offset_below 256 n) (offset_fits 256 n)
+      (λ o a.
+      half_transfer k ix o.0 true load (register c rn) (register c rd) (o.1 / 16) (o.1 % 16) kind h.2 h.3 (fits_register rn h.1) (fits_register rd h.0)
+      (omega arith) (omega arith) (λ z. absurd (omega arith))))
   arm_fits (arm.TransferHalf k load kind rd rn ix (half.Register subtract rm)) h =
       half_transfer k ix (not subtract) false load (register c rn) (register c rd) 0 (register c rm) kind h.2 h.3 (fits_register rn h.1) (fits_register rd h.0)
       (omega arith) (fits_register rm h.4) (λ z. refl)
@@ -360,11 +377,11 @@ module _ (c : Context) (named : NamesRegisters c) where
   arm_fits (arm.Branch k link e) h =
       then_holds Fits (λ d. mapped (λ f. instr.Branch k link f) (branch_field d)) (branch_displacement c (value_of c e))
       (λ d. mapped_holds (λ f. f < 2 ^ 24) Fits (λ f. instr.Branch k link f) (branch_field d) (field_fits d)
-          (λ f low. record { fields = (condition_below k, (flag_below link, (low, tt))); conditions = tt }))
+      (λ f low. record { fields = (condition_below k, (flag_below link, (low, tt))); conditions = tt }))
   arm_fits (arm.SoftwareInterrupt k e) h =
       then_holds Fits (λ n. cond (nat_lt n (2 ^ 24)) (Ok (instr.SoftwareInterrupt k n)) (Err OutOfRange)) (number_in c e)
       (λ n. where_holds Fits (nat_lt n (2 ^ 24)) (Ok (instr.SoftwareInterrupt k n)) (Err OutOfRange)
-          (λ t. record { fields = (condition_below k, (ltb-true n (2 ^ 24) t, tt)); conditions = tt }) tt)
+      (λ t. record { fields = (condition_below k, (ltb-true n (2 ^ 24) t, tt)); conditions = tt }) tt)
 
   pub instruction_fits : (l : ArmLine) (i : ArmInstr) → ArmSaid l → arm_instruction c l ≡ Ok i → Fits i
   instruction_fits l i h e = subst (Holds Fits) e (arm_fits l h)
@@ -405,30 +422,32 @@ module _ (c : Context) (named : NamesRegisters c) where
   pseudo_fits None (pseudo.LoadConstant k rd e) h =
       then_holds AllFit (λ n. mapped one (data_immediate k Mov false 0 (register c rd) n)) (number_in c e)
       (λ n. listed_fits (data_immediate k Mov false 0 (register c rd) n)
-          (data_fits k Mov false 0 (register c rd) n (omega arith) (fits_register c named rd h.0) (as_move 13 0 0 (register c rd) (omega arith) refl)))
+      (data_fits k Mov false 0 (register c rd) n (omega arith) (fits_register c named rd h.0) (as_move 13 0 0 (register c rd) (omega arith) refl)))
   pseudo_fits (Some word) (pseudo.LoadConstant k rd e) h =
       mapped_holds (λ o. o.1 < 4096) AllFit (λ o. one (instr.TransferImmediate k true o.0 false false true 15 (register c rd) o.1)) (offset_below 4096 (from_pc c word))
       (offset_fits 4096 (from_pc c word))
-      (λ o low.
-          (record {
-            fields = (condition_below k, (flag_below true, (flag_below o.0, (flag_below false, (flag_below false, (flag_below true, (omega arith, (fits_register c named rd h.0, (omega arith, tt)))))))));
-            conditions = tt;
-          },
-          tt))
+      (λ o low. (
+        record {
+          fields = (condition_below k, (flag_below true, (flag_below o.0, (flag_below false, (flag_below false, (flag_below true, (omega arith, (fits_register c named rd h.0, (omega arith, tt)))))))));
+          conditions = tt;
+        },
+        tt,
+      ))
   pseudo_fits word (pseudo.Address k rd e) h =
       then_holds AllFit (λ at. mapped one (address_instruction k (register c rd) (from_pc c at))) (own_offset c (value_of c e))
       (λ at. listed_fits (address_instruction k (register c rd) (from_pc c at))
-          (address_fits k (register c rd) (immediate (from_pc c at)) (immediate (negated (from_pc c at))) (fits_register c named rd h.0) (immediate_fits (from_pc c at))
-          (immediate_fits (negated (from_pc c at)))))
+      (address_fits k (register c rd) (immediate (from_pc c at)) (immediate (negated (from_pc c at))) (fits_register c named rd h.0) (immediate_fits (from_pc c at))
+      (immediate_fits (negated (from_pc c at)))))
   pseudo_fits word (pseudo.LongAddress k rd e) h =
       then_holds AllFit (λ at. long_address k (register c rd) (from_pc c at)) (own_offset c (value_of c e))
       (λ at. long_fits k (register c rd) (from_pc c at) (fits_register c named rd h.0))
-  pseudo_fits word pseudo.NoOperation h =
-      (record {
-        fields = (condition_below condition.Al, (operation_below Mov, (flag_below false, (omega arith, (omega arith, (omega arith, (shift_below Lsl, (omega arith, tt))))))));
-        conditions = as_move 13 0 0 0 (omega arith) refl;
-      },
-      tt)
+  pseudo_fits word pseudo.NoOperation h = (
+    record {
+      fields = (condition_below condition.Al, (operation_below Mov, (flag_below false, (omega arith, (omega arith, (omega arith, (shift_below Lsl, (omega arith, tt))))))));
+      conditions = as_move 13 0 0 0 (omega arith) refl;
+    },
+    tt,
+  )
 
   pub pseudo_instructions_fit : (word : Option ℕ) (l : PseudoLine) (is : List ArmInstr) → PseudoSaid l → pseudo_instructions c word l ≡ Ok is → AllFit is
   pseudo_instructions_fit word l is h e = subst (Holds AllFit) e (pseudo_fits word l h)

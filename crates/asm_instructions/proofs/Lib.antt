@@ -3,3 +3,4 @@ mod ContextLemmas
 mod FitLemmas
 mod PlaceLemmas
 mod RotationLemmas
+mod WordLemmas

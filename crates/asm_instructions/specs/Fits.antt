@@ -2,10 +2,10 @@
 -- laws are this project's.
 use Rattle.std.specs.Prelude.{◌≡◌, ℕ, ◌<◌, List, [], ◌∷◌, Option, Some, Ok}
 use Rattle.arm_isa.specs.declared.instr.ArmInstr.{ArmInstr}
-use Rattle.arm_isa.specs.ArmRows.{arm_row, arm_fields, FitsConditions}
+use Rattle.arm_isa.specs.ArmRows.{arm_row, arm_fields, FitsConditions, ReadsArm}
 use Rattle.asm_model.specs.declared.arm_lines.ArmLine.{ArmLine}
 use Rattle.asm_model.specs.declared.statements.PseudoLine.{PseudoLine}
-use Rattle.sdt_word.specs.Rows.{FitsRow}
+use Rattle.sdt_word.specs.Rows.{FitsRow, word_of}
 use Rattle.said_model.specs.Said.{ArmSaid, PseudoSaid}
 use Rattle.source_model.specs.Contexts.{Context}
 use Rattle.source_model.specs.Registers.{register_in}
@@ -33,3 +33,7 @@ abbrev pub PseudoInstructionsFit : Type 0
 PseudoInstructionsFit =
     (c : Context) (word : Option ℕ) (l : PseudoLine) (is : List ArmInstr)
     → NamesRegisters c → PseudoSaid l → pseudo_instructions c word l ≡ Ok is → AllFit is
+
+-- an instruction that fits its row is read from the word that its fields make there
+abbrev pub FittingInstructionsAreWritten : Type 0
+FittingInstructionsAreWritten = (i : ArmInstr) → Fits i → ReadsArm (word_of (arm_row i) (arm_fields i)) i

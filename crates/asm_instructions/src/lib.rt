@@ -13,7 +13,9 @@ pub mod shifts;
 pub mod transfers;
 pub mod values;
 
-pub use crate::laws::{instructions_fit, pseudo_instructions_fit};
+pub use crate::laws::{
+    fitting_instructions_are_written, instructions_fit, pseudo_instructions_fit,
+};
 pub use crate::lines::{arm_instruction, branch_symbol};
 pub use crate::pseudo::pseudo_instructions;
 pub use crate::scenes::Scene;

@@ -1,7 +1,7 @@
 -- Statements as lines say them. Their expressions are what tokens spell, names begin with no bar, a local label has two
 -- digits at most, registers are 0 to 15, and what an instruction's form leaves out is register 0. SDT 2.50 Reference
 -- Guide, chapter on the assembler.
-use Rattle.std.specs.Prelude.{◌≡◌, ℕ, ◌<◌, List, [], ◌∷◌, Bool, true, false, Option, Some, None}
+use Rattle.std.specs.Prelude.{◌≡◌, ◌<◌, List, [], ◌∷◌, Bool, true, false, Option, Some, None}
 use Rattle.arm_isa.specs.declared.instr.Operation.{Operation}
 use Rattle.arm_isa.specs.declared.instr.Operation.TheVariants.{Tst, Teq, Cmp, Cmn, Mov, Mvn}
 use Rattle.arm_isa.specs.declared.instr.HalfKind.{HalfKind}
