@@ -2,6 +2,8 @@
 #![tactic(auto)]
 
 #[cfg(test)]
+mod instructions;
+#[cfg(test)]
 mod locals;
 #[cfg(test)]
 mod names;

@@ -1,0 +1,153 @@
+-- What a scene finds is what each context finds that it shows.
+use Rattle.std.proofs.Common.{◌≡◌, ℕ, Bool, true, false, cond, List, [], ◌∷◌, ◌++◌, ◌||◌, Option, Some, None, refl, sym, ap, ◌∙◌, subst, append_assoc}
+use Rattle.std.specs.Prelude.{Result, Ok, Err, IfOk}
+use Rattle.std.specs.List.{list_any}
+use Rattle.std.specs.Str.{bytes_eq}
+use Rattle.std.specs.Ordering.{nat_cmp}
+use Rattle.std.specs.Cmp.Lexicographic.{slice_cmp}
+use Rattle.std.specs.BTreeMap.{BTreeMap, is_at}
+use Rattle.std.specs.BTreeSet.{BTreeSet}
+use Rattle.std.specs.Map.{lookup}
+use Rattle.std.proofs.lemmas.Bool.{false_from_ne_true}
+use Rattle.std.proofs.lemmas.Map.Text.{is_eq-slice_cmp}
+use Rattle.std.proofs.lemmas.Slice.Eq.{bytes_eq-Decides}
+use Rattle.asm_model.specs.declared.exprs.Expr.{Expr}
+use Rattle.asm_model.specs.declared.operands.Register.{Register}
+use Rattle.asm_model.specs.declared.operands.Register.TheVariants as reg
+use Rattle.asm_model.specs.declared.values.Value.{Value}
+use Rattle.asm_model.specs.declared.values.EvalFault.{EvalFault}
+use Rattle.asm_model.specs.declared.names.LaidName.{LaidName}
+use Rattle.asm_model.specs.AtLine.{SourceLine, with_names, all_names}
+use Rattle.asm_model.specs.Directives.{or_else}
+use Rattle.asm_model.specs.Forms.{same}
+use Rattle.asm_model.specs.Grammar.{Tree}
+use Rattle.asm_model.specs.Meaning.{named_in, IsValue, Evaluates}
+use Rattle.asm_model.proofs.WordLemmas.{same_refl, same_true}
+use Rattle.layout_model.specs.Trees.{tree_of}
+use Rattle.layout_model.proofs.TreeLemmas.{trees_read_back}
+use Rattle.layout_laws.proofs.FoundLemmas.{tree_final, final_tree}
+use Rattle.layout_laws.proofs.RoundLemmas.{named_joined}
+use Rattle.asm_sight.proofs.SightLemmas.{same_known}
+use Rattle.asm_final.specs.declared.lines.PlacedLine.{PlacedLine}
+use Rattle.asm_final.specs.Lines.{Sees}
+use Rattle.said_model.specs.Said.{IsRead}
+use Rattle.source_model.specs.Contexts.{Context, sees, value_of, register, or_zero}
+use Rattle.source_model.specs.Registers.{Named, register_in}
+use Rattle.asm_instructions.specs.declared.scenes.Scene.{Scene}
+use Rattle.asm_instructions.specs.Scenes.{register_at, has_symbol, Shows, line_of, context_of}
+
+-- ---- maps and sets as the lists of their keys
+
+same_words : (a b : List ℕ) → bytes_eq a b ≡ same a b
+same_words a b = by_test (bytes_eq a b) refl
+  where
+    by_test : (t : Bool) → bytes_eq a b ≡ t → bytes_eq a b ≡ same a b
+    by_test true e = let h : a ≡ b = (bytes_eq-Decides a b).0 e in e ∙ sym (rw h (same_refl b))
+    by_test false e = e ∙ sym (false_from_ne_true (same a b) (λ t. let h = (bytes_eq-Decides a b).1 (same_true a b t) in cc))
+
+turned_words : (a b : List ℕ) → bytes_eq a b ≡ same b a
+turned_words a b = by_test (bytes_eq a b) refl
+  where
+    by_test : (t : Bool) → bytes_eq a b ≡ t → bytes_eq a b ≡ same b a
+    by_test true e = let h : a ≡ b = (bytes_eq-Decides a b).0 e in e ∙ sym (rw h (same_refl b))
+    by_test false e = e ∙ sym (false_from_ne_true (same b a) (λ t. let h = (bytes_eq-Decides a b).1 (sym (same_true b a t)) in cc))
+
+entries_listed : (q : List ℕ) (es : List Named) → lookup (is_at (slice_cmp nat_cmp q)) es ≡ register_in q es
+entries_listed q [] = refl
+entries_listed q (e ∷ es) =
+    ap (λ b. cond b (Some e.1) (lookup (is_at (slice_cmp nat_cmp q)) es)) (is_eq-slice_cmp q e.0 ∙ turned_words q e.0)
+    ∙ ap (cond (same e.0 q) (Some e.1)) (entries_listed q es)
+
+pub registers_listed : (m : BTreeMap (List ℕ) ℕ) (q : List ℕ) → register_at m q ≡ register_in q m.entries
+registers_listed m q = entries_listed q m.entries
+
+keys_listed : (q : List ℕ) (ks : List (List ℕ)) → list_any (is_at (slice_cmp nat_cmp q)) ks ≡ list_any (same q) ks
+keys_listed q [] = refl
+keys_listed q (k ∷ ks) =
+    ap (λ b. b || list_any (is_at (slice_cmp nat_cmp q)) ks) (is_eq-slice_cmp q k ∙ same_words q k)
+    ∙ ap (λ b. same q k || b) (keys_listed q ks)
+
+pub symbols_listed : (s : BTreeSet (List ℕ)) (q : List ℕ) → has_symbol s q ≡ list_any (same q) s.keys
+symbols_listed s q = keys_listed q s.keys
+
+pub named_listed : (x : Scene) (r : Register) (q : List ℕ) (n : ℕ) → r ≡ reg.Named q → n ≡ or_zero (register_at x.registers.now q) → n ≡ register (context_of x) r
+named_listed x r q n e h = h ∙ ap or_zero (registers_listed x.registers.now q) ∙ ap (register (context_of x)) (sym e)
+
+-- ---- names
+
+pub joined_nothing : {A : Type 0} → (xs : List A) → xs ++ [] ≡ xs
+joined_nothing [] = refl
+joined_nothing (x ∷ xs) = ap (λ z. x ∷ z) (joined_nothing xs)
+
+-- with no own name between, and no later references
+pub entry_listed : (names references : List LaidName) → (names ++ [] ++ references) ≡ (names ++ references ++ [])
+entry_listed names references = ap (λ z. z ++ references) (joined_nothing names) ∙ sym (joined_nothing (names ++ references))
+
+pub line_seen : (l : PlacedLine) (references : List LaidName) → Sees l references (line_of l references)
+line_seen l references = record { area = refl; offset = refl; map = refl; thumb = refl; found = λ q. ap (named_in q) (sym (joined_nothing references)) }
+
+pub value_seen : (x : Scene) (e : Expr) (r : Result Value EvalFault) → IsRead e
+    → ((f : SourceLine) → Sees x.line.now x.references.now f → Evaluates (with_names f (all_names x.names.now f)) e.items r)
+    → IsValue (value_of (context_of x) e) r
+value_seen x e r read h =
+    let f = line_of x.line.now x.references.now in
+    subst (λ v. IsValue v r)
+    (sym (final_tree x.names.now f e (tree_of e) refl ∙ ap (tree_final x.names.now f) (trees_read_back read.parts read.tree e read.spelled read.items)))
+    (h f (line_seen x.line.now x.references.now) read.parts read.tree read.spelled read.items)
+
+-- ---- contexts that find the same
+
+pub record Alike (a b : Context) : Type 0 where
+  pub value : (e : Expr) → value_of a e ≡ value_of b e
+  pub number : (r : Register) → register a r ≡ register b r
+  pub area : a.line.area ≡ b.line.area
+  pub offset : a.line.offset ≡ b.line.offset
+  pub thumb : a.line.thumb ≡ b.line.thumb
+  pub entry : (q : List ℕ) → named_in q (sees a).list ≡ named_in q (sees b).list
+  pub symbol : (q : List ℕ) → list_any (same q) a.symbols ≡ list_any (same q) b.symbols
+
+entry_same : (x : Scene) (c : Context) → Shows x c → (q : List ℕ) → named_in q (sees (context_of x)).list ≡ named_in q (sees c).list
+entry_same x c s q =
+    ap (named_in q) (joined_nothing (x.names.now ++ x.references.now))
+    ∙ named_joined q x.names.now x.references.now
+    ∙ ap (or_else (named_in q x.names.now)) (s.line.found q)
+    ∙ sym (named_joined q x.names.now (c.line.back ++ c.line.forth))
+    ∙ ap (named_in q) (sym (append_assoc x.names.now c.line.back c.line.forth))
+    ∙ ap (λ z. named_in q (z ++ c.line.back ++ c.line.forth)) (sym s.names)
+
+tree_same : (x : Scene) (c : Context) → Shows x c → (o : Option Tree)
+    → tree_final x.names.now (line_of x.line.now x.references.now) o ≡ tree_final c.names c.line o
+tree_same x c s None = refl
+tree_same x c s (Some t) =
+    same_known (record { known = sees (context_of x); unsized = []; all = [] }) (record { known = sees c; unsized = []; all = [] })
+    (record {
+      known = entry_same x c s;
+      unsized = λ q. refl;
+      all = λ q. refl;
+      area = s.line.area;
+      offset = s.line.offset;
+      map = s.line.map;
+      thumb = s.line.thumb;
+    }) t
+
+number_same : (x : Scene) (c : Context) → Shows x c → (r : Register) → register (context_of x) r ≡ register c r
+number_same x c s (reg.Number n) = refl
+number_same x c s (reg.Named q) = ap or_zero (sym (registers_listed x.registers.now q) ∙ s.registers q)
+
+pub shown_alike : (x : Scene) (c : Context) → Shows x c → Alike (context_of x) c
+shown_alike x c s = record {
+  value = λ e.
+      final_tree x.names.now (line_of x.line.now x.references.now) e (tree_of e) refl ∙ tree_same x c s (tree_of e)
+      ∙ sym (final_tree c.names c.line e (tree_of e) refl);
+  number = number_same x c s;
+  area = s.line.area;
+  offset = s.line.offset;
+  thumb = s.line.thumb;
+  entry = entry_same x c s;
+  symbol = λ q. sym (symbols_listed x.symbols.now q) ∙ s.symbols q;
+}
+
+pub all_shown : {A E : Type 0} → (x : Scene) (f : Context → A) (r : Result A E) → ((c : Context) → Alike (context_of x) c → f (context_of x) ≡ f c)
+    → IfOk r (λ v. v ≡ f (context_of x)) → IfOk r (λ v. (c : Context) → Shows x c → v ≡ f c)
+all_shown x f (Ok v) same h = λ c s. h ∙ same c (shown_alike x c s)
+all_shown x f (Err e) same h = tt

@@ -1,0 +1,6 @@
+mod AlikeLemmas
+mod ContextLemmas
+mod FitLemmas
+mod PlaceLemmas
+mod RotationLemmas
+mod WordLemmas

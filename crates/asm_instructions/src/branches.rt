@@ -1,0 +1,201 @@
+//! Branches.
+
+ghost use Rattle.std.specs.Prelude.{◌≡◌, Ok, IfOk};
+ghost use Rattle.std.specs.Option.{option_copied};
+ghost use Rattle.arm_isa.specs.declared.instr.ArmInstr.TheVariants as instr;
+ghost use Rattle.asm_model.specs.Says.{mapped};
+ghost use Rattle.asm_model.specs.declared.arm_lines.ArmLine.TheVariants as arm;
+ghost use Rattle.asm_model.specs.declared.values.Value.TheVariants as value;
+ghost use Rattle.layout_model.specs.Entries as entries;
+ghost use Rattle.layout_model.specs.Symbols as symbols;
+ghost use Rattle.said_model.specs.Said.{IsRead};
+ghost use Rattle.source_model.specs.ArmForms as forms;
+ghost use Rattle.source_model.specs.Contexts.{and_then, value_of};
+ghost use Rattle.source_model.specs.Units as units;
+ghost use Rattle.asm_instructions.specs.Scenes.{context_of};
+
+use crate::scenes::{Scene, entry_of, is_symbol, stands_at};
+use crate::values::{from_pc, value_there};
+use arm_isa::ArmInstr;
+use asm_model::{Expr, LaidName, Value};
+use sdt_fault::kinds::LineKind;
+use sdt_fault::{NoMemory, Text};
+use sdt_word::Condition;
+use std::alloc::Global;
+
+/// A displacement modulo 2^32 as the field of a branch.
+fn branch_field(displacement: u32) -> Result<u32, LineKind>
+    ensures { result ≡ forms.branch_field displacement }
+{
+    if displacement % 4 != 0 {
+        return Err(LineKind::BadOperand);
+    }
+    if displacement < 0x0200_0000 {
+        return Ok(displacement / 4 % 0x0100_0000);
+    }
+    if displacement >= 0xFE00_0000 {
+        return Ok(displacement / 4 % 0x0100_0000);
+    }
+    Err(LineKind::OutOfRange)
+}
+
+fn is_in_area(area: Option<u32>, place: Option<(u32, u32)>) -> bool
+    ensures { result ≡ symbols.is_in_area area place }
+{
+    let Some(own) = area else {
+        return false;
+    };
+    let Some((other, _)) = place else {
+        return false;
+    };
+    other == own
+}
+
+fn same_state(a: bool, b: bool) -> bool
+    ensures { result ≡ symbols.same_state a b }
+{
+    if a {
+        return b;
+    }
+    !b
+}
+
+fn is_thumb(entry: Option<&LaidName>) -> bool
+    ensures { result ≡ entries.thumb_of (option_copied entry.entry) }
+{
+    match entry {
+        None => false,
+        Some(entry) => entry.thumb,
+    }
+}
+
+/// Whether a branch of the line to a symbol is settled here: its place is of the same area and state.
+fn is_settled(scene: &Scene<'_>, symbol: &Text) -> bool
+    ensures { result ≡ forms.is_settled (context_of scene.now) symbol.now }
+{
+    if is_in_area(scene.line.area, stands_at(scene, symbol)) {
+        return same_state(scene.line.thumb, is_thumb(entry_of(scene, symbol)));
+    }
+    false
+}
+
+fn offset_at(place: Option<(u32, u32)>) -> u32
+    ensures { result ≡ forms.offset_at place }
+{
+    match place {
+        None => 0,
+        Some((_, offset)) => offset,
+    }
+}
+
+/// The displacement that a branch to a symbol plus a number holds; a symbol that is left to the linker counts as 0.
+fn branch_from(scene: &Scene<'_>, symbol: &Text, plus: u32) -> u32
+    ensures { result ≡ forms.branch_from (context_of scene.now) symbol.now plus }
+{
+    if symbol.as_slice().is_empty() {
+        return from_pc(scene, plus);
+    }
+    if is_settled(scene, symbol) {
+        let offset = offset_at(stands_at(scene, symbol));
+        return from_pc(scene, offset.wrapping_add(plus));
+    }
+    from_pc(scene, plus)
+}
+
+/// A branch that isn't settled needs a symbol.
+fn has_symbol(scene: &Scene<'_>, symbol: &Text) -> bool
+    ensures { result ≡ forms.has_symbol (context_of scene.now) symbol.now }
+{
+    if symbol.as_slice().is_empty() {
+        return true;
+    }
+    if is_settled(scene, symbol) {
+        return true;
+    }
+    is_symbol(scene, symbol)
+}
+
+fn place_displacement(scene: &Scene<'_>, symbol: &Text, plus: u32) -> Result<u32, LineKind>
+    ensures { result ≡ forms.branch_displacement (context_of scene.now) (Ok (value.Place symbol.now plus)) }
+{
+    if has_symbol(scene, symbol) {
+        return Ok(branch_from(scene, symbol, plus));
+    }
+    Err(LineKind::BadOperand)
+}
+
+fn branch_displacement(scene: &Scene<'_>, target: Result<Value, LineKind>) -> Result<u32, LineKind>
+    ensures { result ≡ forms.branch_displacement (context_of scene.now) target }
+{
+    match target {
+        Ok(Value::Place { symbol, plus }) => place_displacement(scene, &symbol, plus),
+        Ok(Value::Number(_)) => Err(LineKind::BadOperand),
+        Ok(_) => Err(LineKind::WrongType),
+        Err(kind) => Err(kind),
+    }
+}
+
+fn branch_by(
+    condition: Condition,
+    link: bool,
+    displacement: Result<u32, LineKind>,
+) -> Result<ArmInstr, LineKind>
+    ensures { result ≡ and_then displacement (λ d. mapped (λ f. instr.Branch condition link f) (forms.branch_field d)) }
+{
+    let distance = displacement?;
+    let field = branch_field(distance)?;
+    Ok(ArmInstr::Branch {
+        condition,
+        link,
+        displacement: field,
+    })
+}
+
+pub fn branch(
+    alloc: Global,
+    scene: &Scene<'_>,
+    condition: Condition,
+    link: bool,
+    target: &Expr,
+) -> Result<Result<ArmInstr, LineKind>, NoMemory>
+    requires { IsRead target.now }
+    ensures { IfOk result (λ i. i ≡ forms.arm_instruction (context_of scene.now) (arm.Branch condition link target.now)) }
+{
+    let value = value_there(alloc, scene, target)?;
+    let displacement = branch_displacement(scene, value);
+    Ok(branch_by(condition, link, displacement))
+}
+
+/// A symbol that is left to the linker.
+fn unsettled(scene: &Scene<'_>, symbol: Text) -> Option<Text>
+    ensures { result ≡ units.linked_symbol (context_of scene.now) (Ok (value.Place symbol 0)) }
+{
+    if symbol.as_slice().is_empty() {
+        return None;
+    }
+    if is_settled(scene, &symbol) {
+        return None;
+    }
+    Some(symbol)
+}
+
+fn linked_symbol(scene: &Scene<'_>, target: Result<Value, LineKind>) -> Option<Text>
+    ensures { result ≡ units.linked_symbol (context_of scene.now) target }
+{
+    match target {
+        Ok(Value::Place { symbol, plus: _ }) => unsettled(scene, symbol),
+        _ => None,
+    }
+}
+
+pub fn target_symbol(
+    alloc: Global,
+    scene: &Scene<'_>,
+    target: &Expr,
+) -> Result<Option<Text>, NoMemory>
+    requires { IsRead target.now }
+    ensures { IfOk result (λ s. s ≡ units.linked_symbol (context_of scene.now) (value_of (context_of scene.now) target.now)) }
+{
+    let value = value_there(alloc, scene, target)?;
+    Ok(linked_symbol(scene, value))
+}

@@ -1,0 +1,225 @@
+//! Data processing, multiplication, and the status registers.
+
+ghost use Rattle.std.specs.Prelude.{◌≡◌, Ok, IfOk};
+ghost use Rattle.arm_isa.specs.declared.instr.ArmInstr.TheVariants as instr;
+ghost use Rattle.asm_model.specs.Says.{mapped};
+ghost use Rattle.asm_model.specs.declared.arm_lines.ArmLine.TheVariants as arm;
+ghost use Rattle.said_model.specs.Said.{IsRead, ShiftSaid};
+ghost use Rattle.source_model.specs.ArmForms as forms;
+ghost use Rattle.source_model.specs.Contexts.{and_then};
+ghost use Rattle.source_model.specs.Immediates as immediates;
+ghost use Rattle.asm_instructions.specs.Scenes.{context_of};
+
+use crate::immediates::{data_immediate, status_of};
+use crate::scenes::{Scene, register};
+use crate::shifts::shift_fields;
+use crate::values::number_there;
+use arm_isa::{ArmInstr, Operation};
+use asm_model::{Expr, Register, Shift};
+use sdt_fault::NoMemory;
+use sdt_fault::kinds::LineKind;
+use sdt_word::{Condition, ShiftKind};
+use std::alloc::Global;
+
+pub fn data_with_number(
+    condition: Condition,
+    operation: Operation,
+    set_flags: bool,
+    rn: u8,
+    rd: u8,
+    number: Result<u32, LineKind>,
+) -> Result<ArmInstr, LineKind>
+    ensures { result ≡ and_then number (immediates.data_immediate condition operation set_flags rn rd) }
+{
+    match number {
+        Ok(number) => data_immediate(condition, operation, set_flags, rn, rd, number),
+        Err(kind) => Err(kind),
+    }
+}
+
+pub fn data_number(
+    alloc: Global,
+    scene: &Scene<'_>,
+    condition: Condition,
+    operation: Operation,
+    set_flags: bool,
+    rd: &Register,
+    rn: &Register,
+    value: &Expr,
+) -> Result<Result<ArmInstr, LineKind>, NoMemory>
+    requires { IsRead value.now }
+    ensures { IfOk result (λ i. i ≡ forms.arm_instruction (context_of scene.now) (arm.DataImmediate condition operation set_flags rd.now rn.now value.now)) }
+{
+    let first = register(scene, rn);
+    let to = register(scene, rd);
+    let number = number_there(alloc, scene, value)?;
+    Ok(data_with_number(condition, operation, set_flags, first, to, number))
+}
+
+fn data_with_shift(
+    condition: Condition,
+    operation: Operation,
+    set_flags: bool,
+    rn: u8,
+    rd: u8,
+    rm: u8,
+    fields: Result<(ShiftKind, u8), LineKind>,
+) -> Result<ArmInstr, LineKind>
+    ensures { result ≡ mapped (λ f. instr.DataShifted condition operation set_flags rn rd f.1 f.0 rm) fields }
+{
+    match fields {
+        Ok((shift, amount)) => Ok(ArmInstr::DataShifted {
+            condition,
+            operation,
+            set_flags,
+            rn,
+            rd,
+            amount,
+            shift,
+            rm,
+        }),
+        Err(kind) => Err(kind),
+    }
+}
+
+pub fn data_shifted(
+    alloc: Global,
+    scene: &Scene<'_>,
+    condition: Condition,
+    operation: Operation,
+    set_flags: bool,
+    rd: &Register,
+    rn: &Register,
+    rm: &Register,
+    shift: &Shift,
+) -> Result<Result<ArmInstr, LineKind>, NoMemory>
+    requires { ShiftSaid shift.now }
+    ensures { IfOk result (λ i. i ≡ forms.arm_instruction (context_of scene.now) (arm.DataShifted condition operation set_flags rd.now rn.now rm.now shift.now)) }
+{
+    let first = register(scene, rn);
+    let to = register(scene, rd);
+    let second = register(scene, rm);
+    let fields = shift_fields(alloc, scene, shift)?;
+    Ok(data_with_shift(condition, operation, set_flags, first, to, second, fields))
+}
+
+pub fn data_register_shifted(
+    scene: &Scene<'_>,
+    condition: Condition,
+    operation: Operation,
+    set_flags: bool,
+    rd: &Register,
+    rn: &Register,
+    rm: &Register,
+    shift: ShiftKind,
+    rs: &Register,
+) -> ArmInstr
+    ensures { Ok result ≡ forms.arm_instruction (context_of scene.now) (arm.DataRegisterShifted condition operation set_flags rd.now rn.now rm.now shift rs.now) }
+{
+    ArmInstr::DataRegisterShifted {
+        condition,
+        operation,
+        set_flags,
+        rn: register(scene, rn),
+        rd: register(scene, rd),
+        rs: register(scene, rs),
+        shift,
+        rm: register(scene, rm),
+    }
+}
+
+pub fn multiply(
+    scene: &Scene<'_>,
+    condition: Condition,
+    accumulate: bool,
+    set_flags: bool,
+    rd: &Register,
+    rm: &Register,
+    rs: &Register,
+    rn: &Register,
+) -> ArmInstr
+    ensures { Ok result ≡ forms.arm_instruction (context_of scene.now) (arm.Multiply condition accumulate set_flags rd.now rm.now rs.now rn.now) }
+{
+    ArmInstr::Multiply {
+        condition,
+        accumulate,
+        set_flags,
+        rd: register(scene, rd),
+        rn: register(scene, rn),
+        rs: register(scene, rs),
+        rm: register(scene, rm),
+    }
+}
+
+pub fn multiply_long(
+    scene: &Scene<'_>,
+    condition: Condition,
+    signed: bool,
+    accumulate: bool,
+    set_flags: bool,
+    low: &Register,
+    high: &Register,
+    rm: &Register,
+    rs: &Register,
+) -> ArmInstr
+    ensures { Ok result ≡ forms.arm_instruction (context_of scene.now) (arm.MultiplyLong condition signed accumulate set_flags low.now high.now rm.now rs.now) }
+{
+    ArmInstr::MultiplyLong {
+        condition,
+        signed,
+        accumulate,
+        set_flags,
+        high: register(scene, high),
+        low: register(scene, low),
+        rs: register(scene, rs),
+        rm: register(scene, rm),
+    }
+}
+
+pub fn swap(
+    scene: &Scene<'_>,
+    condition: Condition,
+    byte: bool,
+    rd: &Register,
+    rm: &Register,
+    rn: &Register,
+) -> ArmInstr
+    ensures { Ok result ≡ forms.arm_instruction (context_of scene.now) (arm.Swap condition byte rd.now rm.now rn.now) }
+{
+    ArmInstr::Swap {
+        condition,
+        byte,
+        rn: register(scene, rn),
+        rd: register(scene, rd),
+        rm: register(scene, rm),
+    }
+}
+
+fn status_with_number(
+    condition: Condition,
+    saved: bool,
+    fields: u8,
+    number: Result<u32, LineKind>,
+) -> Result<ArmInstr, LineKind>
+    ensures { result ≡ and_then number (λ n. immediates.status_of condition saved fields (immediates.immediate n)) }
+{
+    match number {
+        Ok(number) => status_of(condition, saved, fields, number),
+        Err(kind) => Err(kind),
+    }
+}
+
+pub fn status_number(
+    alloc: Global,
+    scene: &Scene<'_>,
+    condition: Condition,
+    saved: bool,
+    fields: u8,
+    value: &Expr,
+) -> Result<Result<ArmInstr, LineKind>, NoMemory>
+    requires { IsRead value.now }
+    ensures { IfOk result (λ i. i ≡ forms.arm_instruction (context_of scene.now) (arm.WriteStatusImmediate condition saved fields value.now)) }
+{
+    let number = number_there(alloc, scene, value)?;
+    Ok(status_with_number(condition, saved, fields, number))
+}

@@ -1,0 +1,276 @@
+//! All lines of ARM state.
+
+ghost use Rattle.std.specs.Prelude.{◌≡◌, ◌^◌, nat_lt, Ok, Err, if◌then◌else◌, IfOk};
+ghost use Rattle.sdt_fault.specs.declared.kinds.LineKind.TheVariants.{OutOfRange};
+ghost use Rattle.arm_isa.specs.declared.instr.ArmInstr.TheVariants as instr;
+ghost use Rattle.asm_model.specs.declared.arm_lines.ArmLine.TheVariants as arm;
+ghost use Rattle.said_model.specs.Said.{IsRead, ArmSaid};
+ghost use Rattle.source_model.specs.ArmForms as forms;
+ghost use Rattle.source_model.specs.Contexts.{Context, and_then};
+ghost use Rattle.source_model.specs.Units as units;
+ghost use Rattle.asm_instructions.specs.Scenes.{Shows, context_of};
+
+use crate::blocks::transfer_block;
+use crate::branches::{branch, target_symbol};
+use crate::data::{
+    data_number, data_register_shifted, data_shifted, multiply, multiply_long, status_number, swap,
+};
+use crate::scenes::{Scene, register};
+use crate::transfers::{transfer, transfer_half, transfer_shifted};
+use crate::values::number_there;
+use arm_isa::ArmInstr;
+use asm_model::{ArmLine, Expr};
+use sdt_fault::kinds::LineKind;
+use sdt_fault::{NoMemory, Text};
+use sdt_word::Condition;
+use std::alloc::Global;
+
+fn interrupt_by(condition: Condition, number: Result<u32, LineKind>) -> Result<ArmInstr, LineKind>
+    ensures { result ≡ and_then number (λ n. if nat_lt n (2 ^ 24) then Ok (instr.SoftwareInterrupt condition n) else Err OutOfRange) }
+{
+    let number = number?;
+    if number < 0x0100_0000 {
+        return Ok(ArmInstr::SoftwareInterrupt { condition, number });
+    }
+    Err(LineKind::OutOfRange)
+}
+
+fn interrupt(
+    alloc: Global,
+    scene: &Scene<'_>,
+    condition: Condition,
+    number: &Expr,
+) -> Result<Result<ArmInstr, LineKind>, NoMemory>
+    requires { IsRead number.now }
+    ensures { IfOk result (λ i. i ≡ forms.arm_instruction (context_of scene.now) (arm.SoftwareInterrupt condition number.now)) }
+{
+    let number = number_there(alloc, scene, number)?;
+    Ok(interrupt_by(condition, number))
+}
+
+/// The instruction that a line says with what the scene finds, or the kind of its fault.
+fn instruction_there(
+    alloc: Global,
+    scene: &Scene<'_>,
+    line: &ArmLine,
+) -> Result<Result<ArmInstr, LineKind>, NoMemory>
+    requires { ArmSaid line.now }
+    ensures { IfOk result (λ i. i ≡ forms.arm_instruction (context_of scene.now) line.now) }
+{
+    match line {
+        ArmLine::DataImmediate {
+            condition,
+            operation,
+            set_flags,
+            rd,
+            rn,
+            value,
+        } => {
+            data_number(
+                alloc, scene, *condition, *operation, *set_flags, rd, rn, value,
+            )
+        }
+        ArmLine::DataShifted {
+            condition,
+            operation,
+            set_flags,
+            rd,
+            rn,
+            rm,
+            shift,
+        } => {
+            data_shifted(
+                alloc, scene, *condition, *operation, *set_flags, rd, rn, rm, shift,
+            )
+        }
+        ArmLine::DataRegisterShifted {
+            condition,
+            operation,
+            set_flags,
+            rd,
+            rn,
+            rm,
+            shift,
+            rs,
+        } => {
+            Ok(Ok(data_register_shifted(
+                scene, *condition, *operation, *set_flags, rd, rn, rm, *shift, rs,
+            )))
+        }
+        ArmLine::Multiply {
+            condition,
+            accumulate,
+            set_flags,
+            rd,
+            rm,
+            rs,
+            rn,
+        } => { Ok(Ok(multiply(scene, *condition, *accumulate, *set_flags, rd, rm, rs, rn))) }
+        ArmLine::MultiplyLong {
+            condition,
+            signed,
+            accumulate,
+            set_flags,
+            low,
+            high,
+            rm,
+            rs,
+        } => {
+            Ok(Ok(multiply_long(
+                scene,
+                *condition,
+                *signed,
+                *accumulate,
+                *set_flags,
+                low,
+                high,
+                rm,
+                rs,
+            )))
+        }
+        ArmLine::Swap {
+            condition,
+            byte,
+            rd,
+            rm,
+            rn,
+        } => { Ok(Ok(swap(scene, *condition, *byte, rd, rm, rn))) }
+        ArmLine::BranchExchange { condition, rm } => {
+            let rm = register(scene, rm);
+            Ok(Ok(ArmInstr::BranchExchange {
+                condition: *condition,
+                rm,
+            }))
+        }
+        ArmLine::ReadStatus {
+            condition,
+            saved,
+            rd,
+        } => {
+            let rd = register(scene, rd);
+            Ok(Ok(ArmInstr::ReadStatus {
+                condition: *condition,
+                saved: *saved,
+                rd,
+            }))
+        }
+        ArmLine::WriteStatus {
+            condition,
+            saved,
+            fields,
+            rm,
+        } => {
+            let rm = register(scene, rm);
+            Ok(Ok(ArmInstr::WriteStatus {
+                condition: *condition,
+                saved: *saved,
+                fields: *fields,
+                rm,
+            }))
+        }
+        ArmLine::WriteStatusImmediate {
+            condition,
+            saved,
+            fields,
+            value,
+        } => { status_number(alloc, scene, *condition, *saved, *fields, value) }
+        ArmLine::TransferImmediate {
+            condition,
+            load,
+            byte,
+            rd,
+            address,
+        } => { transfer(alloc, scene, *condition, *load, *byte, rd, address) }
+        ArmLine::TransferShifted {
+            condition,
+            load,
+            byte,
+            rd,
+            rn,
+            indexing,
+            subtract,
+            rm,
+            shift,
+        } => {
+            transfer_shifted(
+                alloc, scene, *condition, *load, *byte, rd, rn, *indexing, *subtract, rm, shift,
+            )
+        }
+        ArmLine::TransferHalf {
+            condition,
+            load,
+            kind,
+            rd,
+            rn,
+            indexing,
+            offset,
+        } => {
+            transfer_half(
+                alloc, scene, *condition, *load, *kind, rd, rn, *indexing, offset,
+            )
+        }
+        ArmLine::TransferBlock {
+            condition,
+            load,
+            mode,
+            rn,
+            write_back,
+            list,
+            user,
+        } => {
+            Ok(Ok(transfer_block(
+                scene,
+                *condition,
+                *load,
+                *mode,
+                rn,
+                *write_back,
+                list,
+                *user,
+            )))
+        }
+        ArmLine::Branch {
+            condition,
+            link,
+            target,
+        } => { branch(alloc, scene, *condition, *link, target) }
+        ArmLine::SoftwareInterrupt { condition, number } => {
+            interrupt(alloc, scene, *condition, number)
+        }
+    }
+}
+
+/// The instruction that a line says, or the kind of its fault. A branch that is left to the linker holds its number
+/// less how far pc stands behind the start of the area.
+pub fn arm_instruction(
+    alloc: Global,
+    scene: &Scene<'_>,
+    line: &ArmLine,
+) -> Result<Result<ArmInstr, LineKind>, NoMemory>
+    requires { ArmSaid line.now }
+    ensures { IfOk result (λ i. (c : Context) → Shows scene.now c → i ≡ forms.arm_instruction c line.now) }
+{
+    instruction_there(alloc, scene, line)
+}
+
+fn symbol_there(alloc: Global, scene: &Scene<'_>, line: &ArmLine) -> Result<Option<Text>, NoMemory>
+    requires { ArmSaid line.now }
+    ensures { IfOk result (λ s. s ≡ units.branch_symbol (context_of scene.now) line.now) }
+{
+    match line {
+        ArmLine::Branch { target, .. } => target_symbol(alloc, scene, target),
+        _ => Ok(None),
+    }
+}
+
+/// The symbol of a branch that is left to the linker.
+pub fn branch_symbol(
+    alloc: Global,
+    scene: &Scene<'_>,
+    line: &ArmLine,
+) -> Result<Option<Text>, NoMemory>
+    requires { ArmSaid line.now }
+    ensures { IfOk result (λ s. (c : Context) → Shows scene.now c → s ≡ units.branch_symbol c line.now) }
+{
+    symbol_there(alloc, scene, line)
+}
