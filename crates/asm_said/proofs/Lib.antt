@@ -1,0 +1,11 @@
+pub mod AddressLemmas
+pub mod ArmLemmas
+pub mod DirectiveLemmas
+pub mod FormLemmas
+pub mod GivesLemmas
+pub mod LabelLemmas
+pub mod LineLemmas
+pub mod ListLemmas
+pub mod OperandLemmas
+pub mod ReadLemmas
+pub mod WordLemmas

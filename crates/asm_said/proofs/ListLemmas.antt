@@ -1,0 +1,138 @@
+-- Register lists, bases and status registers.
+use Rattle.std.proofs.Common.{◌≡◌, ℕ, ◌+◌, ◌*◌, ◌<◌, ◌==◌, ◌&&◌, nat_le, nat_lt, List, [], ◌∷◌, length, take, drop, Bool, true, false, cond, refl, arith, Option, Some, None}
+use Rattle.std.specs.Prelude.{codes, Result, Ok, Err}
+use Rattle.std.proofs.lemmas.Bool.{and_parts}
+use Rattle.sdt_fault.specs.declared.kinds.LineKind.{LineKind}
+use Rattle.sdt_fault.specs.declared.kinds.LineKind.TheVariants.{Syntax, BadOperand}
+use Rattle.asm_model.specs.declared.tokens.Token.{Token}
+use Rattle.asm_model.specs.declared.tokens.TokenKind.{TokenKind}
+use Rattle.asm_model.specs.declared.tokens.TokenKind.TheVariants as kind
+use Rattle.asm_model.specs.declared.operands.Register.{Register}
+use Rattle.asm_model.specs.declared.operands.Register.TheVariants as register_is
+use Rattle.asm_model.specs.declared.operands.ListItem.{ListItem}
+use Rattle.asm_model.specs.declared.operands.ListItem.TheVariants as entry
+use Rattle.asm_model.specs.Forms.{same}
+use Rattle.asm_model.specs.Operands.{operands_at}
+use Rattle.asm_model.specs.Parts.{piece}
+use Rattle.layout_laws.proofs.LineLemmas.{EachHasForm}
+use Rattle.asm_arm.specs.Lists.{base, range, range_of, item, items, pc_alone, is_pc, content, list, list_marked, register_list, status_begun, or_bad, occurrences, are_fields, fields_with, fields_named, with_fields, fields_of, fields}
+use Rattle.asm_arm.specs.Operands.{both, marked, between, register, register_of}
+use Rattle.said_model.specs.Said.{RegisterSaid, ItemSaid, AllItemsSaid}
+use Rattle.asm_said.proofs.AddressLemmas.{followed_gives}
+use Rattle.asm_said.proofs.FormLemmas.{AllHaveForm, SomeHaveForm, operands_at_form, marked_form, between_form}
+use Rattle.asm_said.proofs.GivesLemmas.{Gives, OptionGives, mapped_gives, both_give, cond_gives}
+use Rattle.asm_said.proofs.OperandLemmas.{register_of_said, register_said}
+
+-- ---- bases
+
+abbrev pub BaseSaid : Register × Bool → Type 0
+BaseSaid p = RegisterSaid p.0
+
+pub base_said : (text : List ℕ) (ts : List Token) → EachHasForm text ts → Gives BaseSaid (base text ts)
+base_said text ts f =
+    let us = (marked text (codes "!") ts).0 in
+    mapped_gives RegisterSaid BaseSaid (λ rn. (rn, (marked text (codes "!") ts).1)) (register text us) (λ rn p. p)
+    (register_said text us (marked_form text (codes "!") ts f))
+
+-- ---- lists
+
+abbrev pub PairSaid : Register × Register → Type 0
+PairSaid p = RegisterSaid p.0 × RegisterSaid p.1
+
+pub range_said : (a b : Register) → RegisterSaid a → RegisterSaid b → Gives ItemSaid (range a b)
+range_said (register_is.Number m) (register_is.Number n) h k =
+    cond_gives ItemSaid (nat_lt n m) (Err BadOperand) (Ok (entry.Range (register_is.Number m) (register_is.Number n))) tt (h, k)
+range_said (register_is.Number m) (register_is.Named t) h k = (h, k)
+range_said (register_is.Named s) (register_is.Number n) h k = (h, k)
+range_said (register_is.Named s) (register_is.Named t) h k = (h, k)
+
+pub range_of_said : (a b : Result Register LineKind) → Gives RegisterSaid a → Gives RegisterSaid b → Gives ItemSaid (range_of a b)
+range_of_said a b h k =
+    followed_gives PairSaid ItemSaid (both a b) (λ p. range p.0 p.1) (λ p q. range_said p.0 p.1 q.0 q.1)
+    (both_give RegisterSaid RegisterSaid PairSaid (λ x y. (x, y)) a b (λ x y p q. (p, q)) h k)
+
+pub item_said : (text : List ℕ) (ts : List Token) → EachHasForm text ts → Gives ItemSaid (item text ts)
+item_said text [] f = tt
+item_said text (t ∷ []) f =
+    mapped_gives RegisterSaid ItemSaid (λ r. entry.One r) (register_of t.kind (piece text t)) (λ r p. p) (register_of_said t.kind (piece text t) f.0)
+item_said text (t ∷ u ∷ []) f = tt
+item_said text (t ∷ u ∷ v ∷ []) f =
+    let first = register_of t.kind (piece text t) in
+    let last = register_of v.kind (piece text v) in
+    cond_gives ItemSaid (same (piece text u) (codes "-")) (range_of first last) (Err Syntax)
+    (range_of_said first last (register_of_said t.kind (piece text t) f.0) (register_of_said v.kind (piece text v) f.1.1.0)) tt
+item_said text (t ∷ u ∷ v ∷ w ∷ ts) f = tt
+
+pub items_said : (text : List ℕ) (os : List (List Token)) → AllHaveForm text os → Gives AllItemsSaid (items text os)
+items_said text [] f = tt
+items_said text (o ∷ os) f =
+    both_give ItemSaid AllItemsSaid AllItemsSaid (λ x xs. x ∷ xs) (item text o) (items text os) (λ x xs p q. (p, q)) (item_said text o f.0) (items_said text os f.1)
+
+pub content_said : (text : List ℕ) (o : Option (List Token)) → SomeHaveForm text o → Gives AllItemsSaid (content text o)
+content_said text None f = tt
+content_said text (Some ts) f = items_said text (operands_at text 0 ts) (operands_at_form text 0 ts f)
+
+pub pc_said : AllItemsSaid pc_alone
+pc_said = (omega arith, tt)
+
+pub list_said : (text : List ℕ) (ts : List Token) → EachHasForm text ts → Gives AllItemsSaid (list text ts)
+list_said text ts f =
+    let inner = between text (codes "{") (codes "}") ts in
+    cond_gives AllItemsSaid (is_pc text ts) (Ok pc_alone) (content text inner) pc_said
+    (content_said text inner (between_form text (codes "{") (codes "}") ts f))
+
+abbrev pub ListSaid : List ListItem × Bool → Type 0
+ListSaid p = AllItemsSaid p.0
+
+pub list_marked_said : (text : List ℕ) (ts : List Token) (mark : Bool) → EachHasForm text ts → Gives ListSaid (list_marked text (ts, mark))
+list_marked_said text ts mark f = mapped_gives AllItemsSaid ListSaid (λ l. (l, mark)) (list text ts) (λ l p. p) (list_said text ts f)
+
+pub register_list_said : (text : List ℕ) (ts : List Token) → EachHasForm text ts → Gives ListSaid (register_list text ts)
+register_list_said text ts f =
+    list_marked_said text (marked text (codes "^") ts).0 (marked text (codes "^") ts).1 (marked_form text (codes "^") ts f)
+
+-- ---- status registers
+
+abbrev pub IsMask : ℕ → Type 0
+IsMask n = n < 16
+
+pub mask_small : (f s x c n : ℕ) → are_fields f s x c n ≡ true → 8 * f + 4 * s + 2 * x + c < 16
+mask_small f s x c n h =
+    let p = and_parts (nat_le f 1) (nat_le s 1 && (nat_le x 1 && (nat_le c 1 && (nat_lt 0 n && f + s + x + c == n)))) h in
+    let q = and_parts (nat_le s 1) (nat_le x 1 && (nat_le c 1 && (nat_lt 0 n && f + s + x + c == n))) p.1 in
+    let r = and_parts (nat_le x 1) (nat_le c 1 && (nat_lt 0 n && f + s + x + c == n)) q.1 in
+    let t = and_parts (nat_le c 1) (nat_lt 0 n && f + s + x + c == n) r.1 in
+    grind (arith, p.0, q.0, r.0, t.0)
+
+pub fields_with_said : (f s x c n : ℕ) → OptionGives IsMask (fields_with f s x c n)
+fields_with_said f s x c n = by_test (are_fields f s x c n) refl
+  where
+    by_test : (b : Bool) → are_fields f s x c n ≡ b → OptionGives IsMask (cond b (Some (8 * f + 4 * s + 2 * x + c)) None)
+    by_test true e = mask_small f s x c n e
+    by_test false e = tt
+
+abbrev pub FieldsSaid : Bool × ℕ → Type 0
+FieldsSaid p = IsMask p.1
+
+pub with_fields_said : (o : Option Bool) (f : Option ℕ) → OptionGives IsMask f → Gives FieldsSaid (or_bad (with_fields o f))
+with_fields_said None f h = tt
+with_fields_said (Some p) None h = tt
+with_fields_said (Some p) (Some f) h = h
+
+pub fields_of_said : (k : TokenKind) (s : List ℕ) → Gives FieldsSaid (fields_of k s)
+fields_of_said kind.Name s =
+    let letters = drop 5 s in
+    with_fields_said (status_begun (take 5 s)) (fields_named letters)
+    (fields_with_said (occurrences 102 letters) (occurrences 115 letters) (occurrences 120 letters) (occurrences 99 letters) (length letters))
+fields_of_said kind.Barred s = tt
+fields_of_said kind.Number s = tt
+fields_of_said kind.Quoted s = tt
+fields_of_said kind.Character s = tt
+fields_of_said kind.Braced s = tt
+fields_of_said kind.Local s = tt
+fields_of_said kind.Sign s = tt
+
+pub fields_said : (text : List ℕ) (ts : List Token) → Gives FieldsSaid (fields text ts)
+fields_said text [] = tt
+fields_said text (t ∷ []) = fields_of_said t.kind (piece text t)
+fields_said text (t ∷ u ∷ ts) = tt

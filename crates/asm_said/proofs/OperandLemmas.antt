@@ -1,0 +1,128 @@
+-- Registers and second operands: numbers of registers are below 16, and names in their place begin with no bar.
+use Rattle.std.proofs.Common.{ℕ, ◌<◌, List, [], ◌∷◌, refl, arith, Option, Some, None}
+use Rattle.std.specs.Prelude.{codes, Result, Ok, Err}
+use Rattle.sdt_fault.specs.declared.kinds.LineKind.{LineKind}
+use Rattle.sdt_fault.specs.declared.kinds.LineKind.TheVariants.{Syntax}
+use Rattle.sdt_word.specs.declared.codes.ShiftKind.{ShiftKind}
+use Rattle.asm_model.specs.declared.tokens.Token.{Token}
+use Rattle.asm_model.specs.declared.tokens.TokenKind.{TokenKind}
+use Rattle.asm_model.specs.declared.tokens.TokenKind.TheVariants as kind
+use Rattle.asm_model.specs.declared.exprs.Expr.{Expr}
+use Rattle.asm_model.specs.declared.operands.Register.{Register}
+use Rattle.asm_model.specs.declared.operands.Shift.TheVariants as shift
+use Rattle.asm_model.specs.Grammar.{ParsesTokens}
+use Rattle.asm_model.specs.Parts.{piece}
+use Rattle.asm_model.specs.Registers.{numbered_register, special_register, call_register, register_named}
+use Rattle.asm_model.specs.Says.{on_both, mapped, between_bars, Expression}
+use Rattle.asm_model.specs.Tokens.{is_called}
+use Rattle.layout_laws.specs.Sound.{IsBare}
+use Rattle.layout_laws.proofs.LineLemmas.{HasForm, EachHasForm, word_bare}
+use Rattle.asm_arm.specs.declared.operands.Scale.{Scale}
+use Rattle.asm_arm.specs.declared.operands.Scale.TheVariants as scale
+use Rattle.asm_arm.specs.declared.operands.Second.{Second}
+use Rattle.asm_arm.specs.declared.operands.Second.TheVariants as second
+use Rattle.asm_arm.specs.Operands.{without_first, named, register_of, register, shift_named, extended, ReadsAmount, ReadsKind, ReadsScale, scaled, ReadsPlain, ReadsSecond}
+use Rattle.said_model.specs.Said.{IsRead, RegisterSaid, ShiftSaid}
+use Rattle.asm_said.proofs.FormLemmas.{SomeHaveForm}
+use Rattle.asm_said.proofs.GivesLemmas.{Gives, OptionGives, equal_gives, mapped_gives, both_give, cond_gives, or_else_gives, option_gives}
+use Rattle.asm_said.proofs.ReadLemmas.{expressions_are_read}
+
+-- ---- expressions
+
+pub parsed_read : (text : List ℕ) (ts : List Token) (e : Result Expr LineKind) → ParsesTokens text ts e → Gives IsRead e
+parsed_read text ts (Ok e) h = expressions_are_read text ts e h
+parsed_read text ts (Err k) h = tt
+
+pub expression_gives : {A : Type 0} (P : A → Type 0) (text : List ℕ) (make : Expr → A) (ts : List Token) (r : Result A LineKind)
+    → Expression text make ts r → ((e : Expr) → IsRead e → P (make e)) → Gives P r
+expression_gives P text make ts r h f =
+    equal_gives P r (mapped make h.0) h.2 (mapped_gives IsRead P make h.0 f (parsed_read text ts h.0 h.1))
+
+-- ---- registers
+
+abbrev pub IsRegister : ℕ → Type 0
+IsRegister n = n < 16
+
+pub numbered_small : (s : List ℕ) → OptionGives IsRegister (numbered_register s)
+unfolding numbered_register
+numbered_small s = search (option_gives, arith) depth 40
+
+pub special_small : (s : List ℕ) → OptionGives IsRegister (special_register s)
+unfolding special_register
+special_small s = search (option_gives, arith) depth 40
+
+pub call_small : (s : List ℕ) → OptionGives IsRegister (call_register s)
+unfolding call_register
+call_small s = search (option_gives, arith) depth 40
+
+pub register_small : (s : List ℕ) → OptionGives IsRegister (register_named s)
+unfolding register_named
+register_small s =
+    or_else_gives IsRegister (numbered_register s) _ (numbered_small s)
+    (or_else_gives IsRegister (special_register s) (call_register s) (special_small s) (call_small s))
+
+pub named_said : (s : List ℕ) (o : Option ℕ) → OptionGives IsRegister o → IsBare s → RegisterSaid (named s o)
+named_said s (Some n) h b = h
+named_said s None h b = b
+
+pub register_of_said : (k : TokenKind) (s : List ℕ) → HasForm k s → Gives RegisterSaid (register_of k s)
+register_of_said kind.Name s h = named_said s (register_named s) (register_small s) (word_bare kind.Name s s h refl)
+register_of_said kind.Barred s h = word_bare kind.Barred s (between_bars s) h refl
+register_of_said kind.Number s h = tt
+register_of_said kind.Quoted s h = tt
+register_of_said kind.Character s h = tt
+register_of_said kind.Braced s h = tt
+register_of_said kind.Local s h = tt
+register_of_said kind.Sign s h = tt
+
+pub register_said : (text : List ℕ) (ts : List Token) → EachHasForm text ts → Gives RegisterSaid (register text ts)
+register_said text [] h = tt
+register_said text (t ∷ []) h = register_of_said t.kind (piece text t) h.0
+register_said text (t ∷ u ∷ ts) h = tt
+
+-- ---- shifts and second operands
+
+abbrev pub ScaleSaid : Scale → Type 0
+ScaleSaid (scale.By k a) = IsRead a
+ScaleSaid (scale.Register k rs) = RegisterSaid rs
+ScaleSaid scale.Extended = Unit {0}
+
+abbrev pub SecondSaid : Second → Type 0
+SecondSaid (second.Number e) = IsRead e
+SecondSaid (second.Shifted rm by) = RegisterSaid rm × ShiftSaid by
+SecondSaid (second.RegisterShifted rm k rs) = RegisterSaid rm × RegisterSaid rs
+
+pub amount_said : (text : List ℕ) (k : ShiftKind) (ts : List Token) (o : Option (List Token)) (r : Result Scale LineKind) → EachHasForm text ts
+    → ReadsAmount text k ts o r → Gives ScaleSaid r
+amount_said text k ts (Some e) r f h = expression_gives ScaleSaid text (λ a. scale.By k a) e r h (λ a p. p)
+amount_said text k ts None r f h =
+    equal_gives ScaleSaid r (mapped (λ rs. scale.Register k rs) (register text ts)) h
+    (mapped_gives RegisterSaid ScaleSaid (λ rs. scale.Register k rs) (register text ts) (λ rs p. p) (register_said text ts f))
+
+pub kind_said : (text : List ℕ) (k : Option ShiftKind) (ts : List Token) (r : Result Scale LineKind) → EachHasForm text ts → ReadsKind text k ts r → Gives ScaleSaid r
+kind_said text None ts r f h = equal_gives ScaleSaid r (Err Syntax) h tt
+kind_said text (Some k) ts r f h = amount_said text k ts (without_first text (codes "#") ts) r f h
+
+pub scale_said : (text : List ℕ) (ts : List Token) (r : Result Scale LineKind) → EachHasForm text ts → ReadsScale text ts r → Gives ScaleSaid r
+scale_said text [] r f h = equal_gives ScaleSaid r (Err Syntax) h tt
+scale_said text (t ∷ []) r f h =
+    equal_gives ScaleSaid r (extended (piece text t)) h (cond_gives ScaleSaid (is_called (codes "RRX") (piece text t)) (Ok scale.Extended) (Err Syntax) tt tt)
+scale_said text (t ∷ u ∷ ts) r f h = kind_said text (shift_named (piece text t)) (u ∷ ts) r f.1 h
+
+pub scaled_said : (rm : Register) (x : Scale) → RegisterSaid rm → ScaleSaid x → SecondSaid (scaled rm x)
+scaled_said rm (scale.By k a) h p = (h, p)
+scaled_said rm (scale.Register k rs) h p = (h, p)
+scaled_said rm scale.Extended h p = (h, tt)
+
+pub plain_said : (text : List ℕ) (x : List Token) (o : Option (List Token)) (r : Result Second LineKind) → EachHasForm text x → ReadsPlain text x o r → Gives SecondSaid r
+plain_said text x (Some e) r f h = expression_gives SecondSaid text (λ v. second.Number v) e r h (λ v p. p)
+plain_said text x None r f h =
+    equal_gives SecondSaid r (mapped (λ rm. second.Shifted rm shift.Unshifted) (register text x)) h
+    (mapped_gives RegisterSaid SecondSaid (λ rm. second.Shifted rm shift.Unshifted) (register text x) (λ rm p. (p, tt)) (register_said text x f))
+
+pub second_said : (text : List ℕ) (x : List Token) (s : Option (List Token)) (r : Result Second LineKind) → EachHasForm text x → SomeHaveForm text s
+    → ReadsSecond text x s r → Gives SecondSaid r
+second_said text x None r f g h = plain_said text x (without_first text (codes "#") x) r f h
+second_said text x (Some s) r f g h =
+    equal_gives SecondSaid r (on_both (λ rm y. scaled rm y) (register text x) h.0) h.2
+    (both_give RegisterSaid ScaleSaid SecondSaid (λ rm y. scaled rm y) (register text x) h.0 scaled_said (register_said text x f) (scale_said text s h.0 g h.1))

@@ -1,0 +1,25 @@
+-- What a line says is a statement as layout and emission ask for it: expressions are what tokens spell, names begin with
+-- no bar, a local label has two digits at most, registers are 0 to 15, and what an instruction's form leaves out is
+-- register 0. This project's.
+use Rattle.std.specs.Prelude.{ℕ, List, Some, Ok}
+use Rattle.asm_model.specs.declared.lines.Flat.{Flat}
+use Rattle.asm_model.specs.declared.exprs.Expr.{Expr}
+use Rattle.asm_model.specs.declared.tokens.Token.{Token}
+use Rattle.asm_model.specs.declared.statements.Statement.{Statement}
+use Rattle.asm_model.specs.Grammar.{ParsesTokens}
+use Rattle.asm_model.specs.Says.{SaysDirective}
+use Rattle.asm_model.specs.Tokens.{Tokens}
+use Rattle.asm_arm.specs.Says.{SaysArm}
+use Rattle.said_model.specs.Said.{IsRead, IsSaid}
+
+-- an expression of tokens is read
+abbrev pub ExpressionsAreRead : Type 0
+ExpressionsAreRead = (text : List ℕ) (ts : List Token) (e : Expr) → ParsesTokens text ts (Ok e) → IsRead e
+
+-- what a line says as a directive is a statement as layout asks for it
+abbrev pub DirectivesAreSaid : Type 0
+DirectivesAreSaid = (flat : Flat) (ts : List Token) (s : Statement) → Tokens flat.text ts → SaysDirective flat ts (Ok (Some s)) → IsSaid s
+
+-- what a line of ARM state says is a statement as layout asks for it
+abbrev pub LinesAreSaid : Type 0
+LinesAreSaid = (flat : Flat) (s : Statement) → SaysArm flat (Ok (Some s)) → IsSaid s

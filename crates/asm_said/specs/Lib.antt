@@ -1,0 +1,2 @@
+-- What the laws of said statements cite.
+pub mod Laws
