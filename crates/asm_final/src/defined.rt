@@ -1,7 +1,6 @@
-//! What a statement defines and imports.
+//! What a statement defines.
 
 ghost use Rattle.std.specs.Prelude.{◌≡◌};
-ghost use Rattle.std.specs.Option.{option_copied};
 ghost use Rattle.layout_model.specs.Labels as labels;
 ghost use Rattle.asm_final.specs.Defined.{defined_in, with_entry};
 
@@ -61,25 +60,5 @@ pub fn defined_by(statement: &Statement) -> Defined<'_>
     match &statement.label {
         None => Defined::Nothing,
         Some(name) => what_defines(name, &statement.what),
-    }
-}
-
-fn imported_by(line: &DirectiveLine) -> Option<&Text>
-    ensures { option_copied result ≡ labels.imported_in (What.Directive line.now) }
-{
-    match line {
-        DirectiveLine::Import { name, weak: _ } => Some(name),
-        DirectiveLine::Extern { name, weak: _ } => Some(name),
-        _ => None,
-    }
-}
-
-/// The name that a statement imports.
-pub fn imported_in(what: &What) -> Option<&Text>
-    ensures { option_copied result ≡ labels.imported_in what.now }
-{
-    match what {
-        What::Directive(line) => imported_by(line),
-        _ => None,
     }
 }

@@ -3,7 +3,6 @@
 
 mod defined;
 mod dues;
-mod entries;
 pub mod lines;
 mod listing;
 mod names;

@@ -7,12 +7,12 @@ ghost use Rattle.layout_model.specs.Labels.{imported_entries, defined_by as defi
 ghost use Rattle.asm_sight.specs.Steps.{one_entry};
 ghost use Rattle.asm_final.specs.Source.{own_entries, line_entries};
 
-use crate::defined::{Defined, defined_by, imported_in};
-use crate::entries::{imported_entry, label_entry, valued_entry};
+use crate::defined::{Defined, defined_by};
 use crate::lines::PlacedLine;
 use asm_model::{LaidName, Value};
 use asm_sight::KnownNames;
 use asm_sight::copies::entry_copy;
+use asm_sight::made::{imported_entry, imported_name, label_entry, valued_entry};
 use sdt_fault::{NoMemory, Text};
 use std::alloc::Global;
 
@@ -59,7 +59,7 @@ fn own_entry(
 fn import_of(alloc: Global, line: &PlacedLine<'_>) -> Result<Option<LaidName>, NoMemory>
     ensures { IfOk result (λ entry. one_entry entry ≡ imported_entries (import_in line.now.statement.now.what)) }
 {
-    match imported_in(&line.statement.what) {
+    match imported_name(&line.statement.what) {
         None => Ok(None),
         Some(name) => Ok(Some(imported_entry(alloc, name)?)),
     }

@@ -6,12 +6,12 @@ ghost use Rattle.asm_final.specs.Owing.{owed_of};
 ghost use Rattle.asm_final.specs.Source.{IsEntryOf, IsEntryAt, Settles};
 
 use crate::dues::Due;
-use crate::entries::equal_entry;
 use crate::listing::add_entry;
 use crate::values::{final_value, references_of};
 use asm_locals::Locals;
 use asm_model::{EvalFault, LaidName};
 use asm_sight::KnownNames;
+use asm_sight::made::equal_entry;
 use sdt_fault::NoMemory;
 use std::alloc::Global;
 

@@ -11,11 +11,11 @@ ghost use Rattle.asm_laying.specs.Declaring.{AllShort, Declares};
 ghost use Rattle.asm_laying.specs.Defining.{defined_of, listed};
 
 use crate::behind::{Behind, START};
-use crate::defining::{Defines, declared_entry, defined_by, imported_in};
-use crate::entries::imported_entry;
+use crate::defining::{Defines, declared_entry, defined_by};
 use asm_locals::Locals;
 use asm_model::{LaidName, Statement, What};
 use asm_sight::KnownNames;
+use asm_sight::made::{imported_entry, imported_name};
 use sdt_fault::NoMemory;
 use std::alloc::Global;
 
@@ -47,7 +47,7 @@ pub fn add_imported(names: &mut KnownNames, alloc: Global, what: &What) -> Resul
     requires { length names.old < 2 ^ 32 - 1 }
     ensures { OnOk result (names.new ≡ names.old ++ labels.imported_entries (labels.imported_in what.now)) }
 {
-    match imported_in(what) {
+    match imported_name(what) {
         None => Ok(()),
         Some(name) => {
             let entry = imported_entry(alloc, name)?;

@@ -1,13 +1,12 @@
 //! What a statement defines, and the entries of its names.
 
 ghost use Rattle.std.specs.Prelude.{◌≡◌, ◌<◌, None, IfOk};
-ghost use Rattle.std.specs.Option.{option_map};
 ghost use Rattle.layout_model.specs.Labels as labels;
 ghost use Rattle.said_model.specs.Said.{LocalSaid};
 ghost use Rattle.asm_laying.specs.Defining.{declared_entry, defined_of, own_entry};
 
-use crate::entries::{label_entry, valued_entry};
 use asm_model::{DirectiveLine, Expr, LaidName, RnOperand, Statement, Value, What};
+use asm_sight::made::{label_entry, valued_entry};
 use sdt_fault::{NoMemory, Text};
 use std::alloc::Global;
 
@@ -74,17 +73,6 @@ pub fn defined_by(statement: &Statement) -> Defines<'_>
     match &statement.label {
         None => Defines::Unnamed,
         Some(label) => named(label, &statement.what),
-    }
-}
-
-/// The name that a statement imports.
-pub fn imported_in(what: &What) -> Option<&Text>
-    ensures { option_map (λ name. name.now) result ≡ labels.imported_in what.now }
-{
-    match what {
-        What::Directive(DirectiveLine::Import { name, .. }) => Some(name),
-        What::Directive(DirectiveLine::Extern { name, .. }) => Some(name),
-        _ => None,
     }
 }
 

@@ -16,12 +16,12 @@ ghost use Rattle.asm_laying.specs.Laying.{equal_names, DefinedRead, IsFound, Sho
 
 use crate::declarations::Declarations;
 use crate::defining::{Defines, defined_by, own_entry};
-use crate::entries::equal_entry;
 use crate::extents::{Taken, extent_of};
 use crate::values::{map_after, said_number, value_there};
 use asm_locals::Locals;
 use asm_model::{DirectiveLine, Expr, LaidName, PseudoLine, RnOperand, Statement, Value, What};
 use asm_offsets::Extent;
+use asm_sight::made::equal_entry;
 use asm_sight::{KnownNames, Place};
 use sdt_fault::kinds::LineKind;
 use sdt_fault::{List as Listed, NoMemory, Text};

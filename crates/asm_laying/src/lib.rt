@@ -5,7 +5,6 @@ pub mod areas;
 pub mod behind;
 pub mod declarations;
 pub mod defining;
-pub mod entries;
 pub mod extents;
 pub mod finding;
 pub mod laying;

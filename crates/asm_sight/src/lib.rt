@@ -8,6 +8,7 @@ pub mod faults;
 pub mod keeping;
 pub mod known;
 pub mod laws;
+pub mod made;
 pub mod places;
 pub mod values;
 

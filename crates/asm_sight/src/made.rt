@@ -1,11 +1,12 @@
-//! The entries of names.
+//! The entries of names, as statements make them.
 
 ghost use Rattle.std.specs.Prelude.{◌≡◌, IfOk};
-ghost use Rattle.layout_model.specs.Entries as entries;
 ghost use Rattle.std.specs.Option.{option_copied};
+ghost use Rattle.layout_model.specs.Entries as entries;
+ghost use Rattle.layout_model.specs.Labels.{imported_in};
 
-use asm_model::{LaidName, Value};
-use asm_sight::KnownNames;
+use crate::known::KnownNames;
+use asm_model::{DirectiveLine, LaidName, Value, What};
 use sdt_fault::{NoMemory, Text};
 use std::alloc::Global;
 
@@ -87,5 +88,16 @@ pub fn equal_entry(
             valued_entry(alloc, name, Value::Place { symbol, plus }, thumb)
         }
         _ => valued_entry(alloc, name, value, false),
+    }
+}
+
+/// The name that a statement imports.
+pub fn imported_name(what: &What) -> Option<&Text>
+    ensures { option_copied result ≡ imported_in what.now }
+{
+    match what {
+        What::Directive(DirectiveLine::Import { name, .. }) => Some(name),
+        What::Directive(DirectiveLine::Extern { name, .. }) => Some(name),
+        _ => None,
     }
 }
