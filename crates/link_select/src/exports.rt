@@ -35,8 +35,7 @@ fn put_export<'a>(
     Ok(())
 }
 
-/// Gives each exported name the number of its object.
-fn put_exports<'a>(
+fn put_each<'a>(
     index: &mut IndexMap<&'a [u8], usize>,
     symbols: &'a [Symbol],
     number: usize,
@@ -47,6 +46,18 @@ fn put_exports<'a>(
         put_export(index, symbol, number)?;
     }
     Ok(())
+}
+
+/// Gives each exported name the number of its object. The index grows once, and not a name at a time.
+fn put_exports<'a>(
+    index: &mut IndexMap<&'a [u8], usize>,
+    symbols: &'a [Symbol],
+    number: usize,
+) -> Result<(), NoMemory>
+    ensures { OnOk result ((q : List ℕ) → number_in index.new q ≡ (if among q (exported symbols.now) then Some number else number_in index.old q)) }
+{
+    index.reserve(symbols.len())?;
+    put_each(index, symbols, number)
 }
 
 /// The first object that exports each name. The last one is noted first, and gives way to earlier ones.

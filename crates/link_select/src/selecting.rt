@@ -123,6 +123,7 @@ fn definitions_of(alloc: Global, objects: &[Named<Object>]) -> Result<List<Defin
     let mut definitions = Vec::new(alloc);
     for (i, object) in objects.iter().enumerate() {
         let symbols = object.value.symbols.as_slice();
+        definitions.reserve(symbols.len())?;
         push_definitions(alloc, &mut definitions, i as u32, symbols)?;
     }
     Ok(List::from_vec(definitions))
