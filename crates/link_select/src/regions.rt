@@ -26,10 +26,7 @@ pub enum RegionSymbols<'a> {
     },
 }
 
-fn index_names<'a>(
-    alloc: Global,
-    names: &'a [Text],
-) -> Result<IndexMap<&'a [u8], usize>, NoMemory>
+fn index_names<'a>(alloc: Global, names: &'a [Text]) -> Result<IndexMap<&'a [u8], usize>, NoMemory>
     ensures { IfOk result (λ index. (q : List ℕ) → is_some (number_in index q) ≡ among q names.now) }
 {
     let mut index = IndexMap::new(alloc);

@@ -1,4 +1,4 @@
-use Rattle.std.proofs.Common.{Bool, List, Vec, Global}
+use Rattle.std.proofs.Common.{Bool, Vec, Global}
 use Rattle.link_model.specs.Members.{members_of}
 use Rattle.link_model.specs.Chosen.{AreChosen, IsLeast}
 use Rattle.link_select.specs.Search.{marked, supply_of}
