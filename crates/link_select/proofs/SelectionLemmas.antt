@@ -2,6 +2,7 @@
 use Rattle.std.proofs.Common.{◌≡◌, ℕ, suc, ◌+◌, ◌<◌, Bool, true, false, cond, List, [], ◌∷◌, ◌++◌, length, drop, Option, Some, None, Result, Ok, Err, refl, sym, ap, ◌∙◌, subst, arith}
 use Rattle.std.specs.Prelude.{slice_get, is_some, IfOk, IsSomeAnd}
 use Rattle.std.specs.Option.{option_to_list}
+use Rattle.std.specs.Borrow.{Bor}
 use Rattle.std.specs.Map.{lookup}
 use Rattle.std.specs.Str.{bytes_eq}
 use Rattle.sdt_fault.specs.declared.answer.Fault.{Fault}
@@ -14,7 +15,7 @@ use Rattle.link_model.specs.declared.selection.Named.{Named}
 use Rattle.link_model.specs.declared.selection.Linked.{Linked}
 use Rattle.link_model.specs.declared.selection.LinkedEntry.{LinkedEntry}
 use Rattle.link_model.specs.Members.{members_of}
-use Rattle.link_model.specs.Chosen.{exporter, supplied, IsLeast, AreLinked, taken}
+use Rattle.link_model.specs.Chosen.{exporter, supplied, IsLeast, AreChosen, AreLinked, taken}
 use Rattle.link_model.specs.Definitions.{definitions_from}
 use Rattle.link_select.specs.declared.choosing.Supply.{Supply}
 use Rattle.link_select.specs.declared.members.Place.{Place}
@@ -29,7 +30,7 @@ use Rattle.link_select.proofs.ExportLemmas.{exporter_within}
 -- ---- the index and the supply
 
 pub empty_index : (m : Numbers) → m.entries ≡ [] → (q : List ℕ) → number_in m q ≡ None
-empty_index m e q = ap (λ (es : List (List ℕ × ℕ)). lookup (bytes_eq q) es) e
+empty_index m e q = ap (λ (es : List (Bor (List ℕ) × ℕ)). lookup (λ k. bytes_eq q k.now) es) e
 
 pub index_none : (m : Numbers) → m.entries ≡ [] → (os : List (Named Object)) (n : ℕ) → n ≡ length os → IsIndexOf n (drop n os) m
 index_none m e os n len q = empty_index m e q ∙ ap (exporter n q) (sym (ap (λ (k : ℕ). drop k os) len ∙ drop_end os))
@@ -44,13 +45,9 @@ supply_within s members n known len = record { below = λ q k h. by q k (is_some
 pub supply_same : (s : Supply) (objects members : List (Named Object)) → IsIndexOf 0 objects s.defined → IsIndexOf 0 members s.offered → ◌≡◌ {A = List ℕ → Option ℕ} (supply_of s) (supplied objects members)
 supply_same s objects members defined offered = λ i q. cond (is_some (defined q i)) None (offered q i)
 
-pub are_linked : (s : Supply) (objects : List (Named Object)) (archives : List (Named Archive)) (marks : List Bool) (linked : List (Named Object)) → IsIndexOf 0 objects s.defined → IsIndexOf 0 (members_of archives) s.offered
-    → IsLeast (supply_of s) objects (members_of archives) (marked marks) → linked ≡ objects ++ taken (marked marks) 0 (members_of archives) → AreLinked objects archives linked
-are_linked s objects archives marks linked defined offered least e = record {
-  chosen = marked marks;
-  are_chosen = subst (λ (f : List ℕ → Option ℕ). IsLeast f objects (members_of archives) (marked marks)) (supply_same s objects (members_of archives) defined offered) least;
-  in_order = e;
-}
+pub are_chosen : (s : Supply) (objects members : List (Named Object)) (chosen : ℕ → Bool) → IsIndexOf 0 objects s.defined → IsIndexOf 0 members s.offered → IsLeast (supply_of s) objects members chosen
+    → AreChosen objects members chosen
+are_chosen s objects members chosen defined offered least = subst (λ (f : List ℕ → Option ℕ). IsLeast f objects members chosen) (supply_same s objects members defined offered) least
 
 pub if_ok : {T E : Type 0} (P Q : T → Type 0) → ((x : T) → P x → Q x) → (r : Result T E) → IfOk r P → IfOk r Q
 if_ok P Q f (Ok x) h = f x h

@@ -16,15 +16,15 @@ use alf_archive::Archive;
 use aof_object::{Object, Symbol};
 use indexmap::IndexMap;
 use link_model::Named;
-use sdt_fault::{NoMemory, Text};
+use sdt_fault::NoMemory;
 use std::alloc::Global;
 
 /// The names that command-line objects define, and those that members offer, with the number of the first
 /// that exports each.
 #[derive(Drop)]
-pub struct Supply {
-    pub defined: IndexMap<Text, usize>,
-    pub offered: IndexMap<Text, usize>,
+pub struct Supply<'a> {
+    pub defined: IndexMap<&'a [u8], usize>,
+    pub offered: IndexMap<&'a [u8], usize>,
 }
 
 /// The member that a symbol asks for.
@@ -37,10 +37,10 @@ fn asked_by(supply: &Supply, symbol: &Symbol) -> Option<usize>
     if symbol.attributes / 16 % 2 != 0 {
         return None;
     }
-    if find(&supply.defined, &symbol.name).is_some() {
+    if find(&supply.defined, symbol.name.as_slice()).is_some() {
         return None;
     }
-    find(&supply.offered, &symbol.name)
+    find(&supply.offered, symbol.name.as_slice())
 }
 
 fn push_given(numbers: &mut Vec<usize>, number: Option<usize>) -> Result<(), NoMemory>

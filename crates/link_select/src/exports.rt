@@ -22,61 +22,70 @@ use sdt_fault::refusal::Refusal;
 use sdt_fault::{NoMemory, Text};
 use std::alloc::Global;
 
-fn put_export(
-    alloc: Global,
-    index: &mut IndexMap<Text, usize>,
-    symbol: &Symbol,
+fn put_export<'a>(
+    index: &mut IndexMap<&'a [u8], usize>,
+    symbol: &'a Symbol,
     number: usize,
 ) -> Result<(), NoMemory>
     ensures { OnOk result ((q : List ℕ) → number_in index.new q ≡ (if is_exported symbol.now.attributes && bytes_eq symbol.now.name q then Some number else number_in index.old q)) }
 {
     if symbol.attributes % 4 == 3 {
-        put(alloc, index, &symbol.name, number)?;
+        put(index, symbol.name.as_slice(), number)?;
     }
     Ok(())
 }
 
-/// Gives each exported name the number of its object.
-fn put_exports(
-    alloc: Global,
-    index: &mut IndexMap<Text, usize>,
-    symbols: &[Symbol],
+fn put_each<'a>(
+    index: &mut IndexMap<&'a [u8], usize>,
+    symbols: &'a [Symbol],
     number: usize,
 ) -> Result<(), NoMemory>
     ensures { OnOk result ((q : List ℕ) → number_in index.new q ≡ (if among q (exported symbols.now) then Some number else number_in index.old q)) }
 {
     for symbol in symbols {
-        put_export(alloc, index, symbol, number)?;
+        put_export(index, symbol, number)?;
     }
     Ok(())
 }
 
+/// Gives each exported name the number of its object. The index grows once, and not a name at a time.
+fn put_exports<'a>(
+    index: &mut IndexMap<&'a [u8], usize>,
+    symbols: &'a [Symbol],
+    number: usize,
+) -> Result<(), NoMemory>
+    ensures { OnOk result ((q : List ℕ) → number_in index.new q ≡ (if among q (exported symbols.now) then Some number else number_in index.old q)) }
+{
+    index.reserve(symbols.len())?;
+    put_each(index, symbols, number)
+}
+
 /// The first object that exports each name. The last one is noted first, and gives way to earlier ones.
-pub fn index_objects(
+pub fn index_objects<'a>(
     alloc: Global,
-    objects: &[Named<Object>],
-) -> Result<IndexMap<Text, usize>, NoMemory>
+    objects: &'a [Named<Object>],
+) -> Result<IndexMap<&'a [u8], usize>, NoMemory>
     ensures { IfOk result (λ index. IsIndexOf 0 objects.now index) }
 {
     let mut index = IndexMap::new(alloc);
     for i in (0..objects.len()).rev() {
-        put_exports(alloc, &mut index, objects[i].value.symbols.as_slice(), i)?;
+        put_exports(&mut index, objects[i].value.symbols.as_slice(), i)?;
     }
     Ok(index)
 }
 
 /// The first member that exports each name, by its number in library order.
-pub fn index_members(
+pub fn index_members<'a>(
     alloc: Global,
-    archives: &[Named<Archive>],
+    archives: &'a [Named<Archive>],
     places: &[Place],
-) -> Result<IndexMap<Text, usize>, NoMemory>
+) -> Result<IndexMap<&'a [u8], usize>, NoMemory>
     requires { places.now ≡ places_from 0 archives.now }
     ensures { IfOk result (λ index. IsIndexOf 0 (members_of archives.now) index) }
 {
     let mut index = IndexMap::new(alloc);
     for i in (0..places.len()).rev() {
-        put_exports(alloc, &mut index, symbols_of_member(archives, places, i), i)?;
+        put_exports(&mut index, symbols_of_member(archives, places, i), i)?;
     }
     Ok(index)
 }
@@ -94,7 +103,7 @@ fn name_at<'a>(objects: &'a [Named<Object>], number: usize) -> Option<&'a Text>
 /// has the later objects, of which the first is the object of a number.
 fn clash_of(
     alloc: Global,
-    index: &IndexMap<Text, usize>,
+    index: &IndexMap<&[u8], usize>,
     objects: &[Named<Object>],
     first: usize,
     name: &Text,
@@ -106,7 +115,7 @@ fn clash_of(
     if symbol.attributes % 4 != 3 {
         return Ok(None);
     }
-    let Some(number) = find(index, &symbol.name) else {
+    let Some(number) = find(index, symbol.name.as_slice()) else {
         return Ok(None);
     };
     let Some(other) = name_at(objects, number) else {
@@ -121,7 +130,7 @@ fn clash_of(
 
 fn first_clash(
     alloc: Global,
-    index: &IndexMap<Text, usize>,
+    index: &IndexMap<&[u8], usize>,
     objects: &[Named<Object>],
     first: usize,
     name: &Text,
@@ -141,8 +150,8 @@ fn first_clash(
 
 /// Which object exports each name, and the refusal of the first name that two export.
 #[derive(Drop)]
-pub struct Exports {
-    pub index: IndexMap<Text, usize>,
+pub struct Exports<'a> {
+    pub index: IndexMap<&'a [u8], usize>,
     pub duplicate: Option<Refusal>,
 }
 
@@ -156,7 +165,10 @@ fn earlier(first: Option<Refusal>, second: Option<Refusal>) -> Option<Refusal>
 }
 
 /// The exports of the linked objects.
-pub fn judge_exports(alloc: Global, objects: &[Named<Object>]) -> Result<Exports, NoMemory>
+pub fn judge_exports<'a>(
+    alloc: Global,
+    objects: &'a [Named<Object>],
+) -> Result<Exports<'a>, NoMemory>
     ensures index { IfOk result (λ e. IsIndexOf 0 objects.now e.index) }
     ensures duplicate { IfOk result (λ e. e.duplicate ≡ duplicate objects.now) }
 {
@@ -167,7 +179,7 @@ pub fn judge_exports(alloc: Global, objects: &[Named<Object>]) -> Result<Exports
         let symbols = object.value.symbols.as_slice();
         let clash = first_clash(alloc, &index, objects, i + 1, &object.name, symbols)?;
         duplicate = earlier(clash, duplicate);
-        put_exports(alloc, &mut index, symbols, i)?;
+        put_exports(&mut index, symbols, i)?;
     }
     Ok(Exports { index, duplicate })
 }

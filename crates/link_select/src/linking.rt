@@ -18,9 +18,12 @@ use std::alloc::Global;
 fn name_of_member(alloc: Global, library: &Text, member: &Text) -> Result<Text, NoMemory>
     ensures { IfOk result (λ name. name ≡ member_name library.now member.now) }
 {
-    let mut name = Vec::from_slice(alloc, library.as_slice())?;
+    let (library, member) = (library.as_slice(), member.as_slice());
+    let len = library.len().saturating_add(member.len()).saturating_add(2);
+    let mut name = Vec::with_capacity(alloc, len)?;
+    name.extend_from_slice(library)?;
     name.extend_from_slice(b"(")?;
-    name.extend_from_slice(member.as_slice())?;
+    name.extend_from_slice(member)?;
     name.extend_from_slice(b")")?;
     Ok(Text::from_vec(name))
 }

@@ -18,57 +18,56 @@ use std::alloc::Global;
 
 /// The region symbols of an image: all names of their form, or these names and those of the areas.
 #[derive(Drop)]
-pub enum RegionSymbols {
+pub enum RegionSymbols<'a> {
     AnyOfTheForm,
     Listed {
-        names: IndexMap<Text, usize>,
-        areas: IndexMap<Text, usize>,
+        names: IndexMap<&'a [u8], usize>,
+        areas: IndexMap<&'a [u8], usize>,
     },
 }
 
-fn index_names(alloc: Global, names: &[Text]) -> Result<IndexMap<Text, usize>, NoMemory>
+fn index_names<'a>(alloc: Global, names: &'a [Text]) -> Result<IndexMap<&'a [u8], usize>, NoMemory>
     ensures { IfOk result (λ index. (q : List ℕ) → is_some (number_in index q) ≡ among q names.now) }
 {
     let mut index = IndexMap::new(alloc);
     for name in names {
-        put(alloc, &mut index, name, 0)?;
+        put(&mut index, name.as_slice(), 0)?;
     }
     Ok(index)
 }
 
-fn put_area_names(
-    alloc: Global,
-    index: &mut IndexMap<Text, usize>,
-    areas: &[Area],
+fn put_area_names<'a>(
+    index: &mut IndexMap<&'a [u8], usize>,
+    areas: &'a [Area],
 ) -> Result<(), NoMemory>
     ensures { OnOk result ((q : List ℕ) → is_some (number_in index.new q) ≡ (is_some (number_in index.old q) || among q (area_names areas.now))) }
 {
     for area in areas {
-        put(alloc, index, &area.name, 0)?;
+        put(index, area.name.as_slice(), 0)?;
     }
     Ok(())
 }
 
-fn index_area_names(
+fn index_area_names<'a>(
     alloc: Global,
-    objects: &[Named<Object>],
-) -> Result<IndexMap<Text, usize>, NoMemory>
+    objects: &'a [Named<Object>],
+) -> Result<IndexMap<&'a [u8], usize>, NoMemory>
     ensures { IfOk result (λ index. (q : List ℕ) → is_some (number_in index q) ≡ among q (names_of_areas objects.now)) }
 {
     let mut index = IndexMap::new(alloc);
     for object in objects {
-        put_area_names(alloc, &mut index, object.value.areas.as_slice())?;
+        put_area_names(&mut index, object.value.areas.as_slice())?;
     }
     Ok(index)
 }
 
 /// The region symbols of an image of these objects, by those that its regions have. Without such a list
 /// every name of the form is one.
-pub fn region_symbols(
+pub fn region_symbols<'a>(
     alloc: Global,
-    regions: Option<&[Text]>,
-    objects: &[Named<Object>],
-) -> Result<RegionSymbols, NoMemory>
+    regions: Option<&'a [Text]>,
+    objects: &'a [Named<Object>],
+) -> Result<RegionSymbols<'a>, NoMemory>
     ensures { IfOk result (λ symbols. Shows (option_copied regions.entry) objects.now symbols) }
 {
     match regions {
@@ -138,39 +137,29 @@ fn has_form(name: &[u8]) -> bool
 }
 
 /// Whether what stands before the suffix is in the index.
-fn has_stem(
-    alloc: Global,
-    index: &IndexMap<Text, usize>,
-    name: &[u8],
-    suffix: &[u8],
-) -> Result<bool, NoMemory>
-    ensures { IfOk result (λ b. b ≡ stem_in index.now suffix.now name.now) }
+fn has_stem(index: &IndexMap<&[u8], usize>, name: &[u8], suffix: &[u8]) -> bool
+    ensures { result ≡ stem_in index.now suffix.now name.now }
 {
     if !name.ends_with(suffix) {
-        return Ok(false);
+        return false;
     }
-    let stem = Text::from_slice(alloc, &name[..name.len() - suffix.len()])?;
-    Ok(find(index, &stem).is_some())
+    find(index, &name[..name.len() - suffix.len()]).is_some()
 }
 
 /// Whether a name is a region symbol.
-pub fn is_region_symbol(
-    alloc: Global,
-    symbols: &RegionSymbols,
-    name: &Text,
-) -> Result<bool, NoMemory>
-    ensures { IfOk result (λ b. b ≡ region_by symbols.now name.now) }
+pub fn is_region_symbol(symbols: &RegionSymbols, name: &[u8]) -> bool
+    ensures { result ≡ region_by symbols.now name.now }
 {
     match symbols {
-        RegionSymbols::AnyOfTheForm => Ok(has_form(name.as_slice())),
+        RegionSymbols::AnyOfTheForm => has_form(name),
         RegionSymbols::Listed { names, areas } => {
             if find(names, name).is_some() {
-                return Ok(true);
+                return true;
             }
-            if has_stem(alloc, areas, name.as_slice(), b"$$Base")? {
-                return Ok(true);
+            if has_stem(areas, name, b"$$Base") {
+                return true;
             }
-            has_stem(alloc, areas, name.as_slice(), b"$$Limit")
+            has_stem(areas, name, b"$$Limit")
         }
     }
 }

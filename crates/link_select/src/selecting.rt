@@ -6,10 +6,13 @@ ghost use Rattle.sdt_fault.specs.declared.answer.Fault.TheVariants.{Refused};
 ghost use Rattle.sdt_fault.specs.declared.refusal.Refusal.TheVariants.{TooLarge};
 ghost use Rattle.chunk_file.specs.Reading.{Gives};
 ghost use Rattle.aof_object.specs.declared.records.Object.{Object as AofObject};
-ghost use Rattle.link_model.specs.Chosen.{AreLinked};
+ghost use Rattle.link_model.specs.Members.{members_of};
+ghost use Rattle.link_model.specs.Chosen.{AreChosen, AreLinked};
 ghost use Rattle.link_model.specs.Definitions.{definition_in, definitions_in, definitions_from};
 ghost use Rattle.link_model.specs.declared.selection.Named.{Named as NamedValue};
 ghost use Rattle.link_select.specs.Laws.{AreDefinedOnce, HaveMeanings};
+ghost use Rattle.link_select.specs.Places.{places_from};
+ghost use Rattle.link_select.specs.Search.{marked};
 ghost use Rattle.link_select.specs.Selection.{count_symbols, judged, selection_of, Selects};
 
 use crate::choosing::{Supply, choose};
@@ -17,7 +20,7 @@ use crate::entries::one_entry;
 use crate::exports::{Exports, index_members, index_objects, judge_exports};
 use crate::limits::{more_areas_than, more_symbols_than};
 use crate::linking::linked_objects;
-use crate::members::places_of;
+use crate::members::{Place, places_of};
 use crate::undefined::undefined;
 use alf_archive::Archive;
 use aof_object::{Object, Symbol};
@@ -33,6 +36,25 @@ const MOST_AREAS: usize = 65_535;
 
 const MOST_SYMBOLS: usize = 1_000_000;
 
+/// The members that are linked: for each a mark, in library order. The indexes that find them are let go
+/// before anything is copied.
+fn mark_members(
+    alloc: Global,
+    objects: &[Named<Object>],
+    archives: &[Named<Archive>],
+    places: &[Place],
+) -> Result<Vec<bool>, NoMemory>
+    requires { places.now ≡ places_from 0 archives.now }
+    ensures size { IfOk result (λ marks. length marks.items ≡ length places.now) }
+    ensures chosen { IfOk result (λ marks. AreChosen objects.now (members_of archives.now) (marked marks.items)) }
+{
+    let supply = Supply {
+        defined: index_objects(alloc, objects)?,
+        offered: index_members(alloc, archives, places)?,
+    };
+    choose(alloc, &supply, objects, archives, places)
+}
+
 /// The objects that are linked.
 fn choose_objects(
     alloc: Global,
@@ -42,11 +64,7 @@ fn choose_objects(
     ensures { IfOk result (λ linked. AreLinked objects.now archives.now linked.items) }
 {
     let places = places_of(alloc, archives)?;
-    let supply = Supply {
-        defined: index_objects(alloc, objects)?,
-        offered: index_members(alloc, archives, places.as_slice())?,
-    };
-    let marks = choose(alloc, &supply, objects, archives, places.as_slice())?;
+    let marks = mark_members(alloc, objects, archives, places.as_slice())?;
     linked_objects(
         alloc,
         objects,
@@ -105,6 +123,7 @@ fn definitions_of(alloc: Global, objects: &[Named<Object>]) -> Result<List<Defin
     let mut definitions = Vec::new(alloc);
     for (i, object) in objects.iter().enumerate() {
         let symbols = object.value.symbols.as_slice();
+        definitions.reserve(symbols.len())?;
         push_definitions(alloc, &mut definitions, i as u32, symbols)?;
     }
     Ok(List::from_vec(definitions))

@@ -17,24 +17,19 @@ use sdt_fault::{NoMemory, Text};
 use std::alloc::Global;
 
 /// Whether a name is exported by a linked object, or is a region symbol.
-fn is_known(
-    alloc: Global,
-    exports: &IndexMap<Text, usize>,
-    regions: &RegionSymbols,
-    name: &Text,
-) -> Result<bool, NoMemory>
-    ensures { IfOk result (λ b. b ≡ known_by exports.now regions.now name.now) }
+fn is_known(exports: &IndexMap<&[u8], usize>, regions: &RegionSymbols, name: &[u8]) -> bool
+    ensures { result ≡ known_by exports.now regions.now name.now }
 {
     if find(exports, name).is_some() {
-        return Ok(true);
+        return true;
     }
-    is_region_symbol(alloc, regions, name)
+    is_region_symbol(regions, name)
 }
 
 /// The refusal of a symbol of the object called `name`, where it needs a meaning and has none.
 fn lacking_of(
     alloc: Global,
-    exports: &IndexMap<Text, usize>,
+    exports: &IndexMap<&[u8], usize>,
     regions: &RegionSymbols,
     name: &Text,
     symbol: &Symbol,
@@ -47,7 +42,7 @@ fn lacking_of(
     if symbol.attributes / 16 % 2 != 0 {
         return Ok(None);
     }
-    if is_known(alloc, exports, regions, &symbol.name)? {
+    if is_known(exports, regions, symbol.name.as_slice()) {
         return Ok(None);
     }
     Ok(Some(Refusal::Undefined {
@@ -58,7 +53,7 @@ fn lacking_of(
 
 fn first_lacking(
     alloc: Global,
-    exports: &IndexMap<Text, usize>,
+    exports: &IndexMap<&[u8], usize>,
     regions: &RegionSymbols,
     name: &Text,
     symbols: &[Symbol],
@@ -76,7 +71,7 @@ fn first_lacking(
 
 fn first_undefined(
     alloc: Global,
-    exports: &IndexMap<Text, usize>,
+    exports: &IndexMap<&[u8], usize>,
     regions: &RegionSymbols,
     objects: &[Named<Object>],
 ) -> Result<Option<Refusal>, NoMemory>
@@ -95,7 +90,7 @@ fn first_undefined(
 /// The refusal of the first name that has no meaning.
 pub fn undefined(
     alloc: Global,
-    exports: &IndexMap<Text, usize>,
+    exports: &IndexMap<&[u8], usize>,
     regions: Option<&[Text]>,
     objects: &[Named<Object>],
 ) -> Result<Option<Refusal>, NoMemory>

@@ -1,21 +1,22 @@
 use Rattle.std.proofs.Common.{ℕ, List, Option, Some, sym, ap, ◌∙◌, eq-eqb, ◌%◌}
 use Rattle.std.specs.Option.{option_map}
 use Rattle.sdt_fault.specs.declared.refusal.Refusal.TheVariants.{Duplicate}
+use Rattle.link_select.specs.Index.{number_in}
 use Rattle.link_select.proofs.ExportLemmas.{clash_none, clash_some}
 use Rattle.link_select.proofs.exports.clash_of.Goals as goal
 
 pub returns-in_default : goal.returns-in_default
-returns-in_default c = sym (clash_none c.args.index.now c.args.objects.now c.args.first c.args.name.now c.args.symbol.now c.requires (sym c.in_default.ensures))
+returns-in_default c = sym (clash_none c.args.index.now c.args.objects.now c.args.first c.args.name.now c.args.symbol.now c.requires (ap (λ (n : List ℕ). number_in c.args.index.now n) (sym c.as_slice.ensures) ∙ sym c.in_default.ensures))
 
 pub returns-in_default-name_at : goal.returns-in_default-name_at
 returns-in_default-name_at c =
     let exported = eq-eqb (c.args.symbol.now.attributes % 4) 3 c.if-symbol-ne3.false in
-    sym (clash_some c.args.index.now c.args.objects.now c.args.first c.args.name.now c.args.symbol.now c.in-Some.number c.requires (sym c.in-Some.ensures) exported
+    sym (clash_some c.args.index.now c.args.objects.now c.args.first c.args.name.now c.args.symbol.now c.in-Some.number c.requires (ap (λ (n : List ℕ). number_in c.args.index.now n) (sym c.as_slice.ensures) ∙ sym c.in-Some.ensures) exported
     ∙ ap (λ (o : Option (List ℕ)). option_map (λ n. Duplicate c.args.symbol.now.name c.args.name.now n) o) (sym c.in_default-name_at.ensures))
 
 pub returns : goal.returns
 returns c =
     let exported = eq-eqb (c.args.symbol.now.attributes % 4) 3 c.if-symbol-ne3.false in
     (λ i. Some (Duplicate (c.in_ok-try_clone.ensures i) (c.in_ok-try_clone-2.ensures i) (c.in_ok-try_clone-3.ensures i)))
-    ∙ sym (clash_some c.args.index.now c.args.objects.now c.args.first c.args.name.now c.args.symbol.now c.in-Some.number c.requires (sym c.in-Some.ensures) exported
+    ∙ sym (clash_some c.args.index.now c.args.objects.now c.args.first c.args.name.now c.args.symbol.now c.in-Some.number c.requires (ap (λ (n : List ℕ). number_in c.args.index.now n) (sym c.as_slice.ensures) ∙ sym c.in-Some.ensures) exported
     ∙ ap (λ (o : Option (List ℕ)). option_map (λ n. Duplicate c.args.symbol.now.name c.args.name.now n) o) (sym c.in-Some-name_at.ensures))

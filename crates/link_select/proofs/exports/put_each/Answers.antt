@@ -1,5 +1,5 @@
 use Rattle.link_select.proofs.ExportLemmas.{exports_more}
-use Rattle.link_select.proofs.exports.put_exports.Goals as goal
+use Rattle.link_select.proofs.exports.put_each.Goals as goal
 
 pub loop-symbol-preserved : goal.loop-symbol-preserved
 loop-symbol-preserved c =
