@@ -29,12 +29,29 @@ use Rattle.layout_model.specs.Laid.{Declared, LaidLine, laid_behind, sight_behin
 use Rattle.layout_model.specs.Before.{area_behind, stretch_behind}
 use Rattle.layout_model.specs.LayoutKinds.{exponent, exponent_kinds, kind_if, area_kinds, no_area_kinds, contents_kinds, contents_behind, name_kinds, settled_kinds, is_named_otherwise}
 use Rattle.layout_model.specs.Locals.{Local, local_entries, digits_of, reference, references_to, is_new, back_of, forth_of}
-use Rattle.asm_layout.specs.Walking.{IsMark, HasMark, IsMarked, or_false}
-use Rattle.asm_layout.proofs.ToldLemmas.{none_first, none_second}
+use Rattle.std.specs.Global.{Vec}
+use Rattle.sdt_fault.specs.declared.answer.Fault.{Fault}
+use Rattle.asm_areas.specs.declared.starts.AreaStart.{AreaStart}
+use Rattle.asm_areas.specs.Starts.{AreStarts, IsLineOf}
+use Rattle.asm_checks.specs.declared.checks.Checks.{Checks}
+use Rattle.asm_checks.specs.Checked.{IsChecked}
+use Rattle.asm_laying.specs.declared.laying.Laying.{Laying}
+use Rattle.asm_laying.specs.declared.laying.Placed.{Placed}
+use Rattle.asm_laying.specs.Laying.{IsLaying, IsLaid, IsPlaced, told_of}
+use Rattle.asm_pool.specs.declared.layout.LaidStatement.{LaidStatement}
+use Rattle.asm_registers.specs.declared.registers.Registers.{Registers}
+use Rattle.asm_registers.specs.Kept.{AreRegisters}
+use Rattle.layout_model.specs.LayoutKinds.{equal_of, told_at}
+use Rattle.source_model.specs.Registers.{register_kinds}
+use Rattle.asm_layout.specs.declared.walking.Judged.{Judged}
+use Rattle.asm_layout.specs.declared.walking.Walk.{Walk}
+use Rattle.asm_layout.specs.Layout.{IsTold}
+use Rattle.asm_layout.specs.Walking.{IsMark, HasMark, IsMarked, IsCounted, one_more, or_false, IsWalking, IsJudged, Keeps, laid_as, told_by}
+use Rattle.asm_layout.proofs.ToldLemmas.{none_first, none_second, told_parts}
 
 -- ---- the number that checks ask for
 
-record AreNumbers (w : What) (l : LaidLine) (x : Result ℕ LineKind) : Type 0 where
+pub record AreNumbers (w : What) (l : LaidLine) (x : Result ℕ LineKind) : Type 0 where
   pub exponent_is : IsExponent l.seen w x
   pub given_is : IsGiven l.seen w x
 
@@ -151,11 +168,11 @@ no_reference (c ∷ cs) t h = by_test (124 == c) refl
 
 absent_joined : (q : List ℕ) (xs ys : List LaidName) → named_in q xs ≡ None → named_in q ys ≡ None → named_in q (xs ++ ys) ≡ None
 absent_joined q [] ys h k = k
-absent_joined q (x ∷ xs) ys h k = by_test (same x.name q) h
+absent_joined q (x ∷ xs) ys h k = by_test (same x.name q) h (λ e. absent_joined q xs ys e k)
   where
-    by_test : (b : Bool) → cond b (Some x) (named_in q xs) ≡ None → cond b (Some x) (named_in q (xs ++ ys)) ≡ None
-    by_test true e = absurd (cc)
-    by_test false e = absent_joined q xs ys e k
+    by_test : (b : Bool) → cond b (Some x) (named_in q xs) ≡ None → (named_in q xs ≡ None → named_in q (xs ++ ys) ≡ None) → cond b (Some x) (named_in q (xs ++ ys)) ≡ None
+    by_test true e rest = absurd (cc)
+    by_test false e rest = rest e
 
 present_joined : (q : List ℕ) (xs ys : List LaidName) → named_in q ys ≡ None → named_in q (xs ++ ys) ≡ named_in q xs
 present_joined q [] ys h = h
@@ -213,3 +230,70 @@ mark_is settled marks n (LocalLabel m) b h k = tt
 mark_is settled marks n (Label name) b h k = tt
 mark_is settled marks n (MapField name) b h k = tt
 mark_is settled marks n (RegisterName name r) b h k = tt
+
+-- how many names for expressions there are with a line more
+pub count_is : (settled : List (List ℕ)) (marks : List Bool) (n m : ℕ) (x : Defined) → IsCounted marks n x m → HasMark settled marks n x
+    → m ≡ n + length (equal_of x)
+count_is settled marks n m (Equal name e) h k = h ∙ ap (λ o. one_more o n) k
+count_is settled marks n m Unnamed h k = h ∙ omega arith
+count_is settled marks n m (LocalLabel l) h k = h ∙ omega arith
+count_is settled marks n m (Label name) h k = h ∙ omega arith
+count_is settled marks n m (MapField name) h k = h ∙ omega arith
+count_is settled marks n m (RegisterName name r) h k = h ∙ omega arith
+
+-- ---- what is told of a judged line
+
+pub judged_told : (d : Declared) (names settled : List (List ℕ)) (l : LaidLine) (before : List LaidLine) (old new : Walk) (j : Judged) → IsJudged d names settled l before old new j
+    → told_by names settled l before ≡ first_told (told_of l) j.found
+judged_told d names settled l before old new j h = told_parts names settled l before ∙ ap (first_told (told_of l)) (sym h.told)
+
+pub err_told : (d : Declared) (l : LaidLine) (before : List LaidLine) (state : Laying) (r : Result Placed LineKind) (k : LineKind) → r ≡ Err k → IsPlaced d l before state r
+    → told_of l ≡ Some k
+err_told d l before state r k e h = subst (λ (x : Result Placed LineKind). IsPlaced d l before state x) e h
+
+pub ok_laid : (d : Declared) (l : LaidLine) (before : List LaidLine) (state : Laying) (r : Result Placed LineKind) (p : Placed) → r ≡ Ok p → IsPlaced d l before state r
+    → IsLaid d l before state p
+ok_laid d l before state r p e h = subst (λ (x : Result Placed LineKind). IsPlaced d l before state x) e h
+
+pub tells : (s : Statement) (o : Option LineKind) (k : LineKind) (f : Fault) → o ≡ Some k → IsTold (Some (s, k)) f → IsTold (told_at s o) f
+tells s o k f e h = subst (λ (x : Option LineKind). IsTold (told_at s x) f) (sym e) h
+
+-- ---- a line is kept
+
+pub keep_line : (d : Declared) (names settled : List (List ℕ)) (s : Statement) (before : List LaidLine) (old mid new : Walk) (j : Judged) (p : Placed)
+    → IsWalking d names settled before old → IsJudged d names settled (laid_behind d s before) before old mid j → j.found ≡ None
+    → IsLaid d (laid_behind d s before) before mid.laying p → Keeps s j.laid.number p mid new
+    → IsWalking d names settled (laid_behind d s before ∷ before) new
+keep_line d names settled s before old mid new j p w h none laid k =
+    let l = laid_behind d s before in
+    let parts : None ≡ first_told (told_kind (checked_kinds settled l before)) (told_kind (register_kinds names l before)) = sym none ∙ h.told in
+    let unchecked : told_kind (checked_kinds settled l before) ≡ None = none_first (told_kind (checked_kinds settled l before)) (told_kind (register_kinds names l before)) parts in
+    let line : IsLineOf s.what p.area p.thumb j.laid.number l before = record {
+      said = refl;
+      stands = sym laid.area;
+      counted = refl;
+      state = sym laid.thumb;
+      aligned = aligned s.what l before settled j.laid.number refl (numbers s.what l j.laid.number h.tells.number).exponent_is unchecked;
+    } in
+    let untold : told_by names settled l before ≡ None = judged_told d names settled l before old mid j h ∙ rw (laid.told, none) refl in
+    record {
+      lays = subst (λ (x : Laying). IsLaying d (l ∷ before) x) (sym k.laying) laid.laying;
+      checked = subst (λ (x : Checks). IsChecked (l ∷ before) x) (sym k.checks) (h.checked none);
+      named = subst (λ (x : Registers). AreRegisters names (l ∷ before) x) (sym k.registers) (h.named none);
+      begun = k.starts l before (subst (λ (x : List AreaStart). AreStarts before x) (sym h.begun) w.begun) line;
+      kept = (old.lines.items, laid_as s p, k.lines ∙ ap (λ (v : Vec LaidStatement). v.items ++ laid_as s p ∷ []) h.kept, record {
+        statement = refl;
+        number = laid.number;
+        area = laid.area;
+        stretch = laid.stretch;
+        offset = laid.offset;
+        size = laid.size;
+        thumb = laid.thumb;
+        thumb_label = laid.thumb_label;
+        map = laid.map;
+        literal = laid.literal;
+        strings = laid.strings;
+      }, w.kept);
+      counted = k.equals ∙ h.counted;
+      none = rw w.none (ap (told_at s) untold);
+    }

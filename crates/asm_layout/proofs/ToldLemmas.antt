@@ -1,6 +1,6 @@
 -- The kind that is told of a line, by the parts that are found one after the other.
 use Rattle.std.proofs.Common.{◌≡◌, ◌<◌, ℕ, Bool, true, false, List, [], ◌∷◌, ◌++◌, Option, Some, None, Result, Ok, Err, refl, sym, ap, ◌∙◌, arith}
-use Rattle.std.specs.Prelude.{nat_lt, ◌||◌}
+use Rattle.std.specs.Prelude.{nat_lt, ◌==◌, ◌+◌, if◌then◌else◌}
 use Rattle.sdt_fault.specs.declared.kinds.LineKind.{LineKind}
 use Rattle.sdt_fault.specs.declared.kinds.LineKind.TheVariants.{Syntax, UnknownWord, FloatingPoint, BadOperand, Constant, Forward, DuplicateName, WrongType, OutOfRange, Nesting, Assert, NoArea, DivideByZero, TooDeep, TooMany}
 use Rattle.asm_checks.specs.Checked.{checked_kinds}
@@ -17,21 +17,21 @@ use Rattle.asm_layout.specs.Walking.{told_by}
 -- ---- the order of two kinds doesn't count
 
 ranked : ℕ → LineKind
-ranked 0 = Syntax
-ranked 1 = UnknownWord
-ranked 2 = FloatingPoint
-ranked 3 = BadOperand
-ranked 4 = Constant
-ranked 5 = Forward
-ranked 6 = DuplicateName
-ranked 7 = WrongType
-ranked 8 = OutOfRange
-ranked 9 = Nesting
-ranked 10 = Assert
-ranked 11 = NoArea
-ranked 12 = DivideByZero
-ranked 13 = TooDeep
-ranked n = TooMany
+ranked n =
+    if n == 0 then Syntax else
+    if n == 1 then UnknownWord else
+    if n == 2 then FloatingPoint else
+    if n == 3 then BadOperand else
+    if n == 4 then Constant else
+    if n == 5 then Forward else
+    if n == 6 then DuplicateName else
+    if n == 7 then WrongType else
+    if n == 8 then OutOfRange else
+    if n == 9 then Nesting else
+    if n == 10 then Assert else
+    if n == 11 then NoArea else
+    if n == 12 then DivideByZero else
+    if n == 13 then TooDeep else TooMany
 
 ranked_back : (k : LineKind) → ranked (rank k) ≡ k
 ranked_back Syntax = refl
@@ -86,17 +86,17 @@ append_assoc : (xs ys zs : List LineKind) → (xs ++ ys) ++ zs ≡ xs ++ (ys ++ 
 append_assoc [] ys zs = refl
 append_assoc (x ∷ xs) ys zs = ap (λ l. x ∷ l) (append_assoc xs ys zs)
 
-joined_kinds : (es ms as bs cs ds fs ts rs : List LineKind)
-    → told_kind ((es ++ ms ++ as ++ bs ++ cs ++ ds ++ fs ++ ts) ++ rs)
-    ≡ first_told (told_kind (es ++ ms ++ ts)) (first_told (told_kind (as ++ bs ++ cs ++ ds ++ fs)) (told_kind rs))
-joined_kinds es ms as bs cs ds fs ts rs =
-    ap (λ l. told_kind ((l ++ ts) ++ rs)) (grouped (es ++ ms)) ∙ split_kinds es ms (as ++ bs ++ cs ++ ds ++ fs) ts rs
+joined_kinds : (es ms hs bs cs ds fs ts rs : List LineKind)
+    → told_kind ((es ++ ms ++ hs ++ bs ++ cs ++ ds ++ fs ++ ts) ++ rs)
+    ≡ first_told (told_kind (es ++ ms ++ ts)) (first_told (told_kind (hs ++ bs ++ cs ++ ds ++ fs)) (told_kind rs))
+joined_kinds es ms hs bs cs ds fs ts rs =
+    ap (λ l. told_kind ((l ++ ts) ++ rs)) (grouped (es ++ ms)) ∙ split_kinds es ms (hs ++ bs ++ cs ++ ds ++ fs) ts rs
   where
-    grouped : (ks : List LineKind) → ks ++ as ++ bs ++ cs ++ ds ++ fs ≡ ks ++ (as ++ bs ++ cs ++ ds ++ fs)
+    grouped : (ks : List LineKind) → ks ++ hs ++ bs ++ cs ++ ds ++ fs ≡ ks ++ (hs ++ bs ++ cs ++ ds ++ fs)
     grouped ks =
-        append_assoc (ks ++ as ++ bs ++ cs) ds fs ∙ append_assoc (ks ++ as ++ bs) cs (ds ++ fs) ∙ append_assoc (ks ++ as) bs (cs ++ (ds ++ fs))
-        ∙ append_assoc ks as (bs ++ (cs ++ (ds ++ fs)))
-        ∙ ap (λ l. ks ++ l) (sym (append_assoc (as ++ bs ++ cs) ds fs ∙ append_assoc (as ++ bs) cs (ds ++ fs) ∙ append_assoc as bs (cs ++ (ds ++ fs))))
+        append_assoc (ks ++ hs ++ bs ++ cs) ds fs ∙ append_assoc (ks ++ hs ++ bs) cs (ds ++ fs) ∙ append_assoc (ks ++ hs) bs (cs ++ (ds ++ fs))
+        ∙ append_assoc ks hs (bs ++ (cs ++ (ds ++ fs)))
+        ∙ ap (λ l. ks ++ l) (sym (append_assoc (hs ++ bs ++ cs) ds fs ∙ append_assoc (hs ++ bs) cs (ds ++ fs) ∙ append_assoc hs bs (cs ++ (ds ++ fs))))
 
 pub told_parts : (names settled : List (List ℕ)) (l : LaidLine) (before : List LaidLine)
     → told_by names settled l before ≡ first_told (told_of l) (first_told (told_kind (checked_kinds settled l before)) (told_kind (register_kinds names l before)))

@@ -1,11 +1,13 @@
 -- Faults of lines that need the whole layout. This project's.
-use Rattle.std.specs.Prelude.{◌≡◌, Option, None, Result, Ok, Err}
+use Rattle.std.specs.Prelude.{◌≡◌, List, [], ◌∷◌, Option, None, Result, Ok, Err}
 use Rattle.sdt_fault.specs.declared.answer.Fault.{Fault}
 use Rattle.sdt_fault.specs.declared.kinds.LineKind.{LineKind}
 use Rattle.asm_areas.specs.declared.late.Stand.{Stand}
 use Rattle.asm_model.specs.declared.statements.Statement.{Statement}
 use Rattle.asm_pool.specs.declared.layout.LaidStatement.{LaidStatement}
-use Rattle.asm_layout.specs.Layout.{IsTold}
+use Rattle.layout_model.specs.Laid.{LaidLine, reversed}
+use Rattle.layout_model.specs.LayoutKinds.{first_late}
+use Rattle.asm_layout.specs.Layout.{IsStatement, IsTold}
 
 abbrev pub stand_of : LaidStatement → Stand
 stand_of x = record { area = x.area; offset = x.offset; thumb = x.thumb; literal = x.literal }
@@ -14,3 +16,17 @@ stand_of x = record { area = x.area; offset = x.offset; thumb = x.thumb; literal
 abbrev pub IsCleared : Option (Statement × LineKind) → Result (Unit {0}) Fault → Type 0
 IsCleared told (Ok u) = told ≡ None
 IsCleared told (Err f) = IsTold told f
+
+-- statements are the lines from a place on, where these stand before it, the nearest first
+abbrev pub AreOn : List LaidLine → List LaidLine → List LaidStatement → Type 0
+AreOn before [] xs = xs ≡ []
+AreOn before (l ∷ rest) xs =
+    (x : LaidStatement) × (more : List LaidStatement) × (xs ≡ x ∷ more) × IsStatement x l before × AreOn (l ∷ before) rest more
+
+-- of a source's lines these are left, and none before has such a fault
+pub record IsLeft (all : List LaidLine) (left : List LaidStatement) : Type 0 where
+  pub before : List LaidLine
+  pub rest : List LaidLine
+  pub parts : all ≡ reversed rest before
+  pub lines : AreOn before rest left
+  pub none : first_late all [] (reversed all []) ≡ first_late all before rest

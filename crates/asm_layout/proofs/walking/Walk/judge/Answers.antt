@@ -1,17 +1,45 @@
-use Rattle.std.proofs.Common.{rules, ◌≡◌, ◌∷◌, ◌+◌, ◌<◌, [], ℕ, List, Bool, Some, length, IfOk, OnOk, ◌-◌, ◌*◌, ◌≤◌, ◌/◌, ◌%◌, true, false, nat_eq, nat_lt, ◌++◌, slice_index_or, slice_set, bit_and, bit_or, Fits, w8, w32, w64, Bor, MutBor}
-use Rattle.layout_model.specs.Labels as labels
-use Rattle.layout_model.specs.Laid.{laid_behind, reversed, Declared, LaidLine}
-use Rattle.said_model.specs.Said.{AllSaid, IsSaid, LocalSaid}
-use Rattle.asm_laying.specs.Behind.{most_statements}
+use Rattle.std.proofs.Common.{◌≡◌, ◌++◌, ◌+◌, ℕ, List, Bool, length, refl, sym, ap, ◌∙◌, subst, length-append}
+use Rattle.asm_checks.specs.Checked.{checked_kinds, IsLine as IsChecksLine}
 use Rattle.asm_laying.specs.Declaring.{declared_in}
-use Rattle.asm_laying.specs.Laying as laying
-use Rattle.asm_model.specs.FaultSets as sets
-use Rattle.asm_layout.specs.Layout.{IsTold}
-use Rattle.asm_layout.specs.Outline.{IsOutline}
-use Rattle.source_model.specs.Registers.{register_names}
-use Rattle.asm_layout.specs.Walking as walking
+use Rattle.asm_laying.specs.Laying.{Tells}
+use Rattle.asm_model.specs.FaultSets.{first_told}
+use Rattle.asm_model.specs.Kinds.{told_kind}
+use Rattle.asm_registers.specs.Kept.{IsLine as IsRegistersLine}
+use Rattle.layout_model.specs.Labels.{defined_by}
+use Rattle.layout_model.specs.Laid.{Declared, LaidLine, laid_behind, statements_of}
+use Rattle.layout_model.specs.LayoutKinds.{equal_of, equals_in}
+use Rattle.source_model.specs.Registers.{register_kinds}
+use Rattle.asm_layout.specs.Walking.{HasMark}
+use Rattle.asm_layout.proofs.StepLemmas.{numbers, seen_names, mark_is, count_is}
+use Rattle.asm_layout.proofs.ToldLemmas.{none_first, none_second}
 use Rattle.asm_layout.proofs.walking.Walk.judge.Goals as goal
 
--- src/walking.rt:125:5
 pub returns : goal.returns
-returns c = ?
+returns c = λ names settled before h m.
+    let s = c.args.statement.now in
+    let d : Declared = declared_in c.args.outline.now.declarations in
+    let l : LaidLine = laid_behind d s before in
+    let marks = c.args.outline.now.settled.items in
+    let t : Tells d l before c.lay.new.self c.in_ok-laid.laid = c.in_ok-laid.ensures before h.lays in
+    let n = numbers s.what l c.in_ok-laid.laid.number t.number in
+    let marked : HasMark settled marks c.args.self.now.equals (defined_by s) = subst (λ k. HasMark settled marks k (defined_by s)) (sym h.counted) m in
+    let checks_line : IsChecksLine settled s c.in_ok-laid.laid.area c.in_ok-laid.laid.thumb c.in_ok-laid.laid.number c.take_mark-is_settled.result l = record {
+      said = refl;
+      stands = sym t.area;
+      state = sym t.thumb;
+      aligned = n.exponent_is;
+      known = mark_is settled marks c.args.self.now.equals (defined_by s) c.take_mark-is_settled.result (rw c.as_slice.ensures.value at c.take_mark-is_settled.ensures.mark) marked;
+    } in
+    let registers_line : IsRegistersLine s c.in_ok-laid.laid.number c.args.outline.now.declarations.names l = record { said = refl; given = n.given_is; names = seen_names d s before } in
+    let checked = c.in_ok-checked.ensures.told settled l before h.checked checks_line in
+    let named = c.in_ok-named.ensures.told names l before h.named registers_line in
+    record {
+      tells = t;
+      told = c.first_told.ensures ∙ rw (checked, named) refl;
+      checked = λ none. c.in_ok-checked.ensures.behind settled l before h.checked checks_line (none_first c.in_ok-checked.checked c.in_ok-named.named (sym none ∙ c.first_told.ensures));
+      named = λ none. c.in_ok-named.ensures.behind names l before h.named registers_line (none_second c.in_ok-checked.checked c.in_ok-named.named (sym none ∙ c.first_told.ensures));
+      begun = refl;
+      kept = refl;
+      counted = count_is settled marks c.args.self.now.equals c.take_mark-is_settled.new.equals (defined_by s) (rw c.as_slice.ensures.value at c.take_mark-is_settled.ensures.count) marked
+          ∙ ap (λ k. k + length (equal_of (defined_by s))) h.counted ∙ sym (length-append (equals_in (statements_of before)) (equal_of (defined_by s)));
+    }

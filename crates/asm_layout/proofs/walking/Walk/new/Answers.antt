@@ -1,17 +1,13 @@
-use Rattle.std.proofs.Common.{rules, ◌≡◌, ◌∷◌, ◌+◌, ◌<◌, [], ℕ, List, Bool, Some, length, IfOk, OnOk, ◌-◌, ◌*◌, ◌≤◌, ◌/◌, ◌%◌, true, false, nat_eq, nat_lt, ◌++◌, slice_index_or, slice_set, bit_and, bit_or, Fits, w8, w32, w64, Bor, MutBor}
-use Rattle.layout_model.specs.Labels as labels
-use Rattle.layout_model.specs.Laid.{laid_behind, reversed, Declared, LaidLine}
-use Rattle.said_model.specs.Said.{AllSaid, IsSaid, LocalSaid}
-use Rattle.asm_laying.specs.Behind.{most_statements}
-use Rattle.asm_laying.specs.Declaring.{declared_in}
-use Rattle.asm_laying.specs.Laying as laying
-use Rattle.asm_model.specs.FaultSets as sets
-use Rattle.asm_layout.specs.Layout.{IsTold}
-use Rattle.asm_layout.specs.Outline.{IsOutline}
-use Rattle.source_model.specs.Registers.{register_names}
-use Rattle.asm_layout.specs.Walking as walking
+use Rattle.std.proofs.Common.{refl}
 use Rattle.asm_layout.proofs.walking.Walk.new.Goals as goal
 
--- src/walking.rt:110:5
 pub returns : goal.returns
-returns c = ?
+returns c = λ d settled. record {
+  lays = c.new.ensures d;
+  checked = c.new-2.ensures;
+  named = c.in_ok-new.ensures;
+  begun = c.new-4.ensures;
+  kept = c.new-5.ensures.items;
+  counted = refl;
+  none = refl;
+}

@@ -1,0 +1,13 @@
+use Rattle.std.proofs.Common.{◌≡◌, List, [], length}
+use Rattle.layout_model.specs.Laid.{reversed, LaidLine}
+use Rattle.layout_model.specs.LayoutKinds.{first_late}
+use Rattle.asm_areas.specs.Late.{AreWhole}
+use Rattle.asm_layout.specs.Layout.{AreStatements}
+use Rattle.asm_layout.specs.Late.{IsLeft}
+use Rattle.asm_layout.proofs.late.cleared.Given as goal
+
+abbrev pub invariant-lines : goal.invariant-lines
+invariant-lines l = (all : List LaidLine) → AreWhole all l.pools l.starts → AreStatements all l.laid → IsLeft all l.left
+
+abbrev pub decreases-lines : goal.decreases-lines
+decreases-lines l = length l.left
