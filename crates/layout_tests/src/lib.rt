@@ -1,6 +1,10 @@
-//! Tests of the parts of layout: what is known at a line, offsets, local labels, and the order of names.
+//! Tests of the parts of layout: what is known at a line, offsets, local labels, the order of names, checks, and all names.
 #![tactic(auto)]
 
+#[cfg(test)]
+mod checks;
+#[cfg(test)]
+mod finals;
 #[cfg(test)]
 mod locals;
 #[cfg(test)]
@@ -11,3 +15,5 @@ mod offsets;
 mod orders;
 #[cfg(test)]
 mod sights;
+#[cfg(test)]
+mod statements;
