@@ -1,1 +1,2 @@
--- No clause of this crate cites a definition.
+-- What helpers of the tests are asked for.
+pub mod Lines

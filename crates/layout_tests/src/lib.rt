@@ -1,6 +1,11 @@
-//! Tests of the parts of layout: what is known at a line, offsets, local labels, and the order of names.
+//! Tests of the parts of layout: what is known at a line, offsets, local labels, the order of names, checks, all names, and
+//! instructions.
 #![tactic(auto)]
 
+#[cfg(test)]
+mod checks;
+#[cfg(test)]
+mod finals;
 #[cfg(test)]
 mod instructions;
 #[cfg(test)]
@@ -13,3 +18,5 @@ mod offsets;
 mod orders;
 #[cfg(test)]
 mod sights;
+#[cfg(test)]
+mod statements;

@@ -1,10 +1,14 @@
 //! What the tests are made of.
 
+ghost use Rattle.std.specs.Prelude.{◌≡◌, ◌∷◌, [], IfOk};
+
 use asm_model::{Expr, ExprItem, LaidName, Value};
 use sdt_fault::{List, NoMemory, Text};
 use std::alloc::Global;
 
-pub fn text(alloc: Global, bytes: &[u8]) -> Result<Text, NoMemory> {
+pub fn text(alloc: Global, bytes: &[u8]) -> Result<Text, NoMemory>
+    ensures { IfOk result (λ text. text ≡ bytes.now) }
+{
     Ok(Text::from_slice(alloc, bytes)?)
 }
 
@@ -17,7 +21,9 @@ pub fn number(n: u32) -> ExprItem {
 }
 
 /// An expression of one item.
-pub fn alone(alloc: Global, item: ExprItem) -> Result<Expr, NoMemory> {
+pub fn alone(alloc: Global, item: ExprItem) -> Result<Expr, NoMemory>
+    ensures { IfOk result (λ e. e.items ≡ item ∷ []) }
+{
     let mut items = Vec::new(alloc);
     items.push(item)?;
     Ok(Expr {
