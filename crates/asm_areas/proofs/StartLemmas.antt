@@ -353,5 +353,6 @@ state_more l before old new w area thumb x is r h i = record {
     by_start k None e s = kept_none l before k (says k) (other_state k l (is_other k l.area (length old) within (past old k e))) s
     by_start k (Some y) e s = (
       λ t. rw (s.0 t) (ap (λ n. Some (n + flag t * 2 ^ 20)) (sym (attributes_stay k area y))),
-      rw (s.1, state_is k) (run_state k area y), subst (λ n. n < 2 ^ 23) (sym (attributes_stay k area y)) s.2,
+      rw (s.1, state_is k) (run_state k area y),
+      subst (λ n. n < 2 ^ 23) (sym (attributes_stay k area y)) s.2,
     )

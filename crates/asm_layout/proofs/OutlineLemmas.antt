@@ -1,9 +1,9 @@
 -- What laying a line needs to know of the whole source.
-use Rattle.std.proofs.Common.{◌≡◌, ℕ, Bool, List, [], ◌∷◌, ◌++◌, map, refl, sym, ap, ◌∙◌, append_assoc}
+use Rattle.std.proofs.Common.{◌≡◌, ℕ, List, [], ◌∷◌, ◌++◌, map, refl, sym, ap, ◌∙◌, append_assoc}
 use Rattle.asm_model.specs.declared.exprs.Expr.{Expr}
 use Rattle.asm_model.specs.declared.statements.Statement.{Statement}
 use Rattle.asm_order.specs.declared.equals.Equal.{Equal as Code}
-use Rattle.asm_order.specs.Equals.{pair_of, pairs_of}
+use Rattle.asm_order.specs.Equals.{pairs_of}
 use Rattle.asm_order.specs.Order.{is_settled}
 use Rattle.layout_model.specs.Labels.{defined_by}
 use Rattle.layout_model.specs.Laid.{reversed}
@@ -13,7 +13,7 @@ use Rattle.said_model.specs.Said.{AllSaid}
 use Rattle.asm_layout.specs.Outline.{equals_on}
 
 -- the names for expressions, in one order or the other
-equals_reversed : (ss before : List Statement) → equals_in (reversed ss before) ≡ equals_in before ++ equals_on ss
+pub equals_reversed : (ss before : List Statement) → equals_in (reversed ss before) ≡ equals_in before ++ equals_on ss
 equals_reversed [] before = sym (append_nil (equals_in before))
   where
     append_nil : (xs : List (List ℕ × Expr)) → xs ++ [] ≡ xs

@@ -1,7 +1,6 @@
 -- A line more.
-use Rattle.std.proofs.Common.{◌≡◌, ◌≢◌, ◌≤◌, ◌<◌, ℕ, ◌+◌, ◌&&◌, ◌||◌, Bool, true, false, cond, List, [], ◌∷◌, ◌++◌, length, map, Option, Some, None, Result, Ok, Err, refl, sym, ap, ◌∙◌, subst, arith, codes}
-use Rattle.std.specs.Prelude.{nat_lt, nat_le, ◌==◌, not, is_some}
-use Rattle.std.specs.List.{list_any, slice_get}
+use Rattle.std.proofs.Common.{◌≡◌, ◌≤◌, ℕ, ◌+◌, ◌&&◌, ◌||◌, Bool, true, false, cond, List, [], ◌∷◌, ◌++◌, length, map, Option, Some, None, Result, Ok, Err, refl, sym, ap, ◌∙◌, subst, arith, codes}
+use Rattle.std.specs.Prelude.{nat_lt, nat_le, ◌==◌, is_some}
 use Rattle.sdt_fault.specs.declared.kinds.LineKind.{LineKind}
 use Rattle.sdt_fault.specs.declared.kinds.LineKind.TheVariants.{BadOperand}
 use Rattle.asm_areas.specs.Starts.{IsSmall, IsAligned}
@@ -9,7 +8,6 @@ use Rattle.asm_checks.specs.Areas.{IsExponent}
 use Rattle.asm_checks.specs.Checked.{checked_kinds, IsSettled}
 use Rattle.asm_laying.specs.Reading.{said_number}
 use Rattle.asm_registers.specs.Giving.{IsGiven}
-use Rattle.asm_model.specs.declared.directives.AreaAttributes.{AreaAttributes}
 use Rattle.asm_model.specs.declared.directives.DirectiveLine.{DirectiveLine}
 use Rattle.asm_model.specs.declared.directives.DirectiveLine.TheVariants as line
 use Rattle.asm_model.specs.declared.directives.RnOperand.TheVariants as rn
@@ -17,7 +15,7 @@ use Rattle.asm_model.specs.declared.names.LaidName.{LaidName}
 use Rattle.asm_model.specs.declared.statements.Statement.{Statement}
 use Rattle.asm_model.specs.declared.statements.What.{What}
 use Rattle.asm_model.specs.declared.statements.What.TheVariants as what
-use Rattle.asm_model.specs.AtLine.{Sight, is_in}
+use Rattle.asm_model.specs.AtLine.{is_in}
 use Rattle.asm_model.specs.FaultSets.{first_told}
 use Rattle.asm_model.specs.Forms.{same}
 use Rattle.asm_model.specs.Kinds.{told_kind}
@@ -25,7 +23,7 @@ use Rattle.asm_model.specs.Meaning.{named_in}
 use Rattle.asm_model.proofs.FaultLemmas.{told_by_parts}
 use Rattle.layout_laws.specs.Sound.{IsBare}
 use Rattle.layout_model.specs.Labels.{Defined, Unnamed, LocalLabel, Label, Equal, MapField, RegisterName, defined_by}
-use Rattle.layout_model.specs.Laid.{Declared, LaidLine, laid_behind, sight_behind, line_behind, definition_behind, statements_of, locals_of, offset_behind}
+use Rattle.layout_model.specs.Laid.{Declared, LaidLine, laid_behind, line_behind, definition_behind, statements_of, locals_of, offset_behind}
 use Rattle.layout_model.specs.Before.{area_behind, stretch_behind}
 use Rattle.layout_model.specs.LayoutKinds.{exponent, exponent_kinds, kind_if, area_kinds, no_area_kinds, contents_kinds, contents_behind, name_kinds, settled_kinds, is_named_otherwise}
 use Rattle.layout_model.specs.Locals.{Local, local_entries, digits_of, reference, references_to, is_new, back_of, forth_of}
@@ -46,7 +44,7 @@ use Rattle.source_model.specs.Registers.{register_kinds}
 use Rattle.asm_layout.specs.declared.walking.Judged.{Judged}
 use Rattle.asm_layout.specs.declared.walking.Walk.{Walk}
 use Rattle.asm_layout.specs.Layout.{IsTold}
-use Rattle.asm_layout.specs.Walking.{IsMark, HasMark, IsMarked, IsCounted, one_more, or_false, IsWalking, IsJudged, Keeps, laid_as, told_by}
+use Rattle.asm_layout.specs.Walking.{IsMark, HasMark, IsCounted, one_more, or_false, IsWalking, IsJudged, Keeps, laid_as, told_by}
 use Rattle.asm_layout.proofs.ToldLemmas.{none_first, none_second, told_parts}
 
 -- ---- the number that checks ask for
@@ -117,10 +115,12 @@ area_part w settled l before is none =
 directive_aligned : (d : DirectiveLine) (l : LaidLine) (before : List LaidLine) (settled : List (List ℕ)) (x : Result ℕ LineKind) → l.statement.what ≡ what.Directive d
     → IsExponent l.seen (what.Directive d) x → told_kind (checked_kinds settled l before) ≡ None → IsAligned (what.Directive d) x l
 directive_aligned (line.Area name a) l before settled x w e none =
-    let parts = area_part (what.Directive (line.Area name a)) settled l before w none in
-    (e, exponent_small x (subst (λ (y : Result ℕ LineKind). told_kind (exponent_kinds y) ≡ None) (sym e)
-    (none_first (told_kind (exponent_kinds (exponent l.seen a.align))) (told_kind (kind_if (is_named_otherwise name l.seen a before) BadOperand))
-    (sym parts ∙ told_by_parts (exponent_kinds (exponent l.seen a.align)) (kind_if (is_named_otherwise name l.seen a before) BadOperand)))))
+    let parts = area_part (what.Directive (line.Area name a)) settled l before w none in (
+      e,
+      exponent_small x (subst (λ (y : Result ℕ LineKind). told_kind (exponent_kinds y) ≡ None) (sym e)
+          (none_first (told_kind (exponent_kinds (exponent l.seen a.align))) (told_kind (kind_if (is_named_otherwise name l.seen a before) BadOperand))
+          (sym parts ∙ told_by_parts (exponent_kinds (exponent l.seen a.align)) (kind_if (is_named_otherwise name l.seen a before) BadOperand)))),
+    )
 directive_aligned (line.Rn r) l before settled x w e none = tt
 directive_aligned line.Entry l before settled x w e none = tt
 directive_aligned line.End l before settled x w e none = tt
@@ -218,6 +218,7 @@ seen_names d s before q bare =
   where
     back : List LaidName
     back = (line_behind d s before (definition_behind d s before 0)).back
+
     forth : List LaidName
     forth = (line_behind d s before (definition_behind d s before 0)).forth
 
@@ -281,19 +282,25 @@ keep_line d names settled s before old mid new j p w h none laid k =
       checked = subst (λ (x : Checks). IsChecked (l ∷ before) x) (sym k.checks) (h.checked none);
       named = subst (λ (x : Registers). AreRegisters names (l ∷ before) x) (sym k.registers) (h.named none);
       begun = k.starts l before (subst (λ (x : List AreaStart). AreStarts before x) (sym h.begun) w.begun) line;
-      kept = (old.lines.items, laid_as s p, k.lines ∙ ap (λ (v : Vec LaidStatement). v.items ++ laid_as s p ∷ []) h.kept, record {
-        statement = refl;
-        number = laid.number;
-        area = laid.area;
-        stretch = laid.stretch;
-        offset = laid.offset;
-        size = laid.size;
-        thumb = laid.thumb;
-        thumb_label = laid.thumb_label;
-        map = laid.map;
-        literal = laid.literal;
-        strings = laid.strings;
-      }, w.kept);
+      kept = (
+        old.lines.items,
+        laid_as s p,
+        k.lines ∙ ap (λ (v : Vec LaidStatement). v.items ++ laid_as s p ∷ []) h.kept,
+        record {
+          statement = refl;
+          number = laid.number;
+          area = laid.area;
+          stretch = laid.stretch;
+          offset = laid.offset;
+          size = laid.size;
+          thumb = laid.thumb;
+          thumb_label = laid.thumb_label;
+          map = laid.map;
+          literal = laid.literal;
+          strings = laid.strings;
+        },
+        w.kept,
+      );
       counted = k.equals ∙ h.counted;
       none = rw w.none (ap (told_at s) untold);
     }

@@ -1,5 +1,5 @@
 -- The kind that is told of a line, by the parts that are found one after the other.
-use Rattle.std.proofs.Common.{◌≡◌, ◌<◌, ℕ, Bool, true, false, List, [], ◌∷◌, ◌++◌, Option, Some, None, Result, Ok, Err, refl, sym, ap, ◌∙◌, arith}
+use Rattle.std.proofs.Common.{◌≡◌, ℕ, Bool, true, false, List, [], ◌∷◌, ◌++◌, Option, Some, None, refl, sym, ap, ◌∙◌, arith}
 use Rattle.std.specs.Prelude.{nat_lt, ◌==◌, ◌+◌, if◌then◌else◌}
 use Rattle.sdt_fault.specs.declared.kinds.LineKind.{LineKind}
 use Rattle.sdt_fault.specs.declared.kinds.LineKind.TheVariants.{Syntax, UnknownWord, FloatingPoint, BadOperand, Constant, Forward, DuplicateName, WrongType, OutOfRange, Nesting, Assert, NoArea, DivideByZero, TooDeep, TooMany}
@@ -10,13 +10,13 @@ use Rattle.asm_model.specs.Kinds.{rank, earlier, told_kind}
 use Rattle.asm_model.proofs.FaultLemmas.{takes, stays, first_assoc, told_by_parts}
 use Rattle.layout_model.specs.Labels.{defined_by}
 use Rattle.layout_model.specs.Laid.{LaidLine, statements_of}
-use Rattle.layout_model.specs.LayoutKinds.{fault_kinds, map_kinds, no_area_kinds, contents_kinds, contents_behind, area_kinds, name_kinds, settled_kinds, kind_if, area_bytes, layout_kinds}
+use Rattle.layout_model.specs.LayoutKinds.{fault_kinds, map_kinds, no_area_kinds, contents_kinds, contents_behind, area_kinds, name_kinds, settled_kinds, kind_if, area_bytes}
 use Rattle.source_model.specs.Registers.{register_kinds}
 use Rattle.asm_layout.specs.Walking.{told_by}
 
 -- ---- the order of two kinds doesn't count
 
-ranked : ℕ → LineKind
+abbrev ranked : ℕ → LineKind
 ranked n =
     if n == 0 then Syntax else
     if n == 1 then UnknownWord else

@@ -1,10 +1,9 @@
 -- The layout of a source, and the refusal of its first faulty line. Statements and laid lines are listed with the nearest
 -- first, those of a layout in the order of the source. SDT 2.50 Reference Guide, chapter on the assembler.
-use Rattle.std.specs.Prelude.{◌≡◌, ℕ, List, [], ◌∷◌, ◌++◌, length, slice_get, Option, Some, None, Result, Ok, Err}
+use Rattle.std.specs.Prelude.{◌≡◌, ◌⊎◌, ℕ, List, [], ◌∷◌, ◌++◌, length, slice_get, Option, Some, None, Result, Ok, Err}
 use Rattle.sdt_fault.specs.declared.answer.Fault.{Fault}
 use Rattle.sdt_fault.specs.declared.answer.Fault.TheVariants as fault
 use Rattle.sdt_fault.specs.declared.kinds.LineKind.{LineKind}
-use Rattle.sdt_fault.specs.declared.refusal.Refusal.{Refusal}
 use Rattle.sdt_fault.specs.declared.refusal.Refusal.TheVariants.{BadLine}
 use Rattle.asm_model.specs.declared.statements.Statement.{Statement}
 use Rattle.asm_pool.specs.declared.layout.LaidArea.{LaidArea}
@@ -65,15 +64,11 @@ pub record IsLayout (statements : List Statement) (l : Layout) : Type 0 where
 
 -- ---- the refusal of a line
 
-abbrev pub IsBadLine : Option (Statement × LineKind) → Refusal → Type 0
-IsBadLine told (BadLine source line kind) = (s : Statement) × (told ≡ Some (s, kind)) × (source ≡ s.source) × (line ≡ s.number)
-IsBadLine told _ = ⊥
-
 -- a fault is the refusal of the line that is told, or want of memory
 abbrev pub IsTold : Option (Statement × LineKind) → Fault → Type 0
-IsTold told (fault.Refused r) = IsBadLine told r
-IsTold told (fault.ReadFault name) = ⊥
-IsTold told fault.NoMemory = Unit {0}
+IsTold told f =
+    (f ≡ fault.NoMemory)
+    ⊎ ((s : Statement) × (kind : LineKind) × (told ≡ Some (s, kind)) × (f ≡ fault.Refused (BadLine s.source s.number kind)))
 
 -- a layout where no line is told, and else the refusal
 abbrev pub IsOutcome : List Statement → Result Layout Fault → Type 0

@@ -1,4 +1,5 @@
 -- What the clauses of the crate cite.
+pub mod Areas
 pub mod Finishing
 pub mod Late
 pub mod Layout

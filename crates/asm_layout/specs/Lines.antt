@@ -1,5 +1,6 @@
 -- Laid lines, as names and values are made of them. This project's.
-use Rattle.std.specs.Prelude.{◌≡◌}
+use Rattle.std.specs.Prelude.{◌≡◌, List}
+use Rattle.std.specs.List.{AllZip}
 use Rattle.asm_final.specs.declared.lines.PlacedLine.{PlacedLine}
 use Rattle.asm_pool.specs.declared.layout.LaidStatement.{LaidStatement}
 
@@ -13,3 +14,6 @@ pub record IsLineOf (x : LaidStatement) (y : PlacedLine) : Type 0 where
   pub thumb : y.thumb ≡ x.thumb
   pub thumb_label : y.thumb_label ≡ x.thumb_label
   pub map : y.map ≡ x.map
+
+abbrev pub AreLinesOf : List LaidStatement → List PlacedLine → Type 0
+AreLinesOf xs ys = AllZip IsLineOf xs ys

@@ -14,7 +14,7 @@ use Rattle.asm_laying.specs.declared.laying.Placed.{Placed}
 use Rattle.asm_laying.specs.Laying.{IsLaying, Tells}
 use Rattle.asm_registers.specs.Kept.{AreRegisters}
 use Rattle.layout_model.specs.Labels.{Defined, Equal, defined_by}
-use Rattle.layout_model.specs.Laid.{Declared, LaidLine, declared, statements_of, laid}
+use Rattle.layout_model.specs.Laid.{Declared, LaidLine, declared, statements_of, laid, laid_of, reversed}
 use Rattle.layout_model.specs.LayoutKinds.{layout_kinds, equals_in, settled, told_at}
 use Rattle.source_model.specs.Registers.{register_names, register_kinds}
 use Rattle.source_model.specs.SourceFaults.{first_laid}
@@ -115,3 +115,9 @@ Steps d names settled l before new (Err f) = IsTold (told_at l.statement (told_b
 abbrev pub IsWalked : List Statement → Result Walk Fault → Type 0
 IsWalked statements (Ok w) = IsWalking (declared statements) (register_names statements) (settled (equals_in statements)) (laid statements) w
 IsWalked statements (Err f) = IsTold (first_laid (register_names statements) (settled (equals_in statements)) (laid statements)) f
+
+-- lines of a source, of which these are walked and those left
+pub record IsAlong (statements yielded left : List Statement) (w : Walk) : Type 0 where
+  pub whole : statements ≡ yielded ++ left
+  pub walks : IsWalking (declared (reversed statements [])) (register_names (reversed statements [])) (settled (equals_in (reversed statements [])))
+      (laid_of (declared (reversed statements [])) (reversed yielded [])) w

@@ -14,6 +14,7 @@ use crate::walking::Walk;
 use asm_final::final_names;
 use asm_laying::laying::Ended;
 use asm_locals::Locals;
+use asm_offsets::extents_are_placeable;
 use asm_pool::{LaidStatement, Layout};
 use asm_sight::KnownNames;
 use sdt_fault::answer::Fault;
@@ -38,6 +39,7 @@ fn names_of(
 pub fn finished(alloc: Global, outline: &Outline, walk: Walk) -> Result<Layout, Fault>
     ensures { (statements : List Statement) → IsWhole statements outline.now walk → IsOutcome statements result }
 {
+    extents_are_placeable();
     let Walk {
         laying,
         starts,

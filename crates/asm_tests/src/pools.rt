@@ -96,11 +96,16 @@ fn layout(alloc: Global) -> Result<Layout, NoMemory> {
     let mut statements = Vec::new(alloc);
     statements.push(LaidStatement {
         statement: statement(alloc)?,
+        number: 0,
         area: Some(0),
+        stretch: 0,
         offset: 0,
         size: 0,
         thumb: false,
+        thumb_label: false,
+        map: 0,
         literal: None,
+        strings: List::from_vec(Vec::new(alloc)),
     })?;
     let names: Vec<LaidName> = Vec::new(alloc);
     Ok(Layout {

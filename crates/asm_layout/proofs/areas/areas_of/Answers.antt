@@ -1,18 +1,25 @@
-use Rattle.std.proofs.Common.{rules, ◌≡◌, ◌+◌, ◌*◌, ◌^◌, ◌<◌, List, IfOk, ℕ, ◌-◌, ◌≤◌, length, ◌/◌, ◌%◌, Bool, true, false, nat_eq, nat_lt, [], ◌∷◌, ◌++◌, slice_index_or, slice_set, bit_and, bit_or, Fits, w8, w32, w64, Bor, MutBor}
-use Rattle.sdt_word.specs.Numbers.{flag}
-use Rattle.layout_model.specs.Laid.{LaidLine}
-use Rattle.asm_areas.specs.Late.{is_true, AreWhole}
-use Rattle.asm_layout.specs.Layout.{AreAreas}
+use Rattle.std.proofs.Common.{◌≡◌, ◌∷◌, ◌∙◌, List, [], map, refl, sym, ap}
+use Rattle.std.proofs.lemmas.Iterator.{YieldsList-from_zip}
+use Rattle.std.proofs.lemmas.Iterator.Adapters.{YieldsList-from_vec}
+use Rattle.std.proofs.lemmas.Iterator.Consumers.{YieldsList-end}
+use Rattle.std.proofs.lemmas.Slice.Zip.{all_zipped_more}
+use Rattle.asm_areas.specs.declared.starts.AreaStart.{AreaStart}
+use Rattle.asm_offsets.specs.declared.extents.LaidPools.{LaidPools}
+use Rattle.asm_layout.specs.Areas.{IsMade}
+use Rattle.asm_layout.proofs.AreaLemmas.{areas_are}
 use Rattle.asm_layout.proofs.areas.areas_of.Goals as goal
 
--- src/areas.rt:36:5
-pub areas-init : goal.areas-init
-areas-init c = ?
-
--- src/areas.rt:36:5
 pub areas-preserved : goal.areas-preserved
-areas-preserved c = ?
+areas-preserved c =
+    rw c.in_ok-push.ensures.items
+    (all_zipped_more IsMade c.areas.yielded c.areas.areas.items (c.in-Some.start, c.in-Some.laid) _ c.areas.invariant
+    (record { name = refl; attributes = c.attributes_of-attributes.ensures; size = refl; pools = refl }))
 
--- src/areas.rt:28:1
+same_pairs : (ps : List (AreaStart × LaidPools)) → map (λ (p : AreaStart × LaidPools). (p.0, p.1)) ps ≡ ps
+same_pairs [] = refl
+same_pairs (p ∷ ps) = ap (λ (l : List (AreaStart × LaidPools)). p ∷ l) (same_pairs ps)
+
 pub returns : goal.returns
-returns c = ?
+returns c = λ all w.
+    let t = YieldsList-end {s = c.into_iter-start-iterator.result} (YieldsList-from_zip {s = c.into_iter-start-iterator.result} (YieldsList-from_vec c.args.starts.items (cc) (cc)) (YieldsList-from_vec c.args.pools.items (cc) (cc))) c.areas.yielded c.areas.start-iterator c.areas.yielded_by c.next.result c.next.new.self c.in-None.is c.next.ensures.steps in
+    areas_are all c.args.starts.items c.args.pools.items c.areas.yielded c.areas.areas.items (sym (same_pairs c.areas.yielded) ∙ t.0) c.areas.invariant w

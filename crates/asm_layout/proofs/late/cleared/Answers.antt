@@ -1,24 +1,30 @@
-use Rattle.std.proofs.Common.{rules, ◌≡◌, [], ℕ, List, None, ◌+◌, ◌-◌, ◌*◌, ◌<◌, ◌≤◌, length, ◌/◌, ◌%◌, Bool, true, false, nat_eq, nat_lt, ◌∷◌, ◌++◌, slice_index_or, slice_set, bit_and, bit_or, Fits, w8, w32, w64, Bor, MutBor}
-use Rattle.layout_model.specs.Laid.{reversed, LaidLine}
-use Rattle.layout_model.specs.LayoutKinds.{first_late}
-use Rattle.asm_areas.specs.Late.{AreWhole}
-use Rattle.asm_layout.specs.Layout.{AreStatements}
-use Rattle.asm_layout.specs.Late as late
-use Rattle.asm_layout.specs.Late.{IsCleared}
+use Rattle.std.proofs.Common.{◌≡◌, ◌<◌, ◌-◌, ◌∷◌, List, [], take, drop, length, refl, sym, ◌∙◌, subst, arith}
+use Rattle.asm_pool.specs.declared.layout.LaidStatement.{LaidStatement}
+use Rattle.asm_layout.specs.Late.{IsLeft}
+use Rattle.asm_layout.proofs.LateLemmas.{first_left, rest_of, next_of, stands, told_here, none_here, none_left}
 use Rattle.asm_layout.proofs.late.cleared.Goals as goal
 
--- src/late.rt:39:5
 pub lines-init : goal.lines-init
-lines-init c = ?
+lines-init c = λ all w h. first_left all c.args.laid.now h
 
--- src/late.rt:41:19
 pub returns-in-empty : goal.returns-in-empty
-returns-in-empty c = ?
+returns-in-empty c = λ all w h. none_left all (subst (λ (xs : List LaidStatement). IsLeft all xs) (nothing c.lines.left.now c.in-empty.len_below) (c.lines.invariant all w h))
+  where
+    nothing : (xs : List LaidStatement) → length xs < 1 → xs ≡ []
+    nothing [] less = refl
+    nothing (x ∷ xs) less = absurd (omega arith)
 
--- src/late.rt:44:21
 pub returns-in-Some : goal.returns-in-Some
-returns-in-Some c = ?
+returns-in-Some c = λ all w h.
+    let x = c.line-item.result in
+    let more = take (length c.lines.left.now - 1) (drop 1 c.lines.left.now) in
+    let n = next_of all x more (subst (λ (xs : List LaidStatement). IsLeft all xs) (rest_of c.lines.left.now x c.in-len1-up.len_at_least c.line-item.is) (c.lines.invariant all w h)) in
+    told_here all x more n c.in-Some.kind c.told_of.result
+    (sym c.in-Some.is ∙ c.late_kind.ensures all n.before n.rest n.l w (rw c.stand_of.ensures (stands all x more n))) c.told_of.ensures
 
--- src/late.rt:39:5
 pub lines-preserved : goal.lines-preserved
-lines-preserved c = ?
+lines-preserved c = λ all w h.
+    let x = c.line-item.result in
+    let more = take (length c.lines.left.now - 1) (drop 1 c.lines.left.now) in
+    let n = next_of all x more (subst (λ (xs : List LaidStatement). IsLeft all xs) (rest_of c.lines.left.now x c.in-len1-up.len_at_least c.line-item.is) (c.lines.invariant all w h)) in
+    none_here all x more n (sym c.in_default.is ∙ c.late_kind.ensures all n.before n.rest n.l w (rw c.stand_of.ensures (stands all x more n)))

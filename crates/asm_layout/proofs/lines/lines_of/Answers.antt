@@ -1,18 +1,24 @@
-use Rattle.std.proofs.Common.{rules, ◌≡◌, List, map, IfOk, ℕ, ◌+◌, ◌-◌, ◌*◌, ◌<◌, ◌≤◌, length, ◌/◌, ◌%◌, Bool, true, false, nat_eq, nat_lt, [], ◌∷◌, ◌++◌, slice_index_or, slice_set, bit_and, bit_or, Fits, w8, w32, w64, Bor, MutBor}
-use Rattle.layout_model.specs.Laid.{LaidLine}
-use Rattle.asm_final.specs.Source.{AreEach}
-use Rattle.asm_layout.specs.Layout.{AreStatements}
+use Rattle.std.proofs.Common.{◌≡◌, ◌+◌, ◌∷◌, ◌++◌, ◌∙◌, List, [], take, suc, sym, ap, subst, arith}
+use Rattle.std.specs.List.{AllZip}
+use Rattle.std.proofs.lemmas.List.{take_all}
+use Rattle.std.proofs.lemmas.Slice.Zip.{all_zipped_more}
+use Rattle.std.proofs.Math.Seq.{take-suc}
+use Rattle.asm_pool.specs.declared.layout.LaidStatement.{LaidStatement}
 use Rattle.asm_layout.specs.Lines.{IsLineOf}
+use Rattle.asm_layout.proofs.LateLemmas.{each_of}
 use Rattle.asm_layout.proofs.lines.lines_of.Goals as goal
 
--- src/lines.rt:36:5
-pub laid-init : goal.laid-init
-laid-init c = ?
-
--- src/lines.rt:36:5
 pub laid-preserved : goal.laid-preserved
-laid-preserved c = ?
+laid-preserved c =
+    let one : c.laid.statement-index + 1 ≡ suc c.laid.statement-index = omega arith in
+    let more : take (c.laid.statement-index + 1) c.args.laid.now ≡ take c.laid.statement-index c.args.laid.now ++ c.statement-item.result ∷ [] =
+    ap (λ n. take n c.args.laid.now) one ∙ take-suc c.args.laid.now c.laid.statement-index c.statement-item.result c.laid-test.true
+    ∙ ap (λ (x : LaidStatement). take c.laid.statement-index c.args.laid.now ++ x ∷ []) (sym c.statement-item.is) in
+    rw c.in_ok-push.ensures.items
+    (subst (λ (xs : List LaidStatement). AllZip IsLineOf xs (c.laid.lines.items ++ c.line_of.result ∷ [])) (sym more)
+    (all_zipped_more IsLineOf (take c.laid.statement-index c.args.laid.now) c.laid.lines.items c.statement-item.result c.line_of.result c.laid.invariant c.line_of.ensures))
 
--- src/lines.rt:32:1
 pub returns : goal.returns
-returns c = ?
+returns c = λ all h.
+    each_of all c.args.laid.now c.laid.lines.items
+    (subst (λ (xs : List LaidStatement). AllZip IsLineOf xs c.laid.lines.items) (take_all c.laid.statement-index c.args.laid.now c.laid-test.false) c.laid.invariant) h

@@ -1,9 +1,6 @@
-use Rattle.std.proofs.Common.{◌≡◌, List, map, IfOk, ℕ, ◌+◌, ◌-◌, ◌*◌, ◌<◌, ◌≤◌, length}
-use Rattle.layout_model.specs.Laid.{LaidLine}
-use Rattle.asm_final.specs.Source.{AreEach}
-use Rattle.asm_layout.specs.Layout.{AreStatements}
-use Rattle.asm_layout.specs.Lines.{IsLineOf}
+use Rattle.std.proofs.Common.{take}
+use Rattle.asm_layout.specs.Lines.{AreLinesOf}
 use Rattle.asm_layout.proofs.lines.lines_of.Given as goal
 
 abbrev pub invariant-laid : goal.invariant-laid
-invariant-laid l = ?
+invariant-laid l = AreLinesOf (take l.statement-index l.laid) l.lines.items

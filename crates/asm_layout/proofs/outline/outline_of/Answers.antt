@@ -1,4 +1,4 @@
-use Rattle.std.proofs.Common.{◌≡◌, ◌∙◌, ap, map, refl, List, ℕ, Bool}
+use Rattle.std.proofs.Common.{◌∙◌, ap, map, refl, List, ℕ}
 use Rattle.asm_model.specs.declared.exprs.Expr.{Expr}
 use Rattle.asm_order.specs.Order.{is_settled}
 use Rattle.asm_layout.proofs.OutlineLemmas.{all_short, equals_are}

@@ -1,4 +1,4 @@
-use Rattle.std.proofs.Common.{◌≡◌, ◌∙◌, ap, map, List, ℕ, Bool}
+use Rattle.std.proofs.Common.{◌∙◌, ap, map, List, ℕ}
 use Rattle.asm_model.specs.declared.exprs.Expr.{Expr}
 use Rattle.asm_order.specs.Equals.{pairs_of}
 use Rattle.asm_order.specs.Order.{is_settled}

@@ -1,14 +1,11 @@
-use Rattle.std.proofs.Common.{◌≡◌, ◌++◌, ◌+◌, ℕ, List, Bool, length, refl, sym, ap, ◌∙◌, subst, length-append}
-use Rattle.asm_checks.specs.Checked.{checked_kinds, IsLine as IsChecksLine}
+use Rattle.std.proofs.Common.{◌+◌, length, refl, sym, ap, ◌∙◌, subst, length-append}
+use Rattle.asm_checks.specs.Checked.{IsLine as IsChecksLine}
 use Rattle.asm_laying.specs.Declaring.{declared_in}
 use Rattle.asm_laying.specs.Laying.{Tells}
-use Rattle.asm_model.specs.FaultSets.{first_told}
-use Rattle.asm_model.specs.Kinds.{told_kind}
 use Rattle.asm_registers.specs.Kept.{IsLine as IsRegistersLine}
 use Rattle.layout_model.specs.Labels.{defined_by}
 use Rattle.layout_model.specs.Laid.{Declared, LaidLine, laid_behind, statements_of}
 use Rattle.layout_model.specs.LayoutKinds.{equal_of, equals_in}
-use Rattle.source_model.specs.Registers.{register_kinds}
 use Rattle.asm_layout.specs.Walking.{HasMark}
 use Rattle.asm_layout.proofs.StepLemmas.{numbers, seen_names, mark_is, count_is}
 use Rattle.asm_layout.proofs.ToldLemmas.{none_first, none_second}

@@ -1,5 +1,4 @@
-use Rattle.std.proofs.Common.{◌≡◌, Some, ap, ◌∙◌, refl}
-use Rattle.sdt_fault.specs.declared.kinds.LineKind.{LineKind}
+use Rattle.std.proofs.Common.{◌∙◌, refl}
 use Rattle.layout_model.specs.Laid.{laid_behind}
 use Rattle.asm_layout.specs.Walking.{told_by}
 use Rattle.asm_layout.proofs.StepLemmas.{judged_told, err_told, ok_laid, tells, keep_line}

@@ -1,0 +1,126 @@
+-- The areas of a layout, made of what begins and what ends each of them.
+use Rattle.std.proofs.Common.{◌≡◌, ◌<◌, ℕ, zero, suc, Bool, true, false, List, [], ◌∷◌, length, map, Option, Some, None, refl, sym, ap, ◌∙◌, subst, arith}
+use Rattle.std.specs.List.{slice_get, zip}
+use Rattle.std.proofs.lemmas.Slice.Zip.{AllZip-long}
+use Rattle.asm_areas.specs.declared.starts.AreaStart.{AreaStart}
+use Rattle.asm_areas.specs.Late.{AreWhole, is_true}
+use Rattle.asm_areas.specs.Starts.{IsStart}
+use Rattle.asm_model.specs.declared.directives.DirectiveLine.{DirectiveLine}
+use Rattle.asm_model.specs.declared.directives.DirectiveLine.TheVariants as line
+use Rattle.asm_model.specs.declared.statements.What.{What}
+use Rattle.asm_model.specs.declared.statements.What.TheVariants as what
+use Rattle.asm_offsets.specs.declared.extents.LaidPools.{LaidPools}
+use Rattle.asm_offsets.specs.Finished.{IsLaidOut, IsLaid}
+use Rattle.asm_offsets.specs.Running.{HasNone}
+use Rattle.asm_pool.specs.declared.layout.LaidArea.{LaidArea}
+use Rattle.layout_model.specs.Laid.{LaidLine, pieces_of}
+use Rattle.layout_model.specs.LayoutKinds.{is_thumb_area, first_state}
+use Rattle.layout_model.specs.Offsets.{is_of}
+use Rattle.source_model.specs.Objects.{says_area, attributes_of}
+use Rattle.asm_layout.specs.Areas.{IsMade, AreMade}
+use Rattle.asm_layout.specs.Layout.{AreAreas}
+
+-- ---- an area that begins has a line
+
+directive_says_none : (d : DirectiveLine) (area : ℕ) (l : LaidLine) (t : Bool) → is_of area l.area ≡ false → says_area area l (what.Directive d) t ≡ None
+directive_says_none (line.Area name a) area l t e = rw e refl
+directive_says_none line.Entry area l t e = refl
+directive_says_none line.End area l t e = refl
+directive_says_none (line.Export name) area l t e = refl
+directive_says_none (line.Import name weak) area l t e = refl
+directive_says_none (line.Extern name weak) area l t e = refl
+directive_says_none (line.Keep name) area l t e = refl
+directive_says_none (line.Equ v) area l t e = refl
+directive_says_none (line.Rn r) area l t e = refl
+directive_says_none line.Rout area l t e = refl
+directive_says_none (line.Assert v) area l t e = refl
+directive_says_none line.Nofp area l t e = refl
+directive_says_none (line.Opt v) area l t e = refl
+directive_says_none line.Ttl area l t e = refl
+directive_says_none line.Subt area l t e = refl
+directive_says_none (line.Dcd v) area l t e = refl
+directive_says_none (line.Dcdu v) area l t e = refl
+directive_says_none (line.Dcw v) area l t e = refl
+directive_says_none (line.Dcb v) area l t e = refl
+directive_says_none (line.Space v) area l t e = refl
+directive_says_none (line.Align b) area l t e = refl
+directive_says_none line.Ltorg area l t e = refl
+directive_says_none line.Data area l t e = refl
+directive_says_none (line.Map v) area l t e = refl
+directive_says_none (line.Field v) area l t e = refl
+directive_says_none line.Code16 area l t e = refl
+directive_says_none line.Code32 area l t e = refl
+
+says_none : (w : What) (area : ℕ) (l : LaidLine) (t : Bool) → is_of area l.area ≡ false → says_area area l w t ≡ None
+says_none what.Nothing area l t e = refl
+says_none (what.Arm a) area l t e = refl
+says_none (what.Thumb a) area l t e = refl
+says_none (what.Pseudo a) area l t e = refl
+says_none (what.Directive d) area l t e = directive_says_none d area l t e
+
+no_attributes : (all : List LaidLine) (area : ℕ) (t : Bool) → HasNone area (pieces_of all) → attributes_of area t all ≡ None
+no_attributes [] area t h = refl
+no_attributes (l ∷ before) area t h = rw (no_attributes before area t h.1) (says_none l.statement.what area l t h.0)
+
+has_laid : (all : List LaidLine) (area : ℕ) (s : AreaStart) (o : Option LaidPools) → IsStart all area (Some s) → IsLaidOut area (pieces_of all) o
+    → (p : LaidPools) × (o ≡ Some p) × IsLaid area (pieces_of all) p
+has_laid all area s (Some p) b h = (p, refl, h)
+has_laid all area s None b h = let e : attributes_of area true all ≡ None = no_attributes all area true h in let f = b.0 true in absurd (cc)
+
+thumb_is : (all : List LaidLine) (area : ℕ) (s : AreaStart) → first_state area all ≡ s.state → is_thumb_area area all ≡ is_true s.state
+thumb_is all area s h = by_state s.state h
+  where
+    by_state : (b : Option Bool) → first_state area all ≡ b → is_thumb_area area all ≡ is_true b
+    by_state None e = rw e refl
+    by_state (Some b) e = rw e refl
+
+-- ---- pairs
+
+within : {A : Type 0} (xs : List A) (i : ℕ) → i < length xs → (x : A) × (slice_get xs i ≡ Some x)
+within [] i less = absurd (omega arith)
+within (x ∷ xs) zero less = (x, refl)
+within (x ∷ xs) (suc i) less = within xs i (omega arith)
+
+zip_long : (ss : List AreaStart) (ps : List LaidPools) → ((i : ℕ) → i < length ss → (p : LaidPools) × (slice_get ps i ≡ Some p)) → length (zip ss ps) ≡ length ss
+zip_long [] ps h = refl
+zip_long (s ∷ ss) [] h = let r = h 0 (omega arith) in absurd (cc)
+zip_long (s ∷ ss) (p ∷ ps) h = ap suc (zip_long ss ps (λ i less. h (suc i) (omega arith)))
+
+made_at : (ss : List AreaStart) (ps : List LaidPools) (areas : List LaidArea) (i : ℕ) (a : LaidArea) → AreMade (zip ss ps) areas → slice_get areas i ≡ Some a
+    → (s : AreaStart) × (p : LaidPools) × (slice_get ss i ≡ Some s) × (slice_get ps i ≡ Some p) × IsMade (s, p) a
+made_at [] ps [] i a h e = absurd (cc)
+made_at [] ps (b ∷ areas) i a h e = absurd h
+made_at (s ∷ ss) [] [] i a h e = absurd (cc)
+made_at (s ∷ ss) [] (b ∷ areas) i a h e = absurd h
+made_at (s ∷ ss) (p ∷ ps) [] i a h e = absurd h
+made_at (s ∷ ss) (p ∷ ps) (b ∷ areas) zero a h e = let same : b ≡ a = cc in (s, p, refl, refl, subst (λ (c : LaidArea). IsMade (s, p) c) same h.0)
+made_at (s ∷ ss) (p ∷ ps) (b ∷ areas) (suc i) a h e = made_at ss ps areas i a h.1 e
+
+named_at : (ss : List AreaStart) (i : ℕ) (s : AreaStart) → slice_get ss i ≡ Some s → slice_get (map (λ (x : AreaStart). x.name) ss) i ≡ Some s.name
+named_at [] i s e = absurd (cc)
+named_at (x ∷ ss) zero s e = let same : x ≡ s = cc in ap (λ (y : AreaStart). Some y.name) same
+named_at (x ∷ ss) (suc i) s e = named_at ss i s e
+
+map_long : (ss : List AreaStart) → length (map (λ (x : AreaStart). x.name) ss) ≡ length ss
+map_long [] = refl
+map_long (s ∷ ss) = ap suc (map_long ss)
+
+pub areas_are : (all : List LaidLine) (ss : List AreaStart) (ps : List LaidPools) (yielded : List (AreaStart × LaidPools)) (areas : List LaidArea)
+    → yielded ≡ zip ss ps → AreMade yielded areas → AreWhole all ps ss → AreAreas all areas
+areas_are all ss ps yielded areas y m w =
+    let made : AreMade (zip ss ps) areas = subst (λ (xs : List (AreaStart × LaidPools)). AreMade xs areas) y m in
+    let full : length (zip ss ps) ≡ length ss = zip_long ss ps (λ i less. let s = within ss i less in
+    let r = has_laid all i s.0 (slice_get ps i) (subst (λ (o : Option AreaStart). IsStart all i o) s.1 (w.begun.each i)) (w.laid.each i) in (r.0, r.1)) in
+    record {
+      count = AllZip-long IsMade (zip ss ps) areas made ∙ full ∙ sym (map_long ss) ∙ ap (λ (ns : List (List ℕ)). length ns) w.begun.names;
+      each = λ i a e.
+          let r = made_at ss ps areas i a made e in
+          let b : IsStart all i (Some r.0) = subst (λ (o : Option AreaStart). IsStart all i o) r.2 (w.begun.each i) in
+          let l : IsLaid i (pieces_of all) r.1 = subst (λ (o : Option LaidPools). IsLaidOut i (pieces_of all) o) r.3 (w.laid.each i) in
+          record {
+            name = ap (λ (ns : List (List ℕ)). slice_get ns i) (sym w.begun.names) ∙ named_at ss i r.0 r.2 ∙ ap Some (sym r.4.name);
+            attributes = rw (thumb_is all i r.0 b.1) (b.0 (is_true r.0.state) ∙ ap Some (sym (r.4.attributes b.2)));
+            size = r.4.size ∙ l.size;
+            pools = r.4.pools ∙ l.pools;
+          };
+    }

@@ -1,0 +1,147 @@
+-- A source whose lines have no fault of their own.
+use Rattle.std.proofs.Common.{◌≡◌, ℕ, Bool, true, false, List, [], ◌∷◌, ◌++◌, Option, Some, None, Result, Ok, Err, refl, sym, ap, ◌∙◌, arith}
+use Rattle.std.specs.Prelude.{◌==◌, if◌then◌else◌}
+use Rattle.sdt_fault.specs.declared.kinds.LineKind.{LineKind}
+use Rattle.asm_areas.specs.Late.{AreWhole}
+use Rattle.asm_final.specs.Source.{IsReadDefined, AreRead}
+use Rattle.asm_model.specs.declared.directives.DirectiveLine.{DirectiveLine}
+use Rattle.asm_model.specs.declared.directives.DirectiveLine.TheVariants as line
+use Rattle.asm_model.specs.declared.statements.Statement.{Statement}
+use Rattle.asm_model.specs.declared.statements.What.{What}
+use Rattle.asm_model.specs.declared.statements.What.TheVariants as what
+use Rattle.asm_model.specs.Directives.{or_else}
+use Rattle.asm_model.specs.Kinds.{told_kind}
+use Rattle.asm_model.specs.Meaning.{named_in}
+use Rattle.asm_model.proofs.FaultLemmas.{told_by_parts}
+use Rattle.asm_offsets.specs.declared.extents.LaidPools.{LaidPools}
+use Rattle.asm_offsets.specs.Coded.{IsExtent}
+use Rattle.asm_offsets.specs.Finished.{AreLaid}
+use Rattle.asm_offsets.specs.Laws.{AllExtents, ExtentsArePlaceable}
+use Rattle.layout_laws.specs.Sound.{ArePlain}
+use Rattle.layout_model.specs.Extents.{Extent, extent_of}
+use Rattle.layout_model.specs.Labels.{LocalLabel, Label, number_in, field_defines, what_defines, directive_defines, labelled}
+use Rattle.layout_model.specs.Laid.{Declared, LaidLine, declared, laid, laid_of, sight_behind, taken, pieces_of, reversed, all_locals}
+use Rattle.layout_model.specs.LayoutKinds.{layout_kinds, equals_in, settled, told_at, first_fault, first_late}
+use Rattle.layout_model.specs.Locals.{Local}
+use Rattle.said_model.specs.Said.{WhatSaid, AllSaid}
+use Rattle.source_model.specs.Registers.{register_names, register_kinds}
+use Rattle.source_model.specs.SourceFaults.{first_laid, layout_faults}
+use Rattle.asm_layout.specs.declared.outline.Outline.{Outline}
+use Rattle.asm_layout.specs.declared.walking.Walk.{Walk}
+use Rattle.asm_layout.specs.Finishing.{IsNamed, IsWhole}
+use Rattle.asm_layout.proofs.ToldLemmas.{none_first}
+
+-- ---- statements as lines say them
+
+pub said_reversed : (ss acc : List Statement) → AllSaid ss → AllSaid acc → AllSaid (reversed ss acc)
+said_reversed [] acc h k = k
+said_reversed (s ∷ ss) acc h k = said_reversed ss (s ∷ acc) h.1 (h.0, k)
+
+all_plain : (ss : List Statement) → AllSaid ss → ArePlain ss
+all_plain [] h = tt
+all_plain (s ∷ ss) h = (h.0.named, h.0.imported, all_plain ss h.1)
+
+read_label : (name : List ℕ) → IsReadDefined (labelled name)
+read_label [] = tt
+read_label (c ∷ cs) = by_test (c == 124)
+  where
+    by_test : (b : Bool) → IsReadDefined (if b then LocalLabel (number_in cs) else Label (c ∷ cs))
+    by_test true = tt
+    by_test false = tt
+
+read_directive : (name : List ℕ) (d : DirectiveLine) → WhatSaid (what.Directive d) → IsReadDefined (directive_defines name d)
+read_directive name (line.Equ e) h = (h.parts, h.tree, h.spelled, h.items)
+read_directive name (line.Rn r) h = tt
+read_directive name (line.Field e) h = tt
+read_directive name line.Rout h = tt
+read_directive name (line.Area n a) h = read_label name
+read_directive name line.Entry h = read_label name
+read_directive name line.End h = read_label name
+read_directive name (line.Export n) h = read_label name
+read_directive name (line.Import n weak) h = read_label name
+read_directive name (line.Extern n weak) h = read_label name
+read_directive name (line.Keep n) h = read_label name
+read_directive name (line.Assert v) h = read_label name
+read_directive name line.Nofp h = read_label name
+read_directive name (line.Opt v) h = read_label name
+read_directive name line.Ttl h = read_label name
+read_directive name line.Subt h = read_label name
+read_directive name (line.Dcd v) h = read_label name
+read_directive name (line.Dcdu v) h = read_label name
+read_directive name (line.Dcw v) h = read_label name
+read_directive name (line.Dcb v) h = read_label name
+read_directive name (line.Space v) h = read_label name
+read_directive name (line.Align b) h = read_label name
+read_directive name line.Ltorg h = read_label name
+read_directive name line.Data h = read_label name
+read_directive name (line.Map v) h = read_label name
+read_directive name line.Code16 h = read_label name
+read_directive name line.Code32 h = read_label name
+
+read_what : (name : List ℕ) (w : What) → WhatSaid w → IsReadDefined (what_defines name w)
+read_what name what.Nothing h = read_label name
+read_what name (what.Arm a) h = read_label name
+read_what name (what.Thumb a) h = read_label name
+read_what name (what.Pseudo a) h = read_label name
+read_what name (what.Directive d) h = read_directive name d h
+
+read_field : (label : Option (List ℕ)) (w : What) → WhatSaid w → IsReadDefined (field_defines label w)
+read_field None w h = tt
+read_field (Some name) w h = read_what name w h
+
+all_read : (ss : List Statement) → AllSaid ss → AreRead ss
+all_read [] h = tt
+all_read (s ∷ ss) h = (read_field s.label s.what h.0.read, all_read ss h.1)
+
+-- ---- a source without faults at its lines
+
+none_left : {A : Type 0} (o p : Option A) → or_else o p ≡ None → o ≡ None
+none_left None p e = refl
+none_left (Some a) p e = absurd (cc)
+
+none_right : {A : Type 0} (o p : Option A) → or_else o p ≡ None → p ≡ None
+none_right None p e = e
+none_right (Some a) p e = absurd (cc)
+
+untold : (s : Statement) (o : Option LineKind) → told_at s o ≡ None → o ≡ None
+untold s None e = refl
+untold s (Some k) e = absurd (cc)
+
+sound_lines : (names fixed : List (List ℕ)) (ls : List LaidLine) → first_laid names fixed ls ≡ None → first_fault fixed ls ≡ None
+sound_lines names fixed [] e = refl
+sound_lines names fixed (l ∷ before) e =
+    let whole = untold l.statement (told_kind (layout_kinds fixed l before ++ register_kinds names l before))
+    (none_right (first_laid names fixed before) (told_at l.statement (told_kind (layout_kinds fixed l before ++ register_kinds names l before))) e) in
+    let part : told_kind (layout_kinds fixed l before) ≡ None =
+    none_first (told_kind (layout_kinds fixed l before)) (told_kind (register_kinds names l before)) (sym whole ∙ told_by_parts (layout_kinds fixed l before) (register_kinds names l before)) in
+    rw (sound_lines names fixed before (none_left (first_laid names fixed before) (told_at l.statement (told_kind (layout_kinds fixed l before ++ register_kinds names l before))) e), part) refl
+
+-- what laid lines take up can be placed
+extent_fits : ExtentsArePlaceable → (d : Declared) (s : Statement) (before : List LaidLine) (r : Result Extent LineKind) → extent_of (sight_behind d s before) s.what ≡ r → IsExtent (taken r)
+extent_fits law d s before (Ok e) h = law (sight_behind d s before) s.what e h
+extent_fits law d s before (Err k) h = record { some = omega arith; small = omega arith }
+
+all_extents : ExtentsArePlaceable → (d : Declared) (ss : List Statement) → AllExtents (pieces_of (laid_of d ss))
+all_extents law d [] = tt
+all_extents law d (s ∷ ss) = (extent_fits law d s (laid_of d ss) (extent_of (sight_behind d s (laid_of d ss)) s.what) refl, all_extents law d ss)
+
+-- ---- the whole source
+
+pub whole_is : ExtentsArePlaceable → (statements : List Statement) (o : Outline) (w : Walk) (pools : List LaidPools) → IsWhole statements o w → AreLaid (pieces_of (laid statements)) pools
+    → AreWhole (laid statements) pools w.starts
+whole_is law statements o w pools h l = record { laid = l; begun = h.walked.begun; extents = all_extents law (declared statements) statements }
+
+pub named_is : (statements : List Statement) (o : Outline) (w : Walk) (locals : List Local) → IsWhole statements o w → locals ≡ all_locals (laid statements)
+    → IsNamed statements w.lines.items locals o.declarations.names
+named_is statements o w locals h l = record {
+  sound = sound_lines (register_names statements) (settled (equals_in statements)) (laid statements) h.walked.none;
+  plain = all_plain statements h.said;
+  read = all_read statements h.said;
+  lines = h.walked.kept;
+  labels = l;
+  found = λ q. ap (λ (d : Declared). named_in q d.names) h.outlined.declares;
+}
+
+pub faults_are : (statements : List Statement) (o : Outline) (w : Walk) → IsWhole statements o w
+    → layout_faults statements ≡ first_late (laid statements) [] (reversed (laid statements) [])
+faults_are statements o w h = rw h.walked.none refl

@@ -1,0 +1,153 @@
+-- Lines that are judged once more when the whole layout is known.
+use Rattle.std.proofs.Common.{◌≡◌, ◌≤◌, ◌-◌, List, [], ◌∷◌, ◌++◌, length, take, drop, Option, Some, None, refl, sym, ap, ◌∙◌, subst, arith}
+use Rattle.std.proofs.lemmas.Grind.{common_steps}
+use Rattle.std.specs.Prelude.{get_or}
+use Rattle.std.specs.List.{AllZip}
+use Rattle.sdt_fault.specs.declared.answer.Fault.{Fault}
+use Rattle.sdt_fault.specs.declared.kinds.LineKind.{LineKind}
+use Rattle.asm_areas.specs.Late.{IsStand}
+use Rattle.asm_final.specs.declared.lines.PlacedLine.{PlacedLine}
+use Rattle.asm_final.specs.Source.{AreEach}
+use Rattle.asm_model.specs.declared.statements.Statement.{Statement}
+use Rattle.asm_model.specs.Directives.{or_else}
+use Rattle.asm_model.specs.Kinds.{told_kind}
+use Rattle.asm_pool.specs.declared.layout.LaidStatement.{LaidStatement}
+use Rattle.layout_model.specs.Laid.{LaidLine, pieces_of, taken, reversed}
+use Rattle.layout_model.specs.LayoutKinds.{entry_kinds, literal_kinds, first_late, told_at}
+use Rattle.asm_layout.specs.Layout.{IsStatement, AreStatements, IsTold}
+use Rattle.asm_layout.specs.Late.{stand_of, AreOn, IsLeft}
+use Rattle.asm_layout.specs.Lines.{IsLineOf}
+
+-- ---- from the first line on
+
+lines_on : (before rest : List LaidLine) (front back : List LaidStatement) → AreStatements before front → AreOn before rest back → AreOn [] (reversed before rest) (front ++ back)
+lines_on [] rest front back h k = rw h k
+lines_on (l ∷ before) rest front back h k =
+    subst (λ (xs : List LaidStatement). AreOn [] (reversed before (l ∷ rest)) (xs ++ back)) (sym h.2)
+    (subst (λ (xs : List LaidStatement). AreOn [] (reversed before (l ∷ rest)) xs) (sym (append_one h.0 h.1 back))
+    (lines_on before (l ∷ rest) h.0 (h.1 ∷ back) h.4 (h.1, back, refl, h.3, k)))
+  where
+    append_one : (xs : List LaidStatement) (y : LaidStatement) (ys : List LaidStatement) → (xs ++ y ∷ []) ++ ys ≡ xs ++ (y ∷ ys)
+    append_one [] y ys = refl
+    append_one (x ∷ xs) y ys = ap (λ (l : List LaidStatement). x ∷ l) (append_one xs y ys)
+
+append_nil : (xs : List LaidStatement) → xs ++ [] ≡ xs
+append_nil [] = refl
+append_nil (x ∷ xs) = ap (λ (l : List LaidStatement). x ∷ l) (append_nil xs)
+
+back_again : (xs ys : List LaidLine) → reversed (reversed xs ys) [] ≡ reversed ys xs
+back_again [] ys = refl
+back_again (x ∷ xs) ys = back_again xs (x ∷ ys)
+
+pub first_left : (all : List LaidLine) (laid : List LaidStatement) → AreStatements all laid → IsLeft all laid
+first_left all laid h = record {
+  before = [];
+  rest = reversed all [];
+  parts = sym (back_again all []);
+  lines = subst (λ (xs : List LaidStatement). AreOn [] (reversed all []) xs) (append_nil laid) (lines_on all [] laid [] h refl);
+  none = refl;
+}
+
+pub rest_of : (xs : List LaidStatement) (x : LaidStatement) → 1 ≤ length xs → x ≡ get_or xs 0 x → xs ≡ x ∷ take (length xs - 1) (drop 1 xs)
+rest_of [] x h e = absurd (let bad : 1 ≤ 0 = h in omega arith)
+rest_of (y ∷ ys) x h e = let same : x ≡ y = e in rw same (grind (arith, common_steps))
+
+-- ---- a line
+
+-- the lines that are left begin with this one
+pub record Next (all : List LaidLine) (x : LaidStatement) (more : List LaidStatement) : Type 0 where
+  pub before : List LaidLine
+  pub l : LaidLine
+  pub rest : List LaidLine
+  pub parts : all ≡ reversed rest (l ∷ before)
+  pub line : IsStatement x l before
+  pub lines : AreOn (l ∷ before) rest more
+  pub none : first_late all [] (reversed all []) ≡ first_late all before (l ∷ rest)
+
+pub next_of : (all : List LaidLine) (x : LaidStatement) (more : List LaidStatement) → IsLeft all (x ∷ more) → Next all x more
+next_of all x more h = by_rest h.rest h.parts h.lines h.none
+  where
+    by_rest : (rest : List LaidLine) → all ≡ reversed rest h.before → AreOn h.before rest (x ∷ more) → first_late all [] (reversed all []) ≡ first_late all h.before rest → Next all x more
+    by_rest [] parts lines none = absurd (cc)
+    by_rest (l ∷ rest) parts lines none =
+        let same : lines.0 ≡ x = cc in
+        let others : lines.1 ≡ more = cc in
+        record {
+          before = h.before;
+          l = l;
+          rest = rest;
+          parts = parts;
+          line = subst (λ (y : LaidStatement). IsStatement y l h.before) same lines.3;
+          lines = subst (λ (ys : List LaidStatement). AreOn (l ∷ h.before) rest ys) others lines.4;
+          none = none;
+        }
+
+pub stands : (all : List LaidLine) (x : LaidStatement) (more : List LaidStatement) (n : Next all x more) → IsStand all n.before n.rest n.l x.statement.what (stand_of x)
+stands all x more n = record {
+  parts = n.parts;
+  said = ap (λ (s : Statement). s.what) (sym n.line.statement);
+  stands = n.line.area;
+  start = n.line.offset;
+  state = n.line.thumb;
+  entry = n.line.literal;
+}
+
+pub told_here : (all : List LaidLine) (x : LaidStatement) (more : List LaidStatement) (n : Next all x more) (k : LineKind) (f : Fault)
+    → Some k ≡ told_kind (entry_kinds n.l.area n.l all ++ literal_kinds n.l.area (taken n.l.extent) (pieces_of (n.l ∷ n.before)) (pieces_of n.rest))
+    → IsTold (Some (x.statement, k)) f → IsTold (first_late all [] (reversed all [])) f
+told_here all x more n k f e h =
+    subst (λ (o : Option (Statement × LineKind)). IsTold o f)
+    (ap (λ (s : Statement). Some (s, k)) n.line.statement ∙ ap (λ (o : Option LineKind). or_else (told_at n.l.statement o) (first_late all (n.l ∷ n.before) n.rest)) e ∙ sym n.none) h
+
+pub none_here : (all : List LaidLine) (x : LaidStatement) (more : List LaidStatement) (n : Next all x more)
+    → None ≡ told_kind (entry_kinds n.l.area n.l all ++ literal_kinds n.l.area (taken n.l.extent) (pieces_of (n.l ∷ n.before)) (pieces_of n.rest))
+    → IsLeft all more
+none_here all x more n e = record {
+  before = n.l ∷ n.before;
+  rest = n.rest;
+  parts = n.parts;
+  lines = n.lines;
+  none = n.none ∙ ap (λ (o : Option LineKind). or_else (told_at n.l.statement o) (first_late all (n.l ∷ n.before) n.rest)) (sym e);
+}
+
+pub none_left : (all : List LaidLine) → IsLeft all [] → first_late all [] (reversed all []) ≡ None
+none_left all h = by_rest h.rest h.lines h.none
+  where
+    by_rest : (rest : List LaidLine) → AreOn h.before rest [] → first_late all [] (reversed all []) ≡ first_late all h.before rest → first_late all [] (reversed all []) ≡ None
+    by_rest [] lines none = none
+    by_rest (l ∷ rest) lines none = absurd (cc)
+
+-- ---- lines as names are made of them
+
+last_of : (front : List LaidStatement) (x : LaidStatement) (ys : List PlacedLine) → AllZip IsLineOf (front ++ x ∷ []) ys
+    → (fs : List PlacedLine) × (y : PlacedLine) × (ys ≡ fs ++ y ∷ []) × AllZip IsLineOf front fs × IsLineOf x y
+last_of [] x [] h = absurd h
+last_of [] x (y ∷ []) h = ([], y, refl, tt, h.0)
+last_of [] x (y ∷ z ∷ ys) h = absurd h.1
+last_of (f ∷ front) x [] h = absurd h
+last_of (f ∷ front) x (y ∷ ys) h = let r = last_of front x ys h.1 in (y ∷ r.0, r.1, ap (λ (l : List PlacedLine). y ∷ l) r.2, (h.0, r.3), r.4)
+
+pub each_of : (all : List LaidLine) (xs : List LaidStatement) (ys : List PlacedLine) → AllZip IsLineOf xs ys → AreStatements all xs → AreEach all ys
+each_of [] xs ys z h = none_of ys (subst (λ (l : List LaidStatement). AllZip IsLineOf l ys) h z)
+  where
+    none_of : (zs : List PlacedLine) → AllZip IsLineOf [] zs → zs ≡ []
+    none_of [] h = refl
+    none_of (y ∷ zs) h = absurd h
+each_of (l ∷ before) xs ys z h =
+    let r = last_of h.0 h.1 ys (subst (λ (xs' : List LaidStatement). AllZip IsLineOf xs' ys) h.2 z) in (
+      r.0,
+      r.1,
+      r.2,
+      record {
+        statement = r.4.statement ∙ h.3.statement;
+        number = r.4.number ∙ h.3.number;
+        area = r.4.area ∙ h.3.area;
+        stretch = r.4.stretch ∙ h.3.stretch;
+        offset = r.4.offset ∙ h.3.offset;
+        size = r.4.size ∙ h.3.size;
+        thumb = r.4.thumb ∙ h.3.thumb;
+        thumb_label = r.4.thumb_label ∙ h.3.thumb_label;
+        map = r.4.map ∙ h.3.map;
+      },
+      each_of before h.0 r.0 r.3 h.4,
+    )
