@@ -1,0 +1,6 @@
+//! The statements of a source's lines.
+#![tactic(auto)]
+
+pub mod reading;
+
+pub use crate::reading::{Reading, Unread, read_lines};
