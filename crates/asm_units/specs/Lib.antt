@@ -1,0 +1,4 @@
+-- What the clauses of the crate cite.
+pub mod Emitting
+pub mod Marked
+pub mod Showing
