@@ -1,15 +1,13 @@
 -- What code finds is what each context finds that it shows.
-use Rattle.std.proofs.Common.{◌≡◌, ℕ, ◌+◌, ◌%◌, ◌^◌, ◌<◌, ◌&&◌, ◌||◌, Bool, true, false, cond, not, List, [], ◌∷◌, length, Option, Some, None, refl, sym, ap, ◌∙◌, subst}
-use Rattle.std.specs.Prelude.{Result, Ok, Err, IfOk, map}
+use Rattle.std.proofs.Common.{◌≡◌, ℕ, ◌&&◌, Bool, true, false, not, List, [], ◌∷◌, Option, Some, None, refl, sym, ap, ◌∙◌}
+use Rattle.std.specs.Prelude.{Result, Ok, Err, IfOk}
 use Rattle.std.specs.List.{list_any}
 use Rattle.std.specs.BTreeSet.{BTreeSet}
 use Rattle.std.specs.Global.{Vec}
 use Rattle.sdt_fault.specs.declared.kinds.LineKind.{LineKind}
-use Rattle.sdt_fault.specs.declared.kinds.LineKind.TheVariants.{Forward, WrongType}
 use Rattle.asm_model.specs.declared.exprs.Expr.{Expr}
 use Rattle.asm_model.specs.declared.directives.DirectiveLine.{DirectiveLine}
 use Rattle.asm_model.specs.declared.directives.DirectiveLine.TheVariants as line
-use Rattle.asm_model.specs.declared.statements.What.{What}
 use Rattle.asm_model.specs.declared.statements.What.TheVariants as what
 use Rattle.asm_model.specs.declared.values.Value.{Value}
 use Rattle.asm_model.specs.declared.values.Value.TheVariants.{Number, Truth, Words, Place}
@@ -19,10 +17,10 @@ use Rattle.asm_model.specs.Meaning.{named_in, in_area, entry_stands_at, stands_a
 use Rattle.asm_model.specs.Says.{on_both}
 use Rattle.layout_model.specs.Entries.{thumb_of}
 use Rattle.layout_model.specs.Extents.{value_there}
-use Rattle.layout_model.specs.Marks.{counts_one, thumb_bit}
-use Rattle.source_model.specs.Contexts.{Context, sees, value_of, number_in, and_then}
-use Rattle.source_model.specs.Units.{Emitted, Bytes, Word, Stored, placed, stored, word_units, half_units, byte_operand, byte_units, narrow, directive_units}
-use Rattle.asm_instructions.specs.Scenes.{Shows, has_symbol, context_of}
+use Rattle.layout_model.specs.Marks.{counts_one}
+use Rattle.source_model.specs.Contexts.{Context, sees, value_of}
+use Rattle.source_model.specs.Units.{Emitted, Bytes, Stored, placed, stored, word_units, half_units, byte_operand, byte_units, directive_units}
+use Rattle.asm_instructions.specs.Scenes.{has_symbol, context_of}
 use Rattle.asm_instructions.proofs.AlikeLemmas.{number_alike}
 use Rattle.asm_instructions.proofs.ContextLemmas.{Alike, symbols_listed, shown_alike}
 use Rattle.asm_laying.specs.Reading.{is_words, marks, string_marks}

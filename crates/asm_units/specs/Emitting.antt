@@ -1,5 +1,5 @@
 -- What a statement puts into its area, as code keeps it. This project's.
-use Rattle.std.specs.Prelude.{ℕ, List, [], ◌∷◌, ◌++◌, map, Result}
+use Rattle.std.specs.Prelude.{List, [], ◌∷◌, ◌++◌, map, Result}
 use Rattle.std.specs.Global.{Vec}
 use Rattle.sdt_fault.specs.declared.kinds.LineKind.{LineKind}
 use Rattle.asm_model.specs.Says.{on_both, mapped}

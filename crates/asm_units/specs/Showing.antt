@@ -1,5 +1,5 @@
 -- What more a line's values are judged by, as code keeps it and as definitions have it. This project's.
-use Rattle.std.specs.Prelude.{◌≡◌, ℕ, ◌<◌, List, length, Option, Some, Ok}
+use Rattle.std.specs.Prelude.{◌≡◌, ℕ, ◌<◌, List, length, slice_index, Option, Some, Ok}
 use Rattle.std.specs.List.{list_any, slice_get}
 use Rattle.asm_model.specs.declared.exprs.Expr.{Expr}
 use Rattle.asm_model.specs.declared.statements.What.{What}
@@ -9,7 +9,7 @@ use Rattle.asm_model.specs.Forms.{same}
 use Rattle.asm_model.specs.Meaning.{stands_at}
 use Rattle.layout_model.specs.Extents.{value_there}
 use Rattle.source_model.specs.Contexts.{Context, sees, value_of}
-use Rattle.asm_instructions.specs.Scenes.{Shows, has_symbol}
+use Rattle.asm_instructions.specs.Scenes.{Shows, has_symbol, line_of}
 use Rattle.asm_laying.specs.Reading.{string_marks}
 use Rattle.asm_units.specs.declared.emitted.Beside.{Beside}
 
@@ -26,3 +26,17 @@ pub record ShowsBeside (x : Beside) (c : Context) (data_names : List (List ℕ))
   pub literal : x.word ≡ word
   -- what is known at the line stays
   pub known : (e : Expr) (v : Value) → value_there s e ≡ Ok v → value_of c e ≡ Ok v
+
+-- a context of the code's own lists, where the names that the source defines count
+abbrev pub context_beside : Beside → Context
+context_beside x = record {
+  names = x.scene.names.now;
+  line = line_of x.scene.line.now x.scene.references.now;
+  registers = x.scene.registers.now.entries;
+  symbols = x.scene.symbols.now.keys;
+  defined = x.defined.now.keys;
+}
+
+-- the size of an area; 0 of one that isn't listed
+abbrev pub sizes_of : Beside → ℕ → ℕ
+sizes_of x area = slice_index x.sizes.now area
