@@ -26,7 +26,7 @@ use Rattle.source_model.specs.Units.{stored}
 use Rattle.source_model.specs.ValueKinds.{lies_within, kinds_unless, export_kinds, assert_kinds, directive_kinds, literal_kinds, statement_kinds}
 use Rattle.asm_instructions.specs.Scenes.{has_symbol, context_of}
 use Rattle.asm_instructions.proofs.ContextLemmas.{Alike, symbols_listed, shown_alike}
-use Rattle.asm_units.specs.declared.emitted.Beside.{Beside}
+use Rattle.asm_units.specs.declared.beside.Beside.{Beside}
 use Rattle.asm_units.specs.declared.emitted.Stored.{Stored as Code}
 use Rattle.asm_units.specs.Emitting.{stored_of}
 use Rattle.asm_units.specs.Literals.{moved_value, moved_entry, literal_in}
@@ -72,7 +72,7 @@ pub literal_answered : {E : Type 0} (x : Beside) (v : Value) (r : Result (Result
     → IfOk r (λ l. mapped stored_of l ≡ stored (context_of x.scene) x.data.now.keys (literal_value (sees (context_of x.scene)) v))
     → IfOk r
     (λ l. (c : Context) (data_names : List (List ℕ)) (sizes : ℕ → ℕ) (s : Sight) (word : Option ℕ) (w : What) → ShowsBeside x c data_names sizes s word w
-        → mapped stored_of l ≡ stored c data_names (literal_value (sees c) v))
+    → mapped stored_of l ≡ stored c data_names (literal_value (sees c) v))
 literal_answered x v (Ok l) e = λ c data_names sizes s word w h. e ∙ literal_shown x v c data_names sizes s word w h
 literal_answered x v (Err k) e = tt
 
@@ -131,6 +131,6 @@ pub statement_answered : {E : Type 0} (x : Beside) (w : What) (r : Result (Optio
     → IfOk r (λ kind. kind ≡ told_kind (statement_kinds (context_beside x) (sizes_of x) w))
     → IfOk r
     (λ kind. (c : Context) (data_names : List (List ℕ)) (sizes : ℕ → ℕ) (s : Sight) (word : Option ℕ) → ShowsBeside x c data_names sizes s word w
-        → kind ≡ told_kind (statement_kinds c sizes w))
+    → kind ≡ told_kind (statement_kinds c sizes w))
 statement_answered x w (Ok kind) e = λ c data_names sizes s word h. e ∙ ap told_kind (statement_shown x c data_names sizes s word w h w)
 statement_answered x w (Err k) e = tt

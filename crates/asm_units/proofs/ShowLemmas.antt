@@ -24,7 +24,7 @@ use Rattle.asm_instructions.specs.Scenes.{has_symbol, context_of}
 use Rattle.asm_instructions.proofs.AlikeLemmas.{number_alike}
 use Rattle.asm_instructions.proofs.ContextLemmas.{Alike, symbols_listed, shown_alike}
 use Rattle.asm_laying.specs.Reading.{is_words, marks, string_marks}
-use Rattle.asm_units.specs.declared.emitted.Beside.{Beside}
+use Rattle.asm_units.specs.declared.beside.Beside.{Beside}
 use Rattle.asm_units.specs.declared.emitted.Emitted.{Emitted as Code}
 use Rattle.asm_units.specs.Emitting.{all_emitted}
 use Rattle.asm_units.specs.Marked.{marked_operand, marked_units, marked_directive}
@@ -143,6 +143,6 @@ pub directive_answered : {E : Type 0} (x : Beside) (l : DirectiveLine) (r : Resu
     → IfOk r (λ us. all_emitted us ≡ marked_directive (context_of x.scene) x.data.now.keys x.strings.now l)
     → IfOk r
     (λ us. (c : Context) (data_names : List (List ℕ)) (sizes : ℕ → ℕ) (s : Sight) (word : Option ℕ) → ShowsBeside x c data_names sizes s word (what.Directive l)
-        → all_emitted us ≡ directive_units c data_names s l)
+    → all_emitted us ≡ directive_units c data_names s l)
 directive_answered x l (Ok us) e = λ c data_names sizes s word h. directive_shown x l (all_emitted us) c data_names sizes s word e h
 directive_answered x l (Err k) e = tt

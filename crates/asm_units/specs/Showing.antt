@@ -11,7 +11,7 @@ use Rattle.layout_model.specs.Extents.{value_there}
 use Rattle.source_model.specs.Contexts.{Context, sees, value_of}
 use Rattle.asm_instructions.specs.Scenes.{Shows, has_symbol, line_of}
 use Rattle.asm_laying.specs.Reading.{string_marks}
-use Rattle.asm_units.specs.declared.emitted.Beside.{Beside}
+use Rattle.asm_units.specs.declared.beside.Beside.{Beside}
 
 -- the scene and what is beside it show what a context says, with these labels that are data, these sizes of areas, what
 -- the line sees, and the offset of its literal's word

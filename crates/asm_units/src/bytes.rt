@@ -11,7 +11,9 @@ ghost use Rattle.asm_instructions.specs.Scenes.{context_of};
 ghost use Rattle.asm_units.specs.Emitting.{all_emitted, emitted_of};
 ghost use Rattle.asm_units.specs.Marked as marked;
 
-use crate::emitted::{Beside, Emitted, bytes_unit, push_next};
+use crate::beside::Beside;
+use crate::emitted::Emitted;
+use crate::joining::{bytes_unit, push_next};
 use asm_instructions::values::{number_there, value_there};
 use asm_model::{Expr, Value};
 use sdt_fault::kinds::LineKind;

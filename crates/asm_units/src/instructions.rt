@@ -10,7 +10,8 @@ ghost use Rattle.source_model.specs.Units as units;
 ghost use Rattle.asm_instructions.specs.Scenes.{Shows};
 ghost use Rattle.asm_units.specs.Emitting.{all_emitted, emitted_of};
 
-use crate::emitted::{Beside, Emitted};
+use crate::beside::Beside;
+use crate::emitted::Emitted;
 use arm_isa::ArmInstr;
 use asm_instructions::{arm_instruction, branch_symbol, pseudo_instructions};
 use asm_model::{ArmLine, PseudoLine};
@@ -35,10 +36,13 @@ fn instruction_unit(
 {
     match instruction {
         Ok(instruction) => {
-            let units = one(alloc, Emitted::Instruction {
-                instruction,
-                symbol,
-            })?;
+            let units = one(
+                alloc,
+                Emitted::Instruction {
+                    instruction,
+                    symbol,
+                },
+            )?;
             Ok(Ok(units))
         }
         Err(kind) => Ok(Err(kind)),

@@ -16,7 +16,8 @@ ghost use Rattle.source_model.specs.ValueKinds as model;
 ghost use Rattle.asm_units.specs.Literals.{literal_in};
 ghost use Rattle.asm_units.specs.Showing.{ShowsBeside, context_beside, sizes_of};
 
-use crate::emitted::{Beside, Emitted, Stored};
+use crate::beside::Beside;
+use crate::emitted::{Emitted, Stored};
 use crate::literals::literal as literal_word;
 use crate::statements::units;
 use asm_checks::told::{first_told, kind_if};
@@ -172,11 +173,7 @@ fn statement_kind(
 }
 
 /// The kind of what a statement puts into its area.
-fn units_kind(
-    alloc: Global,
-    beside: &Beside<'_>,
-    what: &What,
-) -> Result<Option<LineKind>, NoMemory>
+fn units_kind(alloc: Global, beside: &Beside<'_>, what: &What) -> Result<Option<LineKind>, NoMemory>
     requires { WhatSaid what.now }
     ensures { IfOk result (λ kind. (c : Context) (data_names : List (List ℕ)) (sizes : ℕ → ℕ) (s : Sight) (word : Option ℕ) → ShowsBeside beside.now c data_names sizes s word what.now → kind ≡ told_kind (fault_kinds (emits c data_names s word what.now))) }
 {

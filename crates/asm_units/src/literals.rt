@@ -15,7 +15,8 @@ ghost use Rattle.asm_units.specs.Emitting.{stored_of};
 ghost use Rattle.asm_units.specs.Literals.{moved_entry, moved_value};
 ghost use Rattle.asm_units.specs.Showing.{ShowsBeside};
 
-use crate::emitted::{Beside, Stored};
+use crate::beside::Beside;
+use crate::emitted::Stored;
 use crate::words::stored;
 use asm_instructions::Scene;
 use asm_instructions::scenes::entry_of;

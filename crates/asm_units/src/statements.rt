@@ -11,8 +11,9 @@ ghost use Rattle.asm_units.specs.Emitting.{all_emitted};
 ghost use Rattle.asm_units.specs.Marked.{marked_directive};
 ghost use Rattle.asm_units.specs.Showing.{ShowsBeside};
 
+use crate::beside::Beside;
 use crate::bytes::{bytes, halves};
-use crate::emitted::{Beside, Emitted};
+use crate::emitted::Emitted;
 use crate::instructions::{arm, pseudo};
 use crate::words::words;
 use asm_model::{DirectiveLine, What};

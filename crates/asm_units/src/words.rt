@@ -12,7 +12,9 @@ ghost use Rattle.source_model.specs.Units as units;
 ghost use Rattle.asm_instructions.specs.Scenes.{context_of};
 ghost use Rattle.asm_units.specs.Emitting.{all_emitted, emitted_of, stored_of};
 
-use crate::emitted::{Beside, Emitted, Stored, Target, push_next, word_unit};
+use crate::beside::Beside;
+use crate::emitted::{Emitted, Stored, Target};
+use crate::joining::{push_next, word_unit};
 use asm_instructions::scenes::{entry_of, stands_at};
 use asm_instructions::values::value_there;
 use asm_model::{Expr, LaidName, Value};
