@@ -1,6 +1,6 @@
 -- What the lines of a source say, up to the first that says END, which closes it. SDT 2.50 Reference Guide, chapter on the
 -- assembler.
-use Rattle.std.specs.Prelude.{◌≡◌, ℕ, ◌^◌, ◌<◌, List, [], ◌∷◌, ◌++◌, length, Bool, true, false, Option, Some, None, Result, Ok, Err}
+use Rattle.std.specs.Prelude.{◌≡◌, ◌+◌, ◌^◌, ◌<◌, List, [], ◌∷◌, ◌++◌, length, Bool, true, false, Option, Some, None, Result, Ok, Err}
 use Rattle.sdt_fault.specs.declared.kinds.LineKind.{LineKind}
 use Rattle.asm_arm.specs.Says.{SaysArm}
 use Rattle.asm_model.specs.declared.directives.DirectiveLine.TheVariants as line
@@ -77,3 +77,12 @@ pub record IsReading (lines : List Flat) (r : Reading) : Type 0 where
   pub say : Say lines says
   pub statements : r.statements.items ≡ statements_in says
   pub unread : r.unread ≡ first_unread says
+
+-- what lines say of which these are left
+pub record IsSoFar (lines left : List Flat) (r : Reading) : Type 0 where
+  pub done : List (Flat × Said)
+  pub more : (ps : List (Flat × Said)) → Say left ps → Say lines (done ++ ps)
+  pub number : length done + length left ≡ length lines
+  pub statements : r.statements.items ≡ statements_in done
+  pub unread : r.unread ≡ first_unread done
+  pub short : AllShort left
