@@ -1,1 +1,2 @@
+mod FlatLemmas
 mod ReadLemmas
