@@ -1,0 +1,43 @@
+//! Laws of the definitions, each proved as the contract of an empty function.
+
+ghost use Rattle.source_laws.specs.Laws.{OtherUnitsAreNone, PoolsPutNothing, StatementsLieInAreas, StatementsStandApart, UnitsFill, UnitsFit, UnitsLieInside, UnitsStandApart};
+
+/// What a statement puts into its area is no longer than what it takes up.
+pub fn units_fit()
+    ensures { UnitsFit }
+{}
+
+/// Instructions and data are as long as what they take up.
+pub fn units_fill()
+    ensures { UnitsFill }
+{}
+
+/// Other statements put nothing into their area.
+pub fn other_units_are_none()
+    ensures { OtherUnitsAreNone }
+{}
+
+/// A statement that takes up a pool puts nothing there itself.
+pub fn pools_put_nothing()
+    ensures { PoolsPutNothing }
+{}
+
+/// Each unit lies inside the bytes of all units.
+pub fn units_lie_inside()
+    ensures { UnitsLieInside }
+{}
+
+/// Of two units the later starts at the end of the earlier or behind it.
+pub fn units_stand_apart()
+    ensures { UnitsStandApart }
+{}
+
+/// Of two lines of an area the later starts at the end of the earlier or behind it.
+pub fn statements_stand_apart()
+    ensures { StatementsStandApart }
+{}
+
+/// A line ends inside its area.
+pub fn statements_lie_in_areas()
+    ensures { StatementsLieInAreas }
+{}
