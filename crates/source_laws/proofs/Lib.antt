@@ -2,3 +2,4 @@ pub mod LineLemmas
 pub mod ListLemmas
 pub mod SizeLemmas
 pub mod UnitLemmas
+pub mod WordLemmas

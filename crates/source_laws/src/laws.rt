@@ -1,6 +1,6 @@
 //! Laws of the definitions, each proved as the contract of an empty function.
 
-ghost use Rattle.source_laws.specs.Laws.{OtherUnitsAreNone, PoolsPutNothing, StatementsLieInAreas, StatementsStandApart, UnitsFill, UnitsFit, UnitsLieInside, UnitsStandApart};
+ghost use Rattle.source_laws.specs.Laws.{LiteralsShareWords, LiteralsStandApart, OtherUnitsAreNone, PoolsPutNothing, StatementsLieInAreas, StatementsStandApart, UnitsFill, UnitsFit, UnitsLieInside, UnitsStandApart, WordsLieInAreas, WordsMeetNoStatement};
 
 /// What a statement puts into its area is no longer than what it takes up.
 pub fn units_fit()
@@ -40,4 +40,24 @@ pub fn statements_stand_apart()
 /// A line ends inside its area.
 pub fn statements_lie_in_areas()
     ensures { StatementsLieInAreas }
+{}
+
+/// The word of a literal lies inside its area.
+pub fn words_lie_in_areas()
+    ensures { WordsLieInAreas }
+{}
+
+/// The word of a literal meets no statement of its area but pools.
+pub fn words_meet_no_statement()
+    ensures { WordsMeetNoStatement }
+{}
+
+/// The same literal with no pool between has the same word.
+pub fn literals_share_words()
+    ensures { LiteralsShareWords }
+{}
+
+/// Other literals of an area have words that don't meet.
+pub fn literals_stand_apart()
+    ensures { LiteralsStandApart }
 {}
