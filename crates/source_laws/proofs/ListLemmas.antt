@@ -1,5 +1,5 @@
 -- Lists that are put together in two ways.
-use Rattle.std.proofs.Common.{◌≡◌, ℕ, List, [], ◌∷◌, ◌++◌, refl, sym, ◌∙◌, ap, ◌⊎◌, inl, inr, append_assoc}
+use Rattle.std.proofs.Common.{◌≡◌, List, [], ◌∷◌, ◌++◌, refl, sym, ◌∙◌, ap, ◌⊎◌, inl, inr}
 
 pub rest_of : {A : Type 0} → List A → List A
 rest_of [] = []
@@ -37,6 +37,7 @@ places {A = A} (x ∷ after) before (y ∷ behind) front l m e =
   where
     one_more : x ≡ y → (us bs : List A) → us ≡ bs → x ∷ us ≡ y ∷ bs
     one_more h us bs k = ap (λ q. q ∷ us) h ∙ ap (λ q. y ∷ q) k
+
     with_first : x ≡ y → Same after l before behind m front ⊎ (Before after l before behind m front ⊎ Before behind m front after l before)
         → Same (x ∷ after) l before (y ∷ behind) m front
         ⊎ (Before (x ∷ after) l before (y ∷ behind) m front ⊎ Before (y ∷ behind) m front (x ∷ after) l before)

@@ -1,5 +1,5 @@
 -- Units one behind the other.
-use Rattle.std.proofs.Common.{◌≡◌, ℕ, ◌+◌, ◌≤◌, List, [], ◌∷◌, ◌++◌, length, length-append, refl, sym, ◌∙◌, ap, subst, arith}
+use Rattle.std.proofs.Common.{◌≡◌, ℕ, ◌+◌, ◌≤◌, List, [], ◌∷◌, ◌++◌, length, length-append, subst, arith}
 use Rattle.source_model.specs.Objects.{Piece, unit_bytes, units_bytes, units_from}
 use Rattle.source_model.specs.Units.{Emitted}
 use Rattle.source_laws.proofs.ListLemmas.{same_first, same_rest}

@@ -1,18 +1,18 @@
 -- The words of literals.
-use Rattle.std.proofs.Common.{◌≡◌, ℕ, zero, suc, ◌+◌, ◌*◌, ◌%◌, ◌≤◌, ◌==◌, ◌&&◌, ◌||◌, List, [], ◌∷◌, ◌++◌, append_assoc, length, Bool, true, false, cond, eqb-true, refl, sym, ◌∙◌, ap, subst, arith, Option, Some, None, ◌⊎◌, inl, inr}
+use Rattle.std.proofs.Common.{◌≡◌, ℕ, zero, suc, ◌+◌, ◌*◌, ◌%◌, ◌≤◌, ◌==◌, ◌&&◌, ◌||◌, List, [], ◌∷◌, ◌++◌, append_assoc, Bool, true, false, cond, eqb-true, refl, sym, ◌∙◌, ap, subst, arith, Option, Some, ◌⊎◌, inl, inr}
 use Rattle.std.specs.List.{list_any}
 use Rattle.std.proofs.lemmas.Bool.{or_parts, or_from}
 use Rattle.std.specs.Prelude.{Result, Ok, Err}
 use Rattle.sdt_fault.specs.declared.kinds.LineKind.{LineKind}
 use Rattle.asm_model.specs.declared.statements.Statement.{Statement}
 use Rattle.asm_model.specs.declared.values.Value.{Value}
-use Rattle.asm_model.specs.declared.values.Value.TheVariants.{Number, Truth, Words, Place}
+use Rattle.asm_model.specs.declared.values.Value.TheVariants.{Number, Place}
 use Rattle.asm_model.specs.Forms.{same}
 use Rattle.asm_model.proofs.WordLemmas.{same_true}
 use Rattle.layout_model.specs.Extents.{Extent, Block, Padding, Loading, Pool}
 use Rattle.layout_model.specs.Laid.{LaidLine, taken, pieces_of, declared, sight_behind, laid}
 use Rattle.layout_model.specs.OffsetLaws.{joined, IsLiteral}
-use Rattle.layout_model.specs.Offsets.{Piece, is_of, lacking, alignment_of, same_literal, waiting, end_from, end_behind, start_in, area_size, place_among, word_behind, is_pool, is_pool_of, literal_word}
+use Rattle.layout_model.specs.Offsets.{Piece, is_of, lacking, alignment_of, same_literal, waiting, end_behind, start_in, area_size, place_among, word_behind, is_pool, is_pool_of, literal_word}
 use Rattle.layout_model.proofs.LaidLemmas.{loadings_are_literals}
 use Rattle.layout_model.proofs.OffsetLemmas.{more_twice, same_le, through, behind_rises, joined_rises, behind_keeps, word_below, pool_end, loaded_waits, literals_have_words}
 use Rattle.layout_laws.specs.Sound.{IsSound}
@@ -185,6 +185,7 @@ words_apart area before (p ∷ between) rest l u v h w =
         → AgreeOrApart area (p ∷ between) v u (literal_word area (l ∷ joined (p ∷ before) between) rest v) earlier
     no_more e earlier (inl q) = inl (q.0, q.1, ap (λ b. b || list_any (is_pool_of area) between) e ∙ q.2)
     no_more e earlier (inr a) = inr a
+
     by_test : (b : Bool) → is_pool_of area p ≡ b
         → (is_pool_of area p ≡ false
         → AgreeOrApart area between v u (literal_word area (l ∷ joined (p ∷ before) between) rest v) (literal_word area (p ∷ before) (between ++ l ∷ rest) u))
@@ -333,6 +334,7 @@ words_meet_no_statement ss sound area after before l w e here h behind front m e
         (through (end_behind area (pieces_of (m ∷ front))) (end_behind area (pieces_of (l ∷ before)))
         (literal_word area (pieces_of (l ∷ before)) (pieces_of (in_order after [])) v)
         i (word_rises area (pieces_of (l ∷ before)) (pieces_of (in_order after [])) v))
+
     by_place : (n : ℕ) (v : Value) → taken l.extent ≡ Loading n v
         → Same after l before behind m front ⊎ (Before after l before behind m front ⊎ Before behind m front after l before)
         → (m.offset + m.size ≤ literal_word area (pieces_of (l ∷ before)) (pieces_of (in_order after [])) v)
@@ -370,13 +372,13 @@ pub literals_stand_apart : (ss : List Statement) (area : ℕ) (after between bef
 literals_stand_apart ss area after between before l m n k v u later earlier e here there h i x y =
     let rest = pieces_of (in_order after []) in
     let later_is : literal_word area (piece_of l ∷ joined (pieces_of (m ∷ before)) (pieces_of (in_order between []))) rest v ≡ later =
-        ap (λ z. literal_word area (piece_of l ∷ z) rest v) (pieces_before between (m ∷ before))
-        ∙ some_same (literal_word area (pieces_of (l ∷ (between ++ m ∷ before))) rest v) later
-        (sym (word_here area l.area (taken l.extent) n v (pieces_of (l ∷ (between ++ m ∷ before))) rest here h) ∙ x) in
+    ap (λ z. literal_word area (piece_of l ∷ z) rest v) (pieces_before between (m ∷ before))
+    ∙ some_same (literal_word area (pieces_of (l ∷ (between ++ m ∷ before))) rest v) later
+    (sym (word_here area l.area (taken l.extent) n v (pieces_of (l ∷ (between ++ m ∷ before))) rest here h) ∙ x) in
     let earlier_is : literal_word area (pieces_of (m ∷ before)) (pieces_of (in_order between []) ++ piece_of l ∷ rest) u ≡ earlier =
-        ap (λ z. literal_word area (pieces_of (m ∷ before)) z u) (sym (pieces_split after between l))
-        ∙ some_same (literal_word area (pieces_of (m ∷ before)) (pieces_of (in_order (after ++ l ∷ between) [])) u) earlier
-        (sym (word_here area m.area (taken m.extent) k u (pieces_of (m ∷ before)) (pieces_of (in_order (after ++ l ∷ between) [])) there i) ∙ y) in
+    ap (λ z. literal_word area (pieces_of (m ∷ before)) z u) (sym (pieces_split after between l))
+    ∙ some_same (literal_word area (pieces_of (m ∷ before)) (pieces_of (in_order (after ++ l ∷ between) [])) u) earlier
+    (sym (word_here area m.area (taken m.extent) k u (pieces_of (m ∷ before)) (pieces_of (in_order (after ++ l ∷ between) [])) there i) ∙ y) in
     back
     (subst (λ z. AgreeOrApart area (pieces_of (in_order between [])) v u z earlier) later_is
     (subst (AgreeOrApart area (pieces_of (in_order between [])) v u
