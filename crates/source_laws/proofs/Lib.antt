@@ -1,5 +1,6 @@
 pub mod LineLemmas
 pub mod ListLemmas
 pub mod SizeLemmas
+pub mod ThingLemmas
 pub mod UnitLemmas
 pub mod WordLemmas

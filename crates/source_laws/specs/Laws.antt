@@ -1,8 +1,9 @@
 -- What statements put into their areas stands apart: what a statement puts there is no longer than what it takes up, the
 -- statements of an area follow each other, and the words of literals lie in pools, where no statement puts anything
 -- itself. Lines are listed with the last first. This project's.
-use Rattle.std.specs.Prelude.{◌≡◌, ◌⊎◌, ℕ, ◌+◌, ◌%◌, ◌≤◌, List, [], ◌∷◌, ◌++◌, length, Bool, true, false, Option, Some, Ok}
+use Rattle.std.specs.Prelude.{◌≡◌, ◌⊎◌, ℕ, ◌+◌, ◌%◌, ◌≤◌, List, [], ◌∷◌, ◌++◌, length, Bool, true, false, Option, Some, Result, Ok}
 use Rattle.std.specs.List.{list_any}
+use Rattle.sdt_fault.specs.declared.kinds.LineKind.{LineKind}
 use Rattle.asm_model.specs.declared.directives.DirectiveLine.{DirectiveLine}
 use Rattle.asm_model.specs.declared.directives.DirectiveLine.TheVariants as line
 use Rattle.asm_model.specs.declared.statements.Statement.{Statement}
@@ -11,13 +12,15 @@ use Rattle.asm_model.specs.declared.statements.What.TheVariants as what
 use Rattle.asm_model.specs.declared.values.Value.{Value}
 use Rattle.asm_model.specs.AtLine.{Sight}
 use Rattle.layout_model.specs.Extents.{Extent, Loading, Pool, extent_of}
-use Rattle.layout_model.specs.Laid.{LaidLine, taken, pieces_of, laid}
+use Rattle.layout_model.specs.Laid.{LaidLine, taken, pieces_of, laid, all_locals, final_names}
+use Rattle.layout_model.specs.Marks.{datum_names}
 use Rattle.layout_model.specs.Offsets.{size_of, area_size, is_pool, is_pool_of}
+use Rattle.layout_model.specs.Symbols.{literal_value}
 use Rattle.layout_laws.specs.Sound.{IsSound}
-use Rattle.source_model.specs.Contexts.{Context}
-use Rattle.source_model.specs.Objects.{Piece, unit_bytes, units_bytes, units_from, in_order}
-use Rattle.source_model.specs.SourceFaults.{word_of}
-use Rattle.source_model.specs.Units.{Emitted, units}
+use Rattle.source_model.specs.Contexts.{Context, sees}
+use Rattle.source_model.specs.Objects.{Piece, unit_bytes, units_bytes, units_from, source_of, in_order, StandsIn}
+use Rattle.source_model.specs.SourceFaults.{context_of, word_of}
+use Rattle.source_model.specs.Units.{Emitted, Stored, stored, units}
 
 -- ---- sizes
 
@@ -131,3 +134,41 @@ LiteralsStandApart =
     → taken l.extent ≡ Loading n v → taken m.extent ≡ Loading k u
     → word_among after l (between ++ m ∷ before) ≡ Some later → word_among (after ++ l ∷ between) m before ≡ Some earlier
     → ((later ≡ earlier) × (v ≡ u) × (list_any (is_pool_of area) (pieces_of between) ≡ false)) ⊎ ((earlier + 4 ≤ later) ⊎ (later + 4 ≤ earlier))
+
+-- ---- what stands in an area
+
+abbrev pub InArmState : List Statement → Type 0
+InArmState statements =
+    (after before : List LaidLine) (l : LaidLine) → laid statements ≡ after ++ l ∷ before → l.thumb ≡ false
+
+abbrev pub context_behind : List Statement → LaidLine → List LaidLine → Context
+context_behind statements l before = context_of (final_names (laid statements)) (all_locals (laid statements)) statements l before
+
+-- what the word of a literal holds
+abbrev pub stored_literal : List Statement → Context → Value → Result Stored LineKind
+stored_literal statements c v = stored c (datum_names statements) (literal_value (sees c) v)
+
+-- a literal has one word at all lines of an area
+abbrev pub WordsAgree : List Statement → Type 0
+WordsAgree statements =
+    (area : ℕ) (after before behind front : List LaidLine) (l m : LaidLine) (n k : ℕ) (v : Value)
+    → laid statements ≡ after ++ l ∷ before → laid statements ≡ behind ++ m ∷ front → l.area ≡ Some area → m.area ≡ Some area
+    → taken l.extent ≡ Loading n v → taken m.extent ≡ Loading k v
+    → stored_literal statements (context_behind statements l before) v ≡ stored_literal statements (context_behind statements m front) v
+
+-- of two things that stand in an area each ends before the other, or they are the same
+abbrev pub StandApart : Piece → Piece → Type 0
+StandApart p q = (p.0 + length (unit_bytes p.1) ≤ q.0) ⊎ (q.0 + length (unit_bytes q.1) ≤ p.0)
+
+abbrev pub ThingsStandApart : Type 0
+ThingsStandApart =
+    (statements : List Statement) → IsSound statements → InArmState statements → WordsAgree statements
+    → (area : ℕ) (p q : Piece) → StandsIn (source_of statements) area p → StandsIn (source_of statements) area q
+    → (p ≡ q) ⊎ StandApart p q
+
+-- and each lies inside the area
+abbrev pub ThingsLieInAreas : Type 0
+ThingsLieInAreas =
+    (statements : List Statement) → IsSound statements → InArmState statements
+    → (area : ℕ) (p : Piece) → StandsIn (source_of statements) area p
+    → p.0 + length (unit_bytes p.1) ≤ area_size area (pieces_of (laid statements))

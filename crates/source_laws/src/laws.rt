@@ -1,6 +1,6 @@
 //! Laws of the definitions, each proved as the contract of an empty function.
 
-ghost use Rattle.source_laws.specs.Laws.{LiteralsShareWords, LiteralsStandApart, OtherUnitsAreNone, PoolsPutNothing, StatementsLieInAreas, StatementsStandApart, UnitsFill, UnitsFit, UnitsLieInside, UnitsStandApart, WordsLieInAreas, WordsMeetNoStatement};
+ghost use Rattle.source_laws.specs.Laws.{LiteralsShareWords, LiteralsStandApart, OtherUnitsAreNone, PoolsPutNothing, StatementsLieInAreas, StatementsStandApart, ThingsLieInAreas, ThingsStandApart, UnitsFill, UnitsFit, UnitsLieInside, UnitsStandApart, WordsLieInAreas, WordsMeetNoStatement};
 
 /// What a statement puts into its area is no longer than what it takes up.
 pub fn units_fit()
@@ -60,4 +60,14 @@ pub fn literals_share_words()
 /// Other literals of an area have words that don't meet.
 pub fn literals_stand_apart()
     ensures { LiteralsStandApart }
+{}
+
+/// Two things that stand in an area are the same or don't meet.
+pub fn things_stand_apart()
+    ensures { ThingsStandApart }
+{}
+
+/// What stands in an area lies inside it.
+pub fn things_lie_in_areas()
+    ensures { ThingsLieInAreas }
 {}
