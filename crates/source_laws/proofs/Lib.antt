@@ -1,3 +1,5 @@
+pub mod AgreeLemmas
+pub mod BareLemmas
 pub mod LineLemmas
 pub mod ListLemmas
 pub mod SizeLemmas

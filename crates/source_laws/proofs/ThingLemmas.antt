@@ -2,13 +2,11 @@
 use Rattle.std.proofs.Common.{◌≡◌, ℕ, ◌+◌, ◌≤◌, List, [], ◌∷◌, ◌++◌, append_assoc, length, Bool, true, false, refl, sym, ◌∙◌, ap, subst, arith, Option, Some, None, ◌⊎◌, inl, inr}
 use Rattle.std.specs.List.{list_any}
 use Rattle.std.specs.Prelude.{Result, Ok, Err}
-use Rattle.sdt_word.proofs.BytesLemmas.{length-bytes_of}
 use Rattle.sdt_fault.specs.declared.kinds.LineKind.{LineKind}
 use Rattle.asm_model.specs.declared.statements.Statement.{Statement}
-use Rattle.asm_model.specs.declared.statements.What.{What}
 use Rattle.asm_model.specs.declared.values.Value.{Value}
 use Rattle.layout_model.specs.Extents.{Extent, Block, Padding, Loading, Pool, extent_of}
-use Rattle.layout_model.specs.Laid.{LaidLine, taken, pieces_of, declared, laid_behind, laid}
+use Rattle.layout_model.specs.Laid.{LaidLine, taken, pieces_of, declared, laid}
 use Rattle.layout_model.specs.LayoutKinds.{equals_in, settled, first_fault}
 use Rattle.layout_model.specs.Marks.{datum_names}
 use Rattle.layout_model.specs.Offsets.{waiting, start_in, area_size, is_pool, is_pool_of}
@@ -160,6 +158,7 @@ in_line ss sound arm area after before l p e here h =
         (subst (λ r. IsAmong p (units_from l.offset (or_none r)))
         (sym y ∙ pools_put_nothing (context_behind ss l before) (datum_names ss) l.seen (word_among after l before) l.statement.what
         (known_extent ss sound after before l e ∙ ap Ok (pool_only (taken l.extent) x))) k)
+
     by_result : (r : Result (List Emitted) LineKind)
         → units (context_behind ss l before) (datum_names ss) l.seen (word_among after l before) l.statement.what ≡ r
         → IsAmong p (units_from l.offset (or_none r)) → InLine l p
@@ -167,9 +166,9 @@ in_line ss sound arm area after before l p e here h =
     by_result (Ok us) x k =
         let i = units_inside l.offset us p k in
         let fit =
-            units_fit (context_behind ss l before) (datum_names ss) l.seen (word_among after l before) l.statement.what (taken l.extent) us
-            ((seen_extent ss after before l e).1 ∙ arm after before l e) (known_extent ss sound after before l e) x
-            (waiting area (pieces_of before)) (start_in area (pieces_of before) (taken l.extent)) in
+        units_fit (context_behind ss l before) (datum_names ss) l.seen (word_among after l before) l.statement.what (taken l.extent) us
+        ((seen_extent ss after before l e).1 ∙ arm after before l e) (known_extent ss sound after before l e) x
+        (waiting area (pieces_of before)) (start_in area (pieces_of before) (taken l.extent)) in
         let size = subst (λ z. length (units_bytes us) ≤ z) (sym (stands_in ss sound area after before l e here).1) fit in
         (i.0, within_sum l.offset (length (units_bytes us)) l.size (p.0 + length (unit_bytes p.1)) size i.1, not_pool (is_pool (taken l.extent)) refl us x k)
 
@@ -246,6 +245,7 @@ words_of_lines ss agree area after between before l m p q e here there x y =
         (agree area after (between ++ m ∷ before) (after ++ l ∷ between) before l m x.size y.size x.value e
         (e ∙ sym (append_assoc after (l ∷ between) (m ∷ before))) here there x.extent (y.extent ∙ ap (Loading y.size) (sym v))
         ∙ ap (stored_literal ss (context_behind ss m before)) v ∙ y.stores)
+
     by_side : (p.0 ≡ x.place) × (p.0 + length (unit_bytes p.1) ≡ x.place + 4) → (q.0 ≡ y.place) × (q.0 + length (unit_bytes q.1) ≡ y.place + 4)
         → ((x.place ≡ y.place) × (x.value ≡ y.value) × (list_any (is_pool_of area) (pieces_of between) ≡ false)) ⊎ ((y.place + 4 ≤ x.place) ⊎ (x.place + 4 ≤ y.place))
         → (p ≡ q) ⊎ StandApart p q
@@ -311,6 +311,7 @@ things_lie_in_areas ss sound arm area p x =
     of_word w =
         subst (λ z. z ≤ area_size area (pieces_of (laid ss))) (sym (word_end w.place w.holds p w.is).1)
         (words_lie_in_areas ss area x.at.rest x.at.before x.owner w.place x.at.parts x.own w.stands).1
+
     by_kind : IsAmong p (own_units ss x.at.rest x.owner x.at.before) ⊎ IsAmong p (own_words ss x.at.rest x.owner x.at.before)
         → p.0 + length (unit_bytes p.1) ≤ area_size area (pieces_of (laid ss))
     by_kind (inl h) =

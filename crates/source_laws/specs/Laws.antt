@@ -10,13 +10,14 @@ use Rattle.asm_model.specs.declared.statements.Statement.{Statement}
 use Rattle.asm_model.specs.declared.statements.What.{What}
 use Rattle.asm_model.specs.declared.statements.What.TheVariants as what
 use Rattle.asm_model.specs.declared.values.Value.{Value}
+use Rattle.asm_model.specs.declared.values.Value.TheVariants.{Place}
 use Rattle.asm_model.specs.AtLine.{Sight}
 use Rattle.layout_model.specs.Extents.{Extent, Loading, Pool, extent_of}
 use Rattle.layout_model.specs.Laid.{LaidLine, taken, pieces_of, laid, all_locals, final_names}
 use Rattle.layout_model.specs.Marks.{datum_names}
 use Rattle.layout_model.specs.Offsets.{size_of, area_size, is_pool, is_pool_of}
 use Rattle.layout_model.specs.Symbols.{literal_value}
-use Rattle.layout_laws.specs.Sound.{IsSound}
+use Rattle.layout_laws.specs.Sound.{IsSound, IsBare, ArePlain}
 use Rattle.source_model.specs.Contexts.{Context, sees}
 use Rattle.source_model.specs.Objects.{Piece, unit_bytes, units_bytes, units_from, source_of, in_order, StandsIn}
 use Rattle.source_model.specs.SourceFaults.{context_of, word_of}
@@ -172,3 +173,17 @@ ThingsLieInAreas =
     (statements : List Statement) → IsSound statements → InArmState statements
     → (area : ℕ) (p : Piece) → StandsIn (source_of statements) area p
     → p.0 + length (unit_bytes p.1) ≤ area_size area (pieces_of (laid statements))
+
+abbrev pub HasBareSymbol : Value → Type 0
+HasBareSymbol (Place s n) = IsBare s
+HasBareSymbol _ = Unit {0}
+
+-- the symbol of each literal begins with no bar, as names of lines don't
+abbrev pub LiteralsAreBare : List Statement → Type 0
+LiteralsAreBare statements =
+    (after before : List LaidLine) (l : LaidLine) (n : ℕ) (v : Value)
+    → laid statements ≡ after ++ l ∷ before → taken l.extent ≡ Loading n v → HasBareSymbol v
+
+-- statements as lines say them are such
+abbrev pub LiteralWordsAgree : Type 0
+LiteralWordsAgree = (statements : List Statement) → ArePlain statements → LiteralsAreBare statements → WordsAgree statements

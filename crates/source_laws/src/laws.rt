@@ -1,6 +1,6 @@
 //! Laws of the definitions, each proved as the contract of an empty function.
 
-ghost use Rattle.source_laws.specs.Laws.{LiteralsShareWords, LiteralsStandApart, OtherUnitsAreNone, PoolsPutNothing, StatementsLieInAreas, StatementsStandApart, ThingsLieInAreas, ThingsStandApart, UnitsFill, UnitsFit, UnitsLieInside, UnitsStandApart, WordsLieInAreas, WordsMeetNoStatement};
+ghost use Rattle.source_laws.specs.Laws.{LiteralsShareWords, LiteralsStandApart, LiteralWordsAgree, OtherUnitsAreNone, PoolsPutNothing, StatementsLieInAreas, StatementsStandApart, ThingsLieInAreas, ThingsStandApart, UnitsFill, UnitsFit, UnitsLieInside, UnitsStandApart, WordsLieInAreas, WordsMeetNoStatement};
 
 /// What a statement puts into its area is no longer than what it takes up.
 pub fn units_fit()
@@ -70,4 +70,9 @@ pub fn things_stand_apart()
 /// What stands in an area lies inside it.
 pub fn things_lie_in_areas()
     ensures { ThingsLieInAreas }
+{}
+
+/// A literal has one word at all lines of an area.
+pub fn literal_words_agree()
+    ensures { LiteralWordsAgree }
 {}
