@@ -23,62 +23,81 @@ use Rattle.layout_laws.proofs.RoundLemmas.{SymbolIs, ResultIs, EachIs, each_clos
 use Rattle.layout_laws.proofs.SettledLemmas.{no_place_is}
 use Rattle.layout_laws.proofs.StepLemmas.{AreRegular, each_more}
 
--- ---- trees without places as constants
+-- ---- the items of trees
 
-abbrev pub HasNone : Tree → Type 0
-HasNone (Leaf i) = HasNoPlace i
-HasNone (Before op t) = HasNone t
-HasNone (Between op t u) = HasNone t × HasNone u
+abbrev pub ItemsEach : (ExprItem → Type 0) → List ExprItem → Type 0
+ItemsEach Q [] = Unit {0}
+ItemsEach Q (i ∷ is) = Q i × ItemsEach Q is
 
-abbrev pub HaveNone : List Tree → Type 0
-HaveNone [] = Unit {0}
-HaveNone (t ∷ ts) = HasNone t × HaveNone ts
+abbrev pub TreeEach : (ExprItem → Type 0) → Tree → Type 0
+TreeEach Q (Leaf i) = Q i
+TreeEach Q (Before op t) = TreeEach Q t
+TreeEach Q (Between op t u) = TreeEach Q t × TreeEach Q u
 
-abbrev pub SomeHaveNone : Option (List Tree) → Type 0
-SomeHaveNone None = Unit {0}
-SomeHaveNone (Some ts) = HaveNone ts
+abbrev pub TreesEach : (ExprItem → Type 0) → List Tree → Type 0
+TreesEach Q [] = Unit {0}
+TreesEach Q (t ∷ ts) = TreeEach Q t × TreesEach Q ts
 
-pub grown_none : (i : ExprItem) (ts : List Tree) → HasNoPlace i → HaveNone ts → SomeHaveNone (grown i ts)
-grown_none (item.Unary op) [] h k = tt
-grown_none (item.Unary op) (t ∷ ts) h k = k
-grown_none (item.Binary op) [] h k = tt
-grown_none (item.Binary op) (u ∷ []) h k = tt
-grown_none (item.Binary op) (u ∷ t ∷ ts) h k = ((k.1.0, k.0), k.1.1)
-grown_none (item.Name q) ts h k = (h, k)
-grown_none (item.Local q) ts h k = (h, k)
-grown_none (item.Constant v) ts h k = (h, k)
-grown_none item.Here ts h k = (h, k)
-grown_none item.Map ts h k = (h, k)
-grown_none item.CodeSize ts h k = (h, k)
+abbrev pub SomeEach : (ExprItem → Type 0) → Option (List Tree) → Type 0
+SomeEach Q None = Unit {0}
+SomeEach Q (Some ts) = TreesEach Q ts
 
-pub behind_none : (i : ExprItem) (o : Option (List Tree)) → HasNoPlace i → SomeHaveNone o → SomeHaveNone (grown_behind o i)
-behind_none i None h k = tt
-behind_none i (Some ts) h k = grown_none i ts h k
+pub grown_each : (Q : ExprItem → Type 0) (i : ExprItem) (ts : List Tree) → Q i → TreesEach Q ts → SomeEach Q (grown i ts)
+grown_each Q (item.Unary op) [] h k = tt
+grown_each Q (item.Unary op) (t ∷ ts) h k = k
+grown_each Q (item.Binary op) [] h k = tt
+grown_each Q (item.Binary op) (u ∷ []) h k = tt
+grown_each Q (item.Binary op) (u ∷ t ∷ ts) h k = ((k.1.0, k.0), k.1.1)
+grown_each Q (item.Name q) ts h k = (h, k)
+grown_each Q (item.Local q) ts h k = (h, k)
+grown_each Q (item.Constant v) ts h k = (h, k)
+grown_each Q item.Here ts h k = (h, k)
+grown_each Q item.Map ts h k = (h, k)
+grown_each Q item.CodeSize ts h k = (h, k)
 
-pub alone_none : (o : Option (List Tree)) (t : Tree) → SomeHaveNone o → alone o ≡ Some t → HasNone t
-alone_none None t h e = absurd (cc)
-alone_none (Some []) t h e = absurd (cc)
-alone_none (Some (u ∷ [])) t h e = let x : u ≡ t = cc in subst HasNone x h.0
-alone_none (Some (u ∷ v ∷ ts)) t h e = absurd (cc)
+pub behind_each : (Q : ExprItem → Type 0) (i : ExprItem) (o : Option (List Tree)) → Q i → SomeEach Q o → SomeEach Q (grown_behind o i)
+behind_each Q i None h k = tt
+behind_each Q i (Some ts) h k = grown_each Q i ts h k
 
-pub tree_none : (is : List ExprItem) (o : Option (List Tree)) (t : Tree) → HaveNoPlaces is → SomeHaveNone o → tree_behind o is ≡ Some t → HasNone t
-tree_none [] o t h k e = alone_none o t k e
-tree_none (i ∷ is) o t h k e = tree_none is (grown_behind o i) t h.1 (behind_none i o h.0 k) e
+pub alone_each : (Q : ExprItem → Type 0) (o : Option (List Tree)) (t : Tree) → SomeEach Q o → alone o ≡ Some t → TreeEach Q t
+alone_each Q None t h e = absurd (cc)
+alone_each Q (Some []) t h e = absurd (cc)
+alone_each Q (Some (u ∷ [])) t h e = let x : u ≡ t = cc in subst (TreeEach Q) x h.0
+alone_each Q (Some (u ∷ v ∷ ts)) t h e = absurd (cc)
+
+pub tree_each : (Q : ExprItem → Type 0) (is : List ExprItem) (o : Option (List Tree)) (t : Tree) → ItemsEach Q is → SomeEach Q o → tree_behind o is ≡ Some t
+    → TreeEach Q t
+tree_each Q [] o t h k e = alone_each Q o t k e
+tree_each Q (i ∷ is) o t h k e = tree_each Q is (grown_behind o i) t h.1 (behind_each Q i o h.0 k) e
 
 -- ---- values
 
-pub item_bare : (P : List ℕ → Type 0) (l : SourceLine) (xs : List LaidName) → EachIs P xs → (i : ExprItem) → HasNoPlace i
+-- a constant's symbol has the property
+abbrev pub HoldsConstant : (List ℕ → Type 0) → ExprItem → Type 0
+HoldsConstant P (item.Constant v) = SymbolIs P v
+HoldsConstant P _ = Unit {0}
+
+pub no_place_holds : (P : List ℕ → Type 0) (i : ExprItem) → HasNoPlace i → HoldsConstant P i
+no_place_holds P (item.Constant v) h = no_place_is P v h
+no_place_holds P i h = tt
+
+pub no_places_hold : (P : List ℕ → Type 0) (is : List ExprItem) → HaveNoPlaces is → ItemsEach (HoldsConstant P) is
+no_places_hold P [] h = tt
+no_places_hold P (i ∷ is) h = (no_place_holds P i h.0, no_places_hold P is h.1)
+
+pub item_bare : (P : List ℕ → Type 0) (l : SourceLine) (xs : List LaidName) → EachIs P xs → (i : ExprItem) → HoldsConstant P i
     → ResultIs P (known (operand_of_item (with_names l xs) i))
 item_bare P l xs each (item.Name q) h = value_is P (named_in q xs) (λ n. each_closed P q xs each n)
 item_bare P l xs each (item.Local q) h = value_is P (named_in (124 ∷ q) xs) (λ n. each_closed P (124 ∷ q) xs each n)
-item_bare P l xs each (item.Constant v) h = no_place_is P v h
+item_bare P l xs each (item.Constant v) h = h
 item_bare P l xs each item.Here h = tt
 item_bare P l xs each item.Map h = tt
 item_bare P l xs each item.CodeSize h = tt
 item_bare P l xs each (item.Unary op) h = tt
 item_bare P l xs each (item.Binary op) h = tt
 
-pub tree_bare : (P : List ℕ → Type 0) (l : SourceLine) (xs : List LaidName) → EachIs P xs → (t : Tree) → HasNone t → ResultIs P (meaning (with_names l xs) t)
+pub tree_bare : (P : List ℕ → Type 0) (l : SourceLine) (xs : List LaidName) → EachIs P xs → (t : Tree) → TreeEach (HoldsConstant P) t
+    → ResultIs P (meaning (with_names l xs) t)
 tree_bare P l xs each (Leaf i) h = item_bare P l xs each i h
 tree_bare P l xs each (Before op t) h = applied_is P op (operand_of_tree (with_names l xs) t)
 tree_bare P l xs each (Between op t u) h =
@@ -89,7 +108,7 @@ tree_bare P l xs each (Between op t u) h =
 abbrev pub IsPlainDefinition : Definition → Type 0
 IsPlainDefinition Nameless = Unit {0}
 IsPlainDefinition (Named n) = SymbolIs IsBare n.value
-IsPlainDefinition (Equated make t) = ((v : Value) → SymbolIs IsBare v → SymbolIs IsBare (make v).value) × HasNone t
+IsPlainDefinition (Equated make t) = ((v : Value) → SymbolIs IsBare v → SymbolIs IsBare (make v).value) × TreeEach (HoldsConstant IsBare) t
 
 abbrev pub EachPlain : List SourceLine → Type 0
 EachPlain [] = Unit {0}
@@ -107,7 +126,7 @@ equal_bare names area name bare (Number n) h = tt
 equal_bare names area name bare (Truth b) h = tt
 equal_bare names area name bare (Words w) h = tt
 
-pub equated_plain : (names : List LaidName) (area : Option ℕ) (name : List ℕ) (o : Option Tree) → IsBare name → ((t : Tree) → o ≡ Some t → HasNone t)
+pub equated_plain : (names : List LaidName) (area : Option ℕ) (name : List ℕ) (o : Option Tree) → IsBare name → ((t : Tree) → o ≡ Some t → TreeEach (HoldsConstant IsBare) t)
     → IsPlainDefinition (tree_equated names area name o)
 equated_plain names area name None bare f = tt
 equated_plain names area name (Some t) bare f = (equal_bare names area name bare, f t refl)
@@ -118,7 +137,7 @@ definition_plain names Unnamed area offset size thumb m h = tt
 definition_plain names (LocalLabel n) area offset size thumb m h = tt
 definition_plain names (Label name) area offset size thumb m h = place_bare name 0 h
 definition_plain names (Equal name e) area offset size thumb m h =
-    equated_plain names area name (tree_of e) h.0 (λ t. tree_none e.items (Some []) t h.1 tt)
+    equated_plain names area name (tree_of e) h.0 (λ t. tree_each (HoldsConstant IsBare) e.items (Some []) t (no_places_hold IsBare e.items h.1) tt)
 definition_plain names (MapField name) area offset size thumb m h = tt
 definition_plain names (RegisterName name r) area offset size thumb m h = tt
 

@@ -1,6 +1,6 @@
 //! Laws of the definitions, each proved as the contract of an empty function.
 
-ghost use Rattle.source_laws.specs.Laws.{LiteralsShareWords, LiteralsStandApart, LiteralWordsAgree, OtherUnitsAreNone, PoolsPutNothing, StatementsLieInAreas, StatementsStandApart, ThingsLieInAreas, ThingsStandApart, UnitsFill, UnitsFit, UnitsLieInside, UnitsStandApart, WordsLieInAreas, WordsMeetNoStatement};
+ghost use Rattle.source_laws.specs.Laws.{LiteralsShareWords, LiteralsStandApart, LiteralWordsAgree, LoadedLiteralsAreBare, OtherUnitsAreNone, PoolsPutNothing, StatementsLieInAreas, StatementsStandApart, ThingsLieInAreas, ThingsStandApart, UnitsFill, UnitsFit, UnitsLieInside, UnitsStandApart, WordsLieInAreas, WordsMeetNoStatement};
 
 /// What a statement puts into its area is no longer than what it takes up.
 pub fn units_fit()
@@ -75,4 +75,9 @@ pub fn things_lie_in_areas()
 /// A literal has one word at all lines of an area.
 pub fn literal_words_agree()
     ensures { LiteralWordsAgree }
+{}
+
+/// What statements load has symbols that begin with no bar, where their names do.
+pub fn loaded_literals_are_bare()
+    ensures { LoadedLiteralsAreBare }
 {}
