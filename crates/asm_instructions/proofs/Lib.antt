@@ -1,5 +1,5 @@
-mod AlikeLemmas
-mod ContextLemmas
+pub mod AlikeLemmas
+pub mod ContextLemmas
 mod FitLemmas
 mod PlaceLemmas
 mod RotationLemmas

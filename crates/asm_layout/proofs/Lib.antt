@@ -1,7 +1,7 @@
-mod AreaLemmas
-mod FinishLemmas
-mod LateLemmas
-mod OutlineLemmas
-mod StepLemmas
-mod ToldLemmas
-mod WalkLemmas
+pub mod AreaLemmas
+pub mod FinishLemmas
+pub mod LateLemmas
+pub mod OutlineLemmas
+pub mod StepLemmas
+pub mod ToldLemmas
+pub mod WalkLemmas

@@ -3,11 +3,11 @@
 
 mod areas;
 mod finishing;
-mod late;
+pub mod late;
 pub mod layout;
-mod lines;
+pub mod lines;
 mod outline;
-mod telling;
+pub mod telling;
 mod walking;
 
 pub use crate::layout::lay_out;

@@ -1,0 +1,2 @@
+mod FlatLemmas
+mod ReadLemmas

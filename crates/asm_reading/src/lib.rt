@@ -1,0 +1,8 @@
+//! The statements of a source's lines.
+#![tactic(auto)]
+
+pub mod flats;
+pub mod reading;
+
+pub use crate::flats::flats_of;
+pub use crate::reading::{Reading, Unread, read_lines};

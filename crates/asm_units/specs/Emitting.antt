@@ -1,0 +1,32 @@
+-- What a statement puts into its area, as code keeps it. This project's.
+use Rattle.std.specs.Prelude.{List, [], ◌∷◌, ◌++◌, map, Result}
+use Rattle.std.specs.Global.{Vec}
+use Rattle.sdt_fault.specs.declared.kinds.LineKind.{LineKind}
+use Rattle.asm_model.specs.Says.{on_both, mapped}
+use Rattle.source_model.specs.Units.{Target, Nothing, ByArea, BySymbol, Stored, Emitted, Bytes, Word, Instruction}
+use Rattle.asm_units.specs.declared.emitted.Target.{Target as TargetCode}
+use Rattle.asm_units.specs.declared.emitted.Target.TheVariants as target
+use Rattle.asm_units.specs.declared.emitted.Stored.{Stored as StoredCode}
+use Rattle.asm_units.specs.declared.emitted.Emitted.{Emitted as Code}
+use Rattle.asm_units.specs.declared.emitted.Emitted.TheVariants as code
+
+abbrev pub target_of : TargetCode → Target
+target_of target.Nothing = Nothing
+target_of (target.Area n) = ByArea n
+target_of (target.Symbol s) = BySymbol s
+
+abbrev pub stored_of : StoredCode → Stored
+stored_of w = record { number = w.number; target = target_of w.target }
+
+abbrev pub emitted_of : Code → Emitted
+emitted_of (code.Bytes b) = Bytes b
+emitted_of (code.Word n t) = Word (record { number = n; target = target_of t })
+emitted_of (code.Instruction i s) = Instruction i s
+
+-- all units of a statement, or the kind of its fault
+abbrev pub all_emitted : Result (Vec Code) LineKind → Result (List Emitted) LineKind
+all_emitted r = mapped (λ (us : Vec Code). map emitted_of us.items) r
+
+-- units with one more behind them
+abbrev pub with_next : Result (List Emitted) LineKind → Result Emitted LineKind → Result (List Emitted) LineKind
+with_next us u = on_both (λ (xs : List Emitted) (x : Emitted). xs ++ x ∷ []) us u

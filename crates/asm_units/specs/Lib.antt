@@ -1,0 +1,5 @@
+-- What the clauses of the crate cite.
+pub mod Emitting
+pub mod Literals
+pub mod Marked
+pub mod Showing

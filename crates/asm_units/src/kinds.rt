@@ -1,0 +1,215 @@
+//! The kinds of faults that values have, once all names are known.
+
+ghost use Rattle.std.specs.Prelude.{◌≡◌, ℕ, List, Option, Some, IfOk, if◌then◌else◌};
+ghost use Rattle.std.specs.Option.{option_copied};
+ghost use Rattle.sdt_fault.specs.declared.kinds.LineKind.TheVariants.{UnknownWord, WrongType};
+ghost use Rattle.asm_model.specs.AtLine.{Sight};
+ghost use Rattle.asm_model.specs.Kinds.{told_kind};
+ghost use Rattle.asm_model.specs.Meaning.{named_in};
+ghost use Rattle.asm_model.specs.declared.statements.What.{What};
+ghost use Rattle.layout_model.specs.Extents.{Extent};
+ghost use Rattle.layout_model.specs.LayoutKinds.{fault_kinds};
+ghost use Rattle.said_model.specs.Said.{DirectiveSaid, WhatSaid};
+ghost use Rattle.source_model.specs.Contexts.{Context};
+ghost use Rattle.source_model.specs.Units.{units as emits};
+ghost use Rattle.source_model.specs.ValueKinds as model;
+ghost use Rattle.asm_units.specs.Literals.{literal_in};
+ghost use Rattle.asm_units.specs.Showing.{ShowsBeside, context_beside, sizes_of};
+
+use crate::beside::Beside;
+use crate::emitted::{Emitted, Stored};
+use crate::literals::literal as literal_word;
+use crate::statements::units;
+use asm_checks::told::{first_told, kind_if};
+use asm_instructions::scenes::stands_at;
+use asm_instructions::values::value_there;
+use asm_model::{DirectiveLine, Value, What};
+use sdt_fault::kinds::LineKind;
+use sdt_fault::{NoMemory, Text};
+use std::alloc::Global;
+
+/// A fault unless a test holds.
+fn kind_unless(holds: bool, kind: LineKind) -> Option<LineKind>
+    ensures { result ≡ told_kind (model.kinds_unless holds kind) }
+{
+    if holds {
+        return None;
+    }
+    Some(kind)
+}
+
+/// The size of an area; 0 of one that isn't listed.
+fn size_of(beside: &Beside<'_>, area: u32) -> u32
+    ensures { result ≡ sizes_of beside.now area }
+{
+    match beside.sizes.get(area as usize) {
+        None => 0,
+        Some(size) => *size,
+    }
+}
+
+/// Whether a place of this source is in its label's area, or at its end.
+fn lies_within(beside: &Beside<'_>, place: Option<(u32, u32)>, plus: u32) -> bool
+    ensures { result ≡ model.lies_within (sizes_of beside.now) place plus }
+{
+    match place {
+        None => false,
+        Some((area, offset)) => offset.wrapping_add(plus) <= size_of(beside, area),
+    }
+}
+
+/// The kind of a name without a value in EXPORT and KEEP.
+fn unvalued_kind(defined: bool) -> Option<LineKind>
+    ensures { result ≡ Some (if defined then WrongType else UnknownWord) }
+{
+    if defined {
+        return Some(LineKind::WrongType);
+    }
+    Some(LineKind::UnknownWord)
+}
+
+/// The kind of a name in EXPORT and KEEP.
+fn export_kind(beside: &Beside<'_>, name: &Text) -> Option<LineKind>
+    ensures { result ≡ told_kind (model.export_kinds (context_beside beside.now) (sizes_of beside.now) name.now (named_in name.now beside.now.scene.names.now)) }
+{
+    match beside.scene.names.find(name) {
+        None => unvalued_kind(beside.defined.contains(name)),
+        Some(entry) => match &entry.value {
+            Value::Number(_) => None,
+            Value::Place { symbol, plus } => {
+                let place = stands_at(&beside.scene, symbol);
+                kind_unless(lies_within(beside, place, *plus), LineKind::WrongType)
+            }
+            _ => Some(LineKind::WrongType),
+        },
+    }
+}
+
+fn value_fault(value: Result<Value, LineKind>) -> Option<LineKind>
+    ensures { result ≡ told_kind (fault_kinds value) }
+{
+    match value {
+        Ok(_) => None,
+        Err(kind) => Some(kind),
+    }
+}
+
+fn word_fault(word: Result<Stored, LineKind>) -> Option<LineKind>
+    ensures { result ≡ told_kind (fault_kinds word) }
+{
+    match word {
+        Ok(_) => None,
+        Err(kind) => Some(kind),
+    }
+}
+
+fn units_fault(units: Result<Vec<Emitted>, LineKind>) -> Option<LineKind>
+    ensures { result ≡ told_kind (fault_kinds units) }
+{
+    match units {
+        Ok(_) => None,
+        Err(kind) => Some(kind),
+    }
+}
+
+/// The kind of an ASSERT.
+fn assert_kind(value: Result<Value, LineKind>) -> Option<LineKind>
+    ensures { result ≡ told_kind (model.assert_kinds value) }
+{
+    match value {
+        Ok(Value::Truth(holds)) => kind_if(!holds, LineKind::Assert),
+        Ok(_) => Some(LineKind::WrongType),
+        Err(kind) => Some(kind),
+    }
+}
+
+fn directive_there(
+    alloc: Global,
+    beside: &Beside<'_>,
+    line: &DirectiveLine,
+) -> Result<Option<LineKind>, NoMemory>
+    requires { DirectiveSaid line.now }
+    ensures { IfOk result (λ kind. kind ≡ told_kind (model.directive_kinds (context_beside beside.now) (sizes_of beside.now) line.now)) }
+{
+    match line {
+        DirectiveLine::Export { name } => Ok(export_kind(beside, name)),
+        DirectiveLine::Keep { name } => Ok(export_kind(beside, name)),
+        DirectiveLine::Equ { value } => {
+            let value = value_there(alloc, &beside.scene, value)?;
+            Ok(value_fault(value))
+        }
+        DirectiveLine::Assert { condition } => {
+            let value = value_there(alloc, &beside.scene, condition)?;
+            Ok(assert_kind(value))
+        }
+        _ => Ok(None),
+    }
+}
+
+fn statement_there(
+    alloc: Global,
+    beside: &Beside<'_>,
+    what: &What,
+) -> Result<Option<LineKind>, NoMemory>
+    requires { WhatSaid what.now }
+    ensures { IfOk result (λ kind. kind ≡ told_kind (model.statement_kinds (context_beside beside.now) (sizes_of beside.now) what.now)) }
+{
+    match what {
+        What::Directive(line) => directive_there(alloc, beside, line),
+        _ => Ok(None),
+    }
+}
+
+/// The kind of a statement's own values.
+fn statement_kind(
+    alloc: Global,
+    beside: &Beside<'_>,
+    what: &What,
+) -> Result<Option<LineKind>, NoMemory>
+    requires { WhatSaid what.now }
+    ensures { IfOk result (λ kind. (c : Context) (data_names : List (List ℕ)) (sizes : ℕ → ℕ) (s : Sight) (word : Option ℕ) → ShowsBeside beside.now c data_names sizes s word what.now → kind ≡ told_kind (model.statement_kinds c sizes what.now)) }
+{
+    statement_there(alloc, beside, what)
+}
+
+/// The kind of what a statement puts into its area.
+fn units_kind(alloc: Global, beside: &Beside<'_>, what: &What) -> Result<Option<LineKind>, NoMemory>
+    requires { WhatSaid what.now }
+    ensures { IfOk result (λ kind. (c : Context) (data_names : List (List ℕ)) (sizes : ℕ → ℕ) (s : Sight) (word : Option ℕ) → ShowsBeside beside.now c data_names sizes s word what.now → kind ≡ told_kind (fault_kinds (emits c data_names s word what.now))) }
+{
+    let units = units(alloc, beside, what)?;
+    Ok(units_fault(units))
+}
+
+/// The kind of a literal's word.
+fn literal_kind(
+    alloc: Global,
+    beside: &Beside<'_>,
+    literal: Option<&Value>,
+) -> Result<Option<LineKind>, NoMemory>
+    ensures { IfOk result (λ kind. (c : Context) (data_names : List (List ℕ)) (sizes : ℕ → ℕ) (s : Sight) (word : Option ℕ) (w : What) (e : Extent) → ShowsBeside beside.now c data_names sizes s word w → literal_in e ≡ option_copied literal.entry → kind ≡ told_kind (model.literal_kinds c data_names e)) }
+{
+    match literal {
+        None => Ok(None),
+        Some(literal) => {
+            let word = literal_word(alloc, beside, literal)?;
+            Ok(word_fault(word))
+        }
+    }
+}
+
+/// The kind that is told of a statement's values, where its literal, if it has one, is this.
+pub fn value_kind(
+    alloc: Global,
+    beside: &Beside<'_>,
+    literal: Option<&Value>,
+    what: &What,
+) -> Result<Option<LineKind>, NoMemory>
+    requires { WhatSaid what.now }
+    ensures { IfOk result (λ kind. (c : Context) (data_names : List (List ℕ)) (sizes : ℕ → ℕ) (s : Sight) (word : Option ℕ) (e : Extent) → ShowsBeside beside.now c data_names sizes s word what.now → literal_in e ≡ option_copied literal.entry → kind ≡ told_kind (model.value_kinds c data_names sizes s e word what.now)) }
+{
+    let emitted = units_kind(alloc, beside, what)?;
+    let loaded = literal_kind(alloc, beside, literal)?;
+    let said = statement_kind(alloc, beside, what)?;
+    Ok(first_told(first_told(emitted, loaded), said))
+}
