@@ -1,0 +1,9 @@
+pub mod AgreeLemmas
+pub mod BareLemmas
+pub mod LineLemmas
+pub mod ListLemmas
+pub mod LoadLemmas
+pub mod SizeLemmas
+pub mod ThingLemmas
+pub mod UnitLemmas
+pub mod WordLemmas

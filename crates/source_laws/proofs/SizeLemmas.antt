@@ -1,0 +1,334 @@
+-- What a statement puts into its area is as long as what it takes up, or empty.
+use Rattle.std.proofs.Common.{◌≡◌, ℕ, ◌+◌, ◌-◌, ◌*◌, ◌%◌, ◌^◌, ◌≤◌, nat_lt, nat_le, ◌||◌, List, [], ◌∷◌, length, length-append, Bool, true, false, cond, refl, sym, ◌∙◌, ap, subst, arith, Option, Some, None}
+use Rattle.std.specs.Prelude.{Result, Ok, Err}
+use Rattle.sdt_word.specs.Bytes.{bytes_of}
+use Rattle.sdt_word.specs.declared.codes.Condition.{Condition}
+use Rattle.sdt_word.proofs.BytesLemmas.{length-bytes_of}
+use Rattle.sdt_fault.specs.declared.kinds.LineKind.{LineKind}
+use Rattle.sdt_fault.specs.declared.kinds.LineKind.TheVariants.{OutOfRange}
+use Rattle.arm_isa.specs.declared.instr.ArmInstr.{ArmInstr}
+use Rattle.arm_isa.specs.declared.instr.Operation.{Operation}
+use Rattle.arm_isa.specs.declared.instr.Operation.TheVariants.{Add, Sub, Mov}
+use Rattle.arm_isa.specs.declared.instr.ArmInstr.TheVariants as instr
+use Rattle.asm_model.specs.declared.directives.DirectiveLine.{DirectiveLine}
+use Rattle.asm_model.specs.declared.directives.DirectiveLine.TheVariants as line
+use Rattle.asm_model.specs.declared.exprs.Expr.{Expr}
+use Rattle.asm_model.specs.declared.statements.PseudoLine.{PseudoLine}
+use Rattle.asm_model.specs.declared.statements.PseudoLine.TheVariants as pseudo
+use Rattle.asm_model.specs.declared.statements.What.{What}
+use Rattle.asm_model.specs.declared.statements.What.TheVariants as what
+use Rattle.asm_model.specs.declared.thumb_lines.ThumbLine.{ThumbLine}
+use Rattle.asm_model.specs.declared.thumb_lines.ThumbLine.TheVariants as thumb
+use Rattle.asm_model.specs.declared.values.Value.{Value}
+use Rattle.asm_model.specs.declared.values.Value.TheVariants.{Number, Truth, Words, Place}
+use Rattle.asm_model.specs.AtLine.{Sight}
+use Rattle.asm_model.specs.Says.{on_both, mapped}
+use Rattle.layout_model.specs.Extents.{Extent, Block, Padding, Loading, Pool, value_there, literal_there, is_moved, instruction, loading, thumb_extent, byte_count, byte_counts, extent_of}
+use Rattle.layout_model.specs.Offsets.{size_of}
+use Rattle.source_model.specs.ArmForms.{arm_instruction}
+use Rattle.source_model.specs.Contexts.{Context, value_of, number_in, register, and_then, offset_below, own_offset, from_pc}
+use Rattle.source_model.specs.Immediates.{data_immediate, negated}
+use Rattle.source_model.specs.Objects.{unit_bytes, units_bytes}
+use Rattle.source_model.specs.PseudoForms.{address_instruction, two_by, two_of, first_of as first_found, long_address, one, load_literal, pseudo_instructions, first_part, second_part}
+use Rattle.source_model.specs.Immediates.{immediate}
+use Rattle.source_model.specs.Units.{Emitted, Bytes, Word, Instruction, Stored, stored, word_units, narrow, half_units, byte_operand, byte_units, branch_symbol, instruction_units, units}
+use Rattle.source_laws.specs.Laws.{is_data, is_filled}
+
+-- ---- lengths
+
+abbrev Long : ℕ → Result (List Emitted) LineKind → Type 0
+Long n (Ok us) = length (units_bytes us) ≡ n
+Long n (Err k) = Unit {0}
+
+abbrev EachLong : {A : Type 0} → (A → Emitted) → ℕ → Result A LineKind → Type 0
+EachLong f n (Ok a) = length (unit_bytes (f a)) ≡ n
+EachLong f n (Err k) = Unit {0}
+
+pub summed : (n a b i j : ℕ) → n ≡ a + b → a ≡ i → b ≡ j → n ≡ i + j
+summed n a b i j h x y = omega arith
+
+pub one_longer : {A : Type 0} → (f : A → Emitted) (i j : ℕ) (r : Result A LineKind) (q : Result (List Emitted) LineKind)
+    → EachLong f i r → Long j q → Long (i + j) (on_both (λ a us. f a ∷ us) r q)
+one_longer f i j (Ok a) (Ok us) x y =
+    summed (length (units_bytes (f a ∷ us))) (length (unit_bytes (f a))) (length (units_bytes us)) i j (length-append (unit_bytes (f a)) (units_bytes us)) x y
+one_longer f i j (Ok a) (Err k) x y = tt
+one_longer f i j (Err k) (Ok us) x y = tt
+one_longer f i j (Err k) (Err m) x y = tt
+
+pub mapped_long : {A : Type 0} → (f : A → List Emitted) (n : ℕ) (r : Result A LineKind) → ((a : A) → length (units_bytes (f a)) ≡ n) → Long n (mapped f r)
+mapped_long f n (Ok a) h = h a
+mapped_long f n (Err k) h = tt
+
+pub once_more : (k n : ℕ) → k + k * n ≡ k * (n + 1)
+once_more k n = omega arith
+
+-- ---- data
+
+pub word_long : (r : Result Stored LineKind) → EachLong Word 4 r
+word_long (Ok w) = length-bytes_of w.number 4
+word_long (Err k) = tt
+
+pub four_more : (n m : ℕ) → m ≡ n + 1 → 4 + 4 * n ≡ 4 * m
+four_more n m h = omega arith
+
+pub two_more : (n m : ℕ) → m ≡ n + 1 → 2 + 2 * n ≡ 2 * m
+two_more n m h = omega arith
+
+pub longer : {A : Type 0} → (e : A) (es : List A) → length (e ∷ es) ≡ length es + 1
+longer e es = omega arith
+
+pub words_long : (c : Context) (d : List (List ℕ)) (es : List Expr) → Long (4 * length es) (word_units c d es)
+words_long c d [] = refl
+words_long c d (e ∷ es) =
+    subst (λ n. Long n (word_units c d (e ∷ es))) (four_more (length es) (length (e ∷ es)) (longer e es))
+    (one_longer Word 4 (4 * length es) (stored c d (value_of c e)) (word_units c d es) (word_long (stored c d (value_of c e))) (words_long c d es))
+
+pub narrow_long : (size n : ℕ) → EachLong Bytes size (narrow size n)
+narrow_long size n = by_test (nat_lt n (2 ^ (8 * size)) || nat_le (2 ^ 32 - 2 ^ (8 * size - 1)) n)
+  where
+    by_test : (b : Bool) → EachLong Bytes size (cond b (Ok (bytes_of (n % 2 ^ (8 * size)) size)) (Err OutOfRange))
+    by_test true = length-bytes_of (n % 2 ^ (8 * size)) size
+    by_test false = tt
+
+pub then_long : (size : ℕ) (r : Result ℕ LineKind) → EachLong Bytes size (and_then r (narrow size))
+then_long size (Ok n) = narrow_long size n
+then_long size (Err k) = tt
+
+pub halves_long : (c : Context) (es : List Expr) → Long (2 * length es) (half_units c es)
+halves_long c [] = refl
+halves_long c (e ∷ es) =
+    subst (λ n. Long n (half_units c (e ∷ es))) (two_more (length es) (length (e ∷ es)) (longer e es))
+    (one_longer Bytes 2 (2 * length es) (and_then (number_in c e) (narrow 2)) (half_units c es) (then_long 2 (number_in c e)) (halves_long c es))
+
+-- a string that is known is itself, and anything else is one byte
+pub byte_long : (known final : Result Value LineKind) → EachLong Bytes (byte_count known) (byte_operand known final)
+byte_long (Ok (Words w)) final = refl
+byte_long known (Ok (Words w)) = tt
+byte_long known (Ok (Number n)) = narrow_long 1 n
+byte_long known (Ok (Truth b)) = tt
+byte_long known (Ok (Place s n)) = tt
+byte_long known (Err k) = tt
+
+pub bytes_long : (c : Context) (s : Sight) (es : List Expr) → Long (byte_counts s es) (byte_units c s es)
+bytes_long c s [] = refl
+bytes_long c s (e ∷ es) =
+    one_longer Bytes (byte_count (value_there s e)) (byte_counts s es) (byte_operand (value_there s e) (value_of c e)) (byte_units c s es)
+    (byte_long (value_there s e) (value_of c e)) (bytes_long c s es)
+
+-- ---- instructions
+
+abbrev Count : ℕ → Result (List ArmInstr) LineKind → Type 0
+Count n (Ok is) = length is ≡ n
+Count n (Err k) = Unit {0}
+
+abbrev CountFound : ℕ → Option (List ArmInstr) → Type 0
+CountFound n (Some is) = length is ≡ n
+CountFound n None = Unit {0}
+
+pub mapped_count : {A : Type 0} → (f : A → List ArmInstr) (n : ℕ) (r : Result A LineKind) → ((a : A) → length (f a) ≡ n) → Count n (mapped f r)
+mapped_count f n (Ok a) h = h a
+mapped_count f n (Err k) h = tt
+
+pub then_count : (n : ℕ) (r : Result ℕ LineKind) (f : ℕ → Result (List ArmInstr) LineKind) → ((a : ℕ) → Count n (f a)) → Count n (and_then r f)
+then_count n (Ok a) f h = h a
+then_count n (Err k) f h = tt
+
+pub two_count : (condition : Condition) (operation : Operation) (rd : ℕ) (a b : Option (ℕ × ℕ)) → CountFound 2 (two_by condition operation rd a b)
+two_count condition operation rd (Some i) (Some j) = refl
+two_count condition operation rd (Some i) None = tt
+two_count condition operation rd None b = tt
+
+pub found_count : (n : ℕ) (a b : Option (List ArmInstr)) → CountFound n a → CountFound n b → Count n (first_found a b)
+found_count n (Some is) b x y = x
+found_count n None (Some is) x y = y
+found_count n None None x y = tt
+
+pub long_count : (condition : Condition) (rd distance : ℕ) → Count 2 (long_address condition rd distance)
+long_count condition rd distance =
+    found_count 2 (two_of condition Add rd distance) (two_of condition Sub rd (negated distance))
+    (two_count condition Add rd (immediate (first_part distance)) (immediate (second_part distance)))
+    (two_count condition Sub rd (immediate (first_part (negated distance))) (immediate (second_part (negated distance))))
+
+pub literal_count : (c : Context) (condition : Condition) (rd : ℕ) (number : Result ℕ LineKind) (word : Option ℕ) → Count 1 (load_literal c condition rd number word)
+literal_count c condition rd number None =
+    then_count 1 number (λ n. mapped one (data_immediate condition Mov false 0 rd n)) (λ n. mapped_count one 1 (data_immediate condition Mov false 0 rd n) (λ i. refl))
+literal_count c condition rd number (Some word) =
+    mapped_count (λ o. one (instr.TransferImmediate condition true o.0 false false true 15 rd o.1)) 1 (offset_below 4096 (from_pc c word)) (λ o. refl)
+
+pub instructions_bytes : (is : List ArmInstr) → length (units_bytes (instruction_units is)) ≡ 4 * length is
+instructions_bytes [] = refl
+instructions_bytes (i ∷ is) =
+    summed (length (units_bytes (instruction_units (i ∷ is)))) (length (unit_bytes (Instruction i None))) (length (units_bytes (instruction_units is))) 4 (4 * length is)
+    (length-append (unit_bytes (Instruction i None)) (units_bytes (instruction_units is))) refl (instructions_bytes is)
+    ∙ four_more (length is) (length (i ∷ is)) (longer i is)
+
+pub instructions_long : (n : ℕ) (r : Result (List ArmInstr) LineKind) → Count n r → Long (4 * n) (mapped instruction_units r)
+instructions_long n (Ok is) h = instructions_bytes is ∙ ap (λ k. 4 * k) h
+instructions_long n (Err k) h = tt
+
+-- ---- statements
+
+abbrev Fills : Result Extent LineKind → Result (List Emitted) LineKind → Type 0
+Fills (Ok e) (Ok us) = (literals : List Value) (at : ℕ) → length (units_bytes us) ≡ size_of literals at e
+Fills (Ok e) (Err k) = Unit {0}
+Fills (Err k) r = Unit {0}
+
+pub block_fills : (a n : ℕ) (r : Result (List Emitted) LineKind) → Long n r → Fills (Ok (Block a n)) r
+block_fills a n (Ok us) h = λ literals at. h
+block_fills a n (Err k) h = tt
+
+pub load_fills : (v : Value) (r : Result (List Emitted) LineKind) → Long 4 r → Fills (Ok (Loading 4 v)) r
+load_fills v (Ok us) h = λ literals at. h
+load_fills v (Err k) h = tt
+
+pub moved_fills : (b : Bool) (v : Value) (r : Result (List Emitted) LineKind) → Long 4 r → Fills (Ok (cond b (Block 4 4) (Loading 4 v))) r
+moved_fills true v r h = block_fills 4 4 r h
+moved_fills false v r h = load_fills v r h
+
+pub loading_fills : (state : Bool) (x : Result Value LineKind) (r : Result (List Emitted) LineKind) → state ≡ false → Long 4 r → Fills (mapped (loading state) x) r
+loading_fills true x r e h = absurd (cc)
+loading_fills false (Ok (Number n)) r e h = moved_fills (is_moved n) (Number n) r h
+loading_fills false (Ok (Truth b)) r e h = load_fills (Truth b) r h
+loading_fills false (Ok (Words w)) r e h = load_fills (Words w) r h
+loading_fills false (Ok (Place s n)) r e h = load_fills (Place s n) r h
+loading_fills false (Err k) r e h = tt
+
+pub instruction_fills : (state : Bool) (r : Result (List Emitted) LineKind) → state ≡ false → Long 4 r → Fills (Ok (instruction state)) r
+instruction_fills true r e h = absurd (cc)
+instruction_fills false r e h = block_fills 4 4 r h
+
+pub pseudo_fills : (c : Context) (d : List (List ℕ)) (s : Sight) (word : Option ℕ) (l : PseudoLine) → s.known.thumb ≡ false
+    → Fills (extent_of s (what.Pseudo l)) (units c d s word (what.Pseudo l))
+pseudo_fills c d s word (pseudo.LoadConstant condition rd e) h =
+    loading_fills s.known.thumb (literal_there s e) (units c d s word (what.Pseudo (pseudo.LoadConstant condition rd e))) h
+    (instructions_long 1 (load_literal c condition (register c rd) (number_in c e) word) (literal_count c condition (register c rd) (number_in c e) word))
+pseudo_fills c d s word (pseudo.Address condition rd e) h =
+    instruction_fills s.known.thumb (units c d s word (what.Pseudo (pseudo.Address condition rd e))) h
+    (instructions_long 1 (pseudo_instructions c word (pseudo.Address condition rd e))
+    (then_count 1 (own_offset c (value_of c e)) (λ at. mapped one (address_instruction condition (register c rd) (from_pc c at)))
+    (λ at. mapped_count one 1 (address_instruction condition (register c rd) (from_pc c at)) (λ i. refl))))
+pseudo_fills c d s word (pseudo.LongAddress condition rd e) h =
+    block_fills 4 8 (units c d s word (what.Pseudo (pseudo.LongAddress condition rd e)))
+    (instructions_long 2 (pseudo_instructions c word (pseudo.LongAddress condition rd e))
+    (then_count 2 (own_offset c (value_of c e)) (λ at. long_address condition (register c rd) (from_pc c at)) (λ at. long_count condition (register c rd) (from_pc c at))))
+pseudo_fills c d s word pseudo.NoOperation h =
+    instruction_fills s.known.thumb (units c d s word (what.Pseudo pseudo.NoOperation)) h
+    (instructions_long 1 (pseudo_instructions c word pseudo.NoOperation) refl)
+
+pub directive_fills : (c : Context) (d : List (List ℕ)) (s : Sight) (word : Option ℕ) (l : DirectiveLine) → is_data l ≡ true
+    → Fills (extent_of s (what.Directive l)) (units c d s word (what.Directive l))
+directive_fills c d s word (line.Dcd es) h = block_fills 4 (4 * length es) (word_units c d es) (words_long c d es)
+directive_fills c d s word (line.Dcdu es) h = block_fills 1 (4 * length es) (word_units c d es) (words_long c d es)
+directive_fills c d s word (line.Dcw es) h = block_fills 2 (2 * length es) (half_units c es) (halves_long c es)
+directive_fills c d s word (line.Dcb es) h = block_fills 1 (byte_counts s es) (byte_units c s es) (bytes_long c s es)
+directive_fills c d s word l h = absurd (cc)
+
+pub fills : (c : Context) (d : List (List ℕ)) (s : Sight) (word : Option ℕ) (w : What) → is_filled w ≡ true → s.known.thumb ≡ false
+    → Fills (extent_of s w) (units c d s word w)
+fills c d s word what.Nothing h state = absurd (cc)
+fills c d s word (what.Arm l) h state =
+    block_fills 4 4 (units c d s word (what.Arm l)) (mapped_long (λ i. Instruction i (branch_symbol c l) ∷ []) 4 (arm_instruction c l) (λ i. refl))
+fills c d s word (what.Thumb l) h state = tt
+fills c d s word (what.Pseudo l) h state = pseudo_fills c d s word l state
+fills c d s word (what.Directive l) h state = directive_fills c d s word l h
+
+pub units_fill : (c : Context) (d : List (List ℕ)) (s : Sight) (word : Option ℕ) (w : What) (e : Extent) (us : List Emitted)
+    → is_filled w ≡ true → s.known.thumb ≡ false → extent_of s w ≡ Ok e → units c d s word w ≡ Ok us
+    → (literals : List Value) (at : ℕ) → length (units_bytes us) ≡ size_of literals at e
+units_fill c d s word w e us h state x y =
+    subst (λ r. Fills r (Ok us)) x (subst (Fills (extent_of s w)) y (fills c d s word w h state))
+
+-- ---- others
+
+pub no_data : (c : Context) (d : List (List ℕ)) (s : Sight) (word : Option ℕ) (l : DirectiveLine) → is_data l ≡ false
+    → units c d s word (what.Directive l) ≡ Ok []
+no_data c d s word (line.Dcd es) h = absurd (cc)
+no_data c d s word (line.Dcdu es) h = absurd (cc)
+no_data c d s word (line.Dcw es) h = absurd (cc)
+no_data c d s word (line.Dcb es) h = absurd (cc)
+no_data c d s word l h = refl
+
+pub other_units_are_none : (c : Context) (d : List (List ℕ)) (s : Sight) (word : Option ℕ) (w : What) → is_filled w ≡ false → units c d s word w ≡ Ok []
+other_units_are_none c d s word what.Nothing h = refl
+other_units_are_none c d s word (what.Arm l) h = absurd (cc)
+other_units_are_none c d s word (what.Thumb l) h = absurd (cc)
+other_units_are_none c d s word (what.Pseudo l) h = absurd (cc)
+other_units_are_none c d s word (what.Directive l) h = no_data c d s word l h
+
+abbrev Within : ℕ → Result (List Emitted) LineKind → Type 0
+Within n (Ok us) = length (units_bytes us) ≤ n
+Within n (Err k) = Unit {0}
+
+pub nothing_within : (n : ℕ) → length (units_bytes []) ≤ n
+nothing_within n = omega arith
+
+pub same_within : (m n : ℕ) → m ≡ n → m ≤ n
+same_within m n h = omega arith
+
+pub units_fit : (c : Context) (d : List (List ℕ)) (s : Sight) (word : Option ℕ) (w : What) (e : Extent) (us : List Emitted)
+    → s.known.thumb ≡ false → extent_of s w ≡ Ok e → units c d s word w ≡ Ok us
+    → (literals : List Value) (at : ℕ) → length (units_bytes us) ≤ size_of literals at e
+units_fit c d s word w e us state x y literals at = by_test (is_filled w) refl
+  where
+    by_test : (b : Bool) → is_filled w ≡ b → length (units_bytes us) ≤ size_of literals at e
+    by_test true h = same_within (length (units_bytes us)) (size_of literals at e) (units_fill c d s word w e us h state x y literals at)
+    by_test false h = subst (Within (size_of literals at e)) (sym (other_units_are_none c d s word w h) ∙ y) (nothing_within (size_of literals at e))
+
+-- ---- pools
+
+abbrev NoPool : Result Extent LineKind → Type 0
+NoPool (Ok Pool) = ⊥
+NoPool (Ok (Block a n)) = Unit {0}
+NoPool (Ok (Padding m n)) = Unit {0}
+NoPool (Ok (Loading n v)) = Unit {0}
+NoPool (Err k) = Unit {0}
+
+pub moved_no_pool : (b : Bool) (v : Value) → NoPool (Ok (cond b (Block 4 4) (Loading 4 v)))
+moved_no_pool true v = tt
+moved_no_pool false v = tt
+
+pub load_no_pool : (state : Bool) (x : Result Value LineKind) → NoPool (mapped (loading state) x)
+load_no_pool true (Ok (Number n)) = tt
+load_no_pool true (Ok (Truth b)) = tt
+load_no_pool true (Ok (Words w)) = tt
+load_no_pool true (Ok (Place s n)) = tt
+load_no_pool false (Ok (Number n)) = moved_no_pool (is_moved n) (Number n)
+load_no_pool false (Ok (Truth b)) = tt
+load_no_pool false (Ok (Words w)) = tt
+load_no_pool false (Ok (Place s n)) = tt
+load_no_pool state (Err k) = tt
+
+pub instruction_no_pool : (state : Bool) → NoPool (Ok (instruction state))
+instruction_no_pool true = tt
+instruction_no_pool false = tt
+
+pub thumb_no_pool : (l : ThumbLine) → NoPool (Ok (thumb_extent l))
+thumb_no_pool (thumb.BranchLink target) = tt
+thumb_no_pool l = tt
+
+pub pseudo_no_pool : (s : Sight) (l : PseudoLine) → NoPool (extent_of s (what.Pseudo l))
+pseudo_no_pool s (pseudo.LoadConstant condition rd e) = load_no_pool s.known.thumb (literal_there s e)
+pseudo_no_pool s (pseudo.Address condition rd e) = instruction_no_pool s.known.thumb
+pseudo_no_pool s (pseudo.LongAddress condition rd e) = tt
+pseudo_no_pool s pseudo.NoOperation = instruction_no_pool s.known.thumb
+
+pub data_no_pool : (s : Sight) (l : DirectiveLine) → is_data l ≡ true → NoPool (extent_of s (what.Directive l))
+data_no_pool s (line.Dcd es) h = tt
+data_no_pool s (line.Dcdu es) h = tt
+data_no_pool s (line.Dcw es) h = tt
+data_no_pool s (line.Dcb es) h = tt
+data_no_pool s l h = absurd (cc)
+
+pub filled_no_pool : (s : Sight) (w : What) → is_filled w ≡ true → NoPool (extent_of s w)
+filled_no_pool s what.Nothing h = absurd (cc)
+filled_no_pool s (what.Arm l) h = tt
+filled_no_pool s (what.Thumb l) h = thumb_no_pool l
+filled_no_pool s (what.Pseudo l) h = pseudo_no_pool s l
+filled_no_pool s (what.Directive l) h = data_no_pool s l h
+
+pub pools_put_nothing : (c : Context) (d : List (List ℕ)) (s : Sight) (word : Option ℕ) (w : What) → extent_of s w ≡ Ok Pool → units c d s word w ≡ Ok []
+pools_put_nothing c d s word w x = by_test (is_filled w) refl
+  where
+    by_test : (b : Bool) → is_filled w ≡ b → units c d s word w ≡ Ok []
+    by_test true h = absurd (subst NoPool x (filled_no_pool s w h))
+    by_test false h = other_units_are_none c d s word w h

@@ -1,0 +1,211 @@
+-- What statements put into their areas stands apart: what a statement puts there is no longer than what it takes up, the
+-- statements of an area follow each other, and the words of literals lie in pools, where no statement puts anything
+-- itself. Lines are listed with the last first. This project's.
+use Rattle.std.specs.Prelude.{◌≡◌, ◌⊎◌, ℕ, ◌+◌, ◌%◌, ◌≤◌, List, [], ◌∷◌, ◌++◌, length, Bool, true, false, Option, Some, Result, Ok}
+use Rattle.std.specs.List.{list_any}
+use Rattle.sdt_fault.specs.declared.kinds.LineKind.{LineKind}
+use Rattle.asm_model.specs.declared.directives.DirectiveLine.{DirectiveLine}
+use Rattle.asm_model.specs.declared.directives.DirectiveLine.TheVariants as line
+use Rattle.asm_model.specs.declared.exprs.ExprItem.{ExprItem}
+use Rattle.asm_model.specs.declared.exprs.ExprItem.TheVariants as item
+use Rattle.asm_model.specs.declared.statements.PseudoLine.TheVariants as pseudo
+use Rattle.asm_model.specs.declared.statements.Statement.{Statement}
+use Rattle.asm_model.specs.declared.statements.What.{What}
+use Rattle.asm_model.specs.declared.statements.What.TheVariants as what
+use Rattle.asm_model.specs.declared.values.Value.{Value}
+use Rattle.asm_model.specs.declared.values.Value.TheVariants.{Place}
+use Rattle.asm_model.specs.AtLine.{Sight}
+use Rattle.layout_model.specs.Extents.{Extent, Loading, Pool, extent_of}
+use Rattle.layout_model.specs.Laid.{LaidLine, taken, pieces_of, laid, all_locals, final_names}
+use Rattle.layout_model.specs.Marks.{datum_names}
+use Rattle.layout_model.specs.Offsets.{size_of, area_size, is_pool, is_pool_of}
+use Rattle.layout_model.specs.Symbols.{literal_value}
+use Rattle.layout_laws.specs.Sound.{IsSound, IsBare, HaveNoPlaces, ArePlain}
+use Rattle.source_model.specs.Contexts.{Context, sees}
+use Rattle.source_model.specs.Objects.{Piece, unit_bytes, units_bytes, units_from, source_of, in_order, StandsIn}
+use Rattle.source_model.specs.SourceFaults.{context_of, word_of}
+use Rattle.source_model.specs.Units.{Emitted, Stored, stored, units}
+
+-- ---- sizes
+
+abbrev pub is_data : DirectiveLine → Bool
+is_data (line.Dcd es) = true
+is_data (line.Dcdu es) = true
+is_data (line.Dcw es) = true
+is_data (line.Dcb es) = true
+is_data _ = false
+
+-- whether a statement is an instruction or data
+abbrev pub is_filled : What → Bool
+is_filled what.Nothing = false
+is_filled (what.Arm l) = true
+is_filled (what.Thumb l) = true
+is_filled (what.Pseudo l) = true
+is_filled (what.Directive l) = is_data l
+
+-- in ARM state, what a statement puts into its area is no longer than what it takes up, wherever it starts
+abbrev pub UnitsFit : Type 0
+UnitsFit =
+    (c : Context) (data_names : List (List ℕ)) (s : Sight) (word : Option ℕ) (w : What) (e : Extent) (us : List Emitted)
+    → s.known.thumb ≡ false → extent_of s w ≡ Ok e → units c data_names s word w ≡ Ok us
+    → (literals : List Value) (at : ℕ) → length (units_bytes us) ≤ size_of literals at e
+
+-- instructions and data are as long
+abbrev pub UnitsFill : Type 0
+UnitsFill =
+    (c : Context) (data_names : List (List ℕ)) (s : Sight) (word : Option ℕ) (w : What) (e : Extent) (us : List Emitted)
+    → is_filled w ≡ true → s.known.thumb ≡ false → extent_of s w ≡ Ok e → units c data_names s word w ≡ Ok us
+    → (literals : List Value) (at : ℕ) → length (units_bytes us) ≡ size_of literals at e
+
+-- and other statements put nothing there
+abbrev pub OtherUnitsAreNone : Type 0
+OtherUnitsAreNone =
+    (c : Context) (data_names : List (List ℕ)) (s : Sight) (word : Option ℕ) (w : What)
+    → is_filled w ≡ false → units c data_names s word w ≡ Ok []
+
+-- nor does one that takes up a pool, which holds the words of literals
+abbrev pub PoolsPutNothing : Type 0
+PoolsPutNothing =
+    (c : Context) (data_names : List (List ℕ)) (s : Sight) (word : Option ℕ) (w : What)
+    → extent_of s w ≡ Ok Pool → units c data_names s word w ≡ Ok []
+
+-- ---- units of a statement
+
+-- each lies inside the bytes of all
+abbrev pub UnitsLieInside : Type 0
+UnitsLieInside =
+    (at : ℕ) (us : List Emitted) (front back : List Piece) (p : Piece) → units_from at us ≡ front ++ p ∷ back
+    → (at ≤ p.0) × (p.0 + length (unit_bytes p.1) ≤ at + length (units_bytes us))
+
+-- of two the later starts at the end of the earlier or behind it
+abbrev pub UnitsStandApart : Type 0
+UnitsStandApart =
+    (at : ℕ) (us : List Emitted) (front between back : List Piece) (p q : Piece)
+    → units_from at us ≡ front ++ p ∷ (between ++ q ∷ back) → p.0 + length (unit_bytes p.1) ≤ q.0
+
+-- ---- lines of a source
+
+-- of two lines of an area the later starts at the end of the earlier or behind it
+abbrev pub StatementsStandApart : Type 0
+StatementsStandApart =
+    (statements : List Statement) → IsSound statements
+    → (area : ℕ) (after between before : List LaidLine) (l m : LaidLine) → laid statements ≡ after ++ l ∷ (between ++ m ∷ before)
+    → l.area ≡ Some area → m.area ≡ Some area → m.offset + m.size ≤ l.offset
+
+-- a line ends inside its area
+abbrev pub StatementsLieInAreas : Type 0
+StatementsLieInAreas =
+    (statements : List Statement) → IsSound statements
+    → (area : ℕ) (after before : List LaidLine) (l : LaidLine) → laid statements ≡ after ++ l ∷ before
+    → l.area ≡ Some area → l.offset + l.size ≤ area_size area (pieces_of (laid statements))
+
+-- ---- words of literals
+
+-- where the word of a line's literal stands, if it has one, where these lines stand behind it and these before
+abbrev pub word_among : List LaidLine → LaidLine → List LaidLine → Option ℕ
+word_among after l before = word_of l.area (taken l.extent) (pieces_of (l ∷ before)) (pieces_of (in_order after []))
+
+-- a word lies inside its area, aligned to 4
+abbrev pub WordsLieInAreas : Type 0
+WordsLieInAreas =
+    (statements : List Statement) (area : ℕ) (after before : List LaidLine) (l : LaidLine) (w : ℕ)
+    → laid statements ≡ after ++ l ∷ before → l.area ≡ Some area → word_among after l before ≡ Some w
+    → (w % 4 ≡ 0) × (w + 4 ≤ area_size area (pieces_of (laid statements)))
+
+-- a word meets no statement of its area that isn't a pool
+abbrev pub WordsMeetNoStatement : Type 0
+WordsMeetNoStatement =
+    (statements : List Statement) → IsSound statements
+    → (area : ℕ) (after before : List LaidLine) (l : LaidLine) (w : ℕ)
+    → laid statements ≡ after ++ l ∷ before → l.area ≡ Some area → word_among after l before ≡ Some w
+    → (behind front : List LaidLine) (m : LaidLine)
+    → laid statements ≡ behind ++ m ∷ front → m.area ≡ Some area → is_pool (taken m.extent) ≡ false
+    → (m.offset + m.size ≤ w) ⊎ (w + 4 ≤ m.offset)
+
+-- two lines with the same literal and no pool of their area between them have the same word
+abbrev pub LiteralsShareWords : Type 0
+LiteralsShareWords =
+    (statements : List Statement) (area : ℕ) (after between before : List LaidLine) (l m : LaidLine) (n k : ℕ) (v : Value)
+    → laid statements ≡ after ++ l ∷ (between ++ m ∷ before) → l.area ≡ Some area → m.area ≡ Some area
+    → taken l.extent ≡ Loading n v → taken m.extent ≡ Loading k v → list_any (is_pool_of area) (pieces_of between) ≡ false
+    → word_among after l (between ++ m ∷ before) ≡ word_among (after ++ l ∷ between) m before
+
+-- and words that meet are of the same literal, with no pool of their area between them
+abbrev pub LiteralsStandApart : Type 0
+LiteralsStandApart =
+    (statements : List Statement) (area : ℕ) (after between before : List LaidLine) (l m : LaidLine) (n k : ℕ) (v u : Value) (later earlier : ℕ)
+    → laid statements ≡ after ++ l ∷ (between ++ m ∷ before) → l.area ≡ Some area → m.area ≡ Some area
+    → taken l.extent ≡ Loading n v → taken m.extent ≡ Loading k u
+    → word_among after l (between ++ m ∷ before) ≡ Some later → word_among (after ++ l ∷ between) m before ≡ Some earlier
+    → ((later ≡ earlier) × (v ≡ u) × (list_any (is_pool_of area) (pieces_of between) ≡ false)) ⊎ ((earlier + 4 ≤ later) ⊎ (later + 4 ≤ earlier))
+
+-- ---- what stands in an area
+
+abbrev pub InArmState : List Statement → Type 0
+InArmState statements =
+    (after before : List LaidLine) (l : LaidLine) → laid statements ≡ after ++ l ∷ before → l.thumb ≡ false
+
+abbrev pub context_behind : List Statement → LaidLine → List LaidLine → Context
+context_behind statements l before = context_of (final_names (laid statements)) (all_locals (laid statements)) statements l before
+
+-- what the word of a literal holds
+abbrev pub stored_literal : List Statement → Context → Value → Result Stored LineKind
+stored_literal statements c v = stored c (datum_names statements) (literal_value (sees c) v)
+
+-- a literal has one word at all lines of an area
+abbrev pub WordsAgree : List Statement → Type 0
+WordsAgree statements =
+    (area : ℕ) (after before behind front : List LaidLine) (l m : LaidLine) (n k : ℕ) (v : Value)
+    → laid statements ≡ after ++ l ∷ before → laid statements ≡ behind ++ m ∷ front → l.area ≡ Some area → m.area ≡ Some area
+    → taken l.extent ≡ Loading n v → taken m.extent ≡ Loading k v
+    → stored_literal statements (context_behind statements l before) v ≡ stored_literal statements (context_behind statements m front) v
+
+-- of two things that stand in an area each ends before the other, or they are the same
+abbrev pub StandApart : Piece → Piece → Type 0
+StandApart p q = (p.0 + length (unit_bytes p.1) ≤ q.0) ⊎ (q.0 + length (unit_bytes q.1) ≤ p.0)
+
+abbrev pub ThingsStandApart : Type 0
+ThingsStandApart =
+    (statements : List Statement) → IsSound statements → InArmState statements → WordsAgree statements
+    → (area : ℕ) (p q : Piece) → StandsIn (source_of statements) area p → StandsIn (source_of statements) area q
+    → (p ≡ q) ⊎ StandApart p q
+
+-- and each lies inside the area
+abbrev pub ThingsLieInAreas : Type 0
+ThingsLieInAreas =
+    (statements : List Statement) → IsSound statements → InArmState statements
+    → (area : ℕ) (p : Piece) → StandsIn (source_of statements) area p
+    → p.0 + length (unit_bytes p.1) ≤ area_size area (pieces_of (laid statements))
+
+abbrev pub HasBareSymbol : Value → Type 0
+HasBareSymbol (Place s n) = IsBare s
+HasBareSymbol _ = Unit {0}
+
+-- the symbol of each literal begins with no bar, as names of lines don't
+abbrev pub LiteralsAreBare : List Statement → Type 0
+LiteralsAreBare statements =
+    (after before : List LaidLine) (l : LaidLine) (n : ℕ) (v : Value)
+    → laid statements ≡ after ++ l ∷ before → taken l.extent ≡ Loading n v → HasBareSymbol v
+
+abbrev pub LiteralWordsAgree : Type 0
+LiteralWordsAgree = (statements : List Statement) → ArePlain statements → LiteralsAreBare statements → WordsAgree statements
+
+abbrev pub HasBareName : ExprItem → Type 0
+HasBareName (item.Name name) = IsBare name
+HasBareName _ = Unit {0}
+
+abbrev pub HaveBareNames : List ExprItem → Type 0
+HaveBareNames [] = Unit {0}
+HaveBareNames (i ∷ is) = HasBareName i × HaveBareNames is
+
+abbrev pub LoadsBare : What → Type 0
+LoadsBare (what.Pseudo (pseudo.LoadConstant condition rd e)) = HaveBareNames e.items × HaveNoPlaces e.items
+LoadsBare _ = Unit {0}
+
+-- in what statements load, names begin with no bar and no constant is a place
+abbrev pub AllLoadBare : List Statement → Type 0
+AllLoadBare [] = Unit {0}
+AllLoadBare (s ∷ before) = LoadsBare s.what × AllLoadBare before
+
+abbrev pub LoadedLiteralsAreBare : Type 0
+LoadedLiteralsAreBare = (statements : List Statement) → ArePlain statements → AllLoadBare statements → LiteralsAreBare statements

@@ -1,0 +1,2 @@
+-- What the laws of emission cite.
+pub mod Laws
