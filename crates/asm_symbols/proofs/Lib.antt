@@ -1,3 +1,4 @@
+mod LineLemmas
 mod ListLemmas
 mod NumberLemmas
 mod TreeLemmas

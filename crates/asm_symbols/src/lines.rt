@@ -7,8 +7,8 @@ ghost use Rattle.asm_model.specs.AtLine.{SourceLine};
 ghost use Rattle.layout_model.specs.Extents.{Extent};
 ghost use Rattle.layout_model.specs.Symbols as model;
 ghost use Rattle.said_model.specs.Said.{ArmSaid, DirectiveSaid, WhatSaid};
-ghost use Rattle.source_model.specs.Contexts.{sees, value_of};
-ghost use Rattle.asm_instructions.specs.Scenes.{context_of, line_of};
+ghost use Rattle.source_model.specs.Contexts.{Context, sees, value_of};
+ghost use Rattle.asm_instructions.specs.Scenes.{Shows, context_of, line_of};
 ghost use Rattle.asm_units.specs.Literals.{literal_in};
 ghost use Rattle.asm_symbols.specs.Listing.{statement_symbols};
 
@@ -105,6 +105,19 @@ fn add_statement(
     }
 }
 
+fn add_shown(
+    alloc: Global,
+    symbols: &mut Symbols,
+    scene: &Scene<'_>,
+    literal: Option<&Value>,
+    what: &What,
+) -> Result<(), NoMemory>
+    requires { WhatSaid what.now }
+    ensures { OnOk result ((c : Context) (e : Extent) → Shows scene.now c → literal_in e ≡ option_copied literal.entry → symbols.new ≡ model.listed_behind symbols.old (model.symbols_in c.names c.line e what.now)) }
+{
+    add_statement(alloc, symbols, scene, literal, what)
+}
+
 /// Adds the symbols that a line names or needs, where its literal, if it has one, is this, and its references to local
 /// labels name these.
 pub fn add_line(
@@ -127,5 +140,5 @@ pub fn add_line(
         registers: &registers,
         symbols: &labels,
     };
-    add_statement(alloc, symbols, &scene, literal, &line.statement.what)
+    add_shown(alloc, symbols, &scene, literal, &line.statement.what)
 }
