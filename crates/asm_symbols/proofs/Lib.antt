@@ -1,4 +1,3 @@
 mod LineLemmas
-mod ListLemmas
 mod NumberLemmas
 mod TreeLemmas

@@ -1,5 +1,5 @@
 -- What lines need is found by the entries of their names.
-use Rattle.std.proofs.Common.{◌≡◌, ℕ, ◌&&◌, Bool, cond, List, [], ◌∷◌, ◌++◌, Option, Some, None, refl, sym, ap, ◌∙◌, subst}
+use Rattle.std.proofs.Common.{◌≡◌, ℕ, List, [], ◌∷◌, ◌++◌, Option, refl, sym, ap, ◌∙◌}
 use Rattle.std.specs.Prelude.{Result, Ok, Err, OnOk}
 use Rattle.std.specs.List.{list_any}
 use Rattle.sdt_fault.specs.declared.kinds.LineKind.{LineKind}
@@ -16,10 +16,8 @@ use Rattle.asm_model.specs.declared.values.Value.{Value}
 use Rattle.asm_model.specs.declared.values.Value.TheVariants.{Number, Truth, Words, Place}
 use Rattle.asm_model.specs.AtLine.{SourceLine}
 use Rattle.asm_model.specs.Forms.{same}
-use Rattle.asm_model.specs.Meaning.{named_in, stands_at}
-use Rattle.layout_model.specs.Entries.{thumb_of}
 use Rattle.layout_model.specs.Extents.{Extent, Block, Padding, Loading, Pool}
-use Rattle.layout_model.specs.Symbols.{unless_placed, word_symbols, words_symbols, same_state, is_in_area, branch_symbols, arm_symbols, thumb_symbols, literal_value, literal_symbols, directive_symbols, symbols_in, listed_behind}
+use Rattle.layout_model.specs.Symbols.{unless_placed, word_symbols, words_symbols, branch_symbols, arm_symbols, thumb_symbols, literal_value, literal_symbols, directive_symbols, symbols_in, listed_behind}
 use Rattle.source_model.specs.Contexts.{Context, sees, value_of}
 use Rattle.source_model.specs.Registers.{register_in}
 use Rattle.asm_final.specs.Lines.{Sees}

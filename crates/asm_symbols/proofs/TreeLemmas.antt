@@ -1,5 +1,5 @@
 -- Items of one tree are an expression that tokens spell.
-use Rattle.std.proofs.Common.{◌≡◌, ℕ, zero, suc, ◌+◌, ◌-◌, ◌≤◌, ◌<◌, ◌==◌, Bool, true, false, cond, List, [], ◌∷◌, ◌++◌, length, get_or, Option, Some, None, refl, sym, ap, ◌∙◌, append_assoc, append-nil, subst, arith}
+use Rattle.std.proofs.Common.{◌≡◌, ℕ, zero, suc, ◌+◌, ◌-◌, ◌≤◌, Bool, true, false, cond, List, [], ◌∷◌, ◌++◌, length, get_or, Option, Some, None, refl, sym, ap, ◌∙◌, append_assoc, append-nil, subst, arith}
 use Rattle.std.specs.Prelude.{nat_lt}
 use Rattle.std.specs.Bool.{OnTrue}
 use Rattle.std.specs.Option.{is_some}
@@ -10,8 +10,8 @@ use Rattle.asm_model.specs.declared.exprs.Part.{Part}
 use Rattle.asm_model.specs.declared.exprs.Part.TheVariants as part
 use Rattle.asm_model.specs.declared.exprs.BinaryOp.{BinaryOp}
 use Rattle.asm_model.specs.declared.exprs.BinaryOp.TheVariants.{Multiply}
-use Rattle.asm_model.specs.Grammar.{Tree, Leaf, Before, Between, postfix, plain, level, Spells, operand, before, grouped, between, tighter, IsSpelled}
-use Rattle.layout_model.specs.Trees.{grown, grown_behind, alone, tree_behind, tree_of}
+use Rattle.asm_model.specs.Grammar.{Tree, Leaf, Before, Between, postfix, plain, level, Spells, operand, before, grouped, between, tighter}
+use Rattle.layout_model.specs.Trees.{grown, tree_behind, tree_of}
 use Rattle.said_model.specs.Said.{IsRead}
 use Rattle.asm_symbols.specs.Listing.{depth_behind}
 
@@ -22,9 +22,6 @@ pub record IsReached (items left : List ExprItem) (depth : ℕ) : Type 0 where
   pub count : length trees ≡ depth
   pub same : tree_behind (Some trees) left ≡ tree_behind (Some []) items
   pub few : depth + length left ≤ length items
-
-pub begun : (items : List ExprItem) → IsReached items items 0
-begun items = record { trees = []; count = refl; same = refl; few = omega arith }
 
 abbrev trees_count : Option (List Tree) → Option ℕ
 trees_count None = None
@@ -66,42 +63,6 @@ pub operands_missing : (items left : List ExprItem) (i : ExprItem) (depth : ℕ)
 operands_missing items [] i depth r some at h = absurd (let bad : 1 ≤ 0 = some in omega arith)
 operands_missing items (j ∷ is) i depth r some at h =
     let first : i ≡ j = at in no_tree items is j depth r (h ∙ ap (λ k. depth_behind k depth) first)
-
--- one tree alone
-pub tree_alone : (items : List ExprItem) (depth : ℕ) → IsReached items [] depth → (depth == 1) ≡ is_some (tree_behind (Some []) items)
-tree_alone items depth r = ap (λ n. n == 1) (sym r.count) ∙ by_trees r.trees ∙ ap is_some r.same
-  where
-    by_trees : (ts : List Tree) → (length ts == 1) ≡ is_some (alone (Some ts))
-    by_trees [] = refl
-    by_trees (t ∷ []) = refl
-    by_trees (t ∷ u ∷ ts) = let more : (length (t ∷ u ∷ ts) == 1) ≡ false = search arith in more
-
-under : (b : Bool) (m n d : ℕ) → m ≤ d + 1 → Some n ≡ cond b (Some m) None → n ≤ d + 1
-under true m n d h e = let same : n ≡ m = cc in omega arith
-under false m n d h e = absurd (cc)
-
-depth_low : (i : ExprItem) (d n : ℕ) → Some n ≡ depth_behind i d → n ≤ d + 1
-depth_low (item.Unary op) d n e = under (nat_lt 0 d) d n d (omega arith) e
-depth_low (item.Binary op) d n e = under (nat_lt 1 d) (d - 1) n d (omega arith) e
-depth_low (item.Name q) d n e = under true (d + 1) n d (omega arith) e
-depth_low (item.Local q) d n e = under true (d + 1) n d (omega arith) e
-depth_low (item.Constant v) d n e = under true (d + 1) n d (omega arith) e
-depth_low item.Here d n e = under true (d + 1) n d (omega arith) e
-depth_low item.Map d n e = under true (d + 1) n d (omega arith) e
-depth_low item.CodeSize d n e = under true (d + 1) n d (omega arith) e
-
--- an item more
-pub reached_next : (items is : List ExprItem) (i : ExprItem) (depth next : ℕ) → IsReached items (i ∷ is) depth → Some next ≡ depth_behind i depth → IsReached items is next
-reached_next items is i depth next r h = by_count (grown i r.trees) refl (counted i r.trees ∙ ap (depth_behind i) r.count ∙ sym h)
-  where
-    by_count : (o : Option (List Tree)) → grown i r.trees ≡ o → trees_count o ≡ Some next → IsReached items is next
-    by_count None e k = absurd (cc)
-    by_count (Some ts) e k = record {
-      trees = ts;
-      count = cc;
-      same = ap (λ o. tree_behind o is) (sym e) ∙ r.same;
-      few = let low = depth_low i depth next h in let room = r.few in omega arith;
-    }
 
 -- ---- items of a tree
 

@@ -32,11 +32,7 @@ pub fn add_name(alloc: Global, symbols: &mut Symbols, name: &Text) -> Result<(),
 }
 
 /// The symbol that is needed, where one is.
-fn add_needed(
-    alloc: Global,
-    symbols: &mut Symbols,
-    needed: Option<Text>,
-) -> Result<(), NoMemory>
+fn add_needed(alloc: Global, symbols: &mut Symbols, needed: Option<Text>) -> Result<(), NoMemory>
     ensures { OnOk result (symbols.new ≡ model.listed_behind symbols.old (one_symbol needed)) }
 {
     match needed {
