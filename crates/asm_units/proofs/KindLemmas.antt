@@ -49,7 +49,7 @@ entry_moved : (names : Names) (o : Option LaidName) (n : ℕ) → meaning.on_bot
 entry_moved names None n = refl
 entry_moved names (Some e) n = value_moved names e.value n
 
-literal_alike : (a b : Context) → Alike a b → (v : Value) → literal_value (sees a) v ≡ literal_value (sees b) v
+pub literal_alike : (a b : Context) → Alike a b → (v : Value) → literal_value (sees a) v ≡ literal_value (sees b) v
 literal_alike a b s (Place (x ∷ xs) n) =
     entry_moved (sees a) (named_in (x ∷ xs) (sees a).list) n
     ∙ ap (λ o. moved_entry o n) (s.entry (x ∷ xs))

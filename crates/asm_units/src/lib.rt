@@ -7,7 +7,7 @@ pub mod emitted;
 mod instructions;
 mod joining;
 mod kinds;
-mod literals;
+pub mod literals;
 mod statements;
 mod words;
 

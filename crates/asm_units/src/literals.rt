@@ -75,7 +75,8 @@ fn place_value(
     entry_moved(alloc, entry_of(scene, symbol), plus)
 }
 
-fn literal_value(
+/// The value of a literal, once all names are known.
+pub fn literal_value(
     alloc: Global,
     scene: &Scene<'_>,
     literal: &Value,
