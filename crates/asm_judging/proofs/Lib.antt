@@ -1,0 +1,3 @@
+pub mod LocalLemmas
+pub mod LoopLemmas
+pub mod SetLemmas
