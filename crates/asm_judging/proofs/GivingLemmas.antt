@@ -1,8 +1,8 @@
 -- Names for registers, by the numbers that their expressions have in the end.
 use Rattle.std.proofs.Common.{◌≡◌, ◌<◌, ℕ, Bool, true, false, cond, List, [], ◌∷◌, ◌++◌, Option, Some, None, refl, sym, ap, ◌∙◌, subst, arith}
-use Rattle.std.specs.Prelude.{Result, Ok, Err, nat_lt, ◌==◌, if◌then◌else◌}
+use Rattle.std.specs.Prelude.{Result, Ok, Err, nat_lt, ◌==◌}
 use Rattle.sdt_fault.specs.declared.kinds.LineKind.{LineKind}
-use Rattle.sdt_fault.specs.declared.kinds.LineKind.TheVariants.{WrongType, OutOfRange}
+use Rattle.sdt_fault.specs.declared.kinds.LineKind.TheVariants.{OutOfRange}
 use Rattle.asm_model.proofs.LineLemmas.{both_empty}
 use Rattle.asm_model.specs.declared.exprs.Expr.{Expr}
 use Rattle.asm_model.specs.declared.directives.DirectiveLine.{DirectiveLine}
@@ -18,7 +18,7 @@ use Rattle.asm_model.specs.AtLine.{Sight}
 use Rattle.asm_model.specs.Forms.{same}
 use Rattle.asm_registers.specs.Giving.{given_by}
 use Rattle.layout_model.specs.Extents.{value_there, number_there, as_number}
-use Rattle.layout_model.specs.Labels.{Defined, LocalLabel, Label, defined_by, number_in as digits_in, field_defines, what_defines, directive_defines, labelled}
+use Rattle.layout_model.specs.Labels.{LocalLabel, Label, defined_by, number_in as digits_in, field_defines, what_defines, directive_defines, labelled}
 use Rattle.layout_model.specs.Laid.{Declared, LaidLine, laid_of, laid_behind}
 use Rattle.layout_model.specs.LayoutKinds.{fault_kinds}
 use Rattle.said_model.specs.Said.{WhatSaid, GivenSaid, AllSaid}

@@ -1,12 +1,12 @@
 -- The lines of a layout, judged one after the other.
-use Rattle.std.proofs.Common.{◌≡◌, ◌≤◌, ◌<◌, ◌-◌, ℕ, List, [], ◌∷◌, ◌++◌, length, take, drop, get_or, Option, Some, None, refl, sym, ap, ◌∙◌, subst, arith}
+use Rattle.std.proofs.Common.{◌≡◌, ◌≤◌, ◌<◌, ◌-◌, ℕ, List, [], ◌∷◌, ◌++◌, length, take, drop, get_or, Option, Some, None, refl, sym, ap, ◌∙◌, subst}
 use Rattle.std.specs.BTreeMap.{BTreeMap}
 use Rattle.sdt_fault.specs.declared.answer.Fault.{Fault}
 use Rattle.sdt_fault.specs.declared.kinds.LineKind.{LineKind}
 use Rattle.asm_instructions.specs.Scenes.{register_at}
 use Rattle.asm_layout.proofs.LateLemmas.{rest_of}
 use Rattle.asm_layout.specs.Late.{AreOn}
-use Rattle.asm_layout.specs.Layout.{IsStatement, IsTold}
+use Rattle.asm_layout.specs.Layout.{IsTold}
 use Rattle.asm_model.specs.declared.statements.Statement.{Statement}
 use Rattle.asm_model.specs.Directives.{or_else}
 use Rattle.asm_model.specs.Kinds.{told_kind}
@@ -21,8 +21,7 @@ use Rattle.source_model.specs.SourceFaults.{first_valued, value_faults}
 use Rattle.std.specs.Prelude.{Result}
 use Rattle.asm_judging.specs.Giving.{gives}
 use Rattle.asm_judging.specs.Judging.{IsJudgeable, IsLeft}
-use Rattle.asm_judging.specs.Whole.{IsWhole, IsHere, IsJudged, kinds_at}
-use Rattle.asm_judging.specs.declared.line.Judged.{Judged}
+use Rattle.asm_judging.specs.Whole.{IsWhole, IsHere, kinds_at}
 use Rattle.asm_judging.specs.declared.whole.Whole.{Whole}
 use Rattle.asm_judging.proofs.LoopLemmas.{lines_from, turned_again, first_of, none_left, nothing}
 

@@ -1,11 +1,9 @@
 -- The literal of a line, and its word.
-use Rattle.std.proofs.Common.{◌≡◌, ◌<◌, ℕ, zero, suc, Bool, true, false, cond, List, [], ◌∷◌, ◌++◌, length, map, Option, Some, None, refl, sym, ap, ◌∙◌, subst, arith}
-use Rattle.std.specs.Prelude.{Result, Ok, Err, ◌==◌, ◌||◌, not}
+use Rattle.std.proofs.Common.{◌≡◌, ℕ, zero, suc, Bool, true, false, cond, List, [], ◌∷◌, ◌++◌, map, Option, Some, None, refl, sym, ap, ◌∙◌, arith}
+use Rattle.std.specs.Prelude.{◌==◌, ◌||◌, not}
 use Rattle.std.specs.List.{slice_get}
 use Rattle.std.proofs.lemmas.Bool.{or_parts}
-use Rattle.sdt_fault.specs.declared.kinds.LineKind.{LineKind}
 use Rattle.sdt_fault.specs.declared.kinds.LineKind.TheVariants.{NoArea}
-use Rattle.asm_layout.specs.Layout.{IsArea}
 use Rattle.asm_model.specs.declared.directives.DirectiveLine.{DirectiveLine}
 use Rattle.asm_model.specs.declared.directives.DirectiveLine.TheVariants as line
 use Rattle.asm_model.specs.declared.statements.What.{What}
@@ -13,7 +11,7 @@ use Rattle.asm_model.specs.declared.statements.What.TheVariants as what
 use Rattle.asm_model.specs.declared.values.Value.{Value}
 use Rattle.asm_model.specs.AtLine.{Sight}
 use Rattle.asm_offsets.specs.Laws.{AllExtents, LiteralsArePlaced}
-use Rattle.asm_offsets.specs.Running.{entry_behind, entry_in, pools_behind, pools_from}
+use Rattle.asm_offsets.specs.Running.{entry_in, pools_behind, pools_from}
 use Rattle.asm_offsets.specs.Coded.{IsExtent}
 use Rattle.asm_pool.specs.Laws.{PoolLaw}
 use Rattle.asm_pool.specs.Pooled.{Pooled, noted, flushed, place_of, place_among, entry_at, literals_of}
@@ -25,7 +23,7 @@ use Rattle.layout_model.specs.Labels.{Defined}
 use Rattle.layout_model.specs.Laid.{taken}
 use Rattle.layout_model.specs.LayoutKinds.{is_free, has_place, names_here, no_area_kinds}
 use Rattle.layout_model.specs.OffsetLaws.{joined}
-use Rattle.layout_model.specs.Offsets.{Piece, is_of, literal_word, start_in}
+use Rattle.layout_model.specs.Offsets.{Piece, is_of, start_in}
 use Rattle.source_model.specs.SourceFaults.{word_of}
 use Rattle.asm_judging.specs.Loaded as own
 

@@ -3,7 +3,6 @@ use Rattle.std.proofs.Common.{◌≡◌, ◌≤◌, ◌<◌, ◌-◌, ℕ, suc, 
 use Rattle.asm_layout.proofs.LateLemmas.{rest_of}
 use Rattle.asm_layout.specs.Layout.{AreStatements}
 use Rattle.asm_layout.specs.Late.{AreOn}
-use Rattle.asm_model.specs.declared.statements.Statement.{Statement}
 use Rattle.asm_pool.specs.declared.layout.LaidStatement.{LaidStatement}
 use Rattle.layout_model.specs.Before.{begins_stretch, stretch_behind}
 use Rattle.layout_model.specs.Labels.{Defined, Unnamed, LocalLabel, Label, Equal, MapField, RegisterName, defined_by}

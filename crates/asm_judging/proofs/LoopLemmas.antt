@@ -1,6 +1,5 @@
 -- The statements of a layout, from the first on.
-use Rattle.std.proofs.Common.{◌≡◌, ◌<◌, List, [], ◌∷◌, ◌++◌, length, map, refl, sym, ap, ◌∙◌, subst, arith, append-nil}
-use Rattle.asm_model.specs.declared.statements.Statement.{Statement}
+use Rattle.std.proofs.Common.{◌≡◌, ◌<◌, List, [], ◌∷◌, ◌++◌, length, refl, sym, ap, subst, arith, append-nil}
 use Rattle.asm_pool.specs.declared.layout.LaidStatement.{LaidStatement}
 use Rattle.layout_model.specs.Laid.{LaidLine, reversed}
 use Rattle.asm_layout.specs.Layout.{IsStatement, AreStatements}

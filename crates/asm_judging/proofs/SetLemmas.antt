@@ -1,8 +1,8 @@
 -- Names in sets.
-use Rattle.std.proofs.Common.{◌≡◌, ◌≤◌, ◌<◌, ◌-◌, ℕ, Bool, true, false, List, [], ◌∷◌, ◌++◌, ◌||◌, length, take, drop, get_or, map, refl, sym, ap, ◌∙◌, subst, arith}
+use Rattle.std.proofs.Common.{◌≡◌, ◌≤◌, ◌<◌, ◌-◌, ℕ, Bool, true, false, List, [], ◌∷◌, ◌++◌, ◌||◌, length, take, drop, get_or, map, refl, sym, ap, ◌∙◌, subst}
 use Rattle.std.proofs.Math.Bool.{or_comm}
 use Rattle.std.proofs.lemmas.List.Folds.{list_any-append}
-use Rattle.std.specs.Prelude.{Option, Some}
+use Rattle.std.specs.Prelude.{Some}
 use Rattle.std.specs.List.{list_any}
 use Rattle.std.specs.Ordering.{nat_cmp}
 use Rattle.std.specs.Cmp.Lexicographic.{slice_cmp}
@@ -22,7 +22,7 @@ use Rattle.layout_model.specs.Marks.{datum_in, datum_names}
 use Rattle.source_model.specs.SourceFaults.{label_of, symbol_names}
 use Rattle.asm_judging.specs.declared.sets.Sets.{Sets}
 use Rattle.asm_judging.specs.Gathered.{AllLaidSaid, Gains, GainsAll, AreSets, said_in}
-use Rattle.asm_judging.proofs.LoopLemmas.{append_one, nothing}
+use Rattle.asm_judging.proofs.LoopLemmas.{nothing}
 
 pub gains_one : (old new : BTreeSet (List ℕ)) (name text : List ℕ) → text ≡ name → set.UpdatesBy (slice_cmp nat_cmp) (slice_cmp nat_cmp text) old new true
     → Gains old new (name ∷ [])

@@ -1,5 +1,5 @@
 -- What a line's values are judged by is what definitions have.
-use Rattle.std.proofs.Common.{◌≡◌, ◌≤◌, ◌<◌, ℕ, zero, suc, ◌+◌, Bool, List, [], ◌∷◌, ◌++◌, length, map, Option, Some, None, refl, sym, ap, ◌∙◌, subst, arith}
+use Rattle.std.proofs.Common.{◌≡◌, ◌≤◌, ◌<◌, ℕ, zero, suc, ◌+◌, List, [], ◌∷◌, ◌++◌, length, map, Option, Some, None, refl, sym, ap, ◌∙◌, subst, arith}
 use Rattle.std.specs.Prelude.{Result, Ok, Err, nat_lt}
 use Rattle.std.specs.BTreeMap.{BTreeMap}
 use Rattle.std.specs.BTreeSet.{BTreeSet}
@@ -8,18 +8,17 @@ use Rattle.sdt_fault.specs.declared.kinds.LineKind.TheVariants.{TooMany}
 use Rattle.asm_model.specs.Kinds.{told_kind}
 use Rattle.source_model.specs.ValueKinds.{value_kinds}
 use Rattle.asm_pool.specs.Pooled.{flushed}
-use Rattle.std.specs.List.{slice_get, list_any}
+use Rattle.std.specs.List.{slice_get}
 use Rattle.asm_final.specs.declared.lines.PlacedLine.{PlacedLine}
 use Rattle.asm_final.specs.Lines.{IsFinal, Sees}
 use Rattle.asm_instructions.specs.Scenes.{Shows, has_symbol, register_at}
 use Rattle.asm_instructions.specs.declared.scenes.Scene.{Scene}
 use Rattle.asm_laying.specs.Reading.{string_marks}
-use Rattle.asm_layout.specs.Layout.{IsStatement, IsArea}
+use Rattle.asm_layout.specs.Layout.{IsStatement}
 use Rattle.asm_layout.specs.Lines.{IsLineOf}
 use Rattle.asm_model.proofs.LineLemmas.{both_empty}
 use Rattle.asm_model.specs.declared.exprs.Expr.{Expr}
 use Rattle.asm_model.specs.declared.statements.Statement.{Statement}
-use Rattle.asm_model.specs.declared.statements.What.{What}
 use Rattle.asm_model.specs.declared.values.Value.{Value}
 use Rattle.asm_model.specs.AtLine.{SourceLine}
 use Rattle.asm_model.specs.Meaning.{stands_at}
@@ -36,12 +35,12 @@ use Rattle.layout_laws.specs.Final.{KnownValuesAreFinal}
 use Rattle.layout_model.specs.Before.{areas_behind}
 use Rattle.layout_model.specs.Extents.{Extent, Pool, extent_of, value_there}
 use Rattle.layout_model.specs.Labels.{defined_by}
-use Rattle.layout_model.specs.Laid.{Declared, LaidLine, declared, laid, laid_of, laid_behind, sight_behind, taken, pieces_of, reversed, statements_of, all_locals, final_line, final_names, source_lines}
+use Rattle.layout_model.specs.Laid.{Declared, LaidLine, declared, laid, laid_of, laid_behind, sight_behind, taken, pieces_of, reversed, statements_of, all_locals, final_line, final_names}
 use Rattle.layout_model.specs.LayoutKinds.{layout_kinds, no_area_kinds, fault_kinds, map_kinds, contents_kinds, contents_behind, area_kinds, name_kinds, settled_kinds, kind_if, area_bytes, settled, equals_in}
 use Rattle.layout_model.specs.Marks.{datum_names}
 use Rattle.layout_model.specs.OffsetLaws.{joined}
 use Rattle.layout_model.specs.Offsets.{Piece, area_size, start_in}
-use Rattle.source_model.specs.Contexts.{Context, sees, value_of}
+use Rattle.source_model.specs.Contexts.{sees, value_of}
 use Rattle.source_model.specs.Registers.{register_in, registers_behind, register_names, named_by}
 use Rattle.source_model.specs.SourceFaults.{context_of, word_of}
 use Rattle.asm_judging.specs.Loaded as own

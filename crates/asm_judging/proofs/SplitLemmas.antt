@@ -1,6 +1,5 @@
 -- A line among those of a source, and that it has no fault of its own.
-use Rattle.std.proofs.Common.{◌≡◌, ◌≤◌, ◌<◌, ℕ, suc, ◌+◌, Bool, true, false, cond, List, [], ◌∷◌, ◌++◌, length, Option, Some, None, refl, sym, ap, ◌∙◌, subst, arith, length-append}
-use Rattle.std.specs.Prelude.{Result, Ok, Err, IsTrue, ◌||◌, not}
+use Rattle.std.proofs.Common.{◌≡◌, ℕ, List, [], ◌∷◌, ◌++◌, None, refl, sym, ap, ◌∙◌, subst}
 use Rattle.sdt_fault.specs.declared.kinds.LineKind.{LineKind}
 use Rattle.asm_model.proofs.LineLemmas.{both_empty}
 use Rattle.asm_model.specs.declared.statements.Statement.{Statement}
@@ -8,7 +7,7 @@ use Rattle.asm_model.specs.Directives.{or_else}
 use Rattle.asm_model.specs.Kinds.{told_kind}
 use Rattle.layout_laws.proofs.SoundLemmas.{or_none, told_none}
 use Rattle.layout_laws.specs.Sound.{IsSound, ArePlain}
-use Rattle.layout_model.specs.Laid.{Declared, LaidLine, declared, laid, laid_of, laid_behind, reversed}
+use Rattle.layout_model.specs.Laid.{Declared, LaidLine, laid, laid_of, laid_behind, reversed}
 use Rattle.layout_model.specs.LayoutKinds.{layout_kinds, told_at, first_fault, first_late, settled, equals_in}
 use Rattle.said_model.specs.Said.{IsSaid, AllSaid}
 use Rattle.source_model.specs.Registers.{register_names, register_kinds}

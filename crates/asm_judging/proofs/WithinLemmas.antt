@@ -1,10 +1,9 @@
 -- Each name stands in an area of the source, or in none.
-use Rattle.std.proofs.Common.{◌≡◌, ◌≤◌, ◌<◌, ℕ, zero, suc, ◌+◌, Bool, true, false, cond, List, [], ◌∷◌, ◌++◌, length, map, Option, Some, None, refl, sym, ap, ◌∙◌, subst, arith, length-append}
+use Rattle.std.proofs.Common.{◌≡◌, ◌≤◌, ◌<◌, ℕ, zero, suc, ◌+◌, Bool, true, false, cond, List, [], ◌∷◌, ◌++◌, length, map, Option, Some, None, refl, ap, subst, arith, length-append}
 use Rattle.std.specs.Prelude.{Result, Ok, Err, ◌==◌, ◌&&◌, ◌||◌, nat_le, nat_lt, codes}
 use Rattle.std.specs.List.{list_any}
 use Rattle.sdt_fault.specs.declared.kinds.LineKind.{LineKind}
 use Rattle.asm_model.proofs.WordLemmas.{same_refl}
-use Rattle.asm_model.specs.declared.exprs.Expr.{Expr}
 use Rattle.asm_model.specs.declared.names.LaidName.{LaidName}
 use Rattle.asm_model.specs.declared.statements.Statement.{Statement}
 use Rattle.asm_model.specs.declared.values.Value.{Value}

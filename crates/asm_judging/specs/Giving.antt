@@ -1,5 +1,5 @@
 -- What RN gives in the end. This project's.
-use Rattle.std.specs.Prelude.{◌≡◌, ℕ, List, [], ◌∷◌, Option, Some, None, Result, Ok}
+use Rattle.std.specs.Prelude.{◌≡◌, ℕ, List, [], Result}
 use Rattle.sdt_fault.specs.declared.kinds.LineKind.{LineKind}
 use Rattle.asm_model.specs.declared.directives.RnOperand.TheVariants as rn
 use Rattle.asm_model.specs.declared.directives.DirectiveLine.TheVariants as line

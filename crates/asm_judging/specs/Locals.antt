@@ -1,5 +1,5 @@
 -- The local labels of a layout's lines so far. This project's.
-use Rattle.std.specs.Prelude.{◌≡◌, ℕ, List, ◌++◌}
+use Rattle.std.specs.Prelude.{◌≡◌, List, ◌++◌}
 use Rattle.asm_pool.specs.declared.layout.LaidStatement.{LaidStatement}
 use Rattle.layout_model.specs.Labels.{defined_by}
 use Rattle.layout_model.specs.Locals.{Local, local_entries}

@@ -1,5 +1,5 @@
 -- What all lines of a layout share, and a line among them. This project's.
-use Rattle.std.specs.Prelude.{◌≡◌, ℕ, List, ◌∷◌, map, None, Option}
+use Rattle.std.specs.Prelude.{◌≡◌, ℕ, List, ◌∷◌, map, None}
 use Rattle.std.specs.BTreeMap.{BTreeMap}
 use Rattle.sdt_fault.specs.declared.kinds.LineKind.{LineKind}
 use Rattle.asm_instructions.specs.Scenes.{register_at}

@@ -1,9 +1,9 @@
-use Rattle.std.proofs.Common.{◌≡◌, ◌∙◌, ◌∷◌, refl, sym}
+use Rattle.std.proofs.Common.{◌∙◌, ◌∷◌, refl, sym}
 use Rattle.layout_model.specs.Laid.{laid, taken, pieces_of, all_locals, final_names}
 use Rattle.layout_model.specs.Marks.{datum_names}
 use Rattle.layout_model.specs.Offsets.{area_size}
 use Rattle.source_model.specs.SourceFaults.{context_of, word_of}
-use Rattle.asm_judging.proofs.ShowLemmas.{IsBeside, place_of, loads, shows, shows_beside, told_there, given_there}
+use Rattle.asm_judging.proofs.ShowLemmas.{place_of, loads, shows, shows_beside, told_there, given_there}
 use Rattle.asm_judging.proofs.line.judge_line.Goals as goal
 
 pub returns : goal.returns

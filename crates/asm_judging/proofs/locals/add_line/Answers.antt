@@ -1,4 +1,4 @@
-use Rattle.std.proofs.Common.{◌≡◌, List, ◌++◌, sym, subst, ap, ◌∙◌}
+use Rattle.std.proofs.Common.{List, sym, subst}
 use Rattle.asm_laying.proofs.DeclareLemmas.{before_more, before_joined, before_own}
 use Rattle.asm_laying.specs.Defining.{defined_of}
 use Rattle.asm_locals.specs.Found.{AllBefore}

@@ -1,9 +1,7 @@
-use Rattle.std.proofs.Common.{◌≡◌, ◌-◌, [], refl, sym, subst, length, take, drop}
-use Rattle.asm_judging.specs.Gathered.{AllLaidSaid}
+use Rattle.std.proofs.Common.{refl, sym, subst}
 use Rattle.asm_judging.proofs.LocalLemmas.{gathered_first, gathered_next, gathered_all}
 use Rattle.asm_judging.proofs.SetLemmas.{said_first}
 use Rattle.asm_locals.specs.Found.{AllBefore}
-use Rattle.layout_model.specs.Locals.{Local}
 use Rattle.asm_judging.proofs.locals.locals_of.Goals as goal
 
 pub lines-init : goal.lines-init

@@ -1,4 +1,4 @@
-use Rattle.std.proofs.Common.{◌≡◌, ◌∷◌, [], List, ℕ, refl}
+use Rattle.std.proofs.Common.{◌∷◌, [], refl}
 use Rattle.std.specs.Option.{option_copied}
 use Rattle.layout_model.specs.LayoutKinds.{listed}
 use Rattle.asm_judging.proofs.SetLemmas.{gains_one, gains_as}

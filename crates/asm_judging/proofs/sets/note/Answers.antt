@@ -1,4 +1,4 @@
-use Rattle.std.proofs.Common.{◌∙◌, ◌++◌, ap, List, ℕ}
+use Rattle.std.proofs.Common.{◌∙◌, ap}
 use Rattle.std.specs.Option.{option_copied}
 use Rattle.layout_model.specs.Labels.{imported_in, defined_by}
 use Rattle.layout_model.specs.LayoutKinds.{listed, own_name}
