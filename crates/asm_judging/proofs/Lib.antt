@@ -1,0 +1,9 @@
+pub mod GivingLemmas
+pub mod JudgeLemmas
+pub mod LiteralLemmas
+pub mod LocalLemmas
+pub mod LoopLemmas
+pub mod SetLemmas
+pub mod ShowLemmas
+pub mod SplitLemmas
+pub mod WithinLemmas

@@ -1,0 +1,7 @@
+-- What the clauses of the crate cite.
+pub mod Gathered
+pub mod Giving
+pub mod Judging
+pub mod Loaded
+pub mod Locals
+pub mod Whole
