@@ -34,7 +34,8 @@ use Rattle.layout_laws.proofs.EqualLemmas.{each_is_joined, back_behind_is, forth
 use Rattle.layout_laws.proofs.RoundLemmas.{SymbolIs, ResultIs, EachIs}
 use Rattle.layout_laws.proofs.SettledLemmas.{no_place_is}
 use Rattle.layout_laws.proofs.StepLemmas.{AreRegular, each_more, nothing}
-use Rattle.source_laws.specs.Laws.{HasBareSymbol, HasBareName, HaveBareNames, LoadsBare, AllLoadBare}
+use Rattle.said_model.specs.Said.{HasBareName, HaveBareNames, LoadsBare}
+use Rattle.source_laws.specs.Laws.{HasBareSymbol, AllLoadBare}
 use Rattle.source_laws.proofs.BareLemmas.{ItemsEach, TreeEach, HoldsConstant, no_place_holds, tree_each, tree_bare, IsPlainDefinition, EachPlain, place_bare, definition_plain, imported_plain, plain_joined, made_bare}
 use Rattle.source_laws.proofs.ListLemmas.{same_first, same_rest}
 use Rattle.source_laws.proofs.WordLemmas.{taken_loads}

@@ -6,9 +6,6 @@ use Rattle.std.specs.List.{list_any}
 use Rattle.sdt_fault.specs.declared.kinds.LineKind.{LineKind}
 use Rattle.asm_model.specs.declared.directives.DirectiveLine.{DirectiveLine}
 use Rattle.asm_model.specs.declared.directives.DirectiveLine.TheVariants as line
-use Rattle.asm_model.specs.declared.exprs.ExprItem.{ExprItem}
-use Rattle.asm_model.specs.declared.exprs.ExprItem.TheVariants as item
-use Rattle.asm_model.specs.declared.statements.PseudoLine.TheVariants as pseudo
 use Rattle.asm_model.specs.declared.statements.Statement.{Statement}
 use Rattle.asm_model.specs.declared.statements.What.{What}
 use Rattle.asm_model.specs.declared.statements.What.TheVariants as what
@@ -20,7 +17,8 @@ use Rattle.layout_model.specs.Laid.{LaidLine, taken, pieces_of, laid, all_locals
 use Rattle.layout_model.specs.Marks.{datum_names}
 use Rattle.layout_model.specs.Offsets.{size_of, area_size, is_pool, is_pool_of}
 use Rattle.layout_model.specs.Symbols.{literal_value}
-use Rattle.layout_laws.specs.Sound.{IsSound, IsBare, HaveNoPlaces, ArePlain}
+use Rattle.layout_laws.specs.Sound.{IsSound, IsBare, ArePlain}
+use Rattle.said_model.specs.Said.{LoadsBare}
 use Rattle.source_model.specs.Contexts.{Context, sees}
 use Rattle.source_model.specs.Objects.{Piece, unit_bytes, units_bytes, units_from, source_of, in_order, StandsIn}
 use Rattle.source_model.specs.SourceFaults.{context_of, word_of}
@@ -189,18 +187,6 @@ LiteralsAreBare statements =
 
 abbrev pub LiteralWordsAgree : Type 0
 LiteralWordsAgree = (statements : List Statement) → ArePlain statements → LiteralsAreBare statements → WordsAgree statements
-
-abbrev pub HasBareName : ExprItem → Type 0
-HasBareName (item.Name name) = IsBare name
-HasBareName _ = Unit {0}
-
-abbrev pub HaveBareNames : List ExprItem → Type 0
-HaveBareNames [] = Unit {0}
-HaveBareNames (i ∷ is) = HasBareName i × HaveBareNames is
-
-abbrev pub LoadsBare : What → Type 0
-LoadsBare (what.Pseudo (pseudo.LoadConstant condition rd e)) = HaveBareNames e.items × HaveNoPlaces e.items
-LoadsBare _ = Unit {0}
 
 -- in what statements load, names begin with no bar and no constant is a place
 abbrev pub AllLoadBare : List Statement → Type 0
