@@ -1,7 +1,8 @@
 -- Statements as lines say them. Their expressions are what tokens spell, names begin with no bar, a local label has two
 -- digits at most, registers are 0 to 15, and what an instruction's form leaves out is register 0. Nothing that they load is
 -- a place as a constant. SDT 2.50 Reference Guide, chapter on the assembler.
-use Rattle.std.specs.Prelude.{◌≡◌, ◌<◌, List, [], ◌∷◌, Bool, true, false, Option, Some, None}
+use Rattle.std.specs.Prelude.{◌≡◌, ◌≢◌, ◌<◌, ℕ, List, [], ◌∷◌, ◌++◌, Bool, true, false, Option, Some, None}
+use Rattle.std.specs.List.{AllByRecursion}
 use Rattle.arm_isa.specs.declared.instr.Operation.{Operation}
 use Rattle.arm_isa.specs.declared.instr.Operation.TheVariants.{Tst, Teq, Cmp, Cmn, Mov, Mvn}
 use Rattle.arm_isa.specs.declared.instr.HalfKind.{HalfKind}
@@ -209,3 +210,35 @@ pub record IsSaid (s : Statement) : Type 0 where
 abbrev pub AllSaid : List Statement → Type 0
 AllSaid [] = Unit {0}
 AllSaid (s ∷ ss) = IsSaid s × AllSaid ss
+
+-- ---- names
+
+abbrev pub directive_names : DirectiveLine → List (List ℕ)
+directive_names (line.Area name a) = name ∷ []
+directive_names (line.Export name) = name ∷ []
+directive_names (line.Import name weak) = name ∷ []
+directive_names (line.Extern name weak) = name ∷ []
+directive_names (line.Keep name) = name ∷ []
+directive_names _ = []
+
+abbrev pub what_names : What → List (List ℕ)
+what_names (what.Directive l) = directive_names l
+what_names _ = []
+
+abbrev pub label_names : Option (List ℕ) → List (List ℕ)
+label_names None = []
+label_names (Some name) = name ∷ []
+
+-- the names that a statement says outside of expressions
+abbrev pub said_names : Statement → List (List ℕ)
+said_names s = label_names s.label ++ what_names s.what
+
+abbrev pub HoldsNoZero : List ℕ → Type 0
+HoldsNoZero name = AllByRecursion (λ b. b ≢ 0) name
+
+-- these names hold no zero byte
+abbrev pub HasTexts : Statement → Type 0
+HasTexts s = AllByRecursion HoldsNoZero (said_names s)
+
+abbrev pub AllHaveTexts : List Statement → Type 0
+AllHaveTexts statements = AllByRecursion HasTexts statements
