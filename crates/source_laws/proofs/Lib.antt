@@ -2,6 +2,7 @@ pub mod AgreeLemmas
 pub mod BareLemmas
 pub mod LineLemmas
 pub mod ListLemmas
+pub mod ListedLemmas
 pub mod LoadLemmas
 pub mod SizeLemmas
 pub mod ThingLemmas

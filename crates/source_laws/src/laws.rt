@@ -1,6 +1,6 @@
 //! Laws of the definitions, each proved as the contract of an empty function.
 
-ghost use Rattle.source_laws.specs.Laws.{LiteralsShareWords, LiteralsStandApart, LiteralWordsAgree, LoadedLiteralsAreBare, OtherUnitsAreNone, PoolsPutNothing, StatementsLieInAreas, StatementsStandApart, ThingsLieInAreas, ThingsStandApart, UnitsFill, UnitsFit, UnitsLieInside, UnitsStandApart, WordsLieInAreas, WordsMeetNoStatement};
+ghost use Rattle.source_laws.specs.Laws.{LiteralsShareWords, LiteralsStandApart, LiteralWordsAgree, LoadedLiteralsAreBare, OtherUnitsAreNone, PoolsPutNothing, StatementsLieInAreas, StatementsStandApart, ThingsAreListed, ThingsLieInAreas, ThingsStandApart, UnitsFill, UnitsFit, UnitsLieInside, UnitsStandApart, WordsLieInAreas, WordsMeetNoStatement};
 
 /// What a statement puts into its area is no longer than what it takes up.
 pub fn units_fit()
@@ -80,4 +80,9 @@ pub fn literal_words_agree()
 /// What statements load has symbols that begin with no bar, where their names do.
 pub fn loaded_literals_are_bare()
     ensures { LoadedLiteralsAreBare }
+{}
+
+/// The things that stand in an area are those of a list.
+pub fn things_are_listed()
+    ensures { ThingsAreListed }
 {}
