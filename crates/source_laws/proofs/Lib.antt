@@ -1,5 +1,6 @@
 pub mod AgreeLemmas
 pub mod BareLemmas
+pub mod FaultlessLemmas
 pub mod LineLemmas
 pub mod ListLemmas
 pub mod ListedLemmas

@@ -2,7 +2,7 @@
 -- statements of an area follow each other, and the words of literals lie in pools, where no statement puts anything
 -- itself. What stands in an area is listed. Lines are listed with the last first.
 -- This project's.
-use Rattle.std.specs.Prelude.{◌≡◌, ◌⊎◌, ℕ, ◌+◌, ◌%◌, ◌≤◌, List, [], ◌∷◌, ◌++◌, length, Bool, true, false, if◌then◌else◌, Option, Some, Result, Ok}
+use Rattle.std.specs.Prelude.{◌≡◌, ◌⊎◌, ℕ, ◌+◌, ◌%◌, ◌≤◌, List, [], ◌∷◌, ◌++◌, length, Bool, true, false, if◌then◌else◌, Option, Some, None, Result, Ok}
 use Rattle.std.specs.List.{list_any}
 use Rattle.sdt_fault.specs.declared.kinds.LineKind.{LineKind}
 use Rattle.asm_model.specs.declared.directives.DirectiveLine.{DirectiveLine}
@@ -19,10 +19,10 @@ use Rattle.layout_model.specs.Marks.{datum_names}
 use Rattle.layout_model.specs.Offsets.{size_of, area_size, is_of, is_pool, is_pool_of}
 use Rattle.layout_model.specs.Symbols.{literal_value}
 use Rattle.layout_laws.specs.Sound.{IsSound, IsBare, ArePlain}
-use Rattle.said_model.specs.Said.{LoadsBare}
+use Rattle.said_model.specs.Said.{LoadsBare, AllSaid}
 use Rattle.source_model.specs.Contexts.{Context, sees}
 use Rattle.source_model.specs.Objects.{Piece, unit_bytes, units_bytes, units_from, pieces_in, Source, source_of, in_order, IsAmong, StandsIn}
-use Rattle.source_model.specs.SourceFaults.{context_of, word_of}
+use Rattle.source_model.specs.SourceFaults.{layout_faults, context_of, word_of}
 use Rattle.source_model.specs.Units.{Emitted, Stored, stored, units}
 
 -- ---- sizes
@@ -220,3 +220,37 @@ ThingsAreListed =
     (statements : List Statement) (area : ℕ) (p : Piece)
     → (StandsIn (source_of statements) area p → IsAmong p (things_in (source_of statements) area))
     × (IsAmong p (things_in (source_of statements) area) → StandsIn (source_of statements) area p)
+
+-- ---- sources without faults, as lines say them
+
+abbrev pub SaidLoadsAreBare : Type 0
+SaidLoadsAreBare = (statements : List Statement) → AllSaid statements → AllLoadBare statements
+
+-- where laying out finds no fault, no line has one of its own
+abbrev pub FaultlessLayoutsAreSound : Type 0
+FaultlessLayoutsAreSound =
+    (statements : List Statement) → AllSaid statements → layout_faults statements ≡ None → IsSound statements × ArePlain statements
+
+abbrev pub IsNoCode16 : What → Type 0
+IsNoCode16 (what.Directive line.Code16) = ⊥
+IsNoCode16 _ = Unit {0}
+
+-- no statement is CODE16
+abbrev pub NoCode16 : List Statement → Type 0
+NoCode16 [] = Unit {0}
+NoCode16 (s ∷ before) = IsNoCode16 s.what × NoCode16 before
+
+abbrev pub SourcesStayInArmState : Type 0
+SourcesStayInArmState = (statements : List Statement) → NoCode16 statements → InArmState statements
+
+abbrev pub SourcesStandApart : Type 0
+SourcesStandApart =
+    (statements : List Statement) → AllSaid statements → layout_faults statements ≡ None → InArmState statements
+    → (area : ℕ) (p q : Piece) → StandsIn (source_of statements) area p → StandsIn (source_of statements) area q
+    → (p ≡ q) ⊎ StandApart p q
+
+abbrev pub SourcesLieInAreas : Type 0
+SourcesLieInAreas =
+    (statements : List Statement) → layout_faults statements ≡ None → InArmState statements
+    → (area : ℕ) (p : Piece) → StandsIn (source_of statements) area p
+    → p.0 + length (unit_bytes p.1) ≤ area_size area (pieces_of (laid statements))
