@@ -1,10 +1,12 @@
 -- What statements put into their areas stands apart: what a statement puts there is no longer than what it takes up, the
 -- statements of an area follow each other, and the words of literals lie in pools, where no statement puts anything
--- itself. What stands in an area is listed. Lines are listed with the last first.
+-- itself. What stands in an area is listed, and so a source makes one object at most. Lines are listed with the last first.
 -- This project's.
 use Rattle.std.specs.Prelude.{◌≡◌, ◌⊎◌, ℕ, ◌+◌, ◌%◌, ◌≤◌, List, [], ◌∷◌, ◌++◌, length, Bool, true, false, if◌then◌else◌, Option, Some, None, Result, Ok}
 use Rattle.std.specs.List.{list_any}
 use Rattle.sdt_fault.specs.declared.kinds.LineKind.{LineKind}
+use Rattle.aof_object.specs.declared.records.Object.{Object}
+use Rattle.asm_model.specs.declared.directives.Contents.TheVariants as contents
 use Rattle.asm_model.specs.declared.directives.DirectiveLine.{DirectiveLine}
 use Rattle.asm_model.specs.declared.directives.DirectiveLine.TheVariants as line
 use Rattle.asm_model.specs.declared.statements.Statement.{Statement}
@@ -21,7 +23,7 @@ use Rattle.layout_model.specs.Symbols.{literal_value}
 use Rattle.layout_laws.specs.Sound.{IsSound, IsBare, ArePlain}
 use Rattle.said_model.specs.Said.{LoadsBare, AllSaid}
 use Rattle.source_model.specs.Contexts.{Context, sees}
-use Rattle.source_model.specs.Objects.{Piece, unit_bytes, units_bytes, units_from, pieces_in, Source, source_of, in_order, IsAmong, StandsIn}
+use Rattle.source_model.specs.Objects.{Piece, unit_bytes, units_bytes, units_from, pieces_in, Source, source_of, in_order, IsAmong, StandsIn, contents_of, IsObject}
 use Rattle.source_model.specs.SourceFaults.{layout_faults, context_of, word_of}
 use Rattle.source_model.specs.Units.{Emitted, Stored, stored, units}
 
@@ -254,3 +256,15 @@ SourcesLieInAreas =
     (statements : List Statement) → layout_faults statements ≡ None → InArmState statements
     → (area : ℕ) (p : Piece) → StandsIn (source_of statements) area p
     → p.0 + length (unit_bytes p.1) ≤ area_size area (pieces_of (laid statements))
+
+-- in an area of zeros nothing stands
+abbrev pub ZeroAreasHoldNothing : Type 0
+ZeroAreasHoldNothing =
+    (statements : List Statement) → layout_faults statements ≡ None
+    → (area : ℕ) (p : Piece) → contents_of area (laid statements) ≡ Some contents.Zeroes → StandsIn (source_of statements) area p → ⊥
+
+-- ---- objects
+
+-- statements make one object at most
+abbrev pub OneObject : Type 0
+OneObject = (statements : List Statement) (o p : Object) → IsObject statements o → IsObject statements p → o ≡ p

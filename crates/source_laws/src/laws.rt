@@ -1,6 +1,6 @@
 //! Laws of the definitions, each proved as the contract of an empty function.
 
-ghost use Rattle.source_laws.specs.Laws.{FaultlessLayoutsAreSound, LiteralsShareWords, LiteralsStandApart, LiteralWordsAgree, LoadedLiteralsAreBare, OtherUnitsAreNone, PoolsPutNothing, SaidLoadsAreBare, SourcesLieInAreas, SourcesStandApart, SourcesStayInArmState, StatementsLieInAreas, StatementsStandApart, ThingsAreListed, ThingsLieInAreas, ThingsStandApart, UnitsFill, UnitsFit, UnitsLieInside, UnitsStandApart, WordsLieInAreas, WordsMeetNoStatement};
+ghost use Rattle.source_laws.specs.Laws.{FaultlessLayoutsAreSound, LiteralsShareWords, LiteralsStandApart, LiteralWordsAgree, LoadedLiteralsAreBare, OneObject, OtherUnitsAreNone, PoolsPutNothing, SaidLoadsAreBare, SourcesLieInAreas, SourcesStandApart, SourcesStayInArmState, StatementsLieInAreas, StatementsStandApart, ThingsAreListed, ThingsLieInAreas, ThingsStandApart, UnitsFill, UnitsFit, UnitsLieInside, UnitsStandApart, WordsLieInAreas, WordsMeetNoStatement, ZeroAreasHoldNothing};
 
 /// What a statement puts into its area is no longer than what it takes up.
 pub fn units_fit()
@@ -110,4 +110,14 @@ pub fn sources_stand_apart()
 /// What stands in an area of a source without faults lies inside it.
 pub fn sources_lie_in_areas()
     ensures { SourcesLieInAreas }
+{}
+
+/// Nothing stands in an area of zeros.
+pub fn zero_areas_hold_nothing()
+    ensures { ZeroAreasHoldNothing }
+{}
+
+/// Statements make one object at most.
+pub fn one_object()
+    ensures { OneObject }
 {}
