@@ -2,7 +2,7 @@
 use Rattle.std.proofs.Common.{◌≡◌, ℕ, ◌≤◌, ◌<◌, suc, ◌+◌, ◌-◌, Bool, true, false, cond, List, [], ◌∷◌, ◌++◌, length, take, drop, Option, Some, None, Ok, Err, refl, sym, ap, ◌∙◌, subst, arith, append_assoc, length-append}
 use Rattle.std.specs.Prelude.{get_or}
 use Rattle.std.proofs.lemmas.Grind.{common_steps}
-use Rattle.sdt_fault.specs.declared.kinds.LineKind.TheVariants.{Syntax, UnknownWord}
+use Rattle.sdt_fault.specs.declared.kinds.LineKind.TheVariants.{UnknownWord}
 use Rattle.asm_arm.specs.Says.{SaysArm}
 use Rattle.asm_model.specs.declared.lines.Flat.{Flat}
 use Rattle.asm_model.specs.declared.directives.DirectiveLine.TheVariants as line
@@ -14,7 +14,7 @@ use Rattle.asm_said.specs.Laws.{LinesAreSaid}
 use Rattle.said_model.specs.Said.{IsSaid, AllSaid}
 use Rattle.asm_reading.specs.declared.reading.Reading.{Reading}
 use Rattle.asm_reading.specs.declared.reading.Unread.{Unread}
-use Rattle.asm_reading.specs.Reading.{IsShort, AllShort, Said, changes_state, without_states, has_dollar, read_as, SaysLine, says_end, UnlessEnd, Say, statement_in, statements_in, unread_in, first_unread, is_unread, read_first, counted, before_behind, Keeps, IsReading, StaysInArm, InArm, IsSoFar}
+use Rattle.asm_reading.specs.Reading.{IsShort, AllShort, Said, changes_state, without_states, has_dollar, read_as, SaysLine, says_end, UnlessEnd, Say, statement_in, statements_in, unread_in, first_unread, is_unread, read_first, before_behind, Keeps, IsReading, StaysInArm, InArm, IsSoFar}
 
 -- ---- lists
 
