@@ -1,5 +1,8 @@
+pub mod AreaLemmas
 pub mod BitLemmas
+pub mod EachLemmas
 pub mod FaultLemmas
 pub mod OriginLemmas
+pub mod RelocLemmas
 pub mod SizeLemmas
 pub mod TargetLemmas

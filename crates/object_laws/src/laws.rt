@@ -1,8 +1,18 @@
 //! Laws of the definitions, each proved as the contract of an empty function.
 
-ghost use Rattle.object_laws.specs.Laws.{SymbolsAreListed};
+ghost use Rattle.object_laws.specs.Laws.{AreasAreValid, ContentsAreValid, SymbolsAreListed};
 
 /// Each symbol that a thing in an area is relocated by is one of the source's.
 pub fn symbols_are_listed()
     ensures { SymbolsAreListed }
+{}
+
+/// The areas of an object of statements without faults are valid.
+pub fn areas_are_valid()
+    ensures { AreasAreValid }
+{}
+
+/// And so are their bytes and relocations, where areas and symbols are fewer than 2^24.
+pub fn contents_are_valid()
+    ensures { ContentsAreValid }
 {}
