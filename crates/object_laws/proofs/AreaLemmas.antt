@@ -1,6 +1,6 @@
 -- The areas of an object are valid.
-use Rattle.std.proofs.Common.{◌≡◌, ◌≢◌, ℕ, zero, suc, ◌+◌, ◌%◌, ◌^◌, ◌<◌, ◌≤◌, ◌==◌, List, [], ◌∷◌, ◌++◌, append_assoc, append-nil, length, Bool, true, false, cond, ◌||◌, ◌&&◌, nat_lt, refl, sym, ◌∙◌, ap, subst, arith, Option, Some, None, ◌⊎◌, inl, inr}
-use Rattle.std.specs.Prelude.{Result, Ok, Err, slice_get, map}
+use Rattle.std.proofs.Common.{◌≡◌, ◌≢◌, ℕ, zero, suc, ◌%◌, ◌^◌, ◌≤◌, ◌==◌, List, [], ◌∷◌, ◌++◌, append_assoc, append-nil, length, Bool, true, false, cond, ◌||◌, ◌&&◌, nat_lt, refl, sym, ◌∙◌, ap, subst, arith, Option, Some, None, inl}
+use Rattle.std.specs.Prelude.{Result, Ok, Err, slice_get}
 use Rattle.std.specs.List.{AllByRecursion, list_any}
 use Rattle.std.proofs.lemmas.Bool.{or_parts, ltb-false}
 use Rattle.sdt_word.specs.Numbers.{bit}
@@ -12,7 +12,6 @@ use Rattle.aof_object.specs.declared.records.Object.{Object}
 use Rattle.aof_object.specs.declared.records.Reloc.{Reloc}
 use Rattle.aof_object.specs.Checks.{misplaced}
 use Rattle.aof_object.specs.Names.{Lacks}
-use Rattle.aof_object.specs.Objects.{stored}
 use Rattle.aof_object.specs.Spelling.{area_names}
 use Rattle.aof_object.specs.Validity.{head_of, IsArea}
 use Rattle.asm_model.specs.declared.directives.AreaAttributes.{AreaAttributes}
@@ -29,15 +28,15 @@ use Rattle.asm_model.proofs.WordLemmas.{same_refl}
 use Rattle.layout_model.specs.Before.{area_named, with_name, areas_behind}
 use Rattle.layout_model.specs.Laid.{LaidLine, pieces_of, laid}
 use Rattle.layout_model.specs.LayoutKinds.{kind_if, exponent, exponent_kinds, is_named_otherwise, area_kinds, is_instruction, state_of, first_state, is_thumb_area, settled, equals_in}
-use Rattle.layout_model.specs.Offsets.{is_of, area_size}
+use Rattle.layout_model.specs.Offsets.{is_of}
 use Rattle.layout_laws.proofs.SoundLemmas.{kind_none}
-use Rattle.said_model.specs.Fit.{MarksAgree, WhatFits, IsFit}
+use Rattle.said_model.specs.Fit.{WhatFits, IsFit}
 use Rattle.source_model.specs.Objects.{Source, source_of, Piece, StandsIn, attributes_word, or_two, says_area, attributes_of, HasRelocs, contents_in, contents_of, IsArea as IsAreaOf, IsObject}
 use Rattle.source_laws.specs.Laws.{InArmState}
 use Rattle.source_laws.proofs.ZeroLemmas.{line_kinds, zero_areas_hold_nothing}
 use Rattle.object_laws.specs.Laws.{AreFaultless}
 use Rattle.object_laws.proofs.BitLemmas.{IsExponent, AreIn, zero_flag, area_bits}
-use Rattle.object_laws.proofs.EachLemmas.{each_there, each_at, each_by_place}
+use Rattle.object_laws.proofs.EachLemmas.{each_there, each_by_place}
 use Rattle.object_laws.proofs.FaultLemmas.{layout_here}
 use Rattle.object_laws.proofs.SizeLemmas.{area_small, area_whole}
 
@@ -221,11 +220,11 @@ areas_apart (s ∷ ss) = by_name (area_named s.what) (areas_apart ss)
 pub names_same : (names : List (List ℕ)) (areas : List Area) → length areas ≡ length names
     → ((k : ℕ) (a : Area) → slice_get areas k ≡ Some a → slice_get names k ≡ Some a.name) → area_names areas ≡ names
 names_same [] [] e f = refl
-names_same [] (a ∷ as_) e f = absurd (omega (arith, e))
+names_same [] (a ∷ rest) e f = absurd (omega (arith, e))
 names_same (n ∷ ns) [] e f = absurd (omega (arith, e))
-names_same (n ∷ ns) (a ∷ as_) e f =
+names_same (n ∷ ns) (a ∷ rest) e f =
     let x : n ≡ a.name = let y = f zero a refl in cc in
-    ap (λ z. z ∷ area_names as_) (sym x) ∙ ap (λ z. n ∷ z) (names_same ns as_ (omega (arith, e)) (λ k b. f (suc k) b))
+    ap (λ z. z ∷ area_names rest) (sym x) ∙ ap (λ z. n ∷ z) (names_same ns rest (omega (arith, e)) (λ k b. f (suc k) b))
 
 pub area_names_end : (before : List Area) (a : Area) → area_names (before ++ a ∷ []) ≡ area_names before ++ a.name ∷ []
 area_names_end [] a = refl

@@ -1,7 +1,7 @@
 -- The bits of attributes.
-use Rattle.std.proofs.Common.{◌≡◌, ◌≢◌, ℕ, ◌+◌, ◌*◌, ◌/◌, ◌%◌, ◌^◌, ◌<◌, ◌≤◌, ◌==◌, Bool, true, false, cond, refl, sym, ◌∙◌, ap, subst, arith, ◌⊎◌, inl, inr}
+use Rattle.std.proofs.Common.{◌≡◌, ◌≢◌, ℕ, ◌+◌, ◌*◌, ◌%◌, ◌^◌, ◌<◌, ◌≤◌, ◌==◌, Bool, true, false, cond, refl, sym, ◌∙◌, ap, subst, arith, ◌⊎◌, inl, inr}
 use Rattle.sdt_word.specs.Numbers.{bit, bits, flag}
-use Rattle.aof_object.specs.Checks.{refused_area_bits, is_placed, refused_symbol_bits, named_by}
+use Rattle.aof_object.specs.Checks.{refused_area_bits, is_placed, refused_symbol_bits}
 use Rattle.asm_model.specs.declared.directives.Contents.{Contents}
 use Rattle.asm_model.specs.declared.directives.Contents.TheVariants as contents
 use Rattle.said_model.specs.Fit.{MarksAgree}

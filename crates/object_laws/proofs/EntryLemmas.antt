@@ -1,30 +1,25 @@
 -- The entry of an object is at an instruction's place in its area.
-use Rattle.std.proofs.Common.{◌≡◌, ℕ, ◌%◌, ◌<◌, ◌==◌, List, [], ◌∷◌, ◌++◌, length, Bool, true, false, not, cond, ◌||◌, ◌&&◌, nat_lt, refl, sym, ◌∙◌, ap, subst, Option, Some, None}
-use Rattle.std.specs.Prelude.{Result, Ok, Err, IsSomeAnd}
+use Rattle.std.proofs.Common.{◌≡◌, ℕ, ◌%◌, ◌<◌, ◌==◌, List, [], ◌∷◌, ◌++◌, Bool, true, false, not, cond, ◌||◌, ◌&&◌, nat_lt, refl, sym, ◌∙◌, ap, subst, Option, Some, None}
+use Rattle.std.specs.Prelude.{Ok, IsSomeAnd}
 use Rattle.std.proofs.lemmas.Bool.{or_parts, ltb-true}
-use Rattle.sdt_word.specs.Numbers.{bit}
 use Rattle.sdt_fault.specs.declared.kinds.LineKind.TheVariants.{BadOperand}
-use Rattle.aof_object.specs.declared.areas.AreaHead.{AreaHead}
-use Rattle.aof_object.specs.declared.records.Area.{Area}
 use Rattle.aof_object.specs.declared.records.Entry.{Entry}
 use Rattle.aof_object.specs.declared.records.Object.{Object}
 use Rattle.aof_object.specs.Checks.{left_over}
 use Rattle.aof_object.specs.Validity.{heads, IsEntered}
-use Rattle.asm_model.specs.declared.directives.DirectiveLine.{DirectiveLine}
 use Rattle.asm_model.specs.declared.directives.DirectiveLine.TheVariants as line
 use Rattle.asm_model.specs.declared.statements.Statement.{Statement}
 use Rattle.asm_model.specs.declared.statements.What.{What}
 use Rattle.asm_model.specs.declared.statements.What.TheVariants as what
 use Rattle.asm_model.specs.Directives.{or_else}
 use Rattle.asm_model.proofs.LineLemmas.{both_empty}
-use Rattle.layout_model.specs.Before.{areas_behind}
-use Rattle.layout_model.specs.Extents.{Extent, Block, extent_of}
+use Rattle.layout_model.specs.Extents.{Block, extent_of}
 use Rattle.layout_model.specs.Laid.{LaidLine, taken, pieces_of, laid}
-use Rattle.layout_model.specs.LayoutKinds.{kind_if, is_entry, same_mark, is_thumb_area, entry_kinds, literal_kinds}
+use Rattle.layout_model.specs.LayoutKinds.{is_entry, same_mark, is_thumb_area, entry_kinds, literal_kinds}
 use Rattle.layout_model.specs.Offsets.{end_behind, start_in, area_size}
 use Rattle.layout_model.proofs.OffsetLemmas.{raised_four}
 use Rattle.layout_laws.proofs.SoundLemmas.{kind_none, not_false}
-use Rattle.source_model.specs.Objects.{source_of, in_order, entry_by, entry_of, IsArea, IsObject}
+use Rattle.source_model.specs.Objects.{in_order, entry_by, entry_of, IsObject}
 use Rattle.source_laws.proofs.FaultlessLemmas.{layout_sound}
 use Rattle.source_laws.proofs.LineLemmas.{stands_in}
 use Rattle.source_laws.proofs.ThingLemmas.{seen_extent}

@@ -1,6 +1,6 @@
 -- The bytes and relocations of an object's areas are valid.
-use Rattle.std.proofs.Common.{◌≡◌, ℕ, ◌+◌, ◌*◌, ◌%◌, ◌^◌, ◌<◌, ◌==◌, List, [], ◌∷◌, ◌++◌, length, Bool, true, false, cond, refl, sym, ◌∙◌, ap, subst, arith, Option, Some, None, ◌⊎◌, inl, inr}
-use Rattle.std.specs.Prelude.{Result, Ok, Err, slice_get, map}
+use Rattle.std.proofs.Common.{◌≡◌, ℕ, ◌+◌, ◌*◌, ◌^◌, ◌<◌, ◌==◌, List, [], ◌∷◌, ◌++◌, length, cond, refl, sym, ◌∙◌, ap, subst, arith, Option, Some, None, ◌⊎◌, inl, inr}
+use Rattle.std.specs.Prelude.{Result, Ok, Err, map}
 use Rattle.std.specs.List.{AllByRecursion}
 use Rattle.sdt_word.specs.Numbers.{bit}
 use Rattle.sdt_fault.specs.declared.kinds.LineKind.{LineKind}
@@ -12,7 +12,6 @@ use Rattle.aof_object.specs.Objects.{stored as stored_size}
 use Rattle.aof_object.specs.Validity.{IsReloc, Holds}
 use Rattle.asm_model.specs.declared.directives.Contents.{Contents}
 use Rattle.asm_model.specs.declared.directives.Contents.TheVariants as contents
-use Rattle.asm_model.specs.declared.directives.DirectiveLine.{DirectiveLine}
 use Rattle.asm_model.specs.declared.directives.DirectiveLine.TheVariants as line
 use Rattle.asm_model.specs.declared.exprs.Expr.{Expr}
 use Rattle.asm_model.specs.declared.names.LaidName.{LaidName}
@@ -25,17 +24,18 @@ use Rattle.asm_model.specs.AtLine.{SourceLine, Sight, all_names}
 use Rattle.asm_model.specs.Directives.{or_else}
 use Rattle.asm_model.specs.Meaning.{named_in, in_area, entry_stands_at, stands_at}
 use Rattle.asm_model.specs.Says.{on_both, mapped}
-use Rattle.layout_model.specs.Before.{areas_behind, place_of}
+use Rattle.layout_model.specs.Before.{areas_behind}
 use Rattle.layout_model.specs.Extents.{value_there}
-use Rattle.layout_model.specs.Laid.{LaidLine, taken, laid, all_locals, final_names}
+use Rattle.layout_model.specs.Laid.{LaidLine, taken, laid}
 use Rattle.layout_model.specs.Marks.{datum_names}
-use Rattle.layout_model.specs.Symbols.{symbols_of, symbols_behind, literal_value}
+use Rattle.layout_model.specs.Symbols.{symbols_of, literal_value}
 use Rattle.layout_laws.specs.Sound.{IsSound, HaveNoPlaces, ArePlain}
 use Rattle.layout_laws.proofs.RoundLemmas.{ResultIs, named_joined}
 use Rattle.said_model.specs.Fit.{AllPlaceless, WhatFits, IsFit}
+use Rattle.said_model.specs.Said.{HoldsNoZero}
 use Rattle.source_model.specs.ArmForms.{arm_instruction}
 use Rattle.source_model.specs.Contexts.{Context, sees, value_of, number_in, and_then}
-use Rattle.source_model.specs.Objects.{Piece, unit_bytes, units_from, or_none, Source, source_of, IsAmong, StandsIn, symbol_number, word_relocs, branch_relocs, relocs_of, IsRelocOf, HasRelocs, contents_of, symbol_named, symbol_records, is_kept, KeepsBytes, IsArea, IsObject}
+use Rattle.source_model.specs.Objects.{Piece, unit_bytes, units_from, or_none, source_of, IsAmong, StandsIn, symbol_number, word_relocs, branch_relocs, relocs_of, IsRelocOf, HasRelocs, contents_of, symbol_named, symbol_records, is_kept, KeepsBytes, IsArea, IsObject}
 use Rattle.source_model.specs.PseudoForms.{pseudo_instructions}
 use Rattle.source_model.specs.Units.{Emitted, Bytes, Word, Instruction, Stored, Target, Nothing, ByArea, BySymbol, placed, stored, word_units, narrow, half_units, byte_operand, byte_units, branch_symbol, instruction_units, units}
 use Rattle.source_laws.specs.Laws.{word_among, context_behind}
@@ -44,8 +44,8 @@ use Rattle.source_laws.proofs.FaultlessLemmas.{layout_sound, said_plain}
 use Rattle.source_laws.proofs.ThingLemmas.{among_either, is_word, own_units, own_words}
 use Rattle.source_laws.proofs.ZeroLemmas.{place_below}
 use Rattle.object_laws.specs.Laws.{IsListed, OptionListed, TargetListed, UnitListed, AreFaultless}
-use Rattle.object_laws.proofs.AreaLemmas.{AreaFacts, area_facts}
-use Rattle.object_laws.proofs.BitLemmas.{AreIn, zero_flag, by_area, by_symbol, by_branch}
+use Rattle.object_laws.proofs.AreaLemmas.{area_facts}
+use Rattle.object_laws.proofs.BitLemmas.{zero_flag, by_area, by_symbol, by_branch}
 use Rattle.object_laws.proofs.EachLemmas.{IsBelow, each_there, each_at, each_by_place, areas_text, line_below, name_shown}
 use Rattle.object_laws.proofs.OriginLemmas.{IsOwn, value_own, literal_own}
 use Rattle.object_laws.proofs.TargetLemmas.{symbols_are_listed}
@@ -309,7 +309,7 @@ pub area_holds : (ss : List Statement) → AreFaultless ss → (areas symbols : 
 area_holds ss h areas symbols few area a x =
     let f = area_facts ss h area a x in
     record {
-      name = each_at (λ n. AllByRecursion (λ b. b ≡ 0 → ⊥) n) (areas_behind ss) area a.name (areas_text ss h.texts) x.name;
+      name = each_at HoldsNoZero (areas_behind ss) area a.name (areas_text ss h.texts) x.name;
       bytes = bytes_valid ss area a f.kind x f.contents f.bits.zero;
       relocs = relocs_valid ss h areas symbols few area a.relocs x.relocs;
     }

@@ -1,8 +1,7 @@
 -- An area of a source without faults is at most 2^24 bytes long, and whole words.
-use Rattle.std.proofs.Common.{◌≡◌, ℕ, suc, ◌+◌, ◌*◌, ◌-◌, ◌%◌, ◌^◌, ◌≤◌, List, [], ◌∷◌, ◌++◌, append_assoc, length, Bool, true, false, cond, ◌&&◌, ◌||◌, nat_lt, refl, sym, ◌∙◌, ap, subst, arith, Option, Some, None, ◌⊎◌, inl, inr}
+use Rattle.std.proofs.Common.{◌≡◌, ℕ, suc, ◌+◌, ◌*◌, ◌-◌, ◌%◌, ◌^◌, ◌≤◌, List, [], ◌∷◌, ◌++◌, append_assoc, length, Bool, true, false, cond, ◌&&◌, nat_lt, refl, sym, ◌∙◌, ap, subst, arith, Option, Some, None, ◌⊎◌, inl, inr}
 use Rattle.std.specs.List.{list_any}
 use Rattle.std.proofs.lemmas.Bool.{cond-true, cond-false, or_parts, or_from, ltb-false}
-use Rattle.sdt_fault.specs.declared.kinds.LineKind.{LineKind}
 use Rattle.sdt_fault.specs.declared.kinds.LineKind.TheVariants.{TooMany}
 use Rattle.asm_model.specs.declared.statements.Statement.{Statement}
 use Rattle.asm_model.specs.declared.values.Value.{Value}
@@ -12,7 +11,7 @@ use Rattle.layout_model.specs.Labels.{defined_by}
 use Rattle.layout_model.specs.Laid.{LaidLine, statements_of, taken, pieces_of, laid}
 use Rattle.layout_model.specs.LayoutKinds.{fault_kinds, kind_if, map_kinds, no_area_kinds, contents_kinds, contents_behind, area_kinds, name_kinds, settled_kinds, settled, equals_in, layout_kinds, entry_kinds, literal_kinds, area_bytes}
 use Rattle.layout_model.specs.OffsetLaws.{joined, IsLiteral}
-use Rattle.layout_model.specs.Offsets.{Piece, is_of, same_literal, noted, waiting_behind, waiting, start_from, end_from, end_behind, start_in, area_size, place_among, word_behind, is_pool, is_pool_of, literal_word}
+use Rattle.layout_model.specs.Offsets.{Piece, is_of, same_literal, waiting_behind, waiting, start_from, end_from, end_behind, area_size, place_among, word_behind, is_pool, is_pool_of, literal_word}
 use Rattle.layout_model.proofs.OffsetLemmas.{same_itself, raised_four}
 use Rattle.layout_laws.proofs.SoundLemmas.{kind_none}
 use Rattle.source_model.specs.Objects.{in_order}

@@ -1,13 +1,11 @@
 -- The symbols of an object are valid.
-use Rattle.std.proofs.Common.{◌≡◌, ◌≢◌, ℕ, zero, suc, ◌+◌, ◌*◌, ◌%◌, ◌^◌, ◌<◌, ◌≤◌, List, [], ◌∷◌, ◌++◌, append_assoc, length, Bool, true, false, cond, ◌||◌, ◌&&◌, nat_le, refl, sym, ◌∙◌, ap, subst, arith, Option, Some, None, ◌⊎◌, inl, inr}
+use Rattle.std.proofs.Common.{◌≡◌, ◌≢◌, ℕ, zero, suc, ◌+◌, ◌%◌, ◌^◌, ◌<◌, ◌≤◌, List, [], ◌∷◌, ◌++◌, append_assoc, length, Bool, true, false, cond, ◌||◌, ◌&&◌, refl, sym, ◌∙◌, ap, subst, arith, Option, Some, None, ◌⊎◌, inl, inr}
 use Rattle.std.specs.Prelude.{Result, Ok, Err, slice_get, map, IsSomeAnd}
 use Rattle.std.specs.List.{AllByRecursion, list_any}
-use Rattle.std.proofs.lemmas.Bool.{or_parts, leb-true}
-use Rattle.sdt_word.specs.Numbers.{flag}
+use Rattle.std.proofs.lemmas.Bool.{leb-true}
 use Rattle.sdt_fault.specs.declared.kinds.LineKind.{LineKind}
 use Rattle.sdt_fault.specs.declared.kinds.LineKind.TheVariants.{BadOperand, WrongType}
 use Rattle.chunk_file.specs.Reading.{EachStands}
-use Rattle.aof_object.specs.declared.areas.AreaHead.{AreaHead}
 use Rattle.aof_object.specs.declared.records.Area.{Area}
 use Rattle.aof_object.specs.declared.records.Object.{Object}
 use Rattle.aof_object.specs.declared.records.Symbol.{Symbol}
@@ -39,14 +37,13 @@ use Rattle.layout_model.specs.Laid.{Declared, declared, LaidLine, statements_of,
 use Rattle.layout_model.specs.LayoutKinds.{listed}
 use Rattle.layout_model.specs.Marks.{datum_names}
 use Rattle.layout_model.specs.Symbols.{literal_value, unless_placed, word_symbols, words_symbols, branch_symbols, literal_symbols, symbols_in, listed_behind, symbols_behind, symbols_of}
-use Rattle.layout_laws.specs.Sound.{IsSound, ArePlain}
 use Rattle.layout_laws.proofs.FoundLemmas.{labels_stand, imports_stand}
 use Rattle.layout_laws.proofs.RoundLemmas.{ResultIs, named_joined}
 use Rattle.said_model.specs.Fit.{AllPlaceless, WhatFits, IsFit}
 use Rattle.said_model.specs.Said.{what_names, HoldsNoZero, HasTexts}
 use Rattle.source_model.specs.ArmForms.{is_settled, has_symbol, branch_from, branch_displacement, branch_field, arm_instruction}
 use Rattle.source_model.specs.Contexts.{Context, sees, value_of, and_then}
-use Rattle.source_model.specs.Objects.{Source, source_of, is_exported as is_exported_name, is_weak, scope, contents_of, holds_code, marks_of, symbol_placed, in_no_line, symbol_valued, symbol_named, symbol_records, IsObject}
+use Rattle.source_model.specs.Objects.{Source, source_of, is_exported as is_exported_name, is_weak, scope, contents_of, holds_code, symbol_placed, in_no_line, symbol_valued, symbol_named, IsObject}
 use Rattle.source_model.specs.SourceFaults.{label_of, symbol_names}
 use Rattle.source_model.specs.Units.{Emitted, Instruction, branch_symbol, units}
 use Rattle.source_model.specs.ValueKinds.{lies_within, kinds_unless, export_kinds, statement_kinds}
@@ -54,7 +51,7 @@ use Rattle.source_laws.specs.Laws.{word_among, context_behind}
 use Rattle.source_laws.proofs.FaultlessLemmas.{layout_sound, said_plain}
 use Rattle.source_laws.proofs.LineLemmas.{statements_lie_in_areas}
 use Rattle.object_laws.specs.Laws.{IsListed, AreFaultless}
-use Rattle.object_laws.proofs.AreaLemmas.{AreApart, apart_with, areas_apart}
+use Rattle.object_laws.proofs.AreaLemmas.{AreApart, apart_with}
 use Rattle.object_laws.proofs.BitLemmas.{IsAllowed, reference_allowed, placed_allowed, absolute_allowed}
 use Rattle.object_laws.proofs.EachLemmas.{DefinedText, OptionText, each_joined, each_there, defined_text, names_text, import_text, line_below, name_shown}
 use Rattle.object_laws.proofs.FaultLemmas.{sizes_of, line_valued}

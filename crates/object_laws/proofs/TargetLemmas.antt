@@ -1,5 +1,5 @@
 -- The symbols that relocations name are listed.
-use Rattle.std.proofs.Common.{◌≡◌, ℕ, ◌+◌, List, [], ◌∷◌, ◌++◌, length, Bool, true, false, cond, ◌||◌, ◌&&◌, refl, sym, ◌∙◌, subst, Option, Some, None, ◌⊎◌, inl, inr}
+use Rattle.std.proofs.Common.{◌≡◌, ℕ, ◌+◌, List, [], ◌∷◌, ◌++◌, length, Bool, true, false, cond, ◌||◌, refl, sym, ◌∙◌, subst, Option, Some, None, ◌⊎◌, inl, inr}
 use Rattle.std.specs.Prelude.{Result, Ok, Err}
 use Rattle.std.specs.List.{AllByRecursion, list_any}
 use Rattle.std.proofs.lemmas.Bool.{or_left, or_right}
@@ -26,7 +26,7 @@ use Rattle.asm_model.specs.Meaning.{stands_at, in_area}
 use Rattle.asm_model.specs.Says.{on_both, mapped}
 use Rattle.asm_model.proofs.WordLemmas.{same_refl, same_true}
 use Rattle.layout_model.specs.Before.{with_name}
-use Rattle.layout_model.specs.Extents.{Extent, Block, Padding, Loading, Pool, number_there, value_there, as_multiple, padding, thumb_extent, extent_of}
+use Rattle.layout_model.specs.Extents.{Extent, Block, Padding, Loading, number_there, value_there, as_multiple, padding, thumb_extent, extent_of}
 use Rattle.layout_model.specs.Laid.{LaidLine, taken, laid, all_locals, final_line, final_names}
 use Rattle.layout_model.specs.Locals.{Local}
 use Rattle.layout_model.specs.Marks.{datum_names}
