@@ -33,10 +33,11 @@ use Rattle.asm_arm.specs.Lines.{hash, equals, bracket, data_line, absent, ReadsD
 use Rattle.asm_arm.specs.Lists as lists
 use Rattle.asm_arm.specs.Operands.{Cuts, none, one, two, three, four, more, cut, both, followed, without_first, no_register, register}
 use Rattle.asm_arm.specs.Words.{shape_of}
-use Rattle.said_model.specs.Said.{IsRead, RegisterSaid, OperationSaid, HalfSaid, HalfOffsetSaid, ArmSaid, PseudoSaid}
+use Rattle.said_model.specs.Said.{IsRead, RegisterSaid, OperationSaid, HalfSaid, HalfOffsetSaid, ArmSaid, PseudoSaid, LoadsBare}
 use Rattle.asm_said.proofs.AddressLemmas.{followed_gives, OffsetSaid, AddressedSaid, PlacedSaid, before_said, after_said, before_as_said, after_as_said, half_offset_said}
+use Rattle.asm_said.proofs.BareLemmas.{IsLoaded, parsed_loaded}
 use Rattle.asm_said.proofs.DirectiveLemmas.{any_gives}
-use Rattle.asm_said.proofs.FormLemmas.{CutsHaveForm, SomeHaveForm, cuts_form, base_form}
+use Rattle.asm_said.proofs.FormLemmas.{CutsHaveForm, SomeHaveForm, cuts_form, without_first_form, base_form}
 use Rattle.asm_said.proofs.GivesLemmas.{Gives, OptionGives, equal_gives, mapped_gives, both_give, cond_gives}
 use Rattle.asm_said.proofs.ListLemmas.{BaseSaid, base_said, PairSaid, ListSaid, register_list_said, FieldsSaid, fields_said}
 use Rattle.asm_said.proofs.OperandLemmas.{parsed_read, expression_gives, register_said, SecondSaid, second_said}
@@ -48,7 +49,7 @@ abbrev pub InstructionSaid : What → Type 0
 InstructionSaid what.Nothing = ⊥
 InstructionSaid (what.Arm l) = ArmSaid l
 InstructionSaid (what.Thumb l) = ⊥
-InstructionSaid (what.Pseudo l) = PseudoSaid l
+InstructionSaid (what.Pseudo l) = PseudoSaid l × LoadsBare (what.Pseudo l)
 InstructionSaid (what.Directive l) = ⊥
 
 abbrev pub Said : Result What LineKind → Type 0
@@ -233,12 +234,13 @@ transferred_said text c l b d a f h =
     both_give RegisterSaid AddressedSaid InstructionSaid (λ rd x. transfer_line c l b rd x) (register text d) a
     (λ rd x p q. moved_said c l b rd x.indexing x.rn x.offset p q.0 q.1) (register_said text d f) h
 
-pub constant_said : (text : List ℕ) (c : Condition) (l : Bool) (d e : List Token) (r : Result What LineKind) → EachHasForm text d → ReadsConstant text c l d e r → Said r
-constant_said text c true d e r f h =
+pub constant_said : (text : List ℕ) (c : Condition) (l : Bool) (d e : List Token) (r : Result What LineKind) → EachHasForm text d → EachHasForm text e
+    → ReadsConstant text c l d e r → Said r
+constant_said text c true d e r f g h =
     equal_gives InstructionSaid r (on_both (λ rd x. what.Pseudo (pseudo.LoadConstant c rd x)) (register text d) h.0) h.2
-    (both_give RegisterSaid IsRead InstructionSaid (λ rd x. what.Pseudo (pseudo.LoadConstant c rd x)) (register text d) h.0 (λ rd x p q. (p, q))
-    (register_said text d f) (parsed_read text e h.0 h.1))
-constant_said text c false d e r f h = fault_said Syntax r h
+    (both_give RegisterSaid IsLoaded InstructionSaid (λ rd x. what.Pseudo (pseudo.LoadConstant c rd x)) (register text d) h.0 (λ rd x p q. ((p, q.0), q.1))
+    (register_said text d f) (parsed_loaded text e h.0 g h.1))
+constant_said text c false d e r f g h = fault_said Syntax r h
 
 pub label_said : (text : List ℕ) (c : Condition) (l w : Bool) (d e : List Token) (r : Result What LineKind) → EachHasForm text d → ReadsLabel text c l w d e r → Said r
 label_said text c l true d e r f h =
@@ -248,16 +250,16 @@ label_said text c l true d e r f h =
 label_said text c l false d e r f h = fault_said Syntax r h
 
 pub other_said : (text : List ℕ) (c : Condition) (l b t : Bool) (d a : List Token) (o : Option (List Token)) (r : Result What LineKind) → EachHasForm text d
-    → ReadsOther text c l b t d a o r → Said r
-other_said text c l b t d a (Some e) r f h = constant_said text c (l && is_plain b t) d e r f h
-other_said text c l b t d a None r f h = label_said text c l (is_plain b t) d a r f h
+    → SomeHaveForm text o → ReadsOther text c l b t d a o r → Said r
+other_said text c l b t d a (Some e) r f g h = constant_said text c (l && is_plain b t) d e r f g h
+other_said text c l b t d a None r f g h = label_said text c l (is_plain b t) d a r f h
 
 pub place_said : (text : List ℕ) (c : Condition) (l b t : Bool) (d a : List Token) (o : Option (List Token)) (r : Result What LineKind) → EachHasForm text d
     → EachHasForm text a → ReadsPlace text c l b t d a o r → Said r
 place_said text c l b t d a (Some e) r f g h =
     equal_gives InstructionSaid r (transferred text c l b d (before_as text t a h.0)) h.2
     (transferred_said text c l b d (before_as text t a h.0) f (before_as_said text t a h.0 (before_said text true a h.0 g h.1)))
-place_said text c l b t d a None r f g h = other_said text c l b t d a (without_first text equals a) r f h
+place_said text c l b t d a None r f g h = other_said text c l b t d a (without_first text equals a) r f (without_first_form text equals a g) h
 
 pub behind_moved_said : (text : List ℕ) (c : Condition) (l b t : Bool) (d a x : List Token) (sh : Option (List Token)) (r : Result What LineKind) → EachHasForm text d
     → EachHasForm text a → EachHasForm text x → SomeHaveForm text sh → ReadsMoved text c l b t d a x sh r → Said r
@@ -324,7 +326,7 @@ pub address_said : (text : List ℕ) (c : Condition) (os : Cuts) (r : Result Wha
 address_said text c none r f h = fault_said Syntax r h
 address_said text c (one d) r f h = fault_said Syntax r h
 address_said text c (two d e) r f h =
-    address_of_said text (λ rd x. what.Pseudo (pseudo.Address c rd x)) (register text d) e r (λ rd x p q. (p, q)) (register_said text d f.0) h
+    address_of_said text (λ rd x. what.Pseudo (pseudo.Address c rd x)) (register text d) e r (λ rd x p q. ((p, q), tt)) (register_said text d f.0) h
 address_said text c (three d x y) r f h = fault_said Syntax r h
 address_said text c (four d x y z) r f h = fault_said Syntax r h
 address_said text c more r f h = fault_said Syntax r h
@@ -333,14 +335,14 @@ pub long_address_said : (text : List ℕ) (c : Condition) (os : Cuts) (r : Resul
 long_address_said text c none r f h = fault_said Syntax r h
 long_address_said text c (one d) r f h = fault_said Syntax r h
 long_address_said text c (two d e) r f h =
-    address_of_said text (λ rd x. what.Pseudo (pseudo.LongAddress c rd x)) (followed (register text d) long_register) e r (λ rd x p q. (p, q))
+    address_of_said text (λ rd x. what.Pseudo (pseudo.LongAddress c rd x)) (followed (register text d) long_register) e r (λ rd x p q. ((p, q), tt))
     (followed_gives RegisterSaid RegisterSaid (register text d) long_register long_register_said (register_said text d f.0)) h
 long_address_said text c (three d x y) r f h = fault_said Syntax r h
 long_address_said text c (four d x y z) r f h = fault_said Syntax r h
 long_address_said text c more r f h = fault_said Syntax r h
 
 pub idle_said : (ts : List Token) → Said (idle ts)
-idle_said [] = tt
+idle_said [] = (tt, tt)
 idle_said (t ∷ ts) = tt
 
 -- ---- all forms

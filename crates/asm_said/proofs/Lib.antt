@@ -1,5 +1,6 @@
 pub mod AddressLemmas
 pub mod ArmLemmas
+pub mod BareLemmas
 pub mod DirectiveLemmas
 pub mod FormLemmas
 pub mod GivesLemmas

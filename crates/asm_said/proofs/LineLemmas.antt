@@ -18,7 +18,7 @@ use Rattle.layout_laws.specs.Said.{IsNoDirective}
 use Rattle.layout_laws.proofs.LineLemmas.{EachHasForm, OptionHasForm, tokens_form, sentence_form, read_directives_are_plain, other_statements_are_plain}
 use Rattle.asm_arm.specs.Says.{statement, alone, SaysWords, SaysOr, SaysScanned, SaysArm}
 use Rattle.asm_arm.specs.Words.{operation_named}
-use Rattle.said_model.specs.Said.{DirectiveSaid, WhatSaid, LocalSaid, IsSaid}
+use Rattle.said_model.specs.Said.{DirectiveSaid, WhatSaid, LoadsBare, LocalSaid, IsSaid}
 use Rattle.asm_said.proofs.ArmLemmas.{InstructionSaid, instruction_said}
 use Rattle.asm_said.proofs.DirectiveLemmas.{form_said, directive_said}
 use Rattle.asm_said.proofs.GivesLemmas.{Gives, OptionGives, equal_gives, mapped_gives, both_give}
@@ -29,7 +29,7 @@ use Rattle.asm_said.proofs.WordLemmas.{operation_said}
 
 -- a statement but for its names
 abbrev pub StatementSaid : Statement → Type 0
-StatementSaid s = LocalSaid (defined_by s) × WhatSaid s.what
+StatementSaid s = LocalSaid (defined_by s) × WhatSaid s.what × LoadsBare s.what
 
 pub says_directive : (flat : Flat) (s : Sentence) (d : Option Directive) (r : Result (Option Statement) LineKind) → OptionHasForm flat.text s.label
     → SaysAs flat s d r → Gives (OptionGives StatementSaid) r
@@ -37,7 +37,7 @@ says_directive flat s None r f h = equal_gives (OptionGives StatementSaid) r (Ok
 says_directive flat s (Some d) r f h =
     let label = label_field (label_need d) flat.text s.label in
     equal_gives (OptionGives StatementSaid) r (on_both (statement_of flat) label h.0) h.2
-    (both_give (OptionGives LabelSaid) DirectiveSaid (OptionGives StatementSaid) (statement_of flat) label h.0 (λ o l p q. (local_said o (what.Directive l) p, q))
+    (both_give (OptionGives LabelSaid) DirectiveSaid (OptionGives StatementSaid) (statement_of flat) label h.0 (λ o l p q. (local_said o (what.Directive l) p, q, tt))
     (field_said (label_need d) flat.text s.label f) (form_said flat.text (form_of_directive d) s.behind h.0 (directive_said d) h.1))
 
 pub sentence_forms : (text : List ℕ) (ts : List Token) → Tokens text ts → OptionHasForm text (sentence ts).label × EachHasForm text (sentence ts).behind
@@ -47,26 +47,26 @@ pub directives_are_said : (flat : Flat) (ts : List Token) (s : Statement) → To
 directives_are_said flat ts s tokens h =
     let said = says_directive flat (sentence ts) (directive_of flat.text (sentence ts).operation) (Ok (Some s)) (sentence_forms flat.text ts tokens).0 h in
     let names = read_directives_are_plain flat ts s tokens h in
-    record { local = said.0; named = names.0; imported = names.1; read = said.1 }
+    record { local = said.0; named = names.0; imported = names.1; read = said.1; loaded = said.2 }
 
 -- ---- instructions
 
 -- a statement that is no directive
 abbrev pub OtherSaid : Statement → Type 0
-OtherSaid s = LocalSaid (defined_by s) × IsNoDirective s.what × WhatSaid s.what
+OtherSaid s = LocalSaid (defined_by s) × IsNoDirective s.what × WhatSaid s.what × LoadsBare s.what
 
 pub instruction_other : (flat : Flat) (o : Option (List ℕ)) (w : What) → OptionGives LabelSaid o → InstructionSaid w → OptionGives OtherSaid (statement flat o w)
 instruction_other flat o what.Nothing h k = absurd k
-instruction_other flat o (what.Arm l) h k = (local_said o (what.Arm l) h, tt, k)
+instruction_other flat o (what.Arm l) h k = (local_said o (what.Arm l) h, tt, k, tt)
 instruction_other flat o (what.Thumb l) h k = absurd k
-instruction_other flat o (what.Pseudo l) h k = (local_said o (what.Pseudo l) h, tt, k)
+instruction_other flat o (what.Pseudo l) h k = (local_said o (what.Pseudo l) h, tt, k.0, k.1)
 instruction_other flat o (what.Directive l) h k = absurd k
 
 pub says_alone : (flat : Flat) (label : Option Token) → OptionHasForm flat.text label → Gives (OptionGives OtherSaid) (alone flat label)
 says_alone flat None f = tt
 says_alone flat (Some t) f =
     mapped_gives (OptionGives LabelSaid) (OptionGives OtherSaid) (λ o. statement flat o what.Nothing) (label_field need.Optional flat.text (Some t))
-    (λ o p. (local_said o what.Nothing p, tt, tt)) (field_said need.Optional flat.text (Some t) f)
+    (λ o p. (local_said o what.Nothing p, tt, tt, tt)) (field_said need.Optional flat.text (Some t) f)
 
 pub says_words : (flat : Flat) (label o : Option Token) (ts : List Token) (r : Result (Option Statement) LineKind) → OptionHasForm flat.text label
     → EachHasForm flat.text ts → SaysWords flat label o ts r → Gives (OptionGives OtherSaid) r
@@ -86,7 +86,7 @@ says_or flat ts (Ok None) s tokens says h =
     let forms = sentence_forms flat.text ts tokens in
     let said = says_words flat (sentence ts).label (sentence ts).operation (sentence ts).behind (Ok (Some s)) forms.0 forms.1 h in
     let names = other_statements_are_plain s said.1 in
-    record { local = said.0; named = names.0; imported = names.1; read = said.2 }
+    record { local = said.0; named = names.0; imported = names.1; read = said.2; loaded = said.3 }
 says_or flat ts (Ok (Some m)) s tokens says h = directives_are_said flat ts s tokens (subst (SaysDirective flat ts) (sym h) says)
 says_or flat ts (Err k) s tokens says h = absurd (cc)
 

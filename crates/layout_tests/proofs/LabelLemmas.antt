@@ -13,4 +13,5 @@ labelled_said source label text w e h = record {
   named = subst (λ q. IsPlainDefined (what_defines q w)) (sym e) h.named;
   imported = h.imported;
   read = h.read;
+  loaded = h.loaded;
 }

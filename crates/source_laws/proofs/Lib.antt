@@ -1,9 +1,13 @@
 pub mod AgreeLemmas
 pub mod BareLemmas
+pub mod FaultlessLemmas
 pub mod LineLemmas
 pub mod ListLemmas
+pub mod ListedLemmas
 pub mod LoadLemmas
+pub mod ObjectLemmas
 pub mod SizeLemmas
 pub mod ThingLemmas
 pub mod UnitLemmas
 pub mod WordLemmas
+pub mod ZeroLemmas

@@ -1,9 +1,12 @@
 -- What statements put into their areas stands apart: what a statement puts there is no longer than what it takes up, the
 -- statements of an area follow each other, and the words of literals lie in pools, where no statement puts anything
--- itself. Lines are listed with the last first. This project's.
-use Rattle.std.specs.Prelude.{◌≡◌, ◌⊎◌, ℕ, ◌+◌, ◌%◌, ◌≤◌, List, [], ◌∷◌, ◌++◌, length, Bool, true, false, Option, Some, Result, Ok}
+-- itself. What stands in an area is listed, and so a source makes one object at most. Lines are listed with the last first.
+-- This project's.
+use Rattle.std.specs.Prelude.{◌≡◌, ◌⊎◌, ℕ, ◌+◌, ◌%◌, ◌≤◌, List, [], ◌∷◌, ◌++◌, length, Bool, true, false, if◌then◌else◌, Option, Some, None, Result, Ok}
 use Rattle.std.specs.List.{list_any}
 use Rattle.sdt_fault.specs.declared.kinds.LineKind.{LineKind}
+use Rattle.aof_object.specs.declared.records.Object.{Object}
+use Rattle.asm_model.specs.declared.directives.Contents.TheVariants as contents
 use Rattle.asm_model.specs.declared.directives.DirectiveLine.{DirectiveLine}
 use Rattle.asm_model.specs.declared.directives.DirectiveLine.TheVariants as line
 use Rattle.asm_model.specs.declared.statements.Statement.{Statement}
@@ -15,13 +18,13 @@ use Rattle.asm_model.specs.AtLine.{Sight}
 use Rattle.layout_model.specs.Extents.{Extent, Loading, Pool, extent_of}
 use Rattle.layout_model.specs.Laid.{LaidLine, taken, pieces_of, laid, all_locals, final_names}
 use Rattle.layout_model.specs.Marks.{datum_names}
-use Rattle.layout_model.specs.Offsets.{size_of, area_size, is_pool, is_pool_of}
+use Rattle.layout_model.specs.Offsets.{size_of, area_size, is_of, is_pool, is_pool_of}
 use Rattle.layout_model.specs.Symbols.{literal_value}
 use Rattle.layout_laws.specs.Sound.{IsSound, IsBare, ArePlain}
-use Rattle.said_model.specs.Said.{LoadsBare}
+use Rattle.said_model.specs.Said.{LoadsBare, AllSaid}
 use Rattle.source_model.specs.Contexts.{Context, sees}
-use Rattle.source_model.specs.Objects.{Piece, unit_bytes, units_bytes, units_from, source_of, in_order, StandsIn}
-use Rattle.source_model.specs.SourceFaults.{context_of, word_of}
+use Rattle.source_model.specs.Objects.{Piece, unit_bytes, units_bytes, units_from, pieces_in, Source, source_of, in_order, IsAmong, StandsIn, contents_of, IsObject}
+use Rattle.source_model.specs.SourceFaults.{layout_faults, context_of, word_of}
 use Rattle.source_model.specs.Units.{Emitted, Stored, stored, units}
 
 -- ---- sizes
@@ -195,3 +198,73 @@ AllLoadBare (s ∷ before) = LoadsBare s.what × AllLoadBare before
 
 abbrev pub LoadedLiteralsAreBare : Type 0
 LoadedLiteralsAreBare = (statements : List Statement) → ArePlain statements → AllLoadBare statements → LiteralsAreBare statements
+
+-- ---- what stands in an area, as a list
+
+-- what a line puts into the area, where these lines stand before it, the nearest first, and these behind it, in their order
+abbrev pub things_of : List Statement → ℕ → LaidLine → List LaidLine → List LaidLine → List Piece
+things_of statements area l before rest =
+    if is_of area l.area then
+    pieces_in (context_behind statements l before) (datum_names statements) l (word_of l.area (taken l.extent) (pieces_of (l ∷ before)) (pieces_of rest))
+    else []
+
+-- what lines put into the area, in the order of the source, where these stand behind them
+abbrev pub things_behind : List Statement → ℕ → List LaidLine → List LaidLine → List Piece
+things_behind statements area [] rest = []
+things_behind statements area (l ∷ before) rest = things_behind statements area before (l ∷ rest) ++ things_of statements area l before rest
+
+abbrev pub things_in : Source → ℕ → List Piece
+things_in s area = things_behind s.statements area s.lines []
+
+-- the things that stand in an area are those of the list
+abbrev pub ThingsAreListed : Type 0
+ThingsAreListed =
+    (statements : List Statement) (area : ℕ) (p : Piece)
+    → (StandsIn (source_of statements) area p → IsAmong p (things_in (source_of statements) area))
+    × (IsAmong p (things_in (source_of statements) area) → StandsIn (source_of statements) area p)
+
+-- ---- sources without faults, as lines say them
+
+abbrev pub SaidLoadsAreBare : Type 0
+SaidLoadsAreBare = (statements : List Statement) → AllSaid statements → AllLoadBare statements
+
+-- where laying out finds no fault, no line has one of its own
+abbrev pub FaultlessLayoutsAreSound : Type 0
+FaultlessLayoutsAreSound =
+    (statements : List Statement) → AllSaid statements → layout_faults statements ≡ None → IsSound statements × ArePlain statements
+
+abbrev pub IsNoCode16 : What → Type 0
+IsNoCode16 (what.Directive line.Code16) = ⊥
+IsNoCode16 _ = Unit {0}
+
+-- no statement is CODE16
+abbrev pub NoCode16 : List Statement → Type 0
+NoCode16 [] = Unit {0}
+NoCode16 (s ∷ before) = IsNoCode16 s.what × NoCode16 before
+
+abbrev pub SourcesStayInArmState : Type 0
+SourcesStayInArmState = (statements : List Statement) → NoCode16 statements → InArmState statements
+
+abbrev pub SourcesStandApart : Type 0
+SourcesStandApart =
+    (statements : List Statement) → AllSaid statements → layout_faults statements ≡ None → InArmState statements
+    → (area : ℕ) (p q : Piece) → StandsIn (source_of statements) area p → StandsIn (source_of statements) area q
+    → (p ≡ q) ⊎ StandApart p q
+
+abbrev pub SourcesLieInAreas : Type 0
+SourcesLieInAreas =
+    (statements : List Statement) → layout_faults statements ≡ None → InArmState statements
+    → (area : ℕ) (p : Piece) → StandsIn (source_of statements) area p
+    → p.0 + length (unit_bytes p.1) ≤ area_size area (pieces_of (laid statements))
+
+-- in an area of zeros nothing stands
+abbrev pub ZeroAreasHoldNothing : Type 0
+ZeroAreasHoldNothing =
+    (statements : List Statement) → layout_faults statements ≡ None
+    → (area : ℕ) (p : Piece) → contents_of area (laid statements) ≡ Some contents.Zeroes → StandsIn (source_of statements) area p → ⊥
+
+-- ---- objects
+
+-- statements make one object at most
+abbrev pub OneObject : Type 0
+OneObject = (statements : List Statement) (o p : Object) → IsObject statements o → IsObject statements p → o ≡ p

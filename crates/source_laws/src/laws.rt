@@ -1,6 +1,6 @@
 //! Laws of the definitions, each proved as the contract of an empty function.
 
-ghost use Rattle.source_laws.specs.Laws.{LiteralsShareWords, LiteralsStandApart, LiteralWordsAgree, LoadedLiteralsAreBare, OtherUnitsAreNone, PoolsPutNothing, StatementsLieInAreas, StatementsStandApart, ThingsLieInAreas, ThingsStandApart, UnitsFill, UnitsFit, UnitsLieInside, UnitsStandApart, WordsLieInAreas, WordsMeetNoStatement};
+ghost use Rattle.source_laws.specs.Laws.{FaultlessLayoutsAreSound, LiteralsShareWords, LiteralsStandApart, LiteralWordsAgree, LoadedLiteralsAreBare, OneObject, OtherUnitsAreNone, PoolsPutNothing, SaidLoadsAreBare, SourcesLieInAreas, SourcesStandApart, SourcesStayInArmState, StatementsLieInAreas, StatementsStandApart, ThingsAreListed, ThingsLieInAreas, ThingsStandApart, UnitsFill, UnitsFit, UnitsLieInside, UnitsStandApart, WordsLieInAreas, WordsMeetNoStatement, ZeroAreasHoldNothing};
 
 /// What a statement puts into its area is no longer than what it takes up.
 pub fn units_fit()
@@ -80,4 +80,44 @@ pub fn literal_words_agree()
 /// What statements load has symbols that begin with no bar, where their names do.
 pub fn loaded_literals_are_bare()
     ensures { LoadedLiteralsAreBare }
+{}
+
+/// The things that stand in an area are those of a list.
+pub fn things_are_listed()
+    ensures { ThingsAreListed }
+{}
+
+/// What statements load as lines say them has names that begin with no bar.
+pub fn said_loads_are_bare()
+    ensures { SaidLoadsAreBare }
+{}
+
+/// Where laying out finds no fault, no line has one of its own.
+pub fn faultless_layouts_are_sound()
+    ensures { FaultlessLayoutsAreSound }
+{}
+
+/// A source without CODE16 is one of ARM state.
+pub fn sources_stay_in_arm_state()
+    ensures { SourcesStayInArmState }
+{}
+
+/// Two things that stand in an area of a source without faults are the same or don't meet.
+pub fn sources_stand_apart()
+    ensures { SourcesStandApart }
+{}
+
+/// What stands in an area of a source without faults lies inside it.
+pub fn sources_lie_in_areas()
+    ensures { SourcesLieInAreas }
+{}
+
+/// Nothing stands in an area of zeros.
+pub fn zero_areas_hold_nothing()
+    ensures { ZeroAreasHoldNothing }
+{}
+
+/// Statements make one object at most.
+pub fn one_object()
+    ensures { OneObject }
 {}

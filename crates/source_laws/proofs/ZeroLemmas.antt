@@ -1,0 +1,442 @@
+-- The contents of an area are those of each line that names it; among zeros no statement puts anything there.
+use Rattle.std.proofs.Common.{◌≡◌, ℕ, suc, ◌+◌, ◌<◌, ◌≤◌, List, [], ◌∷◌, ◌++◌, length, Bool, true, false, not, cond, refl, sym, ◌∙◌, ap, subst, arith, Option, Some, None, ◌⊎◌, inl, inr, ◌||◌, ◌&&◌, nat_lt}
+use Rattle.std.specs.Prelude.{Result, Ok, Err}
+use Rattle.std.specs.List.{list_any}
+use Rattle.std.proofs.lemmas.Bool.{cond-true, cond-false, eq-eqb, or_parts}
+use Rattle.sdt_fault.specs.declared.kinds.LineKind.{LineKind}
+use Rattle.sdt_fault.specs.declared.kinds.LineKind.TheVariants.{BadOperand, TooMany}
+use Rattle.asm_model.specs.declared.directives.AreaAttributes.{AreaAttributes}
+use Rattle.asm_model.specs.declared.directives.Boundary.{Boundary}
+use Rattle.asm_model.specs.declared.directives.Boundary.TheVariants as limit
+use Rattle.asm_model.specs.declared.directives.Contents.{Contents}
+use Rattle.asm_model.specs.declared.directives.Contents.TheVariants as contents
+use Rattle.asm_model.specs.declared.directives.DirectiveLine.TheVariants as line
+use Rattle.asm_model.specs.declared.statements.Statement.{Statement}
+use Rattle.asm_model.specs.declared.statements.What.{What}
+use Rattle.asm_model.specs.declared.statements.What.TheVariants as what
+use Rattle.asm_model.specs.AtLine.{Sight}
+use Rattle.asm_model.specs.Directives.{or_else}
+use Rattle.asm_model.specs.Forms.{same}
+use Rattle.asm_model.specs.Kinds.{told_kind}
+use Rattle.asm_model.specs.Says.{on_both, mapped}
+use Rattle.asm_model.proofs.LineLemmas.{both_empty}
+use Rattle.asm_model.proofs.WordLemmas.{same_refl, same_true}
+use Rattle.layout_model.specs.Before.{area_named, with_name, areas_behind, place_of, area_from, area_behind}
+use Rattle.layout_model.specs.Extents.{Extent, Block, Padding, Loading, Pool, number_there, as_multiple, padding, extent_of}
+use Rattle.layout_model.specs.Labels.{defined_by}
+use Rattle.layout_model.specs.Laid.{Declared, declared, LaidLine, statements_of, taken, laid_of, laid}
+use Rattle.layout_model.specs.LayoutKinds.{fault_kinds, kind_if, map_kinds, no_area_kinds, is_zero_statement, contents_kinds, contents_from, contents_behind, exponent, exponent_kinds, same_contents, same_mark, same_exponent, same_attributes, again_with, is_named_otherwise, area_kinds, name_kinds, equals_in, settled, settled_kinds, layout_kinds, told_at, first_fault, area_bytes}
+use Rattle.layout_model.specs.Marks.{datum_names}
+use Rattle.layout_model.specs.Offsets.{is_of}
+use Rattle.layout_model.proofs.OffsetLemmas.{is_here}
+use Rattle.layout_laws.proofs.SoundLemmas.{or_none, told_none, kind_none, not_false}
+use Rattle.source_model.specs.Contexts.{Context}
+use Rattle.source_model.specs.Objects.{Piece, units_from, or_none as units_or_none, literal_piece, source_of, IsAmong, StandsIn, contents_in, contents_of}
+use Rattle.source_model.specs.SourceFaults.{layout_faults}
+use Rattle.source_model.specs.Units.{units}
+use Rattle.source_laws.specs.Laws.{word_among, context_behind}
+use Rattle.source_laws.proofs.FaultlessLemmas.{layout_sound}
+use Rattle.source_laws.proofs.ListedLemmas.{owned}
+use Rattle.source_laws.proofs.ThingLemmas.{among_either, own_units, own_words, seen_extent}
+
+-- ---- places of names
+
+pub or_right : (a b : Bool) → a ≡ false → (a || b) ≡ true → b ≡ true
+or_right true b h k = absurd (cc)
+or_right false b h k = k
+
+pub any_right : (n : List ℕ) (xs ys : List (List ℕ)) → list_any (same n) xs ≡ false → list_any (same n) (xs ++ ys) ≡ true → list_any (same n) ys ≡ true
+any_right n [] ys h k = k
+any_right n (x ∷ xs) ys h k =
+    let p = or_parts (same n x) (list_any (same n) xs) h in
+    any_right n xs ys p.1 (or_right (same n x) (list_any (same n) (xs ++ ys)) p.0 k)
+
+pub place_old : (n m : List ℕ) (xs : List (List ℕ)) → list_any (same n) xs ≡ true → place_of n (xs ++ m ∷ []) ≡ place_of n xs
+place_old n m [] h = absurd (cc)
+place_old n m (x ∷ xs) h = by_test (same n x) (place_old n m xs) h
+  where
+    by_test : (b : Bool) → (list_any (same n) xs ≡ true → place_of n (xs ++ m ∷ []) ≡ place_of n xs) → (b || list_any (same n) xs) ≡ true
+        → cond b 0 (place_of n (xs ++ m ∷ []) + 1) ≡ cond b 0 (place_of n xs + 1)
+    by_test true f k = refl
+    by_test false f k = ap (λ z. z + 1) (f k)
+
+pub place_new : (n : List ℕ) (xs : List (List ℕ)) → list_any (same n) xs ≡ false → place_of n (xs ++ n ∷ []) ≡ length xs
+place_new n [] h = cond-true (same n n) 0 1 (same_refl n)
+place_new n (x ∷ xs) h =
+    let p = or_parts (same n x) (list_any (same n) xs) h in
+    let k = place_new n xs p.1 in
+    cond-false (same n x) 0 (place_of n (xs ++ n ∷ []) + 1) p.0 ∙ omega (arith, k)
+
+pub place_below : (n : List ℕ) (xs : List (List ℕ)) → list_any (same n) xs ≡ true → place_of n xs < length xs
+place_below n [] h = absurd (cc)
+place_below n (x ∷ xs) h = by_test (same n x) (place_below n xs) h
+  where
+    by_test : (b : Bool) → (list_any (same n) xs ≡ true → place_of n xs < length xs) → (b || list_any (same n) xs) ≡ true
+        → cond b 0 (place_of n xs + 1) < suc (length xs)
+    by_test true f k = omega arith
+    by_test false f k = let p = f k in omega (arith, p)
+
+pub any_last : (n : List ℕ) (xs : List (List ℕ)) → list_any (same n) (xs ++ n ∷ []) ≡ true
+any_last n [] = rw (same_refl n) refl
+any_last n (x ∷ xs) = by_test (same n x) (any_last n xs)
+  where
+    by_test : (b : Bool) → list_any (same n) (xs ++ n ∷ []) ≡ true → (b || list_any (same n) (xs ++ n ∷ [])) ≡ true
+    by_test true k = refl
+    by_test false k = k
+
+pub named_with : (n : List ℕ) (xs : List (List ℕ)) → list_any (same n) (with_name (Some n) xs) ≡ true
+named_with n xs = by_test (list_any (same n) xs) refl
+  where
+    by_test : (b : Bool) → list_any (same n) xs ≡ b → list_any (same n) (cond b xs (xs ++ n ∷ [])) ≡ true
+    by_test true e = e
+    by_test false e = any_last n xs
+
+-- ---- lines with their areas
+
+abbrev pub AreNumbered : List LaidLine → Type 0
+AreNumbered [] = Unit {0}
+AreNumbered (l ∷ before) = (l.area ≡ area_behind (l.statement ∷ statements_of before)) × AreNumbered before
+
+pub laid_numbered : (d : Declared) (ss : List Statement) → AreNumbered (laid_of d ss)
+laid_numbered d [] = tt
+laid_numbered d (s ∷ ss) = (refl, laid_numbered d ss)
+
+pub numbered_rest : (after before : List LaidLine) → AreNumbered (after ++ before) → AreNumbered before
+numbered_rest [] before h = h
+numbered_rest (l ∷ after) before h = numbered_rest after before h.1
+
+pub fine_rest : (S : List (List ℕ)) (after before : List LaidLine) → first_fault S (after ++ before) ≡ None → first_fault S before ≡ None
+fine_rest S [] before h = h
+fine_rest S (l ∷ after) before h =
+    fine_rest S after before (or_none (first_fault S (after ++ before)) (told_at l.statement (told_kind (layout_kinds S l (after ++ before)))) h).0
+
+pub contents_stay : (area : ℕ) (c : Contents) (after before : List LaidLine) → contents_of area before ≡ Some c → contents_of area (after ++ before) ≡ Some c
+contents_stay area c [] before h = h
+contents_stay area c (l ∷ after) before h =
+    ap (λ o. or_else o (contents_in area l l.statement.what)) (contents_stay area c after before h)
+
+abbrev pub names_of : List LaidLine → List (List ℕ)
+names_of lines = areas_behind (statements_of lines)
+
+-- what a line may still say of an area's contents
+pub other_area : (k j : ℕ) (a : AreaAttributes) (o : Option ℕ) → o ≡ Some j → j < k → cond (is_of k o) (Some a.contents) None ≡ None
+other_area k j a o e h = by_test (is_of k o) refl
+  where
+    by_test : (b : Bool) → is_of k o ≡ b → cond b (Some a.contents) None ≡ None
+    by_test true x = let y : j ≡ k = cc (e, owned k o x) in absurd (omega (arith, y))
+    by_test false x = refl
+
+pub none_here : (k : ℕ) (l : LaidLine) (w : What) (xs : List (List ℕ)) (o : Option ℕ) → l.area ≡ area_from (area_named w) (with_name (area_named w) xs) o
+    → length (with_name (area_named w) xs) ≤ k → contents_in k l w ≡ None
+none_here k l (what.Directive (line.Area name a)) xs o e h =
+    let p = place_below name (with_name (Some name) xs) (named_with name xs) in
+    other_area k (place_of name (with_name (Some name) xs)) a l.area e (omega (arith, p))
+none_here k l w xs o e h = refl
+
+pub no_fewer : (o : Option (List ℕ)) (xs : List (List ℕ)) (k : ℕ) → length (with_name o xs) ≤ k → length xs ≤ k
+no_fewer None xs k h = h
+no_fewer (Some n) xs k h = by_test (list_any (same n) xs) h
+  where
+    one_more : (ys : List (List ℕ)) → length ys ≤ length (ys ++ n ∷ [])
+    one_more [] = omega arith
+    one_more (y ∷ ys) = let p = one_more ys in omega (arith, p)
+
+    by_test : (b : Bool) → length (cond b xs (xs ++ n ∷ [])) ≤ k → length xs ≤ k
+    by_test true j = j
+    by_test false j = let p = one_more xs in omega (arith, p)
+
+pub none_beyond : (lines : List LaidLine) → AreNumbered lines → (k : ℕ) → length (names_of lines) ≤ k → contents_of k lines ≡ None
+none_beyond [] h k j = refl
+none_beyond (l ∷ before) h k j =
+    ap (λ o. or_else o (contents_in k l l.statement.what)) (none_beyond before h.1 k (no_fewer (area_named l.statement.what) (names_of before) k j))
+    ∙ none_here k l l.statement.what (names_of before) (area_behind (statements_of before)) h.0 j
+
+-- ---- the contents of an area
+
+-- the contents of its first line, which lines that don't name it otherwise have too
+pub record Agreed (first : Option Contents) (otherwise : Sight → AreaAttributes → Bool) : Type 0 where
+  pub kind : Contents
+  pub is : first ≡ Some kind
+  pub alike : (s : Sight) (a : AreaAttributes) → otherwise s a ≡ false → a.contents ≡ kind
+
+pub contents_true : (a b : Contents) → same_contents a b ≡ true → a ≡ b
+contents_true contents.Code contents.Code h = refl
+contents_true contents.Code contents.Data h = absurd (cc)
+contents_true contents.Code contents.Zeroes h = absurd (cc)
+contents_true contents.Data contents.Code h = absurd (cc)
+contents_true contents.Data contents.Data h = refl
+contents_true contents.Data contents.Zeroes h = absurd (cc)
+contents_true contents.Zeroes contents.Code h = absurd (cc)
+contents_true contents.Zeroes contents.Data h = absurd (cc)
+contents_true contents.Zeroes contents.Zeroes h = refl
+
+pub contents_same : (a : Contents) → same_contents a a ≡ true
+contents_same contents.Code = refl
+contents_same contents.Data = refl
+contents_same contents.Zeroes = refl
+
+pub mark_same : (b : Bool) → same_mark b b ≡ true
+mark_same true = refl
+mark_same false = refl
+
+pub exponent_same : (r : Result ℕ LineKind) → same_exponent r r ≡ true
+exponent_same (Ok n) = eq-eqb n n refl
+exponent_same (Err k) = refl
+
+pub first_of_all : (a b c d e f g : Bool) → (a && b && c && d && e && f && g) ≡ true → a ≡ true
+first_of_all true b c d e f g h = refl
+first_of_all false b c d e f g h = absurd (cc)
+
+pub all_true : (a b c d e f g : Bool) → a ≡ true → b ≡ true → c ≡ true → d ≡ true → e ≡ true → f ≡ true → g ≡ true
+    → (a && b && c && d && e && f && g) ≡ true
+all_true a b c d e f g h i j k l m n = rw (h, i, j, k, l, m, n) refl
+
+pub attributes_same : (s : Sight) (a : AreaAttributes) → same_attributes s a s a ≡ true
+attributes_same s a =
+    all_true (same_contents a.contents a.contents) (same_mark a.read_only a.read_only) (same_mark a.interwork a.interwork)
+    (same_mark a.halfword a.halfword) (same_mark a.pic a.pic) (same_mark a.reentrant a.reentrant) (same_exponent (exponent s a.align) (exponent s a.align))
+    (contents_same a.contents) (mark_same a.read_only) (mark_same a.interwork) (mark_same a.halfword) (mark_same a.pic) (mark_same a.reentrant)
+    (exponent_same (exponent s a.align))
+
+pub attributes_true : (s : Sight) (a : AreaAttributes) (t : Sight) (b : AreaAttributes) → same_attributes s a t b ≡ true → a.contents ≡ b.contents
+attributes_true s a t b h =
+    contents_true a.contents b.contents
+    (first_of_all (same_contents a.contents b.contents) (same_mark a.read_only b.read_only) (same_mark a.interwork b.interwork)
+    (same_mark a.halfword b.halfword) (same_mark a.pic b.pic) (same_mark a.reentrant b.reentrant) (same_exponent (exponent s a.align) (exponent t b.align)) h)
+
+pub rest_false : (c x r : Bool) → cond c (x || r) r ≡ false → r ≡ false
+rest_false true true r h = absurd (cc)
+rest_false true false r h = h
+rest_false false x r h = h
+
+pub first_false : (c x r : Bool) → c ≡ true → cond c (not x || r) r ≡ false → x ≡ true
+first_false true true r e h = refl
+first_false true false r e h = absurd (cc)
+first_false false x r e h = absurd (cc)
+
+-- a line that names no area says nothing new
+abbrev pub Known : List LaidLine → List (List ℕ) → Type 0
+Known before xs = (n : List ℕ) → list_any (same n) xs ≡ true → Agreed (contents_of (place_of n xs) before) (λ s a. is_named_otherwise n s a before)
+
+abbrev pub grown : Bool → List ℕ → List (List ℕ) → List (List ℕ)
+grown known n xs = cond known xs (xs ++ n ∷ [])
+
+-- an area that was named before
+pub old_area : (l : LaidLine) (before : List LaidLine) (k : ℕ) (name n : List ℕ) (b : AreaAttributes) (x : Option Contents)
+    → Agreed (contents_of k before) (λ s a. is_named_otherwise n s a before)
+    → Agreed (or_else (contents_of k before) x) (λ s a. again_with n s a l.seen (what.Directive (line.Area name b)) (is_named_otherwise n s a before))
+old_area l before k name n b x p = record {
+  kind = p.kind;
+  is = ap (λ o. or_else o x) p.is;
+  alike = λ s a h. p.alike s a (rest_false (same n name) (not (same_attributes s a l.seen b)) (is_named_otherwise n s a before) h);
+}
+
+-- an area that is new
+pub new_area : (l : LaidLine) (before : List LaidLine) (k : ℕ) (name n : List ℕ) (b : AreaAttributes) → same n name ≡ true → contents_of k before ≡ None
+    → l.area ≡ Some k
+    → Agreed (or_else (contents_of k before) (contents_in k l (what.Directive (line.Area name b))))
+    (λ s a. again_with n s a l.seen (what.Directive (line.Area name b)) (is_named_otherwise n s a before))
+new_area l before k name n b e none own = record {
+  kind = b.contents;
+  is = ap (λ o. or_else o (contents_in k l (what.Directive (line.Area name b)))) none
+      ∙ cond-true (is_of k l.area) (Some b.contents) None (is_here k l.area own);
+  alike = λ s a h.
+      attributes_true s a l.seen b (first_false (same n name) (same_attributes s a l.seen b) (is_named_otherwise n s a before) e h);
+}
+
+pub area_agreed : (l : LaidLine) (before : List LaidLine) (xs : List (List ℕ)) (name : List ℕ) (b : AreaAttributes) (t : Bool)
+    → list_any (same name) xs ≡ t → l.area ≡ Some (place_of name (grown t name xs)) → Known before xs
+    → ((k : ℕ) → length xs ≤ k → contents_of k before ≡ None) → (n : List ℕ) → list_any (same n) (grown t name xs) ≡ true
+    → Agreed (or_else (contents_of (place_of n (grown t name xs)) before) (contents_in (place_of n (grown t name xs)) l (what.Directive (line.Area name b))))
+    (λ s a. again_with n s a l.seen (what.Directive (line.Area name b)) (is_named_otherwise n s a before))
+area_agreed l before xs name b true e own known beyond n h =
+    old_area l before (place_of n xs) name n b (contents_in (place_of n xs) l (what.Directive (line.Area name b))) (known n h)
+area_agreed l before xs name b false e own known beyond n h = by_test (list_any (same n) xs) refl
+  where
+    Goal : ℕ → Type 0
+    Goal k =
+        Agreed (or_else (contents_of k before) (contents_in k l (what.Directive (line.Area name b))))
+        (λ s a. again_with n s a l.seen (what.Directive (line.Area name b)) (is_named_otherwise n s a before))
+
+    by_test : (u : Bool) → list_any (same n) xs ≡ u → Goal (place_of n (xs ++ name ∷ []))
+    by_test true x =
+        subst Goal (sym (place_old n name xs x))
+        (old_area l before (place_of n xs) name n b (contents_in (place_of n xs) l (what.Directive (line.Area name b))) (known n x))
+    by_test false x =
+        let y : same n name ≡ true = alone (any_right n xs (name ∷ []) x h) in
+        let z : n ≡ name = same_true n name y in
+        let w : place_of n (xs ++ name ∷ []) ≡ length xs = ap (λ m. place_of n (xs ++ m ∷ [])) (sym z) ∙ place_new n xs x in
+        subst Goal (sym w) (new_area l before (length xs) name n b y (beyond (length xs) (omega arith)) (own ∙ ap Some (place_new name xs e)))
+      where
+        alone : list_any (same n) (name ∷ []) ≡ true → same n name ≡ true
+        alone k = by_first (same n name) k
+          where
+            by_first : (c : Bool) → (c || false) ≡ true → c ≡ true
+            by_first true j = refl
+            by_first false j = absurd (cc)
+
+pub line_agreed : (l : LaidLine) (before : List LaidLine) (xs : List (List ℕ)) (o : Option ℕ) (w : What)
+    → l.area ≡ area_from (area_named w) (with_name (area_named w) xs) o → Known before xs → ((k : ℕ) → length xs ≤ k → contents_of k before ≡ None)
+    → (n : List ℕ) → list_any (same n) (with_name (area_named w) xs) ≡ true
+    → Agreed (or_else (contents_of (place_of n (with_name (area_named w) xs)) before) (contents_in (place_of n (with_name (area_named w) xs)) l w))
+    (λ s a. again_with n s a l.seen w (is_named_otherwise n s a before))
+line_agreed l before xs o (what.Directive (line.Area name b)) e known beyond n h =
+    area_agreed l before xs name b (list_any (same name) xs) refl e known beyond n h
+line_agreed l before xs o w e known beyond n h =
+    let p = known n h in record { kind = p.kind; is = ap (λ z. or_else z None) p.is; alike = p.alike }
+
+pub agreed : (lines : List LaidLine) → AreNumbered lines → Known lines (names_of lines)
+agreed [] h n e = absurd (cc)
+agreed (l ∷ before) h n e =
+    line_agreed l before (names_of before) (area_behind (statements_of before)) l.statement.what h.0 (agreed before h.1) (none_beyond before h.1) n e
+
+-- ---- the contents behind lines
+
+-- what a line's contents and areas tell
+pub line_kinds : (S : List (List ℕ)) (l : LaidLine) (before : List LaidLine) → layout_kinds S l before ≡ []
+    → (contents_kinds (contents_behind (l.statement ∷ statements_of before)) l.thumb l.statement.what ≡ [])
+    × (area_kinds l.seen l.statement.what before ≡ [])
+line_kinds S l before h =
+    let a = fault_kinds l.extent ++ map_kinds l.seen l.statement.what ++ no_area_kinds l.area (defined_by l.statement) l.statement.what in
+    let b = contents_kinds (contents_behind (l.statement ∷ statements_of before)) l.thumb l.statement.what in
+    let c = area_kinds l.seen l.statement.what before in
+    let d = name_kinds l.statement (statements_of before) in
+    let e = settled_kinds S (defined_by l.statement) in
+    let p = both_empty (a ++ b ++ c ++ d ++ e) (kind_if (nat_lt area_bytes (l.offset + l.size)) TooMany) h in
+    let q = both_empty (a ++ b ++ c ++ d) e p.0 in
+    let r = both_empty (a ++ b ++ c) d q.0 in
+    let s = both_empty (a ++ b) c r.0 in
+    let t = both_empty a b s.0 in (t.1, s.1)
+
+abbrev pub Behind : ℕ → Option Contents → Option Contents → Type 0
+Behind k first nearest = (c : Contents) × (first ≡ Some c) × (nearest ≡ Some c)
+
+pub otherwise_false : (n : List ℕ) (s : Sight) (a : AreaAttributes) (rest : Bool) → rest ≡ false → again_with n s a s (what.Directive (line.Area n a)) rest ≡ false
+otherwise_false n s a rest h =
+    cond-true (same n n) (not (same_attributes s a s a) || rest) rest (same_refl n) ∙ ap (λ b. not b || rest) (attributes_same s a) ∙ h
+
+pub behind_line : (l : LaidLine) (before : List LaidLine) (xs : List (List ℕ)) (o : Option ℕ) (k : ℕ) (w : What) (c : Option Contents)
+    → ((n : List ℕ) → list_any (same n) (with_name (area_named w) xs) ≡ true
+    → Agreed (or_else (contents_of (place_of n (with_name (area_named w) xs)) before) (contents_in (place_of n (with_name (area_named w) xs)) l w))
+    (λ s a. again_with n s a l.seen w (is_named_otherwise n s a before)))
+    → area_kinds l.seen w before ≡ [] → (o ≡ Some k → Behind k (contents_of k before) c) → area_from (area_named w) (with_name (area_named w) xs) o ≡ Some k
+    → Behind k (or_else (contents_of k before) (contents_in k l w)) (contents_from w c)
+behind_line l before xs o k (what.Directive (line.Area name b)) c known fine earlier e =
+    let p = known name (named_with name xs) in
+    let q = both_empty (exponent_kinds (exponent l.seen b.align)) (kind_if (is_named_otherwise name l.seen b before) BadOperand) fine in
+    let r = kind_none (is_named_otherwise name l.seen b before) BadOperand q.1 in
+    let x = p.alike l.seen b (otherwise_false name l.seen b (is_named_otherwise name l.seen b before) r) in
+    let y : place_of name (with_name (Some name) xs) ≡ k = cc in (
+      p.kind,
+      subst (λ j. or_else (contents_of j before) (contents_in j l (what.Directive (line.Area name b))) ≡ Some p.kind) y p.is,
+      ap Some x,
+    )
+behind_line l before xs o k w c known fine earlier e =
+    let p = earlier e in (p.0, ap (λ z. or_else z None) p.1, p.2)
+
+pub contents_are : (S : List (List ℕ)) (lines : List LaidLine) → AreNumbered lines → first_fault S lines ≡ None → (k : ℕ) → area_behind (statements_of lines) ≡ Some k
+    → Behind k (contents_of k lines) (contents_behind (statements_of lines))
+contents_are S [] h fine k e = absurd (cc)
+contents_are S (l ∷ before) h fine k e =
+    let p = or_none (first_fault S before) (told_at l.statement (told_kind (layout_kinds S l before))) fine in
+    behind_line l before (names_of before) (area_behind (statements_of before)) k l.statement.what (contents_behind (statements_of before))
+    (agreed (l ∷ before) h) (line_kinds S l before (told_none l.statement (layout_kinds S l before) p.1)).1 (contents_are S before h.1 p.0 k) e
+
+-- ---- statements among zeros
+
+pub zero_units : (c : Context) (d : List (List ℕ)) (s : Sight) (word : Option ℕ) (w : What) → is_zero_statement w ≡ true → units c d s word w ≡ Ok []
+zero_units c d s word (what.Arm l) h = absurd (cc)
+zero_units c d s word (what.Thumb l) h = absurd (cc)
+zero_units c d s word (what.Pseudo l) h = absurd (cc)
+zero_units c d s word (what.Directive (line.Dcd es)) h = absurd (cc)
+zero_units c d s word (what.Directive (line.Dcdu es)) h = absurd (cc)
+zero_units c d s word (what.Directive (line.Dcw es)) h = absurd (cc)
+zero_units c d s word (what.Directive (line.Dcb es)) h = absurd (cc)
+zero_units c d s word w h = refl
+
+abbrev pub LoadsNothing : Result Extent LineKind → Type 0
+LoadsNothing (Ok (Loading n v)) = ⊥
+LoadsNothing _ = Unit {0}
+
+pub spaced : (r : Result ℕ LineKind) → LoadsNothing (mapped (λ n. Block 1 n) r)
+spaced (Ok n) = tt
+spaced (Err k) = tt
+
+pub padded : (r : Result ℕ LineKind) → LoadsNothing (mapped (λ m. Padding m 0) r)
+padded (Ok m) = tt
+padded (Err k) = tt
+
+pub padded_behind : (r q : Result ℕ LineKind) → LoadsNothing (on_both (λ m n. Padding m n) r q)
+padded_behind (Ok m) (Ok n) = tt
+padded_behind (Ok m) (Err k) = tt
+padded_behind (Err k) (Ok n) = tt
+padded_behind (Err k) (Err j) = tt
+
+pub aligned : (s : Sight) (b : Boundary) → LoadsNothing (padding s b)
+aligned s limit.Word = tt
+aligned s (limit.Multiple e) = padded (as_multiple (number_there s e))
+aligned s (limit.Behind e f) = padded_behind (as_multiple (number_there s e)) (number_there s f)
+
+pub zero_extent : (s : Sight) (w : What) → is_zero_statement w ≡ true → LoadsNothing (extent_of s w)
+zero_extent s (what.Arm l) h = absurd (cc)
+zero_extent s (what.Thumb l) h = absurd (cc)
+zero_extent s (what.Pseudo l) h = absurd (cc)
+zero_extent s (what.Directive line.Entry) h = absurd (cc)
+zero_extent s (what.Directive (line.Space e)) h = spaced (number_there s e)
+zero_extent s (what.Directive (line.Align b)) h = aligned s b
+zero_extent s w h = tt
+
+pub no_literal : (p : Piece) (c : Context) (d : List (List ℕ)) (word : Option ℕ) (r : Result Extent LineKind) → LoadsNothing r
+    → IsAmong p (literal_piece c d (taken r) word) → ⊥
+no_literal p c d word (Err k) h x = x
+no_literal p c d word (Ok (Block a n)) h x = x
+no_literal p c d word (Ok (Padding m n)) h x = x
+no_literal p c d word (Ok (Loading n v)) h x = h
+no_literal p c d word (Ok Pool) h x = x
+
+-- ---- the law
+
+pub zero_areas_hold_nothing : (ss : List Statement) → layout_faults ss ≡ None
+    → (area : ℕ) (p : Piece) → contents_of area (laid ss) ≡ Some contents.Zeroes → StandsIn (source_of ss) area p → ⊥
+zero_areas_hold_nothing ss none area p zeroes x = by_kind (among_either p (own_units ss rest l before) (own_words ss rest l before) x.among)
+  where
+    l : LaidLine
+    l = x.owner
+
+    before : List LaidLine
+    before = x.at.before
+
+    rest : List LaidLine
+    rest = x.at.rest
+
+    S : List (List ℕ)
+    S = settled (equals_in ss)
+
+    numbered : AreNumbered (l ∷ before)
+    numbered = numbered_rest rest (l ∷ before) (subst AreNumbered x.at.parts (laid_numbered (declared ss) ss))
+
+    fine : first_fault S (l ∷ before) ≡ None
+    fine = fine_rest S rest (l ∷ before) (subst (λ z. first_fault S z ≡ None) x.at.parts (layout_sound ss none))
+
+    behind : Behind area (contents_of area (l ∷ before)) (contents_behind (l.statement ∷ statements_of before))
+    behind = contents_are S (l ∷ before) numbered fine area (sym numbered.0 ∙ x.own)
+
+    is_zero : behind.0 ≡ contents.Zeroes
+    is_zero =
+        let a : contents_of area (laid ss) ≡ Some behind.0 =
+        ap (contents_of area) x.at.parts ∙ contents_stay area behind.0 rest (l ∷ before) behind.1 in cc
+
+    stands : is_zero_statement l.statement.what ≡ true
+    stands =
+        let p = or_none (first_fault S before) (told_at l.statement (told_kind (layout_kinds S l before))) fine in
+        let q = (line_kinds S l before (told_none l.statement (layout_kinds S l before) p.1)).0 in
+        let r = subst (λ o. contents_kinds o l.thumb l.statement.what ≡ []) (behind.2 ∙ ap Some is_zero) q in
+        not_false (is_zero_statement l.statement.what) (kind_none (not (is_zero_statement l.statement.what)) BadOperand r)
+
+    by_kind : IsAmong p (own_units ss rest l before) ⊎ IsAmong p (own_words ss rest l before) → ⊥
+    by_kind (inl h) =
+        subst (λ r. IsAmong p (units_from l.offset (units_or_none r)))
+        (zero_units (context_behind ss l before) (datum_names ss) l.seen (word_among rest l before) l.statement.what stands) h
+    by_kind (inr h) =
+        no_literal p (context_behind ss l before) (datum_names ss) (word_among rest l before) l.extent
+        (subst LoadsNothing (sym (seen_extent ss rest before l x.at.parts).0) (zero_extent l.seen l.statement.what stands)) h
