@@ -6,7 +6,7 @@ use Rattle.sdt_word.specs.declared.ranges.Range32.{Range32}
 use Rattle.aof_object.specs.declared.records.Area.{Area}
 use Rattle.aof_object.specs.declared.records.Object.{Object}
 use Rattle.aof_object.specs.declared.records.Symbol.{Symbol}
-use Rattle.patch_model.specs.Fields.{Home, Meant, Values}
+use Rattle.patch_model.specs.Fields.{Meant, Values}
 use Rattle.patch_model.specs.Laws.{StandsAt}
 use Rattle.patch_model.specs.Patched.{Veneers, Patched}
 use Rattle.patch_model.specs.Reaches.{View, Shows, VeneersStand}

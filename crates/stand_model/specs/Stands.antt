@@ -22,7 +22,6 @@ use Rattle.asm_model.specs.declared.directives.DirectiveLine.{DirectiveLine}
 use Rattle.asm_model.specs.declared.directives.DirectiveLine.TheVariants as line
 use Rattle.asm_model.specs.declared.exprs.Expr.{Expr}
 use Rattle.asm_model.specs.declared.operands.Address.TheVariants as address
-use Rattle.asm_model.specs.declared.operands.Register.{Register}
 use Rattle.asm_model.specs.declared.statements.PseudoLine.{PseudoLine}
 use Rattle.asm_model.specs.declared.statements.PseudoLine.TheVariants as pseudo
 use Rattle.asm_model.specs.declared.statements.What.{What}
@@ -31,11 +30,9 @@ use Rattle.asm_model.specs.declared.values.Value.{Value}
 use Rattle.asm_model.specs.declared.values.Value.TheVariants.{Number, Words, Place}
 use Rattle.asm_model.specs.Grammar.{Tree}
 use Rattle.asm_model.specs.Meaning.{stands_at}
-use Rattle.layout_model.specs.Extents.{Extent, Loading}
-use Rattle.layout_model.specs.Laid.{LaidLine, taken}
+use Rattle.layout_model.specs.Laid.{LaidLine, pieces_of}
 use Rattle.layout_model.specs.Marks.{counts_one, thumb_bit, datum_names}
 use Rattle.layout_model.specs.Offsets.{area_size}
-use Rattle.layout_model.specs.Laid.{pieces_of}
 use Rattle.layout_model.specs.Placing.{Placing, placed_meaning}
 use Rattle.layout_model.specs.Trees.{tree_of}
 use Rattle.patch_model.specs.Fields.{Meant, Values, is_thumb_label}
