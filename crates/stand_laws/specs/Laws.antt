@@ -25,10 +25,11 @@ pub record IsFaultless (statements : List Statement) : Type 0 where
   pub valued : value_faults statements ≡ None
   pub arm_state : InArmState statements
 
--- memory shows each thing of each area
+-- memory shows each thing of each area; relocations name areas and symbols by their low 24 bits
 abbrev pub ThingsAreShown : Type 0
 ThingsAreShown =
-    (statements : List Statement) (o : Object) → IsFaultless statements → IsObject statements o → length o.symbols < 2 ^ 24
+    (statements : List Statement) (o : Object) → IsFaultless statements → IsObject statements o
+    → length o.areas < 2 ^ 24 → length o.symbols < 2 ^ 24
     → (own : ℕ) (values : Values) (area_at : ℕ → ℕ → ℕ) (view : View) (region : ℕ → Range32) (veneers : ℕ → Veneers)
     → IsPlaced own o values area_at → ShowsObject view o values area_at region veneers
     → (area : ℕ) (p : Piece) → StandsIn (source_of statements) area p → IsShown (source_of statements) values view (region area) (values.base area) p
@@ -57,7 +58,8 @@ ShownLinesStand =
 -- so wherever an object is placed, its source's statements stand
 abbrev pub ObjectsStand : Type 0
 ObjectsStand =
-    (statements : List Statement) (o : Object) → IsFaultless statements → IsObject statements o → length o.symbols < 2 ^ 24
+    (statements : List Statement) (o : Object) → IsFaultless statements → IsObject statements o
+    → length o.areas < 2 ^ 24 → length o.symbols < 2 ^ 24
     → (own : ℕ) (values : Values) (area_at : ℕ → ℕ → ℕ) (view : View) (region : ℕ → Range32) (veneers : ℕ → Veneers)
     → IsPlaced own o values area_at → ShowsObject view o values area_at region veneers
     → AllStand (source_of statements) values view region
