@@ -13,11 +13,10 @@ use Rattle.asm_model.specs.declared.directives.DirectiveLine.TheVariants as line
 use Rattle.asm_model.specs.declared.statements.Statement.{Statement}
 use Rattle.asm_model.specs.declared.statements.What.{What}
 use Rattle.asm_model.specs.declared.statements.What.TheVariants as what
-use Rattle.asm_model.specs.declared.values.Value.{Value}
 use Rattle.asm_model.specs.Directives.{or_else}
 use Rattle.asm_model.specs.Kinds.{told_kind}
 use Rattle.asm_model.proofs.LineLemmas.{both_empty}
-use Rattle.layout_model.specs.Before.{area_named, areas_behind, area_behind}
+use Rattle.layout_model.specs.Before.{area_named, areas_behind}
 use Rattle.layout_model.specs.Laid.{LaidLine, statements_of, taken, pieces_of, declared, laid}
 use Rattle.layout_model.specs.LayoutKinds.{exponent, exponent_kinds, is_named_otherwise, kind_if, area_kinds, layout_kinds, told_at, first_fault}
 use Rattle.layout_model.specs.Offsets.{is_of, waiting, waiting_behind, end_from, end_behind, area_size}

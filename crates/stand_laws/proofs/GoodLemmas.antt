@@ -1,6 +1,6 @@
 -- What stands in an area: its instructions fit their rows, a branch that is left to the linker stands at a multiple of 4,
 -- and words name areas of the source.
-use Rattle.std.proofs.Common.{◌≡◌, ℕ, ◌+◌, ◌-◌, ◌%◌, ◌<◌, ◌≤◌, List, [], ◌∷◌, ◌++◌, length, Bool, true, false, cond, refl, sym, ◌∙◌, ap, subst, arith, Option, Some, None, ◌⊎◌, inl, inr, nat_lt}
+use Rattle.std.proofs.Common.{◌≡◌, ℕ, ◌+◌, ◌-◌, ◌%◌, ◌<◌, ◌≤◌, List, [], ◌∷◌, ◌++◌, length, Bool, true, false, cond, refl, sym, subst, arith, Option, Some, None, ◌⊎◌, inl, inr, nat_lt}
 use Rattle.std.specs.Prelude.{Result, Ok, Err, ◌==◌}
 use Rattle.std.proofs.lemmas.Bool.{ltb-true}
 use Rattle.sdt_fault.specs.declared.kinds.LineKind.{LineKind}
@@ -24,13 +24,13 @@ use Rattle.asm_model.specs.Says.{on_both, mapped}
 use Rattle.layout_model.specs.Before.{areas_behind}
 use Rattle.layout_model.specs.Extents.{Extent, Block, number_there, value_there, extent_of}
 use Rattle.layout_model.specs.Labels.{Defined, LocalLabel, Label, RegisterName, number_in as digits_in, labelled, field_defines, defined_by}
-use Rattle.layout_model.specs.Laid.{LaidLine, statements_of, taken, pieces_of, declared, laid_behind, laid, all_locals, final_line, final_names}
+use Rattle.layout_model.specs.Laid.{LaidLine, statements_of, taken, pieces_of, declared, laid, all_locals, final_line, final_names}
 use Rattle.layout_model.specs.Marks.{datum_names}
 use Rattle.layout_model.specs.Offsets.{waiting, end_behind, start_from}
 use Rattle.layout_model.specs.Symbols.{literal_value}
 use Rattle.layout_laws.specs.Sound.{IsSound}
 use Rattle.layout_laws.proofs.SoundLemmas.{statements_kept}
-use Rattle.said_model.specs.Said.{GivenSaid, ArmSaid, PseudoSaid, WhatSaid, IsSaid, AllSaid}
+use Rattle.said_model.specs.Said.{GivenSaid, ArmSaid, PseudoSaid, WhatSaid, AllSaid}
 use Rattle.source_model.specs.ArmForms.{arm_instruction}
 use Rattle.source_model.specs.Contexts.{Context, sees, value_of, number_in, and_then}
 use Rattle.source_model.specs.Objects.{Piece, unit_bytes, units_from, or_none, source_of, IsAmong, StandsIn}
@@ -42,7 +42,7 @@ use Rattle.source_laws.specs.Laws.{word_among, context_behind}
 use Rattle.source_laws.proofs.FitLemmas.{instruction_fits, pseudo_instructions_fit}
 use Rattle.source_laws.proofs.LineLemmas.{is_laid, stands_in}
 use Rattle.source_laws.proofs.ThingLemmas.{IsWord, is_word, among_either, own_units, own_words, known_extent}
-use Rattle.source_laws.proofs.WithinLemmas.{IsWithin, AllWithin, SeesWithin, names_within, line_within, stands_within, area_stands, areas_more}
+use Rattle.source_laws.proofs.WithinLemmas.{SeesWithin, names_within, line_within, stands_within, area_stands, areas_more}
 
 abbrev pub TargetWithin : ℕ → Target → Type 0
 TargetWithin n Nothing = Unit {0}

@@ -1,7 +1,8 @@
 pub mod AreaLemmas
-pub mod BranchLemmas
-pub mod FieldLemmas
+pub mod DirectiveLemmas
 pub mod GoodLemmas
+pub mod LinkedLemmas
+pub mod PlacedLemmas
 pub mod RelocLemmas
 pub mod ShownLemmas
 pub mod ViewLemmas

@@ -1,9 +1,9 @@
 -- The relocations of an area: where their fields are, what they name, and that each field has one.
-use Rattle.std.proofs.Common.{◌≡◌, ◌≢◌, ◌⊎◌, inl, inr, ℕ, zero, suc, ◌+◌, ◌-◌, ◌*◌, ◌/◌, ◌%◌, ◌^◌, ◌<◌, Bool, true, false, cond, List, [], ◌∷◌, ◌++◌, Option, Some, None, refl, sym, ap, subst, ◌∙◌, arith}
+use Rattle.std.proofs.Common.{◌≡◌, ◌≢◌, ◌⊎◌, inl, inr, ℕ, zero, suc, ◌+◌, ◌*◌, ◌%◌, ◌^◌, ◌<◌, Bool, true, false, List, [], ◌∷◌, ◌++◌, Some, refl, sym, ap, subst, ◌∙◌, arith}
 use Rattle.std.specs.Prelude.{slice_get, ◌==◌}
 use Rattle.sdt_word.specs.Numbers.{bit, bits}
 use Rattle.aof_object.specs.declared.records.Reloc.{Reloc}
-use Rattle.patch_model.specs.Fields.{Kind, Word, Branch, Values, field_of, kind_by, kind_of, place_by, is_relative, is_by_symbol, number_named, directives}
+use Rattle.patch_model.specs.Fields.{Kind, Word, Branch, field_of, kind_by, kind_of, place_by, is_relative, is_by_symbol, number_named, directives}
 use Rattle.patch_model.proofs.SumLemmas.{directive_law}
 use Rattle.source_model.specs.Objects.{IsRelocOf, IsRising}
 use Rattle.source_laws.proofs.ObjectLemmas.{rising_rest, rising_later}

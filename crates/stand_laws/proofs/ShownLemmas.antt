@@ -1,6 +1,5 @@
 -- Memory shows each thing of an area that keeps its bytes.
-use Rattle.std.proofs.Common.{◌≡◌, inl, inr, ℕ, ◌+◌, ◌-◌, ◌*◌, ◌%◌, ◌^◌, ◌<◌, ◌≤◌, Bool, true, false, cond, List, [], ◌∷◌, length, take, drop, Option, Some, None, refl, sym, ap, subst, ◌∙◌, arith}
-use Rattle.std.specs.Prelude.{slice_get}
+use Rattle.std.proofs.Common.{◌≡◌, inl, ℕ, ◌+◌, ◌*◌, ◌%◌, ◌^◌, ◌<◌, ◌≤◌, Bool, true, false, cond, List, [], ◌∷◌, length, Option, Some, None, refl, sym, ap, subst, ◌∙◌, arith}
 use Rattle.sdt_word.specs.Bytes.{bytes_of, number_of, word_in}
 use Rattle.sdt_word.specs.Numbers.{flag, sign_extended}
 use Rattle.sdt_word.specs.Rows.{word_of}
@@ -12,7 +11,7 @@ use Rattle.arm_isa.specs.ArmRows.{arm_row, arm_fields, ReadsArm}
 use Rattle.arm_isa.specs.declared.instr.ArmInstr.{ArmInstr}
 use Rattle.arm_isa.specs.declared.instr.ArmInstr.TheVariants as instr
 use Rattle.asm_model.specs.declared.statements.Statement.{Statement}
-use Rattle.patch_model.specs.Fields.{Word as WordField, Branch as BranchField, Values, field_of, is_by_symbol, is_thumb_label, number_named, directives, added, taken}
+use Rattle.patch_model.specs.Fields.{Word as WordField, Branch as BranchField, Values, field_of, is_thumb_label, number_named, directives, added, taken}
 use Rattle.patch_model.specs.Laws.{StandsAt, state_of, state_to}
 use Rattle.patch_model.specs.Patched.{total, span, middle, ahead, SameBranch, Veneers, first_symbol, AreaPatched}
 use Rattle.patch_model.specs.Reaches.{View, Shows, ShowsWord, VeneersStand, Reaches}
@@ -22,9 +21,8 @@ use Rattle.source_model.specs.Objects.{Piece, unit_bytes, source_of, StandsIn, H
 use Rattle.source_model.specs.Units.{Bytes, Word, Instruction, Stored, Target, Nothing, ByArea, BySymbol}
 use Rattle.source_laws.proofs.RowLemmas.{fitting_are_written}
 use Rattle.stand_model.specs.Shown.{meant_by, added_by, LinkedBranch, InstructionShown, IsShown}
-use Rattle.stand_model.specs.Stands.{ReadsAt}
-use Rattle.stand_laws.proofs.BranchLemmas.{branch_word, extended_low, target_sum, same_branch, stands_to}
-use Rattle.stand_laws.proofs.FieldLemmas.{Facts, fields_at_offsets, outside_thing, adds, takes}
+use Rattle.stand_laws.proofs.LinkedLemmas.{branch_word, extended_low, target_sum, same_branch, stands_to}
+use Rattle.stand_laws.proofs.DirectiveLemmas.{Facts, fields_at_offsets, outside_thing, adds, takes}
 use Rattle.stand_laws.proofs.GoodLemmas.{TargetWithin}
 use Rattle.stand_laws.proofs.RelocLemmas.{reloc_place, own_directives, RelocIs, by_area, by_symbol, of_branch}
 use Rattle.stand_laws.proofs.ViewLemmas.{shows_there, number_of_bytes, bytes_wrapped}
@@ -49,7 +47,6 @@ bare : (a b : ℕ) → a ≡ b + 0 → a ≡ b
 bare a b h = omega arith
 
 module _ (ss : List Statement) (area : ℕ) (a : Area) (values : Values) (view : View) (veneers : Veneers) (out : List ℕ) (facts : Facts ss area) (there : IsThere ss area a values view veneers out) where
-
   within : (p : Piece) → StandsIn (source_of ss) area p → p.0 + length (unit_bytes p.1) ≤ length out
   within p x =
       let inside = facts.inside p x in
@@ -109,7 +106,6 @@ module _ (ss : List Statement) (area : ℕ) (a : Area) (values : Values) (view :
   -- ---- branches
 
   module _ (region : Range32) (area_at : ℕ → ℕ → ℕ) (stand : VeneersStand view region area_at veneers) (homes : (k : ℕ) → StandsAt area_at (values.symbol k) (values.symbol k).home) where
-
     branch_reaches : (at n : ℕ) (r : Reloc) → IsRelocOf a.relocs r → r.offset ≡ at → RelocIs r (BranchField false) true true n
         → Reaches view region false (values.base area + at)
         (total (values.base area + at + 8 + span false (word_in a.bytes at)) (added values (r ∷ [])) (2 ^ 25 + taken (values.base area) (r ∷ [])))

@@ -11,7 +11,7 @@ use Rattle.patch_model.specs.Patched.{Veneers}
 use Rattle.patch_model.specs.Reaches.{View}
 use Rattle.said_model.specs.Said.{AllSaid}
 use Rattle.source_laws.specs.Laws.{InArmState}
-use Rattle.source_model.specs.Objects.{Piece, Source, source_of, At, StandsIn, IsAmong, pieces_at, word_at, IsObject}
+use Rattle.source_model.specs.Objects.{Piece, source_of, At, StandsIn, IsAmong, pieces_at, word_at, IsObject}
 use Rattle.source_model.specs.SourceFaults.{layout_faults, value_faults}
 use Rattle.stand_model.specs.Placed.{IsPlaced, ShowsObject}
 use Rattle.stand_model.specs.Shown.{IsShown}
@@ -38,6 +38,7 @@ ThingsAreShown =
 abbrev pub GapsAreZero : Type 0
 GapsAreZero =
     (statements : List Statement) (o : Object) → IsFaultless statements → IsObject statements o
+    → length o.areas < 2 ^ 24 → length o.symbols < 2 ^ 24
     → (own : ℕ) (values : Values) (area_at : ℕ → ℕ → ℕ) (view : View) (region : ℕ → Range32) (veneers : ℕ → Veneers)
     → IsPlaced own o values area_at → ShowsObject view o values area_at region veneers
     → (area i : ℕ) → i < area_size area (pieces_of (laid statements)) → IsGap (source_of statements) area i → view (values.base area + i) ≡ Some 0
@@ -53,7 +54,7 @@ ShownLinesStand =
     → ((p : Piece) → IsAmong p (pieces_at (source_of statements) l at) → IsShown (source_of statements) values view region (values.base area) p)
     → ((i : ℕ) → i < area_size area (pieces_of (laid statements)) → IsGap (source_of statements) area i → view (values.base area + i) ≡ Some 0)
     → Stands (scene_at (source_of statements) l at view region values) (values.base area + l.offset) l.size
-      (address_behind (values.base area) (word_at (source_of statements) l at)) l.statement.what
+    (address_behind (values.base area) (word_at (source_of statements) l at)) l.statement.what
 
 -- so wherever an object is placed, its source's statements stand
 abbrev pub ObjectsStand : Type 0

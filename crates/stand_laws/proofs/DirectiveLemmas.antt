@@ -1,17 +1,16 @@
 -- The fields of an area's relocations are those of the things that have them.
-use Rattle.std.proofs.Common.{◌≡◌, ◌⊎◌, inl, inr, ℕ, ◌+◌, ◌*◌, ◌%◌, ◌^◌, ◌<◌, ◌≤◌, Bool, true, false, cond, not, ◌&&◌, List, [], ◌∷◌, length, Option, Some, None, refl, sym, ap, subst, ◌∙◌, arith}
-use Rattle.std.specs.Prelude.{slice_get}
+use Rattle.std.proofs.Common.{◌≡◌, ◌⊎◌, inl, inr, ℕ, ◌+◌, ◌*◌, ◌^◌, ◌<◌, ◌≤◌, Bool, true, false, cond, List, [], ◌∷◌, length, Option, Some, None, refl, sym, ap, subst, ◌∙◌, arith}
 use Rattle.sdt_word.specs.Numbers.{flag}
 use Rattle.aof_object.specs.declared.records.Reloc.{Reloc}
 use Rattle.arm_isa.specs.declared.instr.ArmInstr.{ArmInstr}
 use Rattle.asm_model.specs.declared.statements.Statement.{Statement}
 use Rattle.layout_model.specs.Laid.{pieces_of, laid}
 use Rattle.layout_model.specs.Offsets.{area_size}
-use Rattle.patch_model.specs.Fields.{Kind, Word as WordField, Branch as BranchField, Values, Meant, field_of, kind_of, is_relative, is_by_symbol, number_named, value_named, is_thumb_label, mark_in, mark_of, added, taken, size_of}
+use Rattle.patch_model.specs.Fields.{Kind, Word as WordField, Branch as BranchField, Values, field_of, is_relative, is_by_symbol, number_named, value_named, is_thumb_label, mark_in, mark_of, added, taken, size_of}
 use Rattle.patch_model.specs.Patched.{IsOutside}
 use Rattle.patch_model.proofs.SumLemmas.{one}
 use Rattle.source_model.specs.Objects.{Piece, unit_bytes, Source, source_of, StandsIn, symbol_number, word_relocs, branch_relocs, relocs_of, IsRelocOf, HasRelocs}
-use Rattle.source_model.specs.Units.{Emitted, Bytes, Word, Instruction, Stored, Target, Nothing, ByArea, BySymbol}
+use Rattle.source_model.specs.Units.{Bytes, Word, Instruction, Stored, Target, Nothing, ByArea, BySymbol}
 use Rattle.source_laws.specs.Laws.{StandApart}
 use Rattle.stand_laws.proofs.GoodLemmas.{TargetWithin, LinkedAligned, IsGood}
 use Rattle.stand_laws.proofs.RelocLemmas.{reloc_at, StandAtOffsets, RelocIs, by_area, by_symbol, of_branch}

@@ -1,5 +1,5 @@
 -- A branch that is left to the linker, by numbers.
-use Rattle.std.proofs.Common.{◌≡◌, ℕ, ◌+◌, ◌-◌, ◌*◌, ◌/◌, ◌%◌, ◌^◌, ◌<◌, ◌≤◌, Bool, true, false, if◌then◌else◌, List, take, drop, Option, None, Some, ap, subst, arith, nat_lt}
+use Rattle.std.proofs.Common.{◌≡◌, ℕ, ◌+◌, ◌-◌, ◌*◌, ◌%◌, ◌^◌, ◌<◌, Bool, if◌then◌else◌, List, take, drop, Option, None, Some, ap, subst, arith, nat_lt}
 use Rattle.std.specs.Prelude.{slice_get}
 use Rattle.sdt_word.specs.Bytes.{number_of, word_in}
 use Rattle.sdt_word.specs.Numbers.{sign_extended}
@@ -9,7 +9,7 @@ use Rattle.arm_isa.specs.declared.instr.ArmInstr.TheVariants as instr
 use Rattle.aof_object.specs.declared.records.Reloc.{Reloc}
 use Rattle.patch_model.specs.Fields.{Kind, Branch, Values, field_of, kind_of, directives, added, taken, size_of}
 use Rattle.patch_model.specs.Laws.{StandsAt, StandsTo}
-use Rattle.patch_model.specs.Patched.{total, span, SameBranch, Veneers, first_symbol, AddsUp, AreaPatched}
+use Rattle.patch_model.specs.Patched.{total, SameBranch, Veneers, first_symbol, AddsUp, AreaPatched}
 
 pub branch_word : (c : Condition) (link : Bool) (d w : ℕ) → ReadsArm w (instr.Branch c link d) → (w < 2 ^ 32) × (w % 2 ^ 24 ≡ d)
 branch_word c link d w reads = (grind arith, grind arith)
