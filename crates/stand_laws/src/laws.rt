@@ -1,0 +1,13 @@
+//! Laws of the definitions, each proved as the contract of an empty function.
+
+ghost use Rattle.stand_laws.specs.Laws.{GapsAreZero, ThingsAreShown};
+
+/// Memory shows each thing of each area of a placed object.
+pub fn things_are_shown()
+    ensures { ThingsAreShown }
+{}
+
+/// Where nothing of an area stands, memory shows zeros.
+pub fn gaps_are_zero()
+    ensures { GapsAreZero }
+{}
