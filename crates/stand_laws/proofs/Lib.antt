@@ -2,6 +2,9 @@ pub mod ArmLemmas
 pub mod DataLemmas
 pub mod FieldLemmas
 pub mod LineLemmas
+pub mod LiteralLemmas
 pub mod PseudoLemmas
 pub mod ResultLemmas
+pub mod StandLemmas
+pub mod SymbolLemmas
 pub mod ValueLemmas

@@ -1,5 +1,6 @@
-use Rattle.stand_laws.proofs.LineLemmas.{line_stands}
+use Rattle.stand_laws.proofs.LiteralLemmas.{places_kept}
+use Rattle.stand_laws.proofs.StandLemmas.{shown_lines_stand}
 use Rattle.stand_laws.proofs.laws.shown_lines_stand.Goals as goal
 
 pub returns : goal.returns
-returns c = let m = line_stands in ?
+returns c = let p = places_kept in shown_lines_stand
