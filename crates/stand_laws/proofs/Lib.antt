@@ -1,6 +1,7 @@
 pub mod ArmLemmas
 pub mod DataLemmas
 pub mod FieldLemmas
+pub mod KeptLemmas
 pub mod LineLemmas
 pub mod LiteralLemmas
 pub mod PseudoLemmas
@@ -8,3 +9,4 @@ pub mod ResultLemmas
 pub mod StandLemmas
 pub mod SymbolLemmas
 pub mod ValueLemmas
+pub mod WordLemmas

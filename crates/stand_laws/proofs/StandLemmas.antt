@@ -60,17 +60,8 @@ use Rattle.stand_laws.proofs.LineLemmas.{DirectiveZero, WhatMeets, line_stands, 
 use Rattle.stand_laws.proofs.PseudoLemmas.{LiteralHolds, PseudoHolds}
 use Rattle.stand_laws.proofs.ResultLemmas.{both_ok, mapped_ok}
 use Rattle.stand_laws.proofs.SymbolLemmas.{symbol_placed_there, each_bare, symbols_bare}
-use Rattle.stand_laws.proofs.ValueLemmas.{Setting, scene, Shown, AllShown}
-
-abbrev pub setting : List Statement → Values → View → Range32 → ℕ → LaidLine → List LaidLine → Setting
-setting ss values view region area l before = record {
-  source = source_of ss;
-  values = values;
-  view = view;
-  region = region;
-  base = values.base area;
-  context = context_behind ss l before;
-}
+use Rattle.stand_laws.proofs.ValueLemmas.{scene, AllShown, setting}
+use Rattle.stand_laws.proofs.WordLemmas.{literal_holds}
 
 -- ---- what is known of a line
 
@@ -193,6 +184,10 @@ shown_lines_stand ss o fine obj small own values area_at view region placed l at
     let units_shown : AllShown k (units_from l.offset u.0) =
     λ p h. shown p (among_first p (own_units ss after l before) (own_words ss after l before)
       (subst (λ r. IsAmong p (units_from l.offset (or_none r))) (sym u.1) h)) in
-    line_stands k area l.offset (values.base area + l.offset) (line_ready ss fine.named fine.laid_out values view region area after before l e here) refl l.seen l.size word
+    let words_shown : AllShown k (own_words ss after l before) =
+    λ p h. shown p (among_last p (own_units ss after l before) (own_words ss after l before) h) in
+    let ready = line_ready ss fine.named fine.laid_out values view region area after before l e here in
+    line_stands k area l.offset (values.base area + l.offset) ready refl l.seen l.size word
     l.statement.what u.0 u.1 units_shown (known_values_are_final ss plain.0 plain.1 after before l e)
-    (what_meets ss fine o obj own values area_at placed view region area after before l e here ? gaps l.statement.what refl)
+    (what_meets ss fine o obj own values area_at placed view region area after before l e here
+    (λ condition rd x w. literal_holds ss fine values view region area after before l e ready.here words_shown condition rd x w word refl) gaps l.statement.what refl)

@@ -4,10 +4,12 @@ use Rattle.std.specs.Prelude.{Result, Ok, Err}
 use Rattle.sdt_fault.specs.declared.kinds.LineKind.{LineKind}
 use Rattle.sdt_word.specs.declared.ranges.Range32.{Range32}
 use Rattle.asm_model.specs.declared.exprs.Expr.{Expr}
+use Rattle.asm_model.specs.declared.statements.Statement.{Statement}
 use Rattle.asm_model.specs.declared.values.Value.{Value}
 use Rattle.asm_model.specs.declared.values.Value.TheVariants.{Number, Truth, Words, Place}
 use Rattle.asm_model.specs.Grammar.{Tree}
 use Rattle.layout_model.specs.Extents.{as_number}
+use Rattle.layout_model.specs.Laid.{LaidLine}
 use Rattle.layout_model.specs.Marks.{datum_names}
 use Rattle.layout_model.specs.Placing.{placed_value, CountFromHere}
 use Rattle.layout_model.specs.Trees.{tree_of}
@@ -16,7 +18,8 @@ use Rattle.layout_laws.proofs.FoundLemmas.{tree_final, final_tree}
 use Rattle.patch_model.specs.Fields.{Values}
 use Rattle.patch_model.specs.Reaches.{View}
 use Rattle.source_model.specs.Contexts.{Context, sees, value_of, number_in}
-use Rattle.source_model.specs.Objects.{Piece, Source, symbol_number, IsAmong}
+use Rattle.source_model.specs.Objects.{Piece, Source, source_of, symbol_number, IsAmong}
+use Rattle.source_laws.specs.Laws.{context_behind}
 use Rattle.stand_model.specs.Shown.{IsShown}
 use Rattle.stand_model.specs.Stands.{Scene, value_placed, IsNumber, placing_of}
 
@@ -37,6 +40,16 @@ scene k = record {
   meant = λ name. k.values.symbol (symbol_number k.source name);
   data_names = datum_names k.source.statements;
   context = k.context;
+}
+
+abbrev pub setting : List Statement → Values → View → Range32 → ℕ → LaidLine → List LaidLine → Setting
+setting ss values view region area l before = record {
+  source = source_of ss;
+  values = values;
+  view = view;
+  region = region;
+  base = values.base area;
+  context = context_behind ss l before;
 }
 
 abbrev pub Shown : Setting → Piece → Type 0

@@ -1,6 +1,5 @@
-use Rattle.stand_laws.proofs.LiteralLemmas.{places_kept}
 use Rattle.stand_laws.proofs.StandLemmas.{shown_lines_stand}
 use Rattle.stand_laws.proofs.laws.shown_lines_stand.Goals as goal
 
 pub returns : goal.returns
-returns c = let p = places_kept in shown_lines_stand
+returns c = shown_lines_stand
