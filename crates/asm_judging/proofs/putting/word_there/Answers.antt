@@ -1,4 +1,3 @@
-use Rattle.std.proofs.Common.{◌∙◌, ap}
 use Rattle.asm_units.specs.Emitting.{stored_of}
 use Rattle.asm_model.specs.Says.{mapped}
 use Rattle.asm_judging.specs.Putting.{word_piece}
