@@ -3,11 +3,11 @@
 
 mod judging;
 mod line;
-mod literals;
+pub mod literals;
 mod locals;
 mod names;
-mod registers;
-mod sets;
-mod whole;
+pub mod registers;
+pub mod sets;
+pub mod whole;
 
 pub use crate::judging::judge;
