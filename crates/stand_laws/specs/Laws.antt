@@ -16,7 +16,7 @@ use Rattle.patch_model.specs.Patched.{Veneers}
 use Rattle.patch_model.specs.Reaches.{View}
 use Rattle.said_model.specs.Said.{AllSaid}
 use Rattle.source_laws.specs.Laws.{InArmState}
-use Rattle.source_model.specs.Objects.{Piece, Source, source_of, At, StandsIn, IsAmong, pieces_at, word_at, IsObject}
+use Rattle.source_model.specs.Objects.{Piece, source_of, At, StandsIn, IsAmong, pieces_at, word_at, IsObject}
 use Rattle.source_model.specs.SourceFaults.{layout_faults, value_faults}
 use Rattle.stand_model.specs.Placed.{IsPlaced, ShowsObject}
 use Rattle.stand_model.specs.Shown.{IsShown}
@@ -75,7 +75,7 @@ ShownLinesStand =
     → ((p : Piece) → IsAmong p (pieces_at (source_of statements) l at) → IsShown (source_of statements) values view region (values.base area) p)
     → ((i : ℕ) → i < area_size area (pieces_of (laid statements)) → IsGap (source_of statements) area i → view (values.base area + i) ≡ Some 0)
     → Stands (scene_at (source_of statements) l at view region values) (values.base area + l.offset) l.size
-      (address_behind (values.base area) (word_at (source_of statements) l at)) l.statement.what
+    (address_behind (values.base area) (word_at (source_of statements) l at)) l.statement.what
 
 -- so wherever an object is placed, its source's statements stand
 abbrev pub ObjectsStand : Type 0
