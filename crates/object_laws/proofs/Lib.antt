@@ -1,0 +1,5 @@
+pub mod BitLemmas
+pub mod FaultLemmas
+pub mod OriginLemmas
+pub mod SizeLemmas
+pub mod TargetLemmas
