@@ -107,8 +107,8 @@ field_is d f small h = by_whole (d % 4 == 0) refl h
   where
     held : d % 4 ≡ 0 → (b c : Bool) → nat_lt d (2 ^ 25) ≡ b → nat_le (2 ^ 32 - 2 ^ 25) d ≡ c → (b || c) ≡ true
         → (x : ℕ) → (x + sign_extended (d / 4 % 2 ^ 24) 24 * 4) % 2 ^ 32 ≡ (x + d) % 2 ^ 32
-    held whole true c s t or = field_spans d f whole (ltb-true d (2 ^ 25) s)
-    held whole false true s t or = field_spans_back d f whole small (leb-true (2 ^ 32 - 2 ^ 25) d t)
+    held whole true c s t or = field_spans d whole (ltb-true d (2 ^ 25) s)
+    held whole false true s t or = field_spans_back d whole small (leb-true (2 ^ 32 - 2 ^ 25) d t)
     held whole false false s t or = absurd (cc)
 
     by_range : d % 4 ≡ 0 → (b : Bool) → (nat_lt d (2 ^ 25) || nat_le (2 ^ 32 - 2 ^ 25) d) ≡ b → cond b (Ok (d / 4 % 2 ^ 24)) (Err OutOfRange) ≡ Ok f → Spans d f

@@ -25,9 +25,6 @@ use Rattle.stand_laws.proofs.ValueLemmas.{Setting, scene, Shown, AllShown, value
 
 -- ---- words
 
-pub sum_of_number : (n : ℕ) → (n + 0) % 2 ^ 32 ≡ (n + 0) % 2 ^ 32
-sum_of_number n = refl
-
 pub sum_by_symbol : (n m f : ℕ) → (n + (m + f)) % 2 ^ 32 ≡ ((m + n) % 2 ^ 32 + f) % 2 ^ 32
 sum_by_symbol n m f = omega arith
 

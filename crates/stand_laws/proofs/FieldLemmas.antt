@@ -44,12 +44,12 @@ distance_leads limit base at o a p small e h =
 
 -- ---- branches
 
-pub field_spans : (d f : ℕ) → d % 4 ≡ 0 → d < 2 ^ 25 → (x : ℕ) → (x + sign_extended (d / 4 % 2 ^ 24) 24 * 4) % 2 ^ 32 ≡ (x + d) % 2 ^ 32
-field_spans d f whole low x = grind arith
+pub field_spans : (d : ℕ) → d % 4 ≡ 0 → d < 2 ^ 25 → (x : ℕ) → (x + sign_extended (d / 4 % 2 ^ 24) 24 * 4) % 2 ^ 32 ≡ (x + d) % 2 ^ 32
+field_spans d whole low x = grind arith
 
-pub field_spans_back : (d f : ℕ) → d % 4 ≡ 0 → d < 2 ^ 32 → 2 ^ 32 - 2 ^ 25 ≤ d
+pub field_spans_back : (d : ℕ) → d % 4 ≡ 0 → d < 2 ^ 32 → 2 ^ 32 - 2 ^ 25 ≤ d
     → (x : ℕ) → (x + sign_extended (d / 4 % 2 ^ 24) 24 * 4) % 2 ^ 32 ≡ (x + d) % 2 ^ 32
-field_spans_back d f whole small high x = grind arith
+field_spans_back d whole small high x = grind arith
 
 -- ---- immediate operands
 

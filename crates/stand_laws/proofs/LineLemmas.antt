@@ -73,8 +73,8 @@ line_stands k area at a ready x s size word (what.Directive l) us h shown stay m
 
 -- ---- zeros
 
-pub lies_before : (i offset size start end : ℕ) → i < size → offset + size ≤ start → offset + i < start
-lies_before i offset size start end h k = omega arith
+pub lies_before : (i offset size start : ℕ) → i < size → offset + size ≤ start → offset + i < start
+lies_before i offset size start h k = omega arith
 
 pub lies_behind : (i offset end m : ℕ) → end ≤ m → m ≤ offset → end ≤ offset + i
 lies_behind i offset end m h k = omega arith
@@ -104,7 +104,7 @@ nothing_there ss sound arm area after before l e here bare pool i small p x =
         inr (lies_behind i l.offset (p.0 + length (unit_bytes p.1)) (m.offset + m.size) inside.1
         (statements_stand_apart ss sound area after b.0 x.at.before l m (e ∙ ap (λ z. after ++ l ∷ z) b.1) here x.own))
     of_place k inside (inr (inr b)) =
-        inl (lies_before i l.offset l.size p.0 0 small
+        inl (lies_before i l.offset l.size p.0 small
         (chain (l.offset + l.size) m.offset m.offset p.0
         (statements_stand_apart ss sound area x.at.rest b.0 before m l (x.at.parts ∙ ap (λ z. x.at.rest ++ m ∷ z) b.1) x.own here) (omega arith) inside.0))
 
@@ -115,7 +115,7 @@ nothing_there ss sound arm area after before l e here bare pool i small p x =
       where
         by_side : (p.0 ≡ w.place) × (p.0 + length (unit_bytes p.1) ≡ w.place + 4) → (l.offset + l.size ≤ w.place) ⊎ (w.place + 4 ≤ l.offset)
             → (l.offset + i < p.0) ⊎ (p.0 + length (unit_bytes p.1) ≤ l.offset + i)
-        by_side y (inl a) = inl (lies_before i l.offset l.size p.0 0 small (subst (λ z. l.offset + l.size ≤ z) (sym y.0) a))
+        by_side y (inl a) = inl (lies_before i l.offset l.size p.0 small (subst (λ z. l.offset + l.size ≤ z) (sym y.0) a))
         by_side y (inr a) = inr (subst (λ z. z ≤ l.offset + i) (sym y.1) (lies_behind i l.offset (w.place + 4) l.offset a (omega arith)))
 
     by_kind : IsAmong p (own_units ss x.at.rest m x.at.before) ⊎ IsAmong p (own_words ss x.at.rest m x.at.before)

@@ -74,10 +74,6 @@ placed_same k q m n (Some a) h = offset_same a.1 m n _ _ h
 pub mod_same : (k m n : ℕ) → Same32 k (m + n) → Same32 k ((m + n) % 2 ^ 32)
 mod_same k m n h = omega (arith, h)
 
-pub stored_from : (k : Setting) (q : Result Value LineKind) (w st : Stored) → stored k.context (datum_names k.source.statements) q ≡ Ok w
-    → stored k.context (datum_names k.source.statements) q ≡ Ok st → w ≡ st
-stored_from k q w st h g = let e : Ok w ≡ Ok st = sym h ∙ g in cc
-
 -- a name's value plus the number
 pub sum_stored : (k : Setting) (n : ℕ) (f r : Result Value LineKind) (st : Stored) → ((v : Value) → f ≡ Ok v → Plus v n r)
     → stored k.context (datum_names k.source.statements) (on_both f (Ok (Number n)) (binary (sees k.context) Add)) ≡ Ok st → StoresSame k r st
