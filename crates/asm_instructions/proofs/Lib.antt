@@ -1,4 +1,6 @@
 pub mod AlikeLemmas
 pub mod ContextLemmas
+pub mod FitLemmas
 mod PlaceLemmas
 mod RotationLemmas
+pub mod WordLemmas

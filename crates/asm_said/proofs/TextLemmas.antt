@@ -1,6 +1,6 @@
 -- Names that a line says hold no zero byte, only an area of code has the marks of code, and operands of DCD have no place
 -- as a constant.
-use Rattle.std.proofs.Common.{◌≡◌, ◌≢◌, ℕ, ◌-◌, ◌==◌, nat_le, nat_lt, List, [], ◌∷◌, ◌++◌, length, take, ◌||◌, ◌&&◌, not, Bool, true, false, cond, refl, subst, sym, arith, Option, Some, None, inl, inr}
+use Rattle.std.proofs.Common.{◌≡◌, ◌≢◌, ℕ, ◌-◌, ◌==◌, List, [], ◌∷◌, ◌++◌, length, take, ◌||◌, ◌&&◌, not, Bool, true, false, cond, refl, subst, sym, arith, Option, Some, None, inl, inr}
 use Rattle.std.specs.Prelude.{Result, Ok, Err}
 use Rattle.std.specs.List.{AllByRecursion, list_all}
 use Rattle.std.proofs.lemmas.Bool.{and_parts, or_parts}
@@ -84,7 +84,7 @@ barred_text (b ∷ c ∷ cs) h =
 pub short_text : (s : List ℕ) → is_short s ≡ true → HoldsNoZero s
 short_text [] h = tt
 short_text (c ∷ []) h = (digit_text c h, tt)
-short_text (c ∷ d ∷ []) h = let p = and_parts (is_digit c) (is_digit d) h in (digit_text c p.0, digit_text d p.1, tt)
+short_text (c ∷ d ∷ []) h = let p = and_parts (is_digit c) (is_digit d) h in (digit_text c p.0, (digit_text d p.1, tt))
 short_text (c ∷ d ∷ e ∷ cs) h = absurd (cc)
 
 -- ---- names

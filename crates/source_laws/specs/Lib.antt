@@ -1,3 +1,2 @@
 -- What the laws of emission cite.
-pub mod Fits
 pub mod Laws

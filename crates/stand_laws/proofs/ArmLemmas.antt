@@ -1,5 +1,5 @@
 -- Instructions: transfers with a label, branches, and all others.
-use Rattle.std.proofs.Common.{◌≡◌, ℕ, ◌+◌, ◌-◌, ◌*◌, ◌/◌, ◌%◌, ◌^◌, ◌<◌, ◌≤◌, ◌==◌, ◌||◌, ◌&&◌, nat_lt, nat_le, List, [], ◌∷◌, Bool, true, false, cond, refl, sym, ◌∙◌, ap, subst, arith, Option, Some, None, ◌⊎◌, inl, inr}
+use Rattle.std.proofs.Common.{◌≡◌, ℕ, ◌+◌, ◌-◌, ◌*◌, ◌/◌, ◌%◌, ◌^◌, ◌<◌, ◌≤◌, ◌==◌, ◌||◌, ◌&&◌, nat_lt, nat_le, List, [], ◌∷◌, Bool, true, false, cond, refl, sym, ◌∙◌, ap, subst, arith, Option, Some, None, inl}
 use Rattle.std.specs.Prelude.{Result, Ok, Err}
 use Rattle.std.specs.List.{list_any}
 use Rattle.std.proofs.lemmas.Bool.{ltb-true, leb-true, eqb-true}
@@ -25,7 +25,7 @@ use Rattle.layout_model.specs.Symbols.{is_in_area, same_state}
 use Rattle.patch_model.specs.Fields.{Meant}
 use Rattle.patch_model.specs.Laws.{state_of}
 use Rattle.patch_model.specs.Reaches.{Reaches}
-use Rattle.source_model.specs.Contexts.{Context, sees, value_of, register, in_own_area, own_offset, offset_below, from_pc as away_from}
+use Rattle.source_model.specs.Contexts.{sees, value_of, register, in_own_area, own_offset, offset_below, from_pc as away_from}
 use Rattle.source_model.specs.ArmForms.{arm_instruction, branch_field, is_settled, offset_at, branch_from, has_symbol, branch_displacement}
 use Rattle.source_model.specs.Units.{Instruction, linked_symbol, branch_symbol}
 use Rattle.stand_model.specs.Shown.{meant_by, LinkedBranch}
@@ -107,8 +107,8 @@ field_is d f small h = by_whole (d % 4 == 0) refl h
   where
     held : d % 4 ≡ 0 → (b c : Bool) → nat_lt d (2 ^ 25) ≡ b → nat_le (2 ^ 32 - 2 ^ 25) d ≡ c → (b || c) ≡ true
         → (x : ℕ) → (x + sign_extended (d / 4 % 2 ^ 24) 24 * 4) % 2 ^ 32 ≡ (x + d) % 2 ^ 32
-    held whole true c s t or = field_spans d f whole (ltb-true d (2 ^ 25) s)
-    held whole false true s t or = field_spans_back d f whole small (leb-true (2 ^ 32 - 2 ^ 25) d t)
+    held whole true c s t or = field_spans d whole (ltb-true d (2 ^ 25) s)
+    held whole false true s t or = field_spans_back d whole small (leb-true (2 ^ 32 - 2 ^ 25) d t)
     held whole false false s t or = absurd (cc)
 
     by_range : d % 4 ≡ 0 → (b : Bool) → (nat_lt d (2 ^ 25) || nat_le (2 ^ 32 - 2 ^ 25) d) ≡ b → cond b (Ok (d / 4 % 2 ^ 24)) (Err OutOfRange) ≡ Ok f → Spans d f
@@ -178,17 +178,17 @@ direct k area at a ready x condition link e d f o target h field s means t = rec
   target = target;
   means = means;
   reaches = inl (
-        record {
-          condition = condition;
-          link = link;
-          field = f;
-          word = s.word;
-          shows = s.shows;
-          reads = s.reads;
-          leads = direct_leads k.base at o a d f target ready.small x h (field_is d f (away_small at o d h) field) t;
-        },
-        refl,
-      );
+    record {
+      condition = condition;
+      link = link;
+      field = f;
+      word = s.word;
+      shows = s.shows;
+      reads = s.reads;
+      leads = direct_leads k.base at o a d f target ready.small x h (field_is d f (away_small at o d h) field) t;
+    },
+    refl,
+  );
 }
 
 pub settled_in : (x : Option ℕ) (a : Option (ℕ × ℕ)) (area : ℕ) (t : Bool) → x ≡ Some area → (is_in_area x a && t) ≡ true → (b : ℕ) × (a ≡ Some (area, b))

@@ -14,19 +14,16 @@ use Rattle.layout_model.specs.Extents.{value_there}
 use Rattle.layout_model.specs.Marks.{counts_one, thumb_bit, datum_names}
 use Rattle.layout_model.specs.Placing.{placed_value, CountFromHere}
 use Rattle.patch_model.specs.Fields.{is_thumb_label}
-use Rattle.patch_model.specs.Reaches.{View, Shows, ShowsWord}
+use Rattle.patch_model.specs.Reaches.{Shows, ShowsWord}
 use Rattle.source_model.specs.Contexts.{Context, sees, value_of, number_in, and_then}
-use Rattle.source_model.specs.Objects.{Piece, Source, units_from, unit_bytes, IsAmong, symbol_number}
-use Rattle.source_model.specs.Units.{Emitted, Bytes, Word, Stored, Target, Nothing, ByArea, BySymbol, placed, stored, word_units, narrow, half_units, byte_operand, byte_units}
+use Rattle.source_model.specs.Objects.{units_from, unit_bytes}
+use Rattle.source_model.specs.Units.{Emitted, Bytes, Word, Stored, placed, stored, word_units, narrow, half_units, byte_operand, byte_units}
 use Rattle.stand_model.specs.Shown.{added_by, meant_by}
-use Rattle.stand_model.specs.Stands.{WordStands, WordsStand, HalfStands, HalvesStand, AreBytesOf, BytesStand, mark_of, mark_at}
-use Rattle.stand_laws.proofs.ResultLemmas.{ok_or, Both, both_ok, then_ok}
+use Rattle.stand_model.specs.Stands.{WordStands, WordsStand, HalvesStand, AreBytesOf, BytesStand, mark_of}
+use Rattle.stand_laws.proofs.ResultLemmas.{ok_or, both_ok, then_ok}
 use Rattle.stand_laws.proofs.ValueLemmas.{Setting, scene, Shown, AllShown, value_stands, number_stands}
 
 -- ---- words
-
-pub sum_of_number : (n : ℕ) → (n + 0) % 2 ^ 32 ≡ (n + 0) % 2 ^ 32
-sum_of_number n = refl
 
 pub sum_by_symbol : (n m f : ℕ) → (n + (m + f)) % 2 ^ 32 ≡ ((m + n) % 2 ^ 32 + f) % 2 ^ 32
 sum_by_symbol n m f = omega arith
@@ -94,8 +91,7 @@ words_stand k [] us a at here x h s = tt
 words_stand k (e ∷ es) us a at here x h s =
     let d = datum_names k.source.statements in
     let b = both_ok (λ w vs. Word w ∷ vs) (stored k.context d (value_of k.context e)) (word_units k.context d es) us h in
-    let f = first_shown k at (Word b.first) b.second us b.gives s in
-    (
+    let f = first_shown k at (Word b.first) b.second us b.gives s in (
       word_stands k a e (value_of k.context e) b.first here refl b.is_first (subst (λ z. ShowsWord k.view z (total_of k b.first)) (sym x) f.0),
       words_stand k es b.second (a + 4) (at + 4) here (further a k.base at 4 x) b.is_second f.1,
     )
@@ -119,8 +115,7 @@ halves_stand k (e ∷ es) us a at here x h s =
     let b = both_ok (λ b vs. Bytes b ∷ vs) (and_then (number_in k.context e) (narrow 2)) (half_units k.context es) us h in
     let t = then_ok (narrow 2) (number_in k.context e) b.first b.is_first in
     let n = narrow_is 2 t.from b.first t.gives in
-    let f = first_shown k at (Bytes b.first) b.second us b.gives s in
-    (
+    let f = first_shown k at (Bytes b.first) b.second us b.gives s in (
       record {
         number = t.from;
         means = number_stands (scene k) e t.from here t.is;
@@ -149,8 +144,7 @@ pub bytes_stand : (k : Setting) (s : Sight) (es : List Expr) (us : List Emitted)
 bytes_stand k s [] us a at here stay x h shown = tt
 bytes_stand k s (e ∷ es) us a at here stay x h shown =
     let b = both_ok (λ b vs. Bytes b ∷ vs) (byte_operand (value_there s e) (value_of k.context e)) (byte_units k.context s es) us h in
-    let f = first_shown k at (Bytes b.first) b.second us b.gives shown in
-    (
+    let f = first_shown k at (Bytes b.first) b.second us b.gives shown in (
       b.first,
       by_kind (byte_is (value_there s e) (value_of k.context e) b.first b.is_first),
       subst (λ z. Shows k.view z b.first) (sym x) f.0,

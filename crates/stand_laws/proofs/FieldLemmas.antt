@@ -1,17 +1,15 @@
 -- Numbers in the fields of instructions: distances from pc, displacements of branches and immediate operands.
-use Rattle.std.proofs.Common.{◌≡◌, ℕ, zero, suc, ◌+◌, ◌-◌, ◌*◌, ◌/◌, ◌%◌, ◌^◌, ◌<◌, ◌≤◌, ◌==◌, ◌||◌, nat_lt, nat_le, List, [], ◌∷◌, Bool, true, false, cond, refl, sym, ◌∙◌, ap, subst, arith, Option, Some, None, ◌⊎◌, inl, inr}
-use Rattle.std.specs.Prelude.{Result, Ok, Err}
+use Rattle.std.proofs.Common.{◌≡◌, ℕ, zero, suc, ◌+◌, ◌-◌, ◌*◌, ◌/◌, ◌%◌, ◌^◌, ◌<◌, ◌≤◌, nat_lt, List, [], ◌∷◌, Bool, true, false, cond, refl, sym, ◌∙◌, ap, arith, Some}
+use Rattle.std.specs.Prelude.{Ok, Err}
 use Rattle.std.proofs.Math.Nat.{div-mul-le_self, le_trans}
 use Rattle.std.proofs.lemmas.Nat.{mul-le}
-use Rattle.std.proofs.lemmas.Bool.{ltb-true, ltb-false}
-use Rattle.sdt_fault.specs.declared.kinds.LineKind.{LineKind}
-use Rattle.sdt_fault.specs.declared.kinds.LineKind.TheVariants.{OutOfRange, BadOperand}
+use Rattle.std.proofs.lemmas.Bool.{ltb-false}
+use Rattle.sdt_fault.specs.declared.kinds.LineKind.TheVariants.{OutOfRange}
 use Rattle.sdt_word.specs.Numbers.{rotated, operand, sign_extended}
 use Rattle.sdt_word.proofs.NumbersLemmas.{rotated-back, rotated-none, rotated-whole}
 use Rattle.source_model.specs.Contexts.{is_positive, magnitude, offset_below}
-use Rattle.source_model.specs.ArmForms.{branch_field}
 use Rattle.source_model.specs.Immediates.{rotations, turned_back, immediate_among, immediate, negated}
-use Rattle.source_model.specs.PseudoForms.{places, lowest_among, first_part, second_part}
+use Rattle.source_model.specs.PseudoForms.{places, lowest_among, first_part}
 use Rattle.stand_model.specs.Stands.{from_pc, moved}
 
 -- ---- distances
@@ -46,12 +44,12 @@ distance_leads limit base at o a p small e h =
 
 -- ---- branches
 
-pub field_spans : (d f : ℕ) → d % 4 ≡ 0 → d < 2 ^ 25 → (x : ℕ) → (x + sign_extended (d / 4 % 2 ^ 24) 24 * 4) % 2 ^ 32 ≡ (x + d) % 2 ^ 32
-field_spans d f whole low x = grind arith
+pub field_spans : (d : ℕ) → d % 4 ≡ 0 → d < 2 ^ 25 → (x : ℕ) → (x + sign_extended (d / 4 % 2 ^ 24) 24 * 4) % 2 ^ 32 ≡ (x + d) % 2 ^ 32
+field_spans d whole low x = grind arith
 
-pub field_spans_back : (d f : ℕ) → d % 4 ≡ 0 → d < 2 ^ 32 → 2 ^ 32 - 2 ^ 25 ≤ d
+pub field_spans_back : (d : ℕ) → d % 4 ≡ 0 → d < 2 ^ 32 → 2 ^ 32 - 2 ^ 25 ≤ d
     → (x : ℕ) → (x + sign_extended (d / 4 % 2 ^ 24) 24 * 4) % 2 ^ 32 ≡ (x + d) % 2 ^ 32
-field_spans_back d f whole small high x = grind arith
+field_spans_back d whole small high x = grind arith
 
 -- ---- immediate operands
 

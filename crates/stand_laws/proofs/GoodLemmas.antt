@@ -37,9 +37,9 @@ use Rattle.source_model.specs.Objects.{Piece, unit_bytes, units_from, or_none, s
 use Rattle.source_model.specs.PseudoForms.{pseudo_instructions}
 use Rattle.source_model.specs.Registers.{Named, register_in, as_register, given, with_register, named_by, registers_behind}
 use Rattle.source_model.specs.Units.{Emitted, Bytes, Word, Instruction, Stored, Target, Nothing, ByArea, BySymbol, placed, stored, word_units, narrow, half_units, byte_operand, byte_units, branch_symbol, instruction_units, units}
-use Rattle.source_laws.specs.Fits.{NamesRegisters, Fits, AllFit}
+use Rattle.asm_instructions.specs.Fits.{NamesRegisters, Fits, AllFit}
 use Rattle.source_laws.specs.Laws.{word_among, context_behind}
-use Rattle.source_laws.proofs.FitLemmas.{instruction_fits, pseudo_instructions_fit}
+use Rattle.asm_instructions.proofs.FitLemmas.{instruction_fits, pseudo_instructions_fit}
 use Rattle.source_laws.proofs.LineLemmas.{is_laid, stands_in}
 use Rattle.source_laws.proofs.ThingLemmas.{IsWord, is_word, among_either, own_units, own_words, known_extent}
 use Rattle.source_laws.proofs.WithinLemmas.{SeesWithin, names_within, line_within, stands_within, area_stands, areas_more}

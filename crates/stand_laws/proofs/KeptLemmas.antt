@@ -1,11 +1,9 @@
 -- An expression in which names that a line doesn't know stay names, by what all names make of it.
-use Rattle.std.proofs.Common.{◌≡◌, ℕ, ◌+◌, ◌%◌, ◌^◌, List, [], ◌∷◌, ◌++◌, Bool, true, false, cond, refl, sym, ◌∙◌, ap, subst, arith, Option, Some, None, ◌⊎◌, inl, inr}
+use Rattle.std.proofs.Common.{◌≡◌, ℕ, List, [], ◌∷◌, Bool, true, false, cond, refl, sym, ◌∙◌, ap, subst, arith, Option, Some, None, inr}
 use Rattle.std.specs.Prelude.{Result, Ok, Err}
 use Rattle.std.specs.Option.{is_some}
-use Rattle.std.specs.Ordering.{nat_cmp}
 use Rattle.sdt_fault.specs.declared.kinds.LineKind.{LineKind}
 use Rattle.asm_model.specs.declared.exprs.BinaryOp.{BinaryOp}
-use Rattle.asm_model.specs.declared.exprs.BinaryOp.TheVariants.{Add}
 use Rattle.asm_model.specs.declared.exprs.ExprItem.{ExprItem}
 use Rattle.asm_model.specs.declared.exprs.ExprItem.TheVariants as item
 use Rattle.asm_model.specs.declared.exprs.UnaryOp.{UnaryOp}
@@ -14,15 +12,15 @@ use Rattle.asm_model.specs.declared.names.LaidName.{LaidName}
 use Rattle.asm_model.specs.declared.names.Names.{Names}
 use Rattle.asm_model.specs.declared.values.Value.{Value}
 use Rattle.asm_model.specs.declared.values.Value.TheVariants.{Number, Truth, Words, Place}
-use Rattle.asm_model.specs.AtLine.{Sight, is_in, name_kinds, unless_told, value_at, kept_name, kept_names, literal_or, literal_at}
+use Rattle.asm_model.specs.AtLine.{Sight, is_in, name_kinds, kept_name, kept_names}
 use Rattle.asm_model.specs.Grammar.{Tree, Leaf, Before, Between}
-use Rattle.asm_model.specs.Meaning.{named_in, stands_at, as_place, binary, unary_of, Known, value_of, known, then_of, on_both, applied, operand_of_item, operand_of_tree, meaning}
+use Rattle.asm_model.specs.Meaning.{named_in, binary, unary_of, Known, value_of, then_of, on_both, applied, meaning}
 use Rattle.asm_model.proofs.LineLemmas.{applied_known, both_empty}
 use Rattle.layout_model.specs.PlacedLines.{IsName}
-use Rattle.layout_laws.proofs.RoundLemmas.{SymbolIs, ResultIs}
+use Rattle.layout_laws.proofs.RoundLemmas.{ResultIs}
 use Rattle.source_laws.proofs.BareLemmas.{TreeEach, HoldsConstant}
 use Rattle.stand_laws.specs.Laws.{ItemNamed}
-use Rattle.stand_laws.proofs.LiteralLemmas.{Same32, Plus, moves, adds, plus_moved, plus_added, Later, Held, Loads, exact, whole, places_kept}
+use Rattle.stand_laws.proofs.LiteralLemmas.{Plus, moves, adds, plus_moved, plus_added, Later, Loads, exact, whole, places_kept}
 
 -- ---- operators between values
 

@@ -1,7 +1,6 @@
 -- A statement by its units, and the zeros where a statement puts nothing.
-use Rattle.std.proofs.Common.{◌≡◌, ℕ, ◌+◌, ◌^◌, ◌<◌, ◌≤◌, List, [], ◌∷◌, ◌++◌, length, Bool, true, false, refl, sym, ◌∙◌, ap, subst, arith, Option, Some, None, ◌⊎◌, inl, inr}
-use Rattle.std.specs.Prelude.{Result, Ok, Err}
-use Rattle.sdt_fault.specs.declared.kinds.LineKind.{LineKind}
+use Rattle.std.proofs.Common.{◌≡◌, ℕ, ◌+◌, ◌<◌, ◌≤◌, List, [], ◌∷◌, ◌++◌, length, false, sym, ◌∙◌, ap, subst, arith, Option, Some, ◌⊎◌, inl, inr}
+use Rattle.std.specs.Prelude.{Ok}
 use Rattle.arm_isa.specs.declared.instr.ArmInstr.{ArmInstr}
 use Rattle.asm_model.specs.declared.directives.DirectiveLine.{DirectiveLine}
 use Rattle.asm_model.specs.declared.directives.DirectiveLine.TheVariants as line
@@ -9,13 +8,12 @@ use Rattle.asm_model.specs.declared.statements.Statement.{Statement}
 use Rattle.asm_model.specs.declared.statements.What.{What}
 use Rattle.asm_model.specs.declared.statements.What.TheVariants as what
 use Rattle.asm_model.specs.AtLine.{Sight}
-use Rattle.asm_model.specs.Says.{mapped}
 use Rattle.layout_model.specs.Laid.{LaidLine, taken, pieces_of, laid}
 use Rattle.layout_model.specs.Marks.{datum_names}
 use Rattle.layout_model.specs.Offsets.{area_size, is_pool}
 use Rattle.layout_laws.specs.Sound.{IsSound}
 use Rattle.source_model.specs.ArmForms.{arm_instruction}
-use Rattle.source_model.specs.Objects.{Piece, unit_bytes, units_from, or_none, source_of, StandsIn, IsAmong}
+use Rattle.source_model.specs.Objects.{unit_bytes, units_from, or_none, source_of, IsAmong}
 use Rattle.source_model.specs.PseudoForms.{pseudo_instructions}
 use Rattle.source_model.specs.Units.{Emitted, Instruction, branch_symbol, instruction_units, directive_units, units}
 use Rattle.source_laws.specs.Laws.{is_filled, InArmState, context_behind, word_among}
@@ -31,7 +29,7 @@ use Rattle.stand_laws.proofs.ArmLemmas.{Ready, BranchMeets, arm_stands}
 use Rattle.stand_laws.proofs.DataLemmas.{KnownStay, words_stand, halves_stand, bytes_stand, first_shown}
 use Rattle.stand_laws.proofs.PseudoLemmas.{PseudoHolds, pseudo_stands}
 use Rattle.stand_laws.proofs.ResultLemmas.{mapped_ok}
-use Rattle.stand_laws.proofs.ValueLemmas.{Setting, scene, Shown, AllShown}
+use Rattle.stand_laws.proofs.ValueLemmas.{Setting, scene, AllShown}
 
 -- ---- statements
 
@@ -75,8 +73,8 @@ line_stands k area at a ready x s size word (what.Directive l) us h shown stay m
 
 -- ---- zeros
 
-pub lies_before : (i offset size start end : ℕ) → i < size → offset + size ≤ start → offset + i < start
-lies_before i offset size start end h k = omega arith
+pub lies_before : (i offset size start : ℕ) → i < size → offset + size ≤ start → offset + i < start
+lies_before i offset size start h k = omega arith
 
 pub lies_behind : (i offset end m : ℕ) → end ≤ m → m ≤ offset → end ≤ offset + i
 lies_behind i offset end m h k = omega arith
@@ -99,14 +97,14 @@ nothing_there ss sound arm area after before l e here bare pool i small p x =
         → (l.offset + i < p.0) ⊎ (p.0 + length (unit_bytes p.1) ≤ l.offset + i)
     of_place k inside (inl s) =
         let none = other_units_are_none (context_behind ss m x.at.before) (datum_names ss) m.seen (word_among x.at.rest m x.at.before) m.statement.what
-            (subst (λ (z : LaidLine). is_filled z.statement.what ≡ false) s.0 bare) in
+        (subst (λ (z : LaidLine). is_filled z.statement.what ≡ false) s.0 bare) in
         let k2 : IsAmong p [] = subst (λ r. IsAmong p (units_from m.offset (or_none r))) none k in
         absurd k2
     of_place k inside (inr (inl b)) =
         inr (lies_behind i l.offset (p.0 + length (unit_bytes p.1)) (m.offset + m.size) inside.1
         (statements_stand_apart ss sound area after b.0 x.at.before l m (e ∙ ap (λ z. after ++ l ∷ z) b.1) here x.own))
     of_place k inside (inr (inr b)) =
-        inl (lies_before i l.offset l.size p.0 0 small
+        inl (lies_before i l.offset l.size p.0 small
         (chain (l.offset + l.size) m.offset m.offset p.0
         (statements_stand_apart ss sound area x.at.rest b.0 before m l (x.at.parts ∙ ap (λ z. x.at.rest ++ m ∷ z) b.1) x.own here) (omega arith) inside.0))
 
@@ -117,7 +115,7 @@ nothing_there ss sound arm area after before l e here bare pool i small p x =
       where
         by_side : (p.0 ≡ w.place) × (p.0 + length (unit_bytes p.1) ≡ w.place + 4) → (l.offset + l.size ≤ w.place) ⊎ (w.place + 4 ≤ l.offset)
             → (l.offset + i < p.0) ⊎ (p.0 + length (unit_bytes p.1) ≤ l.offset + i)
-        by_side y (inl a) = inl (lies_before i l.offset l.size p.0 0 small (subst (λ z. l.offset + l.size ≤ z) (sym y.0) a))
+        by_side y (inl a) = inl (lies_before i l.offset l.size p.0 small (subst (λ z. l.offset + l.size ≤ z) (sym y.0) a))
         by_side y (inr a) = inr (subst (λ z. z ≤ l.offset + i) (sym y.1) (lies_behind i l.offset (w.place + 4) l.offset a (omega arith)))
 
     by_kind : IsAmong p (own_units ss x.at.rest m x.at.before) ⊎ IsAmong p (own_words ss x.at.rest m x.at.before)
@@ -133,8 +131,8 @@ pub zeros_there : (ss : List Statement) → IsSound ss → InArmState ss → (ar
 zeros_there ss sound arm area after before l e here bare pool view base gaps i small =
     ap view (together base l.offset i)
     ∙ gaps (l.offset + i)
-      (lies_inside i l.offset l.size (area_size area (pieces_of (laid ss))) small (statements_lie_in_areas ss sound area after before l e here))
-      (nothing_there ss sound arm area after before l e here bare pool i small)
+    (lies_inside i l.offset l.size (area_size area (pieces_of (laid ss))) small (statements_lie_in_areas ss sound area after before l e here))
+    (nothing_there ss sound arm area after before l e here bare pool i small)
   where
     together : (b o i : ℕ) → b + o + i ≡ b + (o + i)
     together b o i = omega arith

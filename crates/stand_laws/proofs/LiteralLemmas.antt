@@ -1,29 +1,20 @@
 -- The literal of a line, with all names, is the value of its expression.
-use Rattle.std.proofs.Common.{◌≡◌, ℕ, ◌+◌, ◌-◌, ◌%◌, ◌^◌, ◌==◌, List, [], ◌∷◌, ◌++◌, Bool, true, false, cond, refl, sym, ◌∙◌, ap, subst, arith, Option, Some, None, ◌⊎◌, inl, inr}
+use Rattle.std.proofs.Common.{◌≡◌, ℕ, ◌+◌, ◌%◌, ◌^◌, List, [], ◌∷◌, refl, sym, ◌∙◌, ap, subst, arith, Option, Some, None, ◌⊎◌, inl, inr}
 use Rattle.std.specs.Prelude.{Result, Ok, Err}
-use Rattle.std.specs.Option.{is_some}
-use Rattle.std.specs.Ordering.{nat_cmp}
 use Rattle.sdt_fault.specs.declared.kinds.LineKind.{LineKind}
 use Rattle.asm_model.specs.declared.exprs.BinaryOp.{BinaryOp}
 use Rattle.asm_model.specs.declared.exprs.BinaryOp.TheVariants.{Add, Subtract}
-use Rattle.asm_model.specs.declared.exprs.ExprItem.{ExprItem}
 use Rattle.asm_model.specs.declared.exprs.ExprItem.TheVariants as item
-use Rattle.asm_model.specs.declared.exprs.UnaryOp.{UnaryOp}
-use Rattle.asm_model.specs.declared.exprs.UnaryOp.TheVariants as unary
-use Rattle.asm_model.specs.declared.names.LaidName.{LaidName}
 use Rattle.asm_model.specs.declared.names.Names.{Names}
 use Rattle.asm_model.specs.declared.values.Value.{Value}
 use Rattle.asm_model.specs.declared.values.Value.TheVariants.{Number, Truth, Words, Place}
-use Rattle.asm_model.specs.AtLine.{Sight, is_in, name_kinds, unless_told, value_at, kept_name, kept_names, literal_or, literal_at}
-use Rattle.asm_model.specs.Grammar.{Tree, Leaf, Before, Between}
+use Rattle.asm_model.specs.AtLine.{Sight, name_kinds, unless_told, value_at}
+use Rattle.asm_model.specs.Grammar.{Tree, Leaf, Between}
 use Rattle.asm_model.specs.Kinds.{told_kind}
-use Rattle.asm_model.specs.Meaning.{named_in, entry_stands_at, stands_at, less, related, arithmetic, moved_place, added_place, distance, between_places, as_number, as_place, truth_or, binary, unary_of, Known, value_of, known, then_of, on_both, applied, operand_of_item, operand_of_tree, meaning}
-use Rattle.asm_model.proofs.LineLemmas.{applied_known, both_empty, number_more}
-use Rattle.layout_model.specs.PlacedLines.{IsName}
-use Rattle.layout_model.specs.Symbols.{literal_value}
-use Rattle.layout_laws.proofs.RoundLemmas.{SymbolIs, ResultIs}
+use Rattle.asm_model.specs.Meaning.{named_in, entry_stands_at, stands_at, less, moved_place, added_place, distance, between_places, as_number, as_place, binary, value_of, on_both, meaning}
+use Rattle.asm_model.proofs.LineLemmas.{number_more}
+use Rattle.layout_laws.proofs.RoundLemmas.{ResultIs}
 use Rattle.source_laws.proofs.BareLemmas.{TreeEach, HoldsConstant}
-use Rattle.stand_laws.specs.Laws.{ItemNamed}
 
 -- ---- numbers modulo 2^32
 
@@ -208,4 +199,4 @@ places_kept s final Own later op a b p q x r u h g i =
     ap (λ z. on_both z u (binary final op)) first.1
     ∙ ap (λ z. on_both (Ok (Place a first.0)) z (binary final op)) second.1
     ∙ number_more (between_places final op a p b q) (between_places final op a first.0 b second.0) x
-      (λ n. between_same final op a b p q first.0 second.0 n first.2 second.2) (later.known (constants op (Place a p) (Place b q)) x h)
+    (λ n. between_same final op a b p q first.0 second.0 n first.2 second.2) (later.known (constants op (Place a p) (Place b q)) x h)

@@ -1,6 +1,6 @@
 -- Pseudo-instructions: ADR, ADRL and LDR with a literal.
-use Rattle.std.proofs.Common.{◌≡◌, ℕ, ◌+◌, ◌-◌, ◌*◌, ◌/◌, ◌%◌, ◌^◌, ◌<◌, ◌≤◌, List, [], ◌∷◌, Bool, true, false, cond, refl, sym, ◌∙◌, ap, subst, arith, Option, Some, None, ◌⊎◌, inl, inr}
-use Rattle.std.specs.Prelude.{Result, Ok, Err}
+use Rattle.std.proofs.Common.{◌≡◌, ℕ, ◌+◌, ◌-◌, ◌%◌, ◌^◌, ◌<◌, ◌≤◌, List, [], ◌∷◌, Bool, true, false, refl, sym, ◌∙◌, ap, subst, arith, Option, Some, None}
+use Rattle.std.specs.Prelude.{Result, Ok}
 use Rattle.sdt_fault.specs.declared.kinds.LineKind.{LineKind}
 use Rattle.sdt_word.specs.declared.codes.Condition.{Condition}
 use Rattle.sdt_word.specs.declared.codes.Condition.TheVariants.{Al}
@@ -10,17 +10,16 @@ use Rattle.arm_isa.specs.declared.instr.ArmInstr.TheVariants as instr
 use Rattle.arm_isa.specs.declared.instr.Operation.{Operation}
 use Rattle.arm_isa.specs.declared.instr.Operation.TheVariants.{Add, Sub, Mov}
 use Rattle.asm_model.specs.declared.exprs.Expr.{Expr}
-use Rattle.asm_model.specs.declared.operands.Register.{Register}
 use Rattle.asm_model.specs.declared.statements.PseudoLine.{PseudoLine}
 use Rattle.asm_model.specs.declared.statements.PseudoLine.TheVariants as pseudo
 use Rattle.asm_model.specs.Says.{mapped}
-use Rattle.source_model.specs.Contexts.{Context, value_of, number_in, register, own_offset, offset_below, from_pc as away_from}
+use Rattle.source_model.specs.Contexts.{value_of, number_in, register, own_offset, offset_below, from_pc as away_from}
 use Rattle.source_model.specs.Immediates.{immediate, negated, data_immediate}
 use Rattle.source_model.specs.Objects.{units_from}
 use Rattle.source_model.specs.PseudoForms.{adding, address_by, address_instruction, first_part, second_part, two_by, two_of, first_of, long_address, one, pseudo_instructions}
 use Rattle.source_model.specs.Units.{instruction_units, Instruction}
-use Rattle.stand_model.specs.Stands.{ReadsAt, AddressStands, LongStands, MoveStands, LoadStands, LiteralStands, PseudoStands, WordStands, immediate_number, moved, operation_of, address_behind}
-use Rattle.stand_laws.proofs.ArmLemmas.{Ready, own_stands, away_is, away_small}
+use Rattle.stand_model.specs.Stands.{ReadsAt, AddressStands, LongStands, PseudoStands, WordStands, immediate_number, moved, operation_of, address_behind}
+use Rattle.stand_laws.proofs.ArmLemmas.{Ready, own_stands, away_is}
 use Rattle.stand_laws.proofs.DataLemmas.{first_shown}
 use Rattle.stand_laws.proofs.FieldLemmas.{away, away_leads, distance_leads, immediate_gives, moved_up, moved_down, first_within, twice_up, twice_down}
 use Rattle.stand_laws.proofs.ResultLemmas.{then_ok, mapped_ok}

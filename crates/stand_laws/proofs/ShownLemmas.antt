@@ -19,7 +19,7 @@ use Rattle.patch_model.proofs.BranchLemmas.{branch_law}
 use Rattle.patch_model.proofs.PatchLemmas.{outside_law, word_law, reach_law, part_lt, shows_part}
 use Rattle.source_model.specs.Objects.{Piece, unit_bytes, source_of, StandsIn, HoldsBytes, symbol_number, word_relocs, relocs_of, IsRelocOf, HasRelocs}
 use Rattle.source_model.specs.Units.{Bytes, Word, Instruction, Stored, Target, Nothing, ByArea, BySymbol}
-use Rattle.source_laws.proofs.RowLemmas.{fitting_are_written}
+use Rattle.asm_instructions.proofs.WordLemmas.{fitting_are_written}
 use Rattle.stand_model.specs.Shown.{meant_by, added_by, LinkedBranch, InstructionShown, IsShown}
 use Rattle.stand_laws.proofs.LinkedLemmas.{branch_word, extended_low, target_sum, same_branch, stands_to}
 use Rattle.stand_laws.proofs.DirectiveLemmas.{Facts, fields_at_offsets, outside_thing, adds, takes}
@@ -57,10 +57,9 @@ module _ (ss : List Statement) (area : ℕ) (a : Area) (values : Values) (view :
   unchanged : (p : Piece) → StandsIn (source_of ss) area p → relocs_of (source_of ss) p ≡ [] → Shows view (values.base area + p.0) (unit_bytes p.1)
   unchanged p x none =
       let n = length (unit_bytes p.1) in
-      let same = outside_law a.relocs a.bytes (values.base area) values veneers out p.0 (length (unit_bytes p.1)) there.patched
-      (outside_thing ss area a.relocs facts there.relocs p x none) in
+      let same = outside_law a.relocs a.bytes (values.base area) values veneers out p.0 n there.patched (outside_thing ss area a.relocs facts there.relocs p x none) in
       subst (λ (l : List ℕ). Shows view (values.base area + p.0) l) (same ∙ there.holds.standing p x)
-      (shows_there view (values.base area) out (length (unit_bytes p.1)) p.0 (within p x) there.shows)
+      (shows_there view (values.base area) out n p.0 (within p x) there.shows)
 
   -- ---- words
 
@@ -96,12 +95,11 @@ module _ (ss : List Statement) (area : ℕ) (a : Area) (values : Values) (view :
       word_shown at w false k r (values.base k) x i refl is (bare (added values (r ∷ [])) (values.base k) (adds values (values.base area) r WordField false false k is))
   word_thing at w (BySymbol name) x e =
       let n = symbol_number (source_of ss) name in
-      let r : Reloc = record { offset = at; word = 2 ^ 31 + 2 ^ 27 + 2 * 2 ^ 24 + symbol_number (source_of ss) name } in
+      let m = meant_by (source_of ss) values name in
+      let r : Reloc = record { offset = at; word = 2 ^ 31 + 2 ^ 27 + 2 * 2 ^ 24 + n } in
       let i = there.relocs.all (at, Word w) r x (subst (λ (t : Target). IsRelocOf (word_relocs (source_of ss) at t) r) (sym e) (inl refl)) in
-      let is = by_symbol at (symbol_number (source_of ss) name) (facts.symbols name) in
-      word_shown at w true (symbol_number (source_of ss) name) r
-      ((meant_by (source_of ss) values name).number + flag (is_thumb_label (meant_by (source_of ss) values name))) x i refl is
-      (adds values (values.base area) r WordField false true (symbol_number (source_of ss) name) is)
+      let is = by_symbol at n (facts.symbols name) in
+      word_shown at w true n r (m.number + flag (is_thumb_label m)) x i refl is (adds values (values.base area) r WordField false true n is)
 
   -- ---- branches
 
@@ -131,17 +129,14 @@ module _ (ss : List Statement) (area : ℕ) (a : Area) (values : Values) (view :
     linked at c link d name x =
         let i : ArmInstr = instr.Branch c link d in
         let n = symbol_number (source_of ss) name in
-        let m = values.symbol (symbol_number (source_of ss) name) in
-        let good = facts.good (at, Instruction (instr.Branch c link d) (Some name)) x in
-        let w = word_of (arm_row (instr.Branch c link d)) (arm_fields (instr.Branch c link d)) in
-        let reads = fitting_are_written (instr.Branch c link d) good.0 in
-        let known = branch_word c link d (word_of (arm_row (instr.Branch c link d)) (arm_fields (instr.Branch c link d))) reads in
-        let r : Reloc = record { offset = at; word = 2 ^ 31 + 2 ^ 27 + 2 ^ 26 + 3 * 2 ^ 24 + symbol_number (source_of ss) name } in
-        let own = there.relocs.all (at, Instruction (instr.Branch c link d) (Some name)) r x (inl refl) in
-        let is = of_branch at (symbol_number (source_of ss) name) (facts.symbols name) good.1 in
-        linked_by at c link d n (word_of (arm_row (instr.Branch c link d)) (arm_fields (instr.Branch c link d))) r own refl is reads known
-        (ap number_of (there.holds.standing (at, Instruction (instr.Branch c link d) (Some name)) x))
-        (within (at, Instruction (instr.Branch c link d) (Some name)) x)
+        let w = word_of (arm_row i) (arm_fields i) in
+        let good = facts.good (at, Instruction i (Some name)) x in
+        let reads = fitting_are_written i good.0 in
+        let r : Reloc = record { offset = at; word = 2 ^ 31 + 2 ^ 27 + 2 ^ 26 + 3 * 2 ^ 24 + n } in
+        let own = there.relocs.all (at, Instruction i (Some name)) r x (inl refl) in
+        let is = of_branch at n (facts.symbols name) good.1 in
+        linked_by at c link d n w r own refl is reads (branch_word c link d w reads) (ap number_of (there.holds.standing (at, Instruction i (Some name)) x))
+        (within (at, Instruction i (Some name)) x)
       where
         linked_by : (at : ℕ) (c : Condition) (link : Bool) (d n w : ℕ) (r : Reloc) → IsRelocOf a.relocs r → r.offset ≡ at → RelocIs r (BranchField false) true true n
             → ReadsArm w (instr.Branch c link d) → (w < 2 ^ 32) × (w % 2 ^ 24 ≡ d) → word_in a.bytes at ≡ number_of (bytes_of w 4) → at + 4 ≤ length out

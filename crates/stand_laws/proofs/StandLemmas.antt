@@ -1,8 +1,6 @@
 -- A line of a source stands where memory shows what it puts into its area.
-use Rattle.std.proofs.Common.{◌≡◌, ℕ, ◌+◌, ◌%◌, ◌^◌, ◌<◌, ◌≤◌, List, [], ◌∷◌, ◌++◌, length, Bool, true, false, refl, sym, ◌∙◌, ap, subst, arith, Option, Some, None, ◌⊎◌, inl, inr}
-use Rattle.std.specs.Prelude.{Result, Ok, Err}
-use Rattle.std.specs.List.{list_any}
-use Rattle.sdt_fault.specs.declared.kinds.LineKind.{LineKind}
+use Rattle.std.proofs.Common.{◌≡◌, ℕ, ◌+◌, ◌%◌, ◌^◌, ◌<◌, ◌≤◌, List, ◌∷◌, ◌++◌, length, false, refl, sym, ◌∙◌, ap, subst, arith, Option, Some, None}
+use Rattle.std.specs.Prelude.{Ok}
 use Rattle.sdt_word.specs.declared.codes.Condition.{Condition}
 use Rattle.sdt_word.specs.declared.ranges.Range32.{Range32}
 use Rattle.aof_object.specs.declared.records.Object.{Object}
@@ -15,25 +13,21 @@ use Rattle.asm_model.specs.declared.directives.DirectiveLine.TheVariants as line
 use Rattle.asm_model.specs.declared.exprs.Expr.{Expr}
 use Rattle.asm_model.specs.declared.names.LaidName.{LaidName}
 use Rattle.asm_model.specs.declared.operands.Register.{Register}
-use Rattle.asm_model.specs.declared.statements.PseudoLine.{PseudoLine}
 use Rattle.asm_model.specs.declared.statements.PseudoLine.TheVariants as pseudo
 use Rattle.asm_model.specs.declared.statements.Statement.{Statement}
 use Rattle.asm_model.specs.declared.statements.What.{What}
 use Rattle.asm_model.specs.declared.statements.What.TheVariants as what
-use Rattle.asm_model.specs.declared.values.Value.{Value}
 use Rattle.asm_model.specs.AtLine.{Sight}
-use Rattle.asm_model.specs.Forms.{same}
 use Rattle.asm_model.specs.Meaning.{named_in, entry_stands_at, in_area}
 use Rattle.layout_model.specs.Extents.{Extent, Block, Padding, number_there, as_multiple, padding, directive_extent, extent_of}
 use Rattle.layout_model.specs.Laid.{LaidLine, taken, pieces_of, declared, laid, all_locals, final_line, final_names}
 use Rattle.layout_model.specs.LayoutKinds.{equals_in, settled}
-use Rattle.layout_model.specs.Marks.{datum_names}
 use Rattle.layout_model.specs.Offsets.{area_size, is_pool}
 use Rattle.layout_model.specs.PlacedLines.{AllNamed}
-use Rattle.layout_model.specs.Placing.{CountFromHere, address_at, address_of}
+use Rattle.layout_model.specs.Placing.{CountFromHere, address_at}
 use Rattle.layout_model.specs.Symbols.{final_sight, symbols_in, symbols_of, symbols_behind}
 use Rattle.layout_model.proofs.PlacedLemmas.{laid_lines_count_from_here, final_names_have_symbols}
-use Rattle.layout_laws.specs.Sound.{IsSound, IsBare, ArePlain}
+use Rattle.layout_laws.specs.Sound.{ArePlain}
 use Rattle.layout_laws.proofs.FinalLemmas.{known_values_are_final}
 use Rattle.object_laws.specs.Laws.{IsListed, OptionListed}
 use Rattle.object_laws.proofs.FaultLemmas.{layout_here, line_valued}
@@ -41,11 +35,9 @@ use Rattle.object_laws.proofs.SizeLemmas.{line_small}
 use Rattle.object_laws.proofs.TargetLemmas.{arm_listed, lines_listed}
 use Rattle.patch_model.specs.Fields.{Values}
 use Rattle.patch_model.specs.Reaches.{View}
-use Rattle.source_model.specs.Contexts.{Context, sees, value_of}
-use Rattle.source_model.specs.Objects.{Piece, Source, source_of, At, IsAmong, pieces_at, word_at, units_from, or_none, symbol_number, IsObject}
+use Rattle.source_model.specs.Objects.{Piece, source_of, At, IsAmong, pieces_at, word_at, units_from, or_none, IsObject}
 use Rattle.source_model.specs.SourceFaults.{layout_faults, symbol_names}
-use Rattle.source_model.specs.Units.{Emitted, linked_symbol, branch_symbol, units}
-use Rattle.source_laws.specs.Laws.{is_filled, InArmState, context_behind, word_among}
+use Rattle.source_laws.specs.Laws.{is_filled, context_behind, word_among}
 use Rattle.source_laws.proofs.AgreeLemmas.{line_sees}
 use Rattle.source_laws.proofs.FaultlessLemmas.{faultless_layouts_are_sound}
 use Rattle.source_laws.proofs.LineLemmas.{is_laid}
@@ -55,9 +47,9 @@ use Rattle.stand_model.specs.Placed.{ShowsZeros, IsPlaced}
 use Rattle.stand_model.specs.Shown.{IsShown, meant_by}
 use Rattle.stand_model.specs.Stands.{Stands, IsGap, scene_at, address_behind}
 use Rattle.stand_laws.specs.Laws.{IsFaultless}
-use Rattle.stand_laws.proofs.ArmLemmas.{Ready, SymbolMeets, BranchMeets}
+use Rattle.stand_laws.proofs.ArmLemmas.{Ready, BranchMeets}
 use Rattle.stand_laws.proofs.LineLemmas.{DirectiveZero, WhatMeets, line_stands, zeros_there}
-use Rattle.stand_laws.proofs.PseudoLemmas.{LiteralHolds, PseudoHolds}
+use Rattle.stand_laws.proofs.PseudoLemmas.{LiteralHolds}
 use Rattle.stand_laws.proofs.ResultLemmas.{both_ok, mapped_ok}
 use Rattle.stand_laws.proofs.SymbolLemmas.{symbol_placed_there, each_bare, symbols_bare}
 use Rattle.stand_laws.proofs.ValueLemmas.{scene, AllShown, setting}
@@ -183,7 +175,7 @@ shown_lines_stand ss o fine obj small own values area_at view region placed l at
     let word = word_among after l before in
     let units_shown : AllShown k (units_from l.offset u.0) =
     λ p h. shown p (among_first p (own_units ss after l before) (own_words ss after l before)
-      (subst (λ r. IsAmong p (units_from l.offset (or_none r))) (sym u.1) h)) in
+    (subst (λ r. IsAmong p (units_from l.offset (or_none r))) (sym u.1) h)) in
     let words_shown : AllShown k (own_words ss after l before) =
     λ p h. shown p (among_last p (own_units ss after l before) (own_words ss after l before) h) in
     let ready = line_ready ss fine.named fine.laid_out values view region area after before l e here in

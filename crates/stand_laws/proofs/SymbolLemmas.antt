@@ -1,5 +1,5 @@
 -- Symbols of a placed object: one that stands in an area has its address.
-use Rattle.std.proofs.Common.{◌≡◌, ℕ, zero, suc, ◌+◌, ◌%◌, ◌^◌, ◌<◌, ◌||◌, List, [], ◌∷◌, ◌++◌, map, add-one, Bool, true, false, cond, refl, sym, ◌∙◌, ap, subst, arith, Option, Some, None, ◌⊎◌, inl, inr}
+use Rattle.std.proofs.Common.{◌≡◌, ℕ, zero, suc, ◌+◌, ◌%◌, ◌^◌, ◌||◌, List, [], ◌∷◌, ◌++◌, map, add-one, Bool, true, false, cond, refl, sym, ◌∙◌, ap, subst, arith, Option, Some, None, ◌⊎◌, inl, inr}
 use Rattle.std.specs.Prelude.{Result, Ok, Err}
 use Rattle.std.specs.List.{list_any, slice_get}
 use Rattle.std.specs.Option.{option_map}
@@ -14,17 +14,16 @@ use Rattle.asm_model.specs.declared.values.Value.TheVariants.{Number, Truth, Wor
 use Rattle.asm_model.specs.AtLine.{Definition, Nameless, Named, Equated, SourceLine, made_name}
 use Rattle.asm_model.specs.Forms.{same}
 use Rattle.asm_model.specs.Grammar.{Tree}
-use Rattle.asm_model.specs.Meaning.{named_in, entry_stands_at, in_area, stands_at, meaning}
+use Rattle.asm_model.specs.Meaning.{named_in, entry_stands_at, in_area, meaning}
 use Rattle.asm_model.specs.AtLine.{with_names, all_names}
 use Rattle.asm_model.proofs.LineLemmas.{named_front}
-use Rattle.asm_model.proofs.WordLemmas.{same_true, same_refl}
+use Rattle.asm_model.proofs.WordLemmas.{same_true}
 use Rattle.layout_model.specs.Before.{place_of, area_behind, is_thumb_label}
 use Rattle.layout_model.specs.Entries.{equal_entry}
 use Rattle.layout_model.specs.Labels.{Defined, Unnamed, LocalLabel, Label, Equal, MapField, RegisterName, defined_by, imported_in}
 use Rattle.layout_model.specs.Laid.{Declared, declared, LaidLine, statements_of, map_behind, offset_behind, tree_equated, definition_of, imported_lines, laid_behind, laid_of, laid, all_locals, final_line, final_lines, source_lines, entries_with, all_entries, names_after, final_names}
 use Rattle.layout_model.specs.LayoutKinds.{listed}
 use Rattle.layout_model.specs.Locals.{Local}
-use Rattle.layout_model.specs.Placing.{address_at, address_of}
 use Rattle.layout_model.specs.Symbols.{symbols_of}
 use Rattle.layout_model.specs.Trees.{tree_of}
 use Rattle.layout_laws.specs.Sound.{IsBare, IsPlainDefined, IsPlainImport, ArePlain}
@@ -32,7 +31,7 @@ use Rattle.object_laws.specs.Laws.{IsListed}
 use Rattle.object_laws.proofs.OriginLemmas.{named_name}
 use Rattle.patch_model.specs.Fields.{Meant, Values}
 use Rattle.source_model.specs.Contexts.{sees}
-use Rattle.source_model.specs.Objects.{Source, source_of, symbol_number, in_no_line, symbol_placed, symbol_valued, symbol_named, symbol_records, IsObject}
+use Rattle.source_model.specs.Objects.{source_of, symbol_number, in_no_line, symbol_placed, symbol_valued, symbol_named, IsObject}
 use Rattle.source_model.specs.SourceFaults.{label_of, symbol_names}
 use Rattle.stand_model.specs.Placed.{IsMeant, IsPlaced}
 

@@ -1,5 +1,5 @@
 -- The word of a line's literal holds the value of its expression.
-use Rattle.std.proofs.Common.{◌≡◌, ℕ, ◌+◌, ◌%◌, ◌^◌, List, [], ◌∷◌, ◌++◌, Bool, true, false, cond, refl, sym, ◌∙◌, ap, subst, arith, Option, Some, None, ◌⊎◌, inl, inr}
+use Rattle.std.proofs.Common.{◌≡◌, ℕ, ◌+◌, ◌%◌, ◌^◌, List, [], ◌∷◌, ◌++◌, Bool, true, false, cond, refl, sym, ◌∙◌, ap, subst, arith, Option, Some, None, inl}
 use Rattle.std.specs.Prelude.{Result, Ok, Err}
 use Rattle.sdt_fault.specs.declared.kinds.LineKind.{LineKind}
 use Rattle.sdt_word.specs.declared.codes.Condition.{Condition}
@@ -7,21 +7,18 @@ use Rattle.sdt_word.specs.declared.ranges.Range32.{Range32}
 use Rattle.asm_model.specs.declared.exprs.BinaryOp.TheVariants.{Add}
 use Rattle.asm_model.specs.declared.exprs.Expr.{Expr}
 use Rattle.asm_model.specs.declared.exprs.ExprItem.{ExprItem}
-use Rattle.asm_model.specs.declared.names.LaidName.{LaidName}
 use Rattle.asm_model.specs.declared.names.Names.{Names}
 use Rattle.asm_model.specs.declared.operands.Register.{Register}
 use Rattle.asm_model.specs.declared.statements.PseudoLine.TheVariants as pseudo
 use Rattle.asm_model.specs.declared.statements.Statement.{Statement}
-use Rattle.asm_model.specs.declared.statements.What.{What}
 use Rattle.asm_model.specs.declared.statements.What.TheVariants as what
 use Rattle.asm_model.specs.declared.values.Value.{Value}
 use Rattle.asm_model.specs.declared.values.Value.TheVariants.{Number, Truth, Words, Place}
-use Rattle.asm_model.specs.AtLine.{Sight, name_kinds, value_at, kept_names, literal_or, literal_at}
+use Rattle.asm_model.specs.AtLine.{Sight, name_kinds, value_at, kept_names, literal_or}
 use Rattle.asm_model.specs.Grammar.{Tree}
 use Rattle.asm_model.specs.Meaning.{named_in, stands_at, binary, value_of as entry_value, on_both, meaning}
 use Rattle.asm_model.proofs.LineLemmas.{both_empty, named_front, told_nothing}
 use Rattle.layout_model.specs.Extents.{Extent, Block, Padding, Loading, Pool, is_moved, loading, tree_literal, literal_there, extent_of}
-use Rattle.layout_model.specs.Labels.{defined_by}
 use Rattle.layout_model.specs.Laid.{Declared, declared, LaidLine, taken, pieces_of, laid_behind, laid_of, laid, all_locals, final_names}
 use Rattle.layout_model.specs.LayoutKinds.{fault_kinds}
 use Rattle.layout_model.specs.Marks.{datum_names}
@@ -31,7 +28,7 @@ use Rattle.layout_model.specs.Symbols.{literal_value}
 use Rattle.layout_model.specs.Trees.{tree_of}
 use Rattle.layout_laws.specs.Sound.{IsSound, HaveNoPlaces, ArePlain}
 use Rattle.layout_laws.proofs.FinalLemmas.{AllKnownFinally, all_known, known_there, source_final, source_holds}
-use Rattle.layout_laws.proofs.FoundLemmas.{tree_final, final_tree}
+use Rattle.layout_laws.proofs.FoundLemmas.{final_tree}
 use Rattle.layout_laws.proofs.RoundLemmas.{ResultIs}
 use Rattle.object_laws.proofs.FaultLemmas.{sizes_of, valued_here, known_result}
 use Rattle.object_laws.proofs.OriginLemmas.{IsOwn, line_to, names_own, anything, any_tree, line_local}
@@ -41,10 +38,10 @@ use Rattle.said_model.specs.Said.{AllSaid, LoadsBare}
 use Rattle.source_model.specs.Contexts.{Context, sees, value_of}
 use Rattle.source_model.specs.Objects.{Piece, in_order, IsAmong, literal_unit, literal_piece}
 use Rattle.source_model.specs.SourceFaults.{value_faults, word_of}
-use Rattle.source_model.specs.Units.{Emitted, Word, Stored, Nothing, placed, stored, units}
+use Rattle.source_model.specs.Units.{Word, Stored, Nothing, placed, stored, units}
 use Rattle.source_model.specs.ValueKinds.{statement_kinds, literal_kinds as value_literal_kinds}
 use Rattle.source_laws.specs.Laws.{context_behind, word_among}
-use Rattle.source_laws.proofs.BareLemmas.{ItemsEach, TreeEach, HoldsConstant, no_place_holds, tree_each}
+use Rattle.source_laws.proofs.BareLemmas.{ItemsEach, TreeEach, no_place_holds, tree_each}
 use Rattle.source_laws.proofs.FaultlessLemmas.{faultless_layouts_are_sound}
 use Rattle.source_laws.proofs.ListLemmas.{same_first, same_rest}
 use Rattle.source_laws.proofs.ThingLemmas.{own_words, known_extent}
@@ -76,10 +73,6 @@ placed_same k q m n (Some a) h = offset_same a.1 m n _ _ h
 
 pub mod_same : (k m n : ℕ) → Same32 k (m + n) → Same32 k ((m + n) % 2 ^ 32)
 mod_same k m n h = omega (arith, h)
-
-pub stored_from : (k : Setting) (q : Result Value LineKind) (w st : Stored) → stored k.context (datum_names k.source.statements) q ≡ Ok w
-    → stored k.context (datum_names k.source.statements) q ≡ Ok st → w ≡ st
-stored_from k q w st h g = let e : Ok w ≡ Ok st = sym h ∙ g in cc
 
 -- a name's value plus the number
 pub sum_stored : (k : Setting) (n : ℕ) (f r : Result Value LineKind) (st : Stored) → ((v : Value) → f ≡ Ok v → Plus v n r)

@@ -39,7 +39,7 @@ use Rattle.source_model.specs.Immediates.{rotations, turned_back, immediate_amon
 use Rattle.source_model.specs.ArmForms.{amount_field, shift_fields, is_before, writes_back, is_listed_by, list_bits, is_block_before, is_block_up, branch_field, branch_displacement, arm_instruction}
 use Rattle.source_model.specs.PseudoForms.{adding, address_by, address_instruction, first_part, second_part, two_by, two_of, first_of, long_address, one, pseudo_instructions}
 use Rattle.std.specs.List.{list_any}
-use Rattle.source_laws.specs.Fits.{NamesRegisters, Fits, AllFit}
+use Rattle.asm_instructions.specs.Fits.{NamesRegisters, Fits, AllFit}
 
 -- ---- what holds of a result
 

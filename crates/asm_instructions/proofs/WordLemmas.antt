@@ -10,7 +10,7 @@ use Rattle.sdt_word.specs.declared.codes.Condition.TheVariants as condition
 use Rattle.arm_isa.specs.ArmRows.{ReadsArm, arm_fields, arm_row}
 use Rattle.arm_isa.specs.declared.instr.ArmInstr.{ArmInstr}
 use Rattle.arm_isa.specs.declared.instr.ArmInstr.TheVariants.{DataImmediate, DataShifted, DataRegisterShifted, Multiply, MultiplyLong, Swap, BranchExchange, ReadStatus, WriteStatus, WriteStatusImmediate, TransferImmediate, TransferShifted, TransferHalf, TransferBlock, Branch, SoftwareInterrupt, Undefined}
-use Rattle.source_laws.specs.Fits.{Fits}
+use Rattle.asm_instructions.specs.Fits.{Fits}
 
 abbrev are_bits : List Part → Bool
 are_bits [] = true
