@@ -1,0 +1,5 @@
+use Rattle.asm_drafts.proofs.DraftLemmas.{finished}
+use Rattle.asm_drafts.proofs.drafts.Draft.finish.Goals as goal
+
+pub returns-clause-relocs : goal.returns-clause-relocs
+returns-clause-relocs c = λ names pieces is. finished names pieces c.args.self _ is c.in_ok-relocs.ensures.ordered c.in_ok-relocs.ensures.all
