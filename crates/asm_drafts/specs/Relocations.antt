@@ -1,6 +1,6 @@
 -- The relocation of a thing of an area, where it has one, with its symbol's number among the symbols that are listed. SDT
 -- 2.50 Reference Guide, ARM Object Format.
-use Rattle.std.specs.Prelude.{◌≡◌, ℕ, ◌+◌, ◌*◌, ◌^◌, List, [], ◌∷◌, map, Option, Some, None, nat_eq, if◌then◌else◌}
+use Rattle.std.specs.Prelude.{◌≡◌, ℕ, ◌+◌, ◌*◌, ◌^◌, List, [], ◌∷◌, Option, Some, None, nat_eq, if◌then◌else◌}
 use Rattle.aof_object.specs.declared.records.Reloc.{Reloc}
 use Rattle.layout_model.specs.Before.{place_of}
 use Rattle.layout_model.specs.Symbols.{symbols_of}
