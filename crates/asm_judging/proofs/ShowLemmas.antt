@@ -30,7 +30,6 @@ use Rattle.asm_pool.specs.declared.layout.LaidArea.{LaidArea}
 use Rattle.asm_pool.specs.declared.layout.LaidStatement.{LaidStatement}
 use Rattle.asm_units.specs.declared.beside.Beside.{Beside}
 use Rattle.asm_units.specs.Literals.{literal_in}
-use Rattle.asm_units.specs.Showing.{ShowsBeside}
 use Rattle.layout_laws.specs.Final.{KnownValuesAreFinal}
 use Rattle.layout_model.specs.Before.{areas_behind}
 use Rattle.layout_model.specs.Extents.{Extent, Pool, extent_of, value_there}

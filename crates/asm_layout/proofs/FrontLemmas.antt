@@ -1,8 +1,7 @@
 -- The first lines of a source.
-use Rattle.std.proofs.Common.{◌≡◌, ◌<◌, ℕ, zero, suc, ◌+◌, ◌-◌, List, [], ◌∷◌, ◌++◌, length, take, drop, Option, Result, Ok, Err, refl, sym, ap, ◌∙◌, subst, arith, append_assoc}
+use Rattle.std.proofs.Common.{◌≡◌, ◌<◌, ℕ, zero, suc, ◌+◌, ◌-◌, List, [], ◌∷◌, ◌++◌, length, take, drop, Result, Ok, Err, refl, sym, ap, ◌∙◌, subst, arith, append_assoc}
 use Rattle.std.proofs.lemmas.List.{length-drop, take-append-drop}
 use Rattle.sdt_fault.specs.declared.answer.Fault.{Fault}
-use Rattle.sdt_fault.specs.declared.kinds.LineKind.{LineKind}
 use Rattle.asm_laying.specs.Declaring.{declared_in}
 use Rattle.asm_model.specs.declared.statements.Statement.{Statement}
 use Rattle.layout_model.specs.Laid.{Declared, LaidLine, declared, laid, laid_behind, laid_of, reversed}

@@ -1,5 +1,5 @@
 -- The lines of a source, one behind the other.
-use Rattle.std.proofs.Common.{◌≡◌, inl, inr, ◌<◌, ℕ, suc, ◌+◌, Bool, List, [], ◌∷◌, ◌++◌, length, map, Option, Some, Result, Ok, Err, refl, sym, ap, ◌∙◌, subst, arith, append_assoc, length-append}
+use Rattle.std.proofs.Common.{◌≡◌, inl, inr, ◌<◌, ℕ, suc, ◌+◌, Bool, List, [], ◌∷◌, ◌++◌, length, map, Option, Some, Result, Ok, refl, sym, ap, ◌∙◌, subst, arith, append_assoc, length-append}
 use Rattle.std.specs.List.{slice_get}
 use Rattle.sdt_fault.specs.declared.answer.Fault.{Fault}
 use Rattle.sdt_fault.specs.declared.kinds.LineKind.{LineKind}
@@ -13,7 +13,7 @@ use Rattle.layout_laws.proofs.ForthLemmas.{length_kept}
 use Rattle.layout_laws.proofs.SoundLemmas.{statements_kept}
 use Rattle.layout_model.specs.Labels.{Defined, Unnamed, LocalLabel, Label, Equal, MapField, RegisterName, defined_by}
 use Rattle.layout_model.specs.Laid.{Declared, LaidLine, declared, laid_behind, laid_of, reversed}
-use Rattle.layout_model.specs.LayoutKinds.{equal_of, equals_in, settled, told_at}
+use Rattle.layout_model.specs.LayoutKinds.{equal_of, equals_in, settled}
 use Rattle.said_model.specs.Said.{IsSaid, AllSaid}
 use Rattle.source_model.specs.Registers.{register_names}
 use Rattle.source_model.specs.SourceFaults.{first_laid}
@@ -21,7 +21,7 @@ use Rattle.asm_layout.specs.declared.outline.Outline.{Outline}
 use Rattle.asm_layout.specs.declared.walking.Walk.{Walk}
 use Rattle.asm_layout.specs.Layout.{IsTold}
 use Rattle.asm_layout.specs.Outline.{equals_on, IsOutline}
-use Rattle.asm_layout.specs.Walking.{HasMark, IsMarked, IsWalking, IsAlong, Steps, told_by}
+use Rattle.asm_layout.specs.Walking.{HasMark, IsMarked, IsWalking, IsAlong, Steps}
 use Rattle.asm_layout.proofs.OutlineLemmas.{equals_reversed}
 
 -- ---- lists
