@@ -1,0 +1,5 @@
+mod AreaLemmas
+mod EntryLemmas
+mod GatherLemmas
+mod ListLemmas
+mod LoadLemmas
