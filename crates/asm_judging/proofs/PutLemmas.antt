@@ -3,7 +3,7 @@ use Rattle.std.proofs.Common.{◌≡◌, ℕ, List, [], ◌∷◌, ◌++◌, map
 use Rattle.std.specs.BTreeMap.{BTreeMap}
 use Rattle.sdt_fault.specs.declared.kinds.LineKind.{LineKind}
 use Rattle.arm_isa.specs.declared.instr.ArmInstr.{ArmInstr}
-use Rattle.asm_instructions.specs.Fits.{AllFit, InstructionsFit, NamesRegisters, PseudoInstructionsFit}
+use Rattle.source_laws.specs.Fits.{AllFit, InstructionsFit, NamesRegisters, PseudoInstructionsFit}
 use Rattle.asm_model.specs.declared.arm_lines.ArmLine.{ArmLine}
 use Rattle.asm_model.specs.declared.directives.DirectiveLine.{DirectiveLine}
 use Rattle.asm_model.specs.declared.directives.DirectiveLine.TheVariants as line
@@ -53,6 +53,11 @@ one_piece c names (Loading n u) word v h =
 one_piece c names (Block a n) word v h = absurd (cc)
 one_piece c names (Padding m n) word v h = absurd (cc)
 one_piece c names Pool word v h = absurd (cc)
+
+pub literal_put : (c : Context) (names : List (List ℕ)) (e : Extent) (word at : Option ℕ) (v : Value) (ps : List Piece) (w : Result Stored LineKind) → literal_in e ≡ Some v → at ≡ word
+    → ps ≡ literal_unit at w → w ≡ stored c names (literal_value (sees c) v) → ps ≡ literal_piece c names e word
+literal_put c names e word at v ps w h a p r =
+    p ∙ ap (λ (o : Option ℕ). literal_unit o w) a ∙ ap (literal_unit word) r ∙ sym (one_piece c names e word v h)
 
 -- ---- each instruction has a word
 

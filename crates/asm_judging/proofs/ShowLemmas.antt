@@ -215,15 +215,15 @@ loads fits law pools statements areas w known before rest l x p = by_area l.area
         let t = taken l.extent in
         let whole : pieces_of (laid statements) ≡ joined ((record { area = Some area; extent = t }) ∷ pieces) behind =
         ap pieces_of p.here.parts ∙ sym (joined_pieces rest (l ∷ before)) ∙ ap (λ (o : Option ℕ). joined ((record { area = o; extent = t }) ∷ pieces) behind) e in
-        let placed : IsPlaced area (joined ((record { area = Some area; extent = t }) ∷ pieces) behind) a.0 =
+        let settled_there : IsPlaced area (joined ((record { area = Some area; extent = t }) ∷ pieces) behind) a.0 =
         record { pools = is.pools ∙ ap (λ (ps : List Piece). flushed (start_in area ps Pool) (pools_behind area ps)) whole } in
         let extents = parts_extents rest (l ∷ before) (subst (λ (ls : List LaidLine). AllExtents (pieces_of ls)) p.here.parts (all_extents fits (declared statements) statements)) in
         let entry = p.here.line.literal ∙ ap (λ (o : Option ℕ). entry_behind o pieces t) e in
         record {
           word = ap (λ (o : Option ℕ). own.word_in areas o x.literal) (p.here.line.area ∙ e) ∙ ap (own.word_in areas (Some area)) entry
-              ∙ placed.word_there law areas area a.0 pieces behind t a.1 placed extents.0.1 extents.0.0 extents.1
+              ∙ placed.word_there law areas area a.0 pieces behind t a.1 settled_there extents.0.1 extents.0.0 extents.1
               ∙ ap (λ (o : Option ℕ). word_of o t ((record { area = o; extent = t }) ∷ pieces) behind) (sym e);
-          literal = literal_there pools areas area a.0 pieces behind t a.1 placed
+          literal = literal_there pools areas area a.0 pieces behind t a.1 settled_there
               ∙ sym (ap (λ (o : Option ℕ). own.literal_in areas o x.literal) (p.here.line.area ∙ e) ∙ ap (own.literal_in areas (Some area)) entry);
         }
 

@@ -1,6 +1,6 @@
 -- What a line puts into its area. This project's.
 use Rattle.std.specs.Prelude.{◌≡◌, List, [], ◌∷◌, ◌++◌, map, Option, Some, None}
-use Rattle.asm_instructions.specs.Fits.{Fits}
+use Rattle.source_laws.specs.Fits.{Fits}
 use Rattle.asm_model.specs.declared.statements.Statement.{Statement}
 use Rattle.asm_units.specs.Emitting.{emitted_of, stored_of}
 use Rattle.layout_model.specs.Labels.{defined_by}

@@ -24,13 +24,13 @@ use crate::beside::{beside_of, loaded_of};
 use crate::line::given_number;
 use crate::whole::Whole;
 use asm_final::references_of;
-use asm_instructions::laws::{instructions_fit, pseudo_instructions_fit};
 use asm_layout::lines::line_of;
 use asm_model::{Value, What};
 use asm_pool::{LaidArea, LaidStatement};
 use asm_units::{Beside, Emitted, Stored, literal, units};
 use sdt_fault::kinds::LineKind;
 use sdt_fault::{NoMemory, Text};
+use source_laws::laws::{instructions_fit, pseudo_instructions_fit};
 use std::alloc::Global;
 use std::collections::BTreeMap;
 
