@@ -1,5 +1,5 @@
 -- The lines of a layout, emitted one after the other.
-use Rattle.std.proofs.Common.{◌≡◌, ◌≤◌, ◌<◌, ◌-◌, ℕ, List, [], ◌∷◌, ◌++◌, length, take, drop, map, get_or, cond, Option, Some, None, refl, sym, ap, ◌∙◌, subst}
+use Rattle.std.proofs.Common.{◌≡◌, ◌≤◌, ◌<◌, ◌-◌, ℕ, List, [], ◌∷◌, ◌++◌, length, take, drop, map, get_or, cond, inr, Option, Some, None, refl, sym, ap, ◌∙◌, subst}
 use Rattle.std.specs.Prelude.{Result}
 use Rattle.std.specs.BTreeMap.{BTreeMap}
 use Rattle.std.proofs.lemmas.Bool.{cond-true}
@@ -18,6 +18,7 @@ use Rattle.asm_model.specs.declared.statements.Statement.{Statement}
 use Rattle.asm_pool.specs.declared.layout.LaidStatement.{LaidStatement}
 use Rattle.asm_pool.specs.declared.layout.Layout.{Layout}
 use Rattle.asm_registers.proofs.NameLemmas.{found, before_more}
+use Rattle.asm_units.specs.declared.emitted.Emitted.{Emitted as Code}
 use Rattle.layout_model.specs.Labels.{defined_by}
 use Rattle.layout_model.specs.Laid.{LaidLine, laid, reversed}
 use Rattle.layout_model.specs.Offsets.{is_of}
@@ -133,16 +134,17 @@ next_there ss l w names x left known gs some at j k =
 
 -- what the line puts is what definitions have
 pub put_there : (ss : List Statement) (l : Layout) (w : Whole) (names : List (List ℕ)) (x : LaidStatement) (more : List LaidStatement) (known : BTreeMap (List ℕ) ℕ) (gs : List Growing)
-    (n : Next ss l w names x more known gs) (u : LineUnits) → IsPut ss n.before n.rest n.line u
-    → own_things ss n.line n.before n.rest ≡ pieces_put x.offset u.units.items u.literal
-put_there ss l w names x more known gs n u h = h.pieces ∙ ap (λ (at : ℕ). pieces_put at u.units.items u.literal) (sym n.here.line.offset)
+    (n : Next ss l w names x more known gs) (u : LineUnits) (us : List Code) → us ≡ u.units.items → IsPut ss n.before n.rest n.line u
+    → own_things ss n.line n.before n.rest ≡ pieces_put x.offset us u.literal
+put_there ss l w names x more known gs n u us is h =
+    h.pieces ∙ ap (λ (at : ℕ). pieces_put at u.units.items u.literal) (sym n.here.line.offset) ∙ ap (λ (vs : List Code). pieces_put x.offset vs u.literal) (sym is)
 
 pub grown_more : (ss : List Statement) (l : Layout) (w : Whole) (names : List (List ℕ)) (x : LaidStatement) (more : List LaidStatement) (known new : BTreeMap (List ℕ) ℕ) (gs hs : List Growing)
-    (n : Next ss l w names x more known gs) (u : LineUnits) → IsPut ss n.before n.rest n.line u
-    → AreDrafts names (with_line (λ area. things_behind ss area n.before (n.line ∷ n.rest)) x.area (pieces_put x.offset u.units.items u.literal)) hs
+    (n : Next ss l w names x more known gs) (u : LineUnits) (us : List Code) → us ≡ u.units.items → IsPut ss n.before n.rest n.line u
+    → AreDrafts names (with_line (λ area. things_behind ss area n.before (n.line ∷ n.rest)) x.area (pieces_put x.offset us u.literal)) hs
     → ((q : List ℕ) → register_in q new.entries ≡ register_in q (known.entries ++ gives u.number (defined_by x.statement)))
     → IsGrown ss names more new hs
-grown_more ss l w names x more known new gs hs n u put drafts noted = record {
+grown_more ss l w names x more known new gs hs n u us is put drafts noted = record {
   before = n.line ∷ n.before;
   rest = n.rest;
   parts = n.here.parts;
@@ -151,6 +153,6 @@ grown_more ss l w names x more known new gs hs n u put drafts noted = record {
       found q new ∙ noted q
       ∙ ap (λ (ns : List Named). register_in q (known.entries ++ ns)) (ap (λ (s : Statement). gives u.number (defined_by s)) n.here.line.statement ∙ sym put.given)
       ∙ before_more q known.entries (registers_behind n.before) (named_by n.line.seen (defined_by n.line.statement)) (sym (found q known) ∙ n.here.registers q);
-  drafts = drafts_there ss names n.before n.rest n.line x.area (pieces_put x.offset u.units.items u.literal) hs n.here.line.area
-      (put_there ss l w names x more known gs n u put) drafts;
+  drafts = drafts_there ss names n.before n.rest n.line x.area (pieces_put x.offset us u.literal) hs n.here.line.area
+      (put_there ss l w names x more known gs n u us is put) drafts;
 }

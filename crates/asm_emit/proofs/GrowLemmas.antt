@@ -1,5 +1,5 @@
 -- Areas in which a line more stands.
-use Rattle.std.proofs.Common.{◌≡◌, ◌⊎◌, inl, inr, ◌+◌, ◌-◌, ◌≤◌, ◌<◌, ℕ, zero, suc, List, [], ◌∷◌, ◌++◌, length, map, take, drop, get_or, cond, Option, Some, None, refl, sym, ap, ◌∙◌, subst, arith, append_assoc, append-nil, length-append, nat_eq}
+use Rattle.std.proofs.Common.{◌≡◌, ◌⊎◌, inl, inr, ◌+◌, ◌-◌, ◌≤◌, ◌<◌, ℕ, zero, suc, List, [], ◌∷◌, ◌++◌, length, map, take, drop, get_or, cond, Bool, false, Option, Some, None, refl, sym, ap, ◌∙◌, subst, arith, append_assoc, append-nil, length-append, nat_eq}
 use Rattle.std.specs.List.{slice_get, slice_set}
 use Rattle.std.proofs.lemmas.Bool.{cond-true, cond-false, eqb-true, false_from_ne_true}
 use Rattle.std.proofs.lemmas.Option.{slice_get_read}
@@ -7,6 +7,7 @@ use Rattle.asm_drafts.specs.Drafts.{IsDraft, MeetNone}
 use Rattle.asm_drafts.proofs.DraftLemmas.{among_front, among_behind, first_and_rest}
 use Rattle.asm_drafts.specs.Writing.{HasWord}
 use Rattle.asm_judging.proofs.LoopLemmas.{nothing}
+use Rattle.asm_pool.specs.declared.layout.LaidArea.{LaidArea}
 use Rattle.asm_units.specs.declared.emitted.Emitted.{Emitted as Code}
 use Rattle.asm_units.specs.Emitting.{emitted_of}
 use Rattle.layout_model.specs.Offsets.{is_of}
@@ -14,7 +15,7 @@ use Rattle.layout_model.proofs.OffsetLemmas.{is_here}
 use Rattle.source_model.specs.Objects.{Piece, IsAmong, unit_bytes, units_bytes}
 use Rattle.source_model.specs.Units.{Emitted}
 use Rattle.asm_emit.specs.declared.drafting.Growing.{Growing}
-use Rattle.asm_emit.specs.Drafting.{AreDrafts, CanStand, MeetNoneThere, frame, frames, with_line}
+use Rattle.asm_emit.specs.Drafting.{AreDrafts, CanStand, MeetNoneThere, Frame, frame, frame_of, frames, with_line}
 
 -- ---- things that fit into a room
 
@@ -53,8 +54,8 @@ set_got (x ∷ gs) (suc i) (suc j) y z e = behind (set_got gs i j y z e)
 
 pub set_frames : (gs : List Growing) (i : ℕ) (x y : Growing) → x ≡ get_or gs i x → frame y ≡ frame x → frames (slice_set gs i y) ≡ frames gs
 set_frames [] i x y at e = refl
-set_frames (g ∷ gs) zero x y at e = ap (λ f. f ∷ frames gs) (e ∙ ap frame at)
-set_frames (g ∷ gs) (suc i) x y at e = ap (λ fs. frame g ∷ fs) (set_frames gs i x y at e)
+set_frames (g ∷ gs) zero x y at e = ap (λ (f : Frame). f ∷ frames gs) (e ∙ ap frame at)
+set_frames (g ∷ gs) (suc i) x y at e = ap (λ (fs : List Frame). frame g ∷ fs) (set_frames gs i x y at e)
 
 pub drafts_put : (names : List (List ℕ)) (held : ℕ → List Piece) (gs : List Growing) (i : ℕ) (x y : Growing) (own : Option ℕ) (more : List Piece)
     → own ≡ Some i → i < length gs → x ≡ get_or gs i x → AreDrafts names held gs → MeetNoneThere held own more
@@ -97,8 +98,20 @@ drafts_more names [] y h k = λ area g is. one area g is
     one : (area : ℕ) (g : Growing) → slice_get (y ∷ []) area ≡ Some g → IsDraft names [] g.draft
     one zero g is = let same : y ≡ g = cc in subst (λ (z : Growing). IsDraft names [] z.draft) same k
     one (suc area) g is = absurd (cc)
-drafts_more names (x ∷ gs) y h k = λ area g is. by_place area g is
+drafts_more names (x ∷ gs) y h k = λ area g is. by_place (drafts_more names gs y (λ n z e. h (suc n) z e) k) area g is
   where
-    by_place : (area : ℕ) (g : Growing) → slice_get (x ∷ (gs ++ y ∷ [])) area ≡ Some g → IsDraft names [] g.draft
-    by_place zero g is = h zero g is
-    by_place (suc area) g is = drafts_more names gs y (λ n z e. h (suc n) z e) k area g is
+    by_place : AreDrafts names (λ area. []) (gs ++ y ∷ []) → (area : ℕ) (g : Growing) → slice_get (x ∷ (gs ++ y ∷ [])) area ≡ Some g → IsDraft names [] g.draft
+    by_place rest zero g is = h zero g is
+    by_place rest (suc area) g is = rest area g is
+
+pub frames_more : (gs : List Growing) (y : Growing) (xs : List LaidArea) (x : LaidArea) → frames gs ≡ map frame_of xs → frame y ≡ frame_of x
+    → frames (gs ++ y ∷ []) ≡ map frame_of (xs ++ x ∷ [])
+frames_more gs y xs x e h = ap_frames gs ∙ ap (λ (fs : List Frame). fs ++ frame y ∷ []) e ∙ ap (λ (f : Frame). map frame_of xs ++ f ∷ []) h ∙ sym (ap_laid xs)
+  where
+    ap_frames : (gs : List Growing) → frames (gs ++ y ∷ []) ≡ frames gs ++ frame y ∷ []
+    ap_frames [] = refl
+    ap_frames (g ∷ gs) = ap (λ (fs : List Frame). frame g ∷ fs) (ap_frames gs)
+
+    ap_laid : (xs : List LaidArea) → map frame_of (xs ++ x ∷ []) ≡ map frame_of xs ++ frame_of x ∷ []
+    ap_laid [] = refl
+    ap_laid (z ∷ xs) = ap (λ (fs : List Frame). frame_of z ∷ fs) (ap_laid xs)

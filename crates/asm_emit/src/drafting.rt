@@ -1,6 +1,6 @@
 //! The areas of an object while it is emitted.
 
-ghost use Rattle.std.specs.Prelude.{◌≡◌, ◌∷◌, [], ◌++◌, ◌+◌, ◌<◌, ◌≤◌, ◌^◌, ℕ, List as Items, length, map, IfOk, IfSome, IfTrue, OnOk};
+ghost use Rattle.std.specs.Prelude.{◌≡◌, ◌∷◌, [], ◌++◌, ◌+◌, ◌<◌, ◌≤◌, ◌^◌, ℕ, List as Items, length, map, IfOk, IfSome, OnOk, true};
 ghost use Rattle.std.specs.List.{AllZip};
 ghost use Rattle.source_model.specs.Objects.{Piece, unit_bytes, units_from};
 ghost use Rattle.asm_drafts.specs.Drafts.{IsDraft, MeetNone};
@@ -70,7 +70,7 @@ pub fn all_started(alloc: Global, areas: &[LaidArea]) -> Result<Vec<Growing>, No
 }
 
 fn has_word(unit: &Emitted) -> bool
-    ensures { IfTrue result (HasWord (emitted_of unit.now)) }
+    ensures { result ≡ true → HasWord (emitted_of unit.now) }
 {
     match unit {
         Emitted::Instruction { instruction, .. } => encode_arm(instruction).is_some(),
@@ -91,7 +91,7 @@ fn room_behind(unit: &Emitted, room: usize) -> Option<usize>
 
 /// Whether things have words and are no longer than a room, one behind the other.
 fn can_be_put(units: &[Emitted], room: usize) -> bool
-    ensures { IfTrue result (CanStand (map emitted_of units.now) room) }
+    ensures { result ≡ true → CanStand (map emitted_of units.now) room }
 {
     let mut left = units;
     let mut room = room;
