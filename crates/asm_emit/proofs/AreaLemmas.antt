@@ -1,6 +1,6 @@
--- An area holds code where its attributes have the bit.
+-- An area holds code, or zeros, where its attributes have the bit.
 use Rattle.std.proofs.Common.{◌≡◌, ◌≤◌, ◌<◌, ℕ, zero, suc, ◌+◌, ◌*◌, ◌/◌, ◌%◌, ◌^◌, Bool, true, false, cond, List, [], ◌∷◌, ◌++◌, length, map, get_or, Option, Some, None, refl, sym, ap, ◌∙◌, subst, arith}
-use Rattle.std.specs.Prelude.{Result, Ok, Err, nat_lt, ◌==◌, ◌||◌}
+use Rattle.std.specs.Prelude.{Result, Ok, Err, nat_lt, ◌==◌, ◌||◌, not}
 use Rattle.std.specs.List.{slice_get}
 use Rattle.sdt_word.specs.Numbers.{flag}
 use Rattle.sdt_fault.specs.declared.kinds.LineKind.{LineKind}
@@ -21,10 +21,11 @@ use Rattle.layout_model.specs.Labels.{defined_by}
 use Rattle.layout_model.specs.Laid.{Declared, LaidLine, declared, laid, laid_of, laid_behind, statements_of, reversed}
 use Rattle.layout_model.specs.LayoutKinds.{exponent, exponent_kinds, area_kinds, is_named_otherwise, layout_kinds, fault_kinds, map_kinds, no_area_kinds, contents_kinds, contents_behind, name_kinds, settled_kinds, settled, equals_in, kind_if, area_bytes, is_thumb_area}
 use Rattle.layout_model.specs.Offsets.{is_of}
-use Rattle.source_model.specs.Objects.{attributes_word, contents_bits, or_two, says_area, attributes_of, contents_in, contents_of, holds_code}
+use Rattle.source_model.specs.Objects.{attributes_word, contents_bits, or_two, says_area, attributes_of, contents_in, contents_of, holds_code, is_kept}
 use Rattle.source_model.specs.SourceFaults.{layout_faults}
 use Rattle.asm_judging.proofs.SplitLemmas.{none_there}
 use Rattle.asm_judging.proofs.WithinLemmas.{IsWithin, line_within, areas_fewer}
+use Rattle.asm_emit.specs.Drafting.{marks_zeroes}
 use Rattle.asm_emit.specs.Gathering.{marks_code}
 
 -- ---- a word of attributes
@@ -44,6 +45,23 @@ word_bit contents.Data n r p e t h i x a b c d f g =
 word_bit contents.Zeroes n r p e t h i x a b c d f g =
     let is : (n + 2 ^ 12 + r * 2 ^ 13 + p * 2 ^ 14 + e * 2 ^ 17 + t * 2 ^ 20 + h * 2 ^ 21 + i * 2 ^ 22) / 2 ^ 9 % 2 ≡ 0 = omega arith in
     ap (λ (m : ℕ). m == 1) is
+
+zero_bit : (c : Contents) (n r p e t h i : ℕ) → n ≤ 16 → r ≤ 1 → p ≤ 1 → e ≤ 1 → t ≤ 1 → h ≤ 1 → i ≤ 1
+    → is_kept (Some c) ≡ not (marks_zeroes (n + contents_bits c + r * 2 ^ 13 + p * 2 ^ 14 + e * 2 ^ 17 + t * 2 ^ 20 + h * 2 ^ 21 + i * 2 ^ 22))
+zero_bit contents.Code n r p e t h i x a b c d f g =
+    let is : (n + 2 ^ 9 + r * 2 ^ 13 + p * 2 ^ 14 + e * 2 ^ 17 + t * 2 ^ 20 + h * 2 ^ 21 + i * 2 ^ 22) / 2 ^ 12 % 2 ≡ 0 = omega arith in
+    ap (λ (m : ℕ). not (m == 1)) (sym is)
+zero_bit contents.Data n r p e t h i x a b c d f g =
+    let is : (n + 0 + r * 2 ^ 13 + p * 2 ^ 14 + e * 2 ^ 17 + t * 2 ^ 20 + h * 2 ^ 21 + i * 2 ^ 22) / 2 ^ 12 % 2 ≡ 0 = omega arith in
+    ap (λ (m : ℕ). not (m == 1)) (sym is)
+zero_bit contents.Zeroes n r p e t h i x a b c d f g =
+    let is : (n + 2 ^ 12 + r * 2 ^ 13 + p * 2 ^ 14 + e * 2 ^ 17 + t * 2 ^ 20 + h * 2 ^ 21 + i * 2 ^ 22) / 2 ^ 12 % 2 ≡ 1 = omega arith in
+    ap (λ (m : ℕ). not (m == 1)) (sym is)
+
+kept_bit : (a : AreaAttributes) (n : ℕ) (thumb : Bool) → n ≤ 16 → is_kept (Some a.contents) ≡ not (marks_zeroes (attributes_word a n thumb))
+kept_bit a n thumb small =
+    zero_bit a.contents n (flag a.read_only) (flag a.pic) (flag a.reentrant) (flag thumb) (flag a.halfword) (flag a.interwork) small
+    (flag_low a.read_only) (flag_low a.pic) (flag_low a.reentrant) (flag_low thumb) (flag_low a.halfword) (flag_low a.interwork)
 
 code_bit : (a : AreaAttributes) (n : ℕ) (thumb : Bool) → n ≤ 16 → marks_code (attributes_word a n thumb) ≡ is_code a.contents
 code_bit a n thumb small =
@@ -90,7 +108,7 @@ are_aligned statements e rest (l ∷ before) parts =
 
 abbrev AreAlike : Option ℕ → Option Contents → Type 0
 AreAlike None None = Unit {0}
-AreAlike (Some w) (Some c) = marks_code w ≡ is_code c
+AreAlike (Some w) (Some c) = (marks_code w ≡ is_code c) × (is_kept (Some c) ≡ not (marks_zeroes w))
 AreAlike _ _ = ⊥
 
 first_alike : (a b : Option ℕ) (c d : Option Contents) → AreAlike a c → AreAlike b d → AreAlike (or_else a b) (or_else c d)
@@ -106,7 +124,7 @@ line_alike area thumb l before (what.Directive (line.Area name a)) e = by_area (
     small = exponent_small (exponent l.seen a.align) (both_empty (exponent_kinds (exponent l.seen a.align)) (kind_if (is_named_otherwise name l.seen a before) BadOperand) e).0
 
     by_area : (b : Bool) → AreAlike (cond b (Some (attributes_word a (or_two (exponent l.seen a.align)) thumb)) None) (cond b (Some a.contents) None)
-    by_area true = code_bit a (or_two (exponent l.seen a.align)) thumb small
+    by_area true = (code_bit a (or_two (exponent l.seen a.align)) thumb small, kept_bit a (or_two (exponent l.seen a.align)) thumb small)
     by_area false = tt
 line_alike area thumb l before _ e = tt
 
@@ -163,7 +181,19 @@ past_all (a ∷ areas) (suc i) e = let h = past_all areas i e in omega arith
 
 code_alike : (w : ℕ) (o : Option Contents) → AreAlike (Some w) o → marks_code w ≡ holds_code o
 code_alike w None h = absurd h
-code_alike w (Some c) h = h
+code_alike w (Some c) h = h.0
+
+kept_alike : (w : ℕ) (o : Option Contents) → AreAlike (Some w) o → is_kept o ≡ not (marks_zeroes w)
+kept_alike w None h = absurd h
+kept_alike w (Some c) h = h.1
+
+-- an area keeps its bytes unless its attributes have the bit of zeros
+pub zeroes_there : (statements : List Statement) → layout_faults statements ≡ None → (area w : ℕ)
+    → attributes_of area (is_thumb_area area (laid statements)) (laid statements) ≡ Some w → is_kept (contents_of area (laid statements)) ≡ not (marks_zeroes w)
+zeroes_there statements e area w is =
+    kept_alike w (contents_of area (laid statements))
+    (subst (λ (o : Option ℕ). AreAlike o (contents_of area (laid statements))) is
+    (lines_alike area (is_thumb_area area (laid statements)) (laid statements) (are_aligned statements e [] (laid statements) refl)))
 
 same_low : (m n : ℕ) → m ≡ n → n ≤ m
 same_low m n e = omega arith

@@ -1,0 +1,20 @@
+use Rattle.asm_emit.specs.Emission.{IsEmittable}
+use Rattle.asm_emit.proofs.ObjectLemmas.{areas_there, count_there}
+use Rattle.asm_emit.proofs.emission.object_of.Goals as goal
+
+pub returns-clause-object : goal.returns-clause-object
+returns-clause-object c = λ statements layout said sound arm.
+    let l = c.args.layout.now in
+    let w = c.in_ok-whole.whole in
+    let gs = c.in_ok-growing.growing.items in
+    let areas = c.in_ok-areas.areas in
+    let whole = c.in_ok-whole.ensures statements layout in
+    let listed = c.in_ok-needed.ensures statements layout said sound whole in
+    let j : IsEmittable statements l w = record { layout = layout; said = said; sound = sound; arm = arm; whole = whole } in
+    record {
+      count = count_there statements l.areas gs areas layout.areas c.in_ok-growing.ensures.frames c.in_ok-areas.ensures;
+      areas = areas_there c.relocations_are_of_sources.ensures c.things_are_listed.ensures statements c.in_ok-needed.needed l.areas gs areas sound layout.areas listed
+          c.in_ok-growing.ensures.frames (c.in_ok-growing.ensures.drafts statements j) c.in_ok-areas.ensures;
+      symbols = c.in_ok-symbols.ensures.records statements layout sound whole listed;
+      entry = c.entry_of.ensures statements layout;
+    }
