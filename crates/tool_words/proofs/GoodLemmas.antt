@@ -5,7 +5,7 @@ use Rattle.std.specs.List.{AllByRecursion}
 use Rattle.std.specs.Option.{option_map_or}
 use Rattle.std.proofs.lemmas.Bool.Decides.{nat_tests}
 use Rattle.tool_words.specs.declared.items.Verb.{Verb}
-use Rattle.tool_words.specs.declared.items.Verb.TheVariants.{Library, List as Listing, Run}
+use Rattle.tool_words.specs.declared.items.Verb.TheVariants.{Assemble, Library, List as Listing, Run}
 use Rattle.tool_words.specs.declared.items.Flag.{Flag}
 use Rattle.tool_words.specs.declared.items.Flag.TheVariants as flag
 use Rattle.tool_words.specs.declared.items.Role.{Role}
@@ -174,6 +174,7 @@ library_good (Some flag.Rom) words items = tt
 library_good (Some flag.Steps) words items = tt
 
 pub good_words : (verb : Verb) (words : List (List ℕ)) (items : List Item) → verb_fault verb words items ≡ None → IsGood (verb_command verb (mode_of items) words items)
+good_words Assemble words items h = tt
 good_words Library words items h = library_good (mode_of items) words items
 good_words Listing words items h = tt
 good_words Run words items h =

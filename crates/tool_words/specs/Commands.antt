@@ -3,7 +3,7 @@ use Rattle.std.specs.Prelude.{◌≡◌, ℕ, ◌+◌, ◌-◌, ◌%◌, ◌^◌
 use Rattle.std.specs.List.{AllByRecursion}
 use Rattle.std.specs.Option.{option_map_or}
 use Rattle.tool_words.specs.declared.items.Verb.{Verb}
-use Rattle.tool_words.specs.declared.items.Verb.TheVariants.{Library, List as Listing, Run}
+use Rattle.tool_words.specs.declared.items.Verb.TheVariants.{Assemble, Library, List as Listing, Run}
 use Rattle.tool_words.specs.declared.items.Flag.{Flag}
 use Rattle.tool_words.specs.declared.items.Flag.TheVariants.{Create, Table, Extract, Output, Bin, At, Memory, Rom, Steps}
 use Rattle.tool_words.specs.declared.items.Flag.TheVariants as flag
@@ -55,6 +55,7 @@ library_command (Some Extract) words items = command.ExtractMember (value_of wor
 library_command mode words items = command.ListMembers (value_of words items Table)
 
 abbrev pub verb_command : Verb → Option Flag → List (List ℕ) → List Item → Command
+verb_command Assemble mode words items = command.Assemble (first_name words items) (value_of words items Output)
 verb_command Library mode words items = library_command mode words items
 verb_command Listing mode words items = command.List (first_name words items)
 verb_command Run mode words items = command.Run (record {

@@ -1,7 +1,7 @@
 -- The words behind a command, as items: names, and options with their values. This project's.
 use Rattle.std.specs.Prelude.{ℕ, zero, suc, ◌+◌, ◌-◌, ◌==◌, nat_lt, Bool, true, false, if◌then◌else◌, List, [], ◌∷◌, ◌++◌, length, slice_get, unwrap_or, min, Option, Some, None, codes, bytes_eq}
 use Rattle.tool_words.specs.declared.items.Verb.{Verb}
-use Rattle.tool_words.specs.declared.items.Verb.TheVariants.{Library, List as Listing, Run}
+use Rattle.tool_words.specs.declared.items.Verb.TheVariants.{Assemble, Library, List as Listing, Run}
 use Rattle.tool_words.specs.declared.items.Flag.{Flag}
 use Rattle.tool_words.specs.declared.items.Flag.TheVariants.{Create, Table, Extract, Output, Map, Bin, At, Memory, Rom, Steps}
 use Rattle.tool_words.specs.declared.items.Role.{Role}
@@ -15,9 +15,10 @@ word_at words n = unwrap_or (slice_get words n) []
 -- the command of a name
 abbrev pub verb_named : List ℕ → Option Verb
 verb_named word =
+    if bytes_eq word (codes "asm") then Some Assemble else (
     if bytes_eq word (codes "lib") then Some Library else (
     if bytes_eq word (codes "list") then Some Listing else (
-    if bytes_eq word (codes "run") then Some Run else None))
+    if bytes_eq word (codes "run") then Some Run else None)))
 
 -- the option of a spelling
 abbrev pub flag_named : List ℕ → Option Flag
@@ -35,6 +36,8 @@ flag_named word =
 
 -- the options of a command
 abbrev pub has_flag : Verb → Flag → Bool
+has_flag Assemble Output = true
+has_flag Assemble other = false
 has_flag Library Create = true
 has_flag Library Table = true
 has_flag Library Extract = true

@@ -3,7 +3,7 @@
 use Rattle.std.specs.Prelude.{ℕ, ◌+◌, ◌%◌, ◌^◌, ◌==◌, nat_lt, nat_le, Bool, true, false, not, ◌&&◌, ◌||◌, if◌then◌else◌, List, [], ◌∷◌, ◌++◌, length, min, Option, Some, None, is_some, bytes_eq, count_by}
 use Rattle.std.specs.List.{list_any, list_all}
 use Rattle.tool_words.specs.declared.items.Verb.{Verb}
-use Rattle.tool_words.specs.declared.items.Verb.TheVariants.{Library, List as Listing, Run}
+use Rattle.tool_words.specs.declared.items.Verb.TheVariants.{Assemble, Library, List as Listing, Run}
 use Rattle.tool_words.specs.declared.items.Flag.{Flag}
 use Rattle.tool_words.specs.declared.items.Flag.TheVariants.{Create, Table, Extract, Output, Map, Bin, At, Memory, Rom, Steps}
 use Rattle.tool_words.specs.declared.items.Role.{Role}
@@ -148,6 +148,7 @@ is_surplus before flag =
 
 -- the most names of a command, where there is a limit
 abbrev pub most_names : Verb → Option Flag → Option ℕ
+most_names Assemble mode = Some 1
 most_names Library None = None
 most_names Library (Some Table) = Some 0
 most_names Library (Some Extract) = Some 1
@@ -193,6 +194,7 @@ names_fault verb mode words items = None
 -- ---- what must stand
 
 abbrev pub is_complete : Verb → Option Flag → List Item → Bool
+is_complete Assemble mode items = nat_lt 0 (name_count items) && has Output items
 is_complete Listing mode items = nat_lt 0 (name_count items)
 is_complete verb None items = false
 is_complete verb (Some Create) items = nat_lt 0 (name_count items)

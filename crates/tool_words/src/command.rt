@@ -39,6 +39,11 @@ pub struct RunWords {
 
 #[derive(Debug, Drop)]
 pub enum Command {
+    /// Writes the object of a source.
+    Assemble {
+        source: Text,
+        output: Text,
+    },
     /// Writes a library of these objects.
     CreateLibrary {
         library: Text,
@@ -343,6 +348,11 @@ fn verb_command(
 {
     let mode = mode_of(items);
     match verb {
+        Verb::Assemble => {
+            let source = first_name(alloc, words, items)?;
+            let output = value_of(alloc, words, items, Flag::Output)?;
+            Ok(Command::Assemble { source, output })
+        }
         Verb::Library => library_command(alloc, mode, words, items),
         Verb::List => {
             let file = first_name(alloc, words, items)?;

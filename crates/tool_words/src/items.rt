@@ -9,6 +9,8 @@ use std::alloc::Global;
 /// A command.
 #[derive(Clone, Copy, PartialEq, Eq, Debug)]
 pub enum Verb {
+    /// `asm`
+    Assemble,
     /// `lib`
     Library,
     /// `list`
@@ -72,6 +74,9 @@ ghost use Rattle.std.specs.Prelude.{bytes_eq};
 pub fn verb_named(word: &[u8]) -> Option<Verb>
     ensures { result ≡ items.verb_named word.now }
 {
+    if is(word, b"asm") {
+        return Some(Verb::Assemble);
+    }
     if is(word, b"lib") {
         return Some(Verb::Library);
     }
@@ -124,6 +129,7 @@ fn has_flag(verb: Verb, flag: Flag) -> bool
     ensures { result ≡ items.has_flag verb flag }
 {
     match verb {
+        Verb::Assemble => matches!(flag, Flag::Output),
         Verb::Library => matches!(
             flag,
             Flag::Create | Flag::Table | Flag::Extract | Flag::Output

@@ -246,6 +246,7 @@ fn most_names(verb: Verb, mode: Option<Flag>) -> Option<usize>
     ensures { result ≡ rules.most_names verb mode }
 {
     match (verb, mode) {
+        (Verb::Assemble, _) => Some(1),
         (Verb::Library, Some(Flag::Table)) => Some(0),
         (Verb::Library, Some(Flag::Extract)) => Some(1),
         (Verb::Library, _) => None,
@@ -324,6 +325,7 @@ pub fn is_complete(verb: Verb, mode: Option<Flag>, items: &[Item]) -> bool
     ensures { result ≡ rules.is_complete verb mode items.now }
 {
     match (verb, mode) {
+        (Verb::Assemble, _) => has_name(items) && has(Flag::Output, items),
         (Verb::List, _) => has_name(items),
         (_, None) => false,
         (_, Some(Flag::Create)) => has_name(items),

@@ -22,9 +22,15 @@ fn place(rt: &HostRuntime, words: &[&str]) -> Result<u32, Fail> {
 
 #[test]
 fn places(rt: HostRuntime) -> Result<(), Fail> {
-    let cases: [(&[&str], u32); 37] = [
+    let cases: [(&[&str], u32); 43] = [
         (&[], 1),
         (&["lob", "-t", "p"], 1),
+        (&["asm", "t.s", "-o", "t.o"], 0),
+        (&["asm", "-o", "t.o", "t.s"], 0),
+        (&["asm", "t.s"], 3),
+        (&["asm", "-o", "t.o"], 4),
+        (&["asm", "t.s", "u.s", "-o", "t.o"], 3),
+        (&["asm", "-c", "t.s", "-o", "t.o"], 2),
         (&["lib"], 2),
         (&["lib", "-c", "p.alf"], 4),
         (&["lib", "-c", "p.alf", "a.o", "b.o"], 0),
