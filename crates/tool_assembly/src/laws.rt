@@ -1,0 +1,8 @@
+//! Laws of the definitions, each proved as the contract of an empty function.
+
+ghost use Rattle.tool_assembly.specs.Sources.{OneAsked};
+
+/// Files ask for one thing.
+pub fn one_asked()
+    ensures { OneAsked }
+{}
