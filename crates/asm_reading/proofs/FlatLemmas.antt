@@ -1,8 +1,8 @@
 -- Lines of a source, one after the other.
-use Rattle.std.proofs.Common.{◌≡◌, List, [], ◌∷◌, ◌++◌, map, refl, sym, ap, ◌∙◌}
+use Rattle.std.proofs.Common.{◌≡◌, List, [], ◌∷◌, ◌++◌, map, refl, ap}
 use Rattle.asm_model.specs.declared.lines.Flat.{Flat}
 use Rattle.asm_model.specs.declared.lines.Line.{Line}
-use Rattle.asm_reading.specs.Flats.{flat_of, AreFlats}
+use Rattle.asm_reading.specs.Flats.{flat_of}
 use Rattle.asm_reading.specs.Reading.{IsShort, AllShort}
 
 pub mapped_more : (xs : List Line) (x : Line) → map flat_of (xs ++ x ∷ []) ≡ map flat_of xs ++ flat_of x ∷ []

@@ -1,2 +1,3 @@
 mod FlatLemmas
+mod LawLemmas
 mod ReadLemmas

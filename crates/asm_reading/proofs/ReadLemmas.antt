@@ -1,16 +1,20 @@
 -- Lines that are read one after the other.
-use Rattle.std.proofs.Common.{◌≡◌, ◌≤◌, ◌<◌, suc, ◌+◌, ◌-◌, Bool, true, false, List, [], ◌∷◌, ◌++◌, length, take, drop, Option, Some, None, Ok, Err, refl, sym, ap, ◌∙◌, subst, arith, append_assoc, length-append}
+use Rattle.std.proofs.Common.{◌≡◌, ℕ, ◌≤◌, ◌<◌, suc, ◌+◌, ◌-◌, Bool, true, false, cond, List, [], ◌∷◌, ◌++◌, length, take, drop, Option, Some, None, Ok, Err, refl, sym, ap, ◌∙◌, subst, arith, append_assoc, length-append}
 use Rattle.std.specs.Prelude.{get_or}
 use Rattle.std.proofs.lemmas.Grind.{common_steps}
+use Rattle.sdt_fault.specs.declared.kinds.LineKind.TheVariants.{UnknownWord}
 use Rattle.asm_arm.specs.Says.{SaysArm}
 use Rattle.asm_model.specs.declared.lines.Flat.{Flat}
+use Rattle.asm_model.specs.declared.directives.DirectiveLine.TheVariants as line
 use Rattle.asm_model.specs.declared.statements.Statement.{Statement}
+use Rattle.asm_model.specs.declared.statements.What.{What}
+use Rattle.asm_model.specs.declared.statements.What.TheVariants as what
 use Rattle.asm_model.specs.Directives.{or_else}
 use Rattle.asm_said.specs.Laws.{LinesAreSaid}
-use Rattle.said_model.specs.Said.{AllSaid}
+use Rattle.said_model.specs.Said.{IsSaid, AllSaid}
 use Rattle.asm_reading.specs.declared.reading.Reading.{Reading}
 use Rattle.asm_reading.specs.declared.reading.Unread.{Unread}
-use Rattle.asm_reading.specs.Reading.{IsShort, AllShort, Said, says_end, UnlessEnd, Say, statement_in, statements_in, unread_in, first_unread, Keeps, IsReading, IsSoFar}
+use Rattle.asm_reading.specs.Reading.{IsShort, AllShort, Said, changes_state, without_states, has_dollar, read_as, SaysLine, says_end, UnlessEnd, Say, statement_in, statements_in, unread_in, first_unread, is_unread, read_first, before_behind, Keeps, IsReading, StaysInArm, InArm, IsSoFar}
 
 -- ---- lists
 
@@ -67,24 +71,96 @@ no_more (f ∷ fs) (p ∷ ps) h = by_end (says_end p.1) h.2 (λ k. no_more fs ps
     by_end true e rest = let z : ps ≡ [] = e in rw z (omega arith)
     by_end false e rest = let r = rest e in omega arith
 
-said_joined : (xs ys : List Statement) → AllSaid xs → AllSaid ys → AllSaid (xs ++ ys)
-said_joined [] ys h k = k
-said_joined (x ∷ xs) ys h k = (h.0, said_joined xs ys h.1 k)
+-- ---- each statement
 
-said_one : LinesAreSaid → (f : Flat) (s : Said) → SaysArm f s → AllSaid (statement_in s)
-said_one law f (Ok (Some s)) h = (law f s h, tt)
-said_one law f (Ok None) h = tt
-said_one law f (Err k) h = tt
+-- a statement as a line of ARM state says it
+abbrev IsKept : Statement → Type 0
+IsKept s = IsSaid s × StaysInArm s.what
 
-all_said : LinesAreSaid → (fs : List Flat) (ps : List (Flat × Said)) → Say fs ps → AllSaid (statements_in ps)
-all_said law fs [] h = tt
-all_said law [] (p ∷ ps) h = absurd h
-all_said law (f ∷ fs) (p ∷ ps) h =
-    said_joined (statement_in p.1) (statements_in ps) (said_one law f p.1 h.1) (by_end (says_end p.1) h.2 (λ k. all_said law fs ps k))
+abbrev AllKept : List Statement → Type 0
+AllKept [] = Unit {0}
+AllKept (s ∷ ss) = IsKept s × AllKept ss
+
+said_of : (ss : List Statement) → AllKept ss → AllSaid ss
+said_of [] h = tt
+said_of (s ∷ ss) h = (h.0.0, said_of ss h.1)
+
+arm_of : (ss : List Statement) → AllKept ss → InArm ss
+arm_of [] h = tt
+arm_of (s ∷ ss) h = (h.0.1, arm_of ss h.1)
+
+kept_joined : (xs ys : List Statement) → AllKept xs → AllKept ys → AllKept (xs ++ ys)
+kept_joined [] ys h k = k
+kept_joined (x ∷ xs) ys h k = (h.0, kept_joined xs ys h.1 k)
+
+stays : (w : What) → changes_state w ≡ false → StaysInArm w
+stays (what.Directive line.Code16) e = absurd (cc)
+stays w e = tt
+
+without_kept : LinesAreSaid → (f : Flat) (s : Said) → SaysArm f s → AllKept (statement_in (without_states s))
+without_kept law f (Ok (Some s)) h = by_test (changes_state s.what) refl
   where
-    by_end : (b : Bool) → UnlessEnd b ps (Say fs ps) → (Say fs ps → AllSaid (statements_in ps)) → AllSaid (statements_in ps)
+    by_test : (b : Bool) → changes_state s.what ≡ b → AllKept (statement_in (cond b (Err UnknownWord) (Ok (Some s))))
+    by_test true e = tt
+    by_test false e = ((law f s h, stays s.what e), tt)
+without_kept law f (Ok None) h = tt
+without_kept law f (Err k) h = tt
+
+as_kept : LinesAreSaid → (f : Flat) (b : Bool) (s : Said) → SaysArm f s → AllKept (statement_in (read_as b s))
+as_kept law f true s h = tt
+as_kept law f false s h = without_kept law f s h
+
+one_kept : LinesAreSaid → (f : Flat) (r : Said) → SaysLine f r → AllKept (statement_in r)
+one_kept law f r h = subst (λ (s : Said). AllKept (statement_in s)) (sym h.4) (as_kept law f (has_dollar f.text h.0) h.1 h.3)
+
+all_kept : LinesAreSaid → (fs : List Flat) (ps : List (Flat × Said)) → Say fs ps → AllKept (statements_in ps)
+all_kept law fs [] h = tt
+all_kept law [] (p ∷ ps) h = absurd h
+all_kept law (f ∷ fs) (p ∷ ps) h =
+    kept_joined (statement_in p.1) (statements_in ps) (one_kept law f p.1 h.1) (by_end (says_end p.1) h.2 (λ k. all_kept law fs ps k))
+  where
+    by_end : (b : Bool) → UnlessEnd b ps (Say fs ps) → (Say fs ps → AllKept (statements_in ps)) → AllKept (statements_in ps)
     by_end true e rest = let z : ps ≡ [] = e in rw z tt
     by_end false e rest = rest e
+
+-- ---- the lines before the first that can't be read
+
+first_none : (ps qs : List (Flat × Said)) → first_unread ps ≡ None → read_first (ps ++ qs) ≡ ps ++ read_first qs
+first_none [] qs e = refl
+first_none (p ∷ ps) qs e = by_said p.1 e (λ k. first_none ps qs k)
+  where
+    by_said : (s : Said) → or_else (unread_in p.0 s) (first_unread ps) ≡ None
+        → (first_unread ps ≡ None → read_first (ps ++ qs) ≡ ps ++ read_first qs)
+        → cond {A = List (Flat × Said)} (is_unread s) [] (p ∷ read_first (ps ++ qs)) ≡ p ∷ ps ++ read_first qs
+    by_said (Ok s) k rest = ap (λ (l : List (Flat × Said)). p ∷ l) (rest k)
+    by_said (Err j) k rest = absurd (cc)
+
+first_some : (ps qs : List (Flat × Said)) (u : Unread) → first_unread ps ≡ Some u → read_first (ps ++ qs) ≡ read_first ps
+first_some [] qs u e = absurd (cc)
+first_some (p ∷ ps) qs u e = by_said p.1 e (λ k. first_some ps qs u k)
+  where
+    by_said : (s : Said) → or_else (unread_in p.0 s) (first_unread ps) ≡ Some u
+        → (first_unread ps ≡ Some u → read_first (ps ++ qs) ≡ read_first ps)
+        → cond {A = List (Flat × Said)} (is_unread s) [] (p ∷ read_first (ps ++ qs)) ≡ cond {A = List (Flat × Said)} (is_unread s) [] (p ∷ read_first ps)
+    by_said (Ok s) k rest = ap (λ (l : List (Flat × Said)). p ∷ l) (rest k)
+    by_said (Err j) k rest = refl
+
+first_all : (ps : List (Flat × Said)) → first_unread ps ≡ None → read_first ps ≡ ps
+first_all ps e = subst (λ (l : List (Flat × Said)). read_first l ≡ l) (append_nil ps) (first_none ps [] e)
+
+behind_unread : (s : Said) (u : Unread) (before all : ℕ) → before_behind s (Some u) before all ≡ before
+behind_unread (Ok (Some s)) u before all = refl
+behind_unread (Ok None) u before all = refl
+behind_unread (Err k) u before all = refl
+
+-- where all before can be read
+behind_read : (done : List (Flat × Said)) (f : Flat) (s : Said)
+    → before_behind s None (length (statements_in done)) (length (statements_in (done ++ (f, s) ∷ [])))
+    ≡ length (statements_in (done ++ read_first ((f, s) ∷ [])))
+behind_read done f (Ok (Some s)) = refl
+behind_read done f (Ok None) =
+    sym (ap (λ (l : List Statement). length l) (statements_joined done ((f, Ok None) ∷ []) ∙ append_nil (statements_in done)))
+behind_read done f (Err k) = sym (ap (λ (l : List (Flat × Said)). length (statements_in l)) (append_nil done))
 
 -- ---- the end
 
@@ -92,19 +168,24 @@ all_said law (f ∷ fs) (p ∷ ps) h =
 pub record Ends (lines : List Flat) (r : Reading) : Type 0 where
   pub reads : IsReading lines r
   pub said : AllSaid r.statements.items
+  pub arm : InArm r.statements.items
   pub few : length r.statements.items ≤ length lines
 
-ends_with : LinesAreSaid → (lines : List Flat) (r : Reading) (ps : List (Flat × Said)) → Say lines ps → r.statements.items ≡ statements_in ps → r.unread ≡ first_unread ps → Ends lines r
-ends_with law lines r ps h s u = record {
-  reads = record { says = ps; say = h; statements = s; unread = u };
-  said = rw s (all_said law lines ps h);
-  few = let a : length (statements_in ps) ≤ length ps = few ps in let b : length ps ≤ length lines = no_more lines ps h in rw s (omega arith);
-}
+ends_with : LinesAreSaid → (lines : List Flat) (r : Reading) (ps : List (Flat × Said)) → Say lines ps → r.statements.items ≡ statements_in ps → r.unread ≡ first_unread ps
+    → r.before ≡ length (statements_in (read_first ps)) → Ends lines r
+ends_with law lines r ps h s u b =
+    let kept : AllKept r.statements.items = rw s (all_kept law lines ps h) in
+    record {
+      reads = record { says = ps; say = h; statements = s; unread = u; before = b };
+      said = said_of r.statements.items kept;
+      arm = arm_of r.statements.items kept;
+      few = let a : length (statements_in ps) ≤ length ps = few ps in let b : length ps ≤ length lines = no_more lines ps h in rw s (omega arith);
+    }
 
 pub at_the_end : LinesAreSaid → (lines left : List Flat) (r : Reading) → length left < 1 → IsSoFar lines left r → Ends lines r
 at_the_end law lines left r less h =
     ends_with law lines r h.done
-    (subst (λ (ps : List (Flat × Said)). Say lines ps) (append_nil h.done) (h.more [] (nothing left less))) h.statements h.unread
+    (subst (λ (ps : List (Flat × Said)). Say lines ps) (append_nil h.done) (h.more [] (nothing left less))) h.statements h.unread h.before
 
 -- ---- a line more
 
@@ -118,14 +199,35 @@ told_more : (done : List (Flat × Said)) (f : Flat) (s : Said) (old new : Readin
     → new.unread ≡ first_unread (done ++ (f, s) ∷ [])
 told_more done f s old new k h = k.told ∙ ap (λ (o : Option Unread). or_else o (unread_in f s)) h ∙ sym (unread_joined done f s)
 
-pub at_end_line : LinesAreSaid → (lines left rest : List Flat) (f : Flat) (s : Said) (old new : Reading) → left ≡ f ∷ rest → SaysArm f s → says_end s ≡ true
+counts_more : (done : List (Flat × Said)) (f : Flat) (s : Said) (old new : Reading) → Keeps f s old new → old.statements.items ≡ statements_in done
+    → old.unread ≡ first_unread done → old.before ≡ length (statements_in (read_first done))
+    → new.before ≡ length (statements_in (read_first (done ++ (f, s) ∷ [])))
+counts_more done f s old new k h u b = by_unread (first_unread done) refl
+  where
+    by_unread : (o : Option Unread) → first_unread done ≡ o → new.before ≡ length (statements_in (read_first (done ++ (f, s) ∷ [])))
+    by_unread None e =
+        let before : old.before ≡ length (statements_in done) = b ∙ ap (λ (l : List (Flat × Said)). length (statements_in l)) (first_all done e) in
+        let all : length new.statements.items ≡ length (statements_in (done ++ (f, s) ∷ [])) =
+        ap (λ (l : List Statement). length l) (kept_more done f s old new k h) in
+        k.counts ∙ ap (λ (o : Option Unread). before_behind s o old.before (length new.statements.items)) (u ∙ e)
+        ∙ ap (λ (n : ℕ). before_behind s None n (length new.statements.items)) before
+        ∙ ap (λ (n : ℕ). before_behind s None (length (statements_in done)) n) all
+        ∙ behind_read done f s
+        ∙ sym (ap (λ (l : List (Flat × Said)). length (statements_in l)) (first_none done ((f, s) ∷ []) e))
+    by_unread (Some v) e =
+        k.counts ∙ ap (λ (o : Option Unread). before_behind s o old.before (length new.statements.items)) (u ∙ e)
+        ∙ behind_unread s v old.before (length new.statements.items) ∙ b
+        ∙ sym (ap (λ (l : List (Flat × Said)). length (statements_in l)) (first_some done ((f, s) ∷ []) v e))
+
+pub at_end_line : LinesAreSaid → (lines left rest : List Flat) (f : Flat) (s : Said) (old new : Reading) → left ≡ f ∷ rest → SaysLine f s → says_end s ≡ true
     → Keeps f s old new → IsSoFar lines left old → Ends lines new
 at_end_line law lines left rest f s old new at says e k h =
     ends_with law lines new (h.done ++ (f, s) ∷ [])
     (h.more ((f, s) ∷ []) (subst (λ (l : List Flat). Say l ((f, s) ∷ [])) (sym at) (refl, says, rw e refl)))
     (kept_more h.done f s old new k h.statements) (told_more h.done f s old new k h.unread)
+    (counts_more h.done f s old new k h.statements h.unread h.before)
 
-pub goes_on : (lines left rest : List Flat) (f : Flat) (s : Said) (old new : Reading) → left ≡ f ∷ rest → SaysArm f s → says_end s ≡ false
+pub goes_on : (lines left rest : List Flat) (f : Flat) (s : Said) (old new : Reading) → left ≡ f ∷ rest → SaysLine f s → says_end s ≡ false
     → Keeps f s old new → IsSoFar lines left old → IsSoFar lines rest new
 goes_on lines left rest f s old new at says e k h =
     let long : length left ≡ suc (length rest) = ap (λ (l : List Flat). length l) at in
@@ -138,6 +240,7 @@ goes_on lines left rest f s old new at says e k h =
       number = omega arith;
       statements = kept_more h.done f s old new k h.statements;
       unread = told_more h.done f s old new k h.unread;
+      before = counts_more h.done f s old new k h.statements h.unread h.before;
       short = (subst (λ (l : List Flat). AllShort l) at h.short).1;
     }
 

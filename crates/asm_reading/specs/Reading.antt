@@ -1,14 +1,22 @@
 -- What the lines of a source say, up to the first that says END, which closes it. SDT 2.50 Reference Guide, chapter on the
--- assembler.
-use Rattle.std.specs.Prelude.{◌≡◌, ◌+◌, ◌^◌, ◌<◌, List, [], ◌∷◌, ◌++◌, length, Bool, true, false, Option, Some, None, Result, Ok, Err}
+-- assembler. This project's: until Thumb lines stand, CODE16 and CODE32 are words that nothing names; and until lines are
+-- expanded, strings and characters hold no dollar.
+use Rattle.std.specs.Prelude.{◌≡◌, ℕ, ◌+◌, ◌^◌, ◌<◌, ◌==◌, List, [], ◌∷◌, ◌++◌, length, Bool, true, false, if◌then◌else◌, Option, Some, None, Result, Ok, Err}
+use Rattle.std.specs.List.{list_any}
 use Rattle.sdt_fault.specs.declared.kinds.LineKind.{LineKind}
+use Rattle.sdt_fault.specs.declared.kinds.LineKind.TheVariants.{Syntax, UnknownWord}
 use Rattle.asm_arm.specs.Says.{SaysArm}
 use Rattle.asm_model.specs.declared.directives.DirectiveLine.TheVariants as line
 use Rattle.asm_model.specs.declared.lines.Flat.{Flat}
 use Rattle.asm_model.specs.declared.statements.Statement.{Statement}
 use Rattle.asm_model.specs.declared.statements.What.{What}
 use Rattle.asm_model.specs.declared.statements.What.TheVariants as what
+use Rattle.asm_model.specs.declared.tokens.Token.{Token}
+use Rattle.asm_model.specs.declared.tokens.TokenKind.{TokenKind}
+use Rattle.asm_model.specs.declared.tokens.TokenKind.TheVariants as kind
 use Rattle.asm_model.specs.Directives.{or_else}
+use Rattle.asm_model.specs.Parts.{piece}
+use Rattle.asm_model.specs.Tokens.{Scans}
 use Rattle.asm_reading.specs.declared.reading.Reading.{Reading}
 use Rattle.asm_reading.specs.declared.reading.Unread.{Unread}
 
@@ -24,6 +32,42 @@ AllShort (f ∷ fs) = IsShort f × AllShort fs
 -- what a line says, or the kind that is told of it
 abbrev pub Said : Type 0
 Said = Result (Option Statement) LineKind
+
+-- a change of state
+abbrev pub changes_state : What → Bool
+changes_state (what.Directive line.Code16) = true
+changes_state (what.Directive line.Code32) = true
+changes_state _ = false
+
+abbrev pub without_states : Said → Said
+without_states (Ok (Some s)) = if changes_state s.what then Err UnknownWord else Ok (Some s)
+without_states (Ok None) = Ok None
+without_states (Err k) = Err k
+
+-- where a dollar has no meaning
+abbrev pub is_quotation : TokenKind → Bool
+is_quotation kind.Quoted = true
+is_quotation kind.Character = true
+is_quotation _ = false
+
+abbrev pub is_dollar : ℕ → Bool
+is_dollar c = c == 36
+
+abbrev pub holds_dollar : List ℕ → Token → Bool
+holds_dollar text t = if is_quotation t.kind then list_any is_dollar (piece text t) else false
+
+abbrev pub Scan : Type 0
+Scan = Result (List Token) LineKind
+
+abbrev pub has_dollar : List ℕ → Scan → Bool
+has_dollar text (Ok ts) = list_any (holds_dollar text) ts
+has_dollar text (Err k) = false
+
+abbrev pub read_as : Bool → Said → Said
+read_as dollar s = if dollar then Err Syntax else without_states s
+
+abbrev pub SaysLine : Flat → Said → Type 0
+SaysLine f r = (scan : Scan) × (s : Said) × Scans f.text scan × SaysArm f s × (r ≡ read_as (has_dollar f.text scan) s)
 
 abbrev pub is_end : What → Bool
 is_end (what.Directive line.End) = true
@@ -43,7 +87,7 @@ UnlessEnd false ps Rest = Rest
 abbrev pub Say : List Flat → List (Flat × Said) → Type 0
 Say fs [] = fs ≡ []
 Say [] (p ∷ ps) = ⊥
-Say (f ∷ fs) (p ∷ ps) = (p.0 ≡ f) × SaysArm f p.1 × UnlessEnd (says_end p.1) ps (Say fs ps)
+Say (f ∷ fs) (p ∷ ps) = (p.0 ≡ f) × SaysLine f p.1 × UnlessEnd (says_end p.1) ps (Say fs ps)
 
 -- ---- what is kept of them
 
@@ -67,16 +111,50 @@ abbrev pub first_unread : List (Flat × Said) → Option Unread
 first_unread [] = None
 first_unread (p ∷ ps) = or_else (unread_in p.0 p.1) (first_unread ps)
 
+abbrev pub is_unread : Said → Bool
+is_unread (Ok s) = false
+is_unread (Err k) = true
+
+-- the lines before the first that can't be read
+abbrev pub read_first : List (Flat × Said) → List (Flat × Said)
+read_first [] = []
+read_first (p ∷ ps) = if is_unread p.1 then [] else p ∷ read_first ps
+
+-- how many statements stand there behind one more, of so many in all
+abbrev pub counted : Option Unread → ℕ → ℕ → ℕ
+counted None before all = all
+counted (Some u) before all = before
+
+abbrev pub before_behind : Said → Option Unread → ℕ → ℕ → ℕ
+before_behind (Ok (Some s)) u before all = counted u before all
+before_behind (Ok None) u before all = before
+before_behind (Err k) u before all = before
+
 pub record Keeps (f : Flat) (s : Said) (old new : Reading) : Type 0 where
   pub kept : new.statements.items ≡ old.statements.items ++ statement_in s
   pub told : new.unread ≡ or_else old.unread (unread_in f s)
+  pub counts : new.before ≡ before_behind s old.unread old.before (length new.statements.items)
 
--- the statements of the lines that can be read, and the first that can't
+-- the statements of the lines that can be read, the first that can't, and how many statements stand before it
 pub record IsReading (lines : List Flat) (r : Reading) : Type 0 where
   pub says : List (Flat × Said)
   pub say : Say lines says
   pub statements : r.statements.items ≡ statements_in says
   pub unread : r.unread ≡ first_unread says
+  pub before : r.before ≡ length (statements_in (read_first says))
+
+-- ---- ARM state
+
+abbrev pub StaysInArm : What → Type 0
+StaysInArm (what.Directive line.Code16) = ⊥
+StaysInArm _ = Unit {0}
+
+-- no statement says CODE16
+abbrev pub InArm : List Statement → Type 0
+InArm [] = Unit {0}
+InArm (s ∷ ss) = StaysInArm s.what × InArm ss
+
+-- ---- steps
 
 -- what lines say of which these are left
 pub record IsSoFar (lines left : List Flat) (r : Reading) : Type 0 where
@@ -85,4 +163,5 @@ pub record IsSoFar (lines left : List Flat) (r : Reading) : Type 0 where
   pub number : length done + length left ≡ length lines
   pub statements : r.statements.items ≡ statements_in done
   pub unread : r.unread ≡ first_unread done
+  pub before : r.before ≡ length (statements_in (read_first done))
   pub short : AllShort left

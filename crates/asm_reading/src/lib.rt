@@ -2,6 +2,7 @@
 #![tactic(auto)]
 
 pub mod flats;
+pub mod laws;
 pub mod reading;
 
 pub use crate::flats::flats_of;

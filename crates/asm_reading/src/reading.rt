@@ -1,17 +1,22 @@
-//! What the lines of a source say, up to the first that says END.
+//! What the lines of a source say, up to the first that says END. Until Thumb lines stand, CODE16 and CODE32 are words that
+//! nothing names; and until lines are expanded, a string or a character holds no dollar.
 
-ghost use Rattle.std.specs.Prelude.{◌≡◌, ◌++◌, ◌≤◌, length, IfOk, OnOk};
+ghost use Rattle.std.specs.Prelude.{◌≡◌, ◌++◌, ◌≤◌, length, IfOk, OnOk, Some};
+ghost use Rattle.std.specs.List.{list_any};
 ghost use Rattle.asm_arm.specs.Says.{SaysArm};
+ghost use Rattle.asm_model.specs.Tokens.{Scans};
 ghost use Rattle.asm_reading.specs.Reading as reading_of;
 ghost use Rattle.said_model.specs.Said.{AllSaid};
 
 use asm_arm::parse_arm;
-use asm_model::{DirectiveLine, Flat, Statement, What};
+use asm_expr::operands::piece_of;
+use asm_lines::tokens;
+use asm_model::{DirectiveLine, Flat, Statement, Token, TokenKind, What};
 use asm_said::laws::lines_are_said;
 use sdt_fault::answer::Fault;
 use sdt_fault::kinds::LineKind;
 use sdt_fault::refusal::Refusal;
-use sdt_fault::{NoMemory, Text};
+use sdt_fault::{List, NoMemory, Text};
 use std::alloc::Global;
 
 /// What lines say, up to the first that says END.
@@ -21,6 +26,8 @@ pub struct Reading {
     pub statements: Vec<Statement>,
     /// The first line that can't be read.
     pub unread: Option<Unread>,
+    /// How many statements stand before that line; all of them where there is none.
+    pub before: usize,
 }
 
 /// A line that can't be read, with the kind that is told of it.
@@ -32,7 +39,105 @@ pub struct Unread {
 }
 
 /// What a line says, or the kind that is told of it.
-fn read_line(alloc: Global, line: &Flat) -> Result<Result<Option<Statement>, LineKind>, NoMemory>
+type Said = Result<Option<Statement>, LineKind>;
+
+/// The tokens of a line, or the kind that is told of it.
+type Scan = Result<List<Token>, LineKind>;
+
+/// Whether a statement changes the state.
+fn changes_state(what: &What) -> bool
+    ensures { result ≡ reading_of.changes_state what.now }
+{
+    match what {
+        What::Directive(DirectiveLine::Code16) => true,
+        What::Directive(DirectiveLine::Code32) => true,
+        _ => false,
+    }
+}
+
+/// The statement, unless it changes the state.
+fn arm_statement(statement: Statement) -> Said
+    ensures { result ≡ reading_of.without_states (Ok (Some statement)) }
+{
+    if changes_state(&statement.what) {
+        return Err(LineKind::UnknownWord);
+    }
+    Ok(Some(statement))
+}
+
+/// Whether a token is a string or a character.
+fn is_quotation(kind: TokenKind) -> bool
+    ensures { result ≡ reading_of.is_quotation kind }
+{
+    match kind {
+        TokenKind::Quoted => true,
+        TokenKind::Character => true,
+        _ => false,
+    }
+}
+
+/// Whether one of the bytes is a dollar.
+fn with_dollar(bytes: &[u8]) -> bool
+    ensures { result ≡ list_any reading_of.is_dollar bytes.now }
+{
+    bytes.iter().any(|byte| *byte == b'$')
+}
+
+/// Whether a token is a string or a character with a dollar.
+fn holds_dollar(text: &[u8], token: Token) -> bool
+    ensures { result ≡ reading_of.holds_dollar text.now token }
+{
+    if is_quotation(token.kind) {
+        return with_dollar(piece_of(text, token));
+    }
+    false
+}
+
+/// Whether one of the tokens is a string or a character with a dollar.
+fn any_dollar(text: &[u8], tokens: &[Token]) -> bool
+    ensures { result ≡ list_any (reading_of.holds_dollar text.now) tokens.now }
+{
+    tokens.iter().any(|token| holds_dollar(text, *token))
+}
+
+/// Whether a string or a character of the line has a dollar.
+fn has_dollar(text: &[u8], scan: &Scan) -> bool
+    ensures { result ≡ reading_of.has_dollar text.now scan.now }
+{
+    match scan {
+        Ok(tokens) => any_dollar(text, tokens.as_slice()),
+        Err(_) => false,
+    }
+}
+
+/// What a line says, but for dollars and changes of state.
+fn read_as(dollar: bool, said: Said) -> Said
+    ensures { result ≡ reading_of.read_as dollar said }
+{
+    if dollar {
+        return Err(LineKind::Syntax);
+    }
+    match said {
+        Ok(Some(statement)) => arm_statement(statement),
+        Ok(None) => Ok(None),
+        Err(kind) => Err(kind),
+    }
+}
+
+/// The tokens of a line, or the kind that is told of it.
+fn scan_line(alloc: Global, line: &Flat) -> Result<Scan, NoMemory>
+    requires { reading_of.IsShort line.now }
+    ensures { IfOk result (λ scan. Scans line.now.text scan) }
+{
+    match tokens(alloc, line) {
+        Ok(list) => Ok(Ok(list)),
+        Err(Fault::Refused(Refusal::BadLine { kind, .. })) => Ok(Err(kind)),
+        Err(_) => Err(NoMemory),
+    }
+}
+
+/// What a line of ARM state says, or the kind that is told of it.
+fn arm_line(alloc: Global, line: &Flat) -> Result<Said, NoMemory>
     requires { reading_of.IsShort line.now }
     ensures { IfOk result (λ said. SaysArm line.now said) }
 {
@@ -43,8 +148,19 @@ fn read_line(alloc: Global, line: &Flat) -> Result<Result<Option<Statement>, Lin
     }
 }
 
+/// What a line says, or the kind that is told of it.
+fn read_line(alloc: Global, line: &Flat) -> Result<Said, NoMemory>
+    requires { reading_of.IsShort line.now }
+    ensures { IfOk result (λ said. reading_of.SaysLine line.now said) }
+{
+    let scan = scan_line(alloc, line)?;
+    let said = arm_line(alloc, line)?;
+    let dollar = has_dollar(line.text.as_slice(), &scan);
+    Ok(read_as(dollar, said))
+}
+
 /// Whether a line says END.
-fn says_end(said: &Result<Option<Statement>, LineKind>) -> bool
+fn says_end(said: &Said) -> bool
     ensures { result ≡ reading_of.says_end said.now }
 {
     match said {
@@ -66,18 +182,26 @@ fn unread_line(alloc: Global, line: &Flat, kind: LineKind) -> Result<Unread, NoM
     })
 }
 
+/// How many statements stand before the first line that can't be read, behind one more, of `all`.
+fn counted(unread: &Option<Unread>, before: usize, all: usize) -> usize
+    ensures { result ≡ reading_of.counted unread.now before all }
+{
+    match unread {
+        None => all,
+        Some(_) => before,
+    }
+}
+
 /// Keeps what a line more says.
-fn keep(
-    alloc: Global,
-    reading: &mut Reading,
-    line: &Flat,
-    said: Result<Option<Statement>, LineKind>,
-) -> Result<(), NoMemory>
+fn keep(alloc: Global, reading: &mut Reading, line: &Flat, said: Said) -> Result<(), NoMemory>
     ensures { OnOk result (reading_of.Keeps line.now said reading.old reading.new) }
 {
     match said {
         Ok(None) => {}
-        Ok(Some(statement)) => reading.statements.push(statement)?,
+        Ok(Some(statement)) => {
+            reading.statements.push(statement)?;
+            reading.before = counted(&reading.unread, reading.before, reading.statements.len());
+        }
         Err(kind) => {
             if reading.unread.is_none() {
                 reading.unread = Some(unread_line(alloc, line, kind)?);
@@ -87,17 +211,20 @@ fn keep(
     Ok(())
 }
 
-/// The statements of lines of ARM state, and the first line that can't be read.
+/// The statements of lines of ARM state, and the first line that can't be read: UnknownWord where it says CODE16 or CODE32,
+/// Syntax where a string or a character holds a dollar, and the faults of `parse_arm`.
 pub fn read_lines(alloc: Global, lines: &[Flat]) -> Result<Reading, NoMemory>
     requires { reading_of.AllShort lines.now }
     ensures reads { IfOk result (λ reading. reading_of.IsReading lines.now reading) }
     ensures said { IfOk result (λ reading. AllSaid reading.statements.items) }
+    ensures arm { IfOk result (λ reading. reading_of.InArm reading.statements.items) }
     ensures few { IfOk result (λ reading. length reading.statements.items ≤ length lines.now) }
 {
     lines_are_said();
     let mut reading = Reading {
         statements: Vec::new(alloc),
         unread: None,
+        before: 0,
     };
     let mut left = lines;
     'lines: loop {

@@ -1,4 +1,4 @@
-use Rattle.std.proofs.Common.{◌≡◌, ◌∷◌, ◌++◌, ◌∙◌, List, [], sym, ap}
+use Rattle.std.proofs.Common.{◌∷◌, ◌++◌, ◌∙◌, List, [], sym, ap}
 use Rattle.asm_model.specs.declared.lines.Flat.{Flat}
 use Rattle.asm_reading.specs.Flats.{flat_of}
 use Rattle.asm_reading.proofs.FlatLemmas.{mapped_more, short_more}

@@ -11,6 +11,9 @@ returns-in-empty-clause-reads c = (empty_ends c).reads
 pub returns-in-empty-clause-said : goal.returns-in-empty-clause-said
 returns-in-empty-clause-said c = (empty_ends c).said
 
+pub returns-in-empty-clause-arm : goal.returns-in-empty-clause-arm
+returns-in-empty-clause-arm c = (empty_ends c).arm
+
 pub returns-in-empty-clause-few : goal.returns-in-empty-clause-few
 returns-in-empty-clause-few c = (empty_ends c).few
 
@@ -26,6 +29,9 @@ returns-then-ends-clause-reads c = (end_line c).reads
 
 pub returns-then-ends-clause-said : goal.returns-then-ends-clause-said
 returns-then-ends-clause-said c = (end_line c).said
+
+pub returns-then-ends-clause-arm : goal.returns-then-ends-clause-arm
+returns-then-ends-clause-arm c = (end_line c).arm
 
 pub returns-then-ends-clause-few : goal.returns-then-ends-clause-few
 returns-then-ends-clause-few c = (end_line c).few
