@@ -1,3 +1,2 @@
 -- What the clauses of the crate cite.
-pub mod Fits
 pub mod Scenes

@@ -5,7 +5,6 @@ pub mod blocks;
 pub mod branches;
 pub mod data;
 pub mod immediates;
-pub mod laws;
 pub mod lines;
 pub mod pseudo;
 pub mod scenes;
@@ -13,9 +12,6 @@ pub mod shifts;
 pub mod transfers;
 pub mod values;
 
-pub use crate::laws::{
-    fitting_instructions_are_written, instructions_fit, pseudo_instructions_fit,
-};
 pub use crate::lines::{arm_instruction, branch_symbol};
 pub use crate::pseudo::pseudo_instructions;
 pub use crate::scenes::Scene;

@@ -3,6 +3,8 @@ pub mod JudgeLemmas
 pub mod LiteralLemmas
 pub mod LocalLemmas
 pub mod LoopLemmas
+pub mod PutLemmas
+pub mod SaidLemmas
 pub mod SetLemmas
 pub mod ShowLemmas
 pub mod SplitLemmas

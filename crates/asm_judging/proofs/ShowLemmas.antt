@@ -30,7 +30,6 @@ use Rattle.asm_pool.specs.declared.layout.LaidArea.{LaidArea}
 use Rattle.asm_pool.specs.declared.layout.LaidStatement.{LaidStatement}
 use Rattle.asm_units.specs.declared.beside.Beside.{Beside}
 use Rattle.asm_units.specs.Literals.{literal_in}
-use Rattle.asm_units.specs.Showing.{ShowsBeside}
 use Rattle.layout_laws.specs.Final.{KnownValuesAreFinal}
 use Rattle.layout_model.specs.Before.{areas_behind}
 use Rattle.layout_model.specs.Extents.{Extent, Pool, extent_of, value_there}
@@ -45,10 +44,11 @@ use Rattle.source_model.specs.Registers.{register_in, registers_behind, register
 use Rattle.source_model.specs.SourceFaults.{context_of, word_of}
 use Rattle.asm_judging.specs.Loaded as own
 use Rattle.asm_judging.specs.Giving.{IsNumber, gives}
-use Rattle.asm_judging.specs.Whole.{IsWhole, IsHere, kinds_at}
+use Rattle.asm_judging.specs.Whole.{IsWhole, IsHere, ShowsLine, context_there, word_there, kinds_at}
 use Rattle.asm_judging.specs.declared.whole.Whole.{Whole}
 use Rattle.asm_judging.proofs.GivingLemmas.{small_there, gives_there}
-use Rattle.asm_judging.proofs.LiteralLemmas.{IsPlaced, free_there, word_there, literal_there}
+use Rattle.asm_judging.proofs.LiteralLemmas.{IsPlaced, free_there, literal_there}
+use Rattle.asm_judging.proofs.LiteralLemmas as placed
 use Rattle.asm_judging.proofs.SplitLemmas.{IsBehind, behind_there, split_there, HasNone, none_there, is_sound, are_plain}
 use Rattle.asm_judging.proofs.WithinLemmas.{IsWithin, AllWithin, SeesWithin, names_within, line_within, stands_within, area_stands, areas_fewer}
 
@@ -215,15 +215,15 @@ loads fits law pools statements areas w known before rest l x p = by_area l.area
         let t = taken l.extent in
         let whole : pieces_of (laid statements) ≡ joined ((record { area = Some area; extent = t }) ∷ pieces) behind =
         ap pieces_of p.here.parts ∙ sym (joined_pieces rest (l ∷ before)) ∙ ap (λ (o : Option ℕ). joined ((record { area = o; extent = t }) ∷ pieces) behind) e in
-        let placed : IsPlaced area (joined ((record { area = Some area; extent = t }) ∷ pieces) behind) a.0 =
+        let settled_there : IsPlaced area (joined ((record { area = Some area; extent = t }) ∷ pieces) behind) a.0 =
         record { pools = is.pools ∙ ap (λ (ps : List Piece). flushed (start_in area ps Pool) (pools_behind area ps)) whole } in
         let extents = parts_extents rest (l ∷ before) (subst (λ (ls : List LaidLine). AllExtents (pieces_of ls)) p.here.parts (all_extents fits (declared statements) statements)) in
         let entry = p.here.line.literal ∙ ap (λ (o : Option ℕ). entry_behind o pieces t) e in
         record {
           word = ap (λ (o : Option ℕ). own.word_in areas o x.literal) (p.here.line.area ∙ e) ∙ ap (own.word_in areas (Some area)) entry
-              ∙ word_there law areas area a.0 pieces behind t a.1 placed extents.0.1 extents.0.0 extents.1
+              ∙ placed.word_there law areas area a.0 pieces behind t a.1 settled_there extents.0.1 extents.0.0 extents.1
               ∙ ap (λ (o : Option ℕ). word_of o t ((record { area = o; extent = t }) ∷ pieces) behind) (sym e);
-          literal = literal_there pools areas area a.0 pieces behind t a.1 placed
+          literal = literal_there pools areas area a.0 pieces behind t a.1 settled_there
               ∙ sym (ap (λ (o : Option ℕ). own.literal_in areas o x.literal) (p.here.line.area ∙ e) ∙ ap (own.literal_in areas (Some area)) entry);
         }
 
@@ -264,8 +264,7 @@ known_there law statements areas w known before rest l x p e v h =
 
 pub shows_beside : KnownValuesAreFinal → (statements : List Statement) (areas : List LaidArea) (w : Whole) (known : BTreeMap (List ℕ) ℕ) (before rest : List LaidLine) (l : LaidLine) (x : LaidStatement)
     (y : Beside) → IsPlace statements areas w known before rest l x → Loads areas before rest l x → IsBeside areas w known x y
-    → ShowsBeside y (context_of (final_names (laid statements)) (all_locals (laid statements)) statements l before) (datum_names statements)
-    (λ area. area_size area (pieces_of (laid statements))) l.seen (word_of l.area (taken l.extent) (pieces_of (l ∷ before)) (pieces_of rest)) x.statement.what
+    → ShowsLine statements before rest l y x.statement.what
 shows_beside law statements areas w known before rest l x y p o b =
     let sizes : y.sizes.now ≡ map (λ (a : LaidArea). a.size) areas = b.sizes ∙ p.here.whole.sizes in
     record {
@@ -285,23 +284,22 @@ shows_beside law statements areas w known before rest l x y p o b =
 -- ---- what is told, and what RN gives
 
 pub told_there : (statements : List Statement) (areas : List LaidArea) (w : Whole) (known : BTreeMap (List ℕ) ℕ) (before rest : List LaidLine) (l : LaidLine) (x : LaidStatement) (k : Option LineKind)
-    → IsPlace statements areas w known before rest l x
-    → k ≡ told_kind (value_kinds (context_of (final_names (laid statements)) (all_locals (laid statements)) statements l before) (datum_names statements)
-    (λ area. area_size area (pieces_of (laid statements))) l.seen (taken l.extent) (word_of l.area (taken l.extent) (pieces_of (l ∷ before)) (pieces_of rest)) x.statement.what)
+    → IsHere statements areas w known before rest l x
+    → k ≡ told_kind (value_kinds (context_there statements before l) (datum_names statements) (λ area. area_size area (pieces_of (laid statements))) l.seen
+    (taken l.extent) (word_there before rest l) x.statement.what)
     → k ≡ told_kind (kinds_at statements before l rest)
-told_there statements areas w known before rest l x k p e =
+told_there statements areas w known before rest l x k h e =
     e
     ∙ ap
     (λ (s : Statement). told_kind
-    (value_kinds (context_of (final_names (laid statements)) (all_locals (laid statements)) statements l before) (datum_names statements)
-    (λ area. area_size area (pieces_of (laid statements))) l.seen (taken l.extent) (word_of l.area (taken l.extent) (pieces_of (l ∷ before)) (pieces_of rest)) s.what))
-    p.here.line.statement
+    (value_kinds (context_there statements before l) (datum_names statements) (λ area. area_size area (pieces_of (laid statements))) l.seen (taken l.extent)
+    (word_there before rest l) s.what))
+    h.line.statement
 
-pub given_there : KnownValuesAreFinal → (statements : List Statement) (areas : List LaidArea) (w : Whole) (known : BTreeMap (List ℕ) ℕ) (before rest : List LaidLine) (l : LaidLine) (x : LaidStatement)
-    (n : Result ℕ LineKind) → IsPlace statements areas w known before rest l x
-    → IsNumber (context_of (final_names (laid statements)) (all_locals (laid statements)) statements l before) x.statement.what n
-    → named_by l.seen (defined_by l.statement) ≡ gives n (defined_by l.statement)
-given_there law statements areas w known before rest l x n p i =
-    let c = context_of (final_names (laid statements)) (all_locals (laid statements)) statements l before in
-    gives_there c (register_names statements) l before n (subst (λ (s : Statement). IsNumber c s.what n) p.here.line.statement i)
-    (known_there law statements areas w known before rest l x p) p.none.registers
+pub given_there : (statements : List Statement) (areas : List LaidArea) (w : Whole) (known : BTreeMap (List ℕ) ℕ) (before rest : List LaidLine) (l : LaidLine) (x : LaidStatement) (y : Beside)
+    (n : Result ℕ LineKind) → IsHere statements areas w known before rest l x → ShowsLine statements before rest l y x.statement.what
+    → IsNumber (context_there statements before l) x.statement.what n → named_by l.seen (defined_by l.statement) ≡ gives n (defined_by l.statement)
+given_there statements areas w known before rest l x y n h shows i =
+    let c = context_there statements before l in
+    gives_there c (register_names statements) l before n (subst (λ (s : Statement). IsNumber c s.what n) h.line.statement i) shows.known
+    (none_there statements rest l before h.sound h.parts).registers

@@ -2,6 +2,8 @@
 pub mod Gathered
 pub mod Giving
 pub mod Judging
+pub mod Laws
 pub mod Loaded
 pub mod Locals
+pub mod Putting
 pub mod Whole

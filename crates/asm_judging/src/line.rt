@@ -16,16 +16,14 @@ ghost use Rattle.asm_units.specs.Showing.{ShowsBeside};
 ghost use Rattle.asm_judging.specs.Giving.{IsNumber};
 ghost use Rattle.asm_judging.specs.Whole.{IsHere, IsJudged};
 
-use crate::literals::{literal_of, word_of};
+use crate::beside::{beside_of, loaded_of};
 use crate::whole::Whole;
 use asm_final::references_of;
 use asm_instructions::{Scene, number_in};
 use asm_layout::lines::line_of;
 use asm_model::{DirectiveLine, RnOperand, Value, What};
-use asm_offsets::{extents_are_placeable, literals_are_placed};
-use asm_pool::{LaidArea, LaidStatement, pool_law};
+use asm_pool::{LaidArea, LaidStatement};
 use asm_units::{Beside, value_kind};
-use layout_laws::laws::known_values_are_final;
 use sdt_fault::kinds::LineKind;
 use sdt_fault::{NoMemory, Text};
 use std::alloc::Global;
@@ -40,7 +38,7 @@ pub struct Judged {
 }
 
 /// The number that RN is given.
-fn given_number(
+pub fn given_number(
     alloc: Global,
     scene: &Scene<'_>,
     what: &What,
@@ -85,28 +83,10 @@ pub fn judge_line(
     requires { IsSaid laid.now.statement }
     ensures { IfOk result (λ j. (statements : List Said) (before rest : List LaidLine) (l : LaidLine) → IsHere statements areas.now whole.now registers.now before rest l laid.now → IsJudged statements before rest l j) }
 {
-    known_values_are_final();
-    extents_are_placeable();
-    literals_are_placed();
-    pool_law();
     let line = line_of(laid);
     let references = references_of(alloc, &line, &whole.locals)?;
-    let scene = Scene {
-        names: &whole.names,
-        line: &line,
-        references: references.as_slice(),
-        registers,
-        symbols: &whole.sets.symbols,
-    };
-    let beside = Beside {
-        scene,
-        data: &whole.sets.data,
-        defined: &whole.sets.defined,
-        sizes: whole.sizes.as_slice(),
-        strings: laid.strings.as_slice(),
-        word: word_of(areas, laid.area, laid.literal),
-    };
-    let literal = literal_of(areas, laid.area, laid.literal);
+    let beside = beside_of(areas, whole, registers, laid, &line, references.as_slice());
+    let literal = loaded_of(areas, laid);
     let judged = beside_judged(alloc, &beside, literal, &laid.statement.what)?;
     Ok(judged)
 }

@@ -1,5 +1,6 @@
 pub mod AreaLemmas
 pub mod FinishLemmas
+pub mod FrontLemmas
 pub mod LateLemmas
 pub mod OutlineLemmas
 pub mod StepLemmas

@@ -1,5 +1,5 @@
 -- The lines of a source, one behind the other.
-use Rattle.std.proofs.Common.{◌≡◌, inl, inr, ◌<◌, ℕ, suc, ◌+◌, Bool, List, [], ◌∷◌, ◌++◌, length, map, Option, Some, Result, Ok, Err, refl, sym, ap, ◌∙◌, subst, arith, append_assoc, length-append}
+use Rattle.std.proofs.Common.{◌≡◌, inl, inr, ◌<◌, ℕ, suc, ◌+◌, Bool, List, [], ◌∷◌, ◌++◌, length, map, Option, Some, Result, Ok, refl, sym, ap, ◌∙◌, subst, arith, append_assoc, length-append}
 use Rattle.std.specs.List.{slice_get}
 use Rattle.sdt_fault.specs.declared.answer.Fault.{Fault}
 use Rattle.sdt_fault.specs.declared.kinds.LineKind.{LineKind}
@@ -13,7 +13,7 @@ use Rattle.layout_laws.proofs.ForthLemmas.{length_kept}
 use Rattle.layout_laws.proofs.SoundLemmas.{statements_kept}
 use Rattle.layout_model.specs.Labels.{Defined, Unnamed, LocalLabel, Label, Equal, MapField, RegisterName, defined_by}
 use Rattle.layout_model.specs.Laid.{Declared, LaidLine, declared, laid_behind, laid_of, reversed}
-use Rattle.layout_model.specs.LayoutKinds.{equal_of, equals_in, settled, told_at}
+use Rattle.layout_model.specs.LayoutKinds.{equal_of, equals_in, settled}
 use Rattle.said_model.specs.Said.{IsSaid, AllSaid}
 use Rattle.source_model.specs.Registers.{register_names}
 use Rattle.source_model.specs.SourceFaults.{first_laid}
@@ -21,7 +21,7 @@ use Rattle.asm_layout.specs.declared.outline.Outline.{Outline}
 use Rattle.asm_layout.specs.declared.walking.Walk.{Walk}
 use Rattle.asm_layout.specs.Layout.{IsTold}
 use Rattle.asm_layout.specs.Outline.{equals_on, IsOutline}
-use Rattle.asm_layout.specs.Walking.{HasMark, IsMarked, IsWalking, IsAlong, Steps, told_by}
+use Rattle.asm_layout.specs.Walking.{HasMark, IsMarked, IsWalking, IsAlong, Steps}
 use Rattle.asm_layout.proofs.OutlineLemmas.{equals_reversed}
 
 -- ---- lists
@@ -30,7 +30,7 @@ pub reversed_joined : (ys zs acc : List Statement) → reversed (ys ++ zs) acc �
 reversed_joined [] zs acc = refl
 reversed_joined (y ∷ ys) zs acc = reversed_joined ys zs (y ∷ acc)
 
-reversed_long : (ss acc : List Statement) → length (reversed ss acc) ≡ length ss + length acc
+pub reversed_long : (ss acc : List Statement) → length (reversed ss acc) ≡ length ss + length acc
 reversed_long [] acc = omega arith
 reversed_long (s ∷ ss) acc = reversed_long ss (s ∷ acc) ∙ omega arith
 
@@ -107,32 +107,11 @@ goes_along statements ys x zs rest o old new r u outlined e h steps =
 
 -- ---- a faulty line
 
-first_stays : (names settled : List (List ℕ)) (d : Declared) (rest ss : List Statement) (t : Statement × LineKind) → first_laid names settled (laid_of d ss) ≡ Some t
+pub first_stays : (names settled : List (List ℕ)) (d : Declared) (rest ss : List Statement) (t : Statement × LineKind) → first_laid names settled (laid_of d ss) ≡ Some t
     → first_laid names settled (laid_of d (reversed rest ss)) ≡ Some t
 first_stays names settled d [] ss t e = e
 first_stays names settled d (r ∷ rest) ss t e = first_stays names settled d rest (r ∷ ss) t (rw e refl)
 
-told_moves : (o p : Option (Statement × LineKind)) (f : Fault) → ((t : Statement × LineKind) → o ≡ Some t → p ≡ Some t) → IsTold o f → IsTold p f
+pub told_moves : (o p : Option (Statement × LineKind)) (f : Fault) → ((t : Statement × LineKind) → o ≡ Some t → p ≡ Some t) → IsTold o f → IsTold p f
 told_moves o p f moves (inl e) = inl e
 told_moves o p f moves (inr h) = inr (h.0, h.1, moves (h.0, h.1) h.2, h.3)
-
-pub told_whole : (statements ys : List Statement) (x : Statement) (zs rest : List Statement) (o : Outline) (old new : Walk) (f : Fault)
-    → IsOutline (reversed statements []) o → rest ≡ x ∷ zs → IsAlong statements ys rest old
-    → ((names settled : List (List ℕ)) (before : List LaidLine) → IsWalking (declared_in o.declarations) names settled before old → IsMarked settled o.settled.items x before
-    → Steps (declared_in o.declarations) names settled (laid_behind (declared_in o.declarations) x before) before new (Err f))
-    → IsTold (first_laid (register_names (reversed statements [])) (settled (equals_in (reversed statements []))) (laid_of (declared (reversed statements [])) (reversed statements []))) f
-told_whole statements ys x zs rest o old new f outlined e h steps =
-    let s = reversed statements [] in
-    let d = declared s in
-    let names = register_names s in
-    let fixed = settled (equals_in s) in
-    let before = laid_of d (reversed ys []) in
-    let told = steps names fixed before
-    (subst (λ (c : Declared). IsWalking c names fixed before old) (sym outlined.declares) h.walks)
-    (is_marked statements ys x zs rest o old outlined e h) in
-    let here : IsTold (told_at x (told_by names fixed (laid_behind d x before) before)) f =
-    subst (λ (c : Declared). IsTold (told_at x (told_by names fixed (laid_behind c x before) before)) f) outlined.declares told in
-    let whole : s ≡ reversed zs (x ∷ reversed ys []) = whole_is statements ys x zs (h.whole ∙ ap (λ (l : List Statement). ys ++ l) e) in
-    subst (λ (l : List Statement). IsTold (first_laid names fixed (laid_of d l)) f) (sym whole)
-    (told_moves (told_at x (told_by names fixed (laid_behind d x before) before)) (first_laid names fixed (laid_of d (reversed zs (x ∷ reversed ys [])))) f
-    (λ t is. first_stays names fixed d zs (x ∷ reversed ys []) t (rw h.walks.none is)) here)

@@ -20,6 +20,7 @@ use Rattle.source_model.specs.Registers.{register_names, register_kinds}
 use Rattle.source_model.specs.SourceFaults.{first_laid}
 use Rattle.asm_layout.specs.declared.walking.Judged.{Judged}
 use Rattle.asm_layout.specs.declared.walking.Walk.{Walk}
+use Rattle.asm_layout.specs.Front.{front_lines, front_laid}
 use Rattle.asm_layout.specs.Layout.{AreStatements, IsTold}
 
 -- ---- names for expressions
@@ -115,6 +116,11 @@ Steps d names settled l before new (Err f) = IsTold (told_at l.statement (told_b
 abbrev pub IsWalked : List Statement → Result Walk Fault → Type 0
 IsWalked statements (Ok w) = IsWalking (declared statements) (register_names statements) (settled (equals_in statements)) (laid statements) w
 IsWalked statements (Err f) = IsTold (first_laid (register_names statements) (settled (equals_in statements)) (laid statements)) f
+
+-- the first lines of a source, or the first of them with a fault that is told at it
+abbrev pub IsFrontWalked : List Statement → ℕ → Result Walk Fault → Type 0
+IsFrontWalked statements n (Ok w) = IsWalking (declared statements) (register_names statements) (settled (equals_in statements)) (front_lines statements n) w
+IsFrontWalked statements n (Err f) = IsTold (front_laid statements n) f
 
 -- lines of a source, of which these are walked and those left
 pub record IsAlong (statements yielded left : List Statement) (w : Walk) : Type 0 where

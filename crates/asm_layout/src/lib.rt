@@ -3,6 +3,7 @@
 
 mod areas;
 mod finishing;
+pub mod front;
 pub mod late;
 pub mod layout;
 pub mod lines;
@@ -10,4 +11,5 @@ mod outline;
 pub mod telling;
 mod walking;
 
+pub use crate::front::front_fault;
 pub use crate::layout::lay_out;

@@ -186,6 +186,27 @@ impl Walk {
     }
 }
 
+/// Lays the first lines of a source, `count` of them or all, up to the first with a fault that is told at it.
+pub fn walked_front(
+    alloc: Global,
+    outline: &Outline,
+    statements: Vec<Statement>,
+    count: usize,
+) -> Result<Walk, Fault>
+    requires outline { IsOutline (reversed statements.items []) outline.now }
+    requires few { length statements.items < most_statements + 1 }
+    requires said { AllSaid statements.items }
+    ensures { walking.IsFrontWalked (reversed statements.items []) count result }
+{
+    let mut walk = Walk::new(alloc, statements.as_slice())?;
+    let mut front = statements;
+    front.truncate(count);
+    'statements: for statement in front {
+        walk.step(outline, statement)?;
+    }
+    Ok(walk)
+}
+
 /// Lays the lines of a source, up to the first with a fault that is told at it.
 pub fn walked(alloc: Global, outline: &Outline, statements: Vec<Statement>) -> Result<Walk, Fault>
     requires outline { IsOutline (reversed statements.items []) outline.now }
@@ -193,9 +214,6 @@ pub fn walked(alloc: Global, outline: &Outline, statements: Vec<Statement>) -> R
     requires said { AllSaid statements.items }
     ensures { walking.IsWalked (reversed statements.items []) result }
 {
-    let mut walk = Walk::new(alloc, statements.as_slice())?;
-    'statements: for statement in statements {
-        walk.step(outline, statement)?;
-    }
-    Ok(walk)
+    let count = statements.len();
+    walked_front(alloc, outline, statements, count)
 }

@@ -35,7 +35,7 @@ fn as_register(number: Result<u32, LineKind>) -> Result<u8, LineKind>
 }
 
 /// The register that RN gives, by the number that it is given.
-fn given(operand: &RnOperand, number: Result<u32, LineKind>) -> Result<u8, LineKind>
+pub fn given(operand: &RnOperand, number: Result<u32, LineKind>) -> Result<u8, LineKind>
     ensures { result ≡ given_by operand.now number }
 {
     match operand {
@@ -54,7 +54,7 @@ fn fault_of(register: Result<u8, LineKind>) -> Option<LineKind>
 }
 
 /// Notes the register of a name that stands for none yet.
-fn note(
+pub fn note(
     alloc: Global,
     known: &mut BTreeMap<Text, u8>,
     name: &Text,

@@ -2,7 +2,7 @@
 #![tactic(auto)]
 
 mod forms;
-mod giving;
+pub mod giving;
 mod lists;
 mod naming;
 mod numbers;

@@ -9,4 +9,5 @@ pub mod LineLemmas
 pub mod ListLemmas
 pub mod OperandLemmas
 pub mod ReadLemmas
+pub mod TextLemmas
 pub mod WordLemmas

@@ -10,7 +10,8 @@ use Rattle.asm_model.specs.Grammar.{ParsesTokens}
 use Rattle.asm_model.specs.Says.{SaysDirective}
 use Rattle.asm_model.specs.Tokens.{Tokens}
 use Rattle.asm_arm.specs.Says.{SaysArm}
-use Rattle.said_model.specs.Said.{IsRead, IsSaid}
+use Rattle.said_model.specs.Fit.{IsFit}
+use Rattle.said_model.specs.Said.{IsRead, IsSaid, HasTexts}
 
 -- an expression of tokens is read
 abbrev pub ExpressionsAreRead : Type 0
@@ -23,3 +24,11 @@ DirectivesAreSaid = (flat : Flat) (ts : List Token) (s : Statement) → Tokens f
 -- what a line of ARM state says is a statement as layout asks for it
 abbrev pub LinesAreSaid : Type 0
 LinesAreSaid = (flat : Flat) (s : Statement) → SaysArm flat (Ok (Some s)) → IsSaid s
+
+-- the names that it says outside of expressions hold no zero byte
+abbrev pub LinesHaveTexts : Type 0
+LinesHaveTexts = (flat : Flat) (s : Statement) → SaysArm flat (Ok (Some s)) → HasTexts s
+
+-- the marks of its AREA agree with what that holds, and the operands of its DCD have no place as a constant
+abbrev pub LinesAreFit : Type 0
+LinesAreFit = (flat : Flat) (s : Statement) → SaysArm flat (Ok (Some s)) → IsFit s

@@ -1,6 +1,6 @@
 //! Laws of the definitions, each proved as the contract of an empty function.
 
-ghost use Rattle.asm_said.specs.Laws.{DirectivesAreSaid, ExpressionsAreRead, LinesAreSaid};
+ghost use Rattle.asm_said.specs.Laws.{DirectivesAreSaid, ExpressionsAreRead, LinesAreFit, LinesAreSaid, LinesHaveTexts};
 
 /// An expression that tokens spell is read.
 pub fn expressions_are_read()
@@ -15,4 +15,14 @@ pub fn directives_are_said()
 /// What a line of ARM state says is a statement as layout asks for it.
 pub fn lines_are_said()
     ensures { LinesAreSaid }
+{}
+
+/// The names that a line says outside of expressions hold no zero byte.
+pub fn lines_have_texts()
+    ensures { LinesHaveTexts }
+{}
+
+/// The marks of a line's AREA agree with what that holds, and the operands of its DCD have no place as a constant.
+pub fn lines_are_fit()
+    ensures { LinesAreFit }
 {}

@@ -20,7 +20,7 @@ use Rattle.patch_model.proofs.VeneerLemmas.{shows_parts}
 
 -- ---- parts of bytes
 
-AreBytes : List ℕ → Type 0
+abbrev pub AreBytes : List ℕ → Type 0
 AreBytes xs = (i : ℕ) → get_or xs i 0 < 2 ^ 8
 
 length_part : (xs : List ℕ) (n p : ℕ) → p + n ≤ length xs → length (take n (drop p xs)) ≡ n
@@ -30,7 +30,6 @@ get_part : (xs : List ℕ) (n p i : ℕ) → i < n → get_or (take n (drop p xs
 get_part xs n p i h = get_or-take n (drop p xs) i 0 h ∙ get_or-drop p xs i 0
 
 part_bytes : (xs : List ℕ) (n p : ℕ) → p + n ≤ length xs → AreBytes xs → AreBytes (take n (drop p xs))
-unfolding AreBytes
 part_bytes xs n p within bytes i = by_place (cases_lt i n)
   where
     by_place : (i < n) ⊎ (n ≤ i) → get_or (take n (drop p xs)) i 0 < 2 ^ 8
@@ -38,14 +37,12 @@ part_bytes xs n p within bytes i = by_place (cases_lt i n)
     by_place (inr h) = let e = length_part xs n p within in let past = get_or_past (take n (drop p xs)) i 0 (omega arith) in omega arith
 
 -- the bytes of a part are those of its number
-part_is : (xs : List ℕ) (n p : ℕ) → p + n ≤ length xs → AreBytes xs → take n (drop p xs) ≡ bytes_of (number_of (take n (drop p xs))) n
-unfolding AreBytes
+pub part_is : (xs : List ℕ) (n p : ℕ) → p + n ≤ length xs → AreBytes xs → take n (drop p xs) ≡ bytes_of (number_of (take n (drop p xs))) n
 part_is xs n p within bytes =
     let e = length_part xs n p within in
     sym (bytes_of-number_of (take n (drop p xs)) (part_bytes xs n p within bytes)) ∙ ap (λ k. bytes_of (number_of (take n (drop p xs))) k) e
 
-part_lt : (xs : List ℕ) (n p : ℕ) → p + n ≤ length xs → AreBytes xs → number_of (take n (drop p xs)) < 256 ^ n
-unfolding AreBytes
+pub part_lt : (xs : List ℕ) (n p : ℕ) → p + n ≤ length xs → AreBytes xs → number_of (take n (drop p xs)) < 256 ^ n
 part_lt xs n p within bytes =
     let e = length_part xs n p within in
     let h = number_of-lt (take n (drop p xs)) (part_bytes xs n p within bytes) in
@@ -73,7 +70,7 @@ word_law relocs old base values veneers new k r patched there is_word =
 -- ---- branches
 
 -- what a view shows of a part
-shows_part : (view : View) (base : ℕ) (xs : List ℕ) (n p : ℕ) → p + n ≤ length xs → AreBytes xs → Shows view base xs → Shows view (base + p) (bytes_of (number_of (take n (drop p xs))) n)
+pub shows_part : (view : View) (base : ℕ) (xs : List ℕ) (n p : ℕ) → p + n ≤ length xs → AreBytes xs → Shows view base xs → Shows view (base + p) (bytes_of (number_of (take n (drop p xs))) n)
 shows_part view base xs n p within bytes shows =
     let Here : List ℕ → Type 0 = λ l. Shows view base l in
     let At : ℕ → Type 0 = λ a. Shows view a (drop p xs) in
@@ -96,7 +93,6 @@ leads_by view veneers t a old new more less (ByVeneer target state) shows small 
     by_veneer (Some v) e leads = (v, e, leads_to view t a new v shows small (branch_stays t old new turned.branch turned.rest) (ap (λ n. n % 2 ^ 32) leads))
 
 pub patched_branch_law : PatchedBranchLaw
-unfolding AreBytes
 patched_branch_law relocs old base values veneers new k r t view patched there is_branch shows =
     let p = (field_of r).place in
     let Within : Kind → Type 0 = λ kind. (field_of r).place + size_of kind ≤ length old in
@@ -182,7 +178,6 @@ in_field xs ys n p i from below e =
     subst At back (sym (get_part xs n p (i - p) inside) ∙ ap (λ l. get_or l (i - p) 0) e ∙ get_part ys n p (i - p) inside)
 
 pub one_patched : OnePatched
-unfolding AreBytes
 one_patched relocs old base values veneers new other n m =
     same_number_lists new other (n.size ∙ sym m.size) (λ i h. by_place i (covered relocs i))
   where

@@ -1,13 +1,16 @@
 pub mod AgreeLemmas
 pub mod BareLemmas
 pub mod FaultlessLemmas
+pub mod FitLemmas
 pub mod LineLemmas
 pub mod ListLemmas
 pub mod ListedLemmas
 pub mod LoadLemmas
 pub mod ObjectLemmas
+pub mod RowLemmas
 pub mod SizeLemmas
 pub mod ThingLemmas
 pub mod UnitLemmas
+pub mod WithinLemmas
 pub mod WordLemmas
 pub mod ZeroLemmas

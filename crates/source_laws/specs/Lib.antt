@@ -1,2 +1,3 @@
 -- What the laws of emission cite.
+pub mod Fits
 pub mod Laws

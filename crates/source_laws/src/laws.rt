@@ -1,5 +1,6 @@
 //! Laws of the definitions, each proved as the contract of an empty function.
 
+ghost use Rattle.source_laws.specs.Fits.{FittingInstructionsAreWritten, InstructionsFit, PseudoInstructionsFit};
 ghost use Rattle.source_laws.specs.Laws.{FaultlessLayoutsAreSound, LiteralsShareWords, LiteralsStandApart, LiteralWordsAgree, LoadedLiteralsAreBare, OneObject, OtherUnitsAreNone, PoolsPutNothing, SaidLoadsAreBare, SourcesLieInAreas, SourcesStandApart, SourcesStayInArmState, StatementsLieInAreas, StatementsStandApart, ThingsAreListed, ThingsLieInAreas, ThingsStandApart, UnitsFill, UnitsFit, UnitsLieInside, UnitsStandApart, WordsLieInAreas, WordsMeetNoStatement, ZeroAreasHoldNothing};
 
 /// What a statement puts into its area is no longer than what it takes up.
@@ -120,4 +121,19 @@ pub fn zero_areas_hold_nothing()
 /// Statements make one object at most.
 pub fn one_object()
     ensures { OneObject }
+{}
+
+/// The instruction that a line says fits its row of the instruction table and keeps the row's conditions.
+pub fn instructions_fit()
+    ensures { InstructionsFit }
+{}
+
+/// So does each instruction of a pseudo-instruction.
+pub fn pseudo_instructions_fit()
+    ensures { PseudoInstructionsFit }
+{}
+
+/// An instruction that fits its row is read from the word that its fields make there: it is the one that is encoded.
+pub fn fitting_instructions_are_written()
+    ensures { FittingInstructionsAreWritten }
 {}

@@ -1,40 +1,9 @@
-use Rattle.std.proofs.Common.{◌++◌, ◌∙◌, List, [], sym, ap, subst}
-use Rattle.std.proofs.lemmas.Result.{err_from_is_err_and}
-use Rattle.layout_model.specs.Laid.{reversed, declared}
-use Rattle.layout_model.specs.LayoutKinds.{settled, equals_in}
-use Rattle.source_model.specs.Registers.{register_names}
-use Rattle.asm_model.specs.declared.statements.Statement.{Statement}
-use Rattle.said_model.specs.Said.{AllSaid}
-use Rattle.asm_layout.specs.Walking.{IsWalking}
-use Rattle.asm_layout.proofs.WalkLemmas.{may_lay, said_at, goes_along, told_whole}
+use Rattle.std.proofs.Common.{arith}
+use Rattle.asm_layout.proofs.FrontLemmas.{all_walked}
 use Rattle.asm_layout.proofs.walking.walked.Goals as goal
 
-pub statements-init : goal.statements-init
-statements-init c = record {
-  whole = sym c.into_iter-statement-iterator.ensures.into_iter_gives.0;
-  walks = subst (λ (l : List Statement). IsWalking (declared (reversed c.args.statements.items [])) (register_names (reversed l [])) (settled (equals_in (reversed c.args.statements.items []))) [] c.in_ok-walk.walk)
-      c.as_slice.ensures.value
-      (c.in_ok-walk.ensures (declared (reversed c.args.statements.items [])) (settled (equals_in (reversed c.args.statements.items []))));
-}
-
-pub step-requires-clause-may : goal.step-requires-clause-may
-step-requires-clause-may c =
-    may_lay c.args.statements.items c.statements.yielded c.in-Some.statement c.next.new.self.rest.items c.statements.statement-iterator.rest.items c.args.outline.now
-    c.statements.walk c.requires.outline c.requires.few c.in-Some.ensures.steps.0 c.statements.invariant
-
-pub step-requires-clause-said : goal.step-requires-clause-said
-step-requires-clause-said c =
-    said_at c.statements.yielded c.in-Some.statement c.next.new.self.rest.items
-    (subst (λ (l : List Statement). AllSaid l) (c.statements.invariant.whole ∙ ap (λ (l : List Statement). c.statements.yielded ++ l) c.in-Some.ensures.steps.0) c.requires.said)
-
-pub statements-preserved : goal.statements-preserved
-statements-preserved c =
-    goes_along c.args.statements.items c.statements.yielded c.in-Some.statement c.next.new.self.rest.items c.statements.statement-iterator.rest.items c.args.outline.now
-    c.statements.walk c.step.new.self c.step.result c.in_ok-step.field-0 c.requires.outline c.in-Some.ensures.steps.0 c.statements.invariant c.in_ok-step.ensures
-
-pub returns-in_err-step : goal.returns-in_err-step
-returns-in_err-step c =
-    let p = err_from_is_err_and c.from_residual-in_err-step.result c.from_residual-in_err-step.ensures.1 in
-    rw (p.1, p.2)
-    (told_whole c.args.statements.items c.statements.yielded c.in-Some.statement c.next.new.self.rest.items c.statements.statement-iterator.rest.items c.args.outline.now
-    c.statements.walk c.step.new.self c.in_err-step.field-0.0 c.requires.outline c.in-Some.ensures.steps.0 c.statements.invariant c.in_err-step.ensures)
+pub returns : goal.returns
+returns c =
+    let ok = c.args.statements.ok in
+    let count = c.len-count.ensures in
+    all_walked c.args.statements.items c.len-count.result c.walked_front.result (omega (arith, count, ok)) c.walked_front.ensures

@@ -1,5 +1,0 @@
-use Rattle.asm_instructions.proofs.FitLemmas.{instruction_fits}
-use Rattle.asm_instructions.proofs.laws.instructions_fit.Goals as goal
-
-pub returns : goal.returns
-returns c = λ x l i named said e. instruction_fits x named l i said e

@@ -1,0 +1,26 @@
+//! The first lines of a source.
+
+ghost use Rattle.std.specs.Prelude.{◌+◌, ◌<◌, [], length};
+ghost use Rattle.layout_model.specs.Laid.{reversed};
+ghost use Rattle.said_model.specs.Said.{AllSaid};
+ghost use Rattle.asm_laying.specs.Behind.{most_statements};
+ghost use Rattle.asm_layout.specs.Front.{front_laid};
+ghost use Rattle.asm_layout.specs.Late.{IsCleared};
+
+use crate::outline::outline_of;
+use crate::walking::walked_front;
+use asm_model::Statement;
+use sdt_fault::answer::Fault;
+use std::alloc::Global;
+
+/// Judges the first lines of a source, `count` of them or all where there are fewer, by the faults that are told at them.
+/// A refusal is BadLine at the first of them with such a fault. The names that any statement of the source gives count.
+pub fn front_fault(alloc: Global, statements: Vec<Statement>, count: usize) -> Result<(), Fault>
+    requires few { length statements.items < most_statements + 1 }
+    requires said { AllSaid statements.items }
+    ensures { IsCleared (front_laid (reversed statements.items []) count) result }
+{
+    let outline = outline_of(alloc, statements.as_slice())?;
+    walked_front(alloc, &outline, statements, count)?;
+    Ok(())
+}

@@ -1,0 +1,345 @@
+-- Names that a line says hold no zero byte, only an area of code has the marks of code, and operands of DCD have no place
+-- as a constant.
+use Rattle.std.proofs.Common.{◌≡◌, ◌≢◌, ℕ, ◌-◌, ◌==◌, nat_le, nat_lt, List, [], ◌∷◌, ◌++◌, length, take, ◌||◌, ◌&&◌, not, Bool, true, false, cond, refl, subst, sym, arith, Option, Some, None, inl, inr}
+use Rattle.std.specs.Prelude.{Result, Ok, Err}
+use Rattle.std.specs.List.{AllByRecursion, list_all}
+use Rattle.std.proofs.lemmas.Bool.{and_parts, or_parts}
+use Rattle.sdt_fault.specs.declared.kinds.LineKind.{LineKind}
+use Rattle.sdt_fault.specs.declared.kinds.LineKind.TheVariants.{Syntax, BadOperand}
+use Rattle.asm_model.specs.declared.lines.Flat.{Flat}
+use Rattle.asm_model.specs.declared.exprs.Expr.{Expr}
+use Rattle.asm_model.specs.declared.tokens.Token.{Token}
+use Rattle.asm_model.specs.declared.tokens.TokenKind.{TokenKind}
+use Rattle.asm_model.specs.declared.tokens.TokenKind.TheVariants as kind
+use Rattle.asm_model.specs.declared.directives.AreaAttributes.{AreaAttributes}
+use Rattle.asm_model.specs.declared.directives.Attribute.{Attribute}
+use Rattle.asm_model.specs.declared.directives.Attribute.TheVariants.{Code, Data, ReadOnly, ReadWrite, NoInit, Interwork, Halfword}
+use Rattle.asm_model.specs.declared.directives.Boundary.TheVariants as limit
+use Rattle.asm_model.specs.declared.directives.Contents.TheVariants as contents
+use Rattle.asm_model.specs.declared.directives.Directive.{Directive}
+use Rattle.asm_model.specs.declared.directives.Directive.TheVariants as directive
+use Rattle.asm_model.specs.declared.directives.DirectiveLine.{DirectiveLine}
+use Rattle.asm_model.specs.declared.directives.DirectiveLine.TheVariants as line
+use Rattle.asm_model.specs.declared.directives.LabelNeed.{LabelNeed}
+use Rattle.asm_model.specs.declared.directives.LabelNeed.TheVariants as need
+use Rattle.asm_model.specs.declared.directives.RnOperand.TheVariants as rn
+use Rattle.asm_model.specs.declared.statements.Statement.{Statement}
+use Rattle.asm_model.specs.declared.statements.What.{What}
+use Rattle.asm_model.specs.declared.statements.What.TheVariants as what
+use Rattle.asm_model.specs.Areas.{has, is_repeated, is_contradicting, contents_of, attributes_of, attributes_in, agreed}
+use Rattle.asm_model.specs.Directives.{label_need}
+use Rattle.asm_model.specs.Forms.{is_digit, is_letter, is_word, is_between_bars, one_or_more, ends_with_bar, is_name, is_barred, is_short}
+use Rattle.asm_model.specs.Grammar.{ParsesTokens}
+use Rattle.asm_model.specs.Kinds.{earlier}
+use Rattle.asm_model.specs.Operands.{operands}
+use Rattle.asm_model.specs.Parts.{piece}
+use Rattle.asm_model.specs.Says.{Form, bare, name, imported, expression, expressions, area, register, boundary, refused, form_of_directive, on_both, mapped, between_bars, name_of, name_alone, weak_mark, import_of, register_alone, Expression, Expressions, SomeExpressions, Area, Register, Aligned, bare_of, Reads, label_of, label_field, Sentence, sentence, directive_of, statement_of, SaysAs, SaysDirective}
+use Rattle.asm_model.specs.Tokens.{first_due, Tokens, Scans}
+use Rattle.layout_laws.proofs.LineLemmas.{HasForm, EachHasForm, OptionHasForm, tokens_form, sentence_form}
+use Rattle.layout_laws.specs.Sound.{HaveNoPlaces}
+use Rattle.layout_laws.proofs.SaidLemmas.{form_name, form_barred, read_expressions_are_plain}
+use Rattle.asm_arm.specs.Says.{statement, alone, SaysWords, SaysOr, SaysScanned, SaysArm}
+use Rattle.asm_arm.specs.Words.{operation_named}
+use Rattle.said_model.specs.Fit.{MarksAgree, AllPlaceless, DirectiveFits, IsFit}
+use Rattle.said_model.specs.Said.{directive_names, label_names, HoldsNoZero, HasTexts}
+use Rattle.asm_said.proofs.ArmLemmas.{InstructionSaid, instruction_said}
+use Rattle.asm_said.proofs.DirectiveLemmas.{any_gives}
+use Rattle.asm_said.proofs.FormLemmas.{AllHaveForm, operands_form}
+use Rattle.asm_said.proofs.GivesLemmas.{Gives, OptionGives, equal_gives, mapped_gives, both_give}
+use Rattle.asm_said.proofs.WordLemmas.{operation_said}
+
+-- ---- bytes
+
+pub letter_text : (c : ℕ) → is_word c ≡ true → c ≢ 0
+letter_text c h = λ e. let x : is_word 0 ≡ true = subst (λ z. is_word z ≡ true) e h in absurd (cc)
+
+pub between_text : (c : ℕ) → is_between_bars c ≡ true → c ≢ 0
+between_text c h = λ e. let x : is_between_bars 0 ≡ true = subst (λ z. is_between_bars z ≡ true) e h in absurd (cc)
+
+pub digit_text : (c : ℕ) → is_digit c ≡ true → c ≢ 0
+digit_text c h = λ e. let x : is_digit 0 ≡ true = subst (λ z. is_digit z ≡ true) e h in absurd (cc)
+
+pub words_text : (s : List ℕ) → list_all is_word s ≡ true → HoldsNoZero s
+words_text [] h = tt
+words_text (c ∷ cs) h = let p = and_parts (is_word c) (list_all is_word cs) h in (letter_text c p.0, words_text cs p.1)
+
+pub name_text : (s : List ℕ) → is_name s ≡ true → HoldsNoZero s
+name_text [] h = tt
+name_text (c ∷ cs) h = words_text (c ∷ cs) (and_parts (is_letter c) (one_or_more is_word (c ∷ cs)) h).1
+
+pub inner_text : (c : ℕ) (cs : List ℕ) → ends_with_bar (c ∷ cs) ≡ true → HoldsNoZero (take (length cs) (c ∷ cs))
+inner_text c [] h = tt
+inner_text c (d ∷ ds) h =
+    let p = and_parts (is_between_bars c) (ends_with_bar (d ∷ ds)) h in (between_text c p.0, inner_text d ds p.1)
+
+pub barred_text : (s : List ℕ) → is_barred s ≡ true → HoldsNoZero (between_bars s)
+barred_text [] h = absurd (cc)
+barred_text (b ∷ []) h = let p = and_parts (b == 124) false h in absurd (let x = p.1 in cc)
+barred_text (b ∷ c ∷ cs) h =
+    let p = and_parts (b == 124) (is_between_bars c && ends_with_bar (c ∷ cs)) h in
+    let r = and_parts (is_between_bars c) (ends_with_bar (c ∷ cs)) p.1 in
+    let x : length cs ≡ length (b ∷ c ∷ cs) - 2 = omega arith in
+    subst (λ n. HoldsNoZero (take n (c ∷ cs))) x (inner_text c cs r.1)
+
+pub short_text : (s : List ℕ) → is_short s ≡ true → HoldsNoZero s
+short_text [] h = tt
+short_text (c ∷ []) h = (digit_text c h, tt)
+short_text (c ∷ d ∷ []) h = let p = and_parts (is_digit c) (is_digit d) h in (digit_text c p.0, digit_text d p.1, tt)
+short_text (c ∷ d ∷ e ∷ cs) h = absurd (cc)
+
+-- ---- names
+
+pub word_text : (k : TokenKind) (s : List ℕ) → HasForm k s → Gives HoldsNoZero (name_of k s)
+word_text kind.Name s h = elim h [ inl f ↦ name_text s (form_name s f) | inr f ↦ absurd (cc) ]
+word_text kind.Barred s h = elim h [ inl f ↦ barred_text s (form_barred s f) | inr f ↦ absurd (cc) ]
+word_text kind.Number s h = tt
+word_text kind.Quoted s h = tt
+word_text kind.Character s h = tt
+word_text kind.Braced s h = tt
+word_text kind.Local s h = tt
+word_text kind.Sign s h = tt
+
+pub number_text : (s : List ℕ) → Gives (OptionGives HoldsNoZero) (cond (is_short s) (Ok (Some (124 ∷ s))) (Err Syntax))
+number_text s = by_test (is_short s) refl
+  where
+    by_test : (b : Bool) → is_short s ≡ b → Gives (OptionGives HoldsNoZero) (cond b (Ok (Some (124 ∷ s))) (Err Syntax))
+    by_test true e = (λ x. cc, short_text s e)
+    by_test false e = tt
+
+pub label_text : (n : LabelNeed) (k : TokenKind) (s : List ℕ) → HasForm k s → Gives (OptionGives HoldsNoZero) (label_of n k s)
+label_text n kind.Name s h = word_text kind.Name s h
+label_text n kind.Barred s h = word_text kind.Barred s h
+label_text need.Name kind.Number s h = tt
+label_text need.Label kind.Number s h = number_text s
+label_text need.Optional kind.Number s h = number_text s
+label_text n kind.Quoted s h = tt
+label_text n kind.Character s h = tt
+label_text n kind.Braced s h = tt
+label_text n kind.Local s h = tt
+label_text n kind.Sign s h = tt
+
+pub field_text : (n : LabelNeed) (text : List ℕ) (t : Option Token) → OptionHasForm text t → Gives (OptionGives HoldsNoZero) (label_field n text t)
+field_text n text (Some t) h = label_text n t.kind (piece text t) h
+field_text need.Optional text None h = tt
+field_text need.Label text None h = tt
+field_text need.Name text None h = tt
+
+pub alone_text : (text : List ℕ) (ts : List Token) → EachHasForm text ts → Gives HoldsNoZero (name_alone text ts)
+alone_text text [] h = tt
+alone_text text (t ∷ []) h = word_text t.kind (piece text t) h.0
+alone_text text (t ∷ u ∷ ts) h = tt
+
+abbrev pub ImportText : List ℕ × Bool → Type 0
+ImportText i = HoldsNoZero i.0
+
+pub import_text : (text : List ℕ) (ts : List Token) → EachHasForm text ts → Gives ImportText (import_of text ts)
+import_text text [] h = tt
+import_text text (t ∷ ts) h =
+    both_give HoldsNoZero (λ w. Unit {0}) ImportText (λ n weak. (n, weak)) (name_of t.kind (piece text t)) (weak_mark text ts) (λ n w p q. p)
+    (word_text t.kind (piece text t) h.0) (any_gives (weak_mark text ts))
+
+-- ---- marks
+
+pub code_alone : (c d n i h : Bool) (other : Bool) → (other || (not c && (i || h))) ≡ false → MarksAgree (cond c contents.Code (cond n contents.Zeroes contents.Data)) i h
+code_alone true d n i h other e = tt
+code_alone false d true i h other e = or_parts i h (or_parts other (i || h) e).1
+code_alone false d false i h other e = or_parts i h (or_parts other (i || h) e).1
+
+pub marks_agree : (words : List Attribute) → is_contradicting words ≡ false → MarksAgree (contents_of words) (has Interwork words) (has Halfword words)
+unfolding is_contradicting
+marks_agree words e =
+    code_alone (has Code words) (has Data words) (has NoInit words) (has Interwork words) (has Halfword words)
+    ((has Code words && (has Data words || has NoInit words)) || (not (has Code words) && not (has Data words) && not (has NoInit words))
+    || (has ReadOnly words && has ReadWrite words))
+    e
+
+abbrev pub AttributesAgree : AreaAttributes → Type 0
+AttributesAgree a = MarksAgree a.contents a.interwork a.halfword
+
+pub agreed_marks : (words : List Attribute) (align : Result (Option Expr) LineKind) → Gives AttributesAgree (agreed words align)
+agreed_marks words (Ok e) = by_test (is_repeated words || is_contradicting words) refl
+  where
+    by_test : (b : Bool) → (is_repeated words || is_contradicting words) ≡ b → Gives AttributesAgree (cond b (Err BadOperand) (Ok (attributes_of words e)))
+    by_test true x = tt
+    by_test false x = marks_agree words (or_parts (is_repeated words) (is_contradicting words) x).1
+agreed_marks words (Err k) = by_test (is_repeated words || is_contradicting words)
+  where
+    by_test : (b : Bool) → Gives AttributesAgree (cond b (Err (earlier BadOperand k)) (Err k))
+    by_test true = tt
+    by_test false = tt
+
+-- ---- operands
+
+abbrev pub IsPlaceless : Expr → Type 0
+IsPlaceless e = HaveNoPlaces e.items
+
+pub parsed_placeless : (text : List ℕ) (ts : List Token) (e : Result Expr LineKind) → ParsesTokens text ts e → Gives IsPlaceless e
+parsed_placeless text ts (Ok e) h = read_expressions_are_plain text ts e h
+parsed_placeless text ts (Err k) h = tt
+
+pub all_placeless : (text : List ℕ) (os : List (List Token)) (r : Result (List Expr) LineKind) → Expressions text os r → Gives AllPlaceless r
+all_placeless text [] r h = equal_gives AllPlaceless r (Ok []) h tt
+all_placeless text (o ∷ os) r h =
+    equal_gives AllPlaceless r (on_both (λ x xs. x ∷ xs) h.0 h.1) h.4
+    (both_give IsPlaceless AllPlaceless AllPlaceless (λ x xs. x ∷ xs) h.0 h.1 (λ x xs p q. (p, q)) (parsed_placeless text o h.0 h.2)
+    (all_placeless text os h.1 h.3))
+
+pub some_placeless : (text : List ℕ) (os : List (List Token)) (r : Result (List Expr) LineKind) → SomeExpressions text os r → Gives AllPlaceless r
+some_placeless text [] r h = equal_gives AllPlaceless r (Err Syntax) h tt
+some_placeless text (o ∷ os) r h = all_placeless text (o ∷ os) r h
+
+-- ---- directives
+
+abbrev pub DirectiveFine : DirectiveLine → Type 0
+DirectiveFine l = AllByRecursion HoldsNoZero (directive_names l) × DirectiveFits l
+
+abbrev pub FormFine : Form → Type 0
+FormFine (bare l) = DirectiveFine l
+FormFine (name make) = (n : List ℕ) → HoldsNoZero n → DirectiveFine (make n)
+FormFine (imported make) = (n : List ℕ) (weak : Bool) → HoldsNoZero n → DirectiveFine (make n weak)
+FormFine (expression make) = (e : Expr) → DirectiveFine (make e)
+FormFine (expressions make) = (es : List Expr) → AllPlaceless es → DirectiveFine (make es)
+FormFine area = Unit {0}
+FormFine register = Unit {0}
+FormFine boundary = Unit {0}
+FormFine (refused k) = Unit {0}
+
+pub bare_fine : (l : DirectiveLine) (ts : List Token) → DirectiveFine l → Gives DirectiveFine (bare_of l ts)
+bare_fine l [] h = h
+bare_fine l (t ∷ ts) h = tt
+
+pub expression_fine : (text : List ℕ) (make : Expr → DirectiveLine) (ts : List Token) (r : Result DirectiveLine LineKind) → Expression text make ts r
+    → ((e : Expr) → DirectiveFine (make e)) → Gives DirectiveFine r
+expression_fine text make ts r h f =
+    equal_gives DirectiveFine r (mapped make h.0) h.2 (mapped_gives (λ e. Unit {0}) DirectiveFine make h.0 (λ e p. f e) (any_gives h.0))
+
+pub area_fine : (text : List ℕ) (os : List (List Token)) (r : Result DirectiveLine LineKind) → AllHaveForm text os → Area text os r → Gives DirectiveFine r
+area_fine text [] r f h = equal_gives DirectiveFine r (Err Syntax) h tt
+area_fine text (o ∷ os) r f h =
+    let attributes = agreed (attributes_in text os) h.0 in
+    equal_gives DirectiveFine r (on_both (λ n a. line.Area n a) (name_alone text o) attributes) h.2
+    (both_give HoldsNoZero AttributesAgree DirectiveFine (λ n a. line.Area n a) (name_alone text o) attributes (λ n a p q. ((p, tt), q))
+    (alone_text text o f.0) (agreed_marks (attributes_in text os) h.0))
+
+pub given_fine : (text : List ℕ) (o : Option ℕ) (ts : List Token) (r : Result DirectiveLine LineKind) → Register text o ts r → Gives DirectiveFine r
+given_fine text (Some n) ts r h = equal_gives DirectiveFine r (Ok (line.Rn (rn.Register n))) h (tt, tt)
+given_fine text None ts r h = expression_fine text (λ e. line.Rn (rn.Number e)) ts r h (λ e. (tt, tt))
+
+pub aligned_fine : (text : List ℕ) (os : List (List Token)) (r : Result DirectiveLine LineKind) → Aligned text os r → Gives DirectiveFine r
+aligned_fine text [] r h = equal_gives DirectiveFine r (Ok (line.Align limit.Word)) h (tt, tt)
+aligned_fine text (o ∷ []) r h = expression_fine text (λ e. line.Align (limit.Multiple e)) o r h (λ e. (tt, tt))
+aligned_fine text (o ∷ p ∷ []) r h =
+    equal_gives DirectiveFine r (on_both (λ multiple offset. line.Align (limit.Behind multiple offset)) h.0 h.1) h.4
+    (both_give (λ e. Unit {0}) (λ e. Unit {0}) DirectiveFine (λ multiple offset. line.Align (limit.Behind multiple offset)) h.0 h.1
+    (λ e f x y. (tt, tt)) (any_gives h.0) (any_gives h.1))
+aligned_fine text (o ∷ p ∷ q ∷ os) r h = equal_gives DirectiveFine r (Err Syntax) h tt
+
+pub form_fine : (text : List ℕ) (form : Form) (ts : List Token) (r : Result DirectiveLine LineKind) → EachHasForm text ts → FormFine form
+    → Reads text form ts r → Gives DirectiveFine r
+form_fine text (bare l) ts r f k h = equal_gives DirectiveFine r (bare_of l ts) h (bare_fine l ts k)
+form_fine text (name make) ts r f k h =
+    equal_gives DirectiveFine r (mapped make (name_alone text ts)) h
+    (mapped_gives HoldsNoZero DirectiveFine make (name_alone text ts) (λ n p. k n p) (alone_text text ts f))
+form_fine text (imported make) ts r f k h =
+    equal_gives DirectiveFine r (mapped (λ i. make i.0 i.1) (import_of text ts)) h
+    (mapped_gives ImportText DirectiveFine (λ i. make i.0 i.1) (import_of text ts) (λ i p. k i.0 i.1 p) (import_text text ts f))
+form_fine text (expression make) ts r f k h = expression_fine text make ts r h k
+form_fine text (expressions make) ts r f k h =
+    equal_gives DirectiveFine r (mapped make h.0) h.2 (mapped_gives AllPlaceless DirectiveFine make h.0 k (some_placeless text (operands text ts) h.0 h.1))
+form_fine text area ts r f k h = area_fine text (operands text ts) r (operands_form text ts f) h
+form_fine text register ts r f k h = given_fine text (register_alone text ts) ts r h
+form_fine text boundary ts r f k h = aligned_fine text (operands text ts) r h
+form_fine text (refused j) ts r f k h = equal_gives DirectiveFine r (Err j) h tt
+
+pub directive_fine : (d : Directive) → FormFine (form_of_directive d)
+directive_fine directive.Area = tt
+directive_fine directive.Entry = (tt, tt)
+directive_fine directive.End = (tt, tt)
+directive_fine directive.Export = λ n h. ((h, tt), tt)
+directive_fine directive.Import = λ n w h. ((h, tt), tt)
+directive_fine directive.Extern = λ n w h. ((h, tt), tt)
+directive_fine directive.Keep = λ n h. ((h, tt), tt)
+directive_fine directive.Equ = λ e. (tt, tt)
+directive_fine directive.Rn = tt
+directive_fine directive.Rout = (tt, tt)
+directive_fine directive.Assert = λ e. (tt, tt)
+directive_fine directive.Nofp = (tt, tt)
+directive_fine directive.Opt = λ e. (tt, tt)
+directive_fine directive.Ttl = (tt, tt)
+directive_fine directive.Subt = (tt, tt)
+directive_fine directive.Dcd = λ es h. (tt, h)
+directive_fine directive.Dcdu = λ es h. (tt, h)
+directive_fine directive.Dcw = λ es h. (tt, tt)
+directive_fine directive.Dcb = λ es h. (tt, tt)
+directive_fine directive.Space = λ e. (tt, tt)
+directive_fine directive.Align = tt
+directive_fine directive.Ltorg = (tt, tt)
+directive_fine directive.Data = (tt, tt)
+directive_fine directive.Map = λ e. (tt, tt)
+directive_fine directive.Field = λ e. (tt, tt)
+directive_fine directive.Code16 = (tt, tt)
+directive_fine directive.Code32 = (tt, tt)
+directive_fine directive.FloatingPoint = tt
+directive_fine directive.Expansion = tt
+
+-- ---- statements
+
+abbrev pub StatementFine : Statement → Type 0
+StatementFine s = HasTexts s × IsFit s
+
+pub with_label : (o : Option (List ℕ)) (ns : List (List ℕ)) → OptionGives HoldsNoZero o → AllByRecursion HoldsNoZero ns → AllByRecursion HoldsNoZero (label_names o ++ ns)
+with_label None ns h k = k
+with_label (Some n) ns h k = (h, k)
+
+pub says_directive_fine : (flat : Flat) (s : Sentence) (d : Option Directive) (r : Result (Option Statement) LineKind) → OptionHasForm flat.text s.label
+    → EachHasForm flat.text s.behind → SaysAs flat s d r → Gives (OptionGives StatementFine) r
+says_directive_fine flat s None r f g h = equal_gives (OptionGives StatementFine) r (Ok None) h tt
+says_directive_fine flat s (Some d) r f g h =
+    let label = label_field (label_need d) flat.text s.label in
+    equal_gives (OptionGives StatementFine) r (on_both (statement_of flat) label h.0) h.2
+    (both_give (OptionGives HoldsNoZero) DirectiveFine (OptionGives StatementFine) (statement_of flat) label h.0
+    (λ o l p q. (with_label o (directive_names l) p q.0, q.1))
+    (field_text (label_need d) flat.text s.label f) (form_fine flat.text (form_of_directive d) s.behind h.0 g (directive_fine d) h.1))
+
+pub instruction_fine : (flat : Flat) (o : Option (List ℕ)) (w : What) → OptionGives HoldsNoZero o → InstructionSaid w → OptionGives StatementFine (statement flat o w)
+instruction_fine flat o what.Nothing h k = absurd k
+instruction_fine flat o (what.Arm l) h k = (with_label o [] h tt, tt)
+instruction_fine flat o (what.Thumb l) h k = absurd k
+instruction_fine flat o (what.Pseudo l) h k = (with_label o [] h tt, tt)
+instruction_fine flat o (what.Directive l) h k = absurd k
+
+pub alone_fine : (flat : Flat) (label : Option Token) → OptionHasForm flat.text label → Gives (OptionGives StatementFine) (alone flat label)
+alone_fine flat None f = tt
+alone_fine flat (Some t) f =
+    mapped_gives (OptionGives HoldsNoZero) (OptionGives StatementFine) (λ o. statement flat o what.Nothing) (label_field need.Optional flat.text (Some t))
+    (λ o p. (with_label o [] p tt, tt)) (field_text need.Optional flat.text (Some t) f)
+
+pub words_fine : (flat : Flat) (label o : Option Token) (ts : List Token) (r : Result (Option Statement) LineKind) → OptionHasForm flat.text label
+    → EachHasForm flat.text ts → SaysWords flat label o ts r → Gives (OptionGives StatementFine) r
+words_fine flat label None ts r f g h = equal_gives (OptionGives StatementFine) r (alone flat label) h (alone_fine flat label f)
+words_fine flat label (Some t) ts r f g h =
+    let field = label_field need.Optional flat.text label in
+    let word = operation_named (piece flat.text t) in
+    equal_gives (OptionGives StatementFine) r (on_both (statement flat) field h.0) h.2
+    (both_give (OptionGives HoldsNoZero) InstructionSaid (OptionGives StatementFine) (statement flat) field h.0 (instruction_fine flat)
+    (field_text need.Optional flat.text label f) (instruction_said flat.text word ts h.0 (operation_said (piece flat.text t)) g h.1))
+
+-- ---- lines
+
+pub or_fine : (flat : Flat) (ts : List Token) (d : Result (Option Statement) LineKind) (s : Statement) → Tokens flat.text ts → SaysDirective flat ts d
+    → SaysOr flat ts d (Ok (Some s)) → StatementFine s
+or_fine flat ts (Ok None) s tokens says h =
+    let forms = sentence_form flat.text ts (tokens_form flat.text ts (first_due flat.text) 0 flat.text refl tokens) in
+    words_fine flat (sentence ts).label (sentence ts).operation (sentence ts).behind (Ok (Some s)) forms.0 forms.1 h
+or_fine flat ts (Ok (Some m)) s tokens says h =
+    let forms = sentence_form flat.text ts (tokens_form flat.text ts (first_due flat.text) 0 flat.text refl tokens) in
+    says_directive_fine flat (sentence ts) (directive_of flat.text (sentence ts).operation) (Ok (Some s)) forms.0 forms.1
+    (subst (SaysDirective flat ts) (sym h) says)
+or_fine flat ts (Err k) s tokens says h = absurd (cc)
+
+pub scanned_fine : (flat : Flat) (scan : Result (List Token) LineKind) (s : Statement) → Scans flat.text scan → SaysScanned flat scan (Ok (Some s)) → StatementFine s
+scanned_fine flat (Ok ts) s scans h = or_fine flat ts h.0 s scans.0 h.1 h.2
+scanned_fine flat (Err k) s scans h = absurd (cc)
+
+pub lines_are_fine : (flat : Flat) (s : Statement) → SaysArm flat (Ok (Some s)) → StatementFine s
+lines_are_fine flat s h = scanned_fine flat h.0 s h.1 h.2

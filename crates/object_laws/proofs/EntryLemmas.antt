@@ -1,0 +1,131 @@
+-- The entry of an object is at an instruction's place in its area.
+use Rattle.std.proofs.Common.{◌≡◌, ℕ, ◌%◌, ◌<◌, ◌==◌, List, [], ◌∷◌, ◌++◌, Bool, true, false, not, cond, ◌||◌, ◌&&◌, nat_lt, refl, sym, ◌∙◌, ap, subst, Option, Some, None}
+use Rattle.std.specs.Prelude.{Ok, IsSomeAnd}
+use Rattle.std.proofs.lemmas.Bool.{or_parts, ltb-true}
+use Rattle.sdt_fault.specs.declared.kinds.LineKind.TheVariants.{BadOperand}
+use Rattle.aof_object.specs.declared.records.Entry.{Entry}
+use Rattle.aof_object.specs.declared.records.Object.{Object}
+use Rattle.aof_object.specs.Checks.{left_over}
+use Rattle.aof_object.specs.Validity.{heads, IsEntered}
+use Rattle.asm_model.specs.declared.directives.DirectiveLine.TheVariants as line
+use Rattle.asm_model.specs.declared.statements.Statement.{Statement}
+use Rattle.asm_model.specs.declared.statements.What.{What}
+use Rattle.asm_model.specs.declared.statements.What.TheVariants as what
+use Rattle.asm_model.specs.Directives.{or_else}
+use Rattle.asm_model.proofs.LineLemmas.{both_empty}
+use Rattle.layout_model.specs.Extents.{Block, extent_of}
+use Rattle.layout_model.specs.Laid.{LaidLine, taken, pieces_of, laid}
+use Rattle.layout_model.specs.LayoutKinds.{is_entry, same_mark, is_thumb_area, entry_kinds, literal_kinds}
+use Rattle.layout_model.specs.Offsets.{end_behind, start_in, area_size}
+use Rattle.layout_model.proofs.OffsetLemmas.{raised_four}
+use Rattle.layout_laws.proofs.SoundLemmas.{kind_none, not_false}
+use Rattle.source_model.specs.Objects.{in_order, entry_by, entry_of, IsObject}
+use Rattle.source_laws.proofs.FaultlessLemmas.{layout_sound}
+use Rattle.source_laws.proofs.LineLemmas.{stands_in}
+use Rattle.source_laws.proofs.ThingLemmas.{seen_extent}
+use Rattle.object_laws.specs.Laws.{AreFaultless}
+use Rattle.object_laws.proofs.AreaLemmas.{area_facts}
+use Rattle.object_laws.proofs.EachLemmas.{line_below}
+use Rattle.object_laws.proofs.FaultLemmas.{late_here}
+use Rattle.object_laws.proofs.SymbolLemmas.{within, head_there}
+
+-- ---- the line of the entry
+
+pub record EntryLine (e : Entry) (lines : List LaidLine) : Type 0 where
+  pub later : List LaidLine
+  pub earlier : List LaidLine
+  pub owner : LaidLine
+  pub parts : lines ≡ later ++ owner ∷ earlier
+  pub says : is_entry owner.statement.what ≡ true
+  pub own : owner.area ≡ Some e.area
+  pub place : owner.offset ≡ e.offset
+
+pub entry_here : (e : Entry) (l : LaidLine) (ls : List LaidLine) (b : Bool) (o : Option ℕ) → is_entry l.statement.what ≡ b → l.area ≡ o
+    → entry_by b o l.offset ≡ Some e → EntryLine e (l ∷ ls)
+entry_here e l ls true (Some k) x y z =
+    let w : record { area = k; offset = l.offset } ≡ e = cc in
+    record {
+      later = [];
+      earlier = ls;
+      owner = l;
+      parts = refl;
+      says = x;
+      own = y ∙ ap (λ (t : Entry). Some t.area) w;
+      place = ap (λ (t : Entry). t.offset) w;
+    }
+entry_here e l ls true None x y z = absurd (cc)
+entry_here e l ls false o x y z = absurd (cc)
+
+pub entry_line : (e : Entry) (lines : List LaidLine) → entry_of lines ≡ Some e → EntryLine e lines
+entry_line e [] h = absurd (cc)
+entry_line e (l ∷ ls) h = by_first (entry_of ls) (entry_line e ls) h
+  where
+    later : EntryLine e ls → EntryLine e (l ∷ ls)
+    later n =
+        record {
+          later = l ∷ n.later;
+          earlier = n.earlier;
+          owner = n.owner;
+          parts = ap (λ z. l ∷ z) n.parts;
+          says = n.says;
+          own = n.own;
+          place = n.place;
+        }
+
+    by_first : (o : Option Entry) → (o ≡ Some e → EntryLine e ls) → or_else o (entry_by (is_entry l.statement.what) l.area l.offset) ≡ Some e
+        → EntryLine e (l ∷ ls)
+    by_first (Some d) f k = later (f k)
+    by_first None f k = entry_here e l ls (is_entry l.statement.what) l.area refl refl k
+
+-- ---- its place
+
+pub entry_only : (w : What) → is_entry w ≡ true → w ≡ what.Directive line.Entry
+entry_only (what.Directive line.Entry) h = refl
+entry_only w h = absurd (cc)
+
+pub second_false : (a b : Bool) → a ≡ true → (a && b) ≡ false → b ≡ false
+second_false true b e h = h
+second_false false b e h = absurd (cc)
+
+pub entry_inside : (o : Option ℕ) (area : ℕ) (l : LaidLine) (all : List LaidLine) → o ≡ Some area → is_entry l.statement.what ≡ true → entry_kinds o l all ≡ []
+    → l.offset < area_size area (pieces_of all)
+entry_inside o area l all own says h =
+    let size = area_size area (pieces_of all) in
+    let other = not (same_mark l.thumb (is_thumb_area area all)) in
+    let k = subst (λ z. entry_kinds z l all ≡ []) own h in
+    let p = second_false (is_entry l.statement.what) (not (nat_lt l.offset size) || other) says
+    (kind_none (is_entry l.statement.what && (not (nat_lt l.offset size) || other)) BadOperand k) in
+    ltb-true l.offset size (not_false (nat_lt l.offset size) (or_parts (not (nat_lt l.offset size)) other p).0)
+
+pub entry_aligned : (ss : List Statement) → AreFaultless ss → (after before : List LaidLine) (l : LaidLine) (area : ℕ) → laid ss ≡ after ++ l ∷ before
+    → l.area ≡ Some area → is_entry l.statement.what ≡ true → l.offset % 4 ≡ 0
+entry_aligned ss h after before l area e own says =
+    let seen = seen_extent ss after before l e in
+    let state : l.seen.known.thumb ≡ false = seen.1 ∙ h.arm after before l e in
+    let extent : l.extent ≡ Ok (Block 4 0) =
+    seen.0 ∙ ap (extent_of l.seen) (entry_only l.statement.what says) ∙ ap (λ b. Ok (cond b (Block 2 0) (Block 4 0))) state in
+    subst (λ z. z % 4 ≡ 0)
+    (sym ((stands_in ss (layout_sound ss h.layout) area after before l e own).0 ∙ ap (λ z. start_in area (pieces_of before) (taken z)) extent))
+    (raised_four (end_behind area (pieces_of before)))
+
+pub entered : (ss : List Statement) (o : Object) → AreFaultless ss → IsObject ss o → (e : Entry) → EntryLine e (laid ss) → IsEntered (heads o.areas) (Some e)
+entered ss o h x e n =
+    let l = n.owner in
+    let late = both_empty (entry_kinds l.area l (laid ss)) (literal_kinds l.area (taken l.extent) (pieces_of (l ∷ n.earlier)) (pieces_of (in_order n.later [])))
+    (late_here ss h.layout n.later n.earlier l n.parts) in
+    let inside = entry_inside l.area e.area l (laid ss) n.own n.says late.0 in
+    let aligned = entry_aligned ss h n.later n.earlier l e.area n.parts n.own n.says in
+    let a = within o.areas e.area (subst (λ z. e.area < z) (sym x.count) (line_below ss n.later n.earlier l n.parts e.area n.own)) in
+    let is = x.areas e.area a.0 a.1 in
+    let facts = area_facts ss h e.area a.0 is in
+    subst (λ z. IsSomeAnd z (λ t. (e.offset < t.size) × (left_over t.attributes e.offset ≡ 0))) (sym (head_there o.areas e.area a.0 a.1)) (
+      subst (λ z. z < a.0.size) n.place (subst (λ z. l.offset < z) (sym is.size) inside),
+      ap (λ z. cond (z == 1) (e.offset % 2) (e.offset % 4)) facts.bits.arm ∙ subst (λ z. z % 4 ≡ 0) n.place aligned,
+    )
+
+pub entries_are_valid : (ss : List Statement) (o : Object) → AreFaultless ss → IsObject ss o → IsEntered (heads o.areas) o.entry
+entries_are_valid ss o h x = by_entry o.entry (sym x.entry)
+  where
+    by_entry : (d : Option Entry) → entry_of (laid ss) ≡ d → IsEntered (heads o.areas) d
+    by_entry None e = tt
+    by_entry (Some d) e = entered ss o h x d (entry_line d (laid ss) e)

@@ -1,0 +1,11 @@
+pub mod AreaLemmas
+pub mod BitLemmas
+pub mod EachLemmas
+pub mod EntryLemmas
+pub mod FaultLemmas
+pub mod OriginLemmas
+pub mod RelocLemmas
+pub mod SizeLemmas
+pub mod SymbolLemmas
+pub mod TargetLemmas
+pub mod ValidLemmas

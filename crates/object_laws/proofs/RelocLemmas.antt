@@ -1,0 +1,338 @@
+-- The bytes and relocations of an object's areas are valid.
+use Rattle.std.proofs.Common.{◌≡◌, ℕ, ◌+◌, ◌*◌, ◌^◌, ◌<◌, ◌==◌, List, [], ◌∷◌, ◌++◌, length, cond, refl, sym, ◌∙◌, ap, subst, arith, Option, Some, None, ◌⊎◌, inl, inr}
+use Rattle.std.specs.Prelude.{Result, Ok, Err, map}
+use Rattle.std.specs.List.{AllByRecursion}
+use Rattle.sdt_word.specs.Numbers.{bit}
+use Rattle.sdt_fault.specs.declared.kinds.LineKind.{LineKind}
+use Rattle.arm_isa.specs.declared.instr.ArmInstr.{ArmInstr}
+use Rattle.aof_object.specs.declared.records.Area.{Area}
+use Rattle.aof_object.specs.declared.records.Object.{Object}
+use Rattle.aof_object.specs.declared.records.Reloc.{Reloc}
+use Rattle.aof_object.specs.Objects.{stored as stored_size}
+use Rattle.aof_object.specs.Validity.{IsReloc, Holds}
+use Rattle.asm_model.specs.declared.directives.Contents.{Contents}
+use Rattle.asm_model.specs.declared.directives.Contents.TheVariants as contents
+use Rattle.asm_model.specs.declared.directives.DirectiveLine.TheVariants as line
+use Rattle.asm_model.specs.declared.exprs.Expr.{Expr}
+use Rattle.asm_model.specs.declared.names.LaidName.{LaidName}
+use Rattle.asm_model.specs.declared.statements.Statement.{Statement}
+use Rattle.asm_model.specs.declared.statements.What.{What}
+use Rattle.asm_model.specs.declared.statements.What.TheVariants as what
+use Rattle.asm_model.specs.declared.values.Value.{Value}
+use Rattle.asm_model.specs.declared.values.Value.TheVariants.{Number, Truth, Words, Place}
+use Rattle.asm_model.specs.AtLine.{SourceLine, Sight, all_names}
+use Rattle.asm_model.specs.Directives.{or_else}
+use Rattle.asm_model.specs.Meaning.{named_in, in_area, entry_stands_at, stands_at}
+use Rattle.asm_model.specs.Says.{on_both, mapped}
+use Rattle.layout_model.specs.Before.{areas_behind}
+use Rattle.layout_model.specs.Extents.{value_there}
+use Rattle.layout_model.specs.Laid.{LaidLine, taken, laid}
+use Rattle.layout_model.specs.Marks.{datum_names}
+use Rattle.layout_model.specs.Symbols.{symbols_of, literal_value}
+use Rattle.layout_laws.specs.Sound.{IsSound, HaveNoPlaces, ArePlain}
+use Rattle.layout_laws.proofs.RoundLemmas.{ResultIs, named_joined}
+use Rattle.said_model.specs.Fit.{AllPlaceless, WhatFits, IsFit}
+use Rattle.said_model.specs.Said.{HoldsNoZero}
+use Rattle.source_model.specs.ArmForms.{arm_instruction}
+use Rattle.source_model.specs.Contexts.{Context, sees, value_of, number_in, and_then}
+use Rattle.source_model.specs.Objects.{Piece, unit_bytes, units_from, or_none, source_of, IsAmong, StandsIn, symbol_number, word_relocs, branch_relocs, relocs_of, IsRelocOf, HasRelocs, contents_of, symbol_named, symbol_records, is_kept, KeepsBytes, IsArea, IsObject}
+use Rattle.source_model.specs.PseudoForms.{pseudo_instructions}
+use Rattle.source_model.specs.Units.{Emitted, Bytes, Word, Instruction, Stored, Target, Nothing, ByArea, BySymbol, placed, stored, word_units, narrow, half_units, byte_operand, byte_units, branch_symbol, instruction_units, units}
+use Rattle.source_laws.specs.Laws.{word_among, context_behind}
+use Rattle.source_laws.proofs.AgreeLemmas.{line_sees}
+use Rattle.source_laws.proofs.FaultlessLemmas.{layout_sound, said_plain}
+use Rattle.source_laws.proofs.ThingLemmas.{among_either, is_word, own_units, own_words}
+use Rattle.source_laws.proofs.ZeroLemmas.{place_below}
+use Rattle.object_laws.specs.Laws.{IsListed, OptionListed, TargetListed, UnitListed, AreFaultless}
+use Rattle.object_laws.proofs.AreaLemmas.{area_facts}
+use Rattle.object_laws.proofs.BitLemmas.{zero_flag, by_area, by_symbol, by_branch}
+use Rattle.object_laws.proofs.EachLemmas.{IsBelow, each_there, each_at, each_by_place, areas_text, line_below, name_shown}
+use Rattle.object_laws.proofs.OriginLemmas.{IsOwn, value_own, literal_own}
+use Rattle.object_laws.proofs.TargetLemmas.{symbols_are_listed}
+
+-- ---- areas that words name
+
+abbrev pub TargetBelow : ℕ → Target → Type 0
+TargetBelow count (ByArea a) = a < count
+TargetBelow count _ = Unit {0}
+
+abbrev pub UnitBelow : ℕ → Emitted → Type 0
+UnitBelow count (Bytes b) = Unit {0}
+UnitBelow count (Word w) = TargetBelow count w.target
+UnitBelow count (Instruction i o) = Unit {0}
+
+abbrev pub EachBelow : ℕ → List Emitted → Type 0
+EachBelow count us = AllByRecursion (UnitBelow count) us
+
+abbrev pub ResultBelow : ℕ → Result (List Emitted) LineKind → Type 0
+ResultBelow count (Ok us) = EachBelow count us
+ResultBelow count (Err k) = Unit {0}
+
+abbrev pub StoredBelow : ℕ → Result Stored LineKind → Type 0
+StoredBelow count (Ok w) = TargetBelow count w.target
+StoredBelow count (Err k) = Unit {0}
+
+-- the line stands in one of so many areas, and so do names that stand for themselves
+pub record SeesBelow (count : ℕ) (c : Context) : Type 0 where
+  pub area : ℕ
+  pub own : c.line.area ≡ Some area
+  pub below : area < count
+  pub names : (q : List ℕ) (n : LaidName) → named_in q c.names ≡ Some n → IsBelow count n.area
+
+pub entry_below : (count : ℕ) (area : Option ℕ) (offset : ℕ) (a : ℕ × ℕ) → IsBelow count area → in_area area offset ≡ Some a → a.0 < count
+entry_below count None offset a f e = absurd (cc)
+entry_below count (Some k) offset a f e = let x : (k, offset) ≡ a = cc in subst (λ z. z.0 < count) x (f k refl)
+
+pub named_front : (q : List ℕ) (xs : List LaidName) (l : SourceLine) (n : LaidName) → named_in q xs ≡ Some n → named_in q (all_names xs l) ≡ Some n
+named_front q xs l n e =
+    named_joined q (xs ++ l.back) l.forth ∙ ap (λ o. or_else o (named_in q l.forth)) (named_joined q xs l.back ∙ ap (λ o. or_else o (named_in q l.back)) e)
+
+pub placed_below : (count : ℕ) (c : Context) (d : List (List ℕ)) (s : List ℕ) (n : ℕ) (o : Option (ℕ × ℕ)) → ((a : ℕ × ℕ) → o ≡ Some a → a.0 < count)
+    → TargetBelow count (placed c d s n o).target
+placed_below count c d s n None f = tt
+placed_below count c d s n (Some a) f = f a refl
+
+pub word_below : (count : ℕ) (c : Context) (d : List (List ℕ)) (r : Result Value LineKind) → SeesBelow count c → ResultIs (IsOwn c.names) r
+    → StoredBelow count (stored c d r)
+word_below count c d (Ok (Number n)) h k = tt
+word_below count c d (Ok (Place [] n)) h k = subst (λ o. TargetBelow count (placed c d [] n (in_area o 0)).target) (sym h.own) h.below
+word_below count c d (Ok (Place (x ∷ xs) n)) h k =
+    placed_below count c d (x ∷ xs) n (stands_at (sees c) (x ∷ xs))
+    (λ a e.
+    entry_below count k.0.area k.0.offset a (h.names (x ∷ xs) k.0 k.1) (ap entry_stands_at (sym (named_front (x ∷ xs) c.names c.line k.0 k.1)) ∙ e))
+word_below count c d (Ok (Truth b)) h k = tt
+word_below count c d (Ok (Words w)) h k = tt
+word_below count c d (Err j) h k = tt
+
+pub words_joined : (count : ℕ) (x : Result Stored LineKind) (y : Result (List Emitted) LineKind) → StoredBelow count x → ResultBelow count y
+    → ResultBelow count (on_both (λ w us. Word w ∷ us) x y)
+words_joined count (Ok w) (Ok us) h k = (h, k)
+words_joined count (Ok w) (Err k) h i = tt
+words_joined count (Err k) (Ok us) h i = tt
+words_joined count (Err k) (Err j) h i = tt
+
+abbrev pub OwnValues : Context → Type 0
+OwnValues c = (e : Expr) → HaveNoPlaces e.items → ResultIs (IsOwn c.names) (value_of c e)
+
+pub words_below : (count : ℕ) (c : Context) (d : List (List ℕ)) (es : List Expr) → SeesBelow count c → OwnValues c → AllPlaceless es
+    → ResultBelow count (word_units c d es)
+words_below count c d [] h own k = tt
+words_below count c d (e ∷ es) h own k =
+    words_joined count (stored c d (value_of c e)) (word_units c d es) (word_below count c d (value_of c e) h (own e k.0)) (words_below count c d es h own k.1)
+
+pub bytes_joined : (count : ℕ) (x : Result (List ℕ) LineKind) (y : Result (List Emitted) LineKind) → ResultBelow count y
+    → ResultBelow count (on_both (λ b us. Bytes b ∷ us) x y)
+bytes_joined count (Ok b) (Ok us) h = (tt, h)
+bytes_joined count (Ok b) (Err k) h = tt
+bytes_joined count (Err k) (Ok us) h = tt
+bytes_joined count (Err k) (Err j) h = tt
+
+pub halves_below : (count : ℕ) (c : Context) (es : List Expr) → ResultBelow count (half_units c es)
+halves_below count c [] = tt
+halves_below count c (e ∷ es) = bytes_joined count (and_then (number_in c e) (narrow 2)) (half_units c es) (halves_below count c es)
+
+pub bytes_below : (count : ℕ) (c : Context) (s : Sight) (es : List Expr) → ResultBelow count (byte_units c s es)
+bytes_below count c s [] = tt
+bytes_below count c s (e ∷ es) = bytes_joined count (byte_operand (value_there s e) (value_of c e)) (byte_units c s es) (bytes_below count c s es)
+
+pub instruction_below : (count : ℕ) (o : Option (List ℕ)) (r : Result ArmInstr LineKind) → ResultBelow count (mapped (λ i. Instruction i o ∷ []) r)
+instruction_below count o (Ok i) = (tt, tt)
+instruction_below count o (Err k) = tt
+
+pub instructions_below : (count : ℕ) (is : List ArmInstr) → EachBelow count (instruction_units is)
+instructions_below count [] = tt
+instructions_below count (i ∷ is) = (tt, instructions_below count is)
+
+pub pseudo_below : (count : ℕ) (r : Result (List ArmInstr) LineKind) → ResultBelow count (mapped instruction_units r)
+pseudo_below count (Ok is) = instructions_below count is
+pseudo_below count (Err k) = tt
+
+pub units_below : (count : ℕ) (c : Context) (d : List (List ℕ)) (s : Sight) (word : Option ℕ) (w : What) → SeesBelow count c → OwnValues c → WhatFits w
+    → ResultBelow count (units c d s word w)
+units_below count c d s word what.Nothing h own k = tt
+units_below count c d s word (what.Arm l) h own k = instruction_below count (branch_symbol c l) (arm_instruction c l)
+units_below count c d s word (what.Thumb l) h own k = tt
+units_below count c d s word (what.Pseudo l) h own k = pseudo_below count (pseudo_instructions c word l)
+units_below count c d s word (what.Directive (line.Dcd es)) h own k = words_below count c d es h own k
+units_below count c d s word (what.Directive (line.Dcdu es)) h own k = words_below count c d es h own k
+units_below count c d s word (what.Directive (line.Dcw es)) h own k = halves_below count c es
+units_below count c d s word (what.Directive (line.Dcb es)) h own k = bytes_below count c s es
+units_below count c d s word (what.Directive l) h own k = tt
+
+pub unit_below : (count : ℕ) (at : ℕ) (us : List Emitted) (p : Piece) → EachBelow count us → IsAmong p (units_from at us) → UnitBelow count p.1
+unit_below count at [] p h k = absurd k
+unit_below count at (u ∷ us) p h (inl e) = subst (λ (z : Piece). UnitBelow count z.1) (sym e) h.0
+unit_below count at (u ∷ us) p h (inr k) = unit_below count (at + length (unit_bytes u)) us p h.1 k
+
+pub line_sees_below : (ss : List Statement) → AreFaultless ss → (after before : List LaidLine) (l : LaidLine) (area : ℕ) → laid ss ≡ after ++ l ∷ before
+    → l.area ≡ Some area → SeesBelow (length (areas_behind ss)) (context_behind ss l before)
+line_sees_below ss h after before l area e own =
+    record {
+      area = area;
+      own = (line_sees ss after before l e).1 ∙ own;
+      below = line_below ss after before l e area own;
+      names = λ q n x. (name_shown ss h.texts q n x).1;
+    }
+
+-- each area that a thing in an area is relocated by is one of the source
+pub things_below : (ss : List Statement) → AreFaultless ss → (area : ℕ) (p : Piece) → StandsIn (source_of ss) area p → UnitBelow (length (areas_behind ss)) p.1
+things_below ss h area p x = by_kind (among_either p (own_units ss rest l before) (own_words ss rest l before) x.among)
+  where
+    l : LaidLine
+    l = x.owner
+
+    before : List LaidLine
+    before = x.at.before
+
+    rest : List LaidLine
+    rest = x.at.rest
+
+    c : Context
+    c = context_behind ss l before
+
+    count : ℕ
+    count = length (areas_behind ss)
+
+    sound : IsSound ss
+    sound = layout_sound ss h.layout
+
+    plain : ArePlain ss
+    plain = said_plain ss h.said
+
+    sees_below : SeesBelow count c
+    sees_below = line_sees_below ss h rest before l area x.at.parts x.own
+
+    by_result : (r : Result (List Emitted) LineKind) → ResultBelow count r → IsAmong p (units_from l.offset (or_none r)) → UnitBelow count p.1
+    by_result (Ok us) f k = unit_below count l.offset us p f k
+    by_result (Err j) f k = absurd k
+
+    by_kind : IsAmong p (own_units ss rest l before) ⊎ IsAmong p (own_words ss rest l before) → UnitBelow count p.1
+    by_kind (inl k) =
+        by_result (units c (datum_names ss) l.seen (word_among rest l before) l.statement.what)
+        (units_below count c (datum_names ss) l.seen (word_among rest l before) l.statement.what sees_below
+        (λ e i. value_own ss sound plain rest before l x.at.parts e i) (each_there IsFit ss h.fit rest before l x.at.parts)) k
+    by_kind (inr k) =
+        let w = is_word ss c (taken l.extent) (word_among rest l before) p k in
+        let y = subst (StoredBelow count) w.stores
+        (word_below count c (datum_names ss) (literal_value (sees c) w.value) sees_below (literal_own ss sound plain rest before l x.at.parts w.value)) in
+        subst (λ (t : Piece). UnitBelow count t.1) (sym w.is) y
+
+-- ---- relocations
+
+pub by_area_valid : (areas symbols at n : ℕ) → areas < 2 ^ 24 → n < areas → IsReloc areas symbols (record { offset = at; word = 2 ^ 31 + 2 * 2 ^ 24 + n })
+by_area_valid areas symbols at n h k =
+    let w = 2 ^ 31 + 2 * 2 ^ 24 + n in
+    let b = by_area n (omega (arith, h, k)) in
+    record { form = b.0; index = subst (λ z. z < cond (bit w 27 == 1) symbols areas) (sym b.2) (subst (λ z. n < cond (z == 1) symbols areas) (sym b.1) k) }
+
+pub by_symbol_valid : (areas symbols at n : ℕ) → symbols < 2 ^ 24 → n < symbols
+    → IsReloc areas symbols (record { offset = at; word = 2 ^ 31 + 2 ^ 27 + 2 * 2 ^ 24 + n })
+by_symbol_valid areas symbols at n h k =
+    let w = 2 ^ 31 + 2 ^ 27 + 2 * 2 ^ 24 + n in
+    let b = by_symbol n (omega (arith, h, k)) in
+    record { form = b.0; index = subst (λ z. z < cond (bit w 27 == 1) symbols areas) (sym b.2) (subst (λ z. n < cond (z == 1) symbols areas) (sym b.1) k) }
+
+pub by_branch_valid : (areas symbols at n : ℕ) → symbols < 2 ^ 24 → n < symbols
+    → IsReloc areas symbols (record { offset = at; word = 2 ^ 31 + 2 ^ 27 + 2 ^ 26 + 3 * 2 ^ 24 + n })
+by_branch_valid areas symbols at n h k =
+    let w = 2 ^ 31 + 2 ^ 27 + 2 ^ 26 + 3 * 2 ^ 24 + n in
+    let b = by_branch n (omega (arith, h, k)) in
+    record { form = b.0; index = subst (λ z. z < cond (bit w 27 == 1) symbols areas) (sym b.2) (subst (λ z. n < cond (z == 1) symbols areas) (sym b.1) k) }
+
+-- so many areas and symbols
+pub record AreFew (ss : List Statement) (areas symbols : ℕ) : Type 0 where
+  pub areas_are : length (areas_behind ss) ≡ areas
+  pub symbols_are : length (symbols_of (source_of ss).names (source_of ss).lines) ≡ symbols
+  pub few_areas : areas < 2 ^ 24
+  pub few_symbols : symbols < 2 ^ 24
+
+pub symbol_below : (ss : List Statement) (areas symbols : ℕ) → AreFew ss areas symbols → (q : List ℕ)
+    → IsListed (symbols_of (source_of ss).names (source_of ss).lines) q → symbol_number (source_of ss) q < symbols
+symbol_below ss areas symbols few q h =
+    subst (λ z. symbol_number (source_of ss) q < z) few.symbols_are (place_below q (symbols_of (source_of ss).names (source_of ss).lines) h)
+
+pub word_valid : (ss : List Statement) (areas symbols : ℕ) → AreFew ss areas symbols → (at : ℕ) (t : Target)
+    → TargetListed (symbols_of (source_of ss).names (source_of ss).lines) t → TargetBelow areas t → (r : Reloc) → IsRelocOf (word_relocs (source_of ss) at t) r
+    → IsReloc areas symbols r
+word_valid ss areas symbols few at Nothing h k r i = absurd i
+word_valid ss areas symbols few at (ByArea a) h k r (inl e) =
+    subst (λ z. IsReloc areas symbols z) (sym e) (by_area_valid areas symbols at a few.few_areas k)
+word_valid ss areas symbols few at (ByArea a) h k r (inr i) = absurd i
+word_valid ss areas symbols few at (BySymbol q) h k r (inl e) =
+    subst (λ z. IsReloc areas symbols z) (sym e)
+    (by_symbol_valid areas symbols at (symbol_number (source_of ss) q) few.few_symbols (symbol_below ss areas symbols few q h))
+word_valid ss areas symbols few at (BySymbol q) h k r (inr i) = absurd i
+
+pub branch_valid : (ss : List Statement) (areas symbols : ℕ) → AreFew ss areas symbols → (at : ℕ) (o : Option (List ℕ))
+    → OptionListed (symbols_of (source_of ss).names (source_of ss).lines) o → (r : Reloc) → IsRelocOf (branch_relocs (source_of ss) at o) r → IsReloc areas symbols r
+branch_valid ss areas symbols few at None h r i = absurd i
+branch_valid ss areas symbols few at (Some q) h r (inl e) =
+    subst (λ z. IsReloc areas symbols z) (sym e)
+    (by_branch_valid areas symbols at (symbol_number (source_of ss) q) few.few_symbols (symbol_below ss areas symbols few q h))
+branch_valid ss areas symbols few at (Some q) h r (inr i) = absurd i
+
+pub piece_valid : (ss : List Statement) (areas symbols : ℕ) → AreFew ss areas symbols → (at : ℕ) (u : Emitted)
+    → UnitListed (symbols_of (source_of ss).names (source_of ss).lines) u → UnitBelow areas u → (r : Reloc) → IsRelocOf (relocs_of (source_of ss) (at, u)) r
+    → IsReloc areas symbols r
+piece_valid ss areas symbols few at (Bytes b) h k r i = absurd i
+piece_valid ss areas symbols few at (Word w) h k r i = word_valid ss areas symbols few at w.target h k r i
+piece_valid ss areas symbols few at (Instruction x o) h k r i = branch_valid ss areas symbols few at o h r i
+
+pub each_reloc : (P : Reloc → Type 0) (rs : List Reloc) → ((r : Reloc) → IsRelocOf rs r → P r) → AllByRecursion P rs
+each_reloc P [] f = tt
+each_reloc P (r ∷ rs) f = (f r (inl refl), each_reloc P rs (λ q i. f q (inr i)))
+
+pub relocs_valid : (ss : List Statement) → AreFaultless ss → (areas symbols : ℕ) → AreFew ss areas symbols → (area : ℕ) (relocs : List Reloc)
+    → HasRelocs (source_of ss) area relocs → AllByRecursion (IsReloc areas symbols) relocs
+relocs_valid ss h areas symbols few area relocs x =
+    each_reloc (IsReloc areas symbols) relocs
+    (λ r i.
+    let p = x.no_others r i in
+    piece_valid ss areas symbols few p.0.0 p.0.1 (symbols_are_listed ss area p.0 p.1)
+    (subst (λ n. UnitBelow n p.0.1) few.areas_are (things_below ss h area p.0 p.1)) r p.2)
+
+-- ---- bytes
+
+pub bytes_valid : (ss : List Statement) (area : ℕ) (a : Area) (c : Contents) → IsArea (source_of ss) area a → contents_of area (laid ss) ≡ Some c
+    → bit a.attributes 12 ≡ zero_flag c → length a.bytes ≡ stored_size a.attributes a.size
+bytes_valid ss area a contents.Code x e b =
+    (subst (λ o. KeepsBytes (source_of ss) area (is_kept o) a.bytes) e x.bytes).size ∙ sym x.size ∙ ap (λ z. cond (z == 1) 0 a.size) (sym b)
+bytes_valid ss area a contents.Data x e b =
+    (subst (λ o. KeepsBytes (source_of ss) area (is_kept o) a.bytes) e x.bytes).size ∙ sym x.size ∙ ap (λ z. cond (z == 1) 0 a.size) (sym b)
+bytes_valid ss area a contents.Zeroes x e b =
+    ap length (subst (λ o. KeepsBytes (source_of ss) area (is_kept o) a.bytes) e x.bytes) ∙ ap (λ z. cond (z == 1) 0 a.size) (sym b)
+
+-- ---- the contents of areas
+
+pub area_holds : (ss : List Statement) → AreFaultless ss → (areas symbols : ℕ) → AreFew ss areas symbols → (area : ℕ) (a : Area) → IsArea (source_of ss) area a
+    → Holds areas symbols a
+area_holds ss h areas symbols few area a x =
+    let f = area_facts ss h area a x in
+    record {
+      name = each_at HoldsNoZero (areas_behind ss) area a.name (areas_text ss h.texts) x.name;
+      bytes = bytes_valid ss area a f.kind x f.contents f.bits.zero;
+      relocs = relocs_valid ss h areas symbols few area a.relocs x.relocs;
+    }
+
+pub length_map : {A B : Type 0} (f : A → B) (xs : List A) → length (map f xs) ≡ length xs
+length_map f [] = refl
+length_map f (x ∷ xs) = let e = length_map f xs in omega (arith, e)
+
+pub object_few : (ss : List Statement) (o : Object) → IsObject ss o → length o.areas < 2 ^ 24 → length o.symbols < 2 ^ 24
+    → AreFew ss (length o.areas) (length o.symbols)
+object_few ss o x h k =
+    record {
+      areas_are = sym x.count;
+      symbols_are = sym (ap length x.symbols ∙ records_counted);
+      few_areas = h;
+      few_symbols = k;
+    }
+  where
+    records_counted : length (symbol_records (source_of ss)) ≡ length (symbols_of (source_of ss).names (source_of ss).lines)
+    records_counted = length_map (λ name. symbol_named (source_of ss) name (named_in name (source_of ss).names)) (symbols_of (source_of ss).names (source_of ss).lines)
+
+pub contents_are_valid : (ss : List Statement) (o : Object) → AreFaultless ss → IsObject ss o → length o.areas < 2 ^ 24 → length o.symbols < 2 ^ 24
+    → AllByRecursion (Holds (length o.areas) (length o.symbols)) o.areas
+contents_are_valid ss o h x few_areas few_symbols =
+    each_by_place (Holds (length o.areas) (length o.symbols)) o.areas
+    (λ k a e. area_holds ss h (length o.areas) (length o.symbols) (object_few ss o x few_areas few_symbols) k a (x.areas k a e))

@@ -1,0 +1,537 @@
+-- The symbols of an object are valid.
+use Rattle.std.proofs.Common.{◌≡◌, ◌≢◌, ℕ, zero, suc, ◌+◌, ◌%◌, ◌^◌, ◌<◌, ◌≤◌, List, [], ◌∷◌, ◌++◌, append_assoc, length, Bool, true, false, cond, ◌||◌, ◌&&◌, refl, sym, ◌∙◌, ap, subst, arith, Option, Some, None, ◌⊎◌, inl, inr}
+use Rattle.std.specs.Prelude.{Result, Ok, Err, slice_get, map, IsSomeAnd}
+use Rattle.std.specs.List.{AllByRecursion, list_any}
+use Rattle.std.proofs.lemmas.Bool.{leb-true}
+use Rattle.sdt_fault.specs.declared.kinds.LineKind.{LineKind}
+use Rattle.sdt_fault.specs.declared.kinds.LineKind.TheVariants.{BadOperand, WrongType}
+use Rattle.chunk_file.specs.Reading.{EachStands}
+use Rattle.aof_object.specs.declared.records.Area.{Area}
+use Rattle.aof_object.specs.declared.records.Object.{Object}
+use Rattle.aof_object.specs.declared.records.Symbol.{Symbol}
+use Rattle.aof_object.specs.Checks.{is_exported, is_placed}
+use Rattle.aof_object.specs.Names.{IsText, Lacks}
+use Rattle.aof_object.specs.Objects.{exported}
+use Rattle.aof_object.specs.Validity.{head_of, heads, Lives, IsSymbol}
+use Rattle.arm_isa.specs.declared.instr.ArmInstr.TheVariants as instr
+use Rattle.asm_model.specs.declared.arm_lines.ArmLine.{ArmLine}
+use Rattle.asm_model.specs.declared.arm_lines.ArmLine.TheVariants as arm
+use Rattle.asm_model.specs.declared.directives.DirectiveLine.TheVariants as line
+use Rattle.asm_model.specs.declared.exprs.Expr.{Expr}
+use Rattle.asm_model.specs.declared.names.LaidName.{LaidName}
+use Rattle.asm_model.specs.declared.statements.Statement.{Statement}
+use Rattle.asm_model.specs.declared.statements.What.{What}
+use Rattle.asm_model.specs.declared.statements.What.TheVariants as what
+use Rattle.asm_model.specs.declared.values.Value.{Value}
+use Rattle.asm_model.specs.declared.values.Value.TheVariants.{Number, Truth, Words, Place}
+use Rattle.asm_model.specs.Directives.{or_else}
+use Rattle.asm_model.specs.Forms.{same}
+use Rattle.asm_model.specs.Meaning.{named_in, in_area, entry_stands_at, stands_at}
+use Rattle.asm_model.specs.Says.{mapped}
+use Rattle.asm_model.proofs.WordLemmas.{same_true}
+use Rattle.layout_model.specs.Before.{with_name, areas_behind, is_thumb_label}
+use Rattle.layout_model.specs.Entries.{label_entry, imported_entry, thumb_of}
+use Rattle.layout_model.specs.Extents.{Extent, Block, Padding, Loading, Pool}
+use Rattle.layout_model.specs.Labels.{Defined, Unnamed, LocalLabel, Label, Equal, MapField, RegisterName, defined_by, imported_in}
+use Rattle.layout_model.specs.Laid.{Declared, declared, LaidLine, statements_of, taken, laid_behind, laid_of, laid, all_locals, final_line, final_names}
+use Rattle.layout_model.specs.LayoutKinds.{listed}
+use Rattle.layout_model.specs.Marks.{datum_names}
+use Rattle.layout_model.specs.Symbols.{literal_value, unless_placed, word_symbols, words_symbols, branch_symbols, literal_symbols, symbols_in, listed_behind, symbols_behind, symbols_of}
+use Rattle.layout_laws.proofs.FoundLemmas.{labels_stand, imports_stand}
+use Rattle.layout_laws.proofs.RoundLemmas.{ResultIs, named_joined}
+use Rattle.said_model.specs.Fit.{AllPlaceless, WhatFits, IsFit}
+use Rattle.said_model.specs.Said.{what_names, HoldsNoZero, HasTexts}
+use Rattle.source_model.specs.ArmForms.{is_settled, has_symbol, branch_from, branch_displacement, branch_field, arm_instruction}
+use Rattle.source_model.specs.Contexts.{Context, sees, value_of, and_then}
+use Rattle.source_model.specs.Objects.{Source, source_of, is_exported as is_exported_name, is_weak, scope, contents_of, holds_code, symbol_placed, in_no_line, symbol_valued, symbol_named, IsObject}
+use Rattle.source_model.specs.SourceFaults.{label_of, symbol_names}
+use Rattle.source_model.specs.Units.{Emitted, Instruction, branch_symbol, units}
+use Rattle.source_model.specs.ValueKinds.{lies_within, kinds_unless, export_kinds, statement_kinds}
+use Rattle.source_laws.specs.Laws.{word_among, context_behind}
+use Rattle.source_laws.proofs.FaultlessLemmas.{layout_sound, said_plain}
+use Rattle.source_laws.proofs.LineLemmas.{statements_lie_in_areas}
+use Rattle.object_laws.specs.Laws.{IsListed, AreFaultless}
+use Rattle.object_laws.proofs.AreaLemmas.{AreApart, apart_with}
+use Rattle.object_laws.proofs.BitLemmas.{IsAllowed, reference_allowed, placed_allowed, absolute_allowed}
+use Rattle.object_laws.proofs.EachLemmas.{DefinedText, OptionText, each_joined, each_there, defined_text, names_text, import_text, line_below, name_shown}
+use Rattle.object_laws.proofs.FaultLemmas.{sizes_of, line_valued}
+use Rattle.object_laws.proofs.OriginLemmas.{IsOwn, named_name, value_own, literal_own}
+use Rattle.object_laws.proofs.RelocLemmas.{named_front}
+
+-- ---- one symbol
+
+abbrev pub LivesBelow : ℕ → (ℕ → ℕ) → ℕ → ℕ → Option ℕ → Type 0
+LivesBelow count sizes attributes value None = is_placed attributes ≡ false
+LivesBelow count sizes attributes value (Some k) = (k < count) × (value ≤ sizes k)
+
+-- a symbol in one of so many areas, or in none
+pub record IsGood (count : ℕ) (sizes : ℕ → ℕ) (s : Symbol) : Type 0 where
+  pub allowed : IsAllowed s.attributes
+  pub lives : LivesBelow count sizes s.attributes s.value s.area
+
+abbrev pub EndsBelow : ℕ → (ℕ → ℕ) → ℕ → Option (ℕ × ℕ) → Type 0
+EndsBelow count sizes n o = (a : ℕ × ℕ) → o ≡ Some a → (a.0 < count) × ((a.1 + n) % 2 ^ 32 ≤ sizes a.0)
+
+pub scope_small : (b : Bool) → (1 ≤ cond b 3 1) × (cond b 3 1 ≤ 3)
+scope_small true = (omega arith, omega arith)
+scope_small false = (omega arith, omega arith)
+
+pub placed_good : (count : ℕ) (sizes : ℕ → ℕ) (s : Source) (name label : List ℕ) (n : ℕ) (o : Option (ℕ × ℕ)) → EndsBelow count sizes n o
+    → IsGood count sizes (symbol_placed s name label n o)
+placed_good count sizes s name label n None f =
+    let b = reference_allowed (is_weak s name) in record { allowed = b.0; lives = b.1 }
+placed_good count sizes s name label n (Some a) f =
+    let b = scope_small (is_exported_name s name) in
+    record {
+      allowed = placed_allowed (scope s name) (list_any (same label) (datum_names s.statements) && holds_code (contents_of a.0 s.lines))
+          (thumb_of (named_in label s.names)) b.0 b.1;
+      lives = f a refl;
+    }
+
+pub absolute_good : (count : ℕ) (sizes : ℕ → ℕ) (s : Source) (name : List ℕ) (n : ℕ) → IsGood count sizes (symbol_valued s name (Number n))
+absolute_good count sizes s name n =
+    let b = scope_small (is_exported_name s name) in
+    let a = absolute_allowed (scope s name) b.0 b.1 in record { allowed = a.0; lives = a.1 }
+
+-- a name that stands for itself
+pub own_place_good : (count : ℕ) (sizes : ℕ → ℕ) (s : Source) (q : List ℕ) (f : LaidName) → named_in q s.names ≡ Some f
+    → EndsBelow count sizes 0 (in_area f.area f.offset) → IsGood count sizes (symbol_valued s q (Place q 0))
+own_place_good count sizes s [] f e h = placed_good count sizes s [] [] 0 None (λ a x. absurd (cc))
+own_place_good count sizes s (c ∷ cs) f e h =
+    placed_good count sizes s (c ∷ cs) (c ∷ cs) 0 (stands_at (sees (in_no_line s)) (c ∷ cs))
+    (λ a x. h a (ap entry_stands_at (sym (named_front (c ∷ cs) s.names (in_no_line s).line f e)) ∙ x))
+
+pub own_good : (count : ℕ) (sizes : ℕ → ℕ) (s : Source) (q : List ℕ) (f : LaidName) → named_in q s.names ≡ Some f → f.value ≡ Place q 0
+    → EndsBelow count sizes 0 (in_area f.area f.offset) → IsGood count sizes (symbol_named s q (named_in q s.names))
+own_good count sizes s q f e v h =
+    subst (λ o. IsGood count sizes (symbol_named s q o)) (sym e)
+    (subst (λ z. IsGood count sizes (symbol_valued s q z)) (sym v) (own_place_good count sizes s q f e h))
+
+-- ---- names
+
+abbrev pub IsGoodName : List Statement → List ℕ → Type 0
+IsGoodName ss q =
+    IsGood (length (areas_behind ss)) (sizes_of ss) (symbol_named (source_of ss) q (named_in q (source_of ss).names)) × HoldsNoZero q
+
+abbrev pub AreGoodNames : List Statement → List (List ℕ) → Type 0
+AreGoodNames ss names = AllByRecursion (IsGoodName ss) names
+
+pub no_area : (offset : ℕ) (a : ℕ × ℕ) → in_area None offset ≡ Some a → ⊥
+no_area offset a e = absurd (cc)
+
+pub start_small : (o s n : ℕ) → o + s ≤ n → (o + 0) % 2 ^ 32 ≤ n
+start_small o s n h = omega arith
+
+pub label_ends : (count : ℕ) (sizes : ℕ → ℕ) (area : Option ℕ) (offset size : ℕ) → ((k : ℕ) → area ≡ Some k → (k < count) × (offset + size ≤ sizes k))
+    → EndsBelow count sizes 0 (in_area area offset)
+label_ends count sizes None offset size f a e = absurd (cc)
+label_ends count sizes (Some k) offset size f a e =
+    let x : (k, offset) ≡ a = cc in
+    let p = f k refl in
+    subst (λ (z : ℕ × ℕ). (z.0 < count) × ((z.1 + 0) % 2 ^ 32 ≤ sizes z.0)) x (p.0, start_small offset size (sizes k) p.1)
+
+-- a line that has a label, or imports a name
+pub record NamedLine (q : List ℕ) (lines : List LaidLine) : Type 0 where
+  pub later : List LaidLine
+  pub earlier : List LaidLine
+  pub owner : LaidLine
+  pub parts : lines ≡ later ++ owner ∷ earlier
+  pub says : (defined_by owner.statement ≡ Label q) ⊎ (imported_in owner.statement.what ≡ Some q)
+
+pub alone_same : (q n : List ℕ) → (same q n || false) ≡ true → q ≡ n
+alone_same q n h = by_test (same q n) refl h
+  where
+    by_test : (b : Bool) → same q n ≡ b → (b || false) ≡ true → q ≡ n
+    by_test true e k = same_true q n e
+    by_test false e k = absurd (cc)
+
+pub label_says : (q : List ℕ) (x : Defined) → IsListed (label_of x) q → x ≡ Label q
+label_says q Unnamed h = absurd (cc)
+label_says q (LocalLabel n) h = absurd (cc)
+label_says q (Label name) h = ap Label (sym (alone_same q name h))
+label_says q (Equal name e) h = absurd (cc)
+label_says q (MapField name) h = absurd (cc)
+label_says q (RegisterName name r) h = absurd (cc)
+
+pub import_says : (q : List ℕ) (o : Option (List ℕ)) → IsListed (listed o) q → o ≡ Some q
+import_says q None h = absurd (cc)
+import_says q (Some name) h = ap Some (sym (alone_same q name h))
+
+pub any_split : (q : List ℕ) (xs ys : List (List ℕ)) → IsListed (xs ++ ys) q → IsListed xs q ⊎ IsListed ys q
+any_split q [] ys h = inr h
+any_split q (x ∷ xs) ys h = by_test (same q x) (any_split q xs ys) h
+  where
+    by_test : (b : Bool) → (IsListed (xs ++ ys) q → IsListed xs q ⊎ IsListed ys q) → (b || list_any (same q) (xs ++ ys)) ≡ true
+        → ((b || list_any (same q) xs) ≡ true) ⊎ IsListed ys q
+    by_test true f k = inl refl
+    by_test false f k = f k
+
+pub named_later : (q : List ℕ) (l : LaidLine) (ls : List LaidLine) → NamedLine q ls → NamedLine q (l ∷ ls)
+named_later q l ls n =
+    record { later = l ∷ n.later; earlier = n.earlier; owner = n.owner; parts = ap (λ z. l ∷ z) n.parts; says = n.says }
+
+pub named_line : (d : Declared) (ss : List Statement) (q : List ℕ) → IsListed (symbol_names ss) q → NamedLine q (laid_of d ss)
+named_line d [] q h = absurd (cc)
+named_line d (s ∷ ss) q h =
+    by_part (any_split q (symbol_names ss ++ label_of (defined_by s)) (listed (imported_in s.what)) h) (named_line d ss q)
+  where
+    here : (defined_by s ≡ Label q) ⊎ (imported_in s.what ≡ Some q) → NamedLine q (laid_of d (s ∷ ss))
+    here x = record { later = []; earlier = laid_of d ss; owner = laid_behind d s (laid_of d ss); parts = refl; says = x }
+
+    by_front : IsListed (symbol_names ss) q ⊎ IsListed (label_of (defined_by s)) q → (IsListed (symbol_names ss) q → NamedLine q (laid_of d ss))
+        → NamedLine q (laid_of d (s ∷ ss))
+    by_front (inl k) f = named_later q (laid_behind d s (laid_of d ss)) (laid_of d ss) (f k)
+    by_front (inr k) f = here (inl (label_says q (defined_by s) k))
+
+    by_part : IsListed (symbol_names ss ++ label_of (defined_by s)) q ⊎ IsListed (listed (imported_in s.what)) q
+        → (IsListed (symbol_names ss) q → NamedLine q (laid_of d ss)) → NamedLine q (laid_of d (s ∷ ss))
+    by_part (inl k) f = by_front (any_split q (symbol_names ss) (label_of (defined_by s)) k) f
+    by_part (inr k) f = here (inr (import_says q (imported_in s.what) k))
+
+-- labels and imports are good names
+pub label_good : (ss : List Statement) → AreFaultless ss → (after before : List LaidLine) (l : LaidLine) → laid ss ≡ after ++ l ∷ before
+    → (q : List ℕ) → defined_by l.statement ≡ Label q → IsGoodName ss q
+label_good ss h after before l e q x = (
+  own_good (length (areas_behind ss)) (sizes_of ss) (source_of ss) q
+      (label_entry q l.area l.offset l.size (is_thumb_label l.statement (statements_of before)))
+      (labels_stand ss (layout_sound ss h.layout) (said_plain ss h.said) after before l e q x) refl
+      (label_ends (length (areas_behind ss)) (sizes_of ss) l.area l.offset l.size
+      (λ k own. (line_below ss after before l e k own, statements_lie_in_areas ss (layout_sound ss h.layout) k after before l e own))),
+  subst DefinedText x (defined_text l.statement (each_there HasTexts ss h.texts after before l e)),
+)
+
+pub import_good : (ss : List Statement) → AreFaultless ss → (after before : List LaidLine) (l : LaidLine) → laid ss ≡ after ++ l ∷ before
+    → (q : List ℕ) → imported_in l.statement.what ≡ Some q → IsGoodName ss q
+import_good ss h after before l e q x = (
+  own_good (length (areas_behind ss)) (sizes_of ss) (source_of ss) q (imported_entry q)
+      (imports_stand ss (layout_sound ss h.layout) (said_plain ss h.said) after before l e q x) refl
+      (λ a y. absurd (no_area 0 a y)),
+  subst OptionText x (import_text l.statement.what (names_text l.statement (each_there HasTexts ss h.texts after before l e))),
+)
+
+pub symbol_good : (ss : List Statement) → AreFaultless ss → (q : List ℕ) → IsListed (symbol_names ss) q → IsGoodName ss q
+symbol_good ss h q k = by_line (named_line (declared ss) ss q k)
+  where
+    by_line : NamedLine q (laid ss) → IsGoodName ss q
+    by_line n =
+        elim n.says [
+          | inl x ↦ label_good ss h n.later n.earlier n.owner n.parts q x
+          | inr x ↦ import_good ss h n.later n.earlier n.owner n.parts q x
+        ]
+
+-- ---- words
+
+-- a name that stands for itself in no area
+pub loose_good : (ss : List Statement) → AreFaultless ss → (q : List ℕ) → IsOwn (final_names (laid ss)) q → (o : Option (ℕ × ℕ))
+    → ((n : LaidName) → named_in q (final_names (laid ss)) ≡ Some n → o ≡ in_area n.area n.offset) → AreGoodNames ss (unless_placed q o)
+loose_good ss h q own (Some a) f = tt
+loose_good ss h q own None f = (
+  (
+    own_good (length (areas_behind ss)) (sizes_of ss) (source_of ss) q own.0 own.1 own.2 (λ a y. let z = f own.0 own.1 in absurd (cc)),
+    subst HoldsNoZero (named_name q (final_names (laid ss)) own.0 own.1) (name_shown ss h.texts q own.0 own.1).0,
+  ),
+  tt,
+)
+
+pub word_good : (ss : List Statement) → AreFaultless ss → (before : List LaidLine) (l : LaidLine) (r : Result Value LineKind) → ResultIs (IsOwn (final_names (laid ss))) r
+    → AreGoodNames ss (word_symbols (sees (context_behind ss l before)) r)
+word_good ss h before l (Ok (Place (x ∷ xs) n)) own =
+    let c = context_behind ss l before in
+    loose_good ss h (x ∷ xs) own (stands_at (sees c) (x ∷ xs))
+    (λ m e. ap entry_stands_at (named_front (x ∷ xs) (final_names (laid ss)) c.line m e))
+word_good ss h before l (Ok (Place [] n)) own = tt
+word_good ss h before l (Ok (Number n)) own = tt
+word_good ss h before l (Ok (Truth b)) own = tt
+word_good ss h before l (Ok (Words w)) own = tt
+word_good ss h before l (Err k) own = tt
+
+pub words_good : (ss : List Statement) → AreFaultless ss → (after before : List LaidLine) (l : LaidLine) → laid ss ≡ after ++ l ∷ before
+    → (es : List Expr) → AllPlaceless es → AreGoodNames ss (words_symbols (final_names (laid ss)) (context_behind ss l before).line es)
+words_good ss h after before l e [] k = tt
+words_good ss h after before l e (x ∷ xs) k =
+    let c = context_behind ss l before in
+    each_joined (IsGoodName ss) (word_symbols (sees c) (value_of c x)) (words_symbols c.names c.line xs)
+    (word_good ss h before l (value_of c x) (value_own ss (layout_sound ss h.layout) (said_plain ss h.said) after before l e x k.0))
+    (words_good ss h after before l e xs k.1)
+
+pub literals_good : (ss : List Statement) → AreFaultless ss → (after before : List LaidLine) (l : LaidLine) → laid ss ≡ after ++ l ∷ before
+    → (t : Extent) → AreGoodNames ss (literal_symbols (final_names (laid ss)) (context_behind ss l before).line t)
+literals_good ss h after before l e (Loading n v) =
+    let c = context_behind ss l before in
+    word_good ss h before l (literal_value (sees c) v) (literal_own ss (layout_sound ss h.layout) (said_plain ss h.said) after before l e v)
+literals_good ss h after before l e (Block a n) = tt
+literals_good ss h after before l e (Padding m n) = tt
+literals_good ss h after before l e Pool = tt
+
+-- ---- branches
+
+pub allowed_only : {A : Type 0} → (b : Bool) (x y : A) (k : LineKind) → cond b (Ok x) (Err k) ≡ Ok y → b ≡ true
+allowed_only true x y k e = refl
+allowed_only false x y k e = absurd (cc)
+
+pub linked_good : (ss : List Statement) → AreFaultless ss → (q : List ℕ) (b : Bool) → (b || list_any (same q) (symbol_names ss)) ≡ true
+    → AreGoodNames ss (cond b [] (q ∷ []))
+linked_good ss h q true k = tt
+linked_good ss h q false k = (symbol_good ss h q k, tt)
+
+pub branch_good : (ss : List Statement) → AreFaultless ss → (before : List LaidLine) (l : LaidLine) (r : Result Value LineKind) (d : ℕ)
+    → branch_displacement (context_behind ss l before) r ≡ Ok d → AreGoodNames ss (branch_symbols (sees (context_behind ss l before)) r)
+branch_good ss h before l (Ok (Place (x ∷ xs) n)) d e =
+    let c = context_behind ss l before in
+    linked_good ss h (x ∷ xs) (is_settled c (x ∷ xs)) (allowed_only (has_symbol c (x ∷ xs)) (branch_from c (x ∷ xs) n) d BadOperand e)
+branch_good ss h before l (Ok (Place [] n)) d e = tt
+branch_good ss h before l (Ok (Number n)) d e = tt
+branch_good ss h before l (Ok (Truth b)) d e = tt
+branch_good ss h before l (Ok (Words w)) d e = tt
+branch_good ss h before l (Err k) d e = tt
+
+pub mapped_known : {A B : Type 0} → (f : A → B) (r : Result A LineKind) (b : B) → mapped f r ≡ Ok b → (a : A) × (r ≡ Ok a)
+mapped_known f (Ok a) b e = (a, refl)
+mapped_known f (Err k) b e = absurd (cc)
+
+pub then_known : {A B : Type 0} → (f : A → Result B LineKind) (r : Result A LineKind) (b : B) → and_then r f ≡ Ok b → (a : A) × (r ≡ Ok a)
+then_known f (Ok a) b e = (a, refl)
+then_known f (Err k) b e = absurd (cc)
+
+-- ---- EXPORT and KEEP
+
+pub unless_none : (b : Bool) (k : LineKind) → kinds_unless b k ≡ [] → b ≡ true
+unless_none true k e = refl
+unless_none false k e = absurd (cc)
+
+pub within_ends : (count : ℕ) (sizes : ℕ → ℕ) (o : Option (ℕ × ℕ)) (n : ℕ) → ((a : ℕ × ℕ) → o ≡ Some a → a.0 < count) → lies_within sizes o n ≡ true
+    → EndsBelow count sizes n o
+within_ends count sizes None n f h a e = absurd (cc)
+within_ends count sizes (Some b) n f h a e =
+    let x : b ≡ a = cc in
+    subst (λ (z : ℕ × ℕ). (z.0 < count) × ((z.1 + n) % 2 ^ 32 ≤ sizes z.0)) x (f b refl, leb-true ((b.1 + n) % 2 ^ 32) (sizes b.0) h)
+
+pub area_is_below : (count : ℕ) (area : Option ℕ) (offset : ℕ) (a : ℕ × ℕ) → ((k : ℕ) → area ≡ Some k → k < count) → in_area area offset ≡ Some a → a.0 < count
+area_is_below count None offset a f e = absurd (cc)
+area_is_below count (Some k) offset a f e = let x : (k, offset) ≡ a = cc in subst (λ (z : ℕ × ℕ). z.0 < count) x (f k refl)
+
+-- a place that a name stands for
+pub export_place_good : (ss : List Statement) → AreFaultless ss → (c : Context) → c.names ≡ final_names (laid ss) → (name q : List ℕ) (n : ℕ)
+    → lies_within (sizes_of ss) (stands_at (sees c) q) n ≡ true
+    → IsGood (length (areas_behind ss)) (sizes_of ss) (symbol_valued (source_of ss) name (Place q n))
+export_place_good ss h c names name [] n within =
+    placed_good (length (areas_behind ss)) (sizes_of ss) (source_of ss) name [] n None (λ a x. absurd (cc))
+export_place_good ss h c names name (x ∷ xs) n within = by_entry (named_in (x ∷ xs) N) refl
+  where
+    N : List LaidName
+    N = final_names (laid ss)
+
+    count : ℕ
+    count = length (areas_behind ss)
+
+    s : Source
+    s = source_of ss
+
+    here : (f : LaidName) → named_in (x ∷ xs) N ≡ Some f → stands_at (sees c) (x ∷ xs) ≡ in_area f.area f.offset
+    here f e = ap entry_stands_at (named_front (x ∷ xs) c.names c.line f (ap (named_in (x ∷ xs)) names ∙ e))
+
+    nowhere : (f : LaidName) → named_in (x ∷ xs) N ≡ Some f → stands_at (sees (in_no_line s)) (x ∷ xs) ≡ in_area f.area f.offset
+    nowhere f e = ap entry_stands_at (named_front (x ∷ xs) N (in_no_line s).line f e)
+
+    missing : named_in (x ∷ xs) N ≡ None → stands_at (sees (in_no_line s)) (x ∷ xs) ≡ None
+    missing e =
+        ap entry_stands_at
+        (named_joined (x ∷ xs) (N ++ []) [] ∙ ap (λ o. or_else o None) (named_joined (x ∷ xs) N [] ∙ ap (λ o. or_else o None) e))
+
+    by_entry : (o : Option LaidName) → named_in (x ∷ xs) N ≡ o → IsGood count (sizes_of ss) (symbol_valued s name (Place (x ∷ xs) n))
+    by_entry None e =
+        subst (λ z. IsGood count (sizes_of ss) (symbol_placed s name (x ∷ xs) n z)) (sym (missing e))
+        (placed_good count (sizes_of ss) s name (x ∷ xs) n None (λ a y. absurd (cc)))
+    by_entry (Some f) e =
+        subst (λ z. IsGood count (sizes_of ss) (symbol_placed s name (x ∷ xs) n z)) (sym (nowhere f e))
+        (placed_good count (sizes_of ss) s name (x ∷ xs) n (in_area f.area f.offset)
+        (within_ends count (sizes_of ss) (in_area f.area f.offset) n
+        (λ a. area_is_below count f.area f.offset a (name_shown ss h.texts (x ∷ xs) f e).1)
+        (subst (λ z. lies_within (sizes_of ss) z n ≡ true) (here f e) within)))
+
+pub export_value_good : (ss : List Statement) → AreFaultless ss → (c : Context) → c.names ≡ final_names (laid ss) → (name : List ℕ) (f : LaidName) (v : Value)
+    → export_kinds c (sizes_of ss) name (Some (record f { value = v })) ≡ []
+    → IsGood (length (areas_behind ss)) (sizes_of ss) (symbol_valued (source_of ss) name v)
+export_value_good ss h c names name f (Number n) e = absolute_good (length (areas_behind ss)) (sizes_of ss) (source_of ss) name n
+export_value_good ss h c names name f (Truth b) e = absurd (cc)
+export_value_good ss h c names name f (Words w) e = absurd (cc)
+export_value_good ss h c names name f (Place q n) e =
+    export_place_good ss h c names name q n (unless_none (lies_within (sizes_of ss) (stands_at (sees c) q) n) WrongType e)
+
+pub export_good : (ss : List Statement) → AreFaultless ss → (c : Context) → c.names ≡ final_names (laid ss) → (name : List ℕ) (o : Option LaidName)
+    → export_kinds c (sizes_of ss) name o ≡ [] → IsGood (length (areas_behind ss)) (sizes_of ss) (symbol_named (source_of ss) name o)
+export_good ss h c names name None e = absurd (cc)
+export_good ss h c names name (Some f) e = export_value_good ss h c names name f f.value e
+
+-- ---- the symbols of a line
+
+-- what is known of a line
+pub record Known (ss : List Statement) (before : List LaidLine) (l : LaidLine) (word : Option ℕ) (w : What) : Type 0 where
+  pub emitted : List Emitted
+  pub emits : units (context_behind ss l before) (datum_names ss) l.seen word w ≡ Ok emitted
+  pub kinds : statement_kinds (context_behind ss l before) (sizes_of ss) w ≡ []
+  pub fits : WhatFits w
+  pub texts : AllByRecursion HoldsNoZero (what_names w)
+  pub imports : (q : List ℕ) → imported_in w ≡ Some q → IsGoodName ss q
+
+pub arm_good : (ss : List Statement) → AreFaultless ss → (before : List LaidLine) (l : LaidLine) (a : ArmLine) (us : List Emitted)
+    → mapped (λ i. Instruction i (branch_symbol (context_behind ss l before) a) ∷ []) (arm_instruction (context_behind ss l before) a) ≡ Ok us
+    → (t : Extent) → AreGoodNames ss (symbols_in (final_names (laid ss)) (context_behind ss l before).line t (what.Arm a))
+arm_good ss h before l (arm.Branch condition link target) us e t =
+    let c = context_behind ss l before in
+    let i = mapped_known (λ i. Instruction i (branch_symbol c (arm.Branch condition link target)) ∷ []) (arm_instruction c (arm.Branch condition link target)) us e in
+    let d = then_known (λ d. mapped (λ f. instr.Branch condition link f) (branch_field d)) (branch_displacement c (value_of c target)) i.0 i.1 in
+    branch_good ss h before l (value_of c target) d.0 d.1
+arm_good ss h before l a us e t = tt
+
+pub line_good : (ss : List Statement) → AreFaultless ss → (after before : List LaidLine) (l : LaidLine) → laid ss ≡ after ++ l ∷ before
+    → (word : Option ℕ) (t : Extent) (w : What) → Known ss before l word w
+    → AreGoodNames ss (symbols_in (final_names (laid ss)) (context_behind ss l before).line t w)
+line_good ss h after before l e word t what.Nothing k = tt
+line_good ss h after before l e word t (what.Arm a) k = arm_good ss h before l a k.emitted k.emits t
+line_good ss h after before l e word t (what.Thumb a) k = let x = k.emits in absurd (cc)
+line_good ss h after before l e word t (what.Pseudo p) k = literals_good ss h after before l e t
+line_good ss h after before l e word t (what.Directive (line.Export name)) k =
+    ((export_good ss h (context_behind ss l before) refl name (named_in name (final_names (laid ss))) k.kinds, k.texts.0), tt)
+line_good ss h after before l e word t (what.Directive (line.Keep name)) k =
+    ((export_good ss h (context_behind ss l before) refl name (named_in name (final_names (laid ss))) k.kinds, k.texts.0), tt)
+line_good ss h after before l e word t (what.Directive (line.Import name weak)) k = (k.imports name refl, tt)
+line_good ss h after before l e word t (what.Directive (line.Dcd es)) k = words_good ss h after before l e es k.fits
+line_good ss h after before l e word t (what.Directive (line.Dcdu es)) k = words_good ss h after before l e es k.fits
+line_good ss h after before l e word t (what.Directive d) k = tt
+
+pub line_here : (ss : List Statement) → AreFaultless ss → (after before : List LaidLine) (l : LaidLine) → laid ss ≡ after ++ l ∷ before
+    → AreGoodNames ss (symbols_in (final_names (laid ss)) (final_line (all_locals (laid ss)) l before) (taken l.extent) l.statement.what)
+line_here ss h after before l e =
+    let v = line_valued ss h.values after before l e in
+    line_good ss h after before l e (word_among after l before) (taken l.extent) l.statement.what
+    (record {
+      emitted = v.0.0;
+      emits = v.0.1;
+      kinds = v.1;
+      fits = each_there IsFit ss h.fit after before l e;
+      texts = names_text l.statement (each_there HasTexts ss h.texts after before l e);
+      imports = import_good ss h after before l e;
+    })
+
+-- ---- the symbols of the source
+
+pub with_all : (P : List ℕ → Type 0) (n : List ℕ) (xs : List (List ℕ)) → P n → AllByRecursion P xs → AllByRecursion P (with_name (Some n) xs)
+with_all P n xs h k = by_test (list_any (same n) xs)
+  where
+    by_test : (b : Bool) → AllByRecursion P (cond b xs (xs ++ n ∷ []))
+    by_test true = k
+    by_test false = each_joined P xs (n ∷ []) k (h, tt)
+
+pub listed_all : (P : List ℕ → Type 0) (xs ss : List (List ℕ)) → AllByRecursion P xs → AllByRecursion P ss → AllByRecursion P (listed_behind xs ss)
+listed_all P xs [] h k = h
+listed_all P xs (s ∷ ss) h k = listed_all P (with_name (Some s) xs) ss (with_all P s xs k.0 h) k.1
+
+pub symbols_all : (ss : List Statement) → AreFaultless ss → (after lines : List LaidLine) → laid ss ≡ after ++ lines
+    → AreGoodNames ss (symbols_behind (final_names (laid ss)) (all_locals (laid ss)) lines)
+symbols_all ss h after [] e = tt
+symbols_all ss h after (l ∷ ls) e =
+    let names = final_names (laid ss) in
+    let locals = all_locals (laid ss) in
+    listed_all (IsGoodName ss) (symbols_behind names locals ls) (symbols_in names (final_line locals l ls) (taken l.extent) l.statement.what)
+    (symbols_all ss h (after ++ l ∷ []) ls (e ∙ sym (append_assoc after (l ∷ []) ls))) (line_here ss h after ls l e)
+
+pub listed_apart : (xs ss : List (List ℕ)) → AreApart [] xs → AreApart [] (listed_behind xs ss)
+listed_apart xs [] h = h
+listed_apart xs (s ∷ ss) h = listed_apart (with_name (Some s) xs) ss (apart_with s xs h)
+
+pub symbols_apart : (ss : List Statement) (lines : List LaidLine) → AreApart [] (symbols_behind (final_names (laid ss)) (all_locals (laid ss)) lines)
+symbols_apart ss [] = tt
+symbols_apart ss (l ∷ ls) =
+    listed_apart (symbols_behind (final_names (laid ss)) (all_locals (laid ss)) ls)
+    (symbols_in (final_names (laid ss)) (final_line (all_locals (laid ss)) l ls) (taken l.extent) l.statement.what) (symbols_apart ss ls)
+
+-- ---- records
+
+pub placed_name : (s : Source) (name label : List ℕ) (n : ℕ) (o : Option (ℕ × ℕ)) → (symbol_placed s name label n o).name ≡ name
+placed_name s name label n None = refl
+placed_name s name label n (Some a) = refl
+
+pub valued_name : (s : Source) (name : List ℕ) (v : Value) → (symbol_valued s name v).name ≡ name
+valued_name s name (Number n) = refl
+valued_name s name (Place q n) = placed_name s name q n (stands_at (sees (in_no_line s)) q)
+valued_name s name (Truth b) = refl
+valued_name s name (Words w) = refl
+
+pub symbol_name : (s : Source) (name : List ℕ) (o : Option LaidName) → (symbol_named s name o).name ≡ name
+symbol_name s name None = refl
+symbol_name s name (Some n) = valued_name s name n.value
+
+abbrev pub made : Source → List ℕ → Symbol
+made s name = symbol_named s name (named_in name s.names)
+
+pub exported_lacks : (s : Source) (q : List ℕ) (names : List (List ℕ)) → Lacks names q → Lacks (exported (map (made s) names)) q
+exported_lacks s q [] h = tt
+exported_lacks s q (n ∷ ns) h = by_test (is_exported (made s n).attributes) (exported_lacks s q ns h.1)
+  where
+    by_test : (b : Bool) → Lacks (exported (map (made s) ns)) q → Lacks (cond b ((made s n).name ∷ exported (map (made s) ns)) (exported (map (made s) ns))) q
+    by_test true k = (subst (λ z. z ≢ q) (sym (symbol_name s n (named_in n s.names))) h.0, k)
+    by_test false k = k
+
+pub map_end : {A B : Type 0} → (f : A → B) (xs : List A) (x : A) → map f (xs ++ x ∷ []) ≡ map f xs ++ f x ∷ []
+map_end f [] x = refl
+map_end f (y ∷ ys) x = ap (λ z. f y ∷ z) (map_end f ys x)
+
+-- areas of these sizes
+abbrev pub HaveSizes : List Area → (ℕ → ℕ) → Type 0
+HaveSizes areas sizes = (k : ℕ) (a : Area) → slice_get areas k ≡ Some a → a.size ≡ sizes k
+
+pub within : {A : Type 0} → (xs : List A) (k : ℕ) → k < length xs → (x : A) × (slice_get xs k ≡ Some x)
+within [] k less = absurd (omega (arith, less))
+within (x ∷ xs) zero less = (x, refl)
+within (x ∷ xs) (suc k) less = within xs k (omega (arith, less))
+
+pub head_there : (areas : List Area) (k : ℕ) (a : Area) → slice_get areas k ≡ Some a → slice_get (heads areas) k ≡ Some (head_of a)
+head_there [] k a e = absurd (cc)
+head_there (b ∷ areas) zero a e = let x : b ≡ a = cc in ap (λ z. Some (head_of z)) x
+head_there (b ∷ areas) (suc k) a e = head_there areas k a e
+
+pub lives : (areas : List Area) (sizes : ℕ → ℕ) → HaveSizes areas sizes → (attributes value : ℕ) (o : Option ℕ) → LivesBelow (length areas) sizes attributes value o
+    → Lives (heads areas) attributes value o
+lives areas sizes f attributes value None h = h
+lives areas sizes f attributes value (Some k) h =
+    let a = within areas k h.0 in
+    subst (λ o. IsSomeAnd o (λ t. is_placed attributes ≡ true → value ≤ t.size)) (sym (head_there areas k a.0 a.1))
+    (λ p. subst (λ z. value ≤ z) (sym (f k a.0 a.1)) h.1)
+
+pub records_stand : (s : Source) (areas : List Area) (sizes : ℕ → ℕ) → HaveSizes areas sizes → (before names : List (List ℕ)) → AreApart before names
+    → AllByRecursion (λ q. IsGood (length areas) sizes (made s q)) names
+    → EachStands (λ b t. IsSymbol (exported b) (heads areas) t) (map (made s) before) (map (made s) names)
+records_stand s areas sizes f before [] h k = tt
+records_stand s areas sizes f before (q ∷ names) h k = (
+  record {
+    fresh = λ e. subst (Lacks (exported (map (made s) before))) (sym (symbol_name s q (named_in q s.names))) (exported_lacks s q before h.0);
+    permitted = k.0.allowed.permitted;
+    scope = k.0.allowed.scope;
+    lives = lives areas sizes f (made s q).attributes (made s q).value (made s q).area k.0.lives;
+  },
+  subst (λ z. EachStands (λ b t. IsSymbol (exported b) (heads areas) t) z (map (made s) names)) (map_end (made s) before q)
+      (records_stand s areas sizes f (before ++ q ∷ []) names h.1 k.1),
+)
+
+pub records_text : (s : Source) (names : List (List ℕ)) → AllByRecursion HoldsNoZero names → AllByRecursion (λ t. IsText t.name) (map (made s) names)
+records_text s [] h = tt
+records_text s (q ∷ names) h = (subst HoldsNoZero (sym (symbol_name s q (named_in q s.names))) h.0, records_text s names h.1)
+
+pub each_good : (ss : List Statement) (count : ℕ) → length (areas_behind ss) ≡ count → (names : List (List ℕ)) → AreGoodNames ss names
+    → AllByRecursion (λ q. IsGood count (sizes_of ss) (made (source_of ss) q)) names × AllByRecursion HoldsNoZero names
+each_good ss count e [] h = (tt, tt)
+each_good ss count e (q ∷ names) h =
+    let p = each_good ss count e names h.1 in
+    ((subst (λ z. IsGood z (sizes_of ss) (made (source_of ss) q)) e h.0.0, p.0), (h.0.1, p.1))
+
+pub symbols_are_valid : (ss : List Statement) (o : Object) → AreFaultless ss → IsObject ss o
+    → EachStands (λ before s. IsSymbol (exported before) (heads o.areas) s) [] o.symbols × AllByRecursion (λ s. IsText s.name) o.symbols
+symbols_are_valid ss o h x =
+    let s = source_of ss in
+    let names = symbols_of s.names s.lines in
+    let good = each_good ss (length o.areas) (sym x.count) names (symbols_all ss h [] (laid ss) refl) in (
+      subst (λ z. EachStands (λ before t. IsSymbol (exported before) (heads o.areas) t) [] z) (sym x.symbols)
+          (records_stand s o.areas (sizes_of ss) (λ k a e. (x.areas k a e).size) [] names (symbols_apart ss (laid ss)) good.0),
+      subst (λ z. AllByRecursion (λ t. IsText t.name) z) (sym x.symbols) (records_text s names good.1),
+    )

@@ -1,0 +1,340 @@
+-- The symbols that relocations name are listed.
+use Rattle.std.proofs.Common.{◌≡◌, ℕ, ◌+◌, List, [], ◌∷◌, ◌++◌, length, Bool, true, false, cond, ◌||◌, refl, sym, ◌∙◌, subst, Option, Some, None, ◌⊎◌, inl, inr}
+use Rattle.std.specs.Prelude.{Result, Ok, Err}
+use Rattle.std.specs.List.{AllByRecursion, list_any}
+use Rattle.std.proofs.lemmas.Bool.{or_left, or_right}
+use Rattle.sdt_fault.specs.declared.kinds.LineKind.{LineKind}
+use Rattle.arm_isa.specs.declared.instr.ArmInstr.{ArmInstr}
+use Rattle.asm_model.specs.declared.exprs.Expr.{Expr}
+use Rattle.asm_model.specs.declared.arm_lines.ArmLine.{ArmLine}
+use Rattle.asm_model.specs.declared.arm_lines.ArmLine.TheVariants as arm
+use Rattle.asm_model.specs.declared.thumb_lines.ThumbLine.{ThumbLine}
+use Rattle.asm_model.specs.declared.thumb_lines.ThumbLine.TheVariants as thumb
+use Rattle.asm_model.specs.declared.directives.Boundary.{Boundary}
+use Rattle.asm_model.specs.declared.directives.Boundary.TheVariants as limit
+use Rattle.asm_model.specs.declared.directives.DirectiveLine.{DirectiveLine}
+use Rattle.asm_model.specs.declared.directives.DirectiveLine.TheVariants as line
+use Rattle.asm_model.specs.declared.names.LaidName.{LaidName}
+use Rattle.asm_model.specs.declared.statements.Statement.{Statement}
+use Rattle.asm_model.specs.declared.statements.What.{What}
+use Rattle.asm_model.specs.declared.statements.What.TheVariants as what
+use Rattle.asm_model.specs.declared.values.Value.{Value}
+use Rattle.asm_model.specs.declared.values.Value.TheVariants.{Number, Truth, Words, Place}
+use Rattle.asm_model.specs.AtLine.{SourceLine, Sight}
+use Rattle.asm_model.specs.Forms.{same}
+use Rattle.asm_model.specs.Meaning.{stands_at, in_area}
+use Rattle.asm_model.specs.Says.{on_both, mapped}
+use Rattle.asm_model.proofs.WordLemmas.{same_refl, same_true}
+use Rattle.layout_model.specs.Before.{with_name}
+use Rattle.layout_model.specs.Extents.{Extent, Block, Padding, Loading, number_there, value_there, as_multiple, padding, thumb_extent, extent_of}
+use Rattle.layout_model.specs.Laid.{LaidLine, taken, laid, all_locals, final_line, final_names}
+use Rattle.layout_model.specs.Locals.{Local}
+use Rattle.layout_model.specs.Marks.{datum_names}
+use Rattle.layout_model.specs.Symbols.{literal_value, unless_placed, word_symbols, words_symbols, branch_symbols, arm_symbols, literal_symbols, symbols_in, listed_behind, symbols_behind}
+use Rattle.source_model.specs.ArmForms.{arm_instruction, is_settled}
+use Rattle.source_model.specs.Contexts.{Context, sees, value_of, number_in, and_then}
+use Rattle.source_model.specs.Objects.{Piece, unit_bytes, units_from, or_none, source_of, IsAmong, StandsIn}
+use Rattle.source_model.specs.PseudoForms.{pseudo_instructions}
+use Rattle.source_model.specs.Units.{Emitted, Bytes, Word, Instruction, Stored, Target, Nothing, ByArea, BySymbol, placed, stored, word_units, narrow, half_units, byte_operand, byte_units, linked_symbol, branch_symbol, instruction_units, units}
+use Rattle.source_laws.specs.Laws.{word_among, context_behind}
+use Rattle.source_laws.proofs.AgreeLemmas.{line_sees}
+use Rattle.source_laws.proofs.ThingLemmas.{among_either, is_word, own_units, own_words, seen_extent}
+use Rattle.object_laws.specs.Laws.{IsListed, OptionListed, TargetListed, UnitListed}
+
+-- ---- lists of names
+
+abbrev pub Fewer : List (List ℕ) → List (List ℕ) → Type 0
+Fewer ns ms = (q : List ℕ) → IsListed ns q → IsListed ms q
+
+pub any_joined : (q : List ℕ) (xs ys : List (List ℕ)) → IsListed xs q → IsListed (xs ++ ys) q
+any_joined q [] ys h = absurd (cc)
+any_joined q (x ∷ xs) ys h = by_test (same q x) (any_joined q xs ys) h
+  where
+    by_test : (b : Bool) → (IsListed xs q → IsListed (xs ++ ys) q) → (b || list_any (same q) xs) ≡ true → (b || list_any (same q) (xs ++ ys)) ≡ true
+    by_test true f k = refl
+    by_test false f k = f k
+
+pub any_later : (q : List ℕ) (xs ys : List (List ℕ)) → IsListed ys q → IsListed (xs ++ ys) q
+any_later q [] ys h = h
+any_later q (x ∷ xs) ys h = or_right (same q x) (list_any (same q) (xs ++ ys)) (any_later q xs ys h)
+
+pub alone_listed : (q : List ℕ) → IsListed (q ∷ []) q
+alone_listed q = or_left (same q q) false (same_refl q)
+
+pub with_kept : (q n : List ℕ) (xs : List (List ℕ)) → IsListed xs q → IsListed (with_name (Some n) xs) q
+with_kept q n xs h = by_test (list_any (same n) xs)
+  where
+    by_test : (b : Bool) → IsListed (cond b xs (xs ++ n ∷ [])) q
+    by_test true = h
+    by_test false = any_joined q xs (n ∷ []) h
+
+pub with_named : (n : List ℕ) (xs : List (List ℕ)) → IsListed (with_name (Some n) xs) n
+with_named n xs = by_test (list_any (same n) xs) refl
+  where
+    by_test : (b : Bool) → list_any (same n) xs ≡ b → IsListed (cond b xs (xs ++ n ∷ [])) n
+    by_test true e = e
+    by_test false e = any_later n xs (n ∷ []) (alone_listed n)
+
+pub listed_kept : (q : List ℕ) (xs ss : List (List ℕ)) → IsListed xs q → IsListed (listed_behind xs ss) q
+listed_kept q xs [] h = h
+listed_kept q xs (s ∷ ss) h = listed_kept q (with_name (Some s) xs) ss (with_kept q s xs h)
+
+pub listed_here : (q : List ℕ) (xs ss : List (List ℕ)) → IsListed ss q → IsListed (listed_behind xs ss) q
+listed_here q xs [] h = absurd (cc)
+listed_here q xs (s ∷ ss) h = by_test (same q s) refl (listed_here q (with_name (Some s) xs) ss) h
+  where
+    by_test : (b : Bool) → same q s ≡ b → (IsListed ss q → IsListed (listed_behind (with_name (Some s) xs) ss) q) → (b || list_any (same q) ss) ≡ true
+        → IsListed (listed_behind (with_name (Some s) xs) ss) q
+    by_test true e f k =
+        listed_kept q (with_name (Some s) xs) ss
+        (subst (λ z. IsListed (with_name (Some s) xs) z) (sym (same_true q s e)) (with_named s xs))
+    by_test false e f k = f k
+
+-- the symbols of a line are among those of the source
+pub lines_listed : (names : List LaidName) (locals : List Local) (after before : List LaidLine) (l : LaidLine)
+    → Fewer (symbols_in names (final_line locals l before) (taken l.extent) l.statement.what) (symbols_behind names locals (after ++ l ∷ before))
+lines_listed names locals [] before l q h =
+    listed_here q (symbols_behind names locals before) (symbols_in names (final_line locals l before) (taken l.extent) l.statement.what) h
+lines_listed names locals (x ∷ after) before l q h =
+    listed_kept q (symbols_behind names locals (after ++ l ∷ before))
+    (symbols_in names (final_line locals x (after ++ l ∷ before)) (taken x.extent) x.statement.what) (lines_listed names locals after before l q h)
+
+-- ---- units
+
+pub target_more : (ns ms : List (List ℕ)) (t : Target) → Fewer ns ms → TargetListed ns t → TargetListed ms t
+target_more ns ms Nothing f h = tt
+target_more ns ms (ByArea a) f h = tt
+target_more ns ms (BySymbol s) f h = f s h
+
+pub option_more : (ns ms : List (List ℕ)) (o : Option (List ℕ)) → Fewer ns ms → OptionListed ns o → OptionListed ms o
+option_more ns ms None f h = tt
+option_more ns ms (Some s) f h = f s h
+
+pub unit_more : (ns ms : List (List ℕ)) (u : Emitted) → Fewer ns ms → UnitListed ns u → UnitListed ms u
+unit_more ns ms (Bytes b) f h = tt
+unit_more ns ms (Word w) f h = target_more ns ms w.target f h
+unit_more ns ms (Instruction i o) f h = option_more ns ms o f h
+
+abbrev pub EachListed : List (List ℕ) → List Emitted → Type 0
+EachListed ns us = AllByRecursion (UnitListed ns) us
+
+pub units_more : (ns ms : List (List ℕ)) (us : List Emitted) → Fewer ns ms → EachListed ns us → EachListed ms us
+units_more ns ms [] f h = tt
+units_more ns ms (u ∷ us) f h = (unit_more ns ms u f h.0, units_more ns ms us f h.1)
+
+pub unit_there : (ns : List (List ℕ)) (at : ℕ) (us : List Emitted) (p : Piece) → EachListed ns us → IsAmong p (units_from at us) → UnitListed ns p.1
+unit_there ns at [] p h k = absurd k
+unit_there ns at (u ∷ us) p h (inl e) = subst (λ (z : Piece). UnitListed ns z.1) (sym e) h.0
+unit_there ns at (u ∷ us) p h (inr k) = unit_there ns (at + length (unit_bytes u)) us p h.1 k
+
+abbrev pub ResultListed : List (List ℕ) → Result (List Emitted) LineKind → Type 0
+ResultListed ns (Ok us) = EachListed ns us
+ResultListed ns (Err k) = Unit {0}
+
+-- ---- words
+
+-- the line stands in an area
+abbrev pub InArea : Context → Type 0
+InArea c = (area : ℕ) × (c.line.area ≡ Some area)
+
+abbrev pub StoredListed : List (List ℕ) → Result Stored LineKind → Type 0
+StoredListed ns (Ok w) = TargetListed ns w.target
+StoredListed ns (Err k) = Unit {0}
+
+pub placed_listed : (c : Context) (d : List (List ℕ)) (s : List ℕ) (n : ℕ) (o : Option (ℕ × ℕ)) → TargetListed (unless_placed s o) (placed c d s n o).target
+placed_listed c d s n None = alone_listed s
+placed_listed c d s n (Some a) = tt
+
+pub word_listed : (c : Context) (d : List (List ℕ)) (r : Result Value LineKind) → InArea c → StoredListed (word_symbols (sees c) r) (stored c d r)
+word_listed c d (Ok (Number n)) here = tt
+word_listed c d (Ok (Place [] n)) here = subst (λ o. TargetListed [] (placed c d [] n (in_area o 0)).target) (sym here.1) tt
+word_listed c d (Ok (Place (x ∷ xs) n)) here = placed_listed c d (x ∷ xs) n (stands_at (sees c) (x ∷ xs))
+word_listed c d (Ok (Truth b)) here = tt
+word_listed c d (Ok (Words w)) here = tt
+word_listed c d (Err k) here = tt
+
+pub words_joined : (ns ms : List (List ℕ)) (x : Result Stored LineKind) (y : Result (List Emitted) LineKind) → StoredListed ns x → ResultListed ms y
+    → ResultListed (ns ++ ms) (on_both (λ w us. Word w ∷ us) x y)
+words_joined ns ms (Ok w) (Ok us) h k = (target_more ns (ns ++ ms) w.target (λ q. any_joined q ns ms) h, units_more ms (ns ++ ms) us (λ q. any_later q ns ms) k)
+words_joined ns ms (Ok w) (Err k) h i = tt
+words_joined ns ms (Err k) (Ok us) h i = tt
+words_joined ns ms (Err k) (Err j) h i = tt
+
+pub words_listed : (c : Context) (d : List (List ℕ)) (es : List Expr) → InArea c → ResultListed (words_symbols c.names c.line es) (word_units c d es)
+words_listed c d [] here = tt
+words_listed c d (e ∷ es) here =
+    words_joined (word_symbols (sees c) (value_of c e)) (words_symbols c.names c.line es) (stored c d (value_of c e)) (word_units c d es)
+    (word_listed c d (value_of c e) here) (words_listed c d es here)
+
+-- ---- half-words and bytes
+
+pub bytes_joined : (ns : List (List ℕ)) (x : Result (List ℕ) LineKind) (y : Result (List Emitted) LineKind) → ResultListed ns y
+    → ResultListed ns (on_both (λ b us. Bytes b ∷ us) x y)
+bytes_joined ns (Ok b) (Ok us) h = (tt, h)
+bytes_joined ns (Ok b) (Err k) h = tt
+bytes_joined ns (Err k) (Ok us) h = tt
+bytes_joined ns (Err k) (Err j) h = tt
+
+pub halves_listed : (ns : List (List ℕ)) (c : Context) (es : List Expr) → ResultListed ns (half_units c es)
+halves_listed ns c [] = tt
+halves_listed ns c (e ∷ es) = bytes_joined ns (and_then (number_in c e) (narrow 2)) (half_units c es) (halves_listed ns c es)
+
+pub bytes_listed : (ns : List (List ℕ)) (c : Context) (s : Sight) (es : List Expr) → ResultListed ns (byte_units c s es)
+bytes_listed ns c s [] = tt
+bytes_listed ns c s (e ∷ es) = bytes_joined ns (byte_operand (value_there s e) (value_of c e)) (byte_units c s es) (bytes_listed ns c s es)
+
+-- ---- instructions
+
+pub branch_listed : (b : Bool) (q : List ℕ) → OptionListed (cond b [] (q ∷ [])) (cond b None (Some q))
+branch_listed true q = tt
+branch_listed false q = alone_listed q
+
+pub arm_listed : (c : Context) (l : ArmLine) → OptionListed (arm_symbols c.names c.line l) (branch_symbol c l)
+arm_listed c (arm.Branch condition link target) = by_value (value_of c target)
+  where
+    by_value : (r : Result Value LineKind) → OptionListed (branch_symbols (sees c) r) (linked_symbol c r)
+    by_value (Ok (Place (x ∷ xs) n)) = branch_listed (is_settled c (x ∷ xs)) (x ∷ xs)
+    by_value (Ok (Place [] n)) = tt
+    by_value (Ok (Number n)) = tt
+    by_value (Ok (Truth b)) = tt
+    by_value (Ok (Words w)) = tt
+    by_value (Err k) = tt
+arm_listed c l = tt
+
+pub instruction_listed : (ns : List (List ℕ)) (o : Option (List ℕ)) (r : Result ArmInstr LineKind) → OptionListed ns o
+    → ResultListed ns (mapped (λ i. Instruction i o ∷ []) r)
+instruction_listed ns o (Ok i) h = (h, tt)
+instruction_listed ns o (Err k) h = tt
+
+pub instructions_listed : (ns : List (List ℕ)) (is : List ArmInstr) → EachListed ns (instruction_units is)
+instructions_listed ns [] = tt
+instructions_listed ns (i ∷ is) = (tt, instructions_listed ns is)
+
+pub pseudo_listed : (ns : List (List ℕ)) (r : Result (List ArmInstr) LineKind) → ResultListed ns (mapped instruction_units r)
+pseudo_listed ns (Ok is) = instructions_listed ns is
+pseudo_listed ns (Err k) = tt
+
+-- ---- lines
+
+pub line_listed : (c : Context) (d : List (List ℕ)) (s : Sight) (word : Option ℕ) (e : Extent) (w : What) → InArea c
+    → ResultListed (symbols_in c.names c.line e w) (units c d s word w)
+line_listed c d s word e what.Nothing here = tt
+line_listed c d s word e (what.Arm l) here =
+    instruction_listed (arm_symbols c.names c.line l) (branch_symbol c l) (arm_instruction c l) (arm_listed c l)
+line_listed c d s word e (what.Thumb l) here = tt
+line_listed c d s word e (what.Pseudo l) here = pseudo_listed (literal_symbols c.names c.line e) (pseudo_instructions c word l)
+line_listed c d s word e (what.Directive (line.Dcd es)) here = words_listed c d es here
+line_listed c d s word e (what.Directive (line.Dcdu es)) here = words_listed c d es here
+line_listed c d s word e (what.Directive (line.Dcw es)) here = halves_listed [] c es
+line_listed c d s word e (what.Directive (line.Dcb es)) here = bytes_listed [] c s es
+line_listed c d s word e (what.Directive l) here = tt
+
+-- ---- literals
+
+abbrev pub LoadsNothing : Extent → Type 0
+LoadsNothing (Loading n v) = ⊥
+LoadsNothing _ = Unit {0}
+
+abbrev pub OkLoadsNothing : Result Extent LineKind → Type 0
+OkLoadsNothing (Ok e) = LoadsNothing e
+OkLoadsNothing (Err k) = Unit {0}
+
+pub mapped_loads_nothing : (f : ℕ → Extent) (r : Result ℕ LineKind) → ((n : ℕ) → LoadsNothing (f n)) → OkLoadsNothing (mapped f r)
+mapped_loads_nothing f (Ok n) h = h n
+mapped_loads_nothing f (Err k) h = tt
+
+pub pair_loads_nothing : (f : ℕ → ℕ → Extent) (r q : Result ℕ LineKind) → ((m n : ℕ) → LoadsNothing (f m n)) → OkLoadsNothing (on_both f r q)
+pair_loads_nothing f (Ok m) (Ok n) h = h m n
+pair_loads_nothing f (Ok m) (Err k) h = tt
+pair_loads_nothing f (Err k) (Ok n) h = tt
+pair_loads_nothing f (Err k) (Err j) h = tt
+
+pub padding_loads_nothing : (s : Sight) (b : Boundary) → OkLoadsNothing (padding s b)
+padding_loads_nothing s limit.Word = tt
+padding_loads_nothing s (limit.Multiple e) = mapped_loads_nothing (λ m. Padding m 0) (as_multiple (number_there s e)) (λ n. tt)
+padding_loads_nothing s (limit.Behind e f) = pair_loads_nothing (λ m n. Padding m n) (as_multiple (number_there s e)) (number_there s f) (λ m n. tt)
+
+pub entry_loads_nothing : (b : Bool) → LoadsNothing (cond b (Block 2 0) (Block 4 0))
+entry_loads_nothing true = tt
+entry_loads_nothing false = tt
+
+pub thumb_loads_nothing : (l : ThumbLine) → LoadsNothing (thumb_extent l)
+thumb_loads_nothing (thumb.BranchLink target) = tt
+thumb_loads_nothing l = tt
+
+pub directive_loads_nothing : (s : Sight) (l : DirectiveLine) → OkLoadsNothing (extent_of s (what.Directive l))
+directive_loads_nothing s line.Entry = entry_loads_nothing s.known.thumb
+directive_loads_nothing s (line.Space e) = mapped_loads_nothing (λ n. Block 1 n) (number_there s e) (λ n. tt)
+directive_loads_nothing s (line.Align b) = padding_loads_nothing s b
+directive_loads_nothing s l = tt
+
+-- only a pseudo-instruction has a literal
+abbrev pub IsPseudo : What → Type 0
+IsPseudo (what.Pseudo l) = Unit {0}
+IsPseudo _ = ⊥
+
+pub loading_pseudo : (s : Sight) (w : What) (n : ℕ) (v : Value) → extent_of s w ≡ Ok (Loading n v) → IsPseudo w
+loading_pseudo s what.Nothing n v e = subst OkLoadsNothing e tt
+loading_pseudo s (what.Arm l) n v e = subst OkLoadsNothing e tt
+loading_pseudo s (what.Thumb l) n v e = subst OkLoadsNothing e (thumb_loads_nothing l)
+loading_pseudo s (what.Pseudo l) n v e = tt
+loading_pseudo s (what.Directive l) n v e = subst OkLoadsNothing e (directive_loads_nothing s l)
+
+pub literal_fewer : (names : List LaidName) (l : SourceLine) (e : Extent) (w : What) → IsPseudo w → Fewer (literal_symbols names l e) (symbols_in names l e w)
+literal_fewer names l e (what.Pseudo p) h q k = k
+literal_fewer names l e what.Nothing h q k = absurd h
+literal_fewer names l e (what.Arm a) h q k = absurd h
+literal_fewer names l e (what.Thumb t) h q k = absurd h
+literal_fewer names l e (what.Directive d) h q k = absurd h
+
+pub taken_loading : (r : Result Extent LineKind) (n : ℕ) (v : Value) → taken r ≡ Loading n v → r ≡ Ok (Loading n v)
+taken_loading (Ok e) n v h = cc
+taken_loading (Err k) n v h = absurd (cc)
+
+-- ---- the law
+
+pub here_there : (ss : List Statement) (after before : List LaidLine) (l : LaidLine) (area : ℕ) → laid ss ≡ after ++ l ∷ before → l.area ≡ Some area
+    → InArea (context_behind ss l before)
+here_there ss after before l area e own = (area, (line_sees ss after before l e).1 ∙ own)
+
+pub things_listed : (ss : List Statement) (area : ℕ) (after before : List LaidLine) (l : LaidLine) (p : Piece) → laid ss ≡ after ++ l ∷ before → l.area ≡ Some area
+    → IsAmong p (own_units ss after l before) ⊎ IsAmong p (own_words ss after l before)
+    → UnitListed (symbols_in (final_names (laid ss)) (final_line (all_locals (laid ss)) l before) (taken l.extent) l.statement.what) p.1
+things_listed ss area after before l p e own h = by_kind h
+  where
+    c : Context
+    c = context_behind ss l before
+
+    here : InArea c
+    here = here_there ss after before l area e own
+
+    by_result : (r : Result (List Emitted) LineKind) → ResultListed (symbols_in c.names c.line (taken l.extent) l.statement.what) r
+        → IsAmong p (units_from l.offset (or_none r)) → UnitListed (symbols_in c.names c.line (taken l.extent) l.statement.what) p.1
+    by_result (Ok us) f k = unit_there (symbols_in c.names c.line (taken l.extent) l.statement.what) l.offset us p f k
+    by_result (Err j) f k = absurd k
+
+    by_kind : IsAmong p (own_units ss after l before) ⊎ IsAmong p (own_words ss after l before)
+        → UnitListed (symbols_in c.names c.line (taken l.extent) l.statement.what) p.1
+    by_kind (inl k) =
+        by_result (units c (datum_names ss) l.seen (word_among after l before) l.statement.what)
+        (line_listed c (datum_names ss) l.seen (word_among after l before) (taken l.extent) l.statement.what here) k
+    by_kind (inr k) =
+        let x = is_word ss c (taken l.extent) (word_among after l before) p k in
+        let y = subst (StoredListed (word_symbols (sees c) (literal_value (sees c) x.value))) x.stores (word_listed c (datum_names ss) (literal_value (sees c) x.value) here) in
+        let z = subst (λ t. TargetListed (literal_symbols c.names c.line t) x.holds.target) (sym x.extent) y in
+        let pseudo = loading_pseudo l.seen l.statement.what x.size x.value
+        (sym (seen_extent ss after before l e).0 ∙ taken_loading l.extent x.size x.value x.extent) in
+        subst (λ (t : Piece). UnitListed (symbols_in c.names c.line (taken l.extent) l.statement.what) t.1) (sym x.is)
+        (target_more (literal_symbols c.names c.line (taken l.extent)) (symbols_in c.names c.line (taken l.extent) l.statement.what) x.holds.target
+        (literal_fewer c.names c.line (taken l.extent) l.statement.what pseudo) z)
+
+pub symbols_are_listed : (ss : List Statement) (area : ℕ) (p : Piece) → StandsIn (source_of ss) area p
+    → UnitListed (symbols_behind (final_names (laid ss)) (all_locals (laid ss)) (laid ss)) p.1
+symbols_are_listed ss area p x =
+    let names = final_names (laid ss) in
+    let locals = all_locals (laid ss) in
+    let own = symbols_in names (final_line locals x.owner x.at.before) (taken x.owner.extent) x.owner.statement.what in
+    subst (λ z. UnitListed (symbols_behind names locals z) p.1) (sym x.at.parts)
+    (unit_more own (symbols_behind names locals (x.at.rest ++ x.owner ∷ x.at.before)) p.1 (lines_listed names locals x.at.rest x.at.before x.owner)
+    (things_listed ss area x.at.rest x.at.before x.owner p x.at.parts x.own
+    (among_either p (own_units ss x.at.rest x.owner x.at.before) (own_words ss x.at.rest x.owner x.at.before) x.among)))

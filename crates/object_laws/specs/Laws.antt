@@ -1,0 +1,83 @@
+-- The object of statements without faults is a valid object, part by part. Statements and lines are listed with the last
+-- first. This project's.
+use Rattle.std.specs.Prelude.{◌≡◌, ℕ, ◌^◌, ◌<◌, List, [], length, true, Option, Some, None}
+use Rattle.std.specs.List.{AllByRecursion, list_any}
+use Rattle.chunk_file.specs.Reading.{EachStands}
+use Rattle.aof_object.specs.declared.records.Object.{Object}
+use Rattle.aof_object.specs.Names.{IsText}
+use Rattle.aof_object.specs.Objects.{exported}
+use Rattle.aof_object.specs.Spelling.{area_names}
+use Rattle.aof_object.specs.Validity.{head_of, heads, IsArea, Holds, IsSymbol, IsEntered, IsValid}
+use Rattle.asm_model.specs.declared.statements.Statement.{Statement}
+use Rattle.asm_model.specs.Forms.{same}
+use Rattle.layout_model.specs.Symbols.{symbols_of}
+use Rattle.said_model.specs.Fit.{AllFit}
+use Rattle.said_model.specs.Said.{AllSaid, AllHaveTexts}
+use Rattle.source_model.specs.Objects.{Piece, source_of, StandsIn, IsObject}
+use Rattle.source_model.specs.SourceFaults.{layout_faults, value_faults}
+use Rattle.source_model.specs.Units.{Emitted, Bytes, Word, Instruction, Target, BySymbol}
+use Rattle.source_laws.specs.Laws.{InArmState}
+
+-- ---- symbols that relocations name
+
+abbrev pub IsListed : List (List ℕ) → List ℕ → Type 0
+IsListed names name = list_any (same name) names ≡ true
+
+abbrev pub OptionListed : List (List ℕ) → Option (List ℕ) → Type 0
+OptionListed names None = Unit {0}
+OptionListed names (Some name) = IsListed names name
+
+abbrev pub TargetListed : List (List ℕ) → Target → Type 0
+TargetListed names (BySymbol name) = IsListed names name
+TargetListed names _ = Unit {0}
+
+-- the symbol of a unit, if it has one, is among these
+abbrev pub UnitListed : List (List ℕ) → Emitted → Type 0
+UnitListed names (Bytes b) = Unit {0}
+UnitListed names (Word w) = TargetListed names w.target
+UnitListed names (Instruction i symbol) = OptionListed names symbol
+
+-- each symbol that a thing in an area is relocated by is one of the source's
+abbrev pub SymbolsAreListed : Type 0
+SymbolsAreListed =
+    (statements : List Statement) (area : ℕ) (p : Piece) → StandsIn (source_of statements) area p
+    → UnitListed (symbols_of (source_of statements).names (source_of statements).lines) p.1
+
+-- ---- statements without faults
+
+-- as lines of ARM state say them
+pub record AreFaultless (statements : List Statement) : Type 0 where
+  pub said : AllSaid statements
+  pub texts : AllHaveTexts statements
+  pub fit : AllFit statements
+  pub layout : layout_faults statements ≡ None
+  pub values : value_faults statements ≡ None
+  pub arm : InArmState statements
+
+-- ---- objects
+
+abbrev pub AreasAreValid : Type 0
+AreasAreValid =
+    (statements : List Statement) (o : Object) → AreFaultless statements → IsObject statements o
+    → EachStands (λ before a. IsArea (area_names before) (head_of a)) [] o.areas
+
+-- relocations name areas and symbols by their low 24 bits
+abbrev pub ContentsAreValid : Type 0
+ContentsAreValid =
+    (statements : List Statement) (o : Object) → AreFaultless statements → IsObject statements o
+    → length o.areas < 2 ^ 24 → length o.symbols < 2 ^ 24 → AllByRecursion (Holds (length o.areas) (length o.symbols)) o.areas
+
+abbrev pub SymbolsAreValid : Type 0
+SymbolsAreValid =
+    (statements : List Statement) (o : Object) → AreFaultless statements → IsObject statements o
+    → EachStands (λ before s. IsSymbol (exported before) (heads o.areas) s) [] o.symbols × AllByRecursion (λ s. IsText s.name) o.symbols
+
+abbrev pub EntriesAreValid : Type 0
+EntriesAreValid =
+    (statements : List Statement) (o : Object) → AreFaultless statements → IsObject statements o → IsEntered (heads o.areas) o.entry
+
+abbrev pub ObjectsAreValid : Type 0
+ObjectsAreValid =
+    (statements : List Statement) (o : Object) → AllSaid statements → AllHaveTexts statements → AllFit statements
+    → layout_faults statements ≡ None → value_faults statements ≡ None → InArmState statements
+    → length o.areas < 2 ^ 24 → length o.symbols < 2 ^ 24 → IsObject statements o → IsValid o

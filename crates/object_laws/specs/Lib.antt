@@ -1,0 +1,2 @@
+-- What the laws of objects cite.
+pub mod Laws

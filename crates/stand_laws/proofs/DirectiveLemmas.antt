@@ -1,0 +1,123 @@
+-- The fields of an area's relocations are those of the things that have them.
+use Rattle.std.proofs.Common.{◌≡◌, ◌⊎◌, inl, inr, ℕ, ◌+◌, ◌*◌, ◌^◌, ◌<◌, ◌≤◌, Bool, true, false, cond, List, [], ◌∷◌, length, Option, Some, None, refl, sym, ap, subst, ◌∙◌, arith}
+use Rattle.sdt_word.specs.Numbers.{flag}
+use Rattle.aof_object.specs.declared.records.Reloc.{Reloc}
+use Rattle.arm_isa.specs.declared.instr.ArmInstr.{ArmInstr}
+use Rattle.asm_model.specs.declared.statements.Statement.{Statement}
+use Rattle.layout_model.specs.Laid.{pieces_of, laid}
+use Rattle.layout_model.specs.Offsets.{area_size}
+use Rattle.patch_model.specs.Fields.{Kind, Word as WordField, Branch as BranchField, Values, field_of, is_relative, is_by_symbol, number_named, value_named, is_thumb_label, mark_in, mark_of, added, taken, size_of}
+use Rattle.patch_model.specs.Patched.{IsOutside}
+use Rattle.patch_model.proofs.SumLemmas.{one}
+use Rattle.source_model.specs.Objects.{Piece, unit_bytes, Source, source_of, StandsIn, symbol_number, word_relocs, branch_relocs, relocs_of, IsRelocOf, HasRelocs}
+use Rattle.source_model.specs.Units.{Bytes, Word, Instruction, Stored, Target, Nothing, ByArea, BySymbol}
+use Rattle.source_laws.specs.Laws.{StandApart}
+use Rattle.stand_laws.proofs.GoodLemmas.{TargetWithin, LinkedAligned, IsGood}
+use Rattle.stand_laws.proofs.RelocLemmas.{reloc_at, StandAtOffsets, RelocIs, by_area, by_symbol, of_branch}
+
+-- what is known of what stands in an area
+pub record Facts (ss : List Statement) (area : ℕ) : Type 0 where
+  pub good : (p : Piece) → StandsIn (source_of ss) area p → IsGood (2 ^ 24) p
+  pub symbols : (name : List ℕ) → symbol_number (source_of ss) name < 2 ^ 24
+  pub apart : (p q : Piece) → StandsIn (source_of ss) area p → StandsIn (source_of ss) area q → (p ≡ q) ⊎ StandApart p q
+  pub inside : (p : Piece) → StandsIn (source_of ss) area p → p.0 + length (unit_bytes p.1) ≤ area_size area (pieces_of (laid ss))
+
+-- ---- one field
+
+pub record FieldOf (q : Piece) (r : Reloc) : Type 0 where
+  pub place : (field_of r).place ≡ q.0
+  pub size : size_of (field_of r).kind ≡ length (unit_bytes q.1)
+  pub at_offset : r.offset ≡ q.0
+
+field_by : (q : Piece) (r : Reloc) (kind : Kind) (relative by : Bool) (n : ℕ) → RelocIs r kind relative by n → r.offset ≡ q.0
+    → size_of kind ≡ length (unit_bytes q.1) → FieldOf q r
+field_by q r kind relative by n is e s = record { place = is.place ∙ e; size = ap size_of is.kind_is ∙ s; at_offset = e }
+
+word_field : (s : Source) (at : ℕ) (w : Stored) (t : Target) (r : Reloc) → TargetWithin (2 ^ 24) t → ((name : List ℕ) → symbol_number s name < 2 ^ 24)
+    → IsRelocOf (word_relocs s at t) r → FieldOf (at, Word w) r
+word_field s at w Nothing r good symbols h = absurd h
+word_field s at w (ByArea k) r good symbols (inl e) =
+    subst (λ (z : Reloc). FieldOf (at, Word w) z) (sym e)
+    (field_by (at, Word w) (record { offset = at; word = 2 ^ 31 + 2 * 2 ^ 24 + k }) WordField false false k (by_area at k good) refl refl)
+word_field s at w (ByArea k) r good symbols (inr h) = absurd h
+word_field s at w (BySymbol name) r good symbols (inl e) =
+    let n = symbol_number s name in
+    subst (λ (z : Reloc). FieldOf (at, Word w) z) (sym e)
+    (field_by (at, Word w) (record { offset = at; word = 2 ^ 31 + 2 ^ 27 + 2 * 2 ^ 24 + n }) WordField false true n (by_symbol at n (symbols name)) refl refl)
+word_field s at w (BySymbol name) r good symbols (inr h) = absurd h
+
+branch_field : (s : Source) (at : ℕ) (i : ArmInstr) (o : Option (List ℕ)) (r : Reloc) → LinkedAligned at o → ((name : List ℕ) → symbol_number s name < 2 ^ 24)
+    → IsRelocOf (branch_relocs s at o) r → FieldOf (at, Instruction i o) r
+branch_field s at i None r good symbols h = absurd h
+branch_field s at i (Some name) r good symbols (inl e) =
+    let n = symbol_number s name in
+    subst (λ (z : Reloc). FieldOf (at, Instruction i (Some name)) z) (sym e)
+    (field_by (at, Instruction i (Some name)) (record { offset = at; word = 2 ^ 31 + 2 ^ 27 + 2 ^ 26 + 3 * 2 ^ 24 + n }) (BranchField false) true true n
+    (of_branch at n (symbols name) good) refl refl)
+branch_field s at i (Some name) r good symbols (inr h) = absurd h
+
+pub piece_field : (s : Source) (q : Piece) (r : Reloc) → IsGood (2 ^ 24) q → ((name : List ℕ) → symbol_number s name < 2 ^ 24)
+    → IsRelocOf (relocs_of s q) r → FieldOf q r
+piece_field s (at, Bytes b) r good symbols h = absurd h
+piece_field s (at, Word w) r good symbols h = word_field s at w w.target r good symbols h
+piece_field s (at, Instruction i o) r good symbols h = branch_field s at i o r good.1 symbols h
+
+-- ---- all fields of an area
+
+pub fields_at_offsets : (ss : List Statement) (area : ℕ) (relocs : List Reloc) → Facts ss area → HasRelocs (source_of ss) area relocs → StandAtOffsets relocs
+fields_at_offsets ss area relocs facts has r i =
+    let p = has.no_others r i in
+    let f = piece_field (source_of ss) p.0 r (facts.good p.0 p.1) facts.symbols p.2 in
+    f.place ∙ sym f.at_offset
+
+misses : (i a n x m : ℕ) → a ≡ x → n ≡ m → (i < x) ⊎ (x + m ≤ i) → (i < a) ⊎ (a + n ≤ i)
+misses i a n x m e f (inl h) = inl (omega arith)
+misses i a n x m e f (inr h) = inr (omega arith)
+
+-- a place outside all things that have relocations
+pub outside_fields : (ss : List Statement) (area : ℕ) (relocs : List Reloc) → Facts ss area → HasRelocs (source_of ss) area relocs → (i : ℕ)
+    → ((q : Piece) → StandsIn (source_of ss) area q → (r : Reloc) → IsRelocOf (relocs_of (source_of ss) q) r → (i < q.0) ⊎ (q.0 + length (unit_bytes q.1) ≤ i))
+    → IsOutside relocs i
+outside_fields ss area relocs facts has i away k r there =
+    let p = has.no_others r (reloc_at relocs k r there) in
+    let f = piece_field (source_of ss) p.0 r (facts.good p.0 p.1) facts.symbols p.2 in
+    misses i (field_of r).place (size_of (field_of r).kind) p.0.0 (length (unit_bytes p.0.1)) f.place f.size (away p.0 p.1 r p.2)
+
+-- each place of a thing without relocations
+pub outside_thing : (ss : List Statement) (area : ℕ) (relocs : List Reloc) → Facts ss area → HasRelocs (source_of ss) area relocs
+    → (p : Piece) → StandsIn (source_of ss) area p → relocs_of (source_of ss) p ≡ [] → (i : ℕ) → p.0 ≤ i → i < p.0 + length (unit_bytes p.1) → IsOutside relocs i
+outside_thing ss area relocs facts has p x none i from below = outside_fields ss area relocs facts has i away
+  where
+    away : (q : Piece) → StandsIn (source_of ss) area q → (r : Reloc) → IsRelocOf (relocs_of (source_of ss) q) r → (i < q.0) ⊎ (q.0 + length (unit_bytes q.1) ≤ i)
+    away q y r h = by_case (facts.apart p q x y)
+      where
+        by_case : (p ≡ q) ⊎ StandApart p q → (i < q.0) ⊎ (q.0 + length (unit_bytes q.1) ≤ i)
+        by_case (inl e) =
+            absurd (subst (λ (rs : List Reloc). IsRelocOf rs r) none (subst (λ (z : Piece). IsRelocOf (relocs_of (source_of ss) z) r) (sym e) h))
+        by_case (inr (inl g)) = inl (omega arith)
+        by_case (inr (inr g)) = inr (omega arith)
+
+-- ---- what one directive adds and takes away
+
+value_is : (values : Values) (r : Reloc) (b : Bool) (n : ℕ) → is_by_symbol r ≡ b → number_named r ≡ n → value_named values r ≡ cond b (values.symbol n).number (values.base n)
+value_is values r b n e h =
+    ap (λ c. cond c (values.symbol (number_named r)).number (values.base (number_named r))) e ∙ ap (λ m. cond b (values.symbol m).number (values.base m)) h
+
+mark_is : (values : Values) (r : Reloc) (kind : Kind) (relative by : Bool) (n : ℕ) → RelocIs r kind relative by n
+    → mark_of values r ≡ mark_in kind relative by (is_thumb_label (values.symbol n))
+mark_is values r kind relative by n is =
+    ap (λ k. mark_in k (is_relative r) (is_by_symbol r) (is_thumb_label (values.symbol (number_named r)))) is.kind_is
+    ∙ ap (λ b. mark_in kind b (is_by_symbol r) (is_thumb_label (values.symbol (number_named r)))) is.relative_is
+    ∙ ap (λ b. mark_in kind relative b (is_thumb_label (values.symbol (number_named r)))) is.by_symbol_is
+    ∙ ap (λ m. mark_in kind relative by (is_thumb_label (values.symbol m))) is.number
+
+pub adds : (values : Values) (base : ℕ) (r : Reloc) (kind : Kind) (relative by : Bool) (n : ℕ) → RelocIs r kind relative by n
+    → added values (r ∷ []) ≡ cond by (values.symbol n).number (values.base n) + mark_in kind relative by (is_thumb_label (values.symbol n))
+adds values base r kind relative by n is =
+    (one values base r).0
+    ∙ ap (λ v. v + mark_of values r) (value_is values r by n is.by_symbol_is is.number)
+    ∙ ap (λ m. cond by (values.symbol n).number (values.base n) + m) (mark_is values r kind relative by n is)
+
+pub takes : (values : Values) (base : ℕ) (r : Reloc) (kind : Kind) (relative by : Bool) (n : ℕ) → RelocIs r kind relative by n
+    → taken base (r ∷ []) ≡ base * flag relative
+takes values base r kind relative by n is = (one values base r).1 ∙ ap (λ b. base * flag b) is.relative_is

@@ -1,0 +1,140 @@
+-- A statement by its units, and the zeros where a statement puts nothing.
+use Rattle.std.proofs.Common.{◌≡◌, ℕ, ◌+◌, ◌^◌, ◌<◌, ◌≤◌, List, [], ◌∷◌, ◌++◌, length, Bool, true, false, refl, sym, ◌∙◌, ap, subst, arith, Option, Some, None, ◌⊎◌, inl, inr}
+use Rattle.std.specs.Prelude.{Result, Ok, Err}
+use Rattle.sdt_fault.specs.declared.kinds.LineKind.{LineKind}
+use Rattle.arm_isa.specs.declared.instr.ArmInstr.{ArmInstr}
+use Rattle.asm_model.specs.declared.directives.DirectiveLine.{DirectiveLine}
+use Rattle.asm_model.specs.declared.directives.DirectiveLine.TheVariants as line
+use Rattle.asm_model.specs.declared.statements.Statement.{Statement}
+use Rattle.asm_model.specs.declared.statements.What.{What}
+use Rattle.asm_model.specs.declared.statements.What.TheVariants as what
+use Rattle.asm_model.specs.AtLine.{Sight}
+use Rattle.asm_model.specs.Says.{mapped}
+use Rattle.layout_model.specs.Laid.{LaidLine, taken, pieces_of, laid}
+use Rattle.layout_model.specs.Marks.{datum_names}
+use Rattle.layout_model.specs.Offsets.{area_size, is_pool}
+use Rattle.layout_laws.specs.Sound.{IsSound}
+use Rattle.source_model.specs.ArmForms.{arm_instruction}
+use Rattle.source_model.specs.Objects.{Piece, unit_bytes, units_from, or_none, source_of, StandsIn, IsAmong}
+use Rattle.source_model.specs.PseudoForms.{pseudo_instructions}
+use Rattle.source_model.specs.Units.{Emitted, Instruction, branch_symbol, instruction_units, directive_units, units}
+use Rattle.source_laws.specs.Laws.{is_filled, InArmState, context_behind, word_among}
+use Rattle.source_laws.proofs.LineLemmas.{statements_stand_apart, statements_lie_in_areas}
+use Rattle.source_laws.proofs.ListLemmas.{Before, Same, places}
+use Rattle.source_laws.proofs.SizeLemmas.{other_units_are_none}
+use Rattle.source_laws.proofs.ThingLemmas.{among_either, IsWord, is_word, word_end, own_units, own_words, InLine, in_line, chain}
+use Rattle.source_laws.proofs.WordLemmas.{words_meet_no_statement}
+use Rattle.patch_model.specs.Reaches.{View}
+use Rattle.stand_model.specs.Placed.{ShowsZeros}
+use Rattle.stand_model.specs.Stands.{DirectiveStands, Stands, IsGap, address_behind}
+use Rattle.stand_laws.proofs.ArmLemmas.{Ready, BranchMeets, arm_stands}
+use Rattle.stand_laws.proofs.DataLemmas.{KnownStay, words_stand, halves_stand, bytes_stand, first_shown}
+use Rattle.stand_laws.proofs.PseudoLemmas.{PseudoHolds, pseudo_stands}
+use Rattle.stand_laws.proofs.ResultLemmas.{mapped_ok}
+use Rattle.stand_laws.proofs.ValueLemmas.{Setting, scene, Shown, AllShown}
+
+-- ---- statements
+
+-- what is asked of other statements than those that put something into their area
+abbrev pub DirectiveZero : View → ℕ → ℕ → DirectiveLine → Type 0
+DirectiveZero view a size (line.Space e) = ShowsZeros view a size
+DirectiveZero view a size (line.Align b) = ShowsZeros view a size
+DirectiveZero view a size l = Unit {0}
+
+abbrev pub WhatMeets : Setting → ℕ → ℕ → Option ℕ → What → Type 0
+WhatMeets k a size word what.Nothing = Unit {0}
+WhatMeets k a size word (what.Arm l) = BranchMeets k l
+WhatMeets k a size word (what.Thumb l) = Unit {0}
+WhatMeets k a size word (what.Pseudo l) = PseudoHolds k word l
+WhatMeets k a size word (what.Directive l) = DirectiveZero k.view a size l
+
+pub directive_stands : (k : Setting) (area at a : ℕ) → Ready k area at → a ≡ k.base + at → (s : Sight) (size : ℕ) (l : DirectiveLine) (us : List Emitted)
+    → directive_units k.context (datum_names k.source.statements) s l ≡ Ok us → AllShown k (units_from at us) → KnownStay k.context s
+    → DirectiveZero k.view a size l → DirectiveStands (scene k) a size l
+directive_stands k area at a ready x s size (line.Dcd es) us h shown stay zero = words_stand k es us a at ready.here x h shown
+directive_stands k area at a ready x s size (line.Dcdu es) us h shown stay zero = words_stand k es us a at ready.here x h shown
+directive_stands k area at a ready x s size (line.Dcw es) us h shown stay zero = halves_stand k es us a at ready.here x h shown
+directive_stands k area at a ready x s size (line.Dcb es) us h shown stay zero = bytes_stand k s es us a at ready.here stay x h shown
+directive_stands k area at a ready x s size (line.Space e) us h shown stay zero = zero
+directive_stands k area at a ready x s size (line.Align b) us h shown stay zero = zero
+directive_stands k area at a ready x s size l us h shown stay zero = tt
+
+pub line_stands : (k : Setting) (area at a : ℕ) → Ready k area at → a ≡ k.base + at → (s : Sight) (size : ℕ) (word : Option ℕ) (w : What) (us : List Emitted)
+    → units k.context (datum_names k.source.statements) s word w ≡ Ok us → AllShown k (units_from at us) → KnownStay k.context s
+    → WhatMeets k a size word w → Stands (scene k) a size (address_behind k.base word) w
+line_stands k area at a ready x s size word what.Nothing us h shown stay meets = tt
+line_stands k area at a ready x s size word (what.Arm l) us h shown stay meets =
+    let f : ArmInstr → List Emitted = λ i. Instruction i (branch_symbol k.context l) ∷ [] in
+    let m = mapped_ok f (arm_instruction k.context l) us h in
+    arm_stands k area at a ready x l m.from m.is (first_shown k at (Instruction m.from (branch_symbol k.context l)) [] us m.gives shown).0 meets
+line_stands k area at a ready x s size word (what.Thumb l) us h shown stay meets = absurd (cc)
+line_stands k area at a ready x s size word (what.Pseudo l) us h shown stay meets =
+    let m = mapped_ok instruction_units (pseudo_instructions k.context word l) us h in
+    pseudo_stands k area at a ready x word l m.from m.is (subst (λ z. AllShown k (units_from at z)) (sym m.gives) shown) meets
+line_stands k area at a ready x s size word (what.Directive l) us h shown stay meets = directive_stands k area at a ready x s size l us h shown stay meets
+
+-- ---- zeros
+
+pub lies_before : (i offset size start end : ℕ) → i < size → offset + size ≤ start → offset + i < start
+lies_before i offset size start end h k = omega arith
+
+pub lies_behind : (i offset end m : ℕ) → end ≤ m → m ≤ offset → end ≤ offset + i
+lies_behind i offset end m h k = omega arith
+
+pub lies_inside : (i offset size all : ℕ) → i < size → offset + size ≤ all → offset + i < all
+lies_inside i offset size all h k = omega arith
+
+-- a statement that is neither an instruction nor data, and no pool
+pub nothing_there : (ss : List Statement) → IsSound ss → InArmState ss → (area : ℕ) (after before : List LaidLine) (l : LaidLine)
+    → laid ss ≡ after ++ l ∷ before → l.area ≡ Some area → is_filled l.statement.what ≡ false → is_pool (taken l.extent) ≡ false
+    → (i : ℕ) → i < l.size → IsGap (source_of ss) area (l.offset + i)
+nothing_there ss sound arm area after before l e here bare pool i small p x =
+    by_kind (among_either p (own_units ss x.at.rest x.owner x.at.before) (own_words ss x.at.rest x.owner x.at.before) x.among)
+  where
+    m : LaidLine
+    m = x.owner
+
+    of_place : IsAmong p (own_units ss x.at.rest m x.at.before) → InLine m p
+        → Same after l before x.at.rest m x.at.before ⊎ (Before after l before x.at.rest m x.at.before ⊎ Before x.at.rest m x.at.before after l before)
+        → (l.offset + i < p.0) ⊎ (p.0 + length (unit_bytes p.1) ≤ l.offset + i)
+    of_place k inside (inl s) =
+        let none = other_units_are_none (context_behind ss m x.at.before) (datum_names ss) m.seen (word_among x.at.rest m x.at.before) m.statement.what
+            (subst (λ (z : LaidLine). is_filled z.statement.what ≡ false) s.0 bare) in
+        let k2 : IsAmong p [] = subst (λ r. IsAmong p (units_from m.offset (or_none r))) none k in
+        absurd k2
+    of_place k inside (inr (inl b)) =
+        inr (lies_behind i l.offset (p.0 + length (unit_bytes p.1)) (m.offset + m.size) inside.1
+        (statements_stand_apart ss sound area after b.0 x.at.before l m (e ∙ ap (λ z. after ++ l ∷ z) b.1) here x.own))
+    of_place k inside (inr (inr b)) =
+        inl (lies_before i l.offset l.size p.0 0 small
+        (chain (l.offset + l.size) m.offset m.offset p.0
+        (statements_stand_apart ss sound area x.at.rest b.0 before m l (x.at.parts ∙ ap (λ z. x.at.rest ++ m ∷ z) b.1) x.own here) (omega arith) inside.0))
+
+    of_word : IsWord ss (context_behind ss m x.at.before) (taken m.extent) (word_among x.at.rest m x.at.before) p
+        → (l.offset + i < p.0) ⊎ (p.0 + length (unit_bytes p.1) ≤ l.offset + i)
+    of_word w =
+        by_side (word_end w.place w.holds p w.is) (words_meet_no_statement ss sound area x.at.rest x.at.before m w.place x.at.parts x.own w.stands after before l e here pool)
+      where
+        by_side : (p.0 ≡ w.place) × (p.0 + length (unit_bytes p.1) ≡ w.place + 4) → (l.offset + l.size ≤ w.place) ⊎ (w.place + 4 ≤ l.offset)
+            → (l.offset + i < p.0) ⊎ (p.0 + length (unit_bytes p.1) ≤ l.offset + i)
+        by_side y (inl a) = inl (lies_before i l.offset l.size p.0 0 small (subst (λ z. l.offset + l.size ≤ z) (sym y.0) a))
+        by_side y (inr a) = inr (subst (λ z. z ≤ l.offset + i) (sym y.1) (lies_behind i l.offset (w.place + 4) l.offset a (omega arith)))
+
+    by_kind : IsAmong p (own_units ss x.at.rest m x.at.before) ⊎ IsAmong p (own_words ss x.at.rest m x.at.before)
+        → (l.offset + i < p.0) ⊎ (p.0 + length (unit_bytes p.1) ≤ l.offset + i)
+    by_kind (inl k) = of_place k (in_line ss sound arm area x.at.rest x.at.before m p x.at.parts x.own k) (places after before x.at.rest x.at.before l m (sym e ∙ x.at.parts))
+    by_kind (inr k) = of_word (is_word ss (context_behind ss m x.at.before) (taken m.extent) (word_among x.at.rest m x.at.before) p k)
+
+pub zeros_there : (ss : List Statement) → IsSound ss → InArmState ss → (area : ℕ) (after before : List LaidLine) (l : LaidLine)
+    → laid ss ≡ after ++ l ∷ before → l.area ≡ Some area → is_filled l.statement.what ≡ false → is_pool (taken l.extent) ≡ false
+    → (view : View) (base : ℕ)
+    → ((i : ℕ) → i < area_size area (pieces_of (laid ss)) → IsGap (source_of ss) area i → view (base + i) ≡ Some 0)
+    → ShowsZeros view (base + l.offset) l.size
+zeros_there ss sound arm area after before l e here bare pool view base gaps i small =
+    ap view (together base l.offset i)
+    ∙ gaps (l.offset + i)
+      (lies_inside i l.offset l.size (area_size area (pieces_of (laid ss))) small (statements_lie_in_areas ss sound area after before l e here))
+      (nothing_there ss sound arm area after before l e here bare pool i small)
+  where
+    together : (b o i : ℕ) → b + o + i ≡ b + (o + i)
+    together b o i = omega arith

@@ -1,0 +1,193 @@
+-- A line of a source stands where memory shows what it puts into its area.
+use Rattle.std.proofs.Common.{◌≡◌, ℕ, ◌+◌, ◌%◌, ◌^◌, ◌<◌, ◌≤◌, List, [], ◌∷◌, ◌++◌, length, Bool, true, false, refl, sym, ◌∙◌, ap, subst, arith, Option, Some, None, ◌⊎◌, inl, inr}
+use Rattle.std.specs.Prelude.{Result, Ok, Err}
+use Rattle.std.specs.List.{list_any}
+use Rattle.sdt_fault.specs.declared.kinds.LineKind.{LineKind}
+use Rattle.sdt_word.specs.declared.codes.Condition.{Condition}
+use Rattle.sdt_word.specs.declared.ranges.Range32.{Range32}
+use Rattle.aof_object.specs.declared.records.Object.{Object}
+use Rattle.asm_model.specs.declared.arm_lines.ArmLine.{ArmLine}
+use Rattle.asm_model.specs.declared.arm_lines.ArmLine.TheVariants as arm
+use Rattle.asm_model.specs.declared.directives.Boundary.{Boundary}
+use Rattle.asm_model.specs.declared.directives.Boundary.TheVariants as limit
+use Rattle.asm_model.specs.declared.directives.DirectiveLine.{DirectiveLine}
+use Rattle.asm_model.specs.declared.directives.DirectiveLine.TheVariants as line
+use Rattle.asm_model.specs.declared.exprs.Expr.{Expr}
+use Rattle.asm_model.specs.declared.names.LaidName.{LaidName}
+use Rattle.asm_model.specs.declared.operands.Register.{Register}
+use Rattle.asm_model.specs.declared.statements.PseudoLine.{PseudoLine}
+use Rattle.asm_model.specs.declared.statements.PseudoLine.TheVariants as pseudo
+use Rattle.asm_model.specs.declared.statements.Statement.{Statement}
+use Rattle.asm_model.specs.declared.statements.What.{What}
+use Rattle.asm_model.specs.declared.statements.What.TheVariants as what
+use Rattle.asm_model.specs.declared.values.Value.{Value}
+use Rattle.asm_model.specs.AtLine.{Sight}
+use Rattle.asm_model.specs.Forms.{same}
+use Rattle.asm_model.specs.Meaning.{named_in, entry_stands_at, in_area}
+use Rattle.layout_model.specs.Extents.{Extent, Block, Padding, number_there, as_multiple, padding, directive_extent, extent_of}
+use Rattle.layout_model.specs.Laid.{LaidLine, taken, pieces_of, declared, laid, all_locals, final_line, final_names}
+use Rattle.layout_model.specs.LayoutKinds.{equals_in, settled}
+use Rattle.layout_model.specs.Marks.{datum_names}
+use Rattle.layout_model.specs.Offsets.{area_size, is_pool}
+use Rattle.layout_model.specs.PlacedLines.{AllNamed}
+use Rattle.layout_model.specs.Placing.{CountFromHere, address_at, address_of}
+use Rattle.layout_model.specs.Symbols.{final_sight, symbols_in, symbols_of, symbols_behind}
+use Rattle.layout_model.proofs.PlacedLemmas.{laid_lines_count_from_here, final_names_have_symbols}
+use Rattle.layout_laws.specs.Sound.{IsSound, IsBare, ArePlain}
+use Rattle.layout_laws.proofs.FinalLemmas.{known_values_are_final}
+use Rattle.object_laws.specs.Laws.{IsListed, OptionListed}
+use Rattle.object_laws.proofs.FaultLemmas.{layout_here, line_valued}
+use Rattle.object_laws.proofs.SizeLemmas.{line_small}
+use Rattle.object_laws.proofs.TargetLemmas.{arm_listed, lines_listed}
+use Rattle.patch_model.specs.Fields.{Values}
+use Rattle.patch_model.specs.Reaches.{View}
+use Rattle.source_model.specs.Contexts.{Context, sees, value_of}
+use Rattle.source_model.specs.Objects.{Piece, Source, source_of, At, IsAmong, pieces_at, word_at, units_from, or_none, symbol_number, IsObject}
+use Rattle.source_model.specs.SourceFaults.{layout_faults, symbol_names}
+use Rattle.source_model.specs.Units.{Emitted, linked_symbol, branch_symbol, units}
+use Rattle.source_laws.specs.Laws.{is_filled, InArmState, context_behind, word_among}
+use Rattle.source_laws.proofs.AgreeLemmas.{line_sees}
+use Rattle.source_laws.proofs.FaultlessLemmas.{faultless_layouts_are_sound}
+use Rattle.source_laws.proofs.LineLemmas.{is_laid}
+use Rattle.source_laws.proofs.ListedLemmas.{among_first, among_last}
+use Rattle.source_laws.proofs.ThingLemmas.{own_units, own_words, known_extent}
+use Rattle.stand_model.specs.Placed.{ShowsZeros, IsPlaced}
+use Rattle.stand_model.specs.Shown.{IsShown, meant_by}
+use Rattle.stand_model.specs.Stands.{Stands, IsGap, scene_at, address_behind}
+use Rattle.stand_laws.specs.Laws.{IsFaultless}
+use Rattle.stand_laws.proofs.ArmLemmas.{Ready, SymbolMeets, BranchMeets}
+use Rattle.stand_laws.proofs.LineLemmas.{DirectiveZero, WhatMeets, line_stands, zeros_there}
+use Rattle.stand_laws.proofs.PseudoLemmas.{LiteralHolds, PseudoHolds}
+use Rattle.stand_laws.proofs.ResultLemmas.{both_ok, mapped_ok}
+use Rattle.stand_laws.proofs.SymbolLemmas.{symbol_placed_there, each_bare, symbols_bare}
+use Rattle.stand_laws.proofs.ValueLemmas.{scene, AllShown, setting}
+use Rattle.stand_laws.proofs.WordLemmas.{literal_holds}
+
+-- ---- what is known of a line
+
+pub near_enough : (offset size : ℕ) → offset + size ≤ 2 ^ 24 → offset + 8 ≤ 2 ^ 32
+near_enough offset size h = omega arith
+
+pub line_ready : (ss : List Statement) → AllNamed ss → layout_faults ss ≡ None → (values : Values) (view : View) (region : Range32) (area : ℕ)
+    (after before : List LaidLine) (l : LaidLine) → laid ss ≡ after ++ l ∷ before → l.area ≡ Some area
+    → Ready (setting ss values view region area l before) area l.offset
+line_ready ss named none values view region area after before l e own =
+    let N = final_names (laid ss) in
+    let p = is_laid (declared ss) ss after before l e in
+    record {
+      here = subst (λ (z : LaidLine). CountFromHere (final_sight N (final_line (all_locals (laid ss)) z before))) (sym p.1)
+          (laid_lines_count_from_here N (all_locals (laid ss)) (declared ss) p.0 before (final_names_have_symbols ss named));
+      based = refl;
+      own = (line_sees ss after before l e).1 ∙ own;
+      starts = subst (λ (z : LaidLine). z.line.offset ≡ z.offset) (sym p.1) refl;
+      small = near_enough l.offset l.size (line_small (settled (equals_in ss)) l before (layout_here ss none after before l e));
+    }
+
+-- ---- branches to symbols
+
+pub address_meets : (ss : List Statement) (o : Object) → IsObject ss o → (own : ℕ) (values : Values) (area_at : ℕ → ℕ → ℕ) → IsPlaced own o values area_at
+    → (view : View) (region : Range32) (area : ℕ) (l : LaidLine) (before : List LaidLine) (c : ℕ) (cs : List ℕ)
+    → IsListed (symbols_of (source_of ss).names (source_of ss).lines) (c ∷ cs)
+    → (x : Option LaidName) → named_in (c ∷ cs) (final_names (laid ss)) ≡ x
+    → address_at (scene (setting ss values view region area l before)).placing (c ∷ cs) (entry_stands_at x) % 2 ^ 32
+    ≡ (meant_by (source_of ss) values (c ∷ cs)).number % 2 ^ 32
+address_meets ss o obj own values area_at placed view region area l before c cs there None e = refl
+address_meets ss o obj own values area_at placed view region area l before c cs there (Some n) e = by_place (in_area n.area n.offset) refl
+  where
+    by_place : (a : Option (ℕ × ℕ)) → in_area n.area n.offset ≡ a
+        → address_at (scene (setting ss values view region area l before)).placing (c ∷ cs) a % 2 ^ 32 ≡ (meant_by (source_of ss) values (c ∷ cs)).number % 2 ^ 32
+    by_place None h = refl
+    by_place (Some a) h = symbol_placed_there ss o obj own values area_at placed c cs n a there e h
+
+pub line_meets : (ss : List Statement) → ArePlain ss → (o : Object) → IsObject ss o → (own : ℕ) (values : Values) (area_at : ℕ → ℕ → ℕ) → IsPlaced own o values area_at
+    → (view : View) (region : Range32) (area : ℕ) (after before : List LaidLine) (l : LaidLine) → laid ss ≡ after ++ l ∷ before
+    → (a : ArmLine) → l.statement.what ≡ what.Arm a → BranchMeets (setting ss values view region area l before) a
+line_meets ss plain o obj own values area_at placed view region area after before l e (arm.Branch condition link target) w = λ c cs h listed.
+    let N = final_names (laid ss) in
+    let locals = all_locals (laid ss) in
+    let q : List ℕ = c ∷ cs in
+    let k = context_behind ss l before in
+    let bare = each_bare q (symbol_names ss) (symbols_bare ss plain) listed in
+    let here : IsListed (symbols_in N (final_line locals l before) (taken l.extent) (what.Arm (arm.Branch condition link target))) q =
+    subst (OptionListed (symbols_in N (final_line locals l before) (taken l.extent) (what.Arm (arm.Branch condition link target)))) h
+    (arm_listed k (arm.Branch condition link target)) in
+    let there : IsListed (symbols_behind N locals (laid ss)) q =
+    subst (λ z. IsListed (symbols_behind N locals z) q) (sym e)
+    (lines_listed N locals after before l q
+    (subst (λ z. IsListed (symbols_in N (final_line locals l before) (taken l.extent) z) q) (sym w) here)) in
+    ap (λ z. address_at (scene (setting ss values view region area l before)).placing q (entry_stands_at z) % 2 ^ 32) ((line_sees ss after before l e).0 q bare)
+    ∙ address_meets ss o obj own values area_at placed view region area l before c cs there (named_in q N) refl
+line_meets ss plain o obj own values area_at placed view region area after before l e a w = tt
+
+-- ---- SPACE and ALIGN
+
+pub space_no_pool : (s : Sight) (e : Expr) (x : Extent) → directive_extent s (line.Space e) ≡ Ok x → is_pool x ≡ false
+space_no_pool s e x h =
+    let f : ℕ → Extent = λ n. Block 1 n in
+    let m = mapped_ok f (number_there s e) x h in
+    ap is_pool (sym m.gives)
+
+pub align_no_pool : (s : Sight) (b : Boundary) (x : Extent) → padding s b ≡ Ok x → is_pool x ≡ false
+align_no_pool s limit.Word x h = let e : Padding 4 0 ≡ x = cc in ap is_pool (sym e)
+align_no_pool s (limit.Multiple e) x h =
+    let f : ℕ → Extent = λ m. Padding m 0 in
+    let m = mapped_ok f (as_multiple (number_there s e)) x h in
+    ap is_pool (sym m.gives)
+align_no_pool s (limit.Behind e g) x h =
+    let f : ℕ → ℕ → Extent = λ m n. Padding m n in
+    let m = both_ok f (as_multiple (number_there s e)) (number_there s g) x h in
+    ap is_pool (sym m.gives)
+
+pub directive_zero : (view : View) (a size : ℕ) (s : Sight) (x : Extent) (d : DirectiveLine) → directive_extent s d ≡ Ok x
+    → (is_filled (what.Directive d) ≡ false → is_pool x ≡ false → ShowsZeros view a size) → DirectiveZero view a size d
+directive_zero view a size s x (line.Space e) h zeros = zeros refl (space_no_pool s e x h)
+directive_zero view a size s x (line.Align b) h zeros = zeros refl (align_no_pool s b x h)
+directive_zero view a size s x d h zeros = tt
+
+-- ---- lines
+
+pub what_meets : (ss : List Statement) (fine : IsFaultless ss) (o : Object) → IsObject ss o → (own : ℕ) (values : Values) (area_at : ℕ → ℕ → ℕ) → IsPlaced own o values area_at
+    → (view : View) (region : Range32) (area : ℕ) (after before : List LaidLine) (l : LaidLine) → laid ss ≡ after ++ l ∷ before → l.area ≡ Some area
+    → ((condition : Condition) (rd : Register) (v : Expr) → l.statement.what ≡ what.Pseudo (pseudo.LoadConstant condition rd v)
+    → LiteralHolds (setting ss values view region area l before) v (word_among after l before))
+    → ((i : ℕ) → i < area_size area (pieces_of (laid ss)) → IsGap (source_of ss) area i → view (values.base area + i) ≡ Some 0)
+    → (w : What) → l.statement.what ≡ w
+    → WhatMeets (setting ss values view region area l before) (values.base area + l.offset) l.size (word_among after l before) w
+what_meets ss fine o obj own values area_at placed view region area after before l e here holds gaps what.Nothing x = tt
+what_meets ss fine o obj own values area_at placed view region area after before l e here holds gaps (what.Arm a) x =
+    line_meets ss (faultless_layouts_are_sound ss fine.said fine.laid_out).1 o obj own values area_at placed view region area after before l e a x
+what_meets ss fine o obj own values area_at placed view region area after before l e here holds gaps (what.Thumb t) x = tt
+what_meets ss fine o obj own values area_at placed view region area after before l e here holds gaps (what.Pseudo (pseudo.LoadConstant condition rd v)) x = holds condition rd v x
+what_meets ss fine o obj own values area_at placed view region area after before l e here holds gaps (what.Pseudo p) x = tt
+what_meets ss fine o obj own values area_at placed view region area after before l e here holds gaps (what.Directive d) x =
+    let sound = (faultless_layouts_are_sound ss fine.said fine.laid_out).0 in
+    directive_zero view (values.base area + l.offset) l.size l.seen (taken l.extent) d
+    (ap (extent_of l.seen) (sym x) ∙ known_extent ss sound after before l e)
+    (λ bare pool. zeros_there ss sound fine.arm_state area after before l e here (ap is_filled x ∙ bare) pool view (values.base area) gaps)
+
+pub shown_lines_stand : (ss : List Statement) (o : Object) → IsFaultless ss → IsObject ss o → length o.symbols < 2 ^ 24
+    → (own : ℕ) (values : Values) (area_at : ℕ → ℕ → ℕ) (view : View) (region : Range32)
+    → IsPlaced own o values area_at
+    → (l : LaidLine) (at : At (source_of ss) l) (area : ℕ) → l.area ≡ Some area
+    → ((p : Piece) → IsAmong p (pieces_at (source_of ss) l at) → IsShown (source_of ss) values view region (values.base area) p)
+    → ((i : ℕ) → i < area_size area (pieces_of (laid ss)) → IsGap (source_of ss) area i → view (values.base area + i) ≡ Some 0)
+    → Stands (scene_at (source_of ss) l at view region values) (values.base area + l.offset) l.size
+    (address_behind (values.base area) (word_at (source_of ss) l at)) l.statement.what
+shown_lines_stand ss o fine obj small own values area_at view region placed l at area here shown gaps =
+    let after = at.rest in
+    let before = at.before in
+    let e = at.parts in
+    let k = setting ss values view region area l before in
+    let plain = faultless_layouts_are_sound ss fine.said fine.laid_out in
+    let u = (line_valued ss fine.valued after before l e).0 in
+    let word = word_among after l before in
+    let units_shown : AllShown k (units_from l.offset u.0) =
+    λ p h. shown p (among_first p (own_units ss after l before) (own_words ss after l before)
+      (subst (λ r. IsAmong p (units_from l.offset (or_none r))) (sym u.1) h)) in
+    let words_shown : AllShown k (own_words ss after l before) =
+    λ p h. shown p (among_last p (own_units ss after l before) (own_words ss after l before) h) in
+    let ready = line_ready ss fine.named fine.laid_out values view region area after before l e here in
+    line_stands k area l.offset (values.base area + l.offset) ready refl l.seen l.size word
+    l.statement.what u.0 u.1 units_shown (known_values_are_final ss plain.0 plain.1 after before l e)
+    (what_meets ss fine o obj own values area_at placed view region area after before l e here
+    (λ condition rd x w. literal_holds ss fine values view region area after before l e ready.here words_shown condition rd x w word refl) gaps l.statement.what refl)

@@ -1,0 +1,248 @@
+-- The word of a line's literal holds the value of its expression.
+use Rattle.std.proofs.Common.{◌≡◌, ℕ, ◌+◌, ◌%◌, ◌^◌, List, [], ◌∷◌, ◌++◌, Bool, true, false, cond, refl, sym, ◌∙◌, ap, subst, arith, Option, Some, None, ◌⊎◌, inl, inr}
+use Rattle.std.specs.Prelude.{Result, Ok, Err}
+use Rattle.sdt_fault.specs.declared.kinds.LineKind.{LineKind}
+use Rattle.sdt_word.specs.declared.codes.Condition.{Condition}
+use Rattle.sdt_word.specs.declared.ranges.Range32.{Range32}
+use Rattle.asm_model.specs.declared.exprs.BinaryOp.TheVariants.{Add}
+use Rattle.asm_model.specs.declared.exprs.Expr.{Expr}
+use Rattle.asm_model.specs.declared.exprs.ExprItem.{ExprItem}
+use Rattle.asm_model.specs.declared.names.LaidName.{LaidName}
+use Rattle.asm_model.specs.declared.names.Names.{Names}
+use Rattle.asm_model.specs.declared.operands.Register.{Register}
+use Rattle.asm_model.specs.declared.statements.PseudoLine.TheVariants as pseudo
+use Rattle.asm_model.specs.declared.statements.Statement.{Statement}
+use Rattle.asm_model.specs.declared.statements.What.{What}
+use Rattle.asm_model.specs.declared.statements.What.TheVariants as what
+use Rattle.asm_model.specs.declared.values.Value.{Value}
+use Rattle.asm_model.specs.declared.values.Value.TheVariants.{Number, Truth, Words, Place}
+use Rattle.asm_model.specs.AtLine.{Sight, name_kinds, value_at, kept_names, literal_or, literal_at}
+use Rattle.asm_model.specs.Grammar.{Tree}
+use Rattle.asm_model.specs.Meaning.{named_in, stands_at, binary, value_of as entry_value, on_both, meaning}
+use Rattle.asm_model.proofs.LineLemmas.{both_empty, named_front, told_nothing}
+use Rattle.layout_model.specs.Extents.{Extent, Block, Padding, Loading, Pool, is_moved, loading, tree_literal, literal_there, extent_of}
+use Rattle.layout_model.specs.Labels.{defined_by}
+use Rattle.layout_model.specs.Laid.{Declared, declared, LaidLine, taken, pieces_of, laid_behind, laid_of, laid, all_locals, final_names}
+use Rattle.layout_model.specs.LayoutKinds.{fault_kinds}
+use Rattle.layout_model.specs.Marks.{datum_names}
+use Rattle.layout_model.specs.Offsets.{Piece as LaidPiece}
+use Rattle.layout_model.specs.Placing.{CountFromHere}
+use Rattle.layout_model.specs.Symbols.{literal_value}
+use Rattle.layout_model.specs.Trees.{tree_of}
+use Rattle.layout_laws.specs.Sound.{IsSound, HaveNoPlaces, ArePlain}
+use Rattle.layout_laws.proofs.FinalLemmas.{AllKnownFinally, all_known, known_there, source_final, source_holds}
+use Rattle.layout_laws.proofs.FoundLemmas.{tree_final, final_tree}
+use Rattle.layout_laws.proofs.RoundLemmas.{ResultIs}
+use Rattle.object_laws.proofs.FaultLemmas.{sizes_of, valued_here, known_result}
+use Rattle.object_laws.proofs.OriginLemmas.{IsOwn, line_to, names_own, anything, any_tree, line_local}
+use Rattle.patch_model.specs.Fields.{Values}
+use Rattle.patch_model.specs.Reaches.{View, ShowsWord}
+use Rattle.said_model.specs.Said.{AllSaid, LoadsBare}
+use Rattle.source_model.specs.Contexts.{Context, sees, value_of}
+use Rattle.source_model.specs.Objects.{Piece, in_order, IsAmong, literal_unit, literal_piece}
+use Rattle.source_model.specs.SourceFaults.{value_faults, word_of}
+use Rattle.source_model.specs.Units.{Emitted, Word, Stored, Nothing, placed, stored, units}
+use Rattle.source_model.specs.ValueKinds.{statement_kinds, literal_kinds as value_literal_kinds}
+use Rattle.source_laws.specs.Laws.{context_behind, word_among}
+use Rattle.source_laws.proofs.BareLemmas.{ItemsEach, TreeEach, HoldsConstant, no_place_holds, tree_each}
+use Rattle.source_laws.proofs.FaultlessLemmas.{faultless_layouts_are_sound}
+use Rattle.source_laws.proofs.ListLemmas.{same_first, same_rest}
+use Rattle.source_laws.proofs.ThingLemmas.{own_words, known_extent}
+use Rattle.stand_model.specs.Stands.{WordStands}
+use Rattle.stand_laws.specs.Laws.{AllItemsNamed, LoadNamed, AllLoadsNamed, IsFaultless}
+use Rattle.stand_laws.proofs.DataLemmas.{total_of, word_stands}
+use Rattle.stand_laws.proofs.KeptLemmas.{IsLoaded, constants_hold, kept_loads}
+use Rattle.stand_laws.proofs.LiteralLemmas.{Same32, Plus, Later, Loads}
+use Rattle.stand_laws.proofs.PseudoLemmas.{LiteralHolds}
+use Rattle.stand_laws.proofs.ResultLemmas.{mapped_ok}
+use Rattle.stand_laws.proofs.ValueLemmas.{Setting, scene, AllShown, setting}
+
+-- ---- one word
+
+-- a result is stored as a word that comes to the same
+abbrev pub StoresSame : Setting → Result Value LineKind → Stored → Type 0
+StoresSame k r st = (w : Stored) × (stored k.context (datum_names k.source.statements) r ≡ Ok w) × (total_of k w ≡ total_of k st)
+
+pub sum_same : (k j t : ℕ) → Same32 k j → (k + t) % 2 ^ 32 ≡ (j + t) % 2 ^ 32
+sum_same k j t h = omega (arith, h)
+
+pub offset_same : (o k j t b : ℕ) → Same32 k j → ((o + k + t) % 2 ^ 32 + b) % 2 ^ 32 ≡ ((o + j + t) % 2 ^ 32 + b) % 2 ^ 32
+offset_same o k j t b h = omega (arith, h)
+
+pub placed_same : (k : Setting) (q : List ℕ) (m n : ℕ) (o : Option (ℕ × ℕ)) → Same32 m n
+    → total_of k (placed k.context (datum_names k.source.statements) q m o) ≡ total_of k (placed k.context (datum_names k.source.statements) q n o)
+placed_same k q m n None h = sum_same m n _ h
+placed_same k q m n (Some a) h = offset_same a.1 m n _ _ h
+
+pub mod_same : (k m n : ℕ) → Same32 k (m + n) → Same32 k ((m + n) % 2 ^ 32)
+mod_same k m n h = omega (arith, h)
+
+pub stored_from : (k : Setting) (q : Result Value LineKind) (w st : Stored) → stored k.context (datum_names k.source.statements) q ≡ Ok w
+    → stored k.context (datum_names k.source.statements) q ≡ Ok st → w ≡ st
+stored_from k q w st h g = let e : Ok w ≡ Ok st = sym h ∙ g in cc
+
+-- a name's value plus the number
+pub sum_stored : (k : Setting) (n : ℕ) (f r : Result Value LineKind) (st : Stored) → ((v : Value) → f ≡ Ok v → Plus v n r)
+    → stored k.context (datum_names k.source.statements) (on_both f (Ok (Number n)) (binary (sees k.context) Add)) ≡ Ok st → StoresSame k r st
+sum_stored k n (Ok (Number m)) r st plus h =
+    let p = plus (Number m) refl in
+    let w : Stored = record { number = p.0; target = Nothing } in
+    let d = datum_names k.source.statements in
+    let there : record { number = (m + n) % 2 ^ 32; target = Nothing } ≡ st = cc in
+    (w, ap (stored k.context d) p.1, sum_same p.0 ((m + n) % 2 ^ 32) 0 (mod_same p.0 m n p.2) ∙ ap (total_of k) there)
+sum_stored k n (Ok (Place q m)) r st plus h =
+    let p = plus (Place q m) refl in
+    let d = datum_names k.source.statements in
+    let o = stands_at (sees k.context) q in
+    let there : placed k.context d q ((m + n) % 2 ^ 32) o ≡ st = cc in
+    (placed k.context d q p.0 o, ap (stored k.context d) p.1, placed_same k q p.0 ((m + n) % 2 ^ 32) o (mod_same p.0 m n p.2) ∙ ap (total_of k) there)
+sum_stored k n (Ok (Truth b)) r st plus h = absurd (cc)
+sum_stored k n (Ok (Words w)) r st plus h = absurd (cc)
+sum_stored k n (Err j) r st plus h = absurd (cc)
+
+pub literal_stored : (k : Setting) (s : Sight) (Own : List ℕ → Type 0) (v : Value) (r : Result Value LineKind) (st : Stored) → Loads s (sees k.context) Own v r
+    → stored k.context (datum_names k.source.statements) (literal_value (sees k.context) v) ≡ Ok st → StoresSame k r st
+literal_stored k s Own (Number n) r st h e = (st, ap (stored k.context (datum_names k.source.statements)) h ∙ e, refl)
+literal_stored k s Own (Place [] n) r st h e = (st, ap (stored k.context (datum_names k.source.statements)) h ∙ e, refl)
+literal_stored k s Own (Place (c ∷ cs) n) r st h e = sum_stored k n (entry_value (named_in (c ∷ cs) (sees k.context).list)) r st h.gives e
+literal_stored k s Own (Truth b) r st h e = absurd (cc)
+literal_stored k s Own (Words w) r st h e = absurd (cc)
+
+-- ---- the literal of a line
+
+pub loads_by : (s : Sight) (final : Names) (Own : List ℕ → Type 0) → Later s final Own → (t : Tree) → TreeEach (IsLoaded Own) t → ResultIs Own (meaning final t)
+    → (x y : Result Value LineKind) → value_at s t ≡ x → value_at s (kept_names s t) ≡ y → (v : Value) → literal_or x y ≡ Ok v → Loads s final Own v (meaning final t)
+loads_by s final Own later t each own (Ok (Number n)) y h g v e =
+    let same : Number n ≡ v = cc in
+    subst (λ z. Loads s final Own z (meaning final t)) same (later.known t (Number n) h)
+loads_by s final Own later t each own x (Ok (Place q n)) h g v e =
+    let same : Place q n ≡ v = cc in
+    let p = told_nothing (name_kinds s (kept_names s t)) (meaning s.known (kept_names s t)) (Place q n) g in
+    subst (λ z. Loads s final Own z (meaning final t)) same (kept_loads s final Own later t (Place q n) each p.0 p.1)
+loads_by s final Own later t each own x y h g v e = absurd (cc)
+
+pub loading_is : (thumb : Bool) (u v : Value) (n : ℕ) → loading thumb u ≡ Loading n v → u ≡ v
+loading_is true (Number m) v n h = cc
+loading_is false (Number m) v n h = by_test (is_moved m) h
+  where
+    by_test : (b : Bool) → cond b (Block 4 4) (Loading 4 (Number m)) ≡ Loading n v → Number m ≡ v
+    by_test true e = absurd (cc)
+    by_test false e = cc
+loading_is true (Place q m) v n h = cc
+loading_is false (Place q m) v n h = cc
+loading_is true (Truth b) v n h = cc
+loading_is false (Truth b) v n h = cc
+loading_is true (Words w) v n h = cc
+loading_is false (Words w) v n h = cc
+
+-- ---- statements of lines
+
+pub load_there : (d : Declared) (ss : List Statement) → AllSaid ss → AllLoadsNamed ss → (after before : List LaidLine) (l : LaidLine) → laid_of d ss ≡ after ++ l ∷ before
+    → LoadsBare l.statement.what × LoadNamed l.statement.what
+load_there d [] said named [] before l e = absurd (cc)
+load_there d [] said named (x ∷ after) before l e = absurd (cc)
+load_there d (s ∷ ss) said named [] before l e =
+    subst (λ (z : LaidLine). LoadsBare z.statement.what × LoadNamed z.statement.what) (same_first (laid_behind d s (laid_of d ss)) l (laid_of d ss) before e)
+    (said.0.loaded, named.0)
+load_there d (s ∷ ss) said named (x ∷ after) before l e =
+    load_there d ss said.1 named.1 after before l (same_rest (laid_behind d s (laid_of d ss)) x (laid_of d ss) (after ++ l ∷ before) e)
+
+pub items_loaded : (Own : List ℕ → Type 0) (is : List ExprItem) → HaveNoPlaces is → AllItemsNamed is → ItemsEach (IsLoaded Own) is
+items_loaded Own [] h g = tt
+items_loaded Own (i ∷ is) h g = ((no_place_holds Own i h.0, g.0), items_loaded Own is h.1 g.1)
+
+-- ---- a line
+
+pub line_later : (ss : List Statement) → IsSound ss → ArePlain ss → (after before : List LaidLine) (l : LaidLine) → laid ss ≡ after ++ l ∷ before
+    → Later l.seen (sees (context_behind ss l before)) (IsOwn (final_names (laid ss)))
+line_later ss sound plain after before l e =
+    let N = final_names (laid ss) in
+    let locals = all_locals (laid ss) in
+    let m = (context_behind ss l before).line in
+    record {
+      known = known_there N locals after l before
+          (subst (AllKnownFinally N locals) e (all_known N locals (declared ss) (source_final ss sound plain) ss (source_holds ss sound plain)));
+      own = λ t h. line_to anything (IsOwn N) m N (line_local ss after before l e) (λ q n x. names_own ss sound plain q n) t (any_tree t) h;
+      entry = λ q h. ap entry_value (named_front (N ++ m.back) m.forth q h.0 (named_front N m.back q h.0 h.1)) ∙ ap Ok h.2;
+    }
+
+-- the literal of a line whose statement loads the expression
+pub line_loads : (ss : List Statement) → IsSound ss → ArePlain ss → AllSaid ss → AllLoadsNamed ss → (after before : List LaidLine) (l : LaidLine) → laid ss ≡ after ++ l ∷ before
+    → (condition : Condition) (rd : Register) (e : Expr) → l.statement.what ≡ what.Pseudo (pseudo.LoadConstant condition rd e)
+    → (n : ℕ) (v : Value) → taken l.extent ≡ Loading n v
+    → Loads l.seen (sees (context_behind ss l before)) (IsOwn (final_names (laid ss))) v (value_of (context_behind ss l before) e)
+line_loads ss sound plain said named after before l split condition rd e w n v x =
+    let thumb = l.seen.known.thumb in
+    let known : extent_of l.seen (what.Pseudo (pseudo.LoadConstant condition rd e)) ≡ Ok (Loading n v) =
+    ap (extent_of l.seen) (sym w) ∙ known_extent ss sound after before l split ∙ ap Ok x in
+    let m = mapped_ok (loading thumb) (literal_there l.seen e) (Loading n v) known in
+    by_tree (tree_of e) refl (m.is ∙ ap Ok (loading_is thumb m.from v n m.gives))
+  where
+    Own : List ℕ → Type 0
+    Own = IsOwn (final_names (laid ss))
+
+    c : Context
+    c = context_behind ss l before
+
+    each : (t : Tree) → tree_of e ≡ Some t → TreeEach (IsLoaded Own) t
+    each t h =
+        let b = load_there (declared ss) ss said named after before l split in
+        let bare : LoadsBare (what.Pseudo (pseudo.LoadConstant condition rd e)) = subst LoadsBare w b.0 in
+        let long : LoadNamed (what.Pseudo (pseudo.LoadConstant condition rd e)) = subst LoadNamed w b.1 in
+        tree_each (IsLoaded Own) e.items (Some []) t (items_loaded Own e.items bare.1 long) tt h
+
+    by_tree : (o : Option Tree) → tree_of e ≡ o → literal_there l.seen e ≡ Ok v → Loads l.seen (sees c) Own v (value_of c e)
+    by_tree None h g = let y : tree_literal l.seen None ≡ Ok v = ap (tree_literal l.seen) (sym h) ∙ g in absurd (cc)
+    by_tree (Some t) h g =
+        let y : tree_literal l.seen (Some t) ≡ Ok v = ap (tree_literal l.seen) (sym h) ∙ g in
+        subst (λ z. Loads l.seen (sees c) Own v z) (sym (final_tree c.names c.line e (Some t) h))
+        (loads_by l.seen (sees c) Own (line_later ss sound plain after before l split) t (each t h)
+        ((line_later ss sound plain after before l split).own t (constants_hold Own t (each t h)))
+        (value_at l.seen t) (value_at l.seen (kept_names l.seen t)) refl refl v y)
+
+-- a line with a word loads a literal
+pub word_loads : (area : Option ℕ) (x : Extent) (before rest : List LaidPiece) (w : ℕ) → word_of area x before rest ≡ Some w
+    → (n : ℕ) × (v : Value) × (x ≡ Loading n v)
+word_loads None x before rest w h = absurd (cc)
+word_loads (Some a) (Loading n v) before rest w h = (n, v, refl)
+word_loads (Some a) (Block m n) before rest w h = absurd (cc)
+word_loads (Some a) (Padding m n) before rest w h = absurd (cc)
+word_loads (Some a) Pool before rest w h = absurd (cc)
+
+pub line_stored : (ss : List Statement) → value_faults ss ≡ None → (after before : List LaidLine) (l : LaidLine) → laid ss ≡ after ++ l ∷ before
+    → (n : ℕ) (v : Value) → taken l.extent ≡ Loading n v
+    → (st : Stored) × (stored (context_behind ss l before) (datum_names ss) (literal_value (sees (context_behind ss l before)) v) ≡ Ok st)
+line_stored ss none after before l e n v x =
+    let c = context_behind ss l before in
+    let a = fault_kinds (units c (datum_names ss) l.seen (word_among after l before) l.statement.what) in
+    let b = value_literal_kinds c (datum_names ss) (taken l.extent) in
+    let p = both_empty (a ++ b) (statement_kinds c (sizes_of ss) l.statement.what) (valued_here ss none after before l e) in
+    let q = both_empty a b p.0 in
+    known_result (stored c (datum_names ss) (literal_value (sees c) v)) (subst (λ z. value_literal_kinds c (datum_names ss) z ≡ []) x q.1)
+
+pub word_holds : (k : Setting) (a : ℕ) (e : Expr) (st : Stored) → CountFromHere (sees k.context) → StoresSame k (value_of k.context e) st
+    → ShowsWord k.view a (total_of k st) → WordStands (scene k) a e
+word_holds k a e st here s h = word_stands k a e (value_of k.context e) s.0 here refl s.1 (subst (ShowsWord k.view a) (sym s.2) h)
+
+-- the word of a line's literal, where memory shows it
+pub literal_holds : (ss : List Statement) → IsFaultless ss → (values : Values) (view : View) (region : Range32) (area : ℕ) (after before : List LaidLine) (l : LaidLine)
+    → laid ss ≡ after ++ l ∷ before → CountFromHere (sees (context_behind ss l before)) → AllShown (setting ss values view region area l before) (own_words ss after l before)
+    → (condition : Condition) (rd : Register) (x : Expr) → l.statement.what ≡ what.Pseudo (pseudo.LoadConstant condition rd x)
+    → (word : Option ℕ) → word_among after l before ≡ word → LiteralHolds (setting ss values view region area l before) x word
+literal_holds ss fine values view region area after before l e here shown condition rd x w None h = tt
+literal_holds ss fine values view region area after before l e here shown condition rd x w (Some place) h =
+    let k = setting ss values view region area l before in
+    let c = context_behind ss l before in
+    let plain = faultless_layouts_are_sound ss fine.said fine.laid_out in
+    let q = word_loads l.area (taken l.extent) (pieces_of (l ∷ before)) (pieces_of (in_order after [])) place h in
+    let st = line_stored ss fine.valued after before l e q.0 q.1 q.2 in
+    let Among : List Piece → Type 0 = λ ps. IsAmong (place, Word st.0) ps in
+    let unit : Among (literal_unit (word_among after l before) (stored c (datum_names ss) (literal_value (sees c) q.1))) =
+    subst (λ z. Among (literal_unit z (stored c (datum_names ss) (literal_value (sees c) q.1)))) (sym h)
+    (subst (λ z. Among (literal_unit (Some place) z)) (sym st.1) (inl refl)) in
+    let piece : Among (own_words ss after l before) =
+    subst (λ z. Among (literal_piece c (datum_names ss) z (word_among after l before))) (sym q.2) unit in
+    word_holds k (values.base area + place) x st.0 here
+    (literal_stored k l.seen (IsOwn (final_names (laid ss))) q.1 (value_of c x) st.0
+    (line_loads ss plain.0 plain.1 fine.said fine.loads_named after before l e condition rd x w q.0 q.1 q.2) st.1)
+    (shown (place, Word st.0) piece)

@@ -1,0 +1,2 @@
+-- What the laws of placed objects cite.
+pub mod Laws

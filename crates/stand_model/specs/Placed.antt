@@ -1,0 +1,61 @@
+-- Where an object is placed: its areas have bases, its symbols have values by them, and memory shows its areas with their
+-- fields patched. SDT 2.50 Reference Guide, ARM Object Format.
+use Rattle.std.specs.Prelude.{◌≡◌, ℕ, ◌+◌, ◌%◌, ◌^◌, ◌<◌, ◌≤◌, ◌==◌, Bool, true, false, List, slice_get, Option, Some, None}
+use Rattle.sdt_word.specs.Numbers.{bit}
+use Rattle.sdt_word.specs.declared.ranges.Range32.{Range32}
+use Rattle.aof_object.specs.declared.records.Area.{Area}
+use Rattle.aof_object.specs.declared.records.Object.{Object}
+use Rattle.aof_object.specs.declared.records.Symbol.{Symbol}
+use Rattle.patch_model.specs.Fields.{Meant, Values}
+use Rattle.patch_model.specs.Laws.{StandsAt}
+use Rattle.patch_model.specs.Patched.{Veneers, Patched}
+use Rattle.patch_model.specs.Reaches.{View, Shows, VeneersStand}
+
+-- ---- symbols
+
+-- a symbol of an area, by the area's base
+abbrev pub meant_in : ℕ → (ℕ → ℕ) → Symbol → ℕ → Meant
+meant_in own base y area = record {
+  number = base area + y.value;
+  thumb = bit y.attributes 12 == 1;
+  datum = bit y.attributes 8 == 1;
+  home = Some (record { object = own; area = area; offset = y.value });
+}
+
+-- an absolute symbol has its number, and an undefined one any value
+abbrev pub IsUnplaced : Bool → Symbol → Meant → Type 0
+IsUnplaced true y m = (m.number ≡ y.value) × (m.home ≡ None)
+IsUnplaced false y m = Unit {0}
+
+abbrev pub IsMeant : ℕ → (ℕ → ℕ) → Symbol → Meant → Option ℕ → Type 0
+IsMeant own base y m (Some area) = m ≡ meant_in own base y area
+IsMeant own base y m None = IsUnplaced (bit y.attributes 2 == 1) y m
+
+-- ---- the object
+
+-- an object with a number of its own stands at bases that are multiples of 4, ends in memory, and its own symbols have
+-- the values that its fields and the bases give; symbols stand where they say, by the addresses of all areas
+pub record IsPlaced (own : ℕ) (o : Object) (values : Values) (area_at : ℕ → ℕ → ℕ) : Type 0 where
+  pub aligned : (area : ℕ) (a : Area) → slice_get o.areas area ≡ Some a → values.base area % 4 ≡ 0
+  pub ends : (area : ℕ) (a : Area) → slice_get o.areas area ≡ Some a → values.base area + a.size ≤ 2 ^ 32
+  pub symbols : (k : ℕ) (y : Symbol) → slice_get o.symbols k ≡ Some y → IsMeant own values.base y (values.symbol k) y.area
+  pub homes : (k : ℕ) → StandsAt area_at (values.symbol k) (values.symbol k).home
+  pub addresses : (area : ℕ) → area_at own area ≡ values.base area
+
+-- ---- memory
+
+abbrev pub ShowsZeros : View → ℕ → ℕ → Type 0
+ShowsZeros view a n = (i : ℕ) → i < n → view (a + i) ≡ Some 0
+
+-- an area of the object with its fields patched, or zeros where it is zero-initialised
+abbrev pub ShowsBy : Bool → View → Object → ℕ → Area → Values → Veneers → Type 0
+ShowsBy true view o area a values veneers = ShowsZeros view (values.base area) a.size
+ShowsBy false view o area a values veneers = (out : List ℕ) × Patched o area values veneers out × Shows view (values.base area) out
+
+abbrev pub ShowsArea : View → Object → ℕ → Area → Values → Veneers → Type 0
+ShowsArea view o area a values veneers = ShowsBy (bit a.attributes 12 == 1) view o area a values veneers
+
+-- memory shows all areas, and in the region of each the veneers that its branches go by
+pub record ShowsObject (view : View) (o : Object) (values : Values) (area_at : ℕ → ℕ → ℕ) (region : ℕ → Range32) (veneers : ℕ → Veneers) : Type 0 where
+  pub areas : (area : ℕ) (a : Area) → slice_get o.areas area ≡ Some a → ShowsArea view o area a values (veneers area)
+  pub veneers_stand : (area : ℕ) → VeneersStand view (region area) area_at (veneers area)

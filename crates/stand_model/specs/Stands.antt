@@ -1,0 +1,260 @@
+-- What it means that a statement of ARM state stands at an address. Its data are its operands' values, each name with its
+-- address; its word reads as its instruction; a branch reaches its target, itself or by a veneer of its region; a load
+-- from a label, ADR and ADRL give the label's address; a literal's word holds its value; and all else is zero. SDT 2.50
+-- Reference Guide, chapter on the assembler; ARM Architecture Reference Manual, the instructions.
+use Rattle.std.specs.Prelude.{◌≡◌, ◌⊎◌, ℕ, ◌+◌, ◌-◌, ◌%◌, ◌^◌, ◌<◌, ◌≤◌, Bool, false, true, if◌then◌else◌, List, [], ◌∷◌, length, Option, Some, None, Result, Ok, Err}
+use Rattle.sdt_word.specs.Bytes.{bytes_of}
+use Rattle.sdt_word.specs.Numbers.{flag, operand}
+use Rattle.sdt_word.specs.declared.codes.Condition.{Condition}
+use Rattle.sdt_word.specs.declared.codes.Condition.TheVariants.{Al}
+use Rattle.sdt_word.specs.declared.codes.ShiftKind.TheVariants.{Lsl}
+use Rattle.sdt_word.specs.declared.ranges.Range32.{Range32}
+use Rattle.sdt_fault.specs.declared.kinds.LineKind.{LineKind}
+use Rattle.sdt_fault.specs.declared.kinds.LineKind.TheVariants.{Syntax}
+use Rattle.arm_isa.specs.ArmRows.{ReadsArm}
+use Rattle.arm_isa.specs.declared.instr.ArmInstr.{ArmInstr}
+use Rattle.arm_isa.specs.declared.instr.ArmInstr.TheVariants as instr
+use Rattle.arm_isa.specs.declared.instr.Operation.{Operation}
+use Rattle.arm_isa.specs.declared.instr.Operation.TheVariants.{Add, Sub, Mov}
+use Rattle.asm_model.specs.declared.arm_lines.ArmLine.{ArmLine}
+use Rattle.asm_model.specs.declared.arm_lines.ArmLine.TheVariants as arm
+use Rattle.asm_model.specs.declared.directives.DirectiveLine.{DirectiveLine}
+use Rattle.asm_model.specs.declared.directives.DirectiveLine.TheVariants as line
+use Rattle.asm_model.specs.declared.exprs.Expr.{Expr}
+use Rattle.asm_model.specs.declared.operands.Address.TheVariants as address
+use Rattle.asm_model.specs.declared.statements.PseudoLine.{PseudoLine}
+use Rattle.asm_model.specs.declared.statements.PseudoLine.TheVariants as pseudo
+use Rattle.asm_model.specs.declared.statements.What.{What}
+use Rattle.asm_model.specs.declared.statements.What.TheVariants as what
+use Rattle.asm_model.specs.declared.values.Value.{Value}
+use Rattle.asm_model.specs.declared.values.Value.TheVariants.{Number, Words, Place}
+use Rattle.asm_model.specs.Grammar.{Tree}
+use Rattle.asm_model.specs.Meaning.{stands_at}
+use Rattle.layout_model.specs.Laid.{LaidLine, pieces_of}
+use Rattle.layout_model.specs.Marks.{counts_one, thumb_bit, datum_names}
+use Rattle.layout_model.specs.Offsets.{area_size}
+use Rattle.layout_model.specs.Placing.{Placing, placed_meaning}
+use Rattle.layout_model.specs.Trees.{tree_of}
+use Rattle.patch_model.specs.Fields.{Meant, Values, is_thumb_label}
+use Rattle.patch_model.specs.Laws.{state_of}
+use Rattle.patch_model.specs.Reaches.{View, Shows, ShowsWord, Reaches}
+use Rattle.source_model.specs.ArmForms.{arm_instruction, is_settled}
+use Rattle.source_model.specs.Contexts.{Context, sees, value_of, register}
+use Rattle.source_model.specs.Immediates.{data_immediate}
+use Rattle.source_model.specs.Objects.{Piece, Source, At, StandsIn, unit_bytes, context_at, word_at, symbol_number}
+use Rattle.stand_model.specs.Placed.{ShowsZeros}
+
+-- a source's symbols and areas where they are placed, and what a statement's operands mean
+pub record Scene : Type 0 where
+  pub view : View
+  -- the region of the statement's area
+  pub region : Range32
+  -- the bases of areas, and the values of imported names
+  pub placing : Placing
+  pub meant : List ℕ → Meant
+  -- the labels that are data
+  pub data_names : List (List ℕ)
+  pub context : Context
+
+-- ---- values
+
+-- the value of an expression where each name has its address
+abbrev pub value_placed : Scene → Expr → Result Value LineKind
+value_placed s e = of_tree (tree_of e)
+  where
+    of_tree : Option Tree → Result Value LineKind
+    of_tree None = Err Syntax
+    of_tree (Some t) = placed_meaning s.placing (sees s.context) t
+
+abbrev pub IsNumber : Scene → Expr → ℕ → Type 0
+IsNumber s e n = value_placed s e ≡ Ok (Number n)
+
+-- ---- data
+
+-- the 1 that a label of Thumb code counts in a word
+abbrev pub mark_at : Scene → List ℕ → Option (ℕ × ℕ) → ℕ
+mark_at s name None = flag (is_thumb_label (s.meant name))
+mark_at s name (Some a) = thumb_bit (counts_one s.data_names (sees s.context) name)
+
+abbrev pub mark_of : Scene → Result Value LineKind → ℕ
+mark_of s (Ok (Place name n)) = mark_at s name (stands_at (sees s.context) name)
+mark_of s _ = 0
+
+pub record WordStands (s : Scene) (a : ℕ) (e : Expr) : Type 0 where
+  pub number : ℕ
+  pub means : IsNumber s e number
+  pub shows : ShowsWord s.view a ((number + mark_of s (value_of s.context e)) % 2 ^ 32)
+
+abbrev pub WordsStand : Scene → ℕ → List Expr → Type 0
+WordsStand s a [] = Unit {0}
+WordsStand s a (e ∷ es) = WordStands s a e × WordsStand s (a + 4) es
+
+pub record HalfStands (s : Scene) (a : ℕ) (e : Expr) : Type 0 where
+  pub number : ℕ
+  pub means : IsNumber s e number
+  pub shows : Shows s.view a (bytes_of (number % 2 ^ 16) 2)
+
+abbrev pub HalvesStand : Scene → ℕ → List Expr → Type 0
+HalvesStand s a [] = Unit {0}
+HalvesStand s a (e ∷ es) = HalfStands s a e × HalvesStand s (a + 2) es
+
+-- an operand of DCB: a string, or the low byte of a number
+abbrev pub AreBytesOf : Scene → Expr → List ℕ → Type 0
+AreBytesOf s e bytes = (value_placed s e ≡ Ok (Words bytes)) ⊎ ((n : ℕ) × IsNumber s e n × (bytes ≡ bytes_of (n % 2 ^ 8) 1))
+
+abbrev pub BytesStand : Scene → ℕ → List Expr → Type 0
+BytesStand s a [] = Unit {0}
+BytesStand s a (e ∷ es) = (bytes : List ℕ) × AreBytesOf s e bytes × Shows s.view a bytes × BytesStand s (a + length bytes) es
+
+abbrev pub DirectiveStands : Scene → ℕ → ℕ → DirectiveLine → Type 0
+DirectiveStands s a size (line.Dcd es) = WordsStand s a es
+DirectiveStands s a size (line.Dcdu es) = WordsStand s a es
+DirectiveStands s a size (line.Dcw es) = HalvesStand s a es
+DirectiveStands s a size (line.Dcb es) = BytesStand s a es
+DirectiveStands s a size (line.Space e) = ShowsZeros s.view a size
+DirectiveStands s a size (line.Align b) = ShowsZeros s.view a size
+DirectiveStands s a size _ = Unit {0}
+
+-- ---- instructions
+
+pub record ReadsAt (view : View) (a : ℕ) (i : ArmInstr) : Type 0 where
+  pub word : ℕ
+  pub shows : ShowsWord view a word
+  pub reads : ReadsArm word i
+
+-- an address that lies so far behind pc, or before it
+abbrev pub from_pc : ℕ → Bool → ℕ → ℕ
+from_pc a up offset = if up then (a + 8 + offset) % 2 ^ 32 else (a + 8 + (2 ^ 32 - offset)) % 2 ^ 32
+
+-- the state in which a branch reaches its target: its own, or that of the symbol that is left to the linker
+abbrev pub target_state : Scene → Result Value LineKind → Bool
+target_state s (Ok (Place (x ∷ xs) n)) =
+    if is_settled s.context (x ∷ xs) then false else state_of false (s.meant (x ∷ xs)) (s.meant (x ∷ xs)).home
+target_state s _ = false
+
+pub record BranchStands (s : Scene) (a : ℕ) (condition : Condition) (link : Bool) (e : Expr) : Type 0 where
+  pub field : ℕ
+  pub reads : ReadsAt s.view a (instr.Branch condition link field)
+  pub target : ℕ
+  pub means : IsNumber s e target
+  pub reaches : Reaches s.view s.region false a target (target_state s (value_of s.context e))
+
+-- a transfer between a register and the word or byte at a label
+pub record TransferStands (s : Scene) (a : ℕ) (condition : Condition) (load byte : Bool) (rd : ℕ) (e : Expr) : Type 0 where
+  pub up : Bool
+  pub offset : ℕ
+  pub reads : ReadsAt s.view a (instr.TransferImmediate condition true up byte false load 15 rd offset)
+  pub label : ℕ
+  pub means : IsNumber s e label
+  pub leads : from_pc a up offset ≡ label
+
+-- the line's instruction, with the values of its operands
+pub record InstructionStands (s : Scene) (a : ℕ) (l : ArmLine) : Type 0 where
+  pub instruction : ArmInstr
+  pub says : arm_instruction s.context l ≡ Ok instruction
+  pub reads : ReadsAt s.view a instruction
+
+abbrev pub ArmStands : Scene → ℕ → ArmLine → Type 0
+ArmStands s a (arm.Branch condition link e) = BranchStands s a condition link e
+ArmStands s a (arm.TransferImmediate condition load byte rd (address.Label e)) = TransferStands s a condition load byte (register s.context rd) e
+ArmStands s a l = InstructionStands s a l
+
+-- ---- pseudo-instructions
+
+-- MOV or MVN of the number
+pub record MoveStands (s : Scene) (a : ℕ) (condition : Condition) (rd : ℕ) (e : Expr) : Type 0 where
+  pub number : ℕ
+  pub means : IsNumber s e number
+  pub instruction : ArmInstr
+  pub says : data_immediate condition Mov false 0 rd number ≡ Ok instruction
+  pub reads : ReadsAt s.view a instruction
+
+-- a load from the word of the literal, which holds its value
+pub record LoadStands (s : Scene) (a : ℕ) (condition : Condition) (rd : ℕ) (e : Expr) (word : ℕ) : Type 0 where
+  pub up : Bool
+  pub offset : ℕ
+  pub reads : ReadsAt s.view a (instr.TransferImmediate condition true up false false true 15 rd offset)
+  pub leads : from_pc a up offset ≡ word % 2 ^ 32
+  pub holds : WordStands s word e
+
+abbrev pub LiteralStands : Scene → ℕ → Condition → ℕ → Expr → Option ℕ → Type 0
+LiteralStands s a condition rd e None = MoveStands s a condition rd e
+LiteralStands s a condition rd e (Some word) = LoadStands s a condition rd e word
+
+-- a number added to another, or taken away from it
+abbrev pub moved : Bool → ℕ → ℕ → ℕ
+moved true n v = (n + v) % 2 ^ 32
+moved false n v = (n + (2 ^ 32 - v)) % 2 ^ 32
+
+abbrev pub operation_of : Bool → Operation
+operation_of true = Add
+operation_of false = Sub
+
+-- the number of an immediate operand
+abbrev pub immediate_number : ℕ × ℕ → ℕ
+immediate_number i = operand i.0 i.1
+
+-- one ADD or SUB from pc gives the address
+pub record AddressStands (s : Scene) (a : ℕ) (condition : Condition) (rd : ℕ) (e : Expr) : Type 0 where
+  pub up : Bool
+  pub immediate : ℕ × ℕ
+  pub reads : ReadsAt s.view a (instr.DataImmediate condition (operation_of up) false 15 rd immediate.0 immediate.1)
+  pub label : ℕ
+  pub means : IsNumber s e label
+  pub gives : moved up (a + 8) (immediate_number immediate) ≡ label
+
+-- two of them, the second from the first's register
+pub record LongStands (s : Scene) (a : ℕ) (condition : Condition) (rd : ℕ) (e : Expr) : Type 0 where
+  pub up : Bool
+  pub first : ℕ × ℕ
+  pub second : ℕ × ℕ
+  pub reads_first : ReadsAt s.view a (instr.DataImmediate condition (operation_of up) false 15 rd first.0 first.1)
+  pub reads_second : ReadsAt s.view (a + 4) (instr.DataImmediate condition (operation_of up) false rd rd second.0 second.1)
+  pub label : ℕ
+  pub means : IsNumber s e label
+  pub gives : moved up (moved up (a + 8) (immediate_number first)) (immediate_number second) ≡ label
+
+abbrev pub PseudoStands : Scene → ℕ → Option ℕ → PseudoLine → Type 0
+PseudoStands s a word (pseudo.LoadConstant condition rd e) = LiteralStands s a condition (register s.context rd) e word
+PseudoStands s a word (pseudo.Address condition rd e) = AddressStands s a condition (register s.context rd) e
+PseudoStands s a word (pseudo.LongAddress condition rd e) = LongStands s a condition (register s.context rd) e
+PseudoStands s a word pseudo.NoOperation = ReadsAt s.view a (instr.DataShifted Al Mov false 0 0 0 Lsl 0)
+
+-- ---- statements
+
+-- a statement of ARM state of so many bytes stands at an address, with the address of its literal's word, if it has one
+abbrev pub Stands : Scene → ℕ → ℕ → Option ℕ → What → Type 0
+Stands s a size word what.Nothing = Unit {0}
+Stands s a size word (what.Arm l) = ArmStands s a l
+Stands s a size word (what.Thumb l) = ⊥
+Stands s a size word (what.Pseudo l) = PseudoStands s a word l
+Stands s a size word (what.Directive l) = DirectiveStands s a size l
+
+-- ---- a source
+
+abbrev pub placing_of : Source → Values → Placing
+placing_of s values = record { base = values.base; imported = λ name. (values.symbol (symbol_number s name)).number }
+
+abbrev pub address_behind : ℕ → Option ℕ → Option ℕ
+address_behind base None = None
+address_behind base (Some offset) = Some (base + offset)
+
+abbrev pub scene_at : (s : Source) (l : LaidLine) → At s l → View → Range32 → Values → Scene
+scene_at s l at view region values = record {
+  view = view;
+  region = region;
+  placing = placing_of s values;
+  meant = λ name. values.symbol (symbol_number s name);
+  data_names = datum_names s.statements;
+  context = context_at s l at;
+}
+
+-- a place of an area where nothing stands
+abbrev pub IsGap : Source → ℕ → ℕ → Type 0
+IsGap s area i = (p : Piece) → StandsIn s area p → (i < p.0) ⊎ (p.0 + length (unit_bytes p.1) ≤ i)
+
+-- each statement stands at its offset behind its area's base, and where nothing stands is zero
+pub record AllStand (s : Source) (values : Values) (view : View) (region : ℕ → Range32) : Type 0 where
+  pub lines : (l : LaidLine) (at : At s l) (area : ℕ) → l.area ≡ Some area
+      → Stands (scene_at s l at view (region area) values) (values.base area + l.offset) l.size (address_behind (values.base area) (word_at s l at)) l.statement.what
+  pub gaps : (area i : ℕ) → i < area_size area (pieces_of s.lines) → IsGap s area i → view (values.base area + i) ≡ Some 0
