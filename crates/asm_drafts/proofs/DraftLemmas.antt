@@ -228,7 +228,7 @@ put_all names at us old next now h pieces is none =
 rest_of_all : {A : Type 0} (xs : List A) (n : ℕ) → length xs ≡ n → take n xs ≡ xs
 rest_of_all xs n e = take_all n xs (omega (arith, e))
 
-first_and_rest : {A : Type 0} (xs : List A) (x : A) → 1 ≤ length xs → x ≡ get_or xs 0 x → xs ≡ x ∷ take (length xs - 1) (drop 1 xs)
+pub first_and_rest : {A : Type 0} (xs : List A) (x : A) → 1 ≤ length xs → x ≡ get_or xs 0 x → xs ≡ x ∷ take (length xs - 1) (drop 1 xs)
 first_and_rest [] x some e = absurd (omega arith)
 first_and_rest (y ∷ xs) x some e =
     ap (λ z. z ∷ xs) (sym e) ∙ ap (λ zs. x ∷ zs) (sym (rest_of_all xs (length (y ∷ xs) - 1) (omega arith)))

@@ -42,6 +42,13 @@ impl Draft {
         })
     }
 
+    /// How many bytes it has.
+    pub fn size(&self) -> usize
+        ensures { result ≡ length self.now.bytes.items }
+    {
+        self.bytes.len()
+    }
+
     /// Puts a thing at an offset. More than 2^24 symbols or areas, and a symbol that isn't listed, count as want of
     /// memory.
     pub fn put(&mut self, at: u32, unit: &Emitted, symbols: &Symbols) -> Result<(), NoMemory>

@@ -8,3 +8,4 @@ mod writing;
 
 pub use crate::drafts::{Draft, Finished};
 pub use crate::laws::relocations_are_of_sources;
+pub use crate::writing::unit_length;

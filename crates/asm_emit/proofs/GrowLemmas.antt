@@ -1,0 +1,104 @@
+-- Areas in which a line more stands.
+use Rattle.std.proofs.Common.{◌≡◌, ◌⊎◌, inl, inr, ◌+◌, ◌-◌, ◌≤◌, ◌<◌, ℕ, zero, suc, List, [], ◌∷◌, ◌++◌, length, map, take, drop, get_or, cond, Option, Some, None, refl, sym, ap, ◌∙◌, subst, arith, append_assoc, append-nil, length-append, nat_eq}
+use Rattle.std.specs.List.{slice_get, slice_set}
+use Rattle.std.proofs.lemmas.Bool.{cond-true, cond-false, eqb-true, false_from_ne_true}
+use Rattle.std.proofs.lemmas.Option.{slice_get_read}
+use Rattle.asm_drafts.specs.Drafts.{IsDraft, MeetNone}
+use Rattle.asm_drafts.proofs.DraftLemmas.{among_front, among_behind, first_and_rest}
+use Rattle.asm_drafts.specs.Writing.{HasWord}
+use Rattle.asm_judging.proofs.LoopLemmas.{nothing}
+use Rattle.asm_units.specs.declared.emitted.Emitted.{Emitted as Code}
+use Rattle.asm_units.specs.Emitting.{emitted_of}
+use Rattle.layout_model.specs.Offsets.{is_of}
+use Rattle.layout_model.proofs.OffsetLemmas.{is_here}
+use Rattle.source_model.specs.Objects.{Piece, IsAmong, unit_bytes, units_bytes}
+use Rattle.source_model.specs.Units.{Emitted}
+use Rattle.asm_emit.specs.declared.drafting.Growing.{Growing}
+use Rattle.asm_emit.specs.Drafting.{AreDrafts, CanStand, MeetNoneThere, frame, frames, with_line}
+
+-- ---- things that fit into a room
+
+stand_more : (u : Emitted) (us : List Emitted) (room less : ℕ) → HasWord u → length (unit_bytes u) + less ≡ room → CanStand us less → CanStand (u ∷ us) room
+stand_more u us room less word e h = ((word, h.0), let n = length-append (unit_bytes u) (units_bytes us) in let k = h.1 in omega (arith, n, k, e))
+
+pub stand_first : (xs : List Code) (x : Code) (room less : ℕ) → 1 ≤ length xs → x ≡ get_or xs 0 x → HasWord (emitted_of x) → length (unit_bytes (emitted_of x)) + less ≡ room
+    → CanStand (map emitted_of (take (length xs - 1) (drop 1 xs))) less → CanStand (map emitted_of xs) room
+stand_first xs x room less some at word e h =
+    subst (λ (ys : List Code). CanStand (map emitted_of ys) room) (sym (first_and_rest xs x some at))
+    (stand_more (emitted_of x) (map emitted_of (take (length xs - 1) (drop 1 xs))) room less word e h)
+
+pub stand_none : (xs : List Code) (room : ℕ) → length xs < 1 → CanStand (map emitted_of xs) room
+stand_none xs room less = subst (λ (ys : List Code). CanStand (map emitted_of ys) room) (sym (nothing xs less)) (tt, omega arith)
+
+-- ---- the units of a line, and behind them the word of its literal
+
+pub meet_front : (ps us ws : List Piece) → MeetNone (ps ++ (us ++ ws)) (us ++ ws) → MeetNone ps us
+meet_front ps us ws h = λ q u p k. h q (among_front q us ws u) p (among_front p ps (us ++ ws) k)
+
+pub meet_behind : (ps us ws : List Piece) → MeetNone (ps ++ (us ++ ws)) (us ++ ws) → MeetNone (ps ++ us) ws
+meet_behind ps us ws h = λ q u p k. h q (among_behind q us ws u) p (subst (IsAmong p) (append_assoc ps us ws) (among_front p (ps ++ us) ws k))
+
+-- ---- one area of many
+
+set_got : (gs : List Growing) (i j : ℕ) (y z : Growing) → slice_get (slice_set gs i y) j ≡ Some z → ((i ≡ j) × (y ≡ z)) ⊎ ((i ≡ j → ⊥) × (slice_get gs j ≡ Some z))
+set_got [] i j y z e = absurd (cc)
+set_got (x ∷ gs) zero zero y z e = inl (refl, cc)
+set_got (x ∷ gs) zero (suc j) y z e = inr (λ h. omega arith, e)
+set_got (x ∷ gs) (suc i) zero y z e = inr (λ h. omega arith, e)
+set_got (x ∷ gs) (suc i) (suc j) y z e = behind (set_got gs i j y z e)
+  where
+    behind : ((i ≡ j) × (y ≡ z)) ⊎ ((i ≡ j → ⊥) × (slice_get gs j ≡ Some z)) → ((suc i ≡ suc j) × (y ≡ z)) ⊎ ((suc i ≡ suc j → ⊥) × (slice_get gs j ≡ Some z))
+    behind (inl h) = inl (ap suc h.0, h.1)
+    behind (inr h) = inr (λ k. h.0 (omega arith), h.1)
+
+pub set_frames : (gs : List Growing) (i : ℕ) (x y : Growing) → x ≡ get_or gs i x → frame y ≡ frame x → frames (slice_set gs i y) ≡ frames gs
+set_frames [] i x y at e = refl
+set_frames (g ∷ gs) zero x y at e = ap (λ f. f ∷ frames gs) (e ∙ ap frame at)
+set_frames (g ∷ gs) (suc i) x y at e = ap (λ fs. frame g ∷ fs) (set_frames gs i x y at e)
+
+pub drafts_put : (names : List (List ℕ)) (held : ℕ → List Piece) (gs : List Growing) (i : ℕ) (x y : Growing) (own : Option ℕ) (more : List Piece)
+    → own ≡ Some i → i < length gs → x ≡ get_or gs i x → AreDrafts names held gs → MeetNoneThere held own more
+    → ((pieces : List Piece) → IsDraft names pieces x.draft → MeetNone (pieces ++ more) more → IsDraft names (pieces ++ more) y.draft)
+    → AreDrafts names (with_line held own more) (slice_set gs i y)
+drafts_put names held gs i x y own more here less at old apart grows = λ area g is. by_place area g (set_got gs i area y g is)
+  where
+    grown : IsDraft names (held i ++ more) y.draft
+    grown = grows (held i) (old i x (slice_get_read gs (length gs) i x refl less at)) (apart i here)
+
+    own_there : with_line held own more i ≡ held i ++ more
+    own_there = ap (λ (ms : List Piece). held i ++ ms) (cond-true (is_of i own) more [] (is_here i own here))
+
+    other : (area : ℕ) → (i ≡ area → ⊥) → is_of area own ≡ false
+    other area far = ap (is_of area) here ∙ false_from_ne_true (nat_eq i area) (λ t. far (eqb-true i area t))
+
+    others_there : (area : ℕ) → (i ≡ area → ⊥) → with_line held own more area ≡ held area
+    others_there area far = ap (λ (ms : List Piece). held area ++ ms) (cond-false (is_of area own) more [] (other area far)) ∙ append-nil (held area)
+
+    by_place : (area : ℕ) (g : Growing) → ((i ≡ area) × (y ≡ g)) ⊎ ((i ≡ area → ⊥) × (slice_get gs area ≡ Some g)) → IsDraft names (with_line held own more area) g.draft
+    by_place area g (inl h) =
+        subst (λ (n : ℕ). IsDraft names (with_line held own more n) g.draft) h.0
+        (subst (λ (z : Growing). IsDraft names (with_line held own more i) z.draft) h.1
+        (subst (λ (ps : List Piece). IsDraft names ps y.draft) (sym own_there) grown))
+    by_place area g (inr h) = subst (λ (ps : List Piece). IsDraft names ps g.draft) (sym (others_there area h.0)) (old area g h.1)
+
+-- a line in no area puts nothing
+pub drafts_same : (names : List (List ℕ)) (held : ℕ → List Piece) (gs : List Growing) (own : Option ℕ) (more : List Piece) → own ≡ None → AreDrafts names held gs
+    → AreDrafts names (with_line held own more) gs
+drafts_same names held gs own more none old = λ area g is.
+    subst (λ (ps : List Piece). IsDraft names ps g.draft)
+    (sym (ap (λ (o : Option ℕ). held area ++ cond (is_of area o) more []) none ∙ append-nil (held area))) (old area g is)
+
+-- ---- areas one behind the other
+
+pub drafts_more : (names : List (List ℕ)) (gs : List Growing) (y : Growing) → AreDrafts names (λ area. []) gs → IsDraft names [] y.draft
+    → AreDrafts names (λ area. []) (gs ++ y ∷ [])
+drafts_more names [] y h k = λ area g is. one area g is
+  where
+    one : (area : ℕ) (g : Growing) → slice_get (y ∷ []) area ≡ Some g → IsDraft names [] g.draft
+    one zero g is = let same : y ≡ g = cc in subst (λ (z : Growing). IsDraft names [] z.draft) same k
+    one (suc area) g is = absurd (cc)
+drafts_more names (x ∷ gs) y h k = λ area g is. by_place area g is
+  where
+    by_place : (area : ℕ) (g : Growing) → slice_get (x ∷ (gs ++ y ∷ [])) area ≡ Some g → IsDraft names [] g.draft
+    by_place zero g is = h zero g is
+    by_place (suc area) g is = drafts_more names gs y (λ n z e. h (suc n) z e) k area g is

@@ -1,0 +1,8 @@
+mod AreaLemmas
+mod EmitLemmas
+mod EntryLemmas
+mod GatherLemmas
+mod GrowLemmas
+mod ListLemmas
+mod LoadLemmas
+mod ObjectLemmas

@@ -1,0 +1,35 @@
+-- The lines of a layout that are left to emit, and its areas so far. This project's.
+use Rattle.std.specs.Prelude.{◌≡◌, ℕ, List, None}
+use Rattle.std.specs.BTreeMap.{BTreeMap}
+use Rattle.asm_instructions.specs.Scenes.{register_at}
+use Rattle.asm_judging.specs.declared.whole.Whole.{Whole}
+use Rattle.asm_judging.specs.Whole.{IsWhole}
+use Rattle.asm_layout.specs.Late.{AreOn}
+use Rattle.asm_layout.specs.Layout.{IsLayout}
+use Rattle.asm_model.specs.declared.statements.Statement.{Statement}
+use Rattle.asm_pool.specs.declared.layout.LaidStatement.{LaidStatement}
+use Rattle.asm_pool.specs.declared.layout.Layout.{Layout}
+use Rattle.layout_model.specs.Laid.{LaidLine, laid, reversed}
+use Rattle.said_model.specs.Said.{AllSaid}
+use Rattle.source_laws.specs.Laws.{InArmState, things_behind}
+use Rattle.source_model.specs.Registers.{register_in, registers_behind}
+use Rattle.source_model.specs.SourceFaults.{layout_faults}
+use Rattle.asm_emit.specs.declared.drafting.Growing.{Growing}
+use Rattle.asm_emit.specs.Drafting.{AreDrafts}
+
+-- the layout of statements without faults of their own, and what its lines share
+pub record IsEmittable (statements : List Statement) (l : Layout) (w : Whole) : Type 0 where
+  pub layout : IsLayout statements l
+  pub said : AllSaid statements
+  pub sound : layout_faults statements ≡ None
+  pub arm : InArmState statements
+  pub whole : IsWhole statements l.areas w
+
+-- of a source's lines these are left, and in the areas stands what those before put there
+pub record IsGrown (statements : List Statement) (symbols : List (List ℕ)) (left : List LaidStatement) (known : BTreeMap (List ℕ) ℕ) (gs : List Growing) : Type 0 where
+  pub before : List LaidLine
+  pub rest : List LaidLine
+  pub parts : laid statements ≡ reversed rest before
+  pub lines : AreOn before rest left
+  pub registers : (q : List ℕ) → register_at known q ≡ register_in q (registers_behind before)
+  pub drafts : AreDrafts symbols (λ area. things_behind statements area before rest) gs
