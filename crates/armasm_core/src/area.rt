@@ -28,9 +28,7 @@ fn is_area(what: &What) -> bool
 pub fn has_area(statements: &[Statement]) -> bool
     ensures { result ≡ assembling.has_area statements.now }
 {
-    statements
-        .iter()
-        .any(|statement| is_area(&statement.what))
+    statements.iter().any(|statement| is_area(&statement.what))
 }
 
 /// What is told of line 1, where this is told of a line of this number.
@@ -50,18 +48,18 @@ pub fn area_missing(alloc: Global, source: &Text) -> Fault
     bad_line(alloc, source, 1, LineKind::NoArea)
 }
 
-/// The refusal of a source without an AREA that has this first fault of reading and layout.
+/// The refusal of a source without an AREA that has this first fault of reading and layout, which is BadLine.
 pub fn area_missing_beside(alloc: Global, source: &Text, fault: Fault) -> Fault
     ensures { (told : Option Told) → IsToldAs told fault → IsToldAs (Some (assembling.without_area source.now told)) result }
 {
     match fault {
-        Fault::Refused(Refusal::BadLine {
-            source: _,
-            line,
-            kind,
-        }) => bad_line(alloc, source, 1, kind_beside(line, kind)),
-        Fault::Refused(_) => area_missing(alloc, source),
-        Fault::ReadFault(_) => Fault::NoMemory,
-        Fault::NoMemory => Fault::NoMemory,
+        Fault::Refused(
+            Refusal::BadLine {
+                source: _,
+                line,
+                kind,
+            },
+        ) => bad_line(alloc, source, 1, kind_beside(line, kind)),
+        _ => Fault::NoMemory,
     }
 }
