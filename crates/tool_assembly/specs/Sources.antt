@@ -1,6 +1,7 @@
 -- What the command `asm` makes of a source's file: the file of its object, or its first refusal. This project's.
 use Rattle.std.specs.Prelude.{◌≡◌, ◌⊎◌, ℕ, List, [], ◌∷◌, Option, Some, None, Result, Ok, Err}
 use Rattle.sdt_fault.specs.declared.answer.Answer.{Answer}
+use Rattle.sdt_fault.specs.declared.answer.Answer.TheVariants as answer
 use Rattle.sdt_fault.specs.declared.answer.Fault.{Fault}
 use Rattle.sdt_fault.specs.declared.answer.Fault.TheVariants as fault
 use Rattle.sdt_fault.specs.declared.refusal.Refusal.{Refusal}
@@ -11,7 +12,8 @@ use Rattle.chunk_file.specs.Reading.{◌>>=◌}
 use Rattle.aof_object.specs.declared.records.Object.{Object}
 use Rattle.aof_object.specs.Spelling.{written}
 use Rattle.armasm_core.specs.Assembling.{IsAssembled}
-use Rattle.tool_answers.specs.Outcomes.{Outcome, Outside, Says, IsLost, writes_one, unprinted}
+use Rattle.tool_answers.specs.Inputs.{IsReached}
+use Rattle.tool_answers.specs.Outcomes.{Outcome, Outside, IsLeft, Says, IsLost, writes_one, unprinted}
 
 -- ---- a text
 
@@ -46,8 +48,10 @@ abbrev pub SourceAsks : List ℕ → List ℕ → Option Files → Type 0 → Re
 SourceAsks name output None rose asked = ((text : List ℕ) × TextAsks name output text asked) ⊎ IsLost (name ∷ []) rose asked
 SourceAsks name output (Some files) rose asked = FoundAsks name output (content files name) asked
 
--- the answer to `asm`
+-- the answer to `asm`: where the read failed or memory was refused, nothing is told of the source and nothing is written
 abbrev pub AssemblyAnswers : List ℕ → List ℕ → Outside → Answer → Type 0
+AssemblyAnswers name output o (answer.ReadFault q) = Rose o.reads o.reads_now × IsReached o.before (name ∷ []) q × IsLeft o
+AssemblyAnswers name output o answer.NoMemory = IsLeft o
 AssemblyAnswers name output o a =
     (asked : Result Outcome Refusal) × SourceAsks name output o.before (Rose o.reads o.reads_now) asked × Says asked (name ∷ []) o a
 
@@ -59,5 +63,5 @@ AssemblyAnswersOver name output before after reads reads_now writes writes_now a
 -- files ask for one thing
 abbrev pub OneAsked : Type 0
 OneAsked =
-    (name output : List ℕ) (files : Files) (rose : Type 0) (a b : Result Outcome Refusal)
-    → SourceAsks name output (Some files) rose a → SourceAsks name output (Some files) rose b → a ≡ b
+    (name output : List ℕ) (files : Files) (a b : Result Outcome Refusal)
+    → FoundAsks name output (content files name) a → FoundAsks name output (content files name) b → a ≡ b

@@ -5,6 +5,7 @@ ghost use Rattle.tool_assembly.specs.Sources.{AssemblyAnswersOver, SpellsAs};
 
 use aof_object::write_object;
 use armasm_core::assemble;
+use chunk_file::size_law;
 use sdt_fault::answer::{Answer, Fault};
 use sdt_fault::{Bytes, Text};
 use sdt_outside::Store;
@@ -17,17 +18,13 @@ fn object_file(alloc: Global, source: &Text, text: &[u8]) -> Result<Bytes, Fault
     ensures spells { SpellsAs source.now text.now result }
     ensures short { IfOk result (λ bytes. length bytes < 2 ^ 32) }
 {
+    size_law();
     let object = assemble(alloc, source, text)?;
     write_object(alloc, &object)
 }
 
 /// Writes the object of a source.
-pub fn assemble_file<S: Store>(
-    alloc: Global,
-    store: &mut S,
-    source: &Text,
-    output: Text,
-) -> Answer
+pub fn assemble_file<S: Store>(alloc: Global, store: &mut S, source: &Text, output: Text) -> Answer
     ensures { AssemblyAnswersOver source.now output (S.files store.old) (S.files store.new) (S.read_faults store.old) (S.read_faults store.new)
         (S.write_faults store.old) (S.write_faults store.new) result }
 {

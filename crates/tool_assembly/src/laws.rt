@@ -2,7 +2,11 @@
 
 ghost use Rattle.tool_assembly.specs.Sources.{OneAsked};
 
+use armasm_core::laws::one_assembly;
+
 /// Files ask for one thing.
 pub fn one_asked()
     ensures { OneAsked }
-{}
+{
+    one_assembly();
+}
