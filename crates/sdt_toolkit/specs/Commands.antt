@@ -9,6 +9,7 @@ use Rattle.tool_words.specs.declared.command.WordsFault.{WordsFault}
 use Rattle.tool_words.specs.declared.command.WordsFault.TheVariants as fault
 use Rattle.tool_words.specs.Items.{word_at}
 use Rattle.tool_answers.specs.Outcomes.{Outside, IsLeft, Answers, OfAll, OfOne}
+use Rattle.tool_assembly.specs.Sources.{AssemblyAnswers}
 use Rattle.tool_library.specs.Libraries.{created, creates, listed, lists, extracted, extracts}
 use Rattle.arm7_bus.specs.Seats.{Seat}
 use Rattle.tool_listing.specs.Lists.{listing_of}
@@ -32,6 +33,7 @@ RefusesWords place o answer.NoMemory = IsLeft o
 -- the answer to a command, or to words that break a rule, over devices, which are left so; `run` alone touches them
 abbrev pub Commanded : Result Command ℕ → Outside → List Seat → List Seat → Answer → Type 0
 Commanded (Err place) o seats left a = RefusesWords place o a × (left ≡ seats)
+Commanded (Ok (command.Assemble source output)) o seats left a = AssemblyAnswers source output o a × (left ≡ seats)
 Commanded (Ok (command.CreateLibrary library objects)) o seats left a = Answers (created library objects) (OfAll (creates library objects) objects) objects o a × (left ≡ seats)
 Commanded (Ok (command.ListMembers library)) o seats left a = Answers (listed library) (OfOne (lists library)) (library ∷ []) o a × (left ≡ seats)
 Commanded (Ok (command.ExtractMember library member output)) o seats left a = Answers (extracted library member output) (OfOne (extracts library member output)) (library ∷ []) o a × (left ≡ seats)

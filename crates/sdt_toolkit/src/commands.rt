@@ -9,6 +9,7 @@ use sdt_fault::answer::Answer;
 use sdt_fault::refusal::Refusal;
 use sdt_outside::{Device, Sink, Store};
 use std::alloc::Global;
+use tool_assembly::assemble_file;
 use tool_library::{create_library, extract_member, list_members};
 use tool_listing::list_file;
 use tool_run::run;
@@ -58,6 +59,7 @@ fn carried_out<S: Store, K: Sink>(
     }) (seats_by base size state touched devices.old.items) (seats_by base size state touched devices.new.items) result }
 {
     match command {
+        Command::Assemble { source, output } => assemble_file(alloc, store, &source, output),
         Command::CreateLibrary { library, objects } => {
             create_library(alloc, store, library, objects.as_slice())
         }

@@ -5,3 +5,7 @@ pub returns-in-CreateLibrary-clause-commanded : goal.returns-in-CreateLibrary-cl
 returns-in-CreateLibrary-clause-commanded g c =
     let says = rw c.as_slice.ensures at c.create_library.ensures in
     rw c.in-CreateLibrary.is (says (g.K.Sink.bytes c.args.sink.now) (g.K.Sink.faults c.args.sink.now), refl)
+
+pub returns-in-Assemble-clause-commanded : goal.returns-in-Assemble-clause-commanded
+returns-in-Assemble-clause-commanded g c =
+    rw c.in-Assemble.is (c.assemble_file.ensures (g.K.Sink.bytes c.args.sink.now) (g.K.Sink.faults c.args.sink.now), refl)

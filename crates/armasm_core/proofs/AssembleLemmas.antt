@@ -1,0 +1,43 @@
+-- What a call answers of a text.
+use Rattle.std.proofs.Common.{◌≡◌, ◌⊎◌, inl, inr, ℕ, ◌≤◌, List, length, map, Option, Some, None, Result, Ok, Err, refl, sym, ap, subst}
+use Rattle.std.specs.Str.Lines.{lines}
+use Rattle.sdt_fault.specs.declared.answer.Fault.{Fault}
+use Rattle.sdt_fault.specs.declared.answer.Fault.TheVariants as fault
+use Rattle.sdt_fault.specs.declared.refusal.Refusal.TheVariants.{BadLine}
+use Rattle.sdt_fault.specs.declared.kinds.LineKind.TheVariants.{TooMany}
+use Rattle.aof_object.specs.declared.records.Object.{Object}
+use Rattle.asm_model.specs.declared.lines.Flat.{Flat}
+use Rattle.asm_model.specs.declared.lines.Line.{Line}
+use Rattle.asm_model.specs.Lines.{numbered, first_beyond, split}
+use Rattle.asm_model.specs.Told.{Gives, GivesFault}
+use Rattle.asm_reading.specs.declared.reading.Reading.{Reading}
+use Rattle.asm_reading.specs.Flats.{flat_of}
+use Rattle.asm_reading.specs.Reading.{IsReading}
+use Rattle.armasm_core.specs.Assembling.{most_bytes, Says, Assembles}
+use Rattle.armasm_core.specs.Passes.{Makes}
+
+-- lines are split without reading anything more
+never_read : (source text name : List ℕ) → split source text ≡ Err (fault.ReadFault name) → ⊥
+never_read source text name h = by_first (first_beyond 1 (lines text)) refl
+  where
+    by_first : (o : Option ℕ) → first_beyond 1 (lines text) ≡ o → ⊥
+    by_first None e = let bad : ◌≡◌ {A = Result (List Line) Fault} (Ok (numbered source 1 (lines text))) (Err (fault.ReadFault name)) = rw e at h in absurd (cc)
+    by_first (Some n) e = let bad : ◌≡◌ {A = Result (List Line) Fault} (Err (fault.Refused (BadLine source n TooMany))) (Err (fault.ReadFault name)) = rw e at h in absurd (cc)
+
+pub not_split : (source text : List ℕ) (f : Fault) → length text ≤ most_bytes → GivesFault (split source text) f → Assembles source text (Err f)
+not_split source text (fault.Refused r) short h = inr (short, inl h)
+not_split source text (fault.ReadFault name) short h = never_read source text name h
+not_split source text fault.NoMemory short h = tt
+
+pub assembled : (source text : List ℕ) (ls : List Line) (flats : List Flat) (r : Reading) (x : Result Object Fault) → length text ≤ most_bytes → split source text ≡ Ok ls
+    → flats ≡ map flat_of ls → IsReading flats r → Makes source r x → Assembles source text x
+assembled source text ls flats r x short parts same reading made = by_result x made
+  where
+    says : Says source text r
+    says = record { lines = ls; parts = parts; reading = subst (λ (fs : List Flat). IsReading fs r) same reading }
+
+    by_result : (y : Result Object Fault) → Makes source r y → Assembles source text y
+    by_result (Ok o) h = record { short = short; reading = r; says = says; none = h.0; object = h.1 }
+    by_result (Err (fault.Refused q)) h = inr (short, inr (record { reading = r; says = says; first = h }))
+    by_result (Err (fault.ReadFault name)) h = h
+    by_result (Err fault.NoMemory) h = tt

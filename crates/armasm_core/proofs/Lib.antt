@@ -1,0 +1,4 @@
+mod AssembleLemmas
+mod FaultLemmas
+mod LawLemmas
+mod ListLemmas

@@ -1,0 +1,18 @@
+use Rattle.std.proofs.Common.{arith}
+use Rattle.armasm_core.proofs.AssembleLemmas.{assembled}
+use Rattle.armasm_core.proofs.ListLemmas.{all_no_code16, few_statements}
+use Rattle.armasm_core.proofs.assembling.assemble.Goals as goal
+
+pub object_of-requires-clause-few : goal.object_of-requires-clause-few
+object_of-requires-clause-few c =
+    few_statements c.args.source.now c.args.text.now c.in_ok-lines.lines c.in_ok-flats.flats.items c.in_ok-reading.reading.statements.items c.in_ok-lines.ensures
+    (rw c.into_vec.ensures at c.in_ok-flats.ensures.same) (rw c.as_slice.ensures.value at c.in_ok-reading.ensures.few)
+
+pub object_of-requires-clause-arm_state : goal.object_of-requires-clause-arm_state
+object_of-requires-clause-arm_state c = all_no_code16 c.in_ok-reading.reading.statements.items c.in_ok-reading.ensures.arm
+
+pub returns : goal.returns
+returns c =
+    assembled c.args.source.now c.args.text.now c.in_ok-lines.lines c.in_ok-flats.flats.items c.in_ok-reading.reading c.object_of.result
+    (omega (arith, c.if-text-gt-MOST_BYTES.false)) c.in_ok-lines.ensures (rw c.into_vec.ensures at c.in_ok-flats.ensures.same)
+    (rw c.as_slice.ensures.value at c.in_ok-reading.ensures.reads) c.object_of.ensures

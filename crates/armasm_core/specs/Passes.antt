@@ -1,0 +1,39 @@
+-- What the passes of a source answer. This project's.
+use Rattle.std.specs.Prelude.{◌≡◌, ℕ, List, Option, Some, None, Result, Ok, Err}
+use Rattle.sdt_fault.specs.declared.answer.Fault.{Fault}
+use Rattle.sdt_fault.specs.declared.answer.Fault.TheVariants as fault
+use Rattle.sdt_fault.specs.declared.kinds.LineKind.{LineKind}
+use Rattle.sdt_fault.specs.declared.refusal.Refusal.{Refusal}
+use Rattle.aof_object.specs.declared.records.Object.{Object}
+use Rattle.asm_layout.specs.Layout.{IsLayout}
+use Rattle.asm_model.specs.declared.statements.Statement.{Statement}
+use Rattle.asm_pool.specs.declared.layout.Layout.{Layout}
+use Rattle.asm_reading.specs.declared.reading.Reading.{Reading}
+use Rattle.asm_reading.specs.declared.reading.Unread.{Unread}
+use Rattle.source_model.specs.Objects.{IsObject}
+use Rattle.source_model.specs.SourceFaults.{layout_faults}
+use Rattle.armasm_core.specs.Assembling.{said_by, line_faults, reading_faults, source_faults, without_area}
+
+-- a fault is the refusal that is told, or want of memory
+abbrev pub IsToldAs : Option Refusal → Fault → Type 0
+IsToldAs told (fault.Refused r) = told ≡ Some r
+IsToldAs told (fault.ReadFault name) = ⊥
+IsToldAs told fault.NoMemory = Unit {0}
+
+-- a layout of statements without faults of layout
+pub record IsSoundLayout (statements : List Statement) (l : Layout) : Type 0 where
+  pub none : layout_faults statements ≡ None
+  pub layout : IsLayout statements l
+
+-- of statements, of which so many stand before the first line that can't be read, the last listed first
+abbrev pub LaysLines : List Statement → ℕ → Option Unread → Result Layout Fault → Type 0
+LaysLines statements before unread (Ok l) = (line_faults statements before unread ≡ None) × IsSoundLayout statements l
+LaysLines statements before unread (Err f) = IsToldAs (line_faults statements before unread) f
+
+abbrev pub LaysOut : List ℕ → Reading → Result Layout Fault → Type 0
+LaysOut name r (Ok l) = (reading_faults name r ≡ None) × IsSoundLayout (said_by r) l
+LaysOut name r (Err f) = IsToldAs (reading_faults name r) f
+
+abbrev pub Makes : List ℕ → Reading → Result Object Fault → Type 0
+Makes name r (Ok o) = (source_faults name r ≡ None) × IsObject (said_by r) o
+Makes name r (Err f) = IsToldAs (source_faults name r) f

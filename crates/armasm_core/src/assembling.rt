@@ -1,0 +1,53 @@
+//! One source to one object.
+
+ghost use Rattle.std.specs.Prelude.{◌+◌, ◌<◌, ◌≡◌, Some, length};
+ghost use Rattle.said_model.specs.Said.{AllSaid};
+ghost use Rattle.source_laws.specs.Laws.{NoCode16};
+ghost use Rattle.asm_laying.specs.Behind.{most_statements};
+ghost use Rattle.armasm_core.specs.Assembling as assembling;
+ghost use Rattle.armasm_core.specs.Passes.{Makes};
+
+use crate::reading::laid_out;
+use aof_object::Object;
+use asm_emit::emit;
+use asm_judging::laws::laid_statements_are_said;
+use asm_lines::split_lines;
+use asm_reading::{Reading, flats_of, read_lines};
+use sdt_fault::Text;
+use sdt_fault::answer::Fault;
+use sdt_fault::kinds::Quantity;
+use sdt_fault::refusal::Refusal;
+use source_laws::laws::sources_stay_in_arm_state;
+use std::alloc::Global;
+
+/// The most bytes of a source.
+pub const MOST_BYTES: usize = 1 << 24;
+
+fn object_of(alloc: Global, source: &Text, reading: Reading) -> Result<Object, Fault>
+    requires few { length reading.statements.items < most_statements + 1 }
+    requires said { AllSaid reading.statements.items }
+    requires arm_state { NoCode16 reading.statements.items }
+    ensures { Makes source.now reading result }
+{
+    laid_statements_are_said();
+    sources_stay_in_arm_state();
+    let layout = laid_out(alloc, source, reading)?;
+    emit(alloc, &layout)
+}
+
+/// Assembles the text of the source of this name. A refusal is TooLarge for a text of more than `MOST_BYTES` bytes, or
+/// BadLine at the first line at fault.
+pub fn assemble(alloc: Global, source: &Text, text: &[u8]) -> Result<Object, Fault>
+    ensures { assembling.Assembles source.now text.now result }
+{
+    if text.len() > MOST_BYTES {
+        return Err(Fault::Refused(Refusal::TooLarge {
+            quantity: Quantity::SourceBytes,
+            limit: MOST_BYTES as u64,
+        }));
+    }
+    let lines = split_lines(alloc, source, text)?;
+    let flats = flats_of(alloc, lines.into_vec())?;
+    let reading = read_lines(alloc, flats.as_slice())?;
+    object_of(alloc, source, reading)
+}
