@@ -1,3 +1,4 @@
+mod FitLemmas
 mod FlatLemmas
 mod LawLemmas
 mod ReadLemmas

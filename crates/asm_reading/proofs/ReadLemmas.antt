@@ -73,53 +73,56 @@ no_more (f ∷ fs) (p ∷ ps) h = by_end (says_end p.1) h.2 (λ k. no_more fs ps
 
 -- ---- each statement
 
--- a statement as a line of ARM state says it
-abbrev IsKept : Statement → Type 0
-IsKept s = IsSaid s × StaysInArm s.what
+-- a fact of each statement that a line of ARM state says
+abbrev pub Law : (Statement → Type 0) → Type 0
+Law P = (f : Flat) (s : Statement) → SaysArm f (Ok (Some s)) → P s
 
-abbrev AllKept : List Statement → Type 0
-AllKept [] = Unit {0}
-AllKept (s ∷ ss) = IsKept s × AllKept ss
+abbrev pub IsKept : (Statement → Type 0) → Statement → Type 0
+IsKept P s = P s × StaysInArm s.what
 
-said_of : (ss : List Statement) → AllKept ss → AllSaid ss
+abbrev pub AllKept : (Statement → Type 0) → List Statement → Type 0
+AllKept P [] = Unit {0}
+AllKept P (s ∷ ss) = IsKept P s × AllKept P ss
+
+said_of : (ss : List Statement) → AllKept IsSaid ss → AllSaid ss
 said_of [] h = tt
 said_of (s ∷ ss) h = (h.0.0, said_of ss h.1)
 
-arm_of : (ss : List Statement) → AllKept ss → InArm ss
-arm_of [] h = tt
-arm_of (s ∷ ss) h = (h.0.1, arm_of ss h.1)
+arm_of : (P : Statement → Type 0) (ss : List Statement) → AllKept P ss → InArm ss
+arm_of P [] h = tt
+arm_of P (s ∷ ss) h = (h.0.1, arm_of P ss h.1)
 
-kept_joined : (xs ys : List Statement) → AllKept xs → AllKept ys → AllKept (xs ++ ys)
-kept_joined [] ys h k = k
-kept_joined (x ∷ xs) ys h k = (h.0, kept_joined xs ys h.1 k)
+kept_joined : (P : Statement → Type 0) (xs ys : List Statement) → AllKept P xs → AllKept P ys → AllKept P (xs ++ ys)
+kept_joined P [] ys h k = k
+kept_joined P (x ∷ xs) ys h k = (h.0, kept_joined P xs ys h.1 k)
 
 stays : (w : What) → changes_state w ≡ false → StaysInArm w
 stays (what.Directive line.Code16) e = absurd (cc)
 stays w e = tt
 
-without_kept : LinesAreSaid → (f : Flat) (s : Said) → SaysArm f s → AllKept (statement_in (without_states s))
-without_kept law f (Ok (Some s)) h = by_test (changes_state s.what) refl
+without_kept : (P : Statement → Type 0) → Law P → (f : Flat) (s : Said) → SaysArm f s → AllKept P (statement_in (without_states s))
+without_kept P law f (Ok (Some s)) h = by_test (changes_state s.what) refl
   where
-    by_test : (b : Bool) → changes_state s.what ≡ b → AllKept (statement_in (cond b (Err UnknownWord) (Ok (Some s))))
+    by_test : (b : Bool) → changes_state s.what ≡ b → AllKept P (statement_in (cond b (Err UnknownWord) (Ok (Some s))))
     by_test true e = tt
     by_test false e = ((law f s h, stays s.what e), tt)
-without_kept law f (Ok None) h = tt
-without_kept law f (Err k) h = tt
+without_kept P law f (Ok None) h = tt
+without_kept P law f (Err k) h = tt
 
-as_kept : LinesAreSaid → (f : Flat) (b : Bool) (s : Said) → SaysArm f s → AllKept (statement_in (read_as b s))
-as_kept law f true s h = tt
-as_kept law f false s h = without_kept law f s h
+as_kept : (P : Statement → Type 0) → Law P → (f : Flat) (b : Bool) (s : Said) → SaysArm f s → AllKept P (statement_in (read_as b s))
+as_kept P law f true s h = tt
+as_kept P law f false s h = without_kept P law f s h
 
-one_kept : LinesAreSaid → (f : Flat) (r : Said) → SaysLine f r → AllKept (statement_in r)
-one_kept law f r h = subst (λ (s : Said). AllKept (statement_in s)) (sym h.4) (as_kept law f (has_dollar f.text h.0) h.1 h.3)
+one_kept : (P : Statement → Type 0) → Law P → (f : Flat) (r : Said) → SaysLine f r → AllKept P (statement_in r)
+one_kept P law f r h = subst (λ (s : Said). AllKept P (statement_in s)) (sym h.4) (as_kept P law f (has_dollar f.text h.0) h.1 h.3)
 
-all_kept : LinesAreSaid → (fs : List Flat) (ps : List (Flat × Said)) → Say fs ps → AllKept (statements_in ps)
-all_kept law fs [] h = tt
-all_kept law [] (p ∷ ps) h = absurd h
-all_kept law (f ∷ fs) (p ∷ ps) h =
-    kept_joined (statement_in p.1) (statements_in ps) (one_kept law f p.1 h.1) (by_end (says_end p.1) h.2 (λ k. all_kept law fs ps k))
+pub all_kept : (P : Statement → Type 0) → Law P → (fs : List Flat) (ps : List (Flat × Said)) → Say fs ps → AllKept P (statements_in ps)
+all_kept P law fs [] h = tt
+all_kept P law [] (p ∷ ps) h = absurd h
+all_kept P law (f ∷ fs) (p ∷ ps) h =
+    kept_joined P (statement_in p.1) (statements_in ps) (one_kept P law f p.1 h.1) (by_end (says_end p.1) h.2 (λ k. all_kept P law fs ps k))
   where
-    by_end : (b : Bool) → UnlessEnd b ps (Say fs ps) → (Say fs ps → AllKept (statements_in ps)) → AllKept (statements_in ps)
+    by_end : (b : Bool) → UnlessEnd b ps (Say fs ps) → (Say fs ps → AllKept P (statements_in ps)) → AllKept P (statements_in ps)
     by_end true e rest = let z : ps ≡ [] = e in rw z tt
     by_end false e rest = rest e
 
@@ -174,11 +177,11 @@ pub record Ends (lines : List Flat) (r : Reading) : Type 0 where
 ends_with : LinesAreSaid → (lines : List Flat) (r : Reading) (ps : List (Flat × Said)) → Say lines ps → r.statements.items ≡ statements_in ps → r.unread ≡ first_unread ps
     → r.before ≡ length (statements_in (read_first ps)) → Ends lines r
 ends_with law lines r ps h s u b =
-    let kept : AllKept r.statements.items = rw s (all_kept law lines ps h) in
+    let kept : AllKept IsSaid r.statements.items = rw s (all_kept IsSaid law lines ps h) in
     record {
       reads = record { says = ps; say = h; statements = s; unread = u; before = b };
       said = said_of r.statements.items kept;
-      arm = arm_of r.statements.items kept;
+      arm = arm_of IsSaid r.statements.items kept;
       few = let a : length (statements_in ps) ≤ length ps = few ps in let b : length ps ≤ length lines = no_more lines ps h in rw s (omega arith);
     }
 

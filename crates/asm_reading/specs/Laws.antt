@@ -1,6 +1,12 @@
--- What lines say is one thing. This project's.
-use Rattle.std.specs.Prelude.{◌≡◌, List}
+-- What lines say is one thing, and as layout and emission ask for it. This project's.
+use Rattle.std.specs.Prelude.{◌≡◌, List, []}
 use Rattle.asm_model.specs.declared.lines.Flat.{Flat}
+use Rattle.asm_model.specs.declared.statements.Statement.{Statement}
+use Rattle.layout_model.specs.Laid.{reversed}
+use Rattle.layout_model.specs.PlacedLines.{AllNamed}
+use Rattle.said_model.specs.Fit.{AllFit}
+use Rattle.said_model.specs.Said.{AllSaid, AllHaveTexts}
+use Rattle.source_laws.specs.Laws.{NoCode16}
 use Rattle.asm_reading.specs.declared.reading.Reading.{Reading}
 use Rattle.asm_reading.specs.Reading.{Said, SaysLine, IsReading}
 
@@ -13,3 +19,19 @@ abbrev pub OneReading : Type 0
 OneReading =
     (lines : List Flat) (a b : Reading) → IsReading lines a → IsReading lines b
     → (a.statements.items ≡ b.statements.items) × (a.unread ≡ b.unread) × (a.before ≡ b.before)
+
+-- statements of ARM state as layout and emission ask for them
+pub record AreFit (statements : List Statement) : Type 0 where
+  pub said : AllSaid statements
+  pub texts : AllHaveTexts statements
+  pub fit : AllFit statements
+  pub named : AllNamed statements
+  pub arm : NoCode16 statements
+
+-- the statements of a reading are so in the order of their lines
+abbrev pub ReadingsAreFitInOrder : Type 0
+ReadingsAreFitInOrder = (lines : List Flat) (r : Reading) → IsReading lines r → AreFit r.statements.items
+
+-- and with the last first, as layout lists them
+abbrev pub ReadingsAreFit : Type 0
+ReadingsAreFit = (lines : List Flat) (r : Reading) → IsReading lines r → AreFit (reversed r.statements.items [])

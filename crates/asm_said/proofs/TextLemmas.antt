@@ -1,9 +1,9 @@
--- Names that a line says hold no zero byte, only an area of code has the marks of code, and operands of DCD have no place
--- as a constant.
+-- Names that a line says have a character and hold no zero byte, only an area of code has the marks of code, and operands
+-- of DCD have no place as a constant.
 use Rattle.std.proofs.Common.{◌≡◌, ◌≢◌, ℕ, ◌-◌, ◌==◌, List, [], ◌∷◌, ◌++◌, length, take, ◌||◌, ◌&&◌, not, Bool, true, false, cond, refl, subst, sym, arith, Option, Some, None, inl, inr}
 use Rattle.std.specs.Prelude.{Result, Ok, Err}
 use Rattle.std.specs.List.{AllByRecursion, list_all}
-use Rattle.std.proofs.lemmas.Bool.{and_parts, or_parts}
+use Rattle.std.proofs.lemmas.Bool.{and_parts, or_parts, eqb-true}
 use Rattle.sdt_fault.specs.declared.kinds.LineKind.{LineKind}
 use Rattle.sdt_fault.specs.declared.kinds.LineKind.TheVariants.{Syntax, BadOperand}
 use Rattle.asm_model.specs.declared.lines.Flat.{Flat}
@@ -35,13 +35,15 @@ use Rattle.asm_model.specs.Operands.{operands}
 use Rattle.asm_model.specs.Parts.{piece}
 use Rattle.asm_model.specs.Says.{Form, bare, name, imported, expression, expressions, area, register, boundary, refused, form_of_directive, on_both, mapped, between_bars, name_of, name_alone, weak_mark, import_of, register_alone, Expression, Expressions, SomeExpressions, Area, Register, Aligned, bare_of, Reads, label_of, label_field, Sentence, sentence, directive_of, statement_of, SaysAs, SaysDirective}
 use Rattle.asm_model.specs.Tokens.{first_due, Tokens, Scans}
+use Rattle.layout_model.specs.Labels.{LocalLabel, Label, number_in, labelled, field_defines, defined_by, imported_in}
+use Rattle.layout_model.specs.PlacedLines.{IsName, HasName, HasImport}
 use Rattle.layout_laws.proofs.LineLemmas.{HasForm, EachHasForm, OptionHasForm, tokens_form, sentence_form}
 use Rattle.layout_laws.specs.Sound.{HaveNoPlaces}
-use Rattle.layout_laws.proofs.SaidLemmas.{form_name, form_barred, read_expressions_are_plain}
+use Rattle.layout_laws.proofs.SaidLemmas.{form_name, form_barred, no_between, read_expressions_are_plain}
 use Rattle.asm_arm.specs.Says.{statement, alone, SaysWords, SaysOr, SaysScanned, SaysArm}
 use Rattle.asm_arm.specs.Words.{operation_named}
 use Rattle.said_model.specs.Fit.{MarksAgree, AllPlaceless, DirectiveFits, IsFit}
-use Rattle.said_model.specs.Said.{directive_names, label_names, HoldsNoZero, HasTexts}
+use Rattle.said_model.specs.Said.{directive_names, what_names, label_names, said_names, HoldsNoZero, HasTexts}
 use Rattle.asm_said.proofs.ArmLemmas.{InstructionSaid, instruction_said}
 use Rattle.asm_said.proofs.DirectiveLemmas.{any_gives}
 use Rattle.asm_said.proofs.FormLemmas.{AllHaveForm, operands_form}
@@ -63,23 +65,32 @@ pub words_text : (s : List ℕ) → list_all is_word s ≡ true → HoldsNoZero 
 words_text [] h = tt
 words_text (c ∷ cs) h = let p = and_parts (is_word c) (list_all is_word cs) h in (letter_text c p.0, words_text cs p.1)
 
-pub name_text : (s : List ℕ) → is_name s ≡ true → HoldsNoZero s
-name_text [] h = tt
-name_text (c ∷ cs) h = words_text (c ∷ cs) (and_parts (is_letter c) (one_or_more is_word (c ∷ cs)) h).1
+-- a name with a character, and without a zero byte
+abbrev pub IsText : List ℕ → Type 0
+IsText n = HoldsNoZero n × IsName n
+
+pub name_text : (s : List ℕ) → is_name s ≡ true → IsText s
+name_text [] h = absurd (cc)
+name_text (c ∷ cs) h = (words_text (c ∷ cs) (and_parts (is_letter c) (one_or_more is_word (c ∷ cs)) h).1, tt)
 
 pub inner_text : (c : ℕ) (cs : List ℕ) → ends_with_bar (c ∷ cs) ≡ true → HoldsNoZero (take (length cs) (c ∷ cs))
 inner_text c [] h = tt
 inner_text c (d ∷ ds) h =
     let p = and_parts (is_between_bars c) (ends_with_bar (d ∷ ds)) h in (between_text c p.0, inner_text d ds p.1)
 
-pub barred_text : (s : List ℕ) → is_barred s ≡ true → HoldsNoZero (between_bars s)
+-- a bar stands between no bars, so that a byte stands before the one that ends them
+pub inner_named : (c : ℕ) (cs : List ℕ) → is_between_bars c ≡ true → ends_with_bar (c ∷ cs) ≡ true → IsName (take (length cs) (c ∷ cs))
+inner_named c [] h k = absurd (no_between c (eqb-true c 124 k) h)
+inner_named c (d ∷ ds) h k = tt
+
+pub barred_text : (s : List ℕ) → is_barred s ≡ true → IsText (between_bars s)
 barred_text [] h = absurd (cc)
 barred_text (b ∷ []) h = let p = and_parts (b == 124) false h in absurd (let x = p.1 in cc)
 barred_text (b ∷ c ∷ cs) h =
     let p = and_parts (b == 124) (is_between_bars c && ends_with_bar (c ∷ cs)) h in
     let r = and_parts (is_between_bars c) (ends_with_bar (c ∷ cs)) p.1 in
     let x : length cs ≡ length (b ∷ c ∷ cs) - 2 = omega arith in
-    subst (λ n. HoldsNoZero (take n (c ∷ cs))) x (inner_text c cs r.1)
+    subst (λ n. IsText (take n (c ∷ cs))) x (inner_text c cs r.1, inner_named c cs r.0 r.1)
 
 pub short_text : (s : List ℕ) → is_short s ≡ true → HoldsNoZero s
 short_text [] h = tt
@@ -89,7 +100,7 @@ short_text (c ∷ d ∷ e ∷ cs) h = absurd (cc)
 
 -- ---- names
 
-pub word_text : (k : TokenKind) (s : List ℕ) → HasForm k s → Gives HoldsNoZero (name_of k s)
+pub word_text : (k : TokenKind) (s : List ℕ) → HasForm k s → Gives IsText (name_of k s)
 word_text kind.Name s h = elim h [ inl f ↦ name_text s (form_name s f) | inr f ↦ absurd (cc) ]
 word_text kind.Barred s h = elim h [ inl f ↦ barred_text s (form_barred s f) | inr f ↦ absurd (cc) ]
 word_text kind.Number s h = tt
@@ -99,14 +110,14 @@ word_text kind.Braced s h = tt
 word_text kind.Local s h = tt
 word_text kind.Sign s h = tt
 
-pub number_text : (s : List ℕ) → Gives (OptionGives HoldsNoZero) (cond (is_short s) (Ok (Some (124 ∷ s))) (Err Syntax))
+pub number_text : (s : List ℕ) → Gives (OptionGives IsText) (cond (is_short s) (Ok (Some (124 ∷ s))) (Err Syntax))
 number_text s = by_test (is_short s) refl
   where
-    by_test : (b : Bool) → is_short s ≡ b → Gives (OptionGives HoldsNoZero) (cond b (Ok (Some (124 ∷ s))) (Err Syntax))
-    by_test true e = (λ x. cc, short_text s e)
+    by_test : (b : Bool) → is_short s ≡ b → Gives (OptionGives IsText) (cond b (Ok (Some (124 ∷ s))) (Err Syntax))
+    by_test true e = (((λ x. cc), short_text s e), tt)
     by_test false e = tt
 
-pub label_text : (n : LabelNeed) (k : TokenKind) (s : List ℕ) → HasForm k s → Gives (OptionGives HoldsNoZero) (label_of n k s)
+pub label_text : (n : LabelNeed) (k : TokenKind) (s : List ℕ) → HasForm k s → Gives (OptionGives IsText) (label_of n k s)
 label_text n kind.Name s h = word_text kind.Name s h
 label_text n kind.Barred s h = word_text kind.Barred s h
 label_text need.Name kind.Number s h = tt
@@ -118,24 +129,24 @@ label_text n kind.Braced s h = tt
 label_text n kind.Local s h = tt
 label_text n kind.Sign s h = tt
 
-pub field_text : (n : LabelNeed) (text : List ℕ) (t : Option Token) → OptionHasForm text t → Gives (OptionGives HoldsNoZero) (label_field n text t)
+pub field_text : (n : LabelNeed) (text : List ℕ) (t : Option Token) → OptionHasForm text t → Gives (OptionGives IsText) (label_field n text t)
 field_text n text (Some t) h = label_text n t.kind (piece text t) h
 field_text need.Optional text None h = tt
 field_text need.Label text None h = tt
 field_text need.Name text None h = tt
 
-pub alone_text : (text : List ℕ) (ts : List Token) → EachHasForm text ts → Gives HoldsNoZero (name_alone text ts)
+pub alone_text : (text : List ℕ) (ts : List Token) → EachHasForm text ts → Gives IsText (name_alone text ts)
 alone_text text [] h = tt
 alone_text text (t ∷ []) h = word_text t.kind (piece text t) h.0
 alone_text text (t ∷ u ∷ ts) h = tt
 
 abbrev pub ImportText : List ℕ × Bool → Type 0
-ImportText i = HoldsNoZero i.0
+ImportText i = IsText i.0
 
 pub import_text : (text : List ℕ) (ts : List Token) → EachHasForm text ts → Gives ImportText (import_of text ts)
 import_text text [] h = tt
 import_text text (t ∷ ts) h =
-    both_give HoldsNoZero (λ w. Unit {0}) ImportText (λ n weak. (n, weak)) (name_of t.kind (piece text t)) (weak_mark text ts) (λ n w p q. p)
+    both_give IsText (λ w. Unit {0}) ImportText (λ n weak. (n, weak)) (name_of t.kind (piece text t)) (weak_mark text ts) (λ n w p q. p)
     (word_text t.kind (piece text t) h.0) (any_gives (weak_mark text ts))
 
 -- ---- marks
@@ -191,12 +202,12 @@ some_placeless text (o ∷ os) r h = all_placeless text (o ∷ os) r h
 -- ---- directives
 
 abbrev pub DirectiveFine : DirectiveLine → Type 0
-DirectiveFine l = AllByRecursion HoldsNoZero (directive_names l) × DirectiveFits l
+DirectiveFine l = AllByRecursion IsText (directive_names l) × DirectiveFits l
 
 abbrev pub FormFine : Form → Type 0
 FormFine (bare l) = DirectiveFine l
-FormFine (name make) = (n : List ℕ) → HoldsNoZero n → DirectiveFine (make n)
-FormFine (imported make) = (n : List ℕ) (weak : Bool) → HoldsNoZero n → DirectiveFine (make n weak)
+FormFine (name make) = (n : List ℕ) → IsText n → DirectiveFine (make n)
+FormFine (imported make) = (n : List ℕ) (weak : Bool) → IsText n → DirectiveFine (make n weak)
 FormFine (expression make) = (e : Expr) → DirectiveFine (make e)
 FormFine (expressions make) = (es : List Expr) → AllPlaceless es → DirectiveFine (make es)
 FormFine area = Unit {0}
@@ -218,7 +229,7 @@ area_fine text [] r f h = equal_gives DirectiveFine r (Err Syntax) h tt
 area_fine text (o ∷ os) r f h =
     let attributes = agreed (attributes_in text os) h.0 in
     equal_gives DirectiveFine r (on_both (λ n a. line.Area n a) (name_alone text o) attributes) h.2
-    (both_give HoldsNoZero AttributesAgree DirectiveFine (λ n a. line.Area n a) (name_alone text o) attributes (λ n a p q. ((p, tt), q))
+    (both_give IsText AttributesAgree DirectiveFine (λ n a. line.Area n a) (name_alone text o) attributes (λ n a p q. ((p, tt), q))
     (alone_text text o f.0) (agreed_marks (attributes_in text os) h.0))
 
 pub given_fine : (text : List ℕ) (o : Option ℕ) (ts : List Token) (r : Result DirectiveLine LineKind) → Register text o ts r → Gives DirectiveFine r
@@ -239,7 +250,7 @@ pub form_fine : (text : List ℕ) (form : Form) (ts : List Token) (r : Result Di
 form_fine text (bare l) ts r f k h = equal_gives DirectiveFine r (bare_of l ts) h (bare_fine l ts k)
 form_fine text (name make) ts r f k h =
     equal_gives DirectiveFine r (mapped make (name_alone text ts)) h
-    (mapped_gives HoldsNoZero DirectiveFine make (name_alone text ts) (λ n p. k n p) (alone_text text ts f))
+    (mapped_gives IsText DirectiveFine make (name_alone text ts) (λ n p. k n p) (alone_text text ts f))
 form_fine text (imported make) ts r f k h =
     equal_gives DirectiveFine r (mapped (λ i. make i.0 i.1) (import_of text ts)) h
     (mapped_gives ImportText DirectiveFine (λ i. make i.0 i.1) (import_of text ts) (λ i p. k i.0 i.1 p) (import_text text ts f))
@@ -285,9 +296,9 @@ directive_fine directive.Expansion = tt
 -- ---- statements
 
 abbrev pub StatementFine : Statement → Type 0
-StatementFine s = HasTexts s × IsFit s
+StatementFine s = AllByRecursion IsText (said_names s) × IsFit s
 
-pub with_label : (o : Option (List ℕ)) (ns : List (List ℕ)) → OptionGives HoldsNoZero o → AllByRecursion HoldsNoZero ns → AllByRecursion HoldsNoZero (label_names o ++ ns)
+pub with_label : (o : Option (List ℕ)) (ns : List (List ℕ)) → OptionGives IsText o → AllByRecursion IsText ns → AllByRecursion IsText (label_names o ++ ns)
 with_label None ns h k = k
 with_label (Some n) ns h k = (h, k)
 
@@ -297,11 +308,11 @@ says_directive_fine flat s None r f g h = equal_gives (OptionGives StatementFine
 says_directive_fine flat s (Some d) r f g h =
     let label = label_field (label_need d) flat.text s.label in
     equal_gives (OptionGives StatementFine) r (on_both (statement_of flat) label h.0) h.2
-    (both_give (OptionGives HoldsNoZero) DirectiveFine (OptionGives StatementFine) (statement_of flat) label h.0
+    (both_give (OptionGives IsText) DirectiveFine (OptionGives StatementFine) (statement_of flat) label h.0
     (λ o l p q. (with_label o (directive_names l) p q.0, q.1))
     (field_text (label_need d) flat.text s.label f) (form_fine flat.text (form_of_directive d) s.behind h.0 g (directive_fine d) h.1))
 
-pub instruction_fine : (flat : Flat) (o : Option (List ℕ)) (w : What) → OptionGives HoldsNoZero o → InstructionSaid w → OptionGives StatementFine (statement flat o w)
+pub instruction_fine : (flat : Flat) (o : Option (List ℕ)) (w : What) → OptionGives IsText o → InstructionSaid w → OptionGives StatementFine (statement flat o w)
 instruction_fine flat o what.Nothing h k = absurd k
 instruction_fine flat o (what.Arm l) h k = (with_label o [] h tt, tt)
 instruction_fine flat o (what.Thumb l) h k = absurd k
@@ -311,7 +322,7 @@ instruction_fine flat o (what.Directive l) h k = absurd k
 pub alone_fine : (flat : Flat) (label : Option Token) → OptionHasForm flat.text label → Gives (OptionGives StatementFine) (alone flat label)
 alone_fine flat None f = tt
 alone_fine flat (Some t) f =
-    mapped_gives (OptionGives HoldsNoZero) (OptionGives StatementFine) (λ o. statement flat o what.Nothing) (label_field need.Optional flat.text (Some t))
+    mapped_gives (OptionGives IsText) (OptionGives StatementFine) (λ o. statement flat o what.Nothing) (label_field need.Optional flat.text (Some t))
     (λ o p. (with_label o [] p tt, tt)) (field_text need.Optional flat.text (Some t) f)
 
 pub words_fine : (flat : Flat) (label o : Option Token) (ts : List Token) (r : Result (Option Statement) LineKind) → OptionHasForm flat.text label
@@ -321,7 +332,7 @@ words_fine flat label (Some t) ts r f g h =
     let field = label_field need.Optional flat.text label in
     let word = operation_named (piece flat.text t) in
     equal_gives (OptionGives StatementFine) r (on_both (statement flat) field h.0) h.2
-    (both_give (OptionGives HoldsNoZero) InstructionSaid (OptionGives StatementFine) (statement flat) field h.0 (instruction_fine flat)
+    (both_give (OptionGives IsText) InstructionSaid (OptionGives StatementFine) (statement flat) field h.0 (instruction_fine flat)
     (field_text need.Optional flat.text label f) (instruction_said flat.text word ts h.0 (operation_said (piece flat.text t)) g h.1))
 
 -- ---- lines
@@ -343,3 +354,39 @@ scanned_fine flat (Err k) s scans h = absurd (cc)
 
 pub lines_are_fine : (flat : Flat) (s : Statement) → SaysArm flat (Ok (Some s)) → StatementFine s
 lines_are_fine flat s h = scanned_fine flat h.0 s h.1 h.2
+
+-- ---- what is asked of names
+
+pub no_zeroes : (ns : List (List ℕ)) → AllByRecursion IsText ns → AllByRecursion HoldsNoZero ns
+no_zeroes [] h = tt
+no_zeroes (n ∷ ns) h = (h.0.0, no_zeroes ns h.1)
+
+pub lines_have_texts : (flat : Flat) (s : Statement) → SaysArm flat (Ok (Some s)) → HasTexts s
+lines_have_texts flat s h = no_zeroes (said_names s) (lines_are_fine flat s h).0
+
+pub labelled_named : (n : List ℕ) → HasName (labelled n)
+labelled_named [] = tt
+labelled_named (c ∷ cs) = by_test (c == 124)
+  where
+    by_test : (b : Bool) → HasName (cond b (LocalLabel (number_in cs)) (Label (c ∷ cs)))
+    by_test true = tt
+    by_test false = tt
+
+pub defined_named : (o : Option (List ℕ)) (w : What) → AllByRecursion IsText (label_names o ++ what_names w) → HasName (field_defines o w)
+defined_named None w h = tt
+defined_named (Some n) (what.Directive (line.Equ e)) h = h.0.1
+defined_named (Some n) (what.Directive (line.Rn r)) h = h.0.1
+defined_named (Some n) (what.Directive (line.Field e)) h = h.0.1
+defined_named (Some n) (what.Directive line.Rout) h = tt
+defined_named (Some n) w h = labelled_named n
+
+pub imported_named : (o : Option (List ℕ)) (w : What) → AllByRecursion IsText (label_names o ++ what_names w) → HasImport (imported_in w)
+imported_named None (what.Directive (line.Import n weak)) h = h.0.1
+imported_named (Some n) (what.Directive (line.Import m weak)) h = h.1.0.1
+imported_named None (what.Directive (line.Extern n weak)) h = h.0.1
+imported_named (Some n) (what.Directive (line.Extern m weak)) h = h.1.0.1
+imported_named o w h = tt
+
+pub lines_are_named : (flat : Flat) (s : Statement) → SaysArm flat (Ok (Some s)) → HasName (defined_by s) × HasImport (imported_in s.what)
+lines_are_named flat s h =
+    let texts = (lines_are_fine flat s h).0 in (defined_named s.label s.what texts, imported_named s.label s.what texts)

@@ -1,5 +1,5 @@
--- What a line says is a statement as layout and emission ask for it: expressions are what tokens spell, names begin with
--- no bar, a local label has two digits at most, registers are 0 to 15, and what an instruction's form leaves out is
+-- What a line says is a statement as layout and emission ask for it: expressions are what tokens spell, names have a
+-- character and begin with no bar, a local label has two digits at most, registers are 0 to 15, and what an instruction's form leaves out is
 -- register 0. This project's.
 use Rattle.std.specs.Prelude.{ℕ, List, Some, Ok}
 use Rattle.asm_model.specs.declared.lines.Flat.{Flat}
@@ -10,6 +10,8 @@ use Rattle.asm_model.specs.Grammar.{ParsesTokens}
 use Rattle.asm_model.specs.Says.{SaysDirective}
 use Rattle.asm_model.specs.Tokens.{Tokens}
 use Rattle.asm_arm.specs.Says.{SaysArm}
+use Rattle.layout_model.specs.Labels.{defined_by, imported_in}
+use Rattle.layout_model.specs.PlacedLines.{HasName, HasImport}
 use Rattle.said_model.specs.Fit.{IsFit}
 use Rattle.said_model.specs.Said.{IsRead, IsSaid, HasTexts}
 
@@ -28,6 +30,10 @@ LinesAreSaid = (flat : Flat) (s : Statement) → SaysArm flat (Ok (Some s)) → 
 -- the names that it says outside of expressions hold no zero byte
 abbrev pub LinesHaveTexts : Type 0
 LinesHaveTexts = (flat : Flat) (s : Statement) → SaysArm flat (Ok (Some s)) → HasTexts s
+
+-- each name that it defines or imports has a character
+abbrev pub LinesAreNamed : Type 0
+LinesAreNamed = (flat : Flat) (s : Statement) → SaysArm flat (Ok (Some s)) → HasName (defined_by s) × HasImport (imported_in s.what)
 
 -- the marks of its AREA agree with what that holds, and the operands of its DCD have no place as a constant
 abbrev pub LinesAreFit : Type 0

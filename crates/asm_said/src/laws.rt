@@ -1,6 +1,6 @@
 //! Laws of the definitions, each proved as the contract of an empty function.
 
-ghost use Rattle.asm_said.specs.Laws.{DirectivesAreSaid, ExpressionsAreRead, LinesAreFit, LinesAreSaid, LinesHaveTexts};
+ghost use Rattle.asm_said.specs.Laws.{DirectivesAreSaid, ExpressionsAreRead, LinesAreFit, LinesAreNamed, LinesAreSaid, LinesHaveTexts};
 
 /// An expression that tokens spell is read.
 pub fn expressions_are_read()
@@ -20,6 +20,11 @@ pub fn lines_are_said()
 /// The names that a line says outside of expressions hold no zero byte.
 pub fn lines_have_texts()
     ensures { LinesHaveTexts }
+{}
+
+/// Each name that a line defines or imports has a character.
+pub fn lines_are_named()
+    ensures { LinesAreNamed }
 {}
 
 /// The marks of a line's AREA agree with what that holds, and the operands of its DCD have no place as a constant.

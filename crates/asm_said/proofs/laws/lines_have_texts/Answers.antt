@@ -1,5 +1,5 @@
-use Rattle.asm_said.proofs.TextLemmas.{lines_are_fine}
+use Rattle.asm_said.proofs.TextLemmas.{lines_have_texts}
 use Rattle.asm_said.proofs.laws.lines_have_texts.Goals as goal
 
 pub returns : goal.returns
-returns c = λ flat s h. (lines_are_fine flat s h).0
+returns c = lines_have_texts
