@@ -2,7 +2,7 @@
 -- project's.
 use Rattle.std.specs.Prelude.{List, [], ◌∷◌}
 use Rattle.source_model.specs.Units.{Emitted, Instruction}
-use Rattle.source_laws.specs.Fits.{Fits}
+use Rattle.asm_instructions.specs.Fits.{Fits}
 
 abbrev pub HasWord : Emitted → Type 0
 HasWord (Instruction i symbol) = Fits i

@@ -5,13 +5,13 @@ ghost use Rattle.sdt_word.specs.Bytes.{written};
 ghost use Rattle.sdt_word.specs.Rows.{word_of};
 ghost use Rattle.arm_isa.specs.ArmRows.{arm_fields, arm_row};
 ghost use Rattle.source_model.specs.Objects.{unit_bytes};
-ghost use Rattle.source_laws.specs.Fits.{Fits};
+ghost use Rattle.asm_instructions.specs.Fits.{Fits};
 ghost use Rattle.asm_units.specs.Emitting.{emitted_of};
 ghost use Rattle.asm_drafts.specs.Writing.{HasWord};
 
 use arm_encode::encode_arm;
 use arm_isa::ArmInstr;
-use source_laws::laws::fitting_instructions_are_written;
+use asm_instructions::fitting_instructions_are_written;
 use asm_units::Emitted;
 use sdt_word::put_word;
 

@@ -126,7 +126,7 @@ fn pool_distance(rt: HostRuntime) -> Result<(), Fail> {
         return Err("no area".into());
     };
     assert_eq!(rt; area.size, 4104);
-    assert_eq!(rt; area.bytes.as_slice()[..4], [0xFC, 0x0F, 0x9F, 0xE5]);
+    assert_eq!(rt; area.bytes.as_slice()[..4], [0xFC_u8, 0x0F, 0x9F, 0xE5].as_slice());
     crate::sources::check_refusal(
         &rt,
         rt.alloc(),
