@@ -1,6 +1,6 @@
 //! Objects of small sources, as listings.
 
-use crate::sources::check_listing;
+use crate::sources::{check_listing, check_refusal, first_word, object};
 use std::test::Fail;
 
 #[test]
@@ -121,13 +121,16 @@ end
 #[test]
 fn pool_distance(rt: HostRuntime) -> Result<(), Fail> {
     let text = b" AREA A,CODE\n LDR r0,=0x12345678\n SPACE 4096\n END\n";
-    let object = crate::sources::object(rt.alloc(), text)?;
+    let object = object(rt.alloc(), text)?;
     let Some(area) = object.areas.as_slice().first() else {
         return Err("no area".into());
     };
     assert_eq!(rt; area.size, 4104);
-    assert_eq!(rt; area.bytes.as_slice()[..4], [0xFC_u8, 0x0F, 0x9F, 0xE5].as_slice());
-    crate::sources::check_refusal(
+    let Some((word, _)) = first_word(area.bytes.as_slice()) else {
+        return Err("no word".into());
+    };
+    assert_eq!(rt; word, 0xE59F_0FFC);
+    check_refusal(
         &rt,
         rt.alloc(),
         b" AREA A,CODE\n LDR r0,=0x12345678\n SPACE 4100\n END\n",

@@ -19,6 +19,14 @@ pub fn object(alloc: Global, text: &[u8]) -> Result<Object, Fail> {
     }
 }
 
+/// The first word of bytes, and what stands behind it.
+pub fn first_word(bytes: &[u8]) -> Option<(u32, &[u8])> {
+    match bytes {
+        [a, b, c, d, rest @ ..] => Some((u32::from_le_bytes([*a, *b, *c, *d]), rest)),
+        _ => None,
+    }
+}
+
 /// Compares the listing of a text's object.
 pub fn check_listing(
     rt: &impl Abort,

@@ -1,7 +1,6 @@
 //! A table of lines of ARM state with their words.
 
-use crate::sources::object;
-use sdt_word::word_at;
+use crate::sources::{first_word, object};
 use std::test::Fail;
 
 /// Each line behind its word. GNU's assembler 2.40 for ARM (`arm-none-eabi-as -march=armv4t -mfpu=softfpa`) gave the words;
@@ -314,8 +313,12 @@ E1C100B0 STRH r0,[r1,#-0]
 fn source_of(rt: &HostRuntime) -> Result<Vec<u8>, Fail> {
     let mut source = Vec::new(rt.alloc());
     source.extend_from_slice(b" AREA A,CODE\n")?;
-    for line in TABLE.lines() {
-        source.extend_from_slice(&line.as_bytes()[8..])?;
+    for row in TABLE.lines() {
+        let Some((_, line)) = row.split_once(' ') else {
+            return Err("a row of the table".into());
+        };
+        source.push(b' ')?;
+        source.extend_from_slice(line.as_bytes())?;
         source.push(b'\n')?;
     }
     Ok(source)
@@ -328,13 +331,16 @@ fn words(rt: HostRuntime) -> Result<(), Fail> {
     let Some(area) = object.areas.as_slice().first() else {
         return Err("no area".into());
     };
-    let mut at = 0;
-    for line in TABLE.lines() {
-        let Ok(word) = u32::from_str_radix(&line[..8], 16) else {
-            return Err("a word of the table".into());
+    let mut left = area.bytes.as_slice();
+    for row in TABLE.lines() {
+        let Some((number, _)) = row.split_once(' ') else {
+            return Err("a row of the table".into());
         };
-        assert_eq!(rt; word_at(area.bytes.as_slice(), at), word);
-        at += 4;
+        let Some((word, rest)) = first_word(left) else {
+            return Err("a word of the area".into());
+        };
+        assert_eq!(rt; u32::from_str_radix(number, 16).ok(), Some(word));
+        left = rest;
     }
     Ok(())
 }
