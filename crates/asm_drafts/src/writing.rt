@@ -11,9 +11,9 @@ ghost use Rattle.asm_drafts.specs.Writing.{HasWord};
 
 use arm_encode::encode_arm;
 use arm_isa::ArmInstr;
-use source_laws::laws::fitting_instructions_are_written;
 use asm_units::Emitted;
 use sdt_word::put_word;
+use source_laws::laws::fitting_instructions_are_written;
 
 /// The word of an instruction that fits its row.
 fn instruction_word(instruction: &ArmInstr) -> u32
