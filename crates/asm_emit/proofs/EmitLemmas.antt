@@ -1,11 +1,9 @@
 -- The lines of a layout, emitted one after the other.
-use Rattle.std.proofs.Common.{◌≡◌, ◌≤◌, ◌<◌, ◌-◌, ℕ, List, [], ◌∷◌, ◌++◌, length, take, drop, map, get_or, cond, inr, Option, Some, None, refl, sym, ap, ◌∙◌, subst}
-use Rattle.std.specs.Prelude.{Result}
+use Rattle.std.proofs.Common.{◌≡◌, ◌≤◌, ◌<◌, ◌-◌, ℕ, List, [], ◌∷◌, ◌++◌, length, take, drop, get_or, cond, inr, Option, Some, None, sym, ap, ◌∙◌, subst}
 use Rattle.std.specs.BTreeMap.{BTreeMap}
 use Rattle.std.proofs.lemmas.Bool.{cond-true}
-use Rattle.sdt_fault.specs.declared.kinds.LineKind.{LineKind}
 use Rattle.asm_instructions.specs.Scenes.{register_at}
-use Rattle.asm_drafts.specs.Drafts.{IsDraft, MeetNone}
+use Rattle.asm_drafts.specs.Drafts.{IsDraft}
 use Rattle.asm_judging.specs.declared.putting.LineUnits.{LineUnits}
 use Rattle.asm_judging.specs.declared.whole.Whole.{Whole}
 use Rattle.asm_judging.specs.Giving.{gives}
@@ -93,8 +91,8 @@ grown_all ss names left known gs less h =
     let none = none_left h.before h.rest (subst (λ (xs : List LaidStatement). AreOn h.before h.rest xs) (nothing left less) h.lines) in
     let all : laid ss ≡ h.before = h.parts ∙ ap (λ (ls : List LaidLine). reversed ls h.before) none in
     λ area g is.
-        subst (λ (ls : List LaidLine). IsDraft names (things_behind ss area ls []) g.draft) (sym all)
-        (subst (λ (ls : List LaidLine). IsDraft names (things_behind ss area h.before ls) g.draft) none (h.drafts area g is))
+    subst (λ (ls : List LaidLine). IsDraft names (things_behind ss area ls []) g.draft) (sym all)
+    (subst (λ (ls : List LaidLine). IsDraft names (things_behind ss area h.before ls) g.draft) none (h.drafts area g is))
 
 -- the lines that are left begin with this one
 pub record Next (ss : List Statement) (l : Layout) (w : Whole) (names : List (List ℕ)) (x : LaidStatement) (more : List LaidStatement) (known : BTreeMap (List ℕ) ℕ) (gs : List Growing) : Type 0 where

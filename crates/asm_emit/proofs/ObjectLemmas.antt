@@ -1,24 +1,22 @@
 -- The object of a layout, by its finished areas.
-use Rattle.std.proofs.Common.{◌≡◌, ℕ, zero, suc, ◌+◌, ◌≤◌, ◌<◌, Bool, true, false, List, [], ◌∷◌, ◌++◌, length, map, cond, take, drop, get_or, Option, Some, None, refl, sym, ap, ◌∙◌, subst, arith, ⊎_elim}
-use Rattle.std.specs.Prelude.{not, ◌⊎◌}
+use Rattle.std.proofs.Common.{◌≡◌, ℕ, zero, suc, Bool, true, false, List, [], ◌∷◌, length, map, cond, Some, None, refl, sym, ap, ◌∙◌, subst, arith}
+use Rattle.std.specs.Prelude.{not}
 use Rattle.std.specs.List.{AllZip, slice_get}
 use Rattle.std.proofs.lemmas.Slice.Zip.{AllZip-long}
 use Rattle.aof_object.specs.declared.records.Area.{Area}
 use Rattle.aof_object.specs.declared.records.Reloc.{Reloc}
 use Rattle.asm_drafts.specs.Drafts.{AreRelocs, HoldsPieces, IsDraft}
 use Rattle.asm_drafts.specs.Relocations.{relocs_in, RelocsAreOfSources}
-use Rattle.asm_layout.specs.Layout as laid_out
 use Rattle.asm_layout.specs.Layout.{AreAreas}
 use Rattle.asm_model.specs.declared.statements.Statement.{Statement}
 use Rattle.asm_pool.specs.declared.layout.LaidArea.{LaidArea}
 use Rattle.layout_model.specs.Before.{areas_behind}
-use Rattle.layout_model.specs.Laid.{declared, laid, pieces_of, statements_of}
-use Rattle.layout_model.specs.LayoutKinds.{is_thumb_area}
+use Rattle.layout_model.specs.Laid.{declared, laid, pieces_of}
 use Rattle.layout_model.specs.Offsets.{area_size}
 use Rattle.layout_model.specs.Symbols.{symbols_of}
 use Rattle.layout_laws.proofs.SoundLemmas.{statements_kept}
 use Rattle.source_laws.specs.Laws.{ThingsAreListed, things_in}
-use Rattle.source_model.specs.Objects.{Piece, Source, unit_bytes, source_of, IsAmong, StandsIn, HoldsBytes, KeepsBytes, HasRelocs, IsRelocOf, IsArea, attributes_of, contents_of, is_kept, relocs_of}
+use Rattle.source_model.specs.Objects.{Piece, source_of, HoldsBytes, KeepsBytes, HasRelocs, IsRelocOf, IsArea, contents_of, is_kept, relocs_of}
 use Rattle.source_model.specs.SourceFaults.{layout_faults}
 use Rattle.asm_emit.specs.declared.drafting.Growing.{Growing}
 use Rattle.asm_emit.specs.Drafting.{AreDrafts, Frame, IsFinished, frame, frame_of, frames, kept_size, marks_zeroes}

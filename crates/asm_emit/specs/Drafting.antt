@@ -1,5 +1,5 @@
 -- The areas of an object while they are emitted, and when they are finished. This project's.
-use Rattle.std.specs.Prelude.{◌≡◌, ◌≤◌, ℕ, ◌==◌, Bool, if◌then◌else◌, List, ◌++◌, [], ◌∷◌, length, map, slice_get, Option, Some, None}
+use Rattle.std.specs.Prelude.{◌≡◌, ◌≤◌, ℕ, ◌==◌, Bool, if◌then◌else◌, List, ◌++◌, [], length, map, slice_get, Option, Some}
 use Rattle.sdt_word.specs.Numbers.{bit}
 use Rattle.aof_object.specs.declared.records.Area.{Area}
 use Rattle.asm_drafts.specs.Drafts.{AreRelocs, HoldsPieces, IsDraft, MeetNone}

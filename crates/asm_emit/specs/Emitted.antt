@@ -1,6 +1,6 @@
 -- The object of a layout, or the refusal of its first line whose values have a fault. Statements are listed with the last
 -- first. This project's.
-use Rattle.std.specs.Prelude.{◌≡◌, ℕ, List, None, Result, Ok, Err}
+use Rattle.std.specs.Prelude.{◌≡◌, List, None, Result, Ok, Err}
 use Rattle.sdt_fault.specs.declared.answer.Fault.{Fault}
 use Rattle.aof_object.specs.declared.records.Object.{Object}
 use Rattle.asm_layout.specs.Layout.{IsTold}

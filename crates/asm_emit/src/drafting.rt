@@ -213,13 +213,7 @@ pub fn put_line(
     if number >= growing.len() {
         return Err(NoMemory);
     }
-    grow(
-        &mut growing[number],
-        laid.offset,
-        units,
-        literal,
-        symbols,
-    )
+    grow(&mut growing[number], laid.offset, units, literal, symbols)
 }
 
 fn finished(alloc: Global, growing: Growing) -> Result<Area, NoMemory>

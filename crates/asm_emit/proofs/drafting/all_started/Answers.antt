@@ -10,10 +10,10 @@ use Rattle.asm_emit.proofs.drafting.all_started.Goals as goal
 pub areas-preserved : goal.areas-preserved
 areas-preserved c = (
   let one : c.areas.area-index + 1 ≡ suc c.areas.area-index = omega arith in
-  let more : take (c.areas.area-index + 1) c.args.areas.now ≡ take c.areas.area-index c.args.areas.now ++ c.area-item.result ∷ [] =
-  ap (λ n. take n c.args.areas.now) one ∙ take-suc c.args.areas.now c.areas.area-index c.area-item.result c.areas-test.true
-  ∙ ap (λ (x : LaidArea). take c.areas.area-index c.args.areas.now ++ x ∷ []) (sym c.area-item.is) in
-  ap frames c.in_ok-push.ensures.items
+      let more : take (c.areas.area-index + 1) c.args.areas.now ≡ take c.areas.area-index c.args.areas.now ++ c.area-item.result ∷ [] =
+      ap (λ n. take n c.args.areas.now) one ∙ take-suc c.args.areas.now c.areas.area-index c.area-item.result c.areas-test.true
+      ∙ ap (λ (x : LaidArea). take c.areas.area-index c.args.areas.now ++ x ∷ []) (sym c.area-item.is) in
+      ap frames c.in_ok-push.ensures.items
       ∙ frames_more c.areas.growing.items c.in_ok-started.field-0 (take c.areas.area-index c.args.areas.now) c.area-item.result c.areas.invariant.0 c.in_ok-started.ensures.frame
       ∙ ap (map frame_of) (sym more),
   λ names.

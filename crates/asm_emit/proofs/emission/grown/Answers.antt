@@ -8,7 +8,7 @@ use Rattle.asm_judging.specs.Gathered.{AllLaidSaid}
 use Rattle.asm_judging.specs.Whole.{IsHere}
 use Rattle.asm_judging.proofs.SetLemmas.{said_first}
 use Rattle.asm_emit.specs.Drafting.{frame_of, pieces_put}
-use Rattle.asm_emit.specs.Emission.{IsEmittable, IsGrown}
+use Rattle.asm_emit.specs.Emission.{IsGrown}
 use Rattle.asm_emit.proofs.EmitLemmas.{apart_there, grown_first, grown_all, grown_more, next_there, put_there}
 use Rattle.asm_emit.proofs.emission.grown.Goals as goal
 
