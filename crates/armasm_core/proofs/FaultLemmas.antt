@@ -1,5 +1,5 @@
 -- Faults of passes, as calls answer them.
-use Rattle.std.proofs.Common.{◌≡◌, ◌⊎◌, inl, inr, ℕ, List, [], ◌∷◌, Bool, true, false, cond, Option, Some, None, Result, Ok, Err, refl, sym, ap, ◌∙◌, subst, if◌then◌else◌, ◌==◌}
+use Rattle.std.proofs.Common.{◌≡◌, inl, inr, ℕ, List, true, false, Option, Some, None, Result, Ok, Err, refl, sym, ap, ◌∙◌, subst}
 use Rattle.sdt_fault.specs.declared.answer.Fault.{Fault}
 use Rattle.sdt_fault.specs.declared.answer.Fault.TheVariants as fault
 use Rattle.sdt_fault.specs.declared.kinds.LineKind.{LineKind}
@@ -7,7 +7,6 @@ use Rattle.sdt_fault.specs.declared.refusal.Refusal.{Refusal}
 use Rattle.sdt_fault.specs.declared.refusal.Refusal.TheVariants.{BadLine}
 use Rattle.aof_object.specs.declared.records.Object.{Object}
 use Rattle.asm_emit.specs.Emitted.{IsEmitted}
-use Rattle.asm_layout.specs.Late.{IsCleared}
 use Rattle.asm_layout.specs.Layout.{IsTold, IsOutcome}
 use Rattle.asm_layout.specs.Front.{front_laid}
 use Rattle.asm_model.specs.declared.statements.Statement.{Statement}
@@ -17,8 +16,8 @@ use Rattle.asm_pool.specs.declared.layout.Layout.{Layout}
 use Rattle.asm_reading.specs.declared.reading.Reading.{Reading}
 use Rattle.asm_reading.specs.declared.reading.Unread.{Unread}
 use Rattle.source_model.specs.SourceFaults.{layout_faults, value_faults}
-use Rattle.armasm_core.specs.Assembling.{said_by, has_area, told, unread_told, line_faults, reading_faults, source_faults, without_area}
-use Rattle.armasm_core.specs.Passes.{IsToldAs, IsSoundLayout, LaysLines, LaysOut, Makes}
+use Rattle.armasm_core.specs.Assembling.{said_by, has_area, told, unread_told, line_faults, reading_faults, without_area}
+use Rattle.armasm_core.specs.Passes.{IsToldAs, LaysLines, LaysOut, Makes}
 
 -- ---- a fault
 

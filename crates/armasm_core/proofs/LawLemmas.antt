@@ -1,5 +1,5 @@
 -- A source has one object, or one first refusal.
-use Rattle.std.proofs.Common.{◌≡◌, ◌⊎◌, inl, inr, ℕ, ◌^◌, ◌<◌, ◌≤◌, List, [], ◌∷◌, length, map, Option, Some, None, Result, Ok, Err, refl, sym, ap, ◌∙◌, subst, if◌then◌else◌, arith}
+use Rattle.std.proofs.Common.{◌≡◌, ◌⊎◌, inl, inr, ℕ, ◌<◌, ◌≤◌, List, [], length, map, Option, Some, None, Result, Ok, Err, sym, ap, ◌∙◌, subst, if◌then◌else◌, arith}
 use Rattle.sdt_fault.specs.declared.answer.Fault.{Fault}
 use Rattle.sdt_fault.specs.declared.answer.Fault.TheVariants as fault
 use Rattle.sdt_fault.specs.declared.refusal.Refusal.{Refusal}
@@ -17,7 +17,7 @@ use Rattle.layout_model.specs.Laid.{reversed}
 use Rattle.source_laws.specs.Laws.{OneObject}
 use Rattle.source_model.specs.Objects.{IsObject}
 use Rattle.source_model.specs.SourceFaults.{value_faults}
-use Rattle.armasm_core.specs.Assembling.{most_bytes, Says, said_by, has_area, told, line_faults, without_area, source_faults, IsObjectOf, IsFaultOf, IsRefused, IsAssembled, OneAssembly}
+use Rattle.armasm_core.specs.Assembling.{most_bytes, Says, has_area, told, line_faults, without_area, source_faults, IsObjectOf, IsFaultOf, IsRefused, OneAssembly}
 
 -- ---- two readings of a source
 

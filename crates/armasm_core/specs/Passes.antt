@@ -2,7 +2,6 @@
 use Rattle.std.specs.Prelude.{◌≡◌, ℕ, List, Option, Some, None, Result, Ok, Err}
 use Rattle.sdt_fault.specs.declared.answer.Fault.{Fault}
 use Rattle.sdt_fault.specs.declared.answer.Fault.TheVariants as fault
-use Rattle.sdt_fault.specs.declared.kinds.LineKind.{LineKind}
 use Rattle.sdt_fault.specs.declared.refusal.Refusal.{Refusal}
 use Rattle.aof_object.specs.declared.records.Object.{Object}
 use Rattle.asm_layout.specs.Layout.{IsLayout}
@@ -12,7 +11,7 @@ use Rattle.asm_reading.specs.declared.reading.Reading.{Reading}
 use Rattle.asm_reading.specs.declared.reading.Unread.{Unread}
 use Rattle.source_model.specs.Objects.{IsObject}
 use Rattle.source_model.specs.SourceFaults.{layout_faults}
-use Rattle.armasm_core.specs.Assembling.{said_by, line_faults, reading_faults, source_faults, without_area}
+use Rattle.armasm_core.specs.Assembling.{said_by, line_faults, reading_faults, source_faults}
 
 -- a fault is the refusal that is told, or want of memory
 abbrev pub IsToldAs : Option Refusal → Fault → Type 0

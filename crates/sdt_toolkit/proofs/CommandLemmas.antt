@@ -22,6 +22,7 @@ asked c (Ok d) o seats left a h says = subst (λ (e : Command). Commanded (Ok e)
 asked c (Err place) o seats left a h says = absurd h
 
 unasked : (c : Command) (o : Outside) (seats : List Seat) → IsLeft o → Commanded (Ok c) o seats seats answer.NoMemory
+unasked (command.Assemble source output) o seats left = (left, refl)
 unasked (command.CreateLibrary library objects) o seats left = (answers.no_memory (created library objects) (OfAll (creates library objects) objects) objects o (creates library objects objects) (objects, refl, refl) left, refl)
 unasked (command.ListMembers library) o seats left = (answers.no_memory (listed library) (OfOne (lists library)) (library ∷ []) o (lists library []) ([], refl) left, refl)
 unasked (command.ExtractMember library member output) o seats left = (answers.no_memory (extracted library member output) (OfOne (extracts library member output)) (library ∷ []) o (extracts library member output []) ([], refl) left, refl)

@@ -1,5 +1,5 @@
 -- What a source asks for.
-use Rattle.std.proofs.Common.{◌≡◌, ◌⊎◌, inl, inr, ℕ, ◌^◌, ◌<◌, List, [], ◌∷◌, length, Option, Some, None, Result, Ok, Err, IfOk, refl, sym, ap, ◌∙◌, subst}
+use Rattle.std.proofs.Common.{◌≡◌, inl, inr, ℕ, List, [], ◌∷◌, Option, Some, None, Result, Ok, Err, refl, sym, ap, ◌∙◌, subst}
 use Rattle.sdt_fault.specs.declared.answer.Fault.{Fault}
 use Rattle.sdt_fault.specs.declared.answer.Fault.TheVariants as fault
 use Rattle.sdt_fault.specs.declared.refusal.Refusal.{Refusal}
@@ -8,9 +8,9 @@ use Rattle.sdt_outside.specs.Files.{Files, content, IsFound, IsMissing}
 use Rattle.chunk_file.specs.Reading.{◌>>=◌, Gives}
 use Rattle.aof_object.specs.declared.records.Object.{Object}
 use Rattle.aof_object.specs.Spelling.{written}
-use Rattle.armasm_core.specs.Assembling.{IsAssembled, Assembles, OneAssembly}
+use Rattle.armasm_core.specs.Assembling.{Assembles, OneAssembly}
 use Rattle.tool_answers.specs.Inputs.{AreInputs, IsReached}
-use Rattle.tool_answers.specs.Outcomes.{Outcome, IsLost, writes_one}
+use Rattle.tool_answers.specs.Outcomes.{Outcome, writes_one}
 use Rattle.tool_assembly.specs.Sources.{Spells, TextAsks, SpellsAs, FoundAsks, SourceAsks, OneAsked}
 
 -- ---- a text

@@ -1,5 +1,5 @@
 -- Answers to `asm`, by its ends.
-use Rattle.std.proofs.Common.{◌≡◌, ◌⊎◌, inl, inr, ℕ, List, [], ◌∷◌, Option, Some, None, Result, Ok, Err, refl, sym, ap, subst}
+use Rattle.std.proofs.Common.{◌≡◌, ℕ, List, [], ◌∷◌, Option, Some, None, Result, Ok, Err, refl, sym, ap, subst}
 use Rattle.sdt_fault.specs.declared.answer.Answer.{Answer}
 use Rattle.sdt_fault.specs.declared.answer.Answer.TheVariants as answer
 use Rattle.sdt_fault.specs.declared.answer.Fault.{Fault}

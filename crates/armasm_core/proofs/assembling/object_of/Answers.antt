@@ -1,4 +1,3 @@
-use Rattle.std.proofs.Common.{[]}
 use Rattle.armasm_core.proofs.FaultLemmas.{makes}
 use Rattle.armasm_core.proofs.ListLemmas.{reversed_no_code16}
 use Rattle.armasm_core.proofs.assembling.object_of.Goals as goal
