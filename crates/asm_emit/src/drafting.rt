@@ -122,7 +122,7 @@ fn room_at(draft: &Draft, at: u32) -> Option<usize>
 
 /// Puts things one behind the other. Things that don't fit into the area count as want of memory; those of a layout's
 /// lines fit.
-fn put_units(
+fn put_some(
     draft: &mut Draft,
     at: u32,
     units: &[Emitted],
@@ -138,6 +138,22 @@ fn put_units(
         return Err(NoMemory);
     }
     draft.put_all(at, units, symbols)
+}
+
+/// The same where there may be nothing to put, as of a line in an area of zeros, of which nothing is kept.
+fn put_units(
+    draft: &mut Draft,
+    at: u32,
+    units: &[Emitted],
+    symbols: &Symbols,
+) -> Result<(), NoMemory>
+    ensures size { length draft.new.bytes.items ≡ length draft.old.bytes.items }
+    ensures more { OnOk result ((pieces : Items Piece) → IsDraft symbols.now pieces draft.old → MeetNone pieces (units_from at (map emitted_of units.now)) → IsDraft symbols.now (pieces ++ units_from at (map emitted_of units.now)) draft.new) }
+{
+    match units {
+        [] => Ok(()),
+        _ => put_some(draft, at, units, symbols),
+    }
 }
 
 fn word_unit(word: Stored) -> Emitted
