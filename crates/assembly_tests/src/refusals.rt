@@ -28,9 +28,15 @@ fn kinds(rt: HostRuntime) -> Result<(), Fail> {
         (b" AREA A,CODE\n LDMIA r0,{r3-r1}\n", "2 BadOperand"),
         (b" AREA A,DATA\n ENTRY\n DCD 1\n", "2 BadOperand"),
         (b" AREA A,CODE\n DCD 1\n ENTRY\n", "3 BadOperand"),
-        (b" AREA A,CODE\n ALIGN 3\n DCD 0x1FFFFFFFF\n", "2 OutOfRange"),
+        (
+            b" AREA A,CODE\n ALIGN 3\n DCD 0x1FFFFFFFF\n",
+            "2 OutOfRange",
+        ),
         // Values.
-        (b" AREA A,CODE\n MOV r0,#0x1F0\n MOV r0,#0x101\n", "3 Constant"),
+        (
+            b" AREA A,CODE\n MOV r0,#0x1F0\n MOV r0,#0x101\n",
+            "3 Constant",
+        ),
         (b" AREA A,CODE\n DCD nothing\n", "2 UnknownWord"),
         (b" AREA A,CODE\n ASSERT 1=2\n", "2 Assert"),
         (b" AREA A,CODE\n DCD 1/0\n", "2 DivideByZero"),

@@ -5,7 +5,8 @@ use std::test::Fail;
 
 #[test]
 fn least_rotations(rt: HostRuntime) -> Result<(), Fail> {
-    let text = b" AREA A,CODE\n MOV r1,#0xFF000000\n MOV r0,#0x104\n MOV r0,#0x3F0\n MOV r0,#-1\n END\n";
+    let text =
+        b" AREA A,CODE\n MOV r1,#0xFF000000\n MOV r0,#0x104\n MOV r0,#0x3F0\n MOV r0,#-1\n END\n";
     let listing = "object
 area A 00002202 00000010 0
 00000000 E3A014FF MOV r1,#0xFF000000
@@ -19,7 +20,8 @@ end
 
 #[test]
 fn literals(rt: HostRuntime) -> Result<(), Fail> {
-    let text = b" AREA A,CODE\n ENTRY\n LDR r0,=0x12345678\n SWI 0x11\n LDR r0,=0xFFFFFF00\n LDR r1,=0x12345678\n END\n";
+    let text =
+        b" AREA A,CODE\n ENTRY\n LDR r0,=0x12345678\n SWI 0x11\n LDR r0,=0xFFFFFF00\n LDR r1,=0x12345678\n END\n";
     let listing = "object
 area A 00002202 00000014 0
 00000000 E59F0008 LDR r0,[pc,#0x8]
@@ -44,7 +46,8 @@ symbol other 00000002 00000000 -
 end
 ";
     check_listing(&rt, rt.alloc(), text, listing)?;
-    let pool = b" IMPORT x\n IMPORT y\n AREA A,CODE\n LDR r0,=x+4\n LDR r1,=y+4\n LDR r2,=x+4\n END\n";
+    let pool =
+        b" IMPORT x\n IMPORT y\n AREA A,CODE\n LDR r0,=x+4\n LDR r1,=y+4\n LDR r2,=x+4\n END\n";
     let listing = "object
 area A 00002202 00000014 2
 00000000 E59F0004 LDR r0,[pc,#0x4]
@@ -93,7 +96,8 @@ end
 /// Areas that alternate line by line, names in any order, local labels, data of each width, and an area of zeros.
 #[test]
 fn areas_that_alternate(rt: HostRuntime) -> Result<(), Fail> {
-    let text = b" AREA code,CODE\n EXPORT start\n ENTRY\nstart ADR r0,start\n AREA words,DATA,ALIGN=3\nsize EQU end-begin\nbegin DCD size,text\n AREA code,CODE\n1 SUBS r0,r0,#1\n BNE %B1\n AREA words,DATA,ALIGN=3\ntext DCB \"ab\",0\n DCW 0x1234,-2\nend\n AREA code,CODE\n LDR r1,=begin+4\n LTORG\n AREA space,DATA,NOINIT\nroom SPACE 6\n EXPORT size\n END\n";
+    let text =
+        b" AREA code,CODE\n EXPORT start\n ENTRY\nstart ADR r0,start\n AREA words,DATA,ALIGN=3\nsize EQU end-begin\nbegin DCD size,text\n AREA code,CODE\n1 SUBS r0,r0,#1\n BNE %B1\n AREA words,DATA,ALIGN=3\ntext DCB \"ab\",0\n DCW 0x1234,-2\nend\n AREA code,CODE\n LDR r1,=begin+4\n LTORG\n AREA space,DATA,NOINIT\nroom SPACE 6\n EXPORT size\n END\n";
     let listing = "object
 area code 00002202 00000014 1
 00000000 E24F0008 SUB r0,pc,#0x8
@@ -103,10 +107,7 @@ area code 00002202 00000014 1
 00000010 00000004 ANDEQ r0,r0,r4
 reloc 00000010 82000001
 area words 00000003 00000010 1
-00000000 10000000
-00000004 08000000
-00000008 61620000
-0000000C 3412FEFF
+00000000 1000000008000000616200003412feff
 reloc 00000004 82000001
 area space 00001002 00000008 0
 symbol start 00000003 00000000 code
