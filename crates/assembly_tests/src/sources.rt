@@ -1,6 +1,6 @@
 //! Assembling a text.
 
-use aof_object::Object;
+use aof_object::{Object, object_is_valid};
 use armasm_core::assemble;
 use sdt_fault::Text;
 use sdt_fault::answer::{Answer, Fault};
@@ -27,7 +27,7 @@ pub fn first_word(bytes: &[u8]) -> Option<(u32, &[u8])> {
     }
 }
 
-/// Compares the listing of a text's object.
+/// Compares the listing of a text's object, which is a valid one.
 pub fn check_listing(
     rt: &impl Abort,
     alloc: Global,
@@ -35,6 +35,9 @@ pub fn check_listing(
     wanted: &str,
 ) -> Result<(), Fail> {
     let object = object(alloc, text)?;
+    if !object_is_valid(alloc, &object)? {
+        return Err("the object isn't valid".into());
+    }
     let listing = list_object(alloc, &object)?;
     assert_eq!(rt; listing.as_slice(), wanted.as_bytes());
     Ok(())
