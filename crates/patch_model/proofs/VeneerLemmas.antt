@@ -39,11 +39,12 @@ shows_parts view a (x ∷ xs) ys (here, rest) =
 shows_at : (view : View) (a b : ℕ) (xs : List ℕ) → a ≡ b → Shows view a xs → Shows view b xs
 shows_at view a b xs e shows = let At : ℕ → Type 0 = λ n. Shows view n xs in subst At e shows
 
-to_thumb : (view : View) (v target : ℕ) → Shows view v (bytes_of 0xE59FC000 4 ++ bytes_of 0xE12FFF1C 4 ++ bytes_of ((target + 1) % 2 ^ 32) 4) → VeneerToThumb view v target
-to_thumb view v target shows =
+to_thumb : (view : View) (v target : ℕ) → target % 2 ≡ 0 → Shows view v (bytes_of 0xE59FC000 4 ++ bytes_of 0xE12FFF1C 4 ++ bytes_of ((target + 1) % 2 ^ 32) 4) → VeneerToThumb view v target
+to_thumb view v target even shows =
     let first = shows_parts view v (bytes_of 0xE59FC000 4 ++ bytes_of 0xE12FFF1C 4) (bytes_of ((target + 1) % 2 ^ 32) 4) shows in
     let second = shows_parts view v (bytes_of 0xE59FC000 4) (bytes_of 0xE12FFF1C 4) first.0 in
     record {
+      even = even;
       load = 0xE59FC000;
       exchange = 0xE12FFF1C;
       shows_load = second.0;
@@ -53,15 +54,16 @@ to_thumb view v target shows =
       reads_exchange = reads_exchange;
     }
 
-to_arm : (view : View) (v field target : ℕ) → Shows view v (bytes_of 0x4778 2 ++ bytes_of 0x46C0 2 ++ bytes_of (0xEA000000 + field) 4) → field < 2 ^ 24
+to_arm : (view : View) (v field target : ℕ) → v % 4 ≡ 0 → Shows view v (bytes_of 0x4778 2 ++ bytes_of 0x46C0 2 ++ bytes_of (0xEA000000 + field) 4) → field < 2 ^ 24
     → v + 4 + ahead false + span false (0xEA000000 + field) ≡ target + middle false → VeneerToArm view v target
-to_arm view v field target shows small leads =
+to_arm view v field target aligned shows small leads =
     let first = shows_parts view v (bytes_of 0x4778 2 ++ bytes_of 0x46C0 2) (bytes_of (0xEA000000 + field) 4) shows in
     let second = shows_parts view v (bytes_of 0x4778 2) (bytes_of 0x46C0 2) first.0 in
     let low : (0xEA000000 + field) % 2 ^ 24 ≡ field = omega arith in
     let s = span_arm (v + 4) (0xEA000000 + field) in
     let t = rw low at s in
     record {
+      aligned = aligned;
       exchange = 0x4778;
       nothing = 0x46C0;
       branch = 0xEA000000 + field;
@@ -76,16 +78,16 @@ to_arm view v field target shows small leads =
     }
 
 reads : (view : View) (v target : ℕ) (state : Bool) (bytes : List ℕ) → Shows view v bytes → HasVeneer v target state bytes → IsVeneer view v target state
-reads view v target true bytes shows has = let Here : List ℕ → Type 0 = λ l. Shows view v l in to_thumb view v target (subst Here has shows)
+reads view v target true bytes shows has = let Here : List ℕ → Type 0 = λ l. Shows view v l in to_thumb view v target has.even (subst Here has.contents shows)
 reads view v target false bytes shows has =
-    let Here : List ℕ → Type 0 = λ l. Shows view v l in to_arm view v has.field target (subst Here has.contents shows) has.fits has.leads
+    let Here : List ℕ → Type 0 = λ l. Shows view v l in to_arm view v has.field target has.aligned (subst Here has.contents shows) has.fits has.leads
 
 field_once : (v target f g : ℕ) → f < 2 ^ 24 → g < 2 ^ 24 → v + 4 + ahead false + span false (0xEA000000 + f) ≡ target + middle false
     → v + 4 + ahead false + span false (0xEA000000 + g) ≡ target + middle false → f ≡ g
 field_once v target f g hf hg e d = omega arith
 
 once : (v target : ℕ) (state : Bool) (bytes other : List ℕ) → HasVeneer v target state bytes → HasVeneer v target state other → bytes ≡ other
-once v target true bytes other h g = h ∙ sym g
+once v target true bytes other h g = h.contents ∙ sym g.contents
 once v target false bytes other h g =
     h.contents ∙ ap (λ f. bytes_of 0x4778 2 ++ bytes_of 0x46C0 2 ++ bytes_of (0xEA000000 + f) 4) (field_once v target h.field g.field h.fits g.fits h.leads g.leads) ∙ sym g.contents
 

@@ -77,8 +77,9 @@ BranchesTo view true a target = ThumbPair view a target ⊎ ThumbBranch view a t
 
 -- ---- veneers
 
--- LDR r12 from the word behind the next, BX r12, and the target with bit 0 set
+-- LDR r12 from the word behind the next, BX r12, and the target, which is even, with bit 0 set
 pub record VeneerToThumb (view : View) (v target : ℕ) : Type 0 where
+  pub even : target % 2 ≡ 0
   pub load : ℕ
   pub exchange : ℕ
   pub shows_load : ShowsWord view v load
@@ -87,8 +88,9 @@ pub record VeneerToThumb (view : View) (v target : ℕ) : Type 0 where
   pub reads_load : ReadsArm load (arm.TransferImmediate Al true true false false true 15 12 0)
   pub reads_exchange : ReadsArm exchange (arm.BranchExchange Al 12)
 
--- BX pc, a MOV that does nothing, and B to the target in ARM state
+-- BX pc, a MOV that does nothing, and B to the target in ARM state, at a whole word
 pub record VeneerToArm (view : View) (v target : ℕ) : Type 0 where
+  pub aligned : v % 4 ≡ 0
   pub exchange : ℕ
   pub nothing : ℕ
   pub branch : ℕ
@@ -108,14 +110,20 @@ IsVeneer view v target false = VeneerToArm view v target
 
 -- the bytes of a veneer to ARM code, whose branch has this field
 pub record HasArmVeneer (v target : ℕ) (bytes : List ℕ) : Type 0 where
+  pub aligned : v % 4 ≡ 0
   pub field : ℕ
   pub fits : field < 2 ^ 24
   pub contents : bytes ≡ bytes_of 0x4778 2 ++ bytes_of 0x46C0 2 ++ bytes_of (0xEA000000 + field) 4
   pub leads : v + 4 + ahead false + span false (0xEA000000 + field) ≡ target + middle false
 
+-- the bytes of a veneer to Thumb code
+pub record HasThumbVeneer (target : ℕ) (bytes : List ℕ) : Type 0 where
+  pub even : target % 2 ≡ 0
+  pub contents : bytes ≡ bytes_of 0xE59FC000 4 ++ bytes_of 0xE12FFF1C 4 ++ bytes_of ((target + 1) % 2 ^ 32) 4
+
 -- the bytes of a veneer at an address
 abbrev pub HasVeneer : ℕ → ℕ → Bool → List ℕ → Type 0
-HasVeneer v target true bytes = bytes ≡ bytes_of 0xE59FC000 4 ++ bytes_of 0xE12FFF1C 4 ++ bytes_of ((target + 1) % 2 ^ 32) 4
+HasVeneer v target true bytes = HasThumbVeneer target bytes
 HasVeneer v target false bytes = HasArmVeneer v target bytes
 
 -- the veneers stand in the region, each with the target's address, by the addresses of areas

@@ -19,7 +19,7 @@ use Rattle.asm_model.proofs.LineLemmas.{applied_known, both_empty}
 use Rattle.layout_model.specs.PlacedLines.{IsName}
 use Rattle.layout_laws.proofs.RoundLemmas.{ResultIs}
 use Rattle.source_laws.proofs.BareLemmas.{TreeEach, HoldsConstant}
-use Rattle.stand_laws.specs.Laws.{ItemNamed}
+use Rattle.said_model.specs.Named.{ItemNamed}
 use Rattle.stand_laws.proofs.LiteralLemmas.{Plus, moves, adds, plus_moved, plus_added, Later, Loads, exact, whole, places_kept}
 
 -- ---- operators between values

@@ -46,7 +46,8 @@ use Rattle.source_laws.proofs.FaultlessLemmas.{faultless_layouts_are_sound}
 use Rattle.source_laws.proofs.ListLemmas.{same_first, same_rest}
 use Rattle.source_laws.proofs.ThingLemmas.{own_words, known_extent}
 use Rattle.stand_model.specs.Stands.{WordStands}
-use Rattle.stand_laws.specs.Laws.{AllItemsNamed, LoadNamed, AllLoadsNamed, IsFaultless}
+use Rattle.said_model.specs.Named.{AllItemsNamed, LoadNamed, AllLoadsNamed}
+use Rattle.stand_laws.specs.Laws.{IsFaultless}
 use Rattle.stand_laws.proofs.DataLemmas.{total_of, word_stands}
 use Rattle.stand_laws.proofs.KeptLemmas.{IsLoaded, constants_hold, kept_loads}
 use Rattle.stand_laws.proofs.LiteralLemmas.{Same32, Plus, Later, Loads}

@@ -1,19 +1,15 @@
 -- Wherever the object of a source is placed, each of its statements stands. This project's.
-use Rattle.std.specs.Prelude.{◌≡◌, ℕ, ◌+◌, ◌^◌, ◌<◌, List, [], ◌∷◌, length, Some, None}
+use Rattle.std.specs.Prelude.{◌≡◌, ℕ, ◌+◌, ◌^◌, ◌<◌, List, length, Some, None}
 use Rattle.sdt_word.specs.declared.ranges.Range32.{Range32}
 use Rattle.aof_object.specs.declared.records.Object.{Object}
-use Rattle.asm_model.specs.declared.exprs.ExprItem.{ExprItem}
-use Rattle.asm_model.specs.declared.exprs.ExprItem.TheVariants as item
-use Rattle.asm_model.specs.declared.statements.PseudoLine.TheVariants as pseudo
 use Rattle.asm_model.specs.declared.statements.Statement.{Statement}
-use Rattle.asm_model.specs.declared.statements.What.{What}
-use Rattle.asm_model.specs.declared.statements.What.TheVariants as what
 use Rattle.layout_model.specs.Laid.{LaidLine, laid, pieces_of}
 use Rattle.layout_model.specs.Offsets.{area_size}
-use Rattle.layout_model.specs.PlacedLines.{IsName, AllNamed}
+use Rattle.layout_model.specs.PlacedLines.{AllNamed}
 use Rattle.patch_model.specs.Fields.{Values}
 use Rattle.patch_model.specs.Patched.{Veneers}
 use Rattle.patch_model.specs.Reaches.{View}
+use Rattle.said_model.specs.Named.{AllLoadsNamed}
 use Rattle.said_model.specs.Said.{AllSaid}
 use Rattle.source_laws.specs.Laws.{InArmState}
 use Rattle.source_model.specs.Objects.{Piece, source_of, At, StandsIn, IsAmong, pieces_at, word_at, IsObject}
@@ -21,23 +17,6 @@ use Rattle.source_model.specs.SourceFaults.{layout_faults, value_faults}
 use Rattle.stand_model.specs.Placed.{IsPlaced, ShowsObject}
 use Rattle.stand_model.specs.Shown.{IsShown}
 use Rattle.stand_model.specs.Stands.{Stands, AllStand, IsGap, scene_at, address_behind}
-
--- names in what a statement loads have characters, as all that lines say have
-abbrev pub ItemNamed : ExprItem → Type 0
-ItemNamed (item.Name name) = IsName name
-ItemNamed _ = Unit {0}
-
-abbrev pub AllItemsNamed : List ExprItem → Type 0
-AllItemsNamed [] = Unit {0}
-AllItemsNamed (i ∷ is) = ItemNamed i × AllItemsNamed is
-
-abbrev pub LoadNamed : What → Type 0
-LoadNamed (what.Pseudo (pseudo.LoadConstant condition rd e)) = AllItemsNamed e.items
-LoadNamed _ = Unit {0}
-
-abbrev pub AllLoadsNamed : List Statement → Type 0
-AllLoadsNamed [] = Unit {0}
-AllLoadsNamed (s ∷ before) = LoadNamed s.what × AllLoadsNamed before
 
 -- statements without faults, all in ARM state
 pub record IsFaultless (statements : List Statement) : Type 0 where
