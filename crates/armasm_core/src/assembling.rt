@@ -2,16 +2,16 @@
 
 ghost use Rattle.std.specs.Prelude.{◌+◌, ◌<◌, ◌≡◌, Some, length};
 ghost use Rattle.said_model.specs.Said.{AllSaid};
-ghost use Rattle.source_laws.specs.Laws.{NoCode16};
 ghost use Rattle.asm_laying.specs.Behind.{most_statements};
+ghost use Rattle.asm_reading.specs.Laws.{AreFit};
 ghost use Rattle.armasm_core.specs.Assembling as assembling;
 ghost use Rattle.armasm_core.specs.Passes.{Makes};
 
 use crate::reading::laid_out;
 use aof_object::Object;
 use asm_emit::emit;
-use asm_judging::laws::laid_statements_are_said;
 use asm_lines::split_lines;
+use asm_reading::laws::readings_are_fit;
 use asm_reading::{Reading, flats_of, read_lines};
 use sdt_fault::Text;
 use sdt_fault::answer::Fault;
@@ -26,10 +26,9 @@ pub const MOST_BYTES: usize = 1 << 24;
 fn object_of(alloc: Global, source: &Text, reading: Reading) -> Result<Object, Fault>
     requires few { length reading.statements.items < most_statements + 1 }
     requires said { AllSaid reading.statements.items }
-    requires arm_state { NoCode16 reading.statements.items }
+    requires fit { AreFit (assembling.said_by reading) }
     ensures { Makes source.now reading result }
 {
-    laid_statements_are_said();
     sources_stay_in_arm_state();
     let layout = laid_out(alloc, source, reading)?;
     emit(alloc, &layout)
@@ -40,6 +39,7 @@ fn object_of(alloc: Global, source: &Text, reading: Reading) -> Result<Object, F
 pub fn assemble(alloc: Global, source: &Text, text: &[u8]) -> Result<Object, Fault>
     ensures { assembling.Assembles source.now text.now result }
 {
+    readings_are_fit();
     if text.len() > MOST_BYTES {
         return Err(Fault::Refused(Refusal::TooLarge {
             quantity: Quantity::SourceBytes,

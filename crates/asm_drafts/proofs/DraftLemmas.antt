@@ -13,7 +13,7 @@ use Rattle.source_model.specs.Units.{Emitted}
 use Rattle.source_laws.specs.Laws.{StandApart}
 use Rattle.asm_drafts.specs.declared.drafts.Draft.{Draft}
 use Rattle.asm_drafts.specs.Drafts.{MeetsNone, MeetNone, HoldsPieces, IsDraft, AreRelocs}
-use Rattle.asm_drafts.specs.Writing.{AllHaveWords}
+use Rattle.asm_drafts.specs.Writing.{AllCanStand, CanStand}
 use Rattle.asm_drafts.specs.Relocations.{relocation, relocs_in, noted, relocs_listed}
 use Rattle.asm_drafts.proofs.RelocLemmas.{four, reloc_parts, parts_reloc, noted_here, noted_apart, noted_parts, listed_found, found_listed, rising}
 use Rattle.asm_drafts.proofs.WriteLemmas.{apart, other}
@@ -177,19 +177,17 @@ pub record PutUpTo (names : List (List ℕ)) (at : ℕ) (us : List Emitted) (old
   pub parts : us ≡ done ++ left
   pub here : next ≡ at + length (units_bytes done)
   pub size : length now.bytes.items ≡ length old.bytes.items
-  pub inside : next + length (units_bytes left) ≤ length now.bytes.items
-  pub words : AllHaveWords left
+  pub stand : AllCanStand names (length now.bytes.items) (units_from next left)
   pub draft : (pieces : List Piece) → IsDraft names pieces old → MeetNone pieces (units_from at us) → IsDraft names (pieces ++ units_from at done) now
 
-pub put_none : (names : List (List ℕ)) (at : ℕ) (us : List Emitted) (d : Draft) → at + length (units_bytes us) ≤ length d.bytes.items → AllHaveWords us
+pub put_none : (names : List (List ℕ)) (at : ℕ) (us : List Emitted) (d : Draft) → AllCanStand names (length d.bytes.items) (units_from at us)
     → PutUpTo names at us d at us d
-put_none names at us d inside words = record {
+put_none names at us d stand = record {
   done = [];
   parts = refl;
   here = omega arith;
   size = refl;
-  inside = inside;
-  words = words;
+  stand = stand;
   draft = λ pieces is none. subst (λ (ps : List Piece). IsDraft names ps d) (sym (append-nil pieces)) is;
 }
 
@@ -202,8 +200,8 @@ put_next names at us old next u left now later more h size step put = record {
   parts = h.parts ∙ sym (append_assoc h.done (u ∷ []) left);
   here = let k = h.here in let e = size_more h.done u in omega (arith, k, e, step);
   size = size ∙ h.size;
-  inside = let k = h.inside in let e = length-append (unit_bytes u) (units_bytes left) in omega (arith, k, e, step, size);
-  words = h.words.1;
+  stand = subst (λ (n : ℕ). AllCanStand names n (units_from later left)) (sym size)
+      (subst (λ (n : ℕ). AllCanStand names (length now.bytes.items) (units_from n left)) (sym step) h.stand.1);
   draft = λ pieces is none. subst (λ (ps : List Piece). IsDraft names ps more) (joined pieces) (put (pieces ++ units_from at h.done) (h.draft pieces is none) (meets pieces none));
 }
   where
@@ -232,6 +230,11 @@ pub first_and_rest : {A : Type 0} (xs : List A) (x : A) → 1 ≤ length xs → 
 first_and_rest [] x some e = absurd (omega arith)
 first_and_rest (y ∷ xs) x some e =
     ap (λ z. z ∷ xs) (sym e) ∙ ap (λ zs. x ∷ zs) (sym (rest_of_all xs (length (y ∷ xs) - 1) (omega arith)))
+
+pub stand_first : {C : Type 0} (emitted : C → Emitted) (names : List (List ℕ)) (room next : ℕ) (xs : List C) (x : C) → 1 ≤ length xs → x ≡ get_or xs 0 x
+    → AllCanStand names room (units_from next (map emitted xs)) → CanStand names room (next, emitted x)
+stand_first {C} emitted names room next xs x some e h =
+    (subst (λ (ys : List C). AllCanStand names room (units_from next (map emitted ys))) (first_and_rest xs x some e) h).0
 
 pub put_first : {C : Type 0} (emitted : C → Emitted) (names : List (List ℕ)) (at : ℕ) (us : List Emitted) (old : Draft) (next : ℕ) (xs : List C) (x : C) (now : Draft) (later : ℕ) (more : Draft)
     → 1 ≤ length xs → x ≡ get_or xs 0 x → PutUpTo names at us old next (map emitted xs) now → length more.bytes.items ≡ length now.bytes.items

@@ -1,10 +1,10 @@
 //! An area while it is emitted.
 
 ghost use Rattle.std.specs.Prelude.{◌≡◌, ◌++◌, ◌+◌, ◌<◌, ◌≤◌, ◌^◌, ℕ, List as Items, [], ◌∷◌, length, map, IfOk, OnOk};
-ghost use Rattle.source_model.specs.Objects.{Piece, unit_bytes, units_bytes, units_from};
+ghost use Rattle.source_model.specs.Objects.{Piece, unit_bytes, units_from};
 ghost use Rattle.asm_units.specs.Emitting.{emitted_of};
 ghost use Rattle.asm_drafts.specs.Drafts.{AreRelocs, HoldsPieces, IsDraft, MeetNone, MeetsNone};
-ghost use Rattle.asm_drafts.specs.Writing.{AllHaveWords, HasWord};
+ghost use Rattle.asm_drafts.specs.Writing.{AllCanStand, CanStand};
 
 use crate::relocations::{listed, note, relocation};
 use crate::writing::{put_unit, unit_length};
@@ -42,31 +42,23 @@ impl Draft {
         })
     }
 
-    /// How many bytes it has.
-    pub fn size(&self) -> usize
-        ensures { result ≡ length self.now.bytes.items }
-    {
-        self.bytes.len()
-    }
-
-    /// Puts a thing at an offset. More than 2^24 symbols or areas, and a symbol that isn't listed, count as want of
-    /// memory.
+    /// Puts a thing at an offset.
     pub fn put(&mut self, at: u32, unit: &Emitted, symbols: &Symbols) -> Result<(), NoMemory>
-        requires inside { at + length (unit_bytes (emitted_of unit.now)) ≤ length self.old.bytes.items }
-        requires words { HasWord (emitted_of unit.now) }
+        requires few { length symbols.now < 2 ^ 24 }
+        requires stands { CanStand symbols.now (length self.old.bytes.items) (at, emitted_of unit.now) }
         ensures size { length self.new.bytes.items ≡ length self.old.bytes.items }
         ensures more { OnOk result ((pieces : Items Piece) → IsDraft symbols.now pieces self.old → MeetsNone pieces (at, emitted_of unit.now) → IsDraft symbols.now (pieces ++ (at, emitted_of unit.now) ∷ []) self.new) }
     {
-        let relocation = relocation(symbols, unit)?;
+        let relocation = relocation(symbols, unit);
         put_unit(&mut self.bytes, at as usize, unit);
         note(&mut self.relocs, at, relocation)
     }
 
     /// Puts things one behind the other.
     pub fn put_all(&mut self, at: u32, units: &[Emitted], symbols: &Symbols) -> Result<(), NoMemory>
+        requires few { length symbols.now < 2 ^ 24 }
         requires small { length self.old.bytes.items < 2 ^ 32 }
-        requires inside { at + length (units_bytes (map emitted_of units.now)) ≤ length self.old.bytes.items }
-        requires words { AllHaveWords (map emitted_of units.now) }
+        requires stand { AllCanStand symbols.now (length self.old.bytes.items) (units_from at (map emitted_of units.now)) }
         ensures size { length self.new.bytes.items ≡ length self.old.bytes.items }
         ensures more { OnOk result ((pieces : Items Piece) → IsDraft symbols.now pieces self.old → MeetNone pieces (units_from at (map emitted_of units.now)) → IsDraft symbols.now (pieces ++ units_from at (map emitted_of units.now)) self.new) }
     {

@@ -8,4 +8,3 @@ mod writing;
 
 pub use crate::drafts::{Draft, Finished};
 pub use crate::laws::relocations_are_of_sources;
-pub use crate::writing::unit_length;

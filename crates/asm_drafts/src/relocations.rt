@@ -1,6 +1,6 @@
 //! The relocations of an area by offset.
 
-ghost use Rattle.std.specs.Prelude.{◌≡◌, ◌+◌, ◌≤◌, ℕ, IfOk, OnOk};
+ghost use Rattle.std.specs.Prelude.{◌≡◌, ◌+◌, ◌<◌, ◌≤◌, ◌^◌, ℕ, length, IfOk, OnOk};
 ghost use Rattle.std.specs.Option.{option_copied};
 ghost use Rattle.std.specs.Ordering.{nat_cmp};
 ghost use Rattle.std.specs.BTreeMap.{IsOrdered, get};
@@ -8,6 +8,7 @@ ghost use Rattle.layout_model.specs.Before.{place_of};
 ghost use Rattle.asm_units.specs.Emitting.{emitted_of, target_of};
 ghost use Rattle.asm_drafts.specs.Relocations as model;
 ghost use Rattle.asm_drafts.specs.Relocations.{noted, relocs_listed};
+ghost use Rattle.asm_drafts.specs.Writing.{HasNumber, IsListed, SymbolHasNumber, TargetHasNumber};
 
 use aof_object::Reloc;
 use asm_symbols::Symbols;
@@ -25,54 +26,55 @@ const SYMBOL_WORD: u32 = 0x8A00_0000;
 /// A branch relocated by a symbol, relative to its place.
 const SYMBOL_BRANCH: u32 = 0x8F00_0000;
 
-/// A relocation's word with the number of a symbol or an area. It has room for 24 bits, and more symbols count as want
-/// of memory.
-fn with_number(bits: u32, number: u32) -> Result<u32, NoMemory>
-    requires { bits ≤ 0xFF000000 }
-    ensures { IfOk result (λ word. word ≡ bits + number) }
+/// The number of a symbol that is listed.
+fn number_of(symbols: &Symbols, name: &Text) -> u32
+    requires { IsListed symbols.now name.now }
+    ensures { result ≡ place_of name.now symbols.now }
 {
-    if number > 0xFF_FFFF {
-        return Err(NoMemory);
-    }
-    Ok(bits + number)
+    symbols.number_of(name).unwrap()
 }
 
-/// One that is relocated by a symbol. A symbol that isn't listed counts as want of memory.
-fn by_symbol(bits: u32, symbols: &Symbols, name: &Text) -> Result<u32, NoMemory>
-    requires { bits ≤ 0xFF000000 }
-    ensures { IfOk result (λ word. word ≡ bits + place_of name.now symbols.now) }
+/// One that is relocated by a symbol; its word has room for 24 bits of the symbol's number.
+fn by_symbol(bits: u32, symbols: &Symbols, name: &Text) -> u32
+    requires room { bits ≤ 0xFF000000 }
+    requires few { length symbols.now < 2 ^ 24 }
+    requires listed { IsListed symbols.now name.now }
+    ensures { result ≡ bits + place_of name.now symbols.now }
 {
-    match symbols.number_of(name) {
-        None => Err(NoMemory),
-        Some(number) => with_number(bits, number),
-    }
+    bits + number_of(symbols, name)
 }
 
-fn word_relocation(symbols: &Symbols, target: &Target) -> Result<Option<u32>, NoMemory>
-    ensures { IfOk result (λ word. word ≡ model.word_relocation symbols.now (target_of target.now)) }
+fn word_relocation(symbols: &Symbols, target: &Target) -> Option<u32>
+    requires few { length symbols.now < 2 ^ 24 }
+    requires number { TargetHasNumber symbols.now (target_of target.now) }
+    ensures { result ≡ model.word_relocation symbols.now (target_of target.now) }
 {
     match target {
-        Target::Nothing => Ok(None),
-        Target::Area(area) => Ok(Some(with_number(AREA_WORD, *area)?)),
-        Target::Symbol(name) => Ok(Some(by_symbol(SYMBOL_WORD, symbols, name)?)),
+        Target::Nothing => None,
+        Target::Area(area) => Some(AREA_WORD + *area),
+        Target::Symbol(name) => Some(by_symbol(SYMBOL_WORD, symbols, name)),
     }
 }
 
-fn branch_relocation(symbols: &Symbols, symbol: Option<&Text>) -> Result<Option<u32>, NoMemory>
-    ensures { IfOk result (λ word. word ≡ model.branch_relocation symbols.now (option_copied symbol.entry)) }
+fn branch_relocation(symbols: &Symbols, symbol: Option<&Text>) -> Option<u32>
+    requires few { length symbols.now < 2 ^ 24 }
+    requires number { SymbolHasNumber symbols.now (option_copied symbol) }
+    ensures { result ≡ model.branch_relocation symbols.now (option_copied symbol.entry) }
 {
     match symbol {
-        None => Ok(None),
-        Some(name) => Ok(Some(by_symbol(SYMBOL_BRANCH, symbols, name)?)),
+        None => None,
+        Some(name) => Some(by_symbol(SYMBOL_BRANCH, symbols, name)),
     }
 }
 
 /// The second word of the relocation of a thing, where it has one.
-pub fn relocation(symbols: &Symbols, unit: &Emitted) -> Result<Option<u32>, NoMemory>
-    ensures { IfOk result (λ word. word ≡ model.relocation symbols.now (emitted_of unit.now)) }
+pub fn relocation(symbols: &Symbols, unit: &Emitted) -> Option<u32>
+    requires few { length symbols.now < 2 ^ 24 }
+    requires number { HasNumber symbols.now (emitted_of unit.now) }
+    ensures { result ≡ model.relocation symbols.now (emitted_of unit.now) }
 {
     match unit {
-        Emitted::Bytes(_) => Ok(None),
+        Emitted::Bytes(_) => None,
         Emitted::Word { target, .. } => word_relocation(symbols, target),
         Emitted::Instruction { symbol, .. } => branch_relocation(symbols, symbol.as_ref()),
     }

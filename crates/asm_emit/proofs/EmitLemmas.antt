@@ -39,13 +39,13 @@ later ss area p before [] h = h
 later ss area p before (r ∷ rest) h =
     later ss area p (r ∷ before) rest (among_first p (things_behind ss area before (r ∷ rest)) (things_of ss area r before rest) h)
 
-stands_there : ThingsAreListed → (ss : List Statement) (area : ℕ) (p : Piece) (before rest : List LaidLine) → laid ss ≡ reversed rest before
+pub stands_there : ThingsAreListed → (ss : List Statement) (area : ℕ) (p : Piece) (before rest : List LaidLine) → laid ss ≡ reversed rest before
     → IsAmong p (things_behind ss area before rest) → StandsIn (source_of ss) area p
 stands_there law ss area p before rest parts h =
     (law ss area p).1 (subst (λ (ls : List LaidLine). IsAmong p (things_behind ss area ls [])) (sym parts) (later ss area p before rest h))
 
 -- what a line puts into its area
-things_here : (ss : List Statement) (area : ℕ) (before rest : List LaidLine) (l : LaidLine) (more : List Piece) → l.area ≡ Some area → own_things ss l before rest ≡ more
+pub things_here : (ss : List Statement) (area : ℕ) (before rest : List LaidLine) (l : LaidLine) (more : List Piece) → l.area ≡ Some area → own_things ss l before rest ≡ more
     → things_behind ss area (l ∷ before) rest ≡ things_behind ss area before (l ∷ rest) ++ more
 things_here ss area before rest l more here e =
     ap (λ (ps : List Piece). things_behind ss area before (l ∷ rest) ++ ps) (cond-true (is_of area l.area) (own_things ss l before rest) [] (is_here area l.area here) ∙ e)

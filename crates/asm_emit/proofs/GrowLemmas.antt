@@ -1,40 +1,30 @@
 -- Areas in which a line more stands.
-use Rattle.std.proofs.Common.{◌≡◌, ◌⊎◌, inl, inr, ◌+◌, ◌-◌, ◌≤◌, ◌<◌, ℕ, zero, suc, List, [], ◌∷◌, ◌++◌, length, map, take, drop, get_or, cond, false, Option, Some, None, refl, sym, ap, ◌∙◌, subst, arith, append_assoc, append-nil, length-append, nat_eq}
+use Rattle.std.proofs.Common.{◌≡◌, ◌⊎◌, inl, inr, ◌+◌, ◌<◌, ◌^◌, ℕ, zero, suc, List, [], ◌∷◌, ◌++◌, length, map, get_or, cond, false, Option, Some, None, refl, sym, ap, ◌∙◌, subst, arith, append_assoc, append-nil, nat_eq}
 use Rattle.std.specs.List.{slice_get, slice_set}
 use Rattle.std.proofs.lemmas.Bool.{cond-true, cond-false, eqb-true, false_from_ne_true}
 use Rattle.std.proofs.lemmas.Option.{slice_get_read}
 use Rattle.asm_drafts.specs.Drafts.{IsDraft, MeetNone}
-use Rattle.asm_drafts.proofs.DraftLemmas.{among_front, among_behind, first_and_rest}
-use Rattle.asm_drafts.specs.Writing.{HasWord}
-use Rattle.asm_judging.proofs.LoopLemmas.{nothing}
+use Rattle.asm_drafts.proofs.DraftLemmas.{among_front, among_behind}
+use Rattle.asm_drafts.specs.Writing.{AllCanStand}
 use Rattle.asm_pool.specs.declared.layout.LaidArea.{LaidArea}
-use Rattle.asm_units.specs.declared.emitted.Emitted.{Emitted as Code}
-use Rattle.asm_units.specs.Emitting.{emitted_of}
 use Rattle.layout_model.specs.Offsets.{is_of}
 use Rattle.layout_model.proofs.OffsetLemmas.{is_here}
-use Rattle.source_model.specs.Objects.{Piece, IsAmong, unit_bytes, units_bytes}
-use Rattle.source_model.specs.Units.{Emitted}
+use Rattle.source_model.specs.Objects.{Piece, IsAmong}
 use Rattle.asm_emit.specs.declared.drafting.Growing.{Growing}
-use Rattle.asm_emit.specs.Drafting.{AreDrafts, CanStand, MeetNoneThere, Frame, frame, frame_of, frames, with_line}
-
--- ---- things that fit into a room
-
-stand_more : (u : Emitted) (us : List Emitted) (room less : ℕ) → HasWord u → length (unit_bytes u) + less ≡ room → CanStand us less → CanStand (u ∷ us) room
-stand_more u us room less word e h = ((word, h.0), let n = length-append (unit_bytes u) (units_bytes us) in let k = h.1 in omega (arith, n, k, e))
-
-pub stand_first : (xs : List Code) (x : Code) (room less : ℕ) → 1 ≤ length xs → x ≡ get_or xs 0 x → HasWord (emitted_of x) → length (unit_bytes (emitted_of x)) + less ≡ room
-    → CanStand (map emitted_of (take (length xs - 1) (drop 1 xs))) less → CanStand (map emitted_of xs) room
-stand_first xs x room less some at word e h =
-    subst (λ (ys : List Code). CanStand (map emitted_of ys) room) (sym (first_and_rest xs x some at))
-    (stand_more (emitted_of x) (map emitted_of (take (length xs - 1) (drop 1 xs))) room less word e h)
-
-pub stand_none : (xs : List Code) (room : ℕ) → length xs < 1 → CanStand (map emitted_of xs) room
-stand_none xs room less = subst (λ (ys : List Code). CanStand (map emitted_of ys) room) (sym (nothing xs less)) (tt, omega arith)
+use Rattle.asm_emit.specs.Drafting.{AreDrafts, CanTake, LineCanStand, MeetNoneThere, Frame, frame, frame_of, frames, with_line}
 
 -- ---- the units of a line, and behind them the word of its literal
 
 pub meet_front : (ps us ws : List Piece) → MeetNone (ps ++ (us ++ ws)) (us ++ ws) → MeetNone ps us
 meet_front ps us ws h = λ q u p k. h q (among_front q us ws u) p (among_front p ps (us ++ ws) k)
+
+pub stand_front : (names : List (List ℕ)) (room : ℕ) (us ws : List Piece) → AllCanStand names room (us ++ ws) → AllCanStand names room us
+stand_front names room [] ws h = tt
+stand_front names room (u ∷ us) ws h = (h.0, stand_front names room us ws h.1)
+
+pub stand_behind : (names : List (List ℕ)) (room : ℕ) (us ws : List Piece) → AllCanStand names room (us ++ ws) → AllCanStand names room ws
+stand_behind names room [] ws h = h
+stand_behind names room (u ∷ us) ws h = stand_behind names room us ws h.1
 
 pub meet_behind : (ps us ws : List Piece) → MeetNone (ps ++ (us ++ ws)) (us ++ ws) → MeetNone (ps ++ us) ws
 meet_behind ps us ws h = λ q u p k. h q (among_behind q us ws u) p (subst (IsAmong p) (append_assoc ps us ws) (among_front p (ps ++ us) ws k))
@@ -56,6 +46,37 @@ pub set_frames : (gs : List Growing) (i : ℕ) (x y : Growing) → x ≡ get_or 
 set_frames [] i x y at e = refl
 set_frames (g ∷ gs) zero x y at e = ap (λ (f : Frame). f ∷ frames gs) (e ∙ ap frame at)
 set_frames (g ∷ gs) (suc i) x y at e = ap (λ (fs : List Frame). frame g ∷ fs) (set_frames gs i x y at e)
+
+-- what a listed area keeps
+pub take_there : (names : List (List ℕ)) (fs : List Frame) (own : Option ℕ) (area : ℕ) (more : List Piece) → own ≡ Some area → LineCanStand names fs own more
+    → CanTake names fs area more
+take_there names fs own area more e h = subst (λ (o : Option ℕ). LineCanStand names fs o more) e h
+
+frame_less : (gs : List Growing) (i : ℕ) (f : Frame) → slice_get (frames gs) i ≡ Some f → i < length gs
+frame_less [] i f e = absurd (cc)
+frame_less (g ∷ gs) zero f e = omega arith
+frame_less (g ∷ gs) (suc i) f e = let less = frame_less gs i f e in omega (arith, less)
+
+frame_read : (gs : List Growing) (i : ℕ) (f : Frame) (x : Growing) → slice_get (frames gs) i ≡ Some f → x ≡ get_or gs i x → f ≡ frame x
+frame_read [] i f x e at = absurd (cc)
+frame_read (g ∷ gs) zero f x e at = let same : frame g ≡ f = cc in sym same ∙ sym (ap frame at)
+frame_read (g ∷ gs) (suc i) f x e at = frame_read gs i f x e at
+
+pub take_less : (names : List (List ℕ)) (gs : List Growing) (own : Option ℕ) (area : ℕ) (more : List Piece) → own ≡ Some area
+    → LineCanStand names (frames gs) own more → area < length gs
+take_less names gs own area more e h = let t = take_there names (frames gs) own area more e h in frame_less gs area t.own t.there
+
+pub take_small : (names : List (List ℕ)) (gs : List Growing) (own : Option ℕ) (area : ℕ) (more : List Piece) (x : Growing) → own ≡ Some area → x ≡ get_or gs area x
+    → LineCanStand names (frames gs) own more → length x.draft.bytes.items < 2 ^ 32
+take_small names gs own area more x e at h =
+    let t = take_there names (frames gs) own area more e h in
+    subst (λ (f : Frame). f.kept < 2 ^ 32) (frame_read gs area t.own x t.there at) t.small
+
+pub take_stand : (names : List (List ℕ)) (gs : List Growing) (own : Option ℕ) (area : ℕ) (more : List Piece) (x : Growing) → own ≡ Some area → x ≡ get_or gs area x
+    → LineCanStand names (frames gs) own more → AllCanStand names (length x.draft.bytes.items) more
+take_stand names gs own area more x e at h =
+    let t = take_there names (frames gs) own area more e h in
+    subst (λ (f : Frame). AllCanStand names f.kept more) (frame_read gs area t.own x t.there at) t.stand
 
 pub drafts_put : (names : List (List ℕ)) (held : ℕ → List Piece) (gs : List Growing) (i : ℕ) (x y : Growing) (own : Option ℕ) (more : List Piece)
     → own ≡ Some i → i < length gs → x ≡ get_or gs i x → AreDrafts names held gs → MeetNoneThere held own more

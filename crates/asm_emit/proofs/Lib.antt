@@ -6,3 +6,4 @@ mod GrowLemmas
 mod ListLemmas
 mod LoadLemmas
 mod ObjectLemmas
+mod StandLemmas

@@ -54,7 +54,7 @@ same_low m n e = omega arith
 low_of : (a b c : ℕ) → a ≤ b → b ≤ c → a ≤ c
 low_of a b c h k = omega arith
 
-within_there : (statements : List Statement) (areas : List LaidArea) (w : Whole) (before rest : List LaidLine) (l : LaidLine) (x : LaidStatement)
+pub within_there : (statements : List Statement) (areas : List LaidArea) (w : Whole) (before rest : List LaidLine) (l : LaidLine) (x : LaidStatement)
     → StandsThere statements areas w before rest l x → IsWithin (length areas) l.area
 within_there statements areas w before rest l x h =
     let d = declared statements in
@@ -69,7 +69,7 @@ within_there statements areas w before rest l x h =
     let there = line_within n [] d b.s b.ss (subst (λ (ls : List LaidLine). length (areas_behind (statements_of ls)) ≤ n) same low) in
     subst (λ (k : LaidLine). IsWithin n k.area) (sym b.line) there.area
 
-area_there : (areas : List LaidArea) (i : ℕ) → i < length areas → (a : LaidArea) × (slice_get areas i ≡ Some a)
+pub area_there : (areas : List LaidArea) (i : ℕ) → i < length areas → (a : LaidArea) × (slice_get areas i ≡ Some a)
 area_there [] i less = absurd (omega arith)
 area_there (a ∷ areas) zero less = (a, refl)
 area_there (a ∷ areas) (suc i) less = area_there areas i (omega arith)

@@ -1,22 +1,25 @@
 -- The object of a layout, by its finished areas.
-use Rattle.std.proofs.Common.{◌≡◌, ℕ, zero, suc, Bool, true, false, List, [], ◌∷◌, length, map, cond, Some, None, refl, sym, ap, ◌∙◌, subst, arith}
+use Rattle.std.proofs.Common.{◌≡◌, ◌<◌, ◌^◌, ℕ, zero, suc, Bool, true, false, List, [], ◌∷◌, length, map, cond, Some, None, refl, sym, ap, ◌∙◌, subst, arith}
 use Rattle.std.specs.Prelude.{not}
 use Rattle.std.specs.List.{AllZip, slice_get}
 use Rattle.std.proofs.lemmas.Slice.Zip.{AllZip-long}
 use Rattle.aof_object.specs.declared.records.Area.{Area}
 use Rattle.aof_object.specs.declared.records.Reloc.{Reloc}
+use Rattle.aof_object.specs.declared.records.Symbol.{Symbol}
 use Rattle.asm_drafts.specs.Drafts.{AreRelocs, HoldsPieces, IsDraft}
 use Rattle.asm_drafts.specs.Relocations.{relocs_in, RelocsAreOfSources}
 use Rattle.asm_layout.specs.Layout.{AreAreas}
 use Rattle.asm_model.specs.declared.statements.Statement.{Statement}
 use Rattle.asm_pool.specs.declared.layout.LaidArea.{LaidArea}
 use Rattle.layout_model.specs.Before.{areas_behind}
-use Rattle.layout_model.specs.Laid.{declared, laid, pieces_of}
+use Rattle.layout_model.specs.Laid.{declared, final_names, laid, pieces_of}
 use Rattle.layout_model.specs.Offsets.{area_size}
 use Rattle.layout_model.specs.Symbols.{symbols_of}
+use Rattle.asm_model.specs.Meaning.{named_in}
+use Rattle.object_laws.proofs.RelocLemmas.{length_map}
 use Rattle.layout_laws.proofs.SoundLemmas.{statements_kept}
 use Rattle.source_laws.specs.Laws.{ThingsAreListed, things_in}
-use Rattle.source_model.specs.Objects.{Piece, source_of, HoldsBytes, KeepsBytes, HasRelocs, IsRelocOf, IsArea, contents_of, is_kept, relocs_of}
+use Rattle.source_model.specs.Objects.{Piece, source_of, HoldsBytes, KeepsBytes, HasRelocs, IsRelocOf, IsArea, contents_of, is_kept, relocs_of, symbol_named, symbol_records}
 use Rattle.source_model.specs.SourceFaults.{layout_faults}
 use Rattle.asm_emit.specs.declared.drafting.Growing.{Growing}
 use Rattle.asm_emit.specs.Drafting.{AreDrafts, Frame, IsFinished, frame, frame_of, frames, kept_size, marks_zeroes}
@@ -134,3 +137,12 @@ pub count_there : (ss : List Statement) (xs : List LaidArea) (gs : List Growing)
     → AllZip IsFinished gs areas → length areas ≡ length (areas_behind ss)
 count_there ss xs gs areas laid_areas same done =
     AllZip-long IsFinished gs areas done ∙ long gs xs same ∙ laid_areas.count ∙ ap (λ (ss : List Statement). length (areas_behind ss)) (statements_kept (declared ss) ss)
+
+-- as many symbols as records
+pub few_there : (ss : List Statement) (names : List (List ℕ)) (records : List Symbol) → names ≡ symbols_of (final_names (laid ss)) (laid ss)
+    → records ≡ symbol_records (source_of ss) → length records < 2 ^ 24 → length names < 2 ^ 24
+few_there ss names records listed same few =
+    subst (λ (n : ℕ). n < 2 ^ 24)
+    (ap length same
+    ∙ length_map (λ (name : List ℕ). symbol_named (source_of ss) name (named_in name (source_of ss).names)) (symbols_of (final_names (laid ss)) (laid ss))
+    ∙ sym (ap length listed)) few

@@ -1,17 +1,16 @@
 -- The areas of an object while they are emitted, and when they are finished. This project's.
-use Rattle.std.specs.Prelude.{◌≡◌, ◌≤◌, ℕ, ◌==◌, Bool, if◌then◌else◌, List, ◌++◌, [], length, map, slice_get, Option, Some}
+use Rattle.std.specs.Prelude.{◌≡◌, ◌<◌, ◌^◌, ℕ, ◌==◌, Bool, if◌then◌else◌, List, ◌++◌, [], length, map, slice_get, Option, Some, None}
 use Rattle.sdt_word.specs.Numbers.{bit}
 use Rattle.aof_object.specs.declared.records.Area.{Area}
 use Rattle.asm_drafts.specs.Drafts.{AreRelocs, HoldsPieces, IsDraft, MeetNone}
-use Rattle.asm_drafts.specs.Writing.{AllHaveWords}
+use Rattle.asm_drafts.specs.Writing.{AllCanStand}
 use Rattle.asm_judging.specs.declared.putting.LiteralWord.{LiteralWord}
 use Rattle.asm_judging.specs.Putting.{word_piece}
 use Rattle.asm_pool.specs.declared.layout.LaidArea.{LaidArea}
 use Rattle.asm_units.specs.declared.emitted.Emitted.{Emitted as Code}
 use Rattle.asm_units.specs.Emitting.{emitted_of}
 use Rattle.layout_model.specs.Offsets.{is_of}
-use Rattle.source_model.specs.Objects.{Piece, units_bytes, units_from}
-use Rattle.source_model.specs.Units.{Emitted}
+use Rattle.source_model.specs.Objects.{Piece, units_from}
 use Rattle.asm_emit.specs.declared.drafting.Growing.{Growing}
 
 -- ---- what stays while an area is emitted
@@ -40,12 +39,6 @@ frame_of a = record { name = a.name; attributes = a.attributes; size = a.size; k
 abbrev pub frames : List Growing → List Frame
 frames gs = map frame gs
 
--- ---- what can be put
-
--- things have words and are no longer than a room, one behind the other
-abbrev pub CanStand : List Emitted → ℕ → Type 0
-CanStand us room = AllHaveWords us × (length (units_bytes us) ≤ room)
-
 -- ---- what stands in areas
 
 -- in each area stand these things
@@ -59,6 +52,18 @@ pieces_put at us literal = units_from at (map emitted_of us) ++ word_piece liter
 -- the things of an area with those of a line, if it is the line's
 abbrev pub with_line : (ℕ → List Piece) → Option ℕ → List Piece → ℕ → List Piece
 with_line held own more area = held area ++ (if is_of area own then more else [])
+
+-- an area is listed, and things can stand in the bytes that it keeps
+pub record CanTake (names : List (List ℕ)) (fs : List Frame) (area : ℕ) (more : List Piece) : Type 0 where
+  pub own : Frame
+  pub there : slice_get fs area ≡ Some own
+  pub small : own.kept < 2 ^ 32
+  pub stand : AllCanStand names own.kept more
+
+-- a line in no area puts nothing
+abbrev pub LineCanStand : List (List ℕ) → List Frame → Option ℕ → List Piece → Type 0
+LineCanStand names fs None more = Unit {0}
+LineCanStand names fs (Some area) more = CanTake names fs area more
 
 -- no thing of a line meets another of its area
 abbrev pub MeetNoneThere : (ℕ → List Piece) → Option ℕ → List Piece → Type 0

@@ -1,26 +1,24 @@
 //! The areas of an object while it is emitted.
 
-ghost use Rattle.std.specs.Prelude.{◌≡◌, ◌∷◌, [], ◌++◌, ◌+◌, ◌<◌, ◌≤◌, ◌^◌, ℕ, List as Items, length, map, IfOk, IfSome, OnOk, true};
+ghost use Rattle.std.specs.Prelude.{◌≡◌, [], ◌++◌, ◌<◌, ◌^◌, ℕ, List as Items, length, map, IfOk, OnOk};
 ghost use Rattle.std.specs.List.{AllZip};
-ghost use Rattle.source_model.specs.Objects.{Piece, unit_bytes, units_from};
+ghost use Rattle.source_model.specs.Objects.{Piece};
 ghost use Rattle.asm_drafts.specs.Drafts.{IsDraft, MeetNone};
-ghost use Rattle.asm_drafts.specs.Writing.{HasWord};
+ghost use Rattle.asm_drafts.specs.Writing.{AllCanStand};
 ghost use Rattle.asm_judging.specs.Putting.{word_piece};
 ghost use Rattle.asm_units.specs.Emitting.{emitted_of, stored_of};
 ghost use Rattle.source_model.specs.Units as model;
 ghost use Rattle.asm_emit.specs.Drafting as drafting;
-ghost use Rattle.asm_emit.specs.Drafting.{AreDrafts, CanStand, IsFinished, MeetNoneThere, frame, frame_of, frames, pieces_put, with_line};
+ghost use Rattle.asm_emit.specs.Drafting.{AreDrafts, IsFinished, LineCanStand, MeetNoneThere, frame, frame_of, frames, pieces_put, with_line};
 
 use aof_object::Area;
-use arm_encode::encode_arm;
-use asm_drafts::{Draft, unit_length};
+use asm_drafts::Draft;
 use asm_judging::LiteralWord;
 use asm_pool::{LaidArea, LaidStatement};
 use asm_symbols::Symbols;
 use asm_units::{Emitted, Stored};
 use sdt_fault::{List, NoMemory, Text};
 use std::alloc::Global;
-use std::slice;
 
 /// An area while the object is emitted.
 #[derive(Debug, Drop)]
@@ -69,93 +67,6 @@ pub fn all_started(alloc: Global, areas: &[LaidArea]) -> Result<Vec<Growing>, No
     Ok(growing)
 }
 
-fn has_word(unit: &Emitted) -> bool
-    ensures { result ≡ true → HasWord (emitted_of unit.now) }
-{
-    match unit {
-        Emitted::Instruction { instruction, .. } => encode_arm(instruction).is_some(),
-        _ => true,
-    }
-}
-
-/// How much of a room is left behind a thing that has a word and isn't longer.
-fn room_behind(unit: &Emitted, room: usize) -> Option<usize>
-    ensures { IfSome result (λ left. HasWord (emitted_of unit.now) × (length (unit_bytes (emitted_of unit.now)) + left ≡ room)) }
-{
-    let length = unit_length(unit);
-    if !has_word(unit) {
-        return None;
-    }
-    room.checked_sub(length)
-}
-
-/// Whether things have words and are no longer than a room, one behind the other.
-fn can_be_put(units: &[Emitted], room: usize) -> bool
-    ensures { result ≡ true → CanStand (map emitted_of units.now) room }
-{
-    let mut left = units;
-    let mut room = room;
-    'units: loop {
-        match left {
-            [] => return true,
-            [unit, behind @ ..] => {
-                let Some(less) = room_behind(unit, room) else {
-                    return false;
-                };
-                room = less;
-                left = behind;
-            }
-        }
-    }
-}
-
-/// How many bytes an area keeps behind an offset, where it has fewer than 2^32.
-fn room_at(draft: &Draft, at: u32) -> Option<usize>
-    ensures { IfSome result (λ room. (length draft.now.bytes.items < 2 ^ 32) × (at + room ≡ length draft.now.bytes.items)) }
-{
-    let size = draft.size();
-    if size > 0xFFFF_FFFF {
-        return None;
-    }
-    size.checked_sub(at as usize)
-}
-
-/// Puts things one behind the other. Things that don't fit into the area count as want of memory; those of a layout's
-/// lines fit.
-fn put_some(
-    draft: &mut Draft,
-    at: u32,
-    units: &[Emitted],
-    symbols: &Symbols,
-) -> Result<(), NoMemory>
-    ensures size { length draft.new.bytes.items ≡ length draft.old.bytes.items }
-    ensures more { OnOk result ((pieces : Items Piece) → IsDraft symbols.now pieces draft.old → MeetNone pieces (units_from at (map emitted_of units.now)) → IsDraft symbols.now (pieces ++ units_from at (map emitted_of units.now)) draft.new) }
-{
-    let Some(room) = room_at(draft, at) else {
-        return Err(NoMemory);
-    };
-    if !can_be_put(units, room) {
-        return Err(NoMemory);
-    }
-    draft.put_all(at, units, symbols)
-}
-
-/// The same where there may be nothing to put, as of a line in an area of zeros, of which nothing is kept.
-fn put_units(
-    draft: &mut Draft,
-    at: u32,
-    units: &[Emitted],
-    symbols: &Symbols,
-) -> Result<(), NoMemory>
-    ensures size { length draft.new.bytes.items ≡ length draft.old.bytes.items }
-    ensures more { OnOk result ((pieces : Items Piece) → IsDraft symbols.now pieces draft.old → MeetNone pieces (units_from at (map emitted_of units.now)) → IsDraft symbols.now (pieces ++ units_from at (map emitted_of units.now)) draft.new) }
-{
-    match units {
-        [] => Ok(()),
-        _ => put_some(draft, at, units, symbols),
-    }
-}
-
 fn word_unit(word: Stored) -> Emitted
     ensures { emitted_of result ≡ model.Word (stored_of word) }
 {
@@ -171,6 +82,8 @@ fn put_literal(
     literal: Option<LiteralWord>,
     symbols: &Symbols,
 ) -> Result<(), NoMemory>
+    requires few { length symbols.now < 2 ^ 24 }
+    requires stand { AllCanStand symbols.now (length draft.old.bytes.items) (word_piece literal) }
     ensures size { length draft.new.bytes.items ≡ length draft.old.bytes.items }
     ensures more { OnOk result ((pieces : Items Piece) → IsDraft symbols.now pieces draft.old → MeetNone pieces (word_piece literal) → IsDraft symbols.now (pieces ++ word_piece literal) draft.new) }
 {
@@ -178,8 +91,7 @@ fn put_literal(
         return Ok(());
     };
     let at = literal.at;
-    let unit = word_unit(literal.word);
-    put_units(draft, at, slice::from_ref(&unit), symbols)
+    draft.put(at, &word_unit(literal.word), symbols)
 }
 
 /// What a line puts into its area.
@@ -190,10 +102,13 @@ fn put_into(
     literal: Option<LiteralWord>,
     symbols: &Symbols,
 ) -> Result<(), NoMemory>
+    requires few { length symbols.now < 2 ^ 24 }
+    requires small { length draft.old.bytes.items < 2 ^ 32 }
+    requires stand { AllCanStand symbols.now (length draft.old.bytes.items) (pieces_put at units.now literal) }
     ensures size { length draft.new.bytes.items ≡ length draft.old.bytes.items }
     ensures more { OnOk result ((pieces : Items Piece) → IsDraft symbols.now pieces draft.old → MeetNone (pieces ++ pieces_put at units.now literal) (pieces_put at units.now literal) → IsDraft symbols.now (pieces ++ pieces_put at units.now literal) draft.new) }
 {
-    put_units(draft, at, units, symbols)?;
+    draft.put_all(at, units, symbols)?;
     put_literal(draft, literal, symbols)
 }
 
@@ -204,14 +119,16 @@ fn grow(
     literal: Option<LiteralWord>,
     symbols: &Symbols,
 ) -> Result<(), NoMemory>
+    requires few { length symbols.now < 2 ^ 24 }
+    requires small { length growing.old.draft.bytes.items < 2 ^ 32 }
+    requires stand { AllCanStand symbols.now (length growing.old.draft.bytes.items) (pieces_put at units.now literal) }
     ensures frame { frame growing.new ≡ frame growing.old }
     ensures more { OnOk result ((pieces : Items Piece) → IsDraft symbols.now pieces growing.old.draft → MeetNone (pieces ++ pieces_put at units.now literal) (pieces_put at units.now literal) → IsDraft symbols.now (pieces ++ pieces_put at units.now literal) growing.new.draft) }
 {
     put_into(&mut growing.draft, at, units, literal, symbols)
 }
 
-/// Puts into a line's area what the line puts there. An area that isn't listed counts as want of memory; those of a
-/// layout's lines are.
+/// Puts into a line's area what the line puts there.
 pub fn put_line(
     growing: &mut Vec<Growing>,
     laid: &LaidStatement,
@@ -219,6 +136,8 @@ pub fn put_line(
     literal: Option<LiteralWord>,
     symbols: &Symbols,
 ) -> Result<(), NoMemory>
+    requires few { length symbols.now < 2 ^ 24 }
+    requires stand { LineCanStand symbols.now (frames growing.old.items) laid.now.area (pieces_put laid.now.offset units.now literal) }
     ensures frames { frames growing.new.items ≡ frames growing.old.items }
     ensures more { OnOk result ((held : ℕ → Items Piece) → AreDrafts symbols.now held growing.old.items → MeetNoneThere held laid.now.area (pieces_put laid.now.offset units.now literal) → AreDrafts symbols.now (with_line held laid.now.area (pieces_put laid.now.offset units.now literal)) growing.new.items) }
 {
@@ -226,9 +145,6 @@ pub fn put_line(
         return Ok(());
     };
     let number = area as usize;
-    if number >= growing.len() {
-        return Err(NoMemory);
-    }
     grow(&mut growing[number], laid.offset, units, literal, symbols)
 }
 

@@ -14,7 +14,7 @@ ghost use Rattle.source_model.specs.SourceFaults.{layout_faults};
 ghost use Rattle.asm_judging.specs.Gathered.{AllLaidSaid};
 ghost use Rattle.asm_judging.specs.Whole.{IsWhole};
 ghost use Rattle.asm_emit.specs.Drafting.{AreDrafts, frame_of, frames};
-ghost use Rattle.asm_emit.specs.Emission.{IsEmittable};
+ghost use Rattle.asm_emit.specs.Emission.{HasFaultlessSource, HasSource, HasSymbols, IsEmittable};
 ghost use Rattle.asm_emit.specs.Emitted.{IsEmitted};
 
 use crate::drafting::{Growing, all_finished, all_started, put_line};
@@ -24,6 +24,7 @@ use crate::records::records_of;
 use crate::symbols::symbols_of;
 use aof_object::{Object, Symbol};
 use asm_drafts::relocations_are_of_sources;
+use asm_judging::laws::laid_statements_are_said;
 use asm_judging::{LineUnits, Whole, give, judge, line_units, whole_of};
 use asm_pool::Layout;
 use asm_symbols::Symbols;
@@ -40,7 +41,9 @@ fn grown(
     whole: &Whole,
     symbols: &Symbols,
 ) -> Result<Vec<Growing>, NoMemory>
-    requires { AllLaidSaid layout.now.statements }
+    requires said { AllLaidSaid layout.now.statements }
+    requires source { HasSymbols layout.now whole.now symbols.now }
+    requires few { length symbols.now < 2 ^ 24 }
     ensures frames { IfOk result (λ gs. frames gs.items ≡ map frame_of layout.now.areas) }
     ensures drafts { IfOk result (λ gs. (statements : Items Statement) → IsEmittable statements layout.now whole.now → AreDrafts symbols.now (things_in (source_of statements)) gs.items) }
 {
@@ -88,6 +91,7 @@ fn few_records(
 /// The object of a layout whose values have no fault.
 fn object_of(alloc: Global, layout: &Layout) -> Result<Object, NoMemory>
     requires said { AllLaidSaid layout.now.statements }
+    requires source { HasFaultlessSource layout.now }
     ensures object { IfOk result (λ o. (statements : Items Statement) → IsLayout statements layout.now → AllSaid statements → layout_faults statements ≡ None → InArmState statements → IsObject statements o) }
     ensures few { IfOk result (λ o. length o.symbols < 2 ^ 24) }
 {
@@ -108,10 +112,11 @@ fn object_of(alloc: Global, layout: &Layout) -> Result<Object, NoMemory>
 /// The object of a layout. Refuses the first line whose operands, name, literal, EXPORT, KEEP or ASSERT have a fault.
 /// With 2^24 symbols or more, want of memory is answered before anything is written.
 pub fn emit(alloc: Global, layout: &Layout) -> Result<Object, Fault>
-    requires said { AllLaidSaid layout.now.statements }
+    requires source { HasSource layout.now }
     ensures emitted { (statements : Items Statement) → IsLayout statements layout.now → AllSaid statements → layout_faults statements ≡ None → InArmState statements → IsEmitted statements result }
     ensures few { IfOk result (λ o. length o.symbols < 2 ^ 24) }
 {
+    laid_statements_are_said();
     judge(alloc, layout)?;
     Ok(object_of(alloc, layout)?)
 }

@@ -1,6 +1,6 @@
 use Rattle.std.proofs.Common.{arith}
 use Rattle.armasm_core.proofs.AssembleLemmas.{assembled}
-use Rattle.armasm_core.proofs.ListLemmas.{all_no_code16, few_statements}
+use Rattle.armasm_core.proofs.ListLemmas.{few_statements}
 use Rattle.armasm_core.proofs.assembling.assemble.Goals as goal
 
 pub object_of-requires-clause-few : goal.object_of-requires-clause-few
@@ -8,8 +8,8 @@ object_of-requires-clause-few c =
     few_statements c.args.source.now c.args.text.now c.in_ok-lines.lines c.in_ok-flats.flats.items c.in_ok-reading.reading.statements.items c.in_ok-lines.ensures
     (rw c.into_vec.ensures at c.in_ok-flats.ensures.same) (rw c.as_slice.ensures.value at c.in_ok-reading.ensures.few)
 
-pub object_of-requires-clause-arm_state : goal.object_of-requires-clause-arm_state
-object_of-requires-clause-arm_state c = all_no_code16 c.in_ok-reading.reading.statements.items c.in_ok-reading.ensures.arm
+pub object_of-requires-clause-fit : goal.object_of-requires-clause-fit
+object_of-requires-clause-fit c = c.readings_are_fit.ensures _ c.in_ok-reading.reading c.in_ok-reading.ensures.reads
 
 pub returns : goal.returns
 returns c =

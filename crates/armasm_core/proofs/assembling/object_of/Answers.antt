@@ -1,16 +1,29 @@
+use Rattle.std.proofs.Common.{arith, []}
+use Rattle.asm_layout.proofs.WalkLemmas.{reversed_long}
 use Rattle.armasm_core.proofs.FaultLemmas.{makes}
-use Rattle.armasm_core.proofs.ListLemmas.{reversed_no_code16}
+use Rattle.armasm_core.specs.Assembling.{said_by}
 use Rattle.armasm_core.proofs.assembling.object_of.Goals as goal
 
 pub emit-requires : goal.emit-requires
-emit-requires c = record {
-  said =
-      c.laid_statements_are_said.ensures.laid _ c.in_ok-layout.layout.statements c.in_ok-layout.ensures.1.layout.lines
-      (c.laid_statements_are_said.ensures.order c.args.reading.statements.items c.requires.said);
-}
+emit-requires c =
+    let fit = c.requires.fit in
+    let sound = c.in_ok-layout.ensures.1 in
+    record {
+      source = record {
+        statements = said_by c.args.reading;
+        layout = sound.layout;
+        said = fit.said;
+        texts = fit.texts;
+        fit = fit.fit;
+        sound = sound.none;
+        arm = c.sources_stay_in_arm_state.ensures (said_by c.args.reading) fit.arm;
+        few = let long = reversed_long c.args.reading.statements.items [] in omega (arith, long, c.requires.few);
+      };
+    }
 
 pub returns : goal.returns
 returns c =
+    let fit = c.requires.fit in
+    let sound = c.in_ok-layout.ensures.1 in
     makes c.args.source.now c.args.reading c.emit.result c.in_ok-layout.ensures.0
-    (c.emit.ensures.emitted _ c.in_ok-layout.ensures.1.layout (c.laid_statements_are_said.ensures.order c.args.reading.statements.items c.requires.said)
-    c.in_ok-layout.ensures.1.none (c.sources_stay_in_arm_state.ensures _ (reversed_no_code16 c.args.reading.statements.items c.requires.arm_state)))
+    (c.emit.ensures.emitted (said_by c.args.reading) sound.layout fit.said sound.none (c.sources_stay_in_arm_state.ensures (said_by c.args.reading) fit.arm))

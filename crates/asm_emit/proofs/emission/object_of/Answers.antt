@@ -1,6 +1,27 @@
 use Rattle.asm_emit.specs.Emission.{IsEmittable}
-use Rattle.asm_emit.proofs.ObjectLemmas.{areas_there, count_there}
+use Rattle.asm_emit.proofs.ObjectLemmas.{areas_there, count_there, few_there}
 use Rattle.asm_emit.proofs.emission.object_of.Goals as goal
+
+pub grown-requires-clause-source : goal.grown-requires-clause-source
+grown-requires-clause-source c =
+    let s = c.requires.source in
+    let whole = c.in_ok-whole.ensures s.statements s.layout in
+    record {
+      statements = s.statements;
+      layout = s.layout;
+      faultless = s.faultless;
+      few = s.few;
+      whole = whole;
+      listed = c.in_ok-needed.ensures s.statements s.layout s.faultless.said s.faultless.layout whole;
+    }
+
+pub grown-requires-clause-few : goal.grown-requires-clause-few
+grown-requires-clause-few c =
+    let s = c.requires.source in
+    let whole = c.in_ok-whole.ensures s.statements s.layout in
+    let listed = c.in_ok-needed.ensures s.statements s.layout s.faultless.said s.faultless.layout whole in
+    few_there s.statements c.in_ok-needed.needed c.in_ok-symbols.symbols listed
+    (c.in_ok-symbols.ensures.records s.statements s.layout s.faultless.layout whole listed) c.in_ok-symbols.ensures.few
 
 pub returns-clause-object : goal.returns-clause-object
 returns-clause-object c = λ statements layout said sound arm.

@@ -16,8 +16,8 @@ returns-clause-more c =
     on_ok_weaker c.note.result
     (λ notes pieces is none.
     draft_more c.args.symbols.now pieces (c.args.at, emitted_of c.args.unit.now) c.args.self.now
-    (record { bytes = with_items c.args.self.now.bytes c.put_unit.new.bytes; relocs = c.note.new.relocs }) is none c.requires.inside
+    (record { bytes = with_items c.args.self.now.bytes c.put_unit.new.bytes; relocs = c.note.new.relocs }) is none c.requires.stands.inside
     (with_items_is c.args.self.now.bytes c.put_unit.new.bytes (c.put_unit.auto.bytes ∙ ap length c.deref_mut.ensures.value ∙ sym c.args.self.now.bytes.ok.0)
     ∙ c.put_unit.ensures ∙ ap (λ (b : List ℕ). written b c.args.at (unit_bytes (emitted_of c.args.unit.now))) c.deref_mut.ensures.value)
-    (λ k. notes k ∙ ap (λ o. noted (get nat_cmp c.args.self.now.relocs k) c.args.at o k) c.in_ok-relocation.ensures))
+    (λ k. notes k ∙ ap (λ o. noted (get nat_cmp c.args.self.now.relocs k) c.args.at o k) c.relocation-relocation.ensures))
     c.note.ensures

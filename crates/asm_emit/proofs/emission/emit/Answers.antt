@@ -1,0 +1,26 @@
+use Rattle.asm_emit.proofs.emission.emit.Goals as goal
+
+pub judge-requires : goal.judge-requires
+judge-requires c = record {
+  said = let s = c.requires.source in c.laid_statements_are_said.ensures.laid s.statements c.args.layout.now.statements s.layout.lines s.said;
+}
+
+pub object_of-requires : goal.object_of-requires
+object_of-requires c =
+    let s = c.requires.source in
+    record {
+      said = c.laid_statements_are_said.ensures.laid s.statements c.args.layout.now.statements s.layout.lines s.said;
+      source = record {
+        statements = s.statements;
+        layout = s.layout;
+        faultless = record {
+          said = s.said;
+          texts = s.texts;
+          fit = s.fit;
+          layout = s.sound;
+          values = c.in_ok-judge.ensures s.statements s.layout s.said s.sound;
+          arm = s.arm;
+        };
+        few = s.few;
+      };
+    }
