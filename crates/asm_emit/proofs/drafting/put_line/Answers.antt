@@ -12,7 +12,7 @@ pub index_mut-requires : goal.index_mut-requires
 index_mut-requires c =
     let less = take_less c.args.symbols.now c.args.growing.now.items c.args.laid.now.area c.in-Some.area
     (pieces_put c.args.laid.now.offset c.args.units.now c.args.literal) c.in-Some.is c.requires.stand in
-    record { bounds = omega (arith, less, c.args.growing.now.ok.0) }
+    omega (arith, less, c.args.growing.now.ok.0)
 
 pub grow-requires-clause-small : goal.grow-requires-clause-small
 grow-requires-clause-small c =
