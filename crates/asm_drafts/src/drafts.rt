@@ -1,7 +1,7 @@
 //! An area while it is emitted.
 
-ghost use Rattle.std.specs.Prelude.{◌≡◌, ◌++◌, ◌+◌, ◌<◌, ◌≤◌, ◌^◌, ℕ, List as Items, [], ◌∷◌, length, map, IfOk, OnOk};
-ghost use Rattle.source_model.specs.Objects.{Piece, unit_bytes, units_from};
+ghost use Rattle.std.specs.Prelude.{◌≡◌, ◌++◌, ◌<◌, ◌^◌, ℕ, List as Items, [], ◌∷◌, length, map, IfOk, OnOk};
+ghost use Rattle.source_model.specs.Objects.{Piece, units_from};
 ghost use Rattle.asm_units.specs.Emitting.{emitted_of};
 ghost use Rattle.asm_drafts.specs.Drafts.{AreRelocs, HoldsPieces, IsDraft, MeetNone, MeetsNone};
 ghost use Rattle.asm_drafts.specs.Writing.{AllCanStand, CanStand};

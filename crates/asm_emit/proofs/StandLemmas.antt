@@ -19,10 +19,9 @@ use Rattle.asm_pool.specs.declared.layout.LaidArea.{LaidArea}
 use Rattle.asm_pool.specs.declared.layout.LaidStatement.{LaidStatement}
 use Rattle.asm_pool.specs.declared.layout.Layout.{Layout}
 use Rattle.asm_units.specs.declared.emitted.Emitted.{Emitted as Code}
-use Rattle.asm_units.specs.Emitting.{emitted_of, stored_of}
+use Rattle.asm_units.specs.Emitting.{emitted_of}
 use Rattle.layout_model.specs.Before.{area_named, areas_behind, with_name}
-use Rattle.layout_model.specs.Laid.{LaidLine, laid, pieces_of, reversed}
-use Rattle.layout_model.specs.Offsets.{area_size}
+use Rattle.layout_model.specs.Laid.{LaidLine, laid}
 use Rattle.layout_model.specs.Symbols.{symbols_of}
 use Rattle.asm_model.specs.Forms.{same}
 use Rattle.object_laws.specs.Laws.{AreFaultless, OptionListed, TargetListed, UnitListed}

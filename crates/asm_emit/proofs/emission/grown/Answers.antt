@@ -24,8 +24,7 @@ lines-init c =
     let grown : (statements : List Statement) → IsEmittable statements l w → IsGrown statements names c.as_slice-left.result.now known gs = λ statements j.
     subst (λ (xs : List LaidStatement). IsGrown statements names xs known gs) (sym c.as_slice-left.ensures)
     (grown_first statements l w names known gs j (λ q. found q known ∙ ap (λ (ns : List Named). register_in q ns) c.new-registers.ensures.empty)
-    (c.in_ok-growing.ensures.empty names)) in
-    (
+    (c.in_ok-growing.ensures.empty names)) in (
       subst AllLaidSaid (sym c.as_slice-left.ensures) c.requires.said,
       c.in_ok-growing.ensures.frames ∙ ap (map frame_of) c.as_slice-areas.ensures,
       grown,
@@ -62,7 +61,7 @@ lines-preserved c =
     let us = c.as_slice.result.now in
     let g = c.lines.invariant.3 in
     let step : (statements : List Statement) → IsEmittable statements l w → IsGrown statements names left known gs
-        → IsGrown statements names more c.give.new.known c.put_line.new.growing.items = λ statements j k.
+    → IsGrown statements names more c.give.new.known c.put_line.new.growing.items = λ statements j k.
     let n = next_there statements l w names x left known gs c.in-len1-up.len_at_least c.line-item.is j k in
     let put = c.in_ok-units-in-len1-up.ensures statements n.before n.rest n.line
     (subst (λ (areas : List LaidArea). IsHere statements areas w known n.before n.rest n.line x) (sym c.as_slice-areas.ensures) n.here) in
@@ -71,8 +70,7 @@ lines-preserved c =
     (pieces_put x.offset us u.literal) n.here.parts n.here.line.area pieces in
     grown_more statements l w names x more known c.give.new.known gs c.put_line.new.growing.items n u us c.as_slice.ensures.value put
     (c.in_ok-put_line-in-len1-up.ensures.more (λ area. things_behind statements area n.before (n.line ∷ n.rest)) n.drafts apart)
-    c.in_ok-give-in-len1-up.ensures in
-    (
+    c.in_ok-give-in-len1-up.ensures in (
       (said_first left x c.lines.invariant.0 c.in-len1-up.len_at_least c.line-item.is).1,
       c.put_line.ensures.frames ∙ c.lines.invariant.1,
       λ statements j. step statements j (c.lines.invariant.2 statements j),
