@@ -1,5 +1,5 @@
 -- Lines and statements of a source.
-use Rattle.std.proofs.Common.{◌≡◌, ℕ, suc, ◌+◌, ◌<◌, ◌≤◌, ◌||◌, List, [], ◌∷◌, length, map, Bool, true, false, cond, nat_lt, Option, Some, None, Result, Ok, Err, refl, sym, ap, subst, arith}
+use Rattle.std.proofs.Common.{◌≡◌, ℕ, suc, ◌+◌, ◌^◌, ◌<◌, ◌≤◌, ◌||◌, List, [], ◌∷◌, length, map, Bool, true, false, cond, nat_lt, Option, Some, None, Result, Ok, Err, refl, sym, ap, subst, arith}
 use Rattle.std.specs.Str.Lines.{lines}
 use Rattle.std.proofs.lemmas.Bool.{or_parts}
 use Rattle.std.proofs.lemmas.Bool.Decides.{nat_tests}
@@ -8,18 +8,14 @@ use Rattle.sdt_fault.specs.declared.answer.Fault.TheVariants.{Refused}
 use Rattle.sdt_fault.specs.declared.refusal.Refusal.TheVariants.{BadLine}
 use Rattle.sdt_fault.specs.declared.kinds.LineKind.TheVariants.{TooMany}
 use Rattle.asm_laying.specs.Behind.{most_statements}
-use Rattle.asm_model.specs.declared.directives.DirectiveLine.TheVariants as line
+use Rattle.asm_layout.proofs.WalkLemmas.{reversed_long}
 use Rattle.asm_model.specs.declared.lines.Flat.{Flat}
 use Rattle.asm_model.specs.declared.lines.Line.{Line}
 use Rattle.asm_model.specs.declared.statements.Statement.{Statement}
-use Rattle.asm_model.specs.declared.statements.What.{What}
-use Rattle.asm_model.specs.declared.statements.What.TheVariants as what
 use Rattle.asm_model.specs.Limits.{source_lines, line_bytes}
 use Rattle.asm_model.specs.Lines.{numbered, first_beyond, split}
 use Rattle.asm_reading.specs.Flats.{flat_of}
-use Rattle.asm_reading.specs.Reading.{StaysInArm, InArm}
 use Rattle.layout_model.specs.Laid.{reversed}
-use Rattle.source_laws.specs.Laws.{IsNoCode16, NoCode16}
 
 -- ---- how many lines
 
@@ -61,19 +57,6 @@ few_statements source text ls flats statements h same few =
     let low : length ls ≤ 200000 = few_lines source text ls h in
     omega arith
 
--- ---- ARM state
-
-no_code16 : (w : What) → StaysInArm w → IsNoCode16 w
-no_code16 (what.Directive line.Code16) h = h
-no_code16 w h = tt
-
-pub all_no_code16 : (ss : List Statement) → InArm ss → NoCode16 ss
-all_no_code16 [] h = tt
-all_no_code16 (s ∷ ss) h = (no_code16 s.what h.0, all_no_code16 ss h.1)
-
-behind : (ss after : List Statement) → NoCode16 ss → NoCode16 after → NoCode16 (reversed ss after)
-behind [] after h k = k
-behind (s ∷ ss) after h k = behind ss (s ∷ after) h.1 (h.0, k)
-
-pub reversed_no_code16 : (ss : List Statement) → NoCode16 ss → NoCode16 (reversed ss [])
-reversed_no_code16 ss h = behind ss [] h tt
+-- with the last listed first they are as many
+pub few_behind : (ss : List Statement) → length ss < most_statements + 1 → length (reversed ss []) < 2 ^ 24
+few_behind ss few = let long = reversed_long ss [] in omega (arith, long, few)

@@ -9,7 +9,7 @@ object_of-requires-clause-few c =
     (rw c.into_vec.ensures at c.in_ok-flats.ensures.same) (rw c.as_slice.ensures.value at c.in_ok-reading.ensures.few)
 
 pub object_of-requires-clause-fit : goal.object_of-requires-clause-fit
-object_of-requires-clause-fit c = c.readings_are_fit.ensures _ c.in_ok-reading.reading c.in_ok-reading.ensures.reads
+object_of-requires-clause-fit c = c.readings_are_fit.ensures c.as_slice.result.now c.in_ok-reading.reading c.in_ok-reading.ensures.reads
 
 pub returns : goal.returns
 returns c =

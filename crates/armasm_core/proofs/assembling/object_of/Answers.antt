@@ -1,6 +1,5 @@
-use Rattle.std.proofs.Common.{arith, []}
-use Rattle.asm_layout.proofs.WalkLemmas.{reversed_long}
 use Rattle.armasm_core.proofs.FaultLemmas.{makes}
+use Rattle.armasm_core.proofs.ListLemmas.{few_behind}
 use Rattle.armasm_core.specs.Assembling.{said_by}
 use Rattle.armasm_core.proofs.assembling.object_of.Goals as goal
 
@@ -17,7 +16,7 @@ emit-requires c =
         fit = fit.fit;
         sound = sound.none;
         arm = c.sources_stay_in_arm_state.ensures (said_by c.args.reading) fit.arm;
-        few = let long = reversed_long c.args.reading.statements.items [] in omega (arith, long, c.requires.few);
+        few = few_behind c.args.reading.statements.items c.requires.few;
       };
     }
 
