@@ -1,5 +1,5 @@
 -- The object of a source stands wherever it is placed, and is valid.
-use Rattle.std.proofs.Common.{◌≡◌, ℕ, ◌+◌, ◌^◌, ◌<◌, ◌≤◌, List, [], ◌∷◌, ◌++◌, length, Bool, true, false, cond, Option, Some, None, Result, Ok, Err, refl, ap, subst, arith, length-append}
+use Rattle.std.proofs.Common.{◌≡◌, ℕ, ◌+◌, ◌^◌, ◌<◌, ◌≤◌, List, [], ◌∷◌, ◌++◌, length, Bool, true, false, cond, Option, Some, None, Result, Ok, Err, refl, subst, arith, length-append}
 use Rattle.std.specs.Prelude.{IfOk}
 use Rattle.std.specs.List.{list_any}
 use Rattle.sdt_fault.specs.declared.answer.Fault.{Fault}
@@ -16,7 +16,6 @@ use Rattle.asm_model.specs.Forms.{same}
 use Rattle.asm_reading.specs.declared.reading.Reading.{Reading}
 use Rattle.asm_reading.specs.declared.reading.Unread.{Unread}
 use Rattle.asm_reading.proofs.ReadLemmas.{few_read}
-use Rattle.asm_reading.specs.Flats.{flat_of}
 use Rattle.asm_reading.specs.Laws.{AreFit, OneReading, ReadingsAreFit}
 use Rattle.layout_model.specs.Before.{area_named, areas_behind, with_name}
 use Rattle.layout_model.specs.Laid.{reversed}
@@ -26,7 +25,7 @@ use Rattle.source_model.specs.Objects.{source_of}
 use Rattle.source_model.specs.SourceFaults.{layout_faults, value_faults}
 use Rattle.stand_laws.specs.Laws.{IsFaultless, ObjectsStand}
 use Rattle.stand_model.specs.Stands.{AllStand}
-use Rattle.armasm_core.specs.Assembling.{Says, said_by, told, unread_told, line_faults, without_area, reading_faults, has_area, source_faults, IsObjectOf, Assembles}
+use Rattle.armasm_core.specs.Assembling.{said_by, told, unread_told, line_faults, without_area, reading_faults, has_area, source_faults, IsObjectOf, Assembles}
 use Rattle.armasm_core.specs.Standing.{StandsWherePlaced, ObjectsOfSourcesStand, ObjectsOfSourcesAreValid}
 use Rattle.armasm_core.proofs.LawLemmas.{same_says}
 use Rattle.armasm_core.proofs.ListLemmas.{few_statements}
