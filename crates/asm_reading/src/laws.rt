@@ -4,7 +4,9 @@ ghost use Rattle.asm_reading.specs.Laws.{OneLine, OneReading, ReadingsAreFit, Re
 
 use asm_arm::says::one_arm;
 use asm_lines::scan::one_scan;
-use asm_said::laws::{lines_are_fit, lines_are_named, lines_are_said, lines_have_texts, loads_are_named};
+use asm_said::laws::{
+    lines_are_fit, lines_are_named, lines_are_said, lines_have_texts, loads_are_named,
+};
 
 /// What lines say is one thing.
 pub fn one_reading()

@@ -15,8 +15,8 @@ object_of-requires-clause-arm_state c = all_no_code16 c.in_ok-reading.reading.st
 pub returns : goal.returns
 returns c =
     let made = assembled c.args.source.now c.args.text.now c.in_ok-lines.lines c.in_ok-flats.flats.items c.in_ok-reading.reading c.object_of.result
-        (omega (arith, c.if-text-gt-MOST_BYTES.false)) c.in_ok-lines.ensures (rw c.into_vec.ensures at c.in_ok-flats.ensures.same)
-        (rw c.as_slice.ensures.value at c.in_ok-reading.ensures.reads) c.object_of.ensures.made in
+    (omega (arith, c.if-text-gt-MOST_BYTES.false)) c.in_ok-lines.ensures (rw c.into_vec.ensures at c.in_ok-flats.ensures.same)
+    (rw c.as_slice.ensures.value at c.in_ok-reading.ensures.reads) c.object_of.ensures.made in
     record {
       assembled = made;
       few = c.object_of.ensures.few;
