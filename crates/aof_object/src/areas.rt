@@ -162,7 +162,7 @@ fn read_relocs(
     requires place { start + length content.now < 2 ^ 32 }
     ensures { Gives result (each (next_reloc areas symbols start content.now at) count []) }
 {
-    let mut relocs = Vec::new(alloc);
+    let mut relocs = Vec::with_capacity(alloc, count as usize)?;
     for i in 0..count {
         let here = at + 8 * i as usize;
         let reloc = read_reloc(alloc, areas, symbols, start + here, &content[here..])?;
@@ -209,7 +209,7 @@ pub fn read_areas(
     requires place { start + length content.now < 2 ^ 32 }
     ensures { Gives result (each_of (next_area heads.now symbols start content.now) heads.now []) }
 {
-    let mut areas = Vec::new(alloc);
+    let mut areas = Vec::with_capacity(alloc, heads.len())?;
     let mut at = 0;
     for head in heads {
         let area = read_area(alloc, heads.len(), symbols, start, content, at, head)?;

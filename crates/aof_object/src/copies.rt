@@ -38,7 +38,7 @@ impl Area {
 fn copy_areas(alloc: Global, areas: &[Area]) -> Result<List<Area>, NoMemory>
     ensures { IfOk result (λ copy. copy ≡ areas.now) }
 {
-    let mut copy = Vec::new(alloc);
+    let mut copy = Vec::with_capacity(alloc, areas.len())?;
     for area in areas {
         copy.push(area.try_clone(alloc)?)?;
     }
@@ -48,7 +48,7 @@ fn copy_areas(alloc: Global, areas: &[Area]) -> Result<List<Area>, NoMemory>
 fn copy_symbols(alloc: Global, symbols: &[Symbol]) -> Result<List<Symbol>, NoMemory>
     ensures { IfOk result (λ copy. copy ≡ symbols.now) }
 {
-    let mut copy = Vec::new(alloc);
+    let mut copy = Vec::with_capacity(alloc, symbols.len())?;
     for symbol in symbols {
         copy.push(symbol.try_clone(alloc)?)?;
     }

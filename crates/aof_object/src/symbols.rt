@@ -150,7 +150,7 @@ pub fn read_symbols(
     ensures { Gives result (each (next_symbol strings.now heads.now start content.now) count []) }
 {
     let mut taken = BTreeMap::new(alloc);
-    let mut symbols = Vec::new(alloc);
+    let mut symbols = Vec::with_capacity(alloc, count as usize)?;
     for i in 0..count {
         let at = 16 * i as usize;
         let symbol = read_symbol(

@@ -27,7 +27,7 @@ Same a b = (a.statements.items ≡ b.statements.items) × (a.unread ≡ b.unread
 same_lines : (name text : List ℕ) (a b : List Line) → split name text ≡ Ok a → split name text ≡ Ok b → a ≡ b
 same_lines name text a b h k = let is : ◌≡◌ {A = Result (List Line) Fault} (Ok a) (Ok b) = sym h ∙ k in cc
 
-same_says : OneReading → (name text : List ℕ) (a b : Reading) → Says name text a → Says name text b
+pub same_says : OneReading → (name text : List ℕ) (a b : Reading) → Says name text a → Says name text b
     → (a.statements.items ≡ b.statements.items) × (a.unread ≡ b.unread) × (a.before ≡ b.before)
 same_says law name text a b h k =
     let e : h.lines ≡ k.lines = same_lines name text h.lines k.lines h.parts k.parts in

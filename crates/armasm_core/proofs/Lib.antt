@@ -2,3 +2,4 @@ mod AssembleLemmas
 mod FaultLemmas
 mod LawLemmas
 mod ListLemmas
+mod StandingLemmas

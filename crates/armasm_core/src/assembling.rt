@@ -1,12 +1,15 @@
 //! One source to one object.
 
-ghost use Rattle.std.specs.Prelude.{◌+◌, ◌<◌, ◌≡◌, Some, length};
+ghost use Rattle.std.specs.Prelude.{◌+◌, ◌<◌, ◌≡◌, ◌^◌, IfOk, Some, length};
+ghost use Rattle.aof_object.specs.Validity.{IsValid};
 ghost use Rattle.said_model.specs.Said.{AllSaid};
 ghost use Rattle.asm_laying.specs.Behind.{most_statements};
 ghost use Rattle.asm_reading.specs.Laws.{AreFit};
 ghost use Rattle.armasm_core.specs.Assembling as assembling;
 ghost use Rattle.armasm_core.specs.Passes.{Makes};
+ghost use Rattle.armasm_core.specs.Standing.{StandsWherePlaced};
 
+use crate::laws::{objects_of_sources_are_valid, objects_of_sources_stand};
 use crate::reading::laid_out;
 use aof_object::Object;
 use asm_emit::emit;
@@ -27,7 +30,8 @@ fn object_of(alloc: Global, source: &Text, reading: Reading) -> Result<Object, F
     requires few { length reading.statements.items < most_statements + 1 }
     requires said { AllSaid reading.statements.items }
     requires fit { AreFit (assembling.said_by reading) }
-    ensures { Makes source.now reading result }
+    ensures made { Makes source.now reading result }
+    ensures few { IfOk result (λ object. length object.symbols < 2 ^ 24) }
 {
     sources_stay_in_arm_state();
     let layout = laid_out(alloc, source, reading)?;
@@ -35,11 +39,16 @@ fn object_of(alloc: Global, source: &Text, reading: Reading) -> Result<Object, F
 }
 
 /// Assembles the text of the source of this name. A refusal is TooLarge for a text of more than `MOST_BYTES` bytes, or
-/// BadLine at the first line at fault.
+/// BadLine at the first line at fault. Wherever the object is placed, the statements of the text stand.
 pub fn assemble(alloc: Global, source: &Text, text: &[u8]) -> Result<Object, Fault>
-    ensures { assembling.Assembles source.now text.now result }
+    ensures assembled { assembling.Assembles source.now text.now result }
+    ensures few { IfOk result (λ object. length object.symbols < 2 ^ 24) }
+    ensures stands { IfOk result (StandsWherePlaced source.now text.now) }
+    ensures valid { IfOk result IsValid }
 {
     readings_are_fit();
+    objects_of_sources_stand();
+    objects_of_sources_are_valid();
     if text.len() > MOST_BYTES {
         return Err(Fault::Refused(Refusal::TooLarge {
             quantity: Quantity::SourceBytes,

@@ -5,11 +5,12 @@ use Rattle.asm_model.specs.declared.lines.Flat.{Flat}
 use Rattle.asm_model.specs.declared.statements.Statement.{Statement}
 use Rattle.asm_model.specs.declared.statements.What.{What}
 use Rattle.asm_model.specs.declared.statements.What.TheVariants as what
-use Rattle.asm_said.specs.Laws.{LinesAreFit, LinesAreNamed, LinesAreSaid, LinesHaveTexts}
+use Rattle.asm_said.specs.Laws.{LinesAreFit, LinesAreNamed, LinesAreSaid, LinesHaveTexts, LoadsAreNamed}
 use Rattle.layout_model.specs.Labels.{defined_by, imported_in}
 use Rattle.layout_model.specs.Laid.{reversed}
 use Rattle.layout_model.specs.PlacedLines.{HasName, HasImport, AllNamed}
 use Rattle.said_model.specs.Fit.{IsFit, AllFit}
+use Rattle.said_model.specs.Named.{LoadNamed, AllLoadsNamed}
 use Rattle.said_model.specs.Said.{IsSaid, AllSaid, HasTexts, AllHaveTexts}
 use Rattle.source_laws.specs.Laws.{IsNoCode16, NoCode16}
 use Rattle.asm_reading.specs.declared.reading.Reading.{Reading}
@@ -18,7 +19,7 @@ use Rattle.asm_reading.specs.Reading.{IsReading, StaysInArm}
 use Rattle.asm_reading.proofs.ReadLemmas.{AllKept, all_kept}
 
 abbrev IsFine : Statement → Type 0
-IsFine s = IsSaid s × HasTexts s × IsFit s × HasName (defined_by s) × HasImport (imported_in s.what)
+IsFine s = IsSaid s × HasTexts s × IsFit s × HasName (defined_by s) × HasImport (imported_in s.what) × LoadNamed s.what
 
 kept_reversed : (P : Statement → Type 0) (ss after : List Statement) → AllKept P ss → AllKept P after → AllKept P (reversed ss after)
 kept_reversed P [] after h k = k
@@ -40,6 +41,10 @@ all_named : (ss : List Statement) → AllKept IsFine ss → AllNamed ss
 all_named [] h = tt
 all_named (s ∷ ss) h = (h.0.0.3, h.0.0.4, all_named ss h.1)
 
+all_loads_named : (ss : List Statement) → AllKept IsFine ss → AllLoadsNamed ss
+all_loads_named [] h = tt
+all_loads_named (s ∷ ss) h = (h.0.0.5, all_loads_named ss h.1)
+
 no_code16 : (w : What) → StaysInArm w → IsNoCode16 w
 no_code16 (what.Directive line.Code16) h = absurd h
 no_code16 w h = tt
@@ -49,19 +54,26 @@ all_arm [] h = tt
 all_arm (s ∷ ss) h = (no_code16 s.what h.0.1, all_arm ss h.1)
 
 all_fine : (ss : List Statement) → AllKept IsFine ss → AreFit ss
-all_fine ss h = record { said = all_said ss h; texts = all_texts ss h; fit = all_fit ss h; named = all_named ss h; arm = all_arm ss h }
+all_fine ss h = record {
+  said = all_said ss h;
+  texts = all_texts ss h;
+  fit = all_fit ss h;
+  named = all_named ss h;
+  loads_named = all_loads_named ss h;
+  arm = all_arm ss h;
+}
 
-reading_kept : LinesAreSaid → LinesHaveTexts → LinesAreFit → LinesAreNamed → (lines : List Flat) (r : Reading) → IsReading lines r
+reading_kept : LinesAreSaid → LinesHaveTexts → LinesAreFit → LinesAreNamed → LoadsAreNamed → (lines : List Flat) (r : Reading) → IsReading lines r
     → AllKept IsFine r.statements.items
-reading_kept said texts fit named lines r h =
-    rw h.statements (all_kept IsFine (λ f s k. (said f s k, texts f s k, fit f s k, (named f s k).0, (named f s k).1)) lines h.says h.say)
+reading_kept said texts fit named loads lines r h =
+    rw h.statements (all_kept IsFine (λ f s k. (said f s k, texts f s k, fit f s k, (named f s k).0, (named f s k).1, loads f s k)) lines h.says h.say)
 
-pub readings_are_fit_in_order : LinesAreSaid → LinesHaveTexts → LinesAreFit → LinesAreNamed → (lines : List Flat) (r : Reading) → IsReading lines r
+pub readings_are_fit_in_order : LinesAreSaid → LinesHaveTexts → LinesAreFit → LinesAreNamed → LoadsAreNamed → (lines : List Flat) (r : Reading) → IsReading lines r
     → AreFit r.statements.items
-readings_are_fit_in_order said texts fit named lines r h = all_fine r.statements.items (reading_kept said texts fit named lines r h)
+readings_are_fit_in_order said texts fit named loads lines r h = all_fine r.statements.items (reading_kept said texts fit named loads lines r h)
 
-pub readings_are_fit : LinesAreSaid → LinesHaveTexts → LinesAreFit → LinesAreNamed → (lines : List Flat) (r : Reading) → IsReading lines r
+pub readings_are_fit : LinesAreSaid → LinesHaveTexts → LinesAreFit → LinesAreNamed → LoadsAreNamed → (lines : List Flat) (r : Reading) → IsReading lines r
     → AreFit (reversed r.statements.items [])
-readings_are_fit said texts fit named lines r h =
+readings_are_fit said texts fit named loads lines r h =
     all_fine (reversed r.statements.items [])
-    (kept_reversed IsFine r.statements.items [] (reading_kept said texts fit named lines r h) tt)
+    (kept_reversed IsFine r.statements.items [] (reading_kept said texts fit named loads lines r h) tt)

@@ -1,4 +1,4 @@
 mod FitLemmas
 mod FlatLemmas
 mod LawLemmas
-mod ReadLemmas
+pub mod ReadLemmas

@@ -54,7 +54,7 @@ one_at_most (Ok (Some s)) = omega arith
 one_at_most (Ok None) = omega arith
 one_at_most (Err k) = omega arith
 
-pub few : (ps : List (Flat × Said)) → length (statements_in ps) ≤ length ps
+few : (ps : List (Flat × Said)) → length (statements_in ps) ≤ length ps
 few [] = omega arith
 few (p ∷ ps) =
     let h : length (statements_in ps) ≤ length ps = few ps in
@@ -70,6 +70,12 @@ no_more (f ∷ fs) (p ∷ ps) h = by_end (says_end p.1) h.2 (λ k. no_more fs ps
     by_end : (b : Bool) → UnlessEnd b ps (Say fs ps) → (Say fs ps → length ps ≤ length fs) → length (p ∷ ps) ≤ length (f ∷ fs)
     by_end true e rest = let z : ps ≡ [] = e in rw z (omega arith)
     by_end false e rest = let r = rest e in omega arith
+
+pub few_read : (lines : List Flat) (r : Reading) → IsReading lines r → length r.statements.items ≤ length lines
+few_read lines r h =
+    let a : length (statements_in h.says) ≤ length h.says = few h.says in
+    let b : length h.says ≤ length lines = no_more lines h.says h.say in
+    rw h.statements (omega arith)
 
 -- ---- each statement
 
@@ -178,12 +184,8 @@ ends_with : LinesAreSaid → (lines : List Flat) (r : Reading) (ps : List (Flat 
     → r.before ≡ length (statements_in (read_first ps)) → Ends lines r
 ends_with law lines r ps h s u b =
     let kept : AllKept IsSaid r.statements.items = rw s (all_kept IsSaid law lines ps h) in
-    record {
-      reads = record { says = ps; say = h; statements = s; unread = u; before = b };
-      said = said_of r.statements.items kept;
-      arm = arm_of IsSaid r.statements.items kept;
-      few = let a : length (statements_in ps) ≤ length ps = few ps in let b : length ps ≤ length lines = no_more lines ps h in rw s (omega arith);
-    }
+    let reads : IsReading lines r = record { says = ps; say = h; statements = s; unread = u; before = b } in
+    record { reads = reads; said = said_of r.statements.items kept; arm = arm_of IsSaid r.statements.items kept; few = few_read lines r reads }
 
 pub at_the_end : LinesAreSaid → (lines left : List Flat) (r : Reading) → length left < 1 → IsSoFar lines left r → Ends lines r
 at_the_end law lines left r less h =

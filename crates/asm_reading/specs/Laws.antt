@@ -5,6 +5,7 @@ use Rattle.asm_model.specs.declared.statements.Statement.{Statement}
 use Rattle.layout_model.specs.Laid.{reversed}
 use Rattle.layout_model.specs.PlacedLines.{AllNamed}
 use Rattle.said_model.specs.Fit.{AllFit}
+use Rattle.said_model.specs.Named.{AllLoadsNamed}
 use Rattle.said_model.specs.Said.{AllSaid, AllHaveTexts}
 use Rattle.source_laws.specs.Laws.{NoCode16}
 use Rattle.asm_reading.specs.declared.reading.Reading.{Reading}
@@ -26,6 +27,7 @@ pub record AreFit (statements : List Statement) : Type 0 where
   pub texts : AllHaveTexts statements
   pub fit : AllFit statements
   pub named : AllNamed statements
+  pub loads_named : AllLoadsNamed statements
   pub arm : NoCode16 statements
 
 -- the statements of a reading are so in the order of their lines

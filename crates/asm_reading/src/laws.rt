@@ -4,7 +4,9 @@ ghost use Rattle.asm_reading.specs.Laws.{OneLine, OneReading, ReadingsAreFit, Re
 
 use asm_arm::says::one_arm;
 use asm_lines::scan::one_scan;
-use asm_said::laws::{lines_are_fit, lines_are_named, lines_are_said, lines_have_texts};
+use asm_said::laws::{
+    lines_are_fit, lines_are_named, lines_are_said, lines_have_texts, loads_are_named,
+};
 
 /// What lines say is one thing.
 pub fn one_reading()
@@ -23,6 +25,7 @@ pub fn readings_are_fit_in_order()
     lines_have_texts();
     lines_are_fit();
     lines_are_named();
+    loads_are_named();
 }
 
 /// So are they with the last first, as layout lists them.
@@ -33,4 +36,5 @@ pub fn readings_are_fit()
     lines_have_texts();
     lines_are_fit();
     lines_are_named();
+    loads_are_named();
 }

@@ -33,6 +33,7 @@ use Rattle.asm_arm.specs.Lines.{hash, equals, bracket, data_line, absent, ReadsD
 use Rattle.asm_arm.specs.Lists as lists
 use Rattle.asm_arm.specs.Operands.{Cuts, none, one, two, three, four, more, cut, both, followed, without_first, no_register, register}
 use Rattle.asm_arm.specs.Words.{shape_of}
+use Rattle.said_model.specs.Named.{LoadNamed}
 use Rattle.said_model.specs.Said.{IsRead, RegisterSaid, OperationSaid, HalfSaid, HalfOffsetSaid, ArmSaid, PseudoSaid, LoadsBare}
 use Rattle.asm_said.proofs.AddressLemmas.{followed_gives, OffsetSaid, AddressedSaid, PlacedSaid, before_said, after_said, before_as_said, after_as_said, half_offset_said}
 use Rattle.asm_said.proofs.BareLemmas.{IsLoaded, parsed_loaded}
@@ -49,7 +50,7 @@ abbrev pub InstructionSaid : What → Type 0
 InstructionSaid what.Nothing = ⊥
 InstructionSaid (what.Arm l) = ArmSaid l
 InstructionSaid (what.Thumb l) = ⊥
-InstructionSaid (what.Pseudo l) = PseudoSaid l × LoadsBare (what.Pseudo l)
+InstructionSaid (what.Pseudo l) = PseudoSaid l × LoadsBare (what.Pseudo l) × LoadNamed (what.Pseudo l)
 InstructionSaid (what.Directive l) = ⊥
 
 abbrev pub Said : Result What LineKind → Type 0
@@ -238,7 +239,7 @@ pub constant_said : (text : List ℕ) (c : Condition) (l : Bool) (d e : List Tok
     → ReadsConstant text c l d e r → Said r
 constant_said text c true d e r f g h =
     equal_gives InstructionSaid r (on_both (λ rd x. what.Pseudo (pseudo.LoadConstant c rd x)) (register text d) h.0) h.2
-    (both_give RegisterSaid IsLoaded InstructionSaid (λ rd x. what.Pseudo (pseudo.LoadConstant c rd x)) (register text d) h.0 (λ rd x p q. ((p, q.0), q.1))
+    (both_give RegisterSaid IsLoaded InstructionSaid (λ rd x. what.Pseudo (pseudo.LoadConstant c rd x)) (register text d) h.0 (λ rd x p q. ((p, q.0), q.1, q.2))
     (register_said text d f) (parsed_loaded text e h.0 g h.1))
 constant_said text c false d e r f g h = fault_said Syntax r h
 
@@ -326,7 +327,7 @@ pub address_said : (text : List ℕ) (c : Condition) (os : Cuts) (r : Result Wha
 address_said text c none r f h = fault_said Syntax r h
 address_said text c (one d) r f h = fault_said Syntax r h
 address_said text c (two d e) r f h =
-    address_of_said text (λ rd x. what.Pseudo (pseudo.Address c rd x)) (register text d) e r (λ rd x p q. ((p, q), tt)) (register_said text d f.0) h
+    address_of_said text (λ rd x. what.Pseudo (pseudo.Address c rd x)) (register text d) e r (λ rd x p q. ((p, q), tt, tt)) (register_said text d f.0) h
 address_said text c (three d x y) r f h = fault_said Syntax r h
 address_said text c (four d x y z) r f h = fault_said Syntax r h
 address_said text c more r f h = fault_said Syntax r h
@@ -335,14 +336,14 @@ pub long_address_said : (text : List ℕ) (c : Condition) (os : Cuts) (r : Resul
 long_address_said text c none r f h = fault_said Syntax r h
 long_address_said text c (one d) r f h = fault_said Syntax r h
 long_address_said text c (two d e) r f h =
-    address_of_said text (λ rd x. what.Pseudo (pseudo.LongAddress c rd x)) (followed (register text d) long_register) e r (λ rd x p q. ((p, q), tt))
+    address_of_said text (λ rd x. what.Pseudo (pseudo.LongAddress c rd x)) (followed (register text d) long_register) e r (λ rd x p q. ((p, q), tt, tt))
     (followed_gives RegisterSaid RegisterSaid (register text d) long_register long_register_said (register_said text d f.0)) h
 long_address_said text c (three d x y) r f h = fault_said Syntax r h
 long_address_said text c (four d x y z) r f h = fault_said Syntax r h
 long_address_said text c more r f h = fault_said Syntax r h
 
 pub idle_said : (ts : List Token) → Said (idle ts)
-idle_said [] = (tt, tt)
+idle_said [] = (tt, tt, tt)
 idle_said (t ∷ ts) = tt
 
 -- ---- all forms

@@ -7,6 +7,7 @@ pub mod GivesLemmas
 pub mod LabelLemmas
 pub mod LineLemmas
 pub mod ListLemmas
+pub mod NameLemmas
 pub mod OperandLemmas
 pub mod ReadLemmas
 pub mod TextLemmas

@@ -1,9 +1,9 @@
 -- Names that a line says have a character and hold no zero byte, only an area of code has the marks of code, and operands
 -- of DCD have no place as a constant.
-use Rattle.std.proofs.Common.{◌≡◌, ◌≢◌, ℕ, ◌-◌, ◌==◌, List, [], ◌∷◌, ◌++◌, length, take, ◌||◌, ◌&&◌, not, Bool, true, false, cond, refl, subst, sym, arith, Option, Some, None, inl, inr}
+use Rattle.std.proofs.Common.{◌≡◌, ℕ, ◌==◌, List, [], ◌∷◌, ◌++◌, ◌||◌, ◌&&◌, not, Bool, true, false, cond, refl, subst, sym, Option, Some, None}
 use Rattle.std.specs.Prelude.{Result, Ok, Err}
-use Rattle.std.specs.List.{AllByRecursion, list_all}
-use Rattle.std.proofs.lemmas.Bool.{and_parts, or_parts, eqb-true}
+use Rattle.std.specs.List.{AllByRecursion}
+use Rattle.std.proofs.lemmas.Bool.{or_parts}
 use Rattle.sdt_fault.specs.declared.kinds.LineKind.{LineKind}
 use Rattle.sdt_fault.specs.declared.kinds.LineKind.TheVariants.{Syntax, BadOperand}
 use Rattle.asm_model.specs.declared.lines.Flat.{Flat}
@@ -28,87 +28,31 @@ use Rattle.asm_model.specs.declared.statements.What.{What}
 use Rattle.asm_model.specs.declared.statements.What.TheVariants as what
 use Rattle.asm_model.specs.Areas.{has, is_repeated, is_contradicting, contents_of, attributes_of, attributes_in, agreed}
 use Rattle.asm_model.specs.Directives.{label_need}
-use Rattle.asm_model.specs.Forms.{is_digit, is_letter, is_word, is_between_bars, one_or_more, ends_with_bar, is_name, is_barred, is_short}
+use Rattle.asm_model.specs.Forms.{is_short}
 use Rattle.asm_model.specs.Grammar.{ParsesTokens}
 use Rattle.asm_model.specs.Kinds.{earlier}
 use Rattle.asm_model.specs.Operands.{operands}
 use Rattle.asm_model.specs.Parts.{piece}
-use Rattle.asm_model.specs.Says.{Form, bare, name, imported, expression, expressions, area, register, boundary, refused, form_of_directive, on_both, mapped, between_bars, name_of, name_alone, weak_mark, import_of, register_alone, Expression, Expressions, SomeExpressions, Area, Register, Aligned, bare_of, Reads, label_of, label_field, Sentence, sentence, directive_of, statement_of, SaysAs, SaysDirective}
+use Rattle.asm_model.specs.Says.{Form, bare, name, imported, expression, expressions, area, register, boundary, refused, form_of_directive, on_both, mapped, name_of, name_alone, weak_mark, import_of, register_alone, Expression, Expressions, SomeExpressions, Area, Register, Aligned, bare_of, Reads, label_of, label_field, Sentence, sentence, directive_of, statement_of, SaysAs, SaysDirective}
 use Rattle.asm_model.specs.Tokens.{first_due, Tokens, Scans}
 use Rattle.layout_model.specs.Labels.{LocalLabel, Label, number_in, labelled, field_defines, defined_by, imported_in}
-use Rattle.layout_model.specs.PlacedLines.{IsName, HasName, HasImport}
+use Rattle.layout_model.specs.PlacedLines.{HasName, HasImport}
 use Rattle.layout_laws.proofs.LineLemmas.{HasForm, EachHasForm, OptionHasForm, tokens_form, sentence_form}
 use Rattle.layout_laws.specs.Sound.{HaveNoPlaces}
-use Rattle.layout_laws.proofs.SaidLemmas.{form_name, form_barred, no_between, read_expressions_are_plain}
+use Rattle.layout_laws.proofs.SaidLemmas.{read_expressions_are_plain}
 use Rattle.asm_arm.specs.Says.{statement, alone, SaysWords, SaysOr, SaysScanned, SaysArm}
 use Rattle.asm_arm.specs.Words.{operation_named}
 use Rattle.said_model.specs.Fit.{MarksAgree, AllPlaceless, DirectiveFits, IsFit}
+use Rattle.said_model.specs.Named.{LoadNamed}
 use Rattle.said_model.specs.Said.{directive_names, what_names, label_names, said_names, HoldsNoZero, HasTexts}
 use Rattle.asm_said.proofs.ArmLemmas.{InstructionSaid, instruction_said}
 use Rattle.asm_said.proofs.DirectiveLemmas.{any_gives}
 use Rattle.asm_said.proofs.FormLemmas.{AllHaveForm, operands_form}
 use Rattle.asm_said.proofs.GivesLemmas.{Gives, OptionGives, equal_gives, mapped_gives, both_give}
+use Rattle.asm_said.proofs.NameLemmas.{IsText, short_text, word_text}
 use Rattle.asm_said.proofs.WordLemmas.{operation_said}
 
--- ---- bytes
-
-pub letter_text : (c : ℕ) → is_word c ≡ true → c ≢ 0
-letter_text c h = λ e. let x : is_word 0 ≡ true = subst (λ z. is_word z ≡ true) e h in absurd (cc)
-
-pub between_text : (c : ℕ) → is_between_bars c ≡ true → c ≢ 0
-between_text c h = λ e. let x : is_between_bars 0 ≡ true = subst (λ z. is_between_bars z ≡ true) e h in absurd (cc)
-
-pub digit_text : (c : ℕ) → is_digit c ≡ true → c ≢ 0
-digit_text c h = λ e. let x : is_digit 0 ≡ true = subst (λ z. is_digit z ≡ true) e h in absurd (cc)
-
-pub words_text : (s : List ℕ) → list_all is_word s ≡ true → HoldsNoZero s
-words_text [] h = tt
-words_text (c ∷ cs) h = let p = and_parts (is_word c) (list_all is_word cs) h in (letter_text c p.0, words_text cs p.1)
-
--- a name with a character, and without a zero byte
-abbrev pub IsText : List ℕ → Type 0
-IsText n = HoldsNoZero n × IsName n
-
-pub name_text : (s : List ℕ) → is_name s ≡ true → IsText s
-name_text [] h = absurd (cc)
-name_text (c ∷ cs) h = (words_text (c ∷ cs) (and_parts (is_letter c) (one_or_more is_word (c ∷ cs)) h).1, tt)
-
-pub inner_text : (c : ℕ) (cs : List ℕ) → ends_with_bar (c ∷ cs) ≡ true → HoldsNoZero (take (length cs) (c ∷ cs))
-inner_text c [] h = tt
-inner_text c (d ∷ ds) h =
-    let p = and_parts (is_between_bars c) (ends_with_bar (d ∷ ds)) h in (between_text c p.0, inner_text d ds p.1)
-
--- a bar stands between no bars, so that a byte stands before the one that ends them
-pub inner_named : (c : ℕ) (cs : List ℕ) → is_between_bars c ≡ true → ends_with_bar (c ∷ cs) ≡ true → IsName (take (length cs) (c ∷ cs))
-inner_named c [] h k = absurd (no_between c (eqb-true c 124 k) h)
-inner_named c (d ∷ ds) h k = tt
-
-pub barred_text : (s : List ℕ) → is_barred s ≡ true → IsText (between_bars s)
-barred_text [] h = absurd (cc)
-barred_text (b ∷ []) h = let p = and_parts (b == 124) false h in absurd (let x = p.1 in cc)
-barred_text (b ∷ c ∷ cs) h =
-    let p = and_parts (b == 124) (is_between_bars c && ends_with_bar (c ∷ cs)) h in
-    let r = and_parts (is_between_bars c) (ends_with_bar (c ∷ cs)) p.1 in
-    let x : length cs ≡ length (b ∷ c ∷ cs) - 2 = omega arith in
-    subst (λ n. IsText (take n (c ∷ cs))) x (inner_text c cs r.1, inner_named c cs r.0 r.1)
-
-pub short_text : (s : List ℕ) → is_short s ≡ true → HoldsNoZero s
-short_text [] h = tt
-short_text (c ∷ []) h = (digit_text c h, tt)
-short_text (c ∷ d ∷ []) h = let p = and_parts (is_digit c) (is_digit d) h in (digit_text c p.0, (digit_text d p.1, tt))
-short_text (c ∷ d ∷ e ∷ cs) h = absurd (cc)
-
 -- ---- names
-
-pub word_text : (k : TokenKind) (s : List ℕ) → HasForm k s → Gives IsText (name_of k s)
-word_text kind.Name s h = elim h [ inl f ↦ name_text s (form_name s f) | inr f ↦ absurd (cc) ]
-word_text kind.Barred s h = elim h [ inl f ↦ barred_text s (form_barred s f) | inr f ↦ absurd (cc) ]
-word_text kind.Number s h = tt
-word_text kind.Quoted s h = tt
-word_text kind.Character s h = tt
-word_text kind.Braced s h = tt
-word_text kind.Local s h = tt
-word_text kind.Sign s h = tt
 
 pub number_text : (s : List ℕ) → Gives (OptionGives IsText) (cond (is_short s) (Ok (Some (124 ∷ s))) (Err Syntax))
 number_text s = by_test (is_short s) refl
@@ -296,7 +240,7 @@ directive_fine directive.Expansion = tt
 -- ---- statements
 
 abbrev pub StatementFine : Statement → Type 0
-StatementFine s = AllByRecursion IsText (said_names s) × IsFit s
+StatementFine s = AllByRecursion IsText (said_names s) × IsFit s × LoadNamed s.what
 
 pub with_label : (o : Option (List ℕ)) (ns : List (List ℕ)) → OptionGives IsText o → AllByRecursion IsText ns → AllByRecursion IsText (label_names o ++ ns)
 with_label None ns h k = k
@@ -309,21 +253,21 @@ says_directive_fine flat s (Some d) r f g h =
     let label = label_field (label_need d) flat.text s.label in
     equal_gives (OptionGives StatementFine) r (on_both (statement_of flat) label h.0) h.2
     (both_give (OptionGives IsText) DirectiveFine (OptionGives StatementFine) (statement_of flat) label h.0
-    (λ o l p q. (with_label o (directive_names l) p q.0, q.1))
+    (λ o l p q. (with_label o (directive_names l) p q.0, q.1, tt))
     (field_text (label_need d) flat.text s.label f) (form_fine flat.text (form_of_directive d) s.behind h.0 g (directive_fine d) h.1))
 
 pub instruction_fine : (flat : Flat) (o : Option (List ℕ)) (w : What) → OptionGives IsText o → InstructionSaid w → OptionGives StatementFine (statement flat o w)
 instruction_fine flat o what.Nothing h k = absurd k
-instruction_fine flat o (what.Arm l) h k = (with_label o [] h tt, tt)
+instruction_fine flat o (what.Arm l) h k = (with_label o [] h tt, tt, tt)
 instruction_fine flat o (what.Thumb l) h k = absurd k
-instruction_fine flat o (what.Pseudo l) h k = (with_label o [] h tt, tt)
+instruction_fine flat o (what.Pseudo l) h k = (with_label o [] h tt, tt, k.2)
 instruction_fine flat o (what.Directive l) h k = absurd k
 
 pub alone_fine : (flat : Flat) (label : Option Token) → OptionHasForm flat.text label → Gives (OptionGives StatementFine) (alone flat label)
 alone_fine flat None f = tt
 alone_fine flat (Some t) f =
     mapped_gives (OptionGives IsText) (OptionGives StatementFine) (λ o. statement flat o what.Nothing) (label_field need.Optional flat.text (Some t))
-    (λ o p. (with_label o [] p tt, tt)) (field_text need.Optional flat.text (Some t) f)
+    (λ o p. (with_label o [] p tt, tt, tt)) (field_text need.Optional flat.text (Some t) f)
 
 pub words_fine : (flat : Flat) (label o : Option Token) (ts : List Token) (r : Result (Option Statement) LineKind) → OptionHasForm flat.text label
     → EachHasForm flat.text ts → SaysWords flat label o ts r → Gives (OptionGives StatementFine) r
@@ -390,3 +334,6 @@ imported_named o w h = tt
 pub lines_are_named : (flat : Flat) (s : Statement) → SaysArm flat (Ok (Some s)) → HasName (defined_by s) × HasImport (imported_in s.what)
 lines_are_named flat s h =
     let texts = (lines_are_fine flat s h).0 in (defined_named s.label s.what texts, imported_named s.label s.what texts)
+
+pub loads_are_named : (flat : Flat) (s : Statement) → SaysArm flat (Ok (Some s)) → LoadNamed s.what
+loads_are_named flat s h = (lines_are_fine flat s h).2

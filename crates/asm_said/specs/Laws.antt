@@ -13,6 +13,7 @@ use Rattle.asm_arm.specs.Says.{SaysArm}
 use Rattle.layout_model.specs.Labels.{defined_by, imported_in}
 use Rattle.layout_model.specs.PlacedLines.{HasName, HasImport}
 use Rattle.said_model.specs.Fit.{IsFit}
+use Rattle.said_model.specs.Named.{LoadNamed}
 use Rattle.said_model.specs.Said.{IsRead, IsSaid, HasTexts}
 
 -- an expression of tokens is read
@@ -34,6 +35,10 @@ LinesHaveTexts = (flat : Flat) (s : Statement) → SaysArm flat (Ok (Some s)) �
 -- each name that it defines or imports has a character
 abbrev pub LinesAreNamed : Type 0
 LinesAreNamed = (flat : Flat) (s : Statement) → SaysArm flat (Ok (Some s)) → HasName (defined_by s) × HasImport (imported_in s.what)
+
+-- each name in what it loads has a character
+abbrev pub LoadsAreNamed : Type 0
+LoadsAreNamed = (flat : Flat) (s : Statement) → SaysArm flat (Ok (Some s)) → LoadNamed s.what
 
 -- the marks of its AREA agree with what that holds, and the operands of its DCD have no place as a constant
 abbrev pub LinesAreFit : Type 0

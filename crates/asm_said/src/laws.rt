@@ -1,6 +1,6 @@
 //! Laws of the definitions, each proved as the contract of an empty function.
 
-ghost use Rattle.asm_said.specs.Laws.{DirectivesAreSaid, ExpressionsAreRead, LinesAreFit, LinesAreNamed, LinesAreSaid, LinesHaveTexts};
+ghost use Rattle.asm_said.specs.Laws.{DirectivesAreSaid, ExpressionsAreRead, LinesAreFit, LinesAreNamed, LinesAreSaid, LinesHaveTexts, LoadsAreNamed};
 
 /// An expression that tokens spell is read.
 pub fn expressions_are_read()
@@ -25,6 +25,11 @@ pub fn lines_have_texts()
 /// Each name that a line defines or imports has a character.
 pub fn lines_are_named()
     ensures { LinesAreNamed }
+{}
+
+/// Each name in what a line loads has a character.
+pub fn loads_are_named()
+    ensures { LoadsAreNamed }
 {}
 
 /// The marks of a line's AREA agree with what that holds, and the operands of its DCD have no place as a constant.

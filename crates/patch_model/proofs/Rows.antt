@@ -52,14 +52,14 @@ pub arm_calls_thumb : Row 0x8000 (only 0x8000 0x8008 true) (at 0x800C true) (byt
 arm_calls_thumb = record { branch = (lit< tt, refl); rest = refl; leads = refl }
 
 pub arm_veneer : HasVeneer 0x800C 0x8008 true (bytes_of 0xE59FC000 4 ++ bytes_of 0xE12FFF1C 4 ++ bytes_of 0x00008009 4)
-arm_veneer = refl
+arm_veneer = record { even = refl; contents = refl }
 
 -- BL at 0x8000 to ARM code at 0x8008, by a veneer at 0x800C
 pub thumb_calls_arm : Row 0x8000 (only 0x8000 0x8008 false) (at 0x800C false) (bytes_of 0xFFFEF7FF 4) (bytes_of 0xF804F000 4) (reloc 1 0x8F000000)
 thumb_calls_arm = record { branch = (refl, refl); rest = (refl, refl); leads = refl }
 
 pub thumb_veneer : HasVeneer 0x800C 0x8008 false (bytes_of 0x46C04778 4 ++ bytes_of 0xEAFFFFFC 4)
-thumb_veneer = record { field = 0xFFFFFC; fits = lit< tt; contents = refl; leads = refl }
+thumb_veneer = record { aligned = refl; field = 0xFFFFFC; fits = lit< tt; contents = refl; leads = refl }
 
 -- a Thumb BL at 0x100 reaches 0x200 and 0x400102, and not 0x400104
 pub near : Row 0x100 (only 0x100 0x200 true) (at 0 false) (bytes_of 0xFFFEF7FF 4) (bytes_of 0xF87EF000 4) (reloc 1 0x8F000000)

@@ -18,7 +18,7 @@ overflow_add-at c =
 
 pub returns-in_err-area : goal.returns-in_err-area
 returns-in_err-area c =
-    let p = err_from_is_err_and c.from_residual.result c.from_residual.ensures.1 in
+    let p = err_from_is_err_and c.from_residual-in_err-area.result c.from_residual-in_err-area.ensures.1 in
     let step = next_area c.args.heads.now c.args.symbols c.args.start c.args.content.now in
     let h : Gives (Err c.in_err-area.field-0.0) (step c.loop-head.areas.items c.head-item.result) = rw (c.loop-head.invariant.many, ← c.loop-head.invariant.place) c.in_err-area.ensures in
     rw (p.1, p.2) (of_ends c.in_err-area.field-0.0 step c.loop-head.areas.items c.args.heads.now c.loop-head.head-index c.head-item.result _ c.loop-head-test.true c.head-item.is h c.loop-head.invariant.so_far)

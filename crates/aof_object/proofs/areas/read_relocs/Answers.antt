@@ -8,7 +8,7 @@ use Rattle.aof_object.proofs.areas.read_relocs.Goals as goal
 
 pub returns-in_err-reloc : goal.returns-in_err-reloc
 returns-in_err-reloc c =
-    let p = err_from_is_err_and c.from_residual.result c.from_residual.ensures.1 in
+    let p = err_from_is_err_and c.from_residual-in_err-reloc.result c.from_residual-in_err-reloc.ensures.1 in
     let step = next_reloc c.args.areas c.args.symbols c.args.start c.args.content.now c.args.at in
     let h : Gives (Err c.in_err-reloc.field-0.0) (step c.loop-i.relocs.items) = rw (c.loop-i.invariant.many, ← take_rest c.args.content.now (c.args.at + 8 * c.loop-i.i)) c.in_err-reloc.ensures in
     rw (p.1, p.2) (ends c.in_err-reloc.field-0.0 step c.loop-i.relocs.items c.args.count c.loop-i.i _ c.loop-i-test.true h c.loop-i.invariant.so_far)

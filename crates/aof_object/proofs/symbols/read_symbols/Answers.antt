@@ -16,7 +16,7 @@ same_test m ns known = λ i q. known q i
 
 pub returns-in_err-symbol : goal.returns-in_err-symbol
 returns-in_err-symbol c =
-    let p = err_from_is_err_and c.from_residual.result c.from_residual.ensures.1 in
+    let p = err_from_is_err_and c.from_residual-in_err-symbol.result c.from_residual-in_err-symbol.ensures.1 in
     let step = next_symbol c.args.strings.now c.args.heads.now c.args.start c.args.content.now in
     let taken = same_test c.loop-i.taken (exported c.loop-i.symbols.items) c.loop-i.invariant.known in
     let h : Gives (Err c.in_err-symbol.field-0.0) (step c.loop-i.symbols.items) = rw (c.loop-i.invariant.many, ← take_rest c.args.content.now (16 * c.loop-i.i), ← taken) c.in_err-symbol.ensures in

@@ -20,8 +20,8 @@ emit-requires c =
       };
     }
 
-pub returns : goal.returns
-returns c =
+pub returns-clause-made : goal.returns-clause-made
+returns-clause-made c =
     let fit = c.requires.fit in
     let sound = c.in_ok-layout.ensures.1 in
     makes c.args.source.now c.args.reading c.emit.result c.in_ok-layout.ensures.0

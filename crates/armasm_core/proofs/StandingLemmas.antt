@@ -1,0 +1,121 @@
+-- The object of a source stands wherever it is placed, and is valid.
+use Rattle.std.proofs.Common.{◌≡◌, ℕ, ◌+◌, ◌^◌, ◌<◌, ◌≤◌, List, [], ◌∷◌, ◌++◌, length, Bool, true, false, cond, Option, Some, None, Result, Ok, Err, refl, subst, arith, length-append}
+use Rattle.std.specs.Prelude.{IfOk}
+use Rattle.std.specs.List.{list_any}
+use Rattle.sdt_fault.specs.declared.answer.Fault.{Fault}
+use Rattle.sdt_fault.specs.declared.kinds.LineKind.{LineKind}
+use Rattle.sdt_fault.specs.declared.refusal.Refusal.{Refusal}
+use Rattle.aof_object.specs.declared.records.Object.{Object}
+use Rattle.aof_object.specs.Validity.{IsValid}
+use Rattle.asm_laying.specs.Behind.{most_statements}
+use Rattle.asm_layout.proofs.WalkLemmas.{reversed_long}
+use Rattle.asm_layout.specs.Front.{front_laid}
+use Rattle.asm_model.specs.declared.statements.Statement.{Statement}
+use Rattle.asm_model.specs.Directives.{or_else}
+use Rattle.asm_model.specs.Forms.{same}
+use Rattle.asm_reading.specs.declared.reading.Reading.{Reading}
+use Rattle.asm_reading.specs.declared.reading.Unread.{Unread}
+use Rattle.asm_reading.proofs.ReadLemmas.{few_read}
+use Rattle.asm_reading.specs.Laws.{AreFit, OneReading, ReadingsAreFit}
+use Rattle.layout_model.specs.Before.{area_named, areas_behind, with_name}
+use Rattle.layout_model.specs.Laid.{reversed}
+use Rattle.object_laws.specs.Laws.{ObjectsAreValid}
+use Rattle.source_laws.specs.Laws.{SourcesStayInArmState}
+use Rattle.source_model.specs.Objects.{source_of}
+use Rattle.source_model.specs.SourceFaults.{layout_faults, value_faults}
+use Rattle.stand_laws.specs.Laws.{IsFaultless, ObjectsStand}
+use Rattle.stand_model.specs.Stands.{AllStand}
+use Rattle.armasm_core.specs.Assembling.{said_by, told, unread_told, line_faults, without_area, reading_faults, has_area, source_faults, IsObjectOf, Assembles}
+use Rattle.armasm_core.specs.Standing.{StandsWherePlaced, ObjectsOfSourcesStand, ObjectsOfSourcesAreValid}
+use Rattle.armasm_core.proofs.LawLemmas.{same_says}
+use Rattle.armasm_core.proofs.ListLemmas.{few_statements}
+
+-- ---- without faults
+
+told_none : (t : Option (Statement × LineKind)) → told t ≡ None → t ≡ None
+told_none None e = refl
+told_none (Some t) e = absurd (cc)
+
+neither : (a b : Option Refusal) → or_else a b ≡ None → (a ≡ None) × (b ≡ None)
+neither None b e = (refl, e)
+neither (Some r) b e = absurd (cc)
+
+lines_none : (ss : List Statement) (before : ℕ) (u : Option Unread) → line_faults ss before u ≡ None → layout_faults ss ≡ None
+lines_none ss before None e = told_none (layout_faults ss) e
+lines_none ss before (Some u) e =
+    let bad : Some (unread_told u) ≡ None = (neither (told (front_laid ss before)) (Some (unread_told u)) e).1 in absurd (cc)
+
+reading_none : (name : List ℕ) (r : Reading) → reading_faults name r ≡ None → layout_faults (said_by r) ≡ None
+reading_none name r e = by_area (has_area r.statements.items) e
+  where
+    by_area : (b : Bool)
+        → cond b (line_faults (said_by r) r.before r.unread) (Some (without_area name (line_faults (said_by r) r.before r.unread))) ≡ None
+        → layout_faults (said_by r) ≡ None
+    by_area true k = lines_none (said_by r) r.before r.unread k
+    by_area false k = absurd (cc)
+
+source_none : (name : List ℕ) (r : Reading) → source_faults name r ≡ None → (layout_faults (said_by r) ≡ None) × (value_faults (said_by r) ≡ None)
+source_none name r e =
+    let both = neither (reading_faults name r) (told (value_faults (said_by r))) e in
+    (reading_none name r both.0, told_none (value_faults (said_by r)) both.1)
+
+-- ---- how many areas
+
+name_more : (o : Option (List ℕ)) (names : List (List ℕ)) → length (with_name o names) ≤ length names + 1
+name_more None names = omega arith
+name_more (Some n) names = by_test (list_any (same n) names)
+  where
+    by_test : (b : Bool) → length (cond b names (names ++ n ∷ [])) ≤ length names + 1
+    by_test true = omega arith
+    by_test false = let e : length (names ++ n ∷ []) ≡ length names + 1 = length-append names (n ∷ []) in omega arith
+
+-- at most one area a statement
+areas_few : (ss : List Statement) → length (areas_behind ss) ≤ length ss
+areas_few [] = omega arith
+areas_few (s ∷ before) = let h = name_more (area_named s.what) (areas_behind before) in let g = areas_few before in omega arith
+
+few_areas : (name text : List ℕ) (o : Object) → IsObjectOf name text o → length o.areas < 2 ^ 24
+few_areas name text o h =
+    let read = h.reading in
+    let says = h.says in
+    let few : length read.statements.items < most_statements + 1 =
+    few_statements name text says.lines _ read.statements.items says.parts refl (few_read _ read says.reading) in
+    let long : length (said_by read) ≡ length read.statements.items + 0 = reversed_long read.statements.items [] in
+    let count : length o.areas ≡ length (areas_behind (said_by read)) = h.object.count in
+    let areas : length (areas_behind (said_by read)) ≤ length (said_by read) = areas_few (said_by read) in
+    omega arith
+
+-- ---- laws
+
+pub objects_of_sources_stand : OneReading → ReadingsAreFit → SourcesStayInArmState → ObjectsStand → ObjectsOfSourcesStand
+objects_of_sources_stand one fits stays stand name text o h few r says own values area_at view region veneers placed shown =
+    let fit : AreFit (said_by h.reading) = fits _ h.reading h.says.reading in
+    let none = source_none name h.reading h.none in
+    let faultless : IsFaultless (said_by h.reading) = record {
+      said = fit.said;
+      named = fit.named;
+      loads_named = fit.loads_named;
+      laid_out = none.0;
+      valued = none.1;
+      arm_state = stays (said_by h.reading) fit.arm;
+    } in
+    subst (λ (items : List Statement). AllStand (source_of (reversed items [])) values view region) (same_says one name text h.reading r h.says says).0
+    (stand (said_by h.reading) o faultless h.object (few_areas name text o h) few own values area_at view region veneers placed shown)
+
+pub objects_of_sources_are_valid : ReadingsAreFit → SourcesStayInArmState → ObjectsAreValid → ObjectsOfSourcesAreValid
+objects_of_sources_are_valid fits stays valid name text o h few =
+    let fit : AreFit (said_by h.reading) = fits _ h.reading h.says.reading in
+    let none = source_none name h.reading h.none in
+    valid (said_by h.reading) o fit.said fit.texts fit.fit none.0 none.1 (stays (said_by h.reading) fit.arm) (few_areas name text o h) few h.object
+
+-- ---- answers
+
+pub if_stands : ObjectsOfSourcesStand → (name text : List ℕ) (x : Result Object Fault) → Assembles name text x → IfOk x (λ o. length o.symbols < 2 ^ 24)
+    → IfOk x (StandsWherePlaced name text)
+if_stands law name text (Ok o) h few = law name text o h few
+if_stands law name text (Err f) h few = tt
+
+pub if_valid : ObjectsOfSourcesAreValid → (name text : List ℕ) (x : Result Object Fault) → Assembles name text x → IfOk x (λ o. length o.symbols < 2 ^ 24)
+    → IfOk x IsValid
+if_valid law name text (Ok o) h few = law name text o h few
+if_valid law name text (Err f) h few = tt
