@@ -1,7 +1,9 @@
-//! Tests of the parts of layout: what is known at a line, offsets, local labels, the order of names, checks, all names, and
-//! instructions.
+//! Tests of the parts of layout: what is known at a line, offsets, local labels, the order of names, checks, all names,
+//! instructions, names for registers and areas.
 #![tactic(auto)]
 
+#[cfg(test)]
+mod areas;
 #[cfg(test)]
 mod checks;
 #[cfg(test)]
@@ -16,6 +18,8 @@ mod names;
 mod offsets;
 #[cfg(test)]
 mod orders;
+#[cfg(test)]
+mod registers;
 #[cfg(test)]
 mod sights;
 #[cfg(test)]
