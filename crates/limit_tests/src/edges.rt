@@ -24,6 +24,10 @@ const LINES: &str = " DCD 4294967295,0xFFFFFFFF,&FFFFFFFF,-0xFFFFFFFF => done
  ALIGN 0 => 2 OutOfRange
  ALIGN 0x80000000 => done
  ALIGN 0xFFFFFFFF => 2 OutOfRange
+ AREA B,CODE,ALIGN=1 => 2 BadOperand
+ AREA B,CODE,ALIGN=2 => done
+ AREA B,CODE,ALIGN=16 => done
+ AREA B,CODE,ALIGN=17 => 2 BadOperand
 x RN 15 => done
 x RN 16 => 2 OutOfRange
  SWI 0xFFFFFF => done
