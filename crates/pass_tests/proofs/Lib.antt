@@ -1,0 +1,2 @@
+-- What the tests' helpers are proved by.
+mod LineLemmas
