@@ -1,3 +1,4 @@
+mod DollarLemmas
 mod FitLemmas
 mod FlatLemmas
 mod LawLemmas

@@ -10,6 +10,7 @@ ghost use Rattle.said_model.specs.Said.{AllSaid};
 
 use asm_arm::parse_arm;
 use asm_expr::operands::piece_of;
+use asm_lines::scan::one_scan;
 use asm_lines::tokens;
 use asm_model::{DirectiveLine, Flat, Statement, Token, TokenKind, What};
 use asm_said::laws::lines_are_said;
@@ -148,14 +149,27 @@ fn arm_line(alloc: Global, line: &Flat) -> Result<Said, NoMemory>
     }
 }
 
+/// Whether a string or a character of the line has a dollar. A line without any isn't scanned for it.
+#[tactic(auto, using(crate::proofs::DollarLemmas::without_dollar))]
+fn dollar_in(alloc: Global, line: &Flat) -> Result<bool, NoMemory>
+    requires { reading_of.IsShort line.now }
+    ensures { IfOk result (λ dollar. (scan : reading_of.Scan) → Scans line.now.text scan → dollar ≡ reading_of.has_dollar line.now.text scan) }
+{
+    one_scan();
+    if !with_dollar(line.text.as_slice()) {
+        return Ok(false);
+    }
+    let scan = scan_line(alloc, line)?;
+    Ok(has_dollar(line.text.as_slice(), &scan))
+}
+
 /// What a line says, or the kind that is told of it.
 fn read_line(alloc: Global, line: &Flat) -> Result<Said, NoMemory>
     requires { reading_of.IsShort line.now }
     ensures { IfOk result (λ said. reading_of.SaysLine line.now said) }
 {
-    let scan = scan_line(alloc, line)?;
     let said = arm_line(alloc, line)?;
-    let dollar = has_dollar(line.text.as_slice(), &scan);
+    let dollar = dollar_in(alloc, line)?;
     Ok(read_as(dollar, said))
 }
 
