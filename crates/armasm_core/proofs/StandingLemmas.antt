@@ -1,23 +1,21 @@
 -- The object of a source stands wherever it is placed, and is valid.
-use Rattle.std.proofs.Common.{◌≡◌, ℕ, ◌+◌, ◌^◌, ◌<◌, ◌≤◌, List, [], ◌∷◌, ◌++◌, length, Bool, true, false, cond, Option, Some, None, Result, Ok, Err, refl, subst, arith, length-append}
+use Rattle.std.proofs.Common.{◌≡◌, ℕ, ◌+◌, ◌^◌, ◌<◌, List, [], length, Bool, true, false, cond, Option, Some, None, Result, Ok, Err, refl, subst, arith}
 use Rattle.std.specs.Prelude.{IfOk}
-use Rattle.std.specs.List.{list_any}
 use Rattle.sdt_fault.specs.declared.answer.Fault.{Fault}
 use Rattle.sdt_fault.specs.declared.kinds.LineKind.{LineKind}
 use Rattle.sdt_fault.specs.declared.refusal.Refusal.{Refusal}
 use Rattle.aof_object.specs.declared.records.Object.{Object}
 use Rattle.aof_object.specs.Validity.{IsValid}
+use Rattle.asm_emit.proofs.PlacedLemmas.{few_areas as areas_few}
 use Rattle.asm_laying.specs.Behind.{most_statements}
 use Rattle.asm_layout.proofs.WalkLemmas.{reversed_long}
 use Rattle.asm_layout.specs.Front.{front_laid}
 use Rattle.asm_model.specs.declared.statements.Statement.{Statement}
 use Rattle.asm_model.specs.Directives.{or_else}
-use Rattle.asm_model.specs.Forms.{same}
 use Rattle.asm_reading.specs.declared.reading.Reading.{Reading}
 use Rattle.asm_reading.specs.declared.reading.Unread.{Unread}
 use Rattle.asm_reading.proofs.ReadLemmas.{few_read}
 use Rattle.asm_reading.specs.Laws.{AreFit, OneReading, ReadingsAreFit}
-use Rattle.layout_model.specs.Before.{area_named, areas_behind, with_name}
 use Rattle.layout_model.specs.Laid.{reversed}
 use Rattle.object_laws.specs.Laws.{ObjectsAreValid}
 use Rattle.source_laws.specs.Laws.{SourcesStayInArmState}
@@ -61,19 +59,6 @@ source_none name r e =
 
 -- ---- how many areas
 
-name_more : (o : Option (List ℕ)) (names : List (List ℕ)) → length (with_name o names) ≤ length names + 1
-name_more None names = omega arith
-name_more (Some n) names = by_test (list_any (same n) names)
-  where
-    by_test : (b : Bool) → length (cond b names (names ++ n ∷ [])) ≤ length names + 1
-    by_test true = omega arith
-    by_test false = let e : length (names ++ n ∷ []) ≡ length names + 1 = length-append names (n ∷ []) in omega arith
-
--- at most one area a statement
-areas_few : (ss : List Statement) → length (areas_behind ss) ≤ length ss
-areas_few [] = omega arith
-areas_few (s ∷ before) = let h = name_more (area_named s.what) (areas_behind before) in let g = areas_few before in omega arith
-
 few_areas : (name text : List ℕ) (o : Object) → IsObjectOf name text o → length o.areas < 2 ^ 24
 few_areas name text o h =
     let read = h.reading in
@@ -81,9 +66,7 @@ few_areas name text o h =
     let few : length read.statements.items < most_statements + 1 =
     few_statements name text says.lines _ read.statements.items says.parts refl (few_read _ read says.reading) in
     let long : length (said_by read) ≡ length read.statements.items + 0 = reversed_long read.statements.items [] in
-    let count : length o.areas ≡ length (areas_behind (said_by read)) = h.object.count in
-    let areas : length (areas_behind (said_by read)) ≤ length (said_by read) = areas_few (said_by read) in
-    omega arith
+    areas_few (said_by read) o (omega (arith, few, long)) h.object
 
 -- ---- laws
 

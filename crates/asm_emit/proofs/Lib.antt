@@ -6,4 +6,5 @@ mod GrowLemmas
 mod ListLemmas
 mod LoadLemmas
 mod ObjectLemmas
+pub mod PlacedLemmas
 mod StandLemmas

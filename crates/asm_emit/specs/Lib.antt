@@ -5,3 +5,4 @@ pub mod Emitted
 pub mod Entries
 pub mod Gathering
 pub mod Listing
+pub mod Standing

@@ -6,7 +6,9 @@ ghost use Rattle.asm_layout.specs.Layout.{IsLayout};
 ghost use Rattle.asm_model.specs.declared.statements.Statement.{Statement};
 ghost use Rattle.asm_pool.specs.declared.layout.LaidArea.{LaidArea};
 ghost use Rattle.layout_model.specs.Laid.{laid, final_names};
+ghost use Rattle.layout_model.specs.PlacedLines.{AllNamed};
 ghost use Rattle.layout_model.specs.Symbols as needs;
+ghost use Rattle.said_model.specs.Named.{AllLoadsNamed};
 ghost use Rattle.said_model.specs.Said.{AllSaid};
 ghost use Rattle.source_laws.specs.Laws.{InArmState, things_in};
 ghost use Rattle.source_model.specs.Objects.{IsObject, source_of, symbol_records};
@@ -16,6 +18,7 @@ ghost use Rattle.asm_judging.specs.Whole.{IsWhole};
 ghost use Rattle.asm_emit.specs.Drafting.{AreDrafts, frame_of, frames};
 ghost use Rattle.asm_emit.specs.Emission.{HasFaultlessSource, HasSource, HasSymbols, IsEmittable};
 ghost use Rattle.asm_emit.specs.Emitted.{IsEmitted};
+ghost use Rattle.asm_emit.specs.Standing.{StandsWherever};
 
 use crate::drafting::{Growing, all_finished, all_started, put_line};
 use crate::entry::entry_of;
@@ -31,6 +34,7 @@ use asm_symbols::Symbols;
 use sdt_fault::answer::Fault;
 use sdt_fault::{List, NoMemory};
 use source_laws::laws::{sources_stand_apart, things_are_listed};
+use stand_laws::laws::objects_stand;
 use std::alloc::Global;
 use std::collections::BTreeMap;
 
@@ -110,13 +114,16 @@ fn object_of(alloc: Global, layout: &Layout) -> Result<Object, NoMemory>
 }
 
 /// The object of a layout. Refuses the first line whose operands, name, literal, EXPORT, KEEP or ASSERT have a fault.
-/// With 2^24 symbols or more, want of memory is answered before anything is written.
+/// With 2^24 symbols or more, want of memory is answered before anything is written. Wherever the object is placed, the
+/// statements stand.
 pub fn emit(alloc: Global, layout: &Layout) -> Result<Object, Fault>
     requires source { HasSource layout.now }
     ensures emitted { (statements : Items Statement) → IsLayout statements layout.now → AllSaid statements → layout_faults statements ≡ None → InArmState statements → IsEmitted statements result }
     ensures few { IfOk result (λ o. length o.symbols < 2 ^ 24) }
+    ensures stands { IfOk result (λ o. (statements : Items Statement) → IsLayout statements layout.now → AllSaid statements → AllNamed statements → AllLoadsNamed statements → layout_faults statements ≡ None → InArmState statements → StandsWherever statements o) }
 {
     laid_statements_are_said();
+    objects_stand();
     judge(alloc, layout)?;
     Ok(object_of(alloc, layout)?)
 }

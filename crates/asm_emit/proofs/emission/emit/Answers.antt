@@ -1,3 +1,4 @@
+use Rattle.asm_emit.proofs.PlacedLemmas.{few_areas, object_stands}
 use Rattle.asm_emit.proofs.emission.emit.Goals as goal
 
 pub judge-requires : goal.judge-requires
@@ -24,3 +25,11 @@ object_of-requires c =
         few = s.few;
       };
     }
+
+pub returns-clause-stands : goal.returns-clause-stands
+returns-clause-stands c ss layout said named loads sound arm =
+    let s = c.requires.source in
+    let o = c.in_ok-object_of.field-0 in
+    let made = c.in_ok-object_of.ensures in
+    object_stands c.objects_stand.ensures ss o said named loads sound (c.in_ok-judge.ensures ss layout said sound) arm (made.object ss layout said sound arm)
+    (few_areas s.statements o s.few (made.object s.statements s.layout s.said s.sound s.arm)) made.few
