@@ -6,21 +6,21 @@ ghost use Rattle.sdt_fault.specs.declared.answer.Fault.TheVariants.{Refused};
 ghost use Rattle.sdt_fault.specs.declared.refusal.Refusal.TheVariants.{BadObject};
 ghost use Rattle.chunk_file.specs.Reading.{Gives, each};
 ghost use Rattle.aof_object.specs.Names.{among, number_from};
-ghost use Rattle.aof_object.specs.Index.{number_in};
+ghost use Rattle.aof_object.specs.Index.{number_in, or_number};
 ghost use Rattle.aof_object.specs.Checks.{area_flaw};
 ghost use Rattle.aof_object.specs.Objects.{judged, head_names, head_at, next_head, stored, extent, total, reloc_at, next_reloc, area_at, next_area, each_of};
 
 use crate::checks::{Flaw, judge_area, judge_reloc};
 use crate::faults::bad_object;
-use crate::index::{find_name, note_name};
+use crate::index::note_name;
 use crate::records::{Area, Reloc};
 use crate::strings::read_name;
+use indexmap::IndexMap;
 use sdt_fault::answer::Fault;
 use sdt_fault::kinds::FileKind;
 use sdt_fault::{Bytes, List, NoMemory, Text};
 use sdt_word::{field, word_at};
 use std::alloc::Global;
-use std::collections::BTreeMap;
 
 /// What OBJ_HEAD says of an area; `count` is the number of its relocations.
 #[derive(Debug, Drop)]
@@ -39,23 +39,25 @@ pub fn fault_of(alloc: Global, at: usize, flaw: Flaw) -> Fault
     bad_object(alloc, at + flaw.place as usize, flaw.kind)
 }
 
-/// The row of an area at an offset of the file.
+/// The row of an area at an offset of the file. The index gets its name with its number.
 #[tactic(auto, unfolding(crate::specs::Objects::head_at))]
-fn read_head(
+fn read_head<'a>(
     alloc: Global,
-    strings: &[u8],
-    index: &BTreeMap<Text, u32>,
+    strings: &'a [u8],
+    index: &mut IndexMap<&'a [u8], u32>,
+    number: u32,
     at: usize,
     row: &[u8],
 ) -> Result<AreaHead, Fault>
     requires row { 20 ≤ length row.now }
     requires place { at + 20 < 2 ^ 32 }
-    ensures { Gives result (head_at strings.now (λ q. is_some (number_in index.now q)) at row.now) }
+    ensures exact { Gives result (head_at strings.now (λ q. is_some (number_in index.old q)) at row.now) }
+    ensures noted { IfOk result (λ head. (q : Items ℕ) → number_in index.new q ≡ or_number (number_in index.old q) head.name number q) }
 {
-    let Some(name) = read_name(alloc, strings, word_at(row, 0))? else {
+    let Some(name) = read_name(strings, word_at(row, 0)) else {
         return Err(bad_object(alloc, at, FileKind::Name));
     };
-    let repeated = find_name(index, &name).is_some();
+    let repeated = note_name(index, name, number)?.is_some();
     let attributes = word_at(row, 4);
     let size = word_at(row, 8);
     let count = word_at(row, 12);
@@ -63,7 +65,7 @@ fn read_head(
         return Err(fault_of(alloc, at, flaw));
     }
     Ok(AreaHead {
-        name,
+        name: Text::from_slice(alloc, name)?,
         attributes,
         size,
         count,
@@ -71,13 +73,13 @@ fn read_head(
 }
 
 /// The rows of the areas, which begin at 24 in OBJ_HEAD. The index gets their names with their numbers.
-pub fn read_rows(
+pub fn read_rows<'a>(
     alloc: Global,
-    strings: &[u8],
+    strings: &'a [u8],
     start: usize,
     head: &[u8],
     count: u32,
-    index: &mut BTreeMap<Text, u32>,
+    index: &mut IndexMap<&'a [u8], u32>,
 ) -> Result<List<AreaHead>, Fault>
     requires empty { (q : Items ℕ) → number_in index.old q ≡ None }
     requires rows { 24 + 20 * count ≤ length head.now }
@@ -89,8 +91,7 @@ pub fn read_rows(
     let mut heads = Vec::new(alloc);
     for i in 0..count {
         let at = 24 + 20 * i as usize;
-        let area = read_head(alloc, strings, index, start + at, &head[at..])?;
-        note_name(alloc, index, &area.name, i)?;
+        let area = read_head(alloc, strings, index, i, start + at, &head[at..])?;
         heads.push(area)?;
     }
     Ok(List::from_vec(heads))

@@ -1,30 +1,31 @@
-//! Names found by an index: a map from names to numbers.
+//! Names found by an index: a map to numbers from names, which stay where they are.
 
-ghost use Rattle.std.specs.Prelude.{◌≡◌, ℕ, List, OnOk, IsSome};
-ghost use Rattle.aof_object.specs.Index.{Numbers, number_in, or_number};
+ghost use Rattle.std.specs.Prelude.{◌≡◌, ℕ, List, OnOk, IfOk};
+ghost use Rattle.aof_object.specs.Index.{number_in, or_number};
 
-use sdt_fault::{NoMemory, Text};
-use std::alloc::Global;
-use std::collections::BTreeMap;
+use indexmap::IndexMap;
+use sdt_fault::NoMemory;
 
 /// The number of a name.
-pub fn find_name(index: &BTreeMap<Text, u32>, name: &Text) -> Option<u32>
+pub fn find_name(index: &IndexMap<&[u8], u32>, name: &[u8]) -> Option<u32>
     ensures { result ≡ number_in index.now name.now }
 {
     index.get(name).copied()
 }
 
-/// Notes the number of a name that has none yet.
-pub fn note_name(
-    alloc: Global,
-    index: &mut BTreeMap<Text, u32>,
-    name: &Text,
+/// Notes the number of a name that has none yet. Gives the number that the name had.
+pub fn note_name<'a>(
+    index: &mut IndexMap<&'a [u8], u32>,
+    name: &'a [u8],
     number: u32,
-) -> Result<(), NoMemory>
-    ensures { OnOk result ((q : List ℕ) → number_in index.new q ≡ or_number (number_in index.old q) name.now number q) }
+) -> Result<Option<u32>, NoMemory>
+    ensures found { IfOk result (λ found. found ≡ number_in index.old name.now) }
+    ensures noted { OnOk result ((q : List ℕ) → number_in index.new q ≡ or_number (number_in index.old q) name.now number q) }
 {
-    if let None = find_name(index, name) {
-        index.insert(name.try_clone(alloc)?, number)?;
+    // A new name, which most are, is looked up once so.
+    let found = index.insert(name, number)?;
+    if let Some(first) = found {
+        index.insert(name, first)?;
     }
-    Ok(())
+    Ok(found)
 }

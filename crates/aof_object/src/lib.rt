@@ -16,7 +16,7 @@ mod table;
 mod validity;
 mod writing;
 
-pub use crate::index::{find_name, note_name};
+pub use crate::index::note_name;
 pub use crate::laws::{object_law, one_record, spelling_law};
 pub use crate::parts::{Found, find};
 pub use crate::reading::read_object;

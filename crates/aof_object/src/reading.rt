@@ -16,12 +16,12 @@ use crate::parts::{Parts, find_parts};
 use crate::records::{Entry, Object, Symbol};
 use crate::symbols::read_symbols;
 use chunk_file::{bytes_of_span, read_table};
+use indexmap::IndexMap;
+use sdt_fault::List;
 use sdt_fault::answer::Fault;
 use sdt_fault::kinds::FileKind;
-use sdt_fault::{List, Text};
 use sdt_word::word_at;
 use std::alloc::Global;
-use std::collections::BTreeMap;
 
 /// OBJ_HEAD and OBJ_STRT as a whole: their lengths, the type and the version. Gives the number of areas.
 #[tactic(auto, unfolding(crate::specs::Objects::counted_areas))]
@@ -56,13 +56,13 @@ fn count_areas(alloc: Global, p: &Parts, head: &[u8], strings: &[u8]) -> Result<
 
 /// The rows of the areas, and that OBJ_AREA has the size that they ask for.
 #[tactic(auto, unfolding(crate::specs::Objects::heads_of))]
-fn read_heads(
+fn read_heads<'a>(
     alloc: Global,
     p: &Parts,
     head: &[u8],
-    strings: &[u8],
+    strings: &'a [u8],
     content: &[u8],
-    index: &mut BTreeMap<Text, u32>,
+    index: &mut IndexMap<&'a [u8], u32>,
 ) -> Result<List<AreaHead>, Fault>
     requires empty { (q : Items ℕ) → number_in index.old q ≡ None }
     requires rows { 24 + 20 * word_in head.now 8 ≤ length head.now }
@@ -86,7 +86,7 @@ fn symbols_in(
     p: &Parts,
     strings: &[u8],
     heads: &[AreaHead],
-    index: &BTreeMap<Text, u32>,
+    index: &IndexMap<&[u8], u32>,
     table: &[u8],
     count: u32,
 ) -> Result<List<Symbol>, Fault>
@@ -145,7 +145,7 @@ fn object_of_parts(
     ensures { Gives result (object_in p.now head.now content.now strings.now table.now) }
 {
     count_areas(alloc, p, head, strings)?;
-    let mut index = BTreeMap::new(alloc);
+    let mut index = IndexMap::new(alloc);
     let heads = read_heads(alloc, p, head, strings, content, &mut index)?;
     let heads = heads.as_slice();
     let count = word_at(head, 12);
@@ -180,7 +180,7 @@ fn object(alloc: Global, b: &[u8]) -> Result<Object, Fault>
 }
 
 /// The object of a file. Gives `BadChunk` and `BadObject`, with an empty file name. Takes time that is
-/// linear in the file and in the names of the record, but for a logarithm of the number of names.
+/// linear in the file and in the names of the record, which are found by their hashes.
 pub fn read_object(alloc: Global, b: &[u8]) -> Result<Object, Fault>
     requires { length b.now < 2 ^ 32 }
     // What is read is what the bytes say.

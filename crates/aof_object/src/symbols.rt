@@ -14,12 +14,12 @@ use crate::faults::bad_object;
 use crate::index::{find_name, note_name};
 use crate::records::Symbol;
 use crate::strings::read_name;
+use indexmap::IndexMap;
 use sdt_fault::answer::Fault;
 use sdt_fault::kinds::FileKind;
 use sdt_fault::{List, NoMemory, Text};
 use sdt_word::word_at;
 use std::alloc::Global;
-use std::collections::BTreeMap;
 
 /// The area that a symbol's area-name word tells.
 #[derive(Clone, Copy, PartialEq, Eq, Debug)]
@@ -53,85 +53,70 @@ fn told_area(heads: &[AreaHead], number: Option<u32>) -> Told
 }
 
 #[tactic(auto, unfolding(crate::specs::Objects::told))]
-fn tell_area(
-    alloc: Global,
-    strings: &[u8],
-    heads: &[AreaHead],
-    areas: &BTreeMap<Text, u32>,
-    word: u32,
-) -> Result<Told, NoMemory>
+fn tell_area(strings: &[u8], heads: &[AreaHead], areas: &IndexMap<&[u8], u32>, word: u32) -> Told
     requires { (q : Items ℕ) → number_in areas.now q ≡ number_from 0 q (head_names heads.now) }
-    ensures { IfOk result (λ t. t ≡ told strings.now heads.now word) }
+    ensures { result ≡ told strings.now heads.now word }
 {
     if word == 0 {
-        return Ok(Told {
+        return Told {
             area: None,
             home: Home::Nowhere,
-        });
+        };
     }
-    match read_name(alloc, strings, word)? {
-        None => Ok(told_area(heads, None)),
-        Some(name) => Ok(told_area(heads, find_name(areas, &name))),
+    match read_name(strings, word) {
+        None => told_area(heads, None),
+        Some(name) => told_area(heads, find_name(areas, name)),
     }
 }
 
-/// Whether the name of an exported symbol is taken.
-pub fn is_repeated(taken: &BTreeMap<Text, u32>, attributes: u32, name: &Text) -> bool
-    ensures { result ≡ (is_exported attributes && is_some (number_in taken.now name.now)) }
+/// Notes the name of a symbol where it is exported. Gives whether it was taken.
+pub fn note_exported<'a>(
+    taken: &mut IndexMap<&'a [u8], u32>,
+    attributes: u32,
+    name: &'a [u8],
+) -> Result<bool, NoMemory>
+    ensures repeated { IfOk result (λ repeated. repeated ≡ (is_exported attributes && is_some (number_in taken.old name.now))) }
+    ensures noted { OnOk result ((q : Items ℕ) → is_some (number_in taken.new q) ≡ (is_some (number_in taken.old q) || (is_exported attributes && bytes_eq name.now q))) }
 {
     if exports(attributes) {
-        return find_name(taken, name).is_some();
+        return Ok(note_name(taken, name, 0)?.is_some());
     }
-    false
+    Ok(false)
 }
 
-/// The row of a symbol at an offset of the file.
+/// The row of a symbol at an offset of the file, whose name is taken where it is exported.
 #[tactic(auto, unfolding(crate::specs::Objects::symbol_at))]
-fn read_symbol(
+fn read_symbol<'a>(
     alloc: Global,
-    strings: &[u8],
+    strings: &'a [u8],
     heads: &[AreaHead],
-    areas: &BTreeMap<Text, u32>,
-    taken: &BTreeMap<Text, u32>,
+    areas: &IndexMap<&[u8], u32>,
+    taken: &mut IndexMap<&'a [u8], u32>,
     at: usize,
     row: &[u8],
 ) -> Result<Symbol, Fault>
     requires known { (q : Items ℕ) → number_in areas.now q ≡ number_from 0 q (head_names heads.now) }
     requires row { 16 ≤ length row.now }
     requires place { at + 16 < 2 ^ 32 }
-    ensures { Gives result (symbol_at strings.now heads.now (λ q. is_some (number_in taken.now q)) at row.now) }
+    ensures exact { Gives result (symbol_at strings.now heads.now (λ q. is_some (number_in taken.old q)) at row.now) }
+    ensures noted { IfOk result (λ s. (q : Items ℕ) → is_some (number_in taken.new q) ≡ (is_some (number_in taken.old q) || (is_exported s.attributes && bytes_eq s.name q))) }
 {
-    let Some(name) = read_name(alloc, strings, word_at(row, 0))? else {
+    let Some(name) = read_name(strings, word_at(row, 0)) else {
         return Err(bad_object(alloc, at, FileKind::Name));
     };
     let attributes = word_at(row, 4);
     let value = word_at(row, 8);
-    let told = tell_area(alloc, strings, heads, areas, word_at(row, 12))?;
-    let repeated = is_repeated(taken, attributes, &name);
+    let told = tell_area(strings, heads, areas, word_at(row, 12));
+    let repeated = note_exported(taken, attributes, name)?;
     if let Some(flaw) = judge_symbol(repeated, attributes, value, told.home) {
         return Err(fault_of(alloc, at, flaw));
     }
     Ok(Symbol {
-        name,
+        name: Text::from_slice(alloc, name)?,
         attributes,
         value,
         area: told.area,
     })
-}
-
-/// Notes the symbol's name where it is exported.
-pub fn note_exported(
-    alloc: Global,
-    taken: &mut BTreeMap<Text, u32>,
-    symbol: &Symbol,
-    number: u32,
-) -> Result<(), NoMemory>
-    ensures { OnOk result ((q : Items ℕ) → is_some (number_in taken.new q) ≡ (is_some (number_in taken.old q) || (is_exported symbol.now.attributes && bytes_eq symbol.now.name q))) }
-{
-    if exports(symbol.attributes) {
-        note_name(alloc, taken, &symbol.name, number)?;
-    }
-    Ok(())
 }
 
 /// The rows of the symbols in OBJ_SYMT, with the index of the areas' names.
@@ -139,7 +124,7 @@ pub fn read_symbols(
     alloc: Global,
     strings: &[u8],
     heads: &[AreaHead],
-    areas: &BTreeMap<Text, u32>,
+    areas: &IndexMap<&[u8], u32>,
     start: usize,
     content: &[u8],
     count: u32,
@@ -149,7 +134,7 @@ pub fn read_symbols(
     requires place { start + length content.now < 2 ^ 32 }
     ensures { Gives result (each (next_symbol strings.now heads.now start content.now) count []) }
 {
-    let mut taken = BTreeMap::new(alloc);
+    let mut taken = IndexMap::with_capacity(alloc, count as usize)?;
     let mut symbols = Vec::with_capacity(alloc, count as usize)?;
     for i in 0..count {
         let at = 16 * i as usize;
@@ -158,11 +143,10 @@ pub fn read_symbols(
             strings,
             heads,
             areas,
-            &taken,
+            &mut taken,
             start + at,
             &content[at..],
         )?;
-        note_exported(alloc, &mut taken, &symbol, i)?;
         symbols.push(symbol)?;
     }
     Ok(List::from_vec(symbols))

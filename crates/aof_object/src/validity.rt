@@ -6,12 +6,12 @@ ghost use Rattle.aof_object.specs.Validity.{IsValid};
 
 use crate::areas::stored_bytes;
 use crate::checks::{Home, judge_area, judge_entry, judge_reloc, judge_symbol};
-use crate::index::{find_name, note_name};
+use crate::index::note_name;
 use crate::records::{Area, Entry, Object, Reloc, Symbol};
-use crate::symbols::{is_repeated, note_exported};
+use crate::symbols::note_exported;
+use indexmap::IndexMap;
 use sdt_fault::NoMemory;
 use std::alloc::Global;
-use std::collections::BTreeMap;
 
 fn holds_no_zero(name: &[u8]) -> bool
     ensures { result ≡ is_text name.now }
@@ -55,13 +55,12 @@ fn area_passes(repeated: bool, areas: usize, symbols: usize, area: &Area) -> boo
 fn areas_pass(alloc: Global, symbols: usize, areas: &[Area]) -> Result<bool, NoMemory>
     ensures { IfOk result (λ b. b ≡ all_pass (area_ok (length areas.now) symbols) [] areas.now) }
 {
-    let mut taken = BTreeMap::new(alloc);
+    let mut taken = IndexMap::new(alloc);
     for area in areas {
-        let repeated = find_name(&taken, &area.name).is_some();
+        let repeated = note_name(&mut taken, area.name.as_slice(), 0)?.is_some();
         if !area_passes(repeated, areas.len(), symbols, area) {
             return Ok(false);
         }
-        note_name(alloc, &mut taken, &area.name, 0)?;
     }
     Ok(true)
 }
@@ -92,13 +91,12 @@ fn symbol_passes(repeated: bool, areas: &[Area], symbol: &Symbol) -> bool
 fn symbols_pass(alloc: Global, areas: &[Area], symbols: &[Symbol]) -> Result<bool, NoMemory>
     ensures { IfOk result (λ b. b ≡ all_pass (symbol_ok areas.now) [] symbols.now) }
 {
-    let mut taken = BTreeMap::new(alloc);
+    let mut taken = IndexMap::new(alloc);
     for symbol in symbols {
-        let repeated = is_repeated(&taken, symbol.attributes, &symbol.name);
+        let repeated = note_exported(&mut taken, symbol.attributes, symbol.name.as_slice())?;
         if !symbol_passes(repeated, areas, symbol) {
             return Ok(false);
         }
-        note_exported(alloc, &mut taken, symbol, 0)?;
     }
     Ok(true)
 }

@@ -10,10 +10,10 @@ ghost use Rattle.aof_object.specs.Spelling.{names_of, strings_of, ended, area_ro
 use crate::records::{Area, Entry, Object, Reloc, Symbol};
 use crate::table::{gather_areas, gather_symbols, place_of};
 use chunk_file::{Chunk, Chunks, push_word, write_chunks};
+use indexmap::IndexMap;
 use sdt_fault::answer::Fault;
-use sdt_fault::{Bytes, List, NoMemory, Text};
+use sdt_fault::{Bytes, List, NoMemory};
 use std::alloc::Global;
-use std::collections::BTreeMap;
 
 /// Writes the low four bytes of a number at the end.
 fn push_number(out: &mut Vec<u8>, number: usize) -> Result<(), NoMemory>
@@ -44,7 +44,11 @@ fn push_area_at(out: &mut Vec<u8>, at: usize, area: &Area) -> Result<(), NoMemor
     push_sizes(out, area)
 }
 
-fn push_area(out: &mut Vec<u8>, places: &BTreeMap<Text, usize>, area: &Area) -> Result<(), NoMemory>
+fn push_area(
+    out: &mut Vec<u8>,
+    places: &IndexMap<&[u8], usize>,
+    area: &Area,
+) -> Result<(), NoMemory>
     ensures { OnOk result ((ns : Items (Items ℕ)) → Tells places.now ns → out.new.items ≡ out.old.items ++ area_row ns area.now) }
 {
     let at = place_of(places, &area.name);
@@ -53,7 +57,7 @@ fn push_area(out: &mut Vec<u8>, places: &BTreeMap<Text, usize>, area: &Area) -> 
 
 fn push_areas(
     out: &mut Vec<u8>,
-    places: &BTreeMap<Text, usize>,
+    places: &IndexMap<&[u8], usize>,
     areas: &[Area],
 ) -> Result<(), NoMemory>
     ensures { OnOk result ((ns : Items (Items ℕ)) → Tells places.now ns → out.new.items ≡ out.old.items ++ flat_map (area_row ns) areas.now) }
@@ -91,7 +95,7 @@ fn push_head_row(out: &mut Vec<u8>, o: &Object) -> Result<(), NoMemory>
 
 fn head_of_object(
     alloc: Global,
-    places: &BTreeMap<Text, usize>,
+    places: &IndexMap<&[u8], usize>,
     o: &Object,
 ) -> Result<Vec<u8>, NoMemory>
     ensures { IfOk result (λ out. Tells places.now (names_of o.now) → out.items ≡ head_bytes o.now) }
@@ -130,7 +134,7 @@ fn contents(alloc: Global, areas: &[Area]) -> Result<Vec<u8>, NoMemory>
 }
 
 /// The word for a symbol's area: where the area's name stands.
-fn area_place(places: &BTreeMap<Text, usize>, areas: &[Area], area: Option<u32>) -> usize
+fn area_place(places: &IndexMap<&[u8], usize>, areas: &[Area], area: Option<u32>) -> usize
     ensures { (ns : Items (Items ℕ)) → Tells places.now ns → result ≡ area_word ns areas.now area }
 {
     match area {
@@ -158,7 +162,7 @@ fn push_symbol_at(
 
 fn push_symbol(
     out: &mut Vec<u8>,
-    places: &BTreeMap<Text, usize>,
+    places: &IndexMap<&[u8], usize>,
     areas: &[Area],
     symbol: &Symbol,
 ) -> Result<(), NoMemory>
@@ -171,7 +175,7 @@ fn push_symbol(
 
 fn symbol_table(
     alloc: Global,
-    places: &BTreeMap<Text, usize>,
+    places: &IndexMap<&[u8], usize>,
     areas: &[Area],
     symbols: &[Symbol],
 ) -> Result<Vec<u8>, NoMemory>
@@ -227,10 +231,10 @@ fn chunks_of_object(alloc: Global, o: &Object) -> Result<Chunks, NoMemory>
 {
     let areas = o.areas.as_slice();
     let symbols = o.symbols.as_slice();
-    let mut places = BTreeMap::new(alloc);
+    let mut places = IndexMap::new(alloc);
     let mut names = Vec::new(alloc);
-    gather_areas(alloc, &mut names, &mut places, areas)?;
-    gather_symbols(alloc, &mut names, &mut places, symbols)?;
+    gather_areas(&mut names, &mut places, areas)?;
+    gather_symbols(&mut names, &mut places, symbols)?;
     let head = head_of_object(alloc, &places, o)?;
     let content = contents(alloc, areas)?;
     let table = symbol_table(alloc, &places, areas, symbols)?;

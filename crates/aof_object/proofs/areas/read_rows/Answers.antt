@@ -25,7 +25,7 @@ returns-in_err-area-clause-exact c =
     let p = err_from_is_err_and c.from_residual.result c.from_residual.ensures.1 in
     let step = next_head c.args.strings.now c.args.start c.args.head.now in
     let taken = taken_is c.loop-i.index (head_names c.loop-i.heads.items) c.loop-i.invariant.known in
-    let h : Gives (Err c.in_err-area.field-0.0) (step c.loop-i.heads.items) = rw (c.loop-i.invariant.many, ← take_rest c.args.head.now (24 + 20 * c.loop-i.i), ← taken) c.in_err-area.ensures in
+    let h : Gives (Err c.in_err-area.field-0.0) (step c.loop-i.heads.items) = rw (c.loop-i.invariant.many, ← take_rest c.args.head.now (24 + 20 * c.loop-i.i), ← taken) c.in_err-area.ensures.exact in
     rw (p.1, p.2) (ends c.in_err-area.field-0.0 step c.loop-i.heads.items c.args.count c.loop-i.i _ c.loop-i-test.true h c.loop-i.invariant.so_far)
 
 pub loop-i-preserved : goal.loop-i-preserved
@@ -33,12 +33,12 @@ loop-i-preserved c =
     let step = next_head c.args.strings.now c.args.start c.args.head.now in
     let area = c.in_ok-area.area in
     let taken = taken_is c.loop-i.index (head_names c.loop-i.heads.items) c.loop-i.invariant.known in
-    let h : step c.loop-i.heads.items ≡ Ok area = rw (c.loop-i.invariant.many, ← take_rest c.args.head.now (24 + 20 * c.loop-i.i), ← taken) c.in_ok-area.ensures in
+    let h : step c.loop-i.heads.items ≡ Ok area = rw (c.loop-i.invariant.many, ← take_rest c.args.head.now (24 + 20 * c.loop-i.i), ← taken) c.in_ok-area.ensures.exact in
     let pushed : c.push.new.self.items ≡ c.loop-i.heads.items ++ area ∷ [] = c.in_ok-push.ensures.items in
     let long = length_push c.loop-i.heads.items area in
     record {
       so_far = rw pushed (goes_on step c.loop-i.heads.items c.args.count c.loop-i.i area _ c.loop-i-test.true h c.loop-i.invariant.so_far);
       many = rw pushed (omega (arith, long, c.loop-i.invariant.many));
-      known = λ q. indexed_more c.loop-i.index c.note_name.new.index c.loop-i.heads.items area c.loop-i.i c.loop-i.invariant.many c.loop-i.invariant.known c.in_ok-note_name.ensures q
+      known = λ q. indexed_more c.loop-i.index c.read_head.new.index c.loop-i.heads.items area c.loop-i.i c.loop-i.invariant.many c.loop-i.invariant.known c.in_ok-area.ensures.noted q
           ∙ sym (ap (λ (hs : List AreaHead). number_from 0 q (head_names hs)) pushed);
     }

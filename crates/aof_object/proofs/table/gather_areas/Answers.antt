@@ -7,4 +7,4 @@ use Rattle.aof_object.proofs.table.gather_areas.Goals as goal
 pub loop-area-preserved : goal.loop-area-preserved
 loop-area-preserved c = λ ns t.
     rw (gathered_more (λ (x : Area). x.name) ns c.args.areas.now c.loop-area.area-index c.area-item.result c.loop-area-test.true c.area-item.is)
-    (c.in_ok-gather_name.ensures (gathered ns (area_names (take c.loop-area.area-index c.args.areas.now))) (c.loop-area.invariant ns t))
+    (rw (← c.as_slice.ensures) (c.in_ok-gather_name.ensures (gathered ns (area_names (take c.loop-area.area-index c.args.areas.now))) (c.loop-area.invariant ns t)))

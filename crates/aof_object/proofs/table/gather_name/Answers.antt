@@ -14,7 +14,7 @@ returns-in_ok-push c =
     let fresh : number_in c.args.places.now name ≡ None = sym c.find_place.ensures ∙ c.in-None.is in
     let so_far : List ℕ = c.as_slice-so_far.result.now in
     let at : length so_far ≡ length old = ap (λ (x : List ℕ). length x) c.as_slice-so_far.ensures.value in
-    let extended : c.extend_from_slice.new.self.items ≡ old ++ name = c.in_ok-extend_from_slice.ensures.items ∙ ap (λ (x : List ℕ). old ++ x) c.as_slice.ensures in
+    let extended : c.extend_from_slice.new.self.items ≡ old ++ name = c.in_ok-extend_from_slice.ensures.items in
     let bytes = c.in_ok-push.ensures.items ∙ ap (λ (x : List ℕ). x ++ 0 ∷ []) extended in
     table_more old c.push.new.self.items c.args.places.now c.insert.new.self name fresh bytes
-    (rw (← at) (noted c.args.places.now c.insert.new.self name (4 + length so_far) fresh (rw c.in_ok-try_clone.ensures at c.in_ok-insert.ensures.updates)))
+    (rw (← at) (noted c.args.places.now c.insert.new.self name (4 + length so_far) (sym fresh) (λ q. c.in_ok-insert.ensures.updates.0 (record { ref_ptr = (0, 0); now = q }))))

@@ -7,4 +7,4 @@ use Rattle.aof_object.proofs.table.gather_symbols.Goals as goal
 pub loop-symbol-preserved : goal.loop-symbol-preserved
 loop-symbol-preserved c = λ ns t.
     rw (gathered_more (λ (x : Symbol). x.name) ns c.args.symbols.now c.loop-symbol.symbol-index c.symbol-item.result c.loop-symbol-test.true c.symbol-item.is)
-    (c.in_ok-gather_name.ensures (gathered ns (symbol_names (take c.loop-symbol.symbol-index c.args.symbols.now))) (c.loop-symbol.invariant ns t))
+    (rw (← c.as_slice.ensures) (c.in_ok-gather_name.ensures (gathered ns (symbol_names (take c.loop-symbol.symbol-index c.args.symbols.now))) (c.loop-symbol.invariant ns t)))
