@@ -4,21 +4,21 @@ ghost use Rattle.std.specs.Prelude.{◌≡◌, ℕ, List as Items, ◌+◌, ◌^
 ghost use Rattle.chunk_file.specs.Reading.{Gives};
 ghost use Rattle.chunk_file.specs.Chunks.{bytes_at};
 ghost use Rattle.aof_object.specs.Names.{terminated, among};
-ghost use Rattle.aof_object.specs.Index.{number_in};
+ghost use Rattle.aof_object.specs.Index.{number_in, or_number};
 ghost use Rattle.aof_object.specs.Objects.{object_of};
 ghost use Rattle.alf_archive.specs.Archives.{data_named, moved, moved_by, fault_moved, member_in, member_at, member_names, Adds, with_entry, members_from, directory, archive_of};
 ghost use Rattle.alf_archive.specs.Grammar.{ReadsArchive};
 
 use crate::entries::{Slot, bad_library, read_slot};
 use crate::records::{Archive, Member};
-use aof_object::{Found, Object, find, find_name, note_name, read_object, terminated_name};
+use aof_object::{Found, Object, find, note_name, read_object, terminated_name};
 use chunk_file::{Span, bytes_of_span, read_table};
+use indexmap::IndexMap;
 use sdt_fault::answer::Fault;
 use sdt_fault::kinds::FileKind;
 use sdt_fault::refusal::Refusal;
 use sdt_fault::{List, Text};
 use std::alloc::Global;
-use std::collections::BTreeMap;
 
 /// The chunk of a number, where it is one of a member.
 fn data_chunk(spans: &[Option<Span>], number: u32) -> Option<Span>
@@ -85,7 +85,8 @@ fn read_member_in(
 ) -> Result<Member, Fault>
     requires small { length b.now < 2 ^ 32 }
     requires place { at < 2 ^ 32 }
-    ensures { Gives result (member_in b.now at name chunk) }
+    ensures exact { Gives result (member_in b.now at name chunk) }
+    ensures named { IfOk result (λ m. m.name ≡ name) }
 {
     let Some(span) = chunk else {
         return Err(bad_library(alloc, at, FileKind::Index));
@@ -94,40 +95,43 @@ fn read_member_in(
     Ok(Member { name, object })
 }
 
-/// The member of a used entry, whose data is `text` and which begins at an offset of the file.
+/// The member of a used entry, whose data is `text` and which begins at an offset of the file. Its name
+/// is taken then.
 #[tactic(auto, unfolding(crate::specs::Archives::member_at))]
-fn read_member(
+fn read_member<'a>(
     alloc: Global,
     b: &[u8],
     spans: &[Option<Span>],
-    taken: &BTreeMap<Text, u32>,
+    taken: &mut IndexMap<&'a [u8], u32>,
     at: usize,
-    text: &[u8],
+    text: &'a [u8],
     slot: Slot,
 ) -> Result<Member, Fault>
     requires small { length b.now < 2 ^ 32 }
     requires place { at + 12 < 2 ^ 32 }
-    ensures { Gives result (member_at b.now spans.now (λ q. is_some (number_in taken.now q)) at text.now slot) }
+    ensures exact { Gives result (member_at b.now spans.now (λ q. is_some (number_in taken.old q)) at text.now slot) }
+    ensures noted { IfOk result (λ m. (q : Items ℕ) → number_in taken.new q ≡ or_number (number_in taken.old q) m.name 0 q) }
 {
-    let Some(name) = terminated_name(alloc, text)? else {
+    let Some(name) = terminated_name(text) else {
         return Err(bad_library(alloc, at + 12, FileKind::Name));
     };
-    if find_name(taken, &name).is_some() {
+    if note_name(taken, name, 0)?.is_some() {
         return Err(bad_library(alloc, at + 12, FileKind::Repeated));
     }
+    let name = Text::from_slice(alloc, name)?;
     read_member_in(alloc, b, at, name, data_chunk(spans, slot.index))
 }
 
 /// Reads the entry behind some members, and adds its member where it is used.
 #[tactic(auto, unfolding(crate::specs::Archives::with_entry))]
-fn add_entry(
+fn add_entry<'a>(
     alloc: Global,
     b: &[u8],
     spans: &[Option<Span>],
-    taken: &mut BTreeMap<Text, u32>,
+    taken: &mut IndexMap<&'a [u8], u32>,
     members: &mut Vec<Member>,
     at: usize,
-    text: &[u8],
+    text: &'a [u8],
     slot: Slot,
 ) -> Result<(), Fault>
     requires known { (q : Items ℕ) → is_some (number_in taken.old q) ≡ among q (member_names members.old.items) }
@@ -140,7 +144,6 @@ fn add_entry(
         return Ok(());
     }
     let member = read_member(alloc, b, spans, taken, at, text, slot)?;
-    note_name(alloc, taken, &member.name, 0)?;
     members.push(member)?;
     Ok(())
 }
@@ -157,7 +160,7 @@ fn read_members(
     requires place { start + length dir.now < 2 ^ 32 }
     ensures { Gives result (members_from b.now spans.now start dir.now (length dir.now) 0 []) }
 {
-    let mut taken = BTreeMap::new(alloc);
+    let mut taken = IndexMap::new(alloc);
     let mut members = Vec::new(alloc);
     let mut at = 0;
     while at < dir.len() {

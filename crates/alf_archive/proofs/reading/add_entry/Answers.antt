@@ -7,5 +7,5 @@ use Rattle.alf_archive.proofs.reading.add_entry.Goals as goal
 
 pub returns-clause-known : goal.returns-clause-known
 returns-clause-known c = λ q.
-    names_more c.args.taken.now c.note_name.new.index c.args.members.now.items c.in_ok-member.member 0 c.requires.known c.in_ok-note_name.ensures q
+    names_more c.args.taken.now c.read_member.new.taken c.args.members.now.items c.in_ok-member.member 0 c.requires.known c.in_ok-member.ensures.noted q
     ∙ sym (ap (λ (ms : List Member). among q (member_names ms)) c.in_ok-push.ensures.items)
