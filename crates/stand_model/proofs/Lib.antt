@@ -1,0 +1,4 @@
+pub mod OneWord
+pub mod Rows
+pub mod OneLine
+pub mod SourceRows
