@@ -12,6 +12,7 @@ pub mod PlacedLemmas
 pub mod PseudoLemmas
 pub mod RelocLemmas
 pub mod ResultLemmas
+pub mod Rows
 pub mod ShownLemmas
 pub mod StandLemmas
 pub mod SymbolLemmas
