@@ -1,7 +1,6 @@
 -- What is linked, and what is selected of it.
-use Rattle.std.proofs.Common.{◌≡◌, ℕ, suc, ◌+◌, ◌<◌, Bool, true, false, cond, List, [], ◌∷◌, ◌++◌, length, drop, Option, Some, None, Result, Ok, Err, refl, sym, ap, ◌∙◌, subst, arith}
+use Rattle.std.proofs.Common.{◌≡◌, ℕ, suc, ◌+◌, ◌<◌, Bool, true, false, cond, List, [], ◌∷◌, ◌++◌, length, map, drop, Option, Some, None, Result, Ok, Err, refl, sym, ap, ◌∙◌, subst, arith, append_assoc}
 use Rattle.std.specs.Prelude.{slice_get, is_some, IfOk, IsSomeAnd}
-use Rattle.std.specs.Option.{option_to_list}
 use Rattle.std.specs.Borrow.{Bor}
 use Rattle.std.specs.Map.{lookup}
 use Rattle.std.specs.Str.{bytes_eq}
@@ -11,19 +10,21 @@ use Rattle.sdt_fault.specs.declared.refusal.Refusal.{Refusal}
 use Rattle.chunk_file.specs.Reading.{◌>>=◌, Gives}
 use Rattle.aof_object.specs.declared.records.Object.{Object}
 use Rattle.alf_archive.specs.declared.records.Archive.{Archive}
+use Rattle.alf_archive.specs.declared.records.Member.{Member}
 use Rattle.link_model.specs.declared.selection.Named.{Named}
 use Rattle.link_model.specs.declared.selection.Linked.{Linked}
 use Rattle.link_model.specs.declared.selection.LinkedEntry.{LinkedEntry}
-use Rattle.link_model.specs.Members.{members_of}
+use Rattle.link_model.specs.Members.{named_member, members_of}
 use Rattle.link_model.specs.Chosen.{exporter, supplied, IsLeast, AreChosen, AreLinked, taken}
 use Rattle.link_model.specs.Definitions.{definitions_from}
+use Rattle.std.proofs.lemmas.List.{length-append, length-map}
 use Rattle.link_select.specs.declared.choosing.Supply.{Supply}
 use Rattle.link_select.specs.declared.members.Place.{Place}
 use Rattle.link_select.specs.Index.{Numbers, number_in, IsIndexOf}
 use Rattle.link_select.specs.Places.{places_from, member_at, symbols_of}
 use Rattle.link_select.specs.Search.{supply_of, marked, IsWithin}
 use Rattle.link_select.specs.Selection.{judged, selection_of, Selects}
-use Rattle.link_select.proofs.ListLemmas.{rest_more, some_item, get_item, drop_end}
+use Rattle.link_select.proofs.ListLemmas.{some_item, get_item, drop_end}
 use Rattle.link_select.proofs.PlaceLemmas.{member_at_place}
 use Rattle.link_select.proofs.ExportLemmas.{exporter_within}
 
@@ -63,18 +64,48 @@ member_here archives i p at n len h =
     subst (λ (o : Option (Named Object)). IsSomeAnd o (λ m. m.value.symbols ≡ symbols_of (member_at archives p))) (sym there)
     (sym (ap symbols_of (member_at_place archives i p at ∙ there)))
 
-pub taken_more : (marks : List Bool) (archives : List (Named Archive)) (i : ℕ) (p : Place) (before after all : List (Named Object)) → slice_get (places_from 0 archives) i ≡ Some p → i < length (members_of archives)
-    → after ≡ before ++ cond (marked marks i) (option_to_list (member_at archives p)) [] → before ++ taken (marked marks) i (drop i (members_of archives)) ≡ all
-    → after ++ taken (marked marks) (i + 1) (drop (i + 1) (members_of archives)) ≡ all
-taken_more marks archives i p before after all at h added known =
-    let s = some_item (members_of archives) i h in
-    let there : member_at archives p ≡ Some s.0 = member_at_place archives i p at ∙ get_item (members_of archives) i s.0 h s.1 in
-    rest_more (taken (marked marks)) (λ k m. cond (marked marks k) (m ∷ []) []) (λ k m ms. split k m ms (marked marks k)) (members_of archives) i s.0 before after all h s.1
-    (added ∙ ap (λ (o : Option (Named Object)). before ++ cond (marked marks i) (option_to_list o) []) there) known
+-- a member that is added where it has a mark
+pub taken_next : (marks : List Bool) (i : ℕ) (m : Named Object) (rest before after all : List (Named Object)) → after ≡ before ++ cond (marked marks i) (m ∷ []) []
+    → before ++ taken (marked marks) i (m ∷ rest) ≡ all → after ++ taken (marked marks) (i + 1) rest ≡ all
+taken_next marks i m rest before after all added known =
+    ap (λ (k : ℕ). after ++ taken (marked marks) k rest) (omega arith) ∙ ap (λ (os : List (Named Object)). os ++ taken (marked marks) (suc i) rest) added ∙ append_assoc before (cond (marked marks i) (m ∷ []) []) (taken (marked marks) (suc i) rest)
+    ∙ sym (ap (λ (os : List (Named Object)). before ++ os) (split (marked marks i))) ∙ known
   where
-    split : (k : ℕ) (m : Named Object) (ms : List (Named Object)) (b : Bool) → cond b (m ∷ taken (marked marks) (suc k) ms) (taken (marked marks) (suc k) ms) ≡ cond b (m ∷ []) [] ++ taken (marked marks) (suc k) ms
-    split k m ms true = refl
-    split k m ms false = refl
+    split : (b : Bool) → cond b (m ∷ taken (marked marks) (suc i) rest) (taken (marked marks) (suc i) rest) ≡ cond b (m ∷ []) [] ++ taken (marked marks) (suc i) rest
+    split true = refl
+    split false = refl
+
+pub none_left : {A : Type 0} (xs : List A) → length xs ≡ 0 → xs ≡ []
+none_left [] e = refl
+none_left (x ∷ xs) e = absurd (omega (arith, e))
+
+-- members of two libraries, one behind the other
+pub taken_behind : (chosen : ℕ → Bool) (i : ℕ) (xs ys : List (Named Object)) → taken chosen i (xs ++ ys) ≡ taken chosen i xs ++ taken chosen (i + length xs) ys
+taken_behind chosen i [] ys = ap (λ (k : ℕ). taken chosen k ys) (omega arith)
+taken_behind chosen i (x ∷ xs) ys =
+    step (chosen i) (taken_behind chosen (suc i) xs ys) (omega arith)
+  where
+    step : (b : Bool) {n : ℕ} → taken chosen (suc i) (xs ++ ys) ≡ taken chosen (suc i) xs ++ taken chosen n ys → n ≡ i + suc (length xs)
+        → cond b (x ∷ taken chosen (suc i) (xs ++ ys)) (taken chosen (suc i) (xs ++ ys)) ≡ cond b (x ∷ taken chosen (suc i) xs) (taken chosen (suc i) xs) ++ taken chosen (i + suc (length xs)) ys
+    step true h e = ap (λ (os : List (Named Object)). x ∷ os) (h ∙ ap (λ (k : ℕ). taken chosen (suc i) xs ++ taken chosen k ys) e)
+    step false h e = h ∙ ap (λ (k : ℕ). taken chosen (suc i) xs ++ taken chosen k ys) e
+
+-- a library whose members are added
+pub library_next : (chosen : ℕ → Bool) (n next : ℕ) (a : Named Archive) (ms : List Member) (archives rest : List (Named Archive)) (before after all : List (Named Object)) → archives ≡ a ∷ rest → ms ≡ a.value.members
+    → next ≡ n + length ms → after ≡ before ++ taken chosen n (map (named_member a.name) ms) → before ++ taken chosen n (members_of archives) ≡ all → after ++ taken chosen next (members_of rest) ≡ all
+library_next chosen n next a ms archives rest before after all first own count added known =
+    let mine : List (Named Object) = map (named_member a.name) ms in
+    let size : length mine ≡ length ms = length-map ms (named_member a.name) in
+    let behind : next ≡ n + length mine = count ∙ ap (λ (k : ℕ). n + k) (sym size) in
+    let members : members_of archives ≡ mine ++ members_of rest = ap members_of first ∙ ap (λ (xs : List Member). map (named_member a.name) xs ++ members_of rest) (sym own) in
+    ap (λ (os : List (Named Object)). os ++ taken chosen next (members_of rest)) added ∙ append_assoc before (taken chosen n mine) (taken chosen next (members_of rest))
+    ∙ ap (λ (k : ℕ). before ++ (taken chosen n mine ++ taken chosen k (members_of rest))) behind
+    ∙ sym (ap (λ (os : List (Named Object)). before ++ os) (ap (taken chosen n) members ∙ taken_behind chosen n mine (members_of rest))) ∙ known
+
+pub members_more : (a : Named Archive) (archives rest : List (Named Archive)) → archives ≡ a ∷ rest → length (members_of archives) ≡ length a.value.members + length (members_of rest)
+members_more a archives rest first =
+    ap (λ (libraries : List (Named Archive)). length (members_of libraries)) first ∙ length-append (map (named_member a.name) a.value.members) (members_of rest)
+    ∙ ap (λ (k : ℕ). k + length (members_of rest)) (length-map a.value.members (named_member a.name))
 
 -- ---- the selection
 

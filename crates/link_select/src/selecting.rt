@@ -11,7 +11,6 @@ ghost use Rattle.link_model.specs.Chosen.{AreChosen, AreLinked};
 ghost use Rattle.link_model.specs.Definitions.{definition_in, definitions_in, definitions_from};
 ghost use Rattle.link_model.specs.declared.selection.Named.{Named as NamedValue};
 ghost use Rattle.link_select.specs.Laws.{AreDefinedOnce, HaveMeanings};
-ghost use Rattle.link_select.specs.Places.{places_from};
 ghost use Rattle.link_select.specs.Search.{marked};
 ghost use Rattle.link_select.specs.Selection.{count_symbols, judged, selection_of, Selects};
 
@@ -20,7 +19,7 @@ use crate::entries::one_entry;
 use crate::exports::{Exports, index_members, index_objects, judge_exports};
 use crate::limits::{more_areas_than, more_symbols_than};
 use crate::linking::linked_objects;
-use crate::members::{Place, places_of};
+use crate::members::places_of;
 use crate::undefined::undefined;
 use alf_archive::Archive;
 use aof_object::{Object, Symbol};
@@ -36,42 +35,33 @@ const MOST_AREAS: usize = 65_535;
 
 const MOST_SYMBOLS: usize = 1_000_000;
 
-/// The members that are linked: for each a mark, in library order. The indexes that find them are let go
-/// before anything is copied.
+/// The members that are linked: for each a mark, in library order.
 fn mark_members(
     alloc: Global,
     objects: &[Named<Object>],
     archives: &[Named<Archive>],
-    places: &[Place],
 ) -> Result<Vec<bool>, NoMemory>
-    requires { places.now ≡ places_from 0 archives.now }
-    ensures size { IfOk result (λ marks. length marks.items ≡ length places.now) }
+    ensures size { IfOk result (λ marks. length marks.items ≡ length (members_of archives.now)) }
     ensures chosen { IfOk result (λ marks. AreChosen objects.now (members_of archives.now) (marked marks.items)) }
 {
+    let places = places_of(alloc, archives)?;
     let supply = Supply {
         defined: index_objects(alloc, objects)?,
-        offered: index_members(alloc, archives, places)?,
+        offered: index_members(alloc, archives, places.as_slice())?,
     };
-    choose(alloc, &supply, objects, archives, places)
+    choose(alloc, &supply, objects, archives, places.as_slice())
 }
 
 /// The objects that are linked.
 fn choose_objects(
     alloc: Global,
-    objects: &[Named<Object>],
-    archives: &[Named<Archive>],
+    objects: Vec<Named<Object>>,
+    archives: Vec<Named<Archive>>,
 ) -> Result<Vec<Named<Object>>, NoMemory>
-    ensures { IfOk result (λ linked. AreLinked objects.now archives.now linked.items) }
+    ensures { IfOk result (λ linked. AreLinked objects.items archives.items linked.items) }
 {
-    let places = places_of(alloc, archives)?;
-    let marks = mark_members(alloc, objects, archives, places.as_slice())?;
-    linked_objects(
-        alloc,
-        objects,
-        archives,
-        places.as_slice(),
-        marks.as_slice(),
-    )
+    let marks = mark_members(alloc, objects.as_slice(), archives.as_slice())?;
+    linked_objects(alloc, objects, archives, marks.as_slice())
 }
 
 fn too_large(quantity: Quantity, limit: u64) -> Fault
@@ -178,7 +168,7 @@ fn link(
 }
 
 /// The objects of the command line and the members of the libraries that they need, with each exported
-/// name's definition and the entry.
+/// name's definition and the entry. They are moved and not copied; members that aren't needed are let go.
 ///
 /// `regions` lists the region symbols that the image has, without the Base and Limit of areas, which are
 /// those of the linked areas; without such a list every name of a region symbol's form has a meaning.
@@ -188,18 +178,18 @@ fn link(
 /// areas or 1,000,000 symbols.
 pub fn select(
     alloc: Global,
-    objects: &[Named<Object>],
-    archives: &[Named<Archive>],
+    objects: Vec<Named<Object>>,
+    archives: Vec<Named<Archive>>,
     regions: Option<&[Text]>,
 ) -> Result<Linked, Fault>
     // What is linked: the command line's objects, then the least set of members that these need.
-    ensures linked { IfOk result (λ l. AreLinked objects.now archives.now l.objects) }
+    ensures linked { IfOk result (λ l. AreLinked objects.items archives.items l.objects) }
     // No name is exported by two of them, and each of their non-weak references has a meaning.
     ensures one_definition { IfOk result (λ l. AreDefinedOnce l.objects) }
     ensures meanings { IfOk result (λ l. HaveMeanings (option_copied regions.entry) l.objects) }
     // The answer is that of the linked objects, of which there is one list, unless memory was refused.
-    ensures exact { Selects objects.now archives.now (option_copied regions.entry) result }
-    ensures only { (os : Items (NamedValue AofObject)) → AreLinked objects.now archives.now os → Gives result (selection_of (option_copied regions.entry) os) }
+    ensures exact { Selects objects.items archives.items (option_copied regions.entry) result }
+    ensures only { (os : Items (NamedValue AofObject)) → AreLinked objects.items archives.items os → Gives result (selection_of (option_copied regions.entry) os) }
 {
     let chosen = choose_objects(alloc, objects, archives)?;
     link(alloc, chosen, regions)

@@ -110,12 +110,7 @@ fn told(
     archives: Vec<Named<Archive>>,
 ) -> Result<Text, Fault> {
     let none: &[Text] = &[];
-    match select(
-        rt.alloc(),
-        objects.as_slice(),
-        archives.as_slice(),
-        Some(none),
-    ) {
+    match select(rt.alloc(), objects, archives, Some(none)) {
         Ok(linked) => names_of(rt, &linked),
         Err(Fault::Refused(refusal)) => Ok(text_of(rt.alloc(), &Answer::Refused(refusal))?),
         Err(fault) => Err(fault),
@@ -219,7 +214,7 @@ fn select_of_names(
         module: Text::from_slice(rt.alloc(), b"main.o")?,
         value: object_of(rt, symbols, true)?,
     })?;
-    select(rt.alloc(), objects.as_slice(), &[], regions)
+    select(rt.alloc(), objects, Vec::new(rt.alloc()), regions)
 }
 
 fn is_defined(rt: &HostRuntime, name: &[u8], regions: Option<&[Text]>) -> bool {

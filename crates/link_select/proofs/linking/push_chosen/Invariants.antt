@@ -1,8 +1,12 @@
-use Rattle.std.proofs.Common.{◌≡◌, ◌++◌, drop}
-use Rattle.link_model.specs.Members.{members_of}
+use Rattle.std.proofs.Common.{◌≡◌, ◌+◌, ◌++◌, map, length}
+use Rattle.link_model.specs.Members.{named_member}
 use Rattle.link_model.specs.Chosen.{taken}
 use Rattle.link_select.specs.Search.{marked}
 use Rattle.link_select.proofs.linking.push_chosen.Given as goal
 
-abbrev pub invariant-loop-i : goal.invariant-loop-i
-invariant-loop-i l = l.linked.items ++ taken (marked l.marks) l.i (drop l.i (members_of l.archives)) ≡ l.initial.linked.items ++ taken (marked l.marks) 0 (members_of l.archives)
+abbrev pub invariant-loop-member : goal.invariant-loop-member
+invariant-loop-member l = record {
+  count : l.number + length l.member-iterator.rest.items ≡ l.first + length l.fn.members.items;
+  so_far : l.linked.items ++ taken (marked l.marks) l.number (map (named_member l.library) l.member-iterator.rest.items)
+      ≡ l.initial.linked.items ++ taken (marked l.marks) l.first (map (named_member l.library) l.fn.members.items);
+}

@@ -1,26 +1,29 @@
-use Rattle.std.proofs.Common.{◌≡◌, Bool, List, ◌++◌, length, sym, ap, ◌∙◌, Vec, Global}
+use Rattle.std.proofs.Common.{◌≡◌, Bool, List, ◌++◌, length, subst, ap, ◌∙◌, Vec, Global}
 use Rattle.aof_object.specs.declared.records.Object.{Object}
+use Rattle.alf_archive.specs.declared.records.Archive.{Archive}
 use Rattle.link_model.specs.declared.selection.Named.{Named}
 use Rattle.link_model.specs.Members.{members_of}
-use Rattle.link_model.specs.Chosen.{AreLinked, taken}
-use Rattle.link_select.specs.declared.members.Place.{Place}
+use Rattle.link_model.specs.Chosen.{AreChosen, AreLinked, taken}
 use Rattle.link_select.specs.Search.{marked}
 use Rattle.link_select.proofs.SelectionLemmas.{if_ok}
 use Rattle.link_select.proofs.selecting.choose_objects.Goals as goal
 
+pub linked_objects-requires : goal.linked_objects-requires
+linked_objects-requires c =
+    ap (λ (l : List Bool). length l) c.as_slice-3.ensures.value ∙ c.in_ok-marks.ensures.size ∙ ap (λ (l : List (Named Archive)). length (members_of l)) c.as_slice-2.ensures.value
+
 pub returns : goal.returns
 returns c =
-    let same : c.as_slice-3.result.now ≡ c.in_ok-marks.marks.items = c.as_slice-3.ensures.value in
-    if_ok (λ (v : Vec (Named Object) Global). v.items ≡ c.args.objects.now ++ taken (marked c.as_slice-3.result.now) 0 (members_of c.args.archives.now))
-    (λ v. AreLinked c.args.objects.now c.args.archives.now v.items)
+    let marks : List Bool = c.in_ok-marks.marks.items in
+    let by_libraries : AreChosen c.as_slice.result.now (members_of c.args.archives.items) (marked marks) =
+    subst (λ (l : List (Named Archive)). AreChosen c.as_slice.result.now (members_of l) (marked marks)) c.as_slice-2.ensures.value c.in_ok-marks.ensures.chosen in
+    let chosen : AreChosen c.args.objects.items (members_of c.args.archives.items) (marked marks) =
+    subst (λ (l : List (Named Object)). AreChosen l (members_of c.args.archives.items) (marked marks)) c.as_slice.ensures.value by_libraries in
+    if_ok (λ (v : Vec (Named Object) Global). v.items ≡ c.args.objects.items ++ taken (marked c.as_slice-3.result.now) 0 (members_of c.args.archives.items))
+    (λ v. AreLinked c.args.objects.items c.args.archives.items v.items)
     (λ v e. record {
-      chosen = marked c.in_ok-marks.marks.items;
-      are_chosen = c.in_ok-marks.ensures.chosen;
-      in_order = e ∙ ap (λ (m : List Bool). c.args.objects.now ++ taken (marked m) 0 (members_of c.args.archives.now)) same;
+      chosen = marked marks;
+      are_chosen = chosen;
+      in_order = e ∙ ap (λ (m : List Bool). c.args.objects.items ++ taken (marked m) 0 (members_of c.args.archives.items)) c.as_slice-3.ensures.value;
     })
     c.linked_objects.result c.linked_objects.ensures
-
-pub linked_objects-requires-clause-marks : goal.linked_objects-requires-clause-marks
-linked_objects-requires-clause-marks c =
-    ap (λ (l : List Bool). length l) c.as_slice-3.ensures.value ∙ c.in_ok-marks.ensures.size
-    ∙ ap (λ (l : List Place). length l) (c.as_slice.ensures.value ∙ sym c.as_slice-2.ensures.value)

@@ -11,16 +11,16 @@ use Rattle.link_select.proofs.selecting.select.Goals as goal
 
 pub returns-clause-linked : goal.returns-clause-linked
 returns-clause-linked c =
-    links c.args.objects.now c.args.archives.now (option_copied c.args.regions) c.in_ok-chosen.chosen.items c.link.result c.in_ok-chosen.ensures c.link.ensures
+    links c.args.objects.items c.args.archives.items (option_copied c.args.regions) c.in_ok-chosen.chosen.items c.link.result c.in_ok-chosen.ensures c.link.ensures
 
 pub returns-clause-exact : goal.returns-clause-exact
 returns-clause-exact c =
-    selects c.args.objects.now c.args.archives.now (option_copied c.args.regions) c.in_ok-chosen.chosen.items c.link.result c.in_ok-chosen.ensures c.link.ensures
+    selects c.args.objects.items c.args.archives.items (option_copied c.args.regions) c.in_ok-chosen.chosen.items c.link.result c.in_ok-chosen.ensures c.link.ensures
 
 pub returns-clause-only : goal.returns-clause-only
 returns-clause-only c = λ os h.
     subst (λ (o : List (Named Object)). Gives c.link.result (selection_of (option_copied c.args.regions) o))
-    (linked_once c.args.objects.now c.args.archives.now c.in_ok-chosen.chosen.items os c.in_ok-chosen.ensures h) c.link.ensures
+    (linked_once c.args.objects.items c.args.archives.items c.in_ok-chosen.chosen.items os c.in_ok-chosen.ensures h) c.link.ensures
 
 pub returns-clause-one_definition : goal.returns-clause-one_definition
 returns-clause-one_definition c = selected_once (option_copied c.args.regions) c.in_ok-chosen.chosen.items c.link.result c.link.ensures
