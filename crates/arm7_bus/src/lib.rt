@@ -7,8 +7,6 @@ mod frames;
 mod meets;
 mod memory;
 mod pages;
-#[cfg(test)]
-mod tests;
 
 pub use crate::bus::{Absent, Bus, NoBus, NoDevice, PagesFull};
 pub use crate::frames::Frames;

@@ -20,9 +20,9 @@ use Rattle.arm7_transfers.specs.Done.{IsDone}
 use Rattle.arm7_transfers.specs.Ready.{IsReady}
 use Rattle.arm7_transfers.specs.Served.{value_at}
 use Rattle.arm7_transfers.proofs.DoneLemmas.{fits, makes-nothing}
-use Rattle.arm7_steps.specs.Ends.{event_of, registers_after}
-use Rattle.arm7_steps.specs.Steps.{Executes, IsStepped, MakesStep}
-use Rattle.arm7_steps.proofs.StepLemmas.{IsAt, width_of, word_of, left_by_fetch, absent, finished}
+use Rattle.arm7_transfers.specs.Ends.{event_of, registers_after}
+use Rattle.arm7_transfers.specs.Steps.{Executes, IsStepped, MakesStep}
+use Rattle.arm7_transfers.proofs.StepLemmas.{IsAt, width_of, word_of, left_by_fetch, absent, finished}
 use Rattle.arm7_core.proofs.ArmParts.{done_part}
 
 -- ---- what the word reads as

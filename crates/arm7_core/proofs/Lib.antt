@@ -3,3 +3,5 @@ pub mod ArmSteps
 pub mod MachineSteps
 pub mod ResetLemmas
 pub mod ReadyBuses
+pub mod PartLemmas
+pub mod ThumbSteps

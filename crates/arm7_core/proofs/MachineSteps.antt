@@ -19,7 +19,7 @@ use Rattle.arm7_transfers.specs.Ready.{IsReady}
 use Rattle.arm7_transfers.specs.Served.{answers_to}
 use Rattle.arm7_transfers.proofs.DoneLemmas.{fits}
 use Rattle.arm7_transfers.proofs.ReadyLemmas.{ready-tick}
-use Rattle.arm7_steps.specs.Steps.{IsStepped, MakesStep, LacksFrame}
+use Rattle.arm7_transfers.specs.Steps.{IsStepped, MakesStep, LacksFrame}
 use Rattle.arm7_core.specs.Machines.{Ends, IsStep, IsStepFrom, levels}
 
 -- no interrupt comes

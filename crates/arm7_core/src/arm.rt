@@ -2,7 +2,7 @@
 
 ghost use Rattle.std.specs.Prelude.{◌≡◌, [], false};
 ghost use Rattle.arm7_model.specs.Registers.{is_thumb};
-ghost use Rattle.arm7_steps.specs.Steps.{Executes, IsStepped};
+ghost use Rattle.arm7_transfers.specs.Steps.{Executes, IsStepped};
 ghost use Rattle.arm7_transfers.specs.Ready.{IsReady};
 ghost use Rattle.arm7_transfers.specs.Views.{state_of};
 
@@ -11,7 +11,7 @@ use arm_isa::decode_arm;
 use arm7_bus::Bus;
 use arm7_model::{ArmState, Event};
 use arm7_registers::{advance, register};
-use arm7_steps::{finish, prefetch_abort};
+use arm7_transfers::{finish, prefetch_abort};
 use arm7_transfers::{Outcome, is_there, read};
 use sdt_outside::Device;
 use sdt_word::Width;

@@ -1,4 +1,4 @@
-//! The machine: an ARM7TDMI over a bus.
+//! The machine: an ARM7TDMI over a bus. A step in ARM state, and one in Thumb state.
 #![tactic(auto)]
 
 mod acts;
@@ -6,7 +6,10 @@ mod arm;
 mod effect;
 mod machine;
 mod step;
-#[cfg(test)]
-mod tests;
+mod thumb_effect;
+mod rows;
+mod thumb_step;
 
 pub use crate::machine::Machine;
+pub use crate::thumb_effect::do_thumb;
+pub use crate::thumb_step::step_thumb;

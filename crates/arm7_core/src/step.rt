@@ -11,7 +11,7 @@ use crate::arm::step_arm;
 use arm7_bus::Bus;
 use arm7_model::{ArmState, Event};
 use arm7_registers::{enter, interrupt, is_thumb, register};
-use arm7_thumb::step_thumb;
+use crate::step_thumb;
 use sdt_outside::Device;
 
 /// One step: each device of the bus ticks, and then the processor takes an interrupt or does one instruction.

@@ -13,8 +13,6 @@ mod operands;
 mod processing;
 mod registers;
 mod shifter;
-#[cfg(test)]
-mod tests;
 mod thumb;
 
 pub use crate::addresses::{

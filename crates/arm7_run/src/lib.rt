@@ -6,5 +6,3 @@ mod strings;
 
 pub use crate::host::{RunEnd, run_for};
 
-#[cfg(test)]
-mod tests;

@@ -8,3 +8,4 @@ pub mod BlockLemmas
 pub mod PageLemmas
 pub mod BlockSteps
 pub mod BlockParts
+pub mod StepLemmas

@@ -5,3 +5,5 @@ pub mod Ready
 pub mod Served
 pub mod Views
 pub mod BlockAccesses
+pub mod Ends
+pub mod Steps

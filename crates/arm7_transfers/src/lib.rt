@@ -5,14 +5,17 @@
 //! `proofs/DoneLemmas`: what is done of a part is done of each part that is the same at these registers and this bus.
 //! Code that touches registers alone is done by `makes-nothing`. The bus must be ready (`IsReady`), and no store may be
 //! noted since its last tick.
+//! What all steps of the machine share: an absent fetch, and how an instruction's outcome ends a step.
 #![tactic(auto)]
 
 mod access;
 mod block;
 mod outcome;
 mod single;
+mod ends;
 
 pub use crate::access::{is_there, lacks_frame, may_store, read, write};
 pub use crate::block::{Block, block_moved};
 pub use crate::outcome::Outcome;
 pub use crate::single::{Base, loaded, stored, swapped, transferred};
+pub use crate::ends::{finish, prefetch_abort};

@@ -3,8 +3,6 @@
 
 mod encode;
 mod operands;
-#[cfg(test)]
-mod tests;
 
 pub use crate::encode::encode_arm;
 pub use crate::operands::immediate;

@@ -6,7 +6,7 @@ use Rattle.sdt_fault.specs.declared.kinds.LineKind.{LineKind}
 use Rattle.sdt_fault.specs.declared.refusal.Refusal.{Refusal}
 use Rattle.sdt_fault.specs.declared.refusal.Refusal.TheVariants.{BadLine}
 use Rattle.aof_object.specs.declared.records.Object.{Object}
-use Rattle.asm_emit.specs.Emitted.{IsEmitted}
+use Rattle.armasm_core.specs.Emitted.{IsEmitted}
 use Rattle.asm_layout.specs.Layout.{IsTold, IsOutcome}
 use Rattle.asm_layout.specs.Front.{front_laid}
 use Rattle.asm_model.specs.declared.statements.Statement.{Statement}

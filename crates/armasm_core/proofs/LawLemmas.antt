@@ -13,7 +13,7 @@ use Rattle.asm_reading.specs.declared.reading.Unread.{Unread}
 use Rattle.asm_reading.specs.Flats.{flat_of}
 use Rattle.asm_reading.specs.Laws.{OneReading}
 use Rattle.asm_reading.specs.Reading.{IsReading}
-use Rattle.layout_model.specs.Laid.{reversed}
+use Rattle.asm_model.specs.Laid.{reversed}
 use Rattle.source_laws.specs.Laws.{OneObject}
 use Rattle.source_model.specs.Objects.{IsObject}
 use Rattle.source_model.specs.SourceFaults.{value_faults}

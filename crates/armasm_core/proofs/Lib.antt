@@ -3,3 +3,27 @@ mod FaultLemmas
 mod LawLemmas
 mod ListLemmas
 mod StandingLemmas
+mod AreaLemmas
+mod EmitLemmas
+mod EntryLemmas
+mod GatherLemmas
+mod GrowLemmas
+mod GrownLists
+mod LoadLemmas
+mod ObjectLemmas
+pub mod PlacedLemmas
+mod StandLemmas
+pub mod DraftLemmas
+pub mod RelocLemmas
+mod WriteLemmas
+pub mod GivingLemmas
+pub mod JudgeLemmas
+pub mod LiteralLemmas
+pub mod LocalLemmas
+pub mod LoopLemmas
+pub mod PutLemmas
+pub mod SaidLemmas
+pub mod SetLemmas
+pub mod ShowLemmas
+pub mod SplitLemmas
+pub mod WithinLemmas

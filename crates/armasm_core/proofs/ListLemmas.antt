@@ -15,7 +15,7 @@ use Rattle.asm_model.specs.declared.statements.Statement.{Statement}
 use Rattle.asm_model.specs.Limits.{source_lines, line_bytes}
 use Rattle.asm_model.specs.Lines.{numbered, first_beyond, split}
 use Rattle.asm_reading.specs.Flats.{flat_of}
-use Rattle.layout_model.specs.Laid.{reversed}
+use Rattle.asm_model.specs.Laid.{reversed}
 
 -- ---- how many lines
 

@@ -6,7 +6,7 @@ use Rattle.sdt_fault.specs.declared.kinds.LineKind.{LineKind}
 use Rattle.sdt_fault.specs.declared.refusal.Refusal.{Refusal}
 use Rattle.aof_object.specs.declared.records.Object.{Object}
 use Rattle.aof_object.specs.Validity.{IsValid}
-use Rattle.asm_emit.proofs.PlacedLemmas.{few_areas as areas_few}
+use Rattle.armasm_core.proofs.PlacedLemmas.{few_areas as areas_few}
 use Rattle.asm_laying.specs.Behind.{most_statements}
 use Rattle.asm_layout.proofs.WalkLemmas.{reversed_long}
 use Rattle.asm_layout.specs.Front.{front_laid}
@@ -16,7 +16,7 @@ use Rattle.asm_reading.specs.declared.reading.Reading.{Reading}
 use Rattle.asm_reading.specs.declared.reading.Unread.{Unread}
 use Rattle.asm_reading.proofs.ReadLemmas.{few_read}
 use Rattle.asm_reading.specs.Laws.{AreFit, OneReading, ReadingsAreFit}
-use Rattle.layout_model.specs.Laid.{reversed}
+use Rattle.asm_model.specs.Laid.{reversed}
 use Rattle.object_laws.specs.Laws.{ObjectsAreValid}
 use Rattle.source_laws.specs.Laws.{SourcesStayInArmState}
 use Rattle.source_model.specs.Objects.{source_of}

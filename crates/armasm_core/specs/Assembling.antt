@@ -24,7 +24,7 @@ use Rattle.asm_reading.specs.declared.reading.Reading.{Reading}
 use Rattle.asm_reading.specs.declared.reading.Unread.{Unread}
 use Rattle.asm_reading.specs.Flats.{flat_of}
 use Rattle.asm_reading.specs.Reading.{IsReading}
-use Rattle.layout_model.specs.Laid.{reversed}
+use Rattle.asm_model.specs.Laid.{reversed}
 use Rattle.source_model.specs.Objects.{IsObject}
 use Rattle.source_model.specs.SourceFaults.{layout_faults, value_faults}
 

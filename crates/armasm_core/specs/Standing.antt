@@ -2,7 +2,7 @@
 use Rattle.std.specs.Prelude.{ℕ, ◌^◌, ◌<◌, List, length}
 use Rattle.aof_object.specs.declared.records.Object.{Object}
 use Rattle.aof_object.specs.Validity.{IsValid}
-use Rattle.asm_emit.specs.Standing.{StandsWherever}
+use Rattle.armasm_core.specs.Wherever.{StandsWherever}
 use Rattle.asm_reading.specs.declared.reading.Reading.{Reading}
 use Rattle.armasm_core.specs.Assembling.{Says, said_by, IsObjectOf}
 

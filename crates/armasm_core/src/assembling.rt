@@ -12,7 +12,7 @@ ghost use Rattle.armasm_core.specs.Standing.{StandsWherePlaced};
 use crate::laws::{objects_of_sources_are_valid, objects_of_sources_stand};
 use crate::reading::laid_out;
 use aof_object::Object;
-use asm_emit::emit;
+use crate::emit;
 use asm_lines::split_lines;
 use asm_reading::laws::readings_are_fit;
 use asm_reading::{Reading, flats_of, read_lines};

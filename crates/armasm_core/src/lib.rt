@@ -1,9 +1,42 @@
-//! One source to one object.
+//! One source to one object: lines that are read and laid out, the first line whose values have a fault, and the object:
+//! areas with their bytes and relocations, symbols with their records, the entry.
 #![tactic(auto)]
 
 mod area;
 mod assembling;
 pub mod laws;
 mod reading;
+mod drafting;
+pub mod emission;
+pub mod entry;
+pub mod facts;
+pub mod records;
+pub mod symbols;
+pub mod drafts;
+pub mod draft_laws;
+mod relocations;
+mod writing;
+mod beside;
+mod judging;
+pub mod judging_laws;
+mod line;
+pub mod literals;
+mod locals;
+mod names;
+mod putting;
+pub mod registers;
+pub mod sets;
+pub mod whole;
 
 pub use crate::assembling::assemble;
+pub use crate::emission::emit;
+pub use crate::entry::entry_of;
+pub use crate::facts::{Gathered, facts_of, gathered_of};
+pub use crate::records::records_of;
+pub use crate::symbols::symbols_of;
+pub use crate::drafts::{Draft, Finished};
+pub use crate::draft_laws::relocations_are_of_sources;
+pub use crate::judging::judge;
+pub use crate::putting::{LineUnits, LiteralWord, line_units};
+pub use crate::registers::give;
+pub use crate::whole::{Whole, whole_of};

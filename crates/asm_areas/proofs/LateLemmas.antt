@@ -8,11 +8,11 @@ use Rattle.asm_model.specs.declared.statements.What.{What}
 use Rattle.asm_model.specs.FaultSets.{first_told}
 use Rattle.asm_model.specs.Kinds.{told_kind}
 use Rattle.asm_checks.proofs.ToldLemmas.{told_of_two}
-use Rattle.layout_model.specs.Extents.{Extent, Block, Padding, Loading, Pool}
-use Rattle.layout_model.specs.Laid.{LaidLine, taken, pieces_of, reversed}
-use Rattle.layout_model.specs.LayoutKinds.{kind_if, entry_kinds, literal_kinds, is_entry, is_thumb_area, first_state}
-use Rattle.layout_model.specs.OffsetLaws.{joined}
-use Rattle.layout_model.specs.Offsets.{Piece, is_of, area_size, literal_word, start_in}
+use Rattle.asm_model.specs.Extents.{Extent, Block, Padding, Loading, Pool}
+use Rattle.asm_model.specs.Laid.{LaidLine, taken, pieces_of, reversed}
+use Rattle.asm_model.specs.LayoutKinds.{kind_if, entry_kinds, literal_kinds, is_entry, is_thumb_area, first_state}
+use Rattle.asm_model.specs.OffsetLaws.{joined}
+use Rattle.asm_model.specs.Offsets.{Piece, is_of, area_size, literal_word, start_in}
 use Rattle.asm_offsets.specs.declared.extents.LaidPools.{LaidPools}
 use Rattle.asm_offsets.specs.Finished.{IsLaidOut, IsLaid}
 use Rattle.asm_offsets.specs.Laws.{AllExtents, LiteralsArePlaced}

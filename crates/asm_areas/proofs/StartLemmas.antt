@@ -14,10 +14,10 @@ use Rattle.asm_model.specs.declared.statements.What.TheVariants as what
 use Rattle.asm_model.specs.Directives.{or_else}
 use Rattle.asm_model.specs.Forms.{same}
 use Rattle.asm_model.proofs.WordLemmas.{same_refl}
-use Rattle.layout_model.specs.Before.{area_named, with_name, areas_behind, place_of, area_from, area_behind}
-use Rattle.layout_model.specs.Laid.{LaidLine, statements_of}
-use Rattle.layout_model.specs.LayoutKinds.{is_instruction, state_of, first_state, exponent}
-use Rattle.layout_model.specs.Offsets.{is_of}
+use Rattle.asm_model.specs.Before.{area_named, with_name, areas_behind, place_of, area_from, area_behind}
+use Rattle.asm_model.specs.Laid.{LaidLine, statements_of}
+use Rattle.asm_model.specs.LayoutKinds.{is_instruction, state_of, first_state, exponent}
+use Rattle.asm_model.specs.Offsets.{is_of}
 use Rattle.asm_model.specs.declared.directives.Contents.{Contents}
 use Rattle.asm_model.specs.declared.directives.Contents.TheVariants as contents
 use Rattle.source_model.specs.Objects.{contents_bits, attributes_word, or_two, says_area}

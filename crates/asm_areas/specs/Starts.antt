@@ -9,9 +9,9 @@ use Rattle.asm_model.specs.declared.directives.DirectiveLine.TheVariants as line
 use Rattle.asm_model.specs.declared.statements.What.{What}
 use Rattle.asm_model.specs.declared.statements.What.TheVariants as what
 use Rattle.asm_model.specs.Directives.{or_else}
-use Rattle.layout_model.specs.Before.{areas_behind, area_behind}
-use Rattle.layout_model.specs.Laid.{LaidLine, statements_of}
-use Rattle.layout_model.specs.LayoutKinds.{exponent, first_state}
+use Rattle.asm_model.specs.Before.{areas_behind, area_behind}
+use Rattle.asm_model.specs.Laid.{LaidLine, statements_of}
+use Rattle.asm_model.specs.LayoutKinds.{exponent, first_state}
 use Rattle.source_model.specs.Objects.{attributes_word, or_two, attributes_of}
 use Rattle.asm_areas.specs.declared.starts.AreaStart.{AreaStart}
 

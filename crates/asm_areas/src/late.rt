@@ -2,8 +2,8 @@
 
 ghost use Rattle.std.specs.Prelude.{◌≡◌, ◌∷◌, ◌++◌, List};
 ghost use Rattle.asm_model.specs.Kinds.{told_kind};
-ghost use Rattle.layout_model.specs.Laid.{pieces_of, reversed, taken, LaidLine};
-ghost use Rattle.layout_model.specs.LayoutKinds as layout;
+ghost use Rattle.asm_model.specs.Laid.{pieces_of, reversed, taken, LaidLine};
+ghost use Rattle.asm_model.specs.LayoutKinds as layout;
 ghost use Rattle.asm_areas.specs.Late as late;
 
 use crate::starts::AreaStart;

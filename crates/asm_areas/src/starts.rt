@@ -2,8 +2,8 @@
 
 ghost use Rattle.std.specs.Prelude.{◌≡◌, ◌≤◌, ◌++◌, ◌*◌, [], ◌∷◌, List, length, false, OnOk};
 ghost use Rattle.sdt_word.specs.Numbers.{flag as flag_of};
-ghost use Rattle.layout_model.specs.Laid.{LaidLine};
-ghost use Rattle.layout_model.specs.LayoutKinds as layout;
+ghost use Rattle.asm_model.specs.Laid.{LaidLine};
+ghost use Rattle.asm_model.specs.LayoutKinds as layout;
 ghost use Rattle.source_model.specs.Objects as objects;
 ghost use Rattle.asm_areas.specs.Starts.{begun, is_next, run, with_area, AreRun, AreStarts, IsLineOf, IsSmall};
 

@@ -16,8 +16,8 @@ use Rattle.asm_model.specs.declared.statements.What.TheVariants as what
 use Rattle.asm_model.specs.Forms.{same}
 use Rattle.asm_model.specs.Kinds.{told_kind}
 use Rattle.asm_model.proofs.WordLemmas.{same_true}
-use Rattle.layout_model.specs.Laid.{LaidLine}
-use Rattle.layout_model.specs.LayoutKinds.{kind_if, exponent, exponent_kinds, same_contents, same_mark, same_attributes, again_with, is_named_otherwise}
+use Rattle.asm_model.specs.Laid.{LaidLine}
+use Rattle.asm_model.specs.LayoutKinds.{kind_if, exponent, exponent_kinds, same_contents, same_mark, same_attributes, again_with, is_named_otherwise}
 use Rattle.asm_checks.specs.declared.areas.AreaMarks.{AreaMarks}
 use Rattle.asm_checks.specs.Areas.{Areas, marks_in, agrees, is_otherwise, marks_of, noted, IsNoted, AreAreasOf}
 use Rattle.asm_checks.proofs.NameLemmas.{tests}

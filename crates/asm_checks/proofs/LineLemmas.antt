@@ -8,9 +8,9 @@ use Rattle.asm_model.specs.declared.directives.Contents.{Contents}
 use Rattle.asm_model.specs.declared.statements.Statement.{Statement}
 use Rattle.asm_model.specs.FaultSets.{first_told}
 use Rattle.asm_model.specs.Kinds.{told_kind}
-use Rattle.layout_model.specs.Labels.{defined_by}
-use Rattle.layout_model.specs.Laid.{LaidLine, statements_of}
-use Rattle.layout_model.specs.LayoutKinds.{is_entry, kind_if, no_area_kinds, contents_kinds, contents_from, contents_behind, area_kinds, is_repeated, names_behind, names_in, name_kinds, settled_kinds}
+use Rattle.asm_model.specs.Labels.{defined_by}
+use Rattle.asm_model.specs.Laid.{LaidLine, statements_of}
+use Rattle.asm_model.specs.LayoutKinds.{is_entry, kind_if, no_area_kinds, contents_kinds, contents_from, contents_behind, area_kinds, is_repeated, names_behind, names_in, name_kinds, settled_kinds}
 use Rattle.asm_checks.specs.declared.checks.Checks.{Checks}
 use Rattle.asm_checks.specs.Checked.{checked_kinds, IsChecked, IsLine}
 use Rattle.asm_checks.proofs.ToldLemmas.{told_of_five}

@@ -11,8 +11,8 @@ use Rattle.std.proofs.lemmas.Slice.Eq.{bytes_eq-Decides}
 use Rattle.asm_model.specs.declared.statements.Statement.{Statement}
 use Rattle.asm_model.specs.Forms.{same}
 use Rattle.asm_model.proofs.WordLemmas.{same_refl, same_true}
-use Rattle.layout_model.specs.Labels.{defined_by, imported_in}
-use Rattle.layout_model.specs.LayoutKinds.{listed, own_name, names_in, names_behind, is_repeated}
+use Rattle.asm_model.specs.Labels.{defined_by, imported_in}
+use Rattle.asm_model.specs.LayoutKinds.{listed, own_name, names_in, names_behind, is_repeated}
 use Rattle.asm_checks.specs.Names.{Names, has_name, AreNamesOf}
 
 -- the two tests of words

@@ -10,8 +10,8 @@ use Rattle.asm_model.specs.declared.statements.What.{What}
 use Rattle.asm_model.specs.declared.statements.What.TheVariants as what
 use Rattle.asm_model.specs.AtLine.{Sight}
 use Rattle.asm_model.specs.Forms.{same}
-use Rattle.layout_model.specs.Laid.{LaidLine}
-use Rattle.layout_model.specs.LayoutKinds.{exponent, same_contents, same_mark, same_exponent, is_named_otherwise}
+use Rattle.asm_model.specs.Laid.{LaidLine}
+use Rattle.asm_model.specs.LayoutKinds.{exponent, same_contents, same_mark, same_exponent, is_named_otherwise}
 use Rattle.asm_checks.specs.declared.areas.AreaMarks.{AreaMarks}
 
 abbrev pub Areas : Type 0

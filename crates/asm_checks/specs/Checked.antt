@@ -5,9 +5,9 @@ use Rattle.std.specs.List.{list_any}
 use Rattle.sdt_fault.specs.declared.kinds.LineKind.{LineKind}
 use Rattle.asm_model.specs.declared.statements.Statement.{Statement}
 use Rattle.asm_model.specs.Forms.{same}
-use Rattle.layout_model.specs.Labels.{Defined, Equal, defined_by}
-use Rattle.layout_model.specs.Laid.{LaidLine, statements_of}
-use Rattle.layout_model.specs.LayoutKinds.{is_entry, no_area_kinds, contents_kinds, contents_behind, area_kinds, name_kinds, settled_kinds}
+use Rattle.asm_model.specs.Labels.{Defined, Equal, defined_by}
+use Rattle.asm_model.specs.Laid.{LaidLine, statements_of}
+use Rattle.asm_model.specs.LayoutKinds.{is_entry, no_area_kinds, contents_kinds, contents_behind, area_kinds, name_kinds, settled_kinds}
 use Rattle.asm_checks.specs.declared.checks.Checks.{Checks}
 use Rattle.asm_checks.specs.Areas.{AreAreasOf, IsExponent}
 use Rattle.asm_checks.specs.Names.{AreNamesOf}

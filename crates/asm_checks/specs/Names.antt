@@ -6,8 +6,8 @@ use Rattle.std.specs.Cmp.Lexicographic.{slice_cmp}
 use Rattle.std.specs.BTreeSet.{BTreeSet, contains}
 use Rattle.asm_model.specs.declared.statements.Statement.{Statement}
 use Rattle.asm_model.specs.Forms.{same}
-use Rattle.layout_model.specs.Labels.{Defined, Equal}
-use Rattle.layout_model.specs.LayoutKinds.{names_behind}
+use Rattle.asm_model.specs.Labels.{Defined, Equal}
+use Rattle.asm_model.specs.LayoutKinds.{names_behind}
 
 abbrev pub Names : Type 0
 Names = BTreeSet (List ℕ)

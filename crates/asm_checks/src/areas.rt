@@ -4,8 +4,8 @@ ghost use Rattle.std.specs.Prelude.{◌≡◌, ◌++◌, ◌∷◌, List, None, 
 ghost use Rattle.sdt_fault.specs.declared.kinds.LineKind.TheVariants.{BadOperand};
 ghost use Rattle.asm_model.specs.AtLine.{Sight};
 ghost use Rattle.asm_model.specs.Kinds.{told_kind};
-ghost use Rattle.layout_model.specs.Laid.{LaidLine};
-ghost use Rattle.layout_model.specs.LayoutKinds as layout;
+ghost use Rattle.asm_model.specs.Laid.{LaidLine};
+ghost use Rattle.asm_model.specs.LayoutKinds as layout;
 ghost use Rattle.asm_checks.specs.Areas as areas_of;
 ghost use Rattle.asm_checks.specs.Areas.{AreAreasOf, IsExponent, IsNoted};
 

@@ -3,9 +3,9 @@
 ghost use Rattle.std.specs.Prelude.{◌≡◌, ◌&&◌, ◌||◌, ◌∷◌, [], ℕ, List, None, IfOk};
 ghost use Rattle.sdt_fault.specs.declared.kinds.LineKind.TheVariants.{DuplicateName};
 ghost use Rattle.asm_model.specs.Kinds.{told_kind};
-ghost use Rattle.layout_model.specs.Labels.{defined_by};
-ghost use Rattle.layout_model.specs.Laid.{LaidLine};
-ghost use Rattle.layout_model.specs.LayoutKinds as layout;
+ghost use Rattle.asm_model.specs.Labels.{defined_by};
+ghost use Rattle.asm_model.specs.Laid.{LaidLine};
+ghost use Rattle.asm_model.specs.LayoutKinds as layout;
 ghost use Rattle.asm_checks.specs.Checked.{checked_kinds, IsChecked, IsLine, IsSettled};
 
 use crate::areas::{AreaMarks, area_kind};

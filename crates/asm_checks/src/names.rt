@@ -5,7 +5,7 @@ ghost use Rattle.std.specs.List.{list_any};
 ghost use Rattle.std.specs.Option.{option_copied};
 ghost use Rattle.asm_model.specs.declared.statements.Statement.{Statement};
 ghost use Rattle.asm_model.specs.Forms.{same};
-ghost use Rattle.layout_model.specs.LayoutKinds as layout;
+ghost use Rattle.asm_model.specs.LayoutKinds as layout;
 ghost use Rattle.asm_checks.specs.Names.{has_name, AreNamesOf};
 
 use crate::labels::{imported_name, own_name};

@@ -3,8 +3,8 @@
 ghost use Rattle.std.specs.Prelude.{◌≡◌, Some};
 ghost use Rattle.asm_model.specs.declared.directives.Contents.TheVariants as contents;
 ghost use Rattle.asm_model.specs.Kinds.{told_kind};
-ghost use Rattle.layout_model.specs.Labels.{defined_by};
-ghost use Rattle.layout_model.specs.LayoutKinds as layout;
+ghost use Rattle.asm_model.specs.Labels.{defined_by};
+ghost use Rattle.asm_model.specs.LayoutKinds as layout;
 
 use crate::labels::{has_place, names_here};
 use crate::told::kind_if;

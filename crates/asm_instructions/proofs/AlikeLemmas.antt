@@ -20,9 +20,9 @@ use Rattle.asm_model.specs.declared.values.Value.{Value}
 use Rattle.asm_model.specs.declared.values.Value.TheVariants.{Number, Truth, Words, Place}
 use Rattle.asm_model.specs.Forms.{same}
 use Rattle.asm_model.specs.Meaning.{named_in, in_area, entry_stands_at, stands_at}
-use Rattle.layout_model.specs.Entries.{thumb_of}
-use Rattle.layout_model.specs.Extents.{as_number}
-use Rattle.layout_model.specs.Symbols.{is_in_area, same_state}
+use Rattle.asm_model.specs.Entries.{thumb_of}
+use Rattle.asm_model.specs.Extents.{as_number}
+use Rattle.asm_model.specs.Symbols.{is_in_area, same_state}
 use Rattle.source_model.specs.Contexts.{Context, sees, value_of, number_in, in_own_area, own_offset, from_pc}
 use Rattle.source_model.specs.ArmForms.{shift_fields, is_listed_by, list_bits, is_settled, branch_from, has_symbol, branch_displacement, arm_instruction, offset_at}
 use Rattle.source_model.specs.PseudoForms.{pseudo_instructions}

@@ -23,13 +23,13 @@ use Rattle.asm_model.specs.Forms.{same}
 use Rattle.asm_model.specs.Grammar.{Tree}
 use Rattle.asm_model.specs.Meaning.{named_in, IsValue, Evaluates}
 use Rattle.asm_model.proofs.WordLemmas.{same_refl, same_true}
-use Rattle.layout_model.specs.Trees.{tree_of}
-use Rattle.layout_model.proofs.TreeLemmas.{trees_read_back}
+use Rattle.asm_model.specs.Trees.{tree_of}
+use Rattle.asm_model.proofs.TreeLemmas.{trees_read_back}
 use Rattle.layout_laws.proofs.FoundLemmas.{tree_final, final_tree}
 use Rattle.layout_laws.proofs.RoundLemmas.{named_joined}
-use Rattle.asm_sight.proofs.SightLemmas.{same_known}
-use Rattle.asm_final.specs.declared.lines.PlacedLine.{PlacedLine}
-use Rattle.asm_final.specs.Lines.{Sees}
+use Rattle.asm_names.proofs.SightLemmas.{same_known}
+use Rattle.asm_names.specs.declared.lines.PlacedLine.{PlacedLine}
+use Rattle.asm_names.specs.Lines.{Sees}
 use Rattle.said_model.specs.Said.{IsRead}
 use Rattle.source_model.specs.Contexts.{Context, sees, value_of, register, or_zero}
 use Rattle.source_model.specs.Registers.{Named, register_in}

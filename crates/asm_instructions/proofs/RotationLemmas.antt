@@ -3,7 +3,7 @@ use Rattle.std.proofs.Common.{◌≡◌, ℕ, zero, suc, ◌+◌, ◌^◌, ◌<�
 use Rattle.std.specs.Prelude.{nat_lt}
 use Rattle.std.proofs.lemmas.Bool.{ltb-true, lt-ltb}
 use Rattle.sdt_word.specs.Numbers.{operand, IsLeastRotation}
-use Rattle.layout_model.proofs.ImmediateLemmas.{undone_0, undone_2, undone_4, undone_6, undone_8, undone_10, undone_12, undone_14, undone_16, undone_18, undone_20, undone_22, undone_24, undone_26, undone_28, undone_30}
+use Rattle.asm_model.proofs.ImmediateLemmas.{undone_0, undone_2, undone_4, undone_6, undone_8, undone_10, undone_12, undone_14, undone_16, undone_18, undone_20, undone_22, undone_24, undone_26, undone_28, undone_30}
 use Rattle.source_model.specs.Immediates.{turned_back, immediate_among, immediate}
 
 -- ---- what holds of each number from one on, for so many

@@ -8,8 +8,8 @@ use Rattle.std.specs.BTreeSet.{BTreeSet, contains}
 use Rattle.asm_model.specs.declared.names.LaidName.{LaidName}
 use Rattle.asm_model.specs.AtLine.{Nameless, SourceLine}
 use Rattle.asm_model.specs.Forms.{same}
-use Rattle.asm_final.specs.declared.lines.PlacedLine.{PlacedLine}
-use Rattle.asm_final.specs.Lines.{Sees}
+use Rattle.asm_names.specs.declared.lines.PlacedLine.{PlacedLine}
+use Rattle.asm_names.specs.Lines.{Sees}
 use Rattle.source_model.specs.Contexts.{Context}
 use Rattle.source_model.specs.Registers.{register_in}
 use Rattle.asm_instructions.specs.declared.scenes.Scene.{Scene}

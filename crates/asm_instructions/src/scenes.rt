@@ -8,10 +8,10 @@ ghost use Rattle.asm_model.specs.Meaning as meaning;
 ghost use Rattle.source_model.specs.Contexts as contexts;
 ghost use Rattle.asm_instructions.specs.Scenes.{context_of, register_at};
 
-use asm_final::PlacedLine;
+use asm_names::PlacedLine;
 use asm_model::{LaidName, Register};
-use asm_sight::places::known_named;
-use asm_sight::{KnownNames, Place};
+use asm_names::places::known_named;
+use asm_names::{KnownNames, Place};
 use sdt_fault::Text;
 use std::collections::{BTreeMap, BTreeSet};
 

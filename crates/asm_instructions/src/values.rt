@@ -4,14 +4,14 @@ ghost use Rattle.std.specs.Prelude.{◌≡◌, ◌<◌, Result, IfOk};
 ghost use Rattle.sdt_fault.specs.declared.kinds.LineKind.{LineKind};
 ghost use Rattle.asm_model.specs.declared.values.Value.{Value};
 ghost use Rattle.asm_model.specs.Meaning.{IsValue};
-ghost use Rattle.layout_model.specs.Extents as extents;
+ghost use Rattle.asm_model.specs.Extents as extents;
 ghost use Rattle.said_model.specs.Said.{IsRead};
 ghost use Rattle.source_model.specs.Contexts as contexts;
 ghost use Rattle.source_model.specs.Contexts.{Context};
 ghost use Rattle.asm_instructions.specs.Scenes.{Shows, context_of};
 
 use crate::scenes::{Scene, stands_at};
-use asm_final::final_value;
+use asm_names::final_value;
 use asm_model::{EvalFault, Expr, Value};
 use sdt_fault::NoMemory;
 use sdt_fault::kinds::LineKind;

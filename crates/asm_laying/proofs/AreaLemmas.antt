@@ -11,10 +11,10 @@ use Rattle.asm_model.specs.Forms.{same}
 use Rattle.asm_model.proofs.WordLemmas.{same_refl, same_true}
 use Rattle.asm_expr.specs.Places.{number_in, or_number, one_later}
 use Rattle.asm_expr.proofs.PlaceLemmas.{noted}
-use Rattle.layout_model.specs.Before.{with_name, place_of}
-use Rattle.layout_model.specs.Extents.{pool_alignment, alignment}
-use Rattle.layout_model.specs.Laid.{aligned_end}
-use Rattle.layout_model.specs.Offsets.{Piece, raised, waiting, end_behind}
+use Rattle.asm_model.specs.Before.{with_name, place_of}
+use Rattle.asm_model.specs.Extents.{pool_alignment, alignment}
+use Rattle.asm_model.specs.Laid.{aligned_end}
+use Rattle.asm_model.specs.Offsets.{Piece, raised, waiting, end_behind}
 use Rattle.asm_offsets.specs.Coded.{IsAlignment}
 use Rattle.asm_offsets.specs.Running.{Standing, nothing, IsBehind, IsThere, start_behind, pool_alignment_behind}
 use Rattle.asm_laying.specs.declared.areas.Areas.{Areas}

@@ -3,10 +3,10 @@ use Rattle.std.proofs.Common.{◌≡◌, ◌<◌, ◌≤◌, ℕ, suc, ◌+◌, 
 use Rattle.std.proofs.lemmas.Grind.{common_steps}
 use Rattle.asm_model.specs.declared.names.LaidName.{LaidName}
 use Rattle.asm_model.specs.declared.statements.Statement.{Statement}
-use Rattle.asm_locals.specs.Found.{AllBefore}
-use Rattle.layout_model.specs.Before.{begins_stretch, stretch_behind, is_thumb_label}
-use Rattle.layout_model.specs.Labels.{Defined, Unnamed, LocalLabel, Label, Equal, MapField, RegisterName, defined_by, imported_in, imported_entries, declared_names, declared_entries}
-use Rattle.layout_model.specs.Locals.{Local, local_entries, declared_locals}
+use Rattle.asm_names.specs.Found.{AllBefore}
+use Rattle.asm_model.specs.Before.{begins_stretch, stretch_behind, is_thumb_label}
+use Rattle.asm_model.specs.Labels.{Defined, Unnamed, LocalLabel, Label, Equal, MapField, RegisterName, defined_by, imported_in, imported_entries, declared_names, declared_entries}
+use Rattle.asm_model.specs.Locals.{Local, local_entries, declared_locals}
 use Rattle.asm_laying.specs.declared.behind.Behind.{Behind}
 use Rattle.asm_laying.specs.declared.declarations.Declarations.{Declarations}
 use Rattle.asm_laying.specs.Behind.{behind, IsEarly, most_statements}

@@ -5,13 +5,13 @@ use Rattle.std.proofs.lemmas.List.{length-map}
 use Rattle.asm_model.specs.declared.statements.Statement.{Statement}
 use Rattle.asm_model.specs.declared.statements.What.{What}
 use Rattle.asm_model.specs.Forms.{same}
-use Rattle.asm_locals.specs.Found.{AllBefore}
+use Rattle.asm_names.specs.Found.{AllBefore}
 use Rattle.asm_offsets.specs.Running.{IsBehind}
-use Rattle.layout_model.specs.Before.{thumb_behind, area_named, with_name, areas_behind, area_behind, code_behind, begins_stretch, stretch_behind}
-use Rattle.layout_model.specs.Labels.{Defined, Unnamed, LocalLabel, Label, Equal, MapField, RegisterName, defined_by}
-use Rattle.layout_model.specs.Laid.{Declared, LaidLine, reversed, statements_of, pieces_of, locals_of, aligned_end, offset_behind}
-use Rattle.layout_model.specs.Locals.{Local, local_entries}
-use Rattle.layout_model.specs.Offsets.{Piece}
+use Rattle.asm_model.specs.Before.{thumb_behind, area_named, with_name, areas_behind, area_behind, code_behind, begins_stretch, stretch_behind}
+use Rattle.asm_model.specs.Labels.{Defined, Unnamed, LocalLabel, Label, Equal, MapField, RegisterName, defined_by}
+use Rattle.asm_model.specs.Laid.{Declared, LaidLine, reversed, statements_of, pieces_of, locals_of, aligned_end, offset_behind}
+use Rattle.asm_model.specs.Locals.{Local, local_entries}
+use Rattle.asm_model.specs.Offsets.{Piece}
 use Rattle.asm_laying.specs.declared.areas.Areas.{Areas}
 use Rattle.asm_laying.specs.declared.behind.Behind.{Behind}
 use Rattle.asm_laying.specs.declared.laying.Laying.{Laying}

@@ -15,22 +15,22 @@ use Rattle.asm_model.specs.AtLine.{SourceLine, Sight, sight, added_names, seen_b
 use Rattle.asm_model.specs.Grammar.{Tree}
 use Rattle.asm_model.specs.Kinds.{earlier, told_kind}
 use Rattle.asm_model.specs.Says.{mapped}
-use Rattle.layout_model.specs.Before.{area_behind, is_thumb_label}
-use Rattle.layout_model.specs.Entries.{equal_entry}
-use Rattle.layout_model.specs.Extents.{Extent, Block, Padding, Loading, Pool, number_there, tree_value, extent_of}
-use Rattle.layout_model.specs.Labels.{Defined, Unnamed, LocalLabel, Label, Equal, MapField, RegisterName, defined_by, imported_in, imported_entries}
-use Rattle.layout_model.specs.Laid.{Declared, LaidLine, reversed, statements_of, lines_of, taken, pieces_of, map_behind, map_from, added, set_or, offset_behind, tree_equated, definition_of, line_behind, imported_lines, sight_behind, laid_behind}
-use Rattle.layout_model.specs.LayoutKinds.{fault_kinds, kind_if, map_kinds, area_bytes}
-use Rattle.layout_model.specs.Offsets.{Piece, offset_of, size_behind, start_in}
-use Rattle.layout_model.specs.Trees.{tree_of}
-use Rattle.layout_model.proofs.LaidLemmas.{starts_there}
+use Rattle.asm_model.specs.Before.{area_behind, is_thumb_label}
+use Rattle.asm_model.specs.Entries.{equal_entry}
+use Rattle.asm_model.specs.Extents.{Extent, Block, Padding, Loading, Pool, number_there, tree_value, extent_of}
+use Rattle.asm_model.specs.Labels.{Defined, Unnamed, LocalLabel, Label, Equal, MapField, RegisterName, defined_by, imported_in, imported_entries}
+use Rattle.asm_model.specs.Laid.{Declared, LaidLine, reversed, statements_of, lines_of, taken, pieces_of, map_behind, map_from, added, set_or, offset_behind, tree_equated, definition_of, line_behind, imported_lines, sight_behind, laid_behind}
+use Rattle.asm_model.specs.LayoutKinds.{fault_kinds, kind_if, map_kinds, area_bytes}
+use Rattle.asm_model.specs.Offsets.{Piece, offset_of, size_behind, start_in}
+use Rattle.asm_model.specs.Trees.{tree_of}
+use Rattle.asm_model.proofs.LaidLemmas.{starts_there}
 use Rattle.asm_offsets.specs.declared.extents.Extent.{Extent as Code}
 use Rattle.asm_offsets.specs.declared.extents.Placed.{Placed as Put}
 use Rattle.asm_offsets.specs.Coded.{extent_of_code, IsExtent}
 use Rattle.asm_offsets.specs.Running.{Standing, piece, IsStanding, IsBehind, IsPlaced, IsThere, entry_behind}
 use Rattle.asm_offsets.specs.Laws.{ExtentsArePlaceable}
 use Rattle.asm_expr.specs.Places.{number_in}
-use Rattle.asm_locals.specs.Found.{AllBefore}
+use Rattle.asm_names.specs.Found.{AllBefore}
 use Rattle.asm_laying.specs.declared.behind.Behind.{Behind}
 use Rattle.asm_laying.specs.declared.finding.Spot.{Spot}
 use Rattle.asm_laying.specs.declared.laying.Laying.{Laying}

@@ -7,9 +7,9 @@ use Rattle.asm_model.specs.declared.values.EvalFault.{EvalFault}
 use Rattle.asm_model.specs.AtLine.{Sight}
 use Rattle.asm_model.specs.Grammar.{Tree}
 use Rattle.asm_model.specs.Meaning.{IsValue}
-use Rattle.layout_model.specs.Extents.{tree_value, tree_literal, value_there, number_there, literal_there, as_number}
-use Rattle.layout_model.proofs.TreeLemmas.{trees_read_back}
-use Rattle.asm_sight.specs.Sights.{SeesValue, SeesNumber, SeesLiteral, IsNumber}
+use Rattle.asm_model.specs.Extents.{tree_value, tree_literal, value_there, number_there, literal_there, as_number}
+use Rattle.asm_model.proofs.TreeLemmas.{trees_read_back}
+use Rattle.asm_names.specs.Sights.{SeesValue, SeesNumber, SeesLiteral, IsNumber}
 use Rattle.said_model.specs.Said.{IsRead}
 
 pub value_read : (s : Sight) (e : Expr) (r : Result Value EvalFault) → IsRead e → SeesValue s e.items r → IsValue (value_there s e) r

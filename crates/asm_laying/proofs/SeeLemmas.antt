@@ -21,18 +21,18 @@ use Rattle.asm_model.specs.Forms.{same}
 use Rattle.asm_model.specs.Grammar.{Tree}
 use Rattle.asm_model.specs.Meaning.{named_in}
 use Rattle.asm_model.specs.Says.{mapped, on_both}
-use Rattle.layout_model.specs.Before.{area_behind, stretch_behind, is_thumb_label}
-use Rattle.layout_model.specs.Entries.{equal_entry}
-use Rattle.layout_model.specs.Extents.{Block, Padding, tree_value, value_there, number_there, tree_literal, literal_there, as_number, byte_count, byte_counts, instruction, loading, pseudo_extent, as_multiple, padding, directive_extent, extent_of}
-use Rattle.layout_model.specs.Labels.{Defined, Unnamed, LocalLabel, Label, Equal, MapField, RegisterName, number_in, labelled, directive_defines, field_defines, defined_by}
-use Rattle.layout_model.specs.LayoutKinds.{exponent}
-use Rattle.layout_model.specs.Laid.{Declared, LaidLine, statements_of, lines_of, locals_of, map_behind, offset_behind, tree_equated, definition_of, sight_behind, reversed}
-use Rattle.layout_model.specs.Locals.{Local, local_entries, back_of, forth_of}
-use Rattle.layout_model.specs.Trees.{tree_of}
-use Rattle.asm_locals.specs.Found.{or_else}
-use Rattle.asm_sight.specs.Sights.{own_list}
-use Rattle.asm_sight.specs.SightLaws.{SeesTheSame}
-use Rattle.asm_sight.proofs.SightLemmas.{sights_alone_count}
+use Rattle.asm_model.specs.Before.{area_behind, stretch_behind, is_thumb_label}
+use Rattle.asm_model.specs.Entries.{equal_entry}
+use Rattle.asm_model.specs.Extents.{Block, Padding, tree_value, value_there, number_there, tree_literal, literal_there, as_number, byte_count, byte_counts, instruction, loading, pseudo_extent, as_multiple, padding, directive_extent, extent_of}
+use Rattle.asm_model.specs.Labels.{Defined, Unnamed, LocalLabel, Label, Equal, MapField, RegisterName, number_in, labelled, directive_defines, field_defines, defined_by}
+use Rattle.asm_model.specs.LayoutKinds.{exponent}
+use Rattle.asm_model.specs.Laid.{Declared, LaidLine, statements_of, lines_of, locals_of, map_behind, offset_behind, tree_equated, definition_of, sight_behind, reversed}
+use Rattle.asm_model.specs.Locals.{Local, local_entries, back_of, forth_of}
+use Rattle.asm_model.specs.Trees.{tree_of}
+use Rattle.asm_names.specs.Found.{or_else}
+use Rattle.asm_names.specs.Sights.{own_list}
+use Rattle.asm_names.specs.SightLaws.{SeesTheSame}
+use Rattle.asm_names.proofs.SightLemmas.{sights_alone_count}
 use Rattle.asm_laying.specs.declared.finding.Found.{Found}
 use Rattle.asm_laying.specs.declared.finding.Spot.{Spot}
 use Rattle.asm_laying.specs.Defining.{own_entry}

@@ -3,7 +3,7 @@
 use Rattle.std.specs.Prelude.{ℕ, suc, ◌+◌, ◌^◌, ◌≤◌, ◌<◌, List, length, if◌then◌else◌}
 use Rattle.asm_model.specs.declared.statements.Statement.{Statement}
 use Rattle.asm_model.specs.declared.statements.What.{What}
-use Rattle.layout_model.specs.Before.{state_behind, thumb_behind, code_from, code_behind, begins_stretch, stretch_behind}
+use Rattle.asm_model.specs.Before.{state_behind, thumb_behind, code_from, code_behind, begins_stretch, stretch_behind}
 use Rattle.asm_laying.specs.declared.behind.Behind.{Behind}
 
 -- how many statements a source has at most

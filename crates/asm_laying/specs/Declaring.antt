@@ -1,11 +1,11 @@
 -- The names and local labels of a source, by its lines so far. This project's.
 use Rattle.std.specs.Prelude.{◌≡◌, ◌+◌, ◌*◌, ◌≤◌, List, [], ◌∷◌, ◌++◌, length, ◌&&◌}
 use Rattle.asm_model.specs.declared.statements.Statement.{Statement}
-use Rattle.asm_locals.specs.Found.{AllBefore}
-use Rattle.layout_model.specs.Before.{code_from}
-use Rattle.layout_model.specs.Labels.{defined_by, imported_in, imported_entries, declared_names}
-use Rattle.layout_model.specs.Laid.{Declared, reversed}
-use Rattle.layout_model.specs.Locals.{local_entries, declared_locals}
+use Rattle.asm_names.specs.Found.{AllBefore}
+use Rattle.asm_model.specs.Before.{code_from}
+use Rattle.asm_model.specs.Labels.{defined_by, imported_in, imported_entries, declared_names}
+use Rattle.asm_model.specs.Laid.{Declared, reversed}
+use Rattle.asm_model.specs.Locals.{local_entries, declared_locals}
 use Rattle.said_model.specs.Said.{LocalSaid}
 use Rattle.asm_laying.specs.declared.behind.Behind.{Behind}
 use Rattle.asm_laying.specs.declared.declarations.Declarations.{Declarations}

@@ -2,8 +2,8 @@
 use Rattle.std.specs.Prelude.{ℕ, List, [], ◌∷◌, Bool, false, Option, Some, None}
 use Rattle.asm_model.specs.declared.values.Value.TheVariants.{Number}
 use Rattle.asm_model.specs.declared.names.LaidName.{LaidName}
-use Rattle.layout_model.specs.Entries.{label_entry, valued_entry}
-use Rattle.layout_model.specs.Labels.{Defined, Unnamed, LocalLabel, Label, Equal, MapField, RegisterName}
+use Rattle.asm_model.specs.Entries.{label_entry, valued_entry}
+use Rattle.asm_model.specs.Labels.{Defined, Unnamed, LocalLabel, Label, Equal, MapField, RegisterName}
 use Rattle.asm_laying.specs.declared.defining.Defines.{Defines}
 use Rattle.asm_laying.specs.declared.defining.Defines.TheVariants as code
 

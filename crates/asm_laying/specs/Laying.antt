@@ -16,20 +16,20 @@ use Rattle.asm_model.specs.declared.statements.What.{What}
 use Rattle.asm_model.specs.declared.statements.What.TheVariants as what
 use Rattle.asm_model.specs.AtLine.{Sight, seen_behind, made_name}
 use Rattle.asm_model.specs.Kinds.{told_kind}
-use Rattle.layout_model.specs.Before.{thumb_behind, areas_behind, area_behind, code_behind, stretch_behind, is_thumb_label}
-use Rattle.layout_model.specs.Entries.{equal_entry}
-use Rattle.layout_model.specs.Extents.{value_there, extent_of}
-use Rattle.layout_model.specs.Labels.{Defined, Equal, defined_by}
-use Rattle.layout_model.specs.Laid.{Declared, LaidLine, reversed, statements_of, lines_of, taken, pieces_of, locals_of, map_behind, offset_behind}
-use Rattle.layout_model.specs.LayoutKinds.{fault_kinds, kind_if, map_kinds, area_bytes}
-use Rattle.layout_model.specs.Locals.{Local, local_entries}
-use Rattle.asm_locals.specs.Found.{AllBefore}
+use Rattle.asm_model.specs.Before.{thumb_behind, areas_behind, area_behind, code_behind, stretch_behind, is_thumb_label}
+use Rattle.asm_model.specs.Entries.{equal_entry}
+use Rattle.asm_model.specs.Extents.{value_there, extent_of}
+use Rattle.asm_model.specs.Labels.{Defined, Equal, defined_by}
+use Rattle.asm_model.specs.Laid.{Declared, LaidLine, reversed, statements_of, lines_of, taken, pieces_of, locals_of, map_behind, offset_behind}
+use Rattle.asm_model.specs.LayoutKinds.{fault_kinds, kind_if, map_kinds, area_bytes}
+use Rattle.asm_model.specs.Locals.{Local, local_entries}
+use Rattle.asm_names.specs.Found.{AllBefore}
 use Rattle.asm_offsets.specs.Running.{entry_behind, IsThere}
 use Rattle.asm_offsets.specs.declared.extents.Extent.{Extent as Code}
 use Rattle.asm_offsets.specs.Coded.{extent_of_code, IsExtent}
 use Rattle.said_model.specs.Said.{IsRead}
-use Rattle.asm_sight.specs.Sights.{own_list}
-use Rattle.asm_sight.specs.SightLaws.{SeesTheSame}
+use Rattle.asm_names.specs.Sights.{own_list}
+use Rattle.asm_names.specs.SightLaws.{SeesTheSame}
 use Rattle.asm_laying.specs.declared.behind.Behind.{Behind}
 use Rattle.asm_laying.specs.declared.finding.Found.{Found}
 use Rattle.asm_laying.specs.declared.finding.Spot.{Spot}

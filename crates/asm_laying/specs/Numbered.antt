@@ -3,8 +3,8 @@
 use Rattle.std.specs.Prelude.{◌≡◌, ℕ, List, [], ◌∷◌, length, if◌then◌else◌, Option, Some, None}
 use Rattle.asm_model.specs.Forms.{same}
 use Rattle.asm_expr.specs.Places.{number_in, one_later}
-use Rattle.layout_model.specs.Before.{with_name, area_from}
-use Rattle.layout_model.specs.Offsets.{Piece}
+use Rattle.asm_model.specs.Before.{with_name, area_from}
+use Rattle.asm_model.specs.Offsets.{Piece}
 use Rattle.asm_offsets.specs.Running.{IsBehind, IsThere}
 use Rattle.asm_laying.specs.declared.areas.Areas.{Areas}
 

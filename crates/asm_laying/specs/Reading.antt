@@ -10,8 +10,8 @@ use Rattle.asm_model.specs.declared.statements.What.{What}
 use Rattle.asm_model.specs.declared.statements.What.TheVariants as what
 use Rattle.asm_model.specs.AtLine.{Sight}
 use Rattle.asm_model.specs.Says.{mapped}
-use Rattle.layout_model.specs.Extents.{Extent, Block, value_there, number_there, extent_of}
-use Rattle.layout_model.specs.LayoutKinds.{exponent}
+use Rattle.asm_model.specs.Extents.{Extent, Block, value_there, number_there, extent_of}
+use Rattle.asm_model.specs.LayoutKinds.{exponent}
 use Rattle.asm_offsets.specs.declared.extents.Extent.{Extent as Code}
 use Rattle.asm_offsets.specs.Coded.{extent_of_code}
 use Rattle.asm_laying.specs.declared.extents.Taken.{Taken}

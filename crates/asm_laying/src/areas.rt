@@ -4,11 +4,11 @@ ghost use Rattle.std.specs.Prelude.{◌≡◌, ◌<◌, [], List, Some, None, if
 ghost use Rattle.std.specs.Option.{option_map};
 ghost use Rattle.asm_model.specs.declared.values.Value.{Value};
 ghost use Rattle.asm_expr.specs.Places.{number_in};
-ghost use Rattle.layout_model.specs.Before as before;
-ghost use Rattle.layout_model.specs.Extents as extents;
-ghost use Rattle.layout_model.specs.Extents.{pool_alignment as aligned_for};
-ghost use Rattle.layout_model.specs.Laid.{aligned_end};
-ghost use Rattle.layout_model.specs.Offsets.{Piece};
+ghost use Rattle.asm_model.specs.Before as before;
+ghost use Rattle.asm_model.specs.Extents as extents;
+ghost use Rattle.asm_model.specs.Extents.{pool_alignment as aligned_for};
+ghost use Rattle.asm_model.specs.Laid.{aligned_end};
+ghost use Rattle.asm_model.specs.Offsets.{Piece};
 ghost use Rattle.asm_offsets.specs.Coded.{IsAlignment};
 ghost use Rattle.asm_offsets.specs.Running.{IsBehind};
 ghost use Rattle.asm_laying.specs.Behind.{most_statements};

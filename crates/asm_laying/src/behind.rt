@@ -1,7 +1,7 @@
 //! What the statements before another say of it.
 
 ghost use Rattle.std.specs.Prelude.{◌≡◌};
-ghost use Rattle.layout_model.specs.Before as before;
+ghost use Rattle.asm_model.specs.Before as before;
 ghost use Rattle.asm_laying.specs.Behind.{behind, stepped, IsEarly};
 
 use asm_model::{Contents, DirectiveLine, What};

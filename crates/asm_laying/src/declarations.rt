@@ -1,10 +1,10 @@
 //! The names and local labels of a source, before it is laid out.
 
 ghost use Rattle.std.specs.Prelude.{◌≡◌, ◌++◌, ◌&&◌, ◌*◌, ◌+◌, ◌^◌, ◌-◌, ◌<◌, ◌≤◌, [], length, IfOk, OnOk};
-ghost use Rattle.asm_locals.specs.Found.{AllBefore};
-ghost use Rattle.layout_model.specs.Labels as labels;
-ghost use Rattle.layout_model.specs.Laid.{reversed};
-ghost use Rattle.layout_model.specs.Locals.{declared_locals, local_entries};
+ghost use Rattle.asm_names.specs.Found.{AllBefore};
+ghost use Rattle.asm_model.specs.Labels as labels;
+ghost use Rattle.asm_model.specs.Laid.{reversed};
+ghost use Rattle.asm_model.specs.Locals.{declared_locals, local_entries};
 ghost use Rattle.said_model.specs.Said.{LocalSaid};
 ghost use Rattle.asm_laying.specs.Behind.{IsEarly, most_statements};
 ghost use Rattle.asm_laying.specs.Declaring.{AllShort, Declares};
@@ -12,10 +12,10 @@ ghost use Rattle.asm_laying.specs.Defining.{defined_of, listed};
 
 use crate::behind::{Behind, START};
 use crate::defining::{Defines, declared_entry, defined_by};
-use asm_locals::Locals;
+use asm_names::Locals;
 use asm_model::{LaidName, Statement, What};
-use asm_sight::KnownNames;
-use asm_sight::made::{imported_entry, imported_name};
+use asm_names::KnownNames;
+use asm_names::made::{imported_entry, imported_name};
 use sdt_fault::NoMemory;
 use std::alloc::Global;
 

@@ -1,12 +1,12 @@
 //! What a statement defines, and the entries of its names.
 
 ghost use Rattle.std.specs.Prelude.{◌≡◌, ◌<◌, None, IfOk};
-ghost use Rattle.layout_model.specs.Labels as labels;
+ghost use Rattle.asm_model.specs.Labels as labels;
 ghost use Rattle.said_model.specs.Said.{LocalSaid};
 ghost use Rattle.asm_laying.specs.Defining.{declared_entry, defined_of, own_entry};
 
 use asm_model::{DirectiveLine, Expr, LaidName, RnOperand, Statement, Value, What};
-use asm_sight::made::{label_entry, valued_entry};
+use asm_names::made::{label_entry, valued_entry};
 use sdt_fault::{NoMemory, Text};
 use std::alloc::Global;
 

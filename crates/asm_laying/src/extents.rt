@@ -2,12 +2,12 @@
 
 ghost use Rattle.std.specs.Prelude.{◌≡◌, ◌*◌, [], length, min, if◌then◌else◌, IfOk};
 ghost use Rattle.asm_model.specs.Says.{mapped, on_both};
-ghost use Rattle.layout_model.specs.Extents as extents;
-ghost use Rattle.layout_model.specs.Extents.{Block, Padding, Loading};
+ghost use Rattle.asm_model.specs.Extents as extents;
+ghost use Rattle.asm_model.specs.Extents.{Block, Padding, Loading};
 ghost use Rattle.asm_model.specs.declared.values.Value.TheVariants as value;
 ghost use Rattle.asm_model.specs.declared.statements.What.TheVariants as kinds;
 ghost use Rattle.asm_offsets.specs.Coded.{extent_of_code};
-ghost use Rattle.asm_sight.specs.Sights.{sight_of};
+ghost use Rattle.asm_names.specs.Sights.{sight_of};
 ghost use Rattle.said_model.specs.Said.{AllRead, BoundaryRead, DirectiveSaid, PseudoSaid, WhatSaid};
 ghost use Rattle.asm_model.specs.declared.directives.DirectiveLine.TheVariants as lines;
 ghost use Rattle.asm_laying.specs.Reading.{all_capped, capped, coded, is_words, marks, most_bytes, IsTaken};
@@ -17,7 +17,7 @@ use crate::values::{literal_there, number_there, value_there};
 use asm_expr::kinds::earlier;
 use asm_model::{Boundary, DirectiveLine, Expr, PseudoLine, ThumbLine, Value, What};
 use asm_offsets::Extent;
-use asm_sight::Place;
+use asm_names::Place;
 use sdt_fault::kinds::LineKind;
 use sdt_fault::{List as Listed, NoMemory};
 use std::alloc::Global;

@@ -1,8 +1,8 @@
 //! The lines of a source, laid one behind the other.
 
 ghost use Rattle.std.specs.Prelude.{◌≡◌, ◌++◌, ◌*◌, ◌≤◌, [], ℕ, List, Ok, length, IfOk, OnOk};
-ghost use Rattle.layout_model.specs.Labels as labels;
-ghost use Rattle.layout_model.specs.Laid.{all_locals, laid_behind, pieces_of, sight_behind, Declared, LaidLine};
+ghost use Rattle.asm_model.specs.Labels as labels;
+ghost use Rattle.asm_model.specs.Laid.{all_locals, laid_behind, pieces_of, sight_behind, Declared, LaidLine};
 ghost use Rattle.said_model.specs.Said.{IsSaid, LocalSaid};
 ghost use Rattle.asm_offsets.specs.Coded.{extent_of_code, IsExtent};
 ghost use Rattle.asm_offsets.specs.Running.{IsBehind};
@@ -17,10 +17,10 @@ use crate::behind::{Behind, START};
 use crate::declarations::{Declarations, add_entry, add_imported, add_local, is_thumb_label};
 use crate::defining::{defined_by, own_entry};
 use crate::finding::{Found, Spot, find};
-use asm_locals::Locals;
+use asm_names::Locals;
 use asm_model::{LaidName, Statement};
 use asm_offsets::{Ends, Extent, TooLarge, extents_are_placeable};
-use asm_sight::KnownNames;
+use asm_names::KnownNames;
 use sdt_fault::kinds::LineKind;
 use sdt_fault::{List as Listed, NoMemory};
 use std::alloc::Global;

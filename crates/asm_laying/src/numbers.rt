@@ -3,7 +3,7 @@
 ghost use Rattle.std.specs.Prelude.{◌≡◌, ◌+◌, ◌*◌, ◌==◌, nat_lt, min};
 ghost use Rattle.std.specs.List.{list_any};
 ghost use Rattle.sdt_word.specs.Numbers.{rotated};
-ghost use Rattle.layout_model.specs.Extents as extents;
+ghost use Rattle.asm_model.specs.Extents as extents;
 ghost use Rattle.asm_laying.specs.Reading.{most_bytes};
 
 use sdt_fault::kinds::LineKind;

@@ -13,9 +13,9 @@ use Rattle.asm_offsets.specs.declared.extents.LaidPools.{LaidPools}
 use Rattle.asm_offsets.specs.Finished.{IsLaidOut, IsLaid}
 use Rattle.asm_offsets.specs.Running.{HasNone}
 use Rattle.asm_pool.specs.declared.layout.LaidArea.{LaidArea}
-use Rattle.layout_model.specs.Laid.{LaidLine, pieces_of}
-use Rattle.layout_model.specs.LayoutKinds.{is_thumb_area, first_state}
-use Rattle.layout_model.specs.Offsets.{is_of}
+use Rattle.asm_model.specs.Laid.{LaidLine, pieces_of}
+use Rattle.asm_model.specs.LayoutKinds.{is_thumb_area, first_state}
+use Rattle.asm_model.specs.Offsets.{is_of}
 use Rattle.source_model.specs.Objects.{says_area, attributes_of}
 use Rattle.asm_layout.specs.Areas.{IsMade, AreMade}
 use Rattle.asm_layout.specs.Layout.{AreAreas}

@@ -3,7 +3,7 @@ use Rattle.std.proofs.Common.{◌≡◌, ℕ, Bool, true, false, List, [], ◌�
 use Rattle.std.specs.Prelude.{◌==◌, if◌then◌else◌}
 use Rattle.sdt_fault.specs.declared.kinds.LineKind.{LineKind}
 use Rattle.asm_areas.specs.Late.{AreWhole}
-use Rattle.asm_final.specs.Source.{IsReadDefined, AreRead}
+use Rattle.asm_names.specs.Source.{IsReadDefined, AreRead}
 use Rattle.asm_model.specs.declared.directives.DirectiveLine.{DirectiveLine}
 use Rattle.asm_model.specs.declared.directives.DirectiveLine.TheVariants as line
 use Rattle.asm_model.specs.declared.statements.Statement.{Statement}
@@ -17,12 +17,12 @@ use Rattle.asm_offsets.specs.declared.extents.LaidPools.{LaidPools}
 use Rattle.asm_offsets.specs.Coded.{IsExtent}
 use Rattle.asm_offsets.specs.Finished.{AreLaid}
 use Rattle.asm_offsets.specs.Laws.{AllExtents, ExtentsArePlaceable}
-use Rattle.layout_laws.specs.Sound.{ArePlain}
-use Rattle.layout_model.specs.Extents.{Extent, extent_of}
-use Rattle.layout_model.specs.Labels.{LocalLabel, Label, number_in, field_defines, what_defines, directive_defines, labelled}
-use Rattle.layout_model.specs.Laid.{Declared, LaidLine, declared, laid, laid_of, sight_behind, taken, pieces_of, reversed, all_locals}
-use Rattle.layout_model.specs.LayoutKinds.{layout_kinds, equals_in, settled, told_at, first_fault, first_late}
-use Rattle.layout_model.specs.Locals.{Local}
+use Rattle.asm_model.specs.Sound.{ArePlain}
+use Rattle.asm_model.specs.Extents.{Extent, extent_of}
+use Rattle.asm_model.specs.Labels.{LocalLabel, Label, number_in, field_defines, what_defines, directive_defines, labelled}
+use Rattle.asm_model.specs.Laid.{Declared, LaidLine, declared, laid, laid_of, sight_behind, taken, pieces_of, reversed, all_locals}
+use Rattle.asm_model.specs.LayoutKinds.{layout_kinds, equals_in, settled, told_at, first_fault, first_late}
+use Rattle.asm_model.specs.Locals.{Local}
 use Rattle.said_model.specs.Said.{WhatSaid, AllSaid}
 use Rattle.source_model.specs.Registers.{register_names, register_kinds}
 use Rattle.source_model.specs.SourceFaults.{first_laid, layout_faults}

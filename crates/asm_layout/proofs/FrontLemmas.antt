@@ -4,8 +4,8 @@ use Rattle.std.proofs.lemmas.List.{length-drop, take-append-drop}
 use Rattle.sdt_fault.specs.declared.answer.Fault.{Fault}
 use Rattle.asm_laying.specs.Declaring.{declared_in}
 use Rattle.asm_model.specs.declared.statements.Statement.{Statement}
-use Rattle.layout_model.specs.Laid.{Declared, LaidLine, declared, laid, laid_behind, laid_of, reversed}
-use Rattle.layout_model.specs.LayoutKinds.{equals_in, settled, told_at}
+use Rattle.asm_model.specs.Laid.{Declared, LaidLine, declared, laid, laid_behind, laid_of, reversed}
+use Rattle.asm_model.specs.LayoutKinds.{equals_in, settled, told_at}
 use Rattle.source_model.specs.Registers.{register_names}
 use Rattle.source_model.specs.SourceFaults.{first_laid}
 use Rattle.asm_layout.specs.declared.outline.Outline.{Outline}

@@ -6,14 +6,14 @@ use Rattle.std.specs.List.{AllZip}
 use Rattle.sdt_fault.specs.declared.answer.Fault.{Fault}
 use Rattle.sdt_fault.specs.declared.kinds.LineKind.{LineKind}
 use Rattle.asm_areas.specs.Late.{IsStand}
-use Rattle.asm_final.specs.declared.lines.PlacedLine.{PlacedLine}
-use Rattle.asm_final.specs.Source.{AreEach}
+use Rattle.asm_names.specs.declared.lines.PlacedLine.{PlacedLine}
+use Rattle.asm_names.specs.Source.{AreEach}
 use Rattle.asm_model.specs.declared.statements.Statement.{Statement}
 use Rattle.asm_model.specs.Directives.{or_else}
 use Rattle.asm_model.specs.Kinds.{told_kind}
 use Rattle.asm_pool.specs.declared.layout.LaidStatement.{LaidStatement}
-use Rattle.layout_model.specs.Laid.{LaidLine, pieces_of, taken, reversed}
-use Rattle.layout_model.specs.LayoutKinds.{entry_kinds, literal_kinds, first_late, told_at}
+use Rattle.asm_model.specs.Laid.{LaidLine, pieces_of, taken, reversed}
+use Rattle.asm_model.specs.LayoutKinds.{entry_kinds, literal_kinds, first_late, told_at}
 use Rattle.asm_layout.specs.Layout.{IsStatement, AreStatements, IsTold}
 use Rattle.asm_layout.specs.Late.{stand_of, AreOn, IsLeft}
 use Rattle.asm_layout.specs.Lines.{IsLineOf}

@@ -2,12 +2,12 @@
 use Rattle.std.proofs.Common.{◌≡◌, ℕ, List, [], ◌∷◌, ◌++◌, map, refl, sym, ap, ◌∙◌, append_assoc}
 use Rattle.asm_model.specs.declared.exprs.Expr.{Expr}
 use Rattle.asm_model.specs.declared.statements.Statement.{Statement}
-use Rattle.asm_order.specs.declared.equals.Equal.{Equal as Code}
-use Rattle.asm_order.specs.Equals.{pairs_of}
-use Rattle.asm_order.specs.Order.{is_settled}
-use Rattle.layout_model.specs.Labels.{defined_by}
-use Rattle.layout_model.specs.Laid.{reversed}
-use Rattle.layout_model.specs.LayoutKinds.{equal_of, equals_in}
+use Rattle.asm_names.specs.declared.equals.Equal.{Equal as Code}
+use Rattle.asm_names.specs.Equals.{pairs_of}
+use Rattle.asm_names.specs.Order.{is_settled}
+use Rattle.asm_model.specs.Labels.{defined_by}
+use Rattle.asm_model.specs.Laid.{reversed}
+use Rattle.asm_model.specs.LayoutKinds.{equal_of, equals_in}
 use Rattle.asm_laying.specs.Declaring.{AllShort}
 use Rattle.said_model.specs.Said.{AllSaid}
 use Rattle.asm_layout.specs.Outline.{equals_on}

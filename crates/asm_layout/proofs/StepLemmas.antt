@@ -21,12 +21,12 @@ use Rattle.asm_model.specs.Forms.{same}
 use Rattle.asm_model.specs.Kinds.{told_kind}
 use Rattle.asm_model.specs.Meaning.{named_in}
 use Rattle.asm_model.proofs.FaultLemmas.{told_by_parts}
-use Rattle.layout_laws.specs.Sound.{IsBare}
-use Rattle.layout_model.specs.Labels.{Defined, Unnamed, LocalLabel, Label, Equal, MapField, RegisterName, defined_by}
-use Rattle.layout_model.specs.Laid.{Declared, LaidLine, laid_behind, line_behind, definition_behind, statements_of, locals_of, offset_behind}
-use Rattle.layout_model.specs.Before.{area_behind, stretch_behind}
-use Rattle.layout_model.specs.LayoutKinds.{exponent, exponent_kinds, kind_if, area_kinds, no_area_kinds, contents_kinds, contents_behind, name_kinds, settled_kinds, is_named_otherwise}
-use Rattle.layout_model.specs.Locals.{Local, local_entries, digits_of, reference, references_to, is_new, back_of, forth_of}
+use Rattle.asm_model.specs.Sound.{IsBare}
+use Rattle.asm_model.specs.Labels.{Defined, Unnamed, LocalLabel, Label, Equal, MapField, RegisterName, defined_by}
+use Rattle.asm_model.specs.Laid.{Declared, LaidLine, laid_behind, line_behind, definition_behind, statements_of, locals_of, offset_behind}
+use Rattle.asm_model.specs.Before.{area_behind, stretch_behind}
+use Rattle.asm_model.specs.LayoutKinds.{exponent, exponent_kinds, kind_if, area_kinds, no_area_kinds, contents_kinds, contents_behind, name_kinds, settled_kinds, is_named_otherwise}
+use Rattle.asm_model.specs.Locals.{Local, local_entries, digits_of, reference, references_to, is_new, back_of, forth_of}
 use Rattle.std.specs.Global.{Vec}
 use Rattle.sdt_fault.specs.declared.answer.Fault.{Fault}
 use Rattle.asm_areas.specs.declared.starts.AreaStart.{AreaStart}
@@ -39,7 +39,7 @@ use Rattle.asm_laying.specs.Laying.{IsLaying, IsLaid, IsPlaced, told_of}
 use Rattle.asm_pool.specs.declared.layout.LaidStatement.{LaidStatement}
 use Rattle.asm_registers.specs.declared.registers.Registers.{Registers}
 use Rattle.asm_registers.specs.Kept.{AreRegisters}
-use Rattle.layout_model.specs.LayoutKinds.{equal_of, told_at}
+use Rattle.asm_model.specs.LayoutKinds.{equal_of, told_at}
 use Rattle.source_model.specs.Registers.{register_kinds}
 use Rattle.asm_layout.specs.declared.walking.Judged.{Judged}
 use Rattle.asm_layout.specs.declared.walking.Walk.{Walk}

@@ -8,9 +8,9 @@ use Rattle.asm_laying.specs.Laying.{told_of}
 use Rattle.asm_model.specs.FaultSets.{first_told}
 use Rattle.asm_model.specs.Kinds.{rank, earlier, told_kind}
 use Rattle.asm_model.proofs.FaultLemmas.{takes, stays, first_assoc, told_by_parts}
-use Rattle.layout_model.specs.Labels.{defined_by}
-use Rattle.layout_model.specs.Laid.{LaidLine, statements_of}
-use Rattle.layout_model.specs.LayoutKinds.{fault_kinds, map_kinds, no_area_kinds, contents_kinds, contents_behind, area_kinds, name_kinds, settled_kinds, kind_if, area_bytes}
+use Rattle.asm_model.specs.Labels.{defined_by}
+use Rattle.asm_model.specs.Laid.{LaidLine, statements_of}
+use Rattle.asm_model.specs.LayoutKinds.{fault_kinds, map_kinds, no_area_kinds, contents_kinds, contents_behind, area_kinds, name_kinds, settled_kinds, kind_if, area_bytes}
 use Rattle.source_model.specs.Registers.{register_kinds}
 use Rattle.asm_layout.specs.Walking.{told_by}
 

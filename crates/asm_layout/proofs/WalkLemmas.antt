@@ -8,12 +8,12 @@ use Rattle.asm_laying.specs.Declaring.{declared_in}
 use Rattle.asm_laying.specs.Laying.{IsLaying, MayLay}
 use Rattle.asm_model.specs.declared.exprs.Expr.{Expr}
 use Rattle.asm_model.specs.declared.statements.Statement.{Statement}
-use Rattle.asm_order.specs.Order.{is_settled}
+use Rattle.asm_names.specs.Order.{is_settled}
 use Rattle.layout_laws.proofs.ForthLemmas.{length_kept}
 use Rattle.layout_laws.proofs.SoundLemmas.{statements_kept}
-use Rattle.layout_model.specs.Labels.{Defined, Unnamed, LocalLabel, Label, Equal, MapField, RegisterName, defined_by}
-use Rattle.layout_model.specs.Laid.{Declared, LaidLine, declared, laid_behind, laid_of, reversed}
-use Rattle.layout_model.specs.LayoutKinds.{equal_of, equals_in, settled}
+use Rattle.asm_model.specs.Labels.{Defined, Unnamed, LocalLabel, Label, Equal, MapField, RegisterName, defined_by}
+use Rattle.asm_model.specs.Laid.{Declared, LaidLine, declared, laid_behind, laid_of, reversed}
+use Rattle.asm_model.specs.LayoutKinds.{equal_of, equals_in, settled}
 use Rattle.said_model.specs.Said.{IsSaid, AllSaid}
 use Rattle.source_model.specs.Registers.{register_names}
 use Rattle.source_model.specs.SourceFaults.{first_laid}

@@ -4,11 +4,11 @@ use Rattle.asm_model.specs.declared.names.LaidName.{LaidName}
 use Rattle.asm_model.specs.declared.statements.Statement.{Statement}
 use Rattle.asm_model.specs.Meaning.{named_in}
 use Rattle.asm_pool.specs.declared.layout.LaidStatement.{LaidStatement}
-use Rattle.asm_final.specs.Source.{AreRead}
-use Rattle.layout_laws.specs.Sound.{IsSound, ArePlain}
-use Rattle.layout_model.specs.Labels.{declared_names}
-use Rattle.layout_model.specs.Laid.{laid, all_locals}
-use Rattle.layout_model.specs.Locals.{Local}
+use Rattle.asm_names.specs.Source.{AreRead}
+use Rattle.asm_model.specs.Sound.{IsSound, ArePlain}
+use Rattle.asm_model.specs.Labels.{declared_names}
+use Rattle.asm_model.specs.Laid.{laid, all_locals}
+use Rattle.asm_model.specs.Locals.{Local}
 use Rattle.said_model.specs.Said.{AllSaid}
 use Rattle.asm_layout.specs.declared.outline.Outline.{Outline}
 use Rattle.asm_layout.specs.declared.walking.Walk.{Walk}

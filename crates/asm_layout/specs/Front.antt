@@ -3,8 +3,8 @@
 use Rattle.std.specs.Prelude.{ℕ, ◌-◌, List, drop, length, Option}
 use Rattle.sdt_fault.specs.declared.kinds.LineKind.{LineKind}
 use Rattle.asm_model.specs.declared.statements.Statement.{Statement}
-use Rattle.layout_model.specs.Laid.{LaidLine, laid}
-use Rattle.layout_model.specs.LayoutKinds.{equals_in, settled}
+use Rattle.asm_model.specs.Laid.{LaidLine, laid}
+use Rattle.asm_model.specs.LayoutKinds.{equals_in, settled}
 use Rattle.source_model.specs.Registers.{register_names}
 use Rattle.source_model.specs.SourceFaults.{first_laid}
 

@@ -12,11 +12,11 @@ use Rattle.asm_pool.specs.declared.layout.Layout.{Layout}
 use Rattle.asm_pool.specs.Pooled.{flushed}
 use Rattle.asm_laying.specs.Reading.{string_marks}
 use Rattle.asm_offsets.specs.Running.{entry_behind, pools_behind}
-use Rattle.layout_model.specs.Before.{areas_behind, stretch_behind, is_thumb_label}
-use Rattle.layout_model.specs.Extents.{Pool}
-use Rattle.layout_model.specs.Laid.{LaidLine, statements_of, taken, pieces_of, map_behind, laid, final_names}
-use Rattle.layout_model.specs.LayoutKinds.{is_thumb_area}
-use Rattle.layout_model.specs.Offsets.{area_size, start_in}
+use Rattle.asm_model.specs.Before.{areas_behind, stretch_behind, is_thumb_label}
+use Rattle.asm_model.specs.Extents.{Pool}
+use Rattle.asm_model.specs.Laid.{LaidLine, statements_of, taken, pieces_of, map_behind, laid, final_names}
+use Rattle.asm_model.specs.LayoutKinds.{is_thumb_area}
+use Rattle.asm_model.specs.Offsets.{area_size, start_in}
 use Rattle.source_model.specs.Objects.{attributes_of}
 use Rattle.source_model.specs.SourceFaults.{layout_faults}
 

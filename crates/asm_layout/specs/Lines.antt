@@ -1,7 +1,7 @@
 -- Laid lines, as names and values are made of them. This project's.
 use Rattle.std.specs.Prelude.{◌≡◌, List}
 use Rattle.std.specs.List.{AllZip}
-use Rattle.asm_final.specs.declared.lines.PlacedLine.{PlacedLine}
+use Rattle.asm_names.specs.declared.lines.PlacedLine.{PlacedLine}
 use Rattle.asm_pool.specs.declared.layout.LaidStatement.{LaidStatement}
 
 pub record IsLineOf (x : LaidStatement) (y : PlacedLine) : Type 0 where

@@ -3,10 +3,10 @@ use Rattle.std.specs.Prelude.{◌≡◌, ℕ, List, [], ◌∷◌, ◌++◌, map
 use Rattle.asm_model.specs.declared.exprs.Expr.{Expr}
 use Rattle.asm_model.specs.declared.statements.Statement.{Statement}
 use Rattle.asm_laying.specs.Declaring.{declared_in}
-use Rattle.asm_order.specs.Order.{is_settled}
-use Rattle.layout_model.specs.Labels.{defined_by}
-use Rattle.layout_model.specs.Laid.{declared}
-use Rattle.layout_model.specs.LayoutKinds.{equal_of, equals_in}
+use Rattle.asm_names.specs.Order.{is_settled}
+use Rattle.asm_model.specs.Labels.{defined_by}
+use Rattle.asm_model.specs.Laid.{declared}
+use Rattle.asm_model.specs.LayoutKinds.{equal_of, equals_in}
 use Rattle.asm_layout.specs.declared.outline.Outline.{Outline}
 
 -- the names for expressions of statements in the order of the source

@@ -13,9 +13,9 @@ use Rattle.asm_checks.specs.Checked.{checked_kinds, IsChecked}
 use Rattle.asm_laying.specs.declared.laying.Placed.{Placed}
 use Rattle.asm_laying.specs.Laying.{IsLaying, Tells}
 use Rattle.asm_registers.specs.Kept.{AreRegisters}
-use Rattle.layout_model.specs.Labels.{Defined, Equal, defined_by}
-use Rattle.layout_model.specs.Laid.{Declared, LaidLine, declared, statements_of, laid, laid_of, reversed}
-use Rattle.layout_model.specs.LayoutKinds.{layout_kinds, equals_in, settled, told_at}
+use Rattle.asm_model.specs.Labels.{Defined, Equal, defined_by}
+use Rattle.asm_model.specs.Laid.{Declared, LaidLine, declared, statements_of, laid, laid_of, reversed}
+use Rattle.asm_model.specs.LayoutKinds.{layout_kinds, equals_in, settled, told_at}
 use Rattle.source_model.specs.Registers.{register_names, register_kinds}
 use Rattle.source_model.specs.SourceFaults.{first_laid}
 use Rattle.asm_layout.specs.declared.walking.Judged.{Judged}

@@ -2,7 +2,7 @@
 
 ghost use Rattle.std.specs.Prelude.{◌≡◌, ◌+◌, ◌*◌, ◌^◌, ◌<◌, List, IfOk};
 ghost use Rattle.sdt_word.specs.Numbers.{flag};
-ghost use Rattle.layout_model.specs.Laid.{LaidLine};
+ghost use Rattle.asm_model.specs.Laid.{LaidLine};
 ghost use Rattle.asm_areas.specs.Late.{is_true, AreWhole};
 ghost use Rattle.asm_layout.specs.Layout.{AreAreas};
 

@@ -1,7 +1,7 @@
 //! The layout of a source whose lines have no fault of their own.
 
 ghost use Rattle.std.specs.Prelude.{◌≡◌, List, IfOk};
-ghost use Rattle.layout_model.specs.Laid as laid_model;
+ghost use Rattle.asm_model.specs.Laid as laid_model;
 ghost use Rattle.asm_model.specs.declared.statements.Statement.{Statement};
 ghost use Rattle.asm_layout.specs.Layout.{IsOutcome};
 ghost use Rattle.asm_layout.specs.Finishing.{IsNamed, IsWhole};
@@ -11,12 +11,12 @@ use crate::late::cleared;
 use crate::lines::lines_of;
 use crate::outline::Outline;
 use crate::walking::Walk;
-use asm_final::final_names;
+use asm_names::final_names;
 use asm_laying::laying::Ended;
-use asm_locals::Locals;
+use asm_names::Locals;
 use asm_offsets::extents_are_placeable;
 use asm_pool::{LaidStatement, Layout};
-use asm_sight::KnownNames;
+use asm_names::KnownNames;
 use sdt_fault::answer::Fault;
 use sdt_fault::{List as Listed, NoMemory};
 use std::alloc::Global;

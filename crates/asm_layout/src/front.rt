@@ -1,7 +1,7 @@
 //! The first lines of a source.
 
 ghost use Rattle.std.specs.Prelude.{◌+◌, ◌<◌, [], length};
-ghost use Rattle.layout_model.specs.Laid.{reversed};
+ghost use Rattle.asm_model.specs.Laid.{reversed};
 ghost use Rattle.said_model.specs.Said.{AllSaid};
 ghost use Rattle.asm_laying.specs.Behind.{most_statements};
 ghost use Rattle.asm_layout.specs.Front.{front_laid};

@@ -1,8 +1,8 @@
 //! Faults of lines that need the whole layout.
 
 ghost use Rattle.std.specs.Prelude.{◌≡◌, [], ℕ, List, None};
-ghost use Rattle.layout_model.specs.Laid.{reversed, LaidLine};
-ghost use Rattle.layout_model.specs.LayoutKinds.{first_late};
+ghost use Rattle.asm_model.specs.Laid.{reversed, LaidLine};
+ghost use Rattle.asm_model.specs.LayoutKinds.{first_late};
 ghost use Rattle.asm_areas.specs.Late.{AreWhole};
 ghost use Rattle.asm_layout.specs.Layout.{AreStatements};
 ghost use Rattle.asm_layout.specs.Late as late;

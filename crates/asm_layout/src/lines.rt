@@ -1,12 +1,12 @@
 //! Laid lines, as names and values are made of them.
 
 ghost use Rattle.std.specs.Prelude.{◌≡◌, List, map, IfOk};
-ghost use Rattle.layout_model.specs.Laid.{LaidLine};
-ghost use Rattle.asm_final.specs.Source.{AreEach};
+ghost use Rattle.asm_model.specs.Laid.{LaidLine};
+ghost use Rattle.asm_names.specs.Source.{AreEach};
 ghost use Rattle.asm_layout.specs.Layout.{AreStatements};
 ghost use Rattle.asm_layout.specs.Lines.{IsLineOf};
 
-use asm_final::PlacedLine;
+use asm_names::PlacedLine;
 use asm_pool::LaidStatement;
 use sdt_fault::NoMemory;
 use std::alloc::Global;

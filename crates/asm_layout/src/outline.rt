@@ -1,19 +1,19 @@
 //! What laying a line needs to know of the whole source.
 
 ghost use Rattle.std.specs.Prelude.{◌≡◌, ◌+◌, ◌++◌, ◌<◌, [], length, map, IfOk, OnOk};
-ghost use Rattle.layout_model.specs.Labels as labels;
-ghost use Rattle.layout_model.specs.Laid.{reversed};
-ghost use Rattle.layout_model.specs.LayoutKinds as layout;
+ghost use Rattle.asm_model.specs.Labels as labels;
+ghost use Rattle.asm_model.specs.Laid.{reversed};
+ghost use Rattle.asm_model.specs.LayoutKinds as layout;
 ghost use Rattle.said_model.specs.Said.{AllSaid, LocalSaid};
 ghost use Rattle.asm_laying.specs.Behind.{most_statements};
-ghost use Rattle.asm_order.specs.Equals.{pairs_of};
-ghost use Rattle.asm_order.specs.Order.{is_settled};
+ghost use Rattle.asm_names.specs.Equals.{pairs_of};
+ghost use Rattle.asm_names.specs.Order.{is_settled};
 ghost use Rattle.asm_layout.specs.Outline.{equals_on, IsOutline};
 
 use asm_laying::declarations::{Declarations, declare};
 use asm_laying::defining::{Defines, defined_by};
 use asm_model::Statement;
-use asm_order::{Equal, order_of};
+use asm_names::{Equal, order_of};
 use sdt_fault::NoMemory;
 use std::alloc::Global;
 

@@ -1,8 +1,8 @@
 //! The lines of a source, laid and judged one behind the other.
 
 ghost use Rattle.std.specs.Prelude.{◌≡◌, ◌∷◌, ◌+◌, ◌<◌, [], ℕ, List, Bool, Some, length, IfOk, OnOk};
-ghost use Rattle.layout_model.specs.Labels as labels;
-ghost use Rattle.layout_model.specs.Laid.{laid_behind, reversed, Declared, LaidLine};
+ghost use Rattle.asm_model.specs.Labels as labels;
+ghost use Rattle.asm_model.specs.Laid.{laid_behind, reversed, Declared, LaidLine};
 ghost use Rattle.said_model.specs.Said.{AllSaid, IsSaid, LocalSaid};
 ghost use Rattle.asm_laying.specs.Behind.{most_statements};
 ghost use Rattle.asm_laying.specs.Declaring.{declared_in};

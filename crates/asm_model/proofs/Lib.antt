@@ -5,3 +5,15 @@ pub mod LineRows
 pub mod Rows
 pub mod ToldLemmas
 pub mod WordLemmas
+pub mod EntryLemmas
+pub mod ExtentLemmas
+pub mod ImmediateLemmas
+pub mod KindRows
+pub mod LaidLemmas
+pub mod LaidRows
+pub mod NameLemmas
+pub mod OffsetLemmas
+pub mod OffsetRows
+pub mod PlacedLemmas
+pub mod PlacingLemmas
+pub mod TreeLemmas

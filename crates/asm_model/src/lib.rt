@@ -1,5 +1,7 @@
 //! The assembler's language: lines, tokens, expressions and values, and what lines say, with their definitions in
 //! `specs/`.
+//! Where the statements of a source stand: sizes, alignments and offsets in their areas, pools of literals, and what
+//! becomes of values when areas are placed.
 #![tactic(auto)]
 
 pub mod arm_lines;
@@ -15,6 +17,7 @@ pub mod thumb_lines;
 pub mod tokens;
 pub mod values;
 pub mod words;
+pub mod layout_laws_;
 
 pub use crate::arm_lines::ArmLine;
 pub use crate::directives::{

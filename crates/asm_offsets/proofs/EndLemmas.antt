@@ -6,8 +6,8 @@ use Rattle.sdt_fault.specs.declared.NoMemory.{NoMemory}
 use Rattle.asm_offsets.specs.declared.extents.Placed.{Placed}
 use Rattle.asm_offsets.specs.declared.extents.TooLarge.{TooLarge}
 use Rattle.asm_pool.specs.Pooled.{flushed}
-use Rattle.layout_model.specs.Extents.{Extent, Pool}
-use Rattle.layout_model.specs.Offsets.{Piece, is_of, raised, waiting, waiting_behind, start_from, end_from, start_in, end_behind, size_of}
+use Rattle.asm_model.specs.Extents.{Extent, Pool}
+use Rattle.asm_model.specs.Offsets.{Piece, is_of, raised, waiting, waiting_behind, start_from, end_from, start_in, end_behind, size_of}
 use Rattle.asm_offsets.specs.Coded.{IsExtent}
 use Rattle.asm_offsets.specs.Running.{Standing, nothing, pools_from, entry_in, moved, pools_behind, HasNone, StandsBehind, IsStanding, IsBehind, piece, Places}
 use Rattle.asm_offsets.specs.Steps.{Steps}

@@ -17,9 +17,9 @@ use Rattle.asm_model.specs.declared.directives.DirectiveLine.{DirectiveLine}
 use Rattle.asm_model.specs.declared.directives.DirectiveLine.TheVariants as line
 use Rattle.asm_model.specs.AtLine.{Sight}
 use Rattle.asm_model.specs.Says.{on_both, mapped}
-use Rattle.layout_model.specs.Extents.{Extent, Block, Padding, Loading, Pool, number_there, literal_there, is_moved, is_power, loading, thumb_extent, pseudo_extent, as_multiple, padding, directive_extent, extent_of}
-use Rattle.layout_model.specs.OffsetLaws.{IsLiteral}
-use Rattle.layout_model.proofs.LaidLemmas.{loadings_are_literals}
+use Rattle.asm_model.specs.Extents.{Extent, Block, Padding, Loading, Pool, number_there, literal_there, is_moved, is_power, loading, thumb_extent, pseudo_extent, as_multiple, padding, directive_extent, extent_of}
+use Rattle.asm_model.specs.OffsetLaws.{IsLiteral}
+use Rattle.asm_model.proofs.LaidLemmas.{loadings_are_literals}
 use Rattle.asm_offsets.specs.Coded.{IsAlignment, IsExtent}
 use Rattle.asm_offsets.specs.Laws.{ExtentsArePlaceable}
 

@@ -7,10 +7,10 @@ use Rattle.asm_model.specs.declared.values.Value.TheVariants.{Number, Truth, Wor
 use Rattle.asm_model.specs.Forms.{same}
 use Rattle.asm_pool.specs.Pooled as pool
 use Rattle.asm_pool.specs.Pooled.{Pooled}
-use Rattle.layout_model.specs.Extents.{Extent, Block, Padding, Loading, Pool}
-use Rattle.layout_model.specs.Offsets.{same_literal, noted, waiting_behind, place_among, lacking, alignment_of, start_from, size_of}
-use Rattle.layout_model.specs.OffsetLaws.{IsLiteral}
-use Rattle.layout_model.proofs.OffsetLemmas.{same_itself, more}
+use Rattle.asm_model.specs.Extents.{Extent, Block, Padding, Loading, Pool}
+use Rattle.asm_model.specs.Offsets.{same_literal, noted, waiting_behind, place_among, lacking, alignment_of, start_from, size_of}
+use Rattle.asm_model.specs.OffsetLaws.{IsLiteral}
+use Rattle.asm_model.proofs.OffsetLemmas.{same_itself, more}
 use Rattle.asm_offsets.specs.Coded.{IsExtent}
 use Rattle.asm_offsets.specs.Running.{pools_from}
 use Rattle.asm_offsets.specs.Steps.{IsLow}

@@ -7,10 +7,10 @@ use Rattle.asm_model.specs.declared.values.Value.{Value}
 use Rattle.asm_pool.specs.Pooled as pool
 use Rattle.asm_pool.specs.Pooled.{Pooled, flushed, place_of}
 use Rattle.asm_pool.proofs.LawLemmas.{pool_law}
-use Rattle.layout_model.specs.Extents.{Extent, Block, Padding, Loading, Pool}
-use Rattle.layout_model.specs.Offsets.{Piece, is_of, same_literal, noted, waiting_behind, waiting, start_in, place_among, word_behind, is_pool, is_pool_of, literal_word}
-use Rattle.layout_model.specs.OffsetLaws.{joined, IsLiteral}
-use Rattle.layout_model.proofs.OffsetLemmas.{noted_waits, behind_keeps, place_below, is_here}
+use Rattle.asm_model.specs.Extents.{Extent, Block, Padding, Loading, Pool}
+use Rattle.asm_model.specs.Offsets.{Piece, is_of, same_literal, noted, waiting_behind, waiting, start_in, place_among, word_behind, is_pool, is_pool_of, literal_word}
+use Rattle.asm_model.specs.OffsetLaws.{joined, IsLiteral}
+use Rattle.asm_model.proofs.OffsetLemmas.{noted_waits, behind_keeps, place_below, is_here}
 use Rattle.asm_offsets.specs.Coded.{IsExtent}
 use Rattle.asm_offsets.specs.Running.{pools_from, pools_behind}
 use Rattle.asm_offsets.specs.Laws.{AllExtents, LiteralsArePlaced}

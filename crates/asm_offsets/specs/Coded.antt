@@ -3,8 +3,8 @@ use Rattle.std.specs.Prelude.{ℕ, ◌≤◌}
 use Rattle.asm_model.specs.declared.values.Value.{Value}
 use Rattle.asm_offsets.specs.declared.extents.Extent.{Extent as Code}
 use Rattle.asm_offsets.specs.declared.extents.Extent.TheVariants as code
-use Rattle.layout_model.specs.Extents.{Extent, Block, Padding, Loading, Pool}
-use Rattle.layout_model.specs.OffsetLaws.{IsLiteral}
+use Rattle.asm_model.specs.Extents.{Extent, Block, Padding, Loading, Pool}
+use Rattle.asm_model.specs.OffsetLaws.{IsLiteral}
 
 abbrev pub extent_of_code : Code → Extent
 extent_of_code (code.Block alignment bytes) = Block alignment bytes

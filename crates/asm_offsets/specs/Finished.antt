@@ -4,8 +4,8 @@ use Rattle.std.specs.Prelude.{◌≡◌, ℕ, List, Option, Some, None, slice_ge
 use Rattle.asm_offsets.specs.declared.extents.LaidPools.{LaidPools}
 use Rattle.asm_offsets.specs.Running.{Standing, HasNone, pools_behind}
 use Rattle.asm_pool.specs.Pooled.{flushed}
-use Rattle.layout_model.specs.Extents.{Pool}
-use Rattle.layout_model.specs.Offsets.{Piece, raised, start_from, end_from, start_in, area_size}
+use Rattle.asm_model.specs.Extents.{Pool}
+use Rattle.asm_model.specs.Offsets.{Piece, raised, start_from, end_from, start_in, area_size}
 
 -- an area with the pool at its end
 abbrev pub finished : Standing → LaidPools

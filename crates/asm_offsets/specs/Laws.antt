@@ -6,9 +6,9 @@ use Rattle.asm_model.specs.AtLine.{Sight}
 use Rattle.asm_offsets.specs.Coded.{IsExtent}
 use Rattle.asm_offsets.specs.Running.{pools_behind}
 use Rattle.asm_pool.specs.Pooled.{noted, flushed, place_of}
-use Rattle.layout_model.specs.Extents.{Extent, Loading, Pool, extent_of}
-use Rattle.layout_model.specs.Offsets.{Piece, start_in, literal_word}
-use Rattle.layout_model.specs.OffsetLaws.{joined}
+use Rattle.asm_model.specs.Extents.{Extent, Loading, Pool, extent_of}
+use Rattle.asm_model.specs.Offsets.{Piece, start_in, literal_word}
+use Rattle.asm_model.specs.OffsetLaws.{joined}
 
 -- what statements take up can be placed
 abbrev pub ExtentsArePlaceable : Type 0

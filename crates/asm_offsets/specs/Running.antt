@@ -6,8 +6,8 @@ use Rattle.sdt_fault.specs.declared.NoMemory.{NoMemory}
 use Rattle.asm_offsets.specs.declared.extents.Placed.{Placed}
 use Rattle.asm_offsets.specs.declared.extents.TooLarge.{TooLarge}
 use Rattle.asm_pool.specs.Pooled.{Pooled, noted, flushed}
-use Rattle.layout_model.specs.Extents.{Extent, Loading, Pool, pool_alignment}
-use Rattle.layout_model.specs.Offsets.{Piece, is_of, raised, waiting, start_from, end_from, start_in, end_behind, offset_of, size_behind}
+use Rattle.asm_model.specs.Extents.{Extent, Loading, Pool, pool_alignment}
+use Rattle.asm_model.specs.Offsets.{Piece, is_of, raised, waiting, start_from, end_from, start_in, end_behind, offset_of, size_behind}
 
 -- ---- an area
 

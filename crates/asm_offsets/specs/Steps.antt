@@ -6,8 +6,8 @@ use Rattle.asm_offsets.specs.declared.extents.Placed.{Placed}
 use Rattle.asm_offsets.specs.declared.extents.TooLarge.{TooLarge}
 use Rattle.asm_offsets.specs.Running.{Standing, entry_in, pools_from, moved}
 use Rattle.asm_pool.specs.Pooled.{Pooled}
-use Rattle.layout_model.specs.Extents.{Extent, Loading, Pool, pool_alignment}
-use Rattle.layout_model.specs.Offsets.{start_from, size_of}
+use Rattle.asm_model.specs.Extents.{Extent, Loading, Pool, pool_alignment}
+use Rattle.asm_model.specs.Offsets.{start_from, size_of}
 
 -- an area ends at 2^24 at the most, and each entry of its pools has taken a byte at least
 pub record IsLow (end : ℕ) (pools : Pooled) : Type 0 where

@@ -1,8 +1,8 @@
 //! One area: its end, and its pools.
 
 ghost use Rattle.std.specs.Prelude.{◌≡◌, ◌≤◌, ◌%◌, ◌^◌, IfOk, OnOk, OnErr};
-ghost use Rattle.layout_model.specs.Extents.{pool_alignment as aligned_for};
-ghost use Rattle.layout_model.specs.Offsets as offsets;
+ghost use Rattle.asm_model.specs.Extents.{pool_alignment as aligned_for};
+ghost use Rattle.asm_model.specs.Offsets as offsets;
 ghost use Rattle.asm_offsets.specs.Coded.{extent_of_code, IsExtent};
 ghost use Rattle.asm_pool.specs.Pooled.{flushed};
 ghost use Rattle.asm_offsets.specs.Finished.{finished};

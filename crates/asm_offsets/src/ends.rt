@@ -1,7 +1,7 @@
 //! The areas of a source, each behind the statements that are placed in it.
 
 ghost use Rattle.std.specs.Prelude.{◌≡◌, ◌≤◌, ◌++◌, ◌∷◌, [], List, map, length, IfOk, OnOk, OnErr};
-ghost use Rattle.layout_model.specs.Offsets.{Piece};
+ghost use Rattle.asm_model.specs.Offsets.{Piece};
 ghost use Rattle.asm_offsets.specs.Coded.{extent_of_code, IsExtent, IsAlignment};
 ghost use Rattle.asm_offsets.specs.Finished.{finished, AreLaid};
 ghost use Rattle.asm_offsets.specs.Running.{nothing, pool_alignment_behind, start_behind, IsBehind, IsThere, Keeps, Places};

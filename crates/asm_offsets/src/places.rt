@@ -1,8 +1,8 @@
 //! Offsets and sizes behind an end.
 
 ghost use Rattle.std.specs.Prelude.{◌≡◌, ◌≤◌, ◌+◌, ◌^◌, length};
-ghost use Rattle.layout_model.specs.Extents.{pool_alignment as aligned_for};
-ghost use Rattle.layout_model.specs.Offsets as offsets;
+ghost use Rattle.asm_model.specs.Extents.{pool_alignment as aligned_for};
+ghost use Rattle.asm_model.specs.Offsets as offsets;
 ghost use Rattle.asm_offsets.specs.Coded.{extent_of_code, IsExtent};
 
 use crate::extents::Extent;

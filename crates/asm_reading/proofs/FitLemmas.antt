@@ -6,9 +6,9 @@ use Rattle.asm_model.specs.declared.statements.Statement.{Statement}
 use Rattle.asm_model.specs.declared.statements.What.{What}
 use Rattle.asm_model.specs.declared.statements.What.TheVariants as what
 use Rattle.asm_said.specs.Laws.{LinesAreFit, LinesAreNamed, LinesAreSaid, LinesHaveTexts, LoadsAreNamed}
-use Rattle.layout_model.specs.Labels.{defined_by, imported_in}
-use Rattle.layout_model.specs.Laid.{reversed}
-use Rattle.layout_model.specs.PlacedLines.{HasName, HasImport, AllNamed}
+use Rattle.asm_model.specs.Labels.{defined_by, imported_in}
+use Rattle.asm_model.specs.Laid.{reversed}
+use Rattle.asm_model.specs.PlacedLines.{HasName, HasImport, AllNamed}
 use Rattle.said_model.specs.Fit.{IsFit, AllFit}
 use Rattle.said_model.specs.Named.{LoadNamed, AllLoadsNamed}
 use Rattle.said_model.specs.Said.{IsSaid, AllSaid, HasTexts, AllHaveTexts}

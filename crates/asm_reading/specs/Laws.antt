@@ -2,8 +2,8 @@
 use Rattle.std.specs.Prelude.{◌≡◌, List, []}
 use Rattle.asm_model.specs.declared.lines.Flat.{Flat}
 use Rattle.asm_model.specs.declared.statements.Statement.{Statement}
-use Rattle.layout_model.specs.Laid.{reversed}
-use Rattle.layout_model.specs.PlacedLines.{AllNamed}
+use Rattle.asm_model.specs.Laid.{reversed}
+use Rattle.asm_model.specs.PlacedLines.{AllNamed}
 use Rattle.said_model.specs.Fit.{AllFit}
 use Rattle.said_model.specs.Named.{AllLoadsNamed}
 use Rattle.said_model.specs.Said.{AllSaid, AllHaveTexts}

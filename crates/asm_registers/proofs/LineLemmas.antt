@@ -19,10 +19,10 @@ use Rattle.asm_model.specs.FaultSets.{first_told}
 use Rattle.asm_model.specs.Forms.{same}
 use Rattle.asm_model.specs.Kinds.{told_kind}
 use Rattle.asm_model.proofs.FaultLemmas.{told_by_parts}
-use Rattle.layout_laws.specs.Sound.{IsBare}
-use Rattle.layout_model.specs.Labels.{defined_by}
-use Rattle.layout_model.specs.Laid.{LaidLine, reversed}
-use Rattle.layout_model.specs.LayoutKinds.{kind_if}
+use Rattle.asm_model.specs.Sound.{IsBare}
+use Rattle.asm_model.specs.Labels.{defined_by}
+use Rattle.asm_model.specs.Laid.{LaidLine, reversed}
+use Rattle.asm_model.specs.LayoutKinds.{kind_if}
 use Rattle.said_model.specs.Said.{IsSaid}
 use Rattle.source_model.specs.Registers.{Named, register_in, named_by, register_names, registers_behind, registers_of, kinds_unless, name_kinds, names_kinds, number_of, range_kinds, is_pc, operand_kinds, given_kinds, register_kinds}
 use Rattle.asm_registers.specs.declared.registers.Registers.{Registers}

@@ -19,9 +19,9 @@ use Rattle.sdt_fault.specs.declared.kinds.LineKind.{LineKind}
 use Rattle.asm_model.specs.declared.statements.Statement.{Statement}
 use Rattle.asm_model.specs.Forms.{same}
 use Rattle.asm_model.proofs.WordLemmas.{same_refl, same_true}
-use Rattle.layout_model.specs.Labels.{defined_by}
-use Rattle.layout_model.specs.Laid.{reversed}
-use Rattle.layout_model.specs.LayoutKinds.{listed}
+use Rattle.asm_model.specs.Labels.{defined_by}
+use Rattle.asm_model.specs.Laid.{reversed}
+use Rattle.asm_model.specs.LayoutKinds.{listed}
 use Rattle.source_model.specs.Registers.{Named, register_in, with_register, register_name, register_names}
 use Rattle.asm_registers.specs.Giving.{AreNames}
 

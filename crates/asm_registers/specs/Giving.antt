@@ -11,7 +11,7 @@ use Rattle.asm_model.specs.declared.statements.What.{What}
 use Rattle.asm_model.specs.declared.statements.What.TheVariants as what
 use Rattle.asm_model.specs.AtLine.{Sight}
 use Rattle.asm_model.specs.Forms.{same}
-use Rattle.layout_model.specs.Extents.{number_there}
+use Rattle.asm_model.specs.Extents.{number_there}
 use Rattle.source_model.specs.Registers.{as_register, register_names}
 
 -- the number of RN's expression, by what its line sees; of other statements nothing is said

@@ -11,8 +11,8 @@ use Rattle.asm_model.specs.declared.names.LaidName.{LaidName}
 use Rattle.asm_model.specs.declared.statements.Statement.{Statement}
 use Rattle.asm_model.specs.AtLine.{is_in}
 use Rattle.asm_model.specs.Forms.{same}
-use Rattle.layout_laws.specs.Sound.{IsBare}
-use Rattle.layout_model.specs.Laid.{LaidLine}
+use Rattle.asm_model.specs.Sound.{IsBare}
+use Rattle.asm_model.specs.Laid.{LaidLine}
 use Rattle.source_model.specs.Registers.{register_in, registers_behind}
 use Rattle.asm_registers.specs.declared.registers.Registers.{Registers}
 use Rattle.asm_registers.specs.Giving.{IsGiven}

@@ -6,9 +6,9 @@ ghost use Rattle.std.specs.Option.{option_copied};
 ghost use Rattle.asm_model.specs.AtLine.{Sight};
 ghost use Rattle.asm_model.specs.Forms.{same};
 ghost use Rattle.asm_model.specs.Kinds.{told_kind};
-ghost use Rattle.layout_model.specs.Labels.{defined_by};
-ghost use Rattle.layout_model.specs.LayoutKinds.{fault_kinds, listed};
-ghost use Rattle.layout_model.specs.Laid.{reversed};
+ghost use Rattle.asm_model.specs.Labels.{defined_by};
+ghost use Rattle.asm_model.specs.LayoutKinds.{fault_kinds, listed};
+ghost use Rattle.asm_model.specs.Laid.{reversed};
 ghost use Rattle.source_model.specs.Registers as registers;
 ghost use Rattle.asm_registers.specs.Giving.{given_by, AreNames, IsGiven};
 

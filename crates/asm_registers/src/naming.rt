@@ -11,7 +11,7 @@ ghost use Rattle.asm_registers.specs.Scoped.{told_of};
 use crate::numbers::register_in;
 use crate::told::first_told;
 use asm_model::Register;
-use asm_sight::KnownNames;
+use asm_names::KnownNames;
 use sdt_fault::Text;
 use sdt_fault::kinds::LineKind;
 use std::collections::{BTreeMap, BTreeSet};

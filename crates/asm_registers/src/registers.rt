@@ -2,7 +2,7 @@
 
 ghost use Rattle.std.specs.Prelude.{◌≡◌, ◌∷◌, [], ℕ, List, None, IfOk};
 ghost use Rattle.asm_model.specs.Kinds.{told_kind};
-ghost use Rattle.layout_model.specs.Laid.{LaidLine, reversed};
+ghost use Rattle.asm_model.specs.Laid.{LaidLine, reversed};
 ghost use Rattle.said_model.specs.Said.{IsSaid};
 ghost use Rattle.source_model.specs.Registers as registers;
 ghost use Rattle.asm_registers.specs.Kept.{AreRegisters, IsLine};
@@ -13,7 +13,7 @@ use crate::naming::Scope;
 use crate::numbers::number_of;
 use crate::told::first_told;
 use asm_model::{Register, Statement};
-use asm_sight::KnownNames;
+use asm_names::KnownNames;
 use sdt_fault::kinds::LineKind;
 use sdt_fault::{NoMemory, Text};
 use std::alloc::Global;

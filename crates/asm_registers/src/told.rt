@@ -3,7 +3,7 @@
 ghost use Rattle.std.specs.Prelude.{◌≡◌, Result};
 ghost use Rattle.asm_model.specs.FaultSets as sets;
 ghost use Rattle.asm_model.specs.Kinds.{told_kind};
-ghost use Rattle.layout_model.specs.LayoutKinds as layout;
+ghost use Rattle.asm_model.specs.LayoutKinds as layout;
 
 use asm_expr::kinds::earlier;
 use sdt_fault::kinds::LineKind;

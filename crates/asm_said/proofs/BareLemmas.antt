@@ -14,8 +14,8 @@ use Rattle.asm_model.specs.declared.values.Value.TheVariants.{Number}
 use Rattle.asm_model.specs.Grammar.{Tree, postfix, plain, operand_of, Spells, operand, of_name, before, grouped, between, tighter, ParsesTokens}
 use Rattle.asm_model.specs.Parts.{part_of, part_of_kind, number_value, braced_part, worded_part, plain_part, piece}
 use Rattle.asm_model.specs.Says.{between_bars}
-use Rattle.layout_model.specs.PlacedLines.{IsName}
-use Rattle.layout_laws.specs.Sound.{IsBare, HaveNoPlaces}
+use Rattle.asm_model.specs.PlacedLines.{IsName}
+use Rattle.asm_model.specs.Sound.{IsBare, HaveNoPlaces}
 use Rattle.layout_laws.proofs.LineLemmas.{HasForm, EachHasForm, word_bare}
 use Rattle.layout_laws.proofs.SaidLemmas.{read_expressions_are_plain}
 use Rattle.said_model.specs.Named.{ItemNamed, AllItemsNamed}

@@ -14,8 +14,8 @@ use Rattle.asm_model.specs.declared.statements.What.TheVariants as what
 use Rattle.asm_model.specs.Forms.{is_digit, is_short}
 use Rattle.asm_model.specs.Parts.{piece}
 use Rattle.asm_model.specs.Says.{between_bars, label_of, label_field}
-use Rattle.layout_model.specs.Labels.{LocalLabel, Label, number_in, labelled, field_defines}
-use Rattle.layout_laws.specs.Sound.{IsBare}
+use Rattle.asm_model.specs.Labels.{LocalLabel, Label, number_in, labelled, field_defines}
+use Rattle.asm_model.specs.Sound.{IsBare}
 use Rattle.layout_laws.proofs.LineLemmas.{HasForm, OptionHasForm, word_bare}
 use Rattle.said_model.specs.Said.{LocalSaid}
 use Rattle.asm_said.proofs.GivesLemmas.{Gives, OptionGives}

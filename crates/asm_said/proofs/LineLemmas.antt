@@ -13,7 +13,7 @@ use Rattle.asm_model.specs.Directives.{label_need}
 use Rattle.asm_model.specs.Parts.{piece}
 use Rattle.asm_model.specs.Says.{form_of_directive, on_both, label_field, Sentence, sentence, directive_of, statement_of, SaysAs, SaysDirective}
 use Rattle.asm_model.specs.Tokens.{first_due, Tokens, Scans}
-use Rattle.layout_model.specs.Labels.{defined_by}
+use Rattle.asm_model.specs.Labels.{defined_by}
 use Rattle.layout_laws.specs.Said.{IsNoDirective}
 use Rattle.layout_laws.proofs.LineLemmas.{EachHasForm, OptionHasForm, tokens_form, sentence_form, read_directives_are_plain, other_statements_are_plain}
 use Rattle.asm_arm.specs.Says.{statement, alone, SaysWords, SaysOr, SaysScanned, SaysArm}

@@ -6,7 +6,7 @@ use Rattle.asm_model.specs.declared.tokens.TokenKind.{TokenKind}
 use Rattle.asm_model.specs.declared.tokens.TokenKind.TheVariants as kind
 use Rattle.asm_model.specs.Forms.{is_digit, is_letter, is_word, is_between_bars, one_or_more, ends_with_bar, is_name, is_barred, is_short}
 use Rattle.asm_model.specs.Says.{between_bars, name_of}
-use Rattle.layout_model.specs.PlacedLines.{IsName}
+use Rattle.asm_model.specs.PlacedLines.{IsName}
 use Rattle.layout_laws.proofs.LineLemmas.{HasForm}
 use Rattle.layout_laws.proofs.SaidLemmas.{form_name, form_barred, no_between}
 use Rattle.said_model.specs.Said.{HoldsNoZero}

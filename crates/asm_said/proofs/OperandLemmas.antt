@@ -15,7 +15,7 @@ use Rattle.asm_model.specs.Parts.{piece}
 use Rattle.asm_model.specs.Registers.{numbered_register, special_register, call_register, register_named}
 use Rattle.asm_model.specs.Says.{on_both, mapped, between_bars, Expression}
 use Rattle.asm_model.specs.Tokens.{is_called}
-use Rattle.layout_laws.specs.Sound.{IsBare}
+use Rattle.asm_model.specs.Sound.{IsBare}
 use Rattle.layout_laws.proofs.LineLemmas.{HasForm, EachHasForm, word_bare}
 use Rattle.asm_arm.specs.declared.operands.Scale.{Scale}
 use Rattle.asm_arm.specs.declared.operands.Scale.TheVariants as scale

@@ -35,10 +35,10 @@ use Rattle.asm_model.specs.Operands.{operands}
 use Rattle.asm_model.specs.Parts.{piece}
 use Rattle.asm_model.specs.Says.{Form, bare, name, imported, expression, expressions, area, register, boundary, refused, form_of_directive, on_both, mapped, name_of, name_alone, weak_mark, import_of, register_alone, Expression, Expressions, SomeExpressions, Area, Register, Aligned, bare_of, Reads, label_of, label_field, Sentence, sentence, directive_of, statement_of, SaysAs, SaysDirective}
 use Rattle.asm_model.specs.Tokens.{first_due, Tokens, Scans}
-use Rattle.layout_model.specs.Labels.{LocalLabel, Label, number_in, labelled, field_defines, defined_by, imported_in}
-use Rattle.layout_model.specs.PlacedLines.{HasName, HasImport}
+use Rattle.asm_model.specs.Labels.{LocalLabel, Label, number_in, labelled, field_defines, defined_by, imported_in}
+use Rattle.asm_model.specs.PlacedLines.{HasName, HasImport}
 use Rattle.layout_laws.proofs.LineLemmas.{HasForm, EachHasForm, OptionHasForm, tokens_form, sentence_form}
-use Rattle.layout_laws.specs.Sound.{HaveNoPlaces}
+use Rattle.asm_model.specs.Sound.{HaveNoPlaces}
 use Rattle.layout_laws.proofs.SaidLemmas.{read_expressions_are_plain}
 use Rattle.asm_arm.specs.Says.{statement, alone, SaysWords, SaysOr, SaysScanned, SaysArm}
 use Rattle.asm_arm.specs.Words.{operation_named}

@@ -10,8 +10,8 @@ use Rattle.asm_model.specs.Grammar.{ParsesTokens}
 use Rattle.asm_model.specs.Says.{SaysDirective}
 use Rattle.asm_model.specs.Tokens.{Tokens}
 use Rattle.asm_arm.specs.Says.{SaysArm}
-use Rattle.layout_model.specs.Labels.{defined_by, imported_in}
-use Rattle.layout_model.specs.PlacedLines.{HasName, HasImport}
+use Rattle.asm_model.specs.Labels.{defined_by, imported_in}
+use Rattle.asm_model.specs.PlacedLines.{HasName, HasImport}
 use Rattle.said_model.specs.Fit.{IsFit}
 use Rattle.said_model.specs.Named.{LoadNamed}
 use Rattle.said_model.specs.Said.{IsRead, IsSaid, HasTexts}

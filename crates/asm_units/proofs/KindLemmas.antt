@@ -18,9 +18,9 @@ use Rattle.asm_model.specs.Kinds.{told_kind}
 use Rattle.asm_model.specs.Meaning as meaning
 use Rattle.asm_model.specs.Meaning.{named_in, stands_at, binary}
 use Rattle.asm_model.specs.Says.{mapped}
-use Rattle.layout_model.specs.Extents.{Extent, Block, Padding, Loading, Pool}
-use Rattle.layout_model.specs.LayoutKinds.{fault_kinds}
-use Rattle.layout_model.specs.Symbols.{literal_value}
+use Rattle.asm_model.specs.Extents.{Extent, Block, Padding, Loading, Pool}
+use Rattle.asm_model.specs.LayoutKinds.{fault_kinds}
+use Rattle.asm_model.specs.Symbols.{literal_value}
 use Rattle.source_model.specs.Contexts.{Context, sees}
 use Rattle.source_model.specs.Units.{stored}
 use Rattle.source_model.specs.ValueKinds.{lies_within, kinds_unless, export_kinds, assert_kinds, directive_kinds, literal_kinds, statement_kinds}

@@ -15,9 +15,9 @@ use Rattle.asm_model.specs.AtLine.{Sight}
 use Rattle.asm_model.specs.Forms.{same}
 use Rattle.asm_model.specs.Meaning.{named_in, in_area, entry_stands_at, stands_at}
 use Rattle.asm_model.specs.Says.{on_both}
-use Rattle.layout_model.specs.Entries.{thumb_of}
-use Rattle.layout_model.specs.Extents.{value_there}
-use Rattle.layout_model.specs.Marks.{counts_one}
+use Rattle.asm_model.specs.Entries.{thumb_of}
+use Rattle.asm_model.specs.Extents.{value_there}
+use Rattle.asm_model.specs.Marks.{counts_one}
 use Rattle.source_model.specs.Contexts.{Context, sees, value_of}
 use Rattle.source_model.specs.Units.{Emitted, Bytes, Stored, placed, stored, word_units, half_units, byte_operand, byte_units, directive_units}
 use Rattle.asm_instructions.specs.Scenes.{has_symbol, context_of}

@@ -3,3 +3,6 @@ pub mod Emitting
 pub mod Literals
 pub mod Marked
 pub mod Showing
+pub mod Listing
+pub mod Numbers
+pub mod Recording

@@ -5,7 +5,7 @@ use Rattle.sdt_fault.specs.declared.kinds.LineKind.TheVariants.{UnknownWord, Wro
 use Rattle.asm_model.specs.declared.names.LaidName.{LaidName}
 use Rattle.asm_model.specs.declared.values.Value.{Value}
 use Rattle.asm_model.specs.declared.values.Value.TheVariants.{Number, Place}
-use Rattle.layout_model.specs.Extents.{Extent, Loading}
+use Rattle.asm_model.specs.Extents.{Extent, Loading}
 
 abbrev pub moved_value : Value → ℕ → Result Value LineKind
 moved_value (Number m) n = Ok (Number ((m + n) % 2 ^ 32))

@@ -7,7 +7,7 @@ use Rattle.asm_model.specs.declared.values.Value.{Value}
 use Rattle.asm_model.specs.AtLine.{Sight}
 use Rattle.asm_model.specs.Forms.{same}
 use Rattle.asm_model.specs.Meaning.{stands_at}
-use Rattle.layout_model.specs.Extents.{value_there}
+use Rattle.asm_model.specs.Extents.{value_there}
 use Rattle.source_model.specs.Contexts.{Context, sees, value_of}
 use Rattle.asm_instructions.specs.Scenes.{Shows, has_symbol, line_of}
 use Rattle.asm_laying.specs.Reading.{string_marks}

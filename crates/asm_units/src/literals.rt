@@ -7,7 +7,7 @@ ghost use Rattle.asm_model.specs.Meaning.{named_in};
 ghost use Rattle.asm_model.specs.Says.{mapped};
 ghost use Rattle.asm_model.specs.declared.statements.What.{What};
 ghost use Rattle.asm_model.specs.declared.values.Value.TheVariants.{Place};
-ghost use Rattle.layout_model.specs.Symbols as symbols;
+ghost use Rattle.asm_model.specs.Symbols as symbols;
 ghost use Rattle.source_model.specs.Contexts.{Context, sees};
 ghost use Rattle.source_model.specs.Units as units;
 ghost use Rattle.asm_instructions.specs.Scenes.{context_of};

@@ -14,5 +14,3 @@ pub use crate::reading::read_map;
 pub use crate::records::{MapFile, MapLoad, MapRegion, OutFile};
 pub use crate::writing::write_map;
 
-#[cfg(test)]
-mod tests;

@@ -8,13 +8,13 @@ use Rattle.asm_model.specs.declared.names.LaidName.{LaidName}
 use Rattle.asm_model.specs.declared.statements.Statement.{Statement}
 use Rattle.asm_model.specs.AtLine.{SourceLine}
 use Rattle.asm_model.specs.Grammar.{Tree}
-use Rattle.layout_model.specs.Before.{stretch_behind, area_behind, is_thumb_label}
-use Rattle.layout_model.specs.Entries.{equal_entry}
-use Rattle.layout_model.specs.Labels.{Defined, Unnamed, LocalLabel, Label, Equal, MapField, RegisterName, defined_by, imported_in}
-use Rattle.layout_model.specs.Laid.{Declared, LaidLine, statements_of, locals_of, map_behind, offset_behind, tree_equated, definition_of, imported_lines, laid_behind, laid_of, final_line, final_lines}
-use Rattle.layout_model.specs.LayoutKinds.{equal_of, equals_in}
-use Rattle.layout_model.specs.Locals.{Local, local_entries, digits_of, reference, references_to, is_new, back_of, forth_of}
-use Rattle.layout_model.specs.Trees.{tree_of}
+use Rattle.asm_model.specs.Before.{stretch_behind, area_behind, is_thumb_label}
+use Rattle.asm_model.specs.Entries.{equal_entry}
+use Rattle.asm_model.specs.Labels.{Defined, Unnamed, LocalLabel, Label, Equal, MapField, RegisterName, defined_by, imported_in}
+use Rattle.asm_model.specs.Laid.{Declared, LaidLine, statements_of, locals_of, map_behind, offset_behind, tree_equated, definition_of, imported_lines, laid_behind, laid_of, final_line, final_lines}
+use Rattle.asm_model.specs.LayoutKinds.{equal_of, equals_in}
+use Rattle.asm_model.specs.Locals.{Local, local_entries, digits_of, reference, references_to, is_new, back_of, forth_of}
+use Rattle.asm_model.specs.Trees.{tree_of}
 use Rattle.layout_laws.proofs.RoundLemmas.{SymbolIs, EachIs}
 use Rattle.layout_laws.proofs.StepLemmas.{HoldsOf, EachEquated, IsMade, IsRegular, AreRegular, nothing}
 

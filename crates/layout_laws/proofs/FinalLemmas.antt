@@ -11,15 +11,15 @@ use Rattle.asm_model.specs.Forms.{same}
 use Rattle.asm_model.specs.Grammar.{Tree}
 use Rattle.asm_model.specs.Meaning.{named_in, meaning}
 use Rattle.asm_model.proofs.LineLemmas.{each_append}
-use Rattle.layout_model.specs.Before.{stretch_behind, area_behind, is_thumb_label}
-use Rattle.layout_model.specs.Entries.{label_entry, imported_entry}
-use Rattle.layout_model.specs.Extents.{value_there, tree_value}
-use Rattle.layout_model.specs.Labels.{Defined, Unnamed, LocalLabel, Label, Equal, MapField, RegisterName, defined_by, imported_in, declared_names}
-use Rattle.layout_model.specs.Laid.{Declared, declared, LaidLine, statements_of, lines_of, locals_of, map_behind, offset_behind, definition_of, definition_behind, imported_lines, laid_behind, laid_of, laid, final_line, all_locals, entries_with, all_entries, final_names, final_value}
-use Rattle.layout_model.specs.LayoutKinds.{equals_in, settled}
-use Rattle.layout_model.specs.Locals.{Local, local_entries, forth_of}
-use Rattle.layout_model.specs.Trees.{tree_of}
-use Rattle.layout_laws.specs.Sound.{IsSound, ArePlain}
+use Rattle.asm_model.specs.Before.{stretch_behind, area_behind, is_thumb_label}
+use Rattle.asm_model.specs.Entries.{label_entry, imported_entry}
+use Rattle.asm_model.specs.Extents.{value_there, tree_value}
+use Rattle.asm_model.specs.Labels.{Defined, Unnamed, LocalLabel, Label, Equal, MapField, RegisterName, defined_by, imported_in, declared_names}
+use Rattle.asm_model.specs.Laid.{Declared, declared, LaidLine, statements_of, lines_of, locals_of, map_behind, offset_behind, definition_of, definition_behind, imported_lines, laid_behind, laid_of, laid, final_line, all_locals, entries_with, all_entries, final_names, final_value}
+use Rattle.asm_model.specs.LayoutKinds.{equals_in, settled}
+use Rattle.asm_model.specs.Locals.{Local, local_entries, forth_of}
+use Rattle.asm_model.specs.Trees.{tree_of}
+use Rattle.asm_model.specs.Sound.{IsSound, ArePlain}
 use Rattle.layout_laws.proofs.ForthLemmas.{AreBare, back_absent, forth_declared}
 use Rattle.layout_laws.proofs.KnownLemmas.{AreAlike, EachAlike, Fewer, known_final}
 use Rattle.layout_laws.proofs.NamedLemmas.{sofar, own_of, imports_of, with_statement, lacks, sofar_holds, names_other, fewer_than_declared}

@@ -9,10 +9,10 @@ use Rattle.asm_model.specs.AtLine.{is_in}
 use Rattle.asm_model.specs.Directives.{or_else}
 use Rattle.asm_model.specs.Forms.{same}
 use Rattle.asm_model.specs.Meaning.{named_in}
-use Rattle.layout_model.specs.Before.{stretch_behind}
-use Rattle.layout_model.specs.Labels.{Defined, Unnamed, LocalLabel, Label, Equal, MapField, RegisterName, defined_by}
-use Rattle.layout_model.specs.Laid.{Declared, statements_of, offset_behind, locals_of, laid_of, reversed, all_locals}
-use Rattle.layout_model.specs.Locals.{Local, local_entries, declared_locals, digits_of, reference, references_to, is_new, back_of, forth_of}
+use Rattle.asm_model.specs.Before.{stretch_behind}
+use Rattle.asm_model.specs.Labels.{Defined, Unnamed, LocalLabel, Label, Equal, MapField, RegisterName, defined_by}
+use Rattle.asm_model.specs.Laid.{Declared, statements_of, offset_behind, locals_of, laid_of, reversed, all_locals}
+use Rattle.asm_model.specs.Locals.{Local, local_entries, declared_locals, digits_of, reference, references_to, is_new, back_of, forth_of}
 use Rattle.layout_laws.proofs.KnownLemmas.{AreAbsent}
 use Rattle.layout_laws.proofs.RoundLemmas.{named_joined}
 use Rattle.layout_laws.proofs.SoundLemmas.{statements_kept}

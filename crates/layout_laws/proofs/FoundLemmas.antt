@@ -15,14 +15,14 @@ use Rattle.asm_model.specs.Directives.{or_else}
 use Rattle.asm_model.specs.Forms.{same}
 use Rattle.asm_model.specs.Grammar.{Tree}
 use Rattle.asm_model.specs.Meaning.{named_in, meaning}
-use Rattle.layout_model.specs.Before.{area_behind, is_thumb_label}
-use Rattle.layout_model.specs.Entries.{label_entry, imported_entry, valued_entry, equal_entry}
-use Rattle.layout_model.specs.Labels.{Defined, Label, Equal, MapField, defined_by, imported_in, declared_names}
-use Rattle.layout_model.specs.Laid.{Declared, declared, LaidLine, statements_of, map_behind, offset_behind, tree_equated, definition_of, imported_lines, laid_behind, laid_of, laid, final_line, all_locals, entries_with, all_entries, final_names, final_value}
-use Rattle.layout_model.specs.LayoutKinds.{equals_in, settled, own_name, listed, names_behind, is_repeated}
-use Rattle.layout_model.specs.Locals.{Local}
-use Rattle.layout_model.specs.Trees.{tree_of}
-use Rattle.layout_laws.specs.Sound.{IsSound, ArePlain}
+use Rattle.asm_model.specs.Before.{area_behind, is_thumb_label}
+use Rattle.asm_model.specs.Entries.{label_entry, imported_entry, valued_entry, equal_entry}
+use Rattle.asm_model.specs.Labels.{Defined, Label, Equal, MapField, defined_by, imported_in, declared_names}
+use Rattle.asm_model.specs.Laid.{Declared, declared, LaidLine, statements_of, map_behind, offset_behind, tree_equated, definition_of, imported_lines, laid_behind, laid_of, laid, final_line, all_locals, entries_with, all_entries, final_names, final_value}
+use Rattle.asm_model.specs.LayoutKinds.{equals_in, settled, own_name, listed, names_behind, is_repeated}
+use Rattle.asm_model.specs.Locals.{Local}
+use Rattle.asm_model.specs.Trees.{tree_of}
+use Rattle.asm_model.specs.Sound.{IsSound, ArePlain}
 use Rattle.layout_laws.proofs.EqualLemmas.{equal_made}
 use Rattle.layout_laws.proofs.FinalLemmas.{each_split, source_holds}
 use Rattle.layout_laws.proofs.KnownLemmas.{AreAbsent}

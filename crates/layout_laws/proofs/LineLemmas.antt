@@ -31,9 +31,9 @@ use Rattle.asm_model.specs.Operands.{operands}
 use Rattle.asm_model.specs.Parts.{piece}
 use Rattle.asm_model.specs.Says.{Form, bare, name, imported, expression, expressions, area, register, boundary, refused, form_of_directive, on_both, mapped, between_bars, name_of, name_alone, weak_mark, import_of, register_alone, Expression, Area, Register, Aligned, bare_of, Reads, label_of, label_field, Sentence, operated, sentence, directive_of, statement_of, SaysAs, SaysDirective}
 use Rattle.asm_model.specs.Tokens.{IsLongest, is_operation_sign, IsTokenAt, due_behind, blanks, TokensFrom, first_due, Tokens}
-use Rattle.layout_model.specs.Labels.{LocalLabel, Label, number_in, labelled, directive_defines, field_defines, defined_by, imported_in}
+use Rattle.asm_model.specs.Labels.{LocalLabel, Label, number_in, labelled, directive_defines, field_defines, defined_by, imported_in}
 use Rattle.layout_laws.specs.Said.{IsNoDirective}
-use Rattle.layout_laws.specs.Sound.{IsBare, HaveNoPlaces, IsPlainDefined, IsPlainImport}
+use Rattle.asm_model.specs.Sound.{IsBare, HaveNoPlaces, IsPlainDefined, IsPlainImport}
 use Rattle.layout_laws.proofs.SaidLemmas.{read_expressions_are_plain, read_names_are_bare}
 
 -- ---- tokens have their forms

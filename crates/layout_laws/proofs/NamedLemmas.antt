@@ -16,14 +16,14 @@ use Rattle.asm_model.specs.Grammar.{Tree}
 use Rattle.asm_model.specs.Meaning.{named_in, meaning}
 use Rattle.asm_model.proofs.LineLemmas.{each_more, each_append}
 use Rattle.asm_model.proofs.WordLemmas.{same_refl}
-use Rattle.layout_model.specs.Before.{area_behind, is_thumb_label}
-use Rattle.layout_model.specs.Entries.{equal_entry, label_entry, valued_entry}
-use Rattle.layout_model.specs.Labels.{Defined, Unnamed, LocalLabel, Label, Equal, MapField, RegisterName, defined_by, imported_in, imported_entries, declared_entries, declared_names}
-use Rattle.layout_model.specs.Laid.{Declared, LaidLine, statements_of, map_behind, offset_behind, tree_equated, definition_of, imported_lines, laid_behind, laid_of, final_line, final_lines, entries_with, all_entries}
-use Rattle.layout_model.specs.LayoutKinds.{own_name, listed, names_in, names_behind, is_repeated}
-use Rattle.layout_model.specs.Locals.{Local}
-use Rattle.layout_model.specs.Trees.{tree_of}
-use Rattle.layout_laws.specs.Sound.{IsBare, IsPlainDefined, IsPlainImport, ArePlain}
+use Rattle.asm_model.specs.Before.{area_behind, is_thumb_label}
+use Rattle.asm_model.specs.Entries.{equal_entry, label_entry, valued_entry}
+use Rattle.asm_model.specs.Labels.{Defined, Unnamed, LocalLabel, Label, Equal, MapField, RegisterName, defined_by, imported_in, imported_entries, declared_entries, declared_names}
+use Rattle.asm_model.specs.Laid.{Declared, LaidLine, statements_of, map_behind, offset_behind, tree_equated, definition_of, imported_lines, laid_behind, laid_of, final_line, final_lines, entries_with, all_entries}
+use Rattle.asm_model.specs.LayoutKinds.{own_name, listed, names_in, names_behind, is_repeated}
+use Rattle.asm_model.specs.Locals.{Local}
+use Rattle.asm_model.specs.Trees.{tree_of}
+use Rattle.asm_model.specs.Sound.{IsBare, IsPlainDefined, IsPlainImport, ArePlain}
 use Rattle.layout_laws.proofs.EqualLemmas.{equal_made}
 use Rattle.layout_laws.proofs.KnownLemmas.{Fewer, named_within}
 use Rattle.layout_laws.proofs.RoundLemmas.{named_joined}

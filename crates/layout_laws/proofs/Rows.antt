@@ -10,9 +10,9 @@ use Rattle.asm_model.specs.declared.statements.What.TheVariants as what
 use Rattle.asm_model.specs.declared.directives.Contents.TheVariants as contents
 use Rattle.asm_model.specs.declared.directives.DirectiveLine.{DirectiveLine}
 use Rattle.asm_model.specs.declared.directives.DirectiveLine.TheVariants as line
-use Rattle.layout_model.specs.Entries.{label_entry, valued_entry}
-use Rattle.layout_model.specs.Laid.{laid, source_lines, all_entries, final_names}
-use Rattle.layout_laws.specs.Sound.{IsSound, ArePlain}
+use Rattle.asm_model.specs.Entries.{label_entry, valued_entry}
+use Rattle.asm_model.specs.Laid.{laid, source_lines, all_entries, final_names}
+use Rattle.asm_model.specs.Sound.{IsSound, ArePlain}
 
 abbrev says : ℕ → Option (List ℕ) → DirectiveLine → Statement
 says n label l = record { source = codes "t.s"; number = n; label = label; what = what.Directive l }

@@ -15,7 +15,7 @@ use Rattle.asm_model.specs.Forms.{form_of, form_or, is_letter, is_word, one_or_m
 use Rattle.asm_model.specs.Grammar.{Tree, postfix, plain, operand_of, Spells, operand, of_name, before, grouped, between, tighter, ParsesTokens}
 use Rattle.asm_model.specs.Parts.{part_of, part_of_kind, number_value, braced_part, worded_part, plain_part, piece}
 use Rattle.asm_model.specs.Says.{between_bars}
-use Rattle.layout_laws.specs.Sound.{IsBare, HasNoPlace, HaveNoPlaces}
+use Rattle.asm_model.specs.Sound.{IsBare, HasNoPlace, HaveNoPlaces}
 
 -- ---- parts
 

@@ -13,12 +13,12 @@ use Rattle.asm_model.specs.AtLine.{SourceLine}
 use Rattle.asm_model.specs.Forms.{same}
 use Rattle.asm_model.specs.Grammar.{Tree}
 use Rattle.asm_model.proofs.WordLemmas.{same_refl}
-use Rattle.layout_model.specs.Labels.{Defined, Unnamed, LocalLabel, Label, Equal, MapField, RegisterName, defined_by}
-use Rattle.layout_model.specs.Laid.{Declared, declared, laid_of, laid, final_lines, all_locals, source_lines, all_entries, names_after, final_names}
-use Rattle.layout_model.specs.LayoutKinds.{equal_of, equals_in, is_settled_item, are_settled, settled_by, settled_after, settled}
-use Rattle.layout_model.specs.Locals.{Local}
-use Rattle.layout_model.specs.Trees.{grown, grown_behind, alone, tree_behind}
-use Rattle.layout_laws.specs.Sound.{IsSound, IsBare, IsNoPlace, HaveNoPlaces, ArePlain}
+use Rattle.asm_model.specs.Labels.{Defined, Unnamed, LocalLabel, Label, Equal, MapField, RegisterName, defined_by}
+use Rattle.asm_model.specs.Laid.{Declared, declared, laid_of, laid, final_lines, all_locals, source_lines, all_entries, names_after, final_names}
+use Rattle.asm_model.specs.LayoutKinds.{equal_of, equals_in, is_settled_item, are_settled, settled_by, settled_after, settled}
+use Rattle.asm_model.specs.Locals.{Local}
+use Rattle.asm_model.specs.Trees.{grown, grown_behind, alone, tree_behind}
+use Rattle.asm_model.specs.Sound.{IsSound, IsBare, IsNoPlace, HaveNoPlaces, ArePlain}
 use Rattle.layout_laws.proofs.EqualLemmas.{EachEqual, OfTrees, equal_all, equal_weaker, equal_both, lines_hold, lines_regular}
 use Rattle.layout_laws.proofs.RoundLemmas.{SymbolIs, ItemIs, TreeIs, tree_weaker}
 use Rattle.layout_laws.proofs.SoundLemmas.{EachSound, sound_each, equals_distinct, equals_settled, IsPlainEqual, equals_plain, IsSettledIn, settled_unique}

@@ -11,10 +11,10 @@ use Rattle.asm_model.specs.Forms.{same}
 use Rattle.asm_model.specs.Kinds.{told_kind}
 use Rattle.asm_model.proofs.LineLemmas.{both_empty}
 use Rattle.asm_model.proofs.WordLemmas.{same_refl, same_true}
-use Rattle.layout_model.specs.Labels.{Defined, Unnamed, LocalLabel, Label, Equal, MapField, RegisterName, defined_by, imported_in}
-use Rattle.layout_model.specs.Laid.{Declared, LaidLine, statements_of, laid_behind, laid_of}
-use Rattle.layout_model.specs.LayoutKinds.{fault_kinds, kind_if, map_kinds, no_area_kinds, contents_kinds, contents_behind, area_kinds, own_name, listed, names_in, names_behind, is_entry, is_repeated, name_kinds, equal_of, equals_in, are_settled, settled_by, settled_kinds, layout_kinds, told_at, first_fault, area_bytes}
-use Rattle.layout_laws.specs.Sound.{IsBare, HaveNoPlaces, IsPlainDefined, ArePlain}
+use Rattle.asm_model.specs.Labels.{Defined, Unnamed, LocalLabel, Label, Equal, MapField, RegisterName, defined_by, imported_in}
+use Rattle.asm_model.specs.Laid.{Declared, LaidLine, statements_of, laid_behind, laid_of}
+use Rattle.asm_model.specs.LayoutKinds.{fault_kinds, kind_if, map_kinds, no_area_kinds, contents_kinds, contents_behind, area_kinds, own_name, listed, names_in, names_behind, is_entry, is_repeated, name_kinds, equal_of, equals_in, are_settled, settled_by, settled_kinds, layout_kinds, told_at, first_fault, area_bytes}
+use Rattle.asm_model.specs.Sound.{IsBare, HaveNoPlaces, IsPlainDefined, ArePlain}
 use Rattle.layout_laws.proofs.EqualLemmas.{EachEqual, equal_both, equal_joined}
 
 -- ---- tests

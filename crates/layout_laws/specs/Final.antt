@@ -5,9 +5,9 @@ use Rattle.asm_model.specs.declared.exprs.Expr.{Expr}
 use Rattle.asm_model.specs.declared.values.Value.{Value}
 use Rattle.asm_model.specs.declared.names.LaidName.{LaidName}
 use Rattle.asm_model.specs.declared.statements.Statement.{Statement}
-use Rattle.layout_model.specs.Extents.{value_there}
-use Rattle.layout_model.specs.Laid.{LaidLine, laid, all_locals, final_line, source_lines, all_entries, final_names, final_value}
-use Rattle.layout_laws.specs.Sound.{IsSound, ArePlain}
+use Rattle.asm_model.specs.Extents.{value_there}
+use Rattle.asm_model.specs.Laid.{LaidLine, laid, all_locals, final_line, source_lines, all_entries, final_names, final_value}
+use Rattle.asm_model.specs.Sound.{IsSound, ArePlain}
 
 -- one more round changes nothing
 abbrev pub FinalNamesAreTheirEntries : Type 0

@@ -7,11 +7,11 @@ use Rattle.asm_model.specs.declared.statements.Statement.{Statement}
 use Rattle.asm_model.specs.declared.values.Value.{Value}
 use Rattle.asm_model.specs.declared.values.Value.TheVariants.{Number}
 use Rattle.asm_model.specs.Meaning.{named_in}
-use Rattle.layout_model.specs.Before.{is_thumb_label}
-use Rattle.layout_model.specs.Entries.{label_entry, imported_entry, valued_entry, equal_entry}
-use Rattle.layout_model.specs.Labels.{Label, Equal, MapField, defined_by, imported_in, declared_names}
-use Rattle.layout_model.specs.Laid.{LaidLine, statements_of, map_behind, laid, all_locals, final_line, final_names, final_value}
-use Rattle.layout_laws.specs.Sound.{IsSound, ArePlain}
+use Rattle.asm_model.specs.Before.{is_thumb_label}
+use Rattle.asm_model.specs.Entries.{label_entry, imported_entry, valued_entry, equal_entry}
+use Rattle.asm_model.specs.Labels.{Label, Equal, MapField, defined_by, imported_in, declared_names}
+use Rattle.asm_model.specs.Laid.{LaidLine, statements_of, map_behind, laid, all_locals, final_line, final_names, final_value}
+use Rattle.asm_model.specs.Sound.{IsSound, ArePlain}
 
 -- the entry of a label has its line's area, offset and size
 abbrev pub LabelsStand : Type 0

@@ -2,4 +2,3 @@
 pub mod Final
 pub mod Found
 pub mod Said
-pub mod Sound

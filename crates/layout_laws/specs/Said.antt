@@ -12,8 +12,8 @@ use Rattle.asm_model.specs.Forms.{form_of}
 use Rattle.asm_model.specs.Grammar.{ParsesTokens}
 use Rattle.asm_model.specs.Says.{between_bars, SaysDirective}
 use Rattle.asm_model.specs.Tokens.{Tokens}
-use Rattle.layout_model.specs.Labels.{defined_by, imported_in}
-use Rattle.layout_laws.specs.Sound.{IsBare, HaveNoPlaces, IsPlainDefined, IsPlainImport}
+use Rattle.asm_model.specs.Labels.{defined_by, imported_in}
+use Rattle.asm_model.specs.Sound.{IsBare, HaveNoPlaces, IsPlainDefined, IsPlainImport}
 
 -- an expression of tokens has no place as a constant
 abbrev pub ReadExpressionsArePlain : Type 0

@@ -25,10 +25,10 @@ use Rattle.asm_model.specs.Directives.{or_else}
 use Rattle.asm_model.specs.Forms.{same}
 use Rattle.asm_model.proofs.LineLemmas.{both_empty}
 use Rattle.asm_model.proofs.WordLemmas.{same_refl}
-use Rattle.layout_model.specs.Before.{area_named, with_name, areas_behind}
-use Rattle.layout_model.specs.Laid.{LaidLine, pieces_of, laid}
-use Rattle.layout_model.specs.LayoutKinds.{kind_if, exponent, exponent_kinds, is_named_otherwise, area_kinds, is_instruction, state_of, first_state, is_thumb_area, settled, equals_in}
-use Rattle.layout_model.specs.Offsets.{is_of}
+use Rattle.asm_model.specs.Before.{area_named, with_name, areas_behind}
+use Rattle.asm_model.specs.Laid.{LaidLine, pieces_of, laid}
+use Rattle.asm_model.specs.LayoutKinds.{kind_if, exponent, exponent_kinds, is_named_otherwise, area_kinds, is_instruction, state_of, first_state, is_thumb_area, settled, equals_in}
+use Rattle.asm_model.specs.Offsets.{is_of}
 use Rattle.layout_laws.proofs.SoundLemmas.{kind_none}
 use Rattle.said_model.specs.Fit.{WhatFits, IsFit}
 use Rattle.source_model.specs.Objects.{Source, source_of, Piece, StandsIn, attributes_word, or_two, says_area, attributes_of, HasRelocs, contents_in, contents_of, IsArea as IsAreaOf, IsObject}

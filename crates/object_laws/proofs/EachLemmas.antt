@@ -14,12 +14,12 @@ use Rattle.asm_model.specs.AtLine.{Definition, Nameless, Named, Equated, SourceL
 use Rattle.asm_model.specs.Forms.{same}
 use Rattle.asm_model.specs.Grammar.{Tree}
 use Rattle.asm_model.specs.Meaning.{named_in, meaning}
-use Rattle.layout_model.specs.Before.{area_named, with_name, areas_behind, place_of, area_from, area_behind, is_thumb_label}
-use Rattle.layout_model.specs.Entries.{equal_entry}
-use Rattle.layout_model.specs.Labels.{Defined, Unnamed, LocalLabel, Label, Equal, MapField, RegisterName, number_in, labelled, field_defines, defined_by, imported_in}
-use Rattle.layout_model.specs.Laid.{Declared, declared, LaidLine, statements_of, map_behind, offset_behind, tree_equated, definition_of, imported_lines, laid_behind, laid_of, laid, all_locals, final_line, final_lines, source_lines, entries_with, all_entries, names_after, final_names}
-use Rattle.layout_model.specs.Locals.{Local}
-use Rattle.layout_model.specs.Trees.{tree_of}
+use Rattle.asm_model.specs.Before.{area_named, with_name, areas_behind, place_of, area_from, area_behind, is_thumb_label}
+use Rattle.asm_model.specs.Entries.{equal_entry}
+use Rattle.asm_model.specs.Labels.{Defined, Unnamed, LocalLabel, Label, Equal, MapField, RegisterName, number_in, labelled, field_defines, defined_by, imported_in}
+use Rattle.asm_model.specs.Laid.{Declared, declared, LaidLine, statements_of, map_behind, offset_behind, tree_equated, definition_of, imported_lines, laid_behind, laid_of, laid, all_locals, final_line, final_lines, source_lines, entries_with, all_entries, names_after, final_names}
+use Rattle.asm_model.specs.Locals.{Local}
+use Rattle.asm_model.specs.Trees.{tree_of}
 use Rattle.layout_laws.proofs.SoundLemmas.{statements_kept}
 use Rattle.said_model.specs.Said.{IsSaid, AllSaid, what_names, label_names, HoldsNoZero, HasTexts, AllHaveTexts}
 use Rattle.source_laws.proofs.ZeroLemmas.{place_below, named_with, AreNumbered, laid_numbered, numbered_rest, names_of, no_fewer}

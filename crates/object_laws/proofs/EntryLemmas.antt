@@ -13,11 +13,11 @@ use Rattle.asm_model.specs.declared.statements.What.{What}
 use Rattle.asm_model.specs.declared.statements.What.TheVariants as what
 use Rattle.asm_model.specs.Directives.{or_else}
 use Rattle.asm_model.proofs.LineLemmas.{both_empty}
-use Rattle.layout_model.specs.Extents.{Block, extent_of}
-use Rattle.layout_model.specs.Laid.{LaidLine, taken, pieces_of, laid}
-use Rattle.layout_model.specs.LayoutKinds.{is_entry, same_mark, is_thumb_area, entry_kinds, literal_kinds}
-use Rattle.layout_model.specs.Offsets.{end_behind, start_in, area_size}
-use Rattle.layout_model.proofs.OffsetLemmas.{raised_four}
+use Rattle.asm_model.specs.Extents.{Block, extent_of}
+use Rattle.asm_model.specs.Laid.{LaidLine, taken, pieces_of, laid}
+use Rattle.asm_model.specs.LayoutKinds.{is_entry, same_mark, is_thumb_area, entry_kinds, literal_kinds}
+use Rattle.asm_model.specs.Offsets.{end_behind, start_in, area_size}
+use Rattle.asm_model.proofs.OffsetLemmas.{raised_four}
 use Rattle.layout_laws.proofs.SoundLemmas.{kind_none, not_false}
 use Rattle.source_model.specs.Objects.{in_order, entry_by, entry_of, IsObject}
 use Rattle.source_laws.proofs.FaultlessLemmas.{layout_sound}

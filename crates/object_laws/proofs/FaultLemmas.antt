@@ -5,10 +5,10 @@ use Rattle.sdt_fault.specs.declared.kinds.LineKind.{LineKind}
 use Rattle.asm_model.specs.declared.statements.Statement.{Statement}
 use Rattle.asm_model.specs.Kinds.{told_kind}
 use Rattle.asm_model.proofs.LineLemmas.{both_empty}
-use Rattle.layout_model.specs.Laid.{LaidLine, taken, pieces_of, reversed, laid, all_locals, final_names}
-use Rattle.layout_model.specs.LayoutKinds.{fault_kinds, layout_kinds, told_at, first_fault, entry_kinds, literal_kinds, first_late, settled, equals_in}
-use Rattle.layout_model.specs.Marks.{datum_names}
-use Rattle.layout_model.specs.Offsets.{area_size}
+use Rattle.asm_model.specs.Laid.{LaidLine, taken, pieces_of, reversed, laid, all_locals, final_names}
+use Rattle.asm_model.specs.LayoutKinds.{fault_kinds, layout_kinds, told_at, first_fault, entry_kinds, literal_kinds, first_late, settled, equals_in}
+use Rattle.asm_model.specs.Marks.{datum_names}
+use Rattle.asm_model.specs.Offsets.{area_size}
 use Rattle.layout_laws.proofs.SoundLemmas.{or_none, told_none}
 use Rattle.source_model.specs.Objects.{in_order}
 use Rattle.source_model.specs.Registers.{register_names}

@@ -16,14 +16,14 @@ use Rattle.asm_model.specs.Forms.{same}
 use Rattle.asm_model.specs.Grammar.{Tree, Leaf, Before, Between}
 use Rattle.asm_model.specs.Meaning.{named_in, known, operand_of_item, operand_of_tree, meaning}
 use Rattle.asm_model.proofs.WordLemmas.{same_true}
-use Rattle.layout_model.specs.Before.{area_behind, stretch_behind, is_thumb_label}
-use Rattle.layout_model.specs.Labels.{Defined, Unnamed, LocalLabel, Label, Equal, MapField, RegisterName, defined_by, imported_in}
-use Rattle.layout_model.specs.Laid.{Declared, declared, LaidLine, statements_of, map_behind, offset_behind, tree_equated, definition_of, imported_lines, laid_behind, laid_of, laid, all_locals, final_line, final_lines, source_lines, entries_with, all_entries, final_names}
-use Rattle.layout_model.specs.LayoutKinds.{equals_in}
-use Rattle.layout_model.specs.Locals.{Local}
-use Rattle.layout_model.specs.Symbols.{literal_value}
-use Rattle.layout_model.specs.Trees.{tree_of}
-use Rattle.layout_laws.specs.Sound.{IsSound, HaveNoPlaces, ArePlain}
+use Rattle.asm_model.specs.Before.{area_behind, stretch_behind, is_thumb_label}
+use Rattle.asm_model.specs.Labels.{Defined, Unnamed, LocalLabel, Label, Equal, MapField, RegisterName, defined_by, imported_in}
+use Rattle.asm_model.specs.Laid.{Declared, declared, LaidLine, statements_of, map_behind, offset_behind, tree_equated, definition_of, imported_lines, laid_behind, laid_of, laid, all_locals, final_line, final_lines, source_lines, entries_with, all_entries, final_names}
+use Rattle.asm_model.specs.LayoutKinds.{equals_in}
+use Rattle.asm_model.specs.Locals.{Local}
+use Rattle.asm_model.specs.Symbols.{literal_value}
+use Rattle.asm_model.specs.Trees.{tree_of}
+use Rattle.asm_model.specs.Sound.{IsSound, HaveNoPlaces, ArePlain}
 use Rattle.layout_laws.proofs.EqualLemmas.{OfTrees, equal_weaker, lines_hold, lines_regular, back_behind_is, forth_is}
 use Rattle.layout_laws.proofs.FoundLemmas.{tree_final, final_tree}
 use Rattle.layout_laws.proofs.RoundLemmas.{SymbolIs, ResultIs, ItemIs, TreeIs, EachIs, symbol_weaker, applied_is, value_is, both_is, named_joined, each_closed}

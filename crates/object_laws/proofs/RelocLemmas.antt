@@ -24,12 +24,12 @@ use Rattle.asm_model.specs.AtLine.{SourceLine, Sight, all_names}
 use Rattle.asm_model.specs.Directives.{or_else}
 use Rattle.asm_model.specs.Meaning.{named_in, in_area, entry_stands_at, stands_at}
 use Rattle.asm_model.specs.Says.{on_both, mapped}
-use Rattle.layout_model.specs.Before.{areas_behind}
-use Rattle.layout_model.specs.Extents.{value_there}
-use Rattle.layout_model.specs.Laid.{LaidLine, taken, laid}
-use Rattle.layout_model.specs.Marks.{datum_names}
-use Rattle.layout_model.specs.Symbols.{symbols_of, literal_value}
-use Rattle.layout_laws.specs.Sound.{IsSound, HaveNoPlaces, ArePlain}
+use Rattle.asm_model.specs.Before.{areas_behind}
+use Rattle.asm_model.specs.Extents.{value_there}
+use Rattle.asm_model.specs.Laid.{LaidLine, taken, laid}
+use Rattle.asm_model.specs.Marks.{datum_names}
+use Rattle.asm_model.specs.Symbols.{symbols_of, literal_value}
+use Rattle.asm_model.specs.Sound.{IsSound, HaveNoPlaces, ArePlain}
 use Rattle.layout_laws.proofs.RoundLemmas.{ResultIs, named_joined}
 use Rattle.said_model.specs.Fit.{AllPlaceless, WhatFits, IsFit}
 use Rattle.said_model.specs.Said.{HoldsNoZero}

@@ -29,14 +29,14 @@ use Rattle.asm_model.specs.Forms.{same}
 use Rattle.asm_model.specs.Meaning.{named_in, in_area, entry_stands_at, stands_at}
 use Rattle.asm_model.specs.Says.{mapped}
 use Rattle.asm_model.proofs.WordLemmas.{same_true}
-use Rattle.layout_model.specs.Before.{with_name, areas_behind, is_thumb_label}
-use Rattle.layout_model.specs.Entries.{label_entry, imported_entry, thumb_of}
-use Rattle.layout_model.specs.Extents.{Extent, Block, Padding, Loading, Pool}
-use Rattle.layout_model.specs.Labels.{Defined, Unnamed, LocalLabel, Label, Equal, MapField, RegisterName, defined_by, imported_in}
-use Rattle.layout_model.specs.Laid.{Declared, declared, LaidLine, statements_of, taken, laid_behind, laid_of, laid, all_locals, final_line, final_names}
-use Rattle.layout_model.specs.LayoutKinds.{listed}
-use Rattle.layout_model.specs.Marks.{datum_names}
-use Rattle.layout_model.specs.Symbols.{literal_value, unless_placed, word_symbols, words_symbols, branch_symbols, literal_symbols, symbols_in, listed_behind, symbols_behind, symbols_of}
+use Rattle.asm_model.specs.Before.{with_name, areas_behind, is_thumb_label}
+use Rattle.asm_model.specs.Entries.{label_entry, imported_entry, thumb_of}
+use Rattle.asm_model.specs.Extents.{Extent, Block, Padding, Loading, Pool}
+use Rattle.asm_model.specs.Labels.{Defined, Unnamed, LocalLabel, Label, Equal, MapField, RegisterName, defined_by, imported_in}
+use Rattle.asm_model.specs.Laid.{Declared, declared, LaidLine, statements_of, taken, laid_behind, laid_of, laid, all_locals, final_line, final_names}
+use Rattle.asm_model.specs.LayoutKinds.{listed}
+use Rattle.asm_model.specs.Marks.{datum_names}
+use Rattle.asm_model.specs.Symbols.{literal_value, unless_placed, word_symbols, words_symbols, branch_symbols, literal_symbols, symbols_in, listed_behind, symbols_behind, symbols_of}
 use Rattle.layout_laws.proofs.FoundLemmas.{labels_stand, imports_stand}
 use Rattle.layout_laws.proofs.RoundLemmas.{ResultIs, named_joined}
 use Rattle.said_model.specs.Fit.{AllPlaceless, WhatFits, IsFit}

@@ -25,12 +25,12 @@ use Rattle.asm_model.specs.Forms.{same}
 use Rattle.asm_model.specs.Meaning.{stands_at, in_area}
 use Rattle.asm_model.specs.Says.{on_both, mapped}
 use Rattle.asm_model.proofs.WordLemmas.{same_refl, same_true}
-use Rattle.layout_model.specs.Before.{with_name}
-use Rattle.layout_model.specs.Extents.{Extent, Block, Padding, Loading, number_there, value_there, as_multiple, padding, thumb_extent, extent_of}
-use Rattle.layout_model.specs.Laid.{LaidLine, taken, laid, all_locals, final_line, final_names}
-use Rattle.layout_model.specs.Locals.{Local}
-use Rattle.layout_model.specs.Marks.{datum_names}
-use Rattle.layout_model.specs.Symbols.{literal_value, unless_placed, word_symbols, words_symbols, branch_symbols, arm_symbols, literal_symbols, symbols_in, listed_behind, symbols_behind}
+use Rattle.asm_model.specs.Before.{with_name}
+use Rattle.asm_model.specs.Extents.{Extent, Block, Padding, Loading, number_there, value_there, as_multiple, padding, thumb_extent, extent_of}
+use Rattle.asm_model.specs.Laid.{LaidLine, taken, laid, all_locals, final_line, final_names}
+use Rattle.asm_model.specs.Locals.{Local}
+use Rattle.asm_model.specs.Marks.{datum_names}
+use Rattle.asm_model.specs.Symbols.{literal_value, unless_placed, word_symbols, words_symbols, branch_symbols, arm_symbols, literal_symbols, symbols_in, listed_behind, symbols_behind}
 use Rattle.source_model.specs.ArmForms.{arm_instruction, is_settled}
 use Rattle.source_model.specs.Contexts.{Context, sees, value_of, number_in, and_then}
 use Rattle.source_model.specs.Objects.{Piece, unit_bytes, units_from, or_none, source_of, IsAmong, StandsIn}

@@ -10,7 +10,7 @@ use Rattle.aof_object.specs.Spelling.{area_names}
 use Rattle.aof_object.specs.Validity.{head_of, heads, IsArea, Holds, IsSymbol, IsEntered, IsValid}
 use Rattle.asm_model.specs.declared.statements.Statement.{Statement}
 use Rattle.asm_model.specs.Forms.{same}
-use Rattle.layout_model.specs.Symbols.{symbols_of}
+use Rattle.asm_model.specs.Symbols.{symbols_of}
 use Rattle.said_model.specs.Fit.{AllFit}
 use Rattle.said_model.specs.Said.{AllSaid, AllHaveTexts}
 use Rattle.source_model.specs.Objects.{Piece, source_of, StandsIn, IsObject}

@@ -11,7 +11,7 @@ use Rattle.asm_model.specs.declared.directives.DirectiveLine.TheVariants as line
 use Rattle.asm_model.specs.declared.statements.Statement.{Statement}
 use Rattle.asm_model.specs.declared.statements.What.{What}
 use Rattle.asm_model.specs.declared.statements.What.TheVariants as what
-use Rattle.layout_laws.specs.Sound.{HaveNoPlaces}
+use Rattle.asm_model.specs.Sound.{HaveNoPlaces}
 
 -- of an area that is for interworking, and of one of half-words
 abbrev pub MarksAgree : Contents → Bool → Bool → Type 0

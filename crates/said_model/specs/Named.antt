@@ -6,7 +6,7 @@ use Rattle.asm_model.specs.declared.statements.PseudoLine.TheVariants as pseudo
 use Rattle.asm_model.specs.declared.statements.Statement.{Statement}
 use Rattle.asm_model.specs.declared.statements.What.{What}
 use Rattle.asm_model.specs.declared.statements.What.TheVariants as what
-use Rattle.layout_model.specs.PlacedLines.{IsName}
+use Rattle.asm_model.specs.PlacedLines.{IsName}
 
 abbrev pub ItemNamed : ExprItem → Type 0
 ItemNamed (item.Name name) = IsName name

@@ -37,8 +37,8 @@ use Rattle.asm_model.specs.declared.statements.Statement.{Statement}
 use Rattle.asm_model.specs.declared.statements.What.{What}
 use Rattle.asm_model.specs.declared.statements.What.TheVariants as what
 use Rattle.asm_model.specs.Grammar.{Tree, postfix, IsSpelled}
-use Rattle.layout_model.specs.Labels.{Defined, LocalLabel, defined_by, imported_in}
-use Rattle.layout_laws.specs.Sound.{IsBare, HaveNoPlaces, IsPlainDefined, IsPlainImport}
+use Rattle.asm_model.specs.Labels.{Defined, LocalLabel, defined_by, imported_in}
+use Rattle.asm_model.specs.Sound.{IsBare, HaveNoPlaces, IsPlainDefined, IsPlainImport}
 
 -- ---- operands
 

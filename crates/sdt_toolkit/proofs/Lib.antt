@@ -2,3 +2,5 @@ mod Meaning
 mod Seen
 mod ViewLaws
 pub mod CommandLemmas
+mod AskLemmas
+mod EndLemmas

@@ -9,7 +9,7 @@ use Rattle.tool_words.specs.declared.command.WordsFault.{WordsFault}
 use Rattle.tool_words.specs.declared.command.WordsFault.TheVariants as fault
 use Rattle.tool_words.specs.Items.{word_at}
 use Rattle.tool_answers.specs.Outcomes.{Outside, IsLeft, Answers, OfAll, OfOne}
-use Rattle.tool_assembly.specs.Sources.{AssemblyAnswers}
+use Rattle.sdt_toolkit.specs.Sources.{AssemblyAnswers}
 use Rattle.tool_library.specs.Libraries.{created, creates, listed, lists, extracted, extracts}
 use Rattle.arm7_bus.specs.Seats.{Seat}
 use Rattle.tool_listing.specs.Lists.{listing_of}

@@ -9,7 +9,7 @@ use sdt_fault::answer::Answer;
 use sdt_fault::refusal::Refusal;
 use sdt_outside::{Device, Sink, Store};
 use std::alloc::Global;
-use tool_assembly::assemble_file;
+use crate::assemble::assemble_file;
 use tool_library::{create_library, extract_member, list_members};
 use tool_listing::list_file;
 use tool_run::run;

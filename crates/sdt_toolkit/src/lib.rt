@@ -16,8 +16,10 @@ use sdt_fault::answer::Answer;
 use sdt_outside::{Device, Sink, Store};
 use std::alloc::Global;
 
+mod assemble;
 mod build;
 mod commands;
+pub mod laws;
 mod words;
 
 /// Carries out a command: `build -bin -o OUT SRC`, where SRC is a source of numbers, one of the

@@ -12,14 +12,14 @@ use Rattle.asm_model.specs.declared.statements.Statement.{Statement}
 use Rattle.asm_model.specs.Directives.{or_else}
 use Rattle.asm_model.specs.Forms.{same}
 use Rattle.asm_model.specs.Meaning.{named_in, entry_stands_at, in_area, stands_at, binary, value_of, on_both}
-use Rattle.layout_model.specs.Entries.{thumb_of}
-use Rattle.layout_model.specs.Before.{area_behind, stretch_behind}
-use Rattle.layout_model.specs.Labels.{defined_by}
-use Rattle.layout_model.specs.Laid.{Declared, declared, LaidLine, statements_of, locals_of, offset_behind, laid_behind, laid, all_locals, final_names}
-use Rattle.layout_model.specs.Locals.{Local, local_entries, digits_of, reference, references_to, is_new, back_of, forth_of}
-use Rattle.layout_model.specs.Marks.{datum_names, thumb_bit}
-use Rattle.layout_model.specs.Symbols.{literal_value}
-use Rattle.layout_laws.specs.Sound.{IsBare, ArePlain}
+use Rattle.asm_model.specs.Entries.{thumb_of}
+use Rattle.asm_model.specs.Before.{area_behind, stretch_behind}
+use Rattle.asm_model.specs.Labels.{defined_by}
+use Rattle.asm_model.specs.Laid.{Declared, declared, LaidLine, statements_of, locals_of, offset_behind, laid_behind, laid, all_locals, final_names}
+use Rattle.asm_model.specs.Locals.{Local, local_entries, digits_of, reference, references_to, is_new, back_of, forth_of}
+use Rattle.asm_model.specs.Marks.{datum_names, thumb_bit}
+use Rattle.asm_model.specs.Symbols.{literal_value}
+use Rattle.asm_model.specs.Sound.{IsBare, ArePlain}
 use Rattle.layout_laws.proofs.KnownLemmas.{named_within}
 use Rattle.layout_laws.proofs.NamedLemmas.{bare_other, none_joined}
 use Rattle.layout_laws.proofs.RoundLemmas.{SymbolIs, ResultIs, EachIs, each_closed, both_is, value_is}

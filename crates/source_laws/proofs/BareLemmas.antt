@@ -11,13 +11,13 @@ use Rattle.asm_model.specs.declared.statements.Statement.{Statement}
 use Rattle.asm_model.specs.AtLine.{Definition, Nameless, Named, Equated, SourceLine, with_names, all_names, made_name}
 use Rattle.asm_model.specs.Grammar.{Tree, Leaf, Before, Between}
 use Rattle.asm_model.specs.Meaning.{named_in, operand_of_item, operand_of_tree, known, meaning}
-use Rattle.layout_model.specs.Before.{area_behind, is_thumb_label}
-use Rattle.layout_model.specs.Entries.{equal_entry}
-use Rattle.layout_model.specs.Labels.{Defined, Unnamed, LocalLabel, Label, Equal, MapField, RegisterName, defined_by, imported_in}
-use Rattle.layout_model.specs.Laid.{Declared, declared, LaidLine, statements_of, map_behind, offset_behind, tree_equated, definition_of, imported_lines, laid_behind, laid_of, laid, final_line, final_lines, all_locals, source_lines, entries_with, all_entries, names_after, final_names}
-use Rattle.layout_model.specs.Locals.{Local}
-use Rattle.layout_model.specs.Trees.{grown, grown_behind, alone, tree_behind, tree_of}
-use Rattle.layout_laws.specs.Sound.{IsBare, HasNoPlace, HaveNoPlaces, IsPlainDefined, IsPlainImport, ArePlain}
+use Rattle.asm_model.specs.Before.{area_behind, is_thumb_label}
+use Rattle.asm_model.specs.Entries.{equal_entry}
+use Rattle.asm_model.specs.Labels.{Defined, Unnamed, LocalLabel, Label, Equal, MapField, RegisterName, defined_by, imported_in}
+use Rattle.asm_model.specs.Laid.{Declared, declared, LaidLine, statements_of, map_behind, offset_behind, tree_equated, definition_of, imported_lines, laid_behind, laid_of, laid, final_line, final_lines, all_locals, source_lines, entries_with, all_entries, names_after, final_names}
+use Rattle.asm_model.specs.Locals.{Local}
+use Rattle.asm_model.specs.Trees.{grown, grown_behind, alone, tree_behind, tree_of}
+use Rattle.asm_model.specs.Sound.{IsBare, HasNoPlace, HaveNoPlaces, IsPlainDefined, IsPlainImport, ArePlain}
 use Rattle.layout_laws.proofs.EqualLemmas.{each_is_joined, lines_regular}
 use Rattle.layout_laws.proofs.RoundLemmas.{SymbolIs, ResultIs, EachIs, each_closed, value_is, applied_is, both_is}
 use Rattle.layout_laws.proofs.SettledLemmas.{no_place_is}

@@ -6,11 +6,11 @@ use Rattle.asm_model.specs.declared.statements.What.{What}
 use Rattle.asm_model.specs.declared.statements.What.TheVariants as what
 use Rattle.asm_model.specs.Kinds.{told_kind}
 use Rattle.asm_model.proofs.LineLemmas.{both_empty}
-use Rattle.layout_model.specs.Before.{state_behind, thumb_behind}
-use Rattle.layout_model.specs.Laid.{Declared, declared, LaidLine, pieces_of, reversed, laid_behind, laid_of, laid}
-use Rattle.layout_model.specs.LayoutKinds.{equals_in, settled, layout_kinds, told_at, first_fault, first_late}
-use Rattle.layout_model.specs.Offsets.{area_size}
-use Rattle.layout_laws.specs.Sound.{IsSound, ArePlain}
+use Rattle.asm_model.specs.Before.{state_behind, thumb_behind}
+use Rattle.asm_model.specs.Laid.{Declared, declared, LaidLine, pieces_of, reversed, laid_behind, laid_of, laid}
+use Rattle.asm_model.specs.LayoutKinds.{equals_in, settled, layout_kinds, told_at, first_fault, first_late}
+use Rattle.asm_model.specs.Offsets.{area_size}
+use Rattle.asm_model.specs.Sound.{IsSound, ArePlain}
 use Rattle.layout_laws.proofs.SoundLemmas.{or_none, told_none, statements_kept}
 use Rattle.said_model.specs.Said.{AllSaid}
 use Rattle.source_model.specs.Objects.{Piece, unit_bytes, source_of, StandsIn}

@@ -5,17 +5,17 @@ use Rattle.sdt_fault.specs.declared.kinds.LineKind.{LineKind}
 use Rattle.sdt_fault.specs.declared.kinds.LineKind.TheVariants.{TooMany}
 use Rattle.asm_model.specs.declared.statements.Statement.{Statement}
 use Rattle.asm_model.specs.Kinds.{told_kind}
-use Rattle.layout_model.specs.Extents.{Extent}
-use Rattle.layout_model.specs.Laid.{Declared, declared, LaidLine, statements_of, taken, pieces_of, laid_behind, laid_of, laid}
-use Rattle.layout_model.specs.Labels.{defined_by}
-use Rattle.layout_model.specs.LayoutKinds.{fault_kinds, kind_if, map_kinds, no_area_kinds, contents_kinds, contents_behind, area_kinds, name_kinds, settled_kinds, equals_in, settled, layout_kinds, told_at, first_fault, area_bytes}
-use Rattle.layout_model.specs.Offsets.{Piece, lacking, waiting, alignment_of, end_behind, start_in, size_of, offset_of, size_behind, end_from, area_size}
-use Rattle.layout_model.proofs.LaidLemmas.{lines_stand_at_offsets}
-use Rattle.layout_model.proofs.OffsetLemmas.{more, through, end_here, end_rises, all_rise, up_to_size}
-use Rattle.layout_laws.specs.Sound.{IsSound}
+use Rattle.asm_model.specs.Extents.{Extent}
+use Rattle.asm_model.specs.Laid.{Declared, declared, LaidLine, statements_of, taken, pieces_of, laid_behind, laid_of, laid}
+use Rattle.asm_model.specs.Labels.{defined_by}
+use Rattle.asm_model.specs.LayoutKinds.{fault_kinds, kind_if, map_kinds, no_area_kinds, contents_kinds, contents_behind, area_kinds, name_kinds, settled_kinds, equals_in, settled, layout_kinds, told_at, first_fault, area_bytes}
+use Rattle.asm_model.specs.Offsets.{Piece, lacking, waiting, alignment_of, end_behind, start_in, size_of, offset_of, size_behind, end_from, area_size}
+use Rattle.asm_model.proofs.LaidLemmas.{lines_stand_at_offsets}
+use Rattle.asm_model.proofs.OffsetLemmas.{more, through, end_here, end_rises, all_rise, up_to_size}
+use Rattle.asm_model.specs.Sound.{IsSound}
 use Rattle.layout_laws.proofs.SoundLemmas.{or_none, told_none}
 use Rattle.std.specs.Prelude.{nat_lt}
-use Rattle.layout_model.specs.Extents.{Pool}
+use Rattle.asm_model.specs.Extents.{Pool}
 use Rattle.source_laws.proofs.ListLemmas.{same_first, same_rest}
 
 -- ---- lines

@@ -2,10 +2,10 @@
 use Rattle.std.proofs.Common.{◌≡◌, ℕ, List, [], ◌∷◌, ◌++◌, Bool, true, false, cond, refl, sym, ap, subst, Option, Some, None, ◌⊎◌, inl, inr}
 use Rattle.std.proofs.lemmas.Bool.{cond-true, eqb-true}
 use Rattle.asm_model.specs.declared.statements.Statement.{Statement}
-use Rattle.layout_model.specs.Laid.{LaidLine, taken, pieces_of, laid}
-use Rattle.layout_model.specs.Marks.{datum_names}
-use Rattle.layout_model.specs.Offsets.{is_of}
-use Rattle.layout_model.proofs.OffsetLemmas.{is_here}
+use Rattle.asm_model.specs.Laid.{LaidLine, taken, pieces_of, laid}
+use Rattle.asm_model.specs.Marks.{datum_names}
+use Rattle.asm_model.specs.Offsets.{is_of}
+use Rattle.asm_model.proofs.OffsetLemmas.{is_here}
 use Rattle.source_model.specs.Objects.{Piece, pieces_in, source_of, in_order, IsAmong, StandsIn}
 use Rattle.source_model.specs.SourceFaults.{word_of}
 use Rattle.source_laws.specs.Laws.{context_behind, things_of, things_behind, things_in}

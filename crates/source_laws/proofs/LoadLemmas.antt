@@ -24,12 +24,12 @@ use Rattle.asm_model.specs.Grammar.{Tree, Leaf, Before, Between}
 use Rattle.asm_model.specs.Kinds.{told_kind}
 use Rattle.asm_model.specs.Meaning.{meaning}
 use Rattle.asm_model.specs.Says.{on_both, mapped}
-use Rattle.layout_model.specs.Before.{area_behind, stretch_behind, is_thumb_label}
-use Rattle.layout_model.specs.Extents.{Extent, Block, Padding, Loading, number_there, literal_there, tree_literal, is_moved, instruction, loading, thumb_extent, as_multiple, padding, extent_of}
-use Rattle.layout_model.specs.Labels.{defined_by, imported_in}
-use Rattle.layout_model.specs.Laid.{Declared, declared, LaidLine, statements_of, lines_of, map_behind, offset_behind, line_behind, definition_behind, taken, laid_behind, laid_of, laid}
-use Rattle.layout_model.specs.Trees.{tree_of}
-use Rattle.layout_laws.specs.Sound.{IsBare, HasNoPlace, HaveNoPlaces, ArePlain}
+use Rattle.asm_model.specs.Before.{area_behind, stretch_behind, is_thumb_label}
+use Rattle.asm_model.specs.Extents.{Extent, Block, Padding, Loading, number_there, literal_there, tree_literal, is_moved, instruction, loading, thumb_extent, as_multiple, padding, extent_of}
+use Rattle.asm_model.specs.Labels.{defined_by, imported_in}
+use Rattle.asm_model.specs.Laid.{Declared, declared, LaidLine, statements_of, lines_of, map_behind, offset_behind, line_behind, definition_behind, taken, laid_behind, laid_of, laid}
+use Rattle.asm_model.specs.Trees.{tree_of}
+use Rattle.asm_model.specs.Sound.{IsBare, HasNoPlace, HaveNoPlaces, ArePlain}
 use Rattle.layout_laws.proofs.EqualLemmas.{each_is_joined, back_behind_is, forth_is, definition_regular, imported_regular, regular_joined}
 use Rattle.layout_laws.proofs.RoundLemmas.{SymbolIs, ResultIs, EachIs}
 use Rattle.layout_laws.proofs.SettledLemmas.{no_place_is}

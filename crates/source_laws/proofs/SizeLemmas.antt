@@ -23,8 +23,8 @@ use Rattle.asm_model.specs.declared.values.Value.{Value}
 use Rattle.asm_model.specs.declared.values.Value.TheVariants.{Number, Truth, Words, Place}
 use Rattle.asm_model.specs.AtLine.{Sight}
 use Rattle.asm_model.specs.Says.{on_both, mapped}
-use Rattle.layout_model.specs.Extents.{Extent, Block, Padding, Loading, Pool, value_there, literal_there, is_moved, instruction, loading, thumb_extent, byte_count, byte_counts, extent_of}
-use Rattle.layout_model.specs.Offsets.{size_of}
+use Rattle.asm_model.specs.Extents.{Extent, Block, Padding, Loading, Pool, value_there, literal_there, is_moved, instruction, loading, thumb_extent, byte_count, byte_counts, extent_of}
+use Rattle.asm_model.specs.Offsets.{size_of}
 use Rattle.source_model.specs.ArmForms.{arm_instruction}
 use Rattle.source_model.specs.Contexts.{Context, value_of, number_in, register, and_then, offset_below, own_offset, from_pc}
 use Rattle.source_model.specs.Immediates.{data_immediate, negated}

@@ -5,13 +5,13 @@ use Rattle.std.specs.Prelude.{Result, Ok, Err}
 use Rattle.sdt_fault.specs.declared.kinds.LineKind.{LineKind}
 use Rattle.asm_model.specs.declared.statements.Statement.{Statement}
 use Rattle.asm_model.specs.declared.values.Value.{Value}
-use Rattle.layout_model.specs.Extents.{Extent, Block, Padding, Loading, Pool, extent_of}
-use Rattle.layout_model.specs.Laid.{LaidLine, taken, pieces_of, declared, laid}
-use Rattle.layout_model.specs.LayoutKinds.{equals_in, settled, first_fault}
-use Rattle.layout_model.specs.Marks.{datum_names}
-use Rattle.layout_model.specs.Offsets.{waiting, start_in, area_size, is_pool, is_pool_of}
-use Rattle.layout_model.specs.Symbols.{literal_value}
-use Rattle.layout_laws.specs.Sound.{IsSound}
+use Rattle.asm_model.specs.Extents.{Extent, Block, Padding, Loading, Pool, extent_of}
+use Rattle.asm_model.specs.Laid.{LaidLine, taken, pieces_of, declared, laid}
+use Rattle.asm_model.specs.LayoutKinds.{equals_in, settled, first_fault}
+use Rattle.asm_model.specs.Marks.{datum_names}
+use Rattle.asm_model.specs.Offsets.{waiting, start_in, area_size, is_pool, is_pool_of}
+use Rattle.asm_model.specs.Symbols.{literal_value}
+use Rattle.asm_model.specs.Sound.{IsSound}
 use Rattle.source_model.specs.Contexts.{Context, sees}
 use Rattle.source_model.specs.Objects.{Piece, unit_bytes, units_bytes, units_from, or_none, literal_unit, literal_piece, source_of, IsAmong, StandsIn}
 use Rattle.source_model.specs.Units.{Emitted, Word, Stored, stored, units}

@@ -10,13 +10,13 @@ use Rattle.asm_model.specs.AtLine.{Definition, Nameless, Named, Equated, SourceL
 use Rattle.asm_model.specs.Forms.{same}
 use Rattle.asm_model.specs.Grammar.{Tree}
 use Rattle.asm_model.specs.Meaning.{named_in, meaning, entry_stands_at, in_area}
-use Rattle.layout_model.specs.Before.{area_named, with_name, areas_behind, place_of, area_from, area_behind}
-use Rattle.layout_model.specs.Entries.{equal_entry}
-use Rattle.layout_model.specs.Labels.{Defined, Unnamed, LocalLabel, Label, Equal, MapField, RegisterName, defined_by, imported_in}
-use Rattle.layout_model.specs.Laid.{Declared, LaidLine, statements_of, laid_of, laid_behind, reversed, final_line, final_lines, tree_equated, definition_of, imported_lines, entries_with, all_entries, names_after, map_behind, offset_behind, locals_of}
-use Rattle.layout_model.specs.Before.{is_thumb_label, stretch_behind}
-use Rattle.layout_model.specs.Locals.{Local, local_entries, digits_of, reference, references_to, is_new, back_of, forth_of}
-use Rattle.layout_model.specs.Trees.{tree_of}
+use Rattle.asm_model.specs.Before.{area_named, with_name, areas_behind, place_of, area_from, area_behind}
+use Rattle.asm_model.specs.Entries.{equal_entry}
+use Rattle.asm_model.specs.Labels.{Defined, Unnamed, LocalLabel, Label, Equal, MapField, RegisterName, defined_by, imported_in}
+use Rattle.asm_model.specs.Laid.{Declared, LaidLine, statements_of, laid_of, laid_behind, reversed, final_line, final_lines, tree_equated, definition_of, imported_lines, entries_with, all_entries, names_after, map_behind, offset_behind, locals_of}
+use Rattle.asm_model.specs.Before.{is_thumb_label, stretch_behind}
+use Rattle.asm_model.specs.Locals.{Local, local_entries, digits_of, reference, references_to, is_new, back_of, forth_of}
+use Rattle.asm_model.specs.Trees.{tree_of}
 use Rattle.source_laws.proofs.ZeroLemmas.{place_below, named_with, no_fewer}
 
 -- ---- areas by their numbers

@@ -9,13 +9,13 @@ use Rattle.asm_model.specs.declared.values.Value.{Value}
 use Rattle.asm_model.specs.declared.values.Value.TheVariants.{Number, Place}
 use Rattle.asm_model.specs.Forms.{same}
 use Rattle.asm_model.proofs.WordLemmas.{same_true}
-use Rattle.layout_model.specs.Extents.{Extent, Block, Padding, Loading, Pool}
-use Rattle.layout_model.specs.Laid.{LaidLine, taken, pieces_of, declared, sight_behind, laid}
-use Rattle.layout_model.specs.OffsetLaws.{joined, IsLiteral}
-use Rattle.layout_model.specs.Offsets.{Piece, is_of, lacking, alignment_of, same_literal, waiting, end_behind, start_in, area_size, place_among, word_behind, is_pool, is_pool_of, literal_word}
-use Rattle.layout_model.proofs.LaidLemmas.{loadings_are_literals}
-use Rattle.layout_model.proofs.OffsetLemmas.{more_twice, same_le, through, behind_rises, joined_rises, behind_keeps, word_below, pool_end, loaded_waits, literals_have_words}
-use Rattle.layout_laws.specs.Sound.{IsSound}
+use Rattle.asm_model.specs.Extents.{Extent, Block, Padding, Loading, Pool}
+use Rattle.asm_model.specs.Laid.{LaidLine, taken, pieces_of, declared, sight_behind, laid}
+use Rattle.asm_model.specs.OffsetLaws.{joined, IsLiteral}
+use Rattle.asm_model.specs.Offsets.{Piece, is_of, lacking, alignment_of, same_literal, waiting, end_behind, start_in, area_size, place_among, word_behind, is_pool, is_pool_of, literal_word}
+use Rattle.asm_model.proofs.LaidLemmas.{loadings_are_literals}
+use Rattle.asm_model.proofs.OffsetLemmas.{more_twice, same_le, through, behind_rises, joined_rises, behind_keeps, word_below, pool_end, loaded_waits, literals_have_words}
+use Rattle.asm_model.specs.Sound.{IsSound}
 use Rattle.source_model.specs.Contexts.{or_zero}
 use Rattle.source_model.specs.Objects.{in_order}
 use Rattle.source_model.specs.SourceFaults.{word_of}

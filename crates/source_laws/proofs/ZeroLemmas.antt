@@ -21,14 +21,14 @@ use Rattle.asm_model.specs.Kinds.{told_kind}
 use Rattle.asm_model.specs.Says.{on_both, mapped}
 use Rattle.asm_model.proofs.LineLemmas.{both_empty}
 use Rattle.asm_model.proofs.WordLemmas.{same_refl, same_true}
-use Rattle.layout_model.specs.Before.{area_named, with_name, areas_behind, place_of, area_from, area_behind}
-use Rattle.layout_model.specs.Extents.{Extent, Block, Padding, Loading, Pool, number_there, as_multiple, padding, extent_of}
-use Rattle.layout_model.specs.Labels.{defined_by}
-use Rattle.layout_model.specs.Laid.{Declared, declared, LaidLine, statements_of, taken, laid_of, laid}
-use Rattle.layout_model.specs.LayoutKinds.{fault_kinds, kind_if, map_kinds, no_area_kinds, is_zero_statement, contents_kinds, contents_from, contents_behind, exponent, exponent_kinds, same_contents, same_mark, same_exponent, same_attributes, again_with, is_named_otherwise, area_kinds, name_kinds, equals_in, settled, settled_kinds, layout_kinds, told_at, first_fault, area_bytes}
-use Rattle.layout_model.specs.Marks.{datum_names}
-use Rattle.layout_model.specs.Offsets.{is_of}
-use Rattle.layout_model.proofs.OffsetLemmas.{is_here}
+use Rattle.asm_model.specs.Before.{area_named, with_name, areas_behind, place_of, area_from, area_behind}
+use Rattle.asm_model.specs.Extents.{Extent, Block, Padding, Loading, Pool, number_there, as_multiple, padding, extent_of}
+use Rattle.asm_model.specs.Labels.{defined_by}
+use Rattle.asm_model.specs.Laid.{Declared, declared, LaidLine, statements_of, taken, laid_of, laid}
+use Rattle.asm_model.specs.LayoutKinds.{fault_kinds, kind_if, map_kinds, no_area_kinds, is_zero_statement, contents_kinds, contents_from, contents_behind, exponent, exponent_kinds, same_contents, same_mark, same_exponent, same_attributes, again_with, is_named_otherwise, area_kinds, name_kinds, equals_in, settled, settled_kinds, layout_kinds, told_at, first_fault, area_bytes}
+use Rattle.asm_model.specs.Marks.{datum_names}
+use Rattle.asm_model.specs.Offsets.{is_of}
+use Rattle.asm_model.proofs.OffsetLemmas.{is_here}
 use Rattle.layout_laws.proofs.SoundLemmas.{or_none, told_none, kind_none, not_false}
 use Rattle.source_model.specs.Contexts.{Context}
 use Rattle.source_model.specs.Objects.{Piece, units_from, or_none as units_or_none, literal_piece, source_of, IsAmong, StandsIn, contents_in, contents_of}

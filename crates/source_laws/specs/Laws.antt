@@ -15,12 +15,12 @@ use Rattle.asm_model.specs.declared.statements.What.TheVariants as what
 use Rattle.asm_model.specs.declared.values.Value.{Value}
 use Rattle.asm_model.specs.declared.values.Value.TheVariants.{Place}
 use Rattle.asm_model.specs.AtLine.{Sight}
-use Rattle.layout_model.specs.Extents.{Extent, Loading, Pool, extent_of}
-use Rattle.layout_model.specs.Laid.{LaidLine, taken, pieces_of, laid, all_locals, final_names}
-use Rattle.layout_model.specs.Marks.{datum_names}
-use Rattle.layout_model.specs.Offsets.{size_of, area_size, is_of, is_pool, is_pool_of}
-use Rattle.layout_model.specs.Symbols.{literal_value}
-use Rattle.layout_laws.specs.Sound.{IsSound, IsBare, ArePlain}
+use Rattle.asm_model.specs.Extents.{Extent, Loading, Pool, extent_of}
+use Rattle.asm_model.specs.Laid.{LaidLine, taken, pieces_of, laid, all_locals, final_names}
+use Rattle.asm_model.specs.Marks.{datum_names}
+use Rattle.asm_model.specs.Offsets.{size_of, area_size, is_of, is_pool, is_pool_of}
+use Rattle.asm_model.specs.Symbols.{literal_value}
+use Rattle.asm_model.specs.Sound.{IsSound, IsBare, ArePlain}
 use Rattle.said_model.specs.Said.{LoadsBare, AllSaid}
 use Rattle.source_model.specs.Contexts.{Context, sees}
 use Rattle.source_model.specs.Objects.{Piece, unit_bytes, units_bytes, units_from, pieces_in, Source, source_of, in_order, IsAmong, StandsIn, contents_of, IsObject}

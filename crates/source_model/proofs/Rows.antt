@@ -31,7 +31,7 @@ use Rattle.asm_model.specs.declared.statements.PseudoLine.{PseudoLine}
 use Rattle.asm_model.specs.declared.statements.PseudoLine.TheVariants as pseudo
 use Rattle.asm_model.specs.declared.statements.What.TheVariants as what
 use Rattle.asm_model.specs.AtLine.{SourceLine, Sight, Nameless, sight}
-use Rattle.layout_model.specs.Entries.{label_entry, imported_entry, valued_entry}
+use Rattle.asm_model.specs.Entries.{label_entry, imported_entry, valued_entry}
 use Rattle.source_model.specs.Contexts.{Context}
 use Rattle.source_model.specs.Registers.{name_kinds, operand_kinds}
 use Rattle.source_model.specs.ValueKinds.{statement_kinds}

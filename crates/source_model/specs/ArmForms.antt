@@ -31,8 +31,8 @@ use Rattle.asm_model.specs.declared.values.Value.TheVariants.{Number, Place}
 use Rattle.asm_model.specs.Forms.{same}
 use Rattle.asm_model.specs.Meaning.{named_in, stands_at}
 use Rattle.asm_model.specs.Says.{mapped}
-use Rattle.layout_model.specs.Entries.{thumb_of}
-use Rattle.layout_model.specs.Symbols.{is_in_area, same_state}
+use Rattle.asm_model.specs.Entries.{thumb_of}
+use Rattle.asm_model.specs.Symbols.{is_in_area, same_state}
 use Rattle.source_model.specs.Contexts.{Context, sees, value_of, number_in, register, and_then, offset_below, own_offset, from_pc}
 use Rattle.source_model.specs.Immediates.{immediate, data_immediate, status_of}
 

@@ -11,9 +11,9 @@ use Rattle.asm_model.specs.declared.values.Value.{Value}
 use Rattle.asm_model.specs.declared.values.Value.TheVariants.{Place}
 use Rattle.asm_model.specs.AtLine.{SourceLine}
 use Rattle.asm_model.specs.Meaning.{stands_at}
-use Rattle.layout_model.specs.Extents.{as_number}
-use Rattle.layout_model.specs.Laid.{final_value}
-use Rattle.layout_model.specs.Symbols.{final_sight}
+use Rattle.asm_model.specs.Extents.{as_number}
+use Rattle.asm_model.specs.Laid.{final_value}
+use Rattle.asm_model.specs.Symbols.{final_sight}
 use Rattle.source_model.specs.Registers.{Named, number_of}
 
 -- all names of the source, the statement's line, the names for registers that are known there, the names that symbols may

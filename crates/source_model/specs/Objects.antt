@@ -26,14 +26,14 @@ use Rattle.asm_model.specs.AtLine.{Nameless}
 use Rattle.asm_model.specs.Directives.{or_else}
 use Rattle.asm_model.specs.Forms.{same}
 use Rattle.asm_model.specs.Meaning.{named_in, stands_at}
-use Rattle.layout_model.specs.Before.{areas_behind, place_of, is_code}
-use Rattle.layout_model.specs.Entries.{thumb_of}
-use Rattle.layout_model.specs.Extents.{Extent, Loading}
-use Rattle.layout_model.specs.Laid.{LaidLine, taken, pieces_of, laid, all_locals, final_names}
-use Rattle.layout_model.specs.LayoutKinds.{exponent, is_entry, is_thumb_area}
-use Rattle.layout_model.specs.Marks.{datum_names}
-use Rattle.layout_model.specs.Offsets.{is_of, area_size}
-use Rattle.layout_model.specs.Symbols.{symbols_of, literal_value}
+use Rattle.asm_model.specs.Before.{areas_behind, place_of, is_code}
+use Rattle.asm_model.specs.Entries.{thumb_of}
+use Rattle.asm_model.specs.Extents.{Extent, Loading}
+use Rattle.asm_model.specs.Laid.{LaidLine, taken, pieces_of, laid, all_locals, final_names}
+use Rattle.asm_model.specs.LayoutKinds.{exponent, is_entry, is_thumb_area}
+use Rattle.asm_model.specs.Marks.{datum_names}
+use Rattle.asm_model.specs.Offsets.{is_of, area_size}
+use Rattle.asm_model.specs.Symbols.{symbols_of, literal_value}
 use Rattle.source_model.specs.Contexts.{Context, sees}
 use Rattle.source_model.specs.SourceFaults.{context_of, word_of as literal_place}
 use Rattle.source_model.specs.Units.{Emitted, Bytes, Word, Instruction, Stored, Target, Nothing, ByArea, BySymbol, stored, units}

@@ -6,13 +6,13 @@ use Rattle.asm_model.specs.declared.names.LaidName.{LaidName}
 use Rattle.asm_model.specs.declared.statements.Statement.{Statement}
 use Rattle.asm_model.specs.Directives.{or_else}
 use Rattle.asm_model.specs.Kinds.{told_kind}
-use Rattle.layout_model.specs.Extents.{Extent, Loading}
-use Rattle.layout_model.specs.Labels.{Defined, Label, defined_by, imported_in}
-use Rattle.layout_model.specs.Laid.{LaidLine, taken, pieces_of, laid, reversed, all_locals, final_line, final_names}
-use Rattle.layout_model.specs.LayoutKinds.{layout_kinds, told_at, first_late, names_behind, settled, equals_in, listed}
-use Rattle.layout_model.specs.Locals.{Local}
-use Rattle.layout_model.specs.Marks.{datum_names}
-use Rattle.layout_model.specs.Offsets.{Piece, area_size, literal_word}
+use Rattle.asm_model.specs.Extents.{Extent, Loading}
+use Rattle.asm_model.specs.Labels.{Defined, Label, defined_by, imported_in}
+use Rattle.asm_model.specs.Laid.{LaidLine, taken, pieces_of, laid, reversed, all_locals, final_line, final_names}
+use Rattle.asm_model.specs.LayoutKinds.{layout_kinds, told_at, first_late, names_behind, settled, equals_in, listed}
+use Rattle.asm_model.specs.Locals.{Local}
+use Rattle.asm_model.specs.Marks.{datum_names}
+use Rattle.asm_model.specs.Offsets.{Piece, area_size, literal_word}
 use Rattle.source_model.specs.Contexts.{Context}
 use Rattle.source_model.specs.Registers.{register_names, register_kinds, registers_behind}
 use Rattle.source_model.specs.ValueKinds.{value_kinds}

@@ -19,8 +19,8 @@ use Rattle.asm_model.specs.declared.statements.What.TheVariants as what
 use Rattle.asm_model.specs.AtLine.{Sight}
 use Rattle.asm_model.specs.Meaning.{stands_at}
 use Rattle.asm_model.specs.Says.{on_both, mapped}
-use Rattle.layout_model.specs.Extents.{value_there}
-use Rattle.layout_model.specs.Marks.{counts_one, thumb_bit}
+use Rattle.asm_model.specs.Extents.{value_there}
+use Rattle.asm_model.specs.Marks.{counts_one, thumb_bit}
 use Rattle.source_model.specs.Contexts.{Context, sees, value_of, number_in, and_then}
 use Rattle.source_model.specs.ArmForms.{arm_instruction, is_settled}
 use Rattle.source_model.specs.PseudoForms.{pseudo_instructions}

@@ -14,9 +14,9 @@ use Rattle.asm_model.specs.declared.values.Value.TheVariants.{Number, Truth, Pla
 use Rattle.asm_model.specs.AtLine.{Sight}
 use Rattle.asm_model.specs.Forms.{same}
 use Rattle.asm_model.specs.Meaning.{named_in, stands_at}
-use Rattle.layout_model.specs.Extents.{Extent, Loading}
-use Rattle.layout_model.specs.LayoutKinds.{fault_kinds}
-use Rattle.layout_model.specs.Symbols.{literal_value}
+use Rattle.asm_model.specs.Extents.{Extent, Loading}
+use Rattle.asm_model.specs.LayoutKinds.{fault_kinds}
+use Rattle.asm_model.specs.Symbols.{literal_value}
 use Rattle.source_model.specs.Contexts.{Context, sees, value_of}
 use Rattle.source_model.specs.Units.{stored, units}
 

@@ -19,9 +19,9 @@ use Rattle.asm_model.specs.declared.values.Value.TheVariants.{Number, Truth, Wor
 use Rattle.asm_model.specs.Meaning.{named_in, in_area, stands_at}
 use Rattle.asm_model.specs.Forms.{same}
 use Rattle.asm_model.specs.Says.{mapped}
-use Rattle.layout_model.specs.Entries.{thumb_of}
-use Rattle.layout_model.specs.Placing.{address_at, address_of, CountFromHere}
-use Rattle.layout_model.specs.Symbols.{is_in_area, same_state}
+use Rattle.asm_model.specs.Entries.{thumb_of}
+use Rattle.asm_model.specs.Placing.{address_at, address_of, CountFromHere}
+use Rattle.asm_model.specs.Symbols.{is_in_area, same_state}
 use Rattle.patch_model.specs.Fields.{Meant}
 use Rattle.patch_model.specs.Laws.{state_of}
 use Rattle.patch_model.specs.Reaches.{Reaches}

@@ -10,9 +10,9 @@ use Rattle.asm_model.specs.declared.values.Value.{Value}
 use Rattle.asm_model.specs.declared.values.Value.TheVariants.{Number, Truth, Words, Place}
 use Rattle.asm_model.specs.AtLine.{Sight}
 use Rattle.asm_model.specs.Meaning.{stands_at}
-use Rattle.layout_model.specs.Extents.{value_there}
-use Rattle.layout_model.specs.Marks.{counts_one, thumb_bit, datum_names}
-use Rattle.layout_model.specs.Placing.{placed_value, CountFromHere}
+use Rattle.asm_model.specs.Extents.{value_there}
+use Rattle.asm_model.specs.Marks.{counts_one, thumb_bit, datum_names}
+use Rattle.asm_model.specs.Placing.{placed_value, CountFromHere}
 use Rattle.patch_model.specs.Fields.{is_thumb_label}
 use Rattle.patch_model.specs.Reaches.{Shows, ShowsWord}
 use Rattle.source_model.specs.Contexts.{Context, sees, value_of, number_in, and_then}

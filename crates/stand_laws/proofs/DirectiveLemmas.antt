@@ -4,8 +4,8 @@ use Rattle.sdt_word.specs.Numbers.{flag}
 use Rattle.aof_object.specs.declared.records.Reloc.{Reloc}
 use Rattle.arm_isa.specs.declared.instr.ArmInstr.{ArmInstr}
 use Rattle.asm_model.specs.declared.statements.Statement.{Statement}
-use Rattle.layout_model.specs.Laid.{pieces_of, laid}
-use Rattle.layout_model.specs.Offsets.{area_size}
+use Rattle.asm_model.specs.Laid.{pieces_of, laid}
+use Rattle.asm_model.specs.Offsets.{area_size}
 use Rattle.patch_model.specs.Fields.{Kind, Word as WordField, Branch as BranchField, Values, field_of, is_relative, is_by_symbol, number_named, value_named, is_thumb_label, mark_in, mark_of, added, taken, size_of}
 use Rattle.patch_model.specs.Patched.{IsOutside}
 use Rattle.patch_model.proofs.SumLemmas.{one}

@@ -21,14 +21,14 @@ use Rattle.asm_model.specs.AtLine.{Sight}
 use Rattle.asm_model.specs.Forms.{same}
 use Rattle.asm_model.specs.Meaning.{stands_at}
 use Rattle.asm_model.specs.Says.{on_both, mapped}
-use Rattle.layout_model.specs.Before.{areas_behind}
-use Rattle.layout_model.specs.Extents.{Extent, Block, number_there, value_there, extent_of}
-use Rattle.layout_model.specs.Labels.{Defined, LocalLabel, Label, RegisterName, number_in as digits_in, labelled, field_defines, defined_by}
-use Rattle.layout_model.specs.Laid.{LaidLine, statements_of, taken, pieces_of, declared, laid, all_locals, final_line, final_names}
-use Rattle.layout_model.specs.Marks.{datum_names}
-use Rattle.layout_model.specs.Offsets.{waiting, end_behind, start_from}
-use Rattle.layout_model.specs.Symbols.{literal_value}
-use Rattle.layout_laws.specs.Sound.{IsSound}
+use Rattle.asm_model.specs.Before.{areas_behind}
+use Rattle.asm_model.specs.Extents.{Extent, Block, number_there, value_there, extent_of}
+use Rattle.asm_model.specs.Labels.{Defined, LocalLabel, Label, RegisterName, number_in as digits_in, labelled, field_defines, defined_by}
+use Rattle.asm_model.specs.Laid.{LaidLine, statements_of, taken, pieces_of, declared, laid, all_locals, final_line, final_names}
+use Rattle.asm_model.specs.Marks.{datum_names}
+use Rattle.asm_model.specs.Offsets.{waiting, end_behind, start_from}
+use Rattle.asm_model.specs.Symbols.{literal_value}
+use Rattle.asm_model.specs.Sound.{IsSound}
 use Rattle.layout_laws.proofs.SoundLemmas.{statements_kept}
 use Rattle.said_model.specs.Said.{GivenSaid, ArmSaid, PseudoSaid, WhatSaid, AllSaid}
 use Rattle.source_model.specs.ArmForms.{arm_instruction}

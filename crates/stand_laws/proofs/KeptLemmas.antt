@@ -16,7 +16,7 @@ use Rattle.asm_model.specs.AtLine.{Sight, is_in, name_kinds, kept_name, kept_nam
 use Rattle.asm_model.specs.Grammar.{Tree, Leaf, Before, Between}
 use Rattle.asm_model.specs.Meaning.{named_in, binary, unary_of, Known, value_of, then_of, on_both, applied, meaning}
 use Rattle.asm_model.proofs.LineLemmas.{applied_known, both_empty}
-use Rattle.layout_model.specs.PlacedLines.{IsName}
+use Rattle.asm_model.specs.PlacedLines.{IsName}
 use Rattle.layout_laws.proofs.RoundLemmas.{ResultIs}
 use Rattle.source_laws.proofs.BareLemmas.{TreeEach, HoldsConstant}
 use Rattle.said_model.specs.Named.{ItemNamed}

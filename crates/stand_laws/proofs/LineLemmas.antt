@@ -8,10 +8,10 @@ use Rattle.asm_model.specs.declared.statements.Statement.{Statement}
 use Rattle.asm_model.specs.declared.statements.What.{What}
 use Rattle.asm_model.specs.declared.statements.What.TheVariants as what
 use Rattle.asm_model.specs.AtLine.{Sight}
-use Rattle.layout_model.specs.Laid.{LaidLine, taken, pieces_of, laid}
-use Rattle.layout_model.specs.Marks.{datum_names}
-use Rattle.layout_model.specs.Offsets.{area_size, is_pool}
-use Rattle.layout_laws.specs.Sound.{IsSound}
+use Rattle.asm_model.specs.Laid.{LaidLine, taken, pieces_of, laid}
+use Rattle.asm_model.specs.Marks.{datum_names}
+use Rattle.asm_model.specs.Offsets.{area_size, is_pool}
+use Rattle.asm_model.specs.Sound.{IsSound}
 use Rattle.source_model.specs.ArmForms.{arm_instruction}
 use Rattle.source_model.specs.Objects.{unit_bytes, units_from, or_none, source_of, IsAmong}
 use Rattle.source_model.specs.PseudoForms.{pseudo_instructions}

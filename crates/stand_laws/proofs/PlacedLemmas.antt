@@ -10,10 +10,10 @@ use Rattle.aof_object.specs.declared.records.Object.{Object}
 use Rattle.asm_model.specs.declared.statements.Statement.{Statement}
 use Rattle.asm_model.specs.Forms.{same}
 use Rattle.asm_model.specs.Meaning.{named_in}
-use Rattle.layout_model.specs.Before.{areas_behind, place_of}
-use Rattle.layout_model.specs.Laid.{statements_of, declared, laid}
-use Rattle.layout_model.specs.LayoutKinds.{equals_in, settled, is_thumb_area}
-use Rattle.layout_model.specs.Symbols.{symbols_of}
+use Rattle.asm_model.specs.Before.{areas_behind, place_of}
+use Rattle.asm_model.specs.Laid.{statements_of, declared, laid}
+use Rattle.asm_model.specs.LayoutKinds.{equals_in, settled, is_thumb_area}
+use Rattle.asm_model.specs.Symbols.{symbols_of}
 use Rattle.layout_laws.proofs.SoundLemmas.{statements_kept}
 use Rattle.patch_model.specs.Fields.{Values}
 use Rattle.patch_model.specs.Patched.{Veneers, AreaPatched}

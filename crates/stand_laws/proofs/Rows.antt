@@ -6,7 +6,7 @@ use Rattle.asm_model.specs.declared.exprs.ExprItem.TheVariants as item
 use Rattle.asm_model.specs.declared.exprs.Part.{Part}
 use Rattle.asm_model.specs.declared.exprs.Part.TheVariants as part
 use Rattle.asm_model.specs.Grammar.{Tree, Leaf, operand, tighter}
-use Rattle.layout_model.specs.Laid.{LaidLine}
+use Rattle.asm_model.specs.Laid.{LaidLine}
 use Rattle.said_model.specs.Said.{IsRead}
 use Rattle.stand_model.proofs.SourceRows.{branch_source}
 use Rattle.stand_laws.specs.Laws.{IsFaultless}

@@ -19,15 +19,15 @@ use Rattle.asm_model.specs.declared.statements.What.{What}
 use Rattle.asm_model.specs.declared.statements.What.TheVariants as what
 use Rattle.asm_model.specs.AtLine.{Sight}
 use Rattle.asm_model.specs.Meaning.{named_in, entry_stands_at, in_area}
-use Rattle.layout_model.specs.Extents.{Extent, Block, Padding, number_there, as_multiple, padding, directive_extent, extent_of}
-use Rattle.layout_model.specs.Laid.{LaidLine, taken, pieces_of, declared, laid, all_locals, final_line, final_names}
-use Rattle.layout_model.specs.LayoutKinds.{equals_in, settled}
-use Rattle.layout_model.specs.Offsets.{area_size, is_pool}
-use Rattle.layout_model.specs.PlacedLines.{AllNamed}
-use Rattle.layout_model.specs.Placing.{CountFromHere, address_at}
-use Rattle.layout_model.specs.Symbols.{final_sight, symbols_in, symbols_of, symbols_behind}
-use Rattle.layout_model.proofs.PlacedLemmas.{laid_lines_count_from_here, final_names_have_symbols}
-use Rattle.layout_laws.specs.Sound.{ArePlain}
+use Rattle.asm_model.specs.Extents.{Extent, Block, Padding, number_there, as_multiple, padding, directive_extent, extent_of}
+use Rattle.asm_model.specs.Laid.{LaidLine, taken, pieces_of, declared, laid, all_locals, final_line, final_names}
+use Rattle.asm_model.specs.LayoutKinds.{equals_in, settled}
+use Rattle.asm_model.specs.Offsets.{area_size, is_pool}
+use Rattle.asm_model.specs.PlacedLines.{AllNamed}
+use Rattle.asm_model.specs.Placing.{CountFromHere, address_at}
+use Rattle.asm_model.specs.Symbols.{final_sight, symbols_in, symbols_of, symbols_behind}
+use Rattle.asm_model.proofs.PlacedLemmas.{laid_lines_count_from_here, final_names_have_symbols}
+use Rattle.asm_model.specs.Sound.{ArePlain}
 use Rattle.layout_laws.proofs.FinalLemmas.{known_values_are_final}
 use Rattle.object_laws.specs.Laws.{IsListed, OptionListed}
 use Rattle.object_laws.proofs.FaultLemmas.{layout_here, line_valued}

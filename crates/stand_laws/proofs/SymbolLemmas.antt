@@ -18,15 +18,15 @@ use Rattle.asm_model.specs.Meaning.{named_in, entry_stands_at, in_area, meaning}
 use Rattle.asm_model.specs.AtLine.{with_names, all_names}
 use Rattle.asm_model.proofs.LineLemmas.{named_front}
 use Rattle.asm_model.proofs.WordLemmas.{same_true}
-use Rattle.layout_model.specs.Before.{place_of, area_behind, is_thumb_label}
-use Rattle.layout_model.specs.Entries.{equal_entry}
-use Rattle.layout_model.specs.Labels.{Defined, Unnamed, LocalLabel, Label, Equal, MapField, RegisterName, defined_by, imported_in}
-use Rattle.layout_model.specs.Laid.{Declared, declared, LaidLine, statements_of, map_behind, offset_behind, tree_equated, definition_of, imported_lines, laid_behind, laid_of, laid, all_locals, final_line, final_lines, source_lines, entries_with, all_entries, names_after, final_names}
-use Rattle.layout_model.specs.LayoutKinds.{listed}
-use Rattle.layout_model.specs.Locals.{Local}
-use Rattle.layout_model.specs.Symbols.{symbols_of}
-use Rattle.layout_model.specs.Trees.{tree_of}
-use Rattle.layout_laws.specs.Sound.{IsBare, IsPlainDefined, IsPlainImport, ArePlain}
+use Rattle.asm_model.specs.Before.{place_of, area_behind, is_thumb_label}
+use Rattle.asm_model.specs.Entries.{equal_entry}
+use Rattle.asm_model.specs.Labels.{Defined, Unnamed, LocalLabel, Label, Equal, MapField, RegisterName, defined_by, imported_in}
+use Rattle.asm_model.specs.Laid.{Declared, declared, LaidLine, statements_of, map_behind, offset_behind, tree_equated, definition_of, imported_lines, laid_behind, laid_of, laid, all_locals, final_line, final_lines, source_lines, entries_with, all_entries, names_after, final_names}
+use Rattle.asm_model.specs.LayoutKinds.{listed}
+use Rattle.asm_model.specs.Locals.{Local}
+use Rattle.asm_model.specs.Symbols.{symbols_of}
+use Rattle.asm_model.specs.Trees.{tree_of}
+use Rattle.asm_model.specs.Sound.{IsBare, IsPlainDefined, IsPlainImport, ArePlain}
 use Rattle.object_laws.specs.Laws.{IsListed}
 use Rattle.object_laws.proofs.OriginLemmas.{named_name}
 use Rattle.patch_model.specs.Fields.{Meant, Values}

@@ -8,12 +8,12 @@ use Rattle.asm_model.specs.declared.statements.Statement.{Statement}
 use Rattle.asm_model.specs.declared.values.Value.{Value}
 use Rattle.asm_model.specs.declared.values.Value.TheVariants.{Number, Truth, Words, Place}
 use Rattle.asm_model.specs.Grammar.{Tree}
-use Rattle.layout_model.specs.Extents.{as_number}
-use Rattle.layout_model.specs.Laid.{LaidLine}
-use Rattle.layout_model.specs.Marks.{datum_names}
-use Rattle.layout_model.specs.Placing.{placed_value, CountFromHere}
-use Rattle.layout_model.specs.Trees.{tree_of}
-use Rattle.layout_model.proofs.PlacingLemmas.{placing_law}
+use Rattle.asm_model.specs.Extents.{as_number}
+use Rattle.asm_model.specs.Laid.{LaidLine}
+use Rattle.asm_model.specs.Marks.{datum_names}
+use Rattle.asm_model.specs.Placing.{placed_value, CountFromHere}
+use Rattle.asm_model.specs.Trees.{tree_of}
+use Rattle.asm_model.proofs.PlacingLemmas.{placing_law}
 use Rattle.layout_laws.proofs.FoundLemmas.{tree_final, final_tree}
 use Rattle.patch_model.specs.Fields.{Values}
 use Rattle.patch_model.specs.Reaches.{View}

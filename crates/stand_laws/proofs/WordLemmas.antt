@@ -18,15 +18,15 @@ use Rattle.asm_model.specs.AtLine.{Sight, name_kinds, value_at, kept_names, lite
 use Rattle.asm_model.specs.Grammar.{Tree}
 use Rattle.asm_model.specs.Meaning.{named_in, stands_at, binary, value_of as entry_value, on_both, meaning}
 use Rattle.asm_model.proofs.LineLemmas.{both_empty, named_front, told_nothing}
-use Rattle.layout_model.specs.Extents.{Extent, Block, Padding, Loading, Pool, is_moved, loading, tree_literal, literal_there, extent_of}
-use Rattle.layout_model.specs.Laid.{Declared, declared, LaidLine, taken, pieces_of, laid_behind, laid_of, laid, all_locals, final_names}
-use Rattle.layout_model.specs.LayoutKinds.{fault_kinds}
-use Rattle.layout_model.specs.Marks.{datum_names}
-use Rattle.layout_model.specs.Offsets.{Piece as LaidPiece}
-use Rattle.layout_model.specs.Placing.{CountFromHere}
-use Rattle.layout_model.specs.Symbols.{literal_value}
-use Rattle.layout_model.specs.Trees.{tree_of}
-use Rattle.layout_laws.specs.Sound.{IsSound, HaveNoPlaces, ArePlain}
+use Rattle.asm_model.specs.Extents.{Extent, Block, Padding, Loading, Pool, is_moved, loading, tree_literal, literal_there, extent_of}
+use Rattle.asm_model.specs.Laid.{Declared, declared, LaidLine, taken, pieces_of, laid_behind, laid_of, laid, all_locals, final_names}
+use Rattle.asm_model.specs.LayoutKinds.{fault_kinds}
+use Rattle.asm_model.specs.Marks.{datum_names}
+use Rattle.asm_model.specs.Offsets.{Piece as LaidPiece}
+use Rattle.asm_model.specs.Placing.{CountFromHere}
+use Rattle.asm_model.specs.Symbols.{literal_value}
+use Rattle.asm_model.specs.Trees.{tree_of}
+use Rattle.asm_model.specs.Sound.{IsSound, HaveNoPlaces, ArePlain}
 use Rattle.layout_laws.proofs.FinalLemmas.{AllKnownFinally, all_known, known_there, source_final, source_holds}
 use Rattle.layout_laws.proofs.FoundLemmas.{final_tree}
 use Rattle.layout_laws.proofs.RoundLemmas.{ResultIs}

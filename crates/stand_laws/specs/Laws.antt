@@ -3,9 +3,9 @@ use Rattle.std.specs.Prelude.{◌≡◌, ℕ, ◌+◌, ◌^◌, ◌<◌, List, l
 use Rattle.sdt_word.specs.declared.ranges.Range32.{Range32}
 use Rattle.aof_object.specs.declared.records.Object.{Object}
 use Rattle.asm_model.specs.declared.statements.Statement.{Statement}
-use Rattle.layout_model.specs.Laid.{LaidLine, laid, pieces_of}
-use Rattle.layout_model.specs.Offsets.{area_size}
-use Rattle.layout_model.specs.PlacedLines.{AllNamed}
+use Rattle.asm_model.specs.Laid.{LaidLine, laid, pieces_of}
+use Rattle.asm_model.specs.Offsets.{area_size}
+use Rattle.asm_model.specs.PlacedLines.{AllNamed}
 use Rattle.patch_model.specs.Fields.{Values}
 use Rattle.patch_model.specs.Patched.{Veneers}
 use Rattle.patch_model.specs.Reaches.{View}

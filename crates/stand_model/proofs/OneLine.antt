@@ -4,11 +4,11 @@ use Rattle.std.specs.Prelude.{Some, None}
 use Rattle.sdt_word.specs.Bytes.{bytes_of}
 use Rattle.aof_object.specs.declared.records.Symbol.{Symbol}
 use Rattle.asm_model.specs.declared.statements.Statement.{Statement}
-use Rattle.layout_model.specs.Before.{areas_behind}
-use Rattle.layout_model.specs.Laid.{LaidLine, taken, pieces_of, laid, all_locals}
-use Rattle.layout_model.specs.LayoutKinds.{is_thumb_area}
-use Rattle.layout_model.specs.Marks.{datum_names}
-use Rattle.layout_model.specs.Offsets.{area_size}
+use Rattle.asm_model.specs.Before.{areas_behind}
+use Rattle.asm_model.specs.Laid.{LaidLine, taken, pieces_of, laid, all_locals}
+use Rattle.asm_model.specs.LayoutKinds.{is_thumb_area}
+use Rattle.asm_model.specs.Marks.{datum_names}
+use Rattle.asm_model.specs.Offsets.{area_size}
 use Rattle.source_model.specs.SourceFaults.{context_of, word_of}
 use Rattle.source_model.specs.Objects.{Piece, Source, source_of, StandsIn, IsAmong, IsRelocOf, HasRelocs, HoldsBytes, KeepsBytes, IsArea, IsObject, unit_bytes, pieces_in, in_order, relocs_of, attributes_of, contents_of, is_kept, symbol_records, entry_of}
 use Rattle.stand_model.proofs.OneWord.{at_start, word_area, object, only_one}

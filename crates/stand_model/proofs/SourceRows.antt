@@ -15,8 +15,8 @@ use Rattle.asm_model.specs.declared.statements.Statement.{Statement}
 use Rattle.asm_model.specs.declared.statements.What.{What}
 use Rattle.asm_model.specs.declared.statements.What.TheVariants as what
 use Rattle.asm_model.specs.declared.values.Value.TheVariants.{Number}
-use Rattle.layout_model.specs.Before.{is_code}
-use Rattle.layout_model.specs.Laid.{LaidLine, declared, laid_behind, laid_of}
+use Rattle.asm_model.specs.Before.{is_code}
+use Rattle.asm_model.specs.Laid.{LaidLine, declared, laid_behind, laid_of}
 use Rattle.source_model.specs.Objects.{Piece, source_of, IsObject}
 use Rattle.source_model.specs.SourceFaults.{statements_fault}
 use Rattle.source_model.specs.Units.{ByArea, BySymbol, Word, Instruction}

@@ -30,11 +30,11 @@ use Rattle.asm_model.specs.declared.values.Value.{Value}
 use Rattle.asm_model.specs.declared.values.Value.TheVariants.{Number, Words, Place}
 use Rattle.asm_model.specs.Grammar.{Tree}
 use Rattle.asm_model.specs.Meaning.{stands_at}
-use Rattle.layout_model.specs.Laid.{LaidLine, pieces_of}
-use Rattle.layout_model.specs.Marks.{counts_one, thumb_bit, datum_names}
-use Rattle.layout_model.specs.Offsets.{area_size}
-use Rattle.layout_model.specs.Placing.{Placing, placed_meaning}
-use Rattle.layout_model.specs.Trees.{tree_of}
+use Rattle.asm_model.specs.Laid.{LaidLine, pieces_of}
+use Rattle.asm_model.specs.Marks.{counts_one, thumb_bit, datum_names}
+use Rattle.asm_model.specs.Offsets.{area_size}
+use Rattle.asm_model.specs.Placing.{Placing, placed_meaning}
+use Rattle.asm_model.specs.Trees.{tree_of}
 use Rattle.patch_model.specs.Fields.{Meant, Values, is_thumb_label}
 use Rattle.patch_model.specs.Laws.{state_of}
 use Rattle.patch_model.specs.Reaches.{View, Shows, ShowsWord, Reaches}

@@ -2,7 +2,5 @@
 #![tactic(auto)]
 
 mod encode;
-#[cfg(test)]
-mod tests;
 
 pub use crate::encode::encode_thumb;

@@ -6,5 +6,3 @@ pub mod listings;
 
 pub use crate::list::list_file;
 
-#[cfg(test)]
-mod tests;

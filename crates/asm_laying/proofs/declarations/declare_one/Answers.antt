@@ -1,5 +1,5 @@
 use Rattle.std.proofs.Common.{arith}
-use Rattle.layout_model.specs.Before.{begins_stretch}
+use Rattle.asm_model.specs.Before.{begins_stretch}
 use Rattle.asm_laying.proofs.DeclareLemmas.{before_more, rises}
 use Rattle.asm_laying.proofs.declarations.declare_one.Goals as goal
 

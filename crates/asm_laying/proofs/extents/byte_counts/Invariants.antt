@@ -1,8 +1,8 @@
 use Rattle.std.proofs.Common.{◌≡◌, ◌≤◌, ◌+◌, ◌++◌, length}
 use Rattle.std.specs.Prelude.{min}
-use Rattle.layout_model.specs.Extents.{byte_counts}
+use Rattle.asm_model.specs.Extents.{byte_counts}
 use Rattle.said_model.specs.Said.{AllRead}
-use Rattle.asm_sight.specs.Sights.{sight_of}
+use Rattle.asm_names.specs.Sights.{sight_of}
 use Rattle.asm_laying.specs.Reading.{most_bytes, marks}
 use Rattle.asm_laying.proofs.extents.byte_counts.Given as goal
 

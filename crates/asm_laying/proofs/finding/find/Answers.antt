@@ -1,8 +1,8 @@
 use Rattle.std.proofs.Common.{ap, ◌∙◌}
 use Rattle.std.specs.Option.{option_copied}
 use Rattle.asm_model.specs.Meaning.{named_in}
-use Rattle.layout_model.specs.Laid.{sight_behind}
-use Rattle.layout_model.specs.Labels.{Defined}
+use Rattle.asm_model.specs.Laid.{sight_behind}
+use Rattle.asm_model.specs.Labels.{Defined}
 use Rattle.asm_laying.specs.Declaring.{declared_in}
 use Rattle.asm_laying.specs.Defining.{own_entry}
 use Rattle.asm_laying.specs.Laying.{sight_shown}

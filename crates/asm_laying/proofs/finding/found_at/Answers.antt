@@ -1,5 +1,5 @@
 use Rattle.std.proofs.Common.{sym, subst}
-use Rattle.layout_model.specs.Labels.{Defined}
+use Rattle.asm_model.specs.Labels.{Defined}
 use Rattle.asm_laying.specs.Laying.{DefinedRead}
 use Rattle.asm_laying.proofs.SeeLemmas.{defined_read}
 use Rattle.asm_laying.proofs.finding.found_at.Goals as goal

@@ -1,5 +1,5 @@
 use Rattle.std.proofs.Common.{◌-◌, ◌^◌, ◌||◌, sym, ap, ◌∙◌}
-use Rattle.layout_model.specs.Extents.{is_immediate, is_moved}
+use Rattle.asm_model.specs.Extents.{is_immediate, is_moved}
 use Rattle.asm_laying.proofs.numbers.is_moved.Goals as goal
 
 pub returns-then-is_immediate : goal.returns-then-is_immediate

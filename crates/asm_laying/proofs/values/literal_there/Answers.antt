@@ -1,5 +1,5 @@
-use Rattle.layout_model.specs.Extents.{literal_there}
-use Rattle.asm_sight.specs.Sights.{sight_of}
+use Rattle.asm_model.specs.Extents.{literal_there}
+use Rattle.asm_names.specs.Sights.{sight_of}
 use Rattle.asm_laying.proofs.ReadLemmas.{literal_read}
 use Rattle.asm_laying.proofs.values.literal_there.Goals as goal
 

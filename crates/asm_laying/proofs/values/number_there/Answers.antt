@@ -1,5 +1,5 @@
-use Rattle.layout_model.specs.Extents.{number_there}
-use Rattle.asm_sight.specs.Sights.{sight_of}
+use Rattle.asm_model.specs.Extents.{number_there}
+use Rattle.asm_names.specs.Sights.{sight_of}
 use Rattle.asm_laying.proofs.ReadLemmas.{number_read}
 use Rattle.asm_laying.proofs.values.number_there.Goals as goal
 

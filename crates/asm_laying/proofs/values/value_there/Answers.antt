@@ -1,5 +1,5 @@
-use Rattle.layout_model.specs.Extents.{value_there}
-use Rattle.asm_sight.specs.Sights.{sight_of}
+use Rattle.asm_model.specs.Extents.{value_there}
+use Rattle.asm_names.specs.Sights.{sight_of}
 use Rattle.asm_laying.proofs.ReadLemmas.{value_read}
 use Rattle.asm_laying.proofs.values.value_there.Goals as goal
 

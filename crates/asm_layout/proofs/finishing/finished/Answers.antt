@@ -1,6 +1,6 @@
 use Rattle.std.proofs.Common.{◌∙◌}
 use Rattle.std.proofs.lemmas.Result.{err_from_is_err_and}
-use Rattle.layout_model.specs.Laid.{declared, laid, pieces_of}
+use Rattle.asm_model.specs.Laid.{declared, laid, pieces_of}
 use Rattle.asm_layout.proofs.FinishLemmas.{whole_is, named_is, faults_are}
 use Rattle.asm_layout.proofs.finishing.finished.Goals as goal
 

@@ -1,5 +1,5 @@
 use Rattle.std.proofs.Common.{List, length}
-use Rattle.layout_model.specs.Laid.{LaidLine}
+use Rattle.asm_model.specs.Laid.{LaidLine}
 use Rattle.asm_areas.specs.Late.{AreWhole}
 use Rattle.asm_layout.specs.Layout.{AreStatements}
 use Rattle.asm_layout.specs.Late.{IsLeft}

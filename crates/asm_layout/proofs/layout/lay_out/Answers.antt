@@ -1,5 +1,5 @@
 use Rattle.std.proofs.Common.{[]}
-use Rattle.layout_model.specs.Laid.{reversed}
+use Rattle.asm_model.specs.Laid.{reversed}
 use Rattle.asm_layout.proofs.FinishLemmas.{said_reversed}
 use Rattle.asm_layout.proofs.layout.lay_out.Goals as goal
 

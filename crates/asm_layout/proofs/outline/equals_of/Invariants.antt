@@ -1,5 +1,5 @@
 use Rattle.std.proofs.Common.{◌≡◌, ◌++◌, length}
-use Rattle.asm_order.specs.Equals.{pairs_of}
+use Rattle.asm_names.specs.Equals.{pairs_of}
 use Rattle.said_model.specs.Said.{AllSaid}
 use Rattle.asm_layout.specs.Outline.{equals_on}
 use Rattle.asm_layout.proofs.outline.equals_of.Given as goal

@@ -1,6 +1,6 @@
 use Rattle.std.proofs.Common.{◌∙◌, ap, map, refl, List, ℕ}
 use Rattle.asm_model.specs.declared.exprs.Expr.{Expr}
-use Rattle.asm_order.specs.Order.{is_settled}
+use Rattle.asm_names.specs.Order.{is_settled}
 use Rattle.asm_layout.proofs.OutlineLemmas.{all_short, equals_are}
 use Rattle.asm_layout.proofs.outline.outline_of.Goals as goal
 

@@ -1,7 +1,7 @@
 use Rattle.std.proofs.Common.{◌∙◌, ap, map, List, ℕ}
 use Rattle.asm_model.specs.declared.exprs.Expr.{Expr}
-use Rattle.asm_order.specs.Equals.{pairs_of}
-use Rattle.asm_order.specs.Order.{is_settled}
+use Rattle.asm_names.specs.Equals.{pairs_of}
+use Rattle.asm_names.specs.Order.{is_settled}
 use Rattle.asm_layout.proofs.OutlineLemmas.{marks_are}
 use Rattle.asm_layout.proofs.outline.settled_of.Goals as goal
 

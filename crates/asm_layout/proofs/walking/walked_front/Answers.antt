@@ -1,7 +1,7 @@
 use Rattle.std.proofs.Common.{◌++◌, ◌∙◌, List, [], drop, sym, ap, subst, arith}
 use Rattle.std.proofs.lemmas.Result.{err_from_is_err_and}
-use Rattle.layout_model.specs.Laid.{reversed, declared}
-use Rattle.layout_model.specs.LayoutKinds.{settled, equals_in}
+use Rattle.asm_model.specs.Laid.{reversed, declared}
+use Rattle.asm_model.specs.LayoutKinds.{settled, equals_in}
 use Rattle.source_model.specs.Registers.{register_names}
 use Rattle.asm_model.specs.declared.statements.Statement.{Statement}
 use Rattle.said_model.specs.Said.{AllSaid}

@@ -1,6 +1,6 @@
 use Rattle.std.proofs.Common.{refl}
 use Rattle.std.specs.Option.{option_copied}
-use Rattle.layout_model.specs.Labels.{defined_by}
+use Rattle.asm_model.specs.Labels.{defined_by}
 use Rattle.source_model.specs.Registers.{register_name}
 use Rattle.asm_registers.proofs.NameLemmas.{now_named}
 use Rattle.asm_registers.proofs.giving.note_name.Goals as goal

@@ -1,7 +1,7 @@
 use Rattle.std.proofs.Common.{sym, ap, ◌∙◌}
 use Rattle.std.specs.Option.{option_copied}
 use Rattle.asm_model.specs.Kinds.{told_kind}
-use Rattle.layout_model.specs.LayoutKinds.{fault_kinds}
+use Rattle.asm_model.specs.LayoutKinds.{fault_kinds}
 use Rattle.asm_units.specs.Emitting.{stored_of}
 use Rattle.asm_units.proofs.KindLemmas.{fault_mapped, loaded_kinds}
 use Rattle.asm_units.proofs.kinds.literal_kind.Goals as goal

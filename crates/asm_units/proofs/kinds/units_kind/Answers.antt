@@ -2,7 +2,7 @@ use Rattle.std.proofs.Common.{sym, ap, ◌∙◌}
 use Rattle.std.specs.Prelude.{map}
 use Rattle.std.specs.Global.{Vec}
 use Rattle.asm_model.specs.Kinds.{told_kind}
-use Rattle.layout_model.specs.LayoutKinds.{fault_kinds}
+use Rattle.asm_model.specs.LayoutKinds.{fault_kinds}
 use Rattle.asm_units.specs.declared.emitted.Emitted.{Emitted}
 use Rattle.asm_units.specs.Emitting.{emitted_of}
 use Rattle.asm_units.proofs.KindLemmas.{fault_mapped}

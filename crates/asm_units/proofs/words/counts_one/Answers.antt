@@ -1,5 +1,5 @@
 use Rattle.std.proofs.Common.{sym, ap, ◌∙◌}
-use Rattle.layout_model.specs.Entries.{thumb_of}
+use Rattle.asm_model.specs.Entries.{thumb_of}
 use Rattle.asm_model.specs.Meaning.{named_in}
 use Rattle.source_model.specs.Contexts.{sees}
 use Rattle.asm_instructions.specs.Scenes.{context_of}

@@ -3,7 +3,7 @@ use Rattle.std.specs.Prelude.{Result, Ok, Err}
 use Rattle.sdt_fault.specs.declared.NoMemory.{NoMemory}
 use Rattle.asm_model.specs.declared.directives.DirectiveLine.TheVariants as line
 use Rattle.asm_model.specs.declared.statements.What.TheVariants as what
-use Rattle.layout_model.specs.Laid.{LaidLine}
+use Rattle.asm_model.specs.Laid.{LaidLine}
 use Rattle.asm_areas.specs.Starts.{with_area, AreStarts, IsLineOf, IsSmall}
 use Rattle.asm_areas.proofs.StartLemmas.{area_more, state_more}
 use Rattle.asm_areas.proofs.starts.Starts.note.Goals as goal

@@ -1,7 +1,7 @@
 use Rattle.std.proofs.Common.{sym, ap, ◌∙◌, ◌||◌, Bool}
 use Rattle.asm_model.specs.declared.statements.Statement.{Statement}
-use Rattle.layout_model.specs.Laid.{statements_of}
-use Rattle.layout_model.specs.LayoutKinds.{contents_from, is_entry}
+use Rattle.asm_model.specs.Laid.{statements_of}
+use Rattle.asm_model.specs.LayoutKinds.{contents_from, is_entry}
 use Rattle.asm_model.specs.FaultSets.{first_told}
 use Rattle.asm_checks.proofs.ToldLemmas.{none_of_attributes}
 use Rattle.asm_checks.proofs.LineLemmas.{names_told, line_told}

@@ -1,4 +1,4 @@
-use Rattle.layout_model.specs.Laid.{sight_behind}
+use Rattle.asm_model.specs.Laid.{sight_behind}
 use Rattle.asm_laying.specs.Declaring.{declared_in}
 use Rattle.asm_laying.proofs.LayLemmas.{may_place, fits_all, shows, tells}
 use Rattle.asm_laying.proofs.laying.Laying.lay.Goals as goal

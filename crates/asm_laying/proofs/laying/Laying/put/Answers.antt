@@ -4,7 +4,7 @@ use Rattle.asm_offsets.specs.declared.extents.Placed.{Placed}
 use Rattle.asm_offsets.specs.declared.extents.TooLarge.{TooLarge}
 use Rattle.asm_offsets.specs.Coded.{extent_of_code}
 use Rattle.asm_offsets.specs.Running.{Places, Keeps}
-use Rattle.layout_model.specs.Laid.{pieces_of}
+use Rattle.asm_model.specs.Laid.{pieces_of}
 use Rattle.asm_laying.proofs.LayLemmas.{told_too_large, lays}
 use Rattle.asm_laying.proofs.laying.Laying.put.Goals as goal
 

@@ -2,7 +2,7 @@ use Rattle.std.proofs.Common.{subst}
 use Rattle.std.specs.Prelude.{Result}
 use Rattle.sdt_fault.specs.declared.kinds.LineKind.{LineKind}
 use Rattle.asm_offsets.specs.declared.extents.Extent.{Extent}
-use Rattle.layout_model.specs.Laid.{sight_behind}
+use Rattle.asm_model.specs.Laid.{sight_behind}
 use Rattle.asm_laying.specs.Laying.{AreNeeded, OkExtent}
 use Rattle.asm_laying.proofs.LayLemmas.{told_no_extent}
 use Rattle.asm_laying.proofs.laying.Laying.settle.Goals as goal

@@ -1,7 +1,7 @@
 use Rattle.std.proofs.Common.{ℕ, subst}
 use Rattle.std.specs.Prelude.{Result, Ok}
 use Rattle.sdt_fault.specs.declared.kinds.LineKind.{LineKind}
-use Rattle.layout_model.specs.Laid.{sight_behind}
+use Rattle.asm_model.specs.Laid.{sight_behind}
 use Rattle.asm_laying.specs.Laying.{AreNeeded}
 use Rattle.asm_laying.proofs.LayLemmas.{told_no_map}
 use Rattle.asm_laying.proofs.laying.Laying.settle_map.Goals as goal

@@ -3,9 +3,9 @@ use Rattle.asm_checks.specs.Checked.{IsLine as IsChecksLine}
 use Rattle.asm_laying.specs.Declaring.{declared_in}
 use Rattle.asm_laying.specs.Laying.{Tells}
 use Rattle.asm_registers.specs.Kept.{IsLine as IsRegistersLine}
-use Rattle.layout_model.specs.Labels.{defined_by}
-use Rattle.layout_model.specs.Laid.{Declared, LaidLine, laid_behind, statements_of}
-use Rattle.layout_model.specs.LayoutKinds.{equal_of, equals_in}
+use Rattle.asm_model.specs.Labels.{defined_by}
+use Rattle.asm_model.specs.Laid.{Declared, LaidLine, laid_behind, statements_of}
+use Rattle.asm_model.specs.LayoutKinds.{equal_of, equals_in}
 use Rattle.asm_layout.specs.Walking.{HasMark}
 use Rattle.asm_layout.proofs.StepLemmas.{numbers, seen_names, mark_is, count_is}
 use Rattle.asm_layout.proofs.ToldLemmas.{none_first, none_second}

@@ -1,5 +1,5 @@
 use Rattle.std.proofs.Common.{◌∙◌, refl}
-use Rattle.layout_model.specs.Laid.{laid_behind}
+use Rattle.asm_model.specs.Laid.{laid_behind}
 use Rattle.asm_layout.specs.Walking.{told_by}
 use Rattle.asm_layout.proofs.StepLemmas.{judged_told, err_told, ok_laid, tells, keep_line}
 use Rattle.asm_layout.proofs.walking.Walk.keep_or_tell.Goals as goal

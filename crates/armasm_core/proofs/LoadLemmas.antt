@@ -1,0 +1,109 @@
+-- The literal of a line among those of its area.
+use Rattle.std.proofs.Common.{◌≡◌, ◌≤◌, ◌<◌, ℕ, zero, suc, ◌+◌, List, [], ◌∷◌, ◌++◌, length, Option, Some, None, refl, sym, ap, ◌∙◌, subst, arith}
+use Rattle.std.specs.Prelude.{Result, nat_lt}
+use Rattle.std.specs.List.{slice_get}
+use Rattle.sdt_fault.specs.declared.kinds.LineKind.{LineKind}
+use Rattle.sdt_fault.specs.declared.kinds.LineKind.TheVariants.{TooMany}
+use Rattle.asm_model.proofs.LineLemmas.{both_empty}
+use Rattle.asm_model.specs.declared.statements.Statement.{Statement}
+use Rattle.asm_offsets.specs.Running.{entry_behind, pools_behind}
+use Rattle.asm_pool.specs.Laws.{PoolLaw}
+use Rattle.asm_pool.specs.Pooled.{flushed}
+use Rattle.asm_pool.specs.declared.layout.LaidArea.{LaidArea}
+use Rattle.asm_pool.specs.declared.layout.LaidStatement.{LaidStatement}
+use Rattle.asm_units.specs.Literals.{literal_in}
+use Rattle.asm_model.specs.Before.{areas_behind}
+use Rattle.asm_model.specs.Extents.{Extent, Pool, extent_of}
+use Rattle.asm_model.specs.Labels.{defined_by}
+use Rattle.asm_model.specs.Laid.{Declared, LaidLine, declared, laid, laid_of, laid_behind, taken, pieces_of, reversed, statements_of}
+use Rattle.asm_model.specs.LayoutKinds.{layout_kinds, fault_kinds, map_kinds, no_area_kinds, contents_kinds, contents_behind, area_kinds, name_kinds, settled_kinds, kind_if, area_bytes, settled, equals_in}
+use Rattle.asm_model.specs.OffsetLaws.{joined}
+use Rattle.asm_model.specs.Offsets.{Piece, start_in}
+use Rattle.armasm_core.specs.Loaded as own
+use Rattle.armasm_core.specs.declared.whole.Whole.{Whole}
+use Rattle.armasm_core.proofs.LiteralLemmas.{IsPlaced, free_there, literal_there}
+use Rattle.armasm_core.proofs.SplitLemmas.{IsBehind, behind_there, none_there}
+use Rattle.armasm_core.proofs.WithinLemmas.{IsWithin, line_within, areas_fewer}
+use Rattle.armasm_core.specs.Listing.{StandsThere}
+
+-- ---- outside areas
+
+third_empty : (a b c d e f g h : List LineKind) → a ++ b ++ c ++ d ++ e ++ f ++ g ++ h ≡ [] → c ≡ []
+third_empty a b c d e f g h none =
+    let r = both_empty (a ++ b ++ c ++ d ++ e ++ f ++ g) h none in
+    let q = both_empty (a ++ b ++ c ++ d ++ e ++ f) g r.0 in
+    let p = both_empty (a ++ b ++ c ++ d ++ e) f q.0 in
+    let o = both_empty (a ++ b ++ c ++ d) e p.0 in
+    let n = both_empty (a ++ b ++ c) d o.0 in
+    (both_empty (a ++ b) c n.0).1
+
+has_area : (fixed : List (List ℕ)) (l : LaidLine) (before : List LaidLine) → layout_kinds fixed l before ≡ [] → no_area_kinds l.area (defined_by l.statement) l.statement.what ≡ []
+has_area fixed l before e =
+    third_empty (fault_kinds l.extent) (map_kinds l.seen l.statement.what) (no_area_kinds l.area (defined_by l.statement) l.statement.what)
+    (contents_kinds (contents_behind (l.statement ∷ statements_of before)) l.thumb l.statement.what) (area_kinds l.seen l.statement.what before)
+    (name_kinds l.statement (statements_of before)) (settled_kinds fixed (defined_by l.statement)) (kind_if (nat_lt area_bytes (l.offset + l.size)) TooMany) e
+
+extent_is : (d : Declared) (l : LaidLine) (before : List LaidLine) → IsBehind d l before → l.extent ≡ extent_of l.seen l.statement.what
+extent_is d l before b = subst (λ (k : LaidLine). k.extent ≡ extent_of k.seen k.statement.what) (sym b.line) refl
+
+-- ---- inside
+
+same_low : (m n : ℕ) → m ≡ n → n ≤ m
+same_low m n e = omega arith
+
+low_of : (a b c : ℕ) → a ≤ b → b ≤ c → a ≤ c
+low_of a b c h k = omega arith
+
+pub within_there : (statements : List Statement) (areas : List LaidArea) (w : Whole) (before rest : List LaidLine) (l : LaidLine) (x : LaidStatement)
+    → StandsThere statements areas w before rest l x → IsWithin (length areas) l.area
+within_there statements areas w before rest l x h =
+    let d = declared statements in
+    let n = length areas in
+    let full : length (areas_behind (statements_of (laid statements))) ≤ n = same_low n (length (areas_behind (statements_of (laid statements)))) h.laid_out.count in
+    let b = behind_there d statements rest l before h.said h.parts in
+    let same : l ∷ before ≡ laid_behind d b.s (laid_of d b.ss) ∷ laid_of d b.ss =
+    ap (λ (k : LaidLine). k ∷ before) b.line ∙ ap (λ (ls : List LaidLine). laid_behind d b.s (laid_of d b.ss) ∷ ls) b.behind in
+    let low : length (areas_behind (statements_of (l ∷ before))) ≤ n =
+    low_of (length (areas_behind (statements_of (l ∷ before)))) (length (areas_behind (statements_of (reversed rest (l ∷ before))))) n (areas_fewer rest (l ∷ before))
+    (subst (λ (ls : List LaidLine). length (areas_behind (statements_of ls)) ≤ n) h.parts full) in
+    let there = line_within n [] d b.s b.ss (subst (λ (ls : List LaidLine). length (areas_behind (statements_of ls)) ≤ n) same low) in
+    subst (λ (k : LaidLine). IsWithin n k.area) (sym b.line) there.area
+
+pub area_there : (areas : List LaidArea) (i : ℕ) → i < length areas → (a : LaidArea) × (slice_get areas i ≡ Some a)
+area_there [] i less = absurd (omega arith)
+area_there (a ∷ areas) zero less = (a, refl)
+area_there (a ∷ areas) (suc i) less = area_there areas i (omega arith)
+
+joined_pieces : (rest before : List LaidLine) → joined (pieces_of before) (pieces_of rest) ≡ pieces_of (reversed rest before)
+joined_pieces [] before = refl
+joined_pieces (l ∷ rest) before = joined_pieces rest (l ∷ before)
+
+-- ---- both
+
+pub loaded : PoolLaw → (statements : List Statement) (areas : List LaidArea) (w : Whole) (before rest : List LaidLine) (l : LaidLine) (x : LaidStatement)
+    → StandsThere statements areas w before rest l x → literal_in (taken l.extent) ≡ own.literal_in areas x.area x.literal
+loaded pools statements areas w before rest l x h = by_area l.area refl
+  where
+    by_area : (o : Option ℕ) → l.area ≡ o → literal_in (taken l.extent) ≡ own.literal_in areas x.area x.literal
+    by_area None e =
+        let b = behind_there (declared statements) statements rest l before h.said h.parts in
+        let laying = (none_there statements rest l before h.sound h.parts).laying in
+        let here : no_area_kinds None (defined_by l.statement) l.statement.what ≡ [] =
+        subst (λ (o : Option ℕ). no_area_kinds o (defined_by l.statement) l.statement.what ≡ []) e (has_area (settled (equals_in statements)) l before laying) in
+        ap (λ (r : Result Extent LineKind). literal_in (taken r)) (extent_is (declared statements) l before b)
+        ∙ free_there l.seen l.statement.what (defined_by l.statement) here
+        ∙ sym (ap (λ (a : Option ℕ). own.literal_in areas a x.literal) (h.line.area ∙ e))
+    by_area (Some area) e =
+        let less : area < length areas = subst (λ (o : Option ℕ). IsWithin (length areas) o) e (within_there statements areas w before rest l x h) in
+        let a = area_there areas area less in
+        let is = h.laid_out.each area a.0 a.1 in
+        let pieces = pieces_of before in
+        let behind = pieces_of rest in
+        let t = taken l.extent in
+        let whole : pieces_of (laid statements) ≡ joined ((record { area = Some area; extent = t }) ∷ pieces) behind =
+        ap pieces_of h.parts ∙ sym (joined_pieces rest (l ∷ before)) ∙ ap (λ (o : Option ℕ). joined ((record { area = o; extent = t }) ∷ pieces) behind) e in
+        let placed : IsPlaced area (joined ((record { area = Some area; extent = t }) ∷ pieces) behind) a.0 =
+        record { pools = is.pools ∙ ap (λ (ps : List Piece). flushed (start_in area ps Pool) (pools_behind area ps)) whole } in
+        let entry = h.line.literal ∙ ap (λ (o : Option ℕ). entry_behind o pieces t) e in
+        literal_there pools areas area a.0 pieces behind t a.1 placed
+        ∙ sym (ap (λ (o : Option ℕ). own.literal_in areas o x.literal) (h.line.area ∙ e) ∙ ap (own.literal_in areas (Some area)) entry)

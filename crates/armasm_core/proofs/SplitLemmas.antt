@@ -1,0 +1,94 @@
+-- A line among those of a source, and that it has no fault of its own.
+use Rattle.std.proofs.Common.{◌≡◌, ℕ, List, [], ◌∷◌, ◌++◌, None, refl, sym, ap, ◌∙◌, subst}
+use Rattle.sdt_fault.specs.declared.kinds.LineKind.{LineKind}
+use Rattle.asm_model.proofs.LineLemmas.{both_empty}
+use Rattle.asm_model.specs.declared.statements.Statement.{Statement}
+use Rattle.asm_model.specs.Directives.{or_else}
+use Rattle.asm_model.specs.Kinds.{told_kind}
+use Rattle.layout_laws.proofs.SoundLemmas.{or_none, told_none}
+use Rattle.asm_model.specs.Sound.{IsSound, ArePlain}
+use Rattle.asm_model.specs.Laid.{Declared, LaidLine, laid, laid_of, laid_behind, reversed}
+use Rattle.asm_model.specs.LayoutKinds.{layout_kinds, told_at, first_fault, first_late, settled, equals_in}
+use Rattle.said_model.specs.Said.{IsSaid, AllSaid}
+use Rattle.source_model.specs.Registers.{register_names, register_kinds}
+use Rattle.source_model.specs.SourceFaults.{first_laid, layout_faults}
+use Rattle.armasm_core.proofs.LoopLemmas.{append_one}
+
+-- ---- a line is laid behind others
+
+pub record IsBehind (d : Declared) (l : LaidLine) (before : List LaidLine) : Type 0 where
+  pub s : Statement
+  pub ss : List Statement
+  pub line : l ≡ laid_behind d s (laid_of d ss)
+  pub behind : before ≡ laid_of d ss
+  pub said : IsSaid s
+  pub all : AllSaid ss
+
+head_of : (d : Declared) (ss : List Statement) (l : LaidLine) (before : List LaidLine) → AllSaid ss → laid_of d ss ≡ l ∷ before → IsBehind d l before
+head_of d [] l before h e = absurd (cc)
+head_of d (s ∷ ss) l before h e =
+    let line : laid_behind d s (laid_of d ss) ≡ l = cc in
+    let behind : laid_of d ss ≡ before = cc in
+    record { s = s; ss = ss; line = sym line; behind = sym behind; said = h.0; all = h.1 }
+
+pub behind_there : (d : Declared) (ss : List Statement) (rest : List LaidLine) (l : LaidLine) (before : List LaidLine) → AllSaid ss → laid_of d ss ≡ reversed rest (l ∷ before)
+    → IsBehind d l before
+behind_there d ss [] l before h e = head_of d ss l before h e
+behind_there d ss (m ∷ rest) l before h e =
+    let up = behind_there d ss rest m (l ∷ before) h e in
+    head_of d up.ss l before up.all (sym up.behind)
+
+turned : (xs ys : List LaidLine) → reversed xs ys ≡ reversed xs [] ++ ys
+turned [] ys = refl
+turned (x ∷ xs) ys =
+    turned xs (x ∷ ys) ∙ sym (append_one (reversed xs []) x ys) ∙ ap (λ (l : List LaidLine). l ++ ys) (sym (turned xs (x ∷ [])))
+
+pub split_there : (all rest : List LaidLine) (l : LaidLine) (before : List LaidLine) → all ≡ reversed rest (l ∷ before) → all ≡ reversed rest [] ++ l ∷ before
+split_there all rest l before e = e ∙ turned rest (l ∷ before)
+
+-- ---- a line has no fault of its own
+
+first_before : (names fixed : List (List ℕ)) (rest before : List LaidLine) → first_laid names fixed (reversed rest before) ≡ None → first_laid names fixed before ≡ None
+first_before names fixed [] before e = e
+first_before names fixed (l ∷ rest) before e =
+    let h = first_before names fixed rest (l ∷ before) e in
+    (or_none (first_laid names fixed before) (told_at l.statement (told_kind (layout_kinds fixed l before ++ register_kinds names l before))) h).0
+
+pub record HasNone (statements : List Statement) (l : LaidLine) (before : List LaidLine) : Type 0 where
+  pub laying : layout_kinds (settled (equals_in statements)) l before ≡ []
+  pub registers : register_kinds (register_names statements) l before ≡ []
+
+own_none : (names fixed : List (List ℕ)) (l : LaidLine) (before : List LaidLine) → first_laid names fixed (l ∷ before) ≡ None
+    → (layout_kinds fixed l before ≡ []) × (register_kinds names l before ≡ [])
+own_none names fixed l before e =
+    both_empty (layout_kinds fixed l before) (register_kinds names l before)
+    (told_none l.statement (layout_kinds fixed l before ++ register_kinds names l before)
+    (or_none (first_laid names fixed before) (told_at l.statement (told_kind (layout_kinds fixed l before ++ register_kinds names l before))) e).1)
+
+first_none : (statements : List Statement) → layout_faults statements ≡ None → first_laid (register_names statements) (settled (equals_in statements)) (laid statements) ≡ None
+first_none statements e =
+    (or_none (first_laid (register_names statements) (settled (equals_in statements)) (laid statements)) (first_late (laid statements) [] (reversed (laid statements) [])) e).0
+
+pub none_there : (statements : List Statement) (rest : List LaidLine) (l : LaidLine) (before : List LaidLine) → layout_faults statements ≡ None
+    → laid statements ≡ reversed rest (l ∷ before) → HasNone statements l before
+none_there statements rest l before e parts =
+    let names = register_names statements in
+    let fixed = settled (equals_in statements) in
+    let whole = subst (λ (ls : List LaidLine). first_laid names fixed ls ≡ None) parts (first_none statements e) in
+    let r = own_none names fixed l before (first_before names fixed rest (l ∷ before) whole) in
+    record { laying = r.0; registers = r.1 }
+
+lines_sound : (names fixed : List (List ℕ)) (ls : List LaidLine) → first_laid names fixed ls ≡ None → first_fault fixed ls ≡ None
+lines_sound names fixed [] e = refl
+lines_sound names fixed (l ∷ before) e =
+    let own = (own_none names fixed l before e).0 in
+    let rest = lines_sound names fixed before
+    (or_none (first_laid names fixed before) (told_at l.statement (told_kind (layout_kinds fixed l before ++ register_kinds names l before))) e).0 in
+    ap (λ (ks : List LineKind). or_else (first_fault fixed before) (told_at l.statement (told_kind ks))) own ∙ ap (λ o. or_else o None) rest
+
+pub is_sound : (statements : List Statement) → layout_faults statements ≡ None → IsSound statements
+is_sound statements e = lines_sound (register_names statements) (settled (equals_in statements)) (laid statements) (first_none statements e)
+
+pub are_plain : (ss : List Statement) → AllSaid ss → ArePlain ss
+are_plain [] h = tt
+are_plain (s ∷ ss) h = (h.0.named, h.0.imported, are_plain ss h.1)

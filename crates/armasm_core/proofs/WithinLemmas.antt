@@ -1,0 +1,244 @@
+-- Each name stands in an area of the source, or in none.
+use Rattle.std.proofs.Common.{◌≡◌, ◌≤◌, ◌<◌, ℕ, zero, suc, ◌+◌, Bool, true, false, cond, List, [], ◌∷◌, ◌++◌, length, map, Option, Some, None, refl, ap, subst, arith, length-append}
+use Rattle.std.specs.Prelude.{Result, Ok, Err, ◌==◌, ◌&&◌, ◌||◌, nat_le, nat_lt, codes}
+use Rattle.std.specs.List.{list_any}
+use Rattle.sdt_fault.specs.declared.kinds.LineKind.{LineKind}
+use Rattle.asm_model.proofs.WordLemmas.{same_refl}
+use Rattle.asm_model.specs.declared.names.LaidName.{LaidName}
+use Rattle.asm_model.specs.declared.statements.Statement.{Statement}
+use Rattle.asm_model.specs.declared.values.Value.{Value}
+use Rattle.asm_model.specs.declared.values.Value.TheVariants.{Number, Truth, Words, Place}
+use Rattle.asm_model.specs.AtLine.{Definition, Nameless, Named, Equated, SourceLine, with_names, all_names, made_name}
+use Rattle.asm_model.specs.Forms.{same}
+use Rattle.asm_model.specs.Grammar.{Tree}
+use Rattle.asm_model.specs.Meaning.{named_in, meaning, entry_stands_at, in_area}
+use Rattle.asm_model.specs.Before.{area_named, with_name, areas_behind, place_of, area_from, area_behind}
+use Rattle.asm_model.specs.Entries.{equal_entry}
+use Rattle.asm_model.specs.Labels.{Defined, Unnamed, LocalLabel, Label, Equal, MapField, RegisterName, defined_by, imported_in}
+use Rattle.asm_model.specs.Laid.{Declared, LaidLine, statements_of, laid_of, laid_behind, reversed, final_line, final_lines, tree_equated, definition_of, imported_lines, entries_with, all_entries, names_after, map_behind, offset_behind, locals_of}
+use Rattle.asm_model.specs.Before.{is_thumb_label, stretch_behind}
+use Rattle.asm_model.specs.Locals.{Local, local_entries, digits_of, reference, references_to, is_new, back_of, forth_of}
+use Rattle.asm_model.specs.Trees.{tree_of}
+
+-- ---- areas by their numbers
+
+abbrev pub IsWithin : ℕ → Option ℕ → Type 0
+IsWithin n None = Unit {0}
+IsWithin n (Some a) = a < n
+
+place_old : (n : List ℕ) (ms : List (List ℕ)) → list_any (same n) ms ≡ true → place_of n ms < length ms
+place_old n [] e = absurd (cc)
+place_old n (m ∷ ms) e = by_test (same n m) e (place_old n ms)
+  where
+    by_test : (b : Bool) → (b || list_any (same n) ms) ≡ true → (list_any (same n) ms ≡ true → place_of n ms < length ms)
+        → cond b 0 (place_of n ms + 1) < length (m ∷ ms)
+    by_test true e rest = omega arith
+    by_test false e rest = let r = rest e in omega arith
+
+place_new : (n : List ℕ) (ms : List (List ℕ)) → list_any (same n) ms ≡ false → place_of n (ms ++ n ∷ []) ≡ length ms
+place_new n [] e = ap (λ b. cond b 0 (0 + 1)) (same_refl n)
+place_new n (m ∷ ms) e = by_test (same n m) e (place_new n ms)
+  where
+    by_test : (b : Bool) → (b || list_any (same n) ms) ≡ false → (list_any (same n) ms ≡ false → place_of n (ms ++ n ∷ []) ≡ length ms)
+        → cond b 0 (place_of n (ms ++ n ∷ []) + 1) ≡ length (m ∷ ms)
+    by_test true e rest = absurd (cc)
+    by_test false e rest = let r = rest e in omega arith
+
+place_within : (n : List ℕ) (ms : List (List ℕ)) → place_of n (with_name (Some n) ms) < length (with_name (Some n) ms)
+place_within n ms = by_test (list_any (same n) ms) refl
+  where
+    by_test : (b : Bool) → list_any (same n) ms ≡ b → place_of n (cond b ms (ms ++ n ∷ [])) < length (cond b ms (ms ++ n ∷ []))
+    by_test true e = place_old n ms e
+    by_test false e =
+        let p : place_of n (ms ++ n ∷ []) ≡ length ms = place_new n ms e in
+        let l : length (ms ++ n ∷ []) ≡ length ms + 1 = length-append ms (n ∷ []) in
+        omega arith
+
+fewer : (o : Option (List ℕ)) (ms : List (List ℕ)) → length ms ≤ length (with_name o ms)
+fewer None ms = omega arith
+fewer (Some n) ms = by_test (list_any (same n) ms)
+  where
+    by_test : (b : Bool) → length ms ≤ length (cond b ms (ms ++ n ∷ []))
+    by_test true = omega arith
+    by_test false = let l : length (ms ++ n ∷ []) ≡ length ms + 1 = length-append ms (n ∷ []) in omega arith
+
+within_more : (m n : ℕ) (o : Option ℕ) → m ≤ n → IsWithin m o → IsWithin n o
+within_more m n None h k = tt
+within_more m n (Some a) h k = let less : a < m = k in omega arith
+
+own_within : (ss : List Statement) → IsWithin (length (areas_behind ss)) (area_behind ss)
+own_within [] = tt
+own_within (s ∷ before) = by_name (area_named s.what) (own_within before)
+  where
+    by_name : (n : Option (List ℕ)) → IsWithin (length (areas_behind before)) (area_behind before)
+        → IsWithin (length (with_name n (areas_behind before))) (area_from n (with_name n (areas_behind before)) (area_behind before))
+    by_name None h = h
+    by_name (Some n) h = place_within n (areas_behind before)
+
+area_within : (n : ℕ) (ss : List Statement) → length (areas_behind ss) ≤ n → IsWithin n (area_behind ss)
+area_within n ss h = within_more (length (areas_behind ss)) n (area_behind ss) h (own_within ss)
+
+low_of : (a b c : ℕ) → a ≤ b → b ≤ c → a ≤ c
+low_of a b c h k = omega arith
+
+pub areas_fewer : (rest before : List LaidLine) → length (areas_behind (statements_of before)) ≤ length (areas_behind (statements_of (reversed rest before)))
+areas_fewer [] before = omega arith
+areas_fewer (l ∷ rest) before =
+    low_of (length (areas_behind (statements_of before))) (length (areas_behind (statements_of (l ∷ before)))) (length (areas_behind (statements_of (reversed rest (l ∷ before)))))
+    (fewer (area_named l.statement.what) (areas_behind (statements_of before))) (areas_fewer rest (l ∷ before))
+
+-- ---- entries
+
+abbrev pub AllWithin : ℕ → List LaidName → Type 0
+AllWithin n [] = Unit {0}
+AllWithin n (e ∷ es) = IsWithin n e.area × AllWithin n es
+
+joined : (n : ℕ) (xs ys : List LaidName) → AllWithin n xs → AllWithin n ys → AllWithin n (xs ++ ys)
+joined n [] ys h k = k
+joined n (x ∷ xs) ys h k = (h.0, joined n xs ys h.1 k)
+
+abbrev DefinesWithin : ℕ → Definition → Type 0
+DefinesWithin n Nameless = Unit {0}
+DefinesWithin n (Named e) = IsWithin n e.area
+DefinesWithin n (Equated make t) = (v : Value) → IsWithin n (make v).area
+
+abbrev LinesWithin : ℕ → List SourceLine → Type 0
+LinesWithin n [] = Unit {0}
+LinesWithin n (l ∷ ls) = DefinesWithin n l.definition × LinesWithin n ls
+
+lines_joined : (n : ℕ) (xs ys : List SourceLine) → LinesWithin n xs → LinesWithin n ys → LinesWithin n (xs ++ ys)
+lines_joined n [] ys h k = k
+lines_joined n (x ∷ xs) ys h k = (h.0, lines_joined n xs ys h.1 k)
+
+made_within : (n : ℕ) (make : Value → LaidName) (r : Result Value LineKind) → ((v : Value) → IsWithin n (make v).area) → AllWithin n (made_name make r)
+made_within n make (Ok v) h = (h v, tt)
+made_within n make (Err k) h = tt
+
+entries_within : (n : ℕ) (names : List LaidName) (l : SourceLine) (d : Definition) → DefinesWithin n d → AllWithin n (entries_with names l d)
+entries_within n names l Nameless h = tt
+entries_within n names l (Named e) h = (h, tt)
+entries_within n names l (Equated make t) h = made_within n make (meaning (with_names l (all_names names l)) t) h
+
+all_within : (n : ℕ) (names : List LaidName) (ls : List SourceLine) → LinesWithin n ls → AllWithin n (all_entries names ls)
+all_within n names [] h = tt
+all_within n names (l ∷ ls) h =
+    joined n (entries_with names l l.definition) (all_entries names ls) (entries_within n names l l.definition h.0) (all_within n names ls h.1)
+
+rounds_within : (n k : ℕ) (ls : List SourceLine) → LinesWithin n ls → AllWithin n (names_after k ls)
+rounds_within n zero ls h = all_within n [] ls h
+rounds_within n (suc k) ls h = all_within n (names_after k ls) ls h
+
+equal_within : (n : ℕ) (names : List LaidName) (area : Option ℕ) (name : List ℕ) (v : Value) → IsWithin n area → IsWithin n (equal_entry names area name v).area
+equal_within n names area name (Place [] m) h = h
+equal_within n names area name (Place (c ∷ cs) m) h = tt
+equal_within n names area name (Number m) h = tt
+equal_within n names area name (Truth b) h = tt
+equal_within n names area name (Words w) h = tt
+
+tree_within : (n : ℕ) (names : List LaidName) (area : Option ℕ) (name : List ℕ) (o : Option Tree) → IsWithin n area → DefinesWithin n (tree_equated names area name o)
+tree_within n names area name None h = tt
+tree_within n names area name (Some t) h = λ v. equal_within n names area name v h
+
+definition_within : (n : ℕ) (names : List LaidName) (d : Defined) (area : Option ℕ) (offset size : ℕ) (thumb : Bool) (m : ℕ) → IsWithin n area
+    → DefinesWithin n (definition_of names d area offset size thumb m)
+definition_within n names Unnamed area offset size thumb m h = tt
+definition_within n names (LocalLabel k) area offset size thumb m h = tt
+definition_within n names (Label name) area offset size thumb m h = h
+definition_within n names (Equal name e) area offset size thumb m h = tree_within n names area name (tree_of e) h
+definition_within n names (MapField name) area offset size thumb m h = tt
+definition_within n names (RegisterName name r) area offset size thumb m h = tt
+
+imports_within : (n : ℕ) (d : Declared) (s : Statement) (before : List LaidLine) (o : Option (List ℕ)) → LinesWithin n (imported_lines d s before o)
+imports_within n d s before None = tt
+imports_within n d s before (Some name) = (tt, tt)
+
+lines_within : (n : ℕ) (locals : List Local) (d : Declared) (ss : List Statement) → length (areas_behind (statements_of (laid_of d ss))) ≤ n
+    → LinesWithin n (final_lines locals (laid_of d ss))
+lines_within n locals d [] h = tt
+lines_within n locals d (s ∷ ss) h =
+    let before = laid_of d ss in
+    let area = area_behind (s ∷ statements_of before) in
+    lines_joined n (final_lines locals before) (final_line locals (laid_behind d s before) before ∷ imported_lines d s before (imported_in s.what))
+    (lines_within n locals d ss
+    (low_of (length (areas_behind (statements_of before))) (length (areas_behind (s ∷ statements_of before))) n (fewer (area_named s.what) (areas_behind (statements_of before))) h)) (
+      definition_within n d.names (defined_by s) area (offset_behind s before) (laid_behind d s before).size (is_thumb_label s (statements_of before)) (map_behind before)
+          (area_within n (s ∷ statements_of before) h),
+      imports_within n d s before (imported_in s.what),
+    )
+
+pub names_within : (n k : ℕ) (locals : List Local) (d : Declared) (ss : List Statement) → length (areas_behind (statements_of (laid_of d ss))) ≤ n
+    → AllWithin n (names_after k (final_lines locals (laid_of d ss)))
+names_within n k locals d ss h = rounds_within n k (final_lines locals (laid_of d ss)) (lines_within n locals d ss h)
+
+-- ---- references to local labels
+
+spelled_within : (n : ℕ) (area : Option ℕ) (l : Local) (mark : List ℕ) (texts : List (List ℕ)) → IsWithin n area
+    → AllWithin n (map (λ digits. reference area l (mark ++ digits)) texts)
+spelled_within n area l mark [] h = tt
+spelled_within n area l mark (t ∷ ts) h = (h, spelled_within n area l mark ts h)
+
+references_within : (n : ℕ) (area : Option ℕ) (l : Local) (marks : List (List ℕ)) → IsWithin n area → AllWithin n (references_to area l marks)
+references_within n area l [] h = tt
+references_within n area l (mark ∷ marks) h =
+    joined n (map (λ digits. reference area l (mark ++ digits)) (digits_of l.number)) (references_to area l marks)
+    (spelled_within n area l mark (digits_of l.number) h) (references_within n area l marks h)
+
+either_within : (n : ℕ) (b : Bool) (xs ys zs : List LaidName) → AllWithin n xs → AllWithin n ys → AllWithin n zs → AllWithin n (cond b (xs ++ ys) zs)
+either_within n true xs ys zs h g k = joined n xs ys h g
+either_within n false xs ys zs h g k = k
+
+pub back_within : (n : ℕ) (area : Option ℕ) (stretch statement : ℕ) (nearer : List ℕ) (ls : List Local) → IsWithin n area → AllWithin n (back_of area stretch statement nearer ls)
+back_within n area stretch statement nearer [] h = tt
+back_within n area stretch statement nearer (l ∷ ls) h =
+    either_within n (l.stretch == stretch && nat_le l.statement statement && is_new l.number nearer) (references_to area l (codes "%B" ∷ codes "%" ∷ []))
+    (back_of area stretch statement (l.number ∷ nearer) ls) (back_of area stretch statement nearer ls)
+    (references_within n area l (codes "%B" ∷ codes "%" ∷ []) h) (back_within n area stretch statement (l.number ∷ nearer) ls h) (back_within n area stretch statement nearer ls h)
+
+pub forth_within : (n : ℕ) (area : Option ℕ) (stretch statement : ℕ) (nearer : List ℕ) (ls : List Local) → IsWithin n area → AllWithin n (forth_of area stretch statement nearer ls)
+forth_within n area stretch statement nearer [] h = tt
+forth_within n area stretch statement nearer (l ∷ ls) h =
+    either_within n (l.stretch == stretch && nat_lt statement l.statement && is_new l.number nearer) (references_to area l (codes "%F" ∷ codes "%" ∷ []))
+    (forth_of area stretch statement (l.number ∷ nearer) ls) (forth_of area stretch statement nearer ls)
+    (references_within n area l (codes "%F" ∷ codes "%" ∷ []) h) (forth_within n area stretch statement (l.number ∷ nearer) ls h) (forth_within n area stretch statement nearer ls h)
+
+-- ---- what a line sees
+
+pub record SeesWithin (n : ℕ) (l : SourceLine) : Type 0 where
+  pub area : IsWithin n l.area
+  pub back : AllWithin n l.back
+  pub forth : AllWithin n l.forth
+
+first_in : Option (ℕ × ℕ) → ℕ
+first_in None = 0
+first_in (Some p) = p.0
+
+pub area_stands : (n : ℕ) (r : Option ℕ) (x a o : ℕ) → IsWithin n r → in_area r x ≡ Some (a, o) → a < n
+unfolding first_in
+area_stands n None x a o k e = absurd (cc)
+area_stands n (Some b) x a o k e = let is : b ≡ a = ap first_in e in subst (λ m. m < n) is k
+
+named_within : (n : ℕ) (q : List ℕ) (es : List LaidName) (a o : ℕ) → AllWithin n es → entry_stands_at (named_in q es) ≡ Some (a, o) → a < n
+named_within n q [] a o h e = absurd (cc)
+named_within n q (x ∷ es) a o h e = by_test (same x.name q) e (named_within n q es a o h.1)
+  where
+    by_test : (b : Bool) → entry_stands_at (cond b (Some x) (named_in q es)) ≡ Some (a, o) → (entry_stands_at (named_in q es) ≡ Some (a, o) → a < n) → a < n
+    by_test true e rest = area_stands n x.area x.offset a o h.0 e
+    by_test false e rest = rest e
+
+pub stands_within : (n : ℕ) (names : List LaidName) (l : SourceLine) → AllWithin n names → SeesWithin n l → (q : List ℕ) (a o : ℕ)
+    → entry_stands_at (named_in q (all_names names l)) ≡ Some (a, o) → a < n
+stands_within n names l h k q a o e =
+    named_within n q (names ++ l.back ++ l.forth) a o (joined n (names ++ l.back) l.forth (joined n names l.back h k.back) k.forth) e
+
+pub line_within : (n : ℕ) (locals : List Local) (d : Declared) (s : Statement) (ss : List Statement) → length (areas_behind (s ∷ statements_of (laid_of d ss))) ≤ n
+    → SeesWithin n (final_line locals (laid_behind d s (laid_of d ss)) (laid_of d ss))
+line_within n locals d s ss h =
+    let before = laid_of d ss in
+    let area = area_behind (s ∷ statements_of before) in
+    let stretch = stretch_behind (s ∷ statements_of before) in
+    let own = area_within n (s ∷ statements_of before) h in
+    record {
+      area = own;
+      back = back_within n area stretch (length before) [] (local_entries (defined_by s) stretch (length before) (offset_behind s before) ++ locals_of before) own;
+      forth = forth_within n area stretch (length before) [] locals own;
+    }

@@ -1,0 +1,44 @@
+-- The symbols of a layout's lines, and the lines that are left. This project's.
+use Rattle.std.specs.Prelude.{◌≡◌, ℕ, List, ◌∷◌, None}
+use Rattle.asm_layout.specs.Late.{AreOn}
+use Rattle.asm_layout.specs.Layout.{IsLayout, IsStatement, AreAreas}
+use Rattle.asm_model.specs.declared.statements.Statement.{Statement}
+use Rattle.asm_pool.specs.declared.layout.LaidArea.{LaidArea}
+use Rattle.asm_pool.specs.declared.layout.LaidStatement.{LaidStatement}
+use Rattle.asm_pool.specs.declared.layout.Layout.{Layout}
+use Rattle.asm_model.specs.Laid.{LaidLine, laid, taken, reversed, all_locals, final_line, final_names}
+use Rattle.asm_model.specs.Symbols.{symbols_in, symbols_behind}
+use Rattle.said_model.specs.Said.{AllSaid}
+use Rattle.source_model.specs.SourceFaults.{layout_faults}
+use Rattle.armasm_core.specs.declared.whole.Whole.{Whole}
+use Rattle.armasm_core.specs.Whole.{IsWhole}
+
+-- a statement is a line of a source whose layout has no fault, where these lines stand before it, the nearest first, and
+-- these behind it
+pub record StandsThere (statements : List Statement) (areas : List LaidArea) (w : Whole) (before rest : List LaidLine) (l : LaidLine) (x : LaidStatement) : Type 0 where
+  pub said : AllSaid statements
+  pub sound : layout_faults statements ≡ None
+  pub laid_out : AreAreas (laid statements) areas
+  pub whole : IsWhole statements areas w
+  pub parts : laid statements ≡ reversed rest (l ∷ before)
+  pub line : IsStatement x l before
+
+-- the names that a line of a source names or needs
+abbrev pub needed_by : List Statement → LaidLine → List LaidLine → List (List ℕ)
+needed_by statements l before =
+    symbols_in (final_names (laid statements)) (final_line (all_locals (laid statements)) l before) (taken l.extent) l.statement.what
+
+-- the layout of statements without faults of their own, and what its lines share
+pub record IsListable (statements : List Statement) (l : Layout) (w : Whole) : Type 0 where
+  pub layout : IsLayout statements l
+  pub said : AllSaid statements
+  pub sound : layout_faults statements ≡ None
+  pub whole : IsWhole statements l.areas w
+
+-- of a source's lines these are left, and the symbols of those before are listed
+pub record IsListed (statements : List Statement) (left : List LaidStatement) (symbols : List (List ℕ)) : Type 0 where
+  pub before : List LaidLine
+  pub rest : List LaidLine
+  pub parts : laid statements ≡ reversed rest before
+  pub lines : AreOn before rest left
+  pub same : symbols ≡ symbols_behind (final_names (laid statements)) (all_locals (laid statements)) before

@@ -1,0 +1,68 @@
+//! What a line of a layout is judged by.
+
+ghost use Rattle.std.specs.Prelude.{◌≡◌, ℕ, List};
+ghost use Rattle.std.specs.BTreeMap.{BTreeMap as Map};
+ghost use Rattle.std.specs.Option.{option_copied};
+ghost use Rattle.asm_names.specs.Lines.{IsFinal, Sees};
+ghost use Rattle.asm_layout.specs.Lines.{IsLineOf};
+ghost use Rattle.asm_model.specs.AtLine.{SourceLine};
+ghost use Rattle.asm_model.specs.declared.statements.Statement.{Statement};
+ghost use Rattle.asm_model.specs.Laid.{LaidLine, taken};
+ghost use Rattle.asm_units.specs.Literals as loads;
+ghost use Rattle.armasm_core.specs.declared.whole.Whole.{Whole as Shared};
+ghost use Rattle.armasm_core.specs.Whole.{IsHere, ShowsLine};
+
+use crate::literals::{literal_of, word_of};
+use crate::whole::Whole;
+use asm_names::PlacedLine;
+use asm_instructions::Scene;
+use asm_model::{LaidName, Value};
+use asm_offsets::{extents_are_placeable, literals_are_placed};
+use asm_pool::{LaidArea, LaidStatement, pool_law};
+use asm_units::Beside;
+use layout_laws::laws::known_values_are_final;
+use sdt_fault::Text;
+use std::collections::BTreeMap;
+
+/// What a line's values are judged by.
+pub fn beside_of<'a>(
+    areas: &[LaidArea],
+    whole: &'a Whole,
+    registers: &'a BTreeMap<Text, u8>,
+    laid: &'a LaidStatement,
+    line: &'a PlacedLine<'a>,
+    references: &'a [LaidName],
+) -> Beside<'a>
+    requires line { IsLineOf laid.now line.now }
+    requires references { (f : SourceLine) → IsFinal line.now whole.now.locals f → Sees line.now references.now f }
+    ensures { (statements : List Statement) (before rest : List LaidLine) (l : LaidLine) → IsHere statements areas.now whole.now registers.now before rest l laid.now → ShowsLine statements before rest l result laid.now.statement.what }
+{
+    known_values_are_final();
+    extents_are_placeable();
+    literals_are_placed();
+    pool_law();
+    Beside {
+        scene: Scene {
+            names: &whole.names,
+            line,
+            references,
+            registers,
+            symbols: &whole.sets.symbols,
+        },
+        data: &whole.sets.data,
+        defined: &whole.sets.defined,
+        sizes: whole.sizes.as_slice(),
+        strings: laid.strings.as_slice(),
+        word: word_of(areas, laid.area, laid.literal),
+    }
+}
+
+/// The literal that a line loads.
+pub fn loaded_of<'a>(areas: &'a [LaidArea], laid: &LaidStatement) -> Option<&'a Value>
+    ensures { (statements : List Statement) (w : Shared) (known : Map (List ℕ) ℕ) (before rest : List LaidLine) (l : LaidLine) → IsHere statements areas.now w known before rest l laid.now → loads.literal_in (taken l.extent) ≡ option_copied result }
+{
+    extents_are_placeable();
+    literals_are_placed();
+    pool_law();
+    literal_of(areas, laid.area, laid.literal)
+}

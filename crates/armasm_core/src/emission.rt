@@ -1,0 +1,129 @@
+//! The object of a layout.
+
+ghost use Rattle.std.specs.Prelude.{◌≡◌, ◌<◌, ◌^◌, List as Items, None, length, map, IfOk};
+ghost use Rattle.aof_object.specs.declared.records.Symbol.{Symbol as Record};
+ghost use Rattle.asm_layout.specs.Layout.{IsLayout};
+ghost use Rattle.asm_model.specs.declared.statements.Statement.{Statement};
+ghost use Rattle.asm_pool.specs.declared.layout.LaidArea.{LaidArea};
+ghost use Rattle.asm_model.specs.Laid.{laid, final_names};
+ghost use Rattle.asm_model.specs.PlacedLines.{AllNamed};
+ghost use Rattle.asm_model.specs.Symbols as needs;
+ghost use Rattle.said_model.specs.Named.{AllLoadsNamed};
+ghost use Rattle.said_model.specs.Said.{AllSaid};
+ghost use Rattle.source_laws.specs.Laws.{InArmState, things_in};
+ghost use Rattle.source_model.specs.Objects.{IsObject, source_of, symbol_records};
+ghost use Rattle.source_model.specs.SourceFaults.{layout_faults};
+ghost use Rattle.armasm_core.specs.Gathered.{AllLaidSaid};
+ghost use Rattle.armasm_core.specs.Whole.{IsWhole};
+ghost use Rattle.armasm_core.specs.Drafting.{AreDrafts, frame_of, frames};
+ghost use Rattle.armasm_core.specs.Emission.{HasFaultlessSource, HasSource, HasSymbols, IsEmittable};
+ghost use Rattle.armasm_core.specs.Emitted.{IsEmitted};
+ghost use Rattle.armasm_core.specs.Wherever.{StandsWherever};
+
+use crate::drafting::{Growing, all_finished, all_started, put_line};
+use crate::entry::entry_of;
+use crate::facts::gathered_of;
+use crate::records::records_of;
+use crate::symbols::symbols_of;
+use aof_object::{Object, Symbol};
+use crate::relocations_are_of_sources;
+use crate::judging_laws::laid_statements_are_said;
+use crate::{LineUnits, Whole, give, judge, line_units, whole_of};
+use asm_pool::Layout;
+use asm_units::Symbols;
+use sdt_fault::answer::Fault;
+use sdt_fault::{List, NoMemory};
+use source_laws::laws::{sources_stand_apart, things_are_listed};
+use stand_laws::laws::objects_stand;
+use std::alloc::Global;
+use std::collections::BTreeMap;
+
+/// The areas of a layout with all that its lines put there.
+fn grown(
+    alloc: Global,
+    layout: &Layout,
+    whole: &Whole,
+    symbols: &Symbols,
+) -> Result<Vec<Growing>, NoMemory>
+    requires said { AllLaidSaid layout.now.statements }
+    requires source { HasSymbols layout.now whole.now symbols.now }
+    requires few { length symbols.now < 2 ^ 24 }
+    ensures frames { IfOk result (λ gs. frames gs.items ≡ map frame_of layout.now.areas) }
+    ensures drafts { IfOk result (λ gs. (statements : Items Statement) → IsEmittable statements layout.now whole.now → AreDrafts symbols.now (things_in (source_of statements)) gs.items) }
+{
+    things_are_listed();
+    sources_stand_apart();
+    let areas = layout.areas.as_slice();
+    let mut growing = all_started(alloc, areas)?;
+    let mut registers = BTreeMap::new(alloc);
+    let mut left = layout.statements.as_slice();
+    'lines: loop {
+        match left {
+            [] => return Ok(growing),
+            [line, rest @ ..] => {
+                let LineUnits {
+                    units,
+                    literal,
+                    number,
+                } = line_units(alloc, areas, whole, &registers, line)?;
+                put_line(&mut growing, line, units.as_slice(), literal, symbols)?;
+                give(alloc, &mut registers, &line.statement, number)?;
+                left = rest;
+            }
+        }
+    }
+}
+
+/// The records of a layout's symbols. 2^24 symbols or more count as want of memory.
+fn few_records(
+    alloc: Global,
+    layout: &Layout,
+    whole: &Whole,
+    symbols: &Symbols,
+) -> Result<List<Symbol>, NoMemory>
+    ensures few { IfOk result (λ records. length records < 2 ^ 24) }
+    ensures records { IfOk result (λ records. (statements : Items Statement) → IsLayout statements layout.now → layout_faults statements ≡ None → IsWhole statements layout.now.areas whole.now → symbols.now ≡ needs.symbols_of (final_names (laid statements)) (laid statements) → records ≡ symbol_records (source_of statements)) }
+{
+    let gathered = gathered_of(alloc, layout)?;
+    let records = records_of(alloc, symbols, whole, &gathered)?;
+    if records.as_slice().len() >= 0x100_0000 {
+        return Err(NoMemory);
+    }
+    Ok(records)
+}
+
+/// The object of a layout whose values have no fault.
+fn object_of(alloc: Global, layout: &Layout) -> Result<Object, NoMemory>
+    requires said { AllLaidSaid layout.now.statements }
+    requires source { HasFaultlessSource layout.now }
+    ensures object { IfOk result (λ o. (statements : Items Statement) → IsLayout statements layout.now → AllSaid statements → layout_faults statements ≡ None → InArmState statements → IsObject statements o) }
+    ensures few { IfOk result (λ o. length o.symbols < 2 ^ 24) }
+{
+    relocations_are_of_sources();
+    things_are_listed();
+    let whole = whole_of(alloc, layout)?;
+    let needed = symbols_of(alloc, layout, &whole)?;
+    let symbols = few_records(alloc, layout, &whole, &needed)?;
+    let growing = grown(alloc, layout, &whole, &needed)?;
+    let areas = all_finished(alloc, growing)?;
+    Ok(Object {
+        areas,
+        symbols,
+        entry: entry_of(layout),
+    })
+}
+
+/// The object of a layout. Refuses the first line whose operands, name, literal, EXPORT, KEEP or ASSERT have a fault.
+/// With 2^24 symbols or more, want of memory is answered before anything is written. Wherever the object is placed, the
+/// statements stand.
+pub fn emit(alloc: Global, layout: &Layout) -> Result<Object, Fault>
+    requires source { HasSource layout.now }
+    ensures emitted { (statements : Items Statement) → IsLayout statements layout.now → AllSaid statements → layout_faults statements ≡ None → InArmState statements → IsEmitted statements result }
+    ensures few { IfOk result (λ o. length o.symbols < 2 ^ 24) }
+    ensures stands { IfOk result (λ o. (statements : Items Statement) → IsLayout statements layout.now → AllSaid statements → AllNamed statements → AllLoadsNamed statements → layout_faults statements ≡ None → InArmState statements → StandsWherever statements o) }
+{
+    laid_statements_are_said();
+    objects_stand();
+    judge(alloc, layout)?;
+    Ok(object_of(alloc, layout)?)
+}

@@ -1,0 +1,110 @@
+//! The relocations of an area by offset.
+
+ghost use Rattle.std.specs.Prelude.{◌≡◌, ◌+◌, ◌<◌, ◌≤◌, ◌^◌, ℕ, length, IfOk, OnOk};
+ghost use Rattle.std.specs.Option.{option_copied};
+ghost use Rattle.std.specs.Ordering.{nat_cmp};
+ghost use Rattle.std.specs.BTreeMap.{IsOrdered, get};
+ghost use Rattle.asm_model.specs.Before.{place_of};
+ghost use Rattle.asm_units.specs.Emitting.{emitted_of, target_of};
+ghost use Rattle.armasm_core.specs.Relocations as model;
+ghost use Rattle.armasm_core.specs.Relocations.{noted, relocs_listed};
+ghost use Rattle.armasm_core.specs.Writing.{HasNumber, IsListed, SymbolHasNumber, TargetHasNumber};
+
+use aof_object::Reloc;
+use asm_units::Symbols;
+use asm_units::{Emitted, Target};
+use sdt_fault::{NoMemory, Text};
+use std::alloc::Global;
+use std::collections::BTreeMap;
+
+/// A word relocated by an area.
+const AREA_WORD: u32 = 0x8200_0000;
+
+/// A word relocated by a symbol.
+const SYMBOL_WORD: u32 = 0x8A00_0000;
+
+/// A branch relocated by a symbol, relative to its place.
+const SYMBOL_BRANCH: u32 = 0x8F00_0000;
+
+/// The number of a symbol that is listed.
+fn number_of(symbols: &Symbols, name: &Text) -> u32
+    requires { IsListed symbols.now name.now }
+    ensures { result ≡ place_of name.now symbols.now }
+{
+    symbols.number_of(name).unwrap()
+}
+
+/// One that is relocated by a symbol; its word has room for 24 bits of the symbol's number.
+fn by_symbol(bits: u32, symbols: &Symbols, name: &Text) -> u32
+    requires room { bits ≤ 0xFF000000 }
+    requires few { length symbols.now < 2 ^ 24 }
+    requires listed { IsListed symbols.now name.now }
+    ensures { result ≡ bits + place_of name.now symbols.now }
+{
+    bits + number_of(symbols, name)
+}
+
+fn word_relocation(symbols: &Symbols, target: &Target) -> Option<u32>
+    requires few { length symbols.now < 2 ^ 24 }
+    requires number { TargetHasNumber symbols.now (target_of target.now) }
+    ensures { result ≡ model.word_relocation symbols.now (target_of target.now) }
+{
+    match target {
+        Target::Nothing => None,
+        Target::Area(area) => Some(AREA_WORD + *area),
+        Target::Symbol(name) => Some(by_symbol(SYMBOL_WORD, symbols, name)),
+    }
+}
+
+fn branch_relocation(symbols: &Symbols, symbol: Option<&Text>) -> Option<u32>
+    requires few { length symbols.now < 2 ^ 24 }
+    requires number { SymbolHasNumber symbols.now (option_copied symbol) }
+    ensures { result ≡ model.branch_relocation symbols.now (option_copied symbol.entry) }
+{
+    match symbol {
+        None => None,
+        Some(name) => Some(by_symbol(SYMBOL_BRANCH, symbols, name)),
+    }
+}
+
+/// The second word of the relocation of a thing, where it has one.
+pub fn relocation(symbols: &Symbols, unit: &Emitted) -> Option<u32>
+    requires few { length symbols.now < 2 ^ 24 }
+    requires number { HasNumber symbols.now (emitted_of unit.now) }
+    ensures { result ≡ model.relocation symbols.now (emitted_of unit.now) }
+{
+    match unit {
+        Emitted::Bytes(_) => None,
+        Emitted::Word { target, .. } => word_relocation(symbols, target),
+        Emitted::Instruction { symbol, .. } => branch_relocation(symbols, symbol.as_ref()),
+    }
+}
+
+/// Notes a relocation, where there is one.
+pub fn note(
+    relocs: &mut BTreeMap<u32, u32>,
+    at: u32,
+    relocation: Option<u32>,
+) -> Result<(), NoMemory>
+    ensures { OnOk result ((q : ℕ) → get nat_cmp relocs.new q ≡ noted (get nat_cmp relocs.old q) at relocation q) }
+{
+    if let Some(word) = relocation {
+        relocs.insert(at, word)?;
+    }
+    Ok(())
+}
+
+/// The relocations in order of offset.
+pub fn listed(alloc: Global, relocs: &BTreeMap<u32, u32>) -> Result<Vec<Reloc>, NoMemory>
+    ensures all { IfOk result (λ list. list.items ≡ relocs_listed relocs.now.entries) }
+    ensures ordered { IsOrdered nat_cmp relocs.now }
+{
+    let mut list = Vec::new(alloc);
+    'entries: for (offset, word) in relocs {
+        list.push(Reloc {
+            offset: *offset,
+            word: *word,
+        })?;
+    }
+    Ok(list)
+}

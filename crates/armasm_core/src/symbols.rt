@@ -1,0 +1,67 @@
+//! The symbols of an object.
+
+ghost use Rattle.std.specs.Prelude.{◌≡◌, List, None, IfOk, OnOk};
+ghost use Rattle.asm_layout.specs.Layout.{IsLayout};
+ghost use Rattle.asm_model.specs.declared.statements.Statement.{Statement};
+ghost use Rattle.asm_model.specs.Laid as model;
+ghost use Rattle.asm_model.specs.Laid.{LaidLine};
+ghost use Rattle.asm_model.specs.Symbols as needs;
+ghost use Rattle.said_model.specs.Said.{AllSaid, IsSaid};
+ghost use Rattle.source_model.specs.SourceFaults.{layout_faults};
+ghost use Rattle.armasm_core.specs.Gathered.{AllLaidSaid};
+ghost use Rattle.armasm_core.specs.Whole.{IsWhole};
+ghost use Rattle.armasm_core.specs.Listing.{StandsThere, needed_by};
+
+use asm_names::references_of;
+use crate::literals::literal_of;
+use crate::whole::Whole;
+use asm_layout::lines::line_of;
+use asm_pool::{LaidArea, LaidStatement, Layout, pool_law};
+use asm_units::{Symbols, add_line};
+use sdt_fault::NoMemory;
+use std::alloc::Global;
+
+/// Adds the symbols that a statement of a layout names or needs.
+fn add_line_of(
+    alloc: Global,
+    symbols: &mut Symbols,
+    areas: &[LaidArea],
+    whole: &Whole,
+    laid: &LaidStatement,
+) -> Result<(), NoMemory>
+    requires { IsSaid laid.now.statement }
+    ensures { OnOk result ((statements : List Statement) (before rest : List LaidLine) (l : LaidLine) → StandsThere statements areas.now whole.now before rest l laid.now → symbols.new ≡ needs.listed_behind symbols.old (needed_by statements l before)) }
+{
+    pool_law();
+    let line = line_of(laid);
+    let references = references_of(alloc, &line, &whole.locals)?;
+    let literal = literal_of(areas, laid.area, laid.literal);
+    add_line(
+        alloc,
+        symbols,
+        &whole.names,
+        &line,
+        references.as_slice(),
+        literal,
+    )?;
+    Ok(())
+}
+
+/// The symbols of a layout whose lines share this, in order of the first line that names or needs them.
+pub fn symbols_of(alloc: Global, layout: &Layout, whole: &Whole) -> Result<Symbols, NoMemory>
+    requires said { AllLaidSaid layout.now.statements }
+    ensures { IfOk result (λ symbols. (statements : List Statement) → IsLayout statements layout.now → AllSaid statements → layout_faults statements ≡ None → IsWhole statements layout.now.areas whole.now → symbols ≡ needs.symbols_of (model.final_names (model.laid statements)) (model.laid statements)) }
+{
+    let areas = layout.areas.as_slice();
+    let mut symbols = Symbols::new(alloc);
+    let mut left = layout.statements.as_slice();
+    'lines: loop {
+        match left {
+            [] => return Ok(symbols),
+            [line, rest @ ..] => {
+                add_line_of(alloc, &mut symbols, areas, whole, line)?;
+                left = rest;
+            }
+        }
+    }
+}

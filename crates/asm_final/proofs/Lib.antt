@@ -1,5 +1,0 @@
-mod LineLemmas
-mod MatchLemmas
-mod OnceLemmas
-mod SettleLemmas
-mod SourceLemmas

@@ -1,7 +1,0 @@
-use Rattle.asm_judging.proofs.SetLemmas.{between_next}
-use Rattle.asm_judging.proofs.sets.sets_of.Goals as goal
-
-pub lines-preserved : goal.lines-preserved
-lines-preserved c =
-    between_next c.args.laid.now c.lines.left.now c.line-item.result c.lines.sets c.note.new.sets c.lines.invariant c.in-len1-up.len_at_least c.line-item.is
-    c.in_ok-note-in-len1-up.ensures

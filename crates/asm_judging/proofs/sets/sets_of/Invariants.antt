@@ -1,9 +1,0 @@
-use Rattle.std.proofs.Common.{length}
-use Rattle.asm_judging.proofs.SetLemmas.{IsBetween}
-use Rattle.asm_judging.proofs.sets.sets_of.Given as goal
-
-abbrev pub invariant-lines : goal.invariant-lines
-invariant-lines l = IsBetween l.laid l.left l.sets
-
-abbrev pub decreases-lines : goal.decreases-lines
-decreases-lines l = length l.left

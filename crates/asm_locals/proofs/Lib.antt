@@ -1,3 +1,0 @@
-mod NameLemmas
-mod OrderLemmas
-mod TableLemmas

@@ -1,3 +1,0 @@
--- What the clauses of layout cite.
-pub mod Found
-pub mod Tables

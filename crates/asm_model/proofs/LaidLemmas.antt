@@ -1,0 +1,137 @@
+-- Laid lines stand at their offsets, and load literals.
+use Rattle.std.proofs.Common.{◌≡◌, ℕ, List, ◌∷◌, Bool, true, false, cond, refl, sym, ap, subst, Option, Some, None}
+use Rattle.std.specs.Prelude.{Result, Ok, Err}
+use Rattle.sdt_fault.specs.declared.kinds.LineKind.{LineKind}
+use Rattle.asm_model.specs.declared.values.Value.{Value}
+use Rattle.asm_model.specs.declared.values.Value.TheVariants.{Number, Truth, Words, Place}
+use Rattle.asm_model.specs.declared.statements.Statement.{Statement}
+use Rattle.asm_model.specs.declared.statements.What.{What}
+use Rattle.asm_model.specs.declared.statements.What.TheVariants as what
+use Rattle.asm_model.specs.declared.statements.PseudoLine.{PseudoLine}
+use Rattle.asm_model.specs.declared.statements.PseudoLine.TheVariants as pseudo
+use Rattle.asm_model.specs.declared.thumb_lines.ThumbLine.{ThumbLine}
+use Rattle.asm_model.specs.declared.thumb_lines.ThumbLine.TheVariants as thumb
+use Rattle.asm_model.specs.declared.directives.Boundary.{Boundary}
+use Rattle.asm_model.specs.declared.directives.Boundary.TheVariants as limit
+use Rattle.asm_model.specs.declared.directives.DirectiveLine.{DirectiveLine}
+use Rattle.asm_model.specs.declared.directives.DirectiveLine.TheVariants as line
+use Rattle.asm_model.specs.AtLine.{Sight, value_at, kept_names, literal_or}
+use Rattle.asm_model.specs.Grammar.{Tree}
+use Rattle.asm_model.specs.Says.{on_both, mapped}
+use Rattle.asm_model.specs.Before.{area_behind}
+use Rattle.asm_model.specs.Extents.{Extent, Block, Padding, Loading, number_there, literal_there, tree_literal, is_moved, instruction, loading, thumb_extent, pseudo_extent, as_multiple, padding, directive_extent, extent_of}
+use Rattle.asm_model.specs.Laid.{Declared, LaidLine, statements_of, pieces_of, taken, aligned_end, sight_behind, laid_behind}
+use Rattle.asm_model.specs.OffsetLaws.{IsLiteral}
+use Rattle.asm_model.specs.Offsets.{Piece, raised, waiting, end_behind, offset_of, size_behind}
+use Rattle.asm_model.specs.Trees.{tree_of}
+use Rattle.asm_model.proofs.ExtentLemmas.{alignments_agree}
+
+-- ---- offsets
+
+pub starts_there : (area : Option ℕ) (pieces : List Piece) (s : Sight) (w : What) (e : Extent) → extent_of s w ≡ Ok e
+    → aligned_end area pieces s.known.thumb w ≡ offset_of area pieces e
+starts_there None pieces s w e h = refl
+starts_there (Some area) pieces s w e h = ap (raised (end_behind area pieces)) (sym (alignments_agree s w (waiting area pieces) e h))
+
+pub lines_stand_at_offsets : (d : Declared) (s : Statement) (before : List LaidLine) (e : Extent) → (laid_behind d s before).extent ≡ Ok e
+    → ((laid_behind d s before).offset ≡ offset_of (laid_behind d s before).area (pieces_of before) e)
+    × ((laid_behind d s before).size ≡ size_behind (laid_behind d s before).area (pieces_of before) e)
+lines_stand_at_offsets d s before e h = (
+  starts_there (area_behind (s ∷ statements_of before)) (pieces_of before) (sight_behind d s before) s.what e h,
+  ap (λ r. size_behind (area_behind (s ∷ statements_of before)) (pieces_of before) (taken r)) h,
+)
+
+-- ---- literals
+
+abbrev LoadsLiteral : Extent → Type 0
+LoadsLiteral (Loading n v) = IsLiteral v
+LoadsLiteral e = Unit {0}
+
+abbrev OkLoads : Result Extent LineKind → Type 0
+OkLoads (Ok e) = LoadsLiteral e
+OkLoads (Err k) = Unit {0}
+
+abbrev OkLiteral : Result Value LineKind → Type 0
+OkLiteral (Ok v) = IsLiteral v
+OkLiteral (Err k) = Unit {0}
+
+pub literal_or_is : (x y : Result Value LineKind) → OkLiteral (literal_or x y)
+literal_or_is (Ok (Number n)) y = tt
+literal_or_is x (Ok (Place s n)) = tt
+literal_or_is x y = tt
+
+pub literal_there_is : (s : Sight) (t : Option Tree) → OkLiteral (tree_literal s t)
+literal_there_is s None = tt
+literal_there_is s (Some t) = literal_or_is (value_at s t) (value_at s (kept_names s t))
+
+pub loads_mapped : {A : Type 0} (f : A → Extent) (r : Result A LineKind) → ((x : A) → LoadsLiteral (f x)) → OkLoads (mapped f r)
+loads_mapped f (Ok x) h = h x
+loads_mapped f (Err k) h = tt
+
+pub loads_both : {A B : Type 0} (f : A → B → Extent) (r : Result A LineKind) (q : Result B LineKind) → ((x : A) (y : B) → LoadsLiteral (f x y)) → OkLoads (on_both f r q)
+loads_both f (Ok x) (Ok y) h = h x y
+loads_both f (Ok x) (Err k) h = tt
+loads_both f (Err k) (Ok y) h = tt
+loads_both f (Err k) (Err j) h = tt
+
+pub loads_value : (thumb : Bool) (v : Value) → IsLiteral v → LoadsLiteral (loading thumb v)
+loads_value true (Number n) h = tt
+loads_value true (Place s n) h = tt
+loads_value true (Truth b) h = absurd h
+loads_value true (Words w) h = absurd h
+loads_value false (Number n) h = by_test (is_moved n)
+  where
+    by_test : (b : Bool) → LoadsLiteral (cond b (Block 4 4) (Loading 4 (Number n)))
+    by_test true = tt
+    by_test false = tt
+loads_value false (Place s n) h = tt
+loads_value false (Truth b) h = absurd h
+loads_value false (Words w) h = absurd h
+
+pub loads_there : (thumb : Bool) (r : Result Value LineKind) → OkLiteral r → OkLoads (mapped (loading thumb) r)
+loads_there thumb (Ok v) h = loads_value thumb v h
+loads_there thumb (Err k) h = tt
+
+pub loads_instruction : (thumb : Bool) → LoadsLiteral (instruction thumb)
+loads_instruction true = tt
+loads_instruction false = tt
+
+pub loads_thumb : (l : ThumbLine) → LoadsLiteral (thumb_extent l)
+loads_thumb (thumb.BranchLink target) = tt
+loads_thumb l = tt
+
+pub loads_pseudo : (s : Sight) (l : PseudoLine) → OkLoads (pseudo_extent s l)
+loads_pseudo s (pseudo.LoadConstant condition rd value) = loads_there s.known.thumb (literal_there s value) (literal_there_is s (tree_of value))
+loads_pseudo s (pseudo.Address condition rd target) = loads_instruction s.known.thumb
+loads_pseudo s (pseudo.LongAddress condition rd target) = tt
+loads_pseudo s pseudo.NoOperation = loads_instruction s.known.thumb
+
+pub loads_padding : (s : Sight) (b : Boundary) → OkLoads (padding s b)
+loads_padding s limit.Word = tt
+loads_padding s (limit.Multiple e) = loads_mapped (λ m. Padding m 0) (as_multiple (number_there s e)) (λ x. tt)
+loads_padding s (limit.Behind e f) = loads_both (λ m n. Padding m n) (as_multiple (number_there s e)) (number_there s f) (λ x y. tt)
+
+pub loads_entry : (thumb : Bool) → LoadsLiteral (cond thumb (Block 2 0) (Block 4 0))
+loads_entry true = tt
+loads_entry false = tt
+
+pub loads_directive : (s : Sight) (l : DirectiveLine) → OkLoads (directive_extent s l)
+loads_directive s line.Entry = loads_entry s.known.thumb
+loads_directive s (line.Space e) = loads_mapped (λ n. Block 1 n) (number_there s e) (λ x. tt)
+loads_directive s (line.Align b) = loads_padding s b
+loads_directive s (line.Dcd es) = tt
+loads_directive s (line.Dcdu es) = tt
+loads_directive s (line.Dcw es) = tt
+loads_directive s (line.Dcb es) = tt
+loads_directive s line.Ltorg = tt
+loads_directive s l = tt
+
+pub loads : (s : Sight) (w : What) → OkLoads (extent_of s w)
+loads s what.Nothing = tt
+loads s (what.Arm l) = tt
+loads s (what.Thumb l) = loads_thumb l
+loads s (what.Pseudo l) = loads_pseudo s l
+loads s (what.Directive l) = loads_directive s l
+
+pub loadings_are_literals : (s : Sight) (w : What) (n : ℕ) (v : Value) → extent_of s w ≡ Ok (Loading n v) → IsLiteral v
+loadings_are_literals s w n v h = subst OkLoads h (loads s w)

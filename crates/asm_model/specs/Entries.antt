@@ -1,0 +1,74 @@
+-- The entries of names. A label's or an imported name's value is itself plus 0; only a label stands in an area. A name
+-- for an expression has the expression's value; but where that counts from the start of the line's area without a
+-- symbol, as this place does, the name is its own symbol there, so that it means the same place in every area. Only
+-- references to local labels have values without a symbol. SDT 2.50 Reference Guide, chapter on the assembler; how
+-- values are kept is this project's.
+use Rattle.std.specs.Prelude.{◌≡◌, ℕ, List, [], ◌∷◌, Bool, false, Option, Some, None}
+use Rattle.asm_model.specs.declared.values.Value.{Value}
+use Rattle.asm_model.specs.declared.values.Value.TheVariants.{Number, Truth, Words, Place}
+use Rattle.asm_model.specs.declared.names.LaidName.{LaidName}
+use Rattle.asm_model.specs.declared.names.Names.{Names}
+use Rattle.asm_model.specs.AtLine.{SourceLine, with_names, all_names}
+use Rattle.asm_model.specs.Meaning.{named_in}
+use Rattle.asm_model.specs.Placing.{Placing, placed_value, seen_from, IsOfArea, CountFromHere}
+
+-- a label, with the number of bytes of its statement, and whether it is a label of Thumb code
+abbrev pub label_entry : List ℕ → Option ℕ → ℕ → ℕ → Bool → LaidName
+label_entry name area offset size thumb =
+    record { name = name; value = Place name 0; area = area; offset = offset; size = size; thumb = thumb }
+
+-- an imported name
+abbrev pub imported_entry : List ℕ → LaidName
+imported_entry name = record { name = name; value = Place name 0; area = None; offset = 0; size = 0; thumb = false }
+
+-- a name with a value of its own
+abbrev pub valued_entry : List ℕ → Value → Bool → LaidName
+valued_entry name v thumb = record { name = name; value = v; area = None; offset = 0; size = 0; thumb = thumb }
+
+abbrev pub thumb_of : Option LaidName → Bool
+thumb_of None = false
+thumb_of (Some n) = n.thumb
+
+-- a name for an expression that has the value in this area; a place in Thumb code stays one
+abbrev pub equal_entry : List LaidName → Option ℕ → List ℕ → Value → LaidName
+equal_entry list here name (Place [] n) = label_entry name here n 0 false
+equal_entry list here name (Place (c ∷ cs) n) = valued_entry name (Place (c ∷ cs) n) (thumb_of (named_in (c ∷ cs) list))
+equal_entry list here name (Number n) = valued_entry name (Number n) false
+equal_entry list here name (Truth b) = valued_entry name (Truth b) false
+equal_entry list here name (Words w) = valued_entry name (Words w) false
+
+-- a value that is a place has a symbol
+abbrev pub HasSymbol : Value → Type 0
+HasSymbol (Place [] n) = ⊥
+HasSymbol (Place (c ∷ cs) n) = Unit {0}
+HasSymbol (Number n) = Unit {0}
+HasSymbol (Truth b) = Unit {0}
+HasSymbol (Words w) = Unit {0}
+
+abbrev pub EachHasSymbol : List LaidName → Type 0
+EachHasSymbol [] = Unit {0}
+EachHasSymbol (n ∷ ns) = HasSymbol n.value × EachHasSymbol ns
+
+abbrev pub EachOfArea : Option ℕ → List LaidName → Type 0
+EachOfArea here [] = Unit {0}
+EachOfArea here (n ∷ ns) = IsOfArea here n.area n.value × EachOfArea here ns
+
+-- the value of a name for an expression has a symbol
+abbrev pub EqualNamesHaveSymbols : Type 0
+EqualNamesHaveSymbols =
+    (list : List LaidName) (here : Option ℕ) (c : ℕ) (cs : List ℕ) (v : Value) → HasSymbol (equal_entry list here (c ∷ cs) v).value
+
+-- a name for an expression, seen from any area, is what the expression is in its own area
+abbrev pub EqualNamesStay : Type 0
+EqualNamesStay =
+    (p : Placing) (names : Names) (here : ℕ) (other : Option ℕ) (c : ℕ) (cs : List ℕ) (v : Value)
+    → names.area ≡ Some here
+    → named_in (c ∷ cs) names.list ≡ Some (equal_entry names.list names.area (c ∷ cs) v)
+    → placed_value p (seen_from names other) (equal_entry names.list names.area (c ∷ cs) v).value ≡ placed_value p names v
+
+-- where the source's names have symbols, and a line's local labels stand in its area, entries without a symbol count
+-- from there
+abbrev pub LinesCountFromHere : Type 0
+LinesCountFromHere =
+    (all : List LaidName) (l : SourceLine)
+    → EachHasSymbol all → EachOfArea l.area l.back → EachOfArea l.area l.forth → CountFromHere (with_names l (all_names all l))

@@ -1,0 +1,230 @@
+-- A source laid out: each statement with its place, and what an expression sees at its line. What is known at a line are
+-- names of the lines before it, and of the whole source only which names and local labels there are. SDT 2.50 Reference
+-- Guide, chapter on the assembler. Statements and laid lines are listed with the nearest first.
+use Rattle.std.specs.Prelude.{ℕ, zero, suc, ◌+◌, ◌%◌, ◌^◌, List, [], ◌∷◌, ◌++◌, length, map, Bool, false, Option, Some, None, Result, Ok, Err}
+use Rattle.sdt_fault.specs.declared.kinds.LineKind.{LineKind}
+use Rattle.sdt_fault.specs.declared.kinds.LineKind.TheVariants.{Syntax}
+use Rattle.asm_model.specs.declared.exprs.Expr.{Expr}
+use Rattle.asm_model.specs.declared.values.Value.{Value}
+use Rattle.asm_model.specs.declared.values.Value.TheVariants.{Number}
+use Rattle.asm_model.specs.declared.names.LaidName.{LaidName}
+use Rattle.asm_model.specs.declared.directives.DirectiveLine.TheVariants as line
+use Rattle.asm_model.specs.declared.statements.Statement.{Statement}
+use Rattle.asm_model.specs.declared.statements.What.{What}
+use Rattle.asm_model.specs.declared.statements.What.TheVariants as what
+use Rattle.asm_model.specs.AtLine.{Definition, Nameless, Named, Equated, SourceLine, Sight, sight, seen_behind, with_names, all_names, made_name}
+use Rattle.asm_model.specs.Grammar.{Tree}
+use Rattle.asm_model.specs.Meaning.{meaning}
+use Rattle.asm_model.specs.Before.{thumb_behind, area_behind, stretch_behind, is_thumb_label}
+use Rattle.asm_model.specs.Entries.{label_entry, imported_entry, valued_entry, equal_entry}
+use Rattle.asm_model.specs.Extents.{Extent, Block, number_there, extent_of, alignment}
+use Rattle.asm_model.specs.Labels.{Defined, Unnamed, LocalLabel, Label, Equal, MapField, RegisterName, defined_by, imported_in, declared_names}
+use Rattle.asm_model.specs.Locals.{Local, local_entries, declared_locals, back_of, forth_of}
+use Rattle.asm_model.specs.Offsets.{Piece, raised, waiting, end_behind, size_behind}
+use Rattle.asm_model.specs.Trees.{tree_of}
+
+-- which names and local labels a source has
+pub record Declared : Type 0 where
+  pub names : List LaidName
+  pub locals : List Local
+
+abbrev pub declared : List Statement → Declared
+declared statements = record { names = declared_names statements; locals = declared_locals statements }
+
+-- a statement with its place
+pub record LaidLine : Type 0 where
+  pub statement : Statement
+  pub area : Option ℕ
+  pub offset : ℕ
+  pub thumb : Bool
+  -- what it takes up, or why that isn't known
+  pub extent : Result Extent LineKind
+  pub size : ℕ
+  -- what its expressions see, before its size is known
+  pub seen : Sight
+  -- what the lines behind it see of it: what its label defines, and behind that a name that it imports
+  pub line : SourceLine
+  pub imported : List SourceLine
+
+abbrev pub statements_of : List LaidLine → List Statement
+statements_of lines = map (λ l. l.statement) lines
+
+abbrev pub lines_of : List LaidLine → List SourceLine
+lines_of [] = []
+lines_of (l ∷ ls) = l.imported ++ l.line ∷ lines_of ls
+
+-- a statement whose extent isn't known takes up nothing
+abbrev pub taken : Result Extent LineKind → Extent
+taken (Ok e) = e
+taken (Err k) = Block 1 0
+
+abbrev pub pieces_of : List LaidLine → List Piece
+pieces_of lines = map (λ l. record { area = l.area; extent = taken l.extent }) lines
+
+-- the local labels of lines, the nearest first
+abbrev pub locals_of : List LaidLine → List Local
+locals_of [] = []
+locals_of (l ∷ before) =
+    local_entries (defined_by l.statement) (stretch_behind (statements_of (l ∷ before))) (length before) l.offset ++ locals_of before
+
+-- ---- the storage map
+
+abbrev pub added : ℕ → Result ℕ LineKind → ℕ
+added map (Ok n) = (map + n) % 2 ^ 32
+added map (Err k) = map
+
+abbrev pub set_or : ℕ → Result ℕ LineKind → ℕ
+set_or map (Ok n) = n
+set_or map (Err k) = map
+
+abbrev pub map_from : ℕ → Sight → What → ℕ
+map_from map s (what.Directive (line.Map e)) = set_or map (number_there s e)
+map_from map s (what.Directive (line.Field e)) = added map (number_there s e)
+map_from map s _ = map
+
+-- the storage map behind lines
+abbrev pub map_behind : List LaidLine → ℕ
+map_behind [] = 0
+map_behind (l ∷ before) = map_from (map_behind before) l.seen l.statement.what
+
+-- ---- places
+
+abbrev pub aligned_end : Option ℕ → List Piece → Bool → What → ℕ
+aligned_end None before thumb w = 0
+aligned_end (Some area) before thumb w = raised (end_behind area before) (alignment thumb (waiting area before) w)
+
+-- the offset of a statement behind lines
+abbrev pub offset_behind : Statement → List LaidLine → ℕ
+offset_behind s before =
+    aligned_end (area_behind (s ∷ statements_of before)) (pieces_of before) (thumb_behind (statements_of before)) s.what
+
+-- ---- definitions
+
+abbrev pub tree_equated : List LaidName → Option ℕ → List ℕ → Option Tree → Definition
+tree_equated names area name None = Nameless
+tree_equated names area name (Some t) = Equated (equal_entry names area name) t
+
+-- what a line defines, by its area, its offset, its size, whether its label is one of Thumb code, and the storage map
+abbrev pub definition_of : List LaidName → Defined → Option ℕ → ℕ → ℕ → Bool → ℕ → Definition
+definition_of names Unnamed area offset size thumb map = Nameless
+definition_of names (LocalLabel n) area offset size thumb map = Nameless
+definition_of names (Label name) area offset size thumb map = Named (label_entry name area offset size thumb)
+definition_of names (Equal name e) area offset size thumb map = tree_equated names area name (tree_of e)
+definition_of names (MapField name) area offset size thumb map = Named (valued_entry name (Number map) false)
+definition_of names (RegisterName name r) area offset size thumb map = Nameless
+
+-- a line of the source with a definition
+abbrev pub line_behind : Declared → Statement → List LaidLine → Definition → SourceLine
+line_behind d s before definition = record {
+  area = area_behind (s ∷ statements_of before);
+  offset = offset_behind s before;
+  map = map_behind before;
+  thumb = thumb_behind (statements_of before);
+  back = back_of (area_behind (s ∷ statements_of before)) (stretch_behind (s ∷ statements_of before)) (length before) []
+      (local_entries (defined_by s) (stretch_behind (s ∷ statements_of before)) (length before) (offset_behind s before)
+      ++ locals_of before);
+  forth = forth_of (area_behind (s ∷ statements_of before)) (stretch_behind (s ∷ statements_of before)) (length before) [] d.locals;
+  definition = definition;
+}
+
+-- the definition of a statement of a size
+abbrev pub definition_behind : Declared → Statement → List LaidLine → ℕ → Definition
+definition_behind d s before size =
+    definition_of d.names (defined_by s) (area_behind (s ∷ statements_of before)) (offset_behind s before) size
+    (is_thumb_label s (statements_of before)) (map_behind before)
+
+abbrev pub imported_lines : Declared → Statement → List LaidLine → Option (List ℕ) → List SourceLine
+imported_lines d s before None = []
+imported_lines d s before (Some name) = line_behind d s before (Named (imported_entry name)) ∷ []
+
+-- what the expressions of a statement see; the size of its own label counts as 0, and nothing asks for it
+abbrev pub sight_behind : Declared → Statement → List LaidLine → Sight
+sight_behind d s before =
+    sight d.names (seen_behind d.names (lines_of before)) (line_behind d s before (definition_behind d s before 0))
+
+-- ---- lines
+
+-- a statement behind lines, with what it takes up
+abbrev pub with_extent : Declared → Statement → List LaidLine → Result Extent LineKind → ℕ → LaidLine
+with_extent d s before extent size = record {
+  statement = s;
+  area = area_behind (s ∷ statements_of before);
+  offset = offset_behind s before;
+  thumb = thumb_behind (statements_of before);
+  extent = extent;
+  size = size;
+  seen = sight_behind d s before;
+  line = line_behind d s before (definition_behind d s before size);
+  imported = imported_lines d s before (imported_in s.what);
+}
+
+abbrev pub sized : Declared → Statement → List LaidLine → Result Extent LineKind → LaidLine
+sized d s before extent =
+    with_extent d s before extent (size_behind (area_behind (s ∷ statements_of before)) (pieces_of before) (taken extent))
+
+abbrev pub laid_behind : Declared → Statement → List LaidLine → LaidLine
+laid_behind d s before = sized d s before (extent_of (sight_behind d s before) s.what)
+
+abbrev pub with_line : Declared → Statement → List LaidLine → List LaidLine
+with_line d s before = laid_behind d s before ∷ before
+
+abbrev pub laid_of : Declared → List Statement → List LaidLine
+laid_of d [] = []
+laid_of d (s ∷ before) = with_line d s (laid_of d before)
+
+-- the lines of a source, the last first
+abbrev pub laid : List Statement → List LaidLine
+laid statements = laid_of (declared statements) statements
+
+-- ---- final names
+
+abbrev pub reversed : {A : Type 0} → List A → List A → List A
+reversed [] after = after
+reversed (x ∷ xs) after = reversed xs (x ∷ after)
+
+-- a line with what its references to later local labels name
+abbrev pub with_forth : List LaidName → SourceLine → SourceLine
+with_forth forth l = record l { forth = forth }
+
+-- a line of a source, with the places of all its local labels, which are listed in the order of the source
+abbrev pub final_line : List Local → LaidLine → List LaidLine → SourceLine
+final_line locals l before = with_forth (forth_of l.line.area (stretch_behind (statements_of (l ∷ before))) (length before) [] locals) l.line
+
+-- the lines of a source, in its order
+abbrev pub final_lines : List Local → List LaidLine → List SourceLine
+final_lines locals [] = []
+final_lines locals (l ∷ before) = final_lines locals before ++ final_line locals l before ∷ l.imported
+
+abbrev pub all_locals : List LaidLine → List Local
+all_locals lines = reversed (locals_of lines) []
+
+abbrev pub source_lines : List LaidLine → List SourceLine
+source_lines lines = final_lines (all_locals lines) lines
+
+-- the entry of a line, where the source has these names
+abbrev pub entries_with : List LaidName → SourceLine → Definition → List LaidName
+entries_with names l Nameless = []
+entries_with names l (Named n) = n ∷ []
+entries_with names l (Equated make t) = made_name make (meaning (with_names l (all_names names l)) t)
+
+abbrev pub all_entries : List LaidName → List SourceLine → List LaidName
+all_entries names [] = []
+all_entries names (l ∷ ls) = entries_with names l l.definition ++ all_entries names ls
+
+-- the names of lines after so many rounds, in each of which names for expressions have the values that the names of the
+-- round before give them
+abbrev pub names_after : ℕ → List SourceLine → List LaidName
+names_after zero ls = all_entries [] ls
+names_after (suc k) ls = all_entries (names_after k ls) ls
+
+-- all names of a source: no name for an expression depends on itself, and so as many rounds as lines are enough
+abbrev pub final_names : List LaidLine → List LaidName
+final_names lines = names_after (length lines) (source_lines lines)
+
+-- the value of an expression of a line with all names
+abbrev pub final_value : List LaidName → SourceLine → Expr → Result Value LineKind
+final_value names l e = of_tree (tree_of e)
+  where
+    of_tree : Option Tree → Result Value LineKind
+    of_tree None = Err Syntax
+    of_tree (Some t) = meaning (with_names l (all_names names l)) t

@@ -1,0 +1,309 @@
+-- The kinds of faults that laying out finds at a line, besides those of reading it: NoArea, DuplicateName, places where a
+-- statement may not stand, areas that are named again otherwise, what must be known at its line, names that depend on
+-- themselves, and areas that grow too large. SDT 2.50 Reference Guide, chapter on the assembler; the kinds are this
+-- project's. What needs the whole layout, as an ENTRY's state and the pool at an area's end, counts only where no line
+-- has a kind of these.
+use Rattle.std.specs.Prelude.{ℕ, zero, suc, ◌+◌, ◌^◌, ◌==◌, ◌&&◌, ◌||◌, not, nat_lt, List, [], ◌∷◌, ◌++◌, length, Bool, true, false, if◌then◌else◌, Option, Some, None, Result, Ok, Err}
+use Rattle.std.specs.List.{list_any}
+use Rattle.sdt_fault.specs.declared.kinds.LineKind.{LineKind}
+use Rattle.sdt_fault.specs.declared.kinds.LineKind.TheVariants.{BadOperand, Forward, DuplicateName, NoArea, TooMany}
+use Rattle.asm_model.specs.declared.exprs.Expr.{Expr}
+use Rattle.asm_model.specs.declared.exprs.ExprItem.{ExprItem}
+use Rattle.asm_model.specs.declared.exprs.ExprItem.TheVariants as item
+use Rattle.asm_model.specs.declared.directives.AreaAttributes.{AreaAttributes}
+use Rattle.asm_model.specs.declared.directives.Contents.{Contents}
+use Rattle.asm_model.specs.declared.directives.Contents.TheVariants as contents
+use Rattle.asm_model.specs.declared.directives.DirectiveLine.{DirectiveLine}
+use Rattle.asm_model.specs.declared.directives.DirectiveLine.TheVariants as line
+use Rattle.asm_model.specs.declared.statements.Statement.{Statement}
+use Rattle.asm_model.specs.declared.statements.What.{What}
+use Rattle.asm_model.specs.declared.statements.What.TheVariants as what
+use Rattle.asm_model.specs.AtLine.{Sight}
+use Rattle.asm_model.specs.Directives.{or_else}
+use Rattle.asm_model.specs.Forms.{same}
+use Rattle.asm_model.specs.Kinds.{told_kind}
+use Rattle.asm_model.specs.Extents.{Extent, Loading, number_there}
+use Rattle.asm_model.specs.Labels.{Defined, LocalLabel, Label, Equal, MapField, RegisterName, defined_by, imported_in}
+use Rattle.asm_model.specs.Laid.{LaidLine, statements_of, taken, pieces_of, laid, reversed}
+use Rattle.asm_model.specs.Offsets.{Piece, is_of, area_size, literal_word}
+
+abbrev pub fault_kinds : {X : Type 0} → Result X LineKind → List LineKind
+fault_kinds (Ok x) = []
+fault_kinds (Err k) = k ∷ []
+
+abbrev pub kind_if : Bool → LineKind → List LineKind
+kind_if holds k = if holds then k ∷ [] else []
+
+-- ---- before the first AREA, and in areas
+
+-- whether a directive takes up nothing in an area, so that it may stand before the first
+abbrev pub is_free_directive : DirectiveLine → Bool
+is_free_directive (line.Export name) = true
+is_free_directive (line.Import name weak) = true
+is_free_directive (line.Extern name weak) = true
+is_free_directive (line.Keep name) = true
+is_free_directive (line.Equ e) = true
+is_free_directive (line.Rn r) = true
+is_free_directive line.Rout = true
+is_free_directive (line.Assert e) = true
+is_free_directive line.Nofp = true
+is_free_directive (line.Opt e) = true
+is_free_directive line.Ttl = true
+is_free_directive line.Subt = true
+is_free_directive (line.Map e) = true
+is_free_directive (line.Field e) = true
+is_free_directive line.Code16 = true
+is_free_directive line.Code32 = true
+is_free_directive line.End = true
+is_free_directive _ = false
+
+abbrev pub is_free : What → Bool
+is_free (what.Directive l) = is_free_directive l
+is_free _ = false
+
+-- whether a statement has a label of its place
+abbrev pub has_place : Defined → Bool
+has_place (LocalLabel n) = true
+has_place (Label name) = true
+has_place _ = false
+
+abbrev pub is_here : ExprItem → Bool
+is_here item.Here = true
+is_here _ = false
+
+-- whether a name is for an expression of this place
+abbrev pub names_here : Defined → Bool
+names_here (Equal name e) = list_any is_here e.items
+names_here _ = false
+
+abbrev pub no_area_kinds : Option ℕ → Defined → What → List LineKind
+no_area_kinds (Some area) d w = []
+no_area_kinds None d w = kind_if (not (is_free w) || has_place d || names_here d) NoArea
+
+-- whether a statement may stand among data that is zero
+abbrev pub is_zero_statement : What → Bool
+is_zero_statement what.Nothing = true
+is_zero_statement (what.Directive (line.Area name attributes)) = true
+is_zero_statement (what.Directive (line.Space e)) = true
+is_zero_statement (what.Directive (line.Align b)) = true
+is_zero_statement w = is_free w
+
+abbrev pub is_thumb_instruction : Bool → What → Bool
+is_thumb_instruction thumb (what.Thumb l) = true
+is_thumb_instruction thumb (what.Pseudo l) = thumb
+is_thumb_instruction thumb _ = false
+
+abbrev pub is_entry : What → Bool
+is_entry (what.Directive line.Entry) = true
+is_entry _ = false
+
+-- what may not stand in an area of these contents
+abbrev pub contents_kinds : Option Contents → Bool → What → List LineKind
+contents_kinds None thumb w = []
+contents_kinds (Some contents.Code) thumb w = []
+contents_kinds (Some contents.Data) thumb w = kind_if (is_thumb_instruction thumb w || is_entry w) BadOperand
+contents_kinds (Some contents.Zeroes) thumb w = kind_if (not (is_zero_statement w)) BadOperand
+
+abbrev pub contents_from : What → Option Contents → Option Contents
+contents_from (what.Directive (line.Area name attributes)) before = Some attributes.contents
+contents_from _ before = before
+
+-- the contents of the area in which the last of these statements stands
+abbrev pub contents_behind : List Statement → Option Contents
+contents_behind [] = None
+contents_behind (s ∷ before) = contents_from s.what (contents_behind before)
+
+-- ---- areas that are named again
+
+-- the exponent of an area's alignment, which is 2 unless more is said
+abbrev pub exponent : Sight → Option Expr → Result ℕ LineKind
+exponent s None = Ok 2
+exponent s (Some e) = number_there s e
+
+abbrev pub exponent_kinds : Result ℕ LineKind → List LineKind
+exponent_kinds (Ok n) = kind_if (nat_lt n 2 || nat_lt 16 n) BadOperand
+exponent_kinds (Err k) = k ∷ []
+
+abbrev pub same_contents : Contents → Contents → Bool
+same_contents contents.Code contents.Code = true
+same_contents contents.Data contents.Data = true
+same_contents contents.Zeroes contents.Zeroes = true
+same_contents _ _ = false
+
+abbrev pub same_mark : Bool → Bool → Bool
+same_mark a b = if a then b else not b
+
+abbrev pub same_exponent : Result ℕ LineKind → Result ℕ LineKind → Bool
+same_exponent (Ok m) (Ok n) = m == n
+same_exponent _ _ = true
+
+-- whether attributes of two lines agree; an alignment that isn't known is told by itself
+abbrev pub same_attributes : Sight → AreaAttributes → Sight → AreaAttributes → Bool
+same_attributes s a t b =
+    same_contents a.contents b.contents && same_mark a.read_only b.read_only && same_mark a.interwork b.interwork
+    && same_mark a.halfword b.halfword && same_mark a.pic b.pic && same_mark a.reentrant b.reentrant
+    && same_exponent (exponent s a.align) (exponent t b.align)
+
+abbrev pub again_with : List ℕ → Sight → AreaAttributes → Sight → What → Bool → Bool
+again_with name s a t (what.Directive (line.Area other b)) rest = if same name other then not (same_attributes s a t b) || rest else rest
+again_with name s a t _ rest = rest
+
+-- whether an earlier line names the area with other attributes
+abbrev pub is_named_otherwise : List ℕ → Sight → AreaAttributes → List LaidLine → Bool
+is_named_otherwise name s a [] = false
+is_named_otherwise name s a (l ∷ before) = again_with name s a l.seen l.statement.what (is_named_otherwise name s a before)
+
+abbrev pub area_kinds : Sight → What → List LaidLine → List LineKind
+area_kinds s (what.Directive (line.Area name a)) before =
+    exponent_kinds (exponent s a.align) ++ kind_if (is_named_otherwise name s a before) BadOperand
+area_kinds s _ before = []
+
+-- ---- names
+
+abbrev pub own_name : Defined → List (List ℕ)
+own_name (Label name) = name ∷ []
+own_name (Equal name e) = name ∷ []
+own_name (MapField name) = name ∷ []
+own_name (RegisterName name r) = name ∷ []
+own_name _ = []
+
+abbrev pub listed : Option (List ℕ) → List (List ℕ)
+listed None = []
+listed (Some name) = name ∷ []
+
+-- the names that a statement defines, one that it imports behind its label
+abbrev pub names_in : Statement → List (List ℕ)
+names_in s = own_name (defined_by s) ++ listed (imported_in s.what)
+
+abbrev pub names_behind : List Statement → List (List ℕ)
+names_behind [] = []
+names_behind (s ∷ before) = names_in s ++ names_behind before
+
+-- whether one of these names stands among the others or before it
+abbrev pub is_repeated : List (List ℕ) → List (List ℕ) → Bool
+is_repeated before [] = false
+is_repeated before (n ∷ ns) = list_any (same n) before || is_repeated (n ∷ before) ns
+
+-- a name twice, or a second ENTRY
+abbrev pub name_kinds : Statement → List Statement → List LineKind
+name_kinds s before =
+    kind_if (is_repeated (names_behind before) (names_in s) || (is_entry s.what && list_any (λ t. is_entry t.what) before)) DuplicateName
+
+-- ---- names that depend on themselves
+
+abbrev pub equal_of : Defined → List (List ℕ × Expr)
+equal_of (Equal name e) = (name, e) ∷ []
+equal_of _ = []
+
+-- the names for expressions, with their expressions
+abbrev pub equals_in : List Statement → List (List ℕ × Expr)
+equals_in [] = []
+equals_in (s ∷ before) = equals_in before ++ equal_of (defined_by s)
+
+abbrev pub is_settled_item : List (List ℕ × Expr) → List (List ℕ) → ExprItem → Bool
+is_settled_item equals settled (item.Name name) = not (list_any (λ e. same name e.0) equals) || list_any (same name) settled
+is_settled_item equals settled _ = true
+
+-- whether an expression has no name for an expression but these
+abbrev pub are_settled : List (List ℕ × Expr) → List (List ℕ) → List ExprItem → Bool
+are_settled equals settled [] = true
+are_settled equals settled (i ∷ is) = is_settled_item equals settled i && are_settled equals settled is
+
+abbrev pub settled_by : List (List ℕ × Expr) → List (List ℕ) → List (List ℕ × Expr) → List (List ℕ)
+settled_by equals settled [] = []
+settled_by equals settled (e ∷ es) =
+    if are_settled equals settled e.1.items then e.0 ∷ settled_by equals settled es else settled_by equals settled es
+
+-- the names whose expressions go back to others than names for expressions in so many steps
+abbrev pub settled_after : ℕ → List (List ℕ × Expr) → List (List ℕ)
+settled_after zero equals = []
+settled_after (suc k) equals = settled_by equals (settled_after k equals) equals
+
+-- the names that don't depend on themselves, nor on one that does
+abbrev pub settled : List (List ℕ × Expr) → List (List ℕ)
+settled equals = settled_after (length equals) equals
+
+abbrev pub settled_kinds : List (List ℕ) → Defined → List LineKind
+settled_kinds settled (Equal name e) = kind_if (not (list_any (same name) settled)) Forward
+settled_kinds settled _ = []
+
+-- ---- lines
+
+abbrev pub area_bytes : ℕ
+area_bytes = 2 ^ 24
+
+abbrev pub map_kinds : Sight → What → List LineKind
+map_kinds s (what.Directive (line.Map e)) = fault_kinds (number_there s e)
+map_kinds s (what.Directive (line.Field e)) = fault_kinds (number_there s e)
+map_kinds s _ = []
+
+-- the kinds of a line behind others, where these names are settled
+abbrev pub layout_kinds : List (List ℕ) → LaidLine → List LaidLine → List LineKind
+layout_kinds settled l before =
+    fault_kinds l.extent ++ map_kinds l.seen l.statement.what ++ no_area_kinds l.area (defined_by l.statement) l.statement.what
+    ++ contents_kinds (contents_behind (l.statement ∷ statements_of before)) l.thumb l.statement.what
+    ++ area_kinds l.seen l.statement.what before ++ name_kinds l.statement (statements_of before)
+    ++ settled_kinds settled (defined_by l.statement) ++ kind_if (nat_lt area_bytes (l.offset + l.size)) TooMany
+
+-- a statement with the kind that is told of it
+abbrev pub told_at : Statement → Option LineKind → Option (Statement × LineKind)
+told_at s None = None
+told_at s (Some k) = Some (s, k)
+
+-- the first line with a fault, among lines of which the last stands first
+abbrev pub first_fault : List (List ℕ) → List LaidLine → Option (Statement × LineKind)
+first_fault settled [] = None
+first_fault settled (l ∷ before) =
+    or_else (first_fault settled before) (told_at l.statement (told_kind (layout_kinds settled l before)))
+
+-- ---- what needs the whole layout
+
+abbrev pub is_instruction : What → Bool
+is_instruction (what.Arm l) = true
+is_instruction (what.Thumb l) = true
+is_instruction (what.Pseudo l) = true
+is_instruction _ = false
+
+abbrev pub state_of : ℕ → LaidLine → Option Bool
+state_of area l = if is_of area l.area && is_instruction l.statement.what then Some l.thumb else None
+
+-- the state of an area's first instruction
+abbrev pub first_state : ℕ → List LaidLine → Option Bool
+first_state area [] = None
+first_state area (l ∷ before) = or_else (first_state area before) (state_of area l)
+
+-- whether an area is one of Thumb code; without an instruction it counts as ARM
+abbrev pub is_thumb_area : ℕ → List LaidLine → Bool
+is_thumb_area area all = is_true (first_state area all)
+  where
+    is_true : Option Bool → Bool
+    is_true None = false
+    is_true (Some b) = b
+
+-- an ENTRY behind its area's last byte, or in another state than the area's
+abbrev pub entry_kinds : Option ℕ → LaidLine → List LaidLine → List LineKind
+entry_kinds None l all = []
+entry_kinds (Some area) l all =
+    kind_if
+    (is_entry l.statement.what && (not (nat_lt l.offset (area_size area (pieces_of all))) || not (same_mark l.thumb (is_thumb_area area all))))
+    BadOperand
+
+-- a literal whose word ends too far
+abbrev pub literal_kinds : Option ℕ → Extent → List Piece → List Piece → List LineKind
+literal_kinds (Some area) (Loading n v) before rest = kind_if (nat_lt area_bytes (literal_word area before rest v + 4)) TooMany
+literal_kinds _ e before rest = []
+
+-- the first line with such a fault, where these lines stand before it, the nearest first, and these from it on
+abbrev pub first_late : List LaidLine → List LaidLine → List LaidLine → Option (Statement × LineKind)
+first_late all before [] = None
+first_late all before (l ∷ rest) =
+    or_else
+    (told_at l.statement (told_kind (entry_kinds l.area l all ++ literal_kinds l.area (taken l.extent) (pieces_of (l ∷ before)) (pieces_of rest))))
+    (first_late all (l ∷ before) rest)
+
+-- the first faulty line of a source that can be read, by its layout
+abbrev pub layout_fault : List Statement → Option (Statement × LineKind)
+layout_fault statements = fault_of (laid statements)
+  where
+    fault_of : List LaidLine → Option (Statement × LineKind)
+    fault_of lines = or_else (first_fault (settled (equals_in statements)) lines) (first_late lines [] (reversed lines []))

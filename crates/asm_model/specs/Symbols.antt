@@ -1,0 +1,113 @@
+-- The symbols of a source, in their order: the names in EXPORT, IMPORT and KEEP, and the labels and names in EXTERN that a
+-- symbol relocation needs, in order of the first line that so names them; a literal's name counts for the line of its
+-- LDR. A word needs a symbol that stands in no area of the source. A branch of ARM state, and BL in Thumb state, needs one
+-- that isn't a label of the same area and state. ARM Object Format, symbols; the order is this project's.
+use Rattle.std.specs.Prelude.{ℕ, List, [], ◌∷◌, ◌++◌, ◌==◌, ◌&&◌, not, Bool, false, if◌then◌else◌, Option, Some, None, Result, Ok}
+use Rattle.sdt_fault.specs.declared.kinds.LineKind.{LineKind}
+use Rattle.asm_model.specs.declared.exprs.Expr.{Expr}
+use Rattle.asm_model.specs.declared.exprs.ExprItem.TheVariants as item
+use Rattle.asm_model.specs.declared.exprs.BinaryOp.TheVariants.{Add}
+use Rattle.asm_model.specs.declared.values.Value.{Value}
+use Rattle.asm_model.specs.declared.values.Value.TheVariants.{Number, Place}
+use Rattle.asm_model.specs.declared.names.LaidName.{LaidName}
+use Rattle.asm_model.specs.declared.names.Names.{Names}
+use Rattle.asm_model.specs.declared.arm_lines.ArmLine.{ArmLine}
+use Rattle.asm_model.specs.declared.arm_lines.ArmLine.TheVariants as arm
+use Rattle.asm_model.specs.declared.thumb_lines.ThumbLine.{ThumbLine}
+use Rattle.asm_model.specs.declared.thumb_lines.ThumbLine.TheVariants as thumb
+use Rattle.asm_model.specs.declared.directives.DirectiveLine.{DirectiveLine}
+use Rattle.asm_model.specs.declared.directives.DirectiveLine.TheVariants as line
+use Rattle.asm_model.specs.declared.statements.What.{What}
+use Rattle.asm_model.specs.declared.statements.What.TheVariants as what
+use Rattle.asm_model.specs.AtLine.{SourceLine, with_names, all_names}
+use Rattle.asm_model.specs.Grammar.{Leaf, Between}
+use Rattle.asm_model.specs.Meaning.{named_in, stands_at, meaning}
+use Rattle.asm_model.specs.Before.{with_name}
+use Rattle.asm_model.specs.Entries.{thumb_of}
+use Rattle.asm_model.specs.Extents.{Extent, Loading}
+use Rattle.asm_model.specs.Laid.{LaidLine, taken, all_locals, final_line, final_value}
+use Rattle.asm_model.specs.Locals.{Local}
+
+-- what a line's expressions are evaluated with in the end
+abbrev pub final_sight : List LaidName → SourceLine → Names
+final_sight names l = with_names l (all_names names l)
+
+-- the value of a literal: of its name with all names, plus its number
+abbrev pub literal_value : Names → Value → Result Value LineKind
+literal_value names (Place (c ∷ cs) n) = meaning names (Between Add (Leaf (item.Name (c ∷ cs))) (Leaf (item.Constant (Number n))))
+literal_value names v = Ok v
+
+-- ---- what needs a symbol
+
+abbrev pub unless_placed : List ℕ → Option (ℕ × ℕ) → List (List ℕ)
+unless_placed s (Some a) = []
+unless_placed s None = s ∷ []
+
+-- the symbol of a word with a value
+abbrev pub word_symbols : Names → Result Value LineKind → List (List ℕ)
+word_symbols names (Ok (Place (c ∷ cs) n)) = unless_placed (c ∷ cs) (stands_at names (c ∷ cs))
+word_symbols names _ = []
+
+abbrev pub words_symbols : List LaidName → SourceLine → List Expr → List (List ℕ)
+words_symbols names l [] = []
+words_symbols names l (e ∷ es) = word_symbols (final_sight names l) (final_value names l e) ++ words_symbols names l es
+
+abbrev pub same_state : Bool → Bool → Bool
+same_state a b = if a then b else not b
+
+-- whether a place is of the area
+abbrev pub is_in_area : Option ℕ → Option (ℕ × ℕ) → Bool
+is_in_area (Some area) (Some a) = a.0 == area
+is_in_area _ _ = false
+
+-- the symbol of a branch to a value
+abbrev pub branch_symbols : Names → Result Value LineKind → List (List ℕ)
+branch_symbols names (Ok (Place (c ∷ cs) n)) =
+    if is_in_area names.area (stands_at names (c ∷ cs)) && same_state names.thumb (thumb_of (named_in (c ∷ cs) names.list)) then []
+    else (c ∷ cs) ∷ []
+branch_symbols names _ = []
+
+abbrev pub arm_symbols : List LaidName → SourceLine → ArmLine → List (List ℕ)
+arm_symbols names l (arm.Branch condition link target) = branch_symbols (final_sight names l) (final_value names l target)
+arm_symbols names l _ = []
+
+abbrev pub thumb_symbols : List LaidName → SourceLine → ThumbLine → List (List ℕ)
+thumb_symbols names l (thumb.BranchLink target) = branch_symbols (final_sight names l) (final_value names l target)
+thumb_symbols names l _ = []
+
+abbrev pub literal_symbols : List LaidName → SourceLine → Extent → List (List ℕ)
+literal_symbols names l (Loading n v) = word_symbols (final_sight names l) (literal_value (final_sight names l) v)
+literal_symbols names l _ = []
+
+abbrev pub directive_symbols : List LaidName → SourceLine → DirectiveLine → List (List ℕ)
+directive_symbols names l (line.Export name) = name ∷ []
+directive_symbols names l (line.Keep name) = name ∷ []
+directive_symbols names l (line.Import name weak) = name ∷ []
+directive_symbols names l (line.Dcd es) = words_symbols names l es
+directive_symbols names l (line.Dcdu es) = words_symbols names l es
+directive_symbols names l _ = []
+
+-- the symbols that a statement names or needs
+abbrev pub symbols_in : List LaidName → SourceLine → Extent → What → List (List ℕ)
+symbols_in names l e what.Nothing = []
+symbols_in names l e (what.Arm a) = arm_symbols names l a
+symbols_in names l e (what.Thumb t) = thumb_symbols names l t
+symbols_in names l e (what.Pseudo p) = literal_symbols names l e
+symbols_in names l e (what.Directive d) = directive_symbols names l d
+
+-- ---- their order
+
+-- each once, at its first place, behind those that are listed
+abbrev pub listed_behind : List (List ℕ) → List (List ℕ) → List (List ℕ)
+listed_behind listed [] = listed
+listed_behind listed (s ∷ ss) = listed_behind (with_name (Some s) listed) ss
+
+-- the symbols of lines, the last of them first
+abbrev pub symbols_behind : List LaidName → List Local → List LaidLine → List (List ℕ)
+symbols_behind names locals [] = []
+symbols_behind names locals (l ∷ before) =
+    listed_behind (symbols_behind names locals before) (symbols_in names (final_line locals l before) (taken l.extent) l.statement.what)
+
+-- the symbols of a source with these names
+abbrev pub symbols_of : List LaidName → List LaidLine → List (List ℕ)
+symbols_of names lines = symbols_behind names (all_locals lines) lines

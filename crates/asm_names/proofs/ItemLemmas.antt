@@ -1,0 +1,232 @@
+-- Items of a tree, each operator behind its operands: the faults of their names, and names that stay names.
+use Rattle.std.proofs.Common.{◌≡◌, ℕ, suc, List, [], ◌∷◌, ◌++◌, Bool, true, false, cond, refl, sym, ◌∙◌, ap, append_assoc, append-nil, Option, Some, None}
+use Rattle.sdt_fault.specs.declared.kinds.LineKind.{LineKind}
+use Rattle.asm_model.specs.declared.exprs.ExprItem.{ExprItem}
+use Rattle.asm_model.specs.declared.exprs.ExprItem.TheVariants as item
+use Rattle.asm_model.specs.declared.exprs.Part.{Part}
+use Rattle.asm_model.specs.declared.exprs.Part.TheVariants as part
+use Rattle.asm_model.specs.declared.exprs.UnaryOp.{UnaryOp}
+use Rattle.asm_model.specs.declared.exprs.UnaryOp.TheVariants as unary
+use Rattle.asm_model.specs.declared.values.Value.TheVariants.{Place}
+use Rattle.asm_model.specs.AtLine.{Sight, is_in, item_kinds, asked_kinds, value_kinds, name_kinds, kept_name, kept_names}
+use Rattle.asm_model.specs.Grammar.{Tree, Leaf, Before, Between, postfix, plain, Spells, operand, of_name, before, grouped, between, tighter, IsSpelled}
+use Rattle.asm_model.proofs.TreeLemmas.{plain_operand}
+use Rattle.asm_names.specs.Steps.{operator_first, name_asked, item_asked, items_kinds, kept_before, kept_items}
+
+-- ---- operands
+
+-- the leaves of a tree are operands
+abbrev IsPlain : Tree → Type 0
+IsPlain (Leaf i) = plain i ≡ Some i
+IsPlain (Before op t) = IsPlain t
+IsPlain (Between op t u) = IsPlain t × IsPlain u
+
+spelled_plain : (l : ℕ) (ps : List Part) (t : Tree) → Spells l ps t → IsPlain t
+spelled_plain l ps t (operand p i e) = plain_operand p i e
+spelled_plain l ps t (of_name op n) = refl
+spelled_plain l ps t (before p op qs u e d) = spelled_plain 0 qs u d
+spelled_plain l ps t (grouped qs u d) = spelled_plain 6 qs u d
+spelled_plain l ps t (between k p op qs rs u v e lev d r) = (spelled_plain (suc k) qs u d, spelled_plain k rs v r)
+spelled_plain l ps t (tighter k qs u d) = spelled_plain k qs u d
+
+-- ---- what stands first
+
+-- no operator stands first among the items of a tree
+no_operator : (i : ExprItem) (rest : List ExprItem) → plain i ≡ Some i → operator_first (i ∷ rest) ≡ None
+no_operator (item.Name q) rest h = refl
+no_operator (item.Local q) rest h = refl
+no_operator (item.Constant v) rest h = refl
+no_operator item.Here rest h = refl
+no_operator item.Map rest h = refl
+no_operator item.CodeSize rest h = refl
+no_operator (item.Unary op) rest h = absurd (cc)
+no_operator (item.Binary op) rest h = refl
+
+tree_first : (t : Tree) → IsPlain t → (rest : List ExprItem) → operator_first (postfix t ++ rest) ≡ None
+tree_first (Leaf i) p rest = no_operator i rest p
+tree_first (Before op t) p rest =
+    ap operator_first (append_assoc (postfix t) (item.Unary op ∷ []) rest) ∙ tree_first t p (item.Unary op ∷ rest)
+tree_first (Between op t u) p rest =
+    ap operator_first (append_assoc (postfix t ++ postfix u) (item.Binary op ∷ []) rest ∙ append_assoc (postfix t) (postfix u) (item.Binary op ∷ rest))
+    ∙ tree_first t p.0 (postfix u ++ item.Binary op ∷ rest)
+
+-- ---- faults of names
+
+asked_alone : (s : Sight) (i : ExprItem) → item_asked s None i ≡ item_kinds s i
+asked_alone s (item.Name q) = refl
+asked_alone s (item.Local q) = refl
+asked_alone s (item.Constant v) = refl
+asked_alone s item.Here = refl
+asked_alone s item.Map = refl
+asked_alone s item.CodeSize = refl
+asked_alone s (item.Unary op) = refl
+asked_alone s (item.Binary op) = refl
+
+asked_name : (s : Sight) (op : UnaryOp) (q : List ℕ) → name_asked s (Some op) q ≡ asked_kinds s op (item.Name q)
+asked_name s unary.Size q = refl
+asked_name s unary.Defined q = refl
+asked_name s op q = refl
+
+asked_other : (s : Sight) (op : UnaryOp) (i : ExprItem) → item_asked s (Some op) i ≡ asked_kinds s op i
+asked_other s op (item.Name q) = asked_name s op q
+asked_other s op (item.Local q) = by_operator op
+  where
+    by_operator : (o : UnaryOp) → value_kinds s (124 ∷ q) ≡ asked_kinds s o (item.Local q)
+    by_operator unary.Size = refl
+    by_operator unary.Defined = refl
+    by_operator o = refl
+asked_other s unary.Size i = refl
+asked_other s unary.Defined i = refl
+asked_other s op i = refl
+
+-- the faults of a tree's names, before these items
+abbrev tree_kinds : Sight → Tree → List ExprItem → List LineKind
+tree_kinds s (Leaf i) rest = item_asked s (operator_first rest) i
+tree_kinds s t rest = name_kinds s t
+
+kinds_alone : (s : Sight) (t : Tree) (rest : List ExprItem) → operator_first rest ≡ None → tree_kinds s t rest ≡ name_kinds s t
+kinds_alone s (Leaf i) rest h = ap (λ o. item_asked s o i) h ∙ asked_alone s i
+kinds_alone s (Before op t) rest h = refl
+kinds_alone s (Between op t u) rest h = refl
+
+kinds_before : (s : Sight) (op : UnaryOp) (t : Tree) (rest : List ExprItem) → tree_kinds s t (item.Unary op ∷ rest) ≡ name_kinds s (Before op t)
+kinds_before s op (Leaf i) rest = asked_other s op i
+kinds_before s op (Before o t) rest = refl
+kinds_before s op (Between o t u) rest = refl
+
+kinds_pass : (s : Sight) (t : Tree) → IsPlain t → (rest : List ExprItem)
+    → items_kinds s (postfix t ++ rest) ≡ tree_kinds s t rest ++ items_kinds s rest
+kinds_pass s (Leaf i) p rest = refl
+kinds_pass s (Before op t) p rest =
+    ap (items_kinds s) (append_assoc (postfix t) (item.Unary op ∷ []) rest)
+    ∙ kinds_pass s t p (item.Unary op ∷ rest)
+    ∙ ap (λ z. z ++ items_kinds s rest) (kinds_before s op t rest)
+kinds_pass s (Between op t u) p rest =
+    ap (items_kinds s) (append_assoc (postfix t ++ postfix u) (item.Binary op ∷ []) rest ∙ append_assoc (postfix t) (postfix u) (item.Binary op ∷ rest))
+    ∙ kinds_pass s t p.0 (postfix u ++ item.Binary op ∷ rest)
+    ∙ ap (λ z. z ++ items_kinds s (postfix u ++ item.Binary op ∷ rest)) (kinds_alone s t (postfix u ++ item.Binary op ∷ rest) (tree_first u p.1 (item.Binary op ∷ rest)))
+    ∙ ap (λ z. name_kinds s t ++ z) (kinds_pass s u p.1 (item.Binary op ∷ rest) ∙ ap (λ z. z ++ items_kinds s rest) (kinds_alone s u (item.Binary op ∷ rest) refl))
+    ∙ sym (append_assoc (name_kinds s t) (name_kinds s u) (items_kinds s rest))
+
+pub kinds_of_tree : (s : Sight) (ps : List Part) (t : Tree) → IsSpelled ps t → items_kinds s (postfix t) ≡ name_kinds s t
+kinds_of_tree s ps t d =
+    ap (items_kinds s) (sym (append-nil (postfix t))) ∙ kinds_pass s t (spelled_plain 6 ps t d) []
+    ∙ append-nil (tree_kinds s t []) ∙ kinds_alone s t [] refl
+
+-- ---- names that stay names
+
+kept_alone : (s : Sight) (i : ExprItem) → kept_before s None i ≡ kept_name s i
+kept_alone s i = refl
+
+kept_operator : (s : Sight) (o : Option UnaryOp) (op : UnaryOp) → kept_before s o (item.Unary op) ≡ item.Unary op
+kept_operator s None op = refl
+kept_operator s (Some unary.Size) op = refl
+kept_operator s (Some unary.Defined) op = refl
+kept_operator s (Some o) op = refl
+
+kept_binary : (s : Sight) (o : Option UnaryOp) (i : ExprItem) → kept_name s i ≡ i → kept_before s o i ≡ i
+kept_binary s None i h = h
+kept_binary s (Some unary.Size) i h = refl
+kept_binary s (Some unary.Defined) i h = refl
+kept_binary s (Some o) i h = h
+
+-- the items of a tree, before these items
+abbrev tree_kept : Sight → Tree → List ExprItem → List ExprItem
+tree_kept s (Leaf i) rest = kept_before s (operator_first rest) i ∷ []
+tree_kept s t rest = postfix (kept_names s t)
+
+kept_whole : (s : Sight) (t : Tree) (rest : List ExprItem) → operator_first rest ≡ None → tree_kept s t rest ≡ postfix (kept_names s t)
+kept_whole s (Leaf i) rest h = ap (λ o. kept_before s o i ∷ []) h
+kept_whole s (Before op t) rest h = refl
+kept_whole s (Between op t u) rest h = refl
+
+kept_under : (s : Sight) (op : UnaryOp) (t : Tree) (rest : List ExprItem)
+    → tree_kept s t (item.Unary op ∷ rest) ++ item.Unary op ∷ [] ≡ postfix (kept_names s (Before op t))
+kept_under s unary.Size (Leaf i) rest = refl
+kept_under s unary.Defined (Leaf i) rest = refl
+kept_under s op (Leaf i) rest = refl
+kept_under s unary.Size (Before o t) rest = refl
+kept_under s unary.Size (Between o t u) rest = refl
+kept_under s unary.Defined (Before o t) rest = refl
+kept_under s unary.Defined (Between o t u) rest = refl
+kept_under s op (Before o t) rest = refl
+kept_under s op (Between o t u) rest = refl
+
+kept_pass : (s : Sight) (t : Tree) → IsPlain t → (rest : List ExprItem)
+    → kept_items s (postfix t ++ rest) ≡ tree_kept s t rest ++ kept_items s rest
+kept_pass s (Leaf i) p rest = refl
+kept_pass s (Before op t) p rest =
+    ap (kept_items s) (append_assoc (postfix t) (item.Unary op ∷ []) rest)
+    ∙ kept_pass s t p (item.Unary op ∷ rest)
+    ∙ ap (λ x. tree_kept s t (item.Unary op ∷ rest) ++ x ∷ kept_items s rest) (kept_operator s (operator_first rest) op)
+    ∙ sym (append_assoc (tree_kept s t (item.Unary op ∷ rest)) (item.Unary op ∷ []) (kept_items s rest))
+    ∙ ap (λ z. z ++ kept_items s rest) (kept_under s op t rest)
+kept_pass s (Between op t u) p rest =
+    ap (kept_items s) (append_assoc (postfix t ++ postfix u) (item.Binary op ∷ []) rest ∙ append_assoc (postfix t) (postfix u) (item.Binary op ∷ rest))
+    ∙ kept_pass s t p.0 (postfix u ++ item.Binary op ∷ rest)
+    ∙ ap (λ z. z ++ kept_items s (postfix u ++ item.Binary op ∷ rest)) (kept_whole s t (postfix u ++ item.Binary op ∷ rest) (tree_first u p.1 (item.Binary op ∷ rest)))
+    ∙ ap (λ z. postfix (kept_names s t) ++ z)
+    (kept_pass s u p.1 (item.Binary op ∷ rest)
+    ∙ ap (λ z. z ++ kept_items s (item.Binary op ∷ rest)) (kept_whole s u (item.Binary op ∷ rest) refl)
+    ∙ ap (λ x. postfix (kept_names s u) ++ x ∷ kept_items s rest) (kept_binary s (operator_first rest) (item.Binary op) refl))
+    ∙ sym (append_assoc (postfix (kept_names s t)) (postfix (kept_names s u)) (item.Binary op ∷ kept_items s rest))
+    ∙ sym (append_assoc (postfix (kept_names s t) ++ postfix (kept_names s u)) (item.Binary op ∷ []) (kept_items s rest))
+
+pub kept_of_tree : (s : Sight) (ps : List Part) (t : Tree) → IsSpelled ps t → kept_items s (postfix t) ≡ postfix (kept_names s t)
+kept_of_tree s ps t d =
+    ap (kept_items s) (sym (append-nil (postfix t))) ∙ kept_pass s t (spelled_plain 6 ps t d) []
+    ∙ append-nil (tree_kept s t []) ∙ kept_whole s t [] refl
+
+-- ---- a tree in which names stay names is spelled by other parts
+
+abbrev SpelledAt : ℕ → Tree → Type 0
+SpelledAt l t = (ps : List Part) × Spells l ps t
+
+respell_leaf : (i : ExprItem) → plain i ≡ Some i → SpelledAt 0 (Leaf i)
+respell_leaf i h = (part.Operand i ∷ [], operand (part.Operand i) i h)
+
+kept_plain : (s : Sight) (i : ExprItem) → plain i ≡ Some i → plain (kept_name s i) ≡ Some (kept_name s i)
+kept_plain s (item.Name q) h = by_test (is_in s.known.list q)
+  where
+    by_test : (b : Bool) → plain (cond b (item.Name q) (item.Constant (Place q 0))) ≡ Some (cond b (item.Name q) (item.Constant (Place q 0)))
+    by_test true = refl
+    by_test false = refl
+kept_plain s (item.Local q) h = refl
+kept_plain s (item.Constant v) h = refl
+kept_plain s item.Here h = refl
+kept_plain s item.Map h = refl
+kept_plain s item.CodeSize h = refl
+kept_plain s (item.Unary op) h = absurd (cc)
+kept_plain s (item.Binary op) h = absurd (cc)
+
+respell_before : (op : UnaryOp) (t : Tree) → SpelledAt 0 t → SpelledAt 0 (Before op t)
+respell_before op t d = (part.Prefix op ∷ d.0, before (part.Prefix op) op d.0 t refl d.1)
+
+respell_kept : (s : Sight) (op : UnaryOp) (t : Tree) → IsPlain t → SpelledAt 0 (kept_names s t) → SpelledAt 0 (kept_names s (Before op t))
+respell_kept s unary.Size (Leaf i) p d = respell_before unary.Size (Leaf i) (respell_leaf i p)
+respell_kept s unary.Defined (Leaf i) p d = respell_before unary.Defined (Leaf i) (respell_leaf i p)
+respell_kept s op (Leaf i) p d = respell_before op (kept_names s (Leaf i)) d
+respell_kept s unary.Size (Before o t) p d = respell_before unary.Size (kept_names s (Before o t)) d
+respell_kept s unary.Size (Between o t u) p d = respell_before unary.Size (kept_names s (Between o t u)) d
+respell_kept s unary.Defined (Before o t) p d = respell_before unary.Defined (kept_names s (Before o t)) d
+respell_kept s unary.Defined (Between o t u) p d = respell_before unary.Defined (kept_names s (Between o t u)) d
+respell_kept s op (Before o t) p d = respell_before op (kept_names s (Before o t)) d
+respell_kept s op (Between o t u) p d = respell_before op (kept_names s (Between o t u)) d
+
+respell : (s : Sight) (l : ℕ) (ps : List Part) (t : Tree) → Spells l ps t → SpelledAt l (kept_names s t)
+respell s l ps t (operand p i e) = respell_leaf (kept_name s i) (kept_plain s i (plain_operand p i e))
+respell s l ps t (of_name op q) = respell_kept s op (Leaf (item.Name q)) refl (respell_leaf (kept_name s (item.Name q)) (kept_plain s (item.Name q) refl))
+respell s l ps t (before p op qs u e d) = respell_kept s op u (spelled_plain 0 qs u d) (respell s 0 qs u d)
+respell s l ps t (grouped qs u d) =
+    let r = respell s 6 qs u d in
+    (part.Open ∷ r.0 ++ part.Close ∷ [], grouped r.0 (kept_names s u) r.1)
+respell s l ps t (between k p op qs rs u v e lev d r) =
+    let left = respell s (suc k) qs u d in
+    let right = respell s k rs v r in
+    (left.0 ++ p ∷ right.0, between k p op left.0 right.0 (kept_names s u) (kept_names s v) e lev left.1 right.1)
+respell s l ps t (tighter k qs u d) =
+    let r = respell s k qs u d in
+    (r.0, tighter k r.0 (kept_names s u) r.1)
+
+pub kept_spelled : (s : Sight) (ps : List Part) (t : Tree) → IsSpelled ps t → (qs : List Part) × IsSpelled qs (kept_names s t)
+kept_spelled s ps t d = respell s 6 ps t d

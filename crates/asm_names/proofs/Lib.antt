@@ -1,0 +1,23 @@
+pub mod AgreeLemmas
+pub mod EntryLemmas
+pub mod ItemLemmas
+pub mod KnownLemmas
+pub mod PlaceLemmas
+pub mod SightLemmas
+pub mod ToldLemmas
+pub mod ValueLemmas
+pub mod CallLemmas
+pub mod IndexLemmas
+pub mod ListLemmas
+pub mod LookLemmas
+pub mod OrderLemmas
+pub mod SearchLemmas
+pub mod SettledLemmas
+mod NameLemmas
+mod LocalOrderLemmas
+mod TableLemmas
+mod LineLemmas
+mod MatchLemmas
+mod OnceLemmas
+mod SettleLemmas
+mod SourceLemmas

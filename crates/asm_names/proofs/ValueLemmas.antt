@@ -1,0 +1,132 @@
+-- The answers of evaluations at a line.
+use Rattle.std.proofs.Common.{◌≡◌, ℕ, List, true, false, refl, sym, ◌∙◌, ap, subst, Some, None}
+use Rattle.std.specs.Prelude.{Result, Ok, Err}
+use Rattle.sdt_fault.specs.declared.kinds.LineKind.{LineKind}
+use Rattle.sdt_fault.specs.declared.kinds.LineKind.TheVariants.{Forward}
+use Rattle.asm_model.specs.declared.exprs.ExprItem.{ExprItem}
+use Rattle.asm_model.specs.declared.exprs.Part.{Part}
+use Rattle.asm_model.specs.declared.values.Value.{Value}
+use Rattle.asm_model.specs.declared.values.Value.TheVariants.{Number, Truth, Words, Place}
+use Rattle.asm_model.specs.declared.values.EvalFault.{EvalFault}
+use Rattle.asm_model.specs.declared.values.EvalFault.TheVariants as eval
+use Rattle.asm_model.specs.declared.names.Names.{Names}
+use Rattle.asm_model.specs.AtLine.{Sight, name_kinds, unless_told, value_at, kept_names, literal_or}
+use Rattle.asm_model.specs.Grammar.{Tree, postfix, IsSpelled}
+use Rattle.asm_model.specs.Kinds.{told_kind}
+use Rattle.asm_model.specs.Meaning.{meaning, IsValue, Evaluates}
+use Rattle.asm_model.specs.Extents.{as_number}
+use Rattle.asm_names.specs.Sights.{SeesValue, SeesNumber, SeesLiteral, IsNumber}
+use Rattle.asm_names.specs.Steps.{items_kinds, told_through, kept_items, items_entries, with_list, number_in, is_settled, place_or_forward, SeesKept}
+use Rattle.asm_names.proofs.EntryLemmas.{few_meaning}
+use Rattle.asm_names.proofs.ToldLemmas.{told_of_items}
+use Rattle.asm_names.proofs.ItemLemmas.{kinds_of_tree, kept_of_tree, kept_spelled}
+
+-- ---- values
+
+told_there : (s : Sight) (items : List ExprItem) (ps : List Part) (t : Tree) → IsSpelled ps t → items ≡ postfix t
+    → told_kind (name_kinds s t) ≡ told_through s None items
+told_there s items ps t d e = ap told_kind (sym (kinds_of_tree s ps t d) ∙ ap (items_kinds s) (sym e)) ∙ sym (told_of_items s items)
+
+pub sees_fault : (s : Sight) (items : List ExprItem) (k : LineKind) → told_through s None items ≡ Some k
+    → SeesValue s items (Err (eval.Kind k))
+sees_fault s items k h ps t d e = ap (λ o. unless_told o (meaning s.known t)) (told_there s items ps t d e ∙ h)
+
+pub with_few : (n : Names) (items : List ExprItem) (names : Names) (r : Result Value EvalFault) → names ≡ with_list n (items_entries n.list items) → Evaluates names items r → Evaluates n items r
+with_few n items names r h ev ps t d e =
+    let same : meaning names t ≡ meaning n t =
+    ap (λ (m : Names). meaning m t) (h ∙ ap (λ is. with_list n (items_entries n.list is)) e) ∙ few_meaning n t in
+    subst (λ (m : Result Value LineKind). IsValue m r) same (ev ps t d e)
+
+pub sees_value : (s : Sight) (items : List ExprItem) (r : Result Value EvalFault) → told_through s None items ≡ None → Evaluates s.known items r → SeesValue s items r
+sees_value s items r h ev ps t d e =
+    subst (λ (m : Result Value LineKind). IsValue m r) (ap (λ o. unless_told o (meaning s.known t)) (sym (told_there s items ps t d e ∙ h))) (ev ps t d e)
+
+pub sees_kept : (s : Sight) (items kept : List ExprItem) (r : Result Value EvalFault) → kept ≡ kept_items s items → SeesValue s kept r → SeesKept s items r
+sees_kept s items kept r k h ps t d e =
+    let spelled = kept_spelled s ps t d in
+    h spelled.0 (kept_names s t) spelled.1 (k ∙ ap (kept_items s) e ∙ kept_of_tree s ps t d)
+
+-- ---- numbers
+
+number_is : (m : Result Value LineKind) (r : Result Value EvalFault) → IsValue m r → IsNumber (as_number m) (number_in r)
+number_is m (Ok (Number n)) h = ap as_number h
+number_is m (Ok (Truth b)) h = ap as_number h
+number_is m (Ok (Words w)) h = ap as_number h
+number_is m (Ok (Place s p)) h = ap as_number h
+number_is m (Err (eval.Kind k)) h = ap as_number h
+number_is m (Err eval.NoMemory) h = tt
+
+pub sees_number : (s : Sight) (items : List ExprItem) (r : Result Value EvalFault) → SeesValue s items r → SeesNumber s items (number_in r)
+sees_number s items r h ps t d e = number_is (value_at s t) r (h ps t d e)
+
+-- ---- literals
+
+abbrev NoNumber : Result Value LineKind → Type 0
+NoNumber (Ok (Number n)) = ⊥
+NoNumber _ = Unit {0}
+
+abbrev NoPlace : Result Value LineKind → Type 0
+NoPlace (Ok (Place s p)) = ⊥
+NoPlace _ = Unit {0}
+
+literal_place : (x : Result Value LineKind) (s : List ℕ) (p : ℕ) → NoNumber x → literal_or x (Ok (Place s p)) ≡ Ok (Place s p)
+literal_place (Ok (Number n)) s p h = absurd h
+literal_place (Ok (Truth b)) s p h = refl
+literal_place (Ok (Words w)) s p h = refl
+literal_place (Ok (Place t q)) s p h = refl
+literal_place (Err k) s p h = refl
+
+literal_forward : (x m : Result Value LineKind) → NoNumber x → NoPlace m → literal_or x m ≡ Err Forward
+literal_forward x m h g = by_value x h m g
+  where
+    by_value : (y : Result Value LineKind) → NoNumber y → (m : Result Value LineKind) → NoPlace m → literal_or y m ≡ Err Forward
+    by_value (Ok (Number n)) h m g = absurd h
+    by_value y h (Ok (Place s p)) g = absurd g
+    by_value (Ok (Truth b)) h (Ok (Number n)) g = refl
+    by_value (Ok (Truth b)) h (Ok (Truth c)) g = refl
+    by_value (Ok (Truth b)) h (Ok (Words w)) g = refl
+    by_value (Ok (Truth b)) h (Err k) g = refl
+    by_value (Ok (Words v)) h (Ok (Number n)) g = refl
+    by_value (Ok (Words v)) h (Ok (Truth c)) g = refl
+    by_value (Ok (Words v)) h (Ok (Words w)) g = refl
+    by_value (Ok (Words v)) h (Err k) g = refl
+    by_value (Ok (Place t q)) h (Ok (Number n)) g = refl
+    by_value (Ok (Place t q)) h (Ok (Truth c)) g = refl
+    by_value (Ok (Place t q)) h (Ok (Words w)) g = refl
+    by_value (Ok (Place t q)) h (Err k) g = refl
+    by_value (Err j) h (Ok (Number n)) g = refl
+    by_value (Err j) h (Ok (Truth c)) g = refl
+    by_value (Err j) h (Ok (Words w)) g = refl
+    by_value (Err j) h (Err k) g = refl
+
+unsettled : (x : Result Value LineKind) (r : Result Value EvalFault) → IsValue x r → is_settled r ≡ false → NoNumber x
+unsettled x (Ok (Number n)) h u = absurd (cc)
+unsettled x (Ok (Truth b)) h u = subst NoNumber (sym h) tt
+unsettled x (Ok (Words w)) h u = subst NoNumber (sym h) tt
+unsettled x (Ok (Place s p)) h u = subst NoNumber (sym h) tt
+unsettled x (Err (eval.Kind k)) h u = subst NoNumber (sym h) tt
+unsettled x (Err eval.NoMemory) h u = absurd (cc)
+
+settled : (x m : Result Value LineKind) (r : Result Value EvalFault) → IsValue x r → is_settled r ≡ true → IsValue (literal_or x m) r
+settled x m (Ok (Number n)) h u = ap (λ y. literal_or y m) h
+settled x m (Ok (Truth b)) h u = absurd (cc)
+settled x m (Ok (Words w)) h u = absurd (cc)
+settled x m (Ok (Place s p)) h u = absurd (cc)
+settled x m (Err (eval.Kind k)) h u = absurd (cc)
+settled x m (Err eval.NoMemory) h u = tt
+
+literal_is : (x m : Result Value LineKind) (r : Result Value EvalFault) → NoNumber x → IsValue m r → IsValue (literal_or x m) (place_or_forward r)
+literal_is x m (Ok (Number n)) h v = ap (literal_or x) v ∙ literal_forward x (Ok (Number n)) h tt
+literal_is x m (Ok (Truth b)) h v = ap (literal_or x) v ∙ literal_forward x (Ok (Truth b)) h tt
+literal_is x m (Ok (Words w)) h v = ap (literal_or x) v ∙ literal_forward x (Ok (Words w)) h tt
+literal_is x m (Ok (Place s p)) h v = ap (literal_or x) v ∙ literal_place x s p h
+literal_is x m (Err (eval.Kind k)) h v = ap (literal_or x) v ∙ literal_forward x (Err k) h tt
+literal_is x m (Err eval.NoMemory) h v = tt
+
+pub sees_settled : (s : Sight) (items : List ExprItem) (r : Result Value EvalFault) → SeesValue s items r → is_settled r ≡ true → SeesLiteral s items r
+sees_settled s items r h u ps t d e = settled (value_at s t) (value_at s (kept_names s t)) r (h ps t d e) u
+
+pub sees_literal : (s : Sight) (items : List ExprItem) (r k : Result Value EvalFault) → SeesValue s items r → is_settled r ≡ false → SeesKept s items k
+    → SeesLiteral s items (place_or_forward k)
+sees_literal s items r k h u g ps t d e =
+    literal_is (value_at s t) (value_at s (kept_names s t)) k (unsettled (value_at s t) r (h ps t d e) u) (g ps t d e)

@@ -1,0 +1,15 @@
+use Rattle.std.proofs.Common.{[], ◌∙◌, ap}
+use Rattle.std.specs.List.{flat_map}
+use Rattle.asm_model.specs.Meaning.{named_in}
+use Rattle.asm_model.specs.Laid.{reversed}
+use Rattle.asm_model.specs.Locals.{back_of}
+use Rattle.asm_names.specs.Tables.{back_references}
+use Rattle.asm_names.proofs.TableLemmas.{back_found}
+use Rattle.asm_names.proofs.locals.Locals.back_entries.Goals as goal
+
+pub returns : goal.returns
+returns c = λ q.
+    ap (named_in q) c.in_ok-entries.ensures
+    ∙ ap (λ ns. named_in q (flat_map (back_references c.args.area c.args.stretch c.args.statement) ns)) c.as_slice.ensures.value
+    ∙ back_found q c.args.area c.args.stretch c.args.statement c.self.inside.labels.items c.self.inside.numbers.items c.self.invariant
+    ∙ ap (λ ls. named_in q (back_of c.args.area c.args.stretch c.args.statement [] (reversed ls []))) c.self.view_is

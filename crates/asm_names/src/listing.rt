@@ -1,0 +1,112 @@
+//! The entries of lines, in the order of the source.
+
+ghost use Rattle.std.specs.Prelude.{◌≡◌, ◌++◌, IfOk, OnOk};
+ghost use Rattle.std.specs.List.{flat_map};
+ghost use Rattle.asm_model.specs.Meaning.{named_in};
+ghost use Rattle.asm_model.specs.Labels.{imported_entries, defined_by as definition_in, imported_in as import_in};
+ghost use Rattle.asm_names.specs.Steps.{one_entry};
+ghost use Rattle.asm_names.specs.Source.{own_entries, line_entries};
+
+use crate::defined::{Defined, defined_by};
+use crate::lines::PlacedLine;
+use asm_model::{LaidName, Value};
+use crate::KnownNames;
+use crate::copies::entry_copy;
+use crate::made::{imported_entry, imported_name, label_entry, valued_entry};
+use sdt_fault::{NoMemory, Text};
+use std::alloc::Global;
+
+/// A copy of the entry of a name.
+fn entry_named(alloc: Global, known: &KnownNames, name: &Text) -> Result<Option<LaidName>, NoMemory>
+    ensures { IfOk result (λ entry. entry ≡ named_in name.now known.now) }
+{
+    match known.find(name) {
+        None => Ok(None),
+        Some(entry) => Ok(Some(entry_copy(alloc, entry)?)),
+    }
+}
+
+/// The entry of what a line defines, where names for expressions have those that are known.
+fn own_entry(
+    alloc: Global,
+    known: &KnownNames,
+    line: &PlacedLine<'_>,
+) -> Result<Option<LaidName>, NoMemory>
+    ensures { IfOk result (λ entry. one_entry entry ≡ own_entries known.now line.now (definition_in line.now.statement.now)) }
+{
+    match defined_by(line.statement) {
+        Defined::Nothing => Ok(None),
+        Defined::Label(name) => {
+            let entry = label_entry(
+                alloc,
+                name,
+                line.area,
+                line.offset,
+                line.size,
+                line.thumb_label,
+            )?;
+            Ok(Some(entry))
+        }
+        Defined::Equal(name, _) => entry_named(alloc, known, name),
+        Defined::MapField(name) => {
+            let entry = valued_entry(alloc, name, Value::Number(line.map), false)?;
+            Ok(Some(entry))
+        }
+    }
+}
+
+/// The entry of the name that a line imports.
+fn import_of(alloc: Global, line: &PlacedLine<'_>) -> Result<Option<LaidName>, NoMemory>
+    ensures { IfOk result (λ entry. one_entry entry ≡ imported_entries (import_in line.now.statement.now.what)) }
+{
+    match imported_name(&line.statement.what) {
+        None => Ok(None),
+        Some(name) => Ok(Some(imported_entry(alloc, name)?)),
+    }
+}
+
+/// One entry more, where there is one. No more entries than numbers count as want of memory.
+pub fn add_entry(
+    alloc: Global,
+    names: &mut KnownNames,
+    entry: Option<LaidName>,
+) -> Result<(), NoMemory>
+    ensures { OnOk result (names.new ≡ names.old ++ one_entry entry) }
+{
+    let Some(entry) = entry else {
+        return Ok(());
+    };
+    if names.len() >= 0xFFFF_FFFF {
+        return Err(NoMemory);
+    }
+    names.add(alloc, entry)
+}
+
+fn add_line(
+    alloc: Global,
+    names: &mut KnownNames,
+    known: &KnownNames,
+    line: &PlacedLine<'_>,
+) -> Result<(), NoMemory>
+    ensures { OnOk result (names.new ≡ names.old ++ line_entries known.now line.now) }
+{
+    let own = own_entry(alloc, known, line)?;
+    add_entry(alloc, names, own)?;
+    let import = import_of(alloc, line)?;
+    add_entry(alloc, names, import)
+}
+
+/// The entries of lines, where names for expressions have those that are known.
+pub fn entries_of(
+    alloc: Global,
+    known: &KnownNames,
+    lines: &[PlacedLine<'_>],
+) -> Result<KnownNames, NoMemory>
+    ensures { IfOk result (λ names. names ≡ flat_map (line_entries known.now) lines.now) }
+{
+    let mut names = KnownNames::new(alloc);
+    'lines: for line in lines {
+        add_line(alloc, &mut names, known, line)?;
+    }
+    Ok(names)
+}

@@ -1,0 +1,73 @@
+//! Names for expressions get their values, each by those before it.
+
+ghost use Rattle.std.specs.Prelude.{map, IfOk};
+ghost use Rattle.std.specs.List.{slice_get};
+ghost use Rattle.asm_names.specs.Owing.{owed_of};
+ghost use Rattle.asm_names.specs.Source.{IsEntryOf, IsEntryAt, Settles};
+
+use crate::dues::Due;
+use crate::listing::add_entry;
+use crate::final_values::{final_value, references_of};
+use crate::Locals;
+use asm_model::{EvalFault, LaidName};
+use crate::KnownNames;
+use crate::made::equal_entry;
+use sdt_fault::NoMemory;
+use std::alloc::Global;
+
+/// The entry that a name has by the names that are known, where its expression has a value.
+fn entry_of(
+    alloc: Global,
+    known: &KnownNames,
+    declared: &KnownNames,
+    locals: &Locals,
+    due: &Due<'_>,
+) -> Result<Option<LaidName>, NoMemory>
+    ensures { IfOk result (λ entry. IsEntryOf known.now declared.now locals.now (owed_of due.now) entry) }
+{
+    let line = due.line;
+    let references = references_of(alloc, &line, locals)?;
+    match final_value(alloc, due.value, known, &line, references.as_slice()) {
+        Ok(value) => {
+            let entry = equal_entry(alloc, declared, line.area, due.name, value)?;
+            Ok(Some(entry))
+        }
+        Err(EvalFault::Kind(_)) => Ok(None),
+        Err(EvalFault::NoMemory) => Err(NoMemory),
+    }
+}
+
+fn entry_at(
+    alloc: Global,
+    known: &KnownNames,
+    declared: &KnownNames,
+    locals: &Locals,
+    dues: &[Due<'_>],
+    place: u32,
+) -> Result<Option<LaidName>, NoMemory>
+    ensures { IfOk result (λ entry. IsEntryAt known.now declared.now locals.now (slice_get (map owed_of dues.now) place) entry) }
+{
+    match dues.get(place as usize) {
+        None => Ok(None),
+        Some(due) => entry_of(alloc, known, declared, locals, due),
+    }
+}
+
+/// The names that are known behind those for expressions, of which each is evaluated at its place.
+pub fn settled(
+    alloc: Global,
+    first: KnownNames,
+    declared: &KnownNames,
+    locals: &Locals,
+    dues: &[Due<'_>],
+    places: &[u32],
+) -> Result<KnownNames, NoMemory>
+    ensures { IfOk result (λ known. Settles declared.now locals.now (map owed_of dues.now) first places.now known) }
+{
+    let mut known = first;
+    'places: for place in places {
+        let entry = entry_at(alloc, &known, declared, locals, dues, *place)?;
+        add_entry(alloc, &mut known, entry)?;
+    }
+    Ok(known)
+}

@@ -1,5 +1,0 @@
-use Rattle.asm_order.proofs.CallLemmas.{index_back}
-use Rattle.asm_order.proofs.index.index_of.Goals as goal
-
-pub loop-i-preserved : goal.loop-i-preserved
-loop-i-preserved c = index_back c.args.equals.now c.loop-i.index c.put.new.index c.loop-i.i c.index-equals-i.result c.loop-i-test.true c.loop-i.auto.i c.loop-i.invariant c.in_ok-put.ensures

@@ -1,0 +1,111 @@
+-- What lines need is found by the entries of their names.
+use Rattle.std.proofs.Common.{◌≡◌, ℕ, List, [], ◌∷◌, ◌++◌, Option, refl, sym, ap, ◌∙◌}
+use Rattle.std.specs.Prelude.{Result, Ok, Err, OnOk}
+use Rattle.std.specs.List.{list_any}
+use Rattle.sdt_fault.specs.declared.kinds.LineKind.{LineKind}
+use Rattle.asm_model.specs.declared.arm_lines.ArmLine.{ArmLine}
+use Rattle.asm_model.specs.declared.arm_lines.ArmLine.TheVariants as arm
+use Rattle.asm_model.specs.declared.directives.DirectiveLine.{DirectiveLine}
+use Rattle.asm_model.specs.declared.directives.DirectiveLine.TheVariants as line
+use Rattle.asm_model.specs.declared.exprs.Expr.{Expr}
+use Rattle.asm_model.specs.declared.statements.What.{What}
+use Rattle.asm_model.specs.declared.statements.What.TheVariants as what
+use Rattle.asm_model.specs.declared.thumb_lines.ThumbLine.{ThumbLine}
+use Rattle.asm_model.specs.declared.thumb_lines.ThumbLine.TheVariants as thumb
+use Rattle.asm_model.specs.declared.values.Value.{Value}
+use Rattle.asm_model.specs.declared.values.Value.TheVariants.{Number, Truth, Words, Place}
+use Rattle.asm_model.specs.AtLine.{SourceLine}
+use Rattle.asm_model.specs.Forms.{same}
+use Rattle.asm_model.specs.Extents.{Extent, Block, Padding, Loading, Pool}
+use Rattle.asm_model.specs.Symbols.{unless_placed, word_symbols, words_symbols, branch_symbols, arm_symbols, thumb_symbols, literal_value, literal_symbols, directive_symbols, symbols_in, listed_behind}
+use Rattle.source_model.specs.Contexts.{Context, sees, value_of}
+use Rattle.source_model.specs.Registers.{register_in}
+use Rattle.asm_names.specs.Lines.{Sees}
+use Rattle.asm_instructions.specs.declared.scenes.Scene.{Scene}
+use Rattle.asm_instructions.specs.Scenes.{Shows, line_of, context_of}
+use Rattle.asm_instructions.proofs.ContextLemmas.{Alike, registers_listed, symbols_listed, shown_alike}
+use Rattle.asm_units.specs.Literals.{literal_in}
+use Rattle.asm_units.proofs.KindLemmas.{literal_alike}
+use Rattle.asm_units.proofs.ShowLemmas.{stands_alike}
+use Rattle.asm_units.specs.Listing.{loaded_symbols, statement_symbols}
+
+module _ (a b : Context) (s : Alike a b) where
+  word_alike : (v : Result Value LineKind) → word_symbols (sees a) v ≡ word_symbols (sees b) v
+  word_alike (Ok (Place (x ∷ xs) n)) = ap (unless_placed (x ∷ xs)) (stands_alike a b s (x ∷ xs))
+  word_alike (Ok (Place [] n)) = refl
+  word_alike (Ok (Number n)) = refl
+  word_alike (Ok (Truth t)) = refl
+  word_alike (Ok (Words w)) = refl
+  word_alike (Err k) = refl
+
+  words_alike : (es : List Expr) → words_symbols a.names a.line es ≡ words_symbols b.names b.line es
+  words_alike [] = refl
+  words_alike (e ∷ es) =
+      ap (λ z. z ++ words_symbols a.names a.line es) (ap (word_symbols (sees a)) (s.value e) ∙ word_alike (value_of b e))
+      ∙ ap (λ z. word_symbols (sees b) (value_of b e) ++ z) (words_alike es)
+
+  branch_alike : (v : Result Value LineKind) → branch_symbols (sees a) v ≡ branch_symbols (sees b) v
+  branch_alike (Ok (Place (x ∷ xs) n)) = rw (s.area, stands_alike a b s (x ∷ xs), s.thumb, s.entry (x ∷ xs)) refl
+  branch_alike (Ok (Place [] n)) = refl
+  branch_alike (Ok (Number n)) = refl
+  branch_alike (Ok (Truth t)) = refl
+  branch_alike (Ok (Words w)) = refl
+  branch_alike (Err k) = refl
+
+  target_alike : (e : Expr) → branch_symbols (sees a) (value_of a e) ≡ branch_symbols (sees b) (value_of b e)
+  target_alike e = ap (branch_symbols (sees a)) (s.value e) ∙ branch_alike (value_of b e)
+
+  arm_alike : (l : ArmLine) → arm_symbols a.names a.line l ≡ arm_symbols b.names b.line l
+  arm_alike (arm.Branch condition link e) = target_alike e
+  arm_alike _ = refl
+
+  thumb_alike : (l : ThumbLine) → thumb_symbols a.names a.line l ≡ thumb_symbols b.names b.line l
+  thumb_alike (thumb.BranchLink e) = target_alike e
+  thumb_alike _ = refl
+
+  directive_alike : (l : DirectiveLine) → directive_symbols a.names a.line l ≡ directive_symbols b.names b.line l
+  directive_alike (line.Dcd es) = words_alike es
+  directive_alike (line.Dcdu es) = words_alike es
+  directive_alike _ = refl
+
+  literal_there : (e : Extent) → loaded_symbols (sees a) (literal_in e) ≡ literal_symbols b.names b.line e
+  literal_there (Loading n v) = ap (word_symbols (sees a)) (literal_alike a b s v) ∙ word_alike (literal_value (sees b) v)
+  literal_there (Block m n) = refl
+  literal_there (Padding m n) = refl
+  literal_there Pool = refl
+
+  statement_there : (e : Extent) (w : What) → statement_symbols a.names a.line (literal_in e) w ≡ symbols_in b.names b.line e w
+  statement_there e what.Nothing = refl
+  statement_there e (what.Arm l) = arm_alike l
+  statement_there e (what.Thumb l) = thumb_alike l
+  statement_there e (what.Pseudo p) = literal_there e
+  statement_there e (what.Directive l) = directive_alike l
+
+-- a line as its expressions see it, where no names are for registers
+abbrev bare : Scene → SourceLine → Context
+bare x f = record { names = x.names.now; line = f; registers = []; symbols = []; defined = [] }
+
+bare_shown : (x : Scene) (f : SourceLine) → x.registers.now.entries ≡ [] → x.symbols.now.keys ≡ [] → Sees x.line.now x.references.now f → Shows x (bare x f)
+bare_shown x f registers symbols sight = record {
+  names = refl;
+  line = sight;
+  registers = λ q. registers_listed x.registers.now q ∙ ap (register_in q) registers;
+  small = λ q n h. absurd (cc);
+  symbols = λ q. symbols_listed x.symbols.now q ∙ ap (list_any (same q)) symbols;
+}
+
+pub statement_answered : {A E : Type 0} (x : Scene) (literal : Option Value) (w : What) (old new : List (List ℕ)) (r : Result A E)
+    → OnOk r (new ≡ listed_behind old (statement_symbols x.names.now (line_of x.line.now x.references.now) literal w))
+    → OnOk r ((c : Context) (e : Extent) → Shows x c → literal_in e ≡ literal → new ≡ listed_behind old (symbols_in c.names c.line e w))
+statement_answered x literal w old new (Ok a) h = λ c e shown loaded.
+    h
+    ∙ ap (λ o. listed_behind old (statement_symbols x.names.now (line_of x.line.now x.references.now) o w)) (sym loaded)
+    ∙ ap (listed_behind old) (statement_there (context_of x) c (shown_alike x c shown) e w)
+statement_answered x literal w old new (Err k) h = tt
+
+pub line_answered : {A E : Type 0} (x : Scene) (literal : Option Value) (w : What) (old new : List (List ℕ)) (r : Result A E)
+    → OnOk r ((c : Context) (e : Extent) → Shows x c → literal_in e ≡ literal → new ≡ listed_behind old (symbols_in c.names c.line e w))
+    → x.registers.now.entries ≡ [] → x.symbols.now.keys ≡ []
+    → OnOk r ((f : SourceLine) (e : Extent) → Sees x.line.now x.references.now f → literal_in e ≡ literal → new ≡ listed_behind old (symbols_in x.names.now f e w))
+line_answered x literal w old new (Ok a) h registers symbols = λ f e sight loaded. h (bare x f) e (bare_shown x f registers symbols sight) loaded
+line_answered x literal w old new (Err k) h registers symbols = tt

@@ -1,0 +1,144 @@
+//! The symbols that lines name or need.
+
+ghost use Rattle.std.specs.Prelude.{◌≡◌, OnOk};
+ghost use Rattle.std.specs.Option.{option_copied};
+ghost use Rattle.asm_names.specs.Lines.{Sees};
+ghost use Rattle.asm_model.specs.AtLine.{SourceLine};
+ghost use Rattle.asm_model.specs.Extents.{Extent};
+ghost use Rattle.asm_model.specs.Symbols as model;
+ghost use Rattle.said_model.specs.Said.{ArmSaid, DirectiveSaid, WhatSaid};
+ghost use Rattle.source_model.specs.Contexts.{Context, sees, value_of};
+ghost use Rattle.asm_instructions.specs.Scenes.{Shows, context_of, line_of};
+ghost use Rattle.asm_units.specs.Literals.{literal_in};
+ghost use Rattle.asm_units.specs.Listing.{statement_symbols};
+
+use crate::needs::{add_branch, add_literal, add_name, add_words};
+use crate::symbols::Symbols;
+use crate::trees::is_read;
+use asm_names::PlacedLine;
+use asm_instructions::Scene;
+use asm_model::{ArmLine, DirectiveLine, Expr, LaidName, ThumbLine, Value, What};
+use asm_names::KnownNames;
+use sdt_fault::NoMemory;
+use std::alloc::Global;
+use std::collections::{BTreeMap, BTreeSet};
+
+fn add_directive(
+    alloc: Global,
+    symbols: &mut Symbols,
+    scene: &Scene<'_>,
+    line: &DirectiveLine,
+) -> Result<(), NoMemory>
+    requires { DirectiveSaid line.now }
+    ensures { OnOk result (symbols.new ≡ model.listed_behind symbols.old (model.directive_symbols scene.now.names.now (line_of scene.now.line.now scene.now.references.now) line.now)) }
+{
+    match line {
+        DirectiveLine::Export { name } => add_name(alloc, symbols, name),
+        DirectiveLine::Keep { name } => add_name(alloc, symbols, name),
+        DirectiveLine::Import { name, weak: _ } => add_name(alloc, symbols, name),
+        DirectiveLine::Dcd { values } => add_words(alloc, symbols, scene, values.as_slice()),
+        DirectiveLine::Dcdu { values } => add_words(alloc, symbols, scene, values.as_slice()),
+        _ => Ok(()),
+    }
+}
+
+fn add_arm(
+    alloc: Global,
+    symbols: &mut Symbols,
+    scene: &Scene<'_>,
+    line: &ArmLine,
+) -> Result<(), NoMemory>
+    requires { ArmSaid line.now }
+    ensures { OnOk result (symbols.new ≡ model.listed_behind symbols.old (model.arm_symbols scene.now.names.now (line_of scene.now.line.now scene.now.references.now) line.now)) }
+{
+    match line {
+        ArmLine::Branch { target, .. } => add_branch(alloc, symbols, scene, target),
+        _ => Ok(()),
+    }
+}
+
+/// The symbol that a branch to any items needs; items that are no expression have no value.
+fn add_target(
+    alloc: Global,
+    symbols: &mut Symbols,
+    scene: &Scene<'_>,
+    target: &Expr,
+) -> Result<(), NoMemory>
+    ensures { OnOk result (symbols.new ≡ model.listed_behind symbols.old (model.branch_symbols (sees (context_of scene.now)) (value_of (context_of scene.now) target.now))) }
+{
+    if is_read(target) {
+        return add_branch(alloc, symbols, scene, target);
+    }
+    Ok(())
+}
+
+fn add_thumb(
+    alloc: Global,
+    symbols: &mut Symbols,
+    scene: &Scene<'_>,
+    line: &ThumbLine,
+) -> Result<(), NoMemory>
+    ensures { OnOk result (symbols.new ≡ model.listed_behind symbols.old (model.thumb_symbols scene.now.names.now (line_of scene.now.line.now scene.now.references.now) line.now)) }
+{
+    match line {
+        ThumbLine::BranchLink { target } => add_target(alloc, symbols, scene, target),
+        _ => Ok(()),
+    }
+}
+
+fn add_statement(
+    alloc: Global,
+    symbols: &mut Symbols,
+    scene: &Scene<'_>,
+    literal: Option<&Value>,
+    what: &What,
+) -> Result<(), NoMemory>
+    requires { WhatSaid what.now }
+    ensures { OnOk result (symbols.new ≡ model.listed_behind symbols.old (statement_symbols scene.now.names.now (line_of scene.now.line.now scene.now.references.now) (option_copied literal.entry) what.now)) }
+{
+    match what {
+        What::Nothing => Ok(()),
+        What::Arm(line) => add_arm(alloc, symbols, scene, line),
+        What::Thumb(line) => add_thumb(alloc, symbols, scene, line),
+        What::Pseudo(_) => add_literal(alloc, symbols, scene, literal),
+        What::Directive(line) => add_directive(alloc, symbols, scene, line),
+    }
+}
+
+fn add_shown(
+    alloc: Global,
+    symbols: &mut Symbols,
+    scene: &Scene<'_>,
+    literal: Option<&Value>,
+    what: &What,
+) -> Result<(), NoMemory>
+    requires { WhatSaid what.now }
+    ensures { OnOk result ((c : Context) (e : Extent) → Shows scene.now c → literal_in e ≡ option_copied literal.entry → symbols.new ≡ model.listed_behind symbols.old (model.symbols_in c.names c.line e what.now)) }
+{
+    add_statement(alloc, symbols, scene, literal, what)
+}
+
+/// Adds the symbols that a line names or needs, where its literal, if it has one, is this, and its references to local
+/// labels name these.
+pub fn add_line(
+    alloc: Global,
+    symbols: &mut Symbols,
+    names: &KnownNames,
+    line: &PlacedLine<'_>,
+    references: &[LaidName],
+    literal: Option<&Value>,
+) -> Result<(), NoMemory>
+    requires { WhatSaid line.now.statement.now.what }
+    ensures { OnOk result ((f : SourceLine) (e : Extent) → Sees line.now references.now f → literal_in e ≡ option_copied literal.entry → symbols.new ≡ model.listed_behind symbols.old (model.symbols_in names.now f e line.now.statement.now.what)) }
+{
+    let registers = BTreeMap::new(alloc);
+    let labels = BTreeSet::new(alloc);
+    let scene = Scene {
+        names,
+        line,
+        references,
+        registers: &registers,
+        symbols: &labels,
+    };
+    add_shown(alloc, symbols, &scene, literal, &line.statement.what)
+}

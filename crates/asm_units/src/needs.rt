@@ -1,0 +1,141 @@
+//! The symbols that values need.
+
+ghost use Rattle.std.specs.Prelude.{◌≡◌, Some, Ok, OnOk};
+ghost use Rattle.std.specs.Option.{option_copied};
+ghost use Rattle.asm_model.specs.declared.values.Value.TheVariants as values;
+ghost use Rattle.asm_model.specs.Before.{with_name};
+ghost use Rattle.asm_model.specs.Symbols as model;
+ghost use Rattle.said_model.specs.Said.{AllRead, IsRead};
+ghost use Rattle.source_model.specs.Contexts.{sees, value_of};
+ghost use Rattle.asm_instructions.specs.Scenes.{context_of, line_of};
+ghost use Rattle.asm_units.specs.Listing.{loaded_symbols, one_symbol};
+
+use crate::symbols::Symbols;
+use asm_instructions::Scene;
+use asm_instructions::branches::target_symbol;
+use asm_instructions::scenes::stands_at;
+use asm_instructions::values::value_there;
+use asm_model::{Expr, Value};
+use crate::literals::literal_value;
+use sdt_fault::kinds::LineKind;
+use sdt_fault::{NoMemory, Text};
+use std::alloc::Global;
+
+/// A symbol behind the others, unless it is listed. More symbols than numbers count as want of memory.
+pub fn add_name(alloc: Global, symbols: &mut Symbols, name: &Text) -> Result<(), NoMemory>
+    ensures { OnOk result (symbols.new ≡ with_name (Some name.now) symbols.old) }
+{
+    if symbols.list().len() >= 0xFFFF_FFFF {
+        return Err(NoMemory);
+    }
+    symbols.add(alloc, name)
+}
+
+/// The symbol that is needed, where one is.
+fn add_needed(alloc: Global, symbols: &mut Symbols, needed: Option<Text>) -> Result<(), NoMemory>
+    ensures { OnOk result (symbols.new ≡ model.listed_behind symbols.old (one_symbol needed)) }
+{
+    match needed {
+        None => Ok(()),
+        Some(name) => add_name(alloc, symbols, &name),
+    }
+}
+
+/// A symbol that stands in no area of the source.
+fn unplaced(scene: &Scene<'_>, symbol: Text) -> Option<Text>
+    ensures { one_symbol result ≡ model.word_symbols (sees (context_of scene.now)) (Ok (values.Place symbol 0)) }
+{
+    if symbol.as_slice().is_empty() {
+        return None;
+    }
+    if stands_at(scene, &symbol).is_some() {
+        return None;
+    }
+    Some(symbol)
+}
+
+/// The symbol of a word.
+fn word_symbol(scene: &Scene<'_>, value: Result<Value, LineKind>) -> Option<Text>
+    ensures { one_symbol result ≡ model.word_symbols (sees (context_of scene.now)) value }
+{
+    match value {
+        Ok(Value::Place { symbol, plus: _ }) => unplaced(scene, symbol),
+        _ => None,
+    }
+}
+
+fn add_word(
+    alloc: Global,
+    symbols: &mut Symbols,
+    scene: &Scene<'_>,
+    operand: &Expr,
+) -> Result<(), NoMemory>
+    requires { IsRead operand.now }
+    ensures { OnOk result (symbols.new ≡ model.listed_behind symbols.old (model.word_symbols (sees (context_of scene.now)) (value_of (context_of scene.now) operand.now))) }
+{
+    let value = value_there(alloc, scene, operand)?;
+    add_needed(alloc, symbols, word_symbol(scene, value))
+}
+
+/// The symbols that words need.
+pub fn add_words(
+    alloc: Global,
+    symbols: &mut Symbols,
+    scene: &Scene<'_>,
+    operands: &[Expr],
+) -> Result<(), NoMemory>
+    requires { AllRead operands.now }
+    ensures { OnOk result (symbols.new ≡ model.listed_behind symbols.old (model.words_symbols scene.now.names.now (line_of scene.now.line.now scene.now.references.now) operands.now)) }
+{
+    let mut left = operands;
+    'operands: loop {
+        match left {
+            [] => return Ok(()),
+            [operand, behind @ ..] => {
+                add_word(alloc, symbols, scene, operand)?;
+                left = behind;
+            }
+        }
+    }
+}
+
+/// The symbol that a branch needs.
+pub fn add_branch(
+    alloc: Global,
+    symbols: &mut Symbols,
+    scene: &Scene<'_>,
+    target: &Expr,
+) -> Result<(), NoMemory>
+    requires { IsRead target.now }
+    ensures { OnOk result (symbols.new ≡ model.listed_behind symbols.old (model.branch_symbols (sees (context_of scene.now)) (value_of (context_of scene.now) target.now))) }
+{
+    let symbol = target_symbol(alloc, scene, target)?;
+    add_needed(alloc, symbols, symbol)
+}
+
+fn add_loaded(
+    alloc: Global,
+    symbols: &mut Symbols,
+    scene: &Scene<'_>,
+    literal: &Value,
+) -> Result<(), NoMemory>
+    ensures { OnOk result (symbols.new ≡ model.listed_behind symbols.old (model.word_symbols (sees (context_of scene.now)) (model.literal_value (sees (context_of scene.now)) literal.now))) }
+{
+    let value = literal_value(alloc, scene, literal)?;
+    add_needed(alloc, symbols, word_symbol(scene, value))
+}
+
+/// The symbol that a literal needs.
+pub fn add_literal(
+    alloc: Global,
+    symbols: &mut Symbols,
+    scene: &Scene<'_>,
+    literal: Option<&Value>,
+) -> Result<(), NoMemory>
+    ensures { OnOk result (symbols.new ≡ model.listed_behind symbols.old (loaded_symbols (sees (context_of scene.now)) (option_copied literal.entry))) }
+{
+    match literal {
+        None => Ok(()),
+        Some(literal) => add_loaded(alloc, symbols, scene, literal),
+    }
+}

@@ -1,0 +1,207 @@
+//! The records of symbols.
+
+ghost use Rattle.std.specs.Prelude.{◌≡◌, ◌+◌, ◌*◌, ◌≤◌, ◌&&◌, ◌^◌, false, get_or, IfOk, if◌then◌else◌};
+ghost use Rattle.std.specs.Option.{option_copied};
+ghost use Rattle.sdt_word.specs.Numbers.{flag as flag_of};
+ghost use Rattle.asm_model.specs.Meaning as meaning;
+ghost use Rattle.asm_model.specs.Entries as entries;
+ghost use Rattle.source_model.specs.Contexts.{sees};
+ghost use Rattle.source_model.specs.Objects as objects;
+ghost use Rattle.source_model.specs.Objects.{Source};
+ghost use Rattle.asm_instructions.specs.Scenes.{has_symbol};
+ghost use Rattle.asm_units.specs.Recording.{Shows};
+
+use aof_object::Symbol;
+use asm_model::{LaidName, Value};
+use asm_names::KnownNames;
+use sdt_fault::{NoMemory, Text};
+use std::alloc::Global;
+use std::collections::BTreeSet;
+
+/// What the records of symbols say of a source.
+#[derive(Clone, Copy)]
+pub struct Facts<'a> {
+    /// All names of the source.
+    pub names: &'a KnownNames,
+    /// The names that EXPORT has.
+    pub exported: &'a BTreeSet<Text>,
+    /// The names that are imported as weak.
+    pub weak: &'a BTreeSet<Text>,
+    /// The labels that are data.
+    pub data: &'a BTreeSet<Text>,
+    /// Of each area, by number, whether it holds code.
+    pub code: &'a [bool],
+}
+
+/// The bits of a test that holds.
+fn bits(holds: bool, bits: u32) -> u32
+    ensures is { result ≡ flag_of holds * bits }
+    ensures below { result ≤ bits }
+{
+    if holds {
+        return bits;
+    }
+    0
+}
+
+fn scope_by(exported: bool) -> u32
+    ensures is { result ≡ (if exported then 3 else 1) }
+    ensures below { result ≤ 3 }
+{
+    if exported {
+        return 3;
+    }
+    1
+}
+
+fn scope(facts: &Facts<'_>, name: &Text) -> u32
+    ensures is { (s : Source) → Shows facts.now s → result ≡ objects.scope s name.now }
+    ensures below { result ≤ 3 }
+{
+    scope_by(facts.exported.contains(name))
+}
+
+fn holds_code(code: &[bool], area: u32) -> bool
+    ensures { result ≡ get_or code.now area false }
+{
+    match code.get(area as usize) {
+        None => false,
+        Some(holds) => *holds,
+    }
+}
+
+fn is_thumb(entry: Option<&LaidName>) -> bool
+    ensures { result ≡ entries.thumb_of (option_copied entry.entry) }
+{
+    match entry {
+        None => false,
+        Some(entry) => entry.thumb,
+    }
+}
+
+/// Whether a label is a datum in a code area.
+fn is_marked(facts: &Facts<'_>, label: &Text, area: u32) -> bool
+    ensures { result ≡ has_symbol facts.now.data.now label.now && get_or facts.now.code.now area false }
+{
+    if facts.data.contains(label) {
+        return holds_code(facts.code, area);
+    }
+    false
+}
+
+fn marks(facts: &Facts<'_>, label: &Text, area: u32) -> u32
+    ensures is { (s : Source) → Shows facts.now s → result ≡ objects.marks_of s label.now area }
+    ensures below { result ≤ 0x1100 }
+{
+    bits(is_marked(facts, label, area), 0x100) + bits(is_thumb(facts.names.find(label)), 0x1000)
+}
+
+fn entry_stands_at(entry: Option<&LaidName>) -> Option<(u32, u32)>
+    ensures { result ≡ meaning.entry_stands_at (option_copied entry.entry) }
+{
+    match entry {
+        None => None,
+        Some(entry) => match entry.area {
+            None => None,
+            Some(area) => Some((area, entry.offset)),
+        },
+    }
+}
+
+fn stands_at(facts: &Facts<'_>, label: &Text) -> Option<(u32, u32)>
+    ensures { (s : Source) → Shows facts.now s → result ≡ meaning.stands_at (sees (objects.in_no_line s)) label.now }
+{
+    if label.as_slice().is_empty() {
+        return None;
+    }
+    entry_stands_at(facts.names.find(label))
+}
+
+fn undefined(alloc: Global, facts: &Facts<'_>, name: &Text) -> Result<Symbol, NoMemory>
+    ensures { IfOk result (λ symbol. (s : Source) → Shows facts.now s → symbol ≡ record { name = name.now; attributes = 2 + flag_of (objects.is_weak s name.now) * 2 ^ 4; value = 0; area = None }) }
+{
+    let name_copy = name.try_clone(alloc)?;
+    Ok(Symbol {
+        name: name_copy,
+        attributes: 2 + bits(facts.weak.contains(name), 0x10),
+        value: 0,
+        area: None,
+    })
+}
+
+fn placed(
+    alloc: Global,
+    facts: &Facts<'_>,
+    name: &Text,
+    label: &Text,
+    plus: u32,
+    place: Option<(u32, u32)>,
+) -> Result<Symbol, NoMemory>
+    ensures { IfOk result (λ symbol. (s : Source) → Shows facts.now s → symbol ≡ objects.symbol_placed s name.now label.now plus place) }
+{
+    match place {
+        None => undefined(alloc, facts, name),
+        Some((area, offset)) => {
+            let name_copy = name.try_clone(alloc)?;
+            Ok(Symbol {
+                name: name_copy,
+                attributes: scope(facts, name) + marks(facts, label, area),
+                value: offset.wrapping_add(plus),
+                area: Some(area),
+            })
+        }
+    }
+}
+
+/// The record of a name with no value.
+fn unvalued(alloc: Global, name: &Text) -> Result<Symbol, NoMemory>
+    ensures { IfOk result (λ symbol. symbol ≡ record { name = name.now; attributes = 0; value = 0; area = None }) }
+{
+    let name = name.try_clone(alloc)?;
+    Ok(Symbol {
+        name,
+        attributes: 0,
+        value: 0,
+        area: None,
+    })
+}
+
+fn absolute(alloc: Global, facts: &Facts<'_>, name: &Text, number: u32) -> Result<Symbol, NoMemory>
+    ensures { IfOk result (λ symbol. (s : Source) → Shows facts.now s → symbol ≡ record { name = name.now; attributes = objects.scope s name.now + 2 ^ 2; value = number; area = None }) }
+{
+    let name_copy = name.try_clone(alloc)?;
+    Ok(Symbol {
+        name: name_copy,
+        attributes: scope(facts, name) + 4,
+        value: number,
+        area: None,
+    })
+}
+
+fn valued(alloc: Global, facts: &Facts<'_>, name: &Text, value: &Value) -> Result<Symbol, NoMemory>
+    ensures { IfOk result (λ symbol. (s : Source) → Shows facts.now s → symbol ≡ objects.symbol_valued s name.now value.now) }
+{
+    match value {
+        Value::Number(number) => absolute(alloc, facts, name, *number),
+        Value::Place { symbol, plus } => {
+            let place = stands_at(facts, symbol);
+            placed(alloc, facts, name, symbol, *plus, place)
+        }
+        _ => unvalued(alloc, name),
+    }
+}
+
+/// The record of a symbol with the entry of its name, where it has one.
+pub fn record_of(
+    alloc: Global,
+    name: &Text,
+    entry: Option<&LaidName>,
+    facts: &Facts<'_>,
+) -> Result<Symbol, NoMemory>
+    ensures { IfOk result (λ symbol. (s : Source) → Shows facts.now s → symbol ≡ objects.symbol_named s name.now (option_copied entry.entry)) }
+{
+    match entry {
+        None => unvalued(alloc, name),
+        Some(entry) => valued(alloc, facts, name, &entry.value),
+    }
+}

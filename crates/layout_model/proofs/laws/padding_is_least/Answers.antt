@@ -1,5 +1,0 @@
-use Rattle.layout_model.proofs.OffsetLemmas.{padding_is_least}
-use Rattle.layout_model.proofs.laws.padding_is_least.Goals as goal
-
-pub returns : goal.returns
-returns c = padding_is_least

@@ -1,0 +1,39 @@
+//! The command.
+
+ghost use Rattle.std.specs.Prelude.{◌<◌, ◌^◌, IfOk, length};
+ghost use Rattle.sdt_toolkit.specs.Sources.{AssemblyAnswersOver, SpellsAs};
+
+use aof_object::write_object;
+use armasm_core::assemble;
+use chunk_file::size_law;
+use sdt_fault::answer::{Answer, Fault};
+use sdt_fault::{Bytes, Text};
+use sdt_outside::Store;
+use std::alloc::Global;
+use tool_answers::{read_input, write};
+use tool_library::ends::{end_answer, fault_answer};
+
+/// The object file of a source's text.
+fn object_file(alloc: Global, source: &Text, text: &[u8]) -> Result<Bytes, Fault>
+    ensures spells { SpellsAs source.now text.now result }
+    ensures short { IfOk result (λ bytes. length bytes < 2 ^ 32) }
+{
+    size_law();
+    let object = assemble(alloc, source, text)?;
+    write_object(alloc, &object)
+}
+
+/// Writes the object of a source.
+pub fn assemble_file<S: Store>(alloc: Global, store: &mut S, source: &Text, output: Text) -> Answer
+    ensures { AssemblyAnswersOver source.now output (S.files store.old) (S.files store.new) (S.read_faults store.old) (S.read_faults store.new)
+        (S.write_faults store.old) (S.write_faults store.new) result }
+{
+    let text = match read_input(alloc, store, source) {
+        Ok(text) => text,
+        Err(end) => return end_answer(end),
+    };
+    match object_file(alloc, source, text.as_slice()) {
+        Ok(object) => write(alloc, store, output, object.as_slice()),
+        Err(fault) => fault_answer(fault),
+    }
+}

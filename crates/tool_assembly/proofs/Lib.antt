@@ -1,2 +1,0 @@
-mod AskLemmas
-mod EndLemmas

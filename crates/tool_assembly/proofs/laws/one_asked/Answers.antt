@@ -1,5 +1,0 @@
-use Rattle.tool_assembly.proofs.AskLemmas.{one_asked}
-use Rattle.tool_assembly.proofs.laws.one_asked.Goals as goal
-
-pub returns : goal.returns
-returns c = one_asked c.one_assembly.ensures
