@@ -42,10 +42,6 @@ past_equal a b o x h = rw (eq-eqb a b h) refl
 past_false : (b : Bool) (x o : Option Flaw) → b ≡ false → cond b x o ≡ o
 past_false b x o h = rw h refl
 
--- a row that was judged has no flaw, and is itself
-done : {A : Type 0} → A → Result A Refusal
-done x = Ok x
-
 pub judged_law : {A : Type 0} (at : ℕ) (f : Option Flaw) (x y : A) → (judged at f x ≡ Ok y) ↔ ((f ≡ None) × (x ≡ y))
 judged_law at None x y = (λ e. (refl, cc), λ h. ap (λ z. Ok z) h.1)
 judged_law at (Some f) x y = (λ e. absurd cc, λ h. absurd (let bad : Some f ≡ None = h.0 in cc))

@@ -31,10 +31,6 @@ pub all_and : {A : Type 0} (P Q S : A → Type 0) → ((x : A) → P x → Q x �
 all_and P Q S f [] h k = tt
 all_and P Q S f (x ∷ xs) h k = (f x h.0 k.0, all_and P Q S f xs h.1 k.1)
 
-pub all_weaker : {A : Type 0} (P Q : A → Type 0) → ((x : A) → P x → Q x) → (xs : List A) → AllByRecursion P xs → AllByRecursion Q xs
-all_weaker P Q f [] h = tt
-all_weaker P Q f (x ∷ xs) h = (f x h.0, all_weaker P Q f xs h.1)
-
 -- over what a function makes of the items
 pub from_map : {A B : Type 0} (f : A → B) (R : List B → B → Type 0) (before xs : List A) → EachStands R (map f before) (map f xs) → EachStands (λ b x. R (map f b) (f x)) before xs
 from_map f R before [] h = tt

@@ -26,7 +26,7 @@ use Rattle.aof_object.specs.Objects.{each_of, counted_areas, head_names, next_he
 use Rattle.aof_object.specs.Spelling.{area_names}
 use Rattle.aof_object.specs.Validity.{head_of, heads, IsArea, IsReloc, Holds, IsSymbol, IsEntered, IsValid}
 use Rattle.aof_object.specs.Grammar.{HasParts, SaysHead, SaysArea, SaysSymbol, SaysEntry, SaysObject, ReadsObject}
-use Rattle.aof_object.proofs.Lists.{both, weaker, all_of, with_all, all_and, all_weaker, from_map, to_map, each_of_law}
+use Rattle.aof_object.proofs.Lists.{both, weaker, all_of, with_all, all_and, from_map, to_map, each_of_law}
 use Rattle.aof_object.proofs.AreaLaw.{heads_agree, AreaStands, areas_agree, bytes_long}
 use Rattle.aof_object.proofs.SymbolLaw.{SymbolStands, symbols_agree}
 use Rattle.aof_object.proofs.PartsLaw.{parts_law, Counted, counted_law, entry_of_law}

@@ -16,10 +16,6 @@ or_true : (a b : Bool) → b ≡ true → (a || b) ≡ true
 or_true true b h = refl
 or_true false b h = h
 
-or_cases : (a b : Bool) → (a || b) ≡ true → (a ≡ true → b ≡ true) → b ≡ true
-or_cases true b h k = k refl
-or_cases false b h k = h
-
 or_left : (a b : Bool) → a ≡ true → (a || b) ≡ true
 or_left true b h = refl
 or_left false b h = absurd cc

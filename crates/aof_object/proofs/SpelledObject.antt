@@ -24,7 +24,7 @@ use Rattle.aof_object.specs.Objects.{extent, total}
 use Rattle.aof_object.specs.Spelling.{gathered, area_names, symbol_names, names_of, ended, strings_of, place, area_row, content_of, area_place, area_word, symbol_row, head_row, head_bytes, symbol_bytes, chunks_of, spelled}
 use Rattle.aof_object.specs.Validity.{head_of, heads, IsArea, Holds, Lives, IsSymbol, IsEntered, IsValid}
 use Rattle.aof_object.specs.Grammar.{HasParts, SaysHead, SaysArea, SaysHome, SaysSymbol, SaysObject, ReadsObject, AreaFits, Fits}
-use Rattle.aof_object.proofs.Lists.{weaker, all_of, all_and, all_weaker, to_map}
+use Rattle.aof_object.proofs.Lists.{weaker, all_of, all_and, to_map}
 use Rattle.aof_object.proofs.SpelledNames.{gathered-has, all_among, among-in-front, all_mapped, Placed, placed, numbered_from, rows_stand, length-rows}
 use Rattle.aof_object.proofs.SpelledRows.{AreaReady, area_says, area_long, RelocReady, SymbolReady, symbol_says, symbol_long, BodyReady, length-contents, bodies_say, head_with, head_long, EntryReady, entry_says}
 

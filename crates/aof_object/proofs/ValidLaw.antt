@@ -29,7 +29,7 @@ use Rattle.aof_object.proofs.NamesLemmas.{among-push, among-exported}
 use Rattle.aof_object.proofs.NameLaw.{lacks_law}
 use Rattle.aof_object.proofs.SymbolLaw.{fresh_law}
 use Rattle.aof_object.proofs.Checked.{AreaPasses, area_law, reloc_law, HomePasses, SymbolPasses, symbol_law, entry_law}
-use Rattle.aof_object.proofs.Lists.{weaker, all_of, all_weaker, both, with_all}
+use Rattle.aof_object.proofs.Lists.{weaker, all_of, both, with_all}
 
 -- ---- a loop over items
 

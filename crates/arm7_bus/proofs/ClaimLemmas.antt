@@ -15,9 +15,6 @@ later : (used : List Bool) (first n p : ℕ) → first + n ≤ p → get_or (cla
 later used first zero p le = refl
 later used first (suc n) p le = get_or-set_other (claimed used first n) (first + n) p true false (omega arith) ∙ later used first n p (omega arith)
 
-as_one : Bool → ℕ
-as_one u = cond u 1 0
-
 count_fresh : (us : List Bool) (p : ℕ) → p < length us → get_or us p false ≡ false → used_count (set us p true) ≡ used_count us + 1
 count_fresh us p lt e = let h = rw e at (sum_by-set (λ (u : Bool). cond u 1 0) us p true false lt) in omega (arith, h)
 
@@ -44,9 +41,6 @@ fresh_more us first n lt e = let s : n + 1 ≡ suc n = omega arith in rw s (fres
 pub used_more : (us : List Bool) (first n : ℕ) → first + n < length us → get_or us (first + n) false ≡ true
     → used_count (claimed us first (n + 1)) ≡ used_count (claimed us first n)
 used_more us first n lt e = let s : n + 1 ≡ suc n = omega arith in rw s (used_next us first n lt e)
-
-pub claimed_more : (us : List Bool) (first n : ℕ) → claimed us first (n + 1) ≡ set (claimed us first n) (first + n) true
-claimed_more us first n = let s : n + 1 ≡ suc n = omega arith in rw s refl
 
 grows : (us : List Bool) (first n : ℕ) (b : Bool) → first + n < length us → get_or us (first + n) false ≡ b
     → used_count (claimed us first n) ≤ used_count (claimed us first (suc n))

@@ -33,16 +33,8 @@ and_false true true f = absurd (f refl refl)
 and_false true false f = refl
 and_false false y f = refl
 
-and_or : (x y z : Bool) → (x && y || x && z) ≡ (x && (y || z))
-and_or true y z = refl
-and_or false y z = refl
-
 min_either : (x y : ℕ) → (min x y ≡ x) ⊎ (min x y ≡ y)
 min_either x y = elim (nat_le x y) as (λ b. nat_le x y ≡ b → (min x y ≡ x) ⊎ (min x y ≡ y)) [ true ↦ λ e. inl (grind arith) | false ↦ λ e. inr (grind arith) ] refl
-
-pub same_test : (p q : ℕ → Bool) (o : Option ℕ) → ((a : ℕ) → p a ≡ q a) → IsFound p o → IsFound q o
-same_test p q None e f = record { none = λ a. sym (e a) ∙ f.none a }
-same_test p q (Some x) e f = record { passes = sym (e x) ∙ f.passes; least = λ b h. f.least b (e b ∙ h) }
 
 pub either : (p q : ℕ → Bool) (o u : Option ℕ) → IsFound p o → IsFound q u → IsFound (λ a. p a || q a) (lesser_of o u)
 either p q None None f g = record { none = λ a. rw (f.none a, g.none a) refl }
@@ -64,17 +56,6 @@ either p q (Some x) (Some y) f g = record {
     | inr e ↦ (let k = g.least b e in omega arith)
   ];
 }
-
--- one more range that may share an address with the first
-pub one_more : (h p q : ℕ → Bool) (o u : Option ℕ) → IsFound (λ a. h a && p a) o → IsFound (λ a. h a && q a) u
-    → IsFound (λ a. h a && (p a || q a)) (lesser_of o u)
-one_more h p q o u f g =
-    same_test (λ a. h a && p a || h a && q a) (λ a. h a && (p a || q a)) (lesser_of o u) (λ a. and_or (h a) (p a) (q a))
-    (either (λ a. h a && p a) (λ a. h a && q a) o u f g)
-
--- none at all
-pub no_more : (h : ℕ → Bool) → IsFound (λ a. h a && false) None
-no_more h = record { none = λ a. and_false (h a) false (λ x y. absurd (cc)) }
 
 covers : (r : Range32) (a : ℕ) → has_access r.base r.size a 1 ≡ true → Covers r a
 covers r a e =

@@ -92,9 +92,6 @@ frame_read [] i o h e = absurd (omega arith)
 frame_read (x ∷ xs) zero o h e = sym e
 frame_read (x ∷ xs) (suc i) o h e = frame_read xs i o (omega arith) e
 
-none-some : (n : ℕ) → None ≡ Some n → ⊥
-none-some n e = cc
-
 byte_clear : (bytes : List ℕ) (used : ℕ) → ((k : ℕ) → 4096 * used ≤ k → get_or bytes k 0 ≡ 0) → (at : ℕ) → byte_of bytes at (Some used) ≡ 0
 byte_clear bytes used clear at = clear (4096 * used + at) (omega arith)
 
@@ -256,11 +253,6 @@ none_at zero page = refl
 none_at (suc n) zero = refl
 none_at (suc n) (suc page) = none_at n page
 
-zero_at : (n k : ℕ) → get_or (replicate {A = ℕ} n 0) k 0 ≡ 0
-zero_at zero k = refl
-zero_at (suc n) zero = refl
-zero_at (suc n) (suc k) = zero_at n k
-
 pub none_counted : (n : ℕ) → count_by is_some (replicate {A = Option ℕ} n None) ≡ 0
 none_counted zero = refl
 none_counted (suc n) =
@@ -274,17 +266,6 @@ unused_table n table e = rw e (record {
   none = none_at n;
   count = none_counted n;
 })
-
-pub fresh-paging : (table : List (Option ℕ)) (bytes : List ℕ) (n room : ℕ) → IsUnused table n → bytes ≡ replicate (4096 * room) 0 → room ≤ 65536 → IsPaging table bytes 0 room
-fresh-paging table bytes n room u e few = record {
-  size = ap length e ∙ length-replicate (4096 * room) 0;
-  fits = omega arith;
-  few = few;
-  counted = u.count;
-  below = λ page frame f. absurd (none-some frame (sym (u.none page) ∙ f));
-  distinct = λ p q frame f g. absurd (none-some frame (sym (u.none p) ∙ f));
-  clear = λ k h. ap (λ (bs : List ℕ). get_or bs k 0) e ∙ zero_at (4096 * room) k;
-}
 
 pub fresh-memory : (table : List (Option ℕ)) (bytes : List ℕ) (n : ℕ) (before : List (Option ℕ)) (old : List ℕ) → IsUnused table n → length (used_in before) ≡ 0 → memory_in table bytes ≡ memory_in before old
 unfolding memory_in

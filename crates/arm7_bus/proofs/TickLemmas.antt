@@ -67,9 +67,6 @@ pub record IsHalfway (old now : List Seat) (i : ℕ) (irq fiq : Bool) : Type 0 w
   pub irq_is : irq ≡ irq_below i old
   pub fiq_is : fiq ≡ fiq_below i old
 
-pub at_start : (old : List Seat) → IsHalfway old old 0 false false
-at_start old = record { seats = refl; irq_is = refl; fiq_is = refl }
-
 pub at_next : (old now new : List Seat) (i j : ℕ) (irq fiq irq' fiq' : Bool) (lines : Lines) → IsHalfway old now i irq fiq → j ≡ suc i
     → new ≡ ticked_at i now → lines ≡ lines_at i new → irq' ≡ (irq || lines.irq) → fiq' ≡ (fiq || lines.fiq) → IsHalfway old new j irq' fiq'
 at_next old now new i j irq fiq irq' fiq' lines h e n l x y =

@@ -11,8 +11,7 @@ use arm_isa::decode_arm;
 use arm7_bus::Bus;
 use arm7_model::{ArmState, Event};
 use arm7_registers::{advance, register};
-use arm7_transfers::{finish, prefetch_abort};
-use arm7_transfers::{Outcome, is_there, read};
+use arm7_transfers::{Outcome, finish, is_there, prefetch_abort, read};
 use sdt_outside::Device;
 use sdt_word::Width;
 

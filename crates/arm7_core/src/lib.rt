@@ -5,9 +5,9 @@ mod acts;
 mod arm;
 mod effect;
 mod machine;
+mod rows;
 mod step;
 mod thumb_effect;
-mod rows;
 mod thumb_step;
 
 pub use crate::machine::Machine;

@@ -8,10 +8,10 @@ ghost use Rattle.arm7_transfers.specs.Views.{state_of};
 ghost use Rattle.arm7_core.specs.Machines.{IsStep};
 
 use crate::arm::step_arm;
+use crate::step_thumb;
 use arm7_bus::Bus;
 use arm7_model::{ArmState, Event};
 use arm7_registers::{enter, interrupt, is_thumb, register};
-use crate::step_thumb;
 use sdt_outside::Device;
 
 /// One step: each device of the bus ticks, and then the processor takes an interrupt or does one instruction.

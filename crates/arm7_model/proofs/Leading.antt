@@ -19,16 +19,6 @@ pub data Leads (board : Board) (P : List Access → Type 0) : ℕ → State → 
 pub counted : (e : Event) → e ≡ event.Ran → IsCounted e
 counted e h = let P : Event → Type 0 = IsCounted in subst P (sym h) tt
 
--- a run of n steps, and then one of k, is one of n + k
-pub joined : {board : Board} {P : List Access → Type 0} {n k : ℕ} {s t u : State}
-    → Leads board P n s t → Leads board P k t u → Leads board P (n + k) s u
-joined {board} {P} {k = k} {s = s} {u = u} here q =
-    let Run : ℕ → Type 0 = λ n. Leads board P n s u in
-    let e : k ≡ 0 + k = omega arith in subst Run e q
-joined {board} {P} {n = suc n} {k = k} {s = s} {u = u} (on first one ran p rest) q =
-    let Run : ℕ → Type 0 = λ n. Leads board P n s u in
-    let e : suc (n + k) ≡ suc n + k = omega arith in subst Run e (on first one ran p (joined rest q))
-
 -- the number of steps under another name
 pub lasting : {board : Board} {P : List Access → Type 0} {n k : ℕ} {s t : State} → n ≡ k → Leads board P n s t → Leads board P k s t
 lasting {board} {P} {s = s} {t = t} e run = let Run : ℕ → Type 0 = λ n. Leads board P n s t in subst Run e run

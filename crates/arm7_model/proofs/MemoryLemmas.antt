@@ -158,12 +158,6 @@ copy_down m s t n k h =
 pub bytes_of-word : (m : Bytes) (a : ℕ) → ((x : ℕ) → m x < 256) → bytes_of (word m a) 4 ≡ load m a 4
 bytes_of-word m a h = bytes_of-number_of (load m a 4) (λ i. search (arith, h))
 
--- a word stored is the word that stands there
-pub word-store : (m : Bytes) (a v : ℕ) → v < 2 ^ 32 → word (store m a (bytes_of v 4)) a ≡ v
-word-store m a v h =
-    ap number_of (load-same (store m a (bytes_of v 4)) (λ k. get_or (bytes_of v 4) k 0) a 0 4 (λ i lt. store-at m a (bytes_of v 4) i lt ∙ ap (λ (k : ℕ). get_or (bytes_of v 4) k 0) (omega arith)))
-    ∙ number_of-bytes_of v 4 h
-
 cond_below : (t : Bool) (x y : ℕ) → x < 256 → y < 256 → cond t x y < 256
 cond_below true x y hx hy = hx
 cond_below false x y hx hy = hy

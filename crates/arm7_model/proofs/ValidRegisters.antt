@@ -141,16 +141,6 @@ operand-small s k h = go (k == 15)
     go true = omega arith
     go false = register-small s k h
 
-pub stored-small : (s : ArmState) (k : ℕ) → IsNearlyValid s → stored_at s k < 2 ^ 32
-unfolding stored_at
-stored-small s k h = go (k == 15)
-  where
-    go : (b : Bool) → (if b then (register s 15 + 8) % 2 ^ 32 else register s k) < 2 ^ 32
-    go true = omega arith
-    go false = register-small s k h
-
--- ---- status registers
-
 -- a status with the same low 28 bits is of the same mode and state
 same-fields : (x y : ℕ) → x % 2 ^ 28 ≡ y % 2 ^ 28 → (bits x 0 5 ≡ bits y 0 5) × (bit x 5 ≡ bit y 5) × (bits x 8 20 ≡ bits y 8 20)
 same-fields x y h = (omega arith, omega arith, omega arith)
@@ -340,16 +330,3 @@ unfolding saved
 saved-status s h = h.saved_status (bank_in s.cpsr - 1)
 
 -- ---- user mode's registers
-
-pub user-small : (s : ArmState) (k : ℕ) → IsNearlyValid s → user_register s k < 2 ^ 32
-unfolding user_register
-user-small s k h = go (k == 13) (k == 14) (nat_lt k 8) (k == 15) (bank_in s.cpsr == 1)
-  where
-    go : (a b c d f : Bool) → (if a then slice_index s.banks.r13 0 else if b then slice_index s.banks.r14 0 else if c then stored_at s k else if d then stored_at s k
-        else if f then slice_index s.banks.high (k - 8) else register s k) < 2 ^ 32
-    go true b c d f = h.r13.each 0
-    go false true c d f = h.r14.each 0
-    go false false true d f = stored-small s k h
-    go false false false true f = stored-small s k h
-    go false false false false true = h.high.each (k - 8)
-    go false false false false false = register-small s k h

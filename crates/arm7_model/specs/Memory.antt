@@ -17,11 +17,6 @@ pub record Board : Type 0 where
   pub device : ℕ → Bool
   pub read_only : ℕ → Bool
 
--- the read-only addresses lie in the memory, and no device meets it
-pub record IsBoard (b : Board) : Type 0 where
-  pub in_memory : (a : ℕ) → b.read_only a ≡ true → b.memory a ≡ true
-  pub apart : (a : ℕ) → b.device a ≡ true → b.memory a ≡ false
-
 -- each of the n addresses from a on is one of p, and one of them is
 abbrev pub all_from : (ℕ → Bool) → ℕ → ℕ → Bool
 all_from p a zero = true

@@ -73,12 +73,6 @@ goes_on core s before n core1 s1 after1 core2 s2 after2 rose turn.Chokes w h non
 goes_on core s before n core1 s1 after1 core2 s2 after2 rose (turn.Unpredictable a x) w h none = absurd (not_none _ none)
 goes_on core s before n core1 s1 after1 core2 s2 after2 rose (turn.NoFrame a) w h none = absurd (not_none _ none)
 
--- the run of as many steps as there may be
-pub all_made : (core : ArmState) (s : State) (before : Option (List ℕ)) (n most : ℕ) (core1 : ArmState) (s1 : State) (after1 : Option (List ℕ)) (rose : Type 0)
-    → IsUnderWay core s before n core1 s1 after1 → n ≡ most → RunsInto most core s stop.Budget most core1 s1 before after1 rose
-all_made core s before n most core1 s1 after1 rose w all =
-    (w.text, (record { count = n; core1 = core1; s1 = s1; leads = w.leads; ends = (all, sym all, refl, refl) }, w.got))
-
 -- a turn that ends the run
 told : (most : ℕ) (core : ArmState) (s : State) (before : Option (List ℕ)) (core2 : ArmState) (s2 : State) (after2 : Option (List ℕ)) (rose : Type 0) (x end : RunEnd)
     → Some x ≡ Some end → RunsInto most core s x.stop x.steps core2 s2 before after2 rose → RunsInto most core s end.stop end.steps core2 s2 before after2 rose

@@ -5,4 +5,3 @@ mod host;
 mod strings;
 
 pub use crate::host::{RunEnd, run_for};
-

@@ -23,17 +23,11 @@ use Rattle.arm7_transfers.proofs.StoreLemmas.{CanStore, Notes, stores-word, boar
 
 -- ---- the places of a list
 
-pub places_done : (k list : ℕ) → k ≡ 16 → places_from k (16 - k) list ≡ []
-places_done k list e = rw e refl
-
 one_more : (k : ℕ) → k < 16 → 16 - k ≡ suc (16 - (k + 1))
 one_more k lt = omega arith
 
 kept-one : (b k : ℕ) (ks : List ℕ) → b ≡ 1 → kept b k ks ≡ k ∷ ks
 kept-one b k ks e = rw e refl
-
-kept-none : (b k : ℕ) (ks : List ℕ) → b ≡ 0 → kept b k ks ≡ ks
-kept-none b k ks e = rw e refl
 
 next-place : (k n list : ℕ) → places_from (k + 1) n list ≡ places_from (suc k) n list
 next-place k n list = ap (λ (j : ℕ). places_from j n list) (omega arith)
@@ -43,18 +37,6 @@ places_here k list b lt e t =
     ap (λ (n : ℕ). places_from k n list) (one_more k lt)
     ∙ kept-one (bit list k) k (places_from (suc k) (16 - (k + 1)) list) (eqb-true (bit list k) 1 (sym e ∙ t))
     ∙ ap (λ (ks : List ℕ). k ∷ ks) (sym (next-place k (16 - (k + 1)) list))
-
-pub places_skip : (k list : ℕ) (b : Bool) → k < 16 → b ≡ lists list k → b ≡ false → places_from k (16 - k) list ≡ places_from (k + 1) (16 - (k + 1)) list
-places_skip k list b lt e t =
-    let no = eqb-false (bit list k) 1 (sym e ∙ t) in
-    ap (λ (n : ℕ). places_from k n list) (one_more k lt)
-    ∙ kept-none (bit list k) k (places_from (suc k) (16 - (k + 1)) list) (small (list / 2 ^ k) no)
-    ∙ sym (next-place k (16 - (k + 1)) list)
-  where
-    small : (x : ℕ) → (x % 2 ≡ 1 → ⊥) → x % 2 ≡ 0
-    small x h = omega arith
-
--- ---- truth values
 
 and-left : (x y : Bool) → (x && y) ≡ true → x ≡ true
 and-left true y e = refl
@@ -89,10 +71,6 @@ pub no-stores : (ks : List ℕ) (a : ℕ) (banks : List Bank) → stored_to bank
 no-stores [] a banks = refl
 no-stores (k ∷ ks) a banks = no-stores ks (next_word a) banks
 
-pub ready-loads : (ks : List ℕ) (a : ℕ) (s : State) → IsReady s → IsReady (served s (loads_of ks a))
-ready-loads [] a s r = r
-ready-loads (k ∷ ks) a s r = ready-loads ks (next_word a) (after_read s a Word) (ready-read s a Word r)
-
 pub take-served : (user : Bool) (ks : List ℕ) (a : ℕ) (core : ArmState) (s : State) (later : List ℕ) (before : List Access) → IsReady s → a % 4 ≡ 0
     → all_there (board_of s) ks a ≡ true
     → take_all (board_of s) user ks a (working core s (answers_to s (loads_of ks a) ++ later) before)
@@ -121,10 +99,6 @@ no-answers user core (k ∷ ks) a s = no-answers user core ks (next_word a) (aft
 pub stored-words : (user : Bool) (core : ArmState) (ks : List ℕ) (a : ℕ) (banks : List Bank) → stored_to banks (stores_of user core ks a) ≡ words_in banks ks a
 stored-words user core [] a banks = refl
 stored-words user core (k ∷ ks) a banks = ap (λ (l : List ℕ). cond (bank_has banks a 4) (a ∷ l) l) (stored-words user core ks (next_word a) banks)
-
-pub ready-stores : (user : Bool) (core : ArmState) (ks : List ℕ) (a : ℕ) (s : State) → IsReady s → IsReady (served s (stores_of user core ks a))
-ready-stores user core [] a s r = r
-ready-stores user core (k ∷ ks) a s r = ready-stores user core ks (next_word a) (after_write s a Word (listed_at user core k % 256 ^ 4)) (ready-write s a Word (listed_at user core k % 256 ^ 4) r)
 
 pub used-grows : (used : List Bool) (rest : List ℕ) → used_count used ≤ used_count (used_with used rest)
 used-grows used [] = omega arith

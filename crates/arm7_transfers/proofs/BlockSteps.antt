@@ -20,19 +20,12 @@ use Rattle.arm7_transfers.specs.Frames.{Fits, Misses, may_be_stored, least_unuse
 use Rattle.arm7_transfers.specs.Ready.{IsReady}
 use Rattle.arm7_transfers.specs.Served.{value_at, served}
 use Rattle.arm7_transfers.proofs.BoardLemmas.{there-whole, may-whole, false-true}
-use Rattle.arm7_transfers.proofs.BlockLemmas.{places_done, places_here, places_skip}
+use Rattle.arm7_transfers.proofs.BlockLemmas.{places_here}
 use Rattle.arm7_transfers.proofs.PageLemmas.{pages-needed}
 use Rattle.arm7_transfers.proofs.ReadyLemmas.{set-used}
 
 abbrev pub left_of : ℕ → ℕ → List ℕ
 left_of k list = places_from k (16 - k) list
-
--- ---- anything that goes along the list
-pub along_done : {A : Type 0} (f : List ℕ → A) (k list : ℕ) (x : A) → k ≡ 16 → x ≡ f [] → x ≡ f (left_of k list)
-along_done f k list x e h = h ∙ sym (ap f (places_done k list e))
-
-pub along_skip : {A : Type 0} (f : List ℕ → A) (k list : ℕ) (b : Bool) (x : A) → k < 16 → b ≡ lists list k → b ≡ false → x ≡ f (left_of (k + 1) list) → x ≡ f (left_of k list)
-along_skip f k list b x lt e t h = h ∙ sym (ap f (places_skip k list b lt e t))
 
 pub along_here : {A : Type 0} (f : List ℕ → A) (k list : ℕ) (b : Bool) (x : A) → k < 16 → b ≡ lists list k → b ≡ true → x ≡ f (k ∷ left_of (k + 1) list) → x ≡ f (left_of k list)
 along_here f k list b x lt e t h = h ∙ sym (ap f (places_here k list b lt e t))
@@ -52,74 +45,11 @@ pub may_rest : (s : State) (ks : List ℕ) (k a : ℕ) (may x : Bool) → IsRead
     → x ≡ all_may_store (board_of s) ks (next_word a) → x ≡ all_may_store (board_of s) (k ∷ ks) a
 may_rest s ks k a may x r h e t p = rw (may-whole s a Word r h ∙ sym e ∙ t) p
 
--- ---- loads
-pub taken_rest : (user : Bool) (ks : List ℕ) (k a v : ℕ) (core one core' : ArmState) (s t : State) → v ≡ value_at s a Word → one ≡ with_listed user core k v → t ≡ after_read s a Word
-    → core' ≡ taken user ks (next_word a) one t → core' ≡ taken user (k ∷ ks) a core s
-taken_rest user ks k a v core one core' s t e f g h =
-    h ∙ ap (λ (c : ArmState). taken user ks (next_word a) c t) (f ∙ ap (with_listed user core k) e) ∙ ap (λ (x : State). taken user ks (next_word a) (with_listed user core k (value_at s a Word)) x) g
-
-pub served_rest : (ks : List ℕ) (k a : ℕ) (s t s' : State) → t ≡ after_read s a Word → s' ≡ served t (loads_of ks (next_word a)) → s' ≡ served s (loads_of (k ∷ ks) a)
-served_rest ks k a s t s' e h = h ∙ ap (λ (x : State). served x (loads_of ks (next_word a))) e
-
 -- ---- stores
 pub gave_rest : (user : Bool) (core : ArmState) (ks : List ℕ) (k a v : ℕ) (s t s' : State) → v ≡ listed_at user core k → t ≡ after_write s a Word (v % 256 ^ 4)
     → s' ≡ served t (stores_of user core ks (next_word a)) → s' ≡ served s (stores_of user core (k ∷ ks) a)
 gave_rest user core ks k a v s t s' e f h =
     h ∙ ap (λ (x : State). served x (stores_of user core ks (next_word a))) (f ∙ ap (λ (x : ℕ). after_write s a Word (x % 256 ^ 4)) e)
-
-one-note : (c d : Contents) (f : Option BusFault) → length d.stores ≤ length c.stores + 1 → length (store_leaves f c d).stores ≤ length c.stores + 1
-one-note c d None h = h
-one-note c d (Some f) h = omega arith
-
-noted-more : (c : Contents) (a n : ℕ) → length (noted c a n).stores ≤ length c.stores + 1
-noted-more c a n = let e = length-append c.stores ((a, n) ∷ []) in omega (arith, e)
-
-stored-more : (c : Contents) (a : ℕ) (width : Width) (v : ℕ) → length (after_store c a width v).stores ≤ length c.stores + 1
-stored-more c a width v = let e = length-append c.stores ((a, bytes_in width) ∷ []) in omega (arith, e)
-
-pub stores_more : (s t : State) (a : ℕ) (width : Width) (v : ℕ) → t ≡ after_write s a width v → length t.contents.stores ≤ length s.contents.stores + 1
-stores_more s t a width v e = subst (λ (x : State). length x.contents.stores ≤ length s.contents.stores + 1) (sym e)
-    (go (bank_has s.contents.banks a (bytes_in width)) (is_some (device_at s.devices a (bytes_in width))))
-  where
-    go : (b d : Bool) → length (cond b (record s { contents = store_leaves (store_fault s.contents a (bytes_in width)) s.contents (after_store s.contents a width v) })
-        (cond d (record { contents = noted s.contents a (bytes_in width); devices = changed_at (seat_written a width v) a (bytes_in width) s.devices }) s)).contents.stores ≤ length s.contents.stores + 1
-    go true d = one-note s.contents (after_store s.contents a width v) (store_fault s.contents a (bytes_in width)) (stored-more s.contents a width v)
-    go false true = noted-more s.contents a (bytes_in width)
-    go false false = omega arith
-
--- ---- pages
-pub needed_here : (s : State) (ks : List ℕ) (k a x : ℕ) (last : Option ℕ) (new : Bool) → new ≡ (needs_page s a 4 && not (is_page_of last a)) → new ≡ true
-    → x ≡ pages_needed s ks (next_word a) (Some a) → 1 + x ≡ pages_needed s (k ∷ ks) a last
-needed_here s ks k a x last new e t h = rw (sym e ∙ t) (ap (λ (n : ℕ). 1 + n) h)
-
-pub needed_rest : (s : State) (ks : List ℕ) (k a x : ℕ) (last : Option ℕ) (new : Bool) → new ≡ (needs_page s a 4 && not (is_page_of last a)) → new ≡ false
-    → x ≡ pages_needed s ks (next_word a) last → x ≡ pages_needed s (k ∷ ks) a last
-needed_rest s ks k a x last new e t h = rw (sym e ∙ t) h
-
-pub least_here : (s : State) (ks : List ℕ) (k a x : ℕ) (rest : Option ℕ) (needs : Bool) → needs ≡ needs_page s a 4 → needs ≡ true
-    → rest ≡ least_unused s.contents.used (words_in s.contents.banks ks (next_word a)) → Some x ≡ lesser_of (Some a) rest
-    → Some x ≡ least_unused s.contents.used (words_in s.contents.banks (k ∷ ks) a)
-least_here s ks k a x rest needs e t h f = go (bank_has s.contents.banks a 4) refl (page_used_in s.contents.used a) refl
-  where
-    go : (b : Bool) → bank_has s.contents.banks a 4 ≡ b → (u : Bool) → page_used_in s.contents.used a ≡ u
-        → Some x ≡ least_unused s.contents.used (words_in s.contents.banks (k ∷ ks) a)
-    go false p u q = false-true (rw p at (sym e ∙ t))
-    go true p true q = false-true (rw (p, q) at (sym e ∙ t))
-    go true p false q = rw (p, q) (f ∙ ap (lesser_of (Some a)) h)
-
-pub least_rest : (s : State) (ks : List ℕ) (k a : ℕ) (rest : Option ℕ) (needs : Bool) → needs ≡ needs_page s a 4 → needs ≡ false
-    → rest ≡ least_unused s.contents.used (words_in s.contents.banks ks (next_word a))
-    → rest ≡ least_unused s.contents.used (words_in s.contents.banks (k ∷ ks) a)
-least_rest s ks k a rest needs e t h = go (bank_has s.contents.banks a 4) refl (page_used_in s.contents.used a) refl
-  where
-    true-false : {A : Type 0} → true ≡ false → A
-    true-false h = false-true (sym h)
-
-    go : (b : Bool) → bank_has s.contents.banks a 4 ≡ b → (u : Bool) → page_used_in s.contents.used a ≡ u
-        → rest ≡ least_unused s.contents.used (words_in s.contents.banks (k ∷ ks) a)
-    go false p u q = rw p h
-    go true p true q = rw (p, q) h
-    go true p false q = true-false (rw (p, q) at (sym e ∙ t))
 
 lesser-some : (a : ℕ) (o : Option ℕ) → lesser_of (Some a) o ≡ None → ⊥
 lesser-some a None e = cc

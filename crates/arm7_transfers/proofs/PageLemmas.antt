@@ -34,9 +34,6 @@ follows-next (Some l) a n (lt, (d, few, e)) = (lt, (d + 1, omega arith, omega ar
 follows-first : (a n : ℕ) → a < 2 ^ 32 → suc n ≤ 16 → Follows (Some a) (next_word a) n
 follows-first a n lt few = (lt, (1, omega arith, omega arith))
 
-few-left : (last : Option ℕ) (a n : ℕ) → Follows last a n → n ≤ 16 → n ≤ 16
-few-left last a n f h = h
-
 -- the pages that are used now are those at first and the page of the last word
 abbrev Agrees : List Bool → List Bool → Option ℕ → List ℕ → ℕ → Type 0
 Agrees first now last [] a = Unit {0}

@@ -129,10 +129,6 @@ one-frame s a width x r lt =
         let z = eqb-false (s.contents.frames - used_count s.contents.used) 0 g in
         rw (e, f, g, set-fresh s.contents.used (a / 4096) (page-within s a r lt) f) (le-true (used_count s.contents.used + 1) s.contents.frames (omega arith))
 
-not-not : (b : Bool) → not (not b) ≡ b
-not-not true = refl
-not-not false = refl
-
 -- a store that lacks no frame
 pub can-store : (s : State) (a n : ℕ) → has_whole s a n ≡ true → is_protected s.contents.banks a n ≡ false → lacks_frame s a n ≡ false → CanStore s a n
 can-store s a n h p l = record {

@@ -6,9 +6,9 @@ ghost use Rattle.arm7_model.specs.declared.event.Exception.TheVariants as except
 ghost use Rattle.arm7_model.specs.Outcomes.{entered};
 ghost use Rattle.arm7_transfers.specs.Ends.{event_of, registers_after};
 
+use crate::Outcome;
 use arm7_model::{ArmState, Event, Exception};
 use arm7_registers::{enter, register, set_register};
-use crate::Outcome;
 
 /// Takes the prefetch abort of the instruction at address `at`.
 pub fn prefetch_abort(state: &mut ArmState, at: u32) -> Event

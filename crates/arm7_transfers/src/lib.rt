@@ -10,12 +10,12 @@
 
 mod access;
 mod block;
+mod ends;
 mod outcome;
 mod single;
-mod ends;
 
 pub use crate::access::{is_there, lacks_frame, may_store, read, write};
 pub use crate::block::{Block, block_moved};
+pub use crate::ends::{finish, prefetch_abort};
 pub use crate::outcome::Outcome;
 pub use crate::single::{Base, loaded, stored, swapped, transferred};
-pub use crate::ends::{finish, prefetch_abort};

@@ -16,19 +16,6 @@ use Rattle.asm_reading.specs.Reading.{IsReading}
 use Rattle.armasm_core.specs.Assembling.{most_bytes, Says, Assembles}
 use Rattle.armasm_core.specs.Passes.{Makes}
 
--- lines are split without reading anything more
-never_read : (source text name : List ℕ) → split source text ≡ Err (fault.ReadFault name) → ⊥
-never_read source text name h = by_first (first_beyond 1 (lines text)) refl
-  where
-    by_first : (o : Option ℕ) → first_beyond 1 (lines text) ≡ o → ⊥
-    by_first None e = let bad : ◌≡◌ {A = Result (List Line) Fault} (Ok (numbered source 1 (lines text))) (Err (fault.ReadFault name)) = rw e at h in absurd (cc)
-    by_first (Some n) e = let bad : ◌≡◌ {A = Result (List Line) Fault} (Err (fault.Refused (BadLine source n TooMany))) (Err (fault.ReadFault name)) = rw e at h in absurd (cc)
-
-pub not_split : (source text : List ℕ) (f : Fault) → length text ≤ most_bytes → GivesFault (split source text) f → Assembles source text (Err f)
-not_split source text (fault.Refused r) short h = inr (short, inl h)
-not_split source text (fault.ReadFault name) short h = never_read source text name h
-not_split source text fault.NoMemory short h = tt
-
 pub assembled : (source text : List ℕ) (ls : List Line) (flats : List Flat) (r : Reading) (x : Result Object Fault) → length text ≤ most_bytes → split source text ≡ Ok ls
     → flats ≡ map flat_of ls → IsReading flats r → Makes source r x → Assembles source text x
 assembled source text ls flats r x short parts same reading made = by_result x made

@@ -180,17 +180,6 @@ pub record PutUpTo (names : List (List ℕ)) (at : ℕ) (us : List Emitted) (old
   pub stand : AllCanStand names (length now.bytes.items) (units_from next left)
   pub draft : (pieces : List Piece) → IsDraft names pieces old → MeetNone pieces (units_from at us) → IsDraft names (pieces ++ units_from at done) now
 
-pub put_none : (names : List (List ℕ)) (at : ℕ) (us : List Emitted) (d : Draft) → AllCanStand names (length d.bytes.items) (units_from at us)
-    → PutUpTo names at us d at us d
-put_none names at us d stand = record {
-  done = [];
-  parts = refl;
-  here = omega arith;
-  size = refl;
-  stand = stand;
-  draft = λ pieces is none. subst (λ (ps : List Piece). IsDraft names ps d) (sym (append-nil pieces)) is;
-}
-
 pub put_next : (names : List (List ℕ)) (at : ℕ) (us : List Emitted) (old : Draft) (next : ℕ) (u : Emitted) (left : List Emitted) (now : Draft) (later : ℕ) (more : Draft)
     → PutUpTo names at us old next (u ∷ left) now → length more.bytes.items ≡ length now.bytes.items → later ≡ next + length (unit_bytes u)
     → ((pieces : List Piece) → IsDraft names pieces now → MeetsNone pieces (next, u) → IsDraft names (pieces ++ (next, u) ∷ []) more)
@@ -215,14 +204,6 @@ put_next names at us old next u left now later more h size step put = record {
         subst (λ (n : ℕ). MeetsNone (pieces ++ units_from at h.done) (n, u)) (sym h.here)
         (next_meets_none pieces at h.done u left (subst (λ (vs : List Emitted). MeetNone pieces (units_from at vs)) h.parts none))
 
--- all stand there where none is left
-pub put_all : (names : List (List ℕ)) (at : ℕ) (us : List Emitted) (old : Draft) (next : ℕ) (now : Draft) → PutUpTo names at us old next [] now
-    → (pieces : List Piece) → IsDraft names pieces old → MeetNone pieces (units_from at us) → IsDraft names (pieces ++ units_from at us) now
-put_all names at us old next now h pieces is none =
-    subst (λ (vs : List Emitted). IsDraft names (pieces ++ units_from at vs) now) (sym (h.parts ∙ append-nil h.done)) (h.draft pieces is none)
-
--- ---- the things that are left in a slice
-
 rest_of_all : {A : Type 0} (xs : List A) (n : ℕ) → length xs ≡ n → take n xs ≡ xs
 rest_of_all xs n e = take_all n xs (omega (arith, e))
 
@@ -230,11 +211,6 @@ pub first_and_rest : {A : Type 0} (xs : List A) (x : A) → 1 ≤ length xs → 
 first_and_rest [] x some e = absurd (omega arith)
 first_and_rest (y ∷ xs) x some e =
     ap (λ z. z ∷ xs) (sym e) ∙ ap (λ zs. x ∷ zs) (sym (rest_of_all xs (length (y ∷ xs) - 1) (omega arith)))
-
-pub stand_first : {C : Type 0} (emitted : C → Emitted) (names : List (List ℕ)) (room next : ℕ) (xs : List C) (x : C) → 1 ≤ length xs → x ≡ get_or xs 0 x
-    → AllCanStand names room (units_from next (map emitted xs)) → CanStand names room (next, emitted x)
-stand_first {C} emitted names room next xs x some e h =
-    (subst (λ (ys : List C). AllCanStand names room (units_from next (map emitted ys))) (first_and_rest xs x some e) h).0
 
 pub put_first : {C : Type 0} (emitted : C → Emitted) (names : List (List ℕ)) (at : ℕ) (us : List Emitted) (old : Draft) (next : ℕ) (xs : List C) (x : C) (now : Draft) (later : ℕ) (more : Draft)
     → 1 ≤ length xs → x ≡ get_or xs 0 x → PutUpTo names at us old next (map emitted xs) now → length more.bytes.items ≡ length now.bytes.items

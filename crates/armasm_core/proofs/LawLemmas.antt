@@ -21,9 +21,6 @@ use Rattle.armasm_core.specs.Assembling.{most_bytes, Says, has_area, told, line_
 
 -- ---- two readings of a source
 
-Same : Reading → Reading → Type 0
-Same a b = (a.statements.items ≡ b.statements.items) × (a.unread ≡ b.unread) × (a.before ≡ b.before)
-
 same_lines : (name text : List ℕ) (a b : List Line) → split name text ≡ Ok a → split name text ≡ Ok b → a ≡ b
 same_lines name text a b h k = let is : ◌≡◌ {A = Result (List Line) Fault} (Ok a) (Ok b) = sym h ∙ k in cc
 

@@ -39,12 +39,6 @@ use Rattle.armasm_core.proofs.ShowLemmas.{given_there}
 
 -- ---- the word of a literal
 
-pub no_piece : (c : Context) (names : List (List ℕ)) (e : Extent) (word : Option ℕ) → literal_in e ≡ None → literal_piece c names e word ≡ []
-no_piece c names (Loading n v) word h = absurd (cc)
-no_piece c names (Block a n) word h = refl
-no_piece c names (Padding m n) word h = refl
-no_piece c names Pool word h = refl
-
 pub one_piece : (c : Context) (names : List (List ℕ)) (e : Extent) (word : Option ℕ) (v : Value) → literal_in e ≡ Some v
     → literal_piece c names e word ≡ literal_unit word (stored c names (literal_value (sees c) v))
 one_piece c names (Loading n u) word v h =

@@ -38,15 +38,6 @@ gains_both old new names other more e h = subst (λ (ns : List (List ℕ)). Gain
 
 -- ---- both parts at once
 
-gains_two : (old mid new : BTreeSet (List ℕ)) (names more : List (List ℕ)) → Gains old mid names → Gains mid new more → Gains old new (names ++ more)
-gains_two old mid new names more h k = λ q. k q ∙ rw (h q, list_any-append (same q) names more) (assoc (has_symbol old q) (list_any (same q) names) (list_any (same q) more))
-  where
-    assoc : (a b c : Bool) → (a || b) || c ≡ a || (b || c)
-    assoc true b c = refl
-    assoc false b c = refl
-
--- ---- statements
-
 -- the sets of statements of which these are left
 pub record IsBetween (laid left : List LaidStatement) (x : Sets) : Type 0 where
   pub before : List Statement
@@ -93,13 +84,6 @@ between_next laid left x old new h some at k =
 pub said_first : (left : List LaidStatement) (x : LaidStatement) → AllLaidSaid left → 1 ≤ length left → x ≡ get_or left 0 x
     → AllLaidSaid (x ∷ take (length left - 1) (drop 1 left))
 said_first left x h some at = subst AllLaidSaid (rest_of left x some at) h
-
-pub between_all : (laid left : List LaidStatement) (x : Sets) → IsBetween laid left x → length left < 1 → AreSets (said_in laid) x
-between_all laid left x h less =
-    subst (λ (ss : List Statement). AreSets ss x)
-    (ap (λ (xs : List LaidStatement). reversed (map (λ (y : LaidStatement). y.statement) xs) h.before) (sym (nothing left less)) ∙ h.whole) h.sets
-
--- ---- the statements of a layout are those of its lines
 
 said_with : (all : List LaidLine) (laid : List LaidStatement) (after : List Statement) → AreStatements all laid
     → reversed (map (λ (y : LaidStatement). y.statement) laid) after ≡ statements_of all ++ after

@@ -9,10 +9,10 @@ ghost use Rattle.armasm_core.specs.Assembling as assembling;
 ghost use Rattle.armasm_core.specs.Passes.{Makes};
 ghost use Rattle.armasm_core.specs.Standing.{StandsWherePlaced};
 
+use crate::emit;
 use crate::laws::{objects_of_sources_are_valid, objects_of_sources_stand};
 use crate::reading::laid_out;
 use aof_object::Object;
-use crate::emit;
 use asm_lines::split_lines;
 use asm_reading::laws::readings_are_fit;
 use asm_reading::{Reading, flats_of, read_lines};

@@ -14,9 +14,9 @@ ghost use Rattle.armasm_core.specs.Whole.{IsHere, ShowsLine};
 
 use crate::literals::{literal_of, word_of};
 use crate::whole::Whole;
-use asm_names::PlacedLine;
 use asm_instructions::Scene;
 use asm_model::{LaidName, Value};
+use asm_names::PlacedLine;
 use asm_offsets::{extents_are_placeable, literals_are_placed};
 use asm_pool::{LaidArea, LaidStatement, pool_law};
 use asm_units::Beside;

@@ -11,12 +11,10 @@ ghost use Rattle.source_model.specs.Units as model;
 ghost use Rattle.armasm_core.specs.Drafting as drafting;
 ghost use Rattle.armasm_core.specs.Drafting.{AreDrafts, IsFinished, LineCanStand, MeetNoneThere, frame, frame_of, frames, pieces_put, with_line};
 
+use crate::{Draft, LiteralWord};
 use aof_object::Area;
-use crate::Draft;
-use crate::LiteralWord;
 use asm_pool::{LaidArea, LaidStatement};
-use asm_units::Symbols;
-use asm_units::{Emitted, Stored};
+use asm_units::{Emitted, Stored, Symbols};
 use sdt_fault::{List, NoMemory, Text};
 use std::alloc::Global;
 

@@ -18,10 +18,10 @@ ghost use Rattle.armasm_core.specs.Whole.{IsHere, IsJudged};
 
 use crate::beside::{beside_of, loaded_of};
 use crate::whole::Whole;
-use asm_names::references_of;
 use asm_instructions::{Scene, number_in};
 use asm_layout::lines::line_of;
 use asm_model::{DirectiveLine, RnOperand, Value, What};
+use asm_names::references_of;
 use asm_pool::{LaidArea, LaidStatement};
 use asm_units::{Beside, value_kind};
 use sdt_fault::kinds::LineKind;

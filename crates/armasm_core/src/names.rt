@@ -3,9 +3,9 @@
 ghost use Rattle.std.specs.Prelude.{◌≡◌, map, IfOk};
 
 use asm_model::LaidName;
-use asm_pool::LaidArea;
 use asm_names::KnownNames;
 use asm_names::copies::entry_copy;
+use asm_pool::LaidArea;
 use sdt_fault::NoMemory;
 use std::alloc::Global;
 

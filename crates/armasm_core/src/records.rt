@@ -12,8 +12,8 @@ ghost use Rattle.asm_units.specs.Recording.{Shows};
 ghost use Rattle.armasm_core.specs.Gathering.{IsGathered};
 
 use crate::facts::{Gathered, facts_of};
-use aof_object::Symbol;
 use crate::whole::Whole;
+use aof_object::Symbol;
 use asm_units::{Facts, Symbols, record_of};
 use sdt_fault::{List, NoMemory, Text};
 use std::alloc::Global;

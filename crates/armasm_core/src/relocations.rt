@@ -11,8 +11,7 @@ ghost use Rattle.armasm_core.specs.Relocations.{noted, relocs_listed};
 ghost use Rattle.armasm_core.specs.Writing.{HasNumber, IsListed, SymbolHasNumber, TargetHasNumber};
 
 use aof_object::Reloc;
-use asm_units::Symbols;
-use asm_units::{Emitted, Target};
+use asm_units::{Emitted, Symbols, Target};
 use sdt_fault::{NoMemory, Text};
 use std::alloc::Global;
 use std::collections::BTreeMap;

@@ -13,8 +13,8 @@ ghost use Rattle.armasm_core.specs.Gathered.{AllLaidSaid, Gains, GainsAll, AreSe
 
 use asm_laying::defining::{Defines, defined_by};
 use asm_model::{DirectiveLine, Statement, What};
-use asm_pool::LaidStatement;
 use asm_names::made::imported_name;
+use asm_pool::LaidStatement;
 use sdt_fault::{NoMemory, Text};
 use std::alloc::Global;
 use std::collections::BTreeSet;

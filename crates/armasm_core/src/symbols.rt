@@ -12,10 +12,10 @@ ghost use Rattle.armasm_core.specs.Gathered.{AllLaidSaid};
 ghost use Rattle.armasm_core.specs.Whole.{IsWhole};
 ghost use Rattle.armasm_core.specs.Listing.{StandsThere, needed_by};
 
-use asm_names::references_of;
 use crate::literals::literal_of;
 use crate::whole::Whole;
 use asm_layout::lines::line_of;
+use asm_names::references_of;
 use asm_pool::{LaidArea, LaidStatement, Layout, pool_law};
 use asm_units::{Symbols, add_line};
 use sdt_fault::NoMemory;

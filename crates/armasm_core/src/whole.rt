@@ -9,9 +9,8 @@ ghost use Rattle.armasm_core.specs.Whole.{IsWhole};
 use crate::locals::locals_of;
 use crate::names::{names_of, sizes_of};
 use crate::sets::{Sets, sets_of};
-use asm_names::Locals;
+use asm_names::{KnownNames, Locals};
 use asm_pool::Layout;
-use asm_names::KnownNames;
 use sdt_fault::NoMemory;
 use std::alloc::Global;
 

@@ -72,10 +72,6 @@ entry_is all before rest l w x pools starts area h i at =
 
 -- ---- a literal
 
--- the fault of a literal of so many places, where it has an entry
-far : Option ℕ → List LineKind
-far o = kind_if (ends_far o) TooMany
-
 pub literal_is : LiteralsArePlaced → (all before rest : List LaidLine) (l : LaidLine) (w : What) (x : Stand) (pools : List LaidPools) (starts : List AreaStart) (area : ℕ)
     → AreWhole all pools starts → IsStand all before rest l w x → x.area ≡ Some area
     → literal_kinds l.area (taken l.extent) (pieces_of (l ∷ before)) (pieces_of rest) ≡ kind_if (is_far pools area x.literal) TooMany

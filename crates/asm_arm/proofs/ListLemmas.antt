@@ -10,10 +10,6 @@ use Rattle.asm_expr.specs.Steps.{CutsOperands}
 use Rattle.asm_expr.proofs.ReadingLemmas.{earlier_assoc}
 use Rattle.asm_arm.specs.Lists.{item, items}
 
-pub nothing_before : (b : Result (List ListItem) LineKind) → on_both (λ es fs. es ++ fs) (Ok []) b ≡ b
-nothing_before (Ok es) = refl
-nothing_before (Err k) = refl
-
 nothing_behind : (s : Result (List ListItem) LineKind) (e : Result ListItem LineKind)
     → on_both (λ es fs. es ++ fs) s (on_both (λ x xs. x ∷ xs) e (Ok [])) ≡ on_both (λ es x. es ++ x ∷ []) s e
 nothing_behind (Ok es) (Ok e) = refl

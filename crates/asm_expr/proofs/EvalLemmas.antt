@@ -28,10 +28,6 @@ found_at list name i x b h is test yes_ rest =
     let cut : drop i list ≡ x ∷ drop (suc i) list = drop-cons list i x h ∙ ap (λ (y : LaidName). y ∷ drop (suc i) list) (sym is) in
     slice_get-get_or list i x h ∙ ap Some (sym is) ∙ sym (cond-true (same x.name name) (Some x) (named_in name (drop (suc i) list)) (sym test ∙ yes_)) ∙ sym (ap (named_in name) cut) ∙ rest
 
--- an operand more on the stack
-pub operands-push : (list : List LaidName) (slots : List Slot) (slot : Slot) → operands_in list (slots ++ slot ∷ []) ≡ operand_in list slot ∷ operands_in list slots
-operands-push list slots slot = ap reverse (map-append (operand_in list) slots (slot ∷ [])) ∙ reverse-append (map (operand_in list) slots) (operand_in list slot ∷ [])
-
 -- an operand is put on the stack
 kept : (j i : ExprItem) → plain j ≡ Some i → plain i ≡ Some i
 kept (item.Name n) i e = let x : item.Name n ≡ i = cc in rw (← x) refl
@@ -81,14 +77,6 @@ run_tree names l ps t (tighter k qs u d) rest s = run_tree names k ps t d rest s
 pub run_expression : (names : Names) (ps : List Part) (t : Tree) → IsSpelled ps t → ended (run names (postfix t) []) ≡ meaning names t
 run_expression names ps t d =
     ap (λ (x : List ExprItem). ended (run names x [])) (sym (append-nil (postfix t))) ∙ ap ended (run_tree names 6 ps t d [] [])
-
--- the operand on the top is taken off
-pub operands-pop : (list : List LaidName) (old new : List Slot) (o : Option Slot) (x : Slot) → old ≡ new ++ option_to_list o → o ≡ Some x → operands_in list old ≡ operand_in list x ∷ operands_in list new
-operands-pop list old new o x e s = ap (operands_in list) (let whole : old ≡ new ++ x ∷ [] = rw s at e in whole) ∙ operands-push list new x
-
-pub operands-none : (list : List LaidName) (old new : List Slot) (o : Option Slot) → old ≡ new ++ option_to_list o → o ≡ None → length old ≡ 0 → operands_in list old ≡ []
-operands-none list [] new o e s z = refl
-operands-none list (x ∷ xs) new o e s z = absurd (omega arith)
 
 -- what the stack leaves is the meaning of the expression
 pub evaluated : (names : Names) (list : List LaidName) (items seen : List ExprItem) (stack : List Slot) (r : Result Value LineKind)

@@ -41,23 +41,6 @@ comma_step text all d e i z w b h word test no_ deep inv =
     ∙ ap (lengthened (take i all)) (cond-false (d == 0 && same (piece text t) (codes ",")) _ _ kept)
     ∙ grows (take i all) t (operands_at text (depth_behind d (piece text t)) (drop (suc i) all)))
 
-pub comma_found : (text : List ℕ) (all : List Token) (d i : ℕ) (z : Token) (w : List ℕ) (b : Bool) → i < length all → w ≡ piece text (get_or all i z)
-    → b ≡ (d == 0 && same w (codes ",")) → b ≡ true → operands_at text 0 all ≡ lengthened (take i all) (operands_at text d (drop i all))
-    → operands_at text 0 all ≡ take i all ∷ operands_at text 0 (drop (i + 1) all)
-comma_found text all d i z w b h word test yes_ inv =
-    let t = get_or all i z in
-    let cut : drop i all ≡ t ∷ drop (suc i) all = drop-cons all i z h in
-    let kept : (d == 0 && same (piece text t) (codes ",")) ≡ true = rw word at (sym test ∙ yes_) in
-    rw add-one
-    (inv ∙ ap (λ x. lengthened (take i all) (operands_at text d x)) cut
-    ∙ ap (lengthened (take i all)) (cond-true (d == 0 && same (piece text t) (codes ",")) _ _ kept)
-    ∙ ap (λ (x : List Token). x ∷ operands_at text 0 (drop (suc i) all)) (append-nil (take i all)))
-
-pub no_comma : (text : List ℕ) (all : List Token) (d i : ℕ) → length all ≤ i → i ≤ length all → operands_at text 0 all ≡ lengthened (take i all) (operands_at text d (drop i all))
-    → operands_at text 0 all ≡ all ∷ []
-no_comma text all d i h l inv =
-    inv ∙ ap (λ x. lengthened (take i all) (operands_at text d x)) (drop_all i all h) ∙ ap (λ (x : List Token). x ∷ []) (append-nil (take i all) ∙ take_all i all h)
-
 pub one_deeper : (d : ℕ) (w : List ℕ) → depth_behind d w ≤ d + 1
 unfolding depth_behind
 one_deeper d w = by_tests (opens w) (closes w)

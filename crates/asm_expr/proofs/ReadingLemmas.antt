@@ -40,11 +40,6 @@ earlier_assoc a b c = by_tests (nat_lt (rank b) (rank a)) (nat_lt (rank c) (rank
     by_tests false false p q =
         ap (earlier a) (stays b c q) ∙ stays a b p ∙ sym (stays a c (above_trans (rank a) (rank b) (rank c) p q)) ∙ ap (λ x. earlier x c) (sym (stays a b p))
 
--- expressions
-pub nothing_before : (b : Result (List Expr) LineKind) → on_both (λ es fs. es ++ fs) (Ok []) b ≡ b
-nothing_before (Ok es) = refl
-nothing_before (Err k) = refl
-
 nothing_behind : (s : Result (List Expr) LineKind) (e : Result Expr LineKind) → on_both (λ es fs. es ++ fs) s (on_both (λ x xs. x ∷ xs) e (Ok [])) ≡ on_both (λ es x. es ++ x ∷ []) s e
 nothing_behind (Ok es) (Ok e) = refl
 nothing_behind (Ok es) (Err k) = refl
@@ -89,11 +84,6 @@ pub past_two : (text : List ℕ) (os : List (List Token)) (o p ts : List Token) 
 past_two text os o p ts e =
     let more = some_operand [] (operands_at text 0 ts) in
     rw (e, begins text 0 ts, more.2) refl
-
--- attributes
-pub no_number : (b : Result (Option Expr) LineKind) → either (Ok None) b ≡ b
-no_number (Ok e) = refl
-no_number (Err k) = refl
 
 no_number_behind : (a : Result (Option Expr) LineKind) → either a (Ok None) ≡ a
 no_number_behind (Ok None) = refl

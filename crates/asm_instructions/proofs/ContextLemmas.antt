@@ -79,10 +79,6 @@ pub joined_nothing : {A : Type 0} → (xs : List A) → xs ++ [] ≡ xs
 joined_nothing [] = refl
 joined_nothing (x ∷ xs) = ap (λ z. x ∷ z) (joined_nothing xs)
 
--- with no own name between, and no later references
-pub entry_listed : (names references : List LaidName) → (names ++ [] ++ references) ≡ (names ++ references ++ [])
-entry_listed names references = ap (λ z. z ++ references) (joined_nothing names) ∙ sym (joined_nothing (names ++ references))
-
 pub line_seen : (l : PlacedLine) (references : List LaidName) → Sees l references (line_of l references)
 line_seen l references = record { area = refl; offset = refl; map = refl; thumb = refl; found = λ q. ap (named_in q) (sym (joined_nothing references)) }
 

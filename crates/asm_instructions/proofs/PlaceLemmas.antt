@@ -75,6 +75,3 @@ pair_found number k l low h there =
     ∙ ap (λ b. cond b (lowest_among (evens (suc k) (16 - suc k)) number) (2 * k)) (ne_eqb (number / 2 ^ (2 * k) % 4) 0 h))
 
 -- ---- eight bits from a place on
-
-pub part_below : (number power : ℕ) → number / power % 256 * power ≤ number
-part_below number power = omega (arith, mul-le-mul_right power (mod-le (number / power) 256), div-mul-le_self number power)

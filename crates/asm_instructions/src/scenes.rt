@@ -8,10 +8,9 @@ ghost use Rattle.asm_model.specs.Meaning as meaning;
 ghost use Rattle.source_model.specs.Contexts as contexts;
 ghost use Rattle.asm_instructions.specs.Scenes.{context_of, register_at};
 
-use asm_names::PlacedLine;
 use asm_model::{LaidName, Register};
 use asm_names::places::known_named;
-use asm_names::{KnownNames, Place};
+use asm_names::{KnownNames, Place, PlacedLine};
 use sdt_fault::Text;
 use std::collections::{BTreeMap, BTreeSet};
 

@@ -11,8 +11,8 @@ ghost use Rattle.source_model.specs.Contexts.{Context};
 ghost use Rattle.asm_instructions.specs.Scenes.{Shows, context_of};
 
 use crate::scenes::{Scene, stands_at};
-use asm_names::final_value;
 use asm_model::{EvalFault, Expr, Value};
+use asm_names::final_value;
 use sdt_fault::NoMemory;
 use sdt_fault::kinds::LineKind;
 use std::alloc::Global;

@@ -33,9 +33,6 @@ pub label_is_the : (rest : List ℕ) (o : Option (TokenKind × ℕ)) → IsTheTo
 label_is_the rest None h = h
 label_is_the rest (Some t) h = h
 
-pub no_operation : (rest : List ℕ) (b : Bool) → b ≡ is_operation_sign rest → b ≡ false → is_operation_sign rest ≡ false
-no_operation rest b e f = sym e ∙ f
-
 -- a scan at a place: what it has so far, and what the rest of the line has, is what the line has
 pub record IsScan (text : List ℕ) (list : List Token) (due : Due) (place : ℕ) : Type 0 where
   pub found : (ts : List Token) → TokensFrom ts due place (drop place text) → Tokens text (list ++ ts)

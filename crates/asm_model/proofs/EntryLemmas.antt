@@ -17,25 +17,6 @@ equal_names_have_symbols list here c cs (Number n) = tt
 equal_names_have_symbols list here c cs (Truth b) = tt
 equal_names_have_symbols list here c cs (Words w) = tt
 
-pub turned : (b n : ℕ) → (b + n + 0) % 2 ^ 32 ≡ (b + 0 + n) % 2 ^ 32
-turned b n = omega arith
-
-pub equal_names_stay : (p : Placing) (names : Names) (here : ℕ) (other : Option ℕ) (c : ℕ) (cs : List ℕ) (v : Value)
-    → names.area ≡ Some here
-    → named_in (c ∷ cs) names.list ≡ Some (equal_entry names.list names.area (c ∷ cs) v)
-    → placed_value p (seen_from names other) (equal_entry names.list names.area (c ∷ cs) v).value ≡ placed_value p names v
-equal_names_stay p names here other c cs (Place [] n) area found =
-    ap (λ o. Number ((address_at p (c ∷ cs) (entry_stands_at o) + 0) % 2 ^ 32)) found
-    ∙ ap (λ a. Number ((address_at p (c ∷ cs) (in_area a n) + 0) % 2 ^ 32)) area
-    ∙ ap (λ k. Number k) (turned (p.base here) n)
-    ∙ ap (λ a. Number ((address_at p [] (in_area a 0) + n) % 2 ^ 32)) (sym area)
-equal_names_stay p names here other c cs (Place (d ∷ ds) n) area found = refl
-equal_names_stay p names here other c cs (Number n) area found = refl
-equal_names_stay p names here other c cs (Truth b) area found = refl
-equal_names_stay p names here other c cs (Words w) area found = refl
-
--- ---- what a line sees
-
 pub symbol_of_area : (here area : Option ℕ) (v : Value) → HasSymbol v → IsOfArea here area v
 symbol_of_area here area (Place [] n) h = absurd h
 symbol_of_area here area (Place (c ∷ cs) n) h = tt

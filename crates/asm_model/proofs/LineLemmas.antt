@@ -13,7 +13,7 @@ use Rattle.asm_model.specs.declared.exprs.BinaryOp.TheVariants.{Subtract}
 use Rattle.asm_model.specs.declared.values.Value.{Value}
 use Rattle.asm_model.specs.declared.values.Value.TheVariants.{Number, Truth, Words, Place}
 use Rattle.asm_model.specs.declared.names.LaidName.{LaidName}
-use Rattle.asm_model.specs.AtLine.{Definition, Nameless, Named, Equated, SourceLine, with_names, own_names, known_names, all_names, sight, asked_kinds, name_kinds, unless_told, value_at, made_name, added_names, seen_behind, known_value, HoldsEach, HoldsValue, Holds, AllHold}
+use Rattle.asm_model.specs.AtLine.{Definition, Nameless, Named, Equated, SourceLine, with_names, own_names, known_names, all_names, sight, asked_kinds, name_kinds, unless_told, value_at, made_name, added_names, seen_behind, known_value, HoldsEach}
 use Rattle.asm_model.specs.Forms.{same}
 use Rattle.asm_model.specs.Grammar.{Tree, Leaf, Before, Between}
 use Rattle.asm_model.specs.Kinds.{told_kind}
@@ -202,43 +202,3 @@ tree_more l xs us ys more (Between op t u) v none h =
 pub told_nothing : (ks : List LineKind) (r : Result Value LineKind) (v : Value) → unless_told (told_kind ks) r ≡ Ok v → (ks ≡ []) × (r ≡ Ok v)
 told_nothing [] r v h = (refl, h)
 told_nothing (k ∷ ks) r v h = absurd (cc)
-
--- what a line knows has its entries among all names
-pub among_all : (all : List LaidName) (l : SourceLine) (ns : List LaidName) → HoldsEach all ns → HoldsEach (all_names all l) ns
-among_all all l ns h = each_more (all ++ l.back) l.forth ns (each_more all l.back ns h)
-
-pub known_has : (all seen : List LaidName) (l : SourceLine) → HoldsEach all seen → Holds all l → Has (known_names seen l) (all_names all l)
-known_has all seen l h k =
-    let own = each_append (all_names all l) seen (own_names l.definition) (among_all all l seen h) (among_all all l (own_names l.definition) k.own) in
-    each_has (all_names all l) (known_names seen l) (each_append (all_names all l) (seen ++ own_names l.definition) l.back own k.back)
-
-pub value_stays : (all seen : List LaidName) (l : SourceLine) → HoldsEach all seen → Holds all l → (t : Tree) (v : Value)
-    → value_at (sight all seen l) t ≡ Ok v → meaning (with_names l (all_names all l)) t ≡ Ok v
-value_stays all seen l h k t v e =
-    let parts = told_nothing (name_kinds (sight all seen l) t) (meaning (with_names l (known_names seen l)) t) v e in
-    tree_more l (known_names seen l) (own_names l.definition) (all_names all l) (known_has all seen l h k) t v parts.0 parts.1
-
--- what a line adds
-pub made_holds : (all : List LaidName) (l : SourceLine) (make : Value → LaidName) (t : Tree) (r : Result Value LineKind)
-    → ((v : Value) → r ≡ Ok v → meaning (with_names l (all_names all l)) t ≡ Ok v) → HoldsValue all l (Equated make t)
-    → HoldsEach all (made_name make r)
-made_holds all l make t (Ok v) stays holds = (holds v (stays v refl), tt)
-made_holds all l make t (Err k) stays holds = tt
-
-pub added_holds : (all seen : List LaidName) (l : SourceLine) → HoldsEach all seen → Holds all l → (d : Definition)
-    → HoldsEach all (own_names d) → HoldsValue all l d → HoldsEach all (added_names (sight all seen l) d)
-added_holds all seen l h k Nameless own value = tt
-added_holds all seen l h k (Named n) own value = own
-added_holds all seen l h k (Equated make t) own value =
-    made_holds all l make t (value_at (sight all seen l) t) (value_stays all seen l h k t) value
-
-pub seen_holds : (all : List LaidName) (before : List SourceLine) → AllHold all before → HoldsEach all (seen_behind all before)
-seen_holds all [] h = tt
-seen_holds all (l ∷ ls) h =
-    let seen = seen_holds all ls h.1 in
-    each_append all (seen_behind all ls) (added_names (sight all (seen_behind all ls) l) l.definition) seen
-    (added_holds all (seen_behind all ls) l seen h.0 l.definition h.0.own h.0.value)
-
-pub known_values_stay : (all : List LaidName) (before : List SourceLine) (l : SourceLine) (t : Tree) (v : Value)
-    → AllHold all before → Holds all l → known_value all before l t ≡ Ok v → meaning (with_names l (all_names all l)) t ≡ Ok v
-known_values_stay all before l t v h k e = value_stays all (seen_behind all before) l (seen_holds all before h) k t v e

@@ -104,16 +104,6 @@ pub end_here : (area : ℕ) (before : List Piece) (s : Piece) → s.area ≡ Som
 end_here area before s e =
     sym (ap (λ b. cond b (end_from (end_behind area before) (waiting area before) s.extent) (end_behind area before)) (is_here area s.area e))
 
-pub statements_follow : (area : ℕ) (later before : List Piece) (s : Piece) (e : Extent) → s.area ≡ Some area
-    → start_in area before s.extent + size_of (waiting area before) (start_in area before s.extent) s.extent ≤ start_in area (later ++ s ∷ before) e
-statements_follow area later before s e here =
-    subst (λ z. z ≤ start_in area (later ++ s ∷ before) e) (sym (end_here area before s here))
-    (through (end_behind area (s ∷ before)) (end_behind area (later ++ s ∷ before)) (start_in area (later ++ s ∷ before) e)
-    (all_rise area later (s ∷ before))
-    (more (end_behind area (later ++ s ∷ before)) (lacking (end_behind area (later ++ s ∷ before)) (alignment_of (waiting area (later ++ s ∷ before)) e) 0)))
-
--- ---- literals
-
 abbrev Waits : Value → List Value → Type 0
 Waits v ws = list_any (same_literal v) ws ≡ true
 

@@ -179,26 +179,3 @@ literal_at s t = literal_or (value_at s t) (value_at s (kept_names s t))
 abbrev pub HoldsEach : List LaidName → List LaidName → Type 0
 HoldsEach list [] = Unit {0}
 HoldsEach list (n ∷ ns) = (named_in n.name list ≡ Some n) × HoldsEach list ns
-
--- the entry of an expression's name is the one that its value makes
-abbrev pub HoldsValue : List LaidName → SourceLine → Definition → Type 0
-HoldsValue all l Nameless = Unit {0}
-HoldsValue all l (Named n) = Unit {0}
-HoldsValue all l (Equated make t) =
-    (v : Value) → meaning (with_names l (all_names all l)) t ≡ Ok v → named_in (make v).name all ≡ Some (make v)
-
--- these are all names of a source that has the line: each name is defined once
-pub record Holds (all : List LaidName) (l : SourceLine) : Type 0 where
-  pub own : HoldsEach all (own_names l.definition)
-  pub back : HoldsEach (all_names all l) l.back
-  pub value : HoldsValue all l l.definition
-
-abbrev pub AllHold : List LaidName → List SourceLine → Type 0
-AllHold all [] = Unit {0}
-AllHold all (l ∷ ls) = Holds all l × AllHold all ls
-
--- a value that is known at its line is the value with all names
-abbrev pub KnownValuesStay : Type 0
-KnownValuesStay =
-    (all : List LaidName) (before : List SourceLine) (l : SourceLine) (t : Tree) (v : Value)
-    → AllHold all before → Holds all l → known_value all before l t ≡ Ok v → meaning (with_names l (all_names all l)) t ≡ Ok v

@@ -52,23 +52,3 @@ EachHasSymbol (n ∷ ns) = HasSymbol n.value × EachHasSymbol ns
 abbrev pub EachOfArea : Option ℕ → List LaidName → Type 0
 EachOfArea here [] = Unit {0}
 EachOfArea here (n ∷ ns) = IsOfArea here n.area n.value × EachOfArea here ns
-
--- the value of a name for an expression has a symbol
-abbrev pub EqualNamesHaveSymbols : Type 0
-EqualNamesHaveSymbols =
-    (list : List LaidName) (here : Option ℕ) (c : ℕ) (cs : List ℕ) (v : Value) → HasSymbol (equal_entry list here (c ∷ cs) v).value
-
--- a name for an expression, seen from any area, is what the expression is in its own area
-abbrev pub EqualNamesStay : Type 0
-EqualNamesStay =
-    (p : Placing) (names : Names) (here : ℕ) (other : Option ℕ) (c : ℕ) (cs : List ℕ) (v : Value)
-    → names.area ≡ Some here
-    → named_in (c ∷ cs) names.list ≡ Some (equal_entry names.list names.area (c ∷ cs) v)
-    → placed_value p (seen_from names other) (equal_entry names.list names.area (c ∷ cs) v).value ≡ placed_value p names v
-
--- where the source's names have symbols, and a line's local labels stand in its area, entries without a symbol count
--- from there
-abbrev pub LinesCountFromHere : Type 0
-LinesCountFromHere =
-    (all : List LaidName) (l : SourceLine)
-    → EachHasSymbol all → EachOfArea l.area l.back → EachOfArea l.area l.forth → CountFromHere (with_names l (all_names all l))

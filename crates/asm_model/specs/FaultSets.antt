@@ -46,10 +46,6 @@ Among (j ∷ js) k = (k ≡ j) ⊎ Among js k
 abbrev pub ToldOfAll : Type 0
 ToldOfAll = (ks : List LineKind) → IsToldOf (told_kind ks) (Among ks)
 
--- what is told join by join is what is told of all: the order of the joins doesn't count
-abbrev pub ToldByParts : Type 0
-ToldByParts = (ks js : List LineKind) → told_kind (ks ++ js) ≡ first_told (told_kind ks) (told_kind js)
-
 -- an operator before a value fails with the kind
 abbrev pub FailsBefore : UnaryOp → Result Value LineKind → LineKind → Type 0
 FailsBefore op x k = (v : Value) × (x ≡ Ok v) × (unary_of op v ≡ Err k)

@@ -21,7 +21,6 @@ pub mod Extents
 pub mod Immediates
 pub mod Labels
 pub mod Laid
-pub mod LaidLaws
 pub mod LayoutKinds
 pub mod Locals
 pub mod Marks

@@ -30,10 +30,3 @@ counts_one data_names names s = thumb_of (named_in s names.list) && not (list_an
 
 abbrev pub thumb_bit : Bool → ℕ
 thumb_bit counts = if counts then 1 else 0
-
--- the number that a word with the value holds where areas are placed
-abbrev pub placed_word : Placing → List (List ℕ) → Names → Value → Option ℕ
-placed_word p data_names names (Number n) = Some n
-placed_word p data_names names (Place s n) = Some ((address_of p names s + n + thumb_bit (counts_one data_names names s)) % 2 ^ 32)
-placed_word p data_names names (Truth b) = None
-placed_word p data_names names (Words w) = None

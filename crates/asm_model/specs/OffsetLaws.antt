@@ -8,24 +8,12 @@ use Rattle.asm_model.specs.AtLine.{Sight}
 use Rattle.asm_model.specs.Extents.{Extent, Loading, extent_of, alignment}
 use Rattle.asm_model.specs.Offsets.{Piece, alignment_of, lacking, waiting, start_in, size_of, area_size, literal_word}
 
--- the alignment of a statement is that of what it takes up
-abbrev pub AlignmentsAgree : Type 0
-AlignmentsAgree =
-    (s : Sight) (w : What) (literals : List Value) (e : Extent)
-    → extent_of s w ≡ Ok e → alignment_of literals e ≡ alignment s.known.thumb literals w
-
 -- so many bytes reach an offset that is the multiple plus the number, and no fewer do
 abbrev pub PaddingIsLeast : Type 0
 PaddingIsLeast =
     (at multiple n : ℕ) → 1 ≤ multiple
     → ((at + lacking at multiple n) % multiple ≡ n % multiple)
     × ((d : ℕ) → (at + d) % multiple ≡ n % multiple → lacking at multiple n ≤ d)
-
--- of two statements of an area the later starts at the end of the earlier or behind it
-abbrev pub StatementsFollow : Type 0
-StatementsFollow =
-    (area : ℕ) (later before : List Piece) (s : Piece) (e : Extent) → s.area ≡ Some area
-    → start_in area before s.extent + size_of (waiting area before) (start_in area before s.extent) s.extent ≤ start_in area (later ++ s ∷ before) e
 
 -- all statements, where these stand before and these behind
 abbrev pub joined : List Piece → List Piece → List Piece
@@ -38,10 +26,3 @@ IsLiteral (Number n) = Unit {0}
 IsLiteral (Place s n) = Unit {0}
 IsLiteral (Truth b) = ⊥
 IsLiteral (Words w) = ⊥
-
--- the word of a statement's literal is aligned and lies in the area
-abbrev pub LiteralsHaveWords : Type 0
-LiteralsHaveWords =
-    (area : ℕ) (before rest : List Piece) (s : Piece) (n : ℕ) (v : Value) → s.area ≡ Some area → s.extent ≡ Loading n v → IsLiteral v
-    → (literal_word area (s ∷ before) rest v % 4 ≡ 0)
-    × (literal_word area (s ∷ before) rest v + 4 ≤ area_size area (joined (s ∷ before) rest))

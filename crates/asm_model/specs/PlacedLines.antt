@@ -31,13 +31,3 @@ HasImport (Some name) = IsName name
 abbrev pub AllNamed : List Statement → Type 0
 AllNamed [] = Unit {0}
 AllNamed (s ∷ before) = HasName (defined_by s) × HasImport (imported_in s.what) × AllNamed before
-
--- the names of a source have symbols
-abbrev pub FinalNamesHaveSymbols : Type 0
-FinalNamesHaveSymbols = (statements : List Statement) → AllNamed statements → EachHasSymbol (final_names (laid statements))
-
--- what a laid line sees in the end without a symbol counts from its area
-abbrev pub LaidLinesCountFromHere : Type 0
-LaidLinesCountFromHere =
-    (names : List LaidName) (locals : List Local) (d : Declared) (s : Statement) (before : List LaidLine)
-    → EachHasSymbol names → CountFromHere (final_sight names (final_line locals (laid_behind d s before) before))

@@ -77,9 +77,3 @@ IsOfArea here area (Words w) = Unit {0}
 -- entries whose values have no symbol, as local labels have, count from the statement's area
 abbrev pub CountFromHere : Names → Type 0
 CountFromHere names = (q : List ℕ) (n : LaidName) → named_in q names.list ≡ Some n → IsOfArea names.area n.area n.value
-
--- evaluating and then placing is evaluating what is placed, for all operators
-abbrev pub PlacingLaw : Type 0
-PlacingLaw =
-    (p : Placing) (names : Names) (t : Tree) (v : Value)
-    → CountFromHere names → meaning names t ≡ Ok v → placed_meaning p names t ≡ Ok (placed_value p names v)

@@ -33,7 +33,3 @@ tree_behind trees (i ∷ is) = tree_behind (grown_behind trees i) is
 -- the tree of an expression
 abbrev pub tree_of : Expr → Option Tree
 tree_of e = tree_behind (Some []) e.items
-
--- an expression has the tree that its tokens spell
-abbrev pub TreesReadBack : Type 0
-TreesReadBack = (ps : List Part) (t : Tree) (e : Expr) → IsSpelled ps t → e.items ≡ postfix t → tree_of e ≡ Some t

@@ -1,16 +1,11 @@
 //! Laws of the definitions, each proved as the contract of an empty function.
 
-ghost use Rattle.asm_model.specs.AtLine.{KnownValuesStay, ToldAtLine};
-ghost use Rattle.asm_model.specs.FaultSets.{ToldByParts, ToldOfAll, ToldOfDirectives, ToldOfValues};
+ghost use Rattle.asm_model.specs.AtLine.{ToldAtLine};
+ghost use Rattle.asm_model.specs.FaultSets.{ToldOfAll, ToldOfDirectives, ToldOfValues};
 
 /// The kind that is told of a list of kinds is the first of its set.
 pub fn told_of_all()
     ensures { ToldOfAll }
-{}
-
-/// What is told join by join is what is told of all.
-pub fn told_by_parts()
-    ensures { ToldByParts }
 {}
 
 /// The fault of an expression's value is the first of its kinds.
@@ -21,11 +16,6 @@ pub fn told_of_values()
 /// The fault of a line that is read as a directive is the first of its kinds.
 pub fn told_of_directives()
     ensures { ToldOfDirectives }
-{}
-
-/// A value that is known at its line is the value with all names.
-pub fn known_values_stay()
-    ensures { KnownValuesStay }
 {}
 
 /// The fault of a value at its line is the first of the expression's kinds there.

@@ -12,12 +12,12 @@ pub mod laws;
 pub mod lines;
 pub mod names;
 pub mod operands;
+pub mod placing_laws;
 pub mod statements;
 pub mod thumb_lines;
 pub mod tokens;
 pub mod values;
 pub mod words;
-pub mod layout_laws_;
 
 pub use crate::arm_lines::ArmLine;
 pub use crate::directives::{

@@ -124,10 +124,6 @@ total_sum : (f g : ℕ → ℕ) (n : ℕ) → total (λ i. f i + g i) n ≡ tota
 total_sum f g zero = omega arith
 total_sum f g (suc n) = let a = total_sum f g n in omega (arith, a)
 
-total_none : (n : ℕ) → total (λ i. 0) n ≡ 0
-total_none zero = refl
-total_none (suc n) = let a = total_none n in omega (arith, a)
-
 abbrev one_at : ℕ → ℕ → ℕ
 one_at j i = cond (j == i) 1 0
 

@@ -115,9 +115,6 @@ kinds_of_tree s ps t d =
 
 -- ---- names that stay names
 
-kept_alone : (s : Sight) (i : ExprItem) → kept_before s None i ≡ kept_name s i
-kept_alone s i = refl
-
 kept_operator : (s : Sight) (o : Option UnaryOp) (op : UnaryOp) → kept_before s o (item.Unary op) ≡ item.Unary op
 kept_operator s None op = refl
 kept_operator s (Some unary.Size) op = refl

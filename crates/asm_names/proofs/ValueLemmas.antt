@@ -48,19 +48,6 @@ sees_kept s items kept r k h ps t d e =
 
 -- ---- numbers
 
-number_is : (m : Result Value LineKind) (r : Result Value EvalFault) → IsValue m r → IsNumber (as_number m) (number_in r)
-number_is m (Ok (Number n)) h = ap as_number h
-number_is m (Ok (Truth b)) h = ap as_number h
-number_is m (Ok (Words w)) h = ap as_number h
-number_is m (Ok (Place s p)) h = ap as_number h
-number_is m (Err (eval.Kind k)) h = ap as_number h
-number_is m (Err eval.NoMemory) h = tt
-
-pub sees_number : (s : Sight) (items : List ExprItem) (r : Result Value EvalFault) → SeesValue s items r → SeesNumber s items (number_in r)
-sees_number s items r h ps t d e = number_is (value_at s t) r (h ps t d e)
-
--- ---- literals
-
 abbrev NoNumber : Result Value LineKind → Type 0
 NoNumber (Ok (Number n)) = ⊥
 NoNumber _ = Unit {0}
@@ -107,14 +94,6 @@ unsettled x (Ok (Place s p)) h u = subst NoNumber (sym h) tt
 unsettled x (Err (eval.Kind k)) h u = subst NoNumber (sym h) tt
 unsettled x (Err eval.NoMemory) h u = absurd (cc)
 
-settled : (x m : Result Value LineKind) (r : Result Value EvalFault) → IsValue x r → is_settled r ≡ true → IsValue (literal_or x m) r
-settled x m (Ok (Number n)) h u = ap (λ y. literal_or y m) h
-settled x m (Ok (Truth b)) h u = absurd (cc)
-settled x m (Ok (Words w)) h u = absurd (cc)
-settled x m (Ok (Place s p)) h u = absurd (cc)
-settled x m (Err (eval.Kind k)) h u = absurd (cc)
-settled x m (Err eval.NoMemory) h u = tt
-
 literal_is : (x m : Result Value LineKind) (r : Result Value EvalFault) → NoNumber x → IsValue m r → IsValue (literal_or x m) (place_or_forward r)
 literal_is x m (Ok (Number n)) h v = ap (literal_or x) v ∙ literal_forward x (Ok (Number n)) h tt
 literal_is x m (Ok (Truth b)) h v = ap (literal_or x) v ∙ literal_forward x (Ok (Truth b)) h tt
@@ -122,9 +101,6 @@ literal_is x m (Ok (Words w)) h v = ap (literal_or x) v ∙ literal_forward x (O
 literal_is x m (Ok (Place s p)) h v = ap (literal_or x) v ∙ literal_place x s p h
 literal_is x m (Err (eval.Kind k)) h v = ap (literal_or x) v ∙ literal_forward x (Err k) h tt
 literal_is x m (Err eval.NoMemory) h v = tt
-
-pub sees_settled : (s : Sight) (items : List ExprItem) (r : Result Value EvalFault) → SeesValue s items r → is_settled r ≡ true → SeesLiteral s items r
-sees_settled s items r h u ps t d e = settled (value_at s t) (value_at s (kept_names s t)) r (h ps t d e) u
 
 pub sees_literal : (s : Sight) (items : List ExprItem) (r k : Result Value EvalFault) → SeesValue s items r → is_settled r ≡ false → SeesKept s items k
     → SeesLiteral s items (place_or_forward k)

@@ -15,13 +15,3 @@ IsClosed equals names =
 -- each name of the one set is in the other
 abbrev pub AreAmong : List (List ℕ) → List (List ℕ) → Type 0
 AreAmong names others = (q : List ℕ) → list_any (same q) names ≡ true → list_any (same q) others ≡ true
-
--- one round more settles nothing else
-abbrev pub RoundsStop : Type 0
-RoundsStop = (equals : List (List ℕ × Expr)) → settled_by equals (settled equals) equals ≡ settled equals
-
-abbrev pub SettledIsClosed : Type 0
-SettledIsClosed = (equals : List (List ℕ × Expr)) → IsClosed equals (settled equals)
-
-abbrev pub SettledIsLeast : Type 0
-SettledIsLeast = (equals : List (List ℕ × Expr)) (others : List (List ℕ)) → IsClosed equals others → AreAmong (settled equals) others

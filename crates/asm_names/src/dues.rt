@@ -9,8 +9,8 @@ ghost use Rattle.asm_names.specs.Source.{owed_in, equal_pair};
 
 use crate::defined::{Defined, defined_by};
 use crate::lines::PlacedLine;
-use asm_model::Expr;
 use crate::{Equal, order_of};
+use asm_model::Expr;
 use sdt_fault::{NoMemory, Text};
 use std::alloc::Global;
 

@@ -7,9 +7,8 @@ ghost use Rattle.asm_model.specs.Meaning.{Evaluates};
 ghost use Rattle.asm_names.specs.Lines.{IsFinal, Sees};
 
 use crate::lines::PlacedLine;
-use crate::Locals;
+use crate::{KnownNames, Locals, Place, value_with};
 use asm_model::{EvalFault, Expr, LaidName, Value};
-use crate::{KnownNames, Place, value_with};
 use sdt_fault::NoMemory;
 use std::alloc::Global;
 

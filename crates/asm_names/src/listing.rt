@@ -7,12 +7,12 @@ ghost use Rattle.asm_model.specs.Labels.{imported_entries, defined_by as definit
 ghost use Rattle.asm_names.specs.Steps.{one_entry};
 ghost use Rattle.asm_names.specs.Source.{own_entries, line_entries};
 
-use crate::defined::{Defined, defined_by};
-use crate::lines::PlacedLine;
-use asm_model::{LaidName, Value};
 use crate::KnownNames;
 use crate::copies::entry_copy;
+use crate::defined::{Defined, defined_by};
+use crate::lines::PlacedLine;
 use crate::made::{imported_entry, imported_name, label_entry, valued_entry};
+use asm_model::{LaidName, Value};
 use sdt_fault::{NoMemory, Text};
 use std::alloc::Global;
 

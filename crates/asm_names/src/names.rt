@@ -9,8 +9,7 @@ use crate::dues::{dues_of, places_of};
 use crate::lines::PlacedLine;
 use crate::listing::entries_of;
 use crate::settling::settled;
-use crate::Locals;
-use crate::KnownNames;
+use crate::{KnownNames, Locals};
 use sdt_fault::NoMemory;
 use std::alloc::Global;
 

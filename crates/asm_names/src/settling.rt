@@ -6,12 +6,11 @@ ghost use Rattle.asm_names.specs.Owing.{owed_of};
 ghost use Rattle.asm_names.specs.Source.{IsEntryOf, IsEntryAt, Settles};
 
 use crate::dues::Due;
-use crate::listing::add_entry;
 use crate::final_values::{final_value, references_of};
-use crate::Locals;
-use asm_model::{EvalFault, LaidName};
-use crate::KnownNames;
+use crate::listing::add_entry;
 use crate::made::equal_entry;
+use crate::{KnownNames, Locals};
+use asm_model::{EvalFault, LaidName};
 use sdt_fault::NoMemory;
 use std::alloc::Global;
 

@@ -77,9 +77,6 @@ goes_on area before e a x h =
           ∙ sym (ap (λ b. cond b (pools_from (start_in area before e) e (pools_behind area before)) (pools_behind area before)) here);
     }
 
-pub behind_none : (areas : List Standing) (before : List Piece) (e : Extent) → IsBehind before areas → IsBehind (piece None e ∷ before) areas
-behind_none areas before e h = record { each = λ i. stays i before (piece None e) (slice_get areas i) refl (h.each i) }
-
 -- the area of a number, among those that stand behind statements
 pub standing_there : (areas : List Standing) (before : List Piece) (k : ℕ) (a : Standing) → IsBehind before areas → slice_get areas k ≡ Some a → StandsBehind k before a
 standing_there areas before k a h e = subst (IsStanding k before) e (h.each k)

@@ -129,15 +129,6 @@ few_behind start size (Loading n v) p x s h =
     omega arith
 few_behind start size Pool p x s h = let c = flushed_count start p in omega arith
 
--- an empty pool changes nothing
-pub empty_flush : (at : ℕ) (p : Pooled) → length p.waiting ≡ 0 → pool.flushed at p ≡ p
-empty_flush at p h = by_waiting p.placed p.waiting h
-  where
-    by_waiting : (placed : List (Value × ℕ)) (waiting : List Value) → length waiting ≡ 0
-        → pool.flushed at (record { placed = placed; waiting = waiting }) ≡ record { placed = placed; waiting = waiting }
-    by_waiting placed [] k = ap (λ (l : List (Value × ℕ)). record { placed = l; waiting = [] }) (append-nil placed)
-    by_waiting placed (v ∷ vs) k = absurd (omega arith)
-
 pub low_behind : (end start size : ℕ) (e : Extent) (p q : Pooled) → IsExtent e → IsLow end p → start ≡ start_from end p.waiting e → size ≡ size_of p.waiting start e
     → start + size ≤ 2 ^ 24 → q ≡ pools_from start e p → IsLow (start + size) q
 low_behind end start size e p q x low from s fits to =

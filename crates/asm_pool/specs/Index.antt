@@ -36,8 +36,3 @@ pub record IsKept (literals : List Value) (offsets : List ℕ) (index : Numbers)
 abbrev pub offsets_from : ℕ → List Value → List ℕ
 offsets_from at [] = []
 offsets_from at (v ∷ vs) = at ∷ offsets_from (at + 4) vs
-
--- what was there, or the number where the literal is q
-abbrev pub or_number : Option ℕ → Value → ℕ → Value → Option ℕ
-or_number (Some k) v number q = Some k
-or_number None v number q = if same_literal q v then Some number else None

@@ -6,6 +6,6 @@ pub mod laws;
 pub mod layout;
 pub mod pools;
 
-pub use crate::laws::{literal_law, pool_law};
+pub use crate::laws::pool_law;
 pub use crate::layout::{LaidArea, LaidStatement, Layout};
 pub use crate::pools::Pools;

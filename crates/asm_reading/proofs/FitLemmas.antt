@@ -68,10 +68,6 @@ reading_kept : LinesAreSaid → LinesHaveTexts → LinesAreFit → LinesAreNamed
 reading_kept said texts fit named loads lines r h =
     rw h.statements (all_kept IsFine (λ f s k. (said f s k, texts f s k, fit f s k, (named f s k).0, (named f s k).1, loads f s k)) lines h.says h.say)
 
-pub readings_are_fit_in_order : LinesAreSaid → LinesHaveTexts → LinesAreFit → LinesAreNamed → LoadsAreNamed → (lines : List Flat) (r : Reading) → IsReading lines r
-    → AreFit r.statements.items
-readings_are_fit_in_order said texts fit named loads lines r h = all_fine r.statements.items (reading_kept said texts fit named loads lines r h)
-
 pub readings_are_fit : LinesAreSaid → LinesHaveTexts → LinesAreFit → LinesAreNamed → LoadsAreNamed → (lines : List Flat) (r : Reading) → IsReading lines r
     → AreFit (reversed r.statements.items [])
 readings_are_fit said texts fit named loads lines r h =

@@ -248,6 +248,3 @@ goes_on lines left rest f s old new at says e k h =
       before = counts_more h.done f s old new k h.statements h.unread h.before;
       short = (subst (λ (l : List Flat). AllShort l) at h.short).1;
     }
-
-pub is_short : (left rest : List Flat) (f : Flat) → left ≡ f ∷ rest → AllShort left → IsShort f
-is_short left rest f at h = (subst (λ (l : List Flat). AllShort l) at h).0

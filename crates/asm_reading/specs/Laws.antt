@@ -30,10 +30,6 @@ pub record AreFit (statements : List Statement) : Type 0 where
   pub loads_named : AllLoadsNamed statements
   pub arm : NoCode16 statements
 
--- the statements of a reading are so in the order of their lines
-abbrev pub ReadingsAreFitInOrder : Type 0
-ReadingsAreFitInOrder = (lines : List Flat) (r : Reading) → IsReading lines r → AreFit r.statements.items
-
 -- and with the last first, as layout lists them
 abbrev pub ReadingsAreFit : Type 0
 ReadingsAreFit = (lines : List Flat) (r : Reading) → IsReading lines r → AreFit (reversed r.statements.items [])

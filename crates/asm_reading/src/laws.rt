@@ -1,6 +1,6 @@
 //! Laws of the definitions, each proved as the contract of an empty function.
 
-ghost use Rattle.asm_reading.specs.Laws.{OneLine, OneReading, ReadingsAreFit, ReadingsAreFitInOrder};
+ghost use Rattle.asm_reading.specs.Laws.{OneLine, OneReading, ReadingsAreFit};
 
 use asm_arm::says::one_arm;
 use asm_lines::scan::one_scan;
@@ -15,17 +15,6 @@ pub fn one_reading()
 {
     one_scan();
     one_arm();
-}
-
-/// The statements of a reading are as layout and emission ask for them, in the order of their lines.
-pub fn readings_are_fit_in_order()
-    ensures { ReadingsAreFitInOrder }
-{
-    lines_are_said();
-    lines_have_texts();
-    lines_are_fit();
-    lines_are_named();
-    loads_are_named();
 }
 
 /// So are they with the last first, as layout lists them.

@@ -77,9 +77,6 @@ in_both q (x ∷ xs) ys = by_test (same x.0 q) (in_both q xs ys)
 pub before_more : (q : List ℕ) (xs ys zs : List Named) → register_in q xs ≡ register_in q ys → register_in q (xs ++ zs) ≡ register_in q (ys ++ zs)
 before_more q xs ys zs e = in_both q xs zs ∙ ap (λ o. or_else o (register_in q zs)) e ∙ sym (in_both q ys zs)
 
-pub unknown : (q name : List ℕ) (known : List Named) (r : Result ℕ LineKind) (k : LineKind) → r ≡ Err k → register_in q known ≡ register_in q (known ++ with_register name r)
-unknown q name known r k e = rw (e, append-nil known) refl
-
 -- a name that stands for a register keeps it
 pub kept : (q name : List ℕ) (known : List Named) (r : Result ℕ LineKind) (n m : ℕ) → r ≡ Ok n → register_in name known ≡ Some m
     → register_in q known ≡ register_in q (known ++ with_register name r)
@@ -115,9 +112,6 @@ in_set q s = among s.keys
     among : (ks : List (List ℕ)) → list_any (λ k. is_eq (slice_cmp nat_cmp q k)) ks ≡ list_any (same q) ks
     among [] = refl
     among (k ∷ ks) = rw (is_same q k, among ks) refl
-
-pub none_named : (q : List ℕ) (all names : List (List ℕ)) (o : Option (List ℕ)) → o ≡ None → listed o ≡ names → list_any (same q) all ≡ list_any (same q) (all ++ names)
-none_named q all names o e is = rw (← is, e, append-nil all) refl
 
 pub now_named : (q name text : List ℕ) (old new : BTreeSet (List ℕ)) (names : List (List ℕ)) (o : Option (List ℕ)) → o ≡ Some name → listed o ≡ names → text ≡ name
     → set.UpdatesBy (slice_cmp nat_cmp) (slice_cmp nat_cmp text) old new true

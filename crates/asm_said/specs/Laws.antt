@@ -16,14 +16,6 @@ use Rattle.said_model.specs.Fit.{IsFit}
 use Rattle.said_model.specs.Named.{LoadNamed}
 use Rattle.said_model.specs.Said.{IsRead, IsSaid, HasTexts}
 
--- an expression of tokens is read
-abbrev pub ExpressionsAreRead : Type 0
-ExpressionsAreRead = (text : List ℕ) (ts : List Token) (e : Expr) → ParsesTokens text ts (Ok e) → IsRead e
-
--- what a line says as a directive is a statement as layout asks for it
-abbrev pub DirectivesAreSaid : Type 0
-DirectivesAreSaid = (flat : Flat) (ts : List Token) (s : Statement) → Tokens flat.text ts → SaysDirective flat ts (Ok (Some s)) → IsSaid s
-
 -- what a line of ARM state says is a statement as layout asks for it
 abbrev pub LinesAreSaid : Type 0
 LinesAreSaid = (flat : Flat) (s : Statement) → SaysArm flat (Ok (Some s)) → IsSaid s

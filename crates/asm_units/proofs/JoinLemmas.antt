@@ -14,14 +14,6 @@ use Rattle.asm_units.specs.Emitting.{with_next}
 abbrev pub joined : Result (List Emitted) LineKind → Result (List Emitted) LineKind → Result (List Emitted) LineKind
 joined us vs = on_both (λ (xs ys : List Emitted). xs ++ ys) us vs
 
-pub joined_first : (us : Result (List Emitted) LineKind) → joined (Ok []) us ≡ us
-joined_first (Ok us) = refl
-joined_first (Err k) = refl
-
-pub joined_last : (us : Result (List Emitted) LineKind) → joined us (Ok []) ≡ us
-joined_last (Ok us) = ap (λ (z : List Emitted). Ok z) (append-nil us)
-joined_last (Err k) = refl
-
 joined_next : {A : Type 0} (f : A → Emitted) (us : Result (List Emitted) LineKind) (a : Result A LineKind) (rest : Result (List Emitted) LineKind)
     → joined (with_next us (mapped f a)) rest ≡ joined us (on_both (λ x vs. f x ∷ vs) a rest)
 joined_next f (Ok us) (Ok a) (Ok rest) = ap (λ (z : List Emitted). Ok z) (append_assoc us (f a ∷ []) rest)

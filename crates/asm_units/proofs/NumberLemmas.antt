@@ -54,22 +54,6 @@ pub indexed_more : (m n : BTreeMap (List ℕ) ℕ) (names : List (List ℕ)) (x 
 indexed_more m n names x number index at more q =
     more q ∙ ap (λ o. or_number o x number q) (index q) ∙ ap (λ k. or_number (number_among q names) x k q) at ∙ sym (number_push q names x)
 
--- a name that has no number yet
-pub name_new : (m : BTreeMap (List ℕ) ℕ) (names : List (List ℕ)) (q : List ℕ) → IsIndexed names m → number_in m q ≡ None → names ++ q ∷ [] ≡ with_name (Some q) names
-name_new m names q index h = by_test (list_any (same q) names) (sym (index q) ∙ h)
-  where
-    by_test : (b : Bool) → cond b (Some (place_of q names)) None ≡ None → names ++ q ∷ [] ≡ cond b names (names ++ q ∷ [])
-    by_test true e = absurd (cc)
-    by_test false e = refl
-
--- a name that has one
-pub name_old : (m : BTreeMap (List ℕ) ℕ) (names : List (List ℕ)) (q : List ℕ) (k : ℕ) → IsIndexed names m → number_in m q ≡ Some k → names ≡ with_name (Some q) names
-name_old m names q k index h = by_test (list_any (same q) names) (sym (index q) ∙ h)
-  where
-    by_test : (b : Bool) → cond b (Some (place_of q names)) None ≡ Some k → names ≡ cond b names (names ++ q ∷ [])
-    by_test true e = refl
-    by_test false e = absurd (cc)
-
 pub indexed_pushed : (m n : BTreeMap (List ℕ) ℕ) (names more : List (List ℕ)) (x y : List ℕ) (number : ℕ) → IsIndexed names m → number ≡ length names → x ≡ y
     → ((q : List ℕ) → number_in n q ≡ or_number (number_in m q) y number q) → more ≡ names ++ x ∷ [] → IsIndexed more n
 indexed_pushed m n names more x y number index at named noted e q =

@@ -10,13 +10,13 @@ ghost use Rattle.source_model.specs.Contexts.{sees, value_of};
 ghost use Rattle.asm_instructions.specs.Scenes.{context_of, line_of};
 ghost use Rattle.asm_units.specs.Listing.{loaded_symbols, one_symbol};
 
+use crate::literals::literal_value;
 use crate::symbols::Symbols;
 use asm_instructions::Scene;
 use asm_instructions::branches::target_symbol;
 use asm_instructions::scenes::stands_at;
 use asm_instructions::values::value_there;
 use asm_model::{Expr, Value};
-use crate::literals::literal_value;
 use sdt_fault::kinds::LineKind;
 use sdt_fault::{NoMemory, Text};
 use std::alloc::Global;

@@ -59,10 +59,6 @@ load_2 name = cut 32 name.1 >>= load_3 name
 load_1 : Pair → Option MapLoad
 load_1 word = cond (bytes_eq word.0 (codes "load")) (cut 32 word.1 >>= load_2) None
 
-load_all : (line : List ℕ) → load_in line ≡ (cut 32 line >>= load_1)
-unfolding load_1 load_2 load_3 load_4
-load_all line = refl
-
 load_of_read : (l : MapLoad) → IsLoad l → load_of l.name (address l.base) (address l.size) l.file ≡ Some l
 load_of_read l g =
     rw (g.named, address_read l.base g.base_fits, address_read l.size g.size_fits, le-leb (l.base + l.size) (2 ^ 32) g.in_space) refl

@@ -9,12 +9,6 @@ use Rattle.asm_model.specs.Extents.{value_there}
 use Rattle.asm_model.specs.Laid.{LaidLine, laid, all_locals, final_line, source_lines, all_entries, final_names, final_value}
 use Rattle.asm_model.specs.Sound.{IsSound, ArePlain}
 
--- one more round changes nothing
-abbrev pub FinalNamesAreTheirEntries : Type 0
-FinalNamesAreTheirEntries =
-    (statements : List Statement) → IsSound statements → ArePlain statements
-    → all_entries (final_names (laid statements)) (source_lines (laid statements)) ≡ final_names (laid statements)
-
 -- names that a round doesn't change are the final ones
 abbrev pub NoOtherNamesAre : Type 0
 NoOtherNamesAre =

@@ -1,4 +1,3 @@
 -- What the laws of final names cite.
 pub mod Final
-pub mod Found
 pub mod Said

@@ -21,11 +21,6 @@ pub all_weaker : {X : Type 0} (P Q : X → Type 0) → ((x : X) → P x → Q x)
 all_weaker P Q f [] a = tt
 all_weaker P Q f (x ∷ xs) a = (f x a.0, all_weaker P Q f xs a.1)
 
-pub all_get : {X : Type 0} (P : X → Type 0) (xs : List X) (i : ℕ) (d : X) → AllByRecursion P xs → i < length xs → P (get_or xs i d)
-all_get P [] i d a h = absurd (omega arith)
-all_get P (x ∷ xs) zero d a h = a.0
-all_get P (x ∷ xs) (suc i) d a h = all_get P xs i d a.1 (omega arith)
-
 -- a list from a place on
 pub drop_at : {X : Type 0} (xs : List X) (i : ℕ) (x : X) → slice_get xs i ≡ Some x → drop i xs ≡ x ∷ drop (suc i) xs
 drop_at [] i x h = absurd (cc)

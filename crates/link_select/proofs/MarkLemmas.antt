@@ -80,28 +80,6 @@ set_fewer (true ∷ bs) zero h f = absurd (true≢false f)
 set_fewer (false ∷ bs) zero h f = omega arith
 set_fewer (b ∷ bs) (suc k) h f = let r = set_fewer bs k (omega arith) f in omega arith
 
-pub marks_none : (m : List Bool) → Marks m m [] []
-marks_none m = record {
-  size = refl;
-  kept = λ k h. h;
-  all = tt;
-  only = λ k h. inl h;
-  waits = λ k h. inl h;
-  added_marked = tt;
-  fewer = omega arith;
-}
-
-pub marks_known : (m : List Bool) (k : ℕ) → marked m k ≡ true → Marks m m [] (k ∷ [])
-marks_known m k h = record {
-  size = refl;
-  kept = λ j e. e;
-  all = (h, tt);
-  only = λ j e. inl e;
-  waits = λ j e. inl e;
-  added_marked = tt;
-  fewer = omega arith;
-}
-
 pub marks_new : (m : List Bool) (k : ℕ) → k < length m → marked m k ≡ false → Marks m (set m k true) (k ∷ []) (k ∷ [])
 marks_new m k h f = record {
   size = length-set m k true;
@@ -137,9 +115,6 @@ marks_both a b c x y w v p q = record {
     joined : (k : ℕ) (xs ys : List ℕ) → (marked b k ≡ true → (marked a k ≡ true) ⊎ (is_in k xs ≡ true)) → (marked b k ≡ true) ⊎ (is_in k ys ≡ true) → (marked a k ≡ true) ⊎ (is_in k (xs ++ ys) ≡ true)
     joined k xs ys before (inl e) = early k xs ys (before e)
     joined k xs ys before (inr e) = inr (is_in_back k xs ys e)
-
-pub takes_none : (m : List Bool) (waiting : List ℕ) → Takes m m waiting waiting []
-takes_none m waiting = record { added = []; behind = sym (append-nil waiting); marks = marks_none m }
 
 pub takes_both : (a b c : List Bool) (x y z w v : List ℕ) → Takes a b x y w → Takes b c y z v → Takes a c x z (w ++ v)
 takes_both a b c x y z w v p q = record {

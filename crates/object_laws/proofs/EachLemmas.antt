@@ -54,12 +54,6 @@ pub each_there : (P : Statement → Type 0) (ss : List Statement) → AllByRecur
 each_there P ss h after before l e =
     each_line P after before l (subst (λ z. AllByRecursion P (statements_of z)) e (subst (AllByRecursion P) (sym (statements_kept (declared ss) ss)) h))
 
-pub all_said : (ss : List Statement) → AllSaid ss → AllByRecursion IsSaid ss
-all_said [] h = tt
-all_said (s ∷ ss) h = (h.0, all_said ss h.1)
-
--- ---- texts
-
 abbrev pub DefinedText : Defined → Type 0
 DefinedText Unnamed = Unit {0}
 DefinedText (LocalLabel n) = Unit {0}

@@ -37,14 +37,6 @@ UnitListed names (Bytes b) = Unit {0}
 UnitListed names (Word w) = TargetListed names w.target
 UnitListed names (Instruction i symbol) = OptionListed names symbol
 
--- each symbol that a thing in an area is relocated by is one of the source's
-abbrev pub SymbolsAreListed : Type 0
-SymbolsAreListed =
-    (statements : List Statement) (area : ℕ) (p : Piece) → StandsIn (source_of statements) area p
-    → UnitListed (symbols_of (source_of statements).names (source_of statements).lines) p.1
-
--- ---- statements without faults
-
 -- as lines of ARM state say them
 pub record AreFaultless (statements : List Statement) : Type 0 where
   pub said : AllSaid statements
@@ -55,26 +47,6 @@ pub record AreFaultless (statements : List Statement) : Type 0 where
   pub arm : InArmState statements
 
 -- ---- objects
-
-abbrev pub AreasAreValid : Type 0
-AreasAreValid =
-    (statements : List Statement) (o : Object) → AreFaultless statements → IsObject statements o
-    → EachStands (λ before a. IsArea (area_names before) (head_of a)) [] o.areas
-
--- relocations name areas and symbols by their low 24 bits
-abbrev pub ContentsAreValid : Type 0
-ContentsAreValid =
-    (statements : List Statement) (o : Object) → AreFaultless statements → IsObject statements o
-    → length o.areas < 2 ^ 24 → length o.symbols < 2 ^ 24 → AllByRecursion (Holds (length o.areas) (length o.symbols)) o.areas
-
-abbrev pub SymbolsAreValid : Type 0
-SymbolsAreValid =
-    (statements : List Statement) (o : Object) → AreFaultless statements → IsObject statements o
-    → EachStands (λ before s. IsSymbol (exported before) (heads o.areas) s) [] o.symbols × AllByRecursion (λ s. IsText s.name) o.symbols
-
-abbrev pub EntriesAreValid : Type 0
-EntriesAreValid =
-    (statements : List Statement) (o : Object) → AreFaultless statements → IsObject statements o → IsEntered (heads o.areas) o.entry
 
 abbrev pub ObjectsAreValid : Type 0
 ObjectsAreValid =

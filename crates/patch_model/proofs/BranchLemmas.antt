@@ -16,9 +16,6 @@ use Rattle.patch_model.specs.Reaches.{View, Shows, ShowsHalf, BranchesTo}
 
 -- ---- ARM
 
-arm_word : (c l d : ℕ) → c < 15 → l < 2 → d < 2 ^ 24 → bits (c * 2 ^ 28 + 5 * 2 ^ 25 + l * 2 ^ 24 + d) 28 4 ≡ c
-arm_word c l d hc hl hd = omega arith
-
 reads_arm : (c : Condition) (l : Bool) (d : ℕ) → d < 2 ^ 24 → ReadsArm (condition_code c * 2 ^ 28 + 5 * 2 ^ 25 + flag l * 2 ^ 24 + d) (arm.Branch c l d)
 reads_arm c l d h = grind arith
 

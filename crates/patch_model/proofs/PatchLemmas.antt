@@ -12,7 +12,7 @@ use Rattle.aof_object.specs.declared.records.Area.{Area}
 use Rattle.aof_object.specs.declared.records.Reloc.{Reloc}
 use Rattle.patch_model.specs.Fields.{Kind, Byte, Half, Word, Branch, Home, Meant, Values, field_of, directives, added, taken, size_of, number_in}
 use Rattle.patch_model.specs.Patched.{total, span, middle, ahead, Veneers, Way, Directly, ByVeneer, first_symbol, other_state, way_home, way_to, LeadsAt, Leads, Turned, AddsUp, IsOutside, AreaPatched}
-use Rattle.patch_model.specs.Laws.{OnePatched, OneObjectPatched, OutsideLaw, WordLaw, LeadsBy, PatchedBranchLaw, WayLaw, ReachLaw, state_of, StandsAt, state_to, StandsTo}
+use Rattle.patch_model.specs.Laws.{OnePatched, OneObjectPatched, OutsideLaw, WordLaw, LeadsBy, PatchedBranchLaw, ReachLaw, state_of, StandsAt, state_to, StandsTo}
 use Rattle.patch_model.specs.Reaches.{View, Shows, IsVeneer, VeneersStand, Reaches}
 use Rattle.sdt_word.specs.Ranges.{Covers}
 use Rattle.patch_model.proofs.BranchLemmas.{leads_to, arm_same, pair_same, branch_stays}
@@ -213,17 +213,6 @@ one_object object area values veneers new other = by_area (slice_get object.area
     by_area (Some a) n m = one_patched a.relocs a.bytes (values.base area) values veneers new other n m
 
 -- ---- reaching
-
-way_offset : (t : Bool) (base place old h number : ℕ)
-    → total (h + total (base + place + ahead t + span t old) 0 (middle t)) number (base + number) ≡ total (h + place + ahead t + span t old) 0 (middle t)
-way_offset t base place old h number = by_numbers (ahead t) (span t old) (middle t)
-  where
-    by_numbers : (a s m : ℕ) → total (h + total (base + place + a + s) 0 m) number (base + number) ≡ total (h + place + a + s) 0 m
-    by_numbers a s m = omega arith
-
-pub way_law : WayLaw
-way_law t base place old m h home other =
-    rw (home, other) (ap (λ (o : ℕ). ByVeneer (record { object = h.object; area = h.area; offset = o }) m.thumb) (way_offset t base place old h.offset m.number))
 
 -- the address of a veneer's target
 target_address : (start offset number a s d more less : ℕ) → number % 2 ^ 32 ≡ (start + offset) % 2 ^ 32

@@ -35,10 +35,6 @@ shows_parts view a (x ∷ xs) ys (here, rest) =
     let e : suc a + length xs ≡ a + length (x ∷ xs) = omega arith in
     ((here, parts.0), subst At e parts.1)
 
--- bytes at an address that is told otherwise
-shows_at : (view : View) (a b : ℕ) (xs : List ℕ) → a ≡ b → Shows view a xs → Shows view b xs
-shows_at view a b xs e shows = let At : ℕ → Type 0 = λ n. Shows view n xs in subst At e shows
-
 to_thumb : (view : View) (v target : ℕ) → target % 2 ≡ 0 → Shows view v (bytes_of 0xE59FC000 4 ++ bytes_of 0xE12FFF1C 4 ++ bytes_of ((target + 1) % 2 ^ 32) 4) → VeneerToThumb view v target
 to_thumb view v target even shows =
     let first = shows_parts view v (bytes_of 0xE59FC000 4 ++ bytes_of 0xE12FFF1C 4) (bytes_of ((target + 1) % 2 ^ 32) 4) shows in

@@ -36,10 +36,6 @@ field_of r = record { place = place_by (bits r.word 24 2) r.offset; kind = kind_
 abbrev pub is_relative : Reloc → Bool
 is_relative r = bit r.word 26 == 1
 
--- bit 28, which means nothing beside bit 26
-abbrev pub is_based : Reloc → Bool
-is_based r = bit r.word 28 == 1
-
 -- bit 27: by a symbol, and else by an area; the low 24 bits are its number
 abbrev pub is_by_symbol : Reloc → Bool
 is_by_symbol r = bit r.word 27 == 1

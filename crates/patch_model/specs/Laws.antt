@@ -36,21 +36,6 @@ OutsideLaw =
 
 -- ---- sums
 
-pub record SumLaw : Type 0 where
-  -- nothing is added
-  pub none : (old : ℕ) → old < 2 ^ 32 → total old 0 0 ≡ old
-  -- directives that are applied one after the other add up
-  pub both : (old a t b u : ℕ) → total (total old a t) b u ≡ total old (a + b) (t + u)
-  -- a directive that takes nothing
-  pub plain : (old a : ℕ) → total old a 0 ≡ (old + a) % 2 ^ 32
-  -- what one directive adds and takes
-  pub one : (values : Values) (base : ℕ) (r : Reloc)
-      → (added values (r ∷ []) ≡ value_named values r + mark_of values r) × (taken base (r ∷ []) ≡ base * flag (is_relative r))
-  -- two directives of one field
-  pub two : (values : Values) (base : ℕ) (r s : Reloc) (old : ℕ)
-      → total old (added values (r ∷ s ∷ [])) (taken base (r ∷ s ∷ []))
-      ≡ total (total old (value_named values r + mark_of values r) (base * flag (is_relative r))) (value_named values s + mark_of values s) (base * flag (is_relative s))
-
 -- which directives a field has
 pub record DirectiveLaw : Type 0 where
   pub joined : (f : Field) (xs ys : List Reloc) → directives (xs ++ ys) f ≡ directives xs f ++ directives ys f
@@ -95,14 +80,6 @@ PatchedBranchLaw =
     (taken base (directives relocs (field_of r)))
     (way_to thumb (total (base + (field_of r).place + ahead thumb + span thumb (word_in old (field_of r).place)) 0 (middle thumb))
     (added values (directives relocs (field_of r))) (taken base (directives relocs (field_of r))) values (first_symbol (directives relocs (field_of r))))
-
--- the target of a branch to a symbol with one directive: as far behind the symbol as the branch names, counted from the
--- start of its area
-abbrev pub WayLaw : Type 0
-WayLaw =
-    (thumb : Bool) (base place old : ℕ) (m : Meant) (h : Home) → m.home ≡ Some h → other_state thumb m.thumb ≡ true
-    → way_home thumb (total (base + place + ahead thumb + span thumb old) 0 (middle thumb)) m.number base m m.home
-    ≡ ByVeneer (record { object = h.object; area = h.area; offset = total (h.offset + place + ahead thumb + span thumb old) 0 (middle thumb) }) m.thumb
 
 -- the state in which a branch of a state reaches a symbol: that of a symbol in an area, and else the branch's own
 abbrev pub state_of : Bool → Meant → Option Home → Bool

@@ -4,7 +4,4 @@
 
 mod laws;
 
-pub use crate::laws::{
-    branch_law, directive_law, one_patched, outside_law, patched_branch_law, reach_law, sum_law,
-    veneer_law, way_law, word_law,
-};
+pub use crate::laws::{one_patched, reach_law};

@@ -19,24 +19,6 @@ three_found p q r o u w x y f g h e k =
 lacks_within : (bs : List Bank) (n : Need) (x : ℕ) → n.base + n.size ≤ 2 ^ 32 → lacks bs n x ≡ (has_access n.base n.size x 1 && not (bank_has bs x 1))
 lacks_within bs n x le = rw (le-leb (n.base + n.size) (2 ^ 32) le) refl
 
-above : (a b : ℕ) → b < a → nat_le a b ≡ false
-above a b lt = grind (arith, nat_tests)
-
-lacks_above : (bs : List Bank) (n : Need) (x : ℕ) → 2 ^ 32 < n.base + n.size → lacks bs n x ≡ (x == n.base)
-lacks_above bs n x lt = rw (above (n.base + n.size) (2 ^ 32) lt) refl
-
-same : (a : ℕ) → (a == a) ≡ true
-same a = grind (arith, nat_tests)
-
-only : (a b : ℕ) → (b == a) ≡ true → a ≤ b
-only a b e = grind (arith, nat_tests)
-
-pub lack_above : (bs : List Bank) (n : Need) → 2 ^ 32 < n.base + n.size → IsFound (λ a. lacks bs n a) (Some n.base)
-lack_above bs n lt = record {
-  passes = lacks_above bs n n.base lt ∙ same n.base;
-  least = λ b e. only n.base b (sym (lacks_above bs n b lt) ∙ e);
-}
-
 in_need : (base size a : ℕ) → base ≤ a → a < base + size → has_access base size a 1 ≡ true
 in_need base size a le lt = grind (arith, nat_tests)
 

@@ -9,4 +9,3 @@ mod opening;
 
 pub use crate::image::{Image, Load, Need};
 pub use crate::opening::{Closed, open};
-

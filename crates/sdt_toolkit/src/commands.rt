@@ -5,11 +5,11 @@ ghost use Rattle.arm7_bus.specs.Seats.{seats_by};
 ghost use Rattle.sdt_toolkit.specs.Commands.{Commanded, is_build, is_run};
 ghost use Rattle.tool_words.specs.Commands.{IsGood, command_of};
 
+use crate::assemble::assemble_file;
 use sdt_fault::answer::Answer;
 use sdt_fault::refusal::Refusal;
 use sdt_outside::{Device, Sink, Store};
 use std::alloc::Global;
-use crate::assemble::assemble_file;
 use tool_library::{create_library, extract_member, list_members};
 use tool_listing::list_file;
 use tool_run::run;

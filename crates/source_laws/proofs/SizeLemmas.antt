@@ -59,11 +59,6 @@ pub mapped_long : {A : Type 0} → (f : A → List Emitted) (n : ℕ) (r : Resul
 mapped_long f n (Ok a) h = h a
 mapped_long f n (Err k) h = tt
 
-pub once_more : (k n : ℕ) → k + k * n ≡ k * (n + 1)
-once_more k n = omega arith
-
--- ---- data
-
 pub word_long : (r : Result Stored LineKind) → EachLong Word 4 r
 word_long (Ok w) = length-bytes_of w.number 4
 word_long (Err k) = tt

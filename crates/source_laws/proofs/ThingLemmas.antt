@@ -44,9 +44,6 @@ among_either p (x ∷ xs) ys (inr h) = later (among_either p xs ys h)
     later (inl k) = inl (inr k)
     later (inr k) = inr k
 
-abbrev pub End : Piece → ℕ
-End p = p.0 + length (unit_bytes p.1)
-
 pub units_inside : (at : ℕ) (us : List Emitted) (p : Piece) → IsAmong p (units_from at us) → (at ≤ p.0) × (p.0 + length (unit_bytes p.1) ≤ at + length (units_bytes us))
 units_inside at us p h = let f = found p (units_from at us) h in units_lie_inside at us f.front f.back p f.parts
 

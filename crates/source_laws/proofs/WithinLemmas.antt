@@ -50,12 +50,6 @@ area_within n ss h = within_more (length (areas_behind ss)) n (area_behind ss) h
 low_of : (a b c : ℕ) → a ≤ b → b ≤ c → a ≤ c
 low_of a b c h k = omega arith
 
-pub areas_fewer : (rest before : List LaidLine) → length (areas_behind (statements_of before)) ≤ length (areas_behind (statements_of (reversed rest before)))
-areas_fewer [] before = omega arith
-areas_fewer (l ∷ rest) before =
-    low_of (length (areas_behind (statements_of before))) (length (areas_behind (statements_of (l ∷ before)))) (length (areas_behind (statements_of (reversed rest (l ∷ before)))))
-    (fewer (area_named l.statement.what) (areas_behind (statements_of before))) (areas_fewer rest (l ∷ before))
-
 pub areas_more : (after before : List LaidLine) → length (areas_behind (statements_of before)) ≤ length (areas_behind (statements_of (after ++ before)))
 areas_more [] before = omega arith
 areas_more (l ∷ after) before =

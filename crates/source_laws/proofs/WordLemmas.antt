@@ -61,10 +61,6 @@ pub literal_next : (area : ℕ) (before rest : List Piece) (s : Piece) (v : Valu
     → literal_word area before (s ∷ rest) v ≡ literal_word area (s ∷ before) rest v
 literal_next area before rest s v h = ap (λ b. cond b (word_behind area before v) (literal_word area (s ∷ before) rest v)) h
 
-pub literal_now : (area : ℕ) (before rest : List Piece) (s : Piece) (v : Value) → is_pool_of area s ≡ true
-    → literal_word area before (s ∷ rest) v ≡ word_behind area before v
-literal_now area before rest s v h = ap (λ b. cond b (word_behind area before v) (literal_word area (s ∷ before) rest v)) h
-
 pub word_or_statement : (area : ℕ) (before front back : List Piece) (m : Piece) (v : Value) → is_pool m.extent ≡ false → Waits v (waiting area before)
     → (end_behind area (m ∷ joined before front) ≤ literal_word area before (front ++ m ∷ back) v)
     ⊎ (literal_word area before (front ++ m ∷ back) v + 4 ≤ end_behind area (joined before front))
@@ -199,16 +195,6 @@ words_apart area before (p ∷ between) rest l u v h w =
         (through (end_behind area (joined (p ∷ before) between)) (end_behind area (l ∷ joined (p ∷ before) between)) (literal_word area (l ∷ joined (p ∷ before) between) rest v)
         (behind_rises area (joined (p ∷ before) between) l) (word_rises area (l ∷ joined (p ∷ before) between) rest v)))))
     by_test false e rec = no_more e (literal_word area (p ∷ before) (between ++ l ∷ rest) u) (rec e)
-
--- the same literal with no pool between has the same word
-pub words_shared : (area : ℕ) (before between rest : List Piece) (l : Piece) (v : Value) → is_pool l.extent ≡ false → NoPools area between
-    → literal_word area (l ∷ joined before between) rest v ≡ literal_word area before (between ++ l ∷ rest) v
-words_shared area before [] rest l v h none = sym (literal_next area before rest l v (no_pool_of area l h))
-words_shared area before (p ∷ between) rest l v h none =
-    let parts = or_parts (is_pool_of area p) (list_any (is_pool_of area) between) none in
-    words_shared area (p ∷ before) between rest l v h parts.1 ∙ sym (literal_next area before (between ++ l ∷ rest) p v parts.0)
-
--- ---- lines in the order of the source
 
 pub joined_order : (xs ys : List LaidLine) (before : List Piece) → joined before (pieces_of (in_order xs ys)) ≡ joined (pieces_of xs ++ before) (pieces_of ys)
 joined_order [] ys before = refl
@@ -351,18 +337,6 @@ words_meet_no_statement ss sound area after before l w e here h behind front m e
 pub word_here : (area : ℕ) (o : Option ℕ) (e : Extent) (n : ℕ) (v : Value) (before rest : List Piece) → o ≡ Some area → e ≡ Loading n v
     → word_of o e before rest ≡ Some (literal_word area before rest v)
 word_here area o e n v before rest h k = ap (λ z. word_of z e before rest) h ∙ ap (λ z. word_of (Some area) z before rest) k
-
-pub literals_share_words : (ss : List Statement) (area : ℕ) (after between before : List LaidLine) (l m : LaidLine) (n k : ℕ) (v : Value)
-    → laid ss ≡ after ++ l ∷ (between ++ m ∷ before) → l.area ≡ Some area → m.area ≡ Some area
-    → taken l.extent ≡ Loading n v → taken m.extent ≡ Loading k v → list_any (is_pool_of area) (pieces_of between) ≡ false
-    → word_among after l (between ++ m ∷ before) ≡ word_among (after ++ l ∷ between) m before
-literals_share_words ss area after between before l m n k v e here there h i none =
-    word_here area l.area (taken l.extent) n v (pieces_of (l ∷ (between ++ m ∷ before))) (pieces_of (in_order after [])) here h
-    ∙ ap (λ z. Some (literal_word area (piece_of l ∷ z) (pieces_of (in_order after [])) v)) (sym (pieces_before between (m ∷ before)))
-    ∙ ap Some (words_shared area (pieces_of (m ∷ before)) (pieces_of (in_order between [])) (pieces_of (in_order after [])) (piece_of l) v
-    (loading_no_pool (taken l.extent) n v h) (no_pools_order area between [] none refl))
-    ∙ ap (λ z. Some (literal_word area (pieces_of (m ∷ before)) z v)) (sym (pieces_split after between l))
-    ∙ sym (word_here area m.area (taken m.extent) k v (pieces_of (m ∷ before)) (pieces_of (in_order (after ++ l ∷ between) [])) there i)
 
 pub literals_stand_apart : (ss : List Statement) (area : ℕ) (after between before : List LaidLine) (l m : LaidLine) (n k : ℕ) (v u : Value) (later earlier : ℕ)
     → laid ss ≡ after ++ l ∷ (between ++ m ∷ before) → l.area ≡ Some area → m.area ≡ Some area

@@ -44,103 +44,9 @@ is_filled (what.Thumb l) = true
 is_filled (what.Pseudo l) = true
 is_filled (what.Directive l) = is_data l
 
--- in ARM state, what a statement puts into its area is no longer than what it takes up, wherever it starts
-abbrev pub UnitsFit : Type 0
-UnitsFit =
-    (c : Context) (data_names : List (List ℕ)) (s : Sight) (word : Option ℕ) (w : What) (e : Extent) (us : List Emitted)
-    → s.known.thumb ≡ false → extent_of s w ≡ Ok e → units c data_names s word w ≡ Ok us
-    → (literals : List Value) (at : ℕ) → length (units_bytes us) ≤ size_of literals at e
-
--- instructions and data are as long
-abbrev pub UnitsFill : Type 0
-UnitsFill =
-    (c : Context) (data_names : List (List ℕ)) (s : Sight) (word : Option ℕ) (w : What) (e : Extent) (us : List Emitted)
-    → is_filled w ≡ true → s.known.thumb ≡ false → extent_of s w ≡ Ok e → units c data_names s word w ≡ Ok us
-    → (literals : List Value) (at : ℕ) → length (units_bytes us) ≡ size_of literals at e
-
--- and other statements put nothing there
-abbrev pub OtherUnitsAreNone : Type 0
-OtherUnitsAreNone =
-    (c : Context) (data_names : List (List ℕ)) (s : Sight) (word : Option ℕ) (w : What)
-    → is_filled w ≡ false → units c data_names s word w ≡ Ok []
-
--- nor does one that takes up a pool, which holds the words of literals
-abbrev pub PoolsPutNothing : Type 0
-PoolsPutNothing =
-    (c : Context) (data_names : List (List ℕ)) (s : Sight) (word : Option ℕ) (w : What)
-    → extent_of s w ≡ Ok Pool → units c data_names s word w ≡ Ok []
-
--- ---- units of a statement
-
--- each lies inside the bytes of all
-abbrev pub UnitsLieInside : Type 0
-UnitsLieInside =
-    (at : ℕ) (us : List Emitted) (front back : List Piece) (p : Piece) → units_from at us ≡ front ++ p ∷ back
-    → (at ≤ p.0) × (p.0 + length (unit_bytes p.1) ≤ at + length (units_bytes us))
-
--- of two the later starts at the end of the earlier or behind it
-abbrev pub UnitsStandApart : Type 0
-UnitsStandApart =
-    (at : ℕ) (us : List Emitted) (front between back : List Piece) (p q : Piece)
-    → units_from at us ≡ front ++ p ∷ (between ++ q ∷ back) → p.0 + length (unit_bytes p.1) ≤ q.0
-
--- ---- lines of a source
-
--- of two lines of an area the later starts at the end of the earlier or behind it
-abbrev pub StatementsStandApart : Type 0
-StatementsStandApart =
-    (statements : List Statement) → IsSound statements
-    → (area : ℕ) (after between before : List LaidLine) (l m : LaidLine) → laid statements ≡ after ++ l ∷ (between ++ m ∷ before)
-    → l.area ≡ Some area → m.area ≡ Some area → m.offset + m.size ≤ l.offset
-
--- a line ends inside its area
-abbrev pub StatementsLieInAreas : Type 0
-StatementsLieInAreas =
-    (statements : List Statement) → IsSound statements
-    → (area : ℕ) (after before : List LaidLine) (l : LaidLine) → laid statements ≡ after ++ l ∷ before
-    → l.area ≡ Some area → l.offset + l.size ≤ area_size area (pieces_of (laid statements))
-
--- ---- words of literals
-
 -- where the word of a line's literal stands, if it has one, where these lines stand behind it and these before
 abbrev pub word_among : List LaidLine → LaidLine → List LaidLine → Option ℕ
 word_among after l before = word_of l.area (taken l.extent) (pieces_of (l ∷ before)) (pieces_of (in_order after []))
-
--- a word lies inside its area, aligned to 4
-abbrev pub WordsLieInAreas : Type 0
-WordsLieInAreas =
-    (statements : List Statement) (area : ℕ) (after before : List LaidLine) (l : LaidLine) (w : ℕ)
-    → laid statements ≡ after ++ l ∷ before → l.area ≡ Some area → word_among after l before ≡ Some w
-    → (w % 4 ≡ 0) × (w + 4 ≤ area_size area (pieces_of (laid statements)))
-
--- a word meets no statement of its area that isn't a pool
-abbrev pub WordsMeetNoStatement : Type 0
-WordsMeetNoStatement =
-    (statements : List Statement) → IsSound statements
-    → (area : ℕ) (after before : List LaidLine) (l : LaidLine) (w : ℕ)
-    → laid statements ≡ after ++ l ∷ before → l.area ≡ Some area → word_among after l before ≡ Some w
-    → (behind front : List LaidLine) (m : LaidLine)
-    → laid statements ≡ behind ++ m ∷ front → m.area ≡ Some area → is_pool (taken m.extent) ≡ false
-    → (m.offset + m.size ≤ w) ⊎ (w + 4 ≤ m.offset)
-
--- two lines with the same literal and no pool of their area between them have the same word
-abbrev pub LiteralsShareWords : Type 0
-LiteralsShareWords =
-    (statements : List Statement) (area : ℕ) (after between before : List LaidLine) (l m : LaidLine) (n k : ℕ) (v : Value)
-    → laid statements ≡ after ++ l ∷ (between ++ m ∷ before) → l.area ≡ Some area → m.area ≡ Some area
-    → taken l.extent ≡ Loading n v → taken m.extent ≡ Loading k v → list_any (is_pool_of area) (pieces_of between) ≡ false
-    → word_among after l (between ++ m ∷ before) ≡ word_among (after ++ l ∷ between) m before
-
--- and words that meet are of the same literal, with no pool of their area between them
-abbrev pub LiteralsStandApart : Type 0
-LiteralsStandApart =
-    (statements : List Statement) (area : ℕ) (after between before : List LaidLine) (l m : LaidLine) (n k : ℕ) (v u : Value) (later earlier : ℕ)
-    → laid statements ≡ after ++ l ∷ (between ++ m ∷ before) → l.area ≡ Some area → m.area ≡ Some area
-    → taken l.extent ≡ Loading n v → taken m.extent ≡ Loading k u
-    → word_among after l (between ++ m ∷ before) ≡ Some later → word_among (after ++ l ∷ between) m before ≡ Some earlier
-    → ((later ≡ earlier) × (v ≡ u) × (list_any (is_pool_of area) (pieces_of between) ≡ false)) ⊎ ((earlier + 4 ≤ later) ⊎ (later + 4 ≤ earlier))
-
--- ---- what stands in an area
 
 abbrev pub InArmState : List Statement → Type 0
 InArmState statements =
@@ -165,19 +71,6 @@ WordsAgree statements =
 abbrev pub StandApart : Piece → Piece → Type 0
 StandApart p q = (p.0 + length (unit_bytes p.1) ≤ q.0) ⊎ (q.0 + length (unit_bytes q.1) ≤ p.0)
 
-abbrev pub ThingsStandApart : Type 0
-ThingsStandApart =
-    (statements : List Statement) → IsSound statements → InArmState statements → WordsAgree statements
-    → (area : ℕ) (p q : Piece) → StandsIn (source_of statements) area p → StandsIn (source_of statements) area q
-    → (p ≡ q) ⊎ StandApart p q
-
--- and each lies inside the area
-abbrev pub ThingsLieInAreas : Type 0
-ThingsLieInAreas =
-    (statements : List Statement) → IsSound statements → InArmState statements
-    → (area : ℕ) (p : Piece) → StandsIn (source_of statements) area p
-    → p.0 + length (unit_bytes p.1) ≤ area_size area (pieces_of (laid statements))
-
 abbrev pub HasBareSymbol : Value → Type 0
 HasBareSymbol (Place s n) = IsBare s
 HasBareSymbol _ = Unit {0}
@@ -188,18 +81,10 @@ LiteralsAreBare statements =
     (after before : List LaidLine) (l : LaidLine) (n : ℕ) (v : Value)
     → laid statements ≡ after ++ l ∷ before → taken l.extent ≡ Loading n v → HasBareSymbol v
 
-abbrev pub LiteralWordsAgree : Type 0
-LiteralWordsAgree = (statements : List Statement) → ArePlain statements → LiteralsAreBare statements → WordsAgree statements
-
 -- in what statements load, names begin with no bar and no constant is a place
 abbrev pub AllLoadBare : List Statement → Type 0
 AllLoadBare [] = Unit {0}
 AllLoadBare (s ∷ before) = LoadsBare s.what × AllLoadBare before
-
-abbrev pub LoadedLiteralsAreBare : Type 0
-LoadedLiteralsAreBare = (statements : List Statement) → ArePlain statements → AllLoadBare statements → LiteralsAreBare statements
-
--- ---- what stands in an area, as a list
 
 -- what a line puts into the area, where these lines stand before it, the nearest first, and these behind it, in their order
 abbrev pub things_of : List Statement → ℕ → LaidLine → List LaidLine → List LaidLine → List Piece
@@ -225,14 +110,6 @@ ThingsAreListed =
 
 -- ---- sources without faults, as lines say them
 
-abbrev pub SaidLoadsAreBare : Type 0
-SaidLoadsAreBare = (statements : List Statement) → AllSaid statements → AllLoadBare statements
-
--- where laying out finds no fault, no line has one of its own
-abbrev pub FaultlessLayoutsAreSound : Type 0
-FaultlessLayoutsAreSound =
-    (statements : List Statement) → AllSaid statements → layout_faults statements ≡ None → IsSound statements × ArePlain statements
-
 abbrev pub IsNoCode16 : What → Type 0
 IsNoCode16 (what.Directive line.Code16) = ⊥
 IsNoCode16 _ = Unit {0}
@@ -250,20 +127,6 @@ SourcesStandApart =
     (statements : List Statement) → AllSaid statements → layout_faults statements ≡ None → InArmState statements
     → (area : ℕ) (p q : Piece) → StandsIn (source_of statements) area p → StandsIn (source_of statements) area q
     → (p ≡ q) ⊎ StandApart p q
-
-abbrev pub SourcesLieInAreas : Type 0
-SourcesLieInAreas =
-    (statements : List Statement) → layout_faults statements ≡ None → InArmState statements
-    → (area : ℕ) (p : Piece) → StandsIn (source_of statements) area p
-    → p.0 + length (unit_bytes p.1) ≤ area_size area (pieces_of (laid statements))
-
--- in an area of zeros nothing stands
-abbrev pub ZeroAreasHoldNothing : Type 0
-ZeroAreasHoldNothing =
-    (statements : List Statement) → layout_faults statements ≡ None
-    → (area : ℕ) (p : Piece) → contents_of area (laid statements) ≡ Some contents.Zeroes → StandsIn (source_of statements) area p → ⊥
-
--- ---- objects
 
 -- statements make one object at most
 abbrev pub OneObject : Type 0

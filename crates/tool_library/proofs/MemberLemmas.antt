@@ -14,29 +14,6 @@ abbrev pub behind : List Member → Result (List Member) Refusal → Result (Lis
 behind ms (Ok others) = Ok (ms ++ others)
 behind ms (Err r) = Err r
 
-more : (ms : List Member) (m : Member) (others : Result (List Member) Refusal) → behind ms (others >>= λ os. Ok (m ∷ os)) ≡ behind (ms ++ m ∷ []) others
-more ms m (Ok os) = ap Ok (sym (append_assoc ms (m ∷ []) os))
-more ms m (Err r) = refl
-
-opened : (names contents : List (List ℕ)) (k : ℕ) (name bytes : List ℕ) → k < length names → k < length contents → name ≡ get_or names k name → bytes ≡ get_or contents k bytes
-    → members_of (drop k names) (drop k contents) ≡ (member_of name bytes >>= λ m. members_of (drop (k + 1) names) (drop (k + 1) contents) >>= λ ms. Ok (m ∷ ms))
-opened names contents k name bytes lt lc n b =
-    let first : drop k names ≡ name ∷ drop (k + 1) names = rw (add-one) (drop-cons names k name lt ∙ ap (λ (x : List ℕ). x ∷ drop (suc k) names) (sym n)) in
-    let second : drop k contents ≡ bytes ∷ drop (k + 1) contents = rw (add-one) (drop-cons contents k bytes lc ∙ ap (λ (x : List ℕ). x ∷ drop (suc k) contents) (sym b)) in
-    rw (first, second) refl
-
-pub members_more : (names contents : List (List ℕ)) (k : ℕ) (name bytes : List ℕ) (ms : List Member) (m : Member) → k < length names → k < length contents → name ≡ get_or names k name → bytes ≡ get_or contents k bytes
-    → member_of name bytes ≡ Ok m
-    → behind ms (members_of (drop k names) (drop k contents)) ≡ behind (ms ++ m ∷ []) (members_of (drop (k + 1) names) (drop (k + 1) contents))
-members_more names contents k name bytes ms m lt lc n b is =
-    ap (behind ms) (opened names contents k name bytes lt lc n b ∙ ap (λ x. x >>= λ m'. members_of (drop (k + 1) names) (drop (k + 1) contents) >>= λ os. Ok (m' ∷ os)) is)
-    ∙ more ms m (members_of (drop (k + 1) names) (drop (k + 1) contents))
-
-pub members_stop : (names contents : List (List ℕ)) (k : ℕ) (name bytes : List ℕ) (ms : List Member) (r : Refusal) → k < length names → k < length contents → name ≡ get_or names k name → bytes ≡ get_or contents k bytes
-    → member_of name bytes ≡ Err r → behind ms (members_of (drop k names) (drop k contents)) ≡ Err r
-members_stop names contents k name bytes ms r lt lc n b is =
-    ap (behind ms) (opened names contents k name bytes lt lc n b ∙ ap (λ x. x >>= λ m'. members_of (drop (k + 1) names) (drop (k + 1) contents) >>= λ os. Ok (m' ∷ os)) is)
-
 -- the member at a place where the name was found
 pub placed : (ms : List Member) (place : ℕ) (name : List ℕ) (r m : Member) → place < length ms → r ≡ get_or ms place r → m ≡ get_or ms place m → bytes_eq r.name name ≡ true
     → member_named name (drop place ms) ≡ member_named name ms → member_named name ms ≡ Ok m

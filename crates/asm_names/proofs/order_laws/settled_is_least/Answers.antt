@@ -1,5 +1,0 @@
-use Rattle.asm_names.proofs.SettledLemmas.{settled_is_least}
-use Rattle.asm_names.proofs.order_laws.settled_is_least.Goals as goal
-
-pub returns : goal.returns
-returns c = settled_is_least
