@@ -4,7 +4,7 @@
 mod bus;
 mod devices;
 mod frames;
-mod meets;
+pub mod meets;
 mod memory;
 mod pages;
 

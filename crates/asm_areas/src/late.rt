@@ -7,7 +7,7 @@ ghost use Rattle.asm_model.specs.LayoutKinds as layout;
 ghost use Rattle.asm_areas.specs.Late as late;
 
 use crate::starts::AreaStart;
-use asm_checks::told::{first_told, kind_if};
+use asm_expr::told::{first_told, kind_if};
 use asm_model::{DirectiveLine, What};
 use asm_offsets::{LaidPools, literals_are_placed};
 use sdt_fault::kinds::LineKind;

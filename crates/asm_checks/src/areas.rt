@@ -9,7 +9,7 @@ ghost use Rattle.asm_model.specs.LayoutKinds as layout;
 ghost use Rattle.asm_checks.specs.Areas as areas_of;
 ghost use Rattle.asm_checks.specs.Areas.{AreAreasOf, IsExponent, IsNoted};
 
-use crate::told::{first_told, kind_if};
+use asm_expr::told::{first_told, kind_if};
 use asm_model::{AreaAttributes, Contents, DirectiveLine, What};
 use sdt_fault::kinds::LineKind;
 use sdt_fault::{NoMemory, Text};

@@ -12,7 +12,7 @@ use crate::areas::{AreaMarks, area_kind};
 use crate::labels::is_equal;
 use crate::names::is_repeated;
 use crate::places::{contents_from, contents_kind, is_entry, no_area_kind};
-use crate::told::{first_told, kind_if};
+use asm_expr::told::{first_told, kind_if};
 use asm_model::{Contents, Statement, What};
 use sdt_fault::kinds::LineKind;
 use sdt_fault::{NoMemory, Text};

@@ -7,6 +7,5 @@ pub mod checks;
 mod labels;
 mod names;
 mod places;
-pub mod told;
 
 pub use crate::checks::Checks;

@@ -7,7 +7,7 @@ ghost use Rattle.asm_model.specs.Labels.{defined_by};
 ghost use Rattle.asm_model.specs.LayoutKinds as layout;
 
 use crate::labels::{has_place, names_here};
-use crate::told::kind_if;
+use asm_expr::told::kind_if;
 use asm_model::{Contents, DirectiveLine, Statement, What};
 use sdt_fault::kinds::LineKind;
 

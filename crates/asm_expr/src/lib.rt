@@ -14,6 +14,7 @@ pub mod read;
 pub mod readings;
 pub mod registers;
 pub mod slots;
+pub mod told;
 pub mod value;
 
 pub use crate::directives::parse_directive;

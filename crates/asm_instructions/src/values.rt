@@ -2,8 +2,6 @@
 
 ghost use Rattle.std.specs.Prelude.{◌≡◌, ◌<◌, Result, IfOk};
 ghost use Rattle.sdt_fault.specs.declared.kinds.LineKind.{LineKind};
-ghost use Rattle.asm_model.specs.declared.values.Value.{Value};
-ghost use Rattle.asm_model.specs.Meaning.{IsValue};
 ghost use Rattle.asm_model.specs.Extents as extents;
 ghost use Rattle.said_model.specs.Said.{IsRead};
 ghost use Rattle.source_model.specs.Contexts as contexts;
@@ -11,21 +9,12 @@ ghost use Rattle.source_model.specs.Contexts.{Context};
 ghost use Rattle.asm_instructions.specs.Scenes.{Shows, context_of};
 
 use crate::scenes::{Scene, stands_at};
-use asm_model::{EvalFault, Expr, Value};
+use asm_expr::told::told_value;
+use asm_model::{Expr, Value};
 use asm_names::final_value;
 use sdt_fault::NoMemory;
 use sdt_fault::kinds::LineKind;
 use std::alloc::Global;
-
-fn told_value(value: Result<Value, EvalFault>) -> Result<Result<Value, LineKind>, NoMemory>
-    ensures { (m : Result Value LineKind) → IsValue m value → IfOk result (λ told. told ≡ m) }
-{
-    match value {
-        Ok(value) => Ok(Ok(value)),
-        Err(EvalFault::Kind(kind)) => Ok(Err(kind)),
-        Err(EvalFault::NoMemory) => Err(NoMemory),
-    }
-}
 
 /// The value of an expression with what the scene finds.
 pub fn value_there(

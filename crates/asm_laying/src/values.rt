@@ -3,8 +3,6 @@
 ghost use Rattle.std.specs.Prelude.{◌≡◌, ◌+◌, ◌%◌, ◌^◌, ℕ, Result, IfOk};
 ghost use Rattle.asm_model.specs.Says.{mapped};
 ghost use Rattle.sdt_fault.specs.declared.kinds.LineKind.{LineKind};
-ghost use Rattle.asm_model.specs.declared.values.Value.{Value};
-ghost use Rattle.asm_model.specs.Meaning.{IsValue};
 ghost use Rattle.asm_model.specs.Extents as extents;
 ghost use Rattle.asm_model.specs.LayoutKinds.{exponent};
 ghost use Rattle.asm_names.specs.Sights.{sight_of, IsNumber};
@@ -13,21 +11,12 @@ ghost use Rattle.asm_model.specs.declared.statements.What.TheVariants as kinds;
 ghost use Rattle.asm_model.specs.declared.directives.DirectiveLine.TheVariants as lines;
 ghost use Rattle.asm_laying.specs.Reading.{map_after, said_number};
 
+use asm_expr::told::told_value;
 use asm_model::{DirectiveLine, EvalFault, Expr, RnOperand, Value, What};
 use asm_names::{Place, literal_at, number_at, value_at};
 use sdt_fault::NoMemory;
 use sdt_fault::kinds::LineKind;
 use std::alloc::Global;
-
-fn told_value(value: Result<Value, EvalFault>) -> Result<Result<Value, LineKind>, NoMemory>
-    ensures { (m : Result Value LineKind) → IsValue m value → IfOk result (λ told. told ≡ m) }
-{
-    match value {
-        Ok(value) => Ok(Ok(value)),
-        Err(EvalFault::Kind(kind)) => Ok(Err(kind)),
-        Err(EvalFault::NoMemory) => Err(NoMemory),
-    }
-}
 
 fn told_number(number: Result<u32, EvalFault>) -> Result<Result<u32, LineKind>, NoMemory>
     ensures { (m : Result ℕ LineKind) → IsNumber m number → IfOk result (λ told. told ≡ m) }

@@ -2,14 +2,13 @@
 
 ghost use Rattle.std.specs.Prelude.{◌≡◌, ◌∷◌, IfOk};
 ghost use Rattle.asm_model.specs.AtLine as at_line;
-ghost use Rattle.asm_model.specs.FaultSets as sets;
 ghost use Rattle.asm_model.specs.Kinds.{told_kind};
 ghost use Rattle.asm_names.specs.Sights.{sight_of};
 ghost use Rattle.asm_names.specs.Steps as steps;
 
 use crate::copies::barred;
 use crate::places::{Place, is_declared, is_known, is_own};
-use asm_expr::kinds::earlier;
+use asm_expr::told::first_told;
 use asm_model::{ExprItem, UnaryOp};
 use sdt_fault::kinds::LineKind;
 use sdt_fault::{NoMemory, Text};
@@ -95,17 +94,6 @@ pub fn operator_first(items: &[ExprItem]) -> Option<UnaryOp>
     match items {
         [ExprItem::Unary(op), ..] => Some(*op),
         _ => None,
-    }
-}
-
-/// The one of two faults that is told.
-fn first_told(a: Option<LineKind>, b: Option<LineKind>) -> Option<LineKind>
-    ensures { result ≡ sets.first_told a b }
-{
-    match (a, b) {
-        (None, b) => b,
-        (Some(kind), None) => Some(kind),
-        (Some(kind), Some(other)) => Some(earlier(kind, other)),
     }
 }
 

@@ -8,7 +8,7 @@ ghost use Rattle.asm_registers.specs.Scoped.{told_of};
 use crate::lists::{items_kind, ranges_kind};
 use crate::naming::{Scope, four, one, three, two, with_rest};
 use crate::numbers::number_of;
-use crate::told::kind_if;
+use asm_expr::told::kind_if;
 use asm_model::{Address, ArmLine, HalfOffset, PseudoLine, Register, What};
 use sdt_fault::Text;
 use sdt_fault::kinds::LineKind;

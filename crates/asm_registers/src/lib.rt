@@ -7,6 +7,5 @@ mod lists;
 mod naming;
 mod numbers;
 pub mod registers;
-mod told;
 
 pub use crate::registers::Registers;

@@ -7,7 +7,7 @@ ghost use Rattle.asm_registers.specs.Scoped.{told_of};
 
 use crate::naming::{Scope, one, two};
 use crate::numbers::number_of;
-use crate::told::{first_told, kind_if};
+use asm_expr::told::{first_told, kind_if};
 use asm_model::{ListItem, Register};
 use sdt_fault::Text;
 use sdt_fault::kinds::LineKind;

@@ -9,7 +9,7 @@ ghost use Rattle.source_model.specs.Registers as registers;
 ghost use Rattle.asm_registers.specs.Scoped.{told_of};
 
 use crate::numbers::register_in;
-use crate::told::first_told;
+use asm_expr::told::first_told;
 use asm_model::Register;
 use asm_names::KnownNames;
 use sdt_fault::Text;

@@ -11,7 +11,7 @@ use crate::forms::{names_kind, operand_kind};
 use crate::giving::{given_kind, register_names};
 use crate::naming::Scope;
 use crate::numbers::number_of;
-use crate::told::first_told;
+use asm_expr::told::first_told;
 use asm_model::{Register, Statement};
 use asm_names::KnownNames;
 use sdt_fault::kinds::LineKind;

@@ -1,35 +1,15 @@
 //! What is judged before a bus is made: what meets, and what is no memory.
 
 ghost use Rattle.std.specs.Prelude.{◌≡◌, ◌+◌, ◌<◌, ◌≤◌, ◌^◌, ◌&&◌, ◌||◌, ℕ, false, true, map, MatchOption};
-ghost use Rattle.arm7_bus.specs.Meets.{IsFound, lesser_of, seats_have, seats_share};
+ghost use Rattle.arm7_bus.specs.Meets.{IsFound, seats_have, seats_share};
 ghost use Rattle.arm7_bus.specs.Seats.{has_access, seats_by};
 ghost use Rattle.arm7_bus.specs.States.{bank_has};
 ghost use Rattle.run_opening.specs.Banks.{banks_share, is_lacking, lacks, memory_bank, two_have};
 
 use crate::image::Need;
+use arm7_bus::meets::{first_shared, lesser};
 use sdt_outside::Device;
 use sdt_word::Range32;
-
-/// The lesser of two addresses, where there are two.
-fn lesser(a: Option<u32>, b: Option<u32>) -> Option<u32>
-    ensures { result ≡ lesser_of a b }
-{
-    let Some(x) = a else {
-        return b;
-    };
-    let Some(y) = b else {
-        return a;
-    };
-    Some(x.min(y))
-}
-
-/// The least address that both ranges have.
-#[tactic(auto, using(arm7_bus::proofs::MeetLemmas::meets_found))]
-fn first_shared(r: Range32, s: Range32) -> Option<u32>
-    ensures { IsFound (λ a. has_access r.base r.size a 1 && has_access s.base s.size a 1) result }
-{
-    r.meets(&s)
-}
 
 /// The least address that the range shares with a bank.
 fn shared_with_banks(banks: &[Range32], r: Range32) -> Option<u32>

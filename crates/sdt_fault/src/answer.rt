@@ -5,7 +5,7 @@ ghost use Rattle.sdt_fault.specs.Answers.{status};
 ghost use Rattle.sdt_fault.specs.declared.answer.Fault.TheVariants as fault;
 
 use crate::NoMemory;
-use crate::names::Text;
+use crate::contents::Text;
 use crate::refusal::Refusal;
 use std::alloc::{AllocError, AllocFailed};
 

@@ -1,4 +1,4 @@
-//! Contents of files: vectors of bytes that contracts see as lists of bytes.
+//! Bytes of names, files and strings: vectors that contracts see as lists of bytes.
 
 ghost use Rattle.std.specs.Prelude.{◌≡◌, ◌<◌, ◌^◌, ℕ, List, length, nat_eq, refl, IfOk, Some};
 ghost use Rattle.std.proofs.Common.{rules};
@@ -14,11 +14,14 @@ use std::cmp::Ordering;
 use std::hash::{Hash, Hasher};
 use std::marker::Model;
 
-/// The content of a file or an area, or the value of a string: any bytes.
+/// The content of a file or an area, or the value of a string: any bytes, kept exactly as they were given.
 #[derive(Debug, Drop)]
 pub struct Bytes {
     bytes: Vec<u8>,
 }
+
+/// A name or a line. Names need not be UTF-8.
+pub type Text = Bytes;
 
 impl Model for Bytes {
     ghost Value = { List ℕ };

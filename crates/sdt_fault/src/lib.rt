@@ -7,13 +7,11 @@ pub mod contents;
 pub mod digits;
 pub mod kinds;
 pub mod lists;
-pub mod names;
 pub mod refusal;
 pub mod report;
 
-pub use crate::contents::Bytes;
+pub use crate::contents::{Bytes, Text};
 pub use crate::lists::List;
-pub use crate::names::Text;
 use std::alloc::{AllocError, AllocFailed};
 
 /// Memory was refused. It says nothing else.

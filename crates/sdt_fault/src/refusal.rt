@@ -1,7 +1,7 @@
 //! The refusals: each names a defect that is there, with its place.
 
+use crate::contents::Text;
 use crate::kinds::{CommandKind, FileKind, LineKind, Quantity, RecordKind, ScatterKind};
-use crate::names::Text;
 
 /// Why a command was refused. Its number, its word and the order of its fields are this project's; a
 /// place or line that would be 2^32 is told as 2^32 - 1.

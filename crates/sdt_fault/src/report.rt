@@ -8,8 +8,8 @@ ghost use Rattle.sdt_fault.specs.Answers.{answer_text, stop_text};
 
 use crate::NoMemory;
 use crate::answer::{Answer, Stop};
+use crate::contents::Text;
 use crate::digits::{push_decimal, push_hexadecimal};
-use crate::names::Text;
 use crate::refusal::Refusal;
 use std::alloc::Global;
 
