@@ -77,7 +77,12 @@ fn settle(alloc: Global, outcome: &Option<Outcome>) -> Result<(), Fault> {
         return Ok(());
     };
     if !outcome.answer_wanted {
-        return Err(failed(alloc, outcome.line, "a status or an answer behind it", "none"));
+        return Err(failed(
+            alloc,
+            outcome.line,
+            "a status or an answer behind it",
+            "none",
+        ));
     }
     if !outcome.text_wanted && !outcome.sink.bytes.is_empty() {
         let mut came = String::new(alloc);
@@ -128,7 +133,12 @@ fn called<T: Tool>(
 
 fn set(alloc: Global, bench: &mut Bench, line: usize, setting: &Setting) -> Result<(), Fault> {
     match setting {
-        Setting::File { name, content } => put_file(alloc, &mut bench.store, name, content.as_slice()),
+        Setting::File { name, content } => put_file(
+            alloc,
+            &mut bench.store,
+            name,
+            content.as_slice(),
+        ),
         Setting::Cut { name, length } => cut(alloc, &mut bench.store, line, name, *length),
         Setting::Patch { name, at, bytes } => {
             patch(alloc, &mut bench.store, line, name, *at, bytes.as_slice())

@@ -33,7 +33,13 @@ pub fn check_files<T: Tool, S: Store>(
         let cases = read_cases(alloc, store, name.as_str())?;
         for case in cases.iter() {
             let outcome = carried_out(alloc, tool, case);
-            note(alloc, &mut report, name.as_str(), case.name.as_slice(), outcome)?;
+            note(
+                alloc,
+                &mut report,
+                name.as_str(),
+                case.name.as_slice(),
+                outcome,
+            )?;
         }
     }
     let Report { passed, failed, .. } = &report;
@@ -148,14 +154,11 @@ fn cases_of(alloc: Global, text: &str) -> Result<Vec<Case>, NoMemory> {
     Ok(cases)
 }
 
-// A case without steps: its name, and a sentence behind it.
+// A case without steps. Its name ends at the line's first colon with a blank, behind which a sentence stands.
 fn begun(alloc: Global, cases: &[Case], section: &Section) -> Result<Case, NoMemory> {
-    let head = section.head.as_str();
-    let Some((name, sentence)) = head.split_once(": ") else {
-        return unread(alloc, section.line, head, "NAME: SENTENCE", head);
-    };
-    if name.is_empty() || sentence.is_empty() {
-        return unread(alloc, section.line, head, "NAME: SENTENCE", head);
+    let name = name_of(section.head.as_str());
+    if name.is_empty() {
+        return unread(alloc, section.line, "-", "a name", "none");
     }
     if is_taken(cases, name.as_bytes()) {
         return unread(alloc, section.line, name, "a name of its own", name);
@@ -168,6 +171,13 @@ fn begun(alloc: Global, cases: &[Case], section: &Section) -> Result<Case, NoMem
     })
 }
 
+fn name_of(head: &str) -> &str {
+    match head.split_once(": ") {
+        Some((name, _)) => name.trim(),
+        None => head.trim(),
+    }
+}
+
 fn is_taken(cases: &[Case], name: &[u8]) -> bool {
     cases.iter().any(|case| case.name.as_slice() == name)
 }
@@ -175,7 +185,13 @@ fn is_taken(cases: &[Case], name: &[u8]) -> bool {
 // Adds a step to the last case, unless a line of the case couldn't be read.
 fn add_step(alloc: Global, cases: &mut Vec<Case>, section: &Section) -> Result<(), NoMemory> {
     let Some(case) = cases.last_mut() else {
-        let case = unread(alloc, section.line, "-", "a case in front of its steps", section.head.as_str())?;
+        let case = unread(
+            alloc,
+            section.line,
+            "-",
+            "a case in front of its steps",
+            section.head.as_str(),
+        )?;
         cases.push(case)?;
         return Ok(());
     };
