@@ -40,7 +40,7 @@ pub fn line_start(content: &[u8], place: usize) -> usize {
 /// The bytes of a content from a place on to the end of the line, in quotes and with escapes; no more than fit a report.
 pub fn push_shown(out: &mut String, content: &[u8], from: usize) -> Result<(), NoMemory> {
     if from >= content.len() {
-        out.push_str("its end")?;
+        out.push_str("the end")?;
         return Ok(());
     }
     out.push_str("\"")?;
