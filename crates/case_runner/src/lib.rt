@@ -1,0 +1,14 @@
+//! Cases as data: text files that say what a store holds, which commands are run, and what is wanted of each.
+//! `docs/CASES.md` has the format.
+#![tactic(auto)]
+
+mod bench;
+mod cases;
+mod contents;
+mod files;
+mod sections;
+mod steps;
+mod words;
+
+pub use crate::bench::Tool;
+pub use crate::files::{Report, check_files};

@@ -1,0 +1,51 @@
+//! Carries out the cases of the files that its words name, and tells which of them fail.
+#![tactic(auto)]
+
+use case_runner::{Tool, check_files};
+use sdt_fault::answer::Answer;
+use sdt_outside::{Device, FileStore, MemorySink, MemoryStore};
+use sdt_toolkit::run_tool;
+use std::alloc::Global;
+use std::io::Write;
+use std::process::ExitCode;
+use std::{env, io};
+
+/// The top call.
+struct Toolkit;
+
+impl Tool for Toolkit {
+    fn run(
+        &self,
+        alloc: Global,
+        words: &[String],
+        store: &mut MemoryStore,
+        sink: &mut MemorySink,
+        devices: &mut Vec<Box<dyn Device>>,
+    ) -> Answer {
+        run_tool(alloc, words, store, sink, devices)
+    }
+}
+
+/// The status is 0 where all cases pass, 1 where one fails, and 2 where that can't be told.
+fn main(rt: HostRuntime) -> ExitCode {
+    match check(&rt) {
+        Ok(0) => ExitCode::from(0),
+        Ok(_) => ExitCode::from(1),
+        Err(_) => ExitCode::from(2),
+    }
+}
+
+// The number of cases that fail.
+fn check(rt: &HostRuntime) -> io::Result<u64> {
+    let mut names = Vec::new(rt.alloc());
+    for name in env::args(rt)?.skip(1) {
+        names.push(name)?;
+    }
+    let mut files = FileStore::new(rt.clone()?);
+    let Ok(report) = check_files(rt.alloc(), &Toolkit, &mut files, names.as_slice()) else {
+        return Err(io::ErrorKind::OutOfMemory.into());
+    };
+    let mut output = rt.stdout();
+    output.write_all(report.text.as_slice())?;
+    Ok(report.failed)
+}
