@@ -13,6 +13,3 @@ pub use crate::laws::{first_wrong_law, map_law, one_record, spelling_law};
 pub use crate::reading::read_map;
 pub use crate::records::{MapFile, MapLoad, MapRegion, OutFile};
 pub use crate::writing::write_map;
-
-#[cfg(test)]
-mod tests;

@@ -9,6 +9,3 @@ mod opening;
 
 pub use crate::image::{Image, Load, Need};
 pub use crate::opening::{Closed, open};
-
-#[cfg(test)]
-mod tests;

@@ -5,6 +5,3 @@ pub mod list;
 pub mod listings;
 
 pub use crate::list::list_file;
-
-#[cfg(test)]
-mod tests;

@@ -7,7 +7,5 @@ pub mod items;
 pub mod names;
 pub mod numerals;
 pub mod rules;
-#[cfg(test)]
-mod tests;
 
 pub use crate::command::{Bank, Command, RunImage, RunWords, WordsFault, read_words};

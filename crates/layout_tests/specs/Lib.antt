@@ -1,2 +1,0 @@
--- What helpers of the tests are asked for.
-pub mod Lines

@@ -1,2 +1,0 @@
--- What the tests' helpers are proved by.
-mod LineLemmas
