@@ -16,6 +16,7 @@ use Rattle.sdt_fault.specs.declared.answer.Fault.TheVariants as fault
 use Rattle.aof_object.specs.Names.{among}
 use Rattle.aof_object.specs.Index.{Numbers, number_in, or_number}
 use Rattle.aof_object.proofs.NamesLemmas.{among-push}
+use Rattle.aof_object.proofs.ValidLaw.{some_or}
 
 -- what is left to read from an offset on gives the whole, with turns enough
 pub record Left (b : List ℕ) (spans : List (Option Span)) (start : ℕ) (dir : List ℕ) (at : ℕ) (before : List Member) (whole : Result (List Member) Refusal) : Type 0 where
@@ -70,14 +71,6 @@ pub adds_fails : (e : Fault) (after : List Member) (read : Result (List Member) 
 adds_fails fault.NoMemory after read h = tt
 adds_fails (fault.Refused r) after read h = h
 adds_fails (fault.ReadFault name) after read h = h
-
-some_or : (o : Option ℕ) (name q : List ℕ) (k : ℕ) → is_some (or_number o name k q) ≡ (is_some o || bytes_eq name q)
-some_or (Some j) name q k = refl
-some_or None name q k = tested (bytes_eq name q)
-  where
-    tested : (b : Bool) → is_some (cond b (Some k) None) ≡ b
-    tested true = refl
-    tested false = refl
 
 pub names_more : (m n : Numbers) (ms : List Member) (x : Member) (k : ℕ) → ((q : List ℕ) → is_some (number_in m q) ≡ among q (member_names ms))
     → ((q : List ℕ) → number_in n q ≡ or_number (number_in m q) x.name k q) → (q : List ℕ) → is_some (number_in n q) ≡ among q (member_names (ms ++ x ∷ []))

@@ -8,6 +8,7 @@ use Rattle.sdt_fault.specs.declared.refusal.Refusal.{Refusal}
 use Rattle.chunk_file.specs.Reading.{◌>>=◌, EachStands}
 use Rattle.chunk_file.proofs.Loops.{bind_ok}
 use Rattle.aof_object.specs.Objects.{each_of}
+use Rattle.chunk_file.proofs.Loops.{push}
 
 pub both : {A : Type 0} (R S : List A → A → Type 0) (before xs : List A) → EachStands R before xs → EachStands S before xs → EachStands (λ b x. R b x × S b x) before xs
 both R S before [] h k = tt
@@ -46,9 +47,6 @@ to_map {A} {B} f R before (x ∷ xs) h =
 
 abbrev pub AgreesOf : {H A : Type 0} → (A → H) → (List A → H → Result A Refusal) → (List A → A → Type 0) → Type 0
 AgreesOf {H} {A} key step stands = (before : List A) (h : H) (x : A) → (step before h ≡ Ok x) ↔ ((key x ≡ h) × stands before x)
-
-push : {A : Type 0} (before : List A) (x : A) (ys : List A) → (before ++ x ∷ []) ++ ys ≡ before ++ (x ∷ ys)
-push before x ys = append_assoc before (x ∷ []) ys
 
 of_stands : {H A : Type 0} (key : A → H) (step : List A → H → Result A Refusal) (stands : List A → A → Type 0) → AgreesOf key step stands
     → (hs : List H) (before all : List A) → each_of step hs before ≡ Ok all → (ys : List A) × (all ≡ before ++ ys) × (map key ys ≡ hs) × EachStands stands before ys

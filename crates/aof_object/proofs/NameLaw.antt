@@ -7,6 +7,7 @@ use Rattle.std.specs.Str.{bytes_eq}
 use Rattle.std.proofs.lemmas.Bool.{ltb-false, le-ltb, false_from_ne_true}
 use Rattle.std.proofs.lemmas.Slice.Eq.{bytes_eq-Decides}
 use Rattle.aof_object.specs.Names.{terminated, name_at, IsText, IsNameAt, among, Lacks}
+use Rattle.base_lemmas.proofs.BaseLemmas.{neither}
 
 abbrev there : {A : Type 0} → A → Option A
 there x = Some x
@@ -56,10 +57,6 @@ name_law strings at n = (
 )
 
 -- ---- among
-
-neither : (a b : Bool) → (a || b) ≡ false → (a ≡ false) × (b ≡ false)
-neither true b e = absurd cc
-neither false b e = (refl, e)
 
 differ : (n q : List ℕ) → bytes_eq n q ≡ false → n ≢ q
 differ n q e same = let t = (bytes_eq-Decides n q).1 same in absurd cc

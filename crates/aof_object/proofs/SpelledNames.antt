@@ -9,16 +9,9 @@ use Rattle.std.proofs.lemmas.Slice.Eq.{bytes_eq-Decides}
 use Rattle.chunk_file.specs.Reading.{EachStands}
 use Rattle.aof_object.specs.Names.{IsText, IsNameAt, among, Lacks, number_from}
 use Rattle.aof_object.specs.Spelling.{gathered, ended, strings_of, spot_from, place}
+use Rattle.base_lemmas.proofs.BaseLemmas.{true_or as or_left, or_true}
 
 -- ---- names that were gathered
-
-or_true : (a b : Bool) → b ≡ true → (a || b) ≡ true
-or_true true b h = refl
-or_true false b h = h
-
-or_left : (a b : Bool) → a ≡ true → (a || b) ≡ true
-or_left true b h = refl
-or_left false b h = absurd cc
 
 same_text : (q : List ℕ) → bytes_eq q q ≡ true
 same_text q = (bytes_eq-Decides q q).1 refl

@@ -30,7 +30,7 @@ use Rattle.aof_object.proofs.SpelledRows.{AreaReady, area_says, area_long, Reloc
 
 -- ---- items by their number
 
-all_get : {A : Type 0} (P : A → Type 0) (xs : List A) (k : ℕ) (x : A) → AllByRecursion P xs → slice_get xs k ≡ Some x → P x
+pub all_get : {A : Type 0} (P : A → Type 0) (xs : List A) (k : ℕ) (x : A) → AllByRecursion P xs → slice_get xs k ≡ Some x → P x
 all_get P [] k x h e = absurd cc
 all_get P (y ∷ xs) zero x h e = let same : y ≡ x = cc in subst P same h.0
 all_get P (y ∷ xs) (suc k) x h e = all_get P xs k x h.1 e

@@ -30,6 +30,7 @@ use Rattle.aof_object.proofs.NameLaw.{lacks_law}
 use Rattle.aof_object.proofs.SymbolLaw.{fresh_law}
 use Rattle.aof_object.proofs.Checked.{AreaPasses, area_law, reloc_law, HomePasses, SymbolPasses, symbol_law, entry_law}
 use Rattle.aof_object.proofs.Lists.{weaker, all_of, both, with_all}
+use Rattle.base_lemmas.proofs.BaseLemmas.{both_true}
 
 -- ---- a loop over items
 
@@ -41,7 +42,7 @@ pass_more test xs i x w lt is ok so_far =
     let one : all_pass test (take i xs) (drop i xs) ≡ all_pass test (take i xs ++ x ∷ []) (drop (i + 1) xs) = rw (d, ok) refl in
     ap (λ before. all_pass test before (drop (i + 1) xs)) t ∙ sym one ∙ so_far
 
-some_or : (o : Option ℕ) (name q : List ℕ) (k : ℕ) → is_some (or_number o name k q) ≡ (is_some o || bytes_eq name q)
+pub some_or : (o : Option ℕ) (name q : List ℕ) (k : ℕ) → is_some (or_number o name k q) ≡ (is_some o || bytes_eq name q)
 some_or (Some j) name q k = refl
 some_or None name q k = tested (bytes_eq name q)
   where
@@ -65,11 +66,7 @@ exported_after m n xs i x lt is known new q =
 
 -- ---- tests and facts
 
-both_true : (a b : Bool) → (a && b) ≡ true → (a ≡ true) × (b ≡ true)
-both_true true b e = (refl, e)
-both_true false b e = absurd cc
-
-and_true : (a b : Bool) → a ≡ true → b ≡ true → (a && b) ≡ true
+pub and_true : (a b : Bool) → a ≡ true → b ≡ true → (a && b) ≡ true
 and_true true b x y = y
 and_true false b x y = absurd cc
 

@@ -15,7 +15,7 @@ later : (used : List Bool) (first n p : ℕ) → first + n ≤ p → get_or (cla
 later used first zero p le = refl
 later used first (suc n) p le = get_or-set_other (claimed used first n) (first + n) p true false (omega arith) ∙ later used first n p (omega arith)
 
-count_fresh : (us : List Bool) (p : ℕ) → p < length us → get_or us p false ≡ false → used_count (set us p true) ≡ used_count us + 1
+pub count_fresh : (us : List Bool) (p : ℕ) → p < length us → get_or us p false ≡ false → used_count (set us p true) ≡ used_count us + 1
 count_fresh us p lt e = let h = rw e at (sum_by-set (λ (u : Bool). cond u 1 0) us p true false lt) in omega (arith, h)
 
 count_used : (us : List Bool) (p : ℕ) → p < length us → get_or us p false ≡ true → used_count (set us p true) ≡ used_count us

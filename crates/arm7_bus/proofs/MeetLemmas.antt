@@ -12,7 +12,7 @@ or_left true y e f = refl
 or_left false true e f = absurd (cc)
 or_left false false e f = e
 
-or_true : (x : Bool) → (x || true) ≡ true
+pub or_true : (x : Bool) → (x || true) ≡ true
 or_true true = refl
 or_true false = refl
 
@@ -20,11 +20,11 @@ or_cases : (x y : Bool) → (x || y) ≡ true → (x ≡ true) ⊎ (y ≡ true)
 or_cases true y e = inl refl
 or_cases false y e = inr e
 
-and_left : (x y : Bool) → (x && y) ≡ true → x ≡ true
+pub and_left : (x y : Bool) → (x && y) ≡ true → x ≡ true
 and_left true y e = refl
 and_left false y e = e
 
-and_right : (x y : Bool) → (x && y) ≡ true → y ≡ true
+pub and_right : (x y : Bool) → (x && y) ≡ true → y ≡ true
 and_right true y e = e
 and_right false y e = absurd (cc)
 

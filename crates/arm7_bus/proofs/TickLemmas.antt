@@ -21,7 +21,7 @@ fiq_below zero ds = false
 fiq_below (suc i) [] = false
 fiq_below (suc i) (d ∷ ds) = (lines_of (ticked d.state)).fiq || fiq_below i ds
 
-or_false : (x : Bool) → (x || false) ≡ x
+pub or_false : (x : Bool) → (x || false) ≡ x
 or_false true = refl
 or_false false = refl
 

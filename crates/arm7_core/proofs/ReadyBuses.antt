@@ -13,14 +13,8 @@ use Rattle.arm7_bus.specs.States.{State, IsStart, bank_has, pages_of}
 use Rattle.arm7_bus.specs.WholeWords.{IsWhole, AreWholeBanks, AreWholeSeats}
 use Rattle.arm7_bus.proofs.ClaimLemmas.{claimed_length}
 use Rattle.arm7_transfers.specs.Ready.{IsReady, IsLaidOut}
-
-false-true : {A : Type 0} → false ≡ true → A
-false-true e = absurd (wrong e)
-  where
-    wrong : false ≡ true → ⊥
-    wrong e = cc
-
--- ---- a new bus
+use Rattle.arm7_bus.proofs.MeetLemmas.{or_true as or-true}
+use Rattle.arm7_model.proofs.ValidThumb.{never as false-true}
 
 pub laid_out-new : (seats : List Seat) (s : State) → IsNew seats s → AreWholeSeats seats → IsNowhere (λ a. seats_share seats a) → IsLaidOut s
 laid_out-new seats s n whole alone = record {
@@ -132,10 +126,6 @@ whole-removed [] zero w = tt
 whole-removed [] (suc i) w = tt
 whole-removed (d ∷ ds) zero w = w.1
 whole-removed (d ∷ ds) (suc i) w = (w.0, whole-removed ds i w.1)
-
-or-true : (x : Bool) → (x || true) ≡ true
-or-true true = refl
-or-true false = refl
 
 have-removed : (ds : List Seat) (i a : ℕ) → seats_have (remove ds i) a ≡ true → seats_have ds a ≡ true
 have-removed [] zero a h = h

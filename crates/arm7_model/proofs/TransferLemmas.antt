@@ -14,6 +14,7 @@ use Rattle.arm7_model.specs.Transfers.{loaded, stored, loaded_value, load_end}
 use Rattle.arm7_model.specs.Blocks.{take_end, block_loaded, block_stored, with_block_base, take_all, give_all, all_there, all_may_store, with_listed, listed_at}
 use Rattle.arm7_model.proofs.MemoryLemmas.{all-from, any-from, store-append, bytes_of-word, load-add}
 use Rattle.arm7_model.proofs.Placed.{words_at, store_words, loads_at, stores_at, with_words}
+use Rattle.sdt_word.proofs.NumbersLemmas.{rotated-none as rotated-zero}
 
 -- ---- what is there
 
@@ -37,9 +38,6 @@ unfolding may_store
 may_store-mapped board a n h w = rw (all-from board.memory a n h, any-from board.read_only a n w) refl
 
 -- ---- one word
-
-pub rotated-zero : (v : ℕ) → rotated v 0 ≡ v
-rotated-zero v = omega arith
 
 aligned-same : (a : ℕ) → a % 4 ≡ 0 → a - a % 4 ≡ a
 aligned-same a h = omega arith

@@ -20,6 +20,7 @@ use Rattle.arm7_model.proofs.ValidRegisters.{IsNearlyValid, nearly, whole, nearl
 use Rattle.arm7_model.proofs.ValidValues.{carry-le, by_amount-fits, by_register-fits, immediate-fits}
 use Rattle.arm7_model.proofs.ValidEffects.{IsGood, ran-good, hosted-good, raised-good, given_back-good, calculated-valid, multiplied-valid, multiplied_long-valid}
 use Rattle.arm7_model.proofs.ValidTransfers.{transferred-good, swapped-good, block_moved-good}
+use Rattle.base_lemmas.proofs.BaseLemmas.{second_false as and-true, not_false as not-true}
 
 or-left : (a b : Bool) → (a || b) ≡ false → a ≡ false
 or-left true b h = absurd (wrong h)
@@ -34,20 +35,6 @@ or-right true b h = absurd (wrong h)
     wrong : true ≡ false → ⊥
     wrong h = cc
 or-right false b h = h
-
-not-true : (b : Bool) → not b ≡ false → b ≡ true
-not-true true h = refl
-not-true false h = absurd (wrong h)
-  where
-    wrong : true ≡ false → ⊥
-    wrong h = cc
-
-and-true : (a b : Bool) → a ≡ true → (a && b) ≡ false → b ≡ false
-and-true true b e h = h
-and-true false b e h = absurd (wrong e)
-  where
-    wrong : false ≡ true → ⊥
-    wrong h = cc
 
 not-pc : (k : ℕ) → is_pc k ≡ false → k ≢ 15
 not-pc k h = eqb-false k 15 h

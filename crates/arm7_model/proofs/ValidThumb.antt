@@ -156,7 +156,7 @@ choose-small : (e : Bool) (n : ℕ) (s : ArmState) → IsValid s → n < 8 → (
 choose-small true n s h hn = omega arith
 choose-small false n s h hn = register-small s n (nearly s h)
 
-never : {A : Type 0} → false ≡ true → A
+pub never : {A : Type 0} → false ≡ true → A
 never h = absurd (wrong h)
   where
     wrong : false ≡ true → ⊥

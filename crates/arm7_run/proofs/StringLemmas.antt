@@ -5,6 +5,8 @@ use Rattle.std.proofs.lemmas.Bool.Decides.{eqb_tells}
 use Rattle.sdt_outside.specs.Sinks.{Got, GotPart}
 use Rattle.arm7_bus.specs.States.{Contents}
 use Rattle.arm7_run.specs.Strings.{HasByte, byte_behind, bytes_behind}
+use Rattle.base_lemmas.proofs.BaseLemmas.{on_err}
+use Rattle.sdt_outside.proofs.SharedLemmas.{got_none}
 
 assoc : (a b c : List ℕ) → ((a ++ b) ++ c) ≡ (a ++ (b ++ c))
 assoc [] b c = refl
@@ -13,10 +15,6 @@ assoc (x ∷ a) b c = ap (λ (r : List ℕ). x ∷ r) (assoc a b c)
 pub no_more : (a : List ℕ) → (a ++ []) ≡ a
 no_more [] = refl
 no_more (x ∷ a) = ap (λ (r : List ℕ). x ∷ r) (no_more a)
-
-pub got_none : (b : Option (List ℕ)) → Got b b []
-got_none None = refl
-got_none (Some text) = ap (λ (r : List ℕ). Some r) (sym (no_more text))
 
 pub got_more : (b0 b1 b2 : Option (List ℕ)) (p q : List ℕ) → Got b0 b1 p → Got b1 b2 q → Got b0 b2 (p ++ q)
 got_more None b1 b2 p q h k = subst (λ (b : Option (List ℕ)). Got b b2 q) h k
@@ -56,7 +54,3 @@ bytes_whole c a n count byte h e =
   where
     counts : n < count → count ≡ suc n + (count - suc n)
     counts h = omega (arith, h)
-
-pub on_err : {A B : Type 0} (r : Result A B) (P : Type 0) → P → OnErr r P
-on_err (Ok a) P p = tt
-on_err (Err e) P p = p

@@ -13,7 +13,8 @@ use Rattle.arm7_run.specs.declared.host.Turn.TheVariants as turn
 use Rattle.arm7_run.specs.declared.host.RunEnd.{RunEnd}
 use Rattle.arm7_run.specs.Runs.{Leads, goes, stays, RunsInto}
 use Rattle.arm7_run.specs.Turns.{Bytes, Strings, Turned, Turns, ended}
-use Rattle.arm7_run.proofs.StringLemmas.{got_more, got_none, no_more, part_more}
+use Rattle.arm7_run.proofs.StringLemmas.{got_more, no_more, part_more}
+use Rattle.sdt_outside.proofs.SharedLemmas.{got_none}
 
 string : (t : Turn) (at : ℕ) (core : ArmState) (s : State) (before after : Option (List ℕ)) (rose : Type 0)
     → Strings t s.contents (register core 0) before after rose → Turns t (event.Host 2) at core s before after rose

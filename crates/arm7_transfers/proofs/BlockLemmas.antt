@@ -17,9 +17,12 @@ use Rattle.arm7_transfers.specs.Boards.{board_of, working}
 use Rattle.arm7_transfers.specs.Frames.{stored_to, used_with}
 use Rattle.arm7_transfers.specs.Ready.{IsReady}
 use Rattle.arm7_transfers.specs.Served.{given, value_at, served, answers_to}
-use Rattle.arm7_transfers.proofs.BoardLemmas.{there-whole, may-whole, reads, loads, contents-read, false-true}
-use Rattle.arm7_transfers.proofs.ReadyLemmas.{ready-read, ready-write, board-read, set-grows, set-fresh}
+use Rattle.arm7_transfers.proofs.BoardLemmas.{there-whole, may-whole, reads, loads, contents-read}
+use Rattle.arm7_transfers.proofs.ReadyLemmas.{ready-read, ready-write, board-read, set-grows}
 use Rattle.arm7_transfers.proofs.StoreLemmas.{CanStore, Notes, stores-word, board-write, places-write, notes-write}
+use Rattle.arm7_bus.proofs.ClaimLemmas.{count_fresh as set-fresh}
+use Rattle.arm7_bus.proofs.MeetLemmas.{and_left as and-left, and_right as and-right}
+use Rattle.arm7_model.proofs.ValidThumb.{never as false-true}
 
 -- ---- the places of a list
 
@@ -37,14 +40,6 @@ places_here k list b lt e t =
     ap (λ (n : ℕ). places_from k n list) (one_more k lt)
     ∙ kept-one (bit list k) k (places_from (suc k) (16 - (k + 1)) list) (eqb-true (bit list k) 1 (sym e ∙ t))
     ∙ ap (λ (ks : List ℕ). k ∷ ks) (sym (next-place k (16 - (k + 1)) list))
-
-and-left : (x y : Bool) → (x && y) ≡ true → x ≡ true
-and-left true y e = refl
-and-left false y e = e
-
-and-right : (x y : Bool) → (x && y) ≡ true → y ≡ true
-and-right true y e = e
-and-right false y e = false-true e
 
 left-true : (x y : Bool) → (x && not y) ≡ true → x ≡ true
 left-true true y h = refl

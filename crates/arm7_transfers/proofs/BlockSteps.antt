@@ -19,10 +19,11 @@ use Rattle.arm7_transfers.specs.Boards.{board_of}
 use Rattle.arm7_transfers.specs.Frames.{Fits, Misses, may_be_stored, least_unused, used_with}
 use Rattle.arm7_transfers.specs.Ready.{IsReady}
 use Rattle.arm7_transfers.specs.Served.{value_at, served}
-use Rattle.arm7_transfers.proofs.BoardLemmas.{there-whole, may-whole, false-true}
+use Rattle.arm7_transfers.proofs.BoardLemmas.{there-whole, may-whole}
 use Rattle.arm7_transfers.proofs.BlockLemmas.{places_here}
 use Rattle.arm7_transfers.proofs.PageLemmas.{pages-needed}
 use Rattle.arm7_transfers.proofs.ReadyLemmas.{set-used}
+use Rattle.arm7_model.proofs.ValidThumb.{never as false-true}
 
 abbrev pub left_of : ℕ → ℕ → List ℕ
 left_of k list = places_from k (16 - k) list

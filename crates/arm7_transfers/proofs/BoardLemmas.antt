@@ -17,6 +17,8 @@ use Rattle.arm7_bus.specs.WholeWords.{IsWhole, AreWholeBanks, AreWholeSeats}
 use Rattle.arm7_transfers.specs.Boards.{board_of, working}
 use Rattle.arm7_transfers.specs.Ready.{IsReady}
 use Rattle.arm7_transfers.specs.Served.{given, value_at}
+use Rattle.arm7_bus.proofs.MeetLemmas.{and_left as and-left, and_right as and-right}
+use Rattle.arm7_model.proofs.ValidThumb.{never as false-true}
 
 -- ---- truth values
 
@@ -25,32 +27,13 @@ same-bool true q f g = sym (f refl)
 same-bool false true f g = g refl
 same-bool false false f g = refl
 
-and-left : (x y : Bool) → (x && y) ≡ true → x ≡ true
-and-left true y e = refl
-and-left false y e = e
-
-and-right : (x y : Bool) → (x && y) ≡ true → y ≡ true
-and-right true y e = e
-and-right false y e = absurd (wrong e)
-  where
-    wrong : false ≡ true → ⊥
-    wrong e = cc
-
-pub false-true : {A : Type 0} → false ≡ true → A
-false-true e = absurd (wrong e)
-  where
-    wrong : false ≡ true → ⊥
-    wrong e = cc
-
--- ---- one range of whole words
-
 reaches : (base size a n : ℕ) → base ≤ a → a + n ≤ base + size → has_access base size a n ≡ true
 reaches base size a n low high = grind arith
 
-low-end : (base size a n : ℕ) → has_access base size a n ≡ true → base ≤ a
+pub low-end : (base size a n : ℕ) → has_access base size a n ≡ true → base ≤ a
 low-end base size a n h = let e = and-left (nat_le base a) (nat_le (a + n) (base + size)) h in grind arith
 
-high-end : (base size a n : ℕ) → has_access base size a n ≡ true → a + n ≤ base + size
+pub high-end : (base size a n : ℕ) → has_access base size a n ≡ true → a + n ≤ base + size
 high-end base size a n h = let e = and-right (nat_le base a) (nat_le (a + n) (base + size)) h in grind arith
 
 outer : (base size a k : ℕ) (width : Width) → base % 4 ≡ 0 → size % 4 ≡ 0 → a % bytes_in width ≡ 0 → k < bytes_in width

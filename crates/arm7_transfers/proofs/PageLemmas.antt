@@ -8,8 +8,9 @@ use Rattle.arm7_bus.specs.Paging.{used_count, page_used_in}
 use Rattle.arm7_bus.specs.States.{State, bank_has}
 use Rattle.arm7_transfers.specs.BlockAccesses.{words_in, is_page_of, pages_needed}
 use Rattle.arm7_transfers.specs.Frames.{used_with}
-use Rattle.arm7_transfers.proofs.ReadyLemmas.{set-fresh, set-used}
+use Rattle.arm7_transfers.proofs.ReadyLemmas.{set-used}
 use Rattle.arm7_transfers.proofs.BlockLemmas.{next-small}
+use Rattle.arm7_bus.proofs.ClaimLemmas.{count_fresh as set-fresh}
 
 not-eqb : (x y : ℕ) → x ≢ y → (x == y) ≡ false
 not-eqb x y h = go (x == y) refl

@@ -18,6 +18,7 @@ use Rattle.arm7_bus.specs.States.{State, Contents, bank_has, is_protected, prote
 use Rattle.arm7_bus.specs.WholeWords.{AreWholeBanks, AreWholeSeats}
 use Rattle.arm7_transfers.specs.Boards.{board_of}
 use Rattle.arm7_transfers.specs.Ready.{IsReady, IsLaidOut}
+use Rattle.arm7_bus.proofs.ClaimLemmas.{count_fresh as set-fresh}
 
 -- ---- devices that change keep their places
 
@@ -149,16 +150,6 @@ pub set-used : (us : List Bool) (p : ℕ) → get_or us p false ≡ true → set
 set-used [] p e = refl
 set-used (u ∷ us) zero e = ap (λ (x : Bool). x ∷ us) (sym e)
 set-used (u ∷ us) (suc p) e = ap (λ (l : List Bool). u ∷ l) (set-used us p e)
-
-pub set-fresh : (us : List Bool) (p : ℕ) → p < length us → get_or us p false ≡ false → used_count (set us p true) ≡ used_count us + 1
-set-fresh [] p lt e = absurd (omega arith)
-set-fresh (true ∷ us) zero lt e = absurd (cc)
-set-fresh (false ∷ us) zero lt e =
-    let a = count-cons false us in let b = count-cons true us in omega arith
-set-fresh (u ∷ us) (suc p) lt e =
-    let a = count-cons u us in let b = count-cons u (set us p true) in let c = set-fresh us p (omega arith) e in omega arith
-
--- ---- a write
 
 pub written-kept : (a : ℕ) (width : Width) (v : ℕ) → Keeps (seat_written a width v)
 written-kept a width v d = (refl, refl)

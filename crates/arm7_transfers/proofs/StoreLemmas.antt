@@ -17,8 +17,10 @@ use Rattle.arm7_bus.specs.States.{State, bank_has, is_protected, after_store, no
 use Rattle.arm7_transfers.specs.Boards.{board_of, working}
 use Rattle.arm7_transfers.specs.Frames.{has_frames, least_unused, stored_to, lacks_frame}
 use Rattle.arm7_transfers.specs.Ready.{IsReady}
-use Rattle.arm7_transfers.proofs.BoardLemmas.{memory-whole, false-true}
-use Rattle.arm7_transfers.proofs.ReadyLemmas.{SamePlaces, board-same, changes, written-kept, set-used, set-fresh}
+use Rattle.arm7_transfers.proofs.BoardLemmas.{memory-whole}
+use Rattle.arm7_transfers.proofs.ReadyLemmas.{SamePlaces, board-same, changes, written-kept, set-used}
+use Rattle.arm7_bus.proofs.ClaimLemmas.{count_fresh as set-fresh}
+use Rattle.arm7_model.proofs.ValidThumb.{never as false-true}
 
 -- ---- what a write changes
 

@@ -18,10 +18,11 @@ use Rattle.arm7_transfers.specs.Done.{Part, Makes, Lacks}
 use Rattle.arm7_transfers.specs.Frames.{lacks_frame, may_be_stored}
 use Rattle.arm7_transfers.specs.Ready.{IsReady}
 use Rattle.arm7_transfers.specs.Served.{given, value_at}
-use Rattle.arm7_transfers.proofs.BoardLemmas.{there-whole, may-whole, reads, loads, contents-read, false-true}
+use Rattle.arm7_transfers.proofs.BoardLemmas.{there-whole, may-whole, reads, loads, contents-read}
 use Rattle.arm7_transfers.proofs.ReadyLemmas.{ready-read, board-read}
 use Rattle.arm7_transfers.proofs.DoneLemmas.{makes-nothing, aligned-whole}
 use Rattle.arm7_transfers.proofs.StoreLemmas.{CanStore, can-store, stores-word, one-frame, one-least}
+use Rattle.arm7_model.proofs.ValidThumb.{never as false-true}
 
 abbrev pub store_part : Width → ℕ → ℕ → (ArmState → ArmState) → Part
 store_part width a rd based u w = stored u width a rd (based w.core) w

@@ -5,7 +5,7 @@ use Rattle.sdt_word.proofs.NumbersLemmas.{rotated-back, rotated-none, rotated-wh
 use Rattle.sdt_word.specs.Numbers.{IsLeastRotation, operand, rotated}
 
 -- rotating by the rest of a turn, as the code names it
-rest-turn : (v r : ℕ) → v < 2 ^ 32 → r < 16 → rotated v ((32 - 2 * r) % 32) ≡ rotated v (32 - 2 * r)
+pub rest-turn : (v r : ℕ) → v < 2 ^ 32 → r < 16 → rotated v ((32 - 2 * r) % 32) ≡ rotated v (32 - 2 * r)
 rest-turn v zero small h = rotated-none v ∙ sym (rotated-whole v small)
 rest-turn v (suc r) small h =
     let e : (32 - 2 * suc r) % 32 ≡ 32 - 2 * suc r = omega arith in

@@ -24,9 +24,12 @@ use Rattle.asm_model.specs.Offsets.{is_of}
 use Rattle.source_model.specs.Objects.{attributes_word, contents_bits, or_two, says_area, attributes_of, contents_in, contents_of, holds_code, is_kept}
 use Rattle.source_model.specs.SourceFaults.{layout_faults}
 use Rattle.armasm_core.proofs.SplitLemmas.{none_there}
-use Rattle.armasm_core.proofs.WithinLemmas.{IsWithin, line_within, areas_fewer}
+use Rattle.source_laws.proofs.WithinLemmas.{IsWithin, line_within}
+use Rattle.armasm_core.proofs.WithinLemmas.{areas_fewer}
 use Rattle.armasm_core.specs.Drafting.{marks_zeroes}
 use Rattle.armasm_core.specs.Gathering.{marks_code}
+use Rattle.asm_model.proofs.OffsetLemmas.{through as low_of}
+use Rattle.stand_laws.proofs.AreaLemmas.{exponent_small}
 
 -- ---- a word of attributes
 
@@ -67,20 +70,6 @@ code_bit : (a : AreaAttributes) (n : ℕ) (thumb : Bool) → n ≤ 16 → marks_
 code_bit a n thumb small =
     word_bit a.contents n (flag a.read_only) (flag a.pic) (flag a.reentrant) (flag thumb) (flag a.halfword) (flag a.interwork) small
     (flag_low a.read_only) (flag_low a.pic) (flag_low a.reentrant) (flag_low thumb) (flag_low a.halfword) (flag_low a.interwork)
-
-exponent_small : (r : Result ℕ LineKind) → exponent_kinds r ≡ [] → or_two r ≤ 16
-exponent_small (Err k) e = omega arith
-exponent_small (Ok n) e = by_low (nat_lt n 2) e
-  where
-    by_high : (b : Bool) → nat_lt 16 n ≡ b → kind_if b BadOperand ≡ [] → n ≤ 16
-    by_high true t e = absurd (cc)
-    by_high false t e = grind arith
-
-    by_low : (b : Bool) → kind_if (b || nat_lt 16 n) BadOperand ≡ [] → n ≤ 16
-    by_low true e = absurd (cc)
-    by_low false e = by_high (nat_lt 16 n) refl e
-
--- ---- lines whose AREAs have no fault
 
 abbrev AreAligned : List LaidLine → Type 0
 AreAligned [] = Unit {0}
@@ -147,9 +136,6 @@ other_area area n (Some a) h past = let less : a < n = h in by_test (a == area) 
 none_in : (area : ℕ) (l : LaidLine) (w : What) → is_of area l.area ≡ false → contents_in area l w ≡ None
 none_in area l (what.Directive (line.Area name a)) e = rw e refl
 none_in area l _ e = refl
-
-low_of : (a b c : ℕ) → a ≤ b → b ≤ c → a ≤ c
-low_of a b c h k = omega arith
 
 none_past : (d : Declared) (ss : List Statement) (area n : ℕ) → length (areas_behind (statements_of (laid_of d ss))) ≤ n → n ≤ area → contents_of area (laid_of d ss) ≡ None
 none_past d [] area n fits past = refl

@@ -17,6 +17,7 @@ use Rattle.armasm_core.specs.Writing.{AllCanStand, CanStand}
 use Rattle.armasm_core.specs.Relocations.{relocation, relocs_in, noted, relocs_listed}
 use Rattle.armasm_core.proofs.RelocLemmas.{four, reloc_parts, parts_reloc, noted_here, noted_apart, noted_parts, listed_found, found_listed, rising}
 use Rattle.armasm_core.proofs.WriteLemmas.{apart, other}
+use Rattle.base_lemmas.proofs.BaseLemmas.{rest_of as first_and_rest}
 
 -- ---- one thing more among others
 
@@ -206,11 +207,6 @@ put_next names at us old next u left now later more h size step put = record {
 
 rest_of_all : {A : Type 0} (xs : List A) (n : ℕ) → length xs ≡ n → take n xs ≡ xs
 rest_of_all xs n e = take_all n xs (omega (arith, e))
-
-pub first_and_rest : {A : Type 0} (xs : List A) (x : A) → 1 ≤ length xs → x ≡ get_or xs 0 x → xs ≡ x ∷ take (length xs - 1) (drop 1 xs)
-first_and_rest [] x some e = absurd (omega arith)
-first_and_rest (y ∷ xs) x some e =
-    ap (λ z. z ∷ xs) (sym e) ∙ ap (λ zs. x ∷ zs) (sym (rest_of_all xs (length (y ∷ xs) - 1) (omega arith)))
 
 pub put_first : {C : Type 0} (emitted : C → Emitted) (names : List (List ℕ)) (at : ℕ) (us : List Emitted) (old : Draft) (next : ℕ) (xs : List C) (x : C) (now : Draft) (later : ℕ) (more : Draft)
     → 1 ≤ length xs → x ≡ get_or xs 0 x → PutUpTo names at us old next (map emitted xs) now → length more.bytes.items ≡ length now.bytes.items

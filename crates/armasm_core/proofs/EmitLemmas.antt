@@ -9,7 +9,7 @@ use Rattle.armasm_core.specs.declared.whole.Whole.{Whole}
 use Rattle.armasm_core.specs.Giving.{gives}
 use Rattle.armasm_core.specs.Putting.{IsPut}
 use Rattle.armasm_core.specs.Whole.{IsHere}
-use Rattle.armasm_core.proofs.LoopLemmas.{lines_from, turned_again, first_of, none_left, nothing}
+use Rattle.armasm_core.proofs.LoopLemmas.{lines_from, turned_again, first_of, none_left}
 use Rattle.asm_layout.proofs.LateLemmas.{rest_of}
 use Rattle.asm_layout.specs.Late.{AreOn}
 use Rattle.asm_model.specs.declared.statements.Statement.{Statement}
@@ -30,6 +30,7 @@ use Rattle.source_model.specs.SourceFaults.{layout_faults}
 use Rattle.armasm_core.specs.declared.drafting.Growing.{Growing}
 use Rattle.armasm_core.specs.Drafting.{AreDrafts, MeetNoneThere, pieces_put, with_line}
 use Rattle.armasm_core.specs.Emission.{IsEmittable, IsGrown}
+use Rattle.asm_reading.proofs.ReadLemmas.{nothing}
 
 -- ---- things of lines so far stand in the source
 

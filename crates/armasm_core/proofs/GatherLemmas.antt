@@ -20,8 +20,9 @@ use Rattle.layout_laws.proofs.SoundLemmas.{statements_kept}
 use Rattle.asm_model.specs.Laid.{LaidLine, declared, laid, statements_of}
 use Rattle.source_model.specs.Objects.{source_of, is_exported, is_weak, exports_name, is_weak_import}
 use Rattle.armasm_core.specs.Gathered.{Gains}
-use Rattle.armasm_core.proofs.LoopLemmas.{nothing}
 use Rattle.armasm_core.specs.Gathering.{exported_in, weak_in, name_where, names_by}
+use Rattle.asm_model.proofs.SharedLemmas.{same_back}
+use Rattle.asm_reading.proofs.ReadLemmas.{nothing}
 
 -- ---- a set of names, statement by statement
 
@@ -82,13 +83,6 @@ said_by says test is (l ∷ before) laid h q =
     ∙ ap (λ b. b || list_any (same q) (names_by says h.0)) (is q h.1.statement.what)
     ∙ ap (λ (s : Statement). test q s.what || list_any (same q) (names_by says h.0)) h.3.statement
     ∙ ap (λ b. test q l.statement.what || b) (said_by says test is before h.0 h.4 q)
-
-same_back : (a b : List ℕ) → same a b ≡ same b a
-same_back a b = by_test (same a b) refl
-  where
-    by_test : (t : Bool) → same a b ≡ t → same a b ≡ same b a
-    by_test true e = let h : a ≡ b = same_true a b e in e ∙ sym (rw h (same_refl b))
-    by_test false e = e ∙ sym (false_from_ne_true (same b a) (λ t. let h : b ≡ a = same_true b a t in let g : same a b ≡ true = rw h (same_refl a) in cc))
 
 exports_is : (q : List ℕ) (w : What) → list_any (same q) (exported_in w) ≡ exports_name q w
 exports_is q (what.Directive (line.Export n)) = or_false (same q n) ∙ same_back q n

@@ -12,8 +12,9 @@ use Rattle.asm_pool.specs.declared.layout.Layout.{Layout}
 use Rattle.asm_model.specs.Laid.{LaidLine, laid, taken, reversed, all_locals, final_line, final_names}
 use Rattle.asm_model.specs.Symbols.{symbols_in, symbols_behind, symbols_of, listed_behind}
 use Rattle.armasm_core.specs.declared.whole.Whole.{Whole}
-use Rattle.armasm_core.proofs.LoopLemmas.{lines_from, turned_again, first_of, none_left, nothing}
+use Rattle.armasm_core.proofs.LoopLemmas.{lines_from, turned_again, first_of, none_left}
 use Rattle.armasm_core.specs.Listing.{StandsThere, needed_by, IsListable, IsListed}
+use Rattle.asm_reading.proofs.ReadLemmas.{nothing}
 
 -- ---- a line
 

@@ -17,7 +17,7 @@ use Rattle.asm_pool.specs.Laws.{PoolLaw}
 use Rattle.asm_pool.specs.Pooled.{Pooled, noted, flushed, place_of, place_among, entry_at, literals_of}
 use Rattle.asm_pool.specs.declared.layout.LaidArea.{LaidArea}
 use Rattle.asm_units.specs.Literals.{literal_in}
-use Rattle.layout_laws.proofs.SoundLemmas.{kind_none, not_false}
+use Rattle.layout_laws.proofs.SoundLemmas.{kind_none}
 use Rattle.asm_model.specs.Extents.{Extent, Block, Padding, Loading, Pool, extent_of, directive_extent}
 use Rattle.asm_model.specs.Labels.{Defined}
 use Rattle.asm_model.specs.Laid.{taken}
@@ -26,6 +26,8 @@ use Rattle.asm_model.specs.OffsetLaws.{joined}
 use Rattle.asm_model.specs.Offsets.{Piece, is_of, start_in}
 use Rattle.source_model.specs.SourceFaults.{word_of}
 use Rattle.armasm_core.specs.Loaded as own
+use Rattle.asm_areas.proofs.StartLemmas.{self}
+use Rattle.base_lemmas.proofs.BaseLemmas.{not_false}
 
 -- ---- before the first area
 
@@ -106,9 +108,6 @@ more_stays law area before (s ∷ rest) i v h = more_stays law area (s ∷ befor
     by_test : (b : Bool) → slice_get (literals_of (cond b (pools_from (start_in area before s.extent) s.extent (pools_behind area before)) (pools_behind area before))) i ≡ Some v
     by_test true = step_stays law (start_in area before s.extent) s.extent (pools_behind area before) i v h
     by_test false = h
-
-self : (n : ℕ) → (n == n) ≡ true
-self n = grind arith
 
 own_pools : (area : ℕ) (before : List Piece) (s : Piece) (n : ℕ) (v : Value) → s.area ≡ Some area → s.extent ≡ Loading n v
     → pools_behind area (s ∷ before) ≡ (noted v (pools_behind area before)).1

@@ -23,8 +23,11 @@ use Rattle.armasm_core.specs.Loaded as own
 use Rattle.armasm_core.specs.declared.whole.Whole.{Whole}
 use Rattle.armasm_core.proofs.LiteralLemmas.{IsPlaced, free_there, literal_there}
 use Rattle.armasm_core.proofs.SplitLemmas.{IsBehind, behind_there, none_there}
-use Rattle.armasm_core.proofs.WithinLemmas.{IsWithin, line_within, areas_fewer}
+use Rattle.source_laws.proofs.WithinLemmas.{IsWithin, line_within}
+use Rattle.armasm_core.proofs.WithinLemmas.{areas_fewer}
 use Rattle.armasm_core.specs.Listing.{StandsThere}
+use Rattle.asm_areas.proofs.LateLemmas.{joined_pieces}
+use Rattle.asm_model.proofs.OffsetLemmas.{through as low_of}
 
 -- ---- outside areas
 
@@ -51,9 +54,6 @@ extent_is d l before b = subst (λ (k : LaidLine). k.extent ≡ extent_of k.seen
 same_low : (m n : ℕ) → m ≡ n → n ≤ m
 same_low m n e = omega arith
 
-low_of : (a b c : ℕ) → a ≤ b → b ≤ c → a ≤ c
-low_of a b c h k = omega arith
-
 pub within_there : (statements : List Statement) (areas : List LaidArea) (w : Whole) (before rest : List LaidLine) (l : LaidLine) (x : LaidStatement)
     → StandsThere statements areas w before rest l x → IsWithin (length areas) l.area
 within_there statements areas w before rest l x h =
@@ -73,12 +73,6 @@ pub area_there : (areas : List LaidArea) (i : ℕ) → i < length areas → (a :
 area_there [] i less = absurd (omega arith)
 area_there (a ∷ areas) zero less = (a, refl)
 area_there (a ∷ areas) (suc i) less = area_there areas i (omega arith)
-
-joined_pieces : (rest before : List LaidLine) → joined (pieces_of before) (pieces_of rest) ≡ pieces_of (reversed rest before)
-joined_pieces [] before = refl
-joined_pieces (l ∷ rest) before = joined_pieces rest (l ∷ before)
-
--- ---- both
 
 pub loaded : PoolLaw → (statements : List Statement) (areas : List LaidArea) (w : Whole) (before rest : List LaidLine) (l : LaidLine) (x : LaidStatement)
     → StandsThere statements areas w before rest l x → literal_in (taken l.extent) ≡ own.literal_in areas x.area x.literal

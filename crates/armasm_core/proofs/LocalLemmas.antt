@@ -10,7 +10,8 @@ use Rattle.asm_model.specs.Laid.{LaidLine, reversed, locals_of, all_locals, stat
 use Rattle.asm_model.specs.Locals.{Local, local_entries}
 use Rattle.armasm_core.specs.Locals.{IsNext}
 use Rattle.armasm_core.specs.declared.locals.Last.{Last}
-use Rattle.armasm_core.proofs.LoopLemmas.{append_one, lines_from, turned_again, first_of, none_left, nothing}
+use Rattle.armasm_core.proofs.LoopLemmas.{append_one, lines_from, turned_again, first_of, none_left}
+use Rattle.asm_reading.proofs.ReadLemmas.{nothing}
 
 -- of a source's lines these are left
 pub record IsGathered (all : List LaidLine) (left : List LaidStatement) (last : Last) (locals : List Local) : Type 0 where

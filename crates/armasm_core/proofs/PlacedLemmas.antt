@@ -11,7 +11,7 @@ use Rattle.source_model.specs.Objects.{IsObject}
 use Rattle.source_model.specs.SourceFaults.{layout_faults, value_faults}
 use Rattle.stand_laws.specs.Laws.{ObjectsStand}
 use Rattle.armasm_core.specs.Wherever.{StandsWherever}
-use Rattle.armasm_core.proofs.StandLemmas.{areas_few}
+use Rattle.asm_laying.proofs.EnterLemmas.{areas_few}
 
 -- at most one area a statement
 pub few_areas : (ss : List Statement) (o : Object) → length ss < 2 ^ 24 → IsObject ss o → length o.areas < 2 ^ 24

@@ -22,7 +22,7 @@ use Rattle.asm_model.specs.Marks.{datum_in, datum_names}
 use Rattle.source_model.specs.SourceFaults.{label_of, symbol_names}
 use Rattle.armasm_core.specs.declared.sets.Sets.{Sets}
 use Rattle.armasm_core.specs.Gathered.{AllLaidSaid, Gains, GainsAll, AreSets, said_in}
-use Rattle.armasm_core.proofs.LoopLemmas.{nothing}
+use Rattle.asm_reading.proofs.ReadLemmas.{nothing}
 
 pub gains_one : (old new : BTreeSet (List ℕ)) (name text : List ℕ) → text ≡ name → set.UpdatesBy (slice_cmp nat_cmp) (slice_cmp nat_cmp text) old new true
     → Gains old new (name ∷ [])

@@ -49,8 +49,13 @@ use Rattle.armasm_core.specs.declared.whole.Whole.{Whole}
 use Rattle.armasm_core.proofs.GivingLemmas.{small_there, gives_there}
 use Rattle.armasm_core.proofs.LiteralLemmas.{IsPlaced, free_there, literal_there}
 use Rattle.armasm_core.proofs.LiteralLemmas as placed
-use Rattle.armasm_core.proofs.SplitLemmas.{IsBehind, behind_there, split_there, HasNone, none_there, is_sound, are_plain}
-use Rattle.armasm_core.proofs.WithinLemmas.{IsWithin, AllWithin, SeesWithin, names_within, line_within, stands_within, area_stands, areas_fewer}
+use Rattle.armasm_core.proofs.SplitLemmas.{IsBehind, behind_there, split_there, HasNone, none_there, is_sound}
+use Rattle.source_laws.proofs.WithinLemmas.{IsWithin, AllWithin, SeesWithin, names_within, line_within, stands_within, area_stands}
+use Rattle.armasm_core.proofs.WithinLemmas.{areas_fewer}
+use Rattle.asm_areas.proofs.LateLemmas.{joined_pieces, parts_extents}
+use Rattle.asm_layout.proofs.FinishLemmas.{all_extents, extent_fits}
+use Rattle.asm_model.proofs.OffsetLemmas.{through as low_of}
+use Rattle.said_model.proofs.SharedLemmas.{are_plain}
 
 -- ---- sizes
 
@@ -105,24 +110,6 @@ is_final statements areas w x y rest before l h parts k r = record {
 
 -- ---- the extents of lines
 
-joined_pieces : (rest before : List LaidLine) → joined (pieces_of before) (pieces_of rest) ≡ pieces_of (reversed rest before)
-joined_pieces [] before = refl
-joined_pieces (l ∷ rest) before = joined_pieces rest (l ∷ before)
-
-parts_extents : (rest before : List LaidLine) → AllExtents (pieces_of (reversed rest before)) → AllExtents (pieces_of before) × AllExtents (pieces_of rest)
-parts_extents [] before h = (h, tt)
-parts_extents (l ∷ rest) before h = let r = parts_extents rest (l ∷ before) h in (r.0.1, (r.0.0, r.1))
-
-extent_fits : ExtentsArePlaceable → (d : Declared) (s : Statement) (before : List LaidLine) (r : Result Extent LineKind) → extent_of (sight_behind d s before) s.what ≡ r → IsExtent (taken r)
-extent_fits law d s before (Ok e) h = law (sight_behind d s before) s.what e h
-extent_fits law d s before (Err k) h = record { some = omega arith; small = omega arith }
-
-all_extents : ExtentsArePlaceable → (d : Declared) (ss : List Statement) → AllExtents (pieces_of (laid_of d ss))
-all_extents law d [] = tt
-all_extents law d (s ∷ ss) = (extent_fits law d s (laid_of d ss) (extent_of (sight_behind d s (laid_of d ss)) s.what) refl, all_extents law d ss)
-
--- ---- a line and its area
-
 extent_is : (d : Declared) (l : LaidLine) (before : List LaidLine) → IsBehind d l before → l.extent ≡ extent_of l.seen l.statement.what
 extent_is d l before b = subst (λ (k : LaidLine). k.extent ≡ extent_of k.seen k.statement.what) (sym b.line) refl
 
@@ -148,9 +135,6 @@ has_area fixed l before e =
 
 full_count : (m n : ℕ) → m ≡ n → n ≤ m
 full_count m n e = omega arith
-
-low_of : (a b c : ℕ) → a ≤ b → b ≤ c → a ≤ c
-low_of a b c h k = omega arith
 
 pub record IsPlace (statements : List Statement) (areas : List LaidArea) (w : Whole) (known : BTreeMap (List ℕ) ℕ) (before rest : List LaidLine) (l : LaidLine) (x : LaidStatement) : Type 0 where
   pub here : IsHere statements areas w known before rest l x

@@ -13,6 +13,7 @@ use Rattle.said_model.specs.Said.{IsSaid, AllSaid}
 use Rattle.source_model.specs.Registers.{register_names, register_kinds}
 use Rattle.source_model.specs.SourceFaults.{first_laid, layout_faults}
 use Rattle.armasm_core.proofs.LoopLemmas.{append_one}
+use Rattle.said_model.proofs.SharedLemmas.{are_plain}
 
 -- ---- a line is laid behind others
 
@@ -88,7 +89,3 @@ lines_sound names fixed (l ∷ before) e =
 
 pub is_sound : (statements : List Statement) → layout_faults statements ≡ None → IsSound statements
 is_sound statements e = lines_sound (register_names statements) (settled (equals_in statements)) (laid statements) (first_none statements e)
-
-pub are_plain : (ss : List Statement) → AllSaid ss → ArePlain ss
-are_plain [] h = tt
-are_plain (s ∷ ss) h = (h.0.named, h.0.imported, are_plain ss h.1)

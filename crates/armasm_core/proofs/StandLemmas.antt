@@ -10,7 +10,7 @@ use Rattle.armasm_core.specs.declared.putting.LiteralWord.{LiteralWord}
 use Rattle.armasm_core.specs.declared.whole.Whole.{Whole}
 use Rattle.armasm_core.specs.Putting.{AllUnitsFit, IsPut, UnitFits, word_piece}
 use Rattle.armasm_core.specs.Whole.{IsHere}
-use Rattle.armasm_core.proofs.WithinLemmas.{IsWithin}
+use Rattle.source_laws.proofs.WithinLemmas.{IsWithin}
 use Rattle.asm_layout.specs.Layout.{IsArea}
 use Rattle.asm_model.specs.declared.directives.Contents.{Contents}
 use Rattle.asm_model.specs.declared.directives.Contents.TheVariants as contents
@@ -42,6 +42,7 @@ use Rattle.armasm_core.specs.Listing.{StandsThere}
 use Rattle.armasm_core.proofs.AreaLemmas.{zeroes_there}
 use Rattle.armasm_core.proofs.EmitLemmas.{next_there, put_there, stands_there, things_here}
 use Rattle.armasm_core.proofs.LoadLemmas.{area_there, within_there}
+use Rattle.asm_laying.proofs.EnterLemmas.{areas_few, name_more}
 
 -- ---- words
 
@@ -65,18 +66,6 @@ put_word at us o p h k =
     ⊎_elim (units_word at (map emitted_of us) p h) (literal_has_word o p) (among_either p (units_from at (map emitted_of us)) (word_piece o) k)
 
 -- ---- numbers
-
-name_more : (o : Option (List ℕ)) (names : List (List ℕ)) → length (with_name o names) ≤ length names + 1
-name_more None names = omega arith
-name_more (Some n) names = by_test (list_any (same n) names)
-  where
-    by_test : (b : Bool) → length (cond b names (names ++ n ∷ [])) ≤ length names + 1
-    by_test true = omega arith
-    by_test false = let e : length (names ++ n ∷ []) ≡ length names + 1 = length-append names (n ∷ []) in omega arith
-
-pub areas_few : (ss : List Statement) → length (areas_behind ss) ≤ length ss
-areas_few [] = omega arith
-areas_few (s ∷ before) = let h = name_more (area_named s.what) (areas_behind before) in let g = areas_few before in omega arith
 
 target_number : (names : List (List ℕ)) (n : ℕ) (t : Target) → n < 2 ^ 24 → TargetListed names t → TargetBelow n t → TargetHasNumber names t
 target_number names n Nothing few h k = tt

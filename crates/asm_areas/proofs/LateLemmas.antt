@@ -7,7 +7,6 @@ use Rattle.sdt_fault.specs.declared.kinds.LineKind.TheVariants.{BadOperand, TooM
 use Rattle.asm_model.specs.declared.statements.What.{What}
 use Rattle.asm_model.specs.FaultSets.{first_told}
 use Rattle.asm_model.specs.Kinds.{told_kind}
-use Rattle.asm_checks.proofs.ToldLemmas.{told_of_two}
 use Rattle.asm_model.specs.Extents.{Extent, Block, Padding, Loading, Pool}
 use Rattle.asm_model.specs.Laid.{LaidLine, taken, pieces_of, reversed}
 use Rattle.asm_model.specs.LayoutKinds.{kind_if, entry_kinds, literal_kinds, is_entry, is_thumb_area, first_state}
@@ -22,6 +21,8 @@ use Rattle.asm_areas.specs.declared.late.Stand.{Stand}
 use Rattle.asm_areas.specs.declared.starts.AreaStart.{AreaStart}
 use Rattle.asm_areas.specs.Late.{AreWhole, IsStand, is_true, size_in, state_in, is_thumb_in, is_misplaced, is_wrong_entry, ends_far, is_far}
 use Rattle.asm_areas.specs.Starts.{IsStart}
+use Rattle.asm_areas.proofs.StartLemmas.{self}
+use Rattle.asm_model.proofs.SharedLemmas.{told_of_two}
 
 -- ---- the pieces of all lines
 
@@ -36,9 +37,6 @@ parts_extents (l ∷ rest) before h = let r = parts_extents rest (l ∷ before) 
 none_before : (area : ℕ) (rest before : List LaidLine) → HasNone area (pieces_of (reversed rest before)) → HasNone area (pieces_of before)
 none_before area [] before h = h
 none_before area (l ∷ rest) before h = (none_before area rest (l ∷ before) h).1
-
-self : (n : ℕ) → (n == n) ≡ true
-self n = grind arith
 
 -- the area of a line has been laid out
 pub has_laid : (all before rest : List LaidLine) (l : LaidLine) (area : ℕ) (o : Option LaidPools) → all ≡ reversed rest (l ∷ before) → l.area ≡ Some area

@@ -1,2 +1,2 @@
-mod LateLemmas
-mod StartLemmas
+pub mod LateLemmas
+pub mod StartLemmas

@@ -67,7 +67,7 @@ unequal m n less = by_test (m == n) refl
 
 -- ---- an instruction
 
-self : (n : ℕ) → (n == n) ≡ true
+pub self : (n : ℕ) → (n == n) ≡ true
 self n = grind arith
 
 same_when : (o : Option AreaStart) (area i : ℕ) (thumb : Bool) → (i == area) ≡ false → option_map (run_in (Some area) i thumb) o ≡ o
@@ -97,7 +97,7 @@ stays old area thumb past = record { names = refl; each = λ i. by_test i (i == 
 
 -- ---- the area of a line
 
-place_old : (n : List ℕ) (ms : List (List ℕ)) → list_any (same n) ms ≡ true → place_of n ms < length ms
+pub place_old : (n : List ℕ) (ms : List (List ℕ)) → list_any (same n) ms ≡ true → place_of n ms < length ms
 place_old n [] e = absurd (cc)
 place_old n (m ∷ ms) e = by_test (same n m) e (place_old n ms)
   where
@@ -106,7 +106,7 @@ place_old n (m ∷ ms) e = by_test (same n m) e (place_old n ms)
     by_test true e rest = omega arith
     by_test false e rest = let r = rest e in omega arith
 
-place_new : (n : List ℕ) (ms : List (List ℕ)) → list_any (same n) ms ≡ false → place_of n (ms ++ n ∷ []) ≡ length ms
+pub place_new : (n : List ℕ) (ms : List (List ℕ)) → list_any (same n) ms ≡ false → place_of n (ms ++ n ∷ []) ≡ length ms
 place_new n [] e = ap (λ b. cond b 0 (0 + 1)) (same_refl n)
 place_new n (m ∷ ms) e = by_test (same n m) e (place_new n ms)
   where

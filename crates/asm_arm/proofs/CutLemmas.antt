@@ -4,10 +4,7 @@ use Rattle.asm_model.specs.declared.tokens.Token.{Token}
 use Rattle.asm_model.specs.Operands.{operands_at, lengthened}
 use Rattle.asm_expr.proofs.OperandLemmas.{begins}
 use Rattle.asm_arm.specs.Operands.{cut, more}
-
-some_operand : (front : List Token) (os : List (List Token)) → (o : List Token) × (rest : List (List Token)) × (lengthened front os ≡ o ∷ rest)
-some_operand front [] = (front, [], refl)
-some_operand front (o ∷ os) = (front ++ o, os, refl)
+use Rattle.asm_expr.proofs.ReadingLemmas.{some_operand}
 
 pub past_four : (text : List ℕ) (os : List (List Token)) (a b c d ts : List Token) → os ≡ a ∷ b ∷ c ∷ d ∷ operands_at text 0 ts → more ≡ cut os
 past_four text os a b c d ts e =

@@ -7,8 +7,8 @@ use Rattle.asm_model.specs.declared.operands.ListItem.{ListItem}
 use Rattle.asm_model.specs.Operands.{operands_at}
 use Rattle.asm_model.specs.Says.{on_both}
 use Rattle.asm_expr.specs.Steps.{CutsOperands}
-use Rattle.asm_expr.proofs.ReadingLemmas.{earlier_assoc}
 use Rattle.asm_arm.specs.Lists.{item, items}
+use Rattle.asm_model.proofs.FaultLemmas.{earlier_assoc}
 
 nothing_behind : (s : Result (List ListItem) LineKind) (e : Result ListItem LineKind)
     → on_both (λ es fs. es ++ fs) s (on_both (λ x xs. x ∷ xs) e (Ok [])) ≡ on_both (λ es x. es ++ x ∷ []) s e

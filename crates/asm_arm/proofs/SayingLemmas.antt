@@ -12,6 +12,7 @@ use Rattle.asm_model.specs.Says.{on_both, mapped, Sentence}
 use Rattle.asm_model.specs.Told.{Told, ToldFault}
 use Rattle.asm_arm.specs.Says.{statement, SaysWords, SaysInstruction}
 use Rattle.asm_arm.specs.Steps.{IsLineRead, IsWordsRead}
+use Rattle.asm_expr.proofs.SayingLemmas.{made_of_both}
 
 -- one outcome for another
 pub fault_as : {X Y : Type 0} (source : List ℕ) (number : ℕ) (P : Result X LineKind → Type 0) (Q : Result Y LineKind → Type 0) (f : Fault)
@@ -24,14 +25,6 @@ pub told_as : {X : Type 0} (source : List ℕ) (number : ℕ) (P Q : Result X Li
     → ((x : Result X LineKind) → P x → Q x) → Told source number P r → Told source number Q r
 told_as source number P Q (Ok x) to h = to (Ok x) h
 told_as source number P Q (Err f) to h = fault_as source number P Q f (λ k. to (Err k)) h
-
--- what is made of two readings
-made_of_both : {A B C D : Type 0} (f : C → D) (g : A → B → C) (a : Result A LineKind) (b : Result B LineKind)
-    → mapped f (on_both g a b) ≡ on_both (λ x y. f (g x y)) a b
-made_of_both f g (Ok a) (Ok b) = refl
-made_of_both f g (Ok a) (Err k) = refl
-made_of_both f g (Err k) (Ok b) = refl
-made_of_both f g (Err k) (Err j) = refl
 
 made_twice : {A B C : Type 0} (f : B → C) (g : A → B) (a : Result A LineKind) → mapped f (mapped g a) ≡ mapped (λ x. f (g x)) a
 made_twice f g (Ok a) = refl

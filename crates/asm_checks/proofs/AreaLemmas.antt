@@ -20,7 +20,8 @@ use Rattle.asm_model.specs.Laid.{LaidLine}
 use Rattle.asm_model.specs.LayoutKinds.{kind_if, exponent, exponent_kinds, same_contents, same_mark, same_attributes, again_with, is_named_otherwise}
 use Rattle.asm_checks.specs.declared.areas.AreaMarks.{AreaMarks}
 use Rattle.asm_checks.specs.Areas.{Areas, marks_in, agrees, is_otherwise, marks_of, noted, IsNoted, AreAreasOf}
-use Rattle.asm_checks.proofs.NameLemmas.{tests}
+use Rattle.asm_model.proofs.SharedLemmas.{tests}
+use Rattle.base_lemmas.proofs.BaseLemmas.{both_true}
 
 -- ---- the map
 
@@ -46,10 +47,6 @@ put_new old new name a x n e f updates q =
     updates.0 q ∙ rw (first, is_eq-slice_cmp name q, tests name q) refl
 
 -- ---- attributes
-
-both_true : (a b : Bool) → (a && b) ≡ true → (a ≡ true) × (b ≡ true)
-both_true true b e = (refl, e)
-both_true false b e = absurd (cc)
 
 contents_are : (c d : Contents) → same_contents c d ≡ true → d ≡ c
 contents_are contents.Code contents.Code e = refl

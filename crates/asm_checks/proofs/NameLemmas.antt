@@ -14,18 +14,8 @@ use Rattle.asm_model.proofs.WordLemmas.{same_refl, same_true}
 use Rattle.asm_model.specs.Labels.{defined_by, imported_in}
 use Rattle.asm_model.specs.LayoutKinds.{listed, own_name, names_in, names_behind, is_repeated}
 use Rattle.asm_checks.specs.Names.{Names, has_name, AreNamesOf}
-
--- the two tests of words
-pub tests : (a b : List ℕ) → bytes_eq a b ≡ same b a
-tests a b = by_test (bytes_eq a b) refl
-  where
-    by_test : (t : Bool) → bytes_eq a b ≡ t → bytes_eq a b ≡ same b a
-    by_test true e = let h : a ≡ b = (bytes_eq-Decides a b).0 e in e ∙ sym (rw h (same_refl b))
-    by_test false e = e ∙ sym (false_from_ne_true (same b a) (λ t. let h = (bytes_eq-Decides a b).1 (sym (same_true b a t)) in cc))
-
-or_cond : (b x : Bool) → cond b true x ≡ b || x
-or_cond true x = refl
-or_cond false x = refl
+use Rattle.asm_model.proofs.SharedLemmas.{tests}
+use Rattle.base_lemmas.proofs.BaseLemmas.{or_cond}
 
 pub now_named : (s t : Names) (name text : List ℕ) → text ≡ name
     → ((q : List ℕ) → contains (slice_cmp nat_cmp) t q ≡ cond (is_eq (slice_cmp nat_cmp text q)) true (contains (slice_cmp nat_cmp) s q))

@@ -20,6 +20,7 @@ use Rattle.asm_model.specs.Grammar.{Tree, postfix, plain, operand_of, Spells, op
 use Rattle.asm_model.specs.Meaning.{named_in, Operand, operand_of_item, operand_of_tree, meaning}
 use Rattle.asm_expr.specs.declared.slots.Slot.{Slot}
 use Rattle.asm_expr.specs.Evaluating.{act, run, ended, operand_in, operands_in}
+use Rattle.asm_model.proofs.LateLemmas.{kept, plain_operand}
 
 -- the first entry with the name stands there
 pub found_at : (list : List LaidName) (name : List ℕ) (i : ℕ) (x : LaidName) (b : Bool) → i < length list → x ≡ get_or list i x → b ≡ same x.name name → b ≡ true
@@ -27,28 +28,6 @@ pub found_at : (list : List LaidName) (name : List ℕ) (i : ℕ) (x : LaidName)
 found_at list name i x b h is test yes_ rest =
     let cut : drop i list ≡ x ∷ drop (suc i) list = drop-cons list i x h ∙ ap (λ (y : LaidName). y ∷ drop (suc i) list) (sym is) in
     slice_get-get_or list i x h ∙ ap Some (sym is) ∙ sym (cond-true (same x.name name) (Some x) (named_in name (drop (suc i) list)) (sym test ∙ yes_)) ∙ sym (ap (named_in name) cut) ∙ rest
-
--- an operand is put on the stack
-kept : (j i : ExprItem) → plain j ≡ Some i → plain i ≡ Some i
-kept (item.Name n) i e = let x : item.Name n ≡ i = cc in rw (← x) refl
-kept (item.Local n) i e = let x : item.Local n ≡ i = cc in rw (← x) refl
-kept (item.Constant v) i e = let x : item.Constant v ≡ i = cc in rw (← x) refl
-kept item.Here i e = let x : item.Here ≡ i = cc in rw (← x) refl
-kept item.Map i e = let x : item.Map ≡ i = cc in rw (← x) refl
-kept item.CodeSize i e = let x : item.CodeSize ≡ i = cc in rw (← x) refl
-kept (item.Unary op) i e = absurd (cc)
-kept (item.Binary op) i e = absurd (cc)
-
-plain_operand : (p : Part) (i : ExprItem) → operand_of p ≡ Some i → plain i ≡ Some i
-plain_operand (part.Operand j) i e = kept j i e
-plain_operand part.TooLarge i e = kept (item.Constant (Number 0)) i e
-plain_operand part.Open i e = absurd (cc)
-plain_operand part.Close i e = absurd (cc)
-plain_operand (part.Prefix op) i e = absurd (cc)
-plain_operand (part.OfName op) i e = absurd (cc)
-plain_operand (part.Infix op) i e = absurd (cc)
-plain_operand (part.Sum u b) i e = absurd (cc)
-plain_operand part.Other i e = absurd (cc)
 
 act_plain : (names : Names) (i : ExprItem) (s : List Operand) → plain i ≡ Some i → act names i s ≡ operand_of_item names i ∷ s
 act_plain names (item.Name n) s e = refl

@@ -15,7 +15,7 @@ use Rattle.asm_expr.specs.Evaluating.{entry}
 use Rattle.asm_expr.specs.Places.{number_in, or_number, one_later, place_of}
 
 -- the two tests of words
-tests : (a b : List ℕ) → bytes_eq a b ≡ same a b
+pub tests : (a b : List ℕ) → bytes_eq a b ≡ same a b
 tests a b = by_test (bytes_eq a b) refl
   where
     by_test : (t : Bool) → bytes_eq a b ≡ t → bytes_eq a b ≡ same a b
@@ -44,7 +44,7 @@ kept m name number k there q = by_number (number_in m q) (same name q) refl (λ 
     by_number None false e h = rw e refl
 
 -- an entry more
-later_or : (o : Option ℕ) (name q : List ℕ) (n : ℕ) → one_later (or_number o name n q) ≡ or_number (one_later o) name (n + 1) q
+pub later_or : (o : Option ℕ) (name q : List ℕ) (n : ℕ) → one_later (or_number o name n q) ≡ or_number (one_later o) name (n + 1) q
 later_or (Some k) name q n = refl
 later_or None name q n = by_test (same name q)
   where

@@ -15,30 +15,7 @@ use Rattle.asm_model.specs.Operands.{operands_at, lengthened}
 use Rattle.asm_model.specs.Says.{Expressions, on_both, Aligned}
 use Rattle.asm_expr.specs.Steps.{CutsOperands}
 use Rattle.asm_expr.proofs.OperandLemmas.{begins}
-
--- the order of kinds
-takes : (a b : LineKind) → nat_lt (rank b) (rank a) ≡ true → earlier a b ≡ b
-takes a b h = cond-true (nat_lt (rank b) (rank a)) b a h
-
-stays : (a b : LineKind) → nat_lt (rank b) (rank a) ≡ false → earlier a b ≡ a
-stays a b h = cond-false (nat_lt (rank b) (rank a)) b a h
-
-below_trans : (x y z : ℕ) → nat_lt y x ≡ true → nat_lt z y ≡ true → nat_lt z x ≡ true
-below_trans x y z h k = let a = ltb-true y x h in let b = ltb-true z y k in lt-ltb z x (omega arith)
-
-above_trans : (x y z : ℕ) → nat_lt y x ≡ false → nat_lt z y ≡ false → nat_lt z x ≡ false
-above_trans x y z h k = let a = ltb-false y x h in let b = ltb-false z y k in le-ltb z x (omega arith)
-
-pub earlier_assoc : (a b c : LineKind) → earlier a (earlier b c) ≡ earlier (earlier a b) c
-earlier_assoc a b c = by_tests (nat_lt (rank b) (rank a)) (nat_lt (rank c) (rank b)) refl refl
-  where
-    by_tests : (p q : Bool) → nat_lt (rank b) (rank a) ≡ p → nat_lt (rank c) (rank b) ≡ q → earlier a (earlier b c) ≡ earlier (earlier a b) c
-    by_tests true true p q =
-        ap (earlier a) (takes b c q) ∙ takes a c (below_trans (rank a) (rank b) (rank c) p q) ∙ sym (takes b c q) ∙ ap (λ x. earlier x c) (sym (takes a b p))
-    by_tests true false p q = ap (earlier a) (stays b c q) ∙ takes a b p ∙ sym (stays b c q) ∙ ap (λ x. earlier x c) (sym (takes a b p))
-    by_tests false true p q = ap (earlier a) (takes b c q) ∙ ap (λ x. earlier x c) (sym (stays a b p))
-    by_tests false false p q =
-        ap (earlier a) (stays b c q) ∙ stays a b p ∙ sym (stays a c (above_trans (rank a) (rank b) (rank c) p q)) ∙ ap (λ x. earlier x c) (sym (stays a b p))
+use Rattle.asm_model.proofs.FaultLemmas.{above_trans, below_trans, earlier_assoc, stays, takes}
 
 nothing_behind : (s : Result (List Expr) LineKind) (e : Result Expr LineKind) → on_both (λ es fs. es ++ fs) s (on_both (λ x xs. x ∷ xs) e (Ok [])) ≡ on_both (λ es x. es ++ x ∷ []) s e
 nothing_behind (Ok es) (Ok e) = refl
@@ -76,7 +53,7 @@ expressions_end text all left o s n e cut parsed more inv =
     rw more (rw nothing_behind at next)
 
 -- three operands or more
-some_operand : (front : List Token) (os : List (List Token)) → (o : List Token) × (rest : List (List Token)) × (lengthened front os ≡ o ∷ rest)
+pub some_operand : (front : List Token) (os : List (List Token)) → (o : List Token) × (rest : List (List Token)) × (lengthened front os ≡ o ∷ rest)
 some_operand front [] = (front, [], refl)
 some_operand front (o ∷ os) = (front ++ o, os, refl)
 

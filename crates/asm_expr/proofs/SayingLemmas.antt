@@ -18,7 +18,7 @@ use Rattle.asm_expr.specs.SentenceSteps.{IsReadAs}
 use Rattle.asm_expr.proofs.ParseLaws.{one_reading}
 
 -- what is made of two readings
-made_of_both : {A B C D : Type 0} (f : C → D) (g : A → B → C) (a : Result A LineKind) (b : Result B LineKind)
+pub made_of_both : {A B C D : Type 0} (f : C → D) (g : A → B → C) (a : Result A LineKind) (b : Result B LineKind)
     → mapped f (on_both g a b) ≡ on_both (λ x y. f (g x y)) a b
 made_of_both f g (Ok a) (Ok b) = refl
 made_of_both f g (Ok a) (Err k) = refl

@@ -35,22 +35,11 @@ use Rattle.source_model.specs.Contexts.{Context, sees, value_of, register, or_ze
 use Rattle.source_model.specs.Registers.{Named, register_in}
 use Rattle.asm_instructions.specs.declared.scenes.Scene.{Scene}
 use Rattle.asm_instructions.specs.Scenes.{register_at, has_symbol, Shows, line_of, context_of}
+use Rattle.asm_expr.proofs.PlaceLemmas.{tests as same_words}
+use Rattle.asm_model.proofs.SharedLemmas.{tests as turned_words}
+use Rattle.asm_names.proofs.LineLemmas.{reversed_nothing as joined_nothing}
 
 -- ---- maps and sets as the lists of their keys
-
-same_words : (a b : List ℕ) → bytes_eq a b ≡ same a b
-same_words a b = by_test (bytes_eq a b) refl
-  where
-    by_test : (t : Bool) → bytes_eq a b ≡ t → bytes_eq a b ≡ same a b
-    by_test true e = let h : a ≡ b = (bytes_eq-Decides a b).0 e in e ∙ sym (rw h (same_refl b))
-    by_test false e = e ∙ sym (false_from_ne_true (same a b) (λ t. let h = (bytes_eq-Decides a b).1 (same_true a b t) in cc))
-
-turned_words : (a b : List ℕ) → bytes_eq a b ≡ same b a
-turned_words a b = by_test (bytes_eq a b) refl
-  where
-    by_test : (t : Bool) → bytes_eq a b ≡ t → bytes_eq a b ≡ same b a
-    by_test true e = let h : a ≡ b = (bytes_eq-Decides a b).0 e in e ∙ sym (rw h (same_refl b))
-    by_test false e = e ∙ sym (false_from_ne_true (same b a) (λ t. let h = (bytes_eq-Decides a b).1 (sym (same_true b a t)) in cc))
 
 entries_listed : (q : List ℕ) (es : List Named) → lookup (is_at (slice_cmp nat_cmp q)) es ≡ register_in q es
 entries_listed q [] = refl
@@ -74,10 +63,6 @@ pub named_listed : (x : Scene) (r : Register) (q : List ℕ) (n : ℕ) → r ≡
 named_listed x r q n e h = h ∙ ap or_zero (registers_listed x.registers.now q) ∙ ap (register (context_of x)) (sym e)
 
 -- ---- names
-
-pub joined_nothing : {A : Type 0} → (xs : List A) → xs ++ [] ≡ xs
-joined_nothing [] = refl
-joined_nothing (x ∷ xs) = ap (λ z. x ∷ z) (joined_nothing xs)
 
 pub line_seen : (l : PlacedLine) (references : List LaidName) → Sees l references (line_of l references)
 line_seen l references = record { area = refl; offset = refl; map = refl; thumb = refl; found = λ q. ap (named_in q) (sym (joined_nothing references)) }

@@ -40,6 +40,7 @@ use Rattle.source_model.specs.ArmForms.{amount_field, shift_fields, is_before, w
 use Rattle.source_model.specs.PseudoForms.{adding, address_by, address_instruction, first_part, second_part, two_by, two_of, first_of, long_address, one, pseudo_instructions}
 use Rattle.std.specs.List.{list_any}
 use Rattle.asm_instructions.specs.Fits.{NamesRegisters, Fits, AllFit}
+use Rattle.base_lemmas.proofs.BaseLemmas.{second_of_both as both_true}
 
 -- ---- what holds of a result
 
@@ -63,12 +64,6 @@ then_holds Q f (Err k) h = tt
 where_holds : {A : Type 0} → (P : A → Type 0) (b : Bool) (x y : Result A LineKind) → (b ≡ true → Holds P x) → Holds P y → Holds P (cond b x y)
 where_holds P true x y h k = h refl
 where_holds P false x y h k = k
-
-both_true : (a b : Bool) → (a && b) ≡ true → b ≡ true
-both_true true b h = h
-both_true false b h = absurd (cc)
-
--- ---- codes
 
 condition_below : (c : Condition) → condition_code c < 2 ^ 4
 condition_below condition.Eq = omega arith

@@ -11,20 +11,13 @@ use Rattle.arm_isa.specs.ArmRows.{ReadsArm, arm_fields, arm_row}
 use Rattle.arm_isa.specs.declared.instr.ArmInstr.{ArmInstr}
 use Rattle.arm_isa.specs.declared.instr.ArmInstr.TheVariants.{DataImmediate, DataShifted, DataRegisterShifted, Multiply, MultiplyLong, Swap, BranchExchange, ReadStatus, WriteStatus, WriteStatusImmediate, TransferImmediate, TransferShifted, TransferHalf, TransferBlock, Branch, SoftwareInterrupt, Undefined}
 use Rattle.asm_instructions.specs.Fits.{Fits}
+use Rattle.base_lemmas.proofs.BaseLemmas.{first_of_both, second_of_both}
 
 abbrev are_bits : List Part → Bool
 are_bits [] = true
 are_bits (Digit d ∷ row) = nat_lt d 2 && are_bits row
 are_bits (Field letter n ∷ row) = are_bits row
 are_bits (Blank ∷ row) = are_bits row
-
-first_of_both : (a b : Bool) → (a && b) ≡ true → a ≡ true
-first_of_both true b h = refl
-first_of_both false b h = absurd (cc)
-
-second_of_both : (a b : Bool) → (a && b) ≡ true → b ≡ true
-second_of_both true b h = h
-second_of_both false b h = absurd (cc)
 
 word_below : (row : List Part) (xs : List ℕ) → FitsRow row xs → are_bits row ≡ true → digits_of row + placed_of row xs < 2 ^ width_of row
 word_below [] [] h b = omega arith

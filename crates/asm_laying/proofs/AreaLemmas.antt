@@ -19,13 +19,8 @@ use Rattle.asm_offsets.specs.Coded.{IsAlignment}
 use Rattle.asm_offsets.specs.Running.{Standing, nothing, IsBehind, IsThere, start_behind, pool_alignment_behind}
 use Rattle.asm_laying.specs.declared.areas.Areas.{Areas}
 use Rattle.asm_laying.specs.Numbered.{number_of, AreNumbered, Enters}
-
-same_sym : (a b : List ℕ) → same a b ≡ same b a
-same_sym a b = by_test (same a b) refl
-  where
-    by_test : (t : Bool) → same a b ≡ t → same a b ≡ same b a
-    by_test true e = let h : a ≡ b = same_true a b e in rw h refl
-    by_test false e = e ∙ sym (false_from_ne_true (same b a) (λ t. let h : b ≡ a = same_true b a t in let f : same a a ≡ false = rw h at e in let g = same_refl a in cc))
+use Rattle.asm_expr.proofs.PlaceLemmas.{later_or}
+use Rattle.asm_model.proofs.SharedLemmas.{same_back as same_sym}
 
 later_none : (o : Option ℕ) → one_later o ≡ None → o ≡ None
 later_none None h = refl
@@ -67,14 +62,6 @@ is_old q (m ∷ ms) k h = by_test (same q m) h (λ i e. is_old q ms i e)
         (r.0, ap (λ n. n + 1) r.1 ∙ at, omega arith)
 
 -- ---- a name more
-
-later_or : (o : Option ℕ) (name q : List ℕ) (n : ℕ) → one_later (or_number o name n q) ≡ or_number (one_later o) name (n + 1) q
-later_or (Some k) name q n = refl
-later_or None name q n = by_test (same name q)
-  where
-    by_test : (b : Bool) → one_later (cond b (Some n) None) ≡ cond b (Some (n + 1)) None
-    by_test true = refl
-    by_test false = refl
 
 numbered_more : (q : List ℕ) (names : List (List ℕ)) (x : List ℕ) → number_of q (names ++ x ∷ []) ≡ or_number (number_of q names) x (length names) q
 numbered_more q [] x = ap (λ b. cond b (Some 0) None) (same_sym q x)

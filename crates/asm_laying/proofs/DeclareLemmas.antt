@@ -12,6 +12,7 @@ use Rattle.asm_laying.specs.declared.declarations.Declarations.{Declarations}
 use Rattle.asm_laying.specs.Behind.{behind, IsEarly, most_statements}
 use Rattle.asm_laying.specs.Declaring.{Declares, AreDeclared, IsBetween}
 use Rattle.asm_laying.specs.Defining.{declared_entry, listed}
+use Rattle.base_lemmas.proofs.BaseLemmas.{rest_of}
 
 -- ---- counts
 
@@ -124,10 +125,6 @@ pub early_between : (statements left : List Statement) (b : Behind) (d : Declara
 early_between statements left b d h some few =
     let n : length h.before + length left ≡ length statements = h.number in
     subst IsEarly (sym h.declared.standing) (early h.before (omega arith))
-
-rest_of : {A : Type 0} (xs : List A) (x : A) → 1 ≤ length xs → x ≡ get_or xs 0 x → xs ≡ x ∷ take (length xs - 1) (drop 1 xs)
-rest_of [] x h e = absurd (let bad : 1 ≤ 0 = h in omega arith)
-rest_of (y ∷ ys) x h e = let same : x ≡ y = e in rw same (grind (arith, common_steps))
 
 pub between_next : (statements left : List Statement) (s : Statement) (b : Behind) (old new : Declarations) (next : Behind)
     → IsBetween statements left b old → 1 ≤ length left → s ≡ get_or left 0 s → Declares s b old new next

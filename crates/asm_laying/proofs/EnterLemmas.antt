@@ -22,7 +22,7 @@ use Rattle.asm_laying.proofs.DeclareLemmas.{stretch_low, order_more, before_more
 
 -- ---- counts
 
-name_more : (o : Option (List ℕ)) (names : List (List ℕ)) → length (with_name o names) ≤ length names + 1
+pub name_more : (o : Option (List ℕ)) (names : List (List ℕ)) → length (with_name o names) ≤ length names + 1
 name_more None names = omega arith
 name_more (Some n) names = by_test (list_any (same n) names)
   where
@@ -30,7 +30,7 @@ name_more (Some n) names = by_test (list_any (same n) names)
     by_test true = omega arith
     by_test false = let e : length (names ++ n ∷ []) ≡ length names + 1 = length-append names (n ∷ []) in omega arith
 
-areas_few : (ss : List Statement) → length (areas_behind ss) ≤ length ss
+pub areas_few : (ss : List Statement) → length (areas_behind ss) ≤ length ss
 areas_few [] = omega arith
 areas_few (s ∷ before) = let h = name_more (area_named s.what) (areas_behind before) in let g = areas_few before in omega arith
 

@@ -12,10 +12,9 @@ ghost use Rattle.asm_laying.specs.Defining.{defined_of, listed};
 
 use crate::behind::{Behind, START};
 use crate::defining::{Defines, declared_entry, defined_by};
-use asm_names::Locals;
 use asm_model::{LaidName, Statement, What};
-use asm_names::KnownNames;
 use asm_names::made::{imported_entry, imported_name};
+use asm_names::{KnownNames, Locals};
 use sdt_fault::NoMemory;
 use std::alloc::Global;
 

@@ -30,16 +30,13 @@ use Rattle.asm_layout.specs.declared.outline.Outline.{Outline}
 use Rattle.asm_layout.specs.declared.walking.Walk.{Walk}
 use Rattle.asm_layout.specs.Finishing.{IsNamed, IsWhole}
 use Rattle.asm_layout.proofs.ToldLemmas.{none_first}
+use Rattle.said_model.proofs.SharedLemmas.{are_plain as all_plain}
 
 -- ---- statements as lines say them
 
 pub said_reversed : (ss acc : List Statement) → AllSaid ss → AllSaid acc → AllSaid (reversed ss acc)
 said_reversed [] acc h k = k
 said_reversed (s ∷ ss) acc h k = said_reversed ss (s ∷ acc) h.1 (h.0, k)
-
-all_plain : (ss : List Statement) → AllSaid ss → ArePlain ss
-all_plain [] h = tt
-all_plain (s ∷ ss) h = (h.0.named, h.0.imported, all_plain ss h.1)
 
 read_label : (name : List ℕ) → IsReadDefined (labelled name)
 read_label [] = tt
@@ -117,11 +114,11 @@ sound_lines names fixed (l ∷ before) e =
     rw (sound_lines names fixed before (none_left (first_laid names fixed before) (told_at l.statement (told_kind (layout_kinds fixed l before ++ register_kinds names l before))) e), part) refl
 
 -- what laid lines take up can be placed
-extent_fits : ExtentsArePlaceable → (d : Declared) (s : Statement) (before : List LaidLine) (r : Result Extent LineKind) → extent_of (sight_behind d s before) s.what ≡ r → IsExtent (taken r)
+pub extent_fits : ExtentsArePlaceable → (d : Declared) (s : Statement) (before : List LaidLine) (r : Result Extent LineKind) → extent_of (sight_behind d s before) s.what ≡ r → IsExtent (taken r)
 extent_fits law d s before (Ok e) h = law (sight_behind d s before) s.what e h
 extent_fits law d s before (Err k) h = record { some = omega arith; small = omega arith }
 
-all_extents : ExtentsArePlaceable → (d : Declared) (ss : List Statement) → AllExtents (pieces_of (laid_of d ss))
+pub all_extents : ExtentsArePlaceable → (d : Declared) (ss : List Statement) → AllExtents (pieces_of (laid_of d ss))
 all_extents law d [] = tt
 all_extents law d (s ∷ ss) = (extent_fits law d s (laid_of d ss) (extent_of (sight_behind d s (laid_of d ss)) s.what) refl, all_extents law d ss)
 

@@ -20,7 +20,7 @@ use Rattle.asm_layout.specs.Lines.{IsLineOf}
 
 -- ---- from the first line on
 
-lines_on : (before rest : List LaidLine) (front back : List LaidStatement) → AreStatements before front → AreOn before rest back → AreOn [] (reversed before rest) (front ++ back)
+pub lines_on : (before rest : List LaidLine) (front back : List LaidStatement) → AreStatements before front → AreOn before rest back → AreOn [] (reversed before rest) (front ++ back)
 lines_on [] rest front back h k = rw h k
 lines_on (l ∷ before) rest front back h k =
     subst (λ (xs : List LaidStatement). AreOn [] (reversed before (l ∷ rest)) (xs ++ back)) (sym h.2)
@@ -35,7 +35,7 @@ append_nil : (xs : List LaidStatement) → xs ++ [] ≡ xs
 append_nil [] = refl
 append_nil (x ∷ xs) = ap (λ (l : List LaidStatement). x ∷ l) (append_nil xs)
 
-back_again : (xs ys : List LaidLine) → reversed (reversed xs ys) [] ≡ reversed ys xs
+pub back_again : (xs ys : List LaidLine) → reversed (reversed xs ys) [] ≡ reversed ys xs
 back_again [] ys = refl
 back_again (x ∷ xs) ys = back_again xs (x ∷ ys)
 

@@ -46,6 +46,8 @@ use Rattle.asm_layout.specs.declared.walking.Walk.{Walk}
 use Rattle.asm_layout.specs.Layout.{IsTold}
 use Rattle.asm_layout.specs.Walking.{IsMark, HasMark, IsCounted, one_more, or_false, IsWalking, IsJudged, Keeps, laid_as, told_by}
 use Rattle.asm_layout.proofs.ToldLemmas.{none_first, none_second, told_parts}
+use Rattle.layout_laws.proofs.NamedLemmas.{none_joined as absent_joined}
+use Rattle.layout_laws.proofs.SharedLemmas.{spelled_lack as spelled}
 
 -- ---- the number that checks ask for
 
@@ -166,22 +168,9 @@ no_reference (c ∷ cs) t h = by_test (124 == c) refl
     by_test true e = let s : c ≡ 124 = grind arith in absurd (h s)
     by_test false e = refl
 
-absent_joined : (q : List ℕ) (xs ys : List LaidName) → named_in q xs ≡ None → named_in q ys ≡ None → named_in q (xs ++ ys) ≡ None
-absent_joined q [] ys h k = k
-absent_joined q (x ∷ xs) ys h k = by_test (same x.name q) h (λ e. absent_joined q xs ys e k)
-  where
-    by_test : (b : Bool) → cond b (Some x) (named_in q xs) ≡ None → (named_in q xs ≡ None → named_in q (xs ++ ys) ≡ None) → cond b (Some x) (named_in q (xs ++ ys)) ≡ None
-    by_test true e rest = absurd (cc)
-    by_test false e rest = rest e
-
 present_joined : (q : List ℕ) (xs ys : List LaidName) → named_in q ys ≡ None → named_in q (xs ++ ys) ≡ named_in q xs
 present_joined q [] ys h = h
 present_joined q (x ∷ xs) ys h = ap (λ o. cond (same x.name q) (Some x) o) (present_joined q xs ys h)
-
-spelled : (q : List ℕ) → IsBare q → (area : Option ℕ) (l : Local) (mark : List ℕ) (texts : List (List ℕ))
-    → named_in q (map (λ digits. reference area l (mark ++ digits)) texts) ≡ None
-spelled q bare area l mark [] = refl
-spelled q bare area l mark (t ∷ ts) = rw (no_reference q (mark ++ t) bare) (spelled q bare area l mark ts)
 
 referred : (q : List ℕ) → IsBare q → (area : Option ℕ) (l : Local) (marks : List (List ℕ)) → named_in q (references_to area l marks) ≡ None
 referred q bare area l [] = refl

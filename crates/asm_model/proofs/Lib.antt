@@ -17,3 +17,4 @@ pub mod OffsetRows
 pub mod PlacedLemmas
 pub mod PlacingLemmas
 pub mod TreeLemmas
+pub mod SharedLemmas

@@ -16,6 +16,7 @@ use Rattle.asm_model.proofs.WordLemmas.{same_true, same_refl}
 use Rattle.asm_model.proofs.NameLemmas.{in_either}
 use Rattle.asm_names.specs.Steps.{one_entry, symbol_entry, with_symbol, item_entries, items_entries, with_list}
 use Rattle.asm_names.proofs.AgreeLemmas.{SoundValue, SoundEntry, AgreeItem, AgreeItems, same_meaning}
+use Rattle.base_lemmas.proofs.BaseLemmas.{true_or as or_left, or_true as or_right}
 
 -- ---- each entry is the first with its name
 
@@ -88,14 +89,6 @@ CoversItems list few (i ∷ is) = CoversItem list few i × CoversItems list few 
 -- whatever is among some is among others
 abbrev Within : List LaidName → List LaidName → Type 0
 Within few more = (q : List ℕ) → is_in few q ≡ true → is_in more q ≡ true
-
-or_left : (a b : Bool) → a ≡ true → (a || b) ≡ true
-or_left true b h = refl
-or_left false b h = absurd (cc)
-
-or_right : (a b : Bool) → b ≡ true → (a || b) ≡ true
-or_right true b h = refl
-or_right false b h = h
 
 in_front : (xs ys : List LaidName) → Within xs (xs ++ ys)
 in_front xs ys q h = in_either q xs ys ∙ or_left (is_in xs q) (is_in ys q) h

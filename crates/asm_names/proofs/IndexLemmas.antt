@@ -14,14 +14,7 @@ use Rattle.asm_model.specs.declared.exprs.Expr.{Expr}
 use Rattle.asm_model.specs.Forms.{same}
 use Rattle.asm_model.proofs.WordLemmas.{same_refl, same_true}
 use Rattle.asm_names.specs.Index.{Numbers, number_in, first_from, IsIndexOf, IsWithin}
-
--- the two tests of words
-tests : (a b : List ℕ) → bytes_eq a b ≡ same b a
-tests a b = by_test (bytes_eq a b) refl
-  where
-    by_test : (t : Bool) → bytes_eq a b ≡ t → bytes_eq a b ≡ same b a
-    by_test true e = let h : a ≡ b = (bytes_eq-Decides a b).0 e in e ∙ sym (rw h (same_refl b))
-    by_test false e = e ∙ sym (false_from_ne_true (same b a) (λ t. let h = (bytes_eq-Decides a b).1 (sym (same_true b a t)) in cc))
+use Rattle.asm_model.proofs.SharedLemmas.{tests}
 
 pub put_is : (m n : Numbers) (name : List ℕ) (k : ℕ) → UpdatesBy (slice_cmp nat_cmp) (slice_cmp nat_cmp name) m n (Some k)
     → (q : List ℕ) → number_in n q ≡ cond (same q name) (Some k) (number_in m q)

@@ -10,8 +10,8 @@ use Rattle.asm_model.specs.declared.exprs.UnaryOp.TheVariants as unary
 use Rattle.asm_model.specs.declared.values.Value.TheVariants.{Place}
 use Rattle.asm_model.specs.AtLine.{Sight, is_in, item_kinds, asked_kinds, value_kinds, name_kinds, kept_name, kept_names}
 use Rattle.asm_model.specs.Grammar.{Tree, Leaf, Before, Between, postfix, plain, Spells, operand, of_name, before, grouped, between, tighter, IsSpelled}
-use Rattle.asm_model.proofs.TreeLemmas.{plain_operand}
 use Rattle.asm_names.specs.Steps.{operator_first, name_asked, item_asked, items_kinds, kept_before, kept_items}
+use Rattle.asm_model.proofs.LateLemmas.{plain_operand}
 
 -- ---- operands
 

@@ -16,7 +16,7 @@ pub mod SettledLemmas
 mod NameLemmas
 mod LocalOrderLemmas
 mod TableLemmas
-mod LineLemmas
+pub mod LineLemmas
 mod MatchLemmas
 mod OnceLemmas
 mod SettleLemmas

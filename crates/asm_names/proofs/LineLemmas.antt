@@ -29,7 +29,7 @@ reversed_onto : {A : Type 0} → (xs ys zs : List A) → reversed (reversed xs y
 reversed_onto [] ys zs = refl
 reversed_onto (x ∷ xs) ys zs = reversed_onto xs (x ∷ ys) zs
 
-reversed_nothing : {A : Type 0} → (xs : List A) → xs ++ [] ≡ xs
+pub reversed_nothing : {A : Type 0} → (xs : List A) → xs ++ [] ≡ xs
 reversed_nothing [] = refl
 reversed_nothing (x ∷ xs) = ap (λ z. x ∷ z) (reversed_nothing xs)
 

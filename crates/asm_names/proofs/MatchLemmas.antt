@@ -27,12 +27,12 @@ use Rattle.layout_laws.proofs.NamedLemmas.{sofar, own_of, imports_of, with_state
 use Rattle.layout_laws.proofs.RoundLemmas.{SymbolIs, EachIs, named_joined}
 use Rattle.layout_laws.proofs.SoundLemmas.{any_parts}
 use Rattle.layout_laws.proofs.StepLemmas.{nothing}
-use Rattle.asm_names.proofs.ListLemmas.{all_append}
 use Rattle.asm_names.specs.Steps.{one_entry}
 use Rattle.asm_names.specs.declared.lines.PlacedLine.{PlacedLine}
 use Rattle.asm_names.specs.Lines.{IsLine, IsFinal}
 use Rattle.asm_names.specs.Source.{AreEach, IsReadDefined, AreRead, own_entries, line_entries, Owed, owed_by, owed_in, equal_pair}
 use Rattle.asm_names.proofs.OnceLemmas.{EachFound}
+use Rattle.base_lemmas.proofs.BaseLemmas.{all_append}
 
 -- ---- one line
 

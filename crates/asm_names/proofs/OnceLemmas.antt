@@ -16,8 +16,8 @@ use Rattle.asm_model.specs.Locals.{Local}
 use Rattle.layout_laws.proofs.NamedLemmas.{sofar, own_of, imports_of, with_statement, AtMost, own_most, import_most, most_lacks, none_joined, lacks}
 use Rattle.layout_laws.proofs.RoundLemmas.{named_joined}
 use Rattle.layout_laws.proofs.SoundLemmas.{EachSound, any_parts}
-use Rattle.asm_names.proofs.SettledLemmas.{or_left, or_right}
 use Rattle.asm_names.specs.Steps.{one_entry}
+use Rattle.base_lemmas.proofs.BaseLemmas.{true_or as or_left, or_true as or_right}
 
 -- ---- names that aren't repeated
 

@@ -19,7 +19,8 @@ use Rattle.asm_names.specs.Search.{Lists, is_known, items_at, items_of, WaitsFor
 use Rattle.asm_names.proofs.ListLemmas.{all_get, times_in_it, in_it, cut_at, sum_some}
 use Rattle.asm_names.proofs.LookLemmas.{unsettled}
 use Rattle.asm_names.proofs.SearchLemmas.{names_more, none_more, one_more, one_yes}
-use Rattle.asm_names.proofs.SettledLemmas.{or_right, or_either, items_more, settled_is_closed, settled_is_least}
+use Rattle.asm_names.proofs.SettledLemmas.{items_more, settled_is_closed, settled_is_least}
+use Rattle.base_lemmas.proofs.BaseLemmas.{both, or_either, or_true as or_right}
 
 -- an expression that waits has a name that isn't known
 one_waits : (i : ℕ) (ws : List Waiting) → 0 < times_in i ws → (j : ℕ) × (w : Waiting) × (slice_get ws j ≡ Some w) × (w.equal ≡ i)
@@ -37,11 +38,6 @@ waits_unsettled equals m names waits all i h =
     let o = one_waits i s.1.items s.3 in
     let f = all_get (WaitsFor equals m names s.0) s.1.items o.0 o.1 (all s.0 s.1 s.2) o.2 in
     ap (λ (j : ℕ). are_settled equals names (items_at equals j)) (sym o.3) ∙ unsettled equals names (items_at equals o.1.equal) o.1.item (item.Name f.name) f.there f.unknown
-
-both : (a b : Bool) → (a ≡ true → b ≡ true) → (b ≡ true → a ≡ true) → a ≡ b
-both true b f g = sym (f refl)
-both false true f g = g refl
-both false false f g = refl
 
 pub below_only : (n i : ℕ) → 0 < one_below n i → i < n
 below_only n i h = by (nat_lt i n) refl h

@@ -22,9 +22,10 @@ use Rattle.asm_names.specs.Laws.{AreAmong}
 use Rattle.asm_names.specs.Order.{names_at, times}
 use Rattle.asm_names.specs.Search.{Lists, mark, unknown_from, items_at, IsReplaced, IsLonger, Looked, IsReached, WaitsFor, times_in, waits_in, one_below, known_names, Holds, starts, AreEmpty}
 use Rattle.asm_names.proofs.IndexLemmas.{numbered_once, numbered_within}
-use Rattle.asm_names.proofs.ListLemmas.{all_append, all_front, all_back, all_weaker, all_get, get_set, IsBefore, cut_last}
+use Rattle.asm_names.proofs.ListLemmas.{all_get, get_set, IsBefore, cut_last}
 use Rattle.asm_names.proofs.LookLemmas.{Knows, all_free, next_is, settled_both, get_drop, take_more}
-use Rattle.asm_names.proofs.SettledLemmas.{or_left, or_right, items_more}
+use Rattle.asm_names.proofs.SettledLemmas.{items_more}
+use Rattle.base_lemmas.proofs.BaseLemmas.{all_append, all_back, all_front, all_weaker, true_or as or_left, or_true as or_right}
 
 -- ---- names of more places
 

@@ -25,11 +25,11 @@ use Rattle.layout_laws.proofs.StepLemmas.{name_of, Or, made_is, line_is, line_sa
 use Rattle.asm_names.specs.Order.{names_at, is_in, IsOrder}
 use Rattle.asm_names.proofs.ListLemmas.{all_get}
 use Rattle.asm_names.proofs.SearchLemmas.{one_more}
-use Rattle.asm_names.proofs.SettledLemmas.{or_left, or_right, or_either}
 use Rattle.asm_names.specs.Steps.{one_entry}
 use Rattle.asm_names.proofs.EntryLemmas.{found_name, named_same, each_one}
 use Rattle.asm_names.specs.Source.{Owed, equal_pair, IsEntryAt, Settles, begun, further}
 use Rattle.asm_names.proofs.MatchLemmas.{EachOwn, Fits}
+use Rattle.base_lemmas.proofs.BaseLemmas.{or_either, true_or as or_left, or_true as or_right}
 
 -- ---- one place more
 

@@ -10,18 +10,7 @@ use Rattle.asm_model.specs.Forms.{same}
 use Rattle.asm_model.proofs.WordLemmas.{same_refl, same_true}
 use Rattle.asm_model.specs.LayoutKinds.{is_settled_item, are_settled, settled_by, settled_after, settled}
 use Rattle.asm_names.specs.Laws.{IsClosed, AreAmong}
-
-pub or_left : (a b : Bool) → a ≡ true → (a || b) ≡ true
-or_left true b h = refl
-or_left false b h = absurd (true≢false (sym h))
-
-pub or_right : (a b : Bool) → b ≡ true → (a || b) ≡ true
-or_right true b h = refl
-or_right false b h = h
-
-pub or_either : (a b : Bool) → (a || b) ≡ true → (a ≡ true) ⊎ (b ≡ true)
-or_either true b h = inl refl
-or_either false b h = inr h
+use Rattle.base_lemmas.proofs.BaseLemmas.{or_either, true_or as or_left, or_true as or_right}
 
 or_more : (a b c : Bool) → (b ≡ true → c ≡ true) → (a || b) ≡ true → (a || c) ≡ true
 or_more true b c f h = refl

@@ -22,7 +22,7 @@ use Rattle.layout_laws.proofs.SoundLemmas.{EachSound, sound_each, equals_apart, 
 use Rattle.asm_names.specs.Order.{names_at, is_in, IsOrder}
 use Rattle.asm_names.proofs.ListLemmas.{cut_at}
 use Rattle.asm_names.proofs.SearchLemmas.{names_more, one_more}
-use Rattle.asm_names.proofs.SettledLemmas.{or_right, rounds_stop}
+use Rattle.asm_names.proofs.SettledLemmas.{rounds_stop}
 use Rattle.asm_names.specs.Steps.{one_entry}
 use Rattle.asm_names.specs.declared.lines.PlacedLine.{PlacedLine}
 use Rattle.asm_names.specs.declared.dues.Due.{Due}
@@ -31,6 +31,7 @@ use Rattle.asm_names.specs.Source.{IsSource, Owed, line_entries, owed_in, equal_
 use Rattle.asm_names.proofs.OnceLemmas.{EachFound, each_found}
 use Rattle.asm_names.proofs.MatchLemmas.{lines_same, lines_lacking, lines_held, lines_own, owed_pairs, Fits, owed_fit}
 use Rattle.asm_names.proofs.SettleLemmas.{IsComplete, Knows, knows_first, all_known}
+use Rattle.base_lemmas.proofs.BaseLemmas.{or_true as or_right}
 
 -- ---- pairs by their places
 

@@ -8,21 +8,9 @@ use Rattle.asm_model.specs.declared.values.Value.{Value}
 use Rattle.asm_pool.specs.Pooled.{Pooled, same_literal, one_later, place_among, entry_at, noted, placed_from, flushed, place_of, literals_of}
 use Rattle.asm_pool.specs.Laws.{after, PoolLaw}
 use Rattle.asm_pool.proofs.LiteralLemmas.{same_true, same_refl, placed_last}
+use Rattle.base_lemmas.proofs.BaseLemmas.{get_before, get_back as get_behind}
 
 -- ---- lists
-
-get_behind : {X : Type 0} (xs ys : List X) (i : ℕ) → slice_get (xs ++ ys) (length xs + i) ≡ slice_get ys i
-get_behind [] ys i = ap (λ n. slice_get ys n) (omega arith)
-get_behind (x ∷ xs) ys i =
-    let e : length (x ∷ xs) + i ≡ suc (length xs + i) = omega arith in
-    rw e (get_behind xs ys i)
-
-get_before : {X : Type 0} (xs ys : List X) (i : ℕ) → i < length xs → slice_get (xs ++ ys) i ≡ slice_get xs i
-get_before [] ys i h = absurd (omega arith)
-get_before (x ∷ xs) ys zero h = refl
-get_before (x ∷ xs) ys (suc i) h = get_before xs ys i (omega arith)
-
--- ---- places
 
 found_there : (v : Value) (ws : List Value) (i : ℕ) → place_among v ws ≡ Some i → slice_get ws i ≡ Some v
 found_there v [] i e = absurd (cc)

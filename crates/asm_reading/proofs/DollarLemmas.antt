@@ -3,10 +3,7 @@ use Rattle.std.proofs.Common.{◌≡◌, ℕ, zero, suc, ◌-◌, Bool, true, fa
 use Rattle.std.specs.List.{list_any}
 use Rattle.asm_model.specs.declared.tokens.Token.{Token}
 use Rattle.asm_reading.specs.Reading.{Scan, is_quotation, is_dollar, holds_dollar, has_dollar}
-
-both_false : (a b : Bool) → (a || b) ≡ false → (a ≡ false) × (b ≡ false)
-both_false true b e = absurd (cc)
-both_false false b e = (refl, e)
+use Rattle.base_lemmas.proofs.BaseLemmas.{neither as both_false}
 
 none_first : {X : Type 0} (p : X → Bool) (x : X) (xs : List X) → list_any p (x ∷ xs) ≡ false → (p x ≡ false) × (list_any p xs ≡ false)
 none_first p x xs e = both_false (p x) (list_any p xs) e

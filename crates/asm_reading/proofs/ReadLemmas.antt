@@ -15,6 +15,7 @@ use Rattle.said_model.specs.Said.{IsSaid, AllSaid}
 use Rattle.asm_reading.specs.declared.reading.Reading.{Reading}
 use Rattle.asm_reading.specs.declared.reading.Unread.{Unread}
 use Rattle.asm_reading.specs.Reading.{IsShort, AllShort, Said, changes_state, without_states, has_dollar, read_as, SaysLine, says_end, UnlessEnd, Say, statement_in, statements_in, unread_in, first_unread, is_unread, read_first, before_behind, Keeps, IsReading, StaysInArm, InArm, IsSoFar}
+use Rattle.base_lemmas.proofs.BaseLemmas.{rest_of}
 
 -- ---- lists
 
@@ -22,11 +23,7 @@ append_nil : {A : Type 0} (xs : List A) → xs ++ [] ≡ xs
 append_nil [] = refl
 append_nil (x ∷ xs) = ap (λ l. x ∷ l) (append_nil xs)
 
-pub rest_of : {A : Type 0} (xs : List A) (x : A) → 1 ≤ length xs → x ≡ get_or xs 0 x → xs ≡ x ∷ take (length xs - 1) (drop 1 xs)
-rest_of [] x h e = absurd (let bad : 1 ≤ 0 = h in omega arith)
-rest_of (y ∷ ys) x h e = let same : x ≡ y = e in rw same (grind (arith, common_steps))
-
-nothing : {A : Type 0} (xs : List A) → length xs < 1 → xs ≡ []
+pub nothing : {A : Type 0} (xs : List A) → length xs < 1 → xs ≡ []
 nothing [] less = refl
 nothing (x ∷ xs) less = absurd (omega arith)
 

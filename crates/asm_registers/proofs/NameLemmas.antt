@@ -24,28 +24,11 @@ use Rattle.asm_model.specs.Laid.{reversed}
 use Rattle.asm_model.specs.LayoutKinds.{listed}
 use Rattle.source_model.specs.Registers.{Named, register_in, with_register, register_name, register_names}
 use Rattle.asm_registers.specs.Giving.{AreNames}
+use Rattle.asm_expr.proofs.PlaceLemmas.{tests}
+use Rattle.asm_model.proofs.SharedLemmas.{same_back}
+use Rattle.base_lemmas.proofs.BaseLemmas.{rest_of}
 
 -- ---- lists
-
-pub rest_of : {A : Type 0} (xs : List A) (x : A) → 1 ≤ length xs → x ≡ get_or xs 0 x → xs ≡ x ∷ take (length xs - 1) (drop 1 xs)
-rest_of [] x h e = absurd (let bad : 1 ≤ 0 = h in omega arith)
-rest_of (y ∷ ys) x h e = let same : x ≡ y = e in rw same (grind (arith, common_steps))
-
--- ---- the two tests of words
-
-same_back : (a b : List ℕ) → same a b ≡ same b a
-same_back a b = by_test (same a b) refl
-  where
-    by_test : (t : Bool) → same a b ≡ t → same a b ≡ same b a
-    by_test true e = let h : a ≡ b = same_true a b e in e ∙ sym (rw h (same_refl b))
-    by_test false e = e ∙ sym (false_from_ne_true (same b a) (λ t. let h : b ≡ a = same_true b a t in let g : same a b ≡ true = rw h (same_refl a) in cc))
-
-tests : (a b : List ℕ) → bytes_eq a b ≡ same a b
-tests a b = by_test (bytes_eq a b) refl
-  where
-    by_test : (t : Bool) → bytes_eq a b ≡ t → bytes_eq a b ≡ same a b
-    by_test true e = let h : a ≡ b = (bytes_eq-Decides a b).0 e in e ∙ sym (rw h (same_refl b))
-    by_test false e = e ∙ sym (false_from_ne_true (same a b) (λ t. let h = (bytes_eq-Decides a b).1 (same_true a b t) in cc))
 
 is_same : (a b : List ℕ) → is_eq (slice_cmp nat_cmp a b) ≡ same a b
 is_same a b = is_eq-slice_cmp a b ∙ tests a b

@@ -12,10 +12,8 @@ use Rattle.asm_model.specs.LayoutKinds.{kind_if}
 use Rattle.source_model.specs.Registers.{Named, name_kinds, names_kinds, item_registers, list_registers, number_of, falls, range_kinds}
 use Rattle.asm_registers.specs.declared.naming.Scope.{Scope}
 use Rattle.asm_registers.specs.Scoped.{told_of}
-use Rattle.asm_registers.proofs.NameLemmas.{rest_of}
-
-pub told_of_two : (a b : Option LineKind) (ks js : List LineKind) → a ≡ told_kind ks → b ≡ told_kind js → first_told a b ≡ told_kind (ks ++ js)
-told_of_two a b ks js e f = rw (e, f) (sym (told_by_parts ks js))
+use Rattle.asm_model.proofs.SharedLemmas.{told_of_two}
+use Rattle.base_lemmas.proofs.BaseLemmas.{rest_of}
 
 -- what is told of a register and others
 pub told_before : (s : Scope) (r : Register) (rs : List Register) (a b : Option LineKind)

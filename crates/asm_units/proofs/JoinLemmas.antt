@@ -5,10 +5,11 @@ use Rattle.std.proofs.lemmas.Grind.{common_steps}
 use Rattle.sdt_fault.specs.declared.kinds.LineKind.{LineKind}
 use Rattle.asm_model.specs.Says.{on_both, mapped}
 use Rattle.asm_model.specs.declared.exprs.Expr.{Expr}
-use Rattle.asm_expr.proofs.ReadingLemmas.{earlier_assoc}
 use Rattle.said_model.specs.Said.{AllRead}
 use Rattle.source_model.specs.Units.{Emitted}
 use Rattle.asm_units.specs.Emitting.{with_next}
+use Rattle.asm_model.proofs.FaultLemmas.{earlier_assoc}
+use Rattle.base_lemmas.proofs.BaseLemmas.{rest_of as first_and_rest}
 
 -- units with others behind them
 abbrev pub joined : Result (List Emitted) LineKind → Result (List Emitted) LineKind → Result (List Emitted) LineKind
@@ -29,11 +30,6 @@ joined_next f (Err i) (Err j) (Err k) = ap (λ (z : LineKind). Err z) (sym (earl
 unit_next : {A : Type 0} (f : A → Emitted) (us more : Result (List Emitted) LineKind) (u : Result Emitted LineKind) (a : Result A LineKind) (rest all : Result (List Emitted) LineKind)
     → more ≡ with_next us u → u ≡ mapped f a → joined us (on_both (λ x vs. f x ∷ vs) a rest) ≡ all → joined more rest ≡ all
 unit_next f us more u a rest all m e h = rw (m, e) (joined_next f us a rest ∙ h)
-
--- a list by its first item
-first_and_rest : {A : Type 0} (xs : List A) (x : A) → 1 ≤ length xs → x ≡ get_or xs 0 x → xs ≡ x ∷ take (length xs - 1) (drop 1 xs)
-first_and_rest [] x h e = absurd (let bad : 1 ≤ 0 = h in omega arith)
-first_and_rest (y ∷ ys) x h e = let same : x ≡ y = e in rw same (grind (arith, common_steps))
 
 -- an operand more of those that are left
 pub operand_next : {A : Type 0} (f : A → Emitted) (value : Expr → Result A LineKind) (now behind : List Expr → Result (List Emitted) LineKind)

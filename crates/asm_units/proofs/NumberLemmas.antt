@@ -8,13 +8,7 @@ use Rattle.asm_model.proofs.WordLemmas.{same_refl, same_true}
 use Rattle.asm_expr.specs.Places.{number_in, or_number, one_later}
 use Rattle.asm_model.specs.Before.{with_name, place_of}
 use Rattle.asm_units.specs.Numbers.{number_among, IsIndexed}
-
-same_sym : (a b : List ℕ) → same a b ≡ same b a
-same_sym a b = by_test (same a b) refl
-  where
-    by_test : (t : Bool) → same a b ≡ t → same a b ≡ same b a
-    by_test true e = let h : a ≡ b = same_true a b e in rw h refl
-    by_test false e = e ∙ sym (false_from_ne_true (same b a) (λ t. let h : b ≡ a = same_true b a t in let f : same a a ≡ false = rw h at e in let g = same_refl a in cc))
+use Rattle.asm_model.proofs.SharedLemmas.{same_back as same_sym}
 
 later_or : (o : Option ℕ) (x q : List ℕ) (n : ℕ) → one_later (or_number o x n q) ≡ or_number (one_later o) x (n + 1) q
 later_or (Some k) x q n = refl

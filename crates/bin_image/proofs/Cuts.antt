@@ -4,6 +4,7 @@ use Rattle.std.specs.List.{position, position_or_len, slice_split, onto_first, A
 use Rattle.std.proofs.lemmas.Bool.{and_parts}
 use Rattle.bin_image.specs.Fields.{lacks, cut}
 use Rattle.bin_image.specs.Maps.{ended}
+use Rattle.base_lemmas.proofs.BaseLemmas.{same}
 
 abbrev pub Pair : Type 0
 Pair = List ℕ × List ℕ
@@ -14,11 +15,6 @@ onto x q = (x ∷ q.0, q.1)
 pub not_true : (b : Bool) → not b ≡ true → b ≡ false
 not_true true h = absurd (cc)
 not_true false h = refl
-
-pub same : {A : Type 0} (x y : A) → Some x ≡ Some y → x ≡ y
-same x y h = cc
-
--- ---- one cut
 
 pub cut_at : (c : ℕ) (a r : List ℕ) → lacks c a ≡ true → cut c (a ++ c ∷ r) ≡ Some (a, r)
 cut_at c [] r h = let e = eq-eqb c c refl in rw e refl

@@ -14,16 +14,9 @@ use Rattle.std.specs.Str.Parse.{digits_value, digits_value_after, AllDigits}
 use Rattle.std.specs.Fmt.{decimal, digit_glyph}
 use Rattle.sdt_fault.specs.Digits.{hexadecimal_places}
 use Rattle.bin_image.specs.Fields.{◌>>=◌, lacks, is_upper_digit, at_most, address, address_of, decimal_of}
-use Rattle.bin_image.proofs.Cuts.{same}
+use Rattle.base_lemmas.proofs.BaseLemmas.{grows, same}
 
 -- ---- the loop over digits
-
-pub grows : (base n : ℕ) (ds : List ℕ) → 1 ≤ base → n ≤ digits_value_after base n ds
-grows base n [] low = omega arith
-grows base n (c ∷ cs) low =
-    let product : n ≤ n * base = le-mul_of_pos_right n (omega arith) in
-    let more : n * base + digit_value c ≤ digits_value_after base (n * base + digit_value c) cs = grows base (n * base + digit_value c) cs low in
-    omega arith
 
 above : (most n : ℕ) → most < n → at_most most n ≡ None
 above most n h = by_test (nat_le n most) refl where

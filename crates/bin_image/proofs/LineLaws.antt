@@ -10,13 +10,9 @@ use Rattle.bin_image.specs.declared.records.MapRegion.{MapRegion}
 use Rattle.bin_image.specs.Fields.{◌>>=◌, lacks, cut, is_word, is_name, address, address_of, decimal_of}
 use Rattle.bin_image.specs.Maps.{load_line, region_line, start_line, entry_line, bound_line, state_word, IsLoad, IsRegion}
 use Rattle.bin_image.specs.Reading.{load_of, load_in, region_of, region_in, start_in, state_of, entry_in, bound_in}
-use Rattle.bin_image.proofs.Cuts.{Pair, same, cut_at, cut_is}
+use Rattle.bin_image.proofs.Cuts.{Pair, cut_at, cut_is}
 use Rattle.bin_image.proofs.Digits.{address_is, address_read, address_lacks_feed, address_lacks_space, decimal_is, decimal_read, decimal_lacks_feed, implied}
-
--- what an option that came through a step was before, and a test
-came_through : {A B : Type 0} (f : A → Option B) (o : Option A) (y : B) → option_and_then f o ≡ Some y → (x : A) × (o ≡ Some x) × (f x ≡ Some y)
-came_through f None y h = absurd (cc)
-came_through f (Some x) y h = (x, refl, h)
+use Rattle.base_lemmas.proofs.BaseLemmas.{came_through, same}
 
 pub when : {A : Type 0} (b : Bool) (o : Option A) (y : A) → cond b o None ≡ Some y → (b ≡ true) × (o ≡ Some y)
 when true o y h = (refl, h)

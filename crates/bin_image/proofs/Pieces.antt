@@ -13,8 +13,9 @@ use Rattle.bin_image.specs.Fields.{◌>>=◌, cut}
 use Rattle.bin_image.specs.Maps.{ended, map_text, IsValid}
 use Rattle.bin_image.specs.Reading.{State, next, is_done, last, read, pieces_of, empty_map, shown, told, map_of, Gives}
 use Rattle.bin_image.specs.declared.reading.Reader.{Reader}
-use Rattle.bin_image.proofs.Cuts.{same, cut_is, pieces_at, pieces_none, pieces_of_lines}
+use Rattle.bin_image.proofs.Cuts.{cut_is, pieces_at, pieces_none, pieces_of_lines}
 use Rattle.bin_image.proofs.Steps.{steps, so_far, map_reached, map_plain, text_of_lines}
+use Rattle.base_lemmas.proofs.BaseLemmas.{same}
 
 read_line : (ls : List (List ℕ)) (l : List ℕ) (at : ℕ) (s : Stage) (m : MapFile) (x : List ℕ) (xs : List (List ℕ))
     → read at s m (l ∷ (ls ++ x ∷ xs)) ≡ option_map_or (λ u. read (at + (length l + 1)) u.0 u.1 (ls ++ x ∷ xs)) (next s m l) (Err at)

@@ -15,8 +15,8 @@ use Rattle.bin_image.specs.declared.reading.Stage.TheVariants.{Head, Loads, Regi
 use Rattle.bin_image.specs.Fields.{◌>>=◌, lacks}
 use Rattle.bin_image.specs.Maps.{header, load_line, region_line, start_line, entry_line, bound_line, end_line, ended, map_text, IsLoad, IsRegion, IsApart, AreApart, IsValid, Begins}
 use Rattle.bin_image.specs.Reading.{load_in, region_in, start_in, entry_in, bound_in, meets, State, after_head, add_load, after_load, add_region, after_region, after_start, after_entry, after_bound, after_end, next, empty_map}
-use Rattle.bin_image.proofs.Cuts.{same}
 use Rattle.bin_image.proofs.LineLaws.{when, equal, load_read, load_is, load_lacks, region_read, region_is, region_lacks, start_read, start_is, start_lacks, entry_read, entry_is, entry_lacks, bound_read, bound_is, bound_lacks}
+use Rattle.base_lemmas.proofs.BaseLemmas.{neither as or_false, same}
 
 -- ---- load ranges
 
@@ -52,10 +52,6 @@ apart_read k l h = by_test (meets k l) refl where
 all_more : {X : Type 0} (P : X → Type 0) (xs : List X) (x : X) → AllByRecursion P xs → P x → AllByRecursion P (xs ++ x ∷ [])
 all_more P [] x h p = (p, tt)
 all_more P (y ∷ ys) x h p = (h.0, all_more P ys x h.1 p)
-
-or_false : (a b : Bool) → (a || b) ≡ false → (a ≡ false) × (b ≡ false)
-or_false true b h = absurd (cc)
-or_false false b h = (refl, h)
 
 -- one more load range that meets none
 apart_more : (ls : List MapLoad) (l : MapLoad) → AreApart ls → list_any (λ k. meets k l) ls ≡ false → AreApart (ls ++ l ∷ [])

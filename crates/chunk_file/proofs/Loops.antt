@@ -45,7 +45,7 @@ is_done step before n i total le so_far =
 abbrev pub Agrees : {A : Type 0} → (List A → Result A Refusal) → (List A → A → Type 0) → Type 0
 Agrees {A} step stands = (before : List A) (x : A) → (step before ≡ Ok x) ↔ stands before x
 
-push : {A : Type 0} (before : List A) (x : A) (ys : List A) → (before ++ x ∷ []) ++ ys ≡ before ++ (x ∷ ys)
+pub push : {A : Type 0} (before : List A) (x : A) (ys : List A) → (before ++ x ∷ []) ++ ys ≡ before ++ (x ∷ ys)
 push before x ys = append_assoc before (x ∷ []) ys
 
 pub each_stands : {A : Type 0} (step : List A → Result A Refusal) (stands : List A → A → Type 0) → Agrees step stands

@@ -16,6 +16,7 @@ use Rattle.asm_model.specs.Laid.{Declared, LaidLine, statements_of, laid_behind,
 use Rattle.asm_model.specs.LayoutKinds.{fault_kinds, kind_if, map_kinds, no_area_kinds, contents_kinds, contents_behind, area_kinds, own_name, listed, names_in, names_behind, is_entry, is_repeated, name_kinds, equal_of, equals_in, are_settled, settled_by, settled_kinds, layout_kinds, told_at, first_fault, area_bytes}
 use Rattle.asm_model.specs.Sound.{IsBare, HaveNoPlaces, IsPlainDefined, ArePlain}
 use Rattle.layout_laws.proofs.EqualLemmas.{EachEqual, equal_both, equal_joined}
+use Rattle.base_lemmas.proofs.BaseLemmas.{not_false}
 
 -- ---- tests
 
@@ -43,12 +44,6 @@ told_none s (k ∷ ks) h = absurd (cc)
 pub kind_none : (b : Bool) (k : LineKind) → kind_if b k ≡ [] → b ≡ false
 kind_none true k h = absurd (cc)
 kind_none false k h = refl
-
-pub not_false : (b : Bool) → not b ≡ false → b ≡ true
-not_false true h = refl
-not_false false h = absurd (cc)
-
--- ---- lines
 
 abbrev pub EachSound : List (List ℕ) → List Statement → Type 0
 EachSound S [] = Unit {0}

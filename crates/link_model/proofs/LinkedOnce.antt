@@ -2,11 +2,7 @@
 use Rattle.std.proofs.Common.{◌≡◌, ℕ, Bool, true, false, ◌++◌, refl, sym, ap, ◌∙◌}
 use Rattle.link_model.specs.Members.{members_of}
 use Rattle.link_model.specs.Chosen.{LinkedLaw, taken}
-
-same_bool : (a b : Bool) → (a ≡ true → b ≡ true) → (b ≡ true → a ≡ true) → a ≡ b
-same_bool true b there back = sym (there refl)
-same_bool false true there back = back refl
-same_bool false false there back = refl
+use Rattle.base_lemmas.proofs.BaseLemmas.{both as same_bool}
 
 pub linked_once : LinkedLaw
 linked_once objects archives one other a b =

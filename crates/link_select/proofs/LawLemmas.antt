@@ -24,8 +24,8 @@ use Rattle.link_select.specs.Exports.{clash, duplicate}
 use Rattle.link_select.specs.Undefined.{is_known, lacking, lacking_in, undefined}
 use Rattle.link_select.specs.Selection.{refused, judged, selection_of}
 use Rattle.link_select.specs.Laws.{ExportsAt, AreDefinedOnce, SaysDuplicate, DuplicateLaw, HaveMeanings}
-use Rattle.link_select.proofs.ListLemmas.{all_weaker}
 use Rattle.link_select.proofs.SelectionLemmas.{selected_objects}
+use Rattle.base_lemmas.proofs.BaseLemmas.{all_weaker, or_true as or_later}
 
 none_parts : {B : Type 0} (o p : Option B) → option_or o p ≡ None → (o ≡ None) × (p ≡ None)
 none_parts None p h = (refl, h)
@@ -116,10 +116,6 @@ Clashes name later ss r = (q : List ℕ) × (p : Named Object) × (find (λ o. e
 
 itself : (n : List ℕ) (rest : Bool) → (bytes_eq n n || rest) ≡ true
 itself n rest = ap (λ (b : Bool). b || rest) ((bytes_eq-Decides n n).1 refl)
-
-or_later : (a b : Bool) → b ≡ true → (a || b) ≡ true
-or_later true b h = refl
-or_later false b h = h
 
 clash_found : (name : List ℕ) (later : List (Named Object)) (ss : List Symbol) (r : Refusal) → first_given (clash name later) ss ≡ Some r → Clashes name later ss r
 clash_found name later [] r h = absurd (cc)

@@ -6,21 +6,9 @@ use Rattle.std.proofs.lemmas.Bool.{eqb-true, eq-eqb}
 use Rattle.std.proofs.lemmas.List.Folds.{list_any-append}
 use Rattle.link_model.specs.Chosen.{HasAll}
 use Rattle.link_select.specs.Search.{marked, unmarked, is_in, Marks, Takes}
-use Rattle.link_select.proofs.ListLemmas.{all_append, all_weaker}
+use Rattle.base_lemmas.proofs.BaseLemmas.{all_append, all_weaker, or_either, true_or as or_left, or_true as or_right}
 
 -- ---- membership
-
-or_left : (a b : Bool) → a ≡ true → (a || b) ≡ true
-or_left true b h = refl
-or_left false b h = absurd (true≢false (sym h))
-
-or_right : (a b : Bool) → b ≡ true → (a || b) ≡ true
-or_right true b h = refl
-or_right false b h = h
-
-or_either : (a b : Bool) → (a || b) ≡ true → (a ≡ true) ⊎ (b ≡ true)
-or_either true b h = inl refl
-or_either false b h = inr h
 
 pub is_in_front : (k : ℕ) (xs ys : List ℕ) → is_in k xs ≡ true → is_in k (xs ++ ys) ≡ true
 is_in_front k xs ys h = list_any-append (λ j. j == k) xs ys ∙ or_left (is_in k xs) (is_in k ys) h

@@ -9,6 +9,7 @@ use Rattle.link_model.specs.declared.selection.Named.{Named}
 use Rattle.link_model.specs.Members.{named_member, members_in, members_of}
 use Rattle.link_select.specs.declared.members.Place.{Place}
 use Rattle.link_select.specs.Places.{places_in, places_from, member_in, member_at}
+use Rattle.base_lemmas.proofs.BaseLemmas.{get_back, get_before as get_front}
 
 get_map : {X Y : Type 0} (f : X → Y) (xs : List X) (i : ℕ) → slice_get (map f xs) i ≡ option_map f (slice_get xs i)
 get_map f [] i = refl
@@ -18,15 +19,6 @@ get_map f (x ∷ xs) (suc i) = get_map f xs i
 length_from_map : {X Y : Type 0} (f : X → Y) (xs : List X) → length (map f xs) ≡ length xs
 length_from_map f [] = refl
 length_from_map f (x ∷ xs) = ap suc (length_from_map f xs)
-
-get_front : {X : Type 0} (xs ys : List X) (i : ℕ) → i < length xs → slice_get (xs ++ ys) i ≡ slice_get xs i
-get_front [] ys i h = absurd (omega arith)
-get_front (x ∷ xs) ys zero h = refl
-get_front (x ∷ xs) ys (suc i) h = get_front xs ys i (omega arith)
-
-get_back : {X : Type 0} (xs ys : List X) (i : ℕ) → slice_get (xs ++ ys) (length xs + i) ≡ slice_get ys i
-get_back [] ys i = let e : 0 + i ≡ i = omega arith in ap (slice_get ys) e
-get_back (x ∷ xs) ys i = let e : suc (length xs) + i ≡ suc (length xs + i) = omega arith in ap (slice_get (x ∷ (xs ++ ys))) e ∙ get_back xs ys i
 
 length_in : (a k : ℕ) (ms : List Member) → length (places_in a k ms) ≡ length ms
 length_in a k [] = refl

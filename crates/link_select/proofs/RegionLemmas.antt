@@ -19,6 +19,8 @@ use Rattle.link_select.specs.Index.{Numbers, number_in, IsIndexOf}
 use Rattle.link_select.specs.Regions.{stem_in, region_by, Shows, known_by}
 use Rattle.link_select.specs.Undefined.{is_known}
 use Rattle.link_select.proofs.ListLemmas.{take_item, flat_take}
+use Rattle.aof_object.proofs.ValidLaw.{and_true as both_true}
+use Rattle.base_lemmas.proofs.BaseLemmas.{first_of_both as first_true, both as same_tests, second_of_both as second_true}
 
 -- ---- one more name
 
@@ -61,24 +63,6 @@ object_names_more m n os i o q h e known new =
     ∙ ap (among q) (sym (flat_take (λ (p : Named Object). area_names p.value.areas) os i o h e))
 
 -- ---- what stands before a suffix
-
-same_tests : (a b : Bool) → (a ≡ true → b ≡ true) → (b ≡ true → a ≡ true) → a ≡ b
-same_tests true b there back = sym (there refl)
-same_tests false true there back = back refl
-same_tests false false there back = refl
-
-both_true : (a b : Bool) → a ≡ true → b ≡ true → (a && b) ≡ true
-both_true true b h k = k
-both_true false b h k = h
-
-first_true : (a b : Bool) → (a && b) ≡ true → a ≡ true
-first_true true b h = refl
-first_true false b h = h
-
-second_true : (a b : Bool) → (a && b) ≡ true → b ≡ true
-second_true true b h = h
-second_true false true h = refl
-second_true false false h = h
 
 are_equal : (a b : List ℕ) → a ≡ b → bytes_eq a b ≡ true
 are_equal a b e = (bytes_eq-Decides a b).1 e

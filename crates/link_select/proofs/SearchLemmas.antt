@@ -8,8 +8,8 @@ use Rattle.aof_object.specs.declared.records.Object.{Object}
 use Rattle.link_model.specs.declared.selection.Named.{Named}
 use Rattle.link_model.specs.Chosen.{HasAll, asked, is_needed, wanted, IsClosed, IsLeast}
 use Rattle.link_select.specs.Search.{marked, unmarked, is_in, Takes, IsWithin}
-use Rattle.link_select.proofs.ListLemmas.{all_append, all_front, all_back, all_weaker}
 use Rattle.link_select.proofs.MarkLemmas.{is_in_front, is_in_back, is_in_either, is_the_one, has_one, marked_within}
+use Rattle.base_lemmas.proofs.BaseLemmas.{all_append, all_back, all_front, all_weaker}
 
 -- what is marked is in every set that the rules close, and each marked member waits or has what it asks for
 pub record Searched (supply : List ℕ → Option ℕ) (objects members : List (Named Object)) (marks : List Bool) (waiting : List ℕ) : Type 0 where

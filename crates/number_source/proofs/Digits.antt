@@ -7,13 +7,7 @@ use Rattle.std.proofs.lemmas.Bool.{le-ltb}
 use Rattle.std.specs.Char.{digit_value}
 use Rattle.std.specs.Str.Parse.{digits_value, digits_value_after}
 use Rattle.std.specs.List.{take_while, prefix_len}
-
-pub grows : (base n : ℕ) (ds : List ℕ) → 1 ≤ base → n ≤ digits_value_after base n ds
-grows base n [] low = omega arith
-grows base n (c ∷ cs) low =
-    let product : n ≤ n * base = le-mul_of_pos_right n (omega arith) in
-    let more : n * base + digit_value c ≤ digits_value_after base (n * base + digit_value c) cs = grows base (n * base + digit_value c) cs low in
-    omega arith
+use Rattle.base_lemmas.proofs.BaseLemmas.{grows}
 
 -- one more digit makes the number too large, so all digits do
 pub too_large : (base n i : ℕ) (ds : List ℕ) → 1 ≤ base → i < length ds → 2 ^ 32 ≤ n * base + digit_value (get_or ds i 0) → digits_value_after base n (drop i ds) ≡ digits_value base ds → nat_lt (digits_value base ds) (2 ^ 32) ≡ false

@@ -7,8 +7,9 @@ use Rattle.number_source.specs.Parts.{◌>>=◌, is_blank, is_at_end, after_blan
 use Rattle.number_source.specs.Source.{after_area, is_area, is_lone, data_on}
 use Rattle.number_source.specs.Grammar.{AreBlanks, IsArea, IsLone, IsData}
 use Rattle.number_source.proofs.Greedy.{begins}
-use Rattle.number_source.proofs.PartLaws.{came_through, end_read, end_is, space_over, space_read, space_is, word_read, word_is, comma_read, comma_is, comma_ends, name_read, name_is}
+use Rattle.number_source.proofs.PartLaws.{end_read, end_is, space_over, space_read, space_is, word_read, word_is, comma_read, comma_is, comma_ends, name_read, name_is}
 use Rattle.number_source.proofs.NumberLaws.{numbers_read, numbers_are, trimmed}
+use Rattle.base_lemmas.proofs.BaseLemmas.{came_through}
 
 -- a step that is there
 step : {A B : Type 0} (f : A → Option B) (o : Option A) (x : A) → o ≡ Some x → option_and_then f o ≡ f x

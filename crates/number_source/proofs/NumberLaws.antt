@@ -14,7 +14,8 @@ use Rattle.std.proofs.lemmas.Slice.Eq.{starts_is}
 use Rattle.number_source.specs.Parts.{is_blank, is_digit_of, is_at_end, after_blanks, value_of, number_in, number_between, numbers_in}
 use Rattle.number_source.specs.Grammar.{IsBlank, AreBlanks, IsNumeral, SpellsNumber, SpellsNumbers, last, more, written}
 use Rattle.number_source.proofs.Greedy.{begins, behind, all_decides, greedy, dropped, front_passes, whole}
-use Rattle.number_source.proofs.PartLaws.{Decides-blank, blanks_read, blanks_are, end_read, end_is, came_through, same, some_length, no_zero}
+use Rattle.number_source.proofs.PartLaws.{Decides-blank, blanks_read, blanks_are, end_read, end_is, some_length, no_zero}
+use Rattle.base_lemmas.proofs.BaseLemmas.{came_through, same}
 
 -- digits, each as a power of the base or one after the other
 value_after : (base n : ℕ) (digits : List ℕ) → digits_value_after base n digits ≡ n * base ^ length digits + written base digits

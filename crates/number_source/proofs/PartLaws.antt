@@ -11,6 +11,7 @@ use Rattle.std.proofs.lemmas.Slice.Eq.{starts_is}
 use Rattle.number_source.specs.Parts.{is_blank, is_digit, is_word, is_between_bars, after_blanks, after_space, after_word, after_comma, begins_with_digit, after_plain_name, after_barred_name, after_name, is_at_end}
 use Rattle.number_source.specs.Grammar.{IsBlank, AreBlanks, IsSpace, IsComma, IsNameByte, IsBarredByte, IsPlainName, IsBarredName}
 use Rattle.number_source.proofs.Greedy.{begins, behind, all_decides, over, behind_front, greedy, behind_none, behind_read, dropped, front_passes, rest_stops, whole}
+use Rattle.base_lemmas.proofs.BaseLemmas.{came_through, same}
 
 Decides-leb : (a b : ℕ) → Decides (nat_le a b) (a ≤ b)
 Decides-leb a b = (leb-true a b, le-leb a b)
@@ -32,14 +33,6 @@ blanks_pass text h = (all_decides is_blank IsBlank Decides-blank text).1 h
 
 pub passing_are_blanks : (text : List ℕ) → list_all is_blank text ≡ true → AreBlanks text
 passing_are_blanks text h = (all_decides is_blank IsBlank Decides-blank text).0 h
-
--- what an option that came through a step was before
-pub came_through : {A B : Type 0} (f : A → Option B) (o : Option A) (y : B) → option_and_then f o ≡ Some y → (x : A) × (o ≡ Some x) × (f x ≡ Some y)
-came_through f None y h = absurd (cc)
-came_through f (Some x) y h = (x, refl, h)
-
-pub same : {A : Type 0} (x y : A) → Some x ≡ Some y → x ≡ y
-same x y h = cc
 
 -- blanks
 pub blanks_over : (front text : List ℕ) → AreBlanks front → after_blanks (front ++ text) ≡ after_blanks text

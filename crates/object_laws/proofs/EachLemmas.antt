@@ -23,6 +23,7 @@ use Rattle.asm_model.specs.Trees.{tree_of}
 use Rattle.layout_laws.proofs.SoundLemmas.{statements_kept}
 use Rattle.said_model.specs.Said.{IsSaid, AllSaid, what_names, label_names, HoldsNoZero, HasTexts, AllHaveTexts}
 use Rattle.source_laws.proofs.ZeroLemmas.{place_below, named_with, AreNumbered, laid_numbered, numbered_rest, names_of, no_fewer}
+use Rattle.aof_object.proofs.SpelledObject.{all_get as each_at}
 
 -- ---- lists
 
@@ -33,11 +34,6 @@ each_joined P (x ∷ xs) ys h k = (h.0, each_joined P xs ys h.1 k)
 pub each_part : {A : Type 0} (P : A → Type 0) (xs ys : List A) → AllByRecursion P (xs ++ ys) → AllByRecursion P xs × AllByRecursion P ys
 each_part P [] ys h = (tt, h)
 each_part P (x ∷ xs) ys h = let p = each_part P xs ys h.1 in ((h.0, p.0), p.1)
-
-pub each_at : {A : Type 0} (P : A → Type 0) (xs : List A) (k : ℕ) (x : A) → AllByRecursion P xs → slice_get xs k ≡ Some x → P x
-each_at P [] k x h e = absurd (cc)
-each_at P (y ∷ ys) zero x h e = let z : y ≡ x = cc in subst P z h.0
-each_at P (y ∷ ys) (suc k) x h e = each_at P ys k x h.1 e
 
 pub each_by_place : {A : Type 0} (P : A → Type 0) (xs : List A) → ((k : ℕ) (x : A) → slice_get xs k ≡ Some x → P x) → AllByRecursion P xs
 each_by_place P [] f = tt

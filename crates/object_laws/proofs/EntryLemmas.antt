@@ -18,7 +18,7 @@ use Rattle.asm_model.specs.Laid.{LaidLine, taken, pieces_of, laid}
 use Rattle.asm_model.specs.LayoutKinds.{is_entry, same_mark, is_thumb_area, entry_kinds, literal_kinds}
 use Rattle.asm_model.specs.Offsets.{end_behind, start_in, area_size}
 use Rattle.asm_model.proofs.OffsetLemmas.{raised_four}
-use Rattle.layout_laws.proofs.SoundLemmas.{kind_none, not_false}
+use Rattle.layout_laws.proofs.SoundLemmas.{kind_none}
 use Rattle.source_model.specs.Objects.{in_order, entry_by, entry_of, IsObject}
 use Rattle.source_laws.proofs.FaultlessLemmas.{layout_sound}
 use Rattle.source_laws.proofs.LineLemmas.{stands_in}
@@ -28,6 +28,7 @@ use Rattle.object_laws.proofs.AreaLemmas.{area_facts}
 use Rattle.object_laws.proofs.EachLemmas.{line_below}
 use Rattle.object_laws.proofs.FaultLemmas.{late_here}
 use Rattle.object_laws.proofs.SymbolLemmas.{within, head_there}
+use Rattle.base_lemmas.proofs.BaseLemmas.{not_false, second_false}
 
 -- ---- the line of the entry
 
@@ -82,10 +83,6 @@ entry_line e (l ∷ ls) h = by_first (entry_of ls) (entry_line e ls) h
 pub entry_only : (w : What) → is_entry w ≡ true → w ≡ what.Directive line.Entry
 entry_only (what.Directive line.Entry) h = refl
 entry_only w h = absurd (cc)
-
-pub second_false : (a b : Bool) → a ≡ true → (a && b) ≡ false → b ≡ false
-second_false true b e h = h
-second_false false b e h = absurd (cc)
 
 pub entry_inside : (o : Option ℕ) (area : ℕ) (l : LaidLine) (all : List LaidLine) → o ≡ Some area → is_entry l.statement.what ≡ true → entry_kinds o l all ≡ []
     → l.offset < area_size area (pieces_of all)

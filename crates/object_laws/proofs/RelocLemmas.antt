@@ -40,15 +40,17 @@ use Rattle.source_model.specs.PseudoForms.{pseudo_instructions}
 use Rattle.source_model.specs.Units.{Emitted, Bytes, Word, Instruction, Stored, Target, Nothing, ByArea, BySymbol, placed, stored, word_units, narrow, half_units, byte_operand, byte_units, branch_symbol, instruction_units, units}
 use Rattle.source_laws.specs.Laws.{word_among, context_behind}
 use Rattle.source_laws.proofs.AgreeLemmas.{line_sees}
-use Rattle.source_laws.proofs.FaultlessLemmas.{layout_sound, said_plain}
+use Rattle.source_laws.proofs.FaultlessLemmas.{layout_sound}
 use Rattle.source_laws.proofs.ThingLemmas.{among_either, is_word, own_units, own_words}
 use Rattle.source_laws.proofs.ZeroLemmas.{place_below}
 use Rattle.object_laws.specs.Laws.{IsListed, OptionListed, TargetListed, UnitListed, AreFaultless}
 use Rattle.object_laws.proofs.AreaLemmas.{area_facts}
 use Rattle.object_laws.proofs.BitLemmas.{zero_flag, by_area, by_symbol, by_branch}
-use Rattle.object_laws.proofs.EachLemmas.{IsBelow, each_there, each_at, each_by_place, areas_text, line_below, name_shown}
+use Rattle.object_laws.proofs.EachLemmas.{IsBelow, each_there, each_by_place, areas_text, line_below, name_shown}
 use Rattle.object_laws.proofs.OriginLemmas.{IsOwn, value_own, literal_own}
 use Rattle.object_laws.proofs.TargetLemmas.{symbols_are_listed}
+use Rattle.aof_object.proofs.SpelledObject.{all_get as each_at}
+use Rattle.said_model.proofs.SharedLemmas.{are_plain as said_plain}
 
 -- ---- areas that words name
 

@@ -48,7 +48,7 @@ use Rattle.source_model.specs.SourceFaults.{label_of, symbol_names}
 use Rattle.source_model.specs.Units.{Emitted, Instruction, branch_symbol, units}
 use Rattle.source_model.specs.ValueKinds.{lies_within, kinds_unless, export_kinds, statement_kinds}
 use Rattle.source_laws.specs.Laws.{word_among, context_behind}
-use Rattle.source_laws.proofs.FaultlessLemmas.{layout_sound, said_plain}
+use Rattle.source_laws.proofs.FaultlessLemmas.{layout_sound}
 use Rattle.source_laws.proofs.LineLemmas.{statements_lie_in_areas}
 use Rattle.object_laws.specs.Laws.{IsListed, AreFaultless}
 use Rattle.object_laws.proofs.AreaLemmas.{AreApart, apart_with}
@@ -57,6 +57,7 @@ use Rattle.object_laws.proofs.EachLemmas.{DefinedText, OptionText, each_joined, 
 use Rattle.object_laws.proofs.FaultLemmas.{sizes_of, line_valued}
 use Rattle.object_laws.proofs.OriginLemmas.{IsOwn, named_name, value_own, literal_own}
 use Rattle.object_laws.proofs.RelocLemmas.{named_front}
+use Rattle.said_model.proofs.SharedLemmas.{are_plain as said_plain}
 
 -- ---- one symbol
 

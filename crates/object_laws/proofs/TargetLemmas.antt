@@ -40,6 +40,7 @@ use Rattle.source_laws.specs.Laws.{word_among, context_behind}
 use Rattle.source_laws.proofs.AgreeLemmas.{line_sees}
 use Rattle.source_laws.proofs.ThingLemmas.{among_either, is_word, own_units, own_words, seen_extent}
 use Rattle.object_laws.specs.Laws.{IsListed, OptionListed, TargetListed, UnitListed}
+use Rattle.source_laws.proofs.WordLemmas.{taken_loads as taken_loading}
 
 -- ---- lists of names
 
@@ -286,12 +287,6 @@ literal_fewer names l e what.Nothing h q k = absurd h
 literal_fewer names l e (what.Arm a) h q k = absurd h
 literal_fewer names l e (what.Thumb t) h q k = absurd h
 literal_fewer names l e (what.Directive d) h q k = absurd h
-
-pub taken_loading : (r : Result Extent LineKind) (n : ℕ) (v : Value) → taken r ≡ Loading n v → r ≡ Ok (Loading n v)
-taken_loading (Ok e) n v h = cc
-taken_loading (Err k) n v h = absurd (cc)
-
--- ---- the law
 
 pub here_there : (ss : List Statement) (after before : List LaidLine) (l : LaidLine) (area : ℕ) → laid ss ≡ after ++ l ∷ before → l.area ≡ Some area
     → InArea (context_behind ss l before)

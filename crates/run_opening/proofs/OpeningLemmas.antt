@@ -25,6 +25,8 @@ use Rattle.run_opening.specs.declared.image.Need.{Need}
 use Rattle.run_opening.specs.Banks.{AreUsed, IsBank, IsDefect, IsRoomy, LacksFrames, banks_of, banks_share, frames_of, is_lacking, lacks, memory_bank, rom_bank, two_have}
 use Rattle.run_opening.specs.Fills.{EndsBelow, IsFilled, IsOpen, IsPrepared, IsUnprepared, IsUsable, LacksPages, after_loads, protected_all, ranges_of, with_banks}
 use Rattle.run_opening.specs.Openings.{AreNeeded, IsClosed, IsNeeded, IsOpening, loaded}
+use Rattle.arm7_model.proofs.ValidThumb.{never as false-true}
+use Rattle.arm7_transfers.proofs.BoardLemmas.{low-end as access_base, high-end as access_end}
 
 -- ---- banks by their ranges alone
 
@@ -92,12 +94,6 @@ defect_plain bs seats needs (TooLarge quantity limit) h =
 defect_plain bs seats needs other h = h
 
 -- ---- truth values
-
-false-true : {A : Type 0} → false ≡ true → A
-false-true e = absurd (wrong e)
-  where
-    wrong : false ≡ true → ⊥
-    wrong e = cc
 
 or_cases : {A : Type 0} (x y : Bool) → (x || y) ≡ true → (x ≡ true → A) → (y ≡ true → A) → A
 or_cases true y e f g = f refl
@@ -314,12 +310,6 @@ lacks_within bs n x le = rw (le-leb (n.base + n.size) (2 ^ 32) le) refl
 
 inner : (base size a n x : ℕ) → has_access base size a n ≡ true → a ≤ x → x < a + n → has_access base size x 1 ≡ true
 inner base size a n x e lo hi = grind (arith, nat_tests)
-
-access_end : (base size a n : ℕ) → has_access base size a n ≡ true → a + n ≤ base + size
-access_end base size a n e = grind (arith, nat_tests)
-
-access_base : (base size a n : ℕ) → has_access base size a n ≡ true → base ≤ a
-access_base base size a n e = grind (arith, nat_tests)
 
 touches : (base size x : ℕ) → base ≤ x → x < base + size → range_touches base size (x / 4096) ≡ true
 touches base size x lo hi = less (max base (4096 * (x / 4096))) (min (base + size) (4096 * (x / 4096) + 4096)) (omega arith)

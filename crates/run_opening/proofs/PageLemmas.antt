@@ -17,6 +17,9 @@ use Rattle.arm7_transfers.proofs.BoardLemmas.{same-bool}
 use Rattle.run_opening.specs.Banks.{AreUsed, LacksFrames, frames_of, memory_bank}
 use Rattle.run_opening.proofs.RoomLemmas.{take_all}
 use Rattle.run_opening.specs.Fills.{EndsBelow, IsPrepared, claimed_all, with_banks, with_used}
+use Rattle.arm7_bus.proofs.MeetLemmas.{or_true}
+use Rattle.arm7_bus.proofs.TickLemmas.{or_false}
+use Rattle.base_lemmas.proofs.BaseLemmas.{on_err}
 
 -- the last page of a range is one
 pages_in : (base size : ℕ) → base + size ≤ 4294967296 → base / 4096 + pages_of base size ≤ 1048576
@@ -52,14 +55,6 @@ among_last first n p e = grind (arith, nat_tests)
 
 among_other : (first n p : ℕ) → (p ≡ first + n → ⊥) → among first (suc n) p ≡ among first n p
 among_other first n p e = grind (arith, nat_tests)
-
-or_true : (x : Bool) → (x || true) ≡ true
-or_true true = refl
-or_true false = refl
-
-or_false : (x : Bool) → (x || false) ≡ x
-or_false true = refl
-or_false false = refl
 
 or_assoc : (x y z : Bool) → (x || y || z) ≡ (x || (y || z))
 or_assoc true y z = refl
@@ -161,12 +156,6 @@ too_many us frames [] d le len e lt = absurd (omega arith)
 too_many us frames (n ∷ ns) d le len e lt =
     let g = all_grow (claimed us (n.base / 4096) (pages_of n.base n.size)) ns (claimed_length us (n.base / 4096) (pages_of n.base n.size) ∙ len) e.1 in
     omega arith
-
-pub on_err : {A B : Type 0} (r : Result A B) (P : Type 0) → P → OnErr r P
-on_err (Ok a) P p = tt
-on_err (Err e) P p = p
-
--- ---- the bus that was prepared
 
 pub prepared : (ranges : List Range32) (needs : List Need) (seats : List Seat) (s t u v : State) → IsNew seats s → AllByRecursion EndsBelow needs
     → t ≡ with_banks s (s.contents.banks ++ map memory_bank ranges) → IsStart t.contents u.contents → u.devices ≡ t.devices

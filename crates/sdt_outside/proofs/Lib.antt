@@ -1,1 +1,2 @@
 pub mod FileMaps
+pub mod SharedLemmas

@@ -12,6 +12,7 @@ use Rattle.armasm_core.specs.Assembling.{Assembles, OneAssembly}
 use Rattle.tool_answers.specs.Inputs.{AreInputs, IsReached}
 use Rattle.tool_answers.specs.Outcomes.{Outcome, writes_one}
 use Rattle.sdt_toolkit.specs.Sources.{Spells, TextAsks, SpellsAs, FoundAsks, SourceAsks, OneAsked}
+use Rattle.tool_library.proofs.AnswerLemmas.{first_reached as reached}
 
 -- ---- a text
 
@@ -42,13 +43,6 @@ pub source_asks : (name output text : List ℕ) (told : Option Files) (rose : Ty
 source_asks name output text None rose asked found h = inl (text, h)
 source_asks name output text (Some files) rose asked found h =
     subst (λ (x : Option (List ℕ)). FoundAsks name output x asked) (sym found) h
-
-pub reached : (told : Option Files) (name : List ℕ) → IsReached told (name ∷ []) name
-reached told name = record { front = []; rest = []; names_are = refl; contents = []; read_before = none_read told }
-  where
-    none_read : (t : Option Files) → AreInputs t [] []
-    none_read None = tt
-    none_read (Some files) = refl
 
 pub source_missing : (name output : List ℕ) (told : Option Files) (rose : Type 0) → IsMissing told name rose → SourceAsks name output told rose (Err (Missing name))
 source_missing name output None rose h = inr (name, refl, h, reached None name)

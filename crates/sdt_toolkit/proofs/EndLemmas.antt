@@ -16,7 +16,8 @@ use Rattle.tool_answers.specs.Outcomes.{Outcome, Outside, IsLeft, IsAsked, Answe
 use Rattle.tool_library.specs.Libraries.{end_answer, fault_answer}
 use Rattle.tool_library.proofs.AnswerLemmas.{wrote}
 use Rattle.sdt_toolkit.specs.Sources.{AssemblyAnswers, SpellsAs, TextAsks, SourceAsks}
-use Rattle.sdt_toolkit.proofs.AskLemmas.{text_asks, text_refused, source_asks, source_missing, reached}
+use Rattle.sdt_toolkit.proofs.AskLemmas.{text_asks, text_refused, source_asks, source_missing}
+use Rattle.tool_library.proofs.AnswerLemmas.{first_reached as reached}
 
 missing_named : (q name : List ℕ) → q ≡ name → ◌≡◌ {A = Result Outcome Refusal} (Err (Missing name)) (Err (Missing q))
 missing_named q name e = ap (λ (n : List ℕ). Err (Missing n)) (sym e)

@@ -28,15 +28,9 @@ use Rattle.source_model.specs.Units.{Stored, ByArea, placed, stored}
 use Rattle.source_laws.specs.Laws.{context_behind, WordsAgree, HasBareSymbol, LiteralsAreBare}
 use Rattle.source_laws.proofs.BareLemmas.{final_bare}
 use Rattle.source_laws.proofs.LineLemmas.{is_laid}
+use Rattle.layout_laws.proofs.SharedLemmas.{spelled_lack}
 
 -- ---- references to local labels begin with a bar
-
-pub spelled_lack : (q : List ℕ) → IsBare q → (area : Option ℕ) (l : Local) (mark : List ℕ) (texts : List (List ℕ))
-    → named_in q (map (λ digits. reference area l (mark ++ digits)) texts) ≡ None
-spelled_lack q bare area l mark [] = refl
-spelled_lack q bare area l mark (t ∷ ts) =
-    ap (λ b. cond b (Some (reference area l (mark ++ t))) (named_in q (map (λ digits. reference area l (mark ++ digits)) ts))) (bare_other (mark ++ t) q bare)
-    ∙ spelled_lack q bare area l mark ts
 
 pub references_lack : (q : List ℕ) → IsBare q → (area : Option ℕ) (l : Local) (marks : List (List ℕ)) → named_in q (references_to area l marks) ≡ None
 references_lack q bare area l [] = refl

@@ -21,18 +21,13 @@ use Rattle.source_laws.proofs.AgreeLemmas.{literal_words_agree}
 use Rattle.source_laws.proofs.ListLemmas.{same_first, same_rest}
 use Rattle.source_laws.proofs.LoadLemmas.{loaded_literals_are_bare}
 use Rattle.source_laws.proofs.ThingLemmas.{things_stand_apart, things_lie_in_areas}
+use Rattle.said_model.proofs.SharedLemmas.{are_plain as said_plain}
 
 -- ---- statements as lines say them
 
 pub said_loads_are_bare : (ss : List Statement) → AllSaid ss → AllLoadBare ss
 said_loads_are_bare [] h = tt
 said_loads_are_bare (s ∷ ss) h = (h.0.loaded, said_loads_are_bare ss h.1)
-
-pub said_plain : (ss : List Statement) → AllSaid ss → ArePlain ss
-said_plain [] h = tt
-said_plain (s ∷ ss) h = (h.0.named, h.0.imported, said_plain ss h.1)
-
--- ---- lines without faults
 
 pub sound_lines : (names fixed : List (List ℕ)) (ls : List LaidLine) → first_laid names fixed ls ≡ None → first_fault fixed ls ≡ None
 sound_lines names fixed [] e = refl

@@ -18,6 +18,7 @@ use Rattle.asm_model.specs.Before.{is_thumb_label, stretch_behind}
 use Rattle.asm_model.specs.Locals.{Local, local_entries, digits_of, reference, references_to, is_new, back_of, forth_of}
 use Rattle.asm_model.specs.Trees.{tree_of}
 use Rattle.source_laws.proofs.ZeroLemmas.{place_below, named_with, no_fewer}
+use Rattle.asm_model.proofs.OffsetLemmas.{through as low_of}
 
 -- ---- areas by their numbers
 
@@ -46,9 +47,6 @@ own_within (s ∷ before) = by_name (area_named s.what) (own_within before)
 
 pub area_within : (n : ℕ) (ss : List Statement) → length (areas_behind ss) ≤ n → IsWithin n (area_behind ss)
 area_within n ss h = within_more (length (areas_behind ss)) n (area_behind ss) h (own_within ss)
-
-low_of : (a b c : ℕ) → a ≤ b → b ≤ c → a ≤ c
-low_of a b c h k = omega arith
 
 pub areas_more : (after before : List LaidLine) → length (areas_behind (statements_of before)) ≤ length (areas_behind (statements_of (after ++ before)))
 areas_more [] before = omega arith

@@ -29,7 +29,7 @@ use Rattle.asm_model.specs.LayoutKinds.{fault_kinds, kind_if, map_kinds, no_area
 use Rattle.asm_model.specs.Marks.{datum_names}
 use Rattle.asm_model.specs.Offsets.{is_of}
 use Rattle.asm_model.proofs.OffsetLemmas.{is_here}
-use Rattle.layout_laws.proofs.SoundLemmas.{or_none, told_none, kind_none, not_false}
+use Rattle.layout_laws.proofs.SoundLemmas.{or_none, told_none, kind_none}
 use Rattle.source_model.specs.Contexts.{Context}
 use Rattle.source_model.specs.Objects.{Piece, units_from, or_none as units_or_none, literal_piece, source_of, IsAmong, StandsIn, contents_in, contents_of}
 use Rattle.source_model.specs.SourceFaults.{layout_faults}
@@ -38,6 +38,7 @@ use Rattle.source_laws.specs.Laws.{word_among, context_behind}
 use Rattle.source_laws.proofs.FaultlessLemmas.{layout_sound}
 use Rattle.source_laws.proofs.ListedLemmas.{owned}
 use Rattle.source_laws.proofs.ThingLemmas.{among_either, own_units, own_words, seen_extent}
+use Rattle.base_lemmas.proofs.BaseLemmas.{not_false}
 
 -- ---- places of names
 

@@ -120,7 +120,7 @@ attributes_agree a contents.Zeroes e thumb is small =
     (ap (λ m. m == 1)
     (marked e (2 ^ 12) (flag a.read_only) (flag a.pic) (flag a.reentrant) (flag thumb) (flag a.halfword) (flag a.interwork) 1 (omega arith) (omega arith)))
 
-exponent_small : (r : Result ℕ LineKind) → exponent_kinds r ≡ [] → or_two r ≤ 16
+pub exponent_small : (r : Result ℕ LineKind) → exponent_kinds r ≡ [] → or_two r ≤ 16
 exponent_small (Ok n) h = ltb-false 16 n (or_parts (nat_lt n 2) (nat_lt 16 n) (kind_none (nat_lt n 2 || nat_lt 16 n) BadOperand h)).1
 exponent_small (Err k) h = absurd (cc)
 

@@ -11,6 +11,7 @@ use Rattle.source_model.specs.Contexts.{is_positive, magnitude, offset_below}
 use Rattle.source_model.specs.Immediates.{rotations, turned_back, immediate_among, immediate, negated}
 use Rattle.source_model.specs.PseudoForms.{places, lowest_among, first_part}
 use Rattle.stand_model.specs.Stands.{from_pc, moved}
+use Rattle.arm_encode.proofs.OperandLemmas.{rest-turn as rest_turn}
 
 -- ---- distances
 
@@ -52,12 +53,6 @@ pub field_spans_back : (d : ℕ) → d % 4 ≡ 0 → d < 2 ^ 32 → 2 ^ 32 - 2 ^
 field_spans_back d whole small high x = grind arith
 
 -- ---- immediate operands
-
-rest_turn : (v r : ℕ) → v < 2 ^ 32 → r < 16 → rotated v ((32 - 2 * r) % 32) ≡ rotated v (32 - 2 * r)
-rest_turn v zero small h = rotated-none v ∙ sym (rotated-whole v small)
-rest_turn v (suc r) small h =
-    let e : (32 - 2 * suc r) % 32 ≡ 32 - 2 * suc r = omega arith in
-    ap (rotated v) e
 
 pub undone : (n r : ℕ) → n < 2 ^ 32 → r < 16 → operand r (turned_back n r) ≡ n
 undone n r small h =

@@ -21,6 +21,7 @@ use Rattle.layout_laws.proofs.RoundLemmas.{ResultIs}
 use Rattle.source_laws.proofs.BareLemmas.{TreeEach, HoldsConstant}
 use Rattle.said_model.specs.Named.{ItemNamed}
 use Rattle.stand_laws.proofs.LiteralLemmas.{Plus, moves, adds, plus_moved, plus_added, Later, Loads, exact, whole, places_kept}
+use Rattle.layout_laws.proofs.NamedLemmas.{some_none as not_in}
 
 -- ---- operators between values
 
@@ -116,10 +117,6 @@ pub constants_hold : (Own : List ℕ → Type 0) (t : Tree) → TreeEach (IsLoad
 constants_hold Own (Leaf i) h = h.0
 constants_hold Own (Before op t) h = constants_hold Own t h
 constants_hold Own (Between op t u) h = (constants_hold Own t h.0, constants_hold Own u h.1)
-
-pub not_in : (o : Option LaidName) → is_some o ≡ false → o ≡ None
-not_in None h = refl
-not_in (Some n) h = absurd (cc)
 
 pub plus_nothing : (f : Value) (r : Result Value LineKind) → r ≡ Ok f → Plus f 0 r
 plus_nothing (Number m) r h = (m, h, omega arith)

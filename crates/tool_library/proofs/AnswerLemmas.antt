@@ -16,6 +16,7 @@ use Rattle.tool_answers.specs.declared.inputs.InputEnd.TheVariants as end
 use Rattle.tool_answers.specs.Inputs.{found_or, inputs_of, input_of, AreInputs, InputsEnd, IsEnd, IsReached}
 use Rattle.tool_answers.specs.Outcomes.{Outcome, Outside, IsLeft, AreWritten, IsAsked, OfAll, OfOne, Answers, Writes, Prints, writes_one, prints_only}
 use Rattle.tool_library.specs.Libraries.{end_answer, fault_answer}
+use Rattle.sdt_outside.proofs.SharedLemmas.{got_none}
 
 -- ---- what is asked
 
@@ -72,7 +73,7 @@ one_missing : (told : Option Files) (name : List ℕ) (rose : Type 0) → IsMiss
 one_missing None name rose h files is = absurd (let bad : None ≡ Some files = is in cc)
 one_missing (Some g) name rose h files is = let same : g ≡ files = cc in ap (found_or name) (subst (λ (x : Files). content x name ≡ None) same h)
 
-first_reached : (told : Option Files) (name : List ℕ) → IsReached told (name ∷ []) name
+pub first_reached : (told : Option Files) (name : List ℕ) → IsReached told (name ∷ []) name
 first_reached told name = record { front = []; rest = []; names_are = refl; contents = []; read_before = none_read told }
 
 one_lost : (told : Option Files) (name : List ℕ) (rose : Type 0) → IsMissing told name rose → told ≡ None → rose × IsReached None (name ∷ []) name
@@ -153,8 +154,3 @@ printed answer.NoMemory shown asked names judge some_ask o is e same h = absurd 
 printed (answer.Refused r) shown asked names judge some_ask o is e same h = absurd h
 printed (answer.ReadFault q) shown asked names judge some_ask o is e same h = absurd h
 printed (answer.Stopped stop) shown asked names judge some_ask o is e same h = absurd h
-
--- a sink that is left alone got nothing
-pub got_none : (b : Option (List ℕ)) → Got b b []
-got_none None = refl
-got_none (Some bytes) = ap Some (sym (append-nil bytes))

@@ -5,4 +5,3 @@ pub mod list;
 pub mod listings;
 
 pub use crate::list::list_file;
-

@@ -15,21 +15,15 @@ use Rattle.run_opening.specs.declared.image.Load.{Load}
 use Rattle.run_opening.specs.declared.image.Need.{Need}
 use Rattle.run_opening.specs.Openings.{AreNeeded, IsNeeded}
 use Rattle.tool_run.specs.Images.{length_judged, lengths_judged, load_need, load_of, loads_of, map_image, region_need}
+use Rattle.base_lemmas.proofs.BaseLemmas.{or_true, true_or}
 
 itself : (a n size : ℕ) → n ≡ size → has_access a size a n ≡ true
 itself a n size e = grind (arith, nat_tests)
-
-true_or : (a b : Bool) → a ≡ true → (a || b) ≡ true
-true_or a b e = rw e refl
 
 first_has : (needs : List Need) (n : Need) (l : Load) → n.base ≡ l.base → length l.bytes ≡ n.size → IsNeeded (n ∷ needs) l
 first_has needs n l base size = record {
   within = λ some. true_or (has_access n.base n.size l.base (length l.bytes)) _ (subst (λ (a : ℕ). has_access a n.size l.base (length l.bytes) ≡ true) (sym base) (itself l.base (length l.bytes) n.size size));
 }
-
-or_true : (a b : Bool) → b ≡ true → (a || b) ≡ true
-or_true true b e = refl
-or_true false b e = e
 
 one_more : (needs : List Need) (n : Need) (l : Load) → IsNeeded needs l → IsNeeded (n ∷ needs) l
 one_more needs n l h = record { within = λ some. or_true (has_access n.base n.size l.base (length l.bytes)) _ (h.within some) }

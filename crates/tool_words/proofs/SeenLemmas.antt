@@ -6,10 +6,7 @@ use Rattle.std.specs.Cmp.Lexicographic.{slice_cmp}
 use Rattle.std.specs.BTreeSet.{contains}
 use Rattle.std.proofs.lemmas.Map.Text.{is_eq-slice_cmp}
 use Rattle.tool_words.specs.Seen.{Seen, has_seen}
-
-or_cond : (b x : Bool) → cond b true x ≡ b || x
-or_cond true x = refl
-or_cond false x = refl
+use Rattle.base_lemmas.proofs.BaseLemmas.{or_cond}
 
 pub now_seen : (s t : Seen) (word text : List ℕ) → text ≡ word
     → ((q : List ℕ) → contains (slice_cmp nat_cmp) t q ≡ cond (is_eq (slice_cmp nat_cmp text q)) true (contains (slice_cmp nat_cmp) s q))

@@ -2,8 +2,9 @@ use Rattle.std.proofs.Common.{ap, ◌∙◌, sym, arith, [], ◌∷◌, ℕ, Opt
 use Rattle.std.specs.Prelude.{unwrap_or}
 use Rattle.arm7_bus.specs.States.{contents_of}
 use Rattle.arm7_run.specs.Strings.{bytes_behind}
-use Rattle.arm7_run.proofs.StringLemmas.{bytes_whole, on_err, part_more}
+use Rattle.arm7_run.proofs.StringLemmas.{bytes_whole, part_more}
 use Rattle.arm7_run.proofs.strings.print_bytes.Goals as goal
+use Rattle.base_lemmas.proofs.BaseLemmas.{on_err}
 
 pub returns-in_err-write_all-clause-failed : goal.returns-in_err-write_all-clause-failed
 returns-in_err-write_all-clause-failed g c =

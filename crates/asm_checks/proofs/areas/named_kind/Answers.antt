@@ -1,6 +1,6 @@
 use Rattle.std.proofs.Common.{◌∙◌}
-use Rattle.asm_checks.proofs.ToldLemmas.{told_of_two}
 use Rattle.asm_checks.proofs.areas.named_kind.Goals as goal
+use Rattle.asm_model.proofs.SharedLemmas.{told_of_two}
 
 pub returns-clause-told : goal.returns-clause-told
 returns-clause-told c =

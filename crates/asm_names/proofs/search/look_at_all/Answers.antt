@@ -5,9 +5,9 @@ use Rattle.asm_names.specs.Equals.{pairs_of}
 use Rattle.asm_names.specs.Index.{IsWithin}
 use Rattle.asm_names.specs.Search.{IsReached, known_names}
 use Rattle.asm_names.proofs.IndexLemmas.{numbered_within}
-use Rattle.asm_names.proofs.ListLemmas.{all_back}
 use Rattle.asm_names.proofs.SearchLemmas.{looked}
 use Rattle.asm_names.proofs.search.look_at_all.Goals as goal
+use Rattle.base_lemmas.proofs.BaseLemmas.{all_back}
 
 pub look_at-requires-clause-within : goal.look_at-requires-clause-within
 look_at-requires-clause-within c =

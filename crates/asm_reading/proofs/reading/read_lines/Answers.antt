@@ -1,6 +1,7 @@
 use Rattle.std.proofs.Common.{◌-◌, take, drop, length, sym, ◌∙◌}
-use Rattle.asm_reading.proofs.ReadLemmas.{rest_of, at_the_end, at_end_line, goes_on, Ends}
+use Rattle.asm_reading.proofs.ReadLemmas.{at_the_end, at_end_line, goes_on, Ends}
 use Rattle.asm_reading.proofs.reading.read_lines.Goals as goal
+use Rattle.base_lemmas.proofs.BaseLemmas.{rest_of}
 
 empty_ends : (c : goal.In-empty) → Ends c.args.lines.now c.lines.reading
 empty_ends c = at_the_end c.lines_are_said.ensures c.args.lines.now c.lines.left.now c.lines.reading c.in-empty.len_below c.lines.invariant

@@ -1,9 +1,9 @@
 use Rattle.std.proofs.Common.{◌∙◌, ◌++◌}
-use Rattle.asm_checks.proofs.ToldLemmas.{told_of_two}
 use Rattle.asm_model.specs.LayoutKinds.{fault_kinds}
 use Rattle.source_model.specs.Units.{units}
 use Rattle.source_model.specs.ValueKinds.{literal_kinds, statement_kinds}
 use Rattle.asm_units.proofs.kinds.value_kind.Goals as goal
+use Rattle.asm_model.proofs.SharedLemmas.{told_of_two}
 
 pub returns : goal.returns
 returns c = λ c' data_names sizes s word e h is.

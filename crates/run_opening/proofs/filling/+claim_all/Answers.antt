@@ -1,6 +1,7 @@
 use Rattle.std.proofs.Common.{rules, get_or}
-use Rattle.run_opening.proofs.PageLemmas.{on_err, rest_fits, still_started, still_room, too_many}
+use Rattle.run_opening.proofs.PageLemmas.{rest_fits, still_started, still_room, too_many}
 use Rattle.run_opening.proofs.filling.+claim_all.Goals as goal
+use Rattle.base_lemmas.proofs.BaseLemmas.{on_err}
 
 pub returns-in_err-claim-clause-err : goal.returns-in_err-claim-clause-err
 returns-in_err-claim-clause-err g t c =

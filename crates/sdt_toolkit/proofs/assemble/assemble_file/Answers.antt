@@ -1,9 +1,9 @@
 use Rattle.std.proofs.Common.{ℕ, List, Ok, Err, refl, subst}
 use Rattle.tool_answers.specs.Outcomes.{unprinted}
-use Rattle.tool_library.proofs.AnswerLemmas.{got_none}
 use Rattle.sdt_toolkit.specs.Sources.{SpellsAs}
 use Rattle.sdt_toolkit.proofs.EndLemmas.{unread, refused, wrote_object}
 use Rattle.sdt_toolkit.proofs.assemble.assemble_file.Goals as goal
+use Rattle.sdt_outside.proofs.SharedLemmas.{got_none}
 
 pub returns-in-Err : goal.returns-in-Err
 returns-in-Err g c = λ shown faults.

@@ -3,8 +3,9 @@ use Rattle.sdt_fault.specs.declared.refusal.Refusal.{Refusal}
 use Rattle.chunk_file.specs.Reading.{◌>>=◌}
 use Rattle.tool_answers.specs.Outcomes.{Outcome, OfAll, writes_one, unprinted}
 use Rattle.tool_library.specs.Libraries.{library_of, created}
-use Rattle.tool_library.proofs.AnswerLemmas.{unread, refused, wrote, got_none, asked_of_all}
+use Rattle.tool_library.proofs.AnswerLemmas.{unread, refused, wrote, asked_of_all}
 use Rattle.tool_library.proofs.create.create_library.Goals as goal
+use Rattle.sdt_outside.proofs.SharedLemmas.{got_none}
 
 outcome : List ℕ → List ℕ → Result Outcome Refusal
 outcome output bytes = Ok (writes_one output bytes)

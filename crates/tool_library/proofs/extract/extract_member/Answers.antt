@@ -3,8 +3,9 @@ use Rattle.sdt_fault.specs.declared.refusal.Refusal.{Refusal}
 use Rattle.chunk_file.specs.Reading.{◌>>=◌}
 use Rattle.tool_answers.specs.Outcomes.{Outcome, OfOne, writes_one, unprinted}
 use Rattle.tool_library.specs.Libraries.{extract, extracted}
-use Rattle.tool_library.proofs.AnswerLemmas.{one_unread, refused, wrote, got_none, asked_of_one}
+use Rattle.tool_library.proofs.AnswerLemmas.{one_unread, refused, wrote, asked_of_one}
 use Rattle.tool_library.proofs.extract.extract_member.Goals as goal
+use Rattle.sdt_outside.proofs.SharedLemmas.{got_none}
 
 outcome : List ℕ → List ℕ → Result Outcome Refusal
 outcome output bytes = Ok (writes_one output bytes)
