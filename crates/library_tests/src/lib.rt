@@ -1,0 +1,12 @@
+//! Tests of libraries, of what no command reaches: the bus and its devices, the startup code, the selection of members,
+//! maps that are written, and encoders.
+#![tactic(auto)]
+
+#[cfg(test)]
+mod buses;
+#[cfg(test)]
+mod devices;
+#[cfg(test)]
+mod images;
+#[cfg(test)]
+mod selection;
