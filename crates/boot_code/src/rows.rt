@@ -90,35 +90,3 @@ pub fn table(
     out.extend_from_slice(&[0, 0, entry])?;
     Ok(out)
 }
-
-#[cfg(test)]
-mod tests {
-    use super::*;
-    use crate::{boot_words, relocator_words, zero_words};
-    use std::test::Fail;
-
-    #[test]
-    fn one_copy_and_one_zero_part(rt: HostRuntime) -> Result<(), Fail> {
-        let copies = [CopyRow {
-            source: 0x80D8,
-            target: 0x9000,
-            size: 4,
-        }];
-        let parts = [ZeroRow {
-            base: 0x9004,
-            size: 8,
-        }];
-        let Ok(words) = table(rt.alloc(), &copies, &parts, 0x8000) else {
-            return Err(Fail::from("no memory"));
-        };
-        assert_eq!(rt;
-            words.as_slice(),
-            [0x80D8, 0x9000, 4, 0, 0, 0, 0x9004, 8, 0, 0, 0x8000].as_slice()
-        );
-        assert_eq!(rt; steps_bound(1, 1, 1, 2), 70);
-        assert_eq!(rt; boot_words()[41], 0xE12F_FF10);
-        assert_eq!(rt; zero_words()[11], 0xE1A0_F00E);
-        assert_eq!(rt; relocator_words()[14], 0xE1A0_F00E);
-        Ok(())
-    }
-}
