@@ -1,34 +1,127 @@
 -- The rows of a placement boot: the startup code with their table leads from every permitted state to
 -- the entry, in exactly the steps that they take, and the memory is then the view.
-use Rattle.std.proofs.Common.{◌≡◌, ℕ, zero, suc, ◌+◌, ◌-◌, ◌*◌, ◌%◌, ◌<◌, ◌≤◌, Bool, List, [], ◌∷◌, ◌++◌, length, get_or, refl, sym, ap, subst, ◌∙◌, arith, ◌⊎◌, inl, inr, Some, None, length-append}
+use Rattle.std.proofs.Common.{◌≡◌, ◌≢◌, ℕ, zero, suc, ◌+◌, ◌-◌, ◌*◌, ◌/◌, ◌%◌, ◌<◌, ◌≤◌, Bool, true, false, ◌==◌, nat_lt, List, [], ◌∷◌, ◌++◌, length, get_or, refl, sym, ap, subst, ◌∙◌, arith, ◌⊎◌, inl, inr, Some, None, length-append, ltb-true}
 use Rattle.std.specs.Prelude.{slice_index}
 use Rattle.std.proofs.Math.ListN.{get_or-append}
 use Rattle.sdt_word.specs.Bytes.{bytes_of, number_of, word}
 use Rattle.sdt_word.proofs.BytesLemmas.{number_of-bytes_of}
+use Rattle.sdt_word.specs.declared.codes.Condition.TheVariants.{Al}
+use Rattle.arm_isa.specs.declared.instr.ArmInstr.TheVariants.{SoftwareInterrupt}
 use Rattle.arm7_model.specs.Memory.{Bytes, Board}
-use Rattle.arm7_model.specs.Registers.{State, register}
-use Rattle.arm7_model.proofs.Steps.{IsQuiet, state_of}
+use Rattle.arm7_model.specs.Registers.{State}
+use Rattle.arm7_model.specs.ArmStep.{arm_condition}
+use Rattle.arm7_model.proofs.Steps.{compared-equal, compared-other}
 use Rattle.arm7_model.proofs.Leading.{after}
 use Rattle.arm7_model.proofs.MemoryLemmas.{load-same, not-eq, below_or_not}
 use Rattle.boot_code.specs.declared.rows.CopyRow.{CopyRow}
 use Rattle.boot_code.specs.declared.rows.ZeroRow.{ZeroRow}
-use Rattle.boot_code.specs.Words.{boot_list}
-use Rattle.boot_code.specs.Startup.{HasWords, copy_words, zero_words, table_list, copied, cleared, startup_steps, IsEntered}
+use Rattle.boot_code.specs.Words.{boot_list, boot_instructions}
+use Rattle.boot_code.specs.Startup.{HasWords, copy_words, zero_words, table_list, copied, cleared, copies_steps, parts_steps, startup_steps, IsEntered}
 use Rattle.boot_code.specs.Boots.{ByteMap, InRanges, CanStart, BootsIn, HoldsWord, HoldsWords, AllCopies, AllParts, CopyPlaced, ZeroPlaced, Places, moved, zeroed}
-use Rattle.boot_code.proofs.BootSteps.{Site, HasBoot, Run}
-use Rattle.boot_code.proofs.BootTable.{CopyFits, ZeroFits, startup_run}
+use Rattle.boot_code.proofs.WordsRead.{boot_reads}
+use Rattle.boot_code.proofs.CodeSteps.{World, Run, Code, IsFree, Reads, Good, Low, Go, code_reads, longer, still, narrowed_free, begun, skip, branch, compare, take_three, take_two, clear_4, load_0, address_0, enter_0}
+use Rattle.boot_code.proofs.BootLoops.{Copying, IsBoot, Head, Parts, copy_row, clears}
 use Rattle.boot_code.proofs.ViewLemmas.{cleared-at, copied-at, moved-some, zeroed-some, moved-outside, zeroed-outside}
 
--- ---- sixteen registers
-abbrev pub tabulated : (ℕ → ℕ) → ℕ → List ℕ
-tabulated f zero = []
-tabulated f (suc n) = f 0 ∷ tabulated (λ k. f (suc k)) n
+-- ---- words in the memory
 
-pub listed : (l : List ℕ) → l ≡ tabulated (slice_index l) (length l)
-listed [] = refl
-listed (x ∷ l) = ap (λ (r : List ℕ). x ∷ r) (listed l)
+words-after : (m : Bytes) (p : ℕ) (xs ys : List ℕ) → HasWords m p (xs ++ ys) → HasWords m (p + 4 * length xs) ys
+words-after m p [] ys h = let At : ℕ → Type 0 = λ k. HasWords m k ys in subst At (omega arith) h
+words-after m p (x ∷ xs) ys (first, later) = let At : ℕ → Type 0 = λ k. HasWords m k ys in subst At (omega arith) (words-after m (p + 4) xs ys later)
 
--- ---- words of the files in the memory
+word-at : (m : Bytes) (p : ℕ) (ws : List ℕ) (i : ℕ) → HasWords m p ws → i < length ws → word m (p + 4 * i) ≡ get_or ws i 0
+word-at m p [] i h lt = absurd (omega arith)
+word-at m p (w ∷ ws) zero (first, later) lt = ap (word m) (omega arith) ∙ first
+word-at m p (w ∷ ws) (suc i) (first, later) lt = ap (word m) (omega arith) ∙ word-at m (p + 4) ws i later (omega arith)
+
+-- ---- the rows
+
+module _ {W : World} {S : Code W} (w : IsBoot S) (files view : ByteMap) (written : ℕ → Bool) (a e : ℕ)
+    (copying : (r : CopyRow) → CopyPlaced files view written a e r → Copying S r.source r.target r.size)
+    (free : (r : ZeroRow) → ZeroPlaced view written a e r → IsFree S r.base (r.base + r.size)) where
+  -- the end of the copies: a row of zeros
+  copies_end : (p : ℕ) {n : ℕ} {m : Bytes} {Q : State → Type 0} → word S.origin (p + 4 + 4) ≡ 0 → S.start ≤ p → p + 12 < S.end → p % 4 ≡ 0
+      → Parts w n (p + 4 + 4 + 4) m Q → Head w (4 + n) p m Q
+  copies_end p none low high whole next g status k at same good =
+      let room = S.readable.room in
+      let is_none = still (g.r0 + 4 + 4) good (omega arith) (omega arith) ∙ ap (λ (x : ℕ). word S.origin (x + 4 + 4)) at ∙ none in
+      longer (omega arith)
+          (take_three (w 1 refl) S.readable (omega arith) (omega arith) (omega arith)
+          (compare (w 2 refl)
+          (branch (w 3 refl) (w 32 refl) (compared-equal _ _ 0 (omega arith) (omega arith) is_none) refl
+          (clear_4 (w 32 refl)
+          (next _ _ _ (omega arith) refl same))))) good
+
+  copies_run : (rows : List CopyRow) (tail : List ℕ) (p : ℕ) {n : ℕ} {m : Bytes} {Q : State → Type 0}
+      → AllCopies (CopyPlaced files view written a e) rows → HasWords S.origin p (copy_words rows ++ tail)
+      → S.start ≤ p → p + 4 * length (copy_words rows ++ tail) ≤ S.end → 0 < length tail → p % 4 ≡ 0
+      → Head w n (p + 4 * length (copy_words rows)) (copied m rows) Q → Head w (copies_steps rows + n) p m Q
+  copies_run [] tail p fits words low high more whole next g status k at same = longer (omega arith) (next g status k (omega arith) same)
+  copies_run (r ∷ rows) tail p (f, fits) words low high more whole next g status k at same =
+      let some = f.some in let small = f.small in let c_whole = f.words in let s_room = f.source_room in let t_room = f.target_room in
+      let other : (r.size == 0) ≡ false = not-eq r.size 0 (λ z. omega arith) in
+      let (e1, (e2, (e3, later))) = rw other at words in
+      let inside = rw other at high in
+      let all = length-append (copy_words rows) tail in
+      longer (omega arith)
+          (copy_row w r.source r.target r.size p e1 e2 e3 low (omega arith) whole some c_whole (omega arith) (omega arith) (omega arith) (copying r f)
+          (copies_run rows tail (p + 4 + 4 + 4) fits later (omega arith) (omega arith) more (omega arith)
+          (λ g' f' k' at' same'. (rw other at next) g' f' k' (omega arith) same')) g status k at same)
+
+  parts_end : (p entry : ℕ) {m : Bytes} → HasWords S.origin p (0 ∷ 0 ∷ entry ∷ []) → S.start ≤ p → p + 12 ≤ S.end → p % 4 ≡ 0 → entry % 4 ≢ 2
+      → Parts w 5 p m (IsEntered entry m)
+  parts_end p entry (w0, (w1, (w2, _))) low high whole fair g status k at none same good =
+      let room = S.readable.room in
+      let is_none = still (g.r0 + 4) good (omega arith) (omega arith) ∙ ap (λ (x : ℕ). word S.origin (x + 4)) at ∙ w1 in
+      let here : (g.r0 + 8) % 4294967296 ≡ p + 4 + 4 = omega arith in
+      let is_entry = still ((g.r0 + 8) % 4294967296) good (omega arith) (omega arith) ∙ ap (word S.origin) here ∙ w2 in
+      take_two (w 33 refl) S.readable (omega arith) (omega arith) (omega arith)
+          (compare (w 34 refl)
+          (branch (w 35 refl) (w 40 refl) (compared-equal _ _ 0 (omega arith) (omega arith) is_none) refl
+          (load_0 (w 40 refl) S.readable (omega arith) (omega arith) (omega arith)
+          (enter_0 (w 41 refl) is_entry same fair)))) good
+
+  parts_run : (rows : List ZeroRow) (entry p : ℕ) {m : Bytes} → AllParts (ZeroPlaced view written a e) rows → HasWords S.origin p (zero_words rows ++ (0 ∷ 0 ∷ entry ∷ []))
+      → S.start ≤ p → p + 4 * length (zero_words rows ++ (0 ∷ 0 ∷ entry ∷ [])) ≤ S.end → p % 4 ≡ 0 → entry % 4 ≢ 2
+      → Parts w (parts_steps rows + 5) p m (IsEntered entry (cleared m rows))
+  unfolding arm_condition
+  parts_run [] entry p fits words low high whole fair g status k at none same good = parts_end p entry words low (omega arith) whole fair g status k at none same good
+  parts_run (r ∷ rows) entry p {m} (f, fits) words low high whole fair g status k at none same good =
+      let some = f.some in let small = f.small in let c_whole = f.words in let t_room = f.room in let t_whole = f.whole in
+      let other : (r.size == 0) ≡ false = not-eq r.size 0 (λ z. omega arith) in
+      let (e1, (e2, later)) = rw other at words in
+      let inside = rw other at high in
+      let all = length-append (zero_words rows) (0 ∷ 0 ∷ entry ∷ []) in
+      let room = S.readable.room in
+      let b_is : word k g.r0 ≡ r.base = still g.r0 good (omega arith) (omega arith) ∙ ap (word S.origin) at ∙ e1 in
+      let c_is : word k (g.r0 + 4) ≡ r.size = still (g.r0 + 4) good (omega arith) (omega arith) ∙ ap (λ (x : ℕ). word S.origin (x + 4)) at ∙ e2 in
+      longer (omega arith)
+          (take_two (w 33 refl) S.readable (omega arith) (omega arith) (omega arith)
+          (compare (w 34 refl)
+          (skip (w 35 refl) (compared-other _ (word k (g.r0 + 4)) 0 (omega arith) (omega arith) (λ z. omega arith))
+          (clears w (r.size / 4 - 1) (omega arith) (omega arith) none (omega arith) (narrowed_free (free r f) (omega arith) (omega arith)) (omega arith)
+          (λ g' f' k' at' none' same'. parts_run rows entry (p + 4 + 4) fits later (omega arith) (omega arith) (omega arith) fair g' f' k' at' none' (same' ∙ rw (b_is, c_is, same) refl)))))) good
+
+  -- the startup code with its table reaches the entry in exactly these steps
+  startup_run : (copies : List CopyRow) (parts : List ZeroRow) (entry : ℕ) {status : ℕ} {g : Low} {m : Bytes}
+      → AllCopies (CopyPlaced files view written a e) copies → AllParts (ZeroPlaced view written a e) parts → entry % 4 ≢ 2
+      → HasWords S.origin (S.start + 168) (table_list copies parts entry) → S.end ≡ S.start + 168 + 4 * length (table_list copies parts entry)
+      → Go S (startup_steps copies parts) g 0 status m (IsEntered entry (cleared (copied m copies) parts))
+  startup_run copies parts entry copy_fits part_fits fair words size =
+      let end = 0 ∷ 0 ∷ entry ∷ [] in
+      let tail = 0 ∷ 0 ∷ 0 ∷ (zero_words parts ++ end) in
+      let whole = S.multiple in let room = S.readable.room in
+      let all = length-append (copy_words copies) tail in
+      let some = length-append (zero_words parts) end in
+      let (w0, (w1, (w2, later))) = words-after S.origin (S.start + 168) (copy_words copies) tail words in
+      longer (omega arith)
+          (address_0 {x = S.start + 168} (w 0 refl) (omega arith) (omega arith)
+          (copies_run copies tail (S.start + 168) copy_fits words (omega arith) (omega arith) (omega arith) (omega arith)
+          (copies_end _ w2 (omega arith) (omega arith) (omega arith)
+          (parts_run parts entry _ part_fits later (omega arith) (omega arith) (omega arith) fair)) _ _ _ refl refl))
+
+-- ---- a placement
+
 word-held : (files : ByteMap) (m : Bytes) (p w : ℕ) → ((x b : ℕ) → files x ≡ Some b → m x ≡ b) → HoldsWord files p w → word m p ≡ w
 word-held files m p w held h =
     ap number_of (load-same m (λ k. get_or (bytes_of w 4) k 0) p 0 4
@@ -38,18 +131,6 @@ word-held files m p w held h =
 words-held : (files : ByteMap) (m : Bytes) (p : ℕ) (ws : List ℕ) → ((x b : ℕ) → files x ≡ Some b → m x ≡ b) → HoldsWords files p ws → HasWords m p ws
 words-held files m p [] held h = tt
 words-held files m p (w ∷ ws) held (first, later) = (word-held files m p w held first, words-held files m (p + 4) ws held later)
-
-word-at : (m : Bytes) (p : ℕ) (ws : List ℕ) (i : ℕ) → HasWords m p ws → i < length ws → word m (p + 4 * i) ≡ get_or ws i 0
-word-at m p [] i h lt = absurd (omega arith)
-word-at m p (w ∷ ws) zero (first, later) lt = ap (word m) (omega arith) ∙ first
-word-at m p (w ∷ ws) (suc i) (first, later) lt = ap (word m) (omega arith) ∙ word-at m (p + 4) ws i later (omega arith)
-
-words-after : (m : Bytes) (p : ℕ) (xs ys : List ℕ) → HasWords m p (xs ++ ys) → HasWords m (p + 4 * length xs) ys
-words-after m p [] ys h = let e : p ≡ p + 4 * 0 = omega arith in let At : ℕ → Type 0 = λ k. HasWords m k ys in subst At e h
-words-after m p (x ∷ xs) ys (first, later) =
-    let e : p + 4 + 4 * length xs ≡ p + 4 * length (x ∷ xs) = omega arith in
-    let At : ℕ → Type 0 = λ k. HasWords m k ys in
-    subst At e (words-after m (p + 4) xs ys later)
 
 -- each address of the words has a byte in the files
 inside : (files : ByteMap) (p : ℕ) (ws : List ℕ) (x : ℕ) → HoldsWords files p ws → p ≤ x → x < p + 4 * length ws → (b : ℕ) × (files x ≡ Some b)
@@ -63,104 +144,85 @@ inside files p (w ∷ ws) x (first, later) low high = go (below_or_not x (p + 4)
         (slice_index (bytes_of w 4) (x - p), subst At same (first.each (x - p) (omega arith)))
     go (inr le) rest = rest le
 
--- ---- a placement
-
 module _ (files view : ByteMap) (written : ℕ → Bool) (copies : List CopyRow) (parts : List ZeroRow) (entry a : ℕ) (p : Places files view written copies parts entry a)
     (board : Board) (s : State) (c : CanStart files view written a board s) where
   held : (x b : ℕ) → files x ≡ Some b → s.memory x ≡ b
   held x b h = (c.loaded x b h).1
 
-  area_words : HasWords s.memory a (boot_list ++ table_list copies parts entry)
-  area_words = words-held files s.memory a (boot_list ++ table_list copies parts entry) held p.area
+  abbrev world : World
+  world = record { board = board; Allowed = InRanges files view; rest = s.core }
 
-  code : HasBoot s.memory a
-  code i lt =
-      word-at s.memory a (boot_list ++ table_list copies parts entry) i area_words (omega (arith, length-append boot_list (table_list copies parts entry)))
-      ∙ get_or-append boot_list (table_list copies parts entry) 0 i lt
+  abbrev area : List ℕ
+  area = boot_list ++ table_list copies parts entry
 
-  has_table : HasWords s.memory (a + 168) (table_list copies parts entry)
-  has_table = words-after s.memory a boot_list (table_list copies parts entry) area_words
+  area_words : HasWords s.memory a area
+  area_words = words-held files s.memory a area held p.area
 
-  counted : length (boot_list ++ table_list copies parts entry) ≡ 42 + length (table_list copies parts entry)
+  counted : length area ≡ 42 + length (table_list copies parts entry)
   counted = length-append boot_list (table_list copies parts entry)
 
-  long_enough : 6 ≤ length (table_list copies parts entry)
-  long_enough =
-      omega (arith, length-append (copy_words copies) (0 ∷ 0 ∷ 0 ∷ (zero_words parts ++ (0 ∷ 0 ∷ entry ∷ []))), length-append (zero_words parts) (0 ∷ 0 ∷ entry ∷ []))
-
-  site : Site board (InRanges files view) a (a + 4 * length (boot_list ++ table_list copies parts entry))
-  site = record {
+  abbrev code : Code world
+  code = record {
+    origin = s.memory;
+    start = a;
+    end = a + 4 * length area;
     multiple = p.multiple;
-    size = omega (arith, counted, long_enough);
-    room = p.room;
-    mapped = λ x low high. let (b, at) = inside files a (boot_list ++ table_list copies parts entry) x p.area low high in (c.loaded x b at).0;
-    allowed = λ x low high. inl (inside files a (boot_list ++ table_list copies parts entry) x p.area low high);
+    readable = record {
+      room = p.room;
+      mapped = λ x low high. let (b, at) = inside files a area x p.area low high in (c.loaded x b at).0;
+      allowed = λ x low high. inl (inside files a area x p.area low high);
+    };
   }
 
-  at_pc : slice_index s.core.r 15 ≡ a
-  unfolding register
-  at_pc = c.pc
+  boot : IsBoot code
+  boot i h =
+      let some : 1 ≤ length (table_list copies parts entry) =
+      omega (arith, length-append (copy_words copies) (0 ∷ 0 ∷ 0 ∷ (zero_words parts ++ (0 ∷ 0 ∷ entry ∷ [])))) in
+      let At : ℕ → Type 0 = λ k. Reads code k (get_or boot_instructions i (SoftwareInterrupt Al 0)) in
+      subst At (omega arith) (code_reads code boot_list boot_instructions 0 boot_reads
+      (λ i lt. ap (word s.memory) (omega arith) ∙ word-at s.memory a area i area_words (omega (arith, counted)) ∙ get_or-append boot_list (table_list copies parts entry) 0 i lt)
+      (omega (arith, counted, some)) i (ltb-true i 42 h))
 
-  quiet : IsQuiet s.core.cpsr
-  quiet = record { arm = c.arm; fiq_masked = c.fiq_masked; irq_masked = c.irq_masked }
+  off : (b n : ℕ) → (b + n ≤ a) ⊎ (a + (a + 4 * length area - a) ≤ b) → (b + n ≤ a) ⊎ (a + 4 * length area ≤ b)
+  off b n (inl h) = inl h
+  off b n (inr h) = inr (omega arith)
 
-  off : (b n end : ℕ) → (b + n ≤ a) ⊎ (a + (end - a) ≤ b) → a ≤ end → (b + n ≤ a) ⊎ (end ≤ b)
-  off b n end (inl h) le = inl h
-  off b n end (inr h) le = inr (omega arith)
-
-  copies_fit : (rows : List CopyRow) → AllCopies (CopyPlaced files view written a (a + 4 * length (boot_list ++ table_list copies parts entry))) rows
-      → AllCopies (CopyFits board (InRanges files view) a (a + 4 * length (boot_list ++ table_list copies parts entry))) rows
-  copies_fit [] h = tt
-  copies_fit (r ∷ rows) (h, hs) = (
-    record {
-      some = h.some;
-      words = h.words;
-      size = omega (arith, h.small);
-      source = omega (arith, h.source_room, h.some);
-      target = omega (arith, h.target_room, h.some);
-      copies = record {
-        source_whole = h.source_whole;
-        target_whole = h.target_whole;
-        source_room = h.source_room;
-        target_room = h.target_room;
-        source_mapped = λ k lt. let (b, at) = h.from_files k lt in (c.loaded (r.source + k) b at).0;
-        source_allowed = λ k lt. inl (h.from_files k lt);
-        target_mapped = λ k lt. let (b, at) = h.to_view k lt in c.there (r.target + k) b at;
-        target_writable = λ k lt. c.writable (r.target + k) (h.to_written k lt);
-        target_allowed = λ k lt. inr (h.to_view k lt);
-        apart = off r.target r.size _ h.off_area (omega arith);
+  copying : (r : CopyRow) → CopyPlaced files view written a (a + 4 * length area) r → Copying code r.source r.target r.size
+  copying r h = record {
+    source_whole = h.source_whole;
+    target_whole = h.target_whole;
+    from = record {
+      room = h.source_room;
+      mapped = λ x low high. let (b, at) = h.from_files (x - r.source) (omega arith) in ap board.memory (omega arith) ∙ (c.loaded (r.source + (x - r.source)) b at).0;
+      allowed = λ x low high. let (b, at) = h.from_files (x - r.source) (omega arith) in inl (b, ap files (omega arith) ∙ at);
+    };
+    to = record {
+      readable = record {
+        room = h.target_room;
+        mapped = λ x low high. let (b, at) = h.to_view (x - r.target) (omega arith) in c.there x b (ap view (omega arith) ∙ at);
+        allowed = λ x low high. let (b, at) = h.to_view (x - r.target) (omega arith) in inr (b, ap view (omega arith) ∙ at);
       };
-    },
-    copies_fit rows hs,
-  )
+      writable = λ x low high. c.writable x (ap written (omega arith) ∙ h.to_written (x - r.target) (omega arith));
+      apart = off r.target r.size h.off_area;
+    };
+  }
 
-  parts_fit : (rows : List ZeroRow) → AllParts (ZeroPlaced view written a (a + 4 * length (boot_list ++ table_list copies parts entry))) rows
-      → AllParts (ZeroFits board (InRanges files view) a (a + 4 * length (boot_list ++ table_list copies parts entry))) rows
-  parts_fit [] h = tt
-  parts_fit (r ∷ rows) (h, hs) = (
-    record {
-      some = h.some;
-      words = h.words;
-      size = omega (arith, h.small);
-      clears = record {
-        whole = h.whole;
-        room = h.room;
-        mapped = λ k lt. let (b, at) = h.in_view k lt in c.there (r.base + k) b at;
-        writable = λ k lt. c.writable (r.base + k) (h.to_written k lt);
-        allowed = λ k lt. inr (h.in_view k lt);
-        apart = off r.base r.size _ h.off_area (omega arith);
-      };
-    },
-    parts_fit rows hs,
-  )
+  free : (r : ZeroRow) → ZeroPlaced view written a (a + 4 * length area) r → IsFree code r.base (r.base + r.size)
+  free r h = record {
+    readable = record {
+      room = h.room;
+      mapped = λ x low high. let (b, at) = h.in_view (x - r.base) (omega arith) in c.there x b (ap view (omega arith) ∙ at);
+      allowed = λ x low high. let (b, at) = h.in_view (x - r.base) (omega arith) in inr (b, ap view (omega arith) ∙ at);
+    };
+    writable = λ x low high. c.writable x (ap written (omega arith) ∙ h.to_written (x - r.base) (omega arith));
+    apart = off r.base r.size h.off_area;
+  }
 
-  copy_targets : (rows : List CopyRow) → AllCopies (CopyPlaced files view written a (a + 4 * length (boot_list ++ table_list copies parts entry))) rows
-      → AllCopies (λ r. (k : ℕ) → k < r.size → (v : ℕ) × (view (r.target + k) ≡ Some v)) rows
+  copy_targets : (rows : List CopyRow) → AllCopies (CopyPlaced files view written a (a + 4 * length area)) rows → AllCopies (λ r. (k : ℕ) → k < r.size → (v : ℕ) × (view (r.target + k) ≡ Some v)) rows
   copy_targets [] h = tt
   copy_targets (r ∷ rows) (h, hs) = (h.to_view, copy_targets rows hs)
 
-  part_ranges : (rows : List ZeroRow) → AllParts (ZeroPlaced view written a (a + 4 * length (boot_list ++ table_list copies parts entry))) rows
-      → AllParts (λ r. (k : ℕ) → k < r.size → (v : ℕ) × (view (r.base + k) ≡ Some v)) rows
+  part_ranges : (rows : List ZeroRow) → AllParts (ZeroPlaced view written a (a + 4 * length area)) rows → AllParts (λ r. (k : ℕ) → k < r.size → (v : ℕ) × (view (r.base + k) ≡ Some v)) rows
   part_ranges [] h = tt
   part_ranges (r ∷ rows) (h, hs) = (h.in_view, part_ranges rows hs)
 
@@ -168,34 +230,12 @@ module _ (files view : ByteMap) (written : ℕ → Bool) (copies : List CopyRow)
   final : (x : ℕ) → cleared (copied s.memory copies) parts x ≡ zeroed 0 (moved s.memory copies) parts x
   final x = cleared-at (copied s.memory copies) parts x ∙ ap (λ (f : Bytes). zeroed 0 f parts x) (λ i y. copied-at s.memory copies y p.in_order i)
 
-  shown_at : (x b : ℕ) → view x ≡ Some b → cleared (copied s.memory copies) parts x ≡ b
-  shown_at x b h =
-      final x ∙ zeroed-some (moved files copies) (moved s.memory copies) parts x b (moved-some files s.memory copies x b held) (p.shows x b h)
-
-  elsewhere_at : (x : ℕ) → view x ≡ None → cleared (copied s.memory copies) parts x ≡ s.memory x
-  elsewhere_at x none =
-      final x ∙ zeroed-outside view (moved s.memory copies) parts x none (part_ranges parts p.each_part)
-      ∙ moved-outside view s.memory copies x none (copy_targets copies p.each_copy)
-
-  ends : Run board (InRanges files view) s.core a (a + 4 * length (boot_list ++ table_list copies parts entry)) site (startup_steps copies parts) s
-      (IsEntered entry (cleared (copied s.memory copies) parts))
-  ends =
-      let r = s.core.r in
-      let i = slice_index r in
-      let count = c.valid.core.visible.count in
-      let all : r ≡ tabulated i 16 = listed r ∙ ap (tabulated i) count in
-      let pc : i 15 ≡ a + 0 = at_pc ∙ omega arith in
-      let registers = λ (v : ℕ). i 0 ∷ i 1 ∷ i 2 ∷ i 3 ∷ i 4 ∷ i 5 ∷ i 6 ∷ i 7 ∷ i 8 ∷ i 9 ∷ i 10 ∷ i 11 ∷ i 12 ∷ i 13 ∷ i 14 ∷ v ∷ [] in
-      let same : registers (a + 0) ≡ r = sym (all ∙ ap registers pc) in
-      let From : List ℕ → Type 0 = λ l. Run board (InRanges files view) s.core a (a + 4 * length (boot_list ++ table_list copies parts entry)) site (startup_steps copies parts)
-      (state_of s.core l s.core.cpsr s.memory) (IsEntered entry (cleared (copied s.memory copies) parts)) in
-      subst From same
-      (startup_run board (InRanges files view) s.core a (a + 4 * length (boot_list ++ table_list copies parts entry)) site copies parts entry
-      (copies_fit copies p.each_copy) (parts_fit parts p.each_part) (not-eq (entry % 4) 2 p.fair) code has_table (omega (arith, counted)) c.valid.memory quiet)
-
   pub boots_in : BootsIn (startup_steps copies parts) files view entry board s
   boots_in inputs =
-      let (t, run, entered) = ends in
+      let good : Good code s.core.cpsr s.memory = record { quiet = record { arm = c.arm; fiq_masked = c.fiq_masked; irq_masked = c.irq_masked }; same = λ x low high. refl; bytes = c.valid.memory } in
+      let (t, run, entered) = begun board (InRanges files view) s (a + 0) c.valid.core.visible.count (c.pc ∙ omega arith)
+      (λ g. startup_run boot files view written a (a + 4 * length area) copying free copies parts entry p.each_copy p.each_part p.fair
+      (words-after s.memory a boot_list (table_list copies parts entry) area_words) (omega (arith, counted)) good) in
       let (accesses, steps, safe) = after run inputs in (
         t,
         accesses,
@@ -203,8 +243,10 @@ module _ (files view : ByteMap) (written : ℕ → Bool) (copies : List CopyRow)
         record {
           pc = entered.pc;
           thumb = entered.thumb;
-          shown = λ x b h. ap (λ (m : Bytes). m x) entered.memory ∙ shown_at x b h;
-          elsewhere = λ x h. ap (λ (m : Bytes). m x) entered.memory ∙ elsewhere_at x h;
+          shown = λ x b h. ap (λ (m : Bytes). m x) entered.memory ∙ final x ∙ zeroed-some (moved files copies) (moved s.memory copies) parts x b (moved-some files s.memory copies x b held) (p.shows x b h);
+          elsewhere = λ x none.
+              ap (λ (m : Bytes). m x) entered.memory ∙ final x ∙ zeroed-outside view (moved s.memory copies) parts x none (part_ranges parts p.each_part)
+              ∙ moved-outside view s.memory copies x none (copy_targets copies p.each_copy);
           safe = safe;
         },
       )

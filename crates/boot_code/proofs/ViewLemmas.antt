@@ -1,5 +1,5 @@
 -- The memory that copies and zero fills leave, address by address.
-use Rattle.std.proofs.Common.{◌≡◌, ℕ, zero, suc, ◌+◌, ◌-◌, ◌<◌, ◌≤◌, Bool, true, false, if◌then◌else◌, List, [], ◌∷◌, get_or, refl, sym, subst, ◌∙◌, arith, ◌⊎◌, inl, inr, Some, None}
+use Rattle.std.proofs.Common.{◌≡◌, ℕ, zero, suc, ◌+◌, ◌-◌, ◌<◌, ◌≤◌, Bool, true, false, if◌then◌else◌, List, [], ◌∷◌, length, get_or, refl, sym, subst, ◌∙◌, arith, ◌⊎◌, inl, inr, Some, None}
 use Rattle.sdt_word.specs.Bytes.{load}
 use Rattle.sdt_word.proofs.BytesLemmas.{length-load, get_or-load}
 use Rattle.arm7_model.specs.Memory.{Bytes, store}
@@ -8,7 +8,10 @@ use Rattle.boot_code.specs.declared.rows.CopyRow.{CopyRow}
 use Rattle.boot_code.specs.declared.rows.ZeroRow.{ZeroRow}
 use Rattle.boot_code.specs.Startup.{zeros, copied, cleared}
 use Rattle.boot_code.specs.Boots.{ByteMap, AllCopies, AllParts, AreApart, OffLater, InOrder, covers, moved, zeroed}
-use Rattle.boot_code.proofs.BootTable.{length-zeros}
+
+pub length-zeros : (n : ℕ) → length (zeros n) ≡ n
+length-zeros zero = refl
+length-zeros (suc n) = let e = length-zeros n in omega (arith, e)
 
 pub covers-inside : (b n x : ℕ) → b ≤ x → x < b + n → covers b n x ≡ true
 covers-inside b n x low high = grind (arith)
