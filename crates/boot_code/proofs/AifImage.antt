@@ -237,7 +237,6 @@ module _ (file : List ℕ) (parts zero_size b : ℕ) (written : ℕ → Bool) (v
           },
         )
 
-
 -- ---- a relocatable image
 
 module _ (file : List ℕ) (parts zero_size base e : ℕ) (offsets : List ℕ) (b : ℕ) (view : ByteMap) (l : IsLoadable file parts zero_size base e offsets b view)
@@ -289,13 +288,13 @@ module _ (file : List ℕ) (parts zero_size base e : ℕ) (offsets : List ℕ) (
       let h = l.image.header in let low = h.parts_low in let small = h.parts_small in let parts_whole = h.parts_whole in let size = l.size in let room = l.file_room in
       let good : Good head s.core.cpsr s.memory = record { quiet = record { arm = c.arm; fiq_masked = c.fiq_masked; irq_masked = c.irq_masked }; same = λ x low high. stands x low (omega arith); bytes = c.valid.memory } in
       longer (omega arith)
-          (nothing (word_reads head 0 0xE1A00000 (ap (word k) (omega arith) ∙ h.nothing) (omega arith) reads_nothing)
-          (link {k = (parts - 12) / 4} {target = b + parts + 0} (word_reads head 1 _ l.image.move_call (omega arith) (reads_link ((parts - 12) / 4) (omega arith))) (omega arith) (omega arith) (omega arith)
-          (λ good'. relocator_run {S = relocator} relocator_words b parts refl parts_whole low
-          (record { readable = narrowed readable (omega arith) (omega arith); writable = λ x low high. c.writable x (free x low (omega arith)); apart = inl (omega arith) })
-          base offsets refl (still {S = head} b good' (omega arith) (omega arith) ∙ h.nothing) (still {S = head} (b + 40) good' (omega arith) (omega arith) ∙ l.image.base_word) l.image.base_small
-          (omega arith) l.image.list_fits l.image.list_words next
-          (record { quiet = good'.quiet; same = λ x above below. stands x (omega arith) below; bytes = good'.bytes })))) good
+      (nothing (word_reads head 0 0xE1A00000 (ap (word k) (omega arith) ∙ h.nothing) (omega arith) reads_nothing)
+      (link {k = (parts - 12) / 4} {target = b + parts + 0} (word_reads head 1 _ l.image.move_call (omega arith) (reads_link ((parts - 12) / 4) (omega arith))) (omega arith) (omega arith) (omega arith)
+      (λ good'. relocator_run {S = relocator} relocator_words b parts refl parts_whole low
+      (record { readable = narrowed readable (omega arith) (omega arith); writable = λ x low high. c.writable x (free x low (omega arith)); apart = inl (omega arith) })
+      base offsets refl (still {S = head} b good' (omega arith) (omega arith) ∙ h.nothing) (still {S = head} (b + 40) good' (omega arith) (omega arith) ∙ l.image.base_word) l.image.base_small
+      (omega arith) l.image.list_fits l.image.list_words next
+      (record { quiet = good'.quiet; same = λ x above below. stands x (omega arith) below; bytes = good'.bytes })))) good
 
   exactly : (extra entry : ℕ) → From (world file b view board s) extra (b + e) (started_image s.memory b parts zero_size base offsets) (IsEntered entry (started_image s.memory b parts zero_size base offsets))
       → BootsIn (aif_steps b base zero_size (length offsets) + extra) (file_at file b) view entry board s
@@ -330,9 +329,11 @@ aif_boots file parts zero_size base e offsets view loads b whole file_room zero_
     (aif_steps b base zero_size (length offsets), omega (arith, steps-bound b base zero_size (length offsets)), aif_is_exact file parts zero_size base e offsets b (view b) (loads b whole file_room zero_room) board s c)
 
 pub aif_veneer_boots : AifVeneerBoots
-aif_veneer_boots file parts zero_size base e offsets view entry loads veneers b whole file_room zero_room board s c =
-    (aif_steps b base zero_size (length offsets) + 2, steps-bound b base zero_size (length offsets),
-    aif_veneer_is_exact file parts zero_size base e (entry b) offsets b (view b) (loads b whole file_room zero_room) (veneers b whole file_room zero_room) board s c)
+aif_veneer_boots file parts zero_size base e offsets view entry loads veneers b whole file_room zero_room board s c = (
+  aif_steps b base zero_size (length offsets) + 2,
+  steps-bound b base zero_size (length offsets),
+  aif_veneer_is_exact file parts zero_size base e (entry b) offsets b (view b) (loads b whole file_room zero_room) (veneers b whole file_room zero_room) board s c,
+)
 
 -- ---- an image that isn't relocatable
 
@@ -362,9 +363,9 @@ module _ (file : List ℕ) (parts zero_size e b : ℕ) (view : ByteMap) (l : IsF
       let low = l.image.header.parts_low in let size = l.size in
       let good : Good fixed_head s.core.cpsr s.memory = record { quiet = record { arm = c.arm; fiq_masked = c.fiq_masked; irq_masked = c.irq_masked }; same = λ x low high. fixed_stands x low (omega arith); bytes = c.valid.memory } in
       longer (omega arith)
-          (nothing (word_reads fixed_head 0 0xE1A00000 (ap (word (shifted_file file b)) (omega arith) ∙ l.image.header.nothing) (omega arith) reads_nothing)
-          (nothing (word_reads fixed_head 1 0xE1A00000 l.image.no_call (omega arith) reads_nothing)
-          (λ good'. next _ _ _ _ good'.quiet good'.bytes refl refl))) good
+      (nothing (word_reads fixed_head 0 0xE1A00000 (ap (word (shifted_file file b)) (omega arith) ∙ l.image.header.nothing) (omega arith) reads_nothing)
+      (nothing (word_reads fixed_head 1 0xE1A00000 l.image.no_call (omega arith) reads_nothing)
+      (λ good'. next _ _ _ _ good'.quiet good'.bytes refl refl))) good
 
   fixed_exactly : (extra entry : ℕ) → From (world file b view board s) extra (b + e) (store s.memory (b + parts) (zeros zero_size)) (IsEntered entry (store s.memory (b + parts) (zeros zero_size)))
       → BootsIn (3 + clear_steps zero_size + extra) (file_at file b) view entry board s

@@ -46,11 +46,11 @@ module _ {W : World} {S : Code W} (w : IsBoot S) (files view : ByteMap) (written
       let room = S.readable.room in
       let is_none = still (g.r0 + 4 + 4) good (omega arith) (omega arith) ∙ ap (λ (x : ℕ). word S.origin (x + 4 + 4)) at ∙ none in
       longer (omega arith)
-          (take_three (w 1 refl) S.readable (omega arith) (omega arith) (omega arith)
-          (compare (w 2 refl)
-          (branch (w 3 refl) (w 32 refl) (compared-equal _ _ 0 (omega arith) (omega arith) is_none) refl
-          (clear_4 (w 32 refl)
-          (next _ _ _ (omega arith) refl same))))) good
+      (take_three (w 1 refl) S.readable (omega arith) (omega arith) (omega arith)
+      (compare (w 2 refl)
+      (branch (w 3 refl) (w 32 refl) (compared-equal _ _ 0 (omega arith) (omega arith) is_none) refl
+      (clear_4 (w 32 refl)
+      (next _ _ _ (omega arith) refl same))))) good
 
   copies_run : (rows : List CopyRow) (tail : List ℕ) (p : ℕ) {n : ℕ} {m : Bytes} {Q : State → Type 0}
       → AllCopies (CopyPlaced files view written a e) rows → HasWords S.origin p (copy_words rows ++ tail)
@@ -64,9 +64,9 @@ module _ {W : World} {S : Code W} (w : IsBoot S) (files view : ByteMap) (written
       let inside = rw other at high in
       let all = length-append (copy_words rows) tail in
       longer (omega arith)
-          (copy_row w r.source r.target r.size p e1 e2 e3 low (omega arith) whole some c_whole (omega arith) (omega arith) (omega arith) (copying r f)
-          (copies_run rows tail (p + 4 + 4 + 4) fits later (omega arith) (omega arith) more (omega arith)
-          (λ g' f' k' at' same'. (rw other at next) g' f' k' (omega arith) same')) g status k at same)
+      (copy_row w r.source r.target r.size p e1 e2 e3 low (omega arith) whole some c_whole (omega arith) (omega arith) (omega arith) (copying r f)
+      (copies_run rows tail (p + 4 + 4 + 4) fits later (omega arith) (omega arith) more (omega arith)
+      (λ g' f' k' at' same'. (rw other at next) g' f' k' (omega arith) same')) g status k at same)
 
   parts_end : (p entry : ℕ) {m : Bytes} → HasWords S.origin p (0 ∷ 0 ∷ entry ∷ []) → S.start ≤ p → p + 12 ≤ S.end → p % 4 ≡ 0 → entry % 4 ≢ 2
       → Parts w 5 p m (IsEntered entry m)
@@ -76,10 +76,10 @@ module _ {W : World} {S : Code W} (w : IsBoot S) (files view : ByteMap) (written
       let here : (g.r0 + 8) % 4294967296 ≡ p + 4 + 4 = omega arith in
       let is_entry = still ((g.r0 + 8) % 4294967296) good (omega arith) (omega arith) ∙ ap (word S.origin) here ∙ w2 in
       take_two (w 33 refl) S.readable (omega arith) (omega arith) (omega arith)
-          (compare (w 34 refl)
-          (branch (w 35 refl) (w 40 refl) (compared-equal _ _ 0 (omega arith) (omega arith) is_none) refl
-          (load_0 (w 40 refl) S.readable (omega arith) (omega arith) (omega arith)
-          (enter_0 (w 41 refl) is_entry same fair)))) good
+      (compare (w 34 refl)
+      (branch (w 35 refl) (w 40 refl) (compared-equal _ _ 0 (omega arith) (omega arith) is_none) refl
+      (load_0 (w 40 refl) S.readable (omega arith) (omega arith) (omega arith)
+      (enter_0 (w 41 refl) is_entry same fair)))) good
 
   parts_run : (rows : List ZeroRow) (entry p : ℕ) {m : Bytes} → AllParts (ZeroPlaced view written a e) rows → HasWords S.origin p (zero_words rows ++ (0 ∷ 0 ∷ entry ∷ []))
       → S.start ≤ p → p + 4 * length (zero_words rows ++ (0 ∷ 0 ∷ entry ∷ [])) ≤ S.end → p % 4 ≡ 0 → entry % 4 ≢ 2
@@ -96,11 +96,11 @@ module _ {W : World} {S : Code W} (w : IsBoot S) (files view : ByteMap) (written
       let b_is : word k g.r0 ≡ r.base = still g.r0 good (omega arith) (omega arith) ∙ ap (word S.origin) at ∙ e1 in
       let c_is : word k (g.r0 + 4) ≡ r.size = still (g.r0 + 4) good (omega arith) (omega arith) ∙ ap (λ (x : ℕ). word S.origin (x + 4)) at ∙ e2 in
       longer (omega arith)
-          (take_two (w 33 refl) S.readable (omega arith) (omega arith) (omega arith)
-          (compare (w 34 refl)
-          (skip (w 35 refl) (compared-other _ (word k (g.r0 + 4)) 0 (omega arith) (omega arith) (λ z. omega arith))
-          (clears w (r.size / 4 - 1) (omega arith) (omega arith) none (omega arith) (narrowed_free (free r f) (omega arith) (omega arith)) (omega arith)
-          (λ g' f' k' at' none' same'. parts_run rows entry (p + 4 + 4) fits later (omega arith) (omega arith) (omega arith) fair g' f' k' at' none' (same' ∙ rw (b_is, c_is, same) refl)))))) good
+      (take_two (w 33 refl) S.readable (omega arith) (omega arith) (omega arith)
+      (compare (w 34 refl)
+      (skip (w 35 refl) (compared-other _ (word k (g.r0 + 4)) 0 (omega arith) (omega arith) (λ z. omega arith))
+      (clears w (r.size / 4 - 1) (omega arith) (omega arith) none (omega arith) (narrowed_free (free r f) (omega arith) (omega arith)) (omega arith)
+      (λ g' f' k' at' none' same'. parts_run rows entry (p + 4 + 4) fits later (omega arith) (omega arith) (omega arith) fair g' f' k' at' none' (same' ∙ rw (b_is, c_is, same) refl)))))) good
 
   -- the startup code with its table reaches the entry in exactly these steps
   startup_run : (copies : List CopyRow) (parts : List ZeroRow) (entry : ℕ) {status : ℕ} {g : Low} {m : Bytes}
@@ -115,10 +115,10 @@ module _ {W : World} {S : Code W} (w : IsBoot S) (files view : ByteMap) (written
       let some = length-append (zero_words parts) end in
       let (w0, (w1, (w2, later))) = words-after S.origin (S.start + 168) (copy_words copies) tail words in
       longer (omega arith)
-          (address_0 {x = S.start + 168} (w 0 refl) (omega arith) (omega arith)
-          (copies_run copies tail (S.start + 168) copy_fits words (omega arith) (omega arith) (omega arith) (omega arith)
-          (copies_end _ w2 (omega arith) (omega arith) (omega arith)
-          (parts_run parts entry _ part_fits later (omega arith) (omega arith) (omega arith) fair)) _ _ _ refl refl))
+      (address_0 {x = S.start + 168} (w 0 refl) (omega arith) (omega arith)
+      (copies_run copies tail (S.start + 168) copy_fits words (omega arith) (omega arith) (omega arith) (omega arith)
+      (copies_end _ w2 (omega arith) (omega arith) (omega arith)
+      (parts_run parts entry _ part_fits later (omega arith) (omega arith) (omega arith) fair)) _ _ _ refl refl))
 
 -- ---- a placement
 
