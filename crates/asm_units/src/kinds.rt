@@ -20,7 +20,7 @@ use crate::beside::Beside;
 use crate::emitted::{Emitted, Stored};
 use crate::literals::literal as literal_word;
 use crate::statements::units;
-use asm_checks::told::{first_told, kind_if};
+use asm_expr::told::{first_told, kind_if};
 use asm_instructions::scenes::stands_at;
 use asm_instructions::values::value_there;
 use asm_model::{DirectiveLine, Value, What};
