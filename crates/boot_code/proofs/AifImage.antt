@@ -15,10 +15,12 @@ use Rattle.arm7_model.proofs.MemoryLemmas.{word-store_apart, load-same, store-be
 use Rattle.boot_code.specs.Words.{zero_code, relocator_list, relocator_instructions}
 use Rattle.boot_code.specs.Startup.{zeros, IsEntered}
 use Rattle.boot_code.specs.Boots.{ByteMap, InRanges, CanStart, BootsIn, covers}
-use Rattle.boot_code.specs.Aif.{HasCode, Offsets, relocated, marked, moved_image, started_image, clear_steps, aif_steps, IsHeader, HasVeneer, IsFixedLoadable, FixedAifIsExact, FixedAifVeneerIsExact, FixedAifBoots, FixedAifVeneerBoots, file_at, shifted_file, aif_written, IsLoadable, AifIsExact, AifVeneerIsExact, AifBoots, AifVeneerBoots, aif_bound}
+use Rattle.boot_code.specs.Aif.{HasCode, Offsets, relocated, marked, moved_image, started_image, clear_steps, aif_steps, IsHeader, IsRelocatable, IsFixed, HasVeneer, IsFixedLoadable, FixedAifIsExact, FixedAifVeneerIsExact, FixedAifBoots, FixedAifVeneerBoots, file_at, shifted_file, aif_written, IsLoadable, AifIsExact, AifVeneerIsExact, AifBoots, AifVeneerBoots, aif_bound}
 use Rattle.boot_code.proofs.WordsRead.{relocator_reads}
-use Rattle.boot_code.proofs.ViewLemmas.{length-zeros, covers-inside, covers-true, covers-false}
-use Rattle.boot_code.proofs.CodeSteps.{World, Run, IsReadable, Code, Reads, Good, Low, placed, longer, narrowed, word_reads, code_reads, begun, nothing, link, load_entry, enter_12, still}
+use Rattle.boot_code.proofs.ViewLemmas.{length-zeros, covers-inside, covers-true, covers-false, covers-off, apart_store}
+use Rattle.boot_code.proofs.CodeSteps.{World, Run, IsReadable, Code, Reads, Good, Low, placed, longer, narrowed, word_reads, code_reads, begun, link, enter_12, still, computes, loads}
+use Rattle.boot_code.proofs.CodeSteps.Computes.{nothing, count}
+use Rattle.boot_code.proofs.CodeSteps.Loads.{load_entry}
 use Rattle.boot_code.proofs.AifRuns.{From, from, reads_link, reads_nothing, relocator_run, called, Stands, clear_run}
 
 reads_veneer_load : ReadsArm 0xE59FC000 (TransferImmediate Al true true false false true 15 12 0)
@@ -32,23 +34,15 @@ entered_arm : (W : World) (g : Low) (status entry : ℕ) (m : Bytes) → entry %
 unfolding register is_thumb
 entered_arm W g status entry m even arm_state = record { pc = omega arith; thumb = rw (arm_state, even) refl; memory = refl }
 
--- ---- what is written
-
-apart_store : (m : Bytes) (a : ℕ) (bs : List ℕ) (x : ℕ) → (x < a) ⊎ (a + length bs ≤ x) → store m a bs x ≡ m x
-apart_store m a bs x (inl h) = store-below m a bs x h
-apart_store m a bs x (inr h) = store-above m a bs x h
+-- ---- what the calls leave alone
 
 -- a word of the header, off the two that are marked
 marked-word : (m : Bytes) (b x : ℕ) → (x + 4 ≤ b + 4) ⊎ (b + 8 ≤ x) → (x + 4 ≤ b + 40) ⊎ (b + 44 ≤ x) → word (marked m b) x ≡ word m x
-marked-word m b x off_call off_base = word-store_apart (store m (b + 40) (bytes_of b 4)) (b + 4) (bytes_of 0xE1A00000 4) x (first off_call) ∙ word-store_apart m (b + 40) (bytes_of b 4) x (second off_base)
+marked-word m b x off_call off_base = word-store_apart (store m (b + 40) (bytes_of b 4)) (b + 4) (bytes_of 0xE1A00000 4) x (beside 4 off_call) ∙ word-store_apart m (b + 40) (bytes_of b 4) x (beside 40 off_base)
   where
-    first : (x + 4 ≤ b + 4) ⊎ (b + 8 ≤ x) → (x + 4 ≤ b + 4) ⊎ (b + 4 + 4 ≤ x)
-    first (inl h) = inl h
-    first (inr h) = inr (omega arith)
-
-    second : (x + 4 ≤ b + 40) ⊎ (b + 44 ≤ x) → (x + 4 ≤ b + 40) ⊎ (b + 40 + length (bytes_of b 4) ≤ x)
-    second (inl h) = inl h
-    second (inr h) = inr (omega (arith, length-bytes_of b 4))
+    beside : (o : ℕ) → (x + 4 ≤ b + o) ⊎ (b + (o + 4) ≤ x) → (x + 4 ≤ b + o) ⊎ (b + o + 4 ≤ x)
+    beside o (inl h) = inl h
+    beside o (inr h) = inr (omega arith)
 
 relocated-word : (m : Bytes) (b d limit : ℕ) (offsets : List ℕ) (x : ℕ) → Offsets limit offsets → x + 4 ≤ b + 128 → word (relocated m b d offsets) x ≡ word m x
 relocated-word m b d limit [] x fits h = refl
@@ -94,11 +88,7 @@ merged-in : (m k : Bytes) (b n x : ℕ) → b ≤ x → x < b + n → merged m k
 merged-in m k b n x low high = rw (covers-inside b n x low high) refl
 
 merged-off : (m k : Bytes) (b n x : ℕ) → (x < b) ⊎ (b + n ≤ x) → merged m k b n x ≡ m x
-merged-off m k b n x off = let out : covers b n x ≡ false = go off in rw out refl
-  where
-    go : (x < b) ⊎ (b + n ≤ x) → covers b n x ≡ false
-    go (inl h) = grind arith
-    go (inr h) = grind arith
+merged-off m k b n x off = rw (covers-off b n x off) refl
 
 merged-same : (m k : Bytes) (b n : ℕ) → ((x : ℕ) → b ≤ x → x < b + n → m x ≡ k x) → m ≡ merged m k b n
 merged-same m k b n h i x = go (covers b n x) refl i
@@ -149,12 +139,10 @@ moved-merged m k b base n offsets low fits = go (b == base)
 
 -- ---- a file in the memory
 
-abbrev world : List ℕ → ℕ → ByteMap → Board → State → World
-world file b view board s = record { board = board; Allowed = InRanges (file_at file b) view; rest = s.core }
-
 -- its parts and its zero part have their place in the view, and the zero part is written
 record IsLaid (file : List ℕ) (parts zero_size b : ℕ) (written : ℕ → Bool) (view : ByteMap) : Type 0 where
   whole : b % 4 ≡ 0
+  low : 128 ≤ parts
   file_room : b + length file ≤ 2 ^ 32
   zero_room : b + parts + zero_size ≤ 2 ^ 32
   fits : parts ≤ length file
@@ -163,79 +151,129 @@ record IsLaid (file : List ℕ) (parts zero_size b : ℕ) (written : ℕ → Boo
 
 module _ (file : List ℕ) (parts zero_size b : ℕ) (written : ℕ → Bool) (view : ByteMap) (l : IsLaid file parts zero_size b written view)
     (board : Board) (s : State) (c : CanStart (file_at file b) view written b board s) where
-  in_file : (x : ℕ) → b ≤ x → x < b + length file → file_at file b x ≡ Some (slice_index file (x - b))
+  abbrev W : World
+  W = record { board = board; Allowed = InRanges (file_at file b) view; rest = s.core }
+
+  abbrev k : Bytes
+  k = shifted_file file b
+
+  in_file : (x : ℕ) → b ≤ x → x < b + length file → file_at file b x ≡ Some (k x)
   in_file x low high = rw (covers-inside b (length file) x low high) refl
 
-  file_stands : (x : ℕ) → b ≤ x → x < b + length file → s.memory x ≡ shifted_file file b x
-  file_stands x low high = (c.loaded x (slice_index file (x - b)) (in_file x low high)).1
+  stands : (x : ℕ) → b ≤ x → x < b + length file → s.memory x ≡ k x
+  stands x low high = (c.loaded x (k x) (in_file x low high)).1
 
-  from_file : IsReadable (world file b view board s) b (b + length file)
-  from_file = record { room = l.file_room; mapped = λ x low high. (c.loaded x (slice_index file (x - b)) (in_file x low high)).0; allowed = λ x low high. inl (slice_index file (x - b), in_file x low high) }
+  from_file : IsReadable W b (b + length file)
+  from_file = record { room = l.file_room; mapped = λ x low high. (c.loaded x (k x) (in_file x low high)).0; allowed = λ x low high. inl (k x, in_file x low high) }
 
-  in_view : IsReadable (world file b view board s) b (b + parts + zero_size)
+  in_view : IsReadable W b (b + parts + zero_size)
   in_view = record { room = l.zero_room; mapped = λ x low high. let (v, at) = l.complete x low high in c.there x v at; allowed = λ x low high. inr (l.complete x low high) }
 
-  -- the image k stands in the memory m when its header's second call has returned
-  module _ (e : ℕ) (k m : Bytes) (same : m ≡ merged s.memory k b parts) (i : IsHeader k b parts zero_size e) where
-    inside : (x : ℕ) → b ≤ x → x < b + parts + zero_size → store m (b + parts) (zeros zero_size) x ≡ store k (b + parts) (zeros zero_size) x
-    inside x low high = go (below_or_not x (b + parts))
-      where
-        go : (x < b + parts) ⊎ (b + parts ≤ x) → store m (b + parts) (zeros zero_size) x ≡ store k (b + parts) (zeros zero_size) x
-        go (inl lt) = store-same m k (b + parts) (zeros zero_size) x (ap (λ (f : Bytes). f x) same ∙ merged-in s.memory k b parts x low lt)
-        go (inr le) =
-            let size = length-zeros zero_size in
-            store-in m (b + parts) (zeros zero_size) x le (omega arith) ∙ sym (store-in k (b + parts) (zeros zero_size) x le (omega arith))
+  all_same : s.memory ≡ merged s.memory k b parts
+  all_same = merged-same s.memory k b parts (λ x low high. stands x low (omega (arith, l.fits)))
 
-    outside : (x : ℕ) → view x ≡ None → store m (b + parts) (zeros zero_size) x ≡ s.memory x
-    outside x none = go (below_or_not x b) (below_or_not x (b + parts + zero_size))
+  head_readable : IsReadable W b (b + 128)
+  head_readable = narrowed from_file (omega arith) (omega (arith, l.low, l.fits))
+
+  -- the header's first two words
+  abbrev head : Code W
+  head = record { origin = k; start = b; end = b + 128; multiple = l.whole; readable = head_readable }
+
+  good : Good head s.core.cpsr s.memory
+  good = record { quiet = record { arm = c.arm; fiq_masked = c.fiq_masked; irq_masked = c.irq_masked }; same = λ x low high. stands x low (omega (arith, l.low, l.fits)); bytes = c.valid.memory }
+
+  -- n steps lead to the third word, with the memory m
+  abbrev Begins : ℕ → Bytes → Type 1
+  Begins n m = (g : Low) (j : ℕ) (Q : State → Type 0) → From W j (b + 8) m Q → Run W (n + j) (placed W g (b + 0) s.core.cpsr s.memory) Q
+
+  fixed_begins : {e : ℕ} → IsFixed k b parts zero_size e → Begins 2 s.memory
+  fixed_begins i g j Q next =
+      longer (omega arith)
+          (computes (word_reads head 0 0xE1A00000 (ap (word k) (omega arith) ∙ i.header.nothing) (omega arith) reads_nothing) nothing tt
+          (computes (word_reads head 1 0xE1A00000 i.no_call (omega arith) reads_nothing) nothing tt
+          (λ good. next _ _ _ _ good.quiet good.bytes refl refl))) good
+
+  relocator_whole : parts % 4 ≡ 0 → (b + parts) % 4 ≡ 0
+  relocator_whole h = omega (arith, l.whole)
+
+  relocator_readable : IsReadable W (b + parts) (b + length file)
+  relocator_readable = narrowed from_file (omega arith) (omega arith)
+
+  abbrev relocator : parts % 4 ≡ 0 → Code W
+  relocator h = record { origin = k; start = b + parts; end = b + length file; multiple = relocator_whole h; readable = relocator_readable }
+
+  moved_begins : (base : ℕ) {e : ℕ} (offsets : List ℕ) → IsRelocatable k b parts zero_size base e offsets → length file ≡ parts + 60 + 4 * length offsets + 4 → ((x : ℕ) → b ≤ x → x < b + parts → written x ≡ true)
+      → Begins (2 + (if b == base then 7 else 15 + 6 * length offsets)) (moved_image s.memory b base offsets)
+  moved_begins base offsets i size may g j Q next =
+      let h = i.header in let low = h.parts_low in let small = h.parts_small in let parts_whole = h.parts_whole in let room = l.file_room in let whole = l.whole in
+      let R = relocator parts_whole in
+      longer (omega arith)
+          (computes (word_reads head 0 0xE1A00000 (ap (word k) (omega arith) ∙ h.nothing) (omega arith) reads_nothing) nothing tt
+          (link {k = (parts - 12) / 4} {target = b + parts + 0} (word_reads head 1 _ i.move_call (omega arith) (reads_link ((parts - 12) / 4) (omega arith))) (omega arith) (omega arith) (omega arith)
+          (λ good. relocator_run {S = R} (λ i' lt. code_reads R relocator_list relocator_instructions 0 relocator_reads (λ j lt. ap (word k) (omega arith) ∙ i.move_code j lt) (omega arith) i' i' (omega arith) (ltb-true i' 15 lt)) b parts refl parts_whole low
+          (record { readable = narrowed from_file (omega arith) (omega arith); writable = λ x low high. c.writable x (may x low high); apart = inl (omega arith) })
+          base offsets refl (still {S = head} b good (omega arith) (omega arith) ∙ h.nothing) (still {S = head} (b + 40) good (omega arith) (omega arith) ∙ i.base_word) i.base_small (omega arith) i.list_fits i.list_words next
+          (record { quiet = good.quiet; same = λ x above below. stands x (omega arith) below; bytes = good.bytes })))) good
+
+  -- the image x stands in the memory m when the header's second call has returned
+  module _ (e : ℕ) (x m : Bytes) (same : m ≡ merged s.memory x b parts) (i : IsHeader x b parts zero_size e) where
+    abbrev final : Bytes
+    final = store m (b + parts) (zeros zero_size)
+
+    size : length (zeros zero_size) ≡ zero_size
+    size = length-zeros zero_size
+
+    inside : (y : ℕ) → b ≤ y → y < b + parts + zero_size → final y ≡ store x (b + parts) (zeros zero_size) y
+    inside y low high = go (below_or_not y (b + parts))
+      where
+        go : (y < b + parts) ⊎ (b + parts ≤ y) → final y ≡ store x (b + parts) (zeros zero_size) y
+        go (inl lt) = store-same m x (b + parts) (zeros zero_size) y (ap (λ (f : Bytes). f y) same ∙ merged-in s.memory x b parts y low lt)
+        go (inr le) = store-in m (b + parts) (zeros zero_size) y le (omega (arith, size)) ∙ sym (store-in x (b + parts) (zeros zero_size) y le (omega (arith, size)))
+
+    outside : (y : ℕ) → view y ≡ None → final y ≡ s.memory y
+    outside y none = go (below_or_not y b) (below_or_not y (b + parts + zero_size))
       where
         no_value : (v : ℕ) → None ≡ Some v → ⊥
         no_value v h = cc
 
-        size : length (zeros zero_size) ≡ zero_size
-        size = length-zeros zero_size
+        go : (y < b) ⊎ (b ≤ y) → (y < b + parts + zero_size) ⊎ (b + parts + zero_size ≤ y) → final y ≡ s.memory y
+        go (inl lt) _ = store-below m (b + parts) (zeros zero_size) y (omega arith) ∙ ap (λ (f : Bytes). f y) same ∙ merged-off s.memory x b parts y (inl lt)
+        go (inr le) (inr high) = store-above m (b + parts) (zeros zero_size) y (omega (arith, size)) ∙ ap (λ (f : Bytes). f y) same ∙ merged-off s.memory x b parts y (inr (omega arith))
+        go (inr le) (inl lt) = let (v, at) = l.complete y le lt in absurd (no_value v (sym none ∙ at))
 
-        go : (x < b) ⊎ (b ≤ x) → (x < b + parts + zero_size) ⊎ (b + parts + zero_size ≤ x) → store m (b + parts) (zeros zero_size) x ≡ s.memory x
-        go (inl lt) _ = store-below m (b + parts) (zeros zero_size) x (omega arith) ∙ ap (λ (f : Bytes). f x) same ∙ merged-off s.memory k b parts x (inl lt)
-        go (inr le) (inr high) = store-above m (b + parts) (zeros zero_size) x (omega (arith, size)) ∙ ap (λ (f : Bytes). f x) same ∙ merged-off s.memory k b parts x (inr (omega arith))
-        go (inr le) (inl lt) = let (v, at) = l.complete x le lt in absurd (no_value v (sym none ∙ at))
-
-    -- by what it is entered: nothing, or the veneer at its entry
-    straight : From (world file b view board s) 0 (b + e) (store m (b + parts) (zeros zero_size)) (IsEntered (b + e) (store m (b + parts) (zeros zero_size)))
-    straight = from (world file b view board s) (b + e) refl (λ g status q bytes. let whole = l.whole in let e_whole = i.entry_whole in (_, here, entered_arm (world file b view board s) g status (b + e) _ (omega arith) q.arm))
-
-    by_veneer : (entry : ℕ) → HasVeneer (store k (b + parts) (zeros zero_size)) b parts e entry → From (world file b view board s) 2 (b + e) (store m (b + parts) (zeros zero_size)) (IsEntered entry (store m (b + parts) (zeros zero_size)))
-    by_veneer entry v =
-        let e_whole = i.entry_whole in let room = v.fits in let whole = l.whole in
-        let S : Code (world file b view board s) = record { origin = store k (b + parts) (zeros zero_size); start = b + e; end = b + e + 12; multiple = omega arith; readable = narrowed in_view (omega arith) (omega arith) } in
-        from (world file b view board s) (b + e + 0) (omega arith) (λ g status q bytes.
-        load_entry {S = S} {x = b + e + 8} (word_reads S 0 0xE59FC000 (ap (word S.origin) (omega arith) ∙ v.load_word) (omega arith) reads_veneer_load) (omega arith) S.readable (omega arith) (omega arith) (omega arith)
-        (λ good. enter_12 (word_reads S 1 0xE12FFF1C v.exchange_word (omega arith) reads_veneer_exchange) (still {S = S} (b + e + 8) good (omega arith) (omega arith) ∙ v.target) refl v.fair good)
-        (record { quiet = q; same = λ x low high. inside x (omega arith) (omega arith); bytes = bytes }))
-
-    -- n steps lead to the return from the first call, and the rest follows
     booted : (n total extra entry : ℕ) → n + (clear_steps zero_size + suc extra) ≡ total
-        → ((x v : ℕ) → view x ≡ Some v → (b ≤ x) × (x < b + parts + zero_size) × (store k (b + parts) (zeros zero_size) x ≡ v))
-        → ((g : Low) (j : ℕ) (Q : State → Type 0) → From (world file b view board s) j (b + 8) m Q → Run (world file b view board s) (n + j) (placed (world file b view board s) g (b + 0) s.core.cpsr s.memory) Q)
-        → From (world file b view board s) extra (b + e) (store m (b + parts) (zeros zero_size)) (IsEntered entry (store m (b + parts) (zeros zero_size)))
-        → BootsIn total (file_at file b) view entry board s
+        → ((y v : ℕ) → view y ≡ Some v → (b ≤ y) × (y < b + parts + zero_size) × (store x (b + parts) (zeros zero_size) y ≡ v))
+        → Begins n m → From W extra (b + e) final (IsEntered entry final) → BootsIn total (file_at file b) view entry board s
     booted n total extra entry steps shows begins enters inputs =
-        let low = i.parts_low in let e_whole = i.entry_whole in
+        let low = l.low in
         let (t, run, entered) = begun board (InRanges (file_at file b) view) s (b + 0) c.valid.core.visible.count (c.pc ∙ omega arith) (λ g. begins g _ _
-        (clear_run b l.whole k parts zero_size e i (narrowed in_view (omega arith) (omega arith)) (λ x low high. ap (λ (f : Bytes). f x) same ∙ merged-in s.memory k b parts x (omega arith) (omega arith))
-        (record { readable = narrowed in_view (omega arith) (omega arith); writable = λ x low high. c.writable x (l.free x low high); apart = inr (omega arith) }) enters)) in
-        let (accesses, steps_go, safe) = after (lasting steps run) inputs in (
+        (clear_run b l.whole x parts zero_size e i (narrowed in_view (omega arith) (omega arith)) (λ y low high. ap (λ (f : Bytes). f y) same ∙ merged-in s.memory x b parts y (omega arith) (omega arith))
+        (record { readable = narrowed in_view (omega arith) (omega arith); writable = λ y low high. c.writable y (l.free y low high); apart = inr (omega arith) }) enters)) in
+        let (accesses, all_steps, safe) = after (lasting steps run) inputs in (
           t,
           accesses,
-          steps_go,
+          all_steps,
           record {
             pc = entered.pc;
             thumb = entered.thumb;
-            shown = λ x v h. let at = shows x v h in ap (λ (f : Bytes). f x) entered.memory ∙ inside x at.0 at.1 ∙ at.2;
-            elsewhere = λ x none. ap (λ (f : Bytes). f x) entered.memory ∙ outside x none;
+            shown = λ y v h. let at = shows y v h in ap (λ (f : Bytes). f y) entered.memory ∙ inside y at.0 at.1 ∙ at.2;
+            elsewhere = λ y none. ap (λ (f : Bytes). f y) entered.memory ∙ outside y none;
             safe = safe;
           },
         )
+
+    -- the entry in ARM state, and by a veneer
+    straight : From W 0 (b + e) final (IsEntered (b + e) final)
+    straight = from W (b + e) refl (λ g status q bytes. let whole = l.whole in let e_whole = i.entry_whole in (_, here, entered_arm W g status (b + e) _ (omega arith) q.arm))
+
+    by_veneer : (entry : ℕ) → HasVeneer (store x (b + parts) (zeros zero_size)) b parts e entry → From W 2 (b + e) final (IsEntered entry final)
+    by_veneer entry v =
+        let e_whole = i.entry_whole in let room = v.fits in let whole = l.whole in
+        let S : Code W = record { origin = store x (b + parts) (zeros zero_size); start = b + e; end = b + e + 12; multiple = omega arith; readable = narrowed in_view (omega arith) (omega arith) } in
+        from W (b + e + 0) (omega arith) (λ g status q bytes.
+        loads {S = S} {x = b + e + 8} (word_reads S 0 0xE59FC000 (ap (word S.origin) (omega arith) ∙ v.load_word) (omega arith) reads_veneer_load) load_entry tt (omega arith) S.readable (omega arith) (omega arith) (omega arith)
+        (λ good. enter_12 (word_reads S 1 0xE12FFF1C v.exchange_word (omega arith) reads_veneer_exchange) (still {S = S} (b + e + 8) good (omega arith) (omega arith) ∙ v.target) refl v.fair good)
+        (record { quiet = q; same = λ y low high. inside y (omega arith) (omega arith); bytes = bytes }))
 
 -- ---- a relocatable image
 
@@ -253,67 +291,43 @@ module _ (file : List ℕ) (parts zero_size base e : ℕ) (offsets : List ℕ) (
       go (inr le) = rw (covers-inside (b + parts) zero_size x (omega (arith, l.size)) (omega arith)) (or_true (covers b (length file) x))
 
   laid : IsLaid file parts zero_size b (aif_written file b parts zero_size) view
-  laid = record { whole = l.whole; file_room = l.file_room; zero_room = l.zero_room; fits = omega (arith, l.size); complete = l.shows.whole; free = λ x low high. free x (omega arith) high }
+  laid = record {
+    whole = l.whole;
+    low = l.image.header.parts_low;
+    file_room = l.file_room;
+    zero_room = l.zero_room;
+    fits = omega (arith, l.size);
+    complete = l.shows.whole;
+    free = λ x low high. free x (omega arith) high;
+  }
 
-  abbrev k : Bytes
-  k = shifted_file file b
-
-  stands : (x : ℕ) → b ≤ x → x < b + length file → s.memory x ≡ k x
-  stands = file_stands file parts zero_size b (aif_written file b parts zero_size) view laid board s c
-
-  readable : IsReadable (world file b view board s) b (b + length file)
-  readable = from_file file parts zero_size b (aif_written file b parts zero_size) view laid board s c
-
-  image_same : moved_image s.memory b base offsets ≡ merged s.memory (moved_image k b base offsets) b parts
+  image_same : moved_image s.memory b base offsets ≡ merged s.memory (moved_image (shifted_file file b) b base offsets) b parts
   image_same =
-      ap (λ (f : Bytes). moved_image f b base offsets) (merged-same s.memory k b parts (λ x low high. stands x low (omega (arith, l.size))))
-      ∙ moved-merged s.memory k b base parts offsets l.image.header.parts_low l.image.list_fits
+      ap (λ (f : Bytes). moved_image f b base offsets) (all_same file parts zero_size b _ view laid board s c)
+      ∙ moved-merged s.memory (shifted_file file b) b base parts offsets l.image.header.parts_low l.image.list_fits
 
-  header : IsHeader (moved_image k b base offsets) b parts zero_size e
-  header = moved_header k b parts zero_size base e offsets l.image.list_fits l.image.header
+  header : IsHeader (moved_image (shifted_file file b) b base offsets) b parts zero_size e
+  header = moved_header (shifted_file file b) b parts zero_size base e offsets l.image.list_fits l.image.header
 
-  abbrev head : Code (world file b view board s)
-  head = record { origin = k; start = b; end = b + 128; multiple = l.whole; readable = narrowed readable (omega arith) (omega (arith, l.size, l.image.header.parts_low)) }
-
-  abbrev relocator : Code (world file b view board s)
-  relocator = record { origin = k; start = b + parts; end = b + length file; multiple = omega (arith, l.whole, l.image.header.parts_whole); readable = narrowed readable (omega arith) (omega arith) }
-
-  relocator_words : (i : ℕ) → nat_lt i 15 ≡ true → Reads relocator i (get_or relocator_instructions i (SoftwareInterrupt Al 0))
-  relocator_words i lt = let At : ℕ → Type 0 = λ j. Reads relocator j (get_or relocator_instructions i (SoftwareInterrupt Al 0)) in
-      subst At (omega arith) (code_reads relocator relocator_list relocator_instructions 0 relocator_reads (λ j lt. ap (word k) (omega arith) ∙ l.image.move_code j lt) (omega (arith, l.size)) i (ltb-true i 15 lt))
-
-  begins : (g : Low) (j : ℕ) (Q : State → Type 0) → From (world file b view board s) j (b + 8) (moved_image s.memory b base offsets) Q
-      → Run (world file b view board s) (2 + (if b == base then 7 else 15 + 6 * length offsets) + j) (placed (world file b view board s) g (b + 0) s.core.cpsr s.memory) Q
-  begins g j Q next =
-      let h = l.image.header in let low = h.parts_low in let small = h.parts_small in let parts_whole = h.parts_whole in let size = l.size in let room = l.file_room in
-      let good : Good head s.core.cpsr s.memory = record { quiet = record { arm = c.arm; fiq_masked = c.fiq_masked; irq_masked = c.irq_masked }; same = λ x low high. stands x low (omega arith); bytes = c.valid.memory } in
-      longer (omega arith)
-      (nothing (word_reads head 0 0xE1A00000 (ap (word k) (omega arith) ∙ h.nothing) (omega arith) reads_nothing)
-      (link {k = (parts - 12) / 4} {target = b + parts + 0} (word_reads head 1 _ l.image.move_call (omega arith) (reads_link ((parts - 12) / 4) (omega arith))) (omega arith) (omega arith) (omega arith)
-      (λ good'. relocator_run {S = relocator} relocator_words b parts refl parts_whole low
-      (record { readable = narrowed readable (omega arith) (omega arith); writable = λ x low high. c.writable x (free x low (omega arith)); apart = inl (omega arith) })
-      base offsets refl (still {S = head} b good' (omega arith) (omega arith) ∙ h.nothing) (still {S = head} (b + 40) good' (omega arith) (omega arith) ∙ l.image.base_word) l.image.base_small
-      (omega arith) l.image.list_fits l.image.list_words next
-      (record { quiet = good'.quiet; same = λ x above below. stands x (omega arith) below; bytes = good'.bytes })))) good
-
-  exactly : (extra entry : ℕ) → From (world file b view board s) extra (b + e) (started_image s.memory b parts zero_size base offsets) (IsEntered entry (started_image s.memory b parts zero_size base offsets))
+  exactly : (extra entry : ℕ) → From (W file parts zero_size b _ view laid board s c) extra (b + e) (started_image s.memory b parts zero_size base offsets) (IsEntered entry (started_image s.memory b parts zero_size base offsets))
       → BootsIn (aif_steps b base zero_size (length offsets) + extra) (file_at file b) view entry board s
   exactly extra entry enters =
-      booted file parts zero_size b (aif_written file b parts zero_size) view laid board s c e (moved_image k b base offsets) (moved_image s.memory b base offsets) image_same header
-      (2 + (if b == base then 7 else 15 + 6 * length offsets)) _ extra entry (omega arith) l.shows.inside begins enters
+      booted file parts zero_size b _ view laid board s c e _ _ image_same header (2 + (if b == base then 7 else 15 + 6 * length offsets)) _ extra entry (omega arith) l.shows.inside
+      (moved_begins file parts zero_size b _ view laid board s c base offsets l.image l.size (λ x low high. free x low (omega arith))) enters
 
-pub aif_veneer_is_exact : AifVeneerIsExact
-aif_veneer_is_exact file parts zero_size base e entry offsets b view l v board s c =
-    exactly file parts zero_size base e offsets b view l board s c 2 entry
-    (by_veneer file parts zero_size b (aif_written file b parts zero_size) view (laid file parts zero_size base e offsets b view l board s c) board s c e _ _
-    (image_same file parts zero_size base e offsets b view l board s c) (header file parts zero_size base e offsets b view l board s c) entry v)
+  in_arm : BootsIn (aif_steps b base zero_size (length offsets) + 0) (file_at file b) view (b + e) board s
+  in_arm = exactly 0 (b + e) (straight file parts zero_size b _ view laid board s c e _ _ image_same header)
+
+  through_veneer : (entry : ℕ) → HasVeneer (started_image (shifted_file file b) b parts zero_size base offsets) b parts e entry → BootsIn (aif_steps b base zero_size (length offsets) + 2) (file_at file b) view entry board s
+  through_veneer entry v = exactly 2 entry (by_veneer file parts zero_size b _ view laid board s c e _ _ image_same header entry v)
 
 pub aif_is_exact : AifIsExact
 aif_is_exact file parts zero_size base e offsets b view l board s c =
     let In : ℕ → Type 0 = λ k. BootsIn k (file_at file b) view (b + e) board s in
-    subst In (omega arith) (exactly file parts zero_size base e offsets b view l board s c 0 (b + e)
-    (straight file parts zero_size b (aif_written file b parts zero_size) view (laid file parts zero_size base e offsets b view l board s c) board s c e _ _
-    (image_same file parts zero_size base e offsets b view l board s c) (header file parts zero_size base e offsets b view l board s c)))
+    subst In (omega arith) (in_arm file parts zero_size base e offsets b view l board s c)
+
+pub aif_veneer_is_exact : AifVeneerIsExact
+aif_veneer_is_exact file parts zero_size base e entry offsets b view l v board s c = through_veneer file parts zero_size base e offsets b view l board s c entry v
 
 steps-bound : (b base zero_size k : ℕ) → aif_steps b base zero_size k + 2 ≤ aif_bound k zero_size
 steps-bound b base zero_size k = go (b == base) (zero_size == 0)
@@ -340,58 +354,42 @@ aif_veneer_boots file parts zero_size base e offsets view entry loads veneers b 
 module _ (file : List ℕ) (parts zero_size e b : ℕ) (view : ByteMap) (l : IsFixedLoadable file parts zero_size e b view)
     (board : Board) (s : State) (c : CanStart (file_at file b) view (covers (b + parts) zero_size) b board s) where
   fixed_laid : IsLaid file parts zero_size b (covers (b + parts) zero_size) view
-  fixed_laid = record { whole = l.whole; file_room = omega (arith, l.size, l.room); zero_room = l.room; fits = omega (arith, l.size); complete = l.complete; free = λ x low high. covers-inside (b + parts) zero_size x low high }
-
-  fixed_stands : (x : ℕ) → b ≤ x → x < b + length file → s.memory x ≡ shifted_file file b x
-  fixed_stands = file_stands file parts zero_size b (covers (b + parts) zero_size) view fixed_laid board s c
-
-  fixed_same : s.memory ≡ merged s.memory (shifted_file file b) b parts
-  fixed_same = merged-same s.memory (shifted_file file b) b parts (λ x low high. fixed_stands x low (omega (arith, l.size)))
-
-  abbrev fixed_head : Code (world file b view board s)
-  fixed_head = record {
-    origin = shifted_file file b;
-    start = b;
-    end = b + 128;
-    multiple = l.whole;
-    readable = narrowed (from_file file parts zero_size b (covers (b + parts) zero_size) view fixed_laid board s c) (omega arith) (omega (arith, l.size, l.image.header.parts_low));
+  fixed_laid = record {
+    whole = l.whole;
+    low = l.image.header.parts_low;
+    file_room = omega (arith, l.size, l.room);
+    zero_room = l.room;
+    fits = omega (arith, l.size);
+    complete = l.complete;
+    free = covers-inside (b + parts) zero_size;
   }
 
-  fixed_begins : (g : Low) (j : ℕ) (Q : State → Type 0) → From (world file b view board s) j (b + 8) s.memory Q
-      → Run (world file b view board s) (2 + j) (placed (world file b view board s) g (b + 0) s.core.cpsr s.memory) Q
-  fixed_begins g j Q next =
-      let low = l.image.header.parts_low in let size = l.size in
-      let good : Good fixed_head s.core.cpsr s.memory = record { quiet = record { arm = c.arm; fiq_masked = c.fiq_masked; irq_masked = c.irq_masked }; same = λ x low high. fixed_stands x low (omega arith); bytes = c.valid.memory } in
-      longer (omega arith)
-      (nothing (word_reads fixed_head 0 0xE1A00000 (ap (word (shifted_file file b)) (omega arith) ∙ l.image.header.nothing) (omega arith) reads_nothing)
-      (nothing (word_reads fixed_head 1 0xE1A00000 l.image.no_call (omega arith) reads_nothing)
-      (λ good'. next _ _ _ _ good'.quiet good'.bytes refl refl))) good
+  fixed_same : s.memory ≡ merged s.memory (shifted_file file b) b parts
+  fixed_same = all_same file parts zero_size b _ view fixed_laid board s c
 
-  fixed_exactly : (extra entry : ℕ) → From (world file b view board s) extra (b + e) (store s.memory (b + parts) (zeros zero_size)) (IsEntered entry (store s.memory (b + parts) (zeros zero_size)))
+  fixed_exactly : (extra entry : ℕ) → From (W file parts zero_size b _ view fixed_laid board s c) extra (b + e) (store s.memory (b + parts) (zeros zero_size)) (IsEntered entry (store s.memory (b + parts) (zeros zero_size)))
       → BootsIn (3 + clear_steps zero_size + extra) (file_at file b) view entry board s
   fixed_exactly extra entry enters =
-      booted file parts zero_size b (covers (b + parts) zero_size) view fixed_laid board s c e (shifted_file file b) s.memory fixed_same l.image.header
-      2 _ extra entry (omega arith) l.inside fixed_begins enters
+      booted file parts zero_size b _ view fixed_laid board s c e _ _ fixed_same l.image.header 2 _ extra entry (omega arith) l.inside (fixed_begins file parts zero_size b _ view fixed_laid board s c l.image) enters
 
-  -- a veneer is one of the file's, below the zero part
-  fixed_veneer : (entry : ℕ) → HasVeneer (shifted_file file b) b parts e entry → HasVeneer (store (shifted_file file b) (b + parts) (zeros zero_size)) b parts e entry
-  fixed_veneer entry v =
+  fixed_in_arm : BootsIn (3 + clear_steps zero_size + 0) (file_at file b) view (b + e) board s
+  fixed_in_arm = fixed_exactly 0 (b + e) (straight file parts zero_size b _ view fixed_laid board s c e _ _ fixed_same l.image.header)
+
+  -- the veneer is the file's, below the zero part
+  fixed_through_veneer : (entry : ℕ) → HasVeneer (shifted_file file b) b parts e entry → BootsIn (3 + clear_steps zero_size + 2) (file_at file b) view entry board s
+  fixed_through_veneer entry v =
       let room = v.fits in
       let off : (x : ℕ) → x + 4 ≤ b + parts → word (store (shifted_file file b) (b + parts) (zeros zero_size)) x ≡ word (shifted_file file b) x = λ x low. word-store_apart (shifted_file file b) (b + parts) (zeros zero_size) x (inl low) in
-      record { fits = v.fits; load_word = off (b + e) (omega arith) ∙ v.load_word; exchange_word = off (b + e + 4) (omega arith) ∙ v.exchange_word; target = off (b + e + 8) (omega arith) ∙ v.target; fair = v.fair }
-
-pub fixed_aif_veneer_is_exact : FixedAifVeneerIsExact
-fixed_aif_veneer_is_exact file parts zero_size e entry b view l v board s c =
-    fixed_exactly file parts zero_size e b view l board s c 2 entry
-    (by_veneer file parts zero_size b (covers (b + parts) zero_size) view (fixed_laid file parts zero_size e b view l board s c) board s c e _ _
-    (fixed_same file parts zero_size e b view l board s c) l.image.header entry (fixed_veneer file parts zero_size e b view l board s c entry v))
+      fixed_exactly 2 entry (by_veneer file parts zero_size b _ view fixed_laid board s c e _ _ fixed_same l.image.header entry
+      (record { fits = v.fits; load_word = off (b + e) (omega arith) ∙ v.load_word; exchange_word = off (b + e + 4) (omega arith) ∙ v.exchange_word; target = off (b + e + 8) (omega arith) ∙ v.target; fair = v.fair }))
 
 pub fixed_aif_is_exact : FixedAifIsExact
 fixed_aif_is_exact file parts zero_size e b view l board s c =
     let In : ℕ → Type 0 = λ k. BootsIn k (file_at file b) view (b + e) board s in
-    subst In (omega arith) (fixed_exactly file parts zero_size e b view l board s c 0 (b + e)
-    (straight file parts zero_size b (covers (b + parts) zero_size) view (fixed_laid file parts zero_size e b view l board s c) board s c e _ _
-    (fixed_same file parts zero_size e b view l board s c) l.image.header))
+    subst In (omega arith) (fixed_in_arm file parts zero_size e b view l board s c)
+
+pub fixed_aif_veneer_is_exact : FixedAifVeneerIsExact
+fixed_aif_veneer_is_exact file parts zero_size e entry b view l v board s c = fixed_through_veneer file parts zero_size e b view l board s c entry v
 
 fixed-bound : (zero_size : ℕ) → 3 + clear_steps zero_size + 2 ≤ aif_bound 0 zero_size
 fixed-bound zero_size = go (zero_size == 0)

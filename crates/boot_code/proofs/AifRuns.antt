@@ -17,7 +17,10 @@ use Rattle.boot_code.specs.Words.{zero_code, zero_instructions, relocator_instru
 use Rattle.boot_code.specs.Startup.{HasWords, zeros}
 use Rattle.boot_code.specs.Aif.{Offsets, marked, relocated, moved_image, clear_steps, IsHeader}
 use Rattle.boot_code.proofs.WordsRead.{zero_reads}
-use Rattle.boot_code.proofs.CodeSteps.{World, Run, IsReadable, Code, IsFree, Reads, Good, Low, placed, Go, longer, narrowed, narrowed_free, still, word_reads, code_reads, skip, branch, link, return, nothing, count, compare, back, load_1, load_2, load_3, add_01, add_02, clear_1, store_zero, shift, store_0, store_2, address_2, load_next, compare_negative, load_named, add_shift, store_named}
+use Rattle.boot_code.proofs.CodeSteps.{World, Run, IsReadable, Code, IsFree, Reads, Good, Low, placed, Go, longer, narrowed, narrowed_free, still, word_reads, code_reads, skip, branch, link, return, computes, loads, stores}
+use Rattle.boot_code.proofs.CodeSteps.Computes.{nothing, address_2, count, compare, compare_negative, add_01, add_02, add_shift, clear_1, back, shift}
+use Rattle.boot_code.proofs.CodeSteps.Loads.{load_next, load_1, load_2, load_3, load_named}
+use Rattle.boot_code.proofs.CodeSteps.Stores.{store_zero, store_0, store_2, store_named}
 use Rattle.boot_code.proofs.BootLoops.{fill}
 
 -- n steps lead on from the word at pc, with this memory
@@ -52,27 +55,27 @@ module _ {W : World} {S : Code W} (w : (i : ℕ) → nat_lt i 15 ≡ true → Re
       let is_last = still g.r2 good (omega arith) (omega arith) ∙ ap (word S.origin) e2 ∙ last in
       let z : (status : ℕ) → bit (added status (word m g.r2) 1) 30 ≡ 1 = λ status. added-zero status (word m g.r2) 1 (omega arith) (omega arith) (omega arith) in
       longer (omega arith)
-      (load_next (w 8 refl) S.readable (omega arith) (omega arith) (omega arith)
-      (compare_negative (w 9 refl)
-      (skip (w 10 refl) (z _)
-      (skip (w 11 refl) (z _)
-      (skip (w 12 refl) (z _)
-      (skip (w 13 refl) (z _)
-      (return (w 14 refl) tt (omega arith)
-      (λ good'. next _ _ _ _ good'.quiet good'.bytes e14 refl)))))))) good
+          (loads (w 8 refl) load_next tt refl S.readable (omega arith) (omega arith) (omega arith)
+          (computes (w 9 refl) compare_negative tt
+          (skip (w 10 refl) (z _)
+          (skip (w 11 refl) (z _)
+          (skip (w 12 refl) (z _)
+          (skip (w 13 refl) (z _)
+          (return (w 14 refl) tt (omega arith)
+          (λ good'. next _ _ _ _ good'.quiet good'.bytes e14 refl)))))))) good
   list_run d (o ∷ offsets) p {status = status} {g} {m} above p_whole below small e0 e1 e2 e14 (o_whole, o_low, o_high, fits) (first, later) next good =
       let room = S.readable.room in let multiple = S.multiple in
       let named = still g.r2 good (omega arith) (omega arith) ∙ ap (word S.origin) e2 ∙ first in
       let z : bit (added status (word m g.r2) 1) 30 ≡ 0 = added-other status (word m g.r2) 1 (omega arith) (omega arith) (omega arith) (λ h. omega arith) in
       longer (omega arith)
-      (load_next (w 8 refl) S.readable (omega arith) (omega arith) (omega arith)
-      (compare_negative (w 9 refl)
-      (load_named {x = b + o} (w 10 refl) z (omega arith) f.readable (omega arith) (omega arith) (omega arith)
-      (add_shift (w 11 refl) z
-      (store_named {x = b + o} (w 12 refl) (w 13 refl) z (omega arith) f (omega arith) (omega arith) (omega arith)
-      (branch (w 13 refl) (w 8 refl) z refl
-      (list_run d offsets (p + 4) (omega arith) (omega arith) (omega arith) small e0 e1 (omega arith) e14 fits later
-      (λ g' s at k q bytes e same. next g' s at k q bytes e (same ∙ ap (λ (v : ℕ). relocated (store m (b + o) (bytes_of v 4)) b d offsets) (omega arith)))))))))) good
+          (loads (w 8 refl) load_next tt refl S.readable (omega arith) (omega arith) (omega arith)
+          (computes (w 9 refl) compare_negative tt
+          (loads {x = b + o} (w 10 refl) load_named z (omega arith) f.readable (omega arith) (omega arith) (omega arith)
+          (computes (w 11 refl) add_shift z
+          (stores {x = b + o} (w 12 refl) (w 13 refl) store_named z (omega arith) f (omega arith) (omega arith) (omega arith)
+          (branch (w 13 refl) (w 8 refl) z refl
+          (list_run d offsets (p + 4) (omega arith) (omega arith) (omega arith) small e0 e1 (omega arith) e14 fits later
+          (λ g' s at k q bytes e same. next g' s at k q bytes e (same ∙ ap (λ (v : ℕ). relocated (store m (b + o) (bytes_of v 4)) b d offsets) (omega arith)))))))))) good
 
   -- the header is marked as moved
   begins : (base : ℕ) {n status : ℕ} {g : Low} {m : Bytes} {Q : State → Type 0} → g.r14 ≡ b + 8 → word m b ≡ 0xE1A00000 → word m (b + 40) ≡ base → base < 2 ^ 32
@@ -86,16 +89,16 @@ module _ {W : World} {S : Code W} (w : (i : ℕ) → nat_lt i 15 ≡ true → Re
       let m1 = store m (b + 40) (bytes_of r 4) in
       let still_first : word m1 b ≡ 0xE1A00000 = word-store_apart m (b + 40) (bytes_of r 4) b (inl (omega arith)) ∙ first in
       longer (omega arith)
-      (back (w 0 refl)
-      (load_1 {x = b + 40} (w 1 refl) (omega arith) f.readable (omega arith) (omega arith) (omega arith)
-      (shift (w 2 refl)
-      (store_0 {x = b + 40} (w 3 refl) (w 4 refl) (omega arith) f (omega arith) (omega arith) (omega arith)
-      (load_2 {x = b} (w 4 refl) (omega arith) f.readable (omega arith) (omega arith) (omega arith)
-      (store_2 {x = b + 4} (w 5 refl) (w 6 refl) (omega arith) f (omega arith) (omega arith) (omega arith)
-      (next _ _ _ is_b (omega arith) e14
-      (ap (λ (v : ℕ). store m1 (b + 4) (bytes_of v 4)) still_first ∙ ap (λ (v : ℕ). store (store m (b + 40) (bytes_of v 4)) (b + 4) (bytes_of 0xE1A00000 4)) is_b)
-      (λ same. compared-equal _ r (word m (b + 40)) (omega arith) (omega arith) (omega arith))
-      (λ other. compared-other _ r (word m (b + 40)) (omega arith) (omega arith) (λ h. other (omega arith))))))))))
+          (computes (w 0 refl) back tt
+          (loads {x = b + 40} (w 1 refl) load_1 tt (omega arith) f.readable (omega arith) (omega arith) (omega arith)
+          (computes (w 2 refl) shift tt
+          (stores {x = b + 40} (w 3 refl) (w 4 refl) store_0 tt (omega arith) f (omega arith) (omega arith) (omega arith)
+          (loads {x = b} (w 4 refl) load_2 tt (omega arith) f.readable (omega arith) (omega arith) (omega arith)
+          (stores {x = b + 4} (w 5 refl) (w 6 refl) store_2 tt (omega arith) f (omega arith) (omega arith) (omega arith)
+          (next _ _ _ is_b (omega arith) e14
+          (ap (λ (v : ℕ). store m1 (b + 4) (bytes_of v 4)) still_first ∙ ap (λ (v : ℕ). store (store m (b + 40) (bytes_of v 4)) (b + 4) (bytes_of 0xE1A00000 4)) is_b)
+          (λ same. compared-equal _ r (word m (b + 40)) (omega arith) (omega arith) (omega arith))
+          (λ other. compared-other _ r (word m (b + 40)) (omega arith) (omega arith) (λ h. other (omega arith))))))))))
 
   pub relocator_run : (base : ℕ) (offsets : List ℕ) {n status : ℕ} {g : Low} {m : Bytes} {Q : State → Type 0}
       → g.r14 ≡ b + 8 → word m b ≡ 0xE1A00000 → word m (b + 40) ≡ base → base < 2 ^ 32 → S.start + 60 + 4 * length offsets + 4 ≤ S.end → Offsets limit offsets → HasWords S.origin (S.start + 60) (offsets ++ 0xFFFFFFFF ∷ [])
@@ -114,8 +117,8 @@ module _ {W : World} {S : Code W} (w : (i : ℕ) → nat_lt i 15 ≡ true → Re
           longer (omega arith)
           (begins base e14 first based small (λ g' k flags e0 e1 e14' same _ z.
           skip (w 6 refl) (z (eqb-false b base h))
-          (address_2 {x = S.start + 60} (w 7 refl) (omega arith) (omega arith)
-          (list_run ((b + 4294967296 - base) % 4294967296) offsets (S.start + 60) (omega arith) (omega arith) below (omega arith) e0 e1 refl e14' fits words
+          (computes (w 7 refl) address_2 tt
+          (list_run ((b + 4294967296 - base) % 4294967296) offsets (S.start + 60) (omega arith) (omega arith) below (omega arith) e0 e1 (omega arith) e14' fits words
           (λ g s at k q bytes e same'. next g s at k q bytes e (same' ∙ ap (λ (m : Bytes). relocated m b ((b + 4294967296 - base) % 4294967296) offsets) same))))))
 
 -- ---- the zero-init code, in a header at b
@@ -128,20 +131,20 @@ module _ {W : World} {S : Code W} (w : (i : ℕ) → nat_lt i 12 ≡ true → Re
   zero_loop zero {g = g} {m} e small none whole f e14 z next =
       let multiple = S.multiple in
       longer (omega arith)
-      (store_zero (w 8 refl) (w 9 refl) z f (omega arith) (omega arith) whole
-      (count (w 9 refl) z
-      (skip (w 10 refl) (compared-equal _ g.r3 4 small (omega arith) e)
-      (return (w 11 refl) tt (omega arith)
-      (λ good'. next _ _ _ _ good'.quiet good'.bytes e14 (fill m g.r1 g.r0 g.r3 _ 0 none refl e))))))
+          (stores (w 8 refl) (w 9 refl) store_zero z refl f (omega arith) (omega arith) whole
+          (computes (w 9 refl) count z
+          (skip (w 10 refl) (compared-equal _ g.r3 4 small (omega arith) e)
+          (return (w 11 refl) tt (omega arith)
+          (λ good'. next _ _ _ _ good'.quiet good'.bytes e14 (fill m g.r1 g.r0 g.r3 _ 0 none refl e))))))
   zero_loop (suc j) {status = status} {g} {m} e small none whole f e14 z next =
       let room = f.readable.room in
       let again : bit (compared status g.r3 4) 30 ≡ 0 = compared-other status g.r3 4 small (omega arith) (λ h. omega arith) in
       longer (omega arith)
-      (store_zero (w 8 refl) (w 9 refl) z f (omega arith) (omega arith) whole
-      (count (w 9 refl) z
-      (branch (w 10 refl) (w 8 refl) again refl
-      (zero_loop j (omega arith) (omega arith) none (omega arith) (narrowed_free f (omega arith) (omega arith)) e14 again
-      (λ g' s at k q bytes e' same. next g' s at k q bytes e' (same ∙ fill m g.r1 g.r0 g.r3 _ _ none (omega arith) (omega arith)))))))
+          (stores (w 8 refl) (w 9 refl) store_zero z refl f (omega arith) (omega arith) whole
+          (computes (w 9 refl) count z
+          (branch (w 10 refl) (w 8 refl) again refl
+          (zero_loop j (omega arith) (omega arith) none (omega arith) (narrowed_free f (omega arith) (omega arith)) e14 again
+          (λ g' s at k q bytes e' same. next g' s at k q bytes e' (same ∙ fill m g.r1 g.r0 g.r3 _ _ none (omega arith) (omega arith)))))))
 
   -- the zero part behind parts of two sizes
   zero_run : (parts zero_size : ℕ) {n status : ℕ} {g : Low} {m : Bytes} {Q : State → Type 0}
@@ -154,17 +157,17 @@ module _ {W : World} {S : Code W} (w : (i : ℕ) → nat_lt i 12 ≡ true → Re
       let second = still (b + 24) good (omega arith) (omega arith) in
       let size : word m (b + 32) ≡ zero_size = still (b + 32) good (omega arith) (omega arith) ∙ counted in
       longer (omega arith)
-      (back (w 0 refl)
-      (load_1 {x = b + 20} (w 1 refl) (omega arith) S.readable (omega arith) (omega arith) (omega arith)
-      (load_2 {x = b + 24} (w 2 refl) (omega arith) S.readable (omega arith) (omega arith) (omega arith)
-      (load_3 {x = b + 32} (w 3 refl) (omega arith) S.readable (omega arith) (omega arith) (omega arith)
-      (add_01 (w 4 refl)
-      (add_02 (w 5 refl)
-      (clear_1 (w 6 refl)
-      (compare (w 7 refl)
-      (zero_loop (zero_size / 4 - 1) (omega arith) (omega arith) refl (omega arith) (narrowed_free f (omega arith) (omega arith)) e14
-      (compared-other _ (word m (b + 32)) 0 (omega arith) (omega arith) (λ h. omega arith))
-      (λ g' s at k q bytes e same. next g' s at k q bytes e (same ∙ ap₂ (λ (t c : ℕ). store m t (zeros c)) (omega arith) size))))))))))) good
+          (computes (w 0 refl) back tt
+          (loads {x = b + 20} (w 1 refl) load_1 tt (omega arith) S.readable (omega arith) (omega arith) (omega arith)
+          (loads {x = b + 24} (w 2 refl) load_2 tt (omega arith) S.readable (omega arith) (omega arith) (omega arith)
+          (loads {x = b + 32} (w 3 refl) load_3 tt (omega arith) S.readable (omega arith) (omega arith) (omega arith)
+          (computes (w 4 refl) add_01 tt
+          (computes (w 5 refl) add_02 tt
+          (computes (w 6 refl) clear_1 tt
+          (computes (w 7 refl) compare tt
+          (zero_loop (zero_size / 4 - 1) (omega arith) (omega arith) refl (omega arith) (narrowed_free f (omega arith) (omega arith)) e14
+          (compared-other _ (word m (b + 32)) 0 (omega arith) (omega arith) (λ h. omega arith))
+          (λ g' s at k q bytes e same. next g' s at k q bytes e (same ∙ ap₂ (λ (t c : ℕ). store m t (zeros c)) (omega arith) size))))))))))) good
 
 -- ---- the header's two last calls, over a memory with these words from b + 8 on
 
@@ -172,8 +175,14 @@ module _ {W : World} (b : ℕ) (whole : b % 4 ≡ 0) (x : Bytes) (parts zero_siz
   room : b + parts ≤ 4294967296
   room = readable.room
 
+  pub called_whole : (b + 8) % 4 ≡ 0
+  called_whole = omega arith
+
+  pub called_readable : IsReadable W (b + 8) (b + 128)
+  called_readable = narrowed readable (omega arith) (omega (arith, i.parts_low))
+
   abbrev pub called : Code W
-  called = record { origin = x; start = b + 8; end = b + 128; multiple = omega arith; readable = narrowed readable (omega arith) (omega (arith, i.parts_low)) }
+  called = record { origin = x; start = b + 8; end = b + 128; multiple = called_whole; readable = called_readable }
 
   -- a memory in which they stand
   abbrev pub Stands : Bytes → Type 0
@@ -191,13 +200,13 @@ module _ {W : World} (b : ℕ) (whole : b % 4 ≡ 0) (x : Bytes) (parts zero_siz
   clear_run {n} {m} {Q} same f next = from W (b + 8 + 0) (omega arith) (λ g status q bytes. go (zero_size == 0) refl g status (record { quiet = q; same = same; bytes = bytes }))
     where
       zero_words : (i : ℕ) → nat_lt i 12 ≡ true → Reads called (14 + i) (get_or zero_instructions i (SoftwareInterrupt Al 0))
-      zero_words j lt = code_reads called zero_code zero_instructions 14 zero_reads (λ j lt. ap (word x) (omega arith) ∙ i.clear_code j lt) (omega arith) j (ltb-true j 12 lt)
+      zero_words j lt = code_reads called zero_code zero_instructions 14 zero_reads (λ j lt. ap (word x) (omega arith) ∙ i.clear_code j lt) (omega arith) j (14 + j) refl (ltb-true j 12 lt)
 
       go : (c : Bool) → (zero_size == 0) ≡ c → (g : Low) (status : ℕ) → Go called ((if c then 1 else 10 + 3 * (zero_size / 4)) + suc n) g 0 status m Q
       go true h g status =
           let Call : Bool → Type 0 = λ c. word x (b + 8) ≡ (if c then 0xE1A00000 else 0xEB00000C) in
           longer (omega arith)
-          (nothing (word_reads called 0 _ (ap (word x) (omega arith) ∙ subst Call h i.clear_call) (omega arith) reads_nothing)
+          (computes (word_reads called 0 _ (ap (word x) (omega arith) ∙ subst Call h i.clear_call) (omega arith) reads_nothing) nothing tt
           (λ good. entry_run same (λ g s at k q bytes e' same'. next g s at k q bytes e' (same' ∙ ap (λ (z : ℕ). store m (b + parts) (zeros z)) (sym (eqb-true zero_size 0 h)))) _ _ _ _ good.quiet good.bytes (omega arith) refl))
       go false h g status =
           let Call : Bool → Type 0 = λ c. word x (b + 8) ≡ (if c then 0xE1A00000 else 0xEB00000C) in

@@ -5,8 +5,6 @@ use Rattle.std.specs.Prelude.{slice_index}
 use Rattle.std.proofs.Math.ListN.{get_or-append}
 use Rattle.sdt_word.specs.Bytes.{bytes_of, number_of, word}
 use Rattle.sdt_word.proofs.BytesLemmas.{number_of-bytes_of}
-use Rattle.sdt_word.specs.declared.codes.Condition.TheVariants.{Al}
-use Rattle.arm_isa.specs.declared.instr.ArmInstr.TheVariants.{SoftwareInterrupt}
 use Rattle.arm7_model.specs.Memory.{Bytes, Board}
 use Rattle.arm7_model.specs.Registers.{State}
 use Rattle.arm7_model.specs.ArmStep.{arm_condition}
@@ -19,7 +17,9 @@ use Rattle.boot_code.specs.Words.{boot_list, boot_instructions}
 use Rattle.boot_code.specs.Startup.{HasWords, copy_words, zero_words, table_list, copied, cleared, copies_steps, parts_steps, startup_steps, IsEntered}
 use Rattle.boot_code.specs.Boots.{ByteMap, InRanges, CanStart, BootsIn, HoldsWord, HoldsWords, AllCopies, AllParts, CopyPlaced, ZeroPlaced, Places, moved, zeroed}
 use Rattle.boot_code.proofs.WordsRead.{boot_reads}
-use Rattle.boot_code.proofs.CodeSteps.{World, Run, Code, IsFree, Reads, Good, Low, Go, code_reads, longer, still, narrowed_free, begun, skip, branch, compare, take_three, take_two, clear_4, load_0, address_0, enter_0}
+use Rattle.boot_code.proofs.CodeSteps.{World, Run, Code, IsReadable, IsFree, Good, Low, Go, code_reads, longer, still, narrowed_free, begun, skip, branch, enter_0, computes, loads}
+use Rattle.boot_code.proofs.CodeSteps.Computes.{address_0, count, compare, clear_4}
+use Rattle.boot_code.proofs.CodeSteps.Loads.{load_0, take_three, take_two}
 use Rattle.boot_code.proofs.BootLoops.{Copying, IsBoot, Head, Parts, copy_row, clears}
 use Rattle.boot_code.proofs.ViewLemmas.{cleared-at, copied-at, moved-some, zeroed-some, moved-outside, zeroed-outside}
 
@@ -46,11 +46,11 @@ module _ {W : World} {S : Code W} (w : IsBoot S) (files view : ByteMap) (written
       let room = S.readable.room in
       let is_none = still (g.r0 + 4 + 4) good (omega arith) (omega arith) ∙ ap (λ (x : ℕ). word S.origin (x + 4 + 4)) at ∙ none in
       longer (omega arith)
-      (take_three (w 1 refl) S.readable (omega arith) (omega arith) (omega arith)
-      (compare (w 2 refl)
-      (branch (w 3 refl) (w 32 refl) (compared-equal _ _ 0 (omega arith) (omega arith) is_none) refl
-      (clear_4 (w 32 refl)
-      (next _ _ _ (omega arith) refl same))))) good
+          (loads {x = g.r0} (w 1 refl) take_three tt (omega arith) S.readable (omega arith) (omega arith) (omega arith)
+          (computes (w 2 refl) compare tt
+          (branch (w 3 refl) (w 32 refl) (compared-equal _ _ 0 (omega arith) (omega arith) is_none) refl
+          (computes (w 32 refl) clear_4 tt
+          (next _ _ _ (omega arith) refl same))))) good
 
   copies_run : (rows : List CopyRow) (tail : List ℕ) (p : ℕ) {n : ℕ} {m : Bytes} {Q : State → Type 0}
       → AllCopies (CopyPlaced files view written a e) rows → HasWords S.origin p (copy_words rows ++ tail)
@@ -64,9 +64,9 @@ module _ {W : World} {S : Code W} (w : IsBoot S) (files view : ByteMap) (written
       let inside = rw other at high in
       let all = length-append (copy_words rows) tail in
       longer (omega arith)
-      (copy_row w r.source r.target r.size p e1 e2 e3 low (omega arith) whole some c_whole (omega arith) (omega arith) (omega arith) (copying r f)
-      (copies_run rows tail (p + 4 + 4 + 4) fits later (omega arith) (omega arith) more (omega arith)
-      (λ g' f' k' at' same'. (rw other at next) g' f' k' (omega arith) same')) g status k at same)
+          (copy_row w r.source r.target r.size p e1 e2 e3 low (omega arith) whole some c_whole (omega arith) (omega arith) (omega arith) (copying r f)
+          (copies_run rows tail (p + 4 + 4 + 4) fits later (omega arith) (omega arith) more (omega arith)
+          (λ g' f' k' at' same'. (rw other at next) g' f' k' (omega arith) same')) g status k at same)
 
   parts_end : (p entry : ℕ) {m : Bytes} → HasWords S.origin p (0 ∷ 0 ∷ entry ∷ []) → S.start ≤ p → p + 12 ≤ S.end → p % 4 ≡ 0 → entry % 4 ≢ 2
       → Parts w 5 p m (IsEntered entry m)
@@ -75,11 +75,11 @@ module _ {W : World} {S : Code W} (w : IsBoot S) (files view : ByteMap) (written
       let is_none = still (g.r0 + 4) good (omega arith) (omega arith) ∙ ap (λ (x : ℕ). word S.origin (x + 4)) at ∙ w1 in
       let here : (g.r0 + 8) % 4294967296 ≡ p + 4 + 4 = omega arith in
       let is_entry = still ((g.r0 + 8) % 4294967296) good (omega arith) (omega arith) ∙ ap (word S.origin) here ∙ w2 in
-      take_two (w 33 refl) S.readable (omega arith) (omega arith) (omega arith)
-      (compare (w 34 refl)
-      (branch (w 35 refl) (w 40 refl) (compared-equal _ _ 0 (omega arith) (omega arith) is_none) refl
-      (load_0 (w 40 refl) S.readable (omega arith) (omega arith) (omega arith)
-      (enter_0 (w 41 refl) is_entry same fair)))) good
+      loads {x = g.r0} (w 33 refl) take_two tt (omega arith) S.readable (omega arith) (omega arith) (omega arith)
+          (computes (w 34 refl) compare tt
+          (branch (w 35 refl) (w 40 refl) (compared-equal _ _ 0 (omega arith) (omega arith) is_none) refl
+          (loads {x = (g.r0 + 8) % 4294967296} (w 40 refl) load_0 tt (omega arith) S.readable (omega arith) (omega arith) (omega arith)
+          (enter_0 (w 41 refl) is_entry same fair)))) good
 
   parts_run : (rows : List ZeroRow) (entry p : ℕ) {m : Bytes} → AllParts (ZeroPlaced view written a e) rows → HasWords S.origin p (zero_words rows ++ (0 ∷ 0 ∷ entry ∷ []))
       → S.start ≤ p → p + 4 * length (zero_words rows ++ (0 ∷ 0 ∷ entry ∷ [])) ≤ S.end → p % 4 ≡ 0 → entry % 4 ≢ 2
@@ -96,11 +96,11 @@ module _ {W : World} {S : Code W} (w : IsBoot S) (files view : ByteMap) (written
       let b_is : word k g.r0 ≡ r.base = still g.r0 good (omega arith) (omega arith) ∙ ap (word S.origin) at ∙ e1 in
       let c_is : word k (g.r0 + 4) ≡ r.size = still (g.r0 + 4) good (omega arith) (omega arith) ∙ ap (λ (x : ℕ). word S.origin (x + 4)) at ∙ e2 in
       longer (omega arith)
-      (take_two (w 33 refl) S.readable (omega arith) (omega arith) (omega arith)
-      (compare (w 34 refl)
-      (skip (w 35 refl) (compared-other _ (word k (g.r0 + 4)) 0 (omega arith) (omega arith) (λ z. omega arith))
-      (clears w (r.size / 4 - 1) (omega arith) (omega arith) none (omega arith) (narrowed_free (free r f) (omega arith) (omega arith)) (omega arith)
-      (λ g' f' k' at' none' same'. parts_run rows entry (p + 4 + 4) fits later (omega arith) (omega arith) (omega arith) fair g' f' k' at' none' (same' ∙ rw (b_is, c_is, same) refl)))))) good
+          (loads {x = g.r0} (w 33 refl) take_two tt (omega arith) S.readable (omega arith) (omega arith) (omega arith)
+          (computes (w 34 refl) compare tt
+          (skip (w 35 refl) (compared-other _ (word k (g.r0 + 4)) 0 (omega arith) (omega arith) (λ z. omega arith))
+          (clears w (r.size / 4 - 1) (omega arith) (omega arith) none (omega arith) (narrowed_free (free r f) (omega arith) (omega arith)) (omega arith)
+          (λ g' f' k' at' none' same'. parts_run rows entry (p + 4 + 4) fits later (omega arith) (omega arith) (omega arith) fair g' f' k' at' none' (same' ∙ rw (b_is, c_is, same) refl)))))) good
 
   -- the startup code with its table reaches the entry in exactly these steps
   startup_run : (copies : List CopyRow) (parts : List ZeroRow) (entry : ℕ) {status : ℕ} {g : Low} {m : Bytes}
@@ -115,10 +115,10 @@ module _ {W : World} {S : Code W} (w : IsBoot S) (files view : ByteMap) (written
       let some = length-append (zero_words parts) end in
       let (w0, (w1, (w2, later))) = words-after S.origin (S.start + 168) (copy_words copies) tail words in
       longer (omega arith)
-      (address_0 {x = S.start + 168} (w 0 refl) (omega arith) (omega arith)
-      (copies_run copies tail (S.start + 168) copy_fits words (omega arith) (omega arith) (omega arith) (omega arith)
-      (copies_end _ w2 (omega arith) (omega arith) (omega arith)
-      (parts_run parts entry _ part_fits later (omega arith) (omega arith) (omega arith) fair)) _ _ _ refl refl))
+          (computes (w 0 refl) address_0 tt
+          (copies_run copies tail (S.start + 168) copy_fits words (omega arith) (omega arith) (omega arith) (omega arith)
+          (copies_end _ w2 (omega arith) (omega arith) (omega arith)
+          (parts_run parts entry _ part_fits later (omega arith) (omega arith) (omega arith) fair)) _ _ _ (omega arith) refl))
 
 -- ---- a placement
 
@@ -161,27 +161,23 @@ module _ (files view : ByteMap) (written : ℕ → Bool) (copies : List CopyRow)
   counted : length area ≡ 42 + length (table_list copies parts entry)
   counted = length-append boot_list (table_list copies parts entry)
 
-  abbrev code : Code world
-  code = record {
-    origin = s.memory;
-    start = a;
-    end = a + 4 * length area;
-    multiple = p.multiple;
-    readable = record {
-      room = p.room;
-      mapped = λ x low high. let (b, at) = inside files a area x p.area low high in (c.loaded x b at).0;
-      allowed = λ x low high. inl (inside files a area x p.area low high);
-    };
+  area_readable : IsReadable world a (a + 4 * length area)
+  area_readable = record {
+    room = p.room;
+    mapped = λ x low high. let (b, at) = inside files a area x p.area low high in (c.loaded x b at).0;
+    allowed = λ x low high. inl (inside files a area x p.area low high);
   }
+
+  abbrev code : Code world
+  code = record { origin = s.memory; start = a; end = a + 4 * length area; multiple = p.multiple; readable = area_readable }
 
   boot : IsBoot code
   boot i h =
       let some : 1 ≤ length (table_list copies parts entry) =
       omega (arith, length-append (copy_words copies) (0 ∷ 0 ∷ 0 ∷ (zero_words parts ++ (0 ∷ 0 ∷ entry ∷ [])))) in
-      let At : ℕ → Type 0 = λ k. Reads code k (get_or boot_instructions i (SoftwareInterrupt Al 0)) in
-      subst At (omega arith) (code_reads code boot_list boot_instructions 0 boot_reads
+      code_reads code boot_list boot_instructions 0 boot_reads
       (λ i lt. ap (word s.memory) (omega arith) ∙ word-at s.memory a area i area_words (omega (arith, counted)) ∙ get_or-append boot_list (table_list copies parts entry) 0 i lt)
-      (omega (arith, counted, some)) i (ltb-true i 42 h))
+      (omega (arith, counted, some)) i i (omega arith) (ltb-true i 42 h)
 
   off : (b n : ℕ) → (b + n ≤ a) ⊎ (a + (a + 4 * length area - a) ≤ b) → (b + n ≤ a) ⊎ (a + 4 * length area ≤ b)
   off b n (inl h) = inl h

@@ -27,7 +27,8 @@ use Rattle.arm7_model.proofs.Steps.{IsQuiet, quiet-with_flags, state_of, arm_ste
 use Rattle.arm7_model.proofs.Leading.{Leads, here, on, lasting}
 use Rattle.arm7_model.proofs.Placed.{store_words, loads_at, stores_at}
 use Rattle.arm7_model.proofs.MemoryLemmas.{not-eq, load-same, store-below, store-above, bytes-store}
-use Rattle.arm7_model.proofs.TransferLemmas.{Mapped, Writable, in_memory-mapped, loaded-word, stored-word, block_loaded-words, block_stored-words, rotated-zero}
+use Rattle.arm7_model.proofs.TransferLemmas.{Mapped, Writable, in_memory-mapped, loaded-word, stored-word, block_loaded-words, block_stored-words}
+use Rattle.sdt_word.proofs.NumbersLemmas.{rotated-none as rotated-zero}
 use Rattle.std.proofs.lemmas.Bool.{eqb-false}
 use Rattle.boot_code.specs.Startup.{IsEntered}
 use Rattle.boot_code.specs.Aif.{HasCode}
@@ -218,6 +219,78 @@ failed Hi status h = go h
     go (inr z) = grind arith
 failed _ status h = absurd h
 
+-- ---- instructions, and what they make of the registers
+
+-- data processing: where pc is the next word's address, the registers and CPSR after it
+pub data Computes : ArmInstr → Condition → (ℕ → Low → Low) → (ℕ → Low → ℕ) → Type 0 where
+  -- MOV r0,r0
+  nothing : Computes (DataShifted Al Mov false 0 0 0 Lsl 0) Al (λ pc g. g) (λ status g. status)
+  -- ADD r0,pc,#k and ADD r2,pc,#k
+  address_0 : {k : ℕ} → Computes (DataImmediate Al Add false 15 0 0 k) Al (λ pc g. record g { r0 = ((pc + 4) % 4294967296 + k + 0) % 4294967296 }) (λ status g. status)
+  address_2 : {k : ℕ} → Computes (DataImmediate Al Add false 15 2 0 k) Al (λ pc g. record g { r2 = ((pc + 4) % 4294967296 + k + 0) % 4294967296 }) (λ status g. status)
+  -- SUB r0,lr,#k
+  back : {k : ℕ} → Computes (DataImmediate Al Sub false 14 0 0 k) Al (λ pc g. record g { r0 = (g.r14 + (4294967295 - k) + 1) % 4294967296 }) (λ status g. status)
+  -- ADD r3,r3,#k
+  add : {k : ℕ} → Computes (DataImmediate Al Add false 3 3 0 k) Al (λ pc g. record g { r3 = (g.r3 + k + 0) % 4294967296 }) (λ status g. status)
+  -- ADD r1,r1,r3 and ADD r2,r2,r3
+  add_1 : Computes (DataShifted Al Add false 1 1 0 Lsl 3) Al (λ pc g. record g { r1 = (g.r1 + g.r3 + 0) % 4294967296 }) (λ status g. status)
+  add_2 : Computes (DataShifted Al Add false 2 2 0 Lsl 3) Al (λ pc g. record g { r2 = (g.r2 + g.r3 + 0) % 4294967296 }) (λ status g. status)
+  -- ADD r0,r0,r1 and ADD r0,r0,r2
+  add_01 : Computes (DataShifted Al Add false 0 0 0 Lsl 1) Al (λ pc g. record g { r0 = (g.r0 + g.r1 + 0) % 4294967296 }) (λ status g. status)
+  add_02 : Computes (DataShifted Al Add false 0 0 0 Lsl 2) Al (λ pc g. record g { r0 = (g.r0 + g.r2 + 0) % 4294967296 }) (λ status g. status)
+  -- ADDNE r4,r4,r1
+  add_shift : Computes (DataShifted Ne Add false 4 4 0 Lsl 1) Ne (λ pc g. record g { r4 = (g.r4 + g.r1 + 0) % 4294967296 }) (λ status g. status)
+  -- MOV r1,#0 and MOV r4,#0
+  clear_1 : Computes (DataImmediate Al Mov false 0 1 0 0) Al (λ pc g. record g { r1 = 0 }) (λ status g. status)
+  clear_4 : Computes (DataImmediate Al Mov false 0 4 0 0) Al (λ pc g. record g { r4 = 0 }) (λ status g. status)
+  -- SUBS r3,r3,#k and SUBS r1,r0,r1
+  count : {c : Condition} {k : ℕ} → Computes (DataImmediate c Sub true 3 3 0 k) c (λ pc g. record g { r3 = (g.r3 + (4294967295 - k) + 1) % 4294967296 }) (λ status g. compared status g.r3 k)
+  shift : Computes (DataShifted Al Sub true 0 1 0 Lsl 1) Al (λ pc g. record g { r1 = (g.r0 + (4294967295 - g.r1) + 1) % 4294967296 }) (λ status g. compared status g.r0 g.r1)
+  -- CMP r3,#k and CMP r2,r1
+  compare : {k : ℕ} → Computes (DataImmediate Al Cmp true 3 0 0 k) Al (λ pc g. g) (λ status g. compared status g.r3 k)
+  compare_targets : Computes (DataShifted Al Cmp true 2 0 0 Lsl 1) Al (λ pc g. g) (λ status g. compared status g.r2 g.r1)
+  -- CMN r3,#k
+  compare_negative : {k : ℕ} → Computes (DataImmediate Al Cmn true 3 0 0 k) Al (λ pc g. g) (λ status g. added status g.r3 k)
+
+-- a load of n words: its address, and the registers after it from a memory and an address
+pub data Loads : ArmInstr → Condition → ℕ → (ℕ → Low → ℕ) → (Low → Bytes → ℕ → Low) → Type 0 where
+  -- LDR r4,[r1],#4 and LDR r4,[r1,#-4]!
+  load_up : Loads (TransferImmediate Al false true false false true 1 4 4) Al 1 (λ pc g. g.r1) (λ g m x. record g { r1 = (g.r1 + 4) % 4294967296; r4 = word m x })
+  load_down : Loads (TransferImmediate Al true false false true true 1 4 4) Al 1 (λ pc g. (g.r1 + 4294967296 - 4) % 4294967296) (λ g m x. record g { r1 = (g.r1 + 4294967296 - 4) % 4294967296; r4 = word m x })
+  -- LDR r3,[r2],#4
+  load_next : Loads (TransferImmediate Al false true false false true 2 3 4) Al 1 (λ pc g. g.r2) (λ g m x. record g { r2 = (g.r2 + 4) % 4294967296; r3 = word m x })
+  -- LDR r0,[r0,#k], LDR r1,[r0,#k], LDR r2,[r0,#k] and LDR r3,[r0,#k]
+  load_0 : {k : ℕ} → Loads (TransferImmediate Al true true false false true 0 0 k) Al 1 (λ pc g. (g.r0 + k) % 4294967296) (λ g m x. record g { r0 = word m x })
+  load_1 : {k : ℕ} → Loads (TransferImmediate Al true true false false true 0 1 k) Al 1 (λ pc g. (g.r0 + k) % 4294967296) (λ g m x. record g { r1 = word m x })
+  load_2 : {k : ℕ} → Loads (TransferImmediate Al true true false false true 0 2 k) Al 1 (λ pc g. (g.r0 + k) % 4294967296) (λ g m x. record g { r2 = word m x })
+  load_3 : {k : ℕ} → Loads (TransferImmediate Al true true false false true 0 3 k) Al 1 (λ pc g. (g.r0 + k) % 4294967296) (λ g m x. record g { r3 = word m x })
+  -- LDRNE r4,[r0,r3]
+  load_named : Loads (TransferShifted Ne true true false false true 0 4 0 Lsl 3) Ne 1 (λ pc g. (g.r0 + g.r3) % 4294967296) (λ g m x. record g { r4 = word m x })
+  -- LDR r12,[pc]
+  load_entry : Loads (TransferImmediate Al true true false false true 15 12 0) Al 1 (λ pc g. ((pc + 4) % 4294967296 + 0) % 4294967296) (λ g m x. record g { r12 = word m x })
+  -- LDMIA r1!,{r4 to r11} and LDMDB r1!,{r4 to r11}
+  take_up : Loads (TransferBlock Al false true false true true 1 0x0FF0) Al 8 (λ pc g. (g.r1 + 0) % 4294967296) (λ g m x. record (eight g m x) { r1 = (g.r1 + 32) % 4294967296 })
+  take_down : Loads (TransferBlock Al true false false true true 1 0x0FF0) Al 8 (λ pc g. (g.r1 + 4294967296 - 32 + 0) % 4294967296) (λ g m x. record (eight g m x) { r1 = (g.r1 + 4294967296 - 32) % 4294967296 })
+  -- LDMIA r0!,{r1,r2,r3} and LDMIA r0!,{r2,r3}
+  take_three : Loads (TransferBlock Al false true false true true 0 0x000E) Al 3 (λ pc g. (g.r0 + 0) % 4294967296) (λ g m x. record g { r0 = (g.r0 + 12) % 4294967296; r1 = word m x; r2 = word m (x + 4); r3 = word m (x + 4 + 4) })
+  take_two : Loads (TransferBlock Al false true false true true 0 0x000C) Al 2 (λ pc g. (g.r0 + 0) % 4294967296) (λ g m x. record g { r0 = (g.r0 + 8) % 4294967296; r2 = word m x; r3 = word m (x + 4) })
+
+-- a store of words: its address, the words, and the registers after it
+pub data Stores : ArmInstr → Condition → (Low → ℕ) → (Low → List ℕ) → (Low → Low) → Type 0 where
+  -- STR r4,[r2],#4 and STR r4,[r2,#-4]!
+  store_up : Stores (TransferImmediate Al false true false false false 2 4 4) Al (λ g. g.r2) (λ g. g.r4 ∷ []) (λ g. record g { r2 = (g.r2 + 4) % 4294967296 })
+  store_down : Stores (TransferImmediate Al true false false true false 2 4 4) Al (λ g. (g.r2 + 4294967296 - 4) % 4294967296) (λ g. g.r4 ∷ []) (λ g. record g { r2 = (g.r2 + 4294967296 - 4) % 4294967296 })
+  -- STRNE r1,[r0],#4
+  store_zero : Stores (TransferImmediate Ne false true false false false 0 1 4) Ne (λ g. g.r0) (λ g. g.r1 ∷ []) (λ g. record g { r0 = (g.r0 + 4) % 4294967296 })
+  -- STR r0,[r0,#k] and STR r2,[r0,#k]
+  store_0 : {k : ℕ} → Stores (TransferImmediate Al true true false false false 0 0 k) Al (λ g. (g.r0 + k) % 4294967296) (λ g. g.r0 ∷ []) (λ g. g)
+  store_2 : {k : ℕ} → Stores (TransferImmediate Al true true false false false 0 2 k) Al (λ g. (g.r0 + k) % 4294967296) (λ g. g.r2 ∷ []) (λ g. g)
+  -- STRNE r4,[r0,r3]
+  store_named : Stores (TransferShifted Ne true true false false false 0 4 0 Lsl 3) Ne (λ g. (g.r0 + g.r3) % 4294967296) (λ g. g.r4 ∷ []) (λ g. g)
+  -- STMIA r2!,{r4 to r11} and STMDB r2!,{r4 to r11}
+  give_up : Stores (TransferBlock Al false true false true false 2 0x0FF0) Al (λ g. (g.r2 + 0) % 4294967296) listed (λ g. record g { r2 = (g.r2 + 32) % 4294967296 })
+  give_down : Stores (TransferBlock Al true false false true false 2 0x0FF0) Al (λ g. (g.r2 + 4294967296 - 32 + 0) % 4294967296) listed (λ g. record g { r2 = (g.r2 + 4294967296 - 32) % 4294967296 })
+
 -- ---- one step
 
 abbrev working : World → Low → ℕ → ℕ → ℕ → Bytes → List ℕ → Working
@@ -238,12 +311,16 @@ entered W g v status m {entry} e same fair =
 flags : {W : World} {S : Code W} {status : ℕ} {m : Bytes} (a b c : ℕ) → Good S status m → Good S (with_flags status a b c) m
 flags {status = status} a b c good = record { quiet = quiet-with_flags status a b c good.quiet; same = good.same; bytes = good.bytes }
 
+-- the instruction at place i leads to the state s, with these accesses after its fetch
+abbrev Does : {W : World} → Code W → ℕ → Low → ℕ → Bytes → ArmInstr → State → List Access → Type 0
+Does {W} S i g status m instruction s more =
+    Good S status m → (answers : List ℕ)
+    → arm_done (record { board = W.board; before = placed W g (S.start + 4 * i) status m; word = word S.origin (S.start + 4 * i) }) instruction
+    (working W g (S.start + 4 * i) (S.start + 4 * (i + 1)) status m answers)
+    ≡ record { state = s; event = event.Ran; accesses = Fetch (S.start + 4 * i) Word ∷ more }
+
 module _ {W : World} {S : Code W} {n i status : ℕ} {g : Low} {m : Bytes} {Q : State → Type 0} where
-  step : {instruction : ArmInstr} {s : State} (more : List Access) → Reads S i instruction → AreSafe W.Allowed (S.start + 4 * i) more
-      → (Good S status m → (answers : List ℕ)
-      → arm_done (record { board = W.board; before = placed W g (S.start + 4 * i) status m; word = word S.origin (S.start + 4 * i) }) instruction
-      (working W g (S.start + 4 * i) (S.start + 4 * (i + 1)) status m answers)
-      ≡ record { state = s; event = event.Ran; accesses = Fetch (S.start + 4 * i) Word ∷ more })
+  step : {instruction : ArmInstr} {s : State} (more : List Access) → Reads S i instruction → AreSafe W.Allowed (S.start + 4 * i) more → Does S i g status m instruction s more
       → (Good S status m → Run W n s Q) → Go S (suc n) g i status m Q
   step {instruction} {s} more w safe does next good =
       let pc = S.start + 4 * i in
@@ -292,264 +369,71 @@ module _ {W : World} {S : Code W} {n i status : ℕ} {g : Low} {m : Bytes} {Q : 
       let same : g.r14 - g.r14 % 4 ≡ g.r14 = omega arith in
       rw (passed c status h, good.quiet.arm, same) refl)
 
-  -- MOV r0,r0
-  pub nothing : Reads S i (DataShifted Al Mov false 0 0 0 Lsl 0) → Go S n g (i + 1) status m Q → Go S (suc n) g i status m Q
+  -- words that are read, and that are written
+  taken : {instruction : ArmInstr} {h : Low} {lo hi : ℕ} (x k : ℕ) → Reads S i instruction → IsReadable W lo hi → lo ≤ x → x + 4 * k ≤ hi → x % 4 ≡ 0
+      → (x - x % 4 ≡ x → x + 4 * k ≤ 2 ^ 32 → Mapped W.board x (4 * k) → Does S i g status m instruction (placed W h (S.start + 4 * (i + 1)) status m) (loads_at x k))
+      → Go S n h (i + 1) status m Q → Go S (suc n) g i status m Q
+  taken x k w r low high whole does = step (loads_at x k) w (safe_loads (S.start + 4 * i) x k r low high) (does (omega arith) (omega (arith, r.room)) (mapped_at x (4 * k) r low high))
+
+  written : {instruction after : ArmInstr} {h : Low} {lo hi : ℕ} (x : ℕ) (vs : List ℕ) → Reads S i instruction → Reads S (i + 1) after → IsFree S lo hi → lo ≤ x → x + 4 * length vs ≤ hi → x % 4 ≡ 0
+      → (x - x % 4 ≡ x → x + 4 * length vs ≤ 2 ^ 32 → Mapped W.board x (4 * length vs) → Writable W.board x (4 * length vs)
+      → Does S i g status m instruction (placed W h (S.start + 4 * (i + 1)) status (store_words m x vs)) (stores_at x vs))
+      → Go S n h (i + 1) status (store_words m x vs) Q → Go S (suc n) g i status m Q
+  written x vs w next_word f low high whole does next =
+      step (stores_at x vs) w (safe_stores f i x vs (omega (arith, next_word.inside)) low high)
+      (does (omega arith) (omega (arith, f.readable.room)) (mapped_at x (4 * length vs) f.readable low high) (writable_at x (4 * length vs) f low high)) (λ good. next (good_stores f m x vs low high good))
+
+  pub computes : {instruction : ArmInstr} {c : Condition} {f : ℕ → Low → Low} {h : ℕ → Low → ℕ} → Reads S i instruction → Computes instruction c f h → Holds c status
+      → Go S n (f (S.start + 4 * (i + 1)) g) (i + 1) (h status g) m Q → Go S (suc n) g i status m Q
   unfolding row_opens
-  nothing w = step [] w tt (λ good answers. refl)
+  computes w nothing h next = step [] w tt (λ good answers. refl) next
+  computes w (address_0 {k}) h next = step [] w tt (λ good answers. rw (good.quiet.arm, rotated-zero k) refl) next
+  computes w (address_2 {k}) h next = step [] w tt (λ good answers. rw (good.quiet.arm, rotated-zero k) refl) next
+  computes w (back {k}) h next = step [] w tt (λ good answers. rw (rotated-zero k) refl) next
+  computes w (add {k}) h next = step [] w tt (λ good answers. rw (rotated-zero k) refl) next
+  computes w add_1 h next = step [] w tt (λ good answers. refl) next
+  computes w add_2 h next = step [] w tt (λ good answers. refl) next
+  computes w add_01 h next = step [] w tt (λ good answers. refl) next
+  computes w add_02 h next = step [] w tt (λ good answers. refl) next
+  computes w add_shift h next = step [] w tt (λ good answers. rw h refl) next
+  computes w clear_1 h next = step [] w tt (λ good answers. refl) next
+  computes w clear_4 h next = step [] w tt (λ good answers. refl) next
+  computes w (count {c} {k}) h next = step [] w tt (λ good answers. rw (passed c status h, rotated-zero k) refl) (λ good. next (flags _ _ _ good))
+  computes w shift h next = step [] w tt (λ good answers. refl) (λ good. next (flags _ _ _ good))
+  computes w (compare {k}) h next = step [] w tt (λ good answers. rw (rotated-zero k) refl) (λ good. next (flags _ _ _ good))
+  computes w compare_targets h next = step [] w tt (λ good answers. refl) (λ good. next (flags _ _ _ good))
+  computes w (compare_negative {k}) h next = step [] w tt (λ good answers. rw (rotated-zero k) refl) (λ good. next (flags _ _ _ good))
 
-  -- ---- data processing
-
-  -- SUBS r3,r3,#k
-  pub count : {c : Condition} {k : ℕ} → Reads S i (DataImmediate c Sub true 3 3 0 k) → Holds c status
-      → Go S n (record g { r3 = (g.r3 + (4294967295 - k) + 1) % 4294967296 }) (i + 1) (compared status g.r3 k) m Q → Go S (suc n) g i status m Q
+  pub loads : {instruction : ArmInstr} {c : Condition} {k x lo hi : ℕ} {a : ℕ → Low → ℕ} {f : Low → Bytes → ℕ → Low} → Reads S i instruction → Loads instruction c k a f → Holds c status
+      → a (S.start + 4 * (i + 1)) g ≡ x → IsReadable W lo hi → lo ≤ x → x + 4 * k ≤ hi → x % 4 ≡ 0
+      → Go S n (f g m x) (i + 1) status m Q → Go S (suc n) g i status m Q
   unfolding row_opens
-  count {c} {k} w h next = step [] w tt (λ good answers. rw (passed c status h, rotated-zero k) refl) (λ good. next (flags _ _ _ good))
+  loads {x = x} w load_up h e r low high whole = taken x 1 w r low high whole (λ same room mapped good answers. rw e (loaded-word _ x 4 _ _ whole mapped refl))
+  loads {x = x} w load_down h e r low high whole = taken x 1 w r low high whole (λ same room mapped good answers. rw e (loaded-word _ x 4 _ _ whole mapped refl))
+  loads {x = x} w load_next h e r low high whole = taken x 1 w r low high whole (λ same room mapped good answers. rw e (loaded-word _ x 3 _ _ whole mapped refl))
+  loads {x = x} w load_0 h e r low high whole = taken x 1 w r low high whole (λ same room mapped good answers. rw e (loaded-word _ x 0 _ _ whole mapped refl))
+  loads {x = x} w load_1 h e r low high whole = taken x 1 w r low high whole (λ same room mapped good answers. rw e (loaded-word _ x 1 _ _ whole mapped refl))
+  loads {x = x} w load_2 h e r low high whole = taken x 1 w r low high whole (λ same room mapped good answers. rw e (loaded-word _ x 2 _ _ whole mapped refl))
+  loads {x = x} w load_3 h e r low high whole = taken x 1 w r low high whole (λ same room mapped good answers. rw e (loaded-word _ x 3 _ _ whole mapped refl))
+  loads {x = x} w load_named h e r low high whole = taken x 1 w r low high whole (λ same room mapped good answers. rw (h, e) (loaded-word _ x 4 _ _ whole mapped refl))
+  loads {x = x} w load_entry h e r low high whole = taken x 1 w r low high whole (λ same room mapped good answers. rw (good.quiet.arm, e) (loaded-word _ x 12 _ _ whole mapped refl))
+  loads {x = x} w take_up h e r low high whole = taken x 8 w r low high whole (λ same room mapped good answers. rw (e, same) (block_loaded-words _ true (4 ∷ 5 ∷ 6 ∷ 7 ∷ 8 ∷ 9 ∷ 10 ∷ 11 ∷ []) x 1 _ _ room mapped))
+  loads {x = x} w take_down h e r low high whole = taken x 8 w r low high whole (λ same room mapped good answers. rw (e, same) (block_loaded-words _ true (4 ∷ 5 ∷ 6 ∷ 7 ∷ 8 ∷ 9 ∷ 10 ∷ 11 ∷ []) x 1 _ _ room mapped))
+  loads {x = x} w take_three h e r low high whole = taken x 3 w r low high whole (λ same room mapped good answers. rw (e, same) (block_loaded-words _ true (1 ∷ 2 ∷ 3 ∷ []) x 0 _ _ room mapped))
+  loads {x = x} w take_two h e r low high whole = taken x 2 w r low high whole (λ same room mapped good answers. rw (e, same) (block_loaded-words _ true (2 ∷ 3 ∷ []) x 0 _ _ room mapped))
 
-  -- CMP r3,#k
-  pub compare : {k : ℕ} → Reads S i (DataImmediate Al Cmp true 3 0 0 k) → Go S n g (i + 1) (compared status g.r3 k) m Q → Go S (suc n) g i status m Q
+  pub stores : {instruction after : ArmInstr} {c : Condition} {a : Low → ℕ} {vs : Low → List ℕ} {f : Low → Low} {x lo hi : ℕ} → Reads S i instruction → Reads S (i + 1) after → Stores instruction c a vs f → Holds c status
+      → a g ≡ x → IsFree S lo hi → lo ≤ x → x + 4 * length (vs g) ≤ hi → x % 4 ≡ 0
+      → Go S n (f g) (i + 1) status (store_words m x (vs g)) Q → Go S (suc n) g i status m Q
   unfolding row_opens
-  compare {k} w next = step [] w tt (λ good answers. rw (rotated-zero k) refl) (λ good. next (flags _ _ _ good))
-
-  -- ADD r3,r3,#k
-  pub add : {k : ℕ} → Reads S i (DataImmediate Al Add false 3 3 0 k) → Go S n (record g { r3 = (g.r3 + k + 0) % 4294967296 }) (i + 1) status m Q → Go S (suc n) g i status m Q
-  unfolding row_opens
-  add {k} w = step [] w tt (λ good answers. rw (rotated-zero k) refl)
-
-  -- ---- loads and stores
-
-  -- LDR r4,[r1],#4
-  pub load_up : {lo hi : ℕ} → Reads S i (TransferImmediate Al false true false false true 1 4 4) → IsReadable W lo hi → lo ≤ g.r1 → g.r1 + 4 ≤ hi → g.r1 % 4 ≡ 0
-      → Go S n (record g { r1 = (g.r1 + 4) % 4294967296; r4 = word m g.r1 }) (i + 1) status m Q → Go S (suc n) g i status m Q
-  unfolding row_opens
-  load_up w r low high whole = step (Load g.r1 Word ∷ []) w (allowed_at g.r1 4 r low high, tt) (λ good answers. loaded-word _ g.r1 4 _ _ whole (mapped_at g.r1 4 r low high) refl)
-
-  -- STR r4,[r2],#4
-  pub store_up : {lo hi : ℕ} {after : ArmInstr} → Reads S i (TransferImmediate Al false true false false false 2 4 4) → Reads S (i + 1) after → IsFree S lo hi → lo ≤ g.r2 → g.r2 + 4 ≤ hi → g.r2 % 4 ≡ 0
-      → Go S n (record g { r2 = (g.r2 + 4) % 4294967296 }) (i + 1) status (store m g.r2 (bytes_of g.r4 4)) Q → Go S (suc n) g i status m Q
-  unfolding row_opens
-  store_up w v f low high whole next = step (Store g.r2 Word (g.r4 % 256 ^ 4) ∷ []) w (safe_stores f i g.r2 (g.r4 ∷ []) (omega (arith, v.inside)) low high)
-      (λ good answers. stored-word _ g.r2 4 _ _ whole (mapped_at g.r2 4 f.readable low high) (writable_at g.r2 4 f low high))
-      (λ good. next (good_stores f m g.r2 (g.r4 ∷ []) low high good))
-
-  -- LDR r4,[r1,#-4]!
-  pub load_down : {x lo hi : ℕ} → Reads S i (TransferImmediate Al true false false true true 1 4 4) → (g.r1 + 4294967296 - 4) % 4294967296 ≡ x → IsReadable W lo hi → lo ≤ x → x + 4 ≤ hi → x % 4 ≡ 0
-      → Go S n (record g { r1 = x; r4 = word m x }) (i + 1) status m Q → Go S (suc n) g i status m Q
-  unfolding row_opens
-  load_down {x} w e r low high whole = step (Load x Word ∷ []) w (allowed_at x 4 r low high, tt) (λ good answers. rw e (loaded-word _ x 4 _ _ whole (mapped_at x 4 r low high) refl))
-
-  -- STR r4,[r2,#-4]!
-  pub store_down : {x lo hi : ℕ} {after : ArmInstr} → Reads S i (TransferImmediate Al true false false true false 2 4 4) → Reads S (i + 1) after → (g.r2 + 4294967296 - 4) % 4294967296 ≡ x → IsFree S lo hi → lo ≤ x → x + 4 ≤ hi → x % 4 ≡ 0
-      → Go S n (record g { r2 = x }) (i + 1) status (store m x (bytes_of g.r4 4)) Q → Go S (suc n) g i status m Q
-  unfolding row_opens
-  store_down {x} w v e f low high whole next = step (Store x Word (g.r4 % 256 ^ 4) ∷ []) w (safe_stores f i x (g.r4 ∷ []) (omega (arith, v.inside)) low high)
-      (λ good answers. rw e (stored-word _ x 4 _ _ whole (mapped_at x 4 f.readable low high) (writable_at x 4 f low high)))
-      (λ good. next (good_stores f m x (g.r4 ∷ []) low high good))
-
-  -- LDMIA r1!,{r4 to r11}
-  pub take_up : {lo hi : ℕ} → Reads S i (TransferBlock Al false true false true true 1 0x0FF0) → IsReadable W lo hi → lo ≤ g.r1 → g.r1 + 32 ≤ hi → g.r1 % 4 ≡ 0
-      → Go S n (record (eight g m g.r1) { r1 = (g.r1 + 32) % 4294967296 }) (i + 1) status m Q → Go S (suc n) g i status m Q
-  unfolding row_opens
-  take_up w r low high whole = step (loads_at g.r1 8) w (safe_loads (S.start + 4 * i) g.r1 8 r low high) (λ good answers.
-      let room = r.room in
-      let start : (g.r1 + 0) % 4294967296 - (g.r1 + 0) % 4294967296 % 4 ≡ g.r1 = omega arith in
-      rw start (block_loaded-words _ true (4 ∷ 5 ∷ 6 ∷ 7 ∷ 8 ∷ 9 ∷ 10 ∷ 11 ∷ []) g.r1 1 _ _ (omega arith) (mapped_at g.r1 32 r low high)))
-
-  -- STMIA r2!,{r4 to r11}
-  pub give_up : {lo hi : ℕ} {after : ArmInstr} → Reads S i (TransferBlock Al false true false true false 2 0x0FF0) → Reads S (i + 1) after → IsFree S lo hi → lo ≤ g.r2 → g.r2 + 32 ≤ hi → g.r2 % 4 ≡ 0
-      → Go S n (record g { r2 = (g.r2 + 32) % 4294967296 }) (i + 1) status (store_words m g.r2 (listed g)) Q → Go S (suc n) g i status m Q
-  unfolding row_opens
-  give_up w v f low high whole next = step (stores_at g.r2 (listed g)) w (safe_stores f i g.r2 (listed g) (omega (arith, v.inside)) low high)
-      (λ good answers.
-      let room = f.readable.room in
-      let start : (g.r2 + 0) % 4294967296 - (g.r2 + 0) % 4294967296 % 4 ≡ g.r2 = omega arith in
-      rw start (block_stored-words _ true (4 ∷ 5 ∷ 6 ∷ 7 ∷ 8 ∷ 9 ∷ 10 ∷ 11 ∷ []) g.r2 2 _ _ (omega arith) (mapped_at g.r2 32 f.readable low high) (writable_at g.r2 32 f low high)))
-      (λ good. next (good_stores f m g.r2 (listed g) low high good))
-
-  -- LDMDB r1!,{r4 to r11}
-  pub take_down : {x lo hi : ℕ} → Reads S i (TransferBlock Al true false false true true 1 0x0FF0) → (g.r1 + 4294967296 - 32) % 4294967296 ≡ x → IsReadable W lo hi → lo ≤ x → x + 32 ≤ hi → x % 4 ≡ 0
-      → Go S n (record (eight g m x) { r1 = x }) (i + 1) status m Q → Go S (suc n) g i status m Q
-  unfolding row_opens
-  take_down {x} w e r low high whole = step (loads_at x 8) w (safe_loads (S.start + 4 * i) x 8 r low high) (λ good answers.
-      let room = r.room in
-      let start : (g.r1 + 4294967296 - 32 + 0) % 4294967296 - (g.r1 + 4294967296 - 32 + 0) % 4294967296 % 4 ≡ x = omega arith in
-      rw (start, e) (block_loaded-words _ true (4 ∷ 5 ∷ 6 ∷ 7 ∷ 8 ∷ 9 ∷ 10 ∷ 11 ∷ []) x 1 _ _ (omega arith) (mapped_at x 32 r low high)))
-
-  -- STMDB r2!,{r4 to r11}
-  pub give_down : {x lo hi : ℕ} {after : ArmInstr} → Reads S i (TransferBlock Al true false false true false 2 0x0FF0) → Reads S (i + 1) after → (g.r2 + 4294967296 - 32) % 4294967296 ≡ x → IsFree S lo hi → lo ≤ x → x + 32 ≤ hi → x % 4 ≡ 0
-      → Go S n (record g { r2 = x }) (i + 1) status (store_words m x (listed g)) Q → Go S (suc n) g i status m Q
-  unfolding row_opens
-  give_down {x} w v e f low high whole next = step (stores_at x (listed g)) w (safe_stores f i x (listed g) (omega (arith, v.inside)) low high)
-      (λ good answers.
-      let room = f.readable.room in
-      let start : (g.r2 + 4294967296 - 32 + 0) % 4294967296 - (g.r2 + 4294967296 - 32 + 0) % 4294967296 % 4 ≡ x = omega arith in
-      rw (start, e) (block_stored-words _ true (4 ∷ 5 ∷ 6 ∷ 7 ∷ 8 ∷ 9 ∷ 10 ∷ 11 ∷ []) x 2 _ _ (omega arith) (mapped_at x 32 f.readable low high) (writable_at x 32 f low high)))
-      (λ good. next (good_stores f m x (listed g) low high good))
-
-  -- LDMIA r0!,{r1,r2,r3}
-  pub take_three : {lo hi : ℕ} → Reads S i (TransferBlock Al false true false true true 0 0x000E) → IsReadable W lo hi → lo ≤ g.r0 → g.r0 + 12 ≤ hi → g.r0 % 4 ≡ 0
-      → Go S n (record g { r0 = (g.r0 + 12) % 4294967296; r1 = word m g.r0; r2 = word m (g.r0 + 4); r3 = word m (g.r0 + 4 + 4) }) (i + 1) status m Q → Go S (suc n) g i status m Q
-  unfolding row_opens
-  take_three w r low high whole = step (loads_at g.r0 3) w (safe_loads (S.start + 4 * i) g.r0 3 r low high) (λ good answers.
-      let room = r.room in
-      let start : (g.r0 + 0) % 4294967296 - (g.r0 + 0) % 4294967296 % 4 ≡ g.r0 = omega arith in
-      rw start (block_loaded-words _ true (1 ∷ 2 ∷ 3 ∷ []) g.r0 0 _ _ (omega arith) (mapped_at g.r0 12 r low high)))
-
-  -- LDMIA r0!,{r2,r3}
-  pub take_two : {lo hi : ℕ} → Reads S i (TransferBlock Al false true false true true 0 0x000C) → IsReadable W lo hi → lo ≤ g.r0 → g.r0 + 8 ≤ hi → g.r0 % 4 ≡ 0
-      → Go S n (record g { r0 = (g.r0 + 8) % 4294967296; r2 = word m g.r0; r3 = word m (g.r0 + 4) }) (i + 1) status m Q → Go S (suc n) g i status m Q
-  unfolding row_opens
-  take_two w r low high whole = step (loads_at g.r0 2) w (safe_loads (S.start + 4 * i) g.r0 2 r low high) (λ good answers.
-      let room = r.room in
-      let start : (g.r0 + 0) % 4294967296 - (g.r0 + 0) % 4294967296 % 4 ≡ g.r0 = omega arith in
-      rw start (block_loaded-words _ true (2 ∷ 3 ∷ []) g.r0 0 _ _ (omega arith) (mapped_at g.r0 8 r low high)))
-
-  -- LDR r0,[r0]
-  pub load_0 : {lo hi : ℕ} → Reads S i (TransferImmediate Al true true false false true 0 0 0) → IsReadable W lo hi → lo ≤ g.r0 → g.r0 + 4 ≤ hi → g.r0 % 4 ≡ 0
-      → Go S n (record g { r0 = word m g.r0 }) (i + 1) status m Q → Go S (suc n) g i status m Q
-  unfolding row_opens
-  load_0 w r low high whole = step (Load g.r0 Word ∷ []) w (allowed_at g.r0 4 r low high, tt) (λ good answers.
-      let room = r.room in
-      let here : (g.r0 + 0) % 4294967296 ≡ g.r0 = omega arith in
-      rw here (loaded-word _ g.r0 0 _ _ whole (mapped_at g.r0 4 r low high) refl))
-
-  -- ADD r0,pc,#k
-  pub address_0 : {k x : ℕ} → Reads S i (DataImmediate Al Add false 15 0 0 k) → S.start + 4 * i + 8 + k ≡ x → x < 2 ^ 32
-      → Go S n (record g { r0 = x }) (i + 1) status m Q → Go S (suc n) g i status m Q
-  unfolding row_opens
-  address_0 {k} {x} w e fits = step [] w tt (λ good answers.
-      let here : ((S.start + 4 * (i + 1) + 4) % 4294967296 + k + 0) % 4294967296 ≡ x = omega arith in
-      rw (good.quiet.arm, rotated-zero k, here) refl)
-
-  -- MOV r4,#0
-  pub clear_4 : Reads S i (DataImmediate Al Mov false 0 4 0 0) → Go S n (record g { r4 = 0 }) (i + 1) status m Q → Go S (suc n) g i status m Q
-  unfolding row_opens
-  clear_4 w = step [] w tt (λ good answers. refl)
-
-  -- ADD r1,r1,r3 and ADD r2,r2,r3
-  pub add_1 : Reads S i (DataShifted Al Add false 1 1 0 Lsl 3) → Go S n (record g { r1 = (g.r1 + g.r3 + 0) % 4294967296 }) (i + 1) status m Q → Go S (suc n) g i status m Q
-  unfolding row_opens
-  add_1 w = step [] w tt (λ good answers. refl)
-
-  pub add_2 : Reads S i (DataShifted Al Add false 2 2 0 Lsl 3) → Go S n (record g { r2 = (g.r2 + g.r3 + 0) % 4294967296 }) (i + 1) status m Q → Go S (suc n) g i status m Q
-  unfolding row_opens
-  add_2 w = step [] w tt (λ good answers. refl)
-
-  -- CMP r2,r1
-  pub compare_targets : Reads S i (DataShifted Al Cmp true 2 0 0 Lsl 1) → Go S n g (i + 1) (compared status g.r2 g.r1) m Q → Go S (suc n) g i status m Q
-  unfolding row_opens
-  compare_targets w next = step [] w tt (λ good answers. refl) (λ good. next (flags _ _ _ good))
-
-  -- ---- the zero-init code, the relocator and a veneer
-
-  -- SUB r0,lr,#k
-  pub back : {k : ℕ} → Reads S i (DataImmediate Al Sub false 14 0 0 k) → Go S n (record g { r0 = (g.r14 + (4294967295 - k) + 1) % 4294967296 }) (i + 1) status m Q → Go S (suc n) g i status m Q
-  unfolding row_opens
-  back {k} w = step [] w tt (λ good answers. rw (rotated-zero k) refl)
-
-  -- LDR r1,[r0,#k], LDR r2,[r0,#k] and LDR r3,[r0,#k]
-  pub load_1 : {k x lo hi : ℕ} → Reads S i (TransferImmediate Al true true false false true 0 1 k) → (g.r0 + k) % 4294967296 ≡ x → IsReadable W lo hi → lo ≤ x → x + 4 ≤ hi → x % 4 ≡ 0
-      → Go S n (record g { r1 = word m x }) (i + 1) status m Q → Go S (suc n) g i status m Q
-  unfolding row_opens
-  load_1 {x = x} w e r low high whole = step (Load x Word ∷ []) w (allowed_at x 4 r low high, tt) (λ good answers. rw e (loaded-word _ x 1 _ _ whole (mapped_at x 4 r low high) refl))
-
-  pub load_2 : {k x lo hi : ℕ} → Reads S i (TransferImmediate Al true true false false true 0 2 k) → (g.r0 + k) % 4294967296 ≡ x → IsReadable W lo hi → lo ≤ x → x + 4 ≤ hi → x % 4 ≡ 0
-      → Go S n (record g { r2 = word m x }) (i + 1) status m Q → Go S (suc n) g i status m Q
-  unfolding row_opens
-  load_2 {x = x} w e r low high whole = step (Load x Word ∷ []) w (allowed_at x 4 r low high, tt) (λ good answers. rw e (loaded-word _ x 2 _ _ whole (mapped_at x 4 r low high) refl))
-
-  pub load_3 : {k x lo hi : ℕ} → Reads S i (TransferImmediate Al true true false false true 0 3 k) → (g.r0 + k) % 4294967296 ≡ x → IsReadable W lo hi → lo ≤ x → x + 4 ≤ hi → x % 4 ≡ 0
-      → Go S n (record g { r3 = word m x }) (i + 1) status m Q → Go S (suc n) g i status m Q
-  unfolding row_opens
-  load_3 {x = x} w e r low high whole = step (Load x Word ∷ []) w (allowed_at x 4 r low high, tt) (λ good answers. rw e (loaded-word _ x 3 _ _ whole (mapped_at x 4 r low high) refl))
-
-  -- ADD r0,r0,r1 and ADD r0,r0,r2
-  pub add_01 : Reads S i (DataShifted Al Add false 0 0 0 Lsl 1) → Go S n (record g { r0 = (g.r0 + g.r1 + 0) % 4294967296 }) (i + 1) status m Q → Go S (suc n) g i status m Q
-  unfolding row_opens
-  add_01 w = step [] w tt (λ good answers. refl)
-
-  pub add_02 : Reads S i (DataShifted Al Add false 0 0 0 Lsl 2) → Go S n (record g { r0 = (g.r0 + g.r2 + 0) % 4294967296 }) (i + 1) status m Q → Go S (suc n) g i status m Q
-  unfolding row_opens
-  add_02 w = step [] w tt (λ good answers. refl)
-
-  -- MOV r1,#0
-  pub clear_1 : Reads S i (DataImmediate Al Mov false 0 1 0 0) → Go S n (record g { r1 = 0 }) (i + 1) status m Q → Go S (suc n) g i status m Q
-  unfolding row_opens
-  clear_1 w = step [] w tt (λ good answers. refl)
-
-  -- STRNE r1,[r0],#4
-  pub store_zero : {lo hi : ℕ} {after : ArmInstr} → Reads S i (TransferImmediate Ne false true false false false 0 1 4) → Reads S (i + 1) after → bit status 30 ≡ 0 → IsFree S lo hi → lo ≤ g.r0 → g.r0 + 4 ≤ hi → g.r0 % 4 ≡ 0
-      → Go S n (record g { r0 = (g.r0 + 4) % 4294967296 }) (i + 1) status (store m g.r0 (bytes_of g.r1 4)) Q → Go S (suc n) g i status m Q
-  unfolding row_opens
-  store_zero w v z f low high whole next = step (Store g.r0 Word (g.r1 % 256 ^ 4) ∷ []) w (safe_stores f i g.r0 (g.r1 ∷ []) (omega (arith, v.inside)) low high)
-      (λ good answers. rw z (stored-word _ g.r0 1 _ _ whole (mapped_at g.r0 4 f.readable low high) (writable_at g.r0 4 f low high)))
-      (λ good. next (good_stores f m g.r0 (g.r1 ∷ []) low high good))
-
-  -- SUBS r1,r0,r1
-  pub shift : Reads S i (DataShifted Al Sub true 0 1 0 Lsl 1) → Go S n (record g { r1 = (g.r0 + (4294967295 - g.r1) + 1) % 4294967296 }) (i + 1) (compared status g.r0 g.r1) m Q → Go S (suc n) g i status m Q
-  unfolding row_opens
-  shift w next = step [] w tt (λ good answers. refl) (λ good. next (flags _ _ _ good))
-
-  -- STR r0,[r0,#k] and STR r2,[r0,#k]
-  pub store_0 : {k x lo hi : ℕ} {after : ArmInstr} → Reads S i (TransferImmediate Al true true false false false 0 0 k) → Reads S (i + 1) after → (g.r0 + k) % 4294967296 ≡ x → IsFree S lo hi → lo ≤ x → x + 4 ≤ hi → x % 4 ≡ 0
-      → Go S n g (i + 1) status (store m x (bytes_of g.r0 4)) Q → Go S (suc n) g i status m Q
-  unfolding row_opens
-  store_0 {x = x} w v e f low high whole next = step (Store x Word (g.r0 % 256 ^ 4) ∷ []) w (safe_stores f i x (g.r0 ∷ []) (omega (arith, v.inside)) low high)
-      (λ good answers. rw e (stored-word _ x 0 _ _ whole (mapped_at x 4 f.readable low high) (writable_at x 4 f low high)))
-      (λ good. next (good_stores f m x (g.r0 ∷ []) low high good))
-
-  pub store_2 : {k x lo hi : ℕ} {after : ArmInstr} → Reads S i (TransferImmediate Al true true false false false 0 2 k) → Reads S (i + 1) after → (g.r0 + k) % 4294967296 ≡ x → IsFree S lo hi → lo ≤ x → x + 4 ≤ hi → x % 4 ≡ 0
-      → Go S n g (i + 1) status (store m x (bytes_of g.r2 4)) Q → Go S (suc n) g i status m Q
-  unfolding row_opens
-  store_2 {x = x} w v e f low high whole next = step (Store x Word (g.r2 % 256 ^ 4) ∷ []) w (safe_stores f i x (g.r2 ∷ []) (omega (arith, v.inside)) low high)
-      (λ good answers. rw e (stored-word _ x 2 _ _ whole (mapped_at x 4 f.readable low high) (writable_at x 4 f low high)))
-      (λ good. next (good_stores f m x (g.r2 ∷ []) low high good))
-
-  -- ADD r2,pc,#k
-  pub address_2 : {k x : ℕ} → Reads S i (DataImmediate Al Add false 15 2 0 k) → S.start + 4 * i + 8 + k ≡ x → x < 2 ^ 32
-      → Go S n (record g { r2 = x }) (i + 1) status m Q → Go S (suc n) g i status m Q
-  unfolding row_opens
-  address_2 {k} {x} w e fits = step [] w tt (λ good answers.
-      let here : ((S.start + 4 * (i + 1) + 4) % 4294967296 + k + 0) % 4294967296 ≡ x = omega arith in
-      rw (good.quiet.arm, rotated-zero k, here) refl)
-
-  -- LDR r3,[r2],#4
-  pub load_next : {lo hi : ℕ} → Reads S i (TransferImmediate Al false true false false true 2 3 4) → IsReadable W lo hi → lo ≤ g.r2 → g.r2 + 4 ≤ hi → g.r2 % 4 ≡ 0
-      → Go S n (record g { r2 = (g.r2 + 4) % 4294967296; r3 = word m g.r2 }) (i + 1) status m Q → Go S (suc n) g i status m Q
-  unfolding row_opens
-  load_next w r low high whole = step (Load g.r2 Word ∷ []) w (allowed_at g.r2 4 r low high, tt) (λ good answers. loaded-word _ g.r2 3 _ _ whole (mapped_at g.r2 4 r low high) refl)
-
-  -- CMN r3,#k
-  pub compare_negative : {k : ℕ} → Reads S i (DataImmediate Al Cmn true 3 0 0 k) → Go S n g (i + 1) (added status g.r3 k) m Q → Go S (suc n) g i status m Q
-  unfolding row_opens
-  compare_negative {k} w next = step [] w tt (λ good answers. rw (rotated-zero k) refl) (λ good. next (flags _ _ _ good))
-
-  -- LDRNE r4,[r0,r3]
-  pub load_named : {x lo hi : ℕ} → Reads S i (TransferShifted Ne true true false false true 0 4 0 Lsl 3) → bit status 30 ≡ 0 → (g.r0 + g.r3) % 4294967296 ≡ x → IsReadable W lo hi → lo ≤ x → x + 4 ≤ hi → x % 4 ≡ 0
-      → Go S n (record g { r4 = word m x }) (i + 1) status m Q → Go S (suc n) g i status m Q
-  unfolding row_opens
-  load_named {x} w z e r low high whole = step (Load x Word ∷ []) w (allowed_at x 4 r low high, tt) (λ good answers. rw (z, e) (loaded-word _ x 4 _ _ whole (mapped_at x 4 r low high) refl))
-
-  -- ADDNE r4,r4,r1
-  pub add_shift : Reads S i (DataShifted Ne Add false 4 4 0 Lsl 1) → bit status 30 ≡ 0 → Go S n (record g { r4 = (g.r4 + g.r1 + 0) % 4294967296 }) (i + 1) status m Q → Go S (suc n) g i status m Q
-  unfolding row_opens
-  add_shift w z = step [] w tt (λ good answers. rw z refl)
-
-  -- STRNE r4,[r0,r3]
-  pub store_named : {x lo hi : ℕ} {after : ArmInstr} → Reads S i (TransferShifted Ne true true false false false 0 4 0 Lsl 3) → Reads S (i + 1) after → bit status 30 ≡ 0 → (g.r0 + g.r3) % 4294967296 ≡ x → IsFree S lo hi → lo ≤ x → x + 4 ≤ hi → x % 4 ≡ 0
-      → Go S n g (i + 1) status (store m x (bytes_of g.r4 4)) Q → Go S (suc n) g i status m Q
-  unfolding row_opens
-  store_named {x} w v z e f low high whole next = step (Store x Word (g.r4 % 256 ^ 4) ∷ []) w (safe_stores f i x (g.r4 ∷ []) (omega (arith, v.inside)) low high)
-      (λ good answers. rw (z, e) (stored-word _ x 4 _ _ whole (mapped_at x 4 f.readable low high) (writable_at x 4 f low high)))
-      (λ good. next (good_stores f m x (g.r4 ∷ []) low high good))
-
-  -- LDR r12,[pc]
-  pub load_entry : {x lo hi : ℕ} → Reads S i (TransferImmediate Al true true false false true 15 12 0) → S.start + 4 * i + 8 ≡ x → IsReadable W lo hi → lo ≤ x → x + 4 ≤ hi → x % 4 ≡ 0
-      → Go S n (record g { r12 = word m x }) (i + 1) status m Q → Go S (suc n) g i status m Q
-  unfolding row_opens
-  load_entry {x} w e r low high whole = step (Load x Word ∷ []) w (allowed_at x 4 r low high, tt) (λ good answers.
-      let room = r.room in
-      let here : ((S.start + 4 * (i + 1) + 4) % 4294967296 + 0) % 4294967296 ≡ x = omega arith in
-      rw (good.quiet.arm, here) (loaded-word _ x 12 _ _ whole (mapped_at x 4 r low high) refl))
+  stores {x = x} w v store_up h e f low high whole = written x (g.r4 ∷ []) w v f low high whole (λ same room mapped writable good answers. rw e (stored-word _ x 4 _ _ whole mapped writable))
+  stores {x = x} w v store_down h e f low high whole = written x (g.r4 ∷ []) w v f low high whole (λ same room mapped writable good answers. rw e (stored-word _ x 4 _ _ whole mapped writable))
+  stores {x = x} w v store_zero h e f low high whole = written x (g.r1 ∷ []) w v f low high whole (λ same room mapped writable good answers. rw (h, e) (stored-word _ x 1 _ _ whole mapped writable))
+  stores {x = x} w v store_0 h e f low high whole = written x (g.r0 ∷ []) w v f low high whole (λ same room mapped writable good answers. rw e (stored-word _ x 0 _ _ whole mapped writable))
+  stores {x = x} w v store_2 h e f low high whole = written x (g.r2 ∷ []) w v f low high whole (λ same room mapped writable good answers. rw e (stored-word _ x 2 _ _ whole mapped writable))
+  stores {x = x} w v store_named h e f low high whole = written x (g.r4 ∷ []) w v f low high whole (λ same room mapped writable good answers. rw (h, e) (stored-word _ x 4 _ _ whole mapped writable))
+  stores {x = x} w v give_up h e f low high whole = written x (listed g) w v f low high whole (λ same room mapped writable good answers. rw (e, same) (block_stored-words _ true (4 ∷ 5 ∷ 6 ∷ 7 ∷ 8 ∷ 9 ∷ 10 ∷ 11 ∷ []) x 2 _ _ room mapped writable))
+  stores {x = x} w v give_down h e f low high whole = written x (listed g) w v f low high whole (λ same room mapped writable good answers. rw (e, same) (block_stored-words _ true (4 ∷ 5 ∷ 6 ∷ 7 ∷ 8 ∷ 9 ∷ 10 ∷ 11 ∷ []) x 2 _ _ room mapped writable))
 
 -- BX r0 and BX r12, to the entry
 pub enter_0 : {W : World} {S : Code W} {i status entry : ℕ} {g : Low} {m final : Bytes} → Reads S i (BranchExchange Al 0) → g.r0 ≡ entry → m ≡ final → entry % 4 ≢ 2 → Go S 1 g i status m (IsEntered entry final)
@@ -579,10 +463,10 @@ listed_all (x ∷ l) = ap (λ (r : List ℕ). x ∷ r) (listed_all l)
 pub begun : (board : Board) (Allowed : ℕ → Type 0) (s : State) (pc : ℕ) {n : ℕ} {Q : State → Type 0} → length s.core.r ≡ 16 → register s.core 15 ≡ pc
     → let W : World = record { board = board; Allowed = Allowed; rest = s.core } in ((g : Low) → Run W n (placed W g pc s.core.cpsr s.memory) Q) → Run W n s Q
 unfolding register
-begun board Allowed s pc {n} {Q} count at run =
+begun board Allowed s pc {n} {Q} sixteen at run =
     let W : World = record { board = board; Allowed = Allowed; rest = s.core } in
     let From : List ℕ → Type 0 = λ r. Run W n (state_of s.core r s.core.cpsr s.memory) Q in
-    let all : s.core.r ≡ tabulated (slice_index s.core.r) 16 = listed_all s.core.r ∙ ap (tabulated (slice_index s.core.r)) count in
+    let all : s.core.r ≡ tabulated (slice_index s.core.r) 16 = listed_all s.core.r ∙ ap (tabulated (slice_index s.core.r)) sixteen in
     subst From (sym (all ∙ ap (all_of (low_of s.core.r)) at)) (run (low_of s.core.r))
 
 -- ---- the words of the code
@@ -599,5 +483,5 @@ word_reads S i v {instruction} same room reads = let At : ℕ → Type 0 = λ v.
 
 -- each word of a list that stands at the start reads as the instruction in its place
 pub code_reads : {W : World} (S : Code W) (ws : List ℕ) (is : List ArmInstr) (k : ℕ) → ReadAs ws is → HasCode S.origin (S.start + 4 * k) ws → S.start + 4 * k + 4 * length ws + 4 ≤ S.end
-    → (i : ℕ) → i < length ws → Reads S (k + i) (get_or is i (SoftwareInterrupt Al 0))
-code_reads S ws is k reads has room i lt = word_reads S (k + i) (get_or ws i 0) (ap (word S.origin) (omega arith) ∙ has i lt) (omega arith) (reads_at ws is i reads lt)
+    → (i j : ℕ) → j ≡ k + i → i < length ws → Reads S j (get_or is i (SoftwareInterrupt Al 0))
+code_reads S ws is k reads has room i j e lt = word_reads S j (get_or ws i 0) (ap (word S.origin) (omega arith) ∙ has i lt) (omega arith) (reads_at ws is i reads lt)

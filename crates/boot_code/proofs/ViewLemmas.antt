@@ -22,6 +22,23 @@ covers-true b n x h = grind (arith)
 pub covers-false : (b n x : ℕ) → covers b n x ≡ false → (x < b) ⊎ (b + n ≤ x)
 covers-false b n x h = grind (arith)
 
+pub covers-off : (b n x : ℕ) → (x < b) ⊎ (b + n ≤ x) → covers b n x ≡ false
+covers-off b n x (inl h) = grind arith
+covers-off b n x (inr h) = grind arith
+
+-- ---- what a store leaves
+
+pub apart_store : (m : Bytes) (a : ℕ) (bs : List ℕ) (x : ℕ) → (x < a) ⊎ (a + length bs ≤ x) → store m a bs x ≡ m x
+apart_store m a bs x (inl h) = store-below m a bs x h
+apart_store m a bs x (inr h) = store-above m a bs x h
+
+store-covered : (m : Bytes) (a : ℕ) (bs : List ℕ) (x : ℕ) → store m a bs x ≡ (if covers a (length bs) x then get_or bs (x - a) 0 else m x)
+store-covered m a bs x = go (covers a (length bs) x) refl
+  where
+    go : (c : Bool) → covers a (length bs) x ≡ c → store m a bs x ≡ (if c then get_or bs (x - a) 0 else m x)
+    go true h = let inside = covers-true a (length bs) x h in store-in m a bs x inside.0 inside.1
+    go false h = apart_store m a bs x (covers-false a (length bs) x h)
+
 -- ---- zero fills
 
 get_or-zeros : (n k : ℕ) → get_or (zeros n) k 0 ≡ 0
@@ -29,19 +46,11 @@ get_or-zeros zero k = refl
 get_or-zeros (suc n) zero = refl
 get_or-zeros (suc n) (suc k) = get_or-zeros n k
 
-fill-at : (m : Bytes) (b n x : ℕ) (c : Bool) → covers b n x ≡ c → store m b (zeros n) x ≡ (if c then 0 else m x)
-fill-at m b n x true h =
-    let inside = covers-true b n x h in
-    let size = length-zeros n in
-    store-in m b (zeros n) x inside.0 (omega (arith, size, inside.1)) ∙ get_or-zeros n (x - b)
-fill-at m b n x false h = go (covers-false b n x h)
-  where
-    go : (x < b) ⊎ (b + n ≤ x) → store m b (zeros n) x ≡ m x
-    go (inl lt) = store-below m b (zeros n) x lt
-    go (inr le) = store-above m b (zeros n) x (omega (arith, length-zeros n))
+fill-at : (m : Bytes) (b n x : ℕ) → store m b (zeros n) x ≡ (if covers b n x then 0 else m x)
+fill-at m b n x = store-covered m b (zeros n) x ∙ rw (length-zeros n, get_or-zeros n (x - b)) refl
 
 zeroed-fill : (m : Bytes) (b n : ℕ) (rows : List ZeroRow) (x : ℕ) → zeroed 0 (store m b (zeros n)) rows x ≡ (if covers b n x then 0 else zeroed 0 m rows x)
-zeroed-fill m b n [] x = fill-at m b n x (covers b n x) refl
+zeroed-fill m b n [] x = fill-at m b n x
 zeroed-fill m b n (r ∷ rows) x = go (covers r.base r.size x) (covers b n x) (zeroed-fill m b n rows x)
   where
     go : (d c : Bool) → zeroed 0 (store m b (zeros n)) rows x ≡ (if c then 0 else zeroed 0 m rows x)
@@ -56,37 +65,20 @@ cleared-at m (r ∷ rows) x = cleared-at (store m r.base (zeros r.size)) rows x 
 
 -- ---- copies
 
-copy-at : (m : Bytes) (s t n x : ℕ) (c : Bool) → covers t n x ≡ c → store m t (load m s n) x ≡ (if c then m (s + (x - t)) else m x)
-copy-at m s t n x true h =
-    let inside = covers-true t n x h in
-    let size = length-load m s n in
-    store-in m t (load m s n) x inside.0 (omega (arith, size, inside.1)) ∙ get_or-load m s n (x - t) (omega (arith, inside.0, inside.1))
-copy-at m s t n x false h = go (covers-false t n x h)
+copy-at : (m : Bytes) (s t n x : ℕ) → store m t (load m s n) x ≡ (if covers t n x then m (s + (x - t)) else m x)
+copy-at m s t n x = store-covered m t (load m s n) x ∙ rw (length-load m s n) (go (covers t n x) refl)
   where
-    go : (x < t) ⊎ (t + n ≤ x) → store m t (load m s n) x ≡ m x
-    go (inl lt) = store-below m t (load m s n) x lt
-    go (inr le) = store-above m t (load m s n) x (omega (arith, length-load m s n))
-
--- an address off the target keeps its byte
-off_target : (m : Bytes) (s t n x : ℕ) → (x < t) ⊎ (t + n ≤ x) → store m t (load m s n) x ≡ m x
-off_target m s t n x (inl lt) = store-below m t (load m s n) x lt
-off_target m s t n x (inr le) = store-above m t (load m s n) x (omega (arith, length-load m s n))
+    go : (c : Bool) → covers t n x ≡ c → (if c then get_or (load m s n) (x - t) 0 else m x) ≡ (if c then m (s + (x - t)) else m x)
+    go true h = let inside = covers-true t n x h in get_or-load m s n (x - t) (omega (arith, inside.0, inside.1))
+    go false h = refl
 
 beside : (b n c k x : ℕ) → AreApart b n c k → c ≤ x → x < c + k → (x < b) ⊎ (b + n ≤ x)
 beside b n c k x (inl h) low high = inr (omega arith)
 beside b n c k x (inr h) low high = inl (omega arith)
 
-not_both : (b n c k x : ℕ) → AreApart b n c k → covers c k x ≡ true → covers b n x ≡ false
-not_both b n c k x apart h = go (covers b n x) refl (beside b n c k x apart (covers-true c k x h).0 (covers-true c k x h).1)
-  where
-    go : (v : Bool) → covers b n x ≡ v → (x < b) ⊎ (b + n ≤ x) → covers b n x ≡ false
-    go false e side = e
-    go true e (inl lt) = let low = (covers-true b n x e).0 in absurd (omega arith)
-    go true e (inr le) = let high = (covers-true b n x e).1 in absurd (omega arith)
-
 moved-copy : (m : Bytes) (r : CopyRow) (rows : List CopyRow) (x : ℕ) → AllCopies (OffLater r) rows
     → moved (store m r.target (load m r.source r.size)) rows x ≡ (if covers r.target r.size x then m (r.source + (x - r.target)) else moved m rows x)
-moved-copy m r [] x off = copy-at m r.source r.target r.size x (covers r.target r.size x) refl
+moved-copy m r [] x off = copy-at m r.source r.target r.size x
 moved-copy m r (l ∷ rows) x (off, offs) = go (covers l.target l.size x) refl (moved-copy m r rows x offs)
   where
     m1 : Bytes
@@ -97,9 +89,9 @@ moved-copy m r (l ∷ rows) x (off, offs) = go (covers l.target l.size x) refl (
         ≡ (if covers r.target r.size x then m (r.source + (x - r.target)) else (if d then m (l.source + (x - l.target)) else moved m rows x))
     go true e h =
         let inside = covers-true l.target l.size x e in
-        let clear = not_both r.target r.size l.target l.size x off.target e in
+        let clear = covers-off r.target r.size x (beside r.target r.size l.target l.size x off.target inside.0 inside.1) in
         let side = beside r.target r.size l.source l.size (l.source + (x - l.target)) off.source (omega arith) (omega (arith, inside.0, inside.1)) in
-        rw clear (off_target m r.source r.target r.size (l.source + (x - l.target)) side)
+        rw clear (copy-at m r.source r.target r.size (l.source + (x - l.target)) ∙ rw (covers-off r.target r.size (l.source + (x - l.target)) side) refl)
     go false e h = h
 
 pub copied-at : (m : Bytes) (rows : List CopyRow) (x : ℕ) → InOrder rows → copied m rows x ≡ moved m rows x
