@@ -2,8 +2,9 @@
 
 ghost use Rattle.std.specs.Prelude.{◌≡◌, ◌+◌, ◌%◌, ◌<◌, ◌^◌, length, OnOk};
 ghost use Rattle.sdt_word.specs.Codes.{bytes_in};
-ghost use Rattle.arm7_bus.specs.Buses.{IsStarted, bus_state};
+ghost use Rattle.arm7_bus.specs.Buses.{IsStarted};
 ghost use Rattle.arm7_bus.specs.WholeWords.{IsWhole};
+ghost use Rattle.arm7_transfers.specs.Views.{state_of};
 
 use arm7_bus::{Absent, Bus, BusFault, NoDevice};
 use sdt_outside::{Device, Timer, Uart};
@@ -27,9 +28,9 @@ const UART_AT: u32 = 0xF000_0100;
 
 /// Gives a new bus a bank, and memory its pages.
 fn start(bus: &mut Bus, bank: Range32) -> Result<(), &'static str>
-    requires unstarted { length (bus_state base size state touched bus.old).contents.used ≡ 0 }
+    requires unstarted { length (state_of base size state touched bus.old).contents.used ≡ 0 }
     requires whole { IsWhole bank.base bank.size }
-    ensures { OnOk result (IsStarted (bus_state base size state touched bus.new)) }
+    ensures { OnOk result (IsStarted (state_of base size state touched bus.new)) }
 {
     let Ok(()) = bus.add_bank(bank) else {
         return Err("no bank");
@@ -78,9 +79,9 @@ fn width_of(x: u32) -> Width {
 }
 
 fn check_read(rt: &impl Abort, bus: &mut Bus, bytes: &[u8], a: u32, width: Width)
-    requires started { IsStarted (bus_state base size state touched bus.old) }
+    requires started { IsStarted (state_of base size state touched bus.old) }
     requires aligned { a % bytes_in width ≡ 0 }
-    ensures started { IsStarted (bus_state base size state touched bus.new) }
+    ensures started { IsStarted (state_of base size state touched bus.new) }
 {
     let n = width.bytes() as usize;
     assert_eq!(rt; bus.peek(a), bytes.get(a as usize).copied());
@@ -88,9 +89,9 @@ fn check_read(rt: &impl Abort, bus: &mut Bus, bytes: &[u8], a: u32, width: Width
 }
 
 fn check_write(rt: &impl Abort, bus: &mut Bus, bytes: &mut [u8], a: u32, width: Width, v: u32)
-    requires started { IsStarted (bus_state base size state touched bus.old) }
+    requires started { IsStarted (state_of base size state touched bus.old) }
     requires aligned { a % bytes_in width ≡ 0 }
-    ensures started { IsStarted (bus_state base size state touched bus.new) }
+    ensures started { IsStarted (state_of base size state touched bus.new) }
 {
     let n = width.bytes() as usize;
     bus.forget_stores();
@@ -99,8 +100,8 @@ fn check_write(rt: &impl Abort, bus: &mut Bus, bytes: &mut [u8], a: u32, width: 
 
 /// The access that a number makes.
 fn check_access(rt: &impl Abort, bus: &mut Bus, bytes: &mut [u8], x: u32)
-    requires started { IsStarted (bus_state base size state touched bus.old) }
-    ensures started { IsStarted (bus_state base size state touched bus.new) }
+    requires started { IsStarted (state_of base size state touched bus.old) }
+    ensures started { IsStarted (state_of base size state touched bus.new) }
 {
     let width = width_of(x);
     let a = (x >> 8) % REACH / width.bytes() * width.bytes();
@@ -113,7 +114,7 @@ fn check_access(rt: &impl Abort, bus: &mut Bus, bytes: &mut [u8], x: u32)
 
 /// Each number is made of the one before (a linear congruential generator).
 fn check_all(rt: &impl Abort, bus: &mut Bus, bytes: &mut [u8])
-    requires { IsStarted (bus_state base size state touched bus.old) }
+    requires { IsStarted (state_of base size state touched bus.old) }
 {
     let mut x: u32 = 1;
     'numbers: for _made in 0..10_000 {
@@ -124,7 +125,7 @@ fn check_all(rt: &impl Abort, bus: &mut Bus, bytes: &mut [u8])
 
 /// The first of two devices is taken out.
 fn take_first(rt: &impl Abort, bus: &mut Bus)
-    requires { IsStarted (bus_state base size state touched bus.old) }
+    requires { IsStarted (state_of base size state touched bus.old) }
 {
     assert_eq!(rt; bus.read(TIMER_AT, Width::Word), Ok(0));
     assert_eq!(rt; bus.detach(0), Ok(()));
