@@ -1,27 +1,26 @@
 -- A relocatable AIF boots from every address, and one that isn't from its own: its header's calls in
 -- turn, and the memory at the end.
-use Rattle.std.proofs.Common.{◌≡◌, ◌≢◌, ℕ, suc, ◌+◌, ◌-◌, ◌*◌, ◌/◌, ◌%◌, ◌^◌, ◌<◌, ◌≤◌, Bool, true, false, ◌==◌, ◌||◌, if◌then◌else◌, cond, List, [], ◌∷◌, ◌++◌, length, get_or, refl, sym, ap, subst, ◌∙◌, arith, ◌⊎◌, inl, inr, Some, None, nat_lt, ltb-true}
-use Rattle.std.specs.Prelude.{slice_index}
+use Rattle.std.proofs.Common.{◌≡◌, ℕ, suc, ◌+◌, ◌-◌, ◌*◌, ◌/◌, ◌%◌, ◌^◌, ◌<◌, ◌≤◌, Bool, true, false, ◌==◌, ◌||◌, if◌then◌else◌, cond, List, [], ◌∷◌, length, refl, sym, ap, subst, ◌∙◌, arith, ◌⊎◌, inl, inr, Some, None, ltb-true}
 use Rattle.sdt_word.specs.Numbers.{bit}
 use Rattle.sdt_word.specs.Bytes.{bytes_of, number_of, word}
 use Rattle.sdt_word.proofs.BytesLemmas.{length-bytes_of}
 use Rattle.sdt_word.specs.declared.codes.Condition.TheVariants.{Al}
-use Rattle.arm_isa.specs.declared.instr.ArmInstr.TheVariants.{BranchExchange, SoftwareInterrupt, TransferImmediate}
+use Rattle.arm_isa.specs.declared.instr.ArmInstr.TheVariants.{BranchExchange, TransferImmediate}
 use Rattle.arm_isa.specs.ArmRows.{ReadsArm}
 use Rattle.arm7_model.specs.Memory.{Bytes, Board, store}
 use Rattle.arm7_model.specs.Registers.{State, register, is_thumb}
 use Rattle.arm7_model.proofs.Leading.{here, after, lasting}
 use Rattle.arm7_model.proofs.MemoryLemmas.{word-store_apart, load-same, store-below, store-above, store-in, below_or_not}
-use Rattle.boot_code.specs.Words.{zero_code, relocator_list, relocator_instructions}
+use Rattle.boot_code.specs.Words.{relocator_list, relocator_instructions}
 use Rattle.boot_code.specs.Startup.{zeros, IsEntered}
 use Rattle.boot_code.specs.Boots.{ByteMap, InRanges, CanStart, BootsIn, covers}
-use Rattle.boot_code.specs.Aif.{HasCode, Offsets, relocated, marked, moved_image, started_image, clear_steps, aif_steps, IsHeader, IsRelocatable, IsFixed, HasVeneer, IsFixedLoadable, FixedAifIsExact, FixedAifVeneerIsExact, FixedAifBoots, FixedAifVeneerBoots, file_at, shifted_file, aif_written, IsLoadable, AifIsExact, AifVeneerIsExact, AifBoots, AifVeneerBoots, aif_bound}
+use Rattle.boot_code.specs.Aif.{Offsets, relocated, marked, moved_image, started_image, clear_steps, aif_steps, IsHeader, IsRelocatable, IsFixed, HasVeneer, IsFixedLoadable, FixedAifIsExact, FixedAifVeneerIsExact, FixedAifBoots, FixedAifVeneerBoots, file_at, shifted_file, aif_written, IsLoadable, AifIsExact, AifVeneerIsExact, AifBoots, AifVeneerBoots, aif_bound}
 use Rattle.boot_code.proofs.WordsRead.{relocator_reads}
 use Rattle.boot_code.proofs.ViewLemmas.{length-zeros, covers-inside, covers-true, covers-false, covers-off, apart_store}
-use Rattle.boot_code.proofs.CodeSteps.{World, Run, IsReadable, Code, Reads, Good, Low, placed, longer, narrowed, word_reads, code_reads, begun, link, enter_12, still, computes, loads}
-use Rattle.boot_code.proofs.CodeSteps.Computes.{nothing, count}
+use Rattle.boot_code.proofs.CodeSteps.{World, Run, IsReadable, Code, Good, Low, placed, longer, narrowed, word_reads, code_reads, begun, link, enter_12, still, computes, loads}
+use Rattle.boot_code.proofs.CodeSteps.Computes.{nothing}
 use Rattle.boot_code.proofs.CodeSteps.Loads.{load_entry}
-use Rattle.boot_code.proofs.AifRuns.{From, from, reads_link, reads_nothing, relocator_run, called, Stands, clear_run}
+use Rattle.boot_code.proofs.AifRuns.{From, from, reads_link, reads_nothing, relocator_run, clear_run}
 
 reads_veneer_load : ReadsArm 0xE59FC000 (TransferImmediate Al true true false false true 15 12 0)
 reads_veneer_load = grind arith
@@ -189,9 +188,9 @@ module _ (file : List ℕ) (parts zero_size b : ℕ) (written : ℕ → Bool) (v
   fixed_begins : {e : ℕ} → IsFixed k b parts zero_size e → Begins 2 s.memory
   fixed_begins i g j Q next =
       longer (omega arith)
-          (computes (word_reads head 0 0xE1A00000 (ap (word k) (omega arith) ∙ i.header.nothing) (omega arith) reads_nothing) nothing tt
-          (computes (word_reads head 1 0xE1A00000 i.no_call (omega arith) reads_nothing) nothing tt
-          (λ good. next _ _ _ _ good.quiet good.bytes refl refl))) good
+      (computes (word_reads head 0 0xE1A00000 (ap (word k) (omega arith) ∙ i.header.nothing) (omega arith) reads_nothing) nothing tt
+      (computes (word_reads head 1 0xE1A00000 i.no_call (omega arith) reads_nothing) nothing tt
+      (λ good. next _ _ _ _ good.quiet good.bytes refl refl))) good
 
   relocator_whole : parts % 4 ≡ 0 → (b + parts) % 4 ≡ 0
   relocator_whole h = omega (arith, l.whole)
@@ -208,12 +207,12 @@ module _ (file : List ℕ) (parts zero_size b : ℕ) (written : ℕ → Bool) (v
       let h = i.header in let low = h.parts_low in let small = h.parts_small in let parts_whole = h.parts_whole in let room = l.file_room in let whole = l.whole in
       let R = relocator parts_whole in
       longer (omega arith)
-          (computes (word_reads head 0 0xE1A00000 (ap (word k) (omega arith) ∙ h.nothing) (omega arith) reads_nothing) nothing tt
-          (link {k = (parts - 12) / 4} {target = b + parts + 0} (word_reads head 1 _ i.move_call (omega arith) (reads_link ((parts - 12) / 4) (omega arith))) (omega arith) (omega arith) (omega arith)
-          (λ good. relocator_run {S = R} (λ i' lt. code_reads R relocator_list relocator_instructions 0 relocator_reads (λ j lt. ap (word k) (omega arith) ∙ i.move_code j lt) (omega arith) i' i' (omega arith) (ltb-true i' 15 lt)) b parts refl parts_whole low
-          (record { readable = narrowed from_file (omega arith) (omega arith); writable = λ x low high. c.writable x (may x low high); apart = inl (omega arith) })
-          base offsets refl (still {S = head} b good (omega arith) (omega arith) ∙ h.nothing) (still {S = head} (b + 40) good (omega arith) (omega arith) ∙ i.base_word) i.base_small (omega arith) i.list_fits i.list_words next
-          (record { quiet = good.quiet; same = λ x above below. stands x (omega arith) below; bytes = good.bytes })))) good
+      (computes (word_reads head 0 0xE1A00000 (ap (word k) (omega arith) ∙ h.nothing) (omega arith) reads_nothing) nothing tt
+      (link {k = (parts - 12) / 4} {target = b + parts + 0} (word_reads head 1 _ i.move_call (omega arith) (reads_link ((parts - 12) / 4) (omega arith))) (omega arith) (omega arith) (omega arith)
+      (λ good. relocator_run {S = R} (λ i' lt. code_reads R relocator_list relocator_instructions 0 relocator_reads (λ j lt. ap (word k) (omega arith) ∙ i.move_code j lt) (omega arith) i' i' (omega arith) (ltb-true i' 15 lt)) b parts refl parts_whole low
+      (record { readable = narrowed from_file (omega arith) (omega arith); writable = λ x low high. c.writable x (may x low high); apart = inl (omega arith) })
+      base offsets refl (still {S = head} b good (omega arith) (omega arith) ∙ h.nothing) (still {S = head} (b + 40) good (omega arith) (omega arith) ∙ i.base_word) i.base_small (omega arith) i.list_fits i.list_words next
+      (record { quiet = good.quiet; same = λ x above below. stands x (omega arith) below; bytes = good.bytes })))) good
 
   -- the image x stands in the memory m when the header's second call has returned
   module _ (e : ℕ) (x m : Bytes) (same : m ≡ merged s.memory x b parts) (i : IsHeader x b parts zero_size e) where

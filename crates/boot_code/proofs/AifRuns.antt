@@ -17,7 +17,7 @@ use Rattle.boot_code.specs.Words.{zero_code, zero_instructions, relocator_instru
 use Rattle.boot_code.specs.Startup.{HasWords, zeros}
 use Rattle.boot_code.specs.Aif.{Offsets, marked, relocated, moved_image, clear_steps, IsHeader}
 use Rattle.boot_code.proofs.WordsRead.{zero_reads}
-use Rattle.boot_code.proofs.CodeSteps.{World, Run, IsReadable, Code, IsFree, Reads, Good, Low, placed, Go, longer, narrowed, narrowed_free, still, word_reads, code_reads, skip, branch, link, return, computes, loads, stores}
+use Rattle.boot_code.proofs.CodeSteps.{World, Run, IsReadable, Code, IsFree, Reads, Low, placed, Go, longer, narrowed, narrowed_free, still, word_reads, code_reads, skip, branch, link, return, computes, loads, stores}
 use Rattle.boot_code.proofs.CodeSteps.Computes.{nothing, address_2, count, compare, compare_negative, add_01, add_02, add_shift, clear_1, back, shift}
 use Rattle.boot_code.proofs.CodeSteps.Loads.{load_next, load_1, load_2, load_3, load_named}
 use Rattle.boot_code.proofs.CodeSteps.Stores.{store_zero, store_0, store_2, store_named}
@@ -55,27 +55,27 @@ module _ {W : World} {S : Code W} (w : (i : ℕ) → nat_lt i 15 ≡ true → Re
       let is_last = still g.r2 good (omega arith) (omega arith) ∙ ap (word S.origin) e2 ∙ last in
       let z : (status : ℕ) → bit (added status (word m g.r2) 1) 30 ≡ 1 = λ status. added-zero status (word m g.r2) 1 (omega arith) (omega arith) (omega arith) in
       longer (omega arith)
-          (loads (w 8 refl) load_next tt refl S.readable (omega arith) (omega arith) (omega arith)
-          (computes (w 9 refl) compare_negative tt
-          (skip (w 10 refl) (z _)
-          (skip (w 11 refl) (z _)
-          (skip (w 12 refl) (z _)
-          (skip (w 13 refl) (z _)
-          (return (w 14 refl) tt (omega arith)
-          (λ good'. next _ _ _ _ good'.quiet good'.bytes e14 refl)))))))) good
+      (loads (w 8 refl) load_next tt refl S.readable (omega arith) (omega arith) (omega arith)
+      (computes (w 9 refl) compare_negative tt
+      (skip (w 10 refl) (z _)
+      (skip (w 11 refl) (z _)
+      (skip (w 12 refl) (z _)
+      (skip (w 13 refl) (z _)
+      (return (w 14 refl) tt (omega arith)
+      (λ good'. next _ _ _ _ good'.quiet good'.bytes e14 refl)))))))) good
   list_run d (o ∷ offsets) p {status = status} {g} {m} above p_whole below small e0 e1 e2 e14 (o_whole, o_low, o_high, fits) (first, later) next good =
       let room = S.readable.room in let multiple = S.multiple in
       let named = still g.r2 good (omega arith) (omega arith) ∙ ap (word S.origin) e2 ∙ first in
       let z : bit (added status (word m g.r2) 1) 30 ≡ 0 = added-other status (word m g.r2) 1 (omega arith) (omega arith) (omega arith) (λ h. omega arith) in
       longer (omega arith)
-          (loads (w 8 refl) load_next tt refl S.readable (omega arith) (omega arith) (omega arith)
-          (computes (w 9 refl) compare_negative tt
-          (loads {x = b + o} (w 10 refl) load_named z (omega arith) f.readable (omega arith) (omega arith) (omega arith)
-          (computes (w 11 refl) add_shift z
-          (stores {x = b + o} (w 12 refl) (w 13 refl) store_named z (omega arith) f (omega arith) (omega arith) (omega arith)
-          (branch (w 13 refl) (w 8 refl) z refl
-          (list_run d offsets (p + 4) (omega arith) (omega arith) (omega arith) small e0 e1 (omega arith) e14 fits later
-          (λ g' s at k q bytes e same. next g' s at k q bytes e (same ∙ ap (λ (v : ℕ). relocated (store m (b + o) (bytes_of v 4)) b d offsets) (omega arith)))))))))) good
+      (loads (w 8 refl) load_next tt refl S.readable (omega arith) (omega arith) (omega arith)
+      (computes (w 9 refl) compare_negative tt
+      (loads {x = b + o} (w 10 refl) load_named z (omega arith) f.readable (omega arith) (omega arith) (omega arith)
+      (computes (w 11 refl) add_shift z
+      (stores {x = b + o} (w 12 refl) (w 13 refl) store_named z (omega arith) f (omega arith) (omega arith) (omega arith)
+      (branch (w 13 refl) (w 8 refl) z refl
+      (list_run d offsets (p + 4) (omega arith) (omega arith) (omega arith) small e0 e1 (omega arith) e14 fits later
+      (λ g' s at k q bytes e same. next g' s at k q bytes e (same ∙ ap (λ (v : ℕ). relocated (store m (b + o) (bytes_of v 4)) b d offsets) (omega arith)))))))))) good
 
   -- the header is marked as moved
   begins : (base : ℕ) {n status : ℕ} {g : Low} {m : Bytes} {Q : State → Type 0} → g.r14 ≡ b + 8 → word m b ≡ 0xE1A00000 → word m (b + 40) ≡ base → base < 2 ^ 32
@@ -89,16 +89,16 @@ module _ {W : World} {S : Code W} (w : (i : ℕ) → nat_lt i 15 ≡ true → Re
       let m1 = store m (b + 40) (bytes_of r 4) in
       let still_first : word m1 b ≡ 0xE1A00000 = word-store_apart m (b + 40) (bytes_of r 4) b (inl (omega arith)) ∙ first in
       longer (omega arith)
-          (computes (w 0 refl) back tt
-          (loads {x = b + 40} (w 1 refl) load_1 tt (omega arith) f.readable (omega arith) (omega arith) (omega arith)
-          (computes (w 2 refl) shift tt
-          (stores {x = b + 40} (w 3 refl) (w 4 refl) store_0 tt (omega arith) f (omega arith) (omega arith) (omega arith)
-          (loads {x = b} (w 4 refl) load_2 tt (omega arith) f.readable (omega arith) (omega arith) (omega arith)
-          (stores {x = b + 4} (w 5 refl) (w 6 refl) store_2 tt (omega arith) f (omega arith) (omega arith) (omega arith)
-          (next _ _ _ is_b (omega arith) e14
-          (ap (λ (v : ℕ). store m1 (b + 4) (bytes_of v 4)) still_first ∙ ap (λ (v : ℕ). store (store m (b + 40) (bytes_of v 4)) (b + 4) (bytes_of 0xE1A00000 4)) is_b)
-          (λ same. compared-equal _ r (word m (b + 40)) (omega arith) (omega arith) (omega arith))
-          (λ other. compared-other _ r (word m (b + 40)) (omega arith) (omega arith) (λ h. other (omega arith))))))))))
+      (computes (w 0 refl) back tt
+      (loads {x = b + 40} (w 1 refl) load_1 tt (omega arith) f.readable (omega arith) (omega arith) (omega arith)
+      (computes (w 2 refl) shift tt
+      (stores {x = b + 40} (w 3 refl) (w 4 refl) store_0 tt (omega arith) f (omega arith) (omega arith) (omega arith)
+      (loads {x = b} (w 4 refl) load_2 tt (omega arith) f.readable (omega arith) (omega arith) (omega arith)
+      (stores {x = b + 4} (w 5 refl) (w 6 refl) store_2 tt (omega arith) f (omega arith) (omega arith) (omega arith)
+      (next _ _ _ is_b (omega arith) e14
+      (ap (λ (v : ℕ). store m1 (b + 4) (bytes_of v 4)) still_first ∙ ap (λ (v : ℕ). store (store m (b + 40) (bytes_of v 4)) (b + 4) (bytes_of 0xE1A00000 4)) is_b)
+      (λ same. compared-equal _ r (word m (b + 40)) (omega arith) (omega arith) (omega arith))
+      (λ other. compared-other _ r (word m (b + 40)) (omega arith) (omega arith) (λ h. other (omega arith))))))))))
 
   pub relocator_run : (base : ℕ) (offsets : List ℕ) {n status : ℕ} {g : Low} {m : Bytes} {Q : State → Type 0}
       → g.r14 ≡ b + 8 → word m b ≡ 0xE1A00000 → word m (b + 40) ≡ base → base < 2 ^ 32 → S.start + 60 + 4 * length offsets + 4 ≤ S.end → Offsets limit offsets → HasWords S.origin (S.start + 60) (offsets ++ 0xFFFFFFFF ∷ [])
@@ -131,20 +131,20 @@ module _ {W : World} {S : Code W} (w : (i : ℕ) → nat_lt i 12 ≡ true → Re
   zero_loop zero {g = g} {m} e small none whole f e14 z next =
       let multiple = S.multiple in
       longer (omega arith)
-          (stores (w 8 refl) (w 9 refl) store_zero z refl f (omega arith) (omega arith) whole
-          (computes (w 9 refl) count z
-          (skip (w 10 refl) (compared-equal _ g.r3 4 small (omega arith) e)
-          (return (w 11 refl) tt (omega arith)
-          (λ good'. next _ _ _ _ good'.quiet good'.bytes e14 (fill m g.r1 g.r0 g.r3 _ 0 none refl e))))))
+      (stores (w 8 refl) (w 9 refl) store_zero z refl f (omega arith) (omega arith) whole
+      (computes (w 9 refl) count z
+      (skip (w 10 refl) (compared-equal _ g.r3 4 small (omega arith) e)
+      (return (w 11 refl) tt (omega arith)
+      (λ good'. next _ _ _ _ good'.quiet good'.bytes e14 (fill m g.r1 g.r0 g.r3 _ 0 none refl e))))))
   zero_loop (suc j) {status = status} {g} {m} e small none whole f e14 z next =
       let room = f.readable.room in
       let again : bit (compared status g.r3 4) 30 ≡ 0 = compared-other status g.r3 4 small (omega arith) (λ h. omega arith) in
       longer (omega arith)
-          (stores (w 8 refl) (w 9 refl) store_zero z refl f (omega arith) (omega arith) whole
-          (computes (w 9 refl) count z
-          (branch (w 10 refl) (w 8 refl) again refl
-          (zero_loop j (omega arith) (omega arith) none (omega arith) (narrowed_free f (omega arith) (omega arith)) e14 again
-          (λ g' s at k q bytes e' same. next g' s at k q bytes e' (same ∙ fill m g.r1 g.r0 g.r3 _ _ none (omega arith) (omega arith)))))))
+      (stores (w 8 refl) (w 9 refl) store_zero z refl f (omega arith) (omega arith) whole
+      (computes (w 9 refl) count z
+      (branch (w 10 refl) (w 8 refl) again refl
+      (zero_loop j (omega arith) (omega arith) none (omega arith) (narrowed_free f (omega arith) (omega arith)) e14 again
+      (λ g' s at k q bytes e' same. next g' s at k q bytes e' (same ∙ fill m g.r1 g.r0 g.r3 _ _ none (omega arith) (omega arith)))))))
 
   -- the zero part behind parts of two sizes
   zero_run : (parts zero_size : ℕ) {n status : ℕ} {g : Low} {m : Bytes} {Q : State → Type 0}
@@ -157,17 +157,17 @@ module _ {W : World} {S : Code W} (w : (i : ℕ) → nat_lt i 12 ≡ true → Re
       let second = still (b + 24) good (omega arith) (omega arith) in
       let size : word m (b + 32) ≡ zero_size = still (b + 32) good (omega arith) (omega arith) ∙ counted in
       longer (omega arith)
-          (computes (w 0 refl) back tt
-          (loads {x = b + 20} (w 1 refl) load_1 tt (omega arith) S.readable (omega arith) (omega arith) (omega arith)
-          (loads {x = b + 24} (w 2 refl) load_2 tt (omega arith) S.readable (omega arith) (omega arith) (omega arith)
-          (loads {x = b + 32} (w 3 refl) load_3 tt (omega arith) S.readable (omega arith) (omega arith) (omega arith)
-          (computes (w 4 refl) add_01 tt
-          (computes (w 5 refl) add_02 tt
-          (computes (w 6 refl) clear_1 tt
-          (computes (w 7 refl) compare tt
-          (zero_loop (zero_size / 4 - 1) (omega arith) (omega arith) refl (omega arith) (narrowed_free f (omega arith) (omega arith)) e14
-          (compared-other _ (word m (b + 32)) 0 (omega arith) (omega arith) (λ h. omega arith))
-          (λ g' s at k q bytes e same. next g' s at k q bytes e (same ∙ ap₂ (λ (t c : ℕ). store m t (zeros c)) (omega arith) size))))))))))) good
+      (computes (w 0 refl) back tt
+      (loads {x = b + 20} (w 1 refl) load_1 tt (omega arith) S.readable (omega arith) (omega arith) (omega arith)
+      (loads {x = b + 24} (w 2 refl) load_2 tt (omega arith) S.readable (omega arith) (omega arith) (omega arith)
+      (loads {x = b + 32} (w 3 refl) load_3 tt (omega arith) S.readable (omega arith) (omega arith) (omega arith)
+      (computes (w 4 refl) add_01 tt
+      (computes (w 5 refl) add_02 tt
+      (computes (w 6 refl) clear_1 tt
+      (computes (w 7 refl) compare tt
+      (zero_loop (zero_size / 4 - 1) (omega arith) (omega arith) refl (omega arith) (narrowed_free f (omega arith) (omega arith)) e14
+      (compared-other _ (word m (b + 32)) 0 (omega arith) (omega arith) (λ h. omega arith))
+      (λ g' s at k q bytes e same. next g' s at k q bytes e (same ∙ ap₂ (λ (t c : ℕ). store m t (zeros c)) (omega arith) size))))))))))) good
 
 -- ---- the header's two last calls, over a memory with these words from b + 8 on
 

@@ -1,6 +1,6 @@
 -- The loops of the startup code: single words and bursts of eight, upwards and downwards, and the zero
 -- fill. Each leads to the head of its part with the memory as the copy or the fill leaves it.
-use Rattle.std.proofs.Common.{◌≡◌, ℕ, zero, suc, ◌+◌, ◌-◌, ◌*◌, ◌/◌, ◌%◌, ◌^◌, ◌<◌, ◌≤◌, Bool, true, false, ◌==◌, nat_lt, if◌then◌else◌, List, ◌∷◌, ◌++◌, length, get_or, refl, sym, ap, ap₂, ◌∙◌, arith, ltb-true, ltb-false, ◌⊎◌, inl, inr}
+use Rattle.std.proofs.Common.{◌≡◌, ℕ, zero, suc, ◌+◌, ◌-◌, ◌*◌, ◌/◌, ◌%◌, ◌^◌, ◌<◌, ◌≤◌, Bool, true, false, ◌==◌, nat_lt, if◌then◌else◌, List, ◌∷◌, ◌++◌, get_or, refl, sym, ap, ap₂, ◌∙◌, arith, ltb-true, ltb-false, ◌⊎◌, inl, inr}
 use Rattle.sdt_word.specs.Numbers.{bit}
 use Rattle.sdt_word.specs.Bytes.{bytes_of, load, word}
 use Rattle.sdt_word.specs.declared.codes.Condition.TheVariants.{Al}
@@ -10,11 +10,10 @@ use Rattle.arm7_model.specs.Registers.{State}
 use Rattle.arm7_model.specs.ArmStep.{arm_condition}
 use Rattle.arm7_model.proofs.Steps.{compared, compared-equal, compared-other, compared-below, compared-above}
 use Rattle.arm7_model.proofs.MemoryLemmas.{not-eq, store-append, copy_up, copy_down, bytes_of-word, below_or_not}
-use Rattle.arm7_model.proofs.Placed.{store_words}
 use Rattle.arm7_model.proofs.TransferLemmas.{store_words-copy}
 use Rattle.boot_code.specs.Words.{boot_instructions}
 use Rattle.boot_code.specs.Startup.{zeros, upward_steps}
-use Rattle.boot_code.proofs.CodeSteps.{World, Run, placed, still, IsReadable, Code, IsFree, Reads, Low, Go, longer, narrowed, narrowed_free, skip, branch, computes, loads, stores}
+use Rattle.boot_code.proofs.CodeSteps.{World, still, IsReadable, Code, IsFree, Reads, Low, Go, longer, narrowed, narrowed_free, skip, branch, computes, loads, stores}
 use Rattle.boot_code.proofs.CodeSteps.Computes.{count, compare, compare_targets, add, add_1, add_2}
 use Rattle.boot_code.proofs.CodeSteps.Loads.{load_up, load_down, take_up, take_down, take_three}
 use Rattle.boot_code.proofs.CodeSteps.Stores.{store_up, store_down, give_up, give_down}
@@ -94,22 +93,22 @@ module _ {W : World} {S : Code W} (w : IsBoot S) where
   words_up zero {g = g} {m} e small order c at next good =
       let s_whole = c.source_whole in let t_whole = c.target_whole in
       longer (omega arith)
-          (loads (w 13 refl) load_up tt refl c.from (omega arith) (omega arith) s_whole
-          (stores (w 14 refl) (w 15 refl) store_up tt refl c.to (omega arith) (omega arith) t_whole
-          (computes (w 15 refl) count tt
-          (skip (w 16 refl) (compared-equal _ g.r3 4 small (omega arith) e)
-          (branch (w 17 refl) (w 1 refl) tt refl
-          (next _ _ _ at (word_moved m g.r1 g.r2 good.bytes ∙ ap (λ (k : ℕ). store m g.r2 (load m g.r1 k)) (sym e)))))))) good
+      (loads (w 13 refl) load_up tt refl c.from (omega arith) (omega arith) s_whole
+      (stores (w 14 refl) (w 15 refl) store_up tt refl c.to (omega arith) (omega arith) t_whole
+      (computes (w 15 refl) count tt
+      (skip (w 16 refl) (compared-equal _ g.r3 4 small (omega arith) e)
+      (branch (w 17 refl) (w 1 refl) tt refl
+      (next _ _ _ at (word_moved m g.r1 g.r2 good.bytes ∙ ap (λ (k : ℕ). store m g.r2 (load m g.r1 k)) (sym e)))))))) good
   words_up (suc j) {g = g} {m} e small order c at next good =
       let s_whole = c.source_whole in let t_whole = c.target_whole in
       let s_room = c.from.room in let t_room = c.to.readable.room in
       longer (omega arith)
-          (loads (w 13 refl) load_up tt refl c.from (omega arith) (omega arith) s_whole
-          (stores (w 14 refl) (w 15 refl) store_up tt refl c.to (omega arith) (omega arith) t_whole
-          (computes (w 15 refl) count tt
-          (branch (w 16 refl) (w 13 refl) (compared-other _ g.r3 4 small (omega arith) (λ h. omega arith)) refl
-          (words_up j (omega arith) (omega arith) (omega arith) (part c (omega arith) (omega arith) (omega arith) (omega arith)) at
-          (λ g' s k at' same. next g' s k at' (same ∙ up m _ g.r1 g.r2 4 g.r3 _ _ _ (word_moved m g.r1 g.r2 good.bytes) (omega arith) (omega arith) (omega arith) order))))))) good
+      (loads (w 13 refl) load_up tt refl c.from (omega arith) (omega arith) s_whole
+      (stores (w 14 refl) (w 15 refl) store_up tt refl c.to (omega arith) (omega arith) t_whole
+      (computes (w 15 refl) count tt
+      (branch (w 16 refl) (w 13 refl) (compared-other _ g.r3 4 small (omega arith) (λ h. omega arith)) refl
+      (words_up j (omega arith) (omega arith) (omega arith) (part c (omega arith) (omega arith) (omega arith) (omega arith)) at
+      (λ g' s k at' same. next g' s k at' (same ∙ up m _ g.r1 g.r2 4 g.r3 _ _ _ (word_moved m g.r1 g.r2 good.bytes) (omega arith) (omega arith) (omega arith) order))))))) good
 
   -- ---- single words, downwards: r1 and r2 are the ends of what is left
   words_down : (j s t : ℕ) {n p status : ℕ} {g : Low} {m : Bytes} {Q : State → Type 0}
@@ -119,23 +118,23 @@ module _ {W : World} {S : Code W} (w : IsBoot S) where
   words_down zero s t {g = g} {m} e small order c source target at next good =
       let s_room = c.from.room in let t_room = c.to.readable.room in
       longer (omega arith)
-          (loads {x = s} (w 27 refl) load_down tt (omega arith) c.from (omega arith) (omega arith) c.source_whole
-          (stores {x = t} (w 28 refl) (w 29 refl) store_down tt (omega arith) c.to (omega arith) (omega arith) c.target_whole
-          (computes (w 29 refl) count tt
-          (skip (w 30 refl) (compared-equal _ g.r3 4 small (omega arith) e)
-          (branch (w 31 refl) (w 1 refl) tt refl
-          (next _ _ _ at (word_moved m s t good.bytes ∙ ap (λ (k : ℕ). store m t (load m s k)) (sym e)))))))) good
+      (loads {x = s} (w 27 refl) load_down tt (omega arith) c.from (omega arith) (omega arith) c.source_whole
+      (stores {x = t} (w 28 refl) (w 29 refl) store_down tt (omega arith) c.to (omega arith) (omega arith) c.target_whole
+      (computes (w 29 refl) count tt
+      (skip (w 30 refl) (compared-equal _ g.r3 4 small (omega arith) e)
+      (branch (w 31 refl) (w 1 refl) tt refl
+      (next _ _ _ at (word_moved m s t good.bytes ∙ ap (λ (k : ℕ). store m t (load m s k)) (sym e)))))))) good
   words_down (suc j) s t {g = g} {m} e small order c source target at next good =
       let s_whole = c.source_whole in let t_whole = c.target_whole in
       let s_room = c.from.room in let t_room = c.to.readable.room in
       let d = (g.r3 + 4294967291 + 1) % 4294967296 in
       longer (omega arith)
-          (loads {x = s + d} (w 27 refl) load_down tt (omega arith) c.from (omega arith) (omega arith) (omega arith)
-          (stores {x = t + d} (w 28 refl) (w 29 refl) store_down tt (omega arith) c.to (omega arith) (omega arith) (omega arith)
-          (computes (w 29 refl) count tt
-          (branch (w 30 refl) (w 27 refl) (compared-other _ g.r3 4 small (omega arith) (λ h. omega arith)) refl
-          (words_down j s t (omega arith) (omega arith) order (part c (omega arith) (omega arith) (omega arith) (omega arith)) (omega arith) (omega arith) at
-          (λ g' f k at' same. next g' f k at' (same ∙ down m _ s t 4 g.r3 d (word_moved m (s + d) (t + d) good.bytes) (omega arith) order))))))) good
+      (loads {x = s + d} (w 27 refl) load_down tt (omega arith) c.from (omega arith) (omega arith) (omega arith)
+      (stores {x = t + d} (w 28 refl) (w 29 refl) store_down tt (omega arith) c.to (omega arith) (omega arith) (omega arith)
+      (computes (w 29 refl) count tt
+      (branch (w 30 refl) (w 27 refl) (compared-other _ g.r3 4 small (omega arith) (λ h. omega arith)) refl
+      (words_down j s t (omega arith) (omega arith) order (part c (omega arith) (omega arith) (omega arith) (omega arith)) (omega arith) (omega arith) at
+      (λ g' f k at' same. next g' f k at' (same ∙ down m _ s t 4 g.r3 d (word_moved m (s + d) (t + d) good.bytes) (omega arith) order))))))) good
 
   -- ---- bursts of eight words
   bursts_up : (b x : ℕ) {n p status : ℕ} {g : Low} {m : Bytes} {Q : State → Type 0}
@@ -144,29 +143,29 @@ module _ {W : World} {S : Code W} (w : IsBoot S) where
   unfolding arm_condition
   bursts_up zero x {g = g} {m} e few some small order c at next good =
       longer (omega (arith, tail-some x))
-          (computes (w 6 refl) count tt
-          (branch (w 7 refl) (w 12 refl) (compared-above _ g.r3 32 small (omega arith) (omega arith)) refl
-          (computes (w 12 refl) add tt
-          (words_up (x - 1) (omega arith) (omega arith) order (part c (omega arith) (omega arith) (omega arith) (omega arith)) at
-          (λ g' f k at' same. next g' f k at' (same ∙ ap (λ (k : ℕ). store m g.r2 (load m g.r1 k)) (omega arith))))))) good
+      (computes (w 6 refl) count tt
+      (branch (w 7 refl) (w 12 refl) (compared-above _ g.r3 32 small (omega arith) (omega arith)) refl
+      (computes (w 12 refl) add tt
+      (words_up (x - 1) (omega arith) (omega arith) order (part c (omega arith) (omega arith) (omega arith) (omega arith)) at
+      (λ g' f k at' same. next g' f k at' (same ∙ ap (λ (k : ℕ). store m g.r2 (load m g.r1 k)) (omega arith))))))) good
   bursts_up (suc b) x {n = n} {g = g} {m} e few some small order c at next good =
       let s_whole = c.source_whole in let t_whole = c.target_whole in
       let s_room = c.from.room in let t_room = c.to.readable.room in
       let d = (g.r3 + 4294967263 + 1) % 4294967296 in
       let all = up m _ g.r1 g.r2 32 g.r3 _ _ d (store_words-copy m m g.r2 g.r1 8 good.bytes) in
       longer (omega arith)
-          (computes (w 6 refl) count tt
-          (skip (w 7 refl) (compared-below _ g.r3 32 small (omega arith) (omega arith))
-          (loads {x = g.r1} (w 8 refl) take_up tt (omega arith) c.from (omega arith) (omega arith) s_whole
-          (stores {x = g.r2} (w 9 refl) (w 10 refl) give_up tt (omega arith) c.to (omega arith) (omega arith) t_whole
-          (either d
-          (λ none. let left : 32 ≡ g.r3 = omega arith in longer {k = suc (5 * b + tail_steps x + n)} (omega (arith, tail-zero x))
-          (skip (w 10 refl) (compared-equal _ g.r3 32 small (omega arith) (omega arith))
-          (branch (w 11 refl) (w 1 refl) tt refl
-          (next _ _ _ at (store_words-copy m m g.r2 g.r1 8 good.bytes ∙ ap (λ (k : ℕ). store m g.r2 (load m g.r1 k)) left)))))
-          (λ more. branch (w 10 refl) (w 6 refl) (compared-other _ g.r3 32 small (omega arith) (λ h. omega arith)) refl
-          (bursts_up b x (omega arith) few more (omega arith) (omega arith) (part c (omega arith) (omega arith) (omega arith) (omega arith)) at
-          (λ g' f k at' same. next g' f k at' (same ∙ all (omega arith) (omega arith) (omega arith) order))))))))) good
+      (computes (w 6 refl) count tt
+      (skip (w 7 refl) (compared-below _ g.r3 32 small (omega arith) (omega arith))
+      (loads {x = g.r1} (w 8 refl) take_up tt (omega arith) c.from (omega arith) (omega arith) s_whole
+      (stores {x = g.r2} (w 9 refl) (w 10 refl) give_up tt (omega arith) c.to (omega arith) (omega arith) t_whole
+      (either d
+      (λ none. let left : 32 ≡ g.r3 = omega arith in longer {k = suc (5 * b + tail_steps x + n)} (omega (arith, tail-zero x))
+      (skip (w 10 refl) (compared-equal _ g.r3 32 small (omega arith) (omega arith))
+      (branch (w 11 refl) (w 1 refl) tt refl
+      (next _ _ _ at (store_words-copy m m g.r2 g.r1 8 good.bytes ∙ ap (λ (k : ℕ). store m g.r2 (load m g.r1 k)) left)))))
+      (λ more. branch (w 10 refl) (w 6 refl) (compared-other _ g.r3 32 small (omega arith) (λ h. omega arith)) refl
+      (bursts_up b x (omega arith) few more (omega arith) (omega arith) (part c (omega arith) (omega arith) (omega arith) (omega arith)) at
+      (λ g' f k at' same. next g' f k at' (same ∙ all (omega arith) (omega arith) (omega arith) order))))))))) good
 
   bursts_down : (b x s t : ℕ) {n p status : ℕ} {g : Low} {m : Bytes} {Q : State → Type 0}
       → g.r3 ≡ 32 * b + 4 * x → x < 8 → 0 < g.r3 → g.r3 < 2 ^ 32 → s ≤ t → Copying S s t g.r3 → g.r1 ≡ (s + g.r3) % 2 ^ 32 → g.r2 ≡ (t + g.r3) % 2 ^ 32 → g.r0 ≡ p
@@ -174,29 +173,29 @@ module _ {W : World} {S : Code W} (w : IsBoot S) where
   unfolding arm_condition
   bursts_down zero x s t {g = g} {m} e few some small order c source target at next good =
       longer (omega (arith, tail-some x))
-          (computes (w 20 refl) count tt
-          (branch (w 21 refl) (w 26 refl) (compared-above _ g.r3 32 small (omega arith) (omega arith)) refl
-          (computes (w 26 refl) add tt
-          (words_down (x - 1) s t (omega arith) (omega arith) order (part c (omega arith) (omega arith) (omega arith) (omega arith)) (omega arith) (omega arith) at
-          (λ g' f k at' same. next g' f k at' (same ∙ ap (λ (k : ℕ). store m t (load m s k)) (omega arith))))))) good
+      (computes (w 20 refl) count tt
+      (branch (w 21 refl) (w 26 refl) (compared-above _ g.r3 32 small (omega arith) (omega arith)) refl
+      (computes (w 26 refl) add tt
+      (words_down (x - 1) s t (omega arith) (omega arith) order (part c (omega arith) (omega arith) (omega arith) (omega arith)) (omega arith) (omega arith) at
+      (λ g' f k at' same. next g' f k at' (same ∙ ap (λ (k : ℕ). store m t (load m s k)) (omega arith))))))) good
   bursts_down (suc b) x s t {n = n} {g = g} {m} e few some small order c source target at next good =
       let s_whole = c.source_whole in let t_whole = c.target_whole in
       let s_room = c.from.room in let t_room = c.to.readable.room in
       let d = (g.r3 + 4294967263 + 1) % 4294967296 in
       let moved = store_words-copy m m (t + d) (s + d) 8 good.bytes in
       longer (omega arith)
-          (computes (w 20 refl) count tt
-          (skip (w 21 refl) (compared-below _ g.r3 32 small (omega arith) (omega arith))
-          (loads {x = s + d} (w 22 refl) take_down tt (omega arith) c.from (omega arith) (omega arith) (omega arith)
-          (stores {x = t + d} (w 23 refl) (w 24 refl) give_down tt (omega arith) c.to (omega arith) (omega arith) (omega arith)
-          (either d
-          (λ none. let left : d + 32 ≡ g.r3 = omega arith in longer {k = suc (5 * b + tail_steps x + n)} (omega (arith, tail-zero x))
-          (skip (w 24 refl) (compared-equal _ g.r3 32 small (omega arith) (omega arith))
-          (branch (w 25 refl) (w 1 refl) tt refl
-          (next _ _ _ at (moved ∙ last m s t d none ∙ ap (λ (k : ℕ). store m t (load m s k)) left)))))
-          (λ more. branch (w 24 refl) (w 20 refl) (compared-other _ g.r3 32 small (omega arith) (λ h. omega arith)) refl
-          (bursts_down b x s t (omega arith) few more (omega arith) order (part c (omega arith) (omega arith) (omega arith) (omega arith)) (omega arith) (omega arith) at
-          (λ g' f k at' same. next g' f k at' (same ∙ down m _ s t 32 g.r3 d moved (omega arith) order))))))))) good
+      (computes (w 20 refl) count tt
+      (skip (w 21 refl) (compared-below _ g.r3 32 small (omega arith) (omega arith))
+      (loads {x = s + d} (w 22 refl) take_down tt (omega arith) c.from (omega arith) (omega arith) (omega arith)
+      (stores {x = t + d} (w 23 refl) (w 24 refl) give_down tt (omega arith) c.to (omega arith) (omega arith) (omega arith)
+      (either d
+      (λ none. let left : d + 32 ≡ g.r3 = omega arith in longer {k = suc (5 * b + tail_steps x + n)} (omega (arith, tail-zero x))
+      (skip (w 24 refl) (compared-equal _ g.r3 32 small (omega arith) (omega arith))
+      (branch (w 25 refl) (w 1 refl) tt refl
+      (next _ _ _ at (moved ∙ last m s t d none ∙ ap (λ (k : ℕ). store m t (load m s k)) left)))))
+      (λ more. branch (w 24 refl) (w 20 refl) (compared-other _ g.r3 32 small (omega arith) (λ h. omega arith)) refl
+      (bursts_down b x s t (omega arith) few more (omega arith) order (part c (omega arith) (omega arith) (omega arith) (omega arith)) (omega arith) (omega arith) at
+      (λ g' f k at' same. next g' f k at' (same ∙ down m _ s t 32 g.r3 d moved (omega arith) order))))))))) good
 
   -- ---- the rows of copies
 
@@ -213,7 +212,14 @@ module _ {W : World} {S : Code W} (w : IsBoot S) where
       → S.start ≤ p → p + 12 < S.end → p % 4 ≡ 0 → 0 < c → c % 4 ≡ 0 → c < 2 ^ 32 → s < 2 ^ 32 → t < 2 ^ 32 → Copying S s t c
       → Head n (p + 4 + 4 + 4) (store m t (load m s c)) Q → Head (upward_steps (c / 32) (c % 32 / 4) + (if nat_lt s t then 2 else 0) + n) p m Q
   unfolding arm_condition
-  copy_row s t c p {n} {m} {Q} e1 e2 e3 low high whole some words small s_small t_small place next g status k at same good = go (nat_lt s t) refl
+  copy_row s t c p {n} {m} {Q} e1 e2 e3 low high whole some words small s_small t_small place next g status k at same good =
+      let room = S.readable.room in let c_at = c_is in
+      longer (omega (arith, up-steps (c / 32) (c % 32 / 4)))
+      (loads {x = g.r0} (w 1 refl) take_three tt (omega arith) S.readable (omega arith) (omega arith) (omega arith)
+      (computes (w 2 refl) compare tt
+      (skip (w 3 refl) (compared-other _ (word k (g.r0 + 4 + 4)) 0 (omega arith) (omega arith) (λ e. omega arith))
+      (computes (w 4 refl) compare_targets tt
+      (turn (nat_lt s t) refl))))) good
     where
       s_is : word k g.r0 ≡ s
       s_is = still g.r0 good (omega arith) (omega arith) ∙ ap (word S.origin) at ∙ e1
@@ -224,31 +230,23 @@ module _ {W : World} {S : Code W} (w : IsBoot S) where
       c_is : word k (g.r0 + 4 + 4) ≡ c
       c_is = still (g.r0 + 4 + 4) good (omega arith) (omega arith) ∙ ap (λ (x : ℕ). word S.origin (x + 4 + 4)) at ∙ e3
 
-      go : (b : Bool) → nat_lt s t ≡ b → Run W (upward_steps (c / 32) (c % 32 / 4) + (if b then 2 else 0) + n) (placed W g (S.start + 4) status k) Q
-      go true h =
-          let below : s < t = ltb-true s t h in
-          let room = S.readable.room in let s_at = s_is in let t_at = t_is in let c_at = c_is in
-          longer (omega (arith, up-steps (c / 32) (c % 32 / 4)))
-              (loads {x = g.r0} (w 1 refl) take_three tt (omega arith) S.readable (omega arith) (omega arith) (omega arith)
-              (computes (w 2 refl) compare tt
-              (skip (w 3 refl) (compared-other _ (word k (g.r0 + 4 + 4)) 0 (omega arith) (omega arith) (λ e. omega arith))
-              (computes (w 4 refl) compare_targets tt
-              (branch (w 5 refl) (w 18 refl) (compared-below _ (word k (g.r0 + 4)) (word k g.r0) (omega arith) (omega arith) (omega arith), compared-other _ (word k (g.r0 + 4)) (word k g.r0) (omega arith) (omega arith) (λ e. omega arith)) refl
-              (computes (w 18 refl) add_1 tt
-              (computes (w 19 refl) add_2 tt
-              (bursts_down (c / 32) (c % 32 / 4) s t (omega arith) (omega arith) (omega arith) (omega arith) (omega arith) (part place (omega arith) (omega arith) (omega arith) (omega arith)) (omega arith) (omega arith) (omega arith)
-              (λ g' f k' at' same'. next g' f k' at' (same' ∙ ap₂ (λ (m : Bytes) (c : ℕ). store m t (load m s c)) same c_is)))))))))) good
-      go false h =
-          let above : t ≤ s = ltb-false s t h in
-          let room = S.readable.room in let s_at = s_is in let t_at = t_is in let c_at = c_is in
-          longer (omega (arith, up-steps (c / 32) (c % 32 / 4)))
-              (loads {x = g.r0} (w 1 refl) take_three tt (omega arith) S.readable (omega arith) (omega arith) (omega arith)
-              (computes (w 2 refl) compare tt
-              (skip (w 3 refl) (compared-other _ (word k (g.r0 + 4 + 4)) 0 (omega arith) (omega arith) (λ e. omega arith))
-              (computes (w 4 refl) compare_targets tt
-              (skip (w 5 refl) (not_above (word k g.r0) (word k (g.r0 + 4)) _ (omega arith) (omega arith) (omega arith))
-              (bursts_up (c / 32) (c % 32 / 4) (omega arith) (omega arith) (omega arith) (omega arith) (omega arith) (part place (omega arith) (omega arith) (omega arith) (omega arith)) (omega arith)
-              (λ g' f k' at' same'. next g' f k' at' (same' ∙ rw (s_is, t_is, c_is, same) refl)))))))) good
+      turn : (b : Bool) → nat_lt s t ≡ b
+          → Go S ((if b then 2 else 0) + (1 + (5 * (c / 32) + tail_steps (c % 32 / 4))) + n) (record g { r0 = (g.r0 + 12) % 4294967296; r1 = word k g.r0; r2 = word k (g.r0 + 4); r3 = word k (g.r0 + 4 + 4) })
+          5 (compared (compared status (word k (g.r0 + 4 + 4)) 0) (word k (g.r0 + 4)) (word k g.r0)) k Q
+      turn true h =
+          let below : s < t = ltb-true s t h in let room = S.readable.room in let s_at = s_is in let t_at = t_is in let c_at = c_is in
+          longer (omega arith)
+          (branch (w 5 refl) (w 18 refl) (compared-below _ (word k (g.r0 + 4)) (word k g.r0) (omega arith) (omega arith) (omega arith), compared-other _ (word k (g.r0 + 4)) (word k g.r0) (omega arith) (omega arith) (λ e. omega arith)) refl
+          (computes (w 18 refl) add_1 tt
+          (computes (w 19 refl) add_2 tt
+          (bursts_down (c / 32) (c % 32 / 4) s t (omega arith) (omega arith) (omega arith) (omega arith) (omega arith) (part place (omega arith) (omega arith) (omega arith) (omega arith)) (omega arith) (omega arith) (omega arith)
+          (λ g' f k' at' same'. next g' f k' at' (same' ∙ ap₂ (λ (m : Bytes) (c : ℕ). store m t (load m s c)) same c_is))))))
+      turn false h =
+          let above : t ≤ s = ltb-false s t h in let room = S.readable.room in let s_at = s_is in let t_at = t_is in let c_at = c_is in
+          longer (omega arith)
+          (skip (w 5 refl) (not_above (word k g.r0) (word k (g.r0 + 4)) _ (omega arith) (omega arith) (omega arith))
+          (bursts_up (c / 32) (c % 32 / 4) (omega arith) (omega arith) (omega arith) (omega arith) (omega arith) (part place (omega arith) (omega arith) (omega arith) (omega arith)) (omega arith)
+          (λ g' f k' at' same'. next g' f k' at' (same' ∙ rw (s_is, t_is, c_is, same) refl))))
 
   -- ---- a zero fill
 
@@ -262,16 +260,16 @@ module _ {W : World} {S : Code W} (w : IsBoot S) where
   unfolding arm_condition
   clears zero {g = g} {m} e small none whole f at next =
       longer (omega arith)
-          (stores (w 36 refl) (w 37 refl) store_up tt refl f (omega arith) (omega arith) whole
-          (computes (w 37 refl) count tt
-          (skip (w 38 refl) (compared-equal _ g.r3 4 small (omega arith) e)
-          (branch (w 39 refl) (w 33 refl) tt refl
-          (next _ _ _ at none (fill m g.r4 g.r2 g.r3 _ 0 none refl e))))))
+      (stores (w 36 refl) (w 37 refl) store_up tt refl f (omega arith) (omega arith) whole
+      (computes (w 37 refl) count tt
+      (skip (w 38 refl) (compared-equal _ g.r3 4 small (omega arith) e)
+      (branch (w 39 refl) (w 33 refl) tt refl
+      (next _ _ _ at none (fill m g.r4 g.r2 g.r3 _ 0 none refl e))))))
   clears (suc j) {g = g} {m} e small none whole f at next =
       let room = f.readable.room in
       longer (omega arith)
-          (stores (w 36 refl) (w 37 refl) store_up tt refl f (omega arith) (omega arith) whole
-          (computes (w 37 refl) count tt
-          (branch (w 38 refl) (w 36 refl) (compared-other _ g.r3 4 small (omega arith) (λ h. omega arith)) refl
-          (clears j (omega arith) (omega arith) none (omega arith) (narrowed_free f (omega arith) (omega arith)) at
-          (λ g' f k at' none' same. next g' f k at' none' (same ∙ fill m g.r4 g.r2 g.r3 _ _ none (omega arith) (omega arith)))))))
+      (stores (w 36 refl) (w 37 refl) store_up tt refl f (omega arith) (omega arith) whole
+      (computes (w 37 refl) count tt
+      (branch (w 38 refl) (w 36 refl) (compared-other _ g.r3 4 small (omega arith) (λ h. omega arith)) refl
+      (clears j (omega arith) (omega arith) none (omega arith) (narrowed_free f (omega arith) (omega arith)) at
+      (λ g' f k at' none' same. next g' f k at' none' (same ∙ fill m g.r4 g.r2 g.r3 _ _ none (omega arith) (omega arith)))))))

@@ -1,6 +1,6 @@
 -- The rows of a placement boot: the startup code with their table leads from every permitted state to
 -- the entry, in exactly the steps that they take, and the memory is then the view.
-use Rattle.std.proofs.Common.{◌≡◌, ◌≢◌, ℕ, zero, suc, ◌+◌, ◌-◌, ◌*◌, ◌/◌, ◌%◌, ◌<◌, ◌≤◌, Bool, true, false, ◌==◌, nat_lt, List, [], ◌∷◌, ◌++◌, length, get_or, refl, sym, ap, subst, ◌∙◌, arith, ◌⊎◌, inl, inr, Some, None, length-append, ltb-true}
+use Rattle.std.proofs.Common.{◌≡◌, ◌≢◌, ℕ, zero, suc, ◌+◌, ◌-◌, ◌*◌, ◌/◌, ◌%◌, ◌<◌, ◌≤◌, Bool, true, false, ◌==◌, nat_lt, if◌then◌else◌, List, [], ◌∷◌, ◌++◌, length, get_or, refl, ap, subst, ◌∙◌, arith, ◌⊎◌, inl, inr, Some, length-append, ltb-true}
 use Rattle.std.specs.Prelude.{slice_index}
 use Rattle.std.proofs.Math.ListN.{get_or-append}
 use Rattle.sdt_word.specs.Bytes.{bytes_of, number_of, word}
@@ -14,11 +14,12 @@ use Rattle.arm7_model.proofs.MemoryLemmas.{load-same, not-eq, below_or_not}
 use Rattle.boot_code.specs.declared.rows.CopyRow.{CopyRow}
 use Rattle.boot_code.specs.declared.rows.ZeroRow.{ZeroRow}
 use Rattle.boot_code.specs.Words.{boot_list, boot_instructions}
-use Rattle.boot_code.specs.Startup.{HasWords, copy_words, zero_words, table_list, copied, cleared, copies_steps, parts_steps, startup_steps, IsEntered}
+use Rattle.boot_code.specs.Startup.{HasWords, copy_words, zero_words, table_list, copied, cleared, copied_words, zeroed_words, copies_steps, parts_steps, startup_steps, IsEntered}
+use Rattle.boot_code.specs.Laws.{StartupIsExact, StartupBoots, bound_of, written_by}
 use Rattle.boot_code.specs.Boots.{ByteMap, InRanges, CanStart, BootsIn, HoldsWord, HoldsWords, AllCopies, AllParts, CopyPlaced, ZeroPlaced, Places, moved, zeroed}
 use Rattle.boot_code.proofs.WordsRead.{boot_reads}
-use Rattle.boot_code.proofs.CodeSteps.{World, Run, Code, IsReadable, IsFree, Good, Low, Go, code_reads, longer, still, narrowed_free, begun, skip, branch, enter_0, computes, loads}
-use Rattle.boot_code.proofs.CodeSteps.Computes.{address_0, count, compare, clear_4}
+use Rattle.boot_code.proofs.CodeSteps.{World, Code, IsReadable, IsFree, Good, Low, Go, code_reads, longer, still, narrowed_free, begun, skip, branch, enter_0, computes, loads}
+use Rattle.boot_code.proofs.CodeSteps.Computes.{address_0, compare, clear_4}
 use Rattle.boot_code.proofs.CodeSteps.Loads.{load_0, take_three, take_two}
 use Rattle.boot_code.proofs.BootLoops.{Copying, IsBoot, Head, Parts, copy_row, clears}
 use Rattle.boot_code.proofs.ViewLemmas.{cleared-at, copied-at, moved-some, zeroed-some, moved-outside, zeroed-outside}
@@ -46,11 +47,11 @@ module _ {W : World} {S : Code W} (w : IsBoot S) (files view : ByteMap) (written
       let room = S.readable.room in
       let is_none = still (g.r0 + 4 + 4) good (omega arith) (omega arith) ∙ ap (λ (x : ℕ). word S.origin (x + 4 + 4)) at ∙ none in
       longer (omega arith)
-          (loads {x = g.r0} (w 1 refl) take_three tt (omega arith) S.readable (omega arith) (omega arith) (omega arith)
-          (computes (w 2 refl) compare tt
-          (branch (w 3 refl) (w 32 refl) (compared-equal _ _ 0 (omega arith) (omega arith) is_none) refl
-          (computes (w 32 refl) clear_4 tt
-          (next _ _ _ (omega arith) refl same))))) good
+      (loads {x = g.r0} (w 1 refl) take_three tt (omega arith) S.readable (omega arith) (omega arith) (omega arith)
+      (computes (w 2 refl) compare tt
+      (branch (w 3 refl) (w 32 refl) (compared-equal _ _ 0 (omega arith) (omega arith) is_none) refl
+      (computes (w 32 refl) clear_4 tt
+      (next _ _ _ (omega arith) refl same))))) good
 
   copies_run : (rows : List CopyRow) (tail : List ℕ) (p : ℕ) {n : ℕ} {m : Bytes} {Q : State → Type 0}
       → AllCopies (CopyPlaced files view written a e) rows → HasWords S.origin p (copy_words rows ++ tail)
@@ -64,9 +65,9 @@ module _ {W : World} {S : Code W} (w : IsBoot S) (files view : ByteMap) (written
       let inside = rw other at high in
       let all = length-append (copy_words rows) tail in
       longer (omega arith)
-          (copy_row w r.source r.target r.size p e1 e2 e3 low (omega arith) whole some c_whole (omega arith) (omega arith) (omega arith) (copying r f)
-          (copies_run rows tail (p + 4 + 4 + 4) fits later (omega arith) (omega arith) more (omega arith)
-          (λ g' f' k' at' same'. (rw other at next) g' f' k' (omega arith) same')) g status k at same)
+      (copy_row w r.source r.target r.size p e1 e2 e3 low (omega arith) whole some c_whole (omega arith) (omega arith) (omega arith) (copying r f)
+      (copies_run rows tail (p + 4 + 4 + 4) fits later (omega arith) (omega arith) more (omega arith)
+      (λ g' f' k' at' same'. (rw other at next) g' f' k' (omega arith) same')) g status k at same)
 
   parts_end : (p entry : ℕ) {m : Bytes} → HasWords S.origin p (0 ∷ 0 ∷ entry ∷ []) → S.start ≤ p → p + 12 ≤ S.end → p % 4 ≡ 0 → entry % 4 ≢ 2
       → Parts w 5 p m (IsEntered entry m)
@@ -76,10 +77,10 @@ module _ {W : World} {S : Code W} (w : IsBoot S) (files view : ByteMap) (written
       let here : (g.r0 + 8) % 4294967296 ≡ p + 4 + 4 = omega arith in
       let is_entry = still ((g.r0 + 8) % 4294967296) good (omega arith) (omega arith) ∙ ap (word S.origin) here ∙ w2 in
       loads {x = g.r0} (w 33 refl) take_two tt (omega arith) S.readable (omega arith) (omega arith) (omega arith)
-          (computes (w 34 refl) compare tt
-          (branch (w 35 refl) (w 40 refl) (compared-equal _ _ 0 (omega arith) (omega arith) is_none) refl
-          (loads {x = (g.r0 + 8) % 4294967296} (w 40 refl) load_0 tt (omega arith) S.readable (omega arith) (omega arith) (omega arith)
-          (enter_0 (w 41 refl) is_entry same fair)))) good
+      (computes (w 34 refl) compare tt
+      (branch (w 35 refl) (w 40 refl) (compared-equal _ _ 0 (omega arith) (omega arith) is_none) refl
+      (loads {x = (g.r0 + 8) % 4294967296} (w 40 refl) load_0 tt (omega arith) S.readable (omega arith) (omega arith) (omega arith)
+      (enter_0 (w 41 refl) is_entry same fair)))) good
 
   parts_run : (rows : List ZeroRow) (entry p : ℕ) {m : Bytes} → AllParts (ZeroPlaced view written a e) rows → HasWords S.origin p (zero_words rows ++ (0 ∷ 0 ∷ entry ∷ []))
       → S.start ≤ p → p + 4 * length (zero_words rows ++ (0 ∷ 0 ∷ entry ∷ [])) ≤ S.end → p % 4 ≡ 0 → entry % 4 ≢ 2
@@ -96,11 +97,11 @@ module _ {W : World} {S : Code W} (w : IsBoot S) (files view : ByteMap) (written
       let b_is : word k g.r0 ≡ r.base = still g.r0 good (omega arith) (omega arith) ∙ ap (word S.origin) at ∙ e1 in
       let c_is : word k (g.r0 + 4) ≡ r.size = still (g.r0 + 4) good (omega arith) (omega arith) ∙ ap (λ (x : ℕ). word S.origin (x + 4)) at ∙ e2 in
       longer (omega arith)
-          (loads {x = g.r0} (w 33 refl) take_two tt (omega arith) S.readable (omega arith) (omega arith) (omega arith)
-          (computes (w 34 refl) compare tt
-          (skip (w 35 refl) (compared-other _ (word k (g.r0 + 4)) 0 (omega arith) (omega arith) (λ z. omega arith))
-          (clears w (r.size / 4 - 1) (omega arith) (omega arith) none (omega arith) (narrowed_free (free r f) (omega arith) (omega arith)) (omega arith)
-          (λ g' f' k' at' none' same'. parts_run rows entry (p + 4 + 4) fits later (omega arith) (omega arith) (omega arith) fair g' f' k' at' none' (same' ∙ rw (b_is, c_is, same) refl)))))) good
+      (loads {x = g.r0} (w 33 refl) take_two tt (omega arith) S.readable (omega arith) (omega arith) (omega arith)
+      (computes (w 34 refl) compare tt
+      (skip (w 35 refl) (compared-other _ (word k (g.r0 + 4)) 0 (omega arith) (omega arith) (λ z. omega arith))
+      (clears w (r.size / 4 - 1) (omega arith) (omega arith) none (omega arith) (narrowed_free (free r f) (omega arith) (omega arith)) (omega arith)
+      (λ g' f' k' at' none' same'. parts_run rows entry (p + 4 + 4) fits later (omega arith) (omega arith) (omega arith) fair g' f' k' at' none' (same' ∙ rw (b_is, c_is, same) refl)))))) good
 
   -- the startup code with its table reaches the entry in exactly these steps
   startup_run : (copies : List CopyRow) (parts : List ZeroRow) (entry : ℕ) {status : ℕ} {g : Low} {m : Bytes}
@@ -115,10 +116,10 @@ module _ {W : World} {S : Code W} (w : IsBoot S) (files view : ByteMap) (written
       let some = length-append (zero_words parts) end in
       let (w0, (w1, (w2, later))) = words-after S.origin (S.start + 168) (copy_words copies) tail words in
       longer (omega arith)
-          (computes (w 0 refl) address_0 tt
-          (copies_run copies tail (S.start + 168) copy_fits words (omega arith) (omega arith) (omega arith) (omega arith)
-          (copies_end _ w2 (omega arith) (omega arith) (omega arith)
-          (parts_run parts entry _ part_fits later (omega arith) (omega arith) (omega arith) fair)) _ _ _ (omega arith) refl))
+      (computes (w 0 refl) address_0 tt
+      (copies_run copies tail (S.start + 168) copy_fits words (omega arith) (omega arith) (omega arith) (omega arith)
+      (copies_end _ w2 (omega arith) (omega arith) (omega arith)
+      (parts_run parts entry _ part_fits later (omega arith) (omega arith) (omega arith) fair)) _ _ _ (omega arith) refl))
 
 -- ---- a placement
 
@@ -214,14 +215,6 @@ module _ (files view : ByteMap) (written : ℕ → Bool) (copies : List CopyRow)
     apart = off r.base r.size h.off_area;
   }
 
-  copy_targets : (rows : List CopyRow) → AllCopies (CopyPlaced files view written a (a + 4 * length area)) rows → AllCopies (λ r. (k : ℕ) → k < r.size → (v : ℕ) × (view (r.target + k) ≡ Some v)) rows
-  copy_targets [] h = tt
-  copy_targets (r ∷ rows) (h, hs) = (h.to_view, copy_targets rows hs)
-
-  part_ranges : (rows : List ZeroRow) → AllParts (ZeroPlaced view written a (a + 4 * length area)) rows → AllParts (λ r. (k : ℕ) → k < r.size → (v : ℕ) × (view (r.base + k) ≡ Some v)) rows
-  part_ranges [] h = tt
-  part_ranges (r ∷ rows) (h, hs) = (h.in_view, part_ranges rows hs)
-
   -- the memory at the end
   final : (x : ℕ) → cleared (copied s.memory copies) parts x ≡ zeroed 0 (moved s.memory copies) parts x
   final x = cleared-at (copied s.memory copies) parts x ∙ ap (λ (f : Bytes). zeroed 0 f parts x) (λ i y. copied-at s.memory copies y p.in_order i)
@@ -241,8 +234,34 @@ module _ (files view : ByteMap) (written : ℕ → Bool) (copies : List CopyRow)
           thumb = entered.thumb;
           shown = λ x b h. ap (λ (m : Bytes). m x) entered.memory ∙ final x ∙ zeroed-some (moved files copies) (moved s.memory copies) parts x b (moved-some files s.memory copies x b held) (p.shows x b h);
           elsewhere = λ x none.
-              ap (λ (m : Bytes). m x) entered.memory ∙ final x ∙ zeroed-outside view (moved s.memory copies) parts x none (part_ranges parts p.each_part)
-              ∙ moved-outside view s.memory copies x none (copy_targets copies p.each_copy);
+              ap (λ (m : Bytes). m x) entered.memory ∙ final x ∙ zeroed-outside view written a _ (moved s.memory copies) parts x none p.each_part
+              ∙ moved-outside files view written a _ s.memory copies x none p.each_copy;
           safe = safe;
         },
       )
+
+-- ---- the law, and the bound
+
+row-bound : (c : ℕ) (d b : Bool) → (if d then 6 + 5 * (c / 32) else 9 + 5 * (c / 32) + 4 * (c % 32 / 4)) + (if b then 2 else 0) ≤ 16 + 4 * (c / 4)
+row-bound c true true = omega arith
+row-bound c true false = omega arith
+row-bound c false true = omega arith
+row-bound c false false = omega arith
+
+copies-bound : (rows : List CopyRow) → copies_steps rows ≤ 16 * length rows + 4 * copied_words rows
+copies-bound [] = omega arith
+copies-bound (r ∷ rows) = let rest = copies-bound rows in let row = row-bound r.size (r.size % 32 / 4 == 0) (nat_lt r.source r.target) in omega arith
+
+parts-bound : (rows : List ZeroRow) → parts_steps rows ≤ 12 * length rows + 3 * zeroed_words rows
+parts-bound [] = omega arith
+parts-bound (r ∷ rows) = let rest = parts-bound rows in omega arith
+
+pub startup-bound : (copies : List CopyRow) (parts : List ZeroRow) → startup_steps copies parts ≤ bound_of copies parts
+startup-bound copies parts = omega (arith, copies-bound copies, parts-bound parts)
+
+pub startup_is_exact : StartupIsExact
+startup_is_exact = boots_in
+
+pub startup_boots : StartupBoots
+startup_boots files view copies parts entry a p board s c =
+    (startup_steps copies parts, startup-bound copies parts, startup_is_exact files view (written_by copies parts) copies parts entry a p board s c)

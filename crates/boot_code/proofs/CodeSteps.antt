@@ -7,7 +7,7 @@ use Rattle.sdt_word.specs.Numbers.{bit, sign_extended}
 use Rattle.sdt_word.specs.Bytes.{bytes_of, number_of, word}
 use Rattle.sdt_word.proofs.BytesLemmas.{length-bytes_of, get_or-bytes_of-lt}
 use Rattle.sdt_word.specs.declared.codes.Condition.{Condition}
-use Rattle.sdt_word.specs.declared.codes.Condition.TheVariants.{Eq, Ne, Cs, Cc, Mi, Pl, Vs, Vc, Hi, Ls, Ge, Lt, Gt, Le, Al}
+use Rattle.sdt_word.specs.declared.codes.Condition.TheVariants.{Eq, Ne, Cc, Hi, Al}
 use Rattle.sdt_word.specs.declared.codes.ShiftKind.TheVariants.{Lsl}
 use Rattle.sdt_word.specs.declared.codes.Width.TheVariants.{Word}
 use Rattle.arm_isa.specs.declared.instr.ArmInstr.{ArmInstr}
@@ -19,7 +19,7 @@ use Rattle.arm7_model.specs.declared.event.Event.TheVariants as event
 use Rattle.arm7_model.specs.Memory.{Bytes, Board, store}
 use Rattle.arm7_model.specs.Registers.{State, register, is_thumb, as_pc}
 use Rattle.arm7_model.specs.Arithmetic.{passes, with_flags}
-use Rattle.arm7_model.specs.Accesses.{Access, Fetch, Load, Store, Working}
+use Rattle.arm7_model.specs.Accesses.{Access, Fetch, Working}
 use Rattle.arm7_model.specs.Branches.{status_with_thumb}
 use Rattle.arm7_model.specs.ArmStep.{arm_condition, arm_done}
 use Rattle.arm7_model.proofs.Opens.{row_opens}
@@ -104,16 +104,9 @@ abbrev pub listed : Low → List ℕ
 listed g = g.r4 ∷ g.r5 ∷ g.r6 ∷ g.r7 ∷ g.r8 ∷ g.r9 ∷ g.r10 ∷ g.r11 ∷ []
 
 abbrev pub eight : Low → Bytes → ℕ → Low
-eight g m x = record g {
-  r4 = word m x;
-  r5 = word m (x + 4);
-  r6 = word m (x + 4 + 4);
-  r7 = word m (x + 4 + 4 + 4);
-  r8 = word m (x + 4 + 4 + 4 + 4);
-  r9 = word m (x + 4 + 4 + 4 + 4 + 4);
-  r10 = word m (x + 4 + 4 + 4 + 4 + 4 + 4);
-  r11 = word m (x + 4 + 4 + 4 + 4 + 4 + 4 + 4);
-}
+eight g m x =
+    let x4 = x + 4 in let x8 = x4 + 4 in let x12 = x8 + 4 in let x16 = x12 + 4 in let x20 = x16 + 4 in let x24 = x20 + 4 in
+    record g { r4 = word m x; r5 = word m x4; r6 = word m x8; r7 = word m x12; r8 = word m x16; r9 = word m x20; r10 = word m x24; r11 = word m (x24 + 4) }
 
 abbrev pub placed : World → Low → ℕ → ℕ → Bytes → State
 placed W g pc status m = state_of W.rest (all_of g pc) status m
@@ -128,11 +121,8 @@ longer e go good = let (t, run, holds) = go good in (t, lasting e run, holds)
 -- ---- parts of memory
 
 pub narrowed : {W : World} {lo hi low high : ℕ} → IsReadable W lo hi → lo ≤ low → high ≤ hi → IsReadable W low high
-narrowed r above below = record {
-  room = omega (arith, r.room);
-  mapped = λ x low high. r.mapped x (omega arith) (omega arith);
-  allowed = λ x low high. r.allowed x (omega arith) (omega arith);
-}
+narrowed r above below =
+    record { room = omega (arith, r.room); mapped = λ x low high. r.mapped x (omega arith) (omega arith); allowed = λ x low high. r.allowed x (omega arith) (omega arith) }
 
 pub narrowed_free : {W : World} {S : Code W} {lo hi low high : ℕ} → IsFree S lo hi → lo ≤ low → high ≤ hi → IsFree S low high
 narrowed_free {S = S} {lo} {hi} {low} {high} f above below =

@@ -3,7 +3,6 @@ pub mod CodeSteps
 pub mod BootLoops
 pub mod ViewLemmas
 pub mod BootPlaces
-pub mod Bound
 pub mod AifRuns
 pub mod AifImage
 mod Counts

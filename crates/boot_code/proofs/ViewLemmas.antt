@@ -7,7 +7,7 @@ use Rattle.arm7_model.proofs.MemoryLemmas.{store-in, store-below, store-above}
 use Rattle.boot_code.specs.declared.rows.CopyRow.{CopyRow}
 use Rattle.boot_code.specs.declared.rows.ZeroRow.{ZeroRow}
 use Rattle.boot_code.specs.Startup.{zeros, copied, cleared}
-use Rattle.boot_code.specs.Boots.{ByteMap, AllCopies, AllParts, AreApart, OffLater, InOrder, covers, moved, zeroed}
+use Rattle.boot_code.specs.Boots.{ByteMap, AllCopies, AllParts, CopyPlaced, ZeroPlaced, AreApart, OffLater, InOrder, covers, moved, zeroed}
 
 pub length-zeros : (n : ℕ) → length (zeros n) ≡ n
 length-zeros zero = refl
@@ -139,12 +139,10 @@ outside view b n x inside none = go (covers b n x) refl
         let here : view x ≡ Some v = subst At same shown in
         absurd (some_none v (sym here ∙ none))
 
-pub moved-outside : (view : ByteMap) (m : Bytes) (rows : List CopyRow) (x : ℕ) → view x ≡ None
-    → AllCopies (λ r. (k : ℕ) → k < r.size → (v : ℕ) × (view (r.target + k) ≡ Some v)) rows → moved m rows x ≡ m x
-moved-outside view m [] x none all = refl
-moved-outside view m (r ∷ rows) x none (first, all) = rw (outside view r.target r.size x first none) (moved-outside view m rows x none all)
+pub moved-outside : (files view : ByteMap) (written : ℕ → Bool) (a e : ℕ) (m : Bytes) (rows : List CopyRow) (x : ℕ) → view x ≡ None → AllCopies (CopyPlaced files view written a e) rows → moved m rows x ≡ m x
+moved-outside files view written a e m [] x none all = refl
+moved-outside files view written a e m (r ∷ rows) x none (first, all) = rw (outside view r.target r.size x first.to_view none) (moved-outside files view written a e m rows x none all)
 
-pub zeroed-outside : (view : ByteMap) (m : Bytes) (rows : List ZeroRow) (x : ℕ) → view x ≡ None
-    → AllParts (λ r. (k : ℕ) → k < r.size → (v : ℕ) × (view (r.base + k) ≡ Some v)) rows → zeroed 0 m rows x ≡ m x
-zeroed-outside view m [] x none all = refl
-zeroed-outside view m (r ∷ rows) x none (first, all) = rw (outside view r.base r.size x first none) (zeroed-outside view m rows x none all)
+pub zeroed-outside : (view : ByteMap) (written : ℕ → Bool) (a e : ℕ) (m : Bytes) (rows : List ZeroRow) (x : ℕ) → view x ≡ None → AllParts (ZeroPlaced view written a e) rows → zeroed 0 m rows x ≡ m x
+zeroed-outside view written a e m [] x none all = refl
+zeroed-outside view written a e m (r ∷ rows) x none (first, all) = rw (outside view r.base r.size x first.in_view none) (zeroed-outside view written a e m rows x none all)

@@ -38,9 +38,7 @@ fn push_copy(out: &mut Vec<u32>, row: &CopyRow) -> Result<(), NoMemory>
     if row.size == 0 {
         return Ok(());
     }
-    out.push(row.source)?;
-    out.push(row.target)?;
-    out.push(row.size)?;
+    out.extend_from_slice(&[row.source, row.target, row.size])?;
     Ok(())
 }
 
@@ -59,8 +57,7 @@ fn push_part(out: &mut Vec<u32>, row: &ZeroRow) -> Result<(), NoMemory>
     if row.size == 0 {
         return Ok(());
     }
-    out.push(row.base)?;
-    out.push(row.size)?;
+    out.extend_from_slice(&[row.base, row.size])?;
     Ok(())
 }
 

@@ -1,5 +1,5 @@
-use Rattle.boot_code.proofs.Bound
+use Rattle.boot_code.proofs.BootPlaces
 use Rattle.boot_code.proofs.laws.startup_boots.Goals as goal
 
 pub returns : goal.returns
-returns c = Bound.startup_boots
+returns c = BootPlaces.startup_boots
