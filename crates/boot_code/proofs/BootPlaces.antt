@@ -1,6 +1,6 @@
 -- The rows of a placement boot: the startup code with their table leads from every permitted state to
 -- the entry, in exactly the steps that they take, and the memory is then the view.
-use Rattle.std.proofs.Common.{◌≡◌, ◌≢◌, ℕ, zero, suc, ◌+◌, ◌-◌, ◌*◌, ◌/◌, ◌%◌, ◌<◌, ◌≤◌, Bool, true, false, ◌==◌, nat_lt, if◌then◌else◌, List, [], ◌∷◌, ◌++◌, length, get_or, refl, ap, subst, ◌∙◌, arith, ◌⊎◌, inl, inr, Some, length-append, ltb-true}
+use Rattle.std.proofs.Common.{◌≡◌, ◌≢◌, ℕ, zero, suc, ◌+◌, ◌-◌, ◌*◌, ◌/◌, ◌%◌, ◌^◌, ◌<◌, ◌≤◌, Bool, true, false, ◌==◌, nat_lt, if◌then◌else◌, List, [], ◌∷◌, ◌++◌, length, get_or, refl, ap, subst, ◌∙◌, arith, ◌⊎◌, inl, inr, Some, length-append, ltb-true}
 use Rattle.std.specs.Prelude.{slice_index}
 use Rattle.std.proofs.Math.ListN.{get_or-append}
 use Rattle.sdt_word.specs.Bytes.{bytes_of, number_of, word}
@@ -10,7 +10,7 @@ use Rattle.arm7_model.specs.Registers.{State}
 use Rattle.arm7_model.specs.ArmStep.{arm_condition}
 use Rattle.arm7_model.proofs.Steps.{compared-equal, compared-other}
 use Rattle.arm7_model.proofs.Leading.{after}
-use Rattle.arm7_model.proofs.MemoryLemmas.{load-same, not-eq, below_or_not}
+use Rattle.arm7_model.proofs.MemoryLemmas.{load-same, not-eq}
 use Rattle.boot_code.specs.declared.rows.CopyRow.{CopyRow}
 use Rattle.boot_code.specs.declared.rows.ZeroRow.{ZeroRow}
 use Rattle.boot_code.specs.Words.{boot_list, boot_instructions}
@@ -29,11 +29,6 @@ use Rattle.boot_code.proofs.ViewLemmas.{cleared-at, copied-at, moved-some, zeroe
 words-after : (m : Bytes) (p : ℕ) (xs ys : List ℕ) → HasWords m p (xs ++ ys) → HasWords m (p + 4 * length xs) ys
 words-after m p [] ys h = let At : ℕ → Type 0 = λ k. HasWords m k ys in subst At (omega arith) h
 words-after m p (x ∷ xs) ys (first, later) = let At : ℕ → Type 0 = λ k. HasWords m k ys in subst At (omega arith) (words-after m (p + 4) xs ys later)
-
-word-at : (m : Bytes) (p : ℕ) (ws : List ℕ) (i : ℕ) → HasWords m p ws → i < length ws → word m (p + 4 * i) ≡ get_or ws i 0
-word-at m p [] i h lt = absurd (omega arith)
-word-at m p (w ∷ ws) zero (first, later) lt = ap (word m) (omega arith) ∙ first
-word-at m p (w ∷ ws) (suc i) (first, later) lt = ap (word m) (omega arith) ∙ word-at m (p + 4) ws i later (omega arith)
 
 -- ---- the rows
 
@@ -133,17 +128,16 @@ words-held : (files : ByteMap) (m : Bytes) (p : ℕ) (ws : List ℕ) → ((x b :
 words-held files m p [] held h = tt
 words-held files m p (w ∷ ws) held (first, later) = (word-held files m p w held first, words-held files m (p + 4) ws held later)
 
+held-at : (files : ByteMap) (p : ℕ) (ws : List ℕ) (i : ℕ) → HoldsWords files p ws → i < length ws → HoldsWord files (p + 4 * i) (get_or ws i 0)
+held-at files p [] i h lt = absurd (omega arith)
+held-at files p (w ∷ ws) zero h lt = let At : ℕ → Type 0 = λ k. HoldsWord files k w in subst At (omega arith) h.0
+held-at files p (w ∷ ws) (suc i) h lt = let At : ℕ → Type 0 = λ k. HoldsWord files k (get_or ws i 0) in subst At (omega arith) (held-at files (p + 4) ws i h.1 (omega arith))
+
 -- each address of the words has a byte in the files
 inside : (files : ByteMap) (p : ℕ) (ws : List ℕ) (x : ℕ) → HoldsWords files p ws → p ≤ x → x < p + 4 * length ws → (b : ℕ) × (files x ≡ Some b)
-inside files p [] x h low high = absurd (omega arith)
-inside files p (w ∷ ws) x (first, later) low high = go (below_or_not x (p + 4)) (λ le. inside files (p + 4) ws x later le (omega arith))
-  where
-    go : (x < p + 4) ⊎ (p + 4 ≤ x) → (p + 4 ≤ x → (b : ℕ) × (files x ≡ Some b)) → (b : ℕ) × (files x ≡ Some b)
-    go (inl lt) rest =
-        let same : p + (x - p) ≡ x = omega arith in
-        let At : ℕ → Type 0 = λ y. files y ≡ Some (slice_index (bytes_of w 4) (x - p)) in
-        (slice_index (bytes_of w 4) (x - p), subst At same (first.each (x - p) (omega arith)))
-    go (inr le) rest = rest le
+inside files p ws x h low high =
+    let word_held = held-at files p ws ((x - p) / 4) h (omega arith) in
+    (slice_index (bytes_of (get_or ws ((x - p) / 4) 0) 4) ((x - p) % 4), ap files (omega arith) ∙ word_held.each ((x - p) % 4) (omega arith))
 
 module _ (files view : ByteMap) (written : ℕ → Bool) (copies : List CopyRow) (parts : List ZeroRow) (entry a : ℕ) (p : Places files view written copies parts entry a)
     (board : Board) (s : State) (c : CanStart files view written a board s) where
@@ -177,12 +171,23 @@ module _ (files view : ByteMap) (written : ℕ → Bool) (copies : List CopyRow)
       let some : 1 ≤ length (table_list copies parts entry) =
       omega (arith, length-append (copy_words copies) (0 ∷ 0 ∷ 0 ∷ (zero_words parts ++ (0 ∷ 0 ∷ entry ∷ [])))) in
       code_reads code boot_list boot_instructions 0 boot_reads
-      (λ i lt. ap (word s.memory) (omega arith) ∙ word-at s.memory a area i area_words (omega (arith, counted)) ∙ get_or-append boot_list (table_list copies parts entry) 0 i lt)
+      (λ i lt. ap (word s.memory) (omega arith) ∙ word-held files s.memory (a + 4 * i) (get_or area i 0) held (held-at files a area i p.area (omega (arith, counted))) ∙ get_or-append boot_list (table_list copies parts entry) 0 i lt)
       (omega (arith, counted, some)) i i (omega arith) (ltb-true i 42 h)
 
   off : (b n : ℕ) → (b + n ≤ a) ⊎ (a + (a + 4 * length area - a) ≤ b) → (b + n ≤ a) ⊎ (a + 4 * length area ≤ b)
   off b n (inl h) = inl h
   off b n (inr h) = inr (omega arith)
+
+  to_view : (b n : ℕ) → b + n ≤ 2 ^ 32 → ((k : ℕ) → k < n → (v : ℕ) × (view (b + k) ≡ Some v)) → ((k : ℕ) → k < n → written (b + k) ≡ true) → (b + n ≤ a) ⊎ (a + (a + 4 * length area - a) ≤ b) → IsFree code b (b + n)
+  to_view b n room shown may apart = record {
+    readable = record {
+      room = room;
+      mapped = λ x low high. let (v, at) = shown (x - b) (omega arith) in c.there x v (ap view (omega arith) ∙ at);
+      allowed = λ x low high. let (v, at) = shown (x - b) (omega arith) in inr (v, ap view (omega arith) ∙ at);
+    };
+    writable = λ x low high. c.writable x (ap written (omega arith) ∙ may (x - b) (omega arith));
+    apart = off b n apart;
+  }
 
   copying : (r : CopyRow) → CopyPlaced files view written a (a + 4 * length area) r → Copying code r.source r.target r.size
   copying r h = record {
@@ -190,30 +195,14 @@ module _ (files view : ByteMap) (written : ℕ → Bool) (copies : List CopyRow)
     target_whole = h.target_whole;
     from = record {
       room = h.source_room;
-      mapped = λ x low high. let (b, at) = h.from_files (x - r.source) (omega arith) in ap board.memory (omega arith) ∙ (c.loaded (r.source + (x - r.source)) b at).0;
+      mapped = λ x low high. let (b, at) = h.from_files (x - r.source) (omega arith) in (c.loaded x b (ap files (omega arith) ∙ at)).0;
       allowed = λ x low high. let (b, at) = h.from_files (x - r.source) (omega arith) in inl (b, ap files (omega arith) ∙ at);
     };
-    to = record {
-      readable = record {
-        room = h.target_room;
-        mapped = λ x low high. let (b, at) = h.to_view (x - r.target) (omega arith) in c.there x b (ap view (omega arith) ∙ at);
-        allowed = λ x low high. let (b, at) = h.to_view (x - r.target) (omega arith) in inr (b, ap view (omega arith) ∙ at);
-      };
-      writable = λ x low high. c.writable x (ap written (omega arith) ∙ h.to_written (x - r.target) (omega arith));
-      apart = off r.target r.size h.off_area;
-    };
+    to = to_view r.target r.size h.target_room h.to_view h.to_written h.off_area;
   }
 
   free : (r : ZeroRow) → ZeroPlaced view written a (a + 4 * length area) r → IsFree code r.base (r.base + r.size)
-  free r h = record {
-    readable = record {
-      room = h.room;
-      mapped = λ x low high. let (b, at) = h.in_view (x - r.base) (omega arith) in c.there x b (ap view (omega arith) ∙ at);
-      allowed = λ x low high. let (b, at) = h.in_view (x - r.base) (omega arith) in inr (b, ap view (omega arith) ∙ at);
-    };
-    writable = λ x low high. c.writable x (ap written (omega arith) ∙ h.to_written (x - r.base) (omega arith));
-    apart = off r.base r.size h.off_area;
-  }
+  free r h = to_view r.base r.size h.room h.in_view h.to_written h.off_area
 
   -- the memory at the end
   final : (x : ℕ) → cleared (copied s.memory copies) parts x ≡ zeroed 0 (moved s.memory copies) parts x
