@@ -143,7 +143,7 @@ none_past d (s ∷ ss) area n fits past =
     let before = laid_of d ss in
     let l = laid_behind d s before in
     let fewer = low_of (length (areas_behind (statements_of before))) (length (areas_behind (statements_of (l ∷ before)))) n (areas_fewer (l ∷ []) before) fits in
-    let within = (line_within n [] d s ss fits).area in
+    let within = (line_within n [] d s (laid_of d ss) fits).area in
     rw (none_past d ss area n fewer past) (none_in area l l.statement.what (other_area area n l.area within past))
 
 -- ---- areas by their numbers

@@ -66,7 +66,7 @@ within_there statements areas w before rest l x h =
     let low : length (areas_behind (statements_of (l ∷ before))) ≤ n =
     low_of (length (areas_behind (statements_of (l ∷ before)))) (length (areas_behind (statements_of (reversed rest (l ∷ before))))) n (areas_fewer rest (l ∷ before))
     (subst (λ (ls : List LaidLine). length (areas_behind (statements_of ls)) ≤ n) h.parts full) in
-    let there = line_within n [] d b.s b.ss (subst (λ (ls : List LaidLine). length (areas_behind (statements_of ls)) ≤ n) same low) in
+    let there = line_within n [] d b.s (laid_of d b.ss) (subst (λ (ls : List LaidLine). length (areas_behind (statements_of ls)) ≤ n) same low) in
     subst (λ (k : LaidLine). IsWithin n k.area) (sym b.line) there.area
 
 pub area_there : (areas : List LaidArea) (i : ℕ) → i < length areas → (a : LaidArea) × (slice_get areas i ≡ Some a)

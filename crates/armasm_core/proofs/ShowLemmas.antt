@@ -156,7 +156,7 @@ place_of statements areas w known before rest l x h =
     let low : length (areas_behind (statements_of (l ∷ before))) ≤ n =
     low_of (length (areas_behind (statements_of (l ∷ before)))) (length (areas_behind (statements_of (reversed rest (l ∷ before))))) n (areas_fewer rest (l ∷ before))
     (subst (λ (ls : List LaidLine). length (areas_behind (statements_of ls)) ≤ n) h.parts full) in
-    let there = line_within n locals d b.s b.ss (subst (λ (ls : List LaidLine). length (areas_behind (statements_of ls)) ≤ n) same low) in
+    let there = line_within n locals d b.s (laid_of d b.ss) (subst (λ (ls : List LaidLine). length (areas_behind (statements_of ls)) ≤ n) same low) in
     record {
       here = h;
       behind = b;
