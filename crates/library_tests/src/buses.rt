@@ -139,7 +139,22 @@ fn take_first(rt: &impl Abort, bus: &mut Bus)
 }
 
 #[test]
-fn accesses_and_a_detached_device(rt: HostRuntime) -> Result<(), Fail> {
+fn generated_accesses(rt: HostRuntime) -> Result<(), Fail> {
+    let alloc = rt.alloc();
+    let devices: Vec<Box<dyn Device>> = Vec::new(alloc);
+    match Bus::new(alloc, devices) {
+        Ok(mut bus) => {
+            start(&mut bus, BANK)?;
+            let mut bytes = vec![in alloc; 0u8; SIZE as usize]?;
+            check_all(&rt, &mut bus, &mut bytes);
+            Ok(())
+        }
+        Err(_refused) => Err("there are no devices".into()),
+    }
+}
+
+#[test]
+fn detached_device(rt: HostRuntime) -> Result<(), Fail> {
     let alloc = rt.alloc();
     let mut devices: Vec<Box<dyn Device>> = Vec::new(alloc);
     devices.push(Box::new(alloc, Timer::new(TIMER_AT))?)?;
@@ -147,12 +162,8 @@ fn accesses_and_a_detached_device(rt: HostRuntime) -> Result<(), Fail> {
     match Bus::new(alloc, devices) {
         Ok(mut bus) => {
             start(&mut bus, BANK)?;
-            let mut bytes = vec![in alloc; 0u8; SIZE as usize]?;
-            check_all(&rt, &mut bus, &mut bytes);
             take_first(&rt, &mut bus);
-            let devices = bus.into_devices();
-            assert_eq!(&rt; devices.len(), 1);
-            assert_eq!(&rt; devices.first().ok_or("one is left")?.touches(), 2);
+            assert_eq!(&rt; bus.into_devices().len(), 1);
             Ok(())
         }
         Err(_refused) => Err("two devices meet".into()),
