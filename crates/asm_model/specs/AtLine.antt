@@ -20,8 +20,7 @@ use Rattle.asm_model.specs.Grammar.{Tree, Leaf, Before, Between, IsSpelled}
 use Rattle.asm_model.specs.Kinds.{told_kind}
 use Rattle.asm_model.specs.Meaning.{named_in, applied, operand_of_item, meaning}
 
--- what a line defines: no name, as with a local label; a name with its entry; or a name for an expression, with the
--- entry that a value makes
+-- what a line defines: no name; a name with its entry; or a name for an expression, with the entry that a value makes
 pub data Definition : Type 0 where
   Nameless : Definition
   Named : LaidName → Definition
@@ -34,10 +33,6 @@ pub record SourceLine : Type 0 where
   pub offset : ℕ
   pub map : ℕ
   pub thumb : Bool
-  -- what its references to local labels name, each under its text behind a bar: on this line and the lines before it,
-  -- and on later lines
-  pub back : List LaidName
-  pub forth : List LaidName
   pub definition : Definition
 
 -- what an expression of the line is evaluated with, where these names are known
@@ -52,11 +47,7 @@ own_names (Equated make t) = []
 
 -- the names that the line knows, where the lines before it know these
 abbrev pub known_names : List LaidName → SourceLine → List LaidName
-known_names seen l = seen ++ own_names l.definition ++ l.back
-
--- all names for the line, where the source defines these
-abbrev pub all_names : List LaidName → SourceLine → List LaidName
-all_names all l = all ++ l.back ++ l.forth
+known_names seen l = seen ++ own_names l.definition
 
 -- what an expression sees at its line: what is known, the names whose size isn't known yet, and all names
 pub record Sight : Type 0 where
@@ -68,7 +59,7 @@ abbrev pub sight : List LaidName → List LaidName → SourceLine → Sight
 sight all seen l = record {
   known = with_names l (known_names seen l);
   unsized = own_names l.definition;
-  all = all_names all l;
+  all = all;
 }
 
 abbrev pub is_in : List LaidName → List ℕ → Bool
@@ -93,7 +84,7 @@ defined_kinds s name =
 
 abbrev pub item_kinds : Sight → ExprItem → List LineKind
 item_kinds s (item.Name name) = value_kinds s name
-item_kinds s (item.Local name) = value_kinds s (124 ∷ name)
+item_kinds s (item.Local name) = UnknownWord ∷ []
 item_kinds s _ = []
 
 abbrev pub asked_kinds : Sight → UnaryOp → ExprItem → List LineKind

@@ -1,7 +1,6 @@
--- What the statements before another say of it: its state, its area, and the stretch of lines in which local labels
--- count. Statements are listed with the nearest first; an AREA stands in its own area. A source begins in ARM state.
--- SDT 2.50 Reference Guide, chapter on the assembler. This project's: CODE16 and CODE32 count from the next line on, and
--- AREA and ROUT begin a stretch with their own line.
+-- What the statements before another say of it: its state and its area. Statements are listed with the nearest first; an
+-- AREA stands in its own area. A source begins in ARM state. SDT 2.50 Reference Guide, chapter on the assembler. This
+-- project's: CODE16 and CODE32 count from the next line on.
 use Rattle.std.specs.Prelude.{ℕ, ◌+◌, List, [], ◌∷◌, ◌++◌, ◌&&◌, Bool, true, false, if◌then◌else◌, Option, Some, None}
 use Rattle.std.specs.List.{list_any}
 use Rattle.asm_model.specs.declared.directives.Contents.{Contents}
@@ -70,15 +69,3 @@ code_behind (s ∷ before) = code_from s.what (code_behind before)
 -- whether a label of a statement behind these is one of Thumb code
 abbrev pub is_thumb_label : Statement → List Statement → Bool
 is_thumb_label s before = thumb_behind before && code_behind (s ∷ before)
-
--- ---- stretches
-
-abbrev pub begins_stretch : What → Bool
-begins_stretch (what.Directive (line.Area name attributes)) = true
-begins_stretch (what.Directive line.Rout) = true
-begins_stretch _ = false
-
--- the number of the stretch that the last of these statements stands in
-abbrev pub stretch_behind : List Statement → ℕ
-stretch_behind [] = 0
-stretch_behind (s ∷ before) = if begins_stretch s.what then stretch_behind before + 1 else stretch_behind before

@@ -1,16 +1,13 @@
 -- The entries of names. A label's or an imported name's value is itself plus 0; only a label stands in an area. A name
 -- for an expression has the expression's value; but where that counts from the start of the line's area without a
--- symbol, as this place does, the name is its own symbol there, so that it means the same place in every area. Only
--- references to local labels have values without a symbol. SDT 2.50 Reference Guide, chapter on the assembler; how
--- values are kept is this project's.
-use Rattle.std.specs.Prelude.{◌≡◌, ℕ, List, [], ◌∷◌, Bool, false, Option, Some, None}
+-- symbol, as this place does, the name is its own symbol there, so that it means the same place in every area. SDT 2.50
+-- Reference Guide, chapter on the assembler; how values are kept is this project's.
+use Rattle.std.specs.Prelude.{ℕ, List, [], ◌∷◌, Bool, false, Option, Some, None}
 use Rattle.asm_model.specs.declared.values.Value.{Value}
 use Rattle.asm_model.specs.declared.values.Value.TheVariants.{Number, Truth, Words, Place}
 use Rattle.asm_model.specs.declared.names.LaidName.{LaidName}
-use Rattle.asm_model.specs.declared.names.Names.{Names}
-use Rattle.asm_model.specs.AtLine.{SourceLine, with_names, all_names}
 use Rattle.asm_model.specs.Meaning.{named_in}
-use Rattle.asm_model.specs.Placing.{Placing, placed_value, seen_from, IsOfArea, CountFromHere}
+use Rattle.asm_model.specs.Placing.{HasSymbol}
 
 -- a label, with the number of bytes of its statement, and whether it is a label of Thumb code
 abbrev pub label_entry : List ℕ → Option ℕ → ℕ → ℕ → Bool → LaidName
@@ -37,18 +34,6 @@ equal_entry list here name (Number n) = valued_entry name (Number n) false
 equal_entry list here name (Truth b) = valued_entry name (Truth b) false
 equal_entry list here name (Words w) = valued_entry name (Words w) false
 
--- a value that is a place has a symbol
-abbrev pub HasSymbol : Value → Type 0
-HasSymbol (Place [] n) = ⊥
-HasSymbol (Place (c ∷ cs) n) = Unit {0}
-HasSymbol (Number n) = Unit {0}
-HasSymbol (Truth b) = Unit {0}
-HasSymbol (Words w) = Unit {0}
-
 abbrev pub EachHasSymbol : List LaidName → Type 0
 EachHasSymbol [] = Unit {0}
 EachHasSymbol (n ∷ ns) = HasSymbol n.value × EachHasSymbol ns
-
-abbrev pub EachOfArea : Option ℕ → List LaidName → Type 0
-EachOfArea here [] = Unit {0}
-EachOfArea here (n ∷ ns) = IsOfArea here n.area n.value × EachOfArea here ns

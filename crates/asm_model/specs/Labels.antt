@@ -1,7 +1,6 @@
--- What a statement defines: a label, a local label, a name for an expression, a field of the storage map, a name for a
--- register; and besides a name that it imports. A label on ROUT names nothing. SDT 2.50 Reference Guide, chapter on the
--- assembler.
-use Rattle.std.specs.Prelude.{ℕ, ◌+◌, ◌-◌, ◌*◌, ◌==◌, List, [], ◌∷◌, ◌++◌, false, if◌then◌else◌, Option, Some, None}
+-- What a statement defines: a label, a name for an expression, a field of the storage map, a name for a register; and
+-- besides a name that it imports. A label on ROUT names nothing. SDT 2.50 Reference Guide, chapter on the assembler.
+use Rattle.std.specs.Prelude.{ℕ, ◌==◌, List, [], ◌∷◌, ◌++◌, Bool, false, Option, Some, None}
 use Rattle.asm_model.specs.declared.exprs.Expr.{Expr}
 use Rattle.asm_model.specs.declared.values.Value.TheVariants.{Number}
 use Rattle.asm_model.specs.declared.names.LaidName.{LaidName}
@@ -16,33 +15,21 @@ use Rattle.asm_model.specs.Entries.{label_entry, imported_entry, valued_entry}
 
 pub data Defined : Type 0 where
   Unnamed : Defined
-  LocalLabel : ℕ → Defined
   Label : List ℕ → Defined
   Equal : List ℕ → Expr → Defined
   MapField : List ℕ → Defined
   RegisterName : List ℕ → RnOperand → Defined
-
--- the number that one digit or two write
-abbrev pub number_in : List ℕ → ℕ
-number_in [] = 0
-number_in (d ∷ []) = d - 48
-number_in (d ∷ e ∷ cs) = (d - 48) * 10 + (e - 48)
-
--- a label as a line keeps it: a local label's digits stand behind a bar
-abbrev pub labelled : List ℕ → Defined
-labelled [] = Unnamed
-labelled (c ∷ cs) = if c == 124 then LocalLabel (number_in cs) else Label (c ∷ cs)
 
 abbrev pub directive_defines : List ℕ → DirectiveLine → Defined
 directive_defines name (line.Equ e) = Equal name e
 directive_defines name (line.Rn r) = RegisterName name r
 directive_defines name (line.Field e) = MapField name
 directive_defines name line.Rout = Unnamed
-directive_defines name _ = labelled name
+directive_defines name _ = Label name
 
 abbrev pub what_defines : List ℕ → What → Defined
 what_defines name (what.Directive l) = directive_defines name l
-what_defines name _ = labelled name
+what_defines name _ = Label name
 
 abbrev pub field_defines : Option (List ℕ) → What → Defined
 field_defines None w = Unnamed
@@ -50,6 +37,11 @@ field_defines (Some name) w = what_defines name w
 
 abbrev pub defined_by : Statement → Defined
 defined_by s = field_defines s.label s.what
+
+-- whether a name is that of a local label: it begins with a line feed, which no line holds
+abbrev pub is_hidden : List ℕ → Bool
+is_hidden [] = false
+is_hidden (c ∷ cs) = c == 10
 
 -- the name that a statement imports
 abbrev pub imported_in : What → Option (List ℕ)
@@ -65,7 +57,6 @@ imported_entries (Some name) = imported_entry name ∷ []
 
 abbrev pub declared_entries : Defined → Statement → List Statement → List LaidName
 declared_entries Unnamed s before = []
-declared_entries (LocalLabel n) s before = []
 declared_entries (Label name) s before = label_entry name None 0 0 (is_thumb_label s before) ∷ []
 declared_entries (Equal name e) s before = valued_entry name (Number 0) false ∷ []
 declared_entries (MapField name) s before = valued_entry name (Number 0) false ∷ []

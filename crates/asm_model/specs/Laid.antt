@@ -1,6 +1,6 @@
 -- A source laid out: each statement with its place, and what an expression sees at its line. What is known at a line are
--- names of the lines before it, and of the whole source only which names and local labels there are. SDT 2.50 Reference
--- Guide, chapter on the assembler. Statements and laid lines are listed with the nearest first.
+-- names of the lines before it, and of the whole source only which names there are. SDT 2.50 Reference Guide, chapter on the
+-- assembler. Statements and laid lines are listed with the nearest first.
 use Rattle.std.specs.Prelude.{ℕ, zero, suc, ◌+◌, ◌%◌, ◌^◌, List, [], ◌∷◌, ◌++◌, length, map, Bool, false, Option, Some, None, Result, Ok, Err}
 use Rattle.sdt_fault.specs.declared.kinds.LineKind.{LineKind}
 use Rattle.sdt_fault.specs.declared.kinds.LineKind.TheVariants.{Syntax}
@@ -12,24 +12,15 @@ use Rattle.asm_model.specs.declared.directives.DirectiveLine.TheVariants as line
 use Rattle.asm_model.specs.declared.statements.Statement.{Statement}
 use Rattle.asm_model.specs.declared.statements.What.{What}
 use Rattle.asm_model.specs.declared.statements.What.TheVariants as what
-use Rattle.asm_model.specs.AtLine.{Definition, Nameless, Named, Equated, SourceLine, Sight, sight, seen_behind, with_names, all_names, made_name}
+use Rattle.asm_model.specs.AtLine.{Definition, Nameless, Named, Equated, SourceLine, Sight, sight, seen_behind, with_names, made_name}
 use Rattle.asm_model.specs.Grammar.{Tree}
 use Rattle.asm_model.specs.Meaning.{meaning}
-use Rattle.asm_model.specs.Before.{thumb_behind, area_behind, stretch_behind, is_thumb_label}
+use Rattle.asm_model.specs.Before.{thumb_behind, area_behind, is_thumb_label}
 use Rattle.asm_model.specs.Entries.{label_entry, imported_entry, valued_entry, equal_entry}
 use Rattle.asm_model.specs.Extents.{Extent, Block, number_there, extent_of, alignment}
-use Rattle.asm_model.specs.Labels.{Defined, Unnamed, LocalLabel, Label, Equal, MapField, RegisterName, defined_by, imported_in, declared_names}
-use Rattle.asm_model.specs.Locals.{Local, local_entries, declared_locals, back_of, forth_of}
+use Rattle.asm_model.specs.Labels.{Defined, Unnamed, Label, Equal, MapField, RegisterName, defined_by, imported_in, declared_names}
 use Rattle.asm_model.specs.Offsets.{Piece, raised, waiting, end_behind, size_behind}
 use Rattle.asm_model.specs.Trees.{tree_of}
-
--- which names and local labels a source has
-pub record Declared : Type 0 where
-  pub names : List LaidName
-  pub locals : List Local
-
-abbrev pub declared : List Statement → Declared
-declared statements = record { names = declared_names statements; locals = declared_locals statements }
 
 -- a statement with its place
 pub record LaidLine : Type 0 where
@@ -60,12 +51,6 @@ taken (Err k) = Block 1 0
 
 abbrev pub pieces_of : List LaidLine → List Piece
 pieces_of lines = map (λ l. record { area = l.area; extent = taken l.extent }) lines
-
--- the local labels of lines, the nearest first
-abbrev pub locals_of : List LaidLine → List Local
-locals_of [] = []
-locals_of (l ∷ before) =
-    local_entries (defined_by l.statement) (stretch_behind (statements_of (l ∷ before))) (length before) l.offset ++ locals_of before
 
 -- ---- the storage map
 
@@ -107,74 +92,69 @@ tree_equated names area name (Some t) = Equated (equal_entry names area name) t
 -- what a line defines, by its area, its offset, its size, whether its label is one of Thumb code, and the storage map
 abbrev pub definition_of : List LaidName → Defined → Option ℕ → ℕ → ℕ → Bool → ℕ → Definition
 definition_of names Unnamed area offset size thumb map = Nameless
-definition_of names (LocalLabel n) area offset size thumb map = Nameless
 definition_of names (Label name) area offset size thumb map = Named (label_entry name area offset size thumb)
 definition_of names (Equal name e) area offset size thumb map = tree_equated names area name (tree_of e)
 definition_of names (MapField name) area offset size thumb map = Named (valued_entry name (Number map) false)
 definition_of names (RegisterName name r) area offset size thumb map = Nameless
 
 -- a line of the source with a definition
-abbrev pub line_behind : Declared → Statement → List LaidLine → Definition → SourceLine
-line_behind d s before definition = record {
+abbrev pub line_behind : Statement → List LaidLine → Definition → SourceLine
+line_behind s before definition = record {
   area = area_behind (s ∷ statements_of before);
   offset = offset_behind s before;
   map = map_behind before;
   thumb = thumb_behind (statements_of before);
-  back = back_of (area_behind (s ∷ statements_of before)) (stretch_behind (s ∷ statements_of before)) (length before) []
-      (local_entries (defined_by s) (stretch_behind (s ∷ statements_of before)) (length before) (offset_behind s before)
-      ++ locals_of before);
-  forth = forth_of (area_behind (s ∷ statements_of before)) (stretch_behind (s ∷ statements_of before)) (length before) [] d.locals;
   definition = definition;
 }
 
--- the definition of a statement of a size
-abbrev pub definition_behind : Declared → Statement → List LaidLine → ℕ → Definition
-definition_behind d s before size =
-    definition_of d.names (defined_by s) (area_behind (s ∷ statements_of before)) (offset_behind s before) size
+-- the definition of a statement of a size, where the source has these names
+abbrev pub definition_behind : List LaidName → Statement → List LaidLine → ℕ → Definition
+definition_behind declared s before size =
+    definition_of declared (defined_by s) (area_behind (s ∷ statements_of before)) (offset_behind s before) size
     (is_thumb_label s (statements_of before)) (map_behind before)
 
-abbrev pub imported_lines : Declared → Statement → List LaidLine → Option (List ℕ) → List SourceLine
-imported_lines d s before None = []
-imported_lines d s before (Some name) = line_behind d s before (Named (imported_entry name)) ∷ []
+abbrev pub imported_lines : Statement → List LaidLine → Option (List ℕ) → List SourceLine
+imported_lines s before None = []
+imported_lines s before (Some name) = line_behind s before (Named (imported_entry name)) ∷ []
 
 -- what the expressions of a statement see; the size of its own label counts as 0, and nothing asks for it
-abbrev pub sight_behind : Declared → Statement → List LaidLine → Sight
-sight_behind d s before =
-    sight d.names (seen_behind d.names (lines_of before)) (line_behind d s before (definition_behind d s before 0))
+abbrev pub sight_behind : List LaidName → Statement → List LaidLine → Sight
+sight_behind declared s before =
+    sight declared (seen_behind declared (lines_of before)) (line_behind s before (definition_behind declared s before 0))
 
 -- ---- lines
 
 -- a statement behind lines, with what it takes up
-abbrev pub with_extent : Declared → Statement → List LaidLine → Result Extent LineKind → ℕ → LaidLine
-with_extent d s before extent size = record {
+abbrev pub with_extent : List LaidName → Statement → List LaidLine → Result Extent LineKind → ℕ → LaidLine
+with_extent declared s before extent size = record {
   statement = s;
   area = area_behind (s ∷ statements_of before);
   offset = offset_behind s before;
   thumb = thumb_behind (statements_of before);
   extent = extent;
   size = size;
-  seen = sight_behind d s before;
-  line = line_behind d s before (definition_behind d s before size);
-  imported = imported_lines d s before (imported_in s.what);
+  seen = sight_behind declared s before;
+  line = line_behind s before (definition_behind declared s before size);
+  imported = imported_lines s before (imported_in s.what);
 }
 
-abbrev pub sized : Declared → Statement → List LaidLine → Result Extent LineKind → LaidLine
-sized d s before extent =
-    with_extent d s before extent (size_behind (area_behind (s ∷ statements_of before)) (pieces_of before) (taken extent))
+abbrev pub sized : List LaidName → Statement → List LaidLine → Result Extent LineKind → LaidLine
+sized declared s before extent =
+    with_extent declared s before extent (size_behind (area_behind (s ∷ statements_of before)) (pieces_of before) (taken extent))
 
-abbrev pub laid_behind : Declared → Statement → List LaidLine → LaidLine
-laid_behind d s before = sized d s before (extent_of (sight_behind d s before) s.what)
+abbrev pub laid_behind : List LaidName → Statement → List LaidLine → LaidLine
+laid_behind declared s before = sized declared s before (extent_of (sight_behind declared s before) s.what)
 
-abbrev pub with_line : Declared → Statement → List LaidLine → List LaidLine
-with_line d s before = laid_behind d s before ∷ before
+abbrev pub with_line : List LaidName → Statement → List LaidLine → List LaidLine
+with_line declared s before = laid_behind declared s before ∷ before
 
-abbrev pub laid_of : Declared → List Statement → List LaidLine
-laid_of d [] = []
-laid_of d (s ∷ before) = with_line d s (laid_of d before)
+abbrev pub laid_of : List LaidName → List Statement → List LaidLine
+laid_of declared [] = []
+laid_of declared (s ∷ before) = with_line declared s (laid_of declared before)
 
 -- the lines of a source, the last first
 abbrev pub laid : List Statement → List LaidLine
-laid statements = laid_of (declared statements) statements
+laid statements = laid_of (declared_names statements) statements
 
 -- ---- final names
 
@@ -182,30 +162,16 @@ abbrev pub reversed : {A : Type 0} → List A → List A → List A
 reversed [] after = after
 reversed (x ∷ xs) after = reversed xs (x ∷ after)
 
--- a line with what its references to later local labels name
-abbrev pub with_forth : List LaidName → SourceLine → SourceLine
-with_forth forth l = record l { forth = forth }
-
--- a line of a source, with the places of all its local labels, which are listed in the order of the source
-abbrev pub final_line : List Local → LaidLine → List LaidLine → SourceLine
-final_line locals l before = with_forth (forth_of l.line.area (stretch_behind (statements_of (l ∷ before))) (length before) [] locals) l.line
-
 -- the lines of a source, in its order
-abbrev pub final_lines : List Local → List LaidLine → List SourceLine
-final_lines locals [] = []
-final_lines locals (l ∷ before) = final_lines locals before ++ final_line locals l before ∷ l.imported
-
-abbrev pub all_locals : List LaidLine → List Local
-all_locals lines = reversed (locals_of lines) []
-
 abbrev pub source_lines : List LaidLine → List SourceLine
-source_lines lines = final_lines (all_locals lines) lines
+source_lines [] = []
+source_lines (l ∷ before) = source_lines before ++ l.line ∷ l.imported
 
 -- the entry of a line, where the source has these names
 abbrev pub entries_with : List LaidName → SourceLine → Definition → List LaidName
 entries_with names l Nameless = []
 entries_with names l (Named n) = n ∷ []
-entries_with names l (Equated make t) = made_name make (meaning (with_names l (all_names names l)) t)
+entries_with names l (Equated make t) = made_name make (meaning (with_names l names) t)
 
 abbrev pub all_entries : List LaidName → List SourceLine → List LaidName
 all_entries names [] = []
@@ -227,4 +193,4 @@ final_value names l e = of_tree (tree_of e)
   where
     of_tree : Option Tree → Result Value LineKind
     of_tree None = Err Syntax
-    of_tree (Some t) = meaning (with_names l (all_names names l)) t
+    of_tree (Some t) = meaning (with_names l names) t

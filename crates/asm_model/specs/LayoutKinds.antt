@@ -23,7 +23,7 @@ use Rattle.asm_model.specs.Directives.{or_else}
 use Rattle.asm_model.specs.Forms.{same}
 use Rattle.asm_model.specs.Kinds.{told_kind}
 use Rattle.asm_model.specs.Extents.{Extent, Loading, number_there}
-use Rattle.asm_model.specs.Labels.{Defined, LocalLabel, Label, Equal, MapField, RegisterName, defined_by, imported_in}
+use Rattle.asm_model.specs.Labels.{Defined, Label, Equal, MapField, RegisterName, defined_by, imported_in}
 use Rattle.asm_model.specs.Laid.{LaidLine, statements_of, taken, pieces_of, laid, reversed}
 use Rattle.asm_model.specs.Offsets.{Piece, is_of, area_size, literal_word}
 
@@ -63,7 +63,6 @@ is_free _ = false
 
 -- whether a statement has a label of its place
 abbrev pub has_place : Defined → Bool
-has_place (LocalLabel n) = true
 has_place (Label name) = true
 has_place _ = false
 

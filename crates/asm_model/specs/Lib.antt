@@ -22,7 +22,6 @@ pub mod Immediates
 pub mod Labels
 pub mod Laid
 pub mod LayoutKinds
-pub mod Locals
 pub mod Marks
 pub mod OffsetLaws
 pub mod Offsets

@@ -197,10 +197,10 @@ applied unary.Size (Unread n) = size_of n
 applied unary.Defined (Unread n) = Ok (Truth (is_some n))
 applied op x = then_of (known x) (unary_of op)
 
--- an item that is an operand; a local reference is found under its text behind a bar, which no name has
+-- an item that is an operand; a reference to a local label that is still one names nothing
 abbrev pub operand_of_item : Names → ExprItem → Operand
 operand_of_item names (item.Name name) = Unread (named_in name names.list)
-operand_of_item names (item.Local name) = Known (value_of (named_in (124 ∷ name) names.list))
+operand_of_item names (item.Local name) = Known (Err UnknownWord)
 operand_of_item names (item.Constant v) = Known (Ok v)
 operand_of_item names item.Here = Known (Ok (Place [] names.offset))
 operand_of_item names item.Map = Known (Ok (Number names.map))

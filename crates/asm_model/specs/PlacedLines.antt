@@ -4,10 +4,8 @@ use Rattle.std.specs.Prelude.{ℕ, List, [], ◌∷◌, Option, Some, None}
 use Rattle.asm_model.specs.declared.names.LaidName.{LaidName}
 use Rattle.asm_model.specs.declared.statements.Statement.{Statement}
 use Rattle.asm_model.specs.Entries.{EachHasSymbol}
-use Rattle.asm_model.specs.Labels.{Defined, Unnamed, LocalLabel, Label, Equal, MapField, RegisterName, defined_by, imported_in}
-use Rattle.asm_model.specs.Laid.{Declared, LaidLine, laid_behind, laid, final_line, final_names}
-use Rattle.asm_model.specs.Locals.{Local}
-use Rattle.asm_model.specs.Placing.{CountFromHere}
+use Rattle.asm_model.specs.Labels.{Defined, Unnamed, Label, Equal, MapField, RegisterName, defined_by, imported_in}
+use Rattle.asm_model.specs.Laid.{LaidLine, laid_behind, laid, final_names}
 use Rattle.asm_model.specs.Symbols.{final_sight}
 
 -- a name has a character
@@ -17,7 +15,6 @@ IsName (c ∷ cs) = Unit {0}
 
 abbrev pub HasName : Defined → Type 0
 HasName Unnamed = Unit {0}
-HasName (LocalLabel n) = Unit {0}
 HasName (Label name) = IsName name
 HasName (Equal name e) = IsName name
 HasName (MapField name) = IsName name

@@ -66,14 +66,13 @@ placed_tree p names (Between op t u) = Between op (placed_tree p names t) (place
 abbrev pub placed_meaning : Placing → Names → Tree → Result Value LineKind
 placed_meaning p names t = meaning (placed_names p names) (placed_tree p names t)
 
--- a value without a symbol counts from this area
-abbrev pub IsOfArea : Option ℕ → Option ℕ → Value → Type 0
-IsOfArea here area (Place [] n) = area ≡ here
-IsOfArea here area (Place (c ∷ cs) n) = Unit {0}
-IsOfArea here area (Number n) = Unit {0}
-IsOfArea here area (Truth b) = Unit {0}
-IsOfArea here area (Words w) = Unit {0}
+-- a value that is a place has a symbol
+abbrev pub HasSymbol : Value → Type 0
+HasSymbol (Place [] n) = ⊥
+HasSymbol (Place (c ∷ cs) n) = Unit {0}
+HasSymbol (Number n) = Unit {0}
+HasSymbol (Truth b) = Unit {0}
+HasSymbol (Words w) = Unit {0}
 
--- entries whose values have no symbol, as local labels have, count from the statement's area
-abbrev pub CountFromHere : Names → Type 0
-CountFromHere names = (q : List ℕ) (n : LaidName) → named_in q names.list ≡ Some n → IsOfArea names.area n.area n.value
+abbrev pub HaveSymbols : Names → Type 0
+HaveSymbols names = (q : List ℕ) (n : LaidName) → named_in q names.list ≡ Some n → HasSymbol n.value

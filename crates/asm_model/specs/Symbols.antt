@@ -19,18 +19,13 @@ use Rattle.asm_model.specs.declared.directives.DirectiveLine.{DirectiveLine}
 use Rattle.asm_model.specs.declared.directives.DirectiveLine.TheVariants as line
 use Rattle.asm_model.specs.declared.statements.What.{What}
 use Rattle.asm_model.specs.declared.statements.What.TheVariants as what
-use Rattle.asm_model.specs.AtLine.{SourceLine, with_names, all_names}
+use Rattle.asm_model.specs.AtLine.{SourceLine, with_names}
 use Rattle.asm_model.specs.Grammar.{Leaf, Between}
 use Rattle.asm_model.specs.Meaning.{named_in, stands_at, meaning}
 use Rattle.asm_model.specs.Before.{with_name}
 use Rattle.asm_model.specs.Entries.{thumb_of}
 use Rattle.asm_model.specs.Extents.{Extent, Loading}
-use Rattle.asm_model.specs.Laid.{LaidLine, taken, all_locals, final_line, final_value}
-use Rattle.asm_model.specs.Locals.{Local}
-
--- what a line's expressions are evaluated with in the end
-abbrev pub final_sight : List LaidName → SourceLine → Names
-final_sight names l = with_names l (all_names names l)
+use Rattle.asm_model.specs.Laid.{LaidLine, taken, final_value}
 
 -- the value of a literal: of its name with all names, plus its number
 abbrev pub literal_value : Names → Value → Result Value LineKind
@@ -50,7 +45,7 @@ word_symbols names _ = []
 
 abbrev pub words_symbols : List LaidName → SourceLine → List Expr → List (List ℕ)
 words_symbols names l [] = []
-words_symbols names l (e ∷ es) = word_symbols (final_sight names l) (final_value names l e) ++ words_symbols names l es
+words_symbols names l (e ∷ es) = word_symbols (with_names l names) (final_value names l e) ++ words_symbols names l es
 
 abbrev pub same_state : Bool → Bool → Bool
 same_state a b = if a then b else not b
@@ -68,15 +63,15 @@ branch_symbols names (Ok (Place (c ∷ cs) n)) =
 branch_symbols names _ = []
 
 abbrev pub arm_symbols : List LaidName → SourceLine → ArmLine → List (List ℕ)
-arm_symbols names l (arm.Branch condition link target) = branch_symbols (final_sight names l) (final_value names l target)
+arm_symbols names l (arm.Branch condition link target) = branch_symbols (with_names l names) (final_value names l target)
 arm_symbols names l _ = []
 
 abbrev pub thumb_symbols : List LaidName → SourceLine → ThumbLine → List (List ℕ)
-thumb_symbols names l (thumb.BranchLink target) = branch_symbols (final_sight names l) (final_value names l target)
+thumb_symbols names l (thumb.BranchLink target) = branch_symbols (with_names l names) (final_value names l target)
 thumb_symbols names l _ = []
 
 abbrev pub literal_symbols : List LaidName → SourceLine → Extent → List (List ℕ)
-literal_symbols names l (Loading n v) = word_symbols (final_sight names l) (literal_value (final_sight names l) v)
+literal_symbols names l (Loading n v) = word_symbols (with_names l names) (literal_value (with_names l names) v)
 literal_symbols names l _ = []
 
 abbrev pub directive_symbols : List LaidName → SourceLine → DirectiveLine → List (List ℕ)
@@ -102,12 +97,7 @@ abbrev pub listed_behind : List (List ℕ) → List (List ℕ) → List (List �
 listed_behind listed [] = listed
 listed_behind listed (s ∷ ss) = listed_behind (with_name (Some s) listed) ss
 
--- the symbols of lines, the last of them first
-abbrev pub symbols_behind : List LaidName → List Local → List LaidLine → List (List ℕ)
-symbols_behind names locals [] = []
-symbols_behind names locals (l ∷ before) =
-    listed_behind (symbols_behind names locals before) (symbols_in names (final_line locals l before) (taken l.extent) l.statement.what)
-
--- the symbols of a source with these names
+-- the symbols of lines, the last of them first, where a source has these names
 abbrev pub symbols_of : List LaidName → List LaidLine → List (List ℕ)
-symbols_of names lines = symbols_behind names (all_locals lines) lines
+symbols_of names [] = []
+symbols_of names (l ∷ before) = listed_behind (symbols_of names before) (symbols_in names l.line (taken l.extent) l.statement.what)

@@ -1,6 +1,6 @@
--- Statements as lines say them. Their expressions are what tokens spell, names begin with no bar, a local label has two
--- digits at most, registers are 0 to 15, and what an instruction's form leaves out is register 0. Nothing that they load is
--- a place as a constant. SDT 2.50 Reference Guide, chapter on the assembler.
+-- Statements as lines say them. Their expressions are what tokens spell, registers are 0 to 15, and what an instruction's
+-- form leaves out is register 0. Nothing that they load is a place as a constant. SDT 2.50 Reference Guide, chapter on the
+-- assembler.
 use Rattle.std.specs.Prelude.{◌≡◌, ◌≢◌, ◌<◌, ℕ, List, [], ◌∷◌, ◌++◌, Bool, true, false, Option, Some, None}
 use Rattle.std.specs.List.{AllByRecursion}
 use Rattle.arm_isa.specs.declared.instr.Operation.{Operation}
@@ -8,8 +8,6 @@ use Rattle.arm_isa.specs.declared.instr.Operation.TheVariants.{Tst, Teq, Cmp, Cm
 use Rattle.arm_isa.specs.declared.instr.HalfKind.{HalfKind}
 use Rattle.arm_isa.specs.declared.instr.HalfKind.TheVariants.{Half, SignedByte, SignedHalf}
 use Rattle.asm_model.specs.declared.exprs.Expr.{Expr}
-use Rattle.asm_model.specs.declared.exprs.ExprItem.{ExprItem}
-use Rattle.asm_model.specs.declared.exprs.ExprItem.TheVariants as part
 use Rattle.asm_model.specs.declared.exprs.Part.{Part}
 use Rattle.asm_model.specs.declared.operands.Register.{Register}
 use Rattle.asm_model.specs.declared.operands.Register.TheVariants as register
@@ -37,8 +35,8 @@ use Rattle.asm_model.specs.declared.statements.Statement.{Statement}
 use Rattle.asm_model.specs.declared.statements.What.{What}
 use Rattle.asm_model.specs.declared.statements.What.TheVariants as what
 use Rattle.asm_model.specs.Grammar.{Tree, postfix, IsSpelled}
-use Rattle.asm_model.specs.Labels.{Defined, LocalLabel, defined_by, imported_in}
-use Rattle.asm_model.specs.Sound.{IsBare, HaveNoPlaces, IsPlainDefined, IsPlainImport}
+use Rattle.asm_model.specs.Labels.{defined_by}
+use Rattle.asm_model.specs.Sound.{HaveNoPlaces, IsPlain}
 
 -- ---- operands
 
@@ -59,7 +57,7 @@ OptionRead (Some e) = IsRead e
 
 abbrev pub RegisterSaid : Register → Type 0
 RegisterSaid (register.Number n) = n < 16
-RegisterSaid (register.Named name) = IsBare name
+RegisterSaid (register.Named name) = Unit {0}
 
 abbrev pub ShiftSaid : Shift → Type 0
 ShiftSaid shift.Unshifted = Unit {0}
@@ -183,29 +181,15 @@ WhatSaid (what.Thumb l) = Unit {0}
 WhatSaid (what.Pseudo l) = PseudoSaid l
 WhatSaid (what.Directive l) = DirectiveSaid l
 
-abbrev pub HasBareName : ExprItem → Type 0
-HasBareName (part.Name name) = IsBare name
-HasBareName _ = Unit {0}
-
-abbrev pub HaveBareNames : List ExprItem → Type 0
-HaveBareNames [] = Unit {0}
-HaveBareNames (i ∷ is) = HasBareName i × HaveBareNames is
-
--- in what a statement loads, names begin with no bar and no constant is a place
-abbrev pub LoadsBare : What → Type 0
-LoadsBare (what.Pseudo (pseudo.LoadConstant condition rd e)) = HaveBareNames e.items × HaveNoPlaces e.items
-LoadsBare _ = Unit {0}
-
-abbrev pub LocalSaid : Defined → Type 0
-LocalSaid (LocalLabel n) = n < 100
-LocalSaid _ = Unit {0}
+-- in what a statement loads no constant is a place
+abbrev pub LoadsPlain : What → Type 0
+LoadsPlain (what.Pseudo (pseudo.LoadConstant condition rd e)) = HaveNoPlaces e.items
+LoadsPlain _ = Unit {0}
 
 pub record IsSaid (s : Statement) : Type 0 where
-  pub local : LocalSaid (defined_by s)
-  pub named : IsPlainDefined (defined_by s)
-  pub imported : IsPlainImport (imported_in s.what)
+  pub plain : IsPlain (defined_by s)
   pub read : WhatSaid s.what
-  pub loaded : LoadsBare s.what
+  pub loaded : LoadsPlain s.what
 
 abbrev pub AllSaid : List Statement → Type 0
 AllSaid [] = Unit {0}

@@ -9,11 +9,10 @@ use Rattle.asm_model.specs.declared.names.Names.{Names}
 use Rattle.asm_model.specs.declared.operands.Register.{Register}
 use Rattle.asm_model.specs.declared.values.Value.{Value}
 use Rattle.asm_model.specs.declared.values.Value.TheVariants.{Place}
-use Rattle.asm_model.specs.AtLine.{SourceLine}
+use Rattle.asm_model.specs.AtLine.{SourceLine, with_names}
 use Rattle.asm_model.specs.Meaning.{stands_at}
 use Rattle.asm_model.specs.Extents.{as_number}
 use Rattle.asm_model.specs.Laid.{final_value}
-use Rattle.asm_model.specs.Symbols.{final_sight}
 use Rattle.source_model.specs.Registers.{Named, number_of}
 
 -- all names of the source, the statement's line, the names for registers that are known there, the names that symbols may
@@ -26,7 +25,7 @@ pub record Context : Type 0 where
   pub defined : List (List ℕ)
 
 abbrev pub sees : Context → Names
-sees c = final_sight c.names c.line
+sees c = with_names c.line c.names
 
 abbrev pub value_of : Context → Expr → Result Value LineKind
 value_of c e = final_value c.names c.line e

@@ -29,7 +29,7 @@ use Rattle.asm_model.specs.Meaning.{named_in, stands_at}
 use Rattle.asm_model.specs.Before.{areas_behind, place_of, is_code}
 use Rattle.asm_model.specs.Entries.{thumb_of}
 use Rattle.asm_model.specs.Extents.{Extent, Loading}
-use Rattle.asm_model.specs.Laid.{LaidLine, taken, pieces_of, laid, all_locals, final_names}
+use Rattle.asm_model.specs.Laid.{LaidLine, taken, pieces_of, laid, final_names}
 use Rattle.asm_model.specs.LayoutKinds.{exponent, is_entry, is_thumb_area}
 use Rattle.asm_model.specs.Marks.{datum_names}
 use Rattle.asm_model.specs.Offsets.{is_of, area_size}
@@ -124,7 +124,7 @@ in_order [] after = after
 in_order (l ∷ ls) after = in_order ls (l ∷ after)
 
 abbrev pub context_at : (s : Source) (l : LaidLine) → At s l → Context
-context_at s l at = context_of s.names (all_locals s.lines) s.statements l at.before
+context_at s l at = context_of s.names s.statements l at.before
 
 abbrev pub word_at : (s : Source) (l : LaidLine) → At s l → Option ℕ
 word_at s l at = literal_place l.area (taken l.extent) (pieces_of (l ∷ at.before)) (pieces_of (in_order at.rest []))
@@ -233,7 +233,7 @@ symbol_placed s name label n (Some a) = record {
 abbrev pub in_no_line : Source → Context
 in_no_line s = record {
   names = s.names;
-  line = record { area = None; offset = 0; map = 0; thumb = false; back = []; forth = []; definition = Nameless };
+  line = record { area = None; offset = 0; map = 0; thumb = false; definition = Nameless };
   registers = [];
   symbols = [];
   defined = [];
