@@ -4,6 +4,7 @@ use Rattle.std.specs.Prelude.{Result, Ok, Err}
 use Rattle.sdt_fault.specs.declared.kinds.LineKind.{LineKind}
 use Rattle.asm_model.specs.declared.values.Value.{Value}
 use Rattle.asm_model.specs.declared.values.Value.TheVariants.{Number, Truth, Words, Place}
+use Rattle.asm_model.specs.declared.names.LaidName.{LaidName}
 use Rattle.asm_model.specs.declared.statements.Statement.{Statement}
 use Rattle.asm_model.specs.declared.statements.What.{What}
 use Rattle.asm_model.specs.declared.statements.What.TheVariants as what
@@ -20,7 +21,7 @@ use Rattle.asm_model.specs.Grammar.{Tree}
 use Rattle.asm_model.specs.Says.{on_both, mapped}
 use Rattle.asm_model.specs.Before.{area_behind}
 use Rattle.asm_model.specs.Extents.{Extent, Block, Padding, Loading, number_there, literal_there, tree_literal, is_moved, instruction, loading, thumb_extent, pseudo_extent, as_multiple, padding, directive_extent, extent_of}
-use Rattle.asm_model.specs.Laid.{Declared, LaidLine, statements_of, pieces_of, taken, aligned_end, sight_behind, laid_behind}
+use Rattle.asm_model.specs.Laid.{LaidLine, statements_of, pieces_of, taken, aligned_end, sight_behind, laid_behind}
 use Rattle.asm_model.specs.OffsetLaws.{IsLiteral}
 use Rattle.asm_model.specs.Offsets.{Piece, raised, waiting, end_behind, offset_of, size_behind}
 use Rattle.asm_model.specs.Trees.{tree_of}
@@ -33,7 +34,7 @@ pub starts_there : (area : Option ℕ) (pieces : List Piece) (s : Sight) (w : Wh
 starts_there None pieces s w e h = refl
 starts_there (Some area) pieces s w e h = ap (raised (end_behind area pieces)) (sym (alignments_agree s w (waiting area pieces) e h))
 
-pub lines_stand_at_offsets : (d : Declared) (s : Statement) (before : List LaidLine) (e : Extent) → (laid_behind d s before).extent ≡ Ok e
+pub lines_stand_at_offsets : (d : List LaidName) (s : Statement) (before : List LaidLine) (e : Extent) → (laid_behind d s before).extent ≡ Ok e
     → ((laid_behind d s before).offset ≡ offset_of (laid_behind d s before).area (pieces_of before) e)
     × ((laid_behind d s before).size ≡ size_behind (laid_behind d s before).area (pieces_of before) e)
 lines_stand_at_offsets d s before e h = (

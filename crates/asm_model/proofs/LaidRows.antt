@@ -1,9 +1,6 @@
 -- A worked source: where its lines stand, and what its names are.
 use Rattle.std.proofs.Common.{◌≡◌, ℕ, List, [], ◌∷◌, drop, map, false, refl, Option, Some, None, codes}
-use Rattle.std.specs.Prelude.{Result, Ok, Err}
 use Rattle.sdt_word.specs.declared.codes.Condition.TheVariants.{Al}
-use Rattle.sdt_fault.specs.declared.kinds.LineKind.{LineKind}
-use Rattle.sdt_fault.specs.declared.kinds.LineKind.TheVariants.{UnknownWord}
 use Rattle.asm_model.specs.declared.exprs.Expr.{Expr}
 use Rattle.asm_model.specs.declared.exprs.ExprItem.{ExprItem}
 use Rattle.asm_model.specs.declared.exprs.ExprItem.TheVariants as item
@@ -21,7 +18,7 @@ use Rattle.asm_model.specs.declared.directives.Contents.TheVariants as contents
 use Rattle.asm_model.specs.declared.directives.DirectiveLine.TheVariants as line
 use Rattle.asm_model.specs.Meaning.{named_in}
 use Rattle.asm_model.specs.Entries.{label_entry, valued_entry}
-use Rattle.asm_model.specs.Laid.{LaidLine, laid, pieces_of, all_locals, final_line, final_names, final_value}
+use Rattle.asm_model.specs.Laid.{LaidLine, laid, pieces_of, final_names}
 use Rattle.asm_model.specs.Offsets.{area_size}
 use Rattle.asm_model.specs.Symbols.{symbols_of}
 
@@ -51,7 +48,7 @@ branch e = what.Arm (arm.Branch Al false e)
 -- the lines in order:
 --  AREA a,CODE
 --  B out
--- 1 NOP
+-- 1 NOP, which has a hidden name
 -- start LDR r0,=far
 -- n EQU end-start
 -- out EQU .
@@ -71,7 +68,7 @@ source =
     ∷ says (Some (codes "out")) (what.Directive (line.Equ (items (item.Here ∷ []))))
     ∷ says (Some (codes "n")) (what.Directive (line.Equ (items (name (codes "end") ∷ name (codes "start") ∷ item.Binary op.Subtract ∷ []))))
     ∷ says (Some (codes "start")) (what.Pseudo (pseudo.LoadConstant Al (register.Number 0) (items (name (codes "far") ∷ []))))
-    ∷ says (Some (124 ∷ codes "1")) (what.Pseudo pseudo.NoOperation)
+    ∷ says (Some (10 ∷ codes "2")) (what.Pseudo pseudo.NoOperation)
     ∷ says None (branch (items (name (codes "out") ∷ [])))
     ∷ area (codes "a") contents.Code ∷ []
 
@@ -100,60 +97,3 @@ label = refl
 -- B needs no symbol, nor does the word of a label
 pub symbols : symbols_of (final_names (laid source)) (laid source) ≡ codes "far" ∷ []
 symbols = refl
-
--- ---- local labels
-
-abbrev reference : List ℕ → Expr
-reference text = items (item.Local text ∷ [])
-
-abbrev value_on : List LaidLine → List LaidLine → Expr → Result Value LineKind
-value_on all [] e = Ok (Number 0)
-value_on all (l ∷ before) e = final_value (final_names all) (final_line (all_locals all) l before) e
-
---  AREA a,CODE
--- 1 NOP
---  NOP
--- 01 NOP
--- 2 ROUT
---  NOP
--- 1 NOP
-abbrev first_stretch : List Statement
-first_stretch =
-    says None (what.Pseudo pseudo.NoOperation)
-    ∷ says (Some (124 ∷ codes "1")) (what.Pseudo pseudo.NoOperation) ∷ area (codes "a") contents.Code ∷ []
-
-abbrev up_to_rout : List Statement
-up_to_rout = says (Some (124 ∷ codes "2")) (what.Directive line.Rout) ∷ says (Some (124 ∷ codes "01")) (what.Pseudo pseudo.NoOperation) ∷ first_stretch
-
-abbrev routines : List Statement
-routines =
-    says (Some (124 ∷ codes "1")) (what.Pseudo pseudo.NoOperation) ∷ says None (what.Pseudo pseudo.NoOperation) ∷ up_to_rout
-
-abbrev dropped : ℕ → List LaidLine
-dropped n = drop n (laid routines)
-
-pub backward : value_on (laid routines) (dropped 4) (reference (codes "%B1")) ≡ Ok (Place [] 0)
-backward = refl
-
-pub forward : value_on (laid routines) (dropped 4) (reference (codes "%F01")) ≡ Ok (Place [] 8)
-forward = refl
-
-pub either_way : value_on (laid routines) (dropped 4) (reference (codes "%1")) ≡ Ok (Place [] 0)
-either_way = refl
-
--- the nearest of two, on its own line
-pub own_line : value_on (laid routines) (dropped 3) (reference (codes "%B1")) ≡ Ok (Place [] 8)
-own_line = refl
-
--- a stretch ends at ROUT, whose label names nothing
-pub not_forward : value_on (laid routines) (dropped 3) (reference (codes "%F1")) ≡ Err UnknownWord
-not_forward = refl
-
-pub not_backward : value_on (laid routines) (dropped 1) (reference (codes "%B1")) ≡ Err UnknownWord
-not_backward = refl
-
-pub no_routine : value_on (laid routines) (dropped 1) (reference (codes "%B2")) ≡ Err UnknownWord
-no_routine = refl
-
-pub later_routine : value_on (laid routines) (dropped 1) (reference (codes "%1")) ≡ Ok (Place [] 16)
-later_routine = refl

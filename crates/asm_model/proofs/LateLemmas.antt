@@ -188,7 +188,7 @@ named_value (Some e) k h = refl
 
 pub item_value : (s : Sight) (i : ExprItem) → plain i ≡ Some i → item_kinds s i ≡ [] → fault (known (operand_of_item s.known i)) ≡ None
 item_value s (item.Name q) p none = named_value (named_in q s.known.list) (unknown_kind s q) none
-item_value s (item.Local q) p none = named_value (named_in (124 ∷ q) s.known.list) (unknown_kind s (124 ∷ q)) none
+item_value s (item.Local q) p none = absurd (cc)
 item_value s (item.Constant v) p none = refl
 item_value s item.Here p none = refl
 item_value s item.Map p none = refl
@@ -215,15 +215,13 @@ late_named s op q none =
     late_then (value_of (named_in q s.known.list)) (unary_of op)
     (late_value (value_of (named_in q s.known.list)) (named_value (named_in q s.known.list) (unknown_kind s q) none)) (late_unary op)
 
-pub local_asked : (s : Sight) (op : UnaryOp) (q : List ℕ) → asked_kinds s op (item.Local q) ≡ item_kinds s (item.Local q)
+pub local_asked : (s : Sight) (op : UnaryOp) (q : List ℕ) → asked_kinds s op (item.Local q) ≡ UnknownWord ∷ []
 local_asked s unary.Size q = refl
 local_asked s op q = refl
 
 pub late_on_item : (s : Sight) (op : UnaryOp) (i : ExprItem) → plain i ≡ Some i → asked_kinds s op i ≡ [] → late (applied op (operand_of_item s.known i)) ≡ true
 late_on_item s op (item.Name q) p none = late_named s op q none
-late_on_item s op (item.Local q) p none =
-    late_known op (value_of (named_in (124 ∷ q) s.known.list))
-    (late_value (value_of (named_in (124 ∷ q) s.known.list)) (named_value (named_in (124 ∷ q) s.known.list) (unknown_kind s (124 ∷ q)) (sym (local_asked s op q) ∙ none)))
+late_on_item s op (item.Local q) p none = let e : UnknownWord ∷ [] ≡ [] = sym (local_asked s op q) ∙ none in absurd (cc)
 late_on_item s op (item.Constant v) p none = late_known op (Ok v) refl
 late_on_item s op item.Here p none = late_known op (Ok (Place [] s.known.offset)) refl
 late_on_item s op item.Map p none = late_known op (Ok (Number s.known.map)) refl
@@ -271,6 +269,9 @@ early_value s q = early_cond (is_in s.known.list q) [] (unknown_kind s q ∷ [])
 pub forward : Early (Forward ∷ [])
 forward = (omega arith, tt)
 
+pub unknown : Early (UnknownWord ∷ [])
+unknown = (omega arith, tt)
+
 pub early_named : (s : Sight) (op : UnaryOp) (q : List ℕ) → Early (asked_kinds s op (item.Name q))
 early_named s unary.Size q = early_cond (is_in s.unsized q) (Forward ∷ []) (value_kinds s q) forward (early_value s q)
 early_named s unary.Defined q =
@@ -279,7 +280,7 @@ early_named s op q = early_value s q
 
 pub early_item : (s : Sight) (i : ExprItem) → Early (item_kinds s i)
 early_item s (item.Name q) = early_value s q
-early_item s (item.Local q) = early_value s (124 ∷ q)
+early_item s (item.Local q) = unknown
 early_item s i = tt
 
 pub early_asked : (s : Sight) (op : UnaryOp) (i : ExprItem) → Early (asked_kinds s op i)

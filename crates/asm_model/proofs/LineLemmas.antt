@@ -13,7 +13,7 @@ use Rattle.asm_model.specs.declared.exprs.BinaryOp.TheVariants.{Subtract}
 use Rattle.asm_model.specs.declared.values.Value.{Value}
 use Rattle.asm_model.specs.declared.values.Value.TheVariants.{Number, Truth, Words, Place}
 use Rattle.asm_model.specs.declared.names.LaidName.{LaidName}
-use Rattle.asm_model.specs.AtLine.{Definition, Nameless, Named, Equated, SourceLine, with_names, own_names, known_names, all_names, sight, asked_kinds, name_kinds, unless_told, value_at, made_name, added_names, seen_behind, known_value, HoldsEach}
+use Rattle.asm_model.specs.AtLine.{Definition, Nameless, Named, Equated, SourceLine, with_names, own_names, known_names, sight, asked_kinds, name_kinds, unless_told, value_at, made_name, added_names, seen_behind, known_value, HoldsEach}
 use Rattle.asm_model.specs.Forms.{same}
 use Rattle.asm_model.specs.Grammar.{Tree, Leaf, Before, Between}
 use Rattle.asm_model.specs.Kinds.{told_kind}
@@ -142,7 +142,7 @@ applied_known op x = refl
 pub item_more : (l : SourceLine) (xs ys : List LaidName) → Has xs ys → (i : ExprItem) (v : Value)
     → known (operand_of_item (with_names l xs) i) ≡ Ok v → known (operand_of_item (with_names l ys) i) ≡ Ok v
 item_more l xs ys more (item.Name q) v h = value_more (named_in q xs) (named_in q ys) v (more q) h
-item_more l xs ys more (item.Local q) v h = value_more (named_in (124 ∷ q) xs) (named_in (124 ∷ q) ys) v (more (124 ∷ q)) h
+item_more l xs ys more (item.Local q) v h = h
 item_more l xs ys more (item.Constant w) v h = h
 item_more l xs ys more item.Here v h = h
 item_more l xs ys more item.Map v h = h
@@ -167,9 +167,7 @@ pub item_before : (l : SourceLine) (xs us ys : List LaidName) → Has xs ys → 
     → asked_kinds (record { known = with_names l xs; unsized = us; all = ys }) op i ≡ []
     → applied op (operand_of_item (with_names l xs) i) ≡ Ok v → applied op (operand_of_item (with_names l ys) i) ≡ Ok v
 item_before l xs us ys more op (item.Name q) v none h = named_before l xs us ys more op q v none h
-item_before l xs us ys more op (item.Local q) v none h =
-    known_before l xs ys more op (value_of (named_in (124 ∷ q) xs)) (value_of (named_in (124 ∷ q) ys)) v
-    (λ w. value_more (named_in (124 ∷ q) xs) (named_in (124 ∷ q) ys) w (more (124 ∷ q))) h
+item_before l xs us ys more op (item.Local q) v none h = h
 item_before l xs us ys more op (item.Constant w) v none h = h
 item_before l xs us ys more op item.Here v none h = h
 item_before l xs us ys more op item.Map v none h = h

@@ -26,7 +26,7 @@ number n = Leaf (item.Constant (Number n))
 
 abbrev line_at : ℕ → Definition → SourceLine
 line_at offset definition =
-    record { area = Some 0; offset = offset; map = 0; thumb = false; back = []; forth = label (codes "|%F1") 16 ∷ []; definition = definition }
+    record { area = Some 0; offset = offset; map = 0; thumb = false; definition = definition }
 
 -- start at 0; n EQU 4; m EQU end - start; then the label here at 8, and end at 12
 abbrev all : List LaidName
@@ -63,8 +63,9 @@ later_label = refl
 pub expression_of_a_later_label : value (name (codes "m")) ≡ Err Forward
 expression_of_a_later_label = refl
 
-pub local_label_forward : value (Leaf (item.Local (codes "%F1"))) ≡ Err Forward
-local_label_forward = refl
+-- a reference that names no label
+pub no_such_label : value (Leaf (item.Local (codes "%F1"))) ≡ Err UnknownWord
+no_such_label = refl
 
 pub no_such_name : value (Between Add (name (codes "end")) (name (codes "none"))) ≡ Err UnknownWord
 no_such_name = refl
@@ -95,6 +96,3 @@ literal_of_no_name = refl
 
 pub literal_product : literal (Between Multiply (name (codes "end")) (number 2)) ≡ Err Forward
 literal_product = refl
-
-pub literal_local_label : literal (Leaf (item.Local (codes "%F1"))) ≡ Err Forward
-literal_local_label = refl

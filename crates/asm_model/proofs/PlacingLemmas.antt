@@ -6,7 +6,7 @@ use Rattle.std.specs.Ordering.{nat_cmp}
 use Rattle.std.specs.Cmp.Lexicographic.{slice_cmp}
 use Rattle.std.specs.Option.{is_some}
 use Rattle.sdt_fault.specs.declared.kinds.LineKind.{LineKind}
-use Rattle.sdt_fault.specs.declared.kinds.LineKind.TheVariants.{Syntax, WrongType, OutOfRange, TooMany}
+use Rattle.sdt_fault.specs.declared.kinds.LineKind.TheVariants.{Syntax, UnknownWord, WrongType, OutOfRange, TooMany}
 use Rattle.asm_model.specs.declared.exprs.ExprItem.{ExprItem}
 use Rattle.asm_model.specs.declared.exprs.ExprItem.TheVariants as item
 use Rattle.asm_model.specs.declared.exprs.UnaryOp.{UnaryOp}
@@ -22,7 +22,7 @@ use Rattle.asm_model.specs.Grammar.{Tree, Leaf, Before, Between}
 use Rattle.asm_model.specs.Limits.{string_bytes}
 use Rattle.asm_model.specs.Meaning.{named_in, in_area, less, arithmetic, related, logical, joined_strings, cut_string, moved_place, added_place, stands_at, distance, between_places, as_number, as_truth, as_words, as_place, truth_or, binary, unary_of, Known, Unread, value_of, size_of, known, then_of, on_both, applied, operand_of_item, meaning}
 use Rattle.asm_model.proofs.LineLemmas.{applied_known}
-use Rattle.asm_model.specs.Placing.{Placing, address_at, address_of, placed_value, seen_from, placed_name, placed_names, placed_item, placed_meaning, IsOfArea, CountFromHere}
+use Rattle.asm_model.specs.Placing.{Placing, address_at, address_of, placed_value, seen_from, placed_name, placed_names, placed_item, placed_meaning, HasSymbol, HaveSymbols}
 
 -- ---- numbers
 
@@ -60,16 +60,16 @@ abbrev placed_result : Placing → Names → Result Value LineKind → Result Va
 placed_result p names (Ok v) = Ok (placed_value p names v)
 placed_result p names (Err k) = Err k
 
-pub same_seen : (p : Placing) (names : Names) (area : Option ℕ) (v : Value) → IsOfArea names.area area v
+pub same_seen : (p : Placing) (names : Names) (area : Option ℕ) (v : Value) → HasSymbol v
     → placed_value p (seen_from names area) v ≡ placed_value p names v
-same_seen p names area (Place [] n) h = ap (λ a. Number ((address_at p [] (in_area a 0) + n) % 2 ^ 32)) h
+same_seen p names area (Place [] n) h = absurd h
 same_seen p names area (Place (c ∷ cs) n) h = refl
 same_seen p names area (Number n) h = refl
 same_seen p names area (Truth b) h = refl
 same_seen p names area (Words w) h = refl
 
 pub value_placed : (p : Placing) (names : Names) (o : Option LaidName) (v : Value)
-    → ((n : LaidName) → o ≡ Some n → IsOfArea names.area n.area n.value)
+    → ((n : LaidName) → o ≡ Some n → HasSymbol n.value)
     → value_of o ≡ Ok v → value_of (placed_option p names o) ≡ Ok (placed_value p names v)
 value_placed p names None v here h = absurd (cc)
 value_placed p names (Some n) v here h =
@@ -138,7 +138,7 @@ pub known_placed : (p : Placing) (names : Names) (op : UnaryOp) (x y : Result Va
 known_placed p names op x y v more h = applied_known op y ∙ then_placed p names op x y v more (sym (applied_known op x) ∙ h)
 
 pub unread_placed : (p : Placing) (names : Names) (op : UnaryOp) (o : Option LaidName) (v : Value)
-    → ((n : LaidName) → o ≡ Some n → IsOfArea names.area n.area n.value)
+    → ((n : LaidName) → o ≡ Some n → HasSymbol n.value)
     → applied op (Unread o) ≡ Ok v → applied op (Unread (placed_option p names o)) ≡ Ok (placed_value p names v)
 unread_placed p names unary.Size o v here h = size_placed p names o v h
 unread_placed p names unary.Defined o v here h = defined_placed p names o v h
@@ -238,17 +238,17 @@ both_placed p names op (Err k) (Err j) c d r f g h = absurd (cc)
 
 -- ---- expressions
 
-pub name_placed : (p : Placing) (names : Names) (q : List ℕ) (v : Value) → CountFromHere names
+pub name_placed : (p : Placing) (names : Names) (q : List ℕ) (v : Value) → HaveSymbols names
     → value_of (named_in q names.list) ≡ Ok v
     → value_of (named_in q (map (placed_name p names) names.list)) ≡ Ok (placed_value p names v)
 name_placed p names q v here h =
     ap value_of (placed_found p names q names.list) ∙ value_placed p names (named_in q names.list) v (here q) h
 
-pub item_placed : (p : Placing) (names : Names) (i : ExprItem) (v : Value) → CountFromHere names
+pub item_placed : (p : Placing) (names : Names) (i : ExprItem) (v : Value) → HaveSymbols names
     → known (operand_of_item names i) ≡ Ok v
     → known (operand_of_item (placed_names p names) (placed_item p names i)) ≡ Ok (placed_value p names v)
 item_placed p names (item.Name q) v here h = name_placed p names q v here h
-item_placed p names (item.Local q) v here h = name_placed p names (124 ∷ q) v here h
+item_placed p names (item.Local q) v here h = ap (placed_result p names) h
 item_placed p names (item.Constant w) v here h = ap (placed_result p names) h
 item_placed p names item.Here v here h = ap (placed_result p names) h
 item_placed p names item.Map v here h = ap (placed_result p names) h
@@ -256,14 +256,13 @@ item_placed p names item.CodeSize v here h = ap (placed_result p names) h
 item_placed p names (item.Unary op) v here h = ap (placed_result p names) h
 item_placed p names (item.Binary op) v here h = ap (placed_result p names) h
 
-pub before_item : (p : Placing) (names : Names) (op : UnaryOp) (i : ExprItem) (v : Value) → CountFromHere names
+pub before_item : (p : Placing) (names : Names) (op : UnaryOp) (i : ExprItem) (v : Value) → HaveSymbols names
     → applied op (operand_of_item names i) ≡ Ok v
     → applied op (operand_of_item (placed_names p names) (placed_item p names i)) ≡ Ok (placed_value p names v)
 before_item p names op (item.Name q) v here h =
     ap (λ o. applied op (Unread o)) (placed_found p names q names.list) ∙ unread_placed p names op (named_in q names.list) v (here q) h
 before_item p names op (item.Local q) v here h =
-    known_placed p names op (value_of (named_in (124 ∷ q) names.list)) (value_of (named_in (124 ∷ q) (map (placed_name p names) names.list))) v
-    (λ w. name_placed p names (124 ∷ q) w here) h
+    known_placed p names op (Err UnknownWord) (Err UnknownWord) v (λ u e. ap (placed_result p names) e) h
 before_item p names op (item.Constant w) v here h =
     known_placed p names op (Ok w) (Ok (placed_value p names w)) v (λ u e. ap (placed_result p names) e) h
 before_item p names op item.Here v here h =
@@ -276,7 +275,7 @@ before_item p names op (item.Unary o) v here h = known_placed p names op (Err Sy
 before_item p names op (item.Binary o) v here h = known_placed p names op (Err Syntax) (Err Syntax) v (λ u e. ap (placed_result p names) e) h
 
 pub placing_law : (p : Placing) (names : Names) (t : Tree) (v : Value)
-    → CountFromHere names → meaning names t ≡ Ok v → placed_meaning p names t ≡ Ok (placed_value p names v)
+    → HaveSymbols names → meaning names t ≡ Ok v → placed_meaning p names t ≡ Ok (placed_value p names v)
 placing_law p names (Leaf i) v here h = item_placed p names i v here h
 placing_law p names (Before op (Leaf i)) v here h = before_item p names op i v here h
 placing_law p names (Before op (Before o t)) v here h =
