@@ -1,12 +1,11 @@
 -- A worked source: where its lines stand, and what its names are.
-use Rattle.std.proofs.Common.{◌≡◌, ℕ, List, [], ◌∷◌, drop, map, false, refl, Option, Some, None, codes}
+use Rattle.std.proofs.Common.{◌≡◌, ℕ, List, [], ◌∷◌, map, false, refl, Option, Some, None, codes}
 use Rattle.sdt_word.specs.declared.codes.Condition.TheVariants.{Al}
 use Rattle.asm_model.specs.declared.exprs.Expr.{Expr}
 use Rattle.asm_model.specs.declared.exprs.ExprItem.{ExprItem}
 use Rattle.asm_model.specs.declared.exprs.ExprItem.TheVariants as item
 use Rattle.asm_model.specs.declared.exprs.BinaryOp.TheVariants as op
-use Rattle.asm_model.specs.declared.values.Value.{Value}
-use Rattle.asm_model.specs.declared.values.Value.TheVariants.{Number, Words, Place}
+use Rattle.asm_model.specs.declared.values.Value.TheVariants.{Number, Words}
 use Rattle.asm_model.specs.declared.operands.Register.TheVariants as register
 use Rattle.asm_model.specs.declared.arm_lines.ArmLine.TheVariants as arm
 use Rattle.asm_model.specs.declared.statements.Statement.{Statement}

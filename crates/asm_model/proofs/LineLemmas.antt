@@ -13,7 +13,7 @@ use Rattle.asm_model.specs.declared.exprs.BinaryOp.TheVariants.{Subtract}
 use Rattle.asm_model.specs.declared.values.Value.{Value}
 use Rattle.asm_model.specs.declared.values.Value.TheVariants.{Number, Truth, Words, Place}
 use Rattle.asm_model.specs.declared.names.LaidName.{LaidName}
-use Rattle.asm_model.specs.AtLine.{Definition, Nameless, Named, Equated, SourceLine, with_names, own_names, known_names, sight, asked_kinds, name_kinds, unless_told, value_at, made_name, added_names, seen_behind, known_value, HoldsEach}
+use Rattle.asm_model.specs.AtLine.{SourceLine, with_names, asked_kinds, name_kinds, unless_told, HoldsEach}
 use Rattle.asm_model.specs.Forms.{same}
 use Rattle.asm_model.specs.Grammar.{Tree, Leaf, Before, Between}
 use Rattle.asm_model.specs.Kinds.{told_kind}

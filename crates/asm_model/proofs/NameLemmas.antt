@@ -1,18 +1,10 @@
 -- What is known at a line needs no places and values of later names.
-use Rattle.std.proofs.Common.{◌≡◌, ℕ, List, [], ◌∷◌, ◌++◌, ◌||◌, Bool, true, false, cond, refl, sym, ◌∙◌, ap, Some}
+use Rattle.std.proofs.Common.{◌≡◌, ℕ, List, [], ◌∷◌, ◌++◌, ◌||◌, Bool, true, false, cond, refl, Some}
 use Rattle.std.specs.Option.{is_some}
-use Rattle.sdt_fault.specs.declared.kinds.LineKind.TheVariants.{Forward, UnknownWord}
-use Rattle.asm_model.specs.declared.exprs.ExprItem.{ExprItem}
-use Rattle.asm_model.specs.declared.exprs.ExprItem.TheVariants as item
-use Rattle.asm_model.specs.declared.exprs.UnaryOp.{UnaryOp}
-use Rattle.asm_model.specs.declared.exprs.UnaryOp.TheVariants as unary
 use Rattle.asm_model.specs.declared.names.LaidName.{LaidName}
-use Rattle.asm_model.specs.declared.names.Names.{Names}
-use Rattle.asm_model.specs.AtLine.{Definition, Nameless, Named, Equated, SourceLine, Sight, sight, is_in, item_kinds, asked_kinds, name_kinds, unless_told, value_at, made_name, added_names, seen_behind, known_value}
+use Rattle.asm_model.specs.AtLine.{is_in}
 use Rattle.asm_model.specs.Forms.{same}
-use Rattle.asm_model.specs.Grammar.{Tree, Leaf, Before, Between}
-use Rattle.asm_model.specs.Kinds.{told_kind}
-use Rattle.asm_model.specs.Meaning.{named_in, meaning}
+use Rattle.asm_model.specs.Meaning.{named_in}
 
 -- ---- names in lists
 

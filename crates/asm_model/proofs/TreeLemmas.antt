@@ -4,11 +4,9 @@ use Rattle.asm_model.specs.declared.exprs.Expr.{Expr}
 use Rattle.asm_model.specs.declared.exprs.ExprItem.{ExprItem}
 use Rattle.asm_model.specs.declared.exprs.ExprItem.TheVariants as item
 use Rattle.asm_model.specs.declared.exprs.Part.{Part}
-use Rattle.asm_model.specs.declared.exprs.Part.TheVariants as part
-use Rattle.asm_model.specs.declared.values.Value.TheVariants.{Number}
-use Rattle.asm_model.specs.Grammar.{Tree, Leaf, Before, Between, postfix, plain, operand_of, Spells, operand, of_name, before, grouped, between, tighter, IsSpelled}
+use Rattle.asm_model.specs.Grammar.{Tree, Leaf, Before, Between, postfix, plain, Spells, operand, of_name, before, grouped, between, tighter, IsSpelled}
 use Rattle.asm_model.specs.Trees.{grown, tree_behind, tree_of}
-use Rattle.asm_model.proofs.LateLemmas.{kept, plain_operand}
+use Rattle.asm_model.proofs.LateLemmas.{plain_operand}
 
 abbrev IsPlain : Tree → Type 0
 IsPlain (Leaf i) = plain i ≡ Some i

@@ -1,10 +1,8 @@
 -- Labels of Thumb code in words. In DCD, DCDU and LDR with a literal, a label of Thumb code that is no datum counts with 1
 -- added; an imported one does so when it is linked. A label is a datum where DATA has it. SDT 2.50 Reference Guide, chapter
 -- on the assembler.
-use Rattle.std.specs.Prelude.{ℕ, ◌+◌, ◌%◌, ◌^◌, List, [], ◌∷◌, ◌++◌, ◌&&◌, not, Bool, if◌then◌else◌, Option, Some, None}
+use Rattle.std.specs.Prelude.{ℕ, List, [], ◌∷◌, ◌++◌, ◌&&◌, not, Bool, if◌then◌else◌, Option, Some}
 use Rattle.std.specs.List.{list_any}
-use Rattle.asm_model.specs.declared.values.Value.{Value}
-use Rattle.asm_model.specs.declared.values.Value.TheVariants.{Number, Truth, Words, Place}
 use Rattle.asm_model.specs.declared.names.Names.{Names}
 use Rattle.asm_model.specs.declared.directives.DirectiveLine.TheVariants as line
 use Rattle.asm_model.specs.declared.statements.Statement.{Statement}
@@ -13,7 +11,6 @@ use Rattle.asm_model.specs.declared.statements.What.TheVariants as what
 use Rattle.asm_model.specs.Forms.{same}
 use Rattle.asm_model.specs.Meaning.{named_in}
 use Rattle.asm_model.specs.Entries.{thumb_of}
-use Rattle.asm_model.specs.Placing.{Placing, address_of}
 
 abbrev pub datum_in : Option (List ℕ) → What → List (List ℕ)
 datum_in (Some name) (what.Directive line.Data) = name ∷ []

@@ -1,12 +1,9 @@
 -- What offsets keep: padding is the least that serves, statements of an area don't overlap, and the word of each literal
 -- lies in its area, aligned to 4. A statement's alignment needs no values. This project's.
-use Rattle.std.specs.Prelude.{◌≡◌, ℕ, ◌+◌, ◌%◌, ◌≤◌, List, [], ◌∷◌, ◌++◌, Some, Ok}
+use Rattle.std.specs.Prelude.{◌≡◌, ℕ, ◌+◌, ◌%◌, ◌≤◌, List, [], ◌∷◌}
 use Rattle.asm_model.specs.declared.values.Value.{Value}
 use Rattle.asm_model.specs.declared.values.Value.TheVariants.{Number, Truth, Words, Place}
-use Rattle.asm_model.specs.declared.statements.What.{What}
-use Rattle.asm_model.specs.AtLine.{Sight}
-use Rattle.asm_model.specs.Extents.{Extent, Loading, extent_of, alignment}
-use Rattle.asm_model.specs.Offsets.{Piece, alignment_of, lacking, waiting, start_in, size_of, area_size, literal_word}
+use Rattle.asm_model.specs.Offsets.{Piece, lacking}
 
 -- so many bytes reach an offset that is the multiple plus the number, and no fewer do
 abbrev pub PaddingIsLeast : Type 0

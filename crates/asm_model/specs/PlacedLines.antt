@@ -1,12 +1,7 @@
--- Lines of a source when areas are placed: of the names that a line sees in the end, those without a symbol count from its
--- own area, so that evaluating and then placing is evaluating what is placed. This project's.
+-- Statements whose names have characters, as those of all lines have. This project's.
 use Rattle.std.specs.Prelude.{ℕ, List, [], ◌∷◌, Option, Some, None}
-use Rattle.asm_model.specs.declared.names.LaidName.{LaidName}
 use Rattle.asm_model.specs.declared.statements.Statement.{Statement}
-use Rattle.asm_model.specs.Entries.{EachHasSymbol}
 use Rattle.asm_model.specs.Labels.{Defined, Unnamed, Label, Equal, MapField, RegisterName, defined_by, imported_in}
-use Rattle.asm_model.specs.Laid.{LaidLine, laid_behind, laid, final_names}
-use Rattle.asm_model.specs.Symbols.{final_sight}
 
 -- a name has a character
 abbrev pub IsName : List ℕ → Type 0

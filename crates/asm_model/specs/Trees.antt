@@ -1,10 +1,9 @@
 -- The tree of an expression's items: the one whose items they are. This project's.
-use Rattle.std.specs.Prelude.{◌≡◌, List, [], ◌∷◌, Option, Some, None}
+use Rattle.std.specs.Prelude.{List, [], ◌∷◌, Option, Some, None}
 use Rattle.asm_model.specs.declared.exprs.Expr.{Expr}
 use Rattle.asm_model.specs.declared.exprs.ExprItem.{ExprItem}
 use Rattle.asm_model.specs.declared.exprs.ExprItem.TheVariants as item
-use Rattle.asm_model.specs.declared.exprs.Part.{Part}
-use Rattle.asm_model.specs.Grammar.{Tree, Leaf, Before, Between, postfix, IsSpelled}
+use Rattle.asm_model.specs.Grammar.{Tree, Leaf, Before, Between}
 
 -- an item behind trees, the nearest first: an operator takes its operands
 abbrev pub grown : ExprItem → List Tree → Option (List Tree)
