@@ -6,4 +6,4 @@ use Rattle.std.proofs.Common.{List, [], ◌∷◌}
 
 pub are_plain : (ss : List Statement) → AllSaid ss → ArePlain ss
 are_plain [] h = tt
-are_plain (s ∷ ss) h = (h.0.named, h.0.imported, are_plain ss h.1)
+are_plain (s ∷ ss) h = (h.0.plain, are_plain ss h.1)

@@ -1,5 +1,5 @@
 -- The names in what statements load have characters. SDT 2.50 Reference Guide, chapter on the assembler.
-use Rattle.std.specs.Prelude.{ℕ, List, [], ◌∷◌}
+use Rattle.std.specs.Prelude.{List, [], ◌∷◌}
 use Rattle.asm_model.specs.declared.exprs.ExprItem.{ExprItem}
 use Rattle.asm_model.specs.declared.exprs.ExprItem.TheVariants as item
 use Rattle.asm_model.specs.declared.statements.PseudoLine.TheVariants as pseudo

@@ -48,7 +48,7 @@ names =
     ∷ valued_entry (codes "six") (Number 6) false ∷ []
 
 abbrev here : SourceLine
-here = record { area = Some 0; offset = 8; map = 0; thumb = false; back = []; forth = []; definition = Nameless }
+here = record { area = Some 0; offset = 8; map = 0; thumb = false; definition = Nameless }
 
 abbrev context : Context
 context = record {
