@@ -10,10 +10,9 @@ use Rattle.asm_model.specs.AtLine.{SourceLine}
 use Rattle.asm_model.specs.Grammar.{Tree}
 use Rattle.asm_model.specs.Before.{stretch_behind, area_behind, is_thumb_label}
 use Rattle.asm_model.specs.Entries.{equal_entry}
-use Rattle.asm_model.specs.Labels.{Defined, Unnamed, LocalLabel, Label, Equal, MapField, RegisterName, defined_by, imported_in}
-use Rattle.asm_model.specs.Laid.{Declared, LaidLine, statements_of, locals_of, map_behind, offset_behind, tree_equated, definition_of, imported_lines, laid_behind, laid_of, final_line, final_lines}
+use Rattle.asm_model.specs.Labels.{Defined, Unnamed, Label, Equal, MapField, RegisterName, defined_by, imported_in}
+use Rattle.asm_model.specs.Laid.{LaidLine, statements_of, locals_of, map_behind, offset_behind, tree_equated, definition_of, imported_lines, laid_behind, laid_of, final_lines}
 use Rattle.asm_model.specs.LayoutKinds.{equal_of, equals_in}
-use Rattle.asm_model.specs.Locals.{Local, local_entries, digits_of, reference, references_to, is_new, back_of, forth_of}
 use Rattle.asm_model.specs.Trees.{tree_of}
 use Rattle.layout_laws.proofs.RoundLemmas.{SymbolIs, EachIs}
 use Rattle.layout_laws.proofs.StepLemmas.{HoldsOf, EachEquated, IsMade, IsRegular, AreRegular, nothing}
@@ -58,65 +57,32 @@ tree_holds R names area name (Some t) f = f t refl
 pub definition_holds : (R : List ℕ → Tree → Type 0) (names : List LaidName) (x : Defined) (area : Option ℕ) (offset size : ℕ) (thumb : Bool) (m : ℕ)
     → EachEqual (OfTrees R) (equal_of x) → HoldsOf R (definition_of names x area offset size thumb m)
 definition_holds R names Unnamed area offset size thumb m h = tt
-definition_holds R names (LocalLabel n) area offset size thumb m h = tt
 definition_holds R names (Label name) area offset size thumb m h = tt
 definition_holds R names (Equal name e) area offset size thumb m h = tree_holds R names area name (tree_of e) h.0
 definition_holds R names (MapField name) area offset size thumb m h = tt
 definition_holds R names (RegisterName name r) area offset size thumb m h = tt
 
-pub imported_holds : (R : List ℕ → Tree → Type 0) (d : Declared) (s : Statement) (before : List LaidLine) (o : Option (List ℕ)) → EachEquated R (imported_lines d s before o)
-imported_holds R d s before None = tt
-imported_holds R d s before (Some name) = (tt, tt)
+pub imported_holds : (R : List ℕ → Tree → Type 0) (s : Statement) (before : List LaidLine) (o : Option (List ℕ)) → EachEquated R (imported_lines s before o)
+imported_holds R s before None = tt
+imported_holds R s before (Some name) = (tt, tt)
 
 pub holds_joined : (R : List ℕ → Tree → Type 0) (ls ms : List SourceLine) → EachEquated R ls → EachEquated R ms → EachEquated R (ls ++ ms)
 holds_joined R [] ms h k = k
 holds_joined R (l ∷ ls) ms h k = (h.0, holds_joined R ls ms h.1 k)
 
-pub lines_hold : (R : List ℕ → Tree → Type 0) (d : Declared) (locals : List Local) (ss : List Statement) → EachEqual (OfTrees R) (equals_in ss)
-    → EachEquated R (final_lines locals (laid_of d ss))
-lines_hold R d locals [] h = tt
-lines_hold R d locals (s ∷ ss) h =
+pub lines_hold : (R : List ℕ → Tree → Type 0) (d : List LaidName) (ss : List Statement) → EachEqual (OfTrees R) (equals_in ss)
+    → EachEquated R (source_lines (laid_of d ss))
+lines_hold R d [] h = tt
+lines_hold R d (s ∷ ss) h =
     let parts = equal_parts (OfTrees R) (equals_in ss) (equal_of (defined_by s)) h in
-    holds_joined R (final_lines locals (laid_of d ss)) (final_line locals (laid_behind d s (laid_of d ss)) (laid_of d ss) ∷ imported_lines d s (laid_of d ss) (imported_in s.what))
-    (lines_hold R d locals ss parts.0) (
-      definition_holds R d.names (defined_by s) (area_behind (s ∷ statements_of (laid_of d ss))) (offset_behind s (laid_of d ss))
+    holds_joined R (source_lines (laid_of d ss)) ((laid_behind d s (laid_of d ss)).line ∷ imported_lines s (laid_of d ss) (imported_in s.what))
+    (lines_hold R d ss parts.0) (
+      definition_holds R d (defined_by s) (area_behind (s ∷ statements_of (laid_of d ss))) (offset_behind s (laid_of d ss))
           (laid_behind d s (laid_of d ss)).size (is_thumb_label s (statements_of (laid_of d ss))) (map_behind (laid_of d ss)) parts.1,
-      imported_holds R d s (laid_of d ss) (imported_in s.what),
+      imported_holds R s (laid_of d ss) (imported_in s.what),
     )
 
 -- ---- regular lines
-
-pub each_is_joined : (P : List ℕ → Type 0) (ns ms : List LaidName) → EachIs P ns → EachIs P ms → EachIs P (ns ++ ms)
-each_is_joined P [] ms h k = k
-each_is_joined P (n ∷ ns) ms h k = (h.0, each_is_joined P ns ms h.1 k)
-
-pub spelled_is : (area : Option ℕ) (l : Local) (mark : List ℕ) (texts : List (List ℕ)) → EachIs nothing (map (λ digits. reference area l (mark ++ digits)) texts)
-spelled_is area l mark [] = tt
-spelled_is area l mark (t ∷ ts) = (tt, spelled_is area l mark ts)
-
-pub references_are : (area : Option ℕ) (l : Local) (marks : List (List ℕ)) → EachIs nothing (references_to area l marks)
-references_are area l [] = tt
-references_are area l (mark ∷ marks) =
-    each_is_joined nothing (map (λ digits. reference area l (mark ++ digits)) (digits_of l.number)) (references_to area l marks)
-    (spelled_is area l mark (digits_of l.number)) (references_are area l marks)
-
-pub either_is : (P : List ℕ → Type 0) (b : Bool) (ns ms us : List LaidName) → EachIs P ns → EachIs P ms → EachIs P us → EachIs P (cond b (ns ++ ms) us)
-either_is P true ns ms us h g k = each_is_joined P ns ms h g
-either_is P false ns ms us h g k = k
-
-pub back_is : (area : Option ℕ) (stretch statement : ℕ) (nearer : List ℕ) (ls : List Local) → EachIs nothing (back_of area stretch statement nearer ls)
-back_is area stretch statement nearer [] = tt
-back_is area stretch statement nearer (l ∷ ls) =
-    either_is nothing (l.stretch == stretch && nat_le l.statement statement && is_new l.number nearer) (references_to area l (codes "%B" ∷ codes "%" ∷ []))
-    (back_of area stretch statement (l.number ∷ nearer) ls) (back_of area stretch statement nearer ls)
-    (references_are area l (codes "%B" ∷ codes "%" ∷ [])) (back_is area stretch statement (l.number ∷ nearer) ls) (back_is area stretch statement nearer ls)
-
-pub forth_is : (area : Option ℕ) (stretch statement : ℕ) (nearer : List ℕ) (ls : List Local) → EachIs nothing (forth_of area stretch statement nearer ls)
-forth_is area stretch statement nearer [] = tt
-forth_is area stretch statement nearer (l ∷ ls) =
-    either_is nothing (l.stretch == stretch && nat_lt statement l.statement && is_new l.number nearer) (references_to area l (codes "%F" ∷ codes "%" ∷ []))
-    (forth_of area stretch statement (l.number ∷ nearer) ls) (forth_of area stretch statement nearer ls)
-    (references_are area l (codes "%F" ∷ codes "%" ∷ [])) (forth_is area stretch statement (l.number ∷ nearer) ls) (forth_is area stretch statement nearer ls)
 
 pub own_place : (name : List ℕ) → SymbolIs (λ s. s ≡ name) (Place name 0)
 own_place [] = tt
@@ -136,7 +102,6 @@ tree_regular names area name (Some t) = equal_made names area name
 pub definition_regular : (names : List LaidName) (x : Defined) (area : Option ℕ) (offset size : ℕ) (thumb : Bool) (m : ℕ)
     → IsRegular (definition_of names x area offset size thumb m)
 definition_regular names Unnamed area offset size thumb m = tt
-definition_regular names (LocalLabel n) area offset size thumb m = tt
 definition_regular names (Label name) area offset size thumb m = own_place name
 definition_regular names (Equal name e) area offset size thumb m = tree_regular names area name (tree_of e)
 definition_regular names (MapField name) area offset size thumb m = tt
@@ -144,32 +109,21 @@ definition_regular names (RegisterName name r) area offset size thumb m = tt
 
 pub regular_joined : (ls ms : List SourceLine) → AreRegular ls → AreRegular ms → AreRegular (ls ++ ms)
 regular_joined [] ms h k = k
-regular_joined (l ∷ ls) ms h k = (h.0, h.1, h.2, regular_joined ls ms h.3 k)
+regular_joined (l ∷ ls) ms h k = (h.0, regular_joined ls ms h.1 k)
 
-pub back_behind_is : (s : Statement) (before : List LaidLine)
-    → EachIs nothing (back_of (area_behind (s ∷ statements_of before)) (stretch_behind (s ∷ statements_of before)) (length before) []
-    (local_entries (defined_by s) (stretch_behind (s ∷ statements_of before)) (length before) (offset_behind s before) ++ locals_of before))
-back_behind_is s before =
-    back_is (area_behind (s ∷ statements_of before)) (stretch_behind (s ∷ statements_of before)) (length before) []
-    (local_entries (defined_by s) (stretch_behind (s ∷ statements_of before)) (length before) (offset_behind s before) ++ locals_of before)
-
-pub imported_regular : (d : Declared) (s : Statement) (before : List LaidLine) (o : Option (List ℕ)) → AreRegular (imported_lines d s before o)
-imported_regular d s before None = tt
-imported_regular d s before (Some name) = (
-  back_behind_is s before,
-  forth_is (area_behind (s ∷ statements_of before)) (stretch_behind (s ∷ statements_of before)) (length before) [] d.locals,
+pub imported_regular : (s : Statement) (before : List LaidLine) (o : Option (List ℕ)) → AreRegular (imported_lines s before o)
+imported_regular s before None = tt
+imported_regular s before (Some name) = (
   own_place name,
   tt,
 )
 
-pub lines_regular : (d : Declared) (locals : List Local) (ss : List Statement) → AreRegular (final_lines locals (laid_of d ss))
-lines_regular d locals [] = tt
-lines_regular d locals (s ∷ ss) =
-    regular_joined (final_lines locals (laid_of d ss)) (final_line locals (laid_behind d s (laid_of d ss)) (laid_of d ss) ∷ imported_lines d s (laid_of d ss) (imported_in s.what))
-    (lines_regular d locals ss) (
-      back_behind_is s (laid_of d ss),
-      forth_is (area_behind (s ∷ statements_of (laid_of d ss))) (stretch_behind (s ∷ statements_of (laid_of d ss))) (length (laid_of d ss)) [] locals,
-      definition_regular d.names (defined_by s) (area_behind (s ∷ statements_of (laid_of d ss))) (offset_behind s (laid_of d ss))
+pub lines_regular : (d : List LaidName) (ss : List Statement) → AreRegular (source_lines (laid_of d ss))
+lines_regular d [] = tt
+lines_regular d (s ∷ ss) =
+    regular_joined (source_lines (laid_of d ss)) ((laid_behind d s (laid_of d ss)).line ∷ imported_lines s (laid_of d ss) (imported_in s.what))
+    (lines_regular d ss) (
+      definition_regular d (defined_by s) (area_behind (s ∷ statements_of (laid_of d ss))) (offset_behind s (laid_of d ss))
           (laid_behind d s (laid_of d ss)).size (is_thumb_label s (statements_of (laid_of d ss))) (map_behind (laid_of d ss)),
-      imported_regular d s (laid_of d ss) (imported_in s.what),
+      imported_regular s (laid_of d ss) (imported_in s.what),
     )

@@ -6,7 +6,7 @@ use Rattle.asm_model.specs.declared.exprs.Expr.{Expr}
 use Rattle.asm_model.specs.declared.values.Value.{Value}
 use Rattle.asm_model.specs.declared.names.LaidName.{LaidName}
 use Rattle.asm_model.specs.declared.statements.Statement.{Statement}
-use Rattle.asm_model.specs.AtLine.{Definition, Nameless, Named, Equated, SourceLine, with_names, own_names, all_names, sight, is_in, value_at, made_name, added_names, seen_behind, HoldsEach}
+use Rattle.asm_model.specs.AtLine.{Definition, Nameless, Named, Equated, SourceLine, with_names, own_names, sight, is_in, value_at, made_name, added_names, seen_behind, HoldsEach}
 use Rattle.asm_model.specs.Forms.{same}
 use Rattle.asm_model.specs.Grammar.{Tree}
 use Rattle.asm_model.specs.Meaning.{named_in, meaning}
@@ -14,13 +14,11 @@ use Rattle.asm_model.proofs.LineLemmas.{each_append}
 use Rattle.asm_model.specs.Before.{stretch_behind, area_behind, is_thumb_label}
 use Rattle.asm_model.specs.Entries.{label_entry, imported_entry}
 use Rattle.asm_model.specs.Extents.{value_there, tree_value}
-use Rattle.asm_model.specs.Labels.{Defined, Unnamed, LocalLabel, Label, Equal, MapField, RegisterName, defined_by, imported_in, declared_names}
-use Rattle.asm_model.specs.Laid.{Declared, declared, LaidLine, statements_of, lines_of, locals_of, map_behind, offset_behind, definition_of, definition_behind, imported_lines, laid_behind, laid_of, laid, final_line, all_locals, entries_with, all_entries, final_names, final_value}
+use Rattle.asm_model.specs.Labels.{Defined, Unnamed, Label, Equal, MapField, RegisterName, defined_by, imported_in, declared_names}
+use Rattle.asm_model.specs.Laid.{LaidLine, statements_of, lines_of, locals_of, map_behind, offset_behind, definition_of, definition_behind, imported_lines, laid_behind, laid_of, laid, entries_with, all_entries, final_names, final_value}
 use Rattle.asm_model.specs.LayoutKinds.{equals_in, settled}
-use Rattle.asm_model.specs.Locals.{Local, local_entries, forth_of}
 use Rattle.asm_model.specs.Trees.{tree_of}
 use Rattle.asm_model.specs.Sound.{IsSound, ArePlain}
-use Rattle.layout_laws.proofs.ForthLemmas.{AreBare, back_absent, forth_declared}
 use Rattle.layout_laws.proofs.KnownLemmas.{AreAlike, EachAlike, Fewer, known_final}
 use Rattle.layout_laws.proofs.NamedLemmas.{sofar, own_of, imports_of, with_statement, lacks, sofar_holds, names_other, fewer_than_declared}
 use Rattle.layout_laws.proofs.SettledLemmas.{final_names_are_their_entries}
@@ -38,7 +36,6 @@ label_alike false n m h = (refl, refl, refl)
 pub own_alike : (names : List LaidName) (x : Defined) (area : Option ℕ) (offset a b : ℕ) (thumb : Bool) (m : ℕ)
     → EachAlike (own_names (definition_of names x area offset a thumb m)) (own_names (definition_of names x area offset b thumb m))
 own_alike names Unnamed area offset a b thumb m q = (refl, refl, refl)
-own_alike names (LocalLabel n) area offset a b thumb m q = (refl, refl, refl)
 own_alike names (Label name) area offset a b thumb m q =
     label_alike (same name q) (label_entry name area offset a thumb) (label_entry name area offset b thumb) (refl, refl, refl)
 own_alike names (Equal name e) area offset a b thumb m q = (refl, refl, refl)
@@ -61,120 +58,98 @@ pub made_held : (N : List LaidName) (make : Value → LaidName) (r m : Result Va
 made_held N make (Ok v) m f h = subst (λ z. HoldsEach N (made_name make z)) (f v refl) h
 made_held N make (Err k) m f h = tt
 
-pub added_held : (D N seen : List LaidName) (l m : SourceLine) (x : Definition)
-    → ((t : Tree) (v : Value) → value_at (sight D seen l) t ≡ Ok v → meaning (with_names m (all_names N m)) t ≡ Ok v)
-    → HoldsEach N (entries_with N m x) → HoldsEach N (added_names (sight D seen l) x)
-added_held D N seen l m Nameless f h = tt
-added_held D N seen l m (Named n) f h = h
-added_held D N seen l m (Equated make t) f h = made_held N make (value_at (sight D seen l) t) (meaning (with_names m (all_names N m)) t) (f t) h
+pub added_held : (D N seen : List LaidName) (l : SourceLine) (x : Definition)
+    → ((t : Tree) (v : Value) → value_at (sight D seen l) t ≡ Ok v → meaning (with_names l N) t ≡ Ok v)
+    → HoldsEach N (entries_with N l x) → HoldsEach N (added_names (sight D seen l) x)
+added_held D N seen l Nameless f h = tt
+added_held D N seen l (Named n) f h = h
+added_held D N seen l (Equated make t) f h = made_held N make (value_at (sight D seen l) t) (meaning (with_names l N) t) (f t) h
 
-pub import_held : (D N : List LaidName) (d : Declared) (s : Statement) (before : List LaidLine) (ls : List SourceLine) (o : Option (List ℕ))
-    → HoldsEach N (all_entries N (imported_lines d s before o)) → HoldsEach N (seen_behind D ls) → HoldsEach N (seen_behind D (imported_lines d s before o ++ ls))
-import_held D N d s before ls None h k = k
-import_held D N d s before ls (Some name) h k = each_append N (seen_behind D ls) (imported_entry name ∷ []) k h
+pub import_held : (D N : List LaidName) (s : Statement) (before : List LaidLine) (ls : List SourceLine) (o : Option (List ℕ))
+    → HoldsEach N (all_entries N (imported_lines s before o)) → HoldsEach N (seen_behind D ls) → HoldsEach N (seen_behind D (imported_lines s before o ++ ls))
+import_held D N s before ls None h k = k
+import_held D N s before ls (Some name) h k = each_append N (seen_behind D ls) (imported_entry name ∷ []) k h
 
 -- ---- lines
 
--- what the final names of a source have of those that it declares, and of its local labels
-abbrev pub AreFinal : List LaidName → Declared → List Local → Type 0
-AreFinal N d locals =
-    Fewer N d.names × AreBare N
-    × ((q : List ℕ) (area : Option ℕ) (stretch statement : ℕ) → is_in (forth_of area stretch statement [] locals) q ≡ is_in (forth_of area stretch statement [] d.locals) q)
-
-pub line_known : (N : List LaidName) (locals : List Local) (d : Declared) → AreFinal N d locals → (s : Statement) (before : List LaidLine) (us seen : List LaidName)
+pub line_known : (N : List LaidName) (d : List LaidName) → Fewer N d → (s : Statement) (before : List LaidLine) (us seen : List LaidName)
     → HoldsEach N seen
-    → HoldsEach N (entries_with N (final_line locals (laid_behind d s before) before) (laid_behind d s before).line.definition)
+    → HoldsEach N (entries_with N (laid_behind d s before).line (laid_behind d s before).line.definition)
     → EachAlike us (own_names (laid_behind d s before).line.definition)
     → (t : Tree) (v : Value)
     → value_at (record {
-      known = with_names (laid_behind d s before).line (seen ++ us ++ (laid_behind d s before).line.back);
+      known = with_names (laid_behind d s before).line (seen ++ us);
       unsized = us;
-      all = all_names d.names (laid_behind d s before).line;
+      all = d;
     }) t ≡ Ok v
-    → meaning (with_names (final_line locals (laid_behind d s before) before) (all_names N (final_line locals (laid_behind d s before) before))) t ≡ Ok v
-line_known N locals d final s before us seen h own alike t v e =
-    let l = (laid_behind d s before).line in
-    let m = final_line locals (laid_behind d s before) before in
-    known_final d.names N seen us l m.forth h (own_held N m l.definition own)
-    (back_absent N final.1 (area_behind (s ∷ statements_of before)) (stretch_behind (s ∷ statements_of before)) (length before) []
-    (local_entries (defined_by s) (stretch_behind (s ∷ statements_of before)) (length before) (offset_behind s before) ++ locals_of before))
-    final.0
-    (λ q x. sym (final.2 q (area_behind (s ∷ statements_of before)) (stretch_behind (s ∷ statements_of before)) (length before)) ∙ x)
-    alike t v e
+    → meaning (with_names (laid_behind d s before).line N) t ≡ Ok v
+line_known N d fewer s before us seen h own alike t v e =
+    let l = (laid_behind d s before).line in known_final d N seen us l h (own_held N l l.definition own) fewer alike t v e
 
-pub seen_final : (N : List LaidName) (locals : List Local) (d : Declared) → AreFinal N d locals → (ss : List Statement) → HoldsEach N (sofar N locals d ss)
-    → HoldsEach N (seen_behind d.names (lines_of (laid_of d ss)))
-seen_final N locals d final [] h = tt
-seen_final N locals d final (s ∷ ss) h =
+pub seen_final : (N : List LaidName) (d : List LaidName) → Fewer N d → (ss : List Statement) → HoldsEach N (sofar N d ss)
+    → HoldsEach N (seen_behind d (lines_of (laid_of d ss)))
+seen_final N d fewer [] h = tt
+seen_final N d fewer (s ∷ ss) h =
     let before = laid_of d ss in
     let l = (laid_behind d s before).line in
-    let m = final_line locals (laid_behind d s before) before in
-    let seen = seen_behind d.names (lines_of before) in
-    let p = each_split N (sofar N locals d ss) (own_of N locals d s ss ++ imports_of N d s ss) (subst (HoldsEach N) (with_statement N locals d s ss) h) in
-    let r = each_split N (own_of N locals d s ss) (imports_of N d s ss) p.1 in
-    let k = seen_final N locals d final ss p.0 in
-    import_held d.names N d s before (l ∷ lines_of before) (imported_in s.what) r.1
-    (each_append N seen (added_names (sight d.names seen l) l.definition) k
-    (added_held d.names N seen l m l.definition (line_known N locals d final s before (own_names l.definition) seen k r.0 (alike_self (own_names l.definition))) r.0))
+    let seen = seen_behind d (lines_of before) in
+    let p = each_split N (sofar N d ss) (own_of N d s ss ++ imports_of N d s ss) (subst (HoldsEach N) (with_statement N d s ss) h) in
+    let r = each_split N (own_of N d s ss) (imports_of N d s ss) p.1 in
+    let k = seen_final N d fewer ss p.0 in
+    import_held d N s before (l ∷ lines_of before) (imported_in s.what) r.1
+    (each_append N seen (added_names (sight d seen l) l.definition) k
+    (added_held d N seen l l.definition (line_known N d fewer s before (own_names l.definition) seen k r.0 (alike_self (own_names l.definition))) r.0))
 
 -- ---- values
 
-abbrev pub IsKnownFinally : List LaidName → List Local → LaidLine → List LaidLine → Type 0
-IsKnownFinally N locals l before =
+abbrev pub IsKnownFinally : List LaidName → LaidLine → Type 0
+IsKnownFinally N l =
     (t : Tree) (v : Value) → value_at l.seen t ≡ Ok v
-    → meaning (with_names (final_line locals l before) (all_names N (final_line locals l before))) t ≡ Ok v
+    → meaning (with_names l.line N) t ≡ Ok v
 
-abbrev pub AllKnownFinally : List LaidName → List Local → List LaidLine → Type 0
-AllKnownFinally N locals [] = Unit {0}
-AllKnownFinally N locals (l ∷ before) = IsKnownFinally N locals l before × AllKnownFinally N locals before
+abbrev pub AllKnownFinally : List LaidName → List LaidLine → Type 0
+AllKnownFinally N [] = Unit {0}
+AllKnownFinally N (l ∷ before) = IsKnownFinally N l × AllKnownFinally N before
 
-pub all_known : (N : List LaidName) (locals : List Local) (d : Declared) → AreFinal N d locals → (ss : List Statement) → HoldsEach N (sofar N locals d ss)
-    → AllKnownFinally N locals (laid_of d ss)
-all_known N locals d final [] h = tt
-all_known N locals d final (s ∷ ss) h =
+pub all_known : (N : List LaidName) (d : List LaidName) → Fewer N d → (ss : List Statement) → HoldsEach N (sofar N d ss)
+    → AllKnownFinally N (laid_of d ss)
+all_known N d fewer [] h = tt
+all_known N d fewer (s ∷ ss) h =
     let before = laid_of d ss in
-    let p = each_split N (sofar N locals d ss) (own_of N locals d s ss ++ imports_of N d s ss) (subst (HoldsEach N) (with_statement N locals d s ss) h) in
-    let r = each_split N (own_of N locals d s ss) (imports_of N d s ss) p.1 in (
-      line_known N locals d final s before (own_names (definition_behind d s before 0)) (seen_behind d.names (lines_of before))
-          (seen_final N locals d final ss p.0) r.0
-          (own_alike d.names (defined_by s) (area_behind (s ∷ statements_of before)) (offset_behind s before) 0 (laid_behind d s before).size
+    let p = each_split N (sofar N d ss) (own_of N d s ss ++ imports_of N d s ss) (subst (HoldsEach N) (with_statement N d s ss) h) in
+    let r = each_split N (own_of N d s ss) (imports_of N d s ss) p.1 in (
+      line_known N d fewer s before (own_names (definition_behind d s before 0)) (seen_behind d (lines_of before))
+          (seen_final N d fewer ss p.0) r.0
+          (own_alike d (defined_by s) (area_behind (s ∷ statements_of before)) (offset_behind s before) 0 (laid_behind d s before).size
           (is_thumb_label s (statements_of before)) (map_behind before)),
-      all_known N locals d final ss p.0,
+      all_known N d fewer ss p.0,
     )
 
-pub known_there : (N : List LaidName) (locals : List Local) (after : List LaidLine) (l : LaidLine) (before : List LaidLine)
-    → AllKnownFinally N locals (after ++ l ∷ before) → IsKnownFinally N locals l before
-known_there N locals [] l before h = h.0
-known_there N locals (m ∷ after) l before h = known_there N locals after l before h.1
+pub known_there : (N : List LaidName) (after : List LaidLine) (l : LaidLine) (before : List LaidLine)
+    → AllKnownFinally N (after ++ l ∷ before) → IsKnownFinally N l
+known_there N [] l before h = h.0
+known_there N (m ∷ after) l before h = known_there N after l before h.1
 
-pub source_holds : (ss : List Statement) → IsSound ss → ArePlain ss → HoldsEach (final_names (laid ss)) (sofar (final_names (laid ss)) (all_locals (laid ss)) (declared ss) ss)
+pub source_holds : (ss : List Statement) → IsSound ss → ArePlain ss → HoldsEach (final_names (laid ss)) (sofar (final_names (laid ss)) (declared_names ss) ss)
 source_holds ss h plain =
     let N = final_names (laid ss) in
-    let all = sofar N (all_locals (laid ss)) (declared ss) ss in
+    let all = sofar N (declared_names ss) ss in
     subst (λ z. HoldsEach z all) (final_names_are_their_entries ss h plain)
-    (sofar_holds N (all_locals (laid ss)) (declared ss) (settled (equals_in ss)) ss (sound_each (settled (equals_in ss)) (declared ss) ss h))
+    (sofar_holds N (declared_names ss) (settled (equals_in ss)) ss (sound_each (settled (equals_in ss)) (declared_names ss) ss h))
 
-pub source_final : (ss : List Statement) → IsSound ss → ArePlain ss → AreFinal (final_names (laid ss)) (declared ss) (all_locals (laid ss))
+pub source_final : (ss : List Statement) → IsSound ss → ArePlain ss → Fewer (final_names (laid ss)) (declared_names ss)
 source_final ss h plain =
-    let N = final_names (laid ss) in
-    let locals = all_locals (laid ss) in
-    let all = sofar N locals (declared ss) ss in
-    let e = final_names_are_their_entries ss h plain in (
-      subst (λ z. Fewer z (declared_names ss)) e (fewer_than_declared N locals (declared ss) ss),
-      λ r. ap (named_in (124 ∷ r)) (sym e) ∙ lacks N locals (declared ss) (124 ∷ r) ss (names_other r ss plain),
-      forth_declared (declared ss) ss,
-    )
+    subst (λ z. Fewer z (declared_names ss)) (final_names_are_their_entries ss h plain) (fewer_than_declared (final_names (laid ss)) (declared_names ss) ss)
 
 pub known_values_are_final : (ss : List Statement) → IsSound ss → ArePlain ss → (after before : List LaidLine) (l : LaidLine) → laid ss ≡ after ++ l ∷ before
     → (e : Expr) (v : Value) → value_there l.seen e ≡ Ok v
-    → final_value (final_names (laid ss)) (final_line (all_locals (laid ss)) l before) e ≡ Ok v
+    → final_value (final_names (laid ss)) l.line e ≡ Ok v
 known_values_are_final ss h plain after before l split e v k =
     let N = final_names (laid ss) in
-    let locals = all_locals (laid ss) in
-    let known = known_there N locals after l before (subst (AllKnownFinally N locals) split (all_known N locals (declared ss) (source_final ss h plain) ss (source_holds ss h plain))) in
+    let known = known_there N after l before (subst (AllKnownFinally N) split (all_known N (declared_names ss) (source_final ss h plain) ss (source_holds ss h plain))) in
     by_tree (tree_of e) refl known
   where
-    by_tree : (o : Option Tree) → tree_of e ≡ o → IsKnownFinally (final_names (laid ss)) (all_locals (laid ss)) l before
-        → final_value (final_names (laid ss)) (final_line (all_locals (laid ss)) l before) e ≡ Ok v
+    by_tree : (o : Option Tree) → tree_of e ≡ o → IsKnownFinally (final_names (laid ss)) l
+        → final_value (final_names (laid ss)) l.line e ≡ Ok v
     by_tree None x known = let y : tree_value l.seen None ≡ Ok v = ap (tree_value l.seen) (sym x) ∙ k in absurd (cc)
     by_tree (Some t) x known = let y : tree_value l.seen (Some t) ≡ Ok v = ap (tree_value l.seen) (sym x) ∙ k in rw x (known t v y)

@@ -13,7 +13,7 @@ use Rattle.asm_model.specs.declared.values.Value.{Value}
 use Rattle.asm_model.specs.declared.values.Value.TheVariants.{Number, Truth, Words, Place}
 use Rattle.asm_model.specs.declared.names.LaidName.{LaidName}
 use Rattle.asm_model.specs.declared.names.Names.{Names}
-use Rattle.asm_model.specs.AtLine.{SourceLine, Sight, with_names, own_names, all_names, is_in, item_kinds, asked_kinds, name_kinds, value_at, HoldsEach}
+use Rattle.asm_model.specs.AtLine.{SourceLine, Sight, with_names, own_names, is_in, item_kinds, asked_kinds, name_kinds, value_at, HoldsEach}
 use Rattle.asm_model.specs.Directives.{or_else}
 use Rattle.asm_model.specs.Forms.{same}
 use Rattle.asm_model.specs.Grammar.{Tree, Leaf, Before, Between}
@@ -42,31 +42,26 @@ none_same None None h e = refl
 none_same None (Some y) h e = absurd (cc)
 none_same (Some x) p h e = absurd (cc)
 
-pub alike_in : (o p a b : Option LaidName) → AreAlike o p → AreAlike (or_else (or_else a o) b) (or_else (or_else a p) b)
-alike_in o p (Some x) b h = (refl, refl, refl)
-alike_in None None None b h = (refl, refl, refl)
-alike_in None (Some y) None b h = let x = h.2 in absurd (cc)
-alike_in (Some x) None None b h = let e = h.2 in absurd (cc)
-alike_in (Some x) (Some y) None b h = h
+pub alike_in : (o p a : Option LaidName) → AreAlike o p → AreAlike (or_else a o) (or_else a p)
+alike_in o p (Some x) h = (refl, refl, refl)
+alike_in o p None h = h
 
 pub named_within : (q : List ℕ) (xs us bs : List LaidName) → named_in q (xs ++ us ++ bs) ≡ or_else (or_else (named_in q xs) (named_in q us)) (named_in q bs)
 named_within q xs us bs = named_joined q (xs ++ us) bs ∙ ap (λ o. or_else o (named_in q bs)) (named_joined q xs us)
 
-pub alike_within : (xs us vs bs : List LaidName) → EachAlike us vs → EachAlike (xs ++ us ++ bs) (xs ++ vs ++ bs)
-alike_within xs us vs bs h q =
-    let a = alike_in (named_in q us) (named_in q vs) (named_in q xs) (named_in q bs) (h q) in
-    let x = named_within q xs us bs in
-    let y = named_within q xs vs bs in (
+pub alike_behind : (xs us vs : List LaidName) → EachAlike us vs → EachAlike (xs ++ us) (xs ++ vs)
+alike_behind xs us vs h q =
+    let a = alike_in (named_in q us) (named_in q vs) (named_in q xs) (h q) in
+    let x = named_joined q xs us in
+    let y = named_joined q xs vs in (
       ap value_of x ∙ a.0 ∙ sym (ap value_of y),
       ap entry_stands_at x ∙ a.1 ∙ sym (ap entry_stands_at y),
       ap is_some x ∙ a.2 ∙ sym (ap is_some y),
     )
 
-pub same_within : (xs us vs bs : List LaidName) → EachAlike us vs → SameBut us (xs ++ us ++ bs) (xs ++ vs ++ bs)
-same_within xs us vs bs h q e =
-    named_within q xs us bs
-    ∙ ap (λ o. or_else (or_else (named_in q xs) o) (named_in q bs)) (none_same (named_in q us) (named_in q vs) e (h q).2)
-    ∙ sym (named_within q xs vs bs)
+pub same_behind : (xs us vs : List LaidName) → EachAlike us vs → SameBut us (xs ++ us) (xs ++ vs)
+same_behind xs us vs h q e =
+    named_joined q xs us ∙ ap (or_else (named_in q xs)) (none_same (named_in q us) (named_in q vs) e (h q).2) ∙ sym (named_joined q xs vs)
 
 -- ---- their values are the same where no size is asked for
 
@@ -114,7 +109,7 @@ asked_alike l xs ys us all h but op q none = ap (λ r. then_of r (unary_of op)) 
 pub item_alike : (l : SourceLine) (xs ys : List LaidName) → EachAlike xs ys → (i : ExprItem)
     → known (operand_of_item (with_names l xs) i) ≡ known (operand_of_item (with_names l ys) i)
 item_alike l xs ys h (item.Name q) = (h q).0
-item_alike l xs ys h (item.Local q) = (h (124 ∷ q)).0
+item_alike l xs ys h (item.Local q) = refl
 item_alike l xs ys h (item.Constant v) = refl
 item_alike l xs ys h item.Here = refl
 item_alike l xs ys h item.Map = refl
@@ -125,7 +120,7 @@ item_alike l xs ys h (item.Binary op) = refl
 pub before_alike : (l : SourceLine) (xs ys us all : List LaidName) → EachAlike xs ys → SameBut us xs ys → (op : UnaryOp) (i : ExprItem)
     → asked_kinds (seeing (with_names l xs) us all) op i ≡ [] → applied op (operand_of_item (with_names l xs) i) ≡ applied op (operand_of_item (with_names l ys) i)
 before_alike l xs ys us all h but op (item.Name q) none = asked_alike l xs ys us all h but op q none
-before_alike l xs ys us all h but op (item.Local q) none = ap (λ r. applied op (Known r)) (h (124 ∷ q)).0
+before_alike l xs ys us all h but op (item.Local q) none = refl
 before_alike l xs ys us all h but op (item.Constant v) none = refl
 before_alike l xs ys us all h but op item.Here none = refl
 before_alike l xs ys us all h but op item.Map none = refl
@@ -169,8 +164,7 @@ pub item_fewer : (l : SourceLine) (xs ys us ds bs : List LaidName) → EachAlike
     → item_kinds (seeing (with_names l xs) us ds) i ≡ [] → item_kinds (seeing (with_names l ys) us bs) i ≡ []
 item_fewer l xs ys us ds bs h f (item.Name q) none =
     no_value (is_in xs q) (is_in ys q) (cond (is_in ds q) Forward UnknownWord) (cond (is_in bs q) Forward UnknownWord) (h q).2 none
-item_fewer l xs ys us ds bs h f (item.Local q) none =
-    no_value (is_in xs (124 ∷ q)) (is_in ys (124 ∷ q)) (cond (is_in ds (124 ∷ q)) Forward UnknownWord) (cond (is_in bs (124 ∷ q)) Forward UnknownWord) (h (124 ∷ q)).2 none
+item_fewer l xs ys us ds bs h f (item.Local q) none = absurd (cc)
 item_fewer l xs ys us ds bs h f (item.Constant v) none = refl
 item_fewer l xs ys us ds bs h f item.Here none = refl
 item_fewer l xs ys us ds bs h f item.Map none = refl
@@ -199,62 +193,15 @@ tree_fewer l xs ys us ds bs h f (Between op t u) none =
 
 -- ---- what is known is among all names
 
--- none of these names is among the others
-abbrev pub AreAbsent : List LaidName → List LaidName → Type 0
-AreAbsent all [] = Unit {0}
-AreAbsent all (n ∷ ns) = (named_in n.name all ≡ None) × AreAbsent all ns
-
-pub absent_found : (all : List LaidName) (q : List ℕ) (ns : List LaidName) (e : LaidName) → AreAbsent all ns → named_in q ns ≡ Some e → named_in q all ≡ None
-absent_found all q [] e h g = absurd (cc)
-absent_found all q (n ∷ ns) e h g = by_test (same n.name q) refl (absent_found all q ns e h.1) g
-  where
-    by_test : (b : Bool) → same n.name q ≡ b → (named_in q ns ≡ Some e → named_in q all ≡ None) → cond b (Some n) (named_in q ns) ≡ Some e → named_in q all ≡ None
-    by_test true s rest k = ap (λ z. named_in z all) (sym (same_true n.name q s)) ∙ h.0
-    by_test false s rest k = rest k
-
-pub known_found : (N own back forth : List LaidName) → HoldsEach N own → AreAbsent N back
-    → (q : List ℕ) (e : LaidName) → named_in q (own ++ back) ≡ Some e → named_in q (N ++ back ++ forth) ≡ Some e
-known_found N own back forth h absent q e g =
-    named_within q N back forth
-    ∙ by_entry (named_in q own) (each_has N own h q) (named_in q back) (λ n. absent_found N q back n absent) (sym (named_joined q own back) ∙ g)
-  where
-    by_entry : (o : Option LaidName) → ((n : LaidName) → o ≡ Some n → named_in q N ≡ Some n)
-        → (p : Option LaidName) → ((n : LaidName) → p ≡ Some n → named_in q N ≡ None)
-        → or_else o p ≡ Some e → or_else (or_else (named_in q N) p) (named_in q forth) ≡ Some e
-    by_entry (Some n) f p g k = ap (λ z. or_else (or_else z p) (named_in q forth)) (f n refl) ∙ k
-    by_entry None f (Some n) g k = ap (λ z. or_else (or_else z (Some n)) (named_in q forth)) (g n refl) ∙ k
-    by_entry None f None g k = absurd (cc)
-
-pub in_all : (q : List ℕ) (xs ys bs : List LaidName) → (is_in xs q ≡ true → is_in ys q ≡ true) → is_in (xs ++ bs) q ≡ true → is_in (ys ++ bs) q ≡ true
-in_all q xs ys bs f h =
-    ap is_some (named_joined q ys bs) ∙ by_entry (named_in q xs) (named_in q ys) (named_in q bs) f (sym (ap is_some (named_joined q xs bs)) ∙ h)
-  where
-    by_entry : (o p b : Option LaidName) → (is_some o ≡ true → is_some p ≡ true) → is_some (or_else o b) ≡ true → is_some (or_else p b) ≡ true
-    by_entry o (Some y) b f k = refl
-    by_entry None None b f k = k
-    by_entry (Some x) None b f k = let e = f refl in absurd (cc)
-
-pub in_end : (q : List ℕ) (xs bs cs : List LaidName) → (is_in bs q ≡ true → is_in cs q ≡ true) → is_in (xs ++ bs) q ≡ true → is_in (xs ++ cs) q ≡ true
-in_end q xs bs cs f h =
-    ap is_some (named_joined q xs cs) ∙ by_entry (named_in q xs) (sym (ap is_some (named_joined q xs bs)) ∙ h)
-  where
-    by_entry : (o : Option LaidName) → is_some (or_else o (named_in q bs)) ≡ true → is_some (or_else o (named_in q cs)) ≡ true
-    by_entry (Some x) k = refl
-    by_entry None k = f k
-
 -- what a line knows, of which the own names have other sizes, is known finally
-pub known_final : (D N seen us : List LaidName) (l : SourceLine) (fs : List LaidName)
-    → HoldsEach N seen → HoldsEach N (own_names l.definition) → AreAbsent N l.back → Fewer N D → Fewer fs l.forth → EachAlike us (own_names l.definition)
-    → (t : Tree) (v : Value) → value_at (seeing (with_names l (seen ++ us ++ l.back)) us (all_names D l)) t ≡ Ok v
-    → meaning (with_names l (N ++ l.back ++ fs)) t ≡ Ok v
-known_final D N seen us l fs h own absent fewer later alike t v e =
-    let xs = seen ++ us ++ l.back in
-    let ys = seen ++ own_names l.definition ++ l.back in
-    let zs = N ++ l.back ++ fs in
-    let parts = told_nothing (name_kinds (seeing (with_names l xs) us (all_names D l)) t) (meaning (with_names l xs) t) v e in
-    let each = alike_within seen us (own_names l.definition) l.back alike in
-    let same_value = tree_alike l xs ys us (all_names D l) each (same_within seen us (own_names l.definition) l.back alike) t parts.0 in
-    tree_more l ys us zs (known_found N (seen ++ own_names l.definition) l.back fs (each_append N seen (own_names l.definition) h own) absent) t v
-    (tree_fewer l xs ys us (all_names D l) zs each
-    (λ q x. in_end q (D ++ l.back) fs l.forth (later q) (in_all q (N ++ l.back) (D ++ l.back) fs (in_all q N D l.back (fewer q)) x)) t parts.0)
+pub known_final : (D N seen us : List LaidName) (l : SourceLine) → HoldsEach N seen → HoldsEach N (own_names l.definition) → Fewer N D
+    → EachAlike us (own_names l.definition) → (t : Tree) (v : Value) → value_at (seeing (with_names l (seen ++ us)) us D) t ≡ Ok v
+    → meaning (with_names l N) t ≡ Ok v
+known_final D N seen us l h own fewer alike t v e =
+    let xs = seen ++ us in
+    let ys = seen ++ own_names l.definition in
+    let parts = told_nothing (name_kinds (seeing (with_names l xs) us D) t) (meaning (with_names l xs) t) v e in
+    let each = alike_behind seen us (own_names l.definition) alike in
+    let same_value = tree_alike l xs ys us D each (same_behind seen us (own_names l.definition) alike) t parts.0 in
+    tree_more l ys us N (each_has N ys (each_append N seen (own_names l.definition) h own)) t v (tree_fewer l xs ys us D N each fewer t parts.0)
     (sym same_value ∙ parts.1)

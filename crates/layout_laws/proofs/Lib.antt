@@ -1,6 +1,5 @@
 pub mod EqualLemmas
 pub mod FinalLemmas
-pub mod ForthLemmas
 pub mod FoundLemmas
 pub mod KnownLemmas
 pub mod LineLemmas
@@ -11,4 +10,3 @@ pub mod SaidLemmas
 pub mod SettledLemmas
 pub mod SoundLemmas
 pub mod StepLemmas
-pub mod SharedLemmas

@@ -9,7 +9,7 @@ use Rattle.asm_model.specs.declared.values.Value.{Value}
 use Rattle.asm_model.specs.declared.values.Value.TheVariants.{Number}
 use Rattle.asm_model.specs.declared.names.LaidName.{LaidName}
 use Rattle.asm_model.specs.declared.statements.Statement.{Statement}
-use Rattle.asm_model.specs.AtLine.{SourceLine, with_names, all_names, is_in, made_name, HoldsEach}
+use Rattle.asm_model.specs.AtLine.{SourceLine, with_names, is_in, made_name, HoldsEach}
 use Rattle.asm_model.specs.Directives.{or_else}
 use Rattle.asm_model.specs.Forms.{same}
 use Rattle.asm_model.specs.Grammar.{Tree}
@@ -18,12 +18,11 @@ use Rattle.asm_model.proofs.LineLemmas.{each_more, each_append}
 use Rattle.asm_model.proofs.WordLemmas.{same_refl}
 use Rattle.asm_model.specs.Before.{area_behind, is_thumb_label}
 use Rattle.asm_model.specs.Entries.{equal_entry, label_entry, valued_entry}
-use Rattle.asm_model.specs.Labels.{Defined, Unnamed, LocalLabel, Label, Equal, MapField, RegisterName, defined_by, imported_in, imported_entries, declared_entries, declared_names}
-use Rattle.asm_model.specs.Laid.{Declared, LaidLine, statements_of, map_behind, offset_behind, tree_equated, definition_of, imported_lines, laid_behind, laid_of, final_line, final_lines, entries_with, all_entries}
+use Rattle.asm_model.specs.Labels.{Defined, Unnamed, Label, Equal, MapField, RegisterName, defined_by, imported_in, imported_entries, declared_entries, declared_names}
+use Rattle.asm_model.specs.Laid.{LaidLine, statements_of, map_behind, offset_behind, tree_equated, definition_of, imported_lines, laid_behind, laid_of, entries_with, all_entries}
 use Rattle.asm_model.specs.LayoutKinds.{own_name, listed, names_in, names_behind, is_repeated}
-use Rattle.asm_model.specs.Locals.{Local}
 use Rattle.asm_model.specs.Trees.{tree_of}
-use Rattle.asm_model.specs.Sound.{IsBare, IsPlainDefined, IsPlainImport, ArePlain}
+use Rattle.asm_model.specs.Sound.{IsPlain, IsPlainImport, ArePlain}
 use Rattle.layout_laws.proofs.EqualLemmas.{equal_made}
 use Rattle.layout_laws.proofs.KnownLemmas.{Fewer, named_within}
 use Rattle.layout_laws.proofs.RoundLemmas.{named_joined}
@@ -32,16 +31,16 @@ use Rattle.layout_laws.proofs.SoundLemmas.{EachSound, same_flip, any_parts, or_n
 -- ---- entries of statements
 
 -- the entries of a source's lines with these names
-abbrev pub sofar : List LaidName → List Local → Declared → List Statement → List LaidName
-sofar N locals d ss = all_entries N (final_lines locals (laid_of d ss))
+abbrev pub sofar : List LaidName → List LaidName → List Statement → List LaidName
+sofar N d ss = all_entries N (source_lines (laid_of d ss))
 
 -- the entry of a statement's label, and of the name that it imports
-abbrev pub own_of : List LaidName → List Local → Declared → Statement → List Statement → List LaidName
-own_of N locals d s ss =
-    entries_with N (final_line locals (laid_behind d s (laid_of d ss)) (laid_of d ss)) (laid_behind d s (laid_of d ss)).line.definition
+abbrev pub own_of : List LaidName → List LaidName → Statement → List Statement → List LaidName
+own_of N d s ss =
+    entries_with N (laid_behind d s (laid_of d ss)).line (laid_behind d s (laid_of d ss)).line.definition
 
-abbrev pub imports_of : List LaidName → Declared → Statement → List Statement → List LaidName
-imports_of N d s ss = all_entries N (imported_lines d s (laid_of d ss) (imported_in s.what))
+abbrev pub imports_of : List LaidName → List LaidName → Statement → List Statement → List LaidName
+imports_of N d s ss = all_entries N (imported_lines s (laid_of d ss) (imported_in s.what))
 
 pub entries_joined : (N : List LaidName) (ls ms : List SourceLine) → all_entries N (ls ++ ms) ≡ all_entries N ls ++ all_entries N ms
 entries_joined N [] ms = refl
@@ -49,10 +48,10 @@ entries_joined N (l ∷ ls) ms =
     ap (λ z. entries_with N l l.definition ++ z) (entries_joined N ls ms)
     ∙ sym (append_assoc (entries_with N l l.definition) (all_entries N ls) (all_entries N ms))
 
-pub with_statement : (N : List LaidName) (locals : List Local) (d : Declared) (s : Statement) (ss : List Statement)
-    → sofar N locals d (s ∷ ss) ≡ sofar N locals d ss ++ (own_of N locals d s ss ++ imports_of N d s ss)
-with_statement N locals d s ss =
-    entries_joined N (final_lines locals (laid_of d ss)) (final_line locals (laid_behind d s (laid_of d ss)) (laid_of d ss) ∷ imported_lines d s (laid_of d ss) (imported_in s.what))
+pub with_statement : (N : List LaidName) (d : List LaidName) (s : Statement) (ss : List Statement)
+    → sofar N d (s ∷ ss) ≡ sofar N d ss ++ (own_of N d s ss ++ imports_of N d s ss)
+with_statement N d s ss =
+    entries_joined N (source_lines (laid_of d ss)) ((laid_behind d s (laid_of d ss)).line ∷ imported_lines s (laid_of d ss) (imported_in s.what))
 
 -- one entry of this one name, or none
 abbrev pub AtMost : List (List ℕ) → List LaidName → Type 0
@@ -67,26 +66,25 @@ made_most names area name (Ok v) = ap (λ z. z ∷ []) (sym (equal_made names ar
 pub tree_most : (N : List LaidName) (l : SourceLine) (names : List LaidName) (area : Option ℕ) (name : List ℕ) (o : Option Tree)
     → AtMost (name ∷ []) (entries_with N l (tree_equated names area name o))
 tree_most N l names area name None = tt
-tree_most N l names area name (Some t) = made_most names area name (meaning (with_names l (all_names N l)) t)
+tree_most N l names area name (Some t) = made_most names area name (meaning (with_names l N) t)
 
 pub definition_most : (N : List LaidName) (l : SourceLine) (names : List LaidName) (x : Defined) (area : Option ℕ) (offset size : ℕ) (thumb : Bool) (m : ℕ)
     → AtMost (own_name x) (entries_with N l (definition_of names x area offset size thumb m))
 definition_most N l names Unnamed area offset size thumb m = tt
-definition_most N l names (LocalLabel n) area offset size thumb m = tt
 definition_most N l names (Label name) area offset size thumb m = refl
 definition_most N l names (Equal name e) area offset size thumb m = tree_most N l names area name (tree_of e)
 definition_most N l names (MapField name) area offset size thumb m = refl
 definition_most N l names (RegisterName name r) area offset size thumb m = tt
 
-pub own_most : (N : List LaidName) (locals : List Local) (d : Declared) (s : Statement) (ss : List Statement) → AtMost (own_name (defined_by s)) (own_of N locals d s ss)
-own_most N locals d s ss =
-    definition_most N (final_line locals (laid_behind d s (laid_of d ss)) (laid_of d ss)) d.names (defined_by s) (area_behind (s ∷ statements_of (laid_of d ss)))
+pub own_most : (N : List LaidName) (d : List LaidName) (s : Statement) (ss : List Statement) → AtMost (own_name (defined_by s)) (own_of N d s ss)
+own_most N d s ss =
+    definition_most N (laid_behind d s (laid_of d ss)).line d (defined_by s) (area_behind (s ∷ statements_of (laid_of d ss)))
     (offset_behind s (laid_of d ss)) (laid_behind d s (laid_of d ss)).size (is_thumb_label s (statements_of (laid_of d ss))) (map_behind (laid_of d ss))
 
-pub import_most : (N : List LaidName) (d : Declared) (s : Statement) (before : List LaidLine) (o : Option (List ℕ))
-    → AtMost (listed o) (all_entries N (imported_lines d s before o))
-import_most N d s before None = tt
-import_most N d s before (Some name) = refl
+pub import_most : (N : List LaidName) (s : Statement) (before : List LaidLine) (o : Option (List ℕ))
+    → AtMost (listed o) (all_entries N (imported_lines s before o))
+import_most N s before None = tt
+import_most N s before (Some name) = refl
 
 -- ---- names without entries
 
@@ -100,16 +98,16 @@ most_lacks q ps (n ∷ m ∷ ns) h k = absurd h
 pub none_joined : (q : List ℕ) (xs ys : List LaidName) → named_in q xs ≡ None → named_in q ys ≡ None → named_in q (xs ++ ys) ≡ None
 none_joined q xs ys h k = named_joined q xs ys ∙ ap (λ o. or_else o (named_in q ys)) h ∙ k
 
-pub lacks : (N : List LaidName) (locals : List Local) (d : Declared) (q : List ℕ) (ss : List Statement) → list_any (same q) (names_behind ss) ≡ false
-    → named_in q (sofar N locals d ss) ≡ None
-lacks N locals d q [] h = refl
-lacks N locals d q (s ∷ ss) h =
+pub lacks : (N : List LaidName) (d : List LaidName) (q : List ℕ) (ss : List Statement) → list_any (same q) (names_behind ss) ≡ false
+    → named_in q (sofar N d ss) ≡ None
+lacks N d q [] h = refl
+lacks N d q (s ∷ ss) h =
     let p = any_parts (same q) (names_in s) (names_behind ss) h in
     let r = any_parts (same q) (own_name (defined_by s)) (listed (imported_in s.what)) p.0 in
-    ap (named_in q) (with_statement N locals d s ss)
-    ∙ none_joined q (sofar N locals d ss) (own_of N locals d s ss ++ imports_of N d s ss) (lacks N locals d q ss p.1)
-    (none_joined q (own_of N locals d s ss) (imports_of N d s ss) (most_lacks q (own_name (defined_by s)) (own_of N locals d s ss) (own_most N locals d s ss) r.0)
-    (most_lacks q (listed (imported_in s.what)) (imports_of N d s ss) (import_most N d s (laid_of d ss) (imported_in s.what)) r.1))
+    ap (named_in q) (with_statement N d s ss)
+    ∙ none_joined q (sofar N d ss) (own_of N d s ss ++ imports_of N d s ss) (lacks N d q ss p.1)
+    (none_joined q (own_of N d s ss) (imports_of N d s ss) (most_lacks q (own_name (defined_by s)) (own_of N d s ss) (own_most N d s ss) r.0)
+    (most_lacks q (listed (imported_in s.what)) (imports_of N d s ss) (import_most N s (laid_of d ss) (imported_in s.what)) r.1))
 
 -- ---- each entry is the first with its name
 
@@ -145,46 +143,16 @@ statement_holds A bs ps qs (n ∷ k ∷ ns) ms a b h f = absurd a
 statement_holds A bs ps qs [] (m ∷ k ∷ ms) a b h f = absurd b
 statement_holds A bs ps qs (n ∷ []) (m ∷ k ∷ ms) a b h f = absurd b
 
-pub sofar_holds : (N : List LaidName) (locals : List Local) (d : Declared) (S : List (List ℕ)) (ss : List Statement) → EachSound S ss
-    → HoldsEach (sofar N locals d ss) (sofar N locals d ss)
-sofar_holds N locals d S [] h = tt
-sofar_holds N locals d S (s ∷ ss) h =
-    let A = sofar N locals d ss in
-    let E = own_of N locals d s ss ++ imports_of N d s ss in
-    subst (λ z. HoldsEach z z) (sym (with_statement N locals d s ss))
-    (each_append (A ++ E) A E (each_more A E A (sofar_holds N locals d S ss h.2))
-    (statement_holds A (names_behind ss) (own_name (defined_by s)) (listed (imported_in s.what)) (own_of N locals d s ss) (imports_of N d s ss)
-    (own_most N locals d s ss) (import_most N d s (laid_of d ss) (imported_in s.what)) h.0 (λ q. lacks N locals d q ss)))
-
--- ---- names begin with no bar
-
-pub bare_other : (r name : List ℕ) → IsBare name → same (124 ∷ r) name ≡ false
-bare_other r [] h = refl
-bare_other r (c ∷ cs) h = and_left (124 == c) (same r cs) (false_from_ne_true (124 == c) (λ e. h (sym (eqb-true 124 c e))))
-
-pub own_other : (r : List ℕ) (x : Defined) → IsPlainDefined x → list_any (same (124 ∷ r)) (own_name x) ≡ false
-own_other r Unnamed h = refl
-own_other r (LocalLabel n) h = refl
-own_other r (Label name) h = or_from (same (124 ∷ r) name) false (bare_other r name h) refl
-own_other r (Equal name e) h = or_from (same (124 ∷ r) name) false (bare_other r name h.0) refl
-own_other r (MapField name) h = or_from (same (124 ∷ r) name) false (bare_other r name h) refl
-own_other r (RegisterName name k) h = or_from (same (124 ∷ r) name) false (bare_other r name h) refl
-
-pub import_other : (r : List ℕ) (o : Option (List ℕ)) → IsPlainImport o → list_any (same (124 ∷ r)) (listed o) ≡ false
-import_other r None h = refl
-import_other r (Some name) h = or_from (same (124 ∷ r) name) false (bare_other r name h) refl
-
-pub any_joined : (q : List ℕ) (xs ys : List (List ℕ)) → list_any (same q) xs ≡ false → list_any (same q) ys ≡ false → list_any (same q) (xs ++ ys) ≡ false
-any_joined q [] ys h k = k
-any_joined q (x ∷ xs) ys h k =
-    let p = or_parts (same q x) (list_any (same q) xs) h in or_from (same q x) (list_any (same q) (xs ++ ys)) p.0 (any_joined q xs ys p.1 k)
-
-pub names_other : (r : List ℕ) (ss : List Statement) → ArePlain ss → list_any (same (124 ∷ r)) (names_behind ss) ≡ false
-names_other r [] h = refl
-names_other r (s ∷ ss) h =
-    any_joined (124 ∷ r) (names_in s) (names_behind ss)
-    (any_joined (124 ∷ r) (own_name (defined_by s)) (listed (imported_in s.what)) (own_other r (defined_by s) h.0) (import_other r (imported_in s.what) h.1))
-    (names_other r ss h.2)
+pub sofar_holds : (N : List LaidName) (d : List LaidName) (S : List (List ℕ)) (ss : List Statement) → EachSound S ss
+    → HoldsEach (sofar N d ss) (sofar N d ss)
+sofar_holds N d S [] h = tt
+sofar_holds N d S (s ∷ ss) h =
+    let A = sofar N d ss in
+    let E = own_of N d s ss ++ imports_of N d s ss in
+    subst (λ z. HoldsEach z z) (sym (with_statement N d s ss))
+    (each_append (A ++ E) A E (each_more A E A (sofar_holds N d S ss h.2))
+    (statement_holds A (names_behind ss) (own_name (defined_by s)) (listed (imported_in s.what)) (own_of N d s ss) (imports_of N d s ss)
+    (own_most N d s ss) (import_most N s (laid_of d ss) (imported_in s.what)) h.0 (λ q. lacks N d q ss)))
 
 -- ---- names that are not declared
 
@@ -206,42 +174,41 @@ made_undeclared q names area name x (Ok v) h =
 pub tree_undeclared : (q : List ℕ) (N : List LaidName) (l : SourceLine) (names : List LaidName) (area : Option ℕ) (name : List ℕ) (x : LaidName) (o : Option Tree)
     → cond (same name q) (Some x) None ≡ None → named_in q (entries_with N l (tree_equated names area name o)) ≡ None
 tree_undeclared q N l names area name x None h = refl
-tree_undeclared q N l names area name x (Some t) h = made_undeclared q names area name x (meaning (with_names l (all_names N l)) t) h
+tree_undeclared q N l names area name x (Some t) h = made_undeclared q names area name x (meaning (with_names l N) t) h
 
 pub own_undeclared : (q : List ℕ) (s : Statement) (before : List Statement) (N : List LaidName) (l : SourceLine) (names : List LaidName) (x : Defined) (area : Option ℕ)
     (offset size : ℕ) (thumb : Bool) (m : ℕ) → named_in q (declared_entries x s before) ≡ None
     → named_in q (entries_with N l (definition_of names x area offset size thumb m)) ≡ None
 own_undeclared q s before N l names Unnamed area offset size thumb m h = refl
-own_undeclared q s before N l names (LocalLabel n) area offset size thumb m h = refl
 own_undeclared q s before N l names (Label name) area offset size thumb m h = cond_none (same name q) (label_entry name None 0 0 (is_thumb_label s before)) (label_entry name area offset size thumb) h
 own_undeclared q s before N l names (Equal name e) area offset size thumb m h = tree_undeclared q N l names area name (valued_entry name (Number 0) false) (tree_of e) h
 own_undeclared q s before N l names (MapField name) area offset size thumb m h = cond_none (same name q) (valued_entry name (Number 0) false) (valued_entry name (Number m) false) h
 own_undeclared q s before N l names (RegisterName name r) area offset size thumb m h = refl
 
-pub import_undeclared : (q : List ℕ) (N : List LaidName) (d : Declared) (s : Statement) (before : List LaidLine) (o : Option (List ℕ)) → named_in q (imported_entries o) ≡ None
-    → named_in q (all_entries N (imported_lines d s before o)) ≡ None
-import_undeclared q N d s before None h = refl
-import_undeclared q N d s before (Some name) h = h
+pub import_undeclared : (q : List ℕ) (N : List LaidName) (s : Statement) (before : List LaidLine) (o : Option (List ℕ)) → named_in q (imported_entries o) ≡ None
+    → named_in q (all_entries N (imported_lines s before o)) ≡ None
+import_undeclared q N s before None h = refl
+import_undeclared q N s before (Some name) h = h
 
-pub undeclared : (N : List LaidName) (locals : List Local) (d : Declared) (q : List ℕ) (ss : List Statement) → named_in q (declared_names ss) ≡ None
-    → named_in q (sofar N locals d ss) ≡ None
-undeclared N locals d q [] h = refl
-undeclared N locals d q (s ∷ ss) h =
+pub undeclared : (N : List LaidName) (d : List LaidName) (q : List ℕ) (ss : List Statement) → named_in q (declared_names ss) ≡ None
+    → named_in q (sofar N d ss) ≡ None
+undeclared N d q [] h = refl
+undeclared N d q (s ∷ ss) h =
     let x = declared_entries (defined_by s) s ss in
     let i = imported_entries (imported_in s.what) in
     let p = or_none (or_else (named_in q (declared_names ss)) (named_in q x)) (named_in q i) (sym (named_within q (declared_names ss) x i) ∙ h) in
     let r = or_none (named_in q (declared_names ss)) (named_in q x) p.0 in
-    ap (named_in q) (with_statement N locals d s ss)
-    ∙ none_joined q (sofar N locals d ss) (own_of N locals d s ss ++ imports_of N d s ss) (undeclared N locals d q ss r.0)
-    (none_joined q (own_of N locals d s ss) (imports_of N d s ss)
-    (own_undeclared q s ss N (final_line locals (laid_behind d s (laid_of d ss)) (laid_of d ss)) d.names (defined_by s) (area_behind (s ∷ statements_of (laid_of d ss)))
+    ap (named_in q) (with_statement N d s ss)
+    ∙ none_joined q (sofar N d ss) (own_of N d s ss ++ imports_of N d s ss) (undeclared N d q ss r.0)
+    (none_joined q (own_of N d s ss) (imports_of N d s ss)
+    (own_undeclared q s ss N (laid_behind d s (laid_of d ss)).line d (defined_by s) (area_behind (s ∷ statements_of (laid_of d ss)))
     (offset_behind s (laid_of d ss)) (laid_behind d s (laid_of d ss)).size (is_thumb_label s (statements_of (laid_of d ss))) (map_behind (laid_of d ss)) r.1)
-    (import_undeclared q N d s (laid_of d ss) (imported_in s.what) p.1))
+    (import_undeclared q N s (laid_of d ss) (imported_in s.what) p.1))
 
-pub fewer_than_declared : (N : List LaidName) (locals : List Local) (d : Declared) (ss : List Statement) → Fewer (sofar N locals d ss) (declared_names ss)
-fewer_than_declared N locals d ss q h = by_test (is_in (declared_names ss) q) refl
+pub fewer_than_declared : (N : List LaidName) (d : List LaidName) (ss : List Statement) → Fewer (sofar N d ss) (declared_names ss)
+fewer_than_declared N d ss q h = by_test (is_in (declared_names ss) q) refl
   where
     by_test : (b : Bool) → is_in (declared_names ss) q ≡ b → b ≡ true
     by_test true e = refl
     by_test false e =
-        let x : is_some (named_in q (sofar N locals d ss)) ≡ false = ap is_some (undeclared N locals d q ss (some_none (named_in q (declared_names ss)) e)) in absurd (cc)
+        let x : is_some (named_in q (sofar N d ss)) ≡ false = ap is_some (undeclared N d q ss (some_none (named_in q (declared_names ss)) e)) in absurd (cc)

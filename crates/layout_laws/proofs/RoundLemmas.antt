@@ -39,7 +39,7 @@ ResultIs P (Err k) = Unit {0}
 -- so has each name in an item, and in a tree
 abbrev pub ItemIs : (List ℕ → Type 0) → ExprItem → Type 0
 ItemIs P (item.Name q) = P q
-ItemIs P (item.Local q) = P (124 ∷ q)
+ItemIs P (item.Local q) = Unit {0}
 ItemIs P (item.Constant v) = SymbolIs P v
 ItemIs P item.Here = Unit {0}
 ItemIs P item.Map = Unit {0}
@@ -69,7 +69,7 @@ symbol_weaker P Q f (Words w) h = tt
 
 pub item_weaker : (P Q : List ℕ → Type 0) → ((q : List ℕ) → P q → Q q) → (i : ExprItem) → ItemIs P i → ItemIs Q i
 item_weaker P Q f (item.Name q) h = f q h
-item_weaker P Q f (item.Local q) h = f (124 ∷ q) h
+item_weaker P Q f (item.Local q) h = tt
 item_weaker P Q f (item.Constant v) h = symbol_weaker P Q f v h
 item_weaker P Q f item.Here h = tt
 item_weaker P Q f item.Map h = tt
@@ -124,7 +124,7 @@ value_is P (Some n) h = h n refl
 pub item_is : (P : List ℕ → Type 0) (l : SourceLine) (xs : List LaidName) → IsClosed P xs → (i : ExprItem) → ItemIs P i
     → ResultIs P (known (operand_of_item (with_names l xs) i))
 item_is P l xs closed (item.Name q) h = value_is P (named_in q xs) (λ n. closed q n h)
-item_is P l xs closed (item.Local q) h = value_is P (named_in (124 ∷ q) xs) (λ n. closed (124 ∷ q) n h)
+item_is P l xs closed (item.Local q) h = tt
 item_is P l xs closed (item.Constant v) h = h
 item_is P l xs closed item.Here h = tt
 item_is P l xs closed item.Map h = tt
@@ -190,7 +190,7 @@ tree_is P l xs closed (Between op t u) h =
 pub item_same : (P : List ℕ → Type 0) (l : SourceLine) (xs ys : List LaidName) → AreSame P xs ys → (i : ExprItem) → ItemIs P i
     → operand_of_item (with_names l xs) i ≡ operand_of_item (with_names l ys) i
 item_same P l xs ys alike (item.Name q) h = ap (λ o. Unread o) (alike q h)
-item_same P l xs ys alike (item.Local q) h = ap (λ o. Known (value_of o)) (alike (124 ∷ q) h)
+item_same P l xs ys alike (item.Local q) h = refl
 item_same P l xs ys alike (item.Constant v) h = refl
 item_same P l xs ys alike item.Here h = refl
 item_same P l xs ys alike item.Map h = refl
@@ -258,10 +258,6 @@ named_joined q (n ∷ ns) ys = by_test (same n.name q) (named_joined q ns ys)
     by_test true rest = refl
     by_test false rest = rest
 
-pub same_before : (P : List ℕ → Type 0) (xs ys bs : List LaidName) → AreSame P xs ys → AreSame P (xs ++ bs) (ys ++ bs)
-same_before P xs ys bs alike q h =
-    named_joined q xs bs ∙ ap (λ o. or_else o (named_in q bs)) (alike q h) ∙ sym (named_joined q ys bs)
-
 abbrev pub EachIs : (List ℕ → Type 0) → List LaidName → Type 0
 EachIs P [] = Unit {0}
 EachIs P (n ∷ ns) = SymbolIs P n.value × EachIs P ns
@@ -273,11 +269,3 @@ each_closed P q (n ∷ ns) h m e = by_test (same n.name q) (each_closed P q ns h
     by_test : (b : Bool) → (named_in q ns ≡ Some m → SymbolIs P m.value) → cond b (Some n) (named_in q ns) ≡ Some m → SymbolIs P m.value
     by_test true rest k = let x : n ≡ m = cc in subst (λ z. SymbolIs P z.value) x h.0
     by_test false rest k = rest k
-
-pub closed_before : (P : List ℕ → Type 0) (xs bs : List LaidName) → IsClosed P xs → EachIs P bs → IsClosed P (xs ++ bs)
-closed_before P xs bs closed each q n h e =
-    by_entry (named_in q xs) (λ m. closed q m h) (sym (named_joined q xs bs) ∙ e)
-  where
-    by_entry : (o : Option LaidName) → ((m : LaidName) → o ≡ Some m → SymbolIs P m.value) → or_else o (named_in q bs) ≡ Some n → SymbolIs P n.value
-    by_entry None f k = each_closed P q bs each n k
-    by_entry (Some m) f k = f n k

@@ -45,27 +45,11 @@ pub forward_sound : IsSound forward
 forward_sound = refl
 
 pub forward_plain : ArePlain forward
-forward_plain = (λ e. absurd (omega arith), tt, ((λ e. absurd (omega arith), (tt, tt)), tt, (tt, tt, ((λ e. absurd (omega arith), (tt, (tt, (tt, tt)))), tt, (tt, tt, tt)))))
+forward_plain = (tt, (tt, tt), tt, (tt, tt, tt, tt), tt, tt)
 
 pub forward_final : final_names (laid forward)
     ≡ valued_entry (codes "y") (Place (codes "z") 4) false ∷ valued_entry (codes "x") (Place (codes "z") 0) false ∷ label_entry (codes "z") (Some 0) 4 4 false ∷ []
 forward_final = refl
-
--- a name with a bar before it, which is what its own reference to a local label names
-abbrev barred : List Statement
-barred = equal 1 (124 ∷ codes "%B1") (item.Local (codes "%B1") ∷ []) ∷ []
-
-pub barred_sound : IsSound barred
-barred_sound = refl
-
-pub barred_final : final_names (laid barred) ≡ []
-barred_final = refl
-
-abbrev others : ℕ → List LaidName
-others n = valued_entry (124 ∷ codes "%B1") (Number n) false ∷ []
-
-pub barred_others : (n : ℕ) → all_entries (others n) (source_lines (laid barred)) ≡ others n
-barred_others n = refl
 
 -- AREA a,DATA / l EQU . / b EQU . + a / a EQU b - l, of places as constants
 abbrev placed : List Statement

@@ -1,4 +1,4 @@
--- What tokens say has no bars before names, and no places as constants.
+-- What tokens say: forms of names, and expressions without places as constants.
 use Rattle.std.proofs.Common.{◌≡◌, ℕ, suc, ◌-◌, ◌^◌, ◌==◌, ◌&&◌, ◌||◌, nat_le, nat_lt, List, [], ◌∷◌, ◌++◌, length, take, map, Bool, true, false, cond, refl, sym, subst, arith, Option, Some, None}
 use Rattle.std.specs.Prelude.{Ok}
 use Rattle.std.proofs.lemmas.Bool.{and_parts}
@@ -15,7 +15,7 @@ use Rattle.asm_model.specs.Forms.{form_of, form_or, is_letter, is_word, one_or_m
 use Rattle.asm_model.specs.Grammar.{Tree, postfix, plain, operand_of, Spells, operand, of_name, before, grouped, between, tighter, ParsesTokens}
 use Rattle.asm_model.specs.Parts.{part_of, part_of_kind, number_value, braced_part, worded_part, plain_part, piece}
 use Rattle.asm_model.specs.Says.{between_bars}
-use Rattle.asm_model.specs.Sound.{IsBare, HasNoPlace, HaveNoPlaces}
+use Rattle.asm_model.specs.Sound.{HasNoPlace, HaveNoPlaces}
 
 -- ---- parts
 
@@ -110,34 +110,12 @@ read_expressions_are_plain text ts e h =
 
 -- ---- names
 
-pub no_letter : (c : ℕ) → c ≡ 124 → (((nat_le 65 c && nat_le c 90) || (nat_le 97 c && nat_le c 122)) || c == 95) ≡ true → ⊥
-no_letter c e h =
-    let x : (((nat_le 65 124 && nat_le 124 90) || (nat_le 97 124 && nat_le 124 122)) || 124 == 95) ≡ true =
-    subst (λ z. (((nat_le 65 z && nat_le z 90) || (nat_le 97 z && nat_le z 122)) || z == 95) ≡ true) e h in
-    absurd (cc)
-
 pub no_between : (c : ℕ) → c ≡ 124 → is_between_bars c ≡ true → ⊥
 no_between c e h = let x : is_between_bars 124 ≡ true = subst (λ z. is_between_bars z ≡ true) e h in absurd (cc)
 
 pub other_form : (b : Bool) (k j : TokenKind) (o : Option TokenKind) → (Some k ≡ Some j → ⊥) → form_or b k o ≡ Some j → o ≡ Some j
 other_form true k j o f h = absurd (f h)
 other_form false k j o f h = h
-
-pub name_bare : (s : List ℕ) → is_name s ≡ true → IsBare s
-name_bare [] h = tt
-name_bare (c ∷ cs) h = λ e. no_letter c e (and_parts (is_letter c) (one_or_more is_word (c ∷ cs)) h).0
-
-pub taken_bare : (c : ℕ) (cs : List ℕ) (n : ℕ) → n ≡ length cs → is_between_bars c ≡ true → IsBare (take n (c ∷ cs))
-taken_bare c [] n e h = subst (λ z. IsBare (take z (c ∷ []))) (sym e) tt
-taken_bare c (d ∷ ds) n e h = subst (λ z. IsBare (take z (c ∷ d ∷ ds))) (sym e) (λ x. no_between c x h)
-
-pub barred_bare : (s : List ℕ) → is_barred s ≡ true → IsBare (between_bars s)
-barred_bare [] h = absurd (cc)
-barred_bare (b ∷ []) h = let p = and_parts (b == 124) false h in absurd (let x = p.1 in cc)
-barred_bare (b ∷ c ∷ cs) h =
-    let p = and_parts (b == 124) (is_between_bars c && ends_with_bar (c ∷ cs)) h in
-    let r = and_parts (is_between_bars c) (ends_with_bar (c ∷ cs)) p.1 in
-    taken_bare c cs (length (b ∷ c ∷ cs) - 2) (omega arith) r.0
 
 -- the forms behind those of names
 abbrev pub later_forms : List ℕ → Option TokenKind
@@ -181,6 +159,3 @@ form_name s h = by_test (is_name s) h
     by_test false k =
         absurd
         (no_later s kind.Name (λ e. cc) (λ e. cc) (λ e. cc) (λ e. cc) (λ e. cc) (λ e. cc) (other_form (is_barred s) kind.Barred kind.Name (later_forms s) (λ e. cc) k))
-
-pub read_names_are_bare : (s : List ℕ) → (form_of s ≡ Some kind.Name → IsBare s) × (form_of s ≡ Some kind.Barred → IsBare (between_bars s))
-read_names_are_bare s = (λ h. name_bare s (form_name s h), λ h. barred_bare s (form_barred s h))

@@ -13,12 +13,11 @@ use Rattle.asm_model.specs.AtLine.{SourceLine}
 use Rattle.asm_model.specs.Forms.{same}
 use Rattle.asm_model.specs.Grammar.{Tree}
 use Rattle.asm_model.proofs.WordLemmas.{same_refl}
-use Rattle.asm_model.specs.Labels.{Defined, Unnamed, LocalLabel, Label, Equal, MapField, RegisterName, defined_by}
-use Rattle.asm_model.specs.Laid.{Declared, declared, laid_of, laid, final_lines, all_locals, source_lines, all_entries, names_after, final_names}
+use Rattle.asm_model.specs.Labels.{Defined, Unnamed, Label, Equal, MapField, RegisterName, defined_by}
+use Rattle.asm_model.specs.Laid.{laid_of, laid, source_lines, all_entries, names_after, final_names}
 use Rattle.asm_model.specs.LayoutKinds.{equal_of, equals_in, is_settled_item, are_settled, settled_by, settled_after, settled}
-use Rattle.asm_model.specs.Locals.{Local}
 use Rattle.asm_model.specs.Trees.{grown, grown_behind, alone, tree_behind}
-use Rattle.asm_model.specs.Sound.{IsSound, IsBare, IsNoPlace, HaveNoPlaces, ArePlain}
+use Rattle.asm_model.specs.Sound.{IsSound, IsNoPlace, HaveNoPlaces, ArePlain}
 use Rattle.layout_laws.proofs.EqualLemmas.{EachEqual, OfTrees, equal_all, equal_weaker, equal_both, lines_hold, lines_regular}
 use Rattle.layout_laws.proofs.RoundLemmas.{SymbolIs, ItemIs, TreeIs, tree_weaker}
 use Rattle.layout_laws.proofs.SoundLemmas.{EachSound, sound_each, equals_distinct, equals_settled, IsPlainEqual, equals_plain, IsSettledIn, settled_unique}
@@ -79,15 +78,15 @@ either_good X false b f g h = f refl
 either_good X true b f g h = g h
 
 pub items_are : (P : List ℕ → Type 0) (E : List (List ℕ × Expr)) (S : List (List ℕ))
-    → ((r : List ℕ) → list_any (λ e. same r e.0) E ≡ false → P r) → ((r : List ℕ) → list_any (same r) S ≡ true → P r) → ((r : List ℕ) → P (124 ∷ r))
+    → ((r : List ℕ) → list_any (λ e. same r e.0) E ≡ false → P r) → ((r : List ℕ) → list_any (same r) S ≡ true → P r)
     → (is : List ExprItem) → are_settled E S is ≡ true → HaveNoPlaces is → ItemsAre P is
-items_are P E S free deep bare [] h k = tt
-items_are P E S free deep bare (i ∷ is) h k =
-    let p = and_parts (is_settled_item E S i) (are_settled E S is) h in (by_item i p.0 (k.0, tt), items_are P E S free deep bare is p.1 k.1)
+items_are P E S free deep [] h k = tt
+items_are P E S free deep (i ∷ is) h k =
+    let p = and_parts (is_settled_item E S i) (are_settled E S is) h in (by_item i p.0 (k.0, tt), items_are P E S free deep is p.1 k.1)
   where
     by_item : (i : ExprItem) → is_settled_item E S i ≡ true → HaveNoPlaces (i ∷ []) → ItemIs P i
     by_item (item.Name r) e n = either_good (P r) (list_any (λ e. same r e.0) E) (list_any (same r) S) (free r) (deep r) e
-    by_item (item.Local r) e n = bare r
+    by_item (item.Local r) e n = tt
     by_item (item.Constant v) e n = no_place_is P v n.0
     by_item item.Here e n = tt
     by_item item.Map e n = tt
@@ -102,65 +101,53 @@ found_name (x ∷ xs) r h = let p = or_parts (same r x.0) (list_any (λ e. same 
 pub other_name : (X : Type 0) (r p : List ℕ) → same r p ≡ false → p ≡ r → X
 other_name X r p h e = let x : same r p ≡ true = subst (λ z. same r z ≡ true) (sym e) (same_refl r) in absurd (cc)
 
-pub not_bare : (X : Type 0) (p r : List ℕ) → IsBare p → p ≡ 124 ∷ r → X
-not_bare X p r h e = absurd ((subst IsBare e h) refl)
-
 -- what has no expression is good
-pub free_good : (d : Declared) (locals : List Local) (ss : List Statement) (k : ℕ) (r : List ℕ) → list_any (λ e. same r e.0) (equals_in ss) ≡ false
-    → IsGood (final_lines locals (laid_of d ss)) (suc k) r
-free_good d locals ss k r h =
-    let P = IsGood (final_lines locals (laid_of d ss)) k in
-    lines_hold (λ p t. p ≡ r → TreeIs P t) d locals ss
+pub free_good : (d : List LaidName) (ss : List Statement) (k : ℕ) (r : List ℕ) → list_any (λ e. same r e.0) (equals_in ss) ≡ false
+    → IsGood (source_lines (laid_of d ss)) (suc k) r
+free_good d ss k r h =
+    let P = IsGood (source_lines (laid_of d ss)) k in
+    lines_hold (λ p t. p ≡ r → TreeIs P t) d ss
     (equal_weaker (λ p e. same r p ≡ false) (OfTrees (λ p t. p ≡ r → TreeIs P t)) (λ p e a t s x. other_name (TreeIs P t) r p a x) (equals_in ss)
     (found_name (equals_in ss) r h))
-
-pub local_good : (d : Declared) (locals : List Local) (ss : List Statement) (k : ℕ) (r : List ℕ) → EachEqual IsPlainEqual (equals_in ss)
-    → IsGood (final_lines locals (laid_of d ss)) (suc k) (124 ∷ r)
-local_good d locals ss k r plain =
-    let P = IsGood (final_lines locals (laid_of d ss)) k in
-    lines_hold (λ p t. p ≡ 124 ∷ r → TreeIs P t) d locals ss
-    (equal_weaker IsPlainEqual (OfTrees (λ p t. p ≡ 124 ∷ r → TreeIs P t)) (λ p e a t s x. not_bare (TreeIs P t) p r a.0 x) (equals_in ss) plain)
 
 -- the names in the expression of a settled name are good
 abbrev pub Leads : List SourceLine → List (List ℕ × Expr) → ℕ → List ℕ → Expr → Type 0
 Leads ls E k p e = list_any (same p) (settled_after k E) ≡ true → OfTrees (λ q t. TreeIs (IsGood ls k) t) p e
 
-pub deep_good : (d : Declared) (locals : List Local) (ss : List Statement) (k : ℕ) (r : List ℕ)
-    → EachEqual (Leads (final_lines locals (laid_of d ss)) (equals_in ss) k) (equals_in ss)
-    → list_any (same r) (settled_after k (equals_in ss)) ≡ true → IsGood (final_lines locals (laid_of d ss)) (suc k) r
-deep_good d locals ss k r before h =
-    let P = IsGood (final_lines locals (laid_of d ss)) k in
-    lines_hold (λ p t. p ≡ r → TreeIs P t) d locals ss
-    (equal_weaker (Leads (final_lines locals (laid_of d ss)) (equals_in ss) k) (OfTrees (λ p t. p ≡ r → TreeIs P t))
+pub deep_good : (d : List LaidName) (ss : List Statement) (k : ℕ) (r : List ℕ)
+    → EachEqual (Leads (source_lines (laid_of d ss)) (equals_in ss) k) (equals_in ss)
+    → list_any (same r) (settled_after k (equals_in ss)) ≡ true → IsGood (source_lines (laid_of d ss)) (suc k) r
+deep_good d ss k r before h =
+    let P = IsGood (source_lines (laid_of d ss)) k in
+    lines_hold (λ p t. p ≡ r → TreeIs P t) d ss
+    (equal_weaker (Leads (source_lines (laid_of d ss)) (equals_in ss) k) (OfTrees (λ p t. p ≡ r → TreeIs P t))
     (λ p e f t s x. f (subst (λ z. list_any (same z) (settled_after k (equals_in ss)) ≡ true) (sym x) h) t s) (equals_in ss) before)
 
-pub settled_lead : (d : Declared) (locals : List Local) (ss : List Statement) (S : List (List ℕ)) → EachSound S ss → ArePlain ss → (k : ℕ)
-    → EachEqual (Leads (final_lines locals (laid_of d ss)) (equals_in ss) k) (equals_in ss)
-settled_lead d locals ss S sound plain zero =
-    equal_all (Leads (final_lines locals (laid_of d ss)) (equals_in ss) zero) (λ p e h. absurd (cc)) (equals_in ss)
-settled_lead d locals ss S sound plain (suc k) =
+pub settled_lead : (d : List LaidName) (ss : List Statement) (S : List (List ℕ)) → EachSound S ss → ArePlain ss → (k : ℕ)
+    → EachEqual (Leads (source_lines (laid_of d ss)) (equals_in ss) k) (equals_in ss)
+settled_lead d ss S sound plain zero =
+    equal_all (Leads (source_lines (laid_of d ss)) (equals_in ss) zero) (λ p e h. absurd (cc)) (equals_in ss)
+settled_lead d ss S sound plain (suc k) =
     let E = equals_in ss in
-    let ls = final_lines locals (laid_of d ss) in
-    let before = settled_lead d locals ss S sound plain k in
+    let ls = source_lines (laid_of d ss) in
+    let before = settled_lead d ss S sound plain k in
     let plains = equals_plain ss plain in
     equal_both (IsSettledIn E (settled_after k E) (settled_by E (settled_after k E) E)) IsPlainEqual (Leads ls E (suc k))
     (λ p e f a h t s.
     tree_of_items (IsGood ls (suc k)) e.items (Some []) t
-    (items_are (IsGood ls (suc k)) E (settled_after k E) (free_good d locals ss k) (λ r. deep_good d locals ss k r before)
-    (λ r. local_good d locals ss k r plains) e.items (f h) a.1) tt s) E
+    (items_are (IsGood ls (suc k)) E (settled_after k E) (free_good d ss k) (λ r. deep_good d ss k r before) e.items (f h) a) tt s) E
     (settled_unique E (settled_after k E) E (equals_distinct S ss sound)) plains
 
 -- ---- enough rounds
 
 pub few_equals : (x : Defined) (xs : List (List ℕ × Expr)) (n : ℕ) → length xs ≤ n → length (xs ++ equal_of x) ≤ suc n
 few_equals Unnamed xs n h = omega (arith, length-append xs (equal_of Unnamed))
-few_equals (LocalLabel m) xs n h = omega (arith, length-append xs (equal_of (LocalLabel m)))
 few_equals (Label name) xs n h = omega (arith, length-append xs (equal_of (Label name)))
 few_equals (Equal name e) xs n h = omega (arith, length-append xs (equal_of (Equal name e)))
 few_equals (MapField name) xs n h = omega (arith, length-append xs (equal_of (MapField name)))
 few_equals (RegisterName name r) xs n h = omega (arith, length-append xs (equal_of (RegisterName name r)))
 
-pub equals_few : (d : Declared) (ss : List Statement) → length (equals_in ss) ≤ length (laid_of d ss)
+pub equals_few : (d : List LaidName) (ss : List Statement) → length (equals_in ss) ≤ length (laid_of d ss)
 equals_few d [] = omega arith
 equals_few d (s ∷ ss) = few_equals (defined_by s) (equals_in ss) (length (laid_of d ss)) (equals_few d ss)
 
@@ -169,20 +156,20 @@ pub all_lead : (ss : List Statement) → IsSound ss → ArePlain ss
 all_lead ss h plain =
     let E = equals_in ss in
     let ls = source_lines (laid ss) in
-    let sound = sound_each (settled E) (declared ss) ss h in
+    let sound = sound_each (settled E) (declared_names ss) ss h in
     let m = length E in
     let R = λ (p : List ℕ) (t : Tree). TreeIs (IsGood ls m) t in
     each_weaker R (λ p t. TreeIs (IsGood ls (length (laid ss))) t)
-    (λ p t x. tree_weaker (IsGood ls m) (IsGood ls (length (laid ss))) (good_more ls m (length (laid ss)) (equals_few (declared ss) ss)) t x) ls
-    (lines_hold R (declared ss) (all_locals (laid ss)) ss
+    (λ p t x. tree_weaker (IsGood ls m) (IsGood ls (length (laid ss))) (good_more ls m (length (laid ss)) (equals_few (declared_names ss) ss)) t x) ls
+    (lines_hold R (declared_names ss) ss
     (equal_both (λ p e. list_any (same p) (settled E) ≡ true) (Leads ls E m) (OfTrees R) (λ p e a f. f a) E
     (equals_settled (settled E) ss sound)
-    (settled_lead (declared ss) (all_locals (laid ss)) ss (settled E) sound plain m)))
+    (settled_lead (declared_names ss) ss (settled E) sound plain m)))
 
 pub source_end : (ss : List Statement) → IsSound ss → ArePlain ss → (xs ys : List LaidName)
     → rounds (suc (length (laid ss))) (source_lines (laid ss)) xs ≡ rounds (suc (length (laid ss))) (source_lines (laid ss)) ys
 source_end ss h plain =
-    rounds_end (source_lines (laid ss)) (lines_regular (declared ss) (all_locals (laid ss)) ss) (length (laid ss)) (all_lead ss h plain)
+    rounds_end (source_lines (laid ss)) (lines_regular (declared_names ss) ss) (length (laid ss)) (all_lead ss h plain)
 
 pub after_rounds : (k : ℕ) (ls : List SourceLine) → names_after k ls ≡ rounds (suc k) ls []
 after_rounds zero ls = refl

@@ -11,10 +11,10 @@ use Rattle.asm_model.specs.Forms.{same}
 use Rattle.asm_model.specs.Kinds.{told_kind}
 use Rattle.asm_model.proofs.LineLemmas.{both_empty}
 use Rattle.asm_model.proofs.WordLemmas.{same_refl, same_true}
-use Rattle.asm_model.specs.Labels.{Defined, Unnamed, LocalLabel, Label, Equal, MapField, RegisterName, defined_by, imported_in}
-use Rattle.asm_model.specs.Laid.{Declared, LaidLine, statements_of, laid_behind, laid_of}
+use Rattle.asm_model.specs.Labels.{Defined, Unnamed, Label, Equal, MapField, RegisterName, defined_by, imported_in}
+use Rattle.asm_model.specs.Laid.{LaidLine, statements_of, laid_behind, laid_of}
 use Rattle.asm_model.specs.LayoutKinds.{fault_kinds, kind_if, map_kinds, no_area_kinds, contents_kinds, contents_behind, area_kinds, own_name, listed, names_in, names_behind, is_entry, is_repeated, name_kinds, equal_of, equals_in, are_settled, settled_by, settled_kinds, layout_kinds, told_at, first_fault, area_bytes}
-use Rattle.asm_model.specs.Sound.{IsBare, HaveNoPlaces, IsPlainDefined, ArePlain}
+use Rattle.asm_model.specs.Sound.{HaveNoPlaces, IsPlain, ArePlain}
 use Rattle.layout_laws.proofs.EqualLemmas.{EachEqual, equal_both, equal_joined}
 use Rattle.base_lemmas.proofs.BaseLemmas.{not_false}
 
@@ -49,7 +49,7 @@ abbrev pub EachSound : List (List ℕ) → List Statement → Type 0
 EachSound S [] = Unit {0}
 EachSound S (s ∷ before) = (is_repeated (names_behind before) (names_in s) ≡ false) × (settled_kinds S (defined_by s) ≡ []) × EachSound S before
 
-pub statements_kept : (d : Declared) (ss : List Statement) → statements_of (laid_of d ss) ≡ ss
+pub statements_kept : (d : List LaidName) (ss : List Statement) → statements_of (laid_of d ss) ≡ ss
 statements_kept d [] = refl
 statements_kept d (s ∷ ss) = ap (λ z. s ∷ z) (statements_kept d ss)
 
@@ -68,7 +68,7 @@ line_sound S l before h =
     (kind_none (is_repeated (names_behind (statements_of before)) (names_in l.statement) || (is_entry l.statement.what && list_any (λ t. is_entry t.what) (statements_of before))) DuplicateName r.1) in
     (t.0, q.1)
 
-pub sound_each : (S : List (List ℕ)) (d : Declared) (ss : List Statement) → first_fault S (laid_of d ss) ≡ None → EachSound S ss
+pub sound_each : (S : List (List ℕ)) (d : List LaidName) (ss : List Statement) → first_fault S (laid_of d ss) ≡ None → EachSound S ss
 sound_each S d [] h = tt
 sound_each S d (s ∷ ss) h =
     let l = laid_behind d s (laid_of d ss) in
@@ -80,7 +80,6 @@ sound_each S d (s ∷ ss) h =
 
 pub equal_apart : (q : List ℕ) (x : Defined) → list_any (same q) (own_name x) ≡ false → EachEqual (λ p e. same q p ≡ false) (equal_of x)
 equal_apart q Unnamed h = tt
-equal_apart q (LocalLabel n) h = tt
 equal_apart q (Label name) h = tt
 equal_apart q (Equal name e) h = ((or_parts (same q name) false h).0, tt)
 equal_apart q (MapField name) h = tt
@@ -107,7 +106,6 @@ distinct_end (x ∷ xs) q e h k = (
 pub distinct_with : (x : Defined) (i : List (List ℕ)) (ss : List Statement) → is_repeated (names_behind ss) (own_name x ++ i) ≡ false
     → AreDistinct (equals_in ss) → AreDistinct (equals_in ss ++ equal_of x)
 distinct_with Unnamed i ss h k = subst AreDistinct (sym (append-nil (equals_in ss))) k
-distinct_with (LocalLabel n) i ss h k = subst AreDistinct (sym (append-nil (equals_in ss))) k
 distinct_with (Label name) i ss h k = subst AreDistinct (sym (append-nil (equals_in ss))) k
 distinct_with (Equal name e) i ss h k =
     distinct_end (equals_in ss) name e k
@@ -121,7 +119,6 @@ equals_distinct S (s ∷ ss) h = distinct_with (defined_by s) (listed (imported_
 
 pub equal_settled : (S : List (List ℕ)) (x : Defined) → settled_kinds S x ≡ [] → EachEqual (λ p e. list_any (same p) S ≡ true) (equal_of x)
 equal_settled S Unnamed h = tt
-equal_settled S (LocalLabel n) h = tt
 equal_settled S (Label name) h = tt
 equal_settled S (Equal name e) h = (not_false (list_any (same name) S) (kind_none (not (list_any (same name) S)) Forward h), tt)
 equal_settled S (MapField name) h = tt
@@ -133,11 +130,10 @@ equals_settled S (s ∷ ss) h =
     equal_joined (λ p e. list_any (same p) S ≡ true) (equals_in ss) (equal_of (defined_by s)) (equals_settled S ss h.2) (equal_settled S (defined_by s) h.1)
 
 abbrev pub IsPlainEqual : List ℕ → Expr → Type 0
-IsPlainEqual p e = IsBare p × HaveNoPlaces e.items
+IsPlainEqual p e = HaveNoPlaces e.items
 
-pub equal_plain : (x : Defined) → IsPlainDefined x → EachEqual IsPlainEqual (equal_of x)
+pub equal_plain : (x : Defined) → IsPlain x → EachEqual IsPlainEqual (equal_of x)
 equal_plain Unnamed h = tt
-equal_plain (LocalLabel n) h = tt
 equal_plain (Label name) h = tt
 equal_plain (Equal name e) h = (h, tt)
 equal_plain (MapField name) h = tt
@@ -146,7 +142,7 @@ equal_plain (RegisterName name r) h = tt
 pub equals_plain : (ss : List Statement) → ArePlain ss → EachEqual IsPlainEqual (equals_in ss)
 equals_plain [] h = tt
 equals_plain (s ∷ ss) h =
-    equal_joined IsPlainEqual (equals_in ss) (equal_of (defined_by s)) (equals_plain ss h.2) (equal_plain (defined_by s) h.0)
+    equal_joined IsPlainEqual (equals_in ss) (equal_of (defined_by s)) (equals_plain ss h.1) (equal_plain (defined_by s) h.0)
 
 -- ---- settled names
 

@@ -5,7 +5,7 @@ use Rattle.sdt_fault.specs.declared.kinds.LineKind.{LineKind}
 use Rattle.asm_model.specs.declared.values.Value.{Value}
 use Rattle.asm_model.specs.declared.values.Value.TheVariants.{Number, Place}
 use Rattle.asm_model.specs.declared.names.LaidName.{LaidName}
-use Rattle.asm_model.specs.AtLine.{Definition, Nameless, Named, Equated, SourceLine, with_names, all_names, made_name}
+use Rattle.asm_model.specs.AtLine.{Definition, Nameless, Named, Equated, SourceLine, with_names, made_name}
 use Rattle.asm_model.specs.Forms.{same}
 use Rattle.asm_model.specs.Grammar.{Tree}
 use Rattle.asm_model.specs.Meaning.{named_in, known, meaning}
@@ -47,13 +47,9 @@ IsRegular Nameless = Unit {0}
 IsRegular (Named n) = SymbolIs (λ s. s ≡ n.name) n.value
 IsRegular (Equated make t) = (v : Value) → IsMade make v
 
-abbrev pub nothing : List ℕ → Type 0
-nothing q = ⊥
-
--- local labels have no symbols
 abbrev pub AreRegular : List SourceLine → Type 0
 AreRegular [] = Unit {0}
-AreRegular (l ∷ ls) = EachIs nothing l.back × EachIs nothing l.forth × IsRegular l.definition × AreRegular ls
+AreRegular (l ∷ ls) = IsRegular l.definition × AreRegular ls
 
 -- names whose expressions go back to others in fewer than so many steps
 abbrev pub IsGood : List SourceLine → ℕ → List ℕ → Type 0
@@ -69,24 +65,10 @@ good_more ls (suc k) (suc j) le q h =
 
 -- ---- one round
 
-pub each_more : (P : List ℕ → Type 0) (ns : List LaidName) → EachIs nothing ns → EachIs P ns
-each_more P [] h = tt
-each_more P (n ∷ ns) h = (symbol_weaker nothing P (λ q x. absurd x) n.value h.0, each_more P ns h.1)
-
-pub line_closed : (P : List ℕ → Type 0) (l : SourceLine) (xs : List LaidName) → EachIs nothing l.back → EachIs nothing l.forth → IsClosed P xs
-    → IsClosed P (all_names xs l)
-line_closed P l xs b f closed = closed_before P (xs ++ l.back) l.forth (closed_before P xs l.back closed (each_more P l.back b)) (each_more P l.forth f)
-
-pub line_is : (P : List ℕ → Type 0) (l : SourceLine) (xs : List LaidName) → EachIs nothing l.back → EachIs nothing l.forth → IsClosed P xs
-    → (t : Tree) → TreeIs P t → ResultIs P (meaning (with_names l (all_names xs l)) t)
-line_is P l xs b f closed t h = tree_is P l (all_names xs l) (line_closed P l xs b f closed) t h
-
-pub line_same : (P : List ℕ → Type 0) (l : SourceLine) (xs ys : List LaidName) → EachIs nothing l.back → EachIs nothing l.forth → IsClosed P xs → AreSame P xs ys
-    → (t : Tree) → TreeIs P t → meaning (with_names l (all_names xs l)) t ≡ meaning (with_names l (all_names ys l)) t
-line_same P l xs ys b f closed alike t h =
-    ap known
-    (tree_same P l (all_names xs l) (all_names ys l) (line_closed P l xs b f closed)
-    (same_before P (xs ++ l.back) (ys ++ l.back) l.forth (same_before P xs ys l.back alike)) t h)
+pub line_same : (P : List ℕ → Type 0) (l : SourceLine) (xs ys : List LaidName) → IsClosed P xs → AreSame P xs ys
+    → (t : Tree) → TreeIs P t → meaning (with_names l xs) t ≡ meaning (with_names l ys) t
+line_same P l xs ys closed alike t h =
+    ap known (tree_same P l xs ys closed alike t h)
 
 -- entries in front that are the same, or have other names
 pub named_behind : (q : List ℕ) (ns xs ys : List LaidName) → named_in q xs ≡ named_in q ys → named_in q (ns ++ xs) ≡ named_in q (ns ++ ys)
@@ -100,29 +82,29 @@ made_skipped q make (Ok v) xs made e =
     ap (λ z. cond (same z q) (Some (make v)) (named_in q xs)) (made v).0 ∙ ap (λ b. cond b (Some (make v)) (named_in q xs)) e
 
 pub entry_same : (P : List ℕ → Type 0) (xs ys : List LaidName) (q : List ℕ) (l : SourceLine) (us vs : List LaidName)
-    → EachIs nothing l.back → EachIs nothing l.forth → IsClosed P xs → AreSame P xs ys
+    → IsClosed P xs → AreSame P xs ys
     → (d : Definition) → IsRegular d → HoldsOf (λ p t. p ≡ q → TreeIs P t) d → named_in q us ≡ named_in q vs
     → named_in q (entries_with xs l d ++ us) ≡ named_in q (entries_with ys l d ++ vs)
-entry_same P xs ys q l us vs b f closed alike Nameless regular h e = e
-entry_same P xs ys q l us vs b f closed alike (Named n) regular h e = named_behind q (n ∷ []) us vs e
-entry_same P xs ys q l us vs b f closed alike (Equated make t) regular h e = by_test (same (name_of make) q) refl
+entry_same P xs ys q l us vs closed alike Nameless regular h e = e
+entry_same P xs ys q l us vs closed alike (Named n) regular h e = named_behind q (n ∷ []) us vs e
+entry_same P xs ys q l us vs closed alike (Equated make t) regular h e = by_test (same (name_of make) q) refl
   where
     by_test : (c : Bool) → same (name_of make) q ≡ c
-        → named_in q (made_name make (meaning (with_names l (all_names xs l)) t) ++ us) ≡ named_in q (made_name make (meaning (with_names l (all_names ys l)) t) ++ vs)
+        → named_in q (made_name make (meaning (with_names l xs) t) ++ us) ≡ named_in q (made_name make (meaning (with_names l ys) t) ++ vs)
     by_test true s =
-        named_behind q (made_name make (meaning (with_names l (all_names xs l)) t)) us vs e
-        ∙ ap (λ r. named_in q (made_name make r ++ vs)) (line_same P l xs ys b f closed alike t (h (same_true (name_of make) q s)))
+        named_behind q (made_name make (meaning (with_names l xs) t)) us vs e
+        ∙ ap (λ r. named_in q (made_name make r ++ vs)) (line_same P l xs ys closed alike t (h (same_true (name_of make) q s)))
     by_test false s =
-        made_skipped q make (meaning (with_names l (all_names xs l)) t) us regular s ∙ e
-        ∙ sym (made_skipped q make (meaning (with_names l (all_names ys l)) t) vs regular s)
+        made_skipped q make (meaning (with_names l xs) t) us regular s ∙ e
+        ∙ sym (made_skipped q make (meaning (with_names l ys) t) vs regular s)
 
 pub entries_same : (P : List ℕ → Type 0) (xs ys : List LaidName) (q : List ℕ) → IsClosed P xs → AreSame P xs ys
     → (ls : List SourceLine) → AreRegular ls → EachEquated (λ p t. p ≡ q → TreeIs P t) ls
     → named_in q (all_entries xs ls) ≡ named_in q (all_entries ys ls)
 entries_same P xs ys q closed alike [] regular h = refl
 entries_same P xs ys q closed alike (l ∷ ls) regular h =
-    entry_same P xs ys q l (all_entries xs ls) (all_entries ys ls) regular.0 regular.1 closed alike l.definition regular.2 h.0
-    (entries_same P xs ys q closed alike ls regular.3 h.1)
+    entry_same P xs ys q l (all_entries xs ls) (all_entries ys ls) closed alike l.definition regular.0 h.0
+    (entries_same P xs ys q closed alike ls regular.1 h.1)
 
 -- a symbol is the name itself, or one before
 abbrev pub Or : (List ℕ → Type 0) → List ℕ → List ℕ → Type 0
@@ -154,11 +136,11 @@ made_found P make (Ok v) q us n made h rest e = by_test (same (make v).name q) r
     by_test false s k = rest k
 
 pub entry_found : (P : List ℕ → Type 0) (xs : List LaidName) (q : List ℕ) (l : SourceLine) (us : List LaidName) (n : LaidName)
-    → EachIs nothing l.back → EachIs nothing l.forth → IsClosed P xs
+    → IsClosed P xs
     → (d : Definition) → IsRegular d → HoldsOf (λ p t. p ≡ q → TreeIs P t) d → (named_in q us ≡ Some n → SymbolIs (Or P q) n.value)
     → named_in q (entries_with xs l d ++ us) ≡ Some n → SymbolIs (Or P q) n.value
-entry_found P xs q l us n b f closed Nameless regular h rest e = rest e
-entry_found P xs q l us n b f closed (Named m) regular h rest e = by_test (same m.name q) refl e
+entry_found P xs q l us n closed Nameless regular h rest e = rest e
+entry_found P xs q l us n closed (Named m) regular h rest e = by_test (same m.name q) refl e
   where
     by_test : (c : Bool) → same m.name q ≡ c → cond c (Some m) (named_in q us) ≡ Some n → SymbolIs (Or P q) n.value
     by_test true s k =
@@ -166,15 +148,15 @@ entry_found P xs q l us n b f closed (Named m) regular h rest e = by_test (same 
         let y = same_true m.name q s in
         subst (λ z. SymbolIs (Or P q) z.value) x (symbol_weaker (λ s. s ≡ m.name) (Or P q) (λ s g. inl (g ∙ y)) m.value regular)
     by_test false s k = rest k
-entry_found P xs q l us n b f closed (Equated make t) regular h rest e =
-    made_found P make (meaning (with_names l (all_names xs l)) t) q us n regular (λ y. line_is P l xs b f closed t (h y)) rest e
+entry_found P xs q l us n closed (Equated make t) regular h rest e =
+    made_found P make (meaning (with_names l xs) t) q us n regular (λ y. tree_is P l xs closed t (h y)) rest e
 
 pub entries_found : (P : List ℕ → Type 0) (xs : List LaidName) (q : List ℕ) (n : LaidName) → IsClosed P xs
     → (ls : List SourceLine) → AreRegular ls → EachEquated (λ p t. p ≡ q → TreeIs P t) ls
     → named_in q (all_entries xs ls) ≡ Some n → SymbolIs (Or P q) n.value
 entries_found P xs q n closed [] regular h e = absurd (cc)
 entries_found P xs q n closed (l ∷ ls) regular h e =
-    entry_found P xs q l (all_entries xs ls) n regular.0 regular.1 closed l.definition regular.2 h.0 (entries_found P xs q n closed ls regular.3 h.1) e
+    entry_found P xs q l (all_entries xs ls) n closed l.definition regular.0 h.0 (entries_found P xs q n closed ls regular.1 h.1) e
 
 -- ---- all rounds
 
@@ -195,18 +177,18 @@ rounds_same ls regular (suc k) xs ys q h =
     entries_same (IsGood ls k) (rounds k ls xs) (rounds k ls ys) q (rounds_closed ls regular k xs) (rounds_same ls regular k xs ys) ls regular h
 
 -- where each expression's names are good, a round gives the same
-pub whole_entry : (P : List ℕ → Type 0) (xs ys : List LaidName) (l : SourceLine) → EachIs nothing l.back → EachIs nothing l.forth → IsClosed P xs → AreSame P xs ys
+pub whole_entry : (P : List ℕ → Type 0) (xs ys : List LaidName) (l : SourceLine) → IsClosed P xs → AreSame P xs ys
     → (d : Definition) → HoldsOf (λ p t. TreeIs P t) d → entries_with xs l d ≡ entries_with ys l d
-whole_entry P xs ys l b f closed alike Nameless h = refl
-whole_entry P xs ys l b f closed alike (Named n) h = refl
-whole_entry P xs ys l b f closed alike (Equated make t) h = ap (made_name make) (line_same P l xs ys b f closed alike t h)
+whole_entry P xs ys l closed alike Nameless h = refl
+whole_entry P xs ys l closed alike (Named n) h = refl
+whole_entry P xs ys l closed alike (Equated make t) h = ap (made_name make) (line_same P l xs ys closed alike t h)
 
 pub whole_round : (P : List ℕ → Type 0) (xs ys : List LaidName) → IsClosed P xs → AreSame P xs ys
     → (ls : List SourceLine) → AreRegular ls → EachEquated (λ p t. TreeIs P t) ls → all_entries xs ls ≡ all_entries ys ls
 whole_round P xs ys closed alike [] regular h = refl
 whole_round P xs ys closed alike (l ∷ ls) regular h =
-    ap (λ z. z ++ all_entries xs ls) (whole_entry P xs ys l regular.0 regular.1 closed alike l.definition h.0)
-    ∙ ap (λ z. entries_with ys l l.definition ++ z) (whole_round P xs ys closed alike ls regular.3 h.1)
+    ap (λ z. z ++ all_entries xs ls) (whole_entry P xs ys l closed alike l.definition h.0)
+    ∙ ap (λ z. entries_with ys l l.definition ++ z) (whole_round P xs ys closed alike ls regular.1 h.1)
 
 -- after one round more than steps the names are the same, whatever they were at first
 pub rounds_end : (ls : List SourceLine) → AreRegular ls → (k : ℕ) → EachEquated (λ p t. TreeIs (IsGood ls k) t) ls

@@ -6,7 +6,7 @@ use Rattle.asm_model.specs.declared.values.Value.{Value}
 use Rattle.asm_model.specs.declared.names.LaidName.{LaidName}
 use Rattle.asm_model.specs.declared.statements.Statement.{Statement}
 use Rattle.asm_model.specs.Extents.{value_there}
-use Rattle.asm_model.specs.Laid.{LaidLine, laid, all_locals, final_line, source_lines, all_entries, final_names, final_value}
+use Rattle.asm_model.specs.Laid.{LaidLine, laid, source_lines, all_entries, final_names, final_value}
 use Rattle.asm_model.specs.Sound.{IsSound, ArePlain}
 
 -- names that a round doesn't change are the final ones
@@ -22,4 +22,4 @@ KnownValuesAreFinal =
     (statements : List Statement) → IsSound statements → ArePlain statements
     → (after before : List LaidLine) (l : LaidLine) → laid statements ≡ after ++ l ∷ before
     → (e : Expr) (v : Value) → value_there l.seen e ≡ Ok v
-    → final_value (final_names (laid statements)) (final_line (all_locals (laid statements)) l before) e ≡ Ok v
+    → final_value (final_names (laid statements)) l.line e ≡ Ok v
