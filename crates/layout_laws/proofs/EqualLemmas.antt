@@ -1,6 +1,5 @@
 -- The names for expressions of a source, and its lines.
-use Rattle.std.proofs.Common.{◌≡◌, ℕ, ◌==◌, ◌&&◌, List, [], ◌∷◌, ◌++◌, length, codes, map, Bool, true, false, cond, refl, Option, Some, None, inl, inr}
-use Rattle.std.specs.Prelude.{nat_lt, nat_le}
+use Rattle.std.proofs.Common.{◌≡◌, ℕ, List, [], ◌∷◌, ◌++◌, Bool, refl, Option, Some, None, inl, inr}
 use Rattle.asm_model.specs.declared.exprs.Expr.{Expr}
 use Rattle.asm_model.specs.declared.values.Value.{Value}
 use Rattle.asm_model.specs.declared.values.Value.TheVariants.{Number, Truth, Words, Place}
@@ -8,14 +7,14 @@ use Rattle.asm_model.specs.declared.names.LaidName.{LaidName}
 use Rattle.asm_model.specs.declared.statements.Statement.{Statement}
 use Rattle.asm_model.specs.AtLine.{SourceLine}
 use Rattle.asm_model.specs.Grammar.{Tree}
-use Rattle.asm_model.specs.Before.{stretch_behind, area_behind, is_thumb_label}
+use Rattle.asm_model.specs.Before.{area_behind, is_thumb_label}
 use Rattle.asm_model.specs.Entries.{equal_entry}
 use Rattle.asm_model.specs.Labels.{Defined, Unnamed, Label, Equal, MapField, RegisterName, defined_by, imported_in}
-use Rattle.asm_model.specs.Laid.{LaidLine, statements_of, locals_of, map_behind, offset_behind, tree_equated, definition_of, imported_lines, laid_behind, laid_of, final_lines}
+use Rattle.asm_model.specs.Laid.{LaidLine, statements_of, map_behind, offset_behind, tree_equated, definition_of, imported_lines, laid_behind, laid_of, source_lines}
 use Rattle.asm_model.specs.LayoutKinds.{equal_of, equals_in}
 use Rattle.asm_model.specs.Trees.{tree_of}
-use Rattle.layout_laws.proofs.RoundLemmas.{SymbolIs, EachIs}
-use Rattle.layout_laws.proofs.StepLemmas.{HoldsOf, EachEquated, IsMade, IsRegular, AreRegular, nothing}
+use Rattle.layout_laws.proofs.RoundLemmas.{SymbolIs}
+use Rattle.layout_laws.proofs.StepLemmas.{HoldsOf, EachEquated, IsMade, IsRegular, AreRegular}
 
 -- ---- names for expressions
 

@@ -1,26 +1,26 @@
 -- What is known at a line of a source without faults is final.
-use Rattle.std.proofs.Common.{◌≡◌, ℕ, List, [], ◌∷◌, ◌++◌, length, Bool, true, false, cond, refl, sym, ◌∙◌, ap, subst, Option, Some, None}
+use Rattle.std.proofs.Common.{◌≡◌, ℕ, List, [], ◌∷◌, ◌++◌, Bool, true, false, cond, refl, sym, ◌∙◌, ap, subst, Option, Some, None}
 use Rattle.std.specs.Prelude.{Result, Ok, Err}
 use Rattle.sdt_fault.specs.declared.kinds.LineKind.{LineKind}
 use Rattle.asm_model.specs.declared.exprs.Expr.{Expr}
 use Rattle.asm_model.specs.declared.values.Value.{Value}
 use Rattle.asm_model.specs.declared.names.LaidName.{LaidName}
 use Rattle.asm_model.specs.declared.statements.Statement.{Statement}
-use Rattle.asm_model.specs.AtLine.{Definition, Nameless, Named, Equated, SourceLine, with_names, own_names, sight, is_in, value_at, made_name, added_names, seen_behind, HoldsEach}
+use Rattle.asm_model.specs.AtLine.{Definition, Nameless, Named, Equated, SourceLine, with_names, own_names, sight, value_at, made_name, added_names, seen_behind, HoldsEach}
 use Rattle.asm_model.specs.Forms.{same}
 use Rattle.asm_model.specs.Grammar.{Tree}
-use Rattle.asm_model.specs.Meaning.{named_in, meaning}
+use Rattle.asm_model.specs.Meaning.{meaning}
 use Rattle.asm_model.proofs.LineLemmas.{each_append}
-use Rattle.asm_model.specs.Before.{stretch_behind, area_behind, is_thumb_label}
+use Rattle.asm_model.specs.Before.{area_behind, is_thumb_label}
 use Rattle.asm_model.specs.Entries.{label_entry, imported_entry}
 use Rattle.asm_model.specs.Extents.{value_there, tree_value}
 use Rattle.asm_model.specs.Labels.{Defined, Unnamed, Label, Equal, MapField, RegisterName, defined_by, imported_in, declared_names}
-use Rattle.asm_model.specs.Laid.{LaidLine, statements_of, lines_of, locals_of, map_behind, offset_behind, definition_of, definition_behind, imported_lines, laid_behind, laid_of, laid, entries_with, all_entries, final_names, final_value}
+use Rattle.asm_model.specs.Laid.{LaidLine, statements_of, lines_of, map_behind, offset_behind, definition_of, definition_behind, imported_lines, laid_behind, laid_of, laid, entries_with, all_entries, final_names, final_value}
 use Rattle.asm_model.specs.LayoutKinds.{equals_in, settled}
 use Rattle.asm_model.specs.Trees.{tree_of}
 use Rattle.asm_model.specs.Sound.{IsSound, ArePlain}
 use Rattle.layout_laws.proofs.KnownLemmas.{AreAlike, EachAlike, Fewer, known_final}
-use Rattle.layout_laws.proofs.NamedLemmas.{sofar, own_of, imports_of, with_statement, lacks, sofar_holds, names_other, fewer_than_declared}
+use Rattle.layout_laws.proofs.NamedLemmas.{sofar, own_of, imports_of, with_statement, sofar_holds, fewer_than_declared}
 use Rattle.layout_laws.proofs.SettledLemmas.{final_names_are_their_entries}
 use Rattle.layout_laws.proofs.SoundLemmas.{sound_each}
 

@@ -1,8 +1,6 @@
 -- What is found under the names of a source without faults.
-use Rattle.std.proofs.Common.{◌≡◌, ℕ, List, [], ◌∷◌, ◌++◌, Bool, true, false, cond, refl, sym, ◌∙◌, ap, subst, Option, Some, None}
+use Rattle.std.proofs.Common.{◌≡◌, ℕ, List, [], ◌∷◌, ◌++◌, Bool, false, refl, sym, ◌∙◌, ap, subst, Option, Some, None}
 use Rattle.std.specs.Prelude.{Result, Ok, Err}
-use Rattle.std.specs.List.{list_any}
-use Rattle.std.proofs.lemmas.Bool.{or_parts}
 use Rattle.sdt_fault.specs.declared.kinds.LineKind.{LineKind}
 use Rattle.sdt_fault.specs.declared.kinds.LineKind.TheVariants.{Syntax}
 use Rattle.asm_model.specs.declared.exprs.Expr.{Expr}
@@ -11,23 +9,17 @@ use Rattle.asm_model.specs.declared.values.Value.TheVariants.{Number}
 use Rattle.asm_model.specs.declared.names.LaidName.{LaidName}
 use Rattle.asm_model.specs.declared.statements.Statement.{Statement}
 use Rattle.asm_model.specs.AtLine.{SourceLine, with_names, made_name, HoldsEach}
-use Rattle.asm_model.specs.Directives.{or_else}
-use Rattle.asm_model.specs.Forms.{same}
 use Rattle.asm_model.specs.Grammar.{Tree}
 use Rattle.asm_model.specs.Meaning.{named_in, meaning}
 use Rattle.asm_model.specs.Before.{area_behind, is_thumb_label}
 use Rattle.asm_model.specs.Entries.{label_entry, imported_entry, valued_entry, equal_entry}
 use Rattle.asm_model.specs.Labels.{Defined, Label, Equal, MapField, defined_by, imported_in, declared_names}
 use Rattle.asm_model.specs.Laid.{LaidLine, statements_of, map_behind, offset_behind, tree_equated, definition_of, imported_lines, laid_behind, laid_of, laid, entries_with, all_entries, final_names, final_value}
-use Rattle.asm_model.specs.LayoutKinds.{equals_in, settled, own_name, listed, names_behind, is_repeated}
 use Rattle.asm_model.specs.Trees.{tree_of}
 use Rattle.asm_model.specs.Sound.{IsSound, ArePlain}
 use Rattle.layout_laws.proofs.EqualLemmas.{equal_made}
 use Rattle.layout_laws.proofs.FinalLemmas.{each_split, source_holds}
-use Rattle.layout_laws.proofs.NamedLemmas.{sofar, own_of, imports_of, with_statement, AtMost, own_most, import_most, none_joined, lacks, later_new, found_first}
-use Rattle.layout_laws.proofs.RoundLemmas.{named_joined}
-use Rattle.layout_laws.proofs.SettledLemmas.{final_names_are_their_entries}
-use Rattle.layout_laws.proofs.SoundLemmas.{EachSound, sound_each, same_flip}
+use Rattle.layout_laws.proofs.NamedLemmas.{sofar, own_of, imports_of, with_statement}
 
 -- ---- the entries of lines
 

@@ -15,11 +15,9 @@ use Rattle.asm_model.specs.declared.names.LaidName.{LaidName}
 use Rattle.asm_model.specs.declared.names.Names.{Names}
 use Rattle.asm_model.specs.AtLine.{SourceLine, Sight, with_names, own_names, is_in, item_kinds, asked_kinds, name_kinds, value_at, HoldsEach}
 use Rattle.asm_model.specs.Directives.{or_else}
-use Rattle.asm_model.specs.Forms.{same}
 use Rattle.asm_model.specs.Grammar.{Tree, Leaf, Before, Between}
 use Rattle.asm_model.specs.Meaning.{named_in, entry_stands_at, stands_at, as_number, binary, unary_of, Known, Unread, value_of, size_of, known, then_of, on_both, applied, operand_of_item, meaning}
 use Rattle.asm_model.proofs.LineLemmas.{each_has, each_append, both_empty, tree_more, told_nothing}
-use Rattle.asm_model.proofs.WordLemmas.{same_true}
 use Rattle.layout_laws.proofs.RoundLemmas.{named_joined, places_same}
 
 abbrev pub seeing : Names → List LaidName → List LaidName → Sight

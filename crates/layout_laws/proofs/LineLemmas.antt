@@ -1,7 +1,6 @@
 -- Tokens of a line have their forms, and what it says is as sources have it.
 use Rattle.std.proofs.Common.{◌≡◌, ℕ, ◌+◌, ◌-◌, ◌==◌, List, [], ◌∷◌, take, drop, Bool, true, false, cond, refl, sym, ◌∙◌, ap, subst, arith, Option, Some, None, ◌⊎◌, inl, inr, drop-drop}
 use Rattle.std.specs.Prelude.{Result, Ok, Err, MatchBool}
-use Rattle.std.proofs.lemmas.Bool.{eqb-false}
 use Rattle.sdt_fault.specs.declared.kinds.LineKind.{LineKind}
 use Rattle.asm_model.specs.declared.lines.Flat.{Flat}
 use Rattle.asm_model.specs.declared.exprs.Expr.{Expr}
@@ -17,7 +16,6 @@ use Rattle.asm_model.specs.declared.directives.Directive.{Directive}
 use Rattle.asm_model.specs.declared.directives.Directive.TheVariants as directive
 use Rattle.asm_model.specs.declared.directives.DirectiveLine.{DirectiveLine}
 use Rattle.asm_model.specs.declared.directives.DirectiveLine.TheVariants as line
-use Rattle.asm_model.specs.declared.directives.LabelNeed.TheVariants as need
 use Rattle.asm_model.specs.declared.directives.RnOperand.{RnOperand}
 use Rattle.asm_model.specs.declared.directives.RnOperand.TheVariants as rn
 use Rattle.asm_model.specs.declared.statements.Statement.{Statement}
@@ -29,8 +27,8 @@ use Rattle.asm_model.specs.Forms.{form_of}
 use Rattle.asm_model.specs.Grammar.{ParsesTokens}
 use Rattle.asm_model.specs.Operands.{operands}
 use Rattle.asm_model.specs.Parts.{piece}
-use Rattle.asm_model.specs.Says.{Form, bare, name, imported, expression, expressions, area, register, boundary, refused, form_of_directive, on_both, mapped, between_bars, name_of, name_alone, weak_mark, import_of, register_alone, Expression, Area, Register, Aligned, bare_of, Reads, label_of, label_field, Sentence, operated, sentence, directive_of, statement_of, SaysAs, SaysDirective}
-use Rattle.asm_model.specs.Tokens.{IsLongest, is_operation_sign, IsTokenAt, due_behind, blanks, TokensFrom, first_due, Tokens}
+use Rattle.asm_model.specs.Says.{Form, bare, name, imported, expression, expressions, area, register, boundary, refused, form_of_directive, on_both, mapped, name_alone, import_of, register_alone, Expression, Area, Register, Aligned, bare_of, Reads, label_field, Sentence, operated, sentence, directive_of, statement_of, SaysAs, SaysDirective}
+use Rattle.asm_model.specs.Tokens.{IsLongest, is_operation_sign, IsTokenAt, due_behind, blanks, TokensFrom}
 use Rattle.asm_model.specs.Labels.{field_defines, defined_by}
 use Rattle.layout_laws.specs.Said.{IsNoDirective}
 use Rattle.asm_model.specs.Sound.{HaveNoPlaces, IsPlain}

@@ -1,9 +1,9 @@
 -- In a source without faults each entry is the first with its name, and no other names have entries.
-use Rattle.std.proofs.Common.{◌≡◌, ℕ, ◌==◌, List, [], ◌∷◌, ◌++◌, Bool, true, false, cond, refl, sym, ◌∙◌, ap, subst, Option, Some, None, append_assoc}
+use Rattle.std.proofs.Common.{◌≡◌, ℕ, List, [], ◌∷◌, ◌++◌, Bool, true, false, cond, refl, sym, ◌∙◌, ap, subst, Option, Some, None, append_assoc}
 use Rattle.std.specs.Prelude.{Result, Ok, Err}
 use Rattle.std.specs.List.{list_any}
 use Rattle.std.specs.Option.{is_some}
-use Rattle.std.proofs.lemmas.Bool.{and_left, or_parts, or_from, false_from_ne_true, eqb-true}
+use Rattle.std.proofs.lemmas.Bool.{or_parts}
 use Rattle.sdt_fault.specs.declared.kinds.LineKind.{LineKind}
 use Rattle.asm_model.specs.declared.values.Value.{Value}
 use Rattle.asm_model.specs.declared.values.Value.TheVariants.{Number}
@@ -19,10 +19,9 @@ use Rattle.asm_model.proofs.WordLemmas.{same_refl}
 use Rattle.asm_model.specs.Before.{area_behind, is_thumb_label}
 use Rattle.asm_model.specs.Entries.{equal_entry, label_entry, valued_entry}
 use Rattle.asm_model.specs.Labels.{Defined, Unnamed, Label, Equal, MapField, RegisterName, defined_by, imported_in, imported_entries, declared_entries, declared_names}
-use Rattle.asm_model.specs.Laid.{LaidLine, statements_of, map_behind, offset_behind, tree_equated, definition_of, imported_lines, laid_behind, laid_of, entries_with, all_entries}
+use Rattle.asm_model.specs.Laid.{LaidLine, statements_of, map_behind, offset_behind, tree_equated, definition_of, imported_lines, laid_behind, laid_of, entries_with, all_entries, source_lines}
 use Rattle.asm_model.specs.LayoutKinds.{own_name, listed, names_in, names_behind, is_repeated}
 use Rattle.asm_model.specs.Trees.{tree_of}
-use Rattle.asm_model.specs.Sound.{IsPlain, IsPlainImport, ArePlain}
 use Rattle.layout_laws.proofs.EqualLemmas.{equal_made}
 use Rattle.layout_laws.proofs.KnownLemmas.{Fewer, named_within}
 use Rattle.layout_laws.proofs.RoundLemmas.{named_joined}

@@ -1,5 +1,5 @@
 -- Worked sources: final names; and sources that no lines say, where other names don't change either.
-use Rattle.std.proofs.Common.{◌≡◌, ℕ, List, [], ◌∷◌, false, refl, Option, Some, None, codes, arith}
+use Rattle.std.proofs.Common.{◌≡◌, ℕ, List, [], ◌∷◌, false, refl, Option, Some, None, codes}
 use Rattle.asm_model.specs.declared.exprs.BinaryOp.TheVariants.{Add, Subtract}
 use Rattle.asm_model.specs.declared.exprs.ExprItem.{ExprItem}
 use Rattle.asm_model.specs.declared.exprs.ExprItem.TheVariants as item
@@ -45,7 +45,7 @@ pub forward_sound : IsSound forward
 forward_sound = refl
 
 pub forward_plain : ArePlain forward
-forward_plain = (tt, (tt, tt), tt, (tt, tt, tt, tt), tt, tt)
+forward_plain = (tt, ((tt, tt), (tt, ((tt, (tt, (tt, tt))), (tt, tt)))))
 
 pub forward_final : final_names (laid forward)
     ≡ valued_entry (codes "y") (Place (codes "z") 4) false ∷ valued_entry (codes "x") (Place (codes "z") 0) false ∷ label_entry (codes "z") (Some 0) 4 4 false ∷ []

@@ -1,7 +1,6 @@
 -- What tokens say: forms of names, and expressions without places as constants.
-use Rattle.std.proofs.Common.{◌≡◌, ℕ, suc, ◌-◌, ◌^◌, ◌==◌, ◌&&◌, ◌||◌, nat_le, nat_lt, List, [], ◌∷◌, ◌++◌, length, take, map, Bool, true, false, cond, refl, sym, subst, arith, Option, Some, None}
+use Rattle.std.proofs.Common.{◌≡◌, ℕ, suc, ◌^◌, ◌==◌, nat_lt, List, [], ◌∷◌, ◌++◌, map, Bool, true, false, cond, refl, sym, subst, Option, Some, None}
 use Rattle.std.specs.Prelude.{Ok}
-use Rattle.std.proofs.lemmas.Bool.{and_parts}
 use Rattle.asm_model.specs.declared.exprs.Expr.{Expr}
 use Rattle.asm_model.specs.declared.exprs.ExprItem.{ExprItem}
 use Rattle.asm_model.specs.declared.exprs.ExprItem.TheVariants as item
@@ -11,10 +10,9 @@ use Rattle.asm_model.specs.declared.tokens.Token.{Token}
 use Rattle.asm_model.specs.declared.tokens.TokenKind.{TokenKind}
 use Rattle.asm_model.specs.declared.tokens.TokenKind.TheVariants as kind
 use Rattle.asm_model.specs.declared.values.Value.TheVariants.{Number}
-use Rattle.asm_model.specs.Forms.{form_of, form_or, is_letter, is_word, one_or_more, is_name, is_barred, is_number, is_quoted, is_character, is_one_of, braced_words, is_local, signs, is_between_bars, ends_with_bar}
+use Rattle.asm_model.specs.Forms.{form_of, form_or, is_name, is_barred, is_number, is_quoted, is_character, is_one_of, braced_words, is_local, signs, is_between_bars}
 use Rattle.asm_model.specs.Grammar.{Tree, postfix, plain, operand_of, Spells, operand, of_name, before, grouped, between, tighter, ParsesTokens}
 use Rattle.asm_model.specs.Parts.{part_of, part_of_kind, number_value, braced_part, worded_part, plain_part, piece}
-use Rattle.asm_model.specs.Says.{between_bars}
 use Rattle.asm_model.specs.Sound.{HasNoPlace, HaveNoPlaces}
 
 -- ---- parts

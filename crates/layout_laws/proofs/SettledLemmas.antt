@@ -13,7 +13,7 @@ use Rattle.asm_model.specs.AtLine.{SourceLine}
 use Rattle.asm_model.specs.Forms.{same}
 use Rattle.asm_model.specs.Grammar.{Tree}
 use Rattle.asm_model.proofs.WordLemmas.{same_refl}
-use Rattle.asm_model.specs.Labels.{Defined, Unnamed, Label, Equal, MapField, RegisterName, defined_by}
+use Rattle.asm_model.specs.Labels.{Defined, Unnamed, Label, Equal, MapField, RegisterName, defined_by, declared_names}
 use Rattle.asm_model.specs.Laid.{laid_of, laid, source_lines, all_entries, names_after, final_names}
 use Rattle.asm_model.specs.LayoutKinds.{equal_of, equals_in, is_settled_item, are_settled, settled_by, settled_after, settled}
 use Rattle.asm_model.specs.Trees.{grown, grown_behind, alone, tree_behind}

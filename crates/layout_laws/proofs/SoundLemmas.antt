@@ -17,6 +17,7 @@ use Rattle.asm_model.specs.LayoutKinds.{fault_kinds, kind_if, map_kinds, no_area
 use Rattle.asm_model.specs.Sound.{HaveNoPlaces, IsPlain, ArePlain}
 use Rattle.layout_laws.proofs.EqualLemmas.{EachEqual, equal_both, equal_joined}
 use Rattle.base_lemmas.proofs.BaseLemmas.{not_false}
+use Rattle.asm_model.specs.declared.names.LaidName.{LaidName}
 
 -- ---- tests
 

@@ -11,7 +11,7 @@ use Rattle.asm_model.specs.Grammar.{Tree}
 use Rattle.asm_model.specs.Meaning.{named_in, known, meaning}
 use Rattle.asm_model.proofs.WordLemmas.{same_true}
 use Rattle.asm_model.specs.Laid.{entries_with, all_entries}
-use Rattle.layout_laws.proofs.RoundLemmas.{SymbolIs, ResultIs, TreeIs, IsClosed, AreSame, EachIs, symbol_weaker, tree_weaker, tree_is, tree_same, same_before, closed_before}
+use Rattle.layout_laws.proofs.RoundLemmas.{SymbolIs, ResultIs, TreeIs, IsClosed, AreSame, symbol_weaker, tree_weaker, tree_is, tree_same}
 
 -- ---- lines
 
