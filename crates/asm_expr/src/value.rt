@@ -1,6 +1,6 @@
 //! The value of an expression.
 
-ghost use Rattle.std.specs.Prelude.{◌≡◌, ◌∷◌, [], IfOk, OnOk, if◌then◌else◌};
+ghost use Rattle.std.specs.Prelude.{◌≡◌, [], IfOk, OnOk, if◌then◌else◌};
 ghost use Rattle.std.specs.Option.{is_some};
 ghost use Rattle.asm_model.specs.Meaning as meaning;
 ghost use Rattle.asm_expr.specs.Evaluating as evaluating;
@@ -91,23 +91,6 @@ fn on_both(
     }
 }
 
-/// The value of a local label, which is found under its reference behind a bar.
-fn local(
-    alloc: Global,
-    finder: Finder<'_>,
-    names: &Names,
-    reference: &[u8],
-) -> Result<Result<Value, LineKind>, NoMemory>
-    requires { Finds finder names.now.list }
-    ensures { IfOk result (λ value. value ≡ meaning.value_of (meaning.named_in (124 ∷ reference.now) names.now.list)) }
-{
-    let mut bytes = Vec::from_slice(alloc, b"|")?;
-    bytes.extend_from_slice(reference)?;
-    let name = Text::from_vec(bytes);
-    let place = place_in(finder, names, &name);
-    known(alloc, names.list.as_slice(), Slot::Name(place))
-}
-
 /// An item that is an operand.
 fn operand(
     alloc: Global,
@@ -120,7 +103,7 @@ fn operand(
 {
     match item {
         ExprItem::Name(name) => Ok(Slot::Name(place_in(finder, names, name))),
-        ExprItem::Local(name) => Ok(slot_of(local(alloc, finder, names, name.as_slice())?)),
+        ExprItem::Local(_) => Ok(Slot::Fault(LineKind::UnknownWord)),
         ExprItem::Constant(value) => Ok(Slot::Known(value.try_clone(alloc)?)),
         ExprItem::Here => {
             let symbol = Text::from_slice(alloc, b"")?;
@@ -259,10 +242,9 @@ fn evaluate_by(
     }
 }
 
-/// The value of an expression with these names, or the kind of its fault: UnknownWord for a name that isn't
-/// there, WrongType, OutOfRange, DivideByZero, and TooMany for a string of more than `STRING_BYTES` bytes. A
-/// reference to a local label is found under its text behind a bar, as `|%F1`. Names are found by a search through
-/// the list.
+/// The value of an expression with these names, or the kind of its fault: UnknownWord for a name that isn't there
+/// and for a reference to a local label, WrongType, OutOfRange, DivideByZero, and TooMany for a string of more than
+/// `STRING_BYTES` bytes. Names are found by a search through the list.
 pub fn evaluate(alloc: Global, e: &Expr, names: &Names) -> Result<Value, EvalFault>
     ensures { meaning.Evaluates names.now e.now.items result }
 {

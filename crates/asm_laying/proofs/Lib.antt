@@ -4,4 +4,3 @@ pub mod EnterLemmas
 pub mod LayLemmas
 pub mod NumberLemmas
 pub mod ReadLemmas
-pub mod SeeLemmas

@@ -1,9 +1,9 @@
 -- What the statements before another say of it, as one record. SDT 2.50 Reference Guide, chapter on the assembler; how it is
 -- kept is this project's.
-use Rattle.std.specs.Prelude.{ℕ, suc, ◌+◌, ◌^◌, ◌≤◌, ◌<◌, List, length, if◌then◌else◌}
+use Rattle.std.specs.Prelude.{ℕ, ◌^◌, List}
 use Rattle.asm_model.specs.declared.statements.Statement.{Statement}
 use Rattle.asm_model.specs.declared.statements.What.{What}
-use Rattle.asm_model.specs.Before.{state_behind, thumb_behind, code_from, code_behind, begins_stretch, stretch_behind}
+use Rattle.asm_model.specs.Before.{state_behind, thumb_behind, code_from, code_behind}
 use Rattle.asm_laying.specs.declared.behind.Behind.{Behind}
 
 -- how many statements a source has at most
@@ -11,19 +11,8 @@ abbrev pub most_statements : ℕ
 most_statements = 2 ^ 20
 
 abbrev pub behind : List Statement → Behind
-behind before =
-    record { thumb = thumb_behind before; code = code_behind before; stretch = stretch_behind before; count = length before }
+behind before = record { thumb = thumb_behind before; code = code_behind before }
 
 -- the same, with a statement more
 abbrev pub stepped : What → Behind → Behind
-stepped w b = record {
-  thumb = state_behind w b.thumb;
-  code = code_from w b.code;
-  stretch = if begins_stretch w then b.stretch + 1 else b.stretch;
-  count = suc b.count;
-}
-
--- there may be a statement more
-pub record IsEarly (b : Behind) : Type 0 where
-  pub few : b.count < most_statements
-  pub stretch : b.stretch ≤ b.count
+stepped w b = record { thumb = state_behind w b.thumb; code = code_from w b.code }

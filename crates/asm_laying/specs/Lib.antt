@@ -1,7 +1,6 @@
 -- What the clauses of the crate cite.
 pub mod Behind
 pub mod Declaring
-pub mod Defining
 pub mod Laying
 pub mod Numbered
 pub mod Reading

@@ -2,7 +2,7 @@
 
 ghost use Rattle.std.specs.Prelude.{◌≡◌};
 ghost use Rattle.asm_model.specs.Before as before;
-ghost use Rattle.asm_laying.specs.Behind.{behind, stepped, IsEarly};
+ghost use Rattle.asm_laying.specs.Behind.{stepped};
 
 use asm_model::{Contents, DirectiveLine, What};
 
@@ -13,17 +13,12 @@ pub struct Behind {
     pub thumb: bool,
     /// Whether the last of them stands in a code area.
     pub code: bool,
-    /// The number of the last of their stretches, in each of which local labels count.
-    pub stretch: u32,
-    pub count: u32,
 }
 
 /// Before the first statement.
 pub const START: Behind = Behind {
     thumb: false,
     code: false,
-    stretch: 0,
-    count: 0,
 };
 
 fn state_behind(what: &What, thumb: bool) -> bool
@@ -54,32 +49,14 @@ fn code_from(what: &What, code: bool) -> bool
     }
 }
 
-fn begins_stretch(what: &What) -> bool
-    ensures { result ≡ before.begins_stretch what.now }
-{
-    match what {
-        What::Directive(DirectiveLine::Area { .. }) => true,
-        What::Directive(DirectiveLine::Rout) => true,
-        _ => false,
-    }
-}
-
 impl Behind {
     /// The same, with a statement more.
     pub fn stepped(self, what: &What) -> Behind
-        requires { IsEarly self }
         ensures { result ≡ stepped what.now self }
     {
-        let stretch = if begins_stretch(what) {
-            self.stretch + 1
-        } else {
-            self.stretch
-        };
         Behind {
             thumb: state_behind(what, self.thumb),
             code: code_from(what, self.code),
-            stretch,
-            count: self.count + 1,
         }
     }
 }

@@ -1,26 +1,21 @@
 //! What a statement's place needs of the values of its expressions.
 
-ghost use Rattle.std.specs.Prelude.{◌≡◌, [], ℕ, List, true, IfOk};
-ghost use Rattle.std.specs.Option.{option_copied};
-ghost use Rattle.asm_model.specs.AtLine.{made_name};
-ghost use Rattle.asm_model.specs.Meaning.{named_in};
+ghost use Rattle.std.specs.Prelude.{◌≡◌, List, IfOk};
+ghost use Rattle.asm_model.specs.AtLine.{made_name, seen_behind};
 ghost use Rattle.asm_model.specs.Entries.{equal_entry as entry_of_equal};
-ghost use Rattle.asm_model.specs.Laid.{reversed, sight_behind, LaidLine};
-ghost use Rattle.asm_model.specs.Locals as locals_model;
+ghost use Rattle.asm_model.specs.Laid.{lines_of, sight_behind, LaidLine};
 ghost use Rattle.said_model.specs.Said.{IsSaid};
+ghost use Rattle.asm_names.specs.Defining.{defined_of};
 ghost use Rattle.asm_names.specs.Sights.{sight_of};
-ghost use Rattle.asm_laying.specs.Declaring.{declared_in};
-ghost use Rattle.asm_laying.specs.Defining.{defined_of, listed};
-ghost use Rattle.asm_laying.specs.Laying as laying;
-ghost use Rattle.asm_laying.specs.Laying.{equal_names, DefinedRead, IsFound, ShowsLines};
+ghost use Rattle.asm_names.specs.Steps.{one_entry};
+ghost use Rattle.asm_laying.specs.Laying.{equal_names, DefinedRead, IsFound, IsSpot};
 
-use crate::declarations::Declarations;
-use crate::defining::{Defines, defined_by, own_entry};
 use crate::extents::{Taken, extent_of};
 use crate::values::{map_after, said_number, value_there};
-use asm_model::{DirectiveLine, Expr, LaidName, PseudoLine, RnOperand, Statement, Value, What};
+use asm_model::{LaidName, Statement, Value};
+use asm_names::defining::{Defines, defined_by, own_entry};
 use asm_names::made::equal_entry;
-use asm_names::{KnownNames, Locals, Place};
+use asm_names::{KnownNames, Place};
 use asm_offsets::Extent;
 use sdt_fault::kinds::LineKind;
 use sdt_fault::{List as Listed, NoMemory, Text};
@@ -36,10 +31,6 @@ pub struct Spot {
     pub thumb: bool,
     /// Whether its label is one of Thumb code.
     pub label_thumb: bool,
-    /// The number of its stretch of lines.
-    pub stretch: u32,
-    /// How many statements stand before it.
-    pub count: u32,
 }
 
 /// What laying a statement needs of the values of its expressions.
@@ -56,81 +47,6 @@ pub struct Found {
     pub strings: Listed<bool>,
 }
 
-fn align_needs(align: &Option<Expr>) -> bool
-    ensures { result ≡ laying.align_needs align.now }
-{
-    match align {
-        None => false,
-        Some(_) => true,
-    }
-}
-
-fn given_needs(given: &RnOperand) -> bool
-    ensures { result ≡ laying.given_needs given.now }
-{
-    match given {
-        RnOperand::Register(_) => false,
-        RnOperand::Number(_) => true,
-    }
-}
-
-fn directive_needs(line: &DirectiveLine) -> bool
-    ensures { result ≡ laying.directive_needs line.now }
-{
-    match line {
-        DirectiveLine::Area { attributes, .. } => align_needs(&attributes.align),
-        DirectiveLine::Rn { register } => given_needs(register),
-        DirectiveLine::Equ { .. } => true,
-        DirectiveLine::Dcb { .. } => true,
-        DirectiveLine::Space { .. } => true,
-        DirectiveLine::Align { .. } => true,
-        DirectiveLine::Map { .. } => true,
-        DirectiveLine::Field { .. } => true,
-        _ => false,
-    }
-}
-
-/// Whether values of a statement's expressions are needed where it is laid.
-fn needs_values(what: &What) -> bool
-    ensures { result ≡ laying.needs_values what.now }
-{
-    match what {
-        What::Pseudo(PseudoLine::LoadConstant { .. }) => true,
-        What::Directive(line) => directive_needs(line),
-        _ => false,
-    }
-}
-
-/// What references of a statement name on its line and before, where it needs them.
-fn back_of(
-    alloc: Global,
-    locals: &Locals,
-    spot: &Spot,
-    what: &What,
-) -> Result<Vec<LaidName>, NoMemory>
-    ensures { IfOk result (λ names. laying.needs_values what.now ≡ true → (q : List ℕ) → named_in q names.items ≡ named_in q (locals_model.back_of spot.now.area spot.now.stretch spot.now.count [] (reversed locals.now []))) }
-{
-    if needs_values(what) {
-        return locals.back_entries(alloc, spot.area, spot.stretch, spot.count);
-    }
-    Ok(Vec::new(alloc))
-}
-
-/// What they name on later lines.
-fn forth_of(
-    alloc: Global,
-    locals: &Locals,
-    spot: &Spot,
-    what: &What,
-) -> Result<Vec<LaidName>, NoMemory>
-    ensures { IfOk result (λ names. laying.needs_values what.now ≡ true → (q : List ℕ) → named_in q names.items ≡ named_in q (locals_model.forth_of spot.now.area spot.now.stretch spot.now.count [] locals.now)) }
-{
-    if needs_values(what) {
-        return locals.forth_entries(alloc, spot.area, spot.stretch, spot.count);
-    }
-    Ok(Vec::new(alloc))
-}
-
 fn equal_with(
     alloc: Global,
     declared: &KnownNames,
@@ -138,7 +54,7 @@ fn equal_with(
     name: &Text,
     value: Result<Value, LineKind>,
 ) -> Result<Option<LaidName>, NoMemory>
-    ensures { IfOk result (λ entry. listed entry ≡ made_name (entry_of_equal declared.now area name.now) value) }
+    ensures { IfOk result (λ entry. one_entry entry ≡ made_name (entry_of_equal declared.now area name.now) value) }
 {
     match value {
         Ok(value) => {
@@ -157,7 +73,7 @@ fn equal_there(
     defines: &Defines<'_>,
 ) -> Result<Option<LaidName>, NoMemory>
     requires { DefinedRead (defined_of defines.now) }
-    ensures { IfOk result (λ entry. listed entry ≡ equal_names declared.now place.now.area (sight_of place.now) (defined_of defines.now)) }
+    ensures { IfOk result (λ entry. one_entry entry ≡ equal_names declared.now place.now.area (sight_of place.now) (defined_of defines.now)) }
 {
     match defines {
         Defines::Equal(name, e) => {
@@ -192,45 +108,16 @@ fn found_at(
     })
 }
 
-/// What a statement at a spot needs, where these names are known.
-fn find_with(
-    alloc: Global,
-    names: &KnownNames,
-    declared: &KnownNames,
-    own: Option<&LaidName>,
-    back: &[LaidName],
-    forth: &[LaidName],
-    spot: &Spot,
-    statement: &Statement,
-) -> Result<Found, NoMemory>
-    requires { IsSaid statement.now }
-    ensures { IfOk result (λ found. IsFound declared.now spot.now.area spot.now.map (laying.sight_shown names.now declared.now (option_copied own.entry) back.now forth.now spot.now) statement.now found) }
-{
-    let place = Place {
-        known: names,
-        declared,
-        own,
-        back,
-        forth,
-        area: spot.area,
-        offset: spot.offset,
-        map: spot.map,
-        thumb: spot.thumb,
-    };
-    found_at(alloc, declared, &place, statement)
-}
-
-/// What a statement needs, behind the lines that define these names and local labels.
+/// What a statement at a spot needs, behind the lines that define these names.
 pub fn find(
     alloc: Global,
     names: &KnownNames,
-    locals: &Locals,
-    declarations: &Declarations,
+    declared: &KnownNames,
     spot: &Spot,
     statement: &Statement,
 ) -> Result<Found, NoMemory>
     requires { IsSaid statement.now }
-    ensures { IfOk result (λ found. (before : List LaidLine) → ShowsLines (declared_in declarations.now) statement.now before names.now locals.now spot.now → IsFound declarations.now.names spot.now.area spot.now.map (sight_behind (declared_in declarations.now) statement.now before) statement.now found) }
+    ensures { IfOk result (λ found. (before : List LaidLine) → IsSpot statement.now before spot.now → names.now ≡ seen_behind declared.now (lines_of before) → IsFound declared.now spot.now.area spot.now.map (sight_behind declared.now statement.now before) statement.now found) }
 {
     let defines = defined_by(statement);
     let own = own_entry(
@@ -242,17 +129,15 @@ pub fn find(
         spot.label_thumb,
         spot.map,
     )?;
-    let back = back_of(alloc, locals, spot, &statement.what)?;
-    let forth = forth_of(alloc, &declarations.locals, spot, &statement.what)?;
-    let found = find_with(
-        alloc,
-        names,
-        &declarations.names,
-        own.as_ref(),
-        back.as_slice(),
-        forth.as_slice(),
-        spot,
-        statement,
-    )?;
+    let place = Place {
+        known: names,
+        declared,
+        own: own.as_ref(),
+        area: spot.area,
+        offset: spot.offset,
+        map: spot.map,
+        thumb: spot.thumb,
+    };
+    let found = found_at(alloc, declared, &place, statement)?;
     Ok(found)
 }

@@ -1,24 +1,25 @@
 //! The lines of a source, laid one behind the other.
 
-ghost use Rattle.std.specs.Prelude.{◌≡◌, ◌++◌, ◌*◌, ◌≤◌, [], ℕ, List, Ok, length, IfOk, OnOk};
+ghost use Rattle.std.specs.Prelude.{◌≡◌, ◌++◌, [], List, Ok, IfOk, OnOk};
+ghost use Rattle.asm_model.specs.declared.names.LaidName.{LaidName};
 ghost use Rattle.asm_model.specs.Labels as labels;
-ghost use Rattle.asm_model.specs.Laid.{all_locals, laid_behind, pieces_of, sight_behind, Declared, LaidLine};
-ghost use Rattle.said_model.specs.Said.{IsSaid, LocalSaid};
+ghost use Rattle.asm_model.specs.Laid.{laid_behind, pieces_of, sight_behind, LaidLine};
+ghost use Rattle.said_model.specs.Said.{IsSaid};
+ghost use Rattle.asm_names.specs.Defining.{own_entry as entry_of_own};
+ghost use Rattle.asm_names.specs.Steps.{one_entry};
 ghost use Rattle.asm_offsets.specs.Coded.{extent_of_code, IsExtent};
-ghost use Rattle.asm_offsets.specs.Running.{IsBehind};
-ghost use Rattle.asm_laying.specs.Behind.{most_statements};
-ghost use Rattle.asm_laying.specs.Declaring.{declared_in};
-ghost use Rattle.asm_laying.specs.Defining.{own_entry as entry_of_own, listed};
+ghost use Rattle.asm_offsets.specs.Running.{IsBehind, IsThere};
 ghost use Rattle.asm_laying.specs.Laying as laying;
 ghost use Rattle.asm_laying.specs.Reading.{string_marks};
 
 use crate::areas::Areas;
 use crate::behind::{Behind, START};
-use crate::declarations::{Declarations, add_entry, add_imported, add_local, is_thumb_label};
-use crate::defining::{defined_by, own_entry};
+use crate::declarations::is_thumb_label;
 use crate::finding::{Found, Spot, find};
 use asm_model::{LaidName, Statement};
-use asm_names::{KnownNames, Locals};
+use asm_names::KnownNames;
+use asm_names::defining::{defined_by, own_entry};
+use asm_names::listing::{add_entry, add_imported};
 use asm_offsets::{Ends, Extent, TooLarge, extents_are_placeable};
 use sdt_fault::kinds::LineKind;
 use sdt_fault::{List as Listed, NoMemory};
@@ -27,12 +28,8 @@ use std::alloc::Global;
 /// A statement with its place.
 #[derive(Debug, Drop)]
 pub struct Placed {
-    /// How many statements stand before it.
-    pub number: u32,
     /// Its area, counted from 0; None before the first.
     pub area: Option<u32>,
-    /// The number of the stretch of lines in which its local labels count.
-    pub stretch: u32,
     pub offset: u32,
     /// In bytes.
     pub size: u32,
@@ -69,8 +66,6 @@ pub struct Laying {
     map: u32,
     /// The names that are known.
     names: KnownNames,
-    /// The local labels so far.
-    locals: Locals,
 }
 
 /// The names that a statement adds to those that are known.
@@ -82,9 +77,7 @@ fn add_names(
     size: u32,
     equal: Option<LaidName>,
 ) -> Result<(), NoMemory>
-    requires few { length names.old ≤ 3 * most_statements }
-    requires short { LocalSaid (labels.defined_by statement.now) }
-    ensures { OnOk result (names.new ≡ names.old ++ listed (entry_of_own (labels.defined_by statement.now) spot.now.area spot.now.offset size spot.now.label_thumb spot.now.map) ++ listed equal ++ labels.imported_entries (labels.imported_in statement.now.what)) }
+    ensures { OnOk result (names.new ≡ names.old ++ one_entry (entry_of_own (labels.defined_by statement.now) spot.now.area spot.now.offset size spot.now.label_thumb spot.now.map) ++ one_entry equal ++ labels.imported_entries (labels.imported_in statement.now.what)) }
 {
     let defines = defined_by(statement);
     let own = own_entry(
@@ -96,50 +89,33 @@ fn add_names(
         spot.label_thumb,
         spot.map,
     )?;
-    add_entry(names, alloc, own)?;
-    add_entry(names, alloc, equal)?;
-    add_imported(names, alloc, &statement.what)
-}
-
-/// What is left of laying behind the last line.
-#[derive(Debug, Drop)]
-pub struct Ended {
-    pub ends: Ends,
-    pub locals: Locals,
+    add_entry(alloc, names, own)?;
+    add_entry(alloc, names, equal)?;
+    add_imported(alloc, names, &statement.what)
 }
 
 impl Laying {
     /// Before the first line.
     pub fn new(alloc: Global) -> Laying
-        ensures { (d : Declared) → laying.IsLaying d [] result }
+        ensures { (declared : List LaidName) → laying.IsLaying declared [] result }
     {
         Laying {
             behind: START,
             areas: Areas::new(alloc),
             map: 0,
             names: KnownNames::new(alloc),
-            locals: Locals::new(alloc),
         }
     }
 
-    /// Reaches a statement: its area, its offset and its local label.
+    /// Reaches a statement: its area and its offset.
     fn enter(&mut self, alloc: Global, statement: &Statement) -> Result<Spot, NoMemory>
-        requires may { laying.MayStep self.old }
-        requires said { IsSaid statement.now }
-        ensures { IfOk result (λ spot. (d : Declared) (before : List LaidLine) → laying.IsLaying d before self.old → laying.Reaches d statement.now before self.new spot) }
+        requires { laying.MayStep self.old }
+        ensures { IfOk result (λ spot. (declared : List LaidName) (before : List LaidLine) → laying.IsLaying declared before self.old → laying.Reaches declared statement.now before self.new spot) }
     {
-        let defines = defined_by(statement);
         let behind = self.behind;
         let next = behind.stepped(&statement.what);
         self.areas.enter(alloc, &statement.what)?;
         let offset = self.areas.start(&statement.what, behind.thumb);
-        add_local(
-            &mut self.locals,
-            &defines,
-            next.stretch,
-            behind.count,
-            offset,
-        )?;
         self.behind = next;
         let label_thumb = is_thumb_label(behind.thumb, next.code);
         Ok(Spot {
@@ -148,8 +124,6 @@ impl Laying {
             map: self.map,
             thumb: behind.thumb,
             label_thumb,
-            stretch: next.stretch,
-            count: behind.count,
         })
     }
 
@@ -164,10 +138,9 @@ impl Laying {
         equal: Option<LaidName>,
         strings: Listed<bool>,
     ) -> Result<Result<Placed, LineKind>, NoMemory>
-        requires may { laying.MayPlace self.old spot.now }
+        requires there { IsThere spot.now.area self.old.areas.ends }
         requires extent { IsExtent (extent_of_code extent) }
-        requires short { LocalSaid (labels.defined_by statement.now) }
-        ensures { (d : Declared) (before : List LaidLine) → laying.Reaches d statement.now before self.old spot.now → laying.AreNeeded d.names spot.now.area spot.now.map (sight_behind d statement.now before) statement.now (Ok extent) (Ok map) equal → strings ≡ string_marks (sight_behind d statement.now before) statement.now.what → IfOk result (λ placed. laying.IsPlaced d (laid_behind d statement.now before) before self.new placed) }
+        ensures { (declared : List LaidName) (before : List LaidLine) → laying.Reaches declared statement.now before self.old spot.now → laying.AreNeeded declared spot.now.area spot.now.map (sight_behind declared statement.now before) statement.now (Ok extent) (Ok map) equal → strings ≡ string_marks (sight_behind declared statement.now before) statement.now.what → IfOk result (λ placed. laying.IsPlaced declared (laid_behind declared statement.now before) before self.new placed) }
     {
         let placed = self.areas.ends.place(spot.area, extent)?;
         match placed {
@@ -176,9 +149,7 @@ impl Laying {
                 self.map = map;
                 add_names(&mut self.names, alloc, statement, spot, placed.size, equal)?;
                 Ok(Ok(Placed {
-                    number: spot.count,
                     area: spot.area,
-                    stretch: spot.stretch,
                     offset: placed.offset,
                     size: placed.size,
                     thumb: spot.thumb,
@@ -202,10 +173,9 @@ impl Laying {
         equal: Option<LaidName>,
         strings: Listed<bool>,
     ) -> Result<Result<Placed, LineKind>, NoMemory>
-        requires may { laying.MayPlace self.old spot.now }
+        requires there { IsThere spot.now.area self.old.areas.ends }
         requires extent { IsExtent (extent_of_code extent) }
-        requires short { LocalSaid (labels.defined_by statement.now) }
-        ensures { (d : Declared) (before : List LaidLine) → laying.Reaches d statement.now before self.old spot.now → laying.AreNeeded d.names spot.now.area spot.now.map (sight_behind d statement.now before) statement.now (Ok extent) map equal → strings ≡ string_marks (sight_behind d statement.now before) statement.now.what → IfOk result (λ placed. laying.IsPlaced d (laid_behind d statement.now before) before self.new placed) }
+        ensures { (declared : List LaidName) (before : List LaidLine) → laying.Reaches declared statement.now before self.old spot.now → laying.AreNeeded declared spot.now.area spot.now.map (sight_behind declared statement.now before) statement.now (Ok extent) map equal → strings ≡ string_marks (sight_behind declared statement.now before) statement.now.what → IfOk result (λ placed. laying.IsPlaced declared (laid_behind declared statement.now before) before self.new placed) }
     {
         match map {
             Err(kind) => Ok(Err(kind)),
@@ -224,10 +194,9 @@ impl Laying {
         equal: Option<LaidName>,
         strings: Listed<bool>,
     ) -> Result<Result<Placed, LineKind>, NoMemory>
-        requires may { laying.MayPlace self.old spot.now }
+        requires there { IsThere spot.now.area self.old.areas.ends }
         requires extent { laying.OkExtent extent }
-        requires short { LocalSaid (labels.defined_by statement.now) }
-        ensures { (d : Declared) (before : List LaidLine) → laying.Reaches d statement.now before self.old spot.now → laying.AreNeeded d.names spot.now.area spot.now.map (sight_behind d statement.now before) statement.now extent map equal → strings ≡ string_marks (sight_behind d statement.now before) statement.now.what → IfOk result (λ placed. laying.IsPlaced d (laid_behind d statement.now before) before self.new placed) }
+        ensures { (declared : List LaidName) (before : List LaidLine) → laying.Reaches declared statement.now before self.old spot.now → laying.AreNeeded declared spot.now.area spot.now.map (sight_behind declared statement.now before) statement.now extent map equal → strings ≡ string_marks (sight_behind declared statement.now before) statement.now.what → IfOk result (λ placed. laying.IsPlaced declared (laid_behind declared statement.now before) before self.new placed) }
     {
         match extent {
             Err(kind) => Ok(Err(kind)),
@@ -235,38 +204,30 @@ impl Laying {
         }
     }
 
-    /// Behind the last line, what is left of laying: the areas' ends, and the local labels with their places.
-    pub fn end(self) -> Ended
-        ensures ends { (d : Declared) (before : List LaidLine) → laying.IsLaying d before self → IsBehind (pieces_of before) result.ends }
-        ensures locals { (d : Declared) (before : List LaidLine) → laying.IsLaying d before self → result.locals ≡ all_locals before }
+    /// The areas' ends, behind the last line.
+    pub fn end(self) -> Ends
+        ensures { (declared : List LaidName) (before : List LaidLine) → laying.IsLaying declared before self → IsBehind (pieces_of before) result }
     {
-        let Laying { areas, locals, .. } = self;
+        let Laying { areas, .. } = self;
         let Areas { ends, .. } = areas;
-        Ended { ends, locals }
+        ends
     }
 
-    /// Lays a statement behind the lines so far. Where it has a fault, or memory runs out, the state isn't to be used any
-    /// more.
+    /// Lays a statement behind the lines so far, in a source that declares these names. Where it has a fault, or memory
+    /// runs out, the state isn't to be used any more.
     pub fn lay(
         &mut self,
         alloc: Global,
-        declarations: &Declarations,
+        declared: &KnownNames,
         statement: &Statement,
     ) -> Result<Laid, NoMemory>
-        requires may { laying.MayLay (declared_in declarations.now) self.old }
+        requires may { laying.MayLay declared.now self.old }
         requires said { IsSaid statement.now }
-        ensures { (before : List LaidLine) → laying.IsLaying (declared_in declarations.now) before self.old → laying.Lays (declared_in declarations.now) (laid_behind (declared_in declarations.now) statement.now before) before self.new result }
+        ensures { (before : List LaidLine) → laying.IsLaying declared.now before self.old → laying.Lays declared.now (laid_behind declared.now statement.now before) before self.new result }
     {
         extents_are_placeable();
         let spot = self.enter(alloc, statement)?;
-        let found = find(
-            alloc,
-            &self.names,
-            &self.locals,
-            declarations,
-            &spot,
-            statement,
-        )?;
+        let found = find(alloc, &self.names, declared, &spot, statement)?;
         let Found {
             extent,
             map,

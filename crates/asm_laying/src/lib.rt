@@ -4,7 +4,6 @@
 pub mod areas;
 pub mod behind;
 pub mod declarations;
-pub mod defining;
 pub mod extents;
 pub mod finding;
 pub mod laying;

@@ -3,7 +3,6 @@ pub mod EntryLemmas
 pub mod ItemLemmas
 pub mod KnownLemmas
 pub mod PlaceLemmas
-pub mod SightLemmas
 pub mod ToldLemmas
 pub mod ValueLemmas
 pub mod CallLemmas
@@ -13,9 +12,6 @@ pub mod LookLemmas
 pub mod OrderLemmas
 pub mod SearchLemmas
 pub mod SettledLemmas
-mod NameLemmas
-mod LocalOrderLemmas
-mod TableLemmas
 pub mod LineLemmas
 mod MatchLemmas
 mod OnceLemmas

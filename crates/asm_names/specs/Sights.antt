@@ -1,6 +1,6 @@
 -- What an expression sees at its line, and the answers of evaluations there. ARM SDT 2.50 Reference Guide, chapter on
 -- the assembler; which names a line knows is this project's.
-use Rattle.std.specs.Prelude.{◌≡◌, ℕ, List, [], ◌∷◌, ◌++◌, Option, Some, None, Result, Ok, Err}
+use Rattle.std.specs.Prelude.{◌≡◌, ℕ, List, ◌++◌, Result, Ok, Err}
 use Rattle.std.specs.Option.{option_copied}
 use Rattle.sdt_fault.specs.declared.kinds.LineKind.{LineKind}
 use Rattle.asm_model.specs.declared.exprs.ExprItem.{ExprItem}
@@ -8,24 +8,19 @@ use Rattle.asm_model.specs.declared.exprs.Part.{Part}
 use Rattle.asm_model.specs.declared.values.Value.{Value}
 use Rattle.asm_model.specs.declared.values.EvalFault.{EvalFault}
 use Rattle.asm_model.specs.declared.values.EvalFault.TheVariants as eval
-use Rattle.asm_model.specs.declared.names.LaidName.{LaidName}
 use Rattle.asm_model.specs.AtLine.{Sight, value_at, literal_at}
 use Rattle.asm_model.specs.Grammar.{Tree, postfix, IsSpelled}
 use Rattle.asm_model.specs.Meaning.{IsValue}
 use Rattle.asm_model.specs.Extents.{as_number}
+use Rattle.asm_names.specs.Steps.{one_entry}
 use Rattle.asm_names.specs.declared.places.Place.{Place}
-
--- the entry of a line's own name, where it has one
-abbrev pub own_list : Option LaidName → List LaidName
-own_list None = []
-own_list (Some n) = n ∷ []
 
 -- what an expression sees at its place
 abbrev pub sight_of : Place → Sight
 sight_of p = record {
-  known = record { list = p.known.now ++ own_list (option_copied p.own) ++ p.back.now; area = p.area; offset = p.offset; map = p.map; thumb = p.thumb };
-  unsized = own_list (option_copied p.own);
-  all = p.declared.now ++ p.back.now ++ p.forth.now;
+  known = record { list = p.known.now ++ one_entry (option_copied p.own); area = p.area; offset = p.offset; map = p.map; thumb = p.thumb };
+  unsized = one_entry (option_copied p.own);
+  all = p.declared.now;
 }
 
 -- the value for the items of an expression that tokens may spell

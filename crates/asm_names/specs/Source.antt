@@ -1,23 +1,22 @@
 -- The lines of a source as its names are made of them, and the names that are known when only some expressions have been
 -- evaluated. SDT 2.50 Reference Guide, chapter on the assembler; this project's.
-use Rattle.std.specs.Prelude.{◌≡◌, ℕ, false, List, [], ◌∷◌, ◌++◌, Option, Some, None}
+use Rattle.std.specs.Prelude.{◌≡◌, ℕ, List, [], ◌∷◌, ◌++◌, Option, Some, None}
 use Rattle.std.specs.List.{slice_get}
 use Rattle.asm_model.specs.declared.exprs.Expr.{Expr}
 use Rattle.asm_model.specs.declared.exprs.Part.{Part}
 use Rattle.asm_model.specs.declared.names.LaidName.{LaidName}
 use Rattle.asm_model.specs.declared.statements.Statement.{Statement}
-use Rattle.asm_model.specs.declared.values.Value.TheVariants.{Number}
-use Rattle.asm_model.specs.AtLine.{SourceLine, with_names, all_names, made_name}
+use Rattle.asm_model.specs.AtLine.{with_names, made_name}
 use Rattle.asm_model.specs.Grammar.{Tree, postfix, IsSpelled}
 use Rattle.asm_model.specs.Meaning.{named_in, meaning}
-use Rattle.asm_model.specs.Entries.{label_entry, valued_entry, equal_entry}
-use Rattle.asm_model.specs.Labels.{Defined, Label, Equal, MapField, defined_by, imported_in, imported_entries, declared_names}
-use Rattle.asm_model.specs.Laid.{LaidLine, laid, all_locals}
-use Rattle.asm_model.specs.Locals.{Local}
+use Rattle.asm_model.specs.Entries.{equal_entry}
+use Rattle.asm_model.specs.Labels.{Defined, Equal, defined_by, imported_in, imported_entries, declared_names}
+use Rattle.asm_model.specs.Laid.{LaidLine, laid}
 use Rattle.asm_model.specs.Sound.{IsSound, ArePlain}
 use Rattle.asm_names.specs.Steps.{one_entry}
 use Rattle.asm_names.specs.declared.lines.PlacedLine.{PlacedLine}
-use Rattle.asm_names.specs.Lines.{IsLine, IsFinal}
+use Rattle.asm_names.specs.Defining.{own_entry}
+use Rattle.asm_names.specs.Lines.{IsLine, line_of}
 
 -- ---- a source
 
@@ -43,23 +42,20 @@ abbrev pub AreRead : List Statement → Type 0
 AreRead [] = Unit {0}
 AreRead (s ∷ before) = IsReadDefined (defined_by s) × AreRead before
 
--- a source without faults, with its lines, its local labels, and what is found under the names that it declares
-pub record IsSource (statements : List Statement) (lines : List PlacedLine) (locals : List Local) (declared : List LaidName) : Type 0 where
+-- a source without faults, with its lines, and what is found under the names that it declares
+pub record IsSource (statements : List Statement) (lines : List PlacedLine) (declared : List LaidName) : Type 0 where
   pub sound : IsSound statements
   pub plain : ArePlain statements
   pub read : AreRead statements
   pub each : AreLines statements lines
-  pub same : locals ≡ all_locals (laid statements)
   pub found : (q : List ℕ) → named_in q declared ≡ named_in q (declared_names statements)
 
 -- ---- entries of lines
 
 -- the entry of what a line defines, where names for expressions have those that are known
 abbrev pub own_entries : List LaidName → PlacedLine → Defined → List LaidName
-own_entries known x (Label name) = label_entry name x.area x.offset x.size x.thumb_label ∷ []
 own_entries known x (Equal name e) = one_entry (named_in name known)
-own_entries known x (MapField name) = valued_entry name (Number x.map) false ∷ []
-own_entries known x _ = []
+own_entries known x d = one_entry (own_entry d x.area x.offset x.size x.thumb_label x.map)
 
 abbrev pub line_entries : List LaidName → PlacedLine → List LaidName
 line_entries known x = own_entries known x (defined_by x.statement.now) ++ imported_entries (imported_in x.statement.now.what)
@@ -84,18 +80,18 @@ abbrev pub equal_pair : Owed → List ℕ × Expr
 equal_pair o = (o.name, o.value)
 
 -- the entry that a name has by these names, where its expression has a value
-abbrev pub IsEntryOf : List LaidName → List LaidName → List Local → Owed → Option LaidName → Type 0
-IsEntryOf known declared locals o entry =
-    (f : SourceLine) → IsFinal o.line locals f → (ps : List Part) (t : Tree) → IsSpelled ps t → o.value.items ≡ postfix t
-    → one_entry entry ≡ made_name (equal_entry declared o.line.area o.name) (meaning (with_names f (all_names known f)) t)
+abbrev pub IsEntryOf : List LaidName → List LaidName → Owed → Option LaidName → Type 0
+IsEntryOf known declared o entry =
+    (ps : List Part) (t : Tree) → IsSpelled ps t → o.value.items ≡ postfix t
+    → one_entry entry ≡ made_name (equal_entry declared o.line.area o.name) (meaning (with_names (line_of o.line) known) t)
 
-abbrev pub IsEntryAt : List LaidName → List LaidName → List Local → Option Owed → Option LaidName → Type 0
-IsEntryAt known declared locals None entry = Unit {0}
-IsEntryAt known declared locals (Some o) entry = IsEntryOf known declared locals o entry
+abbrev pub IsEntryAt : List LaidName → List LaidName → Option Owed → Option LaidName → Type 0
+IsEntryAt known declared None entry = Unit {0}
+IsEntryAt known declared (Some o) entry = IsEntryOf known declared o entry
 
 -- the names that are known behind some places, where each place's name has its entry by those before
-pub data Settles (declared : List LaidName) (locals : List Local) (all : List Owed) (first : List LaidName) : List ℕ → List LaidName → Type 0 where
-  begun : Settles declared locals all first [] first
-  further : (places : List ℕ) (known : List LaidName) (i : ℕ) (entry : Option LaidName) → Settles declared locals all first places known
-      → IsEntryAt known declared locals (slice_get all i) entry
-      → Settles declared locals all first (places ++ i ∷ []) (known ++ one_entry entry)
+pub data Settles (declared : List LaidName) (all : List Owed) (first : List LaidName) : List ℕ → List LaidName → Type 0 where
+  begun : Settles declared all first [] first
+  further : (places : List ℕ) (known : List LaidName) (i : ℕ) (entry : Option LaidName) → Settles declared all first places known
+      → IsEntryAt known declared (slice_get all i) entry
+      → Settles declared all first (places ++ i ∷ []) (known ++ one_entry entry)

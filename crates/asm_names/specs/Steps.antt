@@ -1,7 +1,7 @@
 -- Steps of the code over an expression's items, each operator behind its operands. This project's.
 use Rattle.std.specs.Prelude.{◌≡◌, ℕ, List, [], ◌∷◌, ◌++◌, Bool, true, false, Option, Some, None, Result, Ok, Err}
 use Rattle.sdt_fault.specs.declared.kinds.LineKind.{LineKind}
-use Rattle.sdt_fault.specs.declared.kinds.LineKind.TheVariants.{WrongType, Forward}
+use Rattle.sdt_fault.specs.declared.kinds.LineKind.TheVariants.{UnknownWord, WrongType, Forward}
 use Rattle.asm_model.specs.declared.exprs.ExprItem.{ExprItem}
 use Rattle.asm_model.specs.declared.exprs.ExprItem.TheVariants as item
 use Rattle.asm_model.specs.declared.exprs.UnaryOp.{UnaryOp}
@@ -35,7 +35,7 @@ name_asked s op q = value_kinds s q
 -- the fault of an item before an operator
 abbrev pub item_asked : Sight → Option UnaryOp → ExprItem → List LineKind
 item_asked s op (item.Name q) = name_asked s op q
-item_asked s op (item.Local q) = value_kinds s (124 ∷ q)
+item_asked s op (item.Local q) = UnknownWord ∷ []
 item_asked s op _ = []
 
 abbrev pub items_kinds : Sight → List ExprItem → List LineKind
@@ -79,7 +79,6 @@ with_symbol known (Some n) = n ∷ symbol_entry known n.value
 
 abbrev pub item_entries : List LaidName → ExprItem → List LaidName
 item_entries known (item.Name q) = with_symbol known (named_in q known)
-item_entries known (item.Local q) = with_symbol known (named_in (124 ∷ q) known)
 item_entries known (item.Constant v) = symbol_entry known v
 item_entries known _ = []
 

@@ -1,9 +1,9 @@
 //! Copies of entries and items.
 
-ghost use Rattle.std.specs.Prelude.{◌≡◌, ◌∷◌, IfOk};
+ghost use Rattle.std.specs.Prelude.{◌≡◌, IfOk};
 
 use asm_model::{ExprItem, LaidName};
-use sdt_fault::{NoMemory, Text};
+use sdt_fault::NoMemory;
 use std::alloc::Global;
 
 /// A copy of an entry.
@@ -36,13 +36,4 @@ pub fn item_copy(alloc: Global, item: &ExprItem) -> Result<ExprItem, NoMemory>
         ExprItem::Unary(op) => Ok(ExprItem::Unary(*op)),
         ExprItem::Binary(op) => Ok(ExprItem::Binary(*op)),
     }
-}
-
-/// The name under which a reference to a local label is found: its text behind a bar.
-pub fn barred(alloc: Global, reference: &Text) -> Result<Text, NoMemory>
-    ensures { IfOk result (λ name. name ≡ 124 ∷ reference.now) }
-{
-    let mut bytes = Vec::from_slice(alloc, b"|")?;
-    bytes.extend_from_slice(reference.as_slice())?;
-    Ok(Text::from_vec(bytes))
 }

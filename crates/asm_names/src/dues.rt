@@ -7,7 +7,7 @@ ghost use Rattle.asm_names.specs.Order.{IsOrder};
 ghost use Rattle.asm_names.specs.Owing.{owed_of};
 ghost use Rattle.asm_names.specs.Source.{owed_in, equal_pair};
 
-use crate::defined::{Defined, defined_by};
+use crate::defining::{Defines, defined_by};
 use crate::lines::PlacedLine;
 use crate::{Equal, order_of};
 use asm_model::Expr;
@@ -26,7 +26,7 @@ fn push_due<'a>(dues: &mut Vec<Due<'a>>, line: &PlacedLine<'a>) -> Result<(), No
     ensures { OnOk result (map owed_of dues.new.items ≡ map owed_of dues.old.items ++ owed_in line.now) }
 {
     let line = *line;
-    if let Defined::Equal(name, value) = defined_by(line.statement) {
+    if let Defines::Equal(name, value) = defined_by(line.statement) {
         dues.push(Due { name, value, line })?;
     }
     Ok(())

@@ -6,7 +6,7 @@ ghost use Rattle.asm_model.specs.Meaning.{named_in};
 ghost use Rattle.asm_names.specs.Sights.{sight_of};
 ghost use Rattle.asm_names.specs.Steps as steps;
 
-use crate::copies::{barred, entry_copy};
+use crate::copies::entry_copy;
 use crate::places::{Place, known_named};
 use asm_model::{ExprItem, LaidName, Names, Value};
 use sdt_fault::{List, NoMemory, Text};
@@ -85,10 +85,6 @@ fn push_item(
 {
     match item {
         ExprItem::Name(name) => push_named(alloc, list, place, name),
-        ExprItem::Local(reference) => {
-            let name = barred(alloc, reference)?;
-            push_named(alloc, list, place, &name)
-        }
         ExprItem::Constant(value) => push_symbol(alloc, list, place, value),
         _ => Ok(()),
     }

@@ -1,18 +1,16 @@
 //! Faults of the names in an expression.
 
-ghost use Rattle.std.specs.Prelude.{◌≡◌, ◌∷◌, IfOk};
+ghost use Rattle.std.specs.Prelude.{◌≡◌};
 ghost use Rattle.asm_model.specs.AtLine as at_line;
 ghost use Rattle.asm_model.specs.Kinds.{told_kind};
 ghost use Rattle.asm_names.specs.Sights.{sight_of};
 ghost use Rattle.asm_names.specs.Steps as steps;
 
-use crate::copies::barred;
 use crate::places::{Place, is_declared, is_known, is_own};
 use asm_expr::told::first_told;
 use asm_model::{ExprItem, UnaryOp};
 use sdt_fault::kinds::LineKind;
-use sdt_fault::{NoMemory, Text};
-use std::alloc::Global;
+use sdt_fault::Text;
 
 /// Why a name isn't known.
 fn unknown_kind(place: &Place<'_>, name: &Text) -> LineKind
@@ -69,21 +67,13 @@ fn name_fault(place: &Place<'_>, operator: Option<UnaryOp>, name: &Text) -> Opti
 }
 
 /// The fault of an item before an operator.
-fn item_fault(
-    alloc: Global,
-    place: &Place<'_>,
-    operator: Option<UnaryOp>,
-    item: &ExprItem,
-) -> Result<Option<LineKind>, NoMemory>
-    ensures { IfOk result (λ fault. fault ≡ told_kind (steps.item_asked (sight_of place.now) operator item.now)) }
+fn item_fault(place: &Place<'_>, operator: Option<UnaryOp>, item: &ExprItem) -> Option<LineKind>
+    ensures { result ≡ told_kind (steps.item_asked (sight_of place.now) operator item.now) }
 {
     match item {
-        ExprItem::Name(name) => Ok(name_fault(place, operator, name)),
-        ExprItem::Local(reference) => {
-            let name = barred(alloc, reference)?;
-            Ok(value_fault(place, &name))
-        }
-        _ => Ok(None),
+        ExprItem::Name(name) => name_fault(place, operator, name),
+        ExprItem::Local(_) => Some(LineKind::UnknownWord),
+        _ => None,
     }
 }
 
@@ -99,33 +89,27 @@ pub fn operator_first(items: &[ExprItem]) -> Option<UnaryOp>
 
 /// What is told of an item, before others, and of what was told before.
 fn told_with(
-    alloc: Global,
     place: &Place<'_>,
     told: Option<LineKind>,
     item: &ExprItem,
     behind: &[ExprItem],
-) -> Result<Option<LineKind>, NoMemory>
-    ensures { IfOk result (λ fault. fault ≡ steps.told_with (sight_of place.now) told item.now behind.now) }
+) -> Option<LineKind>
+    ensures { result ≡ steps.told_with (sight_of place.now) told item.now behind.now }
 {
-    let fault = item_fault(alloc, place, operator_first(behind), item)?;
-    Ok(first_told(told, fault))
+    first_told(told, item_fault(place, operator_first(behind), item))
 }
 
 /// The fault of the names in items that is told.
-pub fn names_fault(
-    alloc: Global,
-    place: &Place<'_>,
-    items: &[ExprItem],
-) -> Result<Option<LineKind>, NoMemory>
-    ensures { IfOk result (λ fault. fault ≡ steps.told_through (sight_of place.now) None items.now) }
+pub fn names_fault(place: &Place<'_>, items: &[ExprItem]) -> Option<LineKind>
+    ensures { result ≡ steps.told_through (sight_of place.now) None items.now }
 {
     let mut told = None;
     let mut left = items;
     'items: loop {
         match left {
-            [] => return Ok(told),
+            [] => return told,
             [item, behind @ ..] => {
-                told = told_with(alloc, place, told, item, behind)?;
+                told = told_with(place, told, item, behind);
                 left = behind;
             }
         }

@@ -6,12 +6,8 @@ use asm_model::Statement;
 #[derive(Clone, Copy, Debug)]
 pub struct PlacedLine<'a> {
     pub statement: &'a Statement,
-    /// The statement's number, counted from 0.
-    pub number: u32,
     /// The statement's area, counted from 0; None before the first.
     pub area: Option<u32>,
-    /// The number of the stretch of lines in which its local labels count.
-    pub stretch: u32,
     /// The statement's offset in its area.
     pub offset: u32,
     /// In bytes.

@@ -9,10 +9,10 @@ ghost use Rattle.asm_names.specs.Source.{own_entries, line_entries};
 
 use crate::KnownNames;
 use crate::copies::entry_copy;
-use crate::defined::{Defined, defined_by};
+use crate::defining::{Defines, defined_by, own_entry};
 use crate::lines::PlacedLine;
-use crate::made::{imported_entry, imported_name, label_entry, valued_entry};
-use asm_model::{LaidName, Value};
+use crate::made::{imported_entry, imported_name};
+use asm_model::{LaidName, What};
 use sdt_fault::{NoMemory, Text};
 use std::alloc::Global;
 
@@ -27,7 +27,7 @@ fn entry_named(alloc: Global, known: &KnownNames, name: &Text) -> Result<Option<
 }
 
 /// The entry of what a line defines, where names for expressions have those that are known.
-fn own_entry(
+fn entry_in(
     alloc: Global,
     known: &KnownNames,
     line: &PlacedLine<'_>,
@@ -35,33 +35,16 @@ fn own_entry(
     ensures { IfOk result (λ entry. one_entry entry ≡ own_entries known.now line.now (definition_in line.now.statement.now)) }
 {
     match defined_by(line.statement) {
-        Defined::Nothing => Ok(None),
-        Defined::Label(name) => {
-            let entry = label_entry(
-                alloc,
-                name,
-                line.area,
-                line.offset,
-                line.size,
-                line.thumb_label,
-            )?;
-            Ok(Some(entry))
-        }
-        Defined::Equal(name, _) => entry_named(alloc, known, name),
-        Defined::MapField(name) => {
-            let entry = valued_entry(alloc, name, Value::Number(line.map), false)?;
-            Ok(Some(entry))
-        }
-    }
-}
-
-/// The entry of the name that a line imports.
-fn import_of(alloc: Global, line: &PlacedLine<'_>) -> Result<Option<LaidName>, NoMemory>
-    ensures { IfOk result (λ entry. one_entry entry ≡ imported_entries (import_in line.now.statement.now.what)) }
-{
-    match imported_name(&line.statement.what) {
-        None => Ok(None),
-        Some(name) => Ok(Some(imported_entry(alloc, name)?)),
+        Defines::Equal(name, _) => entry_named(alloc, known, name),
+        defines => own_entry(
+            alloc,
+            &defines,
+            line.area,
+            line.offset,
+            line.size,
+            line.thumb_label,
+            line.map,
+        ),
     }
 }
 
@@ -82,6 +65,19 @@ pub fn add_entry(
     names.add(alloc, entry)
 }
 
+/// The entry of the name that a statement imports.
+pub fn add_imported(alloc: Global, names: &mut KnownNames, what: &What) -> Result<(), NoMemory>
+    ensures { OnOk result (names.new ≡ names.old ++ imported_entries (import_in what.now)) }
+{
+    match imported_name(what) {
+        None => Ok(()),
+        Some(name) => {
+            let entry = imported_entry(alloc, name)?;
+            add_entry(alloc, names, Some(entry))
+        }
+    }
+}
+
 fn add_line(
     alloc: Global,
     names: &mut KnownNames,
@@ -90,10 +86,9 @@ fn add_line(
 ) -> Result<(), NoMemory>
     ensures { OnOk result (names.new ≡ names.old ++ line_entries known.now line.now) }
 {
-    let own = own_entry(alloc, known, line)?;
+    let own = entry_in(alloc, known, line)?;
     add_entry(alloc, names, own)?;
-    let import = import_of(alloc, line)?;
-    add_entry(alloc, names, import)
+    add_imported(alloc, names, &line.statement.what)
 }
 
 /// The entries of lines, where names for expressions have those that are known.

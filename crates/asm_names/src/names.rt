@@ -9,19 +9,18 @@ use crate::dues::{dues_of, places_of};
 use crate::lines::PlacedLine;
 use crate::listing::entries_of;
 use crate::settling::settled;
-use crate::{KnownNames, Locals};
+use crate::KnownNames;
 use sdt_fault::NoMemory;
 use std::alloc::Global;
 
-/// All names of a source whose lines and local labels these are, and which declares these names; of the entries of the
-/// last the mark for Thumb code counts alone.
+/// All names of a source whose lines these are, and which declares these names; of the entries of the last the mark for
+/// Thumb code counts alone.
 pub fn final_names(
     alloc: Global,
     lines: &[PlacedLine<'_>],
-    locals: &Locals,
     declared: &KnownNames,
 ) -> Result<KnownNames, NoMemory>
-    ensures { (statements : List Statement) → IsSource statements lines.now locals.now declared.now → IfOk result (λ names. names ≡ laying.final_names (laying.laid statements)) }
+    ensures { (statements : List Statement) → IsSource statements lines.now declared.now → IfOk result (λ names. names ≡ laying.final_names (laying.laid statements)) }
 {
     let dues = dues_of(alloc, lines)?;
     let places = places_of(alloc, dues.as_slice())?;
@@ -30,7 +29,6 @@ pub fn final_names(
         alloc,
         first,
         declared,
-        locals,
         dues.as_slice(),
         places.as_slice(),
     )?;

@@ -4,11 +4,11 @@ ghost use Rattle.std.specs.Prelude.{◌≡◌};
 ghost use Rattle.std.specs.Option.{option_copied};
 ghost use Rattle.asm_model.specs.AtLine.{is_in};
 ghost use Rattle.asm_model.specs.Meaning.{named_in};
-ghost use Rattle.asm_expr.specs.Evaluating.{entry as entry_at};
-ghost use Rattle.asm_names.specs.Sights.{own_list, sight_of};
+ghost use Rattle.asm_names.specs.Sights.{sight_of};
+ghost use Rattle.asm_names.specs.Steps.{one_entry};
 
 use crate::known::KnownNames;
-use asm_expr::slots::{find, is};
+use asm_expr::slots::is;
 use asm_model::LaidName;
 use sdt_fault::Text;
 
@@ -21,10 +21,6 @@ pub struct Place<'a> {
     pub declared: &'a KnownNames,
     /// The line's own label; its size isn't known yet.
     pub own: Option<&'a LaidName>,
-    /// What references to local labels on this line and before it name, each under its text behind a bar.
-    pub back: &'a [LaidName],
-    /// And on later lines; of these entries too the names alone count.
-    pub forth: &'a [LaidName],
     /// The statement's area, counted from 0; None before the first.
     pub area: Option<u32>,
     /// The statement's offset in its area.
@@ -34,26 +30,9 @@ pub struct Place<'a> {
     pub thumb: bool,
 }
 
-/// The entry at a place of a list.
-fn entry_in(list: &[LaidName], place: Option<usize>) -> Option<&LaidName>
-    ensures { option_copied result ≡ entry_at list.now place }
-{
-    match place {
-        None => None,
-        Some(at) => list.get(at),
-    }
-}
-
-/// The first entry with the name, by a search: for the few local labels that one line refers to.
-fn named<'a>(list: &'a [LaidName], name: &Text) -> Option<&'a LaidName>
-    ensures { option_copied result ≡ named_in name.now list.now }
-{
-    entry_in(list, find(list, name.as_slice()))
-}
-
 /// The line's own label, where it has the name.
 fn own_named<'a>(own: Option<&'a LaidName>, name: &Text) -> Option<&'a LaidName>
-    ensures { option_copied result ≡ named_in name.now (own_list (option_copied own.entry)) }
+    ensures { option_copied result ≡ named_in name.now (one_entry (option_copied own.entry)) }
 {
     match own {
         None => None,
@@ -74,10 +53,7 @@ pub fn known_named<'a>(place: &Place<'a>, name: &Text) -> Option<&'a LaidName>
     if let Some(entry) = known.find(name) {
         return Some(entry);
     }
-    if let Some(entry) = own_named(place.own, name) {
-        return Some(entry);
-    }
-    named(place.back, name)
+    own_named(place.own, name)
 }
 
 /// Whether the line knows a name.
@@ -94,29 +70,10 @@ pub fn is_own(place: &Place<'_>, name: &Text) -> bool
     own_named(place.own, name).is_some()
 }
 
-/// Whether names have a name.
-fn is_among(names: &KnownNames, name: &Text) -> bool
-    ensures { result ≡ is_in names.now name.now }
-{
-    names.find(name).is_some()
-}
-
-/// Whether entries have a name.
-fn is_named(list: &[LaidName], name: &Text) -> bool
-    ensures { result ≡ is_in list.now name.now }
-{
-    named(list, name).is_some()
-}
-
 /// Whether the source has a name.
 pub fn is_declared(place: &Place<'_>, name: &Text) -> bool
     ensures { result ≡ is_in (sight_of place.now).all name.now }
 {
-    if is_among(place.declared, name) {
-        return true;
-    }
-    if is_named(place.back, name) {
-        return true;
-    }
-    is_named(place.forth, name)
+    let declared = place.declared;
+    declared.find(name).is_some()
 }

@@ -6,10 +6,10 @@ ghost use Rattle.asm_names.specs.Owing.{owed_of};
 ghost use Rattle.asm_names.specs.Source.{IsEntryOf, IsEntryAt, Settles};
 
 use crate::dues::Due;
-use crate::final_values::{final_value, references_of};
+use crate::final_values::final_value;
 use crate::listing::add_entry;
 use crate::made::equal_entry;
-use crate::{KnownNames, Locals};
+use crate::KnownNames;
 use asm_model::{EvalFault, LaidName};
 use sdt_fault::NoMemory;
 use std::alloc::Global;
@@ -19,14 +19,12 @@ fn entry_of(
     alloc: Global,
     known: &KnownNames,
     declared: &KnownNames,
-    locals: &Locals,
     due: &Due<'_>,
 ) -> Result<Option<LaidName>, NoMemory>
-    ensures { IfOk result (λ entry. IsEntryOf known.now declared.now locals.now (owed_of due.now) entry) }
+    ensures { IfOk result (λ entry. IsEntryOf known.now declared.now (owed_of due.now) entry) }
 {
     let line = due.line;
-    let references = references_of(alloc, &line, locals)?;
-    match final_value(alloc, due.value, known, &line, references.as_slice()) {
+    match final_value(alloc, due.value, known, &line) {
         Ok(value) => {
             let entry = equal_entry(alloc, declared, line.area, due.name, value)?;
             Ok(Some(entry))
@@ -40,15 +38,14 @@ fn entry_at(
     alloc: Global,
     known: &KnownNames,
     declared: &KnownNames,
-    locals: &Locals,
     dues: &[Due<'_>],
     place: u32,
 ) -> Result<Option<LaidName>, NoMemory>
-    ensures { IfOk result (λ entry. IsEntryAt known.now declared.now locals.now (slice_get (map owed_of dues.now) place) entry) }
+    ensures { IfOk result (λ entry. IsEntryAt known.now declared.now (slice_get (map owed_of dues.now) place) entry) }
 {
     match dues.get(place as usize) {
         None => Ok(None),
-        Some(due) => entry_of(alloc, known, declared, locals, due),
+        Some(due) => entry_of(alloc, known, declared, due),
     }
 }
 
@@ -57,15 +54,14 @@ pub fn settled(
     alloc: Global,
     first: KnownNames,
     declared: &KnownNames,
-    locals: &Locals,
     dues: &[Due<'_>],
     places: &[u32],
 ) -> Result<KnownNames, NoMemory>
-    ensures { IfOk result (λ known. Settles declared.now locals.now (map owed_of dues.now) first places.now known) }
+    ensures { IfOk result (λ known. Settles declared.now (map owed_of dues.now) first places.now known) }
 {
     let mut known = first;
     'places: for place in places {
-        let entry = entry_at(alloc, &known, declared, locals, dues, *place)?;
+        let entry = entry_at(alloc, &known, declared, dues, *place)?;
         add_entry(alloc, &mut known, entry)?;
     }
     Ok(known)

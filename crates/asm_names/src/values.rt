@@ -46,7 +46,7 @@ pub fn value_with(alloc: Global, e: &Expr, place: &Place<'_>) -> Result<Value, E
 pub fn value_at(alloc: Global, e: &Expr, place: &Place<'_>) -> Result<Value, EvalFault>
     ensures { SeesValue (sight_of place.now) e.now.items result }
 {
-    if let Some(kind) = names_fault(alloc, place, e.items.as_slice())? {
+    if let Some(kind) = names_fault(place, e.items.as_slice()) {
         return Err(EvalFault::Kind(kind));
     }
     value_with(alloc, e, place)

@@ -26,12 +26,8 @@ pub struct LaidArea {
 #[derive(Debug, Drop)]
 pub struct LaidStatement {
     pub statement: Statement,
-    /// How many statements stand before it.
-    pub number: u32,
     /// The statement's area, counted from 0; None before the first.
     pub area: Option<u32>,
-    /// The number of the stretch of lines in which its local labels count.
-    pub stretch: u32,
     /// The statement's offset in its area.
     pub offset: u32,
     /// In bytes.

@@ -1,15 +1,15 @@
--- What a statement defines, as code keeps it, and the entries of its names. This project's.
-use Rattle.std.specs.Prelude.{ℕ, List, [], ◌∷◌, Bool, false, Option, Some, None}
+-- What a statement defines, as code keeps it, and the entry of its name. SDT 2.50 Reference Guide, chapter on the
+-- assembler; how it is kept is this project's.
+use Rattle.std.specs.Prelude.{ℕ, Bool, false, Option, Some, None}
 use Rattle.asm_model.specs.declared.values.Value.TheVariants.{Number}
 use Rattle.asm_model.specs.declared.names.LaidName.{LaidName}
 use Rattle.asm_model.specs.Entries.{label_entry, valued_entry}
-use Rattle.asm_model.specs.Labels.{Defined, Unnamed, LocalLabel, Label, Equal, MapField, RegisterName}
-use Rattle.asm_laying.specs.declared.defining.Defines.{Defines}
-use Rattle.asm_laying.specs.declared.defining.Defines.TheVariants as code
+use Rattle.asm_model.specs.Labels.{Defined, Unnamed, Label, Equal, MapField, RegisterName}
+use Rattle.asm_names.specs.declared.defining.Defines.{Defines}
+use Rattle.asm_names.specs.declared.defining.Defines.TheVariants as code
 
 abbrev pub defined_of : Defines → Defined
 defined_of code.Unnamed = Unnamed
-defined_of (code.LocalLabel n) = LocalLabel n
 defined_of (code.Label name) = Label name.now
 defined_of (code.Equal name e) = Equal name.now e.now
 defined_of (code.MapField name) = MapField name.now
@@ -20,12 +20,3 @@ abbrev pub own_entry : Defined → Option ℕ → ℕ → ℕ → Bool → ℕ �
 own_entry (Label name) area offset size thumb map = Some (label_entry name area offset size thumb)
 own_entry (MapField name) area offset size thumb map = Some (valued_entry name (Number map) false)
 own_entry _ area offset size thumb map = None
-
--- the entry of a name of the source, without place and value
-abbrev pub declared_entry : Defined → Bool → Option LaidName
-declared_entry (Equal name e) thumb = Some (valued_entry name (Number 0) false)
-declared_entry d thumb = own_entry d None 0 0 thumb 0
-
-abbrev pub listed : Option LaidName → List LaidName
-listed None = []
-listed (Some n) = n ∷ []
