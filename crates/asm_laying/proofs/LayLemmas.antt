@@ -1,5 +1,5 @@
 -- A line more.
-use Rattle.std.proofs.Common.{◌≡◌, ◌<◌, ◌≤◌, ℕ, suc, ◌+◌, ◌*◌, ◌%◌, ◌^◌, Bool, true, false, List, [], ◌∷◌, ◌++◌, length, Option, Some, None, refl, sym, ap, ◌∙◌, subst, arith, length-append, nat_lt, min, slice_get, append-nil, append_assoc}
+use Rattle.std.proofs.Common.{◌≡◌, ◌<◌, ◌≤◌, ℕ, ◌+◌, ◌%◌, ◌^◌, Bool, true, false, List, [], ◌∷◌, ◌++◌, length, Option, Some, None, refl, sym, ap, ◌∙◌, subst, arith, nat_lt, min, slice_get, append-nil, append_assoc}
 use Rattle.std.specs.Prelude.{Result, Ok, Err}
 use Rattle.std.proofs.lemmas.Bool.{lt-ltb, le-ltb}
 use Rattle.sdt_fault.specs.declared.kinds.LineKind.{LineKind}
@@ -7,7 +7,7 @@ use Rattle.sdt_fault.specs.declared.kinds.LineKind.TheVariants.{Syntax, UnknownW
 use Rattle.asm_model.specs.declared.directives.DirectiveLine.{DirectiveLine}
 use Rattle.asm_model.specs.declared.directives.DirectiveLine.TheVariants as line
 use Rattle.asm_model.specs.declared.values.Value.{Value}
-use Rattle.asm_model.specs.declared.names.LaidName.{LaidName}
+use Rattle.asm_model.specs.declared.LaidName.{LaidName}
 use Rattle.asm_model.specs.declared.statements.Statement.{Statement}
 use Rattle.asm_model.specs.declared.statements.What.{What}
 use Rattle.asm_model.specs.declared.statements.What.TheVariants as what
@@ -18,8 +18,8 @@ use Rattle.asm_model.specs.Says.{mapped}
 use Rattle.asm_model.specs.Before.{area_behind, is_thumb_label}
 use Rattle.asm_model.specs.Entries.{equal_entry}
 use Rattle.asm_model.specs.Extents.{Extent, Block, Padding, Loading, Pool, number_there, tree_value, extent_of}
-use Rattle.asm_model.specs.Labels.{Defined, Unnamed, LocalLabel, Label, Equal, MapField, RegisterName, defined_by, imported_in, imported_entries}
-use Rattle.asm_model.specs.Laid.{Declared, LaidLine, reversed, statements_of, lines_of, taken, pieces_of, map_behind, map_from, added, set_or, offset_behind, tree_equated, definition_of, line_behind, imported_lines, sight_behind, laid_behind}
+use Rattle.asm_model.specs.Labels.{Defined, Unnamed, Label, Equal, MapField, RegisterName, defined_by, imported_in, imported_entries}
+use Rattle.asm_model.specs.Laid.{LaidLine, statements_of, lines_of, taken, pieces_of, map_behind, map_from, added, set_or, offset_behind, tree_equated, definition_of, line_behind, imported_lines, sight_behind, laid_behind}
 use Rattle.asm_model.specs.LayoutKinds.{fault_kinds, kind_if, map_kinds, area_bytes}
 use Rattle.asm_model.specs.Offsets.{Piece, offset_of, size_behind, start_in}
 use Rattle.asm_model.specs.Trees.{tree_of}
@@ -30,16 +30,14 @@ use Rattle.asm_offsets.specs.Coded.{extent_of_code, IsExtent}
 use Rattle.asm_offsets.specs.Running.{Standing, piece, IsStanding, IsBehind, IsPlaced, IsThere, entry_behind}
 use Rattle.asm_offsets.specs.Laws.{ExtentsArePlaceable}
 use Rattle.asm_expr.specs.Places.{number_in}
-use Rattle.asm_names.specs.Found.{AllBefore}
-use Rattle.asm_laying.specs.declared.behind.Behind.{Behind}
 use Rattle.asm_laying.specs.declared.finding.Spot.{Spot}
 use Rattle.asm_laying.specs.declared.laying.Laying.{Laying}
 use Rattle.asm_laying.specs.declared.laying.Placed.{Placed}
-use Rattle.asm_laying.specs.Behind.{most_statements}
-use Rattle.asm_laying.specs.Defining.{own_entry, listed}
-use Rattle.asm_laying.specs.Laying.{IsAt, IsSpot, AreNeeded, Reaches, ShowsLines, MayPlace, OkExtent, equal_names, told_of, IsLaid, IsPlaced as IsPlacedLine, Tells}
+use Rattle.asm_names.specs.Defining.{own_entry}
+use Rattle.asm_names.specs.Steps.{one_entry}
+use Rattle.asm_laying.specs.Laying.{IsAt, IsSpot, AreNeeded, Reaches, OkExtent, equal_names, told_of, IsLaid, IsPlaced as IsPlacedLine, Tells}
 use Rattle.asm_laying.specs.Reading.{most_bytes, capped, all_capped, coded, map_after, said_number, string_marks}
-use Rattle.asm_laying.proofs.DeclareLemmas.{listed_short, imported_short}
+use Rattle.asm_laying.proofs.SeeLemmas.{own_there}
 
 -- ---- kinds
 
@@ -92,29 +90,29 @@ map_is map s (what.Thumb l) = refl
 map_is map s (what.Pseudo l) = refl
 map_is map s (what.Directive l) = directive_map_is map s l
 
-abbrev is_large : Declared → Statement → List LaidLine → Bool
+abbrev is_large : List LaidName → Statement → List LaidLine → Bool
 is_large d s before = nat_lt area_bytes ((laid_behind d s before).offset + (laid_behind d s before).size)
 
-pub told_extent : (d : Declared) (s : Statement) (before : List LaidLine) (k : LineKind) → extent_of (sight_behind d s before) s.what ≡ Err k
+pub told_extent : (d : List LaidName) (s : Statement) (before : List LaidLine) (k : LineKind) → extent_of (sight_behind d s before) s.what ≡ Err k
     → told_of (laid_behind d s before) ≡ Some k
 told_extent d s before k h =
     ap (λ r. told_kind (fault_kinds r ++ map_kinds (sight_behind d s before) s.what ++ kind_if (is_large d s before) TooMany)) h
     ∙ ap (λ ks. told_kind ((k ∷ []) ++ ks ++ kind_if (is_large d s before) TooMany)) (no_map (sight_behind d s before) s.what k h)
     ∙ told_first k (is_large d s before)
 
-told_placed : (d : Declared) (s : Statement) (before : List LaidLine) (e : Extent) (map : ℕ) (r : Result ℕ LineKind)
+told_placed : (d : List LaidName) (s : Statement) (before : List LaidLine) (e : Extent) (map : ℕ) (r : Result ℕ LineKind)
     → extent_of (sight_behind d s before) s.what ≡ Ok e → map_after map (sight_behind d s before) s.what ≡ r
     → told_of (laid_behind d s before) ≡ told_kind (fault_kinds r ++ kind_if (is_large d s before) TooMany)
 told_placed d s before e map r h g =
     ap (λ x. told_kind (fault_kinds x ++ map_kinds (sight_behind d s before) s.what ++ kind_if (is_large d s before) TooMany)) h
     ∙ ap (λ ks. told_kind (ks ++ kind_if (is_large d s before) TooMany)) (map_is map (sight_behind d s before) s.what ∙ ap (λ x. fault_kinds x) g)
 
-pub told_map : (d : Declared) (s : Statement) (before : List LaidLine) (e : Extent) (map : ℕ) (k : LineKind)
+pub told_map : (d : List LaidName) (s : Statement) (before : List LaidLine) (e : Extent) (map : ℕ) (k : LineKind)
     → extent_of (sight_behind d s before) s.what ≡ Ok e → map_after map (sight_behind d s before) s.what ≡ Err k
     → told_of (laid_behind d s before) ≡ Some k
 told_map d s before e map k h g = told_placed d s before e map (Err k) h g ∙ told_first k (is_large d s before)
 
-told_large : (d : Declared) (s : Statement) (before : List LaidLine) (e : Extent) (map n : ℕ) (b : Bool)
+told_large : (d : List LaidName) (s : Statement) (before : List LaidLine) (e : Extent) (map n : ℕ) (b : Bool)
     → extent_of (sight_behind d s before) s.what ≡ Ok e → map_after map (sight_behind d s before) s.what ≡ Ok n → is_large d s before ≡ b
     → told_of (laid_behind d s before) ≡ told_kind (kind_if b TooMany)
 told_large d s before e map n b h g t = told_placed d s before e map (Ok n) h g ∙ ap (λ x. told_kind (kind_if x TooMany)) t
@@ -204,43 +202,38 @@ made_is make s names area name None = refl
 made_is make s names area name (Some t) = refl
 
 -- a definition adds its own name, or that of an expression; the sight of a name for an expression does not hang on its size
-adds : (d : Declared) (s : Statement) (before : List LaidLine) (size : ℕ) (x : Defined)
-    → added_names (sight d.names (seen_behind d.names (lines_of before)) (line_behind d s before (definition_of d.names x (area_behind (s ∷ statements_of before)) (offset_behind s before) size (is_thumb_label s (statements_of before)) (map_behind before))))
-    (definition_of d.names x (area_behind (s ∷ statements_of before)) (offset_behind s before) size (is_thumb_label s (statements_of before)) (map_behind before))
-    ≡ listed (own_entry x (area_behind (s ∷ statements_of before)) (offset_behind s before) size (is_thumb_label s (statements_of before)) (map_behind before))
-    ++ equal_names d.names (area_behind (s ∷ statements_of before))
-    (sight d.names (seen_behind d.names (lines_of before)) (line_behind d s before (definition_of d.names x (area_behind (s ∷ statements_of before)) (offset_behind s before) 0 (is_thumb_label s (statements_of before)) (map_behind before)))) x
+adds : (d : List LaidName) (s : Statement) (before : List LaidLine) (size : ℕ) (x : Defined)
+    → added_names (sight d (seen_behind d (lines_of before)) (line_behind s before (definition_of d x (area_behind (s ∷ statements_of before)) (offset_behind s before) size (is_thumb_label s (statements_of before)) (map_behind before))))
+    (definition_of d x (area_behind (s ∷ statements_of before)) (offset_behind s before) size (is_thumb_label s (statements_of before)) (map_behind before))
+    ≡ one_entry (own_entry x (area_behind (s ∷ statements_of before)) (offset_behind s before) size (is_thumb_label s (statements_of before)) (map_behind before))
+    ++ equal_names d (area_behind (s ∷ statements_of before))
+    (sight d (seen_behind d (lines_of before)) (line_behind s before (definition_of d x (area_behind (s ∷ statements_of before)) (offset_behind s before) 0 (is_thumb_label s (statements_of before)) (map_behind before)))) x
 adds d s before size Unnamed = refl
-adds d s before size (LocalLabel n) = refl
 adds d s before size (Label name) = refl
 adds d s before size (Equal name e) =
-    made_is (equal_entry d.names (area_behind (s ∷ statements_of before)) name)
-    (sight d.names (seen_behind d.names (lines_of before)) (line_behind d s before (definition_of d.names (Equal name e) (area_behind (s ∷ statements_of before)) (offset_behind s before) 0 (is_thumb_label s (statements_of before)) (map_behind before))))
-    d.names (area_behind (s ∷ statements_of before)) name (tree_of e)
+    made_is (equal_entry d (area_behind (s ∷ statements_of before)) name)
+    (sight d (seen_behind d (lines_of before)) (line_behind s before (definition_of d (Equal name e) (area_behind (s ∷ statements_of before)) (offset_behind s before) 0 (is_thumb_label s (statements_of before)) (map_behind before))))
+    d (area_behind (s ∷ statements_of before)) name (tree_of e)
 adds d s before size (MapField name) = refl
 adds d s before size (RegisterName name r) = refl
 
-imports : (d : Declared) (s : Statement) (before : List LaidLine) (rest : List SourceLine) (o : Option (List ℕ))
-    → seen_behind d.names (imported_lines d s before o ++ rest) ≡ seen_behind d.names rest ++ imported_entries o
-imports d s before rest None = sym (append-nil (seen_behind d.names rest))
+imports : (d : List LaidName) (s : Statement) (before : List LaidLine) (rest : List SourceLine) (o : Option (List ℕ))
+    → seen_behind d (imported_lines s before o ++ rest) ≡ seen_behind d rest ++ imported_entries o
+imports d s before rest None = sym (append-nil (seen_behind d rest))
 imports d s before rest (Some name) = refl
 
-pub names_more : (d : Declared) (s : Statement) (before : List LaidLine) (e : Extent) (own equal : List LaidName) → extent_of (sight_behind d s before) s.what ≡ Ok e
-    → own ≡ listed (own_entry (defined_by s) (area_behind (s ∷ statements_of before)) (offset_behind s before) (laid_behind d s before).size (is_thumb_label s (statements_of before)) (map_behind before))
-    → equal ≡ equal_names d.names (area_behind (s ∷ statements_of before)) (sight_behind d s before) (defined_by s)
-    → seen_behind d.names (lines_of before) ++ own ++ equal ++ imported_entries (imported_in s.what) ≡ seen_behind d.names (lines_of (laid_behind d s before ∷ before))
+pub names_more : (d : List LaidName) (s : Statement) (before : List LaidLine) (e : Extent) (own equal : List LaidName) → extent_of (sight_behind d s before) s.what ≡ Ok e
+    → own ≡ one_entry (own_entry (defined_by s) (area_behind (s ∷ statements_of before)) (offset_behind s before) (laid_behind d s before).size (is_thumb_label s (statements_of before)) (map_behind before))
+    → equal ≡ equal_names d (area_behind (s ∷ statements_of before)) (sight_behind d s before) (defined_by s)
+    → seen_behind d (lines_of before) ++ own ++ equal ++ imported_entries (imported_in s.what) ≡ seen_behind d (lines_of (laid_behind d s before ∷ before))
 names_more d s before e own equal h o q =
-    let seen = seen_behind d.names (lines_of before) in
+    let seen = seen_behind d (lines_of before) in
     let import = imported_entries (imported_in s.what) in
     let laid = laid_behind d s before in
-    let one : seen ++ own ++ equal ≡ seen_behind d.names (laid.line ∷ lines_of before) =
-    append_assoc seen own equal ∙ ap (λ x. seen ++ (x ++ equal)) o ∙ ap (λ x. seen ++ (listed (own_entry (defined_by s) (area_behind (s ∷ statements_of before)) (offset_behind s before) laid.size (is_thumb_label s (statements_of before)) (map_behind before)) ++ x)) q
+    let one : seen ++ own ++ equal ≡ seen_behind d (laid.line ∷ lines_of before) =
+    append_assoc seen own equal ∙ ap (λ x. seen ++ (x ++ equal)) o ∙ ap (λ x. seen ++ (one_entry (own_entry (defined_by s) (area_behind (s ∷ statements_of before)) (offset_behind s before) laid.size (is_thumb_label s (statements_of before)) (map_behind before)) ++ x)) q
     ∙ ap (λ x. seen ++ x) (sym (adds d s before laid.size (defined_by s))) in
     ap (λ x. x ++ import) one ∙ sym (imports d s before (laid.line ∷ lines_of before) (imported_in s.what))
-
-own_there : (x : Defined) (a b : Option ℕ) (o p n m : ℕ) (t u : Bool) (k j : ℕ) → a ≡ b → o ≡ p → n ≡ m → t ≡ u → k ≡ j
-    → listed (own_entry x a o n t k) ≡ listed (own_entry x b p m u j)
-own_there x a b o p n m t u k j e f g h i = rw (e, f, g, h, i) refl
 
 -- ---- a line more
 
@@ -250,8 +243,8 @@ fits_low a b c d h g f = le-ltb area_bytes (c + d) (omega arith)
 fits_not : (a b c d : ℕ) → a ≡ c → b ≡ d → 2 ^ 24 < a + b → nat_lt area_bytes (c + d) ≡ true
 fits_not a b c d h g f = lt-ltb area_bytes (c + d) (omega arith)
 
-pub told_too_large : (d : Declared) (s : Statement) (before : List LaidLine) (spot : Spot) (x : Code) (map : ℕ) (equal : Option LaidName) → IsSpot s before spot
-    → AreNeeded d.names spot.area spot.map (sight_behind d s before) s (Ok x) (Ok map) equal
+pub told_too_large : (d : List LaidName) (s : Statement) (before : List LaidLine) (spot : Spot) (x : Code) (map : ℕ) (equal : Option LaidName) → IsSpot s before spot
+    → AreNeeded d spot.area spot.map (sight_behind d s before) s (Ok x) (Ok map) equal
     → 2 ^ 24 < offset_of spot.area (pieces_of before) (extent_of_code x) + size_behind spot.area (pieces_of before) (extent_of_code x)
     → told_of (laid_behind d s before) ≡ Some TooMany
 told_too_large d s before spot x map equal sp found large =
@@ -271,18 +264,15 @@ there_same : (o p : Option ℕ) (xs ys : List Standing) → p ≡ o → length y
 there_same None p xs ys h g t = rw h t
 there_same (Some k) p xs ys h g t = let less : k < length xs = t in let more : k < length ys = omega arith in rw h more
 
-few_more : (a b c n m : ℕ) → a ≤ 3 * n → b ≤ 1 → c ≤ 1 → m ≤ 1 → a + b + c + m ≤ 3 * suc n
-few_more a b c n m h g f e = omega arith
-
-pub lays : (d : Declared) (s : Statement) (before : List LaidLine) (old new : Laying) (spot : Spot) (x : Code) (map : ℕ) (equal : Option LaidName) (p : Put)
+pub lays : (d : List LaidName) (s : Statement) (before : List LaidLine) (old new : Laying) (spot : Spot) (x : Code) (map : ℕ) (equal : Option LaidName) (p : Put)
     → IsAt d s before old → IsSpot s before spot
-    → AreNeeded d.names spot.area spot.map (sight_behind d s before) s (Ok x) (Ok map) equal
+    → AreNeeded d spot.area spot.map (sight_behind d s before) s (Ok x) (Ok map) equal
     → IsPlaced spot.area (extent_of_code x) (pieces_of before) new.areas.ends p → length new.areas.ends ≡ length old.areas.ends
-    → new.behind ≡ old.behind → new.locals ≡ old.locals → new.map ≡ map → new.areas.numbers ≡ old.areas.numbers → new.areas.count ≡ old.areas.count → new.areas.current ≡ old.areas.current
-    → new.names ≡ old.names ++ listed (own_entry (defined_by s) spot.area spot.offset p.size spot.label_thumb spot.map) ++ listed equal ++ imported_entries (imported_in s.what)
+    → new.behind ≡ old.behind → new.map ≡ map → new.areas.numbers ≡ old.areas.numbers → new.areas.count ≡ old.areas.count → new.areas.current ≡ old.areas.current
+    → new.names ≡ old ++ one_entry (own_entry (defined_by s) spot.area spot.offset p.size spot.label_thumb spot.map) ++ one_entry equal ++ imported_entries (imported_in s.what)
     → (strings : List Bool) → strings ≡ string_marks (sight_behind d s before) s.what
-    → IsLaid d (laid_behind d s before) before new (record { number = spot.count; area = spot.area; stretch = spot.stretch; offset = p.offset; size = p.size; thumb = spot.thumb; thumb_label = spot.label_thumb; map = spot.map; literal = p.literal; strings = strings })
-lays d s before old new spot x map equal p at sp found placed long behind locals mapped numbers count current names strings marked =
+    → IsLaid d (laid_behind d s before) before new (record { area = spot.area; offset = p.offset; size = p.size; thumb = spot.thumb; thumb_label = spot.label_thumb; map = spot.map; literal = p.literal; strings = strings })
+lays d s before old new spot x map equal p at sp found placed long behind mapped numbers count current names strings marked =
     let area = area_behind (s ∷ statements_of before) in
     let pieces = pieces_of before in
     let r = sight_behind d s before in
@@ -294,21 +284,15 @@ lays d s before old new spot x map equal p at sp found placed long behind locals
     (subst (λ a. IsPlaced a (extent_of_code x) pieces new.areas.ends p) sp.area placed)) in
     let offset : p.offset ≡ l.offset = here.offset ∙ sym (starts_there area pieces r s.what e.0 e.1) in
     let size : p.size ≡ l.size = here.size ∙ ap (λ q. size_behind area pieces (taken q)) (sym e.1) in
-    let own = listed (own_entry (defined_by s) spot.area spot.offset p.size spot.label_thumb spot.map) in
+    let own = one_entry (own_entry (defined_by s) spot.area spot.offset p.size spot.label_thumb spot.map) in
     let import = imported_entries (imported_in s.what) in
-    let own_eq : own ≡ listed (own_entry (defined_by s) area (offset_behind s before) l.size (is_thumb_label s (statements_of before)) (map_behind before)) =
-    own_there (defined_by s) spot.area area spot.offset (offset_behind s before) p.size l.size spot.label_thumb (is_thumb_label s (statements_of before)) spot.map (map_behind before)
-    sp.area sp.offset size sp.label_thumb sp.map in
-    let equal_eq : listed equal ≡ equal_names d.names area r (defined_by s) = found.equal_is ∙ ap (λ a. equal_names d.names a r (defined_by s)) sp.area in
-    let grown : length new.names ≡ length old.names + length own + length (listed equal) + length import =
-    ap (λ (ns : List LaidName). length ns) names ∙ length-append (old.names ++ own ++ listed equal) import
-    ∙ ap (λ n. n + length import) (length-append (old.names ++ own) (listed equal))
-    ∙ ap (λ n. n + length (listed equal) + length import) (length-append old.names own) in
+    let own_eq : own ≡ one_entry (own_entry (defined_by s) area (offset_behind s before) l.size (is_thumb_label s (statements_of before)) (map_behind before)) =
+    ap one_entry (own_there (defined_by s) spot.area area spot.offset (offset_behind s before) p.size l.size spot.label_thumb (is_thumb_label s (statements_of before)) spot.map (map_behind before)
+    sp.area sp.offset size sp.label_thumb sp.map) in
+    let equal_eq : one_entry equal ≡ equal_names d area r (defined_by s) = found.equal_is ∙ ap (λ a. equal_names d a r (defined_by s)) sp.area in
     record {
       told = told_large d s before e.0 spot.map map false e.1 (sym found.after_is) (fits_low p.offset p.size l.offset l.size offset size here.fits);
-      number = sp.count;
       area = sp.area;
-      stretch = sp.stretch;
       offset = offset;
       size = size;
       thumb = sp.thumb;
@@ -328,48 +312,33 @@ lays d s before old new spot x map equal p at sp found placed long behind locals
         };
         map = mapped ∙ map_from_is spot.map map r s.what (sym found.after_is) ∙ ap (λ m. map_from m r s.what) sp.map;
         names =
-            names ∙ ap (λ ns. ns ++ own ++ listed equal ++ import) at.names
-            ∙ names_more d s before e.0 own (listed equal) e.1 own_eq equal_eq;
-        few = subst (λ n. n ≤ 3 * suc (length before)) (sym grown)
-            (few_more (length old.names) (length own) (length (listed equal)) (length before) (length import) at.few
-            (listed_short (own_entry (defined_by s) spot.area spot.offset p.size spot.label_thumb spot.map)) (listed_short equal) (imported_short (imported_in s.what)));
-        locals = ap (λ ls. reversed ls []) locals ∙ at.locals;
-        order = subst (λ (b : Behind). AllBefore b.stretch b.count new.locals) (sym behind) (subst (λ ls. AllBefore old.behind.stretch old.behind.count ls) (sym locals) at.order);
+            names ∙ ap (λ ns. ns ++ own ++ one_entry equal ++ import) at.names
+            ∙ names_more d s before e.0 own (one_entry equal) e.1 own_eq equal_eq;
       };
     }
 
 -- ---- other answers
 
-pub told_no_extent : (d : Declared) (s : Statement) (before : List LaidLine) (spot : Spot) (k : LineKind) (map : Result ℕ LineKind) (equal : Option LaidName)
-    → AreNeeded d.names spot.area spot.map (sight_behind d s before) s (Err k) map equal
+pub told_no_extent : (d : List LaidName) (s : Statement) (before : List LaidLine) (spot : Spot) (k : LineKind) (map : Result ℕ LineKind) (equal : Option LaidName)
+    → AreNeeded d spot.area spot.map (sight_behind d s before) s (Err k) map equal
     → told_of (laid_behind d s before) ≡ Some k
 told_no_extent d s before spot k map equal found = told_extent d s before k (fault_is k (extent_of (sight_behind d s before) s.what) found.extent_is)
 
-pub told_no_map : (d : Declared) (s : Statement) (before : List LaidLine) (spot : Spot) (x : Code) (k : LineKind) (equal : Option LaidName)
-    → AreNeeded d.names spot.area spot.map (sight_behind d s before) s (Ok x) (Err k) equal
+pub told_no_map : (d : List LaidName) (s : Statement) (before : List LaidLine) (spot : Spot) (x : Code) (k : LineKind) (equal : Option LaidName)
+    → AreNeeded d spot.area spot.map (sight_behind d s before) s (Ok x) (Err k) equal
     → told_of (laid_behind d s before) ≡ Some k
 told_no_map d s before spot x k equal found =
     let e = coded_is x (extent_of (sight_behind d s before) s.what) found.extent_is in
     told_map d s before e.0 spot.map k e.1 (sym found.after_is)
 
-pub may_place : (d : Declared) (s : Statement) (before : List LaidLine) (state : Laying) (spot : Spot) → Reaches d s before state spot → length before < most_statements
-    → MayPlace state spot
-may_place d s before state spot h few =
-    let names : length state.names ≤ 3 * length before = h.at.few in
-    record {
-      there = there_same state.areas.current spot.area state.areas.ends state.areas.ends (h.spot.area ∙ sym h.at.areas.here) refl h.at.areas.there;
-      few = omega arith;
-    }
+pub may_place : (d : List LaidName) (s : Statement) (before : List LaidLine) (state : Laying) (spot : Spot) → Reaches d s before state spot → IsThere spot.area state.areas.ends
+may_place d s before state spot h = there_same state.areas.current spot.area state.areas.ends state.areas.ends (h.spot.area ∙ sym h.at.areas.here) refl h.at.areas.there
 
 pub fits_all : ExtentsArePlaceable → (s : Sight) (w : What) (r : Result Code LineKind) → coded r ≡ all_capped (extent_of s w) → OkExtent r
 fits_all law s w (Ok x) h = found_fits law s w x h
 fits_all law s w (Err k) h = tt
 
-pub shows : (d : Declared) (s : Statement) (before : List LaidLine) (state : Laying) (spot : Spot) → Reaches d s before state spot
-    → ShowsLines d s before state.names state.locals spot
-shows d s before state spot h = record { spot = h.spot; known = h.at.names; labels = h.at.locals }
-
-pub tells : (d : Declared) (s : Statement) (before : List LaidLine) (spot : Spot) (number : Result ℕ LineKind) (placed : Result Placed LineKind) (state : Laying)
+pub tells : (d : List LaidName) (s : Statement) (before : List LaidLine) (spot : Spot) (number : Result ℕ LineKind) (placed : Result Placed LineKind) (state : Laying)
     → IsSpot s before spot → number ≡ said_number (sight_behind d s before) s.what → IsPlacedLine d (laid_behind d s before) before state placed
     → Tells d (laid_behind d s before) before state (record { area = spot.area; thumb = spot.thumb; number = number; placed = placed })
 tells d s before spot number placed state sp h g = record { area = sp.area; thumb = sp.thumb; number = h; placed = g }

@@ -45,7 +45,6 @@ AgreeName n m q = (named_in q n.list ≡ named_in q m.list) × SoundEntry n m (n
 
 abbrev pub AgreeItem : Names → Names → ExprItem → Type 0
 AgreeItem n m (item.Name q) = AgreeName n m q
-AgreeItem n m (item.Local q) = AgreeName n m (124 ∷ q)
 AgreeItem n m (item.Constant v) = SoundValue n m v
 AgreeItem n m _ = Unit {0}
 
@@ -178,7 +177,7 @@ same_both n m op (Err i) (Err j) h k = refl
 
 same_operand : (n m : Names) → SamePlace n m → (i : ExprItem) → AgreeItem n m i → operand_of_item n i ≡ operand_of_item m i
 same_operand n m p (item.Name q) h = ap Unread h.0
-same_operand n m p (item.Local q) h = ap (λ o. Known (value_of o)) h.0
+same_operand n m p (item.Local q) h = refl
 same_operand n m p (item.Constant v) h = refl
 same_operand n m p item.Here h = ap (λ o. Known (Ok (Place [] o))) p.offset
 same_operand n m p item.Map h = ap (λ o. Known (Ok (Number o))) p.map
@@ -192,7 +191,7 @@ sound_entry n m (Some e) h = h
 
 sound_item : (n m : Names) → SamePlace n m → (i : ExprItem) → AgreeItem n m i → SoundResult n m (known (operand_of_item m i))
 sound_item n m p (item.Name q) h = sound_entry n m (named_in q m.list) h.1
-sound_item n m p (item.Local q) h = sound_entry n m (named_in (124 ∷ q) m.list) h.1
+sound_item n m p (item.Local q) h = tt
 sound_item n m p (item.Constant v) h = h
 sound_item n m p item.Here h = ap (λ a. in_area a 0) p.area
 sound_item n m p item.Map h = tt

@@ -48,7 +48,7 @@ each_both list (Some e) h = (h e refl, each_symbol list e.value)
 
 each_item : (list : List LaidName) (i : ExprItem) → HoldsEach list (item_entries list i)
 each_item list (item.Name q) = each_both list (named_in q list) (λ e h. named_same q list e h)
-each_item list (item.Local q) = each_both list (named_in (124 ∷ q) list) (λ e h. named_same (124 ∷ q) list e h)
+each_item list (item.Local q) = tt
 each_item list (item.Constant v) = each_symbol list v
 each_item list item.Here = tt
 each_item list item.Map = tt
@@ -76,7 +76,6 @@ CoversEntry list few (Some e) = CoversValue list few e.value
 
 abbrev CoversItem : List LaidName → List LaidName → ExprItem → Type 0
 CoversItem list few (item.Name q) = Covers list few q × CoversEntry list few (named_in q list)
-CoversItem list few (item.Local q) = Covers list few (124 ∷ q) × CoversEntry list few (named_in (124 ∷ q) list)
 CoversItem list few (item.Constant v) = CoversValue list few v
 CoversItem list few _ = Unit {0}
 
@@ -108,7 +107,7 @@ more_entry list few more w (Some e) h = more_value list few more w e.value h
 
 more_item : (list few more : List LaidName) → Within few more → (i : ExprItem) → CoversItem list few i → CoversItem list more i
 more_item list few more w (item.Name q) h = (λ i. w q (h.0 i), more_entry list few more w (named_in q list) h.1)
-more_item list few more w (item.Local q) h = (λ i. w (124 ∷ q) (h.0 i), more_entry list few more w (named_in (124 ∷ q) list) h.1)
+more_item list few more w (item.Local q) h = tt
 more_item list few more w (item.Constant v) h = more_value list few more w v h
 more_item list few more w item.Here h = tt
 more_item list few more w item.Map h = tt
@@ -154,7 +153,7 @@ covers_named list q = by_entry (named_in q list) refl
 
 covers_item : (list : List LaidName) (i : ExprItem) → CoversItem list (item_entries list i) i
 covers_item list (item.Name q) = covers_named list q
-covers_item list (item.Local q) = covers_named list (124 ∷ q)
+covers_item list (item.Local q) = tt
 covers_item list (item.Constant v) = covers_value list v
 covers_item list item.Here = tt
 covers_item list item.Map = tt
@@ -192,7 +191,7 @@ agree_entry names few h (Some e) c = agree_value names few h e.value c
 
 agree_item : (names : Names) (few : List LaidName) → HoldsEach names.list few → (i : ExprItem) → CoversItem names.list few i → AgreeItem (with_list names few) names i
 agree_item names few h (item.Name q) c = (found_same names.list few h q c.0, agree_entry names few h (named_in q names.list) c.1)
-agree_item names few h (item.Local q) c = (found_same names.list few h (124 ∷ q) c.0, agree_entry names few h (named_in (124 ∷ q) names.list) c.1)
+agree_item names few h (item.Local q) c = tt
 agree_item names few h (item.Constant v) c = agree_value names few h v c
 agree_item names few h item.Here c = tt
 agree_item names few h item.Map c = tt

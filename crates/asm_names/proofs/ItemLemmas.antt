@@ -8,7 +8,7 @@ use Rattle.asm_model.specs.declared.exprs.Part.TheVariants as part
 use Rattle.asm_model.specs.declared.exprs.UnaryOp.{UnaryOp}
 use Rattle.asm_model.specs.declared.exprs.UnaryOp.TheVariants as unary
 use Rattle.asm_model.specs.declared.values.Value.TheVariants.{Place}
-use Rattle.asm_model.specs.AtLine.{Sight, is_in, item_kinds, asked_kinds, value_kinds, name_kinds, kept_name, kept_names}
+use Rattle.asm_model.specs.AtLine.{Sight, is_in, item_kinds, asked_kinds, name_kinds, kept_name, kept_names}
 use Rattle.asm_model.specs.Grammar.{Tree, Leaf, Before, Between, postfix, plain, Spells, operand, of_name, before, grouped, between, tighter, IsSpelled}
 use Rattle.asm_names.specs.Steps.{operator_first, name_asked, item_asked, items_kinds, kept_before, kept_items}
 use Rattle.asm_model.proofs.LateLemmas.{plain_operand}
@@ -69,12 +69,6 @@ asked_name s op q = refl
 
 asked_other : (s : Sight) (op : UnaryOp) (i : ExprItem) → item_asked s (Some op) i ≡ asked_kinds s op i
 asked_other s op (item.Name q) = asked_name s op q
-asked_other s op (item.Local q) = by_operator op
-  where
-    by_operator : (o : UnaryOp) → value_kinds s (124 ∷ q) ≡ asked_kinds s o (item.Local q)
-    by_operator unary.Size = refl
-    by_operator unary.Defined = refl
-    by_operator o = refl
 asked_other s unary.Size i = refl
 asked_other s unary.Defined i = refl
 asked_other s op i = refl

@@ -10,9 +10,8 @@ use Rattle.asm_model.specs.Forms.{same}
 use Rattle.asm_model.specs.Meaning.{named_in}
 use Rattle.asm_model.proofs.WordLemmas.{same_refl, same_true}
 use Rattle.asm_model.specs.Labels.{Equal, defined_by, imported_in}
-use Rattle.asm_model.specs.Laid.{Declared, laid_of}
+use Rattle.asm_model.specs.Laid.{laid_of}
 use Rattle.asm_model.specs.LayoutKinds.{own_name, listed, names_in, names_behind, is_repeated}
-use Rattle.asm_model.specs.Locals.{Local}
 use Rattle.layout_laws.proofs.NamedLemmas.{sofar, own_of, imports_of, with_statement, AtMost, own_most, import_most, most_lacks, none_joined, lacks}
 use Rattle.layout_laws.proofs.RoundLemmas.{named_joined}
 use Rattle.layout_laws.proofs.SoundLemmas.{EachSound, any_parts}
@@ -73,36 +72,36 @@ or_nothing None = refl
 or_nothing (Some n) = refl
 
 -- behind a statement, under a name that it defines
-own_alone : (N : List LaidName) (locals : List Local) (d : Declared) (s : Statement) (ss : List Statement) (q : List ℕ)
+own_alone : (N : List LaidName) (d : List LaidName) (s : Statement) (ss : List Statement) (q : List ℕ)
     → is_repeated (names_behind ss) (names_in s) ≡ false → list_any (same q) (own_name (defined_by s)) ≡ true
-    → named_in q (sofar N locals d (s ∷ ss)) ≡ named_in q (own_of N locals d s ss)
-own_alone N locals d s ss q h k =
-    let before = sofar N locals d ss in
-    let own = own_of N locals d s ss in
+    → named_in q (sofar N d (s ∷ ss)) ≡ named_in q (own_of N d s ss)
+own_alone N d s ss q h k =
+    let before = sofar N d ss in
+    let own = own_of N d s ss in
     let imports = imports_of N d s ss in
     let new = repeated_new (names_behind ss) (names_in s) q h (any_front (same q) (own_name (defined_by s)) (listed (imported_in s.what)) k) in
     let other = repeated_later (names_behind ss) (own_name (defined_by s)) (listed (imported_in s.what)) q h k in
-    ap (named_in q) (with_statement N locals d s ss)
+    ap (named_in q) (with_statement N d s ss)
     ∙ named_joined q before (own ++ imports)
-    ∙ ap (λ o. or_else o (named_in q (own ++ imports))) (lacks N locals d q ss new)
+    ∙ ap (λ o. or_else o (named_in q (own ++ imports))) (lacks N d q ss new)
     ∙ named_joined q own imports
-    ∙ ap (or_else (named_in q own)) (most_lacks q (listed (imported_in s.what)) imports (import_most N d s (laid_of d ss) (imported_in s.what)) other)
+    ∙ ap (or_else (named_in q own)) (most_lacks q (listed (imported_in s.what)) imports (import_most N s (laid_of d ss) (imported_in s.what)) other)
     ∙ or_nothing (named_in q own)
 
 -- and under one that statements before define
-own_other : (N : List LaidName) (locals : List Local) (d : Declared) (s : Statement) (ss : List Statement) (q : List ℕ)
+own_other : (N : List LaidName) (d : List LaidName) (s : Statement) (ss : List Statement) (q : List ℕ)
     → is_repeated (names_behind ss) (names_in s) ≡ false → list_any (same q) (names_behind ss) ≡ true
-    → named_in q (sofar N locals d (s ∷ ss)) ≡ named_in q (sofar N locals d ss)
-own_other N locals d s ss q h k =
-    let before = sofar N locals d ss in
-    let own = own_of N locals d s ss in
+    → named_in q (sofar N d (s ∷ ss)) ≡ named_in q (sofar N d ss)
+own_other N d s ss q h k =
+    let before = sofar N d ss in
+    let own = own_of N d s ss in
     let imports = imports_of N d s ss in
     let p = any_parts (same q) (own_name (defined_by s)) (listed (imported_in s.what)) (repeated_not (names_behind ss) (names_in s) q h k) in
-    ap (named_in q) (with_statement N locals d s ss)
+    ap (named_in q) (with_statement N d s ss)
     ∙ named_joined q before (own ++ imports)
     ∙ ap (or_else (named_in q before))
-    (none_joined q own imports (most_lacks q (own_name (defined_by s)) own (own_most N locals d s ss) p.0)
-    (most_lacks q (listed (imported_in s.what)) imports (import_most N d s (laid_of d ss) (imported_in s.what)) p.1))
+    (none_joined q own imports (most_lacks q (own_name (defined_by s)) own (own_most N d s ss) p.0)
+    (most_lacks q (listed (imported_in s.what)) imports (import_most N s (laid_of d ss) (imported_in s.what)) p.1))
     ∙ or_nothing (named_in q before)
 
 -- ---- names for expressions
@@ -116,23 +115,23 @@ one_of q (n ∷ []) h =
 one_of q (n ∷ m ∷ ns) h = absurd h
 
 -- what is found in a list under each name for an expression is the entry of its line
-abbrev pub EachFound : List LaidName → List LaidName → List Local → Declared → List Statement → Type 0
-EachFound known N locals d [] = Unit {0}
-EachFound known N locals d (s ∷ ss) =
-    ((name : List ℕ) (e : Expr) → defined_by s ≡ Equal name e → one_entry (named_in name known) ≡ own_of N locals d s ss) × EachFound known N locals d ss
+abbrev pub EachFound : List LaidName → List LaidName → List LaidName → List Statement → Type 0
+EachFound known N d [] = Unit {0}
+EachFound known N d (s ∷ ss) =
+    ((name : List ℕ) (e : Expr) → defined_by s ≡ Equal name e → one_entry (named_in name known) ≡ own_of N d s ss) × EachFound known N d ss
 
-pub each_found : (all N : List LaidName) (locals : List Local) (d : Declared) (S : List (List ℕ)) (ss : List Statement) → EachSound S ss
-    → ((q : List ℕ) → list_any (same q) (names_behind ss) ≡ true → named_in q all ≡ named_in q (sofar N locals d ss))
-    → EachFound all N locals d ss
-each_found all N locals d S [] sound h = tt
-each_found all N locals d S (s ∷ ss) sound h = (
+pub each_found : (all N : List LaidName) (d : List LaidName) (S : List (List ℕ)) (ss : List Statement) → EachSound S ss
+    → ((q : List ℕ) → list_any (same q) (names_behind ss) ≡ true → named_in q all ≡ named_in q (sofar N d ss))
+    → EachFound all N d ss
+each_found all N d S [] sound h = tt
+each_found all N d S (s ∷ ss) sound h = (
   λ name e x.
       let own : list_any (same name) (own_name (defined_by s)) ≡ true =
       subst (λ y. list_any (same name) (own_name y) ≡ true) (sym x) (or_left (same name name) false (same_refl name)) in
       ap one_entry
       (h name (any_front (same name) (names_in s) (names_behind ss) (any_front (same name) (own_name (defined_by s)) (listed (imported_in s.what)) own))
-      ∙ own_alone N locals d s ss name sound.0 own)
-      ∙ one_of name (own_of N locals d s ss) (subst (λ y. AtMost (own_name y) (own_of N locals d s ss)) x (own_most N locals d s ss)),
-  each_found all N locals d S ss sound.2
-      (λ q k. h q (any_back (same q) (names_in s) (names_behind ss) k) ∙ own_other N locals d s ss q sound.0 k),
+      ∙ own_alone N d s ss name sound.0 own)
+      ∙ one_of name (own_of N d s ss) (subst (λ y. AtMost (own_name y) (own_of N d s ss)) x (own_most N d s ss)),
+  each_found all N d S ss sound.2
+      (λ q k. h q (any_back (same q) (names_in s) (names_behind ss) k) ∙ own_other N d s ss q sound.0 k),
 )

@@ -10,35 +10,35 @@ use Rattle.asm_model.specs.declared.exprs.Expr.{Expr}
 use Rattle.asm_model.specs.declared.names.LaidName.{LaidName}
 use Rattle.asm_model.specs.declared.values.Value.{Value}
 use Rattle.asm_model.specs.declared.values.Value.TheVariants.{Number, Truth, Words, Place}
-use Rattle.asm_model.specs.AtLine.{HoldsEach, with_names, all_names, made_name}
+use Rattle.asm_model.specs.AtLine.{HoldsEach, with_names, made_name}
 use Rattle.asm_model.specs.Directives.{or_else}
 use Rattle.asm_model.specs.Forms.{same}
-use Rattle.asm_model.specs.Meaning.{named_in, meaning}
+use Rattle.asm_model.specs.Meaning.{named_in, known as value_known, meaning}
 use Rattle.asm_model.proofs.LineLemmas.{each_has, each_append}
 use Rattle.asm_model.proofs.WordLemmas.{same_refl, same_true}
 use Rattle.asm_model.specs.Entries.{valued_entry, thumb_of, equal_entry}
-use Rattle.asm_model.specs.Locals.{Local}
 use Rattle.layout_laws.proofs.EqualLemmas.{equal_made}
-use Rattle.layout_laws.proofs.RoundLemmas.{SymbolIs, ResultIs, TreeIs, IsClosed, symbol_weaker, named_joined}
+use Rattle.layout_laws.proofs.RoundLemmas.{SymbolIs, ResultIs, TreeIs, IsClosed, symbol_weaker, named_joined, tree_is, tree_same}
 use Rattle.layout_laws.proofs.SettledLemmas.{items_are, tree_of_items}
-use Rattle.layout_laws.proofs.StepLemmas.{name_of, Or, made_is, line_is, line_same}
+use Rattle.layout_laws.proofs.StepLemmas.{name_of, Or, made_is}
 use Rattle.asm_names.specs.Order.{names_at, is_in, IsOrder}
 use Rattle.asm_names.proofs.ListLemmas.{all_get}
 use Rattle.asm_names.proofs.SearchLemmas.{one_more}
 use Rattle.asm_names.specs.Steps.{one_entry}
 use Rattle.asm_names.proofs.EntryLemmas.{found_name, named_same, each_one}
+use Rattle.asm_names.specs.Lines.{line_of}
 use Rattle.asm_names.specs.Source.{Owed, equal_pair, IsEntryAt, Settles, begun, further}
 use Rattle.asm_names.proofs.MatchLemmas.{EachOwn, Fits}
 use Rattle.base_lemmas.proofs.BaseLemmas.{or_either, true_or as or_left, or_true as or_right}
 
 -- ---- one place more
 
-pub settles_more : (declared : List LaidName) (locals : List Local) (all : List Owed) (first : List LaidName) (places : List ℕ) (k : ℕ) (known new : List LaidName) (entry : Option LaidName)
-    → k < length places → Settles declared locals all first (take k places) known → IsEntryAt known declared locals (slice_get all (slice_index_or places k 0)) entry
-    → new ≡ known ++ one_entry entry → Settles declared locals all first (take (k + 1) places) new
-settles_more declared locals all first places k known new entry le h at e =
-    subst (λ z. Settles declared locals all first z new) (sym (take_more places k 0 le))
-    (subst (λ z. Settles declared locals all first (take k places ++ slice_index_or places k 0 ∷ []) z) (sym e)
+pub settles_more : (declared : List LaidName) (all : List Owed) (first : List LaidName) (places : List ℕ) (k : ℕ) (known new : List LaidName) (entry : Option LaidName)
+    → k < length places → Settles declared all first (take k places) known → IsEntryAt known declared (slice_get all (slice_index_or places k 0)) entry
+    → new ≡ known ++ one_entry entry → Settles declared all first (take (k + 1) places) new
+settles_more declared all first places k known new entry le h at e =
+    subst (λ z. Settles declared all first z new) (sym (take_more places k 0 le))
+    (subst (λ z. Settles declared all first (take k places ++ slice_index_or places k 0 ∷ []) z) (sym e)
     (further (take k places) known (slice_index_or places k 0) entry h at))
 
 -- ---- names that have their final entries
@@ -187,44 +187,44 @@ some_there xs i h e =
       | inr x ↦ let le = x.0 in absurd (omega (arith, h, le))
     ]
 
-known_further : (N names declared : List LaidName) (locals : List Local) (all : List Owed) (whole : List ℕ)
+known_further : (N names declared : List LaidName) (all : List Owed) (whole : List ℕ)
     → ((q : List ℕ) → named_in q declared ≡ named_in q names)
-    → AllByRecursion (Fits N names locals) all → IsOrder (map equal_pair all) whole
-    → ((q : List ℕ) → list_any (λ (e : List ℕ × Expr). same (124 ∷ q) e.0) (map equal_pair all) ≡ false)
+    → AllByRecursion (Fits N names) all → IsOrder (map equal_pair all) whole
     → (places : List ℕ) (known : List LaidName) (i : ℕ) (rest : List ℕ) (entry : Option LaidName) → whole ≡ places ++ i ∷ rest → Knows N (map equal_pair all) places known
-    → (o : Option Owed) → slice_get all i ≡ o → IsEntryAt known declared locals o entry → Knows N (map equal_pair all) (places ++ i ∷ []) (known ++ one_entry entry)
-known_further N names declared locals all whole same_names fits order bare places known i rest entry split h None x k =
+    → (o : Option Owed) → slice_get all i ≡ o → IsEntryAt known declared o entry → Knows N (map equal_pair all) (places ++ i ∷ []) (known ++ one_entry entry)
+known_further N names declared all whole same_names fits order places known i rest entry split h None x k =
     let within : i < length (map equal_pair all) = order.within i (subst (λ z. is_in i z ≡ true) (sym split) (there_in i places rest)) in
     let len = length-map all equal_pair in
     absurd (some_there all i (omega (arith, within, len)) x)
-known_further N names declared locals all whole same_names fits order bare places known i rest entry split h (Some o) x k =
-    let fit = all_get (Fits N names locals) all i o fits x in
+known_further N names declared all whole same_names fits order places known i rest entry split h (Some o) x k =
+    let fit = all_get (Fits N names) all i o fits x in
     let there : slice_get (map equal_pair all) i ≡ Some (o.name, o.value) = slice_get-map equal_pair all i ∙ ap (option_map equal_pair) x in
     let P = IsComplete N known in
+    let line = line_of o.line in
     let tree : TreeIs P fit.tree =
     tree_of_items P o.value.items (Some []) fit.tree
-    (items_are P (map equal_pair all) (names_at (map equal_pair all) places) h.free h.deep (λ r. h.free (124 ∷ r) (bare r)) o.value.items
+    (items_are P (map equal_pair all) (names_at (map equal_pair all) places) h.free h.deep o.value.items
     (order.behind places i rest (o.name, o.value) split there) fit.plain) tt fit.is in
-    let value = line_same P fit.line known N fit.back fit.forth h.closed (λ q c. c) fit.tree tree in
-    let found : one_entry (named_in o.name N) ≡ made_name (equal_entry names o.line.area o.name) (meaning (with_names fit.line (all_names known fit.line)) fit.tree) =
-    fit.found ∙ ap (made_name (equal_entry names o.line.area o.name)) (sym value) in
+    let made = λ (r : Result Value LineKind). made_name (equal_entry names o.line.area o.name) r in
+    let value : meaning (with_names line known) fit.tree ≡ meaning (with_names line N) fit.tree =
+    ap value_known (tree_same P line known N h.closed (λ q c. c) fit.tree tree) in
+    let found : one_entry (named_in o.name N) ≡ made (meaning (with_names line known) fit.tree) = fit.found ∙ ap made (sym value) in
     let entry_is : one_entry entry ≡ one_entry (named_in o.name N) =
-    k fit.line fit.final fit.parts fit.tree fit.spelled fit.items
-    ∙ made_same declared names same_names o.line.area o.name (meaning (with_names fit.line (all_names known fit.line)) fit.tree)
+    k fit.parts fit.tree fit.spelled fit.items
+    ∙ made_same declared names same_names o.line.area o.name (meaning (with_names line known) fit.tree)
     ∙ sym found in
     subst (λ z. Knows N (map equal_pair all) (places ++ i ∷ []) (known ++ z)) (sym entry_is)
-    (knows_more N (map equal_pair all) places known names o.line.area i o.name o.value (meaning (with_names fit.line (all_names known fit.line)) fit.tree) there h found
-    (line_is P fit.line known fit.back fit.forth h.closed fit.tree tree))
+    (knows_more N (map equal_pair all) places known names o.line.area i o.name o.value (meaning (with_names line known) fit.tree) there h found
+    (tree_is P line known h.closed fit.tree tree))
 
-pub all_known : (N names declared : List LaidName) (locals : List Local) (all : List Owed) (first : List LaidName) (whole : List ℕ)
+pub all_known : (N names declared : List LaidName) (all : List Owed) (first : List LaidName) (whole : List ℕ)
     → ((q : List ℕ) → named_in q declared ≡ named_in q names)
-    → AllByRecursion (Fits N names locals) all → IsOrder (map equal_pair all) whole
-    → ((q : List ℕ) → list_any (λ (e : List ℕ × Expr). same (124 ∷ q) e.0) (map equal_pair all) ≡ false)
+    → AllByRecursion (Fits N names) all → IsOrder (map equal_pair all) whole
     → Knows N (map equal_pair all) [] first
-    → (places : List ℕ) (known : List LaidName) (rest : List ℕ) → whole ≡ places ++ rest → Settles declared locals all first places known
+    → (places : List ℕ) (known : List LaidName) (rest : List ℕ) → whole ≡ places ++ rest → Settles declared all first places known
     → Knows N (map equal_pair all) places known
-all_known N names declared locals all first whole same_names fits order bare start places known rest e begun = start
-all_known N names declared locals all first whole same_names fits order bare start places after rest e (further before known i entry h at) =
+all_known N names declared all first whole same_names fits order start places known rest e begun = start
+all_known N names declared all first whole same_names fits order start places after rest e (further before known i entry h at) =
     let split : whole ≡ before ++ i ∷ rest = e ∙ append_assoc before (i ∷ []) rest in
-    known_further N names declared locals all whole same_names fits order bare before known i rest entry split
-    (all_known N names declared locals all first whole same_names fits order bare start before known (i ∷ rest) split h) (slice_get all i) refl at
+    known_further N names declared all whole same_names fits order before known i rest entry split
+    (all_known N names declared all first whole same_names fits order start before known (i ∷ rest) split h) (slice_get all i) refl at

@@ -2,7 +2,6 @@
 use Rattle.std.proofs.Common.{◌≡◌, ℕ, zero, suc, List, [], ◌∷◌, ◌++◌, map, true, false, refl, sym, ◌∙◌, ap, subst, Some, append_assoc, append-nil}
 use Rattle.std.specs.Prelude.{Result, Ok, Err, IfOk}
 use Rattle.std.specs.List.{list_any, slice_get, flat_map, AllByRecursion}
-use Rattle.std.proofs.lemmas.Bool.{or_from}
 use Rattle.sdt_fault.specs.declared.NoMemory.{NoMemory}
 use Rattle.asm_model.specs.declared.exprs.Expr.{Expr}
 use Rattle.asm_model.specs.declared.names.LaidName.{LaidName}
@@ -11,14 +10,12 @@ use Rattle.asm_model.specs.Forms.{same}
 use Rattle.asm_model.specs.Meaning.{named_in}
 use Rattle.asm_model.proofs.WordLemmas.{same_refl}
 use Rattle.asm_model.specs.Labels.{defined_by, declared_names}
-use Rattle.asm_model.specs.Laid.{Declared, declared, laid, all_locals, final_names}
+use Rattle.asm_model.specs.Laid.{laid, final_names}
 use Rattle.asm_model.specs.LayoutKinds.{equal_of, equals_in, are_settled, settled_by, settled}
-use Rattle.asm_model.specs.Locals.{Local}
 use Rattle.layout_laws.proofs.EqualLemmas.{EachEqual, equal_parts, equal_both}
 use Rattle.layout_laws.proofs.FinalLemmas.{source_holds}
-use Rattle.layout_laws.proofs.NamedLemmas.{names_other}
 use Rattle.layout_laws.proofs.SettledLemmas.{final_names_are_their_entries}
-use Rattle.layout_laws.proofs.SoundLemmas.{EachSound, sound_each, equals_apart, equals_distinct, equals_settled, IsSettledIn, settled_unique}
+use Rattle.layout_laws.proofs.SoundLemmas.{EachSound, sound_each, equals_distinct, equals_settled, IsSettledIn, settled_unique}
 use Rattle.asm_names.specs.Order.{names_at, is_in, IsOrder}
 use Rattle.asm_names.proofs.ListLemmas.{cut_at}
 use Rattle.asm_names.proofs.SearchLemmas.{names_more, one_more}
@@ -45,10 +42,6 @@ each_there : (R : List ℕ → Expr → Type 0) (E : List (List ℕ × Expr)) �
 each_there R [] h i x e = absurd (cc)
 each_there R (y ∷ ys) h zero x e = let k : y ≡ x = cc in subst (λ (z : List ℕ × Expr). R z.0 z.1) k h.0
 each_there R (y ∷ ys) h (suc i) x e = each_there R ys h.1 i x e
-
-no_pair : (q : List ℕ) (E : List (List ℕ × Expr)) → EachEqual (λ p e. same q p ≡ false) E → list_any (λ (e : List ℕ × Expr). same q e.0) E ≡ false
-no_pair q [] h = refl
-no_pair q (x ∷ xs) h = or_from (same q x.0) (list_any (λ (e : List ℕ × Expr). same q e.0) xs) h.0 (no_pair q xs h.1)
 
 -- ---- each name for an expression has its place
 
@@ -78,50 +71,45 @@ all_complete N known ss whole sound order h =
     (λ i x at. h.deep x.0 (placed_name E whole i x at
     (order.whole i x at ∙ each_there (λ p e. are_settled E (settled E) e.items ≡ true) E (all_settled ss sound) i x at)))
 
-found_known : (known N : List LaidName) (locals : List Local) (d : Declared) (ss : List Statement) → EachEqual (λ p e. IsComplete N known p) (equals_in ss)
-    → EachFound N N locals d ss → EachFound known N locals d ss
-found_known known N locals d [] h found = tt
-found_known known N locals d (s ∷ ss) h found =
+found_known : (known N : List LaidName) (d : List LaidName) (ss : List Statement) → EachEqual (λ p e. IsComplete N known p) (equals_in ss)
+    → EachFound N N d ss → EachFound known N d ss
+found_known known N d [] h found = tt
+found_known known N d (s ∷ ss) h found =
     let p = equal_parts (λ p e. IsComplete N known p) (equals_in ss) (equal_of (defined_by s)) h in (
       λ name e x.
           ap one_entry (subst (λ y. EachEqual (λ p e. IsComplete N known p) (equal_of y)) x p.1).0 ∙ found.0 name e x,
-      found_known known N locals d ss p.0 found.1,
+      found_known known N d ss p.0 found.1,
     )
 
 -- ---- all names
 
-pub all_names_found : (ss : List Statement) (lines : List PlacedLine) (locals : List Local) (declared_there : List LaidName) (all : List Owed) (whole : List ℕ) (first known : List LaidName)
-    → IsSource ss lines locals declared_there
+pub all_names_found : (ss : List Statement) (lines : List PlacedLine) (declared : List LaidName) (all : List Owed) (whole : List ℕ) (first known : List LaidName)
+    → IsSource ss lines declared
     → all ≡ flat_map owed_in lines → IsOrder (map equal_pair all) whole → first ≡ flat_map (line_entries []) lines
-    → Settles declared_there locals all first whole known
+    → Settles declared all first whole known
     → flat_map (line_entries known) lines ≡ final_names (laid ss)
-all_names_found ss lines locals declared_there all whole first known source owed order firsts settles =
-    let d = declared ss in
+all_names_found ss lines declared all whole first known source owed order firsts settles =
+    let d = declared_names ss in
     let N = final_names (laid ss) in
-    let L = all_locals (laid ss) in
     let E = equals_in ss in
     let sound = sound_each (settled E) d ss source.sound in
     let entries = final_names_are_their_entries ss source.sound source.plain in
-    let found = each_found N N L d (settled E) ss sound (λ q k. ap (named_in q) (sym entries)) in
+    let found = each_found N N d (settled E) ss sound (λ q k. ap (named_in q) (sym entries)) in
     let pairs : map equal_pair all ≡ E = ap (map equal_pair) owed ∙ owed_pairs d ss lines source.each in
-    let fits = owed_fit N ss ss [] lines refl source.each source.plain source.read found in
+    let fits = owed_fit N d ss lines source.each source.plain source.read found in
     let start : Knows N E [] first =
     subst (Knows N E []) (sym firsts)
     (knows_first N E (flat_map (line_entries []) lines)
-    (lines_held N N L d ss lines source.each (source_holds ss source.sound source.plain))
-    (λ q k. lines_lacking N L d q ss lines source.each k ∙ ap (named_in q) entries)
+    (lines_held N N d ss lines source.each (source_holds ss source.sound source.plain))
+    (λ q k. lines_lacking N d q ss lines source.each k ∙ ap (named_in q) entries)
     (lines_own d ss lines source.each)) in
-    let bare : (q : List ℕ) → list_any (λ (e : List ℕ × Expr). same (124 ∷ q) e.0) E ≡ false =
-    λ q. no_pair (124 ∷ q) E (equals_apart (124 ∷ q) ss (names_other q ss source.plain)) in
     let knows =
-    all_known N (declared_names ss) declared_there L all first whole source.found
-    (subst (λ z. AllByRecursion (Fits N (declared_names ss) L) z) (sym owed) fits) order
-    (λ q. subst (λ z. list_any (λ (e : List ℕ × Expr). same (124 ∷ q) e.0) z ≡ false) (sym pairs) (bare q))
+    all_known N d declared all first whole source.found
+    (subst (λ z. AllByRecursion (Fits N d) z) (sym owed) fits) order
     (subst (λ z. Knows N z [] first) (sym pairs) start)
-    whole known [] (sym (append-nil whole))
-    (subst (λ z. Settles declared_there z all first whole known) source.same settles) in
-    lines_same known N L d ss lines source.each
-    (found_known known N L d ss
+    whole known [] (sym (append-nil whole)) settles in
+    lines_same known N d ss lines source.each
+    (found_known known N d ss
     (all_complete N known ss whole sound (subst (λ z. IsOrder z whole) pairs order) (subst (λ z. Knows N z whole known) pairs knows)) found)
     ∙ entries
 
@@ -133,19 +121,19 @@ if_ok_more : {X E : Type 0} → (P Q : X → Type 0) → ((x : X) → P x → Q 
 if_ok_more P Q f (Ok x) h = f x h
 if_ok_more P Q f (Err e) h = tt
 
-pub final_is : (ss : List Statement) (lines : List PlacedLine) (locals : List Local) (declared_there : List LaidName) (dues looked seen : List Due) (places taken : List ℕ)
+pub final_is : (ss : List Statement) (lines : List PlacedLine) (declared : List LaidName) (dues looked seen : List Due) (places taken : List ℕ)
     (none first known : List LaidName) (r : Result (List LaidName) NoMemory)
-    → IsSource ss lines locals declared_there
+    → IsSource ss lines declared
     → map owed_of dues ≡ flat_map owed_in lines → looked ≡ dues → seen ≡ dues → taken ≡ places → none ≡ []
     → IsOrder (map (λ d. equal_pair (owed_of d)) looked) places → first ≡ flat_map (line_entries none) lines
-    → Settles declared_there locals (map owed_of seen) first taken known
+    → Settles declared (map owed_of seen) first taken known
     → IfOk r (λ names. names ≡ flat_map (line_entries known) lines) → IfOk r (λ names. names ≡ final_names (laid ss))
-final_is ss lines locals declared_there dues looked seen places taken none first known r source owed a b t n order firsts settles h =
+final_is ss lines declared dues looked seen places taken none first known r source owed a b t n order firsts settles h =
     let same : map (λ d. equal_pair (owed_of d)) looked ≡ map equal_pair (map owed_of dues) =
     ap (map (λ (d : Due). equal_pair (owed_of d))) a ∙ pairs_twice owed_of equal_pair dues in
     let found =
-    all_names_found ss lines locals declared_there (map owed_of dues) places first known source owed (subst (λ z. IsOrder z places) same order)
+    all_names_found ss lines declared (map owed_of dues) places first known source owed (subst (λ z. IsOrder z places) same order)
     (firsts ∙ ap (λ z. flat_map (line_entries z) lines) n)
-    (subst (λ z. Settles declared_there locals (map owed_of dues) first z known) t
-    (subst (λ z. Settles declared_there locals (map owed_of z) first taken known) b settles)) in
+    (subst (λ z. Settles declared (map owed_of dues) first z known) t
+    (subst (λ z. Settles declared (map owed_of z) first taken known) b settles)) in
     if_ok_more (λ names. names ≡ flat_map (line_entries known) lines) (λ names. names ≡ final_names (laid ss)) (λ names x. x ∙ found) r h

@@ -4,4 +4,4 @@ use Rattle.asm_names.specs.Source.{Settles}
 use Rattle.asm_names.proofs.settling.settled.Given as goal
 
 abbrev pub invariant-places : goal.invariant-places
-invariant-places l = Settles l.declared l.locals (map owed_of l.dues) l.fn.first (take l.place-index l.places) l.known
+invariant-places l = Settles l.declared (map owed_of l.dues) l.fn.first (take l.place-index l.places) l.known

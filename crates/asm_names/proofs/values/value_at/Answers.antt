@@ -8,10 +8,10 @@ use Rattle.asm_names.proofs.values.value_at.Goals as goal
 pub returns-in-Some : goal.returns-in-Some
 returns-in-Some c =
     sees_fault (sight_of c.args.place.now) c.args.e.now.items c.in-Some.kind
-    (ap (λ (is : List ExprItem). told_through (sight_of c.args.place.now) None is) (sym c.as_slice.ensures) ∙ sym c.in_ok-kind.ensures ∙ c.in-Some.is)
+    (ap (λ (is : List ExprItem). told_through (sight_of c.args.place.now) None is) (sym c.as_slice.ensures) ∙ sym c.in-Some.ensures)
 
 pub returns : goal.returns
 returns c =
     sees_value (sight_of c.args.place.now) c.args.e.now.items c.value_with.result
-    (ap (λ (is : List ExprItem). told_through (sight_of c.args.place.now) None is) (sym c.as_slice.ensures) ∙ sym c.in_ok-kind.ensures ∙ c.in_default.is)
+    (ap (λ (is : List ExprItem). told_through (sight_of c.args.place.now) None is) (sym c.as_slice.ensures) ∙ sym c.in_default.ensures)
     c.value_with.ensures

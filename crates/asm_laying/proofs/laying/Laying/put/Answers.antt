@@ -20,4 +20,4 @@ returns-in_ok-add_names-in-Ok c = λ d before reach found marked.
     (subst (λ (r : Result Placed TooLarge). Places c.args.spot.now.area (extent_of_code c.args.extent) (pieces_of before) c.place.new.self (Ok r)) c.in-Ok.is
     (c.in_ok-placed.ensures.places (pieces_of before) reach.at.areas.ends))
     (subst (λ (r : Result Placed TooLarge). Keeps c.args.self.now.areas.ends c.place.new.self (Ok r)) c.in-Ok.is c.in_ok-placed.ensures.keeps)
-    refl refl refl refl refl refl c.in_ok-add_names-in-Ok.ensures c.args.strings marked
+    refl refl refl refl refl c.in_ok-add_names-in-Ok.ensures c.args.strings marked
