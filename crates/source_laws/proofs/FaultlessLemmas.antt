@@ -1,4 +1,4 @@
--- Sources without faults, as lines say them, meet what the laws ask.
+-- Sources without faults meet what the laws ask.
 use Rattle.std.proofs.Common.{◌≡◌, ℕ, ◌+◌, ◌≤◌, List, [], ◌∷◌, ◌++◌, length, Bool, false, refl, sym, ◌∙◌, ap, None, ◌⊎◌}
 use Rattle.asm_model.specs.declared.directives.DirectiveLine.TheVariants as line
 use Rattle.asm_model.specs.declared.statements.Statement.{Statement}
@@ -7,27 +7,21 @@ use Rattle.asm_model.specs.declared.statements.What.TheVariants as what
 use Rattle.asm_model.specs.Kinds.{told_kind}
 use Rattle.asm_model.proofs.LineLemmas.{both_empty}
 use Rattle.asm_model.specs.Before.{state_behind, thumb_behind}
-use Rattle.asm_model.specs.Laid.{Declared, declared, LaidLine, pieces_of, reversed, laid_behind, laid_of, laid}
+use Rattle.asm_model.specs.Laid.{LaidLine, pieces_of, reversed, laid_behind, laid_of, laid}
 use Rattle.asm_model.specs.LayoutKinds.{equals_in, settled, layout_kinds, told_at, first_fault, first_late}
 use Rattle.asm_model.specs.Offsets.{area_size}
-use Rattle.asm_model.specs.Sound.{IsSound, ArePlain}
+use Rattle.asm_model.specs.Sound.{IsSound}
 use Rattle.layout_laws.proofs.SoundLemmas.{or_none, told_none, statements_kept}
-use Rattle.said_model.specs.Said.{AllSaid}
 use Rattle.source_model.specs.Objects.{Piece, unit_bytes, source_of, StandsIn}
 use Rattle.source_model.specs.Registers.{register_names, register_kinds}
 use Rattle.source_model.specs.SourceFaults.{first_laid, layout_faults}
-use Rattle.source_laws.specs.Laws.{InArmState, StandApart, AllLoadBare, IsNoCode16, NoCode16}
-use Rattle.source_laws.proofs.AgreeLemmas.{literal_words_agree}
+use Rattle.source_laws.specs.Laws.{InArmState, StandApart, IsNoCode16, NoCode16}
 use Rattle.source_laws.proofs.ListLemmas.{same_first, same_rest}
-use Rattle.source_laws.proofs.LoadLemmas.{loaded_literals_are_bare}
 use Rattle.source_laws.proofs.ThingLemmas.{things_stand_apart, things_lie_in_areas}
-use Rattle.said_model.proofs.SharedLemmas.{are_plain as said_plain}
+use Rattle.asm_model.specs.Labels.{declared_names}
+use Rattle.asm_model.specs.declared.names.LaidName.{LaidName}
 
--- ---- statements as lines say them
-
-pub said_loads_are_bare : (ss : List Statement) → AllSaid ss → AllLoadBare ss
-said_loads_are_bare [] h = tt
-said_loads_are_bare (s ∷ ss) h = (h.0.loaded, said_loads_are_bare ss h.1)
+-- ---- layouts without faults
 
 pub sound_lines : (names fixed : List (List ℕ)) (ls : List LaidLine) → first_laid names fixed ls ≡ None → first_fault fixed ls ≡ None
 sound_lines names fixed [] e = refl
@@ -43,9 +37,6 @@ layout_sound ss h =
     sound_lines (register_names ss) fixed (laid ss)
     (or_none (first_laid (register_names ss) fixed (laid ss)) (first_late (laid ss) [] (reversed (laid ss) [])) h).0
 
-pub faultless_layouts_are_sound : (ss : List Statement) → AllSaid ss → layout_faults ss ≡ None → IsSound ss × ArePlain ss
-faultless_layouts_are_sound ss said none = (layout_sound ss none, said_plain ss said)
-
 -- ---- ARM state
 
 pub state_kept : (w : What) (thumb : Bool) → IsNoCode16 w → thumb ≡ false → state_behind w thumb ≡ false
@@ -57,7 +48,7 @@ pub thumb_none : (ss : List Statement) → NoCode16 ss → thumb_behind ss ≡ f
 thumb_none [] h = refl
 thumb_none (s ∷ ss) h = state_kept s.what (thumb_behind ss) h.0 (thumb_none ss h.1)
 
-pub in_arm_state : (d : Declared) (ss : List Statement) → NoCode16 ss → (after before : List LaidLine) (l : LaidLine) → laid_of d ss ≡ after ++ l ∷ before
+pub in_arm_state : (d : List LaidName) (ss : List Statement) → NoCode16 ss → (after before : List LaidLine) (l : LaidLine) → laid_of d ss ≡ after ++ l ∷ before
     → l.thumb ≡ false
 in_arm_state d [] h [] before l e = absurd (cc)
 in_arm_state d [] h (x ∷ after) before l e = absurd (cc)
@@ -68,16 +59,13 @@ in_arm_state d (s ∷ ss) h (x ∷ after) before l e =
     in_arm_state d ss h.1 after before l (same_rest (laid_behind d s (laid_of d ss)) x (laid_of d ss) (after ++ l ∷ before) e)
 
 pub sources_stay_in_arm_state : (ss : List Statement) → NoCode16 ss → InArmState ss
-sources_stay_in_arm_state ss h = in_arm_state (declared ss) ss h
+sources_stay_in_arm_state ss h = in_arm_state (declared_names ss) ss h
 
 -- ---- what stands in areas
 
-pub sources_stand_apart : (ss : List Statement) → AllSaid ss → layout_faults ss ≡ None → InArmState ss
+pub sources_stand_apart : (ss : List Statement) → layout_faults ss ≡ None → InArmState ss
     → (area : ℕ) (p q : Piece) → StandsIn (source_of ss) area p → StandsIn (source_of ss) area q → (p ≡ q) ⊎ StandApart p q
-sources_stand_apart ss said none arm =
-    let plain = said_plain ss said in
-    things_stand_apart ss (layout_sound ss none) arm
-    (literal_words_agree ss plain (loaded_literals_are_bare ss plain (said_loads_are_bare ss said)))
+sources_stand_apart ss none arm = things_stand_apart ss (layout_sound ss none) arm
 
 pub sources_lie_in_areas : (ss : List Statement) → layout_faults ss ≡ None → InArmState ss
     → (area : ℕ) (p : Piece) → StandsIn (source_of ss) area p → p.0 + length (unit_bytes p.1) ≤ area_size area (pieces_of (laid ss))

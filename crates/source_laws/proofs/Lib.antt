@@ -1,13 +1,12 @@
 pub mod AgreeLemmas
-pub mod BareLemmas
 pub mod FaultlessLemmas
 pub mod LineLemmas
 pub mod ListLemmas
 pub mod ListedLemmas
-pub mod LoadLemmas
 pub mod ObjectLemmas
 pub mod SizeLemmas
 pub mod ThingLemmas
+pub mod TreeLemmas
 pub mod UnitLemmas
 pub mod WithinLemmas
 pub mod WordLemmas

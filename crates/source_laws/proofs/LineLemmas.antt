@@ -6,8 +6,8 @@ use Rattle.sdt_fault.specs.declared.kinds.LineKind.TheVariants.{TooMany}
 use Rattle.asm_model.specs.declared.statements.Statement.{Statement}
 use Rattle.asm_model.specs.Kinds.{told_kind}
 use Rattle.asm_model.specs.Extents.{Extent}
-use Rattle.asm_model.specs.Laid.{Declared, declared, LaidLine, statements_of, taken, pieces_of, laid_behind, laid_of, laid}
-use Rattle.asm_model.specs.Labels.{defined_by}
+use Rattle.asm_model.specs.Laid.{LaidLine, statements_of, taken, pieces_of, laid_behind, laid_of, laid}
+use Rattle.asm_model.specs.Labels.{defined_by, declared_names}
 use Rattle.asm_model.specs.LayoutKinds.{fault_kinds, kind_if, map_kinds, no_area_kinds, contents_kinds, contents_behind, area_kinds, name_kinds, settled_kinds, equals_in, settled, layout_kinds, told_at, first_fault, area_bytes}
 use Rattle.asm_model.specs.Offsets.{Piece, lacking, waiting, alignment_of, end_behind, start_in, size_of, offset_of, size_behind, end_from, area_size}
 use Rattle.asm_model.proofs.LaidLemmas.{lines_stand_at_offsets}
@@ -17,10 +17,11 @@ use Rattle.layout_laws.proofs.SoundLemmas.{or_none, told_none}
 use Rattle.std.specs.Prelude.{nat_lt}
 use Rattle.asm_model.specs.Extents.{Pool}
 use Rattle.source_laws.proofs.ListLemmas.{same_first, same_rest}
+use Rattle.asm_model.specs.declared.names.LaidName.{LaidName}
 
 -- ---- lines
 
-pub is_laid : (d : Declared) (ss : List Statement) (after before : List LaidLine) (l : LaidLine) → laid_of d ss ≡ after ++ l ∷ before
+pub is_laid : (d : List LaidName) (ss : List Statement) (after before : List LaidLine) (l : LaidLine) → laid_of d ss ≡ after ++ l ∷ before
     → (s : Statement) × (l ≡ laid_behind d s before)
 is_laid d [] [] before l e = absurd (cc)
 is_laid d [] (x ∷ after) before l e = absurd (cc)
@@ -50,7 +51,7 @@ line_known S l before h =
     (area_kinds l.seen l.statement.what before) (name_kinds l.statement (statements_of before))
     (settled_kinds S (defined_by l.statement)) (kind_if (nat_lt area_bytes (l.offset + l.size)) TooMany) h
 
-pub stands_there : (d : Declared) (ss : List Statement) (after before : List LaidLine) (l : LaidLine) (x : Extent) → laid_of d ss ≡ after ++ l ∷ before → l.extent ≡ Ok x
+pub stands_there : (d : List LaidName) (ss : List Statement) (after before : List LaidLine) (l : LaidLine) (x : Extent) → laid_of d ss ≡ after ++ l ∷ before → l.extent ≡ Ok x
     → (l.offset ≡ offset_of l.area (pieces_of before) x) × (l.size ≡ size_behind l.area (pieces_of before) x)
 stands_there d ss after before l x e k =
     let p = is_laid d ss after before l e in
@@ -73,7 +74,7 @@ pub stands_in : (ss : List Statement) → IsSound ss → (area : ℕ) (after bef
 stands_in ss sound area after before l e here =
     let S = settled (equals_in ss) in
     let x = line_known S l before (line_fine S after before l (subst (λ z. first_fault S z ≡ None) e sound)) in
-    let p = stands_there (declared ss) ss after before l x.0 e x.1 in
+    let p = stands_there (declared_names ss) ss after before l x.0 e x.1 in
     let t : taken l.extent ≡ x.0 = ap taken x.1 in (
       p.0 ∙ ap (λ a. offset_of a (pieces_of before) x.0) here ∙ ap (start_in area (pieces_of before)) (sym t),
       p.1 ∙ ap (λ a. size_behind a (pieces_of before) x.0) here ∙ ap (size_behind (Some area) (pieces_of before)) (sym t),

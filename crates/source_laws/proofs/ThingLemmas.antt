@@ -6,7 +6,7 @@ use Rattle.sdt_fault.specs.declared.kinds.LineKind.{LineKind}
 use Rattle.asm_model.specs.declared.statements.Statement.{Statement}
 use Rattle.asm_model.specs.declared.values.Value.{Value}
 use Rattle.asm_model.specs.Extents.{Extent, Block, Padding, Loading, Pool, extent_of}
-use Rattle.asm_model.specs.Laid.{LaidLine, taken, pieces_of, declared, laid}
+use Rattle.asm_model.specs.Laid.{LaidLine, taken, pieces_of, laid}
 use Rattle.asm_model.specs.LayoutKinds.{equals_in, settled, first_fault}
 use Rattle.asm_model.specs.Marks.{datum_names}
 use Rattle.asm_model.specs.Offsets.{waiting, start_in, area_size, is_pool, is_pool_of}
@@ -15,12 +15,14 @@ use Rattle.asm_model.specs.Sound.{IsSound}
 use Rattle.source_model.specs.Contexts.{Context, sees}
 use Rattle.source_model.specs.Objects.{Piece, unit_bytes, units_bytes, units_from, or_none, literal_unit, literal_piece, source_of, IsAmong, StandsIn}
 use Rattle.source_model.specs.Units.{Emitted, Word, Stored, stored, units}
-use Rattle.source_laws.specs.Laws.{word_among, InArmState, context_behind, stored_literal, WordsAgree, StandApart}
+use Rattle.source_laws.specs.Laws.{word_among, InArmState, context_behind, stored_literal, StandApart}
 use Rattle.source_laws.proofs.ListLemmas.{Before, Same, places}
 use Rattle.source_laws.proofs.LineLemmas.{is_laid, line_fine, line_known, stands_in, statements_stand_apart, statements_lie_in_areas}
 use Rattle.source_laws.proofs.SizeLemmas.{units_fit, pools_put_nothing}
 use Rattle.source_laws.proofs.UnitLemmas.{units_lie_inside, units_stand_apart}
 use Rattle.source_laws.proofs.WordLemmas.{words_lie_in_areas, words_meet_no_statement, literals_stand_apart}
+use Rattle.asm_model.specs.Labels.{declared_names}
+use Rattle.source_laws.proofs.AgreeLemmas.{literal_words_agree, line_area}
 
 -- ---- things in lists
 
@@ -119,7 +121,7 @@ own_words statements after l before =
 pub seen_extent : (ss : List Statement) (after before : List LaidLine) (l : LaidLine) → laid ss ≡ after ++ l ∷ before
     → (l.extent ≡ extent_of l.seen l.statement.what) × (l.seen.known.thumb ≡ l.thumb)
 seen_extent ss after before l e =
-    let p = is_laid (declared ss) ss after before l e in
+    let p = is_laid (declared_names ss) ss after before l e in
     subst (λ (z : LaidLine). (z.extent ≡ extent_of z.seen z.statement.what) × (z.seen.known.thumb ≡ z.thumb)) (sym p.1) (refl, refl)
 
 pub known_extent : (ss : List Statement) → IsSound ss → (after before : List LaidLine) (l : LaidLine) → laid ss ≡ after ++ l ∷ before
@@ -227,20 +229,20 @@ pub same_stored : (a b : Stored) (r : Result Stored LineKind) → r ≡ Ok a →
 same_stored a b r h k = ap (stored_or a) (sym h ∙ k)
 
 -- of two words of different lines the one of the later line first
-pub words_of_lines : (ss : List Statement) → WordsAgree ss → (area : ℕ) (after between before : List LaidLine) (l m : LaidLine) (p q : Piece)
+pub words_of_lines : (ss : List Statement) → (area : ℕ) (after between before : List LaidLine) (l m : LaidLine) (p q : Piece)
     → laid ss ≡ after ++ l ∷ (between ++ m ∷ before) → l.area ≡ Some area → m.area ≡ Some area
     → IsWord ss (context_behind ss l (between ++ m ∷ before)) (taken l.extent) (word_among after l (between ++ m ∷ before)) p
     → IsWord ss (context_behind ss m before) (taken m.extent) (word_among (after ++ l ∷ between) m before) q
     → (p ≡ q) ⊎ StandApart p q
-words_of_lines ss agree area after between before l m p q e here there x y =
+words_of_lines ss area after between before l m p q e here there x y =
     by_side (word_end x.place x.holds p x.is) (word_end y.place y.holds q y.is)
     (literals_stand_apart ss area after between before l m x.size y.size x.value y.value x.place y.place e here there x.extent y.extent x.stands y.stands)
   where
     same_holds : x.value ≡ y.value → x.holds ≡ y.holds
     same_holds v =
         same_stored x.holds y.holds (stored_literal ss (context_behind ss l (between ++ m ∷ before)) x.value) x.stores
-        (agree area after (between ++ m ∷ before) (after ++ l ∷ between) before l m x.size y.size x.value e
-        (e ∙ sym (append_assoc after (l ∷ between) (m ∷ before))) here there x.extent (y.extent ∙ ap (Loading y.size) (sym v))
+        (literal_words_agree ss (between ++ m ∷ before) before l m
+        (line_area ss after (between ++ m ∷ before) l e ∙ here ∙ sym there ∙ sym (line_area ss (after ++ l ∷ between) before m (e ∙ sym (append_assoc after (l ∷ between) (m ∷ before))))) x.value
         ∙ ap (stored_literal ss (context_behind ss m before)) v ∙ y.stores)
 
     by_side : (p.0 ≡ x.place) × (p.0 + length (unit_bytes p.1) ≡ x.place + 4) → (q.0 ≡ y.place) × (q.0 + length (unit_bytes q.1) ≡ y.place + 4)
@@ -251,10 +253,10 @@ words_of_lines ss agree area after between before l m p q e here there x y =
     by_side a b (inr (inl r)) = inr (inr (word_before p.0 y.place x.place q b r (subst (λ z. x.place ≤ z) (sym a.0) (omega arith))))
     by_side a b (inr (inr r)) = inr (inl (word_before q.0 x.place y.place p a r (subst (λ z. y.place ≤ z) (sym b.0) (omega arith))))
 
-pub two_words : (ss : List Statement) → WordsAgree ss → (area : ℕ) (after before behind front : List LaidLine) (l m : LaidLine) (p q : Piece)
+pub two_words : (ss : List Statement) → (area : ℕ) (after before behind front : List LaidLine) (l m : LaidLine) (p q : Piece)
     → laid ss ≡ after ++ l ∷ before → laid ss ≡ behind ++ m ∷ front → l.area ≡ Some area → m.area ≡ Some area
     → IsAmong p (own_words ss after l before) → IsAmong q (own_words ss behind m front) → (p ≡ q) ⊎ StandApart p q
-two_words ss agree area after before behind front l m p q e f here there h k = by_place (places after before behind front l m (sym e ∙ f))
+two_words ss area after before behind front l m p q e f here there h k = by_place (places after before behind front l m (sym e ∙ f))
   where
     by_place : Same after l before behind m front ⊎ (Before after l before behind m front ⊎ Before behind m front after l before) → (p ≡ q) ⊎ StandApart p q
     by_place (inl s) =
@@ -262,14 +264,14 @@ two_words ss agree area after before behind front l m p q e f here there h k = b
         (subst (λ z. IsAmong q (own_words ss z l before)) (sym s.2)
         (subst (λ z. IsAmong q (own_words ss behind l z)) (sym s.1) (subst (λ z. IsAmong q (own_words ss behind z front)) (sym s.0) k))))
     by_place (inr (inl b)) =
-        words_of_lines ss agree area after b.0 front l m p q (e ∙ ap (λ z. after ++ l ∷ z) b.1) here there
+        words_of_lines ss area after b.0 front l m p q (e ∙ ap (λ z. after ++ l ∷ z) b.1) here there
         (subst (λ z. IsWord ss (context_behind ss l z) (taken l.extent) (word_among after l z) p) b.1
         (is_word ss (context_behind ss l before) (taken l.extent) (word_among after l before) p h))
         (subst (λ z. IsWord ss (context_behind ss m front) (taken m.extent) (word_among z m front) q) b.2
         (is_word ss (context_behind ss m front) (taken m.extent) (word_among behind m front) q k))
     by_place (inr (inr b)) =
         swapped q p
-        (words_of_lines ss agree area behind b.0 before m l q p (f ∙ ap (λ z. behind ++ m ∷ z) b.1) there here
+        (words_of_lines ss area behind b.0 before m l q p (f ∙ ap (λ z. behind ++ m ∷ z) b.1) there here
         (subst (λ z. IsWord ss (context_behind ss m z) (taken m.extent) (word_among behind m z) q) b.1
         (is_word ss (context_behind ss m front) (taken m.extent) (word_among behind m front) q k))
         (subst (λ z. IsWord ss (context_behind ss l before) (taken l.extent) (word_among z l before) p) b.2
@@ -277,9 +279,9 @@ two_words ss agree area after before behind front l m p q e f here there h k = b
 
 -- ---- laws
 
-pub things_stand_apart : (ss : List Statement) → IsSound ss → InArmState ss → WordsAgree ss
+pub things_stand_apart : (ss : List Statement) → IsSound ss → InArmState ss
     → (area : ℕ) (p q : Piece) → StandsIn (source_of ss) area p → StandsIn (source_of ss) area q → (p ≡ q) ⊎ StandApart p q
-things_stand_apart ss sound arm agree area p q x y =
+things_stand_apart ss sound arm area p q x y =
     by_kind
     (among_either p (own_units ss x.at.rest x.owner x.at.before) (own_words ss x.at.rest x.owner x.at.before) x.among)
     (among_either q (own_units ss y.at.rest y.owner y.at.before) (own_words ss y.at.rest y.owner y.at.before) y.among)
@@ -296,7 +298,7 @@ things_stand_apart ss sound arm agree area p q x y =
         (inr (unit_and_word ss sound arm area y.at.rest y.at.before x.at.rest x.at.before y.owner x.owner q p y.at.parts x.at.parts y.own x.own k
         (is_word ss (context_behind ss x.owner x.at.before) (taken x.owner.extent) (word_among x.at.rest x.owner x.at.before) p h)))
     by_kind (inr h) (inr k) =
-        two_words ss agree area x.at.rest x.at.before y.at.rest y.at.before x.owner y.owner p q x.at.parts y.at.parts x.own y.own h k
+        two_words ss area x.at.rest x.at.before y.at.rest y.at.before x.owner y.owner p q x.at.parts y.at.parts x.own y.own h k
 
 pub things_lie_in_areas : (ss : List Statement) → IsSound ss → InArmState ss
     → (area : ℕ) (p : Piece) → StandsIn (source_of ss) area p → p.0 + length (unit_bytes p.1) ≤ area_size area (pieces_of (laid ss))

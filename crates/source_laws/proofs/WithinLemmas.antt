@@ -1,21 +1,20 @@
 -- Each name stands in an area of the source, or in none.
-use Rattle.std.proofs.Common.{◌≡◌, ◌≤◌, ◌<◌, ℕ, zero, suc, Bool, true, false, cond, List, [], ◌∷◌, ◌++◌, length, map, Option, Some, None, ap, subst, arith}
-use Rattle.std.specs.Prelude.{Result, Ok, Err, ◌==◌, ◌&&◌, nat_le, nat_lt, codes}
+use Rattle.std.proofs.Common.{◌≡◌, ◌≤◌, ◌<◌, ℕ, zero, suc, Bool, true, false, cond, List, [], ◌∷◌, ◌++◌, length, Option, Some, None, ap, subst, arith}
+use Rattle.std.specs.Prelude.{Result, Ok, Err}
 use Rattle.sdt_fault.specs.declared.kinds.LineKind.{LineKind}
 use Rattle.asm_model.specs.declared.names.LaidName.{LaidName}
 use Rattle.asm_model.specs.declared.statements.Statement.{Statement}
 use Rattle.asm_model.specs.declared.values.Value.{Value}
 use Rattle.asm_model.specs.declared.values.Value.TheVariants.{Number, Truth, Words, Place}
-use Rattle.asm_model.specs.AtLine.{Definition, Nameless, Named, Equated, SourceLine, with_names, all_names, made_name}
+use Rattle.asm_model.specs.AtLine.{Definition, Nameless, Named, Equated, SourceLine, with_names, made_name}
 use Rattle.asm_model.specs.Forms.{same}
 use Rattle.asm_model.specs.Grammar.{Tree}
 use Rattle.asm_model.specs.Meaning.{named_in, meaning, entry_stands_at, in_area}
 use Rattle.asm_model.specs.Before.{area_named, with_name, areas_behind, place_of, area_from, area_behind}
 use Rattle.asm_model.specs.Entries.{equal_entry}
-use Rattle.asm_model.specs.Labels.{Defined, Unnamed, LocalLabel, Label, Equal, MapField, RegisterName, defined_by, imported_in}
-use Rattle.asm_model.specs.Laid.{Declared, LaidLine, statements_of, laid_of, laid_behind, reversed, final_line, final_lines, tree_equated, definition_of, imported_lines, entries_with, all_entries, names_after, map_behind, offset_behind, locals_of}
-use Rattle.asm_model.specs.Before.{is_thumb_label, stretch_behind}
-use Rattle.asm_model.specs.Locals.{Local, local_entries, digits_of, reference, references_to, is_new, back_of, forth_of}
+use Rattle.asm_model.specs.Labels.{Defined, Unnamed, Label, Equal, MapField, RegisterName, defined_by, imported_in}
+use Rattle.asm_model.specs.Laid.{LaidLine, statements_of, laid_of, laid_behind, tree_equated, definition_of, imported_lines, entries_with, all_entries, names_after, map_behind, offset_behind, source_lines}
+use Rattle.asm_model.specs.Before.{is_thumb_label}
 use Rattle.asm_model.specs.Trees.{tree_of}
 use Rattle.source_laws.proofs.ZeroLemmas.{place_below, named_with, no_fewer}
 use Rattle.asm_model.proofs.OffsetLemmas.{through as low_of}
@@ -84,7 +83,7 @@ made_within n make (Err k) h = tt
 entries_within : (n : ℕ) (names : List LaidName) (l : SourceLine) (d : Definition) → DefinesWithin n d → AllWithin n (entries_with names l d)
 entries_within n names l Nameless h = tt
 entries_within n names l (Named e) h = (h, tt)
-entries_within n names l (Equated make t) h = made_within n make (meaning (with_names l (all_names names l)) t) h
+entries_within n names l (Equated make t) h = made_within n make (meaning (with_names l names) t) h
 
 all_within : (n : ℕ) (names : List LaidName) (ls : List SourceLine) → LinesWithin n ls → AllWithin n (all_entries names ls)
 all_within n names [] h = tt
@@ -109,71 +108,34 @@ tree_within n names area name (Some t) h = λ v. equal_within n names area name 
 definition_within : (n : ℕ) (names : List LaidName) (d : Defined) (area : Option ℕ) (offset size : ℕ) (thumb : Bool) (m : ℕ) → IsWithin n area
     → DefinesWithin n (definition_of names d area offset size thumb m)
 definition_within n names Unnamed area offset size thumb m h = tt
-definition_within n names (LocalLabel k) area offset size thumb m h = tt
 definition_within n names (Label name) area offset size thumb m h = h
 definition_within n names (Equal name e) area offset size thumb m h = tree_within n names area name (tree_of e) h
 definition_within n names (MapField name) area offset size thumb m h = tt
 definition_within n names (RegisterName name r) area offset size thumb m h = tt
 
-imports_within : (n : ℕ) (d : Declared) (s : Statement) (before : List LaidLine) (o : Option (List ℕ)) → LinesWithin n (imported_lines d s before o)
-imports_within n d s before None = tt
-imports_within n d s before (Some name) = (tt, tt)
+imports_within : (n : ℕ) (s : Statement) (before : List LaidLine) (o : Option (List ℕ)) → LinesWithin n (imported_lines s before o)
+imports_within n s before None = tt
+imports_within n s before (Some name) = (tt, tt)
 
-lines_within : (n : ℕ) (locals : List Local) (d : Declared) (ss : List Statement) → length (areas_behind (statements_of (laid_of d ss))) ≤ n
-    → LinesWithin n (final_lines locals (laid_of d ss))
-lines_within n locals d [] h = tt
-lines_within n locals d (s ∷ ss) h =
+lines_within : (n : ℕ) (d : List LaidName) (ss : List Statement) → length (areas_behind (statements_of (laid_of d ss))) ≤ n
+    → LinesWithin n (source_lines (laid_of d ss))
+lines_within n d [] h = tt
+lines_within n d (s ∷ ss) h =
     let before = laid_of d ss in
     let area = area_behind (s ∷ statements_of before) in
-    lines_joined n (final_lines locals before) (final_line locals (laid_behind d s before) before ∷ imported_lines d s before (imported_in s.what))
-    (lines_within n locals d ss
+    lines_joined n (source_lines before) ((laid_behind d s before).line ∷ imported_lines s before (imported_in s.what))
+    (lines_within n d ss
     (low_of (length (areas_behind (statements_of before))) (length (areas_behind (s ∷ statements_of before))) n (fewer (area_named s.what) (areas_behind (statements_of before))) h)) (
-      definition_within n d.names (defined_by s) area (offset_behind s before) (laid_behind d s before).size (is_thumb_label s (statements_of before)) (map_behind before)
+      definition_within n d (defined_by s) area (offset_behind s before) (laid_behind d s before).size (is_thumb_label s (statements_of before)) (map_behind before)
           (area_within n (s ∷ statements_of before) h),
-      imports_within n d s before (imported_in s.what),
+      imports_within n s before (imported_in s.what),
     )
 
-pub names_within : (n k : ℕ) (locals : List Local) (d : Declared) (ss : List Statement) → length (areas_behind (statements_of (laid_of d ss))) ≤ n
-    → AllWithin n (names_after k (final_lines locals (laid_of d ss)))
-names_within n k locals d ss h = rounds_within n k (final_lines locals (laid_of d ss)) (lines_within n locals d ss h)
+pub names_within : (n k : ℕ) (d : List LaidName) (ss : List Statement) → length (areas_behind (statements_of (laid_of d ss))) ≤ n
+    → AllWithin n (names_after k (source_lines (laid_of d ss)))
+names_within n k d ss h = rounds_within n k (source_lines (laid_of d ss)) (lines_within n d ss h)
 
--- ---- references to local labels
-
-spelled_within : (n : ℕ) (area : Option ℕ) (l : Local) (mark : List ℕ) (texts : List (List ℕ)) → IsWithin n area
-    → AllWithin n (map (λ digits. reference area l (mark ++ digits)) texts)
-spelled_within n area l mark [] h = tt
-spelled_within n area l mark (t ∷ ts) h = (h, spelled_within n area l mark ts h)
-
-references_within : (n : ℕ) (area : Option ℕ) (l : Local) (marks : List (List ℕ)) → IsWithin n area → AllWithin n (references_to area l marks)
-references_within n area l [] h = tt
-references_within n area l (mark ∷ marks) h =
-    joined n (map (λ digits. reference area l (mark ++ digits)) (digits_of l.number)) (references_to area l marks)
-    (spelled_within n area l mark (digits_of l.number) h) (references_within n area l marks h)
-
-either_within : (n : ℕ) (b : Bool) (xs ys zs : List LaidName) → AllWithin n xs → AllWithin n ys → AllWithin n zs → AllWithin n (cond b (xs ++ ys) zs)
-either_within n true xs ys zs h g k = joined n xs ys h g
-either_within n false xs ys zs h g k = k
-
-pub back_within : (n : ℕ) (area : Option ℕ) (stretch statement : ℕ) (nearer : List ℕ) (ls : List Local) → IsWithin n area → AllWithin n (back_of area stretch statement nearer ls)
-back_within n area stretch statement nearer [] h = tt
-back_within n area stretch statement nearer (l ∷ ls) h =
-    either_within n (l.stretch == stretch && nat_le l.statement statement && is_new l.number nearer) (references_to area l (codes "%B" ∷ codes "%" ∷ []))
-    (back_of area stretch statement (l.number ∷ nearer) ls) (back_of area stretch statement nearer ls)
-    (references_within n area l (codes "%B" ∷ codes "%" ∷ []) h) (back_within n area stretch statement (l.number ∷ nearer) ls h) (back_within n area stretch statement nearer ls h)
-
-pub forth_within : (n : ℕ) (area : Option ℕ) (stretch statement : ℕ) (nearer : List ℕ) (ls : List Local) → IsWithin n area → AllWithin n (forth_of area stretch statement nearer ls)
-forth_within n area stretch statement nearer [] h = tt
-forth_within n area stretch statement nearer (l ∷ ls) h =
-    either_within n (l.stretch == stretch && nat_lt statement l.statement && is_new l.number nearer) (references_to area l (codes "%F" ∷ codes "%" ∷ []))
-    (forth_of area stretch statement (l.number ∷ nearer) ls) (forth_of area stretch statement nearer ls)
-    (references_within n area l (codes "%F" ∷ codes "%" ∷ []) h) (forth_within n area stretch statement (l.number ∷ nearer) ls h) (forth_within n area stretch statement nearer ls h)
-
--- ---- what a line sees
-
-pub record SeesWithin (n : ℕ) (l : SourceLine) : Type 0 where
-  pub area : IsWithin n l.area
-  pub back : AllWithin n l.back
-  pub forth : AllWithin n l.forth
+-- ---- where a name stands
 
 first_in : Option (ℕ × ℕ) → ℕ
 first_in None = 0
@@ -184,27 +146,10 @@ unfolding first_in
 area_stands n None x a o k e = absurd (cc)
 area_stands n (Some b) x a o k e = let is : b ≡ a = ap first_in e in subst (λ m. m < n) is k
 
-named_within : (n : ℕ) (q : List ℕ) (es : List LaidName) (a o : ℕ) → AllWithin n es → entry_stands_at (named_in q es) ≡ Some (a, o) → a < n
+pub named_within : (n : ℕ) (q : List ℕ) (es : List LaidName) (a o : ℕ) → AllWithin n es → entry_stands_at (named_in q es) ≡ Some (a, o) → a < n
 named_within n q [] a o h e = absurd (cc)
 named_within n q (x ∷ es) a o h e = by_test (same x.name q) e (named_within n q es a o h.1)
   where
     by_test : (b : Bool) → entry_stands_at (cond b (Some x) (named_in q es)) ≡ Some (a, o) → (entry_stands_at (named_in q es) ≡ Some (a, o) → a < n) → a < n
     by_test true e rest = area_stands n x.area x.offset a o h.0 e
     by_test false e rest = rest e
-
-pub stands_within : (n : ℕ) (names : List LaidName) (l : SourceLine) → AllWithin n names → SeesWithin n l → (q : List ℕ) (a o : ℕ)
-    → entry_stands_at (named_in q (all_names names l)) ≡ Some (a, o) → a < n
-stands_within n names l h k q a o e =
-    named_within n q (names ++ l.back ++ l.forth) a o (joined n (names ++ l.back) l.forth (joined n names l.back h k.back) k.forth) e
-
-pub line_within : (n : ℕ) (locals : List Local) (d : Declared) (s : Statement) (before : List LaidLine) → length (areas_behind (s ∷ statements_of before)) ≤ n
-    → SeesWithin n (final_line locals (laid_behind d s before) before)
-line_within n locals d s before h =
-    let area = area_behind (s ∷ statements_of before) in
-    let stretch = stretch_behind (s ∷ statements_of before) in
-    let own = area_within n (s ∷ statements_of before) h in
-    record {
-      area = own;
-      back = back_within n area stretch (length before) [] (local_entries (defined_by s) stretch (length before) (offset_behind s before) ++ locals_of before) own;
-      forth = forth_within n area stretch (length before) [] locals own;
-    }

@@ -10,7 +10,7 @@ use Rattle.asm_model.specs.declared.values.Value.TheVariants.{Number, Place}
 use Rattle.asm_model.specs.Forms.{same}
 use Rattle.asm_model.proofs.WordLemmas.{same_true}
 use Rattle.asm_model.specs.Extents.{Extent, Block, Padding, Loading, Pool}
-use Rattle.asm_model.specs.Laid.{LaidLine, taken, pieces_of, declared, sight_behind, laid}
+use Rattle.asm_model.specs.Laid.{LaidLine, taken, pieces_of, sight_behind, laid}
 use Rattle.asm_model.specs.OffsetLaws.{joined, IsLiteral}
 use Rattle.asm_model.specs.Offsets.{Piece, is_of, lacking, alignment_of, same_literal, waiting, end_behind, start_in, area_size, place_among, word_behind, is_pool, is_pool_of, literal_word}
 use Rattle.asm_model.proofs.LaidLemmas.{loadings_are_literals}
@@ -22,6 +22,7 @@ use Rattle.source_model.specs.SourceFaults.{word_of}
 use Rattle.source_laws.specs.Laws.{word_among}
 use Rattle.source_laws.proofs.ListLemmas.{Before, Same, places}
 use Rattle.source_laws.proofs.LineLemmas.{piece_of, pieces_joined, is_laid, line_ends, line_starts, pieces_rise}
+use Rattle.asm_model.specs.Labels.{declared_names}
 
 -- a literal waits for a pool
 abbrev pub Waits : Value → List Value → Type 0
@@ -241,8 +242,8 @@ taken_loads (Err k) n v h = absurd (cc)
 pub loads_literal : (ss : List Statement) (after before : List LaidLine) (l : LaidLine) (n : ℕ) (v : Value) → laid ss ≡ after ++ l ∷ before
     → taken l.extent ≡ Loading n v → IsLiteral v
 loads_literal ss after before l n v e h =
-    let p = is_laid (declared ss) ss after before l e in
-    loadings_are_literals (sight_behind (declared ss) p.0 before) p.0.what n v
+    let p = is_laid (declared_names ss) ss after before l e in
+    loadings_are_literals (sight_behind (declared_names ss) p.0 before) p.0.what n v
     (ap (λ (z : LaidLine). z.extent) (sym p.1) ∙ taken_loads l.extent n v h)
 
 pub some_same : (a b : ℕ) → Some a ≡ Some b → a ≡ b

@@ -23,8 +23,8 @@ use Rattle.asm_model.proofs.LineLemmas.{both_empty}
 use Rattle.asm_model.proofs.WordLemmas.{same_refl, same_true}
 use Rattle.asm_model.specs.Before.{area_named, with_name, areas_behind, place_of, area_from, area_behind}
 use Rattle.asm_model.specs.Extents.{Extent, Block, Padding, Loading, Pool, number_there, as_multiple, padding, extent_of}
-use Rattle.asm_model.specs.Labels.{defined_by}
-use Rattle.asm_model.specs.Laid.{Declared, declared, LaidLine, statements_of, taken, laid_of, laid}
+use Rattle.asm_model.specs.Labels.{defined_by, declared_names}
+use Rattle.asm_model.specs.Laid.{LaidLine, statements_of, taken, laid_of, laid}
 use Rattle.asm_model.specs.LayoutKinds.{fault_kinds, kind_if, map_kinds, no_area_kinds, is_zero_statement, contents_kinds, contents_from, contents_behind, exponent, exponent_kinds, same_contents, same_mark, same_exponent, same_attributes, again_with, is_named_otherwise, area_kinds, name_kinds, equals_in, settled, settled_kinds, layout_kinds, told_at, first_fault, area_bytes}
 use Rattle.asm_model.specs.Marks.{datum_names}
 use Rattle.asm_model.specs.Offsets.{is_of}
@@ -39,6 +39,7 @@ use Rattle.source_laws.proofs.FaultlessLemmas.{layout_sound}
 use Rattle.source_laws.proofs.ListedLemmas.{owned}
 use Rattle.source_laws.proofs.ThingLemmas.{among_either, own_units, own_words, seen_extent}
 use Rattle.base_lemmas.proofs.BaseLemmas.{not_false}
+use Rattle.asm_model.specs.declared.names.LaidName.{LaidName}
 
 -- ---- places of names
 
@@ -98,7 +99,7 @@ abbrev pub AreNumbered : List LaidLine → Type 0
 AreNumbered [] = Unit {0}
 AreNumbered (l ∷ before) = (l.area ≡ area_behind (l.statement ∷ statements_of before)) × AreNumbered before
 
-pub laid_numbered : (d : Declared) (ss : List Statement) → AreNumbered (laid_of d ss)
+pub laid_numbered : (d : List LaidName) (ss : List Statement) → AreNumbered (laid_of d ss)
 laid_numbered d [] = tt
 laid_numbered d (s ∷ ss) = (refl, laid_numbered d ss)
 
@@ -414,7 +415,7 @@ zero_areas_hold_nothing ss none area p zeroes x = by_kind (among_either p (own_u
     S = settled (equals_in ss)
 
     numbered : AreNumbered (l ∷ before)
-    numbered = numbered_rest rest (l ∷ before) (subst AreNumbered x.at.parts (laid_numbered (declared ss) ss))
+    numbered = numbered_rest rest (l ∷ before) (subst AreNumbered x.at.parts (laid_numbered (declared_names ss) ss))
 
     fine : first_fault S (l ∷ before) ≡ None
     fine = fine_rest S rest (l ∷ before) (subst (λ z. first_fault S z ≡ None) x.at.parts (layout_sound ss none))

@@ -2,30 +2,23 @@
 -- statements of an area follow each other, and the words of literals lie in pools, where no statement puts anything
 -- itself. What stands in an area is listed, and so a source makes one object at most. Lines are listed with the last first.
 -- This project's.
-use Rattle.std.specs.Prelude.{◌≡◌, ◌⊎◌, ℕ, ◌+◌, ◌%◌, ◌≤◌, List, [], ◌∷◌, ◌++◌, length, Bool, true, false, if◌then◌else◌, Option, Some, None, Result, Ok}
-use Rattle.std.specs.List.{list_any}
+use Rattle.std.specs.Prelude.{◌≡◌, ◌⊎◌, ℕ, ◌+◌, ◌≤◌, List, [], ◌∷◌, ◌++◌, length, Bool, true, false, if◌then◌else◌, Option, None, Result}
 use Rattle.sdt_fault.specs.declared.kinds.LineKind.{LineKind}
 use Rattle.aof_object.specs.declared.records.Object.{Object}
-use Rattle.asm_model.specs.declared.directives.Contents.TheVariants as contents
 use Rattle.asm_model.specs.declared.directives.DirectiveLine.{DirectiveLine}
 use Rattle.asm_model.specs.declared.directives.DirectiveLine.TheVariants as line
 use Rattle.asm_model.specs.declared.statements.Statement.{Statement}
 use Rattle.asm_model.specs.declared.statements.What.{What}
 use Rattle.asm_model.specs.declared.statements.What.TheVariants as what
 use Rattle.asm_model.specs.declared.values.Value.{Value}
-use Rattle.asm_model.specs.declared.values.Value.TheVariants.{Place}
-use Rattle.asm_model.specs.AtLine.{Sight}
-use Rattle.asm_model.specs.Extents.{Extent, Loading, Pool, extent_of}
-use Rattle.asm_model.specs.Laid.{LaidLine, taken, pieces_of, laid, all_locals, final_names}
+use Rattle.asm_model.specs.Laid.{LaidLine, taken, pieces_of, laid, final_names}
 use Rattle.asm_model.specs.Marks.{datum_names}
-use Rattle.asm_model.specs.Offsets.{size_of, area_size, is_of, is_pool, is_pool_of}
+use Rattle.asm_model.specs.Offsets.{is_of}
 use Rattle.asm_model.specs.Symbols.{literal_value}
-use Rattle.asm_model.specs.Sound.{IsSound, IsBare, ArePlain}
-use Rattle.said_model.specs.Said.{LoadsBare, AllSaid}
 use Rattle.source_model.specs.Contexts.{Context, sees}
-use Rattle.source_model.specs.Objects.{Piece, unit_bytes, units_bytes, units_from, pieces_in, Source, source_of, in_order, IsAmong, StandsIn, contents_of, IsObject}
+use Rattle.source_model.specs.Objects.{Piece, unit_bytes, pieces_in, Source, source_of, in_order, IsAmong, StandsIn, IsObject}
 use Rattle.source_model.specs.SourceFaults.{layout_faults, context_of, word_of}
-use Rattle.source_model.specs.Units.{Emitted, Stored, stored, units}
+use Rattle.source_model.specs.Units.{Stored, stored}
 
 -- ---- sizes
 
@@ -53,38 +46,15 @@ InArmState statements =
     (after before : List LaidLine) (l : LaidLine) → laid statements ≡ after ++ l ∷ before → l.thumb ≡ false
 
 abbrev pub context_behind : List Statement → LaidLine → List LaidLine → Context
-context_behind statements l before = context_of (final_names (laid statements)) (all_locals (laid statements)) statements l before
+context_behind statements l before = context_of (final_names (laid statements)) statements l before
 
 -- what the word of a literal holds
 abbrev pub stored_literal : List Statement → Context → Value → Result Stored LineKind
 stored_literal statements c v = stored c (datum_names statements) (literal_value (sees c) v)
 
--- a literal has one word at all lines of an area
-abbrev pub WordsAgree : List Statement → Type 0
-WordsAgree statements =
-    (area : ℕ) (after before behind front : List LaidLine) (l m : LaidLine) (n k : ℕ) (v : Value)
-    → laid statements ≡ after ++ l ∷ before → laid statements ≡ behind ++ m ∷ front → l.area ≡ Some area → m.area ≡ Some area
-    → taken l.extent ≡ Loading n v → taken m.extent ≡ Loading k v
-    → stored_literal statements (context_behind statements l before) v ≡ stored_literal statements (context_behind statements m front) v
-
 -- of two things that stand in an area each ends before the other, or they are the same
 abbrev pub StandApart : Piece → Piece → Type 0
 StandApart p q = (p.0 + length (unit_bytes p.1) ≤ q.0) ⊎ (q.0 + length (unit_bytes q.1) ≤ p.0)
-
-abbrev pub HasBareSymbol : Value → Type 0
-HasBareSymbol (Place s n) = IsBare s
-HasBareSymbol _ = Unit {0}
-
--- the symbol of each literal begins with no bar, as names of lines don't
-abbrev pub LiteralsAreBare : List Statement → Type 0
-LiteralsAreBare statements =
-    (after before : List LaidLine) (l : LaidLine) (n : ℕ) (v : Value)
-    → laid statements ≡ after ++ l ∷ before → taken l.extent ≡ Loading n v → HasBareSymbol v
-
--- in what statements load, names begin with no bar and no constant is a place
-abbrev pub AllLoadBare : List Statement → Type 0
-AllLoadBare [] = Unit {0}
-AllLoadBare (s ∷ before) = LoadsBare s.what × AllLoadBare before
 
 -- what a line puts into the area, where these lines stand before it, the nearest first, and these behind it, in their order
 abbrev pub things_of : List Statement → ℕ → LaidLine → List LaidLine → List LaidLine → List Piece
@@ -108,7 +78,7 @@ ThingsAreListed =
     → (StandsIn (source_of statements) area p → IsAmong p (things_in (source_of statements) area))
     × (IsAmong p (things_in (source_of statements) area) → StandsIn (source_of statements) area p)
 
--- ---- sources without faults, as lines say them
+-- ---- sources without faults
 
 abbrev pub IsNoCode16 : What → Type 0
 IsNoCode16 (what.Directive line.Code16) = ⊥
@@ -124,7 +94,7 @@ SourcesStayInArmState = (statements : List Statement) → NoCode16 statements �
 
 abbrev pub SourcesStandApart : Type 0
 SourcesStandApart =
-    (statements : List Statement) → AllSaid statements → layout_faults statements ≡ None → InArmState statements
+    (statements : List Statement) → layout_faults statements ≡ None → InArmState statements
     → (area : ℕ) (p q : Piece) → StandsIn (source_of statements) area p → StandsIn (source_of statements) area q
     → (p ≡ q) ⊎ StandApart p q
 

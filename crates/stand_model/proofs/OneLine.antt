@@ -5,7 +5,7 @@ use Rattle.sdt_word.specs.Bytes.{bytes_of}
 use Rattle.aof_object.specs.declared.records.Symbol.{Symbol}
 use Rattle.asm_model.specs.declared.statements.Statement.{Statement}
 use Rattle.asm_model.specs.Before.{areas_behind}
-use Rattle.asm_model.specs.Laid.{LaidLine, taken, pieces_of, laid, all_locals}
+use Rattle.asm_model.specs.Laid.{LaidLine, taken, pieces_of, laid}
 use Rattle.asm_model.specs.LayoutKinds.{is_thumb_area}
 use Rattle.asm_model.specs.Marks.{datum_names}
 use Rattle.asm_model.specs.Offsets.{area_size}
@@ -16,7 +16,7 @@ use Rattle.stand_model.proofs.OneWord.{at_start, word_area, object, only_one}
 -- what a line puts into its area between others
 abbrev pub pieces_with : Source → LaidLine → List LaidLine → List LaidLine → List Piece
 pieces_with s l before rest =
-    pieces_in (context_of s.names (all_locals s.lines) s.statements l before) (datum_names s.statements) l
+    pieces_in (context_of s.names s.statements l before) (datum_names s.statements) l
     (word_of l.area (taken l.extent) (pieces_of (l ∷ before)) (pieces_of (in_order rest [])))
 
 -- the last line has this thing alone, and the two before it have none

@@ -16,7 +16,8 @@ use Rattle.asm_model.specs.declared.statements.What.{What}
 use Rattle.asm_model.specs.declared.statements.What.TheVariants as what
 use Rattle.asm_model.specs.declared.values.Value.TheVariants.{Number}
 use Rattle.asm_model.specs.Before.{is_code}
-use Rattle.asm_model.specs.Laid.{LaidLine, declared, laid_behind, laid_of}
+use Rattle.asm_model.specs.Labels.{declared_names}
+use Rattle.asm_model.specs.Laid.{LaidLine, laid_behind, laid_of}
 use Rattle.source_model.specs.Objects.{Piece, source_of, IsObject}
 use Rattle.source_model.specs.SourceFaults.{statements_fault}
 use Rattle.source_model.specs.Units.{ByArea, BySymbol, Word, Instruction}
@@ -72,7 +73,7 @@ branch_source link = branch_far link ∷ import_far ∷ area contents.Code ∷ [
 -- ---- their objects
 
 abbrev line_of : List Statement → Statement → List Statement → LaidLine
-line_of all s before = laid_behind (declared all) s (laid_of (declared all) before)
+line_of all s before = laid_behind (declared_names all) s (laid_of (declared_names all) before)
 
 abbrev own_word : Piece
 own_word = (0, Word (record { number = 0; target = ByArea 0 }))
