@@ -4,7 +4,6 @@ use Rattle.sdt_fault.specs.declared.kinds.LineKind.{LineKind}
 use Rattle.asm_model.specs.FaultSets.{first_told}
 use Rattle.asm_model.specs.Kinds.{told_kind}
 use Rattle.asm_model.proofs.FaultLemmas.{first_assoc, told_by_parts}
-use Rattle.asm_model.proofs.SharedLemmas.{told_of_two}
 
 pub told_of_five : (here attributes defined : Option LineKind) (ks ls ms ns os : List LineKind)
     → here ≡ first_told (told_kind ks) (told_kind ls) → attributes ≡ told_kind ms → defined ≡ first_told (told_kind ns) (told_kind os)

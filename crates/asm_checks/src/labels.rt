@@ -1,6 +1,6 @@
 //! What statements define.
 
-ghost use Rattle.std.specs.Prelude.{◌≡◌, ◌∷◌, [], if◌then◌else◌};
+ghost use Rattle.std.specs.Prelude.{◌≡◌};
 ghost use Rattle.std.specs.List.{list_any};
 ghost use Rattle.std.specs.Option.{option_copied};
 ghost use Rattle.asm_model.specs.Labels as defined;
@@ -10,70 +10,22 @@ ghost use Rattle.asm_checks.specs.Names.{is_equal as is_equal_name};
 use asm_model::{DirectiveLine, Expr, ExprItem, Statement, What};
 use sdt_fault::Text;
 
-/// Whether a label stands for its place. An empty one stands for nothing.
-fn is_label(label: &Text) -> bool
-    ensures { result ≡ layout.has_place (defined.labelled label.now) }
-{
-    match label.as_slice() {
-        [] => false,
-        [_, ..] => true,
-    }
-}
-
-/// Whether a label is a name: a local label's digits stand behind a bar.
-fn is_name(label: &Text) -> bool
-    ensures { layout.own_name (defined.labelled label.now) ≡ (if result then label.now ∷ [] else []) }
-{
-    match label.as_slice() {
-        [] => false,
-        [first, ..] => *first != b'|',
-    }
-}
-
-/// Whether a directive's label stands for its place.
-fn is_place_of(line: &DirectiveLine, label: &Text) -> bool
-    ensures { result ≡ layout.has_place (defined.directive_defines label.now line.now) }
-{
-    match line {
-        DirectiveLine::Equ { .. }
-        | DirectiveLine::Rn { .. }
-        | DirectiveLine::Field { .. }
-        | DirectiveLine::Rout => false,
-        _ => is_label(label),
-    }
-}
-
 /// Whether a statement has a label of its place.
 pub fn has_place(statement: &Statement) -> bool
     ensures { result ≡ layout.has_place (defined.defined_by statement.now) }
 {
-    let Some(label) = &statement.label else {
-        return false;
-    };
-    match &statement.what {
-        What::Directive(line) => is_place_of(line, label),
-        _ => is_label(label),
-    }
-}
-
-/// Whether a directive's label is a name.
-fn is_name_of(line: &DirectiveLine, label: &Text) -> bool
-    ensures { layout.own_name (defined.directive_defines label.now line.now) ≡ (if result then label.now ∷ [] else []) }
-{
-    match line {
-        DirectiveLine::Equ { .. } | DirectiveLine::Rn { .. } | DirectiveLine::Field { .. } => true,
-        DirectiveLine::Rout => false,
-        _ => is_name(label),
-    }
-}
-
-/// Whether a statement's label is a name.
-fn is_name_in(what: &What, label: &Text) -> bool
-    ensures { layout.own_name (defined.what_defines label.now what.now) ≡ (if result then label.now ∷ [] else []) }
-{
-    match what {
-        What::Directive(line) => is_name_of(line, label),
-        _ => is_name(label),
+    match (&statement.label, &statement.what) {
+        (None, _) => false,
+        (
+            Some(_),
+            What::Directive(
+                DirectiveLine::Equ { .. }
+                | DirectiveLine::Rn { .. }
+                | DirectiveLine::Field { .. }
+                | DirectiveLine::Rout,
+            ),
+        ) => false,
+        (Some(_), _) => true,
     }
 }
 
@@ -81,13 +33,11 @@ fn is_name_in(what: &What, label: &Text) -> bool
 pub fn own_name(statement: &Statement) -> Option<&Text>
     ensures { layout.listed (option_copied result) ≡ layout.own_name (defined.defined_by statement.now) }
 {
-    let Some(label) = &statement.label else {
-        return None;
-    };
-    if is_name_in(&statement.what, label) {
-        return Some(label);
+    match (&statement.label, &statement.what) {
+        (None, _) => None,
+        (Some(_), What::Directive(DirectiveLine::Rout)) => None,
+        (Some(label), _) => Some(label),
     }
-    None
 }
 
 /// The name that a statement imports.
