@@ -1,5 +1,5 @@
 -- What all entries of names keep, and all statements: names are texts, and areas are those of the source.
-use Rattle.std.proofs.Common.{◌≡◌, ℕ, zero, suc, ◌<◌, ◌≤◌, ◌==◌, List, [], ◌∷◌, ◌++◌, length, Bool, true, false, cond, refl, sym, ◌∙◌, ap, subst, arith, Option, Some, None}
+use Rattle.std.proofs.Common.{◌≡◌, ℕ, zero, suc, ◌<◌, ◌≤◌, List, [], ◌∷◌, ◌++◌, length, Bool, true, false, cond, refl, sym, ◌∙◌, ap, subst, arith, Option, Some, None}
 use Rattle.std.specs.Prelude.{Result, Ok, Err, slice_get}
 use Rattle.std.specs.List.{AllByRecursion, list_any}
 use Rattle.sdt_fault.specs.declared.kinds.LineKind.{LineKind}
@@ -10,20 +10,18 @@ use Rattle.asm_model.specs.declared.statements.What.{What}
 use Rattle.asm_model.specs.declared.statements.What.TheVariants as what
 use Rattle.asm_model.specs.declared.values.Value.{Value}
 use Rattle.asm_model.specs.declared.values.Value.TheVariants.{Number, Truth, Words, Place}
-use Rattle.asm_model.specs.AtLine.{Definition, Nameless, Named, Equated, SourceLine, with_names, all_names, made_name}
+use Rattle.asm_model.specs.AtLine.{Definition, Nameless, Named, Equated, SourceLine, with_names, made_name}
 use Rattle.asm_model.specs.Forms.{same}
 use Rattle.asm_model.specs.Grammar.{Tree}
 use Rattle.asm_model.specs.Meaning.{named_in, meaning}
 use Rattle.asm_model.specs.Before.{area_named, with_name, areas_behind, place_of, area_from, area_behind, is_thumb_label}
 use Rattle.asm_model.specs.Entries.{equal_entry}
-use Rattle.asm_model.specs.Labels.{Defined, Unnamed, LocalLabel, Label, Equal, MapField, RegisterName, number_in, labelled, field_defines, defined_by, imported_in}
-use Rattle.asm_model.specs.Laid.{Declared, declared, LaidLine, statements_of, map_behind, offset_behind, tree_equated, definition_of, imported_lines, laid_behind, laid_of, laid, all_locals, final_line, final_lines, source_lines, entries_with, all_entries, names_after, final_names}
-use Rattle.asm_model.specs.Locals.{Local}
+use Rattle.asm_model.specs.Labels.{Defined, Unnamed, Label, Equal, MapField, RegisterName, field_defines, defined_by, imported_in, declared_names}
+use Rattle.asm_model.specs.Laid.{LaidLine, statements_of, map_behind, offset_behind, tree_equated, definition_of, imported_lines, laid_behind, laid_of, laid, source_lines, entries_with, all_entries, names_after, final_names}
 use Rattle.asm_model.specs.Trees.{tree_of}
 use Rattle.layout_laws.proofs.SoundLemmas.{statements_kept}
-use Rattle.said_model.specs.Said.{IsSaid, AllSaid, what_names, label_names, HoldsNoZero, HasTexts, AllHaveTexts}
+use Rattle.said_model.specs.Said.{what_names, label_names, HoldsNoZero, HasTexts, AllHaveTexts}
 use Rattle.source_laws.proofs.ZeroLemmas.{place_below, named_with, AreNumbered, laid_numbered, numbered_rest, names_of, no_fewer}
-use Rattle.aof_object.proofs.SpelledObject.{all_get as each_at}
 
 -- ---- lists
 
@@ -48,11 +46,10 @@ each_line P (x ∷ after) before l h = each_line P after before l h.1
 pub each_there : (P : Statement → Type 0) (ss : List Statement) → AllByRecursion P ss → (after before : List LaidLine) (l : LaidLine)
     → laid ss ≡ after ++ l ∷ before → P l.statement
 each_there P ss h after before l e =
-    each_line P after before l (subst (λ z. AllByRecursion P (statements_of z)) e (subst (AllByRecursion P) (sym (statements_kept (declared ss) ss)) h))
+    each_line P after before l (subst (λ z. AllByRecursion P (statements_of z)) e (subst (AllByRecursion P) (sym (statements_kept (declared_names ss) ss)) h))
 
 abbrev pub DefinedText : Defined → Type 0
 DefinedText Unnamed = Unit {0}
-DefinedText (LocalLabel n) = Unit {0}
 DefinedText (Label name) = HoldsNoZero name
 DefinedText (Equal name e) = HoldsNoZero name
 DefinedText (MapField name) = HoldsNoZero name
@@ -62,21 +59,13 @@ abbrev pub OptionText : Option (List ℕ) → Type 0
 OptionText None = Unit {0}
 OptionText (Some name) = HoldsNoZero name
 
-pub labelled_text : (n : List ℕ) → HoldsNoZero n → DefinedText (labelled n)
-labelled_text [] h = tt
-labelled_text (c ∷ cs) h = by_test (c == 124)
-  where
-    by_test : (b : Bool) → DefinedText (cond b (LocalLabel (number_in cs)) (Label (c ∷ cs)))
-    by_test true = tt
-    by_test false = h
-
 pub field_text : (o : Option (List ℕ)) (w : What) → OptionText o → DefinedText (field_defines o w)
 field_text None w h = tt
 field_text (Some n) (what.Directive (line.Equ e)) h = h
 field_text (Some n) (what.Directive (line.Rn r)) h = h
 field_text (Some n) (what.Directive (line.Field e)) h = h
 field_text (Some n) (what.Directive line.Rout) h = tt
-field_text (Some n) w h = labelled_text n h
+field_text (Some n) w h = h
 
 pub label_text : (o : Option (List ℕ)) → AllByRecursion HoldsNoZero (label_names o) → OptionText o
 label_text None h = tt
@@ -132,9 +121,9 @@ fewer_before (x ∷ after) before k h = fewer_before after before k (no_fewer (a
 -- the area of a line is one of the source
 pub line_below : (ss : List Statement) (after before : List LaidLine) (l : LaidLine) → laid ss ≡ after ++ l ∷ before → IsBelow (length (areas_behind ss)) l.area
 line_below ss after before l e a own =
-    let number = (numbered_rest after (l ∷ before) (subst AreNumbered e (laid_numbered (declared ss) ss))).0 in
+    let number = (numbered_rest after (l ∷ before) (subst AreNumbered e (laid_numbered (declared_names ss) ss))).0 in
     let here = area_below (statements_of (l ∷ before)) a (sym number ∙ own) in
-    let count : length (names_of (laid ss)) ≡ length (areas_behind ss) = ap (λ z. length (areas_behind z)) (statements_kept (declared ss) ss) in
+    let count : length (names_of (laid ss)) ≡ length (areas_behind ss) = ap (λ z. length (areas_behind z)) (statements_kept (declared_names ss) ss) in
     let few = fewer_before after (l ∷ before) (length (areas_behind ss))
     (subst (λ z. length (names_of z) ≤ length (areas_behind ss)) e (omega (arith, count))) in
     omega (arith, here, few)
@@ -161,7 +150,7 @@ made_each R make (Err k) f = tt
 pub entry_each : (R : LaidName → Type 0) (xs : List LaidName) (l : SourceLine) (d : Definition) → DefinitionIs R d → AllByRecursion R (entries_with xs l d)
 entry_each R xs l Nameless h = tt
 entry_each R xs l (Named n) h = (h, tt)
-entry_each R xs l (Equated make t) h = made_each R make (meaning (with_names l (all_names xs l)) t) h
+entry_each R xs l (Equated make t) h = made_each R make (meaning (with_names l xs) t) h
 
 pub entries_each : (R : LaidName → Type 0) (xs : List LaidName) (ls : List SourceLine) → EachDefinition R ls → AllByRecursion R (all_entries xs ls)
 entries_each R xs [] h = tt
@@ -200,34 +189,33 @@ equated_shown count names area name (Some t) h f = equal_shown count names area 
 pub definition_shown : (count : ℕ) (names : List LaidName) (x : Defined) (area : Option ℕ) (offset size : ℕ) (thumb : Bool) (m : ℕ) → DefinedText x → IsBelow count area
     → DefinitionIs (IsShown count) (definition_of names x area offset size thumb m)
 definition_shown count names Unnamed area offset size thumb m h f = tt
-definition_shown count names (LocalLabel n) area offset size thumb m h f = tt
 definition_shown count names (Label name) area offset size thumb m h f = (h, f)
 definition_shown count names (Equal name e) area offset size thumb m h f = equated_shown count names area name (tree_of e) h f
 definition_shown count names (MapField name) area offset size thumb m h f = (h, λ a e. absurd (cc))
 definition_shown count names (RegisterName name r) area offset size thumb m h f = tt
 
-pub imported_shown : (count : ℕ) (d : Declared) (s : Statement) (before : List LaidLine) (o : Option (List ℕ)) → OptionText o
-    → EachDefinition (IsShown count) (imported_lines d s before o)
-imported_shown count d s before None h = tt
-imported_shown count d s before (Some name) h = ((h, λ a e. absurd (cc)), tt)
+pub imported_shown : (count : ℕ) (s : Statement) (before : List LaidLine) (o : Option (List ℕ)) → OptionText o
+    → EachDefinition (IsShown count) (imported_lines s before o)
+imported_shown count s before None h = tt
+imported_shown count s before (Some name) h = ((h, λ a e. absurd (cc)), tt)
 
-pub lines_shown : (count : ℕ) (d : Declared) (locals : List Local) (ss : List Statement) → AllHaveTexts ss → length (areas_behind ss) ≤ count
-    → EachDefinition (IsShown count) (final_lines locals (laid_of d ss))
-lines_shown count d locals [] h k = tt
-lines_shown count d locals (s ∷ ss) h k =
+pub lines_shown : (count : ℕ) (d : List LaidName) (ss : List Statement) → AllHaveTexts ss → length (areas_behind ss) ≤ count
+    → EachDefinition (IsShown count) (source_lines (laid_of d ss))
+lines_shown count d [] h k = tt
+lines_shown count d (s ∷ ss) h k =
     let l = laid_behind d s (laid_of d ss) in
-    definitions_joined (IsShown count) (final_lines locals (laid_of d ss)) (final_line locals l (laid_of d ss) ∷ imported_lines d s (laid_of d ss) (imported_in s.what))
-    (lines_shown count d locals ss h.1 (no_fewer (area_named s.what) (areas_behind ss) count k)) (
-      definition_shown count d.names (defined_by s) (area_behind (s ∷ statements_of (laid_of d ss))) (offset_behind s (laid_of d ss)) l.size
+    definitions_joined (IsShown count) (source_lines (laid_of d ss)) (l.line ∷ imported_lines s (laid_of d ss) (imported_in s.what))
+    (lines_shown count d ss h.1 (no_fewer (area_named s.what) (areas_behind ss) count k)) (
+      definition_shown count d (defined_by s) (area_behind (s ∷ statements_of (laid_of d ss))) (offset_behind s (laid_of d ss)) l.size
           (is_thumb_label s (statements_of (laid_of d ss))) (map_behind (laid_of d ss)) (defined_text s h.0)
           (λ a e. let p = area_below (s ∷ ss) a (ap (λ z. area_behind (s ∷ z)) (sym (statements_kept d ss)) ∙ e) in omega (arith, p)),
-      imported_shown count d s (laid_of d ss) (imported_in s.what) (import_text s.what (names_text s h.0)),
+      imported_shown count s (laid_of d ss) (imported_in s.what) (import_text s.what (names_text s h.0)),
     )
 
 pub entries_shown : (ss : List Statement) → AllHaveTexts ss → AllByRecursion (IsShown (length (areas_behind ss))) (final_names (laid ss))
 entries_shown ss h =
     names_each (IsShown (length (areas_behind ss))) (length (laid ss)) (source_lines (laid ss))
-    (lines_shown (length (areas_behind ss)) (declared ss) (all_locals (laid ss)) ss h (omega arith))
+    (lines_shown (length (areas_behind ss)) (declared_names ss) ss h (omega arith))
 
 pub name_shown : (ss : List Statement) → AllHaveTexts ss → (q : List ℕ) (n : LaidName) → named_in q (final_names (laid ss)) ≡ Some n
     → IsShown (length (areas_behind ss)) n

@@ -5,7 +5,7 @@ use Rattle.sdt_fault.specs.declared.kinds.LineKind.{LineKind}
 use Rattle.asm_model.specs.declared.statements.Statement.{Statement}
 use Rattle.asm_model.specs.Kinds.{told_kind}
 use Rattle.asm_model.proofs.LineLemmas.{both_empty}
-use Rattle.asm_model.specs.Laid.{LaidLine, taken, pieces_of, reversed, laid, all_locals, final_names}
+use Rattle.asm_model.specs.Laid.{LaidLine, taken, pieces_of, reversed, laid, final_names}
 use Rattle.asm_model.specs.LayoutKinds.{fault_kinds, layout_kinds, told_at, first_fault, entry_kinds, literal_kinds, first_late, settled, equals_in}
 use Rattle.asm_model.specs.Marks.{datum_names}
 use Rattle.asm_model.specs.Offsets.{area_size}
@@ -64,7 +64,7 @@ sizes_of ss area = area_size area (pieces_of (laid ss))
 
 abbrev pub valued_kinds : List LaidLine → List Statement → List LaidLine → LaidLine → List LaidLine → List LineKind
 valued_kinds all ss before l rest =
-    value_kinds (context_of (final_names all) (all_locals all) ss l before) (datum_names ss) (λ area. area_size area (pieces_of all)) l.seen (taken l.extent)
+    value_kinds (context_of (final_names all) ss l before) (datum_names ss) (λ area. area_size area (pieces_of all)) l.seen (taken l.extent)
     (word_of l.area (taken l.extent) (pieces_of (l ∷ before)) (pieces_of rest)) l.statement.what
 
 pub valued_behind : (all : List LaidLine) (ss : List Statement) (front before tail : List LaidLine) → first_valued all ss front (reversed before tail) ≡ None

@@ -10,30 +10,27 @@ use Rattle.asm_model.specs.declared.values.Value.{Value}
 use Rattle.asm_model.specs.declared.values.Value.TheVariants.{Number, Truth, Words, Place}
 use Rattle.asm_model.specs.declared.names.LaidName.{LaidName}
 use Rattle.asm_model.specs.declared.statements.Statement.{Statement}
-use Rattle.asm_model.specs.AtLine.{Definition, Nameless, Named, Equated, SourceLine, with_names, all_names, made_name}
-use Rattle.asm_model.specs.Directives.{or_else}
+use Rattle.asm_model.specs.AtLine.{Definition, Nameless, Named, Equated, SourceLine, with_names, made_name}
 use Rattle.asm_model.specs.Forms.{same}
 use Rattle.asm_model.specs.Grammar.{Tree, Leaf, Before, Between}
 use Rattle.asm_model.specs.Meaning.{named_in, known, operand_of_item, operand_of_tree, meaning}
 use Rattle.asm_model.proofs.WordLemmas.{same_true}
-use Rattle.asm_model.specs.Before.{area_behind, stretch_behind, is_thumb_label}
-use Rattle.asm_model.specs.Labels.{Defined, Unnamed, LocalLabel, Label, Equal, MapField, RegisterName, defined_by, imported_in}
-use Rattle.asm_model.specs.Laid.{Declared, declared, LaidLine, statements_of, map_behind, offset_behind, tree_equated, definition_of, imported_lines, laid_behind, laid_of, laid, all_locals, final_line, final_lines, source_lines, entries_with, all_entries, final_names}
+use Rattle.asm_model.specs.Before.{area_behind, is_thumb_label}
+use Rattle.asm_model.specs.Labels.{Defined, Unnamed, Label, Equal, MapField, RegisterName, defined_by, imported_in, declared_names}
+use Rattle.asm_model.specs.Laid.{LaidLine, statements_of, map_behind, offset_behind, tree_equated, definition_of, imported_lines, laid_behind, laid_of, laid, source_lines, entries_with, all_entries, final_names}
 use Rattle.asm_model.specs.LayoutKinds.{equals_in}
-use Rattle.asm_model.specs.Locals.{Local}
 use Rattle.asm_model.specs.Symbols.{literal_value}
 use Rattle.asm_model.specs.Trees.{tree_of}
 use Rattle.asm_model.specs.Sound.{IsSound, HaveNoPlaces, ArePlain}
-use Rattle.layout_laws.proofs.EqualLemmas.{OfTrees, equal_weaker, lines_hold, lines_regular, back_behind_is, forth_is}
+use Rattle.layout_laws.proofs.EqualLemmas.{OfTrees, equal_weaker, lines_hold, lines_regular}
 use Rattle.layout_laws.proofs.FoundLemmas.{tree_final, final_tree}
-use Rattle.layout_laws.proofs.RoundLemmas.{SymbolIs, ResultIs, ItemIs, TreeIs, EachIs, symbol_weaker, applied_is, value_is, both_is, named_joined, each_closed}
+use Rattle.layout_laws.proofs.RoundLemmas.{SymbolIs, ResultIs, ItemIs, TreeIs, symbol_weaker, applied_is, value_is, both_is}
 use Rattle.layout_laws.proofs.SettledLemmas.{all_lead, final_names_are_their_entries}
 use Rattle.layout_laws.proofs.SoundLemmas.{IsPlainEqual, equals_plain}
-use Rattle.layout_laws.proofs.StepLemmas.{name_of, EachEquated, HoldsOf, IsMade, IsRegular, AreRegular, nothing, IsGood, each_weaker, each_more}
+use Rattle.layout_laws.proofs.StepLemmas.{name_of, EachEquated, HoldsOf, IsMade, IsRegular, AreRegular, IsGood, each_weaker}
 use Rattle.source_model.specs.Contexts.{Context, sees, value_of}
 use Rattle.source_laws.specs.Laws.{context_behind}
-use Rattle.source_laws.proofs.BareLemmas.{TreeEach, HoldsConstant, no_places_hold, tree_each}
-use Rattle.source_laws.proofs.LineLemmas.{is_laid}
+use Rattle.source_laws.proofs.TreeLemmas.{TreeEach, HoldsConstant, no_places_hold, tree_each}
 
 -- ---- values
 
@@ -44,7 +41,7 @@ ClosedTo P Q xs = (q : List ℕ) (n : LaidName) → P q → named_in q xs ≡ So
 pub item_to : (P Q : List ℕ → Type 0) (l : SourceLine) (xs : List LaidName) → ClosedTo P Q xs → (i : ExprItem) → ItemIs P i → HoldsConstant Q i
     → ResultIs Q (known (operand_of_item (with_names l xs) i))
 item_to P Q l xs closed (item.Name q) h k = value_is Q (named_in q xs) (λ n. closed q n h)
-item_to P Q l xs closed (item.Local q) h k = value_is Q (named_in (124 ∷ q) xs) (λ n. closed (124 ∷ q) n h)
+item_to P Q l xs closed (item.Local q) h k = tt
 item_to P Q l xs closed (item.Constant v) h k = k
 item_to P Q l xs closed item.Here h k = tt
 item_to P Q l xs closed item.Map h k = tt
@@ -59,23 +56,6 @@ tree_to P Q l xs closed (Before op t) h k = applied_is Q op (operand_of_tree (wi
 tree_to P Q l xs closed (Between op t u) h k =
     both_is Q (with_names l xs) op (meaning (with_names l xs) t) (meaning (with_names l xs) u) (tree_to P Q l xs closed t h.0 k.0) (tree_to P Q l xs closed u h.1 k.1)
 
-pub closed_to_before : (P Q : List ℕ → Type 0) (xs bs : List LaidName) → ClosedTo P Q xs → EachIs Q bs → ClosedTo P Q (xs ++ bs)
-closed_to_before P Q xs bs closed each q n h e = by_entry (named_in q xs) (λ m. closed q m h) (sym (named_joined q xs bs) ∙ e)
-  where
-    by_entry : (o : Option LaidName) → ((m : LaidName) → o ≡ Some m → SymbolIs Q m.value) → or_else o (named_in q bs) ≡ Some n → SymbolIs Q n.value
-    by_entry None f k = each_closed Q q bs each n k
-    by_entry (Some m) f k = f n k
-
--- a line has no symbols for local labels
-abbrev pub HasNoLocals : SourceLine → Type 0
-HasNoLocals l = EachIs nothing l.back × EachIs nothing l.forth
-
-pub line_to : (P Q : List ℕ → Type 0) (l : SourceLine) (xs : List LaidName) → HasNoLocals l → ClosedTo P Q xs
-    → (t : Tree) → TreeIs P t → TreeEach (HoldsConstant Q) t → ResultIs Q (meaning (with_names l (all_names xs l)) t)
-line_to P Q l xs h closed t i k =
-    tree_to P Q l (all_names xs l)
-    (closed_to_before P Q (xs ++ l.back) l.forth (closed_to_before P Q xs l.back closed (each_more Q l.back h.0)) (each_more Q l.forth h.1)) t i k
-
 -- ---- entries
 
 -- an entry is its own symbol, or its symbol has the property
@@ -85,6 +65,9 @@ OwnOr Q n = (n.value ≡ Place n.name 0) ⊎ SymbolIs Q n.value
 pub own_weaker : (P Q : List ℕ → Type 0) → ((q : List ℕ) → P q → Q q) → (n : LaidName) → OwnOr P n → OwnOr Q n
 own_weaker P Q f n (inl e) = inl e
 own_weaker P Q f n (inr h) = inr (symbol_weaker P Q f n.value h)
+
+abbrev pub nothing : List ℕ → Type 0
+nothing q = ⊥
 
 abbrev pub IsOwned : Definition → Type 0
 IsOwned (Named n) = OwnOr nothing n
@@ -114,23 +97,23 @@ made_found Q make (Ok v) q us n made h rest e = by_test (same (make v).name q) r
     by_test false s k = rest k
 
 pub entry_own : (P Q : List ℕ → Type 0) (xs : List LaidName) (q : List ℕ) (l : SourceLine) (us : List LaidName) (n : LaidName)
-    → HasNoLocals l → ClosedTo P Q xs → (d : Definition) → IsRegular d → IsOwned d → HoldsOf (LeadTo P Q q) d → (named_in q us ≡ Some n → OwnOr Q n)
+    → ClosedTo P Q xs → (d : Definition) → IsRegular d → IsOwned d → HoldsOf (LeadTo P Q q) d → (named_in q us ≡ Some n → OwnOr Q n)
     → named_in q (entries_with xs l d ++ us) ≡ Some n → OwnOr Q n
-entry_own P Q xs q l us n local closed Nameless regular owned h rest e = rest e
-entry_own P Q xs q l us n local closed (Named m) regular owned h rest e = by_test (same m.name q) e
+entry_own P Q xs q l us n closed Nameless regular owned h rest e = rest e
+entry_own P Q xs q l us n closed (Named m) regular owned h rest e = by_test (same m.name q) e
   where
     by_test : (c : Bool) → cond c (Some m) (named_in q us) ≡ Some n → OwnOr Q n
     by_test true k = let x : m ≡ n = cc in subst (OwnOr Q) x (own_weaker nothing Q (λ s g. absurd g) m owned)
     by_test false k = rest k
-entry_own P Q xs q l us n local closed (Equated make t) regular owned h rest e =
-    made_found Q make (meaning (with_names l (all_names xs l)) t) q us n regular (λ y. let p = h y in line_to P Q l xs local closed t p.0 p.1) rest e
+entry_own P Q xs q l us n closed (Equated make t) regular owned h rest e =
+    made_found Q make (meaning (with_names l xs) t) q us n regular (λ y. let p = h y in tree_to P Q l xs closed t p.0 p.1) rest e
 
 pub entries_own : (P Q : List ℕ → Type 0) (xs : List LaidName) (q : List ℕ) (n : LaidName) → ClosedTo P Q xs
     → (ls : List SourceLine) → AreRegular ls → AreOwned ls → EachEquated (LeadTo P Q q) ls → named_in q (all_entries xs ls) ≡ Some n → OwnOr Q n
 entries_own P Q xs q n closed [] regular owned h e = absurd (cc)
 entries_own P Q xs q n closed (l ∷ ls) regular owned h e =
-    entry_own P Q xs q l (all_entries xs ls) n (regular.0, regular.1) closed l.definition regular.2 owned.0 h.0
-    (entries_own P Q xs q n closed ls regular.3 owned.1 h.1) e
+    entry_own P Q xs q l (all_entries xs ls) n closed l.definition regular.0 owned.0 h.0
+    (entries_own P Q xs q n closed ls regular.1 owned.1 h.1) e
 
 -- ---- names that stand for themselves
 
@@ -199,45 +182,44 @@ equated_owned names area name (Some t) = tt
 pub definition_owned : (names : List LaidName) (x : Defined) (area : Option ℕ) (offset size : ℕ) (thumb : Bool) (m : ℕ)
     → IsOwned (definition_of names x area offset size thumb m)
 definition_owned names Unnamed area offset size thumb m = tt
-definition_owned names (LocalLabel n) area offset size thumb m = tt
 definition_owned names (Label name) area offset size thumb m = inl refl
 definition_owned names (Equal name e) area offset size thumb m = equated_owned names area name (tree_of e)
 definition_owned names (MapField name) area offset size thumb m = inr tt
 definition_owned names (RegisterName name r) area offset size thumb m = tt
 
-pub imported_owned : (d : Declared) (s : Statement) (before : List LaidLine) (o : Option (List ℕ)) → AreOwned (imported_lines d s before o)
-imported_owned d s before None = tt
-imported_owned d s before (Some name) = (inl refl, tt)
+pub imported_owned : (s : Statement) (before : List LaidLine) (o : Option (List ℕ)) → AreOwned (imported_lines s before o)
+imported_owned s before None = tt
+imported_owned s before (Some name) = (inl refl, tt)
 
 pub owned_joined : (ls ms : List SourceLine) → AreOwned ls → AreOwned ms → AreOwned (ls ++ ms)
 owned_joined [] ms h k = k
 owned_joined (l ∷ ls) ms h k = (h.0, owned_joined ls ms h.1 k)
 
-pub lines_owned : (d : Declared) (locals : List Local) (ss : List Statement) → AreOwned (final_lines locals (laid_of d ss))
-lines_owned d locals [] = tt
-lines_owned d locals (s ∷ ss) =
-    owned_joined (final_lines locals (laid_of d ss)) (final_line locals (laid_behind d s (laid_of d ss)) (laid_of d ss) ∷ imported_lines d s (laid_of d ss) (imported_in s.what))
-    (lines_owned d locals ss) (
-      definition_owned d.names (defined_by s) (area_behind (s ∷ statements_of (laid_of d ss))) (offset_behind s (laid_of d ss))
+pub lines_owned : (d : List LaidName) (ss : List Statement) → AreOwned (source_lines (laid_of d ss))
+lines_owned d [] = tt
+lines_owned d (s ∷ ss) =
+    owned_joined (source_lines (laid_of d ss)) ((laid_behind d s (laid_of d ss)).line ∷ imported_lines s (laid_of d ss) (imported_in s.what))
+    (lines_owned d ss) (
+      definition_owned d (defined_by s) (area_behind (s ∷ statements_of (laid_of d ss))) (offset_behind s (laid_of d ss))
           (laid_behind d s (laid_of d ss)).size (is_thumb_label s (statements_of (laid_of d ss))) (map_behind (laid_of d ss)),
-      imported_owned d s (laid_of d ss) (imported_in s.what),
+      imported_owned s (laid_of d ss) (imported_in s.what),
     )
 
-pub lines_placeless : (Q : List ℕ → Type 0) (d : Declared) (locals : List Local) (ss : List Statement) → ArePlain ss
-    → EachEquated (λ p t. TreeEach (HoldsConstant Q) t) (final_lines locals (laid_of d ss))
-lines_placeless Q d locals ss plain =
-    lines_hold (λ p t. TreeEach (HoldsConstant Q) t) d locals ss
+pub lines_placeless : (Q : List ℕ → Type 0) (d : List LaidName) (ss : List Statement) → ArePlain ss
+    → EachEquated (λ p t. TreeEach (HoldsConstant Q) t) (source_lines (laid_of d ss))
+lines_placeless Q d ss plain =
+    lines_hold (λ p t. TreeEach (HoldsConstant Q) t) d ss
     (equal_weaker IsPlainEqual (OfTrees (λ p t. TreeEach (HoldsConstant Q) t))
-    (λ p e a t s. tree_each (HoldsConstant Q) e.items (Some []) t (no_places_hold Q e.items a.1) tt s) (equals_in ss) (equals_plain ss plain))
+    (λ p e a t s. tree_each (HoldsConstant Q) e.items (Some []) t (no_places_hold Q e.items a) tt s) (equals_in ss) (equals_plain ss plain))
 
 -- ---- the source
 
 pub source_final : (ss : List Statement) → IsSound ss → ArePlain ss → AreFinal (final_names (laid ss)) (source_lines (laid ss))
 source_final ss sound plain = record {
   same_again = final_names_are_their_entries ss sound plain;
-  regular = lines_regular (declared ss) (all_locals (laid ss)) ss;
-  owned = lines_owned (declared ss) (all_locals (laid ss)) ss;
-  placeless = lines_placeless (IsOwn (final_names (laid ss))) (declared ss) (all_locals (laid ss)) ss plain;
+  regular = lines_regular (declared_names ss) ss;
+  owned = lines_owned (declared_names ss) ss;
+  placeless = lines_placeless (IsOwn (final_names (laid ss))) (declared_names ss) ss plain;
 }
 
 -- the symbol of each name's value stands for itself
@@ -271,18 +253,10 @@ any_tree (Leaf i) = any_item i
 any_tree (Before op t) = any_tree t
 any_tree (Between op t u) = (any_tree t, any_tree u)
 
-pub line_local : (ss : List Statement) (after before : List LaidLine) (l : LaidLine) → laid ss ≡ after ++ l ∷ before
-    → HasNoLocals (context_behind ss l before).line
-line_local ss after before l e =
-    let p = is_laid (declared ss) ss after before l e in (
-      subst (λ (z : LaidLine). EachIs nothing z.line.back) (sym p.1) (back_behind_is p.0 before),
-      forth_is l.line.area (stretch_behind (statements_of (l ∷ before))) (length before) [] (all_locals (laid ss)),
-    )
-
 -- the symbol of an operand's value stands for itself
-pub value_own : (ss : List Statement) → IsSound ss → ArePlain ss → (after before : List LaidLine) (l : LaidLine) → laid ss ≡ after ++ l ∷ before
+pub value_own : (ss : List Statement) → IsSound ss → ArePlain ss → (before : List LaidLine) (l : LaidLine)
     → (e : Expr) → HaveNoPlaces e.items → ResultIs (IsOwn (final_names (laid ss))) (value_of (context_behind ss l before) e)
-value_own ss sound plain after before l split e h =
+value_own ss sound plain before l e h =
     subst (ResultIs Own) (sym (final_tree N c.line e (tree_of e) refl)) (by_tree (tree_of e) refl)
   where
     N : List LaidName
@@ -297,16 +271,16 @@ value_own ss sound plain after before l split e h =
     by_tree : (o : Option Tree) → tree_of e ≡ o → ResultIs Own (tree_final N c.line o)
     by_tree None s = tt
     by_tree (Some t) s =
-        line_to anything Own c.line N (line_local ss after before l split) (λ q n x. names_own ss sound plain q n) t (any_tree t)
+        tree_to anything Own c.line N (λ q n x. names_own ss sound plain q n) t (any_tree t)
         (tree_each (HoldsConstant Own) e.items (Some []) t (no_places_hold Own e.items h) tt s)
 
 -- and that of a literal's
-pub literal_own : (ss : List Statement) → IsSound ss → ArePlain ss → (after before : List LaidLine) (l : LaidLine) → laid ss ≡ after ++ l ∷ before
+pub literal_own : (ss : List Statement) → IsSound ss → ArePlain ss → (before : List LaidLine) (l : LaidLine)
     → (v : Value) → ResultIs (IsOwn (final_names (laid ss))) (literal_value (sees (context_behind ss l before)) v)
-literal_own ss sound plain after before l split (Place [] n) = tt
-literal_own ss sound plain after before l split (Place (c ∷ cs) n) =
-    line_to anything (IsOwn (final_names (laid ss))) (context_behind ss l before).line (final_names (laid ss)) (line_local ss after before l split)
+literal_own ss sound plain before l (Place [] n) = tt
+literal_own ss sound plain before l (Place (c ∷ cs) n) =
+    tree_to anything (IsOwn (final_names (laid ss))) (context_behind ss l before).line (final_names (laid ss))
     (λ q n x. names_own ss sound plain q n) (Between Add (Leaf (item.Name (c ∷ cs))) (Leaf (item.Constant (Number n)))) (tt, tt) (tt, tt)
-literal_own ss sound plain after before l split (Number n) = tt
-literal_own ss sound plain after before l split (Truth b) = tt
-literal_own ss sound plain after before l split (Words w) = tt
+literal_own ss sound plain before l (Number n) = tt
+literal_own ss sound plain before l (Truth b) = tt
+literal_own ss sound plain before l (Words w) = tt

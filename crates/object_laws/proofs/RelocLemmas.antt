@@ -20,8 +20,7 @@ use Rattle.asm_model.specs.declared.statements.What.{What}
 use Rattle.asm_model.specs.declared.statements.What.TheVariants as what
 use Rattle.asm_model.specs.declared.values.Value.{Value}
 use Rattle.asm_model.specs.declared.values.Value.TheVariants.{Number, Truth, Words, Place}
-use Rattle.asm_model.specs.AtLine.{SourceLine, Sight, all_names}
-use Rattle.asm_model.specs.Directives.{or_else}
+use Rattle.asm_model.specs.AtLine.{Sight}
 use Rattle.asm_model.specs.Meaning.{named_in, in_area, entry_stands_at, stands_at}
 use Rattle.asm_model.specs.Says.{on_both, mapped}
 use Rattle.asm_model.specs.Before.{areas_behind}
@@ -30,7 +29,7 @@ use Rattle.asm_model.specs.Laid.{LaidLine, taken, laid}
 use Rattle.asm_model.specs.Marks.{datum_names}
 use Rattle.asm_model.specs.Symbols.{symbols_of, literal_value}
 use Rattle.asm_model.specs.Sound.{IsSound, HaveNoPlaces, ArePlain}
-use Rattle.layout_laws.proofs.RoundLemmas.{ResultIs, named_joined}
+use Rattle.layout_laws.proofs.RoundLemmas.{ResultIs}
 use Rattle.said_model.specs.Fit.{AllPlaceless, WhatFits, IsFit}
 use Rattle.said_model.specs.Said.{HoldsNoZero}
 use Rattle.source_model.specs.ArmForms.{arm_instruction}
@@ -39,7 +38,7 @@ use Rattle.source_model.specs.Objects.{Piece, unit_bytes, units_from, or_none, s
 use Rattle.source_model.specs.PseudoForms.{pseudo_instructions}
 use Rattle.source_model.specs.Units.{Emitted, Bytes, Word, Instruction, Stored, Target, Nothing, ByArea, BySymbol, placed, stored, word_units, narrow, half_units, byte_operand, byte_units, branch_symbol, instruction_units, units}
 use Rattle.source_laws.specs.Laws.{word_among, context_behind}
-use Rattle.source_laws.proofs.AgreeLemmas.{line_sees}
+use Rattle.source_laws.proofs.AgreeLemmas.{line_area}
 use Rattle.source_laws.proofs.FaultlessLemmas.{layout_sound}
 use Rattle.source_laws.proofs.ThingLemmas.{among_either, is_word, own_units, own_words}
 use Rattle.source_laws.proofs.ZeroLemmas.{place_below}
@@ -85,10 +84,6 @@ pub entry_below : (count : ℕ) (area : Option ℕ) (offset : ℕ) (a : ℕ × �
 entry_below count None offset a f e = absurd (cc)
 entry_below count (Some k) offset a f e = let x : (k, offset) ≡ a = cc in subst (λ z. z.0 < count) x (f k refl)
 
-pub named_front : (q : List ℕ) (xs : List LaidName) (l : SourceLine) (n : LaidName) → named_in q xs ≡ Some n → named_in q (all_names xs l) ≡ Some n
-named_front q xs l n e =
-    named_joined q (xs ++ l.back) l.forth ∙ ap (λ o. or_else o (named_in q l.forth)) (named_joined q xs l.back ∙ ap (λ o. or_else o (named_in q l.back)) e)
-
 pub placed_below : (count : ℕ) (c : Context) (d : List (List ℕ)) (s : List ℕ) (n : ℕ) (o : Option (ℕ × ℕ)) → ((a : ℕ × ℕ) → o ≡ Some a → a.0 < count)
     → TargetBelow count (placed c d s n o).target
 placed_below count c d s n None f = tt
@@ -101,7 +96,7 @@ word_below count c d (Ok (Place [] n)) h k = subst (λ o. TargetBelow count (pla
 word_below count c d (Ok (Place (x ∷ xs) n)) h k =
     placed_below count c d (x ∷ xs) n (stands_at (sees c) (x ∷ xs))
     (λ a e.
-    entry_below count k.0.area k.0.offset a (h.names (x ∷ xs) k.0 k.1) (ap entry_stands_at (sym (named_front (x ∷ xs) c.names c.line k.0 k.1)) ∙ e))
+    entry_below count k.0.area k.0.offset a (h.names (x ∷ xs) k.0 k.1) (ap entry_stands_at (sym k.1) ∙ e))
 word_below count c d (Ok (Truth b)) h k = tt
 word_below count c d (Ok (Words w)) h k = tt
 word_below count c d (Err j) h k = tt
@@ -171,7 +166,7 @@ pub line_sees_below : (ss : List Statement) → AreFaultless ss → (after befor
 line_sees_below ss h after before l area e own =
     record {
       area = area;
-      own = (line_sees ss after before l e).1 ∙ own;
+      own = line_area ss after before l e ∙ own;
       below = line_below ss after before l e area own;
       names = λ q n x. (name_shown ss h.texts q n x).1;
     }
@@ -212,11 +207,11 @@ things_below ss h area p x = by_kind (among_either p (own_units ss rest l before
     by_kind (inl k) =
         by_result (units c (datum_names ss) l.seen (word_among rest l before) l.statement.what)
         (units_below count c (datum_names ss) l.seen (word_among rest l before) l.statement.what sees_below
-        (λ e i. value_own ss sound plain rest before l x.at.parts e i) (each_there IsFit ss h.fit rest before l x.at.parts)) k
+        (λ e i. value_own ss sound plain before l e i) (each_there IsFit ss h.fit rest before l x.at.parts)) k
     by_kind (inr k) =
         let w = is_word ss c (taken l.extent) (word_among rest l before) p k in
         let y = subst (StoredBelow count) w.stores
-        (word_below count c (datum_names ss) (literal_value (sees c) w.value) sees_below (literal_own ss sound plain rest before l x.at.parts w.value)) in
+        (word_below count c (datum_names ss) (literal_value (sees c) w.value) sees_below (literal_own ss sound plain before l w.value)) in
         subst (λ (t : Piece). UnitBelow count t.1) (sym w.is) y
 
 -- ---- relocations

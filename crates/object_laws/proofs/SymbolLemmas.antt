@@ -24,7 +24,6 @@ use Rattle.asm_model.specs.declared.statements.What.{What}
 use Rattle.asm_model.specs.declared.statements.What.TheVariants as what
 use Rattle.asm_model.specs.declared.values.Value.{Value}
 use Rattle.asm_model.specs.declared.values.Value.TheVariants.{Number, Truth, Words, Place}
-use Rattle.asm_model.specs.Directives.{or_else}
 use Rattle.asm_model.specs.Forms.{same}
 use Rattle.asm_model.specs.Meaning.{named_in, in_area, entry_stands_at, stands_at}
 use Rattle.asm_model.specs.Says.{mapped}
@@ -32,13 +31,13 @@ use Rattle.asm_model.proofs.WordLemmas.{same_true}
 use Rattle.asm_model.specs.Before.{with_name, areas_behind, is_thumb_label}
 use Rattle.asm_model.specs.Entries.{label_entry, imported_entry, thumb_of}
 use Rattle.asm_model.specs.Extents.{Extent, Block, Padding, Loading, Pool}
-use Rattle.asm_model.specs.Labels.{Defined, Unnamed, LocalLabel, Label, Equal, MapField, RegisterName, defined_by, imported_in}
-use Rattle.asm_model.specs.Laid.{Declared, declared, LaidLine, statements_of, taken, laid_behind, laid_of, laid, all_locals, final_line, final_names}
+use Rattle.asm_model.specs.Labels.{Defined, Unnamed, Label, Equal, MapField, RegisterName, defined_by, imported_in, declared_names, is_hidden}
+use Rattle.asm_model.specs.Laid.{LaidLine, statements_of, taken, laid_behind, laid_of, laid, final_names}
 use Rattle.asm_model.specs.LayoutKinds.{listed}
 use Rattle.asm_model.specs.Marks.{datum_names}
-use Rattle.asm_model.specs.Symbols.{literal_value, unless_placed, word_symbols, words_symbols, branch_symbols, literal_symbols, symbols_in, listed_behind, symbols_behind, symbols_of}
+use Rattle.asm_model.specs.Symbols.{literal_value, unless_placed, word_symbols, words_symbols, branch_symbols, literal_symbols, symbols_in, listed_behind, symbols_of, symbols_of}
 use Rattle.layout_laws.proofs.FoundLemmas.{labels_stand, imports_stand}
-use Rattle.layout_laws.proofs.RoundLemmas.{ResultIs, named_joined}
+use Rattle.layout_laws.proofs.RoundLemmas.{ResultIs}
 use Rattle.said_model.specs.Fit.{AllPlaceless, WhatFits, IsFit}
 use Rattle.said_model.specs.Said.{what_names, HoldsNoZero, HasTexts}
 use Rattle.source_model.specs.ArmForms.{is_settled, has_symbol, branch_from, branch_displacement, branch_field, arm_instruction}
@@ -56,7 +55,6 @@ use Rattle.object_laws.proofs.BitLemmas.{IsAllowed, reference_allowed, placed_al
 use Rattle.object_laws.proofs.EachLemmas.{DefinedText, OptionText, each_joined, each_there, defined_text, names_text, import_text, line_below, name_shown}
 use Rattle.object_laws.proofs.FaultLemmas.{sizes_of, line_valued}
 use Rattle.object_laws.proofs.OriginLemmas.{IsOwn, named_name, value_own, literal_own}
-use Rattle.object_laws.proofs.RelocLemmas.{named_front}
 use Rattle.said_model.proofs.SharedLemmas.{are_plain as said_plain}
 
 -- ---- one symbol
@@ -100,7 +98,7 @@ pub own_place_good : (count : ℕ) (sizes : ℕ → ℕ) (s : Source) (q : List 
 own_place_good count sizes s [] f e h = placed_good count sizes s [] [] 0 None (λ a x. absurd (cc))
 own_place_good count sizes s (c ∷ cs) f e h =
     placed_good count sizes s (c ∷ cs) (c ∷ cs) 0 (stands_at (sees (in_no_line s)) (c ∷ cs))
-    (λ a x. h a (ap entry_stands_at (sym (named_front (c ∷ cs) s.names (in_no_line s).line f e)) ∙ x))
+    (λ a x. h a (ap entry_stands_at (sym e) ∙ x))
 
 pub own_good : (count : ℕ) (sizes : ℕ → ℕ) (s : Source) (q : List ℕ) (f : LaidName) → named_in q s.names ≡ Some f → f.value ≡ Place q 0
     → EndsBelow count sizes 0 (in_area f.area f.offset) → IsGood count sizes (symbol_named s q (named_in q s.names))
@@ -148,8 +146,11 @@ alone_same q n h = by_test (same q n) refl h
 
 pub label_says : (q : List ℕ) (x : Defined) → IsListed (label_of x) q → x ≡ Label q
 label_says q Unnamed h = absurd (cc)
-label_says q (LocalLabel n) h = absurd (cc)
-label_says q (Label name) h = ap Label (sym (alone_same q name h))
+label_says q (Label name) h = by_test (is_hidden name) h
+  where
+    by_test : (b : Bool) → IsListed (cond b [] (name ∷ [])) q → Label name ≡ Label q
+    by_test true k = absurd (cc)
+    by_test false k = ap Label (sym (alone_same q name k))
 label_says q (Equal name e) h = absurd (cc)
 label_says q (MapField name) h = absurd (cc)
 label_says q (RegisterName name r) h = absurd (cc)
@@ -171,7 +172,7 @@ pub named_later : (q : List ℕ) (l : LaidLine) (ls : List LaidLine) → NamedLi
 named_later q l ls n =
     record { later = l ∷ n.later; earlier = n.earlier; owner = n.owner; parts = ap (λ z. l ∷ z) n.parts; says = n.says }
 
-pub named_line : (d : Declared) (ss : List Statement) (q : List ℕ) → IsListed (symbol_names ss) q → NamedLine q (laid_of d ss)
+pub named_line : (d : List LaidName) (ss : List Statement) (q : List ℕ) → IsListed (symbol_names ss) q → NamedLine q (laid_of d ss)
 named_line d [] q h = absurd (cc)
 named_line d (s ∷ ss) q h =
     by_part (any_split q (symbol_names ss ++ label_of (defined_by s)) (listed (imported_in s.what)) h) (named_line d ss q)
@@ -211,7 +212,7 @@ import_good ss h after before l e q x = (
 )
 
 pub symbol_good : (ss : List Statement) → AreFaultless ss → (q : List ℕ) → IsListed (symbol_names ss) q → IsGoodName ss q
-symbol_good ss h q k = by_line (named_line (declared ss) ss q k)
+symbol_good ss h q k = by_line (named_line (declared_names ss) ss q k)
   where
     by_line : NamedLine q (laid ss) → IsGoodName ss q
     by_line n =
@@ -239,30 +240,30 @@ pub word_good : (ss : List Statement) → AreFaultless ss → (before : List Lai
 word_good ss h before l (Ok (Place (x ∷ xs) n)) own =
     let c = context_behind ss l before in
     loose_good ss h (x ∷ xs) own (stands_at (sees c) (x ∷ xs))
-    (λ m e. ap entry_stands_at (named_front (x ∷ xs) (final_names (laid ss)) c.line m e))
+    (λ m e. ap entry_stands_at e)
 word_good ss h before l (Ok (Place [] n)) own = tt
 word_good ss h before l (Ok (Number n)) own = tt
 word_good ss h before l (Ok (Truth b)) own = tt
 word_good ss h before l (Ok (Words w)) own = tt
 word_good ss h before l (Err k) own = tt
 
-pub words_good : (ss : List Statement) → AreFaultless ss → (after before : List LaidLine) (l : LaidLine) → laid ss ≡ after ++ l ∷ before
+pub words_good : (ss : List Statement) → AreFaultless ss → (before : List LaidLine) (l : LaidLine)
     → (es : List Expr) → AllPlaceless es → AreGoodNames ss (words_symbols (final_names (laid ss)) (context_behind ss l before).line es)
-words_good ss h after before l e [] k = tt
-words_good ss h after before l e (x ∷ xs) k =
+words_good ss h before l [] k = tt
+words_good ss h before l (x ∷ xs) k =
     let c = context_behind ss l before in
     each_joined (IsGoodName ss) (word_symbols (sees c) (value_of c x)) (words_symbols c.names c.line xs)
-    (word_good ss h before l (value_of c x) (value_own ss (layout_sound ss h.layout) (said_plain ss h.said) after before l e x k.0))
-    (words_good ss h after before l e xs k.1)
+    (word_good ss h before l (value_of c x) (value_own ss (layout_sound ss h.layout) (said_plain ss h.said) before l x k.0))
+    (words_good ss h before l xs k.1)
 
-pub literals_good : (ss : List Statement) → AreFaultless ss → (after before : List LaidLine) (l : LaidLine) → laid ss ≡ after ++ l ∷ before
+pub literals_good : (ss : List Statement) → AreFaultless ss → (before : List LaidLine) (l : LaidLine)
     → (t : Extent) → AreGoodNames ss (literal_symbols (final_names (laid ss)) (context_behind ss l before).line t)
-literals_good ss h after before l e (Loading n v) =
+literals_good ss h before l (Loading n v) =
     let c = context_behind ss l before in
-    word_good ss h before l (literal_value (sees c) v) (literal_own ss (layout_sound ss h.layout) (said_plain ss h.said) after before l e v)
-literals_good ss h after before l e (Block a n) = tt
-literals_good ss h after before l e (Padding m n) = tt
-literals_good ss h after before l e Pool = tt
+    word_good ss h before l (literal_value (sees c) v) (literal_own ss (layout_sound ss h.layout) (said_plain ss h.said) before l v)
+literals_good ss h before l (Block a n) = tt
+literals_good ss h before l (Padding m n) = tt
+literals_good ss h before l Pool = tt
 
 -- ---- branches
 
@@ -329,22 +330,14 @@ export_place_good ss h c names name (x ∷ xs) n within = by_entry (named_in (x 
     s = source_of ss
 
     here : (f : LaidName) → named_in (x ∷ xs) N ≡ Some f → stands_at (sees c) (x ∷ xs) ≡ in_area f.area f.offset
-    here f e = ap entry_stands_at (named_front (x ∷ xs) c.names c.line f (ap (named_in (x ∷ xs)) names ∙ e))
-
-    nowhere : (f : LaidName) → named_in (x ∷ xs) N ≡ Some f → stands_at (sees (in_no_line s)) (x ∷ xs) ≡ in_area f.area f.offset
-    nowhere f e = ap entry_stands_at (named_front (x ∷ xs) N (in_no_line s).line f e)
-
-    missing : named_in (x ∷ xs) N ≡ None → stands_at (sees (in_no_line s)) (x ∷ xs) ≡ None
-    missing e =
-        ap entry_stands_at
-        (named_joined (x ∷ xs) (N ++ []) [] ∙ ap (λ o. or_else o None) (named_joined (x ∷ xs) N [] ∙ ap (λ o. or_else o None) e))
+    here f e = ap entry_stands_at (ap (named_in (x ∷ xs)) names ∙ e)
 
     by_entry : (o : Option LaidName) → named_in (x ∷ xs) N ≡ o → IsGood count (sizes_of ss) (symbol_valued s name (Place (x ∷ xs) n))
     by_entry None e =
-        subst (λ z. IsGood count (sizes_of ss) (symbol_placed s name (x ∷ xs) n z)) (sym (missing e))
+        subst (λ z. IsGood count (sizes_of ss) (symbol_placed s name (x ∷ xs) n z)) (sym (ap entry_stands_at e))
         (placed_good count (sizes_of ss) s name (x ∷ xs) n None (λ a y. absurd (cc)))
     by_entry (Some f) e =
-        subst (λ z. IsGood count (sizes_of ss) (symbol_placed s name (x ∷ xs) n z)) (sym (nowhere f e))
+        subst (λ z. IsGood count (sizes_of ss) (symbol_placed s name (x ∷ xs) n z)) (sym (ap entry_stands_at e))
         (placed_good count (sizes_of ss) s name (x ∷ xs) n (in_area f.area f.offset)
         (within_ends count (sizes_of ss) (in_area f.area f.offset) n
         (λ a. area_is_below count f.area f.offset a (name_shown ss h.texts (x ∷ xs) f e).1)
@@ -385,27 +378,27 @@ arm_good ss h before l (arm.Branch condition link target) us e t =
     branch_good ss h before l (value_of c target) d.0 d.1
 arm_good ss h before l a us e t = tt
 
-pub line_good : (ss : List Statement) → AreFaultless ss → (after before : List LaidLine) (l : LaidLine) → laid ss ≡ after ++ l ∷ before
+pub line_good : (ss : List Statement) → AreFaultless ss → (before : List LaidLine) (l : LaidLine)
     → (word : Option ℕ) (t : Extent) (w : What) → Known ss before l word w
     → AreGoodNames ss (symbols_in (final_names (laid ss)) (context_behind ss l before).line t w)
-line_good ss h after before l e word t what.Nothing k = tt
-line_good ss h after before l e word t (what.Arm a) k = arm_good ss h before l a k.emitted k.emits t
-line_good ss h after before l e word t (what.Thumb a) k = let x = k.emits in absurd (cc)
-line_good ss h after before l e word t (what.Pseudo p) k = literals_good ss h after before l e t
-line_good ss h after before l e word t (what.Directive (line.Export name)) k =
+line_good ss h before l word t what.Nothing k = tt
+line_good ss h before l word t (what.Arm a) k = arm_good ss h before l a k.emitted k.emits t
+line_good ss h before l word t (what.Thumb a) k = let x = k.emits in absurd (cc)
+line_good ss h before l word t (what.Pseudo p) k = literals_good ss h before l t
+line_good ss h before l word t (what.Directive (line.Export name)) k =
     ((export_good ss h (context_behind ss l before) refl name (named_in name (final_names (laid ss))) k.kinds, k.texts.0), tt)
-line_good ss h after before l e word t (what.Directive (line.Keep name)) k =
+line_good ss h before l word t (what.Directive (line.Keep name)) k =
     ((export_good ss h (context_behind ss l before) refl name (named_in name (final_names (laid ss))) k.kinds, k.texts.0), tt)
-line_good ss h after before l e word t (what.Directive (line.Import name weak)) k = (k.imports name refl, tt)
-line_good ss h after before l e word t (what.Directive (line.Dcd es)) k = words_good ss h after before l e es k.fits
-line_good ss h after before l e word t (what.Directive (line.Dcdu es)) k = words_good ss h after before l e es k.fits
-line_good ss h after before l e word t (what.Directive d) k = tt
+line_good ss h before l word t (what.Directive (line.Import name weak)) k = (k.imports name refl, tt)
+line_good ss h before l word t (what.Directive (line.Dcd es)) k = words_good ss h before l es k.fits
+line_good ss h before l word t (what.Directive (line.Dcdu es)) k = words_good ss h before l es k.fits
+line_good ss h before l word t (what.Directive d) k = tt
 
 pub line_here : (ss : List Statement) → AreFaultless ss → (after before : List LaidLine) (l : LaidLine) → laid ss ≡ after ++ l ∷ before
-    → AreGoodNames ss (symbols_in (final_names (laid ss)) (final_line (all_locals (laid ss)) l before) (taken l.extent) l.statement.what)
+    → AreGoodNames ss (symbols_in (final_names (laid ss)) l.line (taken l.extent) l.statement.what)
 line_here ss h after before l e =
     let v = line_valued ss h.values after before l e in
-    line_good ss h after before l e (word_among after l before) (taken l.extent) l.statement.what
+    line_good ss h before l (word_among after l before) (taken l.extent) l.statement.what
     (record {
       emitted = v.0.0;
       emits = v.0.1;
@@ -429,23 +422,22 @@ listed_all P xs [] h k = h
 listed_all P xs (s ∷ ss) h k = listed_all P (with_name (Some s) xs) ss (with_all P s xs k.0 h) k.1
 
 pub symbols_all : (ss : List Statement) → AreFaultless ss → (after lines : List LaidLine) → laid ss ≡ after ++ lines
-    → AreGoodNames ss (symbols_behind (final_names (laid ss)) (all_locals (laid ss)) lines)
+    → AreGoodNames ss (symbols_of (final_names (laid ss)) lines)
 symbols_all ss h after [] e = tt
 symbols_all ss h after (l ∷ ls) e =
     let names = final_names (laid ss) in
-    let locals = all_locals (laid ss) in
-    listed_all (IsGoodName ss) (symbols_behind names locals ls) (symbols_in names (final_line locals l ls) (taken l.extent) l.statement.what)
+    listed_all (IsGoodName ss) (symbols_of names ls) (symbols_in names l.line (taken l.extent) l.statement.what)
     (symbols_all ss h (after ++ l ∷ []) ls (e ∙ sym (append_assoc after (l ∷ []) ls))) (line_here ss h after ls l e)
 
 pub listed_apart : (xs ss : List (List ℕ)) → AreApart [] xs → AreApart [] (listed_behind xs ss)
 listed_apart xs [] h = h
 listed_apart xs (s ∷ ss) h = listed_apart (with_name (Some s) xs) ss (apart_with s xs h)
 
-pub symbols_apart : (ss : List Statement) (lines : List LaidLine) → AreApart [] (symbols_behind (final_names (laid ss)) (all_locals (laid ss)) lines)
+pub symbols_apart : (ss : List Statement) (lines : List LaidLine) → AreApart [] (symbols_of (final_names (laid ss)) lines)
 symbols_apart ss [] = tt
 symbols_apart ss (l ∷ ls) =
-    listed_apart (symbols_behind (final_names (laid ss)) (all_locals (laid ss)) ls)
-    (symbols_in (final_names (laid ss)) (final_line (all_locals (laid ss)) l ls) (taken l.extent) l.statement.what) (symbols_apart ss ls)
+    listed_apart (symbols_of (final_names (laid ss)) ls)
+    (symbols_in (final_names (laid ss)) l.line (taken l.extent) l.statement.what) (symbols_apart ss ls)
 
 -- ---- records
 

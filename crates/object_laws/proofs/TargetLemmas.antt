@@ -27,17 +27,16 @@ use Rattle.asm_model.specs.Says.{on_both, mapped}
 use Rattle.asm_model.proofs.WordLemmas.{same_refl, same_true}
 use Rattle.asm_model.specs.Before.{with_name}
 use Rattle.asm_model.specs.Extents.{Extent, Block, Padding, Loading, number_there, value_there, as_multiple, padding, thumb_extent, extent_of}
-use Rattle.asm_model.specs.Laid.{LaidLine, taken, laid, all_locals, final_line, final_names}
-use Rattle.asm_model.specs.Locals.{Local}
+use Rattle.asm_model.specs.Laid.{LaidLine, taken, laid, final_names}
 use Rattle.asm_model.specs.Marks.{datum_names}
-use Rattle.asm_model.specs.Symbols.{literal_value, unless_placed, word_symbols, words_symbols, branch_symbols, arm_symbols, literal_symbols, symbols_in, listed_behind, symbols_behind}
+use Rattle.asm_model.specs.Symbols.{literal_value, unless_placed, word_symbols, words_symbols, branch_symbols, arm_symbols, literal_symbols, symbols_in, listed_behind, symbols_of}
 use Rattle.source_model.specs.ArmForms.{arm_instruction, is_settled}
 use Rattle.source_model.specs.Contexts.{Context, sees, value_of, number_in, and_then}
 use Rattle.source_model.specs.Objects.{Piece, unit_bytes, units_from, or_none, source_of, IsAmong, StandsIn}
 use Rattle.source_model.specs.PseudoForms.{pseudo_instructions}
 use Rattle.source_model.specs.Units.{Emitted, Bytes, Word, Instruction, Stored, Target, Nothing, ByArea, BySymbol, placed, stored, word_units, narrow, half_units, byte_operand, byte_units, linked_symbol, branch_symbol, instruction_units, units}
 use Rattle.source_laws.specs.Laws.{word_among, context_behind}
-use Rattle.source_laws.proofs.AgreeLemmas.{line_sees}
+use Rattle.source_laws.proofs.AgreeLemmas.{line_area}
 use Rattle.source_laws.proofs.ThingLemmas.{among_either, is_word, own_units, own_words, seen_extent}
 use Rattle.object_laws.specs.Laws.{IsListed, OptionListed, TargetListed, UnitListed}
 use Rattle.source_laws.proofs.WordLemmas.{taken_loads as taken_loading}
@@ -92,13 +91,13 @@ listed_here q xs (s ∷ ss) h = by_test (same q s) refl (listed_here q (with_nam
     by_test false e f k = f k
 
 -- the symbols of a line are among those of the source
-pub lines_listed : (names : List LaidName) (locals : List Local) (after before : List LaidLine) (l : LaidLine)
-    → Fewer (symbols_in names (final_line locals l before) (taken l.extent) l.statement.what) (symbols_behind names locals (after ++ l ∷ before))
-lines_listed names locals [] before l q h =
-    listed_here q (symbols_behind names locals before) (symbols_in names (final_line locals l before) (taken l.extent) l.statement.what) h
-lines_listed names locals (x ∷ after) before l q h =
-    listed_kept q (symbols_behind names locals (after ++ l ∷ before))
-    (symbols_in names (final_line locals x (after ++ l ∷ before)) (taken x.extent) x.statement.what) (lines_listed names locals after before l q h)
+pub lines_listed : (names : List LaidName) (after before : List LaidLine) (l : LaidLine)
+    → Fewer (symbols_in names l.line (taken l.extent) l.statement.what) (symbols_of names (after ++ l ∷ before))
+lines_listed names [] before l q h =
+    listed_here q (symbols_of names before) (symbols_in names l.line (taken l.extent) l.statement.what) h
+lines_listed names (x ∷ after) before l q h =
+    listed_kept q (symbols_of names (after ++ l ∷ before))
+    (symbols_in names x.line (taken x.extent) x.statement.what) (lines_listed names after before l q h)
 
 -- ---- units
 
@@ -290,11 +289,11 @@ literal_fewer names l e (what.Directive d) h q k = absurd h
 
 pub here_there : (ss : List Statement) (after before : List LaidLine) (l : LaidLine) (area : ℕ) → laid ss ≡ after ++ l ∷ before → l.area ≡ Some area
     → InArea (context_behind ss l before)
-here_there ss after before l area e own = (area, (line_sees ss after before l e).1 ∙ own)
+here_there ss after before l area e own = (area, line_area ss after before l e ∙ own)
 
 pub things_listed : (ss : List Statement) (area : ℕ) (after before : List LaidLine) (l : LaidLine) (p : Piece) → laid ss ≡ after ++ l ∷ before → l.area ≡ Some area
     → IsAmong p (own_units ss after l before) ⊎ IsAmong p (own_words ss after l before)
-    → UnitListed (symbols_in (final_names (laid ss)) (final_line (all_locals (laid ss)) l before) (taken l.extent) l.statement.what) p.1
+    → UnitListed (symbols_in (final_names (laid ss)) l.line (taken l.extent) l.statement.what) p.1
 things_listed ss area after before l p e own h = by_kind h
   where
     c : Context
@@ -324,12 +323,11 @@ things_listed ss area after before l p e own h = by_kind h
         (literal_fewer c.names c.line (taken l.extent) l.statement.what pseudo) z)
 
 pub symbols_are_listed : (ss : List Statement) (area : ℕ) (p : Piece) → StandsIn (source_of ss) area p
-    → UnitListed (symbols_behind (final_names (laid ss)) (all_locals (laid ss)) (laid ss)) p.1
+    → UnitListed (symbols_of (final_names (laid ss)) (laid ss)) p.1
 symbols_are_listed ss area p x =
     let names = final_names (laid ss) in
-    let locals = all_locals (laid ss) in
-    let own = symbols_in names (final_line locals x.owner x.at.before) (taken x.owner.extent) x.owner.statement.what in
-    subst (λ z. UnitListed (symbols_behind names locals z) p.1) (sym x.at.parts)
-    (unit_more own (symbols_behind names locals (x.at.rest ++ x.owner ∷ x.at.before)) p.1 (lines_listed names locals x.at.rest x.at.before x.owner)
+    let own = symbols_in names x.owner.line (taken x.owner.extent) x.owner.statement.what in
+    subst (λ z. UnitListed (symbols_of names z) p.1) (sym x.at.parts)
+    (unit_more own (symbols_of names (x.at.rest ++ x.owner ∷ x.at.before)) p.1 (lines_listed names x.at.rest x.at.before x.owner)
     (things_listed ss area x.at.rest x.at.before x.owner p x.at.parts x.own
     (among_either p (own_units ss x.at.rest x.owner x.at.before) (own_words ss x.at.rest x.owner x.at.before) x.among)))

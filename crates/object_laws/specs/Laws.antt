@@ -1,19 +1,14 @@
 -- The object of statements without faults is a valid object, part by part. Statements and lines are listed with the last
 -- first. This project's.
-use Rattle.std.specs.Prelude.{◌≡◌, ℕ, ◌^◌, ◌<◌, List, [], length, true, Option, Some, None}
-use Rattle.std.specs.List.{AllByRecursion, list_any}
-use Rattle.chunk_file.specs.Reading.{EachStands}
+use Rattle.std.specs.Prelude.{◌≡◌, ℕ, ◌^◌, ◌<◌, List, length, true, Option, Some, None}
+use Rattle.std.specs.List.{list_any}
 use Rattle.aof_object.specs.declared.records.Object.{Object}
-use Rattle.aof_object.specs.Names.{IsText}
-use Rattle.aof_object.specs.Objects.{exported}
-use Rattle.aof_object.specs.Spelling.{area_names}
-use Rattle.aof_object.specs.Validity.{head_of, heads, IsArea, Holds, IsSymbol, IsEntered, IsValid}
+use Rattle.aof_object.specs.Validity.{IsValid}
 use Rattle.asm_model.specs.declared.statements.Statement.{Statement}
 use Rattle.asm_model.specs.Forms.{same}
-use Rattle.asm_model.specs.Symbols.{symbols_of}
 use Rattle.said_model.specs.Fit.{AllFit}
 use Rattle.said_model.specs.Said.{AllSaid, AllHaveTexts}
-use Rattle.source_model.specs.Objects.{Piece, source_of, StandsIn, IsObject}
+use Rattle.source_model.specs.Objects.{IsObject}
 use Rattle.source_model.specs.SourceFaults.{layout_faults, value_faults}
 use Rattle.source_model.specs.Units.{Emitted, Bytes, Word, Instruction, Target, BySymbol}
 use Rattle.source_laws.specs.Laws.{InArmState}
