@@ -1,4 +1,3 @@
-pub mod FormLemmas
 pub mod LineLemmas
 pub mod NameLemmas
 pub mod ToldLemmas

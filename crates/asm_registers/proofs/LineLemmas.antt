@@ -19,16 +19,13 @@ use Rattle.asm_model.specs.FaultSets.{first_told}
 use Rattle.asm_model.specs.Forms.{same}
 use Rattle.asm_model.specs.Kinds.{told_kind}
 use Rattle.asm_model.proofs.FaultLemmas.{told_by_parts}
-use Rattle.asm_model.specs.Sound.{IsBare}
 use Rattle.asm_model.specs.Labels.{defined_by}
 use Rattle.asm_model.specs.Laid.{LaidLine, reversed}
 use Rattle.asm_model.specs.LayoutKinds.{kind_if}
-use Rattle.said_model.specs.Said.{IsSaid}
 use Rattle.source_model.specs.Registers.{Named, register_in, named_by, register_names, registers_behind, registers_of, kinds_unless, name_kinds, names_kinds, number_of, range_kinds, is_pc, operand_kinds, given_kinds, register_kinds}
 use Rattle.asm_registers.specs.declared.registers.Registers.{Registers}
 use Rattle.asm_registers.specs.Giving.{AreNames}
 use Rattle.asm_registers.specs.Kept.{AreRegisters, IsLine}
-use Rattle.asm_registers.proofs.FormLemmas.{AllRegistersSaid, registers_said}
 use Rattle.asm_registers.proofs.NameLemmas.{found, in_set, before_more}
 
 -- ---- names
@@ -36,24 +33,24 @@ use Rattle.asm_registers.proofs.NameLemmas.{found, in_set, before_more}
 -- the same names are found
 pub record FindTheSame (names names' : List (List ℕ)) (all all' : List LaidName) (known known' : List Named) : Type 0 where
   pub registers : (q : List ℕ) → list_any (same q) names ≡ list_any (same q) names'
-  pub others : (q : List ℕ) → IsBare q → is_in all q ≡ is_in all' q
+  pub others : (q : List ℕ) → is_in all q ≡ is_in all' q
   pub numbers : (q : List ℕ) → register_in q known ≡ register_in q known'
 
 name_same : (names names' : List (List ℕ)) (all all' : List LaidName) (known known' : List Named) → FindTheSame names names' all all' known known'
-    → (q : List ℕ) → IsBare q → name_kinds names all known (register.Named q) ≡ name_kinds names' all' known' (register.Named q)
-name_same names names' all all' known known' h q bare = by (list_any (same q) names) (list_any (same q) names') (is_in all q) (is_in all' q) (register_in q known) (register_in q known') (h.registers q) (h.others q bare) (h.numbers q)
+    → (q : List ℕ) → name_kinds names all known (register.Named q) ≡ name_kinds names' all' known' (register.Named q)
+name_same names names' all all' known known' h q = by (list_any (same q) names) (list_any (same q) names') (is_in all q) (is_in all' q) (register_in q known) (register_in q known') (h.registers q) (h.others q) (h.numbers q)
   where
     by : (a a' b b' : Bool) (o o' : Option ℕ) → a ≡ a' → b ≡ b' → o ≡ o'
         → kinds_unless o (cond a Forward (cond b WrongType UnknownWord)) ≡ kinds_unless o' (cond a' Forward (cond b' WrongType UnknownWord))
     by a a' b b' o o' e f g = rw (e, f, g) refl
 
 names_same : (names names' : List (List ℕ)) (all all' : List LaidName) (known known' : List Named) → FindTheSame names names' all all' known known'
-    → (rs : List Register) → AllRegistersSaid rs → names_kinds names all known rs ≡ names_kinds names' all' known' rs
-names_same names names' all all' known known' h [] said = refl
-names_same names names' all all' known known' h (register.Number n ∷ rs) said = names_same names names' all all' known known' h rs said.1
-names_same names names' all all' known known' h (register.Named q ∷ rs) said =
-    ap (λ ks. ks ++ names_kinds names all known rs) (name_same names names' all all' known known' h q said.0)
-    ∙ ap (λ ks. name_kinds names' all' known' (register.Named q) ++ ks) (names_same names names' all all' known known' h rs said.1)
+    → (rs : List Register) → names_kinds names all known rs ≡ names_kinds names' all' known' rs
+names_same names names' all all' known known' h [] = refl
+names_same names names' all all' known known' h (register.Number n ∷ rs) = names_same names names' all all' known known' h rs
+names_same names names' all all' known known' h (register.Named q ∷ rs) =
+    ap (λ ks. ks ++ names_kinds names all known rs) (name_same names names' all all' known known' h q)
+    ∙ ap (λ ks. name_kinds names' all' known' (register.Named q) ++ ks) (names_same names names' all all' known known' h rs)
 
 -- ---- operands
 
@@ -80,20 +77,20 @@ numbers_kept names before r k q = sym (found q r.known) ∙ k.known q
 
 pub line_told : (names : List (List ℕ)) (s : Statement) (number : Result ℕ LineKind) (declared : List LaidName) (l : LaidLine) (before : List LaidLine) (old : Registers)
     (given named operand : Option LineKind)
-    → IsSaid s → AreRegisters names before old → IsLine s number declared l
+    → AreRegisters names before old → IsLine s number declared l
     → given ≡ told_kind (given_kinds l.seen (defined_by s))
     → named ≡ told_kind (names_kinds old.all.keys declared old.known.entries (registers_of s.what))
     → operand ≡ told_kind (operand_kinds old.known.entries s.what)
     → first_told (first_told given named) operand ≡ told_kind (register_kinds names l before)
-line_told names s number declared l before old given named operand said k i a b c =
+line_told names s number declared l before old given named operand k i a b c =
     let numbers = numbers_kept names before old k in
     let alike : FindTheSame old.all.keys names declared l.seen.all old.known.entries (registers_behind before) = record {
       registers = λ q. sym (in_set q old.all) ∙ k.all q;
-      others = λ q bare. sym (i.names q bare);
+      others = λ q. sym (i.names q);
       numbers = numbers;
     } in
     let names_told : named ≡ told_kind (names_kinds names l.seen.all (registers_behind before) (registers_of s.what)) =
-    b ∙ ap told_kind (names_same old.all.keys names declared l.seen.all old.known.entries (registers_behind before) alike (registers_of s.what) (registers_said s.what said.read)) in
+    b ∙ ap told_kind (names_same old.all.keys names declared l.seen.all old.known.entries (registers_behind before) alike (registers_of s.what)) in
     let operands_told : operand ≡ told_kind (operand_kinds (registers_behind before) s.what) =
     c ∙ ap told_kind (operands_same old.known.entries (registers_behind before) numbers s.what) in
     rw (i.said, a, names_told, operands_told)

@@ -1,8 +1,7 @@
 -- Names for registers in maps and sets.
-use Rattle.std.proofs.Common.{◌≡◌, ℕ, Bool, true, false, cond, List, [], ◌∷◌, ◌++◌, Option, Some, None, ◌||◌, ◌-◌, ◌≤◌, length, take, drop, get_or, arith, refl, sym, subst, ap, ◌∙◌, append-nil}
-use Rattle.std.specs.Prelude.{Result, Ok, Err}
+use Rattle.std.proofs.Common.{◌≡◌, ℕ, Bool, true, false, cond, List, [], ◌∷◌, ◌++◌, Option, Some, None, ◌||◌, ◌-◌, ◌≤◌, length, take, drop, get_or, refl, sym, subst, ap, ◌∙◌}
+use Rattle.std.specs.Prelude.{Result, Ok}
 use Rattle.std.specs.List.{list_any}
-use Rattle.std.specs.Str.{bytes_eq}
 use Rattle.std.specs.Ordering.{nat_cmp, is_eq}
 use Rattle.std.specs.Cmp.Lexicographic.{slice_cmp}
 use Rattle.std.specs.BTreeMap as tree
@@ -10,15 +9,12 @@ use Rattle.std.specs.BTreeMap.{BTreeMap}
 use Rattle.std.specs.BTreeSet as set
 use Rattle.std.specs.Map.{lookup}
 use Rattle.std.specs.BTreeSet.{BTreeSet}
-use Rattle.std.proofs.lemmas.Bool.{false_from_ne_true}
-use Rattle.std.proofs.lemmas.Grind.{common_steps}
 use Rattle.std.proofs.lemmas.List.Folds.{list_any-append}
 use Rattle.std.proofs.lemmas.Map.Text.{is_eq-slice_cmp}
-use Rattle.std.proofs.lemmas.Slice.Eq.{bytes_eq-Decides}
 use Rattle.sdt_fault.specs.declared.kinds.LineKind.{LineKind}
 use Rattle.asm_model.specs.declared.statements.Statement.{Statement}
 use Rattle.asm_model.specs.Forms.{same}
-use Rattle.asm_model.proofs.WordLemmas.{same_refl, same_true}
+use Rattle.asm_model.proofs.WordLemmas.{same_true}
 use Rattle.asm_model.specs.Labels.{defined_by}
 use Rattle.asm_model.specs.Laid.{reversed}
 use Rattle.asm_model.specs.LayoutKinds.{listed}

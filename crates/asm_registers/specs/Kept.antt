@@ -11,7 +11,6 @@ use Rattle.asm_model.specs.declared.names.LaidName.{LaidName}
 use Rattle.asm_model.specs.declared.statements.Statement.{Statement}
 use Rattle.asm_model.specs.AtLine.{is_in}
 use Rattle.asm_model.specs.Forms.{same}
-use Rattle.asm_model.specs.Sound.{IsBare}
 use Rattle.asm_model.specs.Laid.{LaidLine}
 use Rattle.source_model.specs.Registers.{register_in, registers_behind}
 use Rattle.asm_registers.specs.declared.registers.Registers.{Registers}
@@ -27,4 +26,4 @@ pub record AreRegisters (names : List (List ℕ)) (before : List LaidLine) (r : 
 pub record IsLine (s : Statement) (number : Result ℕ LineKind) (declared : List LaidName) (l : LaidLine) : Type 0 where
   pub said : l.statement ≡ s
   pub given : IsGiven l.seen s.what number
-  pub names : (q : List ℕ) → IsBare q → is_in l.seen.all q ≡ is_in declared q
+  pub names : (q : List ℕ) → is_in l.seen.all q ≡ is_in declared q

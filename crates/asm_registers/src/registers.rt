@@ -3,7 +3,6 @@
 ghost use Rattle.std.specs.Prelude.{◌≡◌, ◌∷◌, [], ℕ, List, None, IfOk};
 ghost use Rattle.asm_model.specs.Kinds.{told_kind};
 ghost use Rattle.asm_model.specs.Laid.{LaidLine, reversed};
-ghost use Rattle.said_model.specs.Said.{IsSaid};
 ghost use Rattle.source_model.specs.Registers as registers;
 ghost use Rattle.asm_registers.specs.Kept.{AreRegisters, IsLine};
 
@@ -51,7 +50,6 @@ impl Registers {
         number: Result<u32, LineKind>,
         declared: &KnownNames,
     ) -> Result<Option<LineKind>, NoMemory>
-        requires said { IsSaid statement.now }
         ensures told { IfOk result (λ told. (names : List (List ℕ)) (l : LaidLine) (before : List LaidLine) → AreRegisters names before self.old → IsLine statement.now number declared.now l → told ≡ told_kind (registers.register_kinds names l before)) }
         ensures behind { IfOk result (λ told. (names : List (List ℕ)) (l : LaidLine) (before : List LaidLine) → AreRegisters names before self.old → IsLine statement.now number declared.now l → told ≡ None → AreRegisters names (l ∷ before) self.new) }
     {
