@@ -1,26 +1,22 @@
 -- Stacks of operands, and the places of names.
-use Rattle.std.proofs.Common.{◌≡◌, ℕ, suc, ◌<◌, List, [], ◌∷◌, ◌++◌, length, get_or, drop, reverse, map, Bool, true, refl, sym, ◌∙◌, ap, arith, Option, Some, None, drop-cons, append_assoc, append-nil}
+use Rattle.std.proofs.Common.{◌≡◌, ℕ, suc, ◌<◌, List, [], ◌∷◌, ◌++◌, length, get_or, drop, Bool, true, refl, sym, ◌∙◌, ap, Some, drop-cons, append_assoc, append-nil}
 use Rattle.std.specs.Prelude.{Result}
 use Rattle.sdt_fault.specs.declared.kinds.LineKind.{LineKind}
 use Rattle.asm_model.specs.declared.values.Value.{Value}
 use Rattle.std.specs.List.{slice_get}
-use Rattle.std.specs.Option.{option_to_list}
 use Rattle.std.proofs.lemmas.Bool.{cond-true}
 use Rattle.std.proofs.lemmas.Option.{slice_get-get_or}
-use Rattle.std.proofs.lemmas.List.{reverse-append, map-append}
 use Rattle.asm_model.specs.declared.names.LaidName.{LaidName}
 use Rattle.asm_model.specs.declared.names.Names.{Names}
 use Rattle.asm_model.specs.declared.exprs.ExprItem.{ExprItem}
 use Rattle.asm_model.specs.declared.exprs.ExprItem.TheVariants as item
 use Rattle.asm_model.specs.declared.exprs.Part.{Part}
-use Rattle.asm_model.specs.declared.exprs.Part.TheVariants as part
-use Rattle.asm_model.specs.declared.values.Value.TheVariants.{Number}
 use Rattle.asm_model.specs.Forms.{same}
-use Rattle.asm_model.specs.Grammar.{Tree, postfix, plain, operand_of, Spells, operand, of_name, before, grouped, between, tighter, IsSpelled}
+use Rattle.asm_model.specs.Grammar.{Tree, postfix, plain, Spells, operand, of_name, before, grouped, between, tighter, IsSpelled}
 use Rattle.asm_model.specs.Meaning.{named_in, Operand, operand_of_item, operand_of_tree, meaning}
 use Rattle.asm_expr.specs.declared.slots.Slot.{Slot}
-use Rattle.asm_expr.specs.Evaluating.{act, run, ended, operand_in, operands_in}
-use Rattle.asm_model.proofs.LateLemmas.{kept, plain_operand}
+use Rattle.asm_expr.specs.Evaluating.{act, run, ended, operands_in}
+use Rattle.asm_model.proofs.LateLemmas.{plain_operand}
 
 -- the first entry with the name stands there
 pub found_at : (list : List LaidName) (name : List ℕ) (i : ℕ) (x : LaidName) (b : Bool) → i < length list → x ≡ get_or list i x → b ≡ same x.name name → b ≡ true

@@ -1,7 +1,6 @@
 -- Readings of operands, one after another.
-use Rattle.std.proofs.Common.{◌≡◌, ℕ, List, [], ◌∷◌, ◌++◌, Bool, true, false, refl, sym, ◌∙◌, ap, arith, append_assoc, Option, Some, None}
-use Rattle.std.specs.Prelude.{Result, Ok, Err, nat_lt}
-use Rattle.std.proofs.lemmas.Bool.{cond-true, cond-false, ltb-true, ltb-false, lt-ltb, le-ltb}
+use Rattle.std.proofs.Common.{◌≡◌, ℕ, List, [], ◌∷◌, ◌++◌, refl, sym, ◌∙◌, ap, append_assoc, Option, Some, None}
+use Rattle.std.specs.Prelude.{Result, Ok, Err}
 use Rattle.sdt_fault.specs.declared.kinds.LineKind.{LineKind}
 use Rattle.sdt_fault.specs.declared.kinds.LineKind.TheVariants.{Syntax}
 use Rattle.asm_model.specs.declared.tokens.Token.{Token}
@@ -10,12 +9,11 @@ use Rattle.asm_model.specs.declared.directives.Attribute.{Attribute}
 use Rattle.asm_model.specs.Areas.{attributes_in, attribute_in, listed, ReadsAttribute, ReadsAttributes, either}
 use Rattle.asm_model.specs.Directives.{or_else}
 use Rattle.asm_model.specs.Grammar.{ParsesTokens}
-use Rattle.asm_model.specs.Kinds.{earlier, rank}
 use Rattle.asm_model.specs.Operands.{operands_at, lengthened}
 use Rattle.asm_model.specs.Says.{Expressions, on_both, Aligned}
 use Rattle.asm_expr.specs.Steps.{CutsOperands}
 use Rattle.asm_expr.proofs.OperandLemmas.{begins}
-use Rattle.asm_model.proofs.FaultLemmas.{above_trans, below_trans, earlier_assoc, stays, takes}
+use Rattle.asm_model.proofs.FaultLemmas.{earlier_assoc}
 
 nothing_behind : (s : Result (List Expr) LineKind) (e : Result Expr LineKind) → on_both (λ es fs. es ++ fs) s (on_both (λ x xs. x ∷ xs) e (Ok [])) ≡ on_both (λ es x. es ++ x ∷ []) s e
 nothing_behind (Ok es) (Ok e) = refl

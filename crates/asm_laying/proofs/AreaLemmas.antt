@@ -4,11 +4,10 @@ use Rattle.std.specs.Ordering.{nat_cmp}
 use Rattle.std.specs.Cmp.Lexicographic.{slice_cmp}
 use Rattle.std.specs.BTreeMap.{UpdatesBy}
 use Rattle.std.specs.List.{list_any}
-use Rattle.std.proofs.lemmas.Bool.{false_from_ne_true}
 use Rattle.asm_model.specs.declared.values.Value.{Value}
 use Rattle.asm_model.specs.declared.statements.What.{What}
 use Rattle.asm_model.specs.Forms.{same}
-use Rattle.asm_model.proofs.WordLemmas.{same_refl, same_true}
+use Rattle.asm_model.proofs.WordLemmas.{same_refl}
 use Rattle.asm_expr.specs.Places.{number_in, or_number, one_later}
 use Rattle.asm_expr.proofs.PlaceLemmas.{noted}
 use Rattle.asm_model.specs.Before.{with_name, place_of}

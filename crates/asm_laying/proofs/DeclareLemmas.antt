@@ -1,12 +1,12 @@
 -- What a statement more declares.
-use Rattle.std.proofs.Common.{◌≡◌, ◌≤◌, List, [], ◌∷◌, ◌++◌, length, refl, ap, ◌∙◌, subst, ◌-◌, get_or, take, drop}
+use Rattle.std.proofs.Common.{◌≡◌, ◌≤◌, List, ◌∷◌, ◌++◌, length, refl, ap, ◌∙◌, subst, ◌-◌, get_or, take, drop}
 use Rattle.asm_model.specs.declared.names.LaidName.{LaidName}
 use Rattle.asm_model.specs.declared.statements.Statement.{Statement}
 use Rattle.asm_model.specs.Before.{is_thumb_label}
 use Rattle.asm_model.specs.Labels.{Defined, Unnamed, Label, Equal, MapField, RegisterName, defined_by, imported_in, imported_entries, declared_names, declared_entries}
 use Rattle.asm_names.specs.Steps.{one_entry}
 use Rattle.asm_laying.specs.declared.behind.Behind.{Behind}
-use Rattle.asm_laying.specs.Behind.{behind, stepped}
+use Rattle.asm_laying.specs.Behind.{stepped}
 use Rattle.asm_laying.specs.Declaring.{declared_entry, Declares, IsBetween}
 use Rattle.base_lemmas.proofs.BaseLemmas.{rest_of}
 

@@ -8,7 +8,7 @@ use Rattle.asm_model.specs.declared.statements.What.{What}
 use Rattle.asm_model.specs.Forms.{same}
 use Rattle.asm_offsets.specs.Running.{IsBehind}
 use Rattle.asm_model.specs.Before.{thumb_behind, area_named, with_name, areas_behind, area_behind, code_behind}
-use Rattle.asm_model.specs.Laid.{LaidLine, statements_of, pieces_of, aligned_end, offset_behind}
+use Rattle.asm_model.specs.Laid.{LaidLine, statements_of, pieces_of, aligned_end}
 use Rattle.asm_model.specs.Offsets.{Piece}
 use Rattle.asm_laying.specs.declared.areas.Areas.{Areas}
 use Rattle.asm_laying.specs.declared.behind.Behind.{Behind}

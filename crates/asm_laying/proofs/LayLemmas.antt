@@ -269,7 +269,7 @@ pub lays : (d : List LaidName) (s : Statement) (before : List LaidLine) (old new
     → AreNeeded d spot.area spot.map (sight_behind d s before) s (Ok x) (Ok map) equal
     → IsPlaced spot.area (extent_of_code x) (pieces_of before) new.areas.ends p → length new.areas.ends ≡ length old.areas.ends
     → new.behind ≡ old.behind → new.map ≡ map → new.areas.numbers ≡ old.areas.numbers → new.areas.count ≡ old.areas.count → new.areas.current ≡ old.areas.current
-    → new.names ≡ old ++ one_entry (own_entry (defined_by s) spot.area spot.offset p.size spot.label_thumb spot.map) ++ one_entry equal ++ imported_entries (imported_in s.what)
+    → new.names ≡ old.names ++ one_entry (own_entry (defined_by s) spot.area spot.offset p.size spot.label_thumb spot.map) ++ one_entry equal ++ imported_entries (imported_in s.what)
     → (strings : List Bool) → strings ≡ string_marks (sight_behind d s before) s.what
     → IsLaid d (laid_behind d s before) before new (record { area = spot.area; offset = p.offset; size = p.size; thumb = spot.thumb; thumb_label = spot.label_thumb; map = spot.map; literal = p.literal; strings = strings })
 lays d s before old new spot x map equal p at sp found placed long behind mapped numbers count current names strings marked =

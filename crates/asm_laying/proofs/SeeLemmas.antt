@@ -1,14 +1,14 @@
 -- What the expressions of a statement see at its spot.
-use Rattle.std.proofs.Common.{◌≡◌, ℕ, List, [], ◌∷◌, ◌++◌, Bool, refl, ap, ◌∙◌, Option, Some, None}
+use Rattle.std.proofs.Common.{◌≡◌, ℕ, List, [], ◌∷◌, Bool, refl, ap, ◌∙◌, Option, Some, None}
 use Rattle.asm_model.specs.declared.names.LaidName.{LaidName}
 use Rattle.asm_model.specs.declared.directives.DirectiveLine.{DirectiveLine}
 use Rattle.asm_model.specs.declared.directives.DirectiveLine.TheVariants as line
 use Rattle.asm_model.specs.declared.statements.Statement.{Statement}
 use Rattle.asm_model.specs.declared.statements.What.{What}
 use Rattle.asm_model.specs.declared.statements.What.TheVariants as what
-use Rattle.asm_model.specs.AtLine.{Sight, own_names, seen_behind}
+use Rattle.asm_model.specs.AtLine.{own_names, seen_behind}
 use Rattle.asm_model.specs.Grammar.{Tree}
-use Rattle.asm_model.specs.Before.{thumb_behind, area_behind, is_thumb_label}
+use Rattle.asm_model.specs.Before.{area_behind, is_thumb_label}
 use Rattle.asm_model.specs.Labels.{Defined, Unnamed, Label, Equal, MapField, RegisterName, defined_by, field_defines, directive_defines}
 use Rattle.asm_model.specs.Laid.{LaidLine, statements_of, lines_of, map_behind, offset_behind, tree_equated, definition_of, definition_behind, sight_behind}
 use Rattle.asm_model.specs.Trees.{tree_of}
@@ -16,7 +16,7 @@ use Rattle.asm_names.specs.Defining.{own_entry}
 use Rattle.asm_names.specs.Steps.{one_entry}
 use Rattle.said_model.specs.Said.{WhatSaid}
 use Rattle.asm_laying.specs.declared.finding.Spot.{Spot}
-use Rattle.asm_laying.specs.Laying.{DefinedRead, IsSpot}
+use Rattle.asm_laying.specs.Laying.{sight_shown, DefinedRead, IsSpot}
 
 -- ---- the line's own name
 
@@ -37,13 +37,6 @@ pub own_there : (x : Defined) (a b : Option ℕ) (o p n m : ℕ) (t u : Bool) (k
 own_there x a b o p n m t u k j e f g h i = rw (e, f, g, h, i) refl
 
 -- ---- a place at the spot shows the line's sight
-
-abbrev pub sight_shown : List LaidName → List LaidName → List LaidName → Spot → Sight
-sight_shown d seen own p = record {
-  known = record { list = seen ++ own; area = p.area; offset = p.offset; map = p.map; thumb = p.thumb };
-  unsized = own;
-  all = d;
-}
 
 pub shown : (d : List LaidName) (s : Statement) (before : List LaidLine) (names : List LaidName) (own : Option LaidName) (p : Spot) → IsSpot s before p
     → names ≡ seen_behind d (lines_of before) → own ≡ own_entry (defined_by s) p.area p.offset 0 p.label_thumb p.map

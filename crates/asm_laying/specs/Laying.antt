@@ -90,6 +90,14 @@ pub record IsFound (names : List LaidName) (area : Option ℕ) (map : ℕ) (s : 
   pub number : f.number ≡ said_number s statement.what
   pub strings : f.strings ≡ string_marks s statement.what
 
+-- what an expression sees at a spot, where a source has these names, those are known, and its line's own besides
+abbrev pub sight_shown : List LaidName → List LaidName → List LaidName → Spot → Sight
+sight_shown d seen own p = record {
+  known = record { list = seen ++ own; area = p.area; offset = p.offset; map = p.map; thumb = p.thumb };
+  unsized = own;
+  all = d;
+}
+
 abbrev pub OkExtent : Result Code LineKind → Type 0
 OkExtent (Ok e) = IsExtent (extent_of_code e)
 OkExtent (Err k) = Unit {0}

@@ -1,6 +1,7 @@
 //! What a statement's place needs of the values of its expressions.
 
 ghost use Rattle.std.specs.Prelude.{◌≡◌, List, IfOk};
+ghost use Rattle.std.specs.Option.{option_copied};
 ghost use Rattle.asm_model.specs.AtLine.{made_name, seen_behind};
 ghost use Rattle.asm_model.specs.Entries.{equal_entry as entry_of_equal};
 ghost use Rattle.asm_model.specs.Laid.{lines_of, sight_behind, LaidLine};
@@ -8,7 +9,7 @@ ghost use Rattle.said_model.specs.Said.{IsSaid};
 ghost use Rattle.asm_names.specs.Defining.{defined_of};
 ghost use Rattle.asm_names.specs.Sights.{sight_of};
 ghost use Rattle.asm_names.specs.Steps.{one_entry};
-ghost use Rattle.asm_laying.specs.Laying.{equal_names, DefinedRead, IsFound, IsSpot};
+ghost use Rattle.asm_laying.specs.Laying.{equal_names, sight_shown, DefinedRead, IsFound, IsSpot};
 
 use crate::extents::{Taken, extent_of};
 use crate::values::{map_after, said_number, value_there};
@@ -84,21 +85,32 @@ fn equal_there(
     }
 }
 
-/// What a statement at a place needs.
+/// What a statement at a spot needs, where these names are known, and its own name besides.
 fn found_at(
     alloc: Global,
+    names: &KnownNames,
     declared: &KnownNames,
-    place: &Place<'_>,
+    own: Option<&LaidName>,
+    spot: &Spot,
     statement: &Statement,
 ) -> Result<Found, NoMemory>
     requires { IsSaid statement.now }
-    ensures { IfOk result (λ found. IsFound declared.now place.now.area place.now.map (sight_of place.now) statement.now found) }
+    ensures { IfOk result (λ found. IsFound declared.now spot.now.area spot.now.map (sight_shown declared.now names.now (one_entry (option_copied own.entry)) spot.now) statement.now found) }
 {
+    let place = Place {
+        known: names,
+        declared,
+        own,
+        area: spot.area,
+        offset: spot.offset,
+        map: spot.map,
+        thumb: spot.thumb,
+    };
     let defines = defined_by(statement);
-    let equal = equal_there(alloc, declared, place, &defines)?;
-    let Taken { extent, strings } = extent_of(alloc, place, &statement.what)?;
-    let map = map_after(alloc, place.map, place, &statement.what)?;
-    let number = said_number(alloc, &statement.what, place)?;
+    let equal = equal_there(alloc, declared, &place, &defines)?;
+    let Taken { extent, strings } = extent_of(alloc, &place, &statement.what)?;
+    let map = map_after(alloc, spot.map, &place, &statement.what)?;
+    let number = said_number(alloc, &statement.what, &place)?;
     Ok(Found {
         extent,
         map,
@@ -129,15 +141,6 @@ pub fn find(
         spot.label_thumb,
         spot.map,
     )?;
-    let place = Place {
-        known: names,
-        declared,
-        own: own.as_ref(),
-        area: spot.area,
-        offset: spot.offset,
-        map: spot.map,
-        thumb: spot.thumb,
-    };
-    let found = found_at(alloc, declared, &place, statement)?;
+    let found = found_at(alloc, names, declared, own.as_ref(), spot, statement)?;
     Ok(found)
 }

@@ -5,7 +5,6 @@ use Rattle.std.specs.List.{AllByRecursion, sum_by}
 use Rattle.std.proofs.lemmas.Bool.{eqb-true}
 use Rattle.std.proofs.lemmas.List.Sums.{sum_by-cons}
 use Rattle.asm_names.specs.Order.{is_in, times}
-use Rattle.base_lemmas.proofs.BaseLemmas.{all_append, all_back, all_front, all_weaker}
 
 pub all_get : {X : Type 0} (P : X → Type 0) (xs : List X) (i : ℕ) (x : X) → AllByRecursion P xs → slice_get xs i ≡ Some x → P x
 all_get P [] i x a h = absurd (cc)

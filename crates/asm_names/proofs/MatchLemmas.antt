@@ -44,8 +44,8 @@ made_own N d s ss x is =
     let before = laid_of d ss in
     let l = laid_behind d s before in
     let make = λ (area : Option ℕ) (offset size : ℕ) (thumb label : Bool) (m : ℕ).
-        entries_with N (record { area = area; offset = offset; map = m; thumb = thumb; definition = Nameless })
-        (definition_of d (defined_by s) area offset size label m) in
+    entries_with N (record { area = area; offset = offset; map = m; thumb = thumb; definition = Nameless })
+    (definition_of d (defined_by s) area offset size label m) in
     ap (λ a. make a x.offset x.size x.thumb x.thumb_label x.map) is.area
     ∙ ap (λ o. make l.area o x.size x.thumb x.thumb_label x.map) is.offset
     ∙ ap (λ n. make l.area l.offset n x.thumb x.thumb_label x.map) is.size

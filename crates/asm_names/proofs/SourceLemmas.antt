@@ -1,5 +1,5 @@
 -- The names that the code finds are all names of the source.
-use Rattle.std.proofs.Common.{◌≡◌, ℕ, zero, suc, List, [], ◌∷◌, ◌++◌, map, true, false, refl, sym, ◌∙◌, ap, subst, Some, append_assoc, append-nil}
+use Rattle.std.proofs.Common.{◌≡◌, ℕ, zero, suc, List, [], ◌∷◌, ◌++◌, map, true, refl, sym, ◌∙◌, ap, subst, Some, append_assoc, append-nil}
 use Rattle.std.specs.Prelude.{Result, Ok, Err, IfOk}
 use Rattle.std.specs.List.{list_any, slice_get, flat_map, AllByRecursion}
 use Rattle.sdt_fault.specs.declared.NoMemory.{NoMemory}

@@ -1,5 +1,5 @@
 -- The answers of evaluations at a line.
-use Rattle.std.proofs.Common.{◌≡◌, ℕ, List, true, false, refl, sym, ◌∙◌, ap, subst, Some, None}
+use Rattle.std.proofs.Common.{◌≡◌, ℕ, List, false, refl, sym, ◌∙◌, ap, subst, Some, None}
 use Rattle.std.specs.Prelude.{Result, Ok, Err}
 use Rattle.sdt_fault.specs.declared.kinds.LineKind.{LineKind}
 use Rattle.sdt_fault.specs.declared.kinds.LineKind.TheVariants.{Forward}
@@ -14,9 +14,8 @@ use Rattle.asm_model.specs.AtLine.{Sight, name_kinds, unless_told, value_at, kep
 use Rattle.asm_model.specs.Grammar.{Tree, postfix, IsSpelled}
 use Rattle.asm_model.specs.Kinds.{told_kind}
 use Rattle.asm_model.specs.Meaning.{meaning, IsValue, Evaluates}
-use Rattle.asm_model.specs.Extents.{as_number}
-use Rattle.asm_names.specs.Sights.{SeesValue, SeesNumber, SeesLiteral, IsNumber}
-use Rattle.asm_names.specs.Steps.{items_kinds, told_through, kept_items, items_entries, with_list, number_in, is_settled, place_or_forward, SeesKept}
+use Rattle.asm_names.specs.Sights.{SeesValue, SeesLiteral}
+use Rattle.asm_names.specs.Steps.{items_kinds, told_through, kept_items, items_entries, with_list, is_settled, place_or_forward, SeesKept}
 use Rattle.asm_names.proofs.EntryLemmas.{few_meaning}
 use Rattle.asm_names.proofs.ToldLemmas.{told_of_items}
 use Rattle.asm_names.proofs.ItemLemmas.{kinds_of_tree, kept_of_tree, kept_spelled}

@@ -5,7 +5,7 @@ use Rattle.std.specs.Prelude.{◌≡◌, ℕ, true, List, slice_get, Some}
 use Rattle.std.specs.List.{list_any}
 use Rattle.asm_model.specs.declared.exprs.Expr.{Expr}
 use Rattle.asm_model.specs.Forms.{same}
-use Rattle.asm_model.specs.LayoutKinds.{are_settled, settled_by, settled}
+use Rattle.asm_model.specs.LayoutKinds.{are_settled}
 
 -- a set of names that has each name whose expression it settles
 abbrev pub IsClosed : List (List ℕ × Expr) → List (List ℕ) → Type 0

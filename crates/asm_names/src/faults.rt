@@ -9,8 +9,8 @@ ghost use Rattle.asm_names.specs.Steps as steps;
 use crate::places::{Place, is_declared, is_known, is_own};
 use asm_expr::told::first_told;
 use asm_model::{ExprItem, UnaryOp};
-use sdt_fault::kinds::LineKind;
 use sdt_fault::Text;
+use sdt_fault::kinds::LineKind;
 
 /// Why a name isn't known.
 fn unknown_kind(place: &Place<'_>, name: &Text) -> LineKind

@@ -5,11 +5,11 @@ ghost use Rattle.asm_model.specs.declared.statements.Statement.{Statement};
 ghost use Rattle.asm_model.specs.Laid as laying;
 ghost use Rattle.asm_names.specs.Source.{IsSource};
 
+use crate::KnownNames;
 use crate::dues::{dues_of, places_of};
 use crate::lines::PlacedLine;
 use crate::listing::entries_of;
 use crate::settling::settled;
-use crate::KnownNames;
 use sdt_fault::NoMemory;
 use std::alloc::Global;
 
@@ -25,12 +25,6 @@ pub fn final_names(
     let dues = dues_of(alloc, lines)?;
     let places = places_of(alloc, dues.as_slice())?;
     let first = entries_of(alloc, &KnownNames::new(alloc), lines)?;
-    let known = settled(
-        alloc,
-        first,
-        declared,
-        dues.as_slice(),
-        places.as_slice(),
-    )?;
+    let known = settled(alloc, first, declared, dues.as_slice(), places.as_slice())?;
     entries_of(alloc, &known, lines)
 }

@@ -5,11 +5,11 @@ ghost use Rattle.std.specs.List.{slice_get};
 ghost use Rattle.asm_names.specs.Owing.{owed_of};
 ghost use Rattle.asm_names.specs.Source.{IsEntryOf, IsEntryAt, Settles};
 
+use crate::KnownNames;
 use crate::dues::Due;
 use crate::final_values::final_value;
 use crate::listing::add_entry;
 use crate::made::equal_entry;
-use crate::KnownNames;
 use asm_model::{EvalFault, LaidName};
 use sdt_fault::NoMemory;
 use std::alloc::Global;

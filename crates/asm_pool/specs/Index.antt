@@ -1,11 +1,11 @@
 -- The code's fields: entries and their offsets, and a map from literals to the numbers of waiting entries. This
 -- project's.
-use Rattle.std.specs.Prelude.{◌≡◌, ℕ, ◌+◌, ◌^◌, ◌≤◌, List, [], ◌∷◌, length, drop, Option, Some, None, if◌then◌else◌}
+use Rattle.std.specs.Prelude.{◌≡◌, ℕ, ◌+◌, ◌^◌, ◌≤◌, List, [], ◌∷◌, length, drop, Option, Some, None}
 use Rattle.std.specs.List.{zip}
 use Rattle.std.specs.BTreeMap.{BTreeMap, get}
 use Rattle.asm_model.specs.declared.values.Value.{Value}
 use Rattle.asm_model.specs.contracts.values.ValueOrd.TheImpl as order
-use Rattle.asm_pool.specs.Pooled.{Pooled, place_among, same_literal}
+use Rattle.asm_pool.specs.Pooled.{Pooled, place_among}
 
 abbrev pub Numbers : Type 0
 Numbers = BTreeMap Value ℕ

@@ -2,8 +2,8 @@ use Rattle.asm_model.specs.Laid.{sight_behind}
 use Rattle.asm_laying.proofs.LayLemmas.{may_place, fits_all, tells}
 use Rattle.asm_laying.proofs.laying.Laying.lay.Goals as goal
 
-pub enter-spot-requires : goal.enter-spot-requires
-enter-spot-requires c = record { declared = c.args.declared.now; may = c.requires.may }
+pub enter-requires : goal.enter-requires
+enter-requires c = record { declared = c.args.declared.now; may = c.requires.may }
 
 pub settle-requires-clause-there : goal.settle-requires-clause-there
 settle-requires-clause-there c =
