@@ -1,0 +1,28 @@
+-- Steps of naming. References are named in two passes: forwards those that name labels before, backwards the others.
+use Rattle.std.specs.Prelude.{◌≡◌, ◌<◌, ℕ, suc, List, [], ◌∷◌, length, slice_get, Option, Some, None}
+use Rattle.asm_model.specs.declared.statements.Statement.{Statement}
+use Rattle.asm_locals.specs.Labels.{local_number, label_behind, label_ahead, back_to, forth_to, number_behind}
+use Rattle.asm_locals.specs.Naming.{named_label, named_what}
+use Rattle.std.specs.Option.{option_and_then}
+
+-- the entry of a number in a table of the nearest labels
+abbrev pub entry : List (Option ℕ) → ℕ → Option ℕ
+entry table n = option_and_then (λ o. o) (slice_get table n)
+
+-- a table of these labels
+pub record IsTable (table : List (Option ℕ)) (labels : ℕ → Option ℕ) : Type 0 where
+  pub size : length table ≡ 100
+  pub entries : (n : ℕ) → n < 100 → entry table n ≡ labels n
+
+-- with the references that name labels on them or before, behind those statements, the nearest first
+abbrev pub looked_back : List Statement → List Statement → List Statement
+looked_back before [] = []
+looked_back before (s ∷ rest) =
+    record s { what = named_what (back_to (label_behind (s ∷ before))) s.what } ∷ looked_back (s ∷ before) rest
+
+-- with their labels, and the references that name later ones; the first of them is counted k
+abbrev pub looked_ahead : ℕ → List Statement → List Statement
+looked_ahead k [] = []
+looked_ahead k (s ∷ rest) =
+    record s { label = named_label k (local_number s) s.label; what = named_what (forth_to (label_ahead (suc k) rest)) s.what }
+    ∷ looked_ahead (suc k) rest
