@@ -59,11 +59,14 @@ label_ahead k (s ∷ rest) n =
 
 -- ---- references
 
--- the number in the text of a reference behind a percent sign: with this letter or with none, and not with the other
+-- the number in what stands behind the percent sign of a reference: with this letter or with none, and not with the other
+abbrev pub number_with : ℕ → ℕ → List ℕ → Option ℕ
+number_with letter other [] = None
+number_with letter other (c ∷ cs) = if c == letter then number_in cs else if c == other then None else number_in (c ∷ cs)
+
 abbrev pub number_behind : ℕ → ℕ → List ℕ → Option ℕ
-number_behind letter other (percent ∷ c ∷ cs) =
-    if c == letter then number_in cs else if c == other then None else number_in (c ∷ cs)
-number_behind letter other _ = None
+number_behind letter other [] = None
+number_behind letter other (percent ∷ cs) = number_with letter other cs
 
 -- what a reference names among the labels before, and among the later ones
 abbrev pub back_to : (ℕ → Option ℕ) → List ℕ → Option ℕ

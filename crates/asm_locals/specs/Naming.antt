@@ -69,20 +69,23 @@ abbrev pub named_half : Targets → HalfOffset → HalfOffset
 named_half t (half.Number e) = half.Number (named t e)
 named_half t o = o
 
+abbrev pub named_transfer : Targets → ArmLine → ArmLine
+named_transfer t (arm.TransferImmediate condition load byte rd a) = arm.TransferImmediate condition load byte rd (named_address t a)
+named_transfer t (arm.TransferShifted condition load byte rd rn ix subtract rm by) =
+    arm.TransferShifted condition load byte rd rn ix subtract rm (named_shift t by)
+named_transfer t (arm.TransferHalf condition load kind rd rn ix o) =
+    arm.TransferHalf condition load kind rd rn ix (named_half t o)
+named_transfer t l = l
+
 abbrev pub named_arm : Targets → ArmLine → ArmLine
 named_arm t (arm.DataImmediate condition operation set_flags rd rn e) =
     arm.DataImmediate condition operation set_flags rd rn (named t e)
 named_arm t (arm.DataShifted condition operation set_flags rd rn rm by) =
     arm.DataShifted condition operation set_flags rd rn rm (named_shift t by)
 named_arm t (arm.WriteStatusImmediate condition saved fields e) = arm.WriteStatusImmediate condition saved fields (named t e)
-named_arm t (arm.TransferImmediate condition load byte rd a) = arm.TransferImmediate condition load byte rd (named_address t a)
-named_arm t (arm.TransferShifted condition load byte rd rn ix subtract rm by) =
-    arm.TransferShifted condition load byte rd rn ix subtract rm (named_shift t by)
-named_arm t (arm.TransferHalf condition load kind rd rn ix o) =
-    arm.TransferHalf condition load kind rd rn ix (named_half t o)
 named_arm t (arm.Branch condition link e) = arm.Branch condition link (named t e)
 named_arm t (arm.SoftwareInterrupt condition e) = arm.SoftwareInterrupt condition (named t e)
-named_arm t l = l
+named_arm t l = named_transfer t l
 
 abbrev pub named_pseudo : Targets → PseudoLine → PseudoLine
 named_pseudo t (pseudo.LoadConstant condition rd e) = pseudo.LoadConstant condition rd (named t e)
@@ -102,21 +105,24 @@ abbrev pub named_register : Targets → RnOperand → RnOperand
 named_register t (rn.Register n) = rn.Register n
 named_register t (rn.Number e) = rn.Number (named t e)
 
+abbrev pub named_data : Targets → DirectiveLine → DirectiveLine
+named_data t (line.Dcd es) = line.Dcd (all_named t es)
+named_data t (line.Dcdu es) = line.Dcdu (all_named t es)
+named_data t (line.Dcw es) = line.Dcw (all_named t es)
+named_data t (line.Dcb es) = line.Dcb (all_named t es)
+named_data t (line.Space e) = line.Space (named t e)
+named_data t l = l
+
 abbrev pub named_directive : Targets → DirectiveLine → DirectiveLine
 named_directive t (line.Area name a) = line.Area name (named_attributes t a)
 named_directive t (line.Equ e) = line.Equ (named t e)
 named_directive t (line.Rn r) = line.Rn (named_register t r)
 named_directive t (line.Assert e) = line.Assert (named t e)
 named_directive t (line.Opt e) = line.Opt (named t e)
-named_directive t (line.Dcd es) = line.Dcd (all_named t es)
-named_directive t (line.Dcdu es) = line.Dcdu (all_named t es)
-named_directive t (line.Dcw es) = line.Dcw (all_named t es)
-named_directive t (line.Dcb es) = line.Dcb (all_named t es)
-named_directive t (line.Space e) = line.Space (named t e)
 named_directive t (line.Align b) = line.Align (named_boundary t b)
 named_directive t (line.Map e) = line.Map (named t e)
 named_directive t (line.Field e) = line.Field (named t e)
-named_directive t l = l
+named_directive t l = named_data t l
 
 -- until Thumb lines are read, these keep theirs
 abbrev pub named_what : Targets → What → What

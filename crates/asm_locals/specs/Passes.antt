@@ -1,9 +1,15 @@
 -- Steps of naming. References are named in two passes: forwards those that name labels before, backwards the others.
-use Rattle.std.specs.Prelude.{◌≡◌, ◌<◌, ℕ, suc, List, [], ◌∷◌, length, slice_get, Option, Some, None}
-use Rattle.asm_model.specs.declared.statements.Statement.{Statement}
-use Rattle.asm_locals.specs.Labels.{local_number, label_behind, label_ahead, back_to, forth_to, number_behind}
-use Rattle.asm_locals.specs.Naming.{named_label, named_what}
+use Rattle.std.specs.Prelude.{◌≡◌, ◌<◌, ℕ, suc, List, [], ◌∷◌, length, slice_get, if◌then◌else◌, Option, Some, None}
 use Rattle.std.specs.Option.{option_and_then}
+use Rattle.asm_model.specs.declared.exprs.ExprItem.{ExprItem}
+use Rattle.asm_model.specs.declared.exprs.ExprItem.TheVariants as item
+use Rattle.asm_model.specs.declared.statements.Statement.{Statement}
+use Rattle.asm_model.specs.declared.statements.What.{What}
+use Rattle.asm_locals.specs.declared.labels.Nearest.{Nearest}
+use Rattle.asm_locals.specs.declared.labels.Way.{Way}
+use Rattle.asm_locals.specs.declared.labels.Way.TheVariants as way
+use Rattle.asm_locals.specs.Labels.{local_number, begins_stretch, is_number, label_behind, label_ahead, back_to, forth_to, number_behind}
+use Rattle.asm_locals.specs.Naming.{named_label, named_what}
 
 -- the entry of a number in a table of the nearest labels
 abbrev pub entry : List (Option ℕ) → ℕ → Option ℕ
@@ -13,6 +19,25 @@ entry table n = option_and_then (λ o. o) (slice_get table n)
 pub record IsTable (table : List (Option ℕ)) (labels : ℕ → Option ℕ) : Type 0 where
   pub size : length table ≡ 100
   pub entries : (n : ℕ) → n < 100 → entry table n ≡ labels n
+
+-- labels behind a line or ahead of it, with those of the line: a line may begin a stretch, and may have a label
+abbrev pub begun : What → (ℕ → Option ℕ) → ℕ → Option ℕ
+begun w labels n = if begins_stretch w then None else labels n
+
+abbrev pub noted : Option ℕ → ℕ → (ℕ → Option ℕ) → ℕ → Option ℕ
+noted number statement labels n = if is_number n number then Some statement else labels n
+
+-- the number that a reference names on one side, and the statement of its label
+abbrev pub number_at : Way → List ℕ → Option ℕ
+number_at way.Back text = number_behind 66 70 text
+number_at way.Forth text = number_behind 70 66 text
+
+abbrev pub found : Nearest → List ℕ → Option ℕ
+found nearest text = option_and_then (entry nearest.table.items) (number_at nearest.way text)
+
+abbrev pub target_of : Nearest → ExprItem → Option ℕ
+target_of nearest (item.Local text) = found nearest text
+target_of nearest i = None
 
 -- with the references that name labels on them or before, behind those statements, the nearest first
 abbrev pub looked_back : List Statement → List Statement → List Statement
