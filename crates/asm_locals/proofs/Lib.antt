@@ -1,0 +1,3 @@
+pub mod NamingLemmas
+pub mod TableLemmas
+pub mod PassLemmas

@@ -39,15 +39,19 @@ abbrev pub target_of : Nearest → ExprItem → Option ℕ
 target_of nearest (item.Local text) = found nearest text
 target_of nearest i = None
 
--- with the references that name labels on them or before, behind those statements, the nearest first
+-- a statement with the references that name labels on it or before, behind those, the nearest first
+abbrev pub named_back : List Statement → Statement → Statement
+named_back before s = record s { what = named_what (back_to (label_behind (s ∷ before))) s.what }
+
 abbrev pub looked_back : List Statement → List Statement → List Statement
 looked_back before [] = []
-looked_back before (s ∷ rest) =
-    record s { what = named_what (back_to (label_behind (s ∷ before))) s.what } ∷ looked_back (s ∷ before) rest
+looked_back before (s ∷ rest) = named_back before s ∷ looked_back (s ∷ before) rest
 
--- with their labels, and the references that name later ones; the first of them is counted k
+-- a statement, counted k, with its label and the references that name later ones
+abbrev pub named_ahead : ℕ → Statement → List Statement → Statement
+named_ahead k s rest =
+    record s { label = named_label k (local_number s) s.label; what = named_what (forth_to (label_ahead (suc k) rest)) s.what }
+
 abbrev pub looked_ahead : ℕ → List Statement → List Statement
 looked_ahead k [] = []
-looked_ahead k (s ∷ rest) =
-    record s { label = named_label k (local_number s) s.label; what = named_what (forth_to (label_ahead (suc k) rest)) s.what }
-    ∷ looked_ahead (suc k) rest
+looked_ahead k (s ∷ rest) = named_ahead k s rest ∷ looked_ahead (suc k) rest

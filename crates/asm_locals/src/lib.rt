@@ -4,3 +4,6 @@
 pub mod labels;
 pub mod lines;
 pub mod naming;
+pub mod passes;
+
+pub use crate::passes::name_locals;
