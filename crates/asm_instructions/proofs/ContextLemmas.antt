@@ -1,43 +1,34 @@
 -- What a scene finds is what each context finds that it shows.
-use Rattle.std.proofs.Common.{◌≡◌, ℕ, Bool, true, false, cond, List, [], ◌∷◌, ◌++◌, ◌||◌, Option, Some, None, refl, sym, ap, ◌∙◌, subst, append_assoc}
+use Rattle.std.proofs.Common.{◌≡◌, ℕ, cond, List, [], ◌∷◌, ◌||◌, Option, Some, None, refl, sym, ap, ◌∙◌, subst}
 use Rattle.std.specs.Prelude.{Result, Ok, Err, IfOk}
 use Rattle.std.specs.List.{list_any}
-use Rattle.std.specs.Str.{bytes_eq}
 use Rattle.std.specs.Ordering.{nat_cmp}
 use Rattle.std.specs.Cmp.Lexicographic.{slice_cmp}
 use Rattle.std.specs.BTreeMap.{BTreeMap, is_at}
 use Rattle.std.specs.BTreeSet.{BTreeSet}
 use Rattle.std.specs.Map.{lookup}
-use Rattle.std.proofs.lemmas.Bool.{false_from_ne_true}
 use Rattle.std.proofs.lemmas.Map.Text.{is_eq-slice_cmp}
-use Rattle.std.proofs.lemmas.Slice.Eq.{bytes_eq-Decides}
 use Rattle.asm_model.specs.declared.exprs.Expr.{Expr}
 use Rattle.asm_model.specs.declared.operands.Register.{Register}
 use Rattle.asm_model.specs.declared.operands.Register.TheVariants as reg
 use Rattle.asm_model.specs.declared.values.Value.{Value}
 use Rattle.asm_model.specs.declared.values.EvalFault.{EvalFault}
-use Rattle.asm_model.specs.declared.names.LaidName.{LaidName}
-use Rattle.asm_model.specs.AtLine.{SourceLine, with_names, all_names}
-use Rattle.asm_model.specs.Directives.{or_else}
+use Rattle.asm_model.specs.declared.names.Names.{Names}
+use Rattle.asm_model.specs.AtLine.{with_names}
 use Rattle.asm_model.specs.Forms.{same}
 use Rattle.asm_model.specs.Grammar.{Tree}
-use Rattle.asm_model.specs.Meaning.{named_in, IsValue, Evaluates}
-use Rattle.asm_model.proofs.WordLemmas.{same_refl, same_true}
+use Rattle.asm_model.specs.Meaning.{named_in, meaning, IsValue, Evaluates}
 use Rattle.asm_model.specs.Trees.{tree_of}
 use Rattle.asm_model.proofs.TreeLemmas.{trees_read_back}
 use Rattle.layout_laws.proofs.FoundLemmas.{tree_final, final_tree}
-use Rattle.layout_laws.proofs.RoundLemmas.{named_joined}
-use Rattle.asm_names.proofs.SightLemmas.{same_known}
-use Rattle.asm_names.specs.declared.lines.PlacedLine.{PlacedLine}
-use Rattle.asm_names.specs.Lines.{Sees}
+use Rattle.asm_names.specs.Lines.{line_of}
 use Rattle.said_model.specs.Said.{IsRead}
 use Rattle.source_model.specs.Contexts.{Context, sees, value_of, register, or_zero}
 use Rattle.source_model.specs.Registers.{Named, register_in}
 use Rattle.asm_instructions.specs.declared.scenes.Scene.{Scene}
-use Rattle.asm_instructions.specs.Scenes.{register_at, has_symbol, Shows, line_of, context_of}
+use Rattle.asm_instructions.specs.Scenes.{register_at, has_symbol, Shows, context_of}
 use Rattle.asm_expr.proofs.PlaceLemmas.{tests as same_words}
 use Rattle.asm_model.proofs.SharedLemmas.{tests as turned_words}
-use Rattle.asm_names.proofs.LineLemmas.{reversed_nothing as joined_nothing}
 
 -- ---- maps and sets as the lists of their keys
 
@@ -64,17 +55,13 @@ named_listed x r q n e h = h ∙ ap or_zero (registers_listed x.registers.now q)
 
 -- ---- names
 
-pub line_seen : (l : PlacedLine) (references : List LaidName) → Sees l references (line_of l references)
-line_seen l references = record { area = refl; offset = refl; map = refl; thumb = refl; found = λ q. ap (named_in q) (sym (joined_nothing references)) }
-
-pub value_seen : (x : Scene) (e : Expr) (r : Result Value EvalFault) → IsRead e
-    → ((f : SourceLine) → Sees x.line.now x.references.now f → Evaluates (with_names f (all_names x.names.now f)) e.items r)
+pub value_seen : (x : Scene) (e : Expr) (r : Result Value EvalFault) → IsRead e → Evaluates (with_names (line_of x.line.now) x.names.now) e.items r
     → IsValue (value_of (context_of x) e) r
 value_seen x e r read h =
-    let f = line_of x.line.now x.references.now in
+    let f = line_of x.line.now in
     subst (λ v. IsValue v r)
     (sym (final_tree x.names.now f e (tree_of e) refl ∙ ap (tree_final x.names.now f) (trees_read_back read.parts read.tree e read.spelled read.items)))
-    (h f (line_seen x.line.now x.references.now) read.parts read.tree read.spelled read.items)
+    (h read.parts read.tree read.spelled read.items)
 
 -- ---- contexts that find the same
 
@@ -87,29 +74,12 @@ pub record Alike (a b : Context) : Type 0 where
   pub entry : (q : List ℕ) → named_in q (sees a).list ≡ named_in q (sees b).list
   pub symbol : (q : List ℕ) → list_any (same q) a.symbols ≡ list_any (same q) b.symbols
 
-entry_same : (x : Scene) (c : Context) → Shows x c → (q : List ℕ) → named_in q (sees (context_of x)).list ≡ named_in q (sees c).list
-entry_same x c s q =
-    ap (named_in q) (joined_nothing (x.names.now ++ x.references.now))
-    ∙ named_joined q x.names.now x.references.now
-    ∙ ap (or_else (named_in q x.names.now)) (s.line.found q)
-    ∙ sym (named_joined q x.names.now (c.line.back ++ c.line.forth))
-    ∙ ap (named_in q) (sym (append_assoc x.names.now c.line.back c.line.forth))
-    ∙ ap (λ z. named_in q (z ++ c.line.back ++ c.line.forth)) (sym s.names)
+sees_same : (x : Scene) (c : Context) → Shows x c → sees (context_of x) ≡ sees c
+sees_same x c s = rw (s.names, s.line.area, s.line.offset, s.line.map, s.line.thumb) refl
 
-tree_same : (x : Scene) (c : Context) → Shows x c → (o : Option Tree)
-    → tree_final x.names.now (line_of x.line.now x.references.now) o ≡ tree_final c.names c.line o
+tree_same : (x : Scene) (c : Context) → Shows x c → (o : Option Tree) → tree_final x.names.now (line_of x.line.now) o ≡ tree_final c.names c.line o
 tree_same x c s None = refl
-tree_same x c s (Some t) =
-    same_known (record { known = sees (context_of x); unsized = []; all = [] }) (record { known = sees c; unsized = []; all = [] })
-    (record {
-      known = entry_same x c s;
-      unsized = λ q. refl;
-      all = λ q. refl;
-      area = s.line.area;
-      offset = s.line.offset;
-      map = s.line.map;
-      thumb = s.line.thumb;
-    }) t
+tree_same x c s (Some t) = ap (λ (names : Names). meaning names t) (sees_same x c s)
 
 number_same : (x : Scene) (c : Context) → Shows x c → (r : Register) → register (context_of x) r ≡ register c r
 number_same x c s (reg.Number n) = refl
@@ -118,13 +88,13 @@ number_same x c s (reg.Named q) = ap or_zero (sym (registers_listed x.registers.
 pub shown_alike : (x : Scene) (c : Context) → Shows x c → Alike (context_of x) c
 shown_alike x c s = record {
   value = λ e.
-      final_tree x.names.now (line_of x.line.now x.references.now) e (tree_of e) refl ∙ tree_same x c s (tree_of e)
+      final_tree x.names.now (line_of x.line.now) e (tree_of e) refl ∙ tree_same x c s (tree_of e)
       ∙ sym (final_tree c.names c.line e (tree_of e) refl);
   number = number_same x c s;
   area = s.line.area;
   offset = s.line.offset;
   thumb = s.line.thumb;
-  entry = entry_same x c s;
+  entry = λ q. ap (named_in q) (sym s.names);
   symbol = λ q. sym (symbols_listed x.symbols.now q) ∙ s.symbols q;
 }
 

@@ -5,11 +5,8 @@ use Rattle.std.specs.Ordering.{nat_cmp}
 use Rattle.std.specs.Cmp.Lexicographic.{slice_cmp}
 use Rattle.std.specs.BTreeMap.{BTreeMap, get}
 use Rattle.std.specs.BTreeSet.{BTreeSet, contains}
-use Rattle.asm_model.specs.declared.names.LaidName.{LaidName}
-use Rattle.asm_model.specs.AtLine.{Nameless, SourceLine}
 use Rattle.asm_model.specs.Forms.{same}
-use Rattle.asm_names.specs.declared.lines.PlacedLine.{PlacedLine}
-use Rattle.asm_names.specs.Lines.{Sees}
+use Rattle.asm_names.specs.Lines.{line_of, Sees}
 use Rattle.source_model.specs.Contexts.{Context}
 use Rattle.source_model.specs.Registers.{register_in}
 use Rattle.asm_instructions.specs.declared.scenes.Scene.{Scene}
@@ -23,27 +20,16 @@ has_symbol s q = contains (slice_cmp nat_cmp) s q
 -- the scene shows what a context says; RN gives numbers below 16
 pub record Shows (x : Scene) (c : Context) : Type 0 where
   pub names : c.names ≡ x.names.now
-  pub line : Sees x.line.now x.references.now c.line
+  pub line : Sees x.line.now c.line
   pub registers : (q : List ℕ) → register_at x.registers.now q ≡ register_in q c.registers
   pub small : (q : List ℕ) (n : ℕ) → register_in q c.registers ≡ Some n → n < 16
   pub symbols : (q : List ℕ) → has_symbol x.symbols.now q ≡ list_any (same q) c.symbols
 
 -- a context that the scene's own lists make: each other one that it shows finds the same
-abbrev pub line_of : PlacedLine → List LaidName → SourceLine
-line_of l references = record {
-  area = l.area;
-  offset = l.offset;
-  map = l.map;
-  thumb = l.thumb;
-  back = references;
-  forth = [];
-  definition = Nameless;
-}
-
 abbrev pub context_of : Scene → Context
 context_of x = record {
   names = x.names.now;
-  line = line_of x.line.now x.references.now;
+  line = line_of x.line.now;
   registers = x.registers.now.entries;
   symbols = x.symbols.now.keys;
   defined = [];

@@ -14,7 +14,7 @@ ghost use Rattle.source_model.specs.Contexts.{and_then, value_of};
 ghost use Rattle.source_model.specs.Units as units;
 ghost use Rattle.asm_instructions.specs.Scenes.{context_of};
 
-use crate::scenes::{Scene, entry_of, is_symbol, stands_at};
+use crate::scenes::{Scene, is_symbol, stands_at};
 use crate::values::{from_pc, value_there};
 use arm_isa::ArmInstr;
 use asm_model::{Expr, LaidName, Value};
@@ -74,7 +74,7 @@ fn is_settled(scene: &Scene<'_>, symbol: &Text) -> bool
     ensures { result ≡ forms.is_settled (context_of scene.now) symbol.now }
 {
     if is_in_area(scene.line.area, stands_at(scene, symbol)) {
-        return same_state(scene.line.thumb, is_thumb(entry_of(scene, symbol)));
+        return same_state(scene.line.thumb, is_thumb(scene.names.find(symbol)));
     }
     false
 }

@@ -9,8 +9,7 @@ ghost use Rattle.source_model.specs.Contexts as contexts;
 ghost use Rattle.asm_instructions.specs.Scenes.{context_of, register_at};
 
 use asm_model::{LaidName, Register};
-use asm_names::places::known_named;
-use asm_names::{KnownNames, Place, PlacedLine};
+use asm_names::{KnownNames, PlacedLine};
 use sdt_fault::Text;
 use std::collections::{BTreeMap, BTreeSet};
 
@@ -20,8 +19,6 @@ pub struct Scene<'a> {
     /// All names of the source.
     pub names: &'a KnownNames,
     pub line: &'a PlacedLine<'a>,
-    /// What the line's references to local labels name.
-    pub references: &'a [LaidName],
     /// The registers that names stand for at the line.
     pub registers: &'a BTreeMap<Text, u8>,
     /// The names of labels and imports.
@@ -48,25 +45,6 @@ pub fn register(scene: &Scene<'_>, register: &Register) -> u8
     }
 }
 
-/// The entry of a name with all names of the source.
-pub fn entry_of<'a>(scene: &Scene<'a>, name: &Text) -> Option<&'a LaidName>
-    ensures { option_copied result ≡ meaning.named_in name.now (contexts.sees (context_of scene.now)).list }
-{
-    let line = scene.line;
-    let place = Place {
-        known: scene.names,
-        declared: scene.names,
-        own: None,
-        back: scene.references,
-        forth: &[],
-        area: line.area,
-        offset: line.offset,
-        map: line.map,
-        thumb: line.thumb,
-    };
-    known_named(&place, name)
-}
-
 /// Where a name's entry stands.
 fn entry_stands_at(entry: Option<&LaidName>) -> Option<(u32, u32)>
     ensures { result ≡ meaning.entry_stands_at (option_copied entry.entry) }
@@ -90,7 +68,7 @@ pub fn stands_at(scene: &Scene<'_>, symbol: &Text) -> Option<(u32, u32)>
             Some(area) => Some((area, 0)),
         };
     }
-    entry_stands_at(entry_of(scene, symbol))
+    entry_stands_at(scene.names.find(symbol))
 }
 
 /// Whether a name is one of a label or an import.

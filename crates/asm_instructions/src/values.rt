@@ -25,7 +25,7 @@ pub fn value_there(
     requires { IsRead e.now }
     ensures { IfOk result (λ value. value ≡ contexts.value_of (context_of scene.now) e.now) }
 {
-    told_value(final_value(alloc, e, scene.names, scene.line, scene.references))
+    told_value(final_value(alloc, e, scene.names, scene.line))
 }
 
 /// A value as a number.
