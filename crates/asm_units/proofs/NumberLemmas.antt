@@ -2,11 +2,9 @@
 use Rattle.std.proofs.Common.{◌≡◌, ℕ, ◌+◌, ◌||◌, Bool, true, false, cond, List, [], ◌∷◌, ◌++◌, length, Option, Some, None, refl, sym, ap, ◌∙◌, add-one}
 use Rattle.std.specs.BTreeMap.{BTreeMap}
 use Rattle.std.specs.List.{list_any}
-use Rattle.std.proofs.lemmas.Bool.{false_from_ne_true}
 use Rattle.asm_model.specs.Forms.{same}
-use Rattle.asm_model.proofs.WordLemmas.{same_refl, same_true}
 use Rattle.asm_expr.specs.Places.{number_in, or_number, one_later}
-use Rattle.asm_model.specs.Before.{with_name, place_of}
+use Rattle.asm_model.specs.Before.{place_of}
 use Rattle.asm_units.specs.Numbers.{number_among, IsIndexed}
 use Rattle.asm_model.proofs.SharedLemmas.{same_back as same_sym}
 

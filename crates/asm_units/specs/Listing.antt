@@ -7,8 +7,8 @@ use Rattle.asm_model.specs.declared.names.Names.{Names}
 use Rattle.asm_model.specs.declared.statements.What.{What}
 use Rattle.asm_model.specs.declared.statements.What.TheVariants as what
 use Rattle.asm_model.specs.declared.values.Value.{Value}
-use Rattle.asm_model.specs.AtLine.{SourceLine}
-use Rattle.asm_model.specs.Symbols.{final_sight, word_symbols, literal_value, arm_symbols, thumb_symbols, directive_symbols}
+use Rattle.asm_model.specs.AtLine.{SourceLine, with_names}
+use Rattle.asm_model.specs.Symbols.{word_symbols, literal_value, arm_symbols, thumb_symbols, directive_symbols}
 
 -- one symbol, or none
 abbrev pub one_symbol : Option (List ℕ) → List (List ℕ)
@@ -25,7 +25,7 @@ abbrev pub statement_symbols : List LaidName → SourceLine → Option Value →
 statement_symbols names l literal what.Nothing = []
 statement_symbols names l literal (what.Arm a) = arm_symbols names l a
 statement_symbols names l literal (what.Thumb t) = thumb_symbols names l t
-statement_symbols names l literal (what.Pseudo p) = loaded_symbols (final_sight names l) literal
+statement_symbols names l literal (what.Pseudo p) = loaded_symbols (with_names l names) literal
 statement_symbols names l literal (what.Directive d) = directive_symbols names l d
 
 -- how many trees stand behind an item, where so many stand before it

@@ -9,7 +9,8 @@ use Rattle.asm_model.specs.Forms.{same}
 use Rattle.asm_model.specs.Meaning.{stands_at}
 use Rattle.asm_model.specs.Extents.{value_there}
 use Rattle.source_model.specs.Contexts.{Context, sees, value_of}
-use Rattle.asm_instructions.specs.Scenes.{Shows, has_symbol, line_of}
+use Rattle.asm_names.specs.Lines.{line_of}
+use Rattle.asm_instructions.specs.Scenes.{Shows, has_symbol}
 use Rattle.asm_laying.specs.Reading.{string_marks}
 use Rattle.asm_units.specs.declared.beside.Beside.{Beside}
 
@@ -31,7 +32,7 @@ pub record ShowsBeside (x : Beside) (c : Context) (data_names : List (List ℕ))
 abbrev pub context_beside : Beside → Context
 context_beside x = record {
   names = x.scene.names.now;
-  line = line_of x.scene.line.now x.scene.references.now;
+  line = line_of x.scene.line.now;
   registers = x.scene.registers.now.entries;
   symbols = x.scene.symbols.now.keys;
   defined = x.defined.now.keys;

@@ -2,13 +2,13 @@
 
 ghost use Rattle.std.specs.Prelude.{◌≡◌, OnOk};
 ghost use Rattle.std.specs.Option.{option_copied};
-ghost use Rattle.asm_names.specs.Lines.{Sees};
+ghost use Rattle.asm_names.specs.Lines.{line_of, Sees};
 ghost use Rattle.asm_model.specs.AtLine.{SourceLine};
 ghost use Rattle.asm_model.specs.Extents.{Extent};
 ghost use Rattle.asm_model.specs.Symbols as model;
 ghost use Rattle.said_model.specs.Said.{ArmSaid, DirectiveSaid, WhatSaid};
 ghost use Rattle.source_model.specs.Contexts.{Context, sees, value_of};
-ghost use Rattle.asm_instructions.specs.Scenes.{Shows, context_of, line_of};
+ghost use Rattle.asm_instructions.specs.Scenes.{Shows, context_of};
 ghost use Rattle.asm_units.specs.Literals.{literal_in};
 ghost use Rattle.asm_units.specs.Listing.{statement_symbols};
 
@@ -16,7 +16,7 @@ use crate::needs::{add_branch, add_literal, add_name, add_words};
 use crate::symbols::Symbols;
 use crate::trees::is_read;
 use asm_instructions::Scene;
-use asm_model::{ArmLine, DirectiveLine, Expr, LaidName, ThumbLine, Value, What};
+use asm_model::{ArmLine, DirectiveLine, Expr, ThumbLine, Value, What};
 use asm_names::{KnownNames, PlacedLine};
 use sdt_fault::NoMemory;
 use std::alloc::Global;
@@ -29,7 +29,7 @@ fn add_directive(
     line: &DirectiveLine,
 ) -> Result<(), NoMemory>
     requires { DirectiveSaid line.now }
-    ensures { OnOk result (symbols.new ≡ model.listed_behind symbols.old (model.directive_symbols scene.now.names.now (line_of scene.now.line.now scene.now.references.now) line.now)) }
+    ensures { OnOk result (symbols.new ≡ model.listed_behind symbols.old (model.directive_symbols scene.now.names.now (line_of scene.now.line.now) line.now)) }
 {
     match line {
         DirectiveLine::Export { name } => add_name(alloc, symbols, name),
@@ -48,7 +48,7 @@ fn add_arm(
     line: &ArmLine,
 ) -> Result<(), NoMemory>
     requires { ArmSaid line.now }
-    ensures { OnOk result (symbols.new ≡ model.listed_behind symbols.old (model.arm_symbols scene.now.names.now (line_of scene.now.line.now scene.now.references.now) line.now)) }
+    ensures { OnOk result (symbols.new ≡ model.listed_behind symbols.old (model.arm_symbols scene.now.names.now (line_of scene.now.line.now) line.now)) }
 {
     match line {
         ArmLine::Branch { target, .. } => add_branch(alloc, symbols, scene, target),
@@ -77,7 +77,7 @@ fn add_thumb(
     scene: &Scene<'_>,
     line: &ThumbLine,
 ) -> Result<(), NoMemory>
-    ensures { OnOk result (symbols.new ≡ model.listed_behind symbols.old (model.thumb_symbols scene.now.names.now (line_of scene.now.line.now scene.now.references.now) line.now)) }
+    ensures { OnOk result (symbols.new ≡ model.listed_behind symbols.old (model.thumb_symbols scene.now.names.now (line_of scene.now.line.now) line.now)) }
 {
     match line {
         ThumbLine::BranchLink { target } => add_target(alloc, symbols, scene, target),
@@ -93,7 +93,7 @@ fn add_statement(
     what: &What,
 ) -> Result<(), NoMemory>
     requires { WhatSaid what.now }
-    ensures { OnOk result (symbols.new ≡ model.listed_behind symbols.old (statement_symbols scene.now.names.now (line_of scene.now.line.now scene.now.references.now) (option_copied literal.entry) what.now)) }
+    ensures { OnOk result (symbols.new ≡ model.listed_behind symbols.old (statement_symbols scene.now.names.now (line_of scene.now.line.now) (option_copied literal.entry) what.now)) }
 {
     match what {
         What::Nothing => Ok(()),
@@ -117,25 +117,22 @@ fn add_shown(
     add_statement(alloc, symbols, scene, literal, what)
 }
 
-/// Adds the symbols that a line names or needs, where its literal, if it has one, is this, and its references to local
-/// labels name these.
+/// Adds the symbols that a line names or needs, where its literal, if it has one, is this.
 pub fn add_line(
     alloc: Global,
     symbols: &mut Symbols,
     names: &KnownNames,
     line: &PlacedLine<'_>,
-    references: &[LaidName],
     literal: Option<&Value>,
 ) -> Result<(), NoMemory>
     requires { WhatSaid line.now.statement.now.what }
-    ensures { OnOk result ((f : SourceLine) (e : Extent) → Sees line.now references.now f → literal_in e ≡ option_copied literal.entry → symbols.new ≡ model.listed_behind symbols.old (model.symbols_in names.now f e line.now.statement.now.what)) }
+    ensures { OnOk result ((f : SourceLine) (e : Extent) → Sees line.now f → literal_in e ≡ option_copied literal.entry → symbols.new ≡ model.listed_behind symbols.old (model.symbols_in names.now f e line.now.statement.now.what)) }
 {
     let registers = BTreeMap::new(alloc);
     let labels = BTreeSet::new(alloc);
     let scene = Scene {
         names,
         line,
-        references,
         registers: &registers,
         symbols: &labels,
     };

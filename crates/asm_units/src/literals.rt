@@ -19,7 +19,6 @@ use crate::beside::Beside;
 use crate::emitted::Stored;
 use crate::words::stored;
 use asm_instructions::Scene;
-use asm_instructions::scenes::entry_of;
 use asm_model::{LaidName, Value};
 use sdt_fault::kinds::LineKind;
 use sdt_fault::{NoMemory, Text};
@@ -72,7 +71,7 @@ fn place_value(
         let symbol = symbol.try_clone(alloc)?;
         return Ok(Ok(Value::Place { symbol, plus }));
     }
-    entry_moved(alloc, entry_of(scene, symbol), plus)
+    entry_moved(alloc, scene.names.find(symbol), plus)
 }
 
 /// The value of a literal, once all names are known.

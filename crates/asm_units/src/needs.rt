@@ -7,7 +7,8 @@ ghost use Rattle.asm_model.specs.Before.{with_name};
 ghost use Rattle.asm_model.specs.Symbols as model;
 ghost use Rattle.said_model.specs.Said.{AllRead, IsRead};
 ghost use Rattle.source_model.specs.Contexts.{sees, value_of};
-ghost use Rattle.asm_instructions.specs.Scenes.{context_of, line_of};
+ghost use Rattle.asm_names.specs.Lines.{line_of};
+ghost use Rattle.asm_instructions.specs.Scenes.{context_of};
 ghost use Rattle.asm_units.specs.Listing.{loaded_symbols, one_symbol};
 
 use crate::literals::literal_value;
@@ -85,7 +86,7 @@ pub fn add_words(
     operands: &[Expr],
 ) -> Result<(), NoMemory>
     requires { AllRead operands.now }
-    ensures { OnOk result (symbols.new ≡ model.listed_behind symbols.old (model.words_symbols scene.now.names.now (line_of scene.now.line.now scene.now.references.now) operands.now)) }
+    ensures { OnOk result (symbols.new ≡ model.listed_behind symbols.old (model.words_symbols scene.now.names.now (line_of scene.now.line.now) operands.now)) }
 {
     let mut left = operands;
     'operands: loop {

@@ -15,7 +15,7 @@ ghost use Rattle.asm_units.specs.Emitting.{all_emitted, emitted_of, stored_of};
 use crate::beside::Beside;
 use crate::emitted::{Emitted, Stored, Target};
 use crate::joining::{push_next, word_unit};
-use asm_instructions::scenes::{entry_of, stands_at};
+use asm_instructions::scenes::stands_at;
 use asm_instructions::values::value_there;
 use asm_model::{Expr, LaidName, Value};
 use sdt_fault::kinds::LineKind;
@@ -35,7 +35,7 @@ fn is_thumb(entry: Option<&LaidName>) -> bool
 fn counts_one(beside: &Beside<'_>, symbol: &Text) -> bool
     ensures { result ≡ marks.counts_one beside.now.data.now.keys (sees (context_of beside.now.scene)) symbol.now }
 {
-    if is_thumb(entry_of(&beside.scene, symbol)) {
+    if is_thumb(beside.scene.names.find(symbol)) {
         return !beside.data.contains(symbol);
     }
     false

@@ -1,14 +1,14 @@
 use Rattle.std.proofs.Common.{◌≡◌, length}
 use Rattle.asm_model.specs.Symbols.{listed_behind, words_symbols}
 use Rattle.said_model.specs.Said.{AllRead}
-use Rattle.asm_instructions.specs.Scenes.{line_of}
+use Rattle.asm_names.specs.Lines.{line_of}
 use Rattle.asm_units.proofs.needs.add_words.Given as goal
 
 abbrev pub invariant-operands : goal.invariant-operands
 invariant-operands l = record {
   read : AllRead l.left;
-  same : listed_behind l.symbols (words_symbols l.scene.names.now (line_of l.scene.line.now l.scene.references.now) l.left)
-      ≡ listed_behind l.initial.symbols (words_symbols l.scene.names.now (line_of l.scene.line.now l.scene.references.now) l.operands);
+  same : listed_behind l.symbols (words_symbols l.scene.names.now (line_of l.scene.line.now) l.left)
+      ≡ listed_behind l.initial.symbols (words_symbols l.scene.names.now (line_of l.scene.line.now) l.operands);
 }
 
 abbrev pub decreases-operands : goal.decreases-operands

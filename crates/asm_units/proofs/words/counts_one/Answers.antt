@@ -10,4 +10,4 @@ pub returns-then-is_thumb : goal.returns-then-is_thumb
 returns-then-is_thumb c =
     listed_not c.args.beside.now.data.now c.args.symbol.now
     (thumb_of (named_in c.args.symbol.now (sees (context_of c.args.beside.now.scene)).list)) c.contains.result
-    (ap thumb_of (sym c.entry_of.ensures) ∙ sym c.is_thumb.ensures ∙ c.if-is_thumb.true) c.contains.ensures
+    (ap thumb_of (sym c.find.ensures) ∙ sym c.is_thumb.ensures ∙ c.if-is_thumb.true) c.contains.ensures
