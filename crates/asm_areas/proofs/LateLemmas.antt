@@ -1,6 +1,6 @@
 -- Faults that need the whole layout, by what is kept of areas.
-use Rattle.std.proofs.Common.{◌≡◌, ℕ, Bool, true, false, List, [], ◌∷◌, ◌++◌, Option, Some, None, refl, sym, ap, ◌∙◌, arith}
-use Rattle.std.specs.Prelude.{◌==◌, ◌&&◌}
+use Rattle.std.proofs.Common.{◌≡◌, ℕ, Bool, true, false, List, [], ◌∷◌, ◌++◌, Option, Some, None, refl, sym, ap, ◌∙◌}
+use Rattle.std.specs.Prelude.{◌&&◌}
 use Rattle.std.specs.List.{slice_get}
 use Rattle.sdt_fault.specs.declared.kinds.LineKind.{LineKind}
 use Rattle.sdt_fault.specs.declared.kinds.LineKind.TheVariants.{BadOperand, TooMany}
@@ -19,7 +19,7 @@ use Rattle.asm_offsets.specs.Running.{entry_behind, entry_in, pools_behind, HasN
 use Rattle.asm_pool.specs.Pooled.{noted, flushed, place_of}
 use Rattle.asm_areas.specs.declared.late.Stand.{Stand}
 use Rattle.asm_areas.specs.declared.starts.AreaStart.{AreaStart}
-use Rattle.asm_areas.specs.Late.{AreWhole, IsStand, is_true, size_in, state_in, is_thumb_in, is_misplaced, is_wrong_entry, ends_far, is_far}
+use Rattle.asm_areas.specs.Late.{AreWhole, IsStand, is_true, size_in, state_in, is_thumb_in, is_misplaced, is_wrong_entry, is_far}
 use Rattle.asm_areas.specs.Starts.{IsStart}
 use Rattle.asm_areas.proofs.StartLemmas.{self}
 use Rattle.asm_model.proofs.SharedLemmas.{told_of_two}
