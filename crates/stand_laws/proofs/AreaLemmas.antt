@@ -17,7 +17,7 @@ use Rattle.asm_model.specs.Directives.{or_else}
 use Rattle.asm_model.specs.Kinds.{told_kind}
 use Rattle.asm_model.proofs.LineLemmas.{both_empty}
 use Rattle.asm_model.specs.Before.{area_named, areas_behind}
-use Rattle.asm_model.specs.Laid.{LaidLine, statements_of, taken, pieces_of, declared, laid}
+use Rattle.asm_model.specs.Laid.{LaidLine, statements_of, taken, pieces_of, laid}
 use Rattle.asm_model.specs.LayoutKinds.{exponent, exponent_kinds, is_named_otherwise, kind_if, area_kinds, layout_kinds, told_at, first_fault}
 use Rattle.asm_model.specs.Offsets.{is_of, waiting, waiting_behind, end_from, end_behind, area_size}
 use Rattle.layout_laws.proofs.SoundLemmas.{or_none, told_none, kind_none}
@@ -25,6 +25,7 @@ use Rattle.source_model.specs.Objects.{or_two, attributes_word, says_area, attri
 use Rattle.source_laws.proofs.ListedLemmas.{owned}
 use Rattle.source_laws.proofs.WithinLemmas.{IsWithin, area_within, fewer, areas_more}
 use Rattle.source_laws.proofs.ZeroLemmas.{AreNumbered, laid_numbered, numbered_rest, line_kinds}
+use Rattle.asm_model.specs.Labels.{declared_names}
 
 -- ---- areas that are there
 
@@ -37,7 +38,7 @@ found_at (x ∷ xs) (suc i) h = found_at xs i (omega arith)
 pub area_there : (ss : List Statement) (n area : ℕ) (after before : List LaidLine) (l : LaidLine) → length (areas_behind (statements_of (laid ss))) ≤ n
     → laid ss ≡ after ++ l ∷ before → l.area ≡ Some area → area < n
 area_there ss n area after before l few e own =
-    let numbered = numbered_rest after (l ∷ before) (subst AreNumbered e (laid_numbered (declared ss) ss)) in
+    let numbered = numbered_rest after (l ∷ before) (subst AreNumbered e (laid_numbered (declared_names ss) ss)) in
     let more = areas_more after (l ∷ before) in
     let all = subst (λ z. length (areas_behind (statements_of z)) ≤ n) e few in
     let here : length (areas_behind (statements_of (l ∷ before))) ≤ n = omega arith in
@@ -71,7 +72,7 @@ beyond (l ∷ before) h area k =
 -- an area that isn't there has no places
 pub no_size : (ss : List Statement) (area : ℕ) → length (areas_behind (statements_of (laid ss))) ≤ area → area_size area (pieces_of (laid ss)) ≡ 0
 no_size ss area h =
-    let p = beyond (laid ss) (laid_numbered (declared ss) ss) area h in
+    let p = beyond (laid ss) (laid_numbered (declared_names ss) ss) area h in
     rw (p.0, p.1) refl
 
 -- ---- attributes

@@ -1,7 +1,6 @@
 -- Instructions: transfers with a label, branches, and all others.
 use Rattle.std.proofs.Common.{◌≡◌, ℕ, ◌+◌, ◌-◌, ◌*◌, ◌/◌, ◌%◌, ◌^◌, ◌<◌, ◌≤◌, ◌==◌, ◌||◌, ◌&&◌, nat_lt, nat_le, List, [], ◌∷◌, Bool, true, false, cond, refl, sym, ◌∙◌, ap, subst, arith, Option, Some, None, inl}
 use Rattle.std.specs.Prelude.{Result, Ok, Err}
-use Rattle.std.specs.List.{list_any}
 use Rattle.std.proofs.lemmas.Bool.{ltb-true, leb-true, eqb-true}
 use Rattle.sdt_fault.specs.declared.kinds.LineKind.{LineKind}
 use Rattle.sdt_fault.specs.declared.kinds.LineKind.TheVariants.{OutOfRange, BadOperand}
@@ -20,7 +19,7 @@ use Rattle.asm_model.specs.Meaning.{named_in, in_area, stands_at}
 use Rattle.asm_model.specs.Forms.{same}
 use Rattle.asm_model.specs.Says.{mapped}
 use Rattle.asm_model.specs.Entries.{thumb_of}
-use Rattle.asm_model.specs.Placing.{address_at, address_of, CountFromHere}
+use Rattle.asm_model.specs.Placing.{address_at, address_of, HaveSymbols}
 use Rattle.asm_model.specs.Symbols.{is_in_area, same_state}
 use Rattle.patch_model.specs.Fields.{Meant}
 use Rattle.patch_model.specs.Laws.{state_of}
@@ -36,7 +35,7 @@ use Rattle.stand_laws.proofs.ValueLemmas.{Setting, scene, Shown, value_stands}
 
 -- what is known of a statement that stands at an offset behind the base
 pub record Ready (k : Setting) (area at : ℕ) : Type 0 where
-  pub here : CountFromHere (sees k.context)
+  pub here : HaveSymbols (sees k.context)
   pub based : k.values.base area ≡ k.base
   pub own : k.context.line.area ≡ Some area
   pub starts : k.context.line.offset ≡ at
@@ -145,7 +144,7 @@ linked_leads at d f n m address small h s same =
 -- the symbol of a branch that is left to the linker has its address
 abbrev pub SymbolMeets : Setting → Result Value LineKind → Type 0
 SymbolMeets k r =
-    (x : ℕ) (xs : List ℕ) → linked_symbol k.context r ≡ Some (x ∷ xs) → list_any (same (x ∷ xs)) k.context.symbols ≡ true
+    (x : ℕ) (xs : List ℕ) → linked_symbol k.context r ≡ Some (x ∷ xs)
     → address_of (scene k).placing (sees k.context) (x ∷ xs) % 2 ^ 32 ≡ (meant_by k.source k.values (x ∷ xs)).number % 2 ^ 32
 
 -- a branch that reaches the value of its operand in a state
@@ -206,20 +205,16 @@ area_sum base b n x e = omega (arith, e)
 pub start_sum : (base n x : ℕ) → x ≡ base → (base + n) % 2 ^ 32 ≡ (x + 0 + n) % 2 ^ 32
 start_sum base n x e = omega (arith, e)
 
-pub has_it : (t : Bool) (x d : ℕ) → cond t (Ok x) (Err BadOperand) ≡ Ok d → t ≡ true
-has_it true x d h = refl
-has_it false x d h = absurd (cc)
-
 pub displaced : (t : Bool) (x d : ℕ) → cond t (Ok x) (Err BadOperand) ≡ Ok d → d ≡ x
 displaced true x d h = cc
 displaced false x d h = absurd (cc)
 
 -- a branch to a symbol
 pub to_symbol : (k : Setting) (area at a : ℕ) → Ready k area at → a ≡ k.base + at → (condition : Condition) (link : Bool) (e : Expr) (y : ℕ) (ys : List ℕ) (n d f : ℕ)
-    → value_of k.context e ≡ Ok (Place (y ∷ ys) n) → has_symbol k.context (y ∷ ys) ≡ true → d ≡ branch_from k.context (y ∷ ys) n → branch_field d ≡ Ok f
+    → value_of k.context e ≡ Ok (Place (y ∷ ys) n) → d ≡ branch_from k.context (y ∷ ys) n → branch_field d ≡ Ok f
     → Shown k (at, Instruction (instr.Branch condition link f) (linked_symbol k.context (Ok (Place (y ∷ ys) n)))) → SymbolMeets k (Ok (Place (y ∷ ys) n))
     → Branches k a condition link e (target_state (scene k) (Ok (Place (y ∷ ys) n)))
-to_symbol k area at a ready x condition link e y ys n d f v has h field s meets = by_test (is_settled k.context (y ∷ ys)) refl has h s (meets y ys)
+to_symbol k area at a ready x condition link e y ys n d f v h field s meets = by_test (is_settled k.context (y ∷ ys)) refl h s (meets y ys)
   where
     q : List ℕ
     q = y ∷ ys
@@ -244,12 +239,12 @@ to_symbol k area at a ready x condition link e y ys n d f v has h field s meets 
               (linked_leads at d f n m.number address ready.small there (field_is d f (away_small at n d there) field) meet) l.reaches);
         }
 
-    by_test : (t : Bool) → is_settled k.context q ≡ t → (t || list_any (same q) k.context.symbols) ≡ true
+    by_test : (t : Bool) → is_settled k.context q ≡ t
         → d ≡ away_from k.context (cond t (offset_at (stands_at (sees k.context) q) + n) n)
         → Shown k (at, Instruction (instr.Branch condition link f) (cond t None (Some q)))
-        → (cond t None (Some q) ≡ Some q → list_any (same q) k.context.symbols ≡ true → address_of (scene k).placing (sees k.context) q % 2 ^ 32 ≡ m.number % 2 ^ 32)
+        → (cond t None (Some q) ≡ Some q → address_of (scene k).placing (sees k.context) q % 2 ^ 32 ≡ m.number % 2 ^ 32)
         → Branches k a condition link e (cond t false (state_of false m m.home))
-    by_test true t or g b meet =
+    by_test true t g b meet =
         let p = settled_in k.context.line.area (stands_at (sees k.context) q) area (same_state k.context.line.thumb (thumb_of (named_in q (sees k.context).list))) ready.own t in
         let o : ℕ = p.0 + n in
         direct k area at a ready x condition link e d f o ((k.values.base area + p.0 + n) % 2 ^ 32)
@@ -257,7 +252,7 @@ to_symbol k area at a ready x condition link e y ys n d f v has h field s meets 
         (subst (λ z. ReadsAt k.view z (instr.Branch condition link f)) (sym x) b)
         (value_stands (scene k) e (Place q n) ready.here v ∙ ap (λ z. Ok (Number ((address_at (scene k).placing q z + n) % 2 ^ 32))) p.1)
         (area_sum k.base p.0 n (k.values.base area) ready.based)
-    by_test false t or g b meet = left g b (meet refl or)
+    by_test false t g b meet = left g b (meet refl)
 
 pub branch_of : (k : Setting) (area at a : ℕ) → Ready k area at → a ≡ k.base + at → (condition : Condition) (link : Bool) (e : Expr) (r : Result Value LineKind) (d f : ℕ)
     → value_of k.context e ≡ r → branch_displacement k.context r ≡ Ok d → branch_field d ≡ Ok f
@@ -270,7 +265,7 @@ branch_of k area at a ready x condition link e (Ok (Place [] n)) d f v h field s
     (value_stands (scene k) e (Place [] n) ready.here v ∙ ap (λ z. Ok (Number ((address_at (scene k).placing [] (in_area z 0) + n) % 2 ^ 32))) ready.own)
     (start_sum k.base n (k.values.base area) ready.based)
 branch_of k area at a ready x condition link e (Ok (Place (y ∷ ys) n)) d f v h field s meets =
-    to_symbol k area at a ready x condition link e y ys n d f v (has_it (has_symbol k.context (y ∷ ys)) (branch_from k.context (y ∷ ys) n) d h)
+    to_symbol k area at a ready x condition link e y ys n d f v
     (displaced (has_symbol k.context (y ∷ ys)) (branch_from k.context (y ∷ ys) n) d h) field s meets
 branch_of k area at a ready x condition link e (Ok (Number n)) d f v h field s meets = absurd (cc)
 branch_of k area at a ready x condition link e (Ok (Truth b)) d f v h field s meets = absurd (cc)

@@ -12,7 +12,7 @@ use Rattle.asm_model.specs.AtLine.{Sight}
 use Rattle.asm_model.specs.Meaning.{stands_at}
 use Rattle.asm_model.specs.Extents.{value_there}
 use Rattle.asm_model.specs.Marks.{counts_one, thumb_bit, datum_names}
-use Rattle.asm_model.specs.Placing.{placed_value, CountFromHere}
+use Rattle.asm_model.specs.Placing.{placed_value, HaveSymbols}
 use Rattle.patch_model.specs.Fields.{is_thumb_label}
 use Rattle.patch_model.specs.Reaches.{Shows, ShowsWord}
 use Rattle.source_model.specs.Contexts.{Context, sees, value_of, number_in, and_then}
@@ -54,7 +54,7 @@ place_held k q n (Some a) x = (
   rw x (sum_by_area a.1 n (thumb_bit (counts_one (datum_names k.source.statements) (sees k.context) q)) (k.values.base a.0)),
 )
 
-pub word_stands : (k : Setting) (a : ℕ) (e : Expr) (r : Result Value LineKind) (w : Stored) → CountFromHere (sees k.context)
+pub word_stands : (k : Setting) (a : ℕ) (e : Expr) (r : Result Value LineKind) (w : Stored) → HaveSymbols (sees k.context)
     → value_of k.context e ≡ r → stored k.context (datum_names k.source.statements) r ≡ Ok w → ShowsWord k.view a (total_of k w)
     → WordStands (scene k) a e
 word_stands k a e (Ok (Number n)) w here x y h = record {
@@ -85,7 +85,7 @@ first_shown k at u us all e h =
 pub further : (a base at n : ℕ) → a ≡ base + at → a + n ≡ base + (at + n)
 further a base at n h = omega (arith, h)
 
-pub words_stand : (k : Setting) (es : List Expr) (us : List Emitted) (a at : ℕ) → CountFromHere (sees k.context) → a ≡ k.base + at
+pub words_stand : (k : Setting) (es : List Expr) (us : List Emitted) (a at : ℕ) → HaveSymbols (sees k.context) → a ≡ k.base + at
     → word_units k.context (datum_names k.source.statements) es ≡ Ok us → AllShown k (units_from at us) → WordsStand (scene k) a es
 words_stand k [] us a at here x h s = tt
 words_stand k (e ∷ es) us a at here x h s =
@@ -108,7 +108,7 @@ narrow_is size n bytes h = by_test (nat_lt n (2 ^ (8 * size)) || nat_le (2 ^ 32 
 pub further_by : (a base at n m : ℕ) → a ≡ base + at → n ≡ m → a + n ≡ base + (at + m)
 further_by a base at n m h e = omega (arith, h, e)
 
-pub halves_stand : (k : Setting) (es : List Expr) (us : List Emitted) (a at : ℕ) → CountFromHere (sees k.context) → a ≡ k.base + at
+pub halves_stand : (k : Setting) (es : List Expr) (us : List Emitted) (a at : ℕ) → HaveSymbols (sees k.context) → a ≡ k.base + at
     → half_units k.context es ≡ Ok us → AllShown k (units_from at us) → HalvesStand (scene k) a es
 halves_stand k [] us a at here x h s = tt
 halves_stand k (e ∷ es) us a at here x h s =
@@ -139,7 +139,7 @@ byte_is known (Ok (Truth b)) bytes h = absurd (cc)
 byte_is known (Ok (Place s n)) bytes h = absurd (cc)
 byte_is known (Err j) bytes h = absurd (cc)
 
-pub bytes_stand : (k : Setting) (s : Sight) (es : List Expr) (us : List Emitted) (a at : ℕ) → CountFromHere (sees k.context) → KnownStay k.context s
+pub bytes_stand : (k : Setting) (s : Sight) (es : List Expr) (us : List Emitted) (a at : ℕ) → HaveSymbols (sees k.context) → KnownStay k.context s
     → a ≡ k.base + at → byte_units k.context s es ≡ Ok us → AllShown k (units_from at us) → BytesStand (scene k) a es
 bytes_stand k s [] us a at here stay x h shown = tt
 bytes_stand k s (e ∷ es) us a at here stay x h shown =

@@ -1,7 +1,7 @@
 -- What stands in an area: its instructions fit their rows, a branch that is left to the linker stands at a multiple of 4,
 -- and words name areas of the source.
 use Rattle.std.proofs.Common.{◌≡◌, ℕ, ◌+◌, ◌-◌, ◌%◌, ◌<◌, ◌≤◌, List, [], ◌∷◌, ◌++◌, length, Bool, true, false, cond, refl, sym, subst, arith, Option, Some, None, ◌⊎◌, inl, inr, nat_lt}
-use Rattle.std.specs.Prelude.{Result, Ok, Err, ◌==◌}
+use Rattle.std.specs.Prelude.{Result, Ok, Err}
 use Rattle.std.proofs.lemmas.Bool.{ltb-true}
 use Rattle.sdt_fault.specs.declared.kinds.LineKind.{LineKind}
 use Rattle.sdt_fault.specs.declared.kinds.LineKind.TheVariants.{OutOfRange}
@@ -23,8 +23,8 @@ use Rattle.asm_model.specs.Meaning.{stands_at}
 use Rattle.asm_model.specs.Says.{on_both, mapped}
 use Rattle.asm_model.specs.Before.{areas_behind}
 use Rattle.asm_model.specs.Extents.{Extent, Block, number_there, value_there, extent_of}
-use Rattle.asm_model.specs.Labels.{Defined, LocalLabel, Label, RegisterName, number_in as digits_in, labelled, field_defines, defined_by}
-use Rattle.asm_model.specs.Laid.{LaidLine, statements_of, taken, pieces_of, declared, laid, all_locals, final_line, final_names}
+use Rattle.asm_model.specs.Labels.{Defined, RegisterName, field_defines, defined_by, declared_names}
+use Rattle.asm_model.specs.Laid.{LaidLine, statements_of, taken, pieces_of, laid, final_names}
 use Rattle.asm_model.specs.Marks.{datum_names}
 use Rattle.asm_model.specs.Offsets.{waiting, end_behind, start_from}
 use Rattle.asm_model.specs.Symbols.{literal_value}
@@ -42,7 +42,7 @@ use Rattle.source_laws.specs.Laws.{word_among, context_behind}
 use Rattle.asm_instructions.proofs.FitLemmas.{instruction_fits, pseudo_instructions_fit}
 use Rattle.source_laws.proofs.LineLemmas.{is_laid, stands_in}
 use Rattle.source_laws.proofs.ThingLemmas.{IsWord, is_word, among_either, own_units, own_words, known_extent}
-use Rattle.source_laws.proofs.WithinLemmas.{SeesWithin, names_within, line_within, stands_within, area_stands, areas_more}
+use Rattle.source_laws.proofs.WithinLemmas.{IsWithin, area_within, names_within, named_within as entry_within, area_stands, areas_more}
 
 abbrev pub TargetWithin : ℕ → Target → Type 0
 TargetWithin n Nothing = Unit {0}
@@ -219,21 +219,13 @@ named_below : (s : Sight) (d : Defined) → DefinedGiven d → AreRegisters (nam
 named_below s (RegisterName name r) h = with_below name (given s r) (given_below s r h)
 named_below s d h = tt
 
-label_given : (name : List ℕ) → DefinedGiven (labelled name)
-label_given [] = tt
-label_given (c ∷ cs) = by_test (c == 124)
-  where
-    by_test : (b : Bool) → DefinedGiven (cond b (LocalLabel (digits_in cs)) (Label (c ∷ cs)))
-    by_test true = tt
-    by_test false = tt
-
 defined_given : (label : Option (List ℕ)) (w : What) → WhatSaid w → DefinedGiven (field_defines label w)
 defined_given None w h = tt
 defined_given (Some name) (what.Directive (line.Equ e)) h = tt
 defined_given (Some name) (what.Directive (line.Rn r)) h = h
 defined_given (Some name) (what.Directive (line.Field e)) h = tt
 defined_given (Some name) (what.Directive line.Rout) h = tt
-defined_given (Some name) w h = label_given name
+defined_given (Some name) w h = tt
 
 registers_good : (lines : List LaidLine) → AllSaid (statements_of lines) → AreRegisters (registers_behind lines)
 registers_good [] h = tt
@@ -249,25 +241,23 @@ said_behind (l ∷ after) before h = said_behind after before h.1
 
 lines_said : (ss : List Statement) (after before : List LaidLine) (l : LaidLine) → AllSaid ss → laid ss ≡ after ++ l ∷ before → AllSaid (statements_of (l ∷ before))
 lines_said ss after before l said e =
-    said_behind after (l ∷ before) (subst (λ z. AllSaid (statements_of z)) e (subst AllSaid (sym (statements_kept (declared ss) ss)) said))
+    said_behind after (l ∷ before) (subst (λ z. AllSaid (statements_of z)) e (subst AllSaid (sym (statements_kept (declared_names ss) ss)) said))
 
-sees_within : (ss : List Statement) (n : ℕ) (after before : List LaidLine) (l : LaidLine) → length (areas_behind (statements_of (laid ss))) ≤ n → laid ss ≡ after ++ l ∷ before
-    → SeesWithin n (final_line (all_locals (laid ss)) l before)
-sees_within ss n after before l few e =
-    let p = is_laid (declared ss) ss after before l e in
+line_within : (ss : List Statement) (n : ℕ) (after before : List LaidLine) (l : LaidLine) → length (areas_behind (statements_of (laid ss))) ≤ n → laid ss ≡ after ++ l ∷ before
+    → IsWithin n l.line.area
+line_within ss n after before l few e =
+    let p = is_laid (declared_names ss) ss after before l e in
     let more = areas_more after (l ∷ before) in
     let all = subst (λ z. length (areas_behind (statements_of z)) ≤ n) e few in
     let own : length (areas_behind (statements_of (l ∷ before))) ≤ n = omega arith in
-    subst (λ (z : LaidLine). SeesWithin n (final_line (all_locals (laid ss)) z before)) (sym p.1)
-    (line_within n (all_locals (laid ss)) (declared ss) p.0 before
-    (subst (λ (z : LaidLine). length (areas_behind (statements_of (z ∷ before))) ≤ n) p.1 own))
+    subst (λ (z : LaidLine). IsWithin n z.line.area) (sym p.1)
+    (area_within n (p.0 ∷ statements_of before) (subst (λ (z : LaidLine). length (areas_behind (statements_of (z ∷ before))) ≤ n) p.1 own))
 
 context_within : (ss : List Statement) (n : ℕ) (after before : List LaidLine) (l : LaidLine) → length (areas_behind (statements_of (laid ss))) ≤ n → laid ss ≡ after ++ l ∷ before
     → StandsWithin n (context_behind ss l before)
-context_within ss n after before l few e [] (x, y) h = area_stands n l.line.area 0 x y (sees_within ss n after before l few e).area h
+context_within ss n after before l few e [] (x, y) h = area_stands n l.line.area 0 x y (line_within ss n after before l few e) h
 context_within ss n after before l few e (c ∷ cs) (x, y) h =
-    stands_within n (final_names (laid ss)) (final_line (all_locals (laid ss)) l before)
-    (names_within n (length (laid ss)) (all_locals (laid ss)) (declared ss) ss few) (sees_within ss n after before l few e) (c ∷ cs) x y h
+    entry_within n (c ∷ cs) (final_names (laid ss)) x y (names_within n (length (laid ss)) (declared_names ss) ss few) h
 
 -- ---- things
 

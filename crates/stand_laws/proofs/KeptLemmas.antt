@@ -1,14 +1,12 @@
 -- An expression in which names that a line doesn't know stay names, by what all names make of it.
-use Rattle.std.proofs.Common.{◌≡◌, ℕ, List, [], ◌∷◌, Bool, true, false, cond, refl, sym, ◌∙◌, ap, subst, arith, Option, Some, None, inr}
+use Rattle.std.proofs.Common.{◌≡◌, ℕ, List, [], ◌∷◌, Bool, true, false, cond, refl, sym, ◌∙◌, ap, subst, arith, inr}
 use Rattle.std.specs.Prelude.{Result, Ok, Err}
-use Rattle.std.specs.Option.{is_some}
 use Rattle.sdt_fault.specs.declared.kinds.LineKind.{LineKind}
 use Rattle.asm_model.specs.declared.exprs.BinaryOp.{BinaryOp}
 use Rattle.asm_model.specs.declared.exprs.ExprItem.{ExprItem}
 use Rattle.asm_model.specs.declared.exprs.ExprItem.TheVariants as item
 use Rattle.asm_model.specs.declared.exprs.UnaryOp.{UnaryOp}
 use Rattle.asm_model.specs.declared.exprs.UnaryOp.TheVariants as unary
-use Rattle.asm_model.specs.declared.names.LaidName.{LaidName}
 use Rattle.asm_model.specs.declared.names.Names.{Names}
 use Rattle.asm_model.specs.declared.values.Value.{Value}
 use Rattle.asm_model.specs.declared.values.Value.TheVariants.{Number, Truth, Words, Place}
@@ -18,7 +16,7 @@ use Rattle.asm_model.specs.Meaning.{named_in, binary, unary_of, Known, value_of,
 use Rattle.asm_model.proofs.LineLemmas.{applied_known, both_empty}
 use Rattle.asm_model.specs.PlacedLines.{IsName}
 use Rattle.layout_laws.proofs.RoundLemmas.{ResultIs}
-use Rattle.source_laws.proofs.BareLemmas.{TreeEach, HoldsConstant}
+use Rattle.source_laws.proofs.TreeLemmas.{TreeEach, HoldsConstant}
 use Rattle.said_model.specs.Named.{ItemNamed}
 use Rattle.stand_laws.proofs.LiteralLemmas.{Plus, moves, adds, plus_moved, plus_added, Later, Loads, exact, whole, places_kept}
 use Rattle.layout_laws.proofs.NamedLemmas.{some_none as not_in}

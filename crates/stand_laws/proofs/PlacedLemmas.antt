@@ -11,7 +11,7 @@ use Rattle.asm_model.specs.declared.statements.Statement.{Statement}
 use Rattle.asm_model.specs.Forms.{same}
 use Rattle.asm_model.specs.Meaning.{named_in}
 use Rattle.asm_model.specs.Before.{areas_behind, place_of}
-use Rattle.asm_model.specs.Laid.{statements_of, declared, laid}
+use Rattle.asm_model.specs.Laid.{statements_of, laid}
 use Rattle.asm_model.specs.LayoutKinds.{equals_in, settled, is_thumb_area}
 use Rattle.asm_model.specs.Symbols.{symbols_of}
 use Rattle.layout_laws.proofs.SoundLemmas.{statements_kept}
@@ -29,6 +29,7 @@ use Rattle.stand_laws.proofs.DirectiveLemmas.{Facts, outside_fields}
 use Rattle.stand_laws.proofs.GoodLemmas.{good_thing}
 use Rattle.stand_laws.proofs.ShownLemmas.{IsThere, thing_shown}
 use Rattle.stand_laws.proofs.ViewLemmas.{shows_byte}
+use Rattle.asm_model.specs.Labels.{declared_names}
 
 -- ---- what is known of a source's object
 
@@ -41,7 +42,7 @@ place_most n (m ∷ ms) = by_test (same n m) (place_most n ms)
     by_test false h = omega arith
 
 areas_are : (ss : List Statement) (o : Object) → IsObject ss o → length (areas_behind (statements_of (laid ss))) ≡ length o.areas
-areas_are ss o obj = ap (λ z. length (areas_behind z)) (statements_kept (declared ss) ss) ∙ sym obj.count
+areas_are ss o obj = ap (λ z. length (areas_behind z)) (statements_kept (declared_names ss) ss) ∙ sym obj.count
 
 facts_of : (ss : List Statement) (o : Object) → IsFaultless ss → IsObject ss o → length o.areas < 2 ^ 24 → length o.symbols < 2 ^ 24 → (area : ℕ) → Facts ss area
 facts_of ss o faultless obj few_areas few_symbols area =
@@ -50,7 +51,7 @@ facts_of ss o faultless obj few_areas few_symbols area =
     record {
       good = good_thing ss (2 ^ 24) (layout_sound ss faultless.laid_out) faultless.said few area;
       symbols = numbers;
-      apart = sources_stand_apart ss faultless.said faultless.laid_out faultless.arm_state area;
+      apart = sources_stand_apart ss faultless.laid_out faultless.arm_state area;
       inside = sources_lie_in_areas ss faultless.laid_out faultless.arm_state area;
     }
   where

@@ -1,7 +1,6 @@
 -- A worked row: a source of a branch meets what the law asks of sources, so that with its placed object, which stand_model
 -- shows, each premise of the law is met.
-use Rattle.std.proofs.Common.{◌≡◌, ℕ, List, [], ◌∷◌, ◌++◌, Bool, false, refl, subst, codes, arith}
-use Rattle.std.specs.Prelude.{Some, None}
+use Rattle.std.proofs.Common.{◌≡◌, ℕ, List, [], ◌∷◌, ◌++◌, Bool, false, refl, subst, codes}
 use Rattle.asm_model.specs.declared.exprs.ExprItem.TheVariants as item
 use Rattle.asm_model.specs.declared.exprs.Part.{Part}
 use Rattle.asm_model.specs.declared.exprs.Part.TheVariants as part
@@ -35,10 +34,10 @@ three_in_arm a b c ea eb ec (x ∷ y ∷ z ∷ w ∷ rest) before l e = absurd (
 pub branch_is_faultless : (link : Bool) → IsFaultless (branch_source link)
 branch_is_faultless link = record {
   said = (
-    record { local = tt; named = tt; imported = tt; read = name_is_read (codes "far"); loaded = tt },
+    record { plain = tt; read = name_is_read (codes "far"); loaded = tt },
     (
-      record { local = tt; named = tt; imported = λ (e : 102 ≡ 124). absurd (omega (arith, e)); read = tt; loaded = tt },
-      (record { local = tt; named = tt; imported = tt; read = tt; loaded = tt }, tt),
+      record { plain = tt; read = tt; loaded = tt },
+      (record { plain = tt; read = tt; loaded = tt }, tt),
     ),
   );
   named = (tt, tt, (tt, tt, (tt, tt, tt)));

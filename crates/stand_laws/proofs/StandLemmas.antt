@@ -20,14 +20,13 @@ use Rattle.asm_model.specs.declared.statements.What.TheVariants as what
 use Rattle.asm_model.specs.AtLine.{Sight}
 use Rattle.asm_model.specs.Meaning.{named_in, entry_stands_at, in_area}
 use Rattle.asm_model.specs.Extents.{Extent, Block, Padding, number_there, as_multiple, padding, directive_extent, extent_of}
-use Rattle.asm_model.specs.Laid.{LaidLine, taken, pieces_of, declared, laid, all_locals, final_line, final_names}
+use Rattle.asm_model.specs.Laid.{LaidLine, taken, pieces_of, laid, final_names}
 use Rattle.asm_model.specs.LayoutKinds.{equals_in, settled}
 use Rattle.asm_model.specs.Offsets.{area_size, is_pool}
 use Rattle.asm_model.specs.PlacedLines.{AllNamed}
-use Rattle.asm_model.specs.Placing.{CountFromHere, address_at}
-use Rattle.asm_model.specs.Symbols.{final_sight, symbols_in, symbols_of, symbols_behind}
-use Rattle.asm_model.proofs.PlacedLemmas.{laid_lines_count_from_here, final_names_have_symbols}
-use Rattle.asm_model.specs.Sound.{ArePlain}
+use Rattle.asm_model.specs.Placing.{address_at}
+use Rattle.asm_model.specs.Symbols.{symbols_in, symbols_of}
+use Rattle.asm_model.proofs.PlacedLemmas.{final_names_have_symbols}
 use Rattle.layout_laws.proofs.FinalLemmas.{known_values_are_final}
 use Rattle.object_laws.specs.Laws.{IsListed, OptionListed}
 use Rattle.object_laws.proofs.FaultLemmas.{layout_here, line_valued}
@@ -36,10 +35,10 @@ use Rattle.object_laws.proofs.TargetLemmas.{arm_listed, lines_listed}
 use Rattle.patch_model.specs.Fields.{Values}
 use Rattle.patch_model.specs.Reaches.{View}
 use Rattle.source_model.specs.Objects.{Piece, source_of, At, IsAmong, pieces_at, word_at, units_from, or_none, IsObject}
-use Rattle.source_model.specs.SourceFaults.{layout_faults, symbol_names}
+use Rattle.source_model.specs.SourceFaults.{layout_faults}
 use Rattle.source_laws.specs.Laws.{is_filled, context_behind, word_among}
-use Rattle.source_laws.proofs.AgreeLemmas.{line_sees}
-use Rattle.source_laws.proofs.FaultlessLemmas.{faultless_layouts_are_sound}
+use Rattle.source_laws.proofs.AgreeLemmas.{line_area}
+use Rattle.source_laws.proofs.FaultlessLemmas.{layout_sound}
 use Rattle.source_laws.proofs.LineLemmas.{is_laid}
 use Rattle.source_laws.proofs.ListedLemmas.{among_first, among_last}
 use Rattle.source_laws.proofs.ThingLemmas.{own_units, own_words, known_extent}
@@ -51,9 +50,12 @@ use Rattle.stand_laws.proofs.ArmLemmas.{Ready, BranchMeets}
 use Rattle.stand_laws.proofs.LineLemmas.{DirectiveZero, WhatMeets, line_stands, zeros_there}
 use Rattle.stand_laws.proofs.PseudoLemmas.{LiteralHolds}
 use Rattle.stand_laws.proofs.ResultLemmas.{both_ok, mapped_ok}
-use Rattle.stand_laws.proofs.SymbolLemmas.{symbol_placed_there, each_bare, symbols_bare}
+use Rattle.stand_laws.proofs.SymbolLemmas.{symbol_placed_there}
 use Rattle.stand_laws.proofs.ValueLemmas.{scene, AllShown, setting}
 use Rattle.stand_laws.proofs.WordLemmas.{literal_holds}
+use Rattle.asm_model.specs.Labels.{declared_names}
+use Rattle.said_model.proofs.SharedLemmas.{are_plain}
+use Rattle.asm_model.proofs.EntryLemmas.{lines_have_symbols}
 
 -- ---- what is known of a line
 
@@ -64,13 +66,11 @@ pub line_ready : (ss : List Statement) → AllNamed ss → layout_faults ss ≡ 
     (after before : List LaidLine) (l : LaidLine) → laid ss ≡ after ++ l ∷ before → l.area ≡ Some area
     → Ready (setting ss values view region area l before) area l.offset
 line_ready ss named none values view region area after before l e own =
-    let N = final_names (laid ss) in
-    let p = is_laid (declared ss) ss after before l e in
+    let p = is_laid (declared_names ss) ss after before l e in
     record {
-      here = subst (λ (z : LaidLine). CountFromHere (final_sight N (final_line (all_locals (laid ss)) z before))) (sym p.1)
-          (laid_lines_count_from_here N (all_locals (laid ss)) (declared ss) p.0 before (final_names_have_symbols ss named));
+      here = lines_have_symbols (final_names (laid ss)) l.line (final_names_have_symbols ss named);
       based = refl;
-      own = (line_sees ss after before l e).1 ∙ own;
+      own = line_area ss after before l e ∙ own;
       starts = subst (λ (z : LaidLine). z.line.offset ≡ z.offset) (sym p.1) refl;
       small = near_enough l.offset l.size (line_small (settled (equals_in ss)) l before (layout_here ss none after before l e));
     }
@@ -91,25 +91,22 @@ address_meets ss o obj own values area_at placed view region area l before c cs 
     by_place None h = refl
     by_place (Some a) h = symbol_placed_there ss o obj own values area_at placed c cs n a there e h
 
-pub line_meets : (ss : List Statement) → ArePlain ss → (o : Object) → IsObject ss o → (own : ℕ) (values : Values) (area_at : ℕ → ℕ → ℕ) → IsPlaced own o values area_at
+pub line_meets : (ss : List Statement) (o : Object) → IsObject ss o → (own : ℕ) (values : Values) (area_at : ℕ → ℕ → ℕ) → IsPlaced own o values area_at
     → (view : View) (region : Range32) (area : ℕ) (after before : List LaidLine) (l : LaidLine) → laid ss ≡ after ++ l ∷ before
     → (a : ArmLine) → l.statement.what ≡ what.Arm a → BranchMeets (setting ss values view region area l before) a
-line_meets ss plain o obj own values area_at placed view region area after before l e (arm.Branch condition link target) w = λ c cs h listed.
+line_meets ss o obj own values area_at placed view region area after before l e (arm.Branch condition link target) w = λ c cs h.
     let N = final_names (laid ss) in
-    let locals = all_locals (laid ss) in
     let q : List ℕ = c ∷ cs in
     let k = context_behind ss l before in
-    let bare = each_bare q (symbol_names ss) (symbols_bare ss plain) listed in
-    let here : IsListed (symbols_in N (final_line locals l before) (taken l.extent) (what.Arm (arm.Branch condition link target))) q =
-    subst (OptionListed (symbols_in N (final_line locals l before) (taken l.extent) (what.Arm (arm.Branch condition link target)))) h
+    let here : IsListed (symbols_in N l.line (taken l.extent) (what.Arm (arm.Branch condition link target))) q =
+    subst (OptionListed (symbols_in N l.line (taken l.extent) (what.Arm (arm.Branch condition link target)))) h
     (arm_listed k (arm.Branch condition link target)) in
-    let there : IsListed (symbols_behind N locals (laid ss)) q =
-    subst (λ z. IsListed (symbols_behind N locals z) q) (sym e)
-    (lines_listed N locals after before l q
-    (subst (λ z. IsListed (symbols_in N (final_line locals l before) (taken l.extent) z) q) (sym w) here)) in
-    ap (λ z. address_at (scene (setting ss values view region area l before)).placing q (entry_stands_at z) % 2 ^ 32) ((line_sees ss after before l e).0 q bare)
-    ∙ address_meets ss o obj own values area_at placed view region area l before c cs there (named_in q N) refl
-line_meets ss plain o obj own values area_at placed view region area after before l e a w = tt
+    let there : IsListed (symbols_of N (laid ss)) q =
+    subst (λ z. IsListed (symbols_of N z) q) (sym e)
+    (lines_listed N after before l q
+    (subst (λ z. IsListed (symbols_in N l.line (taken l.extent) z) q) (sym w) here)) in
+    address_meets ss o obj own values area_at placed view region area l before c cs there (named_in q N) refl
+line_meets ss o obj own values area_at placed view region area after before l e a w = tt
 
 -- ---- SPACE and ALIGN
 
@@ -147,12 +144,12 @@ pub what_meets : (ss : List Statement) (fine : IsFaultless ss) (o : Object) → 
     → WhatMeets (setting ss values view region area l before) (values.base area + l.offset) l.size (word_among after l before) w
 what_meets ss fine o obj own values area_at placed view region area after before l e here holds gaps what.Nothing x = tt
 what_meets ss fine o obj own values area_at placed view region area after before l e here holds gaps (what.Arm a) x =
-    line_meets ss (faultless_layouts_are_sound ss fine.said fine.laid_out).1 o obj own values area_at placed view region area after before l e a x
+    line_meets ss o obj own values area_at placed view region area after before l e a x
 what_meets ss fine o obj own values area_at placed view region area after before l e here holds gaps (what.Thumb t) x = tt
 what_meets ss fine o obj own values area_at placed view region area after before l e here holds gaps (what.Pseudo (pseudo.LoadConstant condition rd v)) x = holds condition rd v x
 what_meets ss fine o obj own values area_at placed view region area after before l e here holds gaps (what.Pseudo p) x = tt
 what_meets ss fine o obj own values area_at placed view region area after before l e here holds gaps (what.Directive d) x =
-    let sound = (faultless_layouts_are_sound ss fine.said fine.laid_out).0 in
+    let sound = layout_sound ss fine.laid_out in
     directive_zero view (values.base area + l.offset) l.size l.seen (taken l.extent) d
     (ap (extent_of l.seen) (sym x) ∙ known_extent ss sound after before l e)
     (λ bare pool. zeros_there ss sound fine.arm_state area after before l e here (ap is_filled x ∙ bare) pool view (values.base area) gaps)
@@ -170,7 +167,6 @@ shown_lines_stand ss o fine obj small own values area_at view region placed l at
     let before = at.before in
     let e = at.parts in
     let k = setting ss values view region area l before in
-    let plain = faultless_layouts_are_sound ss fine.said fine.laid_out in
     let u = (line_valued ss fine.valued after before l e).0 in
     let word = word_among after l before in
     let units_shown : AllShown k (units_from l.offset u.0) =
@@ -180,6 +176,6 @@ shown_lines_stand ss o fine obj small own values area_at view region placed l at
     λ p h. shown p (among_last p (own_units ss after l before) (own_words ss after l before) h) in
     let ready = line_ready ss fine.named fine.laid_out values view region area after before l e here in
     line_stands k area l.offset (values.base area + l.offset) ready refl l.seen l.size word
-    l.statement.what u.0 u.1 units_shown (known_values_are_final ss plain.0 plain.1 after before l e)
+    l.statement.what u.0 u.1 units_shown (known_values_are_final ss (layout_sound ss fine.laid_out) (are_plain ss fine.said) after before l e)
     (what_meets ss fine o obj own values area_at placed view region area after before l e here
     (λ condition rd x w. literal_holds ss fine values view region area after before l e ready.here words_shown condition rd x w word refl) gaps l.statement.what refl)

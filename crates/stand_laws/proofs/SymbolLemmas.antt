@@ -15,24 +15,18 @@ use Rattle.asm_model.specs.AtLine.{Definition, Nameless, Named, Equated, SourceL
 use Rattle.asm_model.specs.Forms.{same}
 use Rattle.asm_model.specs.Grammar.{Tree}
 use Rattle.asm_model.specs.Meaning.{named_in, entry_stands_at, in_area, meaning}
-use Rattle.asm_model.specs.AtLine.{with_names, all_names}
-use Rattle.asm_model.proofs.LineLemmas.{named_front}
+use Rattle.asm_model.specs.AtLine.{with_names}
 use Rattle.asm_model.proofs.WordLemmas.{same_true}
 use Rattle.asm_model.specs.Before.{place_of, area_behind, is_thumb_label}
 use Rattle.asm_model.specs.Entries.{equal_entry}
-use Rattle.asm_model.specs.Labels.{Defined, Unnamed, LocalLabel, Label, Equal, MapField, RegisterName, defined_by, imported_in}
-use Rattle.asm_model.specs.Laid.{Declared, declared, LaidLine, statements_of, map_behind, offset_behind, tree_equated, definition_of, imported_lines, laid_behind, laid_of, laid, all_locals, final_line, final_lines, source_lines, entries_with, all_entries, names_after, final_names}
-use Rattle.asm_model.specs.LayoutKinds.{listed}
-use Rattle.asm_model.specs.Locals.{Local}
+use Rattle.asm_model.specs.Labels.{Defined, Unnamed, Label, Equal, MapField, RegisterName, defined_by, imported_in, declared_names}
+use Rattle.asm_model.specs.Laid.{LaidLine, statements_of, map_behind, offset_behind, tree_equated, definition_of, imported_lines, laid_behind, laid_of, laid, source_lines, entries_with, all_entries, names_after, final_names}
 use Rattle.asm_model.specs.Symbols.{symbols_of}
 use Rattle.asm_model.specs.Trees.{tree_of}
-use Rattle.asm_model.specs.Sound.{IsBare, IsPlainDefined, IsPlainImport, ArePlain}
 use Rattle.object_laws.specs.Laws.{IsListed}
 use Rattle.object_laws.proofs.OriginLemmas.{named_name}
 use Rattle.patch_model.specs.Fields.{Meant, Values}
-use Rattle.source_model.specs.Contexts.{sees}
-use Rattle.source_model.specs.Objects.{source_of, symbol_number, in_no_line, symbol_placed, symbol_valued, symbol_named, IsObject}
-use Rattle.source_model.specs.SourceFaults.{label_of, symbol_names}
+use Rattle.source_model.specs.Objects.{source_of, symbol_number, symbol_placed, symbol_valued, symbol_named, IsObject}
 use Rattle.stand_model.specs.Placed.{IsMeant, IsPlaced}
 
 -- ---- an entry that stands in an area is its own symbol
@@ -63,28 +57,27 @@ tree_area names area name (Some t) = equal_area names area name
 pub definition_area : (names : List LaidName) (x : Defined) (area : Option ℕ) (offset size : ℕ) (thumb : Bool) (m : ℕ)
     → DefinesArea (definition_of names x area offset size thumb m)
 definition_area names Unnamed area offset size thumb m = tt
-definition_area names (LocalLabel n) area offset size thumb m = tt
 definition_area names (Label name) area offset size thumb m = inr refl
 definition_area names (Equal name e) area offset size thumb m = tree_area names area name (tree_of e)
 definition_area names (MapField name) area offset size thumb m = inl refl
 definition_area names (RegisterName name r) area offset size thumb m = tt
 
-pub imported_area : (d : Declared) (s : Statement) (before : List LaidLine) (o : Option (List ℕ)) → EachDefines (imported_lines d s before o)
-imported_area d s before None = tt
-imported_area d s before (Some name) = (inl refl, tt)
+pub imported_area : (s : Statement) (before : List LaidLine) (o : Option (List ℕ)) → EachDefines (imported_lines s before o)
+imported_area s before None = tt
+imported_area s before (Some name) = (inl refl, tt)
 
 pub defines_joined : (ls ms : List SourceLine) → EachDefines ls → EachDefines ms → EachDefines (ls ++ ms)
 defines_joined [] ms h k = k
 defines_joined (l ∷ ls) ms h k = (h.0, defines_joined ls ms h.1 k)
 
-pub lines_area : (d : Declared) (locals : List Local) (ss : List Statement) → EachDefines (final_lines locals (laid_of d ss))
-lines_area d locals [] = tt
-lines_area d locals (s ∷ ss) =
-    defines_joined (final_lines locals (laid_of d ss)) (final_line locals (laid_behind d s (laid_of d ss)) (laid_of d ss) ∷ imported_lines d s (laid_of d ss) (imported_in s.what))
-    (lines_area d locals ss) (
-      definition_area d.names (defined_by s) (area_behind (s ∷ statements_of (laid_of d ss))) (offset_behind s (laid_of d ss))
+pub lines_area : (d : List LaidName) (ss : List Statement) → EachDefines (source_lines (laid_of d ss))
+lines_area d [] = tt
+lines_area d (s ∷ ss) =
+    defines_joined (source_lines (laid_of d ss)) ((laid_behind d s (laid_of d ss)).line ∷ imported_lines s (laid_of d ss) (imported_in s.what))
+    (lines_area d ss) (
+      definition_area d (defined_by s) (area_behind (s ∷ statements_of (laid_of d ss))) (offset_behind s (laid_of d ss))
           (laid_behind d s (laid_of d ss)).size (is_thumb_label s (statements_of (laid_of d ss))) (map_behind (laid_of d ss)),
-      imported_area d s (laid_of d ss) (imported_in s.what),
+      imported_area s (laid_of d ss) (imported_in s.what),
     )
 
 pub made_area : (make : Value → LaidName) (r : Result Value LineKind) (q : List ℕ) (us : List LaidName) (n : LaidName) → ((v : Value) → AreaOwn (make v))
@@ -104,7 +97,7 @@ entry_area xs q l us n (Named m) h rest e = by_test (same m.name q) e
     by_test : (c : Bool) → cond c (Some m) (named_in q us) ≡ Some n → AreaOwn n
     by_test true k = let x : m ≡ n = cc in subst AreaOwn x h
     by_test false k = rest k
-entry_area xs q l us n (Equated make t) h rest e = made_area make (meaning (with_names l (all_names xs l)) t) q us n h rest e
+entry_area xs q l us n (Equated make t) h rest e = made_area make (meaning (with_names l xs) t) q us n h rest e
 
 pub entries_area : (xs : List LaidName) (q : List ℕ) (n : LaidName) (ls : List SourceLine) → EachDefines ls → named_in q (all_entries xs ls) ≡ Some n → AreaOwn n
 entries_area xs q n [] h e = absurd (cc)
@@ -115,7 +108,7 @@ rounds_area zero ls h q n e = entries_area [] q n ls h e
 rounds_area (suc k) ls h q n e = entries_area (names_after k ls) q n ls h e
 
 pub final_area : (ss : List Statement) (q : List ℕ) (n : LaidName) → named_in q (final_names (laid ss)) ≡ Some n → AreaOwn n
-final_area ss q n e = rounds_area _ (source_lines (laid ss)) (lines_area (declared ss) (all_locals (laid ss)) ss) q n e
+final_area ss q n e = rounds_area _ (source_lines (laid ss)) (lines_area (declared_names ss) ss) q n e
 
 -- ---- the symbol of an entry
 
@@ -135,9 +128,7 @@ pub symbol_is : (ss : List Statement) (c : ℕ) (cs : List ℕ) (n : LaidName) (
 symbol_is ss c cs n a e h =
     let s = source_of ss in
     let q : List ℕ = c ∷ cs in
-    let N = final_names (laid ss) in
-    let there : named_in q (sees (in_no_line s)).list ≡ Some n = named_front (N ++ []) [] q n (named_front N [] q n e) in
-    ap (symbol_named s q) e ∙ ap (symbol_valued s q) (stands_own ss q n a e h) ∙ ap (symbol_placed s q q 0) (ap entry_stands_at there ∙ h)
+    ap (symbol_named s q) e ∙ ap (symbol_valued s q) (stands_own ss q n a e h) ∙ ap (symbol_placed s q q 0) (ap entry_stands_at e ∙ h)
 
 -- ---- the record of a listed name
 
@@ -174,42 +165,3 @@ symbol_placed_there ss o obj own values area_at placed c cs n a there e h =
     ∙ record_found (λ name. symbol_named s name (named_in name s.names)) q (symbols_of s.names s.lines) there
     ∙ ap Some (symbol_is ss c cs n a e h) in
     offset_sum (values.base a.0) a.1 (values.symbol k).number (meant_number own values.base y (values.symbol k) a.0 (placed.symbols k y found))
-
--- ---- names that symbols may have begin with no bar
-
-pub bare_any : (q : List ℕ) (x : List ℕ) (rest : Bool) → IsBare x → (rest ≡ true → IsBare q) → (same q x || rest) ≡ true → IsBare q
-bare_any q x rest h f e = by_test (same q x) refl e
-  where
-    by_test : (b : Bool) → same q x ≡ b → (b || rest) ≡ true → IsBare q
-    by_test true s k = subst IsBare (sym (same_true q x s)) h
-    by_test false s k = f k
-
-abbrev pub EachBare : List (List ℕ) → Type 0
-EachBare [] = Unit {0}
-EachBare (x ∷ xs) = IsBare x × EachBare xs
-
-pub each_bare : (q : List ℕ) (xs : List (List ℕ)) → EachBare xs → IsListed xs q → IsBare q
-each_bare q [] h e = absurd (cc)
-each_bare q (x ∷ xs) h e = bare_any q x (list_any (same q) xs) h.0 (each_bare q xs h.1) e
-
-pub bare_joined : (xs ys : List (List ℕ)) → EachBare xs → EachBare ys → EachBare (xs ++ ys)
-bare_joined [] ys h k = k
-bare_joined (x ∷ xs) ys h k = (h.0, bare_joined xs ys h.1 k)
-
-pub label_bare : (x : Defined) → IsPlainDefined x → EachBare (label_of x)
-label_bare Unnamed h = tt
-label_bare (LocalLabel n) h = tt
-label_bare (Label name) h = (h, tt)
-label_bare (Equal name e) h = tt
-label_bare (MapField name) h = tt
-label_bare (RegisterName name r) h = tt
-
-pub import_bare : (o : Option (List ℕ)) → IsPlainImport o → EachBare (listed o)
-import_bare None h = tt
-import_bare (Some name) h = (h, tt)
-
-pub symbols_bare : (ss : List Statement) → ArePlain ss → EachBare (symbol_names ss)
-symbols_bare [] h = tt
-symbols_bare (s ∷ ss) h =
-    bare_joined (symbol_names ss ++ label_of (defined_by s)) (listed (imported_in s.what))
-    (bare_joined (symbol_names ss) (label_of (defined_by s)) (symbols_bare ss h.2) (label_bare (defined_by s) h.0)) (import_bare (imported_in s.what) h.1)

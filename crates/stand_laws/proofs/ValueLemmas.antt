@@ -11,7 +11,7 @@ use Rattle.asm_model.specs.Grammar.{Tree}
 use Rattle.asm_model.specs.Extents.{as_number}
 use Rattle.asm_model.specs.Laid.{LaidLine}
 use Rattle.asm_model.specs.Marks.{datum_names}
-use Rattle.asm_model.specs.Placing.{placed_value, CountFromHere}
+use Rattle.asm_model.specs.Placing.{placed_value, HaveSymbols}
 use Rattle.asm_model.specs.Trees.{tree_of}
 use Rattle.asm_model.proofs.PlacingLemmas.{placing_law}
 use Rattle.layout_laws.proofs.FoundLemmas.{tree_final, final_tree}
@@ -58,7 +58,7 @@ Shown k p = IsShown k.source k.values k.view k.region k.base p
 abbrev pub AllShown : Setting → List Piece → Type 0
 AllShown k ps = (p : Piece) → IsAmong p ps → Shown k p
 
-pub value_stands : (s : Scene) (e : Expr) (v : Value) → CountFromHere (sees s.context) → value_of s.context e ≡ Ok v
+pub value_stands : (s : Scene) (e : Expr) (v : Value) → HaveSymbols (sees s.context) → value_of s.context e ≡ Ok v
     → value_placed s e ≡ Ok (placed_value s.placing (sees s.context) v)
 value_stands s e v here h = by_tree (tree_of e) refl
   where
@@ -73,5 +73,5 @@ number_only (Ok (Words w)) n h = absurd (cc)
 number_only (Ok (Place q m)) n h = absurd (cc)
 number_only (Err k) n h = absurd (cc)
 
-pub number_stands : (s : Scene) (e : Expr) (n : ℕ) → CountFromHere (sees s.context) → number_in s.context e ≡ Ok n → IsNumber s e n
+pub number_stands : (s : Scene) (e : Expr) (n : ℕ) → HaveSymbols (sees s.context) → number_in s.context e ≡ Ok n → IsNumber s e n
 number_stands s e n here h = value_stands s e (Number n) here (number_only (value_of s.context e) n h)

@@ -17,13 +17,13 @@ use Rattle.asm_model.specs.declared.values.Value.TheVariants.{Number, Truth, Wor
 use Rattle.asm_model.specs.AtLine.{Sight, name_kinds, value_at, kept_names, literal_or}
 use Rattle.asm_model.specs.Grammar.{Tree}
 use Rattle.asm_model.specs.Meaning.{named_in, stands_at, binary, value_of as entry_value, on_both, meaning}
-use Rattle.asm_model.proofs.LineLemmas.{both_empty, named_front, told_nothing}
+use Rattle.asm_model.proofs.LineLemmas.{both_empty, told_nothing}
 use Rattle.asm_model.specs.Extents.{Extent, Block, Padding, Loading, Pool, is_moved, loading, tree_literal, literal_there, extent_of}
-use Rattle.asm_model.specs.Laid.{Declared, declared, LaidLine, taken, pieces_of, laid_behind, laid_of, laid, all_locals, final_names}
+use Rattle.asm_model.specs.Laid.{LaidLine, taken, pieces_of, laid_behind, laid_of, laid, final_names}
 use Rattle.asm_model.specs.LayoutKinds.{fault_kinds}
 use Rattle.asm_model.specs.Marks.{datum_names}
 use Rattle.asm_model.specs.Offsets.{Piece as LaidPiece}
-use Rattle.asm_model.specs.Placing.{CountFromHere}
+use Rattle.asm_model.specs.Placing.{HaveSymbols}
 use Rattle.asm_model.specs.Symbols.{literal_value}
 use Rattle.asm_model.specs.Trees.{tree_of}
 use Rattle.asm_model.specs.Sound.{IsSound, HaveNoPlaces, ArePlain}
@@ -31,18 +31,18 @@ use Rattle.layout_laws.proofs.FinalLemmas.{AllKnownFinally, all_known, known_the
 use Rattle.layout_laws.proofs.FoundLemmas.{final_tree}
 use Rattle.layout_laws.proofs.RoundLemmas.{ResultIs}
 use Rattle.object_laws.proofs.FaultLemmas.{sizes_of, valued_here, known_result}
-use Rattle.object_laws.proofs.OriginLemmas.{IsOwn, line_to, names_own, anything, any_tree, line_local}
+use Rattle.object_laws.proofs.OriginLemmas.{IsOwn, tree_to, names_own, anything, any_tree}
 use Rattle.patch_model.specs.Fields.{Values}
 use Rattle.patch_model.specs.Reaches.{View, ShowsWord}
-use Rattle.said_model.specs.Said.{AllSaid, LoadsBare}
+use Rattle.said_model.specs.Said.{AllSaid, LoadsPlain}
 use Rattle.source_model.specs.Contexts.{Context, sees, value_of}
 use Rattle.source_model.specs.Objects.{Piece, in_order, IsAmong, literal_unit, literal_piece}
 use Rattle.source_model.specs.SourceFaults.{value_faults, word_of}
 use Rattle.source_model.specs.Units.{Word, Stored, Nothing, placed, stored, units}
 use Rattle.source_model.specs.ValueKinds.{statement_kinds, literal_kinds as value_literal_kinds}
 use Rattle.source_laws.specs.Laws.{context_behind, word_among}
-use Rattle.source_laws.proofs.BareLemmas.{ItemsEach, TreeEach, no_place_holds, tree_each}
-use Rattle.source_laws.proofs.FaultlessLemmas.{faultless_layouts_are_sound}
+use Rattle.source_laws.proofs.TreeLemmas.{ItemsEach, TreeEach, no_place_holds, tree_each}
+use Rattle.source_laws.proofs.FaultlessLemmas.{layout_sound}
 use Rattle.source_laws.proofs.ListLemmas.{same_first, same_rest}
 use Rattle.source_laws.proofs.ThingLemmas.{own_words, known_extent}
 use Rattle.stand_model.specs.Stands.{WordStands}
@@ -54,6 +54,9 @@ use Rattle.stand_laws.proofs.LiteralLemmas.{Same32, Plus, Later, Loads}
 use Rattle.stand_laws.proofs.PseudoLemmas.{LiteralHolds}
 use Rattle.stand_laws.proofs.ResultLemmas.{mapped_ok}
 use Rattle.stand_laws.proofs.ValueLemmas.{Setting, scene, AllShown, setting}
+use Rattle.asm_model.specs.Labels.{declared_names}
+use Rattle.asm_model.specs.declared.names.LaidName.{LaidName}
+use Rattle.said_model.proofs.SharedLemmas.{are_plain}
 
 -- ---- one word
 
@@ -131,12 +134,12 @@ loading_is false (Words w) v n h = cc
 
 -- ---- statements of lines
 
-pub load_there : (d : Declared) (ss : List Statement) → AllSaid ss → AllLoadsNamed ss → (after before : List LaidLine) (l : LaidLine) → laid_of d ss ≡ after ++ l ∷ before
-    → LoadsBare l.statement.what × LoadNamed l.statement.what
+pub load_there : (d : List LaidName) (ss : List Statement) → AllSaid ss → AllLoadsNamed ss → (after before : List LaidLine) (l : LaidLine) → laid_of d ss ≡ after ++ l ∷ before
+    → LoadsPlain l.statement.what × LoadNamed l.statement.what
 load_there d [] said named [] before l e = absurd (cc)
 load_there d [] said named (x ∷ after) before l e = absurd (cc)
 load_there d (s ∷ ss) said named [] before l e =
-    subst (λ (z : LaidLine). LoadsBare z.statement.what × LoadNamed z.statement.what) (same_first (laid_behind d s (laid_of d ss)) l (laid_of d ss) before e)
+    subst (λ (z : LaidLine). LoadsPlain z.statement.what × LoadNamed z.statement.what) (same_first (laid_behind d s (laid_of d ss)) l (laid_of d ss) before e)
     (said.0.loaded, named.0)
 load_there d (s ∷ ss) said named (x ∷ after) before l e =
     load_there d ss said.1 named.1 after before l (same_rest (laid_behind d s (laid_of d ss)) x (laid_of d ss) (after ++ l ∷ before) e)
@@ -151,21 +154,19 @@ pub line_later : (ss : List Statement) → IsSound ss → ArePlain ss → (after
     → Later l.seen (sees (context_behind ss l before)) (IsOwn (final_names (laid ss)))
 line_later ss sound plain after before l e =
     let N = final_names (laid ss) in
-    let locals = all_locals (laid ss) in
-    let m = (context_behind ss l before).line in
     record {
-      known = known_there N locals after l before
-          (subst (AllKnownFinally N locals) e (all_known N locals (declared ss) (source_final ss sound plain) ss (source_holds ss sound plain)));
-      own = λ t h. line_to anything (IsOwn N) m N (line_local ss after before l e) (λ q n x. names_own ss sound plain q n) t (any_tree t) h;
-      entry = λ q h. ap entry_value (named_front (N ++ m.back) m.forth q h.0 (named_front N m.back q h.0 h.1)) ∙ ap Ok h.2;
+      known = known_there N after l before
+          (subst (AllKnownFinally N) e (all_known N (declared_names ss) (source_final ss sound plain) ss (source_holds ss sound plain)));
+      own = λ t h. tree_to anything (IsOwn N) l.line N (λ q n x. names_own ss sound plain q n) t (any_tree t) h;
+      entry = λ q h. ap entry_value h.1 ∙ ap Ok h.2;
     }
 
 -- the literal of a line whose statement loads the expression
-pub line_loads : (ss : List Statement) → IsSound ss → ArePlain ss → AllSaid ss → AllLoadsNamed ss → (after before : List LaidLine) (l : LaidLine) → laid ss ≡ after ++ l ∷ before
+pub line_loads : (ss : List Statement) → IsSound ss → AllSaid ss → AllLoadsNamed ss → (after before : List LaidLine) (l : LaidLine) → laid ss ≡ after ++ l ∷ before
     → (condition : Condition) (rd : Register) (e : Expr) → l.statement.what ≡ what.Pseudo (pseudo.LoadConstant condition rd e)
     → (n : ℕ) (v : Value) → taken l.extent ≡ Loading n v
     → Loads l.seen (sees (context_behind ss l before)) (IsOwn (final_names (laid ss))) v (value_of (context_behind ss l before) e)
-line_loads ss sound plain said named after before l split condition rd e w n v x =
+line_loads ss sound said named after before l split condition rd e w n v x =
     let thumb = l.seen.known.thumb in
     let known : extent_of l.seen (what.Pseudo (pseudo.LoadConstant condition rd e)) ≡ Ok (Loading n v) =
     ap (extent_of l.seen) (sym w) ∙ known_extent ss sound after before l split ∙ ap Ok x in
@@ -180,18 +181,18 @@ line_loads ss sound plain said named after before l split condition rd e w n v x
 
     each : (t : Tree) → tree_of e ≡ Some t → TreeEach (IsLoaded Own) t
     each t h =
-        let b = load_there (declared ss) ss said named after before l split in
-        let bare : LoadsBare (what.Pseudo (pseudo.LoadConstant condition rd e)) = subst LoadsBare w b.0 in
+        let b = load_there (declared_names ss) ss said named after before l split in
+        let plain : LoadsPlain (what.Pseudo (pseudo.LoadConstant condition rd e)) = subst LoadsPlain w b.0 in
         let long : LoadNamed (what.Pseudo (pseudo.LoadConstant condition rd e)) = subst LoadNamed w b.1 in
-        tree_each (IsLoaded Own) e.items (Some []) t (items_loaded Own e.items bare.1 long) tt h
+        tree_each (IsLoaded Own) e.items (Some []) t (items_loaded Own e.items plain long) tt h
 
     by_tree : (o : Option Tree) → tree_of e ≡ o → literal_there l.seen e ≡ Ok v → Loads l.seen (sees c) Own v (value_of c e)
     by_tree None h g = let y : tree_literal l.seen None ≡ Ok v = ap (tree_literal l.seen) (sym h) ∙ g in absurd (cc)
     by_tree (Some t) h g =
         let y : tree_literal l.seen (Some t) ≡ Ok v = ap (tree_literal l.seen) (sym h) ∙ g in
         subst (λ z. Loads l.seen (sees c) Own v z) (sym (final_tree c.names c.line e (Some t) h))
-        (loads_by l.seen (sees c) Own (line_later ss sound plain after before l split) t (each t h)
-        ((line_later ss sound plain after before l split).own t (constants_hold Own t (each t h)))
+        (loads_by l.seen (sees c) Own (line_later ss sound (are_plain ss said) after before l split) t (each t h)
+        ((line_later ss sound (are_plain ss said) after before l split).own t (constants_hold Own t (each t h)))
         (value_at l.seen t) (value_at l.seen (kept_names l.seen t)) refl refl v y)
 
 -- a line with a word loads a literal
@@ -214,20 +215,19 @@ line_stored ss none after before l e n v x =
     let q = both_empty a b p.0 in
     known_result (stored c (datum_names ss) (literal_value (sees c) v)) (subst (λ z. value_literal_kinds c (datum_names ss) z ≡ []) x q.1)
 
-pub word_holds : (k : Setting) (a : ℕ) (e : Expr) (st : Stored) → CountFromHere (sees k.context) → StoresSame k (value_of k.context e) st
+pub word_holds : (k : Setting) (a : ℕ) (e : Expr) (st : Stored) → HaveSymbols (sees k.context) → StoresSame k (value_of k.context e) st
     → ShowsWord k.view a (total_of k st) → WordStands (scene k) a e
 word_holds k a e st here s h = word_stands k a e (value_of k.context e) s.0 here refl s.1 (subst (ShowsWord k.view a) (sym s.2) h)
 
 -- the word of a line's literal, where memory shows it
 pub literal_holds : (ss : List Statement) → IsFaultless ss → (values : Values) (view : View) (region : Range32) (area : ℕ) (after before : List LaidLine) (l : LaidLine)
-    → laid ss ≡ after ++ l ∷ before → CountFromHere (sees (context_behind ss l before)) → AllShown (setting ss values view region area l before) (own_words ss after l before)
+    → laid ss ≡ after ++ l ∷ before → HaveSymbols (sees (context_behind ss l before)) → AllShown (setting ss values view region area l before) (own_words ss after l before)
     → (condition : Condition) (rd : Register) (x : Expr) → l.statement.what ≡ what.Pseudo (pseudo.LoadConstant condition rd x)
     → (word : Option ℕ) → word_among after l before ≡ word → LiteralHolds (setting ss values view region area l before) x word
 literal_holds ss fine values view region area after before l e here shown condition rd x w None h = tt
 literal_holds ss fine values view region area after before l e here shown condition rd x w (Some place) h =
     let k = setting ss values view region area l before in
     let c = context_behind ss l before in
-    let plain = faultless_layouts_are_sound ss fine.said fine.laid_out in
     let q = word_loads l.area (taken l.extent) (pieces_of (l ∷ before)) (pieces_of (in_order after [])) place h in
     let st = line_stored ss fine.valued after before l e q.0 q.1 q.2 in
     let Among : List Piece → Type 0 = λ ps. IsAmong (place, Word st.0) ps in
@@ -238,5 +238,5 @@ literal_holds ss fine values view region area after before l e here shown condit
     subst (λ z. Among (literal_piece c (datum_names ss) z (word_among after l before))) (sym q.2) unit in
     word_holds k (values.base area + place) x st.0 here
     (literal_stored k l.seen (IsOwn (final_names (laid ss))) q.1 (value_of c x) st.0
-    (line_loads ss plain.0 plain.1 fine.said fine.loads_named after before l e condition rd x w q.0 q.1 q.2) st.1)
+    (line_loads ss (layout_sound ss fine.laid_out) fine.said fine.loads_named after before l e condition rd x w q.0 q.1 q.2) st.1)
     (shown (place, Word st.0) piece)
