@@ -1,12 +1,12 @@
 -- Numbers in the fields of instructions: distances from pc, displacements of branches and immediate operands.
-use Rattle.std.proofs.Common.{◌≡◌, ℕ, zero, suc, ◌+◌, ◌-◌, ◌*◌, ◌/◌, ◌%◌, ◌^◌, ◌<◌, ◌≤◌, nat_lt, List, [], ◌∷◌, Bool, true, false, cond, refl, sym, ◌∙◌, ap, arith, Some}
+use Rattle.std.proofs.Common.{◌≡◌, ℕ, ◌+◌, ◌-◌, ◌*◌, ◌/◌, ◌%◌, ◌^◌, ◌<◌, ◌≤◌, nat_lt, List, [], ◌∷◌, Bool, true, false, cond, refl, sym, ◌∙◌, ap, arith, Some}
 use Rattle.std.specs.Prelude.{Ok, Err}
 use Rattle.std.proofs.Math.Nat.{div-mul-le_self, le_trans}
 use Rattle.std.proofs.lemmas.Nat.{mul-le}
 use Rattle.std.proofs.lemmas.Bool.{ltb-false}
 use Rattle.sdt_fault.specs.declared.kinds.LineKind.TheVariants.{OutOfRange}
 use Rattle.sdt_word.specs.Numbers.{rotated, operand, sign_extended}
-use Rattle.sdt_word.proofs.NumbersLemmas.{rotated-back, rotated-none, rotated-whole}
+use Rattle.sdt_word.proofs.NumbersLemmas.{rotated-back}
 use Rattle.source_model.specs.Contexts.{is_positive, magnitude, offset_below}
 use Rattle.source_model.specs.Immediates.{rotations, turned_back, immediate_among, immediate, negated}
 use Rattle.source_model.specs.PseudoForms.{places, lowest_among, first_part}
