@@ -1,5 +1,5 @@
 -- Rounds of names: what the names of one round say of the next.
-use Rattle.std.proofs.Common.{◌≡◌, ℕ, List, [], ◌∷◌, ◌++◌, length, Bool, true, false, cond, refl, ◌∙◌, ap, subst, Option, Some, None}
+use Rattle.std.proofs.Common.{◌≡◌, ℕ, List, [], ◌∷◌, ◌++◌, length, Bool, true, false, cond, refl, ◌∙◌, ap, Option, Some, None}
 use Rattle.std.specs.Prelude.{Result, Ok, Err, nat_lt}
 use Rattle.std.specs.Ordering.{nat_cmp}
 use Rattle.std.specs.Cmp.Lexicographic.{slice_cmp}
@@ -257,15 +257,3 @@ named_joined q (n ∷ ns) ys = by_test (same n.name q) (named_joined q ns ys)
         → cond b (Some n) (named_in q (ns ++ ys)) ≡ or_else (cond b (Some n) (named_in q ns)) (named_in q ys)
     by_test true rest = refl
     by_test false rest = rest
-
-abbrev pub EachIs : (List ℕ → Type 0) → List LaidName → Type 0
-EachIs P [] = Unit {0}
-EachIs P (n ∷ ns) = SymbolIs P n.value × EachIs P ns
-
-pub each_closed : (P : List ℕ → Type 0) (q : List ℕ) (ns : List LaidName) → EachIs P ns → (m : LaidName) → named_in q ns ≡ Some m → SymbolIs P m.value
-each_closed P q [] h m e = absurd (cc)
-each_closed P q (n ∷ ns) h m e = by_test (same n.name q) (each_closed P q ns h.1 m) e
-  where
-    by_test : (b : Bool) → (named_in q ns ≡ Some m → SymbolIs P m.value) → cond b (Some n) (named_in q ns) ≡ Some m → SymbolIs P m.value
-    by_test true rest k = let x : n ≡ m = cc in subst (λ z. SymbolIs P z.value) x h.0
-    by_test false rest k = rest k
