@@ -1,6 +1,5 @@
 -- A source whose lines have no fault of their own.
-use Rattle.std.proofs.Common.{◌≡◌, ℕ, Bool, true, false, List, [], ◌∷◌, ◌++◌, Option, Some, None, Result, Ok, Err, refl, sym, ap, ◌∙◌, arith}
-use Rattle.std.specs.Prelude.{◌==◌, if◌then◌else◌}
+use Rattle.std.proofs.Common.{◌≡◌, ℕ, List, [], ◌∷◌, ◌++◌, Option, Some, None, Result, Ok, Err, refl, sym, ap, ◌∙◌, arith}
 use Rattle.sdt_fault.specs.declared.kinds.LineKind.{LineKind}
 use Rattle.asm_areas.specs.Late.{AreWhole}
 use Rattle.asm_names.specs.Source.{IsReadDefined, AreRead}
@@ -17,12 +16,11 @@ use Rattle.asm_offsets.specs.declared.extents.LaidPools.{LaidPools}
 use Rattle.asm_offsets.specs.Coded.{IsExtent}
 use Rattle.asm_offsets.specs.Finished.{AreLaid}
 use Rattle.asm_offsets.specs.Laws.{AllExtents, ExtentsArePlaceable}
-use Rattle.asm_model.specs.Sound.{ArePlain}
 use Rattle.asm_model.specs.Extents.{Extent, extent_of}
-use Rattle.asm_model.specs.Labels.{LocalLabel, Label, number_in, field_defines, what_defines, directive_defines, labelled}
-use Rattle.asm_model.specs.Laid.{Declared, LaidLine, declared, laid, laid_of, sight_behind, taken, pieces_of, reversed, all_locals}
+use Rattle.asm_model.specs.declared.names.LaidName.{LaidName}
+use Rattle.asm_model.specs.Labels.{field_defines, what_defines, directive_defines, declared_names}
+use Rattle.asm_model.specs.Laid.{LaidLine, laid, laid_of, sight_behind, taken, pieces_of, reversed}
 use Rattle.asm_model.specs.LayoutKinds.{layout_kinds, equals_in, settled, told_at, first_fault, first_late}
-use Rattle.asm_model.specs.Locals.{Local}
 use Rattle.said_model.specs.Said.{WhatSaid, AllSaid}
 use Rattle.source_model.specs.Registers.{register_names, register_kinds}
 use Rattle.source_model.specs.SourceFaults.{first_laid, layout_faults}
@@ -38,49 +36,13 @@ pub said_reversed : (ss acc : List Statement) → AllSaid ss → AllSaid acc →
 said_reversed [] acc h k = k
 said_reversed (s ∷ ss) acc h k = said_reversed ss (s ∷ acc) h.1 (h.0, k)
 
-read_label : (name : List ℕ) → IsReadDefined (labelled name)
-read_label [] = tt
-read_label (c ∷ cs) = by_test (c == 124)
-  where
-    by_test : (b : Bool) → IsReadDefined (if b then LocalLabel (number_in cs) else Label (c ∷ cs))
-    by_test true = tt
-    by_test false = tt
-
 read_directive : (name : List ℕ) (d : DirectiveLine) → WhatSaid (what.Directive d) → IsReadDefined (directive_defines name d)
 read_directive name (line.Equ e) h = (h.parts, h.tree, h.spelled, h.items)
-read_directive name (line.Rn r) h = tt
-read_directive name (line.Field e) h = tt
-read_directive name line.Rout h = tt
-read_directive name (line.Area n a) h = read_label name
-read_directive name line.Entry h = read_label name
-read_directive name line.End h = read_label name
-read_directive name (line.Export n) h = read_label name
-read_directive name (line.Import n weak) h = read_label name
-read_directive name (line.Extern n weak) h = read_label name
-read_directive name (line.Keep n) h = read_label name
-read_directive name (line.Assert v) h = read_label name
-read_directive name line.Nofp h = read_label name
-read_directive name (line.Opt v) h = read_label name
-read_directive name line.Ttl h = read_label name
-read_directive name line.Subt h = read_label name
-read_directive name (line.Dcd v) h = read_label name
-read_directive name (line.Dcdu v) h = read_label name
-read_directive name (line.Dcw v) h = read_label name
-read_directive name (line.Dcb v) h = read_label name
-read_directive name (line.Space v) h = read_label name
-read_directive name (line.Align b) h = read_label name
-read_directive name line.Ltorg h = read_label name
-read_directive name line.Data h = read_label name
-read_directive name (line.Map v) h = read_label name
-read_directive name line.Code16 h = read_label name
-read_directive name line.Code32 h = read_label name
+read_directive name _ h = tt
 
 read_what : (name : List ℕ) (w : What) → WhatSaid w → IsReadDefined (what_defines name w)
-read_what name what.Nothing h = read_label name
-read_what name (what.Arm a) h = read_label name
-read_what name (what.Thumb a) h = read_label name
-read_what name (what.Pseudo a) h = read_label name
 read_what name (what.Directive d) h = read_directive name d h
+read_what name _ h = tt
 
 read_field : (label : Option (List ℕ)) (w : What) → WhatSaid w → IsReadDefined (field_defines label w)
 read_field None w h = tt
@@ -114,11 +76,11 @@ sound_lines names fixed (l ∷ before) e =
     rw (sound_lines names fixed before (none_left (first_laid names fixed before) (told_at l.statement (told_kind (layout_kinds fixed l before ++ register_kinds names l before))) e), part) refl
 
 -- what laid lines take up can be placed
-pub extent_fits : ExtentsArePlaceable → (d : Declared) (s : Statement) (before : List LaidLine) (r : Result Extent LineKind) → extent_of (sight_behind d s before) s.what ≡ r → IsExtent (taken r)
+pub extent_fits : ExtentsArePlaceable → (d : List LaidName) (s : Statement) (before : List LaidLine) (r : Result Extent LineKind) → extent_of (sight_behind d s before) s.what ≡ r → IsExtent (taken r)
 extent_fits law d s before (Ok e) h = law (sight_behind d s before) s.what e h
 extent_fits law d s before (Err k) h = record { some = omega arith; small = omega arith }
 
-pub all_extents : ExtentsArePlaceable → (d : Declared) (ss : List Statement) → AllExtents (pieces_of (laid_of d ss))
+pub all_extents : ExtentsArePlaceable → (d : List LaidName) (ss : List Statement) → AllExtents (pieces_of (laid_of d ss))
 all_extents law d [] = tt
 all_extents law d (s ∷ ss) = (extent_fits law d s (laid_of d ss) (extent_of (sight_behind d s (laid_of d ss)) s.what) refl, all_extents law d ss)
 
@@ -126,17 +88,15 @@ all_extents law d (s ∷ ss) = (extent_fits law d s (laid_of d ss) (extent_of (s
 
 pub whole_is : ExtentsArePlaceable → (statements : List Statement) (o : Outline) (w : Walk) (pools : List LaidPools) → IsWhole statements o w → AreLaid (pieces_of (laid statements)) pools
     → AreWhole (laid statements) pools w.starts
-whole_is law statements o w pools h l = record { laid = l; begun = h.walked.begun; extents = all_extents law (declared statements) statements }
+whole_is law statements o w pools h l = record { laid = l; begun = h.walked.begun; extents = all_extents law (declared_names statements) statements }
 
-pub named_is : (statements : List Statement) (o : Outline) (w : Walk) (locals : List Local) → IsWhole statements o w → locals ≡ all_locals (laid statements)
-    → IsNamed statements w.lines.items locals o.declarations.names
-named_is statements o w locals h l = record {
+pub named_is : (statements : List Statement) (o : Outline) (w : Walk) → IsWhole statements o w → IsNamed statements w.lines.items o.names
+named_is statements o w h = record {
   sound = sound_lines (register_names statements) (settled (equals_in statements)) (laid statements) h.walked.none;
   plain = all_plain statements h.said;
   read = all_read statements h.said;
   lines = h.walked.kept;
-  labels = l;
-  found = λ q. ap (λ (d : Declared). named_in q d.names) h.outlined.declares;
+  found = λ q. ap (named_in q) h.outlined.names;
 }
 
 pub faults_are : (statements : List Statement) (o : Outline) (w : Walk) → IsWhole statements o w

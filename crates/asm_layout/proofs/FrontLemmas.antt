@@ -2,9 +2,10 @@
 use Rattle.std.proofs.Common.{◌≡◌, ◌<◌, ℕ, zero, suc, ◌-◌, List, [], ◌∷◌, ◌++◌, length, take, drop, Result, Ok, Err, refl, sym, ap, ◌∙◌, subst, arith, append_assoc}
 use Rattle.std.proofs.lemmas.List.{length-drop, take-append-drop}
 use Rattle.sdt_fault.specs.declared.answer.Fault.{Fault}
-use Rattle.asm_laying.specs.Declaring.{declared_in}
 use Rattle.asm_model.specs.declared.statements.Statement.{Statement}
-use Rattle.asm_model.specs.Laid.{Declared, LaidLine, declared, laid, laid_behind, laid_of, reversed}
+use Rattle.asm_model.specs.declared.names.LaidName.{LaidName}
+use Rattle.asm_model.specs.Labels.{declared_names}
+use Rattle.asm_model.specs.Laid.{LaidLine, laid, laid_behind, laid_of, reversed}
 use Rattle.asm_model.specs.LayoutKinds.{equals_in, settled, told_at}
 use Rattle.source_model.specs.Registers.{register_names}
 use Rattle.source_model.specs.SourceFaults.{first_laid}
@@ -23,16 +24,16 @@ drop_more zero xs = refl
 drop_more (suc n) [] = refl
 drop_more (suc n) (x ∷ xs) = drop_more n xs
 
-dropped : (d : Declared) (zs acc : List Statement) → drop (length zs) (laid_of d (reversed zs acc)) ≡ laid_of d acc
+dropped : (d : List LaidName) (zs acc : List Statement) → drop (length zs) (laid_of d (reversed zs acc)) ≡ laid_of d acc
 dropped d [] acc = refl
 dropped d (z ∷ zs) acc = drop_more (length zs) (laid_of d (reversed zs (z ∷ acc))) ∙ ap (λ (ls : List LaidLine). drop 1 ls) (dropped d zs (z ∷ acc))
 
 -- the lines of the statements in front
 pub front_is : (statements ys : List Statement) (n : ℕ) → statements ≡ ys ++ drop n statements
-    → front_lines (reversed statements []) n ≡ laid_of (declared (reversed statements [])) (reversed ys [])
+    → front_lines (reversed statements []) n ≡ laid_of (declared_names (reversed statements [])) (reversed ys [])
 front_is statements ys n e =
     let s = reversed statements [] in
-    let d = declared s in
+    let d = declared_names s in
     let behind = drop n statements in
     let split : s ≡ reversed behind (reversed ys []) = ap (λ (l : List Statement). reversed l []) e ∙ reversed_joined ys behind [] in
     let long : length s ≡ length statements = reversed_long statements [] ∙ omega arith in
@@ -49,7 +50,7 @@ pub all_walked : (statements : List Statement) (n : ℕ) (r : Result Walk Fault)
     → IsWalked (reversed statements []) r
 all_walked statements n (Ok w) e h =
     let s = reversed statements [] in
-    subst (λ (ls : List LaidLine). IsWalking (declared s) (register_names s) (settled (equals_in s)) ls w)
+    subst (λ (ls : List LaidLine). IsWalking (declared_names s) (register_names s) (settled (equals_in s)) ls w)
     (ap (λ (k : ℕ). front_lines s k) e ∙ all_lines statements) h
 all_walked statements n (Err f) e h =
     let s = reversed statements [] in
@@ -72,27 +73,27 @@ nothing (x ∷ xs) less = absurd (omega arith)
 pub front_ends : (statements ys : List Statement) (n : ℕ) (w : Walk) → IsAlong statements ys (drop n statements) w → IsFrontWalked (reversed statements []) n (Ok w)
 front_ends statements ys n w h =
     let s = reversed statements [] in
-    subst (λ (ls : List LaidLine). IsWalking (declared s) (register_names s) (settled (equals_in s)) ls w) (sym (front_is statements ys n h.whole)) h.walks
+    subst (λ (ls : List LaidLine). IsWalking (declared_names s) (register_names s) (settled (equals_in s)) ls w) (sym (front_is statements ys n h.whole)) h.walks
 
 -- ---- a faulty line
 
 pub told_front : (statements ys : List Statement) (x : Statement) (zs rest : List Statement) (n : ℕ) (o : Outline) (old new : Walk) (f : Fault)
     → IsOutline (reversed statements []) o → rest ≡ x ∷ zs → IsAlong statements ys (rest ++ drop n statements) old
-    → ((names settled : List (List ℕ)) (before : List LaidLine) → IsWalking (declared_in o.declarations) names settled before old → IsMarked settled o.settled.items x before
-    → Steps (declared_in o.declarations) names settled (laid_behind (declared_in o.declarations) x before) before new (Err f))
+    → ((names settled : List (List ℕ)) (before : List LaidLine) → IsWalking o.names names settled before old → IsMarked settled o.settled.items x before
+    → Steps o.names names settled (laid_behind o.names x before) before new (Err f))
     → IsTold (front_laid (reversed statements []) n) f
 told_front statements ys x zs rest n o old new f outlined e h steps =
     let s = reversed statements [] in
-    let d = declared s in
+    let d = declared_names s in
     let names = register_names s in
     let fixed = settled (equals_in s) in
     let before = laid_of d (reversed ys []) in
     let next = next_is statements n x zs rest e in
     let told = steps names fixed before
-    (subst (λ (c : Declared). IsWalking c names fixed before old) (sym outlined.declares) h.walks)
+    (subst (λ (c : List LaidName). IsWalking c names fixed before old) (sym outlined.names) h.walks)
     (is_marked statements ys x (zs ++ drop n statements) (rest ++ drop n statements) o old outlined next h) in
     let here : IsTold (told_at x (told_by names fixed (laid_behind d x before) before)) f =
-    subst (λ (c : Declared). IsTold (told_at x (told_by names fixed (laid_behind c x before) before)) f) outlined.declares told in
+    subst (λ (c : List LaidName). IsTold (told_at x (told_by names fixed (laid_behind c x before) before)) f) outlined.names told in
     let whole : statements ≡ (ys ++ x ∷ zs) ++ drop n statements =
     h.whole ∙ ap (λ (l : List Statement). ys ++ l) next ∙ sym (append_assoc ys (x ∷ zs) (drop n statements)) in
     let lines : front_lines s n ≡ laid_of d (reversed zs (x ∷ reversed ys [])) =

@@ -140,9 +140,7 @@ each_of (l ∷ before) xs ys z h =
       r.2,
       record {
         statement = r.4.statement ∙ h.3.statement;
-        number = r.4.number ∙ h.3.number;
         area = r.4.area ∙ h.3.area;
-        stretch = r.4.stretch ∙ h.3.stretch;
         offset = r.4.offset ∙ h.3.offset;
         size = r.4.size ∙ h.3.size;
         thumb = r.4.thumb ∙ h.3.thumb;

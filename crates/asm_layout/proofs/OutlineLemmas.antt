@@ -8,8 +8,6 @@ use Rattle.asm_names.specs.Order.{is_settled}
 use Rattle.asm_model.specs.Labels.{defined_by}
 use Rattle.asm_model.specs.Laid.{reversed}
 use Rattle.asm_model.specs.LayoutKinds.{equal_of, equals_in}
-use Rattle.asm_laying.specs.Declaring.{AllShort}
-use Rattle.said_model.specs.Said.{AllSaid}
 use Rattle.asm_layout.specs.Outline.{equals_on}
 
 -- the names for expressions, in one order or the other
@@ -28,7 +26,3 @@ pub marks_are : (equals : List (List ℕ × Expr)) (xs : List Code)
     → map (λ (e : Code). is_settled equals e.name.now) xs ≡ map (λ (e : List ℕ × Expr). is_settled equals e.0) (pairs_of xs)
 marks_are equals [] = refl
 marks_are equals (x ∷ xs) = ap (λ l. is_settled equals x.name.now ∷ l) (marks_are equals xs)
-
-pub all_short : (ss : List Statement) → AllSaid ss → AllShort ss
-all_short [] h = tt
-all_short (s ∷ ss) h = (h.0.local, all_short ss h.1)

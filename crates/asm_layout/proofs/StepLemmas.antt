@@ -1,6 +1,6 @@
 -- A line more.
-use Rattle.std.proofs.Common.{◌≡◌, ◌≤◌, ℕ, ◌+◌, ◌&&◌, ◌||◌, Bool, true, false, cond, List, [], ◌∷◌, ◌++◌, length, map, Option, Some, None, Result, Ok, Err, refl, sym, ap, ◌∙◌, subst, arith, codes}
-use Rattle.std.specs.Prelude.{nat_lt, nat_le, ◌==◌, is_some}
+use Rattle.std.proofs.Common.{◌≡◌, ◌≤◌, ℕ, ◌+◌, ◌||◌, Bool, true, false, List, [], ◌∷◌, ◌++◌, length, Option, Some, None, Result, Ok, Err, refl, sym, ap, ◌∙◌, subst, arith}
+use Rattle.std.specs.Prelude.{nat_lt}
 use Rattle.sdt_fault.specs.declared.kinds.LineKind.{LineKind}
 use Rattle.sdt_fault.specs.declared.kinds.LineKind.TheVariants.{BadOperand}
 use Rattle.asm_areas.specs.Starts.{IsSmall, IsAligned}
@@ -15,18 +15,12 @@ use Rattle.asm_model.specs.declared.names.LaidName.{LaidName}
 use Rattle.asm_model.specs.declared.statements.Statement.{Statement}
 use Rattle.asm_model.specs.declared.statements.What.{What}
 use Rattle.asm_model.specs.declared.statements.What.TheVariants as what
-use Rattle.asm_model.specs.AtLine.{is_in}
 use Rattle.asm_model.specs.FaultSets.{first_told}
-use Rattle.asm_model.specs.Forms.{same}
 use Rattle.asm_model.specs.Kinds.{told_kind}
-use Rattle.asm_model.specs.Meaning.{named_in}
 use Rattle.asm_model.proofs.FaultLemmas.{told_by_parts}
-use Rattle.asm_model.specs.Sound.{IsBare}
-use Rattle.asm_model.specs.Labels.{Defined, Unnamed, LocalLabel, Label, Equal, MapField, RegisterName, defined_by}
-use Rattle.asm_model.specs.Laid.{Declared, LaidLine, laid_behind, line_behind, definition_behind, statements_of, locals_of, offset_behind}
-use Rattle.asm_model.specs.Before.{area_behind, stretch_behind}
+use Rattle.asm_model.specs.Labels.{Defined, Unnamed, Label, Equal, MapField, RegisterName, defined_by}
+use Rattle.asm_model.specs.Laid.{LaidLine, laid_behind, statements_of}
 use Rattle.asm_model.specs.LayoutKinds.{exponent, exponent_kinds, kind_if, area_kinds, no_area_kinds, contents_kinds, contents_behind, name_kinds, settled_kinds, is_named_otherwise}
-use Rattle.asm_model.specs.Locals.{Local, local_entries, digits_of, reference, references_to, is_new, back_of, forth_of}
 use Rattle.std.specs.Global.{Vec}
 use Rattle.sdt_fault.specs.declared.answer.Fault.{Fault}
 use Rattle.asm_areas.specs.declared.starts.AreaStart.{AreaStart}
@@ -46,8 +40,6 @@ use Rattle.asm_layout.specs.declared.walking.Walk.{Walk}
 use Rattle.asm_layout.specs.Layout.{IsTold}
 use Rattle.asm_layout.specs.Walking.{IsMark, HasMark, IsCounted, one_more, or_false, IsWalking, IsJudged, Keeps, laid_as, told_by}
 use Rattle.asm_layout.proofs.ToldLemmas.{none_first, none_second, told_parts}
-use Rattle.layout_laws.proofs.NamedLemmas.{none_joined as absent_joined}
-use Rattle.layout_laws.proofs.SharedLemmas.{spelled_lack as spelled}
 
 -- ---- the number that checks ask for
 
@@ -158,65 +150,11 @@ aligned (what.Thumb a) l before settled x w e none = tt
 aligned (what.Pseudo a) l before settled x w e none = tt
 aligned (what.Directive d) l before settled x w e none = directive_aligned d l before settled x w e none
 
--- ---- the names of a source, but for references
-
-no_reference : (q t : List ℕ) → IsBare q → same (124 ∷ t) q ≡ false
-no_reference [] t h = refl
-no_reference (c ∷ cs) t h = by_test (124 == c) refl
-  where
-    by_test : (b : Bool) → (124 == c) ≡ b → (b && same t cs) ≡ false
-    by_test true e = let s : c ≡ 124 = grind arith in absurd (h s)
-    by_test false e = refl
-
-present_joined : (q : List ℕ) (xs ys : List LaidName) → named_in q ys ≡ None → named_in q (xs ++ ys) ≡ named_in q xs
-present_joined q [] ys h = h
-present_joined q (x ∷ xs) ys h = ap (λ o. cond (same x.name q) (Some x) o) (present_joined q xs ys h)
-
-referred : (q : List ℕ) → IsBare q → (area : Option ℕ) (l : Local) (marks : List (List ℕ)) → named_in q (references_to area l marks) ≡ None
-referred q bare area l [] = refl
-referred q bare area l (mark ∷ marks) =
-    absent_joined q (map (λ digits. reference area l (mark ++ digits)) (digits_of l.number)) (references_to area l marks)
-    (spelled q bare area l mark (digits_of l.number)) (referred q bare area l marks)
-
-either : (q : List ℕ) (b : Bool) (xs ys zs : List LaidName) → named_in q xs ≡ None → named_in q ys ≡ None → named_in q zs ≡ None → named_in q (cond b (xs ++ ys) zs) ≡ None
-either q true xs ys zs h k m = absent_joined q xs ys h k
-either q false xs ys zs h k m = m
-
-no_back : (q : List ℕ) → IsBare q → (area : Option ℕ) (stretch statement : ℕ) (nearer : List ℕ) (ls : List Local) → named_in q (back_of area stretch statement nearer ls) ≡ None
-no_back q bare area stretch statement nearer [] = refl
-no_back q bare area stretch statement nearer (l ∷ ls) =
-    either q (l.stretch == stretch && nat_le l.statement statement && is_new l.number nearer) (references_to area l (codes "%B" ∷ codes "%" ∷ []))
-    (back_of area stretch statement (l.number ∷ nearer) ls) (back_of area stretch statement nearer ls)
-    (referred q bare area l (codes "%B" ∷ codes "%" ∷ [])) (no_back q bare area stretch statement (l.number ∷ nearer) ls)
-    (no_back q bare area stretch statement nearer ls)
-
-no_forth : (q : List ℕ) → IsBare q → (area : Option ℕ) (stretch statement : ℕ) (nearer : List ℕ) (ls : List Local) → named_in q (forth_of area stretch statement nearer ls) ≡ None
-no_forth q bare area stretch statement nearer [] = refl
-no_forth q bare area stretch statement nearer (l ∷ ls) =
-    either q (l.stretch == stretch && nat_lt statement l.statement && is_new l.number nearer) (references_to area l (codes "%F" ∷ codes "%" ∷ []))
-    (forth_of area stretch statement (l.number ∷ nearer) ls) (forth_of area stretch statement nearer ls)
-    (referred q bare area l (codes "%F" ∷ codes "%" ∷ [])) (no_forth q bare area stretch statement (l.number ∷ nearer) ls)
-    (no_forth q bare area stretch statement nearer ls)
-
-pub seen_names : (d : Declared) (s : Statement) (before : List LaidLine) (q : List ℕ) → IsBare q → is_in (laid_behind d s before).seen.all q ≡ is_in d.names q
-seen_names d s before q bare =
-    ap is_some
-    (present_joined q (d.names ++ back) forth (no_forth q bare (area_behind (s ∷ statements_of before)) (stretch_behind (s ∷ statements_of before)) (length before) [] d.locals)
-    ∙ present_joined q d.names back (no_back q bare (area_behind (s ∷ statements_of before)) (stretch_behind (s ∷ statements_of before)) (length before) []
-    (local_entries (defined_by s) (stretch_behind (s ∷ statements_of before)) (length before) (offset_behind s before) ++ locals_of before)))
-  where
-    back : List LaidName
-    back = (line_behind d s before (definition_behind d s before 0)).back
-
-    forth : List LaidName
-    forth = (line_behind d s before (definition_behind d s before 0)).forth
-
 -- ---- the mark of a name for an expression
 
 pub mark_is : (settled : List (List ℕ)) (marks : List Bool) (n : ℕ) (x : Defined) (b : Bool) → IsMark marks n x b → HasMark settled marks n x → IsSettled settled x b
 mark_is settled marks n (Equal name e) b h k = h ∙ ap or_false k
 mark_is settled marks n Unnamed b h k = tt
-mark_is settled marks n (LocalLabel m) b h k = tt
 mark_is settled marks n (Label name) b h k = tt
 mark_is settled marks n (MapField name) b h k = tt
 mark_is settled marks n (RegisterName name r) b h k = tt
@@ -226,22 +164,21 @@ pub count_is : (settled : List (List ℕ)) (marks : List Bool) (n m : ℕ) (x : 
     → m ≡ n + length (equal_of x)
 count_is settled marks n m (Equal name e) h k = h ∙ ap (λ o. one_more o n) k
 count_is settled marks n m Unnamed h k = h ∙ omega arith
-count_is settled marks n m (LocalLabel l) h k = h ∙ omega arith
 count_is settled marks n m (Label name) h k = h ∙ omega arith
 count_is settled marks n m (MapField name) h k = h ∙ omega arith
 count_is settled marks n m (RegisterName name r) h k = h ∙ omega arith
 
 -- ---- what is told of a judged line
 
-pub judged_told : (d : Declared) (names settled : List (List ℕ)) (l : LaidLine) (before : List LaidLine) (old new : Walk) (j : Judged) → IsJudged d names settled l before old new j
+pub judged_told : (d : List LaidName) (names settled : List (List ℕ)) (l : LaidLine) (before : List LaidLine) (old new : Walk) (j : Judged) → IsJudged d names settled l before old new j
     → told_by names settled l before ≡ first_told (told_of l) j.found
 judged_told d names settled l before old new j h = told_parts names settled l before ∙ ap (first_told (told_of l)) (sym h.told)
 
-pub err_told : (d : Declared) (l : LaidLine) (before : List LaidLine) (state : Laying) (r : Result Placed LineKind) (k : LineKind) → r ≡ Err k → IsPlaced d l before state r
+pub err_told : (d : List LaidName) (l : LaidLine) (before : List LaidLine) (state : Laying) (r : Result Placed LineKind) (k : LineKind) → r ≡ Err k → IsPlaced d l before state r
     → told_of l ≡ Some k
 err_told d l before state r k e h = subst (λ (x : Result Placed LineKind). IsPlaced d l before state x) e h
 
-pub ok_laid : (d : Declared) (l : LaidLine) (before : List LaidLine) (state : Laying) (r : Result Placed LineKind) (p : Placed) → r ≡ Ok p → IsPlaced d l before state r
+pub ok_laid : (d : List LaidName) (l : LaidLine) (before : List LaidLine) (state : Laying) (r : Result Placed LineKind) (p : Placed) → r ≡ Ok p → IsPlaced d l before state r
     → IsLaid d l before state p
 ok_laid d l before state r p e h = subst (λ (x : Result Placed LineKind). IsPlaced d l before state x) e h
 
@@ -250,7 +187,7 @@ tells s o k f e h = subst (λ (x : Option LineKind). IsTold (told_at s x) f) (sy
 
 -- ---- a line is kept
 
-pub keep_line : (d : Declared) (names settled : List (List ℕ)) (s : Statement) (before : List LaidLine) (old mid new : Walk) (j : Judged) (p : Placed)
+pub keep_line : (d : List LaidName) (names settled : List (List ℕ)) (s : Statement) (before : List LaidLine) (old mid new : Walk) (j : Judged) (p : Placed)
     → IsWalking d names settled before old → IsJudged d names settled (laid_behind d s before) before old mid j → j.found ≡ None
     → IsLaid d (laid_behind d s before) before mid.laying p → Keeps s j.laid.number p mid new
     → IsWalking d names settled (laid_behind d s before ∷ before) new
@@ -277,9 +214,7 @@ keep_line d names settled s before old mid new j p w h none laid k =
         k.lines ∙ ap (λ (v : Vec LaidStatement). v.items ++ laid_as s p ∷ []) h.kept,
         record {
           statement = refl;
-          number = laid.number;
           area = laid.area;
-          stretch = laid.stretch;
           offset = laid.offset;
           size = laid.size;
           thumb = laid.thumb;

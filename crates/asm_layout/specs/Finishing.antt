@@ -7,8 +7,7 @@ use Rattle.asm_pool.specs.declared.layout.LaidStatement.{LaidStatement}
 use Rattle.asm_names.specs.Source.{AreRead}
 use Rattle.asm_model.specs.Sound.{IsSound, ArePlain}
 use Rattle.asm_model.specs.Labels.{declared_names}
-use Rattle.asm_model.specs.Laid.{laid, all_locals}
-use Rattle.asm_model.specs.Locals.{Local}
+use Rattle.asm_model.specs.Laid.{laid}
 use Rattle.said_model.specs.Said.{AllSaid}
 use Rattle.asm_layout.specs.declared.outline.Outline.{Outline}
 use Rattle.asm_layout.specs.declared.walking.Walk.{Walk}
@@ -17,13 +16,12 @@ use Rattle.asm_layout.specs.Outline.{IsOutline}
 use Rattle.asm_layout.specs.Walking.{IsWalked}
 use Rattle.std.specs.Prelude.{Ok}
 
--- the names of a source are made of its lines, its local labels and the names that it declares
-pub record IsNamed (statements : List Statement) (statements_laid : List LaidStatement) (locals : List Local) (declared : List LaidName) : Type 0 where
+-- the names of a source are made of its lines and the names that it declares
+pub record IsNamed (statements : List Statement) (statements_laid : List LaidStatement) (declared : List LaidName) : Type 0 where
   pub sound : IsSound statements
   pub plain : ArePlain statements
   pub read : AreRead statements
   pub lines : AreStatements (laid statements) statements_laid
-  pub labels : locals ≡ all_locals (laid statements)
   pub found : (q : List ℕ) → named_in q declared ≡ named_in q (declared_names statements)
 
 -- a source whose lines are laid

@@ -12,7 +12,7 @@ use Rattle.asm_pool.specs.declared.layout.Layout.{Layout}
 use Rattle.asm_pool.specs.Pooled.{flushed}
 use Rattle.asm_laying.specs.Reading.{string_marks}
 use Rattle.asm_offsets.specs.Running.{entry_behind, pools_behind}
-use Rattle.asm_model.specs.Before.{areas_behind, stretch_behind, is_thumb_label}
+use Rattle.asm_model.specs.Before.{areas_behind, is_thumb_label}
 use Rattle.asm_model.specs.Extents.{Pool}
 use Rattle.asm_model.specs.Laid.{LaidLine, statements_of, taken, pieces_of, map_behind, laid, final_names}
 use Rattle.asm_model.specs.LayoutKinds.{is_thumb_area}
@@ -25,9 +25,7 @@ use Rattle.source_model.specs.SourceFaults.{layout_faults}
 -- a statement of a layout is a laid line behind those before it
 pub record IsStatement (x : LaidStatement) (l : LaidLine) (before : List LaidLine) : Type 0 where
   pub statement : x.statement ≡ l.statement
-  pub number : x.number ≡ length before
   pub area : x.area ≡ l.area
-  pub stretch : x.stretch ≡ stretch_behind (statements_of (l ∷ before))
   pub offset : x.offset ≡ l.offset
   pub size : x.size ≡ l.size
   pub thumb : x.thumb ≡ l.thumb

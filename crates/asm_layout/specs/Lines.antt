@@ -6,9 +6,7 @@ use Rattle.asm_pool.specs.declared.layout.LaidStatement.{LaidStatement}
 
 pub record IsLineOf (x : LaidStatement) (y : PlacedLine) : Type 0 where
   pub statement : y.statement.now ≡ x.statement
-  pub number : y.number ≡ x.number
   pub area : y.area ≡ x.area
-  pub stretch : y.stretch ≡ x.stretch
   pub offset : y.offset ≡ x.offset
   pub size : y.size ≡ x.size
   pub thumb : y.thumb ≡ x.thumb

@@ -2,10 +2,8 @@
 use Rattle.std.specs.Prelude.{◌≡◌, ℕ, List, [], ◌∷◌, ◌++◌, map}
 use Rattle.asm_model.specs.declared.exprs.Expr.{Expr}
 use Rattle.asm_model.specs.declared.statements.Statement.{Statement}
-use Rattle.asm_laying.specs.Declaring.{declared_in}
 use Rattle.asm_names.specs.Order.{is_settled}
-use Rattle.asm_model.specs.Labels.{defined_by}
-use Rattle.asm_model.specs.Laid.{declared}
+use Rattle.asm_model.specs.Labels.{defined_by, declared_names}
 use Rattle.asm_model.specs.LayoutKinds.{equal_of, equals_in}
 use Rattle.asm_layout.specs.declared.outline.Outline.{Outline}
 
@@ -15,5 +13,5 @@ equals_on [] = []
 equals_on (s ∷ ss) = equal_of (defined_by s) ++ equals_on ss
 
 pub record IsOutline (statements : List Statement) (o : Outline) : Type 0 where
-  pub declares : declared_in o.declarations ≡ declared statements
+  pub names : o.names ≡ declared_names statements
   pub marks : o.settled.items ≡ map (λ (e : List ℕ × Expr). is_settled (equals_in statements) e.0) (equals_in statements)

@@ -13,8 +13,9 @@ use Rattle.asm_checks.specs.Checked.{checked_kinds, IsChecked}
 use Rattle.asm_laying.specs.declared.laying.Placed.{Placed}
 use Rattle.asm_laying.specs.Laying.{IsLaying, Tells}
 use Rattle.asm_registers.specs.Kept.{AreRegisters}
-use Rattle.asm_model.specs.Labels.{Defined, Equal, defined_by}
-use Rattle.asm_model.specs.Laid.{Declared, LaidLine, declared, statements_of, laid, laid_of, reversed}
+use Rattle.asm_model.specs.declared.names.LaidName.{LaidName}
+use Rattle.asm_model.specs.Labels.{Defined, Equal, defined_by, declared_names}
+use Rattle.asm_model.specs.Laid.{LaidLine, statements_of, laid, laid_of, reversed}
 use Rattle.asm_model.specs.LayoutKinds.{layout_kinds, equals_in, settled, told_at}
 use Rattle.source_model.specs.Registers.{register_names, register_kinds}
 use Rattle.source_model.specs.SourceFaults.{first_laid}
@@ -57,7 +58,7 @@ IsMarked settled marks s before = HasMark settled marks (length (equals_in (stat
 -- ---- lines so far
 
 -- lines without faults, where a source has these names for registers and these settled names
-pub record IsWalking (d : Declared) (names settled : List (List ℕ)) (before : List LaidLine) (w : Walk) : Type 0 where
+pub record IsWalking (d : List LaidName) (names settled : List (List ℕ)) (before : List LaidLine) (w : Walk) : Type 0 where
   pub lays : IsLaying d before w.laying
   pub checked : IsChecked before w.checks
   pub named : AreRegisters names before w.registers
@@ -69,7 +70,7 @@ pub record IsWalking (d : Declared) (names settled : List (List ℕ)) (before : 
 -- ---- a line more
 
 -- what is known of a line before it is kept
-pub record IsJudged (d : Declared) (names settled : List (List ℕ)) (l : LaidLine) (before : List LaidLine) (old new : Walk) (j : Judged) : Type 0 where
+pub record IsJudged (d : List LaidName) (names settled : List (List ℕ)) (l : LaidLine) (before : List LaidLine) (old new : Walk) (j : Judged) : Type 0 where
   pub tells : Tells d l before new.laying j.laid
   pub told : j.found ≡ first_told (told_kind (checked_kinds settled l before)) (told_kind (register_kinds names l before))
   pub checked : j.found ≡ None → IsChecked (l ∷ before) new.checks
@@ -81,9 +82,7 @@ pub record IsJudged (d : Declared) (names settled : List (List ℕ)) (l : LaidLi
 abbrev pub laid_as : Statement → Placed → LaidStatement
 laid_as s p = record {
   statement = s;
-  number = p.number;
   area = p.area;
-  stretch = p.stretch;
   offset = p.offset;
   size = p.size;
   thumb = p.thumb;
@@ -106,7 +105,7 @@ pub record Keeps (s : Statement) (number : Result ℕ LineKind) (p : Placed) (ol
 abbrev pub told_by : List (List ℕ) → List (List ℕ) → LaidLine → List LaidLine → Option LineKind
 told_by names settled l before = told_kind (layout_kinds settled l before ++ register_kinds names l before)
 
-abbrev pub Steps : Declared → List (List ℕ) → List (List ℕ) → LaidLine → List LaidLine → Walk → Result (Unit {0}) Fault → Type 0
+abbrev pub Steps : List LaidName → List (List ℕ) → List (List ℕ) → LaidLine → List LaidLine → Walk → Result (Unit {0}) Fault → Type 0
 Steps d names settled l before new (Ok u) = IsWalking d names settled (l ∷ before) new
 Steps d names settled l before new (Err f) = IsTold (told_at l.statement (told_by names settled l before)) f
 
@@ -114,16 +113,16 @@ Steps d names settled l before new (Err f) = IsTold (told_at l.statement (told_b
 
 -- the lines of a source, or its first with a fault that is told at it
 abbrev pub IsWalked : List Statement → Result Walk Fault → Type 0
-IsWalked statements (Ok w) = IsWalking (declared statements) (register_names statements) (settled (equals_in statements)) (laid statements) w
+IsWalked statements (Ok w) = IsWalking (declared_names statements) (register_names statements) (settled (equals_in statements)) (laid statements) w
 IsWalked statements (Err f) = IsTold (first_laid (register_names statements) (settled (equals_in statements)) (laid statements)) f
 
 -- the first lines of a source, or the first of them with a fault that is told at it
 abbrev pub IsFrontWalked : List Statement → ℕ → Result Walk Fault → Type 0
-IsFrontWalked statements n (Ok w) = IsWalking (declared statements) (register_names statements) (settled (equals_in statements)) (front_lines statements n) w
+IsFrontWalked statements n (Ok w) = IsWalking (declared_names statements) (register_names statements) (settled (equals_in statements)) (front_lines statements n) w
 IsFrontWalked statements n (Err f) = IsTold (front_laid statements n) f
 
 -- lines of a source, of which these are walked and those left
 pub record IsAlong (statements yielded left : List Statement) (w : Walk) : Type 0 where
   pub whole : statements ≡ yielded ++ left
-  pub walks : IsWalking (declared (reversed statements [])) (register_names (reversed statements [])) (settled (equals_in (reversed statements [])))
-      (laid_of (declared (reversed statements [])) (reversed yielded [])) w
+  pub walks : IsWalking (declared_names (reversed statements [])) (register_names (reversed statements [])) (settled (equals_in (reversed statements [])))
+      (laid_of (declared_names (reversed statements [])) (reversed yielded [])) w

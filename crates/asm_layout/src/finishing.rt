@@ -11,8 +11,7 @@ use crate::late::cleared;
 use crate::lines::lines_of;
 use crate::outline::Outline;
 use crate::walking::Walk;
-use asm_laying::laying::Ended;
-use asm_names::{KnownNames, Locals, final_names};
+use asm_names::{KnownNames, final_names};
 use asm_offsets::extents_are_placeable;
 use asm_pool::{LaidStatement, Layout};
 use sdt_fault::answer::Fault;
@@ -23,13 +22,12 @@ use std::alloc::Global;
 fn names_of(
     alloc: Global,
     laid: &[LaidStatement],
-    locals: &Locals,
     declared: &KnownNames,
 ) -> Result<KnownNames, NoMemory>
-    ensures { IfOk result (λ names. (statements : List Statement) → IsNamed statements laid.now locals.now declared.now → names ≡ laid_model.final_names (laid_model.laid statements)) }
+    ensures { IfOk result (λ names. (statements : List Statement) → IsNamed statements laid.now declared.now → names ≡ laid_model.final_names (laid_model.laid statements)) }
 {
     let lines = lines_of(alloc, laid)?;
-    let names = final_names(alloc, lines.as_slice(), locals, declared)?;
+    let names = final_names(alloc, lines.as_slice(), declared)?;
     Ok(names)
 }
 
@@ -44,15 +42,9 @@ pub fn finished(alloc: Global, outline: &Outline, walk: Walk) -> Result<Layout, 
         lines,
         ..
     } = walk;
-    let Ended { ends, locals } = laying.end();
-    let pools = ends.finish()?;
+    let pools = laying.end().finish()?;
     cleared(alloc, lines.as_slice(), pools.as_slice(), starts.areas())?;
-    let names = names_of(
-        alloc,
-        lines.as_slice(),
-        &locals,
-        &outline.declarations.names,
-    )?;
+    let names = names_of(alloc, lines.as_slice(), &outline.names)?;
     let areas = areas_of(alloc, starts.into_vec(), pools)?;
     Ok(Layout {
         areas: Listed::from_vec(areas),

@@ -17,9 +17,7 @@ pub fn line_of(laid: &LaidStatement) -> PlacedLine<'_>
 {
     PlacedLine {
         statement: &laid.statement,
-        number: laid.number,
         area: laid.area,
-        stretch: laid.stretch,
         offset: laid.offset,
         size: laid.size,
         thumb: laid.thumb,

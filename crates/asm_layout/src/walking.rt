@@ -2,10 +2,10 @@
 
 ghost use Rattle.std.specs.Prelude.{◌≡◌, ◌∷◌, ◌+◌, ◌<◌, [], ℕ, List, Bool, Some, length, IfOk, OnOk};
 ghost use Rattle.asm_model.specs.Labels as labels;
-ghost use Rattle.asm_model.specs.Laid.{laid_behind, reversed, Declared, LaidLine};
-ghost use Rattle.said_model.specs.Said.{AllSaid, IsSaid, LocalSaid};
+ghost use Rattle.asm_model.specs.declared.names.LaidName.{LaidName};
+ghost use Rattle.asm_model.specs.Laid.{laid_behind, reversed, LaidLine};
+ghost use Rattle.said_model.specs.Said.{AllSaid, IsSaid};
 ghost use Rattle.asm_laying.specs.Behind.{most_statements};
-ghost use Rattle.asm_laying.specs.Declaring.{declared_in};
 ghost use Rattle.asm_laying.specs.Laying as laying;
 ghost use Rattle.asm_model.specs.FaultSets as sets;
 ghost use Rattle.asm_layout.specs.Layout.{IsTold};
@@ -19,9 +19,9 @@ use asm_areas::Starts;
 use asm_checks::Checks;
 use asm_expr::kinds::earlier;
 use asm_expr::told::first_told;
-use asm_laying::defining::{Defines, defined_by};
 use asm_laying::laying::{Laid, Laying, Placed};
 use asm_model::Statement;
+use asm_names::defining::{Defines, defined_by};
 use asm_pool::LaidStatement;
 use asm_registers::Registers;
 use sdt_fault::NoMemory;
@@ -53,7 +53,6 @@ struct Judged {
 
 /// Whether a statement's name for an expression is settled; of other statements nothing is said.
 fn take_mark(equals: &mut usize, settled: &[bool], statement: &Statement) -> bool
-    requires { LocalSaid (labels.defined_by statement.now) }
     ensures mark { walking.IsMark settled.now equals.old (labels.defined_by statement.now) result }
     ensures count { walking.IsCounted settled.now equals.old (labels.defined_by statement.now) equals.new }
 {
@@ -79,9 +78,7 @@ fn laid_statement(statement: Statement, placed: Placed) -> LaidStatement
     ensures { result ≡ walking.laid_as statement placed }
 {
     let Placed {
-        number,
         area,
-        stretch,
         offset,
         size,
         thumb,
@@ -92,9 +89,7 @@ fn laid_statement(statement: Statement, placed: Placed) -> LaidStatement
     } = placed;
     LaidStatement {
         statement,
-        number,
         area,
-        stretch,
         offset,
         size,
         thumb,
@@ -108,7 +103,7 @@ fn laid_statement(statement: Statement, placed: Placed) -> LaidStatement
 impl Walk {
     /// Before the first line.
     fn new(alloc: Global, statements: &[Statement]) -> Result<Walk, NoMemory>
-        ensures { IfOk result (λ w. (d : Declared) (settled : List (List ℕ)) → walking.IsWalking d (register_names (reversed statements.now [])) settled [] w) }
+        ensures { IfOk result (λ w. (d : List LaidName) (settled : List (List ℕ)) → walking.IsWalking d (register_names (reversed statements.now [])) settled [] w) }
     {
         Ok(Walk {
             alloc,
@@ -123,20 +118,18 @@ impl Walk {
 
     /// What is told of a line more.
     fn judge(&mut self, outline: &Outline, statement: &Statement) -> Result<Judged, NoMemory>
-        requires may { laying.MayLay (declared_in outline.now.declarations) self.old.laying }
+        requires may { laying.MayLay outline.now.names self.old.laying }
         requires said { IsSaid statement.now }
-        ensures { IfOk result (λ j. (names settled : List (List ℕ)) (before : List LaidLine) → walking.IsWalking (declared_in outline.now.declarations) names settled before self.old → walking.IsMarked settled outline.now.settled.items statement.now before → walking.IsJudged (declared_in outline.now.declarations) names settled (laid_behind (declared_in outline.now.declarations) statement.now before) before self.old self.new j) }
+        ensures { IfOk result (λ j. (names settled : List (List ℕ)) (before : List LaidLine) → walking.IsWalking outline.now.names names settled before self.old → walking.IsMarked settled outline.now.settled.items statement.now before → walking.IsJudged outline.now.names names settled (laid_behind outline.now.names statement.now before) before self.old self.new j) }
     {
-        let laid = self
-            .laying
-            .lay(self.alloc, &outline.declarations, statement)?;
+        let laid = self.laying.lay(self.alloc, &outline.names, statement)?;
         let is_settled = take_mark(&mut self.equals, outline.settled.as_slice(), statement);
         let checked = self
             .checks
             .check(statement, laid.area, laid.thumb, laid.number, is_settled)?;
         let named = self
             .registers
-            .check(statement, laid.number, &outline.declarations.names)?;
+            .check(statement, laid.number, &outline.names)?;
         Ok(Judged {
             laid,
             found: first_told(checked, named),
@@ -160,7 +153,7 @@ impl Walk {
 
     /// Keeps a line, or tells its fault.
     fn keep_or_tell(&mut self, statement: Statement, judged: Judged) -> Result<(), Fault>
-        ensures { (d : Declared) (names settled : List (List ℕ)) (old : Walk) (before : List LaidLine) → walking.IsWalking d names settled before old → walking.IsJudged d names settled (laid_behind d statement before) before old self.old judged → walking.Steps d names settled (laid_behind d statement before) before self.new result }
+        ensures { (d : List LaidName) (names settled : List (List ℕ)) (old : Walk) (before : List LaidLine) → walking.IsWalking d names settled before old → walking.IsJudged d names settled (laid_behind d statement before) before old self.old judged → walking.Steps d names settled (laid_behind d statement before) before self.new result }
     {
         let Judged { laid, found } = judged;
         let Laid { number, placed, .. } = laid;
@@ -177,9 +170,9 @@ impl Walk {
 
     /// Lays a line more; or tells its fault, behind which nothing more can be laid.
     fn step(&mut self, outline: &Outline, statement: Statement) -> Result<(), Fault>
-        requires may { laying.MayLay (declared_in outline.now.declarations) self.old.laying }
+        requires may { laying.MayLay outline.now.names self.old.laying }
         requires said { IsSaid statement }
-        ensures { (names settled : List (List ℕ)) (before : List LaidLine) → walking.IsWalking (declared_in outline.now.declarations) names settled before self.old → walking.IsMarked settled outline.now.settled.items statement before → walking.Steps (declared_in outline.now.declarations) names settled (laid_behind (declared_in outline.now.declarations) statement before) before self.new result }
+        ensures { (names settled : List (List ℕ)) (before : List LaidLine) → walking.IsWalking outline.now.names names settled before self.old → walking.IsMarked settled outline.now.settled.items statement before → walking.Steps outline.now.names names settled (laid_behind outline.now.names statement before) before self.new result }
     {
         let judged = self.judge(outline, &statement)?;
         self.keep_or_tell(statement, judged)

@@ -1,20 +1,19 @@
 use Rattle.std.proofs.Common.{◌+◌, length, refl, sym, ap, ◌∙◌, subst, length-append}
 use Rattle.asm_checks.specs.Checked.{IsLine as IsChecksLine}
-use Rattle.asm_laying.specs.Declaring.{declared_in}
 use Rattle.asm_laying.specs.Laying.{Tells}
 use Rattle.asm_registers.specs.Kept.{IsLine as IsRegistersLine}
 use Rattle.asm_model.specs.Labels.{defined_by}
-use Rattle.asm_model.specs.Laid.{Declared, LaidLine, laid_behind, statements_of}
+use Rattle.asm_model.specs.Laid.{LaidLine, laid_behind, statements_of}
 use Rattle.asm_model.specs.LayoutKinds.{equal_of, equals_in}
 use Rattle.asm_layout.specs.Walking.{HasMark}
-use Rattle.asm_layout.proofs.StepLemmas.{numbers, seen_names, mark_is, count_is}
+use Rattle.asm_layout.proofs.StepLemmas.{numbers, mark_is, count_is}
 use Rattle.asm_layout.proofs.ToldLemmas.{none_first, none_second}
 use Rattle.asm_layout.proofs.walking.Walk.judge.Goals as goal
 
 pub returns : goal.returns
 returns c = λ names settled before h m.
     let s = c.args.statement.now in
-    let d : Declared = declared_in c.args.outline.now.declarations in
+    let d = c.args.outline.now.names in
     let l : LaidLine = laid_behind d s before in
     let marks = c.args.outline.now.settled.items in
     let t : Tells d l before c.lay.new.self c.in_ok-laid.laid = c.in_ok-laid.ensures before h.lays in
@@ -27,7 +26,7 @@ returns c = λ names settled before h m.
       aligned = n.exponent_is;
       known = mark_is settled marks c.args.self.now.equals (defined_by s) c.take_mark-is_settled.result (rw c.as_slice.ensures.value at c.take_mark-is_settled.ensures.mark) marked;
     } in
-    let registers_line : IsRegistersLine s c.in_ok-laid.laid.number c.args.outline.now.declarations.names l = record { said = refl; given = n.given_is; names = seen_names d s before } in
+    let registers_line : IsRegistersLine s c.in_ok-laid.laid.number c.args.outline.now.names l = record { said = refl; given = n.given_is; names = λ q. refl } in
     let checked = c.in_ok-checked.ensures.told settled l before h.checked checks_line in
     let named = c.in_ok-named.ensures.told names l before h.named registers_line in
     record {
