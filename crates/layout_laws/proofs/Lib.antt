@@ -10,3 +10,4 @@ pub mod SaidLemmas
 pub mod SettledLemmas
 pub mod SoundLemmas
 pub mod StepLemmas
+pub mod TreeLemmas

@@ -21,6 +21,7 @@ use Rattle.asm_model.specs.Forms.{same}
 use Rattle.asm_model.specs.Grammar.{Tree, Leaf, Before, Between}
 use Rattle.asm_model.specs.Limits.{string_bytes}
 use Rattle.asm_model.specs.Meaning.{named_in, entry_stands_at, stands_at, distance, between_places, related, arithmetic, logical, joined_strings, cut_string, moved_place, added_place, as_number, as_truth, as_words, as_place, truth_or, binary, unary_of, Operand, Known, Unread, value_of, known, then_of, on_both, applied, operand_of_item, operand_of_tree, meaning}
+use Rattle.layout_laws.proofs.TreeLemmas.{TreeEach}
 
 -- ---- symbols
 
@@ -48,9 +49,7 @@ ItemIs P (item.Unary op) = Unit {0}
 ItemIs P (item.Binary op) = Unit {0}
 
 abbrev pub TreeIs : (List ℕ → Type 0) → Tree → Type 0
-TreeIs P (Leaf i) = ItemIs P i
-TreeIs P (Before op t) = TreeIs P t
-TreeIs P (Between op t u) = TreeIs P t × TreeIs P u
+TreeIs P t = TreeEach (ItemIs P) t
 
 -- what stands for names with the property has symbols with it
 abbrev pub IsClosed : (List ℕ → Type 0) → List LaidName → Type 0

@@ -1,5 +1,5 @@
 -- In a source without faults each name for an expression has its final entry after as many rounds as there are lines.
-use Rattle.std.proofs.Common.{◌≡◌, ℕ, zero, suc, ◌≤◌, List, [], ◌∷◌, ◌++◌, length, Bool, true, false, not, ◌||◌, refl, sym, ◌∙◌, ap, subst, arith, Option, Some, None, length-append}
+use Rattle.std.proofs.Common.{◌≡◌, ℕ, zero, suc, ◌≤◌, List, [], ◌∷◌, ◌++◌, length, Bool, true, false, not, ◌||◌, refl, sym, ◌∙◌, ap, subst, arith, Some, length-append, Option}
 use Rattle.std.specs.List.{list_any}
 use Rattle.std.proofs.lemmas.Bool.{and_parts, or_parts}
 use Rattle.asm_model.specs.declared.exprs.Expr.{Expr}
@@ -16,56 +16,15 @@ use Rattle.asm_model.proofs.WordLemmas.{same_refl}
 use Rattle.asm_model.specs.Labels.{Defined, Unnamed, Label, Equal, MapField, RegisterName, defined_by, declared_names}
 use Rattle.asm_model.specs.Laid.{laid_of, laid, source_lines, all_entries, names_after, final_names}
 use Rattle.asm_model.specs.LayoutKinds.{equal_of, equals_in, is_settled_item, are_settled, settled_by, settled_after, settled}
-use Rattle.asm_model.specs.Trees.{grown, grown_behind, alone, tree_behind}
-use Rattle.asm_model.specs.Sound.{IsSound, IsNoPlace, HaveNoPlaces, ArePlain}
+use Rattle.asm_model.specs.Sound.{IsSound, IsNoPlace, HaveNoPlaces, ArePlain, HasNoPlace}
 use Rattle.layout_laws.proofs.EqualLemmas.{EachEqual, OfTrees, equal_all, equal_weaker, equal_both, lines_hold, lines_regular}
 use Rattle.layout_laws.proofs.RoundLemmas.{SymbolIs, ItemIs, TreeIs, tree_weaker}
 use Rattle.layout_laws.proofs.SoundLemmas.{EachSound, sound_each, equals_distinct, equals_settled, IsPlainEqual, equals_plain, IsSettledIn, settled_unique}
 use Rattle.layout_laws.proofs.StepLemmas.{EachEquated, each_weaker, IsGood, good_more, rounds, rounds_end}
+use Rattle.layout_laws.proofs.TreeLemmas.{ItemsEach, tree_each, SomeEach}
+use Rattle.asm_model.specs.Trees.{tree_behind}
 
--- ---- trees of items
-
-abbrev pub ItemsAre : (List ℕ → Type 0) → List ExprItem → Type 0
-ItemsAre P [] = Unit {0}
-ItemsAre P (i ∷ is) = ItemIs P i × ItemsAre P is
-
-abbrev pub TreesAre : (List ℕ → Type 0) → List Tree → Type 0
-TreesAre P [] = Unit {0}
-TreesAre P (t ∷ ts) = TreeIs P t × TreesAre P ts
-
-abbrev pub SomeAre : (List ℕ → Type 0) → Option (List Tree) → Type 0
-SomeAre P None = Unit {0}
-SomeAre P (Some ts) = TreesAre P ts
-
-pub grown_are : (P : List ℕ → Type 0) (i : ExprItem) (ts : List Tree) → ItemIs P i → TreesAre P ts → SomeAre P (grown i ts)
-grown_are P (item.Unary op) [] h k = tt
-grown_are P (item.Unary op) (t ∷ ts) h k = k
-grown_are P (item.Binary op) [] h k = tt
-grown_are P (item.Binary op) (u ∷ []) h k = tt
-grown_are P (item.Binary op) (u ∷ t ∷ ts) h k = ((k.1.0, k.0), k.1.1)
-grown_are P (item.Name q) ts h k = (h, k)
-grown_are P (item.Local q) ts h k = (h, k)
-grown_are P (item.Constant v) ts h k = (h, k)
-grown_are P item.Here ts h k = (h, k)
-grown_are P item.Map ts h k = (h, k)
-grown_are P item.CodeSize ts h k = (h, k)
-
-pub grown_behind_are : (P : List ℕ → Type 0) (i : ExprItem) (o : Option (List Tree)) → ItemIs P i → SomeAre P o → SomeAre P (grown_behind o i)
-grown_behind_are P i None h k = tt
-grown_behind_are P i (Some ts) h k = grown_are P i ts h k
-
-pub alone_is : (P : List ℕ → Type 0) (o : Option (List Tree)) (t : Tree) → SomeAre P o → alone o ≡ Some t → TreeIs P t
-alone_is P None t h e = absurd (cc)
-alone_is P (Some []) t h e = absurd (cc)
-alone_is P (Some (u ∷ [])) t h e = let x : u ≡ t = cc in subst (λ z. TreeIs P z) x h.0
-alone_is P (Some (u ∷ v ∷ ts)) t h e = absurd (cc)
-
-pub tree_of_items : (P : List ℕ → Type 0) (is : List ExprItem) (o : Option (List Tree)) (t : Tree) → ItemsAre P is → SomeAre P o
-    → tree_behind o is ≡ Some t → TreeIs P t
-tree_of_items P [] o t h k e = alone_is P o t k e
-tree_of_items P (i ∷ is) o t h k e = tree_of_items P is (grown_behind o i) t h.1 (grown_behind_are P i o h.0 k) e
-
--- ---- settled names are good
+-- ---- constants
 
 pub no_place_is : (P : List ℕ → Type 0) (v : Value) → IsNoPlace v → SymbolIs P v
 no_place_is P (Place s n) h = absurd h
@@ -73,13 +32,32 @@ no_place_is P (Number n) h = tt
 no_place_is P (Truth b) h = tt
 no_place_is P (Words w) h = tt
 
+-- a constant's symbol has the property
+abbrev pub HoldsConstant : (List ℕ → Type 0) → ExprItem → Type 0
+HoldsConstant P (item.Constant v) = SymbolIs P v
+HoldsConstant P _ = Unit {0}
+
+pub no_place_holds : (P : List ℕ → Type 0) (i : ExprItem) → HasNoPlace i → HoldsConstant P i
+no_place_holds P (item.Constant v) h = no_place_is P v h
+no_place_holds P i h = tt
+
+pub no_places_hold : (P : List ℕ → Type 0) (is : List ExprItem) → HaveNoPlaces is → ItemsEach (HoldsConstant P) is
+no_places_hold P [] h = tt
+no_places_hold P (i ∷ is) h = (no_place_holds P i h.0, no_places_hold P is h.1)
+
+-- ---- settled names are good
+
+pub tree_of_items : (P : List ℕ → Type 0) (is : List ExprItem) (o : Option (List Tree)) (t : Tree) → ItemsEach (ItemIs P) is → SomeEach (ItemIs P) o
+    → tree_behind o is ≡ Some t → TreeIs P t
+tree_of_items P = tree_each (ItemIs P)
+
 pub either_good : (X : Type 0) (a b : Bool) → (a ≡ false → X) → (b ≡ true → X) → (not a || b) ≡ true → X
 either_good X false b f g h = f refl
 either_good X true b f g h = g h
 
 pub items_are : (P : List ℕ → Type 0) (E : List (List ℕ × Expr)) (S : List (List ℕ))
     → ((r : List ℕ) → list_any (λ e. same r e.0) E ≡ false → P r) → ((r : List ℕ) → list_any (same r) S ≡ true → P r)
-    → (is : List ExprItem) → are_settled E S is ≡ true → HaveNoPlaces is → ItemsAre P is
+    → (is : List ExprItem) → are_settled E S is ≡ true → HaveNoPlaces is → ItemsEach (ItemIs P) is
 items_are P E S free deep [] h k = tt
 items_are P E S free deep (i ∷ is) h k =
     let p = and_parts (is_settled_item E S i) (are_settled E S is) h in (by_item i p.0 (k.0, tt), items_are P E S free deep is p.1 k.1)

@@ -30,7 +30,8 @@ use Rattle.layout_laws.proofs.SoundLemmas.{IsPlainEqual, equals_plain}
 use Rattle.layout_laws.proofs.StepLemmas.{name_of, EachEquated, HoldsOf, IsMade, IsRegular, AreRegular, IsGood, each_weaker}
 use Rattle.source_model.specs.Contexts.{Context, sees, value_of}
 use Rattle.source_laws.specs.Laws.{context_behind}
-use Rattle.source_laws.proofs.TreeLemmas.{TreeEach, HoldsConstant, no_places_hold, tree_each}
+use Rattle.layout_laws.proofs.SettledLemmas.{HoldsConstant, no_places_hold}
+use Rattle.layout_laws.proofs.TreeLemmas.{TreeEach, tree_each}
 
 -- ---- values
 

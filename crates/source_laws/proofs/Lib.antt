@@ -6,7 +6,6 @@ pub mod ListedLemmas
 pub mod ObjectLemmas
 pub mod SizeLemmas
 pub mod ThingLemmas
-pub mod TreeLemmas
 pub mod UnitLemmas
 pub mod WithinLemmas
 pub mod WordLemmas

@@ -16,7 +16,8 @@ use Rattle.asm_model.specs.Meaning.{named_in, binary, unary_of, Known, value_of,
 use Rattle.asm_model.proofs.LineLemmas.{applied_known, both_empty}
 use Rattle.asm_model.specs.PlacedLines.{IsName}
 use Rattle.layout_laws.proofs.RoundLemmas.{ResultIs}
-use Rattle.source_laws.proofs.TreeLemmas.{TreeEach, HoldsConstant}
+use Rattle.layout_laws.proofs.SettledLemmas.{HoldsConstant}
+use Rattle.layout_laws.proofs.TreeLemmas.{TreeEach}
 use Rattle.said_model.specs.Named.{ItemNamed}
 use Rattle.stand_laws.proofs.LiteralLemmas.{Plus, moves, adds, plus_moved, plus_added, Later, Loads, exact, whole, places_kept}
 use Rattle.layout_laws.proofs.NamedLemmas.{some_none as not_in}

@@ -14,7 +14,8 @@ use Rattle.asm_model.specs.Kinds.{told_kind}
 use Rattle.asm_model.specs.Meaning.{named_in, entry_stands_at, stands_at, less, moved_place, added_place, distance, between_places, as_number, as_place, binary, value_of, on_both, meaning}
 use Rattle.asm_model.proofs.LineLemmas.{number_more}
 use Rattle.layout_laws.proofs.RoundLemmas.{ResultIs}
-use Rattle.source_laws.proofs.TreeLemmas.{TreeEach, HoldsConstant}
+use Rattle.layout_laws.proofs.SettledLemmas.{HoldsConstant}
+use Rattle.layout_laws.proofs.TreeLemmas.{TreeEach}
 
 -- ---- numbers modulo 2^32
 

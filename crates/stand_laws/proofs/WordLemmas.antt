@@ -41,7 +41,8 @@ use Rattle.source_model.specs.SourceFaults.{value_faults, word_of}
 use Rattle.source_model.specs.Units.{Word, Stored, Nothing, placed, stored, units}
 use Rattle.source_model.specs.ValueKinds.{statement_kinds, literal_kinds as value_literal_kinds}
 use Rattle.source_laws.specs.Laws.{context_behind, word_among}
-use Rattle.source_laws.proofs.TreeLemmas.{ItemsEach, TreeEach, no_place_holds, tree_each}
+use Rattle.layout_laws.proofs.SettledLemmas.{no_place_holds}
+use Rattle.layout_laws.proofs.TreeLemmas.{ItemsEach, TreeEach, tree_each}
 use Rattle.source_laws.proofs.FaultlessLemmas.{layout_sound}
 use Rattle.source_laws.proofs.ListLemmas.{same_first, same_rest}
 use Rattle.source_laws.proofs.ThingLemmas.{own_words, known_extent}

@@ -1,12 +1,9 @@
 -- What holds of the items of an expression holds of its tree.
-use Rattle.std.proofs.Common.{◌≡◌, ℕ, List, [], ◌∷◌, subst, Option, Some, None}
+use Rattle.std.proofs.Common.{◌≡◌, List, [], ◌∷◌, subst, Option, Some, None}
 use Rattle.asm_model.specs.declared.exprs.ExprItem.{ExprItem}
 use Rattle.asm_model.specs.declared.exprs.ExprItem.TheVariants as item
 use Rattle.asm_model.specs.Grammar.{Tree, Leaf, Before, Between}
 use Rattle.asm_model.specs.Trees.{grown, grown_behind, alone, tree_behind}
-use Rattle.asm_model.specs.Sound.{HasNoPlace, HaveNoPlaces}
-use Rattle.layout_laws.proofs.RoundLemmas.{SymbolIs}
-use Rattle.layout_laws.proofs.SettledLemmas.{no_place_is}
 
 -- ---- the items of trees
 
@@ -54,18 +51,3 @@ pub tree_each : (Q : ExprItem → Type 0) (is : List ExprItem) (o : Option (List
     → TreeEach Q t
 tree_each Q [] o t h k e = alone_each Q o t k e
 tree_each Q (i ∷ is) o t h k e = tree_each Q is (grown_behind o i) t h.1 (behind_each Q i o h.0 k) e
-
--- ---- constants
-
--- a constant's symbol has the property
-abbrev pub HoldsConstant : (List ℕ → Type 0) → ExprItem → Type 0
-HoldsConstant P (item.Constant v) = SymbolIs P v
-HoldsConstant P _ = Unit {0}
-
-pub no_place_holds : (P : List ℕ → Type 0) (i : ExprItem) → HasNoPlace i → HoldsConstant P i
-no_place_holds P (item.Constant v) h = no_place_is P v h
-no_place_holds P i h = tt
-
-pub no_places_hold : (P : List ℕ → Type 0) (is : List ExprItem) → HaveNoPlaces is → ItemsEach (HoldsConstant P) is
-no_places_hold P [] h = tt
-no_places_hold P (i ∷ is) h = (no_place_holds P i h.0, no_places_hold P is h.1)
