@@ -1,3 +1,4 @@
 pub mod NamingLemmas
 pub mod TableLemmas
 pub mod PassLemmas
+pub mod KeptLemmas

@@ -15,11 +15,16 @@ use Rattle.said_model.specs.Said.{IsSaid, AllSaid, HasTexts, AllHaveTexts}
 use Rattle.source_laws.specs.Laws.{IsNoCode16, NoCode16}
 use Rattle.asm_reading.specs.declared.reading.Reading.{Reading}
 use Rattle.asm_reading.specs.Laws.{AreFit}
-use Rattle.asm_reading.specs.Reading.{IsReading, StaysInArm}
-use Rattle.asm_reading.proofs.ReadLemmas.{AllKept, all_kept}
+use Rattle.asm_reading.specs.Reading.{statements_in, IsReading, StaysInArm}
+use Rattle.asm_reading.proofs.ReadLemmas.{AllKept, all_kept, named_kept}
+use Rattle.asm_locals.proofs.KeptLemmas.{IsStable, said_named, texts_named, fit_named, defined_named, imported_named, loaded_named}
 
 abbrev IsFine : Statement → Type 0
 IsFine s = IsSaid s × HasTexts s × IsFit s × HasName (defined_by s) × HasImport (imported_in s.what) × LoadNamed s.what
+
+stable : IsStable IsFine
+stable k t s h =
+    (said_named k t s h.0, texts_named k t s h.1, fit_named k t s h.2, defined_named k t s h.3, imported_named k t s h.4, loaded_named k t s h.5)
 
 kept_reversed : (P : Statement → Type 0) (ss after : List Statement) → AllKept P ss → AllKept P after → AllKept P (reversed ss after)
 kept_reversed P [] after h k = k
@@ -66,7 +71,8 @@ all_fine ss h = record {
 reading_kept : LinesAreSaid → LinesHaveTexts → LinesAreFit → LinesAreNamed → LoadsAreNamed → (lines : List Flat) (r : Reading) → IsReading lines r
     → AllKept IsFine r.statements.items
 reading_kept said texts fit named loads lines r h =
-    rw h.statements (all_kept IsFine (λ f s k. (said f s k, texts f s k, fit f s k, (named f s k).0, (named f s k).1, loads f s k)) lines h.says h.say)
+    rw h.statements (named_kept IsFine stable (statements_in h.says)
+    (all_kept IsFine (λ f s k. (said f s k, texts f s k, fit f s k, (named f s k).0, (named f s k).1, loads f s k)) lines h.says h.say))
 
 pub readings_are_fit : LinesAreSaid → LinesHaveTexts → LinesAreFit → LinesAreNamed → LoadsAreNamed → (lines : List Flat) (r : Reading) → IsReading lines r
     → AreFit (reversed r.statements.items [])

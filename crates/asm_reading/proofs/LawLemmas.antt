@@ -3,6 +3,7 @@ use Rattle.std.proofs.Common.{◌≡◌, ◌∙◌, Bool, true, false, List, [],
 use Rattle.asm_arm.specs.Says.{OneArm}
 use Rattle.asm_model.specs.declared.lines.Flat.{Flat}
 use Rattle.asm_model.specs.Tokens.{OneScan}
+use Rattle.asm_locals.specs.Naming.{in_names}
 use Rattle.asm_reading.specs.Laws.{OneLine, OneReading}
 use Rattle.asm_reading.specs.Reading.{Said, Scan, has_dollar, read_as, says_end, UnlessEnd, Say, statements_in, first_unread, read_first}
 
@@ -33,7 +34,7 @@ one_say law (f ∷ fs) (p ∷ ps) (q ∷ qs) h k =
 pub one_reading : OneLine → OneReading
 one_reading law lines a b h k =
     let e : h.says ≡ k.says = one_say law lines h.says k.says h.say k.say in (
-      h.statements ∙ ap (λ (l : List (Flat × Said)). statements_in l) e ∙ sym k.statements,
+      h.statements ∙ ap (λ (l : List (Flat × Said)). in_names (statements_in l)) e ∙ sym k.statements,
       h.unread ∙ ap (λ (l : List (Flat × Said)). first_unread l) e ∙ sym k.unread,
       h.before ∙ ap (λ (l : List (Flat × Said)). length (statements_in (read_first l))) e ∙ sym k.before,
     )

@@ -14,8 +14,11 @@ use Rattle.asm_said.specs.Laws.{LinesAreSaid}
 use Rattle.said_model.specs.Said.{IsSaid, AllSaid}
 use Rattle.asm_reading.specs.declared.reading.Reading.{Reading}
 use Rattle.asm_reading.specs.declared.reading.Unread.{Unread}
-use Rattle.asm_reading.specs.Reading.{IsShort, AllShort, Said, changes_state, without_states, has_dollar, read_as, SaysLine, says_end, UnlessEnd, Say, statement_in, statements_in, unread_in, first_unread, is_unread, read_first, before_behind, Keeps, IsReading, StaysInArm, InArm, IsSoFar}
+use Rattle.asm_reading.specs.Reading.{IsShort, AllShort, Said, changes_state, without_states, has_dollar, read_as, SaysLine, says_end, UnlessEnd, Say, statement_in, statements_in, unread_in, first_unread, is_unread, read_first, before_behind, Keeps, IsWritten, IsReading, StaysInArm, IsSoFar}
 use Rattle.base_lemmas.proofs.BaseLemmas.{rest_of}
+use Rattle.asm_locals.specs.Naming.{Targets, named_what, in_names}
+use Rattle.asm_locals.proofs.KeptLemmas.{IsStable, all_in_names, as_many, said_named}
+use Rattle.std.specs.List.{AllByRecursion}
 
 -- ---- lists
 
@@ -72,7 +75,8 @@ pub few_read : (lines : List Flat) (r : Reading) → IsReading lines r → lengt
 few_read lines r h =
     let a : length (statements_in h.says) ≤ length h.says = few h.says in
     let b : length h.says ≤ length lines = no_more lines h.says h.say in
-    rw h.statements (omega arith)
+    let k : length (in_names (statements_in h.says)) ≡ length (statements_in h.says) = as_many (statements_in h.says) in
+    rw h.statements (omega (arith, k))
 
 -- ---- each statement
 
@@ -84,16 +88,11 @@ abbrev pub IsKept : (Statement → Type 0) → Statement → Type 0
 IsKept P s = P s × StaysInArm s.what
 
 abbrev pub AllKept : (Statement → Type 0) → List Statement → Type 0
-AllKept P [] = Unit {0}
-AllKept P (s ∷ ss) = IsKept P s × AllKept P ss
+AllKept P ss = AllByRecursion (IsKept P) ss
 
 said_of : (ss : List Statement) → AllKept IsSaid ss → AllSaid ss
 said_of [] h = tt
 said_of (s ∷ ss) h = (h.0.0, said_of ss h.1)
-
-arm_of : (P : Statement → Type 0) (ss : List Statement) → AllKept P ss → InArm ss
-arm_of P [] h = tt
-arm_of P (s ∷ ss) h = (h.0.1, arm_of P ss h.1)
 
 kept_joined : (P : Statement → Type 0) (xs ys : List Statement) → AllKept P xs → AllKept P ys → AllKept P (xs ++ ys)
 kept_joined P [] ys h k = k
@@ -128,6 +127,22 @@ all_kept P law (f ∷ fs) (p ∷ ps) h =
     by_end : (b : Bool) → UnlessEnd b ps (Say fs ps) → (Say fs ps → AllKept P (statements_in ps)) → AllKept P (statements_in ps)
     by_end true e rest = let z : ps ≡ [] = e in rw z tt
     by_end false e rest = rest e
+
+-- naming keeps the state
+named_stays : (t : Targets) (w : What) → StaysInArm w → StaysInArm (named_what t w)
+named_stays t (what.Directive line.Code16) h = absurd h
+named_stays t what.Nothing h = tt
+named_stays t (what.Arm l) h = tt
+named_stays t (what.Thumb l) h = tt
+named_stays t (what.Pseudo l) h = tt
+named_stays t (what.Directive l) h = tt
+
+pub named_kept : (P : Statement → Type 0) → IsStable P → (ss : List Statement) → AllKept P ss → AllKept P (in_names ss)
+named_kept P stable ss h = all_in_names (IsKept P) (λ k t s p. (stable k t s p.0, named_stays t s.what p.1)) ss h
+
+pub reading_said : LinesAreSaid → (lines : List Flat) (r : Reading) → IsReading lines r → AllSaid r.statements.items
+reading_said law lines r h =
+    said_of r.statements.items (rw h.statements (named_kept IsSaid said_named (statements_in h.says) (all_kept IsSaid law lines h.says h.say)))
 
 -- ---- the lines before the first that can't be read
 
@@ -170,23 +185,13 @@ behind_read done f (Err k) = sym (ap (λ (l : List (Flat × Said)). length (stat
 
 -- ---- the end
 
--- a reading of lines, as its clauses have it
-pub record Ends (lines : List Flat) (r : Reading) : Type 0 where
-  pub reads : IsReading lines r
-  pub said : AllSaid r.statements.items
-  pub arm : InArm r.statements.items
-  pub few : length r.statements.items ≤ length lines
+ends_with : (lines : List Flat) (r : Reading) (ps : List (Flat × Said)) → Say lines ps → r.statements.items ≡ statements_in ps → r.unread ≡ first_unread ps
+    → r.before ≡ length (statements_in (read_first ps)) → IsWritten lines r
+ends_with lines r ps h s u b = record { says = ps; say = h; statements = s; unread = u; before = b }
 
-ends_with : LinesAreSaid → (lines : List Flat) (r : Reading) (ps : List (Flat × Said)) → Say lines ps → r.statements.items ≡ statements_in ps → r.unread ≡ first_unread ps
-    → r.before ≡ length (statements_in (read_first ps)) → Ends lines r
-ends_with law lines r ps h s u b =
-    let kept : AllKept IsSaid r.statements.items = rw s (all_kept IsSaid law lines ps h) in
-    let reads : IsReading lines r = record { says = ps; say = h; statements = s; unread = u; before = b } in
-    record { reads = reads; said = said_of r.statements.items kept; arm = arm_of IsSaid r.statements.items kept; few = few_read lines r reads }
-
-pub at_the_end : LinesAreSaid → (lines left : List Flat) (r : Reading) → length left < 1 → IsSoFar lines left r → Ends lines r
-at_the_end law lines left r less h =
-    ends_with law lines r h.done
+pub at_the_end : (lines left : List Flat) (r : Reading) → length left < 1 → IsSoFar lines left r → IsWritten lines r
+at_the_end lines left r less h =
+    ends_with lines r h.done
     (subst (λ (ps : List (Flat × Said)). Say lines ps) (append_nil h.done) (h.more [] (nothing left less))) h.statements h.unread h.before
 
 -- ---- a line more
@@ -221,10 +226,10 @@ counts_more done f s old new k h u b = by_unread (first_unread done) refl
         ∙ behind_unread s v old.before (length new.statements.items) ∙ b
         ∙ sym (ap (λ (l : List (Flat × Said)). length (statements_in l)) (first_some done ((f, s) ∷ []) v e))
 
-pub at_end_line : LinesAreSaid → (lines left rest : List Flat) (f : Flat) (s : Said) (old new : Reading) → left ≡ f ∷ rest → SaysLine f s → says_end s ≡ true
-    → Keeps f s old new → IsSoFar lines left old → Ends lines new
-at_end_line law lines left rest f s old new at says e k h =
-    ends_with law lines new (h.done ++ (f, s) ∷ [])
+pub at_end_line : (lines left rest : List Flat) (f : Flat) (s : Said) (old new : Reading) → left ≡ f ∷ rest → SaysLine f s → says_end s ≡ true
+    → Keeps f s old new → IsSoFar lines left old → IsWritten lines new
+at_end_line lines left rest f s old new at says e k h =
+    ends_with lines new (h.done ++ (f, s) ∷ [])
     (h.more ((f, s) ∷ []) (subst (λ (l : List Flat). Say l ((f, s) ∷ [])) (sym at) (refl, says, rw e refl)))
     (kept_more h.done f s old new k h.statements) (told_more h.done f s old new k h.unread)
     (counts_more h.done f s old new k h.statements h.unread h.before)

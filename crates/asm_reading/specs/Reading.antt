@@ -6,6 +6,7 @@ use Rattle.std.specs.List.{list_any}
 use Rattle.sdt_fault.specs.declared.kinds.LineKind.{LineKind}
 use Rattle.sdt_fault.specs.declared.kinds.LineKind.TheVariants.{Syntax, UnknownWord}
 use Rattle.asm_arm.specs.Says.{SaysArm}
+use Rattle.asm_locals.specs.Naming.{in_names}
 use Rattle.asm_model.specs.declared.directives.DirectiveLine.TheVariants as line
 use Rattle.asm_model.specs.declared.lines.Flat.{Flat}
 use Rattle.asm_model.specs.declared.statements.Statement.{Statement}
@@ -135,11 +136,20 @@ pub record Keeps (f : Flat) (s : Said) (old new : Reading) : Type 0 where
   pub told : new.unread ≡ or_else old.unread (unread_in f s)
   pub counts : new.before ≡ before_behind s old.unread old.before (length new.statements.items)
 
--- the statements of the lines that can be read, the first that can't, and how many statements stand before it
-pub record IsReading (lines : List Flat) (r : Reading) : Type 0 where
+-- the statements of the lines that can be read, as they are written, the first line that can't be read, and how many
+-- statements stand before it
+pub record IsWritten (lines : List Flat) (r : Reading) : Type 0 where
   pub says : List (Flat × Said)
   pub say : Say lines says
   pub statements : r.statements.items ≡ statements_in says
+  pub unread : r.unread ≡ first_unread says
+  pub before : r.before ≡ length (statements_in (read_first says))
+
+-- the same, with names for local labels
+pub record IsReading (lines : List Flat) (r : Reading) : Type 0 where
+  pub says : List (Flat × Said)
+  pub say : Say lines says
+  pub statements : r.statements.items ≡ in_names (statements_in says)
   pub unread : r.unread ≡ first_unread says
   pub before : r.before ≡ length (statements_in (read_first says))
 
@@ -148,11 +158,6 @@ pub record IsReading (lines : List Flat) (r : Reading) : Type 0 where
 abbrev pub StaysInArm : What → Type 0
 StaysInArm (what.Directive line.Code16) = ⊥
 StaysInArm _ = Unit {0}
-
--- no statement says CODE16
-abbrev pub InArm : List Statement → Type 0
-InArm [] = Unit {0}
-InArm (s ∷ ss) = StaysInArm s.what × InArm ss
 
 -- ---- steps
 

@@ -12,6 +12,7 @@ use asm_arm::parse_arm;
 use asm_expr::operands::piece_of;
 use asm_lines::scan::one_scan;
 use asm_lines::tokens;
+use asm_locals::name_locals;
 use asm_model::{DirectiveLine, Flat, Statement, Token, TokenKind, What};
 use asm_said::laws::lines_are_said;
 use sdt_fault::answer::Fault;
@@ -225,16 +226,11 @@ fn keep(alloc: Global, reading: &mut Reading, line: &Flat, said: Said) -> Result
     Ok(())
 }
 
-/// The statements of lines of ARM state, and the first line that can't be read: UnknownWord where it says CODE16 or CODE32,
-/// Syntax where a string or a character holds a dollar, and the faults of `parse_arm`.
-pub fn read_lines(alloc: Global, lines: &[Flat]) -> Result<Reading, NoMemory>
+/// What lines say, with local labels as they are written.
+fn read_as_written(alloc: Global, lines: &[Flat]) -> Result<Reading, NoMemory>
     requires { reading_of.AllShort lines.now }
-    ensures reads { IfOk result (λ reading. reading_of.IsReading lines.now reading) }
-    ensures said { IfOk result (λ reading. AllSaid reading.statements.items) }
-    ensures arm { IfOk result (λ reading. reading_of.InArm reading.statements.items) }
-    ensures few { IfOk result (λ reading. length reading.statements.items ≤ length lines.now) }
+    ensures reads { IfOk result (λ reading. reading_of.IsWritten lines.now reading) }
 {
-    lines_are_said();
     let mut reading = Reading {
         statements: Vec::new(alloc),
         unread: None,
@@ -255,4 +251,25 @@ pub fn read_lines(alloc: Global, lines: &[Flat]) -> Result<Reading, NoMemory>
             }
         }
     }
+}
+
+/// The statements of lines of ARM state with names for local labels, and the first line that can't be read: UnknownWord
+/// where it says CODE16 or CODE32, Syntax where a string or a character holds a dollar, and the faults of `parse_arm`.
+pub fn read_lines(alloc: Global, lines: &[Flat]) -> Result<Reading, NoMemory>
+    requires { reading_of.AllShort lines.now }
+    ensures reads { IfOk result (λ reading. reading_of.IsReading lines.now reading) }
+    ensures said { IfOk result (λ reading. AllSaid reading.statements.items) }
+    ensures few { IfOk result (λ reading. length reading.statements.items ≤ length lines.now) }
+{
+    lines_are_said();
+    let Reading {
+        statements,
+        unread,
+        before,
+    } = read_as_written(alloc, lines)?;
+    Ok(Reading {
+        statements: name_locals(alloc, statements)?,
+        unread,
+        before,
+    })
 }

@@ -34,9 +34,9 @@ use Rattle.asm_arm.specs.Lists as lists
 use Rattle.asm_arm.specs.Operands.{Cuts, none, one, two, three, four, more, cut, both, followed, without_first, no_register, register}
 use Rattle.asm_arm.specs.Words.{shape_of}
 use Rattle.said_model.specs.Named.{LoadNamed}
-use Rattle.said_model.specs.Said.{IsRead, RegisterSaid, OperationSaid, HalfSaid, HalfOffsetSaid, ArmSaid, PseudoSaid, LoadsBare}
+use Rattle.said_model.specs.Said.{IsRead, RegisterSaid, OperationSaid, HalfSaid, HalfOffsetSaid, ArmSaid, PseudoSaid, LoadsPlain}
 use Rattle.asm_said.proofs.AddressLemmas.{followed_gives, OffsetSaid, AddressedSaid, PlacedSaid, before_said, after_said, before_as_said, after_as_said, half_offset_said}
-use Rattle.asm_said.proofs.BareLemmas.{IsLoaded, parsed_loaded}
+use Rattle.asm_said.proofs.LoadedLemmas.{IsLoaded, parsed_loaded}
 use Rattle.asm_said.proofs.DirectiveLemmas.{any_gives}
 use Rattle.asm_said.proofs.FormLemmas.{CutsHaveForm, SomeHaveForm, cuts_form, without_first_form, base_form}
 use Rattle.asm_said.proofs.GivesLemmas.{Gives, OptionGives, equal_gives, mapped_gives, both_give, cond_gives}
@@ -50,7 +50,7 @@ abbrev pub InstructionSaid : What → Type 0
 InstructionSaid what.Nothing = ⊥
 InstructionSaid (what.Arm l) = ArmSaid l
 InstructionSaid (what.Thumb l) = ⊥
-InstructionSaid (what.Pseudo l) = PseudoSaid l × LoadsBare (what.Pseudo l) × LoadNamed (what.Pseudo l)
+InstructionSaid (what.Pseudo l) = PseudoSaid l × LoadsPlain (what.Pseudo l) × LoadNamed (what.Pseudo l)
 InstructionSaid (what.Directive l) = ⊥
 
 abbrev pub Said : Result What LineKind → Type 0

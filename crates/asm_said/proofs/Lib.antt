@@ -1,11 +1,10 @@
 pub mod AddressLemmas
 pub mod ArmLemmas
-pub mod BareLemmas
 pub mod DirectiveLemmas
 pub mod FormLemmas
 pub mod GivesLemmas
-pub mod LabelLemmas
 pub mod LineLemmas
+pub mod LoadedLemmas
 pub mod ListLemmas
 pub mod NameLemmas
 pub mod OperandLemmas

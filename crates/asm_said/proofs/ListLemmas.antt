@@ -54,13 +54,13 @@ range_of_said a b h k =
 pub item_said : (text : List ℕ) (ts : List Token) → EachHasForm text ts → Gives ItemSaid (item text ts)
 item_said text [] f = tt
 item_said text (t ∷ []) f =
-    mapped_gives RegisterSaid ItemSaid (λ r. entry.One r) (register_of t.kind (piece text t)) (λ r p. p) (register_of_said t.kind (piece text t) f.0)
+    mapped_gives RegisterSaid ItemSaid (λ r. entry.One r) (register_of t.kind (piece text t)) (λ r p. p) (register_of_said t.kind (piece text t))
 item_said text (t ∷ u ∷ []) f = tt
 item_said text (t ∷ u ∷ v ∷ []) f =
     let first = register_of t.kind (piece text t) in
     let last = register_of v.kind (piece text v) in
     cond_gives ItemSaid (same (piece text u) (codes "-")) (range_of first last) (Err Syntax)
-    (range_of_said first last (register_of_said t.kind (piece text t) f.0) (register_of_said v.kind (piece text v) f.1.1.0)) tt
+    (range_of_said first last (register_of_said t.kind (piece text t)) (register_of_said v.kind (piece text v))) tt
 item_said text (t ∷ u ∷ v ∷ w ∷ ts) f = tt
 
 pub items_said : (text : List ℕ) (os : List (List Token)) → AllHaveForm text os → Gives AllItemsSaid (items text os)

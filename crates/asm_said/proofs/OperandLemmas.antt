@@ -1,4 +1,4 @@
--- Registers and second operands: numbers of registers are below 16, and names in their place begin with no bar.
+-- Registers and second operands: numbers of registers are below 16.
 use Rattle.std.proofs.Common.{ℕ, ◌<◌, List, [], ◌∷◌, refl, arith, Option, Some, None}
 use Rattle.std.specs.Prelude.{codes, Result, Ok, Err}
 use Rattle.sdt_fault.specs.declared.kinds.LineKind.{LineKind}
@@ -15,8 +15,7 @@ use Rattle.asm_model.specs.Parts.{piece}
 use Rattle.asm_model.specs.Registers.{numbered_register, special_register, call_register, register_named}
 use Rattle.asm_model.specs.Says.{on_both, mapped, between_bars, Expression}
 use Rattle.asm_model.specs.Tokens.{is_called}
-use Rattle.asm_model.specs.Sound.{IsBare}
-use Rattle.layout_laws.proofs.LineLemmas.{HasForm, EachHasForm, word_bare}
+use Rattle.layout_laws.proofs.LineLemmas.{EachHasForm}
 use Rattle.asm_arm.specs.declared.operands.Scale.{Scale}
 use Rattle.asm_arm.specs.declared.operands.Scale.TheVariants as scale
 use Rattle.asm_arm.specs.declared.operands.Second.{Second}
@@ -61,23 +60,23 @@ register_small s =
     or_else_gives IsRegister (numbered_register s) _ (numbered_small s)
     (or_else_gives IsRegister (special_register s) (call_register s) (special_small s) (call_small s))
 
-pub named_said : (s : List ℕ) (o : Option ℕ) → OptionGives IsRegister o → IsBare s → RegisterSaid (named s o)
-named_said s (Some n) h b = h
-named_said s None h b = b
+pub named_said : (s : List ℕ) (o : Option ℕ) → OptionGives IsRegister o → RegisterSaid (named s o)
+named_said s (Some n) h = h
+named_said s None h = tt
 
-pub register_of_said : (k : TokenKind) (s : List ℕ) → HasForm k s → Gives RegisterSaid (register_of k s)
-register_of_said kind.Name s h = named_said s (register_named s) (register_small s) (word_bare kind.Name s s h refl)
-register_of_said kind.Barred s h = word_bare kind.Barred s (between_bars s) h refl
-register_of_said kind.Number s h = tt
-register_of_said kind.Quoted s h = tt
-register_of_said kind.Character s h = tt
-register_of_said kind.Braced s h = tt
-register_of_said kind.Local s h = tt
-register_of_said kind.Sign s h = tt
+pub register_of_said : (k : TokenKind) (s : List ℕ) → Gives RegisterSaid (register_of k s)
+register_of_said kind.Name s = named_said s (register_named s) (register_small s)
+register_of_said kind.Barred s = tt
+register_of_said kind.Number s = tt
+register_of_said kind.Quoted s = tt
+register_of_said kind.Character s = tt
+register_of_said kind.Braced s = tt
+register_of_said kind.Local s = tt
+register_of_said kind.Sign s = tt
 
 pub register_said : (text : List ℕ) (ts : List Token) → EachHasForm text ts → Gives RegisterSaid (register text ts)
 register_said text [] h = tt
-register_said text (t ∷ []) h = register_of_said t.kind (piece text t) h.0
+register_said text (t ∷ []) h = register_of_said t.kind (piece text t)
 register_said text (t ∷ u ∷ ts) h = tt
 
 -- ---- shifts and second operands

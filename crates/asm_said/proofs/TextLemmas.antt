@@ -35,7 +35,7 @@ use Rattle.asm_model.specs.Operands.{operands}
 use Rattle.asm_model.specs.Parts.{piece}
 use Rattle.asm_model.specs.Says.{Form, bare, name, imported, expression, expressions, area, register, boundary, refused, form_of_directive, on_both, mapped, name_of, name_alone, weak_mark, import_of, register_alone, Expression, Expressions, SomeExpressions, Area, Register, Aligned, bare_of, Reads, label_of, label_field, Sentence, sentence, directive_of, statement_of, SaysAs, SaysDirective}
 use Rattle.asm_model.specs.Tokens.{first_due, Tokens, Scans}
-use Rattle.asm_model.specs.Labels.{LocalLabel, Label, number_in, labelled, field_defines, defined_by, imported_in}
+use Rattle.asm_model.specs.Labels.{field_defines, defined_by, imported_in}
 use Rattle.asm_model.specs.PlacedLines.{HasName, HasImport}
 use Rattle.layout_laws.proofs.LineLemmas.{HasForm, EachHasForm, OptionHasForm, tokens_form, sentence_form}
 use Rattle.asm_model.specs.Sound.{HaveNoPlaces}
@@ -308,21 +308,13 @@ no_zeroes (n ∷ ns) h = (h.0.0, no_zeroes ns h.1)
 pub lines_have_texts : (flat : Flat) (s : Statement) → SaysArm flat (Ok (Some s)) → HasTexts s
 lines_have_texts flat s h = no_zeroes (said_names s) (lines_are_fine flat s h).0
 
-pub labelled_named : (n : List ℕ) → HasName (labelled n)
-labelled_named [] = tt
-labelled_named (c ∷ cs) = by_test (c == 124)
-  where
-    by_test : (b : Bool) → HasName (cond b (LocalLabel (number_in cs)) (Label (c ∷ cs)))
-    by_test true = tt
-    by_test false = tt
-
 pub defined_named : (o : Option (List ℕ)) (w : What) → AllByRecursion IsText (label_names o ++ what_names w) → HasName (field_defines o w)
 defined_named None w h = tt
+defined_named (Some n) (what.Directive line.Rout) h = tt
 defined_named (Some n) (what.Directive (line.Equ e)) h = h.0.1
 defined_named (Some n) (what.Directive (line.Rn r)) h = h.0.1
 defined_named (Some n) (what.Directive (line.Field e)) h = h.0.1
-defined_named (Some n) (what.Directive line.Rout) h = tt
-defined_named (Some n) w h = labelled_named n
+defined_named (Some n) w h = h.0.1
 
 pub imported_named : (o : Option (List ℕ)) (w : What) → AllByRecursion IsText (label_names o ++ what_names w) → HasImport (imported_in w)
 imported_named None (what.Directive (line.Import n weak)) h = h.0.1

@@ -1,6 +1,5 @@
 -- What a line says is a statement as layout and emission ask for it: expressions are what tokens spell, names have a
--- character and begin with no bar, a local label has two digits at most, registers are 0 to 15, and what an instruction's form leaves out is
--- register 0. This project's.
+-- character, registers are 0 to 15, and what an instruction's form leaves out is register 0. This project's.
 use Rattle.std.specs.Prelude.{ℕ, List, Some, Ok}
 use Rattle.asm_model.specs.declared.lines.Flat.{Flat}
 use Rattle.asm_model.specs.declared.exprs.Expr.{Expr}
