@@ -1,5 +1,5 @@
 -- A line without a dollar has none in its strings and characters.
-use Rattle.std.proofs.Common.{◌≡◌, ℕ, zero, suc, ◌-◌, Bool, true, false, ◌||◌, List, [], ◌∷◌, take, drop, Ok, Err, refl}
+use Rattle.std.proofs.Common.{◌≡◌, ℕ, zero, suc, ◌-◌, Bool, true, false, List, [], ◌∷◌, take, drop, Ok, Err, refl}
 use Rattle.std.specs.List.{list_any}
 use Rattle.asm_model.specs.declared.tokens.Token.{Token}
 use Rattle.asm_reading.specs.Reading.{Scan, is_quotation, is_dollar, holds_dollar, has_dollar}

@@ -1,7 +1,5 @@
 -- Lines that are read one after the other.
-use Rattle.std.proofs.Common.{◌≡◌, ℕ, ◌≤◌, ◌<◌, suc, ◌+◌, ◌-◌, Bool, true, false, cond, List, [], ◌∷◌, ◌++◌, length, take, drop, Option, Some, None, Ok, Err, refl, sym, ap, ◌∙◌, subst, arith, append_assoc, length-append}
-use Rattle.std.specs.Prelude.{get_or}
-use Rattle.std.proofs.lemmas.Grind.{common_steps}
+use Rattle.std.proofs.Common.{◌≡◌, ℕ, ◌≤◌, ◌<◌, suc, ◌+◌, Bool, true, false, cond, List, [], ◌∷◌, ◌++◌, length, Option, Some, None, Ok, Err, refl, sym, ap, ◌∙◌, subst, arith, append_assoc, length-append}
 use Rattle.sdt_fault.specs.declared.kinds.LineKind.TheVariants.{UnknownWord}
 use Rattle.asm_arm.specs.Says.{SaysArm}
 use Rattle.asm_model.specs.declared.lines.Flat.{Flat}
@@ -14,8 +12,7 @@ use Rattle.asm_said.specs.Laws.{LinesAreSaid}
 use Rattle.said_model.specs.Said.{IsSaid, AllSaid}
 use Rattle.asm_reading.specs.declared.reading.Reading.{Reading}
 use Rattle.asm_reading.specs.declared.reading.Unread.{Unread}
-use Rattle.asm_reading.specs.Reading.{IsShort, AllShort, Said, changes_state, without_states, has_dollar, read_as, SaysLine, says_end, UnlessEnd, Say, statement_in, statements_in, unread_in, first_unread, is_unread, read_first, before_behind, Keeps, IsWritten, IsReading, StaysInArm, IsSoFar}
-use Rattle.base_lemmas.proofs.BaseLemmas.{rest_of}
+use Rattle.asm_reading.specs.Reading.{AllShort, Said, changes_state, without_states, has_dollar, read_as, SaysLine, says_end, UnlessEnd, Say, statement_in, statements_in, unread_in, first_unread, is_unread, read_first, before_behind, Keeps, IsWritten, StaysInArm, IsSoFar}
 use Rattle.asm_locals.specs.Naming.{Targets, named_what, in_names}
 use Rattle.asm_locals.proofs.KeptLemmas.{IsStable, all_in_names, as_many, said_named}
 use Rattle.std.specs.List.{AllByRecursion}
@@ -71,12 +68,13 @@ no_more (f ∷ fs) (p ∷ ps) h = by_end (says_end p.1) h.2 (λ k. no_more fs ps
     by_end true e rest = let z : ps ≡ [] = e in rw z (omega arith)
     by_end false e rest = let r = rest e in omega arith
 
-pub few_read : (lines : List Flat) (r : Reading) → IsReading lines r → length r.statements.items ≤ length lines
-few_read lines r h =
+pub few_written : (lines : List Flat) (w : Reading) → IsWritten lines w → (named : List Statement) → named ≡ in_names w.statements.items → length named ≤ length lines
+few_written lines w h named e =
     let a : length (statements_in h.says) ≤ length h.says = few h.says in
     let b : length h.says ≤ length lines = no_more lines h.says h.say in
-    let k : length (in_names (statements_in h.says)) ≡ length (statements_in h.says) = as_many (statements_in h.says) in
-    rw h.statements (omega (arith, k))
+    let k : length named ≡ length (statements_in h.says) =
+    ap length e ∙ ap (λ (l : List Statement). length (in_names l)) h.statements ∙ as_many (statements_in h.says) in
+    omega (arith, k)
 
 -- ---- each statement
 
@@ -140,9 +138,10 @@ named_stays t (what.Directive l) h = tt
 pub named_kept : (P : Statement → Type 0) → IsStable P → (ss : List Statement) → AllKept P ss → AllKept P (in_names ss)
 named_kept P stable ss h = all_in_names (IsKept P) (λ k t s p. (stable k t s p.0, named_stays t s.what p.1)) ss h
 
-pub reading_said : LinesAreSaid → (lines : List Flat) (r : Reading) → IsReading lines r → AllSaid r.statements.items
-reading_said law lines r h =
-    said_of r.statements.items (rw h.statements (named_kept IsSaid said_named (statements_in h.says) (all_kept IsSaid law lines h.says h.say)))
+pub said_written : LinesAreSaid → (lines : List Flat) (w : Reading) → IsWritten lines w → (named : List Statement) → named ≡ in_names w.statements.items → AllSaid named
+said_written law lines w h named e =
+    said_of named (subst (λ (l : List Statement). AllKept IsSaid l) (sym (e ∙ ap in_names h.statements))
+    (named_kept IsSaid said_named (statements_in h.says) (all_kept IsSaid law lines h.says h.say)))
 
 -- ---- the lines before the first that can't be read
 

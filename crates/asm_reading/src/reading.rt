@@ -229,7 +229,7 @@ fn keep(alloc: Global, reading: &mut Reading, line: &Flat, said: Said) -> Result
 /// What lines say, with local labels as they are written.
 fn read_as_written(alloc: Global, lines: &[Flat]) -> Result<Reading, NoMemory>
     requires { reading_of.AllShort lines.now }
-    ensures reads { IfOk result (λ reading. reading_of.IsWritten lines.now reading) }
+    ensures { IfOk result (λ reading. reading_of.IsWritten lines.now reading) }
 {
     let mut reading = Reading {
         statements: Vec::new(alloc),
