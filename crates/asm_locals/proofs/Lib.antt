@@ -2,3 +2,4 @@ pub mod NamingLemmas
 pub mod TableLemmas
 pub mod PassLemmas
 pub mod KeptLemmas
+pub mod Rows
