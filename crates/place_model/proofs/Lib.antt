@@ -1,0 +1,5 @@
+pub mod ListLemmas
+pub mod GapLemmas
+pub mod SpanLemmas
+pub mod PlanLemmas
+pub mod Rows

@@ -1,0 +1,13 @@
+use Rattle.place_model.proofs.GapLemmas
+use Rattle.place_model.proofs.PlanLemmas
+use Rattle.place_model.proofs.SpanLemmas
+use Rattle.place_model.proofs.laws.placing_law.Goals as goal
+
+pub returns-clause-gaps : goal.returns-clause-gaps
+returns-clause-gaps c = GapLemmas.gap_law
+
+pub returns-clause-table : goal.returns-clause-table
+returns-clause-table c = PlanLemmas.table_law
+
+pub returns-clause-shared : goal.returns-clause-shared
+returns-clause-shared c = SpanLemmas.shared_law
