@@ -1,0 +1,4 @@
+pub mod RowLemmas
+pub mod RegionLemmas
+pub mod Joined
+pub mod Placed
