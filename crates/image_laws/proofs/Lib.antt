@@ -1,4 +1,6 @@
 pub mod RowLemmas
 pub mod RegionLemmas
+pub mod ViewLemmas
+pub mod FileLemmas
 pub mod Joined
 pub mod Placed

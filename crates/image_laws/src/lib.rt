@@ -3,4 +3,4 @@
 
 mod laws;
 
-pub use crate::laws::image_boots;
+pub use crate::laws::{image_boots, view_law};
