@@ -4,3 +4,4 @@ pub mod ViewLemmas
 pub mod FileLemmas
 pub mod Joined
 pub mod Placed
+pub mod Rows

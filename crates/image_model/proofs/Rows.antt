@@ -13,13 +13,13 @@ use Rattle.image_model.specs.Views.{view_of, files_of}
 use Rattle.image_model.specs.AifFiles.{fixed_aif, relocatable_aif, aif_plan, aif_view}
 
 -- the bytes of areas by their numbers
-abbrev numbered : List (List ℕ) → ℕ → List ℕ
+abbrev pub numbered : List (List ℕ) → ℕ → List ℕ
 numbered [] n = []
 numbered (x ∷ xs) zero = x
 numbered (x ∷ xs) (suc n) = numbered xs n
 
 -- areas of one object, an entry, and no veneer
-abbrev given : List (List ℕ) → ℕ → Given
+abbrev pub given : List (List ℕ) → ℕ → Given
 given areas entry = record { area = λ object number. numbered areas number; veneer = λ region target. []; entry = entry; call = entry }
 
 -- the word that a view has at an address, from four bytes that are there
@@ -34,7 +34,7 @@ nothing = None ∷ None ∷ None ∷ None ∷ []
 
 -- ---- one copy and one zero part
 
-abbrev copy_and_zero-given : Given
+abbrev pub copy_and_zero-given : Given
 copy_and_zero-given = given (bytes_of 0xEF000011 4 ∷ bytes_of 7 4 ∷ []) 0x8000
 
 copy_and_zero-file : files_of (plan copy_and_zero three_areas) (filled copy_and_zero-given (plan copy_and_zero three_areas) [])
