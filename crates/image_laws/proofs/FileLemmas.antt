@@ -15,7 +15,7 @@ use Rattle.place_model.specs.declared.scatter.ScatterRegion.{ScatterRegion}
 use Rattle.place_model.specs.Things.{size_of}
 use Rattle.place_model.specs.Assignment.{description}
 use Rattle.place_model.specs.Plans.{Contents, Planned, length_of, end_of, planned, planned_from, PlannedLoad, load_size, loads_from, Plan, regions_of, table_words, plan_of}
-use Rattle.place_model.specs.Faults.{first_told, rootless, judged, overfull, shared, first_meeting, load_span, execution_span, overlap, copy_conflict, too_large, aif_too_large, not_writable, as_overlap, as_conflict, place_refusal}
+use Rattle.place_model.specs.Faults.{first_told, rootless, judged, overfull, shared, standing, load_span, load_meeting, execution_meeting, overlap, copy_conflict, too_large, aif_too_large, not_writable, as_overlap, as_conflict, place_refusal}
 use Rattle.place_model.specs.Laws.{IsLeastShared}
 use Rattle.place_model.proofs.ListLemmas.{all_at, all_indexed, all_of_flat, Pairs, pairs_map}
 use Rattle.place_model.proofs.SpanLemmas.{shared_law, or_none, map_none, meeting_none}
@@ -106,10 +106,10 @@ pub is_load_view : (k : Kind) (c : Contents) (ram : Option (List Range32)) (held
     → IsLoadView (plan_of k c) (view_of (plan_of k c) held) (files_of (plan_of k c) held)
 is_load_view k c ram held none all =
     let p : Plan = plan_of k c in
-    let (of_loads, of_regions) = or_none (first_meeting (map load_span p)) (first_meeting (map execution_span (regions_of p))) (overlap_none k ram p none) in
+    let (of_loads, of_regions) = or_none (load_meeting p) (execution_meeting p) (overlap_none k ram p none) in
     let by_load = all_of_flat (λ r. AllByRecursion (λ t. length (held r t) ≡ size_of t) r.things) (λ l. l.regions) p all in
     let view = is_view p held of_regions all in
-    let loaded = loads_loaded held (map_of (files_of p held)) k c (table_words k c) 0 (description k) by_load (loaded_all held p by_load (pairs_map (λ x y. shared x y ≡ None) load_span p (meeting_none (map load_span p) of_loads))) in
+    let loaded = loads_loaded held (map_of (files_of p held)) k c (table_words k c) 0 (description k) by_load (loaded_all held p by_load (pairs_map (λ m n. shared m.written n.read ≡ None) (λ l. standing (load_span l)) p (meeting_none (map (λ l. standing (load_span l)) p) of_loads))) in
     record {
       bases = bases held p;
       sizes = sizes held p by_load;

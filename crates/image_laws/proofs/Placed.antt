@@ -19,10 +19,10 @@ use Rattle.place_model.specs.declared.scatter.Kind.TheVariants as kind
 use Rattle.place_model.specs.declared.scatter.Scatter.{Scatter}
 use Rattle.place_model.specs.Things.{Thing, Startup, alignment_of, size_of, gap, start_of, extent}
 use Rattle.place_model.specs.Plans.{Contents, Planned, length_of, zero_base_of, zero_length_of, execution_size, PlannedLoad, load_size, Plan, plan_for, regions_of, is_root, is_copied, copies_of, parts_of, table_words, plan_of, stood_in, is_startup, address_of, boot_address}
-use Rattle.place_model.specs.Faults.{first_told, rootless, judged, judged_load, judged_region, overfull, shared, first_meeting, load_span, execution_span, source_span, target_span, overlap, copy_conflict, image_bytes, too_large, aif_too_large, not_writable, as_overlap, as_conflict, place_refusal}
+use Rattle.place_model.specs.Faults.{first_told, rootless, judged, judged_load, judged_region, overfull, shared, standing, load_meeting, execution_span, execution_meeting, copy_move, source_span, target_span, overlap, copy_conflict, image_bytes, too_large, aif_too_large, not_writable, as_overlap, as_conflict, place_refusal}
 use Rattle.place_model.proofs.ListLemmas.{all_at, all_both, all_indexed, all_of_map, all_of_flat, all_flat, all_below_sum, none_given, Pairs, pairs_map}
 use Rattle.place_model.proofs.GapLemmas.{extent-append}
-use Rattle.place_model.proofs.SpanLemmas.{or_none, map_none, meeting_none, conflict_none, in_memory, lt-false}
+use Rattle.place_model.proofs.SpanLemmas.{or_none, map_none, meeting_none, in_memory, lt-false}
 use Rattle.place_model.proofs.PlanLemmas.{table_law, IsWholeRegion, plan_whole, loads_loaded}
 use Rattle.image_model.specs.Regions.{Given, Filling, laid, region_bytes, AreSized, startup_bytes, filled}
 use Rattle.image_laws.specs.Laws.{scatter_plan, IsImage, ImagePlaces, ImageBoots}
@@ -35,7 +35,6 @@ pub record IsAccepted (s : Scatter) (p : Plan) : Type 0 where
   pub rooted : rootless (regions_of p) ≡ None
   pub loads : AllByRecursion (λ l. l.base + load_size l ≤ 2 ^ 32) p
   pub rooms : AllByRecursion (λ r. r.base + execution_size r ≤ 2 ^ 32) (regions_of p)
-  pub load_apart : Pairs (λ l m. shared (load_span l) (load_span m) ≡ None) p
   pub apart : Pairs (λ r l. shared (execution_span r) (execution_span l) ≡ None) (regions_of p)
   pub conflicts : Pairs (λ r l. shared (target_span r) (source_span l) ≡ None) (filter is_copied (regions_of p))
   pub small : AllByRecursion (λ r. execution_size r ≤ 2 ^ 26) (regions_of p)
@@ -53,7 +52,7 @@ accepted_facts s ram p h =
     let (meets, h3) = or_none (option_map as_overlap (overlap p)) tail3 h2 in
     let (conflict, h4) = or_none (option_map as_conflict (copy_conflict p)) tail4 h3 in
     let (large, h5) = or_none (too_large p) tail5 h4 in
-    let (of_loads, of_regions) = or_none (first_meeting (map load_span p)) (first_meeting (map execution_span (regions_of p))) (map_none as_overlap (overlap p) meets) in
+    let of_regions = (or_none (load_meeting p) (execution_meeting p) (map_none as_overlap (overlap p) meets)).1 in
     let fine = all_of_flat (λ j. overfull j ≡ None) (λ l. judged_load k l ++ map judged_region l.regions) p (none_given overfull (judged k p) full) in
     record {
       rooted = root;
@@ -61,9 +60,8 @@ accepted_facts s ram p h =
       rooms = all_flat (λ r. r.base + execution_size r ≤ 2 ^ 32) (λ l. l.regions) p
           (all_weaker _ (λ l. AllByRecursion (λ r. r.base + execution_size r ≤ 2 ^ 32) l.regions)
           (λ l all. all_weaker (λ r. overfull (judged_region r) ≡ None) (λ r. r.base + execution_size r ≤ 2 ^ 32) (λ r none. in_memory (judged_region r) none) l.regions (all_of_map (λ j. overfull j ≡ None) judged_region l.regions all.1)) p fine);
-      load_apart = pairs_map (λ x y. shared x y ≡ None) load_span p (meeting_none (map load_span p) of_loads);
-      apart = pairs_map (λ x y. shared x y ≡ None) execution_span (regions_of p) (meeting_none (map execution_span (regions_of p)) of_regions);
-      conflicts = conflict_none (filter is_copied (regions_of p)) (map_none as_conflict (copy_conflict p) conflict);
+            apart = pairs_map (λ m n. shared m.written n.read ≡ None) (λ r. standing (execution_span r)) (regions_of p) (meeting_none (map (λ r. standing (execution_span r)) (regions_of p)) of_regions);
+      conflicts = pairs_map (λ m n. shared m.written n.read ≡ None) copy_move (filter is_copied (regions_of p)) (meeting_none (map copy_move (filter is_copied (regions_of p))) (map_none as_conflict (copy_conflict p) conflict));
       small = all_below_sum execution_size (regions_of p) (2 ^ 26) (go (nat_lt (2 ^ 26) (image_bytes p)) refl large);
     }
   where

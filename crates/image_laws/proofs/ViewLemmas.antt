@@ -11,7 +11,7 @@ use Rattle.byte_maps.specs.Maps.{Segment, has, map_of, Holds, IsOff}
 use Rattle.byte_maps.proofs.MapLemmas.{domain, shown, front, back}
 use Rattle.place_model.specs.Things.{Thing, Stood, alignment_of, size_of, gap, start_of, extent, stood}
 use Rattle.place_model.specs.Plans.{Planned, length_of, zero_base_of, zero_length_of, execution_size, end_of, Plan, regions_of}
-use Rattle.place_model.specs.Faults.{shared, first_meeting, execution_span}
+use Rattle.place_model.specs.Faults.{shared, standing, execution_span, execution_meeting}
 use Rattle.place_model.proofs.ListLemmas.{all_at, all_indexed, any_found, Pairs, pairs_map}
 use Rattle.place_model.specs.Laws.{IsLeastShared}
 use Rattle.place_model.proofs.SpanLemmas.{shared_law, meeting_none}
@@ -125,9 +125,9 @@ all_second : {X : Type 0} (P Q : X → Type 0) (xs : List X) → AllByRecursion 
 all_second P Q [] a = tt
 all_second P Q (x ∷ xs) a = (a.0.1, all_second P Q xs a.1)
 
-pub is_view : (p : Plan) (held : Filling) → first_meeting (map execution_span (regions_of p)) ≡ None → AreSized held p → IsView p held (view_of p held)
+pub is_view : (p : Plan) (held : Filling) → execution_meeting p ≡ None → AreSized held p → IsView p held (view_of p held)
 is_view p held none sizes =
-    let off = pairs_map (λ x y. shared x y ≡ None) execution_span (regions_of p) (meeting_none (map execution_span (regions_of p)) none) in
+    let off = pairs_map (λ m n. shared m.written n.read ≡ None) (λ r. standing (execution_span r)) (regions_of p) (meeting_none (map (λ r. standing (execution_span r)) (regions_of p)) none) in
     let all = shown_all held (regions_of p) sizes off in
     record {
       domain = λ x. domain (flat_map (region_segments held) (regions_of p)) x ∙ executed held (regions_of p) x sizes;

@@ -1,5 +1,5 @@
 -- Placed images have views and files, and a scatter image that is placed starts. This project's.
-use Rattle.std.specs.Prelude.{◌≡◌, ◌≢◌, ℕ, ◌%◌, ◌^◌, ◌<◌, ◌≤◌, Bool, false, List, [], map, Option, Some, None}
+use Rattle.std.specs.Prelude.{◌≡◌, ◌≢◌, ℕ, ◌%◌, ◌^◌, ◌<◌, ◌≤◌, Bool, false, List, [], Option, Some, None}
 use Rattle.std.specs.List.{list_any, AllByRecursion}
 use Rattle.sdt_word.specs.declared.ranges.Range32.{Range32}
 use Rattle.boot_code.specs.Boots.{ByteMap, Boots, Places, covers}
@@ -10,7 +10,7 @@ use Rattle.place_model.specs.declared.scatter.Kind.TheVariants as kind
 use Rattle.place_model.specs.declared.scatter.Scatter.{Scatter}
 use Rattle.place_model.specs.Things.{Stood, size_of, stood}
 use Rattle.place_model.specs.Plans.{Contents, end_of, Plan, regions_of, copies_of, parts_of, plan_of, boot_address}
-use Rattle.place_model.specs.Faults.{first_meeting, execution_span, place_refusal}
+use Rattle.place_model.specs.Faults.{execution_meeting, place_refusal}
 use Rattle.place_model.specs.Laws.{AreWhole}
 use Rattle.image_model.specs.Regions.{Filling, Given, AreSized, filled}
 use Rattle.image_model.specs.Views.{IsView, view_of, IsLoadView, files_of}
@@ -24,7 +24,7 @@ takes_up x t = covers t.address (size_of t.thing) x
 -- what an execution view and a load view of a plan are made of
 pub record ViewLaw : Type 0 where
   -- where no two execution ranges meet there is a view, and of its bytes there is one
-  pub view : (p : Plan) (held : Filling) → first_meeting (map execution_span (regions_of p)) ≡ None → AreSized held p → IsView p held (view_of p held)
+  pub view : (p : Plan) (held : Filling) → execution_meeting p ≡ None → AreSized held p → IsView p held (view_of p held)
   pub once : (p : Plan) (held : Filling) (view other : ByteMap) → AreSized held p → IsView p held view → IsView p held other → (x : ℕ) → view x ≡ other x
   -- each thing stands in it at its address, and what no thing takes is zero
   pub things : (p : Plan) (held : Filling) (view : ByteMap) → AreSized held p → IsView p held view

@@ -1,4 +1,5 @@
 pub mod ListLemmas
+pub mod AssignmentLemmas
 pub mod GapLemmas
 pub mod SpanLemmas
 pub mod PlanLemmas

@@ -90,6 +90,13 @@ pub pairs_map : {X Y : Type 0} (R : Y → Y → Type 0) (f : X → Y) (xs : List
 pairs_map R f [] a = tt
 pairs_map R f (x ∷ xs) a = (all_of_map (R (f x)) f xs a.0, pairs_map R f xs a.1)
 
+pub pairs_indexed : {X : Type 0} (R : X → X → Type 0) (xs : List X) → ((i j : ℕ) (x y : X) → i < j → slice_get xs i ≡ Some x → slice_get xs j ≡ Some y → R x y) → Pairs R xs
+pairs_indexed R [] f = tt
+pairs_indexed R (x ∷ xs) f = (
+  all_indexed (R x) xs (λ j y h. f zero (suc j) x y (omega arith) refl h),
+  pairs_indexed R xs (λ i j y z lt h k. f (suc i) (suc j) y z (omega arith) h k),
+)
+
 pub pairs_at : {X : Type 0} (R : X → X → Type 0) (xs : List X) (i j : ℕ) (x y : X) → Pairs R xs → i < j → slice_get xs i ≡ Some x → slice_get xs j ≡ Some y → R x y
 pairs_at R [] i j x y a lt h k = absurd cc
 pairs_at R (z ∷ zs) zero zero x y a lt h k = absurd (omega arith)

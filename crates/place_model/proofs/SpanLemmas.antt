@@ -1,14 +1,13 @@
 -- Ranges that meet, and what it says that none is told.
-use Rattle.std.proofs.Common.{◌≡◌, ℕ, ◌+◌, ◌-◌, ◌^◌, ◌<◌, ◌≤◌, ◌⊎◌, inl, inr, min, max, Bool, true, false, nat_lt, if◌then◌else◌, List, [], ◌∷◌, map, refl, arith, Option, Some, None}
-use Rattle.std.specs.List.{AllByRecursion}
+use Rattle.std.proofs.Common.{◌≡◌, ℕ, zero, suc, ◌+◌, ◌-◌, ◌^◌, ◌<◌, ◌≤◌, ◌⊎◌, inl, inr, min, max, Bool, true, false, nat_lt, if◌then◌else◌, List, [], ◌∷◌, map, refl, subst, arith, Option, Some, None}
+use Rattle.std.specs.Prelude.{slice_get}
 use Rattle.std.specs.Option.{option_map, option_or}
 use Rattle.std.proofs.lemmas.Bool.{cases_lt}
 use Rattle.sdt_fault.specs.declared.refusal.Refusal.TheVariants.{Overfull}
 use Rattle.boot_code.specs.Boots.{AreApart}
-use Rattle.place_model.specs.Plans.{Planned}
-use Rattle.place_model.specs.Faults.{Span, shared, met_by, first_meeting, source_span, target_span, first_conflict, Judged, overfull, above_maximum, above_memory}
-use Rattle.place_model.specs.Laws.{IsLeastShared, SharedLaw}
-use Rattle.place_model.proofs.ListLemmas.{Pairs}
+use Rattle.place_model.specs.Faults.{Span, Meeting, Move, shared, met_by, first_meeting, Judged, overfull, above_maximum, above_memory}
+use Rattle.place_model.specs.Laws.{IsLeastShared, SharedLaw, IsFirstMeeting, OfMeeting, MeetingLaw}
+use Rattle.place_model.proofs.ListLemmas.{Pairs, pairs_indexed}
 
 pub lt-false : (a b : ℕ) → nat_lt a b ≡ false → b ≤ a
 lt-false a b h = grind (arith)
@@ -51,25 +50,110 @@ pub map_none : {X Y : Type 0} (f : X → Y) (o : Option X) → option_map f o �
 map_none f None h = refl
 map_none f (Some x) h = absurd (cc)
 
-met_none : (s : Span) (ts : List Span) → met_by s ts ≡ None → AllByRecursion (λ t. shared s t ≡ None) ts
-met_none s [] h = tt
-met_none s (t ∷ ts) h =
-    let (first, rest) = or_none (option_map (λ a. record { first = s.name; second = t.name; address = a }) (shared s t)) (met_by s ts) h in
-    (map_none (λ a. record { first = s.name; second = t.name; address = a }) (shared s t) first, met_none s ts rest)
+-- the first of some moves whose source a range meets
+pub record IsMet (s : Span) (ms : List Move) (told : Meeting) : Type 0 where
+  pub place : ℕ
+  pub other : Move
+  pub at : slice_get ms place ≡ Some other
+  pub address : shared s other.read ≡ Some told.address
+  pub first_name : told.first ≡ s.name
+  pub second_name : told.second ≡ other.read.name
+  pub none_before : (l : ℕ) (n : Move) → slice_get ms l ≡ Some n → l < place → shared s n.read ≡ None
 
-pub meeting_none : (ss : List Span) → first_meeting ss ≡ None → Pairs (λ s t. shared s t ≡ None) ss
-meeting_none [] h = tt
-meeting_none (s ∷ ss) h = let (first, rest) = or_none (met_by s ss) (first_meeting ss) h in (met_none s ss first, meeting_none ss rest)
+abbrev OfMet : Span → List Move → Option Meeting → Type 0
+OfMet s ms None = (l : ℕ) (n : Move) → slice_get ms l ≡ Some n → shared s n.read ≡ None
+OfMet s ms (Some told) = IsMet s ms told
 
-all_of_sources : (s : Span) (rs : List Planned) → AllByRecursion (λ t. shared s t ≡ None) (map source_span rs) → AllByRecursion (λ r. shared s (source_span r) ≡ None) rs
-all_of_sources s [] h = tt
-all_of_sources s (r ∷ rs) h = (h.0, all_of_sources s rs h.1)
+none_met : (s : Span) (m : Move) (ms : List Move) → shared s m.read ≡ None → OfMet s ms None → (l : ℕ) (n : Move) → slice_get (m ∷ ms) l ≡ Some n → shared s n.read ≡ None
+none_met s m ms none all zero n at = let e : m ≡ n = cc in rw (← e) none
+none_met s m ms none all (suc l) n at = all l n at
 
-pub conflict_none : (rs : List Planned) → first_conflict rs ≡ None → Pairs (λ r l. shared (target_span r) (source_span l) ≡ None) rs
-conflict_none [] h = tt
-conflict_none (r ∷ rs) h =
-    let (first, rest) = or_none (met_by (target_span r) (map source_span rs)) (first_conflict rs) h in
-    (all_of_sources (target_span r) rs (met_none (target_span r) (map source_span rs) first), conflict_none rs rest)
+met_later : (s : Span) (m : Move) (ms : List Move) (o : Option Meeting) → shared s m.read ≡ None → OfMet s ms o → OfMet s (m ∷ ms) o
+met_later s m ms None none all = none_met s m ms none all
+met_later s m ms (Some told) none h = record {
+  place = suc h.place;
+  other = h.other;
+  at = h.at;
+  address = h.address;
+  first_name = h.first_name;
+  second_name = h.second_name;
+  none_before = λ l n at lt. before l n at lt;
+}
+  where
+    before : (l : ℕ) (n : Move) → slice_get (m ∷ ms) l ≡ Some n → l < suc h.place → shared s n.read ≡ None
+    before zero n at lt = let e : m ≡ n = cc in rw (← e) none
+    before (suc l) n at lt = h.none_before l n at (omega arith)
+
+met_law : (s : Span) (ms : List Move) → OfMet s ms (met_by s ms)
+met_law s [] = λ l n at. absurd cc
+met_law s (m ∷ ms) = go (shared s m.read) refl (met_law s ms)
+  where
+    go : (o : Option ℕ) → shared s m.read ≡ o → OfMet s ms (met_by s ms)
+        → OfMet s (m ∷ ms) (option_or (option_map (λ a. record { first = s.name; second = m.read.name; address = a }) o) (met_by s ms))
+    go None e rest = met_later s m ms (met_by s ms) e rest
+    go (Some a) e rest = record { place = 0; other = m; at = refl; address = e; first_name = refl; second_name = refl; none_before = λ l n at lt. absurd (omega arith) }
+
+no_pair : (m : Move) (ms : List Move) → OfMet m.written ms None → OfMeeting ms None → (k l : ℕ) (x y : Move) → k < l → slice_get (m ∷ ms) k ≡ Some x → slice_get (m ∷ ms) l ≡ Some y
+    → shared x.written y.read ≡ None
+no_pair m ms none all zero zero x y lt at to = absurd (omega arith)
+no_pair m ms none all zero (suc l) x y lt at to = let e : m ≡ x = cc in rw (← e) (none l y to)
+no_pair m ms none all (suc k) zero x y lt at to = absurd (omega arith)
+no_pair m ms none all (suc k) (suc l) x y lt at to = all k l x y (omega arith) at to
+
+pairs_later : (m : Move) (ms : List Move) (o : Option Meeting) → OfMet m.written ms None → OfMeeting ms o → OfMeeting (m ∷ ms) o
+pairs_later m ms None none all = no_pair m ms none all
+pairs_later m ms (Some told) none h = record {
+  earlier = suc h.earlier;
+  later = suc h.later;
+  one = h.one;
+  other = h.other;
+  order = let lt = h.order in omega arith;
+  one_at = h.one_at;
+  other_at = h.other_at;
+  address = h.address;
+  first_name = h.first_name;
+  second_name = h.second_name;
+  none_before = λ k l x y lt at to side. before k l x y lt at to side;
+}
+  where
+    before : (k l : ℕ) (x y : Move) → k < l → slice_get (m ∷ ms) k ≡ Some x → slice_get (m ∷ ms) l ≡ Some y
+        → (k < suc h.earlier) ⊎ ((k ≡ suc h.earlier) × (l < suc h.later)) → shared x.written y.read ≡ None
+    before zero zero x y lt at to side = absurd (omega arith)
+    before zero (suc l) x y lt at to side = let e : m ≡ x = cc in rw (← e) (none l y to)
+    before (suc k) zero x y lt at to side = absurd (omega arith)
+    before (suc k) (suc l) x y lt at to (inl side) = h.none_before k l x y (omega arith) at to (inl (omega arith))
+    before (suc k) (suc l) x y lt at to (inr side) = let a = side.0 in let b = side.1 in h.none_before k l x y (omega arith) at to (inr (omega arith, omega arith))
+
+pub meeting_law : MeetingLaw
+meeting_law [] = λ k l m n lt at to. absurd cc
+meeting_law (m ∷ ms) = go (met_by m.written ms) (met_law m.written ms) (meeting_law ms)
+  where
+    go : (o : Option Meeting) → OfMet m.written ms o → OfMeeting ms (first_meeting ms) → OfMeeting (m ∷ ms) (option_or o (first_meeting ms))
+    go None none rest = pairs_later m ms (first_meeting ms) none rest
+    go (Some told) h rest = record {
+      earlier = 0;
+      later = suc h.place;
+      one = m;
+      other = h.other;
+      order = omega arith;
+      one_at = refl;
+      other_at = h.at;
+      address = h.address;
+      first_name = h.first_name;
+      second_name = h.second_name;
+      none_before = λ k l x y lt at to side. before k l x y lt at to side;
+    }
+      where
+        before : (k l : ℕ) (x y : Move) → k < l → slice_get (m ∷ ms) k ≡ Some x → slice_get (m ∷ ms) l ≡ Some y → (k < 0) ⊎ ((k ≡ 0) × (l < suc h.place)) → shared x.written y.read ≡ None
+        before zero zero x y lt at to side = absurd (omega arith)
+        before zero (suc l) x y lt at to (inl side) = absurd (omega arith)
+        before zero (suc l) x y lt at to (inr side) = let b = side.1 in let e : m ≡ x = cc in rw (← e) (h.none_before l y to (omega arith))
+        before (suc k) l x y lt at to (inl side) = absurd (omega arith)
+        before (suc k) l x y lt at to (inr side) = let a = side.0 in absurd (omega arith)
+
+-- where no pair is told
+pub meeting_none : (ms : List Move) → first_meeting ms ≡ None → Pairs (λ m n. shared m.written n.read ≡ None) ms
+meeting_none ms h = pairs_indexed (λ m n. shared m.written n.read ≡ None) ms (subst (OfMeeting ms) h (meeting_law ms))
 
 -- what isn't too large for memory ends there
 pub in_memory : (j : Judged) → overfull j ≡ None → j.base + j.size ≤ 2 ^ 32

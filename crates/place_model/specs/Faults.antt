@@ -73,15 +73,25 @@ pub record Meeting : Type 0 where
   pub second : List ℕ
   pub address : ℕ
 
--- the first of some ranges that a range meets
-abbrev pub met_by : Span → List Span → Option Meeting
-met_by s [] = None
-met_by s (t ∷ ts) = option_or (option_map (λ a. record { first = s.name; second = t.name; address = a }) (shared s t)) (met_by s ts)
+-- a range that is written, and one that is read
+pub record Move : Type 0 where
+  pub written : Span
+  pub read : Span
 
--- Overlap: two load ranges, or else two execution ranges, by the earlier region and then by the later
-abbrev pub first_meeting : List Span → Option Meeting
+-- the first of some moves whose source a range meets
+abbrev pub met_by : Span → List Move → Option Meeting
+met_by s [] = None
+met_by s (m ∷ ms) = option_or (option_map (λ a. record { first = s.name; second = m.read.name; address = a }) (shared s m.read)) (met_by s ms)
+
+-- what one writes and a later one reads, by the earlier and then by the later
+abbrev pub first_meeting : List Move → Option Meeting
 first_meeting [] = None
-first_meeting (s ∷ ss) = option_or (met_by s ss) (first_meeting ss)
+first_meeting (m ∷ ms) = option_or (met_by m.written ms) (first_meeting ms)
+
+-- ---- Overlap: two load ranges, or else two execution ranges
+
+abbrev pub standing : Span → Move
+standing s = record { written = s; read = s }
 
 abbrev pub load_span : PlannedLoad → Span
 load_span l = record { name = l.name; base = l.base; size = load_size l }
@@ -89,22 +99,28 @@ load_span l = record { name = l.name; base = l.base; size = load_size l }
 abbrev pub execution_span : Planned → Span
 execution_span r = record { name = r.name; base = r.base; size = execution_size r }
 
-abbrev pub overlap : Plan → Option Meeting
-overlap p = option_or (first_meeting (map load_span p)) (first_meeting (map execution_span (regions_of p)))
+abbrev pub load_meeting : Plan → Option Meeting
+load_meeting p = first_meeting (map (λ l. standing (load_span l)) p)
 
--- CopyConflict: what a copy writes and what a later copy reads
+abbrev pub execution_meeting : Plan → Option Meeting
+execution_meeting p = first_meeting (map (λ r. standing (execution_span r)) (regions_of p))
+
+abbrev pub overlap : Plan → Option Meeting
+overlap p = option_or (load_meeting p) (execution_meeting p)
+
+-- ---- CopyConflict: what a copy writes and a later copy reads
+
 abbrev pub source_span : Planned → Span
 source_span r = record { name = r.name; base = r.load; size = length_of r }
 
 abbrev pub target_span : Planned → Span
 target_span r = record { name = r.name; base = r.base; size = length_of r }
 
-abbrev pub first_conflict : List Planned → Option Meeting
-first_conflict [] = None
-first_conflict (r ∷ rs) = option_or (met_by (target_span r) (map source_span rs)) (first_conflict rs)
+abbrev pub copy_move : Planned → Move
+copy_move r = record { written = target_span r; read = source_span r }
 
 abbrev pub copy_conflict : Plan → Option Meeting
-copy_conflict p = first_conflict (copied_regions p)
+copy_conflict p = first_meeting (map copy_move (copied_regions p))
 
 -- ---- TooLarge: 64 MiB of all regions, 16 MiB of an AIF's parts and zero part
 

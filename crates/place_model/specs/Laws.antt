@@ -1,5 +1,5 @@
 -- What follows from the definitions of placing. This project's.
-use Rattle.std.specs.Prelude.{◌≡◌, ℕ, ◌+◌, ◌-◌, ◌%◌, ◌<◌, ◌≤◌, Option, Some, None}
+use Rattle.std.specs.Prelude.{◌≡◌, ◌⊎◌, ℕ, ◌+◌, ◌-◌, ◌%◌, ◌<◌, ◌≤◌, Bool, true, false, List, slice_get, Option, Some, None}
 use Rattle.std.specs.List.{AllByRecursion}
 use Rattle.place_model.specs.declared.scatter.Kind.{Kind}
 use Rattle.place_model.specs.declared.scatter.Kind.TheVariants as kind
@@ -7,10 +7,10 @@ use Rattle.place_model.specs.declared.scatter.Scatter.{Scatter}
 use Rattle.place_model.specs.declared.scatter.ScatterBase.{ScatterBase}
 use Rattle.place_model.specs.declared.scatter.ScatterBase.TheVariants.{At, Plus}
 use Rattle.place_model.specs.Items.{Item}
-use Rattle.place_model.specs.Assignment.{description, described_regions}
+use Rattle.place_model.specs.Assignment.{description, described_regions, Offer, matches, rank, best, Found, Nowhere, Within, Unclear, found}
 use Rattle.place_model.specs.Things.{gap}
 use Rattle.place_model.specs.Plans.{Contents, IsLeastTable, table_words}
-use Rattle.place_model.specs.Faults.{Span, shared}
+use Rattle.place_model.specs.Faults.{Span, shared, Meeting, Move, first_meeting}
 
 -- ---- whole words
 
@@ -51,3 +51,58 @@ IsLeastShared s t (Some a) = IsIn a s × IsIn a t × ((x : ℕ) → IsIn x s →
 -- the least address of two ranges, and none exactly where they share none
 abbrev pub SharedLaw : Type 0
 SharedLaw = (s t : Span) → IsLeastShared s t (shared s t)
+
+-- of all pairs of an earlier and a later move of which the first writes what the second reads, the first by the
+-- earlier and then by the later, with the least address
+pub record IsFirstMeeting (ms : List Move) (told : Meeting) : Type 0 where
+  pub earlier : ℕ
+  pub later : ℕ
+  pub one : Move
+  pub other : Move
+  pub order : earlier < later
+  pub one_at : slice_get ms earlier ≡ Some one
+  pub other_at : slice_get ms later ≡ Some other
+  pub address : shared one.written other.read ≡ Some told.address
+  pub first_name : told.first ≡ one.written.name
+  pub second_name : told.second ≡ other.read.name
+  pub none_before : (k l : ℕ) (m n : Move) → k < l → slice_get ms k ≡ Some m → slice_get ms l ≡ Some n
+      → (k < earlier) ⊎ ((k ≡ earlier) × (l < later)) → shared m.written n.read ≡ None
+
+abbrev pub OfMeeting : List Move → Option Meeting → Type 0
+OfMeeting ms None = (k l : ℕ) (m n : Move) → k < l → slice_get ms k ≡ Some m → slice_get ms l ≡ Some n → shared m.written n.read ≡ None
+OfMeeting ms (Some told) = IsFirstMeeting ms told
+
+-- and none is told exactly where no pair meets
+abbrev pub MeetingLaw : Type 0
+MeetingLaw = (ms : List Move) → OfMeeting ms (first_meeting ms)
+
+-- ---- selections
+
+-- the selection of a place matches the area, and none that does is better
+pub record IsBest (offers : List Offer) (i : Item) (place : ℕ) (o : Offer) : Type 0 where
+  pub at : slice_get offers place ≡ Some o
+  pub matching : matches o.selection i ≡ true
+  pub none_better : (k : ℕ) (p : Offer) → slice_get offers k ≡ Some p → matches p.selection i ≡ true → rank o.selection ≤ rank p.selection
+
+pub record IsOnlyBest (offers : List Offer) (i : Item) (o : Offer) : Type 0 where
+  pub place : ℕ
+  pub best : IsBest offers i place o
+  pub only : (k : ℕ) (p : Offer) → IsBest offers i k p → k ≡ place
+
+-- the first two of those that are best
+pub record AreFirstBest (offers : List Offer) (i : Item) (o p : Offer) : Type 0 where
+  pub first : ℕ
+  pub second : ℕ
+  pub order : first < second
+  pub one : IsBest offers i first o
+  pub other : IsBest offers i second p
+  pub none_between : (k : ℕ) (q : Offer) → IsBest offers i k q → (k ≡ first) ⊎ (second ≤ k)
+
+abbrev pub OfFound : List Offer → Item → Found → Type 0
+OfFound offers i Nowhere = (k : ℕ) (o : Offer) → slice_get offers k ≡ Some o → matches o.selection i ≡ false
+OfFound offers i (Within o) = IsOnlyBest offers i o
+OfFound offers i (Unclear o p) = AreFirstBest offers i o p
+
+-- an area is told to be nowhere, in the region of its only best selection, or unclear by the first two
+abbrev pub AssignmentLaw : Type 0
+AssignmentLaw = (offers : List Offer) (i : Item) → OfFound offers i (found (best offers i))

@@ -1,7 +1,11 @@
+use Rattle.place_model.proofs.AssignmentLemmas
 use Rattle.place_model.proofs.GapLemmas
 use Rattle.place_model.proofs.PlanLemmas
 use Rattle.place_model.proofs.SpanLemmas
 use Rattle.place_model.proofs.laws.placing_law.Goals as goal
+
+pub returns-clause-selections : goal.returns-clause-selections
+returns-clause-selections c = AssignmentLemmas.assignment_law
 
 pub returns-clause-gaps : goal.returns-clause-gaps
 returns-clause-gaps c = GapLemmas.gap_law
@@ -11,3 +15,6 @@ returns-clause-table c = PlanLemmas.table_law
 
 pub returns-clause-shared : goal.returns-clause-shared
 returns-clause-shared c = SpanLemmas.shared_law
+
+pub returns-clause-meetings : goal.returns-clause-meetings
+returns-clause-meetings c = SpanLemmas.meeting_law
