@@ -1,16 +1,19 @@
 -- What follows from the definitions of placing. This project's.
-use Rattle.std.specs.Prelude.{◌≡◌, ◌⊎◌, ℕ, ◌+◌, ◌-◌, ◌%◌, ◌<◌, ◌≤◌, Bool, true, false, List, slice_get, Option, Some, None}
-use Rattle.std.specs.List.{AllByRecursion}
+use Rattle.std.specs.Prelude.{◌≡◌, ◌⊎◌, ◌↔◌, ℕ, suc, ◌+◌, ◌-◌, ◌%◌, ◌^◌, ◌<◌, ◌≤◌, Bool, true, false, List, slice_get, IsPermutation, Option, Some, None}
+use Rattle.std.specs.List.{flat_map, list_any, AllByRecursion}
+use Rattle.sdt_word.specs.declared.ranges.Range32.{Range32}
+use Rattle.sdt_fault.specs.declared.refusal.Refusal.{Refusal}
+use Rattle.boot_code.specs.Boots.{covers}
 use Rattle.place_model.specs.declared.scatter.Kind.{Kind}
 use Rattle.place_model.specs.declared.scatter.Kind.TheVariants as kind
 use Rattle.place_model.specs.declared.scatter.Scatter.{Scatter}
 use Rattle.place_model.specs.declared.scatter.ScatterBase.{ScatterBase}
 use Rattle.place_model.specs.declared.scatter.ScatterBase.TheVariants.{At, Plus}
 use Rattle.place_model.specs.Items.{Item}
-use Rattle.place_model.specs.Assignment.{description, described_regions, Offer, matches, rank, best, Found, Nowhere, Within, Unclear, found}
+use Rattle.place_model.specs.Assignment.{description, described_regions, Offer, matches, rank, best, Found, Nowhere, Within, Unclear, found, Kept, may_precede, in_order}
 use Rattle.place_model.specs.Things.{gap}
-use Rattle.place_model.specs.Plans.{Contents, IsLeastTable, table_words}
-use Rattle.place_model.specs.Faults.{Span, shared, Meeting, Move, first_meeting}
+use Rattle.place_model.specs.Plans.{Contents, Plan, regions_of, IsLeastTable, table_words}
+use Rattle.place_model.specs.Faults.{first_told, Judged, overfull, judged, Span, shared, Meeting, Move, first_meeting, in_range, lacking, least, unwritable, not_writable}
 
 -- ---- whole words
 
@@ -106,3 +109,51 @@ OfFound offers i (Unclear o p) = AreFirstBest offers i o p
 -- an area is told to be nowhere, in the region of its only best selection, or unclear by the first two
 abbrev pub AssignmentLaw : Type 0
 AssignmentLaw = (offers : List Offer) (i : Item) → OfFound offers i (found (best offers i))
+
+-- ---- the order in a region
+
+-- all of them once, each of which may precede the next
+pub record OrderLaw : Type 0 where
+  pub same : (ks : List Kept) → IsPermutation ks (in_order ks)
+  pub sorted : (ks : List Kept) (i : ℕ) (k l : Kept) → slice_get (in_order ks) i ≡ Some k → slice_get (in_order ks) (suc i) ≡ Some l → may_precede k l ≡ true
+
+-- ---- what is told
+
+-- the first that has something wrong, and none exactly where none has
+pub record IsFirstTold {X : Type 0} (wrong : X → Option Refusal) (xs : List X) (r : Refusal) : Type 0 where
+  pub place : ℕ
+  pub x : X
+  pub at : slice_get xs place ≡ Some x
+  pub told : wrong x ≡ Some r
+  pub none_before : (k : ℕ) (y : X) → slice_get xs k ≡ Some y → k < place → wrong y ≡ None
+
+abbrev pub OfFirst : {X : Type 0} → (X → Option Refusal) → List X → Option Refusal → Type 0
+OfFirst wrong xs None = (k : ℕ) (y : _) → slice_get xs k ≡ Some y → wrong y ≡ None
+OfFirst wrong xs (Some r) = IsFirstTold wrong xs r
+
+-- at most the declared maximum, and within memory
+pub record HasRoom (j : Judged) : Type 0 where
+  pub declared : (most : ℕ) → j.maximum ≡ Some most → j.size ≤ most
+  pub memory : j.base + j.size ≤ 2 ^ 32
+
+-- an address of these ranges, and the least that is in no RAM
+abbrev pub in_some : List Span → ℕ → Bool
+in_some spans x = list_any (λ s. covers s.base s.size x) spans
+
+abbrev pub in_ram : List Range32 → ℕ → Bool
+in_ram ram x = list_any (in_range x) ram
+
+pub record IsLeastLacking (ram : List Range32) (spans : List Span) (a : ℕ) : Type 0 where
+  pub written : in_some spans a ≡ true
+  pub outside : in_ram ram a ≡ false
+  pub least : (x : ℕ) → in_some spans x ≡ true → in_ram ram x ≡ false → a ≤ x
+
+abbrev pub OfLacking : List Range32 → List Span → Option ℕ → Type 0
+OfLacking ram spans None = (x : ℕ) → in_some spans x ≡ true → in_ram ram x ≡ true
+OfLacking ram spans (Some a) = IsLeastLacking ram spans a
+
+pub record ToldLaw : Type 0 where
+  pub first_overfull : (k : Kind) (p : Plan) → OfFirst overfull (judged k p) (first_told overfull (judged k p))
+  pub room : (j : Judged) → (overfull j ≡ None) ↔ HasRoom j
+  pub first_unwritable : (ram : List Range32) (p : Plan) → OfFirst (unwritable ram) (regions_of p) (not_writable (Some ram) p)
+  pub least_lacking : (ram : List Range32) (spans : List Span) → OfLacking ram spans (least (flat_map (lacking ram) spans))
