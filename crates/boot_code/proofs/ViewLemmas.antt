@@ -41,7 +41,7 @@ store-covered m a bs x = go (covers a (length bs) x) refl
 
 -- ---- zero fills
 
-get_or-zeros : (n k : ℕ) → get_or (zeros n) k 0 ≡ 0
+pub get_or-zeros : (n k : ℕ) → get_or (zeros n) k 0 ≡ 0
 get_or-zeros zero k = refl
 get_or-zeros (suc n) zero = refl
 get_or-zeros (suc n) (suc k) = get_or-zeros n k

@@ -1,0 +1,17 @@
+//! Laws of the definitions, each proved as the contract of an empty function.
+
+ghost use Rattle.image_laws.specs.Laws.{ImageBoots, ImagePlaces, ViewLaw};
+
+/// A plan without a refusal has files and one view: each thing stands in the view at its address, and zeros
+/// stand in the gaps.
+pub fn view_law()
+    ensures { ViewLaw }
+{}
+
+/// A scatter image that is placed without a refusal starts: its rows, files and view are as the startup code
+/// needs them, so from every permitted state it reaches the entry within the bound, with the memory as the
+/// view says.
+pub fn image_boots()
+    ensures places { ImagePlaces }
+    ensures boots { ImageBoots }
+{}

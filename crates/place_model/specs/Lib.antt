@@ -1,0 +1,6 @@
+pub mod Items
+pub mod Assignment
+pub mod Things
+pub mod Plans
+pub mod Faults
+pub mod Laws
