@@ -70,6 +70,7 @@ moved_header k b parts zero_size base e offsets fits h =
       entry_whole = h.entry_whole;
       entry_low = h.entry_low;
       entry_high = h.entry_high;
+      entry_near = h.entry_near;
       nothing = still b (omega arith) (inl (omega arith)) (inl (omega arith)) ∙ h.nothing;
       clear_call = still (b + 8) (omega arith) (inr (omega arith)) (inl (omega arith)) ∙ h.clear_call;
       entry_call = still (b + 12) (omega arith) (inr (omega arith)) (inl (omega arith)) ∙ h.entry_call;
@@ -246,7 +247,7 @@ module _ (file : List ℕ) (parts zero_size b : ℕ) (written : ℕ → Bool) (v
     booted n total extra entry steps shows begins enters inputs =
         let low = l.low in
         let (t, run, entered) = begun board (InRanges (file_at file b) view) s (b + 0) c.valid.core.visible.count (c.pc ∙ omega arith) (λ g. begins g _ _
-        (clear_run b l.whole x parts zero_size e i (narrowed in_view (omega arith) (omega arith)) (λ y low high. ap (λ (f : Bytes). f y) same ∙ merged-in s.memory x b parts y (omega arith) (omega arith))
+        (clear_run b l.whole x parts zero_size e i in_view (λ y low high. ap (λ (f : Bytes). f y) same ∙ merged-in s.memory x b parts y (omega arith) (omega arith))
         (record { readable = narrowed in_view (omega arith) (omega arith); writable = λ y low high. c.writable y (l.free y low high); apart = inr (omega arith) }) enters)) in
         let (accesses, all_steps, safe) = after (lasting steps run) inputs in (
           t,

@@ -171,8 +171,8 @@ module _ {W : World} {S : Code W} (w : (i : ℕ) → nat_lt i 12 ≡ true → Re
 
 -- ---- the header's two last calls, over a memory with these words from b + 8 on
 
-module _ {W : World} (b : ℕ) (whole : b % 4 ≡ 0) (x : Bytes) (parts zero_size e : ℕ) (i : IsHeader x b parts zero_size e) (readable : IsReadable W b (b + parts)) where
-  room : b + parts ≤ 4294967296
+module _ {W : World} (b : ℕ) (whole : b % 4 ≡ 0) (x : Bytes) (parts zero_size e : ℕ) (i : IsHeader x b parts zero_size e) (readable : IsReadable W b (b + parts + zero_size)) where
+  room : b + parts + zero_size ≤ 4294967296
   room = readable.room
 
   pub called_whole : (b + 8) % 4 ≡ 0
@@ -190,7 +190,7 @@ module _ {W : World} (b : ℕ) (whole : b % 4 ≡ 0) (x : Bytes) (parts zero_siz
 
   entry_run : {n : ℕ} {m : Bytes} {Q : State → Type 0} → Stands m → From W n (b + e) m Q → From W (suc n) (b + 12) m Q
   entry_run same next = from W (b + 8 + 4) (omega arith) (λ g status q bytes.
-      let small = i.parts_small in let high = i.entry_high in let low = i.entry_low in let e_whole = i.entry_whole in
+      let near = i.entry_near in let high = i.entry_high in let low = i.entry_low in let e_whole = i.entry_whole in
       link {S = called} {k = (e - 20) / 4} {target = b + e} (word_reads called 1 _ (ap (word x) (omega arith) ∙ i.entry_call) (omega arith) (reads_link ((e - 20) / 4) (omega arith))) (omega arith) (omega arith) (omega arith)
       (λ good. next _ _ _ _ good.quiet good.bytes refl refl)
       (record { quiet = q; same = same; bytes = bytes }))

@@ -48,7 +48,8 @@ Offsets limit (o ∷ offsets) = (o % 4 ≡ 0) × (128 ≤ o) × (o + 4 ≤ limit
 abbrev pub HasCode : Bytes → ℕ → List ℕ → Type 0
 HasCode m a code = (i : ℕ) → i < length code → word m (a + 4 * i) ≡ slice_index code i
 
--- The header of an image at b, with its parts, its zero part and the offset of its entry.
+-- The header of an image at b, with its parts, its zero part and the offset of its entry, which lies in
+-- these or in the zero part, where the header's branch reaches it.
 pub record IsHeader (m : Bytes) (b parts zero_size e : ℕ) : Type 0 where
   pub parts_whole : parts % 4 ≡ 0
   pub parts_low : 128 ≤ parts
@@ -57,7 +58,8 @@ pub record IsHeader (m : Bytes) (b parts zero_size e : ℕ) : Type 0 where
   pub zero_small : zero_size < 2 ^ 32
   pub entry_whole : e % 4 ≡ 0
   pub entry_low : 128 ≤ e
-  pub entry_high : e + 4 ≤ parts
+  pub entry_high : e + 4 ≤ parts + zero_size
+  pub entry_near : e < 2 ^ 25 + 20
   pub nothing : word m b ≡ 0xE1A00000
   pub clear_call : word m (b + 8) ≡ (if zero_size == 0 then 0xE1A00000 else 0xEB00000C)
   pub entry_call : word m (b + 12) ≡ 0xEB000000 + (e - 20) / 4
