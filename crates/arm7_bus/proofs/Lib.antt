@@ -1,4 +1,7 @@
 pub mod ClaimLemmas
+pub mod EdgeLemmas
+pub mod FrameLemmas
+pub mod LookupLemmas
 pub mod MeetLemmas
 pub mod PagingLemmas
 pub mod ProtectLemmas

@@ -1,4 +1,5 @@
 pub mod Buses
+pub mod Lookups
 pub mod Meets
 pub mod Overlaps
 pub mod Paging

@@ -42,3 +42,9 @@ pub record IsUnused (table : List (Option ℕ)) (n : ℕ) : Type 0 where
   pub pages : length table ≡ n
   pub none : (page : ℕ) → frame_of table page ≡ None
   pub count : count_by is_some table ≡ 0
+
+-- so many bytes are made, of whole frames, and there is room for so many more without another allocation
+pub record AreFrames (made room left : ℕ) : Type 0 where
+  pub whole : made % 4096 ≡ 0
+  pub rest : left % 4096 ≡ 0
+  pub fits : made + left ≤ room

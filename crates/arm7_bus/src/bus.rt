@@ -88,13 +88,14 @@ impl Bus {
     }
 
     /// The bytes at an address, lowest first, or what the device there answers.
+    #[inline(always)]
     pub fn read(&mut self, a: u32, w: Width) -> Result<u32, Absent>
         requires started { IsStarted (bus_state base size state touched self.old) }
         requires aligned { a % bytes_in w ≡ 0 }
         ensures answer { result_ok result ≡ read_answer (bus_state base size state touched self.old) a w }
         ensures after { bus_state base size state touched self.new ≡ after_read (bus_state base size state touched self.old) a w }
     {
-        if self.memory.holds(a, w.bytes()) {
+        if self.memory.finds(a, w.bytes()) {
             return Ok(self.memory.read(a, w));
         }
         match devices::read(&mut self.devices, a, w) {
@@ -104,6 +105,7 @@ impl Bus {
     }
 
     /// Writes the low bytes of a value to memory or to a device.
+    #[inline(always)]
     pub fn write(&mut self, a: u32, w: Width, v: u32) -> Result<(), BusFault>
         requires started { IsStarted (bus_state base size state touched self.old) }
         requires aligned { a % bytes_in w ≡ 0 }
@@ -111,7 +113,7 @@ impl Bus {
         ensures answer { result ≡ store_answer (write_fault (bus_state base size state touched self.old) a (bytes_in w)) }
         ensures after { bus_state base size state touched self.new ≡ after_write (bus_state base size state touched self.old) a w v }
     {
-        if self.memory.holds(a, w.bytes()) {
+        if self.memory.finds(a, w.bytes()) {
             return self.memory.store(a, w, v);
         }
         if devices::write(&mut self.devices, a, w, v) {

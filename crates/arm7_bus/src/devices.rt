@@ -105,6 +105,7 @@ fn find(devices: &[Box<dyn Device>], a: u32, n: u32) -> Option<usize>
 }
 
 /// The answer of the device that has the access.
+#[inline(never)]
 pub fn read(devices: &mut Vec<Box<dyn Device>>, a: u32, width: Width) -> Option<u32>
     requires { a % bytes_in width ≡ 0 }
     ensures answer { result ≡ option_map (seat_answer a width) (device_at (seats_by base size state touched devices.old.items) a (bytes_in width)) }
@@ -117,6 +118,7 @@ pub fn read(devices: &mut Vec<Box<dyn Device>>, a: u32, width: Width) -> Option<
 }
 
 /// Writes to the device that has the access; false where there is none.
+#[inline(never)]
 pub fn write(devices: &mut Vec<Box<dyn Device>>, a: u32, width: Width, value: u32) -> bool
     requires { a % bytes_in width ≡ 0 }
     ensures found { result ≡ is_some (device_at (seats_by base size state touched devices.old.items) a (bytes_in width)) }

@@ -1,24 +1,34 @@
 //! The bytes of memory, frame after frame.
 
-ghost use Rattle.std.specs.Prelude.{◌≡◌, ℕ, ◌<◌, ◌≤◌, ◌+◌, ◌*◌, ◌%◌, List, [], length, take, drop, replicate, slice_index, slice_set, IfOk};
+ghost use Rattle.std.specs.Prelude.{◌≡◌, ℕ, ◌<◌, ◌≤◌, ◌+◌, ◌*◌, ◌%◌, List, [], ◌++◌, length, take, drop, replicate, slice_index, slice_set, vec_len, vec_capacity, IfOk};
 ghost use Rattle.sdt_word.specs.Bytes.{bytes_of, half_in, number_of, word_in, written};
 ghost use Rattle.sdt_word.specs.Codes.{bytes_in};
+ghost use Rattle.arm7_bus.specs.Paging.{AreFrames};
 
 use sdt_fault::NoMemory;
 use sdt_word::{Width, half_at, put_half, put_word, word_at};
 use std::alloc::Global;
 use std::marker::Model;
 
-/// Frames of 4,096 bytes each, at most 65,536 of them. Contracts see them as one list of bytes.
+/// Frames of 4,096 bytes each, at most 65,536 of them. Contracts see them as one list of bytes. There is memory for all of
+/// them, but bytes are set to 0 only when a byte of their frame, or of a later one, is first written.
 #[derive(Debug, Drop)]
 pub struct Frames {
     bytes: Vec<u8>,
+    /// How many more bytes there are behind `bytes`, all of them 0.
+    left: usize,
 }
 
 impl Model for Frames {
+    ghost use Rattle.std.specs.Prelude.{ℕ, List, ◌++◌, replicate};
+    ghost use Rattle.arm7_bus.specs.Paging.{AreFrames};
+    ghost use Rattle.std.specs.Prelude.{vec_len, vec_capacity};
+
     ghost Value = { List ℕ };
 
-    ghost view = { λ frames. frames.bytes.items };
+    ghost view = { λ frames. frames.bytes.items ++ replicate frames.left 0 };
+
+    ghost invariant = { λ frames. AreFrames (vec_len frames.bytes) (vec_capacity frames.bytes) frames.left };
 }
 
 impl Frames {
@@ -28,6 +38,7 @@ impl Frames {
     {
         Frames {
             bytes: Vec::new(alloc),
+            left: 0,
         }
     }
 
@@ -38,7 +49,8 @@ impl Frames {
     {
         let size = 4096 * n as usize;
         Ok(Frames {
-            bytes: vec![in alloc; 0; size]?,
+            bytes: Vec::with_capacity(alloc, size)?,
+            left: size,
         })
     }
 
@@ -53,30 +65,7 @@ impl Frames {
         requires { at < length self.now }
         ensures { result ≡ slice_index self.now at }
     {
-        self.bytes[at as usize]
-    }
-
-    pub fn write_byte(&mut self, at: u32, v: u8)
-        requires { at < length self.old }
-        ensures { self.new ≡ slice_set self.old at v }
-    {
-        self.bytes[at as usize] = v;
-    }
-
-    pub fn read_word(&self, at: u32) -> u32
-        requires aligned { at % 4 ≡ 0 }
-        requires room { at + 4 ≤ length self.now }
-        ensures { result ≡ word_in self.now at }
-    {
-        word_at(&self.bytes, at as usize)
-    }
-
-    pub fn write_word(&mut self, at: u32, v: u32)
-        requires aligned { at % 4 ≡ 0 }
-        requires room { at + 4 ≤ length self.old }
-        ensures { self.new ≡ written self.old at (bytes_of v 4) }
-    {
-        put_word(&mut self.bytes, at as usize, v);
+        byte_of(&self.bytes, self.left, at as usize)
     }
 
     /// The bytes of an access, as a number.
@@ -85,25 +74,91 @@ impl Frames {
         requires room { at + bytes_in width ≤ length self.now }
         ensures { result ≡ number_of (take (bytes_in width) (drop at self.now)) }
     {
-        match width {
-            Width::Byte => u32::from(self.read_byte(at)),
-            Width::Half => u32::from(half_at(&self.bytes, at as usize)),
-            Width::Word => self.read_word(at),
-        }
+        number_at(&self.bytes, self.left, at as usize, width)
     }
 
     /// Sets the bytes of an access to the low bytes of a value.
+    #[tactic(auto, using(crate::proofs::FrameLemmas::access_fits, crate::proofs::FrameLemmas::write_made))]
     pub fn write(&mut self, at: u32, width: Width, v: u32)
         requires aligned { at % bytes_in width ≡ 0 }
         requires room { at + bytes_in width ≤ length self.old }
         ensures { self.new ≡ written self.old at (bytes_of v (bytes_in width)) }
     {
-        match width {
-            Width::Byte => self.write_byte(at, (v % 256) as u8),
-            Width::Half => put_half(&mut self.bytes, at as usize, (v % 65536) as u16),
-            Width::Word => self.write_word(at, v),
-        }
+        let at = at as usize;
+        self.left = zeros_to(&mut self.bytes, self.left, at);
+        put(&mut self.bytes, at, width, v);
     }
+}
+
+/// The byte at a place, where `_left` zeros follow the bytes.
+#[tactic(auto, using(crate::proofs::FrameLemmas::byte_made, crate::proofs::FrameLemmas::byte_left))]
+fn byte_of(bytes: &[u8], _left: usize, at: usize) -> u8
+    ensures { result ≡ slice_index (bytes.now ++ replicate _left 0) at }
+{
+    if at < bytes.len() {
+        return bytes[at];
+    }
+    0
+}
+
+/// The bytes of an access, as a number, where `_left` zeros follow the bytes.
+#[tactic(auto, using(crate::proofs::FrameLemmas::number_made, crate::proofs::FrameLemmas::number_byte, crate::proofs::FrameLemmas::number_left))]
+fn number_at(bytes: &[u8], _left: usize, at: usize, width: Width) -> u32
+    requires whole { length bytes.now % 4096 ≡ 0 }
+    requires aligned { at % bytes_in width ≡ 0 }
+    ensures { result ≡ number_of (take (bytes_in width) (drop at (bytes.now ++ replicate _left 0))) }
+{
+    if at >= bytes.len() {
+        return 0;
+    }
+    match width {
+        Width::Byte => u32::from(bytes[at]),
+        Width::Half => u32::from(half_at(bytes, at)),
+        Width::Word => word_at(bytes, at),
+    }
+}
+
+/// Sets the bytes of an access to the low bytes of a value.
+fn put(bytes: &mut [u8], at: usize, width: Width, v: u32)
+    requires { at + bytes_in width ≤ length bytes.old }
+    ensures { bytes.new ≡ written bytes.old at (bytes_of v (bytes_in width)) }
+{
+    match width {
+        Width::Byte => bytes[at] = (v % 256) as u8,
+        Width::Half => put_half(bytes, at, (v % 65536) as u16),
+        Width::Word => put_word(bytes, at, v),
+    }
+}
+
+/// Makes the zeros up to the end of the frame of a place, where they aren't made yet, of the `left` ones that follow the
+/// bytes; how many are left.
+fn zeros_to(bytes: &mut Vec<u8>, left: usize, at: usize) -> usize
+    requires frames { AreFrames (vec_len bytes.old) (vec_capacity bytes.old) left }
+    requires within { at < vec_len bytes.old + left }
+    ensures same { bytes.new.items ++ replicate result 0 ≡ bytes.old.items ++ replicate left 0 }
+    ensures frames { AreFrames (vec_len bytes.new) (vec_capacity bytes.new) result }
+    ensures made { at < vec_len bytes.new }
+{
+    if at < bytes.len() {
+        return left;
+    }
+    more_zeros(bytes, left, at)
+}
+
+#[cold]
+#[tactic(auto, using(crate::proofs::FrameLemmas::zeros_made))]
+fn more_zeros(bytes: &mut Vec<u8>, left: usize, at: usize) -> usize
+    requires frames { AreFrames (vec_len bytes.old) (vec_capacity bytes.old) left }
+    requires behind { vec_len bytes.old ≤ at }
+    requires within { at < vec_len bytes.old + left }
+    ensures same { bytes.new.items ++ replicate result 0 ≡ bytes.old.items ++ replicate left 0 }
+    ensures frames { AreFrames (vec_len bytes.new) (vec_capacity bytes.new) result }
+    ensures made { at < vec_len bytes.new }
+{
+    let end = (at / 4096 + 1) * 4096;
+    let rest = left - (end - bytes.len());
+    bytes.resize(end, 0).unwrap();
+    rest
 }
 
 fn each_fits(bytes: &[u8])

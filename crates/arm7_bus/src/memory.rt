@@ -3,6 +3,7 @@
 ghost use Rattle.std.specs.Prelude.{◌≡◌, ◌<◌, ◌≤◌, ◌+◌, ◌-◌, ◌/◌, ◌%◌, ◌^◌, ◌∷◌, [], ◌++◌, ◌||◌, nat_lt, length, map, take, true, false, IsTrue, is_some, Some, None, Ok, Err, OnOk, OnErr, IfErr, MatchResult, slice_set};
 ghost use Rattle.sdt_word.specs.Bytes.{bytes_of, load, number_of};
 ghost use Rattle.sdt_word.specs.Codes.{bytes_in};
+ghost use Rattle.arm7_bus.specs.Lookups.{AreApartBanks, IsBankAt};
 
 use crate::meets::{first_shared, lesser};
 use crate::pages::{PAGE, PAGES, Pages};
@@ -36,13 +37,16 @@ pub struct Stores {
     pub ghost few: { count ≤ 16 },
 }
 
-/// The banks, their bytes, and the stores since the last tick.
+/// The banks, their bytes, and the stores since the last tick. `last` is the place of the bank that was used last, with
+/// which a search begins: it is no part of what memory means, and decides no answer.
 #[derive(Debug, Drop)]
 pub struct Memory {
     pub alloc: Global,
     pub banks: Vec<Bank>,
     pub pages: Pages,
     pub stores: Stores,
+    pub last: usize,
+    pub ghost apart: { AreApartBanks banks.items },
 }
 
 /// Whether the range has the whole access of `n` bytes.
@@ -63,9 +67,28 @@ fn bank_has_access(banks: &[Bank], a: u64, n: u32) -> bool
     banks.iter().any(|bank| range_has(bank.range, a, n))
 }
 
+/// The place of the first bank that has the whole access.
+#[inline(never)]
+fn place_of_bank(banks: &[Bank], a: u64, n: u32) -> Option<usize>
+    requires { a ≤ 2 ^ 33 }
+    ensures found { is_some result ≡ list_any (λ b. has_access b.range.base b.range.size a n) banks.now }
+    ensures within { IfSome result (λ i. i < length banks.now) }
+{
+    let [first, rest @ ..] = banks else {
+        return None;
+    };
+    if range_has(first.range, a, n) {
+        return Some(0);
+    }
+    match place_of_bank(rest, a, n) {
+        Some(i) => Some(i + 1),
+        None => None,
+    }
+}
+
 ghost use Rattle.std.specs.List.{list_any};
-ghost use Rattle.std.specs.Prelude.{min};
-ghost use Rattle.arm7_bus.specs.Touches.{range_touches, pages_touched};
+ghost use Rattle.std.specs.Prelude.{ℕ, IfSome, min};
+ghost use Rattle.arm7_bus.specs.Touches.{IsRun, range_touches, pages_touched};
 
 fn byte_protected(banks: &[Bank], a: u64) -> bool
     requires { a ≤ 2 ^ 33 }
@@ -113,7 +136,7 @@ impl Memory {
     ghost use Rattle.std.specs.Prelude.{◌&&◌, nat_le};
     ghost use Rattle.arm7_bus.specs.States.{claimed, pages_of};
     ghost use Rattle.arm7_bus.specs.Buses.{with_bank, with_protected};
-    ghost use Rattle.arm7_bus.specs.Meets.{IsFound};
+    ghost use Rattle.arm7_bus.specs.Meets.{IsFound, IsNowhere};
     ghost use Rattle.arm7_bus.specs.Seats.{has_access};
     ghost use Rattle.std.specs.Prelude.{◌≡◌, ◌≤◌, ◌<◌, ◌+◌, ◌%◌, ◌/◌, true, false, IsTrue, length, MatchOption, is_some, OnOk, OnErr, Ok, Err, ◌-◌, Some, None, ◌∷◌, [], ◌++◌, ℕ};
     ghost use Rattle.sdt_word.specs.Bytes.{load, number_of};
@@ -121,18 +144,54 @@ impl Memory {
     ghost use Rattle.arm7_bus.specs.Paging.{page_used_in, used_count};
     ghost use Rattle.arm7_bus.specs.States.{contents_of, noted, IsStart, bank_has, is_protected, store_fault, after_store, store_answer, store_leaves, peeked};
 
+    /// Whether the bank that was used last has the whole access.
+    fn is_last(&self, a: u32, n: u32) -> bool
+        ensures { result ≡ true → IsBankAt self.now.banks.items self.now.last a n }
+    {
+        if self.last >= self.banks.len() {
+            return false;
+        }
+        range_has(self.banks[self.last].range, u64::from(a), n)
+    }
+
     /// Whether one bank has the whole access.
     pub fn holds(&self, a: u32, n: u32) -> bool
         ensures { result ≡ bank_has (contents_of self.now).banks a n }
     {
+        if self.is_last(a, n) {
+            return true;
+        }
         bank_has_access(&self.banks, u64::from(a), n)
     }
 
-    /// Whether a byte of the access is protected.
+    /// The same, by a search that begins with the bank that was used last.
+    #[inline(always)]
+    pub fn finds(&mut self, a: u32, n: u32) -> bool
+        ensures found { result ≡ bank_has (contents_of self.old).banks a n }
+        ensures same { contents_of self.new ≡ contents_of self.old }
+        ensures stores { self.new.stores ≡ self.old.stores }
+    {
+        if self.is_last(a, n) {
+            return true;
+        }
+        match place_of_bank(&self.banks, u64::from(a), n) {
+            Some(i) => {
+                self.last = i;
+                true
+            }
+            None => false,
+        }
+    }
+
+    /// Whether a byte of the access is protected. Where the bank that was used last has it, no other bank has a byte of it.
     pub fn is_protected(&self, a: u32, n: u32) -> bool
-        requires { n ≤ 4 }
+        requires some { 1 ≤ n }
+        requires few { n ≤ 4 }
         ensures { result ≡ is_protected (contents_of self.now).banks a n }
     {
+        if self.is_last(a, n) {
+            return self.banks[self.last].read_only;
+        }
         let first = u64::from(a);
         for x in first..first + u64::from(n) {
             if byte_protected(&self.banks, x) {
@@ -195,7 +254,7 @@ impl Memory {
     }
 
     /// No banks.
-    #[tactic(auto, using(crate::proofs::PagingLemmas::memory_clear))]
+    #[tactic(auto, using(crate::proofs::PagingLemmas::memory_clear, crate::proofs::LookupLemmas::apart_none))]
     pub fn new(alloc: Global) -> Memory
         ensures banks { (contents_of result).banks ≡ [] }
         ensures memory { (a : ℕ) → (contents_of result).memory a ≡ 0 }
@@ -208,6 +267,7 @@ impl Memory {
             banks: Vec::new(alloc),
             pages: Pages::none(alloc),
             stores: Stores::none(),
+            last: 0,
         }
     }
 
@@ -218,8 +278,9 @@ impl Memory {
         bank_meeting(&self.banks, r)
     }
 
-    /// One more bank, which isn't protected.
+    /// One more bank, which isn't protected and has no address of another.
     pub fn add_bank(&mut self, range: Range32) -> Result<(), NoMemory>
+        requires { IsNowhere (λ a. has_access range.base range.size a 1 && bank_has (contents_of self.old).banks a 1) }
         ensures ok { OnOk result (contents_of self.new ≡ with_bank (contents_of self.old) range) }
         ensures err { OnErr result (contents_of self.new ≡ contents_of self.old) }
     {
@@ -340,16 +401,65 @@ fn page_touched(banks: &[Bank], page: u64) -> bool
     banks.iter().any(|bank| touches_page(bank.range, page))
 }
 
-/// How many frames there are for the pages that the banks touch.
-#[tactic(auto, using(crate::proofs::TestLemmas::touched_more, crate::proofs::TestLemmas::touched_none))]
+/// The page behind a page with which a range begins or ends, or the end of all pages: the range touches all pages before it
+/// or none.
+#[tactic(auto, using(crate::proofs::EdgeLemmas::same_before, crate::proofs::EdgeLemmas::same_within, crate::proofs::EdgeLemmas::same_behind))]
+fn edge_of(range: Range32, page: u64) -> u64
+    requires { page < 1048576 }
+    ensures edge { (page < result) × (result ≤ 1048576) }
+    ensures same { (x : ℕ) → page ≤ x → x < result → range_touches range.base range.size x ≡ range_touches range.base range.size page }
+{
+    let first = u64::from(range.base) / 4096;
+    let end = (u64::from(range.base) + range.size + 4095) / 4096;
+    if page < first {
+        return first;
+    }
+    if page < end {
+        return end;
+    }
+    1048576
+}
+
+/// The page behind a page with which a bank begins or ends, or the end of all pages: the banks touch all pages before it or
+/// none.
+#[tactic(auto, using(crate::proofs::EdgeLemmas::run_more, crate::proofs::EdgeLemmas::run_none))]
+fn next_edge(banks: &[Bank], page: u64) -> u64
+    requires { page < 1048576 }
+    ensures edge { (page < result) × (result ≤ 1048576) }
+    ensures same { IsRun banks.now page result }
+{
+    let [first, rest @ ..] = banks else {
+        return 1048576;
+    };
+    edge_of(first.range, page).min(next_edge(rest, page))
+}
+
+/// How many pages before an edge, from a page on, the banks touch.
+#[tactic(auto, using(crate::proofs::EdgeLemmas::run_touched, crate::proofs::EdgeLemmas::run_untouched))]
+fn touched_to(banks: &[Bank], page: u64, edge: u64) -> u64
+    requires start { page < 1048576 }
+    requires edge { page ≤ edge }
+    requires run { IsRun banks.now page edge }
+    ensures count { result + pages_touched banks.now page ≡ pages_touched banks.now edge }
+    ensures few { result ≤ edge - page }
+{
+    if page_touched(banks, page) {
+        return edge - page;
+    }
+    0
+}
+
+/// How many frames there are for the pages that the banks touch. It goes from edge to edge.
+#[tactic(auto, using(crate::proofs::TestLemmas::touched_none))]
 fn frames_for(banks: &[Bank]) -> u32
     ensures { result ≡ min 65536 (pages_touched banks.now 1048576) }
 {
-    let mut n: u32 = 0;
-    for page in 0..1048576 {
-        if page_touched(banks, page) {
-            n += 1;
-        }
+    let mut n: u64 = 0;
+    let mut page: u64 = 0;
+    'pages: while page < 1048576 {
+        let edge = next_edge(banks, page);
+        n += touched_to(banks, page, edge);
+        page = edge;
     }
-    n.min(65536)
+    n.min(65536) as u32
 }

@@ -234,9 +234,7 @@ impl Pages {
 fn empty_table(alloc: Global, pages: usize) -> Result<Vec<Option<u16>>, NoMemory>
     ensures { IfOk result (λ table. IsUnused table.items pages) }
 {
-    let mut table = Vec::with_capacity(alloc, pages)?;
-    for _page in 0..pages {
-        table.push(None)?;
-    }
+    let mut table = Vec::new(alloc);
+    table.resize(pages, None)?;
     Ok(table)
 }

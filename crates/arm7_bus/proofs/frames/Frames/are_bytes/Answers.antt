@@ -1,0 +1,8 @@
+use Rattle.std.proofs.Common.{ℕ, ◌<◌, List, get_or, subst}
+use Rattle.arm7_bus.proofs.FrameLemmas.{bytes_fit}
+use Rattle.arm7_bus.proofs.frames.Frames.are_bytes.Goals as goal
+
+pub returns : goal.returns
+returns c =
+    λ k. subst (λ (xs : List ℕ). get_or xs k 0 < 256) c.self.view_is
+    (bytes_fit c.self.inside.bytes.items c.self.inside.left k (rw c.deref.ensures.value at c.each_fits.ensures))

@@ -1,0 +1,9 @@
+use Rattle.std.proofs.Common.{arith, ◌∙◌, ap, map}
+use Rattle.arm7_bus.specs.Protection.{protected_bank}
+use Rattle.arm7_bus.proofs.LookupLemmas.{apart_protected}
+use Rattle.arm7_bus.proofs.memory.Memory.protect.Goals as goal
+
+pub invariant_of-self : goal.invariant_of-self
+invariant_of-self c = record {
+  apart = apart_protected c.args.r c.args.self.now.banks.items c.protect_banks.new.banks c.args.self.now.banks.len c.args.self.now.apart (rw c.deref_mut.ensures.value at c.protect_banks.ensures) (omega arith);
+}
