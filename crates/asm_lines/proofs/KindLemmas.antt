@@ -84,6 +84,9 @@ best_is rest =
 kinds_are : (s : List ℕ) → first_of (all_kinds s) ≡ form_of s
 kinds_are s = refl
 
+pub best_within : (rest : List ℕ) → (best_of rest).1 ≤ length rest
+best_within rest = (best_is rest).within
+
 -- where the best has a length, it is the longest prefix
 pub best_longest : (rest : List ℕ) → 0 < (best_of rest).1 → IsLongest (best_of rest).0 (best_of rest).1 rest
 best_longest rest some =

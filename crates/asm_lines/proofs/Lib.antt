@@ -1,4 +1,5 @@
 pub mod Best
+pub mod FirstLemmas
 pub mod KindLemmas
 pub mod LineLemmas
 pub mod ScanLemmas

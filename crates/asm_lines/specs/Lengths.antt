@@ -1,6 +1,6 @@
 -- How long the longest prefix of each form is; 0 where there is none. This project's: what the code gives,
 -- and the laws tie it to the forms.
-use Rattle.std.specs.Prelude.{ℕ, ◌+◌, ◌-◌, List, [], ◌∷◌, ◌==◌, nat_le, nat_lt, ◌&&◌, ◌||◌, Bool, if◌then◌else◌, length, max, nat_eq}
+use Rattle.std.specs.Prelude.{ℕ, ◌+◌, ◌-◌, List, [], ◌∷◌, ◌==◌, nat_le, nat_lt, ◌&&◌, ◌||◌, Bool, if◌then◌else◌, length, max, nat_eq, codes}
 use Rattle.std.specs.List.{prefix_len, slice_split, starts_with}
 use Rattle.asm_model.specs.declared.tokens.TokenKind.{TokenKind}
 use Rattle.asm_model.specs.declared.tokens.TokenKind.TheVariants.{Name, Barred, Number, Quoted, Character, Braced, Local, Sign}
@@ -88,6 +88,10 @@ words_len (w ∷ ws) rest = max (word_len w rest) (words_len ws rest)
 abbrev pub one_of_len : List ℕ → List ℕ → ℕ
 one_of_len text rest = words_len (slice_split (λ c. c == 32) text) rest
 
+-- the signs of one byte with which no longer one begins
+abbrev pub byte_signs : List ℕ
+byte_signs = codes "+-?*().@,#&%^![|]{}"
+
 -- the longer of two, the first where they are equal
 abbrev pub longer : TokenKind × ℕ → TokenKind → ℕ → TokenKind × ℕ
 longer best kind len = if nat_lt best.1 len then (kind, len) else best
@@ -106,3 +110,14 @@ best_of rest =
     Braced (one_of_len braced_words rest))
     Local (local_len rest))
     Sign (one_of_len signs rest)
+
+-- the longest prefix with a form that begins with a byte, but for names, decimal numbers and signs
+abbrev pub form_at : ℕ → List ℕ → TokenKind × ℕ
+form_at c rest =
+    if c == 124 then (Barred, barred_len rest)
+    else if c == 34 then (Quoted, quoted_len rest)
+    else if c == 39 then (Character, character_len rest)
+    else if c == 123 then (Braced, one_of_len braced_words rest)
+    else if c == 37 then (Local, local_len rest)
+    else if c == 38 then (Number, number_len rest)
+    else (Name, 0)

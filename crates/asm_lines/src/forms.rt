@@ -7,7 +7,17 @@ ghost use Rattle.std.specs.Option.{option_copied};
 ghost use Rattle.asm_lines.specs.Lengths as lengths;
 ghost use Rattle.asm_lines.specs.Steps.{Cuts};
 
-use crate::bytes::{Class, is_between_bars, is_digit, is_letter, run_len};
+use crate::bytes::{Class, is_between_bars, is_digit, run_len};
+
+/// The words in braces.
+pub const BRACED_WORDS: &[u8] = b"{TRUE} {FALSE} {PC} {VAR} {CONFIG} {CODESIZE} {ENDIAN}";
+
+/// The signs that begin with a colon.
+const WORD_SIGNS: &[u8] =
+    b":NOT: :LNOT: :LEN: :CHR: :STR: :DEF: :MOD: :LEFT: :RIGHT: :CC: :ROL: :ROR: :SHL: :SHR: :AND: :OR: :EOR: :LAND: :LOR: :LEOR:";
+
+/// The signs of one byte with which no longer one begins.
+const BYTE_SIGNS: &[u8] = b"+-?*().@,#&%^![|]{}";
 
 /// The length, behind one byte.
 fn one_more(len: usize) -> usize
@@ -18,20 +28,6 @@ fn one_more(len: usize) -> usize
         return 0;
     }
     1 + len
-}
-
-/// A name.
-pub fn name_len(rest: &[u8]) -> usize
-    ensures value { result ≡ lengths.name_len rest.now }
-    ensures within { result ≤ length rest.now }
-{
-    let Some((first, _)) = rest.split_first() else {
-        return 0;
-    };
-    if is_letter(*first) {
-        return run_len(rest, Class::Word);
-    }
-    0
 }
 
 /// Bytes of a name, and then a bar.
@@ -286,6 +282,24 @@ pub fn one_of_len(text: &[u8], rest: &[u8]) -> usize
                 left = behind;
             }
         }
+    }
+}
+
+/// An operator, or a sign of another form. The first byte tells which there are.
+pub fn sign_len(rest: &[u8]) -> usize
+    ensures value { result ≡ lengths.one_of_len forms.signs rest.now }
+    ensures within { result ≤ length rest.now }
+{
+    let Some((first, _)) = rest.split_first() else {
+        return 0;
+    };
+    match *first {
+        b':' => one_of_len(WORD_SIGNS, rest),
+        b'=' => one_of_len(b"= ==", rest),
+        b'/' => one_of_len(b"/ /=", rest),
+        b'<' => one_of_len(b"<> < <=", rest),
+        b'>' => one_of_len(b"> >=", rest),
+        _ => usize::from(BYTE_SIGNS.contains(first)),
     }
 }
 

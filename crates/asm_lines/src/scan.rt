@@ -8,22 +8,16 @@ ghost use Rattle.asm_model.specs.Told.{Told};
 ghost use Rattle.asm_lines.specs.Lengths as lengths;
 ghost use Rattle.asm_lines.specs.Steps.{IsTheToken};
 
-use crate::bytes::{Class, run_len};
+use crate::bytes::{Class, is_digit, is_letter, run_len};
 use crate::forms::{
-    barred_len, character_len, local_len, name_len, number_len, one_of_len, quoted_len,
+    BRACED_WORDS, barred_len, character_len, local_len, number_len, one_of_len, quoted_len,
+    sign_len,
 };
 use asm_model::{Due, Flat, Token, TokenKind, bad_line, is_called};
 use sdt_fault::answer::Fault;
 use sdt_fault::kinds::LineKind;
 use sdt_fault::{List, NoMemory};
 use std::alloc::Global;
-
-/// The words in braces.
-const BRACED_WORDS: &[u8] = b"{TRUE} {FALSE} {PC} {VAR} {CONFIG} {CODESIZE} {ENDIAN}";
-
-/// The operators, and the signs of the other forms.
-const SIGNS: &[u8] =
-    b"+ - ? :NOT: :LNOT: :LEN: :CHR: :STR: :DEF: * / :MOD: :LEFT: :RIGHT: :CC: :ROL: :ROR: :SHL: :SHR: :AND: :OR: :EOR: = == <> /= < <= > >= :LAND: :LOR: :LEOR: ( ) . @ , # & % ^ ! [ | ] { }";
 
 /// The longer of two, the first where they are equal.
 fn longer(best: (TokenKind, usize), kind: TokenKind, len: usize) -> (TokenKind, usize)
@@ -35,19 +29,41 @@ fn longer(best: (TokenKind, usize), kind: TokenKind, len: usize) -> (TokenKind, 
     best
 }
 
-/// The kind and the length of the longest prefix with a form; the length is 0 where none has one.
+/// The kind and the length of the longest prefix with a form that begins with such a byte, but for names, decimal
+/// numbers and signs.
+fn form_at(first: u8, rest: &[u8]) -> (TokenKind, usize)
+    ensures value { result ≡ lengths.form_at first rest.now }
+    ensures within { result.1 ≤ length rest.now }
+{
+    match first {
+        b'|' => (TokenKind::Barred, barred_len(rest)),
+        b'"' => (TokenKind::Quoted, quoted_len(rest)),
+        b'\'' => (TokenKind::Character, character_len(rest)),
+        b'{' => (TokenKind::Braced, one_of_len(BRACED_WORDS, rest)),
+        b'%' => (TokenKind::Local, local_len(rest)),
+        b'&' => (TokenKind::Number, number_len(rest)),
+        _ => (TokenKind::Name, 0),
+    }
+}
+
+/// The kind and the length of the longest prefix with a form; the length is 0 where none has one. The first byte
+/// tells which forms it can have.
 fn best_of(rest: &[u8]) -> (TokenKind, usize)
     ensures value { result ≡ lengths.best_of rest.now }
     ensures within { result.1 ≤ length rest.now }
 {
-    let best = (TokenKind::Name, name_len(rest));
-    let best = longer(best, TokenKind::Barred, barred_len(rest));
-    let best = longer(best, TokenKind::Number, number_len(rest));
-    let best = longer(best, TokenKind::Quoted, quoted_len(rest));
-    let best = longer(best, TokenKind::Character, character_len(rest));
-    let best = longer(best, TokenKind::Braced, one_of_len(BRACED_WORDS, rest));
-    let best = longer(best, TokenKind::Local, local_len(rest));
-    longer(best, TokenKind::Sign, one_of_len(SIGNS, rest))
+    let none = (TokenKind::Name, 0);
+    let Some((first, _)) = rest.split_first() else {
+        return none;
+    };
+    if is_letter(*first) {
+        return (TokenKind::Name, run_len(rest, Class::Word));
+    }
+    if is_digit(*first) {
+        return longer(none, TokenKind::Number, number_len(rest));
+    }
+    let (kind, len) = form_at(*first, rest);
+    longer(longer(none, kind, len), TokenKind::Sign, sign_len(rest))
 }
 
 /// The kind and the length of the longest prefix with a form; None where none has one.

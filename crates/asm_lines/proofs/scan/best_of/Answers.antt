@@ -1,24 +1,26 @@
-use Rattle.std.proofs.Common.{refl}
-use Rattle.asm_lines.specs.Lengths.{best_of}
+use Rattle.std.proofs.Common.{◌∙◌, sym}
+use Rattle.asm_lines.proofs.FirstLemmas.{empty_best_of, letter_best_of, digit_best_of, other_best_of}
+use Rattle.asm_lines.proofs.KindLemmas.{best_within}
 use Rattle.asm_lines.proofs.scan.best_of.Goals as goal
 
+pub returns-in_default-clause-value : goal.returns-in_default-clause-value
+returns-in_default-clause-value c = empty_best_of c.args.rest.now c.in_default.ensures.cases
+
+pub returns-then-is_letter-clause-value : goal.returns-then-is_letter-clause-value
+returns-then-is_letter-clause-value c =
+    letter_best_of c.args.rest.now c.in-Some.first.now c.in-Some.field-0-1.now c.run_len.result c.in-Some.ensures.cases.0 (sym c.is_letter.ensures ∙ c.if-is_letter.true)
+    c.run_len.ensures.run
+
+pub returns-then-is_digit-clause-value : goal.returns-then-is_digit-clause-value
+returns-then-is_digit-clause-value c =
+    digit_best_of c.args.rest.now c.in-Some.first.now c.in-Some.field-0-1.now c.number_len.result c.longer.result c.in-Some.ensures.cases.0
+    (sym c.is_letter.ensures ∙ c.if-is_letter.false) (sym c.is_digit.ensures ∙ c.if-is_digit.true) c.number_len.ensures.value c.longer.ensures
+
 pub returns-clause-value : goal.returns-clause-value
-unfolding best_of
 returns-clause-value c =
-    rw (
-      c.longer.ensures,
-      c.longer-best-6.ensures,
-      c.longer-best-5.ensures,
-      c.longer-best-4.ensures,
-      c.longer-best-3.ensures,
-      c.longer-best-2.ensures,
-      c.longer-best.ensures,
-      c.name_len.ensures.value,
-      c.barred_len.ensures.value,
-      c.number_len.ensures.value,
-      c.quoted_len.ensures.value,
-      c.character_len.ensures.value,
-      c.one_of_len.ensures.value,
-      c.local_len.ensures.value,
-      c.one_of_len-2.ensures.value,
-    ) refl
+    other_best_of c.args.rest.now c.in-Some.first.now c.in-Some.field-0-1.now c.sign_len.result c.form_at-kind.result c.longer-2.result c.longer-3.result
+    c.in-Some.ensures.cases.0 (sym c.is_letter.ensures ∙ c.if-is_letter.false) (sym c.is_digit.ensures ∙ c.if-is_digit.false)
+    c.form_at-kind.ensures.value c.longer-2.ensures c.sign_len.ensures.value c.longer-3.ensures
+
+pub returns-clause-within : goal.returns-clause-within
+returns-clause-within c = rw (returns-clause-value c) (best_within c.args.rest.now)
