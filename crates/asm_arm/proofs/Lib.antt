@@ -1,5 +1,5 @@
-pub mod BothLemmas
 pub mod CutLemmas
 pub mod LawLemmas
 pub mod ListLemmas
 pub mod SayingLemmas
+pub mod StemLemmas

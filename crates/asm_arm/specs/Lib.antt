@@ -4,5 +4,6 @@ pub mod Lines
 pub mod Lists
 pub mod Operands
 pub mod Says
+pub mod Stems
 pub mod Steps
 pub mod Words

@@ -96,23 +96,6 @@ fn number_shift(scale: Result<Scale, LineKind>) -> Result<Shift, LineKind>
     }
 }
 
-/// A register with a shift as an offset.
-fn shifted_offset(
-    signed: Result<(bool, Register), LineKind>,
-    shift: Result<Shift, LineKind>,
-) -> Result<Offset, LineKind>
-    ensures { result ≡ says.on_both (λ p x. offset_is.Register p.0 p.1 x) signed shift }
-{
-    match both(signed, shift) {
-        Ok(((subtract, rm), shift)) => Ok(Offset::Register {
-            subtract,
-            rm,
-            shift,
-        }),
-        Err(kind) => Err(kind),
-    }
-}
-
 /// A number as an offset.
 fn number_offset(
     alloc: Global,
@@ -162,24 +145,13 @@ fn any_offset(
     };
     let shift = number_shift(shift_of(alloc, text, shift)?);
     let signed = signed_register(alloc, text, tokens)?;
-    Ok(shifted_offset(signed, shift))
-}
-
-/// A base and an offset, where both are read.
-fn based(
-    indexing: Indexing,
-    rn: Result<Register, LineKind>,
-    offset: Result<Offset, LineKind>,
-) -> Result<Addressed, LineKind>
-    ensures { result ≡ says.on_both (λ rn x. addresses.at indexing rn x) rn offset }
-{
-    match both(rn, offset) {
-        Ok((rn, offset)) => Ok(Addressed {
-            rn,
-            indexing,
-            offset,
-        }),
-        Err(kind) => Err(kind),
+    match both(signed, shift) {
+        Ok(((subtract, rm), shift)) => Ok(Ok(Offset::Register {
+            subtract,
+            rm,
+            shift,
+        })),
+        Err(kind) => Ok(Err(kind)),
     }
 }
 
@@ -196,7 +168,14 @@ fn at(
 {
     let offset = any_offset(alloc, text, tokens, shift)?;
     let rn = register(alloc, text, base)?;
-    Ok(based(indexing, rn, offset))
+    match both(rn, offset) {
+        Ok((rn, offset)) => Ok(Ok(Addressed {
+            rn,
+            indexing,
+            offset,
+        })),
+        Err(kind) => Ok(Err(kind)),
+    }
 }
 
 /// A base alone.

@@ -217,50 +217,6 @@ fn two_registers(
     Ok(both(first, second))
 }
 
-/// Rd, Rm and Rs of a multiplication.
-fn product(
-    condition: Condition,
-    set_flags: bool,
-    registers: Result<((Register, Register), Register), LineKind>,
-) -> Result<What, LineKind>
-    ensures { result ≡ says.mapped (λ p. what.Arm (line.Multiply condition false set_flags p.0.0 p.0.1 p.1 operands.no_register)) registers }
-{
-    match registers {
-        Ok(((rd, rm), rs)) => Ok(What::Arm(ArmLine::Multiply {
-            condition,
-            accumulate: false,
-            set_flags,
-            rd,
-            rm,
-            rs,
-            rn: Register::Number(0),
-        })),
-        Err(kind) => Err(kind),
-    }
-}
-
-/// Rd, Rm, Rs and Rn of a multiplication that accumulates.
-fn accumulation(
-    condition: Condition,
-    set_flags: bool,
-    registers: Result<((Register, Register), (Register, Register)), LineKind>,
-) -> Result<What, LineKind>
-    ensures { result ≡ says.mapped (λ p. what.Arm (line.Multiply condition true set_flags p.0.0 p.0.1 p.1.0 p.1.1)) registers }
-{
-    match registers {
-        Ok(((rd, rm), (rs, rn))) => Ok(What::Arm(ArmLine::Multiply {
-            condition,
-            accumulate: true,
-            set_flags,
-            rd,
-            rm,
-            rs,
-            rn,
-        })),
-        Err(kind) => Err(kind),
-    }
-}
-
 fn multiply(alloc: Global, text: &[u8], condition: Condition, set_flags: bool, cut: Cut<'_>) -> Said
     ensures { IfOk result (λ said. said ≡ lines.multiply text.now condition false set_flags (cut_of cut.entry)) }
 {
@@ -268,7 +224,18 @@ fn multiply(alloc: Global, text: &[u8], condition: Condition, set_flags: bool, c
         Cut::Three(rd, rm, rs) => {
             let first = two_registers(alloc, text, rd, rm)?;
             let rs = register(alloc, text, rs)?;
-            Ok(product(condition, set_flags, both(first, rs)))
+            match both(first, rs) {
+                Ok(((rd, rm), rs)) => Ok(Ok(What::Arm(ArmLine::Multiply {
+                    condition,
+                    accumulate: false,
+                    set_flags,
+                    rd,
+                    rm,
+                    rs,
+                    rn: Register::Number(0),
+                }))),
+                Err(kind) => Ok(Err(kind)),
+            }
         }
         _ => Ok(Err(LineKind::Syntax)),
     }
@@ -287,7 +254,18 @@ fn multiply_accumulate(
         Cut::Four(rd, rm, rs, rn) => {
             let first = two_registers(alloc, text, rd, rm)?;
             let second = two_registers(alloc, text, rs, rn)?;
-            Ok(accumulation(condition, set_flags, both(first, second)))
+            match both(first, second) {
+                Ok(((rd, rm), (rs, rn))) => Ok(Ok(What::Arm(ArmLine::Multiply {
+                    condition,
+                    accumulate: true,
+                    set_flags,
+                    rd,
+                    rm,
+                    rs,
+                    rn,
+                }))),
+                Err(kind) => Ok(Err(kind)),
+            }
         }
         _ => Ok(Err(LineKind::Syntax)),
     }
@@ -318,27 +296,6 @@ pub struct LongProduct {
     pub set_flags: bool,
 }
 
-fn long_line(
-    word: LongProduct,
-    registers: Result<((Register, Register), (Register, Register)), LineKind>,
-) -> Result<What, LineKind>
-    ensures { result ≡ says.mapped (λ p. what.Arm (line.MultiplyLong word.condition word.signed word.accumulate word.set_flags p.0.0 p.0.1 p.1.0 p.1.1)) registers }
-{
-    match registers {
-        Ok(((low, high), (rm, rs))) => Ok(What::Arm(ArmLine::MultiplyLong {
-            condition: word.condition,
-            signed: word.signed,
-            accumulate: word.accumulate,
-            set_flags: word.set_flags,
-            low,
-            high,
-            rm,
-            rs,
-        })),
-        Err(kind) => Err(kind),
-    }
-}
-
 fn multiply_long(alloc: Global, text: &[u8], word: LongProduct, cut: Cut<'_>) -> Said
     ensures { IfOk result (λ said. said ≡ lines.multiply_long text.now word.condition word.signed word.accumulate word.set_flags (cut_of cut.entry)) }
 {
@@ -346,7 +303,19 @@ fn multiply_long(alloc: Global, text: &[u8], word: LongProduct, cut: Cut<'_>) ->
         Cut::Four(low, high, rm, rs) => {
             let first = two_registers(alloc, text, low, high)?;
             let second = two_registers(alloc, text, rm, rs)?;
-            Ok(long_line(word, both(first, second)))
+            match both(first, second) {
+                Ok(((low, high), (rm, rs))) => Ok(Ok(What::Arm(ArmLine::MultiplyLong {
+                    condition: word.condition,
+                    signed: word.signed,
+                    accumulate: word.accumulate,
+                    set_flags: word.set_flags,
+                    low,
+                    high,
+                    rm,
+                    rs,
+                }))),
+                Err(kind) => Ok(Err(kind)),
+            }
         }
         _ => Ok(Err(LineKind::Syntax)),
     }
@@ -366,25 +335,6 @@ fn based(
     }
 }
 
-fn swap_line(
-    condition: Condition,
-    byte: bool,
-    registers: Result<((Register, Register), Register), LineKind>,
-) -> Result<What, LineKind>
-    ensures { result ≡ says.mapped (λ p. what.Arm (line.Swap condition byte p.0.0 p.0.1 p.1)) registers }
-{
-    match registers {
-        Ok(((rd, rm), rn)) => Ok(What::Arm(ArmLine::Swap {
-            condition,
-            byte,
-            rd,
-            rm,
-            rn,
-        })),
-        Err(kind) => Err(kind),
-    }
-}
-
 fn swap(alloc: Global, text: &[u8], condition: Condition, byte: bool, cut: Cut<'_>) -> Said
     ensures { IfOk result (λ said. said ≡ lines.swap text.now condition byte (cut_of cut.entry)) }
 {
@@ -392,18 +342,18 @@ fn swap(alloc: Global, text: &[u8], condition: Condition, byte: bool, cut: Cut<'
         Cut::Three(rd, rm, address) => {
             let first = two_registers(alloc, text, rd, rm)?;
             let rn = based(alloc, text, address)?;
-            Ok(swap_line(condition, byte, both(first, rn)))
+            match both(first, rn) {
+                Ok(((rd, rm), rn)) => Ok(Ok(What::Arm(ArmLine::Swap {
+                    condition,
+                    byte,
+                    rd,
+                    rm,
+                    rn,
+                }))),
+                Err(kind) => Ok(Err(kind)),
+            }
         }
         _ => Ok(Err(LineKind::Syntax)),
-    }
-}
-
-fn exchange_line(condition: Condition, rm: Result<Register, LineKind>) -> Result<What, LineKind>
-    ensures { result ≡ says.mapped (λ rm. what.Arm (line.BranchExchange condition rm)) rm }
-{
-    match rm {
-        Ok(rm) => Ok(What::Arm(ArmLine::BranchExchange { condition, rm })),
-        Err(kind) => Err(kind),
     }
 }
 
@@ -411,25 +361,11 @@ fn exchange(alloc: Global, text: &[u8], condition: Condition, cut: Cut<'_>) -> S
     ensures { IfOk result (λ said. said ≡ lines.exchange text.now condition (cut_of cut.entry)) }
 {
     match cut {
-        Cut::One(rm) => Ok(exchange_line(condition, register(alloc, text, rm)?)),
+        Cut::One(rm) => match register(alloc, text, rm)? {
+            Ok(rm) => Ok(Ok(What::Arm(ArmLine::BranchExchange { condition, rm }))),
+            Err(kind) => Ok(Err(kind)),
+        },
         _ => Ok(Err(LineKind::Syntax)),
-    }
-}
-
-fn read_status_line(
-    condition: Condition,
-    rd: Result<Register, LineKind>,
-    saved: Result<bool, LineKind>,
-) -> Result<What, LineKind>
-    ensures { result ≡ says.on_both (λ rd saved. what.Arm (line.ReadStatus condition saved rd)) rd saved }
-{
-    match both(rd, saved) {
-        Ok((rd, saved)) => Ok(What::Arm(ArmLine::ReadStatus {
-            condition,
-            saved,
-            rd,
-        })),
-        Err(kind) => Err(kind),
     }
 }
 
@@ -439,45 +375,16 @@ fn read_status(alloc: Global, text: &[u8], condition: Condition, cut: Cut<'_>) -
     match cut {
         Cut::Two(rd, status) => {
             let rd = register(alloc, text, rd)?;
-            Ok(read_status_line(condition, rd, lists::status(text, status)))
+            match both(rd, lists::status(text, status)) {
+                Ok((rd, saved)) => Ok(Ok(What::Arm(ArmLine::ReadStatus {
+                    condition,
+                    saved,
+                    rd,
+                }))),
+                Err(kind) => Ok(Err(kind)),
+            }
         }
         _ => Ok(Err(LineKind::Syntax)),
-    }
-}
-
-fn status_number(
-    condition: Condition,
-    fields: Result<(bool, u8), LineKind>,
-    value: Result<Expr, LineKind>,
-) -> Result<What, LineKind>
-    ensures { result ≡ says.on_both (λ p x. what.Arm (line.WriteStatusImmediate condition p.0 p.1 x)) fields value }
-{
-    match both(fields, value) {
-        Ok(((saved, fields), value)) => Ok(What::Arm(ArmLine::WriteStatusImmediate {
-            condition,
-            saved,
-            fields,
-            value,
-        })),
-        Err(kind) => Err(kind),
-    }
-}
-
-fn status_register(
-    condition: Condition,
-    fields: Result<(bool, u8), LineKind>,
-    rm: Result<Register, LineKind>,
-) -> Result<What, LineKind>
-    ensures { result ≡ says.on_both (λ p rm. what.Arm (line.WriteStatus condition p.0 p.1 rm)) fields rm }
-{
-    match both(fields, rm) {
-        Ok(((saved, fields), rm)) => Ok(What::Arm(ArmLine::WriteStatus {
-            condition,
-            saved,
-            fields,
-            rm,
-        })),
-        Err(kind) => Err(kind),
     }
 }
 
@@ -494,11 +401,27 @@ fn status_value(
     match without_first(text, b"#", tokens) {
         Some(number) => {
             let value = expression(alloc, text, number)?;
-            Ok(status_number(condition, fields, value))
+            match both(fields, value) {
+                Ok(((saved, fields), value)) => Ok(Ok(What::Arm(ArmLine::WriteStatusImmediate {
+                    condition,
+                    saved,
+                    fields,
+                    value,
+                }))),
+                Err(kind) => Ok(Err(kind)),
+            }
         }
         None => {
             let rm = register(alloc, text, tokens)?;
-            Ok(status_register(condition, fields, rm))
+            match both(fields, rm) {
+                Ok(((saved, fields), rm)) => Ok(Ok(What::Arm(ArmLine::WriteStatus {
+                    condition,
+                    saved,
+                    fields,
+                    rm,
+                }))),
+                Err(kind) => Ok(Err(kind)),
+            }
         }
     }
 }
@@ -546,23 +469,6 @@ fn interrupt(alloc: Global, text: &[u8], condition: Condition, tokens: &[Token])
     }
 }
 
-fn address_line(
-    condition: Condition,
-    rd: Result<Register, LineKind>,
-    target: Result<Expr, LineKind>,
-) -> Result<What, LineKind>
-    ensures { result ≡ says.on_both (λ rd x. what.Pseudo (pseudo.Address condition rd x)) rd target }
-{
-    match both(rd, target) {
-        Ok((rd, target)) => Ok(What::Pseudo(PseudoLine::Address {
-            condition,
-            rd,
-            target,
-        })),
-        Err(kind) => Err(kind),
-    }
-}
-
 fn near_address(alloc: Global, text: &[u8], condition: Condition, cut: Cut<'_>) -> Said
     ensures { IfOk result (λ said. lines.ReadsAddress text.now condition (cut_of cut.entry) said) }
 {
@@ -570,7 +476,14 @@ fn near_address(alloc: Global, text: &[u8], condition: Condition, cut: Cut<'_>) 
         Cut::Two(rd, target) => {
             let target = expression(alloc, text, target)?;
             let rd = register(alloc, text, rd)?;
-            Ok(address_line(condition, rd, target))
+            match both(rd, target) {
+                Ok((rd, target)) => Ok(Ok(What::Pseudo(PseudoLine::Address {
+                    condition,
+                    rd,
+                    target,
+                }))),
+                Err(kind) => Ok(Err(kind)),
+            }
         }
         _ => Ok(Err(LineKind::Syntax)),
     }
@@ -592,23 +505,6 @@ fn long_register(rd: Result<Register, LineKind>) -> Result<Register, LineKind>
     }
 }
 
-fn long_address_line(
-    condition: Condition,
-    rd: Result<Register, LineKind>,
-    target: Result<Expr, LineKind>,
-) -> Result<What, LineKind>
-    ensures { result ≡ says.on_both (λ rd x. what.Pseudo (pseudo.LongAddress condition rd x)) rd target }
-{
-    match both(rd, target) {
-        Ok((rd, target)) => Ok(What::Pseudo(PseudoLine::LongAddress {
-            condition,
-            rd,
-            target,
-        })),
-        Err(kind) => Err(kind),
-    }
-}
-
 fn long_address(alloc: Global, text: &[u8], condition: Condition, cut: Cut<'_>) -> Said
     ensures { IfOk result (λ said. lines.ReadsLongAddress text.now condition (cut_of cut.entry) said) }
 {
@@ -616,7 +512,14 @@ fn long_address(alloc: Global, text: &[u8], condition: Condition, cut: Cut<'_>) 
         Cut::Two(rd, target) => {
             let target = expression(alloc, text, target)?;
             let rd = long_register(register(alloc, text, rd)?);
-            Ok(long_address_line(condition, rd, target))
+            match both(rd, target) {
+                Ok((rd, target)) => Ok(Ok(What::Pseudo(PseudoLine::LongAddress {
+                    condition,
+                    rd,
+                    target,
+                }))),
+                Err(kind) => Ok(Err(kind)),
+            }
         }
         _ => Ok(Err(LineKind::Syntax)),
     }

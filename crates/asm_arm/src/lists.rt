@@ -7,13 +7,19 @@ ghost use Rattle.asm_model.specs.Says as says;
 ghost use Rattle.asm_arm.specs.Lists as lists;
 
 use crate::operands::{between, both, marked, register, register_of};
-use crate::words::{begin, behind};
+use crate::words::{begin, behind, row_of};
 use asm_expr::kinds::earlier;
 use asm_expr::operands::{first_operand, is, piece_of};
-use asm_model::{ListItem, Register, Token, TokenKind, is_called};
+use asm_model::{ListItem, Register, Token, TokenKind};
 use sdt_fault::kinds::LineKind;
 use sdt_fault::{List, NoMemory};
 use std::alloc::Global;
+
+/// The status registers: whether it is the saved one.
+static STATUS: [(&[u8], bool); 2] = [(b"CPSR", false), (b"SPSR", true)];
+
+/// The same, before fields.
+static STATUS_WITH_FIELDS: [(&[u8], bool); 2] = [(b"CPSR_", false), (b"SPSR_", true)];
 
 /// A base, and whether `!` stands behind it.
 pub fn base(
@@ -40,19 +46,6 @@ fn range(first: Register, last: Register) -> Result<ListItem, LineKind>
         }
     }
     Ok(ListItem::Range { first, last })
-}
-
-/// A register to another, where both are read.
-fn range_of(
-    first: Result<Register, LineKind>,
-    last: Result<Register, LineKind>,
-) -> Result<ListItem, LineKind>
-    ensures { result ≡ lists.range_of first last }
-{
-    match both(first, last) {
-        Ok((first, last)) => range(first, last),
-        Err(kind) => Err(kind),
-    }
 }
 
 /// A register of a list.
@@ -84,7 +77,10 @@ fn register_range(
     }
     let first = register_of(alloc, first.kind, piece_of(text, first))?;
     let last = register_of(alloc, last.kind, piece_of(text, last))?;
-    Ok(range_of(first, last))
+    match both(first, last) {
+        Ok((first, last)) => Ok(range(first, last)),
+        Err(kind) => Ok(Err(kind)),
+    }
 }
 
 /// An entry of a list.
@@ -196,40 +192,13 @@ pub fn register_list(
     }
 }
 
-/// Whether a status register is the saved one.
-#[tactic(auto, unfolding(crate::specs::Lists::status_named))]
-fn status_named(word: &[u8]) -> Option<bool>
-    ensures { result ≡ lists.status_named word.now }
-{
-    if is_called(b"CPSR", word) {
-        return Some(false);
-    }
-    if is_called(b"SPSR", word) {
-        return Some(true);
-    }
-    None
-}
-
-/// The same, of a word with fields.
-#[tactic(auto, unfolding(crate::specs::Lists::status_begun))]
-fn status_begun(word: &[u8]) -> Option<bool>
-    ensures { result ≡ lists.status_begun word.now }
-{
-    if is_called(b"CPSR_", word) {
-        return Some(false);
-    }
-    if is_called(b"SPSR_", word) {
-        return Some(true);
-    }
-    None
-}
-
 /// A token as a status register.
+#[tactic(auto, unfolding(crate::specs::Lists::status_named))]
 fn status_of(kind: TokenKind, word: &[u8]) -> Result<bool, LineKind>
     ensures { result ≡ lists.status_of kind word.now }
 {
     match kind {
-        TokenKind::Name => match status_named(word) {
+        TokenKind::Name => match row_of(word, &STATUS) {
             None => Err(LineKind::BadOperand),
             Some(saved) => Ok(saved),
         },
@@ -304,11 +273,15 @@ fn fields_named(letters: &[u8]) -> Option<u8>
 }
 
 /// A token as a status register with its fields.
+#[tactic(auto, unfolding(crate::specs::Lists::status_begun))]
 fn fields_of(kind: TokenKind, word: &[u8]) -> Result<(bool, u8), LineKind>
     ensures { result ≡ lists.fields_of kind word.now }
 {
     match kind {
-        TokenKind::Name => match (status_begun(begin(word, 5)), fields_named(behind(word, 5))) {
+        TokenKind::Name => match (
+            row_of(begin(word, 5), &STATUS_WITH_FIELDS),
+            fields_named(behind(word, 5)),
+        ) {
             (Some(saved), Some(fields)) => Ok((saved, fields)),
             _ => Err(LineKind::BadOperand),
         },

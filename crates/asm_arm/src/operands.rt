@@ -10,6 +10,7 @@ ghost use Rattle.asm_arm.specs.Steps.{cut_of};
 ghost use Rattle.asm_arm.specs.declared.operands.Scale.TheVariants as scale;
 ghost use Rattle.asm_arm.specs.declared.operands.Second.TheVariants as second;
 
+use crate::words::row_of;
 use asm_expr::kinds::earlier;
 use asm_expr::operands::{first_operand, is, piece_of};
 use asm_expr::parts::inside;
@@ -20,6 +21,14 @@ use sdt_fault::kinds::LineKind;
 use sdt_fault::{NoMemory, Text};
 use sdt_word::ShiftKind;
 use std::alloc::Global;
+
+/// The kinds of shifts with an amount.
+static SHIFTS: [(&[u8], ShiftKind); 4] = [
+    (b"LSL", ShiftKind::Lsl),
+    (b"LSR", ShiftKind::Lsr),
+    (b"ASR", ShiftKind::Asr),
+    (b"ROR", ShiftKind::Ror),
+];
 
 /// The operands of a line, up to four.
 #[derive(Clone, Copy, Debug)]
@@ -244,26 +253,6 @@ pub fn register(
     }
 }
 
-/// The kind of a shift.
-#[tactic(auto, unfolding(crate::specs::Operands::shift_named))]
-fn shift_named(word: &[u8]) -> Option<ShiftKind>
-    ensures { result ≡ operands.shift_named word.now }
-{
-    if is_called(b"LSL", word) {
-        return Some(ShiftKind::Lsl);
-    }
-    if is_called(b"LSR", word) {
-        return Some(ShiftKind::Lsr);
-    }
-    if is_called(b"ASR", word) {
-        return Some(ShiftKind::Asr);
-    }
-    if is_called(b"ROR", word) {
-        return Some(ShiftKind::Ror);
-    }
-    None
-}
-
 /// RRX, which stands alone.
 fn extended(word: &[u8]) -> Result<Scale, LineKind>
     ensures { result ≡ operands.extended word.now }
@@ -323,6 +312,7 @@ fn shifted_by(
 }
 
 /// A shift.
+#[tactic(auto, unfolding(crate::specs::Operands::shift_named))]
 pub fn shift_of(
     alloc: Global,
     text: &[u8],
@@ -333,7 +323,10 @@ pub fn shift_of(
     match tokens {
         [] => Ok(Err(LineKind::Syntax)),
         [word] => Ok(extended(piece_of(text, *word))),
-        [word, behind @ ..] => shifted_by(alloc, text, shift_named(piece_of(text, *word)), behind),
+        [word, behind @ ..] => {
+            let kind = row_of(piece_of(text, *word), &SHIFTS);
+            shifted_by(alloc, text, kind, behind)
+        }
     }
 }
 
@@ -351,19 +344,6 @@ fn scaled(rm: Register, scale: Scale) -> Second
             rm,
             shift: Shift::Extended,
         },
-    }
-}
-
-/// A register with a shift, where both are read.
-fn both_scaled(
-    rm: Result<Register, LineKind>,
-    shift: Result<Scale, LineKind>,
-) -> Result<Second, LineKind>
-    ensures { result ≡ says.on_both (λ rm x. operands.scaled rm x) rm shift }
-{
-    match both(rm, shift) {
-        Ok((rm, shift)) => Ok(scaled(rm, shift)),
-        Err(kind) => Err(kind),
     }
 }
 
@@ -415,5 +395,8 @@ pub fn second_operand(
     };
     let shift = shift_of(alloc, text, shift)?;
     let rm = register(alloc, text, tokens)?;
-    Ok(both_scaled(rm, shift))
+    match both(rm, shift) {
+        Ok((rm, shift)) => Ok(Ok(scaled(rm, shift))),
+        Err(kind) => Ok(Err(kind)),
+    }
 }

@@ -151,26 +151,6 @@ fn constant(alloc: Global, text: &[u8], word: Transfer, rd: &[Token], tokens: &[
     Ok(constant_line(word.condition, rd, value))
 }
 
-fn label_line(
-    condition: Condition,
-    load: bool,
-    rd: Result<Register, LineKind>,
-    target: Result<Expr, LineKind>,
-) -> Result<What, LineKind>
-    ensures { result ≡ says.on_both (λ rd x. what.Arm (line.TransferImmediate condition load false rd (address.Label x))) rd target }
-{
-    match both(rd, target) {
-        Ok((rd, target)) => Ok(What::Arm(ArmLine::TransferImmediate {
-            condition,
-            load,
-            byte: false,
-            rd,
-            address: Address::Label { target },
-        })),
-        Err(kind) => Err(kind),
-    }
-}
-
 /// A label that is loaded from or stored to.
 fn label(alloc: Global, text: &[u8], word: Transfer, rd: &[Token], tokens: &[Token]) -> Said
     ensures { IfOk result (λ said. lines.ReadsLabel text.now word.condition word.load (lines.is_plain word.byte word.translated) rd.now tokens.now said) }
@@ -183,7 +163,16 @@ fn label(alloc: Global, text: &[u8], word: Transfer, rd: &[Token], tokens: &[Tok
     }
     let target = expression(alloc, text, tokens)?;
     let rd = register(alloc, text, rd)?;
-    Ok(label_line(word.condition, word.load, rd, target))
+    match both(rd, target) {
+        Ok((rd, target)) => Ok(Ok(What::Arm(ArmLine::TransferImmediate {
+            condition: word.condition,
+            load: word.load,
+            byte: false,
+            rd,
+            address: Address::Label { target },
+        }))),
+        Err(kind) => Ok(Err(kind)),
+    }
 }
 
 /// A transfer with one operand behind Rd, in brackets.
@@ -334,30 +323,6 @@ pub fn transfer_half(alloc: Global, text: &[u8], word: HalfTransfer, cut: Cut<'_
     }
 }
 
-/// A base and a register list, where both are read.
-fn block_line(
-    condition: Condition,
-    load: bool,
-    mode: BlockMode,
-    base: Result<(Register, bool), LineKind>,
-    list: Result<(List<ListItem>, bool), LineKind>,
-) -> Result<What, LineKind>
-    ensures { result ≡ says.on_both (λ p q. lines.block_line condition load mode p q) base list }
-{
-    match both(base, list) {
-        Ok(((rn, write_back), (items, user))) => Ok(What::Arm(ArmLine::TransferBlock {
-            condition,
-            load,
-            mode,
-            rn,
-            write_back,
-            list: RegisterList { items },
-            user,
-        })),
-        Err(kind) => Err(kind),
-    }
-}
-
 pub fn block(
     alloc: Global,
     text: &[u8],
@@ -372,7 +337,20 @@ pub fn block(
         Cut::Two(base, list) => {
             let base = lists::base(alloc, text, base)?;
             let list = lists::register_list(alloc, text, list)?;
-            Ok(block_line(condition, load, mode, base, list))
+            match both(base, list) {
+                Ok(((rn, write_back), (items, user))) => Ok(Ok(What::Arm(
+                    ArmLine::TransferBlock {
+                        condition,
+                        load,
+                        mode,
+                        rn,
+                        write_back,
+                        list: RegisterList { items },
+                        user,
+                    },
+                ))),
+                Err(kind) => Ok(Err(kind)),
+            }
         }
         _ => Ok(Err(LineKind::Syntax)),
     }

@@ -1,16 +1,16 @@
 //! What an operation word says.
 
-ghost use Rattle.std.specs.Prelude.{◌≡◌, ◌∷◌, [], take, drop};
+ghost use Rattle.std.specs.Prelude.{◌≡◌, ◌∷◌, [], map, take, drop};
+ghost use Rattle.asm_model.specs.Directives as tables;
+ghost use Rattle.asm_arm.specs.Stems as stems;
 ghost use Rattle.asm_arm.specs.Words as words;
 
 use crate::stems::{
-    block_stem, branch_stem, byte_suffix, condition_named, data_stem, flags_suffix,
-    float_arithmetic, float_block, float_compare, float_functions, float_mode, float_transfers,
-    idle_word, load_half, load_mode, long_address_stem, long_stem, multiply_stem, plain_stem,
-    short_branch_stem, store_half, store_mode, swap_stem, transfer_stem, word_suffix,
+    BYTE, CONDITIONS, FLAGS, FLOAT_MODES, HALF_LOADS, HALF_STORES, LOAD_MODES, STEMS, STORE_MODES,
+    WORD,
 };
 use arm_isa::{HalfKind, Operation};
-use asm_model::BlockMode;
+use asm_model::{BlockMode, is_called};
 use sdt_word::Condition;
 
 /// What an operation word of ARM state says, without its condition.
@@ -82,6 +82,30 @@ pub enum Shape {
     Sum,
 }
 
+/// A stem: what its words say, but for their suffixes.
+#[derive(Clone, Copy, Debug)]
+pub enum Stem {
+    /// AND to MVN; behind a comparison stands no suffix.
+    Data(Operation),
+    /// MUL, and MLA where it accumulates.
+    Multiply(bool),
+    /// The long multiplications: whether they are signed, and whether they accumulate.
+    MultiplyLong(bool, bool),
+    /// LDR, which loads, and STR.
+    Transfer(bool),
+    /// LDM, which loads, and STM.
+    TransferBlock(bool),
+    Swap,
+    /// A word that takes no suffix.
+    Bare(Mnemonic),
+    /// A word that takes neither a condition nor a suffix.
+    Alone(Mnemonic),
+    /// A word of the FPA that takes a precision and a rounding.
+    Float(Mnemonic),
+    /// LFM and SFM.
+    FloatBlock,
+}
+
 /// The first bytes of a word.
 pub fn begin(word: &[u8], count: usize) -> &[u8]
     ensures { result.now ≡ take count word.now }
@@ -98,23 +122,26 @@ pub fn behind(word: &[u8], count: usize) -> &[u8]
     &word[start..]
 }
 
+/// What the first row with a word names.
+pub fn row_of<T: Copy>(word: &[u8], rows: &[(&[u8], T)]) -> Option<T>
+    ensures { result ≡ tables.row_of word.now (map (λ row. (row.0.now, row.1)) rows.now) }
+{
+    for row in rows {
+        if is_called(row.0, word) {
+            return Some(row.1);
+        }
+    }
+    None
+}
+
 /// What stands behind a stem: a condition, AL where there is none, and a suffix.
+#[tactic(auto, unfolding(crate::specs::Words::condition_named))]
 fn ending(rest: &[u8]) -> (Condition, &[u8])
     ensures { (result.0, result.1.now) ≡ words.ending rest.now }
 {
-    match condition_named(begin(rest, 2)) {
+    match row_of(begin(rest, 2), &CONDITIONS) {
         Some(condition) => (condition, behind(rest, 2)),
         None => (Condition::Al, rest),
-    }
-}
-
-/// A word with its condition.
-fn conditioned(condition: Condition, mnemonic: Option<Mnemonic>) -> Option<(Mnemonic, Condition)>
-    ensures { result ≡ words.conditioned condition mnemonic }
-{
-    match mnemonic {
-        None => None,
-        Some(mnemonic) => Some((mnemonic, condition)),
     }
 }
 
@@ -143,10 +170,11 @@ pub fn shape_of(operation: Operation) -> Shape
     }
 }
 
-fn data_flags(operation: Operation, flags: Option<bool>) -> Option<Mnemonic>
-    ensures { result ≡ words.data_flags operation flags }
+#[tactic(auto, unfolding(crate::specs::Words::flags_suffix))]
+fn data_flags(operation: Operation, suffix: &[u8]) -> Option<Mnemonic>
+    ensures { result ≡ words.data_flags operation (words.flags_suffix suffix.now) }
 {
-    match flags {
+    match row_of(suffix, &FLAGS) {
         None => None,
         Some(set_flags) => Some(Mnemonic::Data {
             operation,
@@ -167,15 +195,16 @@ fn data_suffix(operation: Operation, suffix: &[u8]) -> Option<Mnemonic>
             };
             bare_suffix(mnemonic, suffix)
         }
-        Shape::Move => data_flags(operation, flags_suffix(suffix)),
-        Shape::Sum => data_flags(operation, flags_suffix(suffix)),
+        Shape::Move => data_flags(operation, suffix),
+        Shape::Sum => data_flags(operation, suffix),
     }
 }
 
+#[tactic(auto, unfolding(crate::specs::Words::flags_suffix))]
 fn multiply_suffix(accumulate: bool, suffix: &[u8]) -> Option<Mnemonic>
     ensures { result ≡ words.multiply_suffix accumulate suffix.now }
 {
-    match flags_suffix(suffix) {
+    match row_of(suffix, &FLAGS) {
         None => None,
         Some(set_flags) => Some(Mnemonic::Multiply {
             accumulate,
@@ -184,10 +213,11 @@ fn multiply_suffix(accumulate: bool, suffix: &[u8]) -> Option<Mnemonic>
     }
 }
 
+#[tactic(auto, unfolding(crate::specs::Words::flags_suffix))]
 fn long_suffix(signs: (bool, bool), suffix: &[u8]) -> Option<Mnemonic>
     ensures { result ≡ words.long_suffix signs suffix.now }
 {
-    match flags_suffix(suffix) {
+    match row_of(suffix, &FLAGS) {
         None => None,
         Some(set_flags) => Some(Mnemonic::MultiplyLong {
             signed: signs.0,
@@ -197,17 +227,15 @@ fn long_suffix(signs: (bool, bool), suffix: &[u8]) -> Option<Mnemonic>
     }
 }
 
-fn word_of(load: bool, marks: Option<(bool, bool)>) -> Option<Mnemonic>
-    ensures { result ≡ words.word_of load marks }
+/// What a transfer moves, but for a word and a plain byte.
+#[tactic(auto, unfolding(crate::specs::Words::load_half, crate::specs::Words::store_half))]
+fn half_suffix(load: bool, suffix: &[u8]) -> Option<HalfKind>
+    ensures { result ≡ words.half_suffix load suffix.now }
 {
-    match marks {
-        None => None,
-        Some((byte, translated)) => Some(Mnemonic::Transfer {
-            load,
-            byte,
-            translated,
-        }),
+    if load {
+        return row_of(suffix, &HALF_LOADS);
     }
+    row_of(suffix, &HALF_STORES)
 }
 
 fn half_of(load: bool, kind: Option<HalfKind>) -> Option<Mnemonic>
@@ -219,31 +247,28 @@ fn half_of(load: bool, kind: Option<HalfKind>) -> Option<Mnemonic>
     }
 }
 
-fn half_suffix(load: bool, suffix: &[u8]) -> Option<HalfKind>
-    ensures { result ≡ words.half_suffix load suffix.now }
-{
-    if load {
-        return load_half(suffix);
-    }
-    store_half(suffix)
-}
-
+#[tactic(auto, unfolding(crate::specs::Words::word_suffix))]
 fn transfer_suffix(load: bool, suffix: &[u8]) -> Option<Mnemonic>
     ensures { result ≡ words.transfer_suffix load suffix.now }
 {
-    if let Some(mnemonic) = word_of(load, word_suffix(suffix)) {
-        return Some(mnemonic);
+    match row_of(suffix, &WORD) {
+        Some((byte, translated)) => Some(Mnemonic::Transfer {
+            load,
+            byte,
+            translated,
+        }),
+        None => half_of(load, half_suffix(load, suffix)),
     }
-    half_of(load, half_suffix(load, suffix))
 }
 
+#[tactic(auto, unfolding(crate::specs::Words::load_mode, crate::specs::Words::store_mode))]
 fn mode_suffix(load: bool, suffix: &[u8]) -> Option<BlockMode>
     ensures { result ≡ words.mode_suffix load suffix.now }
 {
     if load {
-        return load_mode(suffix);
+        return row_of(suffix, &LOAD_MODES);
     }
-    store_mode(suffix)
+    row_of(suffix, &STORE_MODES)
 }
 
 fn block_suffix(load: bool, suffix: &[u8]) -> Option<Mnemonic>
@@ -255,10 +280,11 @@ fn block_suffix(load: bool, suffix: &[u8]) -> Option<Mnemonic>
     }
 }
 
+#[tactic(auto, unfolding(crate::specs::Words::byte_suffix))]
 fn swap_suffix(suffix: &[u8]) -> Option<Mnemonic>
     ensures { result ≡ words.swap_of (words.byte_suffix suffix.now) }
 {
-    match byte_suffix(suffix) {
+    match row_of(suffix, &BYTE) {
         None => None,
         Some(byte) => Some(Mnemonic::Swap { byte }),
     }
@@ -316,280 +342,64 @@ fn float_suffix(mnemonic: Mnemonic, suffix: &[u8]) -> Option<Mnemonic>
     None
 }
 
-/// Data processing.
-#[tactic(auto, unfolding(crate::specs::Words::data_named))]
-fn data_named(word: &[u8]) -> Option<(Mnemonic, Condition)>
-    ensures { result ≡ words.data_named word.now }
+/// A word with its condition.
+fn conditioned(condition: Condition, mnemonic: Option<Mnemonic>) -> Option<(Mnemonic, Condition)>
+    ensures { result ≡ words.conditioned condition mnemonic }
 {
-    match data_stem(begin(word, 3)) {
+    match mnemonic {
         None => None,
-        Some(stem) => {
-            let (condition, suffix) = ending(behind(word, 3));
-            conditioned(condition, data_suffix(stem, suffix))
+        Some(mnemonic) => Some((mnemonic, condition)),
+    }
+}
+
+/// A stem and what stands behind it.
+#[tactic(auto, unfolding(crate::specs::Words::float_mode))]
+fn stemmed(stem: Stem, rest: &[u8]) -> Option<(Mnemonic, Condition)>
+    ensures { result ≡ stems.stemmed stem rest.now }
+{
+    let (condition, suffix) = ending(rest);
+    match stem {
+        Stem::Data(operation) => conditioned(condition, data_suffix(operation, suffix)),
+        Stem::Multiply(accumulate) => conditioned(condition, multiply_suffix(accumulate, suffix)),
+        Stem::MultiplyLong(signed, accumulate) => {
+            conditioned(condition, long_suffix((signed, accumulate), suffix))
+        }
+        Stem::Transfer(load) => conditioned(condition, transfer_suffix(load, suffix)),
+        Stem::TransferBlock(load) => conditioned(condition, block_suffix(load, suffix)),
+        Stem::Swap => conditioned(condition, swap_suffix(suffix)),
+        Stem::Bare(mnemonic) => conditioned(condition, bare_suffix(mnemonic, suffix)),
+        Stem::Alone(mnemonic) => conditioned(Condition::Al, bare_suffix(mnemonic, rest)),
+        Stem::Float(mnemonic) => conditioned(condition, float_suffix(mnemonic, suffix)),
+        Stem::FloatBlock => conditioned(condition, row_of(suffix, &FLOAT_MODES)),
+    }
+}
+
+/// What a word says that begins with the name of a stem; None where it doesn't.
+fn begun(word: &[u8], name: &[u8], stem: Stem) -> Option<(Mnemonic, Condition)>
+    ensures { result ≡ stems.begun word.now (name.now, stem) }
+{
+    if is_called(name, begin(word, name.len())) {
+        return stemmed(stem, behind(word, name.len()));
+    }
+    None
+}
+
+/// What a word says by the first row that gives it a meaning.
+fn by_rows(word: &[u8], rows: &[(&[u8], Stem)]) -> Option<(Mnemonic, Condition)>
+    ensures { result ≡ stems.by_rows word.now (map (λ row. (row.0.now, row.1)) rows.now) }
+{
+    for (name, stem) in rows {
+        if let Some(said) = begun(word, name, *stem) {
+            return Some(said);
         }
     }
-}
-
-/// MUL and MLA.
-#[tactic(auto, unfolding(crate::specs::Words::multiply_named))]
-fn multiply_named(word: &[u8]) -> Option<(Mnemonic, Condition)>
-    ensures { result ≡ words.multiply_named word.now }
-{
-    match multiply_stem(begin(word, 3)) {
-        None => None,
-        Some(stem) => {
-            let (condition, suffix) = ending(behind(word, 3));
-            conditioned(condition, multiply_suffix(stem, suffix))
-        }
-    }
-}
-
-/// The long multiplications.
-#[tactic(auto, unfolding(crate::specs::Words::long_named))]
-fn long_named(word: &[u8]) -> Option<(Mnemonic, Condition)>
-    ensures { result ≡ words.long_named word.now }
-{
-    match long_stem(begin(word, 5)) {
-        None => None,
-        Some(stem) => {
-            let (condition, suffix) = ending(behind(word, 5));
-            conditioned(condition, long_suffix(stem, suffix))
-        }
-    }
-}
-
-/// LDR and STR.
-#[tactic(auto, unfolding(crate::specs::Words::transfer_named))]
-fn transfer_named(word: &[u8]) -> Option<(Mnemonic, Condition)>
-    ensures { result ≡ words.transfer_named word.now }
-{
-    match transfer_stem(begin(word, 3)) {
-        None => None,
-        Some(stem) => {
-            let (condition, suffix) = ending(behind(word, 3));
-            conditioned(condition, transfer_suffix(stem, suffix))
-        }
-    }
-}
-
-/// LDM and STM.
-#[tactic(auto, unfolding(crate::specs::Words::block_named))]
-fn block_named(word: &[u8]) -> Option<(Mnemonic, Condition)>
-    ensures { result ≡ words.block_named word.now }
-{
-    match block_stem(begin(word, 3)) {
-        None => None,
-        Some(stem) => {
-            let (condition, suffix) = ending(behind(word, 3));
-            conditioned(condition, block_suffix(stem, suffix))
-        }
-    }
-}
-
-/// SWP.
-#[tactic(auto, unfolding(crate::specs::Words::swap_named))]
-fn swap_named(word: &[u8]) -> Option<(Mnemonic, Condition)>
-    ensures { result ≡ words.swap_named word.now }
-{
-    match swap_stem(begin(word, 3)) {
-        None => None,
-        Some(_stem) => {
-            let (condition, suffix) = ending(behind(word, 3));
-            conditioned(condition, swap_suffix(suffix))
-        }
-    }
-}
-
-/// Words of three letters without a suffix.
-#[tactic(auto, unfolding(crate::specs::Words::plain_named))]
-fn plain_named(word: &[u8]) -> Option<(Mnemonic, Condition)>
-    ensures { result ≡ words.plain_named word.now }
-{
-    match plain_stem(begin(word, 3)) {
-        None => None,
-        Some(stem) => {
-            let (condition, suffix) = ending(behind(word, 3));
-            conditioned(condition, bare_suffix(stem, suffix))
-        }
-    }
-}
-
-/// ADRL.
-#[tactic(auto, unfolding(crate::specs::Words::long_address_named))]
-fn long_address_named(word: &[u8]) -> Option<(Mnemonic, Condition)>
-    ensures { result ≡ words.long_address_named word.now }
-{
-    match long_address_stem(begin(word, 4)) {
-        None => None,
-        Some(stem) => {
-            let (condition, suffix) = ending(behind(word, 4));
-            conditioned(condition, bare_suffix(stem, suffix))
-        }
-    }
-}
-
-/// B.
-fn short_branch(word: &[u8]) -> Option<(Mnemonic, Condition)>
-    ensures { result ≡ words.stemmed words.bare_suffix (words.short_branch_stem (take 1 word.now)) (drop 1 word.now) }
-{
-    match short_branch_stem(begin(word, 1)) {
-        None => None,
-        Some(stem) => {
-            let (condition, suffix) = ending(behind(word, 1));
-            conditioned(condition, bare_suffix(stem, suffix))
-        }
-    }
-}
-
-/// BL and BX.
-fn long_branch(word: &[u8]) -> Option<(Mnemonic, Condition)>
-    ensures { result ≡ words.stemmed words.bare_suffix (words.branch_stem (take 2 word.now)) (drop 2 word.now) }
-{
-    match branch_stem(begin(word, 2)) {
-        None => None,
-        Some(stem) => {
-            let (condition, suffix) = ending(behind(word, 2));
-            conditioned(condition, bare_suffix(stem, suffix))
-        }
-    }
-}
-
-/// The stem of a floating-point word.
-fn float_stem(word: &[u8]) -> Option<Mnemonic>
-    ensures { result ≡ words.float_stem word.now }
-{
-    if let Some(mnemonic) = float_arithmetic(word) {
-        return Some(mnemonic);
-    }
-    if let Some(mnemonic) = float_functions(word) {
-        return Some(mnemonic);
-    }
-    float_transfers(word)
-}
-
-/// Floating-point words of three letters.
-fn float_plain(word: &[u8]) -> Option<(Mnemonic, Condition)>
-    ensures { result ≡ words.stemmed words.float_suffix (words.float_stem (take 3 word.now)) (drop 3 word.now) }
-{
-    match float_stem(begin(word, 3)) {
-        None => None,
-        Some(stem) => {
-            let (condition, suffix) = ending(behind(word, 3));
-            conditioned(condition, float_suffix(stem, suffix))
-        }
-    }
-}
-
-/// CMFE and CNFE.
-fn float_comparing(word: &[u8]) -> Option<(Mnemonic, Condition)>
-    ensures { result ≡ words.stemmed words.float_suffix (words.float_compare (take 4 word.now)) (drop 4 word.now) }
-{
-    match float_compare(begin(word, 4)) {
-        None => None,
-        Some(stem) => {
-            let (condition, suffix) = ending(behind(word, 4));
-            conditioned(condition, float_suffix(stem, suffix))
-        }
-    }
-}
-
-/// LFM and SFM.
-fn float_moving(word: &[u8]) -> Option<(Mnemonic, Condition)>
-    ensures { result ≡ words.stemmed words.float_block_suffix (words.float_block (take 3 word.now)) (drop 3 word.now) }
-{
-    match float_block(begin(word, 3)) {
-        None => None,
-        Some(_stem) => {
-            let (condition, suffix) = ending(behind(word, 3));
-            conditioned(condition, float_mode(suffix))
-        }
-    }
-}
-
-/// B, BL and BX.
-#[tactic(auto, unfolding(crate::specs::Words::branch_named))]
-fn branch_named(word: &[u8]) -> Option<(Mnemonic, Condition)>
-    ensures { result ≡ words.branch_named word.now }
-{
-    if let Some(word) = short_branch(word) {
-        return Some(word);
-    }
-    long_branch(word)
-}
-
-/// NOP, which takes no condition.
-#[tactic(auto, unfolding(crate::specs::Words::idle_named))]
-fn idle_named(word: &[u8]) -> Option<(Mnemonic, Condition)>
-    ensures { result ≡ words.idle_named word.now }
-{
-    conditioned(Condition::Al, idle_word(word))
-}
-
-/// The words of the FPA.
-#[tactic(auto, unfolding(crate::specs::Words::float_named))]
-fn float_named(word: &[u8]) -> Option<(Mnemonic, Condition)>
-    ensures { result ≡ words.float_named word.now }
-{
-    if let Some(word) = float_plain(word) {
-        return Some(word);
-    }
-    if let Some(word) = float_comparing(word) {
-        return Some(word);
-    }
-    float_moving(word)
-}
-
-/// The transfers.
-#[tactic(auto, unfolding(crate::specs::Words::moving_named))]
-fn moving_named(word: &[u8]) -> Option<(Mnemonic, Condition)>
-    ensures { result ≡ words.moving_named word.now }
-{
-    if let Some(word) = transfer_named(word) {
-        return Some(word);
-    }
-    if let Some(word) = block_named(word) {
-        return Some(word);
-    }
-    swap_named(word)
-}
-
-/// The other words of the integer core.
-#[tactic(auto, unfolding(crate::specs::Words::other_named))]
-fn other_named(word: &[u8]) -> Option<(Mnemonic, Condition)>
-    ensures { result ≡ words.other_named word.now }
-{
-    if let Some(word) = plain_named(word) {
-        return Some(word);
-    }
-    if let Some(word) = long_address_named(word) {
-        return Some(word);
-    }
-    if let Some(word) = branch_named(word) {
-        return Some(word);
-    }
-    idle_named(word)
+    None
 }
 
 /// What an operation word says in any case, with its condition, AL where there is none; None where no
 /// operation has that word.
-#[tactic(auto, unfolding(crate::specs::Words::operation_named))]
 pub fn operation_named(word: &[u8]) -> Option<(Mnemonic, Condition)>
     ensures { result ≡ words.operation_named word.now }
 {
-    if let Some(word) = data_named(word) {
-        return Some(word);
-    }
-    if let Some(word) = multiply_named(word) {
-        return Some(word);
-    }
-    if let Some(word) = long_named(word) {
-        return Some(word);
-    }
-    if let Some(word) = moving_named(word) {
-        return Some(word);
-    }
-    if let Some(word) = other_named(word) {
-        return Some(word);
-    }
-    float_named(word)
+    by_rows(word, &STEMS)
 }
