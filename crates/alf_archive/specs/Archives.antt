@@ -1,6 +1,6 @@
 -- A library: its checks in their order with the offset that each tells, or the record
 -- (SDT 2.50 Reference Guide, ARM Object Library Format; the order of the checks is this project's).
-use Rattle.std.specs.Prelude.{◌≡◌, ℕ, zero, suc, ◌+◌, ◌-◌, ◌%◌, Bool, nat_lt, ◌==◌, if◌then◌else◌, List, [], ◌∷◌, ◌++◌, length, take, drop, map, slice_get, min, Option, Some, None, Result, Ok, Err, codes}
+use Rattle.std.specs.Prelude.{◌≡◌, ℕ, zero, suc, ◌+◌, ◌-◌, ◌%◌, Bool, true, false, nat_lt, ◌==◌, if◌then◌else◌, List, [], ◌∷◌, ◌++◌, length, take, drop, map, slice_get, min, Option, Some, None, Result, Ok, Err, codes}
 use Rattle.std.specs.Option.{ok_or}
 use Rattle.std.specs.Str.{bytes_eq}
 use Rattle.sdt_word.specs.Bytes.{word_in}
@@ -98,6 +98,27 @@ unfoldable pub archive_of : List ℕ → Result Archive Refusal
 archive_of b =
     table_of b >>= λ spans. directory (found_of (named (codes "LIB_DIRY") spans)) >>= λ d.
     members_from b spans d.offset (bytes_at b d) (length (bytes_at b d)) 0 [] >>= λ ms. Ok (record { members = ms })
+
+-- ---- which files are libraries
+
+abbrev pub is_found : Found → Bool
+is_found Absent = false
+is_found (One s) = true
+is_found Many = true
+
+-- the table names a directory, once or more
+abbrev pub names_directory : List (Option Span) → Bool
+names_directory spans = is_found (found_of (named (codes "LIB_DIRY") spans))
+
+abbrev pub is_library_by : Result (List (Option Span)) Refusal → Bool
+is_library_by (Ok spans) = names_directory spans
+is_library_by (Err r) = false
+
+-- a file is taken for a library where it is a chunk file whose table names a directory, however faulty it is otherwise
+unfoldable pub is_library : List ℕ → Bool
+is_library b = is_library_by (table_of b)
+
+-- ---- what calls answer
 
 -- what a call answers, moved so
 abbrev pub fault_moved : ℕ → Fault → Fault

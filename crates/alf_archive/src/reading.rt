@@ -7,7 +7,7 @@ ghost use Rattle.aof_object.specs.Names.{terminated, among};
 ghost use Rattle.aof_object.specs.Index.{number_in, or_number};
 ghost use Rattle.aof_object.specs.Objects.{object_of};
 ghost use Rattle.alf_archive.specs.Archives.{data_named, moved, moved_by, fault_moved, member_in, member_at, member_names, Adds, with_entry, members_from, directory, archive_of};
-ghost use Rattle.alf_archive.specs.Grammar.{ReadsArchive};
+ghost use Rattle.alf_archive.specs.Grammar.{IsValid, ReadsArchive};
 
 use crate::entries::{Slot, bad_library, read_slot};
 use crate::records::{Archive, Member};
@@ -214,6 +214,8 @@ pub fn read_archive(alloc: Global, b: &[u8]) -> Result<Archive, Fault>
     ensures only { (a : Archive) → ReadsArchive b.now a → Gives result (Ok a) }
     // Which check fails first.
     ensures exact { Gives result (archive_of b.now) }
+    // The members have names of their own and valid objects.
+    ensures valid { IfOk result (λ a. IsValid a) }
 {
     archive(alloc, b)
 }

@@ -1,2 +1,4 @@
 pub mod LinkedOnce
+pub mod NeedLemmas
+pub mod WayLemmas
 pub mod Rows

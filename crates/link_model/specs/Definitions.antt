@@ -8,7 +8,6 @@ use Rattle.aof_object.specs.declared.records.Entry.{Entry}
 use Rattle.aof_object.specs.declared.records.Object.{Object}
 use Rattle.aof_object.specs.declared.records.Symbol.{Symbol}
 use Rattle.aof_object.specs.Checks.{is_exported}
-use Rattle.link_model.specs.declared.selection.Named.{Named}
 use Rattle.link_model.specs.declared.selection.Definition.{Definition}
 use Rattle.link_model.specs.declared.selection.LinkedEntry.{LinkedEntry}
 
@@ -22,9 +21,9 @@ definitions_in object k [] = []
 definitions_in object k (s ∷ ss) = definition_in object k s ++ definitions_in object (suc k) ss
 
 -- those of objects, which are counted from i on
-abbrev pub definitions_from : ℕ → List (Named Object) → List Definition
+abbrev pub definitions_from : ℕ → List Object → List Definition
 definitions_from i [] = []
-definitions_from i (o ∷ os) = definitions_in i 0 o.value.symbols ++ definitions_from (suc i) os
+definitions_from i (o ∷ os) = definitions_in i 0 o.symbols ++ definitions_from (suc i) os
 
 -- the area has Thumb code
 abbrev pub is_thumb : Option Area → Bool

@@ -5,4 +5,5 @@ pub mod Definitions
 pub mod RegionNames
 pub mod RegionValues
 pub mod Meaning
+pub mod Values
 pub mod Veneers

@@ -6,7 +6,6 @@ use Rattle.std.specs.Str.{bytes_eq}
 use Rattle.aof_object.specs.declared.records.Object.{Object}
 use Rattle.aof_object.specs.Names.{among}
 use Rattle.aof_object.specs.Spelling.{area_names}
-use Rattle.link_model.specs.declared.selection.Named.{Named}
 
 -- ---- the symbols of a region, in a scatter image and in another
 
@@ -53,8 +52,8 @@ abbrev pub area_limit : List ℕ → List ℕ
 area_limit a = a ++ codes "$$Limit"
 
 -- the names of all areas of some objects
-abbrev pub names_of_areas : List (Named Object) → List (List ℕ)
-names_of_areas os = flat_map (λ o. area_names o.value.areas) os
+abbrev pub names_of_areas : List Object → List (List ℕ)
+names_of_areas os = flat_map (λ o. area_names o.areas) os
 
 -- the name is the Base or the Limit of one of these areas
 abbrev pub names_an_area : List (List ℕ) → List ℕ → Bool
@@ -80,6 +79,6 @@ has_region_form q = ends_with nat_eq q (codes "$$Base") || (ends_with nat_eq q (
 
 -- with the region symbols that the kind of image has: these, and those of the linked areas; without, where
 -- the description of the regions is at fault, every name of the form
-abbrev pub names_a_region : Option (List (List ℕ)) → List (Named Object) → List ℕ → Bool
+abbrev pub names_a_region : Option (List (List ℕ)) → List Object → List ℕ → Bool
 names_a_region None os q = has_region_form q
 names_a_region (Some names) os q = among q names || names_an_area (names_of_areas os) q

@@ -16,13 +16,13 @@ pub struct Assigned {
     pub regions: List<List<AreaName>>,
 }
 
-/// An area with the number of its region and its execution address. An address of 2^32, which only an
-/// empty area has, is written 0.
+/// An area with the number of its region and its execution address, which is 2^32 where an empty area stands
+/// at the end of memory.
 #[derive(Clone, Copy, PartialEq, Eq, Debug)]
 pub struct PlacedArea {
     pub area: AreaName,
     pub region: u32,
-    pub address: u32,
+    pub address: u64,
 }
 
 /// A piece of code in a region by which branches there reach a target of the other state. The target is an
@@ -53,14 +53,14 @@ pub struct Placement {
 }
 
 /// An execution region: the number of the load region that holds it, its load and execution addresses, and
-/// in bytes what is loaded and the zero-initialised part behind it. An address of 2^32, which only an empty
-/// region has, is written 0.
+/// in bytes what is loaded and the zero-initialised part behind it. An address is 2^32 where an empty region
+/// stands at the end of memory; maps and tables of the startup code write it 0.
 #[derive(Debug, Drop)]
 pub struct Region {
     pub name: Text,
     pub load_region: u32,
-    pub load: u32,
-    pub base: u32,
+    pub load: u64,
+    pub base: u64,
     pub length: u64,
     pub zero: u64,
 }

@@ -14,16 +14,17 @@ use Rattle.aof_object.specs.declared.records.Object.{Object}
 use Rattle.aof_object.specs.Names.{among}
 use Rattle.aof_object.specs.Objects.{exported}
 use Rattle.link_model.specs.declared.selection.Named.{Named}
+use Rattle.link_model.specs.Members.{objects_in}
 use Rattle.link_model.specs.Chosen.{exports, exporter}
 use Rattle.link_select.specs.Index.{Numbers, number_in, IsIndexOf}
 use Rattle.link_select.proofs.ListLemmas.{drop_at, take_item}
 
-pub index_more : (m n : Numbers) (os : List (Named Object)) (i : ℕ) (o : Named Object) → slice_get os i ≡ Some o → IsIndexOf (suc i) (drop (suc i) os) m
-    → ((q : List ℕ) → number_in n q ≡ cond (among q (exported o.value.symbols)) (Some i) (number_in m q)) → IsIndexOf i (drop i os) n
+pub index_more : (m n : Numbers) (os : List (Named Object)) (i : ℕ) (o : Named Object) → slice_get os i ≡ Some o → IsIndexOf (suc i) (objects_in (drop (suc i) os)) m
+    → ((q : List ℕ) → number_in n q ≡ cond (among q (exported o.value.symbols)) (Some i) (number_in m q)) → IsIndexOf i (objects_in (drop i os)) n
 index_more m n os i o at known new q =
-    new q ∙ ap (λ (r : Option ℕ). cond (exports o q) (Some i) r) (known q) ∙ ap (exporter i q) (sym (drop_at os i o at))
+    new q ∙ ap (λ (r : Option ℕ). cond (exports o.value q) (Some i) r) (known q) ∙ ap (λ (l : List (Named Object)). exporter i q (objects_in l)) (sym (drop_at os i o at))
 
-pub exporter_within : (i : ℕ) (q : List ℕ) (os : List (Named Object)) (k : ℕ) → exporter i q os ≡ Some k → k < i + length os
+pub exporter_within : (i : ℕ) (q : List ℕ) (os : List Object) (k : ℕ) → exporter i q os ≡ Some k → k < i + length os
 exporter_within i q [] k h = absurd (cc)
 exporter_within i q (o ∷ os) k h = by (exports o q) h (exporter_within (suc i) q os k)
   where
@@ -38,21 +39,21 @@ drop_seen (y ∷ ys) zero x rest h = let e : y ≡ x = cc in let f : ys ≡ rest
 drop_seen (y ∷ ys) (suc i) x rest h = drop_seen ys i x rest h
 
 -- the first object that exports a name, and its number
-pub found_exporter : (all : List (Named Object)) (i : ℕ) (q : List ℕ) (os : List (Named Object)) → drop i all ≡ os → (k : ℕ) → exporter i q os ≡ Some k → find (λ o. exports o q) os ≡ slice_get all k
+pub found_exporter : (all : List (Named Object)) (i : ℕ) (q : List ℕ) (os : List (Named Object)) → drop i all ≡ os → (k : ℕ) → exporter i q (objects_in os) ≡ Some k → find (λ o. exports o.value q) os ≡ slice_get all k
 found_exporter all i q [] e k h = absurd (cc)
 found_exporter all i q (o ∷ os) e k h =
-    let seen = drop_seen all i o os e in by (exports o q) h seen.0 (found_exporter all (suc i) q os seen.1 k)
+    let seen = drop_seen all i o os e in by (exports o.value q) h seen.0 (found_exporter all (suc i) q os seen.1 k)
   where
-    by : (b : Bool) → cond b (Some i) (exporter (suc i) q os) ≡ Some k → slice_get all i ≡ Some o → (exporter (suc i) q os ≡ Some k → find (λ p. exports p q) os ≡ slice_get all k)
-        → cond b (Some o) (find (λ p. exports p q) os) ≡ slice_get all k
+    by : (b : Bool) → cond b (Some i) (exporter (suc i) q (objects_in os)) ≡ Some k → slice_get all i ≡ Some o → (exporter (suc i) q (objects_in os) ≡ Some k → find (λ p. exports p.value q) os ≡ slice_get all k)
+        → cond b (Some o) (find (λ p. exports p.value q) os) ≡ slice_get all k
     by true f here rest = let s : i ≡ k = cc in sym here ∙ ap (slice_get all) s
     by false f here rest = rest f
 
-pub no_exporter : (i : ℕ) (q : List ℕ) (os : List (Named Object)) → exporter i q os ≡ None → find (λ o. exports o q) os ≡ None
+pub no_exporter : (i : ℕ) (q : List ℕ) (os : List (Named Object)) → exporter i q (objects_in os) ≡ None → find (λ o. exports o.value q) os ≡ None
 no_exporter i q [] h = refl
-no_exporter i q (o ∷ os) h = by (exports o q) h (no_exporter (suc i) q os)
+no_exporter i q (o ∷ os) h = by (exports o.value q) h (no_exporter (suc i) q os)
   where
-    by : (b : Bool) → cond b (Some i) (exporter (suc i) q os) ≡ None → (exporter (suc i) q os ≡ None → find (λ p. exports p q) os ≡ None) → cond b (Some o) (find (λ p. exports p q) os) ≡ None
+    by : (b : Bool) → cond b (Some i) (exporter (suc i) q (objects_in os)) ≡ None → (exporter (suc i) q (objects_in os) ≡ None → find (λ p. exports p.value q) os ≡ None) → cond b (Some o) (find (λ p. exports p.value q) os) ≡ None
     by true f rest = absurd (cc)
     by false f rest = rest f
 
@@ -75,7 +76,7 @@ exports_more old m n ss i s k h e known new q =
 
 -- ---- names that two objects export
 
-pub clash_none : (m : Numbers) (objects : List (Named Object)) (first : ℕ) (name : List ℕ) (s : Symbol) → IsIndexOf first (drop first objects) m → number_in m s.name ≡ None → clash name (drop first objects) s ≡ None
+pub clash_none : (m : Numbers) (objects : List (Named Object)) (first : ℕ) (name : List ℕ) (s : Symbol) → IsIndexOf first (objects_in (drop first objects)) m → number_in m s.name ≡ None → clash name (drop first objects) s ≡ None
 clash_none m objects first name s known h =
     ap (λ (o : Option (Named Object)). cond (is_exported s.attributes) (option_map (λ p. Duplicate s.name name p.name) o) None)
     (no_exporter first s.name (drop first objects) (sym (known s.name) ∙ h)) ∙ either (is_exported s.attributes)
@@ -84,10 +85,10 @@ clash_none m objects first name s known h =
     either true = refl
     either false = refl
 
-pub clash_some : (m : Numbers) (objects : List (Named Object)) (first : ℕ) (name : List ℕ) (s : Symbol) (k : ℕ) → IsIndexOf first (drop first objects) m → number_in m s.name ≡ Some k → is_exported s.attributes ≡ true
+pub clash_some : (m : Numbers) (objects : List (Named Object)) (first : ℕ) (name : List ℕ) (s : Symbol) (k : ℕ) → IsIndexOf first (objects_in (drop first objects)) m → number_in m s.name ≡ Some k → is_exported s.attributes ≡ true
     → clash name (drop first objects) s ≡ option_map (λ n. Duplicate s.name name n) (option_map (λ o. o.name) (slice_get objects k))
 clash_some m objects first name s k known h is =
-    ap (λ (b : Bool). cond b (option_map (λ p. Duplicate s.name name p.name) (find (λ o. exports o s.name) (drop first objects))) None) is
+    ap (λ (b : Bool). cond b (option_map (λ p. Duplicate s.name name p.name) (find (λ o. exports o.value s.name) (drop first objects))) None) is
     ∙ ap (option_map (λ p. Duplicate s.name name p.name)) (found_exporter objects first s.name (drop first objects) refl k (sym (known s.name) ∙ h))
     ∙ twice (slice_get objects k)
   where
@@ -96,15 +97,15 @@ clash_some m objects first name s k known h is =
     twice (Some o) = refl
 
 -- the index of the objects from a number on, after the object before them
-pub index_back : (m n : Numbers) (os : List (Named Object)) (i : ℕ) (ss : List Symbol) → 0 < i → IsSomeAnd (slice_get os (i - 1)) (λ o. o.value.symbols ≡ ss) → IsIndexOf i (drop i os) m
-    → ((q : List ℕ) → number_in n q ≡ cond (among q (exported ss)) (Some (i - 1)) (number_in m q)) → IsIndexOf (i - 1) (drop (i - 1) os) n
+pub index_back : (m n : Numbers) (os : List (Named Object)) (i : ℕ) (ss : List Symbol) → 0 < i → IsSomeAnd (slice_get os (i - 1)) (λ o. o.value.symbols ≡ ss) → IsIndexOf i (objects_in (drop i os)) m
+    → ((q : List ℕ) → number_in n q ≡ cond (among q (exported ss)) (Some (i - 1)) (number_in m q)) → IsIndexOf (i - 1) (objects_in (drop (i - 1) os)) n
 index_back m n os i ss h here known new = by (slice_get os (i - 1)) refl here
   where
     next : i ≡ suc (i - 1)
     next = omega arith
 
-    by : (r : Option (Named Object)) → slice_get os (i - 1) ≡ r → IsSomeAnd r (λ o. o.value.symbols ≡ ss) → IsIndexOf (i - 1) (drop (i - 1) os) n
+    by : (r : Option (Named Object)) → slice_get os (i - 1) ≡ r → IsSomeAnd r (λ o. o.value.symbols ≡ ss) → IsIndexOf (i - 1) (objects_in (drop (i - 1) os)) n
     by None e s = absurd s
     by (Some o) e s =
-        index_more m n os (i - 1) o e (subst (λ (k : ℕ). IsIndexOf k (drop k os) m) next known)
+        index_more m n os (i - 1) o e (subst (λ (k : ℕ). IsIndexOf k (objects_in (drop k os)) m) next known)
         (λ q. new q ∙ ap (λ (l : List Symbol). cond (among q (exported l)) (Some (i - 1)) (number_in m q)) (sym s))

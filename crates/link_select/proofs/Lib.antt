@@ -6,3 +6,4 @@ pub mod ExportLemmas
 pub mod RegionLemmas
 pub mod SelectionLemmas
 pub mod LawLemmas
+pub mod MeaningLemmas

@@ -1,12 +1,14 @@
 -- The member at the place of a number is the member of that number in library order.
 use Rattle.std.proofs.Common.{◌≡◌, ℕ, zero, suc, ◌+◌, ◌-◌, ◌<◌, ◌≤◌, length, List, [], ◌∷◌, ◌++◌, map, Option, Some, refl, sym, ap, ◌∙◌, inl, inr, arith, length-append, append_assoc}
-use Rattle.std.specs.Prelude.{slice_get, ◌⊎◌}
+use Rattle.std.specs.Prelude.{slice_get, IsSomeAnd, ◌⊎◌}
 use Rattle.std.proofs.lemmas.Bool.{cases_lt}
 use Rattle.std.specs.Option.{option_map}
+use Rattle.aof_object.specs.declared.records.Object.{Object}
+use Rattle.aof_object.specs.declared.records.Symbol.{Symbol}
 use Rattle.alf_archive.specs.declared.records.Member.{Member}
 use Rattle.alf_archive.specs.declared.records.Archive.{Archive}
 use Rattle.link_model.specs.declared.selection.Named.{Named}
-use Rattle.link_model.specs.Members.{named_member, members_in, members_of}
+use Rattle.link_model.specs.Members.{named_member, members_in, members_of, objects_in}
 use Rattle.link_select.specs.declared.members.Place.{Place}
 use Rattle.link_select.specs.Places.{places_in, places_from, member_in, member_at}
 use Rattle.base_lemmas.proofs.BaseLemmas.{get_back, get_before as get_front}
@@ -76,3 +78,16 @@ place_from all front (x ∷ xs) a e len i p h = by (cases_lt i (length x.value.m
 -- the member at the place of a number
 pub member_at_place : (archives : List (Named Archive)) (i : ℕ) (p : Place) → slice_get (places_from 0 archives) i ≡ Some p → member_at archives p ≡ slice_get (members_of archives) i
 member_at_place archives i p h = place_from archives [] archives 0 refl refl i p h
+
+-- ---- the members as objects
+
+pub length_values : (os : List (Named Object)) → length (objects_in os) ≡ length os
+length_values os = length_from_map (λ (o : Named Object). o.value) os
+
+pub objects_from : (archives : List (Named Archive)) → length (places_from 0 archives) ≡ length (objects_in (members_of archives))
+objects_from archives = length_from 0 archives ∙ sym (length_values (members_of archives))
+
+pub value_there : (os : List (Named Object)) (i : ℕ) (ss : List Symbol) → IsSomeAnd (slice_get os i) (λ o. o.value.symbols ≡ ss) → IsSomeAnd (slice_get (objects_in os) i) (λ o. o.symbols ≡ ss)
+value_there [] i ss h = h
+value_there (o ∷ os) zero ss h = h
+value_there (o ∷ os) (suc i) ss h = value_there os i ss h

@@ -1,9 +1,10 @@
 -- Indexes of names, and the region symbols that they show.
 use Rattle.std.proofs.Common.{◌≡◌, ℕ, ◌+◌, ◌-◌, ◌<◌, Bool, true, false, cond, List, [], ◌∷◌, ◌++◌, length, map, take, drop, Option, Some, None, refl, sym, ap, ◌∙◌, get_or, arith, length-append}
 use Rattle.std.specs.Prelude.{◌&&◌, ◌||◌, is_some, nat_eq, codes}
-use Rattle.std.specs.List.{ends_with}
+use Rattle.std.specs.List.{ends_with, flat_map}
 use Rattle.std.specs.Str.{bytes_eq}
 use Rattle.std.proofs.lemmas.List.{map_push, take-append-drop}
+use Rattle.std.proofs.lemmas.List.Folds.{flat_map-map}
 use Rattle.std.proofs.lemmas.Slice.Eq.{bytes_eq-Decides}
 use Rattle.std.proofs.Math.Seq.{take-append_seam, drop-append_seam}
 use Rattle.aof_object.specs.declared.records.Area.{Area}
@@ -12,6 +13,7 @@ use Rattle.aof_object.specs.Names.{among}
 use Rattle.aof_object.specs.Spelling.{area_names}
 use Rattle.aof_object.proofs.NamesLemmas.{among-push}
 use Rattle.link_model.specs.declared.selection.Named.{Named}
+use Rattle.link_model.specs.Members.{objects_in}
 use Rattle.link_model.specs.RegionNames.{names_of_areas, names_a_region}
 use Rattle.link_select.specs.declared.regions.RegionSymbols.{RegionSymbols}
 use Rattle.link_select.specs.declared.regions.RegionSymbols.TheVariants.{AnyOfTheForm, Listed}
@@ -55,12 +57,16 @@ pub among-append : (q : List ℕ) (xs ys : List (List ℕ)) → among q (xs ++ y
 among-append q [] ys = refl
 among-append q (x ∷ xs) ys = ap (λ (b : Bool). bytes_eq x q || b) (among-append q xs ys) ∙ sym (or_assoc (bytes_eq x q) (among q xs) (among q ys))
 
+pub names_of_values : (os : List (Named Object)) → names_of_areas (objects_in os) ≡ flat_map (λ (o : Named Object). area_names o.value.areas) os
+names_of_values os = flat_map-map (λ (o : Object). area_names o.areas) (λ (o : Named Object). o.value) os
+
 pub object_names_more : (m n : Numbers) (os : List (Named Object)) (i : ℕ) (o : Named Object) (q : List ℕ) → i < length os → o ≡ get_or os i o
-    → is_some (number_in m q) ≡ among q (names_of_areas (take i os)) → is_some (number_in n q) ≡ (is_some (number_in m q) || among q (area_names o.value.areas))
-    → is_some (number_in n q) ≡ among q (names_of_areas (take (i + 1) os))
+    → is_some (number_in m q) ≡ among q (names_of_areas (objects_in (take i os))) → is_some (number_in n q) ≡ (is_some (number_in m q) || among q (area_names o.value.areas))
+    → is_some (number_in n q) ≡ among q (names_of_areas (objects_in (take (i + 1) os)))
 object_names_more m n os i o q h e known new =
-    new ∙ ap (λ (b : Bool). b || among q (area_names o.value.areas)) known ∙ sym (among-append q (names_of_areas (take i os)) (area_names o.value.areas))
-    ∙ ap (among q) (sym (flat_take (λ (p : Named Object). area_names p.value.areas) os i o h e))
+    new ∙ ap (λ (b : Bool). b || among q (area_names o.value.areas)) known ∙ sym (among-append q (names_of_areas (objects_in (take i os))) (area_names o.value.areas))
+    ∙ ap (among q)
+    (ap (λ (l : List (List ℕ)). l ++ area_names o.value.areas) (names_of_values (take i os)) ∙ sym (flat_take (λ (p : Named Object). area_names p.value.areas) os i o h e) ∙ sym (names_of_values (take (i + 1) os)))
 
 -- ---- what stands before a suffix
 
@@ -100,7 +106,7 @@ stem_same m names known s q = ap (λ (b : Bool). ends_with nat_eq q s && b) (kno
 
 -- ---- which names have a meaning
 
-region_same : (regions : Option (List (List ℕ))) (os : List (Named Object)) (symbols : RegionSymbols) → Shows regions os symbols → (q : List ℕ) → region_by symbols q ≡ names_a_region regions os q
+region_same : (regions : Option (List (List ℕ))) (os : List Object) (symbols : RegionSymbols) → Shows regions os symbols → (q : List ℕ) → region_by symbols q ≡ names_a_region regions os q
 region_same None os AnyOfTheForm h q = refl
 region_same None os (Listed names areas) h q = absurd h
 region_same (Some listed) os AnyOfTheForm h q = absurd h
@@ -109,7 +115,7 @@ region_same (Some listed) os (Listed names areas) h q =
     let limit = stem_same areas (names_of_areas os) h.1 (codes "$$Limit") q in
     λ i. h.0 q i || (base i || limit i)
 
-pub known_same : (exports : Numbers) (symbols : RegionSymbols) (regions : Option (List (List ℕ))) (os : List (Named Object)) → IsIndexOf 0 os exports → Shows regions os symbols
+pub known_same : (exports : Numbers) (symbols : RegionSymbols) (regions : Option (List (List ℕ))) (os : List Object) → IsIndexOf 0 os exports → Shows regions os symbols
     → ◌≡◌ {A = List ℕ → Bool} (known_by exports symbols) (is_known regions os)
 known_same exports symbols regions os known shows =
     λ i q. cond (is_some (known q i)) true (region_same regions os symbols shows q i)

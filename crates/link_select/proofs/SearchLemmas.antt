@@ -5,17 +5,16 @@ use Rattle.std.specs.List.{AllByRecursion, flat_map, filter_map, cons_option}
 use Rattle.std.specs.Option.{option_to_list}
 use Rattle.aof_object.specs.declared.records.Symbol.{Symbol}
 use Rattle.aof_object.specs.declared.records.Object.{Object}
-use Rattle.link_model.specs.declared.selection.Named.{Named}
 use Rattle.link_model.specs.Chosen.{HasAll, asked, is_needed, wanted, IsClosed, IsLeast}
 use Rattle.link_select.specs.Search.{marked, unmarked, is_in, Takes, IsWithin}
 use Rattle.link_select.proofs.MarkLemmas.{is_in_front, is_in_back, is_in_either, is_the_one, has_one, marked_within}
 use Rattle.base_lemmas.proofs.BaseLemmas.{all_append, all_back, all_front, all_weaker}
 
 -- what is marked is in every set that the rules close, and each marked member waits or has what it asks for
-pub record Searched (supply : List ℕ → Option ℕ) (objects members : List (Named Object)) (marks : List Bool) (waiting : List ℕ) : Type 0 where
+pub record Searched (supply : List ℕ → Option ℕ) (objects members : List Object) (marks : List Bool) (waiting : List ℕ) : Type 0 where
   pub size : length marks ≡ length members
   pub waits : HasAll (marked marks) waiting
-  pub looked : (k : ℕ) (m : Named Object) → marked marks k ≡ true → slice_get members k ≡ Some m → (is_in k waiting ≡ true) ⊎ HasAll (marked marks) (wanted supply m)
+  pub looked : (k : ℕ) (m : Object) → marked marks k ≡ true → slice_get members k ≡ Some m → (is_in k waiting ≡ true) ⊎ HasAll (marked marks) (wanted supply m)
   pub roots : HasAll (marked marks) (flat_map (wanted supply) objects)
   pub least : (other : ℕ → Bool) → IsClosed supply objects members other → (k : ℕ) → marked marks k ≡ true → other k ≡ true
 
@@ -24,7 +23,7 @@ none_marked zero k h = true≢false (sym h)
 none_marked (suc n) zero h = true≢false (sym h)
 none_marked (suc n) (suc k) h = none_marked n k h
 
-pub searched_start : (supply : List ℕ → Option ℕ) (objects members : List (Named Object)) (n : ℕ) (marks : List Bool) (waiting : List ℕ) → n ≡ length members → length (replicate n false) ≡ n
+pub searched_start : (supply : List ℕ → Option ℕ) (objects members : List Object) (n : ℕ) (marks : List Bool) (waiting : List ℕ) → n ≡ length members → length (replicate n false) ≡ n
     → Takes (replicate n false) marks [] waiting (flat_map (wanted supply) objects) → Searched supply objects members marks waiting
 searched_start supply objects members n marks waiting e len t = record {
   size = t.marks.size ∙ len ∙ e;
@@ -43,7 +42,7 @@ searched_start supply objects members n marks waiting e len t = record {
     in_other other closed k (inr e) = has_one other k (flat_map (wanted supply) objects) e closed.of_objects
 
 -- the last of the waiting members is looked at
-pub searched_next : (supply : List ℕ → Option ℕ) (objects members : List (Named Object)) (marks after : List Bool) (rest wait : List ℕ) (i : ℕ) (m : Named Object)
+pub searched_next : (supply : List ℕ → Option ℕ) (objects members : List Object) (marks after : List Bool) (rest wait : List ℕ) (i : ℕ) (m : Object)
     → Searched supply objects members marks (rest ++ i ∷ []) → slice_get members i ≡ Some m → Takes marks after rest wait (wanted supply m) → Searched supply objects members after wait
 searched_next supply objects members marks after rest wait i m s at t = record {
   size = t.marks.size ∙ s.size;
@@ -60,20 +59,20 @@ searched_next supply objects members marks after rest wait i m s at t = record {
     this : marked marks i ≡ true
     this = (all_back (λ k. marked marks k ≡ true) rest (i ∷ []) s.waits).0
 
-    here : (k : ℕ) (n : Named Object) → slice_get members k ≡ Some n → i ≡ k → HasAll (marked after) (wanted supply n)
+    here : (k : ℕ) (n : Object) → slice_get members k ≡ Some n → i ≡ k → HasAll (marked after) (wanted supply n)
     here k n there e =
         let same : m ≡ n = let f : Some m ≡ Some n = sym at ∙ ap (λ (j : ℕ). slice_get members j) e ∙ there in cc in
-        subst (λ (o : Named Object). HasAll (marked after) (wanted supply o)) same t.marks.all
+        subst (λ (o : Object). HasAll (marked after) (wanted supply o)) same t.marks.all
 
-    waiting_or : (k : ℕ) (n : Named Object) → slice_get members k ≡ Some n → (is_in k rest ≡ true) ⊎ (is_in k (i ∷ []) ≡ true) → (is_in k wait ≡ true) ⊎ HasAll (marked after) (wanted supply n)
+    waiting_or : (k : ℕ) (n : Object) → slice_get members k ≡ Some n → (is_in k rest ≡ true) ⊎ (is_in k (i ∷ []) ≡ true) → (is_in k wait ≡ true) ⊎ HasAll (marked after) (wanted supply n)
     waiting_or k n there (inl e) = inl (subst (λ (l : List ℕ). is_in k l ≡ true) (sym t.behind) (is_in_front k rest t.added e))
     waiting_or k n there (inr e) = inr (here k n there (is_the_one k i e))
 
-    before : (k : ℕ) (n : Named Object) → slice_get members k ≡ Some n → (is_in k (rest ++ i ∷ []) ≡ true) ⊎ HasAll (marked marks) (wanted supply n) → (is_in k wait ≡ true) ⊎ HasAll (marked after) (wanted supply n)
+    before : (k : ℕ) (n : Object) → slice_get members k ≡ Some n → (is_in k (rest ++ i ∷ []) ≡ true) ⊎ HasAll (marked marks) (wanted supply n) → (is_in k wait ≡ true) ⊎ HasAll (marked after) (wanted supply n)
     before k n there (inl e) = waiting_or k n there (is_in_either k rest (i ∷ []) e)
     before k n there (inr a) = inr (more (wanted supply n) a)
 
-    fresh : (k : ℕ) (n : Named Object) → slice_get members k ≡ Some n → (marked marks k ≡ true) ⊎ (is_in k t.added ≡ true) → (is_in k wait ≡ true) ⊎ HasAll (marked after) (wanted supply n)
+    fresh : (k : ℕ) (n : Object) → slice_get members k ≡ Some n → (marked marks k ≡ true) ⊎ (is_in k t.added ≡ true) → (is_in k wait ≡ true) ⊎ HasAll (marked after) (wanted supply n)
     fresh k n there (inl e) = before k n there (s.looked k n e there)
     fresh k n there (inr e) = inl (subst (λ (l : List ℕ). is_in k l ≡ true) (sym t.behind) (is_in_back k rest t.added e))
 
@@ -81,13 +80,13 @@ searched_next supply objects members marks after rest wait i m s at t = record {
     in_other other closed k (inl e) = s.least other closed k e
     in_other other closed k (inr e) = has_one other k (wanted supply m) e (closed.of_members i m (s.least other closed i this) at)
 
-pub searched_end : (supply : List ℕ → Option ℕ) (objects members : List (Named Object)) (marks : List Bool) → Searched supply objects members marks [] → IsLeast supply objects members (marked marks)
+pub searched_end : (supply : List ℕ → Option ℕ) (objects members : List Object) (marks : List Bool) → Searched supply objects members marks [] → IsLeast supply objects members (marked marks)
 searched_end supply objects members marks s = record {
   closed = record { of_objects = s.roots; of_members = λ k m h at. done k m (s.looked k m h at) };
   least = λ other closed k h. s.least other closed k h;
 }
   where
-    done : (k : ℕ) (m : Named Object) → (is_in k [] ≡ true) ⊎ HasAll (marked marks) (wanted supply m) → HasAll (marked marks) (wanted supply m)
+    done : (k : ℕ) (m : Object) → (is_in k [] ≡ true) ⊎ HasAll (marked marks) (wanted supply m) → HasAll (marked marks) (wanted supply m)
     done k m (inl e) = absurd (true≢false (sym e))
     done k m (inr a) = a
 
@@ -115,19 +114,19 @@ within_these supply m n w e ss ks same =
     subst (λ (j : ℕ). AllByRecursion (λ k. k < j) ks) (sym e) (subst (λ (l : List ℕ). AllByRecursion (λ k. k < n) l) (sym same) (within_all supply n w ss))
 
 -- the waiting member of a number, whose symbols these are, is looked at
-pub searched_look : (supply : List ℕ → Option ℕ) (objects members : List (Named Object)) (marks after : List Bool) (waited rest wait : List ℕ) (i : ℕ) (ss : List Symbol)
-    → Searched supply objects members marks waited → waited ≡ rest ++ i ∷ [] → IsSomeAnd (slice_get members i) (λ m. m.value.symbols ≡ ss) → Takes marks after rest wait (filter_map (asked supply) ss)
+pub searched_look : (supply : List ℕ → Option ℕ) (objects members : List Object) (marks after : List Bool) (waited rest wait : List ℕ) (i : ℕ) (ss : List Symbol)
+    → Searched supply objects members marks waited → waited ≡ rest ++ i ∷ [] → IsSomeAnd (slice_get members i) (λ m. m.symbols ≡ ss) → Takes marks after rest wait (filter_map (asked supply) ss)
     → Searched supply objects members after wait
 searched_look supply objects members marks after waited rest wait i ss s popped here t = by (slice_get members i) refl here
   where
-    by : (r : Option (Named Object)) → slice_get members i ≡ r → IsSomeAnd r (λ m. m.value.symbols ≡ ss) → Searched supply objects members after wait
+    by : (r : Option (Object)) → slice_get members i ≡ r → IsSomeAnd r (λ m. m.symbols ≡ ss) → Searched supply objects members after wait
     by None e none = absurd none
     by (Some m) e same =
         searched_next supply objects members marks after rest wait i m (subst (λ (l : List ℕ). Searched supply objects members marks l) popped s) e
         (subst (λ (l : List Symbol). Takes marks after rest wait (filter_map (asked supply) l)) (sym same) t)
 
 -- and it is one of the members
-pub waiting_within : (supply : List ℕ → Option ℕ) (objects members : List (Named Object)) (marks : List Bool) (waited rest : List ℕ) (i n : ℕ) → Searched supply objects members marks waited → waited ≡ rest ++ i ∷ [] → length members ≡ n → i < n
+pub waiting_within : (supply : List ℕ → Option ℕ) (objects members : List Object) (marks : List Bool) (waited rest : List ℕ) (i n : ℕ) → Searched supply objects members marks waited → waited ≡ rest ++ i ∷ [] → length members ≡ n → i < n
 waiting_within supply objects members marks waited rest i n s popped e =
     let here = all_back (λ k. marked marks k ≡ true) rest (i ∷ []) (subst (λ (l : List ℕ). HasAll (marked marks) l) popped s.waits) in
     let within = marked_within marks i here.0 in

@@ -11,10 +11,11 @@ use Rattle.chunk_file.specs.Reading.{◌>>=◌, Gives}
 use Rattle.aof_object.specs.declared.records.Object.{Object}
 use Rattle.alf_archive.specs.declared.records.Archive.{Archive}
 use Rattle.alf_archive.specs.declared.records.Member.{Member}
+use Rattle.link_model.specs.declared.selection.Definition.{Definition}
 use Rattle.link_model.specs.declared.selection.Named.{Named}
 use Rattle.link_model.specs.declared.selection.Linked.{Linked}
 use Rattle.link_model.specs.declared.selection.LinkedEntry.{LinkedEntry}
-use Rattle.link_model.specs.Members.{named_member, members_of}
+use Rattle.link_model.specs.Members.{named_member, members_of, objects_in}
 use Rattle.link_model.specs.Chosen.{exporter, supplied, IsLeast, AreChosen, AreLinked, taken}
 use Rattle.link_model.specs.Definitions.{definitions_from}
 use Rattle.std.proofs.lemmas.List.{length-append, length-map}
@@ -33,20 +34,20 @@ use Rattle.link_select.proofs.ExportLemmas.{exporter_within}
 pub empty_index : (m : Numbers) → m.entries ≡ [] → (q : List ℕ) → number_in m q ≡ None
 empty_index m e q = ap (λ (es : List (Bor (List ℕ) × ℕ)). lookup (λ k. bytes_eq q k.now) es) e
 
-pub index_none : (m : Numbers) → m.entries ≡ [] → (os : List (Named Object)) (n : ℕ) → n ≡ length os → IsIndexOf n (drop n os) m
-index_none m e os n len q = empty_index m e q ∙ ap (exporter n q) (sym (ap (λ (k : ℕ). drop k os) len ∙ drop_end os))
+pub index_none : (m : Numbers) → m.entries ≡ [] → (os : List (Named Object)) (n : ℕ) → n ≡ length os → IsIndexOf n (objects_in (drop n os)) m
+index_none m e os n len q = empty_index m e q ∙ ap (λ (l : List (Named Object)). exporter n q (objects_in l)) (sym (ap (λ (k : ℕ). drop k os) len ∙ drop_end os))
 
-pub supply_within : (s : Supply) (members : List (Named Object)) (n : ℕ) → IsIndexOf 0 members s.offered → n ≡ length members → IsWithin (supply_of s) n
+pub supply_within : (s : Supply) (members : List Object) (n : ℕ) → IsIndexOf 0 members s.offered → n ≡ length members → IsWithin (supply_of s) n
 supply_within s members n known len = record { below = λ q k h. by q k (is_some (number_in s.defined q)) h }
   where
     by : (q : List ℕ) (k : ℕ) (b : Bool) → cond b None (number_in s.offered q) ≡ Some k → k < n
     by q k true h = absurd (cc)
     by q k false h = let r = exporter_within 0 q members k (sym (known q) ∙ h) in omega arith
 
-pub supply_same : (s : Supply) (objects members : List (Named Object)) → IsIndexOf 0 objects s.defined → IsIndexOf 0 members s.offered → ◌≡◌ {A = List ℕ → Option ℕ} (supply_of s) (supplied objects members)
+pub supply_same : (s : Supply) (objects members : List Object) → IsIndexOf 0 objects s.defined → IsIndexOf 0 members s.offered → ◌≡◌ {A = List ℕ → Option ℕ} (supply_of s) (supplied objects members)
 supply_same s objects members defined offered = λ i q. cond (is_some (defined q i)) None (offered q i)
 
-pub are_chosen : (s : Supply) (objects members : List (Named Object)) (chosen : ℕ → Bool) → IsIndexOf 0 objects s.defined → IsIndexOf 0 members s.offered → IsLeast (supply_of s) objects members chosen
+pub are_chosen : (s : Supply) (objects members : List Object) (chosen : ℕ → Bool) → IsIndexOf 0 objects s.defined → IsIndexOf 0 members s.offered → IsLeast (supply_of s) objects members chosen
     → AreChosen objects members chosen
 are_chosen s objects members chosen defined offered least = subst (λ (f : List ℕ → Option ℕ). IsLeast f objects members chosen) (supply_same s objects members defined offered) least
 
@@ -109,13 +110,23 @@ members_more a archives rest first =
 
 -- ---- the selection
 
-selected : (os : List (Named Object)) (r : Result LinkedEntry Refusal) (l : Linked) → (r >>= λ e. Ok (record { objects = os; definitions = definitions_from 0 os; entry = e })) ≡ Ok l → l.objects ≡ os
-selected os (Ok e) l h = let f : record { objects = os; definitions = definitions_from 0 os; entry = e } ≡ l = cc in sym (ap (λ (k : Linked). k.objects) f)
+selected : (os : List (Named Object)) (r : Result LinkedEntry Refusal) (l : Linked) → (r >>= λ e. Ok (record { objects = os; definitions = definitions_from 0 (objects_in os); entry = e })) ≡ Ok l
+    → (l.objects ≡ os) × (l.definitions ≡ definitions_from 0 (objects_in os))
+selected os (Ok e) l h =
+    let f : record { objects = os; definitions = definitions_from 0 (objects_in os); entry = e } ≡ l = cc in
+    (sym (ap (λ (k : Linked). k.objects) f), sym (ap (λ (k : Linked). k.definitions) f))
 selected os (Err r) l h = absurd (cc)
 
-pub selected_objects : (regions : Option (List (List ℕ))) (os : List (Named Object)) (l : Linked) → selection_of regions os ≡ Ok l → l.objects ≡ os
+pub selected_link : (regions : Option (List (List ℕ))) (os : List (Named Object)) (l : Linked) → selection_of regions os ≡ Ok l → (l.objects ≡ os) × (l.definitions ≡ definitions_from 0 (objects_in os))
 unfolding selection_of
-selected_objects regions os l h = selected os (judged regions os) l h
+selected_link regions os l h = selected os (judged regions os) l h
+
+pub linked_of : (regions : Option (List (List ℕ))) (os linked : List (Named Object)) (definitions : List Definition) (e : LinkedEntry) → judged regions os ≡ Ok e → linked ≡ os
+    → definitions ≡ definitions_from 0 (objects_in os) → selection_of regions os ≡ Ok (record { objects = linked; definitions = definitions; entry = e })
+unfolding selection_of
+linked_of regions os linked definitions e judges same defined =
+    ap (λ (r : Result LinkedEntry Refusal). r >>= λ n. Ok (record { objects = os; definitions = definitions_from 0 (objects_in os); entry = n })) judges
+    ∙ (λ i. Ok (record { objects = sym same i; definitions = sym defined i; entry = e }))
 
 pub selects : (objects : List (Named Object)) (archives : List (Named Archive)) (regions : Option (List (List ℕ))) (os : List (Named Object)) (r : Result Linked Fault) → AreLinked objects archives os → Gives r (selection_of regions os) → Selects objects archives regions r
 selects objects archives regions os (Ok l) linked h = (os, linked, h)
@@ -125,5 +136,5 @@ selects objects archives regions os (Err (fault.ReadFault n)) linked h = h
 
 pub links : (objects : List (Named Object)) (archives : List (Named Archive)) (regions : Option (List (List ℕ))) (os : List (Named Object)) (r : Result Linked Fault) → AreLinked objects archives os → Gives r (selection_of regions os)
     → IfOk r (λ l. AreLinked objects archives l.objects)
-links objects archives regions os (Ok l) linked h = subst (λ (o : List (Named Object)). AreLinked objects archives o) (sym (selected_objects regions os l h)) linked
+links objects archives regions os (Ok l) linked h = subst (λ (o : List (Named Object)). AreLinked objects archives o) (sym (selected_link regions os l h).0) linked
 links objects archives regions os (Err e) linked h = tt

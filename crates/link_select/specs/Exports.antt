@@ -15,7 +15,7 @@ use Rattle.link_model.specs.Chosen.{exports}
 -- a symbol of the object called `name` that one of the later objects exports too
 abbrev pub clash : List ℕ → List (Named Object) → Symbol → Option Refusal
 clash name later s =
-    if is_exported s.attributes then option_map (λ o. Duplicate s.name name o.name) (find (λ o. exports o s.name) later) else None
+    if is_exported s.attributes then option_map (λ o. Duplicate s.name name o.name) (find (λ o. exports o.value s.name) later) else None
 
 abbrev pub duplicate : List (Named Object) → Option Refusal
 duplicate [] = None

@@ -7,7 +7,6 @@ use Rattle.std.specs.declared.hash.BuildHasherDefault.{BuildHasherDefault}
 use Rattle.indexmap.specs.IndexMap.{IndexMap, get_by}
 use Rattle.aof_object.specs.declared.records.Object.{Object}
 use Rattle.aof_object.specs.Names.{among}
-use Rattle.link_model.specs.declared.selection.Named.{Named}
 use Rattle.link_model.specs.Chosen.{exporter}
 
 abbrev pub Numbers : Type 0
@@ -17,7 +16,7 @@ abbrev pub number_in : Numbers → List ℕ → Option ℕ
 number_in m q = get_by (λ k. pointwise nat_eq q k.now) m
 
 -- each name has the number of the first of these objects that exports it, where they are counted from i on
-abbrev pub IsIndexOf : ℕ → List (Named Object) → Numbers → Type 0
+abbrev pub IsIndexOf : ℕ → List Object → Numbers → Type 0
 IsIndexOf i os m = (q : List ℕ) → number_in m q ≡ exporter i q os
 
 -- a name has a number exactly where it is one of these

@@ -2,7 +2,6 @@
 use Rattle.std.specs.Prelude.{ℕ, ◌-◌, Bool, true, if◌then◌else◌, ◌||◌, ◌&&◌, is_some, nat_eq, List, length, take, codes, Option, Some, None}
 use Rattle.std.specs.List.{ends_with}
 use Rattle.aof_object.specs.declared.records.Object.{Object}
-use Rattle.link_model.specs.declared.selection.Named.{Named}
 use Rattle.link_model.specs.RegionNames.{has_region_form, names_of_areas}
 use Rattle.link_select.specs.declared.regions.RegionSymbols.{RegionSymbols}
 use Rattle.link_select.specs.declared.regions.RegionSymbols.TheVariants.{AnyOfTheForm, Listed}
@@ -17,7 +16,7 @@ region_by AnyOfTheForm q = has_region_form q
 region_by (Listed names areas) q = is_some (number_in names q) || (stem_in areas (codes "$$Base") q || stem_in areas (codes "$$Limit") q)
 
 -- these are the region symbols that the image has
-abbrev pub Shows : Option (List (List ℕ)) → List (Named Object) → RegionSymbols → Type 0
+abbrev pub Shows : Option (List (List ℕ)) → List Object → RegionSymbols → Type 0
 Shows None os AnyOfTheForm = Unit {0}
 Shows None os (Listed names areas) = ⊥
 Shows (Some listed) os AnyOfTheForm = ⊥

@@ -14,6 +14,7 @@ use Rattle.alf_archive.specs.declared.records.Archive.{Archive}
 use Rattle.link_model.specs.declared.selection.Named.{Named}
 use Rattle.link_model.specs.declared.selection.Linked.{Linked}
 use Rattle.link_model.specs.declared.selection.LinkedEntry.{LinkedEntry}
+use Rattle.link_model.specs.Members.{objects_in}
 use Rattle.link_model.specs.Chosen.{AreLinked}
 use Rattle.link_model.specs.Definitions.{definitions_from}
 use Rattle.link_select.specs.Entries.{entered_from, only_entry}
@@ -41,7 +42,7 @@ judged regions os =
     limited Areas 65535 (count_areas os) (limited Symbols 1000000 (count_symbols os) (Ok e))))
 
 unfoldable pub selection_of : Option (List (List ℕ)) → List (Named Object) → Result Linked Refusal
-selection_of regions os = judged regions os >>= λ e. Ok (record { objects = os; definitions = definitions_from 0 os; entry = e })
+selection_of regions os = judged regions os >>= λ e. Ok (record { objects = os; definitions = definitions_from 0 (objects_in os); entry = e })
 
 -- the answer of a call is the selection of what is linked, or memory was refused
 abbrev pub Selects : List (Named Object) → List (Named Archive) → Option (List (List ℕ)) → Result Linked Fault → Type 0

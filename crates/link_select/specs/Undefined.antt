@@ -6,12 +6,13 @@ use Rattle.sdt_fault.specs.declared.refusal.Refusal.TheVariants.{Undefined}
 use Rattle.aof_object.specs.declared.records.Object.{Object}
 use Rattle.aof_object.specs.declared.records.Symbol.{Symbol}
 use Rattle.link_model.specs.declared.selection.Named.{Named}
+use Rattle.link_model.specs.Members.{objects_in}
 use Rattle.link_model.specs.Options.{first_given}
 use Rattle.link_model.specs.Chosen.{exporter, is_needed}
 use Rattle.link_model.specs.RegionNames.{names_a_region}
 
 -- a name means something among these objects
-abbrev pub is_known : Option (List (List ℕ)) → List (Named Object) → List ℕ → Bool
+abbrev pub is_known : Option (List (List ℕ)) → List Object → List ℕ → Bool
 is_known regions os q = if is_some (exporter 0 q os) then true else names_a_region regions os q
 
 -- a symbol of the object called `name` that needs a meaning, and that by this test has none
@@ -22,4 +23,4 @@ abbrev pub lacking_in : (List ℕ → Bool) → Named Object → Option Refusal
 lacking_in known o = first_given (lacking known o.name) o.value.symbols
 
 abbrev pub undefined : Option (List (List ℕ)) → List (Named Object) → Option Refusal
-undefined regions os = first_given (lacking_in (is_known regions os)) os
+undefined regions os = first_given (lacking_in (is_known regions (objects_in os))) os

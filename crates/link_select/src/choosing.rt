@@ -4,7 +4,7 @@
 ghost use Rattle.std.specs.Prelude.{◌≡◌, ◌<◌, [], ◌∷◌, ◌++◌, ℕ, false, replicate, length, OnOk, IfOk};
 ghost use Rattle.std.specs.Option.{option_to_list};
 ghost use Rattle.std.specs.List.{flat_map, filter_map, AllByRecursion};
-ghost use Rattle.link_model.specs.Members.{members_of};
+ghost use Rattle.link_model.specs.Members.{members_of, objects_in};
 ghost use Rattle.link_model.specs.Chosen.{asked, wanted, IsLeast};
 ghost use Rattle.link_select.specs.Index.{IsIndexOf};
 ghost use Rattle.link_select.specs.Places.{places_from};
@@ -98,7 +98,7 @@ fn ask_all(
     waiting: &mut Vec<usize>,
 ) -> Result<(), NoMemory>
     requires { IsWithin (supply_of supply.now) (length marks.old.items) }
-    ensures { OnOk result (Takes marks.old.items marks.new.items waiting.old.items waiting.new.items (flat_map (wanted (supply_of supply.now)) objects.now)) }
+    ensures { OnOk result (Takes marks.old.items marks.new.items waiting.old.items waiting.new.items (flat_map (λ object. wanted (supply_of supply.now) object.value) objects.now)) }
 {
     for object in objects {
         let numbers = wanted_by(alloc, supply, object.value.symbols.as_slice())?;
@@ -137,9 +137,9 @@ pub fn choose(
     places: &[Place],
 ) -> Result<Vec<bool>, NoMemory>
     requires places { places.now ≡ places_from 0 archives.now }
-    requires offered { IsIndexOf 0 (members_of archives.now) supply.now.offered }
+    requires offered { IsIndexOf 0 (objects_in (members_of archives.now)) supply.now.offered }
     ensures size { IfOk result (λ marks. length marks.items ≡ length places.now) }
-    ensures least { IfOk result (λ marks. IsLeast (supply_of supply.now) objects.now (members_of archives.now) (marked marks.items)) }
+    ensures least { IfOk result (λ marks. IsLeast (supply_of supply.now) (objects_in objects.now) (objects_in (members_of archives.now)) (marked marks.items)) }
 {
     let mut marks = no_marks(alloc, places.len())?;
     let mut waiting = Vec::new(alloc);

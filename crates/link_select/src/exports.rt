@@ -7,7 +7,7 @@ ghost use Rattle.aof_object.specs.Names.{among};
 ghost use Rattle.aof_object.specs.Checks.{is_exported};
 ghost use Rattle.aof_object.specs.Objects.{exported};
 ghost use Rattle.link_model.specs.Options.{first_given};
-ghost use Rattle.link_model.specs.Members.{members_of};
+ghost use Rattle.link_model.specs.Members.{members_of, objects_in};
 ghost use Rattle.link_select.specs.Index.{number_in, IsIndexOf};
 ghost use Rattle.link_select.specs.Places.{places_from};
 ghost use Rattle.link_select.specs.Exports.{clash, duplicate};
@@ -65,7 +65,7 @@ pub fn index_objects<'a>(
     alloc: Global,
     objects: &'a [Named<Object>],
 ) -> Result<IndexMap<&'a [u8], usize>, NoMemory>
-    ensures { IfOk result (λ index. IsIndexOf 0 objects.now index) }
+    ensures { IfOk result (λ index. IsIndexOf 0 (objects_in objects.now) index) }
 {
     let mut index = IndexMap::new(alloc);
     for i in (0..objects.len()).rev() {
@@ -81,7 +81,7 @@ pub fn index_members<'a>(
     places: &[Place],
 ) -> Result<IndexMap<&'a [u8], usize>, NoMemory>
     requires { places.now ≡ places_from 0 archives.now }
-    ensures { IfOk result (λ index. IsIndexOf 0 (members_of archives.now) index) }
+    ensures { IfOk result (λ index. IsIndexOf 0 (objects_in (members_of archives.now)) index) }
 {
     let mut index = IndexMap::new(alloc);
     for i in (0..places.len()).rev() {
@@ -109,7 +109,7 @@ fn clash_of(
     name: &Text,
     symbol: &Symbol,
 ) -> Result<Option<Refusal>, NoMemory>
-    requires { IsIndexOf first (drop first objects.now) index.now }
+    requires { IsIndexOf first (objects_in (drop first objects.now)) index.now }
     ensures { IfOk result (λ refusal. refusal ≡ clash name.now (drop first objects.now) symbol.now) }
 {
     if symbol.attributes % 4 != 3 {
@@ -136,7 +136,7 @@ fn first_clash(
     name: &Text,
     symbols: &[Symbol],
 ) -> Result<Option<Refusal>, NoMemory>
-    requires { IsIndexOf first (drop first objects.now) index.now }
+    requires { IsIndexOf first (objects_in (drop first objects.now)) index.now }
     ensures { IfOk result (λ refusal. refusal ≡ first_given (clash name.now (drop first objects.now)) symbols.now) }
 {
     for symbol in symbols {
@@ -169,7 +169,7 @@ pub fn judge_exports<'a>(
     alloc: Global,
     objects: &'a [Named<Object>],
 ) -> Result<Exports<'a>, NoMemory>
-    ensures index { IfOk result (λ e. IsIndexOf 0 objects.now e.index) }
+    ensures index { IfOk result (λ e. IsIndexOf 0 (objects_in objects.now) e.index) }
     ensures duplicate { IfOk result (λ e. e.duplicate ≡ duplicate objects.now) }
 {
     let mut index = IndexMap::new(alloc);

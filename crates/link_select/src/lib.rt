@@ -14,5 +14,5 @@ mod regions;
 mod selecting;
 mod undefined;
 
-pub use crate::laws::duplicate_law;
+pub use crate::laws::{duplicate_law, undefined_law};
 pub use crate::selecting::select;

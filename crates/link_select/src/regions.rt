@@ -5,6 +5,7 @@ ghost use Rattle.std.specs.List.{prefix_len};
 ghost use Rattle.std.specs.Option.{option_copied};
 ghost use Rattle.aof_object.specs.Names.{among};
 ghost use Rattle.aof_object.specs.Spelling.{area_names};
+ghost use Rattle.link_model.specs.Members.{objects_in};
 ghost use Rattle.link_model.specs.RegionNames.{is_region_char, is_length_of, is_length_name, has_region_form, names_of_areas};
 ghost use Rattle.link_select.specs.Index.{number_in};
 ghost use Rattle.link_select.specs.Regions.{stem_in, region_by, Shows};
@@ -52,7 +53,7 @@ fn index_area_names<'a>(
     alloc: Global,
     objects: &'a [Named<Object>],
 ) -> Result<IndexMap<&'a [u8], usize>, NoMemory>
-    ensures { IfOk result (λ index. (q : List ℕ) → is_some (number_in index q) ≡ among q (names_of_areas objects.now)) }
+    ensures { IfOk result (λ index. (q : List ℕ) → is_some (number_in index q) ≡ among q (names_of_areas (objects_in objects.now))) }
 {
     let mut index = IndexMap::new(alloc);
     for object in objects {
@@ -68,7 +69,7 @@ pub fn region_symbols<'a>(
     regions: Option<&'a [Text]>,
     objects: &'a [Named<Object>],
 ) -> Result<RegionSymbols<'a>, NoMemory>
-    ensures { IfOk result (λ symbols. Shows (option_copied regions.entry) objects.now symbols) }
+    ensures { IfOk result (λ symbols. Shows (option_copied regions.entry) (objects_in objects.now) symbols) }
 {
     match regions {
         None => Ok(RegionSymbols::AnyOfTheForm),

@@ -6,7 +6,7 @@ ghost use Rattle.sdt_fault.specs.declared.answer.Fault.TheVariants.{Refused};
 ghost use Rattle.sdt_fault.specs.declared.refusal.Refusal.TheVariants.{TooLarge};
 ghost use Rattle.chunk_file.specs.Reading.{Gives};
 ghost use Rattle.aof_object.specs.declared.records.Object.{Object as AofObject};
-ghost use Rattle.link_model.specs.Members.{members_of};
+ghost use Rattle.link_model.specs.Members.{members_of, objects_in};
 ghost use Rattle.link_model.specs.Chosen.{AreChosen, AreLinked};
 ghost use Rattle.link_model.specs.Definitions.{definition_in, definitions_in, definitions_from};
 ghost use Rattle.link_model.specs.declared.selection.Named.{Named as NamedValue};
@@ -42,7 +42,7 @@ fn mark_members(
     archives: &[Named<Archive>],
 ) -> Result<Vec<bool>, NoMemory>
     ensures size { IfOk result (λ marks. length marks.items ≡ length (members_of archives.now)) }
-    ensures chosen { IfOk result (λ marks. AreChosen objects.now (members_of archives.now) (marked marks.items)) }
+    ensures chosen { IfOk result (λ marks. AreChosen (objects_in objects.now) (objects_in (members_of archives.now)) (marked marks.items)) }
 {
     let places = places_of(alloc, archives)?;
     let supply = Supply {
@@ -108,7 +108,7 @@ fn push_definitions(
 fn definitions_of(alloc: Global, objects: &[Named<Object>]) -> Result<List<Definition>, NoMemory>
     requires objects { length objects.now < 2 ^ 32 }
     requires symbols { count_symbols objects.now < 2 ^ 32 }
-    ensures { IfOk result (λ definitions. definitions ≡ definitions_from 0 objects.now) }
+    ensures { IfOk result (λ definitions. definitions ≡ definitions_from 0 (objects_in objects.now)) }
 {
     let mut definitions = Vec::new(alloc);
     for (i, object) in objects.iter().enumerate() {
@@ -184,9 +184,9 @@ pub fn select(
 ) -> Result<Linked, Fault>
     // What is linked: the command line's objects, then the least set of members that these need.
     ensures linked { IfOk result (λ l. AreLinked objects.items archives.items l.objects) }
-    // No name is exported by two of them, and each of their non-weak references has a meaning.
-    ensures one_definition { IfOk result (λ l. AreDefinedOnce l.objects) }
-    ensures meanings { IfOk result (λ l. HaveMeanings (option_copied regions.entry) l.objects) }
+    // No name is exported by two of them, and each of their symbols has a meaning.
+    ensures one_definition { IfOk result (λ l. AreDefinedOnce (objects_in l.objects)) }
+    ensures meanings { IfOk result (λ l. HaveMeanings (option_copied regions.entry) l) }
     // The answer is that of the linked objects, of which there is one list, unless memory was refused.
     ensures exact { Selects objects.items archives.items (option_copied regions.entry) result }
     ensures only { (os : Items (NamedValue AofObject)) → AreLinked objects.items archives.items os → Gives result (selection_of (option_copied regions.entry) os) }

@@ -2,6 +2,7 @@
 
 ghost use Rattle.std.specs.Prelude.{◌≡◌, IfOk};
 ghost use Rattle.std.specs.Option.{option_copied};
+ghost use Rattle.link_model.specs.Members.{objects_in};
 ghost use Rattle.link_model.specs.Options.{first_given};
 ghost use Rattle.link_select.specs.Index.{IsIndexOf};
 ghost use Rattle.link_select.specs.Regions.{known_by};
@@ -94,7 +95,7 @@ pub fn undefined(
     regions: Option<&[Text]>,
     objects: &[Named<Object>],
 ) -> Result<Option<Refusal>, NoMemory>
-    requires { IsIndexOf 0 objects.now exports.now }
+    requires { IsIndexOf 0 (objects_in objects.now) exports.now }
     ensures { IfOk result (λ refusal. refusal ≡ undefined_name (option_copied regions.entry) objects.now) }
 {
     let symbols = region_symbols(alloc, regions, objects)?;

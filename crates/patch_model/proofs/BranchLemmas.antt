@@ -1,6 +1,7 @@
 -- Branches: where they lead, and what patching keeps.
 use Rattle.std.proofs.Common.{◌≡◌, ℕ, zero, suc, subst, ◌+◌, ◌*◌, ◌/◌, ◌%◌, ◌^◌, ◌<◌, Bool, true, false, refl, ap, ◌∙◌, arith, inl}
-use Rattle.std.specs.Prelude.{Some}
+use Rattle.std.specs.Prelude.{Some, nat_lt, ◌&&◌, ◌==◌}
+use Rattle.std.proofs.lemmas.Bool.{and_parts as both_true, ltb-true, lt-ltb, eqb-true, eq-eqb}
 use Rattle.sdt_word.specs.Bytes.{bytes_of}
 use Rattle.sdt_word.specs.Numbers.{bits, flag, sign_extended}
 use Rattle.sdt_word.specs.Codes.{condition_code}
@@ -10,9 +11,22 @@ use Rattle.arm_isa.specs.ArmRows.{ReadsArm}
 use Rattle.arm_isa.specs.declared.instr.ArmInstr.TheVariants as arm
 use Rattle.thumb_isa.specs.ThumbRows.{ReadsThumb}
 use Rattle.thumb_isa.specs.declared.instr.ThumbInstr.TheVariants as thumb
-use Rattle.patch_model.specs.Patched.{IsBranch, SameBranch, span, middle, ahead}
-use Rattle.patch_model.specs.Laws.{BranchLaw}
+use Rattle.patch_model.specs.Patched.{IsBranch, is_branch, SameBranch, span, middle, ahead}
+use Rattle.patch_model.specs.Laws.{BranchLaw, TestLaw}
 use Rattle.patch_model.specs.Reaches.{View, Shows, ShowsHalf, BranchesTo}
+
+-- ---- which words are branches
+
+pub branch_test : (t : Bool) (w : ℕ) → IsBranch t w → is_branch t w ≡ true
+branch_test false w (condition, digits) = rw (lt-ltb (bits w 28 4) 15 condition, eq-eqb (bits w 25 3) 5 digits) refl
+branch_test true w (high, low) = rw (eq-eqb (bits w 11 5) 30 high, eq-eqb (bits w 27 5) 31 low) refl
+
+pub branch_tested : (t : Bool) (w : ℕ) → is_branch t w ≡ true → IsBranch t w
+branch_tested false w h = let parts = both_true (nat_lt (bits w 28 4) 15) (bits w 25 3 == 5) h in (ltb-true (bits w 28 4) 15 parts.0, eqb-true (bits w 25 3) 5 parts.1)
+branch_tested true w h = let parts = both_true (bits w 11 5 == 30) (bits w 27 5 == 31) h in (eqb-true (bits w 11 5) 30 parts.0, eqb-true (bits w 27 5) 31 parts.1)
+
+pub branch_decides : TestLaw
+branch_decides t w = (branch_tested t w, branch_test t w)
 
 -- ---- ARM
 

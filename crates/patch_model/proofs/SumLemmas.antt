@@ -39,10 +39,11 @@ same_kind Word = refl
 same_kind (Branch true) = refl
 same_kind (Branch false) = refl
 
+pub is_own : (r : Reloc) → is_field (field_of r) r ≡ true
+is_own r = rw (eq-eqb (field_of r).place (field_of r).place refl, same_kind (kind_of r)) refl
+
 own : (r : Reloc) → directives (r ∷ []) (field_of r) ≡ r ∷ []
-own r =
-    let e : is_field (field_of r) r ≡ true = rw (eq-eqb (field_of r).place (field_of r).place refl, same_kind (kind_of r)) refl in
-    ap (λ b. cond b (r ∷ []) []) e
+own r = ap (λ b. cond b (r ∷ []) []) (is_own r)
 
 pub directive_law : DirectiveLaw
 directive_law = record { joined = joined; none = none_of; own = own }

@@ -1,5 +1,5 @@
 -- What follows from the definitions of patched bytes and of branches. This project's.
-use Rattle.std.specs.Prelude.{◌≡◌, ◌≢◌, ◌++◌, ℕ, ◌+◌, ◌*◌, ◌/◌, ◌%◌, ◌^◌, ◌<◌, ◌≤◌, Bool, true, false, List, [], ◌∷◌, take, drop, slice_get, Option, Some, None}
+use Rattle.std.specs.Prelude.{◌≡◌, ◌≢◌, ◌++◌, ℕ, ◌+◌, ◌*◌, ◌/◌, ◌%◌, ◌^◌, ◌<◌, ◌≤◌, Bool, true, false, List, [], ◌∷◌, take, drop, slice_get, Decides, Option, Some, None}
 use Rattle.sdt_word.specs.Bytes.{bytes_of, word_in}
 use Rattle.sdt_word.specs.Numbers.{bits, flag, sign_extended}
 use Rattle.sdt_word.specs.declared.codes.Condition.{Condition}
@@ -11,7 +11,7 @@ use Rattle.aof_object.specs.declared.records.Object.{Object}
 use Rattle.aof_object.specs.declared.records.Reloc.{Reloc}
 use Rattle.sdt_word.specs.declared.ranges.Range32.{Range32}
 use Rattle.patch_model.specs.Fields.{Word, Branch, Field, Home, Meant, Values, field_of, kind_of, is_relative, value_named, mark_of, directives, added, taken}
-use Rattle.patch_model.specs.Patched.{total, IsBranch, SameBranch, span, middle, ahead, Veneers, Way, Directly, ByVeneer, first_symbol, other_state, way_home, way_to, IsOutside, AreaPatched, Patched}
+use Rattle.patch_model.specs.Patched.{total, IsBranch, is_branch, SameBranch, span, middle, ahead, Veneers, Way, Directly, ByVeneer, first_symbol, other_state, way_home, way_to, IsOutside, AreaPatched, Patched}
 use Rattle.patch_model.specs.Reaches.{View, Shows, BranchesTo, IsVeneer, HasVeneer, VeneersStand, Reaches}
 
 -- ---- bytes
@@ -52,6 +52,10 @@ WordLaw =
     ≡ total (word_in old (field_of r).place) (added values (directives relocs (field_of r))) (taken base (directives relocs (field_of r)))
 
 -- ---- branches
+
+-- the test is true of branches and of no other word
+abbrev pub TestLaw : Type 0
+TestLaw = (thumb : Bool) (w : ℕ) → Decides (is_branch thumb w) (IsBranch thumb w)
 
 pub record BranchLaw : Type 0 where
   -- bytes that read as a branch lead where its span says

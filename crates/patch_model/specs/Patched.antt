@@ -2,7 +2,7 @@
 -- Object Format, relocation directives, and armlink's interworking veneers; ARM Architecture Reference Manual, the
 -- encodings of B and BL; the ranges of bytes and half-words are this project's). Numbers have no signs here: a
 -- displacement is counted from the least one, and a sum is compared with what was taken away from it.
-use Rattle.std.specs.Prelude.{◌≡◌, ◌⊎◌, ℕ, ◌+◌, ◌-◌, ◌*◌, ◌/◌, ◌%◌, ◌^◌, ◌<◌, ◌≤◌, Bool, true, false, not, if◌then◌else◌, List, [], ◌∷◌, length, get_or, slice_get, Option, Some, None}
+use Rattle.std.specs.Prelude.{◌≡◌, ◌⊎◌, ℕ, ◌+◌, ◌-◌, ◌*◌, ◌/◌, ◌%◌, ◌^◌, ◌<◌, ◌≤◌, Bool, true, false, not, ◌&&◌, nat_lt, ◌==◌, if◌then◌else◌, List, [], ◌∷◌, length, get_or, slice_get, Option, Some, None}
 use Rattle.std.specs.Option.{IsSomeAnd}
 use Rattle.sdt_word.specs.Numbers.{bits}
 use Rattle.aof_object.specs.declared.records.Area.{Area}
@@ -24,6 +24,11 @@ Fits width sum = (sum < 2 ^ width) ⊎ (2 ^ 32 - 2 ^ (width - 1) ≤ sum)
 abbrev pub IsBranch : Bool → ℕ → Type 0
 IsBranch false w = (bits w 28 4 < 15) × (bits w 25 3 ≡ 5)
 IsBranch true w = (bits w 11 5 ≡ 30) × (bits w 27 5 ≡ 31)
+
+-- the same as a test
+abbrev pub is_branch : Bool → ℕ → Bool
+is_branch false w = nat_lt (bits w 28 4) 15 && bits w 25 3 == 5
+is_branch true w = bits w 11 5 == 30 && bits w 27 5 == 31
 
 -- the displacement of a branch, counted from the least one
 abbrev pub span : Bool → ℕ → ℕ
@@ -74,6 +79,11 @@ way_home thumb reach more less m (Some h) =
 abbrev pub way_to : Bool → ℕ → ℕ → ℕ → Values → Option ℕ → Way
 way_to thumb reach more less values None = Directly
 way_to thumb reach more less values (Some k) = way_home thumb reach more less (values.symbol k) (values.symbol k).home
+
+-- how the branch of a field leads that stands in an area at a base, by its directives
+abbrev pub way_of : ℕ → Values → List ℕ → Field → Bool → List Reloc → Way
+way_of base values old f thumb rs =
+    way_to thumb (total (base + f.place + ahead thumb + span thumb (number_in old f)) 0 (middle thumb)) (added values rs) (taken base rs) values (first_symbol rs)
 
 -- a branch whose displacement counts from an address leads to another, if there is one
 abbrev pub LeadsAt : Bool → ℕ → ℕ → Option ℕ → Type 0

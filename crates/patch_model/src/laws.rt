@@ -1,6 +1,6 @@
 //! Laws of the definitions, each proved as the contract of an empty function.
 
-ghost use Rattle.patch_model.specs.Laws.{OneObjectPatched, OnePatched, ReachLaw};
+ghost use Rattle.patch_model.specs.Laws.{OneObjectPatched, OnePatched, ReachLaw, TestLaw};
 
 /// An area has at most one list of patched bytes.
 pub fn one_patched()
@@ -8,7 +8,8 @@ pub fn one_patched()
     ensures object { OneObjectPatched }
 {}
 
-/// A patched branch reaches what it names.
+/// A patched branch reaches what it names; which words are branches is what the test of them says.
 pub fn reach_law()
-    ensures { ReachLaw }
+    ensures reaches { ReachLaw }
+    ensures test { TestLaw }
 {}

@@ -1,5 +1,7 @@
 use Rattle.std.proofs.Common.{◌≡◌, ℕ, List, length, take, sym, ap, ◌∙◌, subst}
 use Rattle.std.specs.List.{flat_map, filter_map}
+use Rattle.aof_object.specs.declared.records.Object.{Object}
+use Rattle.link_model.specs.declared.selection.Named.{Named}
 use Rattle.link_model.specs.Chosen.{asked, wanted}
 use Rattle.link_select.specs.Search.{Takes, supply_of}
 use Rattle.link_select.proofs.ListLemmas.{flat_take}
@@ -14,7 +16,7 @@ take_all-requires c =
 
 pub loop-object-preserved : goal.loop-object-preserved
 loop-object-preserved c =
-    let f = wanted (supply_of c.args.supply.now) in
+    let f : Named Object → List ℕ = λ o. wanted (supply_of c.args.supply.now) o.value in
     let these : c.as_slice-in-loop-object.result.now ≡ f c.object-item.result =
     c.as_slice-in-loop-object.ensures.value ∙ c.in_ok-numbers.ensures ∙ ap (filter_map (asked (supply_of c.args.supply.now))) c.as_slice.ensures in
     subst (λ (l : List ℕ). Takes c.args.marks.now.items c.take_all.new.marks.items c.args.waiting.now.items c.take_all.new.waiting.items l)

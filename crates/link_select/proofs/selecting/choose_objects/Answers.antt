@@ -2,7 +2,7 @@ use Rattle.std.proofs.Common.{◌≡◌, Bool, List, ◌++◌, length, subst, ap
 use Rattle.aof_object.specs.declared.records.Object.{Object}
 use Rattle.alf_archive.specs.declared.records.Archive.{Archive}
 use Rattle.link_model.specs.declared.selection.Named.{Named}
-use Rattle.link_model.specs.Members.{members_of}
+use Rattle.link_model.specs.Members.{members_of, objects_in}
 use Rattle.link_model.specs.Chosen.{AreChosen, AreLinked, taken}
 use Rattle.link_select.specs.Search.{marked}
 use Rattle.link_select.proofs.SelectionLemmas.{if_ok}
@@ -15,10 +15,10 @@ linked_objects-requires c =
 pub returns : goal.returns
 returns c =
     let marks : List Bool = c.in_ok-marks.marks.items in
-    let by_libraries : AreChosen c.as_slice.result.now (members_of c.args.archives.items) (marked marks) =
-    subst (λ (l : List (Named Archive)). AreChosen c.as_slice.result.now (members_of l) (marked marks)) c.as_slice-2.ensures.value c.in_ok-marks.ensures.chosen in
-    let chosen : AreChosen c.args.objects.items (members_of c.args.archives.items) (marked marks) =
-    subst (λ (l : List (Named Object)). AreChosen l (members_of c.args.archives.items) (marked marks)) c.as_slice.ensures.value by_libraries in
+    let by_libraries : AreChosen (objects_in c.as_slice.result.now) (objects_in (members_of c.args.archives.items)) (marked marks) =
+    subst (λ (l : List (Named Archive)). AreChosen (objects_in c.as_slice.result.now) (objects_in (members_of l)) (marked marks)) c.as_slice-2.ensures.value c.in_ok-marks.ensures.chosen in
+    let chosen : AreChosen (objects_in c.args.objects.items) (objects_in (members_of c.args.archives.items)) (marked marks) =
+    subst (λ (l : List (Named Object)). AreChosen (objects_in l) (objects_in (members_of c.args.archives.items)) (marked marks)) c.as_slice.ensures.value by_libraries in
     if_ok (λ (v : Vec (Named Object) Global). v.items ≡ c.args.objects.items ++ taken (marked c.as_slice-3.result.now) 0 (members_of c.args.archives.items))
     (λ v. AreLinked c.args.objects.items c.args.archives.items v.items)
     (λ v e. record {

@@ -1,5 +1,5 @@
 use Rattle.std.proofs.Common.{◌≡◌, Bool, List, Vec, Global, length, ap, ◌∙◌}
-use Rattle.link_model.specs.Members.{members_of}
+use Rattle.link_model.specs.Members.{members_of, objects_in}
 use Rattle.link_model.specs.Chosen.{AreChosen, IsLeast}
 use Rattle.link_select.specs.Search.{marked, supply_of}
 use Rattle.link_select.specs.declared.choosing.Supply.{Supply}
@@ -16,7 +16,7 @@ returns-clause-size c =
 pub returns-clause-chosen : goal.returns-clause-chosen
 returns-clause-chosen c =
     let supply : Supply = record { defined = c.in_ok-index_objects.field-0; offered = c.in_ok-index_members.field-0 } in
-    if_ok (λ (v : Vec Bool Global). IsLeast (supply_of supply) c.args.objects.now (members_of c.args.archives.now) (marked v.items))
-    (λ v. AreChosen c.args.objects.now (members_of c.args.archives.now) (marked v.items))
-    (λ v least. are_chosen supply c.args.objects.now (members_of c.args.archives.now) (marked v.items) c.in_ok-index_objects.ensures c.in_ok-index_members.ensures least)
+    if_ok (λ (v : Vec Bool Global). IsLeast (supply_of supply) (objects_in c.args.objects.now) (objects_in (members_of c.args.archives.now)) (marked v.items))
+    (λ v. AreChosen (objects_in c.args.objects.now) (objects_in (members_of c.args.archives.now)) (marked v.items))
+    (λ v least. are_chosen supply (objects_in c.args.objects.now) (objects_in (members_of c.args.archives.now)) (marked v.items) c.in_ok-index_objects.ensures c.in_ok-index_members.ensures least)
     c.choose.result c.choose.ensures.least

@@ -6,7 +6,8 @@ use Rattle.aof_object.specs.declared.records.Object.{Object}
 use Rattle.link_model.proofs.LinkedOnce.{linked_once}
 use Rattle.link_select.specs.Selection.{selection_of}
 use Rattle.link_select.proofs.SelectionLemmas.{selects, links}
-use Rattle.link_select.proofs.LawLemmas.{selected_once, selected_mean}
+use Rattle.link_select.proofs.LawLemmas.{selected_once}
+use Rattle.link_select.proofs.MeaningLemmas.{meanings_exist}
 use Rattle.link_select.proofs.selecting.select.Goals as goal
 
 pub returns-clause-linked : goal.returns-clause-linked
@@ -26,4 +27,4 @@ pub returns-clause-one_definition : goal.returns-clause-one_definition
 returns-clause-one_definition c = selected_once (option_copied c.args.regions) c.in_ok-chosen.chosen.items c.link.result c.link.ensures
 
 pub returns-clause-meanings : goal.returns-clause-meanings
-returns-clause-meanings c = selected_mean (option_copied c.args.regions) c.in_ok-chosen.chosen.items c.link.result c.link.ensures
+returns-clause-meanings c = meanings_exist (option_copied c.args.regions) c.in_ok-chosen.chosen.items c.link.result c.link.ensures
