@@ -1,5 +1,5 @@
 -- The files of a plan without a refusal.
-use Rattle.std.proofs.Common.{◌≡◌, ℕ, zero, suc, ◌+◌, ◌-◌, ◌*◌, ◌<◌, ◌≤◌, Bool, true, false, List, [], ◌∷◌, ◌++◌, length, length-append, map, refl, sym, ap, subst, ◌∙◌, arith, Option, Some, None}
+use Rattle.std.proofs.Common.{◌≡◌, ℕ, suc, ◌+◌, ◌<◌, ◌≤◌, List, [], ◌∷◌, length, length-append, map, refl, sym, ap, subst, ◌∙◌, arith, Option, None}
 use Rattle.std.specs.Prelude.{sum_by}
 use Rattle.std.specs.List.{flat_map, AllByRecursion}
 use Rattle.std.specs.Option.{option_map, option_or}
@@ -20,7 +20,7 @@ use Rattle.place_model.specs.Laws.{IsLeastShared}
 use Rattle.place_model.proofs.ListLemmas.{all_at, all_indexed, all_of_flat, Pairs, pairs_map}
 use Rattle.place_model.proofs.SpanLemmas.{shared_law, or_none, map_none, meeting_none}
 use Rattle.image_model.specs.Regions.{Filling, region_bytes, AreSized}
-use Rattle.image_model.specs.Views.{IsView, IsLoadView, view_of, file_of, files_of}
+use Rattle.image_model.specs.Views.{IsLoadView, view_of, file_of, files_of}
 use Rattle.image_laws.specs.Laws.{ViewLaw}
 use Rattle.image_laws.proofs.RegionLemmas.{Sizes}
 use Rattle.image_laws.proofs.ViewLemmas.{Sound, bytes_size, not_in, past, is_view, one_view, view_things, view_gaps}

@@ -1,30 +1,28 @@
 -- A scatter image that is placed without a refusal starts.
-use Rattle.std.proofs.Common.{◌≡◌, ℕ, zero, suc, ◌+◌, ◌-◌, ◌*◌, ◌^◌, ◌<◌, ◌≤◌, Bool, true, false, if◌then◌else◌, List, [], ◌∷◌, ◌++◌, length, length-append, map, refl, sym, ap, subst, ◌∙◌, arith, leb-true, Option, Some, None}
-use Rattle.std.specs.Prelude.{slice_get, nat_lt, nat_le}
-use Rattle.std.specs.List.{filter, flat_map, AllByRecursion}
+use Rattle.std.proofs.Common.{◌≡◌, ℕ, ◌+◌, ◌-◌, ◌*◌, ◌^◌, ◌<◌, ◌≤◌, Bool, true, false, if◌then◌else◌, List, [], ◌∷◌, ◌++◌, length, map, refl, sym, ap, subst, ◌∙◌, arith, leb-true, Option, Some, None}
+use Rattle.std.specs.Prelude.{slice_get, nat_lt}
+use Rattle.std.specs.List.{filter, AllByRecursion}
 use Rattle.std.specs.Option.{option_map, option_or}
 use Rattle.base_lemmas.proofs.BaseLemmas.{all_front, all_weaker, same}
 use Rattle.sdt_word.specs.declared.ranges.Range32.{Range32}
 use Rattle.sdt_fault.specs.declared.kinds.Quantity.TheVariants.{ImageBytes}
-use Rattle.sdt_fault.specs.declared.refusal.Refusal.{Refusal}
 use Rattle.sdt_fault.specs.declared.refusal.Refusal.TheVariants.{NoRoot, TooLarge}
 use Rattle.boot_code.specs.Startup.{table_list, zeros}
 use Rattle.boot_code.specs.Words.{boot_list}
-use Rattle.boot_code.specs.Laws.{bound_of, written_by}
 use Rattle.boot_code.proofs.BootPlaces.{startup_boots}
 use Rattle.boot_code.proofs.ViewLemmas.{length-zeros, get_or-zeros}
 use Rattle.byte_maps.specs.Maps.{Segment, Holds, map_of, bytes_of_words}
 use Rattle.byte_maps.proofs.MapLemmas.{front, back}
 use Rattle.place_model.specs.declared.scatter.Kind.TheVariants as kind
 use Rattle.place_model.specs.declared.scatter.Scatter.{Scatter}
-use Rattle.place_model.specs.Things.{Thing, Startup, alignment_of, size_of, gap, start_of, extent}
-use Rattle.place_model.specs.Plans.{Contents, Planned, length_of, zero_base_of, zero_length_of, execution_size, PlannedLoad, load_size, Plan, plan_for, regions_of, is_root, is_copied, copies_of, parts_of, table_words, plan_of, stood_in, is_startup, address_of, boot_address}
+use Rattle.place_model.specs.Things.{Startup, size_of, gap, extent}
+use Rattle.place_model.specs.Plans.{Contents, Planned, length_of, zero_base_of, zero_length_of, execution_size, load_size, Plan, regions_of, is_root, is_copied, copies_of, parts_of, table_words}
 use Rattle.place_model.specs.Faults.{first_told, rootless, judged, judged_load, judged_region, overfull, shared, standing, load_meeting, execution_span, execution_meeting, copy_move, source_span, target_span, overlap, copy_conflict, image_bytes, too_large, aif_too_large, not_writable, as_overlap, as_conflict, place_refusal}
-use Rattle.place_model.proofs.ListLemmas.{all_at, all_both, all_indexed, all_of_map, all_of_flat, all_flat, all_below_sum, none_given, Pairs, pairs_map}
+use Rattle.place_model.proofs.ListLemmas.{all_at, all_indexed, all_of_map, all_of_flat, all_flat, all_below_sum, none_given, Pairs, pairs_map}
 use Rattle.place_model.proofs.GapLemmas.{extent-append}
 use Rattle.place_model.proofs.SpanLemmas.{or_none, map_none, meeting_none, in_memory, lt-false}
 use Rattle.place_model.proofs.PlanLemmas.{table_law, IsWholeRegion, plan_whole, loads_loaded}
-use Rattle.image_model.specs.Regions.{Given, Filling, laid, region_bytes, AreSized, startup_bytes, filled}
+use Rattle.image_model.specs.Regions.{Given, Filling, laid, region_bytes, filled}
 use Rattle.image_laws.specs.Laws.{scatter_plan, IsImage, ImagePlaces, ImageBoots}
 use Rattle.image_laws.proofs.RegionLemmas.{Sizes, length-laid, laid-append, Begins, begins, startup_stands}
 use Rattle.image_laws.proofs.Joined.{copies_in, parts_in, Sound, AreJoined, joined_places}
@@ -60,7 +58,7 @@ accepted_facts s ram p h =
       rooms = all_flat (λ r. r.base + execution_size r ≤ 2 ^ 32) (λ l. l.regions) p
           (all_weaker _ (λ l. AllByRecursion (λ r. r.base + execution_size r ≤ 2 ^ 32) l.regions)
           (λ l all. all_weaker (λ r. overfull (judged_region r) ≡ None) (λ r. r.base + execution_size r ≤ 2 ^ 32) (λ r none. in_memory (judged_region r) none) l.regions (all_of_map (λ j. overfull j ≡ None) judged_region l.regions all.1)) p fine);
-            apart = pairs_map (λ m n. shared m.written n.read ≡ None) (λ r. standing (execution_span r)) (regions_of p) (meeting_none (map (λ r. standing (execution_span r)) (regions_of p)) of_regions);
+      apart = pairs_map (λ m n. shared m.written n.read ≡ None) (λ r. standing (execution_span r)) (regions_of p) (meeting_none (map (λ r. standing (execution_span r)) (regions_of p)) of_regions);
       conflicts = pairs_map (λ m n. shared m.written n.read ≡ None) copy_move (filter is_copied (regions_of p)) (meeting_none (map copy_move (filter is_copied (regions_of p))) (map_none as_conflict (copy_conflict p) conflict));
       small = all_below_sum execution_size (regions_of p) (2 ^ 26) (go (nat_lt (2 ^ 26) (image_bytes p)) refl large);
     }

@@ -1,8 +1,7 @@
 -- Regions: where things stand in their bytes, and where the startup code stands.
-use Rattle.std.proofs.Common.{◌≡◌, ℕ, zero, suc, ◌+◌, ◌-◌, ◌*◌, ◌%◌, ◌<◌, ◌≤◌, Bool, true, false, cond, not, ◌==◌, List, [], ◌∷◌, ◌++◌, length, length-append, append_assoc, map, refl, sym, ap, subst, ◌∙◌, arith, Option, Some, None}
-use Rattle.std.specs.List.{filter, find, flat_map, AllByRecursion}
-use Rattle.std.specs.Option.{option_map}
-use Rattle.base_lemmas.proofs.BaseLemmas.{all_append, all_front, all_back}
+use Rattle.std.proofs.Common.{◌≡◌, ℕ, ◌+◌, false, not, ◌==◌, List, [], ◌∷◌, ◌++◌, length, length-append, append_assoc, map, refl, sym, ap, ◌∙◌, arith, Some}
+use Rattle.std.specs.List.{filter, flat_map, AllByRecursion}
+use Rattle.base_lemmas.proofs.BaseLemmas.{all_append}
 use Rattle.boot_code.specs.Startup.{zeros}
 use Rattle.boot_code.proofs.ViewLemmas.{length-zeros}
 use Rattle.place_model.specs.declared.scatter.Kind.TheVariants as kind
@@ -12,7 +11,6 @@ use Rattle.place_model.specs.declared.scatter.ScatterRegion.{ScatterRegion}
 use Rattle.place_model.specs.Items.{Item, is_zero_initialised}
 use Rattle.place_model.specs.Things.{Thing, AnArea, AVeneer, Startup, alignment_of, size_of, gap, start_of, extent, Stood, stood}
 use Rattle.place_model.specs.Plans.{Contents, RegionVeneer, areas_in, veneers_in, Planned, planned, planned_from, loads_from, regions_of, stood_in, is_startup, address_of}
-use Rattle.place_model.proofs.ListLemmas.{all_map, all_indexed}
 use Rattle.image_model.specs.Regions.{laid}
 
 -- ---- bytes of things

@@ -1,11 +1,11 @@
 -- One placed image, whole: a copy and a zero part. It has a view and files, there is a state in which it can
 -- start, and from there it reaches its entry.
-use Rattle.std.proofs.Common.{◌≡◌, ◌≢◌, ℕ, zero, suc, ◌+◌, ◌-◌, ◌%◌, ◌^◌, ◌<◌, ◌≤◌, Bool, true, false, nat_lt, if◌then◌else◌, List, [], ◌∷◌, length, get_or, refl, ap, ◌∙◌, arith, Option, Some, None}
+use Rattle.std.proofs.Common.{◌≡◌, ℕ, zero, suc, ◌-◌, ◌^◌, ◌<◌, ◌≤◌, Bool, true, false, nat_lt, if◌then◌else◌, List, [], ◌∷◌, refl, ap, arith, Option, Some, None}
 use Rattle.std.specs.Prelude.{codes, replicate, slice_index, unwrap_or}
 use Rattle.std.specs.List.{list_all, AllByRecursion}
 use Rattle.base_lemmas.proofs.BaseLemmas.{both_true, same}
 use Rattle.arm7_model.specs.Memory.{Board}
-use Rattle.arm7_model.specs.Registers.{State, IsValidState, AreWords, IsStatus, register, has_mode, mode_named, bank_in, mode_in, is_thumb}
+use Rattle.arm7_model.specs.Registers.{State, IsStatus, register, has_mode, mode_named, bank_in, mode_in, is_thumb}
 use Rattle.boot_code.specs.Boots.{ByteMap, CanStart, Boots, BootsIn}
 use Rattle.boot_code.specs.Laws.{written_by}
 use Rattle.byte_maps.specs.Maps.{Segment, has, map_of}

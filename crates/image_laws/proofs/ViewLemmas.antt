@@ -1,15 +1,15 @@
 -- The view that a plan has, where its execution ranges don't meet: what it shows, and that it is the only one.
-use Rattle.std.proofs.Common.{◌≡◌, ℕ, zero, suc, ◌+◌, ◌-◌, ◌*◌, ◌<◌, ◌≤◌, ◌⊎◌, inl, inr, Bool, true, false, ◌||◌, if◌then◌else◌, List, [], ◌∷◌, ◌++◌, length, length-append, append_assoc, map, refl, sym, ap, subst, ◌∙◌, arith, Option, Some, None}
+use Rattle.std.proofs.Common.{◌≡◌, ℕ, ◌+◌, ◌-◌, ◌<◌, ◌≤◌, ◌⊎◌, inl, inr, Bool, true, false, ◌||◌, List, [], ◌∷◌, ◌++◌, length, map, refl, sym, ap, subst, ◌∙◌, arith, Option, Some, None}
 use Rattle.std.specs.Prelude.{slice_get, slice_index, is_some}
 use Rattle.std.specs.List.{flat_map, list_any, AllByRecursion}
 use Rattle.std.proofs.lemmas.Bool.{cases_lt}
-use Rattle.base_lemmas.proofs.BaseLemmas.{all_append, both, or_either, or_true, true_or, neither}
-use Rattle.boot_code.specs.Boots.{ByteMap, covers, AreApart}
+use Rattle.base_lemmas.proofs.BaseLemmas.{neither}
+use Rattle.boot_code.specs.Boots.{ByteMap, covers}
 use Rattle.boot_code.specs.Startup.{zeros}
 use Rattle.boot_code.proofs.ViewLemmas.{length-zeros, get_or-zeros, covers-true, covers-false, covers-inside, covers-off}
-use Rattle.byte_maps.specs.Maps.{Segment, has, map_of, Holds, IsOff}
+use Rattle.byte_maps.specs.Maps.{Segment, has, map_of, Holds}
 use Rattle.byte_maps.proofs.MapLemmas.{domain, shown, front, back}
-use Rattle.place_model.specs.Things.{Thing, Stood, alignment_of, size_of, gap, start_of, extent, stood}
+use Rattle.place_model.specs.Things.{Thing, alignment_of, size_of, gap, start_of, extent, stood}
 use Rattle.place_model.specs.Plans.{Planned, length_of, zero_base_of, zero_length_of, execution_size, end_of, Plan, regions_of}
 use Rattle.place_model.specs.Faults.{shared, standing, execution_span, execution_meeting}
 use Rattle.place_model.proofs.ListLemmas.{all_at, all_indexed, any_found, Pairs, pairs_map}
@@ -90,13 +90,12 @@ passed held r ss (q ∷ rs) size sizes off all =
     let one : Segment = record { base = r.base; bytes = region_bytes held r } in
     let two : Segment = record { base = zero_base_of r; bytes = zeros (zero_length_of r) } in
     let off_one = λ (x : ℕ) (low : q.base ≤ x) (high : x < end_of q). not_in r.base (length (region_bytes held r)) x (λ from to. off_region r q off.0 x low high from (omega (arith, to, own))) in
-    let off_two = λ (x : ℕ) (low : q.base ≤ x) (high : x < end_of q). not_in (zero_base_of r) (length (zeros (zero_length_of r))) x (λ from to. off_region r q off.0 x low high (omega (arith, from)) (omega (arith, to, zero_own))) in
-    (
+    let off_two = λ (x : ℕ) (low : q.base ≤ x) (high : x < end_of q). not_in (zero_base_of r) (length (zeros (zero_length_of r))) x (λ from to. off_region r q off.0 x low high (omega (arith, from)) (omega (arith, to, zero_own))) in (
       (
         past one (two ∷ ss) q.base (region_bytes held q) (λ k lt. off_one (q.base + k) (omega arith) (omega (arith, lt, other)))
-        (past two ss q.base (region_bytes held q) (λ k lt. off_two (q.base + k) (omega arith) (omega (arith, lt, other))) all.0.0),
+            (past two ss q.base (region_bytes held q) (λ k lt. off_two (q.base + k) (omega arith) (omega (arith, lt, other))) all.0.0),
         past one (two ∷ ss) (zero_base_of q) (zeros (zero_length_of q)) (λ k lt. off_one (zero_base_of q + k) (omega arith) (omega (arith, lt, zero_other)))
-        (past two ss (zero_base_of q) (zeros (zero_length_of q)) (λ k lt. off_two (zero_base_of q + k) (omega arith) (omega (arith, lt, zero_other))) all.0.1)
+            (past two ss (zero_base_of q) (zeros (zero_length_of q)) (λ k lt. off_two (zero_base_of q + k) (omega arith) (omega (arith, lt, zero_other))) all.0.1),
       ),
       passed held r ss rs size sizes.1 off.1 all.1,
     )
@@ -108,11 +107,10 @@ shown_all held (r ∷ rs) sizes off =
     let own = bytes_size held r sizes.0 in
     let one : Segment = record { base = r.base; bytes = region_bytes held r } in
     let two : Segment = record { base = zero_base_of r; bytes = zeros (zero_length_of r) } in
-    let after = flat_map (region_segments held) rs in
-    (
+    let after = flat_map (region_segments held) rs in (
       (
         shown [] one (two ∷ after) tt,
-        shown (one ∷ []) two after ((λ k lt. not_in r.base (length (region_bytes held r)) (zero_base_of r + k) (λ from to. absurd (omega (arith, own, to)))), tt)
+        shown (one ∷ []) two after ((λ k lt. not_in r.base (length (region_bytes held r)) (zero_base_of r + k) (λ from to. absurd (omega (arith, own, to)))), tt),
       ),
       passed held r after rs sizes.0 sizes.1 off.0 (shown_all held rs sizes.1 off.1),
     )

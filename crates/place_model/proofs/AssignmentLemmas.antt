@@ -1,12 +1,12 @@
 -- What is found for an area is its best selections.
-use Rattle.std.proofs.Common.{◌≡◌, ℕ, zero, suc, ◌+◌, ◌<◌, ◌≤◌, ◌⊎◌, inl, inr, Bool, true, false, cond, ◌&&◌, ◌==◌, if◌then◌else◌, List, [], ◌∷◌, refl, sym, ap, ◌∙◌, arith, eqb-true, eq-eqb, Option, Some, None}
+use Rattle.std.proofs.Common.{◌≡◌, ℕ, zero, suc, ◌+◌, ◌<◌, ◌≤◌, ◌⊎◌, inl, inr, Bool, true, false, cond, ◌&&◌, ◌==◌, if◌then◌else◌, List, [], ◌∷◌, refl, sym, ap, ◌∙◌, arith, eqb-true, eq-eqb, Some}
 use Rattle.std.specs.Prelude.{slice_get, is_some}
 use Rattle.std.specs.List.{filter}
 use Rattle.std.proofs.lemmas.Bool.{cases_lt}
 use Rattle.base_lemmas.proofs.BaseLemmas.{both_true, same}
 use Rattle.place_model.specs.Items.{Item}
-use Rattle.place_model.specs.Assignment.{Offer, matches, is_named, rank, at_rank, first_filled, best, Found, Nowhere, Within, Unclear, found}
-use Rattle.place_model.specs.Laws.{IsBest, IsOnlyBest, AreFirstBest, OfFound, AssignmentLaw}
+use Rattle.place_model.specs.Assignment.{Offer, matches, is_named, rank, at_rank, first_filled, best, found}
+use Rattle.place_model.specs.Laws.{IsBest, OfFound, AssignmentLaw}
 
 -- ---- the first two items that pass
 

@@ -3,12 +3,14 @@
 use Rattle.std.proofs.Common.{◌≡◌, ℕ, ◌+◌, ◌^◌, ◌≤◌, true, false, List, [], ◌∷◌, Option, Some, None, refl, arith}
 use Rattle.std.specs.Prelude.{codes, map}
 use Rattle.sdt_word.specs.declared.ranges.Range32.{Range32}
+use Rattle.sdt_fault.specs.declared.kinds.Quantity.TheVariants.{ImageBytes, AifBytes}
 use Rattle.sdt_fault.specs.declared.refusal.Refusal.{Refusal}
-use Rattle.sdt_fault.specs.declared.refusal.Refusal.TheVariants.{NoRoot, Overfull, Overlap, CopyConflict, NotWritable, Unassigned, Ambiguous}
+use Rattle.sdt_fault.specs.declared.refusal.Refusal.TheVariants.{NoRoot, Overfull, Overlap, CopyConflict, TooLarge, NotWritable, Unassigned, Ambiguous}
 use Rattle.boot_code.specs.Startup.{startup_steps, table_list}
 use Rattle.boot_code.specs.Laws.{bound_of}
 use Rattle.place_model.specs.declared.scatter.Choice.{Choice}
 use Rattle.place_model.specs.declared.scatter.Choice.TheVariants as choice
+use Rattle.place_model.specs.declared.scatter.Edge.{Edge}
 use Rattle.place_model.specs.declared.scatter.Edge.TheVariants as edge
 use Rattle.place_model.specs.declared.scatter.Kind.{Kind}
 use Rattle.place_model.specs.declared.scatter.Kind.TheVariants as kind
@@ -276,3 +278,89 @@ unassigned = refl
 ambiguous : assignment_refusal (λ object. codes "t.o") (offers_of (image (code_region ∷ region (codes "Y") (At 0x9000) (any choice.Rw ∷ any choice.Rw ∷ []) ∷ []))) (with_words 4)
     ≡ Some (Ambiguous (codes "t.o") (codes "b") 1 1)
 ambiguous = refl
+
+-- ---- order, gaps and limits
+
+-- first and last by their selections, then read-only code by name, read-only data, read-write code, read-write
+-- data, and zeros behind all of them
+abbrev pub edged : Edge → List ℕ → Selection
+edged e name = record { line = 1; «module» = None; choice = choice.Named name; edge = e }
+
+region-order : map (λ areas. map (λ i. i.name) areas) (lists_of (image (region (codes "X") (At 0x8000) (edged edge.Last (codes "last") ∷ edged edge.First (codes "first") ∷ any choice.Ro ∷ any choice.Rw ∷ any choice.Zi ∷ []) ∷ []))
+    (area 0 (codes "z") 0x1002 4 ∷ area 1 (codes "d") 2 4 ∷ area 2 (codes "c") 0x202 4 ∷ area 3 (codes "r") 0x2002 4 ∷ area 4 (codes "last") 0x2202 4 ∷ area 5 (codes "first") 2 4
+    ∷ area 6 (codes "q") 0x2202 4 ∷ area 7 (codes "p") 0x2202 4 ∷ []))
+    ≡ (codes "first" ∷ codes "p" ∷ codes "q" ∷ codes "r" ∷ codes "c" ∷ codes "d" ∷ codes "last" ∷ codes "z" ∷ []) ∷ []
+region-order = refl
+
+-- the gap before an area of the zero part, which is aligned by 16, belongs to the zero part
+abbrev pub aligned_zeros : List Item
+aligned_zeros = code 4 ∷ area 1 (codes "b") 2 4 ∷ area 2 (codes "z") 0x1004 8 ∷ []
+
+zero_gap : outcome copy_and_zero aligned_zeros ≡ record { shapes = (0x8000, 0x8000, 0xD8, 0) ∷ (0x80D8, 0x9000, 4, 0x14) ∷ []; table = 11; steps = 44; refused = None }
+zero_gap = refl
+
+zero_gap-areas : addresses (plan copy_and_zero aligned_zeros) ((0, 1) ∷ (0, 2) ∷ []) ≡ Some 0x9000 ∷ Some 0x9010 ∷ []
+zero_gap-areas = refl
+
+-- an offset counts from behind the zero part, and a load address from behind what is loaded
+abbrev pub behind_zeros : Kind
+behind_zeros = image (code_region ∷ region (codes "Y") (At 0x9000) (named (codes "b") ∷ any choice.Zi ∷ []) ∷ region (codes "Z") (Plus 0) (named (codes "c") ∷ []) ∷ [])
+
+offset-behind_zeros : outcome behind_zeros (code 4 ∷ area 1 (codes "b") 2 4 ∷ area 2 (codes "z") 0x1002 8 ∷ area 3 (codes "c") 2 4 ∷ [])
+    ≡ record { shapes = (0x8000, 0x8000, 0xE4, 0) ∷ (0x80E4, 0x9000, 4, 8) ∷ (0x80E8, 0x900C, 4, 0) ∷ []; table = 14; steps = 50; refused = None }
+offset-behind_zeros = refl
+
+-- two files that would meet where they are loaded
+abbrev pub two_loads : Kind
+two_loads = kind.Scatter (record {
+  loads =
+      (record { name = codes "L"; base = 0x8000; max = None; regions = code_region ∷ [] })
+      ∷ (record { name = codes "M"; base = 0x80C0; max = None; regions = region (codes "Y") (At 0x9000) (any choice.Rw ∷ []) ∷ [] }) ∷ [];
+})
+
+load_overlap : refusal two_loads (with_words 4) ≡ Some (Overlap (codes "L") (codes "M") 0x80C0)
+load_overlap = refl
+
+-- a load region counts what is loaded alone
+abbrev pub load_maximum : ℕ → Kind
+load_maximum most = kind.Scatter (record {
+  loads =
+      (record {
+        name = codes "L";
+        base = 0x8000;
+        max = Some most;
+        regions = code_region ∷ region (codes "Y") (At 0x9000) (any choice.Rw ∷ any choice.Zi ∷ []) ∷ [];
+      }) ∷ [];
+})
+
+load_maximum-reached : refusal (load_maximum 0xDC) three_areas ≡ None
+load_maximum-reached = refl
+
+load_maximum-passed : refusal (load_maximum 0xD8) three_areas ≡ Some (Overfull (codes "L") 0xDC 0xD8)
+load_maximum-passed = refl
+
+-- of a declared maximum and memory's end the former is told
+both-passed : refusal (image (code_region ∷ (record { name = codes "Y"; base = At 0xFFFFFFF0; max = Some 8; selections = any choice.Rw ∷ [] }) ∷ [])) (with_words 0x14)
+    ≡ Some (Overfull (codes "Y") 0x14 8)
+both-passed = refl
+
+-- 64 MiB in all, of which the first region has 0xCC bytes
+abbrev pub large : Kind
+large = image (code_region ∷ region (codes "Y") (At 0x10000000) (any choice.Zi ∷ []) ∷ [])
+
+image_bytes-reached : refusal large (code 4 ∷ area 1 (codes "z") 0x1002 0x3FFFF34 ∷ []) ≡ None
+image_bytes-reached = refl
+
+image_bytes-passed : refusal large (code 4 ∷ area 1 (codes "z") 0x1002 0x3FFFF38 ∷ []) ≡ Some (TooLarge ImageBytes 0x4000000)
+image_bytes-passed = refl
+
+-- 16 MiB of an AIF, of which header and code have 0x88 bytes
+aif_bytes-reached : refusal (relocatable_aif 0x8000) (code 8 ∷ area 1 (codes "z") 0x1002 0xFFFF78 ∷ []) ≡ None
+aif_bytes-reached = refl
+
+aif_bytes-passed : refusal (relocatable_aif 0x8000) (code 8 ∷ area 1 (codes "z") 0x1002 0xFFFF7C ∷ []) ≡ Some (TooLarge AifBytes 0x1000000)
+aif_bytes-passed = refl
+
+-- without a scatter description no load region is named
+plain-passed : refusal (kind.Plain 0xFFFFFFF0) (code 0x10 ∷ area 1 (codes "b") 2 4 ∷ []) ≡ Some (Overfull (codes "RW") 4 0)
+plain-passed = refl

@@ -1,12 +1,12 @@
 -- Ranges that meet, and what it says that none is told.
-use Rattle.std.proofs.Common.{◌≡◌, ℕ, zero, suc, ◌+◌, ◌-◌, ◌^◌, ◌<◌, ◌≤◌, ◌⊎◌, inl, inr, min, max, Bool, true, false, nat_lt, if◌then◌else◌, List, [], ◌∷◌, map, refl, subst, arith, Option, Some, None}
+use Rattle.std.proofs.Common.{◌≡◌, ℕ, zero, suc, ◌+◌, ◌-◌, ◌^◌, ◌<◌, ◌≤◌, ◌⊎◌, inl, inr, min, max, Bool, true, false, nat_lt, if◌then◌else◌, List, [], ◌∷◌, refl, subst, arith, Option, Some, None}
 use Rattle.std.specs.Prelude.{slice_get}
 use Rattle.std.specs.Option.{option_map, option_or}
 use Rattle.std.proofs.lemmas.Bool.{cases_lt}
 use Rattle.sdt_fault.specs.declared.refusal.Refusal.TheVariants.{Overfull}
 use Rattle.boot_code.specs.Boots.{AreApart}
 use Rattle.place_model.specs.Faults.{Span, Meeting, Move, shared, met_by, first_meeting, Judged, overfull, above_maximum, above_memory}
-use Rattle.place_model.specs.Laws.{IsLeastShared, SharedLaw, IsFirstMeeting, OfMeeting, MeetingLaw}
+use Rattle.place_model.specs.Laws.{IsLeastShared, SharedLaw, OfMeeting, MeetingLaw}
 use Rattle.place_model.proofs.ListLemmas.{Pairs, pairs_indexed}
 
 pub lt-false : (a b : ℕ) → nat_lt a b ≡ false → b ≤ a

@@ -1,5 +1,5 @@
 -- What is told of a plan is told of the first region that has it, with the least address.
-use Rattle.std.proofs.Common.{◌≡◌, ℕ, zero, suc, ◌+◌, ◌-◌, ◌^◌, ◌<◌, ◌≤◌, ◌⊎◌, inl, inr, min, Bool, true, false, not, ◌&&◌, ◌||◌, nat_lt, if◌then◌else◌, cond, List, [], ◌∷◌, ◌++◌, length, map, refl, sym, ap, subst, ◌∙◌, arith, Option, Some, None}
+use Rattle.std.proofs.Common.{◌≡◌, ℕ, zero, suc, ◌+◌, ◌-◌, ◌^◌, ◌<◌, ◌≤◌, ◌⊎◌, inl, inr, min, Bool, true, false, not, ◌&&◌, nat_lt, if◌then◌else◌, cond, List, [], ◌∷◌, length, map, refl, sym, ap, subst, ◌∙◌, arith, Option, Some, None}
 use Rattle.std.specs.Prelude.{slice_get, unwrap_or, ◌↔◌}
 use Rattle.std.specs.List.{filter, filter_map, cons_option, flat_map, list_any, AllByRecursion}
 use Rattle.std.specs.Option.{option_or}
@@ -9,11 +9,10 @@ use Rattle.sdt_word.specs.declared.ranges.Range32.{Range32}
 use Rattle.sdt_fault.specs.declared.refusal.Refusal.{Refusal}
 use Rattle.sdt_fault.specs.declared.refusal.Refusal.TheVariants.{Overfull}
 use Rattle.boot_code.specs.Boots.{covers}
-use Rattle.boot_code.proofs.ViewLemmas.{covers-true, covers-false, covers-inside, covers-off}
-use Rattle.place_model.specs.declared.scatter.Kind.{Kind}
-use Rattle.place_model.specs.Plans.{Plan, regions_of}
+use Rattle.boot_code.proofs.ViewLemmas.{covers-true, covers-false, covers-inside}
+use Rattle.place_model.specs.Plans.{regions_of}
 use Rattle.place_model.specs.Faults.{first_told, Judged, above, above_maximum, above_memory, overfull, judged, Span, in_range, lacking, least, unwritable}
-use Rattle.place_model.specs.Laws.{IsFirstTold, OfFirst, HasRoom, in_some, in_ram, IsLeastLacking, OfLacking, ToldLaw}
+use Rattle.place_model.specs.Laws.{IsFirstTold, OfFirst, HasRoom, in_some, in_ram, OfLacking, ToldLaw}
 use Rattle.place_model.proofs.ListLemmas.{all_at, all_flat, all_indexed, any_found}
 use Rattle.place_model.proofs.SpanLemmas.{or_none, in_memory, lt-false, lt-true}
 
