@@ -125,3 +125,22 @@ places-few k (suc n) list = go (bit list k) (places-few (suc k) n list)
 
 pub sixteen : (list : ℕ) → length (places_from 0 16 list) ≤ 16
 sixteen list = places-few 0 16 list
+
+pages_few : (s : State) (ks : List ℕ) (a : ℕ) (last : Option ℕ) → pages_needed s ks a last ≤ length ks
+pages_few s [] a last = omega arith
+pages_few s (k ∷ ks) a last =
+    go (needs_page s a 4 && not (is_page_of last a)) (pages_needed s ks (next_word a) (Some a)) (pages_needed s ks (next_word a) last)
+    (pages_few s ks (next_word a) (Some a)) (pages_few s ks (next_word a) last)
+  where
+    go : (b : Bool) (x y : ℕ) → x ≤ length ks → y ≤ length ks → cond b (1 + x) y ≤ suc (length ks)
+    go true x y h k = omega arith
+    go false x y h k = omega arith
+
+-- sixteen frames are enough
+pub fits_many : (s : State) (list a left : ℕ) → IsReady s → a < 2 ^ 32 → left ≡ s.contents.frames - used_count s.contents.used → 16 ≤ left
+    → Fits s (words_in s.contents.banks (places_from 0 16 list) a)
+fits_many s list a left r lt f le =
+    let few = pages_few s (places_from 0 16 list) a None in
+    let most = sixteen list in
+    fits_left s (words_in s.contents.banks (places_from 0 16 list) a) (pages_needed s (places_from 0 16 list) a None) left r
+    (words_need s list a (pages_needed s (places_from 0 16 list) a None) r lt most refl) f (omega arith)

@@ -60,7 +60,7 @@ bank-whole (b ∷ bs) a k width w h lt =
     let rest = bank-whole bs a k width w.1 h lt in
     rw (first, rest) refl
 
-seat-whole : (ds : List Seat) (a k : ℕ) (width : Width) → AreWholeSeats ds → a % bytes_in width ≡ 0 → k < bytes_in width
+pub seat-whole : (ds : List Seat) (a k : ℕ) (width : Width) → AreWholeSeats ds → a % bytes_in width ≡ 0 → k < bytes_in width
     → seats_have ds (a + k) ≡ is_some (device_at ds a (bytes_in width))
 seat-whole [] a k width w h lt = refl
 seat-whole (d ∷ ds) a k width w h lt =

@@ -1,6 +1,7 @@
 pub mod BoardLemmas
 pub mod ReadyLemmas
 pub mod DoneLemmas
+pub mod AccessLemmas
 pub mod StoreLemmas
 pub mod StoreParts
 pub mod SingleLemmas

@@ -1,5 +1,5 @@
 -- The same of a load, a store and the swap, by what each call of the code gave.
-use Rattle.std.proofs.Common.{◌≡◌, ℕ, ◌%◌, ◌^◌, ◌<◌, Bool, true, false, not, ◌==◌, refl, sym, ap, ◌∙◌, subst}
+use Rattle.std.proofs.Common.{◌≡◌, ℕ, ◌%◌, ◌^◌, ◌<◌, Bool, true, false, not, ◌==◌, Result, Err, refl, sym, ap, ◌∙◌, subst}
 use Rattle.std.specs.Prelude.{◌&&◌}
 use Rattle.sdt_word.specs.declared.codes.Width.{Width}
 use Rattle.sdt_word.specs.Codes.{bytes_in}
@@ -12,16 +12,21 @@ use Rattle.arm7_bus.specs.States.{State}
 use Rattle.arm7_transfers.specs.declared.outcome.Outcome.TheVariants as outcome
 use Rattle.arm7_transfers.specs.Done.{Makes, Lacks, IsDone}
 use Rattle.arm7_transfers.specs.declared.outcome.Outcome.{Outcome}
-use Rattle.arm7_transfers.specs.Frames.{lacks_frame, may_be_stored}
+use Rattle.arm7_bus.specs.declared.memory.BusFault.{BusFault}
+use Rattle.arm7_bus.specs.declared.memory.BusFault.TheVariants as fault
+use Rattle.arm7_transfers.specs.Frames.{IsJudged, lacks_frame, may_be_stored}
+use Rattle.arm7_transfers.proofs.AccessLemmas.{absent, lacking, protected}
 use Rattle.arm7_transfers.specs.Ready.{IsReady}
 use Rattle.arm7_transfers.specs.Served.{value_at}
 use Rattle.arm7_transfers.proofs.DoneLemmas.{done-as, load_part, load-absent, load-odd, load-ran}
 use Rattle.arm7_transfers.proofs.StoreParts.{store_part, store-refused, store-lacking, store-ran, swap_part, swap-refused, swap-lacking, swap-ran}
 
 module _ (signed : Bool) (width : Width) (a rd : ℕ) (based : ArmState → ArmState) (core : ArmState) (s : State) (at : ℕ) where
-  pub load_absent : (held : Bool) → IsReady s → at ≡ aligned a (bytes_in width) → held ≡ has_whole s at (bytes_in width) → held ≡ false
-      → Makes (load_part signed width a rd based) core s outcome.Aborted core s
-  load_absent held r e h f = load-absent signed width a rd based core s r (ap (λ (x : ℕ). has_whole s x (bytes_in width)) (sym e) ∙ sym h ∙ f)
+  pub load_none : (s' : State) (held : Bool) → IsReady s → at ≡ aligned a (bytes_in width) → held ≡ has_whole s at (bytes_in width) → held ≡ false → s' ≡ s
+      → Makes (load_part signed width a rd based) core s outcome.Aborted core s'
+  load_none s' held r e h f after =
+      subst (λ (x : State). Makes (load_part signed width a rd based) core s outcome.Aborted core x) (sym after)
+      (load-absent signed width a rd based core s r (ap (λ (x : ℕ). has_whole s x (bytes_in width)) (sym e) ∙ sym h ∙ f))
 
   pub load_odd : (s' : State) (held odd : Bool) (found v : ℕ) → IsReady s → at ≡ aligned a (bytes_in width) → held ≡ has_whole s at (bytes_in width) → held ≡ true
       → found ≡ value_at s at width → v ≡ loaded_value signed width a found → odd ≡ (rd == 15 && not (v % 4 == 0)) → odd ≡ true
@@ -45,9 +50,19 @@ module _ (signed : Bool) (width : Width) (a rd : ℕ) (based : ArmState → ArmS
       (q ∙ ap (loaded_value signed width a) (p ∙ ap (λ (x : ℕ). value_at s x width) e)) (sym o ∙ t)))
 
 module _ (width : Width) (a rd : ℕ) (based : ArmState → ArmState) (core : ArmState) (s : State) (at : ℕ) where
-  pub store_refused : (may : Bool) → IsReady s → at ≡ aligned a (bytes_in width) → may ≡ may_be_stored s at (bytes_in width) → may ≡ false
-      → Makes (store_part width a rd based) core s outcome.Aborted core s
-  store_refused may r e h f = store-refused width a rd based core s r (ap (λ (x : ℕ). may_be_stored s x (bytes_in width)) (sym e) ∙ sym h ∙ f)
+  pub store_refused : (s' : State) → IsReady s → at ≡ aligned a (bytes_in width) → may_be_stored s at (bytes_in width) ≡ false → s' ≡ s
+      → Makes (store_part width a rd based) core s outcome.Aborted core s'
+  store_refused s' r e f after =
+      subst (λ (x : State). Makes (store_part width a rd based) core s outcome.Aborted core x) (sym after)
+      (store-refused width a rd based core s r (ap (λ (x : ℕ). may_be_stored s x (bytes_in width)) (sym e) ∙ f))
+
+  pub store_absent : (s' : State) (f : BusFault) → IsReady s → at ≡ aligned a (bytes_in width) → f ≡ fault.Absent → IsJudged s at (bytes_in width) (Err f) → s' ≡ s
+      → Makes (store_part width a rd based) core s outcome.Aborted core s'
+  store_absent s' f r e i j after = store_refused s' r e (absent s at (bytes_in width) f i j) after
+
+  pub store_protected : (s' : State) (f : BusFault) → IsReady s → at ≡ aligned a (bytes_in width) → f ≡ fault.ReadOnly → IsJudged s at (bytes_in width) (Err f) → s' ≡ s
+      → Makes (store_part width a rd based) core s outcome.Aborted core s'
+  store_protected s' f r e i j after = store_refused s' r e (protected s at (bytes_in width) f i j) after
 
   pub store_lacking : (may lacks : Bool) → IsReady s → at < 2 ^ 32 → at ≡ aligned a (bytes_in width) → may ≡ may_be_stored s at (bytes_in width) → may ≡ true
       → lacks ≡ lacks_frame s at (bytes_in width) → lacks ≡ true
@@ -56,6 +71,12 @@ module _ (width : Width) (a rd : ℕ) (based : ArmState → ArmState) (core : Ar
       subst (λ (x : ℕ). Lacks (store_part width a rd based) core s x) (sym e)
       (store-lacking width a rd based core s r (ap (λ (x : ℕ). may_be_stored s x (bytes_in width)) (sym e) ∙ sym h ∙ f)
       (ap (λ (x : ℕ). lacks_frame s x (bytes_in width)) (sym e) ∙ sym l ∙ t) (subst (λ (x : ℕ). x < 2 ^ 32) e lt))
+
+  pub store_unframed : (x : ℕ) (f : BusFault) → IsReady s → at < 2 ^ 32 → at ≡ aligned a (bytes_in width) → f ≡ fault.NoFrame x → IsJudged s at (bytes_in width) (Err f)
+      → Lacks (store_part width a rd based) core s at
+  store_unframed x f r lt e i j =
+      let both = lacking s at (bytes_in width) x f i j in
+      store_lacking true true r lt e (sym both.0) refl (sym both.1) refl
 
   pub store_ran : (core' : ArmState) (s' : State) (may lacks : Bool) (v : ℕ) → IsReady s → at < 2 ^ 32 → at ≡ aligned a (bytes_in width) → may ≡ may_be_stored s at (bytes_in width) → may ≡ true
       → lacks ≡ lacks_frame s at (bytes_in width) → lacks ≡ false → v ≡ stored_at core rd

@@ -5,6 +5,7 @@ use Rattle.std.proofs.lemmas.List.{set-set}
 use Rattle.sdt_word.specs.declared.codes.Width.{Width}
 use Rattle.sdt_word.specs.Codes.{bytes_in}
 use Rattle.arm7_model.specs.declared.state.ArmState.{ArmState}
+use Rattle.arm7_model.specs.declared.event.Event.{Event}
 use Rattle.arm7_model.specs.declared.event.Event.TheVariants as event
 use Rattle.arm7_model.specs.declared.event.Exception.{Exception}
 use Rattle.arm7_model.specs.declared.event.Exception.TheVariants as exception
@@ -223,3 +224,7 @@ pub finished : (core : ArmState) (s : State) (o : Outcome) (core' : ArmState) (s
     → IsStepped core s (event_of o (word_of core s)) (registers_after o (register core 15) core') s'
 finished core s o core' s' at there x =
     by-outcome core s x.instruction o core' s' (record { at = at; there = there; reads = x.reads }) x.does
+
+-- a step that ends over the same bus
+pub stepped-as : (core core' : ArmState) (s s' t : State) (e : Event) → t ≡ s' → IsStepped core s e core' s' → IsStepped core s e core' t
+stepped-as core core' s s' t e same d = subst (λ (x : State). IsStepped core s e core' x) (sym same) d

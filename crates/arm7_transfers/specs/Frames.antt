@@ -1,8 +1,10 @@
 -- Which pages the stores of an instruction use, and whether there are frames for them. This project's.
-use Rattle.std.specs.Prelude.{◌≡◌, ℕ, ◌<◌, ◌≤◌, ◌-◌, ◌/◌, ◌==◌, ◌&&◌, Bool, true, not, nat_le, if◌then◌else◌, List, [], ◌∷◌, Option, Some, None, slice_set}
+use Rattle.std.specs.Prelude.{◌≡◌, ℕ, ◌<◌, ◌≤◌, ◌-◌, ◌/◌, ◌==◌, ◌&&◌, Bool, true, false, not, nat_le, if◌then◌else◌, List, [], ◌∷◌, Option, Some, None, Result, Ok, Err, slice_set}
 use Rattle.sdt_word.specs.Codes.{bytes_in}
 use Rattle.arm7_model.specs.Accesses.{Access, Fetch, Load, Store}
 use Rattle.arm7_bus.specs.declared.memory.Bank.{Bank}
+use Rattle.arm7_bus.specs.declared.memory.BusFault.{BusFault}
+use Rattle.arm7_bus.specs.declared.memory.BusFault.TheVariants.{Absent, NoFrame, ReadOnly}
 use Rattle.arm7_bus.specs.Buses.{has_whole, needs_page}
 use Rattle.arm7_bus.specs.Meets.{lesser_of}
 use Rattle.arm7_bus.specs.Paging.{page_used_in, used_count}
@@ -39,6 +41,13 @@ lacks_frame s a n = needs_page s a n && (s.contents.frames - used_count s.conten
 -- a store may be made, as far as banks, devices and protection go
 abbrev pub may_be_stored : State → ℕ → ℕ → Bool
 may_be_stored s a n = has_whole s a n && not (is_protected s.contents.banks a n)
+
+-- whether a store of n bytes at a is made, and why it isn't
+abbrev pub IsJudged : State → ℕ → ℕ → Result Unit BusFault → Type 0
+IsJudged s a n (Ok _) = (may_be_stored s a n ≡ true) × (lacks_frame s a n ≡ false)
+IsJudged s a n (Err (NoFrame _)) = (may_be_stored s a n ≡ true) × (lacks_frame s a n ≡ true)
+IsJudged s a n (Err Absent) = may_be_stored s a n ≡ false
+IsJudged s a n (Err ReadOnly) = may_be_stored s a n ≡ false
 
 -- there are frames for the pages of some addresses; or there aren't, and x is the least whose page isn't used
 pub record Fits (s : State) (words : List ℕ) : Type 0 where

@@ -201,11 +201,15 @@ fn least_unused(bus: &Bus, list: u32, k: u8, a: u32) -> Option<u32>
     others
 }
 
-/// The least address that would be stored in an unused page, where there is no frame for all such pages.
+/// The least address that would be stored in an unused page, where there is no frame for all such pages. For sixteen words
+/// no more pages than that are asked for.
 fn missing_frame(bus: &Bus, list: u32, a: u32) -> Option<u32>
     requires { IsReady (state_of base size state touched bus.now) }
     ensures { let s = state_of base size state touched bus.now in MatchOption result (Fits s (words_in s.contents.banks (registers 16 list) a)) (Misses s (words_in s.contents.banks (registers 16 list) a)) }
 {
+    if bus.pages_left() >= 16 {
+        return None;
+    }
     let Some(address) = least_unused(bus, list, 0, a) else {
         return None;
     };

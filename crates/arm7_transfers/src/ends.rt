@@ -21,6 +21,7 @@ pub fn prefetch_abort(state: &mut ArmState, at: u32) -> Event
 
 /// Ends the step of the instruction with this word at address `at` by its outcome. An instruction that did
 /// not run has left all registers but pc as they were.
+#[inline(always)]
 pub fn finish(state: &mut ArmState, at: u32, word: u32, outcome: Outcome) -> Event
     ensures event { result ≡ event_of outcome word }
     ensures registers { state.new ≡ registers_after outcome at state.old }

@@ -14,7 +14,7 @@ mod ends;
 mod outcome;
 mod single;
 
-pub use crate::access::{is_there, lacks_frame, may_store, read, write};
+pub use crate::access::{fetch, is_there, lacks_frame, may_store, read, store, write};
 pub use crate::block::{Block, block_moved};
 pub use crate::ends::{finish, prefetch_abort};
 pub use crate::outcome::Outcome;

@@ -6,9 +6,9 @@ ghost use Rattle.arm7_transfers.specs.Done.{IsDone};
 ghost use Rattle.arm7_transfers.specs.Ready.{IsReady};
 ghost use Rattle.arm7_transfers.specs.Views.{state_of};
 
-use crate::access::{is_there, lacks_frame, may_store, read, write};
+use crate::access::{fetch, lacks_frame, may_store, read, store, write};
 use crate::outcome::Outcome;
-use arm7_bus::Bus;
+use arm7_bus::{Bus, BusFault};
 use arm7_model::ArmState;
 use arm7_registers::{
     aligned, loaded_value, operand_at, register, set_base, set_register, set_result, stored_at,
@@ -53,10 +53,10 @@ pub fn loaded(
     ensures ready { IsReady (state_of base size state touched bus.new) }
 {
     let at = aligned(a, width);
-    if !is_there(bus, at, width) {
+    let Some(found) = fetch(bus, at, width) else {
         return Outcome::Aborted;
-    }
-    let v = loaded_value(signed, width, a, read(bus, at, width));
+    };
+    let v = loaded_value(signed, width, a, found);
     if is_no_address(rd, v) {
         return Outcome::Unpredictable;
     }
@@ -75,15 +75,17 @@ pub fn stored(core: &mut ArmState, bus: &mut Bus, width: Width, a: u32, rd: u8, 
     ensures ready { IsReady (state_of base size state touched bus.new) }
 {
     let at = aligned(a, width);
-    if !may_store(bus, at, width) {
-        return Outcome::Aborted;
+    match store(bus, at, width, stored_at(core, rd)) {
+        Ok(()) => {
+            set_base(core, by.pre, by.up, by.write_back, by.register, by.offset);
+            Outcome::Ran
+        }
+        Err(fault) => match fault {
+            BusFault::NoFrame(_) => Outcome::NoFrame(at),
+            BusFault::Absent => Outcome::Aborted,
+            BusFault::ReadOnly => Outcome::Aborted,
+        },
     }
-    if lacks_frame(bus, at, width) {
-        return Outcome::NoFrame(at);
-    }
-    write(bus, at, width, stored_at(core, rd));
-    set_base(core, by.pre, by.up, by.write_back, by.register, by.offset);
-    Outcome::Ran
 }
 
 /// Loads register `rd` from the address in register `rn`, and stores register `rm` there.
