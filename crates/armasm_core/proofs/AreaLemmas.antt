@@ -1,6 +1,6 @@
 -- An area holds code, or zeros, where its attributes have the bit.
 use Rattle.std.proofs.Common.{◌≡◌, ◌≤◌, ◌<◌, ℕ, zero, suc, ◌+◌, ◌*◌, ◌/◌, ◌%◌, ◌^◌, Bool, true, false, cond, List, [], ◌∷◌, ◌++◌, length, map, get_or, Option, Some, None, refl, sym, ap, ◌∙◌, subst, arith}
-use Rattle.std.specs.Prelude.{Result, Ok, Err, nat_lt, ◌==◌, ◌||◌, not}
+use Rattle.std.specs.Prelude.{nat_lt, ◌==◌, not}
 use Rattle.std.specs.List.{slice_get}
 use Rattle.sdt_word.specs.Numbers.{flag}
 use Rattle.sdt_fault.specs.declared.kinds.LineKind.{LineKind}
@@ -18,13 +18,15 @@ use Rattle.asm_model.specs.Directives.{or_else}
 use Rattle.asm_pool.specs.declared.layout.LaidArea.{LaidArea}
 use Rattle.asm_model.specs.Before.{areas_behind, is_code}
 use Rattle.asm_model.specs.Labels.{defined_by}
-use Rattle.asm_model.specs.Laid.{Declared, LaidLine, declared, laid, laid_of, laid_behind, statements_of, reversed}
+use Rattle.asm_model.specs.declared.names.LaidName.{LaidName}
+use Rattle.asm_model.specs.Labels.{declared_names}
+use Rattle.asm_model.specs.Laid.{LaidLine, laid, laid_of, laid_behind, statements_of, reversed}
 use Rattle.asm_model.specs.LayoutKinds.{exponent, exponent_kinds, area_kinds, is_named_otherwise, layout_kinds, fault_kinds, map_kinds, no_area_kinds, contents_kinds, contents_behind, name_kinds, settled_kinds, settled, equals_in, kind_if, area_bytes, is_thumb_area}
 use Rattle.asm_model.specs.Offsets.{is_of}
 use Rattle.source_model.specs.Objects.{attributes_word, contents_bits, or_two, says_area, attributes_of, contents_in, contents_of, holds_code, is_kept}
 use Rattle.source_model.specs.SourceFaults.{layout_faults}
 use Rattle.armasm_core.proofs.SplitLemmas.{none_there}
-use Rattle.source_laws.proofs.WithinLemmas.{IsWithin, line_within}
+use Rattle.source_laws.proofs.WithinLemmas.{IsWithin, area_within}
 use Rattle.armasm_core.proofs.WithinLemmas.{areas_fewer}
 use Rattle.armasm_core.specs.Drafting.{marks_zeroes}
 use Rattle.armasm_core.specs.Gathering.{marks_code}
@@ -137,13 +139,13 @@ none_in : (area : ℕ) (l : LaidLine) (w : What) → is_of area l.area ≡ false
 none_in area l (what.Directive (line.Area name a)) e = rw e refl
 none_in area l _ e = refl
 
-none_past : (d : Declared) (ss : List Statement) (area n : ℕ) → length (areas_behind (statements_of (laid_of d ss))) ≤ n → n ≤ area → contents_of area (laid_of d ss) ≡ None
+none_past : (d : List LaidName) (ss : List Statement) (area n : ℕ) → length (areas_behind (statements_of (laid_of d ss))) ≤ n → n ≤ area → contents_of area (laid_of d ss) ≡ None
 none_past d [] area n fits past = refl
 none_past d (s ∷ ss) area n fits past =
     let before = laid_of d ss in
     let l = laid_behind d s before in
     let fewer = low_of (length (areas_behind (statements_of before))) (length (areas_behind (statements_of (l ∷ before)))) n (areas_fewer (l ∷ []) before) fits in
-    let within = (line_within n [] d s (laid_of d ss) fits).area in
+    let within = area_within n (s ∷ statements_of before) fits in
     rw (none_past d ss area n fewer past) (none_in area l l.statement.what (other_area area n l.area within past))
 
 -- ---- areas by their numbers
@@ -200,4 +202,4 @@ code_there statements areas h e area = got areas area ∙ by_area (slice_get are
         (subst (λ (o : Option ℕ). AreAlike o (contents_of area (laid statements))) (h.each area a is).attributes alike)
     by_area None is =
         let fits = same_low (length areas) (length (areas_behind (statements_of (laid statements)))) h.count in
-        sym (ap holds_code (none_past (declared statements) statements area (length areas) fits (past_all areas area is)))
+        sym (ap holds_code (none_past (declared_names statements) statements area (length areas) fits (past_all areas area is)))

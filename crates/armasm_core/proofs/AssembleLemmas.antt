@@ -1,15 +1,11 @@
 -- What a call answers of a text.
-use Rattle.std.proofs.Common.{◌≡◌, inl, inr, ℕ, ◌≤◌, List, length, map, Option, Some, None, Result, Ok, Err, refl, subst}
-use Rattle.std.specs.Str.Lines.{lines}
+use Rattle.std.proofs.Common.{◌≡◌, inr, ℕ, ◌≤◌, List, length, map, Result, Ok, Err, subst}
 use Rattle.sdt_fault.specs.declared.answer.Fault.{Fault}
 use Rattle.sdt_fault.specs.declared.answer.Fault.TheVariants as fault
-use Rattle.sdt_fault.specs.declared.refusal.Refusal.TheVariants.{BadLine}
-use Rattle.sdt_fault.specs.declared.kinds.LineKind.TheVariants.{TooMany}
 use Rattle.aof_object.specs.declared.records.Object.{Object}
 use Rattle.asm_model.specs.declared.lines.Flat.{Flat}
 use Rattle.asm_model.specs.declared.lines.Line.{Line}
-use Rattle.asm_model.specs.Lines.{numbered, first_beyond, split}
-use Rattle.asm_model.specs.Told.{GivesFault}
+use Rattle.asm_model.specs.Lines.{split}
 use Rattle.asm_reading.specs.declared.reading.Reading.{Reading}
 use Rattle.asm_reading.specs.Flats.{flat_of}
 use Rattle.asm_reading.specs.Reading.{IsReading}

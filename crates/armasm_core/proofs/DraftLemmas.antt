@@ -1,5 +1,5 @@
 -- Drafts with one thing more, and finished ones.
-use Rattle.std.proofs.Common.{◌≡◌, ◌⊎◌, inl, inr, ⊎_elim, ℕ, ◌+◌, ◌-◌, ◌≤◌, List, [], ◌∷◌, ◌++◌, length, map, take, take_all, drop, get_or, Option, Some, None, refl, sym, ap, ◌∙◌, subst, arith, append_assoc, append-nil, length-append}
+use Rattle.std.proofs.Common.{◌≡◌, ◌⊎◌, inl, inr, ⊎_elim, ℕ, ◌+◌, ◌-◌, ◌≤◌, List, [], ◌∷◌, ◌++◌, length, map, take, take_all, drop, get_or, Option, Some, None, refl, sym, ap, ◌∙◌, subst, arith, append_assoc, length-append}
 use Rattle.std.specs.Ordering.{nat_cmp}
 use Rattle.std.specs.BTreeMap.{get}
 use Rattle.std.specs.List.Sorted.{IsStrictlySortedBy}
@@ -13,7 +13,7 @@ use Rattle.source_model.specs.Units.{Emitted}
 use Rattle.source_laws.specs.Laws.{StandApart}
 use Rattle.armasm_core.specs.declared.drafts.Draft.{Draft}
 use Rattle.armasm_core.specs.Drafts.{MeetsNone, MeetNone, HoldsPieces, IsDraft, AreRelocs}
-use Rattle.armasm_core.specs.Writing.{AllCanStand, CanStand}
+use Rattle.armasm_core.specs.Writing.{AllCanStand}
 use Rattle.armasm_core.specs.Relocations.{relocation, relocs_in, noted, relocs_listed}
 use Rattle.armasm_core.proofs.RelocLemmas.{four, reloc_parts, parts_reloc, noted_here, noted_apart, noted_parts, listed_found, found_listed, rising}
 use Rattle.armasm_core.proofs.WriteLemmas.{apart, other}

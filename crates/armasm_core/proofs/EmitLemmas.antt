@@ -21,7 +21,6 @@ use Rattle.asm_model.specs.Labels.{defined_by}
 use Rattle.asm_model.specs.Laid.{LaidLine, laid, reversed}
 use Rattle.asm_model.specs.Offsets.{is_of}
 use Rattle.asm_model.proofs.OffsetLemmas.{is_here}
-use Rattle.said_model.specs.Said.{AllSaid}
 use Rattle.source_laws.specs.Laws.{InArmState, SourcesStandApart, ThingsAreListed, things_of, things_behind, things_in}
 use Rattle.source_laws.proofs.ListedLemmas.{among_first, own_things}
 use Rattle.source_model.specs.Objects.{Piece, IsAmong, StandsIn, source_of}
@@ -51,12 +50,12 @@ pub things_here : (ss : List Statement) (area : ℕ) (before rest : List LaidLin
 things_here ss area before rest l more here e =
     ap (λ (ps : List Piece). things_behind ss area before (l ∷ rest) ++ ps) (cond-true (is_of area l.area) (own_things ss l before rest) [] (is_here area l.area here) ∙ e)
 
-pub apart_there : ThingsAreListed → SourcesStandApart → (ss : List Statement) → AllSaid ss → layout_faults ss ≡ None → InArmState ss
+pub apart_there : ThingsAreListed → SourcesStandApart → (ss : List Statement) → layout_faults ss ≡ None → InArmState ss
     → (before rest : List LaidLine) (l : LaidLine) (own : Option ℕ) (more : List Piece) → laid ss ≡ reversed rest (l ∷ before) → own ≡ l.area
     → own_things ss l before rest ≡ more → MeetNoneThere (λ area. things_behind ss area before (l ∷ rest)) own more
-apart_there listed apart ss said sound arm before rest l own more parts same e = λ area here q u p k.
+apart_there listed apart ss sound arm before rest l own more parts same e = λ area here q u p k.
     let all = sym (things_here ss area before rest l more (sym same ∙ here) e) in
-    apart ss said sound arm area p q
+    apart ss sound arm area p q
     (stands_there listed ss area p (l ∷ before) rest parts (subst (IsAmong p) all k))
     (stands_there listed ss area q (l ∷ before) rest parts
     (subst (IsAmong q) all (among_back q (things_behind ss area before (l ∷ rest)) more u)))

@@ -1,22 +1,16 @@
 -- Faults of passes, as calls answer them.
-use Rattle.std.proofs.Common.{◌≡◌, inl, inr, ℕ, List, true, false, Option, Some, None, Result, Ok, Err, refl, sym, ap, ◌∙◌, subst}
+use Rattle.std.proofs.Common.{◌≡◌, inl, inr, ℕ, List, false, Option, Some, None, Result, Ok, Err, refl, sym, ap, ◌∙◌, subst}
 use Rattle.sdt_fault.specs.declared.answer.Fault.{Fault}
-use Rattle.sdt_fault.specs.declared.answer.Fault.TheVariants as fault
 use Rattle.sdt_fault.specs.declared.kinds.LineKind.{LineKind}
 use Rattle.sdt_fault.specs.declared.refusal.Refusal.{Refusal}
-use Rattle.sdt_fault.specs.declared.refusal.Refusal.TheVariants.{BadLine}
 use Rattle.aof_object.specs.declared.records.Object.{Object}
 use Rattle.armasm_core.specs.Emitted.{IsEmitted}
-use Rattle.asm_layout.specs.Layout.{IsTold, IsOutcome}
-use Rattle.asm_layout.specs.Front.{front_laid}
+use Rattle.asm_layout.specs.Layout.{IsTold}
 use Rattle.asm_model.specs.declared.statements.Statement.{Statement}
 use Rattle.asm_model.specs.Directives.{or_else}
-use Rattle.asm_model.specs.Told.{IsBadLine}
-use Rattle.asm_pool.specs.declared.layout.Layout.{Layout}
 use Rattle.asm_reading.specs.declared.reading.Reading.{Reading}
-use Rattle.asm_reading.specs.declared.reading.Unread.{Unread}
-use Rattle.source_model.specs.SourceFaults.{layout_faults, value_faults}
-use Rattle.armasm_core.specs.Assembling.{said_by, has_area, told, unread_told, line_faults, reading_faults, without_area}
+use Rattle.source_model.specs.SourceFaults.{value_faults}
+use Rattle.armasm_core.specs.Assembling.{said_by, has_area, told, line_faults, reading_faults, without_area}
 use Rattle.armasm_core.specs.Passes.{IsToldAs, LaysLines, LaysOut, Makes}
 
 -- ---- a fault

@@ -1,7 +1,6 @@
 -- Names that statements say, and the records of names.
 use Rattle.std.proofs.Common.{◌≡◌, ◌≤◌, ◌<◌, ◌-◌, ◌||◌, ◌&&◌, ℕ, Bool, true, false, List, [], ◌∷◌, ◌++◌, length, take, drop, get_or, refl, sym, ap, ◌∙◌, subst, append-nil}
 use Rattle.std.proofs.Math.Bool.{or_comm}
-use Rattle.std.proofs.lemmas.Bool.{false_from_ne_true}
 use Rattle.std.proofs.lemmas.List.Folds.{list_any-append}
 use Rattle.std.specs.List.{list_any}
 use Rattle.std.specs.BTreeSet.{BTreeSet}
@@ -12,12 +11,12 @@ use Rattle.asm_model.specs.declared.statements.Statement.{Statement}
 use Rattle.asm_model.specs.declared.statements.What.{What}
 use Rattle.asm_model.specs.declared.statements.What.TheVariants as what
 use Rattle.asm_model.specs.Forms.{same}
-use Rattle.asm_model.proofs.WordLemmas.{same_refl, same_true}
 use Rattle.asm_instructions.specs.Scenes.{has_symbol}
 use Rattle.asm_pool.specs.declared.layout.LaidStatement.{LaidStatement}
 use Rattle.asm_registers.proofs.NameLemmas.{in_set}
 use Rattle.layout_laws.proofs.SoundLemmas.{statements_kept}
-use Rattle.asm_model.specs.Laid.{LaidLine, declared, laid, statements_of}
+use Rattle.asm_model.specs.Labels.{declared_names}
+use Rattle.asm_model.specs.Laid.{LaidLine, laid, statements_of}
 use Rattle.source_model.specs.Objects.{source_of, is_exported, is_weak, exports_name, is_weak_import}
 use Rattle.armasm_core.specs.Gathered.{Gains}
 use Rattle.armasm_core.specs.Gathering.{exported_in, weak_in, name_where, names_by}
@@ -109,10 +108,10 @@ pub exported_there : (statements : List Statement) (xs : List LaidStatement) →
     → list_any (same q) (names_by exported_in xs) ≡ is_exported (source_of statements) q
 exported_there statements xs h q =
     said_by exported_in exports_name exports_is (laid statements) xs h q
-    ∙ ap (λ (ss : List Statement). list_any (λ (t : Statement). exports_name q t.what) ss) (statements_kept (declared statements) statements)
+    ∙ ap (λ (ss : List Statement). list_any (λ (t : Statement). exports_name q t.what) ss) (statements_kept (declared_names statements) statements)
 
 pub weak_there : (statements : List Statement) (xs : List LaidStatement) → AreStatements (laid statements) xs → (q : List ℕ)
     → list_any (same q) (names_by weak_in xs) ≡ is_weak (source_of statements) q
 weak_there statements xs h q =
     said_by weak_in is_weak_import weak_is (laid statements) xs h q
-    ∙ ap (λ (ss : List Statement). list_any (λ (t : Statement). is_weak_import q t.what) ss) (statements_kept (declared statements) statements)
+    ∙ ap (λ (ss : List Statement). list_any (λ (t : Statement). is_weak_import q t.what) ss) (statements_kept (declared_names statements) statements)

@@ -1,6 +1,6 @@
 -- Names for registers, by the numbers that their expressions have in the end.
 use Rattle.std.proofs.Common.{◌≡◌, ◌<◌, ℕ, Bool, true, false, cond, List, [], ◌∷◌, ◌++◌, Option, Some, None, refl, sym, ap, ◌∙◌, subst, arith}
-use Rattle.std.specs.Prelude.{Result, Ok, Err, nat_lt, ◌==◌}
+use Rattle.std.specs.Prelude.{Result, Ok, Err, nat_lt}
 use Rattle.sdt_fault.specs.declared.kinds.LineKind.{LineKind}
 use Rattle.sdt_fault.specs.declared.kinds.LineKind.TheVariants.{OutOfRange}
 use Rattle.asm_model.proofs.LineLemmas.{both_empty}
@@ -18,8 +18,9 @@ use Rattle.asm_model.specs.AtLine.{Sight}
 use Rattle.asm_model.specs.Forms.{same}
 use Rattle.asm_registers.specs.Giving.{given_by}
 use Rattle.asm_model.specs.Extents.{value_there, number_there, as_number}
-use Rattle.asm_model.specs.Labels.{LocalLabel, Label, defined_by, number_in as digits_in, field_defines, what_defines, directive_defines, labelled}
-use Rattle.asm_model.specs.Laid.{Declared, LaidLine, laid_of, laid_behind}
+use Rattle.asm_model.specs.declared.names.LaidName.{LaidName}
+use Rattle.asm_model.specs.Labels.{defined_by, field_defines, what_defines, directive_defines}
+use Rattle.asm_model.specs.Laid.{LaidLine, laid_of, laid_behind}
 use Rattle.asm_model.specs.LayoutKinds.{fault_kinds}
 use Rattle.said_model.specs.Said.{WhatSaid, GivenSaid, AllSaid}
 use Rattle.source_model.specs.Contexts.{Context, value_of, number_in}
@@ -43,53 +44,17 @@ given_stays c s x name (rn.Register n) i kept h = refl
 given_stays c s x name (rn.Number e) i kept h =
     ap (λ (m : Result ℕ LineKind). with_register name (as_register m)) (number_stays c s e (value_there s e) refl (kept e) h ∙ sym i)
 
-label_stays : (s : Sight) (x : Result ℕ LineKind) (name : List ℕ) → named_by s (labelled name) ≡ gives x (labelled name)
-label_stays s x [] = refl
-label_stays s x (c ∷ cs) = by_test (c == 124)
-  where
-    by_test : (b : Bool) → named_by s (cond b (LocalLabel (digits_in cs)) (Label (c ∷ cs))) ≡ gives x (cond b (LocalLabel (digits_in cs)) (Label (c ∷ cs)))
-    by_test true = refl
-    by_test false = refl
-
 directive_stays : (c : Context) (s : Sight) (x : Result ℕ LineKind) (name : List ℕ) (d : DirectiveLine) → IsNumber c (what.Directive d) x
     → ((e : Expr) (v : Value) → value_there s e ≡ Ok v → value_of c e ≡ Ok v) → given_kinds s (directive_defines name d) ≡ []
     → named_by s (directive_defines name d) ≡ gives x (directive_defines name d)
-directive_stays c s x name (line.Area n a) i kept h = label_stays s x name
-directive_stays c s x name line.Entry i kept h = label_stays s x name
-directive_stays c s x name line.End i kept h = label_stays s x name
-directive_stays c s x name (line.Export n) i kept h = label_stays s x name
-directive_stays c s x name (line.Import n weak) i kept h = label_stays s x name
-directive_stays c s x name (line.Extern n weak) i kept h = label_stays s x name
-directive_stays c s x name (line.Keep n) i kept h = label_stays s x name
-directive_stays c s x name (line.Equ v) i kept h = refl
 directive_stays c s x name (line.Rn r) i kept h = given_stays c s x name r i kept h
-directive_stays c s x name line.Rout i kept h = refl
-directive_stays c s x name (line.Assert v) i kept h = label_stays s x name
-directive_stays c s x name line.Nofp i kept h = label_stays s x name
-directive_stays c s x name (line.Opt v) i kept h = label_stays s x name
-directive_stays c s x name line.Ttl i kept h = label_stays s x name
-directive_stays c s x name line.Subt i kept h = label_stays s x name
-directive_stays c s x name (line.Dcd v) i kept h = label_stays s x name
-directive_stays c s x name (line.Dcdu v) i kept h = label_stays s x name
-directive_stays c s x name (line.Dcw v) i kept h = label_stays s x name
-directive_stays c s x name (line.Dcb v) i kept h = label_stays s x name
-directive_stays c s x name (line.Space v) i kept h = label_stays s x name
-directive_stays c s x name (line.Align b) i kept h = label_stays s x name
-directive_stays c s x name line.Ltorg i kept h = label_stays s x name
-directive_stays c s x name line.Data i kept h = label_stays s x name
-directive_stays c s x name (line.Map v) i kept h = label_stays s x name
-directive_stays c s x name (line.Field v) i kept h = refl
-directive_stays c s x name line.Code16 i kept h = label_stays s x name
-directive_stays c s x name line.Code32 i kept h = label_stays s x name
+directive_stays c s x name _ i kept h = refl
 
 what_stays : (c : Context) (s : Sight) (x : Result ℕ LineKind) (name : List ℕ) (w : What) → IsNumber c w x
     → ((e : Expr) (v : Value) → value_there s e ≡ Ok v → value_of c e ≡ Ok v) → given_kinds s (what_defines name w) ≡ []
     → named_by s (what_defines name w) ≡ gives x (what_defines name w)
-what_stays c s x name what.Nothing i kept h = label_stays s x name
-what_stays c s x name (what.Arm a) i kept h = label_stays s x name
-what_stays c s x name (what.Thumb a) i kept h = label_stays s x name
-what_stays c s x name (what.Pseudo a) i kept h = label_stays s x name
 what_stays c s x name (what.Directive d) i kept h = directive_stays c s x name d i kept h
+what_stays c s x name _ i kept h = refl
 
 field_stays : (c : Context) (s : Sight) (x : Result ℕ LineKind) (label : Option (List ℕ)) (w : What) → IsNumber c w x
     → ((e : Expr) (v : Value) → value_there s e ≡ Ok v → value_of c e ≡ Ok v) → given_kinds s (field_defines label w) ≡ []
@@ -129,55 +94,19 @@ small_given : (s : Sight) (name : List ℕ) (r : RnOperand) → GivenSaid r → 
 small_given s name (rn.Register n) h = (h, tt)
 small_given s name (rn.Number e) h = small_number name (number_there s e)
 
-small_label : (s : Sight) (name : List ℕ) → AllSmall (named_by s (labelled name))
-small_label s [] = tt
-small_label s (c ∷ cs) = by_test (c == 124)
-  where
-    by_test : (b : Bool) → AllSmall (named_by s (cond b (LocalLabel (digits_in cs)) (Label (c ∷ cs))))
-    by_test true = tt
-    by_test false = tt
-
 small_directive : (s : Sight) (name : List ℕ) (d : DirectiveLine) → WhatSaid (what.Directive d) → AllSmall (named_by s (directive_defines name d))
-small_directive s name (line.Area n a) h = small_label s name
-small_directive s name line.Entry h = small_label s name
-small_directive s name line.End h = small_label s name
-small_directive s name (line.Export n) h = small_label s name
-small_directive s name (line.Import n weak) h = small_label s name
-small_directive s name (line.Extern n weak) h = small_label s name
-small_directive s name (line.Keep n) h = small_label s name
-small_directive s name (line.Equ v) h = tt
 small_directive s name (line.Rn r) h = small_given s name r h
-small_directive s name line.Rout h = tt
-small_directive s name (line.Assert v) h = small_label s name
-small_directive s name line.Nofp h = small_label s name
-small_directive s name (line.Opt v) h = small_label s name
-small_directive s name line.Ttl h = small_label s name
-small_directive s name line.Subt h = small_label s name
-small_directive s name (line.Dcd v) h = small_label s name
-small_directive s name (line.Dcdu v) h = small_label s name
-small_directive s name (line.Dcw v) h = small_label s name
-small_directive s name (line.Dcb v) h = small_label s name
-small_directive s name (line.Space v) h = small_label s name
-small_directive s name (line.Align b) h = small_label s name
-small_directive s name line.Ltorg h = small_label s name
-small_directive s name line.Data h = small_label s name
-small_directive s name (line.Map v) h = small_label s name
-small_directive s name (line.Field v) h = tt
-small_directive s name line.Code16 h = small_label s name
-small_directive s name line.Code32 h = small_label s name
+small_directive s name _ h = tt
 
 small_what : (s : Sight) (name : List ℕ) (w : What) → WhatSaid w → AllSmall (named_by s (what_defines name w))
-small_what s name what.Nothing h = small_label s name
-small_what s name (what.Arm a) h = small_label s name
-small_what s name (what.Thumb a) h = small_label s name
-small_what s name (what.Pseudo a) h = small_label s name
 small_what s name (what.Directive d) h = small_directive s name d h
+small_what s name _ h = tt
 
 small_field : (s : Sight) (label : Option (List ℕ)) (w : What) → WhatSaid w → AllSmall (named_by s (field_defines label w))
 small_field s None w h = tt
 small_field s (Some name) w h = small_what s name w h
 
-all_small : (d : Declared) (ss : List Statement) → AllSaid ss → AllSmall (registers_behind (laid_of d ss))
+all_small : (d : List LaidName) (ss : List Statement) → AllSaid ss → AllSmall (registers_behind (laid_of d ss))
 all_small d [] h = tt
 all_small d (s ∷ ss) h =
     small_joined (registers_behind (laid_of d ss)) (named_by (laid_behind d s (laid_of d ss)).seen (defined_by s)) (all_small d ss h.1)
@@ -191,5 +120,5 @@ small_found q (r ∷ rs) n h e = by_test (same r.0 q) e (small_found q rs n h.1)
     by_test true e rest = let is : r.1 ≡ n = cc in subst (λ m. m < 16) is h.0
     by_test false e rest = rest e
 
-pub small_there : (d : Declared) (ss : List Statement) → AllSaid ss → (q : List ℕ) (n : ℕ) → register_in q (registers_behind (laid_of d ss)) ≡ Some n → n < 16
+pub small_there : (d : List LaidName) (ss : List Statement) → AllSaid ss → (q : List ℕ) (n : ℕ) → register_in q (registers_behind (laid_of d ss)) ≡ Some n → n < 16
 small_there d ss h q n e = small_found q (registers_behind (laid_of d ss)) n (all_small d ss h) e

@@ -9,8 +9,8 @@ use Rattle.asm_model.specs.declared.statements.Statement.{Statement}
 use Rattle.asm_pool.specs.declared.layout.LaidArea.{LaidArea}
 use Rattle.asm_pool.specs.declared.layout.LaidStatement.{LaidStatement}
 use Rattle.asm_pool.specs.declared.layout.Layout.{Layout}
-use Rattle.asm_model.specs.Laid.{LaidLine, laid, taken, reversed, all_locals, final_line, final_names}
-use Rattle.asm_model.specs.Symbols.{symbols_in, symbols_behind, symbols_of, listed_behind}
+use Rattle.asm_model.specs.Laid.{LaidLine, laid, taken, reversed, final_names}
+use Rattle.asm_model.specs.Symbols.{symbols_in, symbols_of, listed_behind}
 use Rattle.armasm_core.specs.declared.whole.Whole.{Whole}
 use Rattle.armasm_core.proofs.LoopLemmas.{lines_from, turned_again, first_of, none_left}
 use Rattle.armasm_core.specs.Listing.{StandsThere, needed_by, IsListable, IsListed}
@@ -20,13 +20,12 @@ use Rattle.asm_reading.proofs.ReadLemmas.{nothing}
 
 pub needed_there : (statements : List Statement) (areas : List LaidArea) (w : Whole) (before rest : List LaidLine) (l : LaidLine) (x : LaidStatement) (y : PlacedLine) (old new : List (List ℕ))
     → StandsThere statements areas w before rest l x → IsLineOf x y
-    → new ≡ listed_behind old (symbols_in w.names (final_line (all_locals (laid statements)) l before) (taken l.extent) y.statement.now.what)
-    → new ≡ listed_behind old (needed_by statements l before)
+    → new ≡ listed_behind old (symbols_in w.names l.line (taken l.extent) y.statement.now.what)
+    → new ≡ listed_behind old (needed_by statements l)
 needed_there statements areas w before rest l x y old new h r e =
-    let f = final_line (all_locals (laid statements)) l before in
     e
-    ∙ ap (λ (ns : List LaidName). listed_behind old (symbols_in ns f (taken l.extent) y.statement.now.what)) h.whole.names
-    ∙ ap (λ (s : Statement). listed_behind old (symbols_in (final_names (laid statements)) f (taken l.extent) s.what)) (r.statement ∙ h.line.statement)
+    ∙ ap (λ (ns : List LaidName). listed_behind old (symbols_in ns l.line (taken l.extent) y.statement.now.what)) h.whole.names
+    ∙ ap (λ (s : Statement). listed_behind old (symbols_in (final_names (laid statements)) l.line (taken l.extent) s.what)) (r.statement ∙ h.line.statement)
 
 -- ---- all lines
 
@@ -44,7 +43,7 @@ pub listed_all : (statements : List Statement) (left : List LaidStatement) (symb
 listed_all statements left symbols less h =
     let none = none_left h.before h.rest (subst (λ (xs : List LaidStatement). AreOn h.before h.rest xs) (nothing left less) h.lines) in
     let all : laid statements ≡ h.before = h.parts ∙ ap (λ (ls : List LaidLine). reversed ls h.before) none in
-    h.same ∙ ap (λ (ls : List LaidLine). symbols_behind (final_names (laid statements)) (all_locals (laid statements)) ls) (sym all)
+    h.same ∙ ap (λ (ls : List LaidLine). symbols_of (final_names (laid statements)) ls) (sym all)
 
 -- the lines that are left begin with this one
 pub record Next (statements : List Statement) (l : Layout) (w : Whole) (x : LaidStatement) (more : List LaidStatement) (symbols : List (List ℕ)) : Type 0 where
@@ -53,7 +52,7 @@ pub record Next (statements : List Statement) (l : Layout) (w : Whole) (x : Laid
   pub rest : List LaidLine
   pub there : StandsThere statements l.areas w before rest line x
   pub lines : AreOn (line ∷ before) rest more
-  pub same : symbols ≡ symbols_behind (final_names (laid statements)) (all_locals (laid statements)) before
+  pub same : symbols ≡ symbols_of (final_names (laid statements)) before
 
 next_of : (statements : List Statement) (l : Layout) (w : Whole) (x : LaidStatement) (more : List LaidStatement) (symbols : List (List ℕ))
     → IsListable statements l w → IsListed statements (x ∷ more) symbols → Next statements l w x more symbols
@@ -82,11 +81,11 @@ next_there statements l w x left symbols some at j k =
     next_of statements l w x (take (length left - 1) (drop 1 left)) symbols j (subst (λ (xs : List LaidStatement). IsListed statements xs symbols) (rest_of left x some at) k)
 
 pub listed_more : (statements : List Statement) (l : Layout) (w : Whole) (x : LaidStatement) (more : List LaidStatement) (old new : List (List ℕ)) (n : Next statements l w x more old)
-    → new ≡ listed_behind old (needed_by statements n.line n.before) → IsListed statements more new
+    → new ≡ listed_behind old (needed_by statements n.line) → IsListed statements more new
 listed_more statements l w x more old new n e = record {
   before = n.line ∷ n.before;
   rest = n.rest;
   parts = n.there.parts;
   lines = n.lines;
-  same = e ∙ ap (λ (ss : List (List ℕ)). listed_behind ss (needed_by statements n.line n.before)) n.same;
+  same = e ∙ ap (λ (ss : List (List ℕ)). listed_behind ss (needed_by statements n.line)) n.same;
 }

@@ -19,7 +19,6 @@ mod WriteLemmas
 pub mod GivingLemmas
 pub mod JudgeLemmas
 pub mod LiteralLemmas
-pub mod LocalLemmas
 pub mod LoopLemmas
 pub mod PutLemmas
 pub mod SaidLemmas

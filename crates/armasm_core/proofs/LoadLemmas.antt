@@ -14,8 +14,13 @@ use Rattle.asm_pool.specs.declared.layout.LaidStatement.{LaidStatement}
 use Rattle.asm_units.specs.Literals.{literal_in}
 use Rattle.asm_model.specs.Before.{areas_behind}
 use Rattle.asm_model.specs.Extents.{Extent, Pool, extent_of}
-use Rattle.asm_model.specs.Labels.{defined_by}
-use Rattle.asm_model.specs.Laid.{Declared, LaidLine, declared, laid, laid_of, laid_behind, taken, pieces_of, reversed, statements_of}
+use Rattle.asm_model.specs.declared.names.LaidName.{LaidName}
+use Rattle.asm_model.specs.Labels.{defined_by, declared_names}
+use Rattle.asm_names.specs.declared.lines.PlacedLine.{PlacedLine}
+use Rattle.asm_names.specs.Lines.{Sees}
+use Rattle.asm_layout.specs.Layout.{AreAreas}
+use Rattle.asm_layout.specs.Lines.{IsLineOf}
+use Rattle.asm_model.specs.Laid.{LaidLine, laid, laid_of, laid_behind, map_behind, taken, pieces_of, reversed, statements_of}
 use Rattle.asm_model.specs.LayoutKinds.{layout_kinds, fault_kinds, map_kinds, no_area_kinds, contents_kinds, contents_behind, area_kinds, name_kinds, settled_kinds, kind_if, area_bytes, settled, equals_in}
 use Rattle.asm_model.specs.OffsetLaws.{joined}
 use Rattle.asm_model.specs.Offsets.{Piece, start_in}
@@ -23,7 +28,7 @@ use Rattle.armasm_core.specs.Loaded as own
 use Rattle.armasm_core.specs.declared.whole.Whole.{Whole}
 use Rattle.armasm_core.proofs.LiteralLemmas.{IsPlaced, free_there, literal_there}
 use Rattle.armasm_core.proofs.SplitLemmas.{IsBehind, behind_there, none_there}
-use Rattle.source_laws.proofs.WithinLemmas.{IsWithin, line_within}
+use Rattle.source_laws.proofs.WithinLemmas.{IsWithin, area_within}
 use Rattle.armasm_core.proofs.WithinLemmas.{areas_fewer}
 use Rattle.armasm_core.specs.Listing.{StandsThere}
 use Rattle.asm_areas.proofs.LateLemmas.{joined_pieces}
@@ -40,34 +45,55 @@ third_empty a b c d e f g h none =
     let n = both_empty (a ++ b ++ c) d o.0 in
     (both_empty (a ++ b) c n.0).1
 
-has_area : (fixed : List (List ℕ)) (l : LaidLine) (before : List LaidLine) → layout_kinds fixed l before ≡ [] → no_area_kinds l.area (defined_by l.statement) l.statement.what ≡ []
+pub has_area : (fixed : List (List ℕ)) (l : LaidLine) (before : List LaidLine) → layout_kinds fixed l before ≡ [] → no_area_kinds l.area (defined_by l.statement) l.statement.what ≡ []
 has_area fixed l before e =
     third_empty (fault_kinds l.extent) (map_kinds l.seen l.statement.what) (no_area_kinds l.area (defined_by l.statement) l.statement.what)
     (contents_kinds (contents_behind (l.statement ∷ statements_of before)) l.thumb l.statement.what) (area_kinds l.seen l.statement.what before)
     (name_kinds l.statement (statements_of before)) (settled_kinds fixed (defined_by l.statement)) (kind_if (nat_lt area_bytes (l.offset + l.size)) TooMany) e
 
-extent_is : (d : Declared) (l : LaidLine) (before : List LaidLine) → IsBehind d l before → l.extent ≡ extent_of l.seen l.statement.what
+pub extent_is : (d : List LaidName) (l : LaidLine) (before : List LaidLine) → IsBehind d l before → l.extent ≡ extent_of l.seen l.statement.what
 extent_is d l before b = subst (λ (k : LaidLine). k.extent ≡ extent_of k.seen k.statement.what) (sym b.line) refl
 
 -- ---- inside
 
+pub area_is : (d : List LaidName) (l : LaidLine) (before : List LaidLine) → IsBehind d l before → l.line.area ≡ l.area
+area_is d l before b = subst (λ (k : LaidLine). k.line.area ≡ k.area) (sym b.line) refl
+
 same_low : (m n : ℕ) → m ≡ n → n ≤ m
 same_low m n e = omega arith
+
+pub areas_low : (statements : List Statement) (areas : List LaidArea) → AreAreas (laid statements) areas → length (areas_behind (statements_of (laid statements))) ≤ length areas
+areas_low statements areas h = same_low (length areas) (length (areas_behind (statements_of (laid statements)))) h.count
 
 pub within_there : (statements : List Statement) (areas : List LaidArea) (w : Whole) (before rest : List LaidLine) (l : LaidLine) (x : LaidStatement)
     → StandsThere statements areas w before rest l x → IsWithin (length areas) l.area
 within_there statements areas w before rest l x h =
-    let d = declared statements in
+    let d = declared_names statements in
     let n = length areas in
-    let full : length (areas_behind (statements_of (laid statements))) ≤ n = same_low n (length (areas_behind (statements_of (laid statements)))) h.laid_out.count in
     let b = behind_there d statements rest l before h.said h.parts in
     let same : l ∷ before ≡ laid_behind d b.s (laid_of d b.ss) ∷ laid_of d b.ss =
     ap (λ (k : LaidLine). k ∷ before) b.line ∙ ap (λ (ls : List LaidLine). laid_behind d b.s (laid_of d b.ss) ∷ ls) b.behind in
     let low : length (areas_behind (statements_of (l ∷ before))) ≤ n =
     low_of (length (areas_behind (statements_of (l ∷ before)))) (length (areas_behind (statements_of (reversed rest (l ∷ before))))) n (areas_fewer rest (l ∷ before))
-    (subst (λ (ls : List LaidLine). length (areas_behind (statements_of ls)) ≤ n) h.parts full) in
-    let there = line_within n [] d b.s (laid_of d b.ss) (subst (λ (ls : List LaidLine). length (areas_behind (statements_of ls)) ≤ n) same low) in
-    subst (λ (k : LaidLine). IsWithin n k.area) (sym b.line) there.area
+    (subst (λ (ls : List LaidLine). length (areas_behind (statements_of ls)) ≤ n) h.parts (areas_low statements areas h.laid_out)) in
+    subst (λ (k : LaidLine). IsWithin n k.area) (sym b.line)
+    (area_within n (b.s ∷ statements_of (laid_of d b.ss)) (subst (λ (ls : List LaidLine). length (areas_behind (statements_of ls)) ≤ n) same low))
+
+-- ---- what the line's expressions see
+
+-- a line is what code keeps of it
+pub seen_there : (statements : List Statement) (areas : List LaidArea) (w : Whole) (before rest : List LaidLine) (l : LaidLine) (x : LaidStatement) (y : PlacedLine)
+    → StandsThere statements areas w before rest l x → IsLineOf x y → Sees y l.line
+seen_there statements areas w before rest l x y h r =
+    let d = declared_names statements in
+    let b = behind_there d statements rest l before h.said h.parts in
+    let k = h.line in
+    record {
+      area = r.area ∙ k.area ∙ subst (λ (m : LaidLine). m.area ≡ m.line.area) (sym b.line) refl;
+      offset = r.offset ∙ k.offset ∙ subst (λ (m : LaidLine). m.offset ≡ m.line.offset) (sym b.line) refl;
+      map = r.map ∙ k.map ∙ ap map_behind b.behind ∙ ap (λ (m : LaidLine). m.line.map) (sym b.line);
+      thumb = r.thumb ∙ k.thumb ∙ subst (λ (m : LaidLine). m.thumb ≡ m.line.thumb) (sym b.line) refl;
+    }
 
 pub area_there : (areas : List LaidArea) (i : ℕ) → i < length areas → (a : LaidArea) × (slice_get areas i ≡ Some a)
 area_there [] i less = absurd (omega arith)
@@ -80,11 +106,11 @@ loaded pools statements areas w before rest l x h = by_area l.area refl
   where
     by_area : (o : Option ℕ) → l.area ≡ o → literal_in (taken l.extent) ≡ own.literal_in areas x.area x.literal
     by_area None e =
-        let b = behind_there (declared statements) statements rest l before h.said h.parts in
+        let b = behind_there (declared_names statements) statements rest l before h.said h.parts in
         let laying = (none_there statements rest l before h.sound h.parts).laying in
         let here : no_area_kinds None (defined_by l.statement) l.statement.what ≡ [] =
         subst (λ (o : Option ℕ). no_area_kinds o (defined_by l.statement) l.statement.what ≡ []) e (has_area (settled (equals_in statements)) l before laying) in
-        ap (λ (r : Result Extent LineKind). literal_in (taken r)) (extent_is (declared statements) l before b)
+        ap (λ (r : Result Extent LineKind). literal_in (taken r)) (extent_is (declared_names statements) l before b)
         ∙ free_there l.seen l.statement.what (defined_by l.statement) here
         ∙ sym (ap (λ (a : Option ℕ). own.literal_in areas a x.literal) (h.line.area ∙ e))
     by_area (Some area) e =

@@ -1,11 +1,10 @@
 -- The statements of a layout, from the first on.
-use Rattle.std.proofs.Common.{◌≡◌, ◌<◌, List, [], ◌∷◌, ◌++◌, length, refl, sym, ap, subst, arith, append-nil}
+use Rattle.std.proofs.Common.{◌≡◌, List, [], ◌∷◌, ◌++◌, refl, sym, ap, subst, append-nil}
 use Rattle.asm_pool.specs.declared.layout.LaidStatement.{LaidStatement}
 use Rattle.asm_model.specs.Laid.{LaidLine, reversed}
 use Rattle.asm_layout.specs.Layout.{IsStatement, AreStatements}
 use Rattle.asm_layout.specs.Late.{AreOn}
 use Rattle.asm_layout.proofs.LateLemmas.{back_again, lines_on}
-use Rattle.asm_reading.proofs.ReadLemmas.{nothing}
 
 pub append_one : {A : Type 0} (xs : List A) (y : A) (ys : List A) → (xs ++ y ∷ []) ++ ys ≡ xs ++ (y ∷ ys)
 append_one [] y ys = refl

@@ -12,7 +12,8 @@ use Rattle.asm_layout.specs.Layout.{AreAreas}
 use Rattle.asm_model.specs.declared.statements.Statement.{Statement}
 use Rattle.asm_pool.specs.declared.layout.LaidArea.{LaidArea}
 use Rattle.asm_model.specs.Before.{areas_behind}
-use Rattle.asm_model.specs.Laid.{declared, final_names, laid, pieces_of}
+use Rattle.asm_model.specs.Labels.{declared_names}
+use Rattle.asm_model.specs.Laid.{final_names, laid, pieces_of}
 use Rattle.asm_model.specs.Offsets.{area_size}
 use Rattle.asm_model.specs.Symbols.{symbols_of}
 use Rattle.asm_model.specs.Meaning.{named_in}
@@ -116,7 +117,7 @@ area_there relocs law ss names xs area a g x sound laid_areas listed at same dra
     let size : a.size ≡ x.size = done.size ∙ ap (λ (f : Frame). f.size) same in
     let kept : length a.bytes ≡ kept_size x.attributes x.size = done.kept ∙ ap (λ (f : Frame). f.kept) same in
     record {
-      name = ap (λ (ss : List Statement). slice_get (areas_behind ss) area) (sym (statements_kept (declared ss) ss)) ∙ i.name ∙ ap Some (sym name);
+      name = ap (λ (ss : List Statement). slice_get (areas_behind ss) area) (sym (statements_kept (declared_names ss) ss)) ∙ i.name ∙ ap Some (sym name);
       attributes = i.attributes ∙ ap Some (sym attributes);
       size = size ∙ i.size;
       bytes = keeps_there law ss area x.attributes x.size a.bytes (marks_zeroes x.attributes) refl (zeroes_there ss sound area x.attributes i.attributes) i.size kept
@@ -136,7 +137,7 @@ areas_there relocs law ss names xs gs areas sound laid_areas listed same drafts 
 pub count_there : (ss : List Statement) (xs : List LaidArea) (gs : List Growing) (areas : List Area) → AreAreas (laid ss) xs → frames gs ≡ map frame_of xs
     → AllZip IsFinished gs areas → length areas ≡ length (areas_behind ss)
 count_there ss xs gs areas laid_areas same done =
-    AllZip-long IsFinished gs areas done ∙ long gs xs same ∙ laid_areas.count ∙ ap (λ (ss : List Statement). length (areas_behind ss)) (statements_kept (declared ss) ss)
+    AllZip-long IsFinished gs areas done ∙ long gs xs same ∙ laid_areas.count ∙ ap (λ (ss : List Statement). length (areas_behind ss)) (statements_kept (declared_names ss) ss)
 
 -- as many symbols as records
 pub few_there : (ss : List Statement) (names : List (List ℕ)) (records : List Symbol) → names ≡ symbols_of (final_names (laid ss)) (laid ss)

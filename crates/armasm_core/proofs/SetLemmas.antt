@@ -1,5 +1,5 @@
 -- Names in sets.
-use Rattle.std.proofs.Common.{◌≡◌, ◌≤◌, ◌<◌, ◌-◌, ℕ, Bool, true, false, List, [], ◌∷◌, ◌++◌, ◌||◌, length, take, drop, get_or, map, refl, sym, ap, ◌∙◌, subst}
+use Rattle.std.proofs.Common.{◌≡◌, ◌≤◌, ◌-◌, ℕ, Bool, true, List, [], ◌∷◌, ◌++◌, ◌||◌, length, take, drop, get_or, map, refl, sym, ap, ◌∙◌, subst}
 use Rattle.std.proofs.Math.Bool.{or_comm}
 use Rattle.std.proofs.lemmas.List.Folds.{list_any-append}
 use Rattle.std.specs.Prelude.{Some}
@@ -22,7 +22,6 @@ use Rattle.asm_model.specs.Marks.{datum_in, datum_names}
 use Rattle.source_model.specs.SourceFaults.{label_of, symbol_names}
 use Rattle.armasm_core.specs.declared.sets.Sets.{Sets}
 use Rattle.armasm_core.specs.Gathered.{AllLaidSaid, Gains, GainsAll, AreSets, said_in}
-use Rattle.asm_reading.proofs.ReadLemmas.{nothing}
 
 pub gains_one : (old new : BTreeSet (List ℕ)) (name text : List ℕ) → text ≡ name → set.UpdatesBy (slice_cmp nat_cmp) (slice_cmp nat_cmp text) old new true
     → Gains old new (name ∷ [])
@@ -42,7 +41,6 @@ gains_both old new names other more e h = subst (λ (ns : List (List ℕ)). Gain
 pub record IsBetween (laid left : List LaidStatement) (x : Sets) : Type 0 where
   pub before : List Statement
   pub whole : reversed (map (λ (y : LaidStatement). y.statement) left) before ≡ said_in laid
-  pub said : AllLaidSaid left
   pub sets : AreSets before x
 
 has_more : (old new : BTreeSet (List ℕ)) (before one : List (List ℕ)) → ((q : List ℕ) → has_symbol old q ≡ list_any (same q) before) → Gains old new one
@@ -72,7 +70,6 @@ between_more : (laid : List LaidStatement) (x : LaidStatement) (rest : List Laid
 between_more laid x rest old new h k = record {
   before = x.statement ∷ h.before;
   whole = h.whole;
-  said = h.said.1;
   sets = more_sets x.statement h.before old new h.sets k;
 }
 

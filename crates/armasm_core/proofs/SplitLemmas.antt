@@ -6,18 +6,18 @@ use Rattle.asm_model.specs.declared.statements.Statement.{Statement}
 use Rattle.asm_model.specs.Directives.{or_else}
 use Rattle.asm_model.specs.Kinds.{told_kind}
 use Rattle.layout_laws.proofs.SoundLemmas.{or_none, told_none}
-use Rattle.asm_model.specs.Sound.{IsSound, ArePlain}
-use Rattle.asm_model.specs.Laid.{Declared, LaidLine, laid, laid_of, laid_behind, reversed}
+use Rattle.asm_model.specs.Sound.{IsSound}
+use Rattle.asm_model.specs.declared.names.LaidName.{LaidName}
+use Rattle.asm_model.specs.Laid.{LaidLine, laid, laid_of, laid_behind, reversed}
 use Rattle.asm_model.specs.LayoutKinds.{layout_kinds, told_at, first_fault, first_late, settled, equals_in}
 use Rattle.said_model.specs.Said.{IsSaid, AllSaid}
 use Rattle.source_model.specs.Registers.{register_names, register_kinds}
 use Rattle.source_model.specs.SourceFaults.{first_laid, layout_faults}
 use Rattle.armasm_core.proofs.LoopLemmas.{append_one}
-use Rattle.said_model.proofs.SharedLemmas.{are_plain}
 
 -- ---- a line is laid behind others
 
-pub record IsBehind (d : Declared) (l : LaidLine) (before : List LaidLine) : Type 0 where
+pub record IsBehind (d : List LaidName) (l : LaidLine) (before : List LaidLine) : Type 0 where
   pub s : Statement
   pub ss : List Statement
   pub line : l ≡ laid_behind d s (laid_of d ss)
@@ -25,14 +25,14 @@ pub record IsBehind (d : Declared) (l : LaidLine) (before : List LaidLine) : Typ
   pub said : IsSaid s
   pub all : AllSaid ss
 
-head_of : (d : Declared) (ss : List Statement) (l : LaidLine) (before : List LaidLine) → AllSaid ss → laid_of d ss ≡ l ∷ before → IsBehind d l before
+head_of : (d : List LaidName) (ss : List Statement) (l : LaidLine) (before : List LaidLine) → AllSaid ss → laid_of d ss ≡ l ∷ before → IsBehind d l before
 head_of d [] l before h e = absurd (cc)
 head_of d (s ∷ ss) l before h e =
     let line : laid_behind d s (laid_of d ss) ≡ l = cc in
     let behind : laid_of d ss ≡ before = cc in
     record { s = s; ss = ss; line = sym line; behind = sym behind; said = h.0; all = h.1 }
 
-pub behind_there : (d : Declared) (ss : List Statement) (rest : List LaidLine) (l : LaidLine) (before : List LaidLine) → AllSaid ss → laid_of d ss ≡ reversed rest (l ∷ before)
+pub behind_there : (d : List LaidName) (ss : List Statement) (rest : List LaidLine) (l : LaidLine) (before : List LaidLine) → AllSaid ss → laid_of d ss ≡ reversed rest (l ∷ before)
     → IsBehind d l before
 behind_there d ss [] l before h e = head_of d ss l before h e
 behind_there d ss (m ∷ rest) l before h e =

@@ -1,8 +1,8 @@
 -- What a line puts into its area can stand there.
-use Rattle.std.proofs.Common.{◌≡◌, inl, inr, ⊎_elim, ◌≤◌, ◌<◌, ◌+◌, ◌-◌, ◌^◌, ℕ, zero, suc, List, [], ◌∷◌, ◌++◌, length, length-append, map, take, drop, get_or, Bool, true, false, cond, Option, Some, None, refl, sym, ap, ◌∙◌, subst, arith}
+use Rattle.std.proofs.Common.{◌≡◌, inl, inr, ⊎_elim, ◌≤◌, ◌<◌, ◌+◌, ◌-◌, ◌^◌, ℕ, zero, suc, List, [], ◌∷◌, length, map, take, drop, get_or, Bool, true, false, cond, Option, Some, None, refl, sym, ap, ◌∙◌, subst, arith}
 use Rattle.std.specs.Prelude.{not}
 use Rattle.std.specs.BTreeMap.{BTreeMap}
-use Rattle.std.specs.List.{slice_get, list_any}
+use Rattle.std.specs.List.{slice_get}
 use Rattle.armasm_core.proofs.DraftLemmas.{among_behind}
 use Rattle.armasm_core.specs.Writing.{AllCanStand, CanStand, HasNumber, HasWord, SymbolHasNumber, TargetHasNumber}
 use Rattle.armasm_core.specs.declared.putting.LineUnits.{LineUnits}
@@ -20,7 +20,7 @@ use Rattle.asm_pool.specs.declared.layout.LaidStatement.{LaidStatement}
 use Rattle.asm_pool.specs.declared.layout.Layout.{Layout}
 use Rattle.asm_units.specs.declared.emitted.Emitted.{Emitted as Code}
 use Rattle.asm_units.specs.Emitting.{emitted_of}
-use Rattle.asm_model.specs.Before.{area_named, areas_behind, with_name}
+use Rattle.asm_model.specs.Before.{areas_behind}
 use Rattle.asm_model.specs.Laid.{LaidLine, laid}
 use Rattle.asm_model.specs.Symbols.{symbols_of}
 use Rattle.asm_model.specs.Forms.{same}
@@ -42,7 +42,7 @@ use Rattle.armasm_core.specs.Listing.{StandsThere}
 use Rattle.armasm_core.proofs.AreaLemmas.{zeroes_there}
 use Rattle.armasm_core.proofs.EmitLemmas.{next_there, put_there, stands_there, things_here}
 use Rattle.armasm_core.proofs.LoadLemmas.{area_there, within_there}
-use Rattle.asm_laying.proofs.EnterLemmas.{areas_few, name_more}
+use Rattle.asm_laying.proofs.EnterLemmas.{areas_few}
 
 -- ---- words
 

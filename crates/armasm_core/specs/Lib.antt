@@ -17,6 +17,5 @@ pub mod Giving
 pub mod Judging
 pub mod JudgingLaws
 pub mod Loaded
-pub mod Locals
 pub mod Putting
 pub mod Whole

@@ -6,8 +6,8 @@ use Rattle.asm_model.specs.declared.statements.Statement.{Statement}
 use Rattle.asm_pool.specs.declared.layout.LaidArea.{LaidArea}
 use Rattle.asm_pool.specs.declared.layout.LaidStatement.{LaidStatement}
 use Rattle.asm_pool.specs.declared.layout.Layout.{Layout}
-use Rattle.asm_model.specs.Laid.{LaidLine, laid, taken, reversed, all_locals, final_line, final_names}
-use Rattle.asm_model.specs.Symbols.{symbols_in, symbols_behind}
+use Rattle.asm_model.specs.Laid.{LaidLine, laid, taken, reversed, final_names}
+use Rattle.asm_model.specs.Symbols.{symbols_in, symbols_of}
 use Rattle.said_model.specs.Said.{AllSaid}
 use Rattle.source_model.specs.SourceFaults.{layout_faults}
 use Rattle.armasm_core.specs.declared.whole.Whole.{Whole}
@@ -24,9 +24,8 @@ pub record StandsThere (statements : List Statement) (areas : List LaidArea) (w 
   pub line : IsStatement x l before
 
 -- the names that a line of a source names or needs
-abbrev pub needed_by : List Statement → LaidLine → List LaidLine → List (List ℕ)
-needed_by statements l before =
-    symbols_in (final_names (laid statements)) (final_line (all_locals (laid statements)) l before) (taken l.extent) l.statement.what
+abbrev pub needed_by : List Statement → LaidLine → List (List ℕ)
+needed_by statements l = symbols_in (final_names (laid statements)) l.line (taken l.extent) l.statement.what
 
 -- the layout of statements without faults of their own, and what its lines share
 pub record IsListable (statements : List Statement) (l : Layout) (w : Whole) : Type 0 where
@@ -41,4 +40,4 @@ pub record IsListed (statements : List Statement) (left : List LaidStatement) (s
   pub rest : List LaidLine
   pub parts : laid statements ≡ reversed rest before
   pub lines : AreOn before rest left
-  pub same : symbols ≡ symbols_behind (final_names (laid statements)) (all_locals (laid statements)) before
+  pub same : symbols ≡ symbols_of (final_names (laid statements)) before

@@ -12,7 +12,7 @@ use Rattle.asm_pool.specs.declared.layout.LaidStatement.{LaidStatement}
 use Rattle.asm_units.specs.declared.beside.Beside.{Beside}
 use Rattle.asm_units.specs.Showing.{ShowsBeside}
 use Rattle.asm_model.specs.Labels.{defined_by}
-use Rattle.asm_model.specs.Laid.{LaidLine, laid, taken, pieces_of, reversed, all_locals, final_names}
+use Rattle.asm_model.specs.Laid.{LaidLine, laid, taken, pieces_of, reversed, final_names}
 use Rattle.asm_model.specs.Marks.{datum_names}
 use Rattle.asm_model.specs.Offsets.{area_size}
 use Rattle.said_model.specs.Said.{AllSaid}
@@ -29,7 +29,6 @@ use Rattle.armasm_core.specs.Giving.{gives}
 
 pub record IsWhole (statements : List Statement) (areas : List LaidArea) (w : Whole) : Type 0 where
   pub names : w.names ≡ final_names (laid statements)
-  pub locals : w.locals ≡ all_locals (laid statements)
   pub sets : AreSets statements w.sets
   pub sizes : w.sizes.items ≡ map (λ (a : LaidArea). a.size) areas
 
@@ -37,7 +36,7 @@ pub record IsWhole (statements : List Statement) (areas : List LaidArea) (w : Wh
 
 -- what a line's values are found by, where these lines stand before it, the nearest first
 abbrev pub context_there : List Statement → List LaidLine → LaidLine → Context
-context_there statements before l = context_of (final_names (laid statements)) (all_locals (laid statements)) statements l before
+context_there statements before l = context_of (final_names (laid statements)) statements l before
 
 -- the offset of the word of its literal, where these lines stand behind it
 abbrev pub word_there : List LaidLine → List LaidLine → LaidLine → Option ℕ

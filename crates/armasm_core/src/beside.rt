@@ -3,9 +3,7 @@
 ghost use Rattle.std.specs.Prelude.{◌≡◌, ℕ, List};
 ghost use Rattle.std.specs.BTreeMap.{BTreeMap as Map};
 ghost use Rattle.std.specs.Option.{option_copied};
-ghost use Rattle.asm_names.specs.Lines.{IsFinal, Sees};
 ghost use Rattle.asm_layout.specs.Lines.{IsLineOf};
-ghost use Rattle.asm_model.specs.AtLine.{SourceLine};
 ghost use Rattle.asm_model.specs.declared.statements.Statement.{Statement};
 ghost use Rattle.asm_model.specs.Laid.{LaidLine, taken};
 ghost use Rattle.asm_units.specs.Literals as loads;
@@ -15,7 +13,7 @@ ghost use Rattle.armasm_core.specs.Whole.{IsHere, ShowsLine};
 use crate::literals::{literal_of, word_of};
 use crate::whole::Whole;
 use asm_instructions::Scene;
-use asm_model::{LaidName, Value};
+use asm_model::Value;
 use asm_names::PlacedLine;
 use asm_offsets::{extents_are_placeable, literals_are_placed};
 use asm_pool::{LaidArea, LaidStatement, pool_law};
@@ -31,10 +29,8 @@ pub fn beside_of<'a>(
     registers: &'a BTreeMap<Text, u8>,
     laid: &'a LaidStatement,
     line: &'a PlacedLine<'a>,
-    references: &'a [LaidName],
 ) -> Beside<'a>
-    requires line { IsLineOf laid.now line.now }
-    requires references { (f : SourceLine) → IsFinal line.now whole.now.locals f → Sees line.now references.now f }
+    requires { IsLineOf laid.now line.now }
     ensures { (statements : List Statement) (before rest : List LaidLine) (l : LaidLine) → IsHere statements areas.now whole.now registers.now before rest l laid.now → ShowsLine statements before rest l result laid.now.statement.what }
 {
     known_values_are_final();
@@ -45,7 +41,6 @@ pub fn beside_of<'a>(
         scene: Scene {
             names: &whole.names,
             line,
-            references,
             registers,
             symbols: &whole.sets.symbols,
         },

@@ -16,7 +16,6 @@ pub mod judging_laws;
 pub mod laws;
 mod line;
 pub mod literals;
-mod locals;
 mod names;
 mod putting;
 mod reading;

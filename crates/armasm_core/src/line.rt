@@ -21,7 +21,6 @@ use crate::whole::Whole;
 use asm_instructions::{Scene, number_in};
 use asm_layout::lines::line_of;
 use asm_model::{DirectiveLine, RnOperand, Value, What};
-use asm_names::references_of;
 use asm_pool::{LaidArea, LaidStatement};
 use asm_units::{Beside, value_kind};
 use sdt_fault::kinds::LineKind;
@@ -84,8 +83,7 @@ pub fn judge_line(
     ensures { IfOk result (λ j. (statements : List Said) (before rest : List LaidLine) (l : LaidLine) → IsHere statements areas.now whole.now registers.now before rest l laid.now → IsJudged statements before rest l j) }
 {
     let line = line_of(laid);
-    let references = references_of(alloc, &line, &whole.locals)?;
-    let beside = beside_of(areas, whole, registers, laid, &line, references.as_slice());
+    let beside = beside_of(areas, whole, registers, laid, &line);
     let literal = loaded_of(areas, laid);
     let judged = beside_judged(alloc, &beside, literal, &laid.statement.what)?;
     Ok(judged)

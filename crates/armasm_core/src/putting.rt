@@ -26,7 +26,6 @@ use crate::whole::Whole;
 use asm_instructions::laws::{instructions_fit, pseudo_instructions_fit};
 use asm_layout::lines::line_of;
 use asm_model::{Value, What};
-use asm_names::references_of;
 use asm_pool::{LaidArea, LaidStatement};
 use asm_units::{Beside, Emitted, Stored, literal, units};
 use sdt_fault::kinds::LineKind;
@@ -132,8 +131,7 @@ pub fn line_units(
     instructions_fit();
     pseudo_instructions_fit();
     let line = line_of(laid);
-    let references = references_of(alloc, &line, &whole.locals)?;
-    let beside = beside_of(areas, whole, registers, laid, &line, references.as_slice());
+    let beside = beside_of(areas, whole, registers, laid, &line);
     let loaded = loaded_of(areas, laid);
     let put = beside_put(alloc, &beside, loaded, &laid.statement.what)?;
     Ok(put)

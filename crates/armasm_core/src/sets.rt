@@ -6,13 +6,12 @@ ghost use Rattle.asm_model.specs.Labels as labels;
 ghost use Rattle.asm_model.specs.LayoutKinds as kinds;
 ghost use Rattle.asm_model.specs.LayoutKinds.{listed};
 ghost use Rattle.asm_model.specs.Marks as marks;
-ghost use Rattle.said_model.specs.Said.{IsSaid, LocalSaid};
 ghost use Rattle.source_model.specs.SourceFaults as faults;
-ghost use Rattle.asm_laying.specs.Defining.{defined_of};
-ghost use Rattle.armasm_core.specs.Gathered.{AllLaidSaid, Gains, GainsAll, AreSets, said_in};
+ghost use Rattle.asm_names.specs.Defining.{defined_of};
+ghost use Rattle.armasm_core.specs.Gathered.{Gains, GainsAll, AreSets, said_in};
 
-use asm_laying::defining::{Defines, defined_by};
 use asm_model::{DirectiveLine, Statement, What};
+use asm_names::defining::{Defines, defined_by};
 use asm_names::made::imported_name;
 use asm_pool::LaidStatement;
 use sdt_fault::{NoMemory, Text};
@@ -43,12 +42,27 @@ fn add_name(alloc: Global, set: &mut BTreeSet<Text>, name: Option<&Text>) -> Res
     }
 }
 
-/// The name of a label.
+/// Whether a name is that of a local label.
+fn is_hidden(name: &Text) -> bool
+    ensures { result ≡ labels.is_hidden name.now }
+{
+    match name.as_slice() {
+        [] => false,
+        [first, ..] => *first == b'\n',
+    }
+}
+
+/// The name of a label that may have a symbol.
 fn label_of<'a>(defines: &Defines<'a>) -> Option<&'a Text>
     ensures { listed (option_copied result) ≡ faults.label_of (defined_of defines.now) }
 {
     match defines {
-        Defines::Label(name) => Some(name),
+        Defines::Label(name) => {
+            if is_hidden(name) {
+                return None;
+            }
+            Some(name)
+        }
         _ => None,
     }
 }
@@ -92,7 +106,6 @@ fn add_both(
 
 /// The names of a statement more.
 fn note(alloc: Global, sets: &mut Sets, statement: &Statement) -> Result<(), NoMemory>
-    requires { LocalSaid (labels.defined_by statement.now) }
     ensures { OnOk result (GainsAll sets.old sets.new statement.now) }
 {
     let defines = defined_by(statement);
@@ -114,7 +127,6 @@ fn note(alloc: Global, sets: &mut Sets, statement: &Statement) -> Result<(), NoM
 
 /// The names that the statements of a source say.
 pub fn sets_of(alloc: Global, laid: &[LaidStatement]) -> Result<Sets, NoMemory>
-    requires { AllLaidSaid laid.now }
     ensures { IfOk result (λ sets. AreSets (said_in laid.now) sets) }
 {
     let mut sets = Sets {

@@ -15,7 +15,6 @@ ghost use Rattle.armasm_core.specs.Listing.{StandsThere, needed_by};
 use crate::literals::literal_of;
 use crate::whole::Whole;
 use asm_layout::lines::line_of;
-use asm_names::references_of;
 use asm_pool::{LaidArea, LaidStatement, Layout, pool_law};
 use asm_units::{Symbols, add_line};
 use sdt_fault::NoMemory;
@@ -30,20 +29,12 @@ fn add_line_of(
     laid: &LaidStatement,
 ) -> Result<(), NoMemory>
     requires { IsSaid laid.now.statement }
-    ensures { OnOk result ((statements : List Statement) (before rest : List LaidLine) (l : LaidLine) → StandsThere statements areas.now whole.now before rest l laid.now → symbols.new ≡ needs.listed_behind symbols.old (needed_by statements l before)) }
+    ensures { OnOk result ((statements : List Statement) (before rest : List LaidLine) (l : LaidLine) → StandsThere statements areas.now whole.now before rest l laid.now → symbols.new ≡ needs.listed_behind symbols.old (needed_by statements l)) }
 {
     pool_law();
     let line = line_of(laid);
-    let references = references_of(alloc, &line, &whole.locals)?;
     let literal = literal_of(areas, laid.area, laid.literal);
-    add_line(
-        alloc,
-        symbols,
-        &whole.names,
-        &line,
-        references.as_slice(),
-        literal,
-    )?;
+    add_line(alloc, symbols, &whole.names, &line, literal)?;
     Ok(())
 }
 

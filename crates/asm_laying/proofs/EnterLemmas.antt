@@ -27,7 +27,7 @@ name_more (Some n) names = by_test (list_any (same n) names)
     by_test true = omega arith
     by_test false = let e : length (names ++ n ∷ []) ≡ length names + 1 = length-append names (n ∷ []) in omega arith
 
-areas_few : (ss : List Statement) → length (areas_behind ss) ≤ length ss
+pub areas_few : (ss : List Statement) → length (areas_behind ss) ≤ length ss
 areas_few [] = omega arith
 areas_few (s ∷ before) = let h = name_more (area_named s.what) (areas_behind before) in let g = areas_few before in omega arith
 

@@ -12,7 +12,7 @@ use Rattle.asm_said.specs.Laws.{LinesAreSaid}
 use Rattle.said_model.specs.Said.{IsSaid, AllSaid}
 use Rattle.asm_reading.specs.declared.reading.Reading.{Reading}
 use Rattle.asm_reading.specs.declared.reading.Unread.{Unread}
-use Rattle.asm_reading.specs.Reading.{AllShort, Said, changes_state, without_states, has_dollar, read_as, SaysLine, says_end, UnlessEnd, Say, statement_in, statements_in, unread_in, first_unread, is_unread, read_first, before_behind, Keeps, IsWritten, StaysInArm, IsSoFar}
+use Rattle.asm_reading.specs.Reading.{AllShort, Said, changes_state, without_states, has_dollar, read_as, SaysLine, says_end, UnlessEnd, Say, statement_in, statements_in, unread_in, first_unread, is_unread, read_first, before_behind, Keeps, IsWritten, IsReading, StaysInArm, IsSoFar}
 use Rattle.asm_locals.specs.Naming.{Targets, named_what, in_names}
 use Rattle.asm_locals.proofs.KeptLemmas.{IsStable, all_in_names, as_many, said_named}
 use Rattle.std.specs.List.{AllByRecursion}
@@ -68,13 +68,18 @@ no_more (f ∷ fs) (p ∷ ps) h = by_end (says_end p.1) h.2 (λ k. no_more fs ps
     by_end true e rest = let z : ps ≡ [] = e in rw z (omega arith)
     by_end false e rest = let r = rest e in omega arith
 
-pub few_written : (lines : List Flat) (w : Reading) → IsWritten lines w → (named : List Statement) → named ≡ in_names w.statements.items → length named ≤ length lines
-few_written lines w h named e =
-    let a : length (statements_in h.says) ≤ length h.says = few h.says in
-    let b : length h.says ≤ length lines = no_more lines h.says h.say in
-    let k : length named ≡ length (statements_in h.says) =
-    ap length e ∙ ap (λ (l : List Statement). length (in_names l)) h.statements ∙ as_many (statements_in h.says) in
+few_named : (lines : List Flat) (ps : List (Flat × Said)) → Say lines ps → (named : List Statement) → named ≡ in_names (statements_in ps) → length named ≤ length lines
+few_named lines ps h named e =
+    let a : length (statements_in ps) ≤ length ps = few ps in
+    let b : length ps ≤ length lines = no_more lines ps h in
+    let k : length named ≡ length (statements_in ps) = ap length e ∙ as_many (statements_in ps) in
     omega (arith, k)
+
+pub few_written : (lines : List Flat) (w : Reading) → IsWritten lines w → (named : List Statement) → named ≡ in_names w.statements.items → length named ≤ length lines
+few_written lines w h named e = few_named lines h.says h.say named (e ∙ ap in_names h.statements)
+
+pub few_read : (lines : List Flat) (r : Reading) → IsReading lines r → length r.statements.items ≤ length lines
+few_read lines r h = few_named lines h.says h.say r.statements.items h.statements
 
 -- ---- each statement
 

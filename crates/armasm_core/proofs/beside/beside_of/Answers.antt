@@ -14,8 +14,7 @@ returns c = λ statements before rest l h.
     (record {
       scene = record {
         names = refl;
-        line = c.requires.line;
-        references = c.requires.references;
+        line = c.requires;
         registers = refl;
         symbols = refl;
       };

@@ -5,9 +5,6 @@ use Rattle.armasm_core.specs.Whole.{context_there, word_there}
 use Rattle.armasm_core.proofs.PutLemmas.{put_there}
 use Rattle.armasm_core.proofs.putting.line_units.Goals as goal
 
-pub beside_of-beside-requires-clause-references : goal.beside_of-beside-requires-clause-references
-beside_of-beside-requires-clause-references c = rw c.as_slice.ensures.value c.in_ok-references.ensures
-
 pub returns : goal.returns
 returns c = λ statements before rest l h.
     let w = c.args.whole.now in

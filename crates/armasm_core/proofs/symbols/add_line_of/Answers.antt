@@ -1,8 +1,7 @@
 use Rattle.std.proofs.Common.{◌∙◌, sym}
-use Rattle.asm_model.specs.Laid.{laid, taken, all_locals, final_line}
-use Rattle.armasm_core.proofs.ShowLemmas.{is_final}
+use Rattle.asm_model.specs.Laid.{taken}
 use Rattle.armasm_core.proofs.GrownLists.{needed_there}
-use Rattle.armasm_core.proofs.LoadLemmas.{loaded}
+use Rattle.armasm_core.proofs.LoadLemmas.{seen_there, loaded}
 use Rattle.armasm_core.proofs.symbols.add_line_of.Goals as goal
 
 pub returns : goal.returns
@@ -11,8 +10,6 @@ returns c = λ statements before rest l h.
     let w = c.args.whole.now in
     let x = c.args.laid.now in
     let y = c.line_of-line.result in
-    let f = final_line (all_locals (laid statements)) l before in
     needed_there statements areas w before rest l x y c.args.symbols.now c.add_line.new.symbols h c.line_of-line.ensures
-    (c.in_ok-add_line.ensures f (taken l.extent)
-    (rw c.as_slice.ensures.value (c.in_ok-references.ensures f (is_final statements areas w x y rest before l h.whole h.parts h.line c.line_of-line.ensures)))
+    (c.in_ok-add_line.ensures l.line (taken l.extent) (seen_there statements areas w before rest l x y h c.line_of-line.ensures)
     (loaded c.pool_law.ensures statements areas w before rest l x h ∙ sym c.literal_of-literal.ensures))
