@@ -1,36 +1,15 @@
 -- What the command `list` prints of a file: a chunk file with a directory of a library is listed as a library, and any
 -- other file as an object. This project's.
-use Rattle.std.specs.Prelude.{ℕ, Bool, true, false, if◌then◌else◌, List, Option, Result, Ok, Err, codes}
+use Rattle.std.specs.Prelude.{ℕ, if◌then◌else◌, List, Result, Ok}
 use Rattle.sdt_fault.specs.declared.refusal.Refusal.{Refusal}
 use Rattle.sdt_outside.specs.Files.{Files}
-use Rattle.chunk_file.specs.declared.records.Span.{Span}
 use Rattle.chunk_file.specs.Reading.{◌>>=◌}
-use Rattle.chunk_file.specs.Chunks.{table_of}
-use Rattle.aof_object.specs.declared.parts.Found.{Found}
-use Rattle.aof_object.specs.declared.parts.Found.TheVariants.{Absent, One, Many}
 use Rattle.aof_object.specs.Objects.{object_of}
-use Rattle.aof_object.specs.Parts.{found_of, named}
-use Rattle.alf_archive.specs.Archives.{archive_of}
+use Rattle.alf_archive.specs.Archives.{archive_of, is_library}
 use Rattle.sdt_listing.specs.Listings.{archive_text, object_text}
 use Rattle.tool_answers.specs.Inputs.{input_of}
 use Rattle.tool_answers.specs.Outcomes.{Outcome, prints_only}
 use Rattle.tool_library.specs.Libraries.{named_by}
-
-abbrev pub is_found : Found → Bool
-is_found Absent = false
-is_found (One s) = true
-is_found Many = true
-
--- the table names a directory, once or more
-abbrev pub names_directory : List (Option Span) → Bool
-names_directory spans = is_found (found_of (named (codes "LIB_DIRY") spans))
-
-abbrev pub is_library_by : Result (List (Option Span)) Refusal → Bool
-is_library_by (Ok spans) = names_directory spans
-is_library_by (Err r) = false
-
-unfoldable pub is_library : List ℕ → Bool
-is_library bytes = is_library_by (table_of bytes)
 
 -- the listing of a file, or its refusal with the file's name
 abbrev pub archive_listing : List ℕ → List ℕ → Result (List ℕ) Refusal

@@ -1,38 +1,16 @@
 //! The listing of a file.
 
-ghost use Rattle.std.specs.Prelude.{◌≡◌, ◌<◌, ◌^◌, IfOk, length};
+ghost use Rattle.std.specs.Prelude.{◌<◌, ◌^◌, length};
 ghost use Rattle.chunk_file.specs.Reading.{Gives};
 ghost use Rattle.tool_listing.specs.Lists as lists;
 
-use alf_archive::read_archive;
-use aof_object::{Found, find, read_object};
-use chunk_file::{Span, read_table};
+use alf_archive::{is_library, read_archive};
+use aof_object::read_object;
+use sdt_fault::Text;
 use sdt_fault::answer::Fault;
-use sdt_fault::{NoMemory, Text};
 use sdt_listing::{list_archive, list_object};
 use std::alloc::Global;
 use tool_library::members::named_fault;
-
-fn names_directory(spans: &[Option<Span>]) -> bool
-    ensures { result ≡ lists.names_directory spans.now }
-{
-    match find(spans, *b"LIB_DIRY") {
-        Found::Absent => false,
-        _ => true,
-    }
-}
-
-#[tactic(auto, unfolding(crate::specs::Lists::is_library))]
-fn is_library(alloc: Global, bytes: &[u8]) -> Result<bool, NoMemory>
-    requires { length bytes.now < 2 ^ 32 }
-    ensures { IfOk result (λ found. found ≡ lists.is_library bytes.now) }
-{
-    match read_table(alloc, bytes) {
-        Ok(spans) => Ok(names_directory(spans.as_slice())),
-        Err(Fault::NoMemory) => Err(NoMemory),
-        Err(_) => Ok(false),
-    }
-}
 
 fn object_listing(alloc: Global, name: &Text, bytes: &[u8]) -> Result<Text, Fault>
     requires { length bytes.now < 2 ^ 32 }
