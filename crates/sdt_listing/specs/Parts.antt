@@ -1,6 +1,6 @@
 -- The parts of an instruction's text: names, numbers, shifted registers and addresses (SDT 2.50 Reference
 -- Guide, chapter on the assembler, instructions). That numbers are hexadecimal, which offsets are left out and
--- how a negative offset of 0 is written are this project's. The names are tables, as in the code.
+-- how a negative offset of 0 is written elsewhere are this project's. The names are tables, as in the code.
 use Rattle.std.specs.Prelude.{ℕ, ◌+◌, ◌*◌, ◌%◌, ◌^◌, ◌==◌, ◌&&◌, not, Bool, true, if◌then◌else◌, List, [], ◌++◌, drop, codes}
 use Rattle.std.specs.List.{flat_map}
 use Rattle.std.specs.Fmt.{decimal, digits}
@@ -109,13 +109,13 @@ indexed pre write_back n by =
     if pre then codes "[" ++ (register n ++ (codes "," ++ (by ++ (codes "]" ++ mark write_back (codes "!")))))
     else plain n ++ (codes "," ++ by)
 
--- an offset in brackets that adds 0 is left out where nothing is written back
-abbrev pub is_left_out : Bool → Bool → Bool → ℕ → Bool
-is_left_out pre up write_back v = pre && (up && (not write_back && v == 0))
+-- an offset in brackets that is 0, whatever its sign, is left out where nothing is written back
+abbrev pub is_left_out : Bool → Bool → ℕ → Bool
+is_left_out pre write_back v = pre && (not write_back && v == 0)
 
 unfoldable pub indexed_by : Bool → Bool → Bool → ℕ → ℕ → List ℕ
 indexed_by pre up write_back n v =
-    if is_left_out pre up write_back v then plain n else indexed pre write_back n (offset up v)
+    if is_left_out pre write_back v then plain n else indexed pre write_back n (offset up v)
 
 -- registers in braces, each of which came with a comma before it
 abbrev pub braced : List ℕ → List ℕ

@@ -260,9 +260,9 @@ pub fn push_indexed_by(
 }
 
 fn is_left_out(place: Place, v: u32) -> bool
-    ensures { result ≡ parts.is_left_out place.pre place.up place.write_back v }
+    ensures { result ≡ parts.is_left_out place.pre place.write_back v }
 {
-    place.pre && place.up && !place.write_back && v == 0
+    place.pre && !place.write_back && v == 0
 }
 
 // Whether a list has a register.
