@@ -8,7 +8,6 @@ use Rattle.std.proofs.lemmas.List.Sums.{sum_by-cons}
 use Rattle.base_lemmas.proofs.BaseLemmas.{all_append, all_front, all_back}
 use Rattle.place_model.specs.declared.scatter.Kind.{Kind}
 use Rattle.place_model.specs.declared.scatter.Kind.TheVariants as kind
-use Rattle.place_model.specs.declared.scatter.Scatter.{Scatter}
 use Rattle.place_model.specs.declared.scatter.ScatterBase.{ScatterBase}
 use Rattle.place_model.specs.declared.scatter.ScatterBase.TheVariants.{At, Plus}
 use Rattle.place_model.specs.declared.scatter.ScatterLoad.{ScatterLoad}
@@ -16,7 +15,7 @@ use Rattle.place_model.specs.declared.scatter.ScatterRegion.{ScatterRegion}
 use Rattle.place_model.specs.Items.{Item, is_zero_initialised}
 use Rattle.place_model.specs.Assignment.{description, described_regions}
 use Rattle.place_model.specs.Things.{AnArea, AVeneer}
-use Rattle.place_model.specs.Plans.{Contents, areas_in, veneers_in, header_in, startup_in, origin_of, Planned, length_of, zero_base_of, zero_length_of, end_of, base_behind, planned, planned_from, load_size, loads_from, plan_for, regions_of, is_copied, is_cleared, copy_row, zero_row, copies_of, parts_of, suffices, first_from}
+use Rattle.place_model.specs.Plans.{Contents, areas_in, veneers_in, header_in, startup_in, origin_of, Planned, length_of, zero_base_of, end_of, base_behind, planned, planned_from, load_size, loads_from, plan_for, regions_of, is_copied, is_cleared, copy_row, zero_row, copies_of, parts_of, suffices, first_from}
 use Rattle.place_model.specs.Laws.{IsWholeItem, IsWholeBase, IsWholeRegion, WholeLaw, TableLaw}
 use Rattle.place_model.proofs.ListLemmas.{all_map, all_filter, all_indexed, all_of_get, length_filter}
 use Rattle.place_model.proofs.GapLemmas.{IsWhole, whole_area, whole_header, whole_veneer, whole_startup, extent-whole}

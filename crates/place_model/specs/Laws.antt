@@ -32,7 +32,8 @@ pub record AreWhole (k : Kind) (c : Contents) : Type 0 where
   pub regions : AllByRecursion (λ r. IsWholeBase r.base) (described_regions k)
   pub items : AllByRecursion (λ areas. AllByRecursion IsWholeItem areas) c.areas
 
--- a region begins at a multiple of 4 where it is loaded and where it runs, and so many bytes are loaded and cleared
+-- a region is loaded and runs at multiples of 4, and the numbers of bytes that are loaded, and of zeros behind
+-- them, are multiples of 4
 pub record IsWholeRegion (r : Planned) : Type 0 where
   pub load : r.load % 4 ≡ 0
   pub base : r.base % 4 ≡ 0
