@@ -18,9 +18,9 @@ use Rattle.byte_maps.specs.Maps.{Holds, bytes_of_words}
 use Rattle.byte_maps.proofs.MapLemmas.{words}
 use Rattle.place_model.specs.Plans.{Planned, length_of, zero_base_of, zero_length_of, execution_size, is_root, is_copied, is_cleared, copy_row, zero_row}
 use Rattle.place_model.specs.Faults.{shared, execution_span, source_span, target_span}
+use Rattle.place_model.specs.Laws.{IsWholeRegion}
 use Rattle.place_model.proofs.ListLemmas.{all_at, all_indexed, any_found, Pairs, pairs_at, pairs_filter}
 use Rattle.place_model.proofs.SpanLemmas.{apart, lt-true}
-use Rattle.place_model.proofs.PlanLemmas.{IsWholeRegion}
 use Rattle.image_model.specs.Views.{is_executed}
 use Rattle.image_laws.proofs.RowLemmas.{Brings, IsZeros, moved-inside, moved-beside, zeroed-inside, zeroed-beside, table-length, AreCopyWords, ArePartWords, startup-fits}
 

@@ -21,7 +21,8 @@ use Rattle.place_model.specs.Faults.{first_told, rootless, judged, judged_load, 
 use Rattle.place_model.proofs.ListLemmas.{all_at, all_indexed, all_of_map, all_of_flat, all_flat, all_below_sum, none_given, Pairs, pairs_map}
 use Rattle.place_model.proofs.GapLemmas.{extent-append}
 use Rattle.place_model.proofs.SpanLemmas.{or_none, map_none, meeting_none, in_memory, lt-false}
-use Rattle.place_model.proofs.PlanLemmas.{table_law, IsWholeRegion, plan_whole, loads_loaded}
+use Rattle.place_model.specs.Laws.{IsWholeRegion}
+use Rattle.place_model.proofs.PlanLemmas.{table_law, whole_law, loads_loaded}
 use Rattle.image_model.specs.Regions.{Given, Filling, laid, region_bytes, filled}
 use Rattle.image_laws.specs.Laws.{scatter_plan, IsImage, ImagePlaces, ImageBoots}
 use Rattle.image_laws.proofs.RegionLemmas.{Sizes, length-laid, laid-append, Begins, begins, startup_stands}
@@ -98,7 +99,7 @@ module _ (s : Scatter) (c : Contents) (g : Given) (ram : Option (List Range32)) 
       let loaded : Holds view r.base (region_bytes held r) = all_at (λ q. Holds view q.base (region_bytes held q)) rs n r i.shows.loaded at in
       let cleared : Holds view (zero_base_of r) (zeros (zero_length_of r)) = all_at (λ q. Holds view (zero_base_of q) (zeros (zero_length_of q))) rs n r i.shows.cleared at in
       record {
-        whole = all_at IsWholeRegion rs n r (plan_whole s c words i.whole) at;
+        whole = all_at IsWholeRegion rs n r (whole_law (kind.Scatter s) c words i.whole) at;
         load_room = all_at (λ q. q.load + length_of q ≤ 2 ^ 32) rs n r (loads_loaded (kind.Scatter s) c words 0 s.loads (2 ^ 32) facts.loads) at;
         room = all_at (λ q. q.base + execution_size q ≤ 2 ^ 32) rs n r facts.rooms at;
         small = all_at (λ q. execution_size q ≤ 2 ^ 26) rs n r facts.small at;
@@ -156,7 +157,7 @@ module _ (s : Scatter) (c : Contents) (g : Given) (ram : Option (List Range32)) 
 
   joined : AreJoined rs (map_of files) view a words g.entry
   joined =
-      let whole = all_at IsWholeRegion rs 0 region (plan_whole s c words i.whole) region_at in
+      let whole = all_at IsWholeRegion rs 0 region (whole_law (kind.Scatter s) c words i.whole) region_at in
       let whole_base = whole.base in let whole_length = whole.loaded in
       record {
         sound = sound;

@@ -2,8 +2,8 @@
 
 ghost use Rattle.image_laws.specs.Laws.{ImageBoots, ImagePlaces, ViewLaw};
 
-/// A plan without a refusal has files and one view: each thing stands in the view at its address, and zeros
-/// stand in the gaps.
+/// A plan without a refusal, each of whose things has its size, has files and one view: each thing stands in
+/// the view at its address, and zeros stand in the gaps and zero parts.
 pub fn view_law()
     ensures { ViewLaw }
 {}

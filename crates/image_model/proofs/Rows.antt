@@ -20,7 +20,7 @@ numbered (x ∷ xs) (suc n) = numbered xs n
 
 -- areas of one object, an entry, and no veneer
 abbrev pub given : List (List ℕ) → ℕ → Given
-given areas entry = record { area = λ object number. numbered areas number; veneer = λ region target. []; entry = entry; call = entry }
+given areas entry = record { area = λ object number. numbered areas number; veneer = λ region target thumb. []; entry = entry; call = entry }
 
 -- the word that a view has at an address, from four bytes that are there
 abbrev seen : ByteMap → ℕ → List (Option ℕ)
@@ -70,7 +70,7 @@ hello-object (suc zero) = bytes_of_words (0xE59FD008 ∷ 0xE59F0008 ∷ 0xEB0000
 hello-object (suc (suc n)) = bytes_of_words (0xE92D4000 ∷ 0xEF000002 ∷ 0xE8BD8000 ∷ []) ∷ []
 
 abbrev hello-given : Given
-hello-given = record { area = λ object number. numbered (hello-object object) number; veneer = λ region target. []; entry = 8; call = 8 }
+hello-given = record { area = λ object number. numbered (hello-object object) number; veneer = λ region target thumb. []; entry = 8; call = 8 }
 
 abbrev hello-words : List ℕ
 hello-words =
@@ -149,7 +149,7 @@ thumb_entry = record {
 }
 
 thumb_entry-file : relocatable_aif (aif_plan 0x8000 true thumb_entry) 0x8000
-    (record { area = λ object number. bytes_of 0xDF11 4; veneer = λ region target. bytes_of_words (0xE59FC000 ∷ 0xE12FFF1C ∷ 0x8081 ∷ []); entry = 0x8081; call = 0x8084 })
+    (record { area = λ object number. bytes_of 0xDF11 4; veneer = λ region target thumb. bytes_of_words (0xE59FC000 ∷ 0xE12FFF1C ∷ 0x8081 ∷ []); entry = 0x8081; call = 0x8084 })
     (λ offset. if offset == 0x8C then 1 else 0)
     ≡ bytes_of_words ((0xE1A00000 ∷ 0xEB000021 ∷ 0xE1A00000 ∷ 0xEB00001C ∷ 0xEF000011 ∷ 0x90 ∷ 0 ∷ 0 ∷ 0 ∷ 0 ∷ 0x8000 ∷ 0 ∷ 32 ∷ 0 ∷ 0 ∷ 0 ∷ zero_list)
     ++ (0xDF11 ∷ 0xE59FC000 ∷ 0xE12FFF1C ∷ 0x8081 ∷ (relocator_list ++ (0x8C ∷ 0xFFFFFFFF ∷ []))))
@@ -166,7 +166,7 @@ arm_calls_thumb = record {
 arm_calls_thumb-file : files_of (plan_of (kind.Plain 0x8000) arm_calls_thumb)
     (filled (record {
       area = λ object number. numbered (bytes_of_words (0xEB000001 ∷ 0xEF000011 ∷ []) ∷ bytes_of 0x47702001 4 ∷ []) number;
-      veneer = λ region target. bytes_of_words (0xE59FC000 ∷ 0xE12FFF1C ∷ 0x8009 ∷ []);
+      veneer = λ region target thumb. bytes_of_words (0xE59FC000 ∷ 0xE12FFF1C ∷ 0x8009 ∷ []);
       entry = 0x8000;
       call = 0x8000;
     }) (plan_of (kind.Plain 0x8000) arm_calls_thumb) [])

@@ -1,6 +1,6 @@
 -- The bytes of a region before its zero part: its things in their order, each behind zeros up to where its
 -- alignment lets it begin (SDT 2.50 Reference Guide, armlink; the startup code is this project's).
-use Rattle.std.specs.Prelude.{◌≡◌, ℕ, ◌+◌, ◌-◌, ◌*◌, List, [], ◌∷◌, ◌++◌, length}
+use Rattle.std.specs.Prelude.{◌≡◌, ℕ, ◌+◌, ◌-◌, ◌*◌, Bool, List, [], ◌∷◌, ◌++◌, length}
 use Rattle.std.specs.List.{AllByRecursion}
 use Rattle.patch_model.specs.Fields.{Home}
 use Rattle.boot_code.specs.Startup.{table_list, zeros}
@@ -27,11 +27,11 @@ AreSized held p = AllByRecursion (λ r. AllByRecursion (λ t. length (held r t) 
 -- ---- what an image is made of
 
 -- the bytes of areas, by the numbers of object and area, as they are once they are patched, and of veneers, by
--- the region's number; the entry, with bit 0 set for Thumb; and what an AIF's header calls, the entry or its
--- veneer
+-- the region's number, the target and whether that is Thumb code; the entry, with bit 0 set for Thumb; and what
+-- an AIF's header calls, the entry or its veneer
 pub record Given : Type 0 where
   pub area : ℕ → ℕ → List ℕ
-  pub veneer : ℕ → Home → List ℕ
+  pub veneer : ℕ → Home → Bool → List ℕ
   pub entry : ℕ
   pub call : ℕ
 
@@ -44,5 +44,5 @@ startup_bytes p words entry =
 abbrev pub filled : Given → Plan → List ℕ → Filling
 filled g p header r Header = header
 filled g p header r (AnArea i) = g.area i.object i.area
-filled g p header r (AVeneer target thumb) = g.veneer r.number target
+filled g p header r (AVeneer target thumb) = g.veneer r.number target thumb
 filled g p header r (Startup words) = startup_bytes p words g.entry

@@ -8,7 +8,6 @@ use Rattle.std.proofs.lemmas.List.Sums.{sum_by-cons}
 use Rattle.base_lemmas.proofs.BaseLemmas.{all_append, all_front, all_back}
 use Rattle.place_model.specs.declared.scatter.Kind.{Kind}
 use Rattle.place_model.specs.declared.scatter.Kind.TheVariants as kind
-use Rattle.place_model.specs.declared.scatter.Scatter.{Scatter}
 use Rattle.place_model.specs.declared.scatter.ScatterBase.{ScatterBase}
 use Rattle.place_model.specs.declared.scatter.ScatterBase.TheVariants.{At, Plus}
 use Rattle.place_model.specs.declared.scatter.ScatterLoad.{ScatterLoad}
@@ -16,8 +15,8 @@ use Rattle.place_model.specs.declared.scatter.ScatterRegion.{ScatterRegion}
 use Rattle.place_model.specs.Items.{Item, is_zero_initialised}
 use Rattle.place_model.specs.Assignment.{description, described_regions}
 use Rattle.place_model.specs.Things.{AnArea, AVeneer}
-use Rattle.place_model.specs.Plans.{Contents, areas_in, veneers_in, header_in, startup_in, origin_of, Planned, length_of, zero_base_of, zero_length_of, end_of, base_behind, planned, planned_from, load_size, loads_from, plan_for, regions_of, is_copied, is_cleared, copy_row, zero_row, copies_of, parts_of, suffices, first_from}
-use Rattle.place_model.specs.Laws.{IsWholeItem, IsWholeBase, AreWhole, TableLaw}
+use Rattle.place_model.specs.Plans.{Contents, areas_in, veneers_in, header_in, startup_in, origin_of, Planned, length_of, zero_base_of, end_of, base_behind, planned, planned_from, load_size, loads_from, plan_for, regions_of, is_copied, is_cleared, copy_row, zero_row, copies_of, parts_of, suffices, first_from}
+use Rattle.place_model.specs.Laws.{IsWholeItem, IsWholeBase, IsWholeRegion, WholeLaw, TableLaw}
 use Rattle.place_model.proofs.ListLemmas.{all_map, all_filter, all_indexed, all_of_get, length_filter}
 use Rattle.place_model.proofs.GapLemmas.{IsWhole, whole_area, whole_header, whole_veneer, whole_startup, extent-whole}
 
@@ -75,12 +74,6 @@ table_law s c = record {
 }
 
 -- ---- whole words
-
-pub record IsWholeRegion (r : Planned) : Type 0 where
-  pub load : r.load % 4 ≡ 0
-  pub base : r.base % 4 ≡ 0
-  pub loaded : length_of r % 4 ≡ 0
-  pub cleared : zero_length_of r % 4 ≡ 0
 
 header_whole : (k : Kind) (region : ℕ) → AllByRecursion IsWhole (header_in k region)
 header_whole (kind.Scatter s) region = tt
@@ -143,8 +136,14 @@ module _ (k : Kind) (c : Contents) (words : ℕ) (ho : origin_of k % 4 ≡ 0) (i
       (from_whole region l.regions l.base l.base (all_front (λ r. IsWholeBase r.base) l.regions (flat_map (λ m. m.regions) ls) regions) bases.0 bases.0)
       (loads_whole (region + length l.regions) ls bases.1 (all_back (λ r. IsWholeBase r.base) l.regions (flat_map (λ m. m.regions) ls) regions))
 
-pub plan_whole : (s : Scatter) (c : Contents) (words : ℕ) → AreWhole (kind.Scatter s) c → AllByRecursion IsWholeRegion (regions_of (plan_for (kind.Scatter s) c words))
-plan_whole s c words h = loads_whole (kind.Scatter s) c words refl h.items 0 s.loads h.loads h.regions
+origin_whole : (k : Kind) → AllByRecursion (λ l. l.base % 4 ≡ 0) (description k) → origin_of k % 4 ≡ 0
+origin_whole (kind.Scatter s) h = refl
+origin_whole (kind.Plain base) h = refl
+origin_whole (kind.Aif base true) h = h.0
+origin_whole (kind.Aif base false) h = refl
+
+pub whole_law : WholeLaw
+whole_law k c words h = loads_whole k c words (origin_whole k h.loads) h.items 0 (description k) h.loads h.regions
 
 -- ---- load addresses
 

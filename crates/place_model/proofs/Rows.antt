@@ -186,6 +186,13 @@ empty-at_the_end = refl
 empty-above_the_end : refusal (behind_the_end 4) (with_words 0x10) ≡ Some (Overfull (codes "Z") 0 0)
 empty-above_the_end = refl
 
+-- above 2^32 no declared maximum is told
+abbrev pub declared_above : Kind
+declared_above = image (code_region ∷ region (codes "Y") (At 0xFFFFFFF0) (any choice.Rw ∷ []) ∷ (record { name = codes "Z"; base = Plus 4; max = Some 8; selections = any choice.Zi ∷ [] }) ∷ [])
+
+declared-above_the_end : refusal declared_above (code 4 ∷ area 1 (codes "w") 2 0x10 ∷ area 2 (codes "z") 0x1002 0x10 ∷ []) ≡ Some (Overfull (codes "Z") 0x10 0)
+declared-above_the_end = refl
+
 -- ---- regions that meet
 
 abbrev pub two_regions : ℕ → Kind

@@ -5,7 +5,7 @@ use Rattle.std.specs.Option.{option_map, option_or}
 use Rattle.std.proofs.lemmas.Bool.{cases_lt}
 use Rattle.sdt_fault.specs.declared.refusal.Refusal.TheVariants.{Overfull}
 use Rattle.boot_code.specs.Boots.{AreApart}
-use Rattle.place_model.specs.Faults.{Span, Meeting, Move, shared, met_by, first_meeting, Judged, overfull, above_maximum, above_memory}
+use Rattle.place_model.specs.Faults.{Span, Meeting, Move, shared, met_by, first_meeting, Judged, above, overfull, above_maximum}
 use Rattle.place_model.specs.Laws.{IsLeastShared, SharedLaw, OfMeeting, MeetingLaw}
 use Rattle.place_model.proofs.ListLemmas.{Pairs, pairs_indexed}
 
@@ -155,12 +155,18 @@ meeting_law (m ∷ ms) = go (met_by m.written ms) (met_law m.written ms) (meetin
 pub meeting_none : (ms : List Move) → first_meeting ms ≡ None → Pairs (λ m n. shared m.written n.read ≡ None) ms
 meeting_none ms h = pairs_indexed (λ m n. shared m.written n.read ≡ None) ms (subst (OfMeeting ms) h (meeting_law ms))
 
--- what isn't too large for memory ends there
-pub in_memory : (j : Judged) → overfull j ≡ None → j.base + j.size ≤ 2 ^ 32
-in_memory j h = go (nat_lt (2 ^ 32) j.base) (nat_lt (2 ^ 32 - j.base) j.size) refl refl (or_none (above_maximum j j.maximum) (above_memory j) h).1
+-- what isn't too large has its declared maximum, and ends with memory
+pub not_overfull : (j : Judged) → overfull j ≡ None → (above_maximum j j.maximum ≡ None) × (above j (2 ^ 32 - j.base) ≡ None) × (j.base ≤ 2 ^ 32)
+not_overfull j h = go (nat_lt (2 ^ 32) j.base) refl h
   where
-    go : (b d : Bool) → nat_lt (2 ^ 32) j.base ≡ b → nat_lt (2 ^ 32 - j.base) j.size ≡ d
-        → (if b then Some (Overfull j.name j.size 0) else (if d then Some (Overfull j.name j.size (2 ^ 32 - j.base)) else None)) ≡ None → j.base + j.size ≤ 2 ^ 32
-    go true d high low none = absurd (cc)
-    go false true high low none = absurd (cc)
-    go false false high low none = let a = lt-false (2 ^ 32) j.base high in let b = lt-false (2 ^ 32 - j.base) j.size low in omega arith
+    go : (b : Bool) → nat_lt (2 ^ 32) j.base ≡ b → (if b then Some (Overfull j.name j.size 0) else option_or (above_maximum j j.maximum) (above j (2 ^ 32 - j.base))) ≡ None
+        → (above_maximum j j.maximum ≡ None) × (above j (2 ^ 32 - j.base) ≡ None) × (j.base ≤ 2 ^ 32)
+    go true high none = absurd (cc)
+    go false high none = let both = or_none (above_maximum j j.maximum) (above j (2 ^ 32 - j.base)) none in (both.0, both.1, lt-false (2 ^ 32) j.base high)
+
+pub in_memory : (j : Judged) → overfull j ≡ None → j.base + j.size ≤ 2 ^ 32
+in_memory j h = let (declared, memory, begins) = not_overfull j h in go (nat_lt (2 ^ 32 - j.base) j.size) refl memory begins
+  where
+    go : (b : Bool) → nat_lt (2 ^ 32 - j.base) j.size ≡ b → (if b then Some (Overfull j.name j.size (2 ^ 32 - j.base)) else None) ≡ None → j.base ≤ 2 ^ 32 → j.base + j.size ≤ 2 ^ 32
+    go true low none begins = absurd (cc)
+    go false low none begins = let most = lt-false (2 ^ 32 - j.base) j.size low in omega arith

@@ -11,10 +11,10 @@ use Rattle.sdt_fault.specs.declared.refusal.Refusal.TheVariants.{Overfull}
 use Rattle.boot_code.specs.Boots.{covers}
 use Rattle.boot_code.proofs.ViewLemmas.{covers-true, covers-false, covers-inside}
 use Rattle.place_model.specs.Plans.{regions_of}
-use Rattle.place_model.specs.Faults.{first_told, Judged, above, above_maximum, above_memory, overfull, judged, Span, in_range, lacking, least, unwritable}
+use Rattle.place_model.specs.Faults.{first_told, Judged, above, above_maximum, overfull, judged, Span, in_range, lacking, least, unwritable}
 use Rattle.place_model.specs.Laws.{IsFirstTold, OfFirst, HasRoom, in_some, in_ram, OfLacking, ToldLaw}
 use Rattle.place_model.proofs.ListLemmas.{all_at, all_flat, all_indexed, any_found}
-use Rattle.place_model.proofs.SpanLemmas.{or_none, in_memory, lt-false, lt-true}
+use Rattle.place_model.proofs.SpanLemmas.{not_overfull, in_memory, lt-false, lt-true}
 
 -- ---- the first
 
@@ -58,21 +58,18 @@ not_above j most h = go (nat_lt most j.size) refl
     go false e = refl
 
 fits : (j : Judged) → HasRoom j → overfull j ≡ None
-fits j h = go j.maximum refl
+fits j h = of (nat_lt (2 ^ 32) j.base) refl
   where
-    memory : above_memory j ≡ None
-    memory = of (nat_lt (2 ^ 32) j.base) refl
-      where
-        of : (b : Bool) → nat_lt (2 ^ 32) j.base ≡ b → (if b then Some (Overfull j.name j.size 0) else above j (2 ^ 32 - j.base)) ≡ None
-        of true e = let lt = lt-true (2 ^ 32) j.base e in let room = h.memory in absurd (omega arith)
-        of false e = let room = h.memory in not_above j (2 ^ 32 - j.base) (omega arith)
+    go : (m : Option ℕ) → j.maximum ≡ m → above j (2 ^ 32 - j.base) ≡ None → option_or (above_maximum j m) (above j (2 ^ 32 - j.base)) ≡ None
+    go None e memory = memory
+    go (Some most) e memory = rw (not_above j most (h.declared most e)) memory
 
-    go : (m : Option ℕ) → j.maximum ≡ m → option_or (above_maximum j m) (above_memory j) ≡ None
-    go None e = memory
-    go (Some most) e = rw (not_above j most (h.declared most e)) memory
+    of : (b : Bool) → nat_lt (2 ^ 32) j.base ≡ b → (if b then Some (Overfull j.name j.size 0) else option_or (above_maximum j j.maximum) (above j (2 ^ 32 - j.base))) ≡ None
+    of true e = let lt = lt-true (2 ^ 32) j.base e in let room = h.memory in absurd (omega arith)
+    of false e = let room = h.memory in go j.maximum refl (not_above j (2 ^ 32 - j.base) (omega arith))
 
 room_law : (j : Judged) → (overfull j ≡ None) ↔ HasRoom j
-room_law j = (λ h. record { declared = declared j j.maximum (or_none (above_maximum j j.maximum) (above_memory j) h).0; memory = in_memory j h }, fits j)
+room_law j = (λ h. record { declared = declared j j.maximum (not_overfull j h).0; memory = in_memory j h }, fits j)
 
 -- ---- the least of a list
 

@@ -25,7 +25,8 @@ rootless [] = None
 rootless (r ∷ regions) = if is_root r then None else Some (NoRoot r.name)
 
 -- ---- Overfull: more than a declared maximum, or than memory has from the base on. A load region counts what
--- is loaded; it and then its execution regions are judged. Nothing begins above 2^32.
+-- is loaded; it and then its execution regions are judged. Nothing begins above 2^32: there the maximum is 0,
+-- whatever is declared.
 
 pub record Judged : Type 0 where
   pub name : List ℕ
@@ -40,11 +41,10 @@ abbrev pub above_maximum : Judged → Option ℕ → Option Refusal
 above_maximum j None = None
 above_maximum j (Some most) = above j most
 
-abbrev pub above_memory : Judged → Option Refusal
-above_memory j = if nat_lt (2 ^ 32) j.base then Some (Overfull j.name j.size 0) else above j (2 ^ 32 - j.base)
-
 abbrev pub overfull : Judged → Option Refusal
-overfull j = option_or (above_maximum j j.maximum) (above_memory j)
+overfull j =
+    if nat_lt (2 ^ 32) j.base then Some (Overfull j.name j.size 0)
+    else option_or (above_maximum j j.maximum) (above j (2 ^ 32 - j.base))
 
 abbrev pub judged_region : Planned → Judged
 judged_region r = record { name = r.name; base = r.base; size = execution_size r; maximum = r.maximum }

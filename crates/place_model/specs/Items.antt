@@ -1,8 +1,7 @@
 -- What placing looks at of an area of a linked object (SDT 2.50 Reference Guide, ARM Object Format, area
 -- attributes).
-use Rattle.std.specs.Prelude.{ℕ, suc, ◌%◌, ◌^◌, Bool, ◌==◌, List, [], ◌∷◌}
+use Rattle.std.specs.Prelude.{ℕ, ◌%◌, ◌^◌, Bool, ◌==◌, List}
 use Rattle.sdt_word.specs.Numbers.{bit}
-use Rattle.aof_object.specs.declared.records.Area.{Area}
 
 -- the numbers of object and area, and what a scatter description selects by
 pub record Item : Type 0 where
@@ -12,13 +11,6 @@ pub record Item : Type 0 where
   pub name : List ℕ
   pub attributes : ℕ
   pub size : ℕ
-
--- the areas of an object of a module, which are counted from k on
-abbrev pub items_from : ℕ → List ℕ → ℕ → List Area → List Item
-items_from object home k [] = []
-items_from object home k (a ∷ areas) =
-    (record { object = object; area = k; «module» = home; name = a.name; attributes = a.attributes; size = a.size })
-    ∷ items_from object home (suc k) areas
 
 -- ---- the attributes
 

@@ -12,7 +12,7 @@ use Rattle.place_model.specs.declared.scatter.ScatterBase.TheVariants.{At, Plus}
 use Rattle.place_model.specs.Items.{Item}
 use Rattle.place_model.specs.Assignment.{description, described_regions, Offer, matches, rank, best, Found, Nowhere, Within, Unclear, found, Kept, may_precede, in_order}
 use Rattle.place_model.specs.Things.{gap}
-use Rattle.place_model.specs.Plans.{Contents, Plan, regions_of, IsLeastTable, table_words}
+use Rattle.place_model.specs.Plans.{Contents, Planned, length_of, zero_length_of, Plan, plan_for, regions_of, IsLeastTable, table_words}
 use Rattle.place_model.specs.Faults.{first_told, Judged, overfull, judged, Span, shared, Meeting, Move, first_meeting, in_range, lacking, least, unwritable, not_writable}
 
 -- ---- whole words
@@ -26,13 +26,25 @@ abbrev pub IsWholeBase : ScatterBase → Type 0
 IsWholeBase (At address) = address % 4 ≡ 0
 IsWholeBase (Plus offset) = offset % 4 ≡ 0
 
--- a description has multiples of 4 alone, and so has what is placed
+-- a description has multiples of 4 alone, and so have the areas
 pub record AreWhole (k : Kind) (c : Contents) : Type 0 where
   pub loads : AllByRecursion (λ l. l.base % 4 ≡ 0) (description k)
   pub regions : AllByRecursion (λ r. IsWholeBase r.base) (described_regions k)
   pub items : AllByRecursion (λ areas. AllByRecursion IsWholeItem areas) c.areas
 
+-- a region is loaded and runs at multiples of 4, and the numbers of bytes that are loaded, and of zeros behind
+-- them, are multiples of 4
+pub record IsWholeRegion (r : Planned) : Type 0 where
+  pub load : r.load % 4 ≡ 0
+  pub base : r.base % 4 ≡ 0
+  pub loaded : length_of r % 4 ≡ 0
+  pub cleared : zero_length_of r % 4 ≡ 0
+
 -- ---- what the functions give, in the subject's words
+
+-- of whole words each region of a plan is whole words, with a table of any size
+abbrev pub WholeLaw : Type 0
+WholeLaw = (k : Kind) (c : Contents) (words : ℕ) → AreWhole k c → AllByRecursion IsWholeRegion (regions_of (plan_for k c words))
 
 -- a thing begins at the least address behind the one before it that its alignment allows
 pub record GapLaw : Type 0 where

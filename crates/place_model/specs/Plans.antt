@@ -4,7 +4,6 @@ use Rattle.std.specs.Prelude.{◌≡◌, ℕ, zero, suc, ◌+◌, ◌*◌, ◌<�
 use Rattle.std.specs.List.{filter, flat_map, find}
 use Rattle.std.specs.Option.{option_map}
 use Rattle.patch_model.specs.Fields.{Home}
-use Rattle.patch_model.specs.Patched.{Veneers}
 use Rattle.boot_code.specs.declared.rows.CopyRow.{CopyRow}
 use Rattle.boot_code.specs.declared.rows.ZeroRow.{ZeroRow}
 use Rattle.place_model.specs.declared.scatter.Kind.{Kind}
@@ -173,7 +172,7 @@ pub record IsLeastTable (k : Kind) (c : Contents) (words : ℕ) : Type 0 where
   pub enough : suffices k c words ≡ true
   pub least : (fewer : ℕ) → fewer < words → suffices k c fewer ≡ false
 
--- the first number from one on that passes, if it is among so many
+-- the first number from a given one on that passes, if it is among so many
 abbrev pub first_from : (ℕ → Bool) → ℕ → ℕ → ℕ
 first_from passes n zero = n
 first_from passes n (suc more) = if passes n then n else first_from passes (suc n) more
@@ -200,18 +199,6 @@ is_area object area _ = false
 
 abbrev pub area_address : Plan → ℕ → ℕ → Option ℕ
 area_address p object area = address_of (is_area object area) (flat_map stood_in (regions_of p))
-
-abbrev pub agree : Bool → Bool → Bool
-agree a b = if a then b else not b
-
-abbrev pub is_veneer : Home → Bool → Thing → Bool
-is_veneer target thumb (AVeneer other state) =
-    other.object == target.object && (other.area == target.area && (other.offset == target.offset && agree state thumb))
-is_veneer target thumb _ = false
-
--- the veneers of a region, by their targets
-abbrev pub veneers_of : Planned → Veneers
-veneers_of r target thumb = address_of (is_veneer target thumb) (stood_in r)
 
 abbrev pub is_startup : Thing → Bool
 is_startup (Startup words) = true

@@ -15,6 +15,9 @@ returns-clause-gaps c = GapLemmas.gap_law
 pub returns-clause-table : goal.returns-clause-table
 returns-clause-table c = PlanLemmas.table_law
 
+pub returns-clause-whole : goal.returns-clause-whole
+returns-clause-whole c = PlanLemmas.whole_law
+
 pub returns-clause-shared : goal.returns-clause-shared
 returns-clause-shared c = SpanLemmas.shared_law
 
