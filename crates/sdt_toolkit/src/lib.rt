@@ -22,8 +22,8 @@ mod commands;
 pub mod laws;
 mod words;
 
-/// Carries out a command: `build -bin -o OUT SRC`, where SRC is a source of numbers, one of the
-/// librarian's, or `run`.
+/// Carries out a command: `asm`, one of the librarian's, `list`, `run`, or `build -bin -o OUT SRC`,
+/// where SRC is a source of numbers.
 ///
 /// A refusal names the first defect of the words, then of the files, in order. `ReadFault`, `WriteFault`
 /// and `SinkFault` come only where the store's or the sink's count of such faults rose. A run takes the devices
