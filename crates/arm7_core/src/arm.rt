@@ -11,7 +11,7 @@ use arm_isa::decode_arm;
 use arm7_bus::Bus;
 use arm7_model::{ArmState, Event};
 use arm7_registers::{advance, register};
-use arm7_transfers::{Outcome, finish, is_there, prefetch_abort, read};
+use arm7_transfers::{Outcome, fetch, finish, prefetch_abort};
 use sdt_outside::Device;
 use sdt_word::Width;
 
@@ -41,10 +41,9 @@ pub fn step_arm(core: &mut ArmState, bus: &mut Bus) -> Event
     if at % 4 != 0 {
         return Event::Unpredictable(0);
     }
-    if !is_there(bus, at, Width::Word) {
+    let Some(word) = fetch(bus, at, Width::Word) else {
         return prefetch_abort(core, at);
-    }
-    let word = read(bus, at, Width::Word);
+    };
     advance(core);
     let outcome = execute(core, bus, word);
     finish(core, at, word, outcome)

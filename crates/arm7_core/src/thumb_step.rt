@@ -11,7 +11,7 @@ use crate::thumb_effect::do_thumb;
 use arm7_bus::Bus;
 use arm7_model::{ArmState, Event};
 use arm7_registers::{advance, register};
-use arm7_transfers::{Outcome, finish, is_there, prefetch_abort, read};
+use arm7_transfers::{Outcome, fetch, finish, prefetch_abort};
 use sdt_outside::Device;
 use sdt_word::Width;
 use thumb_isa::{ThumbInstr, decode_thumb, thumb_reading_law};
@@ -53,10 +53,9 @@ pub fn step_thumb(core: &mut ArmState, bus: &mut Bus) -> Event
     ensures ready { IsReady (state_of base size state touched bus.new) }
 {
     let at = register(core, 15);
-    if !is_there(bus, at, Width::Half) {
+    let Some(word) = fetch(bus, at, Width::Half) else {
         return prefetch_abort(core, at);
-    }
-    let word = read(bus, at, Width::Half);
+    };
     advance(core);
     let outcome = execute(core, bus, word);
     finish(core, at, word, outcome)
