@@ -31,7 +31,7 @@ pub answer_there : (s t : State) (a : ℕ) (width : Width) (o : Option ℕ) → 
 answer_there s t a width o e after =
     ap is_some e ∙ there_by (bank_has s.contents.banks a (bytes_in width)) (number_of (load s.contents.memory a (bytes_in width))) (seat_answer a width) (device_at s.devices a (bytes_in width))
 
-unchanged : (change : Seat → Seat) (a n : ℕ) (ds : List Seat) → device_at ds a n ≡ None → changed_at change a n ds ≡ ds
+pub unchanged : (change : Seat → Seat) (a n : ℕ) (ds : List Seat) → device_at ds a n ≡ None → changed_at change a n ds ≡ ds
 unchanged change a n [] e = refl
 unchanged change a n (d ∷ ds) e = go (has_access d.base d.size a n) refl (unchanged change a n ds)
   where

@@ -52,7 +52,7 @@ whole-access base size a k width w h lt = same-bool (has_access base size (a + k
 
 -- ---- all banks and all devices
 
-bank-whole : (banks : List Bank) (a k : ℕ) (width : Width) → AreWholeBanks banks → a % bytes_in width ≡ 0 → k < bytes_in width
+pub bank-whole : (banks : List Bank) (a k : ℕ) (width : Width) → AreWholeBanks banks → a % bytes_in width ≡ 0 → k < bytes_in width
     → bank_has banks (a + k) 1 ≡ bank_has banks a (bytes_in width)
 bank-whole [] a k width w h lt = refl
 bank-whole (b ∷ bs) a k width w h lt =

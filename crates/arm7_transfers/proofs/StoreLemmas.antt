@@ -39,7 +39,7 @@ write-device : (s : State) (a : ℕ) (width : Width) (v : ℕ) → CanStore s a 
     → after_write s a width v ≡ record { contents = noted s.contents a (bytes_in width); devices = changed_at (seat_written a width v) a (bytes_in width) s.devices }
 write-device s a width v c e = let d : is_some (device_at s.devices a (bytes_in width)) ≡ true = rw e at c.there in rw (e, d) refl
 
-low-bytes : (v : ℕ) (width : Width) → bytes_of (v % 256 ^ bytes_in width) (bytes_in width) ≡ bytes_of v (bytes_in width)
+pub low-bytes : (v : ℕ) (width : Width) → bytes_of (v % 256 ^ bytes_in width) (bytes_in width) ≡ bytes_of v (bytes_in width)
 low-bytes v Byte = ap (λ (x : ℕ). x ∷ []) (omega arith)
 low-bytes v Half =
     let a : v % 65536 % 256 ≡ v % 256 = omega arith in

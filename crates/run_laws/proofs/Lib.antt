@@ -1,0 +1,10 @@
+pub mod Added
+pub mod ArmAdded
+pub mod Boards
+pub mod BusRuns
+pub mod Devices
+pub mod OneStep
+pub mod ServedMemory
+pub mod StepAdded
+pub mod ThumbAdded
+pub mod Traces

@@ -1,0 +1,4 @@
+pub mod Boards
+pub mod Devices
+pub mod Steps
+pub mod Laws

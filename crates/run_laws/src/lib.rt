@@ -1,0 +1,10 @@
+//! Laws of the machine's runs: over a bus they are runs of the model, with the lines and answers of the bus's own devices.
+//! There is no engine.
+#![tactic(auto)]
+
+mod laws;
+
+pub use crate::laws::{
+    board_is_one, bus_runs_are_runs, bus_step_is_one, devices_are_left, runs_are_bus_runs,
+    runs_show, runs_split, steps_run,
+};
