@@ -1,5 +1,5 @@
 -- Several steps, over what each of them is given (this project's).
-use Rattle.std.specs.Prelude.{ℕ, zero, suc, false, List, [], ◌∷◌}
+use Rattle.std.specs.Prelude.{ℕ, zero, suc, false, List, [], ◌∷◌, map}
 use Rattle.arm7_model.specs.declared.event.Event.{Event}
 use Rattle.arm7_model.specs.declared.event.Event.TheVariants as event
 use Rattle.arm7_model.specs.Memory.{Board}
@@ -46,3 +46,20 @@ pub data After (board : Board) : State → ℕ → List Input → List (List Acc
 abbrev pub EachStep : (List Access → Type 0) → List (List Access) → Type 0
 EachStep P [] = Unit {0}
 EachStep P (accesses ∷ rest) = P accesses × EachStep P rest
+
+-- ---- the steps one by one
+
+-- each is the step behind those before it, from s on, over what it is given, and counts
+abbrev pub AreSteps : Board → State → List Input → List Stepped → Type 0
+AreSteps board s inputs [] = Unit {0}
+AreSteps board s inputs (x ∷ xs) =
+    Step board s (first_of_inputs inputs).lines (first_of_inputs inputs).answers x
+    × IsCounted x.event × AreSteps board x.state (later_inputs inputs) xs
+
+-- the state behind them, and their accesses
+abbrev pub behind : State → List Stepped → State
+behind s [] = s
+behind s (x ∷ xs) = behind x.state xs
+
+abbrev pub accesses_of : List Stepped → List (List Access)
+accesses_of steps = map (λ x. x.accesses) steps

@@ -7,7 +7,7 @@ use Rattle.arm7_model.specs.Accesses.{Access}
 use Rattle.arm7_model.specs.Memory.{Board, Bytes}
 use Rattle.arm7_model.specs.Outcomes.{Stepped}
 use Rattle.arm7_model.specs.Registers.{State as Whole}
-use Rattle.arm7_model.specs.Runs.{EachStep, IsCounted}
+use Rattle.arm7_model.specs.Runs.{AreSteps, EachStep, IsCounted, accesses_of, behind}
 use Rattle.arm7_model.specs.Step.{Levels, Step, fetched}
 use Rattle.arm7_bus.specs.Buses.{after_tick}
 use Rattle.arm7_bus.specs.Seats.{lines_up}
@@ -20,13 +20,13 @@ use Rattle.arm7_transfers.proofs.ReadyLemmas.{board-same, places-tick, ready-tic
 use Rattle.arm7_core.specs.Machines.{Ends, IsStep, IsStepFrom, levels}
 use Rattle.arm7_run.specs.Runs.{GoesOn, Leads, goes, stays}
 use Rattle.run_laws.specs.Laws.{BusRunsAreRuns, RunsAreBusRuns}
-use Rattle.run_laws.specs.Steps.{AreSteps, IsRunOf, Print, StoresAreUsed, accesses_of, behind, given_by, left_by}
+use Rattle.run_laws.specs.Steps.{IsRunOf, Print, StoresAreUsed, given_by, left_by}
 use Rattle.run_laws.proofs.ServedMemory.{board-served, frames-used, ready-served, serves, used-as}
 use Rattle.run_laws.proofs.StepAdded.{step-adds}
 
 -- ---- time and the board
 
-board-tick : (s : State) → board_of (after_tick s) ≡ board_of s
+pub board-tick : (s : State) → board_of (after_tick s) ≡ board_of s
 board-tick s = board-same s (after_tick s) (places-tick s)
 
 -- a bus behind one more step

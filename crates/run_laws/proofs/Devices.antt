@@ -69,11 +69,11 @@ write-left s a width v e = go (bank_has s.contents.banks a (bytes_in width)) (is
 -- ---- the accesses of a step
 
 -- no address of the accesses is a device's
-abbrev AreOff : List Seat → List Access → Type 0
+abbrev pub AreOff : List Seat → List Access → Type 0
 AreOff seats [] = Unit {0}
 AreOff seats (x ∷ xs) = (seats_have seats (address x) ≡ false) × AreOff seats xs
 
-off-board : (s : State) (xs : List Access) → AreOffDevices (board_of s) xs → AreOff s.devices xs
+pub off-board : (s : State) (xs : List Access) → AreOffDevices (board_of s) xs → AreOff s.devices xs
 unfolding board_of
 off-board s [] h = tt
 off-board s (x ∷ xs) h = (h.0, off-board s xs h.1)
@@ -102,17 +102,21 @@ untouched s (Store a width v ∷ rest) off =
     let p = behind-one s (after_write s a width v) rest kept (untouched (after_write s a width v) rest) off.1 in
     (p.0, p.1 ∙ kept)
 
+-- a fetch alone
+pub one-read : (s : State) (a : ℕ) (width : Width) (rest : List Access) → AreOff s.devices (Fetch a width ∷ rest) → (after_read s a width).devices ≡ s.devices
+one-read s a width rest off = read-left s a width (none-at s.devices a (bytes_in width) (some-bytes width) off.0)
+
 -- ---- all steps
 
 touches-ticked : (ds : List Seat) → touches_of (map seat_ticked ds) ≡ touches_of ds
 touches-ticked [] = refl
 touches-ticked (d ∷ ds) = ap (λ (l : List ℕ). d.touches ∷ l) (touches-ticked ds)
 
-touches-kept : (n : ℕ) (ds : List Seat) → touches_of (ticked_for n ds) ≡ touches_of ds
+pub touches-kept : (n : ℕ) (ds : List Seat) → touches_of (ticked_for n ds) ≡ touches_of ds
 touches-kept zero ds = refl
 touches-kept (suc n) ds = touches-kept n (map seat_ticked ds) ∙ touches-ticked ds
 
-each-board : (b c : Board) (xs : List (List Access)) → b ≡ c → EachStep (AreOffDevices b) xs → EachStep (AreOffDevices c) xs
+pub each-board : (b c : Board) (xs : List (List Access)) → b ≡ c → EachStep (AreOffDevices b) xs → EachStep (AreOffDevices c) xs
 each-board b c xs e h = subst (λ (x : Board). EachStep (AreOffDevices x) xs) e h
 
 left : (s : State) (xs : List (List Access)) → EachStep (AreOffDevices (board_of s)) xs

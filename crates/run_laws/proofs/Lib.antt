@@ -3,8 +3,8 @@ pub mod ArmAdded
 pub mod Boards
 pub mod BusRuns
 pub mod Devices
+pub mod MadeSteps
 pub mod OneStep
 pub mod ServedMemory
 pub mod StepAdded
 pub mod ThumbAdded
-pub mod Traces

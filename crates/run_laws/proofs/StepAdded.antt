@@ -1,5 +1,5 @@
 -- What a step adds to its fetch.
-use Rattle.std.proofs.Common.{◌≡◌, ℕ, Bool, true, false, List, [], ◌∷◌, Option, Some, None, refl, ap, ◌∙◌}
+use Rattle.std.proofs.Common.{◌≡◌, ℕ, Bool, true, false, List, [], ◌∷◌, Option, Some, None, refl, ap, ◌∙◌, sym}
 use Rattle.sdt_word.specs.Codes.{bytes_in}
 use Rattle.arm7_model.specs.declared.state.ArmState.{ArmState}
 use Rattle.arm7_model.specs.declared.event.Exception.{Exception}
@@ -24,6 +24,7 @@ pub record StepAdds (board : Board) (s : Whole) (lines : Levels) (i : Instructio
   pub accesses : (answers : List ℕ) → (fetches board s lines ≡ true → fetched board s answers ≡ word) → (stepped board s lines answers i).accesses ≡ made
   pub memory : (answers : List ℕ) → (fetches board s lines ≡ true → fetched board s answers ≡ word) → (stepped board s lines answers i).state.memory ≡ moved board s.memory made
   pub sound : AreSound board made
+  pub none : fetches board s lines ≡ false → made ≡ []
   pub first : fetches board s lines ≡ true → (rest : List Access) × (made ≡ Fetch (register s.core 15) (fetch_width (is_thumb s.core.cpsr)) ∷ rest)
 
 module _ (board : Board) (s : Whole) (lines : Levels) (i : Instruction) (word : ℕ) where
@@ -50,6 +51,7 @@ module _ (board : Board) (s : Whole) (lines : Levels) (i : Instruction) (word : 
     accesses = λ answers f. h answers;
     memory = λ answers f. k answers;
     sound = tt;
+    none = λ f. refl;
     first = λ f. absurd (n f);
   }
 
@@ -76,5 +78,6 @@ module _ (board : Board) (s : Whole) (lines : Levels) (i : Instruction) (word : 
             let is = executed-is answers (f (rw (n, e, d) refl)) in
             rw (n, e, d) (ap (λ (t : Stepped). t.state.memory) is ∙ part.memory (left answers).answers);
         sound = part.sound;
+        none = λ f. absurd (never (sym (rw (n, e, d) at f)));
         first = λ f. (part.made, refl);
       }

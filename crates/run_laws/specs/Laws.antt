@@ -1,43 +1,21 @@
 -- The laws of runs, as the empty public functions state them. This project's.
 use Rattle.std.specs.Prelude.{◌≡◌, ℕ, ◌+◌, List, ◌++◌, drop, length}
+use Rattle.sdt_fault.specs.declared.answer.Stop.{Stop}
 use Rattle.arm7_model.specs.declared.state.ArmState.{ArmState}
 use Rattle.arm7_model.specs.declared.event.Event.{Event}
 use Rattle.arm7_model.specs.Accesses.{Access}
 use Rattle.arm7_model.specs.Memory.{Board}
 use Rattle.arm7_model.specs.Outcomes.{Stepped}
 use Rattle.arm7_model.specs.Registers.{IsValid, State as Whole}
-use Rattle.arm7_model.specs.Runs.{After, EachStep, Input}
+use Rattle.arm7_model.specs.Runs.{AreSteps, EachStep, accesses_of}
 use Rattle.arm7_bus.specs.States.{State}
 use Rattle.arm7_core.specs.Machines.{IsStep}
 use Rattle.arm7_transfers.specs.Boards.{board_of, over}
 use Rattle.arm7_transfers.specs.Ready.{IsReady}
-use Rattle.arm7_run.specs.Runs.{Leads}
+use Rattle.arm7_run.specs.Runs.{Leads, Runs}
 use Rattle.run_laws.specs.Boards.{IsBoard}
 use Rattle.run_laws.specs.Devices.{AreOffDevices, lines_for, ticked_for, touches_of}
-use Rattle.run_laws.specs.Steps.{AreSteps, IsRunOf, Print, StoresAreUsed, accesses_of, behind, given_by, left_by}
-
--- ---- runs of the model
-
--- a run splits behind each of its steps
-abbrev pub RunsSplit : Type 0
-RunsSplit =
-    (board : Board) (s u : Whole) (n k : ℕ) (inputs : List Input) (xs : List (List Access)) → After board s (n + k) inputs xs u
-    → (t : Whole) × (ys : List (List Access)) × (zs : List (List Access))
-    × After board s n inputs ys t × After board t k (drop n inputs) zs u × (xs ≡ ys ++ zs)
-
--- it is a list of steps, which show the states and events between, and such a list is a run
-abbrev pub RunsShow : Type 0
-RunsShow =
-    (board : Board) (s t : Whole) (n : ℕ) (inputs : List Input) (xs : List (List Access)) → After board s n inputs xs t
-    → (steps : List Stepped) × AreSteps board s inputs steps
-    × (length steps ≡ n) × (accesses_of steps ≡ xs) × (behind s steps ≡ t)
-
-abbrev pub StepsRun : Type 0
-StepsRun =
-    (board : Board) (s : Whole) (inputs : List Input) (steps : List Stepped) → AreSteps board s inputs steps
-    → After board s (length steps) inputs (accesses_of steps) (behind s steps)
-
--- ---- runs over a bus
+use Rattle.run_laws.specs.Steps.{AreMade, IsRunOf, Print, StoresAreUsed, given_by, left_by, steps_made}
 
 -- registers and a bus have at most one step
 abbrev pub BusStepIsOne : Type 0
@@ -71,3 +49,13 @@ DevicesAreLeft =
     → (given_by s xs ≡ lines_for (length xs) s.devices)
     × ((left_by s xs).devices ≡ ticked_for (length xs) s.devices)
     × (touches_of (left_by s xs).devices ≡ touches_of s.devices)
+
+-- a run whose steps, with a last one that doesn't count, access no device: it leaves devices as time alone makes them, with
+-- their counts of accesses
+abbrev pub RunLeavesDevices : Type 0
+RunLeavesDevices =
+    (most : ℕ) (core : ArmState) (s : State) (why : Stop) (made : ℕ) (text : List ℕ) (core' : ArmState) (s' : State) → IsReady s
+    → Runs most core s why made text core' s'
+    → (steps : List Stepped) × (length steps ≡ steps_made why made) × AreMade core s steps core' s'
+    × (EachStep (AreOffDevices (board_of s)) (accesses_of steps)
+    → (s'.devices ≡ ticked_for (steps_made why made) s.devices) × (touches_of s'.devices ≡ touches_of s.devices))

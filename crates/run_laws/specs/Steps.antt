@@ -1,41 +1,22 @@
--- The steps of a run one by one, and the same over a bus, which gives each step the lines of its devices' ticks and their
--- answers to its accesses. This project's.
-use Rattle.std.specs.Prelude.{◌≡◌, ℕ, Bool, true, List, [], ◌∷◌, ◌++◌, length, map}
+-- Steps over a bus, which gives each the lines of its devices' ticks and their answers to its accesses. This project's.
+use Rattle.std.specs.Prelude.{◌≡◌, ℕ, ◌+◌, Bool, true, List, [], ◌∷◌, ◌++◌, length}
+use Rattle.sdt_fault.specs.declared.answer.Stop.{Stop}
+use Rattle.sdt_fault.specs.declared.answer.Stop.TheVariants as stop
 use Rattle.arm7_model.specs.declared.state.ArmState.{ArmState}
+use Rattle.arm7_model.specs.declared.event.Event.{Event}
 use Rattle.arm7_model.specs.Accesses.{Access}
-use Rattle.arm7_model.specs.Memory.{Board}
 use Rattle.arm7_model.specs.Outcomes.{Stepped}
-use Rattle.arm7_model.specs.Registers.{State as Whole}
-use Rattle.arm7_model.specs.Runs.{Input, IsCounted, first_of_inputs, later_inputs}
+use Rattle.arm7_model.specs.Runs.{AreSteps, Input, accesses_of, behind}
 use Rattle.arm7_model.specs.Step.{Step}
 use Rattle.arm7_bus.specs.Buses.{after_tick}
 use Rattle.arm7_bus.specs.Paging.{page_used_in}
 use Rattle.arm7_bus.specs.Seats.{lines_up}
 use Rattle.arm7_bus.specs.States.{State, Contents}
-use Rattle.arm7_core.specs.Machines.{levels}
+use Rattle.arm7_core.specs.Machines.{Ends, levels}
 use Rattle.arm7_transfers.specs.Boards.{board_of, over}
-use Rattle.arm7_transfers.specs.Frames.{stored_to}
+use Rattle.arm7_transfers.specs.Frames.{has_frames, stored_to}
 use Rattle.arm7_transfers.specs.Served.{answers_to, served}
 use Rattle.arm7_run.specs.Runs.{GoesOn}
-
--- ---- steps
-
--- each is the step behind those before it, from s on, over what it is given, and counts
-abbrev pub AreSteps : Board → Whole → List Input → List Stepped → Type 0
-AreSteps board s inputs [] = Unit {0}
-AreSteps board s inputs (x ∷ xs) =
-    Step board s (first_of_inputs inputs).lines (first_of_inputs inputs).answers x
-    × IsCounted x.event × AreSteps board x.state (later_inputs inputs) xs
-
--- the state behind them, and their accesses
-abbrev pub behind : Whole → List Stepped → Whole
-behind s [] = s
-behind s (x ∷ xs) = behind x.state xs
-
-abbrev pub accesses_of : List Stepped → List (List Access)
-accesses_of steps = map (λ x. x.accesses) steps
-
--- ---- steps over a bus
 
 -- what a bus gives to steps that make these accesses
 abbrev pub given_by : State → List (List Access) → List Input
@@ -65,6 +46,25 @@ pub record IsRunOf (core : ArmState) (s : State) (n : ℕ) (text : List ℕ) (co
   pub print : Print s steps text
   pub state : behind (over core s) steps ≡ over core' s'
   pub bus : s' ≡ left_by s (accesses_of steps)
+
+-- ---- the steps that a run made
+
+-- the model's step x, with the devices' own answers, and how it ends over the bus
+pub record IsStepOf (core : ArmState) (s : State) (x : Stepped) (e : Event) (core' : ArmState) (s' : State) : Type 0 where
+  pub step : Step (board_of s) (over core s) (levels (lines_up s.devices)) (answers_to s x.accesses) x
+  pub ends : Ends (has_frames s x.accesses) core s x e core' s'
+
+-- these steps, one behind the other, lead to registers and a bus
+abbrev pub AreMade : ArmState → State → List Stepped → ArmState → State → Type 0
+AreMade core s [] core' s' = (core' ≡ core) × (s' ≡ s)
+AreMade core s (x ∷ xs) core' s' =
+    (e : Event) × (core1 : ArmState) × (s1 : State) × IsStepOf core (after_tick s) x e core1 s1 × AreMade core1 s1 xs core' s'
+
+-- how many steps a run made, by its stop and those that count: one more where the last doesn't count
+abbrev pub steps_made : Stop → ℕ → ℕ
+steps_made (stop.Unpredictable a w) counted = counted + 1
+steps_made (stop.NoFrame a) counted = counted + 1
+steps_made other counted = counted
 
 -- ---- stores
 

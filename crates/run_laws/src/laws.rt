@@ -1,23 +1,8 @@
 //! The laws. Their calls do nothing; their contracts are the laws.
 
-ghost use Rattle.run_laws.specs.Laws.{BoardIsOne, BusRunsAreRuns, BusStepIsOne, DevicesAreLeft, RunsAreBusRuns, RunsShow, RunsSplit, StepsRun};
+ghost use Rattle.run_laws.specs.Laws.{BoardIsOne, BusRunsAreRuns, BusStepIsOne, DevicesAreLeft, RunLeavesDevices, RunsAreBusRuns};
 
 use arm7_model::step_is_one;
-
-/// A run splits behind each of its steps.
-pub fn runs_split()
-    ensures { RunsSplit }
-{}
-
-/// A run shows the states and events between.
-pub fn runs_show()
-    ensures { RunsShow }
-{}
-
-/// Steps one behind the other are a run.
-pub fn steps_run()
-    ensures { StepsRun }
-{}
 
 /// Registers and a bus have at most one step.
 pub fn bus_step_is_one()
@@ -44,4 +29,9 @@ pub fn runs_are_bus_runs()
 /// Steps that access no device leave the counts of accesses of all devices.
 pub fn devices_are_left()
     ensures { DevicesAreLeft }
+{}
+
+/// A run whose steps access no device leaves the counts of accesses of all devices.
+pub fn run_leaves_devices()
+    ensures { RunLeavesDevices }
 {}
