@@ -1,8 +1,10 @@
 -- Areas that are assigned by name are the areas of those names.
 use Rattle.std.proofs.Common.{◌≡◌, ℕ, zero, suc, ◌+◌, Bool, true, false, ◌==◌, if◌then◌else◌, List, [], ◌∷◌, ◌++◌, length, map, refl, sym, ap, subst, ◌∙◌, arith, Option, Some, None, Result, Ok, Err}
-use Rattle.std.specs.Prelude.{slice_get}
+use Rattle.std.specs.Prelude.{slice_get, IfOk}
 use Rattle.std.specs.List.{cons_option, filter_map, AllByRecursion}
 use Rattle.base_lemmas.proofs.BaseLemmas.{all_append}
+use Rattle.sdt_fault.specs.declared.answer.Fault.{Fault}
+use Rattle.chunk_file.specs.Reading.{Gives}
 use Rattle.sdt_fault.specs.declared.refusal.Refusal.{Refusal}
 use Rattle.aof_object.specs.declared.records.Area.{Area}
 use Rattle.aof_object.specs.declared.records.Object.{Object}
@@ -114,10 +116,14 @@ unless_refused : {A : Type 0} (r : Option Refusal) (x y : A) → refused_or r x 
 unless_refused None x y h = (refl, cc)
 unless_refused (Some r) x y h = absurd cc
 
-pub are_assigned : (k : Kind) (os : List (Named Object)) (a : Assigned) → assignment_of k os ≡ Ok a → AreAssigned k (items_in os) (map (filter_map (item_at os)) a.regions)
+are_assigned : (k : Kind) (os : List (Named Object)) (a : Assigned) → assignment_of k os ≡ Ok a → AreAssigned k (items_in os) (map (filter_map (item_at os)) a.regions)
 are_assigned k os a h =
     let parts = unless_refused (assignment_refusal (report_name os) (offers_of k) (items_in os)) _ a h in
     record {
       all = λ name. none_refused (report_name os) name (offers_of k) (items_in os) parts.0;
       each = ap (λ (b : Assigned). map (filter_map (item_at os)) b.regions) (sym parts.1) ∙ lists_back os (offers_of k) 0 (length (described_regions k));
     }
+
+pub given_assigned : (k : Kind) (os : List (Named Object)) (r : Result Assigned Fault) → Gives r (assignment_of k os) → IfOk r (λ a. AreAssigned k (items_in os) (map (filter_map (item_at os)) a.regions))
+given_assigned k os (Ok a) h = are_assigned k os a h
+given_assigned k os (Err f) h = tt

@@ -47,7 +47,6 @@ fn list_of(alloc: Global, kept: &[Kept], region: usize) -> Result<List<AreaName>
 }
 
 /// Those of so many regions.
-#[tactic(auto, using(crate::proofs::KeepingLemmas::lists_step))]
 pub fn lists_of_regions(
     alloc: Global,
     kept: &[Kept],
