@@ -10,12 +10,13 @@ use Rattle.aof_object.specs.declared.records.Area.{Area}
 use Rattle.aof_object.specs.declared.records.Object.{Object}
 use Rattle.link_model.specs.declared.placing.Assigned.{Assigned}
 use Rattle.link_model.specs.declared.selection.Named.{Named}
+use Rattle.link_model.specs.Options.{refused_or}
 use Rattle.place_model.specs.declared.scatter.Kind.{Kind}
 use Rattle.place_model.specs.Items.{Item}
 use Rattle.place_model.specs.Assignment.{Offer, Found, Nowhere, Within, Unclear, Kept, found, best, kept_by, may_precede, put_in, in_order, refused, areas_of, lists_from, offers_of, described_regions, assignment_refusal, AreAssigned}
 use Rattle.link_items.specs.LinkedItems.{item_at, item_of, items_of, items_from, items_in, name_of}
 use Rattle.link_assign.specs.Keeping.{report_name}
-use Rattle.link_assign.specs.Assigning.{assignment_of, named, refused_or}
+use Rattle.link_assign.specs.Assigning.{assignment_of, named}
 
 abbrev IsKnown : List (Named Object) → Item → Type 0
 IsKnown os i = item_at os (name_of i) ≡ Some i

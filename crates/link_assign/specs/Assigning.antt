@@ -1,12 +1,13 @@
 -- The regions of the areas of linked objects: the first area without a region or with two, in input order, or
 -- else the areas of each region in their order (SDT 2.50 Reference Guide, scatter loading; the order is this
 -- project's).
-use Rattle.std.specs.Prelude.{ℕ, zero, suc, List, [], ◌∷◌, length, map, Option, Some, None, Result, Ok, Err}
+use Rattle.std.specs.Prelude.{ℕ, zero, suc, List, [], ◌∷◌, length, map, Result, Ok}
 use Rattle.sdt_fault.specs.declared.refusal.Refusal.{Refusal}
 use Rattle.aof_object.specs.declared.records.Object.{Object}
 use Rattle.link_model.specs.declared.placing.AreaName.{AreaName}
 use Rattle.link_model.specs.declared.placing.Assigned.{Assigned}
 use Rattle.link_model.specs.declared.selection.Named.{Named}
+use Rattle.link_model.specs.Options.{refused_or}
 use Rattle.place_model.specs.declared.scatter.Kind.{Kind}
 use Rattle.place_model.specs.Items.{Item}
 use Rattle.place_model.specs.Assignment.{Offer, assignment_refusal, described_regions, in_order, lists_from, offers_of}
@@ -17,10 +18,6 @@ use Rattle.link_assign.specs.Keeping.{report_name}
 
 abbrev pub named : List (List Item) → List (List AreaName)
 named lists = map (map name_of) lists
-
-abbrev pub refused_or : {A : Type 0} → Option Refusal → A → Result A Refusal
-refused_or None x = Ok x
-refused_or (Some r) x = Err r
 
 -- with these selections of so many regions
 abbrev pub assigned_by : List Offer → ℕ → List (Named Object) → Result Assigned Refusal

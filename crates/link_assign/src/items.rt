@@ -6,6 +6,7 @@ ghost use Rattle.link_items.specs.LinkedItems.{items_in, items_of};
 ghost use Rattle.link_assign.specs.Shown.{shown_item};
 
 use aof_object::{Area, Object};
+use link_items::numbered;
 use link_model::{AreaName, Named};
 use sdt_fault::NoMemory;
 use std::alloc::Global;
@@ -16,16 +17,6 @@ pub struct Item<'a> {
     pub name: AreaName,
     pub home: &'a [u8],
     pub area: &'a Area,
-}
-
-/// The number of an object or area. No memory holds so many that they need more bits.
-fn numbered(place: usize) -> Result<u32, NoMemory>
-    ensures { IfOk result (λ number. number ≡ place) }
-{
-    if place > u32::MAX as usize {
-        return Err(NoMemory);
-    }
-    Ok(place as u32)
 }
 
 fn push_item<'a>(
