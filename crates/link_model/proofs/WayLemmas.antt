@@ -88,7 +88,7 @@ home_same base_at thumb base from d m n (Some h) (Some g) (home, state, number) 
     offset_same o = let e = number in omega arith
 
 -- a branch with one relocation
-alone_way : (base : ℕ) (values : Values) (bytes : List ℕ) (thumb : Bool) (r : Reloc) → kind_of r ≡ Branch thumb → is_relative r ≡ true → is_by_symbol r ≡ true
+pub alone_way : (base : ℕ) (values : Values) (bytes : List ℕ) (thumb : Bool) (r : Reloc) → kind_of r ≡ Branch thumb → is_relative r ≡ true → is_by_symbol r ≡ true
     → way_of base values bytes (field_of r) thumb (r ∷ [])
     ≡ way_home thumb (total (base + ((field_of r).place + ahead thumb + span thumb (number_in bytes (field_of r)))) 0 (middle thumb))
     ((values.symbol (number_named r)).number + 0 + 0) (base + 0) (values.symbol (number_named r)) (values.symbol (number_named r)).home

@@ -4,7 +4,7 @@
 use sdt_fault::{List, Text};
 
 /// An area of a linked object, both by their numbers counted from 0.
-#[derive(Clone, Copy, PartialEq, Eq, Debug)]
+#[derive(Clone, Copy, PartialEq, Eq, Hash, Debug)]
 pub struct AreaName {
     pub object: u32,
     pub area: u32,
@@ -27,7 +27,7 @@ pub struct PlacedArea {
 
 /// A piece of code in a region by which branches there reach a target of the other state. The target is an
 /// offset in bytes, counted modulo 2^32, from the start of an area; `thumb` is the target's state.
-#[derive(Clone, Copy, PartialEq, Eq, Debug)]
+#[derive(Clone, Copy, PartialEq, Eq, Hash, Debug)]
 pub struct Veneer {
     pub region: u32,
     pub area: AreaName,

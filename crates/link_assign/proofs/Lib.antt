@@ -1,0 +1,4 @@
+mod ContentLemmas
+mod FindingLemmas
+mod KeepingLemmas
+mod OrderingLemmas

@@ -1,0 +1,5 @@
+pub mod Shown
+pub mod Finding
+pub mod Keeping
+pub mod Ordering
+pub mod Assigning

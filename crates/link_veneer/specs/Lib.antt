@@ -1,0 +1,6 @@
+pub mod Index
+pub mod Fields
+pub mod Targets
+pub mod Needing
+pub mod Interworking
+pub mod Planning

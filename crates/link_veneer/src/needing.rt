@@ -1,0 +1,133 @@
+//! The veneers that relocations need.
+
+ghost use Rattle.std.specs.Prelude.{◌≡◌, ◌+◌, ◌-◌, ◌*◌, ◌%◌, ◌^◌, ◌<◌, ◌≤◌, ◌&&◌, length, if◌then◌else◌, Some, OnOk, IfSome};
+ghost use Rattle.sdt_word.specs.Bytes.{word_in};
+ghost use Rattle.patch_model.specs.Fields.{field_of};
+ghost use Rattle.patch_model.specs.Patched.{ahead, is_branch as reads_as_branch, middle, span};
+ghost use Rattle.link_model.specs.Members.{link_of, objects_in};
+ghost use Rattle.link_model.specs.Veneers.{has_branch, needed_by, needed_in, IsIn};
+ghost use Rattle.link_veneer.specs.Fields.{AreMarks};
+ghost use Rattle.link_veneer.specs.Index.{IsIndexOf};
+ghost use Rattle.link_veneer.specs.Needing.{led_from, veneer_to, with_all, with_one};
+
+use crate::definitions::Defined;
+use crate::fields::{is_alone, is_branch, marks_of, place};
+use crate::targets::{Target, target};
+use aof_object::{Area, Reloc};
+use indexmap::{IndexMap, IndexSet};
+use link_model::{AreaName, Linked, Veneer};
+use sdt_fault::NoMemory;
+use sdt_word::word_at;
+use std::alloc::Global;
+
+/// Whether the word is B or BL or, in Thumb state, the pair of BL.
+fn is_branch_word(thumb: bool, word: u32) -> bool
+    ensures { result ≡ reads_as_branch thumb word }
+{
+    if thumb {
+        return word / 0x800 % 32 == 30 && word / 0x0800_0000 % 32 == 31;
+    }
+    word / 0x1000_0000 % 16 < 15 && word / 0x0200_0000 % 8 == 5
+}
+
+/// How far behind the branch its target is, for a branch at an address, counted from 2^32 below.
+fn reach(thumb: bool, word: u32) -> u64
+    ensures value { result ≡ ahead thumb + span thumb word + (2 ^ 32 - middle thumb) }
+    ensures bound { result < 2 ^ 33 }
+{
+    if thumb {
+        let low = (word % 0x800 * 0x800 + word / 0x1_0000 % 0x800 + 0x20_0000) % 0x40_0000;
+        return 4 + (low * 2) as u64 + 0xFFC0_0000;
+    }
+    let low = (word % 0x100_0000 + 0x80_0000) % 0x100_0000;
+    8 + (low * 4) as u64 + 0xFE00_0000
+}
+
+/// The veneer of a branch in a state, where it goes by one.
+fn veneer(region: u32, thumb: bool, distance: u64, to: Target) -> Option<Veneer>
+    requires { distance < 2 ^ 34 }
+    ensures { result ≡ veneer_to region thumb distance to }
+{
+    if to.thumb == thumb {
+        return None;
+    }
+    Some(Veneer {
+        region,
+        area: to.area,
+        offset: ((to.offset as u64 + distance) % 0x1_0000_0000) as u32,
+        thumb: to.thumb,
+    })
+}
+
+/// How far a branch at a place in an area leads from the area's start, where one is there.
+fn distance(bytes: &[u8], thumb: bool, at: u32) -> Option<u64>
+    ensures value { result ≡ led_from bytes.now thumb at }
+    ensures bound { IfSome result (λ d. d < 2 ^ 34) }
+{
+    if (at as usize) + 4 > bytes.len() {
+        return None;
+    }
+    let word = word_at(bytes, at as usize);
+    if !is_branch_word(thumb, word) {
+        return None;
+    }
+    Some(at as u64 + reach(thumb, word))
+}
+
+/// The veneer that a relocation of an area in a region needs.
+pub fn needed(
+    linked: &Linked,
+    index: &IndexMap<&[u8], Defined>,
+    marks: &IndexMap<u32, bool>,
+    region: u32,
+    name: AreaName,
+    area: &Area,
+    reloc: Reloc,
+) -> Option<Veneer>
+    requires index { IsIndexOf linked.now.definitions index.now }
+    requires marks { AreMarks area.now.relocs marks.now }
+    requires there { IsIn area.now.relocs reloc }
+    ensures { result ≡ needed_by (link_of linked.now) region name area.now reloc }
+{
+    if !is_branch(reloc) {
+        return None;
+    }
+    if !is_alone(marks, reloc) {
+        return None;
+    }
+    let thumb = reloc.offset % 2 == 1;
+    let far = distance(area.bytes.as_slice(), thumb, place(reloc))?;
+    let to = target(linked, index, name.object, reloc.word % 0x100_0000)?;
+    veneer(region, thumb, far, to)
+}
+
+/// Adds a veneer behind the others, unless it is among them.
+pub fn add_one(needs: &mut IndexSet<Veneer>, need: Veneer) -> Result<(), NoMemory>
+    ensures { OnOk result (needs.new.keys ≡ with_one needs.old.keys need) }
+{
+    needs.insert(need)?;
+    Ok(())
+}
+
+/// Adds the veneers that an area in a region needs.
+pub fn add_area(
+    alloc: Global,
+    linked: &Linked,
+    index: &IndexMap<&[u8], Defined>,
+    needs: &mut IndexSet<Veneer>,
+    region: u32,
+    name: AreaName,
+    area: &Area,
+) -> Result<(), NoMemory>
+    requires { IsIndexOf linked.now.definitions index.now }
+    ensures { OnOk result (needs.new.keys ≡ with_all needs.old.keys (needed_in (link_of linked.now) region name (Some area.now))) }
+{
+    let relocs = area.relocs.as_slice();
+    let marks = marks_of(alloc, relocs)?;
+    for reloc in relocs {
+        if let Some(need) = needed(linked, index, &marks, region, name, area, *reloc) {
+            add_one(needs, need)?;
+        }
+    }
+    Ok(())
+}
