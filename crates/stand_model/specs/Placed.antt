@@ -58,3 +58,10 @@ ShowsArea view o area a values veneers = ShowsBy (bit a.attributes 12 == 1) view
 pub record ShowsObject (view : View) (o : Object) (values : Values) (area_at : ℕ → ℕ → ℕ) (region : ℕ → Range32) (veneers : ℕ → Veneers) : Type 0 where
   pub areas : (area : ℕ) (a : Area) → slice_get o.areas area ≡ Some a → ShowsArea view o area a values (veneers area)
   pub veneers_stand : (area : ℕ) → VeneersStand view (region area) area_at (veneers area)
+
+-- wherever the object's areas and symbols are placed, this holds of their values and of each view of memory that shows
+-- the object and the veneers that its branches go by
+abbrev pub HoldsWherePlaced : (Values → View → (ℕ → Range32) → Type 0) → Object → Type 0
+HoldsWherePlaced P o =
+    (own : ℕ) (values : Values) (area_at : ℕ → ℕ → ℕ) (view : View) (region : ℕ → Range32) (veneers : ℕ → Veneers)
+    → IsPlaced own o values area_at → ShowsObject view o values area_at region veneers → P values view region

@@ -1,0 +1,4 @@
+pub mod ListLemmas
+pub mod ItemLemmas
+pub mod RegionLemmas
+pub mod PlacedLemmas
