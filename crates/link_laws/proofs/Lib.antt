@@ -2,3 +2,4 @@ pub mod ListLemmas
 pub mod ItemLemmas
 pub mod RegionLemmas
 pub mod PlacedLemmas
+pub mod ShownLemmas

@@ -174,7 +174,7 @@ module _ (k : Kind) (ram : Option (List Range32)) (l : Linked) (regions : List (
   shaped : (n : ℕ) (r : Planned) → slice_get rs n ≡ Some r → IsShaped k c words r
   shaped n r at = all_at (IsShaped k c words) rs n r (all_shaped k c words) at
 
-  room : (n : ℕ) (r : Planned) → slice_get rs n ≡ Some r → end_of r ≤ 2 ^ 32
+  pub room : (n : ℕ) (r : Planned) → slice_get rs n ≡ Some r → end_of r ≤ 2 ^ 32
   room n r at = all_at (λ q. q.base + execution_size q ≤ 2 ^ 32) rs n r (rooms k ram p h.accepted) at
 
   -- ---- the things of a region
@@ -183,12 +183,12 @@ module _ (k : Kind) (ram : Option (List Range32)) (l : Linked) (regions : List (
   loaded_areas n =
       all_weaker (IsOwn os) (λ i. not (is_zero_initialised i) ≡ true → IsLoaded os (AnArea i)) (λ i own e. (own, not_true (is_zero_initialised i) e)) (areas_in c n) (region_own n)
 
-  loaded : (n : ℕ) (r : Planned) → slice_get rs n ≡ Some r → AllByRecursion (IsWithin (IsLoaded os) r.base (zero_base_of r)) (stood r.origin r.base r.things)
+  pub loaded : (n : ℕ) (r : Planned) → slice_get rs n ≡ Some r → AllByRecursion (IsWithin (IsLoaded os) r.base (zero_base_of r)) (stood r.origin r.base r.things)
   loaded n r at =
       let things = things_all (IsLoaded os) k c words r (shaped n r at) tt tt (λ t b. tt) (loaded_areas r.number) in
       stood_within (IsLoaded os) r.origin r.base r.things r.base (zero_base_of r) (omega arith) (omega arith) things
 
-  cleared : (n : ℕ) (r : Planned) → slice_get rs n ≡ Some r → AllByRecursion (IsWithin (IsCleared os) (zero_base_of r) (end_of r)) (stood r.origin (zero_base_of r) r.zeros)
+  pub cleared : (n : ℕ) (r : Planned) → slice_get rs n ≡ Some r → AllByRecursion (IsWithin (IsCleared os) (zero_base_of r) (end_of r)) (stood r.origin (zero_base_of r) r.zeros)
   cleared n r at =
       let areas = all_weaker (IsOwn os) (λ i. is_zero_initialised i ≡ true → IsCleared os (AnArea i)) (λ i own e. (own, e)) (areas_in c r.number) (region_own r.number) in
       let zeros = zeros_all (IsCleared os) k c words r (shaped n r at) areas in
@@ -216,7 +216,7 @@ module _ (k : Kind) (ram : Option (List Range32)) (l : Linked) (regions : List (
     names_it : is_area own area (AnArea item) ≡ true
     names_it = let e : (own == own) ≡ true = eq-eqb own own refl in let f : (area == area) ≡ true = eq-eqb area area refl in rw e (rw f refl)
 
-    found : IsFound p own area
+    pub found : IsFound p own area
     found =
         let t = taken k (items_in os) c.areas h.assigned item (item_there os own o area a here there) in
         let list : areas_in c t.region ≡ t.items = ap (λ (z : Option (List Item)). unwrap_or z []) t.list in
@@ -237,7 +237,7 @@ module _ (k : Kind) (ram : Option (List Range32)) (l : Linked) (regions : List (
             passes r s (in_back (stood r.origin r.base r.things) (stood r.origin (zero_base_of r) r.zeros) s at) is
 
     -- a thing of that name is that area
-    is_item : (t : Thing) → is_area own area t ≡ true → IsLoaded os t ⊎ IsCleared os t → t ≡ AnArea item
+    pub is_item : (t : Thing) → is_area own area t ≡ true → IsLoaded os t ⊎ IsCleared os t → t ≡ AnArea item
     is_item Header e x = absurd cc
     is_item (AVeneer target b) e x = absurd cc
     is_item (Startup n) e x = absurd cc
@@ -267,7 +267,7 @@ module _ (k : Kind) (ram : Option (List Range32)) (l : Linked) (regions : List (
       (all_weaker (IsWithin (IsLoaded os) r.base (zero_base_of r)) (IsSomewhere r) (λ s x. inl x) (stood r.origin r.base r.things) (loaded n r at))
       (all_weaker (IsWithin (IsCleared os) (zero_base_of r) (end_of r)) (IsSomewhere r) (λ s x. inr x) (stood r.origin (zero_base_of r) r.zeros) (cleared n r at))
 
-  thing_of : (r : Planned) (s : Stood) → IsSomewhere r s → IsLoaded os s.thing ⊎ IsCleared os s.thing
+  pub thing_of : (r : Planned) (s : Stood) → IsSomewhere r s → IsLoaded os s.thing ⊎ IsCleared os s.thing
   thing_of r s (inl x) = inl x.holds
   thing_of r s (inr x) = inr x.holds
 

@@ -1,0 +1,8 @@
+use Rattle.link_laws.proofs.ShownLemmas
+use Rattle.link_laws.proofs.laws.objects_are_shown.Goals as goal
+
+pub returns-clause-objects : goal.returns-clause-objects
+returns-clause-objects c = ShownLemmas.objects_are_shown
+
+pub returns-clause-statements : goal.returns-clause-statements
+returns-clause-statements c = ShownLemmas.statements_stand
