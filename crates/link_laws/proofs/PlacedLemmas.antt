@@ -39,7 +39,7 @@ use Rattle.link_laws.specs.Placing.{bases_of, region_with, link_plan, IsPlacedLi
 use Rattle.link_laws.specs.Laws.{ObjectsArePlaced}
 use Rattle.link_laws.proofs.ListLemmas.{in_front, in_back, any_in, found_all, IsFirstOf, first_of}
 use Rattle.link_laws.proofs.ItemLemmas.{item_there, IsTaken, taken, IsOwn, items_own, area_valid, own_whole}
-use Rattle.link_laws.proofs.RegionLemmas.{IsShaped, all_shaped, HasNumber, numbered, things_all, zeros_all, area_in, IsWithin, stood_within, stood_whole, stood_in_place}
+use Rattle.link_laws.proofs.RegionLemmas.{IsShaped, all_shaped, HasNumber, numbered, things_all, header_all, startup_all, zeros_all, area_in, IsWithin, stood_within, stood_whole, stood_in_place}
 
 -- ---- values
 
@@ -171,7 +171,7 @@ module _ (k : Kind) (ram : Option (List Range32)) (l : Linked) (regions : List (
         items = all_weaker (λ areas. AllByRecursion (IsOwn os) areas) (λ areas. AllByRecursion IsWholeItem areas) (λ areas all. all_weaker (IsOwn os) IsWholeItem (own_whole os h.valid) areas all) c.areas lists_own;
       })
 
-  shaped : (n : ℕ) (r : Planned) → slice_get rs n ≡ Some r → IsShaped k c words r
+  pub shaped : (n : ℕ) (r : Planned) → slice_get rs n ≡ Some r → IsShaped k c words r
   shaped n r at = all_at (IsShaped k c words) rs n r (all_shaped k c words) at
 
   pub room : (n : ℕ) (r : Planned) → slice_get rs n ≡ Some r → end_of r ≤ 2 ^ 32
@@ -185,7 +185,7 @@ module _ (k : Kind) (ram : Option (List Range32)) (l : Linked) (regions : List (
 
   pub loaded : (n : ℕ) (r : Planned) → slice_get rs n ≡ Some r → AllByRecursion (IsWithin (IsLoaded os) r.base (zero_base_of r)) (stood r.origin r.base r.things)
   loaded n r at =
-      let things = things_all (IsLoaded os) k c words r (shaped n r at) tt tt (λ t b. tt) (loaded_areas r.number) in
+      let things = things_all (IsLoaded os) k c words r (shaped n r at) (header_all (IsLoaded os) k r.number tt) (startup_all (IsLoaded os) k r.number words tt) (λ t b. tt) (loaded_areas r.number) in
       stood_within (IsLoaded os) r.origin r.base r.things r.base (zero_base_of r) (omega arith) (omega arith) things
 
   pub cleared : (n : ℕ) (r : Planned) → slice_get rs n ≡ Some r → AllByRecursion (IsWithin (IsCleared os) (zero_base_of r) (end_of r)) (stood r.origin (zero_base_of r) r.zeros)
@@ -200,7 +200,7 @@ module _ (k : Kind) (ram : Option (List Range32)) (l : Linked) (regions : List (
       let shape = shaped n r at in
       let origin : r.origin % 4 ≡ 0 = ap (λ (x : ℕ). x % 4) shape.origin ∙ origin_whole k h.loads in
       let whole = all_at IsWholeRegion rs n r whole_regions at in
-      let things = things_all IsWhole k c words r shape whole_header (whole_startup words) whole_veneer (all_weaker IsWholeItem (λ i. not (is_zero_initialised i) ≡ true → IsWhole (AnArea i)) (λ i w e. whole_area i w) (areas_in c r.number) own) in
+      let things = things_all IsWhole k c words r shape (header_all IsWhole k r.number whole_header) (startup_all IsWhole k r.number words (whole_startup words)) whole_veneer (all_weaker IsWholeItem (λ i. not (is_zero_initialised i) ≡ true → IsWhole (AnArea i)) (λ i w e. whole_area i w) (areas_in c r.number) own) in
       let zeros = zeros_all IsWhole k c words r shape (all_weaker IsWholeItem (λ i. is_zero_initialised i ≡ true → IsWhole (AnArea i)) (λ i w e. whole_area i w) (areas_in c r.number) own) in
       let base = whole.base in let length = whole.loaded in
       all_append (λ s. s.address % 4 ≡ 0) (stood r.origin r.base r.things) (stood r.origin (zero_base_of r) r.zeros)

@@ -93,28 +93,30 @@ all_areas P test (i ∷ items) h = go (test i) refl (all_areas P test items h.1)
     go true e rest = (h.0 e, rest)
     go false e rest = rest
 
-header_all : (P : Thing → Type 0) (k : Kind) (n : ℕ) → P Header → AllByRecursion P (header_in k n)
+pub things_all : (P : Thing → Type 0) (k : Kind) (c : Contents) (words : ℕ) (r : Planned) → IsShaped k c words r → AllByRecursion P (header_in k r.number)
+    → AllByRecursion P (startup_in k r.number words) → ((t : Home) (b : Bool) → P (AVeneer t b))
+    → AllByRecursion (λ i. not (is_zero_initialised i) ≡ true → P (AnArea i)) (areas_in c r.number) → AllByRecursion P r.things
+things_all P k c words r shape header startup veneer areas =
+    let own : List Thing = map AnArea (filter (λ i. not (is_zero_initialised i)) (areas_in c r.number)) in
+    subst (AllByRecursion P) (sym shape.things)
+    (all_append P (header_in k r.number) (own ++ (veneers_in c r.number ++ startup_in k r.number words)) header
+    (all_append P own (veneers_in c r.number ++ startup_in k r.number words) (all_areas P (λ i. not (is_zero_initialised i)) (areas_in c r.number) areas)
+    (all_append P (veneers_in c r.number) (startup_in k r.number words)
+    (all_map P (λ v. AVeneer v.target v.thumb) (filter (λ v. v.region == r.number) c.veneers) (all_indexed (λ v. P (AVeneer v.target v.thumb)) (filter (λ v. v.region == r.number) c.veneers) (λ i v h. veneer v.target v.thumb)))
+    startup)))
+
+-- what stands at the begin and at the end of the first region
+pub header_all : (P : Thing → Type 0) (k : Kind) (n : ℕ) → P Header → AllByRecursion P (header_in k n)
 header_all P (kind.Scatter s) n h = tt
 header_all P (kind.Plain base) n h = tt
 header_all P (kind.Aif base relocatable) zero h = (h, tt)
 header_all P (kind.Aif base relocatable) (suc n) h = tt
 
-startup_all : (P : Thing → Type 0) (k : Kind) (n words : ℕ) → P (Startup words) → AllByRecursion P (startup_in k n words)
+pub startup_all : (P : Thing → Type 0) (k : Kind) (n words : ℕ) → P (Startup words) → AllByRecursion P (startup_in k n words)
 startup_all P (kind.Scatter s) zero words h = (h, tt)
 startup_all P (kind.Scatter s) (suc n) words h = tt
 startup_all P (kind.Plain base) n words h = tt
 startup_all P (kind.Aif base relocatable) n words h = tt
-
-pub things_all : (P : Thing → Type 0) (k : Kind) (c : Contents) (words : ℕ) (r : Planned) → IsShaped k c words r → P Header → P (Startup words) → ((t : Home) (b : Bool) → P (AVeneer t b))
-    → AllByRecursion (λ i. not (is_zero_initialised i) ≡ true → P (AnArea i)) (areas_in c r.number) → AllByRecursion P r.things
-things_all P k c words r shape header startup veneer areas =
-    let own : List Thing = map AnArea (filter (λ i. not (is_zero_initialised i)) (areas_in c r.number)) in
-    subst (AllByRecursion P) (sym shape.things)
-    (all_append P (header_in k r.number) (own ++ (veneers_in c r.number ++ startup_in k r.number words)) (header_all P k r.number header)
-    (all_append P own (veneers_in c r.number ++ startup_in k r.number words) (all_areas P (λ i. not (is_zero_initialised i)) (areas_in c r.number) areas)
-    (all_append P (veneers_in c r.number) (startup_in k r.number words)
-    (all_map P (λ v. AVeneer v.target v.thumb) (filter (λ v. v.region == r.number) c.veneers) (all_indexed (λ v. P (AVeneer v.target v.thumb)) (filter (λ v. v.region == r.number) c.veneers) (λ i v h. veneer v.target v.thumb)))
-    (startup_all P k r.number words startup))))
 
 pub zeros_all : (P : Thing → Type 0) (k : Kind) (c : Contents) (words : ℕ) (r : Planned) → IsShaped k c words r
     → AllByRecursion (λ i. is_zero_initialised i ≡ true → P (AnArea i)) (areas_in c r.number) → AllByRecursion P r.zeros
@@ -165,3 +167,7 @@ stood_in_place origin at (x ∷ ts) t (zero, e) = let is : x ≡ t = cc in (reco
 stood_in_place origin at (x ∷ ts) t (suc i, e) =
     let (s, there, is) = stood_in_place origin (start_of origin at x + size_of x) ts t (i, e) in
     (s, in_later (record { thing = x; address = start_of origin at x }) (stood origin (start_of origin at x + size_of x) ts) s there, is)
+
+pub things_of_stood : (P : Thing → Type 0) (origin at : ℕ) (ts : List Thing) → AllByRecursion (λ s. P s.thing) (stood origin at ts) → AllByRecursion P ts
+things_of_stood P origin at [] all = tt
+things_of_stood P origin at (t ∷ ts) all = (all.0, things_of_stood P origin (start_of origin at t + size_of t) ts all.1)

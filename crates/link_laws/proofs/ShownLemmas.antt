@@ -16,7 +16,7 @@ use Rattle.boot_code.proofs.ViewLemmas.{length-zeros, get_or-zeros}
 use Rattle.byte_maps.specs.Maps.{Holds}
 use Rattle.patch_model.specs.Fields.{Home, Values}
 use Rattle.patch_model.specs.Patched.{other_state}
-use Rattle.patch_model.specs.Reaches.{View, Shows, IsVeneer, HasVeneer, VeneersStand}
+use Rattle.patch_model.specs.Reaches.{Shows, IsVeneer, HasVeneer, VeneersStand}
 use Rattle.patch_model.proofs.VeneerLemmas.{veneer_law}
 use Rattle.place_model.specs.declared.scatter.Kind.{Kind}
 use Rattle.place_model.specs.Items.{is_zero_initialised}
@@ -31,14 +31,13 @@ use Rattle.link_model.specs.declared.placing.Veneer.{Veneer}
 use Rattle.link_model.specs.declared.selection.Linked.{Linked}
 use Rattle.link_model.specs.declared.selection.Named.{Named}
 use Rattle.link_items.specs.LinkedItems.{item_of}
-use Rattle.source_model.specs.Objects.{source_of}
-use Rattle.stand_model.specs.Placed.{ShowsBy, ShowsArea, HoldsWherePlaced}
-use Rattle.stand_model.specs.Stands.{AllStand}
+use Rattle.stand_model.specs.Placed.{ShowsBy, ShowsArea, ShowsObject}
 use Rattle.link_laws.specs.Placing.{bases_of, region_with, IsRange, has_area, is_veneer, veneers_in, link_plan, IsPlacedLink, values_in, IsVeneerApplied, AreApplied}
-use Rattle.link_laws.specs.Laws.{IsShownIn, ObjectsAreShown, HoldsThere, StatementsStand}
+use Rattle.link_laws.specs.Laws.{AreRanges, RangesExist, ObjectsAreShown, StatementsStand}
 use Rattle.link_laws.proofs.ListLemmas.{found_all}
 use Rattle.link_laws.proofs.RegionLemmas.{IsWithin}
 use Rattle.link_laws.proofs.PlacedLemmas.{IsLoaded, IsCleared, room, loaded, cleared, found, is_item, objects_are_placed}
+use Rattle.link_laws.proofs.SizedLemmas.{applied_are_sized}
 
 -- ---- bytes
 
@@ -198,35 +197,25 @@ module _ (k : Kind) (ram : Option (List Range32)) (l : Linked) (regions : List (
     place_of : (area : ℕ) (r : Planned) → region_with p own area ≡ Some r → (n : ℕ) × (slice_get (regions_of p) n ≡ Some r)
     place_of area r e = (position_or_len (has_area own area) (regions_of p), found_place (has_area own area) (regions_of p) r e)
 
-    range : (area : ℕ) → (range : Range32) × IsRange (region_with p own area) range
-    range area = range_of (region_with p own area) (λ r e. let (n, at) = place_of area r e in room k ram l regions veneers h n r at)
+    object_shown : (region : ℕ → Range32) → AreRanges p own region → ShowsObject view o.value values (bases_of p) region (λ area. veneers_in (region_with p own area))
+    object_shown region is = record { areas = area_shown; veneers_stand = λ area. veneers_stand (region_with p own area) (region area) (is area) (place_of area) }
 
-    object_shown : IsShownIn p l numbers view own o.value
-    object_shown = record {
-      region = λ area. (range area).0;
-      is = λ area. (range area).1;
-      shows = record {
-        areas = area_shown;
-        veneers_stand = λ area. veneers_stand (region_with p own area) (range area).0 (range area).1 (place_of area);
-      };
-    }
+-- ---- the laws
+
+pub ranges_exist : RangesExist
+ranges_exist k ram l regions veneers h own = (λ area. (range area).0, λ area. (range area).1)
+  where
+    range : (area : ℕ) → (range : Range32) × IsRange (region_with (link_plan k l regions veneers) own area) range
+    range area =
+        range_of (region_with (link_plan k l regions veneers) own area)
+        (λ r e. room k ram l regions veneers h _ r (found_place (has_area own area) (regions_of (link_plan k l regions veneers)) r e))
 
 pub objects_are_shown : ObjectsAreShown
-objects_are_shown k ram l regions veneers numbers g header view h applied sized shown own o here = object_shown k ram l regions veneers numbers g header view h applied sized shown own o here
-
--- what holds of an object wherever it is placed holds there
-pub holds_there : (P : Values → View → (ℕ → Range32) → Type 0) (k : Kind) (ram : Option (List Range32)) (l : Linked) (regions : List (List AreaName)) (veneers : List Veneer)
-    (numbers : List ℕ → Option ℕ) (view : ByteMap) (own : ℕ) (o : Named Object) → IsPlacedLink k ram l regions veneers → slice_get l.objects own ≡ Some o
-    → IsShownIn (link_plan k l regions veneers) l numbers view own o.value → HoldsWherePlaced P o.value → HoldsThere P (link_plan k l regions veneers) l numbers view own
-holds_there P k ram l regions veneers numbers view own o h here shown always =
-    let p : Plan = link_plan k l regions veneers in
-    record {
-      region = shown.region;
-      is = shown.is;
-      holds = always own (values_in p l numbers own) (bases_of p) view shown.region (λ area. veneers_in (region_with p own area)) (objects_are_placed k ram l regions veneers numbers h own o here) shown.shows;
-    }
+objects_are_shown k ram l regions veneers numbers g header view h applied headed shown own o here =
+    object_shown k ram l regions veneers numbers g header view h applied (applied_are_sized k ram l regions veneers numbers g header h applied headed) shown own o here
 
 pub statements_stand : StatementsStand
-statements_stand k ram l regions veneers numbers g header view h applied sized shown own o here statements always =
-    holds_there (AllStand (source_of statements)) k ram l regions veneers numbers view own o h here
-    (objects_are_shown k ram l regions veneers numbers g header view h applied sized shown own o here) always
+statements_stand k ram l regions veneers numbers g header view h applied headed shown own o here region is statements always =
+    let p : Plan = link_plan k l regions veneers in
+    always own (values_in p l numbers own) (bases_of p) view region (λ area. veneers_in (region_with p own area)) (objects_are_placed k ram l regions veneers numbers h own o here)
+    (objects_are_shown k ram l regions veneers numbers g header view h applied headed shown own o here region is)

@@ -1,6 +1,6 @@
 -- Where linked objects stand by a plan: the addresses of their areas, the region of each, and the veneers by which its
 -- branches go (SDT 2.50 Reference Guide, armlink; ARM Object Format, relocation directives).
-use Rattle.std.specs.Prelude.{◌≡◌, ℕ, ◌+◌, ◌%◌, ◌^◌, Bool, true, false, not, ◌&&◌, ◌==◌, List, slice_get, unwrap_or, Option, Some, None}
+use Rattle.std.specs.Prelude.{◌≡◌, ℕ, ◌+◌, ◌%◌, ◌^◌, Bool, true, false, not, ◌&&◌, ◌==◌, List, length, slice_get, unwrap_or, Option, Some, None}
 use Rattle.std.specs.List.{find, list_any, AllByRecursion}
 use Rattle.sdt_word.specs.Numbers.{bit}
 use Rattle.sdt_word.specs.declared.ranges.Range32.{Range32}
@@ -11,6 +11,7 @@ use Rattle.patch_model.specs.Fields.{Home, Values}
 use Rattle.patch_model.specs.Patched.{other_state, Veneers, Patched}
 use Rattle.patch_model.specs.Reaches.{HasVeneer}
 use Rattle.place_model.specs.declared.scatter.Kind.{Kind}
+use Rattle.place_model.specs.declared.scatter.Kind.TheVariants as kind
 use Rattle.place_model.specs.Assignment.{description, described_regions, AreAssigned}
 use Rattle.place_model.specs.Faults.{place_refusal}
 use Rattle.place_model.specs.Laws.{IsWholeBase}
@@ -90,3 +91,8 @@ pub record AreApplied (p : Plan) (l : Linked) (numbers : List ℕ → Option ℕ
   pub areas : (own area : ℕ) (o : Named Object) (a : Area) → slice_get l.objects own ≡ Some o → slice_get o.value.areas area ≡ Some a
       → bit a.attributes 12 == 1 ≡ false → IsApplied p l numbers g own area o.value
   pub veneers : AllByRecursion (λ r. AllByRecursion (λ s. IsVeneerApplied p g r s.address s.thing) (stood r.origin r.base r.things)) (regions_of p)
+
+-- an AIF has a header
+abbrev pub IsHeaderOf : Kind → List ℕ → Type 0
+IsHeaderOf (kind.Aif base relocatable) header = length header ≡ 128
+IsHeaderOf _ header = Unit {0}
