@@ -1,12 +1,14 @@
 -- The files of a plan without a refusal.
-use Rattle.std.proofs.Common.{◌≡◌, ℕ, suc, ◌+◌, ◌<◌, ◌≤◌, List, [], ◌∷◌, length, length-append, map, refl, sym, ap, subst, ◌∙◌, arith, Option, None}
+use Rattle.std.proofs.Common.{◌≡◌, ℕ, suc, ◌+◌, ◌<◌, ◌≤◌, List, [], ◌∷◌, length, length-append, map, refl, sym, ap, subst, ◌∙◌, arith, Option, Some, None}
 use Rattle.std.specs.Prelude.{sum_by}
 use Rattle.std.specs.List.{flat_map, AllByRecursion}
 use Rattle.std.specs.Option.{option_map, option_or}
 use Rattle.std.proofs.lemmas.List.Sums.{sum_by-cons}
-use Rattle.base_lemmas.proofs.BaseLemmas.{all_append}
+use Rattle.base_lemmas.proofs.BaseLemmas.{all_append, all_weaker}
 use Rattle.sdt_word.specs.declared.ranges.Range32.{Range32}
-use Rattle.boot_code.specs.Boots.{ByteMap}
+use Rattle.boot_code.specs.Boots.{ByteMap, moved, zeroed}
+use Rattle.boot_code.specs.Startup.{zeros}
+use Rattle.boot_code.proofs.ViewLemmas.{length-zeros, get_or-zeros}
 use Rattle.byte_maps.specs.Maps.{Segment, map_of, Holds}
 use Rattle.byte_maps.proofs.MapLemmas.{shown, front, back}
 use Rattle.place_model.specs.declared.scatter.Kind.{Kind}
@@ -14,15 +16,17 @@ use Rattle.place_model.specs.declared.scatter.ScatterLoad.{ScatterLoad}
 use Rattle.place_model.specs.declared.scatter.ScatterRegion.{ScatterRegion}
 use Rattle.place_model.specs.Things.{size_of}
 use Rattle.place_model.specs.Assignment.{description}
-use Rattle.place_model.specs.Plans.{Contents, Planned, length_of, end_of, planned, planned_from, PlannedLoad, load_size, loads_from, Plan, regions_of, table_words, plan_of}
+use Rattle.place_model.specs.Plans.{Contents, Planned, length_of, zero_base_of, zero_length_of, end_of, zero_row, copies_of, parts_of, planned, planned_from, PlannedLoad, load_size, loads_from, Plan, regions_of, table_words, plan_of}
 use Rattle.place_model.specs.Faults.{first_told, rootless, judged, overfull, shared, standing, load_span, load_meeting, execution_meeting, overlap, copy_conflict, too_large, aif_too_large, not_writable, as_overlap, as_conflict, place_refusal}
 use Rattle.place_model.specs.Laws.{IsLeastShared}
 use Rattle.place_model.proofs.ListLemmas.{all_at, all_indexed, all_of_flat, Pairs, pairs_map}
 use Rattle.place_model.proofs.SpanLemmas.{shared_law, or_none, map_none, meeting_none}
 use Rattle.image_model.specs.Regions.{Filling, region_bytes, AreSized}
-use Rattle.image_model.specs.Views.{IsLoadView, view_of, file_of, files_of}
+use Rattle.image_model.specs.Views.{IsView, IsLoadView, view_of, file_of, files_of}
 use Rattle.image_laws.specs.Laws.{ViewLaw}
+use Rattle.image_laws.proofs.MovedLemmas.{moved_shows}
 use Rattle.image_laws.proofs.RegionLemmas.{Sizes}
+use Rattle.image_laws.proofs.RowLemmas.{IsZeros}
 use Rattle.image_laws.proofs.ViewLemmas.{Sound, bytes_size, not_in, past, is_view, one_view, view_things, view_gaps}
 
 -- ---- no two ranges meet
@@ -120,5 +124,13 @@ is_load_view k c ram held none all =
           ∙ sym (all_at (λ q. Holds (view_of p held) q.base (region_bytes held q)) (regions_of p) i r view.loaded at n (omega (arith, lt, size))));
     }
 
+moved_view : (p : Plan) (held : Filling) (view : ByteMap) (files : List Segment) → IsView p held view → IsLoadView p view files
+    → (x b : ℕ) → view x ≡ Some b → zeroed (Some 0) (moved (map_of files) (copies_of p)) (parts_of p) x ≡ Some b
+moved_view p held view files v f =
+    moved_shows (regions_of p) (map_of files) view f.shows
+    (all_weaker (λ r. Holds view (zero_base_of r) (zeros (zero_length_of r))) (λ r. IsZeros view (zero_row r))
+    (λ r h k lt. h k (omega (arith, length-zeros (zero_length_of r), lt)) ∙ ap Some (get_or-zeros (zero_length_of r) k)) (regions_of p) v.cleared)
+    v.domain
+
 pub view_law : ViewLaw
-view_law = record { view = is_view; once = one_view; things = view_things; gaps = view_gaps; files = is_load_view }
+view_law = record { view = is_view; once = one_view; things = view_things; gaps = view_gaps; files = is_load_view; moved = moved_view }

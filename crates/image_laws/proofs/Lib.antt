@@ -1,4 +1,5 @@
 pub mod RowLemmas
+pub mod MovedLemmas
 pub mod RegionLemmas
 pub mod ViewLemmas
 pub mod FileLemmas

@@ -26,7 +26,8 @@ use Rattle.place_model.proofs.PlanLemmas.{table_law, whole_law, loads_loaded}
 use Rattle.image_model.specs.Regions.{Given, Filling, laid, region_bytes, filled}
 use Rattle.image_laws.specs.Laws.{scatter_plan, IsImage, ImagePlaces, ImageBoots}
 use Rattle.image_laws.proofs.RegionLemmas.{Sizes, length-laid, laid-append, Begins, begins, startup_stands}
-use Rattle.image_laws.proofs.Joined.{copies_in, parts_in, Sound, AreJoined, joined_places}
+use Rattle.image_laws.proofs.MovedLemmas.{copies_in, parts_in}
+use Rattle.image_laws.proofs.Joined.{Sound, AreJoined, joined_places}
 
 -- ---- what it says that nothing is refused
 

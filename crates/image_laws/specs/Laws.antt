@@ -2,7 +2,7 @@
 use Rattle.std.specs.Prelude.{◌≡◌, ◌≢◌, ℕ, ◌%◌, ◌^◌, ◌<◌, ◌≤◌, Bool, false, List, [], Option, Some, None}
 use Rattle.std.specs.List.{list_any, AllByRecursion}
 use Rattle.sdt_word.specs.declared.ranges.Range32.{Range32}
-use Rattle.boot_code.specs.Boots.{ByteMap, Boots, Places, covers}
+use Rattle.boot_code.specs.Boots.{ByteMap, Boots, Places, covers, moved, zeroed}
 use Rattle.boot_code.specs.Laws.{bound_of, written_by}
 use Rattle.byte_maps.specs.Maps.{Segment, map_of, Holds}
 use Rattle.place_model.specs.declared.scatter.Kind.{Kind}
@@ -34,6 +34,10 @@ pub record ViewLaw : Type 0 where
   -- where nothing is refused there are files
   pub files : (k : Kind) (c : Contents) (ram : Option (List Range32)) (held : Filling) → place_refusal k ram (plan_of k c) ≡ None → AreSized held (plan_of k c)
       → IsLoadView (plan_of k c) (view_of (plan_of k c) held) (files_of (plan_of k c) held)
+
+  -- the files, with copied regions moved to where they run and zero parts set to zero, are the view
+  pub moved : (p : Plan) (held : Filling) (view : ByteMap) (files : List Segment) → IsView p held view → IsLoadView p view files
+      → (x b : ℕ) → view x ≡ Some b → zeroed (Some 0) (moved (map_of files) (copies_of p)) (parts_of p) x ≡ Some b
 
 -- ---- a scatter image
 

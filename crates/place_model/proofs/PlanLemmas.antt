@@ -136,7 +136,7 @@ module _ (k : Kind) (c : Contents) (words : ℕ) (ho : origin_of k % 4 ≡ 0) (i
       (from_whole region l.regions l.base l.base (all_front (λ r. IsWholeBase r.base) l.regions (flat_map (λ m. m.regions) ls) regions) bases.0 bases.0)
       (loads_whole (region + length l.regions) ls bases.1 (all_back (λ r. IsWholeBase r.base) l.regions (flat_map (λ m. m.regions) ls) regions))
 
-origin_whole : (k : Kind) → AllByRecursion (λ l. l.base % 4 ≡ 0) (description k) → origin_of k % 4 ≡ 0
+pub origin_whole : (k : Kind) → AllByRecursion (λ l. l.base % 4 ≡ 0) (description k) → origin_of k % 4 ≡ 0
 origin_whole (kind.Scatter s) h = refl
 origin_whole (kind.Plain base) h = refl
 origin_whole (kind.Aif base true) h = h.0

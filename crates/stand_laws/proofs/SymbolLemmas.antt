@@ -1,12 +1,14 @@
 -- Symbols of a placed object: one that stands in an area has its address.
-use Rattle.std.proofs.Common.{◌≡◌, ℕ, zero, suc, ◌+◌, ◌%◌, ◌^◌, ◌||◌, List, [], ◌∷◌, ◌++◌, map, add-one, Bool, true, false, cond, refl, sym, ◌∙◌, ap, subst, arith, Option, Some, None, ◌⊎◌, inl, inr}
+use Rattle.std.proofs.Common.{◌≡◌, ℕ, zero, suc, ◌+◌, ◌*◌, ◌%◌, ◌^◌, ◌||◌, if◌then◌else◌, List, [], ◌∷◌, ◌++◌, map, add-one, Bool, true, false, cond, refl, sym, ◌∙◌, ap, subst, arith, Option, Some, None, ◌⊎◌, inl, inr}
 use Rattle.std.specs.Prelude.{Result, Ok, Err}
 use Rattle.std.specs.List.{list_any, slice_get}
 use Rattle.std.specs.Option.{option_map}
 use Rattle.std.proofs.lemmas.Option.{slice_get-map}
+use Rattle.sdt_word.specs.Numbers.{flag}
 use Rattle.sdt_fault.specs.declared.kinds.LineKind.{LineKind}
 use Rattle.aof_object.specs.declared.records.Object.{Object}
 use Rattle.aof_object.specs.declared.records.Symbol.{Symbol}
+use Rattle.aof_object.specs.Checks.{is_placed}
 use Rattle.asm_model.specs.declared.names.LaidName.{LaidName}
 use Rattle.asm_model.specs.declared.statements.Statement.{Statement}
 use Rattle.asm_model.specs.declared.values.Value.{Value}
@@ -25,9 +27,9 @@ use Rattle.asm_model.specs.Symbols.{symbols_of}
 use Rattle.asm_model.specs.Trees.{tree_of}
 use Rattle.object_laws.specs.Laws.{IsListed}
 use Rattle.object_laws.proofs.OriginLemmas.{named_name}
-use Rattle.patch_model.specs.Fields.{Meant, Values}
-use Rattle.source_model.specs.Objects.{source_of, symbol_number, symbol_placed, symbol_valued, symbol_named, IsObject}
-use Rattle.stand_model.specs.Placed.{IsMeant, IsPlaced}
+use Rattle.patch_model.specs.Fields.{Values}
+use Rattle.source_model.specs.Objects.{source_of, symbol_number, symbol_placed, symbol_valued, symbol_named, is_exported, IsObject}
+use Rattle.stand_model.specs.Placed.{IsMeantBy, IsPlaced}
 
 -- ---- an entry that stands in an area is its own symbol
 
@@ -144,10 +146,17 @@ place_found q (x ∷ xs) h = by_test (same q x) refl h (place_found q xs)
 pub record_found : {A : Type 0} → (f : List ℕ → A) (q : List ℕ) (xs : List (List ℕ)) → IsListed xs q → slice_get (map f xs) (place_of q xs) ≡ Some (f q)
 record_found f q xs h = slice_get-map f xs (place_of q xs) ∙ ap (option_map f) (place_found q xs h)
 
-pub meant_number : (own : ℕ) (base : ℕ → ℕ) (y : Symbol) (m : Meant) (area : ℕ) → IsMeant own base y m (Some area) → m.number ≡ base area + y.value
-meant_number own base y m area h = ap (λ (z : Meant). z.number) h
+placed_there : (exported datum thumb : Bool) → is_placed ((if exported then 3 else 1) + (flag datum * 2 ^ 8 + flag thumb * 2 ^ 12)) ≡ true
+placed_there true true true = refl
+placed_there true true false = refl
+placed_there true false true = refl
+placed_there true false false = refl
+placed_there false true true = refl
+placed_there false true false = refl
+placed_there false false true = refl
+placed_there false false false = refl
 
-pub offset_sum : (base o m : ℕ) → m ≡ base + (o + 0) % 2 ^ 32 → (base + o) % 2 ^ 32 ≡ m % 2 ^ 32
+pub offset_sum : (base o m : ℕ) → m % 2 ^ 32 ≡ (base + (o + 0) % 2 ^ 32) % 2 ^ 32 → (base + o) % 2 ^ 32 ≡ m % 2 ^ 32
 offset_sum base o m h = omega (arith, h)
 
 -- a listed symbol that stands in an area has its address
@@ -164,4 +173,6 @@ symbol_placed_there ss o obj own values area_at placed c cs n a there e h =
     ap (λ z. slice_get z k) obj.symbols
     ∙ record_found (λ name. symbol_named s name (named_in name s.names)) q (symbols_of s.names s.lines) there
     ∙ ap Some (symbol_is ss c cs n a e h) in
-    offset_sum (values.base a.0) a.1 (values.symbol k).number (meant_number own values.base y (values.symbol k) a.0 (placed.symbols k y found))
+    let meant : IsMeantBy true own values.base y (values.symbol k) =
+    subst (λ (z : Bool). IsMeantBy z own values.base y (values.symbol k)) (placed_there (is_exported s q) _ _) (placed.symbols k y found) in
+    offset_sum (values.base a.0) a.1 (values.symbol k).number (meant a.0 refl).number

@@ -106,7 +106,7 @@ area_patched r old new base values veneers of_word patched = record {
 
 pub placed_and_shown :
     (own base attributes old reloc new : ℕ) (y : Symbol) (m : Meant) (area_at : ℕ → ℕ → ℕ) (view : View) (region : ℕ → Range32) (veneers : ℕ → Veneers)
-    → base % 4 ≡ 0 → base + 4 ≤ 2 ^ 32 → IsMeant own (λ _. base) y m y.area → StandsAt area_at m m.home → ((area : ℕ) → area_at own area ≡ base)
+    → base % 4 ≡ 0 → base + 4 ≤ 2 ^ 32 → IsMeant own (λ _. base) y m → StandsAt area_at m m.home → ((area : ℕ) → area_at own area ≡ base)
     → bit attributes 12 == 1 ≡ false → IsOfWord (at_start reloc) → WordPatched base (values_by base m) (veneers 0) old new (at_start reloc)
     → Shows view base (bytes_of new 4) → ((area : ℕ) → VeneersStand view (region area) area_at (veneers area))
     → IsPlacedAndShown own (object (word_area attributes old reloc) y) (values_by base m) area_at view region veneers
@@ -114,7 +114,7 @@ placed_and_shown own base attributes old reloc new y m area_at view region venee
   placed = record {
     aligned = λ area a e. aligned;
     ends = only_one (word_area attributes old reloc) (λ _ a. base + a.size ≤ 2 ^ 32) ends;
-    symbols = only_one y (λ _ x. IsMeant own (λ _. base) x m x.area) meant;
+    symbols = only_one y (λ _ x. IsMeant own (λ _. base) x m) meant;
     homes = λ k. home;
     addresses = addresses;
   };

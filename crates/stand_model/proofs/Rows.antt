@@ -12,7 +12,7 @@ use Rattle.patch_model.specs.Patched.{total, span, middle, Veneers, LeadsAt}
 use Rattle.patch_model.specs.Reaches.{View, Shows, IsVeneer, VeneersStand}
 use Rattle.patch_model.proofs.PatchLemmas.{one_patched}
 use Rattle.patch_model.proofs.VeneerLemmas.{shows_parts, veneer_law}
-use Rattle.stand_model.specs.Placed.{meant_in, ShowsObject}
+use Rattle.stand_model.specs.Placed.{IsMeantIn, IsMeant, ShowsObject}
 use Rattle.stand_model.proofs.OneWord.{memory, memory_shows, at_start, word_area, object, values_by, IsPlacedAndShown, number_kept, area_patched, placed_and_shown}
 
 abbrev pub none : ℕ → Veneers
@@ -26,22 +26,30 @@ none_stand view region area_at area target state v e = absurd (cc)
 abbrev pub here : Symbol
 here = record { name = codes "here"; attributes = 3; value = 0; area = Some 0 }
 
+abbrev pub meant_here : ℕ → ℕ → Meant
+meant_here own base = record { number = base; thumb = false; datum = false; home = Some (record { object = own; area = 0; offset = 0 }) }
+
+here_is_meant : (own base : ℕ) → IsMeant own (λ _. base) here (meant_here own base)
+here_is_meant own base area e =
+    let same : 0 ≡ area = cc in
+    subst (IsMeantIn own (λ _. base) here (meant_here own base)) same (record { number = omega arith; thumb = refl; datum = refl; home = refl })
+
 abbrev pub of_own_label : Object
 of_own_label = object (word_area 2 0 0x82000000) here
 
 pub own_label : (own base : ℕ) (region : ℕ → Range32) → base % 4 ≡ 0 → base + 4 ≤ 2 ^ 32
-    → IsPlacedAndShown own of_own_label (values_by base (meant_in own (λ _. base) here 0)) (λ _ _. base) (memory base (bytes_of base 4)) region none
+    → IsPlacedAndShown own of_own_label (values_by base (meant_here own base)) (λ _ _. base) (memory base (bytes_of base 4)) region none
 own_label own base region aligned ends =
-    placed_and_shown own base 2 0 0x82000000 base here (meant_in own (λ _. base) here 0) (λ _ _. base) (memory base (bytes_of base 4)) region none aligned ends
-    refl refl (λ area. refl) refl (record { start = refl; whole = refl }) (number_kept base ∙ omega arith) (memory_shows base (bytes_of base 4))
+    placed_and_shown own base 2 0 0x82000000 base here (meant_here own base) (λ _ _. base) (memory base (bytes_of base 4)) region none aligned ends
+    (here_is_meant own base) (omega arith) (λ area. refl) refl (record { start = refl; whole = refl }) (number_kept base ∙ omega arith) (memory_shows base (bytes_of base 4))
     (none_stand (memory base (bytes_of base 4)) region (λ _ _. base))
 
 -- any memory that shows the object shows that word
 pub own_label_word : (own base : ℕ) (view : View) (area_at : ℕ → ℕ → ℕ) (region : ℕ → Range32) (veneers : ℕ → Veneers)
-    → ShowsObject view of_own_label (values_by base (meant_in own (λ _. base) here 0)) area_at region veneers → Shows view base (bytes_of base 4)
+    → ShowsObject view of_own_label (values_by base (meant_here own base)) area_at region veneers → Shows view base (bytes_of base 4)
 own_label_word own base view area_at region veneers shown =
     let found = shown.areas 0 (word_area 2 0 0x82000000) refl in
-    let values : Values = values_by base (meant_in own (λ _. base) here 0) in
+    let values : Values = values_by base (meant_here own base) in
     let patched = area_patched (at_start 0x82000000) 0 base base values (veneers 0) (record { start = refl; whole = refl }) (number_kept base ∙ omega arith) in
     subst (Shows view base) (one_patched (at_start 0x82000000 ∷ []) (bytes_of 0 4) base values (veneers 0) found.0 (bytes_of base 4) found.1 patched) found.2
 
@@ -60,7 +68,7 @@ pub imported_word : (own base value : ℕ) (region : ℕ → Range32) → base %
     → IsPlacedAndShown own of_imported_word (values_by base (valued value)) (λ _ _. base) (memory base (bytes_of (value + 4) 4)) region none
 imported_word own base value region aligned ends =
     placed_and_shown own base 2 4 0x8A000000 (value + 4) far (valued value) (λ _ _. base) (memory base (bytes_of (value + 4) 4)) region none aligned ends
-    tt tt (λ area. refl) refl (record { start = refl; whole = refl }) (number_kept (value + 4) ∙ omega arith) (memory_shows base (bytes_of (value + 4) 4))
+    (λ e. absurd (omega arith)) tt (λ area. refl) refl (record { start = refl; whole = refl }) (number_kept (value + 4) ∙ omega arith) (memory_shows base (bytes_of (value + 4) 4))
     (none_stand (memory base (bytes_of (value + 4) 4)) region (λ _ _. base))
 
 -- ---- far is code of object 1, of Thumb state where true
@@ -85,7 +93,7 @@ pub near_branch : (base words : ℕ) (region : ℕ → Range32) → base % 4 ≡
 near_branch base words region aligned ends reach =
     let new : number_of (bytes_of (branch_over words) 4) ≡ branch_over words = number_kept (branch_over words) ∙ omega arith in
     placed_and_shown 0 base 0x2202 0xEAFFFFFE 0x8F000000 (branch_over words) far (code_at false (base + 4 * words)) (areas_at base (base + 4 * words))
-    (memory base (bytes_of (branch_over words) 4)) region none aligned ends tt (omega arith) (λ area. refl) refl (record { start = refl; whole = refl })
+    (memory base (bytes_of (branch_over words) 4)) region none aligned ends (λ e. absurd (omega arith)) (omega arith) (λ area. refl) refl (record { start = refl; whole = refl })
     (record { branch = (lit< tt, refl); rest = omega (arith, new); leads = omega (arith, new, reach) }) (memory_shows base (bytes_of (branch_over words) 4))
     (none_stand (memory base (bytes_of (branch_over words) 4)) region (areas_at base (base + 4 * words)))
 
@@ -139,6 +147,6 @@ pub call_by_veneer : (base target : ℕ) → base % 4 ≡ 0 → (ends : base + 1
 call_by_veneer base target aligned ends even small =
     let named : ℕ = (target + total (0 + total (base + 0 + 8 + span false 0xEBFFFFFE) 0 (middle false)) (target + 0 + 0) (base * 1 + 0 + target)) % 2 ^ 32 in
     placed_and_shown 0 base 0x2202 0xEBFFFFFE 0x8F000000 0xEBFFFFFF far (code_at true target) (areas_at base target) (with_veneer base target) (around base ends)
-    (veneers_to base target) aligned (omega arith) tt (omega arith) (λ area. refl) refl (record { start = refl; whole = refl })
+    (veneers_to base target) aligned (omega arith) (λ e. absurd (omega arith)) (omega arith) (λ area. refl) refl (record { start = refl; whole = refl })
     (record { branch = (lit< tt, refl); rest = refl; leads = veneer_leads base target named (omega arith) }) (parts base target).0
     (veneer_stands base target ends even)

@@ -1,0 +1,18 @@
+//! Laws of the definitions, each proved as the contract of an empty function.
+
+ghost use Rattle.link_laws.specs.Laws.{AppliedAreSized, ObjectsAreShown, ObjectsArePlaced, RangesExist, StatementsStand};
+
+/// Where a plan of valid objects is accepted, each object is placed at the addresses of its areas, and its symbols have
+/// the values that their fields and these addresses give. Each region has a range.
+pub fn objects_are_placed()
+    ensures placed { ObjectsArePlaced }
+    ensures ranges { RangesExist }
+{}
+
+/// Where areas are patched and veneers lead to their targets, all bytes have their places, and a view of the plan shows
+/// each object: statements stand there that stand wherever their object is placed.
+pub fn objects_are_shown()
+    ensures sizes { AppliedAreSized }
+    ensures objects { ObjectsAreShown }
+    ensures statements { StatementsStand }
+{}

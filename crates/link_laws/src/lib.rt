@@ -1,0 +1,6 @@
+//! Laws of linked images: linked objects whose plan is accepted are placed, and a view of it shows them.
+#![tactic(auto)]
+
+mod laws;
+
+pub use crate::laws::{objects_are_placed, objects_are_shown};
