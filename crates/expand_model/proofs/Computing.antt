@@ -1,5 +1,5 @@
 -- Outcomes by computation, for worked rows: what is computed is an outcome.
-use Rattle.std.proofs.Common.{◌≡◌, ℕ, ◌+◌, ◌<◌, List, [], ◌∷◌, ◌++◌, length, take, drop, Bool, true, false, refl, sym, ◌∙◌, ap, subst, arith, Option, Some, None, zero, suc, map}
+use Rattle.std.proofs.Common.{◌≡◌, ℕ, ◌+◌, List, [], ◌∷◌, length, take, drop, Bool, true, false, refl, sym, ap, subst, Option, Some, None, zero, suc, map}
 use Rattle.std.proofs.lemmas.Bool.{ltb-true}
 use Rattle.std.proofs.lemmas.Option.{same_Some, none-some}
 use Rattle.std.specs.Prelude.{MatchBool, Result, Ok, Err, nat_lt, if◌then◌else◌}
@@ -20,13 +20,13 @@ use Rattle.asm_model.specs.Grammar.{ParsesTokens, Parses}
 use Rattle.asm_model.specs.Lines.{numbered, first_beyond}
 use Rattle.asm_model.specs.Parts.{part_of, is_large}
 use Rattle.asm_model.specs.Says.{sentence}
-use Rattle.asm_model.specs.Tokens.{IsLongest, IsTokenAt, is_operation_sign, blanks, is_end, is_long, due_behind, first_due, TokensFrom, Tokens, Scans}
+use Rattle.asm_model.specs.Tokens.{IsLongest, IsTokenAt, is_operation_sign, blanks, is_end, is_long, due_behind, first_due, TokensFrom, Tokens}
 use Rattle.asm_lines.specs.Lengths.{best_of}
 use Rattle.asm_lines.proofs.KindLemmas.{best_longest}
 use Rattle.asm_expr.specs.Parsing.{parsed, started}
 use Rattle.asm_expr.proofs.Spelled.{parsed_spelled}
 use Rattle.expand_model.specs.Expands.{Run, stops, reads, passes, Outcome, FaultAt, Expands, ExpandsLines, outcome_of, outermost}
-use Rattle.expand_model.specs.Known.{Operand, ReadsExpression, FromScan}
+use Rattle.expand_model.specs.Known.{Operand, ReadsExpression}
 use Rattle.expand_model.specs.States.{State, Macro}
 use Rattle.expand_model.specs.States as states
 use Rattle.expand_model.specs.Steps.{Sources, Depth, Context, End, Next, Stop, Go, Under, Reads, ReadsText, first_line, turn, deeper, takes_expression, kind_of}

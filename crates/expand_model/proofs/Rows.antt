@@ -1,5 +1,5 @@
 -- Worked rows of the definitions, by hand: whole sources with what they expand to.
-use Rattle.std.proofs.Common.{◌≡◌, ℕ, List, [], ◌∷◌, ◌++◌, refl, Option, Some, None, codes}
+use Rattle.std.proofs.Common.{◌≡◌, ℕ, List, [], ◌∷◌, ◌++◌, refl, Some, None, codes}
 use Rattle.std.specs.Prelude.{if◌then◌else◌}
 use Rattle.sdt_fault.specs.declared.kinds.LineKind.TheVariants.{Forward, Nesting, TooDeep, TooMany}
 use Rattle.asm_model.specs.declared.lines.Flat.{Flat}
@@ -52,9 +52,9 @@ pub branches : Row alone 100
 unfolding best_of step finished value_of known_number operation_of skipped taken prototype_of standing kind_of said first_line turn substituted words_of arguments
 branches = row refl
 
--- a label, a default, a missing argument, and a comma in quotes
+-- a label, a default, a comma in quotes, and a missing argument, which takes no default
 pub call : Row alone 100
-    (codes " MACRO" ∷ codes "$l TELL $a=7,$b,$c" ∷ codes "$l.1 DCB $a,\"$b$$\",$c;" ∷ codes " MEND" ∷ codes "x TELL |,$,\"a,b\" " ∷ [])
+    (codes " MACRO" ∷ codes "$l TELL $a=7,$b,$c,$d=9" ∷ codes "$l.1 DCB $a,\"$b$$\",$c$d;" ∷ codes " MEND" ∷ codes "x TELL |,$,\"a,b\" " ∷ [])
     (Flats (flat 3 (codes "x1 DCB 7,\"$$\",\"a,b\";") ∷ []))
 unfolding best_of step finished value_of known_number operation_of skipped taken prototype_of standing kind_of said first_line turn substituted words_of arguments
 call = row refl

@@ -10,7 +10,7 @@ use Rattle.asm_model.specs.Grammar.{OneParse}
 use Rattle.asm_model.specs.Lines.{first_beyond}
 use Rattle.asm_model.specs.Parts.{part_of}
 use Rattle.asm_model.specs.Says.{sentence}
-use Rattle.asm_model.specs.Tokens.{Scans, OneScan}
+use Rattle.asm_model.specs.Tokens.{OneScan}
 use Rattle.expand_model.specs.Expands.{Run, stops, reads, passes, Outcome, ExpandsLines, ExpansionLaw, outcome_of}
 use Rattle.expand_model.specs.Known.{Operand, ReadsExpression, FromScan}
 use Rattle.expand_model.specs.States.{State, Macro}

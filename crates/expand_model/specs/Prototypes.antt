@@ -4,7 +4,7 @@
 use Rattle.std.specs.Prelude.{ℕ, ◌+◌, List, [], ◌∷◌, ◌++◌, length, take, drop, map, nat_lt, ◌==◌, ◌&&◌, ◌||◌, not, Bool, true, false, if◌then◌else◌, codes, Option, Some, None}
 use Rattle.std.specs.List.{list_any, prefix_len}
 use Rattle.sdt_fault.specs.declared.kinds.LineKind.{LineKind}
-use Rattle.sdt_fault.specs.declared.kinds.LineKind.TheVariants.{Syntax, BadOperand, DuplicateName, TooMany}
+use Rattle.sdt_fault.specs.declared.kinds.LineKind.TheVariants.{BadOperand, DuplicateName, TooMany}
 use Rattle.asm_model.specs.Forms.{same, is_name}
 use Rattle.asm_model.specs.Limits.{name_bytes}
 use Rattle.expand_model.specs.States.{Table, Parameter, Prototype, Macro, Scope}

@@ -1,7 +1,7 @@
 -- Where each byte of a line stands: open, in quotes, between bars, or in the comment, which `;` begins outside quotes
 -- and bars. ARM SDT 2.50 Reference Guide, chapter on the assembler. This project's: quotes that nothing closes reach to
 -- the end of the line, and a bar that no name and second bar follow is open.
-use Rattle.std.specs.Prelude.{ℕ, zero, suc, ◌+◌, ◌-◌, List, [], ◌∷◌, length, take, drop, map, nat_lt, ◌==◌, ◌&&◌, not, Bool, true, false, if◌then◌else◌}
+use Rattle.std.specs.Prelude.{ℕ, zero, suc, ◌+◌, ◌-◌, List, [], ◌∷◌, length, take, drop, nat_lt, ◌==◌, ◌&&◌, not, Bool, true, false, if◌then◌else◌}
 use Rattle.std.specs.List.{filter, prefix_len}
 use Rattle.asm_model.specs.Forms.{is_character, is_between_bars}
 
@@ -22,6 +22,7 @@ barred_width cs = width_behind (prefix_len is_between_bars cs)
     begins_bar : List ℕ → Bool
     begins_bar [] = false
     begins_bar (c ∷ cs) = c == 124
+
     width_behind : ℕ → ℕ
     width_behind n = if nat_lt 0 n && begins_bar (drop n cs) then n + 2 else 0
 

@@ -1,6 +1,6 @@
 -- What expansion has at a line: variables, macros, the flat lines so far, and what these say to conditions. ARM SDT
 -- 2.50 Reference Guide, chapter on the assembler; how far lines may be visited is this project's.
-use Rattle.std.specs.Prelude.{ℕ, ◌-◌, List, [], ◌∷◌, Bool, true, false, if◌then◌else◌, Option, Some, None}
+use Rattle.std.specs.Prelude.{ℕ, ◌-◌, List, [], ◌∷◌, Bool, false, if◌then◌else◌, Option, Some, None}
 use Rattle.std.specs.Option.{is_some}
 use Rattle.asm_model.specs.declared.lines.Flat.{Flat}
 use Rattle.asm_model.specs.declared.lines.Line.{Line}

@@ -11,7 +11,7 @@ use Rattle.sdt_fault.specs.declared.kinds.LineKind.TheVariants.{Syntax, UnknownW
 use Rattle.asm_model.specs.declared.lines.Flat.{Flat}
 use Rattle.asm_model.specs.declared.lines.Line.{Line}
 use Rattle.asm_model.specs.declared.values.Value.{Value}
-use Rattle.asm_model.specs.declared.values.Value.TheVariants.{Number, Truth, Words, Place}
+use Rattle.asm_model.specs.declared.values.Value.TheVariants.{Number, Truth, Words}
 use Rattle.asm_model.specs.Forms.{same}
 use Rattle.asm_model.specs.Kinds.{earliest, told_kind}
 use Rattle.asm_model.specs.Limits.{line_bytes}

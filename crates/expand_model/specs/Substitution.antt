@@ -1,13 +1,13 @@
 -- Substitution: `$name` outside bars and comments is replaced by a parameter's text or a variable's value, a dot
 -- directly behind the name is taken away, and `$$` becomes `$`; a dollar before neither stays. What is put in is not
 -- read again. ARM SDT 2.50 Reference Guide, chapter on the assembler.
-use Rattle.std.specs.Prelude.{ℕ, zero, suc, ◌+◌, ◌-◌, List, [], ◌∷◌, ◌++◌, take, drop, map, nat_lt, ◌==◌, ◌&&◌, Bool, true, false, if◌then◌else◌, Option, Some, None, Result, Ok, Err}
+use Rattle.std.specs.Prelude.{ℕ, zero, suc, ◌+◌, List, [], ◌∷◌, ◌++◌, take, drop, map, nat_lt, ◌==◌, ◌&&◌, Bool, true, false, if◌then◌else◌, Option, Some, None, Result, Ok, Err}
 use Rattle.std.specs.List.{prefix_len}
 use Rattle.sdt_fault.specs.declared.kinds.LineKind.{LineKind}
 use Rattle.sdt_fault.specs.declared.kinds.LineKind.TheVariants.{UnknownWord}
 use Rattle.asm_model.specs.Forms.{is_word, is_letter}
 use Rattle.asm_model.specs.Says.{mapped}
-use Rattle.expand_model.specs.Standing.{Byte, Standing, Open, Quoted, Barred, Comment, standing}
+use Rattle.expand_model.specs.Standing.{Byte, Standing, Open, Quoted, standing}
 use Rattle.expand_model.specs.States.{State, text_named}
 
 -- where dollars have their meaning

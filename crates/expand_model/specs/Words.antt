@@ -2,11 +2,11 @@
 -- the name in bars in column 1, and the operation the next such word, or a sign. ARM SDT 2.50 Reference Guide, chapter
 -- on the assembler. This project's: dollars count as bytes of words, and dots in the label field, so that lines can be
 -- told apart before they are substituted.
-use Rattle.std.specs.Prelude.{ℕ, ◌+◌, ◌-◌, List, [], ◌∷◌, length, take, drop, reverse, map, nat_lt, ◌==◌, ◌&&◌, ◌||◌, Bool, true, false, if◌then◌else◌, Option, Some, None}
+use Rattle.std.specs.Prelude.{ℕ, ◌+◌, List, [], ◌∷◌, take, drop, reverse, map, nat_lt, ◌==◌, ◌&&◌, ◌||◌, Bool, true, false, if◌then◌else◌, Option, Some, None}
 use Rattle.std.specs.List.{prefix_len}
 use Rattle.asm_model.specs.Forms.{is_blank, is_word, is_name, is_barred}
 use Rattle.asm_model.specs.Says.{between_bars}
-use Rattle.asm_model.specs.Tokens.{blanks, is_comment}
+use Rattle.asm_model.specs.Tokens.{blanks}
 use Rattle.expand_model.specs.Standing.{Byte, Standing, Quoted, barred_width, before_comment}
 
 pub record Words : Type 0 where
