@@ -27,7 +27,8 @@ use Rattle.asm_expr.specs.Parsing.{parsed, started}
 use Rattle.asm_expr.proofs.Spelled.{parsed_spelled}
 use Rattle.expand_model.specs.Expands.{Run, stops, reads, passes, Outcome, FaultAt, Expands, ExpandsLines, outcome_of, outermost}
 use Rattle.expand_model.specs.Known.{Operand, ReadsExpression}
-use Rattle.expand_model.specs.States.{State, Macro}
+use Rattle.expand_model.specs.declared.macros.Macro.{Macro}
+use Rattle.expand_model.specs.States.{State}
 use Rattle.expand_model.specs.States as states
 use Rattle.expand_model.specs.Steps.{Sources, Depth, Context, End, Next, Stop, Go, Under, Reads, ReadsText, first_line, turn, deeper, takes_expression, kind_of}
 use Rattle.expand_model.specs.Substitution.{substituted}

@@ -13,7 +13,8 @@ use Rattle.asm_model.specs.Says.{sentence}
 use Rattle.asm_model.specs.Tokens.{OneScan}
 use Rattle.expand_model.specs.Expands.{Run, stops, reads, passes, Outcome, ExpandsLines, ExpansionLaw, outcome_of}
 use Rattle.expand_model.specs.Known.{Operand, ReadsExpression, FromScan}
-use Rattle.expand_model.specs.States.{State, Macro}
+use Rattle.expand_model.specs.declared.macros.Macro.{Macro}
+use Rattle.expand_model.specs.States.{State}
 use Rattle.expand_model.specs.Steps.{Sources, Depth, End, Next, Stop, Go, Under, Reads, ReadsText, first_line, turn, deeper, takes_expression, kind_of}
 use Rattle.expand_model.specs.Substitution.{substituted}
 use Rattle.expand_model.specs.Words.{words_of}

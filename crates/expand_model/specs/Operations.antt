@@ -1,27 +1,10 @@
 -- The words of expansion, read in any case: variables, conditions, loops, macros and files. ARM SDT 2.50 Reference
 -- Guide, chapter on the assembler.
 use Rattle.std.specs.Prelude.{ℕ, List, [], ◌∷◌, codes, Option}
+use Rattle.expand_model.specs.declared.operations.Operation.{Operation}
+use Rattle.expand_model.specs.declared.operations.Operation.TheVariants.{If, Else, EndIf, While, WEnd, Macro, MEnd, MExit, Get, Global, Local, Set}
+use Rattle.expand_model.specs.declared.operations.Sort.TheVariants.{Arithmetic, Logical, Textual}
 use Rattle.asm_model.specs.Directives.{row_of}
-
--- the types of variables
-pub data Sort : Type 0 where
-  Arithmetic : Sort
-  Logical : Sort
-  Textual : Sort
-
-pub data Operation : Type 0 where
-  If : Operation
-  Else : Operation
-  EndIf : Operation
-  While : Operation
-  WEnd : Operation
-  Macro : Operation
-  MEnd : Operation
-  MExit : Operation
-  Get : Operation
-  Global : Sort → Operation
-  Local : Sort → Operation
-  Set : Sort → Operation
 
 unfoldable pub operation_of : List ℕ → Option Operation
 operation_of word = row_of word (

@@ -5,19 +5,16 @@ use Rattle.std.specs.Prelude.{ℕ, zero, suc, List, [], ◌∷◌, Option, Some,
 use Rattle.sdt_fault.specs.declared.kinds.LineKind.{LineKind}
 use Rattle.sdt_fault.specs.declared.kinds.LineKind.TheVariants.{Nesting, TooMany}
 use Rattle.asm_model.specs.declared.lines.Line.{Line}
-use Rattle.expand_model.specs.Operations.{Operation, If, Else, EndIf, While, WEnd, Macro, MEnd, operation_of}
+use Rattle.expand_model.specs.declared.operations.Opening.{Opening}
+use Rattle.expand_model.specs.declared.operations.Opening.TheVariants.{Condition, Alternative, Loop, Definition}
+use Rattle.expand_model.specs.declared.operations.Operation.{Operation}
+use Rattle.expand_model.specs.declared.operations.Operation.TheVariants.{If, Else, EndIf, While, WEnd, Macro, MEnd}
+use Rattle.expand_model.specs.Operations.{operation_of}
 use Rattle.expand_model.specs.Words.{words_of}
 
 -- the word of expansion on a line as it stands
 abbrev pub raw_operation : Line → Option Operation
 raw_operation l = operation_of (words_of l.text).operation
-
--- what is open: an IF before its ELSE, an IF behind it, a WHILE, a MACRO
-pub data Opening : Type 0 where
-  Condition : Opening
-  Alternative : Opening
-  Loop : Opening
-  Definition : Opening
 
 -- what is open behind a line, the innermost first; or that the line closes the outermost, or is its ELSE, or has a word
 -- that is not paired

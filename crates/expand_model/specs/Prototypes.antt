@@ -7,7 +7,10 @@ use Rattle.sdt_fault.specs.declared.kinds.LineKind.{LineKind}
 use Rattle.sdt_fault.specs.declared.kinds.LineKind.TheVariants.{BadOperand, DuplicateName, TooMany}
 use Rattle.asm_model.specs.Forms.{same, is_name}
 use Rattle.asm_model.specs.Limits.{name_bytes}
-use Rattle.expand_model.specs.States.{Table, Parameter, Prototype, Macro, Scope}
+use Rattle.expand_model.specs.declared.macros.Macro.{Macro}
+use Rattle.expand_model.specs.declared.macros.Parameter.{Parameter}
+use Rattle.expand_model.specs.declared.macros.Prototype.{Prototype}
+use Rattle.expand_model.specs.States.{Table, Scope}
 use Rattle.expand_model.specs.Words.{Words, as_name, is_empty, listed, without_blanks, arguments}
 
 -- a parameter's name behind its dollar

@@ -3,13 +3,9 @@
 -- the end of the line, and a bar that no name and second bar follow is open.
 use Rattle.std.specs.Prelude.{ℕ, zero, suc, ◌+◌, ◌-◌, List, [], ◌∷◌, length, take, drop, nat_lt, ◌==◌, ◌&&◌, not, Bool, true, false, if◌then◌else◌}
 use Rattle.std.specs.List.{filter, prefix_len}
+use Rattle.expand_model.specs.declared.standing.Standing.{Standing}
+use Rattle.expand_model.specs.declared.standing.Standing.TheVariants.{Open, Quoted, Barred, Comment}
 use Rattle.asm_model.specs.Forms.{is_character, is_between_bars}
-
-pub data Standing : Type 0 where
-  Open : Standing
-  Quoted : Standing
-  Barred : Standing
-  Comment : Standing
 
 -- a byte of a line, and where it stands
 abbrev pub Byte : Type 0

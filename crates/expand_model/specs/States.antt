@@ -3,9 +3,9 @@
 use Rattle.std.specs.Prelude.{ℕ, ◌-◌, List, [], ◌∷◌, Bool, false, if◌then◌else◌, Option, Some, None}
 use Rattle.std.specs.Option.{is_some}
 use Rattle.asm_model.specs.declared.lines.Flat.{Flat}
-use Rattle.asm_model.specs.declared.lines.Line.{Line}
 use Rattle.asm_model.specs.declared.values.Value.{Value}
 use Rattle.asm_model.specs.declared.values.Value.TheVariants.{Number, Truth, Words, Place}
+use Rattle.expand_model.specs.declared.macros.Macro.{Macro}
 use Rattle.asm_model.specs.Directives.{or_else}
 use Rattle.asm_model.specs.Forms.{same}
 use Rattle.sdt_fault.specs.Digits.{hexadecimal_places}
@@ -24,22 +24,6 @@ found name (row ∷ rows) = if same row.0 name then Some row.1 else found name r
 abbrev pub with_row : {A : Type 0} → List ℕ → A → Table A → Table A
 with_row name a [] = []
 with_row name a (row ∷ rows) = if same row.0 name then (row.0, a) ∷ rows else row ∷ with_row name a rows
-
-pub record Parameter : Type 0 where
-  pub name : List ℕ
-  -- the text for which an argument of a lone bar stands
-  pub otherwise : List ℕ
-
--- what a macro's calls are written by
-pub record Prototype : Type 0 where
-  pub name : List ℕ
-  -- the parameter for which the label stands
-  pub label : Option (List ℕ)
-  pub parameters : List Parameter
-
-pub record Macro : Type 0 where
-  pub prototype : Prototype
-  pub body : List Line
 
 -- what a call of a macro has of its own
 pub record Scope : Type 0 where

@@ -18,12 +18,19 @@ use Rattle.asm_model.specs.Limits.{line_bytes}
 use Rattle.asm_model.specs.Lines.{numbered, first_beyond}
 use Rattle.asm_model.specs.Tokens.{is_called}
 use Rattle.expand_model.specs.Known.{Operand, ReadsExpression, value_of, known_number}
-use Rattle.expand_model.specs.Operations.{Sort, Arithmetic, Logical, Textual, Operation, If, Else, EndIf, While, WEnd, MEnd, MExit, Get, Global, Local, Set, operation_of}
-use Rattle.expand_model.specs.Operations as operation
+use Rattle.expand_model.specs.Operations.{operation_of}
+use Rattle.expand_model.specs.declared.macros.Macro.{Macro}
+use Rattle.expand_model.specs.declared.macros.Prototype.{Prototype}
+use Rattle.expand_model.specs.declared.operations.Operation.{Operation}
+use Rattle.expand_model.specs.declared.operations.Operation.TheVariants.{If, Else, EndIf, While, WEnd, MEnd, MExit, Get, Global, Local, Set}
+use Rattle.expand_model.specs.declared.operations.Operation.TheVariants as operation
+use Rattle.expand_model.specs.declared.operations.Opening.TheVariants as opening
+use Rattle.expand_model.specs.declared.operations.Sort.{Sort}
+use Rattle.expand_model.specs.declared.operations.Sort.TheVariants.{Arithmetic, Logical, Textual}
 use Rattle.expand_model.specs.Pairing.{Skipped, skipped, Taken, taken, raw_operation}
 use Rattle.expand_model.specs.Pairing as pairing
 use Rattle.expand_model.specs.Prototypes.{prototype_of, prototype_kinds, macro_named, kind_if, is_long, scope_of, call_kinds}
-use Rattle.expand_model.specs.States.{State, Scope, Prototype, Macro, found, visited, with_scope, locals_of, variable, declared_global, declared_local, with_variable}
+use Rattle.expand_model.specs.States.{State, Scope, found, visited, with_scope, locals_of, variable, declared_global, declared_local, with_variable}
 use Rattle.expand_model.specs.Substitution.{substituted}
 use Rattle.expand_model.specs.Words.{words_of, as_name, is_empty, listed, operand_text}
 use Rattle.expand_model.specs.Words as word
@@ -213,11 +220,11 @@ behind_skipped l s pairing.Endless = Stop (Unclosed l)
 
 abbrev pub branch : Line → State → List Line → Bool → Next
 branch l s ls true = Under (Condition l) s ls
-branch l s ls false = behind_skipped l s (skipped pairing.Condition [] s.visits ls)
+branch l s ls false = behind_skipped l s (skipped opening.Condition [] s.visits ls)
 
 abbrev pub loop : Line → State → List Line → Bool → Next
 loop l s ls true = Under (Loop l ls) s ls
-loop l s ls false = behind_skipped l s (skipped pairing.Loop [] s.visits ls)
+loop l s ls false = behind_skipped l s (skipped opening.Loop [] s.visits ls)
 
 -- ---- macros
 
@@ -353,7 +360,7 @@ abbrev pub again : Line → List Line → Line → State → Next
 again l ls wend s = if is_while (substituted s l.text) then Go s (l ∷ ls) else bad wend Nesting
 
 abbrev pub behind_condition : Line → End → Next
-behind_condition l (Closed Else m s rest) = behind_skipped l s (skipped pairing.Alternative [] s.visits rest)
+behind_condition l (Closed Else m s rest) = behind_skipped l s (skipped opening.Alternative [] s.visits rest)
 behind_condition l (Closed EndIf m s rest) = Go s rest
 behind_condition l (Closed o m s rest) = bad m Nesting
 behind_condition l (Over s) = Stop (Unclosed l)

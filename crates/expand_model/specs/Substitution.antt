@@ -7,7 +7,9 @@ use Rattle.sdt_fault.specs.declared.kinds.LineKind.{LineKind}
 use Rattle.sdt_fault.specs.declared.kinds.LineKind.TheVariants.{UnknownWord}
 use Rattle.asm_model.specs.Forms.{is_word, is_letter}
 use Rattle.asm_model.specs.Says.{mapped}
-use Rattle.expand_model.specs.Standing.{Byte, Standing, Open, Quoted, standing}
+use Rattle.expand_model.specs.declared.standing.Standing.{Standing}
+use Rattle.expand_model.specs.declared.standing.Standing.TheVariants.{Open, Quoted}
+use Rattle.expand_model.specs.Standing.{Byte, standing}
 use Rattle.expand_model.specs.States.{State, text_named}
 
 -- where dollars have their meaning

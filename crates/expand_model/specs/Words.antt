@@ -7,7 +7,9 @@ use Rattle.std.specs.List.{prefix_len}
 use Rattle.asm_model.specs.Forms.{is_blank, is_word, is_name, is_barred}
 use Rattle.asm_model.specs.Says.{between_bars}
 use Rattle.asm_model.specs.Tokens.{blanks}
-use Rattle.expand_model.specs.Standing.{Byte, Standing, Quoted, barred_width, before_comment}
+use Rattle.expand_model.specs.declared.standing.Standing.{Standing}
+use Rattle.expand_model.specs.declared.standing.Standing.TheVariants.{Quoted}
+use Rattle.expand_model.specs.Standing.{Byte, barred_width, before_comment}
 
 pub record Words : Type 0 where
   pub label : List ℕ

@@ -3,5 +3,11 @@
 #![tactic(auto)]
 
 mod laws;
+pub mod macros;
+pub mod operations;
+pub mod standing;
 
 pub use crate::laws::expansion_law;
+pub use crate::macros::{Macro, Parameter, Prototype};
+pub use crate::operations::{Opening, Operation, Sort};
+pub use crate::standing::Standing;
