@@ -1,0 +1,4 @@
+pub mod Placed
+pub mod Flaws
+pub mod PatchedBytes
+pub mod RegionBytes

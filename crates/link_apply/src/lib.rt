@@ -1,0 +1,3 @@
+//! The bytes of a placed image's regions: areas with their fields patched, veneers, and the startup code with its
+//! table.
+#![tactic(auto)]
