@@ -23,7 +23,3 @@ any_there p x end lt h =
 pub touched_none : (banks : List Bank) → pages_touched banks 0 ≡ 0
 unfolding pages_touched
 touched_none banks = refl
-
-pub touched_more : (banks : List Bank) (n : ℕ) → pages_touched banks (n + 1) ≡ pages_touched banks n + (if list_any (λ (b : Bank). range_touches b.range.base b.range.size n) banks then 1 else 0)
-unfolding pages_touched
-touched_more banks n = let next : n + 1 ≡ suc n = omega arith in rw next refl

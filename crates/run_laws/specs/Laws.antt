@@ -6,7 +6,7 @@ use Rattle.arm7_model.specs.declared.event.Event.{Event}
 use Rattle.arm7_model.specs.Accesses.{Access}
 use Rattle.arm7_model.specs.Memory.{Board}
 use Rattle.arm7_model.specs.Outcomes.{Stepped}
-use Rattle.arm7_model.specs.Registers.{IsValid, State as Whole}
+use Rattle.arm7_model.specs.Registers.{IsValid, IsValidState}
 use Rattle.arm7_model.specs.Runs.{AreSteps, EachStep, accesses_of}
 use Rattle.arm7_bus.specs.States.{State}
 use Rattle.arm7_core.specs.Machines.{IsStep}
@@ -22,6 +22,14 @@ abbrev pub BusStepIsOne : Type 0
 BusStepIsOne =
     (core : ArmState) (s : State) (d e : Event) (core1 core2 : ArmState) (s1 s2 : State) → IsReady s → IsValid core
     → IsStep core s d core1 s1 → IsStep core s e core2 s2 → (d ≡ e) × (core1 ≡ core2) × (s1 ≡ s2)
+
+-- and at most one run, with its end and its text
+abbrev pub BusRunIsOne : Type 0
+BusRunIsOne =
+    (most : ℕ) (core : ArmState) (s : State) (why why' : Stop) (made made' : ℕ) (text text' : List ℕ) (core1 core2 : ArmState) (s1 s2 : State)
+    → IsReady s → IsValidState (over core s)
+    → Runs most core s why made text core1 s1 → Runs most core s why' made' text' core2 s2
+    → (why ≡ why') × (made ≡ made') × (text ≡ text') × (core1 ≡ core2) × (s1 ≡ s2)
 
 -- the board of a bus that is ready is one
 abbrev pub BoardIsOne : Type 0

@@ -1,14 +1,22 @@
 //! The laws. Their calls do nothing; their contracts are the laws.
 
-ghost use Rattle.run_laws.specs.Laws.{BoardIsOne, BusRunsAreRuns, BusStepIsOne, DevicesAreLeft, RunLeavesDevices, RunsAreBusRuns};
+ghost use Rattle.run_laws.specs.Laws.{BoardIsOne, BusRunIsOne, BusRunsAreRuns, BusStepIsOne, DevicesAreLeft, RunLeavesDevices, RunsAreBusRuns};
 
-use arm7_model::step_is_one;
+use arm7_model::{step_is_one, step_is_valid};
 
 /// Registers and a bus have at most one step.
 pub fn bus_step_is_one()
     ensures { BusStepIsOne }
 {
     step_is_one();
+}
+
+/// And at most one run.
+pub fn bus_run_is_one()
+    ensures { BusRunIsOne }
+{
+    step_is_one();
+    step_is_valid();
 }
 
 /// The board of a bus that is ready is one.
