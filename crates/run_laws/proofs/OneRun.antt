@@ -22,8 +22,10 @@ use Rattle.arm7_transfers.proofs.StepLemmas.{width_of}
 use Rattle.arm7_core.specs.Machines.{Ends, IsStep, levels}
 use Rattle.arm7_run.specs.Runs.{EndsWith, GoesOn, Leads, Runs, goes, stays}
 use Rattle.arm7_run.specs.Strings.{HasByte, IsBroken, IsString, Reaches, byte_behind, bytes_behind}
-use Rattle.run_laws.specs.Laws.{BusRunIsOne}
-use Rattle.run_laws.proofs.OneStep.{bus-step-is-one}
+use Rattle.arm7_model.specs.Outcomes.{Stepped}
+use Rattle.run_laws.specs.Steps.{AreMade}
+use Rattle.run_laws.specs.Laws.{BusRunIsOne, MadeStepsAreOne}
+use Rattle.run_laws.proofs.OneStep.{bus-step-is-one, ends-one, own-is-one}
 use Rattle.run_laws.proofs.ServedMemory.{ready-served}
 
 -- ---- strings
@@ -347,3 +349,19 @@ module _ (one : StepIsOne) (law : StepIsValid) where
       (either x.count y.count
       (λ lt. no-earlier most core s why made text core1 s1 y.count text' y.core1 y.s1 f x y.leads (within most y.count why' y.core1 y.s1 made' core2 s2 y.ends) lt)
       (λ lt. no-earlier most core s why' made' text' core2 s2 x.count text x.core1 x.s1 f y x.leads (within most x.count why x.core1 x.s1 made core1 s1 x.ends) lt))
+
+  -- ---- the steps that the machine makes
+
+  pub made-steps-are-one : MadeStepsAreOne
+  made-steps-are-one core s [] ys core1 core2 s1 s2 r v h k le = refl
+  made-steps-are-one core s (x ∷ xs) [] core1 core2 s1 s2 r v h k le = absurd (omega arith)
+  made-steps-are-one core s (x ∷ xs) (y ∷ ys) core1 core2 s1 s2 r v (d, core3, s3, step, rest) (e, core4, s4, step', rest') le =
+      let t = after_tick s in
+      let same = own-is-one core t (levels (lines_up t.devices)) (ready-tick s r) v.core one x y step.step step'.step in
+      let ends' = subst (λ (z : Stepped). Ends (has_frames t z.accesses) core t z e core4 s4) (sym same) step'.ends in
+      let (same_event, same_core, same_bus) = ends-one (has_frames t x.accesses) core t x d e core3 core4 s3 s4 step.ends ends' in
+      let made1 = subst (λ (c : ArmState). AreMade c s4 ys core2 s2) (sym same_core) rest' in
+      let made2 = subst (λ (b : State). AreMade core3 b ys core2 s2) (sym same_bus) made1 in
+      let fit = step-fit law core s d core3 s3 (record { ready = r; valid = v }) (record { first = x; step = step.step; ends = step.ends }) in
+      let later = made-steps-are-one core3 s3 xs ys core1 core2 s1 s2 fit.ready fit.valid rest made2 (omega arith) in
+      ap (λ (z : Stepped). z ∷ xs) same ∙ ap (λ (l : List Stepped). y ∷ l) later
