@@ -1,5 +1,5 @@
 -- Bytes that are made, and zeros behind them that aren't yet.
-use Rattle.std.proofs.Common.{◌≡◌, ℕ, zero, suc, ◌+◌, ◌-◌, ◌*◌, ◌%◌, ◌<◌, ◌≤◌, List, [], ◌∷◌, ◌++◌, length, take, drop, get_or, replicate, append_assoc, refl, sym, ap, ◌∙◌, arith, length-drop, length-take-le}
+use Rattle.std.proofs.Common.{◌≡◌, ℕ, zero, suc, ◌+◌, ◌-◌, ◌%◌, ◌<◌, ◌≤◌, List, [], ◌∷◌, ◌++◌, length, take, drop, get_or, replicate, append_assoc, refl, sym, ap, ◌∙◌, arith, length-drop, length-take-le}
 use Rattle.std.proofs.lemmas.List.{take_all, take-append-le, drop-append-le, drop-replicate, get_or_append_left, replicate-append-replicate}
 use Rattle.std.proofs.Math.Seq.{drop-append-add, get_or-append_right}
 use Rattle.sdt_word.specs.declared.codes.Width.{Width}

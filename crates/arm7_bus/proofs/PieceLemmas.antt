@@ -1,9 +1,7 @@
 -- Runs of bytes in one bank and one page.
-use Rattle.std.proofs.Common.{◌≡◌, ℕ, zero, suc, ◌+◌, ◌-◌, ◌%◌, ◌^◌, ◌<◌, ◌≤◌, Bool, true, false, ◌||◌, List, [], ◌∷◌, length, take, refl, sym, ap, ◌∙◌, arith, length-take-le, cond}
-use Rattle.std.specs.Prelude.{◌&&◌, min, nat_le, unwrap_or}
-use Rattle.std.specs.List.{list_any}
+use Rattle.std.proofs.Common.{◌≡◌, ℕ, zero, suc, ◌+◌, ◌-◌, ◌^◌, ◌<◌, ◌≤◌, Bool, true, false, ◌||◌, List, ◌∷◌, length, take, refl, sym, ap, ◌∙◌, arith, length-take-le}
+use Rattle.std.specs.Prelude.{min, unwrap_or}
 use Rattle.sdt_word.specs.Bytes.{load}
-use Rattle.sdt_word.proofs.BytesLemmas.{length-load}
 use Rattle.arm7_bus.specs.declared.memory.Bank.{Bank}
 use Rattle.arm7_bus.specs.Lookups.{HasFrom}
 use Rattle.arm7_bus.specs.Pieces.{IsPiece}

@@ -1,9 +1,7 @@
 -- Tests over the bytes of an access, one step at a time.
 use Rattle.std.proofs.Common.{◌≡◌, ℕ, suc, ◌+◌, ◌-◌, ◌<◌, Bool, true, false, refl, ap, arith, List}
-use Rattle.std.specs.Prelude.{if◌then◌else◌}
-use Rattle.std.specs.List.{list_any}
 use Rattle.arm7_bus.specs.declared.memory.Bank.{Bank}
-use Rattle.arm7_bus.specs.Touches.{range_touches, pages_touched}
+use Rattle.arm7_bus.specs.Touches.{pages_touched}
 use Rattle.arm7_model.specs.Memory.{any_from}
 
 -- a byte passes, so one of those from it on does

@@ -10,7 +10,6 @@ use Rattle.arm7_bus.specs.Pieces.{IsPiece}
 use Rattle.sdt_outside.specs.Sinks.{Got, GotPart}
 use Rattle.arm7_bus.specs.States.{Contents, peeked}
 use Rattle.arm7_run.specs.Strings.{HasByte, Reaches, byte_behind, bytes_behind}
-use Rattle.sdt_outside.proofs.SharedLemmas.{got_none}
 
 assoc : (a b c : List ℕ) → ((a ++ b) ++ c) ≡ (a ++ (b ++ c))
 assoc [] b c = refl

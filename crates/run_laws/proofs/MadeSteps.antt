@@ -1,7 +1,5 @@
 -- The steps that a run made, and what they leave of devices that they don't access.
-use Rattle.std.proofs.Common.{◌≡◌, ℕ, zero, suc, ◌+◌, Bool, true, false, List, [], ◌∷◌, ◌++◌, length, map, refl, sym, ap, ◌∙◌, subst, arith}
-use Rattle.sdt_word.specs.declared.codes.Width.{Width}
-use Rattle.sdt_word.specs.Codes.{bytes_in}
+use Rattle.std.proofs.Common.{◌≡◌, ℕ, zero, suc, ◌+◌, Bool, true, false, List, [], ◌∷◌, ◌++◌, length, refl, sym, ap, ◌∙◌, subst, arith}
 use Rattle.sdt_fault.specs.declared.answer.Stop.{Stop}
 use Rattle.sdt_fault.specs.declared.answer.Stop.TheVariants as stop
 use Rattle.arm7_model.specs.declared.state.ArmState.{ArmState}
@@ -12,18 +10,18 @@ use Rattle.arm7_model.specs.Outcomes.{Stepped}
 use Rattle.arm7_model.specs.Registers.{State as Whole, register}
 use Rattle.arm7_model.specs.Runs.{AreSteps, EachStep, accesses_of, behind}
 use Rattle.arm7_model.specs.Step.{Levels, Step, fetched, fetches}
-use Rattle.arm7_bus.specs.Buses.{after_read, after_tick}
-use Rattle.arm7_bus.specs.Seats.{Seat, lines_up, seat_ticked}
+use Rattle.arm7_bus.specs.Buses.{after_tick}
+use Rattle.arm7_bus.specs.Seats.{lines_up}
 use Rattle.arm7_bus.specs.States.{State}
 use Rattle.arm7_transfers.specs.Boards.{board_of, over}
 use Rattle.arm7_transfers.specs.Frames.{has_frames}
 use Rattle.arm7_transfers.specs.Ready.{IsReady}
-use Rattle.arm7_transfers.specs.Served.{answers_to, served}
+use Rattle.arm7_transfers.specs.Served.{answers_to}
 use Rattle.arm7_transfers.proofs.DoneLemmas.{fits}
 use Rattle.arm7_transfers.proofs.ReadyLemmas.{board-read, ready-read, ready-tick}
 use Rattle.arm7_transfers.proofs.StepLemmas.{width_of}
 use Rattle.arm7_core.specs.Machines.{Ends, IsStep, levels}
-use Rattle.arm7_run.specs.Runs.{EndsWith, Leads, Runs, goes, stays}
+use Rattle.arm7_run.specs.Runs.{EndsWith, Leads, goes, stays}
 use Rattle.run_laws.specs.Devices.{AreOffDevices, ticked_for, touches_of}
 use Rattle.run_laws.specs.Laws.{RunLeavesDevices, StepsAreMade}
 use Rattle.run_laws.specs.Steps.{AreMade, IsStepOf, given_by, steps_made}

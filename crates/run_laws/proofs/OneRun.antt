@@ -21,7 +21,7 @@ use Rattle.arm7_transfers.proofs.ReadyLemmas.{ready-read, ready-tick}
 use Rattle.arm7_transfers.proofs.StepLemmas.{width_of}
 use Rattle.arm7_core.specs.Machines.{Ends, IsStep, levels}
 use Rattle.arm7_run.specs.Runs.{EndsWith, GoesOn, Leads, Runs, goes, stays}
-use Rattle.arm7_run.specs.Strings.{HasByte, IsBroken, IsString, Reaches, byte_behind, bytes_behind}
+use Rattle.arm7_run.specs.Strings.{IsBroken, IsString, Reaches, byte_behind, bytes_behind}
 use Rattle.arm7_model.specs.Outcomes.{Stepped}
 use Rattle.run_laws.specs.Steps.{AreMade}
 use Rattle.run_laws.specs.Laws.{BusRunIsOne, MadeStepsAreOne}

@@ -4,7 +4,6 @@ use Rattle.sdt_fault.specs.declared.answer.Stop.{Stop}
 use Rattle.arm7_model.specs.declared.state.ArmState.{ArmState}
 use Rattle.arm7_model.specs.declared.event.Event.{Event}
 use Rattle.arm7_model.specs.Accesses.{Access}
-use Rattle.arm7_model.specs.Memory.{Board}
 use Rattle.arm7_model.specs.Outcomes.{Stepped}
 use Rattle.arm7_model.specs.Registers.{IsValid, IsValidState}
 use Rattle.arm7_model.specs.Runs.{AreSteps, EachStep, accesses_of, behind}

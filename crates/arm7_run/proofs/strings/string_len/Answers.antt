@@ -1,4 +1,4 @@
-use Rattle.std.proofs.Common.{refl, ◌∙◌, ap, ℕ, subst, sym}
+use Rattle.std.proofs.Common.{refl, ℕ, subst, sym}
 use Rattle.arm7_bus.specs.States.{contents_of}
 use Rattle.arm7_run.specs.Strings.{Reaches}
 use Rattle.arm7_run.proofs.StringLemmas.{ends_ahead, goes_on_ahead}
