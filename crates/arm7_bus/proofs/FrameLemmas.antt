@@ -1,5 +1,5 @@
 -- Bytes that are made, and zeros behind them that aren't yet.
-use Rattle.std.proofs.Common.{◌≡◌, ℕ, zero, suc, ◌+◌, ◌-◌, ◌*◌, ◌%◌, ◌<◌, ◌≤◌, List, [], ◌∷◌, ◌++◌, length, take, drop, get_or, replicate, append_assoc, refl, sym, ap, ◌∙◌, arith, length-drop}
+use Rattle.std.proofs.Common.{◌≡◌, ℕ, zero, suc, ◌+◌, ◌-◌, ◌%◌, ◌<◌, ◌≤◌, List, [], ◌∷◌, ◌++◌, length, take, drop, get_or, replicate, append_assoc, refl, sym, ap, ◌∙◌, arith, length-drop, length-take-le}
 use Rattle.std.proofs.lemmas.List.{take_all, take-append-le, drop-append-le, drop-replicate, get_or_append_left, replicate-append-replicate}
 use Rattle.std.proofs.Math.Seq.{drop-append-add, get_or-append_right}
 use Rattle.sdt_word.specs.declared.codes.Width.{Width}
@@ -33,6 +33,15 @@ number_made xs n at k le =
     let d = drop-append-le at xs (replicate n 0) (omega arith) in
     let l = length-drop at xs in
     sym (ap (λ (ys : List ℕ). number_of (take k ys)) d ∙ ap number_of (take-append-le k (drop at xs) (replicate n 0) (omega arith)))
+
+-- the bytes of a frame that are made
+pub rest_made : (xs ys : List ℕ) (n at end : ℕ) → at ≤ end → end ≤ length xs → ys ≡ take (end - at) (drop at xs)
+    → ys ≡ take (length ys) (drop at (xs ++ replicate n 0))
+rest_made xs ys n at end low high e =
+    let d = drop-append-le at xs (replicate n 0) (omega arith) in
+    let l = length-drop at xs in
+    let size : length ys ≡ end - at = ap length e ∙ length-take-le (end - at) (drop at xs) (omega arith) in
+    e ∙ sym (ap (λ (k : ℕ). take k (drop at (xs ++ replicate n 0))) size ∙ ap (take (end - at)) d ∙ take-append-le (end - at) (drop at xs) (replicate n 0) (omega arith))
 
 zeros : (k m : ℕ) → number_of (take k (replicate m 0)) ≡ 0
 zeros zero m = refl

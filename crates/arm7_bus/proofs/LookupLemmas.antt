@@ -1,19 +1,16 @@
 -- A bank that has an access, by its place; and what it protects, where the banks share no address.
-use Rattle.std.proofs.Common.{◌≡◌, ℕ, zero, suc, ◌+◌, ◌<◌, ◌≤◌, Bool, true, false, ◌||◌, List, [], ◌∷◌, ◌++◌, length, get_or, map, take, drop, Option, Some, None, is_some, cond, refl, sym, ap, ◌∙◌, subst, arith}
+use Rattle.std.proofs.Common.{◌≡◌, ℕ, zero, suc, ◌+◌, ◌<◌, ◌≤◌, Bool, true, false, ◌||◌, List, [], ◌∷◌, ◌++◌, length, get_or, map, take, drop, Option, Some, None, refl, sym, ap, ◌∙◌, subst, arith}
 use Rattle.std.specs.Prelude.{◌&&◌, if◌then◌else◌}
-use Rattle.std.specs.List.{list_any}
 use Rattle.std.proofs.lemmas.List.{append-nil, length-map, take_all}
 use Rattle.std.proofs.Math.Seq.{drop-length}
 use Rattle.std.proofs.lemmas.List.Folds.{list_any-append, list_any_at}
 use Rattle.sdt_word.specs.declared.ranges.Range32.{Range32}
-use Rattle.arm7_model.specs.Memory.{any_from}
 use Rattle.arm7_bus.specs.declared.memory.Bank.{Bank}
 use Rattle.arm7_bus.specs.Lookups.{AreApartBanks, IsBankAt, banks_meet}
 use Rattle.arm7_bus.specs.Meets.{IsFound, IsNowhere, lesser_of}
 use Rattle.arm7_bus.specs.Protection.{protected_bank}
 use Rattle.arm7_bus.specs.Seats.{has_access}
 use Rattle.arm7_bus.specs.States.{bank_has, is_protected, protected_at}
-use Rattle.arm7_bus.proofs.MeetLemmas.{and_left, and_right, or_true}
 use Rattle.arm7_bus.proofs.TickLemmas.{or_false}
 
 -- ---- places

@@ -1,9 +1,7 @@
 -- Tests over the bytes of an access, one step at a time.
 use Rattle.std.proofs.Common.{◌≡◌, ℕ, suc, ◌+◌, ◌-◌, ◌<◌, Bool, true, false, refl, ap, arith, List}
-use Rattle.std.specs.Prelude.{if◌then◌else◌}
-use Rattle.std.specs.List.{list_any}
 use Rattle.arm7_bus.specs.declared.memory.Bank.{Bank}
-use Rattle.arm7_bus.specs.Touches.{range_touches, pages_touched}
+use Rattle.arm7_bus.specs.Touches.{pages_touched}
 use Rattle.arm7_model.specs.Memory.{any_from}
 
 -- a byte passes, so one of those from it on does
@@ -23,7 +21,3 @@ any_there p x end lt h =
 pub touched_none : (banks : List Bank) → pages_touched banks 0 ≡ 0
 unfolding pages_touched
 touched_none banks = refl
-
-pub touched_more : (banks : List Bank) (n : ℕ) → pages_touched banks (n + 1) ≡ pages_touched banks n + (if list_any (λ (b : Bank). range_touches b.range.base b.range.size n) banks then 1 else 0)
-unfolding pages_touched
-touched_more banks n = let next : n + 1 ≡ suc n = omega arith in rw next refl

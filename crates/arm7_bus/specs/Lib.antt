@@ -3,6 +3,7 @@ pub mod Lookups
 pub mod Meets
 pub mod Overlaps
 pub mod Paging
+pub mod Pieces
 pub mod Places
 pub mod Protection
 pub mod Seats

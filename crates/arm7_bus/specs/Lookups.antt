@@ -1,5 +1,5 @@
 -- Which bank has an access: the banks share no address, so a byte of it lies in one of them at most. This project's.
-use Rattle.std.specs.Prelude.{◌≡◌, ℕ, ◌<◌, Bool, true, false, ◌&&◌, ◌||◌, List, [], ◌∷◌, length, slice_index_or}
+use Rattle.std.specs.Prelude.{◌≡◌, ℕ, ◌+◌, ◌<◌, Bool, true, false, ◌&&◌, ◌||◌, List, [], ◌∷◌, length, slice_index_or}
 use Rattle.std.specs.List.{list_any}
 use Rattle.arm7_bus.specs.declared.memory.Bank.{Bank}
 use Rattle.arm7_bus.specs.Seats.{has_access}
@@ -17,3 +17,7 @@ pub record AreApartBanks (banks : List Bank) : Type 0 where
 pub record IsBankAt (banks : List Bank) (i a n : ℕ) : Type 0 where
   pub within : i < length banks
   pub access : (b : Bank) → b ≡ slice_index_or banks i b → has_access b.range.base b.range.size a n ≡ true
+
+-- the banks have each of the n addresses from a on
+pub record HasFrom (banks : List Bank) (a n : ℕ) : Type 0 where
+  pub each : (k : ℕ) → k < n → list_any (λ b. has_access b.range.base b.range.size (a + k) 1) banks ≡ true

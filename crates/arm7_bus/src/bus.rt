@@ -4,6 +4,7 @@ ghost use Rattle.std.specs.Prelude.{◌≡◌, ◌<◌, ◌%◌, ◌-◌, [], le
 ghost use Rattle.std.specs.Result.{result_ok};
 ghost use Rattle.sdt_word.specs.Codes.{bytes_in};
 ghost use Rattle.arm7_bus.specs.Paging.{page_used_in, used_count};
+ghost use Rattle.arm7_bus.specs.Pieces.{IsPiece};
 ghost use Rattle.arm7_bus.specs.Places.{place_of};
 ghost use Rattle.arm7_bus.specs.Seats.{lines_up, seats_by};
 ghost use Rattle.std.specs.Prelude.{◌↔◌, IsOk, OnOk, OnErr};
@@ -129,6 +130,15 @@ impl Bus {
         ensures { result ≡ peeked (bus_state base size state touched self.now).contents a }
     {
         self.memory.peek(a)
+    }
+
+    /// The bytes from an address on that its bank and its page have; none where no bank has it, or its page has no bytes yet,
+    /// which are zeros. No device is touched.
+    pub fn piece(&self, a: u32) -> &[u8]
+        requires { IsStarted (bus_state base size state touched self.now) }
+        ensures { IsPiece (bus_state base size state touched self.now).contents a result.now }
+    {
+        self.memory.piece(a)
     }
 
     /// Whether a byte of the access is protected.

@@ -68,6 +68,16 @@ impl Frames {
         byte_of(&self.bytes, self.left, at as usize)
     }
 
+    /// The bytes from a place on, up to the end of its frame; none where they aren't made yet.
+    pub fn rest(&self, at: u32) -> &[u8]
+        requires { at < length self.now }
+        ensures bytes { result.now ≡ take (length result.now) (drop at self.now) }
+        ensures some { length result.now ≡ 0 → slice_index self.now at ≡ 0 }
+        ensures within { at % 4096 + length result.now ≤ 4096 }
+    {
+        rest_of(&self.bytes, self.left, at as usize)
+    }
+
     /// The bytes of an access, as a number.
     pub fn read(&self, at: u32, width: Width) -> u32
         requires aligned { at % bytes_in width ≡ 0 }
@@ -99,6 +109,20 @@ fn byte_of(bytes: &[u8], _left: usize, at: usize) -> u8
         return bytes[at];
     }
     0
+}
+
+/// The bytes from a place on, up to the end of its frame, where `_left` zeros follow the bytes.
+#[tactic(auto, using(crate::proofs::FrameLemmas::rest_made, crate::proofs::FrameLemmas::byte_left))]
+fn rest_of(bytes: &[u8], _left: usize, at: usize) -> &[u8]
+    requires { length bytes.now % 4096 ≡ 0 }
+    ensures bytes { result.now ≡ take (length result.now) (drop at (bytes.now ++ replicate _left 0)) }
+    ensures some { length result.now ≡ 0 → slice_index (bytes.now ++ replicate _left 0) at ≡ 0 }
+    ensures within { at % 4096 + length result.now ≤ 4096 }
+{
+    if at >= bytes.len() {
+        return &bytes[..0];
+    }
+    &bytes[at..(at / 4096 + 1) * 4096]
 }
 
 /// The bytes of an access, as a number, where `_left` zeros follow the bytes.

@@ -3,7 +3,7 @@
 ghost use Rattle.std.specs.Prelude.{◌≡◌, ◌<◌, ◌≤◌, ◌+◌, ◌-◌, ◌/◌, ◌%◌, ◌^◌, ◌∷◌, [], ◌++◌, ◌||◌, nat_lt, length, map, take, true, false, IsTrue, is_some, Some, None, Ok, Err, OnOk, OnErr, IfErr, MatchResult, slice_set};
 ghost use Rattle.sdt_word.specs.Bytes.{bytes_of, load, number_of};
 ghost use Rattle.sdt_word.specs.Codes.{bytes_in};
-ghost use Rattle.arm7_bus.specs.Lookups.{AreApartBanks, IsBankAt};
+ghost use Rattle.arm7_bus.specs.Lookups.{AreApartBanks, HasFrom, IsBankAt};
 
 use crate::meets::{first_shared, lesser};
 use crate::pages::{PAGE, PAGES, Pages};
@@ -132,8 +132,25 @@ fn bank_meeting(banks: &[Bank], r: Range32) -> Option<u32>
     lesser(first_shared(r, first.range), bank_meeting(rest, r))
 }
 
+/// How many addresses from this one on its bank has.
+#[tactic(auto, using(crate::proofs::PieceLemmas::left_first, crate::proofs::PieceLemmas::left_later))]
+fn left_in(banks: &[Bank], a: u32) -> usize
+    ensures held { HasFrom banks.now a result }
+    ensures none { result ≡ 0 → list_any (λ b. has_access b.range.base b.range.size a 1) banks.now ≡ false }
+    ensures within { a + result ≤ 2 ^ 32 }
+{
+    let [first, rest @ ..] = banks else {
+        return 0;
+    };
+    if range_has(first.range, u64::from(a), 1) {
+        return (u64::from(first.range.base) + first.range.size - u64::from(a)) as usize;
+    }
+    left_in(rest, a)
+}
+
 impl Memory {
     ghost use Rattle.std.specs.Prelude.{◌&&◌, nat_le};
+    ghost use Rattle.arm7_bus.specs.Pieces.{IsPiece};
     ghost use Rattle.arm7_bus.specs.States.{claimed, pages_of};
     ghost use Rattle.arm7_bus.specs.Buses.{with_bank, with_protected};
     ghost use Rattle.arm7_bus.specs.Meets.{IsFound, IsNowhere};
@@ -220,6 +237,16 @@ impl Memory {
         } else {
             None
         }
+    }
+
+    /// The bytes from an address on that its bank and its page have; none where no bank has it, or its page has no bytes yet.
+    pub fn piece(&self, a: u32) -> &[u8]
+        requires { length (contents_of self.now).used ≡ 1048576 }
+        ensures { IsPiece (contents_of self.now) a result.now }
+    {
+        let bytes = self.pages.piece(a);
+        let count = left_in(&self.banks, a);
+        &bytes[..bytes.len().min(count)]
     }
 
     pub fn page_used(&self, a: u32) -> bool

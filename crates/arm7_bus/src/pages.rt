@@ -80,6 +80,18 @@ impl Pages {
         }
     }
 
+    /// The bytes from an address on, up to the end of its page; none where its page has no frame, or no byte of it was made.
+    pub fn piece(&self, a: u32) -> &[u8]
+        requires { length self.now.table.items ≡ 1048576 }
+        ensures bytes { result.now ≡ load (memory_in self.now.table.items self.now.frames) a (length result.now) }
+        ensures some { length result.now ≡ 0 → memory_in self.now.table.items self.now.frames a ≡ 0 }
+    {
+        match self.table[(a / PAGE) as usize] {
+            Some(frame) => self.frames.rest(u32::from(frame) * PAGE + a % PAGE),
+            None => &[],
+        }
+    }
+
     pub fn is_used(&self, page: usize) -> bool
         requires { page < length self.now.table.items }
         ensures { result ≡ slice_index_or (used_in self.now.table.items) page false }

@@ -20,7 +20,7 @@ use Rattle.arm7_transfers.proofs.ReadyLemmas.{board-same, places-tick, ready-tic
 use Rattle.arm7_core.specs.Machines.{Ends, IsStep, IsStepFrom, levels}
 use Rattle.arm7_run.specs.Runs.{GoesOn, Leads, goes, stays}
 use Rattle.run_laws.specs.Laws.{BusRunsAreRuns, RunsAreBusRuns}
-use Rattle.run_laws.specs.Steps.{IsRunOf, Print, StoresAreUsed, given_by, left_by}
+use Rattle.run_laws.specs.Steps.{IsRunOf, IsStepOf, Print, StoresAreUsed, given_by, left_by}
 use Rattle.run_laws.proofs.ServedMemory.{board-served, frames-used, ready-served, serves, used-as}
 use Rattle.run_laws.proofs.StepAdded.{step-adds}
 
@@ -30,13 +30,13 @@ pub board-tick : (s : State) → board_of (after_tick s) ≡ board_of s
 board-tick s = board-same s (after_tick s) (places-tick s)
 
 -- a bus behind one more step
-abbrev next : State → List Access → State
+abbrev pub next : State → List Access → State
 next s xs = served (after_tick s) xs
 
-board-next : (s : State) (xs : List Access) → board_of (next s xs) ≡ board_of s
+pub board-next : (s : State) (xs : List Access) → board_of (next s xs) ≡ board_of s
 board-next s xs = board-served (after_tick s) xs ∙ board-tick s
 
-ready-next : (s : State) (xs : List Access) → IsReady s → IsReady (next s xs)
+pub ready-next : (s : State) (xs : List Access) → IsReady s → IsReady (next s xs)
 ready-next s xs r = ready-served (after_tick s) xs (ready-tick s r)
 
 board-left : (s : State) (xs : List (List Access)) → board_of (left_by s xs) ≡ board_of s
@@ -46,7 +46,7 @@ board-left s (x ∷ xs) = board-left (next s x) xs ∙ board-next s x
 -- ---- one more step at the end
 
 -- the step of the model that a bus behind some steps makes
-abbrev Own : Board → Whole → State → Stepped → Type 0
+abbrev pub Own : Board → Whole → State → Stepped → Type 0
 Own board st s x = Step board st (levels (lines_up (after_tick s).devices)) (answers_to (after_tick s) x.accesses) x
 
 steps-end : (board : Board) (st : Whole) (s : State) (steps : List Stepped) (x : Stepped) → AreSteps board st (given_by s (accesses_of steps)) steps
@@ -156,7 +156,7 @@ step-memory core s x lines r used (i, read, e) =
     ∙ sym (ap (λ (t : Stepped). t.state.memory) e ∙ p.memory a (λ f. refl))
 
 -- and it stays in the used pages
-step-used : (core : ArmState) (s : State) (x : Stepped) (lines : Levels) → IsReady s → StoresAreUsed s.contents x.accesses
+pub step-used : (core : ArmState) (s : State) (x : Stepped) (lines : Levels) → IsReady s → StoresAreUsed s.contents x.accesses
     → Step (board_of s) (over core s) lines (answers_to s x.accesses) x
     → ((served s x.accesses).contents.used ≡ s.contents.used) × ((served s x.accesses).contents.banks ≡ s.contents.banks)
 step-used core s x lines r used (i, read, e) =
@@ -168,7 +168,7 @@ step-used core s x lines r used (i, read, e) =
       ap (λ (xs : List Access). (served s xs).contents.banks) made ∙ h.banks,
     )
 
-each-as : (c d : Contents) (xs : List (List Access)) → d.used ≡ c.used → d.banks ≡ c.banks → EachStep (StoresAreUsed c) xs → EachStep (StoresAreUsed d) xs
+pub each-as : (c d : Contents) (xs : List (List Access)) → d.used ≡ c.used → d.banks ≡ c.banks → EachStep (StoresAreUsed c) xs → EachStep (StoresAreUsed d) xs
 each-as c d [] e f h = tt
 each-as c d (x ∷ xs) e f h = (used-as c d x e f h.0, each-as c d xs e f h.1)
 
@@ -176,8 +176,8 @@ abbrev Back : ArmState → State → List ℕ → List Stepped → Type 0
 Back core s text steps =
     (core' : ArmState) × (s' : State) × Leads core s (length steps) text core' s' × IsRunOf core s (length steps) text core' s' steps
 
-one-step-back : (core : ArmState) (s : State) (x : Stepped) → IsReady s → Own (board_of s) (over core s) s x → StoresAreUsed s.contents x.accesses
-    → IsStep core s x.event x.state.core (next s x.accesses) × (over x.state.core (next s x.accesses) ≡ x.state)
+pub one-step-back : (core : ArmState) (s : State) (x : Stepped) → IsReady s → Own (board_of s) (over core s) s x → StoresAreUsed s.contents x.accesses
+    → IsStepOf core (after_tick s) x x.event x.state.core (next s x.accesses) × (over x.state.core (next s x.accesses) ≡ x.state)
 one-step-back core s x r one used =
     let t = after_tick s in
     let ready = ready-tick s r in
@@ -185,14 +185,15 @@ one-step-back core s x r one used =
     subst (λ (b : Board). Step b (over core t) (levels (lines_up t.devices)) (answers_to t x.accesses) x) (sym (board-tick s)) one in
     let memory = step-memory core t x (levels (lines_up t.devices)) ready used step in
     let state : over x.state.core (next s x.accesses) ≡ x.state = ap (λ (m : Bytes). record { core = x.state.core; memory = m }) memory in
-    (record { first = x; step = step; ends = rw (frames-used t x.accesses ready used) (refl, state, refl) }, state)
+    (record { step = step; ends = rw (frames-used t x.accesses ready used) (refl, state, refl) }, state)
 
 pub runs-are-bus-runs : RunsAreBusRuns
 runs-are-bus-runs core s text [] r are print used =
     (core, s, subst (λ (l : List ℕ). Leads core s 0 l core s) (sym print) stays, record { count = refl; steps_are = tt; print = print; state = refl; bus = refl })
 runs-are-bus-runs core s text (x ∷ xs) r (one, counted, rest) (piece, more, on, others, e) (used, later) =
     let t = next s x.accesses in
-    let (step, state) = one-step-back core s x r one used in
+    let (made, state) = one-step-back core s x r one used in
+    let step : IsStep core s x.event x.state.core t = record { first = x; step = made.step; ends = made.ends } in
     let kept = step-used core (after_tick s) x (levels (lines_up (after_tick s).devices)) (ready-tick s r) used
     (subst (λ (b : Board). Step b (over core (after_tick s)) (levels (lines_up (after_tick s).devices)) (answers_to (after_tick s) x.accesses) x) (sym (board-tick s)) one) in
     let rest1 : AreSteps (board_of s) (over x.state.core t) (given_by t (accesses_of xs)) xs =

@@ -1,7 +1,5 @@
 -- The steps that a run made, and what they leave of devices that they don't access.
-use Rattle.std.proofs.Common.{◌≡◌, ℕ, zero, suc, ◌+◌, Bool, true, false, List, [], ◌∷◌, ◌++◌, length, map, refl, sym, ap, ◌∙◌, subst, arith}
-use Rattle.sdt_word.specs.declared.codes.Width.{Width}
-use Rattle.sdt_word.specs.Codes.{bytes_in}
+use Rattle.std.proofs.Common.{◌≡◌, ℕ, zero, suc, ◌+◌, Bool, true, false, List, [], ◌∷◌, ◌++◌, length, refl, sym, ap, ◌∙◌, subst, arith}
 use Rattle.sdt_fault.specs.declared.answer.Stop.{Stop}
 use Rattle.sdt_fault.specs.declared.answer.Stop.TheVariants as stop
 use Rattle.arm7_model.specs.declared.state.ArmState.{ArmState}
@@ -9,25 +7,25 @@ use Rattle.arm7_model.specs.declared.event.Event.{Event}
 use Rattle.arm7_model.specs.Accesses.{Access, Fetch}
 use Rattle.arm7_model.specs.Memory.{Board}
 use Rattle.arm7_model.specs.Outcomes.{Stepped}
-use Rattle.arm7_model.specs.Registers.{register}
-use Rattle.arm7_model.specs.Runs.{EachStep, accesses_of}
+use Rattle.arm7_model.specs.Registers.{State as Whole, register}
+use Rattle.arm7_model.specs.Runs.{AreSteps, EachStep, accesses_of, behind}
 use Rattle.arm7_model.specs.Step.{Levels, Step, fetched, fetches}
-use Rattle.arm7_bus.specs.Buses.{after_read, after_tick}
-use Rattle.arm7_bus.specs.Seats.{Seat, lines_up, seat_ticked}
+use Rattle.arm7_bus.specs.Buses.{after_tick}
+use Rattle.arm7_bus.specs.Seats.{lines_up}
 use Rattle.arm7_bus.specs.States.{State}
 use Rattle.arm7_transfers.specs.Boards.{board_of, over}
 use Rattle.arm7_transfers.specs.Frames.{has_frames}
 use Rattle.arm7_transfers.specs.Ready.{IsReady}
-use Rattle.arm7_transfers.specs.Served.{answers_to, served}
+use Rattle.arm7_transfers.specs.Served.{answers_to}
 use Rattle.arm7_transfers.proofs.DoneLemmas.{fits}
 use Rattle.arm7_transfers.proofs.ReadyLemmas.{board-read, ready-read, ready-tick}
 use Rattle.arm7_transfers.proofs.StepLemmas.{width_of}
 use Rattle.arm7_core.specs.Machines.{Ends, IsStep, levels}
-use Rattle.arm7_run.specs.Runs.{EndsWith, Leads, Runs, goes, stays}
+use Rattle.arm7_run.specs.Runs.{EndsWith, Leads, goes, stays}
 use Rattle.run_laws.specs.Devices.{AreOffDevices, ticked_for, touches_of}
-use Rattle.run_laws.specs.Laws.{RunLeavesDevices}
-use Rattle.run_laws.specs.Steps.{AreMade, IsStepOf, steps_made}
-use Rattle.run_laws.proofs.BusRuns.{board-tick}
+use Rattle.run_laws.specs.Laws.{RunLeavesDevices, StepsAreMade}
+use Rattle.run_laws.specs.Steps.{AreMade, IsStepOf, given_by, steps_made}
+use Rattle.run_laws.proofs.BusRuns.{board-next, board-tick, each-as, next, one-step-back, ready-next, step-used}
 use Rattle.run_laws.proofs.Devices.{each-board, off-board, one-read, touches-kept, untouched}
 use Rattle.run_laws.proofs.ServedMemory.{board-served, ready-served}
 use Rattle.run_laws.proofs.StepAdded.{step-adds}
@@ -142,3 +140,19 @@ run-leaves-devices most core s why made text core' s' r run =
           let devices = made-leaves core s steps core' s' r are off ∙ ap (λ (n : ℕ). ticked_for n s.devices) count in
           (devices, ap touches_of devices ∙ touches-kept (steps_made why made) s.devices),
     )
+
+-- ---- steps of the model that the machine makes
+
+pub steps-are-made : StepsAreMade
+steps-are-made core s [] r are used = (core, s, (refl, refl), refl, refl)
+steps-are-made core s (x ∷ xs) r (one, counted, rest) (used, later) =
+    let t = next s x.accesses in
+    let (step, state) = one-step-back core s x r one used in
+    let kept = step-used core (after_tick s) x (levels (lines_up (after_tick s).devices)) (ready-tick s r) used step.step in
+    let rest1 : AreSteps (board_of s) (over x.state.core t) (given_by t (accesses_of xs)) xs =
+    subst (λ (y : Whole). AreSteps (board_of s) y (given_by t (accesses_of xs)) xs) (sym state) rest in
+    let rest2 : AreSteps (board_of t) (over x.state.core t) (given_by t (accesses_of xs)) xs =
+    subst (λ (b : Board). AreSteps b (over x.state.core t) (given_by t (accesses_of xs)) xs) (sym (board-next s x.accesses)) rest1 in
+    let (core', s', made, behind_is, left_is) = steps-are-made x.state.core t xs (ready-next s x.accesses r) rest2
+    (each-as s.contents t.contents (accesses_of xs) kept.0 kept.1 later) in
+    (core', s', (x.event, x.state.core, t, step, made), ap (λ (y : Whole). behind y xs) (sym state) ∙ behind_is, left_is)

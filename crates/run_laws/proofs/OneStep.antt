@@ -88,7 +88,7 @@ module _ (core : ArmState) (s : State) (lines : Levels) (ready : IsReady s) (val
 some-is : (a b : ℕ) → Some a ≡ Some b → a ≡ b
 some-is a b e = cc
 
-ends-one : (b : Bool) (core : ArmState) (s : State) (first : Stepped) (d e : Event) (core1 core2 : ArmState) (s1 s2 : State)
+pub ends-one : (b : Bool) (core : ArmState) (s : State) (first : Stepped) (d e : Event) (core1 core2 : ArmState) (s1 s2 : State)
     → Ends b core s first d core1 s1 → Ends b core s first e core2 s2 → (d ≡ e) × (core1 ≡ core2) × (s1 ≡ s2)
 ends-one true core s first d e core1 core2 s1 s2 (p, q, r) (p', q', r') = (p ∙ sym p', ap (λ (x : Whole). x.core) (q ∙ sym q'), r ∙ sym r')
 ends-one false core s first d e core1 core2 s1 s2 (a, p, l, c, f) (a', p', l', c', f') =

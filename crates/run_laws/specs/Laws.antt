@@ -1,13 +1,12 @@
 -- The laws of runs, as the empty public functions state them. This project's.
-use Rattle.std.specs.Prelude.{◌≡◌, ℕ, ◌+◌, List, ◌++◌, drop, length}
+use Rattle.std.specs.Prelude.{◌≡◌, ℕ, ◌≤◌, List, length, take}
 use Rattle.sdt_fault.specs.declared.answer.Stop.{Stop}
 use Rattle.arm7_model.specs.declared.state.ArmState.{ArmState}
 use Rattle.arm7_model.specs.declared.event.Event.{Event}
 use Rattle.arm7_model.specs.Accesses.{Access}
-use Rattle.arm7_model.specs.Memory.{Board}
 use Rattle.arm7_model.specs.Outcomes.{Stepped}
-use Rattle.arm7_model.specs.Registers.{IsValid, State as Whole}
-use Rattle.arm7_model.specs.Runs.{AreSteps, EachStep, accesses_of}
+use Rattle.arm7_model.specs.Registers.{IsValid, IsValidState}
+use Rattle.arm7_model.specs.Runs.{AreSteps, EachStep, accesses_of, behind}
 use Rattle.arm7_bus.specs.States.{State}
 use Rattle.arm7_core.specs.Machines.{IsStep}
 use Rattle.arm7_transfers.specs.Boards.{board_of, over}
@@ -22,6 +21,14 @@ abbrev pub BusStepIsOne : Type 0
 BusStepIsOne =
     (core : ArmState) (s : State) (d e : Event) (core1 core2 : ArmState) (s1 s2 : State) → IsReady s → IsValid core
     → IsStep core s d core1 s1 → IsStep core s e core2 s2 → (d ≡ e) × (core1 ≡ core2) × (s1 ≡ s2)
+
+-- and at most one run, with its end and its text
+abbrev pub BusRunIsOne : Type 0
+BusRunIsOne =
+    (most : ℕ) (core : ArmState) (s : State) (why why' : Stop) (made made' : ℕ) (text text' : List ℕ) (core1 core2 : ArmState) (s1 s2 : State)
+    → IsReady s → IsValidState (over core s)
+    → Runs most core s why made text core1 s1 → Runs most core s why' made' text' core2 s2
+    → (why ≡ why') × (made ≡ made') × (text ≡ text') × (core1 ≡ core2) × (s1 ≡ s2)
 
 -- the board of a bus that is ready is one
 abbrev pub BoardIsOne : Type 0
@@ -40,6 +47,21 @@ RunsAreBusRuns =
     → AreSteps (board_of s) (over core s) (given_by s (accesses_of steps)) steps → Print s steps text
     → EachStep (StoresAreUsed s.contents) (accesses_of steps)
     → (core' : ArmState) × (s' : State) × Leads core s (length steps) text core' s' × IsRunOf core s (length steps) text core' s' steps
+
+-- its steps are those that the machine makes, whatever the host does behind them
+abbrev pub StepsAreMade : Type 0
+StepsAreMade =
+    (core : ArmState) (s : State) (steps : List Stepped) → IsReady s
+    → AreSteps (board_of s) (over core s) (given_by s (accesses_of steps)) steps
+    → EachStep (StoresAreUsed s.contents) (accesses_of steps)
+    → (core' : ArmState) × (s' : State) × AreMade core s steps core' s'
+    × (behind (over core s) steps ≡ over core' s') × (s' ≡ left_by s (accesses_of steps))
+
+-- of two lists of steps that the machine makes from one place, the shorter is the beginning of the longer
+abbrev pub MadeStepsAreOne : Type 0
+MadeStepsAreOne =
+    (core : ArmState) (s : State) (xs ys : List Stepped) (core1 core2 : ArmState) (s1 s2 : State) → IsReady s → IsValidState (over core s)
+    → AreMade core s xs core1 s1 → AreMade core s ys core2 s2 → length xs ≤ length ys → xs ≡ take (length xs) ys
 
 -- steps that access no device: they are given the devices' lines alone, and leave devices as time alone makes them, with
 -- their counts of accesses

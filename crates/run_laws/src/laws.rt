@@ -1,14 +1,22 @@
 //! The laws. Their calls do nothing; their contracts are the laws.
 
-ghost use Rattle.run_laws.specs.Laws.{BoardIsOne, BusRunsAreRuns, BusStepIsOne, DevicesAreLeft, RunLeavesDevices, RunsAreBusRuns};
+ghost use Rattle.run_laws.specs.Laws.{BoardIsOne, BusRunIsOne, BusRunsAreRuns, BusStepIsOne, DevicesAreLeft, MadeStepsAreOne, RunLeavesDevices, RunsAreBusRuns, StepsAreMade};
 
-use arm7_model::step_is_one;
+use arm7_model::{step_is_one, step_is_valid};
 
 /// Registers and a bus have at most one step.
 pub fn bus_step_is_one()
     ensures { BusStepIsOne }
 {
     step_is_one();
+}
+
+/// And at most one run.
+pub fn bus_run_is_one()
+    ensures { BusRunIsOne }
+{
+    step_is_one();
+    step_is_valid();
 }
 
 /// The board of a bus that is ready is one.
@@ -25,6 +33,19 @@ pub fn bus_runs_are_runs()
 pub fn runs_are_bus_runs()
     ensures { RunsAreBusRuns }
 {}
+
+/// The steps of such a run of the model are those that the machine makes.
+pub fn steps_are_made()
+    ensures { StepsAreMade }
+{}
+
+/// The machine makes one list of steps from one place.
+pub fn made_steps_are_one()
+    ensures { MadeStepsAreOne }
+{
+    step_is_one();
+    step_is_valid();
+}
 
 /// Steps that access no device leave the counts of accesses of all devices.
 pub fn devices_are_left()

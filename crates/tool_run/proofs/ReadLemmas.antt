@@ -1,6 +1,8 @@
 -- An image that was read, or why not, by what the store told.
-use Rattle.std.proofs.Common.{◌≡◌, ℕ, List, [], ◌∷◌, length, Option, Some, None, Result, Ok, Err, refl, sym, ap, ◌∙◌, inr, Bool, true, false}
-use Rattle.std.specs.Prelude.{◌==◌}
+use Rattle.std.proofs.Common.{◌≡◌, ℕ, zero, suc, ◌+◌, ◌<◌, List, [], ◌∷◌, ◌++◌, length, Option, Some, None, Result, Ok, Err, refl, sym, ap, ◌∙◌, subst, inl, inr, ◌⊎◌, Bool, true, false, take, drop, arith, append_assoc}
+use Rattle.std.specs.Prelude.{◌==◌, slice_index_or}
+use Rattle.std.proofs.lemmas.List.{take-append-drop}
+use Rattle.std.proofs.lemmas.List.Quantifiers.{position-Some}
 use Rattle.sdt_fault.specs.declared.answer.Fault.{Fault}
 use Rattle.sdt_fault.specs.declared.answer.Fault.TheVariants as fault
 use Rattle.sdt_fault.specs.declared.kinds.FileKind.{FileKind}
@@ -15,12 +17,14 @@ use Rattle.bin_image.specs.Maps.{ReadsMap}
 use Rattle.bin_image.specs.Reading.{empty_map, map_of, pieces_of, read, told as told_map}
 use Rattle.bin_image.specs.declared.reading.Stage.TheVariants.{Head}
 use Rattle.run_opening.specs.declared.image.Image.{Image}
-use Rattle.tool_answers.specs.Inputs.{AreInputs, IsReached, found_or}
+use Rattle.tool_answers.specs.declared.inputs.InputEnd.{InputEnd}
+use Rattle.tool_answers.specs.declared.inputs.InputEnd.TheVariants as input
+use Rattle.tool_answers.specs.Inputs.{AreInputs, InputsEnd, IsReached, found_or, inputs_of}
 use Rattle.tool_words.specs.declared.command.RunImage.TheVariants as image
 use Rattle.tool_run.specs.declared.ends.ImageEnd.{ImageEnd}
 use Rattle.tool_run.specs.declared.ends.ImageEnd.TheVariants as end
-use Rattle.tool_run.specs.Ends.{Reads, fault_end}
-use Rattle.tool_run.specs.Images.{IsGiven, IsInput, IsLost, IsRead, files_in, lengths_judged, loaded_image, map_image, mapped_image, named_by}
+use Rattle.tool_run.specs.Ends.{IsMissing, Reads, fault_end, input_end}
+use Rattle.tool_run.specs.Images.{IsGiven, IsInput, IsLost, IsRead, all_named, files_in, front_of, has_zero, lengths_judged, loaded_image, map_image, mapped_image, named_by, unnamed}
 
 -- ---- a map's text
 
@@ -52,8 +56,12 @@ map_read (Ok i) (Some files) before after file text m more found reads is h =
     h ∙ sym (ap (λ x. found_or file x >>= λ t. named_by file (map_of t) >>= λ n. mapped_image n files) found ∙ ap (λ x. x >>= λ n. mapped_image n files) is)
 map_read (Err (end.Refused r)) None before after file text m more found reads is h = lost r h
   where
+    or-more : (none : Type 0) → none ⊎ after → none ⊎ before
+    or-more none (inl h) = inl h
+    or-more none (inr h) = inr (more h)
+
     lost : (r : Refusal) → IsLost after (IsReached None (files_in m)) (Err r) → IsLost before (IsInput None (image.Map file)) (Err r)
-    lost (Missing name) k = (more k.0, inr (record { text = text; found = tt; m = m; reads = reads; reached = k.1 }))
+    lost (Missing name) k = (or-more (has_zero name ≡ true) k.0, inr (record { text = text; found = tt; m = m; reads = reads; reached = k.1 }))
     lost _ k = tt
 map_read (Err (end.Refused r)) (Some files) before after file text m more found reads is h =
     h ∙ sym (ap (λ x. found_or file x >>= λ t. named_by file (map_of t) >>= λ n. mapped_image n files) found ∙ ap (λ x. x >>= λ n. mapped_image n files) is)
@@ -74,10 +82,83 @@ lengths_lost (l ∷ ls) (b ∷ bs) i q rose is_input h = split (length b == l.si
     split true e others = others (rw e at h)
     split false e others = let same : ◌≡◌ {A = Result Image Refusal} (Err (BadImage l.file (length b) kind.Length)) (Err q) = (rw e at h) in not_lost rose is_input q l.file (length b) kind.Length (let k : q ≡ BadImage l.file (length b) kind.Length = cc in k)
 
-pub loads_refused : (e : Fault) (told : Option Files) (rose : Type 0) (m : MapFile) (contents : List (List ℕ)) → AreInputs told (files_in m) contents
-    → Gives {A = Image} (Err e) (loaded_image m contents)
-    → Reads (IsGiven (mapped_image m) told rose (IsReached told (files_in m))) rose (IsReached told (files_in m)) (Err (fault_end e))
-loads_refused (fault.Refused r) None rose m contents found h = lengths_lost m.loads contents (map_image m contents) r rose _ h
-loads_refused (fault.Refused r) (Some files) rose m contents found h = sym (ap (λ x. x >>= λ c. loaded_image m c) found ∙ h)
-loads_refused (fault.ReadFault name) told rose m contents found h = absurd h
-loads_refused fault.NoMemory told rose m contents found h = tt
+-- what a map's names have in front of one that is the name of no file
+reached-front : (told : Option Files) (names : List (List ℕ)) (place : Option ℕ) (name : List ℕ) → IsReached told (front_of names place) name → IsReached told names name
+reached-front told names None name h = h
+reached-front told names (Some k) name h = record {
+  front = h.front;
+  rest = h.rest ++ drop k names;
+  names_are = sym (take-append-drop k names) ∙ ap (λ (l : List (List ℕ)). l ++ drop k names) h.names_are ∙ append_assoc h.front (name ∷ h.rest) (drop k names);
+  contents = h.contents;
+  read_before = h.read_before;
+}
+
+at-place : (names : List (List ℕ)) (k : ℕ) → k < length names → names ≡ take k names ++ slice_index_or names k [] ∷ drop (suc k) names
+at-place [] k lt = absurd (omega arith)
+at-place (x ∷ xs) zero lt = refl
+at-place (x ∷ xs) (suc k) lt = ap (λ (l : List (List ℕ)). x ∷ l) (at-place xs k (omega arith))
+
+reached-place : (told : Option Files) (names contents : List (List ℕ)) (k : ℕ) → k < length names → AreInputs told (take k names) contents
+    → IsReached told names (slice_index_or names k [])
+reached-place told names contents k lt read = record {
+  front = take k names;
+  rest = drop (suc k) names;
+  names_are = at-place names k lt;
+  contents = contents;
+  read_before = read;
+}
+
+abbrev Ends : Option Files → Type 0 → MapFile → ImageEnd → Type 0
+Ends told rose m e =
+    Reads (IsGiven (mapped_image m) told rose (IsReached told (files_in m))) rose (IsReached told (files_in m)) (Err e)
+
+pub inputs_ended : (e : InputEnd) (told : Option Files) (rose : Type 0) (m : MapFile) (place : Option ℕ) → place ≡ unnamed (files_in m)
+    → InputsEnd e told (front_of (files_in m) place) rose → Ends told rose m (input_end e)
+inputs_ended (input.Missing name) None rose m place is h = (inr h.0, reached-front None (files_in m) place name h.1)
+inputs_ended (input.Missing name) (Some files) rose m place is h =
+    sym (ap (λ x. x >>= λ c. all_named (files_in m) (unnamed (files_in m)) >>= λ right. loaded_image m c)
+    (ap (λ (p : Option ℕ). inputs_of files (front_of (files_in m) p)) (sym is) ∙ h))
+inputs_ended (input.Failed name) told rose m place is h = (h.0, reached-front told (files_in m) place name h.1)
+inputs_ended input.NoMemory told rose m place is h = tt
+
+any-default : (names : List (List ℕ)) (k : ℕ) (d e : List ℕ) → k < length names → slice_index_or names k d ≡ slice_index_or names k e
+any-default [] k d e lt = absurd (omega arith)
+any-default (x ∷ xs) zero d e lt = refl
+any-default (x ∷ xs) (suc k) d e lt = any-default xs k d e (omega arith)
+
+missing-at : (e : ImageEnd) (told : Option Files) (rose : Type 0) (m : MapFile) (place : Option ℕ) (k : ℕ) (contents : List (List ℕ))
+    → place ≡ unnamed (files_in m) → place ≡ Some k → AreInputs told (front_of (files_in m) place) contents
+    → IsMissing (slice_index_or (files_in m) k []) e → Ends told rose m e
+missing-at (end.Refused r) None rose m place k contents is at read h =
+    let there = position-Some has_zero (files_in m) k [] (sym is ∙ at) in
+    rw h (inl there.1, reached-place None (files_in m) contents k there.0 tt)
+missing-at (end.Refused r) (Some files) rose m place k contents is at read h =
+    rw h (sym (ap (λ x. x >>= λ c. all_named (files_in m) (unnamed (files_in m)) >>= λ right. loaded_image m c)
+    (ap (λ (p : Option ℕ). inputs_of files (front_of (files_in m) p)) (sym is) ∙ read)
+    ∙ ap (λ (p : Option ℕ). all_named (files_in m) p >>= λ right. loaded_image m contents) (sym is ∙ at)))
+missing-at (end.Failed q) told rose m place k contents is at read h = absurd h
+missing-at end.NoMemory told rose m place k contents is at read h = tt
+
+pub name_missing : (e : ImageEnd) (told : Option Files) (rose : Type 0) (m : MapFile) (place : Option ℕ) (k : ℕ) (name : List ℕ) (contents : List (List ℕ))
+    → place ≡ unnamed (files_in m) → place ≡ Some k → name ≡ slice_index_or (files_in m) k name
+    → AreInputs told (front_of (files_in m) place) contents → IsMissing name e → Ends told rose m e
+name_missing e told rose m place k name contents is at it read h =
+    let there = position-Some has_zero (files_in m) k [] (sym is ∙ at) in
+    missing-at e told rose m place k contents is at read
+    (subst (λ (n : List ℕ). IsMissing n e) (it ∙ any-default (files_in m) k name [] there.0) h)
+
+-- all load files were read
+given-all : (files : Files) (m : MapFile) (contents : List (List ℕ)) (place : Option ℕ) → place ≡ unnamed (files_in m) → place ≡ None
+    → inputs_of files (front_of (files_in m) place) ≡ Ok contents → mapped_image m files ≡ loaded_image m contents
+given-all files m contents place is none read =
+    ap (λ x. x >>= λ c. all_named (files_in m) (unnamed (files_in m)) >>= λ right. loaded_image m c)
+    (ap (λ (p : Option ℕ). inputs_of files (front_of (files_in m) p)) (sym is) ∙ read)
+    ∙ ap (λ (p : Option ℕ). all_named (files_in m) p >>= λ right. loaded_image m contents) (sym is ∙ none)
+
+pub loads_refused : (e : Fault) (told : Option Files) (rose : Type 0) (m : MapFile) (contents : List (List ℕ)) (place : Option ℕ)
+    → place ≡ unnamed (files_in m) → place ≡ None → AreInputs told (front_of (files_in m) place) contents
+    → Gives {A = Image} (Err e) (loaded_image m contents) → Ends told rose m (fault_end e)
+loads_refused (fault.Refused r) None rose m contents place is none found h = lengths_lost m.loads contents (map_image m contents) r rose _ h
+loads_refused (fault.Refused r) (Some files) rose m contents place is none found h = sym (given-all files m contents place is none found ∙ h)
+loads_refused (fault.ReadFault name) told rose m contents place is none found h = absurd h
+loads_refused fault.NoMemory told rose m contents place is none found h = tt

@@ -28,6 +28,12 @@ input_end (input.Missing name) = end.Refused (Missing name)
 input_end (input.Failed name) = end.Failed name
 input_end input.NoMemory = end.NoMemory
 
+-- the file is missing, unless memory was refused
+abbrev pub IsMissing : List ℕ → ImageEnd → Type 0
+IsMissing name (end.Refused r) = r ≡ Missing name
+IsMissing name (end.Failed q) = ⊥
+IsMissing name end.NoMemory = Unit {0}
+
 abbrev pub fault_end : Fault → ImageEnd
 fault_end (fault.Refused r) = end.Refused r
 fault_end (fault.ReadFault name) = end.Failed name

@@ -1,6 +1,6 @@
 -- The image that the words of a run name, by files: a binary at an address, or the load files of a map. This project's.
-use Rattle.std.specs.Prelude.{◌≡◌, ℕ, ◌+◌, ◌==◌, if◌then◌else◌, List, [], ◌∷◌, ◌++◌, map, length, Option, Some, None, Result, Ok, Err, ◌⊎◌}
-use Rattle.std.specs.List.{zip}
+use Rattle.std.specs.Prelude.{◌≡◌, ℕ, ◌+◌, ◌==◌, if◌then◌else◌, Bool, true, List, [], ◌∷◌, ◌++◌, map, take, length, slice_index_or, Option, Some, None, Result, Ok, Err, ◌⊎◌}
+use Rattle.std.specs.List.{list_any, position, zip}
 use Rattle.sdt_fault.specs.declared.kinds.FileKind.TheVariants as kind
 use Rattle.sdt_fault.specs.declared.refusal.Refusal.{Refusal}
 use Rattle.sdt_fault.specs.declared.refusal.Refusal.TheVariants.{BadImage, Missing}
@@ -68,9 +68,27 @@ loaded_image m contents = lengths_judged m.loads contents >>= λ right. Ok (map_
 abbrev pub files_in : MapFile → List (List ℕ)
 files_in m = map (λ l. l.file) m.loads
 
--- all files are read first, then their lengths are judged
+-- a name with a zero byte is the name of no file
+abbrev pub has_zero : List ℕ → Bool
+has_zero name = list_any (λ b. b == 0) name
+
+-- the place of the first such name; the names before it, and what it asks for
+abbrev pub unnamed : List (List ℕ) → Option ℕ
+unnamed names = position has_zero names
+
+abbrev pub front_of : List (List ℕ) → Option ℕ → List (List ℕ)
+front_of names None = names
+front_of names (Some k) = take k names
+
+abbrev pub all_named : List (List ℕ) → Option ℕ → Result Unit Refusal
+all_named names None = Ok tt
+all_named names (Some k) = Err (Missing (slice_index_or names k []))
+
+-- all files are read first, up to a name that is the name of no file, then their lengths are judged
 abbrev pub mapped_image : MapFile → Files → Result Image Refusal
-mapped_image m files = inputs_of files (files_in m) >>= λ contents. loaded_image m contents
+mapped_image m files =
+    inputs_of files (front_of (files_in m) (unnamed (files_in m))) >>= λ contents.
+    all_named (files_in m) (unnamed (files_in m)) >>= λ right. loaded_image m contents
 
 -- what a reader gives of a file, with the file's name in a refusal
 abbrev pub named_by : {A : Type 0} → List ℕ → Result A Refusal → Result A Refusal
@@ -99,12 +117,13 @@ abbrev pub IsInput : Option Files → RunImage → List ℕ → Type 0
 IsInput told (image.Binary file at) name = name ≡ file
 IsInput told (image.Map file) name = (name ≡ file) ⊎ IsLoadFile told file name
 
--- a refusal for a missing input comes only with a fault
+-- a refusal for a missing input comes only with a fault, or where its name is the name of no file
 abbrev pub IsLost : Type 0 → (List ℕ → Type 0) → Result Image Refusal → Type 0
-IsLost rose input (Err (Missing name)) = rose × input name
+IsLost rose input (Err (Missing name)) = ((has_zero name ≡ true) ⊎ rose) × input name
 IsLost rose input other = Unit {0}
 
--- what was read is what the files that are told give; where none are told, a file is missing only where a read failed
+-- what was read is what the files that are told give; where none are told, one is missing only where a read failed
+-- or its name is the name of no file
 abbrev pub IsGiven : (Files → Result Image Refusal) → Option Files → Type 0 → (List ℕ → Type 0) → Result Image Refusal → Type 0
 IsGiven judge None rose input read = IsLost rose input read
 IsGiven judge (Some files) rose input read = read ≡ judge files

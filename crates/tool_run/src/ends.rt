@@ -41,6 +41,16 @@ pub fn fault_end(fault: Fault) -> ImageEnd
     }
 }
 
+/// The end where no file has the name.
+pub fn missing(alloc: Global, name: &Text) -> ImageEnd
+    ensures { ends.IsMissing name.now result }
+{
+    match name.try_clone(alloc) {
+        Ok(name) => ImageEnd::Refused(Refusal::Missing { name }),
+        Err(NoMemory) => ImageEnd::NoMemory,
+    }
+}
+
 /// A reader's fault, with the name of the file.
 pub fn named_fault(alloc: Global, name: &Text, fault: Fault) -> Fault
     ensures { ends.NamesFault name.now fault result }

@@ -10,8 +10,8 @@ ghost use Rattle.tool_run.specs.Images as images;
 ghost use Rattle.tool_run.specs.Images.{IsGiven, IsInput, IsRead};
 ghost use Rattle.tool_run.specs.Ends.{Reads};
 
-use crate::ends::{ImageEnd, fault_end, input_end};
-use crate::maps::{files_in, loaded_image, map_named};
+use crate::ends::{ImageEnd, fault_end, input_end, missing};
+use crate::maps::{files_in, front_of, loaded_image, map_named, unnamed};
 use bin_image::MapFile;
 use run_opening::{Image, Load, Need};
 use sdt_fault::{Bytes, List, NoMemory, Text};
@@ -72,10 +72,14 @@ fn read_loads<S: Store>(alloc: Global, store: &mut S, m: &MapFile) -> Result<Ima
     let Ok(names) = files_in(alloc, m.loads.as_slice()) else {
         return Err(ImageEnd::NoMemory);
     };
-    let contents = match read_inputs(alloc, store, names.as_slice()) {
+    let place = unnamed(names.as_slice());
+    let contents = match read_inputs(alloc, store, front_of(names.as_slice(), place)) {
         Ok(contents) => contents,
         Err(end) => return Err(input_end(end)),
     };
+    if let Some(k) = place {
+        return Err(missing(alloc, &names[k]));
+    }
     match loaded_image(alloc, m, contents) {
         Ok(image) => Ok(image),
         Err(fault) => Err(fault_end(fault)),
@@ -101,7 +105,7 @@ fn read_mapped<S: Store>(alloc: Global, store: &mut S, file: &Text) -> Result<Im
 }
 
 /// The image that the words of a run name. The map is read first, then its load files in their order, and then their
-/// lengths are judged.
+/// lengths are judged. A load file whose name has a zero byte is missing.
 pub fn read_image<S: Store>(
     alloc: Global,
     store: &mut S,

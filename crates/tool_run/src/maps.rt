@@ -1,6 +1,6 @@
 //! Maps, and the images that their load files make.
 
-ghost use Rattle.std.specs.Prelude.{◌≡◌, ◌<◌, ◌^◌, ◌++◌, All, IfOk, OnOk, List as Items, length, map};
+ghost use Rattle.std.specs.Prelude.{◌≡◌, ◌<◌, ◌^◌, ◌++◌, All, IfOk, IfSome, OnOk, List as Items, length, map};
 ghost use Rattle.chunk_file.specs.Reading.{Gives};
 ghost use Rattle.bin_image.specs.Maps.{ReadsMap};
 ghost use Rattle.bin_image.specs.Reading.{map_of};
@@ -37,6 +37,32 @@ pub fn files_in(alloc: Global, lines: &[MapLoad]) -> Result<Vec<Text>, NoMemory>
         names.push(line.file.try_clone(alloc)?)?;
     }
     Ok(names)
+}
+
+/// Whether a name has a zero byte, so that it is the name of no file.
+fn has_zero(name: &Text) -> bool
+    ensures { result ≡ images.has_zero name.now }
+{
+    name.as_slice().iter().any(|byte| *byte == 0)
+}
+
+/// The place of the first name that is the name of no file.
+pub fn unnamed(names: &[Text]) -> Option<usize>
+    ensures place { result ≡ images.unnamed names.now }
+    ensures within { IfSome result (λ k. k < length names.now) }
+{
+    names.iter().position(|name| has_zero(name))
+}
+
+/// The names before a place, or all where there is none.
+pub fn front_of(names: &[Text], place: Option<usize>) -> &[Text]
+    requires { IfSome place (λ k. k < length names.now) }
+    ensures { result.now ≡ images.front_of names.now place }
+{
+    match place {
+        Some(k) => &names[..k],
+        None => names,
+    }
 }
 
 fn judge_length(alloc: Global, line: &MapLoad, bytes: &[u8]) -> Result<(), Fault>

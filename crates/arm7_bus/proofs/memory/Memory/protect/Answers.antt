@@ -1,5 +1,4 @@
-use Rattle.std.proofs.Common.{arith, ◌∙◌, ap, map}
-use Rattle.arm7_bus.specs.Protection.{protected_bank}
+use Rattle.std.proofs.Common.{arith}
 use Rattle.arm7_bus.proofs.LookupLemmas.{apart_protected}
 use Rattle.arm7_bus.proofs.memory.Memory.protect.Goals as goal
 
