@@ -1,1 +1,3 @@
-
+mod FieldLemmas
+mod NeededLemmas
+mod PlanLemmas

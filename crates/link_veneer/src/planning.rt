@@ -5,7 +5,7 @@ ghost use Rattle.std.specs.List.{flat_map};
 ghost use Rattle.chunk_file.specs.Reading.{Gives};
 ghost use Rattle.link_model.specs.Members.{link_of, objects_in};
 ghost use Rattle.link_model.specs.RegionValues.{area_of};
-ghost use Rattle.link_model.specs.Veneers.{needed_by_header, needed_from, needed_in};
+ghost use Rattle.link_model.specs.Veneers.{needed_by_header, needed_from, needed_in, veneers_of};
 ghost use Rattle.link_veneer.specs.Index.{IsIndexOf};
 ghost use Rattle.link_veneer.specs.Needing.{with_all};
 ghost use Rattle.link_veneer.specs.Planning.{planned_veneers};
@@ -105,7 +105,7 @@ fn veneers(
     header: bool,
 ) -> Result<List<Veneer>, NoMemory>
     requires { IsIndexOf linked.now.definitions index.now }
-    ensures { IfOk result (λ vs. vs ≡ with_all [] (needed_by_header header linked.now.entry ++ needed_from (link_of linked.now) 0 regions.now)) }
+    ensures { IfOk result (λ vs. vs ≡ veneers_of (link_of linked.now) regions.now header) }
 {
     let mut needs = IndexSet::new(alloc);
     add_header(&mut needs, header, &linked.entry)?;

@@ -79,7 +79,7 @@ fn place_at(objects: &[Named<Object>], object: u32, number: u32) -> Option<Targe
 }
 
 /// The place that a symbol of an object names: its own, or that of the definition of its name.
-pub fn target(
+pub fn named_target(
     linked: &Linked,
     index: &IndexMap<&[u8], Defined>,
     object: u32,
