@@ -1,13 +1,30 @@
 -- Veneers that are added one by one are each needed once, in order of first need.
-use Rattle.std.proofs.Common.{◌≡◌, Bool, true, false, cond, ◌||◌, if◌then◌else◌, List, [], ◌∷◌, ◌++◌, refl, sym, ap, ◌∙◌, append-nil, append_assoc}
-use Rattle.std.specs.List.{list_any}
+use Rattle.std.proofs.Common.{◌≡◌, ℕ, Bool, true, false, cond, ◌||◌, if◌then◌else◌, List, [], ◌∷◌, ◌++◌, refl, sym, ap, ◌∙◌, append-nil, append_assoc}
+use Rattle.std.specs.List.{flat_map, list_any}
+use Rattle.link_model.specs.declared.placing.AreaName.{AreaName}
 use Rattle.link_model.specs.declared.placing.Veneer.{Veneer}
-use Rattle.link_model.specs.Veneers.{first_needs, is_same}
+use Rattle.link_model.specs.Members.{Link}
+use Rattle.link_model.specs.RegionValues.{area_of}
+use Rattle.link_model.specs.Veneers.{first_needs, is_same, needed_in}
 use Rattle.link_veneer.specs.Needing.{with_all, with_one}
 
 pub both_added : (vs xs ys : List Veneer) → with_all vs (xs ++ ys) ≡ with_all (with_all vs xs) ys
 both_added vs [] ys = refl
 both_added vs (x ∷ xs) ys = both_added (with_one vs x) xs ys
+
+pub added_more : (vs new all xs ys zs : List Veneer) → zs ≡ xs ++ ys → new ≡ with_all vs xs → with_all vs zs ≡ all → with_all new ys ≡ all
+added_more vs new all xs ys zs parts e known = ap (λ l. with_all l ys) e ∙ sym (both_added vs xs ys) ∙ ap (with_all vs) (sym parts) ∙ known
+
+-- the veneers of areas, added area by area
+abbrev pub named_after : Link → ℕ → List Veneer → List AreaName → List Veneer
+named_after l region vs [] = vs
+named_after l region vs (a ∷ names) = named_after l region (with_all vs (needed_in l region a (area_of l.objects a))) names
+
+pub all_named : (l : Link) (region : ℕ) (vs : List Veneer) (names : List AreaName) → named_after l region vs names ≡ with_all vs (flat_map (λ a. needed_in l region a (area_of l.objects a)) names)
+all_named l region vs [] = refl
+all_named l region vs (a ∷ names) =
+    all_named l region (with_all vs (needed_in l region a (area_of l.objects a))) names
+    ∙ sym (both_added vs (needed_in l region a (area_of l.objects a)) (flat_map (λ b. needed_in l region b (area_of l.objects b)) names))
 
 abbrev SameNeeds : List Veneer → List Veneer → Type 0
 SameNeeds vs ws = (v : Veneer) → list_any (is_same v) vs ≡ list_any (is_same v) ws

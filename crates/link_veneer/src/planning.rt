@@ -97,6 +97,7 @@ fn add_regions(
     Ok(())
 }
 
+#[tactic(auto, using(crate::proofs::PlanLemmas::both_added, crate::proofs::PlanLemmas::all_needs))]
 fn veneers(
     alloc: Global,
     linked: &Linked,
