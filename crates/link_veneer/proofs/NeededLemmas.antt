@@ -1,25 +1,22 @@
 -- The veneer that a branch needs, by its distance from its target.
-use Rattle.std.proofs.Common.{◌≡◌, ℕ, ◌+◌, ◌-◌, ◌%◌, ◌^◌, ◌≤◌, Bool, true, false, cond, List, [], ◌∷◌, length, take, drop, Option, Some, None, refl, sym, ap, ◌∙◌, arith}
+use Rattle.std.proofs.Common.{◌≡◌, ℕ, ◌+◌, ◌-◌, ◌%◌, ◌^◌, ◌≤◌, Bool, true, false, cond, List, length, take, drop, Option, Some, None, refl, sym, ap, ◌∙◌, arith}
 use Rattle.std.specs.Prelude.{◌==◌, ◌&&◌, nat_le, count_by}
 use Rattle.std.specs.Option.{option_and_then, option_map}
-use Rattle.std.proofs.lemmas.Bool.{cases_Bool, eqb-true}
+use Rattle.std.proofs.lemmas.Bool.{eqb-true}
 use Rattle.sdt_word.specs.Bytes.{number_of, word_in}
 use Rattle.base_lemmas.proofs.BaseLemmas.{both_true}
 use Rattle.aof_object.specs.declared.records.Area.{Area}
 use Rattle.aof_object.specs.declared.records.Object.{Object}
 use Rattle.aof_object.specs.declared.records.Reloc.{Reloc}
 use Rattle.aof_object.specs.declared.records.Symbol.{Symbol}
-use Rattle.patch_model.specs.Fields.{Kind, Byte, Half, Word, Branch, Field, Home, Meant, field_of, kind_of, is_relative, is_by_symbol, number_named, number_in, directives, size_of}
-use Rattle.patch_model.specs.Patched.{total, other_state, is_branch, span, middle, ahead, Way, Directly, ByVeneer, way_home, way_of}
-use Rattle.link_model.specs.declared.selection.Definition.{Definition}
+use Rattle.patch_model.specs.Fields.{Kind, Byte, Half, Word, Branch, Home, Meant, field_of, kind_of, is_relative, is_by_symbol, number_named, number_in, directives, size_of}
+use Rattle.patch_model.specs.Patched.{total, other_state, is_branch, span, middle, ahead, Directly, ByVeneer, way_home, way_of}
 use Rattle.link_model.specs.declared.placing.AreaName.{AreaName}
-use Rattle.link_model.specs.declared.placing.Veneer.{Veneer}
-use Rattle.link_model.specs.Meaning.{Meaning, Defined, OfRegion, Weak, definition_of, meaning_by, meaning_of, symbol_of}
+use Rattle.link_model.specs.Meaning.{Meaning, Defined, OfRegion, Weak, symbol_of}
 use Rattle.link_model.specs.Members.{Link}
 use Rattle.link_model.specs.Values.{home_area, meant_at, meant_of, meant_by}
 use Rattle.link_model.specs.Veneers.{shares_field, is_alone, has_branch, veneer_by, values_apart, needed_as, needed_by, IsIn}
 use Rattle.link_model.proofs.WayLemmas.{alone_way, sole_directive}
-use Rattle.link_veneer.specs.declared.targets.Target.{Target}
 use Rattle.link_veneer.specs.Fields.{Marks, is_branch_kind, marked_by, AreMarks}
 use Rattle.link_veneer.specs.Targets.{target_of}
 use Rattle.link_veneer.specs.Needing.{led, led_from, veneer_to}

@@ -1,5 +1,5 @@
 -- Veneers that are added one by one are each needed once, in order of first need.
-use Rattle.std.proofs.Common.{◌≡◌, ℕ, Bool, true, false, cond, ◌||◌, if◌then◌else◌, List, [], ◌∷◌, ◌++◌, refl, sym, ap, ◌∙◌, append-nil, append_assoc}
+use Rattle.std.proofs.Common.{◌≡◌, ℕ, Bool, true, false, ◌||◌, if◌then◌else◌, List, [], ◌∷◌, ◌++◌, refl, sym, ap, ◌∙◌, append-nil, append_assoc}
 use Rattle.std.specs.List.{flat_map, list_any}
 use Rattle.link_model.specs.declared.placing.AreaName.{AreaName}
 use Rattle.link_model.specs.declared.placing.Veneer.{Veneer}

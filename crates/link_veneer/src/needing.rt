@@ -113,7 +113,14 @@ pub fn needed(
     if !is_alone(marks, reloc) {
         return None;
     }
-    led_by(linked, index, region, name.object, area.bytes.as_slice(), reloc)
+    led_by(
+        linked,
+        index,
+        region,
+        name.object,
+        area.bytes.as_slice(),
+        reloc,
+    )
 }
 
 /// Adds a veneer behind the others, unless it is among them.

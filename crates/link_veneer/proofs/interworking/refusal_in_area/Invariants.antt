@@ -1,7 +1,6 @@
 use Rattle.std.proofs.Common.{◌≡◌, drop}
 use Rattle.link_model.specs.Members.{link_of}
 use Rattle.link_model.specs.Options.{first_given}
-use Rattle.link_veneer.specs.Fields.{AreMarks}
 use Rattle.link_veneer.specs.Interworking.{refused_by}
 use Rattle.link_veneer.proofs.interworking.refusal_in_area.Given as goal
 

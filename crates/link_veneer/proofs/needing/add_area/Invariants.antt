@@ -1,4 +1,4 @@
-use Rattle.std.proofs.Common.{◌≡◌, Some, drop}
+use Rattle.std.proofs.Common.{◌≡◌, drop}
 use Rattle.std.specs.List.{filter_map}
 use Rattle.link_model.specs.Members.{link_of}
 use Rattle.link_model.specs.Veneers.{needed_by}
