@@ -18,11 +18,7 @@ use place_model::{Choice, Kind, Scatter};
 use sdt_fault::answer::Fault;
 use std::alloc::Global;
 
-fn assign_by(
-    alloc: Global,
-    objects: &[Named<Object>],
-    offers: &Offers,
-) -> Result<Assigned, Fault>
+fn assign_by(alloc: Global, objects: &[Named<Object>], offers: &Offers) -> Result<Assigned, Fault>
     ensures { Gives result (assigned_by (map shown_offer offers.now.offers.items) offers.now.regions objects.now) }
 {
     let items = items_of_objects(alloc, objects)?;

@@ -25,11 +25,7 @@ pub struct Kept<'a> {
     pub item: Item<'a>,
 }
 
-fn object_name(
-    alloc: Global,
-    objects: &[Named<Object>],
-    number: u32,
-) -> Result<Text, NoMemory>
+fn object_name(alloc: Global, objects: &[Named<Object>], number: u32) -> Result<Text, NoMemory>
     ensures { IfOk result (λ name. name ≡ report_name objects.now number) }
 {
     match objects.get(number as usize) {

@@ -11,11 +11,7 @@ use link_model::AreaName;
 use sdt_fault::{List, NoMemory};
 use std::alloc::Global;
 
-fn kept_of<'a>(
-    alloc: Global,
-    kept: &[Kept<'a>],
-    region: usize,
-) -> Result<Vec<Kept<'a>>, NoMemory>
+fn kept_of<'a>(alloc: Global, kept: &[Kept<'a>], region: usize) -> Result<Vec<Kept<'a>>, NoMemory>
     ensures { IfOk result (λ here. map shown_kept here.items ≡ kept_in region kept.now) }
 {
     let mut here = Vec::new(alloc);

@@ -1,3 +1,4 @@
 mod FieldLemmas
+mod LawLemmas
 mod NeededLemmas
 mod PlanLemmas
