@@ -116,40 +116,35 @@ none_refused l e =
 
 -- ---- the first one
 
-module _ (l : Link) (told : Refusal) (e : not_interworking l ≡ Some told) where
-  abbrev top : IsFirstAt (object_of l) l.objects told
-  top = let P : Option Refusal → Type 0 = λ q. OfFirst (object_of l) l.objects q in subst P e (objects_first l)
+module _ (l : Link) (i j : ℕ) (o : Object) (a : Area) (one : slice_get l.objects i ≡ Some o) (two : slice_get o.areas j ≡ Some a) where
+  of_object : (n p : ℕ) → refused_at l i n p ≡ refused_in_object l i n p o
+  of_object n p = ap (option_and_then (refused_in_object l i n p)) one
 
-  first_refused : FirstRefused l told
-  first_refused =
-      let one = came_through (object_of l top.place) (slice_get l.objects top.place) told top.here in
-      let i = top.place in
-      let o = one.0 in
-      let Q : Option Refusal → Type 0 = λ q. OfFirst (of_area l i) o.areas q in
-      let mid : IsFirstAt (of_area l i) o.areas told = subst Q one.2 (areas_first l i o.areas) in
-      let two = came_through (of_area l i mid.place) (slice_get o.areas mid.place) told mid.here in
-      let j = mid.place in
-      let a = two.0 in
-      let f = refused_by l (record { object = i; area = j }) a in
-      let R : Option Refusal → Type 0 = λ q. OfFirst (λ n r. f r) a.relocs q in
-      let low : IsFirstAt (λ n r. f r) a.relocs told = subst R two.2 (given_first f a.relocs) in
-      let of_object : (n p : ℕ) → refused_at l i n p ≡ refused_in_object l i n p o = λ n p. ap (option_and_then (refused_in_object l i n p)) one.1 in
-      let of_both : (p : ℕ) → refused_at l i j p ≡ refused_of l i j p a = λ p. of_object j p ∙ ap (option_and_then (refused_of l i j p)) two.1 in
-      record {
-        i = i;
-        j = j;
-        k = low.place;
-        at = of_both low.place ∙ low.here;
-        earliest = λ m n p before. elim before [
-          | inl less ↦ none_at l m n p (top.before m less)
-          | inr rest ↦
-              ap (λ q. refused_at l q n p) rest.0
-              ∙ elim rest.1 [
-                | inl less ↦ of_object n p ∙ lift (of_area l i n) (refused_of l i n p) (λ b none. none_in_area l i n b none p) (slice_get o.areas n) (mid.before n less)
-                | inr last ↦ ap (λ q. refused_at l i q p) last.0 ∙ of_both p ∙ low.before p last.1
-              ]
-        ];
-      }
+  of_both : (p : ℕ) → refused_at l i j p ≡ refused_of l i j p a
+  of_both p = of_object j p ∙ ap (option_and_then (refused_of l i j p)) two
+
+  first_there : (k : ℕ) (told : Refusal) → refused_of l i j k a ≡ Some told → ((m : ℕ) → m < i → at (object_of l) l.objects m ≡ None) → ((n : ℕ) → n < j → at (of_area l i) o.areas n ≡ None)
+      → ((p : ℕ) → p < k → refused_of l i j p a ≡ None) → FirstRefused l told
+  first_there k told here top mid low = record { i = i; j = j; k = k; at = of_both k ∙ here; earliest = before }
+    where
+      before : (m n p : ℕ) → IsBefore m n p i j k → refused_at l m n p ≡ None
+      before m n p (inl less) = none_at l m n p (top m less)
+      before m n p (inr (same, inl less)) =
+          ap (λ q. refused_at l q n p) same ∙ of_object n p ∙ lift (of_area l i n) (refused_of l i n p) (λ b none. none_in_area l i n b none p) (slice_get o.areas n) (mid n less)
+      before m n p (inr (same, inr (alike, less))) = ap (λ q. refused_at l q n p) same ∙ ap (λ q. refused_at l i q p) alike ∙ of_both p ∙ low p less
+
+first_refused : (l : Link) (told : Refusal) → not_interworking l ≡ Some told → FirstRefused l told
+first_refused l told e =
+    let P : Option Refusal → Type 0 = λ q. OfFirst (object_of l) l.objects q in
+    let top : IsFirstAt (object_of l) l.objects told = subst P e (objects_first l) in
+    let one = came_through (object_of l top.place) (slice_get l.objects top.place) told top.here in
+    let Q : Option Refusal → Type 0 = λ q. OfFirst (of_area l top.place) one.0.areas q in
+    let mid : IsFirstAt (of_area l top.place) one.0.areas told = subst Q one.2 (areas_first l top.place one.0.areas) in
+    let two = came_through (of_area l top.place mid.place) (slice_get one.0.areas mid.place) told mid.here in
+    let f = refused_by l (record { object = top.place; area = mid.place }) two.0 in
+    let R : Option Refusal → Type 0 = λ q. OfFirst (λ n r. f r) two.0.relocs q in
+    let low : IsFirstAt (λ n r. f r) two.0.relocs told = subst R two.2 (given_first f two.0.relocs) in
+    first_there l top.place mid.place one.0 two.0 one.1 two.1 low.place told low.here top.before mid.before low.before
 
 of_refused : (l : Link) (o : Option Refusal) → not_interworking l ≡ o → OfRefused l o
 of_refused l None e = none_refused l e

@@ -2,3 +2,4 @@ mod FieldLemmas
 mod LawLemmas
 mod NeededLemmas
 mod PlanLemmas
+mod Rows
