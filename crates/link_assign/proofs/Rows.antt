@@ -1,5 +1,5 @@
 -- Worked values: areas of two objects by their names and the objects' names in reports.
-use Rattle.std.proofs.Common.{◌≡◌, ℕ, List, [], ◌∷◌, Some, None, Ok, Err, refl}
+use Rattle.std.proofs.Common.{◌≡◌, ℕ, List, [], ◌∷◌, None, Ok, Err, refl}
 use Rattle.std.specs.Prelude.{codes}
 use Rattle.sdt_fault.specs.declared.refusal.Refusal.TheVariants.{Unassigned, Ambiguous}
 use Rattle.aof_object.specs.declared.records.Area.{Area}

@@ -3,7 +3,6 @@ use Rattle.std.proofs.Common.{◌≡◌, Some, None, refl, [], ◌∷◌}
 use Rattle.std.specs.Prelude.{codes}
 use Rattle.sdt_fault.specs.declared.refusal.Refusal.TheVariants.{NotInterworking}
 use Rattle.aof_object.specs.declared.records.Object.{Object}
-use Rattle.aof_object.specs.declared.records.Reloc.{Reloc}
 use Rattle.link_model.proofs.Rows.{area, both, from_arm, object, reloc, symbol}
 use Rattle.link_veneer.specs.Interworking.{not_interworking}
 

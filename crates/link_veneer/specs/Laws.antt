@@ -1,5 +1,5 @@
 -- What the refusal of a branch says, in the subject's words. This project's.
-use Rattle.std.specs.Prelude.{◌≡◌, ◌≢◌, ◌⊎◌, ◌↔◌, ℕ, ◌<◌, List, slice_get, Option, Some, None}
+use Rattle.std.specs.Prelude.{◌≡◌, ◌≢◌, ◌⊎◌, ◌↔◌, ℕ, ◌<◌, slice_get, Option, Some, None}
 use Rattle.std.specs.Option.{option_and_then}
 use Rattle.sdt_word.specs.Numbers.{bit}
 use Rattle.sdt_fault.specs.declared.refusal.Refusal.{Refusal}
