@@ -24,7 +24,8 @@ fn kept_of<'a>(alloc: Global, kept: &[Kept<'a>], region: usize) -> Result<Vec<Ke
 }
 
 fn names_of(alloc: Global, kept: &[Kept]) -> Result<List<AreaName>, NoMemory>
-    ensures { IfOk result (λ names. names ≡ map name_of (map (λ k. k.item) (map shown_kept kept.now))) }
+    ensures { IfOk result (λ names. names ≡ map name_of (map (λ k. k.item)
+        (map shown_kept kept.now))) }
 {
     let mut names = Vec::with_capacity(alloc, kept.len())?;
     for one in kept {

@@ -50,7 +50,8 @@ fn compare(one: &Kept, other: &Kept) -> Ordering
 
 /// Puts the areas of a region in order.
 pub fn put_in_order(kept: &mut Vec<Kept>) -> Result<(), NoMemory>
-    ensures { OnOk result (map shown_kept kept.new.items ≡ in_order (map shown_kept kept.old.items)) }
+    ensures { OnOk result (map shown_kept kept.new.items
+        ≡ in_order (map shown_kept kept.old.items)) }
 {
     kept.sort_by(|one, other| compare(one, other))?;
     Ok(())

@@ -1,7 +1,6 @@
 //! The definitions of names, found by an index.
 
-ghost use Rattle.std.specs.Prelude.{◌≡◌, ℕ, List, Option, Some, OnOk, IfOk, if◌then◌else◌};
-ghost use Rattle.std.specs.Option.{option_map};
+ghost use Rattle.std.specs.Prelude.{◌≡◌, ℕ, List, Some, OnOk, IfOk, if◌then◌else◌};
 ghost use Rattle.std.specs.Str.{bytes_eq};
 ghost use Rattle.link_veneer.specs.Index.{defined_in, place_of, IsIndexOf};
 
@@ -29,7 +28,8 @@ fn put<'a>(
     name: &'a [u8],
     defined: Defined,
 ) -> Result<(), NoMemory>
-    ensures { OnOk result ((q : List ℕ) → defined_in index.new q ≡ (if bytes_eq name.now q then Some defined else defined_in index.old q)) }
+    ensures { OnOk result ((q : List ℕ) → defined_in index.new q
+        ≡ (if bytes_eq name.now q then Some defined else defined_in index.old q)) }
 {
     index.insert(name, defined)?;
     Ok(())
@@ -39,7 +39,9 @@ fn put_definition<'a>(
     index: &mut IndexMap<&'a [u8], Defined>,
     definition: &'a Definition,
 ) -> Result<(), NoMemory>
-    ensures { OnOk result ((q : List ℕ) → defined_in index.new q ≡ (if bytes_eq definition.now.name q then Some (place_of definition.now) else defined_in index.old q)) }
+    ensures { OnOk result ((q : List ℕ) → defined_in index.new q
+        ≡ (if bytes_eq definition.now.name q then Some
+        (place_of definition.now) else defined_in index.old q)) }
 {
     let defined = Defined {
         object: definition.object,

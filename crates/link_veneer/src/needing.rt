@@ -1,11 +1,9 @@
 //! The veneers that relocations need.
 
-ghost use Rattle.std.specs.Prelude.{◌≡◌, ◌+◌, ◌-◌, ◌*◌, ◌%◌, ◌^◌, ◌<◌, ◌≤◌, ◌&&◌, length, if◌then◌else◌, Some, OnOk, IfSome};
-ghost use Rattle.sdt_word.specs.Bytes.{word_in};
-ghost use Rattle.patch_model.specs.Fields.{field_of};
+ghost use Rattle.std.specs.Prelude.{◌≡◌, ◌+◌, ◌-◌, ◌^◌, ◌<◌, Some, OnOk, IfSome};
 ghost use Rattle.patch_model.specs.Patched.{ahead, is_branch as reads_as_branch, middle, span};
-ghost use Rattle.link_model.specs.Members.{link_of, objects_in};
-ghost use Rattle.link_model.specs.Veneers.{has_branch, needed_by, needed_in, IsIn};
+ghost use Rattle.link_model.specs.Members.{link_of};
+ghost use Rattle.link_model.specs.Veneers.{needed_by, needed_in, IsIn};
 ghost use Rattle.link_veneer.specs.Fields.{AreMarks};
 ghost use Rattle.link_veneer.specs.Index.{IsIndexOf};
 ghost use Rattle.link_veneer.specs.Needing.{led, led_from, veneer_to, with_all, with_one};
@@ -142,7 +140,8 @@ pub fn add_area(
     area: &Area,
 ) -> Result<(), NoMemory>
     requires { IsIndexOf linked.now.definitions index.now }
-    ensures { OnOk result (needs.new.keys ≡ with_all needs.old.keys (needed_in (link_of linked.now) region name (Some area.now))) }
+    ensures { OnOk result (needs.new.keys ≡ with_all needs.old.keys (needed_in
+        (link_of linked.now) region name (Some area.now))) }
 {
     let relocs = area.relocs.as_slice();
     let marks = marks_of(alloc, relocs)?;
