@@ -58,8 +58,8 @@ fn rank_of(selection: &Selection) -> u32
 }
 
 fn stands_at(rank_asked: u32, selection: &Selection, item: &Item) -> bool
-    ensures { result ≡ (rank selection.now == rank_asked && matches selection.now
-        (shown_item item.now)) }
+    ensures { result ≡ (rank selection.now == rank_asked
+        && matches selection.now (shown_item item.now)) }
 {
     rank_of(selection) == rank_asked
         && takes_module(selection, item)

@@ -43,11 +43,11 @@ fn keep<'a>(
     item: &Item<'a>,
 ) -> Result<(), Fault>
     ensures judged { Judges result (refused (report_name objects.now item.now.name.object)
-        (shown_item item.now) (found (best (map shown_offer offers.now)
-        (shown_item item.now)))) }
+        (shown_item item.now)
+        (found (best (map shown_offer offers.now) (shown_item item.now)))) }
     ensures kept { OnOk result ((r : ℕ) → kept_in r kept.new.items ≡ kept_in r kept.old.items
-        ++ option_to_list (kept_by r (shown_item item.now) (found (best
-        (map shown_offer offers.now) (shown_item item.now))))) }
+        ++ option_to_list (kept_by r (shown_item item.now)
+        (found (best (map shown_offer offers.now) (shown_item item.now))))) }
 {
     match best_of(offers, item) {
         Finding::Nowhere => Err(Fault::Refused(Refusal::Unassigned {

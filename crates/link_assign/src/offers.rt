@@ -67,8 +67,8 @@ fn behind(first: usize, more: usize) -> Result<usize, NoMemory>
 pub fn described<'a>(alloc: Global, loads: &'a [ScatterLoad]) -> Result<Offers<'a>, NoMemory>
     ensures offers { IfOk result (λ o. map shown_offer o.offers.items
         ≡ offers_from 0 (flat_map (λ load. load.regions) loads.now)) }
-    ensures regions { IfOk result (λ o. o.regions ≡ length (flat_map
-        (λ load. load.regions) loads.now)) }
+    ensures regions { IfOk result (λ o. o.regions
+        ≡ length (flat_map (λ load. load.regions) loads.now)) }
 {
     let mut offers = Vec::new(alloc);
     let mut count: usize = 0;

@@ -40,8 +40,8 @@ fn put_definition<'a>(
     definition: &'a Definition,
 ) -> Result<(), NoMemory>
     ensures { OnOk result ((q : List ℕ) → defined_in index.new q
-        ≡ (if bytes_eq definition.now.name q then Some
-        (place_of definition.now) else defined_in index.old q)) }
+        ≡ (if bytes_eq definition.now.name q then Some (place_of definition.now)
+        else defined_in index.old q)) }
 {
     let defined = Defined {
         object: definition.object,

@@ -60,8 +60,8 @@ pub fn is_branch(reloc: Reloc) -> bool
 /// Notes a field of four bytes at its place: alone, or not.
 fn mark(marks: &mut IndexMap<u32, bool>, reloc: &Reloc) -> Result<(), NoMemory>
     ensures { OnOk result ((p : ℕ) → get nat_eq marks.new p
-        ≡ (if fills p reloc.now then Some (is_none
-        (get nat_eq marks.old p)) else get nat_eq marks.old p)) }
+        ≡ (if fills p reloc.now then Some (is_none (get nat_eq marks.old p))
+        else get nat_eq marks.old p)) }
 {
     if is_four_bytes(*reloc) {
         let at = place(*reloc);

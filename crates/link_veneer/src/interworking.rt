@@ -58,8 +58,8 @@ fn refusal_in_area(
     area: &Area,
 ) -> Result<Option<Refusal>, NoMemory>
     requires { IsIndexOf linked.now.definitions index.now }
-    ensures { IfOk result (λ refusal. refusal ≡ first_given (refused_by
-        (link_of linked.now) name area.now) area.now.relocs) }
+    ensures { IfOk result (λ refusal. refusal ≡ first_given
+        (refused_by (link_of linked.now) name area.now) area.now.relocs) }
 {
     let relocs = area.relocs.as_slice();
     let marks = marks_of(alloc, relocs)?;
