@@ -1,5 +1,5 @@
 -- Areas that are assigned by name are the areas of those names.
-use Rattle.std.proofs.Common.{◌≡◌, ℕ, zero, suc, ◌+◌, Bool, true, false, ◌==◌, if◌then◌else◌, List, [], ◌∷◌, ◌++◌, length, map, refl, sym, ap, subst, ◌∙◌, arith, Option, Some, None, Result, Ok, Err}
+use Rattle.std.proofs.Common.{◌≡◌, ℕ, zero, suc, ◌+◌, Bool, true, false, ◌==◌, if◌then◌else◌, List, [], ◌∷◌, length, map, refl, sym, ap, subst, ◌∙◌, arith, Option, Some, None, Result, Ok, Err}
 use Rattle.std.specs.Prelude.{slice_get, IfOk}
 use Rattle.std.specs.List.{cons_option, filter_map, AllByRecursion}
 use Rattle.base_lemmas.proofs.BaseLemmas.{all_append}
@@ -87,7 +87,7 @@ lists_back : (os : List (Named Object)) (offers : List Offer) (k n : ℕ) → ma
 lists_back os offers k zero = refl
 lists_back os offers k (suc n) =
     let first = kept_back os (in_order (filter_map (λ i. kept_by k i (found (best offers i))) (items_in os)))
-        (all_ordered (IsKnown os) _ (all_kept (IsKnown os) offers k (items_in os) (all_known os))) in
+    (all_ordered (IsKnown os) _ (all_kept (IsKnown os) offers k (items_in os) (all_known os))) in
     let rest = lists_back os offers (suc k) n in
     ap (λ l. l ∷ map (filter_map (item_at os)) (named (lists_from offers (items_in os) (suc k) n))) first ∙ ap (λ l. areas_of offers (items_in os) k ∷ l) rest
 

@@ -1,9 +1,9 @@
 -- What is found of selections one by one.
-use Rattle.std.proofs.Common.{◌≡◌, ℕ, Bool, true, false, List, [], ◌∷◌, refl}
+use Rattle.std.proofs.Common.{◌≡◌, ℕ, true, false, List, [], ◌∷◌, refl}
 use Rattle.place_model.specs.Assignment.{Offer, first_filled, found}
 use Rattle.link_assign.specs.declared.finding.Finding.{Finding}
 use Rattle.link_assign.specs.declared.finding.Finding.TheVariants as finding
-use Rattle.link_assign.specs.Finding.{told, joined, is_nowhere, pick_of}
+use Rattle.link_assign.specs.Finding.{told, joined, is_nowhere}
 
 -- what is found with more selections
 abbrev pub after : Finding → List Offer → Finding

@@ -7,7 +7,7 @@ use Rattle.std.proofs.lemmas.List.Elements.{filter_map-append}
 use Rattle.place_model.specs.declared.scatter.ScatterLoad.{ScatterLoad}
 use Rattle.place_model.specs.declared.scatter.ScatterRegion.{ScatterRegion}
 use Rattle.place_model.specs.Items as placing
-use Rattle.place_model.specs.Assignment.{Kept as Placed, Offer, Found, Nowhere, Within, Unclear, found, best, kept_by, in_order, areas_of, lists_from, offers_from, assignment_refusal}
+use Rattle.place_model.specs.Assignment.{Kept as Placed, Offer, Found, Nowhere, Within, Unclear, kept_by, in_order, areas_of, lists_from, offers_from, assignment_refusal}
 use Rattle.sdt_fault.specs.declared.answer.Fault.{Fault}
 use Rattle.chunk_file.specs.Reading.{Gives}
 use Rattle.aof_object.specs.declared.records.Object.{Object}
@@ -20,7 +20,7 @@ use Rattle.link_assign.specs.declared.finding.Finding.TheVariants as finding
 use Rattle.link_assign.specs.declared.items.Item.{Item}
 use Rattle.link_assign.specs.declared.keeping.Kept.{Kept}
 use Rattle.link_assign.specs.Finding.{told, pick_of}
-use Rattle.link_assign.specs.Shown.{kept_here, kept_in, shown_item, shown_kept}
+use Rattle.link_assign.specs.Shown.{kept_here, kept_in, shown_item}
 use Rattle.link_assign.specs.Keeping.{report_name, AreKept}
 use Rattle.link_assign.specs.Assigning.{assigned_by, lists_kept, named, names_kept}
 

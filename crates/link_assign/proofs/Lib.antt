@@ -2,3 +2,4 @@ mod ContentLemmas
 mod FindingLemmas
 mod KeepingLemmas
 mod OrderingLemmas
+mod Rows

@@ -1,7 +1,7 @@
 -- The regions of the areas of linked objects: the first area without a region or with two, in input order, or
 -- else the areas of each region in their order (SDT 2.50 Reference Guide, scatter loading; the order is this
 -- project's).
-use Rattle.std.specs.Prelude.{ℕ, zero, suc, List, [], ◌∷◌, length, map, Result, Ok}
+use Rattle.std.specs.Prelude.{ℕ, zero, suc, List, [], ◌∷◌, length, map, Result}
 use Rattle.sdt_fault.specs.declared.refusal.Refusal.{Refusal}
 use Rattle.aof_object.specs.declared.records.Object.{Object}
 use Rattle.link_model.specs.declared.placing.AreaName.{AreaName}

@@ -1,6 +1,6 @@
 //! Assignment.
 
-ghost use Rattle.std.specs.Prelude.{◌≡◌, [], map, IfOk};
+ghost use Rattle.std.specs.Prelude.{[], map, IfOk};
 ghost use Rattle.chunk_file.specs.Reading.{Gives};
 ghost use Rattle.place_model.specs.Assignment.{AreAssigned};
 ghost use Rattle.place_model.specs.declared.scatter.Kind.TheVariants as image;
@@ -18,12 +18,9 @@ use place_model::{Choice, Kind, Scatter};
 use sdt_fault::answer::Fault;
 use std::alloc::Global;
 
-fn assign_by(
-    alloc: Global,
-    objects: &[Named<Object>],
-    offers: &Offers,
-) -> Result<Assigned, Fault>
-    ensures { Gives result (assigned_by (map shown_offer offers.now.offers.items) offers.now.regions objects.now) }
+fn assign_by(alloc: Global, objects: &[Named<Object>], offers: &Offers) -> Result<Assigned, Fault>
+    ensures { Gives result (assigned_by
+        (map shown_offer offers.now.offers.items) offers.now.regions objects.now) }
 {
     let items = items_of_objects(alloc, objects)?;
     let kept = keep_all(alloc, objects, offers.offers.as_slice(), items.as_slice())?;
@@ -71,7 +68,8 @@ pub fn assign(alloc: Global, linked: &Linked, kind: &Kind) -> Result<Assigned, F
     // The answer is that of the definition, unless memory was refused.
     ensures exact { Gives result (assignment_of kind.now linked.now.objects) }
     // Each area is in the region of its one best selection.
-    ensures assigned { IfOk result (λ a. AreAssigned kind.now (items_in linked.now.objects) (contents_of linked.now.objects a.regions []).areas) }
+    ensures assigned { IfOk result (λ a. AreAssigned kind.now (items_in linked.now.objects)
+        (contents_of linked.now.objects a.regions []).areas) }
 {
     assign_objects(alloc, linked, kind)
 }

@@ -58,7 +58,8 @@ fn rank_of(selection: &Selection) -> u32
 }
 
 fn stands_at(rank_asked: u32, selection: &Selection, item: &Item) -> bool
-    ensures { result ≡ (rank selection.now == rank_asked && matches selection.now (shown_item item.now)) }
+    ensures { result ≡ (rank selection.now == rank_asked
+        && matches selection.now (shown_item item.now)) }
 {
     rank_of(selection) == rank_asked
         && takes_module(selection, item)
@@ -82,7 +83,8 @@ fn joined(finding: Finding, offer: &Offer) -> Finding
 #[tactic(auto, using(crate::proofs::FindingLemmas::after_all))]
 /// What the selections of a rank that match an area give.
 fn found_at(offers: &[Offer], rank_asked: u32, item: &Item) -> Finding
-    ensures { result ≡ told (found (at_rank rank_asked (map shown_offer offers.now) (shown_item item.now))) }
+    ensures { result ≡ told (found (at_rank rank_asked (map shown_offer offers.now)
+        (shown_item item.now))) }
 {
     let mut finding = Finding::Nowhere;
     for offer in offers {

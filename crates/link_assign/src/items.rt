@@ -26,7 +26,8 @@ fn push_item<'a>(
     area: u32,
     entry: &'a Area,
 ) -> Result<(), NoMemory>
-    ensures { OnOk result (map shown_item items.new.items ≡ map shown_item items.old.items ++ items_of object home.now area (entry.now ∷ [])) }
+    ensures { OnOk result (map shown_item items.new.items ≡ map shown_item items.old.items
+        ++ items_of object home.now area (entry.now ∷ [])) }
 {
     items.push(Item {
         name: AreaName { object, area },
@@ -42,7 +43,8 @@ fn push_items<'a>(
     home: &'a [u8],
     areas: &'a [Area],
 ) -> Result<(), NoMemory>
-    ensures { OnOk result (map shown_item items.new.items ≡ map shown_item items.old.items ++ items_of object home.now 0 areas.now) }
+    ensures { OnOk result (map shown_item items.new.items ≡ map shown_item items.old.items
+        ++ items_of object home.now 0 areas.now) }
 {
     for (k, area) in areas.iter().enumerate() {
         push_item(items, object, home, numbered(k)?, area)?;

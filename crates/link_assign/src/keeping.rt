@@ -25,11 +25,7 @@ pub struct Kept<'a> {
     pub item: Item<'a>,
 }
 
-fn object_name(
-    alloc: Global,
-    objects: &[Named<Object>],
-    number: u32,
-) -> Result<Text, NoMemory>
+fn object_name(alloc: Global, objects: &[Named<Object>], number: u32) -> Result<Text, NoMemory>
     ensures { IfOk result (λ name. name ≡ report_name objects.now number) }
 {
     match objects.get(number as usize) {
@@ -46,8 +42,12 @@ fn keep<'a>(
     kept: &mut Vec<Kept<'a>>,
     item: &Item<'a>,
 ) -> Result<(), Fault>
-    ensures judged { Judges result (refused (report_name objects.now item.now.name.object) (shown_item item.now) (found (best (map shown_offer offers.now) (shown_item item.now)))) }
-    ensures kept { OnOk result ((r : ℕ) → kept_in r kept.new.items ≡ kept_in r kept.old.items ++ option_to_list (kept_by r (shown_item item.now) (found (best (map shown_offer offers.now) (shown_item item.now))))) }
+    ensures judged { Judges result (refused (report_name objects.now item.now.name.object)
+        (shown_item item.now)
+        (found (best (map shown_offer offers.now) (shown_item item.now)))) }
+    ensures kept { OnOk result ((r : ℕ) → kept_in r kept.new.items ≡ kept_in r kept.old.items
+        ++ option_to_list (kept_by r (shown_item item.now)
+        (found (best (map shown_offer offers.now) (shown_item item.now))))) }
 {
     match best_of(offers, item) {
         Finding::Nowhere => Err(Fault::Refused(Refusal::Unassigned {
@@ -78,8 +78,10 @@ pub fn keep_all<'a>(
     offers: &[Offer],
     items: &[Item<'a>],
 ) -> Result<Vec<Kept<'a>>, Fault>
-    ensures judged { Judges result (assignment_refusal (report_name objects.now) (map shown_offer offers.now) (map shown_item items.now)) }
-    ensures kept { IfOk result (λ kept. AreKept (map shown_offer offers.now) (map shown_item items.now) kept.items) }
+    ensures judged { Judges result (assignment_refusal (report_name objects.now)
+        (map shown_offer offers.now) (map shown_item items.now)) }
+    ensures kept { IfOk result (λ kept. AreKept (map shown_offer offers.now)
+        (map shown_item items.now) kept.items) }
 {
     let mut kept = Vec::new(alloc);
     for item in items {

@@ -11,11 +11,7 @@ use link_model::AreaName;
 use sdt_fault::{List, NoMemory};
 use std::alloc::Global;
 
-fn kept_of<'a>(
-    alloc: Global,
-    kept: &[Kept<'a>],
-    region: usize,
-) -> Result<Vec<Kept<'a>>, NoMemory>
+fn kept_of<'a>(alloc: Global, kept: &[Kept<'a>], region: usize) -> Result<Vec<Kept<'a>>, NoMemory>
     ensures { IfOk result (λ here. map shown_kept here.items ≡ kept_in region kept.now) }
 {
     let mut here = Vec::new(alloc);
@@ -28,7 +24,8 @@ fn kept_of<'a>(
 }
 
 fn names_of(alloc: Global, kept: &[Kept]) -> Result<List<AreaName>, NoMemory>
-    ensures { IfOk result (λ names. names ≡ map name_of (map (λ k. k.item) (map shown_kept kept.now))) }
+    ensures { IfOk result (λ names. names ≡ map name_of (map (λ k. k.item)
+        (map shown_kept kept.now))) }
 {
     let mut names = Vec::with_capacity(alloc, kept.len())?;
     for one in kept {

@@ -3,7 +3,6 @@
 ghost use Rattle.std.specs.Prelude.{◌≡◌, [], ◌∷◌, ◌++◌, ◌+◌, ◌^◌, ◌<◌, length, map, OnOk, IfOk};
 ghost use Rattle.std.specs.List.{flat_map};
 ghost use Rattle.place_model.specs.Assignment.{offers_from};
-ghost use Rattle.place_model.specs.declared.scatter.Choice.TheVariants as class;
 ghost use Rattle.link_assign.specs.Shown.{of_class, offered, shown_offer};
 
 use place_model::{Choice, Edge, ScatterLoad, ScatterRegion, Selection};
@@ -29,7 +28,8 @@ fn push_region<'a>(
     region: usize,
     selections: &'a [Selection],
 ) -> Result<(), NoMemory>
-    ensures { OnOk result (map shown_offer offers.new.items ≡ map shown_offer offers.old.items ++ offered region selections.now) }
+    ensures { OnOk result (map shown_offer offers.new.items ≡ map shown_offer offers.old.items
+        ++ offered region selections.now) }
 {
     for selection in selections {
         offers.push(Offer { region, selection })?;
@@ -44,7 +44,8 @@ fn push_regions<'a>(
     regions: &'a [ScatterRegion],
 ) -> Result<(), NoMemory>
     requires { first + length regions.now < 2 ^ 64 }
-    ensures { OnOk result (map shown_offer offers.new.items ≡ map shown_offer offers.old.items ++ offers_from first regions.now) }
+    ensures { OnOk result (map shown_offer offers.new.items ≡ map shown_offer offers.old.items
+        ++ offers_from first regions.now) }
 {
     for (i, region) in regions.iter().enumerate() {
         push_region(offers, first + i, region.selections.as_slice())?;
@@ -64,8 +65,10 @@ fn behind(first: usize, more: usize) -> Result<usize, NoMemory>
 
 /// The selections of a description.
 pub fn described<'a>(alloc: Global, loads: &'a [ScatterLoad]) -> Result<Offers<'a>, NoMemory>
-    ensures offers { IfOk result (λ o. map shown_offer o.offers.items ≡ offers_from 0 (flat_map (λ load. load.regions) loads.now)) }
-    ensures regions { IfOk result (λ o. o.regions ≡ length (flat_map (λ load. load.regions) loads.now)) }
+    ensures offers { IfOk result (λ o. map shown_offer o.offers.items
+        ≡ offers_from 0 (flat_map (λ load. load.regions) loads.now)) }
+    ensures regions { IfOk result (λ o. o.regions
+        ≡ length (flat_map (λ load. load.regions) loads.now)) }
 {
     let mut offers = Vec::new(alloc);
     let mut count: usize = 0;
@@ -100,7 +103,9 @@ pub fn plain<'a>(
     rw: &'a Selection,
     zi: &'a Selection,
 ) -> Result<Offers<'a>, NoMemory>
-    ensures offers { IfOk result (λ o. map shown_offer o.offers.items ≡ record { region = 0; selection = ro.now } ∷ record { region = 1; selection = rw.now } ∷ record { region = 2; selection = zi.now } ∷ []) }
+    ensures offers { IfOk result (λ o. map shown_offer o.offers.items
+        ≡ record { region = 0; selection = ro.now } ∷ record { region = 1; selection = rw.now }
+        ∷ record { region = 2; selection = zi.now } ∷ []) }
     ensures regions { IfOk result (λ o. o.regions ≡ 3) }
 {
     let mut offers = Vec::new(alloc);

@@ -32,7 +32,11 @@ fn number_of_class(item: &Item) -> u32
 fn number_of(kept: &Kept) -> u32
     ensures { result ≡ order_number (shown_kept kept.now) }
 {
-    let zero = if is_zero_initialised(&kept.item) { 12 } else { 0 };
+    let zero = if is_zero_initialised(&kept.item) {
+        12
+    } else {
+        0
+    };
     zero + 4 * number_of_edge(kept.edge) + number_of_class(&kept.item)
 }
 
@@ -46,7 +50,8 @@ fn compare(one: &Kept, other: &Kept) -> Ordering
 
 /// Puts the areas of a region in order.
 pub fn put_in_order(kept: &mut Vec<Kept>) -> Result<(), NoMemory>
-    ensures { OnOk result (map shown_kept kept.new.items ≡ in_order (map shown_kept kept.old.items)) }
+    ensures { OnOk result (map shown_kept kept.new.items
+        ≡ in_order (map shown_kept kept.old.items)) }
 {
     kept.sort_by(|one, other| compare(one, other))?;
     Ok(())

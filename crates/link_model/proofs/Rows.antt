@@ -13,16 +13,16 @@ use Rattle.link_model.specs.RegionNames.{has_region_form}
 use Rattle.link_model.specs.RegionValues.{region_number}
 use Rattle.link_model.specs.Veneers.{veneers_of}
 
-abbrev area : List ℕ → ℕ → List ℕ → List Reloc → Area
+abbrev pub area : List ℕ → ℕ → List ℕ → List Reloc → Area
 area name attributes bytes relocs = record { name = name; attributes = attributes; size = 8; bytes = bytes; relocs = relocs }
 
-abbrev symbol : ℕ → Option ℕ → Symbol
+abbrev pub symbol : ℕ → Option ℕ → Symbol
 symbol attributes home = record { name = codes "func"; attributes = attributes; value = 0; area = home }
 
-abbrev object : Area → Symbol → Object
+abbrev pub object : Area → Symbol → Object
 object a s = record { areas = a ∷ []; symbols = s ∷ []; entry = None }
 
-abbrev both : Object → Object → Link
+abbrev pub both : Object → Object → Link
 both caller callee = record {
   objects = caller ∷ callee ∷ [];
   definitions = (record { name = codes "func"; object = 1; symbol = 0 }) ∷ [];
@@ -35,11 +35,11 @@ in_one = ((record { object = 0; area = 0 }) ∷ (record { object = 1; area = 0 }
 abbrev to_second : Bool → List Veneer
 to_second thumb = (record { region = 0; area = record { object = 1; area = 0 }; offset = 0; thumb = thumb }) ∷ []
 
-abbrev reloc : ℕ → ℕ → Reloc
+abbrev pub reloc : ℕ → ℕ → Reloc
 reloc offset word = record { offset = offset; word = word }
 
 -- BL func in ARM state, EBFFFFFE at offset 0, where func is Thumb code, with these relocations
-abbrev from_arm : List Reloc → Link
+abbrev pub from_arm : List Reloc → Link
 from_arm relocs =
     both (object (area (codes "main") 0x2202 (0xFE ∷ 0xFF ∷ 0xFF ∷ 0xEB ∷ 0x11 ∷ 0 ∷ 0 ∷ 0xEF ∷ []) relocs) (symbol 2 None))
     (object (area (codes "t") 0x502202 (1 ∷ 0x20 ∷ 0x70 ∷ 0x47 ∷ []) []) (symbol 0x1003 (Some 0)))

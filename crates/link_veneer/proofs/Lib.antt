@@ -1,1 +1,5 @@
-
+mod FieldLemmas
+mod LawLemmas
+mod NeededLemmas
+mod PlanLemmas
+mod Rows

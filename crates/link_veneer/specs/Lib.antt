@@ -4,3 +4,4 @@ pub mod Targets
 pub mod Needing
 pub mod Interworking
 pub mod Planning
+pub mod Laws

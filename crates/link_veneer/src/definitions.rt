@@ -1,7 +1,6 @@
 //! The definitions of names, found by an index.
 
-ghost use Rattle.std.specs.Prelude.{◌≡◌, ℕ, List, Option, Some, OnOk, IfOk, if◌then◌else◌};
-ghost use Rattle.std.specs.Option.{option_map};
+ghost use Rattle.std.specs.Prelude.{◌≡◌, ℕ, List, Some, OnOk, IfOk, if◌then◌else◌};
 ghost use Rattle.std.specs.Str.{bytes_eq};
 ghost use Rattle.link_veneer.specs.Index.{defined_in, place_of, IsIndexOf};
 
@@ -26,16 +25,29 @@ pub fn find(index: &IndexMap<&[u8], Defined>, name: &[u8]) -> Option<Defined>
 
 fn put<'a>(
     index: &mut IndexMap<&'a [u8], Defined>,
+    name: &'a [u8],
+    defined: Defined,
+) -> Result<(), NoMemory>
+    ensures { OnOk result ((q : List ℕ) → defined_in index.new q
+        ≡ (if bytes_eq name.now q then Some defined else defined_in index.old q)) }
+{
+    index.insert(name, defined)?;
+    Ok(())
+}
+
+fn put_definition<'a>(
+    index: &mut IndexMap<&'a [u8], Defined>,
     definition: &'a Definition,
 ) -> Result<(), NoMemory>
-    ensures { OnOk result ((q : List ℕ) → defined_in index.new q ≡ (if bytes_eq definition.now.name q then Some (place_of definition.now) else defined_in index.old q)) }
+    ensures { OnOk result ((q : List ℕ) → defined_in index.new q
+        ≡ (if bytes_eq definition.now.name q then Some (place_of definition.now)
+        else defined_in index.old q)) }
 {
     let defined = Defined {
         object: definition.object,
         symbol: definition.symbol,
     };
-    index.insert(definition.name.as_slice(), defined)?;
-    Ok(())
+    put(index, definition.name.as_slice(), defined)
 }
 
 /// The first definition of each name. The last one is noted first, and gives way to earlier ones.
@@ -47,7 +59,7 @@ pub fn index_definitions<'a>(
 {
     let mut index = IndexMap::new(alloc);
     for i in (0..definitions.len()).rev() {
-        put(&mut index, &definitions[i])?;
+        put_definition(&mut index, &definitions[i])?;
     }
     Ok(index)
 }

@@ -1,8 +1,7 @@
 //! The fields of relocations, and whether a branch has its field alone.
 
-ghost use Rattle.std.specs.Prelude.{◌≡◌, ℕ, ◌==◌, Bool, Option, Some, is_none, nat_eq, count_by, OnOk, IfOk, if◌then◌else◌};
-ghost use Rattle.patch_model.specs.Fields.{Branch, field_of, is_relative, is_by_symbol, kind_of, size_of};
-ghost use Rattle.link_model.specs.Veneers.{is_alone as alone_among};
+ghost use Rattle.std.specs.Prelude.{◌≡◌, ℕ, ◌==◌, ◌/◌, ◌%◌, Some, is_none, nat_eq, OnOk, IfOk, if◌then◌else◌};
+ghost use Rattle.patch_model.specs.Fields.{field_of, kind_of, size_of};
 ghost use Rattle.indexmap.specs.IndexMap.{get};
 ghost use Rattle.link_veneer.specs.Fields.{fills, is_branch_kind, marked_by, AreMarks};
 
@@ -59,12 +58,15 @@ pub fn is_branch(reloc: Reloc) -> bool
 }
 
 /// Notes a field of four bytes at its place: alone, or not.
-fn mark(marks: &mut IndexMap<u32, bool>, reloc: Reloc) -> Result<(), NoMemory>
-    ensures { OnOk result ((p : ℕ) → get nat_eq marks.new p ≡ (if fills p reloc then Some (is_none (get nat_eq marks.old p)) else get nat_eq marks.old p)) }
+fn mark(marks: &mut IndexMap<u32, bool>, reloc: &Reloc) -> Result<(), NoMemory>
+    ensures { OnOk result ((p : ℕ) → get nat_eq marks.new p
+        ≡ (if fills p reloc.now then Some (is_none (get nat_eq marks.old p))
+        else get nat_eq marks.old p)) }
 {
-    if is_four_bytes(reloc) {
-        let alone = marks.get(&place(reloc)).is_none();
-        marks.insert(place(reloc), alone)?;
+    if is_four_bytes(*reloc) {
+        let at = place(*reloc);
+        let alone = marks.get(&at).is_none();
+        marks.insert(at, alone)?;
     }
     Ok(())
 }
@@ -75,7 +77,7 @@ pub fn marks_of(alloc: Global, relocs: &[Reloc]) -> Result<IndexMap<u32, bool>, 
 {
     let mut marks = IndexMap::new(alloc);
     for reloc in relocs {
-        mark(&mut marks, *reloc)?;
+        mark(&mut marks, reloc)?;
     }
     Ok(marks)
 }

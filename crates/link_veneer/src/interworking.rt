@@ -1,16 +1,13 @@
 //! Branches to code of the other state whose area has no interworking bit.
 
-ghost use Rattle.std.specs.Prelude.{◌≡◌, ◌<◌, ◌^◌, Some, IfOk};
+ghost use Rattle.std.specs.Prelude.{◌≡◌, IfOk};
 ghost use Rattle.std.specs.Option.{option_copied};
-ghost use Rattle.aof_object.specs.declared.records.Object.{Object as AofObject};
 ghost use Rattle.link_model.specs.Members.{link_of, objects_in};
-ghost use Rattle.link_model.specs.Meaning.{symbol_of};
 ghost use Rattle.link_model.specs.Options.{first_given};
 ghost use Rattle.link_model.specs.Veneers.{IsIn};
-ghost use Rattle.patch_model.specs.Fields.{number_named};
 ghost use Rattle.link_veneer.specs.Fields.{AreMarks};
 ghost use Rattle.link_veneer.specs.Index.{IsIndexOf};
-ghost use Rattle.link_veneer.specs.Interworking.{not_interworking, refusal_by, refused_by, refused_from, refused_in};
+ghost use Rattle.link_veneer.specs.Interworking.{not_interworking, refusal_by, refused_by, refused_in};
 
 use crate::definitions::Defined;
 use crate::fields::marks_of;
@@ -31,7 +28,8 @@ fn refusal_of(
     symbol: Option<&Symbol>,
     need: Option<Veneer>,
 ) -> Result<Option<Refusal>, NoMemory>
-    ensures { IfOk result (λ refusal. refusal ≡ refusal_by (objects_in objects.now) (option_copied symbol.entry) need) }
+    ensures { IfOk result (λ refusal. refusal ≡ refusal_by (objects_in objects.now)
+        (option_copied symbol.entry) need) }
 {
     let Some(symbol) = symbol else {
         return Ok(None);
@@ -60,7 +58,8 @@ fn refusal_in_area(
     area: &Area,
 ) -> Result<Option<Refusal>, NoMemory>
     requires { IsIndexOf linked.now.definitions index.now }
-    ensures { IfOk result (λ refusal. refusal ≡ first_given (refused_by (link_of linked.now) name area.now) area.now.relocs) }
+    ensures { IfOk result (λ refusal. refusal ≡ first_given
+        (refused_by (link_of linked.now) name area.now) area.now.relocs) }
 {
     let relocs = area.relocs.as_slice();
     let marks = marks_of(alloc, relocs)?;
@@ -85,7 +84,8 @@ fn refusal_of_branch(
     requires index { IsIndexOf linked.now.definitions index.now }
     requires marks { AreMarks area.now.relocs marks.now }
     requires there { IsIn area.now.relocs reloc }
-    ensures { IfOk result (λ refusal. refusal ≡ refused_by (link_of linked.now) name area.now reloc) }
+    ensures { IfOk result (λ refusal. refusal ≡ refused_by
+        (link_of linked.now) name area.now reloc) }
 {
     let objects = linked.objects.as_slice();
     let need = needed(linked, index, marks, 0, name, area, reloc);
@@ -102,7 +102,8 @@ fn refusal_in_object(
     areas: &[Area],
 ) -> Result<Option<Refusal>, NoMemory>
     requires { IsIndexOf linked.now.definitions index.now }
-    ensures { IfOk result (λ refusal. refusal ≡ refused_in (link_of linked.now) object 0 areas.now) }
+    ensures { IfOk result (λ refusal. refusal ≡ refused_in
+        (link_of linked.now) object 0 areas.now) }
 {
     for (k, area) in areas.iter().enumerate() {
         let name = AreaName {

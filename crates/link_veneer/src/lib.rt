@@ -4,8 +4,10 @@
 mod definitions;
 mod fields;
 mod interworking;
+mod laws;
 mod needing;
 mod planning;
 mod targets;
 
+pub use crate::laws::interworking_law;
 pub use crate::planning::plan_veneers;

@@ -1,18 +1,16 @@
 //! The veneers that relocations need.
 
-ghost use Rattle.std.specs.Prelude.{◌≡◌, ◌+◌, ◌-◌, ◌*◌, ◌%◌, ◌^◌, ◌<◌, ◌≤◌, ◌&&◌, length, if◌then◌else◌, Some, OnOk, IfSome};
-ghost use Rattle.sdt_word.specs.Bytes.{word_in};
-ghost use Rattle.patch_model.specs.Fields.{field_of};
+ghost use Rattle.std.specs.Prelude.{◌≡◌, ◌+◌, ◌-◌, ◌^◌, ◌<◌, Some, OnOk, IfSome};
 ghost use Rattle.patch_model.specs.Patched.{ahead, is_branch as reads_as_branch, middle, span};
-ghost use Rattle.link_model.specs.Members.{link_of, objects_in};
-ghost use Rattle.link_model.specs.Veneers.{has_branch, needed_by, needed_in, IsIn};
+ghost use Rattle.link_model.specs.Members.{link_of};
+ghost use Rattle.link_model.specs.Veneers.{needed_by, needed_in, IsIn};
 ghost use Rattle.link_veneer.specs.Fields.{AreMarks};
 ghost use Rattle.link_veneer.specs.Index.{IsIndexOf};
-ghost use Rattle.link_veneer.specs.Needing.{led_from, veneer_to, with_all, with_one};
+ghost use Rattle.link_veneer.specs.Needing.{led, led_from, veneer_to, with_all, with_one};
 
 use crate::definitions::Defined;
 use crate::fields::{is_alone, is_branch, marks_of, place};
-use crate::targets::{Target, target};
+use crate::targets::{Target, named_target};
 use aof_object::{Area, Reloc};
 use indexmap::{IndexMap, IndexSet};
 use link_model::{AreaName, Linked, Veneer};
@@ -44,7 +42,7 @@ fn reach(thumb: bool, word: u32) -> u64
 }
 
 /// The veneer of a branch in a state, where it goes by one.
-fn veneer(region: u32, thumb: bool, distance: u64, to: Target) -> Option<Veneer>
+fn led_to(region: u32, thumb: bool, distance: u64, to: Target) -> Option<Veneer>
     requires { distance < 2 ^ 34 }
     ensures { result ≡ veneer_to region thumb distance to }
 {
@@ -74,6 +72,24 @@ fn distance(bytes: &[u8], thumb: bool, at: u32) -> Option<u64>
     Some(at as u64 + reach(thumb, word))
 }
 
+/// The veneer of a relocation that has its field alone, if a branch is there that goes by one.
+fn led_by(
+    linked: &Linked,
+    index: &IndexMap<&[u8], Defined>,
+    region: u32,
+    object: u32,
+    bytes: &[u8],
+    reloc: Reloc,
+) -> Option<Veneer>
+    requires { IsIndexOf linked.now.definitions index.now }
+    ensures { result ≡ led (link_of linked.now) region object bytes.now reloc }
+{
+    let thumb = reloc.offset % 2 == 1;
+    let far = distance(bytes, thumb, place(reloc))?;
+    let to = named_target(linked, index, object, reloc.word % 0x100_0000)?;
+    led_to(region, thumb, far, to)
+}
+
 /// The veneer that a relocation of an area in a region needs.
 pub fn needed(
     linked: &Linked,
@@ -95,10 +111,14 @@ pub fn needed(
     if !is_alone(marks, reloc) {
         return None;
     }
-    let thumb = reloc.offset % 2 == 1;
-    let far = distance(area.bytes.as_slice(), thumb, place(reloc))?;
-    let to = target(linked, index, name.object, reloc.word % 0x100_0000)?;
-    veneer(region, thumb, far, to)
+    led_by(
+        linked,
+        index,
+        region,
+        name.object,
+        area.bytes.as_slice(),
+        reloc,
+    )
 }
 
 /// Adds a veneer behind the others, unless it is among them.
@@ -120,7 +140,8 @@ pub fn add_area(
     area: &Area,
 ) -> Result<(), NoMemory>
     requires { IsIndexOf linked.now.definitions index.now }
-    ensures { OnOk result (needs.new.keys ≡ with_all needs.old.keys (needed_in (link_of linked.now) region name (Some area.now))) }
+    ensures { OnOk result (needs.new.keys ≡ with_all needs.old.keys (needed_in
+        (link_of linked.now) region name (Some area.now))) }
 {
     let relocs = area.relocs.as_slice();
     let marks = marks_of(alloc, relocs)?;

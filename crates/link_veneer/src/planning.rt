@@ -1,11 +1,11 @@
 //! The plan of veneers.
 
-ghost use Rattle.std.specs.Prelude.{◌≡◌, [], ◌++◌, OnOk, IfOk};
+ghost use Rattle.std.specs.Prelude.{◌≡◌, OnOk, IfOk};
 ghost use Rattle.std.specs.List.{flat_map};
 ghost use Rattle.chunk_file.specs.Reading.{Gives};
 ghost use Rattle.link_model.specs.Members.{link_of, objects_in};
 ghost use Rattle.link_model.specs.RegionValues.{area_of};
-ghost use Rattle.link_model.specs.Veneers.{needed_by_header, needed_from, needed_in};
+ghost use Rattle.link_model.specs.Veneers.{needed_by_header, needed_from, needed_in, veneers_of};
 ghost use Rattle.link_veneer.specs.Index.{IsIndexOf};
 ghost use Rattle.link_veneer.specs.Needing.{with_all};
 ghost use Rattle.link_veneer.specs.Planning.{planned_veneers};
@@ -27,7 +27,8 @@ fn add_header(
     header: bool,
     entry: &LinkedEntry,
 ) -> Result<(), NoMemory>
-    ensures { OnOk result (needs.new.keys ≡ with_all needs.old.keys (needed_by_header header entry.now)) }
+    ensures { OnOk result (needs.new.keys ≡ with_all needs.old.keys
+        (needed_by_header header entry.now)) }
 {
     if header && entry.thumb {
         let need = Veneer {
@@ -54,7 +55,8 @@ fn add_named(
     name: AreaName,
 ) -> Result<(), NoMemory>
     requires { IsIndexOf linked.now.definitions index.now }
-    ensures { OnOk result (needs.new.keys ≡ with_all needs.old.keys (needed_in (link_of linked.now) region name (area_of (objects_in linked.now.objects) name))) }
+    ensures { OnOk result (needs.new.keys ≡ with_all needs.old.keys (needed_in
+        (link_of linked.now) region name (area_of (objects_in linked.now.objects) name))) }
 {
     match area_at(linked.objects.as_slice(), name) {
         None => Ok(()),
@@ -72,7 +74,8 @@ fn add_region(
     names: &[AreaName],
 ) -> Result<(), NoMemory>
     requires { IsIndexOf linked.now.definitions index.now }
-    ensures { OnOk result (needs.new.keys ≡ with_all needs.old.keys (flat_map (λ a. needed_in (link_of linked.now) region a (area_of (objects_in linked.now.objects) a)) names.now)) }
+    ensures { OnOk result (needs.new.keys ≡ with_all needs.old.keys (flat_map (λ a. needed_in
+        (link_of linked.now) region a (area_of (objects_in linked.now.objects) a)) names.now)) }
 {
     for name in names {
         add_named(alloc, linked, index, needs, region, *name)?;
@@ -89,7 +92,8 @@ fn add_regions(
     regions: &[List<AreaName>],
 ) -> Result<(), NoMemory>
     requires { IsIndexOf linked.now.definitions index.now }
-    ensures { OnOk result (needs.new.keys ≡ with_all needs.old.keys (needed_from (link_of linked.now) 0 regions.now)) }
+    ensures { OnOk result (needs.new.keys ≡ with_all needs.old.keys (needed_from
+        (link_of linked.now) 0 regions.now)) }
 {
     for (k, names) in regions.iter().enumerate() {
         add_region(alloc, linked, index, needs, numbered(k)?, names.as_slice())?;
@@ -97,6 +101,7 @@ fn add_regions(
     Ok(())
 }
 
+#[tactic(auto, using(crate::proofs::PlanLemmas::both_added, crate::proofs::PlanLemmas::all_needs))]
 fn veneers(
     alloc: Global,
     linked: &Linked,
@@ -105,7 +110,7 @@ fn veneers(
     header: bool,
 ) -> Result<List<Veneer>, NoMemory>
     requires { IsIndexOf linked.now.definitions index.now }
-    ensures { IfOk result (λ vs. vs ≡ with_all [] (needed_by_header header linked.now.entry ++ needed_from (link_of linked.now) 0 regions.now)) }
+    ensures { IfOk result (λ vs. vs ≡ veneers_of (link_of linked.now) regions.now header) }
 {
     let mut needs = IndexSet::new(alloc);
     add_header(&mut needs, header, &linked.entry)?;

@@ -1,6 +1,6 @@
 //! The places in areas that symbols of linked objects name.
 
-ghost use Rattle.std.specs.Prelude.{◌≡◌, ◌==◌};
+ghost use Rattle.std.specs.Prelude.{◌≡◌};
 ghost use Rattle.std.specs.Option.{option_copied, option_and_then};
 ghost use Rattle.aof_object.specs.Checks.{is_placed as placed};
 ghost use Rattle.link_model.specs.Meaning.{symbol_of};
@@ -70,7 +70,8 @@ fn place_of_symbol(object: u32, symbol: &Symbol) -> Option<Target>
 }
 
 fn place_at(objects: &[Named<Object>], object: u32, number: u32) -> Option<Target>
-    ensures { result ≡ option_and_then (target_of_symbol object) (symbol_of (objects_in objects.now) object number) }
+    ensures { result ≡ option_and_then (target_of_symbol object) (symbol_of
+        (objects_in objects.now) object number) }
 {
     match symbol_at(objects, object, number) {
         None => None,
@@ -79,7 +80,7 @@ fn place_at(objects: &[Named<Object>], object: u32, number: u32) -> Option<Targe
 }
 
 /// The place that a symbol of an object names: its own, or that of the definition of its name.
-pub fn target(
+pub fn named_target(
     linked: &Linked,
     index: &IndexMap<&[u8], Defined>,
     object: u32,

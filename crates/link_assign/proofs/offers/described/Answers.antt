@@ -13,6 +13,6 @@ loop-load-preserved c =
     let behind : c.in_ok-next.next ≡ c.loop-load.count + length l.regions = c.in_ok-next.ensures ∙ ap (λ rs. c.loop-load.count + length rs) c.as_slice-regions.ensures in
     record {
       offers = offers_more c.loop-load.count c.in_ok-next.next l rest (map shown_offer c.loop-load.offers.items) (map shown_offer c.push_regions.new.offers.items) _ behind (c.in_ok-push_regions.ensures ∙ ap (λ rs. map shown_offer c.loop-load.offers.items ++ offers_from c.loop-load.count rs) c.as_slice-regions.ensures)
-        (ap (λ ls. map shown_offer c.loop-load.offers.items ++ offers_from c.loop-load.count (regions_in ls)) (sym here) ∙ c.loop-load.invariant.offers);
+          (ap (λ ls. map shown_offer c.loop-load.offers.items ++ offers_from c.loop-load.count (regions_in ls)) (sym here) ∙ c.loop-load.invariant.offers);
       count = count_more c.loop-load.count c.in_ok-next.next _ l rest behind (ap (λ ls. c.loop-load.count + length (regions_in ls)) (sym here) ∙ c.loop-load.invariant.count);
     }

@@ -1,5 +1,4 @@
 use Rattle.std.proofs.Common.{◌≡◌, ◌++◌, map, drop}
-use Rattle.place_model.specs.Assignment.{Offer}
 use Rattle.link_assign.specs.Shown.{offered, shown_offer}
 use Rattle.link_assign.proofs.offers.push_region.Given as goal
 

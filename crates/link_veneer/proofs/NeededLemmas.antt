@@ -1,0 +1,143 @@
+-- The veneer that a branch needs, by its distance from its target.
+use Rattle.std.proofs.Common.{◌≡◌, ℕ, ◌+◌, ◌-◌, ◌%◌, ◌^◌, ◌≤◌, Bool, true, false, cond, List, length, take, drop, Option, Some, None, refl, sym, ap, ◌∙◌, arith}
+use Rattle.std.specs.Prelude.{◌==◌, ◌&&◌, nat_le, count_by}
+use Rattle.std.specs.Option.{option_and_then, option_map}
+use Rattle.std.proofs.lemmas.Bool.{eqb-true}
+use Rattle.sdt_word.specs.Bytes.{number_of, word_in}
+use Rattle.base_lemmas.proofs.BaseLemmas.{both_true}
+use Rattle.aof_object.specs.declared.records.Area.{Area}
+use Rattle.aof_object.specs.declared.records.Object.{Object}
+use Rattle.aof_object.specs.declared.records.Reloc.{Reloc}
+use Rattle.aof_object.specs.declared.records.Symbol.{Symbol}
+use Rattle.patch_model.specs.Fields.{Kind, Byte, Half, Word, Branch, Home, Meant, field_of, kind_of, is_relative, is_by_symbol, number_named, number_in, directives, size_of}
+use Rattle.patch_model.specs.Patched.{total, other_state, is_branch, span, middle, ahead, Directly, ByVeneer, way_home, way_of}
+use Rattle.link_model.specs.declared.placing.AreaName.{AreaName}
+use Rattle.link_model.specs.Meaning.{Meaning, Defined, OfRegion, Weak, symbol_of}
+use Rattle.link_model.specs.Members.{Link}
+use Rattle.link_model.specs.Values.{home_area, meant_at, meant_of, meant_by}
+use Rattle.link_model.specs.Veneers.{shares_field, is_alone, has_branch, veneer_by, values_apart, needed_as, needed_by, IsIn}
+use Rattle.link_model.proofs.WayLemmas.{alone_way, sole_directive}
+use Rattle.link_veneer.specs.Fields.{Marks, is_branch_kind, marked_by, AreMarks}
+use Rattle.link_veneer.specs.Targets.{target_of}
+use Rattle.link_veneer.specs.Needing.{led, led_from, veneer_to}
+use Rattle.link_veneer.proofs.FieldLemmas.{is_branch_of, marks_tell}
+
+-- ---- where no address is known, a symbol's number is its offset
+
+abbrev AtHome : ℕ → Option Home → Type 0
+AtHome number None = Unit {0}
+AtHome number (Some h) = number ≡ h.offset
+
+abbrev IsAtHome : Meant → Type 0
+IsAtHome m = AtHome m.number m.home
+
+symbol_at_home : (object : ℕ) (o : Option Symbol) → IsAtHome (meant_of (λ other area. 0) object o)
+symbol_at_home object None = tt
+symbol_at_home object (Some s) = by (home_area s)
+  where
+    by : (area : Option ℕ) → IsAtHome (meant_at (λ other area. 0) object s area)
+    by None = tt
+    by (Some area) = omega arith
+
+meaning_at_home : (os : List Object) (m : Option Meaning) → IsAtHome (meant_by os (λ other area. 0) m)
+meaning_at_home os None = tt
+meaning_at_home os (Some (Defined object k)) = symbol_at_home object (symbol_of os object k)
+meaning_at_home os (Some (OfRegion n)) = tt
+meaning_at_home os (Some Weak) = tt
+
+at_home : (l : Link) (object k : ℕ) → IsAtHome ((values_apart l object).symbol k)
+at_home l object k = meaning_at_home l.objects _
+
+-- ---- the veneer by a distance that is counted upwards
+
+offset_same : (o number x d : ℕ) → number ≡ o → d ≤ 2 ^ 32 → total (o + total (0 + x) 0 d) (number + 0 + 0) (0 + 0 + number) ≡ (o + (x + (2 ^ 32 - d))) % 2 ^ 32
+offset_same o number x d e h = omega arith
+
+way_led : (region : ℕ) (thumb : Bool) (x d : ℕ) (m : Meant) (h : Option Home) → d ≤ 2 ^ 32 → AtHome m.number h
+    → veneer_by region (way_home thumb (total (0 + x) 0 d) (m.number + 0 + 0) (0 + 0) m h)
+    ≡ option_and_then (veneer_to region thumb (x + (2 ^ 32 - d))) (option_map (λ g. record { area = record { object = g.object; area = g.area }; offset = g.offset; thumb = m.thumb }) h)
+way_led region thumb x d m None low home = refl
+way_led region thumb x d m (Some h) low home = by (other_state thumb m.thumb)
+  where
+    offset : total (h.offset + total (0 + x) 0 d) (m.number + 0 + 0) (0 + 0 + m.number) ≡ (h.offset + (x + (2 ^ 32 - d))) % 2 ^ 32
+    offset = offset_same h.offset m.number x d home low
+
+    by : (b : Bool)
+        → veneer_by region (cond b (ByVeneer (record { object = h.object; area = h.area; offset = total (h.offset + total (0 + x) 0 d) (m.number + 0 + 0) (0 + 0 + m.number) }) m.thumb) Directly)
+        ≡ cond b (Some (record { region = region; area = record { object = h.object; area = h.area }; offset = (h.offset + (x + (2 ^ 32 - d))) % 2 ^ 32; thumb = m.thumb })) None
+    by false = refl
+    by true = ap (λ (o : ℕ). Some (record { region = region; area = record { object = h.object; area = h.area }; offset = o; thumb = m.thumb })) offset
+
+middle_low : (thumb : Bool) → middle thumb ≤ 2 ^ 32
+middle_low true = omega arith
+middle_low false = omega arith
+
+-- ---- a relocation
+
+none_as : (k : Kind) (l : Link) (region object : ℕ) (area : Area) (r : Reloc) → is_branch_kind k ≡ false → needed_as k l region object area r ≡ None
+none_as Byte l region object area r h = refl
+none_as Half l region object area r h = refl
+none_as Word l region object area r h = refl
+none_as (Branch thumb) l region object area r h = absurd cc
+
+pub no_branch : (l : Link) (region : ℕ) (a : AreaName) (area : Area) (r : Reloc) → is_branch_kind (kind_of r) ≡ false → needed_by l region a area r ≡ None
+no_branch l region a area r h = none_as (kind_of r) l region a.object area r h
+
+-- a branch that has its field alone, where one stands
+way_there : (l : Link) (region object : ℕ) (area : Area) (r : Reloc) (thumb : Bool) → kind_of r ≡ Branch thumb → IsIn area.relocs r → is_alone area.relocs r ≡ true
+    → veneer_by region (way_of 0 (values_apart l object) area.bytes (field_of r) thumb (directives area.relocs (field_of r)))
+    ≡ option_and_then (veneer_to region thumb ((field_of r).place + (ahead thumb + span thumb (word_in area.bytes (field_of r).place) + (2 ^ 32 - middle thumb)))) (target_of ((values_apart l object).symbol (number_named r)))
+way_there l region object area r thumb kind there alone =
+    let parts = both_true (is_relative r) (is_by_symbol r && count_by (shares_field (field_of r)) area.relocs == 1) alone in
+    let rest = both_true (is_by_symbol r) (count_by (shares_field (field_of r)) area.relocs == 1) parts.1 in
+    let sole = sole_directive area.relocs r there (eqb-true (count_by (shares_field (field_of r)) area.relocs) 1 rest.1) in
+    let values = values_apart l object in
+    let m = values.symbol (number_named r) in
+    let place = (field_of r).place in
+    let word : number_in area.bytes (field_of r) ≡ word_in area.bytes place = ap (λ (k : Kind). number_of (take (size_of k) (drop place area.bytes))) kind in
+    let from = place + ahead thumb + span thumb (word_in area.bytes place) in
+    let far : from + (2 ^ 32 - middle thumb) ≡ place + (ahead thumb + span thumb (word_in area.bytes place) + (2 ^ 32 - middle thumb)) =
+    three place (ahead thumb) (span thumb (word_in area.bytes place)) (2 ^ 32 - middle thumb) in
+    ap (λ (rs : List Reloc). veneer_by region (way_of 0 values area.bytes (field_of r) thumb rs)) sole
+    ∙ ap (veneer_by region) (alone_way 0 values area.bytes thumb r kind parts.0 rest.0)
+    ∙ ap (λ (w : ℕ). veneer_by region (way_home thumb (total (0 + (place + ahead thumb + span thumb w)) 0 (middle thumb)) (m.number + 0 + 0) (0 + 0) m m.home)) word
+    ∙ way_led region thumb from (middle thumb) m m.home (middle_low thumb) (at_home l object (number_named r))
+    ∙ ap (λ (n : ℕ). option_and_then (veneer_to region thumb n) (target_of m)) far
+  where
+    three : (a b c d : ℕ) → a + b + c + d ≡ a + (b + c + d)
+    three a b c d = omega arith
+
+reads_there : (bytes : List ℕ) (r : Reloc) (thumb : Bool) → kind_of r ≡ Branch thumb
+    → has_branch thumb bytes (field_of r) ≡ nat_le ((field_of r).place + 4) (length bytes) && is_branch thumb (word_in bytes (field_of r).place)
+reads_there bytes r thumb kind =
+    ap (λ (k : Kind). nat_le ((field_of r).place + size_of k) (length bytes) && is_branch thumb (number_of (take (size_of k) (drop (field_of r).place bytes)))) kind
+
+branch_there : (l : Link) (region object : ℕ) (area : Area) (r : Reloc) (thumb : Bool) → kind_of r ≡ Branch thumb → IsIn area.relocs r → is_alone area.relocs r ≡ true
+    → needed_as (Branch thumb) l region object area r
+    ≡ option_and_then (λ distance. option_and_then (veneer_to region thumb distance) (target_of ((values_apart l object).symbol (number_named r)))) (led_from area.bytes thumb (field_of r).place)
+branch_there l region object area r thumb kind there alone =
+    ap (λ (b : Bool). cond (b && has_branch thumb area.bytes (field_of r)) (veneer_by region (way_of 0 (values_apart l object) area.bytes (field_of r) thumb (directives area.relocs (field_of r)))) None) alone
+    ∙ ap (λ (b : Bool). cond b (veneer_by region (way_of 0 (values_apart l object) area.bytes (field_of r) thumb (directives area.relocs (field_of r)))) None) (reads_there area.bytes r thumb kind)
+    ∙ by (nat_le ((field_of r).place + 4) (length area.bytes) && is_branch thumb (word_in area.bytes (field_of r).place))
+  where
+    by : (b : Bool) → cond b (veneer_by region (way_of 0 (values_apart l object) area.bytes (field_of r) thumb (directives area.relocs (field_of r)))) None
+        ≡ option_and_then (λ distance. option_and_then (veneer_to region thumb distance) (target_of ((values_apart l object).symbol (number_named r))))
+        (cond b (Some ((field_of r).place + (ahead thumb + span thumb (word_in area.bytes (field_of r).place) + (2 ^ 32 - middle thumb)))) None)
+    by false = refl
+    by true = way_there l region object area r thumb kind there alone
+
+not_alone_as : (l : Link) (region object : ℕ) (area : Area) (r : Reloc) (thumb : Bool) → is_alone area.relocs r ≡ false → needed_as (Branch thumb) l region object area r ≡ None
+not_alone_as l region object area r thumb alone =
+    ap (λ (b : Bool). cond (b && has_branch thumb area.bytes (field_of r)) (veneer_by region (way_of 0 (values_apart l object) area.bytes (field_of r) thumb (directives area.relocs (field_of r)))) None) alone
+
+pub not_alone : (l : Link) (region : ℕ) (a : AreaName) (area : Area) (m : Marks) (r : Reloc) → AreMarks area.relocs m → is_branch_kind (kind_of r) ≡ true → marked_by m r ≡ false → needed_by l region a area r ≡ None
+not_alone l region a area m r known h alone =
+    let kind = is_branch_of r h in
+    ap (λ (k : Kind). needed_as k l region a.object area r) kind ∙ not_alone_as l region a.object area r (r.offset % 2 == 1) (sym (marks_tell area.relocs m r (r.offset % 2 == 1) known kind) ∙ alone)
+
+pub alone_led : (l : Link) (region : ℕ) (a : AreaName) (area : Area) (m : Marks) (r : Reloc) → AreMarks area.relocs m → IsIn area.relocs r → is_branch_kind (kind_of r) ≡ true → marked_by m r ≡ true
+    → needed_by l region a area r ≡ led l region a.object area.bytes r
+alone_led l region a area m r known there h alone =
+    let kind = is_branch_of r h in
+    ap (λ (k : Kind). needed_as k l region a.object area r) kind
+    ∙ branch_there l region a.object area r (r.offset % 2 == 1) kind there (sym (marks_tell area.relocs m r (r.offset % 2 == 1) known kind) ∙ alone)
