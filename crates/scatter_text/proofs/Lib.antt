@@ -1,0 +1,5 @@
+mod CutLemmas
+mod NumberLemmas
+mod Rows
+mod ReadLemmas
+mod JudgedLemmas

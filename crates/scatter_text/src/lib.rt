@@ -1,0 +1,9 @@
+//! Scatter descriptions, texts that say which regions an image has and which areas go into them: read.
+#![tactic(auto)]
+
+mod cuts;
+mod reading;
+mod stops;
+mod words;
+
+pub use crate::reading::read_scatter;
