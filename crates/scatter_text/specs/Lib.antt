@@ -4,3 +4,4 @@ pub mod Words
 pub mod Grammar
 pub mod Reading
 pub mod Steps
+pub mod Laws
