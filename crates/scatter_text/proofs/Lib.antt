@@ -1,5 +1,6 @@
 mod CutLemmas
 mod NumberLemmas
+mod SpelledLemmas
 mod CompleteLemmas
 mod Rows
 mod ReadLemmas
