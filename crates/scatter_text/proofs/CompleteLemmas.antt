@@ -18,25 +18,25 @@ use Rattle.scatter_text.specs.Parts.{Part}
 use Rattle.scatter_text.specs.Words.{told, is_region_name, module_of, number_of, base_of, choice_of, edge_of, is_word}
 use Rattle.scatter_text.specs.Grammar.{AreOf, IsEdge, IsSelection, AreSelections, IsGroup, IsMax, IsBraced, IsRegion, IsLoad}
 use Rattle.scatter_text.specs.Reading.{load_named, region_named, at, expect, or_else, name_load, base_load, limit_load, close_load, begin_region, name_region, base_region, limit_region, close_region, name_module, select, keep, put_edge, shift_load_max, shift_regions, shift_region_max, shift_groups, shift_behind, shift_word, shift_behind_edge, shift_at, shift, is_between_loads}
-use Rattle.scatter_text.specs.Laws.{ends}
+use Rattle.scatter_text.proofs.Ends.{ends}
 
 -- ---- one step, taken apart
 
-expect_is : (sign : List ℕ) (s : Reader) (t : List ℕ) (u : Reader) → expect sign s t ≡ Some u → (t ≡ sign) × (s ≡ u)
+pub expect_is : (sign : List ℕ) (s : Reader) (t : List ℕ) (u : Reader) → expect sign s t ≡ Some u → (t ≡ sign) × (s ≡ u)
 expect_is sign s t u h = by_test (bytes_eq t sign) refl h where
   by_test : (b : Bool) → bytes_eq t sign ≡ b → cond b (Some s) None ≡ Some u → (t ≡ sign) × (s ≡ u)
   by_test true e k = (same_text t sign (sym e), same s u k)
   by_test false e k = absurd (cc)
 
-when_is : {X : Type 0} (b : Bool) (x y : X) → cond b (Some x) None ≡ Some y → (b ≡ true) × (x ≡ y)
+pub when_is : {X : Type 0} (b : Bool) (x y : X) → cond b (Some x) None ≡ Some y → (b ≡ true) × (x ≡ y)
 when_is true x y h = (refl, same x y h)
 when_is false x y h = absurd (cc)
 
-mapped_is : {A B : Type 0} (f : A → B) (o : Option A) (y : B) → option_map f o ≡ Some y → (x : A) × (o ≡ Some x) × (f x ≡ y)
+pub mapped_is : {A B : Type 0} (f : A → B) (o : Option A) (y : B) → option_map f o ≡ Some y → (x : A) × (o ≡ Some x) × (f x ≡ y)
 mapped_is f None y h = absurd (cc)
 mapped_is f (Some x) y h = (x, refl, same (f x) y h)
 
-either_is : (a b : Option Reader) (u : Reader) → or_else a b ≡ Some u → (a ≡ Some u) ⊎ (b ≡ Some u)
+pub either_is : (a b : Option Reader) (u : Reader) → or_else a b ≡ Some u → (a ≡ Some u) ⊎ (b ≡ Some u)
 either_is None b u h = inr h
 either_is (Some s) b u h = inl h
 

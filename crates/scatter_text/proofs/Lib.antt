@@ -1,7 +1,12 @@
 mod CutLemmas
 mod NumberLemmas
-mod SpelledLemmas
-mod CompleteLemmas
-mod Rows
-mod ReadLemmas
 mod JudgedLemmas
+mod ReadLemmas
+mod Ends
+mod CompleteLemmas
+mod SpelledLemmas
+mod ValidLemmas
+mod FineLemmas
+mod SoundLemmas
+mod LawLemmas
+mod Rows

@@ -19,12 +19,12 @@ use Rattle.scatter_text.specs.Parts.{Part, first_is}
 use Rattle.scatter_text.specs.Words.{told, is_region_name, module_of, number_of, base_of, choice_of, edge_of, area_of, is_name, is_word}
 use Rattle.scatter_text.specs.Grammar.{AreOf, IsEdge, IsSelection, AreSelections, IsGroup, IsMax, IsBraced, IsRegion, IsLoad}
 use Rattle.scatter_text.specs.Reading.{beginning, load_named, region_named, no_selection, at, or_else, shift, name_load, begin_region, expect}
-use Rattle.scatter_text.specs.Laws.{ends}
+use Rattle.scatter_text.proofs.Ends.{ends}
 use Rattle.scatter_text.proofs.CompleteLemmas.{with_region, with_selection}
 
 -- ---- words that no sign has
 
-apart : (f : List ℕ → Bool) (sign : List ℕ) → f sign ≡ false → (t : List ℕ) → f t ≡ true → bytes_eq t sign ≡ false
+pub apart : (f : List ℕ → Bool) (sign : List ℕ) → f sign ≡ false → (t : List ℕ) → f t ≡ true → bytes_eq t sign ≡ false
 apart f sign never t h = by_test (bytes_eq t sign) refl where
   by_test : (b : Bool) → bytes_eq t sign ≡ b → bytes_eq t sign ≡ false
   by_test false e = e

@@ -4,4 +4,5 @@ pub mod Words
 pub mod Grammar
 pub mod Reading
 pub mod Steps
+pub mod Validity
 pub mod Laws

@@ -2,8 +2,10 @@
 #![tactic(auto)]
 
 mod cuts;
+mod laws;
 mod reading;
 mod stops;
 mod words;
 
+pub use crate::laws::{one_spelled, reading_law};
 pub use crate::reading::read_scatter;
