@@ -2,6 +2,8 @@
 -- limit on regions and the name `map` are this project's).
 use Rattle.std.specs.Prelude.{◌≡◌, ℕ, ◌<◌, ◌≤◌, ◌%◌, ◌^◌, List, [], ◌∷◌, length, map, codes, Option, Some, None}
 use Rattle.std.specs.List.{AllByRecursion, flat_map}
+use Rattle.sdt_fault.specs.declared.kinds.ScatterKind.{ScatterKind}
+use Rattle.sdt_fault.specs.declared.kinds.ScatterKind.TheVariants as kind
 use Rattle.place_model.specs.declared.scatter.ScatterBase.{ScatterBase}
 use Rattle.place_model.specs.declared.scatter.ScatterBase.TheVariants.{At, Plus}
 use Rattle.place_model.specs.declared.scatter.ScatterLoad.{ScatterLoad}
@@ -11,13 +13,19 @@ use Rattle.place_model.specs.declared.scatter.ScatterRegion.{ScatterRegion}
 abbrev pub IsWhole : ℕ → Type 0
 IsWhole n = (n < 2 ^ 32) × (n % 4 ≡ 0)
 
+abbrev pub OfMax : (ℕ → Type 0) → Option ℕ → Type 0
+OfMax P None = Unit {0}
+OfMax P (Some n) = P n
+
+abbrev pub OfBase : (ℕ → Type 0) → ScatterBase → Type 0
+OfBase P (At n) = P n
+OfBase P (Plus n) = P n
+
 abbrev pub IsWholeMax : Option ℕ → Type 0
-IsWholeMax None = Unit {0}
-IsWholeMax (Some n) = IsWhole n
+IsWholeMax max = OfMax IsWhole max
 
 abbrev pub IsWholeBase : ScatterBase → Type 0
-IsWholeBase (At n) = IsWhole n
-IsWholeBase (Plus n) = IsWhole n
+IsWholeBase base = OfBase IsWhole base
 
 abbrev pub AreWhole : ScatterRegion → Type 0
 AreWhole r = IsWholeBase r.base × IsWholeMax r.max
@@ -51,3 +59,23 @@ pub record IsValid (loads : List ScatterLoad) : Type 0 where
   pub load_names_differ : AreDistinct (load_names loads)
   pub region_names_differ : AreDistinct (region_names loads)
   pub few : length (region_names loads) ≤ 64
+
+-- ---- single rules
+
+abbrev pub OfNumbers : (ℕ → Type 0) → ScatterLoad → Type 0
+OfNumbers P l = P l.base × OfMax P l.max × AllByRecursion (λ r. OfBase P r.base × OfMax P r.max) l.regions
+
+-- all names are as they may be
+pub record AreNames (loads : List ScatterLoad) : Type 0 where
+  pub load_names_differ : AreDistinct (load_names loads)
+  pub region_names_differ : AreDistinct (region_names loads)
+  pub no_map : AllByRecursion (λ l. l.name ≡ codes "map" → ⊥) loads
+
+-- the load regions break the rule that a kind of fault stands for
+abbrev pub Breaks : ScatterKind → List ScatterLoad → Type 0
+Breaks kind.Syntax loads = ⊥
+Breaks kind.Number loads = AllByRecursion (OfNumbers (λ n. n < 2 ^ 32)) loads → ⊥
+Breaks kind.Unaligned loads = AllByRecursion (OfNumbers (λ n. n % 4 ≡ 0)) loads → ⊥
+Breaks kind.DuplicateName loads = AreNames loads → ⊥
+Breaks kind.TooMany loads = length (region_names loads) ≤ 64 → ⊥
+Breaks kind.Empty loads = AllByRecursion (λ l. 0 < length l.regions) loads → ⊥
