@@ -1,15 +1,14 @@
 -- The laws of reading.
 use Rattle.std.proofs.Common.{◌≡◌, ℕ, List, Option, Some, None, Result, Ok, Err, ◌+◌, ◌∙◌, refl, ap, sym, subst}
+use Rattle.std.specs.Prelude.{IfOk}
 use Rattle.sdt_fault.specs.declared.answer.Fault.{Fault}
-use Rattle.sdt_fault.specs.declared.answer.Fault.TheVariants as fault
-use Rattle.sdt_fault.specs.declared.refusal.Refusal.{Refusal}
 use Rattle.place_model.specs.declared.scatter.Scatter.{Scatter}
 use Rattle.place_model.specs.declared.scatter.ScatterLoad.{ScatterLoad}
 use Rattle.base_lemmas.proofs.BaseLemmas.{same}
 use Rattle.scatter_text.specs.Parts.{parts_of, line_count}
 use Rattle.scatter_text.specs.Grammar.{Spells}
 use Rattle.scatter_text.specs.Validity.{IsValid}
-use Rattle.scatter_text.specs.Reading.{Reading, beginning, read, refusal, scatter_of}
+use Rattle.scatter_text.specs.Reading.{Gives, Reading, beginning, read, refusal, scatter_of}
 use Rattle.scatter_text.specs.Laws.{Describes, ReadingLaw, OneSpelled}
 use Rattle.scatter_text.proofs.CompleteLemmas.{completes}
 use Rattle.scatter_text.proofs.SpelledLemmas.{spelled}
@@ -34,3 +33,10 @@ reading_law text s = (found text s, only text s)
 
 pub one_spelled : OneSpelled
 one_spelled text a b x y = let e = spelled a (parts_of text) x in let f = spelled b (parts_of text) y in same a b (sym e ∙ f)
+
+pub found_in : (text : List ℕ) (r : Result Scatter Fault) → Gives r (scatter_of text) → IfOk r (Describes text)
+found_in text (Ok s) h = found text s h
+found_in text (Err e) h = tt
+
+pub only_in : (text : List ℕ) (r : Result Scatter Fault) → Gives r (scatter_of text) → (s : Scatter) → Describes text s → Gives r (Ok s)
+only_in text r h s d = subst (Gives r) (only text s d) h

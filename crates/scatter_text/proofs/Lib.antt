@@ -9,4 +9,5 @@ mod ValidLemmas
 mod FineLemmas
 mod SoundLemmas
 mod LawLemmas
+mod FaultLemmas
 mod Rows

@@ -1,6 +1,6 @@
 //! Laws of descriptions, each proved as the contract of an empty function.
 
-ghost use Rattle.scatter_text.specs.Laws.{OneSpelled, ReadingLaw};
+ghost use Rattle.scatter_text.specs.Laws.{FaultLaw, OneSpelled, ReadingLaw};
 
 /// What is read is what the text spells, and valid; and what it spells is read, if it is valid.
 pub fn reading_law()
@@ -10,4 +10,9 @@ pub fn reading_law()
 /// A text spells one description at most.
 pub fn one_spelled()
     ensures { OneSpelled }
+{}
+
+/// A refusal tells a fault that is there.
+pub fn fault_law()
+    ensures { FaultLaw }
 {}

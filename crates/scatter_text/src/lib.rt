@@ -7,5 +7,5 @@ mod reading;
 mod stops;
 mod words;
 
-pub use crate::laws::{one_spelled, reading_law};
+pub use crate::laws::{fault_law, one_spelled, reading_law};
 pub use crate::reading::read_scatter;

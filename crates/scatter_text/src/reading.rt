@@ -1,10 +1,10 @@
 //! Reading: the parts in their order.
 
-ghost use Rattle.std.specs.Prelude.{nat_lt, ◌≡◌, ◌<◌, ◌≤◌, ◌^◌, ◌+◌, ◌++◌, ◌∷◌, [], IfOk, OnOk, Some, None, Ok, codes, length};
+ghost use Rattle.std.specs.Prelude.{nat_lt, ◌≡◌, ◌<◌, ◌≤◌, ◌^◌, ◌+◌, ◌++◌, ◌∷◌, [], IfOk, IfErr, OnOk, Some, None, Ok, codes, length};
 ghost use Rattle.std.specs.List.{list_any};
 ghost use Rattle.std.specs.Str.{bytes_eq};
 ghost use Rattle.sdt_fault.specs.declared.kinds.ScatterKind.TheVariants as kind;
-ghost use Rattle.scatter_text.specs.Parts.{line_count, parts_of};
+ghost use Rattle.scatter_text.specs.Laws.{Describes, IsFaultOf};
 ghost use Rattle.scatter_text.specs.Reading as steps;
 ghost use Rattle.scatter_text.specs.Words.{number_of, base_number};
 ghost use Rattle.scatter_text.specs.Reading.{judged, flaw_in, step, Leaves, Gives, refusal, beginning, scatter_of};
@@ -467,11 +467,8 @@ fn stopped(line: usize, stop: Stop) -> Fault
     }
 }
 
-/// The description that the text spells. Gives `ScatterLine` exactly where it spells none, with the line and the
-/// kind of the first fault. It takes time that is linear in the text and in the names of the selections.
-pub fn read_scatter(alloc: Global, text: &[u8]) -> Result<Scatter, Fault>
-    // What each part adds, up to the first that can't follow.
-    ensures exact { Gives result (scatter_of text.now) }
+fn description(alloc: Global, text: &[u8]) -> Result<Scatter, Fault>
+    ensures { Gives result (scatter_of text.now) }
 {
     let mut reader = Reader::new(alloc);
     let mut line = 1;
@@ -490,4 +487,20 @@ pub fn read_scatter(alloc: Global, text: &[u8]) -> Result<Scatter, Fault>
         depth = opened(depth, *first);
         rest = &begun[len..];
     }
+}
+
+/// The description that the text spells. Gives `ScatterLine` exactly where it spells none that is valid, with the
+/// line and the kind of the first fault. Each region's name is compared with those before it, at most 64; the rest
+/// takes time that is linear in the text and in the modules' names of the selections.
+pub fn read_scatter(alloc: Global, text: &[u8]) -> Result<Scatter, Fault>
+    // What is read is what the text spells, and its numbers, names and counts are as they may be.
+    ensures found { IfOk result (Describes text.now) }
+    // What the text spells is read, if it is valid, unless memory was refused.
+    ensures only { (s : Scatter) → Describes text.now s → Gives result (Ok s) }
+    // The error tells a fault that is there, unless memory was refused.
+    ensures fault { IfErr result (IsFaultOf text.now) }
+    // What each part adds, up to the first that can't follow.
+    ensures exact { Gives result (scatter_of text.now) }
+{
+    description(alloc, text)
 }

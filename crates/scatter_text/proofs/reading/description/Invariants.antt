@@ -1,7 +1,7 @@
 use Rattle.std.proofs.Common.{◌≡◌, ◌+◌, ◌≤◌, false, length}
 use Rattle.scatter_text.specs.Parts.{parts, parts_of, line_count}
 use Rattle.scatter_text.specs.Reading.{read, beginning}
-use Rattle.scatter_text.proofs.reading.read_scatter.Given as goal
+use Rattle.scatter_text.proofs.reading.description.Given as goal
 
 -- reading the rest behind what is read gives what reading all gives
 abbrev pub invariant-parts : goal.invariant-parts
