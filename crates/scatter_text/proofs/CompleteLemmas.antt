@@ -1,5 +1,5 @@
 -- What is read is spelled so: from each state the parts that follow complete what is read so far.
-use Rattle.std.proofs.Common.{◌≡◌, ◌∙◌, ℕ, List, [], ◌∷◌, ◌++◌, Bool, true, false, cond, Option, Some, None, option_and_then, refl, ap, sym, subst, append_assoc, append-nil, inl, inr, arith}
+use Rattle.std.proofs.Common.{◌≡◌, ◌∙◌, ℕ, List, [], ◌∷◌, ◌++◌, Bool, true, false, cond, Option, Some, None, refl, ap, sym, subst, append_assoc, append-nil, inl, inr, arith}
 use Rattle.std.specs.Prelude.{codes, option_map, bytes_eq, ◌⊎◌}
 use Rattle.std.specs.List.{flat_map}
 use Rattle.std.specs.Cmp.Lexicographic.{same_text}
@@ -16,8 +16,8 @@ use Rattle.scatter_text.specs.declared.reading.Stage.TheVariants.{Loads, LoadBas
 use Rattle.scatter_text.specs.declared.reading.Reader.{Reader}
 use Rattle.scatter_text.specs.Parts.{Part}
 use Rattle.scatter_text.specs.Words.{told, is_region_name, module_of, number_of, base_of, choice_of, edge_of, is_word}
-use Rattle.scatter_text.specs.Grammar.{AreOf, IsEdge, IsSelection, AreSelections, IsGroup, IsMax, IsBraced, IsRegion, IsLoad}
-use Rattle.scatter_text.specs.Reading.{load_named, region_named, at, expect, or_else, name_load, base_load, limit_load, close_load, begin_region, name_region, base_region, limit_region, close_region, name_module, select, keep, put_edge, shift_load_max, shift_regions, shift_region_max, shift_groups, shift_behind, shift_word, shift_behind_edge, shift_at, shift, is_between_loads}
+use Rattle.scatter_text.specs.Grammar.{AreOf, IsEdge, AreSelections, IsGroup, IsMax, IsRegion, IsLoad}
+use Rattle.scatter_text.specs.Reading.{load_named, region_named, at, expect, or_else, limit_load, close_load, begin_region, name_region, limit_region, close_region, name_module, select, keep, put_edge, shift_at, shift, is_between_loads}
 use Rattle.scatter_text.proofs.Ends.{ends}
 
 -- ---- one step, taken apart
@@ -259,8 +259,7 @@ load_first {loads} {ps} {ls} p base n named based m =
     let j = s.4 in
     let t = j.behind in
     let l : ScatterLoad = record { name = p.text; base = n; max = or_max m.max None; regions = j.regions } in
-    let front : List Part = p ∷ base ∷ (m.limit ++ s.0 ∷ (j.body ++ j.close ∷ [])) in
-    (
+    let front : List Part = p ∷ base ∷ (m.limit ++ s.0 ∷ (j.body ++ j.close ∷ [])) in (
       l ∷ t.0,
       (
         front,

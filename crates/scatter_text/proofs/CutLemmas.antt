@@ -1,9 +1,9 @@
 -- Gaps and parts at the front of a text.
-use Rattle.std.proofs.Common.{◌≡◌, ◌∙◌, ℕ, suc, ◌+◌, ◌≤◌, List, [], ◌∷◌, take, drop, Bool, true, false, cond, not, ◌&&◌, ◌||◌, refl, ap, sym, subst, arith, eqb-true}
+use Rattle.std.proofs.Common.{◌≡◌, ℕ, suc, ◌+◌, ◌≤◌, List, [], ◌∷◌, take, drop, Bool, true, false, cond, not, ◌&&◌, refl, ap, sym, subst, arith, eqb-true}
 use Rattle.std.specs.Prelude.{◌==◌}
 use Rattle.std.specs.List.{prefix_len}
-use Rattle.base_lemmas.proofs.BaseLemmas.{both_true, neither}
-use Rattle.scatter_text.specs.Parts.{Part, is_name_byte, is_gap, joins, opened, put_unless, put, goes_on, line_behind, parts, part_len}
+use Rattle.base_lemmas.proofs.BaseLemmas.{both_true}
+use Rattle.scatter_text.specs.Parts.{Part, is_name_byte, is_gap, joins, opened, put, goes_on, line_behind, parts, part_len}
 
 abbrev pub is_line : ℕ → Bool
 is_line b = not (b == 10)
@@ -40,7 +40,7 @@ gap_depth depth b bs gap = by_open (b == 123) refl where
 pub gap_is : (depth line b : ℕ) (bs : List ℕ) → is_gap false b bs ≡ true → parts false depth line (b ∷ bs) ≡ parts false depth (line_behind line b) (cond (b == 59) (drop (prefix_len is_line bs) bs) bs)
 gap_is depth line b bs gap = rw (gap, gap_depth depth b bs gap) (by_comment (b == 59) refl) where
   by_comment : (t : Bool) → (b == 59) ≡ t → parts (not (b == 10) && t) depth (line_behind line b) bs ≡ parts false depth (line_behind line b) (cond t (drop (prefix_len is_line bs) bs) bs)
-  by_comment true e = 
+  by_comment true e =
       let P : ℕ → Type 0 = λ c. parts (not (c == 10) && true) depth (line_behind line c) bs ≡ parts false depth (line_behind line c) (drop (prefix_len is_line bs) bs) in
       subst P (sym (eqb-true b 59 e)) (comment_is depth line bs)
   by_comment false e = ap (λ t. parts t depth (line_behind line b) bs) (and_false (not (b == 10)))
@@ -107,4 +107,3 @@ cut_is (c ∷ cs) depth line b seen = by_join (joins depth b (c ∷ cs)) refl (�
       let next = plain depth line c cs each.1 in
       let s : 1 + part_len depth (c ∷ cs) ≡ suc (part_len depth (c ∷ cs)) = omega arith in
       rw (seen, e, here.line_is, visible_comment b (c ∷ cs) seen, here.depth_is, s, more next.visible, next.depth_is) refl
-

@@ -1,5 +1,5 @@
 -- What a fault that is told means.
-use Rattle.std.proofs.Common.{◌≡◌, ◌∙◌, ℕ, ◌+◌, List, [], ◌∷◌, ◌++◌, length, Bool, true, false, cond, not, Option, Some, None, option_and_then, Result, Ok, Err, refl, ap, sym, subst, append_assoc, append-nil, inl, inr}
+use Rattle.std.proofs.Common.{◌≡◌, ◌∙◌, ℕ, ◌+◌, List, [], ◌∷◌, ◌++◌, true, cond, Option, Some, None, option_and_then, Result, Ok, Err, refl, ap, sym, subst, append_assoc, append-nil, inl, inr}
 use Rattle.std.specs.Prelude.{codes, IfErr, is_some, ◌⊎◌}
 use Rattle.sdt_fault.specs.declared.answer.Fault.{Fault}
 use Rattle.sdt_fault.specs.declared.answer.Fault.TheVariants as fault
@@ -9,7 +9,6 @@ use Rattle.sdt_fault.specs.declared.refusal.Refusal.{Refusal}
 use Rattle.sdt_fault.specs.declared.refusal.Refusal.TheVariants.{ScatterLine}
 use Rattle.place_model.specs.declared.scatter.Scatter.{Scatter}
 use Rattle.place_model.specs.declared.scatter.ScatterLoad.{ScatterLoad}
-use Rattle.base_lemmas.proofs.BaseLemmas.{same}
 use Rattle.scatter_text.specs.declared.reading.Stage.{Stage}
 use Rattle.scatter_text.specs.declared.reading.Stage.TheVariants.{Loads, LoadBase, LoadMax, LoadOpen, Regions, RegionBase, RegionMax, RegionOpen, Groups, Paren, Selector, Behind, Word, BehindEdge}
 use Rattle.scatter_text.specs.declared.reading.Reader.{Reader}
@@ -146,8 +145,8 @@ unfolding last
 at_end line s parts n k l h =
     let whole : ends beginning parts ≡ ends s [] = ap (ends beginning) (sym (append-nil parts)) ∙ l [] in
     let w = last_cut line s.stage s.loads parts n k
-        (λ more are. sym whole ∙ spelled more parts are)
-        (λ e. let c = completes parts beginning [] (whole ∙ e) in let none : c.0 ≡ [] = sym c.2 in subst (λ ls. AreOf IsLoad ls parts) none c.1) h in
+    (λ more are. sym whole ∙ spelled more parts are)
+    (λ e. let c = completes parts beginning [] (whole ∙ e) in let none : c.0 ≡ [] = sym c.2 in subst (λ ls. AreOf IsLoad ls parts) none c.1) h in
     record { line_is = w.0; begun = begun parts s l; cut_off = w.1 }
 
 -- ---- all parts

@@ -1,7 +1,7 @@
 -- What is read so far keeps to the rules on numbers, names and counts, and so does the whole description.
-use Rattle.std.proofs.Common.{◌≡◌, ◌∙◌, ℕ, List, [], ◌∷◌, ◌++◌, length, Bool, true, false, cond, not, ◌||◌, nat_lt, ◌%◌, ◌^◌, ◌<◌, ◌≤◌, ◌+◌, Option, Some, None, option_and_then, Result, Ok, Err, refl, ap, sym, subst, append_assoc, append-nil, arith, eqb-true, ltb-true, length-append, inl, inr}
-use Rattle.std.specs.Prelude.{codes, option_map, bytes_eq, map, ◌==◌, ◌⊎◌, if◌then◌else◌}
-use Rattle.std.specs.List.{AllByRecursion, flat_map, list_any}
+use Rattle.std.proofs.Common.{◌≡◌, ◌∙◌, ℕ, List, [], ◌∷◌, ◌++◌, length, Bool, true, false, cond, not, ◌||◌, nat_lt, ◌<◌, ◌≤◌, ◌+◌, Option, Some, None, option_and_then, Result, Ok, Err, refl, ap, sym, subst, append_assoc, append-nil, arith, ltb-true, length-append, inl, inr}
+use Rattle.std.specs.Prelude.{codes, bytes_eq, ◌==◌, ◌⊎◌, if◌then◌else◌}
+use Rattle.std.specs.List.{AllByRecursion, list_any}
 use Rattle.std.proofs.lemmas.Grind.{common_steps}
 use Rattle.std.proofs.lemmas.Slice.Eq.{bytes_eq-Decides}
 use Rattle.sdt_fault.specs.declared.kinds.ScatterKind.{ScatterKind}
@@ -10,14 +10,14 @@ use Rattle.place_model.specs.declared.scatter.Edge.TheVariants.{Plain}
 use Rattle.place_model.specs.declared.scatter.ScatterBase.{ScatterBase}
 use Rattle.place_model.specs.declared.scatter.ScatterLoad.{ScatterLoad}
 use Rattle.place_model.specs.declared.scatter.ScatterRegion.{ScatterRegion}
-use Rattle.base_lemmas.proofs.BaseLemmas.{same, neither, all_append}
+use Rattle.base_lemmas.proofs.BaseLemmas.{neither, all_append}
 use Rattle.scatter_text.specs.declared.reading.Stage.{Stage}
 use Rattle.scatter_text.specs.declared.reading.Stage.TheVariants.{Loads, LoadBase, LoadMax, LoadOpen, Regions, RegionBase, RegionMax, RegionOpen, Groups, Paren, Selector, Behind, Word, BehindEdge}
 use Rattle.scatter_text.specs.declared.reading.Reader.{Reader}
 use Rattle.scatter_text.specs.Parts.{Part}
 use Rattle.scatter_text.specs.Words.{told, is_region_name, module_of, number_of, base_of, choice_of, edge_of}
 use Rattle.scatter_text.specs.Validity.{IsWhole, IsWholeMax, IsWholeBase, AreWhole, IsValidLoad, AreDistinct, load_names, names_of, region_names, IsValid}
-use Rattle.scatter_text.specs.Reading.{beginning, load_named, region_named, at, expect, name_load, base_load, limit_load, close_load, begin_region, name_region, base_region, limit_region, close_region, name_module, select, keep, put_edge, shift_at, shift, flaw_at, flaw, load_flaw, region_flaw, regions_flaw, end_flaw, is_between_loads, judged, step, Reading, behind, read, last}
+use Rattle.scatter_text.specs.Reading.{beginning, load_named, at, expect, limit_load, close_load, begin_region, name_region, limit_region, close_region, name_module, select, keep, put_edge, shift_at, shift, flaw_at, flaw, load_flaw, region_flaw, regions_flaw, end_flaw, is_between_loads, judged, step, Reading, behind, read, last}
 use Rattle.scatter_text.proofs.Ends.{ends}
 use Rattle.scatter_text.proofs.CompleteLemmas.{expect_is, when_is, mapped_is, either_is}
 use Rattle.scatter_text.proofs.SpelledLemmas.{apart}

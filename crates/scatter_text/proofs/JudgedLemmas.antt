@@ -1,5 +1,5 @@
 -- A number's flaw is that of what it makes.
-use Rattle.std.proofs.Common.{◌≡◌, Option, Some, None, Result, Ok, Err, refl, ap}
+use Rattle.std.proofs.Common.{◌≡◌, Option, Some, None, Ok, Err, ap}
 use Rattle.std.specs.Prelude.{option_map}
 use Rattle.sdt_fault.specs.declared.kinds.ScatterKind.{ScatterKind}
 use Rattle.scatter_text.specs.declared.stops.Stop.{Stop}

@@ -1,13 +1,11 @@
 -- The laws of reading.
-use Rattle.std.proofs.Common.{◌≡◌, ℕ, List, Option, Some, None, Result, Ok, Err, ◌+◌, ◌∙◌, refl, ap, sym, subst}
+use Rattle.std.proofs.Common.{◌≡◌, ℕ, List, Result, Ok, Err, ◌+◌, ◌∙◌, ap, sym, subst}
 use Rattle.std.specs.Prelude.{IfOk}
 use Rattle.sdt_fault.specs.declared.answer.Fault.{Fault}
 use Rattle.place_model.specs.declared.scatter.Scatter.{Scatter}
-use Rattle.place_model.specs.declared.scatter.ScatterLoad.{ScatterLoad}
 use Rattle.base_lemmas.proofs.BaseLemmas.{same}
 use Rattle.scatter_text.specs.Parts.{parts_of, line_count}
 use Rattle.scatter_text.specs.Grammar.{Spells}
-use Rattle.scatter_text.specs.Validity.{IsValid}
 use Rattle.scatter_text.specs.Reading.{Gives, Reading, beginning, read, refusal, scatter_of}
 use Rattle.scatter_text.specs.Laws.{Describes, ReadingLaw, OneSpelled}
 use Rattle.scatter_text.proofs.CompleteLemmas.{completes}

@@ -1,11 +1,9 @@
 -- Parts in their order.
-use Rattle.std.proofs.Common.{◌≡◌, ◌∙◌, ℕ, List, ◌∷◌, take, drop, false, Result, Ok, Err, ap, sym, subst}
-use Rattle.sdt_fault.specs.declared.answer.Fault.{Fault}
-use Rattle.sdt_fault.specs.declared.kinds.ScatterKind.{ScatterKind}
+use Rattle.std.proofs.Common.{◌≡◌, ◌∙◌, ℕ, List, ◌∷◌, take, drop, false, Ok, Err, ap, sym, subst}
 use Rattle.scatter_text.specs.declared.reading.Reader.{Reader}
 use Rattle.scatter_text.specs.declared.stops.Stop.{Stop}
 use Rattle.scatter_text.specs.declared.stops.Stop.TheVariants as stop
-use Rattle.scatter_text.specs.Parts.{Part, parts, opened, part_len, is_gap}
+use Rattle.scatter_text.specs.Parts.{parts, opened, part_len}
 use Rattle.scatter_text.specs.Reading.{Reading, behind, step, read, refusal, stopped, Leaves, Gives}
 use Rattle.scatter_text.specs.Steps.{IsBegun}
 use Rattle.scatter_text.proofs.CutLemmas.{cut_from, cut_is}

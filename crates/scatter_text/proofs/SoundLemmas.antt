@@ -1,6 +1,6 @@
 -- A valid description that is spelled has no flaw at any part, so it is read.
-use Rattle.std.proofs.Common.{◌≡◌, ◌∙◌, ℕ, List, [], ◌∷◌, ◌++◌, length, Bool, true, false, cond, not, ◌||◌, nat_lt, ◌%◌, ◌^◌, ◌<◌, ◌≤◌, ◌+◌, Option, Some, None, option_and_then, Result, Ok, Err, refl, ap, sym, subst, append_assoc, append-nil, drop, arith, lt-ltb, eq-eqb, length-append, inl, inr}
-use Rattle.std.specs.Prelude.{codes, option_map, bytes_eq, map, ◌==◌, ◌⊎◌}
+use Rattle.std.proofs.Common.{◌≡◌, ◌∙◌, ℕ, List, [], ◌∷◌, ◌++◌, length, Bool, true, false, cond, ◌||◌, nat_lt, ◌%◌, ◌^◌, ◌<◌, ◌≤◌, ◌+◌, Option, Some, None, Ok, refl, ap, sym, subst, append_assoc, drop, arith, lt-ltb, eq-eqb, length-append, inl, inr}
+use Rattle.std.specs.Prelude.{codes, option_map, bytes_eq, ◌==◌, ◌⊎◌}
 use Rattle.std.specs.List.{AllByRecursion, flat_map, list_any}
 use Rattle.std.specs.Cmp.Lexicographic.{same_text}
 use Rattle.sdt_fault.specs.declared.kinds.ScatterKind.{ScatterKind}
@@ -9,7 +9,6 @@ use Rattle.place_model.specs.declared.scatter.ScatterBase.{ScatterBase}
 use Rattle.place_model.specs.declared.scatter.ScatterBase.TheVariants.{At, Plus}
 use Rattle.place_model.specs.declared.scatter.ScatterLoad.{ScatterLoad}
 use Rattle.place_model.specs.declared.scatter.ScatterRegion.{ScatterRegion}
-use Rattle.place_model.specs.declared.scatter.Selection.{Selection}
 use Rattle.base_lemmas.proofs.BaseLemmas.{same, came_through, all_back, all_weaker}
 use Rattle.scatter_text.specs.declared.reading.Stage.{Stage}
 use Rattle.scatter_text.specs.declared.reading.Stage.TheVariants.{Loads, LoadBase, LoadMax, LoadOpen, Regions, RegionBase, RegionMax, RegionOpen, Groups, Paren, Selector, Behind, Word, BehindEdge}
@@ -17,9 +16,9 @@ use Rattle.scatter_text.specs.declared.reading.Reader.{Reader}
 use Rattle.scatter_text.specs.Parts.{Part, first_is}
 use Rattle.scatter_text.specs.Words.{is_region_name, number_of, base_number, base_of}
 use Rattle.scatter_text.specs.Validity.{OfMax, OfBase, OfNumbers, AreNames, Breaks, IsWhole, IsWholeMax, IsWholeBase, AreWhole, IsValidLoad, AreDistinct, load_names, names_of, region_names, IsValid}
-use Rattle.scatter_text.specs.Reading.{load_named, at, expect, name_load, base_load, limit_load, close_load, begin_region, name_region, base_region, limit_region, shift_at, shift, number_flaw, flaw_in, flaw_at, flaw, load_flaw, region_flaw, regions_flaw, end_flaw, judged, step, behind, read, last, is_between_loads, Reading}
+use Rattle.scatter_text.specs.Reading.{load_named, at, expect, limit_load, close_load, begin_region, name_region, limit_region, shift_at, shift, number_flaw, flaw_in, flaw_at, flaw, region_flaw, regions_flaw, end_flaw, judged, step, behind, read, last, is_between_loads}
 use Rattle.scatter_text.proofs.Ends.{ends}
-use Rattle.scatter_text.proofs.CompleteLemmas.{expect_is, when_is, mapped_is, either_is, InText, InLoad, InRegion, AtMax, LoadOpens, RegionOpens, or_max, Completes, completes}
+use Rattle.scatter_text.proofs.CompleteLemmas.{expect_is, when_is, mapped_is, either_is, InLoad, InRegion, Completes, completes}
 use Rattle.scatter_text.proofs.SpelledLemmas.{apart}
 use Rattle.scatter_text.proofs.ValidLemmas.{any_name, map_append, flat_append, nonempty}
 use Rattle.scatter_text.proofs.FineLemmas.{Load, FineIn, FineAt, open_at, step_fine, last_in}
@@ -116,9 +115,9 @@ region_breaks s r rs l ls k fine e f h =
     let here : names_of l.regions ≡ names_of s.load.regions ++ r.name ∷ names_of rs = ap names_of e ∙ map_append (λ r. r.name) s.load.regions (r ∷ rs) in
     let rest : List (List ℕ) = names_of rs ++ region_names f.more in
     let names : region_names ls ≡ s.names ++ r.name ∷ rest =
-        ap region_names f.all ∙ flat_append (λ l. names_of l.regions) s.loads (l ∷ f.more) ∙ ap (λ xs. region_names s.loads ++ (xs ++ region_names f.more)) here
-        ∙ ap (λ xs. region_names s.loads ++ xs) (append_assoc (names_of s.load.regions) (r.name ∷ names_of rs) (region_names f.more))
-        ∙ sym (append_assoc (region_names s.loads) (names_of s.load.regions) (r.name ∷ rest)) ∙ ap (λ xs. xs ++ r.name ∷ rest) (sym fine.names_are) in
+    ap region_names f.all ∙ flat_append (λ l. names_of l.regions) s.loads (l ∷ f.more) ∙ ap (λ xs. region_names s.loads ++ (xs ++ region_names f.more)) here
+    ∙ ap (λ xs. region_names s.loads ++ xs) (append_assoc (names_of s.load.regions) (r.name ∷ names_of rs) (region_names f.more))
+    ∙ sym (append_assoc (region_names s.loads) (names_of s.load.regions) (r.name ∷ rest)) ∙ ap (λ xs. xs ++ r.name ∷ rest) (sym fine.names_are) in
     region_told s r.name rest ls k names h
 
 -- ---- each stage

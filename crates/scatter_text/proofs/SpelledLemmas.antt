@@ -1,24 +1,22 @@
 -- What is spelled is read: the parts of a thing lead from the state before it to the one behind it.
-use Rattle.std.proofs.Common.{◌≡◌, ◌∙◌, ℕ, List, [], ◌∷◌, ◌++◌, Bool, true, false, cond, ◌&&◌, not, nat_lt, ◌+◌, ◌-◌, ◌<◌, ◌≤◌, Option, Some, None, option_and_then, refl, ap, sym, subst, append_assoc, append-nil, arith, eqb-true, ltb-true}
-use Rattle.std.specs.Prelude.{codes, option_map, bytes_eq, is_some, map, ◌==◌}
+use Rattle.std.proofs.Common.{◌≡◌, ◌∙◌, ℕ, List, [], ◌∷◌, ◌++◌, Bool, true, false, cond, nat_lt, ◌+◌, ◌<◌, Option, Some, None, option_and_then, refl, ap, sym, subst, append_assoc, append-nil, arith}
+use Rattle.std.specs.Prelude.{codes, bytes_eq, is_some, map, ◌==◌}
 use Rattle.std.specs.List.{flat_map}
 use Rattle.std.specs.Char.{to_ascii_lowercase}
 use Rattle.std.specs.Cmp.Lexicographic.{same_text}
 use Rattle.place_model.specs.declared.scatter.Choice.{Choice}
-use Rattle.place_model.specs.declared.scatter.Choice.TheVariants.{Named, Ro, Rw, Zi}
 use Rattle.place_model.specs.declared.scatter.Edge.{Edge}
 use Rattle.place_model.specs.declared.scatter.Edge.TheVariants.{First, Plain, Last}
 use Rattle.place_model.specs.declared.scatter.ScatterBase.{ScatterBase}
 use Rattle.place_model.specs.declared.scatter.ScatterLoad.{ScatterLoad}
 use Rattle.place_model.specs.declared.scatter.ScatterRegion.{ScatterRegion}
 use Rattle.place_model.specs.declared.scatter.Selection.{Selection}
-use Rattle.scatter_text.specs.declared.reading.Stage.{Stage}
 use Rattle.scatter_text.specs.declared.reading.Stage.TheVariants.{Loads, LoadBase, LoadMax, LoadOpen, Regions, RegionBase, RegionMax, RegionOpen, Groups, Paren, Selector, Behind, Word, BehindEdge}
 use Rattle.scatter_text.specs.declared.reading.Reader.{Reader}
 use Rattle.scatter_text.specs.Parts.{Part, first_is}
-use Rattle.scatter_text.specs.Words.{told, is_region_name, module_of, number_of, base_of, choice_of, edge_of, area_of, is_name, is_word}
-use Rattle.scatter_text.specs.Grammar.{AreOf, IsEdge, IsSelection, AreSelections, IsGroup, IsMax, IsBraced, IsRegion, IsLoad}
-use Rattle.scatter_text.specs.Reading.{beginning, load_named, region_named, no_selection, at, or_else, shift, name_load, begin_region, expect}
+use Rattle.scatter_text.specs.Words.{told, is_region_name, module_of, number_of, base_of, choice_of, edge_of, area_of, is_word}
+use Rattle.scatter_text.specs.Grammar.{AreOf, IsEdge, IsSelection, AreSelections, IsGroup, IsMax, IsRegion, IsLoad}
+use Rattle.scatter_text.specs.Reading.{beginning, load_named, region_named, no_selection, at, shift}
 use Rattle.scatter_text.proofs.Ends.{ends}
 use Rattle.scatter_text.proofs.CompleteLemmas.{with_region, with_selection}
 
@@ -187,7 +185,7 @@ group_goes : (g : List Selection) (loads : List ScatterLoad) (l : ScatterLoad) (
 group_goes [] loads l r names was ps i = absurd (let some : 0 < 0 = i.some in omega arith)
 group_goes (s ∷ ss) loads l r names was ps i =
     by_parts i.all (then (module_goes loads l r names was i.home i.name i.named)
-        (selections_go ss s (at Paren (in_region loads l r names i.home)) (codes "(") loads l r names i.home i.inner i.close (paren_ready loads l r names i.home) i.selected i.closed))
+    (selections_go ss s (at Paren (in_region loads l r names i.home)) (codes "(") loads l r names i.home i.inner i.close (paren_ready loads l r names i.home) i.selected i.closed))
 
 -- a way to such a state, for some module
 abbrev pub GoesIn : Reader → List Part → (Option (List ℕ) → Reader) → Type 0
@@ -199,8 +197,7 @@ groups_go [] loads l r names was ps none =
     (was, by_parts none (subst (λ ss. Goes (in_region loads l r names was) [] (in_region loads l (record r { selections = ss }) names was)) (sym (append-nil r.selections)) (stay (in_region loads l r names was))))
 groups_go (g ∷ gs) loads l r names was ps (front, rest, all, i, more) =
     let here = group_goes g loads l r names was front i in
-    let there = groups_go gs loads l (record r { selections = r.selections ++ g }) names i.home rest more in
-    (
+    let there = groups_go gs loads l (record r { selections = r.selections ++ g }) names i.home rest more in (
       there.0,
       by_parts all (subst (λ ss. Goes (in_region loads l r names was) (front ++ rest) (in_region loads l (record r { selections = ss }) names there.0)) (append_assoc r.selections g (flat_map (λ g. g) gs)) (then here there.1)),
     )
@@ -241,13 +238,12 @@ region_goes loads l r names was ps i =
     let more : List (List ℕ) = names ++ r.name ∷ [] in
     let groups = groups_go i.groups loads l (record { name = r.name; base = r.base; max = r.max; selections = [] }) more was b.body b.filled in
     let filled : Goes (in_region loads l (record { name = r.name; base = r.base; max = r.max; selections = [] }) more was) b.body (in_region loads l r more groups.0) =
-        subst (λ ss. Goes (in_region loads l (record { name = r.name; base = r.base; max = r.max; selections = [] }) more was) b.body (in_region loads l (record r { selections = ss }) more groups.0)) (sym i.selections) groups.1 in
-    (
+    subst (λ ss. Goes (in_region loads l (record { name = r.name; base = r.base; max = r.max; selections = [] }) more was) b.body (in_region loads l (record r { selections = ss }) more groups.0)) (sym i.selections) groups.1 in (
       groups.0,
       by_parts (b.all ∙ braced_parts b.first b.base b.open_ b.close b.limit b.body)
-      (then (region_begins loads l r.name r.base names was b.first b.base b.named b.name_is b.based)
-      (then (region_opens r.max loads l r.name r.base more was b.limit b.open_ b.limited b.opened)
-      (then filled (region_closes loads l r more groups.0 b.close b.closed)))),
+          (then (region_begins loads l r.name r.base names was b.first b.base b.named b.name_is b.based)
+          (then (region_opens r.max loads l r.name r.base more was b.limit b.open_ b.limited b.opened)
+          (then filled (region_closes loads l r more groups.0 b.close b.closed)))),
     )
 
 -- the names behind things of this kind
@@ -260,8 +256,7 @@ regions_go [] loads l names was ps none =
     (names, was, by_parts none (subst (λ rs. Goes (in_load loads l names was) [] (in_load loads (record l { regions = rs }) names was)) (sym (append-nil l.regions)) (stay (in_load loads l names was))))
 regions_go (r ∷ rs) loads l names was ps (front, rest, all, i, more) =
     let here = region_goes loads l r names was front i in
-    let there = regions_go rs loads (with_region l r) (names ++ r.name ∷ []) here.0 rest more in
-    (
+    let there = regions_go rs loads (with_region l r) (names ++ r.name ∷ []) here.0 rest more in (
       there.0,
       there.1,
       by_parts all (subst (λ xs. Goes (in_load loads l names was) (front ++ rest) (in_load loads (record l { regions = xs }) there.0 there.1)) (append_assoc l.regions (r ∷ []) rs) (then here.1 there.2)),
@@ -293,14 +288,13 @@ load_closes loads l names home p h = one (in_load loads l names home) p (between
 
 load_goes : (loads : List ScatterLoad) (l : ScatterLoad) (names : List (List ℕ)) (was : Option (List ℕ)) (ps : List Part) → IsLoad l ps → GoesOn (between loads names was) ps (between (loads ++ l ∷ []))
 load_goes loads l names was ps b =
-    let regions = regions_go l.regions loads (record { name = l.name; base = l.base; max = l.max; regions = [] }) names was b.body b.filled in
-    (
+    let regions = regions_go l.regions loads (record { name = l.name; base = l.base; max = l.max; regions = [] }) names was b.body b.filled in (
       regions.0,
       regions.1,
       by_parts (b.all ∙ braced_parts b.first b.base b.open_ b.close b.limit b.body)
-      (then (load_begins loads l.name l.base names was b.first b.base b.named b.name_is b.based)
-      (then (load_opens l.max loads l.name l.base names was b.limit b.open_ b.limited b.opened)
-      (then regions.2 (load_closes loads l regions.0 regions.1 b.close b.closed)))),
+          (then (load_begins loads l.name l.base names was b.first b.base b.named b.name_is b.based)
+          (then (load_opens l.max loads l.name l.base names was b.limit b.open_ b.limited b.opened)
+          (then regions.2 (load_closes loads l regions.0 regions.1 b.close b.closed)))),
     )
 
 loads_go : (ls loads : List ScatterLoad) (names : List (List ℕ)) (was : Option (List ℕ)) (ps : List Part) → AreOf IsLoad ls ps → GoesOn (between loads names was) ps (between (loads ++ ls))
@@ -308,8 +302,7 @@ loads_go [] loads names was ps none =
     (names, was, by_parts none (subst (λ xs. Goes (between loads names was) [] (between xs names was)) (sym (append-nil loads)) (stay (between loads names was))))
 loads_go (l ∷ ls) loads names was ps (front, rest, all, i, more) =
     let here = load_goes loads l names was front i in
-    let there = loads_go ls (loads ++ l ∷ []) here.0 here.1 rest more in
-    (
+    let there = loads_go ls (loads ++ l ∷ []) here.0 here.1 rest more in (
       there.0,
       there.1,
       by_parts all (subst (λ xs. Goes (between loads names was) (front ++ rest) (between xs there.0 there.1)) (append_assoc loads (l ∷ []) ls) (then here.2 there.2)),

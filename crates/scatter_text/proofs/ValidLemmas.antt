@@ -1,17 +1,14 @@
 -- What is read is valid.
-use Rattle.std.proofs.Common.{◌≡◌, ◌∙◌, ℕ, List, [], ◌∷◌, ◌++◌, length, Bool, true, false, cond, ◌||◌, nat_lt, ◌%◌, ◌^◌, ◌<◌, ◌≤◌, ◌+◌, Option, Some, None, option_and_then, Result, Ok, Err, refl, ap, sym, subst, append_assoc, append-nil, drop, arith, eqb-true, ltb-true, ltb-false, length-append}
-use Rattle.std.specs.Prelude.{codes, option_map, bytes_eq, map, ◌==◌, ◌⊎◌}
+use Rattle.std.proofs.Common.{◌≡◌, ◌∙◌, ℕ, List, [], ◌∷◌, ◌++◌, length, Bool, true, false, cond, ◌||◌, nat_lt, ◌%◌, ◌^◌, Option, Some, None, refl, ap, sym, subst, append_assoc, drop, arith, eqb-true, ltb-true}
+use Rattle.std.specs.Prelude.{option_map, bytes_eq, map, ◌==◌}
 use Rattle.std.specs.List.{AllByRecursion, flat_map, list_any}
-use Rattle.std.specs.Cmp.Lexicographic.{same_text}
 use Rattle.std.proofs.lemmas.Bool.{ne_eqb}
 use Rattle.std.proofs.lemmas.Slice.Eq.{bytes_eq-Decides}
-use Rattle.sdt_fault.specs.declared.kinds.ScatterKind.{ScatterKind}
 use Rattle.sdt_fault.specs.declared.kinds.ScatterKind.TheVariants as kind
 use Rattle.place_model.specs.declared.scatter.ScatterBase.{ScatterBase}
 use Rattle.place_model.specs.declared.scatter.ScatterBase.TheVariants.{At, Plus}
 use Rattle.place_model.specs.declared.scatter.ScatterLoad.{ScatterLoad}
-use Rattle.place_model.specs.declared.scatter.ScatterRegion.{ScatterRegion}
-use Rattle.base_lemmas.proofs.BaseLemmas.{same, neither, all_append, all_front, all_back}
+use Rattle.base_lemmas.proofs.BaseLemmas.{same, neither, all_append}
 use Rattle.scatter_text.specs.Words.{number_of, base_number, base_of}
 use Rattle.scatter_text.specs.Parts.{first_is}
 use Rattle.scatter_text.specs.Reading.{number_flaw, flaw_in}

@@ -1,12 +1,9 @@
 -- The grammar of scatter descriptions, over the parts of a text: which parts spell which load regions (SDT 2.50
 -- Reference Guide, scatter loading). Which numbers, names and counts a description may have stands apart.
-use Rattle.std.specs.Prelude.{◌≡◌, ℕ, ◌<◌, ◌≤◌, ◌%◌, ◌^◌, true, List, [], ◌∷◌, ◌++◌, length, map, codes, Option, Some, None}
-use Rattle.std.specs.List.{AllByRecursion, flat_map}
+use Rattle.std.specs.Prelude.{◌≡◌, ℕ, ◌<◌, true, List, [], ◌∷◌, ◌++◌, length, codes, Option, Some, None}
+use Rattle.std.specs.List.{flat_map}
 use Rattle.place_model.specs.declared.scatter.Edge.{Edge}
 use Rattle.place_model.specs.declared.scatter.Edge.TheVariants.{First, Plain, Last}
-use Rattle.place_model.specs.declared.scatter.ScatterBase.{ScatterBase}
-use Rattle.place_model.specs.declared.scatter.ScatterBase.TheVariants.{At, Plus}
-use Rattle.place_model.specs.declared.scatter.Scatter.{Scatter}
 use Rattle.place_model.specs.declared.scatter.ScatterLoad.{ScatterLoad}
 use Rattle.place_model.specs.declared.scatter.ScatterRegion.{ScatterRegion}
 use Rattle.place_model.specs.declared.scatter.Selection.{Selection}

@@ -1,20 +1,17 @@
 -- How a description is read, part by part: what each part adds, or the fault of the first part that can't follow.
 -- The laws say that this is what `Grammar` says. This project's.
-use Rattle.std.specs.Prelude.{◌≡◌, ◌↔◌, ℕ, ◌+◌, ◌%◌, ◌^◌, ◌==◌, ◌&&◌, ◌||◌, not, nat_lt, nat_le, Bool, true, false, if◌then◌else◌, List, [], ◌∷◌, ◌++◌, length, codes, bytes_eq, Option, Some, None, option_map, option_and_then, Result, Ok, Err}
+use Rattle.std.specs.Prelude.{◌≡◌, ℕ, ◌+◌, ◌%◌, ◌^◌, ◌==◌, ◌||◌, not, nat_lt, Bool, true, false, if◌then◌else◌, List, [], ◌∷◌, ◌++◌, length, codes, bytes_eq, Option, Some, None, option_map, option_and_then, Result, Ok, Err}
 use Rattle.std.specs.List.{list_any}
-use Rattle.std.specs.Option.{option_map_or}
 use Rattle.sdt_fault.specs.declared.answer.Fault.{Fault}
 use Rattle.sdt_fault.specs.declared.answer.Fault.TheVariants as fault
 use Rattle.sdt_fault.specs.declared.kinds.ScatterKind.{ScatterKind}
 use Rattle.sdt_fault.specs.declared.kinds.ScatterKind.TheVariants as kind
 use Rattle.sdt_fault.specs.declared.refusal.Refusal.{Refusal}
 use Rattle.sdt_fault.specs.declared.refusal.Refusal.TheVariants.{ScatterLine}
-use Rattle.place_model.specs.declared.scatter.Choice.{Choice}
 use Rattle.place_model.specs.declared.scatter.Choice.TheVariants as choice
 use Rattle.place_model.specs.declared.scatter.Edge.{Edge}
 use Rattle.place_model.specs.declared.scatter.Edge.TheVariants as edge
-use Rattle.place_model.specs.declared.scatter.ScatterBase.{ScatterBase}
-use Rattle.place_model.specs.declared.scatter.ScatterBase.TheVariants.{At, Plus}
+use Rattle.place_model.specs.declared.scatter.ScatterBase.TheVariants.{At}
 use Rattle.place_model.specs.declared.scatter.Scatter.{Scatter}
 use Rattle.place_model.specs.declared.scatter.ScatterLoad.{ScatterLoad}
 use Rattle.place_model.specs.declared.scatter.ScatterRegion.{ScatterRegion}

@@ -1,6 +1,6 @@
 -- What the parts of a scatter description mean: names, numbers and the words behind `+` (SDT 2.50 Reference Guide,
 -- scatter loading; this project's for the letters of names).
-use Rattle.std.specs.Prelude.{ℕ, ◌+◌, ◌==◌, ◌&&◌, ◌||◌, not, nat_lt, nat_eq, Bool, true, false, if◌then◌else◌, List, [], ◌∷◌, length, drop, map, min, codes, bytes_eq, Option, Some, None, option_map}
+use Rattle.std.specs.Prelude.{ℕ, ◌==◌, ◌&&◌, ◌||◌, not, nat_lt, nat_eq, Bool, if◌then◌else◌, List, length, drop, map, min, codes, bytes_eq, Option, Some, None, option_map}
 use Rattle.std.specs.List.{list_all, starts_with}
 use Rattle.std.specs.Char.{is_ascii_alphanumeric, is_ascii_digit, is_ascii_hexdigit, to_ascii_lowercase}
 use Rattle.std.specs.Str.Parse.{digits_value}

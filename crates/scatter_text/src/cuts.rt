@@ -137,5 +137,8 @@ pub fn line_count(text: &[u8]) -> usize
     if text.is_empty() {
         return 0;
     }
-    1 + text[..text.len() - 1].iter().filter(|byte| **byte == b'\n').count()
+    1 + text[..text.len() - 1]
+        .iter()
+        .filter(|byte| **byte == b'\n')
+        .count()
 }

@@ -12,9 +12,7 @@ ghost use Rattle.scatter_text.specs.Reading.{judged, flaw_in, step, Leaves, Give
 use crate::cuts::{behind_gap, line_count, opened, part_len};
 use crate::stops::Stop;
 use crate::words::{base_in, choice_in, edge_in, is_region_name, module_in, number_in, told};
-use place_model::{
-    Choice, Edge, Scatter, ScatterBase, ScatterLoad, ScatterRegion, Selection,
-};
+use place_model::{Choice, Edge, Scatter, ScatterBase, ScatterLoad, ScatterRegion, Selection};
 use sdt_fault::answer::Fault;
 use sdt_fault::kinds::ScatterKind;
 use sdt_fault::refusal::Refusal;

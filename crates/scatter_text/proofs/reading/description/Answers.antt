@@ -1,4 +1,4 @@
-use Rattle.std.proofs.Common.{◌≡◌, ◌+◌, ◌-◌, length, take, drop, ap, sym, arith}
+use Rattle.std.proofs.Common.{◌≡◌, ◌+◌, ◌-◌, length, take, drop, ap, arith}
 use Rattle.std.proofs.lemmas.Grind.{common_steps}
 use Rattle.scatter_text.specs.Parts.{line_count, parts_of}
 use Rattle.scatter_text.specs.Reading.{read, beginning}
@@ -18,9 +18,9 @@ returns-in-Err c =
     } in
     rw c.stopped.ensures
     (at_stop (line_count c.args.text.now + 1) c.parts.depth c.behind_gap-at.result.0 c.parts.line c.parts.rest.now
-        (take c.part_len-len.result c.behind_gap-at.result.1.now) (drop c.part_len-len.result c.behind_gap-at.result.1.now) c.in-Some.first.now
-        c.parts.reader c.step.new.self (read (line_count c.args.text.now + 1) beginning (parts_of c.args.text.now)) c.in-Err.stop
-        stands c.in-Err.ensures c.parts.invariant.same)
+    (take c.part_len-len.result c.behind_gap-at.result.1.now) (drop c.part_len-len.result c.behind_gap-at.result.1.now) c.in-Some.first.now
+    c.parts.reader c.step.new.self (read (line_count c.args.text.now + 1) beginning (parts_of c.args.text.now)) c.in-Err.stop
+    stands c.in-Err.ensures c.parts.invariant.same)
 
 pub parts-smaller : goal.parts-smaller
 parts-smaller c =
@@ -43,8 +43,8 @@ parts-preserved c =
     record {
       same = rw (after, c.opened-depth.ensures)
           (at_next (line_count c.args.text.now + 1) c.parts.depth c.behind_gap-at.result.0 c.parts.line c.parts.rest.now
-              (take c.part_len-len.result begun) (drop c.part_len-len.result begun) c.in-Some.first.now
-              c.parts.reader c.step.new.self (read (line_count c.args.text.now + 1) beginning (parts_of c.args.text.now))
-              stands c.in_default-step.ensures c.parts.invariant.same);
+          (take c.part_len-len.result begun) (drop c.part_len-len.result begun) c.in-Some.first.now
+          c.parts.reader c.step.new.self (read (line_count c.args.text.now + 1) beginning (parts_of c.args.text.now))
+          stands c.in_default-step.ensures c.parts.invariant.same);
       lines = rw after (grind (arith, common_steps, c.behind_gap-at.ensures.lines, c.parts.invariant.lines));
     }

@@ -1,7 +1,6 @@
-use Rattle.std.proofs.Common.{Some}
 use Rattle.scatter_text.specs.declared.reading.Reader.{Reader}
 use Rattle.scatter_text.specs.declared.reading.Stage.TheVariants as stage
-use Rattle.scatter_text.specs.Words.{number_of, base_number, base_of}
+use Rattle.scatter_text.specs.Words.{number_of}
 use Rattle.scatter_text.specs.Reading.{flaw_in}
 use Rattle.scatter_text.proofs.JudgedLemmas.{mapped_ok, mapped_leaves}
 use Rattle.scatter_text.proofs.reading.Reader.base_load.Goals as goal
