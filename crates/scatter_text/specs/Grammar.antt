@@ -18,11 +18,15 @@ AreOf IsOf (x ∷ xs) parts =
 
 -- ---- selections
 
+abbrev pub IsEdgeWord : Edge → List Part → Type 0
+IsEdgeWord edge parts =
+    (comma : Part) × (word : Part) × (parts ≡ comma ∷ word ∷ []) × (comma.text ≡ codes ",") × (edge_of word.text ≡ Some edge)
+
 -- what follows a selector: nothing, or a comma and a word for its edge
 abbrev pub IsEdge : Edge → List Part → Type 0
 IsEdge Plain parts = parts ≡ []
-IsEdge First parts = (comma : Part) × (word : Part) × (parts ≡ comma ∷ word ∷ []) × (comma.text ≡ codes ",") × (edge_of word.text ≡ Some First)
-IsEdge Last parts = (comma : Part) × (word : Part) × (parts ≡ comma ∷ word ∷ []) × (comma.text ≡ codes ",") × (edge_of word.text ≡ Some Last)
+IsEdge First parts = IsEdgeWord First parts
+IsEdge Last parts = IsEdgeWord Last parts
 
 -- a sign, a selector and its edge
 pub record IsSelection (sign : List ℕ) (home : Option (List ℕ)) (s : Selection) (parts : List Part) : Type 0 where

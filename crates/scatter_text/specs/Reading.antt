@@ -194,6 +194,42 @@ judged f None = Err kind.Syntax
 judged None (Some x) = Ok x
 judged (Some k) (Some x) = Err k
 
+abbrev pub numbered : Option ℕ → Option Reader → Result Reader ScatterKind
+numbered number after = judged (flaw_in number) after
+
+abbrev pub expected : List ℕ → Stage → Reader → List ℕ → Result Reader ScatterKind
+expected sign stage s t = judged None (expect sign (at stage s) t)
+
+abbrev pub load_name : Reader → List ℕ → Result Reader ScatterKind
+load_name s t = judged (load_flaw s t) (name_load s t)
+
+abbrev pub load_base : Reader → List ℕ → Result Reader ScatterKind
+load_base s t = numbered (number_of t) (base_load s t)
+
+abbrev pub load_limit : Reader → List ℕ → Result Reader ScatterKind
+load_limit s t = numbered (number_of t) (limit_load s t)
+
+abbrev pub load_max : Reader → List ℕ → Result Reader ScatterKind
+load_max s t = numbered (number_of t) (shift_load_max s t)
+
+abbrev pub load_end : Reader → Result Reader ScatterKind
+load_end s = judged (end_flaw s) (Some (close_load s))
+
+abbrev pub region_name : Reader → List ℕ → Result Reader ScatterKind
+region_name s t = judged (region_flaw s t) (name_region s t)
+
+abbrev pub regions : Reader → List ℕ → Result Reader ScatterKind
+regions s t = judged (regions_flaw s t) (shift_regions s t)
+
+abbrev pub region_base : Reader → List ℕ → Result Reader ScatterKind
+region_base s t = numbered (base_number t) (base_region s t)
+
+abbrev pub region_limit : Reader → List ℕ → Result Reader ScatterKind
+region_limit s t = numbered (number_of t) (limit_region s t)
+
+abbrev pub region_max : Reader → List ℕ → Result Reader ScatterKind
+region_max s t = numbered (number_of t) (shift_region_max s t)
+
 abbrev pub step : Reader → Part → Result Reader ScatterKind
 step s p = judged (flaw s p) (shift s p)
 

@@ -41,12 +41,18 @@ abbrev pub written : ℕ → (ℕ → Bool) → List ℕ → Option ℕ
 written base is_digit digits =
     if nat_lt 0 (length digits) && list_all is_digit digits then Some (digits_value base digits) else None
 
+abbrev pub hexadecimal : List ℕ → Option ℕ
+hexadecimal digits = written 16 is_ascii_hexdigit digits
+
+abbrev pub decimal : List ℕ → Option ℕ
+decimal digits = written 10 is_ascii_digit digits
+
 -- decimal, or hexadecimal behind `0x` or `&`
 abbrev pub number_of : List ℕ → Option ℕ
 number_of text =
-    if starts_with nat_eq text (codes "0x") then written 16 is_ascii_hexdigit (drop 2 text)
-    else if first_is 38 text then written 16 is_ascii_hexdigit (drop 1 text)
-    else written 10 is_ascii_digit text
+    if starts_with nat_eq text (codes "0x") then hexadecimal (drop 2 text)
+    else if first_is 38 text then hexadecimal (drop 1 text)
+    else decimal text
 
 -- the number of a base, which may stand behind `+`
 abbrev pub base_number : List ℕ → Option ℕ

@@ -3,7 +3,7 @@
 ghost use Rattle.std.specs.Prelude.{if◌then◌else◌, ◌≡◌, ◌+◌, ◌<◌, ◌≤◌, ◌^◌, ℕ, false, not, ◌==◌, length, drop};
 ghost use Rattle.std.specs.List.{prefix_len};
 ghost use Rattle.scatter_text.specs.Parts as cuts;
-ghost use Rattle.scatter_text.specs.Steps.{IsBegun};
+ghost use Rattle.scatter_text.specs.Steps.{IsBegun, SameParts, behind_sign};
 
 fn is_sign(byte: u8) -> bool
     ensures { result ≡ cuts.is_sign byte }
@@ -82,7 +82,7 @@ fn comment_len(text: &[u8]) -> usize
 
 // What follows the comment that such a byte begins.
 fn behind_comment(byte: u8, behind: &[u8]) -> &[u8]
-    ensures value { result.now ≡ (if byte == 59 then drop (prefix_len (λ b. not (b == 10)) behind.now) behind.now else behind.now) }
+    ensures value { result.now ≡ behind_sign byte behind.now }
     ensures shorter { length result.now ≤ length behind.now }
 {
     if byte == b';' {
@@ -94,7 +94,7 @@ fn behind_comment(byte: u8, behind: &[u8]) -> &[u8]
 /// The rest of a text from its next part on, and that part's line.
 pub fn behind_gap(text: &[u8], from: usize) -> (usize, &[u8])
     requires { from + length text.now < 2 ^ 64 }
-    ensures parts { (depth : ℕ) → cuts.parts false depth result.0 result.1.now ≡ cuts.parts false depth from text.now }
+    ensures parts { SameParts result.0 result.1.now from text.now }
     ensures begun { IsBegun result.1.now }
     ensures lines { result.0 + length result.1.now ≤ from + length text.now }
     ensures shorter { length result.1.now ≤ length text.now }

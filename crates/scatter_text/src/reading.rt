@@ -6,8 +6,7 @@ ghost use Rattle.std.specs.Str.{bytes_eq};
 ghost use Rattle.sdt_fault.specs.declared.kinds.ScatterKind.TheVariants as kind;
 ghost use Rattle.scatter_text.specs.Laws.{Describes, IsFaultOf};
 ghost use Rattle.scatter_text.specs.Reading as steps;
-ghost use Rattle.scatter_text.specs.Words.{number_of, base_number};
-ghost use Rattle.scatter_text.specs.Reading.{judged, flaw_in, step, Leaves, Gives, refusal, beginning, scatter_of};
+ghost use Rattle.scatter_text.specs.Reading.{judged, step, Leaves, Gives, refusal, beginning, scatter_of};
 
 use crate::cuts::{behind_gap, line_count, opened, part_len};
 use crate::stops::Stop;
@@ -155,7 +154,7 @@ impl Reader {
 
     // At the stage, behind the sign.
     fn expect(&mut self, sign: &[u8], part: &[u8], stage: Stage) -> Result<(), Stop>
-        ensures { Leaves result self.new (judged None (steps.expect sign.now (steps.at stage self.old) part.now)) }
+        ensures { Leaves result self.new (steps.expected sign.now stage self.old part.now) }
     {
         if part != sign {
             return Err(Stop::At(ScatterKind::Syntax));
@@ -165,7 +164,7 @@ impl Reader {
     }
 
     fn name_load(&mut self, alloc: Global, part: &[u8]) -> Result<(), Stop>
-        ensures { Leaves result self.new (judged (steps.load_flaw self.old part.now) (steps.name_load self.old part.now)) }
+        ensures { Leaves result self.new (steps.load_name self.old part.now) }
     {
         if !is_region_name(part) {
             return Err(Stop::At(ScatterKind::Syntax));
@@ -182,7 +181,7 @@ impl Reader {
     }
 
     fn base_load(&mut self, part: &[u8]) -> Result<(), Stop>
-        ensures { let n = number_of part.now in Leaves result self.new (judged (flaw_in n) (steps.base_load self.old part.now)) }
+        ensures { Leaves result self.new (steps.load_base self.old part.now) }
     {
         let base = match number_in(part) {
             Ok(base) => base,
@@ -194,7 +193,7 @@ impl Reader {
     }
 
     fn limit_load(&mut self, part: &[u8]) -> Result<(), Stop>
-        ensures { let n = number_of part.now in Leaves result self.new (judged (flaw_in n) (steps.limit_load self.old part.now)) }
+        ensures { Leaves result self.new (steps.load_limit self.old part.now) }
     {
         let max = match number_in(part) {
             Ok(max) => max,
@@ -206,7 +205,7 @@ impl Reader {
     }
 
     fn limit_or_open_load(&mut self, part: &[u8]) -> Result<(), Stop>
-        ensures { let n = number_of part.now in Leaves result self.new (judged (flaw_in n) (steps.shift_load_max self.old part.now)) }
+        ensures { Leaves result self.new (steps.load_max self.old part.now) }
     {
         if part == b"{".as_slice() {
             self.stage = Stage::Regions;
@@ -225,7 +224,7 @@ impl Reader {
     }
 
     fn end_load(&mut self, alloc: Global) -> Result<(), Stop>
-        ensures { Leaves result self.new (judged (steps.end_flaw self.old) (Some (steps.close_load self.old))) }
+        ensures { Leaves result self.new (steps.load_end self.old) }
     {
         if self.load.regions.as_slice().is_empty() {
             return Err(Stop::At(ScatterKind::Empty));
@@ -245,7 +244,7 @@ impl Reader {
     }
 
     fn name_region(&mut self, alloc: Global, part: &[u8]) -> Result<(), Stop>
-        ensures { Leaves result self.new (judged (steps.region_flaw self.old part.now) (steps.name_region self.old part.now)) }
+        ensures { Leaves result self.new (steps.region_name self.old part.now) }
     {
         if !is_region_name(part) {
             return Err(Stop::At(ScatterKind::Syntax));
@@ -261,7 +260,7 @@ impl Reader {
     }
 
     fn region_or_end(&mut self, alloc: Global, part: &[u8]) -> Result<(), Stop>
-        ensures { Leaves result self.new (judged (steps.regions_flaw self.old part.now) (steps.shift_regions self.old part.now)) }
+        ensures { Leaves result self.new (steps.regions self.old part.now) }
     {
         if part == b"}".as_slice() {
             return self.end_load(alloc);
@@ -270,7 +269,7 @@ impl Reader {
     }
 
     fn base_region(&mut self, part: &[u8]) -> Result<(), Stop>
-        ensures { let n = base_number part.now in Leaves result self.new (judged (flaw_in n) (steps.base_region self.old part.now)) }
+        ensures { Leaves result self.new (steps.region_base self.old part.now) }
     {
         let base = match base_in(part) {
             Ok(base) => base,
@@ -282,7 +281,7 @@ impl Reader {
     }
 
     fn limit_region(&mut self, part: &[u8]) -> Result<(), Stop>
-        ensures { let n = number_of part.now in Leaves result self.new (judged (flaw_in n) (steps.limit_region self.old part.now)) }
+        ensures { Leaves result self.new (steps.region_limit self.old part.now) }
     {
         let max = match number_in(part) {
             Ok(max) => max,
@@ -294,7 +293,7 @@ impl Reader {
     }
 
     fn limit_or_open_region(&mut self, part: &[u8]) -> Result<(), Stop>
-        ensures { let n = number_of part.now in Leaves result self.new (judged (flaw_in n) (steps.shift_region_max self.old part.now)) }
+        ensures { Leaves result self.new (steps.region_max self.old part.now) }
     {
         if part == b"{".as_slice() {
             self.stage = Stage::Groups;

@@ -8,7 +8,7 @@ ghost use Rattle.std.specs.Str.Parse.{digits_value};
 ghost use Rattle.scatter_text.specs.Parts as cuts;
 ghost use Rattle.scatter_text.specs.Words as words;
 ghost use Rattle.scatter_text.specs.Reading.{judged, number_flaw, flaw_in, Shows};
-ghost use Rattle.scatter_text.specs.Steps.{small};
+ghost use Rattle.scatter_text.specs.Steps.{small, judged_number, judged_base, base_in};
 
 use crate::cuts::{first_is, is_name_byte};
 use crate::stops::Stop;
@@ -109,7 +109,7 @@ fn value_of(digits: &[u8], base: u8) -> Option<u32>
 
 fn whole(digits: &[u8], base: u8) -> Result<u32, Stop>
     requires { 1 ≤ base }
-    ensures { let n = digits_value base digits.now in Shows result (judged (number_flaw n) (Some n)) }
+    ensures { Shows result (judged_number (digits_value base digits.now)) }
 {
     let Some(number) = value_of(digits, base) else {
         return Err(Stop::At(ScatterKind::Number));
@@ -121,7 +121,7 @@ fn whole(digits: &[u8], base: u8) -> Result<u32, Stop>
 }
 
 fn hexadecimal(digits: &[u8]) -> Result<u32, Stop>
-    ensures { let n = words.written 16 is_ascii_hexdigit digits.now in Shows result (judged (flaw_in n) n) }
+    ensures { let n = words.hexadecimal digits.now in Shows result (judged (flaw_in n) n) }
 {
     if digits.is_empty() {
         return Err(Stop::At(ScatterKind::Syntax));
@@ -133,7 +133,7 @@ fn hexadecimal(digits: &[u8]) -> Result<u32, Stop>
 }
 
 fn decimal(digits: &[u8]) -> Result<u32, Stop>
-    ensures { let n = words.written 10 is_ascii_digit digits.now in Shows result (judged (flaw_in n) n) }
+    ensures { let n = words.decimal digits.now in Shows result (judged (flaw_in n) n) }
 {
     if digits.is_empty() {
         return Err(Stop::At(ScatterKind::Syntax));
@@ -146,7 +146,7 @@ fn decimal(digits: &[u8]) -> Result<u32, Stop>
 
 /// The number that the text writes, a multiple of 4.
 pub fn number_in(text: &[u8]) -> Result<u32, Stop>
-    ensures { Shows result (judged (flaw_in (words.number_of text.now)) (words.number_of text.now)) }
+    ensures { let n = words.number_of text.now in Shows result (judged (flaw_in n) n) }
 {
     if text.starts_with(b"0x") {
         return hexadecimal(&text[2..]);
@@ -158,7 +158,7 @@ pub fn number_in(text: &[u8]) -> Result<u32, Stop>
 }
 
 fn offset_in(text: &[u8]) -> Result<ScatterBase, Stop>
-    ensures { let n = words.number_of text.now in Shows result (judged (flaw_in n) (option_map Plus n)) }
+    ensures { Shows result (judged_base Plus (words.number_of text.now)) }
 {
     match number_in(text) {
         Ok(offset) => Ok(ScatterBase::Plus(offset)),
@@ -167,7 +167,7 @@ fn offset_in(text: &[u8]) -> Result<ScatterBase, Stop>
 }
 
 fn address_in(text: &[u8]) -> Result<ScatterBase, Stop>
-    ensures { let n = words.number_of text.now in Shows result (judged (flaw_in n) (option_map At n)) }
+    ensures { Shows result (judged_base At (words.number_of text.now)) }
 {
     match number_in(text) {
         Ok(address) => Ok(ScatterBase::At(address)),
@@ -177,7 +177,7 @@ fn address_in(text: &[u8]) -> Result<ScatterBase, Stop>
 
 /// The base that the text writes.
 pub fn base_in(text: &[u8]) -> Result<ScatterBase, Stop>
-    ensures { Shows result (judged (flaw_in (words.base_number text.now)) (words.base_of text.now)) }
+    ensures { Shows result (base_in text.now) }
 {
     if first_is(b'+', text) {
         return offset_in(&text[1..]);
