@@ -1,0 +1,13 @@
+mod CutLemmas
+mod NumberLemmas
+mod JudgedLemmas
+mod ReadLemmas
+mod Ends
+mod CompleteLemmas
+mod SpelledLemmas
+mod ValidLemmas
+mod FineLemmas
+mod SoundLemmas
+mod LawLemmas
+mod FaultLemmas
+mod Rows

@@ -1,0 +1,16 @@
+use Rattle.scatter_text.specs.declared.reading.Reader.{Reader}
+use Rattle.scatter_text.specs.declared.reading.Stage.TheVariants as stage
+use Rattle.scatter_text.specs.Words.{number_of}
+use Rattle.scatter_text.specs.Reading.{flaw_in}
+use Rattle.scatter_text.proofs.JudgedLemmas.{mapped_ok, mapped_leaves}
+use Rattle.scatter_text.proofs.reading.Reader.base_load.Goals as goal
+
+pub returns-in-Err : goal.returns-in-Err
+returns-in-Err c =
+    let s : Reader = c.args.self.now in
+    mapped_leaves (Unit {0}) c.in-Err.stop (flaw_in (number_of c.args.part.now)) (number_of c.args.part.now) (λ v. record s { stage = stage.LoadMax; load = record s.load { base = v } }) s c.in-Err.ensures
+
+pub returns : goal.returns
+returns c =
+    let s : Reader = c.args.self.now in
+    mapped_ok (flaw_in (number_of c.args.part.now)) (number_of c.args.part.now) (λ v. record s { stage = stage.LoadMax; load = record s.load { base = v } }) c.in-Ok.base c.in-Ok.ensures
