@@ -124,7 +124,7 @@ is_load_view k c ram held none all =
           ∙ sym (all_at (λ q. Holds (view_of p held) q.base (region_bytes held q)) (regions_of p) i r view.loaded at n (omega (arith, lt, size))));
     }
 
-moved_view : (p : Plan) (held : Filling) (view : ByteMap) (files : List Segment) → IsView p held view → IsLoadView p view files
+pub moved_view : (p : Plan) (held : Filling) (view : ByteMap) (files : List Segment) → IsView p held view → IsLoadView p view files
     → (x b : ℕ) → view x ≡ Some b → zeroed (Some 0) (moved (map_of files) (copies_of p)) (parts_of p) x ≡ Some b
 moved_view p held view files v f =
     moved_shows (regions_of p) (map_of files) view f.shows

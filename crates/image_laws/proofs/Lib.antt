@@ -3,6 +3,7 @@ pub mod MovedLemmas
 pub mod RegionLemmas
 pub mod ViewLemmas
 pub mod FileLemmas
+pub mod PlainLemmas
 pub mod Joined
 pub mod Placed
 pub mod Rows

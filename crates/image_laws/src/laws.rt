@@ -1,11 +1,13 @@
 //! Laws of the definitions, each proved as the contract of an empty function.
 
-ghost use Rattle.image_laws.specs.Laws.{ImageBoots, ImagePlaces, ViewLaw};
+ghost use Rattle.image_laws.specs.Laws.{ImageBoots, ImagePlaces, PlainLaw, ViewLaw};
 
 /// A plan without a refusal, each of whose things has its size, has files and one view: each thing stands in
-/// the view at its address, and zeros stand in the gaps and zero parts.
+/// the view at its address, and zeros stand in the gaps and zero parts. The files, moved and cleared, are the view; of an
+/// image of bytes alone they need no moving.
 pub fn view_law()
-    ensures { ViewLaw }
+    ensures view { ViewLaw }
+    ensures plain { PlainLaw }
 {}
 
 /// A scatter image that is placed without a refusal starts: its rows, files and view are as the startup code

@@ -20,8 +20,8 @@ use Rattle.place_model.specs.Assignment.{described_regions, Offer, offers_from, 
 use Rattle.place_model.specs.Items.{Item}
 use Rattle.place_model.specs.Laws.{OfFound, IsOnlyBest, IsWholeItem}
 use Rattle.place_model.proofs.AssignmentLemmas.{assignment_law}
-use Rattle.place_model.proofs.ListLemmas.{all_at, all_indexed, all_map, none_given}
-use Rattle.link_laws.proofs.ListLemmas.{in_later, in_front, in_back, in_map, in_filter_map, all_filter_map, each_at}
+use Rattle.place_model.proofs.ListLemmas.{all_at, all_filter_map, all_indexed, all_map, none_given}
+use Rattle.link_laws.proofs.ListLemmas.{in_later, in_front, in_back, in_map, in_filter_map, each_at}
 
 -- ---- each area is an item
 
