@@ -42,47 +42,55 @@ order_all P (k ∷ ks) all = put_all P k (in_order ks) all.0 (order_all P ks all
 abbrev pub class_offers : ℕ → List Offer
 class_offers base = offers_from 0 (plain_regions base)
 
-abbrev IsKept : Item → Type 0
-IsKept i = is_zero_initialised i ≡ false
+-- the third region takes zero-initialised areas, and the others those that aren't
+abbrev IsClass : ℕ → Item → Type 0
+IsClass n i = is_zero_initialised i ≡ (n == 2)
 
 not_true : (b : Bool) → not b ≡ true → b ≡ false
 not_true true e = absurd cc
 not_true false e = refl
 
--- read-only and read-write areas aren't zero-initialised
-kept_class : (base n place : ℕ) (i : Item) (o : Offer) → n < 2 → slice_get (class_offers base) place ≡ Some o → o.region ≡ n → matches o.selection i ≡ true → IsKept i
-kept_class base n zero i o lt at own match =
+region_class : (base n place : ℕ) (i : Item) (o : Offer) → slice_get (class_offers base) place ≡ Some o → o.region ≡ n → matches o.selection i ≡ true → IsClass n i
+region_class base n zero i o at own match =
     let is : matches o.selection i ≡ (not (is_zero_initialised i) && is_read_only i) = ap (λ (z : Option Offer). matches (unwrap_or z o).selection i) (sym at) in
-    not_true (is_zero_initialised i) (both_true (not (is_zero_initialised i)) (is_read_only i) (sym is ∙ match)).0
-kept_class base n (suc zero) i o lt at own match =
+    let number : 0 ≡ n = ap (λ (z : Option Offer). (unwrap_or z o).region) at ∙ own in
+    subst (λ (x : ℕ). IsClass x i) number (not_true (is_zero_initialised i) (both_true (not (is_zero_initialised i)) (is_read_only i) (sym is ∙ match)).0)
+region_class base n (suc zero) i o at own match =
     let is : matches o.selection i ≡ (not (is_zero_initialised i) && not (is_read_only i)) = ap (λ (z : Option Offer). matches (unwrap_or z o).selection i) (sym at) in
-    not_true (is_zero_initialised i) (both_true (not (is_zero_initialised i)) (not (is_read_only i)) (sym is ∙ match)).0
-kept_class base n (suc (suc zero)) i o lt at own match =
-    let is : o.region ≡ 2 = ap (λ (z : Option Offer). (unwrap_or z o).region) (sym at) in absurd (omega arith)
-kept_class base n (suc (suc (suc place))) i o lt at own match = absurd cc
+    let number : 1 ≡ n = ap (λ (z : Option Offer). (unwrap_or z o).region) at ∙ own in
+    subst (λ (x : ℕ). IsClass x i) number (not_true (is_zero_initialised i) (both_true (not (is_zero_initialised i)) (not (is_read_only i)) (sym is ∙ match)).0)
+region_class base n (suc (suc zero)) i o at own match =
+    let is : matches o.selection i ≡ is_zero_initialised i = ap (λ (z : Option Offer). matches (unwrap_or z o).selection i) (sym at) in
+    let number : 2 ≡ n = ap (λ (z : Option Offer). (unwrap_or z o).region) at ∙ own in
+    subst (λ (x : ℕ). IsClass x i) number (sym is ∙ match)
+region_class base n (suc (suc (suc place))) i o at own match = absurd cc
 
-kept_item : (base n : ℕ) (i : Item) (k : Kept) → n < 2 → kept_by n i (found (best (class_offers base) i)) ≡ Some k → IsKept k.item
-kept_item base n i k lt h = go (found (best (class_offers base) i)) (assignment_law (class_offers base) i) h
+item_class : (base n : ℕ) (i : Item) (k : Kept) → kept_by n i (found (best (class_offers base) i)) ≡ Some k → IsClass n k.item
+item_class base n i k h = go (found (best (class_offers base) i)) (assignment_law (class_offers base) i) h
   where
-    go : (f : Found) → OfFound (class_offers base) i f → kept_by n i f ≡ Some k → IsKept k.item
+    go : (f : Found) → OfFound (class_offers base) i f → kept_by n i f ≡ Some k → IsClass n k.item
     go Nowhere law e = absurd cc
     go (Unclear o p) law e = absurd cc
     go (Within o) law e = by_region (o.region == n) refl e
       where
-        by_region : (b : Bool) → o.region == n ≡ b → (if b then Some (record { item = i; edge = o.selection.edge }) else None) ≡ Some k → IsKept k.item
+        by_region : (b : Bool) → o.region == n ≡ b → (if b then Some (record { item = i; edge = o.selection.edge }) else None) ≡ Some k → IsClass n k.item
         by_region true t e =
             let item : i ≡ k.item = ap (λ (x : Kept). x.item) (same (record { item = i; edge = o.selection.edge }) k e) in
-            subst IsKept item (kept_class base n law.place i o lt law.best.at (eqb-true o.region n t) law.best.matching)
+            subst (IsClass n) item (region_class base n law.place i o law.best.at (eqb-true o.region n t) law.best.matching)
         by_region false t e = absurd cc
 
-areas_kept : (base n : ℕ) (items : List Item) → n < 2 → AllByRecursion IsKept (areas_of (class_offers base) items n)
-areas_kept base n items lt =
+areas_class : (base n : ℕ) (items : List Item) → AllByRecursion (IsClass n) (areas_of (class_offers base) items n)
+areas_class base n items =
     let taken : List Kept = filter_map (λ i. kept_by n i (found (best (class_offers base) i))) items in
-    all_map IsKept (λ k. k.item) (in_order taken) (order_all (λ k. IsKept k.item) taken (all_filter_map (λ k. IsKept k.item) (λ i. kept_by n i (found (best (class_offers base) i))) items (λ i k e. kept_item base n i k lt e)))
+    all_map (IsClass n) (λ k. k.item) (in_order taken) (order_all (λ k. IsClass n k.item) taken (all_filter_map (λ k. IsClass n k.item) (λ i. kept_by n i (found (best (class_offers base) i))) items (λ i k e. item_class base n i k e)))
 
-none_zero : (items : List Item) → AllByRecursion IsKept items → filter is_zero_initialised items ≡ []
+none_zero : (items : List Item) → AllByRecursion (λ i. is_zero_initialised i ≡ false) items → filter is_zero_initialised items ≡ []
 none_zero [] all = refl
 none_zero (i ∷ items) all = rw (all.0) (none_zero items all.1)
+
+none_loaded : (items : List Item) → AllByRecursion (λ i. is_zero_initialised i ≡ true) items → filter (λ i. not (is_zero_initialised i)) items ≡ []
+none_loaded [] all = refl
+none_loaded (i ∷ items) all = rw (all.0) (none_loaded items all.1)
 
 -- ---- the regions
 
@@ -94,30 +102,34 @@ module _ (k : Kind) (c : Contents) (base : ℕ) (items : List Item) (assigned : 
   abbrev pub class_regions : List Planned
   class_regions = regions_of class_plan
 
-  region_kept : (n : ℕ) (list : List Item) → slice_get (lists_from (class_offers base) items 0 3) n ≡ Some list → AllByRecursion IsKept list → filter is_zero_initialised (areas_in c n) ≡ []
-  region_kept n list at all =
-      let own : areas_in c n ≡ list = ap (λ (ls : List (List Item)). unwrap_or (slice_get ls n) []) assigned ∙ ap (λ (o : Option (List Item)). unwrap_or o []) at in
-      ap (filter is_zero_initialised) own ∙ none_zero list all
+  in_list : (n : ℕ) (list : List Item) → slice_get (lists_from (class_offers base) items 0 3) n ≡ Some list → areas_in c n ≡ list
+  in_list n list at = ap (λ (ls : List (List Item)). unwrap_or (slice_get ls n) []) assigned ∙ ap (λ (o : Option (List Item)). unwrap_or o []) at
 
-  no_zeros : (n at : ℕ) (list : List Item) → slice_get (lists_from (class_offers base) items 0 3) n ≡ Some list → AllByRecursion IsKept list → (origin : ℕ)
+  no_zeros : (n at : ℕ) (list : List Item) → slice_get (lists_from (class_offers base) items 0 3) n ≡ Some list → AllByRecursion (λ i. is_zero_initialised i ≡ false) list → (origin : ℕ)
       → extent origin at (map AnArea (filter is_zero_initialised (areas_in c n))) ≡ 0
-  no_zeros n at list there all origin = ap (λ (is : List Item). extent origin at (map AnArea is)) (region_kept n list there all)
+  no_zeros n at list there all origin = ap (λ (is : List Item). extent origin at (map AnArea is)) (ap (filter is_zero_initialised) (in_list n list there) ∙ none_zero list all)
 
-  abbrev r0 : Planned
+  -- nothing of the third region is loaded but veneers
+  pub third_empty : filter (λ i. not (is_zero_initialised i)) (areas_in c 2) ≡ []
+  third_empty =
+      let list : List Item = areas_of (class_offers base) items 2 in
+      ap (filter (λ i. not (is_zero_initialised i))) (in_list 2 list refl) ∙ none_loaded list (areas_class base 2 items)
+
+  abbrev pub r0 : Planned
   r0 = planned k c 0 0 (class_region (codes "RO") (At base) choice.Ro) base base
 
-  abbrev r1 : Planned
+  abbrev pub r1 : Planned
   r1 = planned k c 0 1 (class_region (codes "RW") (Plus 0) choice.Rw) (end_of r0) (base + length_of r0)
 
-  abbrev r2 : Planned
+  abbrev pub r2 : Planned
   r2 = planned k c 0 2 (class_region (codes "ZI") (Plus 0) choice.Zi) (end_of r1) (base + length_of r0 + length_of r1)
 
   -- they follow each other
   pub zero_0 : zero_length_of r0 ≡ 0
-  zero_0 = no_zeros 0 (zero_base_of r0) (areas_of (class_offers base) items 0) refl (areas_kept base 0 items (omega arith)) r0.origin
+  zero_0 = no_zeros 0 (zero_base_of r0) (areas_of (class_offers base) items 0) refl (areas_class base 0 items) r0.origin
 
   pub zero_1 : zero_length_of r1 ≡ 0
-  zero_1 = no_zeros 1 (zero_base_of r1) (areas_of (class_offers base) items 1) refl (areas_kept base 1 items (omega arith)) r1.origin
+  zero_1 = no_zeros 1 (zero_base_of r1) (areas_of (class_offers base) items 1) refl (areas_class base 1 items) r1.origin
 
   no_copy : (r : Planned) → r.load ≡ r.base → is_copied r ≡ false
   no_copy r e = let t : is_root r ≡ true = eq-eqb r.load r.base e in rw t refl
