@@ -4,6 +4,7 @@ pub mod RegionLemmas
 pub mod ViewLemmas
 pub mod FileLemmas
 pub mod PlainLemmas
+pub mod AifLemmas
 pub mod Joined
 pub mod Placed
 pub mod Rows

@@ -26,6 +26,7 @@ use Rattle.place_model.proofs.PlanLemmas.{table_law, whole_law, loads_loaded}
 use Rattle.image_model.specs.Regions.{Given, Filling, laid, region_bytes, filled}
 use Rattle.image_laws.specs.Laws.{scatter_plan, IsImage, ImagePlaces, ImageBoots}
 use Rattle.image_laws.proofs.RegionLemmas.{Sizes, length-laid, laid-append, Begins, begins, startup_stands}
+use Rattle.image_laws.proofs.FileLemmas.{rooms}
 use Rattle.image_laws.proofs.MovedLemmas.{copies_in, parts_in}
 use Rattle.image_laws.proofs.Joined.{Sound, AreJoined, joined_places}
 
@@ -57,9 +58,7 @@ accepted_facts s ram p h =
     record {
       rooted = root;
       loads = all_weaker _ (λ l. l.base + load_size l ≤ 2 ^ 32) (λ l all. in_memory (record { name = l.name; base = l.base; size = load_size l; maximum = l.maximum }) all.0) p fine;
-      rooms = all_flat (λ r. r.base + execution_size r ≤ 2 ^ 32) (λ l. l.regions) p
-          (all_weaker _ (λ l. AllByRecursion (λ r. r.base + execution_size r ≤ 2 ^ 32) l.regions)
-          (λ l all. all_weaker (λ r. overfull (judged_region r) ≡ None) (λ r. r.base + execution_size r ≤ 2 ^ 32) (λ r none. in_memory (judged_region r) none) l.regions (all_of_map (λ j. overfull j ≡ None) judged_region l.regions all.1)) p fine);
+      rooms = rooms (kind.Scatter s) ram p h;
       apart = pairs_map (λ m n. shared m.written n.read ≡ None) (λ r. standing (execution_span r)) (regions_of p) (meeting_none (map (λ r. standing (execution_span r)) (regions_of p)) of_regions);
       conflicts = pairs_map (λ m n. shared m.written n.read ≡ None) copy_move (filter is_copied (regions_of p)) (meeting_none (map copy_move (filter is_copied (regions_of p))) (map_none as_conflict (copy_conflict p) conflict));
       small = all_below_sum execution_size (regions_of p) (2 ^ 26) (go (nat_lt (2 ^ 26) (image_bytes p)) refl large);

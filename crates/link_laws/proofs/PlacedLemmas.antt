@@ -16,15 +16,14 @@ use Rattle.patch_model.specs.Fields.{Home, Meant, Values}
 use Rattle.patch_model.specs.Laws.{StandsAt}
 use Rattle.place_model.specs.declared.scatter.Kind.{Kind}
 use Rattle.place_model.specs.Assignment.{description}
-use Rattle.place_model.specs.Faults.{first_told, rootless, overfull, judged, judged_load, judged_region, overlap, copy_conflict, too_large, aif_too_large, not_writable, as_overlap, as_conflict, place_refusal}
 use Rattle.place_model.specs.Items.{Item, is_zero_initialised}
 use Rattle.place_model.specs.Laws.{IsWholeRegion, IsWholeItem}
 use Rattle.place_model.specs.Plans.{Contents, areas_in, origin_of, Planned, length_of, zero_base_of, execution_size, end_of, Plan, regions_of, plan_of, table_words, stood_in, is_area, area_address}
 use Rattle.place_model.specs.Things.{Thing, Header, AnArea, AVeneer, Startup, size_of, extent, Stood, stood}
 use Rattle.place_model.proofs.GapLemmas.{IsWhole, whole_area, whole_header, whole_veneer, whole_startup}
-use Rattle.place_model.proofs.ListLemmas.{all_at, all_indexed, all_of_get, all_of_flat, all_flat, all_of_map, none_given}
+use Rattle.place_model.proofs.ListLemmas.{all_at, all_indexed, all_of_get}
 use Rattle.place_model.proofs.PlanLemmas.{whole_law, origin_whole}
-use Rattle.place_model.proofs.SpanLemmas.{or_none, in_memory}
+use Rattle.image_laws.proofs.FileLemmas.{rooms}
 use Rattle.link_model.specs.declared.placing.AreaName.{AreaName}
 use Rattle.link_model.specs.declared.placing.Veneer.{Veneer}
 use Rattle.link_model.specs.declared.selection.Linked.{Linked}
@@ -87,20 +86,6 @@ is_meant own base_at y m defined = go (bit y.attributes 0 == 1) (bit y.attribute
     go true true e f = in_area (rw e f) (defined e)
     go true false e f = λ h. absolute (rw e f) (defined e)
     go false p e f = λ h. absurd (grind arith)
-
--- ---- what no refusal says of regions
-
-rooms : (k : Kind) (ram : Option (List Range32)) (p : Plan) → place_refusal k ram p ≡ None → AllByRecursion (λ r. r.base + execution_size r ≤ 2 ^ 32) (regions_of p)
-rooms k ram p h =
-    let tail3 = option_or (option_map as_conflict (copy_conflict p)) (option_or (too_large p) (option_or (aif_too_large k p) (not_writable ram p))) in
-    let tail2 = option_or (option_map as_overlap (overlap p)) tail3 in
-    let tail1 = option_or (first_told overfull (judged k p)) tail2 in
-    let full = (or_none (first_told overfull (judged k p)) tail2 (or_none (rootless (regions_of p)) tail1 h).1).0 in
-    let fine = all_of_flat (λ j. overfull j ≡ None) (λ l. judged_load k l ++ map judged_region l.regions) p (none_given overfull (judged k p) full) in
-    all_flat (λ r. r.base + execution_size r ≤ 2 ^ 32) (λ l. l.regions) p
-    (all_weaker (λ l. AllByRecursion (λ j. overfull j ≡ None) (judged_load k l ++ map judged_region l.regions)) (λ l. AllByRecursion (λ r. r.base + execution_size r ≤ 2 ^ 32) l.regions)
-    (λ l all. all_weaker (λ r. overfull (judged_region r) ≡ None) (λ r. r.base + execution_size r ≤ 2 ^ 32) (λ r none. in_memory (judged_region r) none) l.regions
-    (all_of_map (λ j. overfull j ≡ None) judged_region l.regions (all_back (λ j. overfull j ≡ None) (judged_load k l) (map judged_region l.regions) all))) p fine)
 
 -- ---- things of linked objects
 
