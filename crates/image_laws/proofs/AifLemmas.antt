@@ -55,7 +55,7 @@ front_words : (m : Bytes) (a : ℕ) (xs ys : List ℕ) → HasWords m a (xs ++ y
 front_words m a [] ys h = tt
 front_words m a (x ∷ xs) ys h = (h.0, front_words m (a + 4) xs ys h.1)
 
-as_code : (m : Bytes) (a : ℕ) (ws : List ℕ) → HasWords m a ws → HasCode m a ws
+pub as_code : (m : Bytes) (a : ℕ) (ws : List ℕ) → HasWords m a ws → HasCode m a ws
 as_code m a [] h i lt = absurd (omega arith)
 as_code m a (w ∷ ws) h zero lt = let there : a + 4 * 0 ≡ a = omega arith in ap (word m) there ∙ h.0
 as_code m a (w ∷ ws) h (suc i) lt = let there : a + 4 * suc i ≡ a + 4 + 4 * i = omega arith in ap (word m) there ∙ as_code m (a + 4) ws h.1 i (omega arith)
@@ -82,7 +82,7 @@ module _ (base : ℕ) (rel : Bool) (c : Contents) (items : List Item) (g : Given
   abbrev pub zi : Planned
   zi = r2 k c base items a.assigned.each
 
-  base_whole : base % 4 ≡ 0
+  pub base_whole : base % 4 ≡ 0
   base_whole = a.whole.loads.0
 
   whole : AllByRecursion IsWholeRegion (ro ∷ rw_ ∷ zi ∷ [])
@@ -156,7 +156,7 @@ module _ (base : ℕ) (rel : Bool) (c : Contents) (items : List Item) (g : Given
   pub header_low : 128 ≤ length_of ro
   header_low = let e : length_of ro ≡ gap ro.origin 4 base + 128 + extent ro.origin (start_of ro.origin base Header + 128) behind_header = refl in omega arith
 
-  room : AllByRecursion (λ r. r.base + execution_size r ≤ 2 ^ 32) (ro ∷ rw_ ∷ zi ∷ [])
+  pub room : AllByRecursion (λ r. r.base + execution_size r ≤ 2 ^ 32) (ro ∷ rw_ ∷ zi ∷ [])
   room = rooms k ram p a.accepted
 
   base_small : base < 2 ^ 32

@@ -5,6 +5,7 @@ pub mod ViewLemmas
 pub mod FileLemmas
 pub mod PlainLemmas
 pub mod AifLemmas
+pub mod AifFixed
 pub mod Joined
 pub mod Placed
 pub mod Rows

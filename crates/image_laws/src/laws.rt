@@ -1,5 +1,6 @@
 //! Laws of the definitions, each proved as the contract of an empty function.
 
+ghost use Rattle.image_laws.specs.AifLaws.{FixedImageBoots, FixedImageLoads, HeaderLaw};
 ghost use Rattle.image_laws.specs.Laws.{ImageBoots, ImagePlaces, PlainLaw, ViewLaw};
 
 /// A plan without a refusal, each of whose things has its size, has files and one view: each thing stands in
@@ -16,4 +17,12 @@ pub fn view_law()
 pub fn image_boots()
     ensures places { ImagePlaces }
     ensures boots { ImageBoots }
+{}
+
+/// An ARM image file that is placed without a refusal has the header that its startup needs. One that can't be moved
+/// starts at its base: from every permitted state it reaches the entry within the bound, with the memory as the view says.
+pub fn aif_boots()
+    ensures header { HeaderLaw }
+    ensures loads { FixedImageLoads }
+    ensures boots { FixedImageBoots }
 {}
