@@ -1,6 +1,6 @@
 -- One linked image, whole: an ARM image file at 0x8000 of an object that holds its own address. Each premise of the laws
 -- is met, and the file starts.
-use Rattle.std.proofs.Common.{◌≡◌, ℕ, zero, suc, ◌+◌, ◌-◌, ◌%◌, ◌^◌, ◌<◌, ◌≤◌, Bool, true, false, List, [], ◌∷◌, length, refl, sym, subst, ◌∙◌, arith, codes, Option, Some, None}
+use Rattle.std.proofs.Common.{◌≡◌, ℕ, zero, suc, ◌+◌, Bool, false, List, [], ◌∷◌, refl, sym, subst, ◌∙◌, arith, codes, Option, Some, None}
 use Rattle.std.specs.Prelude.{slice_get}
 use Rattle.sdt_word.specs.Bytes.{bytes_of}
 use Rattle.sdt_word.specs.declared.ranges.Range32.{Range32}
@@ -20,7 +20,6 @@ use Rattle.image_laws.specs.AifLaws.{IsFixedImage}
 use Rattle.image_laws.proofs.AifFixed.{fixed_image_boots}
 use Rattle.image_laws.proofs.ViewLemmas.{is_view}
 use Rattle.link_model.specs.declared.placing.AreaName.{AreaName}
-use Rattle.link_model.specs.declared.placing.Veneer.{Veneer}
 use Rattle.link_model.specs.declared.selection.Linked.{Linked}
 use Rattle.link_model.specs.declared.selection.Named.{Named}
 use Rattle.link_items.specs.LinkedItems.{items_in, contents_of}
@@ -44,15 +43,18 @@ linked = record { objects = object ∷ []; definitions = []; entry = record { ob
 
 valid : IsValid of_own_label
 valid = record {
-  areas = (record {
-    fresh = tt;
-    permitted = refl;
-    alignment_least = omega arith;
-    alignment_most = omega arith;
-    whole_words = refl;
-    size_most = omega arith;
-    relocs_have_bytes = refl;
-  }, tt);
+  areas = (
+    record {
+      fresh = tt;
+      permitted = refl;
+      alignment_least = omega arith;
+      alignment_most = omega arith;
+      whole_words = refl;
+      size_most = omega arith;
+      relocs_have_bytes = refl;
+    },
+    tt,
+  );
   contents = (record { name = (λ e. absurd (omega arith), (λ e. absurd (omega arith), (λ e. absurd (omega arith), (λ e. absurd (omega arith), (λ e. absurd (omega arith), tt))))); bytes = refl; relocs = (record { form = refl; index = omega arith }, tt) }, tt);
   symbols = (record { fresh = λ e. tt; permitted = refl; scope = λ e. absurd (omega arith); lives = λ e. omega arith }, tt);
   symbol_names = ((λ e. absurd (omega arith), (λ e. absurd (omega arith), (λ e. absurd (omega arith), (λ e. absurd (omega arith), tt)))), tt);
