@@ -51,7 +51,7 @@ words_there m a (w ∷ ws) rest small h = (
     here (suc (suc (suc (suc n)))) lt = absurd (omega arith)
 
 -- words one behind the other
-front_words : (m : Bytes) (a : ℕ) (xs ys : List ℕ) → HasWords m a (xs ++ ys) → HasWords m a xs
+pub front_words : (m : Bytes) (a : ℕ) (xs ys : List ℕ) → HasWords m a (xs ++ ys) → HasWords m a xs
 front_words m a [] ys h = tt
 front_words m a (x ∷ xs) ys h = (h.0, front_words m (a + 4) xs ys h.1)
 
@@ -60,7 +60,7 @@ as_code m a [] h i lt = absurd (omega arith)
 as_code m a (w ∷ ws) h zero lt = let there : a + 4 * 0 ≡ a = omega arith in ap (word m) there ∙ h.0
 as_code m a (w ∷ ws) h (suc i) lt = let there : a + 4 * suc i ≡ a + 4 + 4 * i = omega arith in ap (word m) there ∙ as_code m (a + 4) ws h.1 i (omega arith)
 
-behind_words : (m : Bytes) (a : ℕ) (xs ys : List ℕ) → HasWords m a (xs ++ ys) → HasWords m (a + 4 * length xs) ys
+pub behind_words : (m : Bytes) (a : ℕ) (xs ys : List ℕ) → HasWords m a (xs ++ ys) → HasWords m (a + 4 * length xs) ys
 behind_words m a [] ys h = let At : ℕ → Type 0 = λ n. HasWords m n ys in subst At (omega arith) h
 behind_words m a (x ∷ xs) ys h = let At : ℕ → Type 0 = λ n. HasWords m n ys in subst At (omega arith) (behind_words m (a + 4) xs ys h.1)
 
@@ -159,7 +159,7 @@ module _ (base : ℕ) (rel : Bool) (c : Contents) (items : List Item) (g : Given
   pub room : AllByRecursion (λ r. r.base + execution_size r ≤ 2 ^ 32) (ro ∷ rw_ ∷ zi ∷ [])
   room = rooms k ram p a.accepted
 
-  base_small : base < 2 ^ 32
+  pub base_small : base < 2 ^ 32
   base_small = let low = header_low in let end = room.0 in omega (arith, low, end)
 
   words_fit : (moves : Bool) → AllByRecursion IsWord (words moves)

@@ -5,7 +5,9 @@ pub mod ViewLemmas
 pub mod FileLemmas
 pub mod PlainLemmas
 pub mod AifLemmas
+pub mod AifViews
 pub mod AifFixed
+pub mod AifMoved
 pub mod Joined
 pub mod Placed
 pub mod Rows

@@ -1,7 +1,7 @@
 -- The ARM image file of a placed image is what its startup needs, and it starts. This project's.
-use Rattle.std.specs.Prelude.{◌≡◌, ◌≢◌, ℕ, ◌+◌, ◌-◌, ◌%◌, ◌^◌, ◌<◌, ◌≤◌, Bool, false, List, [], ◌∷◌, ◌++◌, Option, None}
+use Rattle.std.specs.Prelude.{◌≡◌, ◌≢◌, ℕ, ◌+◌, ◌-◌, ◌%◌, ◌^◌, ◌<◌, ◌≤◌, Bool, true, false, List, [], ◌∷◌, ◌++◌, Option, None}
 use Rattle.sdt_word.specs.declared.ranges.Range32.{Range32}
-use Rattle.boot_code.specs.Aif.{IsHeader, IsFixedLoadable, shifted_file, file_at, aif_bound}
+use Rattle.boot_code.specs.Aif.{IsHeader, IsRelocatable, ShowsImage, IsFixedLoadable, shifted_file, file_at, aif_bound}
 use Rattle.boot_code.specs.Boots.{ByteMap, Boots, covers}
 use Rattle.byte_maps.specs.Maps.{Holds, bytes_of_words}
 use Rattle.place_model.specs.declared.scatter.Kind.TheVariants as kind
@@ -10,7 +10,7 @@ use Rattle.place_model.specs.Faults.{place_refusal}
 use Rattle.place_model.specs.Items.{Item}
 use Rattle.place_model.specs.Laws.{AreWhole}
 use Rattle.place_model.specs.Plans.{Contents, veneers_in}
-use Rattle.image_model.specs.AifFiles.{parts_size, zero_size, with_header, parts_bytes, fixed_aif, aif_plan}
+use Rattle.image_model.specs.AifFiles.{parts_size, zero_size, with_header, offsets_of, parts_bytes, fixed_aif, relocatable_aif, aif_plan}
 use Rattle.image_model.specs.Regions.{Given, AreSized}
 use Rattle.image_model.specs.Views.{IsView}
 
@@ -33,6 +33,22 @@ HeaderLaw =
     → (moves : Bool) (behind : List ℕ) (b : ℕ)
     → IsHeader (shifted_file (parts_bytes moves (aif_plan base relocatable c) base g ++ behind) b) b
     (parts_size (aif_plan base relocatable c)) (zero_size (aif_plan base relocatable c)) (g.call - base)
+
+-- where the header has no shifts, the file of an image that can be moved has its relocator and list, wherever it lies
+abbrev pub RelocatableLaw : Type 0
+RelocatableLaw =
+    (base : ℕ) (c : Contents) (items : List Item) (g : Given) (ram : Option (List Range32)) (shifts : ℕ → ℕ) → IsAif base true c items g ram
+    → ((offset : ℕ) → offset < 128 → shifts offset ≡ 0) → (b : ℕ)
+    → IsRelocatable (shifted_file (relocatable_aif (aif_plan base true c) base g shifts) b) b
+    (parts_size (aif_plan base true c)) (zero_size (aif_plan base true c)) base (g.call - base) (offsets_of shifts (aif_plan base true c))
+
+-- at its own base a view of the image, which calls no relocator, is what the file becomes there
+abbrev pub OwnBaseLaw : Type 0
+OwnBaseLaw =
+    (base : ℕ) (c : Contents) (items : List Item) (g : Given) (ram : Option (List Range32)) (shifts : ℕ → ℕ) (view : ByteMap) → IsAif base true c items g ram
+    → IsView (aif_plan base true c) (with_header false (aif_plan base true c) base g) view
+    → ShowsImage (relocatable_aif (aif_plan base true c) base g shifts) (parts_size (aif_plan base true c)) (zero_size (aif_plan base true c)) base
+    (offsets_of shifts (aif_plan base true c)) base view
 
 -- the file of an image that can't be moved, and a view of it
 pub record IsFixedImage (base : ℕ) (c : Contents) (items : List Item) (g : Given) (ram : Option (List Range32)) (view : ByteMap) : Type 0 where

@@ -1,0 +1,100 @@
+-- An ARM image file that can be moved: its relocator and list, and what it becomes at its own base.
+use Rattle.std.proofs.Common.{◌≡◌, ◌⊎◌, inl, inr, ℕ, zero, suc, ◌+◌, ◌-◌, ◌*◌, ◌/◌, ◌%◌, ◌^◌, ◌<◌, ◌≤◌, Bool, true, false, ◌==◌, if◌then◌else◌, List, [], ◌∷◌, ◌++◌, length, length-append, append_assoc, refl, sym, ap, subst, ◌∙◌, arith, eq-eqb, Option, Some}
+use Rattle.std.specs.Prelude.{replicate, slice_index, is_some}
+use Rattle.std.specs.List.{list_all, AllByRecursion}
+use Rattle.std.proofs.lemmas.Bool.{cases_lt}
+use Rattle.std.proofs.lemmas.List.{append-nil, get_or_append_left, get_or-append-add}
+use Rattle.base_lemmas.proofs.BaseLemmas.{all_append, same}
+use Rattle.sdt_word.specs.Bytes.{bytes_of, word}
+use Rattle.sdt_word.specs.declared.ranges.Range32.{Range32}
+use Rattle.arm7_model.specs.Memory.{Bytes, store}
+use Rattle.boot_code.specs.Aif.{Offsets, HasCode, IsHeader, IsRelocatable, shifted_file}
+use Rattle.boot_code.specs.Startup.{HasWords}
+use Rattle.boot_code.specs.Words.{relocator_list}
+use Rattle.byte_maps.specs.Maps.{bytes_of_words}
+use Rattle.place_model.specs.Items.{Item}
+use Rattle.place_model.specs.Plans.{Contents, Plan}
+use Rattle.image_model.specs.AifFiles.{parts_size, zero_size, header_words, shifted_offsets, offsets_of, parts_bytes, relocatable_aif, aif_plan}
+use Rattle.image_model.specs.Regions.{Given}
+use Rattle.image_laws.specs.AifLaws.{IsAif, RelocatableLaw}
+use Rattle.image_laws.proofs.AifLemmas.{words_there, front_words, behind_words, as_code, size_most, base_small, header_there, header_law}
+use Rattle.image_laws.proofs.AifViews.{parts_length}
+use Rattle.image_laws.proofs.RowLemmas.{IsWord, all_words}
+
+-- ---- the list of offsets
+
+-- some of one offset, and others
+same_offsets : (limit n o : ℕ) (rest : List ℕ) → (0 < n → (o % 4 ≡ 0) × (128 ≤ o) × (o + 4 ≤ limit)) → Offsets limit rest → Offsets limit (replicate n o ++ rest)
+same_offsets limit zero o rest fine h = h
+same_offsets limit (suc n) o rest fine h =
+    let (whole, low, high) = fine (omega arith) in (whole, low, high, same_offsets limit n o rest (λ lt. (whole, low, high)) h)
+
+offsets_fine : (shifts : ℕ → ℕ) (limit at n : ℕ) → ((o : ℕ) → o < 128 → shifts o ≡ 0) → at % 4 ≡ 0 → at + 4 * n ≤ limit → Offsets limit (shifted_offsets shifts at n)
+offsets_fine shifts limit at zero none whole fits = tt
+offsets_fine shifts limit at (suc n) none whole fits =
+    same_offsets limit (shifts at) at (shifted_offsets shifts (at + 4) n) (λ lt. (whole, low lt (cases_lt at 128), omega (arith, fits)))
+    (offsets_fine shifts limit (at + 4) n none (omega (arith, whole)) (omega (arith, fits)))
+  where
+    low : 0 < shifts at → (at < 128) ⊎ (128 ≤ at) → 128 ≤ at
+    low some (inl h) = let zero_there = none at h in absurd (omega arith)
+    low some (inr h) = h
+
+offsets_fit : (limit : ℕ) (offsets : List ℕ) → limit < 2 ^ 32 → Offsets limit offsets → AllByRecursion IsWord offsets
+offsets_fit limit [] small h = tt
+offsets_fit limit (o ∷ offsets) small h = let high = h.2 in (omega (arith, small, high), offsets_fit limit offsets small h.3)
+
+-- ---- the file
+
+module _ (base : ℕ) (c : Contents) (items : List Item) (g : Given) (ram : Option (List Range32)) (shifts : ℕ → ℕ) (a : IsAif base true c items g ram)
+    (none : (offset : ℕ) → offset < 128 → shifts offset ≡ 0) (b : ℕ) where
+  abbrev p : Plan
+  p = aif_plan base true c
+
+  abbrev parts : ℕ
+  parts = parts_size p
+
+  abbrev offsets : List ℕ
+  offsets = offsets_of shifts p
+
+  abbrev tail : List ℕ
+  tail = relocator_list ++ (offsets ++ 0xFFFFFFFF ∷ [])
+
+  abbrev m : Bytes
+  m = shifted_file (relocatable_aif p base g shifts) b
+
+  header : IsHeader m b parts (zero_size p) (g.call - base)
+  header = header_law base true c items g ram a true (bytes_of_words tail) b
+
+  fits : Offsets parts offsets
+  fits = let whole = header.parts_whole in offsets_fine shifts parts 0 (parts / 4) none refl (omega (arith, whole))
+
+  tail_fits : AllByRecursion IsWord tail
+  tail_fits =
+      let most = header.parts_small in
+      all_append IsWord relocator_list (offsets ++ 0xFFFFFFFF ∷ []) (all_words relocator_list refl)
+      (all_append IsWord offsets (0xFFFFFFFF ∷ []) (offsets_fit parts offsets (omega (arith, most)) fits) (omega arith, tt))
+
+  tail_there : HasWords m (b + parts) tail
+  tail_there =
+      let size = parts_length base true c items g ram a true in
+      words_there m (b + parts) tail [] tail_fits (λ n lt.
+      let at : b + parts + n - b ≡ length (parts_bytes true p base g) + n = omega (arith, size) in
+      ap (slice_index (relocatable_aif p base g shifts)) at ∙ get_or-append-add (parts_bytes true p base g) (bytes_of_words tail) n 0
+      ∙ ap (λ (bytes : List ℕ). slice_index bytes n) (sym (append-nil (bytes_of_words tail))))
+
+  relocatable : IsRelocatable m b parts (zero_size p) base (g.call - base) offsets
+  relocatable =
+      let there = header_there base true c items g ram a true (bytes_of_words tail) b in
+      let code = as_code m b (header_words true p base g.call) there in
+      record {
+        header = header;
+        base_small = base_small base true c items g ram a;
+        move_call = code 1 (omega arith);
+        base_word = code 10 (omega arith);
+        move_code = as_code m (b + parts) relocator_list (front_words m (b + parts) relocator_list (offsets ++ 0xFFFFFFFF ∷ []) tail_there);
+        list_words = behind_words m (b + parts) relocator_list (offsets ++ 0xFFFFFFFF ∷ []) tail_there;
+        list_fits = fits;
+      }
+
+pub relocatable_law : RelocatableLaw
+relocatable_law = relocatable
