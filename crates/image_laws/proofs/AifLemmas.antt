@@ -21,8 +21,9 @@ use Rattle.place_model.specs.declared.scatter.Kind.TheVariants as kind
 use Rattle.place_model.specs.Faults.{first_told, rootless, overfull, judged, overlap, copy_conflict, image_bytes, too_large, aif_too_large, not_writable, as_overlap, as_conflict, place_refusal}
 use Rattle.place_model.specs.Items.{Item, is_zero_initialised}
 use Rattle.place_model.specs.Laws.{IsWholeRegion}
-use Rattle.place_model.specs.Plans.{Contents, areas_in, veneers_in, header_in, origin_of, Planned, length_of, zero_length_of, execution_size, Plan, regions_of}
-use Rattle.place_model.specs.Things.{Thing, Header, AnArea, gap, extent, start_of}
+use Rattle.place_model.specs.Plans.{Contents, RegionVeneer, areas_in, veneers_in, header_in, origin_of, Planned, length_of, zero_length_of, execution_size, Plan, regions_of}
+use Rattle.place_model.specs.Things.{Thing, Header, AnArea, AVeneer, alignment_of, size_of, gap, extent, start_of}
+use Rattle.place_model.proofs.ListLemmas.{all_indexed, all_map}
 use Rattle.place_model.proofs.PlanLemmas.{whole_law}
 use Rattle.place_model.proofs.SpanLemmas.{or_none, lt-false}
 use Rattle.image_model.specs.AifFiles.{parts_size, zero_size, call_from, header_words, with_header, parts_bytes, aif_plan}
@@ -63,6 +64,15 @@ as_code m a (w ∷ ws) h (suc i) lt = let there : a + 4 * suc i ≡ a + 4 + 4 * 
 pub behind_words : (m : Bytes) (a : ℕ) (xs ys : List ℕ) → HasWords m a (xs ++ ys) → HasWords m (a + 4 * length xs) ys
 behind_words m a [] ys h = let At : ℕ → Type 0 = λ n. HasWords m n ys in subst At (omega arith) h
 behind_words m a (x ∷ xs) ys h = let At : ℕ → Type 0 = λ n. HasWords m n ys in subst At (omega arith) (behind_words m (a + 4) xs ys h.1)
+
+-- ---- bytes of things
+
+-- what holds each thing alike gives the same bytes
+laid_same : (one other : Thing → List ℕ) (origin at : ℕ) (ts : List Thing) → AllByRecursion (λ t. one t ≡ other t) ts → laid one origin at ts ≡ laid other origin at ts
+laid_same one other origin at [] all = refl
+laid_same one other origin at (t ∷ ts) all =
+    ap (λ (bytes : List ℕ). zeros (gap origin (alignment_of t) at) ++ (bytes ++ laid one origin (start_of origin at t + size_of t) ts)) all.0
+    ∙ ap (λ (bytes : List ℕ). zeros (gap origin (alignment_of t) at) ++ (other t ++ bytes)) (laid_same one other origin (start_of origin at t + size_of t) ts all.1)
 
 -- ---- the image
 
@@ -138,7 +148,7 @@ module _ (base : ℕ) (rel : Bool) (c : Contents) (items : List Item) (g : Given
 
   -- ---- the header
 
-  abbrev words : Bool → List ℕ
+  abbrev pub words : Bool → List ℕ
   words moves = header_words moves p base g.call
 
   abbrev held : Bool → Filling
@@ -147,7 +157,7 @@ module _ (base : ℕ) (rel : Bool) (c : Contents) (items : List Item) (g : Given
   abbrev behind_header : List Thing
   behind_header = map AnArea (filter (λ i. not (is_zero_initialised i)) (areas_in c 0)) ++ (veneers_in c 0 ++ [])
 
-  abbrev later : Bool → List ℕ
+  abbrev pub later : Bool → List ℕ
   later moves = laid (held moves ro) ro.origin (start_of ro.origin base Header + 128) behind_header
 
   header_first : (moves : Bool) → region_bytes (held moves) ro ≡ bytes_of_words (words moves) ++ later moves
@@ -181,10 +191,10 @@ module _ (base : ℕ) (rel : Bool) (c : Contents) (items : List Item) (g : Given
       either_not true = omega arith
       either_not false = omega arith
 
-  abbrev others : Bool → List ℕ
+  abbrev pub others : Bool → List ℕ
   others moves = region_bytes (held moves) rw_ ++ (region_bytes (held moves) zi ++ [])
 
-  split : (moves : Bool) (behind : List ℕ) → parts_bytes moves p base g ++ behind ≡ bytes_of_words (words moves) ++ (later moves ++ (others moves ++ behind))
+  pub split : (moves : Bool) (behind : List ℕ) → parts_bytes moves p base g ++ behind ≡ bytes_of_words (words moves) ++ (later moves ++ (others moves ++ behind))
   split moves behind =
       ap (λ (xs : List ℕ). (xs ++ others moves) ++ behind) (header_first moves)
       ∙ append_assoc (bytes_of_words (words moves) ++ later moves) (others moves) behind ∙ append_assoc (bytes_of_words (words moves)) (later moves) (others moves ++ behind)
@@ -224,6 +234,24 @@ module _ (base : ℕ) (rel : Bool) (c : Contents) (items : List Item) (g : Given
             (0xE1A00000 ∷ (if moves then call_from 4 (parts_size p) else 0xE1A00000) ∷ (if zero_size p == 0 then 0xE1A00000 else call_from 8 0x40) ∷ call_from 0xC (g.call - base) ∷ 0xEF000011
             ∷ length_of ro ∷ length_of rw_ ∷ 0 ∷ zero_size p ∷ 0 ∷ base ∷ 0 ∷ 32 ∷ 0 ∷ 0 ∷ 0 ∷ []) zero_list there));
       }
+
+  -- but for the header's second word all is the same with a relocator and without
+  same_things : (r : Planned) (n : ℕ)
+      → AllByRecursion (λ t. held true r t ≡ held false r t) (map AnArea (filter (λ i. not (is_zero_initialised i)) (areas_in c n)) ++ (veneers_in c n ++ []))
+  same_things r n =
+      let own : List Item = filter (λ i. not (is_zero_initialised i)) (areas_in c n) in
+      let some : List RegionVeneer = filter (λ v. v.region == n) c.veneers in
+      let P : Thing → Type 0 = λ t. held true r t ≡ held false r t in
+      all_append P (map AnArea own) (veneers_in c n ++ []) (all_map P AnArea own (all_indexed (λ i. P (AnArea i)) own (λ i x h. refl)))
+      (all_append P (veneers_in c n) [] (all_map P (λ v. AVeneer v.target v.thumb) some (all_indexed (λ v. P (AVeneer v.target v.thumb)) some (λ i x h. refl))) tt)
+
+  pub same_later : later true ≡ later false
+  same_later = laid_same (held true ro) (held false ro) ro.origin (start_of ro.origin base Header + 128) behind_header (same_things ro 0)
+
+  pub same_others : others true ≡ others false
+  same_others =
+      ap (λ (bytes : List ℕ). bytes ++ (region_bytes (held true) zi ++ [])) (laid_same (held true rw_) (held false rw_) rw_.origin rw_.base rw_.things (same_things rw_ 1))
+      ∙ ap (λ (bytes : List ℕ). region_bytes (held false) rw_ ++ (bytes ++ [])) (laid_same (held true zi) (held false zi) zi.origin zi.base zi.things (same_things zi 2))
 
 pub header_law : HeaderLaw
 header_law base rel c items g ram a moves behind b = header base rel c items g ram a moves behind b

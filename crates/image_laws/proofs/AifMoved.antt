@@ -9,15 +9,17 @@ use Rattle.sdt_word.specs.Bytes.{bytes_of, word}
 use Rattle.sdt_word.specs.declared.ranges.Range32.{Range32}
 use Rattle.arm7_model.specs.Memory.{Bytes, store}
 use Rattle.boot_code.specs.Aif.{Offsets, HasCode, IsHeader, IsRelocatable, shifted_file}
+use Rattle.boot_code.specs.Boots.{ByteMap}
 use Rattle.boot_code.specs.Startup.{HasWords}
 use Rattle.boot_code.specs.Words.{relocator_list}
 use Rattle.byte_maps.specs.Maps.{bytes_of_words}
 use Rattle.place_model.specs.Items.{Item}
 use Rattle.place_model.specs.Plans.{Contents, Plan}
-use Rattle.image_model.specs.AifFiles.{parts_size, zero_size, header_words, shifted_offsets, offsets_of, parts_bytes, relocatable_aif, aif_plan}
+use Rattle.image_model.specs.AifFiles.{parts_size, zero_size, header_words, with_header, shifted_offsets, offsets_of, parts_bytes, relocatable_aif, aif_plan}
 use Rattle.image_model.specs.Regions.{Given}
+use Rattle.image_model.specs.Views.{IsView}
 use Rattle.image_laws.specs.AifLaws.{IsAif, RelocatableLaw}
-use Rattle.image_laws.proofs.AifLemmas.{words_there, front_words, behind_words, as_code, size_most, base_small, header_there, header_law}
+use Rattle.image_laws.proofs.AifLemmas.{words_there, front_words, behind_words, as_code, words, later, others, split, same_later, same_others, base_small, header_there, header_law}
 use Rattle.image_laws.proofs.AifViews.{parts_length}
 use Rattle.image_laws.proofs.RowLemmas.{IsWord, all_words}
 
@@ -98,3 +100,54 @@ module _ (base : ℕ) (c : Contents) (items : List Item) (g : Given) (ram : Opti
 
 pub relocatable_law : RelocatableLaw
 relocatable_law = relocatable
+
+-- ---- at its own base
+
+-- bytes of which the fifth to eighth differ
+beside : (a0 a1 a2 a3 c0 c1 c2 c3 d0 d1 d2 d3 n : ℕ) (rest behind : List ℕ) → (n < 4) ⊎ (8 ≤ n) → n < 8 + length rest
+    → slice_index (a0 ∷ a1 ∷ a2 ∷ a3 ∷ d0 ∷ d1 ∷ d2 ∷ d3 ∷ (rest ++ behind)) n ≡ slice_index (a0 ∷ a1 ∷ a2 ∷ a3 ∷ c0 ∷ c1 ∷ c2 ∷ c3 ∷ rest) n
+beside a0 a1 a2 a3 c0 c1 c2 c3 d0 d1 d2 d3 zero rest behind side lt = refl
+beside a0 a1 a2 a3 c0 c1 c2 c3 d0 d1 d2 d3 (suc zero) rest behind side lt = refl
+beside a0 a1 a2 a3 c0 c1 c2 c3 d0 d1 d2 d3 (suc (suc zero)) rest behind side lt = refl
+beside a0 a1 a2 a3 c0 c1 c2 c3 d0 d1 d2 d3 (suc (suc (suc zero))) rest behind side lt = refl
+beside a0 a1 a2 a3 c0 c1 c2 c3 d0 d1 d2 d3 (suc (suc (suc (suc zero)))) rest behind (inl side) lt = absurd (omega arith)
+beside a0 a1 a2 a3 c0 c1 c2 c3 d0 d1 d2 d3 (suc (suc (suc (suc zero)))) rest behind (inr side) lt = absurd (omega arith)
+beside a0 a1 a2 a3 c0 c1 c2 c3 d0 d1 d2 d3 (suc (suc (suc (suc (suc zero))))) rest behind (inl side) lt = absurd (omega arith)
+beside a0 a1 a2 a3 c0 c1 c2 c3 d0 d1 d2 d3 (suc (suc (suc (suc (suc zero))))) rest behind (inr side) lt = absurd (omega arith)
+beside a0 a1 a2 a3 c0 c1 c2 c3 d0 d1 d2 d3 (suc (suc (suc (suc (suc (suc zero)))))) rest behind (inl side) lt = absurd (omega arith)
+beside a0 a1 a2 a3 c0 c1 c2 c3 d0 d1 d2 d3 (suc (suc (suc (suc (suc (suc zero)))))) rest behind (inr side) lt = absurd (omega arith)
+beside a0 a1 a2 a3 c0 c1 c2 c3 d0 d1 d2 d3 (suc (suc (suc (suc (suc (suc (suc zero))))))) rest behind (inl side) lt = absurd (omega arith)
+beside a0 a1 a2 a3 c0 c1 c2 c3 d0 d1 d2 d3 (suc (suc (suc (suc (suc (suc (suc zero))))))) rest behind (inr side) lt = absurd (omega arith)
+beside a0 a1 a2 a3 c0 c1 c2 c3 d0 d1 d2 d3 (suc (suc (suc (suc (suc (suc (suc (suc n)))))))) rest behind side lt = get_or_append_left rest behind 0 n (omega arith)
+
+module _ (base : ℕ) (c : Contents) (items : List Item) (g : Given) (ram : Option (List Range32)) (shifts : ℕ → ℕ) (a : IsAif base true c items g ram)
+    (view : ByteMap) (v : IsView (aif_plan base true c) (with_header false (aif_plan base true c) base g) view) where
+  abbrev plan : Plan
+  plan = aif_plan base true c
+
+  abbrev behind : List ℕ
+  behind = bytes_of_words (relocator_list ++ (offsets_of shifts plan ++ 0xFFFFFFFF ∷ []))
+
+  abbrev own : Bytes
+  own = shifted_file (relocatable_aif plan base g shifts) base
+
+  abbrev front : Bool → List ℕ
+  front moves = bytes_of_words (words base true c items g ram a moves)
+
+  abbrev later_bytes : Bool → List ℕ
+  later_bytes moves = later base true c items g ram a moves ++ others base true c items g ram a moves
+
+  -- the bytes of the parts without a relocator
+  without : parts_bytes false plan base g ≡ front false ++ later_bytes false
+  without =
+      sym (append-nil (parts_bytes false plan base g)) ∙ split base true c items g ram a false []
+      ∙ ap (λ (bytes : List ℕ). front false ++ (later base true c items g ram a false ++ bytes)) (append-nil (others base true c items g ram a false))
+
+  with_it : relocatable_aif plan base g shifts ≡ front true ++ (later_bytes false ++ behind)
+  with_it =
+      split base true c items g ram a true behind ∙ ap (λ (bytes : List ℕ). front true ++ bytes) (sym (append_assoc (later base true c items g ram a true) (others base true c items g ram a true) behind))
+      ∙ ap (λ (bytes : List ℕ). front true ++ ((bytes ++ others base true c items g ram a true) ++ behind)) (same_later base true c items g ram a)
+      ∙ ap (λ (bytes : List ℕ). front true ++ ((later base true c items g ram a false ++ bytes) ++ behind)) (same_others base true c items g ram a)
+
+  same_beside : (n : ℕ) → (n < 4) ⊎ (8 ≤ n) → n < parts_size plan → slice_index (relocatable_aif plan base g shifts) n ≡ slice_index (parts_bytes false plan base g) n
+  same_beside n side lt = ?
