@@ -1,5 +1,5 @@
 -- An ARM image file that can be moved: its relocator and list, and what it becomes at its own base.
-use Rattle.std.proofs.Common.{◌≡◌, ◌⊎◌, inl, inr, ℕ, zero, suc, ◌+◌, ◌-◌, ◌*◌, ◌/◌, ◌%◌, ◌^◌, ◌<◌, ◌≤◌, Bool, true, false, ◌==◌, if◌then◌else◌, List, [], ◌∷◌, ◌++◌, length, length-append, append_assoc, refl, sym, ap, subst, ◌∙◌, arith, eq-eqb, Option, Some}
+use Rattle.std.proofs.Common.{◌≡◌, ◌⊎◌, inl, inr, ℕ, zero, suc, ◌+◌, ◌-◌, ◌*◌, ◌/◌, ◌%◌, ◌^◌, ◌<◌, ◌≤◌, Bool, true, false, ◌==◌, if◌then◌else◌, List, [], ◌∷◌, ◌++◌, length, length-append, append_assoc, get_or, refl, sym, ap, subst, ◌∙◌, arith, eq-eqb, Option, Some}
 use Rattle.std.specs.Prelude.{replicate, slice_index, is_some}
 use Rattle.std.specs.List.{list_all, AllByRecursion}
 use Rattle.std.proofs.lemmas.Bool.{cases_lt}
@@ -8,19 +8,21 @@ use Rattle.base_lemmas.proofs.BaseLemmas.{all_append, same}
 use Rattle.sdt_word.specs.Bytes.{bytes_of, word}
 use Rattle.sdt_word.specs.declared.ranges.Range32.{Range32}
 use Rattle.arm7_model.specs.Memory.{Bytes, store}
-use Rattle.boot_code.specs.Aif.{Offsets, HasCode, IsHeader, IsRelocatable, shifted_file}
+use Rattle.boot_code.specs.Aif.{Offsets, HasCode, IsHeader, IsRelocatable, ShowsImage, marked, moved_image, started_image, shifted_file}
 use Rattle.boot_code.specs.Boots.{ByteMap}
-use Rattle.boot_code.specs.Startup.{HasWords}
-use Rattle.boot_code.specs.Words.{relocator_list}
+use Rattle.boot_code.specs.Startup.{HasWords, zeros}
+use Rattle.boot_code.specs.Words.{zero_list, relocator_list}
+use Rattle.boot_code.proofs.ViewLemmas.{apart_store}
+use Rattle.arm7_model.proofs.MemoryLemmas.{store-in}
 use Rattle.byte_maps.specs.Maps.{bytes_of_words}
 use Rattle.place_model.specs.Items.{Item}
-use Rattle.place_model.specs.Plans.{Contents, Plan}
-use Rattle.image_model.specs.AifFiles.{parts_size, zero_size, header_words, with_header, shifted_offsets, offsets_of, parts_bytes, relocatable_aif, aif_plan}
+use Rattle.place_model.specs.Plans.{Contents, length_of, Plan}
+use Rattle.image_model.specs.AifFiles.{size_in, call_from, parts_size, zero_size, header_words, with_header, shifted_offsets, offsets_of, parts_bytes, relocatable_aif, aif_plan}
 use Rattle.image_model.specs.Regions.{Given}
 use Rattle.image_model.specs.Views.{IsView}
-use Rattle.image_laws.specs.AifLaws.{IsAif, RelocatableLaw}
+use Rattle.image_laws.specs.AifLaws.{IsAif, RelocatableLaw, OwnBaseLaw}
 use Rattle.image_laws.proofs.AifLemmas.{words_there, front_words, behind_words, as_code, words, later, others, split, same_later, same_others, base_small, header_there, header_law}
-use Rattle.image_laws.proofs.AifViews.{parts_length}
+use Rattle.image_laws.proofs.AifViews.{parts_length, started, within}
 use Rattle.image_laws.proofs.RowLemmas.{IsWord, all_words}
 
 -- ---- the list of offsets
@@ -137,6 +139,12 @@ module _ (base : ℕ) (c : Contents) (items : List Item) (g : Given) (ram : Opti
   abbrev later_bytes : Bool → List ℕ
   later_bytes moves = later base true c items g ram a moves ++ others base true c items g ram a moves
 
+  -- the words of the header from the third on
+  abbrev third_words : List ℕ
+  third_words =
+      (if zero_size plan == 0 then 0xE1A00000 else call_from 8 0x40) ∷ call_from 0xC (g.call - base) ∷ 0xEF000011 ∷ size_in length_of plan 0 ∷ size_in length_of plan 1 ∷ 0 ∷ zero_size plan
+      ∷ 0 ∷ base ∷ 0 ∷ 32 ∷ 0 ∷ 0 ∷ 0 ∷ zero_list
+
   -- the bytes of the parts without a relocator
   without : parts_bytes false plan base g ≡ front false ++ later_bytes false
   without =
@@ -150,4 +158,76 @@ module _ (base : ℕ) (c : Contents) (items : List Item) (g : Given) (ram : Opti
       ∙ ap (λ (bytes : List ℕ). front true ++ ((later base true c items g ram a false ++ bytes) ++ behind)) (same_others base true c items g ram a)
 
   same_beside : (n : ℕ) → (n < 4) ⊎ (8 ≤ n) → n < parts_size plan → slice_index (relocatable_aif plan base g shifts) n ≡ slice_index (parts_bytes false plan base g) n
-  same_beside n side lt = ?
+  same_beside n side lt =
+      let rest : List ℕ = bytes_of_words third_words ++ later_bytes false in
+      let size = parts_length base true c items g ram a false in
+      let all : length (parts_bytes false plan base g) ≡ length (front false ++ later_bytes false) = ap length without in
+      let l0 : length (front false) ≡ 128 = refl in
+      let l1 : length (bytes_of_words third_words) ≡ 120 = refl in
+      let l2 = length-append (front false) (later_bytes false) in
+      let l3 = length-append (bytes_of_words third_words) (later_bytes false) in
+      let fits : n < 8 + length rest = omega (arith, lt, size, all, l0, l1, l2, l3) in
+      let e : slice_index (front true ++ (later_bytes false ++ behind)) n ≡ slice_index (front false ++ later_bytes false) n =
+      beside _ _ _ _ _ _ _ _ _ _ _ _ n rest behind side fits in
+      ap (λ (bytes : List ℕ). slice_index bytes n) with_it ∙ e ∙ sym (ap (λ (bytes : List ℕ). slice_index bytes n) without)
+
+  word_1 : (j : ℕ) → j < 4 → slice_index (parts_bytes false plan base g) (4 + j) ≡ get_or (bytes_of 0xE1A00000 4) j 0
+  word_1 zero lt = ap (λ (bytes : List ℕ). slice_index bytes 4) without
+  word_1 (suc zero) lt = ap (λ (bytes : List ℕ). slice_index bytes 5) without
+  word_1 (suc (suc zero)) lt = ap (λ (bytes : List ℕ). slice_index bytes 6) without
+  word_1 (suc (suc (suc zero))) lt = ap (λ (bytes : List ℕ). slice_index bytes 7) without
+  word_1 (suc (suc (suc (suc j)))) lt = absurd (omega arith)
+
+  word_10 : (j : ℕ) → j < 4 → slice_index (parts_bytes false plan base g) (40 + j) ≡ get_or (bytes_of base 4) j 0
+  word_10 zero lt = ap (λ (bytes : List ℕ). slice_index bytes 40) without
+  word_10 (suc zero) lt = ap (λ (bytes : List ℕ). slice_index bytes 41) without
+  word_10 (suc (suc zero)) lt = ap (λ (bytes : List ℕ). slice_index bytes 42) without
+  word_10 (suc (suc (suc zero))) lt = ap (λ (bytes : List ℕ). slice_index bytes 43) without
+  word_10 (suc (suc (suc (suc j)))) lt = absurd (omega arith)
+
+  abbrev bytes_at : ℕ → ℕ
+  bytes_at n = slice_index (parts_bytes false plan base g) n
+
+  own_marked : (x : ℕ) → base ≤ x → x < base + parts_size plan → marked own base x ≡ bytes_at (x - base)
+  own_marked x low high = by_call (cases_lt x (base + 4)) (cases_lt x (base + 8))
+    where
+      by_base : (x < base + 4) ⊎ (base + 8 ≤ x) → (x < base + 40) ⊎ (base + 40 ≤ x) → (x < base + 44) ⊎ (base + 44 ≤ x) → store own (base + 40) (bytes_of base 4) x ≡ bytes_at (x - base)
+      by_base side (inr from) (inl to) =
+          let at : x - base ≡ 40 + (x - (base + 40)) = omega (arith, from) in
+          store-in own (base + 40) (bytes_of base 4) x from (omega (arith, to)) ∙ sym (ap bytes_at at ∙ word_10 (x - (base + 40)) (omega (arith, from, to)))
+      by_base (inl before) (inl lt) to = apart_store own (base + 40) (bytes_of base 4) x (inl lt) ∙ same_beside (x - base) (inl (omega (arith, low, before))) (omega (arith, low, high))
+      by_base (inr after) (inl lt) to = apart_store own (base + 40) (bytes_of base 4) x (inl lt) ∙ same_beside (x - base) (inr (omega (arith, after))) (omega (arith, low, high))
+      by_base (inl before) (inr from) (inr le) = absurd (omega (arith, before, from))
+      by_base (inr after) (inr from) (inr le) =
+          apart_store own (base + 40) (bytes_of base 4) x (inr (omega (arith, le))) ∙ same_beside (x - base) (inr (omega (arith, after))) (omega (arith, low, high))
+
+      apart : (x < base + 4) ⊎ (base + 8 ≤ x) → marked own base x ≡ bytes_at (x - base)
+      apart (inl before) = apart_store (store own (base + 40) (bytes_of base 4)) (base + 4) (bytes_of 0xE1A00000 4) x (inl before) ∙ by_base (inl before) (cases_lt x (base + 40)) (cases_lt x (base + 44))
+      apart (inr after) =
+          apart_store (store own (base + 40) (bytes_of base 4)) (base + 4) (bytes_of 0xE1A00000 4) x (inr (omega (arith, after))) ∙ by_base (inr after) (cases_lt x (base + 40)) (cases_lt x (base + 44))
+
+      by_call : (x < base + 4) ⊎ (base + 4 ≤ x) → (x < base + 8) ⊎ (base + 8 ≤ x) → marked own base x ≡ bytes_at (x - base)
+      by_call (inl before) side = apart (inl before)
+      by_call (inr from) (inr after) = apart (inr after)
+      by_call (inr from) (inl to) =
+          let at : x - base ≡ 4 + (x - (base + 4)) = omega (arith, from) in
+          store-in (store own (base + 40) (bytes_of base 4)) (base + 4) (bytes_of 0xE1A00000 4) x from (omega (arith, to)) ∙ sym (ap bytes_at at ∙ word_1 (x - (base + 4)) (omega (arith, from, to)))
+
+  own_started : (x : ℕ) → base ≤ x → x < base + parts_size plan + zero_size plan
+      → view x ≡ Some (started_image own base (parts_size plan) (zero_size plan) base (offsets_of shifts plan) x)
+  own_started x low high =
+      let here : (base == base) ≡ true = eq-eqb base base refl in
+      let unmoved : moved_image own base base (offsets_of shifts plan) ≡ marked own base = rw here refl in
+      started base true c items g ram a view v (marked own base) own_marked x low high
+      ∙ ap (λ (m : Bytes). Some (store m (base + parts_size plan) (zeros (zero_size plan)) x)) (sym unmoved)
+
+  own_shown : ShowsImage (relocatable_aif plan base g shifts) (parts_size plan) (zero_size plan) base (offsets_of shifts plan) base view
+  own_shown = record {
+    inside = λ x n e.
+        let (low, high) = within base true c items g ram a view v x (ap is_some e) in
+        (low, high, same (started_image own base (parts_size plan) (zero_size plan) base (offsets_of shifts plan) x) n (sym (own_started x low high) ∙ e));
+    whole = λ x low high. (started_image own base (parts_size plan) (zero_size plan) base (offsets_of shifts plan) x, own_started x low high);
+  }
+
+pub own_base_law : OwnBaseLaw
+own_base_law base c items g ram shifts view a v = own_shown base c items g ram shifts a view v
