@@ -1,30 +1,24 @@
 -- An ARM image file that can't be moved starts at its base.
-use Rattle.std.proofs.Common.{◌≡◌, ◌⊎◌, inl, inr, ℕ, ◌+◌, ◌-◌, ◌*◌, ◌%◌, ◌^◌, ◌<◌, ◌≤◌, Bool, true, false, ◌||◌, List, [], ◌∷◌, ◌++◌, length, length-append, refl, sym, ap, subst, ◌∙◌, arith, Option, Some}
+use Rattle.std.proofs.Common.{◌≡◌, ℕ, ◌+◌, ◌-◌, ◌<◌, ◌≤◌, false, List, [], ◌∷◌, ◌++◌, refl, sym, ap, subst, ◌∙◌, arith, Option, Some}
 use Rattle.std.specs.Prelude.{slice_index, is_some}
-use Rattle.std.specs.List.{list_any, AllByRecursion}
-use Rattle.std.proofs.lemmas.Bool.{cases_lt}
-use Rattle.std.proofs.lemmas.List.{append-nil, get_or_append_left}
-use Rattle.std.proofs.Math.Seq.{get_or-append_right}
-use Rattle.base_lemmas.proofs.BaseLemmas.{or_either, same}
+use Rattle.std.specs.List.{AllByRecursion}
+use Rattle.std.proofs.lemmas.List.{append-nil}
+use Rattle.base_lemmas.proofs.BaseLemmas.{same}
 use Rattle.sdt_word.specs.declared.ranges.Range32.{Range32}
 use Rattle.arm7_model.specs.Memory.{Bytes, store}
-use Rattle.arm7_model.proofs.MemoryLemmas.{store-in}
 use Rattle.boot_code.specs.Aif.{IsHeader, IsFixedLoadable, HasVeneer, shifted_file, file_at, aif_bound}
 use Rattle.boot_code.specs.Boots.{ByteMap, Boots, covers}
 use Rattle.boot_code.specs.Startup.{HasWords, zeros}
 use Rattle.boot_code.proofs.AifImage.{fixed_aif_boots, fixed_aif_veneer_boots}
-use Rattle.boot_code.proofs.ViewLemmas.{covers-true, apart_store, length-zeros, get_or-zeros}
-use Rattle.byte_maps.specs.Maps.{Holds, bytes_of_words}
+use Rattle.byte_maps.specs.Maps.{bytes_of_words}
 use Rattle.place_model.specs.Items.{Item}
-use Rattle.place_model.specs.Plans.{Contents, Planned, length_of, zero_base_of, zero_length_of, execution_size, Plan}
-use Rattle.image_model.specs.AifFiles.{parts_size, zero_size, header_words, with_header, parts_bytes, fixed_aif, aif_plan}
-use Rattle.image_model.specs.Regions.{Given, Filling, region_bytes}
-use Rattle.image_model.specs.Views.{is_executed}
-use Rattle.image_laws.specs.AifLaws.{IsAif, IsFixedImage, FixedImageLoads, HasEntryVeneer, FixedImageBoots}
+use Rattle.place_model.specs.Plans.{Contents, Plan}
+use Rattle.image_model.specs.AifFiles.{parts_size, zero_size, header_words, fixed_aif, aif_plan}
+use Rattle.image_model.specs.Regions.{Given}
+use Rattle.image_laws.specs.AifLaws.{IsFixedImage, FixedImageLoads, HasEntryVeneer, FixedImageBoots}
 use Rattle.image_laws.proofs.AifLemmas.{words_there, as_code, base_whole, header_there, header_law}
 use Rattle.image_laws.proofs.AifViews.{parts_length, ends, in_parts, started, within}
 use Rattle.image_laws.proofs.RowLemmas.{IsWord}
-use Rattle.image_laws.proofs.ViewLemmas.{bytes_size, held_at}
 
 module _ (base : ℕ) (c : Contents) (items : List Item) (g : Given) (ram : Option (List Range32)) (view : ByteMap) (f : IsFixedImage base c items g ram view) where
   abbrev p : Plan

@@ -1,7 +1,7 @@
 -- The header of an ARM image file, and what its file has.
-use Rattle.std.proofs.Common.{◌≡◌, ◌⊎◌, inl, inr, ℕ, zero, suc, ◌+◌, ◌-◌, ◌*◌, ◌/◌, ◌%◌, ◌^◌, ◌<◌, ◌≤◌, Bool, true, false, not, ◌==◌, if◌then◌else◌, List, [], ◌∷◌, ◌++◌, length, length-append, append_assoc, map, get_or, refl, sym, ap, subst, ◌∙◌, arith, Option, Some, None}
-use Rattle.std.specs.Prelude.{slice_index, nat_lt, sum_by}
-use Rattle.std.specs.List.{filter, flat_map, AllByRecursion}
+use Rattle.std.proofs.Common.{◌≡◌, ℕ, zero, suc, ◌+◌, ◌-◌, ◌*◌, ◌%◌, ◌^◌, ◌<◌, ◌≤◌, Bool, true, false, not, ◌==◌, if◌then◌else◌, List, [], ◌∷◌, ◌++◌, length, append_assoc, map, get_or, refl, ap, subst, ◌∙◌, arith, Option, Some, None}
+use Rattle.std.specs.Prelude.{slice_index, nat_lt}
+use Rattle.std.specs.List.{filter, AllByRecursion}
 use Rattle.std.specs.Option.{option_map, option_or}
 use Rattle.std.proofs.lemmas.List.Sums.{sum_by-cons}
 use Rattle.base_lemmas.proofs.BaseLemmas.{all_append}
@@ -18,10 +18,10 @@ use Rattle.boot_code.specs.Words.{zero_code, zero_list}
 use Rattle.byte_maps.specs.Maps.{bytes_of_words}
 use Rattle.place_model.specs.declared.scatter.Kind.{Kind}
 use Rattle.place_model.specs.declared.scatter.Kind.TheVariants as kind
-use Rattle.place_model.specs.Faults.{first_told, rootless, overfull, judged, overlap, copy_conflict, image_bytes, too_large, aif_too_large, not_writable, as_overlap, as_conflict, place_refusal}
+use Rattle.place_model.specs.Faults.{first_told, rootless, overfull, judged, overlap, copy_conflict, image_bytes, too_large, aif_too_large, not_writable, as_overlap, as_conflict}
 use Rattle.place_model.specs.Items.{Item, is_zero_initialised}
 use Rattle.place_model.specs.Laws.{IsWholeRegion}
-use Rattle.place_model.specs.Plans.{Contents, RegionVeneer, areas_in, veneers_in, header_in, origin_of, Planned, length_of, zero_length_of, execution_size, Plan, regions_of}
+use Rattle.place_model.specs.Plans.{Contents, RegionVeneer, areas_in, veneers_in, Planned, length_of, zero_length_of, execution_size, Plan, regions_of}
 use Rattle.place_model.specs.Things.{Thing, Header, AnArea, AVeneer, alignment_of, size_of, gap, extent, start_of}
 use Rattle.place_model.proofs.ListLemmas.{all_indexed, all_map}
 use Rattle.place_model.proofs.PlanLemmas.{whole_law}
@@ -32,7 +32,6 @@ use Rattle.image_laws.specs.AifLaws.{IsAif, HeaderLaw}
 use Rattle.image_laws.proofs.FileLemmas.{rooms}
 use Rattle.image_laws.proofs.PlainLemmas.{r0, r1, r2, zero_0, zero_1, third_empty}
 use Rattle.image_laws.proofs.RowLemmas.{IsWord, all_words}
-use Rattle.image_laws.proofs.ViewLemmas.{bytes_size}
 
 -- ---- words in memory
 
@@ -178,9 +177,31 @@ module _ (base : ℕ) (rel : Bool) (c : Contents) (items : List Item) (g : Given
       all_append IsWord
       (0xE1A00000 ∷ (if moves then call_from 4 (parts_size p) else 0xE1A00000) ∷ (if zero_size p == 0 then 0xE1A00000 else call_from 8 0x40) ∷ call_from 0xC (g.call - base) ∷ 0xEF000011
       ∷ length_of ro ∷ length_of rw_ ∷ 0 ∷ zero_size p ∷ 0 ∷ base ∷ 0 ∷ 32 ∷ 0 ∷ 0 ∷ 0 ∷ [])
-      zero_list
-      (omega arith, (either moves (call_from 4 (parts_size p)) (omega arith), (either_not (zero_size p == 0), (omega arith, (omega arith, (omega arith, (omega arith, (omega arith,
-      (omega arith, (omega arith, (omega arith, (omega arith, (omega arith, (omega arith, (omega arith, (omega arith, tt))))))))))))))))
+      zero_list (
+        omega arith,
+        (
+          either moves (call_from 4 (parts_size p)) (omega arith),
+          (
+            either_not (zero_size p == 0),
+            (
+              omega arith,
+              (
+                omega arith,
+                (
+                  omega arith,
+                  (
+                    omega arith,
+                    (
+                      omega arith,
+                      (omega arith, (omega arith, (omega arith, (omega arith, (omega arith, (omega arith, (omega arith, (omega arith, tt)))))))),
+                    ),
+                  ),
+                ),
+              ),
+            ),
+          ),
+        ),
+      )
       (all_words zero_list refl)
     where
       either : (b : Bool) (n : ℕ) → n < 2 ^ 32 → (if b then n else 0xE1A00000) < 2 ^ 32

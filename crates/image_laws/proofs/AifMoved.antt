@@ -1,14 +1,14 @@
 -- An ARM image file that can be moved: its relocator and list, and what it becomes at its own base.
-use Rattle.std.proofs.Common.{◌≡◌, ◌⊎◌, inl, inr, ℕ, zero, suc, ◌+◌, ◌-◌, ◌*◌, ◌/◌, ◌%◌, ◌^◌, ◌<◌, ◌≤◌, Bool, true, false, ◌==◌, if◌then◌else◌, List, [], ◌∷◌, ◌++◌, length, length-append, append_assoc, get_or, refl, sym, ap, subst, ◌∙◌, arith, eq-eqb, Option, Some}
+use Rattle.std.proofs.Common.{◌≡◌, ◌⊎◌, inl, inr, ℕ, zero, suc, ◌+◌, ◌-◌, ◌*◌, ◌/◌, ◌%◌, ◌^◌, ◌<◌, ◌≤◌, Bool, true, false, ◌==◌, if◌then◌else◌, List, [], ◌∷◌, ◌++◌, length, length-append, append_assoc, get_or, refl, sym, ap, ◌∙◌, arith, eq-eqb, Option, Some}
 use Rattle.std.specs.Prelude.{replicate, slice_index, is_some}
-use Rattle.std.specs.List.{list_all, AllByRecursion}
+use Rattle.std.specs.List.{AllByRecursion}
 use Rattle.std.proofs.lemmas.Bool.{cases_lt}
 use Rattle.std.proofs.lemmas.List.{append-nil, get_or_append_left, get_or-append-add}
 use Rattle.base_lemmas.proofs.BaseLemmas.{all_append, same}
-use Rattle.sdt_word.specs.Bytes.{bytes_of, word}
+use Rattle.sdt_word.specs.Bytes.{bytes_of}
 use Rattle.sdt_word.specs.declared.ranges.Range32.{Range32}
 use Rattle.arm7_model.specs.Memory.{Bytes, store}
-use Rattle.boot_code.specs.Aif.{Offsets, HasCode, IsHeader, IsRelocatable, ShowsImage, marked, moved_image, started_image, shifted_file}
+use Rattle.boot_code.specs.Aif.{Offsets, IsHeader, IsRelocatable, ShowsImage, marked, moved_image, started_image, shifted_file}
 use Rattle.boot_code.specs.Boots.{ByteMap}
 use Rattle.boot_code.specs.Startup.{HasWords, zeros}
 use Rattle.boot_code.specs.Words.{zero_list, relocator_list}

@@ -18,7 +18,7 @@ use Rattle.place_model.specs.declared.scatter.Scatter.{Scatter}
 use Rattle.place_model.specs.Things.{Startup, size_of, gap, extent}
 use Rattle.place_model.specs.Plans.{Contents, Planned, length_of, zero_base_of, zero_length_of, execution_size, load_size, Plan, regions_of, is_root, is_copied, copies_of, parts_of, table_words}
 use Rattle.place_model.specs.Faults.{first_told, rootless, judged, judged_load, judged_region, overfull, shared, standing, load_meeting, execution_span, execution_meeting, copy_move, source_span, target_span, overlap, copy_conflict, image_bytes, too_large, aif_too_large, not_writable, as_overlap, as_conflict, place_refusal}
-use Rattle.place_model.proofs.ListLemmas.{all_at, all_indexed, all_of_map, all_of_flat, all_flat, all_below_sum, none_given, Pairs, pairs_map}
+use Rattle.place_model.proofs.ListLemmas.{all_at, all_indexed, all_of_flat, all_below_sum, none_given, Pairs, pairs_map}
 use Rattle.place_model.proofs.GapLemmas.{extent-append}
 use Rattle.place_model.proofs.SpanLemmas.{or_none, map_none, meeting_none, in_memory, lt-false}
 use Rattle.place_model.specs.Laws.{IsWholeRegion}

@@ -1,13 +1,13 @@
 -- Images without a scatter description: all regions run where they are loaded, and the first two have no zero part.
-use Rattle.std.proofs.Common.{◌≡◌, ◌⊎◌, inl, inr, ℕ, zero, suc, ◌+◌, ◌-◌, ◌<◌, ◌≤◌, Bool, true, false, cond, not, ◌&&◌, ◌==◌, if◌then◌else◌, List, [], ◌∷◌, length, map, refl, sym, ap, subst, ◌∙◌, arith, eq-eqb, eqb-true, Option, Some, None}
-use Rattle.std.specs.Prelude.{codes, slice_get, slice_index, is_some, nat_lt, sum_by, unwrap_or}
+use Rattle.std.proofs.Common.{◌≡◌, ◌⊎◌, inl, inr, ℕ, zero, suc, ◌+◌, ◌<◌, ◌≤◌, Bool, true, false, cond, not, ◌&&◌, ◌==◌, if◌then◌else◌, List, [], ◌∷◌, length, map, refl, sym, ap, subst, ◌∙◌, arith, eq-eqb, eqb-true, Option, Some, None}
+use Rattle.std.specs.Prelude.{codes, slice_get, is_some, unwrap_or}
 use Rattle.std.specs.List.{filter, filter_map, list_any, AllByRecursion}
 use Rattle.std.proofs.lemmas.List.Sums.{sum_by-cons}
 use Rattle.base_lemmas.proofs.BaseLemmas.{both_true, neither, same}
 use Rattle.boot_code.specs.declared.rows.CopyRow.{CopyRow}
-use Rattle.boot_code.specs.Boots.{ByteMap, covers, moved, zeroed}
-use Rattle.boot_code.proofs.ViewLemmas.{covers-true, covers-false, covers-off}
-use Rattle.byte_maps.specs.Maps.{Segment, has, map_of}
+use Rattle.boot_code.specs.Boots.{covers, moved, zeroed}
+use Rattle.boot_code.proofs.ViewLemmas.{covers-false, covers-off}
+use Rattle.byte_maps.specs.Maps.{Segment, map_of}
 use Rattle.place_model.specs.declared.scatter.Choice.TheVariants as choice
 use Rattle.place_model.specs.declared.scatter.ScatterBase.TheVariants.{At, Plus}
 use Rattle.place_model.specs.declared.scatter.Kind.{Kind}
@@ -16,11 +16,10 @@ use Rattle.place_model.specs.Assignment.{class_region, plain_regions, plain_load
 use Rattle.place_model.specs.Items.{Item, is_zero_initialised, is_read_only}
 use Rattle.place_model.specs.Laws.{OfFound}
 use Rattle.place_model.specs.Things.{AnArea, extent}
-use Rattle.place_model.specs.Plans.{Contents, areas_in, Planned, length_of, zero_base_of, zero_length_of, execution_size, end_of, planned, planned_from, load_size, Plan, loads_from, regions_of, is_root, is_copied, is_cleared, zero_row, copies_of, parts_of, plan_of}
+use Rattle.place_model.specs.Plans.{Contents, areas_in, Planned, length_of, zero_base_of, zero_length_of, execution_size, end_of, planned, load_size, Plan, loads_from, regions_of, is_root, is_copied, is_cleared, zero_row, copies_of, parts_of, plan_of}
 use Rattle.place_model.proofs.AssignmentLemmas.{assignment_law}
 use Rattle.place_model.proofs.ListLemmas.{all_filter_map, all_map}
-use Rattle.image_model.specs.Regions.{Filling}
-use Rattle.image_model.specs.Views.{is_executed, IsView, IsLoadView}
+use Rattle.image_model.specs.Views.{is_executed}
 use Rattle.image_laws.specs.Laws.{PlainLaw}
 use Rattle.image_laws.proofs.FileLemmas.{moved_view}
 use Rattle.image_laws.proofs.RowLemmas.{zeroed-beside}

@@ -36,7 +36,6 @@ pub record ViewLaw : Type 0 where
   -- where nothing is refused there are files
   pub files : (k : Kind) (c : Contents) (ram : Option (List Range32)) (held : Filling) → place_refusal k ram (plan_of k c) ≡ None → AreSized held (plan_of k c)
       → IsLoadView (plan_of k c) (view_of (plan_of k c) held) (files_of (plan_of k c) held)
-
   -- the files, with copied regions moved to where they run and zero parts set to zero, are the view
   pub moved : (p : Plan) (held : Filling) (view : ByteMap) (files : List Segment) → IsView p held view → IsLoadView p view files
       → (x b : ℕ) → view x ≡ Some b → zeroed (Some 0) (moved (map_of files) (copies_of p)) (parts_of p) x ≡ Some b
