@@ -171,38 +171,21 @@ module _ (base : ℕ) (rel : Bool) (c : Contents) (items : List Item) (g : Given
   pub base_small : base < 2 ^ 32
   base_small = let low = header_low in let end = room.0 in omega (arith, low, end)
 
+  abbrev sizes : List ℕ
+  sizes = length_of ro ∷ length_of rw_ ∷ 0 ∷ zero_size p ∷ 0 ∷ base ∷ []
+
+  sizes_fit : AllByRecursion IsWord (sizes ++ (0 ∷ 32 ∷ 0 ∷ 0 ∷ 0 ∷ zero_list))
+  sizes_fit =
+      let most = size_most in let room = base_small in
+      all_append IsWord sizes (0 ∷ 32 ∷ 0 ∷ 0 ∷ 0 ∷ zero_list) (omega arith, (omega arith, (omega arith, (omega arith, (omega arith, (omega arith, tt))))))
+      (all_words (0 ∷ 32 ∷ 0 ∷ 0 ∷ 0 ∷ zero_list) refl)
+
   words_fit : (moves : Bool) → AllByRecursion IsWord (words moves)
   words_fit moves =
-      let most = size_most in let low = a.call_low in let high = a.call_high in let room = base_small in
-      all_append IsWord
-      (0xE1A00000 ∷ (if moves then call_from 4 (parts_size p) else 0xE1A00000) ∷ (if zero_size p == 0 then 0xE1A00000 else call_from 8 0x40) ∷ call_from 0xC (g.call - base) ∷ 0xEF000011
-      ∷ length_of ro ∷ length_of rw_ ∷ 0 ∷ zero_size p ∷ 0 ∷ base ∷ 0 ∷ 32 ∷ 0 ∷ 0 ∷ 0 ∷ [])
-      zero_list (
+      let most = size_most in let low = a.call_low in let high = a.call_high in let room = base_small in (
         omega arith,
-        (
-          either moves (call_from 4 (parts_size p)) (omega arith),
-          (
-            either_not (zero_size p == 0),
-            (
-              omega arith,
-              (
-                omega arith,
-                (
-                  omega arith,
-                  (
-                    omega arith,
-                    (
-                      omega arith,
-                      (omega arith, (omega arith, (omega arith, (omega arith, (omega arith, (omega arith, (omega arith, (omega arith, tt)))))))),
-                    ),
-                  ),
-                ),
-              ),
-            ),
-          ),
-        ),
+        (either moves (call_from 4 (parts_size p)) (omega arith), (either_not (zero_size p == 0), (omega arith, (omega arith, sizes_fit)))),
       )
-      (all_words zero_list refl)
     where
       either : (b : Bool) (n : ℕ) → n < 2 ^ 32 → (if b then n else 0xE1A00000) < 2 ^ 32
       either true n h = h
