@@ -1,10 +1,10 @@
 -- The files of a plan without a refusal.
-use Rattle.std.proofs.Common.{◌≡◌, ℕ, suc, ◌+◌, ◌<◌, ◌≤◌, List, [], ◌∷◌, length, length-append, map, refl, sym, ap, subst, ◌∙◌, arith, Option, Some, None}
+use Rattle.std.proofs.Common.{◌≡◌, ℕ, suc, ◌+◌, ◌^◌, ◌<◌, ◌≤◌, List, [], ◌∷◌, ◌++◌, length, length-append, map, refl, sym, ap, subst, ◌∙◌, arith, Option, Some, None}
 use Rattle.std.specs.Prelude.{sum_by}
 use Rattle.std.specs.List.{flat_map, AllByRecursion}
 use Rattle.std.specs.Option.{option_map, option_or}
 use Rattle.std.proofs.lemmas.List.Sums.{sum_by-cons}
-use Rattle.base_lemmas.proofs.BaseLemmas.{all_append, all_weaker}
+use Rattle.base_lemmas.proofs.BaseLemmas.{all_append, all_back, all_weaker}
 use Rattle.sdt_word.specs.declared.ranges.Range32.{Range32}
 use Rattle.boot_code.specs.Boots.{ByteMap, moved, zeroed}
 use Rattle.boot_code.specs.Startup.{zeros}
@@ -16,11 +16,11 @@ use Rattle.place_model.specs.declared.scatter.ScatterLoad.{ScatterLoad}
 use Rattle.place_model.specs.declared.scatter.ScatterRegion.{ScatterRegion}
 use Rattle.place_model.specs.Things.{size_of}
 use Rattle.place_model.specs.Assignment.{description}
-use Rattle.place_model.specs.Plans.{Contents, Planned, length_of, zero_base_of, zero_length_of, end_of, zero_row, copies_of, parts_of, planned, planned_from, PlannedLoad, load_size, loads_from, Plan, regions_of, table_words, plan_of}
-use Rattle.place_model.specs.Faults.{first_told, rootless, judged, overfull, shared, standing, load_span, load_meeting, execution_meeting, overlap, copy_conflict, too_large, aif_too_large, not_writable, as_overlap, as_conflict, place_refusal}
+use Rattle.place_model.specs.Plans.{Contents, Planned, length_of, zero_base_of, zero_length_of, execution_size, end_of, zero_row, copies_of, parts_of, planned, planned_from, PlannedLoad, load_size, loads_from, Plan, regions_of, table_words, plan_of}
+use Rattle.place_model.specs.Faults.{first_told, rootless, judged, overfull, judged_load, judged_region, shared, standing, load_span, load_meeting, execution_meeting, overlap, copy_conflict, too_large, aif_too_large, not_writable, as_overlap, as_conflict, place_refusal}
 use Rattle.place_model.specs.Laws.{IsLeastShared}
-use Rattle.place_model.proofs.ListLemmas.{all_at, all_indexed, all_of_flat, Pairs, pairs_map}
-use Rattle.place_model.proofs.SpanLemmas.{shared_law, or_none, map_none, meeting_none}
+use Rattle.place_model.proofs.ListLemmas.{all_at, all_indexed, all_of_map, all_of_flat, all_flat, none_given, Pairs, pairs_map}
+use Rattle.place_model.proofs.SpanLemmas.{shared_law, or_none, map_none, meeting_none, in_memory}
 use Rattle.image_model.specs.Regions.{Filling, region_bytes, AreSized}
 use Rattle.image_model.specs.Views.{IsView, IsLoadView, view_of, file_of, files_of}
 use Rattle.image_laws.specs.Laws.{ViewLaw}
@@ -40,6 +40,20 @@ overlap_none k ram p h =
     let h1 = (or_none (rootless (regions_of p)) tail1 h).1 in
     let h2 = (or_none (first_told overfull (judged k p)) tail2 h1).1 in
     map_none as_overlap (overlap p) (or_none (option_map as_overlap (overlap p)) tail3 h2).0
+
+-- ---- each region ends in memory
+
+pub rooms : (k : Kind) (ram : Option (List Range32)) (p : Plan) → place_refusal k ram p ≡ None → AllByRecursion (λ r. r.base + execution_size r ≤ 2 ^ 32) (regions_of p)
+rooms k ram p h =
+    let tail3 = option_or (option_map as_conflict (copy_conflict p)) (option_or (too_large p) (option_or (aif_too_large k p) (not_writable ram p))) in
+    let tail2 = option_or (option_map as_overlap (overlap p)) tail3 in
+    let tail1 = option_or (first_told overfull (judged k p)) tail2 in
+    let full = (or_none (first_told overfull (judged k p)) tail2 (or_none (rootless (regions_of p)) tail1 h).1).0 in
+    let fine = all_of_flat (λ j. overfull j ≡ None) (λ l. judged_load k l ++ map judged_region l.regions) p (none_given overfull (judged k p) full) in
+    all_flat (λ r. r.base + execution_size r ≤ 2 ^ 32) (λ l. l.regions) p
+    (all_weaker (λ l. AllByRecursion (λ j. overfull j ≡ None) (judged_load k l ++ map judged_region l.regions)) (λ l. AllByRecursion (λ r. r.base + execution_size r ≤ 2 ^ 32) l.regions)
+    (λ l all. all_weaker (λ r. overfull (judged_region r) ≡ None) (λ r. r.base + execution_size r ≤ 2 ^ 32) (λ r none. in_memory (judged_region r) none) l.regions
+    (all_of_map (λ j. overfull j ≡ None) judged_region l.regions (all_back (λ j. overfull j ≡ None) (judged_load k l) (map judged_region l.regions) all))) p fine)
 
 -- ---- lengths
 
@@ -124,7 +138,7 @@ is_load_view k c ram held none all =
           ∙ sym (all_at (λ q. Holds (view_of p held) q.base (region_bytes held q)) (regions_of p) i r view.loaded at n (omega (arith, lt, size))));
     }
 
-moved_view : (p : Plan) (held : Filling) (view : ByteMap) (files : List Segment) → IsView p held view → IsLoadView p view files
+pub moved_view : (p : Plan) (held : Filling) (view : ByteMap) (files : List Segment) → IsView p held view → IsLoadView p view files
     → (x b : ℕ) → view x ≡ Some b → zeroed (Some 0) (moved (map_of files) (copies_of p)) (parts_of p) x ≡ Some b
 moved_view p held view files v f =
     moved_shows (regions_of p) (map_of files) view f.shows

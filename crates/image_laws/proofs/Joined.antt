@@ -1,25 +1,22 @@
 -- Regions that are sound, that keep apart and of which the first holds the startup code give the startup code's
 -- premises.
-use Rattle.std.proofs.Common.{◌≡◌, ◌≢◌, ℕ, zero, suc, ◌+◌, ◌-◌, ◌*◌, ◌%◌, ◌^◌, ◌<◌, ◌≤◌, ◌⊎◌, inl, inr, Bool, true, false, cond, not, ◌&&◌, List, [], ◌∷◌, ◌++◌, length, length-append, map, refl, sym, ap, subst, ◌∙◌, arith, eqb-true, Some, None}
+use Rattle.std.proofs.Common.{◌≡◌, ◌≢◌, ℕ, zero, suc, ◌+◌, ◌-◌, ◌*◌, ◌%◌, ◌^◌, ◌<◌, ◌≤◌, inl, inr, Bool, true, false, cond, not, List, [], ◌∷◌, ◌++◌, length, length-append, map, refl, sym, ap, subst, ◌∙◌, arith, eqb-true, Some, None}
 use Rattle.std.specs.Prelude.{slice_get, is_some, nat_lt}
 use Rattle.std.specs.List.{filter, list_any, AllByRecursion}
-use Rattle.std.proofs.lemmas.Bool.{cases_lt}
 use Rattle.sdt_word.specs.Bytes.{bytes_of}
 use Rattle.sdt_word.proofs.BytesLemmas.{length-bytes_of}
 use Rattle.base_lemmas.proofs.BaseLemmas.{all_weaker, both_true, or_true, true_or, same}
-use Rattle.boot_code.specs.declared.rows.CopyRow.{CopyRow}
-use Rattle.boot_code.specs.declared.rows.ZeroRow.{ZeroRow}
 use Rattle.boot_code.specs.Startup.{table_list}
 use Rattle.boot_code.specs.Words.{boot_list}
 use Rattle.boot_code.specs.Boots.{ByteMap, AllCopies, AllParts, AreApart, CopyPlaced, ZeroPlaced, OffLater, InOrder, Places, HoldsWords, covers, moved, zeroed}
 use Rattle.boot_code.specs.Laws.{written_by}
-use Rattle.boot_code.proofs.ViewLemmas.{covers-true, covers-inside}
+use Rattle.boot_code.proofs.ViewLemmas.{covers-inside}
 use Rattle.byte_maps.specs.Maps.{Holds, bytes_of_words}
 use Rattle.byte_maps.proofs.MapLemmas.{words}
 use Rattle.place_model.specs.Plans.{Planned, length_of, zero_base_of, zero_length_of, execution_size, is_root, is_copied, is_cleared, copy_row, zero_row}
 use Rattle.place_model.specs.Faults.{shared, execution_span, source_span, target_span}
 use Rattle.place_model.specs.Laws.{IsWholeRegion}
-use Rattle.place_model.proofs.ListLemmas.{all_at, all_indexed, any_found, Pairs, pairs_at, pairs_filter}
+use Rattle.place_model.proofs.ListLemmas.{all_at, all_indexed, Pairs, pairs_at, pairs_filter}
 use Rattle.place_model.proofs.SpanLemmas.{apart, lt-true}
 use Rattle.image_model.specs.Views.{is_executed}
 use Rattle.image_laws.proofs.MovedLemmas.{copies_in, parts_in, copies_all, parts_all, any_copied, any_cleared, moved_shows}

@@ -3,6 +3,11 @@ pub mod MovedLemmas
 pub mod RegionLemmas
 pub mod ViewLemmas
 pub mod FileLemmas
+pub mod PlainLemmas
+pub mod AifLemmas
+pub mod AifViews
+pub mod AifFixed
+pub mod AifMoved
 pub mod Joined
 pub mod Placed
 pub mod Rows

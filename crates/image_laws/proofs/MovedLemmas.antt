@@ -117,4 +117,3 @@ module _ (rs : List Planned) (files view : ByteMap) (brings : AllByRecursion (λ
           → zeroed (Some 0) (moved files (copies_in rs)) (parts_in rs) x ≡ Some b
       by_part true e i r at inside = zeroed-inside view (moved files (copies_in rs)) (parts_in rs) x b zeros_all shown e
       by_part false e i r at inside = zeroed-beside (moved files (copies_in rs)) (parts_in rs) x e ∙ by_copy (list_any (λ c. covers c.target c.size x) (copies_in rs)) refl e i r at inside
-

@@ -18,7 +18,7 @@ use Rattle.place_model.specs.declared.scatter.Scatter.{Scatter}
 use Rattle.place_model.specs.Things.{Startup, size_of, gap, extent}
 use Rattle.place_model.specs.Plans.{Contents, Planned, length_of, zero_base_of, zero_length_of, execution_size, load_size, Plan, regions_of, is_root, is_copied, copies_of, parts_of, table_words}
 use Rattle.place_model.specs.Faults.{first_told, rootless, judged, judged_load, judged_region, overfull, shared, standing, load_meeting, execution_span, execution_meeting, copy_move, source_span, target_span, overlap, copy_conflict, image_bytes, too_large, aif_too_large, not_writable, as_overlap, as_conflict, place_refusal}
-use Rattle.place_model.proofs.ListLemmas.{all_at, all_indexed, all_of_map, all_of_flat, all_flat, all_below_sum, none_given, Pairs, pairs_map}
+use Rattle.place_model.proofs.ListLemmas.{all_at, all_indexed, all_of_flat, all_below_sum, none_given, Pairs, pairs_map}
 use Rattle.place_model.proofs.GapLemmas.{extent-append}
 use Rattle.place_model.proofs.SpanLemmas.{or_none, map_none, meeting_none, in_memory, lt-false}
 use Rattle.place_model.specs.Laws.{IsWholeRegion}
@@ -26,6 +26,7 @@ use Rattle.place_model.proofs.PlanLemmas.{table_law, whole_law, loads_loaded}
 use Rattle.image_model.specs.Regions.{Given, Filling, laid, region_bytes, filled}
 use Rattle.image_laws.specs.Laws.{scatter_plan, IsImage, ImagePlaces, ImageBoots}
 use Rattle.image_laws.proofs.RegionLemmas.{Sizes, length-laid, laid-append, Begins, begins, startup_stands}
+use Rattle.image_laws.proofs.FileLemmas.{rooms}
 use Rattle.image_laws.proofs.MovedLemmas.{copies_in, parts_in}
 use Rattle.image_laws.proofs.Joined.{Sound, AreJoined, joined_places}
 
@@ -57,9 +58,7 @@ accepted_facts s ram p h =
     record {
       rooted = root;
       loads = all_weaker _ (λ l. l.base + load_size l ≤ 2 ^ 32) (λ l all. in_memory (record { name = l.name; base = l.base; size = load_size l; maximum = l.maximum }) all.0) p fine;
-      rooms = all_flat (λ r. r.base + execution_size r ≤ 2 ^ 32) (λ l. l.regions) p
-          (all_weaker _ (λ l. AllByRecursion (λ r. r.base + execution_size r ≤ 2 ^ 32) l.regions)
-          (λ l all. all_weaker (λ r. overfull (judged_region r) ≡ None) (λ r. r.base + execution_size r ≤ 2 ^ 32) (λ r none. in_memory (judged_region r) none) l.regions (all_of_map (λ j. overfull j ≡ None) judged_region l.regions all.1)) p fine);
+      rooms = rooms (kind.Scatter s) ram p h;
       apart = pairs_map (λ m n. shared m.written n.read ≡ None) (λ r. standing (execution_span r)) (regions_of p) (meeting_none (map (λ r. standing (execution_span r)) (regions_of p)) of_regions);
       conflicts = pairs_map (λ m n. shared m.written n.read ≡ None) copy_move (filter is_copied (regions_of p)) (meeting_none (map copy_move (filter is_copied (regions_of p))) (map_none as_conflict (copy_conflict p) conflict));
       small = all_below_sum execution_size (regions_of p) (2 ^ 26) (go (nat_lt (2 ^ 26) (image_bytes p)) refl large);

@@ -114,7 +114,7 @@ zero_words-fit (r ∷ rows) all = go (r.size == 0) (zero_words-fit rows all.1)
     go true h = h
     go false h = let f = all.0 in (f.base, (f.size, h))
 
-all_words : (ws : List ℕ) → list_all (λ w. nat_lt w (2 ^ 32)) ws ≡ true → AllByRecursion IsWord ws
+pub all_words : (ws : List ℕ) → list_all (λ w. nat_lt w (2 ^ 32)) ws ≡ true → AllByRecursion IsWord ws
 all_words [] h = tt
 all_words (w ∷ ws) h = let (first, rest) = both_true (nat_lt w (2 ^ 32)) (list_all (λ v. nat_lt v (2 ^ 32)) ws) h in (lt-true w (2 ^ 32) first, all_words ws rest)
 

@@ -139,7 +139,7 @@ is_none : (o : Option ℕ) → is_some o ≡ false → o ≡ None
 is_none None h = refl
 is_none (Some b) h = absurd cc
 
-held_at : (m : ByteMap) (a : ℕ) (bytes : List ℕ) (x : ℕ) → Holds m a bytes → a ≤ x → x < a + length bytes → m x ≡ Some (slice_index bytes (x - a))
+pub held_at : (m : ByteMap) (a : ℕ) (bytes : List ℕ) (x : ℕ) → Holds m a bytes → a ≤ x → x < a + length bytes → m x ≡ Some (slice_index bytes (x - a))
 held_at m a bytes x h low high = let here : x ≡ a + (x - a) = omega arith in ap m here ∙ h (x - a) (omega arith)
 
 pub one_view : (p : Plan) (held : Filling) (view other : ByteMap) → AreSized held p → IsView p held view → IsView p held other → (x : ℕ) → view x ≡ other x

@@ -8,6 +8,8 @@ use Rattle.byte_maps.specs.Maps.{Segment, map_of, Holds}
 use Rattle.place_model.specs.declared.scatter.Kind.{Kind}
 use Rattle.place_model.specs.declared.scatter.Kind.TheVariants as kind
 use Rattle.place_model.specs.declared.scatter.Scatter.{Scatter}
+use Rattle.place_model.specs.Assignment.{AreAssigned}
+use Rattle.place_model.specs.Items.{Item}
 use Rattle.place_model.specs.Things.{Stood, size_of, stood}
 use Rattle.place_model.specs.Plans.{Contents, end_of, Plan, regions_of, copies_of, parts_of, plan_of, boot_address}
 use Rattle.place_model.specs.Faults.{execution_meeting, place_refusal}
@@ -34,10 +36,18 @@ pub record ViewLaw : Type 0 where
   -- where nothing is refused there are files
   pub files : (k : Kind) (c : Contents) (ram : Option (List Range32)) (held : Filling) → place_refusal k ram (plan_of k c) ≡ None → AreSized held (plan_of k c)
       → IsLoadView (plan_of k c) (view_of (plan_of k c) held) (files_of (plan_of k c) held)
-
   -- the files, with copied regions moved to where they run and zero parts set to zero, are the view
   pub moved : (p : Plan) (held : Filling) (view : ByteMap) (files : List Segment) → IsView p held view → IsLoadView p view files
       → (x b : ℕ) → view x ≡ Some b → zeroed (Some 0) (moved (map_of files) (copies_of p)) (parts_of p) x ≡ Some b
+
+-- ---- an image without a scatter description
+
+-- its files, with zero parts set to zero, are the view
+abbrev pub PlainLaw : Type 0
+PlainLaw =
+    (base : ℕ) (c : Contents) (items : List Item) (held : Filling) (view : ByteMap) (files : List Segment)
+    → AreAssigned (kind.Plain base) items c.areas → IsView (plan_of (kind.Plain base) c) held view → IsLoadView (plan_of (kind.Plain base) c) view files
+    → (x : ℕ) → zeroed (Some 0) (map_of files) (parts_of (plan_of (kind.Plain base) c)) x ≡ view x
 
 -- ---- a scatter image
 

@@ -3,4 +3,4 @@
 
 mod laws;
 
-pub use crate::laws::{image_boots, view_law};
+pub use crate::laws::{aif_boots, image_boots, view_law};

@@ -1,10 +1,9 @@
 -- Each area of a linked object is in the list of one region, and what is in the lists are areas of linked objects.
-use Rattle.std.proofs.Common.{◌≡◌, ◌⊎◌, inl, inr, ℕ, zero, suc, ◌+◌, ◌%◌, ◌<◌, ◌≤◌, Bool, true, false, if◌then◌else◌, ◌==◌, List, [], ◌∷◌, ◌++◌, length, map, refl, sym, ap, subst, ◌∙◌, arith, eq-eqb, Option, Some, None}
+use Rattle.std.proofs.Common.{◌≡◌, ◌⊎◌, inl, inr, ℕ, zero, suc, ◌+◌, ◌<◌, Bool, true, false, if◌then◌else◌, ◌==◌, List, [], ◌∷◌, length, map, refl, sym, ap, subst, ◌∙◌, arith, eq-eqb, Option, Some, None}
 use Rattle.std.specs.Prelude.{slice_get}
-use Rattle.std.specs.List.{filter_map, flat_map, AllByRecursion}
-use Rattle.std.specs.Option.{option_map, option_and_then}
+use Rattle.std.specs.List.{filter_map, AllByRecursion}
+use Rattle.std.specs.Option.{option_map}
 use Rattle.base_lemmas.proofs.BaseLemmas.{all_append, all_weaker, same, came_through}
-use Rattle.sdt_fault.specs.declared.refusal.Refusal.{Refusal}
 use Rattle.aof_object.specs.declared.records.Area.{Area}
 use Rattle.aof_object.specs.declared.records.Object.{Object}
 use Rattle.aof_object.specs.Spelling.{area_names}
@@ -20,8 +19,8 @@ use Rattle.place_model.specs.Assignment.{described_regions, Offer, offers_from, 
 use Rattle.place_model.specs.Items.{Item}
 use Rattle.place_model.specs.Laws.{OfFound, IsOnlyBest, IsWholeItem}
 use Rattle.place_model.proofs.AssignmentLemmas.{assignment_law}
-use Rattle.place_model.proofs.ListLemmas.{all_at, all_indexed, all_map, none_given}
-use Rattle.link_laws.proofs.ListLemmas.{in_later, in_front, in_back, in_map, in_filter_map, all_filter_map, each_at}
+use Rattle.place_model.proofs.ListLemmas.{all_at, all_filter_map, all_indexed, all_map, none_given}
+use Rattle.link_laws.proofs.ListLemmas.{in_later, in_front, in_back, in_map, in_filter_map, each_at}
 
 -- ---- each area is an item
 

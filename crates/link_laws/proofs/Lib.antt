@@ -4,3 +4,4 @@ pub mod RegionLemmas
 pub mod PlacedLemmas
 pub mod SizedLemmas
 pub mod ShownLemmas
+pub mod Rows

@@ -1,5 +1,5 @@
 -- Lemmas on what is in a list, and on the first item that passes a test.
-use Rattle.std.proofs.Common.{◌≡◌, ◌⊎◌, inl, inr, ℕ, zero, suc, ◌+◌, Bool, true, false, cond, ◌||◌, if◌then◌else◌, List, [], ◌∷◌, ◌++◌, length, map, refl, sym, ap, subst, ◌∙◌, arith, Option, Some, None}
+use Rattle.std.proofs.Common.{◌≡◌, ℕ, zero, suc, ◌+◌, Bool, true, false, cond, ◌||◌, List, [], ◌∷◌, ◌++◌, length, map, refl, sym, ap, subst, ◌∙◌, Option, Some, None}
 use Rattle.std.specs.Prelude.{slice_get}
 use Rattle.std.specs.List.{filter, filter_map, flat_map, find, list_any, cons_option, AllByRecursion}
 use Rattle.std.specs.Option.{option_map}
@@ -45,14 +45,6 @@ in_filter_map {X} {Y} f (z ∷ zs) x y gives (suc i, e) = go (f z) (in_filter_ma
     go : (o : Option Y) → IsIn (filter_map f zs) y → IsIn (cons_option o (filter_map f zs)) y
     go (Some v) rest = in_later v (filter_map f zs) y rest
     go None rest = rest
-
-pub all_filter_map : {X Y : Type 0} (P : Y → Type 0) (f : X → Option Y) (xs : List X) → ((x : X) (y : Y) → f x ≡ Some y → P y) → AllByRecursion P (filter_map f xs)
-all_filter_map P f [] h = tt
-all_filter_map {X} {Y} P f (x ∷ xs) h = go (f x) refl (all_filter_map P f xs h)
-  where
-    go : (o : Option Y) → f x ≡ o → AllByRecursion P (filter_map f xs) → AllByRecursion P (cons_option o (filter_map f xs))
-    go None e rest = rest
-    go (Some y) e rest = (h x y e, rest)
 
 pub any_in : {X : Type 0} (test : X → Bool) (xs : List X) (x : X) → test x ≡ true → IsIn xs x → list_any test xs ≡ true
 any_in test [] x passes h = absurd cc

@@ -1,30 +1,28 @@
 -- Objects whose plan is accepted are placed.
-use Rattle.std.proofs.Common.{◌≡◌, ◌⊎◌, inl, inr, ℕ, ◌+◌, ◌%◌, ◌^◌, ◌<◌, ◌≤◌, Bool, true, false, not, ◌&&◌, ◌==◌, if◌then◌else◌, List, [], ◌++◌, map, refl, sym, ap, subst, ◌∙◌, arith, eq-eqb, eqb-true, Option, Some, None}
+use Rattle.std.proofs.Common.{◌≡◌, ◌⊎◌, inl, inr, ℕ, ◌+◌, ◌%◌, ◌^◌, ◌≤◌, Bool, true, false, not, ◌==◌, if◌then◌else◌, List, [], refl, sym, ap, subst, ◌∙◌, arith, eq-eqb, eqb-true, Option, Some, None}
 use Rattle.std.specs.Prelude.{slice_get, unwrap_or}
-use Rattle.std.specs.List.{find, flat_map, list_any, position_or_len, AllByRecursion}
+use Rattle.std.specs.List.{find, list_any, position_or_len, AllByRecursion}
 use Rattle.std.proofs.lemmas.List.Folds.{find_at}
-use Rattle.std.specs.Option.{option_map, option_and_then, option_or}
+use Rattle.std.specs.Option.{option_map, option_and_then}
 use Rattle.std.proofs.lemmas.Option.{slice_get-map}
-use Rattle.base_lemmas.proofs.BaseLemmas.{all_append, all_back, all_weaker, both_true, same}
+use Rattle.base_lemmas.proofs.BaseLemmas.{all_append, all_weaker, both_true, same}
 use Rattle.sdt_word.specs.Numbers.{bit}
 use Rattle.sdt_word.specs.declared.ranges.Range32.{Range32}
 use Rattle.aof_object.specs.declared.records.Area.{Area}
 use Rattle.aof_object.specs.declared.records.Object.{Object}
 use Rattle.aof_object.specs.declared.records.Symbol.{Symbol}
 use Rattle.aof_object.specs.Checks.{is_placed}
-use Rattle.patch_model.specs.Fields.{Home, Meant, Values}
+use Rattle.patch_model.specs.Fields.{Meant}
 use Rattle.patch_model.specs.Laws.{StandsAt}
 use Rattle.place_model.specs.declared.scatter.Kind.{Kind}
-use Rattle.place_model.specs.Assignment.{description}
-use Rattle.place_model.specs.Faults.{first_told, rootless, overfull, judged, judged_load, judged_region, overlap, copy_conflict, too_large, aif_too_large, not_writable, as_overlap, as_conflict, place_refusal}
 use Rattle.place_model.specs.Items.{Item, is_zero_initialised}
 use Rattle.place_model.specs.Laws.{IsWholeRegion, IsWholeItem}
-use Rattle.place_model.specs.Plans.{Contents, areas_in, origin_of, Planned, length_of, zero_base_of, execution_size, end_of, Plan, regions_of, plan_of, table_words, stood_in, is_area, area_address}
-use Rattle.place_model.specs.Things.{Thing, Header, AnArea, AVeneer, Startup, size_of, extent, Stood, stood}
+use Rattle.place_model.specs.Plans.{Contents, areas_in, Planned, zero_base_of, execution_size, end_of, Plan, regions_of, plan_of, table_words, stood_in, is_area}
+use Rattle.place_model.specs.Things.{Thing, Header, AnArea, AVeneer, Startup, size_of, Stood, stood}
 use Rattle.place_model.proofs.GapLemmas.{IsWhole, whole_area, whole_header, whole_veneer, whole_startup}
-use Rattle.place_model.proofs.ListLemmas.{all_at, all_indexed, all_of_get, all_of_flat, all_flat, all_of_map, none_given}
+use Rattle.place_model.proofs.ListLemmas.{all_at, all_of_get}
 use Rattle.place_model.proofs.PlanLemmas.{whole_law, origin_whole}
-use Rattle.place_model.proofs.SpanLemmas.{or_none, in_memory}
+use Rattle.image_laws.proofs.FileLemmas.{rooms}
 use Rattle.link_model.specs.declared.placing.AreaName.{AreaName}
 use Rattle.link_model.specs.declared.placing.Veneer.{Veneer}
 use Rattle.link_model.specs.declared.selection.Linked.{Linked}
@@ -34,12 +32,12 @@ use Rattle.link_model.specs.Members.{objects_in, link_of}
 use Rattle.link_model.specs.Values.{Bases, home_area, meant_at, meant_of, meant_by, meaning_at}
 use Rattle.link_model.specs.Veneers.{IsIn}
 use Rattle.link_items.specs.LinkedItems.{item_of, items_in, item_at, name_of, contents_of}
-use Rattle.stand_model.specs.Placed.{IsMeantIn, IsMeantBy, IsMeant, IsPlaced}
-use Rattle.link_laws.specs.Placing.{bases_of, region_with, link_plan, IsPlacedLink, values_in}
+use Rattle.stand_model.specs.Placed.{IsMeantIn, IsMeantBy, IsMeant}
+use Rattle.link_laws.specs.Placing.{bases_of, region_with, link_plan, IsPlacedLink}
 use Rattle.link_laws.specs.Laws.{ObjectsArePlaced}
-use Rattle.link_laws.proofs.ListLemmas.{in_front, in_back, any_in, found_all, IsFirstOf, first_of}
-use Rattle.link_laws.proofs.ItemLemmas.{item_there, IsTaken, taken, IsOwn, items_own, area_valid, own_whole}
-use Rattle.link_laws.proofs.RegionLemmas.{IsShaped, all_shaped, HasNumber, numbered, things_all, header_all, startup_all, zeros_all, area_in, IsWithin, stood_within, stood_whole, stood_in_place}
+use Rattle.link_laws.proofs.ListLemmas.{in_front, in_back, any_in, found_all, first_of}
+use Rattle.link_laws.proofs.ItemLemmas.{item_there, taken, IsOwn, items_own, own_whole}
+use Rattle.link_laws.proofs.RegionLemmas.{IsShaped, all_shaped, numbered, things_all, header_all, startup_all, zeros_all, area_in, IsWithin, stood_within, stood_whole, stood_in_place}
 
 -- ---- values
 
@@ -87,20 +85,6 @@ is_meant own base_at y m defined = go (bit y.attributes 0 == 1) (bit y.attribute
     go true true e f = in_area (rw e f) (defined e)
     go true false e f = λ h. absolute (rw e f) (defined e)
     go false p e f = λ h. absurd (grind arith)
-
--- ---- what no refusal says of regions
-
-rooms : (k : Kind) (ram : Option (List Range32)) (p : Plan) → place_refusal k ram p ≡ None → AllByRecursion (λ r. r.base + execution_size r ≤ 2 ^ 32) (regions_of p)
-rooms k ram p h =
-    let tail3 = option_or (option_map as_conflict (copy_conflict p)) (option_or (too_large p) (option_or (aif_too_large k p) (not_writable ram p))) in
-    let tail2 = option_or (option_map as_overlap (overlap p)) tail3 in
-    let tail1 = option_or (first_told overfull (judged k p)) tail2 in
-    let full = (or_none (first_told overfull (judged k p)) tail2 (or_none (rootless (regions_of p)) tail1 h).1).0 in
-    let fine = all_of_flat (λ j. overfull j ≡ None) (λ l. judged_load k l ++ map judged_region l.regions) p (none_given overfull (judged k p) full) in
-    all_flat (λ r. r.base + execution_size r ≤ 2 ^ 32) (λ l. l.regions) p
-    (all_weaker (λ l. AllByRecursion (λ j. overfull j ≡ None) (judged_load k l ++ map judged_region l.regions)) (λ l. AllByRecursion (λ r. r.base + execution_size r ≤ 2 ^ 32) l.regions)
-    (λ l all. all_weaker (λ r. overfull (judged_region r) ≡ None) (λ r. r.base + execution_size r ≤ 2 ^ 32) (λ r none. in_memory (judged_region r) none) l.regions
-    (all_of_map (λ j. overfull j ≡ None) judged_region l.regions (all_back (λ j. overfull j ≡ None) (judged_load k l) (map judged_region l.regions) all))) p fine)
 
 -- ---- things of linked objects
 

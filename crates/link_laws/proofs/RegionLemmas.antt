@@ -1,9 +1,8 @@
 -- The regions of a plan: what stands in them, and where.
-use Rattle.std.proofs.Common.{◌≡◌, ◌⊎◌, inl, inr, ℕ, zero, suc, ◌+◌, ◌-◌, ◌%◌, ◌<◌, ◌≤◌, Bool, true, false, not, cond, ◌==◌, List, [], ◌∷◌, ◌++◌, length, length-append, map, refl, sym, ap, subst, ◌∙◌, arith, Option, Some, None}
-use Rattle.std.specs.Prelude.{slice_get}
+use Rattle.std.proofs.Common.{◌≡◌, ◌⊎◌, inl, inr, ℕ, zero, suc, ◌+◌, ◌-◌, ◌%◌, ◌<◌, ◌≤◌, Bool, true, false, not, cond, ◌==◌, List, [], ◌∷◌, ◌++◌, length, length-append, map, refl, sym, ap, subst, arith}
 use Rattle.std.specs.List.{filter, flat_map, AllByRecursion}
 use Rattle.std.proofs.lemmas.Bool.{cases_lt}
-use Rattle.base_lemmas.proofs.BaseLemmas.{all_append, all_weaker}
+use Rattle.base_lemmas.proofs.BaseLemmas.{all_append}
 use Rattle.patch_model.specs.Fields.{Home}
 use Rattle.link_model.specs.Veneers.{IsIn}
 use Rattle.place_model.specs.declared.scatter.Kind.{Kind}
@@ -12,8 +11,8 @@ use Rattle.place_model.specs.declared.scatter.ScatterLoad.{ScatterLoad}
 use Rattle.place_model.specs.declared.scatter.ScatterRegion.{ScatterRegion}
 use Rattle.place_model.specs.Assignment.{description, described_regions}
 use Rattle.place_model.specs.Items.{Item, is_zero_initialised}
-use Rattle.place_model.specs.Things.{Thing, Header, AnArea, AVeneer, Startup, alignment_of, size_of, gap, start_of, extent, Stood, stood}
-use Rattle.place_model.specs.Plans.{Contents, RegionVeneer, areas_in, veneers_in, header_in, startup_in, origin_of, Planned, length_of, zero_base_of, end_of, planned, planned_from, loads_from, regions_of, plan_for}
+use Rattle.place_model.specs.Things.{Thing, Header, AnArea, AVeneer, Startup, alignment_of, size_of, start_of, extent, Stood, stood}
+use Rattle.place_model.specs.Plans.{Contents, areas_in, veneers_in, header_in, startup_in, origin_of, Planned, length_of, end_of, planned, planned_from, loads_from, regions_of, plan_for}
 use Rattle.place_model.proofs.GapLemmas.{IsWhole, gap-whole}
 use Rattle.place_model.proofs.ListLemmas.{all_map, all_indexed}
 use Rattle.link_laws.proofs.ListLemmas.{in_later, in_front, in_back, in_map, in_filter}

@@ -1,7 +1,7 @@
 -- A view of an accepted plan shows the linked objects.
-use Rattle.std.proofs.Common.{◌≡◌, ◌⊎◌, inl, inr, ℕ, suc, ◌+◌, ◌-◌, ◌%◌, ◌^◌, ◌<◌, ◌≤◌, Bool, true, false, not, ◌&&◌, ◌==◌, List, [], ◌∷◌, length, refl, sym, ap, subst, ◌∙◌, arith, eqb-true, Option, Some, None}
+use Rattle.std.proofs.Common.{◌≡◌, ◌⊎◌, inl, inr, ℕ, suc, ◌+◌, ◌-◌, ◌%◌, ◌^◌, ◌<◌, ◌≤◌, Bool, true, false, not, ◌&&◌, ◌==◌, List, [], ◌∷◌, refl, sym, ap, subst, ◌∙◌, arith, eqb-true, Option, Some, None}
 use Rattle.std.specs.Prelude.{slice_get}
-use Rattle.std.specs.List.{find, list_any, position_or_len, AllByRecursion}
+use Rattle.std.specs.List.{find, position_or_len, AllByRecursion}
 use Rattle.std.specs.Option.{option_map}
 use Rattle.std.proofs.lemmas.List.Folds.{find_at}
 use Rattle.base_lemmas.proofs.BaseLemmas.{all_append, all_weaker, both_true, same}
@@ -16,13 +16,13 @@ use Rattle.boot_code.proofs.ViewLemmas.{length-zeros, get_or-zeros}
 use Rattle.byte_maps.specs.Maps.{Holds}
 use Rattle.patch_model.specs.Fields.{Home, Values}
 use Rattle.patch_model.specs.Patched.{other_state}
-use Rattle.patch_model.specs.Reaches.{Shows, IsVeneer, HasVeneer, VeneersStand}
+use Rattle.patch_model.specs.Reaches.{Shows, IsVeneer, VeneersStand}
 use Rattle.patch_model.proofs.VeneerLemmas.{veneer_law}
 use Rattle.place_model.specs.declared.scatter.Kind.{Kind}
 use Rattle.place_model.specs.Items.{is_zero_initialised}
 use Rattle.place_model.specs.Plans.{Planned, zero_base_of, zero_length_of, execution_size, end_of, Plan, regions_of, stood_in, is_area}
 use Rattle.place_model.specs.Things.{Thing, Header, AnArea, AVeneer, Startup, size_of, Stood, stood}
-use Rattle.place_model.proofs.ListLemmas.{all_at, all_both, all_indexed}
+use Rattle.place_model.proofs.ListLemmas.{all_at, all_indexed}
 use Rattle.image_model.specs.Regions.{Given, Filling, AreSized, filled}
 use Rattle.image_model.specs.Views.{IsView}
 use Rattle.image_laws.proofs.ViewLemmas.{view_things}

@@ -1,9 +1,9 @@
 -- Things of a plan whose bytes are applied have as many bytes as they take up.
-use Rattle.std.proofs.Common.{◌≡◌, ℕ, zero, suc, ◌+◌, ◌-◌, ◌*◌, ◌%◌, ◌^◌, ◌<◌, ◌≤◌, Bool, true, false, not, ◌==◌, List, [], ◌∷◌, ◌++◌, length, length-append, refl, sym, ap, subst, ◌∙◌, arith, leb-true, Option, Some, None}
+use Rattle.std.proofs.Common.{◌≡◌, ℕ, zero, suc, ◌+◌, ◌-◌, ◌*◌, ◌≤◌, Bool, true, false, not, ◌==◌, List, [], ◌∷◌, ◌++◌, length, length-append, refl, ap, subst, ◌∙◌, arith, leb-true, Option, Some, None}
 use Rattle.std.specs.Prelude.{slice_get}
 use Rattle.std.specs.List.{AllByRecursion}
 use Rattle.std.specs.Option.{option_map, IsSomeAnd}
-use Rattle.base_lemmas.proofs.BaseLemmas.{all_weaker, came_through, same}
+use Rattle.base_lemmas.proofs.BaseLemmas.{came_through, same}
 use Rattle.sdt_word.specs.Bytes.{bytes_of}
 use Rattle.sdt_word.specs.Numbers.{bit}
 use Rattle.sdt_word.specs.declared.ranges.Range32.{Range32}
@@ -26,7 +26,7 @@ use Rattle.place_model.specs.Plans.{Contents, areas_in, header_in, startup_in, P
 use Rattle.place_model.specs.Things.{Thing, Header, AnArea, AVeneer, Startup, size_of, Stood, stood}
 use Rattle.place_model.proofs.ListLemmas.{all_at, all_indexed}
 use Rattle.place_model.proofs.PlanLemmas.{table_law}
-use Rattle.image_model.specs.Regions.{Given, Filling, startup_bytes, filled}
+use Rattle.image_model.specs.Regions.{Given, startup_bytes, filled}
 use Rattle.image_laws.proofs.RowLemmas.{table-length}
 use Rattle.link_model.specs.declared.placing.AreaName.{AreaName}
 use Rattle.link_model.specs.declared.placing.Veneer.{Veneer}
@@ -53,8 +53,15 @@ startup_length s c entry =
     let words : ℕ = table_words (kind.Scatter s) c in
     let table : List ℕ = table_list (copies_of p) (parts_of p) entry in
     let room : 3 * length (copies_of p) + 2 * length (parts_of p) + 6 ≤ words = leb-true (3 * length (copies_of p) + 2 * length (parts_of p) + 6) words (table_law s c).enough in
-    omega (arith, room, table-length (copies_of p) (parts_of p) entry, length-append (bytes_of_words (boot_list ++ table)) (zeros (4 * (words - length table))), words_length (boot_list ++ table),
-    length-append boot_list table, length-zeros (4 * (words - length table)))
+    omega (
+      arith,
+      room,
+      table-length (copies_of p) (parts_of p) entry,
+      length-append (bytes_of_words (boot_list ++ table)) (zeros (4 * (words - length table))),
+      words_length (boot_list ++ table),
+      length-append boot_list table,
+      length-zeros (4 * (words - length table)),
+    )
 
 -- what isn't an area or a veneer has its size
 abbrev IsFramed : Plan → Given → List ℕ → Thing → Type 0

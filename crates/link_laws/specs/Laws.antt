@@ -1,6 +1,6 @@
 -- Linked objects whose plan is accepted are placed, and each view of it shows them, so that the statements of their
 -- sources stand there. This project's.
-use Rattle.std.specs.Prelude.{◌≡◌, ℕ, List, length, slice_get, Option, Some}
+use Rattle.std.specs.Prelude.{◌≡◌, ℕ, List, slice_get, Option, Some}
 use Rattle.sdt_word.specs.declared.ranges.Range32.{Range32}
 use Rattle.aof_object.specs.declared.records.Object.{Object}
 use Rattle.asm_model.specs.declared.statements.Statement.{Statement}

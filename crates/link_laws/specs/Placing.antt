@@ -1,6 +1,6 @@
 -- Where linked objects stand by a plan: the addresses of their areas, the region of each, and the veneers by which its
 -- branches go (SDT 2.50 Reference Guide, armlink; ARM Object Format, relocation directives).
-use Rattle.std.specs.Prelude.{◌≡◌, ℕ, ◌+◌, ◌%◌, ◌^◌, Bool, true, false, not, ◌&&◌, ◌==◌, List, length, slice_get, unwrap_or, Option, Some, None}
+use Rattle.std.specs.Prelude.{◌≡◌, ℕ, ◌+◌, ◌%◌, ◌^◌, Bool, false, not, ◌&&◌, ◌==◌, List, length, slice_get, unwrap_or, Option, Some, None}
 use Rattle.std.specs.List.{find, list_any, AllByRecursion}
 use Rattle.sdt_word.specs.Numbers.{bit}
 use Rattle.sdt_word.specs.declared.ranges.Range32.{Range32}
@@ -16,7 +16,7 @@ use Rattle.place_model.specs.Assignment.{description, described_regions, AreAssi
 use Rattle.place_model.specs.Faults.{place_refusal}
 use Rattle.place_model.specs.Laws.{IsWholeBase}
 use Rattle.place_model.specs.Plans.{Planned, execution_size, Plan, regions_of, plan_of, stood_in, address_of, is_area, area_address}
-use Rattle.place_model.specs.Things.{Thing, AVeneer, Stood, stood}
+use Rattle.place_model.specs.Things.{Thing, AVeneer, stood}
 use Rattle.image_model.specs.Regions.{Given}
 use Rattle.link_model.specs.declared.placing.AreaName.{AreaName}
 use Rattle.link_model.specs.declared.placing.Veneer.{Veneer}

@@ -21,6 +21,15 @@ all_filter {X} P test (x ∷ xs) a = go (test x) (all_filter P test xs a.1)
     go true rest = (a.0, rest)
     go false rest = rest
 
+-- what a function gives
+pub all_filter_map : {X Y : Type 0} (P : Y → Type 0) (f : X → Option Y) (xs : List X) → ((x : X) (y : Y) → f x ≡ Some y → P y) → AllByRecursion P (filter_map f xs)
+all_filter_map P f [] h = tt
+all_filter_map {X} {Y} P f (x ∷ xs) h = go (f x) refl (all_filter_map P f xs h)
+  where
+    go : (o : Option Y) → f x ≡ o → AllByRecursion P (filter_map f xs) → AllByRecursion P (cons_option o (filter_map f xs))
+    go None e rest = rest
+    go (Some y) e rest = (h x y e, rest)
+
 pub all_both : {X : Type 0} (P Q : X → Type 0) (xs : List X) → AllByRecursion P xs → AllByRecursion Q xs → AllByRecursion (λ x. P x × Q x) xs
 all_both P Q [] a b = tt
 all_both P Q (x ∷ xs) a b = ((a.0, b.0), all_both P Q xs a.1 b.1)

@@ -1,6 +1,6 @@
 -- Where an object is placed: its areas have bases, its symbols have values by them, and memory shows its areas with their
 -- fields patched. SDT 2.50 Reference Guide, ARM Object Format.
-use Rattle.std.specs.Prelude.{◌≡◌, ℕ, ◌+◌, ◌%◌, ◌^◌, ◌<◌, ◌≤◌, ◌==◌, Bool, true, false, List, slice_get, Option, Some, None}
+use Rattle.std.specs.Prelude.{◌≡◌, ℕ, ◌+◌, ◌%◌, ◌^◌, ◌<◌, ◌≤◌, ◌==◌, Bool, true, false, List, slice_get, Some, None}
 use Rattle.sdt_word.specs.Numbers.{bit}
 use Rattle.sdt_word.specs.declared.ranges.Range32.{Range32}
 use Rattle.aof_object.specs.declared.records.Area.{Area}
