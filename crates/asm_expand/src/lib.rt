@@ -1,0 +1,7 @@
+//! Expansion of a source: variables, conditions, loops, macros and files.
+#![tactic(auto)]
+
+pub mod operations;
+pub mod pairing;
+pub mod standing;
+pub mod words;

@@ -1,0 +1,169 @@
+//! How lines that aren't read are paired.
+
+ghost use Rattle.std.specs.Prelude.{◌≡◌, ◌≢◌, List, reverse, IfOk};
+ghost use Rattle.expand_model.specs.declared.operations.Opening.{Opening};
+ghost use Rattle.expand_model.specs.declared.operations.Opening.TheVariants as opening;
+ghost use Rattle.expand_model.specs.declared.operations.Operation.TheVariants as operation;
+ghost use Rattle.expand_model.specs.Pairing as model;
+ghost use Rattle.asm_expand.specs.Pairing.{applied, behind_shown, Shows};
+
+use crate::operations::operation_of;
+use crate::words::words_of;
+use asm_model::Line;
+use expand_model::{Opening, Operation};
+use sdt_fault::NoMemory;
+use sdt_fault::kinds::LineKind;
+
+/// Where lines that are skipped end, with how many of them are passed, or which of them has a fault.
+#[derive(Clone, Copy, Debug)]
+pub enum Skipping {
+    Closed(usize),
+    Turned(usize),
+    Faulty(usize, LineKind),
+    Endless,
+}
+
+/// What a word does to the innermost opening.
+#[derive(Clone, Copy, Debug)]
+pub enum Effect {
+    Nothing,
+    Opens(Opening),
+    Turns,
+    Closes,
+    Unpaired,
+}
+
+/// What a line leaves.
+#[derive(Clone, Copy, Debug)]
+pub enum Behind {
+    Stays,
+    Turns,
+    Closes,
+    Unpaired,
+}
+
+/// The word of expansion on a line as it stands.
+pub fn raw_operation(line: &Line) -> Option<Operation>
+    ensures { result ≡ model.raw_operation line.now }
+{
+    operation_of(words_of(line.text.as_slice()).operation)
+}
+
+/// The same inside a definition, where MACRO and MEND alone count.
+fn effect_inside(operation: Operation) -> Effect
+    ensures { (os : List Opening) → model.behind_word opening.Definition os operation ≡ applied result opening.Definition os }
+{
+    match operation {
+        Operation::Macro => Effect::Opens(Opening::Definition),
+        Operation::MEnd => Effect::Closes,
+        _ => Effect::Nothing,
+    }
+}
+
+/// The effect of ELSE.
+fn effect_of_else(innermost: Opening) -> Effect
+    ensures { (os : List Opening) → model.behind_word innermost os operation.Else ≡ applied result innermost os }
+{
+    match innermost {
+        Opening::Definition => Effect::Nothing,
+        Opening::Condition => Effect::Turns,
+        _ => Effect::Unpaired,
+    }
+}
+
+/// The effect of ENDIF.
+fn effect_of_end_if(innermost: Opening) -> Effect
+    ensures { (os : List Opening) → model.behind_word innermost os operation.EndIf ≡ applied result innermost os }
+{
+    match innermost {
+        Opening::Definition => Effect::Nothing,
+        Opening::Loop => Effect::Unpaired,
+        _ => Effect::Closes,
+    }
+}
+
+/// The effect of WEND.
+fn effect_of_wend(innermost: Opening) -> Effect
+    ensures { (os : List Opening) → model.behind_word innermost os operation.WEnd ≡ applied result innermost os }
+{
+    match innermost {
+        Opening::Definition => Effect::Nothing,
+        Opening::Loop => Effect::Closes,
+        _ => Effect::Unpaired,
+    }
+}
+
+/// The effect of a word outside of definitions.
+fn effect_outside(innermost: Opening, operation: Operation) -> Effect
+    requires { innermost ≢ opening.Definition }
+    ensures { (os : List Opening) → model.behind_word innermost os operation ≡ applied result innermost os }
+{
+    match operation {
+        Operation::If => Effect::Opens(Opening::Condition),
+        Operation::While => Effect::Opens(Opening::Loop),
+        Operation::Macro => Effect::Opens(Opening::Definition),
+        Operation::Else => effect_of_else(innermost),
+        Operation::EndIf => effect_of_end_if(innermost),
+        Operation::WEnd => effect_of_wend(innermost),
+        Operation::MEnd => Effect::Unpaired,
+        _ => Effect::Nothing,
+    }
+}
+
+/// What a line does to the innermost opening.
+fn effect_of(innermost: Opening, operation: Option<Operation>) -> Effect
+    ensures { (os : List Opening) → model.behind_line innermost os operation ≡ applied result innermost os }
+{
+    let Some(operation) = operation else {
+        return Effect::Nothing;
+    };
+    match innermost {
+        Opening::Definition => effect_inside(operation),
+        _ => effect_outside(innermost, operation),
+    }
+}
+
+/// Takes the next opening to be the innermost, where there is one.
+fn close(innermost: &mut Opening, outer: &mut Vec<Opening>) -> Behind
+    ensures { model.closed (reverse outer.old.items) ≡ behind_shown result innermost.new (reverse outer.new.items) }
+{
+    match outer.pop() {
+        None => Behind::Closes,
+        Some(next) => {
+            *innermost = next;
+            Behind::Stays
+        }
+    }
+}
+
+/// Notes the ELSE of the innermost opening, or tells that it is the outermost's.
+fn turn(innermost: &mut Opening, outer: &[Opening]) -> Behind
+    ensures { model.turned (reverse outer.now) ≡ behind_shown result innermost.new (reverse outer.now) }
+{
+    if outer.is_empty() {
+        return Behind::Turns;
+    }
+    *innermost = Opening::Alternative;
+    Behind::Stays
+}
+
+/// Puts a line's effect on what is open.
+fn put(
+    effect: Effect,
+    innermost: &mut Opening,
+    outer: &mut Vec<Opening>,
+) -> Result<Behind, NoMemory>
+    ensures { IfOk result (λ b. applied effect innermost.old (reverse outer.old.items) ≡ behind_shown b innermost.new (reverse outer.new.items)) }
+{
+    match effect {
+        Effect::Nothing => Ok(Behind::Stays),
+        Effect::Opens(next) => {
+            outer.push(*innermost)?;
+            *innermost = next;
+            Ok(Behind::Stays)
+        }
+        Effect::Turns => Ok(turn(innermost, outer.as_slice())),
+        Effect::Closes => Ok(close(innermost, outer)),
+        Effect::Unpaired => Ok(Behind::Unpaired),
+    }
+}
