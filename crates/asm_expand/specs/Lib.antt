@@ -1,3 +1,4 @@
 -- What the clauses of the crate cite.
 pub mod Pairing
 pub mod Steps
+pub mod Unwinding

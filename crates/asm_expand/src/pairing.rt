@@ -1,6 +1,6 @@
 //! How lines that aren't read are paired.
 
-ghost use Rattle.std.specs.Prelude.{◌≡◌, ◌≢◌, List, reverse, IfOk};
+ghost use Rattle.std.specs.Prelude.{◌≡◌, ◌≢◌, List, [], reverse, IfOk};
 ghost use Rattle.expand_model.specs.declared.operations.Opening.{Opening};
 ghost use Rattle.expand_model.specs.declared.operations.Opening.TheVariants as opening;
 ghost use Rattle.expand_model.specs.declared.operations.Operation.TheVariants as operation;
@@ -13,6 +13,7 @@ use asm_model::Line;
 use expand_model::{Opening, Operation};
 use sdt_fault::NoMemory;
 use sdt_fault::kinds::LineKind;
+use std::alloc::Global;
 
 /// Where lines that are skipped end, with how many of them are passed, or which of them has a fault.
 #[derive(Clone, Copy, Debug)]
@@ -166,4 +167,44 @@ fn put(
         Effect::Closes => Ok(close(innermost, outer)),
         Effect::Unpaired => Ok(Behind::Unpaired),
     }
+}
+
+/// The effect of the line on what is open.
+fn pass(
+    line: &Line,
+    innermost: &mut Opening,
+    outer: &mut Vec<Opening>,
+) -> Result<Behind, NoMemory>
+    ensures { IfOk result (λ b. model.behind_line innermost.old (reverse outer.old.items) (model.raw_operation line.now) ≡ behind_shown b innermost.new (reverse outer.new.items)) }
+{
+    let effect = effect_of(*innermost, raw_operation(line));
+    put(effect, innermost, outer)
+}
+
+/// Where lines end that an opening skips, of which so many may be visited.
+pub fn skip(
+    alloc: Global,
+    opening: Opening,
+    visits: usize,
+    lines: &[Line],
+) -> Result<Skipping, NoMemory>
+    ensures { IfOk result (λ s. Shows s visits lines.now (model.skipped opening [] visits lines.now)) }
+{
+    let mut innermost = opening;
+    let mut outer = Vec::new(alloc);
+    let mut at = 0;
+    'lines: while at < lines.len() {
+        let line = &lines[at];
+        if at == visits {
+            return Ok(Skipping::Faulty(at, LineKind::TooMany));
+        }
+        match pass(line, &mut innermost, &mut outer)? {
+            Behind::Stays => {}
+            Behind::Turns => return Ok(Skipping::Turned(at + 1)),
+            Behind::Closes => return Ok(Skipping::Closed(at + 1)),
+            Behind::Unpaired => return Ok(Skipping::Faulty(at, LineKind::Nesting)),
+        }
+        at += 1;
+    }
+    Ok(Skipping::Endless)
 }
