@@ -1,6 +1,7 @@
 -- Steps of the code that pairs lines. This project's.
-use Rattle.std.specs.Prelude.{◌≡◌, ℕ, ◌+◌, ◌-◌, List, [], ◌∷◌, drop, reverse}
+use Rattle.std.specs.Prelude.{◌≡◌, ℕ, ◌+◌, ◌-◌, List, [], ◌∷◌, take, drop}
 use Rattle.sdt_fault.specs.declared.kinds.LineKind.{LineKind}
+use Rattle.sdt_fault.specs.declared.kinds.LineKind.TheVariants.{Nesting}
 use Rattle.asm_model.specs.declared.lines.Line.{Line}
 use Rattle.expand_model.specs.declared.operations.Opening.{Opening}
 use Rattle.expand_model.specs.Pairing as model
@@ -8,8 +9,12 @@ use Rattle.asm_expand.specs.declared.pairing.Behind.{Behind}
 use Rattle.asm_expand.specs.declared.pairing.Behind.TheVariants as behind
 use Rattle.asm_expand.specs.declared.pairing.Effect.{Effect}
 use Rattle.asm_expand.specs.declared.pairing.Effect.TheVariants as effect
+use Rattle.asm_expand.specs.declared.pairing.BodyPart.{BodyPart}
+use Rattle.asm_expand.specs.declared.pairing.BodyPart.TheVariants as inside
 use Rattle.asm_expand.specs.declared.pairing.Skipping.{Skipping}
 use Rattle.asm_expand.specs.declared.pairing.Skipping.TheVariants as skipping
+use Rattle.asm_expand.specs.declared.pairing.Taking.{Taking}
+use Rattle.asm_expand.specs.declared.pairing.Taking.TheVariants as taking
 
 -- what is open behind a word with this effect
 abbrev pub applied : Effect → Opening → List Opening → model.Behind
@@ -36,3 +41,15 @@ Shows (skipping.Closed k) n ls s = s ≡ model.Closed (n - k) (drop k ls)
 Shows (skipping.Turned k) n ls s = s ≡ model.Turned (n - k) (drop k ls)
 Shows (skipping.Faulty k kind) n ls s = (l : Line) × IsAt ls k l × (s ≡ model.Faulty l kind)
 Shows skipping.Endless n ls s = s ≡ model.Endless
+
+-- where a body's lines end, of which so many may be visited
+abbrev pub ShowsTaken : Taking → ℕ → List Line → model.Taken → Type 0
+ShowsTaken (taking.Whole k) n ls t = t ≡ model.Whole (take k ls) (n - (k + 1)) (drop (k + 1) ls)
+ShowsTaken (taking.Bad k kind) n ls t = (l : Line) × IsAt ls k l × (t ≡ model.Bad l kind)
+ShowsTaken taking.Open n ls t = t ≡ model.Open
+
+-- what a line inside a definition makes of the lines behind it
+abbrev pub inside_shown : BodyPart → Line → ℕ → List Line → model.Taken → model.Taken
+inside_shown inside.Stays l n ls rest = model.with_line l rest
+inside_shown inside.Ends l n ls rest = model.Whole [] n ls
+inside_shown inside.Nested l n ls rest = model.Bad l Nesting

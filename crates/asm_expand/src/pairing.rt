@@ -1,11 +1,12 @@
 //! How lines that aren't read are paired.
 
-ghost use Rattle.std.specs.Prelude.{◌≡◌, ◌≢◌, List, [], reverse, IfOk};
+ghost use Rattle.std.specs.Prelude.{◌≡◌, ◌≢◌, ℕ, List, [], reverse, IfOk};
+ghost use Rattle.asm_model.specs.declared.lines.Line.{Line};
 ghost use Rattle.expand_model.specs.declared.operations.Opening.{Opening};
 ghost use Rattle.expand_model.specs.declared.operations.Opening.TheVariants as opening;
 ghost use Rattle.expand_model.specs.declared.operations.Operation.TheVariants as operation;
 ghost use Rattle.expand_model.specs.Pairing as model;
-ghost use Rattle.asm_expand.specs.Pairing.{applied, behind_shown, Shows};
+ghost use Rattle.asm_expand.specs.Pairing.{applied, behind_shown, inside_shown, Shows, ShowsTaken};
 
 use crate::operations::operation_of;
 use crate::words::words_of;
@@ -22,6 +23,14 @@ pub enum Skipping {
     Turned(usize),
     Faulty(usize, LineKind),
     Endless,
+}
+
+/// Where the lines of a macro's body end: before the line with this number, which is MEND, or at one with a fault.
+#[derive(Clone, Copy, Debug)]
+pub enum Taking {
+    Whole(usize),
+    Bad(usize, LineKind),
+    Open,
 }
 
 /// What a word does to the innermost opening.
@@ -41,6 +50,14 @@ pub enum Behind {
     Turns,
     Closes,
     Unpaired,
+}
+
+/// What a line is inside a definition.
+#[derive(Clone, Copy, Debug)]
+pub enum BodyPart {
+    Stays,
+    Ends,
+    Nested,
 }
 
 /// The word of expansion on a line as it stands.
@@ -207,4 +224,35 @@ pub fn skip(
         at += 1;
     }
     Ok(Skipping::Endless)
+}
+
+/// What a line is inside a definition that is taken.
+fn part_of(line: &Line) -> BodyPart
+    ensures { (l : Line) (n : ℕ) (ls : List Line) (rest : model.Taken) → model.taken_line (model.raw_operation line.now) l n ls rest ≡ inside_shown result l n ls rest }
+{
+    match raw_operation(line) {
+        Some(Operation::MEnd) => BodyPart::Ends,
+        Some(Operation::Macro) => BodyPart::Nested,
+        _ => BodyPart::Stays,
+    }
+}
+
+/// Where the lines of a macro's body end, of which so many may be visited.
+pub fn take_body(visits: usize, lines: &[Line]) -> Taking
+    ensures { ShowsTaken result visits lines.now (model.taken visits lines.now) }
+{
+    let mut at = 0;
+    'lines: while at < lines.len() {
+        let line = &lines[at];
+        if at == visits {
+            return Taking::Bad(at, LineKind::TooMany);
+        }
+        match part_of(line) {
+            BodyPart::Stays => {}
+            BodyPart::Ends => return Taking::Whole(at),
+            BodyPart::Nested => return Taking::Bad(at, LineKind::Nesting),
+        }
+        at += 1;
+    }
+    Taking::Open
 }
