@@ -4,4 +4,5 @@
 pub mod operations;
 pub mod pairing;
 pub mod standing;
+pub mod variables;
 pub mod words;
