@@ -4,5 +4,6 @@
 pub mod operations;
 pub mod pairing;
 pub mod standing;
+pub mod substitution;
 pub mod variables;
 pub mod words;
