@@ -4,7 +4,7 @@ use Rattle.std.proofs.lemmas.List.{drop_more}
 use Rattle.sdt_fault.specs.declared.kinds.LineKind.TheVariants.{Nesting, TooMany}
 use Rattle.asm_model.specs.declared.lines.Line.{Line}
 use Rattle.expand_model.specs.declared.operations.Opening.{Opening}
-use Rattle.expand_model.specs.Pairing.{Behind, Stays, Turns, Closes, Unpaired, Skipped, Closed, Turned, Faulty, Endless, skipped, skipped_line, behind_line, raw_operation}
+use Rattle.expand_model.specs.Pairing.{Stays, Turns, Closes, Unpaired, Closed, Turned, Faulty, Endless, skipped, skipped_line, behind_line, raw_operation}
 
 -- what these lines do is what all do
 pub record IsSkipping (opening : Opening) (visits : ℕ) (lines : List Line) (innermost : Opening) (outer : List Opening) (at : ℕ) : Type 0 where

@@ -1,5 +1,5 @@
 -- Steps of substitution.
-use Rattle.std.proofs.Common.{◌≡◌, ℕ, ◌+◌, ◌-◌, ◌≤◌, List, [], ◌∷◌, ◌++◌, Bool, true, false, length, drop, map, refl, sym, ◌∙◌, ap, arith, zero, suc, append-nil, append_assoc, length-drop, Option, Some, None}
+use Rattle.std.proofs.Common.{◌≡◌, ℕ, ◌+◌, ◌-◌, ◌≤◌, List, [], ◌∷◌, ◌++◌, true, false, length, drop, refl, sym, ◌∙◌, ap, arith, zero, suc, append-nil, append_assoc, length-drop, Option, Some, None}
 use Rattle.std.proofs.lemmas.List.{drop-drop}
 use Rattle.std.specs.Prelude.{Result, Ok, Err, ◌==◌, ◌&&◌}
 use Rattle.sdt_fault.specs.declared.kinds.LineKind.{LineKind}
@@ -9,9 +9,8 @@ use Rattle.expand_model.specs.declared.standing.Standing.{Standing}
 use Rattle.expand_model.specs.declared.standing.Standing.TheVariants.{Open}
 use Rattle.expand_model.specs.Standing.{Byte, standing, standing_from, begun_at}
 use Rattle.expand_model.specs.States.{State, text_named}
-use Rattle.expand_model.specs.Substitution.{substituted_from, substituted, plain, put, dollar, takes_dollar}
+use Rattle.expand_model.specs.Substitution.{substituted_from, substituted, plain, dollar, takes_dollar}
 use Rattle.asm_expand.specs.Substitution.{Becomes, IsPut}
-use Rattle.asm_expand.specs.Variables.{HasTables}
 
 mapped_nothing : (r : Result (List ℕ) LineKind) → mapped (λ t. [] ++ t) r ≡ r
 mapped_nothing (Ok t) = refl

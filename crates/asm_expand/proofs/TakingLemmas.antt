@@ -1,11 +1,9 @@
 -- Lines of a macro's body that are passed, one by one.
-use Rattle.std.proofs.Common.{◌≡◌, ℕ, ◌+◌, ◌-◌, ◌<◌, ◌≤◌, List, [], ◌∷◌, ◌++◌, length, take, drop, refl, sym, ◌∙◌, ap, arith, zero, suc, get_or, length-drop, append-nil, Option, Some, None}
+use Rattle.std.proofs.Common.{◌≡◌, ℕ, ◌+◌, ◌-◌, ◌<◌, ◌≤◌, List, [], ◌∷◌, ◌++◌, length, take, drop, refl, sym, ◌∙◌, ap, arith, zero, suc, get_or, length-drop, append-nil}
 use Rattle.std.proofs.lemmas.List.{drop_more, take_more}
 use Rattle.sdt_fault.specs.declared.kinds.LineKind.{LineKind}
 use Rattle.sdt_fault.specs.declared.kinds.LineKind.TheVariants.{Nesting, TooMany}
 use Rattle.asm_model.specs.declared.lines.Line.{Line}
-use Rattle.expand_model.specs.declared.operations.Operation.{Operation}
-use Rattle.expand_model.specs.declared.operations.Operation.TheVariants as operation
 use Rattle.asm_expand.specs.declared.pairing.BodyPart.{BodyPart}
 use Rattle.asm_expand.specs.declared.pairing.BodyPart.TheVariants as part
 use Rattle.asm_expand.specs.Pairing.{inside_shown}

@@ -4,7 +4,7 @@ use Rattle.asm_model.specs.declared.lines.Line.{Line}
 use Rattle.expand_model.specs.Expands.{Run, stops, reads, passes, outermost}
 use Rattle.expand_model.specs.Known.{Operand}
 use Rattle.expand_model.specs.States.{State}
-use Rattle.expand_model.specs.Steps.{Sources, Depth, Context, End, Next, Stop, Go, Under, Reads, first_line, deeper, turn}
+use Rattle.expand_model.specs.Steps.{Sources, Context, End, Next, Stop, Go, Under, Reads, first_line, turn}
 use Rattle.asm_expand.specs.Unwinding.{depth_under, Unwound, Leads}
 
 module _ (sources : Sources) (start : Next) where

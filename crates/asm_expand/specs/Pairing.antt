@@ -1,6 +1,5 @@
 -- Steps of the code that pairs lines. This project's.
 use Rattle.std.specs.Prelude.{◌≡◌, ℕ, ◌+◌, ◌-◌, List, [], ◌∷◌, take, drop}
-use Rattle.sdt_fault.specs.declared.kinds.LineKind.{LineKind}
 use Rattle.sdt_fault.specs.declared.kinds.LineKind.TheVariants.{Nesting}
 use Rattle.asm_model.specs.declared.lines.Line.{Line}
 use Rattle.expand_model.specs.declared.operations.Opening.{Opening}

@@ -187,11 +187,7 @@ fn put(
 }
 
 /// The effect of the line on what is open.
-fn pass(
-    line: &Line,
-    innermost: &mut Opening,
-    outer: &mut Vec<Opening>,
-) -> Result<Behind, NoMemory>
+fn pass(line: &Line, innermost: &mut Opening, outer: &mut Vec<Opening>) -> Result<Behind, NoMemory>
     ensures { IfOk result (λ b. model.behind_line innermost.old (reverse outer.old.items) (model.raw_operation line.now) ≡ behind_shown b innermost.new (reverse outer.new.items)) }
 {
     let effect = effect_of(*innermost, raw_operation(line));

@@ -21,7 +21,9 @@ fn name_len(rest: &[u8]) -> usize
     ensures run { result ≡ prefix_len is_between_bars rest.now }
     ensures within { result ≤ length rest.now }
 {
-    rest.iter().take_while(|c| bytes::is_between_bars(**c)).count()
+    rest.iter()
+        .take_while(|c| bytes::is_between_bars(**c))
+        .count()
 }
 
 /// How many bytes a name of so many bytes between bars has, behind its first bar; 0 where none closes it.

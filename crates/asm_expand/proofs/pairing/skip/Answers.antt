@@ -1,4 +1,4 @@
-use Rattle.std.proofs.Common.{arith, reverse}
+use Rattle.std.proofs.Common.{arith}
 use Rattle.asm_expand.proofs.PairLemmas.{begun, endless, too_many, turns, closes, unpaired, stays, line_at}
 use Rattle.asm_expand.proofs.pairing.skip.Goals as goal
 
