@@ -1,8 +1,9 @@
 -- Steps of the code that pairs lines. This project's.
-use Rattle.std.specs.Prelude.{◌≡◌, ℕ, ◌+◌, ◌-◌, List, [], ◌∷◌, take, drop}
+use Rattle.std.specs.Prelude.{◌≡◌, ℕ, ◌+◌, ◌-◌, List, [], ◌∷◌, take, drop, reverse}
 use Rattle.sdt_fault.specs.declared.kinds.LineKind.TheVariants.{Nesting}
 use Rattle.asm_model.specs.declared.lines.Line.{Line}
 use Rattle.expand_model.specs.declared.operations.Opening.{Opening}
+use Rattle.expand_model.specs.declared.operations.Operation.{Operation}
 use Rattle.expand_model.specs.Pairing as model
 use Rattle.asm_expand.specs.declared.pairing.Behind.{Behind}
 use Rattle.asm_expand.specs.declared.pairing.Behind.TheVariants as behind
@@ -22,6 +23,10 @@ applied (effect.Opens p) o os = model.Stays p (o ∷ os)
 applied effect.Turns o os = model.turned os
 applied effect.Closes o os = model.closed os
 applied effect.Unpaired o os = model.Unpaired
+
+-- a word has this effect on the innermost opening
+abbrev pub HasEffect : Effect → Opening → Operation → Type 0
+HasEffect e o w = (os : List Opening) → model.behind_word o os w ≡ applied e o os
 
 -- what a step gives, and what it leaves open
 abbrev pub behind_shown : Behind → Opening → List Opening → model.Behind
@@ -52,3 +57,17 @@ abbrev pub inside_shown : BodyPart → Line → ℕ → List Line → model.Take
 inside_shown inside.Stays l n ls rest = model.with_line l rest
 inside_shown inside.Ends l n ls rest = model.Whole [] n ls
 inside_shown inside.Nested l n ls rest = model.Bad l Nesting
+
+-- an effect leaves this open, where openings are listed with the innermost last
+abbrev pub Puts : Effect → Opening → List Opening → Opening → List Opening → Behind → Type 0
+Puts e o os p ps b = applied e o (reverse os) ≡ behind_shown b p (reverse ps)
+
+-- a line leaves this open
+abbrev pub Passes : Line → Opening → List Opening → Opening → List Opening → Behind → Type 0
+Passes l o os p ps b = model.behind_line o (reverse os) (model.raw_operation l) ≡ behind_shown b p (reverse ps)
+
+-- what a line is inside a definition
+abbrev pub IsBodyPart : BodyPart → Line → Type 0
+IsBodyPart part line =
+    (l : Line) (n : ℕ) (ls : List Line) (rest : model.Taken)
+    → model.taken_line (model.raw_operation line) l n ls rest ≡ inside_shown part l n ls rest

@@ -1,12 +1,11 @@
 //! How lines that aren't read are paired.
 
-ghost use Rattle.std.specs.Prelude.{◌≡◌, ◌≢◌, ℕ, List, [], reverse, IfOk};
-ghost use Rattle.asm_model.specs.declared.lines.Line.{Line};
+ghost use Rattle.std.specs.Prelude.{◌≡◌, ◌≢◌, List, [], reverse, IfOk};
 ghost use Rattle.expand_model.specs.declared.operations.Opening.{Opening};
 ghost use Rattle.expand_model.specs.declared.operations.Opening.TheVariants as opening;
 ghost use Rattle.expand_model.specs.declared.operations.Operation.TheVariants as operation;
 ghost use Rattle.expand_model.specs.Pairing as model;
-ghost use Rattle.asm_expand.specs.Pairing.{applied, behind_shown, inside_shown, Shows, ShowsTaken};
+ghost use Rattle.asm_expand.specs.Pairing.{applied, behind_shown, HasEffect, IsBodyPart, Passes, Puts, Shows, ShowsTaken};
 
 use crate::operations::operation_of;
 use crate::words::words_of;
@@ -69,7 +68,7 @@ pub fn raw_operation(line: &Line) -> Option<Operation>
 
 /// The same inside a definition, where MACRO and MEND alone count.
 fn effect_inside(operation: Operation) -> Effect
-    ensures { (os : List Opening) → model.behind_word opening.Definition os operation ≡ applied result opening.Definition os }
+    ensures { HasEffect result opening.Definition operation }
 {
     match operation {
         Operation::Macro => Effect::Opens(Opening::Definition),
@@ -80,7 +79,7 @@ fn effect_inside(operation: Operation) -> Effect
 
 /// The effect of ELSE.
 fn effect_of_else(innermost: Opening) -> Effect
-    ensures { (os : List Opening) → model.behind_word innermost os operation.Else ≡ applied result innermost os }
+    ensures { HasEffect result innermost operation.Else }
 {
     match innermost {
         Opening::Definition => Effect::Nothing,
@@ -91,7 +90,7 @@ fn effect_of_else(innermost: Opening) -> Effect
 
 /// The effect of ENDIF.
 fn effect_of_end_if(innermost: Opening) -> Effect
-    ensures { (os : List Opening) → model.behind_word innermost os operation.EndIf ≡ applied result innermost os }
+    ensures { HasEffect result innermost operation.EndIf }
 {
     match innermost {
         Opening::Definition => Effect::Nothing,
@@ -102,7 +101,7 @@ fn effect_of_end_if(innermost: Opening) -> Effect
 
 /// The effect of WEND.
 fn effect_of_wend(innermost: Opening) -> Effect
-    ensures { (os : List Opening) → model.behind_word innermost os operation.WEnd ≡ applied result innermost os }
+    ensures { HasEffect result innermost operation.WEnd }
 {
     match innermost {
         Opening::Definition => Effect::Nothing,
@@ -114,7 +113,7 @@ fn effect_of_wend(innermost: Opening) -> Effect
 /// The effect of a word outside of definitions.
 fn effect_outside(innermost: Opening, operation: Operation) -> Effect
     requires { innermost ≢ opening.Definition }
-    ensures { (os : List Opening) → model.behind_word innermost os operation ≡ applied result innermost os }
+    ensures { HasEffect result innermost operation }
 {
     match operation {
         Operation::If => Effect::Opens(Opening::Condition),
@@ -171,7 +170,7 @@ fn put(
     innermost: &mut Opening,
     outer: &mut Vec<Opening>,
 ) -> Result<Behind, NoMemory>
-    ensures { IfOk result (λ b. applied effect innermost.old (reverse outer.old.items) ≡ behind_shown b innermost.new (reverse outer.new.items)) }
+    ensures { IfOk result (Puts effect innermost.old outer.old.items innermost.new outer.new.items) }
 {
     match effect {
         Effect::Nothing => Ok(Behind::Stays),
@@ -188,7 +187,7 @@ fn put(
 
 /// The effect of the line on what is open.
 fn pass(line: &Line, innermost: &mut Opening, outer: &mut Vec<Opening>) -> Result<Behind, NoMemory>
-    ensures { IfOk result (λ b. model.behind_line innermost.old (reverse outer.old.items) (model.raw_operation line.now) ≡ behind_shown b innermost.new (reverse outer.new.items)) }
+    ensures { IfOk result (Passes line.now innermost.old outer.old.items innermost.new outer.new.items) }
 {
     let effect = effect_of(*innermost, raw_operation(line));
     put(effect, innermost, outer)
@@ -224,7 +223,7 @@ pub fn skip(
 
 /// What a line is inside a definition that is taken.
 fn part_of(line: &Line) -> BodyPart
-    ensures { (l : Line) (n : ℕ) (ls : List Line) (rest : model.Taken) → model.taken_line (model.raw_operation line.now) l n ls rest ≡ inside_shown result l n ls rest }
+    ensures { IsBodyPart result line.now }
 {
     match raw_operation(line) {
         Some(Operation::MEnd) => BodyPart::Ends,

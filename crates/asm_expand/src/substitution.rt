@@ -7,7 +7,7 @@ ghost use Rattle.expand_model.specs.Standing as place;
 ghost use Rattle.expand_model.specs.Standing.{Byte};
 ghost use Rattle.expand_model.specs.States.{State, text_named};
 ghost use Rattle.expand_model.specs.Substitution as model;
-ghost use Rattle.asm_expand.specs.Substitution.{Becomes, IsPut};
+ghost use Rattle.asm_expand.specs.Substitution.{Fails, Gives, PutsByte, PutsDollar, PutsName};
 ghost use Rattle.asm_expand.specs.Variables.{HasTables};
 
 use crate::standing::begun_at;
@@ -60,7 +60,7 @@ fn named(
     out: &mut Vec<u8>,
 ) -> Result<Option<usize>, NoMemory>
     requires { width ≤ length rest.now }
-    ensures { IfOk result (λ taken. (s : State) → HasTables tables.now s → Becomes (text_named s (take width rest.now), model.taken_width width rest.now) taken out.old.items out.new.items) }
+    ensures { IfOk result (PutsName tables.now width rest.now out.old.items out.new.items) }
 {
     let name = Text::from_slice(alloc, &rest[..width])?;
     if tables.append_text(&name, out)? {
@@ -76,7 +76,7 @@ fn dollar(
     rest: &[u8],
     out: &mut Vec<u8>,
 ) -> Result<Option<usize>, NoMemory>
-    ensures { IfOk result (λ taken. (s : State) → HasTables tables.now s → Becomes (model.dollar (text_named s) rest.now) taken out.old.items out.new.items) }
+    ensures { IfOk result (PutsDollar tables.now rest.now out.old.items out.new.items) }
 {
     if begins_with(b'$', rest) {
         out.push(b'$')?;
@@ -122,7 +122,7 @@ fn put(
     rest: &[u8],
     out: &mut Vec<u8>,
 ) -> Result<Option<usize>, NoMemory>
-    ensures { IfOk result (λ taken. (s : State) (bs : List Byte) → HasTables tables.now s → model.plain bs ≡ rest.now → IsPut (model.substituted_from (text_named s) 0 ((first, standing) ∷ bs)) (λ n. model.substituted_from (text_named s) n bs) taken out.old.items out.new.items) }
+    ensures { IfOk result (PutsByte tables.now 0 (first, standing) rest.now out.old.items out.new.items) }
 {
     if first == b'$' && takes_dollar(standing) {
         return dollar(alloc, tables, rest, out);
@@ -141,7 +141,7 @@ fn pass(
     rest: &[u8],
     out: &mut Vec<u8>,
 ) -> Result<Option<usize>, NoMemory>
-    ensures { IfOk result (λ taken. (s : State) (bs : List Byte) → HasTables tables.now s → model.plain bs ≡ rest.now → IsPut (model.substituted_from (text_named s) dropped ((first, standing) ∷ bs)) (λ n. model.substituted_from (text_named s) n bs) taken out.old.items out.new.items) }
+    ensures { IfOk result (PutsByte tables.now dropped (first, standing) rest.now out.old.items out.new.items) }
 {
     if dropped == 0 {
         return put(alloc, tables, first, standing, rest, out);
@@ -163,7 +163,7 @@ fn first_of(text: &[u8], at: usize) -> Option<(u8, &[u8])>
 
 /// A line's text after substitution; None where nothing has one of its names.
 pub fn substitute(alloc: Global, tables: &Tables, text: &[u8]) -> Result<Option<Vec<u8>>, NoMemory>
-    ensures { IfOk result (λ found. (s : State) → HasTables tables.now s → MatchOption found (model.substituted s text.now ≡ Err UnknownWord) (λ v. model.substituted s text.now ≡ Ok v.items)) }
+    ensures { IfOk result (λ found. MatchOption found (Fails tables.now text.now) (λ v. Gives tables.now text.now v.items)) }
 {
     let mut out = Vec::new(alloc);
     let mut standing = Standing::Open;
