@@ -19,36 +19,39 @@ takes_dollar Quoted = true
 takes_dollar _ = false
 
 -- how many bytes a name at the front has; 0 where there is none
-abbrev pub name_width : List Byte → ℕ
+abbrev pub name_width : List ℕ → ℕ
 name_width [] = 0
-name_width (b ∷ bs) = if is_letter b.0 then prefix_len (λ d. is_word d.0) (b ∷ bs) else 0
+name_width (c ∷ cs) = if is_letter c then prefix_len is_word (c ∷ cs) else 0
 
-abbrev pub begins_with : ℕ → List Byte → Bool
+abbrev pub begins_with : ℕ → List ℕ → Bool
 begins_with c [] = false
-begins_with c (b ∷ bs) = b.0 == c
+begins_with c (d ∷ ds) = d == c
 
 -- a name of n bytes, and the dot behind it
-abbrev pub taken_width : ℕ → List Byte → ℕ
-taken_width n bs = if begins_with 46 (drop n bs) then n + 1 else n
+abbrev pub taken_width : ℕ → List ℕ → ℕ
+taken_width n cs = if begins_with 46 (drop n cs) then n + 1 else n
+
+-- what a dollar before these bytes becomes, and how many of them it takes
+abbrev pub dollar : (List ℕ → Option (List ℕ)) → List ℕ → Option (List ℕ) × ℕ
+dollar texts cs =
+    if begins_with 36 cs then (Some (36 ∷ []), 1)
+    else if nat_lt 0 (name_width cs) then (texts (take (name_width cs) cs), taken_width (name_width cs) cs)
+    else (Some (36 ∷ []), 0)
 
 -- a text before the others
 abbrev pub put : Option (List ℕ) → Result (List ℕ) LineKind → Result (List ℕ) LineKind
 put None rest = Err UnknownWord
 put (Some text) rest = mapped (λ r. text ++ r) rest
 
--- what a dollar before these bytes becomes, and how many of them it takes
-abbrev pub dollar : (List ℕ → Option (List ℕ)) → List Byte → Option (List ℕ) × ℕ
-dollar texts bs =
-    if begins_with 36 bs then (Some (36 ∷ []), 1)
-    else if nat_lt 0 (name_width bs) then (texts (map (λ b. b.0) (take (name_width bs) bs)), taken_width (name_width bs) bs)
-    else (Some (36 ∷ []), 0)
+abbrev pub plain : List Byte → List ℕ
+plain bs = map (λ b. b.0) bs
 
 -- bytes of which the first n are taken away
 abbrev pub substituted_from : (List ℕ → Option (List ℕ)) → ℕ → List Byte → Result (List ℕ) LineKind
 substituted_from texts n [] = Ok []
 substituted_from texts (suc n) (b ∷ bs) = substituted_from texts n bs
 substituted_from texts zero (b ∷ bs) =
-    if b.0 == 36 && takes_dollar b.1 then put (dollar texts bs).0 (substituted_from texts (dollar texts bs).1 bs)
+    if b.0 == 36 && takes_dollar b.1 then put (dollar texts (plain bs)).0 (substituted_from texts (dollar texts (plain bs)).1 bs)
     else put (Some (b.0 ∷ [])) (substituted_from texts 0 bs)
 
 -- a line's text after substitution, or UnknownWord where nothing has one of its names

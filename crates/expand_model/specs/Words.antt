@@ -9,7 +9,7 @@ use Rattle.asm_model.specs.Says.{between_bars}
 use Rattle.asm_model.specs.Tokens.{blanks}
 use Rattle.expand_model.specs.declared.standing.Standing.{Standing}
 use Rattle.expand_model.specs.declared.standing.Standing.TheVariants.{Quoted}
-use Rattle.expand_model.specs.Standing.{Byte, barred_width, before_comment}
+use Rattle.expand_model.specs.Standing.{Byte, bars_width, before_comment}
 
 pub record Words : Type 0 where
   pub label : List ℕ
@@ -21,7 +21,7 @@ abbrev pub word_width : (ℕ → Bool) → List ℕ → ℕ
 word_width passes [] = 0
 word_width passes (c ∷ cs) =
     if c == 59 then 0
-    else if c == 124 && nat_lt 0 (barred_width cs) then barred_width cs
+    else if nat_lt 0 (bars_width c cs) then bars_width c cs
     else if passes c then prefix_len passes cs + 1
     else 1
 

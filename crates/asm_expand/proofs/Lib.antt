@@ -1,0 +1,4 @@
+pub mod PairLemmas
+pub mod SubstitutionLemmas
+pub mod TakingLemmas
+pub mod UnwindingLemmas

@@ -1,0 +1,6 @@
+-- What the clauses of the crate cite.
+pub mod Pairing
+pub mod Steps
+pub mod Substitution
+pub mod Unwinding
+pub mod Variables

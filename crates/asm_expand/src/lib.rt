@@ -1,0 +1,9 @@
+//! Expansion of a source: variables, conditions, loops, macros and files.
+#![tactic(auto)]
+
+pub mod operations;
+pub mod pairing;
+pub mod standing;
+pub mod substitution;
+pub mod variables;
+pub mod words;
