@@ -1,6 +1,6 @@
 -- Load files lie in what is needed.
-use Rattle.std.proofs.Common.{◌≡◌, ℕ, List, [], ◌∷◌, ◌++◌, length, map, Result, Ok, Err, refl, sym, subst, arith, Bool, true, false, ◌⊎◌, inl, inr, ◌≢◌}
-use Rattle.std.specs.Prelude.{◌==◌, ◌||◌}
+use Rattle.std.proofs.Common.{◌≡◌, ℕ, List, [], ◌∷◌, ◌++◌, length, map, Result, Ok, Err, refl, sym, subst, arith, true, false, ◌⊎◌, inl, inr, ◌≢◌}
+use Rattle.std.specs.Prelude.{◌==◌}
 use Rattle.std.specs.List.{AllByRecursion}
 use Rattle.std.proofs.lemmas.Bool.Decides.{eqb_tells, nat_tests}
 use Rattle.sdt_fault.specs.declared.kinds.FileKind.TheVariants as kind

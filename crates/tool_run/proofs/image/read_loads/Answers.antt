@@ -1,4 +1,3 @@
-use Rattle.std.proofs.Common.{sym, ◌∙◌}
 use Rattle.sdt_outside.specs.Counts.{Rose}
 use Rattle.tool_run.proofs.ReadLemmas.{inputs_ended, loads_refused, name_missing}
 use Rattle.tool_run.proofs.image.read_loads.Goals as goal
