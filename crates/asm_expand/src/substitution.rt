@@ -1,14 +1,9 @@
 //! Substitution.
 
-ghost use Rattle.std.specs.Prelude.{◌≡◌, ◌≤◌, ◌<◌, ◌∷◌, ◌^◌, ℕ, List, [], length, take, drop, IfOk, MatchOption, Ok, Err};
-ghost use Rattle.std.specs.List.{prefix_len};
-ghost use Rattle.sdt_fault.specs.declared.kinds.LineKind.TheVariants.{UnknownWord};
+ghost use Rattle.std.specs.Prelude.{◌≡◌, ◌≤◌, ◌∷◌, [], length, drop, IfOk, MatchOption};
 ghost use Rattle.expand_model.specs.Standing as place;
-ghost use Rattle.expand_model.specs.Standing.{Byte};
-ghost use Rattle.expand_model.specs.States.{State, text_named};
 ghost use Rattle.expand_model.specs.Substitution as model;
 ghost use Rattle.asm_expand.specs.Substitution.{Fails, Gives, PutsByte, PutsDollar, PutsName};
-ghost use Rattle.asm_expand.specs.Variables.{HasTables};
 
 use crate::standing::begun_at;
 use crate::variables::Tables;
