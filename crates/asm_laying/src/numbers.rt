@@ -94,7 +94,7 @@ pub fn as_multiple(number: Result<u32, LineKind>) -> Result<u32, LineKind>
             if is_power(number) {
                 return Ok(number);
             }
-            Err(LineKind::OutOfRange)
+            Err(LineKind::BadOperand)
         }
         Err(kind) => Err(kind),
     }

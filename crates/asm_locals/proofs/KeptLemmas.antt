@@ -8,8 +8,6 @@ use Rattle.asm_model.specs.declared.exprs.ExprItem.{ExprItem}
 use Rattle.asm_model.specs.declared.exprs.ExprItem.TheVariants as item
 use Rattle.asm_model.specs.declared.exprs.Part.{Part}
 use Rattle.asm_model.specs.declared.exprs.Part.TheVariants as part
-use Rattle.asm_model.specs.declared.exprs.UnaryOp.{UnaryOp}
-use Rattle.asm_model.specs.declared.exprs.BinaryOp.{BinaryOp}
 use Rattle.asm_model.specs.declared.values.Value.TheVariants.{Number}
 use Rattle.asm_model.specs.declared.operands.Shift.{Shift}
 use Rattle.asm_model.specs.declared.operands.Shift.TheVariants as shift
@@ -30,13 +28,13 @@ use Rattle.asm_model.specs.declared.statements.PseudoLine.TheVariants as pseudo
 use Rattle.asm_model.specs.declared.statements.Statement.{Statement}
 use Rattle.asm_model.specs.declared.statements.What.{What}
 use Rattle.asm_model.specs.declared.statements.What.TheVariants as what
-use Rattle.asm_model.specs.Grammar.{Tree, Leaf, Before, Between, postfix, plain, operand_of, before_of, between_of, level, Spells, operand, of_name, before, grouped, between, tighter}
+use Rattle.asm_model.specs.Grammar.{Tree, Leaf, Before, Between, postfix, plain, operand_of, before_of, between_of, Spells, operand, of_name, before, grouped, between, tighter}
 use Rattle.asm_model.specs.Labels.{field_defines, defined_by, imported_in}
 use Rattle.asm_model.specs.PlacedLines.{HasName, HasImport}
 use Rattle.asm_model.specs.Sound.{HasNoPlace, HaveNoPlaces, IsPlain}
-use Rattle.said_model.specs.Fit.{AllPlaceless, DirectiveFits, WhatFits, IsFit}
+use Rattle.said_model.specs.Fit.{AllPlaceless, WhatFits, IsFit}
 use Rattle.said_model.specs.Named.{ItemNamed, AllItemsNamed, LoadNamed}
-use Rattle.said_model.specs.Said.{IsRead, AllRead, OptionRead, ShiftSaid, AddressSaid, HalfOffsetSaid, ArmSaid, PseudoSaid, BoundaryRead, GivenSaid, DirectiveSaid, WhatSaid, LoadsPlain, IsSaid, what_names, label_names, said_names, HoldsNoZero, HasTexts}
+use Rattle.said_model.specs.Said.{IsRead, AllRead, OptionRead, ShiftSaid, AddressSaid, HalfOffsetSaid, ArmSaid, PseudoSaid, BoundaryRead, GivenSaid, DirectiveSaid, WhatSaid, LoadsPlain, IsSaid, what_names, label_names, HoldsNoZero, HasTexts}
 use Rattle.asm_locals.specs.Labels.{number_on, local_number, target}
 use Rattle.asm_locals.specs.Naming.{Targets, hidden_name, reference, named_item, named, all_named, option_named, named_shift, named_address, named_half, named_arm, named_pseudo, named_boundary, named_register, named_directive, named_what, named_label, named_behind, in_names}
 

@@ -1,5 +1,5 @@
 -- What is found in a table of the nearest labels.
-use Rattle.std.proofs.Common.{◌≡◌, ◌<◌, ℕ, List, [], ◌∷◌, ◌-◌, ◌+◌, ◌*◌, ◌==◌, cond, Bool, true, false, refl, sym, ◌∙◌, ap, subst, suc, length, arith, Option, Some, None}
+use Rattle.std.proofs.Common.{◌≡◌, ◌<◌, ℕ, List, [], ◌∷◌, ◌-◌, ◌+◌, ◌*◌, ◌==◌, cond, Bool, true, false, refl, ◌∙◌, ap, suc, length, arith, Option, Some, None}
 use Rattle.std.specs.Prelude.{nat_lt}
 use Rattle.std.specs.Option.{option_and_then}
 use Rattle.asm_model.specs.declared.statements.Statement.{Statement}
@@ -57,27 +57,21 @@ found_forth nearest labels e h = λ j text. (
 
 -- ---- tables of a line more
 
-pub behind_table : (before : List Statement) (s : Statement) (number : Option ℕ) (k : ℕ) (table : List (Option ℕ)) → number ≡ local_number s → length before ≡ k
-    → IsTable table (noted number k (begun s.what (label_behind before))) → IsTable table (label_behind (s ∷ before))
-behind_table before s number k table e at h =
-    let f = subst (λ m. IsTable table (noted m k (begun s.what (label_behind before)))) e h in
-    let g = subst (λ m. IsTable table (noted (local_number s) m (begun s.what (label_behind before)))) (sym at) f in
-    record { size = g.size; entries = λ n b. g.entries n b }
+pub behind_table : (before : List Statement) (s : Statement) (number : Option ℕ) (begins : Bool) (k : ℕ) (table : List (Option ℕ)) → number ≡ local_number s
+    → begins ≡ begins_stretch s.what → length before ≡ k
+    → IsTable table (noted number k (begun begins (label_behind before))) → IsTable table (label_behind (s ∷ before))
+behind_table before s number begins k table e same at h =
+    let f : IsTable table (noted (local_number s) (length before) (begun (begins_stretch s.what) (label_behind before))) = rw (← e, ← same, at) h in
+    record { size = f.size; entries = λ n b. f.entries n b }
 
-pub ahead_table : (k : ℕ) (s : Statement) (rest : List Statement) (number : Option ℕ) (w : What) (table : List (Option ℕ)) → number ≡ local_number s
-    → begins_stretch w ≡ begins_stretch s.what
-    → IsTable table (begun w (noted number k (label_ahead (suc k) rest))) → IsTable table (label_ahead k (s ∷ rest))
-ahead_table k s rest number w table e same h =
-    let f = subst (λ m. IsTable table (begun w (noted m k (label_ahead (suc k) rest)))) e h in
-    record {
-      size = f.size;
-      entries = λ n b. f.entries n b ∙ ap (λ x. cond x None (noted (local_number s) k (label_ahead (suc k) rest) n)) same;
-    }
+pub ahead_table : (k : ℕ) (s : Statement) (rest : List Statement) (number : Option ℕ) (begins : Bool) (table : List (Option ℕ)) → number ≡ local_number s
+    → begins ≡ begins_stretch s.what
+    → IsTable table (begun begins (noted number k (label_ahead (suc k) rest))) → IsTable table (label_ahead k (s ∷ rest))
+ahead_table k s rest number begins table e same h =
+    let f : IsTable table (begun (begins_stretch s.what) (noted (local_number s) k (label_ahead (suc k) rest))) = rw (← e, ← same) h in
+    record { size = f.size; entries = λ n b. f.entries n b }
 
-pub ahead_named : (k : ℕ) (s : Statement) (rest : List Statement) (source : List ℕ) (label : Option (List ℕ)) (number : Option ℕ) (w : What) (f : List ℕ → Option ℕ)
-    → source ≡ s.source → label ≡ named_label k number s.label → number ≡ local_number s → w ≡ named_what f s.what → f ≡ forth_to (label_ahead (suc k) rest)
-    → record { source = source; number = s.number; label = label; what = w } ≡ named_ahead k s rest
-ahead_named k s rest source label number w f e l n v g =
-    let lab : label ≡ named_label k (local_number s) s.label = l ∙ ap (λ m. named_label k m s.label) n in
-    let wha : w ≡ named_what (forth_to (label_ahead (suc k) rest)) s.what = v ∙ ap (λ h. named_what h s.what) g in
-    rw (e, lab, wha) refl
+pub ahead_named : (k : ℕ) (s : Statement) (rest : List Statement) (label : Option (List ℕ)) (number : Option ℕ) (w : What) (f : List ℕ → Option ℕ)
+    → label ≡ named_label k number s.label → number ≡ local_number s → w ≡ named_what f s.what → f ≡ forth_to (label_ahead (suc k) rest)
+    → record { source = s.source; number = s.number; label = label; what = w } ≡ named_ahead k s rest
+ahead_named k s rest label number w f l n v g = rw (l, n, v, g) refl

@@ -1,14 +1,13 @@
 -- Steps of naming. References are named in two passes: forwards those that name labels before, backwards the others.
-use Rattle.std.specs.Prelude.{◌≡◌, ◌<◌, ℕ, suc, List, [], ◌∷◌, length, slice_get, if◌then◌else◌, Option, Some, None}
+use Rattle.std.specs.Prelude.{◌≡◌, ◌<◌, ℕ, suc, List, [], ◌∷◌, length, slice_get, Bool, if◌then◌else◌, Option, Some, None}
 use Rattle.std.specs.Option.{option_and_then}
 use Rattle.asm_model.specs.declared.exprs.ExprItem.{ExprItem}
 use Rattle.asm_model.specs.declared.exprs.ExprItem.TheVariants as item
 use Rattle.asm_model.specs.declared.statements.Statement.{Statement}
-use Rattle.asm_model.specs.declared.statements.What.{What}
 use Rattle.asm_locals.specs.declared.labels.Nearest.{Nearest}
 use Rattle.asm_locals.specs.declared.labels.Way.{Way}
 use Rattle.asm_locals.specs.declared.labels.Way.TheVariants as way
-use Rattle.asm_locals.specs.Labels.{local_number, begins_stretch, is_number, label_behind, label_ahead, back_to, forth_to, number_behind}
+use Rattle.asm_locals.specs.Labels.{local_number, is_number, label_behind, label_ahead, back_to, forth_to, number_behind}
 use Rattle.asm_locals.specs.Naming.{named_label, named_what}
 
 -- the entry of a number in a table of the nearest labels
@@ -21,8 +20,8 @@ pub record IsTable (table : List (Option ℕ)) (labels : ℕ → Option ℕ) : T
   pub entries : (n : ℕ) → n < 100 → entry table n ≡ labels n
 
 -- labels behind a line or ahead of it, with those of the line: a line may begin a stretch, and may have a label
-abbrev pub begun : What → (ℕ → Option ℕ) → ℕ → Option ℕ
-begun w labels n = if begins_stretch w then None else labels n
+abbrev pub begun : Bool → (ℕ → Option ℕ) → ℕ → Option ℕ
+begun begins labels n = if begins then None else labels n
 
 abbrev pub noted : Option ℕ → ℕ → (ℕ → Option ℕ) → ℕ → Option ℕ
 noted number statement labels n = if is_number n number then Some statement else labels n

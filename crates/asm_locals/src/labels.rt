@@ -147,12 +147,12 @@ impl Nearest {
         self.table.fill(None);
     }
 
-    /// Forgets the labels of a stretch, where the line begins one.
-    pub fn begin(&mut self, what: &What)
+    /// Forgets the labels of a stretch, where a line begins one.
+    pub fn begin(&mut self, begins: bool)
         ensures way { self.new.way ≡ self.old.way }
-        ensures begun { (labels : ℕ → Option ℕ) → IsTable self.old.table.items labels → IsTable self.new.table.items (begun what.now labels) }
+        ensures begun { (labels : ℕ → Option ℕ) → IsTable self.old.table.items labels → IsTable self.new.table.items (begun begins labels) }
     {
-        if begins_stretch(what) {
+        if begins {
             self.clear();
         }
     }

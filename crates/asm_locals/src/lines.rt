@@ -1,357 +1,154 @@
-//! Statements with names for local labels, on one side of their line.
+//! Names for local labels in all that a line says, given in place, on one side of the line.
 
-ghost use Rattle.std.specs.Prelude.{◌≡◌, IfOk};
+ghost use Rattle.std.specs.Prelude.{◌≡◌, OnOk};
 ghost use Rattle.asm_locals.specs.Naming as naming;
 ghost use Rattle.asm_locals.specs.Passes.{found};
 
 use crate::labels::Nearest;
 use crate::naming::{name_all, name_expr};
 use asm_model::{
-    Address, AreaAttributes, ArmLine, Boundary, DirectiveLine, Expr, HalfOffset, PseudoLine,
-    RnOperand, Shift, What,
+    Address, AreaAttributes, ArmLine, Boundary, DirectiveLine, HalfOffset, PseudoLine, RnOperand,
+    Shift, What,
 };
 use sdt_fault::NoMemory;
 use std::alloc::Global;
 
-fn name_option(
-    alloc: Global,
-    expr: Option<Expr>,
-    labels: &Nearest,
-) -> Result<Option<Expr>, NoMemory>
-    ensures { IfOk result (λ e. e ≡ naming.option_named (found labels.now) expr) }
-{
-    match expr {
-        None => Ok(None),
-        Some(expr) => Ok(Some(name_expr(alloc, expr, labels)?)),
-    }
-}
-
-fn name_shift(alloc: Global, shift: Shift, labels: &Nearest) -> Result<Shift, NoMemory>
-    ensures { IfOk result (λ s. s ≡ naming.named_shift (found labels.now) shift) }
+fn name_shift(alloc: Global, shift: &mut Shift, labels: &Nearest) -> Result<(), NoMemory>
+    ensures { OnOk result (shift.new ≡ naming.named_shift (found labels.now) shift.old) }
 {
     match shift {
-        Shift::By { kind, amount } => Ok(Shift::By {
-            kind,
-            amount: name_expr(alloc, amount, labels)?,
-        }),
-        Shift::Unshifted => Ok(Shift::Unshifted),
-        Shift::Extended => Ok(Shift::Extended),
+        Shift::By { amount, .. } => name_expr(alloc, amount, labels),
+        _ => Ok(()),
     }
 }
 
-fn name_address(alloc: Global, address: Address, labels: &Nearest) -> Result<Address, NoMemory>
-    ensures { IfOk result (λ a. a ≡ naming.named_address (found labels.now) address) }
+fn name_address(alloc: Global, address: &mut Address, labels: &Nearest) -> Result<(), NoMemory>
+    ensures { OnOk result (address.new ≡ naming.named_address (found labels.now) address.old) }
 {
     match address {
-        Address::Based {
-            rn,
-            indexing,
-            offset,
-        } => Ok(Address::Based {
-            rn,
-            indexing,
-            offset: name_expr(alloc, offset, labels)?,
-        }),
-        Address::Label { target } => Ok(Address::Label {
-            target: name_expr(alloc, target, labels)?,
-        }),
+        Address::Based { offset, .. } => name_expr(alloc, offset, labels),
+        Address::Label { target } => name_expr(alloc, target, labels),
     }
 }
 
-fn name_half(alloc: Global, offset: HalfOffset, labels: &Nearest) -> Result<HalfOffset, NoMemory>
-    ensures { IfOk result (λ o. o ≡ naming.named_half (found labels.now) offset) }
+fn name_half(alloc: Global, offset: &mut HalfOffset, labels: &Nearest) -> Result<(), NoMemory>
+    ensures { OnOk result (offset.new ≡ naming.named_half (found labels.now) offset.old) }
 {
     match offset {
-        HalfOffset::Number { offset } => Ok(HalfOffset::Number {
-            offset: name_expr(alloc, offset, labels)?,
-        }),
-        HalfOffset::Register { subtract, rm } => Ok(HalfOffset::Register { subtract, rm }),
+        HalfOffset::Number { offset } => name_expr(alloc, offset, labels),
+        _ => Ok(()),
     }
 }
 
-fn name_arm(alloc: Global, line: ArmLine, labels: &Nearest) -> Result<ArmLine, NoMemory>
-    ensures { IfOk result (λ l. l ≡ naming.named_arm (found labels.now) line) }
+fn name_arm(alloc: Global, line: &mut ArmLine, labels: &Nearest) -> Result<(), NoMemory>
+    ensures { OnOk result (line.new ≡ naming.named_arm (found labels.now) line.old) }
 {
     match line {
-        ArmLine::DataImmediate {
-            condition,
-            operation,
-            set_flags,
-            rd,
-            rn,
-            value,
-        } => Ok(ArmLine::DataImmediate {
-            condition,
-            operation,
-            set_flags,
-            rd,
-            rn,
-            value: name_expr(alloc, value, labels)?,
-        }),
-        ArmLine::DataShifted {
-            condition,
-            operation,
-            set_flags,
-            rd,
-            rn,
-            rm,
-            shift,
-        } => Ok(ArmLine::DataShifted {
-            condition,
-            operation,
-            set_flags,
-            rd,
-            rn,
-            rm,
-            shift: name_shift(alloc, shift, labels)?,
-        }),
-        ArmLine::WriteStatusImmediate {
-            condition,
-            saved,
-            fields,
-            value,
-        } => Ok(ArmLine::WriteStatusImmediate {
-            condition,
-            saved,
-            fields,
-            value: name_expr(alloc, value, labels)?,
-        }),
-        ArmLine::Branch {
-            condition,
-            link,
-            target,
-        } => Ok(ArmLine::Branch {
-            condition,
-            link,
-            target: name_expr(alloc, target, labels)?,
-        }),
-        ArmLine::SoftwareInterrupt { condition, number } => Ok(ArmLine::SoftwareInterrupt {
-            condition,
-            number: name_expr(alloc, number, labels)?,
-        }),
+        ArmLine::DataImmediate { value, .. } => name_expr(alloc, value, labels),
+        ArmLine::DataShifted { shift, .. } => name_shift(alloc, shift, labels),
+        ArmLine::WriteStatusImmediate { value, .. } => name_expr(alloc, value, labels),
+        ArmLine::Branch { target, .. } => name_expr(alloc, target, labels),
+        ArmLine::SoftwareInterrupt { number, .. } => name_expr(alloc, number, labels),
         line => name_transfer(alloc, line, labels),
     }
 }
 
 /// The rest of the lines: loads and stores, and those without an expression.
-fn name_transfer(alloc: Global, line: ArmLine, labels: &Nearest) -> Result<ArmLine, NoMemory>
-    ensures { IfOk result (λ l. l ≡ naming.named_transfer (found labels.now) line) }
+fn name_transfer(alloc: Global, line: &mut ArmLine, labels: &Nearest) -> Result<(), NoMemory>
+    ensures { OnOk result (line.new ≡ naming.named_transfer (found labels.now) line.old) }
 {
     match line {
-        ArmLine::TransferImmediate {
-            condition,
-            load,
-            byte,
-            rd,
-            address,
-        } => Ok(ArmLine::TransferImmediate {
-            condition,
-            load,
-            byte,
-            rd,
-            address: name_address(alloc, address, labels)?,
-        }),
-        ArmLine::TransferShifted {
-            condition,
-            load,
-            byte,
-            rd,
-            rn,
-            indexing,
-            subtract,
-            rm,
-            shift,
-        } => Ok(ArmLine::TransferShifted {
-            condition,
-            load,
-            byte,
-            rd,
-            rn,
-            indexing,
-            subtract,
-            rm,
-            shift: name_shift(alloc, shift, labels)?,
-        }),
-        ArmLine::TransferHalf {
-            condition,
-            load,
-            kind,
-            rd,
-            rn,
-            indexing,
-            offset,
-        } => Ok(ArmLine::TransferHalf {
-            condition,
-            load,
-            kind,
-            rd,
-            rn,
-            indexing,
-            offset: name_half(alloc, offset, labels)?,
-        }),
-        line => Ok(line),
+        ArmLine::TransferImmediate { address, .. } => name_address(alloc, address, labels),
+        ArmLine::TransferShifted { shift, .. } => name_shift(alloc, shift, labels),
+        ArmLine::TransferHalf { offset, .. } => name_half(alloc, offset, labels),
+        _ => Ok(()),
     }
 }
 
-fn name_pseudo(alloc: Global, line: PseudoLine, labels: &Nearest) -> Result<PseudoLine, NoMemory>
-    ensures { IfOk result (λ l. l ≡ naming.named_pseudo (found labels.now) line) }
+fn name_pseudo(alloc: Global, line: &mut PseudoLine, labels: &Nearest) -> Result<(), NoMemory>
+    ensures { OnOk result (line.new ≡ naming.named_pseudo (found labels.now) line.old) }
 {
     match line {
-        PseudoLine::LoadConstant {
-            condition,
-            rd,
-            value,
-        } => Ok(PseudoLine::LoadConstant {
-            condition,
-            rd,
-            value: name_expr(alloc, value, labels)?,
-        }),
-        PseudoLine::Address {
-            condition,
-            rd,
-            target,
-        } => Ok(PseudoLine::Address {
-            condition,
-            rd,
-            target: name_expr(alloc, target, labels)?,
-        }),
-        PseudoLine::LongAddress {
-            condition,
-            rd,
-            target,
-        } => Ok(PseudoLine::LongAddress {
-            condition,
-            rd,
-            target: name_expr(alloc, target, labels)?,
-        }),
-        PseudoLine::NoOperation => Ok(PseudoLine::NoOperation),
+        PseudoLine::LoadConstant { value, .. } => name_expr(alloc, value, labels),
+        PseudoLine::Address { target, .. } => name_expr(alloc, target, labels),
+        PseudoLine::LongAddress { target, .. } => name_expr(alloc, target, labels),
+        PseudoLine::NoOperation => Ok(()),
     }
 }
 
 fn name_attributes(
     alloc: Global,
-    attributes: AreaAttributes,
+    attributes: &mut AreaAttributes,
     labels: &Nearest,
-) -> Result<AreaAttributes, NoMemory>
-    ensures { IfOk result (λ a. a ≡ naming.named_attributes (found labels.now) attributes) }
+) -> Result<(), NoMemory>
+    ensures { OnOk result (attributes.new ≡ naming.named_attributes (found labels.now) attributes.old) }
 {
-    let AreaAttributes {
-        contents,
-        read_only,
-        interwork,
-        halfword,
-        pic,
-        reentrant,
-        align,
-    } = attributes;
-    Ok(AreaAttributes {
-        contents,
-        read_only,
-        interwork,
-        halfword,
-        pic,
-        reentrant,
-        align: name_option(alloc, align, labels)?,
-    })
+    match &mut attributes.align {
+        None => Ok(()),
+        Some(align) => name_expr(alloc, align, labels),
+    }
 }
 
-fn name_boundary(alloc: Global, boundary: Boundary, labels: &Nearest) -> Result<Boundary, NoMemory>
-    ensures { IfOk result (λ b. b ≡ naming.named_boundary (found labels.now) boundary) }
+fn name_boundary(alloc: Global, boundary: &mut Boundary, labels: &Nearest) -> Result<(), NoMemory>
+    ensures { OnOk result (boundary.new ≡ naming.named_boundary (found labels.now) boundary.old) }
 {
     match boundary {
-        Boundary::Word => Ok(Boundary::Word),
-        Boundary::Multiple { of } => Ok(Boundary::Multiple {
-            of: name_expr(alloc, of, labels)?,
-        }),
-        Boundary::Behind { multiple, offset } => Ok(Boundary::Behind {
-            multiple: name_expr(alloc, multiple, labels)?,
-            offset: name_expr(alloc, offset, labels)?,
-        }),
+        Boundary::Word => Ok(()),
+        Boundary::Multiple { of } => name_expr(alloc, of, labels),
+        Boundary::Behind { multiple, offset } => {
+            name_expr(alloc, multiple, labels)?;
+            name_expr(alloc, offset, labels)
+        }
     }
 }
 
-fn name_register(alloc: Global, operand: RnOperand, labels: &Nearest) -> Result<RnOperand, NoMemory>
-    ensures { IfOk result (λ r. r ≡ naming.named_register (found labels.now) operand) }
+fn name_register(alloc: Global, operand: &mut RnOperand, labels: &Nearest) -> Result<(), NoMemory>
+    ensures { OnOk result (operand.new ≡ naming.named_register (found labels.now) operand.old) }
 {
     match operand {
-        RnOperand::Register(number) => Ok(RnOperand::Register(number)),
-        RnOperand::Number(expr) => Ok(RnOperand::Number(name_expr(alloc, expr, labels)?)),
+        RnOperand::Register(_) => Ok(()),
+        RnOperand::Number(expr) => name_expr(alloc, expr, labels),
     }
 }
 
-fn name_directive(
-    alloc: Global,
-    line: DirectiveLine,
-    labels: &Nearest,
-) -> Result<DirectiveLine, NoMemory>
-    ensures { IfOk result (λ l. l ≡ naming.named_directive (found labels.now) line) }
+fn name_directive(alloc: Global, line: &mut DirectiveLine, labels: &Nearest) -> Result<(), NoMemory>
+    ensures { OnOk result (line.new ≡ naming.named_directive (found labels.now) line.old) }
 {
     match line {
-        DirectiveLine::Area { name, attributes } => Ok(DirectiveLine::Area {
-            name,
-            attributes: name_attributes(alloc, attributes, labels)?,
-        }),
-        DirectiveLine::Equ { value } => Ok(DirectiveLine::Equ {
-            value: name_expr(alloc, value, labels)?,
-        }),
-        DirectiveLine::Rn { register } => Ok(DirectiveLine::Rn {
-            register: name_register(alloc, register, labels)?,
-        }),
-        DirectiveLine::Assert { condition } => Ok(DirectiveLine::Assert {
-            condition: name_expr(alloc, condition, labels)?,
-        }),
-        DirectiveLine::Opt { options } => Ok(DirectiveLine::Opt {
-            options: name_expr(alloc, options, labels)?,
-        }),
-        DirectiveLine::Align { boundary } => Ok(DirectiveLine::Align {
-            boundary: name_boundary(alloc, boundary, labels)?,
-        }),
-        DirectiveLine::Map { value } => Ok(DirectiveLine::Map {
-            value: name_expr(alloc, value, labels)?,
-        }),
-        DirectiveLine::Field { size } => Ok(DirectiveLine::Field {
-            size: name_expr(alloc, size, labels)?,
-        }),
+        DirectiveLine::Area { attributes, .. } => name_attributes(alloc, attributes, labels),
+        DirectiveLine::Equ { value } => name_expr(alloc, value, labels),
+        DirectiveLine::Rn { register } => name_register(alloc, register, labels),
+        DirectiveLine::Assert { condition } => name_expr(alloc, condition, labels),
+        DirectiveLine::Opt { options } => name_expr(alloc, options, labels),
+        DirectiveLine::Align { boundary } => name_boundary(alloc, boundary, labels),
+        DirectiveLine::Map { value } => name_expr(alloc, value, labels),
+        DirectiveLine::Field { size } => name_expr(alloc, size, labels),
         line => name_data(alloc, line, labels),
     }
 }
 
 /// The rest of the directives: data, and those without an expression.
-fn name_data(
-    alloc: Global,
-    line: DirectiveLine,
-    labels: &Nearest,
-) -> Result<DirectiveLine, NoMemory>
-    ensures { IfOk result (λ l. l ≡ naming.named_data (found labels.now) line) }
+fn name_data(alloc: Global, line: &mut DirectiveLine, labels: &Nearest) -> Result<(), NoMemory>
+    ensures { OnOk result (line.new ≡ naming.named_data (found labels.now) line.old) }
 {
     match line {
-        DirectiveLine::Dcd { values } => Ok(DirectiveLine::Dcd {
-            values: name_all(alloc, values, labels)?,
-        }),
-        DirectiveLine::Dcdu { values } => Ok(DirectiveLine::Dcdu {
-            values: name_all(alloc, values, labels)?,
-        }),
-        DirectiveLine::Dcw { values } => Ok(DirectiveLine::Dcw {
-            values: name_all(alloc, values, labels)?,
-        }),
-        DirectiveLine::Dcb { values } => Ok(DirectiveLine::Dcb {
-            values: name_all(alloc, values, labels)?,
-        }),
-        DirectiveLine::Space { size } => Ok(DirectiveLine::Space {
-            size: name_expr(alloc, size, labels)?,
-        }),
-        line => Ok(line),
+        DirectiveLine::Dcd { values } => name_all(alloc, values, labels),
+        DirectiveLine::Dcdu { values } => name_all(alloc, values, labels),
+        DirectiveLine::Dcw { values } => name_all(alloc, values, labels),
+        DirectiveLine::Dcb { values } => name_all(alloc, values, labels),
+        DirectiveLine::Space { size } => name_expr(alloc, size, labels),
+        _ => Ok(()),
     }
 }
 
 /// What a line says, with names for the references that these labels have.
-pub fn name_what(alloc: Global, what: What, labels: &Nearest) -> Result<What, NoMemory>
-    ensures { IfOk result (λ w. w ≡ naming.named_what (found labels.now) what) }
+pub fn name_what(alloc: Global, what: &mut What, labels: &Nearest) -> Result<(), NoMemory>
+    ensures { OnOk result (what.new ≡ naming.named_what (found labels.now) what.old) }
 {
     match what {
-        What::Arm(line) => Ok(What::Arm(name_arm(alloc, line, labels)?)),
-        What::Pseudo(line) => Ok(What::Pseudo(name_pseudo(alloc, line, labels)?)),
-        What::Directive(line) => Ok(What::Directive(name_directive(alloc, line, labels)?)),
-        what => Ok(what),
+        What::Arm(line) => name_arm(alloc, line, labels),
+        What::Pseudo(line) => name_pseudo(alloc, line, labels),
+        What::Directive(line) => name_directive(alloc, line, labels),
+        _ => Ok(()),
     }
 }

@@ -9,6 +9,7 @@ use asm_model::{Expr, ExprItem};
 use sdt_fault::digits::push_hexadecimal_places;
 use sdt_fault::{List, NoMemory, Text};
 use std::alloc::Global;
+use std::mem;
 
 /// The name of a statement's local label.
 pub fn hidden_name(alloc: Global, statement: u64) -> Result<Text, NoMemory>
@@ -48,23 +49,29 @@ fn name_items(alloc: Global, items: &mut [ExprItem], labels: &Nearest) -> Result
     Ok(())
 }
 
-pub fn name_expr(alloc: Global, expr: Expr, labels: &Nearest) -> Result<Expr, NoMemory>
-    ensures { IfOk result (λ e. e ≡ naming.named (found labels.now) expr) }
+pub fn name_expr(alloc: Global, expr: &mut Expr, labels: &Nearest) -> Result<(), NoMemory>
+    ensures { OnOk result (expr.new ≡ naming.named (found labels.now) expr.old) }
 {
-    let Expr { items } = expr;
-    let mut items = items.into_vec();
+    let mut items = mem::replace(&mut expr.items, List::from_vec(Vec::new(alloc))).into_vec();
     name_items(alloc, items.as_mut_slice(), labels)?;
-    Ok(Expr {
-        items: List::from_vec(items),
-    })
+    expr.items = List::from_vec(items);
+    Ok(())
 }
 
-pub fn name_all(alloc: Global, exprs: List<Expr>, labels: &Nearest) -> Result<List<Expr>, NoMemory>
-    ensures { IfOk result (λ es. es ≡ naming.all_named (found labels.now) exprs) }
+fn name_exprs(alloc: Global, exprs: &mut [Expr], labels: &Nearest) -> Result<(), NoMemory>
+    ensures { OnOk result (exprs.new ≡ naming.all_named (found labels.now) exprs.old) }
 {
-    let mut named = Vec::new(alloc);
-    'exprs: for expr in exprs.into_vec() {
-        named.push(name_expr(alloc, expr, labels)?)?;
+    'exprs: for expr in exprs.iter_mut() {
+        name_expr(alloc, expr, labels)?;
     }
-    Ok(List::from_vec(named))
+    Ok(())
+}
+
+pub fn name_all(alloc: Global, exprs: &mut List<Expr>, labels: &Nearest) -> Result<(), NoMemory>
+    ensures { OnOk result (exprs.new ≡ naming.all_named (found labels.now) exprs.old) }
+{
+    let mut named = mem::replace(exprs, List::from_vec(Vec::new(alloc))).into_vec();
+    name_exprs(alloc, named.as_mut_slice(), labels)?;
+    *exprs = List::from_vec(named);
+    Ok(())
 }

@@ -3,7 +3,7 @@ use Rattle.std.proofs.Common.{◌≡◌, ℕ, List, [], ◌∷◌, Bool, true, f
 use Rattle.std.specs.Prelude.{Result, Ok, Err}
 use Rattle.sdt_word.specs.declared.codes.Condition.TheVariants.{Al}
 use Rattle.sdt_fault.specs.declared.kinds.LineKind.{LineKind}
-use Rattle.sdt_fault.specs.declared.kinds.LineKind.TheVariants.{Forward, OutOfRange, WrongType}
+use Rattle.sdt_fault.specs.declared.kinds.LineKind.TheVariants.{Forward, BadOperand, WrongType}
 use Rattle.asm_model.specs.declared.exprs.Expr.{Expr}
 use Rattle.asm_model.specs.declared.exprs.ExprItem.{ExprItem}
 use Rattle.asm_model.specs.declared.exprs.ExprItem.TheVariants as item
@@ -96,7 +96,7 @@ space_to_later = refl
 pub space_of_label : data_extent (line.Space (name (codes "start"))) ≡ Err WrongType
 space_of_label = refl
 
-pub aligned_to_three : data_extent (line.Align (limit.Multiple (number 3))) ≡ Err OutOfRange
+pub aligned_to_three : data_extent (line.Align (limit.Multiple (number 3))) ≡ Err BadOperand
 unfolding is_power
 aligned_to_three = refl
 

@@ -6,7 +6,7 @@ use Rattle.std.specs.Prelude.{ℕ, ◌+◌, ◌-◌, ◌*◌, ◌^◌, ◌==◌,
 use Rattle.std.specs.List.{list_any}
 use Rattle.sdt_word.specs.Numbers.{rotated}
 use Rattle.sdt_fault.specs.declared.kinds.LineKind.{LineKind}
-use Rattle.sdt_fault.specs.declared.kinds.LineKind.TheVariants.{Syntax, WrongType, OutOfRange}
+use Rattle.sdt_fault.specs.declared.kinds.LineKind.TheVariants.{Syntax, BadOperand, WrongType}
 use Rattle.asm_model.specs.declared.values.Value.{Value}
 use Rattle.asm_model.specs.declared.values.Value.TheVariants.{Number, Words}
 use Rattle.asm_model.specs.declared.exprs.Expr.{Expr}
@@ -116,7 +116,7 @@ is_power n = list_any (λ k. n == 2 ^ k) powers
 
 -- a number as a multiple to align to
 abbrev pub as_multiple : Result ℕ LineKind → Result ℕ LineKind
-as_multiple (Ok n) = if is_power n then Ok n else Err OutOfRange
+as_multiple (Ok n) = if is_power n then Ok n else Err BadOperand
 as_multiple (Err k) = Err k
 
 abbrev pub padding : Sight → Boundary → Result Extent LineKind

@@ -9,7 +9,7 @@ use sdt_fault::Text;
 use sdt_word::Condition;
 
 /// What a line says, with the file and line where its text stands. A local label is kept as its digits behind
-/// a bar, which no name has.
+/// a bar, until `asm_locals` gives it a name that no line can spell; behind that, references are such names too.
 #[derive(Debug, Drop)]
 pub struct Statement {
     pub source: Text,

@@ -2,7 +2,7 @@
 use Rattle.std.proofs.Common.{◌≡◌, ℕ, ◌≤◌, Bool, true, false, cond, refl, ap, ◌∙◌, subst, arith, zero, suc}
 use Rattle.std.specs.Prelude.{Result, Ok, Err}
 use Rattle.sdt_fault.specs.declared.kinds.LineKind.{LineKind}
-use Rattle.sdt_fault.specs.declared.kinds.LineKind.TheVariants.{OutOfRange}
+use Rattle.sdt_fault.specs.declared.kinds.LineKind.TheVariants.{BadOperand}
 use Rattle.asm_model.specs.declared.values.Value.{Value}
 use Rattle.asm_model.specs.declared.values.Value.TheVariants.{Number, Truth, Words, Place}
 use Rattle.asm_model.specs.declared.statements.What.{What}
@@ -85,7 +85,7 @@ power_some (suc n) h = omega arith
 multiple_some : (r : Result ℕ LineKind) (n : ℕ) → OkAligned (mapped (λ m. Padding m n) (as_multiple r))
 multiple_some (Ok m) n = by_test (is_power m) refl
   where
-    by_test : (b : Bool) → is_power m ≡ b → OkAligned (mapped (λ m. Padding m n) (cond b (Ok m) (Err OutOfRange)))
+    by_test : (b : Bool) → is_power m ≡ b → OkAligned (mapped (λ m. Padding m n) (cond b (Ok m) (Err BadOperand)))
     by_test true e = power_some m e
     by_test false e = tt
 multiple_some (Err k) n = tt
@@ -93,12 +93,12 @@ multiple_some (Err k) n = tt
 both_some : (r q : Result ℕ LineKind) → OkAligned (on_both (λ m n. Padding m n) (as_multiple r) q)
 both_some (Ok m) (Ok n) = by_test (is_power m) refl
   where
-    by_test : (b : Bool) → is_power m ≡ b → OkAligned (on_both (λ m n. Padding m n) (cond b (Ok m) (Err OutOfRange)) (Ok n))
+    by_test : (b : Bool) → is_power m ≡ b → OkAligned (on_both (λ m n. Padding m n) (cond b (Ok m) (Err BadOperand)) (Ok n))
     by_test true e = power_some m e
     by_test false e = tt
 both_some (Ok m) (Err k) = by_test (is_power m)
   where
-    by_test : (b : Bool) → OkAligned (on_both (λ m n. Padding m n) (cond b (Ok m) (Err OutOfRange)) (Err k))
+    by_test : (b : Bool) → OkAligned (on_both (λ m n. Padding m n) (cond b (Ok m) (Err BadOperand)) (Err k))
     by_test true = tt
     by_test false = tt
 both_some (Err j) (Ok n) = tt

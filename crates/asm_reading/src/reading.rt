@@ -262,14 +262,7 @@ pub fn read_lines(alloc: Global, lines: &[Flat]) -> Result<Reading, NoMemory>
     ensures few { IfOk result (λ reading. length reading.statements.items ≤ length lines.now) }
 {
     lines_are_said();
-    let Reading {
-        statements,
-        unread,
-        before,
-    } = read_as_written(alloc, lines)?;
-    Ok(Reading {
-        statements: name_locals(alloc, statements)?,
-        unread,
-        before,
-    })
+    let mut reading = read_as_written(alloc, lines)?;
+    name_locals(alloc, reading.statements.as_mut_slice())?;
+    Ok(reading)
 }

@@ -16,7 +16,8 @@ use Rattle.asm_model.specs.Laid.{final_value}
 use Rattle.source_model.specs.Registers.{Named, number_of}
 
 -- all names of the source, the statement's line, the names for registers that are known there, the names that symbols may
--- have, those of labels and imports, and the names that the source defines or imports, values or none
+-- have, those of labels and imports, and the names that the source defines or imports, values or none. Local labels are
+-- among the names, under names that no line can spell, and have no symbols
 pub record Context : Type 0 where
   pub names : List LaidName
   pub line : SourceLine

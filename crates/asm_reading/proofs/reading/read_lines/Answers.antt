@@ -3,10 +3,10 @@ use Rattle.asm_reading.proofs.reading.read_lines.Goals as goal
 
 pub returns-clause-said : goal.returns-clause-said
 returns-clause-said c =
-    said_written c.lines_are_said.ensures c.args.lines.now c.in_ok-statements.field-0 c.in_ok-statements.ensures c.in_ok-name_locals.field-0.items
+    said_written c.lines_are_said.ensures c.args.lines.now c.in_ok-reading.reading c.in_ok-reading.ensures c.name_locals.new.statements
     c.in_ok-name_locals.ensures
 
 pub returns-clause-few : goal.returns-clause-few
 returns-clause-few c =
-    few_written c.args.lines.now c.in_ok-statements.field-0 c.in_ok-statements.ensures c.in_ok-name_locals.field-0.items
+    few_written c.args.lines.now c.in_ok-reading.reading c.in_ok-reading.ensures c.name_locals.new.statements
     c.in_ok-name_locals.ensures
