@@ -1,0 +1,4 @@
+pub mod Linked
+pub mod Pieces
+pub mod Parts
+pub mod Layouts
