@@ -1,0 +1,3 @@
+//! Areas of linked objects as placing sees them, and what the regions of a link contain. Definitions; there is
+//! no engine.
+#![tactic(auto)]
