@@ -1,6 +1,11 @@
 -- The regions of a description, each with the pieces that stand in it. This project's.
-use Rattle.std.specs.Prelude.{ℕ, suc, ◌+◌, ◌%◌, ◌≤◌, Bool, true, false, not, ◌==◌, if◌then◌else◌, List, [], ◌∷◌, ◌++◌, length, map, Option, Some, None}
+use Rattle.std.specs.Prelude.{ℕ, suc, ◌+◌, ◌%◌, ◌≤◌, Bool, true, false, not, ◌==◌, if◌then◌else◌, List, [], ◌∷◌, ◌++◌, length, map, slice_get, Option, Some, None}
 use Rattle.std.specs.List.{filter, AllByRecursion}
+use Rattle.std.specs.Option.{option_and_then}
+use Rattle.aof_object.specs.declared.records.Area.{Area}
+use Rattle.aof_object.specs.declared.records.Object.{Object}
+use Rattle.link_model.specs.declared.placing.AreaName.{AreaName}
+use Rattle.link_model.specs.declared.selection.Named.{Named}
 use Rattle.place_model.specs.declared.scatter.Kind.{Kind}
 use Rattle.place_model.specs.declared.scatter.Kind.TheVariants as kind
 use Rattle.place_model.specs.declared.scatter.ScatterBase.{ScatterBase}
@@ -8,15 +13,15 @@ use Rattle.place_model.specs.declared.scatter.ScatterLoad.{ScatterLoad}
 use Rattle.place_model.specs.declared.scatter.ScatterRegion.{ScatterRegion}
 use Rattle.place_model.specs.Items.{Item, alignment, is_read_only, is_zero_initialised}
 use Rattle.place_model.specs.Assignment.{described_regions}
-use Rattle.place_model.specs.Things.{Thing, AnArea}
+use Rattle.place_model.specs.Things as things
+use Rattle.place_model.specs.Things.{Thing, AnArea, AVeneer}
 use Rattle.place_model.specs.Plans.{RegionVeneer, Contents, areas_in, veneers_in, header_in, startup_in}
 use Rattle.link_place.specs.declared.parts.Input.{Input}
 use Rattle.link_place.specs.declared.parts.Group.{Group}
 use Rattle.link_place.specs.declared.parts.Part.{Part}
 use Rattle.link_place.specs.declared.pieces.Piece.{Piece}
-use Rattle.link_place.specs.declared.pieces.What.TheVariants as what
-use Rattle.link_place.specs.Linked.{contents_of}
-use Rattle.link_place.specs.Pieces.{piece_of}
+use Rattle.link_place.specs.declared.pieces.Piece.TheVariants as piece
+use Rattle.link_items.specs.LinkedItems.{item_of, contents_of}
 
 abbrev pub contents_in : Input → Contents
 contents_in input = contents_of input.objects.now input.assigned.now input.veneers.now
@@ -32,7 +37,7 @@ abbrev pub zeros_in : Contents → ℕ → List Thing
 zeros_in c region = map AnArea (filter is_zero_initialised (areas_in c region))
 
 abbrev pub area_piece : Item → Piece
-area_piece i = record { what = what.Area (record { object = i.object; area = i.area }); multiple = alignment i; size = i.size; written = not (is_read_only i) }
+area_piece i = piece.Area (record { name = record { object = i.object; area = i.area }; multiple = alignment i; size = i.size; written = not (is_read_only i) })
 
 abbrev pub belongs : Bool → Item → Bool
 belongs true i = is_zero_initialised i
@@ -41,13 +46,28 @@ belongs false i = not (is_zero_initialised i)
 abbrev pub area_pieces : Bool → List Item → List Piece
 area_pieces zero items = map area_piece (filter (belongs zero) items)
 
+-- the area of a name, if there is one, and whether it is a piece of this part
+abbrev pub area_named : List (Named Object) → AreaName → Option Area
+area_named os n = option_and_then (λ o. slice_get o.value.areas n.area) (slice_get os n.object)
+
+abbrev pub pieces_by : Bool → AreaName → Option Area → List Piece
+pieces_by zero n None = []
+pieces_by zero n (Some a) = area_pieces zero (item_of n.object [] n.area a ∷ [])
+
 abbrev pub veneer_piece : RegionVeneer → Piece
-veneer_piece v = record {
-  what = what.Veneer (record { region = v.region; area = record { object = v.target.object; area = v.target.area }; offset = v.target.offset; thumb = v.thumb });
-  multiple = 4;
-  size = if v.thumb then 12 else 8;
-  written = false;
-}
+veneer_piece v = piece.Veneer (record {
+  region = v.region;
+  area = record { object = v.target.object; area = v.target.area };
+  offset = v.target.offset;
+  thumb = v.thumb;
+})
+
+-- the piece that a thing of the region of a number is
+abbrev pub piece_of : ℕ → Thing → Piece
+piece_of region things.Header = piece.Header
+piece_of region (AnArea i) = area_piece i
+piece_of region (AVeneer target thumb) = veneer_piece (record { region = region; target = target; thumb = thumb })
+piece_of region (things.Startup words) = piece.Startup
 
 abbrev pub veneer_pieces : ℕ → List RegionVeneer → List Piece
 veneer_pieces region veneers = map veneer_piece (filter (λ v. v.region == region) veneers)
@@ -93,5 +113,9 @@ groups_of (kind.Aif base relocatable) = plain_group base ∷ []
 abbrev pub IsAligned : Item → Type 0
 IsAligned i = i.attributes % 256 ≤ 16
 
-pub record AreAligned (input : Input) : Type 0 where
-  pub areas : AllByRecursion (λ items. AllByRecursion IsAligned items) (contents_in input).areas
+abbrev pub IsAlignedArea : Option Area → Type 0
+IsAlignedArea None = Unit {0}
+IsAlignedArea (Some a) = a.attributes % 256 ≤ 16
+
+pub record AreAligned (c : Contents) : Type 0 where
+  pub areas : AllByRecursion (λ items. AllByRecursion IsAligned items) c.areas

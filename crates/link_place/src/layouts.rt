@@ -107,12 +107,7 @@ fn lay_parts(
     Ok(size)
 }
 
-fn push_load(
-    alloc: Global,
-    out: &mut Vec<Load>,
-    group: &Group,
-    size: u64,
-) -> Result<(), NoMemory>
+fn push_load(alloc: Global, out: &mut Vec<Load>, group: &Group, size: u64) -> Result<(), NoMemory>
     ensures { OnOk result (out.new.items ≡ out.old.items ++ load_by group.now.name group.now size) }
 {
     match &group.name {
@@ -150,7 +145,15 @@ pub fn lay_out(
     let mut rest = parts;
     for (i, group) in groups.iter().enumerate() {
         let (own, others) = rest.split_at(group.count);
-        let size = lay_parts(alloc, &mut regions, words, origin, i as u32, own, group.base)?;
+        let size = lay_parts(
+            alloc,
+            &mut regions,
+            words,
+            origin,
+            i as u32,
+            own,
+            group.base,
+        )?;
         push_load(alloc, &mut loads, group, size)?;
         rest = others;
     }

@@ -1,15 +1,14 @@
 //! The regions of a description, with what stands in each.
 
 ghost use Rattle.std.specs.Prelude.{◌≡◌, ◌+◌, ◌++◌, ◌%◌, ◌^◌, ◌≤◌, ◌∷◌, [], length, map, slice_get, unwrap_or, OnOk, IfOk, sum_by, nat_le};
-ghost use Rattle.std.specs.List.{AllByRecursion, flat_map};
+ghost use Rattle.std.specs.List.{AllByRecursion, filter_map, flat_map};
 ghost use Rattle.std.specs.Option.{option_copied};
 ghost use Rattle.place_model.specs.Assignment.{described_regions, plain_regions};
 ghost use Rattle.place_model.specs.Plans.{header_in, startup_in};
-ghost use Rattle.link_place.specs.Linked.{area_named, item_of, items_in, region_veneer};
-ghost use Rattle.link_place.specs.Pieces.{piece_of};
-ghost use Rattle.link_place.specs.Parts.{area_piece, area_pieces, veneer_piece, veneer_pieces, contents_in, things_in, zeros_in, part_by, parts_from, parts_of, load_group, plain_group, groups_of, piece_count, IsAligned, AreAligned};
+ghost use Rattle.link_items.specs.LinkedItems.{item_of, item_at, region_veneer};
+ghost use Rattle.link_place.specs.Parts.{area_piece, area_pieces, area_named, pieces_by, piece_of, veneer_pieces, contents_in, things_in, zeros_in, part_by, parts_from, parts_of, load_group, plain_group, groups_of, piece_count, IsAligned, IsAlignedArea, AreAligned};
 
-use crate::pieces::{Piece, What};
+use crate::pieces::{AreaPiece, Piece};
 use aof_object::{Area, Object};
 use link_model::{AreaName, Named, Veneer};
 use place_model::{Kind, ScatterBase, ScatterLoad, ScatterRegion};
@@ -51,12 +50,7 @@ fn push_header(out: &mut Vec<Piece>, kind: &Kind, number: u32) -> Result<(), NoM
     match kind {
         Kind::Aif { .. } => {
             if number == 0 {
-                out.push(Piece {
-                    what: What::Header,
-                    multiple: 4,
-                    size: 128,
-                    written: false,
-                })?;
+                out.push(Piece::Header)?;
             }
             Ok(())
         }
@@ -70,12 +64,7 @@ fn push_startup(out: &mut Vec<Piece>, kind: &Kind, number: u32) -> Result<(), No
     match kind {
         Kind::Scatter(_) => {
             if number == 0 {
-                out.push(Piece {
-                    what: What::Startup,
-                    multiple: 4,
-                    size: 168,
-                    written: false,
-                })?;
+                out.push(Piece::Startup)?;
             }
             Ok(())
         }
@@ -86,14 +75,14 @@ fn push_startup(out: &mut Vec<Piece>, kind: &Kind, number: u32) -> Result<(), No
 /// The piece that an area is, of which the alignment is at most 2^16.
 fn area_piece(name: AreaName, area: &Area) -> Piece
     requires { area.now.attributes % 256 ≤ 16 }
-    ensures { result ≡ area_piece (item_of name [] area.now) }
+    ensures { result ≡ area_piece (item_of name.object [] name.area area.now) }
 {
-    Piece {
-        what: What::Area(name),
+    Piece::Area(AreaPiece {
+        name,
         multiple: 1 << (area.attributes % 256),
         size: area.size,
         written: area.attributes / 0x2000 % 2 == 0,
-    }
+    })
 }
 
 fn area_of<'a>(objects: &'a [Named<Object>], name: AreaName) -> Option<&'a Area>
@@ -112,8 +101,8 @@ fn push_area(
     name: AreaName,
     zero: bool,
 ) -> Result<(), NoMemory>
-    requires { AllByRecursion IsAligned (items_in objects.now (name ∷ [])) }
-    ensures { OnOk result (out.new.items ≡ out.old.items ++ area_pieces zero (items_in objects.now (name ∷ []))) }
+    requires { IsAlignedArea (area_named objects.now name) }
+    ensures { OnOk result (out.new.items ≡ out.old.items ++ pieces_by zero name (area_named objects.now name)) }
 {
     let Some(area) = area_of(objects, name) else {
         return Ok(());
@@ -131,8 +120,8 @@ fn push_areas(
     names: &[AreaName],
     zero: bool,
 ) -> Result<(), NoMemory>
-    requires { AllByRecursion IsAligned (items_in objects.now names.now) }
-    ensures { OnOk result (out.new.items ≡ out.old.items ++ area_pieces zero (items_in objects.now names.now)) }
+    requires { AllByRecursion IsAligned (filter_map (item_at objects.now) names.now) }
+    ensures { OnOk result (out.new.items ≡ out.old.items ++ area_pieces zero (filter_map (item_at objects.now) names.now)) }
 {
     for name in names {
         push_area(out, objects, *name, zero)?;
@@ -140,23 +129,12 @@ fn push_areas(
     Ok(())
 }
 
-fn veneer_piece(veneer: Veneer) -> Piece
-    ensures { result ≡ veneer_piece (region_veneer veneer) }
-{
-    Piece {
-        what: What::Veneer(veneer),
-        multiple: 4,
-        size: if veneer.thumb { 12 } else { 8 },
-        written: false,
-    }
-}
-
 fn push_veneers(out: &mut Vec<Piece>, veneers: &[Veneer], number: u32) -> Result<(), NoMemory>
     ensures { OnOk result (out.new.items ≡ out.old.items ++ veneer_pieces number (map region_veneer veneers.now)) }
 {
     for veneer in veneers {
         if veneer.region == number {
-            out.push(veneer_piece(*veneer))?;
+            out.push(Piece::Veneer(*veneer))?;
         }
     }
     Ok(())
@@ -173,23 +151,33 @@ fn areas_of<'a>(assigned: &'a [List<AreaName>], number: u32) -> &'a [AreaName]
 }
 
 fn things_of(alloc: Global, input: &Input<'_>, number: u32) -> Result<List<Piece>, NoMemory>
-    requires { AreAligned input.now }
+    requires { AreAligned (contents_in input.now) }
     ensures { IfOk result (λ pieces. pieces ≡ map (piece_of number) (things_in input.now.kind.now (contents_in input.now) number)) }
 {
     let mut out = Vec::new(alloc);
     push_header(&mut out, input.kind, number)?;
-    push_areas(&mut out, input.objects, areas_of(input.assigned, number), false)?;
+    push_areas(
+        &mut out,
+        input.objects,
+        areas_of(input.assigned, number),
+        false,
+    )?;
     push_veneers(&mut out, input.veneers, number)?;
     push_startup(&mut out, input.kind, number)?;
     Ok(List::from_vec(out))
 }
 
 fn zeros_of(alloc: Global, input: &Input<'_>, number: u32) -> Result<List<Piece>, NoMemory>
-    requires { AreAligned input.now }
+    requires { AreAligned (contents_in input.now) }
     ensures { IfOk result (λ pieces. pieces ≡ map (piece_of number) (zeros_in (contents_in input.now) number)) }
 {
     let mut out = Vec::new(alloc);
-    push_areas(&mut out, input.objects, areas_of(input.assigned, number), true)?;
+    push_areas(
+        &mut out,
+        input.objects,
+        areas_of(input.assigned, number),
+        true,
+    )?;
     Ok(List::from_vec(out))
 }
 
@@ -201,7 +189,7 @@ fn part_of(
     base: ScatterBase,
     maximum: Option<u32>,
 ) -> Result<Part, NoMemory>
-    requires { AreAligned input.now }
+    requires { AreAligned (contents_in input.now) }
     ensures { IfOk result (λ part. part ≡ part_by input.now.kind.now (contents_in input.now) number name.now base maximum) }
 {
     Ok(Part {
@@ -221,7 +209,7 @@ fn push_parts(
     first: u32,
     regions: &[ScatterRegion],
 ) -> Result<(), NoMemory>
-    requires aligned { AreAligned input.now }
+    requires aligned { AreAligned (contents_in input.now) }
     requires few { first + length regions.now ≤ 64 }
     ensures { OnOk result (out.new.items ≡ out.old.items ++ parts_from input.now.kind.now (contents_in input.now) first regions.now) }
 {
@@ -238,7 +226,7 @@ fn parts_of_loads(
     input: &Input<'_>,
     loads: &[ScatterLoad],
 ) -> Result<Vec<Part>, NoMemory>
-    requires aligned { AreAligned input.now }
+    requires aligned { AreAligned (contents_in input.now) }
     requires few { length (flat_map (λ l. l.regions) loads.now) ≤ 64 }
     ensures { IfOk result (λ parts. parts.items ≡ parts_from input.now.kind.now (contents_in input.now) 0 (flat_map (λ l. l.regions) loads.now)) }
 {
@@ -251,7 +239,7 @@ fn parts_of_loads(
 }
 
 fn plain_parts(alloc: Global, input: &Input<'_>, base: u32) -> Result<Vec<Part>, NoMemory>
-    requires { AreAligned input.now }
+    requires { AreAligned (contents_in input.now) }
     ensures { IfOk result (λ parts. parts.items ≡ parts_from input.now.kind.now (contents_in input.now) 0 (plain_regions base)) }
 {
     let mut out = Vec::new(alloc);
@@ -263,7 +251,7 @@ fn plain_parts(alloc: Global, input: &Input<'_>, base: u32) -> Result<Vec<Part>,
 
 /// All regions.
 pub fn all_parts(alloc: Global, input: &Input<'_>) -> Result<Vec<Part>, NoMemory>
-    requires aligned { AreAligned input.now }
+    requires aligned { AreAligned (contents_in input.now) }
     requires few { length (described_regions input.now.kind.now) ≤ 64 }
     ensures { IfOk result (λ parts. parts.items ≡ parts_of input.now.kind.now (contents_in input.now)) }
 {

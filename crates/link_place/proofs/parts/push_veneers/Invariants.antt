@@ -1,5 +1,5 @@
 use Rattle.std.proofs.Common.{◌≡◌, ◌++◌, drop, map}
-use Rattle.link_place.specs.Linked.{region_veneer}
+use Rattle.link_items.specs.LinkedItems.{region_veneer}
 use Rattle.link_place.specs.Parts.{veneer_pieces}
 use Rattle.link_place.proofs.parts.push_veneers.Given as goal
 
