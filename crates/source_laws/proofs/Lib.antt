@@ -4,6 +4,7 @@ pub mod LineLemmas
 pub mod ListLemmas
 pub mod ListedLemmas
 pub mod ObjectLemmas
+pub mod PoolLemmas
 pub mod SizeLemmas
 pub mod ThingLemmas
 pub mod UnitLemmas
