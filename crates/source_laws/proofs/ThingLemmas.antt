@@ -159,7 +159,7 @@ at_end ss area p h =
           (subst (λ n. p.0 + length (unit_bytes p.1) ≤ start_in area all Pool + n) (pool_long (source_of ss) area ws) i.1) (up_to_size area all),
     )
 
-lines_end : (ss : List Statement) → IsSound ss → (area : ℕ) (after before : List LaidLine) (l : LaidLine) → laid ss ≡ after ++ l ∷ before → l.area ≡ Some area
+pub lines_end : (ss : List Statement) → IsSound ss → (area : ℕ) (after before : List LaidLine) (l : LaidLine) → laid ss ≡ after ++ l ∷ before → l.area ≡ Some area
     → l.offset + l.size ≤ end_behind area (pieces_of (laid ss))
 lines_end ss sound area after before l e here =
     subst (λ z. z ≤ end_behind area (pieces_of (laid ss))) (sym (line_ends ss sound area after before l e here))

@@ -33,7 +33,7 @@ use Rattle.layout_laws.proofs.SoundLemmas.{statements_kept}
 use Rattle.said_model.specs.Said.{GivenSaid, ArmSaid, PseudoSaid, WhatSaid, AllSaid}
 use Rattle.source_model.specs.ArmForms.{arm_instruction}
 use Rattle.source_model.specs.Contexts.{Context, sees, value_of, number_in, and_then}
-use Rattle.source_model.specs.Objects.{Piece, unit_bytes, units_from, or_none, source_of, IsAmong, StandsIn}
+use Rattle.source_model.specs.Objects.{Piece, unit_bytes, units_from, or_none, or_empty, source_of, IsAmong, StandsIn}
 use Rattle.source_model.specs.PseudoForms.{pseudo_instructions}
 use Rattle.source_model.specs.Registers.{Named, register_in, as_register, given, with_register, named_by, registers_behind}
 use Rattle.source_model.specs.Units.{Emitted, Bytes, Word, Instruction, Stored, Target, Nothing, ByArea, BySymbol, placed, stored, word_units, narrow, half_units, byte_operand, byte_units, branch_symbol, instruction_units, units}
@@ -41,7 +41,8 @@ use Rattle.asm_instructions.specs.Fits.{NamesRegisters, Fits, AllFit}
 use Rattle.source_laws.specs.Laws.{word_among, context_behind}
 use Rattle.asm_instructions.proofs.FitLemmas.{instruction_fits, pseudo_instructions_fit}
 use Rattle.source_laws.proofs.LineLemmas.{is_laid, stands_in}
-use Rattle.source_laws.proofs.ThingLemmas.{IsWord, is_word, among_either, own_units, own_words, known_extent}
+use Rattle.source_laws.proofs.PoolLemmas.{OwnUnit, PoolWord, unit_or_word}
+use Rattle.source_laws.proofs.ThingLemmas.{known_extent}
 use Rattle.source_laws.proofs.WithinLemmas.{IsWithin, area_within, names_within, named_within as entry_within, area_stands, areas_more}
 
 abbrev pub TargetWithin : ℕ → Target → Type 0
@@ -261,45 +262,34 @@ context_within ss n after before l few e (c ∷ cs) (x, y) h =
 
 -- ---- things
 
+stored_or_good : (n at : ℕ) (r : Result Stored LineKind) → StoredGood n r → IsGood n (at, Word (or_empty r))
+stored_or_good n at (Ok w) h = h
+stored_or_good n at (Err k) h = tt
+
 pub good_thing : (ss : List Statement) (n : ℕ) → IsSound ss → AllSaid ss → length (areas_behind (statements_of (laid ss))) ≤ n
     → (area : ℕ) (p : Piece) → StandsIn (source_of ss) area p → IsGood n p
-good_thing ss n sound said few area p x = by_kind (among_either p (own_units ss rest l before) (own_words ss rest l before) x.among)
+good_thing ss n sound said few area p x = by_kind (unit_or_word ss area p x)
   where
-    l : LaidLine
-    l = x.owner
+    aligned : (u : OwnUnit ss area p) → ArmAligned u.owner.offset u.owner.statement.what
+    aligned u =
+        let l = u.owner in
+        arm_aligned l.seen l.statement.what (taken l.extent) (end_behind area (pieces_of u.before)) (waiting area (pieces_of u.before)) l.offset
+        (known_extent ss sound u.after u.before l u.parts) (stands_in ss sound area u.after u.before l u.parts u.own).0
 
-    before : List LaidLine
-    before = x.at.before
+    by_result : (at : ℕ) (r : Result (List Emitted) LineKind) → ResultGood n at r → IsAmong p (units_from at (or_none r)) → IsGood n p
+    by_result at (Ok us) f k = good_among n p (units_from at us) f k
+    by_result at (Err j) f k = absurd k
 
-    rest : List LaidLine
-    rest = x.at.rest
-
-    c : Context
-    c = context_behind ss l before
-
-    within : StandsWithin n c
-    within = context_within ss n rest before l few x.at.parts
-
-    own : AllSaid (statements_of (l ∷ before))
-    own = lines_said ss rest before l said x.at.parts
-
-    aligned : ArmAligned l.offset l.statement.what
-    aligned =
-        arm_aligned l.seen l.statement.what (taken l.extent) (end_behind area (pieces_of before)) (waiting area (pieces_of before)) l.offset
-        (known_extent ss sound rest before l x.at.parts) (stands_in ss sound area rest before l x.at.parts x.own).0
-
-    by_result : (r : Result (List Emitted) LineKind) → ResultGood n l.offset r → IsAmong p (units_from l.offset (or_none r)) → IsGood n p
-    by_result (Ok us) f k = good_among n p (units_from l.offset us) f k
-    by_result (Err j) f k = absurd k
-
-    of_word : IsWord ss c (taken l.extent) (word_among rest l before) p → IsGood n p
-    of_word w =
-        subst (λ (z : Piece). IsGood n z) (sym w.is)
-        (subst (StoredGood n) w.stores (stored_good n c (datum_names ss) within (literal_value (sees c) w.value)))
-
-    by_kind : IsAmong p (own_units ss rest l before) ⊎ IsAmong p (own_words ss rest l before) → IsGood n p
-    by_kind (inl k) =
-        by_result (units c (datum_names ss) l.seen (word_among rest l before) l.statement.what)
-        (line_good n l.offset c (datum_names ss) l.seen (word_among rest l before) l.statement.what within
-        (λ q m e. register_below (registers_behind before) q m (registers_good before own.1) e) own.0.read aligned) k
-    by_kind (inr k) = of_word (is_word ss c (taken l.extent) (word_among rest l before) p k)
+    by_kind : OwnUnit ss area p ⊎ PoolWord ss area p → IsGood n p
+    by_kind (inl u) =
+        let l = u.owner in
+        let c = context_behind ss l u.before in
+        let own = lines_said ss u.after u.before l said u.parts in
+        by_result l.offset (units c (datum_names ss) l.seen (word_among u.after l u.before) l.statement.what)
+        (line_good n l.offset c (datum_names ss) l.seen (word_among u.after l u.before) l.statement.what (context_within ss n u.after u.before l few u.parts)
+        (λ q m e. register_below (registers_behind u.before) q m (registers_good u.before own.1) e) own.0.read (aligned u)) u.among
+    by_kind (inr w) =
+        let c = context_behind ss w.loader w.before in
+        let v = literal_value (sees c) w.value in
+        subst (λ t. IsGood n (p.0, t)) (sym w.is)
+        (stored_or_good n p.0 (stored c (datum_names ss) v) (stored_good n c (datum_names ss) (context_within ss n w.after w.before w.loader few w.parts) v))
