@@ -19,3 +19,4 @@ pub mod JudgingLaws
 pub mod Loaded
 pub mod Putting
 pub mod Whole
+pub mod Waiting

@@ -1,4 +1,4 @@
 mod EndLemmas
 mod ExtentLemmas
-mod PlaceLemmas
+pub mod PlaceLemmas
 mod WordLemmas
