@@ -1,18 +1,33 @@
 -- Areas in which a line more stands.
-use Rattle.std.proofs.Common.{◌≡◌, ◌⊎◌, inl, inr, ◌<◌, ◌^◌, ℕ, zero, suc, List, [], ◌∷◌, ◌++◌, length, map, get_or, cond, false, Option, Some, None, refl, sym, ap, ◌∙◌, subst, arith, nat_eq}
+use Rattle.std.proofs.Common.{◌≡◌, ◌⊎◌, inl, inr, ◌<◌, ◌^◌, ℕ, zero, suc, List, [], ◌∷◌, ◌++◌, length, map, get_or, cond, false, Option, Some, None, refl, sym, ap, ◌∙◌, subst, arith, append_assoc, append-nil, nat_eq}
 use Rattle.std.specs.List.{slice_get, slice_set}
 use Rattle.std.proofs.lemmas.Bool.{cond-true, cond-false, eqb-true, false_from_ne_true}
 use Rattle.std.proofs.lemmas.Option.{slice_get_read}
-use Rattle.armasm_core.specs.Drafts.{MeetNone}
-use Rattle.armasm_core.specs.Waiting.{pool_of}
+use Rattle.armasm_core.specs.Drafts.{IsDraft, MeetNone}
+use Rattle.armasm_core.proofs.DraftLemmas.{among_front, among_behind}
 use Rattle.armasm_core.specs.Writing.{AllCanStand}
 use Rattle.asm_pool.specs.declared.layout.LaidArea.{LaidArea}
-use Rattle.asm_pool.specs.declared.layout.LaidStatement.{LaidStatement}
 use Rattle.asm_model.specs.Offsets.{is_of}
 use Rattle.asm_model.proofs.OffsetLemmas.{is_here}
-use Rattle.source_model.specs.Units.{Emitted}
+use Rattle.source_model.specs.Objects.{Piece, IsAmong}
 use Rattle.armasm_core.specs.declared.drafting.Growing.{Growing}
-use Rattle.armasm_core.specs.Drafting.{AreDrafts, Held, IsGrowing, LineCanStand, MeetNoneThere, Frame, frame, frame_of, frames, nothing_held, put_there, with_line, with_units}
+use Rattle.armasm_core.specs.Drafting.{AreDrafts, CanTake, LineCanStand, MeetNoneThere, Frame, frame, frame_of, frames, with_line}
+
+-- ---- the units of a line, and behind them the word of its literal
+
+pub meet_front : (ps us ws : List Piece) → MeetNone (ps ++ (us ++ ws)) (us ++ ws) → MeetNone ps us
+meet_front ps us ws h = λ q u p k. h q (among_front q us ws u) p (among_front p ps (us ++ ws) k)
+
+pub stand_front : (names : List (List ℕ)) (room : ℕ) (us ws : List Piece) → AllCanStand names room (us ++ ws) → AllCanStand names room us
+stand_front names room [] ws h = tt
+stand_front names room (u ∷ us) ws h = (h.0, stand_front names room us ws h.1)
+
+pub stand_behind : (names : List (List ℕ)) (room : ℕ) (us ws : List Piece) → AllCanStand names room (us ++ ws) → AllCanStand names room ws
+stand_behind names room [] ws h = h
+stand_behind names room (u ∷ us) ws h = stand_behind names room us ws h.1
+
+pub meet_behind : (ps us ws : List Piece) → MeetNone (ps ++ (us ++ ws)) (us ++ ws) → MeetNone (ps ++ us) ws
+meet_behind ps us ws h = λ q u p k. h q (among_behind q us ws u) p (subst (IsAmong p) (append_assoc ps us ws) (among_front p (ps ++ us) ws k))
 
 -- ---- one area of many
 
@@ -32,71 +47,81 @@ set_frames [] i x y at e = refl
 set_frames (g ∷ gs) zero x y at e = ap (λ (f : Frame). f ∷ frames gs) (e ∙ ap frame at)
 set_frames (g ∷ gs) (suc i) x y at e = ap (λ (fs : List Frame). frame g ∷ fs) (set_frames gs i x y at e)
 
-got_less : (gs : List Growing) (i : ℕ) (g : Growing) → slice_get gs i ≡ Some g → i < length gs
-got_less [] i g e = absurd (cc)
-got_less (x ∷ gs) zero g e = omega arith
-got_less (x ∷ gs) (suc i) g e = let less = got_less gs i g e in omega (arith, less)
+-- what a listed area keeps
+pub take_there : (names : List (List ℕ)) (fs : List Frame) (own : Option ℕ) (area : ℕ) (more : List Piece) → own ≡ Some area → LineCanStand names fs own more
+    → CanTake names fs area more
+take_there names fs own area more e h = subst (λ (o : Option ℕ). LineCanStand names fs o more) e h
 
-got_read : (gs : List Growing) (i : ℕ) (g x : Growing) → slice_get gs i ≡ Some g → x ≡ get_or gs i x → g ≡ x
-got_read [] i g x e at = absurd (cc)
-got_read (y ∷ gs) zero g x e at = let same : y ≡ g = cc in sym same ∙ sym at
-got_read (y ∷ gs) (suc i) g x e at = got_read gs i g x e at
+frame_less : (gs : List Growing) (i : ℕ) (f : Frame) → slice_get (frames gs) i ≡ Some f → i < length gs
+frame_less [] i f e = absurd (cc)
+frame_less (g ∷ gs) zero f e = omega arith
+frame_less (g ∷ gs) (suc i) f e = let less = frame_less gs i f e in omega (arith, less)
 
-pub take_less : (names : List (List ℕ)) (gs : List Growing) (l : LaidStatement) (us : List Emitted) (area : ℕ) → l.area ≡ Some area
-    → LineCanStand names gs l us → area < length gs
-take_less names gs l us area e h = let t = h area e in got_less gs area t.own t.there
+frame_read : (gs : List Growing) (i : ℕ) (f : Frame) (x : Growing) → slice_get (frames gs) i ≡ Some f → x ≡ get_or gs i x → f ≡ frame x
+frame_read [] i f x e at = absurd (cc)
+frame_read (g ∷ gs) zero f x e at = let same : frame g ≡ f = cc in sym same ∙ sym (ap frame at)
+frame_read (g ∷ gs) (suc i) f x e at = frame_read gs i f x e at
 
-pub record CanGrow (names : List (List ℕ)) (g : Growing) (l : LaidStatement) (us : List Emitted) : Type 0 where
-  pub small : length g.draft.bytes.items < 2 ^ 32
-  pub stand : AllCanStand names (length g.draft.bytes.items) (put_there l us (pool_of g.waiting))
+pub take_less : (names : List (List ℕ)) (gs : List Growing) (own : Option ℕ) (area : ℕ) (more : List Piece) → own ≡ Some area
+    → LineCanStand names (frames gs) own more → area < length gs
+take_less names gs own area more e h = let t = take_there names (frames gs) own area more e h in frame_less gs area t.own t.there
 
-pub take_there : (names : List (List ℕ)) (gs : List Growing) (l : LaidStatement) (us : List Emitted) (area : ℕ) (x : Growing) → l.area ≡ Some area → x ≡ get_or gs area x
-    → LineCanStand names gs l us → CanGrow names x l us
-take_there names gs l us area x e at h =
-    let t = h area e in subst (λ (g : Growing). CanGrow names g l us) (got_read gs area t.own x t.there at) (record { small = t.small; stand = t.stand })
+pub take_small : (names : List (List ℕ)) (gs : List Growing) (own : Option ℕ) (area : ℕ) (more : List Piece) (x : Growing) → own ≡ Some area → x ≡ get_or gs area x
+    → LineCanStand names (frames gs) own more → length x.draft.bytes.items < 2 ^ 32
+take_small names gs own area more x e at h =
+    let t = take_there names (frames gs) own area more e h in
+    subst (λ (f : Frame). f.kept < 2 ^ 32) (frame_read gs area t.own x t.there at) t.small
 
-pub drafts_put : (names : List (List ℕ)) (held : ℕ → Held) (gs : List Growing) (i : ℕ) (x y : Growing) (l : LaidStatement) (us word : List Emitted)
-    → l.area ≡ Some i → i < length gs → x ≡ get_or gs i x → AreDrafts names held gs → MeetNoneThere held l us
-    → ((h : Held) → IsGrowing names h x → MeetNone (h.pieces ++ put_there l us h.pool) (put_there l us h.pool) → IsGrowing names (with_units l us word h) y)
-    → AreDrafts names (with_line l us word held) (slice_set gs i y)
-drafts_put names held gs i x y l us word here less at old apart grows = λ area g is. by_place area g (set_got gs i area y g is)
+pub take_stand : (names : List (List ℕ)) (gs : List Growing) (own : Option ℕ) (area : ℕ) (more : List Piece) (x : Growing) → own ≡ Some area → x ≡ get_or gs area x
+    → LineCanStand names (frames gs) own more → AllCanStand names (length x.draft.bytes.items) more
+take_stand names gs own area more x e at h =
+    let t = take_there names (frames gs) own area more e h in
+    subst (λ (f : Frame). AllCanStand names f.kept more) (frame_read gs area t.own x t.there at) t.stand
+
+pub drafts_put : (names : List (List ℕ)) (held : ℕ → List Piece) (gs : List Growing) (i : ℕ) (x y : Growing) (own : Option ℕ) (more : List Piece)
+    → own ≡ Some i → i < length gs → x ≡ get_or gs i x → AreDrafts names held gs → MeetNoneThere held own more
+    → ((pieces : List Piece) → IsDraft names pieces x.draft → MeetNone (pieces ++ more) more → IsDraft names (pieces ++ more) y.draft)
+    → AreDrafts names (with_line held own more) (slice_set gs i y)
+drafts_put names held gs i x y own more here less at old apart grows = λ area g is. by_place area g (set_got gs i area y g is)
   where
-    grown : IsGrowing names (with_units l us word (held i)) y
+    grown : IsDraft names (held i ++ more) y.draft
     grown = grows (held i) (old i x (slice_get_read gs (length gs) i x refl less at)) (apart i here)
 
-    own_there : with_line l us word held i ≡ with_units l us word (held i)
-    own_there = cond-true (is_of i l.area) (with_units l us word (held i)) (held i) (is_here i l.area here)
+    own_there : with_line held own more i ≡ held i ++ more
+    own_there = ap (λ (ms : List Piece). held i ++ ms) (cond-true (is_of i own) more [] (is_here i own here))
 
-    other : (area : ℕ) → (i ≡ area → ⊥) → is_of area l.area ≡ false
-    other area far =
-        ap (is_of area) here ∙ false_from_ne_true (nat_eq i area) (λ t. far (eqb-true i area t))
+    other : (area : ℕ) → (i ≡ area → ⊥) → is_of area own ≡ false
+    other area far = ap (is_of area) here ∙ false_from_ne_true (nat_eq i area) (λ t. far (eqb-true i area t))
 
-    by_place : (area : ℕ) (g : Growing) → ((i ≡ area) × (y ≡ g)) ⊎ ((i ≡ area → ⊥) × (slice_get gs area ≡ Some g)) → IsGrowing names (with_line l us word held area) g
+    others_there : (area : ℕ) → (i ≡ area → ⊥) → with_line held own more area ≡ held area
+    others_there area far = ap (λ (ms : List Piece). held area ++ ms) (cond-false (is_of area own) more [] (other area far)) ∙ append-nil (held area)
+
+    by_place : (area : ℕ) (g : Growing) → ((i ≡ area) × (y ≡ g)) ⊎ ((i ≡ area → ⊥) × (slice_get gs area ≡ Some g)) → IsDraft names (with_line held own more area) g.draft
     by_place area g (inl h) =
-        subst (λ (n : ℕ). IsGrowing names (with_line l us word held n) g) h.0
-        (subst (λ (z : Growing). IsGrowing names (with_line l us word held i) z) h.1 (subst (λ (z : Held). IsGrowing names z y) (sym own_there) grown))
-    by_place area g (inr h) =
-        subst (λ (z : Held). IsGrowing names z g) (sym (cond-false (is_of area l.area) (with_units l us word (held area)) (held area) (other area h.0))) (old area g h.1)
+        subst (λ (n : ℕ). IsDraft names (with_line held own more n) g.draft) h.0
+        (subst (λ (z : Growing). IsDraft names (with_line held own more i) z.draft) h.1
+        (subst (λ (ps : List Piece). IsDraft names ps y.draft) (sym own_there) grown))
+    by_place area g (inr h) = subst (λ (ps : List Piece). IsDraft names ps g.draft) (sym (others_there area h.0)) (old area g h.1)
 
 -- a line in no area puts nothing
-pub drafts_same : (names : List (List ℕ)) (held : ℕ → Held) (gs : List Growing) (l : LaidStatement) (us word : List Emitted) → l.area ≡ None → AreDrafts names held gs
-    → AreDrafts names (with_line l us word held) gs
-drafts_same names held gs l us word none old = λ area g is.
-    subst (λ (z : Held). IsGrowing names z g)
-    (sym (ap (λ (o : Option ℕ). cond (is_of area o) (with_units l us word (held area)) (held area)) none)) (old area g is)
+pub drafts_same : (names : List (List ℕ)) (held : ℕ → List Piece) (gs : List Growing) (own : Option ℕ) (more : List Piece) → own ≡ None → AreDrafts names held gs
+    → AreDrafts names (with_line held own more) gs
+drafts_same names held gs own more none old = λ area g is.
+    subst (λ (ps : List Piece). IsDraft names ps g.draft)
+    (sym (ap (λ (o : Option ℕ). held area ++ cond (is_of area o) more []) none ∙ append-nil (held area))) (old area g is)
 
 -- ---- areas one behind the other
 
-pub drafts_more : (names : List (List ℕ)) (gs : List Growing) (y : Growing) → AreDrafts names (λ area. nothing_held) gs → IsGrowing names nothing_held y
-    → AreDrafts names (λ area. nothing_held) (gs ++ y ∷ [])
+pub drafts_more : (names : List (List ℕ)) (gs : List Growing) (y : Growing) → AreDrafts names (λ area. []) gs → IsDraft names [] y.draft
+    → AreDrafts names (λ area. []) (gs ++ y ∷ [])
 drafts_more names [] y h k = λ area g is. one area g is
   where
-    one : (area : ℕ) (g : Growing) → slice_get (y ∷ []) area ≡ Some g → IsGrowing names nothing_held g
-    one zero g is = let same : y ≡ g = cc in subst (λ (z : Growing). IsGrowing names nothing_held z) same k
+    one : (area : ℕ) (g : Growing) → slice_get (y ∷ []) area ≡ Some g → IsDraft names [] g.draft
+    one zero g is = let same : y ≡ g = cc in subst (λ (z : Growing). IsDraft names [] z.draft) same k
     one (suc area) g is = absurd (cc)
 drafts_more names (x ∷ gs) y h k = λ area g is. by_place (drafts_more names gs y (λ n z e. h (suc n) z e) k) area g is
   where
-    by_place : AreDrafts names (λ area. nothing_held) (gs ++ y ∷ []) → (area : ℕ) (g : Growing) → slice_get (x ∷ (gs ++ y ∷ [])) area ≡ Some g → IsGrowing names nothing_held g
+    by_place : AreDrafts names (λ area. []) (gs ++ y ∷ []) → (area : ℕ) (g : Growing) → slice_get (x ∷ (gs ++ y ∷ [])) area ≡ Some g → IsDraft names [] g.draft
     by_place rest zero g is = h zero g is
     by_place rest (suc area) g is = rest area g is
 
@@ -111,21 +136,3 @@ frames_more gs y xs x e h = ap_frames gs ∙ ap (λ (fs : List Frame). fs ++ fra
     ap_laid : (xs : List LaidArea) → map frame_of (xs ++ x ∷ []) ≡ map frame_of xs ++ frame_of x ∷ []
     ap_laid [] = refl
     ap_laid (z ∷ xs) = ap (λ (fs : List Frame). frame_of z ∷ fs) (ap_laid xs)
-
--- the area of a draft
-pub record HasFrame (xs : List LaidArea) (area : ℕ) (g : Growing) : Type 0 where
-  pub laid_area : LaidArea
-  pub there : slice_get xs area ≡ Some laid_area
-  pub same : frame g ≡ frame_of laid_area
-
-pub frame_there : (gs : List Growing) (xs : List LaidArea) → frames gs ≡ map frame_of xs → (area : ℕ) (g : Growing) → slice_get gs area ≡ Some g → HasFrame xs area g
-frame_there [] xs e area g is = absurd (cc)
-frame_there (y ∷ gs) [] e area g is = absurd (cc)
-frame_there (y ∷ gs) (x ∷ xs) e zero g is =
-    let same : y ≡ g = cc in
-    let first : frame y ≡ frame_of x = cc in
-    record { laid_area = x; there = refl; same = ap frame (sym same) ∙ first }
-frame_there (y ∷ gs) (x ∷ xs) e (suc area) g is =
-    let more : frames gs ≡ map frame_of xs = cc in
-    let f = frame_there gs xs more area g is in
-    record { laid_area = f.laid_area; there = f.there; same = f.same }

@@ -5,7 +5,6 @@ mod ListLemmas
 mod StandingLemmas
 mod AreaLemmas
 mod EmitLemmas
-mod EndLemmas
 mod EntryLemmas
 mod GatherLemmas
 mod GrowLemmas
@@ -21,7 +20,6 @@ pub mod GivingLemmas
 pub mod JudgeLemmas
 pub mod LiteralLemmas
 pub mod LoopLemmas
-mod PoolLemmas
 pub mod PutLemmas
 pub mod SaidLemmas
 pub mod SetLemmas

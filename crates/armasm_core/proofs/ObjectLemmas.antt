@@ -1,12 +1,12 @@
 -- The object of a layout, by its finished areas.
-use Rattle.std.proofs.Common.{◌≡◌, ◌<◌, ◌^◌, ℕ, zero, suc, Bool, true, false, List, [], ◌∷◌, ◌++◌, length, map, cond, Some, None, refl, sym, ap, ◌∙◌, subst, arith}
+use Rattle.std.proofs.Common.{◌≡◌, ◌<◌, ◌^◌, ℕ, zero, suc, Bool, true, false, List, [], ◌∷◌, length, map, cond, Some, None, refl, sym, ap, ◌∙◌, subst, arith}
 use Rattle.std.specs.Prelude.{not}
 use Rattle.std.specs.List.{AllZip, slice_get}
 use Rattle.std.proofs.lemmas.Slice.Zip.{AllZip-long}
 use Rattle.aof_object.specs.declared.records.Area.{Area}
 use Rattle.aof_object.specs.declared.records.Reloc.{Reloc}
 use Rattle.aof_object.specs.declared.records.Symbol.{Symbol}
-use Rattle.armasm_core.specs.Drafts.{AreRelocs, HoldsPieces, MeetNone}
+use Rattle.armasm_core.specs.Drafts.{AreRelocs, HoldsPieces, IsDraft}
 use Rattle.armasm_core.specs.Relocations.{relocs_in, RelocsAreOfSources}
 use Rattle.asm_layout.specs.Layout.{AreAreas}
 use Rattle.asm_model.specs.declared.statements.Statement.{Statement}
@@ -19,35 +19,47 @@ use Rattle.asm_model.specs.Symbols.{symbols_of}
 use Rattle.asm_model.specs.Meaning.{named_in}
 use Rattle.object_laws.proofs.RelocLemmas.{length_map}
 use Rattle.layout_laws.proofs.SoundLemmas.{statements_kept}
-use Rattle.source_laws.specs.Laws.{InArmState, SourcesStandApart}
-use Rattle.source_laws.proofs.ListedLemmas.{end_thing}
-use Rattle.source_model.specs.Objects.{Piece, source_of, things_in, IsAmong, KeepsBytes, HasRelocs, IsRelocOf, IsArea, contents_of, is_kept, relocs_of, symbol_named, symbol_records}
+use Rattle.source_laws.specs.Laws.{ThingsAreListed, things_in}
+use Rattle.source_model.specs.Objects.{Piece, source_of, HoldsBytes, KeepsBytes, HasRelocs, IsRelocOf, IsArea, contents_of, is_kept, relocs_of, symbol_named, symbol_records}
 use Rattle.source_model.specs.SourceFaults.{layout_faults}
 use Rattle.armasm_core.specs.declared.drafting.Growing.{Growing}
-use Rattle.armasm_core.specs.Drafting.{AreDrafts, Frame, IsFinished, IsGrowing, frame, frame_of, frames, kept_size, marks_zeroes, put_last}
-use Rattle.armasm_core.specs.Emission.{held_behind}
-use Rattle.armasm_core.proofs.EndLemmas.{ends_there}
-use Rattle.armasm_core.proofs.GrowLemmas.{frame_there}
+use Rattle.armasm_core.specs.Drafting.{AreDrafts, Frame, IsFinished, frame, frame_of, frames, kept_size, marks_zeroes}
 use Rattle.armasm_core.proofs.AreaLemmas.{zeroes_there}
 
 -- ---- an area by its number
 
-record IsPair (names : List (List ℕ)) (gs : List Growing) (area : ℕ) (a : Area) : Type 0 where
+record IsPair (gs : List Growing) (area : ℕ) (a : Area) : Type 0 where
   draft : Growing
   there : slice_get gs area ≡ Some draft
-  finished : IsFinished names draft a
+  finished : IsFinished draft a
 
-pair_there : (names : List (List ℕ)) (gs : List Growing) (areas : List Area) → AllZip (IsFinished names) gs areas → (area : ℕ) (a : Area) → slice_get areas area ≡ Some a
-    → IsPair names gs area a
-pair_there names [] [] h area a is = absurd (cc)
-pair_there names [] (b ∷ areas) h area a is = absurd h
-pair_there names (g ∷ gs) [] h area a is = absurd h
-pair_there names (g ∷ gs) (b ∷ areas) h zero a is =
+pair_there : (gs : List Growing) (areas : List Area) → AllZip IsFinished gs areas → (area : ℕ) (a : Area) → slice_get areas area ≡ Some a → IsPair gs area a
+pair_there [] [] h area a is = absurd (cc)
+pair_there [] (b ∷ areas) h area a is = absurd h
+pair_there (g ∷ gs) [] h area a is = absurd h
+pair_there (g ∷ gs) (b ∷ areas) h zero a is =
     let same : b ≡ a = cc in
-    record { draft = g; there = refl; finished = subst (λ (z : Area). IsFinished names g z) same h.0 }
-pair_there names (g ∷ gs) (b ∷ areas) h (suc area) a is =
-    let p = pair_there names gs areas h.1 area a is in
+    record { draft = g; there = refl; finished = subst (λ (z : Area). IsFinished g z) same h.0 }
+pair_there (g ∷ gs) (b ∷ areas) h (suc area) a is =
+    let p = pair_there gs areas h.1 area a is in
     record { draft = p.draft; there = p.there; finished = p.finished }
+
+record HasFrame (xs : List LaidArea) (area : ℕ) (g : Growing) : Type 0 where
+  laid_area : LaidArea
+  there : slice_get xs area ≡ Some laid_area
+  same : frame g ≡ frame_of laid_area
+
+frame_there : (gs : List Growing) (xs : List LaidArea) → frames gs ≡ map frame_of xs → (area : ℕ) (g : Growing) → slice_get gs area ≡ Some g → HasFrame xs area g
+frame_there [] xs e area g is = absurd (cc)
+frame_there (y ∷ gs) [] e area g is = absurd (cc)
+frame_there (y ∷ gs) (x ∷ xs) e zero g is =
+    let same : y ≡ g = cc in
+    let first : frame y ≡ frame_of x = cc in
+    record { laid_area = x; there = refl; same = ap frame (sym same) ∙ first }
+frame_there (y ∷ gs) (x ∷ xs) e (suc area) g is =
+    let more : frames gs ≡ map frame_of xs = cc in
+    let f = frame_there gs xs more area g is in
+    record { laid_area = f.laid_area; there = f.there; same = f.same }
 
 long : (gs : List Growing) (xs : List LaidArea) → frames gs ≡ map frame_of xs → length gs ≡ length xs
 long [] [] e = refl
@@ -61,25 +73,33 @@ no_bytes : (bytes : List ℕ) → length bytes ≡ 0 → bytes ≡ []
 no_bytes [] e = refl
 no_bytes (b ∷ bytes) e = absurd (omega arith)
 
-keeps_there : (ss : List Statement) (area attributes size : ℕ) (bytes : List ℕ) (b : Bool) → marks_zeroes attributes ≡ b
+held_there : ThingsAreListed → (ss : List Statement) (area : ℕ) (bytes : List ℕ) → length bytes ≡ area_size area (pieces_of (laid ss))
+    → HoldsPieces (things_in (source_of ss) area) bytes → HoldsBytes (source_of ss) area bytes
+held_there law ss area bytes size h = record {
+  size = size;
+  standing = λ p s. h.standing p ((law ss area p).0 s);
+  others = λ i clear. h.others i (λ p k. clear p ((law ss area p).1 k));
+}
+
+keeps_there : ThingsAreListed → (ss : List Statement) (area attributes size : ℕ) (bytes : List ℕ) (b : Bool) → marks_zeroes attributes ≡ b
     → is_kept (contents_of area (laid ss)) ≡ not (marks_zeroes attributes) → size ≡ area_size area (pieces_of (laid ss))
     → length bytes ≡ kept_size attributes size → HoldsPieces (things_in (source_of ss) area) bytes
     → KeepsBytes (source_of ss) area (is_kept (contents_of area (laid ss))) bytes
-keeps_there ss area attributes size bytes true zeroes kept same count h =
+keeps_there law ss area attributes size bytes true zeroes kept same count h =
     subst (λ (k : Bool). KeepsBytes (source_of ss) area k bytes) (sym (kept ∙ ap not zeroes))
     (no_bytes bytes (count ∙ ap (λ (k : Bool). cond k 0 size) zeroes))
-keeps_there ss area attributes size bytes false zeroes kept same count h =
+keeps_there law ss area attributes size bytes false zeroes kept same count h =
     subst (λ (k : Bool). KeepsBytes (source_of ss) area k bytes) (sym (kept ∙ ap not zeroes))
-    (record { size = count ∙ ap (λ (k : Bool). cond k 0 size) zeroes ∙ same; standing = h.standing; others = h.others })
+    (held_there law ss area bytes (count ∙ ap (λ (k : Bool). cond k 0 size) zeroes ∙ same) h)
 
 -- ---- its relocations
 
-relocs_there : RelocsAreOfSources → (ss : List Statement) (names : List (List ℕ)) (area : ℕ) (relocs : List Reloc)
+relocs_there : RelocsAreOfSources → ThingsAreListed → (ss : List Statement) (names : List (List ℕ)) (area : ℕ) (relocs : List Reloc)
     → names ≡ symbols_of (source_of ss).names (laid ss) → AreRelocs names (things_in (source_of ss) area) relocs → HasRelocs (source_of ss) area relocs
-relocs_there same ss names area relocs e h = record {
+relocs_there same law ss names area relocs e h = record {
   order = h.order;
-  all = λ p r s k. h.all p r s (subst (λ (qs : List Reloc). IsRelocOf qs r) (sym (relocs_are p)) k);
-  no_others = λ r k. let o = h.no_others r k in (o.0, o.1, subst (λ (qs : List Reloc). IsRelocOf qs r) (relocs_are o.0) o.2);
+  all = λ p r s k. h.all p r ((law ss area p).0 s) (subst (λ (qs : List Reloc). IsRelocOf qs r) (sym (relocs_are p)) k);
+  no_others = λ r k. let o = h.no_others r k in (o.0, (law ss area o.0).1 o.1, subst (λ (qs : List Reloc). IsRelocOf qs r) (relocs_are o.0) o.2);
 }
   where
     relocs_are : (p : Piece) → relocs_in names p ≡ relocs_of (source_of ss) p
@@ -87,43 +107,37 @@ relocs_there same ss names area relocs e h = record {
 
 -- ---- all areas
 
-area_there : RelocsAreOfSources → SourcesStandApart → (ss : List Statement) (names : List (List ℕ)) (xs : List LaidArea) (area : ℕ) (a : Area) (g : Growing) (x : LaidArea)
-    → layout_faults ss ≡ None → InArmState ss → AreAreas (laid ss) xs → names ≡ symbols_of (source_of ss).names (laid ss)
-    → slice_get xs area ≡ Some x → frame g ≡ frame_of x → IsGrowing names (held_behind ss (laid ss) [] area) g → IsFinished names g a → IsArea (source_of ss) area a
-area_there relocs apart ss names xs area a g x sound arm laid_areas listed at same draft done =
+area_there : RelocsAreOfSources → ThingsAreListed → (ss : List Statement) (names : List (List ℕ)) (xs : List LaidArea) (area : ℕ) (a : Area) (g : Growing) (x : LaidArea)
+    → layout_faults ss ≡ None → AreAreas (laid ss) xs → names ≡ symbols_of (source_of ss).names (laid ss)
+    → slice_get xs area ≡ Some x → frame g ≡ frame_of x → IsDraft names (things_in (source_of ss) area) g.draft → IsFinished g a → IsArea (source_of ss) area a
+area_there relocs law ss names xs area a g x sound laid_areas listed at same draft done =
     let i = laid_areas.each area x at in
-    let h = held_behind ss (laid ss) [] area in
     let name : a.name ≡ x.name = done.name ∙ ap (λ (f : Frame). f.name) same in
     let attributes : a.attributes ≡ x.attributes = done.attributes ∙ ap (λ (f : Frame). f.attributes) same in
-    let size : g.size ≡ x.size = ap (λ (f : Frame). f.size) same in
+    let size : a.size ≡ x.size = done.size ∙ ap (λ (f : Frame). f.size) same in
     let kept : length a.bytes ≡ kept_size x.attributes x.size = done.kept ∙ ap (λ (f : Frame). f.kept) same in
-    let end = (ends_there ss area g.size (size ∙ i.size)).is in
-    let all : h.pieces ++ put_last g.size h.pool ≡ things_in (source_of ss) area = ap (λ (ps : List Piece). h.pieces ++ ps) end in
-    let none : MeetNone (h.pieces ++ put_last g.size h.pool) (put_last g.size h.pool) = λ q u p k.
-    apart ss sound arm area p q (subst (IsAmong p) all k) (end_thing ss area q (subst (IsAmong q) end u)) in
-    let held = done.held h draft none in
     record {
       name = ap (λ (ss : List Statement). slice_get (areas_behind ss) area) (sym (statements_kept (declared_names ss) ss)) ∙ i.name ∙ ap Some (sym name);
       attributes = i.attributes ∙ ap Some (sym attributes);
-      size = done.size ∙ size ∙ i.size;
-      bytes = keeps_there ss area x.attributes x.size a.bytes (marks_zeroes x.attributes) refl (zeroes_there ss sound area x.attributes i.attributes) i.size kept
-          (subst (λ (ps : List Piece). HoldsPieces ps a.bytes) all held.0);
-      relocs = relocs_there relocs ss names area a.relocs listed (subst (λ (ps : List Piece). AreRelocs names ps a.relocs) all held.1);
+      size = size ∙ i.size;
+      bytes = keeps_there law ss area x.attributes x.size a.bytes (marks_zeroes x.attributes) refl (zeroes_there ss sound area x.attributes i.attributes) i.size kept
+          (done.held names (things_in (source_of ss) area) draft);
+      relocs = relocs_there relocs law ss names area a.relocs listed (done.relocs names (things_in (source_of ss) area) draft);
     }
 
-pub areas_there : RelocsAreOfSources → SourcesStandApart → (ss : List Statement) (names : List (List ℕ)) (xs : List LaidArea) (gs : List Growing) (areas : List Area)
-    → layout_faults ss ≡ None → InArmState ss → AreAreas (laid ss) xs → names ≡ symbols_of (source_of ss).names (laid ss)
-    → frames gs ≡ map frame_of xs → AreDrafts names (held_behind ss (laid ss) []) gs → AllZip (IsFinished names) gs areas
+pub areas_there : RelocsAreOfSources → ThingsAreListed → (ss : List Statement) (names : List (List ℕ)) (xs : List LaidArea) (gs : List Growing) (areas : List Area)
+    → layout_faults ss ≡ None → AreAreas (laid ss) xs → names ≡ symbols_of (source_of ss).names (laid ss)
+    → frames gs ≡ map frame_of xs → AreDrafts names (things_in (source_of ss)) gs → AllZip IsFinished gs areas
     → (area : ℕ) (a : Area) → slice_get areas area ≡ Some a → IsArea (source_of ss) area a
-areas_there relocs apart ss names xs gs areas sound arm laid_areas listed same drafts done = λ area a is.
-    let p = pair_there names gs areas done area a is in
+areas_there relocs law ss names xs gs areas sound laid_areas listed same drafts done = λ area a is.
+    let p = pair_there gs areas done area a is in
     let f = frame_there gs xs same area p.draft p.there in
-    area_there relocs apart ss names xs area a p.draft f.laid_area sound arm laid_areas listed f.there f.same (drafts area p.draft p.there) p.finished
+    area_there relocs law ss names xs area a p.draft f.laid_area sound laid_areas listed f.there f.same (drafts area p.draft p.there) p.finished
 
-pub count_there : (names : List (List ℕ)) (ss : List Statement) (xs : List LaidArea) (gs : List Growing) (areas : List Area) → AreAreas (laid ss) xs → frames gs ≡ map frame_of xs
-    → AllZip (IsFinished names) gs areas → length areas ≡ length (areas_behind ss)
-count_there names ss xs gs areas laid_areas same done =
-    AllZip-long (IsFinished names) gs areas done ∙ long gs xs same ∙ laid_areas.count ∙ ap (λ (ss : List Statement). length (areas_behind ss)) (statements_kept (declared_names ss) ss)
+pub count_there : (ss : List Statement) (xs : List LaidArea) (gs : List Growing) (areas : List Area) → AreAreas (laid ss) xs → frames gs ≡ map frame_of xs
+    → AllZip IsFinished gs areas → length areas ≡ length (areas_behind ss)
+count_there ss xs gs areas laid_areas same done =
+    AllZip-long IsFinished gs areas done ∙ long gs xs same ∙ laid_areas.count ∙ ap (λ (ss : List Statement). length (areas_behind ss)) (statements_kept (declared_names ss) ss)
 
 -- as many symbols as records
 pub few_there : (ss : List Statement) (names : List (List ℕ)) (records : List Symbol) → names ≡ symbols_of (final_names (laid ss)) (laid ss)

@@ -27,26 +27,31 @@ use Rattle.asm_model.specs.Symbols.{literal_value}
 use Rattle.said_model.specs.Said.{IsSaid, ArmSaid, PseudoSaid, WhatSaid}
 use Rattle.source_model.specs.ArmForms.{arm_instruction}
 use Rattle.source_model.specs.Contexts.{Context, sees, value_of, number_in, and_then}
-use Rattle.source_model.specs.Objects.{or_none, or_empty}
+use Rattle.source_model.specs.Objects.{Piece, or_none, literal_unit, literal_piece, units_from}
 use Rattle.source_model.specs.PseudoForms.{pseudo_instructions}
-use Rattle.source_model.specs.Units.{Emitted, Bytes, Word, Instruction, Stored, stored, units, directive_units, word_units as model_words, half_units, byte_units, byte_operand, narrow, instruction_units, branch_symbol}
+use Rattle.source_model.specs.Units.{Emitted, Bytes, Word, Instruction, Stored, stored, units, directive_units, word_units, half_units, byte_units, byte_operand, narrow, instruction_units, branch_symbol}
 use Rattle.armasm_core.specs.declared.putting.LineUnits.{LineUnits}
 use Rattle.armasm_core.specs.declared.whole.Whole.{Whole}
 use Rattle.armasm_core.specs.Giving.{IsNumber}
-use Rattle.armasm_core.specs.Putting.{UnitFits, AllUnitsFit, IsPut, word_units, loaded_units}
+use Rattle.armasm_core.specs.Putting.{UnitFits, AllUnitsFit, IsPut, word_piece}
 use Rattle.armasm_core.specs.Whole.{IsHere, ShowsLine, context_there, word_there}
 use Rattle.armasm_core.proofs.ShowLemmas.{given_there}
 
 -- ---- the word of a literal
 
-pub literal_put : (c : Context) (names : List (List ℕ)) (e : Extent) (v : Value) (w : Stored) (r : Result Stored LineKind) → literal_in e ≡ Some v
-    → w ≡ or_empty r → r ≡ stored c names (literal_value (sees c) v) → Word w ∷ [] ≡ loaded_units c names e
-literal_put c names (Loading n u) v w r h is of =
-    let same : v ≡ u = cc in
-    ap (λ (z : Stored). Word z ∷ []) (is ∙ ap or_empty of ∙ ap (λ (k : Value). or_empty (stored c names (literal_value (sees c) k))) same)
-literal_put c names (Block a n) v w r h is of = absurd (cc)
-literal_put c names (Padding m n) v w r h is of = absurd (cc)
-literal_put c names Pool v w r h is of = absurd (cc)
+pub one_piece : (c : Context) (names : List (List ℕ)) (e : Extent) (word : Option ℕ) (v : Value) → literal_in e ≡ Some v
+    → literal_piece c names e word ≡ literal_unit word (stored c names (literal_value (sees c) v))
+one_piece c names (Loading n u) word v h =
+    let same : u ≡ v = cc in
+    ap (λ (k : Value). literal_unit word (stored c names (literal_value (sees c) k))) same
+one_piece c names (Block a n) word v h = absurd (cc)
+one_piece c names (Padding m n) word v h = absurd (cc)
+one_piece c names Pool word v h = absurd (cc)
+
+pub literal_put : (c : Context) (names : List (List ℕ)) (e : Extent) (word at : Option ℕ) (v : Value) (ps : List Piece) (w : Result Stored LineKind) → literal_in e ≡ Some v → at ≡ word
+    → ps ≡ literal_unit at w → w ≡ stored c names (literal_value (sees c) v) → ps ≡ literal_piece c names e word
+literal_put c names e word at v ps w h a p r =
+    p ∙ ap (λ (o : Option ℕ). literal_unit o w) a ∙ ap (literal_unit word) r ∙ sym (one_piece c names e word v h)
 
 -- ---- each instruction has a word
 
@@ -61,9 +66,9 @@ with_next f fits (Ok a) (Err k) h = tt
 with_next f fits (Err k) (Ok us) h = tt
 with_next f fits (Err k) (Err j) h = tt
 
-words_fit : (c : Context) (names : List (List ℕ)) (es : List Expr) → AllUnitsFit (or_none (model_words c names es))
+words_fit : (c : Context) (names : List (List ℕ)) (es : List Expr) → AllUnitsFit (or_none (word_units c names es))
 words_fit c names [] = tt
-words_fit c names (e ∷ es) = with_next (λ (w : Stored). Word w) (λ w. tt) (stored c names (value_of c e)) (model_words c names es) (words_fit c names es)
+words_fit c names (e ∷ es) = with_next (λ (w : Stored). Word w) (λ w. tt) (stored c names (value_of c e)) (word_units c names es) (words_fit c names es)
 
 halves_fit : (c : Context) (es : List Expr) → AllUnitsFit (or_none (half_units c es))
 halves_fit c [] = tt
@@ -122,19 +127,23 @@ units_fit arms pseudos c names s word (what.Directive d) small said = directive_
 
 -- ---- all that a line puts
 
+joined : (at : ℕ) (us vs : List Emitted) (ps qs : List Piece) → us ≡ vs → ps ≡ qs → units_from at us ++ ps ≡ units_from at vs ++ qs
+joined at us vs ps qs e h = ap (λ (xs : List Emitted). units_from at xs ++ ps) e ∙ ap (λ (xs : List Piece). units_from at vs ++ xs) h
+
 pub put_there : InstructionsFit → PseudoInstructionsFit → (statements : List Statement) (areas : List LaidArea) (w : Whole) (known : BTreeMap (List ℕ) ℕ)
     (before rest : List LaidLine) (l : LaidLine) (x : LaidStatement) (y : Beside) (u : LineUnits) → IsHere statements areas w known before rest l x → IsSaid x.statement
     → ShowsLine statements before rest l y x.statement.what
     → map emitted_of u.units.items ≡ or_none (units (context_there statements before l) (datum_names statements) l.seen (word_there before rest l) x.statement.what)
-    → word_units u.literal ≡ loaded_units (context_there statements before l) (datum_names statements) (taken l.extent)
+    → word_piece u.literal ≡ literal_piece (context_there statements before l) (datum_names statements) (taken l.extent) (word_there before rest l)
     → IsNumber (context_there statements before l) x.statement.what u.number → IsPut statements before rest l u
 put_there arms pseudos statements areas w known before rest l x y u h said shows is literal number =
     let c = context_there statements before l in
     let names = datum_names statements in
     let word = word_there before rest l in
+    let all = map emitted_of u.units.items in
+    let same : all ≡ or_none (units c names l.seen word l.statement.what) = is ∙ ap (λ (s : Statement). or_none (units c names l.seen word s.what)) h.line.statement in
     record {
-      own = is ∙ ap (λ (s : Statement). or_none (units c names l.seen word s.what)) h.line.statement;
-      loaded = literal;
+      pieces = sym (joined l.offset all (or_none (units c names l.seen word l.statement.what)) (word_piece u.literal) (literal_piece c names (taken l.extent) word) same literal);
       given = given_there statements areas w known before rest l x y u.number h shows number;
       fits = subst AllUnitsFit (sym is) (units_fit arms pseudos c names l.seen word x.statement.what shows.scene.small said.read);
     }

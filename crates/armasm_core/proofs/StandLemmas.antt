@@ -1,16 +1,17 @@
 -- What a line puts into its area can stand there.
-use Rattle.std.proofs.Common.{◌≡◌, ◌⊎◌, inl, inr, ◌≤◌, ◌<◌, ◌+◌, ◌-◌, ◌*◌, ◌%◌, ◌^◌, ℕ, zero, suc, List, [], ◌∷◌, length, map, take, drop, get_or, Bool, true, false, cond, Option, Some, None, refl, sym, ap, ◌∙◌, subst, arith}
+use Rattle.std.proofs.Common.{◌≡◌, inl, inr, ⊎_elim, ◌≤◌, ◌<◌, ◌+◌, ◌-◌, ◌^◌, ℕ, zero, suc, List, [], ◌∷◌, length, map, take, drop, get_or, Bool, true, false, cond, Option, Some, None, refl, sym, ap, ◌∙◌, subst, arith}
 use Rattle.std.specs.Prelude.{not}
 use Rattle.std.specs.BTreeMap.{BTreeMap}
 use Rattle.std.specs.List.{slice_get}
+use Rattle.armasm_core.proofs.DraftLemmas.{among_behind}
 use Rattle.armasm_core.specs.Writing.{AllCanStand, CanStand, HasNumber, HasWord, SymbolHasNumber, TargetHasNumber}
 use Rattle.armasm_core.specs.declared.putting.LineUnits.{LineUnits}
+use Rattle.armasm_core.specs.declared.putting.LiteralWord.{LiteralWord}
 use Rattle.armasm_core.specs.declared.whole.Whole.{Whole}
-use Rattle.armasm_core.specs.Putting.{AllUnitsFit, IsPut, UnitFits}
-use Rattle.armasm_core.specs.Waiting.{Pool, pool_of}
+use Rattle.armasm_core.specs.Putting.{AllUnitsFit, IsPut, UnitFits, word_piece}
 use Rattle.armasm_core.specs.Whole.{IsHere}
 use Rattle.source_laws.proofs.WithinLemmas.{IsWithin}
-use Rattle.asm_layout.specs.Layout.{IsArea, AreAreas}
+use Rattle.asm_layout.specs.Layout.{IsArea}
 use Rattle.asm_model.specs.declared.directives.Contents.{Contents}
 use Rattle.asm_model.specs.declared.directives.Contents.TheVariants as contents
 use Rattle.asm_model.specs.declared.statements.Statement.{Statement}
@@ -20,13 +21,7 @@ use Rattle.asm_pool.specs.declared.layout.Layout.{Layout}
 use Rattle.asm_units.specs.declared.emitted.Emitted.{Emitted as Code}
 use Rattle.asm_units.specs.Emitting.{emitted_of}
 use Rattle.asm_model.specs.Before.{areas_behind}
-use Rattle.asm_model.specs.declared.directives.DirectiveLine.TheVariants as line
-use Rattle.asm_model.specs.declared.statements.What.{What}
-use Rattle.asm_model.specs.declared.statements.What.TheVariants as what
-use Rattle.asm_model.specs.declared.values.Value.{Value}
-use Rattle.asm_model.specs.Extents.{Pool as PoolExtent, pool_alignment}
-use Rattle.asm_model.specs.Laid.{LaidLine, laid, pieces_of}
-use Rattle.asm_model.specs.Offsets.{Piece as LaidPiece, waiting, raised, end_behind, start_in, area_size}
+use Rattle.asm_model.specs.Laid.{LaidLine, laid}
 use Rattle.asm_model.specs.Symbols.{symbols_of}
 use Rattle.asm_model.specs.Forms.{same}
 use Rattle.object_laws.specs.Laws.{AreFaultless, OptionListed, TargetListed, UnitListed}
@@ -34,19 +29,18 @@ use Rattle.object_laws.proofs.RelocLemmas.{TargetBelow, UnitBelow, things_below}
 use Rattle.object_laws.proofs.SizeLemmas.{area_small}
 use Rattle.object_laws.proofs.TargetLemmas.{symbols_are_listed}
 use Rattle.source_laws.proofs.FaultlessLemmas.{sources_lie_in_areas}
-use Rattle.source_laws.proofs.ListedLemmas.{among_last, end_thing}
-use Rattle.source_laws.proofs.SizeLemmas.{pool_or_own}
+use Rattle.source_laws.proofs.ListedLemmas.{own_things, things_are_listed}
+use Rattle.source_laws.proofs.ThingLemmas.{among_either}
 use Rattle.source_laws.proofs.ZeroLemmas.{zero_areas_hold_nothing}
-use Rattle.source_model.specs.Objects.{Piece, Source, IsAmong, StandsIn, contents_of, is_kept, source_of, unit_bytes, units_from, pool_units, pool_or, things_behind, end_things}
+use Rattle.source_laws.specs.Laws.{things_behind}
+use Rattle.source_model.specs.Objects.{Piece, IsAmong, StandsIn, contents_of, is_kept, source_of, unit_bytes, units_from}
 use Rattle.source_model.specs.Units.{Emitted, Bytes, Word, Instruction, Target, Nothing, ByArea, BySymbol}
 use Rattle.armasm_core.specs.declared.drafting.Growing.{Growing}
-use Rattle.armasm_core.specs.Drafting.{AllCanEnd, AreDrafts, CanEnd, Frame, LineCanStand, frame, frame_of, frames, kept_size, marks_zeroes, put_last, put_there}
-use Rattle.armasm_core.specs.Emission.{GrowsOn, HasSymbols, IsEmittable, held_behind}
+use Rattle.armasm_core.specs.Drafting.{Frame, LineCanStand, frame_of, frames, kept_size, marks_zeroes, pieces_put}
+use Rattle.armasm_core.specs.Emission.{GrowsOn, HasSymbols, IsEmittable}
 use Rattle.armasm_core.specs.Listing.{StandsThere}
 use Rattle.armasm_core.proofs.AreaLemmas.{zeroes_there}
-use Rattle.armasm_core.proofs.EmitLemmas.{next_there, puts_there, stands_there, things_here}
-use Rattle.armasm_core.proofs.EndLemmas.{ends_there}
-use Rattle.armasm_core.proofs.GrowLemmas.{frame_there}
+use Rattle.armasm_core.proofs.EmitLemmas.{next_there, put_there, stands_there, things_here}
 use Rattle.armasm_core.proofs.LoadLemmas.{area_there, within_there}
 use Rattle.asm_laying.proofs.EnterLemmas.{areas_few}
 
@@ -62,16 +56,14 @@ units_word at [] p h k = absurd k
 units_word at (u ∷ us) p h (inl e) = subst (λ (q : Piece). HasWord q.1) (sym e) (unit_word u h.0)
 units_word at (u ∷ us) p h (inr k) = units_word (at + length (unit_bytes u)) us p h.1 k
 
-pool_word : (s : Source) (area : ℕ) (vs : List Value) → AllUnitsFit (pool_units s area vs)
-pool_word s area [] = tt
-pool_word s area (v ∷ vs) = (tt, pool_word s area vs)
+literal_has_word : (o : Option LiteralWord) (p : Piece) → IsAmong p (word_piece o) → HasWord p.1
+literal_has_word None p k = absurd k
+literal_has_word (Some w) p (inl e) = subst (λ (q : Piece). HasWord q.1) (sym e) tt
+literal_has_word (Some w) p (inr k) = absurd k
 
-pool_or_fits : (w : What) (pool us : List Emitted) → AllUnitsFit pool → AllUnitsFit us → AllUnitsFit (pool_or w pool us)
-pool_or_fits w pool us h k = by_what (pool_or_own w)
-  where
-    by_what : (w ≡ what.Directive line.Ltorg) ⊎ ((pool us : List Emitted) → pool_or w pool us ≡ us) → AllUnitsFit (pool_or w pool us)
-    by_what (inl e) = subst (λ (z : What). AllUnitsFit (pool_or z pool us)) (sym e) h
-    by_what (inr own) = subst AllUnitsFit (sym (own pool us)) k
+put_word : (at : ℕ) (us : List Code) (o : Option LiteralWord) (p : Piece) → AllUnitsFit (map emitted_of us) → IsAmong p (pieces_put at us o) → HasWord p.1
+put_word at us o p h k =
+    ⊎_elim (units_word at (map emitted_of us) p h) (literal_has_word o p) (among_either p (units_from at (map emitted_of us)) (word_piece o) k)
 
 -- ---- numbers
 
@@ -126,87 +118,40 @@ all_stand : (names : List (List ℕ)) (room : ℕ) (ps : List Piece) → ((p : P
 all_stand names room [] f = tt
 all_stand names room (p ∷ ps) f = (f p (inl refl), all_stand names room ps (λ q k. f q (inr k)))
 
-growing_there : (gs : List Growing) (areas : List LaidArea) → frames gs ≡ map frame_of areas → (i : ℕ) (a : LaidArea) → slice_get areas i ≡ Some a
-    → (g : Growing) × (slice_get gs i ≡ Some g) × (frame g ≡ frame_of a)
-growing_there gs [] e i a at = absurd (cc)
-growing_there [] (x ∷ xs) e i a at = absurd (cc)
-growing_there (g ∷ gs) (x ∷ xs) e zero a at =
-    let first : frame g ≡ frame_of x = cc in
-    let is : x ≡ a = cc in (g, refl, first ∙ ap frame_of is)
-growing_there (g ∷ gs) (x ∷ xs) e (suc i) a at =
-    let more : frames gs ≡ map frame_of xs = cc in growing_there gs xs more i a at
-
--- things of the source, each with a word, can stand in the bytes that an area keeps
-can_stand : (ss : List Statement) → AreFaultless ss → length ss < 2 ^ 24 → (names : List (List ℕ)) → names ≡ symbols_of (source_of ss).names (laid ss)
-    → (area : ℕ) (a : LaidArea) → IsArea (laid ss) area a → (g : Growing) → frame g ≡ frame_of a → (at : ℕ) (us : List Emitted) → AllUnitsFit us
-    → ((p : Piece) → IsAmong p (units_from at us) → StandsIn (source_of ss) area p) → AllCanStand names (length g.draft.bytes.items) (units_from at us)
-can_stand ss h few names listed area a is g same at us fits stands =
-    all_stand names (length g.draft.bytes.items) (units_from at us) (λ p k. record {
-      inside = subst (λ (n : ℕ). p.0 + length (unit_bytes p.1) ≤ n) (sym (ap (λ (f : Frame). f.kept) same)) (thing_inside ss h area a is p (stands p k));
-      word = units_word at us p fits k;
-      number = thing_number ss h few names listed area p (stands p k);
-    })
-
-keeps_few : (ss : List Statement) → AreFaultless ss → (area : ℕ) (a : LaidArea) → IsArea (laid ss) area a → (g : Growing) → frame g ≡ frame_of a
-    → length g.draft.bytes.items < 2 ^ 32
-keeps_few ss h area a is g same =
-    subst (λ (n : ℕ). n < 2 ^ 32) (sym (ap (λ (f : Frame). f.kept) same))
-    (kept_small (marks_zeroes a.attributes) a.size (subst (λ (n : ℕ). n ≤ 2 ^ 24) (sym is.size) (area_small ss h.layout area)))
+frame_got : (xs : List LaidArea) (i : ℕ) (a : LaidArea) → slice_get xs i ≡ Some a → slice_get (map frame_of xs) i ≡ Some (frame_of a)
+frame_got [] i a e = absurd (cc)
+frame_got (x ∷ xs) zero a e = let is : x ≡ a = cc in ap (λ (y : LaidArea). Some (frame_of y)) is
+frame_got (x ∷ xs) (suc i) a e = frame_got xs i a e
 
 line_stands : (ss : List Statement) → AreFaultless ss → length ss < 2 ^ 24 → (names : List (List ℕ)) → names ≡ symbols_of (source_of ss).names (laid ss)
     → (areas : List LaidArea) (w : Whole) (before rest : List LaidLine) (l : LaidLine) (x : LaidStatement) → StandsThere ss areas w before rest l x
-    → (gs : List Growing) → frames gs ≡ map frame_of areas → AreDrafts names (held_behind ss before (l ∷ rest)) gs → (u : LineUnits) → IsPut ss before rest l u
-    → LineCanStand names gs x (map emitted_of u.units.items)
-line_stands ss h few names listed areas w before rest l x there gs same drafts u put = λ area e.
-    let us = map emitted_of u.units.items in
-    let here : l.area ≡ Some area = sym there.line.area ∙ e in
-    let less : area < length areas = subst (λ (a : Option ℕ). IsWithin (length areas) a) here (within_there ss areas w before rest l x there) in
-    let a = area_there areas area less in
-    let is = there.laid_out.each area a.0 a.1 in
-    let g = growing_there gs areas same area a.0 a.1 in
-    let pool = (held_behind ss before (l ∷ rest) area).pool in
-    let more = put_there x us pool in
-    let holds = (drafts area g.0 g.1).pool in
-    let stands = λ (p : Piece) (k : IsAmong p more).
-    stands_there ss area p (l ∷ before) rest there.parts
-    (subst (IsAmong p) (sym (things_here ss area before rest l more here (puts_there ss area before rest l x us there.line put.own)))
-    (among_last p (things_behind (source_of ss) area before (l ∷ rest)) more k)) in
-    record {
-      own = g.0;
-      there = g.1;
-      small = keeps_few ss h area a.0 is g.0 g.2;
-      stand = subst (λ (q : Pool). AllCanStand names (length g.0.draft.bytes.items) (put_there x us q)) (sym holds)
-          (can_stand ss h few names listed area a.0 is g.0 g.2 x.offset (pool_or x.statement.what pool.words us)
-          (pool_or_fits x.statement.what pool.words us (pool_word (source_of ss) area (waiting area (pieces_of before))) put.fits) stands);
-    }
-
--- ---- the pools at the ends of areas
-
-each_ends : (names : List (List ℕ)) (gs : List Growing) → ((i : ℕ) (g : Growing) → slice_get gs i ≡ Some g → CanEnd names g) → AllCanEnd names gs
-each_ends names [] f = tt
-each_ends names (g ∷ gs) f = (f 0 g refl, each_ends names gs (λ i x e. f (suc i) x e))
-
-pub all_end : (ss : List Statement) → AreFaultless ss → length ss < 2 ^ 24 → (names : List (List ℕ)) → names ≡ symbols_of (source_of ss).names (laid ss)
-    → (areas : List LaidArea) → AreAreas (laid ss) areas → (gs : List Growing) → frames gs ≡ map frame_of areas → AreDrafts names (held_behind ss (laid ss) []) gs → AllCanEnd names gs
-all_end ss h few names listed areas laid_out gs same drafts = each_ends names gs (λ i g e.
-    let f = frame_there gs areas same i g e in
-    let is = laid_out.each i f.laid_area f.there in
-    let size : g.size ≡ f.laid_area.size = ap (λ (z : Frame). z.size) f.same in
-    let t = ends_there ss i g.size (size ∙ is.size) in
-    let pool = (held_behind ss (laid ss) [] i).pool in
-    let holds = (drafts i g e).pool in
-    let words : length g.waiting.words.items ≡ length pool.words = sym (long_map g.waiting.words.items) ∙ ap (λ (p : Pool). length p.words) holds in
-    record {
-      room = subst (λ (n : ℕ). 4 * n ≤ g.size) (sym words) t.room;
-      small = keeps_few ss h i f.laid_area is g f.same;
-      stand = subst (λ (q : Pool). AllCanStand names (length g.draft.bytes.items) (put_last g.size q)) (sym holds)
-          (can_stand ss h few names listed i f.laid_area is g f.same (g.size - 4 * length pool.words) pool.words (pool_word (source_of ss) i (waiting i (pieces_of (laid ss))))
-          (λ p k. end_thing ss i p (subst (IsAmong p) t.is k)));
-    })
+    → (gs : List Growing) → frames gs ≡ map frame_of areas → (us : List Code) (o : Option LiteralWord) → own_things ss l before rest ≡ pieces_put x.offset us o
+    → AllUnitsFit (map emitted_of us) → LineCanStand names (frames gs) x.area (pieces_put x.offset us o)
+line_stands ss h few names listed areas w before rest l x there gs same us o puts fits = by_area x.area refl
   where
-    long_map : (us : List Code) → length (map emitted_of us) ≡ length us
-    long_map [] = refl
-    long_map (u ∷ us) = ap suc (long_map us)
+    more : List Piece
+    more = pieces_put x.offset us o
+
+    by_area : (own : Option ℕ) → x.area ≡ own → LineCanStand names (frames gs) own (pieces_put x.offset us o)
+    by_area None e = tt
+    by_area (Some area) e =
+        let here : l.area ≡ Some area = sym there.line.area ∙ e in
+        let less : area < length areas = subst (λ (a : Option ℕ). IsWithin (length areas) a) here (within_there ss areas w before rest l x there) in
+        let a = area_there areas area less in
+        let is = there.laid_out.each area a.0 a.1 in
+        let stands = λ (p : Piece) (k : IsAmong p more).
+        stands_there things_are_listed ss area p (l ∷ before) rest there.parts
+        (subst (IsAmong p) (sym (things_here ss area before rest l more here puts)) (among_behind p (things_behind ss area before (l ∷ rest)) more k)) in
+        record {
+          own = frame_of a.0;
+          there = ap (λ (fs : List Frame). slice_get fs area) same ∙ frame_got areas area a.0 a.1;
+          small = kept_small (marks_zeroes a.0.attributes) a.0.size (subst (λ (n : ℕ). n ≤ 2 ^ 24) (sym is.size) (area_small ss h.layout area));
+          stand = all_stand names (kept_size a.0.attributes a.0.size) more (λ p k. record {
+            inside = thing_inside ss h area a.0 is p (stands p k);
+            word = put_word x.offset us o p fits k;
+            number = thing_number ss h few names listed area p (stands p k);
+          });
+        }
 
 pub emittable : (l : Layout) (w : Whole) (names : List (List ℕ)) (h : HasSymbols l w names) → IsEmittable h.statements l w
 emittable l w names h =
@@ -214,13 +159,16 @@ emittable l w names h =
 
 -- of the lines that are left the first can stand
 pub next_stands : (l : Layout) (w : Whole) (names : List (List ℕ)) (x : LaidStatement) (left : List LaidStatement) (known : BTreeMap (List ℕ) ℕ) (gs : List Growing)
-    → 1 ≤ length left → x ≡ get_or left 0 x → (g : GrowsOn l w names left known gs) → frames gs ≡ map frame_of l.areas → (u : LineUnits)
+    → 1 ≤ length left → x ≡ get_or left 0 x → (g : GrowsOn l w names left known gs) → frames gs ≡ map frame_of l.areas → (u : LineUnits) (us : List Code) → us ≡ u.units.items
     → ((before rest : List LaidLine) (line : LaidLine) → IsHere g.source.statements l.areas w known before rest line x → IsPut g.source.statements before rest line u)
-    → LineCanStand names gs x (map emitted_of u.units.items)
-next_stands l w names x left known gs some at g same u put =
+    → LineCanStand names (frames gs) x.area (pieces_put x.offset us u.literal)
+next_stands l w names x left known gs some at g same u us is put =
     let s = g.source in
     let n = next_there s.statements l w names x left known gs some at (emittable l w names s) g.grown in
     let h = n.here in
+    let puts = put n.before n.rest n.line h in
     let there : StandsThere s.statements l.areas w n.before n.rest n.line x =
     record { said = h.said; sound = h.sound; laid_out = h.laid_out; whole = h.whole; parts = h.parts; line = h.line } in
-    line_stands s.statements s.faultless s.few names s.listed l.areas w n.before n.rest n.line x there gs same n.drafts u (put n.before n.rest n.line h)
+    line_stands s.statements s.faultless s.few names s.listed l.areas w n.before n.rest n.line x there gs same us u.literal
+    (put_there s.statements l w names x (take (length left - 1) (drop 1 left)) known gs n u us is puts)
+    (subst (λ (vs : List Code). AllUnitsFit (map emitted_of vs)) (sym is) puts.fits)

@@ -1,16 +1,16 @@
 -- The areas of an object while they are emitted, and when they are finished. This project's.
-use Rattle.std.specs.Prelude.{◌≡◌, ◌<◌, ◌≤◌, ◌^◌, ℕ, ◌-◌, ◌*◌, ◌==◌, Bool, if◌then◌else◌, List, ◌++◌, [], length, map, slice_get, Option, Some, None}
-use Rattle.std.specs.List.{AllByRecursion}
+use Rattle.std.specs.Prelude.{◌≡◌, ◌<◌, ◌^◌, ℕ, ◌==◌, Bool, if◌then◌else◌, List, ◌++◌, [], length, map, slice_get, Option, Some, None}
 use Rattle.sdt_word.specs.Numbers.{bit}
 use Rattle.aof_object.specs.declared.records.Area.{Area}
 use Rattle.armasm_core.specs.Drafts.{AreRelocs, HoldsPieces, IsDraft, MeetNone}
 use Rattle.armasm_core.specs.Writing.{AllCanStand}
+use Rattle.armasm_core.specs.declared.putting.LiteralWord.{LiteralWord}
+use Rattle.armasm_core.specs.Putting.{word_piece}
 use Rattle.asm_pool.specs.declared.layout.LaidArea.{LaidArea}
-use Rattle.asm_pool.specs.declared.layout.LaidStatement.{LaidStatement}
+use Rattle.asm_units.specs.declared.emitted.Emitted.{Emitted as Code}
+use Rattle.asm_units.specs.Emitting.{emitted_of}
 use Rattle.asm_model.specs.Offsets.{is_of}
-use Rattle.source_model.specs.Objects.{Piece, units_from, pool_or}
-use Rattle.source_model.specs.Units.{Emitted}
-use Rattle.armasm_core.specs.Waiting.{Pool, pool_of, pool_behind, with_word}
+use Rattle.source_model.specs.Objects.{Piece, units_from}
 use Rattle.armasm_core.specs.declared.drafting.Growing.{Growing}
 
 -- ---- what stays while an area is emitted
@@ -41,72 +41,40 @@ frames gs = map frame gs
 
 -- ---- what stands in areas
 
--- the things of an area so far, and the pool that waits
-pub record Held : Type 0 where
-  pub pieces : List Piece
-  pub pool : Pool
-
-abbrev pub nothing_held : Held
-nothing_held = record { pieces = []; pool = record { words = []; entries = 0 } }
-
-pub record IsGrowing (names : List (List ℕ)) (h : Held) (g : Growing) : Type 0 where
-  pub draft : IsDraft names h.pieces g.draft
-  pub pool : pool_of g.waiting ≡ h.pool
-
 -- in each area stand these things
-abbrev pub AreDrafts : List (List ℕ) → (ℕ → Held) → List Growing → Type 0
-AreDrafts names held gs = (area : ℕ) (g : Growing) → slice_get gs area ≡ Some g → IsGrowing names (held area) g
+abbrev pub AreDrafts : List (List ℕ) → (ℕ → List Piece) → List Growing → Type 0
+AreDrafts names held gs = (area : ℕ) (g : Growing) → slice_get gs area ≡ Some g → IsDraft names (held area) g.draft
 
--- what a line with these units puts into its area
-abbrev pub put_there : LaidStatement → List Emitted → Pool → List Piece
-put_there x us p = units_from x.offset (pool_or x.statement.what p.words us)
+-- what a line puts from an offset on, the word of its literal too
+abbrev pub pieces_put : ℕ → List Code → Option LiteralWord → List Piece
+pieces_put at us literal = units_from at (map emitted_of us) ++ word_piece literal
 
--- an area with what a line puts there, and the word of its literal, if it loads one
-abbrev pub with_units : LaidStatement → List Emitted → List Emitted → Held → Held
-with_units x us word h = record {
-  pieces = h.pieces ++ put_there x us h.pool;
-  pool = with_word x.literal word (pool_behind x.statement.what h.pool);
-}
+-- the things of an area with those of a line, if it is the line's
+abbrev pub with_line : (ℕ → List Piece) → Option ℕ → List Piece → ℕ → List Piece
+with_line held own more area = held area ++ (if is_of area own then more else [])
 
--- if it is the line's
-abbrev pub with_line : LaidStatement → List Emitted → List Emitted → (ℕ → Held) → ℕ → Held
-with_line x us word held area = if is_of area x.area then with_units x us word (held area) else held area
-
--- an area is listed, and a line's things can stand in the bytes that it keeps
-pub record CanTake (names : List (List ℕ)) (gs : List Growing) (area : ℕ) (x : LaidStatement) (us : List Emitted) : Type 0 where
-  pub own : Growing
-  pub there : slice_get gs area ≡ Some own
-  pub small : length own.draft.bytes.items < 2 ^ 32
-  pub stand : AllCanStand names (length own.draft.bytes.items) (put_there x us (pool_of own.waiting))
+-- an area is listed, and things can stand in the bytes that it keeps
+pub record CanTake (names : List (List ℕ)) (fs : List Frame) (area : ℕ) (more : List Piece) : Type 0 where
+  pub own : Frame
+  pub there : slice_get fs area ≡ Some own
+  pub small : own.kept < 2 ^ 32
+  pub stand : AllCanStand names own.kept more
 
 -- a line in no area puts nothing
-abbrev pub LineCanStand : List (List ℕ) → List Growing → LaidStatement → List Emitted → Type 0
-LineCanStand names gs x us = (area : ℕ) → x.area ≡ Some area → CanTake names gs area x us
+abbrev pub LineCanStand : List (List ℕ) → List Frame → Option ℕ → List Piece → Type 0
+LineCanStand names fs None more = Unit {0}
+LineCanStand names fs (Some area) more = CanTake names fs area more
 
 -- no thing of a line meets another of its area
-abbrev pub MeetNoneThere : (ℕ → Held) → LaidStatement → List Emitted → Type 0
-MeetNoneThere held x us =
-    (area : ℕ) → x.area ≡ Some area
-    → MeetNone ((held area).pieces ++ put_there x us (held area).pool) (put_there x us (held area).pool)
+abbrev pub MeetNoneThere : (ℕ → List Piece) → Option ℕ → List Piece → Type 0
+MeetNoneThere held own more = (area : ℕ) → own ≡ Some area → MeetNone (held area ++ more) more
 
 -- ---- finished areas
 
--- the pool at the end of an area of so many bytes
-abbrev pub put_last : ℕ → Pool → List Piece
-put_last size p = units_from (size - 4 * length p.words) p.words
-
-pub record CanEnd (names : List (List ℕ)) (g : Growing) : Type 0 where
-  pub room : 4 * length g.waiting.words.items ≤ g.size
-  pub small : length g.draft.bytes.items < 2 ^ 32
-  pub stand : AllCanStand names (length g.draft.bytes.items) (put_last g.size (pool_of g.waiting))
-
-abbrev pub AllCanEnd : List (List ℕ) → List Growing → Type 0
-AllCanEnd names gs = AllByRecursion (CanEnd names) gs
-
-pub record IsFinished (names : List (List ℕ)) (g : Growing) (a : Area) : Type 0 where
+pub record IsFinished (g : Growing) (a : Area) : Type 0 where
   pub name : a.name ≡ g.name
   pub attributes : a.attributes ≡ g.attributes
   pub size : a.size ≡ g.size
   pub kept : length a.bytes ≡ length g.draft.bytes.items
-  pub held : (h : Held) → IsGrowing names h g → MeetNone (h.pieces ++ put_last g.size h.pool) (put_last g.size h.pool)
-      → HoldsPieces (h.pieces ++ put_last g.size h.pool) a.bytes × AreRelocs names (h.pieces ++ put_last g.size h.pool) a.relocs
+  pub held : (names : List (List ℕ)) (pieces : List Piece) → IsDraft names pieces g.draft → HoldsPieces pieces a.bytes
+  pub relocs : (names : List (List ℕ)) (pieces : List Piece) → IsDraft names pieces g.draft → AreRelocs names pieces a.relocs

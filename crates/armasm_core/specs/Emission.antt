@@ -1,5 +1,5 @@
 -- What emission asks of a layout, the lines that are left to emit, and the areas so far. This project's.
-use Rattle.std.specs.Prelude.{◌≡◌, ℕ, ◌+◌, ◌^◌, ◌<◌, List, length, None}
+use Rattle.std.specs.Prelude.{◌≡◌, ℕ, ◌^◌, ◌<◌, List, length, None}
 use Rattle.std.specs.BTreeMap.{BTreeMap}
 use Rattle.asm_instructions.specs.Scenes.{register_at}
 use Rattle.armasm_core.specs.declared.whole.Whole.{Whole}
@@ -9,19 +9,16 @@ use Rattle.asm_layout.specs.Layout.{IsLayout}
 use Rattle.asm_model.specs.declared.statements.Statement.{Statement}
 use Rattle.asm_pool.specs.declared.layout.LaidStatement.{LaidStatement}
 use Rattle.asm_pool.specs.declared.layout.Layout.{Layout}
-use Rattle.asm_model.specs.Laid.{LaidLine, laid, pieces_of, final_names, reversed}
-use Rattle.asm_model.specs.Offsets.{waiting}
-use Rattle.asm_offsets.specs.Running.{pools_behind}
+use Rattle.asm_model.specs.Laid.{LaidLine, laid, final_names, reversed}
 use Rattle.asm_model.specs.Symbols.{symbols_of}
 use Rattle.object_laws.specs.Laws.{AreFaultless}
 use Rattle.said_model.specs.Fit.{AllFit}
 use Rattle.said_model.specs.Said.{AllSaid, AllHaveTexts}
-use Rattle.source_laws.specs.Laws.{InArmState}
-use Rattle.source_model.specs.Objects.{source_of, pool_units, things_behind}
+use Rattle.source_laws.specs.Laws.{InArmState, things_behind}
 use Rattle.source_model.specs.Registers.{register_in, registers_behind}
 use Rattle.source_model.specs.SourceFaults.{layout_faults}
 use Rattle.armasm_core.specs.declared.drafting.Growing.{Growing}
-use Rattle.armasm_core.specs.Drafting.{Held, AreDrafts}
+use Rattle.armasm_core.specs.Drafting.{AreDrafts}
 
 -- a layout is one of statements of ARM state without faults of layout, as lines say them
 pub record HasSource (l : Layout) : Type 0 where
@@ -58,18 +55,6 @@ pub record IsEmittable (statements : List Statement) (l : Layout) (w : Whole) : 
   pub arm : InArmState statements
   pub whole : IsWhole statements l.areas w
 
--- the entries of an area's pools behind lines
-abbrev pub entries_behind : ℕ → List LaidLine → ℕ
-entries_behind area before =
-    length (pools_behind area (pieces_of before)).placed + length (pools_behind area (pieces_of before)).waiting
-
--- what stands in an area behind lines, where these lines are left
-abbrev pub held_behind : List Statement → List LaidLine → List LaidLine → ℕ → Held
-held_behind statements before rest area = record {
-  pieces = things_behind (source_of statements) area before rest;
-  pool = record { words = pool_units (source_of statements) area (waiting area (pieces_of before)); entries = entries_behind area before };
-}
-
 -- of a source's lines these are left, and in the areas stands what those before put there
 pub record IsGrown (statements : List Statement) (symbols : List (List ℕ)) (left : List LaidStatement) (known : BTreeMap (List ℕ) ℕ) (gs : List Growing) : Type 0 where
   pub before : List LaidLine
@@ -77,7 +62,7 @@ pub record IsGrown (statements : List Statement) (symbols : List (List ℕ)) (le
   pub parts : laid statements ≡ reversed rest before
   pub lines : AreOn before rest left
   pub registers : (q : List ℕ) → register_at known q ≡ register_in q (registers_behind before)
-  pub drafts : AreDrafts symbols (held_behind statements before rest) gs
+  pub drafts : AreDrafts symbols (λ area. things_behind statements area before rest) gs
 
 -- of the lines of the layout's source these are left
 pub record GrowsOn (l : Layout) (w : Whole) (symbols : List (List ℕ)) (left : List LaidStatement) (known : BTreeMap (List ℕ) ℕ) (gs : List Growing) : Type 0 where

@@ -19,4 +19,3 @@ pub mod JudgingLaws
 pub mod Loaded
 pub mod Putting
 pub mod Whole
-pub mod Waiting

@@ -1,6 +1,6 @@
 //! The object of a layout.
 
-ghost use Rattle.std.specs.Prelude.{◌≡◌, ◌<◌, ◌^◌, List as Items, [], None, length, map, IfOk};
+ghost use Rattle.std.specs.Prelude.{◌≡◌, ◌<◌, ◌^◌, List as Items, None, length, map, IfOk};
 ghost use Rattle.aof_object.specs.declared.records.Symbol.{Symbol as Record};
 ghost use Rattle.asm_layout.specs.Layout.{IsLayout};
 ghost use Rattle.asm_model.specs.declared.statements.Statement.{Statement};
@@ -10,13 +10,13 @@ ghost use Rattle.asm_model.specs.PlacedLines.{AllNamed};
 ghost use Rattle.asm_model.specs.Symbols as needs;
 ghost use Rattle.said_model.specs.Named.{AllLoadsNamed};
 ghost use Rattle.said_model.specs.Said.{AllSaid};
-ghost use Rattle.source_laws.specs.Laws.{InArmState};
+ghost use Rattle.source_laws.specs.Laws.{InArmState, things_in};
 ghost use Rattle.source_model.specs.Objects.{IsObject, source_of, symbol_records};
 ghost use Rattle.source_model.specs.SourceFaults.{layout_faults};
 ghost use Rattle.armasm_core.specs.Gathered.{AllLaidSaid};
 ghost use Rattle.armasm_core.specs.Whole.{IsWhole};
-ghost use Rattle.armasm_core.specs.Drafting.{AllCanEnd, AreDrafts, frame_of, frames};
-ghost use Rattle.armasm_core.specs.Emission.{HasFaultlessSource, HasSource, HasSymbols, IsEmittable, held_behind};
+ghost use Rattle.armasm_core.specs.Drafting.{AreDrafts, frame_of, frames};
+ghost use Rattle.armasm_core.specs.Emission.{HasFaultlessSource, HasSource, HasSymbols, IsEmittable};
 ghost use Rattle.armasm_core.specs.Emitted.{IsEmitted};
 ghost use Rattle.armasm_core.specs.Wherever.{StandsWherever};
 
@@ -28,12 +28,11 @@ use crate::records::records_of;
 use crate::symbols::symbols_of;
 use crate::{LineUnits, Whole, give, judge, line_units, relocations_are_of_sources, whole_of};
 use aof_object::{Object, Symbol};
-use asm_offsets::extents_are_placeable;
 use asm_pool::Layout;
 use asm_units::Symbols;
 use sdt_fault::answer::Fault;
 use sdt_fault::{List, NoMemory};
-use source_laws::laws::sources_stand_apart;
+use source_laws::laws::{sources_stand_apart, things_are_listed};
 use stand_laws::laws::objects_stand;
 use std::alloc::Global;
 use std::collections::BTreeMap;
@@ -49,10 +48,9 @@ fn grown(
     requires source { HasSymbols layout.now whole.now symbols.now }
     requires few { length symbols.now < 2 ^ 24 }
     ensures frames { IfOk result (λ gs. frames gs.items ≡ map frame_of layout.now.areas) }
-    ensures drafts { IfOk result (λ gs. (statements : Items Statement) → IsEmittable statements layout.now whole.now → AreDrafts symbols.now (held_behind statements (laid statements) []) gs.items) }
-    ensures ends { IfOk result (λ gs. AllCanEnd symbols.now gs.items) }
+    ensures drafts { IfOk result (λ gs. (statements : Items Statement) → IsEmittable statements layout.now whole.now → AreDrafts symbols.now (things_in (source_of statements)) gs.items) }
 {
-    extents_are_placeable();
+    things_are_listed();
     sources_stand_apart();
     let areas = layout.areas.as_slice();
     let mut growing = all_started(alloc, areas)?;
@@ -67,7 +65,7 @@ fn grown(
                     literal,
                     number,
                 } = line_units(alloc, areas, whole, &registers, line)?;
-                put_line(alloc, &mut growing, line, units, literal, symbols)?;
+                put_line(&mut growing, line, units.as_slice(), literal, symbols)?;
                 give(alloc, &mut registers, &line.statement, number)?;
                 left = rest;
             }
@@ -101,12 +99,12 @@ fn object_of(alloc: Global, layout: &Layout) -> Result<Object, NoMemory>
     ensures few { IfOk result (λ o. length o.symbols < 2 ^ 24) }
 {
     relocations_are_of_sources();
-    sources_stand_apart();
+    things_are_listed();
     let whole = whole_of(alloc, layout)?;
     let needed = symbols_of(alloc, layout, &whole)?;
     let symbols = few_records(alloc, layout, &whole, &needed)?;
     let growing = grown(alloc, layout, &whole, &needed)?;
-    let areas = all_finished(alloc, growing, &needed)?;
+    let areas = all_finished(alloc, growing)?;
     Ok(Object {
         areas,
         symbols,

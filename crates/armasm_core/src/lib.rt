@@ -24,7 +24,6 @@ pub mod registers;
 mod relocations;
 pub mod sets;
 pub mod symbols;
-pub mod waiting;
 pub mod whole;
 mod writing;
 
@@ -35,7 +34,7 @@ pub use crate::emission::emit;
 pub use crate::entry::entry_of;
 pub use crate::facts::{Gathered, facts_of, gathered_of};
 pub use crate::judging::judge;
-pub use crate::putting::{LineUnits, line_units};
+pub use crate::putting::{LineUnits, LiteralWord, line_units};
 pub use crate::records::records_of;
 pub use crate::registers::give;
 pub use crate::symbols::symbols_of;

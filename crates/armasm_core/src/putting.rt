@@ -17,7 +17,7 @@ ghost use Rattle.asm_units.specs.Emitting.{all_emitted, emitted_of, stored_of};
 ghost use Rattle.asm_units.specs.Literals.{literal_in};
 ghost use Rattle.asm_units.specs.Showing.{ShowsBeside};
 ghost use Rattle.armasm_core.specs.Giving.{IsNumber};
-ghost use Rattle.armasm_core.specs.Putting.{IsPut, loaded_units, word_units};
+ghost use Rattle.armasm_core.specs.Putting.{IsPut, word_piece};
 ghost use Rattle.armasm_core.specs.Whole.{IsHere};
 
 use crate::beside::{beside_of, loaded_of};
@@ -27,19 +27,26 @@ use asm_instructions::laws::{instructions_fit, pseudo_instructions_fit};
 use asm_layout::lines::line_of;
 use asm_model::{Value, What};
 use asm_pool::{LaidArea, LaidStatement};
-use asm_units::{Beside, Emitted, Stored, Target, literal, units};
+use asm_units::{Beside, Emitted, Stored, literal, units};
 use sdt_fault::kinds::LineKind;
 use sdt_fault::{NoMemory, Text};
 use std::alloc::Global;
 use std::collections::BTreeMap;
+
+/// The word of a literal, at an offset in bytes in its area.
+#[derive(Debug, Drop)]
+pub struct LiteralWord {
+    pub at: u32,
+    pub word: Stored,
+}
 
 /// What a line puts into its area, and what its RN gives.
 #[derive(Debug, Drop)]
 pub struct LineUnits {
     /// From the line's offset on, one behind the other; none where the line's values have a fault.
     pub units: Vec<Emitted>,
-    /// The word of the literal that the line loads.
-    pub literal: Option<Stored>,
+    /// The word of the line's literal; none where the line loads none or the literal has a fault.
+    pub literal: Option<LiteralWord>,
     /// The number that RN is given by an expression; of other statements it says nothing.
     pub number: Result<u32, LineKind>,
 }
@@ -53,15 +60,12 @@ fn or_none(alloc: Global, units: Result<Vec<Emitted>, LineKind>) -> Vec<Emitted>
     }
 }
 
-fn or_empty(word: Result<Stored, LineKind>) -> Stored
-    ensures { stored_of result ≡ objects.or_empty (mapped stored_of word) }
+fn literal_word(at: Option<u32>, word: Result<Stored, LineKind>) -> Option<LiteralWord>
+    ensures { word_piece result ≡ objects.literal_unit at (mapped stored_of word) }
 {
-    match word {
-        Ok(word) => word,
-        Err(_) => Stored {
-            number: 0,
-            target: Target::Nothing,
-        },
+    match (at, word) {
+        (Some(at), Ok(word)) => Some(LiteralWord { at, word }),
+        (_, _) => None,
     }
 }
 
@@ -70,14 +74,14 @@ fn word_there(
     alloc: Global,
     beside: &Beside<'_>,
     loaded: Option<&Value>,
-) -> Result<Option<Stored>, NoMemory>
-    ensures { IfOk result (λ w. (c : Context) (data_names : List (List ℕ)) (sizes : ℕ → ℕ) (s : Sight) (word : Option ℕ) (said : Said) (e : Extent) → ShowsBeside beside.now c data_names sizes s word said → literal_in e ≡ option_copied loaded.entry → word_units w ≡ loaded_units c data_names e) }
+) -> Result<Option<LiteralWord>, NoMemory>
+    ensures { IfOk result (λ w. (c : Context) (data_names : List (List ℕ)) (sizes : ℕ → ℕ) (s : Sight) (word : Option ℕ) (said : Said) (e : Extent) → ShowsBeside beside.now c data_names sizes s word said → literal_in e ≡ option_copied loaded.entry → word_piece w ≡ objects.literal_piece c data_names e word) }
 {
     match loaded {
         None => Ok(None),
         Some(value) => {
             let word = literal(alloc, beside, value)?;
-            Ok(Some(or_empty(word)))
+            Ok(literal_word(beside.word, word))
         }
     }
 }
@@ -99,7 +103,7 @@ fn beside_put(
 ) -> Result<LineUnits, NoMemory>
     requires { WhatSaid what.now }
     ensures units { IfOk result (λ u. (c : Context) (data_names : List (List ℕ)) (sizes : ℕ → ℕ) (s : Sight) (word : Option ℕ) → ShowsBeside beside.now c data_names sizes s word what.now → map emitted_of u.units.items ≡ objects.or_none (model.units c data_names s word what.now)) }
-    ensures literal { IfOk result (λ u. (c : Context) (data_names : List (List ℕ)) (sizes : ℕ → ℕ) (s : Sight) (word : Option ℕ) (e : Extent) → ShowsBeside beside.now c data_names sizes s word what.now → literal_in e ≡ option_copied loaded.entry → word_units u.literal ≡ loaded_units c data_names e) }
+    ensures literal { IfOk result (λ u. (c : Context) (data_names : List (List ℕ)) (sizes : ℕ → ℕ) (s : Sight) (word : Option ℕ) (e : Extent) → ShowsBeside beside.now c data_names sizes s word what.now → literal_in e ≡ option_copied loaded.entry → word_piece u.literal ≡ objects.literal_piece c data_names e word) }
     ensures number { IfOk result (λ u. (c : Context) → Shows beside.now.scene c → IsNumber c what.now u.number) }
 {
     let units = units_there(alloc, beside, what)?;
@@ -113,7 +117,7 @@ fn beside_put(
 }
 
 /// What a line puts into its area, and what its RN gives. A line whose values have a fault gives no units, and a literal
-/// with a fault an empty word. NoMemory alone is an error.
+/// with a fault no word. NoMemory alone is an error.
 pub fn line_units(
     alloc: Global,
     areas: &[LaidArea],

@@ -1,4 +1,4 @@
 mod EndLemmas
 mod ExtentLemmas
-pub mod PlaceLemmas
+mod PlaceLemmas
 mod WordLemmas

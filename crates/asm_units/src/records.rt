@@ -1,6 +1,6 @@
 //! The records of symbols.
 
-ghost use Rattle.std.specs.Prelude.{◌≡◌, ◌+◌, ◌*◌, ◌≤◌, ◌&&◌, ◌^◌, None, false, get_or, IfOk, if◌then◌else◌};
+ghost use Rattle.std.specs.Prelude.{◌≡◌, ◌+◌, ◌*◌, ◌≤◌, ◌&&◌, ◌^◌, false, get_or, IfOk, if◌then◌else◌};
 ghost use Rattle.std.specs.Option.{option_copied};
 ghost use Rattle.sdt_word.specs.Numbers.{flag as flag_of};
 ghost use Rattle.asm_model.specs.Meaning as meaning;
@@ -109,7 +109,7 @@ fn entry_stands_at(entry: Option<&LaidName>) -> Option<(u32, u32)>
 }
 
 fn stands_at(facts: &Facts<'_>, label: &Text) -> Option<(u32, u32)>
-    ensures { (s : Source) → Shows facts.now s → result ≡ meaning.stands_at (sees (objects.context_in s None)) label.now }
+    ensures { (s : Source) → Shows facts.now s → result ≡ meaning.stands_at (sees (objects.in_no_line s)) label.now }
 {
     if label.as_slice().is_empty() {
         return None;

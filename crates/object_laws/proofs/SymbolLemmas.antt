@@ -42,7 +42,7 @@ use Rattle.said_model.specs.Fit.{AllPlaceless, WhatFits, IsFit}
 use Rattle.said_model.specs.Said.{what_names, HoldsNoZero, HasTexts}
 use Rattle.source_model.specs.ArmForms.{is_settled, has_symbol, branch_from, branch_displacement, branch_field, arm_instruction}
 use Rattle.source_model.specs.Contexts.{Context, sees, value_of, and_then}
-use Rattle.source_model.specs.Objects.{Source, source_of, is_exported as is_exported_name, is_weak, scope, contents_of, holds_code, symbol_placed, context_in, symbol_valued, symbol_named, IsObject}
+use Rattle.source_model.specs.Objects.{Source, source_of, is_exported as is_exported_name, is_weak, scope, contents_of, holds_code, symbol_placed, in_no_line, symbol_valued, symbol_named, IsObject}
 use Rattle.source_model.specs.SourceFaults.{label_of, symbol_names}
 use Rattle.source_model.specs.Units.{Emitted, Instruction, branch_symbol, units}
 use Rattle.source_model.specs.ValueKinds.{lies_within, kinds_unless, export_kinds, statement_kinds}
@@ -97,7 +97,7 @@ pub own_place_good : (count : ℕ) (sizes : ℕ → ℕ) (s : Source) (q : List 
     → EndsBelow count sizes 0 (in_area f.area f.offset) → IsGood count sizes (symbol_valued s q (Place q 0))
 own_place_good count sizes s [] f e h = placed_good count sizes s [] [] 0 None (λ a x. absurd (cc))
 own_place_good count sizes s (c ∷ cs) f e h =
-    placed_good count sizes s (c ∷ cs) (c ∷ cs) 0 (stands_at (sees (context_in s None)) (c ∷ cs))
+    placed_good count sizes s (c ∷ cs) (c ∷ cs) 0 (stands_at (sees (in_no_line s)) (c ∷ cs))
     (λ a x. h a (ap entry_stands_at (sym e) ∙ x))
 
 pub own_good : (count : ℕ) (sizes : ℕ → ℕ) (s : Source) (q : List ℕ) (f : LaidName) → named_in q s.names ≡ Some f → f.value ≡ Place q 0
@@ -447,7 +447,7 @@ placed_name s name label n (Some a) = refl
 
 pub valued_name : (s : Source) (name : List ℕ) (v : Value) → (symbol_valued s name v).name ≡ name
 valued_name s name (Number n) = refl
-valued_name s name (Place q n) = placed_name s name q n (stands_at (sees (context_in s None)) q)
+valued_name s name (Place q n) = placed_name s name q n (stands_at (sees (in_no_line s)) q)
 valued_name s name (Truth b) = refl
 valued_name s name (Words w) = refl
 

@@ -1,5 +1,5 @@
 -- A literal has one word in all of its area.
-use Rattle.std.proofs.Common.{◌≡◌, ℕ, List, [], ◌∷◌, ◌++◌, refl, sym, ◌∙◌, ap, subst, Option, Some, None}
+use Rattle.std.proofs.Common.{◌≡◌, ℕ, List, [], ◌∷◌, ◌++◌, false, refl, sym, ◌∙◌, ap, subst, Option, Some, None}
 use Rattle.std.specs.Prelude.{Result, Ok, Err}
 use Rattle.sdt_fault.specs.declared.kinds.LineKind.{LineKind}
 use Rattle.asm_model.specs.declared.exprs.BinaryOp.TheVariants.{Add}
@@ -13,8 +13,8 @@ use Rattle.asm_model.specs.Labels.{declared_names}
 use Rattle.asm_model.specs.Laid.{LaidLine, laid, final_names}
 use Rattle.asm_model.specs.Marks.{datum_names}
 use Rattle.source_model.specs.Contexts.{Context, sees}
-use Rattle.source_model.specs.Objects.{or_empty, source_of, context_in, literal_stored}
-use Rattle.source_model.specs.Units.{placed, stored}
+use Rattle.asm_model.specs.AtLine.{Nameless}
+use Rattle.source_model.specs.Units.{Stored, Nothing, placed, stored}
 use Rattle.source_laws.specs.Laws.{context_behind, stored_literal}
 use Rattle.source_laws.proofs.LineLemmas.{is_laid}
 
@@ -35,13 +35,31 @@ sum_same a b (Some e) n = by_value e.value
     by_value (Words w) = refl
     by_value (Place s p) = refl
 
+-- all names of a source, in an area
+abbrev pub context_in : List Statement → ℕ → Context
+context_in ss area = record {
+  names = final_names (laid ss);
+  line = record { area = Some area; offset = 0; map = 0; thumb = false; definition = Nameless };
+  registers = [];
+  symbols = [];
+  defined = [];
+}
+
+abbrev pub or_empty : Result Stored LineKind → Stored
+or_empty (Ok w) = w
+or_empty (Err k) = record { number = 0; target = Nothing }
+
+-- what the word of a literal holds
+abbrev pub literal_stored : List Statement → Context → Value → Stored
+literal_stored ss c v = or_empty (stored_literal ss c v)
+
 -- a line sees the names that its area sees
 literal_words_agree : (ss : List Statement) (before : List LaidLine) (l : LaidLine) (area : ℕ) → l.line.area ≡ Some area → (v : Value)
-    → stored_literal ss (context_in (source_of ss) (Some area)) v ≡ stored_literal ss (context_behind ss l before) v
+    → stored_literal ss (context_in ss area) v ≡ stored_literal ss (context_behind ss l before) v
 literal_words_agree ss before l area e v = by_value v
   where
     c : Context
-    c = context_in (source_of ss) (Some area)
+    c = context_in ss area
 
     put_same : (s : List ℕ) (n : ℕ) (o : Option (ℕ × ℕ)) → placed c (datum_names ss) s n o ≡ placed (context_behind ss l before) (datum_names ss) s n o
     put_same s n None = refl
@@ -67,5 +85,5 @@ literal_words_agree ss before l area e v = by_value v
 
 -- so the word of a literal is that of the line that loads it
 pub literal_loaded : (ss : List Statement) (after before : List LaidLine) (l : LaidLine) (area : ℕ) → laid ss ≡ after ++ l ∷ before → l.area ≡ Some area → (v : Value)
-    → literal_stored (source_of ss) (context_in (source_of ss) (Some area)) v ≡ literal_stored (source_of ss) (context_behind ss l before) v
+    → literal_stored ss (context_in ss area) v ≡ literal_stored ss (context_behind ss l before) v
 literal_loaded ss after before l area e own v = ap or_empty (literal_words_agree ss before l area (line_area ss after before l e ∙ own) v)

@@ -1,4 +1,5 @@
 pub mod AgreeLemmas
+pub mod ApartLemmas
 pub mod FaultlessLemmas
 pub mod LineLemmas
 pub mod ListLemmas

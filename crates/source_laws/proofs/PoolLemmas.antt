@@ -1,28 +1,57 @@
--- Each thing of an area is a unit of a line's own, or the word of a literal that a line loads; and each such literal has its
--- word in the area.
-use Rattle.std.proofs.Common.{◌≡◌, ℕ, ◌*◌, ◌+◌, ◌&&◌, List, [], ◌∷◌, ◌++◌, append_assoc, Bool, true, false, cond, refl, sym, ◌∙◌, ap, subst, Option, Some, None, ◌⊎◌, inl, inr}
-use Rattle.std.specs.Prelude.{Ok}
+-- Each thing of an area is a unit of a line's own, or the word of a literal that a line loads; and each such word lies in the
+-- area's next pool, where an LTORG stands or behind all lines.
+use Rattle.std.proofs.Common.{◌≡◌, ℕ, ◌*◌, ◌+◌, ◌&&◌, List, [], ◌∷◌, ◌++◌, Bool, true, false, cond, refl, sym, ◌∙◌, ap, subst, Option, Some, None, ◌⊎◌, inl, inr}
+use Rattle.std.specs.Prelude.{Result, Ok, Err}
 use Rattle.std.proofs.lemmas.Bool.{and_parts}
+use Rattle.sdt_fault.specs.declared.kinds.LineKind.{LineKind}
 use Rattle.asm_model.specs.declared.directives.DirectiveLine.TheVariants as line
 use Rattle.asm_model.specs.declared.statements.Statement.{Statement}
 use Rattle.asm_model.specs.declared.statements.What.TheVariants as what
 use Rattle.asm_model.specs.declared.values.Value.{Value}
 use Rattle.asm_model.specs.Extents.{Extent, Block, Padding, Loading, Pool}
 use Rattle.asm_model.specs.Laid.{LaidLine, taken, pieces_of, laid}
-use Rattle.asm_model.specs.Offsets.{is_of, is_pool, is_pool_of, waiting, waiting_behind, place_among, start_in, word_behind, literal_word}
+use Rattle.asm_model.specs.Marks.{datum_names}
+use Rattle.asm_model.specs.Offsets.{Piece as LaidPiece, is_of, is_pool, is_pool_of, waiting, place_among, start_in, word_behind, literal_word}
 use Rattle.asm_model.specs.Sound.{IsSound}
 use Rattle.asm_model.proofs.OffsetLemmas.{behind_keeps}
-use Rattle.source_model.specs.Objects.{Piece, units_from, source_of, in_order, context_in, literal_stored, pool_units, pool_or, end_things, IsAmong, StandsIn}
-use Rattle.source_model.specs.Units.{Emitted, Word}
-use Rattle.source_laws.specs.Laws.{word_among, context_behind}
-use Rattle.source_laws.proofs.AgreeLemmas.{literal_loaded}
+use Rattle.source_model.specs.Contexts.{Context}
+use Rattle.source_model.specs.Objects.{Piece, units_from, literal_unit, literal_piece, or_none, source_of, in_order, IsAmong, StandsIn}
+use Rattle.source_model.specs.SourceFaults.{word_of}
+use Rattle.source_model.specs.Units.{Emitted, Word, Stored, units}
+use Rattle.source_laws.specs.Laws.{word_among, context_behind, stored_literal}
+use Rattle.source_laws.proofs.AgreeLemmas.{or_empty, context_in, literal_stored, literal_loaded}
 use Rattle.source_laws.proofs.LineLemmas.{piece_of, stands_in}
-use Rattle.source_laws.proofs.ListedLemmas.{Owner, Held, owned, held, line_thing, end_thing}
-use Rattle.source_laws.proofs.SizeLemmas.{pools_are_said, pool_or_own}
-use Rattle.source_laws.proofs.ThingLemmas.{own_units, puts, puts_pool, puts_own, known_extent}
-use Rattle.source_laws.proofs.WordLemmas.{Waits, Holds, Loaded, waits_loaded, waits_behind, pool_among, pool_word}
+use Rattle.source_laws.proofs.ListedLemmas.{among_either, owned, owner_of, Owner}
+use Rattle.source_laws.proofs.SizeLemmas.{pools_are_said, pool_or, pool_or_own}
+use Rattle.source_laws.proofs.ThingLemmas.{own_units, own_words, puts, puts_pool, puts_own, known_extent}
+use Rattle.source_laws.proofs.WordLemmas.{Waits, pool_units, pool_word, waits_behind}
 
 -- ---- what a thing is
+
+pub record IsWord (statements : List Statement) (c : Context) (e : Extent) (word : Option ℕ) (p : Piece) : Type 0 where
+  pub size : ℕ
+  pub value : Value
+  pub place : ℕ
+  pub holds : Stored
+  pub extent : e ≡ Loading size value
+  pub stands : word ≡ Some place
+  pub stores : stored_literal statements c value ≡ Ok holds
+  pub is : p ≡ (place, Word holds)
+
+pub is_word : (statements : List Statement) (c : Context) (e : Extent) (word : Option ℕ) (p : Piece)
+    → IsAmong p (literal_piece c (datum_names statements) e word) → IsWord statements c e word p
+is_word statements c (Block a n) word p h = absurd h
+is_word statements c (Padding m n) word p h = absurd h
+is_word statements c Pool word p h = absurd h
+is_word statements c (Loading n v) word p h = by_result word (stored_literal statements c v) refl refl h
+  where
+    by_result : (o : Option ℕ) (r : Result Stored LineKind) → word ≡ o → stored_literal statements c v ≡ r → IsAmong p (literal_unit o r)
+        → IsWord statements c (Loading n v) word p
+    by_result None r x y k = absurd k
+    by_result (Some at) (Err j) x y k = absurd k
+    by_result (Some at) (Ok w) x y (inl e) =
+        record { size = n; value = v; place = at; holds = w; extent = refl; stands = x; stores = y; is = e }
+    by_result (Some at) (Ok w) x y (inr k) = absurd k
 
 pub record OwnUnit (ss : List Statement) (area : ℕ) (p : Piece) : Type 0 where
   pub owner : LaidLine
@@ -38,52 +67,46 @@ pub record PoolWord (ss : List Statement) (area : ℕ) (p : Piece) : Type 0 wher
   pub before : List LaidLine
   pub parts : laid ss ≡ after ++ loader ∷ before
   pub own : loader.area ≡ Some area
-  pub size : ℕ
-  pub value : Value
-  pub loads : taken loader.extent ≡ Loading size value
-  pub is : p.1 ≡ Word (literal_stored (source_of ss) (context_behind ss loader before) value)
-
-of_pool : (ss : List Statement) (area at : ℕ) (p : Piece) (later lines : List LaidLine) → laid ss ≡ later ++ lines
-    → IsAmong p (units_from at (pool_units (source_of ss) area (waiting area (pieces_of lines)))) → PoolWord ss area p
-of_pool ss area at p later lines e h =
-    let a = pool_among (source_of ss) area at (waiting area (pieces_of lines)) p h in
-    let r = waits_loaded area lines a.0 a.1 in
-    let parts = e ∙ ap (λ z. later ++ z) r.parts ∙ sym (append_assoc later r.after (r.loader ∷ r.before)) in
-    record {
-      loader = r.loader;
-      after = later ++ r.after;
-      before = r.before;
-      parts = parts;
-      own = r.own;
-      size = r.size;
-      value = a.0;
-      loads = r.loads;
-      is = a.2 ∙ ap Word (literal_loaded ss (later ++ r.after) r.before r.loader area parts r.own a.0);
-    }
+  pub word : IsWord ss (context_behind ss loader before) (taken loader.extent) (word_among after loader before) p
 
 pub unit_or_word : (ss : List Statement) (area : ℕ) (p : Piece) → StandsIn (source_of ss) area p → OwnUnit ss area p ⊎ PoolWord ss area p
-unit_or_word ss area p h = by_kind (held (source_of ss) area p h)
+unit_or_word ss area p h =
+    by_kind (among_either p (units_from x.owner.offset (own_units ss x.after x.owner x.before)) (own_words ss x.after x.owner x.before) x.among)
   where
-    by_kind : Held (source_of ss) area p → OwnUnit ss area p ⊎ PoolWord ss area p
-    by_kind (inr k) = inr (of_pool ss area (start_in area (pieces_of (laid ss)) Pool) p [] (laid ss) refl k)
-    by_kind (inl x) = by_what (pool_or_own x.holder.statement.what)
-      where
-        by_what : (x.holder.statement.what ≡ what.Directive line.Ltorg) ⊎ ((pool us : List Emitted) → pool_or x.holder.statement.what pool us ≡ us)
-            → OwnUnit ss area p ⊎ PoolWord ss area p
-        by_what (inl w) =
-            inr (of_pool ss area x.holder.offset p (x.after ++ x.holder ∷ []) x.before (x.parts ∙ sym (append_assoc x.after (x.holder ∷ []) x.before))
-            (subst (λ us. IsAmong p (units_from x.holder.offset us)) (puts_pool ss area x.after x.before x.holder w) x.among))
-        by_what (inr o) =
-            inl (record {
-              owner = x.holder;
-              after = x.after;
-              before = x.before;
-              parts = x.parts;
-              own = x.own;
-              among = subst (λ us. IsAmong p (units_from x.holder.offset us)) (puts_own ss area x.after x.before x.holder o) x.among;
-            })
+    x : Owner ss area p (laid ss) []
+    x = owner_of ss area p h
 
--- ---- the word of a literal
+    by_kind : IsAmong p (units_from x.owner.offset (own_units ss x.after x.owner x.before)) ⊎ IsAmong p (own_words ss x.after x.owner x.before)
+        → OwnUnit ss area p ⊎ PoolWord ss area p
+    by_kind (inl k) = inl (record { owner = x.owner; after = x.after; before = x.before; parts = x.parts; own = x.own; among = k })
+    by_kind (inr k) =
+        inr
+        (record {
+          loader = x.owner;
+          after = x.after;
+          before = x.before;
+          parts = x.parts;
+          own = x.own;
+          word = is_word ss (context_behind ss x.owner x.before) (taken x.owner.extent) (word_among x.after x.owner x.before) p k;
+        })
+
+-- ---- where a thing lies
+
+-- where a line stands
+pub record Puts (ss : List Statement) (area : ℕ) (p : Piece) : Type 0 where
+  pub line : LaidLine
+  pub after : List LaidLine
+  pub before : List LaidLine
+  pub parts : laid ss ≡ after ++ line ∷ before
+  pub own : line.area ≡ Some area
+  pub among : IsAmong p (units_from line.offset (puts ss area after line before))
+
+-- in the pool at the area's end
+abbrev pub end_things : List Statement → ℕ → List Piece
+end_things ss area = units_from (start_in area (pieces_of (laid ss)) Pool) (pool_units ss area (waiting area (pieces_of (laid ss))))
+
+abbrev pub Held : List Statement → ℕ → Piece → Type 0
+Held ss area p = Puts ss area p ⊎ IsAmong p (end_things ss area)
 
 ordered : (after : List LaidLine) (l : LaidLine) (before : List LaidLine) → in_order (in_order after []) (l ∷ before) ≡ after ++ l ∷ before
 ordered after l before = turned after [] (l ∷ before)
@@ -103,20 +126,20 @@ back rest before = (in_order rest [], joined rest [] before, twice rest [])
     twice [] ys = refl
     twice (x ∷ xs) ys = twice xs (x ∷ ys)
 
-word_stands : (ss : List Statement) → IsSound ss → (area : ℕ) (v : Value) (rest before : List LaidLine) → laid ss ≡ in_order rest before
+word_held : (ss : List Statement) → IsSound ss → (area : ℕ) (v : Value) (rest before : List LaidLine) → laid ss ≡ in_order rest before
     → Waits v (waiting area (pieces_of before))
-    → StandsIn (source_of ss) area (literal_word area (pieces_of before) (pieces_of rest) v, Word (literal_stored (source_of ss) (context_in (source_of ss) (Some area)) v))
-word_stands ss sound area v [] before e h =
-    let word = Word (literal_stored (source_of ss) (context_in (source_of ss) (Some area)) v) in
-    subst (λ z. StandsIn (source_of ss) area (word_behind area (pieces_of z) v, word)) e
-    (end_thing ss area (word_behind area (pieces_of (laid ss)) v, word)
-    (pool_word (source_of ss) area (start_in area (pieces_of (laid ss)) Pool) (waiting area (pieces_of (laid ss))) v (subst (λ z. Waits v (waiting area (pieces_of z))) (sym e) h)))
-word_stands ss sound area v (m ∷ rest) before e h =
+    → Held ss area (literal_word area (pieces_of before) (pieces_of rest) v, Word (literal_stored ss (context_in ss area) v))
+word_held ss sound area v [] before e h =
+    let word = Word (literal_stored ss (context_in ss area) v) in
+    subst (λ z. Held ss area (word_behind area (pieces_of z) v, word)) e
+    (inr
+    (pool_word ss area (start_in area (pieces_of (laid ss)) Pool) (waiting area (pieces_of (laid ss))) v (subst (λ z. Waits v (waiting area (pieces_of z))) (sym e) h)))
+word_held ss sound area v (m ∷ rest) before e h =
     by_test (is_pool_of area (piece_of m)) refl
-    (λ k. word_stands ss sound area v rest (m ∷ before) e (behind_keeps v (is_of area m.area) (taken m.extent) (waiting area (pieces_of before)) k h))
+    (λ k. word_held ss sound area v rest (m ∷ before) e (behind_keeps v (is_of area m.area) (taken m.extent) (waiting area (pieces_of before)) k h))
   where
     word : Emitted
-    word = Word (literal_stored (source_of ss) (context_in (source_of ss) (Some area)) v)
+    word = Word (literal_stored ss (context_in ss area) v)
 
     pool_of : (x : Extent) → is_pool x ≡ true → x ≡ Pool
     pool_of Pool y = refl
@@ -124,7 +147,7 @@ word_stands ss sound area v (m ∷ rest) before e h =
     pool_of (Padding k n) y = absurd (cc)
     pool_of (Loading n u) y = absurd (cc)
 
-    there : is_pool_of area (piece_of m) ≡ true → StandsIn (source_of ss) area (word_behind area (pieces_of before) v, word)
+    there : is_pool_of area (piece_of m) ≡ true → Held ss area (word_behind area (pieces_of before) v, word)
     there k =
         let both = and_parts (is_of area m.area) (is_pool (taken m.extent)) k in
         let own = owned area m.area both.0 in
@@ -133,23 +156,64 @@ word_stands ss sound area v (m ∷ rest) before e h =
         let parts = e ∙ b.1 in
         let says = pools_are_said m.seen m.statement.what (known_extent ss sound b.0 before m parts ∙ ap Ok pool) in
         let at = (stands_in ss sound area b.0 before m parts own).0 ∙ ap (start_in area (pieces_of before)) pool in
-        line_thing ss area (word_behind area (pieces_of before) v, word) b.0 before m parts own
-        (subst (λ us. IsAmong (word_behind area (pieces_of before) v, word) (units_from m.offset us)) (sym (puts_pool ss area b.0 before m says))
-        (subst (λ z. IsAmong (word_behind area (pieces_of before) v, word) (units_from z (pool_units (source_of ss) area (waiting area (pieces_of before))))) (sym at)
-        (pool_word (source_of ss) area (start_in area (pieces_of before) Pool) (waiting area (pieces_of before)) v h)))
+        let word_there : Piece = (word_behind area (pieces_of before) v, word) in
+        inl
+        (record {
+          line = m;
+          after = b.0;
+          before = before;
+          parts = parts;
+          own = own;
+          among = subst (λ us. IsAmong word_there (units_from m.offset us)) (sym (puts_pool ss area b.0 before m says))
+              (subst (λ z. IsAmong word_there (units_from z (pool_units ss area (waiting area (pieces_of before))))) (sym at)
+              (pool_word ss area (start_in area (pieces_of before) Pool) (waiting area (pieces_of before)) v h));
+        })
 
     by_test : (b : Bool) → is_pool_of area (piece_of m) ≡ b
-        → (is_pool_of area (piece_of m) ≡ false → StandsIn (source_of ss) area (literal_word area (pieces_of (m ∷ before)) (pieces_of rest) v, word))
-        → StandsIn (source_of ss) area (cond b (word_behind area (pieces_of before) v) (literal_word area (pieces_of (m ∷ before)) (pieces_of rest) v), word)
+        → (is_pool_of area (piece_of m) ≡ false → Held ss area (literal_word area (pieces_of (m ∷ before)) (pieces_of rest) v, word))
+        → Held ss area (cond b (word_behind area (pieces_of before) v) (literal_word area (pieces_of (m ∷ before)) (pieces_of rest) v), word)
     by_test true k later = there k
     by_test false k later = later k
 
--- the word of the literal that a line loads
-pub literal_stands : (ss : List Statement) → IsSound ss → (area : ℕ) (after before : List LaidLine) (l : LaidLine) (n : ℕ) (v : Value) → laid ss ≡ after ++ l ∷ before
-    → l.area ≡ Some area → taken l.extent ≡ Loading n v
-    → StandsIn (source_of ss) area
-    (literal_word area (pieces_of (l ∷ before)) (pieces_of (in_order after [])) v, Word (literal_stored (source_of ss) (context_behind ss l before) v))
-literal_stands ss sound area after before l n v e own loads =
-    subst (λ w. StandsIn (source_of ss) area (literal_word area (pieces_of (l ∷ before)) (pieces_of (in_order after [])) v, Word w))
-    (literal_loaded ss after before l area e own v)
-    (word_stands ss sound area v (in_order after []) (l ∷ before) (e ∙ sym (ordered after l before)) (waits_behind ss area after before l n v e own loads))
+word_is : (area : ℕ) (o : Option ℕ) (e : Extent) (n : ℕ) (v : Value) (before rest : List LaidPiece) (w : ℕ) → o ≡ Some area → e ≡ Loading n v
+    → word_of o e before rest ≡ Some w → literal_word area before rest v ≡ w
+word_is area o e n v before rest w own loads h =
+    some_same (literal_word area before rest v) w
+    (sym (ap (λ z. word_of z e before rest) own ∙ ap (λ z. word_of (Some area) z before rest) loads) ∙ h)
+  where
+    some_same : (a b : ℕ) → Some a ≡ Some b → a ≡ b
+    some_same a b k = cc
+
+pub held : (ss : List Statement) → IsSound ss → (area : ℕ) (p : Piece) → StandsIn (source_of ss) area p → Held ss area p
+held ss sound area p h = by_kind (unit_or_word ss area p h)
+  where
+    of_unit : (u : OwnUnit ss area p)
+        → (u.owner.statement.what ≡ what.Directive line.Ltorg) ⊎ ((pool us : List Emitted) → pool_or u.owner.statement.what pool us ≡ us) → Held ss area p
+    of_unit u (inl w) =
+        let c = context_behind ss u.owner u.before in
+        let nothing : IsAmong p [] = subst
+        (λ z. IsAmong p (units_from u.owner.offset (or_none (units c (datum_names ss) u.owner.seen (word_among u.after u.owner u.before) z)))) w u.among in
+        absurd nothing
+    of_unit u (inr own) =
+        inl
+        (record {
+          line = u.owner;
+          after = u.after;
+          before = u.before;
+          parts = u.parts;
+          own = u.own;
+          among = subst (λ us. IsAmong p (units_from u.owner.offset us)) (sym (puts_own ss area u.after u.before u.owner own)) u.among;
+        })
+
+    by_kind : OwnUnit ss area p ⊎ PoolWord ss area p → Held ss area p
+    by_kind (inl u) = of_unit u (pool_or_own u.owner.statement.what)
+    by_kind (inr x) =
+        let l = x.loader in
+        let w = x.word in
+        let before = pieces_of (l ∷ x.before) in
+        let rest = pieces_of (in_order x.after []) in
+        let place = word_is area l.area (taken l.extent) w.size w.value before rest w.place x.own w.extent w.stands in
+        let holds : literal_stored ss (context_in ss area) w.value ≡ w.holds = literal_loaded ss x.after x.before l area x.parts x.own w.value ∙ ap or_empty w.stores in
+        subst (λ (q : Piece). Held ss area q) (ap (λ z. (z, Word (literal_stored ss (context_in ss area) w.value))) place ∙ ap (λ z. (w.place, Word z)) holds ∙ sym w.is)
+        (word_held ss sound area w.value (in_order x.after []) (l ∷ x.before) (x.parts ∙ sym (ordered x.after l x.before))
+        (waits_behind ss area x.after x.before l w.size w.value x.parts x.own w.extent))

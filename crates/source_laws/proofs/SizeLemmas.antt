@@ -29,7 +29,7 @@ use Rattle.asm_model.specs.Offsets.{size_of}
 use Rattle.source_model.specs.ArmForms.{arm_instruction}
 use Rattle.source_model.specs.Contexts.{Context, value_of, number_in, register, and_then, offset_below, own_offset, from_pc}
 use Rattle.source_model.specs.Immediates.{data_immediate, negated}
-use Rattle.source_model.specs.Objects.{unit_bytes, units_bytes, pool_or}
+use Rattle.source_model.specs.Objects.{unit_bytes, units_bytes}
 use Rattle.source_model.specs.PseudoForms.{address_instruction, two_by, two_of, first_of as first_found, long_address, one, load_literal, pseudo_instructions, first_part, second_part}
 use Rattle.source_model.specs.Immediates.{immediate}
 use Rattle.source_model.specs.Units.{Emitted, Bytes, Word, Instruction, Stored, stored, word_units, narrow, half_units, byte_operand, byte_units, branch_symbol, instruction_units, units}
@@ -343,7 +343,11 @@ loads_are_pseudo s w n v h = subst (IsSaid w) h (extents_are_said s w)
 
 -- ---- lines
 
--- LTORG puts a pool, and any other statement its own
+-- a pool for LTORG, and for another statement its own units
+abbrev pub pool_or : What → List Emitted → List Emitted → List Emitted
+pool_or (what.Directive line.Ltorg) pool us = pool
+pool_or _ pool us = us
+
 pub pool_or_own : (w : What) → (w ≡ what.Directive line.Ltorg) ⊎ ((pool us : List Emitted) → pool_or w pool us ≡ us)
 pool_or_own (what.Directive line.Ltorg) = inl refl
 pool_or_own w = inr (λ pool us. refl)

@@ -1,5 +1,5 @@
 -- Literals that wait for a pool, and the words of pools.
-use Rattle.std.proofs.Common.{◌≡◌, ℕ, ◌+◌, ◌*◌, ◌==◌, ◌&&◌, ◌||◌, List, [], ◌∷◌, ◌++◌, append_assoc, length, length-append, Bool, true, false, cond, eqb-true, refl, sym, ◌∙◌, ap, subst, arith, Option, Some, ◌⊎◌, inl, inr}
+use Rattle.std.proofs.Common.{◌≡◌, ℕ, ◌+◌, ◌*◌, ◌==◌, ◌&&◌, ◌||◌, List, [], ◌∷◌, ◌++◌, append_assoc, length, length-append, map, Bool, true, false, cond, eqb-true, refl, sym, ◌∙◌, ap, subst, arith, Option, Some, ◌⊎◌, inl, inr}
 use Rattle.std.specs.List.{list_any}
 use Rattle.std.proofs.lemmas.Bool.{or_parts, or_from}
 use Rattle.std.specs.Prelude.{Result, Ok, Err}
@@ -9,16 +9,16 @@ use Rattle.asm_model.specs.declared.values.Value.{Value}
 use Rattle.asm_model.specs.declared.values.Value.TheVariants.{Number, Place}
 use Rattle.asm_model.specs.Forms.{same}
 use Rattle.asm_model.proofs.WordLemmas.{same_true}
-use Rattle.asm_model.specs.Extents.{Extent, Block, Padding, Loading, Pool}
+use Rattle.asm_model.specs.Extents.{Extent, Loading, Pool}
 use Rattle.asm_model.specs.Laid.{LaidLine, taken, pieces_of, sight_behind, laid}
 use Rattle.asm_model.specs.OffsetLaws.{joined, IsLiteral}
-use Rattle.asm_model.specs.Offsets.{Piece as LaidPiece, is_of, same_literal, waiting, waiting_behind, place_among, word_behind, is_pool, is_pool_of, literal_word}
+use Rattle.asm_model.specs.Offsets.{Piece as LaidPiece, is_of, same_literal, waiting, place_among, word_behind, is_pool, is_pool_of, literal_word}
 use Rattle.asm_model.proofs.LaidLemmas.{loadings_are_literals}
 use Rattle.asm_model.proofs.OffsetLemmas.{loaded_waits}
-use Rattle.source_model.specs.Objects.{Piece, unit_bytes, units_bytes, units_from, Source, in_order, context_in, literal_stored, pool_units, IsAmong}
-use Rattle.source_model.specs.Units.{Word}
+use Rattle.source_model.specs.Objects.{Piece, unit_bytes, units_bytes, units_from, in_order, IsAmong}
+use Rattle.source_model.specs.Units.{Emitted, Word}
+use Rattle.source_laws.proofs.AgreeLemmas.{context_in, literal_stored}
 use Rattle.source_laws.proofs.LineLemmas.{piece_of, pieces_joined, is_laid}
-use Rattle.source_laws.proofs.ListedLemmas.{owned}
 use Rattle.source_laws.proofs.SizeLemmas.{summed, four_more, longer}
 use Rattle.asm_model.specs.Labels.{declared_names}
 
@@ -72,62 +72,6 @@ pub waits_behind : (ss : List Statement) (area : ℕ) (after before : List LaidL
 waits_behind ss area after before l n v e here h =
     loaded_waits area (pieces_of before) (piece_of l) n v here h (loads_literal ss after before l n v e h)
 
-
-abbrev pub Holds : Value → List Value → Type 0
-Holds v [] = ⊥
-Holds v (w ∷ ws) = (v ≡ w) ⊎ Holds v ws
-
--- the line of an area that loads a literal
-pub record Loaded (area : ℕ) (v : Value) (lines : List LaidLine) : Type 0 where
-  pub after : List LaidLine
-  pub loader : LaidLine
-  pub before : List LaidLine
-  pub parts : lines ≡ after ++ loader ∷ before
-  pub own : loader.area ≡ Some area
-  pub size : ℕ
-  pub loads : taken loader.extent ≡ Loading size v
-
-held_last : (v u : Value) (ws : List Value) → Holds v (ws ++ u ∷ []) → Holds v ws ⊎ (v ≡ u)
-held_last v u [] (inl e) = inr e
-held_last v u [] (inr h) = absurd h
-held_last v u (w ∷ ws) (inl e) = inl (inl e)
-held_last v u (w ∷ ws) (inr h) = later (held_last v u ws h)
-  where
-    later : Holds v ws ⊎ (v ≡ u) → Holds v (w ∷ ws) ⊎ (v ≡ u)
-    later (inl k) = inl (inr k)
-    later (inr k) = inr k
-
--- each literal that waits was loaded
-pub waits_loaded : (area : ℕ) (lines : List LaidLine) (v : Value) → Holds v (waiting area (pieces_of lines)) → Loaded area v lines
-waits_loaded area [] v h = absurd h
-waits_loaded area (l ∷ ls) v h = by_area (is_of area l.area) refl (λ k. waits_loaded area ls v k) h
-  where
-    ws : List Value
-    ws = waiting area (pieces_of ls)
-
-    later : Loaded area v ls → Loaded area v (l ∷ ls)
-    later r = record { after = l ∷ r.after; loader = r.loader; before = r.before; parts = ap (λ z. l ∷ z) r.parts; own = r.own; size = r.size; loads = r.loads }
-
-    by_noted : (n : ℕ) (u : Value) → taken l.extent ≡ Loading n u → l.area ≡ Some area → (Holds v ws → Loaded area v ls) → (b : Bool)
-        → Holds v (cond b ws (ws ++ u ∷ [])) → Loaded area v (l ∷ ls)
-    by_noted n u x own rest true k = later (rest k)
-    by_noted n u x own rest false k = by_last (held_last v u ws k)
-      where
-        by_last : Holds v ws ⊎ (v ≡ u) → Loaded area v (l ∷ ls)
-        by_last (inl j) = later (rest j)
-        by_last (inr e) =
-            record { after = []; loader = l; before = ls; parts = refl; own = own; size = n; loads = x ∙ ap (Loading n) (sym e) }
-
-    by_extent : (e : Extent) → taken l.extent ≡ e → l.area ≡ Some area → (Holds v ws → Loaded area v ls) → Holds v (waiting_behind e ws) → Loaded area v (l ∷ ls)
-    by_extent (Block a n) x own rest k = later (rest k)
-    by_extent (Padding m n) x own rest k = later (rest k)
-    by_extent (Loading n u) x own rest k = by_noted n u x own rest (list_any (same_literal u) ws) k
-    by_extent Pool x own rest k = absurd k
-
-    by_area : (b : Bool) → is_of area l.area ≡ b → (Holds v ws → Loaded area v ls) → Holds v (cond b (waiting_behind (taken l.extent) ws) ws) → Loaded area v (l ∷ ls)
-    by_area true e rest k = by_extent (taken l.extent) refl (owned area l.area e) rest k
-    by_area false e rest k = later (rest k)
-
 -- ---- the words of a pool
 
 pub same_value : (u v : Value) → same_literal u v ≡ true → u ≡ v
@@ -141,20 +85,17 @@ same_value (Place s p) (Place t q) h =
     both false b x y k = absurd (cc)
 same_value u v h = absurd (cc)
 
-pub pool_long : (s : Source) (area : ℕ) (ws : List Value) → length (units_bytes (pool_units s area ws)) ≡ 4 * length ws
-pool_long s area [] = refl
-pool_long s area (w ∷ ws) =
-    let u = Word (literal_stored s (context_in s (Some area)) w) in
-    summed (length (units_bytes (pool_units s area (w ∷ ws)))) (length (unit_bytes u)) (length (units_bytes (pool_units s area ws))) 4 (4 * length ws)
-    (length-append (unit_bytes u) (units_bytes (pool_units s area ws))) refl (pool_long s area ws)
-    ∙ four_more (length ws) (length (w ∷ ws)) (longer w ws)
+-- of literals of an area
+abbrev pub pool_units : List Statement → ℕ → List Value → List Emitted
+pool_units ss area literals = map (λ v. Word (literal_stored ss (context_in ss area) v)) literals
 
-pub pool_among : (s : Source) (area at : ℕ) (ws : List Value) (p : Piece) → IsAmong p (units_from at (pool_units s area ws))
-    → (v : Value) × Holds v ws × (p.1 ≡ Word (literal_stored s (context_in s (Some area)) v))
-pool_among s area at [] p h = absurd h
-pool_among s area at (w ∷ ws) p (inl e) = (w, inl refl, ap (λ (q : Piece). q.1) e)
-pool_among s area at (w ∷ ws) p (inr h) =
-    let r = pool_among s area (at + length (unit_bytes (Word (literal_stored s (context_in s (Some area)) w)))) ws p h in (r.0, inr r.1, r.2)
+pub pool_long : (ss : List Statement) (area : ℕ) (ws : List Value) → length (units_bytes (pool_units ss area ws)) ≡ 4 * length ws
+pool_long ss area [] = refl
+pool_long ss area (w ∷ ws) =
+    let u = Word (literal_stored ss (context_in ss area) w) in
+    summed (length (units_bytes (pool_units ss area (w ∷ ws)))) (length (unit_bytes u)) (length (units_bytes (pool_units ss area ws))) 4 (4 * length ws)
+    (length-append (unit_bytes u) (units_bytes (pool_units ss area ws))) refl (pool_long ss area ws)
+    ∙ four_more (length ws) (length (w ∷ ws)) (longer w ws)
 
 at_first : (at : ℕ) → at + 4 * 0 ≡ at
 at_first at = omega arith
@@ -163,16 +104,16 @@ at_next : (at k : ℕ) → at + 4 + 4 * k ≡ at + 4 * (k + 1)
 at_next at k = omega arith
 
 -- a literal that waits has its word there
-pub pool_word : (s : Source) (area at : ℕ) (ws : List Value) (v : Value) → Waits v ws
-    → IsAmong (at + 4 * place_among v ws, Word (literal_stored s (context_in s (Some area)) v)) (units_from at (pool_units s area ws))
-pool_word s area at [] v h = absurd (cc)
-pool_word s area at (w ∷ ws) v h = by_test (same_literal v w) refl h (pool_word s area (at + 4) ws v)
+pub pool_word : (ss : List Statement) (area at : ℕ) (ws : List Value) (v : Value) → Waits v ws
+    → IsAmong (at + 4 * place_among v ws, Word (literal_stored ss (context_in ss area) v)) (units_from at (pool_units ss area ws))
+pool_word ss area at [] v h = absurd (cc)
+pool_word ss area at (w ∷ ws) v h = by_test (same_literal v w) refl h (pool_word ss area (at + 4) ws v)
   where
     word : Value → Piece
-    word u = (0, Word (literal_stored s (context_in s (Some area)) u))
+    word u = (0, Word (literal_stored ss (context_in ss area) u))
 
     by_test : (b : Bool) → same_literal v w ≡ b → (b || list_any (same_literal v) ws) ≡ true
-        → (Waits v ws → IsAmong (at + 4 + 4 * place_among v ws, (word v).1) (units_from (at + 4) (pool_units s area ws)))
-        → IsAmong (at + 4 * cond b 0 (place_among v ws + 1), (word v).1) (units_from at (pool_units s area (w ∷ ws)))
+        → (Waits v ws → IsAmong (at + 4 + 4 * place_among v ws, (word v).1) (units_from (at + 4) (pool_units ss area ws)))
+        → IsAmong (at + 4 * cond b 0 (place_among v ws + 1), (word v).1) (units_from at (pool_units ss area (w ∷ ws)))
     by_test true e k rest = inl (ap (λ z. (z, (word v).1)) (at_first at) ∙ ap (λ u. (at, (word u).1)) (same_value v w e))
-    by_test false e k rest = inr (subst (λ z. IsAmong (z, (word v).1) (units_from (at + 4) (pool_units s area ws))) (at_next at (place_among v ws)) (rest k))
+    by_test false e k rest = inr (subst (λ z. IsAmong (z, (word v).1) (units_from (at + 4) (pool_units ss area ws))) (at_next at (place_among v ws)) (rest k))

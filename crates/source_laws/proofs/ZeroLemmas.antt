@@ -395,4 +395,4 @@ zero_areas_hold_nothing ss none area p zeroes h = by_kind (unit_or_word ss area 
     by_kind (inr x) =
         let l = x.loader in
         no_pseudo l.statement.what (zero_there ss none area zeroes x.after x.before l x.parts x.own)
-        (loads_are_pseudo l.seen l.statement.what x.size x.value (known_extent ss (layout_sound ss none) x.after x.before l x.parts ∙ ap Ok x.loads))
+        (loads_are_pseudo l.seen l.statement.what x.word.size x.word.value (known_extent ss (layout_sound ss none) x.after x.before l x.parts ∙ ap Ok x.word.extent))

@@ -1,6 +1,6 @@
 -- What statements put into their areas stands apart: what a statement puts there is no longer than what it takes up, the
--- statements of an area follow each other, and behind them all stands the pool at the area's end. A source makes one object
--- at most. Lines are listed with the last first. This project's.
+-- statements of an area follow each other, and the words of literals lie in pools, where no statement puts anything
+-- itself. A source makes one object at most. Lines are listed with the last first. This project's.
 use Rattle.std.specs.Prelude.{◌≡◌, ◌⊎◌, ℕ, ◌+◌, ◌≤◌, List, [], ◌∷◌, ◌++◌, length, Bool, true, false, if◌then◌else◌, Option, None, Result}
 use Rattle.sdt_fault.specs.declared.kinds.LineKind.{LineKind}
 use Rattle.aof_object.specs.declared.records.Object.{Object}

@@ -28,11 +28,11 @@ use Rattle.asm_model.specs.Forms.{same}
 use Rattle.asm_model.specs.Meaning.{named_in, stands_at}
 use Rattle.asm_model.specs.Before.{areas_behind, place_of, is_code}
 use Rattle.asm_model.specs.Entries.{thumb_of}
-use Rattle.asm_model.specs.Extents.{Pool}
+use Rattle.asm_model.specs.Extents.{Extent, Loading}
 use Rattle.asm_model.specs.Laid.{LaidLine, taken, pieces_of, laid, final_names}
 use Rattle.asm_model.specs.LayoutKinds.{exponent, is_entry, is_thumb_area}
 use Rattle.asm_model.specs.Marks.{datum_names}
-use Rattle.asm_model.specs.Offsets.{is_of, waiting, start_in, area_size}
+use Rattle.asm_model.specs.Offsets.{is_of, area_size}
 use Rattle.asm_model.specs.Symbols.{symbols_of, literal_value}
 use Rattle.source_model.specs.Contexts.{Context, sees}
 use Rattle.source_model.specs.SourceFaults.{context_of, word_of as literal_place}
@@ -89,9 +89,18 @@ abbrev pub or_none : Result (List Emitted) LineKind → List Emitted
 or_none (Ok us) = us
 or_none (Err k) = []
 
-abbrev pub or_empty : Result Stored LineKind → Stored
-or_empty (Ok w) = w
-or_empty (Err k) = record { number = 0; target = Nothing }
+abbrev pub literal_unit : Option ℕ → Result Stored LineKind → List Piece
+literal_unit (Some at) (Ok w) = (at, Word w) ∷ []
+literal_unit _ _ = []
+
+abbrev pub literal_piece : Context → List (List ℕ) → Extent → Option ℕ → List Piece
+literal_piece c data_names (Loading n v) word = literal_unit word (stored c data_names (literal_value (sees c) v))
+literal_piece c data_names _ word = []
+
+-- what a line puts into its area, the word of its literal too
+abbrev pub pieces_in : Context → List (List ℕ) → LaidLine → Option ℕ → List Piece
+pieces_in c data_names l word =
+    units_from l.offset (or_none (units c data_names l.seen word l.statement.what)) ++ literal_piece c data_names (taken l.extent) word
 
 -- ---- the whole source
 
@@ -120,54 +129,21 @@ context_at s l at = context_of s.names s.statements l at.before
 abbrev pub word_at : (s : Source) (l : LaidLine) → At s l → Option ℕ
 word_at s l at = literal_place l.area (taken l.extent) (pieces_of (l ∷ at.before)) (pieces_of (in_order at.rest []))
 
--- ---- what stands in an area of a source
-
--- all names of the source, in an area or in none
-abbrev pub context_in : Source → Option ℕ → Context
-context_in s area = record {
-  names = s.names;
-  line = record { area = area; offset = 0; map = 0; thumb = false; definition = Nameless };
-  registers = [];
-  symbols = [];
-  defined = [];
-}
-
--- what the word of a literal holds; in a source without faults each has a word
-abbrev pub literal_stored : Source → Context → Value → Stored
-literal_stored s c v = or_empty (stored c (datum_names s.statements) (literal_value (sees c) v))
-
--- the words of a pool of the area
-abbrev pub pool_units : Source → ℕ → List Value → List Emitted
-pool_units s area literals = map (λ v. Word (literal_stored s (context_in s (Some area)) v)) literals
-
--- LTORG puts a pool, and another statement its own
-abbrev pub pool_or : What → List Emitted → List Emitted → List Emitted
-pool_or (what.Directive line.Ltorg) pool us = pool
-pool_or _ pool us = us
-
 -- what a line puts into the area, where these lines stand before it, the nearest first, and these behind it, in their order
-abbrev pub line_units : Source → ℕ → LaidLine → List LaidLine → List LaidLine → List Emitted
-line_units s area l before rest =
-    pool_or l.statement.what (pool_units s area (waiting area (pieces_of before)))
-    (or_none
-    (units (context_of s.names s.statements l before) (datum_names s.statements) l.seen
-    (literal_place l.area (taken l.extent) (pieces_of (l ∷ before)) (pieces_of rest)) l.statement.what))
-
 abbrev pub things_of : Source → ℕ → LaidLine → List LaidLine → List LaidLine → List Piece
-things_of s area l before rest = if is_of area l.area then units_from l.offset (line_units s area l before rest) else []
+things_of s area l before rest =
+    if is_of area l.area then
+    pieces_in (context_of s.names s.statements l before) (datum_names s.statements) l
+    (literal_place l.area (taken l.extent) (pieces_of (l ∷ before)) (pieces_of rest))
+    else []
 
 -- what lines put into the area, in the order of the source, where these stand behind them
 abbrev pub things_behind : Source → ℕ → List LaidLine → List LaidLine → List Piece
 things_behind s area [] rest = []
 things_behind s area (l ∷ before) rest = things_behind s area before (l ∷ rest) ++ things_of s area l before rest
 
--- the pool at the area's end
-abbrev pub end_things : Source → ℕ → List Piece
-end_things s area =
-    units_from (start_in area (pieces_of s.lines) Pool) (pool_units s area (waiting area (pieces_of s.lines)))
-
 abbrev pub things_in : Source → ℕ → List Piece
-things_in s area = things_behind s area s.lines [] ++ end_things s area
+things_in s area = things_behind s area s.lines []
 
 abbrev pub IsAmong : Piece → List Piece → Type 0
 IsAmong p [] = ⊥
@@ -264,9 +240,18 @@ symbol_placed s name label n (Some a) = record {
   area = Some a.0;
 }
 
+abbrev pub in_no_line : Source → Context
+in_no_line s = record {
+  names = s.names;
+  line = record { area = None; offset = 0; map = 0; thumb = false; definition = Nameless };
+  registers = [];
+  symbols = [];
+  defined = [];
+}
+
 abbrev pub symbol_valued : Source → List ℕ → Value → Symbol
 symbol_valued s name (Number n) = record { name = name; attributes = scope s name + 2 ^ 2; value = n; area = None }
-symbol_valued s name (Place label n) = symbol_placed s name label n (stands_at (sees (context_in s None)) label)
+symbol_valued s name (Place label n) = symbol_placed s name label n (stands_at (sees (in_no_line s)) label)
 symbol_valued s name _ = record { name = name; attributes = 0; value = 0; area = None }
 
 abbrev pub symbol_named : Source → List ℕ → Option LaidName → Symbol

@@ -3,4 +3,4 @@ use Rattle.armasm_core.specs.Drafting.{IsFinished}
 use Rattle.armasm_core.proofs.drafting.all_finished.Given as goal
 
 abbrev pub invariant-areas : goal.invariant-areas
-invariant-areas l = AllZip (IsFinished l.symbols) l.yielded l.areas.items
+invariant-areas l = AllZip IsFinished l.yielded l.areas.items

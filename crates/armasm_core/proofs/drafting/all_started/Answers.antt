@@ -3,7 +3,7 @@ use Rattle.std.proofs.lemmas.List.{take_all}
 use Rattle.std.proofs.Math.Seq.{take-suc}
 use Rattle.asm_pool.specs.declared.layout.LaidArea.{LaidArea}
 use Rattle.armasm_core.specs.declared.drafting.Growing.{Growing}
-use Rattle.armasm_core.specs.Drafting.{AreDrafts, frame_of, frames, nothing_held}
+use Rattle.armasm_core.specs.Drafting.{AreDrafts, frame_of, frames}
 use Rattle.armasm_core.proofs.GrowLemmas.{drafts_more, frames_more}
 use Rattle.armasm_core.proofs.drafting.all_started.Goals as goal
 
@@ -17,7 +17,7 @@ areas-preserved c = (
       ∙ frames_more c.areas.growing.items c.in_ok-started.field-0 (take c.areas.area-index c.args.areas.now) c.area-item.result c.areas.invariant.0 c.in_ok-started.ensures.frame
       ∙ ap (map frame_of) (sym more),
   λ names.
-      subst (λ (gs : List Growing). AreDrafts names (λ area. nothing_held) gs) (sym c.in_ok-push.ensures.items)
+      subst (λ (gs : List Growing). AreDrafts names (λ area. []) gs) (sym c.in_ok-push.ensures.items)
       (drafts_more names c.areas.growing.items c.in_ok-started.field-0 (c.areas.invariant.1 names) (c.in_ok-started.ensures.empty names)),
 )
 

@@ -3,15 +3,15 @@ use Rattle.asm_model.specs.declared.statements.Statement.{Statement}
 use Rattle.asm_pool.specs.declared.layout.LaidArea.{LaidArea}
 use Rattle.asm_pool.specs.declared.layout.LaidStatement.{LaidStatement}
 use Rattle.asm_registers.proofs.NameLemmas.{found}
-use Rattle.asm_units.specs.Emitting.{emitted_of}
+use Rattle.source_laws.specs.Laws.{things_behind}
 use Rattle.source_model.specs.Registers.{Named, register_in}
 use Rattle.armasm_core.specs.Gathered.{AllLaidSaid}
 use Rattle.armasm_core.specs.Whole.{IsHere}
 use Rattle.armasm_core.proofs.SetLemmas.{said_first}
-use Rattle.armasm_core.specs.Drafting.{frame_of}
-use Rattle.armasm_core.specs.Emission.{IsEmittable, IsGrown, held_behind}
-use Rattle.armasm_core.proofs.EmitLemmas.{apart_there, grown_first, grown_all, grown_more, next_there}
-use Rattle.armasm_core.proofs.StandLemmas.{all_end, emittable, next_stands}
+use Rattle.armasm_core.specs.Drafting.{frame_of, pieces_put}
+use Rattle.armasm_core.specs.Emission.{IsEmittable, IsGrown}
+use Rattle.armasm_core.proofs.EmitLemmas.{apart_there, grown_first, grown_all, grown_more, next_there, put_there}
+use Rattle.armasm_core.proofs.StandLemmas.{emittable, next_stands}
 use Rattle.armasm_core.proofs.emission.grown.Goals as goal
 
 pub lines-init : goal.lines-init
@@ -35,13 +35,6 @@ pub returns-in-empty-clause-drafts : goal.returns-in-empty-clause-drafts
 returns-in-empty-clause-drafts c = λ statements h.
     grown_all statements c.args.symbols.now c.lines.left.now c.lines.registers c.lines.growing.items c.in-empty.len_below (c.lines.invariant.2 statements h)
 
-pub returns-in-empty-clause-ends : goal.returns-in-empty-clause-ends
-returns-in-empty-clause-ends c =
-    let g = c.lines.invariant.3 in
-    let s = g.source in
-    all_end s.statements s.faultless s.few c.args.symbols.now s.listed c.args.layout.now.areas s.layout.areas c.lines.growing.items c.lines.invariant.1
-    (grown_all s.statements c.args.symbols.now c.lines.left.now c.lines.registers c.lines.growing.items c.in-empty.len_below g.grown)
-
 pub put_line-requires-clause-stand : goal.put_line-requires-clause-stand
 put_line-requires-clause-stand c =
     let l = c.args.layout.now in
@@ -49,7 +42,7 @@ put_line-requires-clause-stand c =
     let g = c.lines.invariant.3 in
     let u = c.in_ok-units-in-len1-up.field-0 in
     next_stands l w c.args.symbols.now c.line-item.result c.lines.left.now c.lines.registers c.lines.growing.items c.in-len1-up.len_at_least c.line-item.is g
-    c.lines.invariant.1 u
+    c.lines.invariant.1 u c.as_slice.result.now c.as_slice.ensures.value
     (λ before rest line here.
     c.in_ok-units-in-len1-up.ensures g.source.statements before rest line
     (subst (λ (areas : List LaidArea). IsHere g.source.statements areas w c.lines.registers before rest line c.line-item.result) (sym c.as_slice-areas.ensures) here))
@@ -65,15 +58,18 @@ lines-preserved c =
     let known = c.lines.registers in
     let gs = c.lines.growing.items in
     let u = c.in_ok-units-in-len1-up.field-0 in
+    let us = c.as_slice.result.now in
     let g = c.lines.invariant.3 in
     let step : (statements : List Statement) → IsEmittable statements l w → IsGrown statements names left known gs
     → IsGrown statements names more c.give.new.known c.put_line.new.growing.items = λ statements j k.
     let n = next_there statements l w names x left known gs c.in-len1-up.len_at_least c.line-item.is j k in
     let put = c.in_ok-units-in-len1-up.ensures statements n.before n.rest n.line
     (subst (λ (areas : List LaidArea). IsHere statements areas w known n.before n.rest n.line x) (sym c.as_slice-areas.ensures) n.here) in
-    let apart = apart_there c.sources_stand_apart.ensures statements j.sound j.arm n.before n.rest n.line x (map emitted_of u.units.items) n.here.parts n.here.line put.own in
-    grown_more c.extents_are_placeable.ensures statements l w names x more known c.give.new.known gs c.put_line.new.growing.items n u put
-    (c.in_ok-put_line-in-len1-up.ensures.more (held_behind statements n.before (n.line ∷ n.rest)) n.drafts apart)
+    let pieces = put_there statements l w names x more known gs n u us c.as_slice.ensures.value put in
+    let apart = apart_there c.things_are_listed.ensures c.sources_stand_apart.ensures statements j.sound j.arm n.before n.rest n.line x.area
+    (pieces_put x.offset us u.literal) n.here.parts n.here.line.area pieces in
+    grown_more statements l w names x more known c.give.new.known gs c.put_line.new.growing.items n u us c.as_slice.ensures.value put
+    (c.in_ok-put_line-in-len1-up.ensures.more (λ area. things_behind statements area n.before (n.line ∷ n.rest)) n.drafts apart)
     c.in_ok-give-in-len1-up.ensures in (
       (said_first left x c.lines.invariant.0 c.in-len1-up.len_at_least c.line-item.is).1,
       c.put_line.ensures.frames ∙ c.lines.invariant.1,

@@ -23,14 +23,6 @@ grown-requires-clause-few c =
     few_there s.statements c.in_ok-needed.needed c.in_ok-symbols.symbols listed
     (c.in_ok-symbols.ensures.records s.statements s.layout s.faultless.layout whole listed) c.in_ok-symbols.ensures.few
 
-pub all_finished-requires-clause-few : goal.all_finished-requires-clause-few
-all_finished-requires-clause-few c =
-    let s = c.requires.source in
-    let whole = c.in_ok-whole.ensures s.statements s.layout in
-    let listed = c.in_ok-needed.ensures s.statements s.layout s.faultless.said s.faultless.layout whole in
-    few_there s.statements c.in_ok-needed.needed c.in_ok-symbols.symbols listed
-    (c.in_ok-symbols.ensures.records s.statements s.layout s.faultless.layout whole listed) c.in_ok-symbols.ensures.few
-
 pub returns-clause-object : goal.returns-clause-object
 returns-clause-object c = λ statements layout said sound arm.
     let l = c.args.layout.now in
@@ -41,8 +33,8 @@ returns-clause-object c = λ statements layout said sound arm.
     let listed = c.in_ok-needed.ensures statements layout said sound whole in
     let j : IsEmittable statements l w = record { layout = layout; said = said; sound = sound; arm = arm; whole = whole } in
     record {
-      count = count_there c.in_ok-needed.needed statements l.areas gs areas layout.areas c.in_ok-growing.ensures.frames c.in_ok-areas.ensures;
-      areas = areas_there c.relocations_are_of_sources.ensures c.sources_stand_apart.ensures statements c.in_ok-needed.needed l.areas gs areas sound arm layout.areas listed
+      count = count_there statements l.areas gs areas layout.areas c.in_ok-growing.ensures.frames c.in_ok-areas.ensures;
+      areas = areas_there c.relocations_are_of_sources.ensures c.things_are_listed.ensures statements c.in_ok-needed.needed l.areas gs areas sound layout.areas listed
           c.in_ok-growing.ensures.frames (c.in_ok-growing.ensures.drafts statements j) c.in_ok-areas.ensures;
       symbols = c.in_ok-symbols.ensures.records statements layout sound whole listed;
       entry = c.entry_of.ensures statements layout;
