@@ -34,7 +34,7 @@ use Rattle.said_model.specs.Fit.{AllPlaceless, WhatFits, IsFit}
 use Rattle.said_model.specs.Said.{HoldsNoZero}
 use Rattle.source_model.specs.ArmForms.{arm_instruction}
 use Rattle.source_model.specs.Contexts.{Context, sees, value_of, number_in, and_then}
-use Rattle.source_model.specs.Objects.{Piece, unit_bytes, units_from, or_none, or_empty, source_of, IsAmong, StandsIn, symbol_number, word_relocs, branch_relocs, relocs_of, IsRelocOf, HasRelocs, contents_of, symbol_named, symbol_records, is_kept, KeepsBytes, IsArea, IsObject}
+use Rattle.source_model.specs.Objects.{Piece, unit_bytes, units_from, or_none, source_of, IsAmong, StandsIn, symbol_number, word_relocs, branch_relocs, relocs_of, IsRelocOf, HasRelocs, contents_of, symbol_named, symbol_records, is_kept, KeepsBytes, IsArea, IsObject}
 use Rattle.source_model.specs.PseudoForms.{pseudo_instructions}
 use Rattle.source_model.specs.Units.{Emitted, Bytes, Word, Instruction, Stored, Target, Nothing, ByArea, BySymbol, placed, stored, word_units, narrow, half_units, byte_operand, byte_units, branch_symbol, instruction_units, units}
 use Rattle.source_laws.specs.Laws.{word_among, context_behind}
@@ -171,10 +171,6 @@ line_sees_below ss h after before l area e own =
       names = λ q n x. (name_shown ss h.texts q n x).1;
     }
 
-word_stored_below : (count : ℕ) (r : Result Stored LineKind) → StoredBelow count r → UnitBelow count (Word (or_empty r))
-word_stored_below count (Ok w) h = h
-word_stored_below count (Err k) h = tt
-
 -- each area that a thing in an area is relocated by is one of the source
 pub things_below : (ss : List Statement) → AreFaultless ss → (area : ℕ) (p : Piece) → StandsIn (source_of ss) area p → UnitBelow (length (areas_behind ss)) p.1
 things_below ss h area p x = by_kind (unit_or_word ss area p x)
@@ -201,10 +197,11 @@ things_below ss h area p x = by_kind (unit_or_word ss area p x)
         (λ e i. value_own ss sound plain u.before l e i) (each_there IsFit ss h.fit u.after u.before l u.parts)) u.among
     by_kind (inr w) =
         let c = context_behind ss w.loader w.before in
-        let v = literal_value (sees c) w.value in
-        subst (UnitBelow count) (sym w.is)
-        (word_stored_below count (stored c (datum_names ss) v)
-        (word_below count c (datum_names ss) v (line_sees_below ss h w.after w.before w.loader area w.parts w.own) (literal_own ss sound plain w.before w.loader w.value)))
+        let v = literal_value (sees c) w.word.value in
+        let below = subst (StoredBelow count) w.word.stores
+        (word_below count c (datum_names ss) v (line_sees_below ss h w.after w.before w.loader area w.parts w.own)
+        (literal_own ss sound plain w.before w.loader w.word.value)) in
+        subst (λ (t : Piece). UnitBelow count t.1) (sym w.word.is) below
 
 -- ---- relocations
 

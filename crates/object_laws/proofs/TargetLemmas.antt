@@ -32,7 +32,7 @@ use Rattle.asm_model.specs.Marks.{datum_names}
 use Rattle.asm_model.specs.Symbols.{literal_value, unless_placed, word_symbols, words_symbols, branch_symbols, arm_symbols, literal_symbols, symbols_in, listed_behind, symbols_of}
 use Rattle.source_model.specs.ArmForms.{arm_instruction, is_settled}
 use Rattle.source_model.specs.Contexts.{Context, sees, value_of, number_in, and_then}
-use Rattle.source_model.specs.Objects.{Piece, unit_bytes, units_from, or_none, or_empty, source_of, IsAmong, StandsIn}
+use Rattle.source_model.specs.Objects.{Piece, unit_bytes, units_from, or_none, source_of, IsAmong, StandsIn}
 use Rattle.source_model.specs.PseudoForms.{pseudo_instructions}
 use Rattle.source_model.specs.Units.{Emitted, Bytes, Word, Instruction, Stored, Target, Nothing, ByArea, BySymbol, placed, stored, word_units, narrow, half_units, byte_operand, byte_units, linked_symbol, branch_symbol, instruction_units, units}
 use Rattle.source_laws.specs.Laws.{word_among, context_behind}
@@ -245,10 +245,6 @@ pub here_there : (ss : List Statement) (after before : List LaidLine) (l : LaidL
     → InArea (context_behind ss l before)
 here_there ss after before l area e own = (area, line_area ss after before l e ∙ own)
 
-word_stored_listed : (ns : List (List ℕ)) (r : Result Stored LineKind) → StoredListed ns r → UnitListed ns (Word (or_empty r))
-word_stored_listed ns (Ok w) h = h
-word_stored_listed ns (Err k) h = tt
-
 pub symbols_are_listed : (ss : List Statement) → layout_faults ss ≡ None → (area : ℕ) (p : Piece) → StandsIn (source_of ss) area p
     → UnitListed (symbols_of (final_names (laid ss)) (laid ss)) p.1
 symbols_are_listed ss none area p x = by_kind (unit_or_word ss area p x)
@@ -279,9 +275,11 @@ symbols_are_listed ss none area p x = by_kind (unit_or_word ss area p x)
     by_kind (inr w) =
         let l = w.loader in
         let c = context_behind ss l w.before in
-        let v = literal_value (sees c) w.value in
-        let word = word_stored_listed (word_symbols (sees c) v) (stored c (datum_names ss) v) (word_listed c (datum_names ss) v (here_there ss w.after w.before l area w.parts w.own)) in
-        let literal = subst (λ t. UnitListed (literal_symbols names l.line t) p.1) (sym w.loads) (subst (UnitListed (word_symbols (sees c) v)) (sym w.is) word) in
-        let pseudo = loads_are_pseudo l.seen l.statement.what w.size w.value (known_extent ss (layout_sound ss none) w.after w.before l w.parts ∙ ap Ok w.loads) in
+        let v = literal_value (sees c) w.word.value in
+        let word = subst (StoredListed (word_symbols (sees c) v)) w.word.stores (word_listed c (datum_names ss) v (here_there ss w.after w.before l area w.parts w.own)) in
+        let literal = subst (λ t. UnitListed (literal_symbols names l.line t) p.1) (sym w.word.extent)
+        (subst (λ (t : Piece). UnitListed (word_symbols (sees c) v) t.1) (sym w.word.is) word) in
+        let pseudo = loads_are_pseudo l.seen l.statement.what w.word.size w.word.value
+        (known_extent ss (layout_sound ss none) w.after w.before l w.parts ∙ ap Ok w.word.extent) in
         there w.after w.before l w.parts
         (unit_more (literal_symbols names l.line (taken l.extent)) (own l) p.1 (literal_fewer names l.line (taken l.extent) l.statement.what pseudo) literal)

@@ -33,7 +33,7 @@ use Rattle.layout_laws.proofs.SoundLemmas.{statements_kept}
 use Rattle.said_model.specs.Said.{GivenSaid, ArmSaid, PseudoSaid, WhatSaid, AllSaid}
 use Rattle.source_model.specs.ArmForms.{arm_instruction}
 use Rattle.source_model.specs.Contexts.{Context, sees, value_of, number_in, and_then}
-use Rattle.source_model.specs.Objects.{Piece, unit_bytes, units_from, or_none, or_empty, source_of, IsAmong, StandsIn}
+use Rattle.source_model.specs.Objects.{Piece, unit_bytes, units_from, or_none, source_of, IsAmong, StandsIn}
 use Rattle.source_model.specs.PseudoForms.{pseudo_instructions}
 use Rattle.source_model.specs.Registers.{Named, register_in, as_register, given, with_register, named_by, registers_behind}
 use Rattle.source_model.specs.Units.{Emitted, Bytes, Word, Instruction, Stored, Target, Nothing, ByArea, BySymbol, placed, stored, word_units, narrow, half_units, byte_operand, byte_units, branch_symbol, instruction_units, units}
@@ -262,10 +262,6 @@ context_within ss n after before l few e (c ∷ cs) (x, y) h =
 
 -- ---- things
 
-stored_or_good : (n at : ℕ) (r : Result Stored LineKind) → StoredGood n r → IsGood n (at, Word (or_empty r))
-stored_or_good n at (Ok w) h = h
-stored_or_good n at (Err k) h = tt
-
 pub good_thing : (ss : List Statement) (n : ℕ) → IsSound ss → AllSaid ss → length (areas_behind (statements_of (laid ss))) ≤ n
     → (area : ℕ) (p : Piece) → StandsIn (source_of ss) area p → IsGood n p
 good_thing ss n sound said few area p x = by_kind (unit_or_word ss area p x)
@@ -290,6 +286,6 @@ good_thing ss n sound said few area p x = by_kind (unit_or_word ss area p x)
         (λ q m e. register_below (registers_behind u.before) q m (registers_good u.before own.1) e) own.0.read (aligned u)) u.among
     by_kind (inr w) =
         let c = context_behind ss w.loader w.before in
-        let v = literal_value (sees c) w.value in
-        subst (λ t. IsGood n (p.0, t)) (sym w.is)
-        (stored_or_good n p.0 (stored c (datum_names ss) v) (stored_good n c (datum_names ss) (context_within ss n w.after w.before w.loader few w.parts) v))
+        subst (λ (z : Piece). IsGood n z) (sym w.word.is)
+        (subst (StoredGood n) w.word.stores
+        (stored_good n c (datum_names ss) (context_within ss n w.after w.before w.loader few w.parts) (literal_value (sees c) w.word.value)))

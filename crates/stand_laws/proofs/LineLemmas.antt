@@ -13,15 +13,16 @@ use Rattle.asm_model.specs.Marks.{datum_names}
 use Rattle.asm_model.specs.Offsets.{end_behind, area_size}
 use Rattle.asm_model.specs.Sound.{IsSound}
 use Rattle.source_model.specs.ArmForms.{arm_instruction}
-use Rattle.source_model.specs.Objects.{unit_bytes, units_from, or_none, pool_or, source_of, IsAmong}
+use Rattle.source_model.specs.Objects.{unit_bytes, units_from, or_none, source_of, IsAmong}
 use Rattle.source_model.specs.PseudoForms.{pseudo_instructions}
 use Rattle.source_model.specs.Units.{Emitted, Instruction, branch_symbol, instruction_units, directive_units, units}
 use Rattle.source_laws.specs.Laws.{is_filled, InArmState, context_behind, word_among}
 use Rattle.source_laws.proofs.LineLemmas.{statements_stand_apart, statements_lie_in_areas}
 use Rattle.source_laws.proofs.ListLemmas.{Before, Same, places}
-use Rattle.source_laws.proofs.SizeLemmas.{other_units_are_none}
-use Rattle.source_laws.proofs.ListedLemmas.{Owner, Held, held}
-use Rattle.source_laws.proofs.ThingLemmas.{puts, puts_own, in_line, at_end, lines_end, chain}
+use Rattle.source_laws.proofs.SizeLemmas.{other_units_are_none, pool_or}
+use Rattle.source_laws.proofs.ApartLemmas.{in_line, at_end, lines_end, chain}
+use Rattle.source_laws.proofs.PoolLemmas.{Puts, Held, held}
+use Rattle.source_laws.proofs.ThingLemmas.{puts, puts_own}
 use Rattle.asm_model.proofs.OffsetLemmas.{through}
 use Rattle.patch_model.specs.Reaches.{View}
 use Rattle.stand_model.specs.Placed.{ShowsZeros}
@@ -88,13 +89,13 @@ pub nothing_there : (ss : List Statement) → IsSound ss → InArmState ss → (
     → laid ss ≡ after ++ l ∷ before → l.area ≡ Some area → is_filled l.statement.what ≡ false
     → ((pool us : List Emitted) → pool_or l.statement.what pool us ≡ us)
     → (i : ℕ) → i < l.size → IsGap (source_of ss) area (l.offset + i)
-nothing_there ss sound arm area after before l e here bare own i small p h = by_kind (held (source_of ss) area p h)
+nothing_there ss sound arm area after before l e here bare own i small p h = by_kind (held ss sound area p h)
   where
     Misses : Type 0
     Misses = (l.offset + i < p.0) ⊎ (p.0 + length (unit_bytes p.1) ≤ l.offset + i)
 
-    of_place : (x : Owner (source_of ss) area p (laid ss) [])
-        → Same after l before x.after x.holder x.before ⊎ (Before after l before x.after x.holder x.before ⊎ Before x.after x.holder x.before after l before) → Misses
+    of_place : (x : Puts ss area p)
+        → Same after l before x.after x.line x.before ⊎ (Before after l before x.after x.line x.before ⊎ Before x.after x.line x.before after l before) → Misses
     of_place x (inl s) =
         let none = other_units_are_none (context_behind ss l before) (datum_names ss) l.seen (word_among after l before) l.statement.what bare in
         let here : IsAmong p (units_from l.offset (puts ss area after l before)) =
@@ -104,15 +105,15 @@ nothing_there ss sound arm area after before l e here bare own i small p h = by_
         let nothing : IsAmong p [] = subst (λ us. IsAmong p (units_from l.offset us)) (puts_own ss area after before l own ∙ ap or_none none) here in
         absurd nothing
     of_place x (inr (inl b)) =
-        inr (lies_behind i l.offset (p.0 + length (unit_bytes p.1)) (x.holder.offset + x.holder.size) (in_line ss sound arm area p x).1
-        (statements_stand_apart ss sound area after b.0 x.before l x.holder (e ∙ ap (λ z. after ++ l ∷ z) b.1) here x.own))
+        inr (lies_behind i l.offset (p.0 + length (unit_bytes p.1)) (x.line.offset + x.line.size) (in_line ss sound arm area p x).1
+        (statements_stand_apart ss sound area after b.0 x.before l x.line (e ∙ ap (λ z. after ++ l ∷ z) b.1) here x.own))
     of_place x (inr (inr b)) =
         inl (lies_before i l.offset l.size p.0 small
-        (chain (l.offset + l.size) x.holder.offset x.holder.offset p.0
-        (statements_stand_apart ss sound area x.after b.0 before x.holder l (x.parts ∙ ap (λ z. x.after ++ x.holder ∷ z) b.1) x.own here) (omega arith) (in_line ss sound arm area p x).0))
+        (chain (l.offset + l.size) x.line.offset x.line.offset p.0
+        (statements_stand_apart ss sound area x.after b.0 before x.line l (x.parts ∙ ap (λ z. x.after ++ x.line ∷ z) b.1) x.own here) (omega arith) (in_line ss sound arm area p x).0))
 
-    by_kind : Held (source_of ss) area p → Misses
-    by_kind (inl x) = of_place x (places after before x.after x.before l x.holder (sym e ∙ x.parts))
+    by_kind : Held ss area p → Misses
+    by_kind (inl x) = of_place x (places after before x.after x.before l x.line (sym e ∙ x.parts))
     by_kind (inr k) =
         inl (lies_before i l.offset l.size p.0 small (through (l.offset + l.size) (end_behind area (pieces_of (laid ss))) p.0 (lines_end ss sound area after before l e here) (at_end ss area p k).0))
 

@@ -1,5 +1,5 @@
 -- A line of a source stands where memory shows what it puts into its area.
-use Rattle.std.proofs.Common.{◌≡◌, ℕ, ◌+◌, ◌%◌, ◌^◌, ◌<◌, ◌≤◌, List, [], ◌∷◌, ◌++◌, length, false, refl, sym, ◌∙◌, ap, subst, arith, Option, Some, None, ◌⊎◌, inl, inr}
+use Rattle.std.proofs.Common.{◌≡◌, ℕ, ◌+◌, ◌%◌, ◌^◌, ◌<◌, ◌≤◌, List, ◌∷◌, ◌++◌, length, false, refl, sym, ◌∙◌, ap, subst, arith, Option, Some, None}
 use Rattle.std.specs.Prelude.{Ok}
 use Rattle.sdt_word.specs.declared.codes.Condition.{Condition}
 use Rattle.sdt_word.specs.declared.ranges.Range32.{Range32}
@@ -34,8 +34,7 @@ use Rattle.object_laws.proofs.SizeLemmas.{line_small}
 use Rattle.object_laws.proofs.TargetLemmas.{arm_listed, lines_listed}
 use Rattle.patch_model.specs.Fields.{Values}
 use Rattle.patch_model.specs.Reaches.{View}
-use Rattle.source_model.specs.Objects.{Piece, source_of, At, IsAmong, StandsIn, word_at, units_from, or_none, pool_or, IsObject}
-use Rattle.source_model.specs.Contexts.{Context}
+use Rattle.source_model.specs.Objects.{Piece, source_of, At, IsAmong, StandsIn, word_at, units_from, or_none, IsObject}
 use Rattle.source_model.specs.Units.{Emitted, units}
 use Rattle.asm_model.specs.Marks.{datum_names}
 use Rattle.source_model.specs.SourceFaults.{layout_faults}
@@ -43,9 +42,9 @@ use Rattle.source_laws.specs.Laws.{is_filled, context_behind, word_among}
 use Rattle.source_laws.proofs.AgreeLemmas.{line_area}
 use Rattle.source_laws.proofs.FaultlessLemmas.{layout_sound}
 use Rattle.source_laws.proofs.LineLemmas.{is_laid}
-use Rattle.source_laws.proofs.ListedLemmas.{line_thing}
-use Rattle.source_laws.proofs.SizeLemmas.{pool_or_own}
-use Rattle.source_laws.proofs.ThingLemmas.{puts_own}
+use Rattle.source_laws.proofs.ListedLemmas.{among_first, line_thing}
+use Rattle.source_laws.proofs.SizeLemmas.{pool_or}
+use Rattle.source_laws.proofs.ThingLemmas.{own_units, own_words}
 use Rattle.stand_model.specs.Placed.{ShowsZeros, IsPlaced}
 use Rattle.stand_model.specs.Shown.{IsShown, meant_by}
 use Rattle.stand_model.specs.Stands.{Stands, IsGap, scene_at, address_behind}
@@ -145,19 +144,10 @@ what_meets ss fine o obj own values area_at placed view region area after before
 own_stands : (ss : List Statement) (area : ℕ) (p : Piece) (after before : List LaidLine) (l : LaidLine) (us : List Emitted) → laid ss ≡ after ++ l ∷ before → l.area ≡ Some area
     → units (context_behind ss l before) (datum_names ss) l.seen (word_among after l before) l.statement.what ≡ Ok us → IsAmong p (units_from l.offset us)
     → StandsIn (source_of ss) area p
-own_stands ss area p after before l us e here is h = by_what (pool_or_own l.statement.what)
-  where
-    c : Context
-    c = context_behind ss l before
-
-    by_what : (l.statement.what ≡ what.Directive line.Ltorg) ⊎ ((pool us : List Emitted) → pool_or l.statement.what pool us ≡ us) → StandsIn (source_of ss) area p
-    by_what (inl w) =
-        let none : Ok [] ≡ Ok us = ap (units c (datum_names ss) l.seen (word_among after l before)) (sym w) ∙ is in
-        let nothing : IsAmong p [] = subst (λ z. IsAmong p (units_from l.offset (or_none z))) (sym none) h in
-        absurd nothing
-    by_what (inr own) =
-        line_thing ss area p after before l e here
-        (subst (λ z. IsAmong p (units_from l.offset z)) (sym (puts_own ss area after before l own ∙ ap or_none is)) h)
+own_stands ss area p after before l us e here is h =
+    line_thing ss area p after before l e here
+    (among_first p (units_from l.offset (own_units ss after l before)) (own_words ss after l before)
+    (subst (λ r. IsAmong p (units_from l.offset (or_none r))) (sym is) h))
 
 pub shown_lines_stand : (ss : List Statement) (o : Object) → IsFaultless ss → IsObject ss o → length o.symbols < 2 ^ 24
     → (own : ℕ) (values : Values) (area_at : ℕ → ℕ → ℕ) (view : View) (region : Range32)

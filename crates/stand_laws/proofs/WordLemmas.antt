@@ -22,7 +22,7 @@ use Rattle.asm_model.specs.Extents.{Extent, Block, Padding, Loading, Pool, is_mo
 use Rattle.asm_model.specs.Laid.{LaidLine, taken, pieces_of, laid_behind, laid_of, laid, final_names}
 use Rattle.asm_model.specs.LayoutKinds.{fault_kinds}
 use Rattle.asm_model.specs.Marks.{datum_names}
-use Rattle.asm_model.specs.Offsets.{Piece as LaidPiece, literal_word}
+use Rattle.asm_model.specs.Offsets.{Piece as LaidPiece}
 use Rattle.asm_model.specs.Placing.{HaveSymbols}
 use Rattle.asm_model.specs.Symbols.{literal_value}
 use Rattle.asm_model.specs.Trees.{tree_of}
@@ -36,7 +36,7 @@ use Rattle.patch_model.specs.Fields.{Values}
 use Rattle.patch_model.specs.Reaches.{View, ShowsWord}
 use Rattle.said_model.specs.Said.{AllSaid, LoadsPlain}
 use Rattle.source_model.specs.Contexts.{Context, sees, value_of}
-use Rattle.source_model.specs.Objects.{Piece, in_order, or_empty, source_of, StandsIn}
+use Rattle.source_model.specs.Objects.{Piece, in_order, source_of, units_from, IsAmong, StandsIn, literal_unit, literal_piece}
 use Rattle.source_model.specs.SourceFaults.{value_faults, word_of}
 use Rattle.source_model.specs.Units.{Word, Stored, Nothing, placed, stored, units}
 use Rattle.source_model.specs.ValueKinds.{statement_kinds, literal_kinds as value_literal_kinds}
@@ -45,8 +45,8 @@ use Rattle.layout_laws.proofs.SettledLemmas.{no_place_holds}
 use Rattle.layout_laws.proofs.TreeLemmas.{ItemsEach, TreeEach, tree_each}
 use Rattle.source_laws.proofs.FaultlessLemmas.{layout_sound}
 use Rattle.source_laws.proofs.ListLemmas.{same_first, same_rest}
-use Rattle.source_laws.proofs.PoolLemmas.{literal_stands}
-use Rattle.source_laws.proofs.ThingLemmas.{known_extent}
+use Rattle.source_laws.proofs.ListedLemmas.{among_last, line_thing}
+use Rattle.source_laws.proofs.ThingLemmas.{own_units, own_words, known_extent}
 use Rattle.stand_model.specs.Stands.{WordStands}
 use Rattle.said_model.specs.Named.{AllItemsNamed, LoadNamed, AllLoadsNamed}
 use Rattle.stand_laws.specs.Laws.{IsFaultless}
@@ -198,15 +198,13 @@ line_loads ss sound said named after before l split condition rd e w n v x =
         (value_at l.seen t) (value_at l.seen (kept_names l.seen t)) refl refl v y)
 
 -- a line with a word loads a literal
-word_loads : (area : ℕ) (o : Option ℕ) (x : Extent) (before rest : List LaidPiece) (w : ℕ) → o ≡ Some area → word_of o x before rest ≡ Some w
-    → (n : ℕ) × (v : Value) × (x ≡ Loading n v) × (literal_word area before rest v ≡ w)
-word_loads area o x before rest w own h = by_extent x (ap (λ z. word_of z x before rest) (sym own) ∙ h)
-  where
-    by_extent : (x : Extent) → word_of (Some area) x before rest ≡ Some w → (n : ℕ) × (v : Value) × (x ≡ Loading n v) × (literal_word area before rest v ≡ w)
-    by_extent (Loading n v) k = (n, v, refl, cc)
-    by_extent (Block m n) k = absurd (cc)
-    by_extent (Padding m n) k = absurd (cc)
-    by_extent Pool k = absurd (cc)
+pub word_loads : (area : Option ℕ) (x : Extent) (before rest : List LaidPiece) (w : ℕ) → word_of area x before rest ≡ Some w
+    → (n : ℕ) × (v : Value) × (x ≡ Loading n v)
+word_loads None x before rest w h = absurd (cc)
+word_loads (Some a) (Loading n v) before rest w h = (n, v, refl)
+word_loads (Some a) (Block m n) before rest w h = absurd (cc)
+word_loads (Some a) (Padding m n) before rest w h = absurd (cc)
+word_loads (Some a) Pool before rest w h = absurd (cc)
 
 pub line_stored : (ss : List Statement) → value_faults ss ≡ None → (after before : List LaidLine) (l : LaidLine) → laid ss ≡ after ++ l ∷ before
     → (n : ℕ) (v : Value) → taken l.extent ≡ Loading n v
@@ -233,13 +231,17 @@ literal_holds ss fine values view region area after before l e own here shown co
 literal_holds ss fine values view region area after before l e own here shown condition rd x w (Some place) h =
     let k = setting ss values view region area l before in
     let c = context_behind ss l before in
-    let sound = layout_sound ss fine.laid_out in
-    let q = word_loads area l.area (taken l.extent) (pieces_of (l ∷ before)) (pieces_of (in_order after [])) place own h in
+    let q = word_loads l.area (taken l.extent) (pieces_of (l ∷ before)) (pieces_of (in_order after [])) place h in
     let st = line_stored ss fine.valued after before l e q.0 q.1 q.2 in
-    let there = subst (λ z. StandsIn (source_of ss) area (z, Word st.0)) q.3
-    (subst (λ z. StandsIn (source_of ss) area (literal_word area (pieces_of (l ∷ before)) (pieces_of (in_order after [])) q.1, Word z)) (ap or_empty st.1)
-    (literal_stands ss sound area after before l q.0 q.1 e own q.2)) in
+    let Among : List Piece → Type 0 = λ ps. IsAmong (place, Word st.0) ps in
+    let unit : Among (literal_unit (word_among after l before) (stored c (datum_names ss) (literal_value (sees c) q.1))) =
+    subst (λ z. Among (literal_unit z (stored c (datum_names ss) (literal_value (sees c) q.1)))) (sym h)
+    (subst (λ z. Among (literal_unit (Some place) z)) (sym st.1) (inl refl)) in
+    let piece : Among (own_words ss after l before) =
+    subst (λ z. Among (literal_piece c (datum_names ss) z (word_among after l before))) (sym q.2) unit in
     word_holds k (values.base area + place) x st.0 here
     (literal_stored k l.seen (IsOwn (final_names (laid ss))) q.1 (value_of c x) st.0
-    (line_loads ss sound fine.said fine.loads_named after before l e condition rd x w q.0 q.1 q.2) st.1)
-    (shown (place, Word st.0) there)
+    (line_loads ss (layout_sound ss fine.laid_out) fine.said fine.loads_named after before l e condition rd x w q.0 q.1 q.2) st.1)
+    (shown (place, Word st.0)
+    (line_thing ss area (place, Word st.0) after before l e own
+    (among_last (place, Word st.0) (units_from l.offset (own_units ss after l before)) (own_words ss after l before) piece)))
