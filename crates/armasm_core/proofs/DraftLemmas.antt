@@ -11,6 +11,7 @@ use Rattle.aof_object.specs.declared.records.Reloc.{Reloc}
 use Rattle.source_model.specs.Objects.{Piece, unit_bytes, units_bytes, units_from, IsAmong, IsRelocOf}
 use Rattle.source_model.specs.Units.{Emitted}
 use Rattle.source_laws.specs.Laws.{StandApart}
+use Rattle.source_laws.proofs.ListedLemmas.{among_either as among_parts, among_first as among_front, among_last as among_behind}
 use Rattle.armasm_core.specs.declared.drafts.Draft.{Draft}
 use Rattle.armasm_core.specs.Drafts.{MeetsNone, MeetNone, HoldsPieces, IsDraft, AreRelocs}
 use Rattle.armasm_core.specs.Writing.{AllCanStand}
@@ -21,22 +22,8 @@ use Rattle.base_lemmas.proofs.BaseLemmas.{rest_of as first_and_rest}
 
 -- ---- one thing more among others
 
-pub among_parts : (p : Piece) (ps qs : List Piece) → IsAmong p (ps ++ qs) → IsAmong p ps ⊎ IsAmong p qs
-among_parts p [] qs h = inr h
-among_parts p (x ∷ ps) qs (inl e) = inl (inl e)
-among_parts p (x ∷ ps) qs (inr h) = ⊎_elim (λ k. inl (inr k)) (λ k. inr k) (among_parts p ps qs h)
-
-pub among_front : (p : Piece) (ps qs : List Piece) → IsAmong p ps → IsAmong p (ps ++ qs)
-among_front p [] qs h = absurd h
-among_front p (x ∷ ps) qs (inl e) = inl e
-among_front p (x ∷ ps) qs (inr h) = inr (among_front p ps qs h)
-
-pub among_behind : (p : Piece) (ps qs : List Piece) → IsAmong p qs → IsAmong p (ps ++ qs)
-among_behind p [] qs h = h
-among_behind p (x ∷ ps) qs h = inr (among_behind p ps qs h)
-
-among_last : (p : Piece) (ps : List Piece) (q : Piece) → IsAmong p (ps ++ q ∷ []) → IsAmong p ps ⊎ (p ≡ q)
-among_last p ps q h = ⊎_elim (λ k. inl k) one (among_parts p ps (q ∷ []) h)
+last_among : (p : Piece) (ps : List Piece) (q : Piece) → IsAmong p (ps ++ q ∷ []) → IsAmong p ps ⊎ (p ≡ q)
+last_among p ps q h = ⊎_elim (λ k. inl k) one (among_parts p ps (q ∷ []) h)
   where
     one : IsAmong p (q ∷ []) → IsAmong p ps ⊎ (p ≡ q)
     one (inl e) = inr e
@@ -47,7 +34,7 @@ among_last p ps q h = ⊎_elim (λ k. inl k) one (among_parts p ps (q ∷ []) h)
 held_more : (pieces : List Piece) (q : Piece) (xs : List ℕ) → HoldsPieces pieces xs → MeetsNone pieces q
     → q.0 + length (unit_bytes q.1) ≤ length xs → HoldsPieces (pieces ++ q ∷ []) (written xs q.0 (unit_bytes q.1))
 held_more pieces q xs held none h = record {
-  standing = λ p among. ⊎_elim (λ k. ⊎_elim this (λ s. that p s (held.standing p k)) (none p k)) this (among_last p pieces q among);
+  standing = λ p among. ⊎_elim (λ k. ⊎_elim this (λ s. that p s (held.standing p k)) (none p k)) this (last_among p pieces q among);
   others = λ i clear.
       other xs (unit_bytes q.1) q.0 i h (clear q (among_behind q pieces (q ∷ []) (inl refl)))
       ∙ held.others i (λ p k. clear p (among_front p pieces (q ∷ []) k));
@@ -87,7 +74,7 @@ module _ (names : List (List ℕ)) (pieces : List Piece) (q : Piece) (f g : ℕ 
       → (p : Piece) (r : Reloc) → IsAmong p (pieces ++ q ∷ []) → IsRelocOf (relocs_in names p) r → g r.offset ≡ Some r.word
   relocated_more none old p r among is =
       let parts = reloc_parts p.0 (relocation names p.1) r is in
-      notes r.offset ∙ ⊎_elim (before parts.0 parts.1) (last parts.0 parts.1) (among_last p pieces q among)
+      notes r.offset ∙ ⊎_elim (before parts.0 parts.1) (last parts.0 parts.1) (last_among p pieces q among)
     where
       before : r.offset ≡ p.0 → relocation names p.1 ≡ Some r.word → IsAmong p pieces → noted (f r.offset) q.0 (relocation names q.1) r.offset ≡ Some r.word
       before at word k =
