@@ -12,6 +12,7 @@ use Rattle.source_model.specs.Objects.{Piece, unit_bytes, units_bytes, units_fro
 use Rattle.source_model.specs.Units.{Emitted}
 use Rattle.source_laws.specs.Laws.{StandApart}
 use Rattle.source_laws.proofs.ListedLemmas.{among_either as among_parts, among_first as among_front, among_last as among_behind}
+use Rattle.source_laws.proofs.UnitLemmas.{units_inside}
 use Rattle.armasm_core.specs.declared.drafts.Draft.{Draft}
 use Rattle.armasm_core.specs.Drafts.{MeetsNone, MeetNone, HoldsPieces, IsDraft, AreRelocs}
 use Rattle.armasm_core.specs.Writing.{AllCanStand}
@@ -126,15 +127,6 @@ units_more at (x ∷ us) u =
     ap (λ (l : List Piece). (at, x) ∷ l) (units_more (at + length (unit_bytes x)) us u
     ∙ ap (λ (n : ℕ). units_from (at + length (unit_bytes x)) us ++ (n, u) ∷ []) end)
 
--- each ends before what follows
-ends_before : (p : Piece) (at : ℕ) (us : List Emitted) → IsAmong p (units_from at us) → p.0 + length (unit_bytes p.1) ≤ at + length (units_bytes us)
-ends_before p at [] h = absurd h
-ends_before p at (u ∷ us) (inl e) = let size = length-append (unit_bytes u) (units_bytes us) in rw e (omega (arith, size))
-ends_before p at (u ∷ us) (inr h) =
-    let size = length-append (unit_bytes u) (units_bytes us) in
-    let rest = ends_before p (at + length (unit_bytes u)) us h in
-    omega (arith, size, rest)
-
 -- a next thing of all is among them
 next_among : (at : ℕ) (us : List Emitted) (u : Emitted) (rest : List Emitted)
     → IsAmong (at + length (units_bytes us), u) (units_from at (us ++ u ∷ rest))
@@ -148,7 +140,7 @@ next_among at (x ∷ us) u rest =
 pub next_meets_none : (pieces : List Piece) (at : ℕ) (us : List Emitted) (u : Emitted) (rest : List Emitted)
     → MeetNone pieces (units_from at (us ++ u ∷ rest)) → MeetsNone (pieces ++ units_from at us) (at + length (units_bytes us), u)
 next_meets_none pieces at us u rest none p among =
-    ⊎_elim (none (at + length (units_bytes us), u) (next_among at us u rest) p) (λ h. inr (inl (ends_before p at us h)))
+    ⊎_elim (none (at + length (units_bytes us), u) (next_among at us u rest) p) (λ h. inr (inl (units_inside at us p h).1))
     (among_parts p pieces (units_from at us) among)
 
 size_more : (us : List Emitted) (u : Emitted) → length (units_bytes (us ++ u ∷ [])) ≡ length (units_bytes us) + length (unit_bytes u)

@@ -11,7 +11,8 @@ use Rattle.source_laws.specs.Laws.{InArmState, StandApart}
 use Rattle.source_laws.proofs.LineLemmas.{line_ends, pieces_rise, statements_stand_apart, statements_lie_in_areas}
 use Rattle.source_laws.proofs.ListLemmas.{Before, Same, places}
 use Rattle.source_laws.proofs.PoolLemmas.{Puts, Held, end_things, held}
-use Rattle.source_laws.proofs.ThingLemmas.{units_inside, units_apart, puts, puts_fit}
+use Rattle.source_laws.proofs.ThingLemmas.{puts, puts_fit}
+use Rattle.source_laws.proofs.UnitLemmas.{units_inside, units_apart}
 use Rattle.source_laws.proofs.WordLemmas.{pool_units, pool_long}
 
 -- ---- places

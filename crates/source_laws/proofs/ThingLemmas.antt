@@ -12,46 +12,13 @@ use Rattle.asm_model.specs.LayoutKinds.{equals_in, settled, first_fault}
 use Rattle.asm_model.specs.Marks.{datum_names}
 use Rattle.asm_model.specs.Offsets.{waiting, start_in, size_of}
 use Rattle.asm_model.specs.Sound.{IsSound}
-use Rattle.source_model.specs.Objects.{Piece, unit_bytes, units_bytes, units_from, or_none, literal_piece, IsAmong}
+use Rattle.source_model.specs.Objects.{Piece, units_bytes, or_none, literal_piece}
 use Rattle.source_model.specs.Units.{Emitted, units}
-use Rattle.source_laws.specs.Laws.{word_among, InArmState, context_behind, StandApart}
+use Rattle.source_laws.specs.Laws.{word_among, InArmState, context_behind}
 use Rattle.source_laws.proofs.LineLemmas.{is_laid, line_fine, line_known, stands_in}
-use Rattle.source_laws.proofs.ListLemmas.{Before, Same, places}
 use Rattle.source_laws.proofs.SizeLemmas.{units_fit, pool_or, pool_or_own}
-use Rattle.source_laws.proofs.UnitLemmas.{units_lie_inside, units_stand_apart}
 use Rattle.source_laws.proofs.WordLemmas.{pool_units, pool_long}
 use Rattle.asm_model.specs.Labels.{declared_names}
-
--- ---- things in lists
-
-pub record Found (p : Piece) (xs : List Piece) : Type 0 where
-  pub front : List Piece
-  pub back : List Piece
-  pub parts : xs ≡ front ++ p ∷ back
-
-pub found : (p : Piece) (xs : List Piece) → IsAmong p xs → Found p xs
-found p [] h = absurd h
-found p (x ∷ xs) (inl e) = record { front = []; back = xs; parts = ap (λ z. z ∷ xs) (sym e) }
-found p (x ∷ xs) (inr h) =
-    let f = found p xs h in record { front = x ∷ f.front; back = f.back; parts = ap (λ z. x ∷ z) f.parts }
-
-pub units_inside : (at : ℕ) (us : List Emitted) (p : Piece) → IsAmong p (units_from at us) → (at ≤ p.0) × (p.0 + length (unit_bytes p.1) ≤ at + length (units_bytes us))
-units_inside at us p h = let f = found p (units_from at us) h in units_lie_inside at us f.front f.back p f.parts
-
-pub units_apart : (at : ℕ) (us : List Emitted) (p q : Piece) → IsAmong p (units_from at us) → IsAmong q (units_from at us) → (p ≡ q) ⊎ StandApart p q
-units_apart at us p q h k =
-    let f = found p (units_from at us) h in
-    let g = found q (units_from at us) k in
-    by_place f g (places f.front f.back g.front g.back p q (sym f.parts ∙ g.parts))
-  where
-    by_place : (f : Found p (units_from at us)) (g : Found q (units_from at us))
-        → Same f.front p f.back g.front q g.back ⊎ (Before f.front p f.back g.front q g.back ⊎ Before g.front q g.back f.front p f.back)
-        → (p ≡ q) ⊎ StandApart p q
-    by_place f g (inl e) = inl e.0
-    by_place f g (inr (inl b)) =
-        inr (inl (units_stand_apart at us f.front b.0 g.back p q (f.parts ∙ ap (λ z. f.front ++ p ∷ z) b.1)))
-    by_place f g (inr (inr b)) =
-        inr (inr (units_stand_apart at us g.front b.0 f.back q p (g.parts ∙ ap (λ z. g.front ++ q ∷ z) b.1)))
 
 -- ---- what a line puts
 
