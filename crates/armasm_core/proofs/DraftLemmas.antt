@@ -11,6 +11,8 @@ use Rattle.aof_object.specs.declared.records.Reloc.{Reloc}
 use Rattle.source_model.specs.Objects.{Piece, unit_bytes, units_bytes, units_from, IsAmong, IsRelocOf}
 use Rattle.source_model.specs.Units.{Emitted}
 use Rattle.source_laws.specs.Laws.{StandApart}
+use Rattle.source_laws.proofs.ListedLemmas.{among_either as among_parts, among_first as among_front, among_last as among_behind}
+use Rattle.source_laws.proofs.UnitLemmas.{units_inside}
 use Rattle.armasm_core.specs.declared.drafts.Draft.{Draft}
 use Rattle.armasm_core.specs.Drafts.{MeetsNone, MeetNone, HoldsPieces, IsDraft, AreRelocs}
 use Rattle.armasm_core.specs.Writing.{AllCanStand}
@@ -21,22 +23,8 @@ use Rattle.base_lemmas.proofs.BaseLemmas.{rest_of as first_and_rest}
 
 -- ---- one thing more among others
 
-pub among_parts : (p : Piece) (ps qs : List Piece) → IsAmong p (ps ++ qs) → IsAmong p ps ⊎ IsAmong p qs
-among_parts p [] qs h = inr h
-among_parts p (x ∷ ps) qs (inl e) = inl (inl e)
-among_parts p (x ∷ ps) qs (inr h) = ⊎_elim (λ k. inl (inr k)) (λ k. inr k) (among_parts p ps qs h)
-
-pub among_front : (p : Piece) (ps qs : List Piece) → IsAmong p ps → IsAmong p (ps ++ qs)
-among_front p [] qs h = absurd h
-among_front p (x ∷ ps) qs (inl e) = inl e
-among_front p (x ∷ ps) qs (inr h) = inr (among_front p ps qs h)
-
-pub among_behind : (p : Piece) (ps qs : List Piece) → IsAmong p qs → IsAmong p (ps ++ qs)
-among_behind p [] qs h = h
-among_behind p (x ∷ ps) qs h = inr (among_behind p ps qs h)
-
-among_last : (p : Piece) (ps : List Piece) (q : Piece) → IsAmong p (ps ++ q ∷ []) → IsAmong p ps ⊎ (p ≡ q)
-among_last p ps q h = ⊎_elim (λ k. inl k) one (among_parts p ps (q ∷ []) h)
+last_among : (p : Piece) (ps : List Piece) (q : Piece) → IsAmong p (ps ++ q ∷ []) → IsAmong p ps ⊎ (p ≡ q)
+last_among p ps q h = ⊎_elim (λ k. inl k) one (among_parts p ps (q ∷ []) h)
   where
     one : IsAmong p (q ∷ []) → IsAmong p ps ⊎ (p ≡ q)
     one (inl e) = inr e
@@ -47,7 +35,7 @@ among_last p ps q h = ⊎_elim (λ k. inl k) one (among_parts p ps (q ∷ []) h)
 held_more : (pieces : List Piece) (q : Piece) (xs : List ℕ) → HoldsPieces pieces xs → MeetsNone pieces q
     → q.0 + length (unit_bytes q.1) ≤ length xs → HoldsPieces (pieces ++ q ∷ []) (written xs q.0 (unit_bytes q.1))
 held_more pieces q xs held none h = record {
-  standing = λ p among. ⊎_elim (λ k. ⊎_elim this (λ s. that p s (held.standing p k)) (none p k)) this (among_last p pieces q among);
+  standing = λ p among. ⊎_elim (λ k. ⊎_elim this (λ s. that p s (held.standing p k)) (none p k)) this (last_among p pieces q among);
   others = λ i clear.
       other xs (unit_bytes q.1) q.0 i h (clear q (among_behind q pieces (q ∷ []) (inl refl)))
       ∙ held.others i (λ p k. clear p (among_front p pieces (q ∷ []) k));
@@ -87,7 +75,7 @@ module _ (names : List (List ℕ)) (pieces : List Piece) (q : Piece) (f g : ℕ 
       → (p : Piece) (r : Reloc) → IsAmong p (pieces ++ q ∷ []) → IsRelocOf (relocs_in names p) r → g r.offset ≡ Some r.word
   relocated_more none old p r among is =
       let parts = reloc_parts p.0 (relocation names p.1) r is in
-      notes r.offset ∙ ⊎_elim (before parts.0 parts.1) (last parts.0 parts.1) (among_last p pieces q among)
+      notes r.offset ∙ ⊎_elim (before parts.0 parts.1) (last parts.0 parts.1) (last_among p pieces q among)
     where
       before : r.offset ≡ p.0 → relocation names p.1 ≡ Some r.word → IsAmong p pieces → noted (f r.offset) q.0 (relocation names q.1) r.offset ≡ Some r.word
       before at word k =
@@ -139,15 +127,6 @@ units_more at (x ∷ us) u =
     ap (λ (l : List Piece). (at, x) ∷ l) (units_more (at + length (unit_bytes x)) us u
     ∙ ap (λ (n : ℕ). units_from (at + length (unit_bytes x)) us ++ (n, u) ∷ []) end)
 
--- each ends before what follows
-ends_before : (p : Piece) (at : ℕ) (us : List Emitted) → IsAmong p (units_from at us) → p.0 + length (unit_bytes p.1) ≤ at + length (units_bytes us)
-ends_before p at [] h = absurd h
-ends_before p at (u ∷ us) (inl e) = let size = length-append (unit_bytes u) (units_bytes us) in rw e (omega (arith, size))
-ends_before p at (u ∷ us) (inr h) =
-    let size = length-append (unit_bytes u) (units_bytes us) in
-    let rest = ends_before p (at + length (unit_bytes u)) us h in
-    omega (arith, size, rest)
-
 -- a next thing of all is among them
 next_among : (at : ℕ) (us : List Emitted) (u : Emitted) (rest : List Emitted)
     → IsAmong (at + length (units_bytes us), u) (units_from at (us ++ u ∷ rest))
@@ -161,7 +140,7 @@ next_among at (x ∷ us) u rest =
 pub next_meets_none : (pieces : List Piece) (at : ℕ) (us : List Emitted) (u : Emitted) (rest : List Emitted)
     → MeetNone pieces (units_from at (us ++ u ∷ rest)) → MeetsNone (pieces ++ units_from at us) (at + length (units_bytes us), u)
 next_meets_none pieces at us u rest none p among =
-    ⊎_elim (none (at + length (units_bytes us), u) (next_among at us u rest) p) (λ h. inr (inl (ends_before p at us h)))
+    ⊎_elim (none (at + length (units_bytes us), u) (next_among at us u rest) p) (λ h. inr (inl (units_inside at us p h).1))
     (among_parts p pieces (units_from at us) among)
 
 size_more : (us : List Emitted) (u : Emitted) → length (units_bytes (us ++ u ∷ [])) ≡ length (units_bytes us) + length (unit_bytes u)

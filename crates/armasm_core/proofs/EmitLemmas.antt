@@ -1,5 +1,5 @@
 -- The lines of a layout, emitted one after the other.
-use Rattle.std.proofs.Common.{◌≡◌, ◌≤◌, ◌<◌, ◌-◌, ℕ, List, [], ◌∷◌, ◌++◌, length, take, drop, get_or, cond, inr, Option, Some, None, sym, ap, ◌∙◌, subst}
+use Rattle.std.proofs.Common.{◌≡◌, ◌≤◌, ◌<◌, ◌-◌, ℕ, List, [], ◌∷◌, ◌++◌, length, take, drop, get_or, cond, Option, Some, None, sym, ap, ◌∙◌, subst}
 use Rattle.std.specs.BTreeMap.{BTreeMap}
 use Rattle.std.proofs.lemmas.Bool.{cond-true}
 use Rattle.asm_instructions.specs.Scenes.{register_at}
@@ -21,9 +21,9 @@ use Rattle.asm_model.specs.Labels.{defined_by}
 use Rattle.asm_model.specs.Laid.{LaidLine, laid, reversed}
 use Rattle.asm_model.specs.Offsets.{is_of}
 use Rattle.asm_model.proofs.OffsetLemmas.{is_here}
-use Rattle.source_laws.specs.Laws.{InArmState, SourcesStandApart, ThingsAreListed, things_of, things_behind, things_in}
-use Rattle.source_laws.proofs.ListedLemmas.{among_first, own_things}
-use Rattle.source_model.specs.Objects.{Piece, IsAmong, StandsIn, source_of}
+use Rattle.source_laws.specs.Laws.{InArmState, SourcesStandApart}
+use Rattle.source_laws.proofs.ListedLemmas.{among_first, among_last, own_things}
+use Rattle.source_model.specs.Objects.{Piece, Source, IsAmong, StandsIn, source_of, things_of, things_behind, things_in}
 use Rattle.source_model.specs.Registers.{Named, register_in, registers_behind, named_by}
 use Rattle.source_model.specs.SourceFaults.{layout_faults}
 use Rattle.armasm_core.specs.declared.drafting.Growing.{Growing}
@@ -33,44 +33,41 @@ use Rattle.asm_reading.proofs.ReadLemmas.{nothing}
 
 -- ---- things of lines so far stand in the source
 
-later : (ss : List Statement) (area : ℕ) (p : Piece) (before rest : List LaidLine) → IsAmong p (things_behind ss area before rest)
-    → IsAmong p (things_behind ss area (reversed rest before) [])
-later ss area p before [] h = h
-later ss area p before (r ∷ rest) h =
-    later ss area p (r ∷ before) rest (among_first p (things_behind ss area before (r ∷ rest)) (things_of ss area r before rest) h)
+later : (s : Source) (area : ℕ) (p : Piece) (before rest : List LaidLine) → IsAmong p (things_behind s area before rest)
+    → IsAmong p (things_behind s area (reversed rest before) [])
+later s area p before [] h = h
+later s area p before (r ∷ rest) h =
+    later s area p (r ∷ before) rest (among_first p (things_behind s area before (r ∷ rest)) (things_of s area r before rest) h)
 
-pub stands_there : ThingsAreListed → (ss : List Statement) (area : ℕ) (p : Piece) (before rest : List LaidLine) → laid ss ≡ reversed rest before
-    → IsAmong p (things_behind ss area before rest) → StandsIn (source_of ss) area p
-stands_there law ss area p before rest parts h =
-    (law ss area p).1 (subst (λ (ls : List LaidLine). IsAmong p (things_behind ss area ls [])) (sym parts) (later ss area p before rest h))
+pub stands_there : (ss : List Statement) (area : ℕ) (p : Piece) (before rest : List LaidLine) → laid ss ≡ reversed rest before
+    → IsAmong p (things_behind (source_of ss) area before rest) → StandsIn (source_of ss) area p
+stands_there ss area p before rest parts h =
+    subst (λ (ls : List LaidLine). IsAmong p (things_behind (source_of ss) area ls [])) (sym parts) (later (source_of ss) area p before rest h)
 
 -- what a line puts into its area
 pub things_here : (ss : List Statement) (area : ℕ) (before rest : List LaidLine) (l : LaidLine) (more : List Piece) → l.area ≡ Some area → own_things ss l before rest ≡ more
-    → things_behind ss area (l ∷ before) rest ≡ things_behind ss area before (l ∷ rest) ++ more
+    → things_behind (source_of ss) area (l ∷ before) rest ≡ things_behind (source_of ss) area before (l ∷ rest) ++ more
 things_here ss area before rest l more here e =
-    ap (λ (ps : List Piece). things_behind ss area before (l ∷ rest) ++ ps) (cond-true (is_of area l.area) (own_things ss l before rest) [] (is_here area l.area here) ∙ e)
+    ap (λ (ps : List Piece). things_behind (source_of ss) area before (l ∷ rest) ++ ps)
+    (cond-true (is_of area l.area) (own_things ss l before rest) [] (is_here area l.area here) ∙ e)
 
-pub apart_there : ThingsAreListed → SourcesStandApart → (ss : List Statement) → layout_faults ss ≡ None → InArmState ss
+pub apart_there : SourcesStandApart → (ss : List Statement) → layout_faults ss ≡ None → InArmState ss
     → (before rest : List LaidLine) (l : LaidLine) (own : Option ℕ) (more : List Piece) → laid ss ≡ reversed rest (l ∷ before) → own ≡ l.area
-    → own_things ss l before rest ≡ more → MeetNoneThere (λ area. things_behind ss area before (l ∷ rest)) own more
-apart_there listed apart ss sound arm before rest l own more parts same e = λ area here q u p k.
+    → own_things ss l before rest ≡ more → MeetNoneThere (λ area. things_behind (source_of ss) area before (l ∷ rest)) own more
+apart_there apart ss sound arm before rest l own more parts same e = λ area here q u p k.
     let all = sym (things_here ss area before rest l more (sym same ∙ here) e) in
     apart ss sound arm area p q
-    (stands_there listed ss area p (l ∷ before) rest parts (subst (IsAmong p) all k))
-    (stands_there listed ss area q (l ∷ before) rest parts
-    (subst (IsAmong q) all (among_back q (things_behind ss area before (l ∷ rest)) more u)))
-  where
-    among_back : (q : Piece) (xs ys : List Piece) → IsAmong q ys → IsAmong q (xs ++ ys)
-    among_back q [] ys h = h
-    among_back q (x ∷ xs) ys h = inr (among_back q xs ys h)
+    (stands_there ss area p (l ∷ before) rest parts (subst (IsAmong p) all k))
+    (stands_there ss area q (l ∷ before) rest parts
+    (subst (IsAmong q) all (among_last q (things_behind (source_of ss) area before (l ∷ rest)) more u)))
 
 pub drafts_there : (ss : List Statement) (names : List (List ℕ)) (before rest : List LaidLine) (l : LaidLine) (own : Option ℕ) (more : List Piece) (gs : List Growing)
     → own ≡ l.area → own_things ss l before rest ≡ more
-    → AreDrafts names (with_line (λ area. things_behind ss area before (l ∷ rest)) own more) gs → AreDrafts names (λ area. things_behind ss area (l ∷ before) rest) gs
+    → AreDrafts names (with_line (λ area. things_behind (source_of ss) area before (l ∷ rest)) own more) gs → AreDrafts names (λ area. things_behind (source_of ss) area (l ∷ before) rest) gs
 drafts_there ss names before rest l own more gs same e h = λ area g is.
     subst (λ (ps : List Piece). IsDraft names ps g.draft)
-    (ap (λ (o : Option ℕ). things_behind ss area before (l ∷ rest) ++ cond (is_of area o) more []) same
-    ∙ ap (λ (ps : List Piece). things_behind ss area before (l ∷ rest) ++ cond (is_of area l.area) ps []) (sym e)) (h area g is)
+    (ap (λ (o : Option ℕ). things_behind (source_of ss) area before (l ∷ rest) ++ cond (is_of area o) more []) same
+    ∙ ap (λ (ps : List Piece). things_behind (source_of ss) area before (l ∷ rest) ++ cond (is_of area l.area) ps []) (sym e)) (h area g is)
 
 -- ---- all lines
 
@@ -91,8 +88,8 @@ grown_all ss names left known gs less h =
     let none = none_left h.before h.rest (subst (λ (xs : List LaidStatement). AreOn h.before h.rest xs) (nothing left less) h.lines) in
     let all : laid ss ≡ h.before = h.parts ∙ ap (λ (ls : List LaidLine). reversed ls h.before) none in
     λ area g is.
-    subst (λ (ls : List LaidLine). IsDraft names (things_behind ss area ls []) g.draft) (sym all)
-    (subst (λ (ls : List LaidLine). IsDraft names (things_behind ss area h.before ls) g.draft) none (h.drafts area g is))
+    subst (λ (ls : List LaidLine). IsDraft names (things_behind (source_of ss) area ls []) g.draft) (sym all)
+    (subst (λ (ls : List LaidLine). IsDraft names (things_behind (source_of ss) area h.before ls) g.draft) none (h.drafts area g is))
 
 -- the lines that are left begin with this one
 pub record Next (ss : List Statement) (l : Layout) (w : Whole) (names : List (List ℕ)) (x : LaidStatement) (more : List LaidStatement) (known : BTreeMap (List ℕ) ℕ) (gs : List Growing) : Type 0 where
@@ -101,7 +98,7 @@ pub record Next (ss : List Statement) (l : Layout) (w : Whole) (names : List (Li
   pub rest : List LaidLine
   pub here : IsHere ss l.areas w known before rest line x
   pub lines : AreOn (line ∷ before) rest more
-  pub drafts : AreDrafts names (λ area. things_behind ss area before (line ∷ rest)) gs
+  pub drafts : AreDrafts names (λ area. things_behind (source_of ss) area before (line ∷ rest)) gs
 
 next_of : (ss : List Statement) (l : Layout) (w : Whole) (names : List (List ℕ)) (x : LaidStatement) (more : List LaidStatement) (known : BTreeMap (List ℕ) ℕ) (gs : List Growing)
     → IsEmittable ss l w → IsGrown ss names (x ∷ more) known gs → Next ss l w names x more known gs
@@ -121,7 +118,7 @@ next_of ss l w names x more known gs j k =
         registers = k.registers;
       };
       lines = f.lines;
-      drafts = λ area g is. subst (λ (ls : List LaidLine). IsDraft names (things_behind ss area k.before ls) g.draft) f.parts (k.drafts area g is);
+      drafts = λ area g is. subst (λ (ls : List LaidLine). IsDraft names (things_behind (source_of ss) area k.before ls) g.draft) f.parts (k.drafts area g is);
     }
 
 pub next_there : (ss : List Statement) (l : Layout) (w : Whole) (names : List (List ℕ)) (x : LaidStatement) (left : List LaidStatement) (known : BTreeMap (List ℕ) ℕ) (gs : List Growing)
@@ -139,7 +136,7 @@ put_there ss l w names x more known gs n u us is h =
 
 pub grown_more : (ss : List Statement) (l : Layout) (w : Whole) (names : List (List ℕ)) (x : LaidStatement) (more : List LaidStatement) (known new : BTreeMap (List ℕ) ℕ) (gs hs : List Growing)
     (n : Next ss l w names x more known gs) (u : LineUnits) (us : List Code) → us ≡ u.units.items → IsPut ss n.before n.rest n.line u
-    → AreDrafts names (with_line (λ area. things_behind ss area n.before (n.line ∷ n.rest)) x.area (pieces_put x.offset us u.literal)) hs
+    → AreDrafts names (with_line (λ area. things_behind (source_of ss) area n.before (n.line ∷ n.rest)) x.area (pieces_put x.offset us u.literal)) hs
     → ((q : List ℕ) → register_in q new.entries ≡ register_in q (known.entries ++ gives u.number (defined_by x.statement)))
     → IsGrown ss names more new hs
 grown_more ss l w names x more known new gs hs n u us is put drafts noted = record {

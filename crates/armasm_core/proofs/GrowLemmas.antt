@@ -4,7 +4,7 @@ use Rattle.std.specs.List.{slice_get, slice_set}
 use Rattle.std.proofs.lemmas.Bool.{cond-true, cond-false, eqb-true, false_from_ne_true}
 use Rattle.std.proofs.lemmas.Option.{slice_get_read}
 use Rattle.armasm_core.specs.Drafts.{IsDraft, MeetNone}
-use Rattle.armasm_core.proofs.DraftLemmas.{among_front, among_behind}
+use Rattle.source_laws.proofs.ListedLemmas.{among_first as among_front, among_last as among_behind}
 use Rattle.armasm_core.specs.Writing.{AllCanStand}
 use Rattle.asm_pool.specs.declared.layout.LaidArea.{LaidArea}
 use Rattle.asm_model.specs.Offsets.{is_of}

@@ -19,8 +19,7 @@ use Rattle.asm_model.specs.Symbols.{symbols_of}
 use Rattle.asm_model.specs.Meaning.{named_in}
 use Rattle.object_laws.proofs.RelocLemmas.{length_map}
 use Rattle.layout_laws.proofs.SoundLemmas.{statements_kept}
-use Rattle.source_laws.specs.Laws.{ThingsAreListed, things_in}
-use Rattle.source_model.specs.Objects.{Piece, source_of, HoldsBytes, KeepsBytes, HasRelocs, IsRelocOf, IsArea, contents_of, is_kept, relocs_of, symbol_named, symbol_records}
+use Rattle.source_model.specs.Objects.{Piece, source_of, things_in, KeepsBytes, HasRelocs, IsRelocOf, IsArea, contents_of, is_kept, relocs_of, symbol_named, symbol_records}
 use Rattle.source_model.specs.SourceFaults.{layout_faults}
 use Rattle.armasm_core.specs.declared.drafting.Growing.{Growing}
 use Rattle.armasm_core.specs.Drafting.{AreDrafts, Frame, IsFinished, frame, frame_of, frames, kept_size, marks_zeroes}
@@ -73,33 +72,25 @@ no_bytes : (bytes : List ℕ) → length bytes ≡ 0 → bytes ≡ []
 no_bytes [] e = refl
 no_bytes (b ∷ bytes) e = absurd (omega arith)
 
-held_there : ThingsAreListed → (ss : List Statement) (area : ℕ) (bytes : List ℕ) → length bytes ≡ area_size area (pieces_of (laid ss))
-    → HoldsPieces (things_in (source_of ss) area) bytes → HoldsBytes (source_of ss) area bytes
-held_there law ss area bytes size h = record {
-  size = size;
-  standing = λ p s. h.standing p ((law ss area p).0 s);
-  others = λ i clear. h.others i (λ p k. clear p ((law ss area p).1 k));
-}
-
-keeps_there : ThingsAreListed → (ss : List Statement) (area attributes size : ℕ) (bytes : List ℕ) (b : Bool) → marks_zeroes attributes ≡ b
+keeps_there : (ss : List Statement) (area attributes size : ℕ) (bytes : List ℕ) (b : Bool) → marks_zeroes attributes ≡ b
     → is_kept (contents_of area (laid ss)) ≡ not (marks_zeroes attributes) → size ≡ area_size area (pieces_of (laid ss))
     → length bytes ≡ kept_size attributes size → HoldsPieces (things_in (source_of ss) area) bytes
     → KeepsBytes (source_of ss) area (is_kept (contents_of area (laid ss))) bytes
-keeps_there law ss area attributes size bytes true zeroes kept same count h =
+keeps_there ss area attributes size bytes true zeroes kept same count h =
     subst (λ (k : Bool). KeepsBytes (source_of ss) area k bytes) (sym (kept ∙ ap not zeroes))
     (no_bytes bytes (count ∙ ap (λ (k : Bool). cond k 0 size) zeroes))
-keeps_there law ss area attributes size bytes false zeroes kept same count h =
+keeps_there ss area attributes size bytes false zeroes kept same count h =
     subst (λ (k : Bool). KeepsBytes (source_of ss) area k bytes) (sym (kept ∙ ap not zeroes))
-    (held_there law ss area bytes (count ∙ ap (λ (k : Bool). cond k 0 size) zeroes ∙ same) h)
+    (record { size = count ∙ ap (λ (k : Bool). cond k 0 size) zeroes ∙ same; standing = h.standing; others = h.others })
 
 -- ---- its relocations
 
-relocs_there : RelocsAreOfSources → ThingsAreListed → (ss : List Statement) (names : List (List ℕ)) (area : ℕ) (relocs : List Reloc)
+relocs_there : RelocsAreOfSources → (ss : List Statement) (names : List (List ℕ)) (area : ℕ) (relocs : List Reloc)
     → names ≡ symbols_of (source_of ss).names (laid ss) → AreRelocs names (things_in (source_of ss) area) relocs → HasRelocs (source_of ss) area relocs
-relocs_there same law ss names area relocs e h = record {
+relocs_there same ss names area relocs e h = record {
   order = h.order;
-  all = λ p r s k. h.all p r ((law ss area p).0 s) (subst (λ (qs : List Reloc). IsRelocOf qs r) (sym (relocs_are p)) k);
-  no_others = λ r k. let o = h.no_others r k in (o.0, (law ss area o.0).1 o.1, subst (λ (qs : List Reloc). IsRelocOf qs r) (relocs_are o.0) o.2);
+  all = λ p r s k. h.all p r s (subst (λ (qs : List Reloc). IsRelocOf qs r) (sym (relocs_are p)) k);
+  no_others = λ r k. let o = h.no_others r k in (o.0, o.1, subst (λ (qs : List Reloc). IsRelocOf qs r) (relocs_are o.0) o.2);
 }
   where
     relocs_are : (p : Piece) → relocs_in names p ≡ relocs_of (source_of ss) p
@@ -107,10 +98,10 @@ relocs_there same law ss names area relocs e h = record {
 
 -- ---- all areas
 
-area_there : RelocsAreOfSources → ThingsAreListed → (ss : List Statement) (names : List (List ℕ)) (xs : List LaidArea) (area : ℕ) (a : Area) (g : Growing) (x : LaidArea)
+area_there : RelocsAreOfSources → (ss : List Statement) (names : List (List ℕ)) (xs : List LaidArea) (area : ℕ) (a : Area) (g : Growing) (x : LaidArea)
     → layout_faults ss ≡ None → AreAreas (laid ss) xs → names ≡ symbols_of (source_of ss).names (laid ss)
     → slice_get xs area ≡ Some x → frame g ≡ frame_of x → IsDraft names (things_in (source_of ss) area) g.draft → IsFinished g a → IsArea (source_of ss) area a
-area_there relocs law ss names xs area a g x sound laid_areas listed at same draft done =
+area_there relocs ss names xs area a g x sound laid_areas listed at same draft done =
     let i = laid_areas.each area x at in
     let name : a.name ≡ x.name = done.name ∙ ap (λ (f : Frame). f.name) same in
     let attributes : a.attributes ≡ x.attributes = done.attributes ∙ ap (λ (f : Frame). f.attributes) same in
@@ -120,19 +111,19 @@ area_there relocs law ss names xs area a g x sound laid_areas listed at same dra
       name = ap (λ (ss : List Statement). slice_get (areas_behind ss) area) (sym (statements_kept (declared_names ss) ss)) ∙ i.name ∙ ap Some (sym name);
       attributes = i.attributes ∙ ap Some (sym attributes);
       size = size ∙ i.size;
-      bytes = keeps_there law ss area x.attributes x.size a.bytes (marks_zeroes x.attributes) refl (zeroes_there ss sound area x.attributes i.attributes) i.size kept
+      bytes = keeps_there ss area x.attributes x.size a.bytes (marks_zeroes x.attributes) refl (zeroes_there ss sound area x.attributes i.attributes) i.size kept
           (done.held names (things_in (source_of ss) area) draft);
-      relocs = relocs_there relocs law ss names area a.relocs listed (done.relocs names (things_in (source_of ss) area) draft);
+      relocs = relocs_there relocs ss names area a.relocs listed (done.relocs names (things_in (source_of ss) area) draft);
     }
 
-pub areas_there : RelocsAreOfSources → ThingsAreListed → (ss : List Statement) (names : List (List ℕ)) (xs : List LaidArea) (gs : List Growing) (areas : List Area)
+pub areas_there : RelocsAreOfSources → (ss : List Statement) (names : List (List ℕ)) (xs : List LaidArea) (gs : List Growing) (areas : List Area)
     → layout_faults ss ≡ None → AreAreas (laid ss) xs → names ≡ symbols_of (source_of ss).names (laid ss)
     → frames gs ≡ map frame_of xs → AreDrafts names (things_in (source_of ss)) gs → AllZip IsFinished gs areas
     → (area : ℕ) (a : Area) → slice_get areas area ≡ Some a → IsArea (source_of ss) area a
-areas_there relocs law ss names xs gs areas sound laid_areas listed same drafts done = λ area a is.
+areas_there relocs ss names xs gs areas sound laid_areas listed same drafts done = λ area a is.
     let p = pair_there gs areas done area a is in
     let f = frame_there gs xs same area p.draft p.there in
-    area_there relocs law ss names xs area a p.draft f.laid_area sound laid_areas listed f.there f.same (drafts area p.draft p.there) p.finished
+    area_there relocs ss names xs area a p.draft f.laid_area sound laid_areas listed f.there f.same (drafts area p.draft p.there) p.finished
 
 pub count_there : (ss : List Statement) (xs : List LaidArea) (gs : List Growing) (areas : List Area) → AreAreas (laid ss) xs → frames gs ≡ map frame_of xs
     → AllZip IsFinished gs areas → length areas ≡ length (areas_behind ss)

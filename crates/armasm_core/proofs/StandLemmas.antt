@@ -3,7 +3,6 @@ use Rattle.std.proofs.Common.{◌≡◌, inl, inr, ⊎_elim, ◌≤◌, ◌<◌,
 use Rattle.std.specs.Prelude.{not}
 use Rattle.std.specs.BTreeMap.{BTreeMap}
 use Rattle.std.specs.List.{slice_get}
-use Rattle.armasm_core.proofs.DraftLemmas.{among_behind}
 use Rattle.armasm_core.specs.Writing.{AllCanStand, CanStand, HasNumber, HasWord, SymbolHasNumber, TargetHasNumber}
 use Rattle.armasm_core.specs.declared.putting.LineUnits.{LineUnits}
 use Rattle.armasm_core.specs.declared.putting.LiteralWord.{LiteralWord}
@@ -29,11 +28,9 @@ use Rattle.object_laws.proofs.RelocLemmas.{TargetBelow, UnitBelow, things_below}
 use Rattle.object_laws.proofs.SizeLemmas.{area_small}
 use Rattle.object_laws.proofs.TargetLemmas.{symbols_are_listed}
 use Rattle.source_laws.proofs.FaultlessLemmas.{sources_lie_in_areas}
-use Rattle.source_laws.proofs.ListedLemmas.{own_things, things_are_listed}
-use Rattle.source_laws.proofs.ThingLemmas.{among_either}
+use Rattle.source_laws.proofs.ListedLemmas.{among_either, among_last as among_behind, own_things}
 use Rattle.source_laws.proofs.ZeroLemmas.{zero_areas_hold_nothing}
-use Rattle.source_laws.specs.Laws.{things_behind}
-use Rattle.source_model.specs.Objects.{Piece, IsAmong, StandsIn, contents_of, is_kept, source_of, unit_bytes, units_from}
+use Rattle.source_model.specs.Objects.{Piece, IsAmong, StandsIn, contents_of, is_kept, source_of, things_behind, unit_bytes, units_from}
 use Rattle.source_model.specs.Units.{Emitted, Bytes, Word, Instruction, Target, Nothing, ByArea, BySymbol}
 use Rattle.armasm_core.specs.declared.drafting.Growing.{Growing}
 use Rattle.armasm_core.specs.Drafting.{Frame, LineCanStand, frame_of, frames, kept_size, marks_zeroes, pieces_put}
@@ -88,7 +85,7 @@ thing_number : (ss : List Statement) → AreFaultless ss → length ss < 2 ^ 24 
     → (area : ℕ) (p : Piece) → StandsIn (source_of ss) area p → HasNumber names p.1
 thing_number ss h few names listed area p x =
     unit_number names (length (areas_behind ss)) p.1 (below (length (areas_behind ss)) (length ss) (areas_few ss) few)
-    (subst (λ (ns : List (List ℕ)). UnitListed ns p.1) (sym listed) (symbols_are_listed ss area p x)) (things_below ss h area p x)
+    (subst (λ (ns : List (List ℕ)). UnitListed ns p.1) (sym listed) (symbols_are_listed ss h.layout area p x)) (things_below ss h area p x)
 
 -- ---- room
 
@@ -140,8 +137,8 @@ line_stands ss h few names listed areas w before rest l x there gs same us o put
         let a = area_there areas area less in
         let is = there.laid_out.each area a.0 a.1 in
         let stands = λ (p : Piece) (k : IsAmong p more).
-        stands_there things_are_listed ss area p (l ∷ before) rest there.parts
-        (subst (IsAmong p) (sym (things_here ss area before rest l more here puts)) (among_behind p (things_behind ss area before (l ∷ rest)) more k)) in
+        stands_there ss area p (l ∷ before) rest there.parts
+        (subst (IsAmong p) (sym (things_here ss area before rest l more here puts)) (among_behind p (things_behind (source_of ss) area before (l ∷ rest)) more k)) in
         record {
           own = frame_of a.0;
           there = ap (λ (fs : List Frame). slice_get fs area) same ∙ frame_got areas area a.0 a.1;

@@ -14,7 +14,8 @@ use Rattle.asm_model.specs.Symbols.{symbols_of}
 use Rattle.object_laws.specs.Laws.{AreFaultless}
 use Rattle.said_model.specs.Fit.{AllFit}
 use Rattle.said_model.specs.Said.{AllSaid, AllHaveTexts}
-use Rattle.source_laws.specs.Laws.{InArmState, things_behind}
+use Rattle.source_laws.specs.Laws.{InArmState}
+use Rattle.source_model.specs.Objects.{source_of, things_behind}
 use Rattle.source_model.specs.Registers.{register_in, registers_behind}
 use Rattle.source_model.specs.SourceFaults.{layout_faults}
 use Rattle.armasm_core.specs.declared.drafting.Growing.{Growing}
@@ -62,7 +63,7 @@ pub record IsGrown (statements : List Statement) (symbols : List (List ℕ)) (le
   pub parts : laid statements ≡ reversed rest before
   pub lines : AreOn before rest left
   pub registers : (q : List ℕ) → register_at known q ≡ register_in q (registers_behind before)
-  pub drafts : AreDrafts symbols (λ area. things_behind statements area before rest) gs
+  pub drafts : AreDrafts symbols (λ area. things_behind (source_of statements) area before rest) gs
 
 -- of the lines of the layout's source these are left
 pub record GrowsOn (l : Layout) (w : Whole) (symbols : List (List ℕ)) (left : List LaidStatement) (known : BTreeMap (List ℕ) ℕ) (gs : List Growing) : Type 0 where

@@ -10,8 +10,8 @@ ghost use Rattle.asm_model.specs.PlacedLines.{AllNamed};
 ghost use Rattle.asm_model.specs.Symbols as needs;
 ghost use Rattle.said_model.specs.Named.{AllLoadsNamed};
 ghost use Rattle.said_model.specs.Said.{AllSaid};
-ghost use Rattle.source_laws.specs.Laws.{InArmState, things_in};
-ghost use Rattle.source_model.specs.Objects.{IsObject, source_of, symbol_records};
+ghost use Rattle.source_laws.specs.Laws.{InArmState};
+ghost use Rattle.source_model.specs.Objects.{IsObject, source_of, symbol_records, things_in};
 ghost use Rattle.source_model.specs.SourceFaults.{layout_faults};
 ghost use Rattle.armasm_core.specs.Gathered.{AllLaidSaid};
 ghost use Rattle.armasm_core.specs.Whole.{IsWhole};
@@ -32,7 +32,7 @@ use asm_pool::Layout;
 use asm_units::Symbols;
 use sdt_fault::answer::Fault;
 use sdt_fault::{List, NoMemory};
-use source_laws::laws::{sources_stand_apart, things_are_listed};
+use source_laws::laws::sources_stand_apart;
 use stand_laws::laws::objects_stand;
 use std::alloc::Global;
 use std::collections::BTreeMap;
@@ -50,7 +50,6 @@ fn grown(
     ensures frames { IfOk result (λ gs. frames gs.items ≡ map frame_of layout.now.areas) }
     ensures drafts { IfOk result (λ gs. (statements : Items Statement) → IsEmittable statements layout.now whole.now → AreDrafts symbols.now (things_in (source_of statements)) gs.items) }
 {
-    things_are_listed();
     sources_stand_apart();
     let areas = layout.areas.as_slice();
     let mut growing = all_started(alloc, areas)?;
@@ -99,7 +98,6 @@ fn object_of(alloc: Global, layout: &Layout) -> Result<Object, NoMemory>
     ensures few { IfOk result (λ o. length o.symbols < 2 ^ 24) }
 {
     relocations_are_of_sources();
-    things_are_listed();
     let whole = whole_of(alloc, layout)?;
     let needed = symbols_of(alloc, layout, &whole)?;
     let symbols = few_records(alloc, layout, &whole, &needed)?;

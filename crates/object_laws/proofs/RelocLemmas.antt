@@ -40,7 +40,7 @@ use Rattle.source_model.specs.Units.{Emitted, Bytes, Word, Instruction, Stored, 
 use Rattle.source_laws.specs.Laws.{word_among, context_behind}
 use Rattle.source_laws.proofs.AgreeLemmas.{line_area}
 use Rattle.source_laws.proofs.FaultlessLemmas.{layout_sound}
-use Rattle.source_laws.proofs.ThingLemmas.{among_either, is_word, own_units, own_words}
+use Rattle.source_laws.proofs.PoolLemmas.{OwnUnit, PoolWord, unit_or_word}
 use Rattle.source_laws.proofs.ZeroLemmas.{place_below}
 use Rattle.object_laws.specs.Laws.{IsListed, OptionListed, TargetListed, UnitListed, AreFaultless}
 use Rattle.object_laws.proofs.AreaLemmas.{area_facts}
@@ -173,20 +173,8 @@ line_sees_below ss h after before l area e own =
 
 -- each area that a thing in an area is relocated by is one of the source
 pub things_below : (ss : List Statement) → AreFaultless ss → (area : ℕ) (p : Piece) → StandsIn (source_of ss) area p → UnitBelow (length (areas_behind ss)) p.1
-things_below ss h area p x = by_kind (among_either p (own_units ss rest l before) (own_words ss rest l before) x.among)
+things_below ss h area p x = by_kind (unit_or_word ss area p x)
   where
-    l : LaidLine
-    l = x.owner
-
-    before : List LaidLine
-    before = x.at.before
-
-    rest : List LaidLine
-    rest = x.at.rest
-
-    c : Context
-    c = context_behind ss l before
-
     count : ℕ
     count = length (areas_behind ss)
 
@@ -196,23 +184,24 @@ things_below ss h area p x = by_kind (among_either p (own_units ss rest l before
     plain : ArePlain ss
     plain = said_plain ss h.said
 
-    sees_below : SeesBelow count c
-    sees_below = line_sees_below ss h rest before l area x.at.parts x.own
+    by_result : (at : ℕ) (r : Result (List Emitted) LineKind) → ResultBelow count r → IsAmong p (units_from at (or_none r)) → UnitBelow count p.1
+    by_result at (Ok us) f k = unit_below count at us p f k
+    by_result at (Err j) f k = absurd k
 
-    by_result : (r : Result (List Emitted) LineKind) → ResultBelow count r → IsAmong p (units_from l.offset (or_none r)) → UnitBelow count p.1
-    by_result (Ok us) f k = unit_below count l.offset us p f k
-    by_result (Err j) f k = absurd k
-
-    by_kind : IsAmong p (own_units ss rest l before) ⊎ IsAmong p (own_words ss rest l before) → UnitBelow count p.1
-    by_kind (inl k) =
-        by_result (units c (datum_names ss) l.seen (word_among rest l before) l.statement.what)
-        (units_below count c (datum_names ss) l.seen (word_among rest l before) l.statement.what sees_below
-        (λ e i. value_own ss sound plain before l e i) (each_there IsFit ss h.fit rest before l x.at.parts)) k
-    by_kind (inr k) =
-        let w = is_word ss c (taken l.extent) (word_among rest l before) p k in
-        let y = subst (StoredBelow count) w.stores
-        (word_below count c (datum_names ss) (literal_value (sees c) w.value) sees_below (literal_own ss sound plain before l w.value)) in
-        subst (λ (t : Piece). UnitBelow count t.1) (sym w.is) y
+    by_kind : OwnUnit ss area p ⊎ PoolWord ss area p → UnitBelow count p.1
+    by_kind (inl u) =
+        let l = u.owner in
+        let c = context_behind ss l u.before in
+        by_result l.offset (units c (datum_names ss) l.seen (word_among u.after l u.before) l.statement.what)
+        (units_below count c (datum_names ss) l.seen (word_among u.after l u.before) l.statement.what (line_sees_below ss h u.after u.before l area u.parts u.own)
+        (λ e i. value_own ss sound plain u.before l e i) (each_there IsFit ss h.fit u.after u.before l u.parts)) u.among
+    by_kind (inr w) =
+        let c = context_behind ss w.loader w.before in
+        let v = literal_value (sees c) w.word.value in
+        let below = subst (StoredBelow count) w.word.stores
+        (word_below count c (datum_names ss) v (line_sees_below ss h w.after w.before w.loader area w.parts w.own)
+        (literal_own ss sound plain w.before w.loader w.word.value)) in
+        subst (λ (t : Piece). UnitBelow count t.1) (sym w.word.is) below
 
 -- ---- relocations
 
@@ -285,7 +274,7 @@ relocs_valid ss h areas symbols few area relocs x =
     each_reloc (IsReloc areas symbols) relocs
     (λ r i.
     let p = x.no_others r i in
-    piece_valid ss areas symbols few p.0.0 p.0.1 (symbols_are_listed ss area p.0 p.1)
+    piece_valid ss areas symbols few p.0.0 p.0.1 (symbols_are_listed ss h.layout area p.0 p.1)
     (subst (λ n. UnitBelow n p.0.1) few.areas_are (things_below ss h area p.0 p.1)) r p.2)
 
 -- ---- bytes

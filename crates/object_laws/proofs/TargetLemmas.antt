@@ -1,5 +1,5 @@
 -- The symbols that relocations name are listed.
-use Rattle.std.proofs.Common.{◌≡◌, ℕ, ◌+◌, List, [], ◌∷◌, ◌++◌, length, Bool, true, false, cond, ◌||◌, refl, sym, ◌∙◌, subst, Option, Some, None, ◌⊎◌, inl, inr}
+use Rattle.std.proofs.Common.{◌≡◌, ℕ, ◌+◌, List, [], ◌∷◌, ◌++◌, length, Bool, true, false, cond, ◌||◌, refl, sym, ◌∙◌, ap, subst, Option, Some, None, ◌⊎◌, inl, inr}
 use Rattle.std.specs.Prelude.{Result, Ok, Err}
 use Rattle.std.specs.List.{AllByRecursion, list_any}
 use Rattle.std.proofs.lemmas.Bool.{or_left, or_right}
@@ -37,9 +37,12 @@ use Rattle.source_model.specs.PseudoForms.{pseudo_instructions}
 use Rattle.source_model.specs.Units.{Emitted, Bytes, Word, Instruction, Stored, Target, Nothing, ByArea, BySymbol, placed, stored, word_units, narrow, half_units, byte_operand, byte_units, linked_symbol, branch_symbol, instruction_units, units}
 use Rattle.source_laws.specs.Laws.{word_among, context_behind}
 use Rattle.source_laws.proofs.AgreeLemmas.{line_area}
-use Rattle.source_laws.proofs.ThingLemmas.{among_either, is_word, own_units, own_words, seen_extent}
+use Rattle.source_laws.proofs.FaultlessLemmas.{layout_sound}
+use Rattle.source_laws.proofs.PoolLemmas.{OwnUnit, PoolWord, unit_or_word}
+use Rattle.source_laws.proofs.SizeLemmas.{IsPseudo, loads_are_pseudo}
+use Rattle.source_laws.proofs.ThingLemmas.{known_extent}
+use Rattle.source_model.specs.SourceFaults.{layout_faults}
 use Rattle.object_laws.specs.Laws.{IsListed, OptionListed, TargetListed, UnitListed}
-use Rattle.source_laws.proofs.WordLemmas.{taken_loads as taken_loading}
 
 -- ---- lists of names
 
@@ -231,55 +234,6 @@ line_listed c d s word e (what.Directive l) here = tt
 
 -- ---- literals
 
-abbrev pub LoadsNothing : Extent → Type 0
-LoadsNothing (Loading n v) = ⊥
-LoadsNothing _ = Unit {0}
-
-abbrev pub OkLoadsNothing : Result Extent LineKind → Type 0
-OkLoadsNothing (Ok e) = LoadsNothing e
-OkLoadsNothing (Err k) = Unit {0}
-
-pub mapped_loads_nothing : (f : ℕ → Extent) (r : Result ℕ LineKind) → ((n : ℕ) → LoadsNothing (f n)) → OkLoadsNothing (mapped f r)
-mapped_loads_nothing f (Ok n) h = h n
-mapped_loads_nothing f (Err k) h = tt
-
-pub pair_loads_nothing : (f : ℕ → ℕ → Extent) (r q : Result ℕ LineKind) → ((m n : ℕ) → LoadsNothing (f m n)) → OkLoadsNothing (on_both f r q)
-pair_loads_nothing f (Ok m) (Ok n) h = h m n
-pair_loads_nothing f (Ok m) (Err k) h = tt
-pair_loads_nothing f (Err k) (Ok n) h = tt
-pair_loads_nothing f (Err k) (Err j) h = tt
-
-pub padding_loads_nothing : (s : Sight) (b : Boundary) → OkLoadsNothing (padding s b)
-padding_loads_nothing s limit.Word = tt
-padding_loads_nothing s (limit.Multiple e) = mapped_loads_nothing (λ m. Padding m 0) (as_multiple (number_there s e)) (λ n. tt)
-padding_loads_nothing s (limit.Behind e f) = pair_loads_nothing (λ m n. Padding m n) (as_multiple (number_there s e)) (number_there s f) (λ m n. tt)
-
-pub entry_loads_nothing : (b : Bool) → LoadsNothing (cond b (Block 2 0) (Block 4 0))
-entry_loads_nothing true = tt
-entry_loads_nothing false = tt
-
-pub thumb_loads_nothing : (l : ThumbLine) → LoadsNothing (thumb_extent l)
-thumb_loads_nothing (thumb.BranchLink target) = tt
-thumb_loads_nothing l = tt
-
-pub directive_loads_nothing : (s : Sight) (l : DirectiveLine) → OkLoadsNothing (extent_of s (what.Directive l))
-directive_loads_nothing s line.Entry = entry_loads_nothing s.known.thumb
-directive_loads_nothing s (line.Space e) = mapped_loads_nothing (λ n. Block 1 n) (number_there s e) (λ n. tt)
-directive_loads_nothing s (line.Align b) = padding_loads_nothing s b
-directive_loads_nothing s l = tt
-
--- only a pseudo-instruction has a literal
-abbrev pub IsPseudo : What → Type 0
-IsPseudo (what.Pseudo l) = Unit {0}
-IsPseudo _ = ⊥
-
-pub loading_pseudo : (s : Sight) (w : What) (n : ℕ) (v : Value) → extent_of s w ≡ Ok (Loading n v) → IsPseudo w
-loading_pseudo s what.Nothing n v e = subst OkLoadsNothing e tt
-loading_pseudo s (what.Arm l) n v e = subst OkLoadsNothing e tt
-loading_pseudo s (what.Thumb l) n v e = subst OkLoadsNothing e (thumb_loads_nothing l)
-loading_pseudo s (what.Pseudo l) n v e = tt
-loading_pseudo s (what.Directive l) n v e = subst OkLoadsNothing e (directive_loads_nothing s l)
-
 pub literal_fewer : (names : List LaidName) (l : SourceLine) (e : Extent) (w : What) → IsPseudo w → Fewer (literal_symbols names l e) (symbols_in names l e w)
 literal_fewer names l e (what.Pseudo p) h q k = k
 literal_fewer names l e what.Nothing h q k = absurd h
@@ -291,43 +245,41 @@ pub here_there : (ss : List Statement) (after before : List LaidLine) (l : LaidL
     → InArea (context_behind ss l before)
 here_there ss after before l area e own = (area, line_area ss after before l e ∙ own)
 
-pub things_listed : (ss : List Statement) (area : ℕ) (after before : List LaidLine) (l : LaidLine) (p : Piece) → laid ss ≡ after ++ l ∷ before → l.area ≡ Some area
-    → IsAmong p (own_units ss after l before) ⊎ IsAmong p (own_words ss after l before)
-    → UnitListed (symbols_in (final_names (laid ss)) l.line (taken l.extent) l.statement.what) p.1
-things_listed ss area after before l p e own h = by_kind h
-  where
-    c : Context
-    c = context_behind ss l before
-
-    here : InArea c
-    here = here_there ss after before l area e own
-
-    by_result : (r : Result (List Emitted) LineKind) → ResultListed (symbols_in c.names c.line (taken l.extent) l.statement.what) r
-        → IsAmong p (units_from l.offset (or_none r)) → UnitListed (symbols_in c.names c.line (taken l.extent) l.statement.what) p.1
-    by_result (Ok us) f k = unit_there (symbols_in c.names c.line (taken l.extent) l.statement.what) l.offset us p f k
-    by_result (Err j) f k = absurd k
-
-    by_kind : IsAmong p (own_units ss after l before) ⊎ IsAmong p (own_words ss after l before)
-        → UnitListed (symbols_in c.names c.line (taken l.extent) l.statement.what) p.1
-    by_kind (inl k) =
-        by_result (units c (datum_names ss) l.seen (word_among after l before) l.statement.what)
-        (line_listed c (datum_names ss) l.seen (word_among after l before) (taken l.extent) l.statement.what here) k
-    by_kind (inr k) =
-        let x = is_word ss c (taken l.extent) (word_among after l before) p k in
-        let y = subst (StoredListed (word_symbols (sees c) (literal_value (sees c) x.value))) x.stores (word_listed c (datum_names ss) (literal_value (sees c) x.value) here) in
-        let z = subst (λ t. TargetListed (literal_symbols c.names c.line t) x.holds.target) (sym x.extent) y in
-        let pseudo = loading_pseudo l.seen l.statement.what x.size x.value
-        (sym (seen_extent ss after before l e).0 ∙ taken_loading l.extent x.size x.value x.extent) in
-        subst (λ (t : Piece). UnitListed (symbols_in c.names c.line (taken l.extent) l.statement.what) t.1) (sym x.is)
-        (target_more (literal_symbols c.names c.line (taken l.extent)) (symbols_in c.names c.line (taken l.extent) l.statement.what) x.holds.target
-        (literal_fewer c.names c.line (taken l.extent) l.statement.what pseudo) z)
-
-pub symbols_are_listed : (ss : List Statement) (area : ℕ) (p : Piece) → StandsIn (source_of ss) area p
+pub symbols_are_listed : (ss : List Statement) → layout_faults ss ≡ None → (area : ℕ) (p : Piece) → StandsIn (source_of ss) area p
     → UnitListed (symbols_of (final_names (laid ss)) (laid ss)) p.1
-symbols_are_listed ss area p x =
-    let names = final_names (laid ss) in
-    let own = symbols_in names x.owner.line (taken x.owner.extent) x.owner.statement.what in
-    subst (λ z. UnitListed (symbols_of names z) p.1) (sym x.at.parts)
-    (unit_more own (symbols_of names (x.at.rest ++ x.owner ∷ x.at.before)) p.1 (lines_listed names x.at.rest x.at.before x.owner)
-    (things_listed ss area x.at.rest x.at.before x.owner p x.at.parts x.own
-    (among_either p (own_units ss x.at.rest x.owner x.at.before) (own_words ss x.at.rest x.owner x.at.before) x.among)))
+symbols_are_listed ss none area p x = by_kind (unit_or_word ss area p x)
+  where
+    names : List LaidName
+    names = final_names (laid ss)
+
+    own : LaidLine → List (List ℕ)
+    own l = symbols_in names l.line (taken l.extent) l.statement.what
+
+    -- what is listed at a line is listed
+    there : (after before : List LaidLine) (l : LaidLine) → laid ss ≡ after ++ l ∷ before → UnitListed (own l) p.1 → UnitListed (symbols_of names (laid ss)) p.1
+    there after before l e h =
+        subst (λ z. UnitListed (symbols_of names z) p.1) (sym e)
+        (unit_more (own l) (symbols_of names (after ++ l ∷ before)) p.1 (lines_listed names after before l) h)
+
+    by_result : (ns : List (List ℕ)) (at : ℕ) (r : Result (List Emitted) LineKind) → ResultListed ns r → IsAmong p (units_from at (or_none r)) → UnitListed ns p.1
+    by_result ns at (Ok us) f k = unit_there ns at us p f k
+    by_result ns at (Err j) f k = absurd k
+
+    by_kind : OwnUnit ss area p ⊎ PoolWord ss area p → UnitListed (symbols_of names (laid ss)) p.1
+    by_kind (inl u) =
+        let l = u.owner in
+        let c = context_behind ss l u.before in
+        there u.after u.before l u.parts
+        (by_result (own l) l.offset (units c (datum_names ss) l.seen (word_among u.after l u.before) l.statement.what)
+        (line_listed c (datum_names ss) l.seen (word_among u.after l u.before) (taken l.extent) l.statement.what (here_there ss u.after u.before l area u.parts u.own)) u.among)
+    by_kind (inr w) =
+        let l = w.loader in
+        let c = context_behind ss l w.before in
+        let v = literal_value (sees c) w.word.value in
+        let word = subst (StoredListed (word_symbols (sees c) v)) w.word.stores (word_listed c (datum_names ss) v (here_there ss w.after w.before l area w.parts w.own)) in
+        let literal = subst (λ t. UnitListed (literal_symbols names l.line t) p.1) (sym w.word.extent)
+        (subst (λ (t : Piece). UnitListed (word_symbols (sees c) v) t.1) (sym w.word.is) word) in
+        let pseudo = loads_are_pseudo l.seen l.statement.what w.word.size w.word.value
+        (known_extent ss (layout_sound ss none) w.after w.before l w.parts ∙ ap Ok w.word.extent) in
+        there w.after w.before l w.parts
+        (unit_more (literal_symbols names l.line (taken l.extent)) (own l) p.1 (literal_fewer names l.line (taken l.extent) l.statement.what pseudo) literal)

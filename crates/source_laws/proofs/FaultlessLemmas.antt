@@ -17,7 +17,7 @@ use Rattle.source_model.specs.Registers.{register_names, register_kinds}
 use Rattle.source_model.specs.SourceFaults.{first_laid, layout_faults}
 use Rattle.source_laws.specs.Laws.{InArmState, StandApart, IsNoCode16, NoCode16}
 use Rattle.source_laws.proofs.ListLemmas.{same_first, same_rest}
-use Rattle.source_laws.proofs.ThingLemmas.{things_stand_apart, things_lie_in_areas}
+use Rattle.source_laws.proofs.ApartLemmas.{things_stand_apart, things_lie_in_areas}
 use Rattle.asm_model.specs.Labels.{declared_names}
 use Rattle.asm_model.specs.declared.names.LaidName.{LaidName}
 

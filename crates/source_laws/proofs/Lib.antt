@@ -1,9 +1,11 @@
 pub mod AgreeLemmas
+pub mod ApartLemmas
 pub mod FaultlessLemmas
 pub mod LineLemmas
 pub mod ListLemmas
 pub mod ListedLemmas
 pub mod ObjectLemmas
+pub mod PoolLemmas
 pub mod SizeLemmas
 pub mod ThingLemmas
 pub mod UnitLemmas

@@ -6,10 +6,18 @@ use Rattle.asm_model.specs.Laid.{LaidLine, taken, pieces_of, laid}
 use Rattle.asm_model.specs.Marks.{datum_names}
 use Rattle.asm_model.specs.Offsets.{is_of}
 use Rattle.asm_model.proofs.OffsetLemmas.{is_here}
-use Rattle.source_model.specs.Objects.{Piece, pieces_in, source_of, in_order, IsAmong, StandsIn}
+use Rattle.source_model.specs.Objects.{Piece, pieces_in, source_of, in_order, things_of, things_behind, IsAmong, StandsIn}
 use Rattle.source_model.specs.SourceFaults.{word_of}
-use Rattle.source_laws.specs.Laws.{context_behind, things_of, things_behind, things_in}
-use Rattle.source_laws.proofs.ThingLemmas.{among_either}
+use Rattle.source_laws.specs.Laws.{context_behind}
+
+pub among_either : (p : Piece) (xs ys : List Piece) → IsAmong p (xs ++ ys) → IsAmong p xs ⊎ IsAmong p ys
+among_either p [] ys h = inr h
+among_either p (x ∷ xs) ys (inl e) = inl (inl e)
+among_either p (x ∷ xs) ys (inr h) = later (among_either p xs ys h)
+  where
+    later : IsAmong p xs ⊎ IsAmong p ys → IsAmong p (x ∷ xs) ⊎ IsAmong p ys
+    later (inl k) = inl (inr k)
+    later (inr k) = inr k
 
 pub among_first : (p : Piece) (xs ys : List Piece) → IsAmong p xs → IsAmong p (xs ++ ys)
 among_first p [] ys h = absurd h
@@ -29,36 +37,37 @@ pub owned : (area : ℕ) (o : Option ℕ) → is_of area o ≡ true → o ≡ So
 owned area None h = absurd (cc)
 owned area (Some a) h = ap Some (eqb-true a area h)
 
-pub listed_there : (ss : List Statement) (area : ℕ) (p : Piece) (after before rest : List LaidLine) (l : LaidLine) → l.area ≡ Some area
-    → IsAmong p (own_things ss l before (in_order after rest)) → IsAmong p (things_behind ss area (after ++ l ∷ before) rest)
+listed_there : (ss : List Statement) (area : ℕ) (p : Piece) (after before rest : List LaidLine) (l : LaidLine) → l.area ≡ Some area
+    → IsAmong p (own_things ss l before (in_order after rest)) → IsAmong p (things_behind (source_of ss) area (after ++ l ∷ before) rest)
 listed_there ss area p [] before rest l here h =
-    among_last p (things_behind ss area before (l ∷ rest)) (things_of ss area l before rest)
+    among_last p (things_behind (source_of ss) area before (l ∷ rest)) (things_of (source_of ss) area l before rest)
     (subst (IsAmong p) (sym (cond-true (is_of area l.area) (own_things ss l before rest) [] (is_here area l.area here))) h)
 listed_there ss area p (x ∷ after) before rest l here h =
-    among_first p (things_behind ss area (after ++ l ∷ before) (x ∷ rest)) (things_of ss area x (after ++ l ∷ before) rest)
+    among_first p (things_behind (source_of ss) area (after ++ l ∷ before) (x ∷ rest)) (things_of (source_of ss) area x (after ++ l ∷ before) rest)
     (listed_there ss area p after before (x ∷ rest) l here h)
 
--- the line of a thing in the list
+-- the line of a thing among these
 pub record Owner (ss : List Statement) (area : ℕ) (p : Piece) (lines rest : List LaidLine) : Type 0 where
-  pub holder : LaidLine
+  pub owner : LaidLine
   pub after : List LaidLine
   pub before : List LaidLine
-  pub parts : lines ≡ after ++ holder ∷ before
-  pub own : holder.area ≡ Some area
-  pub among : IsAmong p (own_things ss holder before (in_order after rest))
+  pub parts : lines ≡ after ++ owner ∷ before
+  pub own : owner.area ≡ Some area
+  pub among : IsAmong p (own_things ss owner before (in_order after rest))
 
-pub owner_of : (ss : List Statement) (area : ℕ) (p : Piece) (lines rest : List LaidLine) → IsAmong p (things_behind ss area lines rest) → Owner ss area p lines rest
-owner_of ss area p [] rest h = absurd h
-owner_of ss area p (l ∷ before) rest h =
-    by_side (λ k. owner_of ss area p before (l ∷ rest) k) (among_either p (things_behind ss area before (l ∷ rest)) (things_of ss area l before rest) h)
+owner_among : (ss : List Statement) (area : ℕ) (p : Piece) (lines rest : List LaidLine) → IsAmong p (things_behind (source_of ss) area lines rest) → Owner ss area p lines rest
+owner_among ss area p [] rest h = absurd h
+owner_among ss area p (l ∷ before) rest h =
+    by_side (λ k. owner_among ss area p before (l ∷ rest) k)
+    (among_either p (things_behind (source_of ss) area before (l ∷ rest)) (things_of (source_of ss) area l before rest) h)
   where
     here : (b : Bool) → is_of area l.area ≡ b → IsAmong p (cond b (own_things ss l before rest) []) → Owner ss area p (l ∷ before) rest
-    here true e k = record { holder = l; after = []; before = before; parts = refl; own = owned area l.area e; among = k }
+    here true e k = record { owner = l; after = []; before = before; parts = refl; own = owned area l.area e; among = k }
     here false e k = absurd k
 
     earlier : Owner ss area p before (l ∷ rest) → Owner ss area p (l ∷ before) rest
     earlier o = record {
-      holder = o.holder;
+      owner = o.owner;
       after = l ∷ o.after;
       before = o.before;
       parts = ap (λ z. l ∷ z) o.parts;
@@ -66,21 +75,15 @@ owner_of ss area p (l ∷ before) rest h =
       among = o.among;
     }
 
-    by_side : (IsAmong p (things_behind ss area before (l ∷ rest)) → Owner ss area p before (l ∷ rest))
-        → IsAmong p (things_behind ss area before (l ∷ rest)) ⊎ IsAmong p (things_of ss area l before rest) → Owner ss area p (l ∷ before) rest
+    by_side : (IsAmong p (things_behind (source_of ss) area before (l ∷ rest)) → Owner ss area p before (l ∷ rest))
+        → IsAmong p (things_behind (source_of ss) area before (l ∷ rest)) ⊎ IsAmong p (things_of (source_of ss) area l before rest) → Owner ss area p (l ∷ before) rest
     by_side f (inl k) = earlier (f k)
     by_side f (inr k) = here (is_of area l.area) refl k
 
-pub is_listed : (ss : List Statement) (area : ℕ) (p : Piece) → StandsIn (source_of ss) area p → IsAmong p (things_in (source_of ss) area)
-is_listed ss area p x =
-    subst (λ z. IsAmong p (things_behind ss area z [])) (sym x.at.parts) (listed_there ss area p x.at.rest x.at.before [] x.owner x.own x.among)
+pub owner_of : (ss : List Statement) (area : ℕ) (p : Piece) → StandsIn (source_of ss) area p → Owner ss area p (laid ss) []
+owner_of ss area p h = owner_among ss area p (laid ss) [] h
 
-pub stands_listed : (ss : List Statement) (area : ℕ) (p : Piece) → IsAmong p (things_in (source_of ss) area) → StandsIn (source_of ss) area p
-stands_listed ss area p h =
-    let o = owner_of ss area p (laid ss) [] h in
-    record { owner = o.holder; at = record { before = o.before; rest = o.after; parts = o.parts }; own = o.own; among = o.among }
-
-pub things_are_listed : (ss : List Statement) (area : ℕ) (p : Piece)
-    → (StandsIn (source_of ss) area p → IsAmong p (things_in (source_of ss) area))
-    × (IsAmong p (things_in (source_of ss) area) → StandsIn (source_of ss) area p)
-things_are_listed ss area p = (is_listed ss area p, stands_listed ss area p)
+pub line_thing : (ss : List Statement) (area : ℕ) (p : Piece) (after before : List LaidLine) (l : LaidLine) → laid ss ≡ after ++ l ∷ before → l.area ≡ Some area
+    → IsAmong p (own_things ss l before (in_order after [])) → StandsIn (source_of ss) area p
+line_thing ss area p after before l e here h =
+    subst (λ z. IsAmong p (things_behind (source_of ss) area z [])) (sym e) (listed_there ss area p after before [] l here h)

@@ -8,9 +8,7 @@ use Rattle.aof_object.specs.declared.records.Area.{Area}
 use Rattle.aof_object.specs.declared.records.Object.{Object}
 use Rattle.aof_object.specs.declared.records.Reloc.{Reloc}
 use Rattle.asm_model.specs.declared.statements.Statement.{Statement}
-use Rattle.source_model.specs.Objects.{Piece, unit_bytes, Source, source_of, IsAmong, HoldsBytes, IsRelocOf, IsRising, HasRelocs, contents_of, is_kept, KeepsBytes, IsArea, IsObject}
-use Rattle.source_laws.specs.Laws.{things_in}
-use Rattle.source_laws.proofs.ListedLemmas.{is_listed, stands_listed}
+use Rattle.source_model.specs.Objects.{Piece, unit_bytes, Source, source_of, IsAmong, things_in, HoldsBytes, IsRelocOf, IsRising, HasRelocs, contents_of, is_kept, KeepsBytes, IsArea, IsObject}
 
 -- ---- lists
 
@@ -76,10 +74,9 @@ same_bytes ss area us vs h k =
         → ((p : Piece) × IsAmong p (things_in (source_of ss) area) × Covers p i) ⊎ ((p : Piece) → IsAmong p (things_in (source_of ss) area) → Misses p i)
         → get_or us i 0 ≡ get_or vs i 0
     by_place i (inl q) =
-        let s = stands_listed ss area q.0 q.1 in
-        same_there (length (unit_bytes q.0.1)) q.0.0 i us vs (unit_bytes q.0.1) (h.standing q.0 s) (k.standing q.0 s) q.2.0 q.2.1
+        same_there (length (unit_bytes q.0.1)) q.0.0 i us vs (unit_bytes q.0.1) (h.standing q.0 q.1) (k.standing q.0 q.1) q.2.0 q.2.1
     by_place i (inr f) =
-        h.others i (λ p s. f p (is_listed ss area p s)) ∙ sym (k.others i (λ p s. f p (is_listed ss area p s)))
+        h.others i f ∙ sym (k.others i f)
 
 pub same_kept : (ss : List Statement) (area : ℕ) (kept : Bool) (us vs : List ℕ) → KeepsBytes (source_of ss) area kept us → KeepsBytes (source_of ss) area kept vs → us ≡ vs
 same_kept ss area true us vs h k = same_bytes ss area us vs h k

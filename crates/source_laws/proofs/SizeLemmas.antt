@@ -1,5 +1,5 @@
 -- What a statement puts into its area is as long as what it takes up, or empty.
-use Rattle.std.proofs.Common.{◌≡◌, ℕ, ◌+◌, ◌-◌, ◌*◌, ◌%◌, ◌^◌, ◌≤◌, nat_lt, nat_le, ◌||◌, List, [], ◌∷◌, length, length-append, Bool, true, false, cond, refl, sym, ◌∙◌, ap, subst, arith, Option, Some, None}
+use Rattle.std.proofs.Common.{◌≡◌, ℕ, ◌+◌, ◌-◌, ◌*◌, ◌%◌, ◌^◌, ◌≤◌, nat_lt, nat_le, ◌||◌, List, [], ◌∷◌, length, length-append, Bool, true, false, cond, refl, sym, ◌∙◌, ap, subst, arith, Option, Some, None, ◌⊎◌, inl, inr}
 use Rattle.std.specs.Prelude.{Result, Ok, Err}
 use Rattle.sdt_word.specs.Bytes.{bytes_of}
 use Rattle.sdt_word.specs.declared.codes.Condition.{Condition}
@@ -10,6 +10,7 @@ use Rattle.arm_isa.specs.declared.instr.ArmInstr.{ArmInstr}
 use Rattle.arm_isa.specs.declared.instr.Operation.{Operation}
 use Rattle.arm_isa.specs.declared.instr.Operation.TheVariants.{Add, Sub, Mov}
 use Rattle.arm_isa.specs.declared.instr.ArmInstr.TheVariants as instr
+use Rattle.asm_model.specs.declared.directives.Boundary.TheVariants as limit
 use Rattle.asm_model.specs.declared.directives.DirectiveLine.{DirectiveLine}
 use Rattle.asm_model.specs.declared.directives.DirectiveLine.TheVariants as line
 use Rattle.asm_model.specs.declared.exprs.Expr.{Expr}
@@ -23,7 +24,7 @@ use Rattle.asm_model.specs.declared.values.Value.{Value}
 use Rattle.asm_model.specs.declared.values.Value.TheVariants.{Number, Truth, Words, Place}
 use Rattle.asm_model.specs.AtLine.{Sight}
 use Rattle.asm_model.specs.Says.{on_both, mapped}
-use Rattle.asm_model.specs.Extents.{Extent, Block, Padding, Loading, Pool, value_there, literal_there, is_moved, instruction, loading, thumb_extent, byte_count, byte_counts, extent_of}
+use Rattle.asm_model.specs.Extents.{Extent, Block, Padding, Loading, Pool, value_there, number_there, as_multiple, literal_there, is_moved, instruction, loading, thumb_extent, byte_count, byte_counts, extent_of}
 use Rattle.asm_model.specs.Offsets.{size_of}
 use Rattle.source_model.specs.ArmForms.{arm_instruction}
 use Rattle.source_model.specs.Contexts.{Context, value_of, number_in, register, and_then, offset_below, own_offset, from_pc}
@@ -269,61 +270,84 @@ units_fit c d s word w e us state x y literals at = by_test (is_filled w) refl
     by_test true h = same_within (length (units_bytes us)) (size_of literals at e) (units_fill c d s word w e us h state x y literals at)
     by_test false h = subst (Within (size_of literals at e)) (sym (other_units_are_none c d s word w h) ∙ y) (nothing_within (size_of literals at e))
 
--- ---- pools
+-- ---- pools and literals
 
-abbrev NoPool : Result Extent LineKind → Type 0
-NoPool (Ok Pool) = ⊥
-NoPool (Ok (Block a n)) = Unit {0}
-NoPool (Ok (Padding m n)) = Unit {0}
-NoPool (Ok (Loading n v)) = Unit {0}
-NoPool (Err k) = Unit {0}
+abbrev pub IsPseudo : What → Type 0
+IsPseudo (what.Pseudo l) = Unit {0}
+IsPseudo _ = ⊥
 
-pub moved_no_pool : (b : Bool) (v : Value) → NoPool (Ok (cond b (Block 4 4) (Loading 4 v)))
-moved_no_pool true v = tt
-moved_no_pool false v = tt
+-- only LTORG takes up a pool, and only a pseudo-instruction loads a literal
+abbrev IsSaid : What → Result Extent LineKind → Type 0
+IsSaid w (Ok Pool) = w ≡ what.Directive line.Ltorg
+IsSaid w (Ok (Loading n v)) = IsPseudo w
+IsSaid w r = Unit {0}
 
-pub load_no_pool : (state : Bool) (x : Result Value LineKind) → NoPool (mapped (loading state) x)
-load_no_pool true (Ok (Number n)) = tt
-load_no_pool true (Ok (Truth b)) = tt
-load_no_pool true (Ok (Words w)) = tt
-load_no_pool true (Ok (Place s n)) = tt
-load_no_pool false (Ok (Number n)) = moved_no_pool (is_moved n) (Number n)
-load_no_pool false (Ok (Truth b)) = tt
-load_no_pool false (Ok (Words w)) = tt
-load_no_pool false (Ok (Place s n)) = tt
-load_no_pool state (Err k) = tt
+moved_said : (l : PseudoLine) (b : Bool) (v : Value) → IsSaid (what.Pseudo l) (Ok (cond b (Block 4 4) (Loading 4 v)))
+moved_said l true v = tt
+moved_said l false v = tt
 
-pub instruction_no_pool : (state : Bool) → NoPool (Ok (instruction state))
-instruction_no_pool true = tt
-instruction_no_pool false = tt
+load_said : (l : PseudoLine) (state : Bool) (x : Result Value LineKind) → IsSaid (what.Pseudo l) (mapped (loading state) x)
+load_said l true (Ok (Number n)) = tt
+load_said l true (Ok (Truth b)) = tt
+load_said l true (Ok (Words v)) = tt
+load_said l true (Ok (Place s n)) = tt
+load_said l false (Ok (Number n)) = moved_said l (is_moved n) (Number n)
+load_said l false (Ok (Truth b)) = tt
+load_said l false (Ok (Words v)) = tt
+load_said l false (Ok (Place s n)) = tt
+load_said l state (Err k) = tt
 
-pub thumb_no_pool : (l : ThumbLine) → NoPool (Ok (thumb_extent l))
-thumb_no_pool (thumb.BranchLink target) = tt
-thumb_no_pool l = tt
+state_said : (w : What) (b : Bool) (a n c m : ℕ) → IsSaid w (Ok (cond b (Block a n) (Block c m)))
+state_said w true a n c m = tt
+state_said w false a n c m = tt
 
-pub pseudo_no_pool : (s : Sight) (l : PseudoLine) → NoPool (extent_of s (what.Pseudo l))
-pseudo_no_pool s (pseudo.LoadConstant condition rd e) = load_no_pool s.known.thumb (literal_there s e)
-pseudo_no_pool s (pseudo.Address condition rd e) = instruction_no_pool s.known.thumb
-pseudo_no_pool s (pseudo.LongAddress condition rd e) = tt
-pseudo_no_pool s pseudo.NoOperation = instruction_no_pool s.known.thumb
+mapped_said : (w : What) (f : ℕ → Extent) (r : Result ℕ LineKind) → ((n : ℕ) → IsSaid w (Ok (f n))) → IsSaid w (mapped f r)
+mapped_said w f (Ok n) h = h n
+mapped_said w f (Err k) h = tt
 
-pub data_no_pool : (s : Sight) (l : DirectiveLine) → is_data l ≡ true → NoPool (extent_of s (what.Directive l))
-data_no_pool s (line.Dcd es) h = tt
-data_no_pool s (line.Dcdu es) h = tt
-data_no_pool s (line.Dcw es) h = tt
-data_no_pool s (line.Dcb es) h = tt
-data_no_pool s l h = absurd (cc)
+both_said : (w : What) (q r : Result ℕ LineKind) → IsSaid w (on_both (λ m n. Padding m n) q r)
+both_said w (Ok m) (Ok n) = tt
+both_said w (Ok m) (Err k) = tt
+both_said w (Err k) (Ok n) = tt
+both_said w (Err k) (Err j) = tt
 
-pub filled_no_pool : (s : Sight) (w : What) → is_filled w ≡ true → NoPool (extent_of s w)
-filled_no_pool s what.Nothing h = absurd (cc)
-filled_no_pool s (what.Arm l) h = tt
-filled_no_pool s (what.Thumb l) h = thumb_no_pool l
-filled_no_pool s (what.Pseudo l) h = pseudo_no_pool s l
-filled_no_pool s (what.Directive l) h = data_no_pool s l h
+thumb_said : (w : What) (l : ThumbLine) → IsSaid w (Ok (thumb_extent l))
+thumb_said w (thumb.BranchLink target) = tt
+thumb_said w l = tt
 
-pub pools_put_nothing : (c : Context) (d : List (List ℕ)) (s : Sight) (word : Option ℕ) (w : What) → extent_of s w ≡ Ok Pool → units c d s word w ≡ Ok []
-pools_put_nothing c d s word w x = by_test (is_filled w) refl
-  where
-    by_test : (b : Bool) → is_filled w ≡ b → units c d s word w ≡ Ok []
-    by_test true h = absurd (subst NoPool x (filled_no_pool s w h))
-    by_test false h = other_units_are_none c d s word w h
+directive_said : (s : Sight) (l : DirectiveLine) → IsSaid (what.Directive l) (extent_of s (what.Directive l))
+directive_said s line.Entry = state_said (what.Directive line.Entry) s.known.thumb 2 0 4 0
+directive_said s (line.Space e) = mapped_said (what.Directive (line.Space e)) (λ n. Block 1 n) (number_there s e) (λ n. tt)
+directive_said s (line.Align limit.Word) = tt
+directive_said s (line.Align (limit.Multiple e)) =
+    mapped_said (what.Directive (line.Align (limit.Multiple e))) (λ m. Padding m 0) (as_multiple (number_there s e)) (λ n. tt)
+directive_said s (line.Align (limit.Behind e f)) = both_said (what.Directive (line.Align (limit.Behind e f))) (as_multiple (number_there s e)) (number_there s f)
+directive_said s line.Ltorg = refl
+directive_said s l = tt
+
+extents_are_said : (s : Sight) (w : What) → IsSaid w (extent_of s w)
+extents_are_said s what.Nothing = tt
+extents_are_said s (what.Arm l) = tt
+extents_are_said s (what.Thumb l) = thumb_said (what.Thumb l) l
+extents_are_said s (what.Pseudo (pseudo.LoadConstant condition rd e)) = load_said (pseudo.LoadConstant condition rd e) s.known.thumb (literal_there s e)
+extents_are_said s (what.Pseudo (pseudo.Address condition rd e)) = state_said (what.Pseudo (pseudo.Address condition rd e)) s.known.thumb 2 2 4 4
+extents_are_said s (what.Pseudo (pseudo.LongAddress condition rd e)) = tt
+extents_are_said s (what.Pseudo pseudo.NoOperation) = state_said (what.Pseudo pseudo.NoOperation) s.known.thumb 2 2 4 4
+extents_are_said s (what.Directive l) = directive_said s l
+
+pub pools_are_said : (s : Sight) (w : What) → extent_of s w ≡ Ok Pool → w ≡ what.Directive line.Ltorg
+pools_are_said s w h = subst (IsSaid w) h (extents_are_said s w)
+
+pub loads_are_pseudo : (s : Sight) (w : What) (n : ℕ) (v : Value) → extent_of s w ≡ Ok (Loading n v) → IsPseudo w
+loads_are_pseudo s w n v h = subst (IsSaid w) h (extents_are_said s w)
+
+-- ---- lines
+
+-- a pool for LTORG, and for another statement its own units
+abbrev pub pool_or : What → List Emitted → List Emitted → List Emitted
+pool_or (what.Directive line.Ltorg) pool us = pool
+pool_or _ pool us = us
+
+pub pool_or_own : (w : What) → (w ≡ what.Directive line.Ltorg) ⊎ ((pool us : List Emitted) → pool_or w pool us ≡ us)
+pool_or_own (what.Directive line.Ltorg) = inl refl
+pool_or_own w = inr (λ pool us. refl)

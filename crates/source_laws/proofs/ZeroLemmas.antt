@@ -31,13 +31,15 @@ use Rattle.asm_model.specs.Offsets.{is_of}
 use Rattle.asm_model.proofs.OffsetLemmas.{is_here}
 use Rattle.layout_laws.proofs.SoundLemmas.{or_none, told_none, kind_none}
 use Rattle.source_model.specs.Contexts.{Context}
-use Rattle.source_model.specs.Objects.{Piece, units_from, or_none as units_or_none, literal_piece, source_of, IsAmong, StandsIn, contents_in, contents_of}
+use Rattle.source_model.specs.Objects.{Piece, units_from, or_none as units_or_none, source_of, IsAmong, StandsIn, contents_in, contents_of}
 use Rattle.source_model.specs.SourceFaults.{layout_faults}
 use Rattle.source_model.specs.Units.{units}
 use Rattle.source_laws.specs.Laws.{word_among, context_behind}
 use Rattle.source_laws.proofs.FaultlessLemmas.{layout_sound}
 use Rattle.source_laws.proofs.ListedLemmas.{owned}
-use Rattle.source_laws.proofs.ThingLemmas.{among_either, own_units, own_words, seen_extent}
+use Rattle.source_laws.proofs.PoolLemmas.{OwnUnit, PoolWord, unit_or_word}
+use Rattle.source_laws.proofs.SizeLemmas.{IsPseudo, loads_are_pseudo}
+use Rattle.source_laws.proofs.ThingLemmas.{known_extent}
 use Rattle.base_lemmas.proofs.BaseLemmas.{not_false}
 use Rattle.asm_model.specs.declared.names.LaidName.{LaidName}
 
@@ -356,89 +358,41 @@ zero_units c d s word (what.Directive (line.Dcw es)) h = absurd (cc)
 zero_units c d s word (what.Directive (line.Dcb es)) h = absurd (cc)
 zero_units c d s word w h = refl
 
-abbrev pub LoadsNothing : Result Extent LineKind → Type 0
-LoadsNothing (Ok (Loading n v)) = ⊥
-LoadsNothing _ = Unit {0}
-
-pub spaced : (r : Result ℕ LineKind) → LoadsNothing (mapped (λ n. Block 1 n) r)
-spaced (Ok n) = tt
-spaced (Err k) = tt
-
-pub padded : (r : Result ℕ LineKind) → LoadsNothing (mapped (λ m. Padding m 0) r)
-padded (Ok m) = tt
-padded (Err k) = tt
-
-pub padded_behind : (r q : Result ℕ LineKind) → LoadsNothing (on_both (λ m n. Padding m n) r q)
-padded_behind (Ok m) (Ok n) = tt
-padded_behind (Ok m) (Err k) = tt
-padded_behind (Err k) (Ok n) = tt
-padded_behind (Err k) (Err j) = tt
-
-pub aligned : (s : Sight) (b : Boundary) → LoadsNothing (padding s b)
-aligned s limit.Word = tt
-aligned s (limit.Multiple e) = padded (as_multiple (number_there s e))
-aligned s (limit.Behind e f) = padded_behind (as_multiple (number_there s e)) (number_there s f)
-
-pub zero_extent : (s : Sight) (w : What) → is_zero_statement w ≡ true → LoadsNothing (extent_of s w)
-zero_extent s (what.Arm l) h = absurd (cc)
-zero_extent s (what.Thumb l) h = absurd (cc)
-zero_extent s (what.Pseudo l) h = absurd (cc)
-zero_extent s (what.Directive line.Entry) h = absurd (cc)
-zero_extent s (what.Directive (line.Space e)) h = spaced (number_there s e)
-zero_extent s (what.Directive (line.Align b)) h = aligned s b
-zero_extent s w h = tt
-
-pub no_literal : (p : Piece) (c : Context) (d : List (List ℕ)) (word : Option ℕ) (r : Result Extent LineKind) → LoadsNothing r
-    → IsAmong p (literal_piece c d (taken r) word) → ⊥
-no_literal p c d word (Err k) h x = x
-no_literal p c d word (Ok (Block a n)) h x = x
-no_literal p c d word (Ok (Padding m n)) h x = x
-no_literal p c d word (Ok (Loading n v)) h x = h
-no_literal p c d word (Ok Pool) h x = x
+no_pseudo : (w : What) → is_zero_statement w ≡ true → IsPseudo w → ⊥
+no_pseudo (what.Pseudo l) h p = absurd (cc)
+no_pseudo what.Nothing h p = p
+no_pseudo (what.Arm l) h p = p
+no_pseudo (what.Thumb l) h p = p
+no_pseudo (what.Directive l) h p = p
 
 -- ---- the law
 
+zero_there : (ss : List Statement) → layout_faults ss ≡ None → (area : ℕ) → contents_of area (laid ss) ≡ Some contents.Zeroes
+    → (after before : List LaidLine) (l : LaidLine) → laid ss ≡ after ++ l ∷ before → l.area ≡ Some area → is_zero_statement l.statement.what ≡ true
+zero_there ss none area zeroes after before l parts own =
+    let S = settled (equals_in ss) in
+    let numbered = numbered_rest after (l ∷ before) (subst AreNumbered parts (laid_numbered (declared_names ss) ss)) in
+    let fine = fine_rest S after (l ∷ before) (subst (λ z. first_fault S z ≡ None) parts (layout_sound ss none)) in
+    let behind = contents_are S (l ∷ before) numbered fine area (sym numbered.0 ∙ own) in
+    let all : contents_of area (laid ss) ≡ Some behind.0 =
+    ap (contents_of area) parts ∙ contents_stay area behind.0 after (l ∷ before) behind.1 in
+    let is_zero : behind.0 ≡ contents.Zeroes = cc in
+    let p = or_none (first_fault S before) (told_at l.statement (told_kind (layout_kinds S l before))) fine in
+    let q = (line_kinds S l before (told_none l.statement (layout_kinds S l before) p.1)).0 in
+    let r = subst (λ o. contents_kinds o l.thumb l.statement.what ≡ []) (behind.2 ∙ ap Some is_zero) q in
+    not_false (is_zero_statement l.statement.what) (kind_none (not (is_zero_statement l.statement.what)) BadOperand r)
+
 pub zero_areas_hold_nothing : (ss : List Statement) → layout_faults ss ≡ None
     → (area : ℕ) (p : Piece) → contents_of area (laid ss) ≡ Some contents.Zeroes → StandsIn (source_of ss) area p → ⊥
-zero_areas_hold_nothing ss none area p zeroes x = by_kind (among_either p (own_units ss rest l before) (own_words ss rest l before) x.among)
+zero_areas_hold_nothing ss none area p zeroes h = by_kind (unit_or_word ss area p h)
   where
-    l : LaidLine
-    l = x.owner
-
-    before : List LaidLine
-    before = x.at.before
-
-    rest : List LaidLine
-    rest = x.at.rest
-
-    S : List (List ℕ)
-    S = settled (equals_in ss)
-
-    numbered : AreNumbered (l ∷ before)
-    numbered = numbered_rest rest (l ∷ before) (subst AreNumbered x.at.parts (laid_numbered (declared_names ss) ss))
-
-    fine : first_fault S (l ∷ before) ≡ None
-    fine = fine_rest S rest (l ∷ before) (subst (λ z. first_fault S z ≡ None) x.at.parts (layout_sound ss none))
-
-    behind : Behind area (contents_of area (l ∷ before)) (contents_behind (l.statement ∷ statements_of before))
-    behind = contents_are S (l ∷ before) numbered fine area (sym numbered.0 ∙ x.own)
-
-    is_zero : behind.0 ≡ contents.Zeroes
-    is_zero =
-        let a : contents_of area (laid ss) ≡ Some behind.0 =
-        ap (contents_of area) x.at.parts ∙ contents_stay area behind.0 rest (l ∷ before) behind.1 in cc
-
-    stands : is_zero_statement l.statement.what ≡ true
-    stands =
-        let p = or_none (first_fault S before) (told_at l.statement (told_kind (layout_kinds S l before))) fine in
-        let q = (line_kinds S l before (told_none l.statement (layout_kinds S l before) p.1)).0 in
-        let r = subst (λ o. contents_kinds o l.thumb l.statement.what ≡ []) (behind.2 ∙ ap Some is_zero) q in
-        not_false (is_zero_statement l.statement.what) (kind_none (not (is_zero_statement l.statement.what)) BadOperand r)
-
-    by_kind : IsAmong p (own_units ss rest l before) ⊎ IsAmong p (own_words ss rest l before) → ⊥
-    by_kind (inl h) =
+    by_kind : OwnUnit ss area p ⊎ PoolWord ss area p → ⊥
+    by_kind (inl x) =
+        let l = x.owner in
         subst (λ r. IsAmong p (units_from l.offset (units_or_none r)))
-        (zero_units (context_behind ss l before) (datum_names ss) l.seen (word_among rest l before) l.statement.what stands) h
-    by_kind (inr h) =
-        no_literal p (context_behind ss l before) (datum_names ss) (word_among rest l before) l.extent
-        (subst LoadsNothing (sym (seen_extent ss rest before l x.at.parts).0) (zero_extent l.seen l.statement.what stands)) h
+        (zero_units (context_behind ss l x.before) (datum_names ss) l.seen (word_among x.after l x.before) l.statement.what
+        (zero_there ss none area zeroes x.after x.before l x.parts x.own)) x.among
+    by_kind (inr x) =
+        let l = x.loader in
+        no_pseudo l.statement.what (zero_there ss none area zeroes x.after x.before l x.parts x.own)
+        (loads_are_pseudo l.seen l.statement.what x.word.size x.word.value (known_extent ss (layout_sound ss none) x.after x.before l x.parts ∙ ap Ok x.word.extent))

@@ -1,7 +1,6 @@
 -- What statements put into their areas stands apart: what a statement puts there is no longer than what it takes up, the
 -- statements of an area follow each other, and the words of literals lie in pools, where no statement puts anything
--- itself. What stands in an area is listed, and so a source makes one object at most. Lines are listed with the last first.
--- This project's.
+-- itself. A source makes one object at most. Lines are listed with the last first. This project's.
 use Rattle.std.specs.Prelude.{◌≡◌, ◌⊎◌, ℕ, ◌+◌, ◌≤◌, List, [], ◌∷◌, ◌++◌, length, Bool, true, false, if◌then◌else◌, Option, None, Result}
 use Rattle.sdt_fault.specs.declared.kinds.LineKind.{LineKind}
 use Rattle.aof_object.specs.declared.records.Object.{Object}
@@ -16,7 +15,7 @@ use Rattle.asm_model.specs.Marks.{datum_names}
 use Rattle.asm_model.specs.Offsets.{is_of}
 use Rattle.asm_model.specs.Symbols.{literal_value}
 use Rattle.source_model.specs.Contexts.{Context, sees}
-use Rattle.source_model.specs.Objects.{Piece, unit_bytes, pieces_in, Source, source_of, in_order, IsAmong, StandsIn, IsObject}
+use Rattle.source_model.specs.Objects.{Piece, unit_bytes, source_of, in_order, StandsIn, IsObject}
 use Rattle.source_model.specs.SourceFaults.{layout_faults, context_of, word_of}
 use Rattle.source_model.specs.Units.{Stored, stored}
 
@@ -55,28 +54,6 @@ stored_literal statements c v = stored c (datum_names statements) (literal_value
 -- of two things that stand in an area each ends before the other, or they are the same
 abbrev pub StandApart : Piece → Piece → Type 0
 StandApart p q = (p.0 + length (unit_bytes p.1) ≤ q.0) ⊎ (q.0 + length (unit_bytes q.1) ≤ p.0)
-
--- what a line puts into the area, where these lines stand before it, the nearest first, and these behind it, in their order
-abbrev pub things_of : List Statement → ℕ → LaidLine → List LaidLine → List LaidLine → List Piece
-things_of statements area l before rest =
-    if is_of area l.area then
-    pieces_in (context_behind statements l before) (datum_names statements) l (word_of l.area (taken l.extent) (pieces_of (l ∷ before)) (pieces_of rest))
-    else []
-
--- what lines put into the area, in the order of the source, where these stand behind them
-abbrev pub things_behind : List Statement → ℕ → List LaidLine → List LaidLine → List Piece
-things_behind statements area [] rest = []
-things_behind statements area (l ∷ before) rest = things_behind statements area before (l ∷ rest) ++ things_of statements area l before rest
-
-abbrev pub things_in : Source → ℕ → List Piece
-things_in s area = things_behind s.statements area s.lines []
-
--- the things that stand in an area are those of the list
-abbrev pub ThingsAreListed : Type 0
-ThingsAreListed =
-    (statements : List Statement) (area : ℕ) (p : Piece)
-    → (StandsIn (source_of statements) area p → IsAmong p (things_in (source_of statements) area))
-    × (IsAmong p (things_in (source_of statements) area) → StandsIn (source_of statements) area p)
 
 -- ---- sources without faults
 

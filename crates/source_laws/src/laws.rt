@@ -1,11 +1,6 @@
 //! Laws of the definitions, each proved as the contract of an empty function.
 
-ghost use Rattle.source_laws.specs.Laws.{OneObject, SourcesStandApart, SourcesStayInArmState, ThingsAreListed};
-
-/// The things that stand in an area are those of a list.
-pub fn things_are_listed()
-    ensures { ThingsAreListed }
-{}
+ghost use Rattle.source_laws.specs.Laws.{OneObject, SourcesStandApart, SourcesStayInArmState};
 
 /// A source without CODE16 is one of ARM state.
 pub fn sources_stay_in_arm_state()

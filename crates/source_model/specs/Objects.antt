@@ -129,19 +129,29 @@ context_at s l at = context_of s.names s.statements l at.before
 abbrev pub word_at : (s : Source) (l : LaidLine) → At s l → Option ℕ
 word_at s l at = literal_place l.area (taken l.extent) (pieces_of (l ∷ at.before)) (pieces_of (in_order at.rest []))
 
-abbrev pub pieces_at : (s : Source) (l : LaidLine) → At s l → List Piece
-pieces_at s l at = pieces_in (context_at s l at) (datum_names s.statements) l (word_at s l at)
+-- what a line puts into the area, where these lines stand before it, the nearest first, and these behind it, in their order
+abbrev pub things_of : Source → ℕ → LaidLine → List LaidLine → List LaidLine → List Piece
+things_of s area l before rest =
+    if is_of area l.area then
+    pieces_in (context_of s.names s.statements l before) (datum_names s.statements) l
+    (literal_place l.area (taken l.extent) (pieces_of (l ∷ before)) (pieces_of rest))
+    else []
+
+-- what lines put into the area, in the order of the source, where these stand behind them
+abbrev pub things_behind : Source → ℕ → List LaidLine → List LaidLine → List Piece
+things_behind s area [] rest = []
+things_behind s area (l ∷ before) rest = things_behind s area before (l ∷ rest) ++ things_of s area l before rest
+
+abbrev pub things_in : Source → ℕ → List Piece
+things_in s area = things_behind s area s.lines []
 
 abbrev pub IsAmong : Piece → List Piece → Type 0
 IsAmong p [] = ⊥
 IsAmong p (q ∷ qs) = (p ≡ q) ⊎ IsAmong p qs
 
--- a thing that stands in the area
-pub record StandsIn (s : Source) (area : ℕ) (p : Piece) : Type 0 where
-  pub owner : LaidLine
-  pub at : At s owner
-  pub own : owner.area ≡ Some area
-  pub among : IsAmong p (pieces_at s owner at)
+-- a thing stands in the area
+abbrev pub StandsIn : Source → ℕ → Piece → Type 0
+StandsIn s area p = IsAmong p (things_in s area)
 
 -- the bytes of an area: those of what stands there, and else zeros
 pub record HoldsBytes (s : Source) (area : ℕ) (bytes : List ℕ) : Type 0 where

@@ -41,7 +41,8 @@ use Rattle.asm_instructions.specs.Fits.{NamesRegisters, Fits, AllFit}
 use Rattle.source_laws.specs.Laws.{word_among, context_behind}
 use Rattle.asm_instructions.proofs.FitLemmas.{instruction_fits, pseudo_instructions_fit}
 use Rattle.source_laws.proofs.LineLemmas.{is_laid, stands_in}
-use Rattle.source_laws.proofs.ThingLemmas.{IsWord, is_word, among_either, own_units, own_words, known_extent}
+use Rattle.source_laws.proofs.PoolLemmas.{OwnUnit, PoolWord, unit_or_word}
+use Rattle.source_laws.proofs.ThingLemmas.{known_extent}
 use Rattle.source_laws.proofs.WithinLemmas.{IsWithin, area_within, names_within, named_within as entry_within, area_stands, areas_more}
 
 abbrev pub TargetWithin : ℕ → Target → Type 0
@@ -263,43 +264,28 @@ context_within ss n after before l few e (c ∷ cs) (x, y) h =
 
 pub good_thing : (ss : List Statement) (n : ℕ) → IsSound ss → AllSaid ss → length (areas_behind (statements_of (laid ss))) ≤ n
     → (area : ℕ) (p : Piece) → StandsIn (source_of ss) area p → IsGood n p
-good_thing ss n sound said few area p x = by_kind (among_either p (own_units ss rest l before) (own_words ss rest l before) x.among)
+good_thing ss n sound said few area p x = by_kind (unit_or_word ss area p x)
   where
-    l : LaidLine
-    l = x.owner
+    aligned : (u : OwnUnit ss area p) → ArmAligned u.owner.offset u.owner.statement.what
+    aligned u =
+        let l = u.owner in
+        arm_aligned l.seen l.statement.what (taken l.extent) (end_behind area (pieces_of u.before)) (waiting area (pieces_of u.before)) l.offset
+        (known_extent ss sound u.after u.before l u.parts) (stands_in ss sound area u.after u.before l u.parts u.own).0
 
-    before : List LaidLine
-    before = x.at.before
+    by_result : (at : ℕ) (r : Result (List Emitted) LineKind) → ResultGood n at r → IsAmong p (units_from at (or_none r)) → IsGood n p
+    by_result at (Ok us) f k = good_among n p (units_from at us) f k
+    by_result at (Err j) f k = absurd k
 
-    rest : List LaidLine
-    rest = x.at.rest
-
-    c : Context
-    c = context_behind ss l before
-
-    within : StandsWithin n c
-    within = context_within ss n rest before l few x.at.parts
-
-    own : AllSaid (statements_of (l ∷ before))
-    own = lines_said ss rest before l said x.at.parts
-
-    aligned : ArmAligned l.offset l.statement.what
-    aligned =
-        arm_aligned l.seen l.statement.what (taken l.extent) (end_behind area (pieces_of before)) (waiting area (pieces_of before)) l.offset
-        (known_extent ss sound rest before l x.at.parts) (stands_in ss sound area rest before l x.at.parts x.own).0
-
-    by_result : (r : Result (List Emitted) LineKind) → ResultGood n l.offset r → IsAmong p (units_from l.offset (or_none r)) → IsGood n p
-    by_result (Ok us) f k = good_among n p (units_from l.offset us) f k
-    by_result (Err j) f k = absurd k
-
-    of_word : IsWord ss c (taken l.extent) (word_among rest l before) p → IsGood n p
-    of_word w =
-        subst (λ (z : Piece). IsGood n z) (sym w.is)
-        (subst (StoredGood n) w.stores (stored_good n c (datum_names ss) within (literal_value (sees c) w.value)))
-
-    by_kind : IsAmong p (own_units ss rest l before) ⊎ IsAmong p (own_words ss rest l before) → IsGood n p
-    by_kind (inl k) =
-        by_result (units c (datum_names ss) l.seen (word_among rest l before) l.statement.what)
-        (line_good n l.offset c (datum_names ss) l.seen (word_among rest l before) l.statement.what within
-        (λ q m e. register_below (registers_behind before) q m (registers_good before own.1) e) own.0.read aligned) k
-    by_kind (inr k) = of_word (is_word ss c (taken l.extent) (word_among rest l before) p k)
+    by_kind : OwnUnit ss area p ⊎ PoolWord ss area p → IsGood n p
+    by_kind (inl u) =
+        let l = u.owner in
+        let c = context_behind ss l u.before in
+        let own = lines_said ss u.after u.before l said u.parts in
+        by_result l.offset (units c (datum_names ss) l.seen (word_among u.after l u.before) l.statement.what)
+        (line_good n l.offset c (datum_names ss) l.seen (word_among u.after l u.before) l.statement.what (context_within ss n u.after u.before l few u.parts)
+        (λ q m e. register_below (registers_behind u.before) q m (registers_good u.before own.1) e) own.0.read (aligned u)) u.among
+    by_kind (inr w) =
+        let c = context_behind ss w.loader w.before in
+        subst (λ (z : Piece). IsGood n z) (sym w.word.is)
+        (subst (StoredGood n) w.word.stores
+        (stored_good n c (datum_names ss) (context_within ss n w.after w.before w.loader few w.parts) (literal_value (sees c) w.word.value)))

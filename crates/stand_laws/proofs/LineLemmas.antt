@@ -8,9 +8,9 @@ use Rattle.asm_model.specs.declared.statements.Statement.{Statement}
 use Rattle.asm_model.specs.declared.statements.What.{What}
 use Rattle.asm_model.specs.declared.statements.What.TheVariants as what
 use Rattle.asm_model.specs.AtLine.{Sight}
-use Rattle.asm_model.specs.Laid.{LaidLine, taken, pieces_of, laid}
+use Rattle.asm_model.specs.Laid.{LaidLine, pieces_of, laid}
 use Rattle.asm_model.specs.Marks.{datum_names}
-use Rattle.asm_model.specs.Offsets.{area_size, is_pool}
+use Rattle.asm_model.specs.Offsets.{end_behind, area_size}
 use Rattle.asm_model.specs.Sound.{IsSound}
 use Rattle.source_model.specs.ArmForms.{arm_instruction}
 use Rattle.source_model.specs.Objects.{unit_bytes, units_from, or_none, source_of, IsAmong}
@@ -19,9 +19,11 @@ use Rattle.source_model.specs.Units.{Emitted, Instruction, branch_symbol, instru
 use Rattle.source_laws.specs.Laws.{is_filled, InArmState, context_behind, word_among}
 use Rattle.source_laws.proofs.LineLemmas.{statements_stand_apart, statements_lie_in_areas}
 use Rattle.source_laws.proofs.ListLemmas.{Before, Same, places}
-use Rattle.source_laws.proofs.SizeLemmas.{other_units_are_none}
-use Rattle.source_laws.proofs.ThingLemmas.{among_either, IsWord, is_word, word_end, own_units, own_words, InLine, in_line, chain}
-use Rattle.source_laws.proofs.WordLemmas.{words_meet_no_statement}
+use Rattle.source_laws.proofs.SizeLemmas.{other_units_are_none, pool_or}
+use Rattle.source_laws.proofs.ApartLemmas.{in_line, at_end, lines_end, chain}
+use Rattle.source_laws.proofs.PoolLemmas.{Puts, Held, held}
+use Rattle.source_laws.proofs.ThingLemmas.{puts, puts_own}
+use Rattle.asm_model.proofs.OffsetLemmas.{through}
 use Rattle.patch_model.specs.Reaches.{View}
 use Rattle.stand_model.specs.Placed.{ShowsZeros}
 use Rattle.stand_model.specs.Stands.{DirectiveStands, Stands, IsGap, address_behind}
@@ -84,55 +86,48 @@ lies_inside i offset size all h k = omega arith
 
 -- a statement that is neither an instruction nor data, and no pool
 pub nothing_there : (ss : List Statement) → IsSound ss → InArmState ss → (area : ℕ) (after before : List LaidLine) (l : LaidLine)
-    → laid ss ≡ after ++ l ∷ before → l.area ≡ Some area → is_filled l.statement.what ≡ false → is_pool (taken l.extent) ≡ false
+    → laid ss ≡ after ++ l ∷ before → l.area ≡ Some area → is_filled l.statement.what ≡ false
+    → ((pool us : List Emitted) → pool_or l.statement.what pool us ≡ us)
     → (i : ℕ) → i < l.size → IsGap (source_of ss) area (l.offset + i)
-nothing_there ss sound arm area after before l e here bare pool i small p x =
-    by_kind (among_either p (own_units ss x.at.rest x.owner x.at.before) (own_words ss x.at.rest x.owner x.at.before) x.among)
+nothing_there ss sound arm area after before l e here bare own i small p h = by_kind (held ss sound area p h)
   where
-    m : LaidLine
-    m = x.owner
+    Misses : Type 0
+    Misses = (l.offset + i < p.0) ⊎ (p.0 + length (unit_bytes p.1) ≤ l.offset + i)
 
-    of_place : IsAmong p (own_units ss x.at.rest m x.at.before) → InLine m p
-        → Same after l before x.at.rest m x.at.before ⊎ (Before after l before x.at.rest m x.at.before ⊎ Before x.at.rest m x.at.before after l before)
-        → (l.offset + i < p.0) ⊎ (p.0 + length (unit_bytes p.1) ≤ l.offset + i)
-    of_place k inside (inl s) =
-        let none = other_units_are_none (context_behind ss m x.at.before) (datum_names ss) m.seen (word_among x.at.rest m x.at.before) m.statement.what
-        (subst (λ (z : LaidLine). is_filled z.statement.what ≡ false) s.0 bare) in
-        let k2 : IsAmong p [] = subst (λ r. IsAmong p (units_from m.offset (or_none r))) none k in
-        absurd k2
-    of_place k inside (inr (inl b)) =
-        inr (lies_behind i l.offset (p.0 + length (unit_bytes p.1)) (m.offset + m.size) inside.1
-        (statements_stand_apart ss sound area after b.0 x.at.before l m (e ∙ ap (λ z. after ++ l ∷ z) b.1) here x.own))
-    of_place k inside (inr (inr b)) =
+    of_place : (x : Puts ss area p)
+        → Same after l before x.after x.line x.before ⊎ (Before after l before x.after x.line x.before ⊎ Before x.after x.line x.before after l before) → Misses
+    of_place x (inl s) =
+        let none = other_units_are_none (context_behind ss l before) (datum_names ss) l.seen (word_among after l before) l.statement.what bare in
+        let here : IsAmong p (units_from l.offset (puts ss area after l before)) =
+        subst (λ z. IsAmong p (units_from l.offset (puts ss area z l before))) (sym s.2)
+        (subst (λ z. IsAmong p (units_from l.offset (puts ss area x.after l z))) (sym s.1)
+        (subst (λ (z : LaidLine). IsAmong p (units_from z.offset (puts ss area x.after z x.before))) (sym s.0) x.among)) in
+        let nothing : IsAmong p [] = subst (λ us. IsAmong p (units_from l.offset us)) (puts_own ss area after before l own ∙ ap or_none none) here in
+        absurd nothing
+    of_place x (inr (inl b)) =
+        inr (lies_behind i l.offset (p.0 + length (unit_bytes p.1)) (x.line.offset + x.line.size) (in_line ss sound arm area p x).1
+        (statements_stand_apart ss sound area after b.0 x.before l x.line (e ∙ ap (λ z. after ++ l ∷ z) b.1) here x.own))
+    of_place x (inr (inr b)) =
         inl (lies_before i l.offset l.size p.0 small
-        (chain (l.offset + l.size) m.offset m.offset p.0
-        (statements_stand_apart ss sound area x.at.rest b.0 before m l (x.at.parts ∙ ap (λ z. x.at.rest ++ m ∷ z) b.1) x.own here) (omega arith) inside.0))
+        (chain (l.offset + l.size) x.line.offset x.line.offset p.0
+        (statements_stand_apart ss sound area x.after b.0 before x.line l (x.parts ∙ ap (λ z. x.after ++ x.line ∷ z) b.1) x.own here) (omega arith) (in_line ss sound arm area p x).0))
 
-    of_word : IsWord ss (context_behind ss m x.at.before) (taken m.extent) (word_among x.at.rest m x.at.before) p
-        → (l.offset + i < p.0) ⊎ (p.0 + length (unit_bytes p.1) ≤ l.offset + i)
-    of_word w =
-        by_side (word_end w.place w.holds p w.is) (words_meet_no_statement ss sound area x.at.rest x.at.before m w.place x.at.parts x.own w.stands after before l e here pool)
-      where
-        by_side : (p.0 ≡ w.place) × (p.0 + length (unit_bytes p.1) ≡ w.place + 4) → (l.offset + l.size ≤ w.place) ⊎ (w.place + 4 ≤ l.offset)
-            → (l.offset + i < p.0) ⊎ (p.0 + length (unit_bytes p.1) ≤ l.offset + i)
-        by_side y (inl a) = inl (lies_before i l.offset l.size p.0 small (subst (λ z. l.offset + l.size ≤ z) (sym y.0) a))
-        by_side y (inr a) = inr (subst (λ z. z ≤ l.offset + i) (sym y.1) (lies_behind i l.offset (w.place + 4) l.offset a (omega arith)))
-
-    by_kind : IsAmong p (own_units ss x.at.rest m x.at.before) ⊎ IsAmong p (own_words ss x.at.rest m x.at.before)
-        → (l.offset + i < p.0) ⊎ (p.0 + length (unit_bytes p.1) ≤ l.offset + i)
-    by_kind (inl k) = of_place k (in_line ss sound arm area x.at.rest x.at.before m p x.at.parts x.own k) (places after before x.at.rest x.at.before l m (sym e ∙ x.at.parts))
-    by_kind (inr k) = of_word (is_word ss (context_behind ss m x.at.before) (taken m.extent) (word_among x.at.rest m x.at.before) p k)
+    by_kind : Held ss area p → Misses
+    by_kind (inl x) = of_place x (places after before x.after x.before l x.line (sym e ∙ x.parts))
+    by_kind (inr k) =
+        inl (lies_before i l.offset l.size p.0 small (through (l.offset + l.size) (end_behind area (pieces_of (laid ss))) p.0 (lines_end ss sound area after before l e here) (at_end ss area p k).0))
 
 pub zeros_there : (ss : List Statement) → IsSound ss → InArmState ss → (area : ℕ) (after before : List LaidLine) (l : LaidLine)
-    → laid ss ≡ after ++ l ∷ before → l.area ≡ Some area → is_filled l.statement.what ≡ false → is_pool (taken l.extent) ≡ false
+    → laid ss ≡ after ++ l ∷ before → l.area ≡ Some area → is_filled l.statement.what ≡ false
+    → ((pool us : List Emitted) → pool_or l.statement.what pool us ≡ us)
     → (view : View) (base : ℕ)
     → ((i : ℕ) → i < area_size area (pieces_of (laid ss)) → IsGap (source_of ss) area i → view (base + i) ≡ Some 0)
     → ShowsZeros view (base + l.offset) l.size
-zeros_there ss sound arm area after before l e here bare pool view base gaps i small =
+zeros_there ss sound arm area after before l e here bare own view base gaps i small =
     ap view (together base l.offset i)
     ∙ gaps (l.offset + i)
     (lies_inside i l.offset l.size (area_size area (pieces_of (laid ss))) small (statements_lie_in_areas ss sound area after before l e here))
-    (nothing_there ss sound arm area after before l e here bare pool i small)
+    (nothing_there ss sound arm area after before l e here bare own i small)
   where
     together : (b o i : ℕ) → b + o + i ≡ b + (o + i)
     together b o i = omega arith

@@ -20,6 +20,7 @@ use Rattle.patch_model.specs.Patched.{Veneers, AreaPatched}
 use Rattle.patch_model.specs.Reaches.{View}
 use Rattle.source_model.specs.Objects.{source_of, symbol_number, symbol_named, contents_of, is_kept, KeepsBytes, IsArea, IsObject}
 use Rattle.source_laws.proofs.FaultlessLemmas.{layout_sound, sources_stand_apart, sources_lie_in_areas}
+use Rattle.source_laws.proofs.PoolLemmas.{OwnUnit, PoolWord, unit_or_word}
 use Rattle.source_laws.proofs.ZeroLemmas.{zero_areas_hold_nothing}
 use Rattle.stand_model.specs.Placed.{ShowsBy, ShowsArea}
 use Rattle.stand_model.specs.Shown.{IsShown}
@@ -105,8 +106,12 @@ things_are_shown ss o faultless obj few_areas few_symbols own values area_at vie
     count : length (areas_behind (statements_of (laid ss))) ≤ length o.areas
     count = let e = areas_are ss o obj in omega arith
 
+    there : OwnUnit ss area p ⊎ PoolWord ss area p → area < length o.areas
+    there (inl u) = area_there ss (length o.areas) area u.after u.before u.owner count u.parts u.own
+    there (inr w) = area_there ss (length o.areas) area w.after w.before w.loader count w.parts w.own
+
     f : AreaFound ss o area
-    f = area_found ss o faultless obj area (area_there ss (length o.areas) area x.at.rest x.at.before x.owner count x.at.parts x.own)
+    f = area_found ss o faultless obj area (there (unit_or_word ss area p x))
 
     by_kind : AreaKind (contents_of area (laid ss)) (bit f.found.attributes 12 == 1) → IsShown (source_of ss) values view (region area) (values.base area) p
     by_kind (inl e) = absurd (zero_areas_hold_nothing ss faultless.laid_out area p e.0 x)
@@ -142,9 +147,7 @@ pub objects_stand : ShownLinesStand → ObjectsStand
 objects_stand lines_stand ss o faultless obj few_areas few_symbols own values area_at view region veneers placed shown = record {
   lines = λ l at area here.
       lines_stand ss o faultless obj few_symbols own values area_at view (region area) placed l at area here
-      (λ p among.
-      things_are_shown ss o faultless obj few_areas few_symbols own values area_at view region veneers placed shown area p
-      (record { owner = l; at = at; own = here; among = among }))
+      (things_are_shown ss o faultless obj few_areas few_symbols own values area_at view region veneers placed shown area)
       (λ i below gap. gaps_are_zero ss o faultless obj few_areas few_symbols own values area_at view region veneers placed shown area i below gap);
   gaps = λ area i below gap. gaps_are_zero ss o faultless obj few_areas few_symbols own values area_at view region veneers placed shown area i below gap;
 }

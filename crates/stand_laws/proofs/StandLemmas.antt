@@ -34,14 +34,17 @@ use Rattle.object_laws.proofs.SizeLemmas.{line_small}
 use Rattle.object_laws.proofs.TargetLemmas.{arm_listed, lines_listed}
 use Rattle.patch_model.specs.Fields.{Values}
 use Rattle.patch_model.specs.Reaches.{View}
-use Rattle.source_model.specs.Objects.{Piece, source_of, At, IsAmong, pieces_at, word_at, units_from, or_none, IsObject}
+use Rattle.source_model.specs.Objects.{Piece, source_of, At, IsAmong, StandsIn, word_at, units_from, or_none, IsObject}
+use Rattle.source_model.specs.Units.{Emitted, units}
+use Rattle.asm_model.specs.Marks.{datum_names}
 use Rattle.source_model.specs.SourceFaults.{layout_faults}
 use Rattle.source_laws.specs.Laws.{is_filled, context_behind, word_among}
 use Rattle.source_laws.proofs.AgreeLemmas.{line_area}
 use Rattle.source_laws.proofs.FaultlessLemmas.{layout_sound}
 use Rattle.source_laws.proofs.LineLemmas.{is_laid}
-use Rattle.source_laws.proofs.ListedLemmas.{among_first, among_last}
-use Rattle.source_laws.proofs.ThingLemmas.{own_units, own_words, known_extent}
+use Rattle.source_laws.proofs.ListedLemmas.{among_first, line_thing}
+use Rattle.source_laws.proofs.SizeLemmas.{pool_or}
+use Rattle.source_laws.proofs.ThingLemmas.{own_units, own_words}
 use Rattle.stand_model.specs.Placed.{ShowsZeros, IsPlaced}
 use Rattle.stand_model.specs.Shown.{IsShown, meant_by}
 use Rattle.stand_model.specs.Stands.{Stands, IsGap, scene_at, address_behind}
@@ -110,28 +113,11 @@ line_meets ss o obj own values area_at placed view region area after before l e 
 
 -- ---- SPACE and ALIGN
 
-pub space_no_pool : (s : Sight) (e : Expr) (x : Extent) → directive_extent s (line.Space e) ≡ Ok x → is_pool x ≡ false
-space_no_pool s e x h =
-    let f : ℕ → Extent = λ n. Block 1 n in
-    let m = mapped_ok f (number_there s e) x h in
-    ap is_pool (sym m.gives)
-
-pub align_no_pool : (s : Sight) (b : Boundary) (x : Extent) → padding s b ≡ Ok x → is_pool x ≡ false
-align_no_pool s limit.Word x h = let e : Padding 4 0 ≡ x = cc in ap is_pool (sym e)
-align_no_pool s (limit.Multiple e) x h =
-    let f : ℕ → Extent = λ m. Padding m 0 in
-    let m = mapped_ok f (as_multiple (number_there s e)) x h in
-    ap is_pool (sym m.gives)
-align_no_pool s (limit.Behind e g) x h =
-    let f : ℕ → ℕ → Extent = λ m n. Padding m n in
-    let m = both_ok f (as_multiple (number_there s e)) (number_there s g) x h in
-    ap is_pool (sym m.gives)
-
-pub directive_zero : (view : View) (a size : ℕ) (s : Sight) (x : Extent) (d : DirectiveLine) → directive_extent s d ≡ Ok x
-    → (is_filled (what.Directive d) ≡ false → is_pool x ≡ false → ShowsZeros view a size) → DirectiveZero view a size d
-directive_zero view a size s x (line.Space e) h zeros = zeros refl (space_no_pool s e x h)
-directive_zero view a size s x (line.Align b) h zeros = zeros refl (align_no_pool s b x h)
-directive_zero view a size s x d h zeros = tt
+directive_zero : (view : View) (a size : ℕ) (d : DirectiveLine)
+    → (is_filled (what.Directive d) ≡ false → ((pool us : List Emitted) → pool_or (what.Directive d) pool us ≡ us) → ShowsZeros view a size) → DirectiveZero view a size d
+directive_zero view a size (line.Space e) zeros = zeros refl (λ pool us. refl)
+directive_zero view a size (line.Align b) zeros = zeros refl (λ pool us. refl)
+directive_zero view a size d zeros = tt
 
 -- ---- lines
 
@@ -149,16 +135,25 @@ what_meets ss fine o obj own values area_at placed view region area after before
 what_meets ss fine o obj own values area_at placed view region area after before l e here holds gaps (what.Pseudo (pseudo.LoadConstant condition rd v)) x = holds condition rd v x
 what_meets ss fine o obj own values area_at placed view region area after before l e here holds gaps (what.Pseudo p) x = tt
 what_meets ss fine o obj own values area_at placed view region area after before l e here holds gaps (what.Directive d) x =
-    let sound = layout_sound ss fine.laid_out in
-    directive_zero view (values.base area + l.offset) l.size l.seen (taken l.extent) d
-    (ap (extent_of l.seen) (sym x) ∙ known_extent ss sound after before l e)
-    (λ bare pool. zeros_there ss sound fine.arm_state area after before l e here (ap is_filled x ∙ bare) pool view (values.base area) gaps)
+    directive_zero view (values.base area + l.offset) l.size d
+    (λ bare own.
+    zeros_there ss (layout_sound ss fine.laid_out) fine.arm_state area after before l e here (ap is_filled x ∙ bare)
+    (λ pool us. ap (λ z. pool_or z pool us) x ∙ own pool us) view (values.base area) gaps)
+
+-- what a line puts of its own stands in its area
+own_stands : (ss : List Statement) (area : ℕ) (p : Piece) (after before : List LaidLine) (l : LaidLine) (us : List Emitted) → laid ss ≡ after ++ l ∷ before → l.area ≡ Some area
+    → units (context_behind ss l before) (datum_names ss) l.seen (word_among after l before) l.statement.what ≡ Ok us → IsAmong p (units_from l.offset us)
+    → StandsIn (source_of ss) area p
+own_stands ss area p after before l us e here is h =
+    line_thing ss area p after before l e here
+    (among_first p (units_from l.offset (own_units ss after l before)) (own_words ss after l before)
+    (subst (λ r. IsAmong p (units_from l.offset (or_none r))) (sym is) h))
 
 pub shown_lines_stand : (ss : List Statement) (o : Object) → IsFaultless ss → IsObject ss o → length o.symbols < 2 ^ 24
     → (own : ℕ) (values : Values) (area_at : ℕ → ℕ → ℕ) (view : View) (region : Range32)
     → IsPlaced own o values area_at
     → (l : LaidLine) (at : At (source_of ss) l) (area : ℕ) → l.area ≡ Some area
-    → ((p : Piece) → IsAmong p (pieces_at (source_of ss) l at) → IsShown (source_of ss) values view region (values.base area) p)
+    → ((p : Piece) → StandsIn (source_of ss) area p → IsShown (source_of ss) values view region (values.base area) p)
     → ((i : ℕ) → i < area_size area (pieces_of (laid ss)) → IsGap (source_of ss) area i → view (values.base area + i) ≡ Some 0)
     → Stands (scene_at (source_of ss) l at view region values) (values.base area + l.offset) l.size
     (address_behind (values.base area) (word_at (source_of ss) l at)) l.statement.what
@@ -169,13 +164,9 @@ shown_lines_stand ss o fine obj small own values area_at view region placed l at
     let k = setting ss values view region area l before in
     let u = (line_valued ss fine.valued after before l e).0 in
     let word = word_among after l before in
-    let units_shown : AllShown k (units_from l.offset u.0) =
-    λ p h. shown p (among_first p (own_units ss after l before) (own_words ss after l before)
-    (subst (λ r. IsAmong p (units_from l.offset (or_none r))) (sym u.1) h)) in
-    let words_shown : AllShown k (own_words ss after l before) =
-    λ p h. shown p (among_last p (own_units ss after l before) (own_words ss after l before) h) in
+    let units_shown : AllShown k (units_from l.offset u.0) = λ p h. shown p (own_stands ss area p after before l u.0 e here u.1 h) in
     let ready = line_ready ss fine.named fine.laid_out values view region area after before l e here in
     line_stands k area l.offset (values.base area + l.offset) ready refl l.seen l.size word
     l.statement.what u.0 u.1 units_shown (known_values_are_final ss (layout_sound ss fine.laid_out) (are_plain ss fine.said) after before l e)
     (what_meets ss fine o obj own values area_at placed view region area after before l e here
-    (λ condition rd x w. literal_holds ss fine values view region area after before l e ready.here words_shown condition rd x w word refl) gaps l.statement.what refl)
+    (λ condition rd x w. literal_holds ss fine values view region area after before l e here ready.here shown condition rd x w word refl) gaps l.statement.what refl)

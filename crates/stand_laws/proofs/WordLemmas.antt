@@ -36,7 +36,7 @@ use Rattle.patch_model.specs.Fields.{Values}
 use Rattle.patch_model.specs.Reaches.{View, ShowsWord}
 use Rattle.said_model.specs.Said.{AllSaid, LoadsPlain}
 use Rattle.source_model.specs.Contexts.{Context, sees, value_of}
-use Rattle.source_model.specs.Objects.{Piece, in_order, IsAmong, literal_unit, literal_piece}
+use Rattle.source_model.specs.Objects.{Piece, in_order, source_of, units_from, IsAmong, StandsIn, literal_unit, literal_piece}
 use Rattle.source_model.specs.SourceFaults.{value_faults, word_of}
 use Rattle.source_model.specs.Units.{Word, Stored, Nothing, placed, stored, units}
 use Rattle.source_model.specs.ValueKinds.{statement_kinds, literal_kinds as value_literal_kinds}
@@ -45,7 +45,8 @@ use Rattle.layout_laws.proofs.SettledLemmas.{no_place_holds}
 use Rattle.layout_laws.proofs.TreeLemmas.{ItemsEach, TreeEach, tree_each}
 use Rattle.source_laws.proofs.FaultlessLemmas.{layout_sound}
 use Rattle.source_laws.proofs.ListLemmas.{same_first, same_rest}
-use Rattle.source_laws.proofs.ThingLemmas.{own_words, known_extent}
+use Rattle.source_laws.proofs.ListedLemmas.{among_last, line_thing}
+use Rattle.source_laws.proofs.ThingLemmas.{own_units, own_words, known_extent}
 use Rattle.stand_model.specs.Stands.{WordStands}
 use Rattle.said_model.specs.Named.{AllItemsNamed, LoadNamed, AllLoadsNamed}
 use Rattle.stand_laws.specs.Laws.{IsFaultless}
@@ -54,7 +55,7 @@ use Rattle.stand_laws.proofs.KeptLemmas.{IsLoaded, constants_hold, kept_loads}
 use Rattle.stand_laws.proofs.LiteralLemmas.{Same32, Plus, Later, Loads}
 use Rattle.stand_laws.proofs.PseudoLemmas.{LiteralHolds}
 use Rattle.stand_laws.proofs.ResultLemmas.{mapped_ok}
-use Rattle.stand_laws.proofs.ValueLemmas.{Setting, scene, AllShown, setting}
+use Rattle.stand_laws.proofs.ValueLemmas.{Setting, scene, Shown, setting}
 use Rattle.asm_model.specs.Labels.{declared_names}
 use Rattle.asm_model.specs.declared.names.LaidName.{LaidName}
 use Rattle.said_model.proofs.SharedLemmas.{are_plain}
@@ -220,13 +221,14 @@ pub word_holds : (k : Setting) (a : ℕ) (e : Expr) (st : Stored) → HaveSymbol
     → ShowsWord k.view a (total_of k st) → WordStands (scene k) a e
 word_holds k a e st here s h = word_stands k a e (value_of k.context e) s.0 here refl s.1 (subst (ShowsWord k.view a) (sym s.2) h)
 
--- the word of a line's literal, where memory shows it
+-- the word of a line's literal, where memory shows what stands in the area
 pub literal_holds : (ss : List Statement) → IsFaultless ss → (values : Values) (view : View) (region : Range32) (area : ℕ) (after before : List LaidLine) (l : LaidLine)
-    → laid ss ≡ after ++ l ∷ before → HaveSymbols (sees (context_behind ss l before)) → AllShown (setting ss values view region area l before) (own_words ss after l before)
+    → laid ss ≡ after ++ l ∷ before → l.area ≡ Some area → HaveSymbols (sees (context_behind ss l before))
+    → ((p : Piece) → StandsIn (source_of ss) area p → Shown (setting ss values view region area l before) p)
     → (condition : Condition) (rd : Register) (x : Expr) → l.statement.what ≡ what.Pseudo (pseudo.LoadConstant condition rd x)
     → (word : Option ℕ) → word_among after l before ≡ word → LiteralHolds (setting ss values view region area l before) x word
-literal_holds ss fine values view region area after before l e here shown condition rd x w None h = tt
-literal_holds ss fine values view region area after before l e here shown condition rd x w (Some place) h =
+literal_holds ss fine values view region area after before l e own here shown condition rd x w None h = tt
+literal_holds ss fine values view region area after before l e own here shown condition rd x w (Some place) h =
     let k = setting ss values view region area l before in
     let c = context_behind ss l before in
     let q = word_loads l.area (taken l.extent) (pieces_of (l ∷ before)) (pieces_of (in_order after [])) place h in
@@ -240,4 +242,6 @@ literal_holds ss fine values view region area after before l e here shown condit
     word_holds k (values.base area + place) x st.0 here
     (literal_stored k l.seen (IsOwn (final_names (laid ss))) q.1 (value_of c x) st.0
     (line_loads ss (layout_sound ss fine.laid_out) fine.said fine.loads_named after before l e condition rd x w q.0 q.1 q.2) st.1)
-    (shown (place, Word st.0) piece)
+    (shown (place, Word st.0)
+    (line_thing ss area (place, Word st.0) after before l e own
+    (among_last (place, Word st.0) (units_from l.offset (own_units ss after l before)) (own_words ss after l before) piece)))

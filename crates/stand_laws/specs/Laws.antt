@@ -12,7 +12,7 @@ use Rattle.patch_model.specs.Reaches.{View}
 use Rattle.said_model.specs.Named.{AllLoadsNamed}
 use Rattle.said_model.specs.Said.{AllSaid}
 use Rattle.source_laws.specs.Laws.{InArmState}
-use Rattle.source_model.specs.Objects.{Piece, source_of, At, StandsIn, IsAmong, pieces_at, word_at, IsObject}
+use Rattle.source_model.specs.Objects.{Piece, source_of, At, StandsIn, word_at, IsObject}
 use Rattle.source_model.specs.SourceFaults.{layout_faults, value_faults}
 use Rattle.stand_model.specs.Placed.{IsPlaced, ShowsObject}
 use Rattle.stand_model.specs.Shown.{IsShown}
@@ -45,15 +45,14 @@ GapsAreZero =
     → IsPlaced own o values area_at → ShowsObject view o values area_at region veneers
     → (area i : ℕ) → i < area_size area (pieces_of (laid statements)) → IsGap (source_of statements) area i → view (values.base area + i) ≡ Some 0
 
--- a statement stands where memory shows what it puts into its area, the word of its literal too, and zeros where nothing
--- of its area stands
+-- a statement stands where memory shows what stands in its area, and zeros where nothing stands there
 abbrev pub ShownLinesStand : Type 0
 ShownLinesStand =
     (statements : List Statement) (o : Object) → IsFaultless statements → IsObject statements o → length o.symbols < 2 ^ 24
     → (own : ℕ) (values : Values) (area_at : ℕ → ℕ → ℕ) (view : View) (region : Range32)
     → IsPlaced own o values area_at
     → (l : LaidLine) (at : At (source_of statements) l) (area : ℕ) → l.area ≡ Some area
-    → ((p : Piece) → IsAmong p (pieces_at (source_of statements) l at) → IsShown (source_of statements) values view region (values.base area) p)
+    → ((p : Piece) → StandsIn (source_of statements) area p → IsShown (source_of statements) values view region (values.base area) p)
     → ((i : ℕ) → i < area_size area (pieces_of (laid statements)) → IsGap (source_of statements) area i → view (values.base area + i) ≡ Some 0)
     → Stands (scene_at (source_of statements) l at view region values) (values.base area + l.offset) l.size
     (address_behind (values.base area) (word_at (source_of statements) l at)) l.statement.what

@@ -1,70 +1,29 @@
--- The object of a source of three lines, of which only the last puts a thing into the area, and that is one word.
+-- The object of a source of one area in which one word stands.
 use Rattle.std.proofs.Common.{◌≡◌, ◌⊎◌, inl, inr, lit<, ℕ, zero, suc, ◌+◌, ◌<◌, ◌≤◌, true, List, [], ◌∷◌, ◌++◌, length, take, drop, get_or, sym, ap, subst, refl, ◌∙◌, codes, arith}
 use Rattle.std.specs.Prelude.{Some, None}
 use Rattle.sdt_word.specs.Bytes.{bytes_of}
 use Rattle.aof_object.specs.declared.records.Symbol.{Symbol}
 use Rattle.asm_model.specs.declared.statements.Statement.{Statement}
 use Rattle.asm_model.specs.Before.{areas_behind}
-use Rattle.asm_model.specs.Laid.{LaidLine, taken, pieces_of, laid}
+use Rattle.asm_model.specs.Laid.{pieces_of, laid}
 use Rattle.asm_model.specs.LayoutKinds.{is_thumb_area}
-use Rattle.asm_model.specs.Marks.{datum_names}
 use Rattle.asm_model.specs.Offsets.{area_size}
-use Rattle.source_model.specs.SourceFaults.{context_of, word_of}
-use Rattle.source_model.specs.Objects.{Piece, Source, source_of, StandsIn, IsAmong, IsRelocOf, HasRelocs, HoldsBytes, KeepsBytes, IsArea, IsObject, unit_bytes, pieces_in, in_order, relocs_of, attributes_of, contents_of, is_kept, symbol_records, entry_of}
+use Rattle.source_model.specs.Objects.{Piece, Source, source_of, things_in, StandsIn, IsAmong, IsRelocOf, HasRelocs, HoldsBytes, KeepsBytes, IsArea, IsObject, unit_bytes, relocs_of, attributes_of, contents_of, is_kept, symbol_records, entry_of}
 use Rattle.stand_model.proofs.OneWord.{at_start, word_area, object, only_one}
 
--- what a line puts into its area between others
-abbrev pub pieces_with : Source → LaidLine → List LaidLine → List LaidLine → List Piece
-pieces_with s l before rest =
-    pieces_in (context_of s.names s.statements l before) (datum_names s.statements) l
-    (word_of l.area (taken l.extent) (pieces_of (l ∷ before)) (pieces_of (in_order rest [])))
-
--- the last line has this thing alone, and the two before it have none
-pub record HasOne (s : Source) (p : Piece) : Type 0 where
-  pub last : LaidLine
-  pub middle : LaidLine
-  pub first : LaidLine
-  pub lines : s.lines ≡ last ∷ middle ∷ first ∷ []
-  pub own : last.area ≡ Some 0
-  pub of_last : pieces_with s last (middle ∷ first ∷ []) [] ≡ p ∷ []
-  pub of_middle : pieces_with s middle (first ∷ []) (last ∷ []) ≡ []
-  pub of_first : pieces_with s first [] (last ∷ middle ∷ []) ≡ []
+-- one thing stands in the first area
+abbrev pub HasOne : Source → Piece → Type 0
+HasOne s p = things_in s 0 ≡ p ∷ []
 
 it_stands : (s : Source) (p : Piece) → HasOne s p → StandsIn s 0 p
-it_stands s p one = record {
-  owner = one.last;
-  at = record { before = one.middle ∷ one.first ∷ []; rest = []; parts = one.lines };
-  own = one.own;
-  among = subst (IsAmong p) (sym one.of_last) (inl refl);
-}
+it_stands s p one = subst (IsAmong p) (sym one) (inl refl)
 
-nothing_else : (s : Source) (p : Piece) → HasOne s p → (area : ℕ) (q : Piece) → StandsIn s area q → q ≡ p
-nothing_else s p one area q stands = by_rest stands.at.rest stands.at.before stands.owner (sym one.lines ∙ stands.at.parts) stands.among
+nothing_else : (s : Source) (p : Piece) → HasOne s p → (q : Piece) → StandsIn s 0 q → q ≡ p
+nothing_else s p one q stands = alone (subst (IsAmong q) one stands)
   where
-    Among : LaidLine → List LaidLine → List LaidLine → Type 0
-    Among l before rest = IsAmong q (pieces_with s l before rest)
-
-    by_rest : (rest before : List LaidLine) (l : LaidLine) → one.last ∷ one.middle ∷ one.first ∷ [] ≡ rest ++ l ∷ before → Among l before rest → q ≡ p
-    by_rest [] before l e among =
-        let same : l ≡ one.last = cc in
-        let before_same : before ≡ one.middle ∷ one.first ∷ [] = cc in
-        at_last (subst (IsAmong q) one.of_last (subst (λ b. Among one.last b []) before_same (subst (λ x. Among x before []) same among)))
-      where
-        at_last : IsAmong q (p ∷ []) → q ≡ p
-        at_last (inl h) = h
-        at_last (inr h) = absurd h
-    by_rest (x ∷ []) before l e among =
-        let other : x ≡ one.last = cc in
-        let same : l ≡ one.middle = cc in
-        let before_same : before ≡ one.first ∷ [] = cc in
-        absurd (subst (IsAmong q) one.of_middle (subst (λ y. Among one.middle (one.first ∷ []) (y ∷ [])) other (subst (λ b. Among one.middle b (x ∷ [])) before_same (subst (λ y. Among y before (x ∷ [])) same among))))
-    by_rest (x ∷ y ∷ []) before l e among =
-        let other : x ∷ y ∷ [] ≡ one.last ∷ one.middle ∷ [] = cc in
-        let same : l ≡ one.first = cc in
-        let before_same : before ≡ [] = cc in
-        absurd (subst (IsAmong q) one.of_first (subst (Among one.first []) other (subst (λ b. Among one.first b (x ∷ y ∷ [])) before_same (subst (λ z. Among z before (x ∷ y ∷ [])) same among))))
-    by_rest (x ∷ y ∷ z ∷ []) before l e among = absurd (cc)
-    by_rest (x ∷ y ∷ z ∷ w ∷ rest) before l e among = absurd (cc)
+    alone : IsAmong q (p ∷ []) → q ≡ p
+    alone (inl h) = h
+    alone (inr h) = absurd h
 
 -- the word at the start of the area, and its relocation
 pub record IsWord (s : Source) (p : Piece) (word reloc : ℕ) : Type 0 where
@@ -75,7 +34,7 @@ pub record IsWord (s : Source) (p : Piece) (word reloc : ℕ) : Type 0 where
 holds_bytes : (s : Source) (p : Piece) (word reloc : ℕ) → HasOne s p → IsWord s p word reloc → 4 ≡ area_size 0 (pieces_of s.lines) → HoldsBytes s 0 (bytes_of word 4)
 holds_bytes s p word reloc one is size = record {
   size = size;
-  standing = λ q stands. subst (λ x. take (length (unit_bytes x.1)) (drop x.0 (bytes_of word 4)) ≡ unit_bytes x.1) (sym (nothing_else s p one 0 q stands)) (rw (is.start, is.bytes) refl);
+  standing = λ q stands. subst (λ x. take (length (unit_bytes x.1)) (drop x.0 (bytes_of word 4)) ≡ unit_bytes x.1) (sym (nothing_else s p one q stands)) (rw (is.start, is.bytes) refl);
   others = λ i out. outside i (out p (it_stands s p one));
 }
   where
@@ -95,7 +54,7 @@ holds_bytes s p word reloc one is size = record {
 has_relocs : (s : Source) (p : Piece) (word reloc : ℕ) → HasOne s p → IsWord s p word reloc → HasRelocs s 0 (at_start reloc ∷ [])
 has_relocs s p word reloc one is = record {
   order = tt;
-  all = λ q r stands among. subst (λ rs. IsRelocOf rs r) is.relocs (subst (λ x. IsRelocOf (relocs_of s x) r) (nothing_else s p one 0 q stands) among);
+  all = λ q r stands among. subst (λ rs. IsRelocOf rs r) is.relocs (subst (λ x. IsRelocOf (relocs_of s x) r) (nothing_else s p one q stands) among);
   no_others = λ r among. (p, it_stands s p one, subst (λ rs. IsRelocOf rs r) (sym is.relocs) among);
 }
 

@@ -72,23 +72,11 @@ branch_source link = branch_far link ∷ import_far ∷ area contents.Code ∷ [
 
 -- ---- their objects
 
-abbrev line_of : List Statement → Statement → List Statement → LaidLine
-line_of all s before = laid_behind (declared_names all) s (laid_of (declared_names all) before)
-
 abbrev own_word : Piece
 own_word = (0, Word (record { number = 0; target = ByArea 0 }))
 
 own_label_one : HasOne (source_of own_label_source) own_word
-own_label_one = record {
-  last = line_of own_label_source dcd_here (export_here ∷ area contents.Data ∷ []);
-  middle = line_of own_label_source export_here (area contents.Data ∷ []);
-  first = line_of own_label_source (area contents.Data) [];
-  lines = refl;
-  own = refl;
-  of_last = refl;
-  of_middle = refl;
-  of_first = refl;
-}
+own_label_one = refl
 
 pub own_label_object : IsObject own_label_source of_own_label
 own_label_object =
@@ -98,16 +86,7 @@ abbrev far_word : Piece
 far_word = (0, Word (record { number = 4; target = BySymbol (codes "far") }))
 
 imported_word_one : HasOne (source_of imported_word_source) far_word
-imported_word_one = record {
-  last = line_of imported_word_source dcd_far (import_far ∷ area contents.Data ∷ []);
-  middle = line_of imported_word_source import_far (area contents.Data ∷ []);
-  first = line_of imported_word_source (area contents.Data) [];
-  lines = refl;
-  own = refl;
-  of_last = refl;
-  of_middle = refl;
-  of_first = refl;
-}
+imported_word_one = refl
 
 pub imported_word_object : IsObject imported_word_source of_imported_word
 imported_word_object =
@@ -117,16 +96,7 @@ abbrev far_branch : Bool → Piece
 far_branch link = (0, Instruction (instr.Branch Al link 0xFFFFFE) (Some (codes "far")))
 
 branch_one : (link : Bool) → HasOne (source_of (branch_source link)) (far_branch link)
-branch_one link = record {
-  last = line_of (branch_source link) (branch_far link) (import_far ∷ area contents.Code ∷ []);
-  middle = line_of (branch_source link) import_far (area contents.Code ∷ []);
-  first = line_of (branch_source link) (area contents.Code) [];
-  lines = refl;
-  own = refl;
-  of_last = refl;
-  of_middle = refl;
-  of_first = refl;
-}
+branch_one link = refl
 
 pub branch_object : IsObject (branch_source false) of_branch
 branch_object =

@@ -3,7 +3,7 @@ use Rattle.asm_model.specs.declared.statements.Statement.{Statement}
 use Rattle.asm_pool.specs.declared.layout.LaidArea.{LaidArea}
 use Rattle.asm_pool.specs.declared.layout.LaidStatement.{LaidStatement}
 use Rattle.asm_registers.proofs.NameLemmas.{found}
-use Rattle.source_laws.specs.Laws.{things_behind}
+use Rattle.source_model.specs.Objects.{source_of, things_behind}
 use Rattle.source_model.specs.Registers.{Named, register_in}
 use Rattle.armasm_core.specs.Gathered.{AllLaidSaid}
 use Rattle.armasm_core.specs.Whole.{IsHere}
@@ -66,10 +66,10 @@ lines-preserved c =
     let put = c.in_ok-units-in-len1-up.ensures statements n.before n.rest n.line
     (subst (λ (areas : List LaidArea). IsHere statements areas w known n.before n.rest n.line x) (sym c.as_slice-areas.ensures) n.here) in
     let pieces = put_there statements l w names x more known gs n u us c.as_slice.ensures.value put in
-    let apart = apart_there c.things_are_listed.ensures c.sources_stand_apart.ensures statements j.sound j.arm n.before n.rest n.line x.area
+    let apart = apart_there c.sources_stand_apart.ensures statements j.sound j.arm n.before n.rest n.line x.area
     (pieces_put x.offset us u.literal) n.here.parts n.here.line.area pieces in
     grown_more statements l w names x more known c.give.new.known gs c.put_line.new.growing.items n u us c.as_slice.ensures.value put
-    (c.in_ok-put_line-in-len1-up.ensures.more (λ area. things_behind statements area n.before (n.line ∷ n.rest)) n.drafts apart)
+    (c.in_ok-put_line-in-len1-up.ensures.more (λ area. things_behind (source_of statements) area n.before (n.line ∷ n.rest)) n.drafts apart)
     c.in_ok-give-in-len1-up.ensures in (
       (said_first left x c.lines.invariant.0 c.in-len1-up.len_at_least c.line-item.is).1,
       c.put_line.ensures.frames ∙ c.lines.invariant.1,

@@ -34,7 +34,7 @@ returns-clause-object c = λ statements layout said sound arm.
     let j : IsEmittable statements l w = record { layout = layout; said = said; sound = sound; arm = arm; whole = whole } in
     record {
       count = count_there statements l.areas gs areas layout.areas c.in_ok-growing.ensures.frames c.in_ok-areas.ensures;
-      areas = areas_there c.relocations_are_of_sources.ensures c.things_are_listed.ensures statements c.in_ok-needed.needed l.areas gs areas sound layout.areas listed
+      areas = areas_there c.relocations_are_of_sources.ensures statements c.in_ok-needed.needed l.areas gs areas sound layout.areas listed
           c.in_ok-growing.ensures.frames (c.in_ok-growing.ensures.drafts statements j) c.in_ok-areas.ensures;
       symbols = c.in_ok-symbols.ensures.records statements layout sound whole listed;
       entry = c.entry_of.ensures statements layout;
