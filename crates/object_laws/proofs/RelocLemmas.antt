@@ -25,7 +25,7 @@ use Rattle.asm_model.specs.Meaning.{named_in, in_area, entry_stands_at, stands_a
 use Rattle.asm_model.specs.Says.{on_both, mapped}
 use Rattle.asm_model.specs.Before.{areas_behind}
 use Rattle.asm_model.specs.Extents.{value_there}
-use Rattle.asm_model.specs.Laid.{LaidLine, taken, laid}
+use Rattle.asm_model.specs.Laid.{LaidLine, laid}
 use Rattle.asm_model.specs.Marks.{datum_names}
 use Rattle.asm_model.specs.Symbols.{symbols_of, literal_value}
 use Rattle.asm_model.specs.Sound.{IsSound, HaveNoPlaces, ArePlain}

@@ -8,11 +8,6 @@ use Rattle.arm_isa.specs.declared.instr.ArmInstr.{ArmInstr}
 use Rattle.asm_model.specs.declared.exprs.Expr.{Expr}
 use Rattle.asm_model.specs.declared.arm_lines.ArmLine.{ArmLine}
 use Rattle.asm_model.specs.declared.arm_lines.ArmLine.TheVariants as arm
-use Rattle.asm_model.specs.declared.thumb_lines.ThumbLine.{ThumbLine}
-use Rattle.asm_model.specs.declared.thumb_lines.ThumbLine.TheVariants as thumb
-use Rattle.asm_model.specs.declared.directives.Boundary.{Boundary}
-use Rattle.asm_model.specs.declared.directives.Boundary.TheVariants as limit
-use Rattle.asm_model.specs.declared.directives.DirectiveLine.{DirectiveLine}
 use Rattle.asm_model.specs.declared.directives.DirectiveLine.TheVariants as line
 use Rattle.asm_model.specs.declared.names.LaidName.{LaidName}
 use Rattle.asm_model.specs.declared.statements.Statement.{Statement}
@@ -26,7 +21,7 @@ use Rattle.asm_model.specs.Meaning.{stands_at, in_area}
 use Rattle.asm_model.specs.Says.{on_both, mapped}
 use Rattle.asm_model.proofs.WordLemmas.{same_refl, same_true}
 use Rattle.asm_model.specs.Before.{with_name}
-use Rattle.asm_model.specs.Extents.{Extent, Block, Padding, Loading, number_there, value_there, as_multiple, padding, thumb_extent, extent_of}
+use Rattle.asm_model.specs.Extents.{Extent, value_there}
 use Rattle.asm_model.specs.Laid.{LaidLine, taken, laid, final_names}
 use Rattle.asm_model.specs.Marks.{datum_names}
 use Rattle.asm_model.specs.Symbols.{literal_value, unless_placed, word_symbols, words_symbols, branch_symbols, arm_symbols, literal_symbols, symbols_in, listed_behind, symbols_of}

@@ -1,5 +1,5 @@
 -- What stands in an area lies where a line stands, or behind all lines, and so it stands apart.
-use Rattle.std.proofs.Common.{◌≡◌, ℕ, ◌+◌, ◌≤◌, List, ◌∷◌, ◌++◌, length, sym, ◌∙◌, ap, subst, arith, Option, Some, ◌⊎◌, inl, inr}
+use Rattle.std.proofs.Common.{◌≡◌, ℕ, ◌+◌, ◌≤◌, List, ◌∷◌, ◌++◌, length, sym, ◌∙◌, ap, subst, arith, Some, ◌⊎◌, inl, inr}
 use Rattle.asm_model.specs.declared.statements.Statement.{Statement}
 use Rattle.asm_model.specs.Extents.{Pool}
 use Rattle.asm_model.specs.Laid.{LaidLine, pieces_of, laid}

@@ -1,6 +1,6 @@
 -- Each thing of an area is a unit of a line's own, or the word of a literal that a line loads; and each such word lies in the
 -- area's next pool, where an LTORG stands or behind all lines.
-use Rattle.std.proofs.Common.{◌≡◌, ℕ, ◌*◌, ◌+◌, ◌&&◌, List, [], ◌∷◌, ◌++◌, Bool, true, false, cond, refl, sym, ◌∙◌, ap, subst, Option, Some, None, ◌⊎◌, inl, inr}
+use Rattle.std.proofs.Common.{◌≡◌, ℕ, List, [], ◌∷◌, ◌++◌, Bool, true, false, cond, refl, sym, ◌∙◌, ap, subst, Option, Some, None, ◌⊎◌, inl, inr}
 use Rattle.std.specs.Prelude.{Result, Ok, Err}
 use Rattle.std.proofs.lemmas.Bool.{and_parts}
 use Rattle.sdt_fault.specs.declared.kinds.LineKind.{LineKind}
@@ -11,7 +11,7 @@ use Rattle.asm_model.specs.declared.values.Value.{Value}
 use Rattle.asm_model.specs.Extents.{Extent, Block, Padding, Loading, Pool}
 use Rattle.asm_model.specs.Laid.{LaidLine, taken, pieces_of, laid}
 use Rattle.asm_model.specs.Marks.{datum_names}
-use Rattle.asm_model.specs.Offsets.{Piece as LaidPiece, is_of, is_pool, is_pool_of, waiting, place_among, start_in, word_behind, literal_word}
+use Rattle.asm_model.specs.Offsets.{Piece as LaidPiece, is_of, is_pool, is_pool_of, waiting, start_in, word_behind, literal_word}
 use Rattle.asm_model.specs.Sound.{IsSound}
 use Rattle.asm_model.proofs.OffsetLemmas.{behind_keeps}
 use Rattle.source_model.specs.Contexts.{Context}

@@ -1,5 +1,5 @@
 -- Literals that wait for a pool, and the words of pools.
-use Rattle.std.proofs.Common.{◌≡◌, ℕ, ◌+◌, ◌*◌, ◌==◌, ◌&&◌, ◌||◌, List, [], ◌∷◌, ◌++◌, append_assoc, length, length-append, map, Bool, true, false, cond, eqb-true, refl, sym, ◌∙◌, ap, subst, arith, Option, Some, ◌⊎◌, inl, inr}
+use Rattle.std.proofs.Common.{◌≡◌, ℕ, ◌+◌, ◌*◌, ◌==◌, ◌&&◌, ◌||◌, List, [], ◌∷◌, ◌++◌, length, length-append, map, Bool, true, false, cond, eqb-true, refl, sym, ◌∙◌, ap, subst, arith, Some, inl, inr}
 use Rattle.std.specs.List.{list_any}
 use Rattle.std.proofs.lemmas.Bool.{or_parts, or_from}
 use Rattle.std.specs.Prelude.{Result, Ok, Err}
@@ -9,7 +9,7 @@ use Rattle.asm_model.specs.declared.values.Value.{Value}
 use Rattle.asm_model.specs.declared.values.Value.TheVariants.{Number, Place}
 use Rattle.asm_model.specs.Forms.{same}
 use Rattle.asm_model.proofs.WordLemmas.{same_true}
-use Rattle.asm_model.specs.Extents.{Extent, Loading, Pool}
+use Rattle.asm_model.specs.Extents.{Extent, Loading}
 use Rattle.asm_model.specs.Laid.{LaidLine, taken, pieces_of, sight_behind, laid}
 use Rattle.asm_model.specs.OffsetLaws.{joined, IsLiteral}
 use Rattle.asm_model.specs.Offsets.{Piece as LaidPiece, is_of, same_literal, waiting, place_among, word_behind, is_pool, is_pool_of, literal_word}

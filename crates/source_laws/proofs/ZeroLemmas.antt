@@ -6,8 +6,6 @@ use Rattle.std.proofs.lemmas.Bool.{cond-true, cond-false, eq-eqb, or_parts}
 use Rattle.sdt_fault.specs.declared.kinds.LineKind.{LineKind}
 use Rattle.sdt_fault.specs.declared.kinds.LineKind.TheVariants.{BadOperand, TooMany}
 use Rattle.asm_model.specs.declared.directives.AreaAttributes.{AreaAttributes}
-use Rattle.asm_model.specs.declared.directives.Boundary.{Boundary}
-use Rattle.asm_model.specs.declared.directives.Boundary.TheVariants as limit
 use Rattle.asm_model.specs.declared.directives.Contents.{Contents}
 use Rattle.asm_model.specs.declared.directives.Contents.TheVariants as contents
 use Rattle.asm_model.specs.declared.directives.DirectiveLine.TheVariants as line
@@ -18,13 +16,11 @@ use Rattle.asm_model.specs.AtLine.{Sight}
 use Rattle.asm_model.specs.Directives.{or_else}
 use Rattle.asm_model.specs.Forms.{same}
 use Rattle.asm_model.specs.Kinds.{told_kind}
-use Rattle.asm_model.specs.Says.{on_both, mapped}
 use Rattle.asm_model.proofs.LineLemmas.{both_empty}
 use Rattle.asm_model.proofs.WordLemmas.{same_refl, same_true}
 use Rattle.asm_model.specs.Before.{area_named, with_name, areas_behind, place_of, area_from, area_behind}
-use Rattle.asm_model.specs.Extents.{Extent, Block, Padding, Loading, Pool, number_there, as_multiple, padding, extent_of}
 use Rattle.asm_model.specs.Labels.{defined_by, declared_names}
-use Rattle.asm_model.specs.Laid.{LaidLine, statements_of, taken, laid_of, laid}
+use Rattle.asm_model.specs.Laid.{LaidLine, statements_of, laid_of, laid}
 use Rattle.asm_model.specs.LayoutKinds.{fault_kinds, kind_if, map_kinds, no_area_kinds, is_zero_statement, contents_kinds, contents_from, contents_behind, exponent, exponent_kinds, same_contents, same_mark, same_exponent, same_attributes, again_with, is_named_otherwise, area_kinds, name_kinds, equals_in, settled, settled_kinds, layout_kinds, told_at, first_fault, area_bytes}
 use Rattle.asm_model.specs.Marks.{datum_names}
 use Rattle.asm_model.specs.Offsets.{is_of}

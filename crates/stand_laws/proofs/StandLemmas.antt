@@ -6,8 +6,6 @@ use Rattle.sdt_word.specs.declared.ranges.Range32.{Range32}
 use Rattle.aof_object.specs.declared.records.Object.{Object}
 use Rattle.asm_model.specs.declared.arm_lines.ArmLine.{ArmLine}
 use Rattle.asm_model.specs.declared.arm_lines.ArmLine.TheVariants as arm
-use Rattle.asm_model.specs.declared.directives.Boundary.{Boundary}
-use Rattle.asm_model.specs.declared.directives.Boundary.TheVariants as limit
 use Rattle.asm_model.specs.declared.directives.DirectiveLine.{DirectiveLine}
 use Rattle.asm_model.specs.declared.directives.DirectiveLine.TheVariants as line
 use Rattle.asm_model.specs.declared.exprs.Expr.{Expr}
@@ -17,12 +15,10 @@ use Rattle.asm_model.specs.declared.statements.PseudoLine.TheVariants as pseudo
 use Rattle.asm_model.specs.declared.statements.Statement.{Statement}
 use Rattle.asm_model.specs.declared.statements.What.{What}
 use Rattle.asm_model.specs.declared.statements.What.TheVariants as what
-use Rattle.asm_model.specs.AtLine.{Sight}
 use Rattle.asm_model.specs.Meaning.{named_in, entry_stands_at, in_area}
-use Rattle.asm_model.specs.Extents.{Extent, Block, Padding, number_there, as_multiple, padding, directive_extent, extent_of}
 use Rattle.asm_model.specs.Laid.{LaidLine, taken, pieces_of, laid, final_names}
 use Rattle.asm_model.specs.LayoutKinds.{equals_in, settled}
-use Rattle.asm_model.specs.Offsets.{area_size, is_pool}
+use Rattle.asm_model.specs.Offsets.{area_size}
 use Rattle.asm_model.specs.PlacedLines.{AllNamed}
 use Rattle.asm_model.specs.Placing.{address_at}
 use Rattle.asm_model.specs.Symbols.{symbols_in, symbols_of}
@@ -52,7 +48,6 @@ use Rattle.stand_laws.specs.Laws.{IsFaultless}
 use Rattle.stand_laws.proofs.ArmLemmas.{Ready, BranchMeets}
 use Rattle.stand_laws.proofs.LineLemmas.{DirectiveZero, WhatMeets, line_stands, zeros_there}
 use Rattle.stand_laws.proofs.PseudoLemmas.{LiteralHolds}
-use Rattle.stand_laws.proofs.ResultLemmas.{both_ok, mapped_ok}
 use Rattle.stand_laws.proofs.SymbolLemmas.{symbol_placed_there}
 use Rattle.stand_laws.proofs.ValueLemmas.{scene, AllShown, setting}
 use Rattle.stand_laws.proofs.WordLemmas.{literal_holds}

@@ -1,5 +1,5 @@
 -- The object of a source of one area in which one word stands.
-use Rattle.std.proofs.Common.{◌≡◌, ◌⊎◌, inl, inr, lit<, ℕ, zero, suc, ◌+◌, ◌<◌, ◌≤◌, true, List, [], ◌∷◌, ◌++◌, length, take, drop, get_or, sym, ap, subst, refl, ◌∙◌, codes, arith}
+use Rattle.std.proofs.Common.{◌≡◌, ◌⊎◌, inl, inr, lit<, ℕ, zero, suc, ◌+◌, ◌<◌, ◌≤◌, true, List, [], ◌∷◌, length, take, drop, get_or, sym, ap, subst, refl, codes, arith}
 use Rattle.std.specs.Prelude.{Some, None}
 use Rattle.sdt_word.specs.Bytes.{bytes_of}
 use Rattle.aof_object.specs.declared.records.Symbol.{Symbol}

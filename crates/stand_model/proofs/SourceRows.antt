@@ -16,8 +16,6 @@ use Rattle.asm_model.specs.declared.statements.What.{What}
 use Rattle.asm_model.specs.declared.statements.What.TheVariants as what
 use Rattle.asm_model.specs.declared.values.Value.TheVariants.{Number}
 use Rattle.asm_model.specs.Before.{is_code}
-use Rattle.asm_model.specs.Labels.{declared_names}
-use Rattle.asm_model.specs.Laid.{LaidLine, laid_behind, laid_of}
 use Rattle.source_model.specs.Objects.{Piece, source_of, IsObject}
 use Rattle.source_model.specs.SourceFaults.{statements_fault}
 use Rattle.source_model.specs.Units.{ByArea, BySymbol, Word, Instruction}
