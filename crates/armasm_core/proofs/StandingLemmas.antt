@@ -71,7 +71,7 @@ few_areas name text o h =
 -- ---- laws
 
 pub objects_of_sources_stand : OneReading → ReadingsAreFit → SourcesStayInArmState → ObjectsStand → ObjectsOfSourcesStand
-objects_of_sources_stand one fits stays stand name text o h few r says own values area_at view region veneers placed shown =
+objects_of_sources_stand one fits stays stand name text o h few own values area_at view region veneers placed shown r says =
     let fit : AreFit (said_by h.reading) = fits _ h.reading h.says.reading in
     let none = source_none name h.reading h.none in
     let faultless : IsFaultless (said_by h.reading) = record {
