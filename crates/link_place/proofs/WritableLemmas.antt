@@ -1,5 +1,5 @@
 -- Lemmas on least addresses.
-use Rattle.std.proofs.Common.{◌≡◌, ◌+◌, ℕ, Bool, true, false, cond, List, [], ◌∷◌, ◌++◌, refl, ap, sym, ◌∙◌, append_assoc, arith, Option, Some, None}
+use Rattle.std.proofs.Common.{◌≡◌, ◌+◌, ℕ, Bool, true, false, cond, List, [], ◌∷◌, ◌++◌, refl, ap, ◌∙◌, append_assoc, arith, Option, Some, None}
 use Rattle.std.specs.Prelude.{min, unwrap_or}
 use Rattle.std.specs.Option.{option_to_list}
 use Rattle.std.specs.List.{flat_map}
@@ -51,7 +51,7 @@ pub least_next : (ram : List Range32) (words origin end address size : ℕ) (p :
     → least_with next (flat_map (lacked ram words) (seats words origin 0 (address + size) ps)) ≡ all
 least_next ram words origin end address size p ps best next all known begins sized more =
     let there : next ≡ least_with best (lacked ram words (seat_at 0 p (start_in origin end p))) =
-        more ∙ ap (λ (x : ℕ). least_with best (lacked ram words (seat_at 0 p x))) begins in
+    more ∙ ap (λ (x : ℕ). least_with best (lacked ram words (seat_at 0 p x))) begins in
     rw (begins, sized, there)
     (least_join best (lacked ram words (seat_at 0 p (start_in origin end p))) (flat_map (lacked ram words) (seats words origin 0 (start_in origin end p + size_in words p) ps)) ∙ known)
 
