@@ -1,12 +1,11 @@
 -- The layout with the least table is the plan, with all that is told of it.
 use Rattle.std.proofs.Common.{◌≡◌, ℕ, zero, suc, ◌+◌, ◌*◌, ◌≤◌, ◌<◌, ◌^◌, Bool, true, false, cond, List, [], ◌∷◌, ◌++◌, length, map, refl, ap, sym, ◌∙◌, append-nil, subst, arith, Option, Some, None, Result, Ok, Err, take, drop, length-append}
-use Rattle.std.specs.Prelude.{IfOk, nat_le, nat_lt, sum_by}
-use Rattle.std.specs.List.{flat_map, AllByRecursion}
-use Rattle.std.specs.Option.{option_or, option_map}
+use Rattle.std.specs.Prelude.{IfOk, nat_le, sum_by}
+use Rattle.std.specs.List.{flat_map}
+use Rattle.std.specs.Option.{option_or}
 use Rattle.std.proofs.lemmas.List.{length-map, map-append}
 use Rattle.std.proofs.Math.Seq.{take-append_seam, drop-append_seam}
 use Rattle.std.proofs.lemmas.List.Sums.{sum_by-cons}
-use Rattle.base_lemmas.proofs.BaseLemmas.{all_append, all_front, all_back, all_weaker}
 use Rattle.sdt_word.specs.declared.ranges.Range32.{Range32}
 use Rattle.sdt_fault.specs.declared.refusal.Refusal.{Refusal}
 use Rattle.place_model.specs.declared.scatter.Kind.{Kind}
@@ -14,10 +13,8 @@ use Rattle.place_model.specs.declared.scatter.Kind.TheVariants as kind
 use Rattle.place_model.specs.declared.scatter.ScatterLoad.{ScatterLoad}
 use Rattle.place_model.specs.declared.scatter.ScatterRegion.{ScatterRegion}
 use Rattle.place_model.specs.Assignment.{description, described_regions, plain_regions, plain_load}
-use Rattle.place_model.specs.Plans.{Contents, origin_of, Planned, length_of, execution_size, end_of, base_behind, planned, planned_from, PlannedLoad, load_size, loads_from, Plan, plan_for, regions_of, suffices, first_from, table_words, plan_of}
+use Rattle.place_model.specs.Plans.{Contents, origin_of, Planned, length_of, execution_size, end_of, planned, planned_from, PlannedLoad, load_size, loads_from, Plan, plan_for, regions_of, suffices, first_from, table_words, plan_of}
 use Rattle.place_model.specs.Faults as model
-use Rattle.place_model.proofs.ListLemmas.{none_given, all_of_map}
-use Rattle.place_model.proofs.ToldLemmas.{told_law}
 use Rattle.link_place.specs.declared.layouts.Laid.{Laid}
 use Rattle.link_place.specs.declared.layouts.Layout.{Layout}
 use Rattle.link_place.specs.declared.layouts.Load.{Load}
@@ -26,14 +23,14 @@ use Rattle.link_place.specs.declared.parts.Group.{Group}
 use Rattle.link_place.specs.declared.parts.Input.{Input}
 use Rattle.link_place.specs.declared.parts.Part.{Part}
 use Rattle.link_place.specs.Parts.{contents_in, parts_from, parts_of, load_group, groups_of}
-use Rattle.link_place.specs.Layouts.{laid_from, laid_in, loaded, regions_by, loads_by, row_words, has_room, passes, layout_for, layout_of, size_of}
-use Rattle.link_place.specs.Checks.{judged_laid, judged_load, judged_by, move_of, move_of_load, move_of_region, overlap_of, conflict_of, too_large_by, aif_too_large_by, rootless, IsLow, IsLowLoad}
+use Rattle.link_place.specs.Layouts.{laid_from, loaded, regions_by, loads_by, row_words, passes, layout_for, layout_of, size_of}
+use Rattle.link_place.specs.Checks.{judged_laid, judged_by, move_of, move_of_load, overlap_of, conflict_of, too_large_by, aif_too_large_by, rootless}
 use Rattle.link_place.specs.Placings.{AreFor, area_at, veneer_at, boot_in}
-use Rattle.link_place.specs.Placed.{placed_region, placed_regions, placement_of, told, placed}
-use Rattle.link_place.specs.Judgements.{unwritable_of, refusal_of_ranges, refusal_of_layout, most_of, placement_by, IsLeast}
+use Rattle.link_place.specs.Placed.{placed_regions, placement_of, told, placed}
+use Rattle.link_place.specs.Judgements.{unwritable_of, refusal_of_layout, most_of, placement_by, IsLeast}
 use Rattle.link_place.proofs.PartLemmas.{parts_append, parts_length}
 use Rattle.link_place.proofs.PlanLemmas.{laid_of, AreOf, laid_plan, laid_same, regions_same, are_of}
-use Rattle.link_place.proofs.PlacedLemmas.{rows_same, map_map, mapped_same, sums_same, rootless_same, conflict_same, execution_same, are_for, unwritable_same, located, located_same, areas_placed, veneers_placed, boot_placed}
+use Rattle.link_place.proofs.PlacedLemmas.{rows_same, map_map, sums_same, rootless_same, conflict_same, execution_same, are_for, unwritable_same, located_same, areas_placed, veneers_placed, boot_placed}
 
 -- ---- the regions of the layout with a table of so many words
 

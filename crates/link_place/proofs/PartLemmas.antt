@@ -20,7 +20,7 @@ use Rattle.place_model.proofs.ListLemmas.{all_of_get, all_of_map}
 use Rattle.link_items.specs.LinkedItems.{item_of, item_in, item_at, region_veneer, contents_of}
 use Rattle.link_place.specs.declared.parts.Part.{Part}
 use Rattle.link_place.specs.declared.pieces.Piece.{Piece}
-use Rattle.link_place.specs.Parts.{area_piece, area_pieces, area_named, pieces_by, belongs, piece_of, veneer_piece, veneer_pieces, things_in, zeros_in, part_by, parts_from, IsAligned, IsAlignedArea}
+use Rattle.link_place.specs.Parts.{area_piece, area_pieces, area_named, pieces_by, piece_of, veneer_piece, veneer_pieces, things_in, zeros_in, part_by, parts_from, IsAligned, IsAlignedArea}
 
 pub get_map : {X Y : Type 0} (f : X → List Y) (empty : X) (xs : List X) (i : ℕ) → f empty ≡ [] → unwrap_or (slice_get (map f xs) i) [] ≡ f (unwrap_or (slice_get xs i) empty)
 get_map f empty [] i h = sym h

@@ -1,13 +1,12 @@
 -- What is told of a layout is what is told of the plan, and so is where things stand.
-use Rattle.std.proofs.Common.{◌≡◌, ℕ, zero, suc, ◌+◌, ◌*◌, ◌≤◌, Bool, true, false, cond, List, [], ◌∷◌, ◌++◌, length, map, refl, ap, sym, ◌∙◌, append_assoc, append-nil, subst, arith, Option, Some, None, take, drop}
-use Rattle.std.specs.Prelude.{not, nat_lt, nat_le, sum_by}
+use Rattle.std.proofs.Common.{◌≡◌, ℕ, suc, ◌+◌, ◌*◌, Bool, true, false, cond, List, [], ◌∷◌, ◌++◌, length, map, refl, ap, sym, ◌∙◌, append-nil, subst, arith, Option, Some, None}
+use Rattle.std.specs.Prelude.{not, sum_by}
 use Rattle.std.specs.List.{filter, flat_map, find}
 use Rattle.std.specs.Option.{option_or, option_map}
 use Rattle.std.proofs.lemmas.List.{map-append}
 use Rattle.std.proofs.lemmas.Grind.{flat_map-append}
 use Rattle.std.proofs.lemmas.List.Sums.{sum_by-cons}
 use Rattle.sdt_word.specs.declared.ranges.Range32.{Range32}
-use Rattle.sdt_fault.specs.declared.refusal.Refusal.{Refusal}
 use Rattle.place_model.specs.Plans as plans
 use Rattle.place_model.specs.Plans.{Planned, length_of, zero_length_of, execution_size, Plan, regions_of, copy_row, zero_row, is_cleared, stood_in, address_of, is_startup}
 use Rattle.place_model.specs.Faults as model
@@ -19,10 +18,10 @@ use Rattle.link_place.specs.declared.parts.Part.{Part}
 use Rattle.link_place.specs.declared.pieces.Piece.{Piece}
 use Rattle.link_place.specs.Pieces.{reach, Seat, seats}
 use Rattle.link_place.specs.Parts.{piece_of}
-use Rattle.link_place.specs.Layouts.{is_copied, row_words, size_of}
-use Rattle.link_place.specs.Checks.{rootless, move_of, move_of_region, move_of_copy, judged_laid, span_of, range_by}
+use Rattle.link_place.specs.Layouts.{is_copied, row_words}
+use Rattle.link_place.specs.Checks.{rootless, move_of, move_of_region, move_of_copy, span_of, range_by}
 use Rattle.link_place.specs.Writable.{lacked, copy_lacking, lacked_in, unwritable_by, first_unwritable_by}
-use Rattle.link_place.specs.Placings.{area_by, area_at, veneer_by, veneer_at, boot_by, boot_at, boot_in, region_seats, all_seats, IsFor, AreFor}
+use Rattle.link_place.specs.Placings.{area_by, area_at, veneer_by, veneer_at, boot_by, boot_at, boot_in, all_seats, IsFor, AreFor}
 use Rattle.link_place.specs.Placed.{area_of, areas_of, veneer_of, veneers_of}
 use Rattle.link_place.proofs.CheckLemmas.{told_cons}
 use Rattle.link_place.proofs.PlanLemmas.{laid_of, IsOf, AreOf, extent_same, seats_same, seat_of}

@@ -1,17 +1,14 @@
 -- Lemmas on what was placed so far.
-use Rattle.std.proofs.Common.{◌≡◌, ℕ, suc, ◌+◌, List, [], ◌∷◌, ◌++◌, refl, ap, sym, ◌∙◌, append_assoc, append-nil, arith, Option, Some, None, Result, Ok, Err, length, length-drop, drop, ◌<◌}
+use Rattle.std.proofs.Common.{◌≡◌, ℕ, suc, ◌+◌, List, [], ◌∷◌, ◌++◌, refl, ap, sym, ◌∙◌, append_assoc, arith, Option, Some, None, Result, Ok, Err, length, length-drop, drop, ◌<◌}
 use Rattle.std.specs.Prelude.{OnOk}
 use Rattle.std.specs.List.{flat_map}
 use Rattle.std.specs.Option.{option_or}
 use Rattle.std.proofs.lemmas.Grind.{flat_map-append}
-use Rattle.link_model.specs.declared.placing.PlacedArea.{PlacedArea}
-use Rattle.link_model.specs.declared.placing.PlacedVeneer.{PlacedVeneer}
 use Rattle.link_place.specs.declared.layouts.Laid.{Laid}
 use Rattle.link_place.specs.declared.parts.Part.{Part}
-use Rattle.link_place.specs.declared.pieces.Piece.{Piece}
 use Rattle.link_place.specs.declared.placing.Placing.{Placing}
-use Rattle.link_place.specs.Pieces.{size_in, start_in, Seat, seats}
-use Rattle.link_place.specs.Placings.{area_at, veneer_at, boot_at, boot_in, seat_at, region_seats, all_seats, AreStood, AreFor}
+use Rattle.link_place.specs.Pieces.{Seat}
+use Rattle.link_place.specs.Placings.{area_at, veneer_at, boot_in, region_seats, all_seats, AreStood, AreFor}
 use Rattle.link_place.proofs.PlacedLemmas.{boot_append}
 
 or_assoc : (a b c : Option ℕ) → option_or (option_or a b) c ≡ option_or a (option_or b c)

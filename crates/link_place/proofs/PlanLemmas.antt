@@ -1,10 +1,9 @@
 -- A layout is where the plan has its regions.
-use Rattle.std.proofs.Common.{◌≡◌, ℕ, zero, suc, ◌+◌, ◌*◌, ◌≤◌, Bool, true, false, cond, List, [], ◌∷◌, ◌++◌, length, map, refl, ap, sym, ◌∙◌, append_assoc, append-nil, arith, Option, Some, None, take, drop}
-use Rattle.std.specs.Prelude.{not, ◌==◌, sum_by}
+use Rattle.std.proofs.Common.{◌≡◌, ℕ, zero, suc, ◌+◌, true, false, List, [], ◌∷◌, ◌++◌, length, map, refl, ap, sym, ◌∙◌, arith, take, drop}
+use Rattle.std.specs.Prelude.{not, ◌==◌}
 use Rattle.std.specs.List.{filter, flat_map, AllByRecursion}
 use Rattle.std.proofs.lemmas.List.{map-append}
 use Rattle.std.proofs.Math.Seq.{take-append_seam, drop-append_seam}
-use Rattle.std.proofs.lemmas.List.Sums.{sum_by-cons}
 use Rattle.base_lemmas.proofs.BaseLemmas.{all_append}
 use Rattle.place_model.specs.declared.scatter.Kind.{Kind}
 use Rattle.place_model.specs.declared.scatter.Kind.TheVariants as kind
@@ -13,16 +12,13 @@ use Rattle.place_model.specs.declared.scatter.ScatterRegion.{ScatterRegion}
 use Rattle.place_model.specs.Items.{Item, is_zero_initialised}
 use Rattle.place_model.specs.Things as things
 use Rattle.place_model.specs.Things.{Thing, AnArea, AVeneer, alignment_of, size_of, gap, start_of, extent, Stood, stood}
-use Rattle.place_model.specs.Plans.{RegionVeneer, Contents, areas_in, veneers_in, header_in, startup_in, origin_of, Planned, length_of, zero_base_of, zero_length_of, execution_size, end_of, base_behind, planned, planned_from, PlannedLoad, load_size, loads_from, Plan, regions_of}
+use Rattle.place_model.specs.Plans.{RegionVeneer, Contents, areas_in, veneers_in, header_in, startup_in, origin_of, Planned, length_of, zero_length_of, end_of, base_behind, planned, planned_from, loads_from, Plan, regions_of}
 use Rattle.link_place.specs.declared.layouts.Laid.{Laid}
-use Rattle.link_place.specs.declared.layouts.Load.{Load}
-use Rattle.link_place.specs.declared.parts.Group.{Group}
 use Rattle.link_place.specs.declared.parts.Part.{Part}
 use Rattle.link_place.specs.declared.pieces.Piece.{Piece}
-use Rattle.link_place.specs.Pieces.{size_in, multiple_in, start_in, reach, Seat, seats}
-use Rattle.link_place.specs.Parts.{piece_of, things_in, zeros_in, part_by, parts_from, load_group, plain_group, groups_of}
-use Rattle.link_place.specs.Layouts.{laid_by, laid_at, laid_from, laid_in, loaded, regions_by, load_by, loads_by}
-use Rattle.link_place.specs.Layouts as layouts
+use Rattle.link_place.specs.Pieces.{size_in, multiple_in, reach, Seat, seats}
+use Rattle.link_place.specs.Parts.{piece_of, things_in, zeros_in, part_by, parts_from, load_group}
+use Rattle.link_place.specs.Layouts.{laid_by, laid_from, regions_by}
 use Rattle.link_place.proofs.PartLemmas.{parts_append, parts_length}
 
 -- ---- pieces stand as things do

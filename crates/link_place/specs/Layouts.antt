@@ -1,6 +1,6 @@
 -- Where regions stand, for a table of the startup code of so many words: by a walk over the parts, of which each
 -- load region has so many. This project's.
-use Rattle.std.specs.Prelude.{ℕ, suc, ◌+◌, ◌*◌, Bool, not, ◌&&◌, nat_lt, nat_le, ◌==◌, if◌then◌else◌, List, [], ◌∷◌, ◌++◌, take, drop, sum_by, Option, Some, None}
+use Rattle.std.specs.Prelude.{ℕ, suc, ◌+◌, Bool, not, ◌&&◌, nat_lt, nat_le, ◌==◌, if◌then◌else◌, List, [], ◌∷◌, ◌++◌, take, drop, sum_by, Option, Some, None}
 use Rattle.place_model.specs.Plans.{base_behind, first_from}
 use Rattle.link_place.specs.declared.layouts.Laid.{Laid}
 use Rattle.link_place.specs.declared.layouts.Load.{Load}

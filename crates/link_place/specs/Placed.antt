@@ -1,6 +1,6 @@
 -- Where the areas, veneers and the startup code of a link stand: as they do in the plan, if nothing is wrong
 -- with that (SDT 2.50 Reference Guide, scatter loading; the startup code is this project's).
-use Rattle.std.specs.Prelude.{ℕ, suc, ◌+◌, ◌*◌, List, [], ◌∷◌, ◌++◌, length, map, Option, Some, None, Result, Ok, Err}
+use Rattle.std.specs.Prelude.{ℕ, suc, List, [], ◌∷◌, ◌++◌, map, Option, Some, None, Result, Ok, Err}
 use Rattle.std.specs.List.{flat_map}
 use Rattle.sdt_word.specs.declared.ranges.Range32.{Range32}
 use Rattle.sdt_fault.specs.declared.refusal.Refusal.{Refusal}
@@ -9,8 +9,8 @@ use Rattle.link_model.specs.declared.placing.PlacedVeneer.{PlacedVeneer}
 use Rattle.link_model.specs.declared.placing.Placement.{Placement}
 use Rattle.link_model.specs.declared.placing.Region.{Region}
 use Rattle.place_model.specs.declared.scatter.Kind.{Kind}
-use Rattle.place_model.specs.Things.{Thing, AnArea, AVeneer, Stood}
-use Rattle.place_model.specs.Plans.{Contents, Planned, length_of, zero_length_of, PlannedLoad, Plan, regions_of, plan_of, stood_in, boot_address}
+use Rattle.place_model.specs.Things.{Thing, AnArea, AVeneer}
+use Rattle.place_model.specs.Plans.{Contents, Planned, length_of, zero_length_of, Plan, regions_of, plan_of, stood_in, boot_address}
 use Rattle.place_model.specs.Faults.{place_refusal}
 
 -- a region of the load region of a number

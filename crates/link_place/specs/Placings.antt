@@ -7,7 +7,7 @@ use Rattle.link_model.specs.declared.placing.PlacedVeneer.{PlacedVeneer}
 use Rattle.link_place.specs.declared.layouts.Laid.{Laid}
 use Rattle.link_place.specs.declared.parts.Part.{Part}
 use Rattle.link_place.specs.declared.pieces.Piece.{Piece}
-use Rattle.link_place.specs.declared.pieces.Piece.TheVariants.{Header, Area, Veneer, Startup}
+use Rattle.link_place.specs.declared.pieces.Piece.TheVariants.{Area, Veneer, Startup}
 use Rattle.link_place.specs.declared.placing.Placing.{Placing}
 use Rattle.link_place.specs.Pieces.{reach, Seat, seats}
 

@@ -1,9 +1,6 @@
-use Rattle.std.proofs.Common.{◌+◌, ◌∙◌, sym, ap, arith, drop, List, Option}
+use Rattle.std.proofs.Common.{◌+◌, ◌∙◌, sym, ap, arith, drop}
 use Rattle.std.proofs.lemmas.List.Sums.{sum_by-drop_more}
-use Rattle.sdt_fault.specs.declared.refusal.Refusal.{Refusal}
-use Rattle.link_place.specs.declared.layouts.Laid.{Laid}
 use Rattle.link_place.specs.declared.layouts.Load.{Load}
-use Rattle.link_place.specs.Checks.{overfull_by}
 use Rattle.link_place.proofs.PartLemmas.{drop_item}
 use Rattle.link_place.proofs.CheckLemmas.{told_here, told_later, none_left}
 use Rattle.link_place.proofs.faults.first_overfull.Goals as goal

@@ -1,10 +1,7 @@
-use Rattle.std.proofs.Common.{◌≡◌, ◌+◌, ◌++◌, ℕ, List, arith, drop, take, length, ap, sym, ◌∙◌}
-use Rattle.std.specs.Prelude.{sum_by}
+use Rattle.std.proofs.Common.{◌+◌, arith, drop, ap}
 use Rattle.std.proofs.lemmas.List.Sums.{sum_by-take-drop, sum_by-drop_more}
 use Rattle.link_place.specs.declared.parts.Group.{Group}
-use Rattle.link_place.specs.declared.parts.Part.{Part}
 use Rattle.link_place.specs.Parts.{piece_count}
-use Rattle.link_place.specs.Layouts.{laid_from, loaded, regions_by, loads_by}
 use Rattle.link_place.proofs.PartLemmas.{drop_item}
 use Rattle.link_place.proofs.LayoutLemmas.{regions_next, loads_next}
 use Rattle.link_place.proofs.layouts.lay_out.Goals as goal

@@ -1,4 +1,4 @@
-use Rattle.std.proofs.Common.{◌++◌, ◌∙◌, ap, map}
+use Rattle.std.proofs.Common.{◌∙◌}
 use Rattle.link_items.specs.LinkedItems.{item_at}
 use Rattle.link_place.proofs.PartLemmas.{aligned_at, things_are}
 use Rattle.link_place.proofs.parts.things_of.Goals as goal

@@ -1,4 +1,4 @@
-use Rattle.std.proofs.Common.{◌≡◌, ◌+◌, ◌≤◌, drop}
+use Rattle.std.proofs.Common.{◌≡◌, ◌+◌, drop}
 use Rattle.std.specs.List.{flat_map}
 use Rattle.link_place.specs.Pieces.{reach, seats}
 use Rattle.link_place.specs.Writable.{least_with, lacked}
