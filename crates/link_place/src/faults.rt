@@ -152,14 +152,14 @@ pub fn first_overfull(
 // ---- ranges that meet
 
 /// So many addresses from a base on.
-#[derive(Clone, Copy, Debug)]
+#[derive(Clone, Copy)]
 pub struct Range {
     pub base: u64,
     pub size: u64,
 }
 
 /// What is written, and what is read, for a region of a name.
-#[derive(Debug, Drop)]
+#[derive(Drop)]
 pub struct Move {
     pub name: Text,
     pub written: Range,
@@ -167,7 +167,7 @@ pub struct Move {
 }
 
 /// Two regions, and the least address that they share.
-#[derive(Debug, Drop)]
+#[derive(Drop)]
 pub struct Meeting {
     pub first: Text,
     pub second: Text,

@@ -13,14 +13,14 @@ use sdt_fault::{List, NoMemory, Text};
 use std::alloc::Global;
 
 /// A region where it stands, with its declared maximum.
-#[derive(Debug, Drop)]
+#[derive(Drop)]
 pub struct Laid {
     pub region: Region,
     pub maximum: Option<u32>,
 }
 
 /// A load region of a description, with the bytes that are loaded and the number of its execution regions.
-#[derive(Debug, Drop)]
+#[derive(Drop)]
 pub struct Load {
     pub name: Text,
     pub base: u32,
@@ -30,7 +30,7 @@ pub struct Load {
 }
 
 /// All regions where they stand, for a table of so many words.
-#[derive(Debug, Drop)]
+#[derive(Drop)]
 pub struct Layout {
     pub words: u32,
     pub loads: List<Load>,

@@ -16,7 +16,7 @@ use sdt_fault::{List, NoMemory, Text};
 use std::alloc::Global;
 
 /// What is placed.
-#[derive(Clone, Copy, Debug)]
+#[derive(Clone, Copy)]
 pub struct Input<'a> {
     pub kind: &'a Kind,
     pub objects: &'a [Named<Object>],
@@ -26,7 +26,7 @@ pub struct Input<'a> {
 
 /// A load region, or where it has no name, the regions of an image that is linked without a description, and
 /// how many execution regions it has.
-#[derive(Debug, Drop)]
+#[derive(Drop)]
 pub struct Group {
     pub name: Option<Text>,
     pub base: u32,
@@ -35,7 +35,7 @@ pub struct Group {
 }
 
 /// An execution region: what is loaded of it, and its zero part.
-#[derive(Debug, Drop)]
+#[derive(Drop)]
 pub struct Part {
     pub name: Text,
     pub base: ScatterBase,

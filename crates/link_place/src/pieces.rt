@@ -8,7 +8,7 @@ use link_model::{AreaName, Veneer};
 
 /// An area: it begins at a multiple of `multiple`, and has so many bytes. `written` says that it isn't
 /// read-only.
-#[derive(Clone, Copy, Debug)]
+#[derive(Clone, Copy)]
 pub struct AreaPiece {
     pub name: AreaName,
     pub multiple: u32,
@@ -17,7 +17,7 @@ pub struct AreaPiece {
 }
 
 /// The header of an AIF, an area, a veneer, or the startup code.
-#[derive(Clone, Copy, Debug)]
+#[derive(Clone, Copy)]
 pub enum Piece {
     Header,
     Area(AreaPiece),

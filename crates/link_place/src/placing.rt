@@ -16,7 +16,7 @@ use sdt_fault::{List, NoMemory};
 use std::alloc::Global;
 
 /// What was placed so far.
-#[derive(Debug, Drop)]
+#[derive(Drop)]
 pub struct Placing {
     pub areas: Vec<PlacedArea>,
     pub veneers: Vec<PlacedVeneer>,
