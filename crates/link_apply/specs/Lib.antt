@@ -2,3 +2,4 @@ pub mod Placed
 pub mod Flaws
 pub mod PatchedBytes
 pub mod RegionBytes
+pub mod Laws
