@@ -6,13 +6,14 @@ use Rattle.std.proofs.lemmas.Bool.{or_parts, and_parts, not-false, ltb-true, ltb
 use Rattle.sdt_word.specs.Bytes.{bytes_of}
 use Rattle.aof_object.specs.declared.records.Area.{Area}
 use Rattle.aof_object.specs.declared.records.Reloc.{Reloc}
-use Rattle.patch_model.specs.Fields.{Kind, Byte, Half, Word, Branch, Field, Values, field_of, added, taken, size_of, number_in}
+use Rattle.patch_model.specs.Fields.{Kind, Byte, Half, Word, Branch, Field, Home, Values, field_of, kind_of, directives, added, taken, size_of, number_in}
 use Rattle.patch_model.specs.Patched.{total, Fits, is_branch, SameBranch, span, middle, ahead, Veneers, Way, Directly, ByVeneer, first_symbol, way_of, Leads, LeadsAt, AddsUp}
+use Rattle.patch_model.specs.Reaches.{HasVeneer}
 use Rattle.patch_model.proofs.BranchLemmas.{branch_tested}
 use Rattle.link_model.specs.declared.placing.Placement.{Placement}
-use Rattle.link_apply.specs.Placed.{veneers_at}
-use Rattle.link_apply.specs.Flaws.{Flaw, Form, Sum, Distance, unit, is_odd, is_far, is_far_behind, has_bad_way, is_far_way, is_only, unless, narrow_flaw, veneer_of, lacks_veneer, goal_of, way_flaw, branch_flaw, value_flaw}
-use Rattle.link_apply.specs.PatchedBytes.{with_span, turned, number_by}
+use Rattle.link_apply.specs.Placed.{veneers_at, target_in}
+use Rattle.link_apply.specs.Flaws.{Flaw, Form, Sum, Distance, unit, is_odd, is_far, is_far_behind, has_bad_way, is_far_way, is_only, unless, narrow_flaw, veneer_of, lacks_veneer, goal_of, way_flaw, branch_flaw, value_flaw, has_bad_field}
+use Rattle.link_apply.specs.PatchedBytes.{with_span, turned, number_by, veneer_bytes}
 use Rattle.link_apply.specs.Laws.{VeneerLaw}
 
 -- ---- tests
@@ -144,9 +145,10 @@ small_by p values region base bytes f (Branch t) rs small =
 veneer_field : (to : ℕ) → with_span false 0xEA000000 to ≡ 0xEA000000 + (to / 4 + 2 ^ 23) % 2 ^ 24
 veneer_field to = omega arith
 
-pub veneer_law : VeneerLaw
-veneer_law v target true aligned even near = record { even = not_odd true target even; contents = refl }
-veneer_law v target false aligned even near =
+has_veneer : (v target : ℕ) (state : Bool) → v % 4 ≡ 0 → is_odd state target ≡ false → is_far_behind state v target ≡ false
+    → HasVeneer v target state (veneer_bytes v target state)
+has_veneer v target true aligned even near = record { even = not_odd true target even; contents = refl }
+has_veneer v target false aligned even near =
     let range = not_far false (v + 4 + ahead false) (target + middle false) near in
     let whole = not_odd false target even in
     let to : ℕ = target + middle false - (v + 4 + ahead false) in
@@ -157,3 +159,33 @@ veneer_law v target false aligned even near =
       contents = ap (λ n. bytes_of 0x4778 2 ++ bytes_of 0x46C0 2 ++ bytes_of n 4) (veneer_field to);
       leads = omega arith;
     }
+
+way_veneer : (p : Placement) (region : ℕ) (t : Bool) (at old more less v : ℕ) (home : Home) (state : Bool) → veneers_at p region home state ≡ Some v → v % 4 ≡ 0
+    → way_flaw t at old more less (unwrap_or (veneers_at p region home state) 0) (ByVeneer home state) (target_in p home) ≡ None
+    → HasVeneer v (target_in p home) state (veneer_bytes v (target_in p home) state)
+way_veneer p region t at old more less v home state there whole sound =
+    let Sound : Option ℕ → Type 0 = λ o. way_flaw t at old more less (unwrap_or o 0) (ByVeneer home state) (target_in p home) ≡ None in
+    let here = subst Sound there sound in
+    let goal : ℕ = target_in p home in
+    let bad : Bool = has_bad_way t at old more less v (ByVeneer home state) (target_in p home) in
+    let far : Bool = is_far_way t at old more less v (ByVeneer home state) (target_in p home) in
+    let one = none_of Form bad (unless Distance far None) here in
+    let two = none_of Distance far None one.1 in
+    has_veneer v goal state whole (or_parts (is_odd state goal) (is_odd t (total v (middle t) (at + ahead t))) one.0).0
+    (or_parts (is_far t (at + ahead t) (v + middle t)) (is_far_behind state v goal) two.0).1
+
+pub veneer_law : VeneerLaw
+veneer_law p values region base area a home state v g =
+    let r : Reloc = g.reloc in
+    let t : Bool = g.thumb in
+    let rs : List Reloc = directives a.relocs (field_of g.reloc) in
+    let old : ℕ = number_in a.bytes (field_of g.reloc) in
+    let sound = (none_of Form (has_bad_field area a r) (value_flaw p values region base a r (kind_of r) rs) g.sound).1 in
+    let Sound : Kind → Type 0 = λ kind. value_flaw p values region base a g.reloc kind (directives a.relocs (field_of g.reloc)) ≡ None in
+    let one = none_of Form (not (is_only a.relocs r && is_branch t old)) (branch_flaw p values region base t a.bytes (field_of r) rs (way_of base values a.bytes (field_of r) t rs)) (subst Sound g.branch sound) in
+    let By : Way → Type 0 = λ way. branch_flaw p values region base g.thumb a.bytes (field_of g.reloc) (directives a.relocs (field_of g.reloc)) way ≡ None in
+    let by = subst By g.way one.1 in
+    let at : ℕ = base + (field_of r).place in
+    let two = none_of Form (lacks_veneer p region (ByVeneer home state))
+    (way_flaw t at old (added values rs) (taken base rs) (unwrap_or (veneers_at p region home state) 0) (ByVeneer home state) (target_in p home)) by in
+    way_veneer p region t at old (added values rs) (taken base rs) v home state g.stands g.whole two.1
