@@ -14,7 +14,8 @@ use Rattle.patch_model.specs.Patched.{IsOutside, IsPatched, AddsUp, first_symbol
 use Rattle.patch_model.proofs.PatchLemmas.{part_lt}
 use Rattle.link_model.specs.declared.placing.Placement.{Placement}
 use Rattle.link_apply.specs.Placed.{veneers_at}
-use Rattle.link_apply.specs.Flaws.{Form, overlaps, is_of_itself, is_based, is_outside, has_bad_field, value_flaw, flaw_of}
+use Rattle.link_apply.specs.declared.flaws.Flaw.TheVariants.{Form}
+use Rattle.link_apply.specs.Flaws.{overlaps, is_of_itself, is_based, is_outside, has_bad_field, value_flaw, flaw_of}
 use Rattle.link_apply.specs.PatchedBytes.{patched_number, has_byte, byte_by, patched_from, patched_bytes}
 use Rattle.link_apply.specs.Laws.{AreBytes, PatchedLaw}
 use Rattle.link_apply.proofs.ListLemmas.{found, none_passes, find_none, any_none, get_bytes}

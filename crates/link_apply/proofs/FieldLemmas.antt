@@ -12,7 +12,9 @@ use Rattle.patch_model.specs.Reaches.{HasVeneer}
 use Rattle.patch_model.proofs.BranchLemmas.{branch_tested}
 use Rattle.link_model.specs.declared.placing.Placement.{Placement}
 use Rattle.link_apply.specs.Placed.{veneers_at, target_in}
-use Rattle.link_apply.specs.Flaws.{Flaw, Form, Sum, Distance, unit, is_odd, is_far, is_far_behind, has_bad_way, is_far_way, is_only, unless, narrow_flaw, veneer_of, lacks_veneer, goal_of, way_flaw, branch_flaw, value_flaw, has_bad_field}
+use Rattle.link_apply.specs.declared.flaws.Flaw.{Flaw}
+use Rattle.link_apply.specs.declared.flaws.Flaw.TheVariants.{Form, Sum, Distance}
+use Rattle.link_apply.specs.Flaws.{unit, is_odd, is_far, is_far_behind, has_bad_way, is_far_way, is_only, unless, narrow_flaw, veneer_of, lacks_veneer, goal_of, way_flaw, branch_flaw, value_flaw, has_bad_field}
 use Rattle.link_apply.specs.PatchedBytes.{with_span, turned, number_by, veneer_bytes}
 use Rattle.link_apply.specs.Laws.{VeneerLaw}
 

@@ -20,11 +20,9 @@ use Rattle.link_model.specs.declared.selection.Linked.{Linked}
 use Rattle.link_model.specs.declared.selection.Named.{Named}
 use Rattle.link_model.specs.Members.{link_of}
 use Rattle.link_model.specs.Veneers.{shares_field}
+use Rattle.link_apply.specs.declared.flaws.Flaw.{Flaw}
+use Rattle.link_apply.specs.declared.flaws.Flaw.TheVariants.{Form, Sum, Distance}
 use Rattle.link_apply.specs.Placed.{values_in, veneers_at, target_in}
-
--- the form, the sum of a byte or a half-word, or the distance of a branch
-pub data Flaw : Type 0 where
-  Form Sum Distance : Flaw
 
 -- ---- the form of any field
 

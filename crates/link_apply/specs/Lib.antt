@@ -3,3 +3,4 @@ pub mod Flaws
 pub mod PatchedBytes
 pub mod RegionBytes
 pub mod Laws
+pub mod Targets

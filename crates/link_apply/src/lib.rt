@@ -2,6 +2,11 @@
 //! table.
 #![tactic(auto)]
 
+mod flaws;
 mod laws;
+mod numbers;
+mod targets;
 
+pub use crate::flaws::Flaw;
 pub use crate::laws::patched_law;
+pub use crate::targets::{Place, SymbolValue};
