@@ -4,3 +4,4 @@ pub mod PatchedBytes
 pub mod RegionBytes
 pub mod Laws
 pub mod Targets
+pub mod Starts

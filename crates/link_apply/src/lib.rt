@@ -5,6 +5,7 @@
 mod flaws;
 mod laws;
 mod numbers;
+mod starts;
 mod targets;
 
 pub use crate::flaws::Flaw;
