@@ -1,11 +1,11 @@
 -- What an index of places says of relocations.
-use Rattle.std.proofs.Common.{◌≡◌, ◌⊎◌, inl, inr, ℕ, zero, suc, ◌+◌, ◌*◌, ◌^◌, ◌<◌, ◌≤◌, Bool, true, false, cond, List, [], ◌∷◌, length, get_or, slice_index, EachIndex, drop, length-drop, refl, sym, ap, subst, ◌∙◌, arith}
-use Rattle.std.specs.Prelude.{Option, Some, None, not, ◌||◌, ◌&&◌, ◌==◌, slice_get, count_by, if◌then◌else◌}
+use Rattle.std.proofs.Common.{◌≡◌, ◌⊎◌, inl, inr, ℕ, ◌+◌, ◌*◌, ◌^◌, ◌<◌, ◌≤◌, Bool, true, false, cond, List, [], ◌∷◌, length, get_or, slice_index, EachIndex, drop, length-drop, refl, ap, arith}
+use Rattle.std.specs.Prelude.{Option, Some, None, not, ◌&&◌, ◌==◌, slice_get}
 use Rattle.std.proofs.lemmas.Bool.{cases_lt}
 use Rattle.std.proofs.lemmas.List.{get_or_past}
 use Rattle.sdt_word.specs.Numbers.{flag}
 use Rattle.aof_object.specs.declared.records.Reloc.{Reloc}
-use Rattle.patch_model.specs.Fields.{Kind, Byte, Half, Word, Branch, Field, Values, field_of, kind_of, is_relative, is_by_symbol, number_named, value_named, mark_in, mark_of}
+use Rattle.patch_model.specs.Fields.{Kind, Byte, Half, Word, Branch, Values, field_of, is_relative, is_by_symbol, number_named, value_named, mark_in, mark_of}
 use Rattle.link_apply.specs.declared.starts.Start.{Start}
 use Rattle.link_apply.specs.declared.targets.SymbolValue.{SymbolValue}
 use Rattle.link_apply.specs.Targets.{meant_at, values_by}

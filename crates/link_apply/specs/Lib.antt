@@ -5,3 +5,4 @@ pub mod RegionBytes
 pub mod Laws
 pub mod Targets
 pub mod Starts
+pub mod Sums

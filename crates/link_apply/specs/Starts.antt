@@ -1,5 +1,5 @@
 -- What relocations do at a place, from the last one on. This project's.
-use Rattle.std.specs.Prelude.{◌≡◌, ℕ, ◌+◌, ◌<◌, ◌^◌, ◌==◌, ◌||◌, Bool, true, false, not, nat_eq, max, if◌then◌else◌, List, [], ◌∷◌, slice_get, Option, Some, None}
+use Rattle.std.specs.Prelude.{◌≡◌, ℕ, ◌+◌, ◌-◌, ◌<◌, ◌^◌, ◌==◌, ◌||◌, ◌&&◌, nat_lt, is_some, Bool, true, false, not, nat_eq, max, if◌then◌else◌, List, [], ◌∷◌, slice_get, Option, Some, None}
 use Rattle.std.specs.declared.hash.FoldHasher.{FoldHasher}
 use Rattle.std.specs.declared.hash.BuildHasherDefault.{BuildHasherDefault}
 use Rattle.indexmap.specs.IndexMap.{IndexMap, get}
@@ -76,3 +76,22 @@ pub record IsSmall (s : Start) : Type 0 where
 
 abbrev pub AreSmall : Starts → Type 0
 AreSmall m = (p : ℕ) (s : Start) → get nat_eq m p ≡ Some s → IsSmall s
+
+-- ---- fields that overlap
+
+abbrev pub goes_on : ℕ → Option Start → Bool
+goes_on behind None = false
+goes_on behind (Some s) = nat_lt behind s.widest
+
+-- a field that begins before a place has it
+abbrev pub reaches : (ℕ → Option Start) → ℕ → ℕ → Bool
+reaches start place behind = if nat_lt place behind then false else goes_on behind (start (place - behind))
+
+-- a field of a size has the place where another begins
+abbrev pub begins : (ℕ → Option Start) → ℕ → ℕ → ℕ → Bool
+begins start place size after = nat_lt after size && is_some (start (place + after))
+
+abbrev pub is_crowded : (ℕ → Option Start) → ℕ → ℕ → Bool → Bool
+is_crowded start place size mixed =
+    mixed || (reaches start place 1 || (reaches start place 2 || (reaches start place 3
+    || (begins start place size 1 || (begins start place size 2 || begins start place size 3)))))

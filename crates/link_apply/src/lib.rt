@@ -3,8 +3,10 @@
 #![tactic(auto)]
 
 mod flaws;
+mod judging;
 mod laws;
 mod numbers;
+mod overlaps;
 mod starts;
 mod targets;
 

@@ -191,7 +191,7 @@ fn started(bases: &[u64], symbols: &[SymbolValue], reloc: Reloc, rest: Option<St
 }
 
 fn note(
-    starts: &mut IndexMap<u32, Start>,
+    starts: &mut IndexMap<u64, Start>,
     bases: &[u64],
     symbols: &[SymbolValue],
     reloc: Reloc,
@@ -204,7 +204,7 @@ fn note(
         then Some (start_with (values_by bases.now symbols.now) reloc (get nat_eq starts.old p))
         else get nat_eq starts.old p)) }
 {
-    let place = place_of(reloc);
+    let place = place_of(reloc) as u64;
     let rest = starts.get(&place).copied();
     let start = started(bases, symbols, reloc, rest);
     starts.insert(place, start)?;
@@ -217,7 +217,7 @@ pub fn starts_of(
     bases: &[u64],
     symbols: &[SymbolValue],
     relocs: &[Reloc],
-) -> Result<IndexMap<u32, Start>, NoMemory>
+) -> Result<IndexMap<u64, Start>, NoMemory>
     requires bases { EachIndex bases.now (λ k. slice_index bases.now k < 2 ^ 34) }
     requires symbols { AreBelow symbols.now }
     requires few { length relocs.now < 2 ^ 28 }
