@@ -1,8 +1,10 @@
 -- The values of symbols and the ways of branches, as the code holds them. This project's.
-use Rattle.std.specs.Prelude.{ℕ, false, List, get_or, slice_get, Option, Some, None}
+use Rattle.std.specs.Prelude.{◌≡◌, ℕ, false, List, get_or, slice_get, Option, Some, None}
 use Rattle.std.specs.Option.{option_map}
 use Rattle.patch_model.specs.Fields.{Home, Meant, Values}
 use Rattle.patch_model.specs.Patched.{Way, Directly, ByVeneer}
+use Rattle.link_model.specs.declared.placing.Placement.{Placement}
+use Rattle.link_apply.specs.Placed.{veneers_at, target_in}
 use Rattle.link_apply.specs.declared.targets.Place.{Place}
 use Rattle.link_apply.specs.declared.targets.SymbolValue.{SymbolValue}
 use Rattle.link_apply.specs.declared.targets.Target.{Target}
@@ -25,3 +27,8 @@ values_by bases symbols = record { base = λ k. get_or bases k 0; symbol = λ k.
 abbrev pub way_by : Option Target → Way
 way_by None = Directly
 way_by (Some t) = ByVeneer (home_by t.place) t.thumb
+
+-- a veneer of the region, and its target's address
+abbrev pub IsWayOf : Placement → ℕ → Option Target → Option ℕ → ℕ → Type 0
+IsWayOf p region None veneer goal = Unit {0}
+IsWayOf p region (Some t) veneer goal = (veneers_at p region (home_by t.place) t.thumb ≡ veneer) × (target_in p (home_by t.place) ≡ goal)

@@ -62,7 +62,8 @@ fn is_too_far(thumb: bool, from: u64, to: u64) -> bool
     from + 2 * middle(thumb) <= to
 }
 
-fn flaw_of_direct(thumb: bool, word: u32, more: u64, less: u64) -> Option<Flaw>
+/// Of a branch that leads to what it names itself.
+pub fn flaw_of_direct(thumb: bool, word: u32, more: u64, less: u64) -> Option<Flaw>
     requires more { more < 2 ^ 63 }
     requires less { less < 2 ^ 63 }
     ensures { result ≡ way_flaw thumb 0 word more less 0 (way_by None) 0 }
@@ -89,7 +90,8 @@ fn is_too_far_behind(thumb: bool, veneer: u64, goal: u64) -> bool
     is_too_far(false, veneer + 4 + ahead(false), goal + middle(false))
 }
 
-fn flaw_of_detour(thumb: bool, at: u64, veneer: u64, target: Target, goal: u64) -> Option<Flaw>
+/// Of a branch at an address that goes by a veneer.
+pub fn flaw_of_detour(thumb: bool, at: u64, veneer: u64, target: Target, goal: u64) -> Option<Flaw>
     requires at { at < 2 ^ 34 }
     requires veneer { veneer < 2 ^ 33 }
     requires goal { goal < 2 ^ 33 }

@@ -9,6 +9,7 @@ mod numbers;
 mod overlaps;
 mod starts;
 mod targets;
+mod ways;
 
 pub use crate::flaws::Flaw;
 pub use crate::laws::patched_law;
