@@ -5,7 +5,7 @@ use Rattle.std.specs.declared.hash.BuildHasherDefault.{BuildHasherDefault}
 use Rattle.indexmap.specs.IndexMap.{IndexMap, get}
 use Rattle.sdt_word.specs.Numbers.{flag}
 use Rattle.aof_object.specs.declared.records.Reloc.{Reloc}
-use Rattle.patch_model.specs.Fields.{Kind, Byte, Half, Word, Branch, Values, field_of, kind_of, is_relative, is_by_symbol, is_same_kind, number_named, value_named, mark_of, size_of}
+use Rattle.patch_model.specs.Fields.{Kind, Byte, Half, Word, Branch, Field, Values, field_of, kind_of, is_relative, is_by_symbol, is_same_kind, number_named, value_named, mark_of, size_of}
 use Rattle.link_apply.specs.declared.starts.FieldKind.{FieldKind}
 use Rattle.link_apply.specs.declared.starts.FieldKind.TheVariants as code
 use Rattle.link_apply.specs.declared.starts.Start.{Start}
@@ -26,6 +26,9 @@ kind_by code.Half = Half
 kind_by code.Word = Word
 kind_by code.Arm = Branch false
 kind_by code.Thumb = Branch true
+
+abbrev pub field_by : ℕ → FieldKind → Field
+field_by place kind = record { place = place; kind = kind_by kind }
 
 -- ---- a place
 

@@ -2,6 +2,7 @@
 //! table.
 #![tactic(auto)]
 
+mod fields;
 mod flaws;
 mod judging;
 mod laws;
