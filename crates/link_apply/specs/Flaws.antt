@@ -5,7 +5,7 @@
 -- from the least one.
 use Rattle.std.specs.Prelude.{ℕ, ◌+◌, ◌*◌, ◌-◌, ◌^◌, ◌%◌, Bool, true, false, not, ◌&&◌, ◌||◌, nat_lt, nat_le, ◌==◌, if◌then◌else◌, List, [], length, slice_get, count_by, unwrap_or, Option, Some, None}
 use Rattle.std.specs.List.{flat_map, filter_map, list_any}
-use Rattle.std.specs.Option.{option_map}
+use Rattle.std.specs.Option.{option_map, is_some}
 use Rattle.sdt_word.specs.Numbers.{bit}
 use Rattle.sdt_fault.specs.declared.refusal.Refusal.{Refusal}
 use Rattle.sdt_fault.specs.declared.refusal.Refusal.TheVariants.{BadRelocation, FieldOverflow, Unreachable}
@@ -20,11 +20,9 @@ use Rattle.link_model.specs.declared.selection.Linked.{Linked}
 use Rattle.link_model.specs.declared.selection.Named.{Named}
 use Rattle.link_model.specs.Members.{link_of}
 use Rattle.link_model.specs.Veneers.{shares_field}
+use Rattle.link_apply.specs.declared.flaws.Flaw.{Flaw}
+use Rattle.link_apply.specs.declared.flaws.Flaw.TheVariants.{Form, Sum, Distance}
 use Rattle.link_apply.specs.Placed.{values_in, veneers_at, target_in}
-
--- the form, the sum of a byte or a half-word, or the distance of a branch
-pub data Flaw : Type 0 where
-  Form Sum Distance : Flaw
 
 -- ---- the form of any field
 
@@ -98,6 +96,10 @@ abbrev pub veneer_of : Placement → ℕ → Way → ℕ
 veneer_of p region Directly = 0
 veneer_of p region (ByVeneer home state) = unwrap_or (veneers_at p region home state) 0
 
+abbrev pub lacks_veneer : Placement → ℕ → Way → Bool
+lacks_veneer p region Directly = false
+lacks_veneer p region (ByVeneer home state) = not (is_some (veneers_at p region home state))
+
 abbrev pub goal_of : Placement → Way → ℕ
 goal_of p Directly = 0
 goal_of p (ByVeneer home state) = target_in p home
@@ -109,7 +111,8 @@ way_flaw thumb at old more less veneer way target =
 
 abbrev pub branch_flaw : Placement → Values → ℕ → ℕ → Bool → List ℕ → Field → List Reloc → Way → Option Flaw
 branch_flaw p values region base thumb bytes f rs way =
-    way_flaw thumb (base + f.place) (number_in bytes f) (added values rs) (taken base rs) (veneer_of p region way) way (goal_of p way)
+    unless Form (lacks_veneer p region way)
+    (way_flaw thumb (base + f.place) (number_in bytes f) (added values rs) (taken base rs) (veneer_of p region way) way (goal_of p way))
 
 -- of a field that is none of the bad ones, by its directives
 abbrev pub value_flaw : Placement → Values → ℕ → ℕ → Area → Reloc → Kind → List Reloc → Option Flaw

@@ -1,3 +1,17 @@
 //! The bytes of a placed image's regions: areas with their fields patched, veneers, and the startup code with its
 //! table.
 #![tactic(auto)]
+
+mod fields;
+mod flaws;
+mod judging;
+mod laws;
+mod numbers;
+mod overlaps;
+mod starts;
+mod targets;
+mod ways;
+
+pub use crate::flaws::Flaw;
+pub use crate::laws::patched_law;
+pub use crate::targets::{Place, SymbolValue};

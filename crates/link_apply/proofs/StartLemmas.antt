@@ -1,0 +1,79 @@
+-- What an index of places says of relocations.
+use Rattle.std.proofs.Common.{◌≡◌, ◌⊎◌, inl, inr, ℕ, ◌+◌, ◌*◌, ◌^◌, ◌<◌, ◌≤◌, Bool, true, false, cond, List, [], ◌∷◌, length, get_or, slice_index, EachIndex, drop, length-drop, refl, ap, arith}
+use Rattle.std.specs.Prelude.{Option, Some, None, not, ◌&&◌, ◌==◌, slice_get}
+use Rattle.std.proofs.lemmas.Bool.{cases_lt}
+use Rattle.std.proofs.lemmas.List.{get_or_past}
+use Rattle.sdt_word.specs.Numbers.{flag}
+use Rattle.aof_object.specs.declared.records.Reloc.{Reloc}
+use Rattle.patch_model.specs.Fields.{Kind, Byte, Half, Word, Branch, Values, field_of, is_relative, is_by_symbol, number_named, value_named, mark_in, mark_of}
+use Rattle.link_apply.specs.declared.starts.Start.{Start}
+use Rattle.link_apply.specs.declared.targets.SymbolValue.{SymbolValue}
+use Rattle.link_apply.specs.Targets.{meant_at, values_by}
+use Rattle.link_apply.specs.Starts.{started, starts, AreBelow, IsSmall}
+
+-- ---- numbers that fit
+
+flag_le : (b : Bool) → flag b ≤ 1
+flag_le true = omega arith
+flag_le false = omega arith
+
+mark_le : (kind : Kind) (relative by_symbol label : Bool) → mark_in kind relative by_symbol label ≤ 1
+mark_le Byte relative by_symbol label = omega arith
+mark_le Half relative by_symbol label = omega arith
+mark_le Word relative by_symbol label = flag_le (not relative && (by_symbol && label))
+mark_le (Branch t) relative by_symbol label = omega arith
+
+base_lt : (bases : List ℕ) (k : ℕ) → EachIndex bases (λ i. slice_index bases i < 2 ^ 34) → get_or bases k 0 < 2 ^ 34
+base_lt bases k each = by_place (cases_lt k (length bases))
+  where
+    by_place : (k < length bases) ⊎ (length bases ≤ k) → get_or bases k 0 < 2 ^ 34
+    by_place (inl h) = each k h
+    by_place (inr h) = let past = get_or_past bases k 0 h in omega arith
+
+number_lt : (o : Option SymbolValue) → ((s : SymbolValue) → o ≡ Some s → s.number < 2 ^ 34) → (meant_at o).number < 2 ^ 34
+number_lt None below = omega arith
+number_lt (Some s) below = below s refl
+
+value_lt : (bases : List ℕ) (symbols : List SymbolValue) (r : Reloc) → EachIndex bases (λ i. slice_index bases i < 2 ^ 34) → AreBelow symbols
+    → value_named (values_by bases symbols) r < 2 ^ 34
+value_lt bases symbols r each below = by_test (is_by_symbol r)
+  where
+    by_test : (b : Bool) → cond b (meant_at (slice_get symbols (number_named r))).number (get_or bases (number_named r) 0) < 2 ^ 34
+    by_test true = number_lt (slice_get symbols (number_named r)) (below (number_named r))
+    by_test false = base_lt bases (number_named r) each
+
+start_small : (values : Values) → ((r : Reloc) → value_named values r < 2 ^ 34) → (rs : List Reloc) (p : ℕ) (s : Start) → starts values rs p ≡ Some s
+    → (s.more ≤ length rs * 2 ^ 35) × (s.relative ≤ length rs)
+start_small values each [] p s e = absurd (cc)
+start_small values each (r ∷ rs) p s e = by_test ((field_of r).place == p) e (starts values rs p) refl (start_small values each rs p)
+  where
+    by_start : (o : Option Start) → started values r o ≡ s → ((t : Start) → o ≡ Some t → (t.more ≤ length rs * 2 ^ 35) × (t.relative ≤ length rs))
+        → (s.more ≤ length (r ∷ rs) * 2 ^ 35) × (s.relative ≤ length (r ∷ rs))
+    by_start None e rest =
+        let value = each r in
+        let mark : mark_of values r ≤ 1 = mark_le _ _ _ _ in
+        let one = flag_le (is_relative r) in
+        let more : value_named values r + mark_of values r ≡ s.more = ap (λ (x : Start). x.more) e in
+        let relative : flag (is_relative r) ≡ s.relative = ap (λ (x : Start). x.relative) e in
+        (omega arith, omega arith)
+    by_start (Some t) e rest =
+        let value = each r in
+        let mark : mark_of values r ≤ 1 = mark_le _ _ _ _ in
+        let one = flag_le (is_relative r) in
+        let h = rest t refl in
+        let more : value_named values r + mark_of values r + t.more ≡ s.more = ap (λ (x : Start). x.more) e in
+        let relative : flag (is_relative r) + t.relative ≡ s.relative = ap (λ (x : Start). x.relative) e in
+        (omega arith, omega arith)
+
+    by_test : (b : Bool) → cond b (Some (started values r (starts values rs p))) (starts values rs p) ≡ Some s → (o : Option Start) → starts values rs p ≡ o
+        → ((t : Start) → starts values rs p ≡ Some t → (t.more ≤ length rs * 2 ^ 35) × (t.relative ≤ length rs))
+        → (s.more ≤ length (r ∷ rs) * 2 ^ 35) × (s.relative ≤ length (r ∷ rs))
+    by_test false e o at rest = let h = rest s e in (omega arith, omega arith)
+    by_test true e o at rest = let same : started values r (starts values rs p) ≡ s = cc in by_start (starts values rs p) same rest
+
+pub starts_small : (bases : List ℕ) (symbols : List SymbolValue) (relocs : List Reloc) (i : ℕ) → EachIndex bases (λ k. slice_index bases k < 2 ^ 34) → AreBelow symbols
+    → length relocs < 2 ^ 28 → (p : ℕ) (s : Start) → starts (values_by bases symbols) (drop i relocs) p ≡ Some s → IsSmall s
+starts_small bases symbols relocs i each below few p s e =
+    let h = start_small (values_by bases symbols) (λ r. value_lt bases symbols r each below) (drop i relocs) p s e in
+    let n = length-drop i relocs in
+    record { more = omega arith; relative = omega arith }

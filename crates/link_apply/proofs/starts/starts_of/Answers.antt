@@ -1,0 +1,7 @@
+use Rattle.std.proofs.Common.{sym, ◌∙◌}
+use Rattle.link_apply.proofs.StartLemmas.{starts_small}
+use Rattle.link_apply.proofs.starts.starts_of.Goals as goal
+
+pub note-requires-clause-small : goal.note-requires-clause-small
+note-requires-clause-small c = λ p s e.
+    starts_small c.args.bases.now c.args.symbols.now c.args.relocs.now c.loop-i.i c.requires.bases c.requires.symbols c.requires.few p s (sym (c.loop-i.invariant p) ∙ e)

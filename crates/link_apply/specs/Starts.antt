@@ -1,0 +1,100 @@
+-- What relocations do at a place, from the last one on. This project's.
+use Rattle.std.specs.Prelude.{◌≡◌, ℕ, ◌+◌, ◌-◌, ◌<◌, ◌^◌, ◌==◌, ◌||◌, ◌&&◌, nat_lt, is_some, Bool, true, false, not, nat_eq, max, if◌then◌else◌, List, [], ◌∷◌, slice_get, Option, Some, None}
+use Rattle.std.specs.declared.hash.FoldHasher.{FoldHasher}
+use Rattle.std.specs.declared.hash.BuildHasherDefault.{BuildHasherDefault}
+use Rattle.indexmap.specs.IndexMap.{IndexMap, get}
+use Rattle.sdt_word.specs.Numbers.{flag}
+use Rattle.aof_object.specs.declared.records.Reloc.{Reloc}
+use Rattle.patch_model.specs.Fields.{Kind, Byte, Half, Word, Branch, Field, Values, field_of, kind_of, is_relative, is_by_symbol, is_same_kind, number_named, value_named, mark_of, size_of}
+use Rattle.link_apply.specs.declared.starts.FieldKind.{FieldKind}
+use Rattle.link_apply.specs.declared.starts.FieldKind.TheVariants as code
+use Rattle.link_apply.specs.declared.starts.Start.{Start}
+use Rattle.link_apply.specs.declared.targets.SymbolValue.{SymbolValue}
+
+-- ---- kinds of fields
+
+abbrev pub code_of : Kind → FieldKind
+code_of Byte = code.Byte
+code_of Half = code.Half
+code_of Word = code.Word
+code_of (Branch false) = code.Arm
+code_of (Branch true) = code.Thumb
+
+abbrev pub kind_by : FieldKind → Kind
+kind_by code.Byte = Byte
+kind_by code.Half = Half
+kind_by code.Word = Word
+kind_by code.Arm = Branch false
+kind_by code.Thumb = Branch true
+
+abbrev pub field_by : ℕ → FieldKind → Field
+field_by place kind = record { place = place; kind = kind_by kind }
+
+-- ---- a place
+
+abbrev pub symbol_by : Reloc → Option ℕ → Option ℕ
+symbol_by r next = if is_by_symbol r then Some (number_named r) else next
+
+-- with a relocation before those that are there
+abbrev pub started : Values → Reloc → Option Start → Start
+started values r None = record {
+  kind = code_of (kind_of r);
+  is_mixed = false;
+  widest = size_of (kind_of r);
+  is_alone = true;
+  more = value_named values r + mark_of values r;
+  relative = flag (is_relative r);
+  symbol = symbol_by r None;
+}
+started values r (Some s) = record {
+  kind = code_of (kind_of r);
+  is_mixed = s.is_mixed || not (is_same_kind (kind_by s.kind) (kind_of r));
+  widest = max s.widest (size_of (kind_of r));
+  is_alone = false;
+  more = value_named values r + mark_of values r + s.more;
+  relative = flag (is_relative r) + s.relative;
+  symbol = symbol_by r s.symbol;
+}
+
+abbrev pub starts : Values → List Reloc → ℕ → Option Start
+starts values [] p = None
+starts values (r ∷ rs) p = if (field_of r).place == p then Some (started values r (starts values rs p)) else starts values rs p
+
+-- ---- an index of them
+
+abbrev pub Starts : Type 0
+Starts = IndexMap ℕ Start (BuildHasherDefault FoldHasher)
+
+abbrev pub AreStarts : Values → List Reloc → Starts → Type 0
+AreStarts values relocs m = (p : ℕ) → get nat_eq m p ≡ starts values relocs p
+
+-- ---- numbers that fit
+
+abbrev pub AreBelow : List SymbolValue → Type 0
+AreBelow symbols = (k : ℕ) (s : SymbolValue) → slice_get symbols k ≡ Some s → s.number < 2 ^ 34
+
+pub record IsSmall (s : Start) : Type 0 where
+  pub more : s.more < 2 ^ 63
+  pub relative : s.relative < 2 ^ 63
+
+abbrev pub AreSmall : Starts → Type 0
+AreSmall m = (p : ℕ) (s : Start) → get nat_eq m p ≡ Some s → IsSmall s
+
+-- ---- fields that overlap
+
+abbrev pub goes_on : ℕ → Option Start → Bool
+goes_on behind None = false
+goes_on behind (Some s) = nat_lt behind s.widest
+
+-- a field that begins before a place has it
+abbrev pub reaches : (ℕ → Option Start) → ℕ → ℕ → Bool
+reaches start place behind = if nat_lt place behind then false else goes_on behind (start (place - behind))
+
+-- a field of a size has the place where another begins
+abbrev pub begins : (ℕ → Option Start) → ℕ → ℕ → ℕ → Bool
+begins start place size after = nat_lt after size && is_some (start (place + after))
+
+abbrev pub is_crowded : (ℕ → Option Start) → ℕ → ℕ → Bool → Bool
+is_crowded start place size mixed =
+    mixed || (reaches start place 1 || (reaches start place 2 || (reaches start place 3
+    || (begins start place size 1 || (begins start place size 2 || begins start place size 3)))))

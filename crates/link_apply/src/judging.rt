@@ -1,0 +1,92 @@
+//! What is wrong with the relocations of an area.
+
+ghost use Rattle.std.specs.Prelude.{◌≡◌, ◌<◌, ◌^◌, List, nat_eq, false, Some};
+ghost use Rattle.indexmap.specs.IndexMap.{get};
+ghost use Rattle.link_apply.specs.Sums.{Tells};
+ghost use Rattle.aof_object.specs.declared.records.Reloc.{Reloc as Relocation};
+ghost use Rattle.link_model.specs.Veneers.{IsIn};
+ghost use Rattle.patch_model.specs.Fields.{field_of, Field, Values};
+ghost use Rattle.link_apply.specs.Flaws.{has_bad_field, is_based, is_of_itself, is_outside};
+ghost use Rattle.link_apply.specs.Starts.{kind_by, starts, AreStarts};
+
+use crate::overlaps::is_overlapping;
+use crate::starts::{Start, kind_of, place_of, size_of};
+use aof_object::{Area, Reloc};
+use indexmap::IndexMap;
+
+fn is_outside_of(bytes: &[u8], reloc: Reloc) -> bool
+    ensures { result ≡ is_outside bytes.now (field_of reloc) }
+{
+    let end = place_of(reloc) as u64 + size_of(kind_of(reloc)) as u64;
+    (bytes.len() as u64) < end
+}
+
+/// Whether a relocation is relative to the area that has it, by that area itself.
+fn is_by_own_area(area: u32, reloc: Reloc) -> bool
+    ensures { result ≡ is_of_itself area reloc }
+{
+    if reloc.word / 0x400_0000 % 2 != 1 {
+        return false;
+    }
+    if reloc.word / 0x800_0000 % 2 == 1 {
+        return false;
+    }
+    reloc.word % 0x100_0000 == area
+}
+
+/// Whether bit 28 stands without bit 26.
+fn is_based_alone(reloc: Reloc) -> bool
+    ensures { result ≡ is_based reloc }
+{
+    if reloc.word / 0x1000_0000 % 2 != 1 {
+        return false;
+    }
+    reloc.word / 0x400_0000 % 2 != 1
+}
+
+/// Whether the field of a relocation of an area of a number is a bad one. `start` is what the area's relocations do
+/// where it begins.
+pub fn is_bad_field(
+    starts: &IndexMap<u64, Start>,
+    start: Start,
+    number: u32,
+    area: &Area,
+    reloc: Reloc,
+) -> bool
+    requires there { get nat_eq starts.now (field_of reloc).place ≡ Some start }
+    requires own { IsIn area.now.relocs reloc }
+    ensures { (values : Values) → AreStarts values area.now.relocs starts.now
+        → result ≡ has_bad_field number area.now reloc }
+{
+    if is_outside_of(area.bytes.as_slice(), reloc) {
+        return true;
+    }
+    if is_by_own_area(number, reloc) {
+        return true;
+    }
+    if is_based_alone(reloc) {
+        return true;
+    }
+    is_overlapping(starts, start, reloc)
+}
+
+/// What the relocations of a field add, and what they take away.
+#[derive(Clone, Copy)]
+pub struct Sums {
+    pub more: u64,
+    pub less: u64,
+}
+
+/// Of a field in an area at a base, by what the area's relocations do where it begins.
+pub fn sums_of(start: Start, base: u64) -> Sums
+    requires base { base < 2 ^ 33 }
+    requires small { start.relative < 2 ^ 30 }
+    ensures { (values : Values) (relocs : List Relocation) (f : Field)
+        → starts values relocs f.place ≡ Some start → start.is_mixed ≡ false
+        → f.kind ≡ kind_by start.kind → Tells values base relocs f start result }
+{
+    Sums {
+        more: start.more,
+        less: base * start.relative,
+    }
+}

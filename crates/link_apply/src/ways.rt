@@ -1,0 +1,90 @@
+//! How a branch leads to what it names.
+
+ghost use Rattle.std.specs.Prelude.{◌≡◌, ℕ, ◌+◌, ◌<◌, ◌^◌, []};
+ghost use Rattle.patch_model.specs.Patched.{ahead as ahead_of, middle as middle_of, span as span_of, total as total_of, way_to};
+ghost use Rattle.link_apply.specs.Starts.{AreBelow};
+ghost use Rattle.link_model.specs.declared.placing.Placement.{Placement};
+ghost use Rattle.link_apply.specs.Flaws.{goal_of, lacks_veneer, unless, veneer_of, way_flaw};
+ghost use Rattle.link_apply.specs.declared.flaws.Flaw.TheVariants.{Form};
+ghost use Rattle.link_apply.specs.PatchedBytes.{turned};
+ghost use Rattle.link_apply.specs.Targets.{values_by, way_by, IsWayOf};
+
+use crate::flaws::{Flaw, flaw_of_detour, flaw_of_direct};
+use crate::judging::Sums;
+use crate::numbers::{ahead, middle, span, total, with_span};
+use crate::targets::{SymbolValue, Target, target_of};
+
+/// What is wrong with the branch of a word at an address, by the veneer of its target and the target's address.
+pub fn flaw_of_way(
+    thumb: bool,
+    at: u64,
+    word: u32,
+    sums: Sums,
+    target: Option<Target>,
+    veneer: Option<u32>,
+    goal: u64,
+) -> Option<Flaw>
+    requires at { at < 2 ^ 34 }
+    requires more { sums.more < 2 ^ 63 }
+    requires less { sums.less < 2 ^ 63 }
+    requires goal { goal < 2 ^ 33 }
+    ensures { (p : Placement) (region : ℕ) → IsWayOf p region target veneer goal
+        → result ≡ unless Form (lacks_veneer p region (way_by target))
+        (way_flaw thumb at word sums.more sums.less (veneer_of p region (way_by target))
+        (way_by target) (goal_of p (way_by target))) }
+{
+    let Some(target) = target else {
+        return flaw_of_direct(thumb, word, sums.more, sums.less);
+    };
+    let Some(veneer) = veneer else {
+        return Some(Flaw::Form);
+    };
+    flaw_of_detour(thumb, at, veneer as u64, target, goal)
+}
+
+/// The branch of a word at an address with the displacement that it is to have.
+pub fn turned_word(
+    thumb: bool,
+    at: u64,
+    word: u32,
+    sums: Sums,
+    target: Option<Target>,
+    veneer: u32,
+) -> u32
+    requires at { at < 2 ^ 34 }
+    requires more { sums.more < 2 ^ 63 }
+    ensures { result ≡ turned thumb at word sums.more sums.less veneer (way_by target) }
+{
+    if target.is_none() {
+        return with_span(
+            thumb,
+            word,
+            (span(thumb, word) + sums.more).saturating_sub(sums.less),
+        );
+    }
+    let to = (veneer as u64 + middle(thumb)).saturating_sub(at + ahead(thumb));
+    with_span(thumb, word, to)
+}
+
+/// The target of a branch of a word at an address, where it goes by a veneer: by the first symbol of its
+/// relocations.
+pub fn target_by(
+    symbols: &[SymbolValue],
+    thumb: bool,
+    at: u64,
+    word: u32,
+    sums: Sums,
+    symbol: Option<u32>,
+) -> Option<Target>
+    requires symbols { AreBelow symbols.now }
+    requires at { at < 2 ^ 34 }
+    requires less { sums.less < 2 ^ 63 }
+    ensures { way_by result ≡ way_to thumb
+        (total_of (at + ahead_of thumb + span_of thumb word) 0 (middle_of thumb))
+        sums.more sums.less (values_by [] symbols.now) symbol }
+{
+    let number = symbol?;
+    let found = symbols.get(number as usize)?;
+    let reach = total(at + ahead(thumb) + span(thumb, word), 0, middle(thumb));
+    target_of(thumb, reach, sums.more, sums.less, *found)
+}
