@@ -20,7 +20,8 @@ use Rattle.link_model.specs.declared.selection.Linked.{Linked}
 use Rattle.link_model.specs.declared.selection.Named.{Named}
 use Rattle.link_model.specs.Members.{link_of}
 use Rattle.link_model.specs.Veneers.{shares_field}
-use Rattle.link_apply.specs.Placed.{values_in, veneers_at, target_in}
+use Rattle.link_values.specs.Placed.{values_in}
+use Rattle.link_apply.specs.Placed.{veneers_at, target_in}
 
 -- the form, the sum of a byte or a half-word, or the distance of a branch
 pub data Flaw : Type 0 where
