@@ -22,7 +22,8 @@ use Rattle.link_model.specs.Members.{link_of}
 use Rattle.link_model.specs.Veneers.{shares_field}
 use Rattle.link_apply.specs.declared.flaws.Flaw.{Flaw}
 use Rattle.link_apply.specs.declared.flaws.Flaw.TheVariants.{Form, Sum, Distance}
-use Rattle.link_apply.specs.Placed.{values_in, veneers_at, target_in}
+use Rattle.link_values.specs.Placed.{values_in}
+use Rattle.link_apply.specs.Placed.{veneers_at, target_in}
 
 -- ---- the form of any field
 

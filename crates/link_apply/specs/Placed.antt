@@ -1,30 +1,12 @@
--- What a relocation sees of a placement: where areas stand, the values of symbols, and the veneers of a region
--- (SDT 2.50 Reference Guide, armlink; veneers are this project's).
-use Rattle.std.specs.Prelude.{ℕ, ◌+◌, ◌^◌, ◌%◌, Bool, not, ◌&&◌, ◌==◌, unwrap_or}
+-- The veneers of a region, and the addresses of their targets. This project's.
+use Rattle.std.specs.Prelude.{ℕ, ◌+◌, ◌^◌, ◌%◌, Bool, not, ◌&&◌, ◌==◌}
 use Rattle.std.specs.List.{find}
 use Rattle.std.specs.Option.{option_map}
-use Rattle.patch_model.specs.Fields.{Home, Values}
+use Rattle.patch_model.specs.Fields.{Home}
 use Rattle.patch_model.specs.Patched.{Veneers, other_state}
-use Rattle.link_model.specs.declared.placing.PlacedArea.{PlacedArea}
 use Rattle.link_model.specs.declared.placing.Placement.{Placement}
 use Rattle.link_model.specs.declared.placing.Veneer.{Veneer}
-use Rattle.link_model.specs.Members.{Link}
-use Rattle.link_model.specs.RegionValues.{region_number}
-use Rattle.link_model.specs.Values.{values_of}
-
--- ---- areas
-
-abbrev pub is_area : ℕ → ℕ → PlacedArea → Bool
-is_area object area a = a.area.object == object && a.area.area == area
-
--- the address of an area, by the numbers of its object and its own
-abbrev pub base_in : Placement → ℕ → ℕ → ℕ
-base_in p object area = unwrap_or (option_map (λ a. a.address) (find (is_area object area) p.areas)) 0
-
-abbrev pub values_in : Link → Placement → ℕ → Values
-values_in l p object = values_of l (region_number l.objects p) (base_in p) object
-
--- ---- veneers
+use Rattle.link_values.specs.Placed.{base_in}
 
 abbrev pub leads_to : ℕ → Home → Bool → Veneer → Bool
 leads_to region target thumb v =

@@ -16,7 +16,8 @@ use Rattle.link_model.specs.declared.placing.Placement.{Placement}
 use Rattle.link_model.specs.declared.placing.Region.{Region}
 use Rattle.link_model.specs.Members.{Link}
 use Rattle.link_model.specs.RegionValues.{area_of}
-use Rattle.link_apply.specs.Placed.{base_in, values_in, target_in}
+use Rattle.link_values.specs.Placed.{base_in, values_in}
+use Rattle.link_apply.specs.Placed.{target_in}
 use Rattle.link_apply.specs.PatchedBytes.{patched_bytes, veneer_bytes}
 
 -- ---- pieces: an address, and the bytes from there on

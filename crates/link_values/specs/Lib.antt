@@ -1,0 +1,5 @@
+pub mod Placed
+pub mod Index
+pub mod Bases
+pub mod Regions
+pub mod Values

@@ -1,0 +1,223 @@
+//! The values of symbols.
+
+ghost use Rattle.std.specs.Prelude.{◌≡◌, map, false, Some, IfOk};
+ghost use Rattle.link_model.specs.Members.{link_of, objects_in};
+ghost use Rattle.link_model.specs.Meaning.{symbol_of};
+ghost use Rattle.link_model.specs.RegionValues.{numbers_by};
+ghost use Rattle.link_model.specs.Values.{home_area as home, meant_of, unplaced as alone};
+ghost use Rattle.aof_object.specs.Checks.{is_placed as placed};
+ghost use Rattle.link_values.specs.Bases.{base_of, AreBases};
+ghost use Rattle.link_values.specs.Values.{meant, of_region, known_value, all_values, value_in, AreValues, Knows};
+
+use crate::bases::{AreaBases, base_at};
+use crate::definitions::{Defined, index_definitions};
+use crate::names::find;
+use crate::objects::{sum, symbol_at};
+use crate::regions::{RegionSymbols, region_number, region_numbers, region_symbols};
+use aof_object::{Object, Symbol};
+use indexmap::IndexMap;
+use link_items::numbered;
+use link_model::{Linked, Named, Placement};
+use sdt_fault::{List, NoMemory, Text};
+use std::alloc::Global;
+
+/// A place in an area of a linked object, by an offset in bytes.
+#[derive(Clone, Copy, PartialEq, Eq, Debug)]
+pub struct Place {
+    pub object: u32,
+    pub area: u32,
+    pub offset: u32,
+}
+
+/// A symbol's number, whether it is of Thumb code and whether it is a datum there, and its place where it
+/// stands in an area.
+#[derive(Clone, Copy, PartialEq, Eq, Debug)]
+pub struct SymbolValue {
+    pub number: u64,
+    pub thumb: bool,
+    pub datum: bool,
+    pub home: Option<Place>,
+}
+
+/// What tells the value of a symbol.
+#[derive(Drop)]
+pub struct Known<'a> {
+    pub objects: &'a [Named<Object>],
+    pub bases: &'a AreaBases,
+    pub definitions: IndexMap<&'a [u8], Defined>,
+    pub symbols: RegionSymbols<'a>,
+}
+
+/// What a link and its placement tell, by the numbers of the region symbols of its regions.
+fn gathered<'a>(
+    alloc: Global,
+    linked: &'a Linked,
+    placement: &'a Placement,
+    bases: &'a AreaBases,
+    numbers: &'a [(Text, u64)],
+) -> Result<Known<'a>, NoMemory>
+    requires bases { AreBases placement.now bases.now }
+    requires numbers { numbers.now ≡ numbers_by placement.now.boot placement.now.regions }
+    ensures { IfOk result (λ known. Knows (link_of linked.now) placement.now known) }
+{
+    let objects = linked.objects.as_slice();
+    Ok(Known {
+        objects,
+        bases,
+        definitions: index_definitions(alloc, linked.definitions.as_slice())?,
+        symbols: region_symbols(alloc, placement, objects, numbers)?,
+    })
+}
+
+fn is_placed(symbol: &Symbol) -> bool
+    ensures { result ≡ placed symbol.now.attributes }
+{
+    if symbol.attributes % 2 != 1 {
+        return false;
+    }
+    symbol.attributes / 4 % 2 == 0
+}
+
+fn home_area(symbol: &Symbol) -> Option<u32>
+    ensures { result ≡ home symbol.now }
+{
+    if !is_placed(symbol) {
+        return None;
+    }
+    symbol.area
+}
+
+fn unplaced(number: u64) -> SymbolValue
+    ensures { meant result ≡ alone number false false }
+{
+    SymbolValue {
+        number,
+        thumb: false,
+        datum: false,
+        home: None,
+    }
+}
+
+/// The value of a definition.
+fn own_value(bases: &AreaBases, object: u32, symbol: &Symbol) -> Result<SymbolValue, NoMemory>
+    ensures { IfOk result (λ v. meant v ≡ meant_of (base_of bases.now) object (Some symbol.now)) }
+{
+    let thumb = symbol.attributes / 0x1000 % 2 == 1;
+    let datum = symbol.attributes / 0x100 % 2 == 1;
+    let Some(area) = home_area(symbol) else {
+        return Ok(SymbolValue {
+            number: symbol.value as u64,
+            thumb,
+            datum,
+            home: None,
+        });
+    };
+    Ok(SymbolValue {
+        number: sum(base_at(bases, object, area), symbol.value as u64)?,
+        thumb,
+        datum,
+        home: Some(Place {
+            object,
+            area,
+            offset: symbol.value,
+        }),
+    })
+}
+
+fn value_of_definition(
+    objects: &[Named<Object>],
+    bases: &AreaBases,
+    defined: Defined,
+) -> Result<SymbolValue, NoMemory>
+    ensures { IfOk result (λ v. meant v ≡ meant_of (base_of bases.now) defined.object
+        (symbol_of (objects_in objects.now) defined.object defined.symbol)) }
+{
+    match symbol_at(objects, defined.object, defined.symbol) {
+        None => Ok(unplaced(0)),
+        Some(symbol) => own_value(bases, defined.object, symbol),
+    }
+}
+
+/// The value of a name that isn't defined: a region symbol's, or that of an undefined weak reference.
+fn value_of_region(number: Option<u64>) -> SymbolValue
+    ensures { meant result ≡ of_region number }
+{
+    match number {
+        None => unplaced(0),
+        Some(number) => unplaced(number),
+    }
+}
+
+/// The value of a symbol of an object.
+fn value_of(known: &Known, object: u32, symbol: &Symbol) -> Result<SymbolValue, NoMemory>
+    ensures { IfOk result (λ v. meant v ≡ known_value known.now object symbol.now) }
+{
+    if symbol.attributes % 2 == 1 {
+        return own_value(known.bases, object, symbol);
+    }
+    let name = symbol.name.as_slice();
+    match find(&known.definitions, name) {
+        Some(defined) => value_of_definition(known.objects, known.bases, defined),
+        None => Ok(value_of_region(region_number(&known.symbols, name))),
+    }
+}
+
+fn object_values(
+    alloc: Global,
+    known: &Known,
+    object: u32,
+    symbols: &[Symbol],
+) -> Result<List<SymbolValue>, NoMemory>
+    ensures { IfOk result (λ vs. map meant vs ≡ map (known_value known.now object) symbols.now) }
+{
+    let mut values = Vec::new(alloc);
+    for symbol in symbols {
+        values.push(value_of(known, object, symbol)?)?;
+    }
+    Ok(List::from_vec(values))
+}
+
+fn values_of_objects(
+    alloc: Global,
+    known: &Known,
+    objects: &[Named<Object>],
+) -> Result<Vec<List<SymbolValue>>, NoMemory>
+    ensures { IfOk result (λ vs. map (map meant) vs.items
+        ≡ all_values (known_value known.now) 0 (objects_in objects.now)) }
+{
+    let mut values = Vec::new(alloc);
+    for (i, object) in objects.iter().enumerate() {
+        let symbols = object.value.symbols.as_slice();
+        values.push(object_values(alloc, known, numbered(i)?, symbols)?)?;
+    }
+    Ok(values)
+}
+
+/// The values of the symbols of all linked objects, by the numbers of objects and symbols.
+pub fn symbol_values(
+    alloc: Global,
+    linked: &Linked,
+    placement: &Placement,
+    bases: &AreaBases,
+) -> Result<List<List<SymbolValue>>, NoMemory>
+    requires { AreBases placement.now bases.now }
+    ensures exact { IfOk result (λ values. AreValues (link_of linked.now) placement.now values) }
+{
+    let objects = linked.objects.as_slice();
+    let numbers = region_numbers(alloc, placement.boot, placement.regions.as_slice())?;
+    let known = gathered(alloc, linked, placement, bases, numbers.as_slice())?;
+    Ok(List::from_vec(values_of_objects(alloc, &known, objects)?))
+}
+
+/// The value of the symbol of a number of an object; 0, absolute, where none is there.
+pub fn value_at(values: &[List<SymbolValue>], object: u32, symbol: u32) -> SymbolValue
+    ensures { meant result ≡ value_in values.now object symbol }
+{
+    match values.get(object as usize) {
+        None => unplaced(0),
+        Some(values) => match values.as_slice().get(symbol as usize) {
+            None => unplaced(0),
+            Some(value) => *value,
+        },
+    }
+}
