@@ -4,6 +4,7 @@
 ghost use Rattle.std.specs.Prelude.{◌≡◌, ◌++◌, ◌≤◌, length, IfOk, OnOk, Some};
 ghost use Rattle.std.specs.List.{list_any};
 ghost use Rattle.asm_arm.specs.Says.{SaysArm};
+ghost use Rattle.asm_locals.specs.Naming.{in_names};
 ghost use Rattle.asm_model.specs.Tokens.{Scans};
 ghost use Rattle.asm_reading.specs.Reading as reading_of;
 ghost use Rattle.said_model.specs.Said.{AllSaid};
@@ -253,6 +254,14 @@ fn read_as_written(alloc: Global, lines: &[Flat]) -> Result<Reading, NoMemory>
     }
 }
 
+/// Gives names for local labels.
+fn name_all(alloc: Global, statements: &mut Vec<Statement>) -> Result<(), NoMemory>
+    ensures { OnOk result (statements.new.items ≡ in_names statements.old.items) }
+{
+    name_locals(alloc, statements.as_mut_slice())?;
+    Ok(())
+}
+
 /// The statements of lines of ARM state with names for local labels, and the first line that can't be read: UnknownWord
 /// where it says CODE16 or CODE32, Syntax where a string or a character holds a dollar, and the faults of `parse_arm`.
 pub fn read_lines(alloc: Global, lines: &[Flat]) -> Result<Reading, NoMemory>
@@ -263,6 +272,6 @@ pub fn read_lines(alloc: Global, lines: &[Flat]) -> Result<Reading, NoMemory>
 {
     lines_are_said();
     let mut reading = read_as_written(alloc, lines)?;
-    name_locals(alloc, reading.statements.as_mut_slice())?;
+    name_all(alloc, &mut reading.statements)?;
     Ok(reading)
 }
