@@ -1,5 +1,6 @@
 pub mod Placed
 pub mod Flaws
+pub mod Judged
 pub mod PatchedBytes
 pub mod RegionBytes
 pub mod Laws
