@@ -8,6 +8,7 @@ mod judging;
 mod laws;
 mod numbers;
 mod overlaps;
+mod patching;
 mod relocations;
 mod starts;
 mod targets;

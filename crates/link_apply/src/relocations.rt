@@ -98,7 +98,7 @@ fn is_only_at(start: Start, reloc: Reloc) -> bool
 }
 
 /// What the field of a relocation holds.
-fn number_of(bytes: &[u8], reloc: Reloc) -> u32
+pub fn number_of(bytes: &[u8], reloc: Reloc) -> u32
     requires { is_outside bytes.now (field_of reloc) ≡ false }
     ensures { result ≡ number_in bytes.now (field_of reloc) }
 {
