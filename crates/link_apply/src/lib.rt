@@ -13,6 +13,7 @@ mod relocations;
 mod starts;
 mod targets;
 mod ways;
+mod writing;
 
 pub use crate::flaws::Flaw;
 pub use crate::laws::patched_law;
