@@ -23,7 +23,7 @@ use Rattle.link_apply.proofs.FieldLemmas.{none_of, adds_up, small_by}
 
 -- ---- the byte at a place
 
-length_patched : (p : Placement) (values : Values) (region base : ℕ) (a : Area) (i : ℕ) (bytes : List ℕ) → length (patched_from p values region base a i bytes) ≡ length bytes
+pub length_patched : (p : Placement) (values : Values) (region base : ℕ) (a : Area) (i : ℕ) (bytes : List ℕ) → length (patched_from p values region base a i bytes) ≡ length bytes
 length_patched p values region base a i [] = refl
 length_patched p values region base a i (b ∷ bs) = ap (λ n. suc n) (length_patched p values region base a (suc i) bs)
 
@@ -36,7 +36,7 @@ get_patched p values region base a i (b ∷ bs) (suc k) h =
     let e : suc i + k ≡ i + suc k = omega arith in
     get_patched p values region base a (suc i) bs k (omega arith) ∙ ap (λ n. byte_by p values region base a n (get_or bs k 0) (find (has_byte n) a.relocs)) e
 
-get_at : (p : Placement) (values : Values) (region base : ℕ) (a : Area) (k : ℕ) → k < length a.bytes
+pub get_at : (p : Placement) (values : Values) (region base : ℕ) (a : Area) (k : ℕ) → k < length a.bytes
     → get_or (patched_bytes p values region base a) k 0 ≡ byte_by p values region base a k (get_or a.bytes k 0) (find (has_byte k) a.relocs)
 get_at p values region base a k h =
     let e : 0 + k ≡ k = omega arith in

@@ -387,3 +387,21 @@ crowded_is values relocs r k s at there =
     (crowded_overlaps values relocs r s there)
     (λ e. let f = any_found (λ q. overlaps (field_of q) (field_of r)) relocs e in
     overlap_crowds values relocs r f.item s there says (start_of values relocs f.number f.item f.there) f.passes)
+
+-- ---- a place whose relocations agree
+
+pub unmixed_there : (values : Values) (relocs : List Reloc) (r : Reloc) (s : Start) → starts values relocs (field_of r).place ≡ Some s
+    → list_any (λ q. overlaps (field_of q) (field_of r)) relocs ≡ false → s.is_mixed ≡ false
+unmixed_there values relocs r s there none = by_mixed s.is_mixed refl
+  where
+    by_mixed : (b : Bool) → s.is_mixed ≡ b → s.is_mixed ≡ false
+    by_mixed false e = e
+    by_mixed true e = let any = from_mixed values relocs r s there e in absurd (cc)
+
+pub kind_there : (values : Values) (relocs : List Reloc) (r : Reloc) (k : ℕ) (s : Start) → slice_get relocs k ≡ Some r → starts values relocs (field_of r).place ≡ Some s
+    → s.is_mixed ≡ false → kind_of r ≡ kind_by s.kind
+kind_there values relocs r k s at there unmixed =
+    let h = start_of values relocs k r at in
+    let found = h.there in
+    let same : h.start ≡ s = cc in
+    h.says.kind (ap (λ (x : Start). x.is_mixed) same ∙ unmixed) ∙ ap (λ (x : Start). kind_by x.kind) same

@@ -1,11 +1,13 @@
 -- What an index of places says of the directives of a field.
-use Rattle.std.proofs.Common.{◌≡◌, ℕ, ◌+◌, ◌*◌, Bool, true, false, cond, List, [], ◌∷◌, refl, sym, ap, ◌∙◌, arith}
-use Rattle.std.specs.Prelude.{Option, Some, None, not, ◌||◌, ◌==◌}
-use Rattle.std.proofs.lemmas.Bool.{or_parts, not-false, and_from, and_left}
+use Rattle.std.proofs.Common.{◌≡◌, ℕ, ◌+◌, ◌*◌, ◌≤◌, Bool, true, false, cond, List, [], ◌∷◌, refl, sym, ap, subst, ◌∙◌, arith}
+use Rattle.std.specs.Prelude.{Option, Some, None, not, ◌||◌, ◌==◌, count_by}
+use Rattle.std.proofs.lemmas.Bool.{or_parts, not-false, and_from, and_left, eq-eqb, ne_eqb}
+use Rattle.std.proofs.lemmas.List.Sums.{sum_by-cons}
 use Rattle.sdt_word.specs.Numbers.{flag}
 use Rattle.aof_object.specs.declared.records.Reloc.{Reloc}
-use Rattle.patch_model.specs.Fields.{Kind, Field, Values, field_of, kind_of, is_same_kind, is_field, directives, is_relative, value_named, mark_of, added, taken}
+use Rattle.patch_model.specs.Fields.{Kind, Field, Values, field_of, kind_of, is_same_kind, is_field, directives, is_relative, value_named, mark_of, added, taken, size_of}
 use Rattle.patch_model.specs.Patched.{first_symbol}
+use Rattle.link_model.specs.Veneers.{shares_field}
 use Rattle.link_apply.specs.declared.starts.Start.{Start}
 use Rattle.link_apply.specs.Starts.{code_of, kind_by, symbol_by, started, starts}
 use Rattle.link_apply.proofs.OverlapLemmas.{coded, same_refl, same_eq}
@@ -89,3 +91,73 @@ tells values base (r ∷ rs) f s e unmixed kind = by_test ((field_of r).place ==
         let k = kind ∙ kinds (starts values rs f.place) same in
         let own = and_from ((field_of r).place == f.place) (is_same_kind (kind_of r) f.kind) t (ap (λ (x : Kind). is_same_kind (kind_of r) x) k ∙ same_refl (kind_of r)) in
         by_start (starts values rs f.place) refl same own k rest
+
+-- ---- how many relocations have a field
+
+-- one where a start is alone, and more where it isn't
+Counts : Bool → ℕ → Type 0
+Counts true n = n ≡ 1
+Counts false n = 2 ≤ n
+
+counted : (f : Field) (r : Reloc) (rs : List Reloc) (b : Bool) → shares_field f r ≡ b → count_by (shares_field f) (r ∷ rs) ≡ cond b 1 0 + count_by (shares_field f) rs
+counted f r rs b e = sum_by-cons (λ q. cond (shares_field f q) 1 0) r rs ∙ ap (λ (c : Bool). cond c 1 0 + count_by (shares_field f) rs) e
+
+none_counted : (values : Values) (rs : List Reloc) (f : Field) → starts values rs f.place ≡ None → count_by (shares_field f) rs ≡ 0
+none_counted values [] f e = refl
+none_counted values (r ∷ rs) f e = by_test ((field_of r).place == f.place) refl e (none_counted values rs f)
+  where
+    by_test : (b : Bool) → ((field_of r).place == f.place) ≡ b → cond b (Some (started values r (starts values rs f.place))) (starts values rs f.place) ≡ None
+        → (starts values rs f.place ≡ None → count_by (shares_field f) rs ≡ 0) → count_by (shares_field f) (r ∷ rs) ≡ 0
+    by_test true t e rest = absurd (cc)
+    by_test false t e rest = omega (arith, counted f r rs false (and_left ((field_of r).place == f.place) (size_of (kind_of r) == size_of f.kind) t), rest e)
+
+counts : (values : Values) (rs : List Reloc) (f : Field) (s : Start) → starts values rs f.place ≡ Some s → s.is_mixed ≡ false → f.kind ≡ kind_by s.kind
+    → Counts s.is_alone (count_by (shares_field f) rs)
+unfolding Counts
+counts values [] f s e unmixed kind = absurd (cc)
+counts values (r ∷ rs) f s e unmixed kind = by_test ((field_of r).place == f.place) refl e (counts values rs f)
+  where
+    some : (b : Bool) (n : ℕ) → Counts b n → 1 ≤ n
+    some true n h = omega arith
+    some false n h = omega arith
+
+    by_start : (o : Option Start) → starts values rs f.place ≡ o → started values r o ≡ s → shares_field f r ≡ true → f.kind ≡ kind_of r
+        → ((t : Start) → starts values rs f.place ≡ Some t → t.is_mixed ≡ false → f.kind ≡ kind_by t.kind → Counts t.is_alone (count_by (shares_field f) rs))
+        → Counts s.is_alone (count_by (shares_field f) (r ∷ rs))
+    by_start None at e own kind rest =
+        let alone : true ≡ s.is_alone = ap (λ (x : Start). x.is_alone) e in
+        let n : count_by (shares_field f) (r ∷ rs) ≡ 1 = omega (arith, counted f r rs true own, none_counted values rs f at) in
+        subst (λ b. Counts b (count_by (shares_field f) (r ∷ rs))) alone n
+    by_start (Some t) at e own kind rest =
+        let m : (t.is_mixed || not (is_same_kind (kind_by t.kind) (kind_of r))) ≡ s.is_mixed = ap (λ (x : Start). x.is_mixed) e in
+        let parts = or_parts t.is_mixed (not (is_same_kind (kind_by t.kind) (kind_of r))) (m ∙ unmixed) in
+        let same = same_eq (kind_by t.kind) (kind_of r) (not-false (is_same_kind (kind_by t.kind) (kind_of r)) parts.1) in
+        let h = some t.is_alone (count_by (shares_field f) rs) (rest t at parts.0 (kind ∙ sym same)) in
+        let alone : false ≡ s.is_alone = ap (λ (x : Start). x.is_alone) e in
+        let n : 2 ≤ count_by (shares_field f) (r ∷ rs) = omega (arith, counted f r rs true own, h) in
+        subst (λ b. Counts b (count_by (shares_field f) (r ∷ rs))) alone n
+
+    kinds : (o : Option Start) → started values r o ≡ s → kind_by s.kind ≡ kind_of r
+    kinds None e = let k : code_of (kind_of r) ≡ s.kind = ap (λ (x : Start). x.kind) e in ap kind_by (sym k) ∙ coded (kind_of r)
+    kinds (Some t) e = let k : code_of (kind_of r) ≡ s.kind = ap (λ (x : Start). x.kind) e in ap kind_by (sym k) ∙ coded (kind_of r)
+
+    by_test : (b : Bool) → ((field_of r).place == f.place) ≡ b → cond b (Some (started values r (starts values rs f.place))) (starts values rs f.place) ≡ Some s
+        → ((t : Start) → starts values rs f.place ≡ Some t → t.is_mixed ≡ false → f.kind ≡ kind_by t.kind → Counts t.is_alone (count_by (shares_field f) rs))
+        → Counts s.is_alone (count_by (shares_field f) (r ∷ rs))
+    by_test false t e rest =
+        let n : count_by (shares_field f) (r ∷ rs) ≡ count_by (shares_field f) rs = omega (arith, counted f r rs false (and_left ((field_of r).place == f.place) (size_of (kind_of r) == size_of f.kind) t)) in
+        subst (λ n. Counts s.is_alone n) (sym n) (rest s e unmixed kind)
+    by_test true t e rest =
+        let same : started values r (starts values rs f.place) ≡ s = cc in
+        let k = kind ∙ kinds (starts values rs f.place) same in
+        let sizes : (size_of (kind_of r) == size_of f.kind) ≡ true = eq-eqb (size_of (kind_of r)) (size_of f.kind) (ap size_of (sym k)) in
+        by_start (starts values rs f.place) refl same (and_from ((field_of r).place == f.place) (size_of (kind_of r) == size_of f.kind) t sizes) k rest
+
+pub alone_is : (values : Values) (rs : List Reloc) (f : Field) (s : Start) → starts values rs f.place ≡ Some s → s.is_mixed ≡ false → f.kind ≡ kind_by s.kind
+    → s.is_alone ≡ (count_by (shares_field f) rs == 1)
+unfolding Counts
+alone_is values rs f s e unmixed kind = by_alone s.is_alone (count_by (shares_field f) rs) (counts values rs f s e unmixed kind)
+  where
+    by_alone : (b : Bool) (n : ℕ) → Counts b n → b ≡ (n == 1)
+    by_alone true n h = sym (eq-eqb n 1 h)
+    by_alone false n h = sym (ne_eqb n 1 (λ e. omega arith))

@@ -1,5 +1,7 @@
 pub mod Placed
 pub mod Flaws
+pub mod Judged
+pub mod Written
 pub mod PatchedBytes
 pub mod RegionBytes
 pub mod Laws

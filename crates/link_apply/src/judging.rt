@@ -1,6 +1,6 @@
 //! What is wrong with the relocations of an area.
 
-ghost use Rattle.std.specs.Prelude.{◌≡◌, ◌<◌, ◌^◌, List, nat_eq, false, Some};
+ghost use Rattle.std.specs.Prelude.{◌≡◌, ◌*◌, ◌<◌, ◌^◌, List, nat_eq, false, Some};
 ghost use Rattle.indexmap.specs.IndexMap.{get};
 ghost use Rattle.link_apply.specs.Sums.{Tells};
 ghost use Rattle.aof_object.specs.declared.records.Reloc.{Reloc as Relocation};
@@ -77,16 +77,27 @@ pub struct Sums {
     pub less: u64,
 }
 
+fn taken_by(base: u64, relative: u64) -> u64
+    requires base { base < 2 ^ 33 }
+    requires relative { relative < 2 ^ 30 }
+    ensures value { result ≡ base * relative }
+    ensures bound { result < 2 ^ 63 }
+{
+    base * relative
+}
+
 /// Of a field in an area at a base, by what the area's relocations do where it begins.
 pub fn sums_of(start: Start, base: u64) -> Sums
     requires base { base < 2 ^ 33 }
     requires small { start.relative < 2 ^ 30 }
-    ensures { (values : Values) (relocs : List Relocation) (f : Field)
+    ensures tells { (values : Values) (relocs : List Relocation) (f : Field)
         → starts values relocs f.place ≡ Some start → start.is_mixed ≡ false
         → f.kind ≡ kind_by start.kind → Tells values base relocs f start result }
+    ensures more { result.more ≡ start.more }
+    ensures less { result.less < 2 ^ 63 }
 {
     Sums {
         more: start.more,
-        less: base * start.relative,
+        less: taken_by(base, start.relative),
     }
 }

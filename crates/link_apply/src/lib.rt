@@ -8,9 +8,12 @@ mod judging;
 mod laws;
 mod numbers;
 mod overlaps;
+mod patching;
+mod relocations;
 mod starts;
 mod targets;
 mod ways;
+mod writing;
 
 pub use crate::flaws::Flaw;
 pub use crate::laws::patched_law;

@@ -1,7 +1,11 @@
+use Rattle.std.proofs.Common.{refl, sym, ◌∙◌}
 use Rattle.link_apply.proofs.SumLemmas.{tells}
 use Rattle.link_apply.proofs.judging.sums_of.Goals as goal
 
 pub returns : goal.returns
-returns c = λ values relocs f there unmixed kind.
-    let h = tells values c.args.base relocs f c.args.start there unmixed kind in
-    record { more = h.more; less = h.less; symbol = h.symbol }
+returns c = record {
+  tells = λ values relocs f there unmixed kind. let h = tells values c.args.base relocs f c.args.start there unmixed kind in
+      record { more = h.more; less = h.less ∙ sym c.taken_by.ensures.value; symbol = h.symbol };
+  more = refl;
+  less = c.taken_by.ensures.bound;
+}
