@@ -1,3 +1,4 @@
+pub mod OperandLemmas
 pub mod PairLemmas
 pub mod SubstitutionLemmas
 pub mod TakingLemmas
