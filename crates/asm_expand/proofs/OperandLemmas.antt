@@ -8,7 +8,8 @@ use Rattle.expand_model.specs.declared.standing.Standing.{Standing}
 use Rattle.expand_model.specs.declared.standing.Standing.TheVariants.{Open, Quoted, Barred, Comment}
 use Rattle.expand_model.specs.Standing.{Byte, standing, standing_from, begun_at, begins_character, bars_width, is_in_comment, before_comment}
 use Rattle.expand_model.specs.Substitution.{plain}
-use Rattle.asm_expand.specs.Operands.{uncommented}
+use Rattle.asm_expand.specs.Operands.{uncommented, fronted, with_pieces}
+use Rattle.expand_model.specs.Words.{trimmed, pieces, in_front, is_quoted}
 use Rattle.asm_expand.proofs.SubstitutionLemmas.{behind_one, inside_one}
 
 -- without n at the end
@@ -100,3 +101,61 @@ module _ (text : List ℕ) (s : Standing) (left at : ℕ) (is : IsPassing text s
         ∙ ap (λ (bs : List Byte). take at text ++ plain (uncommented bs)) (sym stands)
         ∙ here_too);
   }
+
+-- ---- pieces
+
+nothing_before : (b : Bool) (c : ℕ) (ps : List (List ℕ)) → fronted [] (if b then [] ∷ ps else in_front c ps) ≡ (if b then [] ∷ ps else in_front c ps)
+nothing_before true c ps = refl
+nothing_before false c [] = refl
+nothing_before false c (s ∷ ss) = refl
+
+fronted_nothing : (bs : List Byte) → fronted [] (pieces bs) ≡ pieces bs
+fronted_nothing [] = refl
+fronted_nothing (b ∷ bs) = nothing_before _ b.0 (pieces bs)
+
+-- a comma
+pub piece_ended : (done newer : List (List ℕ)) (piece new : List ℕ) (c : ℕ) (t : Standing) → c ≡ 44 → is_quoted t ≡ false
+    → new ≡ [] → newer ≡ done ++ trimmed piece ∷ []
+    → (bs : List Byte) → with_pieces newer new (pieces bs) ≡ with_pieces done piece (pieces ((c, t) ∷ bs))
+piece_ended done newer piece new c t d e f g bs =
+    rw (d, e, f, g, fronted_nothing bs)
+    (append_assoc done (trimmed piece ∷ []) (map trimmed (pieces bs))
+    ∙ ap (λ (xs : List ℕ). done ++ trimmed xs ∷ map trimmed (pieces bs)) (sym (append-nil piece)))
+
+-- what is passed is in the pieces so far
+pub record IsCutting (text : List ℕ) (done : List (List ℕ)) (piece : List ℕ) (s : Standing) (left at : ℕ) : Type 0 where
+  pub within : at ≤ length text
+  pub outside : is_in_comment s ≡ false
+  pub same : with_pieces done piece (pieces (uncommented (standing_from s left (drop at text)))) ≡ map trimmed (pieces (before_comment text))
+
+pub begun_pieces : (text : List ℕ) → IsCutting text [] [] Open 0 0
+unfolding standing
+begun_pieces text = record { within = omega arith; outside = refl; same = ap (λ (ps : List (List ℕ)). map trimmed ps) (fronted_nothing (before_comment text)) }
+
+kept_byte : (c : ℕ) (t : Standing) (bs : List Byte) → is_in_comment t ≡ false → uncommented ((c, t) ∷ bs) ≡ (c, t) ∷ uncommented bs
+kept_byte c t bs h = rw h refl
+
+module _ (text : List ℕ) (done : List (List ℕ)) (piece : List ℕ) (s : Standing) (left at : ℕ) (is : IsCutting text done piece s left at) where
+  module _ (c : ℕ) (cs : List ℕ) (here : drop at text ≡ c ∷ cs) (t : Standing) (n : ℕ) (stands : standing_from s left (c ∷ cs) ≡ (c, t) ∷ standing_from t n cs) where
+    all_here : with_pieces done piece (pieces (uncommented (standing_from s left (c ∷ cs)))) ≡ map trimmed (pieces (before_comment text))
+    all_here = ap (λ (xs : List ℕ). with_pieces done piece (pieces (uncommented (standing_from s left xs)))) (sym here) ∙ is.same
+
+    pub pieces_stop : is_in_comment t ≡ true → done ++ trimmed piece ∷ [] ≡ map trimmed (pieces (before_comment text))
+    pieces_stop h =
+        ap (λ (xs : List ℕ). done ++ trimmed xs ∷ []) (sym (append-nil piece))
+        ∙ ap (λ (bs : List Byte). with_pieces done piece (pieces bs)) (sym (comment_ends s left c cs t n is.outside stands h))
+        ∙ all_here
+
+    pub pieces_pass : (newer : List (List ℕ)) (new : List ℕ) → is_in_comment t ≡ false
+        → ((bs : List Byte) → with_pieces newer new (pieces bs) ≡ with_pieces done piece (pieces ((c, t) ∷ bs)))
+        → IsCutting text newer new t n (at + 1)
+    pieces_pass newer new h f = record {
+      within = inside_one text at c cs here;
+      outside = h;
+      same =
+          rw (behind_one text at c cs here)
+          (f (uncommented (standing_from t n cs))
+          ∙ ap (λ (bs : List Byte). with_pieces done piece (pieces bs)) (sym (kept_byte c t (standing_from t n cs) h))
+          ∙ ap (λ (bs : List Byte). with_pieces done piece (pieces (uncommented bs))) (sym stands)
+          ∙ all_here);
+    }
