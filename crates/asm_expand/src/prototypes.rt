@@ -1,6 +1,6 @@
 //! The prototypes of macros.
 
-ghost use Rattle.std.specs.Prelude.{◌≡◌, ◌≤◌, ◌==◌, not, ◌+◌, drop, length, IfOk, MatchOption, Some, None};
+ghost use Rattle.std.specs.Prelude.{◌≡◌, ◌≤◌, ◌+◌, List, drop, length, IfOk, MatchOption, Some, None};
 ghost use Rattle.std.specs.List.{list_all, prefix_len};
 ghost use Rattle.asm_model.specs.Forms as forms;
 ghost use Rattle.expand_model.specs.Prototypes as model;
@@ -72,4 +72,20 @@ fn parameter_of(alloc: Global, text: &[u8]) -> Result<Option<Parameter>, NoMemor
     let name = Text::from_slice(alloc, name)?;
     let otherwise = Text::from_slice(alloc, without_blanks(default_part(text, width)))?;
     Ok(Some(Parameter { name, otherwise }))
+}
+
+/// The parameters that texts say; None where one says none.
+fn parameters_of(alloc: Global, texts: &[Text]) -> Result<Option<Vec<Parameter>>, NoMemory>
+    ensures { IfOk result (λ found. MatchOption found (model.parameters_of texts.now ≡ None) (λ v. model.parameters_of texts.now ≡ Some v.items)) }
+{
+    let mut parameters = Vec::new(alloc);
+    let mut at = 0;
+    'texts: while at < texts.len() {
+        let Some(parameter) = parameter_of(alloc, texts[at].as_slice())? else {
+            return Ok(None);
+        };
+        parameters.push(parameter)?;
+        at += 1;
+    }
+    Ok(Some(parameters))
 }
