@@ -1,4 +1,5 @@
 -- What the clauses of the crate cite.
+pub mod Operands
 pub mod Pairing
 pub mod Steps
 pub mod Substitution

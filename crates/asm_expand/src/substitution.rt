@@ -98,7 +98,7 @@ fn takes_dollar(standing: Standing) -> bool
 }
 
 /// Where a byte before these stands, of which so many stand as they did; and how many do so behind it.
-fn standing_at(standing: Standing, left: usize, first: u8, rest: &[u8]) -> (Standing, usize)
+pub fn standing_at(standing: Standing, left: usize, first: u8, rest: &[u8]) -> (Standing, usize)
     ensures { place.standing_from standing left (first ∷ rest.now) ≡ (first, result.0) ∷ place.standing_from result.0 result.1 rest.now }
 {
     if left == 0 {
@@ -145,7 +145,7 @@ fn pass(
 }
 
 /// The byte at a place and the bytes behind it; None at the end.
-fn first_of(text: &[u8], at: usize) -> Option<(u8, &[u8])>
+pub fn first_of(text: &[u8], at: usize) -> Option<(u8, &[u8])>
     requires { at ≤ length text.now }
     ensures { MatchOption result (drop at text.now ≡ []) (λ r. drop at text.now ≡ r.0 ∷ r.1.now) }
 {
