@@ -87,11 +87,7 @@ fn is_quoted(standing: Standing) -> bool
 }
 
 /// Ends the piece so far.
-fn end_piece(
-    alloc: Global,
-    piece: &mut Vec<u8>,
-    pieces: &mut Vec<Text>,
-) -> Result<(), NoMemory>
+fn end_piece(alloc: Global, piece: &mut Vec<u8>, pieces: &mut Vec<Text>) -> Result<(), NoMemory>
     ensures empty { OnOk result (piece.new.items ≡ []) }
     ensures more { OnOk result (pieces.new.items ≡ pieces.old.items ++ model.trimmed piece.old.items ∷ []) }
 {
