@@ -77,3 +77,10 @@ numbered p values region base area a r s sums way own there sound tells goes =
     let less = sym told.less in
     (λ i. number_with p region (base + (field_of r).place) (number_in a.bytes (field_of r)) (more i) (less i) way (kind_of r))
     ∙ renumbered p values region base a r way (kind_of r) (directives a.relocs (field_of r)) (λ t e. goes t e sound)
+
+pub told_of : (values : Values) (base area : ℕ) (a : Area) (r : Reloc) (s : Start) (sums : Sums) → IsIn a.relocs r → starts values a.relocs (field_of r).place ≡ Some s
+    → has_bad_field area a r ≡ false → (s.is_mixed ≡ false → kind_of r ≡ kind_by s.kind → Tells values base a.relocs (field_of r) s sums)
+    → Tells values base a.relocs (field_of r) s sums
+told_of values base area a r s sums own there sound tells =
+    let unmixed = unmixed_there values a.relocs r s there (none_overlaps area a r sound) in
+    tells unmixed (kind_there values a.relocs r own.0 s own.1 there unmixed)

@@ -1,20 +1,21 @@
 //! The numbers that fields are to hold, and their writing.
 
-ghost use Rattle.std.specs.Prelude.{◌≡◌, ℕ, ◌<◌, ◌^◌, false, Some};
+ghost use Rattle.std.specs.Prelude.{◌≡◌, ℕ, Bool, List, ◌<◌, ◌^◌, false, Some};
 ghost use Rattle.link_model.specs.declared.placing.Placement.{Placement};
 ghost use Rattle.link_model.specs.Veneers.{IsIn};
-ghost use Rattle.patch_model.specs.Fields.{field_of, size_of as kind_size, kind_of as field_kind, Values};
+ghost use Rattle.patch_model.specs.Fields.{field_of, size_of as kind_size, kind_of as field_kind, Branch, Values};
 ghost use Rattle.link_apply.specs.Flaws.{has_bad_field, is_outside, veneer_of};
 ghost use Rattle.link_apply.specs.Judged.{number_with, IsWay};
 ghost use Rattle.link_apply.specs.PatchedBytes.{patched_number, turned};
-ghost use Rattle.link_apply.specs.Starts.{kind_by, starts};
-ghost use Rattle.link_apply.specs.Targets.{way_by, IsWayOf};
+ghost use Rattle.link_apply.specs.Starts.{code_of, kind_by, starts, AreBelow};
+ghost use Rattle.link_apply.specs.Targets.{values_by, way_by, IsWayOf};
 
 use crate::judging::{Sums, sums_of};
 use crate::numbers::total;
 use crate::relocations::{Detour, number_of};
 use crate::starts::{FieldKind, Start, kind_of, place_of};
-use crate::ways::turned_word;
+use crate::targets::{SymbolValue, Target};
+use crate::ways::{target_by, turned_word};
 use aof_object::{Area, Reloc};
 
 /// The branch of a word at an address with the displacement that it is to have.
@@ -69,4 +70,32 @@ pub fn new_number(start: Start, base: u64, area: &Area, reloc: Reloc, detour: De
     let word = number_of(area.bytes.as_slice(), reloc);
     let at = base + place_of(reloc) as u64;
     number_by(kind_of(reloc), at, word, sums_of(start, base), detour)
+}
+
+fn is_thumb(kind: FieldKind) -> bool
+    ensures { (thumb : Bool) → kind ≡ code_of (Branch thumb) → result ≡ thumb }
+{
+    kind == FieldKind::Thumb
+}
+
+/// The target of the branch of a relocation of an area at a base, where it goes by a veneer.
+pub fn target_at(
+    symbols: &[SymbolValue],
+    start: Start,
+    base: u64,
+    area: &Area,
+    reloc: Reloc,
+) -> Option<Target>
+    requires symbols { AreBelow symbols.now }
+    requires inside { is_outside area.now.bytes (field_of reloc) ≡ false }
+    requires base { base < 2 ^ 33 }
+    requires relative { start.relative < 2 ^ 30 }
+    ensures { (bases : List ℕ) (number : ℕ) → IsIn area.now.relocs reloc
+        → starts (values_by bases symbols.now) area.now.relocs (field_of reloc).place ≡ Some start
+        → IsWay (values_by bases symbols.now) base number area.now reloc (way_by result) }
+{
+    let word = number_of(area.bytes.as_slice(), reloc);
+    let at = base + place_of(reloc) as u64;
+    let thumb = is_thumb(kind_of(reloc));
+    target_by(symbols, thumb, at, word, sums_of(start, base), start.symbol)
 }
