@@ -9,7 +9,7 @@ pub returns-then-is_comment : goal.returns-then-is_comment
 returns-then-is_comment c =
     c.in_ok-end_piece-2.ensures.more
     ∙ pieces_stop _ _ _ _ _ _ c.bytes.invariant c.in-Some.first c.in-Some.rest.now c.in-Some.ensures c.standing_at-begun.result.0
-        c.standing_at-begun.result.1 c.standing_at-begun.ensures (sym c.is_comment.ensures ∙ c.if-is_comment.true)
+    c.standing_at-begun.result.1 c.standing_at-begun.ensures (sym c.is_comment.ensures ∙ c.if-is_comment.true)
 
 pub bytes-preserved : goal.bytes-preserved
 bytes-preserved c =
