@@ -1,12 +1,12 @@
 //! What stands behind an operation, and the arguments there.
 
-ghost use Rattle.std.specs.Prelude.{◌≡◌, ◌≤◌, List, [], ◌∷◌, ◌++◌, length, take, reverse, map, IfOk, OnOk};
+ghost use Rattle.std.specs.Prelude.{◌≡◌, ◌≤◌, [], ◌∷◌, ◌++◌, length, take, reverse, map, IfOk, OnOk};
 ghost use Rattle.std.specs.List.{prefix_len};
 ghost use Rattle.asm_model.specs.Forms.{is_blank};
 ghost use Rattle.expand_model.specs.Standing as place;
 ghost use Rattle.expand_model.specs.Substitution.{plain};
 ghost use Rattle.expand_model.specs.Words as model;
-ghost use Rattle.asm_expand.specs.Operands.{with_pieces};
+ghost use Rattle.asm_expand.specs.Operands.{Takes, trimmed_pieces};
 
 use crate::substitution::{first_of, standing_at};
 use crate::words::without_blanks;
@@ -105,7 +105,7 @@ fn take_byte(
     piece: &mut Vec<u8>,
     pieces: &mut Vec<Text>,
 ) -> Result<(), NoMemory>
-    ensures { OnOk result ((bs : List place.Byte) → with_pieces pieces.new.items piece.new.items (model.pieces bs) ≡ with_pieces pieces.old.items piece.old.items (model.pieces ((first, standing) ∷ bs))) }
+    ensures { OnOk result (Takes (first, standing) pieces.old.items piece.old.items pieces.new.items piece.new.items) }
 {
     if first == b',' && !is_quoted(standing) {
         end_piece(alloc, piece, pieces)?;
@@ -117,7 +117,7 @@ fn take_byte(
 
 /// The pieces between the commas outside quotes, without the blanks around each.
 fn pieces_of(alloc: Global, text: &[u8]) -> Result<Vec<Text>, NoMemory>
-    ensures { IfOk result (λ texts. texts.items ≡ map model.trimmed (model.pieces (place.before_comment text.now))) }
+    ensures { IfOk result (λ texts. texts.items ≡ trimmed_pieces text.now) }
 {
     let mut pieces = Vec::new(alloc);
     let mut piece = Vec::new(alloc);
