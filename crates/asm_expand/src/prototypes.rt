@@ -80,7 +80,8 @@ fn parameter_of(alloc: Global, text: &[u8]) -> Result<Option<Parameter>, NoMemor
 
 /// The parameters that texts say; None where one says none.
 fn parameters_of(alloc: Global, texts: &[Text]) -> Result<Option<Vec<Parameter>>, NoMemory>
-    ensures { IfOk result (λ found. MatchOption found (model.parameters_of texts.now ≡ None) (λ v. model.parameters_of texts.now ≡ Some v.items)) }
+    ensures { IfOk result (λ found. MatchOption found (model.parameters_of texts.now ≡ None)
+        (λ v. model.parameters_of texts.now ≡ Some v.items)) }
 {
     let mut parameters = Vec::new(alloc);
     let mut at = 0;

@@ -99,7 +99,8 @@ fn takes_dollar(standing: Standing) -> bool
 
 /// Where a byte before these stands, of which so many stand as they did; and how many do so behind it.
 pub fn standing_at(standing: Standing, left: usize, first: u8, rest: &[u8]) -> (Standing, usize)
-    ensures { place.standing_from standing left (first ∷ rest.now) ≡ (first, result.0) ∷ place.standing_from result.0 result.1 rest.now }
+    ensures { place.standing_from standing left (first ∷ rest.now)
+        ≡ (first, result.0) ∷ place.standing_from result.0 result.1 rest.now }
 {
     if left == 0 {
         let (begun, width) = begun_at(first, rest);

@@ -58,7 +58,8 @@ impl Tables {
 
     /// Appends the text for which a name stands, where there is one.
     pub fn append_text(&self, name: &Text, out: &mut Vec<u8>) -> Result<bool, NoMemory>
-        ensures { IfOk result (λ known. (s : State) → HasTables self.now s → Appends (model.text_named s name.now) known out.old.items out.new.items) }
+        ensures { IfOk result (λ known. (s : State) → HasTables self.now s
+            → Appends (model.text_named s name.now) known out.old.items out.new.items) }
     {
         if let Some(text) = self.arguments.get(name) {
             out.extend_from_slice(text.as_slice())?;

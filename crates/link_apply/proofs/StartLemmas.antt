@@ -7,7 +7,7 @@ use Rattle.sdt_word.specs.Numbers.{flag}
 use Rattle.aof_object.specs.declared.records.Reloc.{Reloc}
 use Rattle.patch_model.specs.Fields.{Kind, Byte, Half, Word, Branch, Values, field_of, is_relative, is_by_symbol, number_named, value_named, mark_in, mark_of}
 use Rattle.link_apply.specs.declared.starts.Start.{Start}
-use Rattle.link_apply.specs.declared.targets.SymbolValue.{SymbolValue}
+use Rattle.link_values.specs.declared.values.SymbolValue.{SymbolValue}
 use Rattle.link_apply.specs.Targets.{meant_at, values_by}
 use Rattle.link_apply.specs.Starts.{started, starts, AreBelow, IsSmall}
 

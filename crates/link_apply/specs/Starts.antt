@@ -9,7 +9,7 @@ use Rattle.patch_model.specs.Fields.{Kind, Byte, Half, Word, Branch, Field, Valu
 use Rattle.link_apply.specs.declared.starts.FieldKind.{FieldKind}
 use Rattle.link_apply.specs.declared.starts.FieldKind.TheVariants as code
 use Rattle.link_apply.specs.declared.starts.Start.{Start}
-use Rattle.link_apply.specs.declared.targets.SymbolValue.{SymbolValue}
+use Rattle.link_values.specs.declared.values.SymbolValue.{SymbolValue}
 
 -- ---- kinds of fields
 

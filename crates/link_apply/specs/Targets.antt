@@ -1,24 +1,17 @@
 -- The values of symbols and the ways of branches, as the code holds them. This project's.
 use Rattle.std.specs.Prelude.{◌≡◌, ℕ, false, List, get_or, slice_get, Option, Some, None}
-use Rattle.std.specs.Option.{option_map}
 use Rattle.patch_model.specs.Fields.{Home, Meant, Values}
 use Rattle.patch_model.specs.Patched.{Way, Directly, ByVeneer}
 use Rattle.link_model.specs.declared.placing.Placement.{Placement}
 use Rattle.link_apply.specs.Placed.{veneers_at, target_in}
-use Rattle.link_apply.specs.declared.targets.Place.{Place}
-use Rattle.link_apply.specs.declared.targets.SymbolValue.{SymbolValue}
+use Rattle.link_values.specs.declared.values.SymbolValue.{SymbolValue}
 use Rattle.link_apply.specs.declared.targets.Target.{Target}
-
-abbrev pub home_by : Place → Home
-home_by p = record { object = p.object; area = p.area; offset = p.offset }
-
-abbrev pub meant_by : SymbolValue → Meant
-meant_by s = record { number = s.number; thumb = s.thumb; datum = s.datum; home = option_map home_by s.home }
+use Rattle.link_values.specs.Values.{home, meant}
 
 -- of a number that no symbol has
 abbrev pub meant_at : Option SymbolValue → Meant
 meant_at None = record { number = 0; thumb = false; datum = false; home = None }
-meant_at (Some s) = meant_by s
+meant_at (Some s) = meant s
 
 -- by the addresses of an object's areas and the values of its symbols
 abbrev pub values_by : List ℕ → List SymbolValue → Values
@@ -26,9 +19,9 @@ values_by bases symbols = record { base = λ k. get_or bases k 0; symbol = λ k.
 
 abbrev pub way_by : Option Target → Way
 way_by None = Directly
-way_by (Some t) = ByVeneer (home_by t.place) t.thumb
+way_by (Some t) = ByVeneer (home t.place) t.thumb
 
 -- a veneer of the region, and its target's address
 abbrev pub IsWayOf : Placement → ℕ → Option Target → Option ℕ → ℕ → Type 0
 IsWayOf p region None veneer goal = Unit {0}
-IsWayOf p region (Some t) veneer goal = (veneers_at p region (home_by t.place) t.thumb ≡ veneer) × (target_in p (home_by t.place) ≡ goal)
+IsWayOf p region (Some t) veneer goal = (veneers_at p region (home t.place) t.thumb ≡ veneer) × (target_in p (home t.place) ≡ goal)

@@ -17,4 +17,3 @@ mod writing;
 
 pub use crate::flaws::Flaw;
 pub use crate::laws::patched_law;
-pub use crate::targets::{Place, SymbolValue};

@@ -14,9 +14,10 @@ use crate::judging::{Sums, sums_of};
 use crate::numbers::total;
 use crate::relocations::{Detour, number_of};
 use crate::starts::{FieldKind, Start, kind_of, place_of};
-use crate::targets::{SymbolValue, Target};
+use crate::targets::Target;
 use crate::ways::{target_by, turned_word};
 use aof_object::{Area, Reloc};
+use link_values::SymbolValue;
 
 /// The branch of a word at an address with the displacement that it is to have.
 fn branch_with(thumb: bool, at: u64, word: u32, sums: Sums, detour: Detour) -> u32

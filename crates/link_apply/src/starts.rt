@@ -6,9 +6,9 @@ ghost use Rattle.indexmap.specs.IndexMap.{get};
 ghost use Rattle.link_apply.specs.Targets.{values_by};
 ghost use Rattle.link_apply.specs.Starts.{code_of, kind_by, symbol_by, started as start_with, AreBelow, AreSmall, AreStarts, IsSmall};
 
-use crate::targets::SymbolValue;
 use aof_object::Reloc;
 use indexmap::IndexMap;
+use link_values::SymbolValue;
 use sdt_fault::NoMemory;
 use std::alloc::Global;
 

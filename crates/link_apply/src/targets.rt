@@ -1,29 +1,13 @@
 //! What relocations name, as numbers, and where branches by them lead.
 
 ghost use Rattle.std.specs.Prelude.{◌≡◌, ◌+◌, ◌<◌, ◌^◌};
-ghost use Rattle.link_apply.specs.Targets.{home_by, meant_by, way_by};
+ghost use Rattle.link_apply.specs.Targets.{way_by};
+ghost use Rattle.link_values.specs.Values.{home, meant};
 ghost use Rattle.patch_model.specs.Patched.{way_home};
 ghost use Rattle.std.specs.Option.{option_map};
 
 use crate::numbers::total;
-
-/// A place in an area of an object.
-#[derive(Clone, Copy, PartialEq, Eq, Debug)]
-pub struct Place {
-    pub object: u32,
-    pub area: u32,
-    pub offset: u32,
-}
-
-/// What a symbol means: its number, whether it is of Thumb code, whether it is a datum there, and where it
-/// stands, if it stands in an area.
-#[derive(Clone, Copy, PartialEq, Eq, Debug)]
-pub struct SymbolValue {
-    pub number: u64,
-    pub thumb: bool,
-    pub datum: bool,
-    pub home: Option<Place>,
-}
+use link_values::{Place, SymbolValue};
 
 /// What a veneer leads to.
 #[derive(Clone, Copy, PartialEq, Eq, Debug)]
@@ -43,8 +27,8 @@ pub fn target_of(
 ) -> Option<Target>
     requires reach { reach < 2 ^ 32 }
     requires sums { less + symbol.number < 2 ^ 64 }
-    ensures { way_by result ≡ way_home thumb reach more less (meant_by symbol)
-        (option_map home_by symbol.home) }
+    ensures { way_by result ≡ way_home thumb reach more less (meant symbol)
+        (option_map home symbol.home) }
 {
     let Some(home) = symbol.home else {
         return None;

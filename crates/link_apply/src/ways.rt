@@ -12,7 +12,8 @@ ghost use Rattle.link_apply.specs.Targets.{values_by, way_by, IsWayOf};
 use crate::flaws::{Flaw, flaw_of_detour, flaw_of_direct};
 use crate::judging::Sums;
 use crate::numbers::{ahead, middle, span, total, with_span};
-use crate::targets::{SymbolValue, Target, target_of};
+use crate::targets::{Target, target_of};
+use link_values::SymbolValue;
 
 /// What is wrong with the branch of a word at an address, by the veneer of its target and the target's address.
 pub fn flaw_of_way(
