@@ -6,8 +6,7 @@ ghost use Rattle.link_items.specs.LinkedItems.{items_in, items_of};
 ghost use Rattle.link_assign.specs.Shown.{shown_item};
 
 use aof_object::{Area, Object};
-use link_items::numbered;
-use link_model::{AreaName, Named};
+use link_model::{AreaName, Named, numbered};
 use sdt_fault::NoMemory;
 use std::alloc::Global;
 

@@ -9,5 +9,7 @@ mod selection;
 
 pub use crate::images::{Aif, Image, ImageKind, LoadRegion};
 pub use crate::laws::{linked_law, veneers_law};
-pub use crate::placing::{AreaName, Assigned, PlacedArea, PlacedVeneer, Placement, Region, Veneer};
+pub use crate::placing::{
+    AreaName, Assigned, PlacedArea, PlacedVeneer, Placement, Region, Veneer, numbered,
+};
 pub use crate::selection::{Definition, Linked, LinkedEntry, Named};

@@ -1,7 +1,19 @@
 //! Where areas go. A region is named by its number in the order of the description, counted from 0; without
 //! a scatter description there are three, RO, RW and ZI.
 
-use sdt_fault::{List, Text};
+ghost use Rattle.std.specs.Prelude.{◌≡◌, IfOk};
+
+use sdt_fault::{List, NoMemory, Text};
+
+/// The number of an object, an area or a region. No memory holds so many that it needs more bits.
+pub fn numbered(place: usize) -> Result<u32, NoMemory>
+    ensures { IfOk result (λ number. number ≡ place) }
+{
+    if place > u32::MAX as usize {
+        return Err(NoMemory);
+    }
+    Ok(place as u32)
+}
 
 /// An area of a linked object, both by their numbers counted from 0.
 #[derive(Clone, Copy, PartialEq, Eq, Hash, Debug)]

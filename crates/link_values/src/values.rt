@@ -16,8 +16,7 @@ use crate::objects::{sum, symbol_at};
 use crate::regions::{RegionSymbols, region_number, region_numbers, region_symbols};
 use aof_object::{Object, Symbol};
 use indexmap::IndexMap;
-use link_items::numbered;
-use link_model::{Linked, Named, Placement};
+use link_model::{Linked, Named, Placement, numbered};
 use sdt_fault::{List, NoMemory, Text};
 use std::alloc::Global;
 
