@@ -2,3 +2,4 @@
 pub mod Fields
 pub mod Maps
 pub mod Reading
+pub mod Files

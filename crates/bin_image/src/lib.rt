@@ -3,12 +3,14 @@
 #![tactic(auto)]
 
 mod fields;
+mod files;
 mod laws;
 mod lines;
 mod reading;
 mod records;
 mod writing;
 
+pub use crate::files::make_bins;
 pub use crate::laws::{first_wrong_law, map_law, one_record, spelling_law};
 pub use crate::reading::read_map;
 pub use crate::records::{MapFile, MapLoad, MapRegion, OutFile};

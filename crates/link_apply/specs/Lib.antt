@@ -8,3 +8,4 @@ pub mod Laws
 pub mod Targets
 pub mod Starts
 pub mod Sums
+pub mod Applied

@@ -2,6 +2,7 @@
 //! table.
 #![tactic(auto)]
 
+mod applying;
 mod fields;
 mod flaws;
 mod judging;
@@ -15,5 +16,6 @@ mod targets;
 mod ways;
 mod writing;
 
+pub use crate::applying::apply;
 pub use crate::flaws::Flaw;
 pub use crate::laws::patched_law;

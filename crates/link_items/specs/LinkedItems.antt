@@ -1,6 +1,6 @@
 -- The areas of linked objects as placing looks at them (place_model), and what the regions of a link contain.
 -- This project's.
-use Rattle.std.specs.Prelude.{ℕ, suc, List, [], ◌∷◌, ◌++◌, map, slice_get, Option}
+use Rattle.std.specs.Prelude.{ℕ, suc, Bool, true, false, List, [], ◌∷◌, ◌++◌, map, slice_get, Option}
 use Rattle.std.specs.List.{filter_map}
 use Rattle.std.specs.Option.{option_map, option_and_then}
 use Rattle.aof_object.specs.declared.records.Area.{Area}
@@ -8,6 +8,8 @@ use Rattle.aof_object.specs.declared.records.Object.{Object}
 use Rattle.link_model.specs.declared.placing.AreaName.{AreaName}
 use Rattle.link_model.specs.declared.placing.Veneer.{Veneer}
 use Rattle.link_model.specs.declared.selection.Named.{Named}
+use Rattle.place_model.specs.declared.scatter.Kind.{Kind}
+use Rattle.place_model.specs.declared.scatter.Kind.TheVariants as kind
 use Rattle.place_model.specs.Items.{Item}
 use Rattle.place_model.specs.Plans.{RegionVeneer, Contents}
 
@@ -62,3 +64,8 @@ contents_of os regions veneers = record {
   areas = map (filter_map (item_at os)) regions;
   veneers = map region_veneer veneers;
 }
+
+-- an ARM image file has a header, which calls the entry
+abbrev pub has_header : Kind → Bool
+has_header (kind.Aif base relocatable) = true
+has_header _ = false
