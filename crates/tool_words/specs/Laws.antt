@@ -20,8 +20,10 @@ pub data OptionBreaks (verb : Verb) (words : List (List ℕ)) (mode : Option Fla
   twice : is_bank f ≡ false → has f before ≡ true → OptionBreaks verb words mode before at f at
   second_mode : is_mode f ≡ true → is_some (mode_of before) ≡ true → OptionBreaks verb words mode before at f at
   too_many_banks : is_bank f ≡ true → 16 ≤ bank_count before → OptionBreaks verb words mode before at f at
-  bad_value : 1 ≤ value_count verb f → at + 1 < length words → first_is_good f words at ≡ false → OptionBreaks verb words mode before at f (at + 1)
-  bad_size : 2 ≤ value_count verb f → at + 2 < length words → second_is_good words at ≡ false → OptionBreaks verb words mode before at f (at + 2)
+  bad_value : 1 ≤ value_count verb f → at + 1 < length words → first_is_good f words at ≡ false
+      → OptionBreaks verb words mode before at f (at + 1)
+  bad_size : 2 ≤ value_count verb f → at + 2 < length words → second_is_good words at ≡ false
+      → OptionBreaks verb words mode before at f (at + 2)
 
 -- why a name does
 pub data NameBreaks (verb : Verb) (words : List (List ℕ)) (mode : Option Flag) (before : List Item) (at : ℕ) : Type 0 where
