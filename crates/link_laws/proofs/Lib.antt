@@ -5,3 +5,8 @@ pub mod PlacedLemmas
 pub mod SizedLemmas
 pub mod ShownLemmas
 pub mod Rows
+pub mod MadeOnce
+pub mod MadeBytes
+pub mod MadeBytesOfRegions
+pub mod MadeBytesLaws
+pub mod MadeStart

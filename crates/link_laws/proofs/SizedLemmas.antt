@@ -41,7 +41,7 @@ use Rattle.link_laws.proofs.RegionLemmas.{things_all, things_of_stood, IsWithin,
 
 -- ---- the startup code, and the header
 
-words_length : (ws : List ℕ) → length (bytes_of_words ws) ≡ 4 * length ws
+pub words_length : (ws : List ℕ) → length (bytes_of_words ws) ≡ 4 * length ws
 words_length [] = refl
 words_length (w ∷ ws) = let rest = words_length ws in omega (arith, length-append (bytes_of w 4) (bytes_of_words ws), length-bytes_of w 4, rest)
 
@@ -64,7 +64,7 @@ startup_length s c entry =
     )
 
 -- what isn't an area or a veneer has its size
-abbrev IsFramed : Plan → Given → List ℕ → Thing → Type 0
+abbrev pub IsFramed : Plan → Given → List ℕ → Thing → Type 0
 IsFramed p g header Header = length header ≡ 128
 IsFramed p g header (Startup words) = length (startup_bytes p words g.entry) ≡ size_of (Startup words)
 IsFramed p g header _ = Unit {0}
@@ -75,7 +75,7 @@ framed_header (kind.Plain base) c g header n h = tt
 framed_header (kind.Aif base relocatable) c g header zero h = (h, tt)
 framed_header (kind.Aif base relocatable) c g header (suc n) h = tt
 
-framed_startup : (k : Kind) (c : Contents) (g : Given) (header : List ℕ) (n : ℕ) → AllByRecursion (IsFramed (plan_of k c) g header) (startup_in k n (table_words k c))
+pub framed_startup : (k : Kind) (c : Contents) (g : Given) (header : List ℕ) (n : ℕ) → AllByRecursion (IsFramed (plan_of k c) g header) (startup_in k n (table_words k c))
 framed_startup (kind.Scatter s) c g header zero = (startup_length s c g.entry, tt)
 framed_startup (kind.Scatter s) c g header (suc n) = tt
 framed_startup (kind.Plain base) c g header n = tt
