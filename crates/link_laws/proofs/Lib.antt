@@ -5,3 +5,10 @@ pub mod PlacedLemmas
 pub mod SizedLemmas
 pub mod ShownLemmas
 pub mod Rows
+pub mod MadeAnswerLemmas
+pub mod MadeAssignedLemmas
+pub mod MadePlacedLemmas
+pub mod MadeAddressLemmas
+pub mod MadeVeneerLemmas
+pub mod MadeRegionLemmas
+pub mod MadeAppliedLemmas
