@@ -1,6 +1,6 @@
 //! Laws of the definitions, each proved as the contract of an empty function.
 
-ghost use Rattle.link_laws.specs.Joins.{MadeBoots, MadeFiles, MadeHasBytes, MadeStarts};
+ghost use Rattle.link_laws.specs.Joins.{MadeBoots, MadeFiles, MadeHasBytes, MadeHasPlaces, MadeIsApplied, MadeIsPlaced, MadeStarts};
 ghost use Rattle.link_laws.specs.Laws.{AppliedAreSized, ObjectsAreShown, ObjectsArePlaced, RangesExist, StatementsStand};
 
 /// Where a plan of valid objects is accepted, each object is placed at the addresses of its areas, and its symbols have
@@ -16,6 +16,14 @@ pub fn objects_are_shown()
     ensures sizes { AppliedAreSized }
     ensures objects { ObjectsAreShown }
     ensures statements { StatementsStand }
+{}
+
+/// A link that is made is placed as the laws on plans ask, at the plan's addresses. Its areas are patched, and its
+/// veneers lead to their targets.
+pub fn made_links()
+    ensures placed { MadeIsPlaced }
+    ensures places { MadeHasPlaces }
+    ensures applied { MadeIsApplied }
 {}
 
 /// The regions of a link that is made, without a header, have the bytes of its plan's image, and so have its files. A
