@@ -51,8 +51,9 @@ use Rattle.link_laws.proofs.ListLemmas.{in_front, in_back}
 use Rattle.link_laws.proofs.ItemLemmas.{IsOwn}
 use Rattle.link_laws.proofs.RegionLemmas.{IsShaped, all_shaped, things_all, things_of_stood, header_all, startup_all, IsWithin, stood_within}
 use Rattle.link_laws.proofs.PlacedLemmas.{IsLoaded, IsCleared, loaded, cleared, shaped}
-use Rattle.link_laws.proofs.SizedLemmas.{words_length, IsFramed, framed_startup}
-use Rattle.link_laws.proofs.MadeOnce.{passing, passing_append, found_only, placed_once, itself, AreCounted, all_counted}
+use Rattle.link_laws.proofs.SizedLemmas.{words_length}
+use Rattle.link_laws.proofs.MadeAddressLemmas.{AreCounted}
+use Rattle.link_laws.proofs.MadeOnce.{all_counted}
 
 -- ---- lists
 
@@ -72,16 +73,6 @@ pub in_flat : {X Y : Type 0} (f : X → List Y) (xs : List X) (x : X) (y : Y) �
 in_flat f [] x y h own = absurd cc
 in_flat {X} {Y} f (z ∷ zs) x y (zero, e) own = let is : z ≡ x = cc in in_front (f z) (flat_map f zs) y (subst (λ (q : X). IsIn (f q) y) (sym is) own)
 in_flat f (z ∷ zs) x y (suc i, e) own = in_back (f z) (flat_map f zs) y (in_flat f zs x y (i, e) own)
-
--- what passes is among what passes a wider test
-pub passing_wider : {X : Type 0} (test wider : X → Bool) → ((x : X) → test x ≡ true → wider x ≡ true) → (xs : List X) → passing test xs ≡ passing test (filter wider xs)
-passing_wider test wider h [] = refl
-passing_wider {X} test wider h (x ∷ xs) = go (wider x) (test x) refl refl (passing_wider test wider h xs)
-  where
-    go : (w t : Bool) → wider x ≡ w → test x ≡ t → passing test xs ≡ passing test (filter wider xs) → cond (test x) 1 0 + passing test xs ≡ passing test (cond w (x ∷ filter wider xs) (filter wider xs))
-    go true t e f rest = omega (arith, rest)
-    go false true e f rest = let no : false ≡ true = sym e ∙ h x f in absurd cc
-    go false false e f rest = let none : ◌≡◌ {A = ℕ} (cond (test x) 1 0) 0 = ap {B = ℕ} (λ b. cond b 1 0) f in omega (arith, none, rest)
 
 -- ---- what belongs to one region
 
@@ -292,85 +283,6 @@ startup_shown (kind.Plain base) n words plain l p origin at r held boot end byte
     none zero = refl
     none (suc m) = refl
 startup_shown (kind.Aif base relocatable) n words plain l p origin at r held boot end bytes = absurd cc
-
--- ---- veneers of one region
-
--- what leads there among things
-abbrev leads : ℕ → Home → Bool → Thing → Bool
-leads n target thumb (AVeneer t b) =
-    leads_to n target thumb (record { region = n; area = record { object = t.object; area = t.area }; offset = t.offset; thumb = b })
-leads n target thumb _ = false
-
-module _ (n : ℕ) (target : Home) (thumb : Bool) where
-  abbrev wanted : Veneer
-  wanted = record { region = n; area = record { object = target.object; area = target.area }; offset = target.offset; thumb = thumb }
-
-  abbrev test : Thing → Bool
-  test = leads n target thumb
-
-  led_as_stood : (origin at : ℕ) (ts : List Thing) → passing (λ v. leads_to n target thumb v.veneer) (flat_map (λ s. veneer_of n s.thing s.address) (stood origin at ts)) ≡ passing test ts
-  led_as_stood origin at [] = refl
-  led_as_stood origin at (t ∷ ts) = go t (flat_map (λ s. veneer_of n s.thing s.address) (stood origin (start_of origin at t + size_of t) ts)) (led_as_stood origin (start_of origin at t + size_of t) ts)
-    where
-      go : (x : Thing) (more : List PlacedVeneer) → passing (λ v. leads_to n target thumb v.veneer) more ≡ passing test ts
-          → passing (λ v. leads_to n target thumb v.veneer) (veneer_of n x (start_of origin at t) ++ more) ≡ cond (test x) 1 0 + passing test ts
-      go Header more rest = omega (arith, rest)
-      go (AnArea i) more rest = omega (arith, rest)
-      go (AVeneer home state) more rest = omega (arith, rest)
-      go (Startup words) more rest = omega (arith, rest)
-
-  areas_lead : (items : List Item) → passing test (map AnArea items) ≡ 0
-  areas_lead [] = refl
-  areas_lead (i ∷ items) = let rest = areas_lead items in omega (arith, rest)
-
-  startup_leads : (k : Kind) (m words : ℕ) → passing test (startup_in k m words) ≡ 0
-  startup_leads (kind.Scatter s) zero words = refl
-  startup_leads (kind.Scatter s) (suc m) words = refl
-  startup_leads (kind.Plain base) m words = refl
-  startup_leads (kind.Aif base relocatable) m words = refl
-
-  fewer_lead : (vs : List Veneer) → passing test (map (λ v. AVeneer v.target v.thumb) (filter (λ v. v.region == n) (map region_veneer vs))) ≤ passing (λ v. is_same v wanted) vs
-  fewer_lead [] = omega arith
-  fewer_lead (v ∷ vs) = go (filter (λ w. w.region == n) (map region_veneer vs)) (v.region == n) refl (fewer_lead vs)
-    where
-      go : (more : List RegionVeneer) (b : Bool) → (v.region == n) ≡ b → passing test (map (λ w. AVeneer w.target w.thumb) more) ≤ passing (λ w. is_same w wanted) vs
-          → passing test (map (λ w. AVeneer w.target w.thumb) (cond b (region_veneer v ∷ more) more)) ≤ cond (is_same v wanted) 1 0 + passing (λ w. is_same w wanted) vs
-      go more true e rest =
-          let own : (n == n) ≡ true = eq-eqb n n refl in
-          let one : test (AVeneer (region_veneer v).target v.thumb) ≡ is_same v wanted = rw own (rw e refl) in
-          let counts = ap {B = ℕ} (λ b. cond b 1 0) one in
-          omega (arith, counts, rest)
-      go more false e rest = omega (arith, rest)
-
-  pub region_leads : (k : Kind) (os : List (Named Object)) (regions : List (List AreaName)) (vs : List Veneer) (words : ℕ) (r : Planned) → r.number ≡ n → has_header k ≡ false
-      → IsShaped k (contents_of os regions vs) words r → passing (λ v. is_same v wanted) vs ≤ 1
-      → passing (λ v. leads_to n target thumb v.veneer) (flat_map (λ s. veneer_of n s.thing s.address) (stood_in r)) ≤ 1
-  region_leads k os regions vs words r e plain shape most =
-      let c : Contents = contents_of os regions vs in
-      let f : Stood → List PlacedVeneer = λ s. veneer_of n s.thing s.address in
-      let front : List Stood = stood r.origin r.base r.things in
-      let back : List Stood = stood r.origin (zero_base_of r) r.zeros in
-      let whole = ap (passing (λ v. leads_to n target thumb v.veneer)) (flat_map-append f front back) in
-      let things = ap (passing test) (things_are k c words r plain shape) in
-      let zeros = ap (passing test) shape.zeros in
-      let number = ap (λ (m : ℕ). passing test (veneers_in c m)) e in
-      omega (
-        arith,
-        whole,
-        passing_append (λ v. leads_to n target thumb v.veneer) (flat_map f front) (flat_map f back),
-        led_as_stood r.origin r.base r.things,
-        led_as_stood r.origin (zero_base_of r) r.zeros,
-        things,
-        zeros,
-        number,
-        passing_append test (before c r.number) (startup_in k r.number words),
-        passing_append test (map AnArea (own_areas c r.number)) (veneers_in c r.number),
-        areas_lead (own_areas c r.number),
-        areas_lead (filter is_zero_initialised (areas_in c r.number)),
-        startup_leads k r.number words,
-        fewer_lead vs,
-        most,
-      )
 
 -- ---- parts of a list
 

@@ -7,6 +7,7 @@ use Rattle.base_lemmas.proofs.BaseLemmas.{all_back}
 use Rattle.sdt_word.specs.declared.ranges.Range32.{Range32}
 use Rattle.byte_maps.specs.Maps.{Segment}
 use Rattle.place_model.specs.declared.scatter.Kind.{Kind}
+use Rattle.place_model.specs.declared.scatter.Kind.TheVariants as kind
 use Rattle.place_model.specs.declared.scatter.ScatterLoad.{ScatterLoad}
 use Rattle.place_model.specs.Assignment.{description}
 use Rattle.place_model.specs.Plans.{Contents, Planned, Plan, regions_of, loads_from, table_words, plan_of}
@@ -18,19 +19,23 @@ use Rattle.link_model.specs.declared.placing.Placement.{Placement}
 use Rattle.link_model.specs.declared.placing.Region.{Region}
 use Rattle.link_model.specs.declared.placing.Veneer.{Veneer}
 use Rattle.link_model.specs.declared.selection.Linked.{Linked}
-use Rattle.link_model.specs.Members.{Link, link_of}
-use Rattle.link_model.specs.Veneers.{needed_from, needed_by_header, is_same}
+use Rattle.link_model.specs.Members.{Link, link_of, objects_in}
+use Rattle.link_model.specs.RegionValues.{region_number}
+use Rattle.link_model.proofs.NeedLemmas.{veneers_law}
 use Rattle.link_items.specs.LinkedItems.{has_header, contents_of}
 use Rattle.link_place.specs.Placed.{placed_region, placed_regions, placement_of}
 use Rattle.link_apply.specs.RegionBytes as linked
 use Rattle.link_apply.specs.RegionBytes.{bytes_from, regions_bytes}
-use Rattle.link_laws.specs.Placing.{link_plan}
+use Rattle.link_laws.specs.Placing.{link_plan, IsHeaderOf}
 use Rattle.link_laws.specs.Joins.{IsMade, given_in, filled_in, PlacesOf, bytes_of_plan, bytes_of_load, files_from, MadeHasBytes, MadeFiles}
-use Rattle.link_laws.proofs.MadeAddressLemmas.{has_places}
+use Rattle.link_laws.proofs.MadeAddressLemmas.{AreCounted}
+use Rattle.link_laws.proofs.MadeAppliedLemmas.{made_is_applied}
 use Rattle.link_laws.proofs.MadePlacedLemmas.{is_placement, are_needed, made_is_placed}
-use Rattle.link_laws.proofs.MadeOnce.{passing, needed_once, AreCounted, all_counted}
+use Rattle.link_laws.proofs.MadeOnce.{all_counted}
+use Rattle.link_laws.proofs.MadeVeneerLemmas.{AreOnce}
+use Rattle.link_laws.proofs.SizedLemmas.{applied_are_sized}
 use Rattle.link_laws.proofs.MadeBytes.{equal_not, not_equal}
-use Rattle.link_laws.proofs.MadeBytesOfRegions.{made_sized as sized_by_plan, region_same}
+use Rattle.link_laws.proofs.MadeBytesOfRegions.{region_same}
 
 -- ---- all regions
 
@@ -107,20 +112,24 @@ module _ (k : Kind) (ram : Option (List Range32)) (l : Linked) (a : Assigned) (v
   abbrev plan : Plan
   plan = link_plan k l a.regions vs
 
-  once : (w : Veneer) → passing (λ v. is_same v w) vs ≤ 1
-  once w =
-      subst (λ (ws : List Veneer). passing (λ v. is_same v w) ws ≤ 1) (sym (are_needed k ram l a vs p h))
-      (needed_once w [] (needed_by_header (has_header k) l.entry ++ needed_from (link_of l) 0 a.regions))
+  once : AreOnce vs
+  once = subst AreOnce (sym (are_needed k ram l a vs p h)) (veneers_law (link_of l) a.regions (has_header k)).once
 
   pub made_sized : AreSized (filled_in l p plan) plan
   made_sized =
-      subst (λ (q : Placement). AreSized (filled_in l q plan) plan) (sym (is_placement k ram l a vs p h))
-      (sized_by_plan k ram l a.regions vs (made_is_placed k ram l a vs p h) plain once (has_places plan))
+      applied_are_sized k ram l a.regions vs (region_number (objects_in l.objects) p) (given_in (link_of l) p) [] (made_is_placed k ram l a vs p h) (made_is_applied k ram l a vs p h) (headed k plain)
+    where
+      headed : (q : Kind) → has_header q ≡ false → IsHeaderOf q []
+      headed (kind.Scatter s) e = tt
+      headed (kind.Plain base) e = tt
+      headed (kind.Aif base relocatable) e = absurd cc
 
   alike : AllByRecursion (IsAlike (link_of l) (placement_of plan) (region_bytes (filled_in l (placement_of plan) plan))) (regions_of plan)
   alike =
       all_indexed (IsAlike (link_of l) (placement_of plan) (region_bytes (filled_in l (placement_of plan) plan))) (regions_of plan)
-      (λ n r at load. region_same k ram l a.regions vs (made_is_placed k ram l a vs p h) plain once (has_places plan) n r at load)
+      (λ n r at load.
+      let sized = subst (λ (q : Placement). AreSized (filled_in l q plan) plan) (is_placement k ram l a vs p h) made_sized in
+      region_same k ram l a.regions vs (made_is_placed k ram l a vs p h) plain once sized n r at load)
 
   pub made_bytes : regions_bytes (link_of l) p ≡ bytes_of_plan l p plan
   made_bytes =

@@ -49,20 +49,13 @@ use Rattle.link_laws.proofs.ItemLemmas.{IsOwn}
 use Rattle.link_laws.proofs.ListLemmas.{in_front}
 use Rattle.link_laws.proofs.RegionLemmas.{IsShaped, things_all, things_of_stood, startup_all, IsWithin, stood_within}
 use Rattle.link_laws.proofs.PlacedLemmas.{IsLoaded, IsCleared, loaded, cleared, shaped}
-use Rattle.link_laws.proofs.SizedLemmas.{IsFramed, framed_startup}
-use Rattle.link_laws.proofs.MadeOnce.{passing, found_only, placed_once, itself, AreCounted, all_counted}
-use Rattle.link_laws.proofs.MadeBytes.{in_flat, passing_wider, own_part, number_at, areas_own, veneers_own, stood_append, extent_append, shown, laid_same, own_areas, before, headless, things_are, booted, startup_shown, region_leads, four_parts, first_alone, second_alone, HasNoArea, HasNoVeneer, no_areas, no_veneers, areas_no_veneers, veneers_no_areas}
-
-length_patched : (p : Placement) (values : Values) (region base : ℕ) (a : Area) (i : ℕ) (bytes : List ℕ) → length (patched_from p values region base a i bytes) ≡ length bytes
-length_patched p values region base a i [] = refl
-length_patched p values region base a i (b ∷ bs) = ap suc (length_patched p values region base a (suc i) bs)
-
-veneer_length : (v target : ℕ) (t : Home) (thumb : Bool) → length (veneer_bytes v target thumb) ≡ size_of (AVeneer t thumb)
-veneer_length v target t true = refl
-veneer_length v target t false = refl
+use Rattle.link_laws.proofs.MadeAddressLemmas.{AreCounted, has_places, veneers_there}
+use Rattle.link_laws.proofs.MadeVeneerLemmas.{AreOnce, things_apart, is_first}
+use Rattle.link_laws.proofs.MadeOnce.{passing, found_only, placed_once, all_counted}
+use Rattle.link_laws.proofs.MadeBytes.{in_flat, own_part, number_at, areas_own, veneers_own, stood_append, extent_append, shown, laid_same, own_areas, before, headless, things_are, booted, startup_shown, four_parts, first_alone, second_alone, HasNoArea, HasNoVeneer, no_areas, no_veneers, areas_no_veneers, veneers_no_areas}
 
 module _ (k : Kind) (ram : Option (List Range32)) (l : Linked) (regions : List (List AreaName)) (vs : List Veneer) (h : IsPlacedLink k ram l regions vs) (plain : has_header k ≡ false)
-    (once : (w : Veneer) → passing (λ v. is_same v w) vs ≤ 1) (places : PlacesOf (placement_of (link_plan k l regions vs)) (link_plan k l regions vs)) where
+    (once : AreOnce vs) (sized : AreSized (filled_in l (placement_of (link_plan k l regions vs)) (link_plan k l regions vs)) (link_plan k l regions vs)) where
   abbrev c : Contents
   c = contents_of l.objects regions vs
 
@@ -103,7 +96,7 @@ module _ (k : Kind) (ram : Option (List Range32)) (l : Linked) (regions : List (
       (in_flat areas_of rs r (placed_area r s i) (n, at) (in_flat (λ q. area_of r.number q.thing q.address) (stood_in r) s (placed_area r s i) there own))
 
   abbrev IsPieced : Planned → Stood → Item → Type 0
-  IsPieced r s i = (piece (placed_area r s i) ≡ Some (s.address, held r (AnArea i))) × (length (held r (AnArea i)) ≡ i.size)
+  IsPieced r s i = piece (placed_area r s i) ≡ Some (s.address, held r (AnArea i))
 
   area_pieced : (n : ℕ) (r : Planned) → slice_get rs n ≡ Some r → (s : Stood) → IsIn (stood_in r) s → (i : Item) → s.thing ≡ AnArea i
       → IsOwn l.objects i → is_zero_initialised i ≡ false → IsPieced r s i
@@ -123,77 +116,41 @@ module _ (k : Kind) (ram : Option (List Range32)) (l : Linked) (regions : List (
           ap (λ (q : Option PlacedArea). area_bytes (link_of l) p q (numbers.area_of (objects_in l.objects) (name_of i))) (area_found n r at s there i is)
           ∙ ap (area_bytes (link_of l) p (Some (placed_area r s i))) area in
           let gives : area_piece (link_of l) p (placed_area r s i) (Some a) ≡ Some (s.address, patched_bytes p (values_in (link_of l) p i.object) r.number s.address a) = rw unmarked refl in
-          let valid : IsValid o.value = all_at (λ q. IsValid q.value) l.objects i.object o h.valid here in
-          let holds : HoldsArea (length o.value.areas) (length o.value.symbols) a = all_at (HoldsArea (length o.value.areas) (length o.value.symbols)) o.value.areas i.area a valid.contents e in
-          let kept_size : stored a.attributes a.size ≡ a.size = rw unmarked refl in
-          (
-            ap (area_piece (link_of l) p (placed_area r s i)) area ∙ gives ∙ ap (λ (b : List ℕ). Some (s.address, b)) (sym bytes),
-            ap length bytes ∙ length_patched p (values_in (link_of l) p i.object) r.number s.address a 0 a.bytes ∙ holds.bytes ∙ kept_size ∙ ap (λ (j : Item). j.size) whose,
-          )
+          ap (area_piece (link_of l) p (placed_area r s i)) area ∙ gives ∙ ap (λ (b : List ℕ). Some (s.address, b)) (sym bytes)
 
   -- ---- veneers
 
   abbrev placed_veneer : Planned → Stood → Home → Bool → PlacedVeneer
   placed_veneer r s t b = record { veneer = record { region = r.number; area = record { object = t.object; area = t.area }; offset = t.offset; thumb = b }; address = s.address }
 
-  veneer_found : (n : ℕ) (r : Planned) → slice_get rs n ≡ Some r → (s : Stood) → IsIn (stood_in r) s → (t : Home) (b : Bool) → s.thing ≡ AVeneer t b
-      → find (λ v. leads_to r.number t b v.veneer) p.veneers ≡ Some (placed_veneer r s t b)
-  veneer_found n r at s there t b is =
-      let x : PlacedVeneer = placed_veneer r s t b in
-      let test : PlacedVeneer → Bool = λ v. leads_to r.number t b v.veneer in
-      let own : IsIn (veneer_of r.number s.thing s.address) x = subst (λ (q : Thing). IsIn (veneer_of r.number q s.address) x) (sym is) (0, refl) in
-      let number : r.number ≡ 0 + n = number_at 0 rs (all_counted k c words) n r at in
-      let here : filter (λ v. v.veneer.region == r.number) p.veneers ≡ veneers_of r = own_part (λ v. v.veneer.region) veneers_of veneers_own 0 rs (all_counted k c words) n r at r.number number in
-      let narrow = passing_wider test (λ v. v.veneer.region == r.number) (λ v e. (both_true (v.veneer.region == r.number) _ e).0) p.veneers in
-      let region = ap (passing test) here in
-      let few = region_leads r.number t b k l.objects regions vs words r refl plain (shaped k ram l regions vs h n r at) (once x.veneer) in
-      found_only test p.veneers x (omega (arith, narrow, region, few)) (itself x.veneer)
-      (in_flat veneers_of rs r x (n, at) (in_flat (λ q. veneer_of r.number q.thing q.address) (stood_in r) s x there own))
-
   -- ---- each thing
 
   abbrev IsGood : Planned → Stood → Thing → Type 0
   IsGood r s (AnArea i) = IsPieced r s i
-  IsGood r s (AVeneer t b) = (veneer_piece p (placed_veneer r s t b) ≡ (s.address, held r (AVeneer t b))) × (length (held r (AVeneer t b)) ≡ size_of (AVeneer t b))
-  IsGood r s t = length (held r t) ≡ size_of t
-
-  good : (n : ℕ) (r : Planned) → slice_get rs n ≡ Some r → (s : Stood) → IsIn (stood_in r) s → (t : Thing) → s.thing ≡ t → IsLoaded l.objects t → IsFramed plan g [] t → IsGood r s t
-  good n r at s there Header is own framed = framed
-  good n r at s there (AnArea i) is own framed = area_pieced n r at s there i is own.0 own.1
-  good n r at s there (AVeneer t b) is own framed =
-      let bytes : held r (AVeneer t b) ≡ veneer_bytes s.address (target_in p t) b =
-      ap (λ (o : Option PlacedVeneer). option_map_or (λ v. veneer_bytes v (target_in p t) b) (option_map (λ v. v.address) o) []) (veneer_found n r at s there t b is) in
-      (ap (λ (x : List ℕ). (s.address, x)) (sym bytes), ap length bytes ∙ veneer_length s.address (target_in p t) t b)
-  good n r at s there (Startup w) is own framed = framed
-
-  size_good : (r : Planned) (s : Stood) (t : Thing) → IsGood r s t → length (held r t) ≡ size_of t
-  size_good r s Header x = x
-  size_good r s (AnArea i) x = x.1
-  size_good r s (AVeneer t b) x = x.1
-  size_good r s (Startup w) x = x
+  IsGood r s (AVeneer t b) = veneer_piece p (placed_veneer r s t b) ≡ (s.address, held r (AVeneer t b))
+  IsGood r s t = Unit {0}
 
   all_good : (n : ℕ) (r : Planned) → slice_get rs n ≡ Some r → AllByRecursion (λ s. IsGood r s s.thing) (stood r.origin r.base r.things)
   all_good n r at =
       let ss : List Stood = stood r.origin r.base r.things in
-      let shape = shaped k ram l regions vs h n r at in
-      let framed : AllByRecursion (IsFramed plan g []) r.things =
-      things_all (IsFramed plan g []) k c words r shape (subst (AllByRecursion (IsFramed plan g [])) (sym (headless k r.number plain)) tt) (framed_startup k c g [] r.number)
-      (λ t b. tt) (all_indexed (λ i. not (is_zero_initialised i) ≡ true → IsFramed plan g [] (AnArea i)) (areas_in c r.number) (λ m i there e. tt)) in
-      let frames = stood_within (IsFramed plan g []) r.origin r.base r.things r.base (zero_base_of r) (omega arith) (omega arith) framed in
+      let apart = things_apart l.objects regions vs r.number k words r (shaped k ram l regions vs h n r at) refl once in
       all_indexed (λ s. IsGood r s s.thing) ss
       (λ i s there.
       let within = all_at (IsWithin (IsLoaded l.objects) r.base (zero_base_of r)) ss i s (loaded k ram l regions vs h n r at) there in
-      let frame = all_at (IsWithin (IsFramed plan g []) r.base (zero_base_of r)) ss i s frames there in
-      good n r at s (in_front ss (stood r.origin (zero_base_of r) r.zeros) s (i, there)) s.thing refl within.holds frame.holds)
+      good s (in_front ss (stood r.origin (zero_base_of r) r.zeros) s (i, there)) (λ t b is. veneers_there k c n r at t b ∙ is_first r apart i s t b there is) s.thing refl within.holds)
+    where
+      good : (s : Stood) → IsIn (stood_in r) s → ((t : Home) (b : Bool) → s.thing ≡ AVeneer t b → veneers_at p r.number t b ≡ Some s.address)
+          → (t : Thing) → s.thing ≡ t → IsLoaded l.objects t → IsGood r s t
+      good s there first Header is own = tt
+      good s there first (AnArea i) is own = area_pieced n r at s there i is own.0 own.1
+      good s there first (AVeneer t b) is own =
+          let bytes : held r (AVeneer t b) ≡ veneer_bytes s.address (target_in p t) b =
+          ap (λ (o : Option ℕ). option_map_or (λ v. veneer_bytes v (target_in p t) b) o []) (first t b is) in
+          ap (λ (x : List ℕ). (s.address, x)) (sym bytes)
+      good s there first (Startup w) is own = tt
 
   sized_region : (n : ℕ) (r : Planned) → slice_get rs n ≡ Some r → AllByRecursion (λ t. length (held r t) ≡ size_of t) r.things
-  sized_region n r at =
-      let ss : List Stood = stood r.origin r.base r.things in
-      things_of_stood (λ t. length (held r t) ≡ size_of t) r.origin r.base r.things
-      (all_indexed (λ s. length (held r s.thing) ≡ size_of s.thing) ss (λ i s there. size_good r s s.thing (all_at (λ q. IsGood r q q.thing) ss i s (all_good n r at) there)))
-
-  pub made_sized : AreSized (filled g plan []) plan
-  made_sized = all_indexed (λ r. AllByRecursion (λ t. length (held r t) ≡ size_of t) r.things) rs sized_region
+  sized_region n r at = all_at (λ q. AllByRecursion (λ t. length (held q t) ≡ size_of t) q.things) rs n r sized at
 
   -- ---- the pieces of a region
 
@@ -218,7 +175,7 @@ module _ (k : Kind) (ram : Option (List Range32)) (l : Linked) (regions : List (
   areas_shown r at [] all = refl
   areas_shown r at (i ∷ items) all =
       let a : ℕ = start_of r.origin at (AnArea i) in
-      ap (λ (o : Option linked.Piece). cons_option o (areas_at r (stood r.origin (a + i.size) (map AnArea items)))) all.0.0
+      ap (λ (o : Option linked.Piece). cons_option o (areas_at r (stood r.origin (a + i.size) (map AnArea items)))) all.0
       ∙ ap (λ (ps : List linked.Piece). (a, held r (AnArea i)) ∷ ps) (areas_shown r (a + i.size) items all.1)
 
   veneers_shown : (r : Planned) (at : ℕ) (ws : List RegionVeneer) → AllByRecursion (λ s. IsGood r s s.thing) (stood r.origin at (map (λ v. AVeneer v.target v.thumb) ws))
@@ -227,7 +184,7 @@ module _ (k : Kind) (ram : Option (List Range32)) (l : Linked) (regions : List (
   veneers_shown r at (w ∷ ws) all =
       let t : Thing = AVeneer w.target w.thumb in
       let a : ℕ = start_of r.origin at t in
-      ap (λ (q : linked.Piece). q ∷ veneers_of_region r (stood r.origin (a + size_of t) (map (λ v. AVeneer v.target v.thumb) ws))) all.0.0
+      ap (λ (q : linked.Piece). q ∷ veneers_of_region r (stood r.origin (a + size_of t) (map (λ v. AVeneer v.target v.thumb) ws))) all.0
       ∙ ap (λ (ps : List linked.Piece). (a, held r t) ∷ ps) (veneers_shown r (a + size_of t) ws all.1)
 
   zeros_gone : (r : Planned) (ss : List Stood) → AllByRecursion (λ s. IsCleared l.objects s.thing) ss → areas_at r ss ≡ []
@@ -322,7 +279,7 @@ module _ (k : Kind) (ram : Option (List Range32)) (l : Linked) (regions : List (
         startup_shown k r.number words plain (link_of l) p r.origin a (placed_region load r) (held r) (booted k c words n r at) (omega (arith, length, end)) startup_same
       where
         startup_same : held r (Startup words) ≡ startup_list (link_of l) p ++ zeros (4 * (words - length (table_list (copy_rows p) (zero_rows p) (entry_of (link_of l) p))))
-        startup_same = rw (places.copies, places.parts) refl
+        startup_same = let places = has_places plan in rw (places.copies, places.parts) refl
 
     pub region_same : (load : ℕ) → linked.region_bytes (link_of l) p r.number (placed_region load r) ≡ image.region_bytes (filled g plan []) r
     region_same load =

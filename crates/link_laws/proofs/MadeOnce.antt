@@ -1,4 +1,4 @@
--- Each area of a linked object stands once in a placement, and so does each veneer.
+-- Each area of a linked object stands once in a placement.
 use Rattle.std.proofs.Common.{◌≡◌, ℕ, zero, suc, ◌+◌, ◌<◌, ◌≤◌, Bool, true, false, not, cond, ◌&&◌, ◌==◌, if◌then◌else◌, List, [], ◌∷◌, ◌++◌, length, map, refl, sym, ap, subst, ◌∙◌, arith, eq-eqb, eqb-true, true≢false, Option, Some, None}
 use Rattle.std.specs.Prelude.{nat_le, slice_get, unwrap_or}
 use Rattle.std.specs.List.{cons_option, filter, filter_map, flat_map, find, list_any, AllByRecursion}
@@ -23,6 +23,7 @@ use Rattle.place_model.specs.Assignment.{description, described_regions, Offer, 
 use Rattle.place_model.specs.Items.{Item, is_zero_initialised}
 use Rattle.place_model.specs.Things.{Thing, Header, AnArea, AVeneer, Startup, size_of, start_of, Stood, stood}
 use Rattle.place_model.specs.Plans.{Contents, RegionVeneer, areas_in, veneers_in, header_in, startup_in, Planned, zero_base_of, length_of, end_of, planned, planned_from, loads_from, Plan, regions_of, plan_for, stood_in, is_area}
+use Rattle.link_laws.proofs.MadeAddressLemmas.{AreCounted}
 use Rattle.link_laws.proofs.RegionLemmas.{IsShaped, all_shaped}
 
 -- ---- how many pass a test
@@ -209,10 +210,6 @@ module _ (test : Item → Bool) (offers : List Offer) where
 
 -- ---- regions are counted
 
-abbrev pub AreCounted : ℕ → List Planned → Type 0
-AreCounted n [] = Unit {0}
-AreCounted n (r ∷ rs) = (r.number ≡ n) × AreCounted (suc n) rs
-
 from_counted : (k : Kind) (c : Contents) (words n m : ℕ) (rs : List ScatterRegion) (before load : ℕ) (rest : List Planned) → n + length rs ≡ m → AreCounted m rest
     → AreCounted n (planned_from k c words n rs before load ++ rest)
 from_counted k c words n m [] before load rest e all = subst (λ (x : ℕ). AreCounted x rest) (omega (arith, e)) all
@@ -324,62 +321,3 @@ module _ (object area : ℕ) where
   placed_once k os c words h =
       let all = regions_pass k os c words h 0 (regions_of (plan_for k c words)) (all_counted k c words) (all_shaped k c words) in
       omega (arith, all, from_fewer (named object area) (offers_of k) 0 (items_in os), once_in_objects object area 0 os)
-
--- ---- each veneer is planned once
-
-same_veneer : (v w : Veneer) → is_same v w ≡ true → v ≡ w
-same_veneer v w h =
-    let a = both_true (v.region == w.region) _ h in
-    let b = both_true (v.area.object == w.area.object) _ a.1 in
-    let c = both_true (v.area.area == w.area.area) _ b.1 in
-    let d = both_true (v.offset == w.offset) _ c.1 in
-    λ i. record {
-      region = eqb-true v.region w.region a.0 i;
-      area = record { object = eqb-true v.area.object w.area.object b.0 i; area = eqb-true v.area.area w.area.area c.0 i };
-      offset = eqb-true v.offset w.offset d.0 i;
-      thumb = state v.thumb w.thumb d.1 i;
-    }
-  where
-    state : (a b : Bool) → not (other_state a b) ≡ true → a ≡ b
-    state true true h = refl
-    state false false h = refl
-    state true false h = absurd (true≢false (sym h))
-    state false true h = absurd (true≢false (sym h))
-
-pub itself : (v : Veneer) → is_same v v ≡ true
-itself v = rw (eq-eqb v.region v.region refl, eq-eqb v.area.object v.area.object refl, eq-eqb v.area.area v.area.area refl, eq-eqb v.offset v.offset refl) (state v.thumb)
-  where
-    state : (a : Bool) → not (other_state a a) ≡ true
-    state true = refl
-    state false = refl
-
-module _ (w : Veneer) where
-  seen_none : (seen vs : List Veneer) → list_any (is_same w) seen ≡ true → passing (λ v. is_same v w) (first_needs seen vs) ≡ 0
-  seen_none seen [] h = refl
-  seen_none seen (v ∷ vs) h = go (list_any (is_same v) seen) refl (seen_none seen vs h) (seen_none (v ∷ seen) vs (or_true (is_same w v) (list_any (is_same w) seen) h))
-    where
-      go : (b : Bool) → list_any (is_same v) seen ≡ b → passing (λ u. is_same u w) (first_needs seen vs) ≡ 0 → passing (λ u. is_same u w) (first_needs (v ∷ seen) vs) ≡ 0
-          → passing (λ u. is_same u w) (cond b (first_needs seen vs) (v ∷ first_needs (v ∷ seen) vs)) ≡ 0
-      go true e skipped added = skipped
-      go false e skipped added = by (is_same v w) refl
-        where
-          by : (c : Bool) → is_same v w ≡ c → cond c 1 0 + passing (λ u. is_same u w) (first_needs (v ∷ seen) vs) ≡ 0
-          by true f = absurd (true≢false (sym h ∙ sym (ap (λ (u : Veneer). list_any (is_same u) seen) (same_veneer v w f)) ∙ e))
-          by false f = omega (arith, added)
-
-  pub needed_once : (seen vs : List Veneer) → passing (λ v. is_same v w) (first_needs seen vs) ≤ 1
-  needed_once seen [] = omega arith
-  needed_once seen (v ∷ vs) = go (list_any (is_same v) seen) (needed_once seen vs) (needed_once (v ∷ seen) vs)
-    where
-      go : (b : Bool) → passing (λ u. is_same u w) (first_needs seen vs) ≤ 1 → passing (λ u. is_same u w) (first_needs (v ∷ seen) vs) ≤ 1
-          → passing (λ u. is_same u w) (cond b (first_needs seen vs) (v ∷ first_needs (v ∷ seen) vs)) ≤ 1
-      go true skipped added = skipped
-      go false skipped added = by (is_same v w) refl
-        where
-          by : (c : Bool) → is_same v w ≡ c → cond c 1 0 + passing (λ u. is_same u w) (first_needs (v ∷ seen) vs) ≤ 1
-          by true f =
-              let same = same_veneer v w f in
-              let there : list_any (is_same w) (v ∷ seen) ≡ true = true_or (is_same w v) (list_any (is_same w) seen) (ap (is_same w) same ∙ itself w) in
-              let none = seen_none (v ∷ seen) vs there in
-              omega (arith, none)
-          by false f = omega (arith, added)

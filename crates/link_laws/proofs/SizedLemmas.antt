@@ -64,7 +64,7 @@ startup_length s c entry =
     )
 
 -- what isn't an area or a veneer has its size
-abbrev pub IsFramed : Plan → Given → List ℕ → Thing → Type 0
+abbrev IsFramed : Plan → Given → List ℕ → Thing → Type 0
 IsFramed p g header Header = length header ≡ 128
 IsFramed p g header (Startup words) = length (startup_bytes p words g.entry) ≡ size_of (Startup words)
 IsFramed p g header _ = Unit {0}
@@ -75,7 +75,7 @@ framed_header (kind.Plain base) c g header n h = tt
 framed_header (kind.Aif base relocatable) c g header zero h = (h, tt)
 framed_header (kind.Aif base relocatable) c g header (suc n) h = tt
 
-pub framed_startup : (k : Kind) (c : Contents) (g : Given) (header : List ℕ) (n : ℕ) → AllByRecursion (IsFramed (plan_of k c) g header) (startup_in k n (table_words k c))
+framed_startup : (k : Kind) (c : Contents) (g : Given) (header : List ℕ) (n : ℕ) → AllByRecursion (IsFramed (plan_of k c) g header) (startup_in k n (table_words k c))
 framed_startup (kind.Scatter s) c g header zero = (startup_length s c g.entry, tt)
 framed_startup (kind.Scatter s) c g header (suc n) = tt
 framed_startup (kind.Plain base) c g header n = tt
