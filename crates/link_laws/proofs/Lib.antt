@@ -12,3 +12,4 @@ pub mod MadeAddressLemmas
 pub mod MadeVeneerLemmas
 pub mod MadeRegionLemmas
 pub mod MadeAppliedLemmas
+pub mod MadeRows
