@@ -17,3 +17,4 @@ pub mod MadeBytes
 pub mod MadeBytesOfRegions
 pub mod MadeBytesLaws
 pub mod MadeStart
+pub mod MadeRows
