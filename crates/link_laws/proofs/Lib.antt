@@ -18,3 +18,4 @@ pub mod MadeBytesOfRegions
 pub mod MadeBytesLaws
 pub mod MadeStart
 pub mod MadeRows
+pub mod MadeStartRow

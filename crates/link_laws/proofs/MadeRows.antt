@@ -23,21 +23,21 @@ use Rattle.link_laws.proofs.MadeAppliedLemmas.{made_is_applied}
 
 -- ---- AREA words, CODE, THUMB; EXPORT here; ENTRY; here DCD here
 
-abbrev object : Named Object
+abbrev pub object : Named Object
 object = record {
   name = codes "a";
   «module» = codes "a";
   value = record { areas = word_area 0x100202 0 0x82000000 ∷ []; symbols = here ∷ []; entry = Some (record { area = 0; offset = 0 }) };
 }
 
-abbrev linked : Linked
+abbrev pub linked : Linked
 linked = record {
   objects = object ∷ [];
   definitions = (record { name = codes "here"; object = 0; symbol = 0 }) ∷ [];
   entry = record { object = 0; area = 0; offset = 0; thumb = true };
 }
 
-valid : IsValid object.value
+pub valid : IsValid object.value
 valid = record {
   areas = (
     record {
@@ -57,7 +57,7 @@ valid = record {
   entry = (omega arith, refl);
 }
 
-are_bytes : AreBytes (bytes_of 0 4)
+pub are_bytes : AreBytes (bytes_of 0 4)
 are_bytes zero = omega arith
 are_bytes (suc zero) = omega arith
 are_bytes (suc (suc zero)) = omega arith
