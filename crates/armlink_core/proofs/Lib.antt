@@ -1,0 +1,4 @@
+pub mod LoadLemmas
+pub mod MadeLemmas
+pub mod ValidLemmas
+pub mod WithinLemmas
