@@ -1,8 +1,8 @@
 -- What is linked of valid objects and libraries is valid, and its areas are aligned; and a description that is read is small.
-use Rattle.std.proofs.Common.{◌≡◌, ℕ, suc, ◌+◌, ◌%◌, ◌≤◌, Bool, true, false, if◌then◌else◌, List, [], ◌∷◌, ◌++◌, length, length-append, map, refl, sym, ap, subst, ◌∙◌, arith, Option, Some, None}
+use Rattle.std.proofs.Common.{◌≡◌, ℕ, suc, ◌%◌, ◌≤◌, Bool, true, false, if◌then◌else◌, List, [], ◌∷◌, ◌++◌, length, length-append, map, refl, sym, subst, arith, Option, Some, None}
 use Rattle.std.specs.Prelude.{slice_get}
 use Rattle.std.specs.List.{AllByRecursion, filter_map, flat_map}
-use Rattle.std.specs.Option.{option_map, option_and_then}
+use Rattle.std.specs.Option.{option_map}
 use Rattle.std.proofs.lemmas.List.{length-map}
 use Rattle.base_lemmas.proofs.BaseLemmas.{all_append, came_through, same}
 use Rattle.chunk_file.specs.Reading.{EachStands}
@@ -18,12 +18,11 @@ use Rattle.link_model.specs.declared.placing.Veneer.{Veneer}
 use Rattle.link_model.specs.declared.selection.Named.{Named}
 use Rattle.link_model.specs.Chosen.{AreLinked, taken}
 use Rattle.link_model.specs.Members.{named_member, members_in, members_of}
-use Rattle.place_model.specs.declared.scatter.Kind.{Kind}
 use Rattle.place_model.specs.declared.scatter.Kind.TheVariants as kind
 use Rattle.place_model.specs.declared.scatter.Scatter.{Scatter}
 use Rattle.place_model.specs.declared.scatter.ScatterLoad.{ScatterLoad}
 use Rattle.place_model.specs.Items.{Item}
-use Rattle.place_model.proofs.ListLemmas.{all_at, all_filter_map, all_flat, all_indexed, all_map}
+use Rattle.place_model.proofs.ListLemmas.{all_at, all_filter_map, all_indexed, all_map}
 use Rattle.link_items.specs.LinkedItems.{item_of, item_in, item_at, contents_of}
 use Rattle.link_place.specs.Parts.{AreAligned, IsAligned}
 use Rattle.scatter_text.specs.Validity as description

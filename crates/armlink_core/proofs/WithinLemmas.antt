@@ -1,25 +1,23 @@
 -- What is placed is within 32 bits, and its regions have 2^26 bytes at most.
-use Rattle.std.proofs.Common.{◌≡◌, ℕ, zero, suc, ◌+◌, ◌*◌, ◌^◌, ◌<◌, ◌≤◌, Bool, true, false, not, ◌&&◌, nat_lt, if◌then◌else◌, List, [], ◌∷◌, ◌++◌, length, map, refl, sym, ap, subst, ◌∙◌, arith, Option, Some, None, Result, Ok, Err}
+use Rattle.std.proofs.Common.{◌≡◌, ℕ, suc, ◌+◌, ◌^◌, ◌≤◌, Bool, true, false, nat_lt, if◌then◌else◌, List, [], ◌∷◌, ◌++◌, map, refl, subst, arith, Option, Some, None, Result, Ok}
 use Rattle.std.specs.Prelude.{sum_by}
 use Rattle.std.specs.List.{AllByRecursion, flat_map}
 use Rattle.std.specs.Option.{option_map, option_or}
 use Rattle.std.proofs.lemmas.List.Sums.{sum_by-cons, sum_by-append}
-use Rattle.base_lemmas.proofs.BaseLemmas.{all_append, all_front, all_back, all_weaker}
+use Rattle.base_lemmas.proofs.BaseLemmas.{all_append, all_front, all_back}
 use Rattle.sdt_word.specs.declared.ranges.Range32.{Range32}
 use Rattle.sdt_fault.specs.declared.refusal.Refusal.{Refusal}
 use Rattle.sdt_fault.specs.declared.refusal.Refusal.TheVariants.{TooLarge}
 use Rattle.sdt_fault.specs.declared.kinds.Quantity.TheVariants.{ImageBytes}
 use Rattle.link_model.specs.declared.placing.PlacedArea.{PlacedArea}
 use Rattle.link_model.specs.declared.placing.Placement.{Placement}
-use Rattle.link_model.specs.declared.placing.Region.{Region}
 use Rattle.place_model.specs.declared.scatter.Kind.{Kind}
 use Rattle.place_model.specs.declared.scatter.Kind.TheVariants as kind
-use Rattle.place_model.specs.declared.scatter.ScatterLoad.{ScatterLoad}
-use Rattle.place_model.specs.Assignment.{description, plain_load}
+use Rattle.place_model.specs.Assignment.{plain_load}
 use Rattle.place_model.specs.Faults.{rootless, first_told, Judged, overfull, judged_region, judged_load, judged, as_overlap, as_conflict, overlap, copy_conflict, image_bytes, too_large, aif_too_large, not_writable, place_refusal}
 use Rattle.place_model.specs.Things.{Thing, Header, AnArea, AVeneer, Startup, start_of, size_of, extent, Stood, stood}
-use Rattle.place_model.specs.Plans.{Contents, Planned, PlannedLoad, length_of, zero_base_of, zero_length_of, execution_size, end_of, load_size, loads_from, Plan, plan_for, plan_of, regions_of, stood_in, table_words}
-use Rattle.place_model.proofs.ListLemmas.{all_flat, all_map, all_of_flat, all_of_map, none_given}
+use Rattle.place_model.specs.Plans.{Contents, Planned, length_of, zero_base_of, execution_size, end_of, load_size, loads_from, Plan, plan_for, plan_of, regions_of, stood_in, table_words}
+use Rattle.place_model.proofs.ListLemmas.{none_given}
 use Rattle.place_model.proofs.PlanLemmas.{loads_loaded}
 use Rattle.place_model.proofs.SpanLemmas.{in_memory, lt-false, or_none}
 use Rattle.link_place.specs.Placed.{area_of, areas_of, placed_region, placed_regions, placement_of, placed, told}

@@ -1,6 +1,6 @@
 -- What a link of selected objects is: the first refusal in the order of its parts (regions of areas, veneers, places,
 -- relocations), or all that these give (SDT 2.50 Reference Guide, armlink; the order is this project's).
-use Rattle.std.specs.Prelude.{ℕ, List, map, Option, Result, Ok, Err}
+use Rattle.std.specs.Prelude.{ℕ, List, map, Option, Result, Ok}
 use Rattle.sdt_word.specs.declared.ranges.Range32.{Range32}
 use Rattle.sdt_fault.specs.declared.refusal.Refusal.{Refusal}
 use Rattle.chunk_file.specs.Reading.{◌>>=◌}

@@ -11,7 +11,7 @@ ghost use Rattle.armlink_core.specs.Sizes.{region_size, IsSmall};
 use crate::loads::load_regions;
 use crate::making::{Made, make};
 use crate::starting::{bound_in, entry_of, start_of};
-use link_model::{Image, ImageKind, Linked, Placement};
+use link_model::{Image, ImageKind, Linked};
 use place_model::Kind;
 use sdt_fault::answer::Fault;
 use sdt_fault::{List, NoMemory};

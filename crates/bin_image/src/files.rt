@@ -2,7 +2,8 @@
 
 ghost use Rattle.std.specs.Prelude.{◌≡◌, ◌<◌, ◌%◌, ◌^◌, ◌++◌, IfOk, length, map, codes};
 ghost use Rattle.std.specs.List.{AllByRecursion};
-ghost use Rattle.bin_image.specs.Files.{files_by, files_of, load_file, load_name, map_file, map_load, map_of, map_region, plain_file, IsMapped};
+ghost use Rattle.bin_image.specs.Files.{files_by, files_of, load_file, load_name, plain_file};
+ghost use Rattle.bin_image.specs.Files.{map_file, map_load, map_of, map_region, IsMapped};
 ghost use Rattle.link_model.specs.declared.images.ImageKind.TheVariants as form;
 
 use crate::records::{MapFile, MapLoad, MapRegion, OutFile};

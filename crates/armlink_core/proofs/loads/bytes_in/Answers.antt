@@ -1,4 +1,4 @@
-use Rattle.std.proofs.Common.{◌≡◌, ◌<◌, ◌≤◌, ◌++◌, arith, length, min, get_or, ◌∙◌, ap, List, ℕ}
+use Rattle.std.proofs.Common.{◌≡◌, ◌≤◌, ◌++◌, arith, length, min, get_or}
 use Rattle.armlink_core.proofs.LoadLemmas.{bytes_all, bytes_more, bytes_same}
 use Rattle.armlink_core.proofs.loads.bytes_in.Goals as goal
 use Rattle.armlink_core.proofs.loads.bytes_in.Goals.{then-regions-i+in_ok-extend_from_slice, else-regions-i}
