@@ -27,12 +27,6 @@ pub err_refused : {A B : Type 0} (o : Option B) (x : A) (r : B) → Err r ≡ re
 err_refused None x r e = absurd (cc)
 err_refused (Some s) x r e = cc
 
-pub gives_other : {A B : Type 0} (o : Option Refusal) (x : A) (y : B) (e : Fault) → Gives {A = A} (Err e) (refused_or o x) → Gives {A = B} (Err e) (refused_or o y)
-gives_other o x y fault.NoMemory h = tt
-gives_other None x y (fault.Refused r) h = absurd (cc)
-gives_other (Some s) x y (fault.Refused r) h = let same : s ≡ r = cc in ap Err same
-gives_other o x y (fault.ReadFault n) h = h
-
 -- ---- the first of what is given
 
 pub first_passed : {A B : Type 0} (f : A → Option B) (x : A) (xs : List A) → f x ≡ None → slice_get (filter_map f (x ∷ xs)) 0 ≡ slice_get (filter_map f xs) 0

@@ -31,13 +31,6 @@ pieces_append : (xs ys : List RegionPiece) (k : ℕ) → pieces_in (xs ++ ys) k 
 pieces_append xs ys k =
     ap (map piece_of) (filter-append (λ x. x.region == k) xs ys) ∙ map_append piece_of (filter (λ x. x.region == k) xs) (filter (λ x. x.region == k) ys)
 
-pub pieces_cons : (x : RegionPiece) (xs : List RegionPiece) → pieces_in (x ∷ xs) ≡ with_piece x (pieces_in xs)
-pieces_cons x xs i k = by_test (x.region == k) i
-  where
-    by_test : (b : Bool) → map piece_of (cond b (x ∷ filter (λ y. y.region == k) xs) (filter (λ y. y.region == k) xs)) ≡ cond b (piece_of x ∷ pieces_in xs k) (pieces_in xs k)
-    by_test true = refl
-    by_test false = refl
-
 -- ---- those of areas
 
 cons_same : (l : Link) (p : Placement) (k : ℕ) (a : PlacedArea) (o : Option Area) (xs : List RegionPiece) (ys : List Piece) (b : Bool) → (a.region == k) ≡ b → pieces_in xs k ≡ ys

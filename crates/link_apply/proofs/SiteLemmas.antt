@@ -1,17 +1,14 @@
 -- What stands fast of the areas of a placed link.
-use Rattle.std.proofs.Common.{◌≡◌, ℕ, ◌≤◌, ◌^◌, Bool, true, false, cond, List, [], ◌∷◌, refl, sym, ap, subst, ◌∙◌, arith}
-use Rattle.std.specs.Prelude.{◌==◌, nat_eq, Option, Some, None, slice_get, unwrap_or}
+use Rattle.std.proofs.Common.{◌≡◌, ℕ, ◌≤◌, ◌^◌, Bool, true, false, cond, List, [], ◌∷◌, sym, ap, subst, ◌∙◌, arith}
+use Rattle.std.specs.Prelude.{◌==◌, nat_eq, Some, None, slice_get, unwrap_or}
 use Rattle.std.specs.List.{AllByRecursion, find}
-use Rattle.std.specs.Option.{option_map, option_and_then}
+use Rattle.std.specs.Option.{option_map}
 use Rattle.patch_model.specs.Fields.{Values}
 use Rattle.link_model.specs.declared.placing.PlacedArea.{PlacedArea}
 use Rattle.link_model.specs.declared.placing.Placement.{Placement}
-use Rattle.link_model.specs.Values.{unplaced}
 use Rattle.link_values.specs.declared.bases.AreaBases.{AreaBases}
-use Rattle.link_values.specs.declared.values.SymbolValue.{SymbolValue}
 use Rattle.link_values.specs.Bases.{base_of, AreBases}
 use Rattle.link_values.specs.Placed.{is_area}
-use Rattle.link_values.specs.Values.{meant, value_in}
 use Rattle.indexmap.specs.IndexMap.{get}
 use Rattle.link_apply.specs.declared.sites.Known.{Known}
 use Rattle.link_apply.specs.declared.sites.Site.{Site}
@@ -29,7 +26,6 @@ use Rattle.link_apply.specs.Pieces.{area_region_piece, site_piece}
 use Rattle.link_apply.specs.Applied.{IsWithin}
 use Rattle.link_apply.specs.Sites.{known_values, IsSite, Knows}
 use Rattle.link_apply.specs.Starts.{starts, AreLow}
-use Rattle.link_apply.specs.Targets.{meant_at, values_by}
 
 -- ---- addresses
 
@@ -47,25 +43,6 @@ base_le p bases within known object area = subst (λ n. n ≤ 2 ^ 32) (sym (know
 
 pub are_low : (known : Known) → Knows known → AreLow known.bases
 are_low known h object area = let le = base_le known.placement.now known.bases h.within h.bases object area in omega arith
-
--- ---- values
-
-meant_same : (o : Option SymbolValue) → meant_at o ≡ unwrap_or (option_map meant o) (unplaced 0 false false)
-meant_same None = refl
-meant_same (Some s) = refl
-
-pub none_meant : (values : List (List SymbolValue)) (object k : ℕ) → slice_get values object ≡ None → meant_at (slice_get [] k) ≡ value_in values object k
-none_meant values object k e = sym (ap (λ (o : Option (List SymbolValue)). unwrap_or (option_map meant (option_and_then (λ vs. slice_get vs k) o)) (unplaced 0 false false)) e)
-
-pub some_meant : (values : List (List SymbolValue)) (symbols : List SymbolValue) (object k : ℕ) → slice_get values object ≡ Some symbols → meant_at (slice_get symbols k) ≡ value_in values object k
-some_meant values symbols object k e =
-    meant_same (slice_get symbols k)
-    ∙ sym (ap (λ (o : Option (List SymbolValue)). unwrap_or (option_map meant (option_and_then (λ vs. slice_get vs k) o)) (unplaced 0 false false)) e)
-
-pub values_same : (known : Known) → Knows known → (symbols : List SymbolValue) (object : ℕ) → ((k : ℕ) → meant_at (slice_get symbols k) ≡ value_in known.values object k)
-    → values_by (base_of known.bases object) symbols ≡ known_values known object
-values_same known h symbols object each =
-    (λ i. record { base = λ k. h.bases object k i; symbol = λ k. (each k ∙ h.values object k) i })
 
 -- ---- what the relocations of an area do at a place
 

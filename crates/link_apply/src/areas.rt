@@ -49,10 +49,13 @@ fn judged_by(
     requires inside { is_outside site.now.area.now.bytes (field_of reloc) ≡ false }
     requires own { IsIn site.now.area.now.relocs reloc }
     requires there { get nat_eq site.now.starts (field_of reloc).place ≡ Some start }
-    requires way { IsWayOf known.now.placement.now site.now.placed.region detour.target detour.veneer detour.goal }
-    requires goes { IsWay (values_at known.now site.now) site.now.placed.address site.now.placed.area.area site.now.area.now reloc (way_by detour.target) }
+    requires way { IsWayOf known.now.placement.now site.now.placed.region
+        detour.target detour.veneer detour.goal }
+    requires goes { IsWay (values_at known.now site.now) site.now.placed.address
+        site.now.placed.area.area site.now.area.now reloc (way_by detour.target) }
     requires goal { detour.goal < 2 ^ 33 }
-    ensures exact { result ≡ refused_or (flaw_at known.now site.now reloc) (number_at known.now site.now reloc) }
+    ensures exact { result ≡ refused_or (flaw_at known.now site.now reloc)
+        (number_at known.now site.now reloc) }
     ensures fits { IfOk result (λ number. number < 256 ^ kind_size (field_kind reloc)) }
 {
     let base = site.placed.address;
@@ -69,7 +72,8 @@ fn judged(known: &Known<'_>, site: &Site<'_>, reloc: Reloc) -> Result<u32, Flaw>
     requires known { Knows known.now }
     requires site { IsSite known.now site.now }
     requires own { IsIn site.now.area.now.relocs reloc }
-    ensures exact { result ≡ refused_or (flaw_at known.now site.now reloc) (number_at known.now site.now reloc) }
+    ensures exact { result ≡ refused_or (flaw_at known.now site.now reloc)
+        (number_at known.now site.now reloc) }
     ensures fits { IfOk result (λ number. number < 256 ^ kind_size (field_kind reloc)) }
     ensures inside { IfOk result (λ _. (field_of reloc).place + kind_size (field_kind reloc)
         ≤ length site.now.area.now.bytes) }

@@ -118,8 +118,10 @@ pub fn detour_at(known: &Known<'_>, site: &Site<'_>, start: Start, reloc: Reloc)
     requires inside { is_outside site.now.area.now.bytes (field_of reloc) ≡ false }
     requires own { IsIn site.now.area.now.relocs reloc }
     requires there { get nat_eq site.now.starts (field_of reloc).place ≡ Some start }
-    ensures way { IsWayOf known.now.placement.now site.now.placed.region result.target result.veneer result.goal }
-    ensures goes { IsWay (values_at known.now site.now) site.now.placed.address site.now.placed.area.area site.now.area.now reloc (way_by result.target) }
+    ensures way { IsWayOf known.now.placement.now site.now.placed.region
+        result.target result.veneer result.goal }
+    ensures goes { IsWay (values_at known.now site.now) site.now.placed.address
+        site.now.placed.area.area site.now.area.now reloc (way_by result.target) }
     ensures goal { result.goal < 2 ^ 33 }
 {
     let target = target_at(site.symbols, start, site.placed.address, site.area, reloc);

@@ -74,7 +74,8 @@ fn piece_at(
     requires known { Knows known.now }
     requires address { placed.address ≤ 2 ^ 32 }
     ensures { Gives result (refused_or
-        (slice_get (refusals_at known.now.linked.now known.now.placement.now placed (slice_get known.now.linked.now.objects placed.area.object)) 0)
+        (slice_get (refusals_at known.now.linked.now known.now.placement.now placed
+        (slice_get known.now.linked.now.objects placed.area.object)) 0)
         (area_region_piece (link_of known.now.linked.now) known.now.placement.now placed
         (area_of (link_of known.now.linked.now).objects placed.area))) }
 {

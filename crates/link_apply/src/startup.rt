@@ -22,17 +22,8 @@ use sdt_fault::{Bytes, NoMemory};
 use sdt_word::push_word;
 use std::alloc::Global;
 
-/// A number in 32 bits. Just a zero part of 2^32 bytes, beside which no startup code stands, needs more.
-fn narrow(number: u64) -> Result<u32, NoMemory>
-    ensures { IfOk result (λ narrowed. narrowed ≡ number) }
-{
-    if number > u32::MAX as u64 {
-        return Err(NoMemory);
-    }
-    Ok(number as u32)
-}
-
 fn add_copy(rows: &mut Vec<CopyRow>, region: &Region) -> Result<(), NoMemory>
+    requires { IsRegionWithin region.now }
     ensures { OnOk result (rows.new.items ≡ rows.old.items ++ copies_of (region.now ∷ [])) }
 {
     if region.load == region.base {
@@ -42,14 +33,15 @@ fn add_copy(rows: &mut Vec<CopyRow>, region: &Region) -> Result<(), NoMemory>
         return Ok(());
     }
     rows.push(CopyRow {
-        source: narrow(region.load)?,
-        target: narrow(region.base)?,
-        size: narrow(region.length)?,
+        source: region.load as u32,
+        target: region.base as u32,
+        size: region.length as u32,
     })?;
     Ok(())
 }
 
 fn all_copies(alloc: Global, regions: &[Region]) -> Result<Vec<CopyRow>, NoMemory>
+    requires { AllByRecursion IsRegionWithin regions.now }
     ensures { IfOk result (λ rows. rows.items ≡ copies_of regions.now) }
 {
     let mut rows = Vec::new(alloc);
@@ -59,6 +51,7 @@ fn all_copies(alloc: Global, regions: &[Region]) -> Result<Vec<CopyRow>, NoMemor
     Ok(rows)
 }
 
+/// A zero part of 2^32 bytes, beside which no startup code stands, counts as want of memory.
 fn add_zero(rows: &mut Vec<ZeroRow>, region: &Region) -> Result<(), NoMemory>
     requires { IsRegionWithin region.now }
     ensures { OnOk result (rows.new.items ≡ rows.old.items ++ zeros_of (region.now ∷ [])) }
@@ -66,9 +59,12 @@ fn add_zero(rows: &mut Vec<ZeroRow>, region: &Region) -> Result<(), NoMemory>
     if region.zero == 0 {
         return Ok(());
     }
+    if region.zero > u32::MAX as u64 {
+        return Err(NoMemory);
+    }
     rows.push(ZeroRow {
-        base: narrow(region.base + region.length)?,
-        size: narrow(region.zero)?,
+        base: (region.base + region.length) as u32,
+        size: region.zero as u32,
     })?;
     Ok(())
 }
