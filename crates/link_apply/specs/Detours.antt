@@ -14,7 +14,8 @@ VeneerIndex = IndexMap Veneer ℕ (BuildHasherDefault FoldHasher)
 
 abbrev pub is_same : Veneer → Veneer → Bool
 is_same v w =
-    v.region == w.region && ((v.area.object == w.area.object && v.area.area == w.area.area) && (v.offset == w.offset && beq v.thumb w.thumb))
+    v.region == w.region
+    && ((v.area.object == w.area.object && v.area.area == w.area.area) && (v.offset == w.offset && beq v.thumb w.thumb))
 
 abbrev pub veneer_in : VeneerIndex → Veneer → Option ℕ
 veneer_in m v = get_by (is_same v) m

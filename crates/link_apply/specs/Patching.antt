@@ -16,10 +16,12 @@ use Rattle.link_apply.specs.Sites.{values_at}
 -- ---- of a site
 
 abbrev pub flaw_at : Known → Site → Reloc → Option Flaw
-flaw_at known site r = flaw_of known.placement.now (values_at known site) site.placed.region site.placed.address site.placed.area.area site.area.now r
+flaw_at known site r =
+    flaw_of known.placement.now (values_at known site) site.placed.region site.placed.address site.placed.area.area site.area.now r
 
 abbrev pub number_at : Known → Site → Reloc → ℕ
-number_at known site r = patched_number known.placement.now (values_at known site) site.placed.region site.placed.address site.area.now (field_of r)
+number_at known site r =
+    patched_number known.placement.now (values_at known site) site.placed.region site.placed.address site.area.now (field_of r)
 
 abbrev pub refusal_at : Known → Site → Named Object → Reloc → Option Refusal
 refusal_at known site o r = refusal_of known.placement.now (values_at known site) site.placed o site.area.now r

@@ -20,7 +20,7 @@ use sdt_fault::answer::Fault;
 use sdt_fault::{Bytes, List, NoMemory};
 use std::alloc::Global;
 
-/// Whether the numbers of these values are below 2^34.
+/// Whether the numbers of these values are below 2^34, as those of a placement in 32 bits are.
 fn is_below(symbols: &[SymbolValue]) -> bool
     ensures { result ≡ true → AreBelow symbols.now }
 {
@@ -87,7 +87,8 @@ fn applied_to(alloc: Global, known: &Known<'_>) -> Result<List<Bytes>, Fault>
 ///
 /// Relocations are judged in placed order, those of an area in the order of their list, and of the first with a flaw
 /// its form before its value: `BadRelocation`, then `FieldOverflow` of a byte or a half-word and `Unreachable` of a
-/// branch. An area of 2^28 relocations or more counts as want of memory.
+/// branch. An area of 2^28 relocations or more counts as want of memory, and so does a zero part of 2^32 bytes in an
+/// image with startup code.
 pub fn apply(alloc: Global, linked: &Linked, placement: &Placement) -> Result<List<Bytes>, Fault>
     requires objects { AllByRecursion (λ o. IsValid o.value) linked.now.objects }
     requires within { IsWithin placement.now }
