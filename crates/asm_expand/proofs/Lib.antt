@@ -1,4 +1,6 @@
+pub mod AnswerLemmas
 pub mod DefiningLemmas
+pub mod EngineLemmas
 pub mod PlainLemmas
 pub mod KnownLemmas
 pub mod FirstLemmas

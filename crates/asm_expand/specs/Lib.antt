@@ -5,6 +5,7 @@ pub mod Defining
 pub mod Entries
 pub mod Expanding
 pub mod Known
+pub mod Leading
 pub mod Operands
 pub mod Pairing
 pub mod Places

@@ -5,6 +5,7 @@ pub mod calls;
 pub mod conditions;
 pub mod declarations;
 pub mod definitions;
+pub mod engine;
 pub mod expansion;
 pub mod faults;
 pub mod maps;
@@ -22,3 +23,5 @@ pub mod turning;
 pub mod values;
 pub mod variables;
 pub mod words;
+
+pub use crate::engine::expand;
