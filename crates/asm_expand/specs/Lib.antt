@@ -1,7 +1,20 @@
 -- What the clauses of the crate cite.
+pub mod Calling
+pub mod Declaring
+pub mod Defining
+pub mod Entries
+pub mod Expanding
+pub mod Known
+pub mod Leading
 pub mod Operands
 pub mod Pairing
+pub mod Places
+pub mod Plain
+pub mod Reading
+pub mod Saying
 pub mod Steps
 pub mod Substitution
+pub mod Turning
 pub mod Unwinding
+pub mod Valued
 pub mod Variables

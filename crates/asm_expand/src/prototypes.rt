@@ -149,7 +149,7 @@ fn inner(text: &[u8]) -> &[u8]
 }
 
 /// A name, or a name between bars without them.
-fn name_of(text: &[u8]) -> Option<&[u8]>
+pub fn name_of(text: &[u8]) -> Option<&[u8]>
     ensures { MatchOption result (as_name text.now ≡ None) (λ name. as_name text.now ≡ Some name.now) }
 {
     if is_name(text) {

@@ -47,7 +47,7 @@ fn append_value(value: &Value, out: &mut Vec<u8>) -> Result<(), NoMemory>
 
 impl Tables {
     /// The value of a variable; a local hides a global.
-    fn variable(&self, name: &Text) -> Option<&Value>
+    pub fn variable(&self, name: &Text) -> Option<&Value>
         ensures { (s : State) → HasTables self.now s → option_copied result ≡ model.variable s name.now }
     {
         if let Some(value) = self.locals.get(name) {

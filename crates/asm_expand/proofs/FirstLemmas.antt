@@ -1,0 +1,78 @@
+-- The first line, by what the code finds of it.
+use Rattle.std.proofs.Common.{◌≡◌, ℕ, zero, suc, ◌-◌, ◌==◌, List, [], ◌∷◌, Bool, true, false, refl, sym, ◌∙◌, ap, subst}
+use Rattle.std.specs.Prelude.{Result, Ok, Err}
+use Rattle.std.proofs.lemmas.Bool.{false_from_ne_true, eqb-true}
+use Rattle.sdt_fault.specs.declared.kinds.LineKind.{LineKind}
+use Rattle.sdt_fault.specs.declared.kinds.LineKind.TheVariants.{Syntax, UnknownWord, TooMany}
+use Rattle.asm_model.specs.declared.lines.Line.{Line}
+use Rattle.expand_model.specs.declared.macros.Prototype.{Prototype}
+use Rattle.expand_model.specs.Known.{Operand}
+use Rattle.expand_model.specs.Pairing.{raw_operation, taken}
+use Rattle.expand_model.specs.Prototypes.{prototype_of}
+use Rattle.expand_model.specs.States.{State, visited}
+use Rattle.expand_model.specs.Steps.{Sources, Depth, Reads, ReadsText, defined_as, definition, first_line, prototype_line, said_text}
+use Rattle.expand_model.specs.Substitution.{substituted}
+use Rattle.expand_model.specs.Words.{words_of}
+use Rattle.asm_expand.specs.declared.expansion.Expansion.{Expansion}
+use Rattle.asm_expand.specs.declared.places.Place.{Place}
+use Rattle.asm_expand.specs.declared.steps.End.TheVariants as end
+use Rattle.asm_expand.specs.declared.steps.Next.{Next}
+use Rattle.asm_expand.specs.declared.steps.Next.TheVariants as next
+use Rattle.asm_expand.specs.Expanding.{Represents}
+use Rattle.asm_expand.specs.Places.{place_lines}
+use Rattle.asm_expand.specs.Saying.{Shows}
+use Rattle.asm_expand.proofs.ReadingLemmas.{some_operand}
+use Rattle.asm_expand.proofs.SayingLemmas.{shows_bad}
+
+abbrev Reading : Sources → Depth → Expansion → Next → State → List Line → Type 0
+Reading sources d c n s ls = (x : Operand) × Reads s ls x × Shows sources c n (first_line sources d s ls x)
+
+pub some_visits : (n m : ℕ) → (n ≡ 0 → ⊥) → n ≡ m → (m == 0) ≡ false
+some_visits n m h e = false_from_ne_true (m == 0) (λ t. h (e ∙ eqb-true m 0 t))
+
+pub no_visits : (n m : ℕ) → n ≡ 0 → n ≡ m → (m == 0) ≡ true
+no_visits n m h e = let z : m ≡ 0 = sym e ∙ h in rw z refl
+
+pub over_at : (sources : Sources) (d : Depth) (c : Expansion) (s : State) (ls : List Line) → ls ≡ [] → Represents c s
+    → Reading sources d c (next.Stop end.Over) s ls
+unfolding first_line
+over_at sources d c s [] e r = (Err Syntax, refl, r)
+over_at sources d c s (l ∷ ls) e r = absurd (cc)
+
+pub zero_at : (sources : Sources) (d : Depth) (c : Expansion) (at : Place) (s : State) (ls : List Line) (l : Line) (rest : List Line)
+    → place_lines at ≡ ls → ls ≡ l ∷ rest → (s.visits == 0) ≡ true → Reading sources d c (next.Bad at TooMany) s ls
+unfolding first_line
+zero_at sources d c at s [] l rest h e z = absurd (cc)
+zero_at sources d c at s (m ∷ ms) l rest h e z =
+    let x = some_operand s (m ∷ ms) in (x.0, x.1, rw z (shows_bad sources c at TooMany m ms h))
+
+line_is : (l m : Line) (ls ms : List Line) → m ∷ ms ≡ l ∷ ls → m ≡ l
+line_is l m ls ms e = cc
+
+pub unknown_at : (sources : Sources) (d : Depth) (c : Expansion) (at : Place) (s : State) (ls : List Line) (l : Line) (rest : List Line)
+    → place_lines at ≡ ls → ls ≡ l ∷ rest → (s.visits == 0) ≡ false → substituted s l.text ≡ Err UnknownWord
+    → Reading sources d c (next.Bad at UnknownWord) s ls
+unfolding first_line
+unknown_at sources d c at s [] l rest h e z sub = absurd (cc)
+unknown_at sources d c at s (m ∷ ms) l rest h e z sub =
+    let is = line_is l m rest ms e in
+    let text : substituted s m.text ≡ Err UnknownWord = ap (λ (x : Line). substituted s x.text) is ∙ sub in
+    (Err UnknownWord, rw text refl, rw (z, text) (shows_bad sources c at UnknownWord m ms h))
+
+pub text_at : (sources : Sources) (d : Depth) (c : Expansion) (n : Next) (at : Place) (s : State) (text : List ℕ) (ls : List Line) (l : Line) (rest : List Line)
+    → place_lines at ≡ ls → ls ≡ l ∷ rest → (s.visits == 0) ≡ false → substituted s l.text ≡ Ok text
+    → ((m : Line) (ms : List Line) → place_lines at ≡ m ∷ ms
+    → (x : Operand) × ReadsText s.macros (Ok text) x × Shows sources c n (said_text sources d m x (visited s) ms (Ok text)))
+    → Reading sources d c n s ls
+unfolding first_line
+text_at sources d c n at s text [] l rest h e z sub reads = absurd (cc)
+text_at sources d c n at s text (m ∷ ms) l rest h e z sub reads =
+    let is = line_is l m rest ms e in
+    let same : substituted s m.text ≡ Ok text = ap (λ (x : Line). substituted s x.text) is ∙ sub in
+    let x = reads m ms h in
+    (x.0, rw same x.1, rw (z, same) x.2)
+
+pub definition_is : (l m : Line) (s : State) (rest : List Line) (p : Prototype) → (s.visits == 0) ≡ false
+    → prototype_line (raw_operation m) (prototype_of (words_of m.text)) l (visited s) m rest ≡ defined_as p l (visited s) (taken (s.visits - 1) rest)
+    → definition l s (m ∷ rest) ≡ defined_as p l (visited s) (taken (s.visits - 1) rest)
+definition_is l m s rest p z h = rw z h

@@ -1,0 +1,47 @@
+-- Steps of the code of lines that stay. This project's.
+use Rattle.std.specs.Prelude.{◌≡◌, ℕ, List, [], ◌∷◌, ◌++◌, ◌||◌, Bool, Option, Some, None}
+use Rattle.std.specs.List.{list_any}
+use Rattle.std.specs.Ordering.{nat_cmp}
+use Rattle.std.specs.Cmp.Lexicographic.{slice_cmp}
+use Rattle.std.specs.BTreeMap.{BTreeMap, get}
+use Rattle.std.specs.BTreeSet.{BTreeSet, contains}
+use Rattle.asm_model.specs.declared.lines.Flat.{Flat}
+use Rattle.asm_model.specs.declared.lines.Line.{Line}
+use Rattle.asm_model.specs.Directives.{or_else}
+use Rattle.asm_model.specs.Forms.{same}
+use Rattle.expand_model.specs.Known.{Operand}
+use Rattle.expand_model.specs.States.{State, found}
+use Rattle.expand_model.specs.Steps.{equ_number, flat_of, is_equ, number_rows}
+use Rattle.expand_model.specs.Words.{listed}
+use Rattle.asm_expand.specs.declared.expansion.Expansion.{Expansion}
+use Rattle.asm_expand.specs.declared.places.Place.{Place}
+use Rattle.asm_expand.specs.Expanding.{Becomes}
+use Rattle.asm_expand.specs.Places.{place_lines}
+use Rattle.asm_expand.specs.Valued.{Values}
+
+abbrev pub IsNumber : List ℕ → Expansion → Operand → Option ℕ → Type 0
+IsNumber word c x number = Values c (λ s. number ≡ equ_number (is_equ word) s x)
+
+abbrev pub Numbers : Option (List ℕ) → Option ℕ → BTreeMap (List ℕ) ℕ → BTreeMap (List ℕ) ℕ → Type 0
+Numbers name number old new =
+    (q : List ℕ) → get (slice_cmp nat_cmp) new q ≡ or_else (get (slice_cmp nat_cmp) old q) (found q (number_rows name number))
+
+abbrev pub Labels : Option (List ℕ) → BTreeSet (List ℕ) → BTreeSet (List ℕ) → Type 0
+Labels name old new =
+    (q : List ℕ) → contains (slice_cmp nat_cmp) new q ≡ (list_any (λ n. same n q) (listed name) || contains (slice_cmp nat_cmp) old q)
+
+abbrev pub noted : Flat → Option (List ℕ) → Option ℕ → Bool → State → State
+noted flat name number thumb s = record s {
+  flats = s.flats ++ flat ∷ [];
+  numbers = s.numbers ++ number_rows name number;
+  labels = listed name ++ s.labels;
+  thumb = thumb;
+}
+
+abbrev pub Pushes : Flat → Option (List ℕ) → Option ℕ → Bool → Expansion → Expansion → Type 0
+Pushes flat name number thumb old new = Becomes old new (noted flat name number thumb)
+
+-- the flat line that the first line becomes
+abbrev pub IsFlat : Place → List ℕ → Option Flat → Type 0
+IsFlat at text None = place_lines at ≡ []
+IsFlat at text (Some flat) = (l : Line) × (ls : List Line) × (place_lines at ≡ l ∷ ls) × (flat ≡ flat_of l text)

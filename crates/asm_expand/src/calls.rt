@@ -1,0 +1,168 @@
+//! Calls of macros.
+
+ghost use Rattle.std.specs.Prelude.{◌≡◌, ◌≤◌, ◌++◌, length, IfOk, OnOk};
+ghost use Rattle.std.specs.Option.{option_copied};
+ghost use Rattle.asm_model.specs.Kinds.{told_kind};
+ghost use Rattle.expand_model.specs.Prototypes as prototypes;
+ghost use Rattle.expand_model.specs.Steps as model;
+ghost use Rattle.expand_model.specs.Words.{arguments};
+ghost use Rattle.asm_expand.specs.Calling.{HasRows, IsScopeOf, PutsLabel, PutsRow, argument_text};
+ghost use Rattle.asm_expand.specs.Expanding.{macro_of};
+ghost use Rattle.asm_expand.specs.Saying.{Says, depth_of};
+ghost use Rattle.asm_expand.specs.Steps.{words_shown};
+
+use crate::expansion::{Definition, Expansion, Scope};
+use crate::faults::{depth_fault, is_some_text};
+use crate::maps::put;
+use crate::operands::arguments;
+use crate::places::Place;
+use crate::steps::{Depth, Frame, Next};
+use crate::words::Words;
+use asm_expr::operands::is;
+use asm_expr::told::{first_told, kind_if};
+use expand_model::{Parameter, Prototype};
+use sdt_fault::kinds::LineKind;
+use sdt_fault::{NoMemory, Text};
+use std::alloc::Global;
+use std::collections::BTreeMap;
+
+/// Whether there is a parameter for a label.
+fn takes_label(label: &Option<Text>) -> bool
+    ensures { result ≡ prototypes.takes_label label.now }
+{
+    match label {
+        None => false,
+        Some(_) => true,
+    }
+}
+
+/// The fault of a call's arguments, of which there are so many.
+#[tactic(auto, using(asm_model::proofs::FaultLemmas::told_by_parts))]
+fn arguments_fault(prototype: &Prototype, words: Words<'_>, count: usize) -> Option<LineKind>
+    requires { count ≡ length (arguments words.behind.now) }
+    ensures { result ≡ told_kind (prototypes.call_kinds prototype.now (words_shown words.entry)) }
+{
+    let many = prototype.parameters.as_slice().len() < count;
+    let label = is_some_text(words.label) && !takes_label(&prototype.label);
+    first_told(
+        kind_if(many, LineKind::BadOperand),
+        kind_if(label, LineKind::BadOperand),
+    )
+}
+
+/// The same, with the fault of a construct more.
+#[tactic(auto, using(asm_model::proofs::FaultLemmas::told_by_parts))]
+fn call_fault(
+    prototype: &Prototype,
+    words: Words<'_>,
+    count: usize,
+    depth: Depth,
+) -> Option<LineKind>
+    requires { count ≡ length (arguments words.behind.now) }
+    ensures { result ≡ told_kind (prototypes.call_kinds prototype.now (words_shown words.entry) ++ model.depth_kinds (depth_of depth)) }
+{
+    first_told(arguments_fault(prototype, words, count), depth_fault(depth))
+}
+
+/// The text for which a parameter stands.
+fn argument_for(alloc: Global, parameter: &Parameter, text: Option<&Text>) -> Result<Text, NoMemory>
+    ensures { IfOk result (λ t. t ≡ argument_text parameter.now (option_copied text.entry)) }
+{
+    let Some(text) = text else {
+        return Text::from_slice(alloc, b"");
+    };
+    if is(text.as_slice(), b"|") {
+        return parameter.otherwise.try_clone(alloc);
+    }
+    text.try_clone(alloc)
+}
+
+/// Notes the text for which a parameter stands.
+fn put_argument(
+    alloc: Global,
+    map: &mut BTreeMap<Text, Text>,
+    parameter: &Parameter,
+    text: Option<&Text>,
+) -> Result<(), NoMemory>
+    ensures { OnOk result (PutsRow parameter.now.name (argument_text parameter.now (option_copied text.entry)) map.old map.new) }
+{
+    let value = argument_for(alloc, parameter, text)?;
+    let name = parameter.name.try_clone(alloc)?;
+    put(map, name, value)
+}
+
+/// The texts for which parameters stand. The first is noted last, so that it is found.
+fn rows_of(
+    alloc: Global,
+    parameters: &[Parameter],
+    texts: &[Text],
+) -> Result<BTreeMap<Text, Text>, NoMemory>
+    ensures { IfOk result (λ map. HasRows map (prototypes.argument_rows parameters.now texts.now)) }
+{
+    let mut map = BTreeMap::new(alloc);
+    for i in (0..parameters.len()).rev() {
+        put_argument(alloc, &mut map, &parameters[i], texts.get(i))?;
+    }
+    Ok(map)
+}
+
+/// Notes the label, where a parameter takes it.
+fn put_label(
+    alloc: Global,
+    map: &mut BTreeMap<Text, Text>,
+    parameter: &Option<Text>,
+    label: &[u8],
+) -> Result<(), NoMemory>
+    ensures { OnOk result (PutsLabel parameter.now label.now map.old map.new) }
+{
+    match parameter {
+        None => Ok(()),
+        Some(name) => {
+            let name = name.try_clone(alloc)?;
+            let value = Text::from_slice(alloc, label)?;
+            put(map, name, value)
+        }
+    }
+}
+
+/// What a call begins with.
+fn scope_of(
+    alloc: Global,
+    prototype: &Prototype,
+    label: &[u8],
+    texts: &[Text],
+) -> Result<Scope, NoMemory>
+    ensures { IfOk result (λ scope. IsScopeOf prototype.now label.now texts.now scope) }
+{
+    let mut rows = rows_of(alloc, prototype.parameters.as_slice(), texts)?;
+    put_label(alloc, &mut rows, &prototype.label, label)?;
+    Ok(Scope {
+        in_call: true,
+        locals: BTreeMap::new(alloc),
+        arguments: rows,
+    })
+}
+
+/// What a call of a macro says.
+pub fn call(
+    alloc: Global,
+    depth: Depth,
+    state: &mut Expansion,
+    at: Place,
+    words: Words<'_>,
+    called: Definition,
+) -> Result<Next, NoMemory>
+    ensures says { IfOk result (λ next. Says at state.old state.new next (λ s l ls.
+        model.call (depth_of depth) l (words_shown words.entry) s ls (macro_of called))) }
+    ensures visits { state.new.visits ≤ state.old.visits }
+{
+    let texts = arguments(alloc, words.behind)?;
+    let prototype = called.prototype.as_ref();
+    if let Some(kind) = call_fault(prototype, words, texts.len(), depth) {
+        return Ok(Next::Bad(at, kind));
+    }
+    let scope = scope_of(alloc, prototype, words.label, texts.as_slice())?;
+    let body = Place::of_body(&called.body)?;
+    let outer = state.enter(scope);
+    Ok(Next::Under(Frame::Call(outer, at.past(1)), body))
+}

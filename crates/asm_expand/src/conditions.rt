@@ -1,0 +1,133 @@
+//! IF and WHILE: the lines that they let read, and those that they skip.
+
+ghost use Rattle.std.specs.Prelude.{◌≡◌, ◌≤◌, ◌++◌, IfOk};
+ghost use Rattle.expand_model.specs.Known.{value_of};
+ghost use Rattle.expand_model.specs.Steps as model;
+ghost use Rattle.asm_expand.specs.Known.{WasRead};
+ghost use Rattle.asm_expand.specs.Saying.{Says, SkipsFrom, Shortens, depth_of};
+ghost use Rattle.asm_expand.specs.Steps.{words_shown};
+
+use crate::expansion::Expansion;
+use crate::faults::{opening_fault, settle};
+use crate::pairing::{Skipping, skip};
+use crate::places::Place;
+use crate::steps::{Depth, End, Frame, Next};
+use crate::values::value_of;
+use crate::words::Words;
+use asm_model::{Expr, Value};
+use expand_model::Opening;
+use sdt_fault::NoMemory;
+use sdt_fault::kinds::LineKind;
+use std::alloc::Global;
+
+/// What follows the lines behind a word that skips them, of which the first stands at a place.
+pub fn skip_from(
+    alloc: Global,
+    state: &mut Expansion,
+    opening: Opening,
+    at: Place,
+    from: Place,
+) -> Result<Next, NoMemory>
+    ensures says { IfOk result (λ next. SkipsFrom at from opening state.old state.new next) }
+    ensures visits { IfOk result (λ next. Shortens next state.old.visits state.new.visits) }
+    ensures fewer { state.new.visits ≤ state.old.visits }
+{
+    match skip(alloc, opening, state.visits, from.rest())? {
+        Skipping::Closed(passed) => {
+            state.pass(passed);
+            Ok(Next::Go(from.past(passed)))
+        }
+        Skipping::Turned(passed) => {
+            state.pass(passed);
+            Ok(Next::Under(Frame::Alternative(at), from.past(passed)))
+        }
+        Skipping::Faulty(passed, kind) => Ok(Next::Bad(from.past(passed), kind)),
+        Skipping::Endless => Ok(Next::Stop(End::Unclosed(at))),
+    }
+}
+
+/// What follows an IF.
+fn branch(alloc: Global, state: &mut Expansion, at: Place, truth: bool) -> Result<Next, NoMemory>
+    ensures says { IfOk result (λ next. Says at state.old state.new next (λ s l ls. model.branch l s ls truth)) }
+    ensures visits { state.new.visits ≤ state.old.visits }
+{
+    let behind = at.behind()?;
+    if truth {
+        return Ok(Next::Under(Frame::Condition(at), behind));
+    }
+    skip_from(alloc, state, Opening::Condition, at, behind)
+}
+
+/// What follows a WHILE.
+fn turn_around(
+    alloc: Global,
+    state: &mut Expansion,
+    at: Place,
+    truth: bool,
+) -> Result<Next, NoMemory>
+    ensures says { IfOk result (λ next. Says at state.old state.new next (λ s l ls. model.loop l s ls truth)) }
+    ensures visits { state.new.visits ≤ state.old.visits }
+{
+    let behind = at.behind()?;
+    if truth {
+        return Ok(Next::Under(Frame::Loop(at), behind));
+    }
+    skip_from(alloc, state, Opening::Loop, at, behind)
+}
+
+/// A value as a truth value.
+fn truth_of(value: Result<Value, LineKind>) -> Result<bool, LineKind>
+    ensures { result ≡ model.truth value }
+{
+    match value {
+        Ok(Value::Truth(truth)) => Ok(truth),
+        Ok(_) => Err(LineKind::WrongType),
+        Err(kind) => Err(kind),
+    }
+}
+
+/// What an IF says.
+pub fn say_if(
+    alloc: Global,
+    depth: Depth,
+    state: &mut Expansion,
+    at: Place,
+    words: Words<'_>,
+    operand: &Result<Expr, LineKind>,
+) -> Result<Next, NoMemory>
+    requires { WasRead operand.now }
+    ensures says { IfOk result (λ next. Says at state.old state.new next (λ s l ls.
+        model.valued l (model.label_kinds (words_shown words.entry) ++ model.depth_kinds (depth_of depth)) (model.truth (value_of s operand.now)) (model.branch l s ls))) }
+    ensures visits { state.new.visits ≤ state.old.visits }
+{
+    let value = value_of(alloc, state, operand)?;
+    let truth = truth_of(value);
+    let told = opening_fault(words, depth);
+    match settle(told, truth) {
+        Err(kind) => Ok(Next::Bad(at, kind)),
+        Ok(truth) => branch(alloc, state, at, truth),
+    }
+}
+
+/// What a WHILE says.
+pub fn say_while(
+    alloc: Global,
+    depth: Depth,
+    state: &mut Expansion,
+    at: Place,
+    words: Words<'_>,
+    operand: &Result<Expr, LineKind>,
+) -> Result<Next, NoMemory>
+    requires { WasRead operand.now }
+    ensures says { IfOk result (λ next. Says at state.old state.new next (λ s l ls.
+        model.valued l (model.label_kinds (words_shown words.entry) ++ model.depth_kinds (depth_of depth)) (model.truth (value_of s operand.now)) (model.loop l s ls))) }
+    ensures visits { state.new.visits ≤ state.old.visits }
+{
+    let value = value_of(alloc, state, operand)?;
+    let truth = truth_of(value);
+    let told = opening_fault(words, depth);
+    match settle(told, truth) {
+        Err(kind) => Ok(Next::Bad(at, kind)),
+        Ok(truth) => turn_around(alloc, state, at, truth),
+    }
+}

@@ -1,0 +1,189 @@
+//! Variables: GBLx, LCLx and SETx.
+
+ghost use Rattle.std.specs.Prelude.{◌≡◌, ◌≤◌, ◌++◌, not, IfOk};
+ghost use Rattle.asm_model.specs.Kinds.{told_kind};
+ghost use Rattle.expand_model.specs.Known.{value_of};
+ghost use Rattle.expand_model.specs.Prototypes.{is_long};
+ghost use Rattle.expand_model.specs.Steps as model;
+ghost use Rattle.expand_model.specs.Words.{as_name, operand_text};
+ghost use Rattle.asm_expand.specs.Declaring.{GlobalFault, LocalFault, TargetFault};
+ghost use Rattle.asm_expand.specs.Known.{WasRead};
+ghost use Rattle.asm_expand.specs.Saying.{Says};
+ghost use Rattle.asm_expand.specs.Steps.{words_shown};
+
+use crate::expansion::Expansion;
+use crate::faults::{label_fault, settle};
+use crate::operands::operand_text;
+use crate::places::Place;
+use crate::prototypes::name_of;
+use crate::steps::Next;
+use crate::values::value_of;
+use crate::words::Words;
+use asm_expr::told::{first_told, kind_if};
+use asm_lines::scan::NAME_BYTES;
+use asm_model::{Expr, Value};
+use expand_model::Sort;
+use sdt_fault::kinds::LineKind;
+use sdt_fault::{Bytes, NoMemory, Text};
+use std::alloc::Global;
+
+/// What a variable has before it is set.
+fn first_value(alloc: Global, sort: Sort) -> Value
+    ensures { result ≡ model.first_value sort }
+{
+    match sort {
+        Sort::Arithmetic => Value::Number(0),
+        Sort::Logical => Value::Truth(false),
+        Sort::Textual => Value::Words(Bytes::from_vec(Vec::new(alloc))),
+    }
+}
+
+/// Whether a value is of the type.
+fn is_of(sort: Sort, value: &Value) -> bool
+    ensures { result ≡ model.is_of sort value.now }
+{
+    match (sort, value) {
+        (Sort::Arithmetic, Value::Number(_)) => true,
+        (Sort::Logical, Value::Truth(_)) => true,
+        (Sort::Textual, Value::Words(_)) => true,
+        _ => false,
+    }
+}
+
+/// Whether a name is beyond the limit.
+pub fn is_long(name: &[u8]) -> bool
+    ensures { result ≡ is_long name.now }
+{
+    name.len() > NAME_BYTES
+}
+
+/// The fault of a global variable more.
+#[tactic(auto, using(asm_model::proofs::FaultLemmas::told_by_parts))]
+fn global_fault(state: &Expansion, words: Words<'_>, name: &Text) -> Option<LineKind>
+    ensures { GlobalFault state.now (words_shown words.entry) name.now result }
+{
+    let known = state.tables.globals.contains_key(name);
+    first_told(
+        first_told(label_fault(words), kind_if(known, LineKind::DuplicateName)),
+        kind_if(is_long(name.as_slice()), LineKind::TooMany),
+    )
+}
+
+/// What GBLA, GBLL or GBLS says.
+pub fn say_global(
+    alloc: Global,
+    state: &mut Expansion,
+    at: Place,
+    words: Words<'_>,
+    sort: Sort,
+) -> Result<Next, NoMemory>
+    ensures says { IfOk result (λ next. Says at state.old state.new next (λ s l ls.
+        model.declares_global l (words_shown words.entry) sort s ls (as_name (operand_text words.entry.behind.now)))) }
+    ensures visits { state.new.visits ≤ state.old.visits }
+{
+    let Some(name) = name_of(operand_text(words.behind)) else {
+        return Ok(Next::Bad(at, LineKind::Syntax));
+    };
+    let name = Text::from_slice(alloc, name)?;
+    if let Some(kind) = global_fault(state, words, &name) {
+        return Ok(Next::Bad(at, kind));
+    }
+    state.declare_global(name, first_value(alloc, sort))?;
+    Ok(Next::Go(at.past(1)))
+}
+
+/// The fault of a local variable more.
+#[tactic(auto, using(asm_model::proofs::FaultLemmas::told_by_parts))]
+fn local_fault(state: &Expansion, words: Words<'_>, name: &Text) -> Option<LineKind>
+    ensures { LocalFault state.now (words_shown words.entry) name.now result }
+{
+    let known = state.tables.locals.contains_key(name);
+    first_told(
+        first_told(
+            first_told(label_fault(words), kind_if(known, LineKind::DuplicateName)),
+            kind_if(!state.in_call, LineKind::Nesting),
+        ),
+        kind_if(is_long(name.as_slice()), LineKind::TooMany),
+    )
+}
+
+/// What LCLA, LCLL or LCLS says in a call.
+pub fn say_local(
+    alloc: Global,
+    state: &mut Expansion,
+    at: Place,
+    words: Words<'_>,
+    sort: Sort,
+) -> Result<Next, NoMemory>
+    ensures says { IfOk result (λ next. Says at state.old state.new next (λ s l ls.
+        model.declares_local l (words_shown words.entry) sort s ls (as_name (operand_text words.entry.behind.now)))) }
+    ensures visits { state.new.visits ≤ state.old.visits }
+{
+    let Some(name) = name_of(operand_text(words.behind)) else {
+        return Ok(Next::Bad(at, LineKind::Syntax));
+    };
+    let name = Text::from_slice(alloc, name)?;
+    if let Some(kind) = local_fault(state, words, &name) {
+        return Ok(Next::Bad(at, kind));
+    }
+    if !state.in_call {
+        return Ok(Next::Bad(at, LineKind::Nesting));
+    }
+    state.declare_local(name, first_value(alloc, sort))?;
+    Ok(Next::Go(at.past(1)))
+}
+
+/// The fault of a variable that is to have a value of the type.
+fn target_fault(state: &Expansion, sort: Sort, name: &Text) -> Option<LineKind>
+    ensures { TargetFault state.now sort name.now result }
+{
+    match state.tables.variable(name) {
+        None => Some(LineKind::UnknownWord),
+        Some(value) => kind_if(!is_of(sort, value), LineKind::WrongType),
+    }
+}
+
+/// A value of the type.
+fn of_type(sort: Sort, value: Result<Value, LineKind>) -> Result<Value, LineKind>
+    ensures { result ≡ model.of_type sort value }
+{
+    match value {
+        Err(kind) => Err(kind),
+        Ok(value) => {
+            if is_of(sort, &value) {
+                return Ok(value);
+            }
+            Err(LineKind::WrongType)
+        }
+    }
+}
+
+/// What SETA, SETL or SETS says.
+pub fn say_set(
+    alloc: Global,
+    state: &mut Expansion,
+    at: Place,
+    words: Words<'_>,
+    sort: Sort,
+    operand: &Result<Expr, LineKind>,
+) -> Result<Next, NoMemory>
+    requires { WasRead operand.now }
+    ensures says { IfOk result (λ next. Says at state.old state.new next (λ s l ls.
+        model.sets l sort s ls (as_name words.entry.label.now) (value_of s operand.now))) }
+    ensures visits { state.new.visits ≤ state.old.visits }
+{
+    let Some(name) = name_of(words.label) else {
+        return Ok(Next::Bad(at, LineKind::Syntax));
+    };
+    let name = Text::from_slice(alloc, name)?;
+    let value = value_of(alloc, state, operand)?;
+    let typed = of_type(sort, value);
+    let told = target_fault(state, sort, &name);
+    match settle(told, typed) {
+        Err(kind) => Ok(Next::Bad(at, kind)),
+        Ok(value) => {
+            state.set(name, value)?;
+            Ok(Next::Go(at.past(1)))
+        }
+    }
+}

@@ -1,0 +1,248 @@
+//! Definitions of macros.
+
+ghost use Rattle.std.specs.Prelude.{◌≡◌, ◌≤◌, ◌||◌, [], false, take, IfOk};
+ghost use Rattle.std.specs.List.{list_any};
+ghost use Rattle.expand_model.specs.Prototypes as prototypes;
+ghost use Rattle.expand_model.specs.Steps as model;
+ghost use Rattle.asm_expand.specs.Defining.{Defines, IsPrototype, IsDefinition, IsRepeated, Notes, PrototypeFault, word_kind};
+ghost use Rattle.asm_expand.specs.Saying.{Says};
+ghost use Rattle.expand_model.specs.Words.{listed};
+
+use crate::declarations::is_long;
+use crate::expansion::{Definition, Expansion};
+use crate::maps::{add, is_among};
+use crate::pairing::{Taking, raw_operation, take_body};
+use crate::places::Place;
+use crate::prototypes::prototype_of;
+use crate::steps::{End, Next};
+use crate::words::words_of;
+use asm_expr::told::{first_told, kind_if};
+use asm_model::Line;
+use expand_model::{Operation, Parameter, Prototype};
+use sdt_fault::kinds::LineKind;
+use sdt_fault::{List, NoMemory, Text};
+use std::alloc::Global;
+use std::collections::BTreeSet;
+use std::rc::Rc;
+
+fn line_copy(alloc: Global, line: &Line) -> Result<Line, NoMemory>
+    ensures { IfOk result (λ copy. copy ≡ line.now) }
+{
+    let source = line.source.try_clone(alloc)?;
+    let text = line.text.try_clone(alloc)?;
+    Ok(Line {
+        source,
+        number: line.number,
+        text,
+    })
+}
+
+fn lines_copy(alloc: Global, lines: &[Line]) -> Result<Vec<Line>, NoMemory>
+    ensures { IfOk result (λ copies. copies.items ≡ lines.now) }
+{
+    let mut copies = Vec::new(alloc);
+    'lines: for line in lines {
+        copies.push(line_copy(alloc, line)?)?;
+    }
+    Ok(copies)
+}
+
+/// The first lines, or all where there are no more.
+fn front(lines: &[Line], count: usize) -> &[Line]
+    ensures { result.now ≡ take count lines.now }
+{
+    if count < lines.len() {
+        return &lines[..count];
+    }
+    lines
+}
+
+/// A macro whose body is so many lines.
+fn definition_of(
+    alloc: Global,
+    prototype: Prototype,
+    lines: &[Line],
+    count: usize,
+) -> Result<Definition, NoMemory>
+    ensures { IfOk result (λ d. IsDefinition prototype (take count lines.now) d) }
+{
+    let body = lines_copy(alloc, front(lines, count))?;
+    let body = Rc::new(alloc, List::from_vec(body))?;
+    let prototype = Rc::new(alloc, prototype)?;
+    Ok(Definition { prototype, body })
+}
+
+/// What follows a prototype, by the lines behind it.
+fn defined(
+    alloc: Global,
+    state: &mut Expansion,
+    at: Place,
+    body: Place,
+    prototype: Prototype,
+) -> Result<Next, NoMemory>
+    ensures says { IfOk result (λ next. Defines at body prototype state.old state.new next) }
+    ensures visits { state.new.visits ≤ state.old.visits }
+{
+    match take_body(state.visits, body.rest()) {
+        Taking::Bad(passed, kind) => Ok(Next::Bad(body.past(passed), kind)),
+        Taking::Open => Ok(Next::Stop(End::Unclosed(at))),
+        Taking::Whole(count) => {
+            let definition = definition_of(alloc, prototype, body.rest(), count)?;
+            state.define(alloc, definition)?;
+            state.pass(count);
+            state.pass(1);
+            Ok(Next::Go(body.past(count).past(1)))
+        }
+    }
+}
+
+/// Whether one of the parameters has the name of another, or that of the label's.
+#[tactic(auto, using(crate::proofs::DefiningLemmas::repeated_label))]
+fn is_repeated(alloc: Global, prototype: &Prototype) -> Result<bool, NoMemory>
+    ensures { IfOk result (λ b. b ≡ prototypes.is_repeated (prototypes.parameter_names prototype.now)) }
+{
+    let mut seen = BTreeSet::new(alloc);
+    if has_twice(alloc, prototype.parameters.as_slice(), &mut seen)? {
+        return Ok(true);
+    }
+    match &prototype.label {
+        None => Ok(false),
+        Some(name) => Ok(seen.contains(name)),
+    }
+}
+
+/// Whether the parameter's name is among these; where it isn't, it is noted.
+fn note_name(
+    alloc: Global,
+    seen: &mut BTreeSet<Text>,
+    parameter: &Parameter,
+) -> Result<bool, NoMemory>
+    ensures { IfOk result (λ b. Notes parameter.now.name b seen.old seen.new) }
+{
+    if is_among(seen, &parameter.name) {
+        return Ok(true);
+    }
+    let name = parameter.name.try_clone(alloc)?;
+    add(seen, name)?;
+    Ok(false)
+}
+
+/// Whether two parameters have one name; where none do, their names are noted.
+fn has_twice(
+    alloc: Global,
+    parameters: &[Parameter],
+    seen: &mut BTreeSet<Text>,
+) -> Result<bool, NoMemory>
+    requires { IsRepeated [] false seen.old }
+    ensures { IfOk result (λ b. IsRepeated parameters.now b seen.new) }
+{
+    for i in (0..parameters.len()).rev() {
+        let repeated = note_name(alloc, seen, &parameters[i])?;
+        if repeated {
+            return Ok(true);
+        }
+    }
+    Ok(false)
+}
+
+/// Whether a name of a prototype is beyond the limit.
+#[tactic(auto, using(crate::proofs::DefiningLemmas::long_names))]
+fn has_long(prototype: &Prototype) -> bool
+    ensures { result ≡ (prototypes.is_long prototype.now.name || list_any prototypes.is_long (prototypes.parameter_names prototype.now)) }
+{
+    if is_long(prototype.name.as_slice()) {
+        return true;
+    }
+    if has_long_label(&prototype.label) {
+        return true;
+    }
+    has_long_parameter(prototype.parameters.as_slice())
+}
+
+fn has_long_label(label: &Option<Text>) -> bool
+    ensures { result ≡ list_any prototypes.is_long (listed label.now) }
+{
+    match label {
+        None => false,
+        Some(name) => is_long(name.as_slice()),
+    }
+}
+
+fn has_long_parameter(parameters: &[Parameter]) -> bool
+    ensures { result ≡ list_any (λ p. prototypes.is_long p.name) parameters.now }
+{
+    parameters.iter().any(|p| is_long(p.name.as_slice()))
+}
+
+fn either(a: bool, b: bool) -> bool
+    ensures { result ≡ (a || b) }
+{
+    a || b
+}
+
+/// The fault of a prototype.
+#[tactic(auto, using(asm_model::proofs::FaultLemmas::told_by_parts, crate::proofs::DefiningLemmas::is_macro_some))]
+fn prototype_fault(
+    alloc: Global,
+    state: &Expansion,
+    prototype: &Prototype,
+) -> Result<Option<LineKind>, NoMemory>
+    ensures { IfOk result (λ told. PrototypeFault state.now prototype.now told) }
+{
+    let known = state.macros.contains_key(&prototype.name);
+    let repeated = is_repeated(alloc, prototype)?;
+    Ok(first_told(
+        kind_if(either(known, repeated), LineKind::DuplicateName),
+        kind_if(has_long(prototype), LineKind::TooMany),
+    ))
+}
+
+/// The fault of a word in the place of a prototype.
+fn word_fault(operation: Option<Operation>) -> Option<LineKind>
+    ensures { result ≡ word_kind operation }
+{
+    match operation {
+        Some(Operation::MEnd) => Some(LineKind::Syntax),
+        Some(Operation::Macro) => Some(LineKind::Nesting),
+        _ => None,
+    }
+}
+
+/// The prototype on a line, or the kind of its fault.
+fn prototype_on(
+    alloc: Global,
+    state: &Expansion,
+    line: &Line,
+) -> Result<Result<Prototype, LineKind>, NoMemory>
+    ensures { IfOk result (λ read. IsPrototype state.now line.now read) }
+{
+    if let Some(kind) = word_fault(raw_operation(line)) {
+        return Ok(Err(kind));
+    }
+    let Some(prototype) = prototype_of(alloc, words_of(line.text.as_slice()))? else {
+        return Ok(Err(LineKind::Syntax));
+    };
+    match prototype_fault(alloc, state, &prototype)? {
+        Some(kind) => Ok(Err(kind)),
+        None => Ok(Ok(prototype)),
+    }
+}
+
+/// What a MACRO says, whose prototype is the next line.
+pub fn definition(alloc: Global, state: &mut Expansion, at: Place) -> Result<Next, NoMemory>
+    ensures says { IfOk result (λ next. Says at state.old state.new next (λ s l ls. model.definition l s ls)) }
+    ensures visits { state.new.visits ≤ state.old.visits }
+{
+    let place = at.behind()?;
+    let Some(line) = place.first() else {
+        return Ok(Next::Stop(End::Unclosed(at)));
+    };
+    if state.visits == 0 {
+        return Ok(Next::Bad(place, LineKind::TooMany));
+    }
+    state.visit();
+    match prototype_on(alloc, state, line)? {
+        Err(kind) => Ok(Next::Bad(place, kind)),
+        Ok(prototype) => defined(alloc, state, at, place.past(1), prototype),
+    }
+}

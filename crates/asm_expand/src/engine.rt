@@ -1,0 +1,281 @@
+//! The engine: the lines of a source, in a loop over a stack of what is open.
+
+ghost use Rattle.std.specs.Prelude.{◌≡◌, ◌≤◌, ◌∷◌, [], ◌++◌, IfOk, IfErr, MatchOption, OnOk};
+ghost use Rattle.sdt_outside.specs.Counts.{Rose};
+ghost use Rattle.expand_model.specs.Expands.{Expands, Flats};
+ghost use Rattle.expand_model.specs.States.{started};
+ghost use Rattle.expand_model.specs.Steps.{Go, visit_limit};
+ghost use Rattle.asm_expand.specs.Places.{place_lines};
+ghost use Rattle.asm_expand.specs.declared.steps.Next.TheVariants as next;
+ghost use Rattle.asm_expand.specs.Leading.{Caused, Closes, Gets, IsBadAt, IsDeeper, IsFault, IsRefusal, IsShallower, LedOn, OfFiles, Opens, OutermostEnd, RunsTo, Smaller, Starts, weight};
+
+use crate::expansion::Expansion;
+use crate::places::Place;
+use crate::reading::read;
+use crate::steps::{Depth, End, Frame, Next};
+use crate::turning::turn;
+use crate::variables::Tables;
+use asm_lines::split_lines;
+use asm_model::{Flat, bad_line};
+use sdt_fault::answer::Fault;
+use sdt_fault::kinds::LineKind;
+use sdt_fault::refusal::Refusal;
+use sdt_fault::{NoMemory, Text};
+use sdt_outside::{Store, StoreError};
+use std::alloc::Global;
+use std::collections::{BTreeMap, BTreeSet};
+
+/// How many lines may be visited.
+pub const VISIT_LIMIT: usize = 1_000_000;
+
+/// What expansion has, and what is open, the innermost last.
+#[derive(Drop)]
+pub struct Engine {
+    pub state: Expansion,
+    pub frames: Vec<Frame>,
+    pub depth: Depth,
+}
+
+/// Nothing is read yet.
+fn started(alloc: Global) -> Engine
+    ensures { Starts result }
+{
+    Engine {
+        state: Expansion {
+            visits: VISIT_LIMIT,
+            tables: Tables {
+                globals: BTreeMap::new(alloc),
+                locals: BTreeMap::new(alloc),
+                arguments: BTreeMap::new(alloc),
+            },
+            in_call: false,
+            macros: BTreeMap::new(alloc),
+            flats: Vec::new(alloc),
+            numbers: BTreeMap::new(alloc),
+            labels: BTreeSet::new(alloc),
+            thumb: false,
+        },
+        frames: Vec::new(alloc),
+        depth: Depth {
+            constructs: 0,
+            files: 0,
+        },
+    }
+}
+
+/// The refusal of the first line there.
+fn bad_at(alloc: Global, place: &Place, kind: LineKind) -> Fault
+    ensures at { IsBadAt place.now kind result }
+    ensures refusal { IsRefusal result }
+{
+    let Some(line) = place.first() else {
+        return Fault::NoMemory;
+    };
+    bad_line(alloc, &line.source, line.number, kind)
+}
+
+/// What is open under one frame more. More frames than numbers count as want of memory.
+fn deeper(frame: &Frame, depth: Depth) -> Result<Depth, NoMemory>
+    ensures { IfOk result (λ d. IsDeeper frame.now depth d) }
+{
+    let Depth { constructs, files } = depth;
+    match frame {
+        Frame::File(_) => {
+            if files == usize::MAX {
+                return Err(NoMemory);
+            }
+            Ok(Depth {
+                constructs,
+                files: files + 1,
+            })
+        }
+        _ => {
+            if constructs == usize::MAX {
+                return Err(NoMemory);
+            }
+            Ok(Depth {
+                constructs: constructs + 1,
+                files,
+            })
+        }
+    }
+}
+
+/// What is open around a frame.
+fn shallower(frame: &Frame, depth: Depth) -> Depth
+    ensures { IsShallower frame.now depth result }
+{
+    let Depth { constructs, files } = depth;
+    match frame {
+        Frame::File(_) => Depth {
+            constructs,
+            files: files.saturating_sub(1),
+        },
+        _ => Depth {
+            constructs: constructs.saturating_sub(1),
+            files,
+        },
+    }
+}
+
+/// One frame more is open.
+fn open(engine: &mut Engine, frame: Frame) -> Result<(), NoMemory>
+    ensures { OnOk result (Opens frame engine.old engine.new) }
+{
+    let depth = deeper(&frame, engine.depth)?;
+    engine.frames.push(frame)?;
+    engine.depth = depth;
+    Ok(())
+}
+
+/// The lines of a file, under its frame.
+fn get<S: Store>(alloc: Global, store: &mut S, name: Text, behind: Place) -> Result<Next, Fault>
+    ensures gets { Gets name behind (S.files store.old) result }
+    ensures under { IfOk result (λ next. weight next ≡ 5) }
+    ensures cause { IfErr result (λ e. Caused e (S.files store.old) (Rose (S.read_faults store.old) (S.read_faults store.new))) }
+    ensures files { S.files store.new ≡ S.files store.old }
+    ensures read_faults { S.read_faults store.old ≤ S.read_faults store.new }
+    ensures write_faults { S.write_faults store.new ≡ S.write_faults store.old }
+{
+    match store.read(alloc, &name) {
+        Ok(bytes) => {
+            let lines = split_lines(alloc, &name, bytes.as_slice())?;
+            let first = Place::start(alloc, lines)?;
+            Ok(Next::Under(Frame::File(behind), first))
+        }
+        Err(StoreError::Missing) => Err(Fault::Refused(Refusal::Missing { name })),
+        Err(StoreError::Failed) => Err(Fault::ReadFault(name)),
+        Err(StoreError::NoMemory) => Err(Fault::NoMemory),
+    }
+}
+
+/// Where lines end under nothing: a word there that is unpaired is refused.
+fn outermost(alloc: Global, end: End) -> Result<Option<Next>, Fault>
+    ensures ends { OutermostEnd end result }
+    ensures refused { IfErr result (λ e. IsRefusal e) }
+{
+    match end {
+        End::Over => Ok(None),
+        End::Ended => Ok(None),
+        End::Closed(_, place) => Err(bad_at(alloc, &place, LineKind::Nesting)),
+        End::Left(place) => Err(bad_at(alloc, &place, LineKind::Nesting)),
+        End::Unclosed(place) => Err(bad_at(alloc, &place, LineKind::Nesting)),
+    }
+}
+
+/// Takes the innermost frame away.
+fn innermost(frames: &mut Vec<Frame>) -> Option<Frame>
+    ensures { MatchOption result (frames.old.items ≡ []) (λ f. frames.old.items ≡ frames.new.items ++ f ∷ []) }
+{
+    frames.pop()
+}
+
+/// What follows lines that ended; None where no line is left.
+fn close(alloc: Global, engine: &mut Engine, end: End) -> Result<Option<Next>, Fault>
+    ensures closes { Closes end engine.old engine.new result }
+    ensures smaller { IfOk result (λ after. Smaller (next.Stop end) engine.old after engine.new) }
+    ensures refused { IfErr result (λ e. IsRefusal e) }
+{
+    let Some(frame) = innermost(&mut engine.frames) else {
+        return outermost(alloc, end);
+    };
+    engine.depth = shallower(&frame, engine.depth);
+    let next = turn(alloc, &mut engine.state, frame, end)?;
+    Ok(Some(next))
+}
+
+/// The same, as a step.
+fn get_on<S: Store>(
+    alloc: Global,
+    store: &mut S,
+    engine: &Engine,
+    name: Text,
+    behind: Place,
+) -> Result<Option<Next>, Fault>
+    ensures led { LedOn (S.files store.old) engine.now (next.Get name behind) engine.now result }
+    ensures smaller { IfOk result (λ after. Smaller (next.Get name behind) engine.now after engine.now) }
+    ensures cause { IfErr result (λ e. Caused e (S.files store.old) (Rose (S.read_faults store.old) (S.read_faults store.new))) }
+    ensures files { S.files store.new ≡ S.files store.old }
+    ensures read_faults { S.read_faults store.old ≤ S.read_faults store.new }
+    ensures write_faults { S.write_faults store.new ≡ S.write_faults store.old }
+{
+    match get(alloc, store, name, behind) {
+        Ok(after) => Ok(Some(after)),
+        Err(fault) => Err(fault),
+    }
+}
+
+/// One step: what follows, or None where no line is left.
+fn step<S: Store>(
+    alloc: Global,
+    store: &mut S,
+    engine: &mut Engine,
+    next: Next,
+) -> Result<Option<Next>, Fault>
+    ensures led { LedOn (S.files store.old) engine.old next engine.new result }
+    ensures smaller { IfOk result (λ after. Smaller next engine.old after engine.new) }
+    ensures cause { IfErr result (λ e. Caused e (S.files store.old) (Rose (S.read_faults store.old) (S.read_faults store.new))) }
+    ensures files { S.files store.new ≡ S.files store.old }
+    ensures read_faults { S.read_faults store.old ≤ S.read_faults store.new }
+    ensures write_faults { S.write_faults store.new ≡ S.write_faults store.old }
+{
+    match next {
+        Next::Go(place) => {
+            let next = read(alloc, engine.depth, &mut engine.state, place)?;
+            Ok(Some(next))
+        }
+        Next::Under(frame, place) => {
+            open(engine, frame)?;
+            Ok(Some(Next::Go(place)))
+        }
+        Next::Get(name, behind) => { get_on(alloc, store, engine, name, behind) }
+        Next::Bad(place, kind) => Err(bad_at(alloc, &place, kind)),
+        Next::Stop(end) => close(alloc, engine, end),
+    }
+}
+
+/// The flat lines of a source whose lines these are.
+fn expand_lines<S: Store>(alloc: Global, first: Place, store: &mut S) -> Result<Vec<Flat>, Fault>
+    ensures flats { IfOk result (λ flats. OfFiles (S.files store.old) (λ sources.
+        RunsTo sources (Go (started visit_limit) (place_lines first)) (Flats flats.items))) }
+    ensures fault { IfErr result (λ e. OfFiles (S.files store.old) (λ sources.
+        IsFault e (RunsTo sources (Go (started visit_limit) (place_lines first))))) }
+    ensures cause { IfErr result (λ e. Caused e (S.files store.old) (Rose (S.read_faults store.old) (S.read_faults store.new))) }
+    ensures files { S.files store.new ≡ S.files store.old }
+    ensures read_faults { S.read_faults store.old ≤ S.read_faults store.new }
+    ensures write_faults { S.write_faults store.new ≡ S.write_faults store.old }
+{
+    let mut engine = started(alloc);
+    let mut next = Next::Go(first);
+    'steps: loop {
+        match step(alloc, store, &mut engine, next) {
+            Err(fault) => return Err(fault),
+            Ok(None) => return Ok(engine.state.flats),
+            Ok(Some(after)) => next = after,
+        }
+    }
+}
+
+/// The flat lines of a source, in order, with the files that its GETs name. `BadLine` names the file and the line of the
+/// first fault; `Missing` a file that isn't there; `ReadFault` a file whose read failed.
+pub fn expand<S: Store>(
+    alloc: Global,
+    source: &Text,
+    text: &[u8],
+    store: &mut S,
+) -> Result<Vec<Flat>, Fault>
+    ensures flats { IfOk result (λ flats. OfFiles (S.files store.old) (λ sources. Expands sources visit_limit source.now text.now (Flats flats.items))) }
+    ensures fault { IfErr result (λ e. OfFiles (S.files store.old) (λ sources. IsFault e (λ o. Expands sources visit_limit source.now text.now o))) }
+    ensures cause { IfErr result (λ e. Caused e (S.files store.old) (Rose (S.read_faults store.old) (S.read_faults store.new))) }
+    ensures files { S.files store.new ≡ S.files store.old }
+    ensures read_faults { S.read_faults store.old ≤ S.read_faults store.new }
+    ensures write_faults { S.write_faults store.new ≡ S.write_faults store.old }
+{
+    match split_lines(alloc, source, text) {
+        Err(fault) => Err(fault),
+        Ok(lines) => {
+            let first = Place::start(alloc, lines)?;
+            expand_lines(alloc, first, store)
+        }
+    }
+}

@@ -1,0 +1,68 @@
+//! Faults of a line's words.
+
+ghost use Rattle.std.specs.Prelude.{◌≡◌, ◌++◌, not};
+ghost use Rattle.asm_model.specs.Kinds.{told_kind};
+ghost use Rattle.expand_model.specs.Steps as model;
+ghost use Rattle.expand_model.specs.Words.{is_empty};
+ghost use Rattle.asm_expand.specs.Saying.{depth_of, settled};
+ghost use Rattle.asm_expand.specs.Steps.{words_shown};
+
+use crate::operands::operand_text;
+use crate::steps::Depth;
+use crate::words::Words;
+use asm_expr::kinds::earlier;
+use asm_expr::told::{first_told, kind_if};
+use sdt_fault::kinds::LineKind;
+
+/// How many constructs may be open: IF, WHILE and calls together.
+const CONSTRUCT_DEPTH: usize = 64;
+
+/// Whether bytes stand there.
+pub fn is_some_text(text: &[u8]) -> bool
+    ensures { result ≡ not (is_empty text.now) }
+{
+    match text {
+        [] => false,
+        _ => true,
+    }
+}
+
+/// The fault of a label, which a word of expansion doesn't take.
+pub fn label_fault(words: Words<'_>) -> Option<LineKind>
+    ensures { result ≡ told_kind (model.label_kinds (words_shown words.entry)) }
+{
+    kind_if(is_some_text(words.label), LineKind::Syntax)
+}
+
+/// The same, of a word that takes no operand either.
+pub fn alone_fault(words: Words<'_>) -> Option<LineKind>
+    ensures { result ≡ told_kind (model.alone_kinds (words_shown words.entry)) }
+{
+    let holds = is_some_text(words.label) || is_some_text(operand_text(words.behind));
+    kind_if(holds, LineKind::Syntax)
+}
+
+/// The fault of a construct more.
+pub fn depth_fault(depth: Depth) -> Option<LineKind>
+    ensures { result ≡ told_kind (model.depth_kinds (depth_of depth)) }
+{
+    kind_if(depth.constructs >= CONSTRUCT_DEPTH, LineKind::TooDeep)
+}
+
+/// The faults of an IF or a WHILE but for its value's.
+pub fn opening_fault(words: Words<'_>, depth: Depth) -> Option<LineKind>
+    ensures { result ≡ told_kind (model.label_kinds (words_shown words.entry) ++ model.depth_kinds (depth_of depth)) }
+{
+    first_told(label_fault(words), depth_fault(depth))
+}
+
+/// A value, unless a fault is told of its line.
+pub fn settle<T: Drop>(told: Option<LineKind>, value: Result<T, LineKind>) -> Result<T, LineKind>
+    ensures { result ≡ settled told value }
+{
+    match (told, value) {
+        (None, value) => value,
+        (Some(kind), Ok(_)) => Err(kind),
+        (Some(kind), Err(other)) => Err(earlier(other, kind)),
+    }
+}

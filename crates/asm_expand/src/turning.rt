@@ -1,0 +1,188 @@
+//! What follows lines that ended, by what they stand in.
+
+ghost use Rattle.std.specs.Prelude.{◌≡◌, ◌≤◌, IfOk};
+ghost use Rattle.expand_model.specs.Steps as model;
+ghost use Rattle.asm_expand.specs.Saying.{Shortens};
+ghost use Rattle.asm_expand.specs.Turning.{Answers, Closes, ClosesLoop, IsWhile, Repeats, Resumes, Returns, Turns, TurnsLoop, names_while};
+
+use crate::conditions::skip_from;
+use crate::expansion::{Expansion, Scope};
+use crate::operations::operation_of;
+use crate::places::Place;
+use crate::steps::{End, Frame, Next};
+use crate::substitution::substitute;
+use crate::words::words_of;
+use asm_model::Line;
+use expand_model::{Opening, Operation};
+use sdt_fault::NoMemory;
+use sdt_fault::kinds::LineKind;
+use std::alloc::Global;
+
+/// Behind the lines of an IF that a word closes.
+fn close_condition(
+    alloc: Global,
+    state: &mut Expansion,
+    at: Place,
+    operation: Operation,
+    word: Place,
+) -> Result<Next, NoMemory>
+    ensures says { IfOk result (λ next. Closes at operation word state.old state.new next (λ l e. model.behind_condition l e)) }
+    ensures visits { IfOk result (λ next. Shortens next state.old.visits state.new.visits) }
+{
+    match operation {
+        Operation::Else => skip_from(alloc, state, Opening::Alternative, at, word.past(1)),
+        Operation::EndIf => Ok(Next::Go(word.past(1))),
+        _ => Ok(Next::Bad(word, LineKind::Nesting)),
+    }
+}
+
+/// Behind the lines of an IF.
+fn turn_condition(
+    alloc: Global,
+    state: &mut Expansion,
+    at: Place,
+    end: End,
+) -> Result<Next, NoMemory>
+    ensures says { IfOk result (λ next. Answers at end state.old state.new next (λ l e. model.behind_condition l e)) }
+    ensures visits { IfOk result (λ next. Shortens next state.old.visits state.new.visits) }
+{
+    match end {
+        End::Closed(operation, word) => close_condition(alloc, state, at, operation, word),
+        End::Over => Ok(Next::Stop(End::Unclosed(at))),
+        End::Unclosed(_) => Ok(Next::Stop(End::Unclosed(at))),
+        End::Left(place) => Ok(Next::Stop(End::Left(place))),
+        End::Ended => Ok(Next::Stop(End::Ended)),
+    }
+}
+
+/// Behind the lines of an ELSE.
+fn turn_alternative(state: &Expansion, at: Place, end: End) -> Next
+    ensures says { Answers at end state.now state.now result (λ l e. model.behind_alternative l e) }
+    ensures visits { Shortens result state.now.visits state.now.visits }
+{
+    match end {
+        End::Closed(Operation::EndIf, word) => Next::Go(word.past(1)),
+        End::Closed(_, word) => Next::Bad(word, LineKind::Nesting),
+        End::Over => Next::Stop(End::Unclosed(at)),
+        End::Unclosed(_) => Next::Stop(End::Unclosed(at)),
+        End::Left(place) => Next::Stop(End::Left(place)),
+        End::Ended => Next::Stop(End::Ended),
+    }
+}
+
+/// Whether a word is WHILE.
+fn names_while(operation: Option<Operation>) -> bool
+    ensures { result ≡ names_while operation }
+{
+    match operation {
+        Some(Operation::While) => true,
+        _ => false,
+    }
+}
+
+/// Whether a line is a WHILE; where it has no text, reading it tells why.
+fn is_while(alloc: Global, state: &Expansion, line: &Line) -> Result<bool, NoMemory>
+    ensures { IfOk result (λ holds. IsWhile state.now line.now holds) }
+{
+    match substitute(alloc, &state.tables, line.text.as_slice())? {
+        None => Ok(true),
+        Some(text) => Ok(names_while(operation_of(words_of(text.as_slice()).operation))),
+    }
+}
+
+/// A WHILE and the lines behind it once more, from the WEND there.
+fn again(alloc: Global, state: &Expansion, at: Place, word: Place) -> Result<Next, NoMemory>
+    ensures says { IfOk result (λ next. Repeats at word state.now next) }
+    ensures visits { IfOk result (λ next. Shortens next state.now.visits state.now.visits) }
+{
+    let Some(line) = at.first() else {
+        return Ok(Next::Go(at));
+    };
+    if is_while(alloc, state, line)? {
+        return Ok(Next::Go(at));
+    }
+    Ok(Next::Bad(word, LineKind::Nesting))
+}
+
+/// Behind the lines of a WHILE that a word closes.
+fn close_loop(
+    alloc: Global,
+    state: &Expansion,
+    at: Place,
+    operation: Operation,
+    word: Place,
+) -> Result<Next, NoMemory>
+    ensures says { IfOk result (λ next. ClosesLoop at operation word state.now next) }
+    ensures visits { IfOk result (λ next. Shortens next state.now.visits state.now.visits) }
+{
+    match operation {
+        Operation::WEnd => again(alloc, state, at, word),
+        _ => Ok(Next::Bad(word, LineKind::Nesting)),
+    }
+}
+
+/// Behind the lines of a WHILE.
+fn turn_loop(alloc: Global, state: &Expansion, at: Place, end: End) -> Result<Next, NoMemory>
+    ensures says { IfOk result (λ next. TurnsLoop at end state.now next) }
+    ensures visits { IfOk result (λ next. Shortens next state.now.visits state.now.visits) }
+{
+    match end {
+        End::Closed(operation, word) => close_loop(alloc, state, at, operation, word),
+        End::Over => Ok(Next::Stop(End::Unclosed(at))),
+        End::Unclosed(_) => Ok(Next::Stop(End::Unclosed(at))),
+        End::Left(place) => Ok(Next::Stop(End::Left(place))),
+        End::Ended => Ok(Next::Stop(End::Ended)),
+    }
+}
+
+/// Behind the body of a macro.
+fn turn_call(state: &mut Expansion, scope: Scope, behind: Place, end: End) -> Next
+    ensures says { Returns scope behind end state.old state.new result }
+    ensures visits { Shortens result state.old.visits state.new.visits }
+{
+    match end {
+        End::Over => {
+            state.enter(scope);
+            Next::Go(behind)
+        }
+        End::Left(_) => {
+            state.enter(scope);
+            Next::Go(behind)
+        }
+        End::Ended => {
+            state.enter(scope);
+            Next::Stop(End::Ended)
+        }
+        End::Closed(_, word) => Next::Bad(word, LineKind::Nesting),
+        End::Unclosed(place) => Next::Bad(place, LineKind::Nesting),
+    }
+}
+
+/// Behind a file.
+fn turn_file(state: &Expansion, behind: Place, end: End) -> Next
+    ensures says { Resumes behind end state.now result }
+    ensures visits { Shortens result state.now.visits state.now.visits }
+{
+    match end {
+        End::Over => Next::Go(behind),
+        End::Ended => Next::Go(behind),
+        End::Left(place) => Next::Bad(place, LineKind::Nesting),
+        End::Closed(_, word) => Next::Bad(word, LineKind::Nesting),
+        End::Unclosed(place) => Next::Bad(place, LineKind::Nesting),
+    }
+}
+
+/// What follows lines that ended, by what they stand in.
+#[tactic(auto, unfolding(expand_model::specs::Steps::turn))]
+pub fn turn(alloc: Global, state: &mut Expansion, frame: Frame, end: End) -> Result<Next, NoMemory>
+    ensures says { IfOk result (λ next. Turns frame end state.old state.new next) }
+    ensures visits { IfOk result (λ next. Shortens next state.old.visits state.new.visits) }
+{
+    match frame {
+        Frame::Condition(at) => turn_condition(alloc, state, at, end),
+        Frame::Alternative(at) => Ok(turn_alternative(state, at, end)),
+        Frame::Loop(at) => turn_loop(alloc, state, at, end),
+        Frame::Call(scope, behind) => Ok(turn_call(state, scope, behind, end)),
+        Frame::File(behind) => Ok(turn_file(state, behind, end)),
+    }
+}
