@@ -9,3 +9,4 @@ pub mod Targets
 pub mod Starts
 pub mod Sums
 pub mod Applied
+pub mod Shifts

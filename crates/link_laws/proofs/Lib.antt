@@ -5,3 +5,12 @@ pub mod PlacedLemmas
 pub mod SizedLemmas
 pub mod ShownLemmas
 pub mod Rows
+pub mod ShiftSums
+pub mod ShiftWords
+pub mod ShiftPlans
+pub mod ShiftFields
+pub mod ShiftAreas
+pub mod ShiftPatched
+pub mod ShiftPlacement
+pub mod ShiftValues
+pub mod ShiftRows

@@ -1,6 +1,6 @@
 -- A link that is made: each area has its region, the veneers are those that are needed, everything is placed without a
 -- refusal, and no relocation has a flaw. What its plan's image is made of then. SDT 2.50 Reference Guide, armlink.
-use Rattle.std.specs.Prelude.{◌≡◌, ℕ, ◌%◌, false, List, [], slice_get, map, Option, Some, Ok}
+use Rattle.std.specs.Prelude.{◌≡◌, ℕ, ◌%◌, false, List, [], slice_get, map, Option, Some, None, Ok}
 use Rattle.std.specs.List.{find, AllByRecursion}
 use Rattle.std.specs.Option.{option_map_or}
 use Rattle.sdt_word.specs.declared.ranges.Range32.{Range32}

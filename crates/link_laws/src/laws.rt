@@ -1,5 +1,6 @@
 //! Laws of the definitions, each proved as the contract of an empty function.
 
+ghost use Rattle.link_laws.specs.AifJoins.PlanMoves;
 ghost use Rattle.link_laws.specs.Laws.{AppliedAreSized, ObjectsAreShown, ObjectsArePlaced, RangesExist, StatementsStand};
 
 /// Where a plan of valid objects is accepted, each object is placed at the addresses of its areas, and its symbols have
@@ -15,4 +16,9 @@ pub fn objects_are_shown()
     ensures sizes { AppliedAreSized }
     ensures objects { ObjectsAreShown }
     ensures statements { StatementsStand }
+{}
+
+/// A relocatable ARM image file at another base has the plan that it has at its link base, moved there.
+pub fn aif_moves()
+    ensures plans { PlanMoves }
 {}

@@ -1,0 +1,116 @@
+-- Worked shifts: which words of an image at 0x8000 name addresses, how often, and the list of its file. The numbers are worked
+-- out by hand.
+use Rattle.std.proofs.Common.{◌≡◌, ℕ, ◌+◌, Bool, true, false, List, [], ◌∷◌, ◌++◌, drop, take, codes, refl, Option, Some, None}
+use Rattle.sdt_word.specs.Bytes.{bytes_of}
+use Rattle.sdt_fault.specs.declared.refusal.Refusal.TheVariants.{NotRelocatable}
+use Rattle.aof_object.specs.declared.records.Area.{Area}
+use Rattle.aof_object.specs.declared.records.Reloc.{Reloc}
+use Rattle.aof_object.specs.declared.records.Symbol.{Symbol}
+use Rattle.byte_maps.specs.Maps.{bytes_of_words}
+use Rattle.image_model.specs.AifFiles.{offsets_of, relocatable_aif, aif_plan}
+use Rattle.place_model.specs.Plans.{Contents}
+use Rattle.link_model.specs.declared.placing.AreaName.{AreaName}
+use Rattle.link_model.specs.declared.placing.Placement.{Placement}
+use Rattle.link_model.specs.declared.placing.Veneer.{Veneer}
+use Rattle.link_model.specs.declared.selection.Linked.{Linked}
+use Rattle.link_model.specs.Members.{link_of}
+use Rattle.link_items.specs.LinkedItems.{contents_of}
+use Rattle.link_place.specs.Placed.{placement_of}
+use Rattle.link_apply.specs.Shifts.{shifts_of, not_relocatable}
+use Rattle.link_laws.specs.Joins.{given_in}
+
+-- ---- one object, whose areas of code are read-only; the first has the entry
+
+abbrev code : ℕ → List ℕ → List Reloc → Area
+code attributes words relocs = record { name = codes "A"; attributes = attributes; size = 8; bytes = bytes_of_words words; relocs = relocs }
+
+abbrev reloc : ℕ → ℕ → Reloc
+reloc offset word = record { offset = offset; word = word }
+
+abbrev linked : Bool → List Area → List Symbol → Linked
+linked thumb areas symbols = record {
+  objects = (record { name = codes "o"; «module» = codes "o"; value = record { areas = areas; symbols = symbols; entry = Some (record { area = 0; offset = 0 }) } }) ∷ [];
+  definitions = [];
+  entry = record { object = 0; area = 0; offset = 0; thumb = thumb };
+}
+
+abbrev contents : Linked → List Veneer → Contents
+contents l veneers = contents_of l.objects (((record { object = 0; area = 0 }) ∷ []) ∷ [] ∷ [] ∷ []) veneers
+
+abbrev placed : Linked → List Veneer → Placement
+placed l veneers = placement_of (aif_plan 0x8000 true (contents l veneers))
+
+abbrev listed : Linked → List Veneer → List ℕ
+listed l veneers = offsets_of (shifts_of (link_of l) (placed l veneers)) (aif_plan 0x8000 true (contents l veneers))
+
+-- ---- here SWI 0x11, and DCD here
+
+abbrev relocatable_aif-link : Linked
+relocatable_aif-link = linked false (code 0x2202 (0xEF000011 ∷ 0 ∷ []) (reloc 4 0x82000000 ∷ []) ∷ []) []
+
+relocatable_aif-accepted : not_relocatable relocatable_aif-link (placed relocatable_aif-link []) ≡ None
+relocatable_aif-accepted = refl
+
+relocatable_aif-shifts : shifts_of (link_of relocatable_aif-link) (placed relocatable_aif-link []) 0x84 ≡ 1
+relocatable_aif-shifts = refl
+
+relocatable_aif-other : shifts_of (link_of relocatable_aif-link) (placed relocatable_aif-link []) 0x80 ≡ 0
+relocatable_aif-other = refl
+
+relocatable_aif-list : listed relocatable_aif-link [] ≡ 0x84 ∷ []
+relocatable_aif-list = refl
+
+-- the word itself, at 0x84, and the file's list, at 0xC4
+relocatable_aif-word : take 8 (drop 0x80 (relocatable_aif (aif_plan 0x8000 true (contents relocatable_aif-link [])) 0x8000
+    (given_in (link_of relocatable_aif-link) (placed relocatable_aif-link [])) (shifts_of (link_of relocatable_aif-link) (placed relocatable_aif-link []))))
+    ≡ bytes_of_words (0xEF000011 ∷ 0x8080 ∷ [])
+relocatable_aif-word = refl
+
+relocatable_aif-file : drop 0xC4 (relocatable_aif (aif_plan 0x8000 true (contents relocatable_aif-link [])) 0x8000
+    (given_in (link_of relocatable_aif-link) (placed relocatable_aif-link [])) (shifts_of (link_of relocatable_aif-link) (placed relocatable_aif-link [])))
+    ≡ bytes_of_words (0x84 ∷ 0xFFFFFFFF ∷ [])
+relocatable_aif-file = refl
+
+-- ---- two areas are added to one word
+
+abbrev two_shifts-link : Linked
+two_shifts-link = linked false (code 0x2202 (0xEF000011 ∷ 0 ∷ []) (reloc 4 0x82000000 ∷ reloc 4 0x82000000 ∷ []) ∷ []) []
+
+two_shifts_of_one_word : listed two_shifts-link [] ≡ 0x84 ∷ 0x84 ∷ []
+two_shifts_of_one_word = refl
+
+-- ---- a Thumb entry: SWI 0x11 and B to itself, and then the veneer that the header calls, at 0x84, whose third word is shifted
+
+abbrev thumb_entry-link : Linked
+thumb_entry-link = linked true ((record { name = codes "A"; attributes = 0x102202; size = 4; bytes = bytes_of 0xE7FEDF11 4; relocs = [] }) ∷ []) []
+
+abbrev its_veneer : List Veneer
+its_veneer = (record { region = 0; area = record { object = 0; area = 0 }; offset = 0; thumb = true }) ∷ []
+
+thumb_entry_aif : listed thumb_entry-link its_veneer ≡ 0x8C ∷ []
+thumb_entry_aif = refl
+
+-- ---- what can't be moved: a half-word that names an address, an absolute number that is relative to the area, and a branch
+-- to an absolute symbol; a word that isn't aligned
+
+abbrev absolute : List Symbol
+absolute = (record { name = codes "n"; attributes = 5; value = 0x9000; area = None }) ∷ []
+
+abbrev with : Reloc → Linked
+with r = linked false (code 0x2202 (0xEF000011 ∷ 0xEAFFFFFE ∷ []) (r ∷ []) ∷ []) absolute
+
+narrow : not_relocatable (with (reloc 4 0x81000000)) (placed (with (reloc 4 0x81000000)) []) ≡ Some (NotRelocatable (codes "o") (codes "A") 4)
+narrow = refl
+
+fewer_than_none : not_relocatable (with (reloc 4 0x8E000000)) (placed (with (reloc 4 0x8E000000)) []) ≡ Some (NotRelocatable (codes "o") (codes "A") 4)
+fewer_than_none = refl
+
+to_an_absolute_symbol : not_relocatable (with (reloc 4 0x8F000000)) (placed (with (reloc 4 0x8F000000)) []) ≡ Some (NotRelocatable (codes "o") (codes "A") 4)
+to_an_absolute_symbol = refl
+
+not_aligned : not_relocatable (with (reloc 2 0x82000000)) (placed (with (reloc 2 0x82000000)) []) ≡ Some (NotRelocatable (codes "o") (codes "A") 2)
+not_aligned = refl
+
+-- an absolute number that is added stays as it is
+absolute_number : listed (with (reloc 4 0x8A000000)) [] ≡ []
+absolute_number = refl
