@@ -14,3 +14,10 @@ pub mod ShiftPatched
 pub mod ShiftPlacement
 pub mod ShiftValues
 pub mod ShiftRows
+pub mod MadeAnswerLemmas
+pub mod MadeAssignedLemmas
+pub mod MadePlacedLemmas
+pub mod MadeAddressLemmas
+pub mod MadeVeneerLemmas
+pub mod MadeRegionLemmas
+pub mod MadeAppliedLemmas

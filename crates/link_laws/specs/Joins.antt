@@ -31,10 +31,11 @@ use Rattle.link_veneer.specs.Planning.{planned_veneers}
 use Rattle.link_place.specs.Placed.{placed}
 use Rattle.link_values.specs.Placed.{is_area, base_in, values_in}
 use Rattle.link_apply.specs.Flaws.{apply_refusal}
+use Rattle.link_apply.specs.Laws.{AreBytes}
 use Rattle.link_apply.specs.PatchedBytes.{patched_bytes, veneer_bytes}
 use Rattle.link_apply.specs.Placed.{veneers_at, target_in}
 use Rattle.link_apply.specs.RegionBytes.{entry_of, copy_rows, zero_rows, regions_bytes}
-use Rattle.link_laws.specs.Placing.{bases_of, link_plan, region_with, veneers_in, IsPlacedLink, AreApplied}
+use Rattle.link_laws.specs.Placing.{bases_of, link_plan, IsPlacedLink, AreApplied}
 
 -- ---- a link that is made
 
@@ -47,6 +48,7 @@ pub record IsEntryOf (l : Linked) : Type 0 where
 
 pub record IsMade (k : Kind) (ram : Option (List Range32)) (l : Linked) (a : Assigned) (vs : List Veneer) (p : Placement) : Type 0 where
   pub valid : AllByRecursion (λ o. IsValid o.value) l.objects
+  pub bytes : AllByRecursion (λ o. AllByRecursion (λ z. AreBytes z.bytes) o.value.areas) l.objects
   pub loads : AllByRecursion (λ load. load.base % 4 ≡ 0) (description k)
   pub bases : AllByRecursion (λ r. IsWholeBase r.base) (described_regions k)
   pub entered : IsEntryOf l

@@ -1,6 +1,7 @@
 //! Laws of the definitions, each proved as the contract of an empty function.
 
-ghost use Rattle.link_laws.specs.AifJoins.PlanMoves;
+ghost use Rattle.link_laws.specs.AifJoins.{PlanMoves};
+ghost use Rattle.link_laws.specs.Joins.{MadeHasPlaces, MadeIsApplied, MadeIsPlaced};
 ghost use Rattle.link_laws.specs.Laws.{AppliedAreSized, ObjectsAreShown, ObjectsArePlaced, RangesExist, StatementsStand};
 
 /// Where a plan of valid objects is accepted, each object is placed at the addresses of its areas, and its symbols have
@@ -21,4 +22,12 @@ pub fn objects_are_shown()
 /// A relocatable ARM image file at another base has the plan that it has at its link base, moved there.
 pub fn aif_moves()
     ensures plans { PlanMoves }
+{}
+
+/// A link that is made is placed as the laws on plans ask, at the plan's addresses. Its areas are patched, and its
+/// veneers lead to their targets.
+pub fn made_links()
+    ensures placed { MadeIsPlaced }
+    ensures places { MadeHasPlaces }
+    ensures applied { MadeIsApplied }
 {}
