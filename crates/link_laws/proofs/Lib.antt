@@ -13,7 +13,6 @@ pub mod ShiftAreas
 pub mod ShiftPatched
 pub mod ShiftPlacement
 pub mod ShiftValues
-pub mod ShiftRows
 pub mod MadeAnswerLemmas
 pub mod MadeAssignedLemmas
 pub mod MadePlacedLemmas
@@ -21,3 +20,6 @@ pub mod MadeAddressLemmas
 pub mod MadeVeneerLemmas
 pub mod MadeRegionLemmas
 pub mod MadeAppliedLemmas
+pub mod ShiftLinked
+pub mod ShiftPlaced
+pub mod ShiftRows
