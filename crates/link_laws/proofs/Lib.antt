@@ -22,4 +22,5 @@ pub mod MadeRegionLemmas
 pub mod MadeAppliedLemmas
 pub mod ShiftLinked
 pub mod ShiftPlaced
+pub mod ShiftVeneers
 pub mod ShiftRows

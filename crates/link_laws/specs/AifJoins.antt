@@ -1,10 +1,24 @@
 -- A relocatable AIF starts at every base: its plan, its bytes and its view there are those at its link base, moved. SDT 2.50
 -- Reference Guide, ARM Image Format; the counting of shifts is this project's.
-use Rattle.std.specs.Prelude.{◌≡◌, ℕ, ◌+◌, ◌-◌, ◌*◌, ◌%◌, ◌^◌, ◌==◌, true, if◌then◌else◌, List, [], ◌∷◌, ◌++◌, map, Option}
+use Rattle.std.specs.Prelude.{◌≡◌, ℕ, ◌+◌, ◌-◌, ◌*◌, ◌%◌, ◌^◌, ◌==◌, true, false, if◌then◌else◌, List, [], ◌∷◌, ◌++◌, map, Option, None}
+use Rattle.std.specs.List.{AllByRecursion}
+use Rattle.sdt_word.specs.declared.ranges.Range32.{Range32}
 use Rattle.sdt_word.specs.Bytes.{bytes_of, number_of}
+use Rattle.patch_model.specs.Fields.{Home}
+use Rattle.place_model.specs.declared.scatter.Kind.TheVariants as kind
 use Rattle.place_model.specs.Plans.{Contents, Planned, length_of, zero_length_of, PlannedLoad, Plan, stood_in}
 use Rattle.place_model.specs.Things.{Stood}
 use Rattle.image_model.specs.AifFiles.{aif_plan}
+use Rattle.link_model.specs.declared.placing.Assigned.{Assigned}
+use Rattle.link_model.specs.declared.placing.Placement.{Placement}
+use Rattle.link_model.specs.declared.placing.Veneer.{Veneer}
+use Rattle.link_model.specs.declared.selection.Linked.{Linked}
+use Rattle.link_items.specs.LinkedItems.{contents_of}
+use Rattle.link_place.specs.Placed.{placement_of}
+use Rattle.link_apply.specs.Flaws.{is_far_behind}
+use Rattle.link_apply.specs.Placed.{target_in}
+use Rattle.link_apply.specs.Shifts.{not_relocatable}
+use Rattle.link_laws.specs.Joins.{IsMade}
 
 -- ---- plans
 
@@ -41,3 +55,20 @@ abbrev pub shifted_words : ℕ → (ℕ → ℕ) → ℕ → List ℕ → List �
 shifted_words by shifts at (a ∷ b ∷ c ∷ d ∷ bytes) =
     shifted_word by (shifts at) (a ∷ b ∷ c ∷ d ∷ []) ++ shifted_words by shifts (at + 4) bytes
 shifted_words by shifts at bytes = bytes
+
+-- ---- a link that is made as a relocatable AIF, at another base
+
+abbrev pub placement_at : ℕ → Linked → Assigned → List Veneer → Placement
+placement_at base l a vs = placement_of (aif_plan base true (contents_of l.objects a.regions vs))
+
+abbrev pub home_of : Veneer → Home
+home_of v = record { object = v.area.object; area = v.area.area; offset = v.offset }
+
+-- the branch of each veneer to ARM code reaches its target, which may be outside the image
+abbrev pub VeneersReach : Placement → Type 0
+VeneersReach p = AllByRecursion (λ v. is_far_behind v.veneer.thumb v.address (target_in p (home_of v.veneer)) ≡ false) p.veneers
+
+pub record MayMoveTo (base to : ℕ) (ram : Option (List Range32)) (l : Linked) (a : Assigned) (vs : List Veneer) (p : Placement) : Type 0 where
+  pub made : IsMade (kind.Aif base true) ram l a vs p
+  pub movable : not_relocatable l p ≡ None
+  pub reach : VeneersReach (placement_at to l a vs)
