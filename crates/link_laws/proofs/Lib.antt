@@ -23,4 +23,5 @@ pub mod MadeAppliedLemmas
 pub mod ShiftLinked
 pub mod ShiftPlaced
 pub mod ShiftVeneers
+pub mod ShiftSpread
 pub mod ShiftRows

@@ -13,13 +13,13 @@ use Rattle.link_laws.specs.AifJoins.{moved_region, moved_load, moved_plan, moved
 
 -- ---- things
 
-gap_moves : (origin multiple at by : ℕ) → gap (origin + by) multiple (at + by) ≡ gap origin multiple at
+pub gap_moves : (origin multiple at by : ℕ) → gap (origin + by) multiple (at + by) ≡ gap origin multiple at
 gap_moves origin multiple at by = let e : at + by - (origin + by) ≡ at - origin = omega arith in ap (λ n. (multiple - n % multiple) % multiple) e
 
 start_moves : (origin at by : ℕ) (t : Thing) → start_of (origin + by) (at + by) t ≡ start_of origin at t + by
 start_moves origin at by t = ap (λ n. at + by + n) (gap_moves origin (alignment_of t) at by) ∙ omega arith
 
-next_moves : (origin at by : ℕ) (t : Thing) → start_of (origin + by) (at + by) t + size_of t ≡ start_of origin at t + size_of t + by
+pub next_moves : (origin at by : ℕ) (t : Thing) → start_of (origin + by) (at + by) t + size_of t ≡ start_of origin at t + size_of t + by
 next_moves origin at by t = ap (λ n. n + size_of t) (start_moves origin at by t) ∙ omega arith
 
 pub extent_moves : (origin at by : ℕ) (ts : List Thing) → extent (origin + by) (at + by) ts ≡ extent origin at ts
