@@ -24,4 +24,5 @@ pub mod ShiftLinked
 pub mod ShiftPlaced
 pub mod ShiftVeneers
 pub mod ShiftSpread
+pub mod ShiftNeeds
 pub mod ShiftRows
