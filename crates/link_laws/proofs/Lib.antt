@@ -25,4 +25,5 @@ pub mod ShiftPlaced
 pub mod ShiftVeneers
 pub mod ShiftSpread
 pub mod ShiftNeeds
+pub mod ShiftThings
 pub mod ShiftRows
