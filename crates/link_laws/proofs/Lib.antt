@@ -26,4 +26,5 @@ pub mod ShiftVeneers
 pub mod ShiftSpread
 pub mod ShiftNeeds
 pub mod ShiftThings
+pub mod ShiftMoved
 pub mod ShiftRows

@@ -43,6 +43,20 @@ module _ (count : Stood → ℕ → ℕ) where
       let rest = nothing_behind origin (start_of origin at t + size_of t) ts x all (omega (arith, le)) in
       sum_by-cons (λ z. count z x) s (stood origin (start_of origin at t + size_of t) ts) ∙ omega (arith, first, rest)
 
+  -- the words of each are those that it counts itself
+  pub each_thing : (origin at : ℕ) (ts : List Thing) → AllByRecursion IsInside (stood origin at ts) → (shifts : ℕ → ℕ)
+      → ((x : ℕ) → at ≤ x → x < at + extent origin at ts → shifts x ≡ sum_by (λ s. count s x) (stood origin at ts))
+      → AllByRecursion (λ s. (x : ℕ) → s.address ≤ x → x < s.address + size_of s.thing → shifts x ≡ count s x) (stood origin at ts)
+  each_thing origin at [] all shifts same = tt
+  each_thing origin at (t ∷ ts) (h, all) shifts same = (
+    λ x low high.
+    let rest = nothing_before origin (start_of origin at t + size_of t) ts x all high in
+    same x (omega (arith, low)) (omega (arith, high)) ∙ sum_by-cons (λ z. count z x) (record { thing = t; address = start_of origin at t }) (stood origin (start_of origin at t + size_of t) ts) ∙ omega (arith, rest),
+    each_thing origin (start_of origin at t + size_of t) ts all shifts (λ x low high.
+    let first = h.behind x low in
+    same x (omega (arith, low)) (omega (arith, high)) ∙ sum_by-cons (λ z. count z x) (record { thing = t; address = start_of origin at t }) (stood origin (start_of origin at t + size_of t) ts) ∙ omega (arith, first)),
+  )
+
   module _ (by : ℕ) (held other : Thing → List ℕ) where
     pub record IsShiftedThing (s : Stood) : Type 0 where
       pub inside : IsInside s

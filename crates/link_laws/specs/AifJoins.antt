@@ -1,24 +1,26 @@
 -- A relocatable AIF starts at every base: its plan, its bytes and its view there are those at its link base, moved. SDT 2.50
 -- Reference Guide, ARM Image Format; the counting of shifts is this project's.
-use Rattle.std.specs.Prelude.{◌≡◌, ℕ, ◌+◌, ◌-◌, ◌*◌, ◌%◌, ◌^◌, ◌==◌, true, false, if◌then◌else◌, List, [], ◌∷◌, ◌++◌, map, Option, None}
+use Rattle.std.specs.Prelude.{◌≡◌, ℕ, ◌+◌, ◌-◌, ◌*◌, ◌%◌, ◌^◌, ◌<◌, ◌==◌, true, false, if◌then◌else◌, List, [], ◌∷◌, ◌++◌, length, map, Option, None}
 use Rattle.std.specs.List.{AllByRecursion}
 use Rattle.sdt_word.specs.declared.ranges.Range32.{Range32}
 use Rattle.sdt_word.specs.Bytes.{bytes_of, number_of}
 use Rattle.patch_model.specs.Fields.{Home}
 use Rattle.place_model.specs.declared.scatter.Kind.TheVariants as kind
-use Rattle.place_model.specs.Plans.{Contents, Planned, length_of, zero_length_of, PlannedLoad, Plan, stood_in}
-use Rattle.place_model.specs.Things.{Stood}
+use Rattle.place_model.specs.Plans.{Contents, Planned, length_of, zero_length_of, PlannedLoad, Plan, regions_of, stood_in}
+use Rattle.place_model.specs.Things.{Stood, stood}
 use Rattle.image_model.specs.AifFiles.{aif_plan}
+use Rattle.image_model.specs.Regions.{Filling, region_bytes, filled}
 use Rattle.link_model.specs.declared.placing.Assigned.{Assigned}
 use Rattle.link_model.specs.declared.placing.Placement.{Placement}
 use Rattle.link_model.specs.declared.placing.Veneer.{Veneer}
 use Rattle.link_model.specs.declared.selection.Linked.{Linked}
+use Rattle.link_model.specs.Members.{link_of}
 use Rattle.link_items.specs.LinkedItems.{contents_of}
 use Rattle.link_place.specs.Placed.{placement_of}
 use Rattle.link_apply.specs.Flaws.{is_far_behind}
 use Rattle.link_apply.specs.Placed.{target_in}
-use Rattle.link_apply.specs.Shifts.{not_relocatable}
-use Rattle.link_laws.specs.Joins.{IsMade}
+use Rattle.link_apply.specs.Shifts.{shifts_of, not_relocatable}
+use Rattle.link_laws.specs.Joins.{IsMade, given_in}
 
 -- ---- plans
 
@@ -72,3 +74,24 @@ pub record MayMoveTo (base to : ℕ) (ram : Option (List Range32)) (l : Linked) 
   pub made : IsMade (kind.Aif base true) ram l a vs p
   pub movable : not_relocatable l p ≡ None
   pub reach : VeneersReach (placement_at to l a vs)
+
+-- what its regions hold there, with some header
+abbrev pub filled_at : ℕ → Linked → Assigned → List Veneer → Placement → List ℕ → Filling
+filled_at base l a vs p header = filled (given_in (link_of l) p) (aif_plan base true (contents_of l.objects a.regions vs)) header
+
+-- each area and each veneer has the bytes that it has at the link base, each of whose words is shifted as often as it has
+-- shifts; so have the regions, between things too; and no word of the header has any
+pub record BytesMove : Type 0 where
+  pub things : (base to : ℕ) (ram : Option (List Range32)) (l : Linked) (a : Assigned) (vs : List Veneer) (p : Placement) (header : List ℕ)
+      → MayMoveTo base to ram l a vs p → length header ≡ 128
+      → AllByRecursion (λ r. AllByRecursion (λ s. filled_at to l a vs (placement_at to l a vs) header r s.thing
+      ≡ shifted_words (shift_between base to) (shifts_of (link_of l) p) (s.address - base) (filled_at base l a vs p header r s.thing)) (stood r.origin r.base r.things))
+      (regions_of (aif_plan base true (contents_of l.objects a.regions vs)))
+  pub regions : (base to : ℕ) (ram : Option (List Range32)) (l : Linked) (a : Assigned) (vs : List Veneer) (p : Placement) (header : List ℕ)
+      → MayMoveTo base to ram l a vs p → length header ≡ 128
+      → map (region_bytes (filled_at to l a vs (placement_at to l a vs) header)) (regions_of (aif_plan to true (contents_of l.objects a.regions vs)))
+      ≡ map (λ r. shifted_words (shift_between base to) (shifts_of (link_of l) p) (r.base - base) (region_bytes (filled_at base l a vs p header) r))
+      (regions_of (aif_plan base true (contents_of l.objects a.regions vs)))
+  pub header : (base : ℕ) (ram : Option (List Range32)) (l : Linked) (a : Assigned) (vs : List Veneer) (p : Placement)
+      → IsMade (kind.Aif base true) ram l a vs p → not_relocatable l p ≡ None
+      → (offset : ℕ) → offset < 128 → shifts_of (link_of l) p offset ≡ 0

@@ -1,5 +1,9 @@
+use Rattle.link_laws.proofs.ShiftMoved
 use Rattle.link_laws.proofs.ShiftPlans
 use Rattle.link_laws.proofs.laws.aif_moves.Goals as goal
 
-pub returns : goal.returns
-returns c = record { plans = ShiftPlans.plan_law }
+pub returns-clause-plans : goal.returns-clause-plans
+returns-clause-plans c = ShiftPlans.plan_law
+
+pub returns-clause-bytes : goal.returns-clause-bytes
+returns-clause-bytes c = ShiftMoved.bytes_law
