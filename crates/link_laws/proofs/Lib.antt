@@ -27,4 +27,5 @@ pub mod ShiftSpread
 pub mod ShiftNeeds
 pub mod ShiftThings
 pub mod ShiftMoved
+pub mod ShiftMemory
 pub mod ShiftRows
