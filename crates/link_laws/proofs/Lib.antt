@@ -28,4 +28,5 @@ pub mod ShiftNeeds
 pub mod ShiftThings
 pub mod ShiftMoved
 pub mod ShiftMemory
+pub mod ShiftAif
 pub mod ShiftRows
