@@ -29,4 +29,5 @@ pub mod ShiftThings
 pub mod ShiftMoved
 pub mod ShiftMemory
 pub mod ShiftAif
+pub mod ShiftBoots
 pub mod ShiftRows

@@ -14,7 +14,7 @@ use Rattle.place_model.specs.Faults.{first_told, rootless, overfull, judged, Spa
 use Rattle.place_model.specs.Items.{Item}
 use Rattle.place_model.specs.Laws.{AreWhole}
 use Rattle.place_model.specs.Plans.{Contents, Planned, length_of, zero_length_of, execution_size, Plan, regions_of, is_root, is_copied}
-use Rattle.image_model.specs.AifFiles.{parts_size, zero_size, with_header, aif_plan}
+use Rattle.image_model.specs.AifFiles.{size_in, parts_size, zero_size, with_header, aif_plan}
 use Rattle.image_model.specs.Regions.{Given, AreSized}
 use Rattle.image_laws.specs.AifLaws.{IsAif}
 use Rattle.image_laws.proofs.AifLemmas.{small}
@@ -161,3 +161,7 @@ pub zero_at : (base : ℕ) (c : Contents) → zero_size (aif_plan base true c) �
 zero_at base c = of_zero zero_size (λ by p.
     ap (λ (rs : List Planned). unwrap_or (option_map execution_size (slice_get rs 2)) 0) (regions_move by p)
     ∙ ap (λ (o : Option ℕ). unwrap_or o 0) (size_moves by (regions_of p) 2 execution_size (execution_moves by))) base c
+
+pub first_at : (base : ℕ) (c : Contents) (n : ℕ) → size_in length_of (aif_plan base true c) n ≡ size_in length_of (aif_plan 0 true c) n
+first_at base c n = of_zero (λ p. size_in length_of p n) (λ by p.
+    ap (λ (rs : List Planned). unwrap_or (option_map length_of (slice_get rs n)) 0) (regions_move by p) ∙ ap (λ (o : Option ℕ). unwrap_or o 0) (size_moves by (regions_of p) n length_of (length_moves by))) base c

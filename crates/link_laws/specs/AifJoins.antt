@@ -1,6 +1,6 @@
 -- A relocatable AIF starts at every base: its plan, its bytes and its view there are those at its link base, moved. SDT 2.50
 -- Reference Guide, ARM Image Format; the counting of shifts is this project's.
-use Rattle.std.specs.Prelude.{◌≡◌, ℕ, ◌+◌, ◌-◌, ◌*◌, ◌%◌, ◌^◌, ◌<◌, ◌==◌, true, false, if◌then◌else◌, List, [], ◌∷◌, ◌++◌, length, map, Option, None}
+use Rattle.std.specs.Prelude.{◌≡◌, ℕ, ◌+◌, ◌-◌, ◌*◌, ◌%◌, ◌^◌, ◌<◌, ◌≤◌, ◌==◌, true, false, if◌then◌else◌, List, [], ◌∷◌, ◌++◌, length, map, Option, None}
 use Rattle.std.specs.List.{AllByRecursion}
 use Rattle.sdt_word.specs.declared.ranges.Range32.{Range32}
 use Rattle.sdt_word.specs.Bytes.{bytes_of, number_of}
@@ -8,8 +8,13 @@ use Rattle.patch_model.specs.Fields.{Home}
 use Rattle.place_model.specs.declared.scatter.Kind.TheVariants as kind
 use Rattle.place_model.specs.Plans.{Contents, Planned, length_of, zero_length_of, PlannedLoad, Plan, regions_of, stood_in}
 use Rattle.place_model.specs.Things.{Stood, stood}
-use Rattle.image_model.specs.AifFiles.{aif_plan}
-use Rattle.image_model.specs.Regions.{Filling, region_bytes, filled}
+use Rattle.boot_code.specs.Aif.{ShowsImage}
+use Rattle.boot_code.specs.Boots.{ByteMap}
+use Rattle.place_model.specs.Items.{Item}
+use Rattle.image_model.specs.AifFiles.{parts_size, zero_size, with_header, offsets_of, relocatable_aif, aif_plan}
+use Rattle.image_model.specs.Regions.{Given, Filling, region_bytes, filled}
+use Rattle.image_model.specs.Views.{IsView}
+use Rattle.image_laws.specs.AifLaws.{IsAif}
 use Rattle.link_model.specs.declared.placing.Assigned.{Assigned}
 use Rattle.link_model.specs.declared.placing.Placement.{Placement}
 use Rattle.link_model.specs.declared.placing.Veneer.{Veneer}
@@ -95,3 +100,33 @@ pub record BytesMove : Type 0 where
   pub header : (base : ℕ) (ram : Option (List Range32)) (l : Linked) (a : Assigned) (vs : List Veneer) (p : Placement)
       → IsMade (kind.Aif base true) ram l a vs p → not_relocatable l p ≡ None
       → (offset : ℕ) → offset < 128 → shifts_of (link_of l) p offset ≡ 0
+
+-- ---- its file, at every base
+
+-- what it is made of there, where its header calls what stands at an offset in the image
+abbrev pub given_at : ℕ → Linked → Placement → ℕ → Given
+given_at base l p offset = record (given_in (link_of l) p) { call = base + offset }
+
+abbrev pub moving_list : ℕ → Linked → Assigned → List Veneer → Placement → List ℕ
+moving_list base l a vs p = offsets_of (shifts_of (link_of l) p) (aif_plan base true (contents_of l.objects a.regions vs))
+
+abbrev pub moving_file : ℕ → Linked → Assigned → List Veneer → Placement → ℕ → List ℕ
+moving_file base l a vs p offset =
+    relocatable_aif (aif_plan base true (contents_of l.objects a.regions vs)) base (given_at base l p offset) (shifts_of (link_of l) p)
+
+-- the view of its plan there
+abbrev pub IsViewAt : ℕ → Linked → Assigned → List Veneer → ℕ → ByteMap → Type 0
+IsViewAt to l a vs offset view =
+    IsView (aif_plan to true (contents_of l.objects a.regions vs))
+    (with_header false (aif_plan to true (contents_of l.objects a.regions vs)) to (given_at to l (placement_at to l a vs) offset)) view
+
+-- at another base that leaves room, the file becomes that view
+abbrev pub MovedImageShows : Type 0
+MovedImageShows =
+    (base to : ℕ) (ram : Option (List Range32)) (l : Linked) (a : Assigned) (vs : List Veneer) (p : Placement) (items : List Item) (offset : ℕ) (view : ByteMap)
+    → MayMoveTo base to ram l a vs p → IsAif base true (contents_of l.objects a.regions vs) items (given_at base l p offset) ram
+    → to % 4 ≡ 0
+    → to + parts_size (aif_plan base true (contents_of l.objects a.regions vs)) + zero_size (aif_plan base true (contents_of l.objects a.regions vs)) ≤ 2 ^ 32
+    → IsViewAt to l a vs offset view
+    → ShowsImage (moving_file base l a vs p offset) (parts_size (aif_plan base true (contents_of l.objects a.regions vs)))
+    (zero_size (aif_plan base true (contents_of l.objects a.regions vs))) base (moving_list base l a vs p) to view
