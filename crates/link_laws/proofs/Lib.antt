@@ -30,4 +30,5 @@ pub mod ShiftMoved
 pub mod ShiftMemory
 pub mod ShiftAif
 pub mod ShiftBoots
+pub mod ShiftStarts
 pub mod ShiftRows

@@ -352,7 +352,7 @@ module _ (base to : ℕ) (ram : Option (List Range32)) (l : Linked) (a : Assigne
         ∙ ap (λ n. Some (store (moved_image (shifted_file file to) to base (offsets_of shifts here)) (to + n) (zeros (zero_size there)) x)) same_parts
         ∙ ap (λ n. Some (store (moved_image (shifted_file file to) to base (offsets_of shifts here)) (to + parts_size here) (zeros n) x)) same_zero
 
-    shows : ShowsImage file (parts_size here) (zero_size here) base (moving_list base l a vs p) to view
+    pub shows : ShowsImage file (parts_size here) (zero_size here) base (moving_list base l a vs p) to view
     shows =
         let parts = same_parts in let cleared = same_zero in
         record {

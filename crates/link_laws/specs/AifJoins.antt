@@ -1,6 +1,6 @@
 -- A relocatable AIF starts at every base: its plan, its bytes and its view there are those at its link base, moved. SDT 2.50
 -- Reference Guide, ARM Image Format; the counting of shifts is this project's.
-use Rattle.std.specs.Prelude.{◌≡◌, ℕ, ◌+◌, ◌-◌, ◌*◌, ◌%◌, ◌^◌, ◌<◌, ◌≤◌, ◌==◌, true, false, if◌then◌else◌, List, [], ◌∷◌, ◌++◌, length, map, Option, None}
+use Rattle.std.specs.Prelude.{◌≡◌, ◌≢◌, ℕ, ◌+◌, ◌-◌, ◌*◌, ◌%◌, ◌^◌, ◌<◌, ◌≤◌, ◌==◌, true, false, if◌then◌else◌, List, [], ◌∷◌, ◌++◌, length, map, Option, None}
 use Rattle.std.specs.List.{AllByRecursion}
 use Rattle.sdt_word.specs.declared.ranges.Range32.{Range32}
 use Rattle.sdt_word.specs.Bytes.{bytes_of, number_of}
@@ -8,8 +8,9 @@ use Rattle.patch_model.specs.Fields.{Home}
 use Rattle.place_model.specs.declared.scatter.Kind.TheVariants as kind
 use Rattle.place_model.specs.Plans.{Contents, Planned, length_of, zero_length_of, PlannedLoad, Plan, regions_of, stood_in}
 use Rattle.place_model.specs.Things.{Stood, stood}
-use Rattle.boot_code.specs.Aif.{ShowsImage}
+use Rattle.boot_code.specs.Aif.{ShowsImage, BootsAif, aif_bound}
 use Rattle.boot_code.specs.Boots.{ByteMap}
+use Rattle.byte_maps.specs.Maps.{Holds, bytes_of_words}
 use Rattle.place_model.specs.Items.{Item}
 use Rattle.image_model.specs.AifFiles.{parts_size, zero_size, with_header, offsets_of, relocatable_aif, aif_plan}
 use Rattle.image_model.specs.Regions.{Given, Filling, region_bytes, filled}
@@ -130,3 +131,43 @@ MovedImageShows =
     → IsViewAt to l a vs offset view
     → ShowsImage (moving_file base l a vs p offset) (parts_size (aif_plan base true (contents_of l.objects a.regions vs)))
     (zero_size (aif_plan base true (contents_of l.objects a.regions vs))) base (moving_list base l a vs p) to view
+
+-- a base at which there is room for the file and for the zero part
+pub record HasRoomAt (file : List ℕ) (parts zero to : ℕ) : Type 0 where
+  pub whole : to % 4 ≡ 0
+  pub file_room : to + length file ≤ 2 ^ 32
+  pub zero_room : to + parts + zero ≤ 2 ^ 32
+
+-- a link that is made as a relocatable AIF, whose header calls what stands at an offset, with its view at each such base
+pub record IsMovingImage (base : ℕ) (ram : Option (List Range32)) (l : Linked) (a : Assigned) (vs : List Veneer) (p : Placement) (items : List Item) (offset : ℕ)
+    (view : ℕ → ByteMap) : Type 0 where
+  pub made : IsMade (kind.Aif base true) ram l a vs p
+  pub movable : not_relocatable l p ≡ None
+  pub image : IsAif base true (contents_of l.objects a.regions vs) items (given_at base l p offset) ram
+  pub reach : (to : ℕ) → HasRoomAt (moving_file base l a vs p offset) (parts_size (aif_plan base true (contents_of l.objects a.regions vs)))
+      (zero_size (aif_plan base true (contents_of l.objects a.regions vs))) to → VeneersReach (placement_at to l a vs)
+  pub shows : (to : ℕ) → HasRoomAt (moving_file base l a vs p offset) (parts_size (aif_plan base true (contents_of l.objects a.regions vs)))
+      (zero_size (aif_plan base true (contents_of l.objects a.regions vs))) to → IsViewAt to l a vs offset (view to)
+
+-- it goes by a veneer in its parts, which leads to an entry
+pub record EntersByVeneer (parts offset entry to : ℕ) (view : ByteMap) : Type 0 where
+  pub inside : offset + 12 ≤ parts
+  pub shows : Holds view (to + offset) (bytes_of_words (0xE59FC000 ∷ 0xE12FFF1C ∷ entry ∷ []))
+  pub small : entry < 2 ^ 32
+  pub fair : entry % 4 ≢ 2
+
+-- it boots from each such base, to what is called in ARM state, or by a veneer
+pub record MovedImageBoots : Type 0 where
+  pub in_arm : (base : ℕ) (ram : Option (List Range32)) (l : Linked) (a : Assigned) (vs : List Veneer) (p : Placement) (items : List Item) (offset : ℕ) (view : ℕ → ByteMap)
+      → IsMovingImage base ram l a vs p items offset view
+      → BootsAif (moving_file base l a vs p offset) (parts_size (aif_plan base true (contents_of l.objects a.regions vs)))
+      (zero_size (aif_plan base true (contents_of l.objects a.regions vs))) view
+      (aif_bound (length (moving_list base l a vs p)) (zero_size (aif_plan base true (contents_of l.objects a.regions vs)))) (λ to. to + offset)
+  pub by_veneer : (base : ℕ) (ram : Option (List Range32)) (l : Linked) (a : Assigned) (vs : List Veneer) (p : Placement) (items : List Item) (offset : ℕ) (view : ℕ → ByteMap)
+      (entry : ℕ → ℕ) → IsMovingImage base ram l a vs p items offset view
+      → ((to : ℕ) → HasRoomAt (moving_file base l a vs p offset) (parts_size (aif_plan base true (contents_of l.objects a.regions vs)))
+      (zero_size (aif_plan base true (contents_of l.objects a.regions vs))) to
+      → EntersByVeneer (parts_size (aif_plan base true (contents_of l.objects a.regions vs))) offset (entry to) to (view to))
+      → BootsAif (moving_file base l a vs p offset) (parts_size (aif_plan base true (contents_of l.objects a.regions vs)))
+      (zero_size (aif_plan base true (contents_of l.objects a.regions vs))) view
+      (aif_bound (length (moving_list base l a vs p)) (zero_size (aif_plan base true (contents_of l.objects a.regions vs)))) entry
