@@ -1,19 +1,17 @@
 -- A relocatable AIF is one at every base that leaves room.
-use Rattle.std.proofs.Common.{◌≡◌, ℕ, zero, suc, ◌+◌, ◌-◌, ◌*◌, ◌%◌, ◌^◌, ◌<◌, ◌≤◌, Bool, true, false, not, ◌&&◌, ◌==◌, if◌then◌else◌, min, max, List, [], ◌∷◌, length, map, refl, sym, ap, subst, ◌∙◌, arith, eq-eqb, Option, Some, None}
+use Rattle.std.proofs.Common.{◌≡◌, ℕ, zero, suc, ◌+◌, ◌-◌, ◌%◌, ◌^◌, ◌≤◌, Bool, true, false, ◌==◌, min, max, List, [], ◌∷◌, map, refl, sym, ap, ◌∙◌, arith, eq-eqb, Option, Some, None}
 use Rattle.std.specs.Prelude.{nat_lt, sum_by, slice_get, unwrap_or}
-use Rattle.std.specs.List.{filter, filter_map, AllByRecursion}
 use Rattle.std.specs.Option.{option_map, option_or}
 use Rattle.std.proofs.lemmas.Bool.{le-ltb}
 use Rattle.std.proofs.lemmas.List.Sums.{sum_by-cons}
 use Rattle.sdt_word.specs.declared.ranges.Range32.{Range32}
-use Rattle.sdt_fault.specs.declared.refusal.Refusal.{Refusal}
 use Rattle.place_model.specs.declared.scatter.Kind.{Kind}
 use Rattle.place_model.specs.declared.scatter.Kind.TheVariants as kind
 use Rattle.place_model.specs.Assignment.{AreAssigned}
 use Rattle.place_model.specs.Faults.{first_told, rootless, overfull, judged, Span, shared, overlap, copy_conflict, image_bytes, too_large, aif_too_large, as_overlap, as_conflict, execution_span, place_refusal}
 use Rattle.place_model.specs.Items.{Item}
 use Rattle.place_model.specs.Laws.{AreWhole}
-use Rattle.place_model.specs.Plans.{Contents, Planned, length_of, zero_length_of, execution_size, Plan, regions_of, is_root, is_copied}
+use Rattle.place_model.specs.Plans.{Contents, Planned, length_of, zero_length_of, execution_size, Plan, regions_of, is_copied}
 use Rattle.image_model.specs.AifFiles.{size_in, parts_size, zero_size, with_header, aif_plan}
 use Rattle.image_model.specs.Regions.{Given, AreSized}
 use Rattle.image_laws.specs.AifLaws.{IsAif}

@@ -1,23 +1,16 @@
 -- The bytes of an area where the image is moved.
-use Rattle.std.proofs.Common.{◌≡◌, ◌≢◌, ◌⊎◌, inl, inr, ℕ, zero, suc, ◌+◌, ◌*◌, ◌-◌, ◌/◌, ◌%◌, ◌^◌, ◌<◌, ◌≤◌, Bool, true, false, cond, not, ◌&&◌, ◌==◌, if◌then◌else◌, List, [], ◌∷◌, ◌++◌, length, refl, sym, ap, subst, ◌∙◌, arith, eqb-true, Option, Some, None}
-use Rattle.std.specs.Prelude.{nat_lt, nat_le, slice_get, is_some}
-use Rattle.std.specs.List.{filter, find, AllByRecursion}
-use Rattle.std.specs.Option.{option_map}
-use Rattle.std.proofs.lemmas.Bool.{and_parts, and_from, not-false, ltb-true, ltb-false, leb-true, lt-ltb, le-leb, ne_eqb, cases_lt}
+use Rattle.std.proofs.Common.{◌≡◌, ◌≢◌, ◌⊎◌, inl, inr, ℕ, zero, suc, ◌+◌, ◌*◌, ◌-◌, ◌/◌, ◌%◌, ◌^◌, ◌<◌, ◌≤◌, Bool, true, false, cond, not, ◌&&◌, ◌==◌, if◌then◌else◌, List, [], ◌∷◌, ◌++◌, length, refl, sym, ap, ◌∙◌, arith, eqb-true, Option, Some, None}
+use Rattle.std.specs.Prelude.{nat_lt, nat_le, slice_get}
+use Rattle.std.specs.List.{filter, find}
+use Rattle.std.proofs.lemmas.Bool.{and_parts, and_from, ltb-true, leb-true, lt-ltb, le-leb, ne_eqb}
 use Rattle.sdt_word.specs.Bytes.{bytes_of, number_of}
 use Rattle.aof_object.specs.declared.records.Area.{Area}
 use Rattle.aof_object.specs.declared.records.Reloc.{Reloc}
-use Rattle.patch_model.specs.Fields.{Kind, Byte, Half, Word, Branch, Field, Values, field_of, kind_of, is_field, is_same_kind, directives, size_of}
-use Rattle.patch_model.specs.Patched.{Way, Directly, ByVeneer, way_of}
-use Rattle.place_model.proofs.ListLemmas.{all_filter}
+use Rattle.patch_model.specs.Fields.{Kind, Byte, Half, Word, Branch, Field, Values, field_of, is_same_kind, size_of}
 use Rattle.link_model.specs.declared.placing.Placement.{Placement}
-use Rattle.link_apply.specs.Placed.{veneers_at}
-use Rattle.link_apply.specs.Flaws.{overlaps, lacks_veneer}
-use Rattle.link_apply.specs.PatchedBytes.{patched_number, has_byte, byte_by, patched_from, patched_bytes}
-use Rattle.link_apply.specs.Shifts.{gains, losses, word_shifts, has_bad_shifts}
-use Rattle.link_laws.specs.AifJoins.{shift_between, shifted_word, shifted_words}
-use Rattle.link_laws.proofs.ShiftSums.{IsMovedIn}
-use Rattle.link_laws.proofs.ShiftFields.{IsMovedImage, HasWay, way_moves, number_stays, word_number}
+use Rattle.link_apply.specs.Flaws.{overlaps}
+use Rattle.link_apply.specs.PatchedBytes.{patched_number, has_byte, byte_by, patched_from}
+use Rattle.link_laws.specs.AifJoins.{shifted_word, shifted_words}
 
 -- ---- lists
 

@@ -1,34 +1,28 @@
 -- The file of a relocatable AIF becomes its view at every base.
-use Rattle.std.proofs.Common.{◌≡◌, ◌≢◌, ◌⊎◌, inl, inr, ℕ, zero, suc, ◌+◌, ◌-◌, ◌*◌, ◌/◌, ◌%◌, ◌^◌, ◌<◌, ◌≤◌, Bool, true, false, not, ◌==◌, if◌then◌else◌, List, [], ◌∷◌, ◌++◌, length, length-append, append_assoc, map, refl, sym, ap, subst, ◌∙◌, arith, eq-eqb, eqb-true, Option, Some, None}
+use Rattle.std.proofs.Common.{◌≡◌, ℕ, ◌+◌, ◌-◌, ◌*◌, ◌/◌, ◌%◌, ◌^◌, ◌<◌, ◌≤◌, Bool, true, false, not, ◌==◌, if◌then◌else◌, List, [], ◌∷◌, ◌++◌, length, length-append, append_assoc, map, refl, sym, ap, ◌∙◌, arith, Option, Some, None}
 use Rattle.std.specs.Prelude.{slice_index, slice_get, unwrap_or, is_some}
 use Rattle.std.specs.List.{filter, flat_map, AllByRecursion}
-use Rattle.std.proofs.lemmas.Bool.{cases_lt, ne_eqb}
 use Rattle.std.proofs.lemmas.List.{get_or_append_left}
-use Rattle.std.proofs.Math.Seq.{get_or-append_right}
 use Rattle.base_lemmas.proofs.BaseLemmas.{all_append, all_weaker, same}
 use Rattle.sdt_word.specs.Bytes.{bytes_of}
 use Rattle.sdt_word.specs.declared.ranges.Range32.{Range32}
-use Rattle.sdt_word.proofs.BytesLemmas.{length-bytes_of}
-use Rattle.arm7_model.specs.Memory.{Bytes, store}
+use Rattle.arm7_model.specs.Memory.{store}
 use Rattle.boot_code.specs.Aif.{ShowsImage, marked, moved_image, started_image, relocated, shifted_file}
 use Rattle.boot_code.specs.Boots.{ByteMap}
 use Rattle.boot_code.specs.Startup.{zeros}
 use Rattle.boot_code.specs.Words.{zero_list, relocator_list}
 use Rattle.byte_maps.specs.Maps.{bytes_of_words}
-use Rattle.place_model.specs.declared.scatter.Kind.{Kind}
 use Rattle.place_model.specs.declared.scatter.Kind.TheVariants as kind
 use Rattle.place_model.specs.Items.{Item, is_zero_initialised}
 use Rattle.place_model.specs.Laws.{IsWholeRegion}
-use Rattle.place_model.specs.Plans.{Contents, RegionVeneer, areas_in, veneers_in, Planned, length_of, zero_length_of, execution_size, zero_base_of, Plan, regions_of}
-use Rattle.place_model.specs.Things.{Thing, Header, AnArea, AVeneer, Startup, alignment_of, size_of, gap, start_of, Stood, stood}
+use Rattle.place_model.specs.Plans.{Contents, RegionVeneer, areas_in, veneers_in, Planned, length_of, zero_length_of, Plan, regions_of}
+use Rattle.place_model.specs.Things.{Thing, Header, AnArea, AVeneer, Startup, alignment_of, size_of, gap, start_of, stood}
 use Rattle.place_model.proofs.ListLemmas.{all_at, all_indexed, all_map}
 use Rattle.place_model.proofs.PlanLemmas.{whole_law}
-use Rattle.image_model.specs.AifFiles.{size_in, call_from, parts_size, zero_size, header_words, with_header, parts_bytes, shifted_offsets, offsets_of, relocatable_aif, aif_plan}
+use Rattle.image_model.specs.AifFiles.{size_in, call_from, parts_size, zero_size, header_words, with_header, parts_bytes, offsets_of, aif_plan}
 use Rattle.image_model.specs.Regions.{Given, Filling, laid, region_bytes, AreSized, filled}
-use Rattle.image_model.specs.Views.{IsView}
 use Rattle.image_laws.specs.AifLaws.{IsAif}
 use Rattle.image_laws.proofs.AifLemmas.{no_length_2}
-use Rattle.image_laws.proofs.AifMoved.{own_base_law}
 use Rattle.image_laws.proofs.AifViews.{started, within}
 use Rattle.image_laws.proofs.PlainLemmas.{r0, r1, r2, zero_0, zero_1}
 use Rattle.image_laws.proofs.ViewLemmas.{bytes_size}
@@ -40,7 +34,7 @@ use Rattle.link_model.specs.Members.{link_of, objects_in}
 use Rattle.link_model.specs.RegionValues.{region_number}
 use Rattle.link_items.specs.LinkedItems.{contents_of}
 use Rattle.link_apply.specs.Shifts.{shifts_of}
-use Rattle.link_laws.specs.AifJoins.{shift_between, shifted_words, placement_at, MayMoveTo, filled_at, given_at, moving_list, moving_file, IsViewAt, MovedImageShows}
+use Rattle.link_laws.specs.AifJoins.{shift_between, shifted_words, placement_at, MayMoveTo, filled_at, given_at, moving_list, moving_file, IsViewAt}
 use Rattle.link_laws.specs.Joins.{given_in}
 use Rattle.link_laws.proofs.MadeAppliedLemmas.{made_is_applied}
 use Rattle.link_laws.proofs.MadePlacedLemmas.{made_is_placed}

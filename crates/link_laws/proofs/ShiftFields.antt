@@ -1,10 +1,10 @@
 -- What a field holds where the image is moved: its word, shifted as often as it has shifts; a branch moves with its target.
-use Rattle.std.proofs.Common.{◌≡◌, ℕ, zero, suc, ◌+◌, ◌-◌, ◌*◌, ◌/◌, ◌%◌, ◌^◌, ◌<◌, ◌≤◌, Bool, true, false, not, ◌&&◌, if◌then◌else◌, List, [], ◌∷◌, refl, sym, ap, ◌∙◌, arith, Option, Some, None}
+use Rattle.std.proofs.Common.{◌≡◌, ℕ, ◌+◌, ◌-◌, ◌*◌, ◌%◌, ◌^◌, ◌≤◌, Bool, false, not, if◌then◌else◌, List, refl, sym, ap, ◌∙◌, arith, Option, Some, None}
 use Rattle.std.specs.Prelude.{count_by, unwrap_or}
 use Rattle.std.specs.List.{AllByRecursion}
 use Rattle.std.specs.Option.{option_map, is_some}
 use Rattle.aof_object.specs.declared.records.Reloc.{Reloc}
-use Rattle.patch_model.specs.Fields.{Kind, Byte, Half, Word, Branch, Field, Home, Meant, Values, is_relative, added, taken, size_of, number_in}
+use Rattle.patch_model.specs.Fields.{Kind, Byte, Half, Word, Branch, Field, Home, Meant, Values, is_relative, added, taken, number_in}
 use Rattle.patch_model.specs.Patched.{total, span, middle, ahead, Way, Directly, ByVeneer, first_symbol, other_state, way_home, way_to, way_of}
 use Rattle.link_model.specs.declared.placing.Placement.{Placement}
 use Rattle.link_apply.specs.Placed.{veneers_at}

@@ -1,5 +1,5 @@
 -- The areas of linked objects where the image is moved.
-use Rattle.std.proofs.Common.{◌≡◌, ◌⊎◌, inl, inr, ℕ, zero, suc, ◌+◌, ◌-◌, ◌%◌, ◌^◌, ◌<◌, ◌≤◌, Bool, true, false, cond, not, ◌&&◌, ◌||◌, ◌==◌, if◌then◌else◌, List, [], ◌∷◌, ◌++◌, length, map, refl, sym, ap, subst, ◌∙◌, arith, eqb-true, Option, Some, None}
+use Rattle.std.proofs.Common.{◌≡◌, ℕ, zero, suc, ◌+◌, ◌-◌, ◌%◌, ◌^◌, ◌<◌, ◌≤◌, Bool, true, false, not, ◌&&◌, ◌||◌, ◌==◌, if◌then◌else◌, List, [], ◌∷◌, ◌++◌, length, refl, sym, ap, subst, ◌∙◌, arith, eqb-true, Option, Some, None}
 use Rattle.std.specs.Prelude.{slice_get, is_some, IsSomeAnd}
 use Rattle.std.specs.List.{filter_map, flat_map, find, list_any, AllByRecursion}
 use Rattle.std.specs.Option.{option_map, option_and_then}
@@ -7,7 +7,6 @@ use Rattle.std.proofs.lemmas.Bool.{or_parts, ltb-false}
 use Rattle.std.proofs.lemmas.Option.{slice_get-map}
 use Rattle.base_lemmas.proofs.BaseLemmas.{both_true, came_through, same}
 use Rattle.sdt_word.specs.Numbers.{bit}
-use Rattle.sdt_fault.specs.declared.refusal.Refusal.{Refusal}
 use Rattle.sdt_fault.specs.declared.refusal.Refusal.TheVariants.{NotRelocatable}
 use Rattle.aof_object.specs.declared.areas.AreaHead.{AreaHead}
 use Rattle.aof_object.specs.declared.records.Area.{Area}
@@ -25,11 +24,10 @@ use Rattle.link_model.specs.declared.placing.Placement.{Placement}
 use Rattle.link_model.specs.declared.selection.Linked.{Linked}
 use Rattle.link_model.specs.declared.selection.Named.{Named}
 use Rattle.link_model.specs.Meaning.{symbol_of}
-use Rattle.link_model.specs.Members.{Link, link_of, objects_in}
+use Rattle.link_model.specs.Members.{link_of, objects_in}
 use Rattle.link_model.specs.RegionValues.{area_of}
 use Rattle.link_model.specs.Values.{home_area}
 use Rattle.link_values.specs.Placed.{is_area, base_in, values_in}
-use Rattle.link_apply.specs.declared.flaws.Flaw.{Flaw}
 use Rattle.link_apply.specs.declared.flaws.Flaw.TheVariants.{Form}
 use Rattle.link_apply.specs.Flaws.{overlaps, is_of_itself, is_based, is_outside, has_bad_field, is_only, lacks_veneer, branch_flaw, way_flaw, veneer_of, goal_of, value_flaw, flaw_of, told, refusal_of, refusals_in, refusals_at, apply_refusal}
 use Rattle.link_apply.specs.PatchedBytes.{patched_bytes}
@@ -41,7 +39,7 @@ use Rattle.link_laws.specs.Joins.{area_bytes, area_given}
 use Rattle.link_laws.proofs.ListLemmas.{each_at}
 use Rattle.link_laws.proofs.ItemLemmas.{area_valid}
 use Rattle.link_laws.proofs.ShiftSums.{IsMovedIn}
-use Rattle.link_laws.proofs.ShiftAreas.{IsFound, first_found}
+use Rattle.link_laws.proofs.ShiftAreas.{first_found}
 use Rattle.link_laws.proofs.ShiftPatched.{MayMove, patched_shifts}
 use Rattle.link_laws.proofs.ShiftPlacement.{moved_area, moved_placement, find_area_moves, base_moves}
 use Rattle.link_laws.proofs.ShiftValues.{names_same, image_moves, reloc_moves}

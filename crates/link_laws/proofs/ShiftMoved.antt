@@ -1,28 +1,28 @@
 -- The bytes of a relocatable AIF at another base.
-use Rattle.std.proofs.Common.{◌≡◌, ◌⊎◌, inl, inr, ℕ, zero, suc, ◌+◌, ◌-◌, ◌*◌, ◌%◌, ◌^◌, ◌<◌, ◌≤◌, Bool, true, false, not, ◌||◌, ◌==◌, List, [], ◌∷◌, ◌++◌, length, map, refl, sym, ap, subst, ◌∙◌, arith, codes, Option, Some, None}
-use Rattle.std.specs.Prelude.{nat_lt, nat_le, slice_get, is_some, sum_by}
-use Rattle.std.specs.List.{find, flat_map, AllByRecursion}
+use Rattle.std.proofs.Common.{◌≡◌, ℕ, ◌+◌, ◌-◌, ◌*◌, ◌%◌, ◌^◌, ◌<◌, ◌≤◌, Bool, true, false, not, ◌||◌, List, [], ◌∷◌, length, map, refl, sym, ap, subst, ◌∙◌, arith, codes, Option, Some, None}
+use Rattle.std.specs.Prelude.{nat_lt, nat_le, slice_get, sum_by}
+use Rattle.std.specs.List.{AllByRecursion}
 use Rattle.std.specs.Option.{option_map}
-use Rattle.std.proofs.lemmas.Bool.{cases_lt, le-ltb, lt-leb}
-use Rattle.base_lemmas.proofs.BaseLemmas.{all_front, all_weaker, same}
+use Rattle.std.proofs.lemmas.Bool.{le-ltb, lt-leb}
+use Rattle.base_lemmas.proofs.BaseLemmas.{all_weaker, same}
 use Rattle.sdt_word.specs.declared.ranges.Range32.{Range32}
 use Rattle.patch_model.specs.Fields.{Home}
-use Rattle.patch_model.specs.Patched.{span, middle, ahead}
+use Rattle.patch_model.specs.Patched.{span}
 use Rattle.patch_model.specs.Reaches.{HasVeneer}
 use Rattle.place_model.specs.declared.scatter.Kind.{Kind}
 use Rattle.place_model.specs.declared.scatter.Kind.TheVariants as kind
 use Rattle.place_model.specs.declared.scatter.Choice.TheVariants as choice
 use Rattle.place_model.specs.declared.scatter.ScatterBase.TheVariants.{At}
 use Rattle.place_model.specs.Assignment.{class_region}
-use Rattle.place_model.specs.Items.{Item, is_zero_initialised}
-use Rattle.place_model.specs.Laws.{AreWhole, IsWholeRegion, IsWholeItem}
-use Rattle.place_model.specs.Plans.{Contents, areas_in, Planned, planned, zero_base_of, end_of, length_of, Plan, regions_of, stood_in, is_startup}
+use Rattle.place_model.specs.Items.{is_zero_initialised}
+use Rattle.place_model.specs.Laws.{IsWholeRegion, IsWholeItem}
+use Rattle.place_model.specs.Plans.{Contents, areas_in, Planned, planned, zero_base_of, end_of, Plan, regions_of, is_startup}
 use Rattle.place_model.specs.Things.{Thing, Header, AnArea, AVeneer, Startup, size_of, Stood, stood}
-use Rattle.place_model.proofs.GapLemmas.{IsWhole, whole_area, whole_header, whole_veneer, whole_startup}
-use Rattle.place_model.proofs.ListLemmas.{all_at, all_indexed, pairs_at}
+use Rattle.place_model.proofs.GapLemmas.{whole_area, whole_header, whole_veneer}
+use Rattle.place_model.proofs.ListLemmas.{all_at, all_indexed}
 use Rattle.place_model.proofs.PlanLemmas.{whole_law}
 use Rattle.image_model.specs.AifFiles.{aif_plan}
-use Rattle.image_model.specs.Regions.{Given, Filling, laid, region_bytes, AreSized, filled}
+use Rattle.image_model.specs.Regions.{Filling, laid, region_bytes, AreSized}
 use Rattle.image_laws.proofs.FileLemmas.{rooms}
 use Rattle.link_model.specs.declared.placing.Assigned.{Assigned}
 use Rattle.link_model.specs.declared.placing.Placement.{Placement}
@@ -34,13 +34,12 @@ use Rattle.link_model.specs.Veneers.{veneers_of, IsIn}
 use Rattle.link_model.proofs.NeedLemmas.{veneers_law}
 use Rattle.link_items.specs.LinkedItems.{contents_of}
 use Rattle.link_place.specs.Placed.{placement_of}
-use Rattle.link_values.specs.Placed.{base_in}
-use Rattle.link_apply.specs.Flaws.{apply_refusal, is_far_behind}
+use Rattle.link_apply.specs.Flaws.{is_far_behind}
 use Rattle.link_apply.specs.Placed.{veneers_at, target_in}
 use Rattle.link_apply.specs.Shifts.{image_base, shifts_at, shifts_of, not_relocatable}
-use Rattle.link_laws.specs.AifJoins.{moved_region, shift_between, shifted_words, placement_at, VeneersReach, MayMoveTo, filled_at, BytesMove}
+use Rattle.link_laws.specs.AifJoins.{moved_region, shift_between, shifted_words, placement_at, VeneersReach, filled_at, BytesMove}
 use Rattle.link_laws.specs.Joins.{IsMade, given_in}
-use Rattle.link_laws.specs.Placing.{bases_of, link_plan, IsPlacedLink, IsVeneerApplied}
+use Rattle.link_laws.specs.Placing.{bases_of, IsPlacedLink, IsVeneerApplied}
 use Rattle.link_laws.proofs.ItemLemmas.{IsOwn, items_own, own_whole}
 use Rattle.link_laws.proofs.MadeAddressLemmas.{veneers_there}
 use Rattle.link_laws.proofs.MadeAppliedLemmas.{places, made_is_applied}
@@ -50,7 +49,7 @@ use Rattle.link_laws.proofs.PlacedLemmas.{IsLoaded, IsCleared, loaded, cleared, 
 use Rattle.link_laws.proofs.RegionLemmas.{IsShaped, things_all, header_all, IsWithin}
 use Rattle.link_laws.proofs.ShiftLinked.{IsWholeImage}
 use Rattle.link_laws.proofs.ShiftNeeds.{target_there, reach_there}
-use Rattle.link_laws.proofs.ShiftPlaced.{aif_placement, is_placed_link, is_moved, base_whole, whole_image}
+use Rattle.link_laws.proofs.ShiftPlaced.{aif_placement, is_placed_link, is_moved, whole_image}
 use Rattle.link_laws.proofs.ShiftPlacement.{moved_placement, veneers_move}
 use Rattle.link_laws.proofs.ShiftPlans.{plan_law, regions_move}
 use Rattle.link_laws.proofs.ShiftSpread.{laid_moves, IsInside, IsShiftedThing, laid_shifted, each_thing, AreFrom, IsInsideRegion, each_region}
@@ -111,7 +110,7 @@ module _ (base : ℕ) (ram : Option (List Range32)) (l : Linked) (a : Assigned) 
         loads = made.loads;
         regions = made.bases;
         items = all_weaker (λ areas. AllByRecursion (IsOwn l.objects) areas) (λ areas. AllByRecursion IsWholeItem areas)
-        (λ areas all. all_weaker (IsOwn l.objects) IsWholeItem (own_whole l.objects made.valid) areas all) c.areas (items_own l.objects a.regions vs);
+            (λ areas all. all_weaker (IsOwn l.objects) IsWholeItem (own_whole l.objects made.valid) areas all) c.areas (items_own l.objects a.regions vs);
       })
 
   -- ---- what stands in a region

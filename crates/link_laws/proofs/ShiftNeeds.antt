@@ -1,8 +1,8 @@
 -- The targets of veneers stand in areas that are placed.
-use Rattle.std.proofs.Common.{◌≡◌, ◌⊎◌, inl, inr, ℕ, zero, suc, ◌+◌, ◌%◌, ◌^◌, ◌<◌, Bool, true, false, cond, not, ◌&&◌, ◌==◌, if◌then◌else◌, List, [], ◌∷◌, length, refl, sym, ap, subst, ◌∙◌, arith, eqb-true, Option, Some, None}
+use Rattle.std.proofs.Common.{◌≡◌, inl, inr, ℕ, zero, suc, ◌+◌, ◌<◌, Bool, true, false, not, ◌&&◌, ◌==◌, if◌then◌else◌, List, [], ◌∷◌, refl, sym, ap, subst, ◌∙◌, eqb-true, Option, Some, None}
 use Rattle.std.specs.Prelude.{slice_get, is_some, IsSomeAnd}
-use Rattle.std.specs.List.{find, AllByRecursion}
-use Rattle.std.specs.Option.{option_map, option_and_then}
+use Rattle.std.specs.List.{find}
+use Rattle.std.specs.Option.{option_map}
 use Rattle.std.proofs.lemmas.Option.{slice_get-map}
 use Rattle.base_lemmas.proofs.BaseLemmas.{both_true, same}
 use Rattle.aof_object.specs.declared.areas.AreaHead.{AreaHead}
@@ -10,21 +10,19 @@ use Rattle.aof_object.specs.declared.records.Area.{Area}
 use Rattle.aof_object.specs.declared.records.Reloc.{Reloc}
 use Rattle.aof_object.specs.declared.records.Symbol.{Symbol}
 use Rattle.aof_object.specs.Checks.{left_over}
-use Rattle.aof_object.specs.Objects.{exported}
 use Rattle.aof_object.specs.Validity.{IsValid, IsEntered, head_of, heads}
-use Rattle.patch_model.specs.Fields.{Kind as FieldKind, Byte, Half, Word, Branch, Field, Home, Meant, Values, field_of, kind_of, directives, added, taken, number_in}
-use Rattle.patch_model.specs.Patched.{total, span, middle, ahead, Way, Directly, ByVeneer, first_symbol, other_state, way_home, way_to, way_of}
+use Rattle.patch_model.specs.Fields.{Kind as FieldKind, Byte, Half, Word, Branch, Home, Values, field_of, kind_of, directives, added, taken, number_in}
+use Rattle.patch_model.specs.Patched.{total, span, middle, ahead, Directly, ByVeneer, first_symbol, other_state, way_home, way_to, way_of}
 use Rattle.place_model.proofs.ListLemmas.{all_at}
 use Rattle.link_model.specs.declared.placing.AreaName.{AreaName}
 use Rattle.link_model.specs.declared.placing.PlacedVeneer.{PlacedVeneer}
 use Rattle.link_model.specs.declared.placing.Placement.{Placement}
 use Rattle.link_model.specs.declared.placing.Veneer.{Veneer}
 use Rattle.link_model.specs.declared.selection.Linked.{Linked}
-use Rattle.link_model.specs.declared.selection.LinkedEntry.{LinkedEntry}
 use Rattle.link_model.specs.Meaning.{Meaning, Defined, OfRegion, Weak, symbol_of}
-use Rattle.link_model.specs.Members.{Link, link_of, objects_in}
+use Rattle.link_model.specs.Members.{Link, link_of}
 use Rattle.link_model.specs.Values.{Bases, home_area, meant_at, meant_of, meant_by, meaning_at}
-use Rattle.link_model.specs.Veneers.{is_alone, has_branch, veneer_by, values_apart, needed_as, needed_by, needed_by_header, veneers_of, IsIn, BranchNeeds, IsNeeded}
+use Rattle.link_model.specs.Veneers.{is_alone, has_branch, veneer_by, values_apart, needed_as, needed_by, needed_by_header, veneers_of, IsIn, IsNeeded}
 use Rattle.link_model.proofs.NeedLemmas.{veneers_law}
 use Rattle.link_values.specs.Placed.{is_area}
 use Rattle.link_apply.specs.Flaws.{is_far_behind}

@@ -1,12 +1,12 @@
 -- An area of a moved image has its bytes, each word shifted as often as it has shifts.
-use Rattle.std.proofs.Common.{◌≡◌, ◌≢◌, ◌⊎◌, inl, inr, ℕ, ◌+◌, ◌-◌, ◌*◌, ◌%◌, ◌^◌, ◌<◌, ◌≤◌, Bool, true, false, not, ◌&&◌, ◌==◌, if◌then◌else◌, List, [], length, refl, sym, ap, subst, ◌∙◌, arith, eqb-true, Option, Some, None}
+use Rattle.std.proofs.Common.{◌≡◌, ◌≢◌, ◌⊎◌, inl, inr, ℕ, ◌+◌, ◌-◌, ◌%◌, ◌^◌, ◌<◌, ◌≤◌, Bool, true, false, not, ◌==◌, if◌then◌else◌, List, length, refl, sym, ap, subst, ◌∙◌, arith, eqb-true, Option, Some, None}
 use Rattle.std.specs.Prelude.{nat_lt, slice_get, is_some}
 use Rattle.std.specs.List.{find, AllByRecursion}
 use Rattle.std.specs.Option.{option_map}
-use Rattle.std.proofs.lemmas.Bool.{and_parts, not-false, ltb-false, eq-eqb, cases_lt}
+use Rattle.std.proofs.lemmas.Bool.{and_parts, not-false, ltb-false, cases_lt}
 use Rattle.aof_object.specs.declared.records.Area.{Area}
 use Rattle.aof_object.specs.declared.records.Reloc.{Reloc}
-use Rattle.patch_model.specs.Fields.{Kind, Byte, Half, Word, Branch, Field, Home, Values, field_of, kind_of, is_field, is_same_kind, directives}
+use Rattle.patch_model.specs.Fields.{Kind, Byte, Half, Word, Branch, Field, Values, field_of, kind_of, is_field, is_same_kind, directives}
 use Rattle.patch_model.specs.Patched.{Way, Directly, ByVeneer, way_of}
 use Rattle.place_model.proofs.ListLemmas.{all_at, all_filter}
 use Rattle.link_model.specs.declared.placing.Placement.{Placement}

@@ -1,29 +1,24 @@
 -- A link that is made as a relocatable AIF: its placement is one at 0, moved to its base.
-use Rattle.std.proofs.Common.{◌≡◌, ℕ, zero, suc, ◌+◌, ◌%◌, ◌^◌, ◌≤◌, Bool, true, false, not, cond, ◌&&◌, ◌==◌, List, [], ◌∷◌, ◌++◌, map, refl, sym, ap, subst, ◌∙◌, arith, eqb-true, Option, Some, None, Ok}
+use Rattle.std.proofs.Common.{◌≡◌, ℕ, zero, suc, ◌+◌, ◌%◌, Bool, true, false, not, cond, ◌&&◌, ◌==◌, List, [], ◌∷◌, ◌++◌, map, refl, sym, ap, ◌∙◌, arith, Option, Some, None}
 use Rattle.std.specs.Prelude.{slice_get, unwrap_or, is_some}
-use Rattle.std.specs.List.{filter, flat_map, find, list_any, AllByRecursion}
+use Rattle.std.specs.List.{flat_map, find, AllByRecursion}
 use Rattle.std.specs.Option.{option_map, option_or}
 use Rattle.std.proofs.lemmas.List.{map-append}
 use Rattle.std.proofs.lemmas.List.Folds.{find-append}
-use Rattle.base_lemmas.proofs.BaseLemmas.{all_append, both_true, neither}
+use Rattle.base_lemmas.proofs.BaseLemmas.{all_append}
 use Rattle.sdt_word.specs.declared.ranges.Range32.{Range32}
-use Rattle.sdt_fault.specs.declared.refusal.Refusal.{Refusal}
 use Rattle.aof_object.specs.declared.records.Area.{Area}
 use Rattle.aof_object.specs.declared.records.Object.{Object}
-use Rattle.patch_model.specs.Fields.{Home}
 use Rattle.place_model.specs.declared.scatter.Kind.{Kind}
 use Rattle.place_model.specs.declared.scatter.Kind.TheVariants as kind
-use Rattle.place_model.specs.Faults.{place_refusal}
-use Rattle.place_model.specs.Items.{Item, is_zero_initialised}
+use Rattle.place_model.specs.Items.{is_zero_initialised}
 use Rattle.place_model.specs.Plans.{Contents, areas_in, Planned, length_of, zero_length_of, zero_base_of, PlannedLoad, Plan, regions_of, stood_in, boot_address, is_startup}
 use Rattle.place_model.specs.Plans as plan
 use Rattle.place_model.specs.Things.{Thing, Header, AnArea, AVeneer, Startup, Stood, stood, start_of, size_of}
 use Rattle.place_model.proofs.ListLemmas.{all_flat, all_indexed, all_at}
 use Rattle.image_model.specs.AifFiles.{aif_plan}
-use Rattle.image_laws.proofs.FileLemmas.{rooms}
 use Rattle.link_model.specs.declared.placing.Assigned.{Assigned}
 use Rattle.link_model.specs.declared.placing.PlacedArea.{PlacedArea}
-use Rattle.link_model.specs.declared.placing.PlacedVeneer.{PlacedVeneer}
 use Rattle.link_model.specs.declared.placing.Placement.{Placement}
 use Rattle.link_model.specs.declared.placing.Region.{Region}
 use Rattle.link_model.specs.declared.placing.Veneer.{Veneer}
@@ -31,15 +26,15 @@ use Rattle.link_model.specs.declared.selection.Linked.{Linked}
 use Rattle.link_model.specs.declared.selection.Named.{Named}
 use Rattle.link_items.specs.LinkedItems.{contents_of}
 use Rattle.link_values.specs.Placed.{is_area, base_in}
-use Rattle.link_place.specs.Placed.{placed_region, placed_regions, area_of, veneer_of, areas_of, veneers_of, placement_of, told}
-use Rattle.link_laws.specs.AifJoins.{moved_region, moved_load, moved_plan, moved_thing}
+use Rattle.link_place.specs.Placed.{placed_region, placed_regions, area_of, veneer_of, areas_of, veneers_of, placement_of}
+use Rattle.link_laws.specs.AifJoins.{moved_region, moved_plan, moved_thing}
 use Rattle.link_laws.specs.Joins.{IsMade}
-use Rattle.link_laws.specs.Placing.{bases_of, has_area, link_plan, IsPlacedLink}
+use Rattle.link_laws.specs.Placing.{bases_of, link_plan, IsPlacedLink}
 use Rattle.link_laws.proofs.MadePlacedLemmas.{is_placement, made_is_placed}
 use Rattle.link_laws.proofs.PlacedLemmas.{IsFound, found as found_area, objects_are_placed}
 use Rattle.link_laws.proofs.RegionLemmas.{IsShaped, all_shaped, things_all, zeros_all, header_all}
 use Rattle.link_laws.proofs.ShiftLinked.{IsWholeImage}
-use Rattle.link_laws.proofs.ShiftPlacement.{moved_place, moved_area, moved_veneer, moved_placement, find_moves, find_area_moves, base_moves}
+use Rattle.link_laws.proofs.ShiftPlacement.{moved_place, moved_area, moved_veneer, moved_placement, find_moves, find_area_moves}
 use Rattle.link_laws.proofs.ShiftPlans.{flat_moves, length_moves, zero_length_moves, things_move, regions_move, plan_law}
 
 -- ---- the placement of a plan that is moved

@@ -1,10 +1,9 @@
 -- A placement that is moved: where its areas, veneers and region symbols are.
-use Rattle.std.proofs.Common.{◌≡◌, ℕ, zero, suc, ◌+◌, ◌%◌, ◌^◌, Bool, true, false, cond, List, [], ◌∷◌, ◌++◌, map, min, max, refl, sym, ap, ◌∙◌, arith, Option, Some, None}
+use Rattle.std.proofs.Common.{◌≡◌, ℕ, ◌+◌, Bool, true, false, cond, List, [], ◌∷◌, map, min, max, refl, sym, ap, ◌∙◌, arith, Option, Some, None}
 use Rattle.std.specs.Prelude.{unwrap_or, is_some}
 use Rattle.std.specs.List.{filter, find, flat_map}
 use Rattle.std.specs.Option.{option_map, option_and_then, option_or}
 use Rattle.std.specs.Str.{bytes_eq}
-use Rattle.std.proofs.lemmas.List.{map-append}
 use Rattle.aof_object.specs.declared.records.Object.{Object}
 use Rattle.patch_model.specs.Fields.{Home}
 use Rattle.link_model.specs.declared.placing.PlacedArea.{PlacedArea}
@@ -12,7 +11,7 @@ use Rattle.link_model.specs.declared.placing.PlacedVeneer.{PlacedVeneer}
 use Rattle.link_model.specs.declared.placing.Placement.{Placement}
 use Rattle.link_model.specs.declared.placing.Region.{Region}
 use Rattle.link_model.specs.RegionNames.{image_base, image_limit, area_base, area_limit, names_of_areas}
-use Rattle.link_model.specs.RegionValues.{plain_numbers, numbers_by, number_of_region, area_of, has_name, areas_named, end_of, least, greatest, least_start, greatest_end, number_of_area, reduced_by, region_number}
+use Rattle.link_model.specs.RegionValues.{plain_numbers, numbers_by, area_of, has_name, areas_named, end_of, least, greatest, least_start, greatest_end, number_of_area, reduced_by, region_number}
 use Rattle.link_values.specs.Placed.{is_area, base_in}
 use Rattle.link_apply.specs.Placed.{leads_to, veneers_at}
 use Rattle.link_laws.proofs.ShiftPlans.{flat_moves}

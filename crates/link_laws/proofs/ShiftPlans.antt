@@ -1,12 +1,12 @@
 -- The plan of a relocatable AIF at another base, and its placement.
-use Rattle.std.proofs.Common.{◌≡◌, ℕ, zero, suc, ◌+◌, ◌-◌, ◌%◌, true, false, List, [], ◌∷◌, ◌++◌, length, map, refl, sym, ap, ◌∙◌, arith, codes, None}
+use Rattle.std.proofs.Common.{◌≡◌, ℕ, ◌+◌, ◌-◌, ◌%◌, true, List, [], ◌∷◌, ◌++◌, map, refl, sym, ap, ◌∙◌, arith, codes, None}
 use Rattle.std.specs.List.{flat_map}
 use Rattle.std.proofs.lemmas.List.{map-append}
 use Rattle.place_model.specs.declared.scatter.Choice.TheVariants as choice
 use Rattle.place_model.specs.declared.scatter.Kind.TheVariants as kind
 use Rattle.place_model.specs.declared.scatter.ScatterBase.TheVariants.{At, Plus}
 use Rattle.place_model.specs.Assignment.{class_region}
-use Rattle.place_model.specs.Plans.{Contents, Planned, planned, length_of, zero_base_of, zero_length_of, end_of, PlannedLoad, Plan, regions_of, stood_in}
+use Rattle.place_model.specs.Plans.{Contents, Planned, planned, length_of, zero_base_of, zero_length_of, end_of, Plan, regions_of, stood_in}
 use Rattle.place_model.specs.Things.{Thing, alignment_of, size_of, gap, start_of, extent, stood, Stood}
 use Rattle.image_model.specs.AifFiles.{aif_plan}
 use Rattle.link_laws.specs.AifJoins.{moved_region, moved_load, moved_plan, moved_thing, PlanMoves}

@@ -1,21 +1,22 @@
 -- Worked shifts: which words of an image at 0x8000 name addresses, how often, and the list of its file. The numbers are worked
 -- out by hand.
-use Rattle.std.proofs.Common.{◌≡◌, ℕ, ◌+◌, Bool, true, false, List, [], ◌∷◌, ◌++◌, drop, take, codes, refl, Option, Some, None}
+use Rattle.std.proofs.Common.{◌≡◌, ℕ, Bool, true, false, List, [], ◌∷◌, drop, take, codes, refl, Some, None}
 use Rattle.sdt_word.specs.Bytes.{bytes_of}
-use Rattle.sdt_fault.specs.declared.refusal.Refusal.TheVariants.{NotRelocatable}
+use Rattle.sdt_fault.specs.declared.refusal.Refusal.TheVariants.{NotRelocatable, Unreachable}
 use Rattle.aof_object.specs.declared.records.Area.{Area}
 use Rattle.aof_object.specs.declared.records.Reloc.{Reloc}
 use Rattle.aof_object.specs.declared.records.Symbol.{Symbol}
 use Rattle.byte_maps.specs.Maps.{bytes_of_words}
 use Rattle.image_model.specs.AifFiles.{offsets_of, relocatable_aif, aif_plan}
 use Rattle.place_model.specs.Plans.{Contents}
-use Rattle.link_model.specs.declared.placing.AreaName.{AreaName}
 use Rattle.link_model.specs.declared.placing.Placement.{Placement}
 use Rattle.link_model.specs.declared.placing.Veneer.{Veneer}
 use Rattle.link_model.specs.declared.selection.Linked.{Linked}
 use Rattle.link_model.specs.Members.{link_of}
 use Rattle.link_items.specs.LinkedItems.{contents_of}
 use Rattle.link_place.specs.Placed.{placement_of}
+use Rattle.patch_model.specs.Fields.{Home}
+use Rattle.link_apply.specs.Flaws.{apply_refusal}
 use Rattle.link_apply.specs.Shifts.{shifts_of, not_relocatable}
 use Rattle.link_laws.specs.Joins.{given_in}
 
@@ -114,3 +115,38 @@ not_aligned = refl
 -- an absolute number that is added stays as it is
 absolute_number : listed (with (reloc 4 0x8A000000)) [] ≡ []
 absolute_number = refl
+
+-- ---- a branch of Thumb code to ARM code behind the image: by f + 0x1000 it goes by a veneer, whose own branch reaches from
+-- 0x8000; where the image ends near the end of memory, the target's address begins anew at 0, so that it doesn't
+
+abbrev behind_image : Linked
+behind_image =
+    linked false (code 0x102202 (0xFFFEF000 ∷ 0x0000DF11 ∷ []) (reloc 1 0x8F000000 ∷ [])
+    ∷ (record { name = codes "F"; attributes = 0x402202; size = 4; bytes = bytes_of 0xE12FFF1E 4; relocs = [] }) ∷ [])
+    ((record { name = codes "f"; attributes = 1; value = 0; area = Some 1 }) ∷ [])
+
+abbrev behind_f : Home
+behind_f = record { object = 0; area = 1; offset = 0x1000 }
+
+abbrev behind_at : ℕ → Placement
+behind_at base =
+    placement_of (aif_plan base true (contents_of behind_image.objects (((record { object = 0; area = 0 }) ∷ (record { object = 0; area = 1 }) ∷ []) ∷ [] ∷ [] ∷ [])
+    ((record { region = 0; area = record { object = 0; area = 1 }; offset = 0x1000; thumb = false }) ∷ [])))
+
+behind_image-accepted : apply_refusal behind_image (behind_at 0x8000) ≡ None
+behind_image-accepted = refl
+
+behind_image-movable : not_relocatable behind_image (behind_at 0x8000) ≡ None
+behind_image-movable = refl
+
+behind_image-veneer : (given_in (link_of behind_image) (behind_at 0x8000)).veneer 0 behind_f false ≡ bytes_of_words (0x46C04778 ∷ 0xEA0003FC ∷ [])
+behind_image-veneer = refl
+
+behind_image-moved : (given_in (link_of behind_image) (behind_at 0xFFFFE000)).veneer 0 behind_f false ≡ bytes_of_words (0x46C04778 ∷ 0xEA0003FC ∷ [])
+behind_image-moved = refl
+
+behind_image-far : (given_in (link_of behind_image) (behind_at 0xFFFFF000)).veneer 0 behind_f false ≡ bytes_of_words (0x46C04778 ∷ 0xEA800000 ∷ [])
+behind_image-far = refl
+
+behind_image-refused : apply_refusal behind_image (behind_at 0xFFFFF000) ≡ Some (Unreachable (codes "o") (codes "A") 0 (codes "f"))
+behind_image-refused = refl

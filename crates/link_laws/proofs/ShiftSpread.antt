@@ -1,5 +1,5 @@
 -- Things whose words are shifted, one behind the other.
-use Rattle.std.proofs.Common.{◌≡◌, ℕ, zero, suc, ◌+◌, ◌-◌, ◌%◌, ◌<◌, ◌≤◌, List, [], ◌∷◌, ◌++◌, length, refl, sym, ap, ◌∙◌, arith}
+use Rattle.std.proofs.Common.{◌≡◌, ℕ, ◌+◌, ◌%◌, ◌<◌, ◌≤◌, List, [], ◌∷◌, ◌++◌, length, refl, sym, ap, ◌∙◌, arith}
 use Rattle.std.specs.Prelude.{sum_by}
 use Rattle.std.specs.List.{flat_map, AllByRecursion}
 use Rattle.std.proofs.lemmas.List.Sums.{sum_by-cons, sum_by-append}
@@ -50,11 +50,11 @@ module _ (count : Stood → ℕ → ℕ) where
   each_thing origin at [] all shifts same = tt
   each_thing origin at (t ∷ ts) (h, all) shifts same = (
     λ x low high.
-    let rest = nothing_before origin (start_of origin at t + size_of t) ts x all high in
-    same x (omega (arith, low)) (omega (arith, high)) ∙ sum_by-cons (λ z. count z x) (record { thing = t; address = start_of origin at t }) (stood origin (start_of origin at t + size_of t) ts) ∙ omega (arith, rest),
+        let rest = nothing_before origin (start_of origin at t + size_of t) ts x all high in
+        same x (omega (arith, low)) (omega (arith, high)) ∙ sum_by-cons (λ z. count z x) (record { thing = t; address = start_of origin at t }) (stood origin (start_of origin at t + size_of t) ts) ∙ omega (arith, rest),
     each_thing origin (start_of origin at t + size_of t) ts all shifts (λ x low high.
-    let first = h.behind x low in
-    same x (omega (arith, low)) (omega (arith, high)) ∙ sum_by-cons (λ z. count z x) (record { thing = t; address = start_of origin at t }) (stood origin (start_of origin at t + size_of t) ts) ∙ omega (arith, first)),
+        let first = h.behind x low in
+        same x (omega (arith, low)) (omega (arith, high)) ∙ sum_by-cons (λ z. count z x) (record { thing = t; address = start_of origin at t }) (stood origin (start_of origin at t + size_of t) ts) ∙ omega (arith, first)),
   )
 
   module _ (by : ℕ) (held other : Thing → List ℕ) where
@@ -141,14 +141,13 @@ module _ (count : Stood → ℕ → ℕ) where
   pub each_region : (at : ℕ) (rs : List Planned) → AreFrom at rs → AllByRecursion IsInsideRegion rs → (shifts : ℕ → ℕ) → ((x : ℕ) → at ≤ x → shifts x ≡ total rs x)
       → AllByRecursion (λ r. (x : ℕ) → r.base ≤ x → x < zero_base_of r → shifts x ≡ sum_by (λ s. count s x) (stood r.origin r.base r.things)) rs
   each_region at [] order all shifts same = tt
-  each_region at (r ∷ rs) (from, order) (h, all) shifts same =
-      (
-      λ x low high.
-      let two = nothing_before r.origin (zero_base_of r) r.zeros x h.zeros high in
-      let rest = none_before (end_of r) rs x order all (omega (arith, high)) in
-      same x (omega (arith, low, from)) ∙ split_region r rs x ∙ omega (arith, two, rest),
-      each_region (end_of r) rs order all shifts (λ x low.
-      let one = nothing_behind r.origin r.base r.things x h.things (omega (arith, low)) in
-      let two = nothing_behind r.origin (zero_base_of r) r.zeros x h.zeros (omega (arith, low)) in
-      same x (omega (arith, low, from)) ∙ split_region r rs x ∙ omega (arith, one, two)),
-      )
+  each_region at (r ∷ rs) (from, order) (h, all) shifts same = (
+    λ x low high.
+        let two = nothing_before r.origin (zero_base_of r) r.zeros x h.zeros high in
+        let rest = none_before (end_of r) rs x order all (omega (arith, high)) in
+        same x (omega (arith, low, from)) ∙ split_region r rs x ∙ omega (arith, two, rest),
+    each_region (end_of r) rs order all shifts (λ x low.
+        let one = nothing_behind r.origin r.base r.things x h.things (omega (arith, low)) in
+        let two = nothing_behind r.origin (zero_base_of r) r.zeros x h.zeros (omega (arith, low)) in
+        same x (omega (arith, low, from)) ∙ split_region r rs x ∙ omega (arith, one, two)),
+  )

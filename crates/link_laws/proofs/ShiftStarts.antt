@@ -1,5 +1,5 @@
 -- A relocatable AIF starts at every base.
-use Rattle.std.proofs.Common.{◌≡◌, ℕ, ◌+◌, ◌-◌, ◌*◌, ◌%◌, ◌^◌, ◌<◌, ◌≤◌, Bool, true, false, ◌==◌, List, [], ◌∷◌, ◌++◌, length, length-append, refl, sym, ap, subst, ◌∙◌, arith, eqb-true, Option, Some, None}
+use Rattle.std.proofs.Common.{◌≡◌, ℕ, ◌+◌, ◌-◌, ◌*◌, Bool, true, false, ◌==◌, List, [], ◌∷◌, ◌++◌, length, length-append, refl, sym, ap, subst, ◌∙◌, arith, eqb-true, Option}
 use Rattle.std.specs.Prelude.{slice_index}
 use Rattle.std.specs.List.{AllByRecursion}
 use Rattle.std.proofs.lemmas.List.{append-nil}
@@ -15,11 +15,9 @@ use Rattle.boot_code.proofs.AifImage.{aif_boots, aif_veneer_boots}
 use Rattle.byte_maps.specs.Maps.{bytes_of_words}
 use Rattle.place_model.specs.declared.scatter.Kind.TheVariants as kind
 use Rattle.place_model.specs.Items.{Item}
-use Rattle.place_model.specs.Plans.{Contents, Plan}
+use Rattle.place_model.specs.Plans.{Plan}
 use Rattle.image_model.specs.AifFiles.{parts_size, zero_size, with_header, parts_bytes, aif_plan}
-use Rattle.image_model.specs.Regions.{Given}
 use Rattle.image_model.specs.Views.{IsView}
-use Rattle.image_laws.specs.AifLaws.{IsAif}
 use Rattle.image_laws.proofs.AifLemmas.{words_there, as_code}
 use Rattle.image_laws.proofs.AifMoved.{relocatable_law, own_base_law}
 use Rattle.image_laws.proofs.AifViews.{parts_length}
@@ -31,7 +29,7 @@ use Rattle.link_model.specs.declared.selection.Linked.{Linked}
 use Rattle.link_model.specs.Members.{link_of}
 use Rattle.link_items.specs.LinkedItems.{contents_of}
 use Rattle.link_apply.specs.Shifts.{shifts_of}
-use Rattle.link_laws.specs.AifJoins.{placement_at, given_at, moving_list, moving_file, IsViewAt, MayMoveTo, MovedImageShows, HasRoomAt, IsMovingImage, EntersByVeneer, MovedImageBoots}
+use Rattle.link_laws.specs.AifJoins.{placement_at, given_at, moving_list, moving_file, IsViewAt, MovedImageShows, HasRoomAt, IsMovingImage, EntersByVeneer, MovedImageBoots}
 use Rattle.link_laws.proofs.MadePlacedLemmas.{is_placement}
 use Rattle.link_laws.proofs.ShiftBoots.{shows}
 use Rattle.link_laws.proofs.ShiftMoved.{no_header_shifts}

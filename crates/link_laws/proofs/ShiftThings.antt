@@ -1,29 +1,22 @@
 -- The things of a relocatable AIF at another base.
-use Rattle.std.proofs.Common.{◌≡◌, ◌≢◌, ◌⊎◌, inl, inr, ℕ, zero, suc, ◌+◌, ◌-◌, ◌*◌, ◌%◌, ◌^◌, ◌<◌, ◌≤◌, Bool, true, false, not, ◌&&◌, ◌==◌, if◌then◌else◌, List, [], ◌∷◌, ◌++◌, length, map, refl, sym, ap, subst, ◌∙◌, arith, eqb-true, eq-eqb, leb-true, Option, Some, None}
+use Rattle.std.proofs.Common.{◌≡◌, ◌≢◌, ◌⊎◌, inl, inr, ℕ, ◌+◌, ◌-◌, ◌^◌, ◌<◌, ◌≤◌, Bool, true, false, ◌&&◌, ◌==◌, if◌then◌else◌, List, [], ◌∷◌, length, refl, sym, ap, ◌∙◌, arith, eqb-true, eq-eqb, leb-true, Option, Some, None}
 use Rattle.std.specs.Prelude.{nat_le, slice_get, is_some, sum_by}
-use Rattle.std.specs.List.{find, flat_map, AllByRecursion}
+use Rattle.std.specs.List.{find, flat_map}
 use Rattle.std.specs.Option.{option_map, option_and_then}
 use Rattle.std.proofs.lemmas.Bool.{and_parts, le-leb, ne_eqb}
 use Rattle.std.proofs.lemmas.List.Sums.{sum_by-cons, sum_by-append}
 use Rattle.std.proofs.lemmas.Option.{slice_get-map}
-use Rattle.base_lemmas.proofs.BaseLemmas.{all_front, came_through, same}
+use Rattle.base_lemmas.proofs.BaseLemmas.{came_through, same}
 use Rattle.sdt_word.specs.Numbers.{bit, flag}
-use Rattle.sdt_word.specs.declared.ranges.Range32.{Range32}
 use Rattle.aof_object.specs.declared.records.Area.{Area}
 use Rattle.aof_object.specs.declared.records.Object.{Object}
 use Rattle.aof_object.specs.declared.records.Reloc.{Reloc}
 use Rattle.aof_object.specs.Validity.{Holds as HoldsArea, IsValid}
 use Rattle.patch_model.specs.Fields.{Home, field_of, is_field, kind_of, is_same_kind, size_of as field_size}
-use Rattle.patch_model.specs.Reaches.{HasVeneer}
-use Rattle.place_model.specs.declared.scatter.Kind.{Kind}
-use Rattle.place_model.specs.declared.scatter.Kind.TheVariants as kind
-use Rattle.place_model.specs.Items.{Item, is_zero_initialised}
-use Rattle.place_model.specs.Plans.{Contents, Planned, zero_base_of, Plan, regions_of, table_words, stood_in}
-use Rattle.place_model.specs.Things.{Thing, Header, AnArea, AVeneer, Startup, size_of, Stood, stood}
-use Rattle.place_model.proofs.GapLemmas.{IsWhole, whole_area, whole_header, whole_veneer, whole_startup}
-use Rattle.place_model.proofs.ListLemmas.{all_at, all_indexed}
-use Rattle.image_model.specs.Regions.{filled}
-use Rattle.link_model.specs.declared.placing.AreaName.{AreaName}
+use Rattle.place_model.specs.Items.{Item}
+use Rattle.place_model.specs.Plans.{Planned, Plan, regions_of, stood_in}
+use Rattle.place_model.specs.Things.{Thing, Header, AnArea, AVeneer, Startup, size_of, Stood}
+use Rattle.place_model.proofs.ListLemmas.{all_at}
 use Rattle.link_model.specs.declared.placing.PlacedArea.{PlacedArea}
 use Rattle.link_model.specs.declared.placing.PlacedVeneer.{PlacedVeneer}
 use Rattle.link_model.specs.declared.placing.Placement.{Placement}
@@ -31,24 +24,22 @@ use Rattle.link_model.specs.declared.selection.Linked.{Linked}
 use Rattle.link_model.specs.declared.selection.Named.{Named}
 use Rattle.link_model.specs.Members.{Link, link_of, objects_in}
 use Rattle.link_model.specs.RegionValues.{area_of}
-use Rattle.link_items.specs.LinkedItems.{item_of, item_in, item_at, name_of}
+use Rattle.link_items.specs.LinkedItems.{item_of, item_in, name_of}
 use Rattle.link_place.specs.Placed.{areas_of, veneers_of, placement_of}
 use Rattle.link_place.specs.Placed as placing
-use Rattle.link_values.specs.Placed.{is_area, base_in}
-use Rattle.link_apply.specs.Flaws.{apply_refusal, is_far_behind}
-use Rattle.link_apply.specs.Placed.{veneers_at, target_in}
+use Rattle.link_values.specs.Placed.{is_area}
+use Rattle.link_apply.specs.Flaws.{apply_refusal}
 use Rattle.link_apply.specs.Shifts.{names_moving, gains, losses, word_shifts, shifts_in, area_shifts, veneer_shifts, shifts_at, not_relocatable}
 use Rattle.link_laws.specs.AifJoins.{shift_between, shifted_words}
 use Rattle.link_laws.specs.Joins.{given_in}
-use Rattle.link_laws.proofs.ItemLemmas.{IsOwn, own_whole}
-use Rattle.link_laws.proofs.ShiftAreas.{IsFound, first_found, filter_none, equal_kind, word_at}
+use Rattle.link_laws.proofs.ItemLemmas.{IsOwn}
+use Rattle.link_laws.proofs.ShiftAreas.{first_found, filter_none, equal_kind, word_at}
 use Rattle.link_laws.proofs.ShiftLinked as linked
 use Rattle.link_laws.proofs.ShiftLinked.{IsWholeImage}
-use Rattle.link_laws.proofs.ShiftPlacement.{moved_placement, moved_area, find_area_moves}
-use Rattle.link_laws.proofs.ShiftSpread.{IsInside, IsShiftedThing}
+use Rattle.link_laws.proofs.ShiftPlacement.{moved_placement}
+use Rattle.link_laws.proofs.ShiftSpread.{IsInside}
 use Rattle.link_laws.proofs.ShiftVeneers.{own_shifts}
-use Rattle.link_laws.proofs.ShiftVeneers as veneers
-use Rattle.link_laws.proofs.ShiftWords.{shifted_same, shifted_none}
+use Rattle.link_laws.proofs.ShiftWords.{shifted_same}
 
 -- ---- how often the words of a thing are shifted
 
@@ -61,12 +52,6 @@ abbrev pub count_of : Link → Placement → Stood → ℕ → ℕ
 count_of l p s x = count_thing l p s.thing s.address x
 
 module _ (l : Link) (p : Placement) (x : ℕ) where
-  abbrev of_area : PlacedArea → ℕ
-  of_area = area_shifts l p x
-
-  abbrev of_veneer : PlacedVeneer → ℕ
-  of_veneer = veneer_shifts x
-
   of_thing : (n : ℕ) (s : Stood) → sum_by (area_shifts l p x) (placing.area_of n s.thing s.address) + sum_by (veneer_shifts x) (placing.veneer_of n s.thing s.address) ≡ count_of l p s x
   of_thing n s = go s.thing
     where

@@ -1,18 +1,17 @@
 -- The values of symbols where the image is moved.
-use Rattle.std.proofs.Common.{◌≡◌, ℕ, ◌+◌, ◌*◌, Bool, true, false, cond, not, ◌&&◌, ◌||◌, ◌==◌, if◌then◌else◌, List, refl, sym, ap, subst, ◌∙◌, arith, Option, Some, None}
-use Rattle.std.specs.Prelude.{slice_get, is_some}
+use Rattle.std.proofs.Common.{◌≡◌, ℕ, ◌+◌, ◌*◌, Bool, true, false, cond, not, ◌&&◌, ◌||◌, ◌==◌, if◌then◌else◌, refl, sym, ap, subst, ◌∙◌, arith, Option, Some, None}
+use Rattle.std.specs.Prelude.{is_some}
 use Rattle.std.specs.Option.{option_map, option_and_then}
 use Rattle.sdt_word.specs.Numbers.{bit}
-use Rattle.aof_object.specs.declared.records.Object.{Object}
 use Rattle.aof_object.specs.declared.records.Reloc.{Reloc}
 use Rattle.aof_object.specs.declared.records.Symbol.{Symbol}
-use Rattle.patch_model.specs.Fields.{Home, Meant, Values, kind_of, is_relative, is_by_symbol, number_named, value_named, is_thumb_label, mark_in, mark_of}
+use Rattle.patch_model.specs.Fields.{Home, Meant, kind_of, is_relative, is_by_symbol, number_named, is_thumb_label, mark_in, mark_of}
 use Rattle.link_model.specs.declared.placing.Placement.{Placement}
 use Rattle.link_model.specs.declared.selection.Definition.{Definition}
 use Rattle.link_model.specs.Meaning.{Meaning, Defined, OfRegion, Weak, definition_of, meaning_by, meaning_of, symbol_of}
 use Rattle.link_model.specs.Members.{Link}
 use Rattle.link_model.specs.RegionValues.{region_number}
-use Rattle.link_model.specs.Values.{Bases, home_area, unplaced, meant_at, meant_of, meant_by, meaning_at}
+use Rattle.link_model.specs.Values.{home_area, unplaced, meant_at, meant_of, meant_by, meaning_at}
 use Rattle.link_values.specs.Placed.{base_in, values_in}
 use Rattle.link_apply.specs.Shifts.{is_moving_symbol, is_moving, names_moving}
 use Rattle.link_laws.proofs.ShiftSums.{IsMovedIn}
@@ -33,7 +32,6 @@ meant_moves by None None true = refl
 meant_moves by None None false = refl
 
 module _ (by : ℕ) (l : Link) (p : Placement) (none : p.boot ≡ None) where
-
   meaning_moves : (object k : ℕ)
       → meaning_at l (region_number l.objects (moved_placement by p)) object k ≡ option_map (moved_meaning by) (meaning_at l (region_number l.objects p) object k)
   meaning_moves object k = go (symbol_of l.objects object k)

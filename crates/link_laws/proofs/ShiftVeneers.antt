@@ -1,21 +1,19 @@
 -- The bytes of veneers where the image is moved.
-use Rattle.std.proofs.Common.{◌≡◌, ◌⊎◌, inl, inr, ℕ, zero, suc, ◌+◌, ◌-◌, ◌*◌, ◌/◌, ◌%◌, ◌^◌, ◌<◌, ◌≤◌, Bool, true, false, ◌&&◌, ◌==◌, if◌then◌else◌, List, [], ◌∷◌, ◌++◌, length, refl, sym, ap, subst, ◌∙◌, arith, Option, Some, None}
-use Rattle.std.specs.Prelude.{nat_lt, nat_le, slice_get, is_some, unwrap_or, IsSomeAnd}
+use Rattle.std.proofs.Common.{◌≡◌, ℕ, ◌+◌, ◌-◌, ◌*◌, ◌/◌, ◌%◌, ◌^◌, ◌≤◌, Bool, true, false, ◌&&◌, ◌==◌, List, [], ◌++◌, refl, sym, ap, subst, ◌∙◌, arith, Option, Some, None}
+use Rattle.std.specs.Prelude.{nat_lt, nat_le, is_some}
 use Rattle.std.specs.List.{find}
-use Rattle.std.specs.Option.{option_map, option_map_or, option_and_then}
+use Rattle.std.specs.Option.{option_map, option_map_or}
 use Rattle.std.proofs.lemmas.Bool.{or_parts, ltb-false}
-use Rattle.std.proofs.lemmas.Option.{slice_get-map}
 use Rattle.base_lemmas.proofs.BaseLemmas.{same}
 use Rattle.sdt_word.specs.Bytes.{bytes_of, number_of}
 use Rattle.sdt_word.specs.Numbers.{flag}
 use Rattle.sdt_word.proofs.BytesLemmas.{number_of-bytes_of}
 use Rattle.patch_model.specs.Fields.{Home}
-use Rattle.patch_model.specs.Patched.{span, middle, ahead}
 use Rattle.link_model.specs.declared.placing.Placement.{Placement}
 use Rattle.link_model.specs.Members.{Link}
 use Rattle.link_values.specs.Placed.{is_area, base_in}
-use Rattle.link_apply.specs.Flaws.{is_far, is_far_behind}
-use Rattle.link_apply.specs.PatchedBytes.{with_span, veneer_bytes}
+use Rattle.link_apply.specs.Flaws.{is_far_behind}
+use Rattle.link_apply.specs.PatchedBytes.{veneer_bytes}
 use Rattle.link_apply.specs.Placed.{veneers_at, target_in}
 use Rattle.link_laws.specs.AifJoins.{shift_between, shifted_words}
 use Rattle.link_laws.specs.Joins.{given_in}
