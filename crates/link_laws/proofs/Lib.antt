@@ -31,4 +31,5 @@ pub mod ShiftMemory
 pub mod ShiftAif
 pub mod ShiftBoots
 pub mod ShiftStarts
+pub mod ShiftReach
 pub mod ShiftRows

@@ -34,10 +34,9 @@ use Rattle.link_model.specs.Veneers.{veneers_of, IsIn}
 use Rattle.link_model.proofs.NeedLemmas.{veneers_law}
 use Rattle.link_items.specs.LinkedItems.{contents_of}
 use Rattle.link_place.specs.Placed.{placement_of}
-use Rattle.link_apply.specs.Flaws.{is_far_behind}
 use Rattle.link_apply.specs.Placed.{veneers_at, target_in}
 use Rattle.link_apply.specs.Shifts.{image_base, shifts_at, shifts_of, not_relocatable}
-use Rattle.link_laws.specs.AifJoins.{moved_region, shift_between, shifted_words, placement_at, VeneersReach, filled_at, BytesMove}
+use Rattle.link_laws.specs.AifJoins.{moved_region, shift_between, shifted_words, placement_at, LeadsNear, VeneersReach, filled_at, BytesMove}
 use Rattle.link_laws.specs.Joins.{IsMade, given_in}
 use Rattle.link_laws.specs.Placing.{bases_of, IsPlacedLink, IsVeneerApplied}
 use Rattle.link_laws.proofs.ItemLemmas.{IsOwn, items_own, own_whole}
@@ -57,13 +56,6 @@ use Rattle.link_laws.proofs.ShiftThings.{count_of, counted_all, area_inside, are
 use Rattle.link_laws.proofs.ShiftVeneers.{own_shifts, veneer_shifts}
 use Rattle.link_laws.proofs.ShiftWords.{shifted_same, shifted_none}
 use Rattle.link_laws.proofs.SizedLemmas.{applied_are_sized}
-
--- an even span leads from one place to another within its reach
-spanned : (v s t : ℕ) → s < 2 ^ 26 → v + 4 + 8 + s ≡ t + 2 ^ 25 → is_far_behind false v t ≡ false
-spanned v s t small e =
-    let one : nat_lt (t + 2 ^ 25) (v + 4 + 8) ≡ false = le-ltb (t + 2 ^ 25) (v + 4 + 8) (omega (arith, e)) in
-    let two : nat_le (v + 4 + 8 + 2 * 2 ^ 25) (t + 2 ^ 25) ≡ false = lt-leb (v + 4 + 8 + 2 * 2 ^ 25) (t + 2 ^ 25) (omega (arith, e, small)) in
-    ap (λ (b : Bool). b || nat_le (v + 4 + 8 + 2 * 2 ^ 25) (t + 2 ^ 25)) one ∙ two
 
 -- where an address is said as an offset
 by_offset : (by : ℕ) (shifts : ℕ → ℕ) (base at : ℕ) (bytes : List ℕ) → base ≤ at → shifted_words by shifts at bytes ≡ shifted_words by (λ o. shifts (base + o)) (at - base) bytes
@@ -209,15 +201,15 @@ module _ (base : ℕ) (ram : Option (List Range32)) (l : Linked) (a : Assigned) 
           (λ i lt. veneer_counted (link_of l) q target thumb address i)
         where
           near : (b : Bool) → HasVeneer address ((bases_of plan target.object target.area + target.offset) % 2 ^ 32) b ((given_in (link_of l) q).veneer r.number target b)
-              → is_far_behind b address (target_in q target) ≡ false
-          near true h = refl
+              → LeadsNear b address (target_in q target)
+          near true h = tt
           near false h =
               let goal : target_in q target ≡ (bases_of plan target.object target.area + target.offset) % 2 ^ 32 =
               ap (λ z. (z + target.offset) % 2 ^ 32) ((places k ram l a vs q made).bases target.object target.area) in
-              ap (is_far_behind false address) goal
-              ∙ spanned address (span false (0xEA000000 + h.field)) ((bases_of plan target.object target.area + target.offset) % 2 ^ 32) (omega arith) h.leads
+              let leads = h.leads in
+              subst (λ z. address + 4 + 8 ≤ z + 2 ^ 25) (sym goal) (omega (arith, leads))
 
-          far : (o : Option ℕ) → veneers_at p0 r.number target thumb ≡ o → (v : ℕ) → v + base ≡ address + to → is_far_behind thumb v (target_in (moved_placement to p0) target) ≡ false
+          far : (o : Option ℕ) → veneers_at p0 r.number target thumb ≡ o → (v : ℕ) → v + base ≡ address + to → LeadsNear thumb v (target_in (moved_placement to p0) target)
           far None e v same_place =
               let none : veneers_at q r.number target thumb ≡ None = veneers_move base p0 r.number target thumb ∙ ap (option_map (λ z. z + base)) e in
               absurd cc

@@ -25,9 +25,8 @@ use Rattle.link_model.specs.Values.{Bases, home_area, meant_at, meant_of, meant_
 use Rattle.link_model.specs.Veneers.{is_alone, has_branch, veneer_by, values_apart, needed_as, needed_by, needed_by_header, veneers_of, IsIn, IsNeeded}
 use Rattle.link_model.proofs.NeedLemmas.{veneers_law}
 use Rattle.link_values.specs.Placed.{is_area}
-use Rattle.link_apply.specs.Flaws.{is_far_behind}
 use Rattle.link_apply.specs.Placed.{leads_to, veneers_at, target_in}
-use Rattle.link_laws.specs.AifJoins.{home_of, VeneersReach}
+use Rattle.link_laws.specs.AifJoins.{home_of, LeadsNear, VeneersReach}
 use Rattle.link_laws.specs.Joins.{IsEntryOf}
 use Rattle.link_laws.proofs.ShiftAreas.{first_found}
 use Rattle.link_laws.proofs.ShiftLinked.{IsWholeImage, home_there}
@@ -142,7 +141,7 @@ module _ (l : Linked) (p : Placement) (w : IsWholeImage l p) (entered : IsEntryO
 
 -- ---- those that reach their targets
 
-pub reach_there : (q : Placement) (region : ℕ) (target : Home) (thumb : Bool) (v : ℕ) → VeneersReach q → veneers_at q region target thumb ≡ Some v → is_far_behind thumb v (target_in q target) ≡ false
+pub reach_there : (q : Placement) (region : ℕ) (target : Home) (thumb : Bool) (v : ℕ) → VeneersReach q → veneers_at q region target thumb ≡ Some v → LeadsNear thumb v (target_in q target)
 reach_there q region target thumb v reach stands = go (find (λ z. leads_to region target thumb z.veneer) q.veneers) refl stands
   where
     same_state : (a b : Bool) → not (other_state a b) ≡ true → a ≡ b
@@ -151,7 +150,7 @@ reach_there q region target thumb v reach stands = go (find (λ z. leads_to regi
     same_state false true e = absurd cc
     same_state false false e = refl
 
-    go : (o : Option PlacedVeneer) → find (λ z. leads_to region target thumb z.veneer) q.veneers ≡ o → option_map (λ z. z.address) o ≡ Some v → is_far_behind thumb v (target_in q target) ≡ false
+    go : (o : Option PlacedVeneer) → find (λ z. leads_to region target thumb z.veneer) q.veneers ≡ o → option_map (λ z. z.address) o ≡ Some v → LeadsNear thumb v (target_in q target)
     go None e h = absurd cc
     go (Some z) e h =
         let f = first_found (λ y. leads_to region target thumb y.veneer) q.veneers z e in
@@ -165,7 +164,6 @@ reach_there q region target thumb v reach stands = go (find (λ z. leads_to regi
         let home : home_of z.veneer ≡ target = λ i. record { object = object i; area = area i; offset = offset i } in
         let state = same_state z.veneer.thumb thumb four.1 in
         let address : z.address ≡ v = same z.address v h in
-        let own : is_far_behind z.veneer.thumb z.address (target_in q (home_of z.veneer)) ≡ false =
-        all_at (λ y. is_far_behind y.veneer.thumb y.address (target_in q (home_of y.veneer)) ≡ false) q.veneers f.number z reach f.there in
-        ap (λ (n : ℕ). is_far_behind thumb n (target_in q target)) (sym address) ∙ ap (λ (t : Home). is_far_behind thumb z.address (target_in q t)) (sym home)
-        ∙ ap (λ (b : Bool). is_far_behind b z.address (target_in q (home_of z.veneer))) (sym state) ∙ own
+        let own : LeadsNear z.veneer.thumb z.address (target_in q (home_of z.veneer)) = all_at (λ y. LeadsNear y.veneer.thumb y.address (target_in q (home_of y.veneer))) q.veneers f.number z reach f.there in
+        subst (λ (n : ℕ). LeadsNear thumb n (target_in q target)) address
+        (subst (λ (t : Home). LeadsNear thumb z.address (target_in q t)) home (subst (λ (b : Bool). LeadsNear b z.address (target_in q (home_of z.veneer))) state own))

@@ -12,10 +12,9 @@ use Rattle.patch_model.specs.Fields.{Home}
 use Rattle.link_model.specs.declared.placing.Placement.{Placement}
 use Rattle.link_model.specs.Members.{Link}
 use Rattle.link_values.specs.Placed.{is_area, base_in}
-use Rattle.link_apply.specs.Flaws.{is_far_behind}
 use Rattle.link_apply.specs.PatchedBytes.{veneer_bytes}
 use Rattle.link_apply.specs.Placed.{veneers_at, target_in}
-use Rattle.link_laws.specs.AifJoins.{shift_between, shifted_words}
+use Rattle.link_laws.specs.AifJoins.{shift_between, shifted_words, LeadsNear}
 use Rattle.link_laws.specs.Joins.{given_in}
 use Rattle.link_laws.proofs.ShiftWords.{shifted_none}
 use Rattle.link_laws.proofs.ShiftPlacement.{moved_placement, base_moves, veneers_move}
@@ -30,9 +29,6 @@ target_moves x o b c low = omega arith
 field_moves : (x o b c y : ℕ) → y + b + 4 + 8 ≤ (x + b + o) % 2 ^ 32 + 2 ^ 25 → y + c + 4 + 8 ≤ (x + c + o) % 2 ^ 32 + 2 ^ 25
     → (((x + c + o) % 2 ^ 32 + 2 ^ 25 - (y + c + 4 + 8)) / 4 + 2 ^ 23) % 2 ^ 24 ≡ (((x + b + o) % 2 ^ 32 + 2 ^ 25 - (y + b + 4 + 8)) / 4 + 2 ^ 23) % 2 ^ 24
 field_moves x o b c y here there = omega (arith, here, there)
-
-near : (v t : ℕ) → is_far_behind false v t ≡ false → v + 4 + 8 ≤ t + 2 ^ 25
-near v t e = ltb-false (t + 2 ^ 25) (v + 4 + 8) (or_parts (nat_lt (t + 2 ^ 25) (v + 4 + 8)) (nat_le (v + 4 + 8 + 2 * 2 ^ 25) (t + 2 ^ 25)) e).0
 
 -- ---- one veneer
 
@@ -59,19 +55,19 @@ module _ (p : Placement) (region : ℕ) (target : Home) (b c : ℕ) (low : b ≤
       ap (λ z. (z + 1) % 2 ^ 32) after ∙ target_moves x target.offset b c low ∙ ap (λ z. ((z + 1) % 2 ^ 32 + shift_between b c * 1) % 2 ^ 32) (sym here) in
       ap (λ z. bytes_of 0xE59FC000 4 ++ bytes_of 0xE12FFF1C 4 ++ bytes_of z 4) (value ∙ ap (λ z. (z + shift_between b c * 1) % 2 ^ 32) (sym number))
 
-  arm_bytes : (y : ℕ) → is_far_behind false (y + b) (target_in (moved_placement b p) target) ≡ false → is_far_behind false (y + c) (target_in (moved_placement c p) target) ≡ false
+  arm_bytes : (y : ℕ) → LeadsNear false (y + b) (target_in (moved_placement b p) target) → LeadsNear false (y + c) (target_in (moved_placement c p) target)
       → veneer_bytes (y + c) (target_in (moved_placement c p) target) false ≡ veneer_bytes (y + b) (target_in (moved_placement b p) target) false
   arm_bytes y one two =
       let here = target_at b in
       let after = target_at c in
-      let low_b : y + b + 4 + 8 ≤ (x + b + target.offset) % 2 ^ 32 + 2 ^ 25 = subst (λ n. y + b + 4 + 8 ≤ n + 2 ^ 25) here (near (y + b) (target_in (moved_placement b p) target) one) in
-      let low_c : y + c + 4 + 8 ≤ (x + c + target.offset) % 2 ^ 32 + 2 ^ 25 = subst (λ n. y + c + 4 + 8 ≤ n + 2 ^ 25) after (near (y + c) (target_in (moved_placement c p) target) two) in
+      let low_b : y + b + 4 + 8 ≤ (x + b + target.offset) % 2 ^ 32 + 2 ^ 25 = subst (λ n. y + b + 4 + 8 ≤ n + 2 ^ 25) here one in
+      let low_c : y + c + 4 + 8 ≤ (x + c + target.offset) % 2 ^ 32 + 2 ^ 25 = subst (λ n. y + c + 4 + 8 ≤ n + 2 ^ 25) after two in
       let Bytes : ℕ → List ℕ = λ field. bytes_of 0x4778 2 ++ bytes_of 0x46C0 2 ++ bytes_of (0xEA000000 / 2 ^ 24 * 2 ^ 24 + field) 4 in
       ap (λ (t : ℕ). Bytes (((t + 2 ^ 25 - (y + c + 4 + 8)) / 4 + 2 ^ 23) % 2 ^ 24)) after
       ∙ ap Bytes (field_moves x target.offset b c y low_b low_c)
       ∙ ap (λ (t : ℕ). Bytes (((t + 2 ^ 25 - (y + b + 4 + 8)) / 4 + 2 ^ 23) % 2 ^ 24)) (sym here)
 
-  bytes_by : (thumb : Bool) (y : ℕ) → is_far_behind thumb (y + b) (target_in (moved_placement b p) target) ≡ false → is_far_behind thumb (y + c) (target_in (moved_placement c p) target) ≡ false
+  bytes_by : (thumb : Bool) (y : ℕ) → LeadsNear thumb (y + b) (target_in (moved_placement b p) target) → LeadsNear thumb (y + c) (target_in (moved_placement c p) target)
       → veneer_bytes (y + c) (target_in (moved_placement c p) target) thumb
       ≡ shifted_words (shift_between b c) (own_shifts thumb) 0 (veneer_bytes (y + b) (target_in (moved_placement b p) target) thumb)
   bytes_by true y one two = thumb_bytes y
@@ -81,8 +77,8 @@ module _ (p : Placement) (region : ℕ) (target : Home) (b c : ℕ) (low : b ≤
 
   -- where it stands
   pub veneer_shifts : (l : Link) (thumb : Bool) (v : ℕ) → veneers_at (moved_placement b p) region target thumb ≡ Some v
-      → is_far_behind thumb v (target_in (moved_placement b p) target) ≡ false
-      → ((w : ℕ) → w + b ≡ v + c → is_far_behind thumb w (target_in (moved_placement c p) target) ≡ false)
+      → LeadsNear thumb v (target_in (moved_placement b p) target)
+      → ((w : ℕ) → w + b ≡ v + c → LeadsNear thumb w (target_in (moved_placement c p) target))
       → (given_in l (moved_placement c p)).veneer region target thumb
       ≡ shifted_words (shift_between b c) (own_shifts thumb) 0 ((given_in l (moved_placement b p)).veneer region target thumb)
   veneer_shifts l thumb v stands one two = go (veneers_at p region target thumb) refl
@@ -99,6 +95,6 @@ module _ (p : Placement) (region : ℕ) (target : Home) (b c : ℕ) (low : b ≤
           let first : veneers_at (moved_placement b p) region target thumb ≡ Some (y + b) = veneers_move b p region target thumb ∙ ap (option_map (λ z. z + b)) e in
           let second : veneers_at (moved_placement c p) region target thumb ≡ Some (y + c) = veneers_move c p region target thumb ∙ ap (option_map (λ z. z + c)) e in
           let own : y + b ≡ v = same (y + b) v (sym first ∙ stands) in
-          let near_b : is_far_behind thumb (y + b) (target_in (moved_placement b p) target) ≡ false = ap (λ z. is_far_behind thumb z (target_in (moved_placement b p) target)) own ∙ one in
+          let near_b : LeadsNear thumb (y + b) (target_in (moved_placement b p) target) = subst (λ z. LeadsNear thumb z (target_in (moved_placement b p) target)) (sym own) one in
           ap (Given c) second ∙ bytes_by thumb y near_b (two (y + c) (omega (arith, own)))
           ∙ ap (λ (o : Option ℕ). shifted_words (shift_between b c) (own_shifts thumb) 0 (Given b o)) (sym first)
