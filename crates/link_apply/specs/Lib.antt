@@ -9,4 +9,9 @@ pub mod Targets
 pub mod Starts
 pub mod Sums
 pub mod Applied
+pub mod Detours
+pub mod Sites
+pub mod Patching
+pub mod Pieces
+pub mod Rows
 pub mod Shifts

@@ -20,6 +20,13 @@ pub mod MadeAddressLemmas
 pub mod MadeVeneerLemmas
 pub mod MadeRegionLemmas
 pub mod MadeAppliedLemmas
+pub mod MadeOnce
+pub mod MadeBytes
+pub mod MadeBytesOfRegions
+pub mod MadeBytesLaws
+pub mod MadeStart
+pub mod MadeRows
+pub mod MadeStartRow
 pub mod ShiftLinked
 pub mod ShiftPlaced
 pub mod ShiftVeneers

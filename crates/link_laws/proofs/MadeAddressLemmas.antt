@@ -22,7 +22,7 @@ use Rattle.link_place.specs.Parts.{parts_of}
 use Rattle.link_place.proofs.PlanLemmas.{AreOf, laid_plan}
 use Rattle.link_place.proofs.AnswerLemmas.{are_planned}
 use Rattle.link_apply.specs.Placed.{leads_to, veneers_at}
-use Rattle.link_apply.specs.RegionBytes.{copy_rows, zero_rows, is_copied}
+use Rattle.link_apply.specs.RegionBytes.{is_copied}
 use Rattle.link_laws.specs.Placing.{bases_of, has_area, is_veneer}
 use Rattle.link_laws.specs.Joins.{PlacesOf}
 

@@ -1,5 +1,5 @@
 -- The areas of a link that is made are patched by its plan, and its veneers lead to their targets.
-use Rattle.std.proofs.Common.{◌≡◌, ◌⊎◌, inl, inr, ℕ, zero, suc, ◌+◌, ◌%◌, ◌^◌, ◌<◌, ◌≤◌, Bool, true, false, cond, ◌&&◌, ◌==◌, List, [], ◌∷◌, ◌++◌, length, refl, sym, ap, subst, ◌∙◌, arith, eqb-true, leb-true, Option, Some, None}
+use Rattle.std.proofs.Common.{◌≡◌, inl, inr, ℕ, zero, suc, ◌+◌, ◌%◌, ◌^◌, ◌<◌, ◌≤◌, Bool, true, false, cond, ◌&&◌, ◌==◌, List, [], ◌∷◌, ◌++◌, length, refl, sym, ap, subst, ◌∙◌, arith, leb-true, Option, Some, None}
 use Rattle.std.specs.Prelude.{slice_get, nat_le, IsSomeAnd}
 use Rattle.std.specs.List.{filter_map, flat_map, find, AllByRecursion}
 use Rattle.std.specs.Option.{option_map, option_map_or, option_and_then}
@@ -14,12 +14,12 @@ use Rattle.aof_object.specs.declared.records.Object.{Object}
 use Rattle.aof_object.specs.declared.records.Reloc.{Reloc}
 use Rattle.aof_object.specs.Checks.{left_over}
 use Rattle.aof_object.specs.Validity.{IsValid, IsEntered, head_of, heads}
-use Rattle.patch_model.specs.Fields.{Kind as FieldKind, Byte, Half, Word, Branch, Field, Home, Values, field_of, kind_of, directives, size_of, number_in}
+use Rattle.patch_model.specs.Fields.{Kind as FieldKind, Byte, Half, Word, Branch, Home, Values, field_of, kind_of, directives, size_of, number_in}
 use Rattle.patch_model.specs.Patched.{Veneers, Way, Directly, ByVeneer, way_of, is_branch, AreaPatched}
 use Rattle.patch_model.specs.Reaches.{HasVeneer}
 use Rattle.patch_model.proofs.BranchLemmas.{branch_tested}
 use Rattle.place_model.specs.declared.scatter.Kind.{Kind}
-use Rattle.place_model.specs.Plans.{Contents, Planned, Plan, regions_of, table_words, zero_base_of}
+use Rattle.place_model.specs.Plans.{Planned, Plan, regions_of, table_words, zero_base_of}
 use Rattle.place_model.specs.Things.{Thing, Header, AnArea, AVeneer, Startup, Stood, stood}
 use Rattle.place_model.proofs.ListLemmas.{all_at, all_indexed, none_given}
 use Rattle.place_model.proofs.SpanLemmas.{map_none}
@@ -34,15 +34,14 @@ use Rattle.link_model.specs.declared.selection.Named.{Named}
 use Rattle.link_model.specs.Members.{Link, link_of, objects_in}
 use Rattle.link_model.specs.RegionValues.{area_of, region_number}
 use Rattle.link_model.specs.Values.{Bases, values_of}
-use Rattle.link_model.specs.Veneers.{is_alone, has_branch, veneer_by, values_apart, needed_as, needed_by, needed_by_header, veneers_of, IsIn, BranchNeeds, IsNeeded}
+use Rattle.link_model.specs.Veneers.{is_alone, has_branch, veneer_by, values_apart, needed_as, needed_by, needed_by_header, IsIn, BranchNeeds, IsNeeded}
 use Rattle.link_model.proofs.NeedLemmas.{veneers_law}
 use Rattle.link_model.proofs.WayLemmas.{ways_law}
 use Rattle.link_items.specs.LinkedItems.{has_header, contents_of}
-use Rattle.link_place.specs.Placed.{areas_of, placement_of}
 use Rattle.link_values.specs.Placed.{is_area, base_in}
 use Rattle.link_values.specs.Placed as placed
 use Rattle.link_apply.specs.Flaws.{flaw_of, refusal_of, told, refusals_in, refusals_at}
-use Rattle.link_apply.specs.Laws.{AreBytes, AreSound, GoesBy}
+use Rattle.link_apply.specs.Laws.{AreBytes, AreSound}
 use Rattle.link_apply.specs.PatchedBytes.{patched_bytes, veneer_bytes}
 use Rattle.link_apply.specs.Placed.{veneers_at, target_in}
 use Rattle.link_apply.proofs.AreaLemmas.{patched_law}

@@ -11,7 +11,7 @@ use Rattle.place_model.specs.Items.{Item}
 use Rattle.place_model.proofs.ListLemmas.{all_map, none_given}
 use Rattle.link_model.specs.declared.placing.Assigned.{Assigned}
 use Rattle.link_model.specs.declared.selection.Named.{Named}
-use Rattle.link_items.specs.LinkedItems.{item_of, items_of, items_from, items_in, item_at, name_of}
+use Rattle.link_items.specs.LinkedItems.{items_of, items_from, items_in, item_at, name_of}
 use Rattle.link_assign.specs.Assigning.{assignment_of, named}
 use Rattle.link_assign.specs.Keeping.{report_name}
 use Rattle.link_laws.proofs.ItemLemmas.{IsOwn}

@@ -1,5 +1,5 @@
 -- The one region in which an area of a link stands.
-use Rattle.std.proofs.Common.{◌≡◌, ◌⊎◌, inl, inr, ℕ, zero, suc, ◌+◌, Bool, true, false, not, List, [], ◌∷◌, length, map, refl, sym, ap, subst, ◌∙◌, arith, Option, Some, None}
+use Rattle.std.proofs.Common.{◌≡◌, inl, inr, ℕ, zero, suc, ◌+◌, Bool, true, false, not, List, [], length, refl, sym, ap, subst, ◌∙◌, arith, Option, Some}
 use Rattle.std.specs.Prelude.{slice_get, unwrap_or}
 use Rattle.std.specs.List.{filter_map, AllByRecursion}
 use Rattle.std.specs.Option.{option_map}
@@ -11,8 +11,8 @@ use Rattle.aof_object.specs.declared.records.Object.{Object}
 use Rattle.place_model.specs.declared.scatter.Kind.{Kind}
 use Rattle.place_model.specs.Assignment.{described_regions, Offer, offers_of, best, found, areas_of, lists_from}
 use Rattle.place_model.specs.Items.{Item, is_zero_initialised}
-use Rattle.place_model.specs.Plans.{Contents, areas_in, Planned, zero_base_of, end_of, Plan, regions_of, table_words, stood_in, is_area}
-use Rattle.place_model.specs.Things.{Thing, Header, AnArea, AVeneer, Startup, Stood, stood}
+use Rattle.place_model.specs.Plans.{Contents, areas_in, Planned, zero_base_of, Plan, regions_of, table_words, stood_in, is_area}
+use Rattle.place_model.specs.Things.{Thing, AnArea, stood}
 use Rattle.place_model.proofs.ListLemmas.{all_at, all_indexed, all_of_get}
 use Rattle.link_model.specs.declared.placing.AreaName.{AreaName}
 use Rattle.link_model.specs.declared.placing.Veneer.{Veneer}
@@ -26,7 +26,7 @@ use Rattle.link_laws.proofs.ItemLemmas.{IsOwn, items_own}
 use Rattle.link_laws.proofs.RegionLemmas.{things_all, header_all, startup_all, zeros_all}
 use Rattle.link_laws.proofs.MadeAssignedLemmas.{region_of, all_taken}
 use Rattle.link_laws.proofs.MadeVeneerLemmas.{all_stood}
-use Rattle.link_laws.proofs.PlacedLemmas.{IsFound, IsLoaded, IsCleared, shaped, found as found_area, is_item}
+use Rattle.link_laws.proofs.PlacedLemmas.{shaped, found as found_area, is_item}
 
 -- ---- which region takes an item
 

@@ -1,5 +1,5 @@
 -- Each veneer that stands in a region is one of those that are needed, and the first there of its target and state.
-use Rattle.std.proofs.Common.{◌≡◌, ℕ, zero, suc, ◌+◌, ◌<◌, Bool, true, false, not, cond, ◌&&◌, ◌==◌, List, [], ◌∷◌, ◌++◌, map, refl, sym, ap, subst, ◌∙◌, arith, eq-eqb, eqb-true, Option, Some, None}
+use Rattle.std.proofs.Common.{◌≡◌, ℕ, zero, suc, ◌+◌, Bool, true, false, not, cond, ◌&&◌, ◌==◌, List, [], ◌∷◌, ◌++◌, map, refl, sym, ap, subst, ◌∙◌, arith, eq-eqb, eqb-true, Some}
 use Rattle.std.specs.Prelude.{slice_get}
 use Rattle.std.specs.List.{filter, find, AllByRecursion}
 use Rattle.std.specs.Option.{option_map, option_or}
@@ -9,8 +9,8 @@ use Rattle.patch_model.specs.Fields.{Home}
 use Rattle.patch_model.specs.Patched.{other_state}
 use Rattle.place_model.specs.declared.scatter.Kind.{Kind}
 use Rattle.place_model.specs.Items.{Item, is_zero_initialised}
-use Rattle.place_model.specs.Plans.{RegionVeneer, Contents, areas_in, veneers_in, header_in, startup_in, Planned, zero_base_of, stood_in, address_of}
-use Rattle.place_model.specs.Things.{Thing, Header, AnArea, AVeneer, Startup, size_of, start_of, Stood, stood}
+use Rattle.place_model.specs.Plans.{Contents, areas_in, veneers_in, header_in, startup_in, Planned, zero_base_of, stood_in, address_of}
+use Rattle.place_model.specs.Things.{Thing, AnArea, AVeneer, size_of, start_of, Stood, stood}
 use Rattle.place_model.proofs.ListLemmas.{all_at, all_indexed, all_map, Pairs, pairs_indexed}
 use Rattle.link_model.specs.declared.placing.AreaName.{AreaName}
 use Rattle.link_model.specs.declared.placing.Veneer.{Veneer}
@@ -20,6 +20,7 @@ use Rattle.aof_object.specs.declared.records.Object.{Object}
 use Rattle.link_items.specs.LinkedItems.{region_veneer, contents_of}
 use Rattle.link_laws.specs.Placing.{is_veneer}
 use Rattle.link_laws.proofs.RegionLemmas.{IsShaped, all_areas, header_all, startup_all}
+use Rattle.link_laws.proofs.ShownLemmas.{same_state}
 
 -- ---- pairs of the items of a list
 
@@ -103,12 +104,6 @@ no_areas : (test : Item → Bool) (items : List Item) → AllByRecursion IsNone 
 no_areas test items = all_areas IsNone test items (all_indexed (λ i. test i ≡ true → IsNone (AnArea i)) items (λ n i at e target thumb. refl))
 
 -- ---- the veneers of a region
-
-same_state : (a b : Bool) → not (other_state a b) ≡ true → a ≡ b
-same_state true true e = refl
-same_state true false e = absurd cc
-same_state false true e = absurd cc
-same_state false false e = refl
 
 abbrev pub veneer_to : ℕ → Home → Bool → Veneer
 veneer_to region target thumb = record { region = region; area = record { object = target.object; area = target.area }; offset = target.offset; thumb = thumb }

@@ -1,7 +1,7 @@
 //! Laws of the definitions, each proved as the contract of an empty function.
 
 ghost use Rattle.link_laws.specs.AifJoins.{BytesMove, MovedImageBoots, MovedImageShows, PlanMoves, VeneersStayNear};
-ghost use Rattle.link_laws.specs.Joins.{MadeHasPlaces, MadeIsApplied, MadeIsPlaced};
+ghost use Rattle.link_laws.specs.Joins.{MadeBoots, MadeFiles, MadeHasBytes, MadeHasPlaces, MadeIsApplied, MadeIsPlaced, MadeStarts};
 ghost use Rattle.link_laws.specs.Laws.{AppliedAreSized, ObjectsAreShown, ObjectsArePlaced, RangesExist, StatementsStand};
 
 /// Where a plan of valid objects is accepted, each object is placed at the addresses of its areas, and its symbols have
@@ -38,4 +38,14 @@ pub fn made_links()
     ensures placed { MadeIsPlaced }
     ensures places { MadeHasPlaces }
     ensures applied { MadeIsApplied }
+{}
+
+/// The regions of a link that is made, without a header, have the bytes of its plan's image, and so have its files. A
+/// scatter image that is made starts: its files reach the entry within the bound, with the memory as the view of its plan
+/// says.
+pub fn made_images()
+    ensures bytes { MadeHasBytes }
+    ensures files { MadeFiles }
+    ensures starts { MadeStarts }
+    ensures boots { MadeBoots }
 {}

@@ -4,8 +4,11 @@
 
 pub mod command;
 pub mod items;
+pub mod laws;
 pub mod names;
 pub mod numerals;
 pub mod rules;
 
-pub use crate::command::{Bank, Command, RunImage, RunWords, WordsFault, read_words};
+pub use crate::command::{
+    Bank, Command, LinkForm, LinkWords, RunImage, RunWords, WordsFault, read_words,
+};
