@@ -1,13 +1,11 @@
 -- The bytes of a relocatable AIF at another base.
-use Rattle.std.proofs.Common.{◌≡◌, ℕ, ◌+◌, ◌-◌, ◌*◌, ◌%◌, ◌^◌, ◌<◌, ◌≤◌, Bool, true, false, not, ◌||◌, List, [], ◌∷◌, length, map, refl, sym, ap, subst, ◌∙◌, arith, codes, Option, Some, None}
-use Rattle.std.specs.Prelude.{nat_lt, nat_le, slice_get, sum_by}
+use Rattle.std.proofs.Common.{◌≡◌, ℕ, ◌+◌, ◌-◌, ◌%◌, ◌^◌, ◌<◌, ◌≤◌, Bool, true, false, not, List, [], ◌∷◌, length, map, refl, sym, ap, subst, ◌∙◌, arith, codes, Option, Some, None}
+use Rattle.std.specs.Prelude.{slice_get, sum_by}
 use Rattle.std.specs.List.{AllByRecursion}
 use Rattle.std.specs.Option.{option_map}
-use Rattle.std.proofs.lemmas.Bool.{le-ltb, lt-leb}
 use Rattle.base_lemmas.proofs.BaseLemmas.{all_weaker, same}
 use Rattle.sdt_word.specs.declared.ranges.Range32.{Range32}
 use Rattle.patch_model.specs.Fields.{Home}
-use Rattle.patch_model.specs.Patched.{span}
 use Rattle.patch_model.specs.Reaches.{HasVeneer}
 use Rattle.place_model.specs.declared.scatter.Kind.{Kind}
 use Rattle.place_model.specs.declared.scatter.Kind.TheVariants as kind

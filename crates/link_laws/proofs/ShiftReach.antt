@@ -1,7 +1,7 @@
 -- Veneers that lead into the image reach their targets at every base.
-use Rattle.std.proofs.Common.{◌≡◌, ℕ, ◌+◌, ◌%◌, ◌^◌, ◌<◌, ◌≤◌, Bool, true, false, List, [], ◌∷◌, ◌++◌, map, sym, ap, subst, refl, ◌∙◌, arith, Option, Some}
+use Rattle.std.proofs.Common.{◌≡◌, ℕ, ◌+◌, ◌%◌, ◌^◌, ◌<◌, ◌≤◌, Bool, true, false, List, map, sym, ap, subst, refl, ◌∙◌, arith, Option, Some}
 use Rattle.std.specs.Prelude.{slice_get, is_some}
-use Rattle.std.specs.List.{find, flat_map, AllByRecursion}
+use Rattle.std.specs.List.{find, AllByRecursion}
 use Rattle.base_lemmas.proofs.BaseLemmas.{all_append, all_weaker}
 use Rattle.sdt_word.specs.declared.ranges.Range32.{Range32}
 use Rattle.patch_model.specs.Fields.{Home}
@@ -26,13 +26,12 @@ use Rattle.link_values.specs.Placed.{is_area, base_in}
 use Rattle.link_apply.specs.Placed.{target_in}
 use Rattle.link_laws.specs.AifJoins.{placement_at, home_of, LeadsNear, VeneersReach, NoneBehind, VeneersStayNear}
 use Rattle.link_laws.specs.Joins.{IsMade, given_in}
-use Rattle.link_laws.specs.Placing.{bases_of, link_plan, IsPlacedLink, IsVeneerApplied}
+use Rattle.link_laws.specs.Placing.{bases_of, IsPlacedLink, IsVeneerApplied}
 use Rattle.link_laws.proofs.MadeAppliedLemmas.{places, made_is_applied}
 use Rattle.link_laws.proofs.MadePlacedLemmas.{is_placement, are_needed, made_is_placed}
 use Rattle.link_laws.proofs.MadeVeneerLemmas.{veneer_to, IsPlanned, things_planned, all_stood}
 use Rattle.link_laws.proofs.PlacedLemmas.{IsCleared, cleared, shaped}
 use Rattle.link_laws.proofs.RegionLemmas.{IsWithin}
-use Rattle.link_laws.proofs.ShiftLinked.{IsWholeImage}
 use Rattle.link_laws.proofs.ShiftNeeds.{target_there}
 use Rattle.link_laws.proofs.ShiftPlaced.{aif_placement, is_moved, whole_image}
 use Rattle.link_laws.proofs.ShiftPlacement.{moved_veneer, moved_placement, base_moves}

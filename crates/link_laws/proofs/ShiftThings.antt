@@ -18,7 +18,6 @@ use Rattle.place_model.specs.Plans.{Planned, Plan, regions_of, stood_in}
 use Rattle.place_model.specs.Things.{Thing, Header, AnArea, AVeneer, Startup, size_of, Stood}
 use Rattle.place_model.proofs.ListLemmas.{all_at}
 use Rattle.link_model.specs.declared.placing.PlacedArea.{PlacedArea}
-use Rattle.link_model.specs.declared.placing.PlacedVeneer.{PlacedVeneer}
 use Rattle.link_model.specs.declared.placing.Placement.{Placement}
 use Rattle.link_model.specs.declared.selection.Linked.{Linked}
 use Rattle.link_model.specs.declared.selection.Named.{Named}

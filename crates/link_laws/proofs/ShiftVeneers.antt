@@ -1,9 +1,8 @@
 -- The bytes of veneers where the image is moved.
 use Rattle.std.proofs.Common.{◌≡◌, ℕ, ◌+◌, ◌-◌, ◌*◌, ◌/◌, ◌%◌, ◌^◌, ◌≤◌, Bool, true, false, ◌&&◌, ◌==◌, List, [], ◌++◌, refl, sym, ap, subst, ◌∙◌, arith, Option, Some, None}
-use Rattle.std.specs.Prelude.{nat_lt, nat_le, is_some}
+use Rattle.std.specs.Prelude.{is_some}
 use Rattle.std.specs.List.{find}
 use Rattle.std.specs.Option.{option_map, option_map_or}
-use Rattle.std.proofs.lemmas.Bool.{or_parts, ltb-false}
 use Rattle.base_lemmas.proofs.BaseLemmas.{same}
 use Rattle.sdt_word.specs.Bytes.{bytes_of, number_of}
 use Rattle.sdt_word.specs.Numbers.{flag}
