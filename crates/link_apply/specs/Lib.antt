@@ -14,3 +14,4 @@ pub mod Sites
 pub mod Patching
 pub mod Pieces
 pub mod Rows
+pub mod Shifts

@@ -1,3 +1,4 @@
 pub mod Placing
 pub mod Laws
 pub mod Joins
+pub mod AifJoins

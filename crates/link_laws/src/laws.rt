@@ -1,5 +1,6 @@
 //! Laws of the definitions, each proved as the contract of an empty function.
 
+ghost use Rattle.link_laws.specs.AifJoins.{BytesMove, MovedImageBoots, MovedImageShows, PlanMoves, VeneersStayNear};
 ghost use Rattle.link_laws.specs.Joins.{MadeBoots, MadeFiles, MadeHasBytes, MadeHasPlaces, MadeIsApplied, MadeIsPlaced, MadeStarts};
 ghost use Rattle.link_laws.specs.Laws.{AppliedAreSized, ObjectsAreShown, ObjectsArePlaced, RangesExist, StatementsStand};
 
@@ -16,6 +17,19 @@ pub fn objects_are_shown()
     ensures sizes { AppliedAreSized }
     ensures objects { ObjectsAreShown }
     ensures statements { StatementsStand }
+{}
+
+/// A relocatable ARM image file at another base has the plan that it has at its link base, moved there. Where nothing in it
+/// is NotRelocatable, its areas and veneers there have the bytes that they have at the link base, each of whose words is
+/// shifted as often as it has shifts, if each veneer to ARM code is near its target there, as those are that lead into the
+/// image. So its file becomes the view of the plan there, and it boots from every base that leaves
+/// room for the file and the zero part, within the bound.
+pub fn aif_moves()
+    ensures plans { PlanMoves }
+    ensures bytes { BytesMove }
+    ensures reach { VeneersStayNear }
+    ensures shows { MovedImageShows }
+    ensures boots { MovedImageBoots }
 {}
 
 /// A link that is made is placed as the laws on plans ask, at the plan's addresses. Its areas are patched, and its
