@@ -1,8 +1,7 @@
 -- The image of a link that is made, and what a link of objects and libraries answers: the refusals of selection, then
 -- that of a description that can't be read, then those of the link (SDT 2.50 Reference Guide, armlink; the order, and
 -- that an image's start is its startup code's, are this project's).
-use Rattle.std.specs.Prelude.{◌≡◌, ℕ, suc, ◌+◌, ◌%◌, ◌^◌, ◌≤◌, ◌==◌, if◌then◌else◌, List, [], ◌∷◌, ◌++◌, length, Option, Some, None, unwrap_or, Result, Ok, Err}
-use Rattle.std.specs.List.{AllByRecursion}
+use Rattle.std.specs.Prelude.{◌≡◌, ℕ, suc, ◌+◌, ◌%◌, ◌^◌, ◌==◌, if◌then◌else◌, List, [], ◌∷◌, ◌++◌, Option, Some, None, unwrap_or, Result, Ok, Err}
 use Rattle.sdt_word.specs.declared.ranges.Range32.{Range32}
 use Rattle.sdt_fault.specs.declared.answer.Fault.{Fault}
 use Rattle.sdt_fault.specs.declared.answer.Fault.TheVariants as fault
@@ -29,7 +28,8 @@ use Rattle.scatter_text.specs.Reading.{scatter_of}
 use Rattle.link_select.specs.Selection.{selection_of}
 use Rattle.link_values.specs.Placed.{base_in}
 use Rattle.link_apply.specs.RegionBytes.{copy_rows, zero_rows}
-use Rattle.armlink_core.specs.Linking.{Made, made_of, symbols_of}
+use Rattle.armlink_core.specs.declared.making.Made.{Made}
+use Rattle.armlink_core.specs.Linking.{made_of, symbols_of}
 
 -- ---- the image
 
@@ -79,13 +79,21 @@ image_of k m = record {
 
 -- ---- a link
 
-abbrev pub linking : Kind → Option (List Range32) → List (Named Object) → Result Image Refusal
-linking k ram os = selection_of (Some (symbols_of k)) os >>= λ l. made_of k ram l >>= λ m. Ok (image_of k m)
+-- of what is selected
+abbrev pub image_with : Kind → Option (List Range32) → Linked → Result Image Refusal
+image_with k ram l = made_of k ram l >>= λ m. Ok (image_of k m)
 
--- by the description that a text spells, or else with all names of a region symbol's form defined
+abbrev pub linking : Kind → Option (List Range32) → List (Named Object) → Result Image Refusal
+linking k ram os = selection_of (Some (symbols_of k)) os >>= λ l. image_with k ram l
+
+-- without a description, with all names of a region symbol's form defined
+abbrev pub undescribed : Refusal → List (Named Object) → Result Image Refusal
+undescribed r os = selection_of None os >>= λ l. Err r
+
+-- by the description that a text spells, or else without one
 abbrev pub described : Result Scatter Refusal → Option (List Range32) → List (Named Object) → Result Image Refusal
 described (Ok s) ram os = linking (kind.Scatter s) ram os
-described (Err r) ram os = selection_of None os >>= λ l. Err r
+described (Err r) ram os = undescribed r os
 
 abbrev pub scatter_linking : List ℕ → Option (List Range32) → List (Named Object) → Result Image Refusal
 scatter_linking text ram os = described (scatter_of text) ram os

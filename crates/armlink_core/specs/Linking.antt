@@ -1,6 +1,6 @@
 -- What a link of selected objects is: the first refusal in the order of its parts (regions of areas, veneers, places,
 -- relocations), or all that these give (SDT 2.50 Reference Guide, armlink; the order is this project's).
-use Rattle.std.specs.Prelude.{ℕ, List, map, Option, Result, Ok, Err}
+use Rattle.std.specs.Prelude.{ℕ, List, map, Option, Result, Ok}
 use Rattle.sdt_word.specs.declared.ranges.Range32.{Range32}
 use Rattle.sdt_fault.specs.declared.refusal.Refusal.{Refusal}
 use Rattle.chunk_file.specs.Reading.{◌>>=◌}
@@ -17,21 +17,13 @@ use Rattle.link_assign.specs.Assigning.{assignment_of}
 use Rattle.link_veneer.specs.Planning.{planned_veneers}
 use Rattle.link_place.specs.Placed.{placed}
 use Rattle.link_apply.specs.Applied.{applied}
+use Rattle.armlink_core.specs.declared.making.Made.{Made}
 
 -- the region symbols that an image of a form has
 abbrev pub symbols_of : Kind → List (List ℕ)
 symbols_of (kind.Scatter s) = names_of_scatter (map (λ r. r.name) (described_regions (kind.Scatter s)))
 symbols_of (kind.Plain base) = names_of_plain
 symbols_of (kind.Aif base relocatable) = names_of_plain
-
--- what is linked, the areas of each region, the veneers, where everything stands, and the bytes of each region before
--- its zero part
-pub record Made : Type 0 where
-  pub linked : Linked
-  pub assigned : Assigned
-  pub veneers : List Veneer
-  pub placement : Placement
-  pub bytes : List (List ℕ)
 
 abbrev pub made_at : Linked → Assigned → List Veneer → Placement → Result Made Refusal
 made_at l a vs p = applied l p >>= λ bytes. Ok (record { linked = l; assigned = a; veneers = vs; placement = p; bytes = bytes })

@@ -1,6 +1,11 @@
 //! Objects and libraries to an image: what is linked, where it stands, and its bytes.
 #![tactic(auto)]
 
+mod imaging;
 mod linking;
+mod loads;
+mod making;
+mod starting;
+mod symbols;
 
 pub use crate::linking::{link_plain, link_scatter};

@@ -1,19 +1,57 @@
 //! Links, without a scatter description and with one.
 
-ghost use Rattle.std.specs.Prelude.{◌≡◌, ◌%◌};
+ghost use Rattle.std.specs.Prelude.{◌≡◌, ◌%◌, None};
 ghost use Rattle.std.specs.List.{AllByRecursion};
 ghost use Rattle.std.specs.Option.{option_copied};
 ghost use Rattle.alf_archive.specs.Grammar.{IsValid as IsValidArchive};
 ghost use Rattle.aof_object.specs.Validity.{IsValid};
-ghost use Rattle.armlink_core.specs.Images.{linking, scatter_linking, Links};
+ghost use Rattle.armlink_core.specs.Images.{linking, scatter_linking, undescribed, Links};
+ghost use Rattle.armlink_core.specs.Sizes.{IsSmall};
 ghost use Rattle.place_model.specs.declared.scatter.Kind.TheVariants as kind;
 
+use crate::imaging::image_by;
+use crate::symbols::region_symbols;
 use alf_archive::Archive;
 use aof_object::Object;
 use link_model::{Image, Named};
+use link_select::select;
+use place_model::Kind;
+use scatter_text::read_scatter;
 use sdt_fault::answer::Fault;
+use sdt_fault::refusal::Refusal;
 use sdt_word::Range32;
 use std::alloc::Global;
+
+fn link(
+    alloc: Global,
+    objects: Vec<Named<Object>>,
+    archives: Vec<Named<Archive>>,
+    kind: &Kind,
+    ram: Option<&[Range32]>,
+) -> Result<Image, Fault>
+    requires objects { AllByRecursion (λ o. IsValid o.value) objects.items }
+    requires archives { AllByRecursion (λ a. IsValidArchive a.value) archives.items }
+    requires small { IsSmall kind.now }
+    ensures { Links objects.items archives.items (linking kind.now (option_copied ram.entry)) result }
+{
+    let symbols = region_symbols(alloc, kind)?;
+    let linked = select(alloc, objects, archives, Some(symbols.as_slice()))?;
+    image_by(alloc, linked, kind, ram)
+}
+
+/// The refusal of a description that can't be read, behind those of a selection for which every name of a region
+/// symbol's form has a meaning.
+fn refuse(
+    alloc: Global,
+    objects: Vec<Named<Object>>,
+    archives: Vec<Named<Archive>>,
+    refusal: Refusal,
+) -> Result<Image, Fault>
+    ensures { Links objects.items archives.items (undescribed refusal) result }
+{
+    let _ = select(alloc, objects, archives, None)?;
+    Err(Fault::Refused(refusal))
+}
 
 /// The image of bytes alone, linked from a base on, a multiple of 4: its one load region has the read-only and
 /// read-write parts. The objects of the command line stand first, then the members that are needed.
@@ -21,17 +59,18 @@ use std::alloc::Global;
 /// Refusals, the first that is present: those of `link_select::select`, `link_assign::assign`,
 /// `link_veneer::plan_veneers`, `link_place::place` and `link_apply::apply`, in this order.
 pub fn link_plain(
-    _alloc: Global,
-    _objects: Vec<Named<Object>>,
-    _archives: Vec<Named<Archive>>,
-    _base: u32,
+    alloc: Global,
+    objects: Vec<Named<Object>>,
+    archives: Vec<Named<Archive>>,
+    base: u32,
 ) -> Result<Image, Fault>
-    requires objects { AllByRecursion (λ o. IsValid o.value) _objects.items }
-    requires archives { AllByRecursion (λ a. IsValidArchive a.value) _archives.items }
-    requires base { _base % 4 ≡ 0 }
-    ensures exact { Links _objects.items _archives.items (linking (kind.Plain _base) None) result }
+    requires objects { AllByRecursion (λ o. IsValid o.value) objects.items }
+    requires archives { AllByRecursion (λ a. IsValidArchive a.value) archives.items }
+    requires base { base % 4 ≡ 0 }
+    ensures exact { Links objects.items archives.items (linking (kind.Plain base) None) result }
 {
-    Err(Fault::NoMemory)
+    let kind = Kind::Plain { base };
+    link(alloc, objects, archives, &kind, None)
 }
 
 /// The image by a scatter description's text. `ram` has the ranges that can be written, if they are told.
@@ -39,15 +78,19 @@ pub fn link_plain(
 /// A text that is no description is refused by `ScatterLine`, behind the refusals of selection, for which every name
 /// of a region symbol's form has a meaning then.
 pub fn link_scatter(
-    _alloc: Global,
-    _objects: Vec<Named<Object>>,
-    _archives: Vec<Named<Archive>>,
-    _text: &[u8],
-    _ram: Option<&[Range32]>,
+    alloc: Global,
+    objects: Vec<Named<Object>>,
+    archives: Vec<Named<Archive>>,
+    text: &[u8],
+    ram: Option<&[Range32]>,
 ) -> Result<Image, Fault>
-    requires objects { AllByRecursion (λ o. IsValid o.value) _objects.items }
-    requires archives { AllByRecursion (λ a. IsValidArchive a.value) _archives.items }
-    ensures exact { Links _objects.items _archives.items (scatter_linking _text.now (option_copied _ram.entry)) result }
+    requires objects { AllByRecursion (λ o. IsValid o.value) objects.items }
+    requires archives { AllByRecursion (λ a. IsValidArchive a.value) archives.items }
+    ensures exact { Links objects.items archives.items (scatter_linking text.now (option_copied ram.entry)) result }
 {
-    Err(Fault::NoMemory)
+    match read_scatter(alloc, text) {
+        Ok(scatter) => link(alloc, objects, archives, &Kind::Scatter(scatter), ram),
+        Err(Fault::Refused(refusal)) => refuse(alloc, objects, archives, refusal),
+        Err(fault) => Err(fault),
+    }
 }

@@ -4,3 +4,4 @@ mod LineLaws
 mod Steps
 mod Pieces
 mod MapLaws
+pub mod Rows

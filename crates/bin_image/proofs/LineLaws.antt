@@ -1,5 +1,5 @@
 -- Each line: what is spelled is read, what is read is spelled so, and no spelled line has a line feed.
-use Rattle.std.proofs.Common.{◌≡◌, ◌∙◌, ℕ, ◌+◌, ◌%◌, ◌^◌, ◌<◌, List, ◌∷◌, ◌++◌, Bool, true, false, cond, ◌==◌, not, nat_le, Option, Some, None, refl, ap, sym, subst, arith, eq-eqb, eqb-true, le-leb, leb-true, option_and_then}
+use Rattle.std.proofs.Common.{◌≡◌, ◌∙◌, ℕ, ◌+◌, ◌%◌, ◌^◌, ◌<◌, List, ◌∷◌, ◌++◌, Bool, true, false, cond, ◌==◌, not, nat_le, Option, Some, None, refl, ap, sym, subst, arith, eq-eqb, eqb-true, le-leb, leb-true}
 use Rattle.std.specs.Prelude.{codes, bytes_eq}
 use Rattle.std.proofs.lemmas.Bool.{and_parts, and_from}
 use Rattle.std.proofs.lemmas.Bool.Decides.{nat_tests}

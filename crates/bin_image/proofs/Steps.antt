@@ -1,6 +1,6 @@
 -- The lines so far: each state is reached by exactly the lines that its map spells so far, and some valid map goes
 -- on from it.
-use Rattle.std.proofs.Common.{◌≡◌, ◌∙◌, ℕ, ◌+◌, ◌%◌, ◌^◌, ◌<◌, List, [], ◌∷◌, ◌++◌, map, Bool, true, false, cond, ◌&&◌, ◌||◌, nat_lt, nat_le, Option, Some, None, refl, ap, sym, subst, arith, lt-ltb, ltb-true, leb-true, leb-false, append_assoc, append-nil, option_map}
+use Rattle.std.proofs.Common.{◌≡◌, ◌∙◌, ℕ, ◌+◌, ◌%◌, ◌^◌, ◌<◌, List, [], ◌∷◌, ◌++◌, map, Bool, true, false, cond, ◌&&◌, nat_lt, nat_le, Option, Some, None, refl, ap, sym, subst, arith, lt-ltb, ltb-true, leb-true, leb-false, append_assoc, append-nil, option_map}
 use Rattle.std.specs.Prelude.{bytes_eq}
 use Rattle.std.specs.List.{list_any, AllByRecursion, flat_map}
 use Rattle.std.specs.Option.{option_map_or}

@@ -9,3 +9,8 @@ pub mod Targets
 pub mod Starts
 pub mod Sums
 pub mod Applied
+pub mod Detours
+pub mod Sites
+pub mod Patching
+pub mod Pieces
+pub mod Rows

@@ -9,7 +9,9 @@ use Rattle.patch_model.specs.Fields.{Kind, Byte, Half, Word, Branch, Field, Valu
 use Rattle.link_apply.specs.declared.starts.FieldKind.{FieldKind}
 use Rattle.link_apply.specs.declared.starts.FieldKind.TheVariants as code
 use Rattle.link_apply.specs.declared.starts.Start.{Start}
+use Rattle.link_values.specs.declared.bases.AreaBases.{AreaBases}
 use Rattle.link_values.specs.declared.values.SymbolValue.{SymbolValue}
+use Rattle.link_values.specs.Bases.{base_of}
 
 -- ---- kinds of fields
 
@@ -69,6 +71,10 @@ abbrev pub AreStarts : Values → List Reloc → Starts → Type 0
 AreStarts values relocs m = (p : ℕ) → get nat_eq m p ≡ starts values relocs p
 
 -- ---- numbers that fit
+
+-- the addresses of areas
+abbrev pub AreLow : AreaBases → Type 0
+AreLow bases = (object area : ℕ) → base_of bases object area < 2 ^ 34
 
 abbrev pub AreBelow : List SymbolValue → Type 0
 AreBelow symbols = (k : ℕ) (s : SymbolValue) → slice_get symbols k ≡ Some s → s.number < 2 ^ 34

@@ -1,6 +1,6 @@
 -- The values of symbols and the ways of branches, as the code holds them. This project's.
-use Rattle.std.specs.Prelude.{◌≡◌, ℕ, false, List, get_or, slice_get, Option, Some, None}
-use Rattle.patch_model.specs.Fields.{Home, Meant, Values}
+use Rattle.std.specs.Prelude.{◌≡◌, ℕ, false, List, slice_get, Option, Some, None}
+use Rattle.patch_model.specs.Fields.{Meant, Values}
 use Rattle.patch_model.specs.Patched.{Way, Directly, ByVeneer}
 use Rattle.link_model.specs.declared.placing.Placement.{Placement}
 use Rattle.link_apply.specs.Placed.{veneers_at, target_in}
@@ -14,8 +14,8 @@ meant_at None = record { number = 0; thumb = false; datum = false; home = None }
 meant_at (Some s) = meant s
 
 -- by the addresses of an object's areas and the values of its symbols
-abbrev pub values_by : List ℕ → List SymbolValue → Values
-values_by bases symbols = record { base = λ k. get_or bases k 0; symbol = λ k. meant_at (slice_get symbols k) }
+abbrev pub values_by : (ℕ → ℕ) → List SymbolValue → Values
+values_by bases symbols = record { base = bases; symbol = λ k. meant_at (slice_get symbols k) }
 
 abbrev pub way_by : Option Target → Way
 way_by None = Directly

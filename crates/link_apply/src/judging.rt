@@ -14,7 +14,8 @@ use crate::starts::{Start, kind_of, place_of, size_of};
 use aof_object::{Area, Reloc};
 use indexmap::IndexMap;
 
-fn is_outside_of(bytes: &[u8], reloc: Reloc) -> bool
+/// Whether the field of a relocation goes beyond the bytes.
+pub fn is_outside_of(bytes: &[u8], reloc: Reloc) -> bool
     ensures { result ≡ is_outside bytes.now (field_of reloc) }
 {
     let end = place_of(reloc) as u64 + size_of(kind_of(reloc)) as u64;

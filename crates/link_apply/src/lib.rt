@@ -3,16 +3,24 @@
 #![tactic(auto)]
 
 mod applying;
+mod areas;
+mod detours;
 mod fields;
 mod flaws;
 mod judging;
 mod laws;
+mod laying;
 mod numbers;
 mod overlaps;
 mod patching;
+mod placing;
 mod relocations;
+mod sites;
 mod starts;
+mod startup;
 mod targets;
+mod telling;
+mod veneers;
 mod ways;
 mod writing;
 

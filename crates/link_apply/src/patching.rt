@@ -1,6 +1,6 @@
 //! The numbers that fields are to hold, and their writing.
 
-ghost use Rattle.std.specs.Prelude.{◌≡◌, ℕ, Bool, List, ◌<◌, ◌^◌, false, Some};
+ghost use Rattle.std.specs.Prelude.{◌≡◌, ℕ, Bool, ◌<◌, ◌^◌, false, Some};
 ghost use Rattle.link_model.specs.declared.placing.Placement.{Placement};
 ghost use Rattle.link_model.specs.Veneers.{IsIn};
 ghost use Rattle.patch_model.specs.Fields.{field_of, size_of as kind_size, kind_of as field_kind, Branch, Values};
@@ -91,7 +91,7 @@ pub fn target_at(
     requires inside { is_outside area.now.bytes (field_of reloc) ≡ false }
     requires base { base < 2 ^ 33 }
     requires relative { start.relative < 2 ^ 30 }
-    ensures { (bases : List ℕ) (number : ℕ) → IsIn area.now.relocs reloc
+    ensures { (bases : ℕ → ℕ) (number : ℕ) → IsIn area.now.relocs reloc
         → starts (values_by bases symbols.now) area.now.relocs (field_of reloc).place ≡ Some start
         → IsWay (values_by bases symbols.now) base number area.now reloc (way_by result) }
 {

@@ -1,14 +1,15 @@
 //! What relocations do to the fields that begin at each place of an area.
 
-ghost use Rattle.std.specs.Prelude.{◌≡◌, ℕ, ◌<◌, ◌^◌, ◌==◌, ◌||◌, not, [], slice_index, EachIndex, Some, nat_eq, length, OnOk, IfOk, IfSome, if◌then◌else◌};
+ghost use Rattle.std.specs.Prelude.{◌≡◌, ℕ, ◌<◌, ◌^◌, ◌==◌, ◌||◌, not, Some, nat_eq, length, OnOk, IfOk, IfSome, if◌then◌else◌};
 ghost use Rattle.patch_model.specs.Fields.{field_of, kind_of as field_kind, mark_of as field_mark, size_of as kind_size, value_named, is_thumb_label as is_label, is_same_kind};
 ghost use Rattle.indexmap.specs.IndexMap.{get};
 ghost use Rattle.link_apply.specs.Targets.{values_by};
-ghost use Rattle.link_apply.specs.Starts.{code_of, kind_by, symbol_by, started as start_with, AreBelow, AreSmall, AreStarts, IsSmall};
+ghost use Rattle.link_apply.specs.Starts.{code_of, kind_by, symbol_by, started as start_with, AreBelow, AreLow, AreSmall, AreStarts, IsSmall};
+ghost use Rattle.link_values.specs.Bases.{base_of};
 
 use aof_object::Reloc;
 use indexmap::IndexMap;
-use link_values::SymbolValue;
+use link_values::{AreaBases, SymbolValue, base_at};
 use sdt_fault::NoMemory;
 use std::alloc::Global;
 
@@ -84,7 +85,7 @@ pub fn size_of(kind: FieldKind) -> u32
 
 fn symbol_number(symbols: &[SymbolValue], number: u32) -> u64
     requires { AreBelow symbols.now }
-    ensures value { result ≡ ((values_by [] symbols.now).symbol number).number }
+    ensures value { result ≡ ((values_by (λ k. 0) symbols.now).symbol number).number }
     ensures bound { result < 2 ^ 34 }
 {
     match symbols.get(number as usize) {
@@ -94,7 +95,7 @@ fn symbol_number(symbols: &[SymbolValue], number: u32) -> u64
 }
 
 fn is_thumb_label(symbols: &[SymbolValue], number: u32) -> bool
-    ensures { result ≡ is_label ((values_by [] symbols.now).symbol number) }
+    ensures { result ≡ is_label ((values_by (λ k. 0) symbols.now).symbol number) }
 {
     match symbols.get(number as usize) {
         None => false,
@@ -103,25 +104,22 @@ fn is_thumb_label(symbols: &[SymbolValue], number: u32) -> bool
 }
 
 /// The number that a relocation adds, without a label's 1.
-fn number_of(bases: &[u64], symbols: &[SymbolValue], reloc: Reloc) -> u64
-    requires bases { EachIndex bases.now (λ k. slice_index bases.now k < 2 ^ 34) }
+fn number_of(bases: &AreaBases, object: u32, symbols: &[SymbolValue], reloc: Reloc) -> u64
+    requires bases { AreLow bases.now }
     requires symbols { AreBelow symbols.now }
-    ensures value { result ≡ value_named (values_by bases.now symbols.now) reloc }
+    ensures value { result ≡ value_named (values_by (base_of bases.now object) symbols.now) reloc }
     ensures bound { result < 2 ^ 34 }
 {
     let number = reloc.word % 0x100_0000;
     if reloc.word / 0x800_0000 % 2 == 1 {
         return symbol_number(symbols, number);
     }
-    match bases.get(number as usize) {
-        None => 0,
-        Some(base) => *base,
-    }
+    base_at(bases, object, number)
 }
 
 /// The 1 that a label of Thumb code counts more in a word.
 fn label_mark(symbols: &[SymbolValue], reloc: Reloc) -> u64
-    ensures value { result ≡ field_mark (values_by [] symbols.now) reloc }
+    ensures value { result ≡ field_mark (values_by (λ k. 0) symbols.now) reloc }
     ensures bound { result < 2 }
 {
     if kind_of(reloc) != FieldKind::Word {
@@ -159,14 +157,20 @@ fn is_mixed_with(start: Start, kind: FieldKind) -> bool
 }
 
 /// What relocations of one place do, with one before them.
-fn started(bases: &[u64], symbols: &[SymbolValue], reloc: Reloc, rest: Option<Start>) -> Start
-    requires bases { EachIndex bases.now (λ k. slice_index bases.now k < 2 ^ 34) }
+fn started(
+    bases: &AreaBases,
+    object: u32,
+    symbols: &[SymbolValue],
+    reloc: Reloc,
+    rest: Option<Start>,
+) -> Start
+    requires bases { AreLow bases.now }
     requires symbols { AreBelow symbols.now }
     requires rest { IfSome rest IsSmall }
-    ensures { result ≡ start_with (values_by bases.now symbols.now) reloc rest }
+    ensures { result ≡ start_with (values_by (base_of bases.now object) symbols.now) reloc rest }
 {
     let kind = kind_of(reloc);
-    let more = number_of(bases, symbols, reloc) + label_mark(symbols, reloc);
+    let more = number_of(bases, object, symbols, reloc) + label_mark(symbols, reloc);
     let relative = (reloc.word / 0x400_0000 % 2) as u64;
     match rest {
         None => Start {
@@ -192,21 +196,22 @@ fn started(bases: &[u64], symbols: &[SymbolValue], reloc: Reloc, rest: Option<St
 
 fn note(
     starts: &mut IndexMap<u64, Start>,
-    bases: &[u64],
+    bases: &AreaBases,
+    object: u32,
     symbols: &[SymbolValue],
     reloc: Reloc,
 ) -> Result<(), NoMemory>
-    requires bases { EachIndex bases.now (λ k. slice_index bases.now k < 2 ^ 34) }
+    requires bases { AreLow bases.now }
     requires symbols { AreBelow symbols.now }
     requires small { AreSmall starts.old }
     ensures { OnOk result ((p : ℕ) → get nat_eq starts.new p
         ≡ (if (field_of reloc).place == p
-        then Some (start_with (values_by bases.now symbols.now) reloc (get nat_eq starts.old p))
+        then Some (start_with (values_by (base_of bases.now object) symbols.now) reloc (get nat_eq starts.old p))
         else get nat_eq starts.old p)) }
 {
     let place = place_of(reloc) as u64;
     let rest = starts.get(&place).copied();
-    let start = started(bases, symbols, reloc, rest);
+    let start = started(bases, object, symbols, reloc, rest);
     starts.insert(place, start)?;
     Ok(())
 }
@@ -214,18 +219,19 @@ fn note(
 /// What relocations do at each place where a field begins.
 pub fn starts_of(
     alloc: Global,
-    bases: &[u64],
+    bases: &AreaBases,
+    object: u32,
     symbols: &[SymbolValue],
     relocs: &[Reloc],
 ) -> Result<IndexMap<u64, Start>, NoMemory>
-    requires bases { EachIndex bases.now (λ k. slice_index bases.now k < 2 ^ 34) }
+    requires bases { AreLow bases.now }
     requires symbols { AreBelow symbols.now }
     requires few { length relocs.now < 2 ^ 28 }
-    ensures { IfOk result (λ starts. AreStarts (values_by bases.now symbols.now) relocs.now starts) }
+    ensures { IfOk result (λ starts. AreStarts (values_by (base_of bases.now object) symbols.now) relocs.now starts) }
 {
     let mut starts = IndexMap::new(alloc);
     for i in (0..relocs.len()).rev() {
-        note(&mut starts, bases, symbols, relocs[i])?;
+        note(&mut starts, bases, object, symbols, relocs[i])?;
     }
     Ok(starts)
 }

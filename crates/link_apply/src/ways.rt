@@ -1,6 +1,6 @@
 //! How a branch leads to what it names.
 
-ghost use Rattle.std.specs.Prelude.{◌≡◌, ℕ, ◌+◌, ◌<◌, ◌^◌, []};
+ghost use Rattle.std.specs.Prelude.{◌≡◌, ℕ, ◌+◌, ◌<◌, ◌^◌};
 ghost use Rattle.patch_model.specs.Patched.{ahead as ahead_of, middle as middle_of, span as span_of, total as total_of, way_to};
 ghost use Rattle.link_apply.specs.Starts.{AreBelow};
 ghost use Rattle.link_model.specs.declared.placing.Placement.{Placement};
@@ -82,7 +82,7 @@ pub fn target_by(
     requires less { sums.less < 2 ^ 63 }
     ensures { way_by result ≡ way_to thumb
         (total_of (at + ahead_of thumb + span_of thumb word) 0 (middle_of thumb))
-        sums.more sums.less (values_by [] symbols.now) symbol }
+        sums.more sums.less (values_by (λ k. 0) symbols.now) symbol }
 {
     let number = symbol?;
     let found = symbols.get(number as usize)?;

@@ -63,7 +63,7 @@ range_of (Some r) h = (record { base = r.base; size = execution_size r; in_space
 found_place : (test : Planned → Bool) (rs : List Planned) (r : Planned) → find test rs ≡ Some r → slice_get rs (position_or_len test rs) ≡ Some r
 found_place test rs r h = sym (find_at test rs) ∙ h
 
-same_state : (a b : Bool) → not (other_state a b) ≡ true → a ≡ b
+pub same_state : (a b : Bool) → not (other_state a b) ≡ true → a ≡ b
 same_state true true e = refl
 same_state true false e = absurd cc
 same_state false true e = absurd cc

@@ -1,0 +1,5 @@
+pub mod LoadLemmas
+pub mod MadeLemmas
+pub mod Rows
+pub mod ValidLemmas
+pub mod WithinLemmas

@@ -1,0 +1,116 @@
+//! Where an image starts, where its program begins, and how many steps lie between.
+
+ghost use Rattle.std.specs.Prelude.{◌≡◌, ◌^◌, ◌≤◌, length, sum_by, unwrap_or};
+ghost use Rattle.std.specs.List.{find};
+ghost use Rattle.std.specs.Option.{option_map};
+ghost use Rattle.boot_code.specs.Laws.{bound_of};
+ghost use Rattle.boot_code.specs.Startup.{copied_words, zeroed_words};
+ghost use Rattle.link_apply.specs.RegionBytes.{is_copied};
+ghost use Rattle.link_values.specs.Placed.{is_area};
+ghost use Rattle.armlink_core.specs.Images.{bound_in, entry_of, start_of};
+ghost use Rattle.armlink_core.specs.Sizes.{copies_in, region_size, zeros_in};
+
+use boot_code::steps_bound;
+use link_model::{Linked, LinkedEntry, PlacedArea, Placement, Region};
+use place_model::Kind;
+
+/// Where the image of a form starts.
+pub fn start_of(kind: &Kind, placement: &Placement) -> u32
+    ensures { result ≡ start_of kind.now placement.now }
+{
+    match kind {
+        Kind::Scatter(_) => placement.boot.unwrap_or(0),
+        Kind::Plain { base } | Kind::Aif { base, .. } => *base,
+    }
+}
+
+/// The address of the area of these numbers, or 0 where none has them.
+fn base_of(areas: &[PlacedArea], object: u32, area: u32) -> u64
+    ensures { result ≡ unwrap_or (option_map (λ a. a.address) (find (is_area object area) areas.now)) 0 }
+{
+    for placed in areas {
+        if placed.area.object == object && placed.area.area == area {
+            return placed.address;
+        }
+    }
+    0
+}
+
+/// Where the program begins.
+pub fn entry_of(linked: &Linked, placement: &Placement) -> u32
+    ensures { result ≡ entry_of linked.now placement.now }
+{
+    let LinkedEntry {
+        object,
+        area,
+        offset,
+        ..
+    } = linked.entry;
+    let base = base_of(placement.areas.as_slice(), object, area);
+    ((base % (1 << 32) + u64::from(offset)) % (1 << 32)) as u32
+}
+
+/// So many rows of the startup code's table, for so many words in all.
+#[derive(Clone, Copy)]
+struct Rows {
+    count: u64,
+    words: u64,
+}
+
+fn is_copied(region: &Region) -> bool
+    ensures { result ≡ is_copied region.now }
+{
+    region.load != region.base && region.length > 0
+}
+
+fn copies(regions: &[Region]) -> Rows
+    requires few { length (copies_in regions.now) ≤ 2 ^ 32 }
+    requires short { copied_words (copies_in regions.now) ≤ 2 ^ 32 }
+    ensures count { result.count ≡ length (copies_in regions.now) }
+    ensures words { result.words ≡ copied_words (copies_in regions.now) }
+{
+    let mut rows = Rows { count: 0, words: 0 };
+    for region in regions {
+        if is_copied(region) {
+            rows.count += 1;
+            rows.words += region.length / 4;
+        }
+    }
+    rows
+}
+
+fn zero_parts(regions: &[Region]) -> Rows
+    requires few { length (zeros_in regions.now) ≤ 2 ^ 32 }
+    requires short { zeroed_words (zeros_in regions.now) ≤ 2 ^ 32 }
+    ensures count { result.count ≡ length (zeros_in regions.now) }
+    ensures words { result.words ≡ zeroed_words (zeros_in regions.now) }
+{
+    let mut rows = Rows { count: 0, words: 0 };
+    for region in regions {
+        if region.zero > 0 {
+            rows.count += 1;
+            rows.words += region.zero / 4;
+        }
+    }
+    rows
+}
+
+fn startup_bound(regions: &[Region]) -> u64
+    requires { sum_by region_size regions.now ≤ 2 ^ 26 }
+    ensures { result ≡ bound_of (copies_in regions.now) (zeros_in regions.now) }
+{
+    let copies = copies(regions);
+    let parts = zero_parts(regions);
+    steps_bound(copies.count, copies.words, parts.count, parts.words)
+}
+
+/// How many steps the startup code of an image of the form takes at most; 0 where there is none.
+pub fn bound_in(kind: &Kind, placement: &Placement) -> u64
+    requires { sum_by region_size placement.now.regions ≤ 2 ^ 26 }
+    ensures { result ≡ bound_in kind.now placement.now }
+{
+    match kind {
+        Kind::Scatter(_) => startup_bound(placement.regions.as_slice()),
+        Kind::Plain { .. } | Kind::Aif { .. } => 0,
+    }
+}

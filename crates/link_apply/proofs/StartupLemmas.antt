@@ -1,0 +1,29 @@
+-- The bytes of the startup code with its table.
+use Rattle.std.proofs.Common.{◌≡◌, ℕ, ◌/◌, ◌%◌, ◌^◌, List, [], ◌∷◌, ◌++◌, refl, sym, ap, ◌∙◌, append_assoc, arith}
+use Rattle.sdt_word.specs.Bytes.{bytes_of}
+use Rattle.boot_code.specs.declared.rows.CopyRow.{CopyRow}
+use Rattle.boot_code.specs.declared.rows.ZeroRow.{ZeroRow}
+use Rattle.boot_code.specs.Startup.{copy_words, zero_words, table_list}
+use Rattle.byte_maps.specs.Maps.{bytes_of_words}
+
+pub words_append : (xs ys : List ℕ) → bytes_of_words (xs ++ ys) ≡ bytes_of_words xs ++ bytes_of_words ys
+words_append [] ys = refl
+words_append (x ∷ xs) ys = ap (λ l. bytes_of x 4 ++ l) (words_append xs ys) ∙ sym (append_assoc (bytes_of x 4) (bytes_of_words xs) (bytes_of_words ys))
+
+-- a word has the low 32 bits of a number
+word_of : (v : ℕ) → bytes_of (v % 2 ^ 32) 4 ≡ bytes_of v 4
+word_of v =
+    let a : v % 2 ^ 32 % 256 ≡ v % 256 = omega arith in
+    let b : v % 2 ^ 32 / 256 % 256 ≡ v / 256 % 256 = omega arith in
+    let c : v % 2 ^ 32 / 256 / 256 % 256 ≡ v / 256 / 256 % 256 = omega arith in
+    let d : v % 2 ^ 32 / 256 / 256 / 256 % 256 ≡ v / 256 / 256 / 256 % 256 = omega arith in
+    (λ i. a i ∷ b i ∷ c i ∷ d i ∷ [])
+
+pub table_same : (copies : List CopyRow) (parts : List ZeroRow) (entry : ℕ) → bytes_of_words (table_list copies parts (entry % 2 ^ 32)) ≡ bytes_of_words (table_list copies parts entry)
+table_same copies parts entry = split (entry % 2 ^ 32) ∙ ap (λ l. bytes_of_words (copy_words copies) ++ (bytes_of_words (0 ∷ 0 ∷ 0 ∷ []) ++ (bytes_of_words (zero_words parts) ++ (bytes_of_words (0 ∷ 0 ∷ []) ++ l)))) (ap (λ l. l ++ []) (word_of entry)) ∙ sym (split entry)
+  where
+    split : (e : ℕ) → bytes_of_words (table_list copies parts e)
+        ≡ bytes_of_words (copy_words copies) ++ (bytes_of_words (0 ∷ 0 ∷ 0 ∷ []) ++ (bytes_of_words (zero_words parts) ++ (bytes_of_words (0 ∷ 0 ∷ []) ++ bytes_of_words (e ∷ []))))
+    split e =
+        words_append (copy_words copies) (0 ∷ 0 ∷ 0 ∷ (zero_words parts ++ (0 ∷ 0 ∷ e ∷ [])))
+        ∙ ap (λ l. bytes_of_words (copy_words copies) ++ (bytes_of_words (0 ∷ 0 ∷ 0 ∷ []) ++ l)) (words_append (zero_words parts) (0 ∷ 0 ∷ e ∷ []))

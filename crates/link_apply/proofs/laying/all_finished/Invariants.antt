@@ -1,0 +1,5 @@
+use Rattle.std.proofs.Common.{◌≡◌, map}
+use Rattle.link_apply.proofs.laying.all_finished.Given as goal
+
+abbrev pub invariant-growing : goal.invariant-growing
+invariant-growing l = l.all.items ≡ map (λ g. g.bytes.items) l.yielded
