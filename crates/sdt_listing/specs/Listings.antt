@@ -39,15 +39,15 @@ half_line at h = line (eight at ∷ four h ∷ half_text at h (thumb_of h) ∷ [
 unfoldable pub data_line : ℕ → List ℕ → List ℕ
 data_line at bytes = line (eight at ∷ encode_lower bytes ∷ [])
 
--- words of ARM code, half-words of Thumb code, and data, sixteen bytes a line
+-- words of ARM code, half-words of Thumb code, and data from a place on, sixteen bytes a line
 abbrev pub word_lines : List ℕ → List ℕ → List ℕ
 word_lines bytes ks = flat_map (λ k. word_line (4 * k) (word_in bytes (4 * k))) ks
 
 abbrev pub half_lines : List ℕ → List ℕ → List ℕ
 half_lines bytes ks = flat_map (λ k. half_line (2 * k) (half_in bytes (2 * k))) ks
 
-abbrev pub data_lines : List ℕ → List ℕ → List ℕ
-data_lines bytes ks = flat_map (λ k. data_line (16 * k) (take 16 (drop (16 * k) bytes))) ks
+abbrev pub data_lines : ℕ → List ℕ → List ℕ → List ℕ
+data_lines place bytes ks = flat_map (λ k. data_line (place + 16 * k) (take 16 (drop (16 * k) bytes))) ks
 
 -- by the area's attributes: zero-initialised (12), code (9), Thumb code (20)
 unfoldable pub contents : ℕ → List ℕ → List ℕ
@@ -55,7 +55,7 @@ contents attributes bytes =
     if bit attributes 12 == 1 then [] else (
     if bit attributes 9 == 1 then (
     if bit attributes 20 == 1 then half_lines bytes (from 0 (length bytes / 2)) else word_lines bytes (from 0 (length bytes / 4)))
-    else data_lines bytes (from 0 ((length bytes + 15) / 16)))
+    else data_lines 0 bytes (from 0 ((length bytes + 15) / 16)))
 
 -- ---- the lines of an object
 

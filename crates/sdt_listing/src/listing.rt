@@ -1,6 +1,6 @@
 //! The listing of an object and of a library.
 
-ghost use Rattle.std.specs.Prelude.{◌≡◌, ◌<◌, ◌+◌, ◌*◌, ◌/◌, ◌^◌, ◌++◌, ◌∷◌, [], All, length, take, drop, OnOk, IfOk};
+ghost use Rattle.std.specs.Prelude.{◌≡◌, ◌<◌, ◌≤◌, ◌+◌, ◌-◌, ◌*◌, ◌/◌, ◌^◌, ◌++◌, ◌∷◌, [], All, length, take, drop, OnOk, IfOk};
 ghost use Rattle.std.specs.List.{flat_map};
 ghost use Rattle.sdt_word.specs.Bytes.{half_in, word_in};
 ghost use Rattle.aof_object.specs.Validity.{IsValid};
@@ -25,7 +25,8 @@ fn push_field(out: &mut Vec<u8>, field: &[u8]) -> Result<(), NoMemory>
     push(out, field)
 }
 
-fn push_eight_field(out: &mut Vec<u8>, number: u32) -> Result<(), NoMemory>
+/// Appends eight digits behind a space.
+pub fn push_eight_field(out: &mut Vec<u8>, number: u32) -> Result<(), NoMemory>
     ensures { OnOk result (out.new.items ≡ out.old.items ++ (32 ∷ parts.eight number)) }
 {
     push(out, b" ")?;
@@ -72,11 +73,20 @@ fn push_word_of(alloc: Global, out: &mut Vec<u8>, bytes: &[u8], k: usize) -> Res
     push_word_line(alloc, out, (4 * k) as u32, word_at(bytes, 4 * k))
 }
 
-fn push_word_lines(alloc: Global, out: &mut Vec<u8>, bytes: &[u8]) -> Result<(), NoMemory>
-    requires { length bytes.now < 2 ^ 32 }
-    ensures { OnOk result (out.new.items ≡ out.old.items ++ listings.word_lines bytes.now (listings.from 0 (length bytes.now / 4))) }
+/// Appends the lines of the words from number `first` to before number `end`.
+pub fn push_word_lines(
+    alloc: Global,
+    out: &mut Vec<u8>,
+    bytes: &[u8],
+    first: usize,
+    end: usize,
+) -> Result<(), NoMemory>
+    requires bounded { length bytes.now < 2 ^ 32 }
+    requires order { first ≤ end }
+    requires within { end ≤ length bytes.now / 4 }
+    ensures { OnOk result (out.new.items ≡ out.old.items ++ listings.word_lines bytes.now (listings.from first (end - first))) }
 {
-    for k in 0..bytes.len() / 4 {
+    for k in first..end {
         push_word_of(alloc, out, bytes, k)?;
     }
     Ok(())
@@ -110,20 +120,32 @@ fn piece(bytes: &[u8], at: usize) -> &[u8]
     &rest[..size]
 }
 
-fn push_data_of(alloc: Global, out: &mut Vec<u8>, bytes: &[u8], k: usize) -> Result<(), NoMemory>
-    requires bounded { length bytes.now < 2 ^ 32 }
+fn push_data_of(
+    alloc: Global,
+    out: &mut Vec<u8>,
+    place: u32,
+    bytes: &[u8],
+    k: usize,
+) -> Result<(), NoMemory>
+    requires bounded { place + length bytes.now < 2 ^ 32 }
     requires within { k < (length bytes.now + 15) / 16 }
-    ensures { OnOk result (out.new.items ≡ out.old.items ++ listings.data_line (16 * k) (take 16 (drop (16 * k) bytes.now))) }
+    ensures { OnOk result (out.new.items ≡ out.old.items ++ listings.data_line (place + 16 * k) (take 16 (drop (16 * k) bytes.now))) }
 {
-    push_data_line(alloc, out, (16 * k) as u32, piece(bytes, 16 * k))
+    push_data_line(alloc, out, place + (16 * k) as u32, piece(bytes, 16 * k))
 }
 
-fn push_data_lines(alloc: Global, out: &mut Vec<u8>, bytes: &[u8]) -> Result<(), NoMemory>
-    requires { length bytes.now < 2 ^ 32 }
-    ensures { OnOk result (out.new.items ≡ out.old.items ++ listings.data_lines bytes.now (listings.from 0 ((length bytes.now + 15) / 16))) }
+/// Appends the lines of bytes whose first has the offset `place`.
+pub fn push_data_lines(
+    alloc: Global,
+    out: &mut Vec<u8>,
+    place: u32,
+    bytes: &[u8],
+) -> Result<(), NoMemory>
+    requires { place + length bytes.now < 2 ^ 32 }
+    ensures { OnOk result (out.new.items ≡ out.old.items ++ listings.data_lines place bytes.now (listings.from 0 ((length bytes.now + 15) / 16))) }
 {
     for k in 0..bytes.len().div_ceil(16) {
-        push_data_of(alloc, out, bytes, k)?;
+        push_data_of(alloc, out, place, bytes, k)?;
     }
     Ok(())
 }
@@ -142,12 +164,12 @@ fn push_contents(
         return Ok(());
     }
     if field(attributes, 9, 1) != 1 {
-        return push_data_lines(alloc, out, bytes);
+        return push_data_lines(alloc, out, 0, bytes);
     }
     if field(attributes, 20, 1) == 1 {
         return push_half_lines(alloc, out, bytes);
     }
-    push_word_lines(alloc, out, bytes)
+    push_word_lines(alloc, out, bytes, 0, bytes.len() / 4)
 }
 
 fn push_reloc(out: &mut Vec<u8>, reloc: Reloc) -> Result<(), NoMemory>

@@ -1,4 +1,4 @@
-//! The command `list`: the listing of an object or of a library, printed.
+//! The command `list`: the listing of an object, of a library or of an ARM image file, printed.
 #![tactic(auto)]
 
 pub mod list;

@@ -1,14 +1,16 @@
 //! The listing of a file.
 
-ghost use Rattle.std.specs.Prelude.{◌<◌, ◌^◌, length};
+ghost use Rattle.std.specs.Prelude.{◌≡◌, ◌<◌, ◌^◌, length};
 ghost use Rattle.chunk_file.specs.Reading.{Gives};
 ghost use Rattle.tool_listing.specs.Lists as lists;
 
+use aif_image::read_aif;
 use alf_archive::{is_library, read_archive};
 use aof_object::read_object;
 use sdt_fault::Text;
 use sdt_fault::answer::Fault;
-use sdt_listing::{list_archive, list_object};
+use sdt_listing::{list_aif, list_archive, list_object};
+use sdt_word::word_at;
 use std::alloc::Global;
 use tool_library::members::named_fault;
 
@@ -32,14 +34,40 @@ fn archive_listing(alloc: Global, name: &Text, bytes: &[u8]) -> Result<Text, Fau
     }
 }
 
+fn aif_listing(alloc: Global, name: &Text, bytes: &[u8]) -> Result<Text, Fault>
+    requires { length bytes.now < 2 ^ 32 }
+    ensures { Gives result (lists.aif_listing name.now bytes.now) }
+{
+    match read_aif(alloc, bytes) {
+        Ok(aif) => Ok(list_aif(alloc, &aif, bytes)?),
+        Err(fault) => Err(named_fault(alloc, name, fault)),
+    }
+}
+
+fn chunk_listing(alloc: Global, name: &Text, bytes: &[u8]) -> Result<Text, Fault>
+    requires { length bytes.now < 2 ^ 32 }
+    ensures { Gives result (lists.chunk_listing name.now bytes.now) }
+{
+    if is_library(alloc, bytes)? {
+        return archive_listing(alloc, name, bytes);
+    }
+    object_listing(alloc, name, bytes)
+}
+
+fn begins_as_chunks(bytes: &[u8]) -> bool
+    ensures { result ≡ lists.begins_as_chunks bytes.now }
+{
+    bytes.len() >= 4 && word_at(bytes, 0) == 0xC3CB_C6C5
+}
+
 /// The listing of a file's bytes, or its refusal with the file's name.
 #[tactic(auto, unfolding(crate::specs::Lists::listing))]
 pub fn listing(alloc: Global, name: &Text, bytes: &[u8]) -> Result<Text, Fault>
     requires { length bytes.now < 2 ^ 32 }
     ensures { Gives result (lists.listing name.now bytes.now) }
 {
-    if is_library(alloc, bytes)? {
-        return archive_listing(alloc, name, bytes);
+    if begins_as_chunks(bytes) {
+        return chunk_listing(alloc, name, bytes);
     }
-    object_listing(alloc, name, bytes)
+    aif_listing(alloc, name, bytes)
 }
