@@ -1,20 +1,22 @@
 -- What words keep in which no word breaks a rule.
-use Rattle.std.proofs.Common.{◌≡◌, ℕ, ◌+◌, ◌%◌, ◌^◌, ◌<◌, ◌≤◌, ◌==◌, nat_lt, nat_le, Bool, true, false, cond, not, ◌&&◌, ◌||◌, List, [], ◌∷◌, ◌++◌, length, map, Option, Some, None, unwrap_or, refl, sym, ap, ◌∙◌, arith, rules}
+use Rattle.std.proofs.Common.{◌≡◌, ℕ, ◌+◌, ◌%◌, ◌==◌, nat_lt, Bool, true, false, cond, not, ◌&&◌, List, [], ◌∷◌, ◌++◌, length, map, Option, Some, None, unwrap_or, refl, sym, ap, ◌∙◌, arith}
 use Rattle.std.specs.Prelude.{filter, find, option_map, if◌then◌else◌}
 use Rattle.std.specs.List.{AllByRecursion}
 use Rattle.std.specs.Option.{option_map_or}
 use Rattle.std.proofs.lemmas.Bool.Decides.{nat_tests}
+use Rattle.std.proofs.lemmas.List.{length-map}
+use Rattle.std.proofs.lemmas.List.Sums.{length-filter}
 use Rattle.tool_words.specs.declared.items.Verb.{Verb}
-use Rattle.tool_words.specs.declared.items.Verb.TheVariants.{Assemble, Library, List as Listing, Run}
+use Rattle.tool_words.specs.declared.items.Verb.TheVariants.{Assemble, Library, List as Listing, Run, Link, Build}
 use Rattle.tool_words.specs.declared.items.Flag.{Flag}
 use Rattle.tool_words.specs.declared.items.Flag.TheVariants as flag
 use Rattle.tool_words.specs.declared.items.Role.{Role}
 use Rattle.tool_words.specs.declared.items.Role.TheVariants.{Name, Known, Unknown}
 use Rattle.tool_words.specs.declared.items.Item.{Item}
-use Rattle.tool_words.specs.declared.command.Command.{Command}
-use Rattle.tool_words.specs.Items.{word_at, value_count}
-use Rattle.tool_words.specs.Rules.{code, is_flag, is_name, number_at, is_aligned, is_size, first_is_good, second_is_good, value_fault, or_else, values_fault, is_allowed, is_surplus, is_plain, is_below, most_names, name_count, role_fault, items_fault, names_fault, is_complete, lesser, verb_fault, mode_of}
-use Rattle.tool_words.specs.Commands.{place_of, number_of, bank_at, banks_in, image_of, library_command, verb_command, IsBank, IsPlaced, IsGood}
+use Rattle.tool_words.specs.Items.{word_at}
+use Rattle.tool_words.specs.Rules.{code, has, is_flag, is_name, number_at, is_aligned, is_size, first_is_good, value_fault, or_else, values_fault, is_allowed, is_surplus, name_count, role_fault, items_fault, names_fault, is_complete, lesser, verb_fault, mode_of}
+use Rattle.tool_words.specs.Commands.{number_of, bank_at, banks_in, image_of, form_of, names_in, link_words, library_command, verb_command, IsBank, IsPlaced, IsFormed, AreBanks, IsLinked, IsGood}
+use Rattle.base_lemmas.proofs.BaseLemmas.{first_of_both}
 
 -- ---- no fault at all
 
@@ -50,16 +52,21 @@ aligned_bank (Some base) (Some size) a s = record {
 pub data Banks : Flag → Type 0 where
   memory : Banks flag.Memory
   rom : Banks flag.Rom
+  ram : Banks flag.Ram
 
-bank_of : (f : Flag) → Banks f → (words : List (List ℕ)) (at : ℕ) → values_fault f words at ≡ None → IsBank (bank_at words at)
-bank_of f memory words at h =
+bank_of : (verb : Verb) (f : Flag) → Banks f → (words : List (List ℕ)) (at : ℕ) → values_fault verb f words at ≡ None → IsBank (bank_at words at)
+bank_of verb f memory words at h =
     aligned_bank (number_at words (at + 1)) (number_at words (at + 2))
     (is_good words (at + 1) _ (first_none (value_fault words (at + 1) (first_is_good flag.Memory words at)) _ h))
     (is_good words (at + 2) _ (later_none (value_fault words (at + 1) (first_is_good flag.Memory words at)) _ h))
-bank_of f rom words at h =
+bank_of verb f rom words at h =
     aligned_bank (number_at words (at + 1)) (number_at words (at + 2))
     (is_good words (at + 1) _ (first_none (value_fault words (at + 1) (first_is_good flag.Rom words at)) _ h))
     (is_good words (at + 2) _ (later_none (value_fault words (at + 1) (first_is_good flag.Rom words at)) _ h))
+bank_of verb f ram words at h =
+    aligned_bank (number_at words (at + 1)) (number_at words (at + 2))
+    (is_good words (at + 1) _ (first_none (value_fault words (at + 1) (first_is_good flag.Ram words at)) _ h))
+    (is_good words (at + 2) _ (later_none (value_fault words (at + 1) (first_is_good flag.Ram words at)) _ h))
 
 -- ---- an option's number tells it
 
@@ -67,7 +74,8 @@ flag_at : ℕ → Flag
 flag_at n =
     if n == 0 then flag.Create else (if n == 1 then flag.Table else (if n == 2 then flag.Extract else (
     if n == 3 then flag.Output else (if n == 4 then flag.Map else (if n == 5 then flag.Bin else (
-    if n == 6 then flag.At else (if n == 7 then flag.Memory else (if n == 8 then flag.Rom else flag.Steps))))))))
+    if n == 6 then flag.At else (if n == 7 then flag.Memory else (if n == 8 then flag.Rom else (
+    if n == 9 then flag.Steps else (if n == 10 then flag.Scatter else (if n == 11 then flag.Base else flag.Ram)))))))))))
 
 back : (f : Flag) → flag_at (code f) ≡ f
 unfolding flag_at
@@ -81,6 +89,9 @@ back flag.At = refl
 back flag.Memory = refl
 back flag.Rom = refl
 back flag.Steps = refl
+back flag.Scatter = refl
+back flag.Base = refl
+back flag.Ram = refl
 
 same_flag : (f g : Flag) → (code f == code g) ≡ true → f ≡ g
 same_flag f g h = let e : code f ≡ code g = grind (arith, nat_tests) in sym (back f) ∙ (ap flag_at e ∙ back g)
@@ -92,66 +103,106 @@ role_of_flag f (Known g) h = ap Known (sym (same_flag f g h))
 
 -- ---- each item's values
 
-abbrev HasValues : List (List ℕ) → Item → Type 0
-HasValues words i = (f : Flag) → i.role ≡ Known f → values_fault f words i.at ≡ None
+abbrev HasValues : Verb → List (List ℕ) → Item → Type 0
+HasValues verb words i = (f : Flag) → i.role ≡ Known f → values_fault verb f words i.at ≡ None
 
-values_fine : (verb : Verb) (words : List (List ℕ)) (mode : Option Flag) (before : List Item) (at : ℕ) (role : Role) (f : Flag) → role ≡ Known f → role_fault verb words mode before at role ≡ None → values_fault f words at ≡ None
+values_fine : (verb : Verb) (words : List (List ℕ)) (mode : Option Flag) (before : List Item) (at : ℕ) (role : Role) (f : Flag) → role ≡ Known f → role_fault verb words mode before at role ≡ None → values_fault verb f words at ≡ None
 values_fine verb words mode before at role f e h =
     let k : role_fault verb words mode before at (Known f) ≡ None = ap (role_fault verb words mode before at) (sym e) ∙ h in
-    (chosen (is_allowed verb mode f && not (is_surplus before f)) (values_fault f words at) at k).1
+    (chosen (is_allowed verb mode f && not (is_surplus before f)) (values_fault verb f words at) at k).1
 
-all_fine : (verb : Verb) (words : List (List ℕ)) (mode : Option Flag) (before items : List Item) → items_fault verb words mode before items ≡ None → AllByRecursion (HasValues words) items
+all_fine : (verb : Verb) (words : List (List ℕ)) (mode : Option Flag) (before items : List Item) → items_fault verb words mode before items ≡ None → AllByRecursion (HasValues verb words) items
 all_fine verb words mode before [] h = tt
 all_fine verb words mode before (i ∷ is) h = (
   λ f e. values_fine verb words mode before i.at i.role f e (first_none (role_fault verb words mode before i.at i.role) _ h),
   all_fine verb words mode (before ++ i ∷ []) is (later_none (role_fault verb words mode before i.at i.role) _ h),
 )
 
-bank_more : (f : Flag) → Banks f → (words : List (List ℕ)) (i : Item) (is : List Item) (b : Bool) → is_flag f i.role ≡ b → HasValues words i → AllByRecursion IsBank (banks_in words is f)
+bank_more : (verb : Verb) (f : Flag) → Banks f → (words : List (List ℕ)) (i : Item) (is : List Item) (b : Bool) → is_flag f i.role ≡ b → HasValues verb words i → AllByRecursion IsBank (banks_in words is f)
     → AllByRecursion IsBank (map (λ j. bank_at words j.at) (cond b (i ∷ filter (λ j. is_flag f j.role) is) (filter (λ j. is_flag f j.role) is)))
-bank_more f k words i is true e fine rest = (bank_of f k words i.at (fine f (role_of_flag f i.role e)), rest)
-bank_more f k words i is false e fine rest = rest
+bank_more verb f k words i is true e fine rest = (bank_of verb f k words i.at (fine f (role_of_flag f i.role e)), rest)
+bank_more verb f k words i is false e fine rest = rest
 
-banks_fine : (f : Flag) → Banks f → (words : List (List ℕ)) (items : List Item) → AllByRecursion (HasValues words) items → AllByRecursion IsBank (banks_in words items f)
-banks_fine f k words [] all = tt
-banks_fine f k words (i ∷ is) all = bank_more f k words i is _ refl all.0 (banks_fine f k words is all.1)
+banks_fine : (verb : Verb) (f : Flag) → Banks f → (words : List (List ℕ)) (items : List Item) → AllByRecursion (HasValues verb words) items → AllByRecursion IsBank (banks_in words items f)
+banks_fine verb f k words [] all = tt
+banks_fine verb f k words (i ∷ is) all = bank_more verb f k words i is _ refl all.0 (banks_fine verb f k words is all.1)
 
--- ---- the address of a binary image
+-- ---- the address of an image
 
 aligned_number : (o : Option ℕ) → is_aligned o ≡ true → unwrap_or o 0 % 4 ≡ 0
 aligned_number None h = refl
 aligned_number (Some n) h = grind (arith, nat_tests)
 
-address_of : (words : List (List ℕ)) (at : ℕ) → values_fault flag.At words at ≡ None → unwrap_or (number_at words (at + 1)) 0 % 4 ≡ 0
-address_of words at h = aligned_number (number_at words (at + 1)) (is_good words (at + 1) _ (first_none (value_fault words (at + 1) (first_is_good flag.At words at)) _ h))
+-- the options whose value is an address
+pub data Addresses : Flag → Type 0 where
+  entry : Addresses flag.At
+  base : Addresses flag.Base
 
-found_at : (words : List (List ℕ)) (o : Option Item) → ℕ
-found_at words o = option_map_or (λ at. unwrap_or (number_at words (at + 1)) 0) (option_map (λ i. i.at) o) 0
+address_of : (verb : Verb) (f : Flag) → Addresses f → (words : List (List ℕ)) (at : ℕ) → values_fault verb f words at ≡ None → unwrap_or (number_at words (at + 1)) 0 % 4 ≡ 0
+address_of verb f entry words at h = aligned_number (number_at words (at + 1)) (is_good words (at + 1) _ (first_none (value_fault words (at + 1) (first_is_good flag.At words at)) _ h))
+address_of verb f base words at h = aligned_number (number_at words (at + 1)) (is_good words (at + 1) _ (first_none (value_fault words (at + 1) (first_is_good flag.Base words at)) _ h))
 
-address_more : (words : List (List ℕ)) (i : Item) (is : List Item) (b : Bool) → is_flag flag.At i.role ≡ b → HasValues words i → found_at words (find (λ j. is_flag flag.At j.role) is) % 4 ≡ 0
-    → found_at words (cond b (Some i) (find (λ j. is_flag flag.At j.role) is)) % 4 ≡ 0
+found_at : (words : List (List ℕ)) (o : Option Item) (usual : ℕ) → ℕ
+found_at words o usual = option_map_or (λ at. unwrap_or (number_at words (at + 1)) 0) (option_map (λ i. i.at) o) usual
+
+address_more : (verb : Verb) (f : Flag) → Addresses f → (words : List (List ℕ)) (i : Item) (is : List Item) (usual : ℕ) (b : Bool) → is_flag f i.role ≡ b → HasValues verb words i → found_at words (find (λ j. is_flag f j.role) is) usual % 4 ≡ 0
+    → found_at words (cond b (Some i) (find (λ j. is_flag f j.role) is)) usual % 4 ≡ 0
 unfolding found_at
-address_more words i is true e fine rest = address_of words i.at (fine flag.At (role_of_flag flag.At i.role e))
-address_more words i is false e fine rest = rest
+address_more verb f k words i is usual true e fine rest = address_of verb f k words i.at (fine f (role_of_flag f i.role e))
+address_more verb f k words i is usual false e fine rest = rest
 
-address_fine : (words : List (List ℕ)) (items : List Item) → AllByRecursion (HasValues words) items → found_at words (find (λ j. is_flag flag.At j.role) items) % 4 ≡ 0
+address_fine : (verb : Verb) (f : Flag) → Addresses f → (words : List (List ℕ)) (items : List Item) (usual : ℕ) → usual % 4 ≡ 0 → AllByRecursion (HasValues verb words) items → number_of words items f usual % 4 ≡ 0
 unfolding found_at
-address_fine words [] all = refl
-address_fine words (i ∷ is) all = address_more words i is _ refl all.0 (address_fine words is all.1)
+address_fine verb f k words [] usual u all = u
+address_fine verb f k words (i ∷ is) usual u all = address_more verb f k words i is usual _ refl all.0 (address_fine verb f k words is usual u all.1)
 
-image_fine : (mode : Option Flag) (words : List (List ℕ)) (items : List Item) → AllByRecursion (HasValues words) items → IsPlaced (image_of mode words items)
-unfolding found_at
-image_fine None words items all = address_fine words items all
-image_fine (Some flag.Map) words items all = tt
-image_fine (Some flag.Create) words items all = address_fine words items all
-image_fine (Some flag.Table) words items all = address_fine words items all
-image_fine (Some flag.Extract) words items all = address_fine words items all
-image_fine (Some flag.Output) words items all = address_fine words items all
-image_fine (Some flag.Bin) words items all = address_fine words items all
-image_fine (Some flag.At) words items all = address_fine words items all
-image_fine (Some flag.Memory) words items all = address_fine words items all
-image_fine (Some flag.Rom) words items all = address_fine words items all
-image_fine (Some flag.Steps) words items all = address_fine words items all
+image_fine : (verb : Verb) (mode : Option Flag) (words : List (List ℕ)) (items : List Item) → AllByRecursion (HasValues verb words) items → IsPlaced (image_of mode words items)
+image_fine verb None words items all = address_fine verb flag.At entry words items 0 refl all
+image_fine verb (Some flag.Create) words items all = address_fine verb flag.At entry words items 0 refl all
+image_fine verb (Some flag.Table) words items all = address_fine verb flag.At entry words items 0 refl all
+image_fine verb (Some flag.Extract) words items all = address_fine verb flag.At entry words items 0 refl all
+image_fine verb (Some flag.Output) words items all = address_fine verb flag.At entry words items 0 refl all
+image_fine verb (Some flag.Map) words items all = tt
+image_fine verb (Some flag.Bin) words items all = address_fine verb flag.At entry words items 0 refl all
+image_fine verb (Some flag.At) words items all = address_fine verb flag.At entry words items 0 refl all
+image_fine verb (Some flag.Memory) words items all = address_fine verb flag.At entry words items 0 refl all
+image_fine verb (Some flag.Rom) words items all = address_fine verb flag.At entry words items 0 refl all
+image_fine verb (Some flag.Steps) words items all = address_fine verb flag.At entry words items 0 refl all
+image_fine verb (Some flag.Scatter) words items all = address_fine verb flag.At entry words items 0 refl all
+image_fine verb (Some flag.Base) words items all = address_fine verb flag.At entry words items 0 refl all
+image_fine verb (Some flag.Ram) words items all = address_fine verb flag.At entry words items 0 refl all
+
+form_fine : (verb : Verb) (mode : Option Flag) (words : List (List ℕ)) (items : List Item) → AllByRecursion (HasValues verb words) items → IsFormed (form_of mode words items)
+form_fine verb None words items all = address_fine verb flag.Base base words items 0x8000 refl all
+form_fine verb (Some flag.Create) words items all = address_fine verb flag.Base base words items 0x8000 refl all
+form_fine verb (Some flag.Table) words items all = address_fine verb flag.Base base words items 0x8000 refl all
+form_fine verb (Some flag.Extract) words items all = address_fine verb flag.Base base words items 0x8000 refl all
+form_fine verb (Some flag.Output) words items all = address_fine verb flag.Base base words items 0x8000 refl all
+form_fine verb (Some flag.Map) words items all = address_fine verb flag.Base base words items 0x8000 refl all
+form_fine verb (Some flag.Bin) words items all = address_fine verb flag.Base base words items 0x8000 refl all
+form_fine verb (Some flag.At) words items all = address_fine verb flag.Base base words items 0x8000 refl all
+form_fine verb (Some flag.Memory) words items all = address_fine verb flag.Base base words items 0x8000 refl all
+form_fine verb (Some flag.Rom) words items all = address_fine verb flag.Base base words items 0x8000 refl all
+form_fine verb (Some flag.Steps) words items all = address_fine verb flag.Base base words items 0x8000 refl all
+form_fine verb (Some flag.Scatter) words items all = tt
+form_fine verb (Some flag.Base) words items all = address_fine verb flag.Base base words items 0x8000 refl all
+form_fine verb (Some flag.Ram) words items all = address_fine verb flag.Base base words items 0x8000 refl all
+
+-- ---- what is linked
+
+ram_fine : (verb : Verb) (words : List (List ℕ)) (items : List Item) (b : Bool) → AllByRecursion (HasValues verb words) items → AreBanks (cond b (Some (banks_in words items flag.Ram)) None)
+ram_fine verb words items true all = banks_fine verb flag.Ram ram words items all
+ram_fine verb words items false all = tt
+
+names_counted : (words : List (List ℕ)) (items : List Item) → length (names_in words items) ≡ name_count items
+names_counted words items = length-map (filter (λ i. is_name i.role) items) (λ i. word_at words i.at) ∙ length-filter (λ i. is_name i.role) items
+
+linked : (verb : Verb) (mode : Option Flag) (words : List (List ℕ)) (items : List Item) → AllByRecursion (HasValues verb words) items → nat_lt 0 (name_count items) ≡ true → IsLinked (link_words mode words items)
+linked verb mode words items all some = record {
+  form = form_fine verb mode words items all;
+  named = rw (names_counted words items) (grind (arith, nat_tests));
+  ram = ram_fine verb words items (has flag.Ram items) all;
+}
 
 -- ---- the command
 
@@ -172,11 +223,35 @@ library_good (Some flag.At) words items = tt
 library_good (Some flag.Memory) words items = tt
 library_good (Some flag.Rom) words items = tt
 library_good (Some flag.Steps) words items = tt
+library_good (Some flag.Scatter) words items = tt
+library_good (Some flag.Base) words items = tt
+library_good (Some flag.Ram) words items = tt
+
+-- who links has a name
+pub data Links : Verb → Type 0 where
+  link : Links Link
+  build : Links Build
+
+named : (verb : Verb) → Links verb → (mode : Option Flag) (items : List Item) → is_complete verb mode items ≡ true → nat_lt 0 (name_count items) ≡ true
+named verb link None items h = absurd (let bad : false ≡ true = h in cc)
+named verb link (Some mode) items h = first_of_both (nat_lt 0 (name_count items)) (has flag.Output items) h
+named verb build None items h = absurd (let bad : false ≡ true = h in cc)
+named verb build (Some mode) items h = first_of_both (nat_lt 0 (name_count items)) (has flag.Output items) h
+
+all_good : (verb : Verb) (words : List (List ℕ)) (items : List Item) → verb_fault verb words items ≡ None → AllByRecursion (HasValues verb words) items
+all_good verb words items h = all_fine verb words (mode_of items) [] items (lesser_none _ (names_fault verb (mode_of items) words items) (first_none _ _ h))
+
+links : (verb : Verb) → Links verb → (words : List (List ℕ)) (items : List Item) → verb_fault verb words items ≡ None → IsLinked (link_words (mode_of items) words items)
+links verb k words items h =
+    let complete : is_complete verb (mode_of items) items ≡ true = (chosen (is_complete verb (mode_of items) items) None (length words) (later_none (lesser (items_fault verb words (mode_of items) [] items) (names_fault verb (mode_of items) words items)) _ h)).0 in
+    linked verb (mode_of items) words items (all_good verb words items h) (named verb k (mode_of items) items complete)
 
 pub good_words : (verb : Verb) (words : List (List ℕ)) (items : List Item) → verb_fault verb words items ≡ None → IsGood (verb_command verb (mode_of items) words items)
 good_words Assemble words items h = tt
 good_words Library words items h = library_good (mode_of items) words items
 good_words Listing words items h = tt
 good_words Run words items h =
-    let all = all_fine Run words (mode_of items) [] items (lesser_none _ (names_fault Run (mode_of items) words items) (first_none _ _ h)) in
-    (image_fine (mode_of items) words items all, banks_fine flag.Memory memory words items all, banks_fine flag.Rom rom words items all)
+    let all = all_good Run words items h in
+    (image_fine Run (mode_of items) words items all, banks_fine Run flag.Memory memory words items all, banks_fine Run flag.Rom rom words items all)
+good_words Link words items h = links Link link words items h
+good_words Build words items h = links Build build words items h

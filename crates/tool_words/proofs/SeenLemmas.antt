@@ -1,5 +1,5 @@
 -- A set of words after one more word was seen.
-use Rattle.std.proofs.Common.{◌≡◌, ℕ, Bool, true, false, cond, List, refl, ap, ◌∙◌, sym, ◌||◌}
+use Rattle.std.proofs.Common.{◌≡◌, ℕ, true, cond, List, ◌∙◌, ◌||◌}
 use Rattle.std.specs.Str.{bytes_eq}
 use Rattle.std.specs.Ordering.{nat_cmp, is_eq}
 use Rattle.std.specs.Cmp.Lexicographic.{slice_cmp}

@@ -1,11 +1,11 @@
 -- What good words ask for. This project's.
-use Rattle.std.specs.Prelude.{◌≡◌, ℕ, ◌+◌, ◌-◌, ◌%◌, ◌^◌, ◌<◌, ◌≤◌, List, [], map, filter, find, min, length, Option, Some, None, Result, Ok, Err, unwrap_or, option_map}
+use Rattle.std.specs.Prelude.{◌≡◌, ℕ, ◌+◌, ◌%◌, ◌^◌, ◌<◌, ◌≤◌, List, [], map, filter, find, min, length, Option, Some, None, Result, Ok, Err, unwrap_or, option_map, if◌then◌else◌}
 use Rattle.std.specs.List.{AllByRecursion}
 use Rattle.std.specs.Option.{option_map_or}
 use Rattle.tool_words.specs.declared.items.Verb.{Verb}
-use Rattle.tool_words.specs.declared.items.Verb.TheVariants.{Assemble, Library, List as Listing, Run}
+use Rattle.tool_words.specs.declared.items.Verb.TheVariants.{Assemble, Library, List as Listing, Run, Link, Build}
 use Rattle.tool_words.specs.declared.items.Flag.{Flag}
-use Rattle.tool_words.specs.declared.items.Flag.TheVariants.{Create, Table, Extract, Output, Bin, At, Memory, Rom, Steps}
+use Rattle.tool_words.specs.declared.items.Flag.TheVariants.{Create, Table, Extract, Output, Bin, At, Memory, Rom, Steps, Base, Ram}
 use Rattle.tool_words.specs.declared.items.Flag.TheVariants as flag
 use Rattle.tool_words.specs.declared.items.Item.{Item}
 use Rattle.tool_words.specs.declared.command.Bank.{Bank}
@@ -13,10 +13,13 @@ use Rattle.tool_words.specs.declared.command.Command.{Command}
 use Rattle.tool_words.specs.declared.command.Command.TheVariants as command
 use Rattle.tool_words.specs.declared.command.RunImage.{RunImage}
 use Rattle.tool_words.specs.declared.command.RunImage.TheVariants as image
+use Rattle.tool_words.specs.declared.command.LinkForm.{LinkForm}
+use Rattle.tool_words.specs.declared.command.LinkForm.TheVariants as form
+use Rattle.tool_words.specs.declared.command.LinkWords.{LinkWords}
 use Rattle.tool_words.specs.declared.command.WordsFault.{WordsFault}
 use Rattle.tool_words.specs.declared.command.WordsFault.TheVariants as fault
 use Rattle.tool_words.specs.Items.{word_at, verb_named, items_of}
-use Rattle.tool_words.specs.Rules.{is_flag, is_name, mode_of, number_at, verb_fault}
+use Rattle.tool_words.specs.Rules.{has, is_flag, is_name, mode_of, number_at, verb_fault}
 
 -- the place of an option
 abbrev pub place_of : Flag → List Item → Option ℕ
@@ -49,6 +52,22 @@ abbrev pub image_of : Option Flag → List (List ℕ) → List Item → RunImage
 image_of (Some flag.Map) words items = image.Map (value_of words items flag.Map)
 image_of mode words items = image.Binary (value_of words items Bin) (number_of words items At 0)
 
+-- the form of an image that is made, and the banks that it may use, where any is told
+abbrev pub form_of : Option Flag → List (List ℕ) → List Item → LinkForm
+form_of (Some flag.Scatter) words items = form.Scatter (value_of words items flag.Scatter)
+form_of mode words items = form.Plain (number_of words items Base 0x8000)
+
+abbrev pub ram_of : List (List ℕ) → List Item → Option (List Bank)
+ram_of words items = if has Ram items then Some (banks_in words items Ram) else None
+
+abbrev pub link_words : Option Flag → List (List ℕ) → List Item → LinkWords
+link_words mode words items = record {
+  form = form_of mode words items;
+  output = value_of words items Output;
+  names = names_in words items;
+  ram = ram_of words items;
+}
+
 abbrev pub library_command : Option Flag → List (List ℕ) → List Item → Command
 library_command (Some Create) words items = command.CreateLibrary (value_of words items Create) (names_in words items)
 library_command (Some Extract) words items = command.ExtractMember (value_of words items Extract) (first_name words items) (value_of words items Output)
@@ -64,6 +83,8 @@ verb_command Run mode words items = command.Run (record {
   rom = banks_in words items Rom;
   steps = number_of words items Steps 10000000;
 })
+verb_command Link mode words items = command.Link (link_words mode words items)
+verb_command Build mode words items = command.Build (link_words mode words items)
 
 -- a place as it is told: counted from 1, and at most 2^32 - 1
 abbrev pub told : ℕ → ℕ
@@ -111,6 +132,21 @@ abbrev pub IsPlaced : RunImage → Type 0
 IsPlaced (image.Map file) = Unit {0}
 IsPlaced (image.Binary file at) = at % 4 ≡ 0
 
+abbrev pub IsFormed : LinkForm → Type 0
+IsFormed (form.Scatter file) = Unit {0}
+IsFormed (form.Plain base) = base % 4 ≡ 0
+
+abbrev pub AreBanks : Option (List Bank) → Type 0
+AreBanks None = Unit {0}
+AreBanks (Some banks) = AllByRecursion IsBank banks
+
+pub record IsLinked (l : LinkWords) : Type 0 where
+  pub form : IsFormed l.form
+  pub named : 0 < length l.names
+  pub ram : AreBanks l.ram
+
 abbrev pub IsGood : Command → Type 0
 IsGood (command.Run run) = IsPlaced run.image × AllByRecursion IsBank run.memory × AllByRecursion IsBank run.rom
+IsGood (command.Link link) = IsLinked link
+IsGood (command.Build link) = IsLinked link
 IsGood other = Unit {0}

@@ -1,9 +1,9 @@
 -- The words behind a command, as items: names, and options with their values. This project's.
-use Rattle.std.specs.Prelude.{ℕ, zero, suc, ◌+◌, ◌-◌, ◌==◌, nat_lt, Bool, true, false, if◌then◌else◌, List, [], ◌∷◌, ◌++◌, length, slice_get, unwrap_or, min, Option, Some, None, codes, bytes_eq}
+use Rattle.std.specs.Prelude.{ℕ, zero, suc, ◌+◌, ◌-◌, ◌==◌, nat_lt, Bool, true, false, if◌then◌else◌, List, [], ◌∷◌, length, slice_get, unwrap_or, min, Option, Some, None, codes, bytes_eq}
 use Rattle.tool_words.specs.declared.items.Verb.{Verb}
-use Rattle.tool_words.specs.declared.items.Verb.TheVariants.{Assemble, Library, List as Listing, Run}
+use Rattle.tool_words.specs.declared.items.Verb.TheVariants.{Assemble, Library, List as Listing, Run, Link, Build}
 use Rattle.tool_words.specs.declared.items.Flag.{Flag}
-use Rattle.tool_words.specs.declared.items.Flag.TheVariants.{Create, Table, Extract, Output, Map, Bin, At, Memory, Rom, Steps}
+use Rattle.tool_words.specs.declared.items.Flag.TheVariants.{Create, Table, Extract, Output, Map, Bin, At, Memory, Rom, Steps, Scatter, Base, Ram}
 use Rattle.tool_words.specs.declared.items.Role.{Role}
 use Rattle.tool_words.specs.declared.items.Role.TheVariants.{Name, Known, Unknown}
 use Rattle.tool_words.specs.declared.items.Item.{Item}
@@ -18,7 +18,16 @@ verb_named word =
     if bytes_eq word (codes "asm") then Some Assemble else (
     if bytes_eq word (codes "lib") then Some Library else (
     if bytes_eq word (codes "list") then Some Listing else (
-    if bytes_eq word (codes "run") then Some Run else None)))
+    if bytes_eq word (codes "run") then Some Run else (
+    if bytes_eq word (codes "link") then Some Link else (
+    if bytes_eq word (codes "build") then Some Build else None)))))
+
+-- an option that only the making of an image has
+abbrev pub image_flag_named : List ℕ → Option Flag
+image_flag_named word =
+    if bytes_eq word (codes "-scatter") then Some Scatter else (
+    if bytes_eq word (codes "-base") then Some Base else (
+    if bytes_eq word (codes "-ram") then Some Ram else None))
 
 -- the option of a spelling
 abbrev pub flag_named : List ℕ → Option Flag
@@ -32,7 +41,16 @@ flag_named word =
     if bytes_eq word (codes "-at") then Some At else (
     if bytes_eq word (codes "-mem") then Some Memory else (
     if bytes_eq word (codes "-rom") then Some Rom else (
-    if bytes_eq word (codes "-steps") then Some Steps else None)))))))))
+    if bytes_eq word (codes "-steps") then Some Steps else image_flag_named word)))))))))
+
+-- the options of making an image
+abbrev pub is_image_flag : Flag → Bool
+is_image_flag Scatter = true
+is_image_flag Bin = true
+is_image_flag Base = true
+is_image_flag Output = true
+is_image_flag Ram = true
+is_image_flag other = false
 
 -- the options of a command
 abbrev pub has_flag : Verb → Flag → Bool
@@ -51,6 +69,8 @@ has_flag Run Memory = true
 has_flag Run Rom = true
 has_flag Run Steps = true
 has_flag Run other = false
+has_flag Link flag = is_image_flag flag
+has_flag Build flag = is_image_flag flag
 
 -- an option of the command, or one that it hasn't
 abbrev pub flag_role : Verb → Option Flag → Role
@@ -65,23 +85,30 @@ begins_with_dash (c ∷ cs) = c == 45
 abbrev pub role_of : Verb → List ℕ → Role
 role_of verb word = if begins_with_dash word then flag_role verb (flag_named word) else Name
 
+-- how many values -bin has: the file of an image to run, and none where the image is made
+abbrev pub bin_count : Verb → ℕ
+bin_count Run = 1
+bin_count other = 0
+
 -- how many values an option has: a base and a size, or one word
-abbrev pub value_count : Flag → ℕ
-value_count Memory = 2
-value_count Rom = 2
-value_count other = 1
+abbrev pub value_count : Verb → Flag → ℕ
+value_count verb Memory = 2
+value_count verb Rom = 2
+value_count verb Ram = 2
+value_count verb Bin = bin_count verb
+value_count verb other = 1
 
 -- how many values follow; none follow an option that the command hasn't
-abbrev pub count_of : Role → ℕ
-count_of Name = 0
-count_of (Known flag) = value_count flag
-count_of Unknown = 0
+abbrev pub count_of : Verb → Role → ℕ
+count_of verb Name = 0
+count_of verb (Known flag) = value_count verb flag
+count_of verb Unknown = 0
 
 -- the item that begins at a place; its values are fewer where the words end
 abbrev pub item_at : Verb → List (List ℕ) → ℕ → Item
 item_at verb words at =
     let role = role_of verb (word_at words at) in
-    record { at = at; role = role; count = min (count_of role) (length words - (at + 1)) }
+    record { at = at; role = role; count = min (count_of verb role) (length words - (at + 1)) }
 
 -- the items from a place on, one after the other; each has one word at least
 abbrev pub items_from : Verb → List (List ℕ) → ℕ → ℕ → List Item

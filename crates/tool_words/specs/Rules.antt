@@ -3,9 +3,9 @@
 use Rattle.std.specs.Prelude.{ℕ, ◌+◌, ◌%◌, ◌^◌, ◌==◌, nat_lt, nat_le, Bool, true, false, not, ◌&&◌, ◌||◌, if◌then◌else◌, List, [], ◌∷◌, ◌++◌, length, min, Option, Some, None, is_some, bytes_eq, count_by}
 use Rattle.std.specs.List.{list_any, list_all}
 use Rattle.tool_words.specs.declared.items.Verb.{Verb}
-use Rattle.tool_words.specs.declared.items.Verb.TheVariants.{Assemble, Library, List as Listing, Run}
+use Rattle.tool_words.specs.declared.items.Verb.TheVariants.{Assemble, Library, List as Listing, Run, Link, Build}
 use Rattle.tool_words.specs.declared.items.Flag.{Flag}
-use Rattle.tool_words.specs.declared.items.Flag.TheVariants.{Create, Table, Extract, Output, Map, Bin, At, Memory, Rom, Steps}
+use Rattle.tool_words.specs.declared.items.Flag.TheVariants.{Create, Table, Extract, Output, Map, Bin, At, Memory, Rom, Steps, Scatter, Base, Ram}
 use Rattle.tool_words.specs.declared.items.Role.{Role}
 use Rattle.tool_words.specs.declared.items.Role.TheVariants.{Name, Known, Unknown}
 use Rattle.tool_words.specs.declared.items.Item.{Item}
@@ -26,6 +26,9 @@ code At = 6
 code Memory = 7
 code Rom = 8
 code Steps = 9
+code Scatter = 10
+code Base = 11
+code Ram = 12
 
 abbrev pub is_flag : Flag → Role → Bool
 is_flag flag Name = false
@@ -47,6 +50,7 @@ name_count items = count_by (λ i. is_name i.role) items
 abbrev pub is_bank : Flag → Bool
 is_bank Memory = true
 is_bank Rom = true
+is_bank Ram = true
 is_bank other = false
 
 abbrev pub is_bank_role : Role → Bool
@@ -64,6 +68,7 @@ is_mode Table = true
 is_mode Extract = true
 is_mode Map = true
 is_mode Bin = true
+is_mode Scatter = true
 is_mode other = false
 
 -- the first such option
@@ -110,8 +115,10 @@ number_at words at = number (word_at words at)
 -- the first value of an option, behind its word at a place
 abbrev pub first_is_good : Flag → List (List ℕ) → ℕ → Bool
 first_is_good At words at = is_aligned (number_at words (at + 1))
+first_is_good Base words at = is_aligned (number_at words (at + 1))
 first_is_good Memory words at = is_aligned (number_at words (at + 1))
 first_is_good Rom words at = is_aligned (number_at words (at + 1))
+first_is_good Ram words at = is_aligned (number_at words (at + 1))
 first_is_good Steps words at = is_at_most 1000000000 (number_at words (at + 1))
 first_is_good other words at = is_plain (word_at words (at + 1))
 
@@ -127,17 +134,22 @@ abbrev pub or_else : Option ℕ → Option ℕ → Option ℕ
 or_else None later = later
 or_else (Some n) later = Some n
 
-abbrev pub values_fault : Flag → List (List ℕ) → ℕ → Option ℕ
-values_fault flag words at =
-    or_else (value_fault words (at + 1) (first_is_good flag words at))
-    (if value_count flag == 2 then value_fault words (at + 2) (second_is_good words at) else None)
+abbrev pub values_fault : Verb → Flag → List (List ℕ) → ℕ → Option ℕ
+values_fault verb flag words at =
+    or_else (if value_count verb flag == 0 then None else value_fault words (at + 1) (first_is_good flag words at))
+    (if value_count verb flag == 2 then value_fault words (at + 2) (second_is_good words at) else None)
 
 -- ---- rules
 
--- an option that depends on another: -o of a library on -e, -at on -bin
+-- an option that depends on another: -o of a library on -e, -at on -bin; of an image that is made, none beside
+-- -scatter takes -base, and none beside -bin takes -ram
 abbrev pub is_allowed : Verb → Option Flag → Flag → Bool
 is_allowed Library mode Output = is_the_mode Extract mode
 is_allowed Run mode At = is_the_mode Bin mode
+is_allowed Link mode Base = not (is_the_mode Scatter mode)
+is_allowed Build mode Base = not (is_the_mode Scatter mode)
+is_allowed Link mode Ram = not (is_the_mode Bin mode)
+is_allowed Build mode Ram = not (is_the_mode Bin mode)
 is_allowed verb mode flag = true
 
 -- an option stands once, or sixteen times if it is of banks, and beside no other of which there is one
@@ -155,6 +167,8 @@ most_names Library (Some Extract) = Some 1
 most_names Library (Some other) = None
 most_names Listing mode = Some 1
 most_names Run mode = Some 0
+most_names Link mode = None
+most_names Build mode = None
 
 abbrev pub is_below : ℕ → Option ℕ → Bool
 is_below n None = true
@@ -166,7 +180,7 @@ role_fault verb words mode before at Name =
     if is_plain (word_at words at) && is_below (name_count before) (most_names verb mode) then None else Some at
 role_fault verb words mode before at Unknown = Some at
 role_fault verb words mode before at (Known flag) =
-    if is_allowed verb mode flag && not (is_surplus before flag) then values_fault flag words at else Some at
+    if is_allowed verb mode flag && not (is_surplus before flag) then values_fault verb flag words at else Some at
 
 abbrev pub items_fault : Verb → List (List ℕ) → Option Flag → List Item → List Item → Option ℕ
 items_fault verb words mode before [] = None
@@ -197,6 +211,8 @@ abbrev pub is_complete : Verb → Option Flag → List Item → Bool
 is_complete Assemble mode items = nat_lt 0 (name_count items) && has Output items
 is_complete Listing mode items = nat_lt 0 (name_count items)
 is_complete verb None items = false
+is_complete Link mode items = nat_lt 0 (name_count items) && has Output items
+is_complete Build mode items = nat_lt 0 (name_count items) && has Output items
 is_complete verb (Some Create) items = nat_lt 0 (name_count items)
 is_complete verb (Some Extract) items = nat_lt 0 (name_count items) && has Output items
 is_complete verb (Some Bin) items = has At items

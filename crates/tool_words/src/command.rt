@@ -7,7 +7,7 @@ ghost use Rattle.tool_words.specs.Commands as commands;
 
 use crate::items::{Flag, Item, Verb, items_of, verb_named};
 use crate::names::names_fault;
-use crate::rules::{is_complete, is_flag, is_name, items_fault, mode_of, number_at};
+use crate::rules::{has, is_complete, is_flag, is_name, items_fault, mode_of, number_at};
 use sdt_fault::{List, NoMemory, Text};
 use std::alloc::{AllocError, AllocFailed, Global};
 
@@ -37,6 +37,25 @@ pub struct RunWords {
     pub steps: u32,
 }
 
+/// The form of an image that is made.
+#[derive(Debug, Drop)]
+pub enum LinkForm {
+    /// Load files and their map, placed as this scatter file says.
+    Scatter { file: Text },
+    /// The bytes alone, from an address that is a multiple of 4.
+    Plain { base: u32 },
+}
+
+/// What to link: the form of the image, its file or map, one name or more of objects, libraries or sources, and
+/// the banks of memory that the image may use, where any is told (16 at most).
+#[derive(Debug, Drop)]
+pub struct LinkWords {
+    pub form: LinkForm,
+    pub output: Text,
+    pub names: List<Text>,
+    pub ram: Option<List<Bank>>,
+}
+
 #[derive(Debug, Drop)]
 pub enum Command {
     /// Writes the object of a source.
@@ -64,6 +83,10 @@ pub enum Command {
         file: Text,
     },
     Run(RunWords),
+    /// Links objects and libraries.
+    Link(LinkWords),
+    /// Assembles sources and links them with objects and libraries.
+    Build(LinkWords),
 }
 
 /// Why words ask for nothing.
@@ -88,7 +111,8 @@ impl From<NoMemory> for WordsFault {
 /// The command that the words ask for, or the first word that breaks a rule.
 pub fn read_words(alloc: Global, words: &[String]) -> Result<Command, WordsFault>
     ensures exact { commands.Reads result (commands.command_of (map string_bytes words.now)) }
-    // Banks are whole words that end at 2^32 or below, and so is the address of a binary image.
+    // Banks are whole words that end at 2^32 or below, the addresses of images are multiples of 4, and who
+    // links has names.
     ensures good { IfOk result (λ command. commands.IsGood command) }
 {
     match verb_named(first_word(words)) {
@@ -282,6 +306,55 @@ fn image_of(
     Ok(RunImage::Binary { file, at })
 }
 
+fn form_of(
+    alloc: Global,
+    mode: Option<Flag>,
+    words: &[String],
+    items: &[Item],
+) -> Result<LinkForm, NoMemory>
+    requires { All (λ i. i.at < length words.now) items.now }
+    ensures { IfOk result (λ form. form ≡ commands.form_of mode (map string_bytes words.now) items.now) }
+{
+    if let Some(Flag::Scatter) = mode {
+        let file = value_of(alloc, words, items, Flag::Scatter)?;
+        return Ok(LinkForm::Scatter { file });
+    }
+    let base = number_of(words, items, Flag::Base, 0x8000);
+    Ok(LinkForm::Plain { base })
+}
+
+fn ram_of(alloc: Global, words: &[String], items: &[Item]) -> Result<Option<List<Bank>>, NoMemory>
+    requires { All (λ i. i.at < length words.now) items.now }
+    ensures { IfOk result (λ ram. ram ≡ commands.ram_of (map string_bytes words.now) items.now) }
+{
+    if !has(Flag::Ram, items) {
+        return Ok(None);
+    }
+    let banks = banks_in(alloc, words, items, Flag::Ram)?;
+    Ok(Some(banks))
+}
+
+fn link_words(
+    alloc: Global,
+    mode: Option<Flag>,
+    words: &[String],
+    items: &[Item],
+) -> Result<LinkWords, NoMemory>
+    requires { All (λ i. i.at < length words.now) items.now }
+    ensures { IfOk result (λ link. link ≡ commands.link_words mode (map string_bytes words.now) items.now) }
+{
+    let form = form_of(alloc, mode, words, items)?;
+    let output = value_of(alloc, words, items, Flag::Output)?;
+    let names = names_in(alloc, words, items)?;
+    let ram = ram_of(alloc, words, items)?;
+    Ok(LinkWords {
+        form,
+        output,
+        names,
+        ram,
+    })
+}
+
 fn library_command(
     alloc: Global,
     mode: Option<Flag>,
@@ -359,5 +432,13 @@ fn verb_command(
             Ok(Command::List { file })
         }
         Verb::Run => run_words(alloc, mode, words, items),
+        Verb::Link => {
+            let link = link_words(alloc, mode, words, items)?;
+            Ok(Command::Link(link))
+        }
+        Verb::Build => {
+            let link = link_words(alloc, mode, words, items)?;
+            Ok(Command::Build(link))
+        }
     }
 }

@@ -17,6 +17,10 @@ pub enum Verb {
     List,
     /// `run`
     Run,
+    /// `link`
+    Link,
+    /// `build`
+    Build,
 }
 
 /// An option of some command.
@@ -42,6 +46,12 @@ pub enum Flag {
     Rom,
     /// `-steps`
     Steps,
+    /// `-scatter`
+    Scatter,
+    /// `-base`
+    Base,
+    /// `-ram`
+    Ram,
 }
 
 /// What a word is to a command.
@@ -86,6 +96,12 @@ pub fn verb_named(word: &[u8]) -> Option<Verb>
     if is(word, b"run") {
         return Some(Verb::Run);
     }
+    if is(word, b"link") {
+        return Some(Verb::Link);
+    }
+    if is(word, b"build") {
+        return Some(Verb::Build);
+    }
     None
 }
 
@@ -122,6 +138,22 @@ fn flag_named(word: &[u8]) -> Option<Flag>
     if is(word, b"-steps") {
         return Some(Flag::Steps);
     }
+    image_flag_named(word)
+}
+
+/// An option that only the making of an image has.
+fn image_flag_named(word: &[u8]) -> Option<Flag>
+    ensures { result ≡ items.image_flag_named word.now }
+{
+    if is(word, b"-scatter") {
+        return Some(Flag::Scatter);
+    }
+    if is(word, b"-base") {
+        return Some(Flag::Base);
+    }
+    if is(word, b"-ram") {
+        return Some(Flag::Ram);
+    }
     None
 }
 
@@ -135,11 +167,22 @@ fn has_flag(verb: Verb, flag: Flag) -> bool
             Flag::Create | Flag::Table | Flag::Extract | Flag::Output
         ),
         Verb::List => false,
-        Verb::Run => !matches!(
+        Verb::Run => matches!(
             flag,
-            Flag::Create | Flag::Table | Flag::Extract | Flag::Output
+            Flag::Map | Flag::Bin | Flag::At | Flag::Memory | Flag::Rom | Flag::Steps
         ),
+        Verb::Link => is_image_flag(flag),
+        Verb::Build => is_image_flag(flag),
     }
+}
+
+fn is_image_flag(flag: Flag) -> bool
+    ensures { result ≡ items.is_image_flag flag }
+{
+    matches!(
+        flag,
+        Flag::Scatter | Flag::Bin | Flag::Base | Flag::Output | Flag::Ram
+    )
 }
 
 fn role_of(verb: Verb, word: &[u8]) -> Role
@@ -165,13 +208,33 @@ fn flag_role(verb: Verb, named: Option<Flag>) -> Role
     }
 }
 
-fn count_of(role: Role) -> usize
-    ensures { result ≡ items.count_of role }
+fn bin_count(verb: Verb) -> usize
+    ensures { result ≡ items.bin_count verb }
+{
+    match verb {
+        Verb::Run => 1,
+        _ => 0,
+    }
+}
+
+/// How many values the command's option has.
+pub fn value_count(verb: Verb, flag: Flag) -> usize
+    ensures { result ≡ items.value_count verb flag }
+{
+    match flag {
+        Flag::Memory => 2,
+        Flag::Rom => 2,
+        Flag::Ram => 2,
+        Flag::Bin => bin_count(verb),
+        _ => 1,
+    }
+}
+
+fn count_of(verb: Verb, role: Role) -> usize
+    ensures { result ≡ items.count_of verb role }
 {
     match role {
-        Role::Known(Flag::Memory) => 2,
-        Role::Known(Flag::Rom) => 2,
-        Role::Known(_) => 1,
+        Role::Known(flag) => value_count(verb, flag),
         Role::Name => 0,
         Role::Unknown => 0,
     }
@@ -186,7 +249,7 @@ fn item_at(verb: Verb, words: &[String], at: usize) -> Item
     Item {
         at,
         role,
-        count: count_of(role).min(left),
+        count: count_of(verb, role).min(left),
     }
 }
 

@@ -8,4 +8,6 @@ pub mod names;
 pub mod numerals;
 pub mod rules;
 
-pub use crate::command::{Bank, Command, RunImage, RunWords, WordsFault, read_words};
+pub use crate::command::{
+    Bank, Command, LinkForm, LinkWords, RunImage, RunWords, WordsFault, read_words,
+};

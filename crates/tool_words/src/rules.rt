@@ -5,7 +5,7 @@ ghost use Rattle.std.specs.List.{list_any, list_all};
 ghost use Rattle.tool_words.specs.Items as items;
 ghost use Rattle.tool_words.specs.Rules as rules;
 
-use crate::items::{Flag, Item, Role, Verb};
+use crate::items::{Flag, Item, Role, Verb, value_count};
 use crate::numerals::number;
 
 fn code(flag: Flag) -> u8
@@ -50,7 +50,7 @@ fn name_count(items: &[Item]) -> usize
 fn is_bank(flag: Flag) -> bool
     ensures { result ≡ rules.is_bank flag }
 {
-    matches!(flag, Flag::Memory | Flag::Rom)
+    matches!(flag, Flag::Memory | Flag::Rom | Flag::Ram)
 }
 
 fn is_bank_role(role: Role) -> bool
@@ -74,7 +74,7 @@ fn is_mode(flag: Flag) -> bool
 {
     matches!(
         flag,
-        Flag::Create | Flag::Table | Flag::Extract | Flag::Map | Flag::Bin
+        Flag::Create | Flag::Table | Flag::Extract | Flag::Map | Flag::Bin | Flag::Scatter
     )
 }
 
@@ -179,6 +179,8 @@ fn first_is_good(flag: Flag, words: &[String], at: usize) -> bool
         Flag::At => is_aligned(number_at(words, at + 1)),
         Flag::Memory => is_aligned(number_at(words, at + 1)),
         Flag::Rom => is_aligned(number_at(words, at + 1)),
+        Flag::Base => is_aligned(number_at(words, at + 1)),
+        Flag::Ram => is_aligned(number_at(words, at + 1)),
         Flag::Steps => is_at_most(1_000_000_000, number_at(words, at + 1)),
         _ => plain_at(words, at + 1),
     }
@@ -200,25 +202,28 @@ fn value_fault(words: &[String], at: usize, good: bool) -> Option<usize>
     if good { None } else { Some(at) }
 }
 
-fn second_fault(flag: Flag, words: &[String], at: usize) -> Option<usize>
+fn second_fault(verb: Verb, flag: Flag, words: &[String], at: usize) -> Option<usize>
     requires { at + 1 < length words.now }
-    ensures { result ≡ (if items.value_count flag == 2 then rules.value_fault (map string_bytes words.now) (at + 2) (rules.second_is_good (map string_bytes words.now) at) else None) }
+    ensures { result ≡ (if items.value_count verb flag == 2 then rules.value_fault (map string_bytes words.now) (at + 2) (rules.second_is_good (map string_bytes words.now) at) else None) }
 {
-    if is_bank(flag) {
+    if value_count(verb, flag) == 2 {
         return value_fault(words, at + 2, second_is_good(words, at));
     }
     None
 }
 
-fn values_fault(flag: Flag, words: &[String], at: usize) -> Option<usize>
+fn values_fault(verb: Verb, flag: Flag, words: &[String], at: usize) -> Option<usize>
     requires { at < length words.now }
-    ensures { result ≡ rules.values_fault flag (map string_bytes words.now) at }
+    ensures { result ≡ rules.values_fault verb flag (map string_bytes words.now) at }
 {
+    if value_count(verb, flag) == 0 {
+        return None;
+    }
     let first = value_fault(words, at + 1, first_is_good(flag, words, at));
     if first.is_some() {
         return first;
     }
-    second_fault(flag, words, at)
+    second_fault(verb, flag, words, at)
 }
 
 ghost use Rattle.std.specs.Prelude.{if◌then◌else◌, None};
@@ -229,6 +234,10 @@ fn is_allowed(verb: Verb, mode: Option<Flag>, flag: Flag) -> bool
     match (verb, flag) {
         (Verb::Library, Flag::Output) => is_the_mode(Flag::Extract, mode),
         (Verb::Run, Flag::At) => is_the_mode(Flag::Bin, mode),
+        (Verb::Link, Flag::Base) => !is_the_mode(Flag::Scatter, mode),
+        (Verb::Build, Flag::Base) => !is_the_mode(Flag::Scatter, mode),
+        (Verb::Link, Flag::Ram) => !is_the_mode(Flag::Bin, mode),
+        (Verb::Build, Flag::Ram) => !is_the_mode(Flag::Bin, mode),
         (_, _) => true,
     }
 }
@@ -252,6 +261,8 @@ fn most_names(verb: Verb, mode: Option<Flag>) -> Option<usize>
         (Verb::Library, _) => None,
         (Verb::List, _) => Some(1),
         (Verb::Run, _) => Some(0),
+        (Verb::Link, _) => None,
+        (Verb::Build, _) => None,
     }
 }
 
@@ -284,7 +295,7 @@ fn item_fault(
         Role::Unknown => Some(item.at),
         Role::Known(flag) => {
             if is_allowed(verb, mode, flag) && !is_surplus(before, flag) {
-                return values_fault(flag, words, item.at);
+                return values_fault(verb, flag, words, item.at);
             }
             Some(item.at)
         }
@@ -328,6 +339,8 @@ pub fn is_complete(verb: Verb, mode: Option<Flag>, items: &[Item]) -> bool
         (Verb::Assemble, _) => has_name(items) && has(Flag::Output, items),
         (Verb::List, _) => has_name(items),
         (_, None) => false,
+        (Verb::Link, _) => has_name(items) && has(Flag::Output, items),
+        (Verb::Build, _) => has_name(items) && has(Flag::Output, items),
         (_, Some(Flag::Create)) => has_name(items),
         (_, Some(Flag::Extract)) => has_name(items) && has(Flag::Output, items),
         (_, Some(Flag::Bin)) => has(Flag::At, items),

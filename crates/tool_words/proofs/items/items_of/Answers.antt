@@ -1,7 +1,5 @@
-use Rattle.std.proofs.Common.{length, map, string_bytes, ◌<◌, ◌≤◌, ◌≡◌, All, arith, refl, rules}
-use Rattle.std.proofs.lemmas.Grind.{common_steps}
+use Rattle.std.proofs.Common.{length, map, string_bytes, ◌<◌, ◌≤◌, refl, rules}
 use Rattle.std.proofs.lemmas.List.{length-map}
-use Rattle.std.proofs.lemmas.List.Elements.{All-push, All-nil}
 use Rattle.tool_words.proofs.ItemLemmas.{split_first, split_next, split_end}
 use Rattle.tool_words.proofs.items.items_of.Goals as goal
 
