@@ -1,6 +1,7 @@
-mod Meaning
-mod Seen
-mod ViewLaws
 pub mod CommandLemmas
 mod AskLemmas
 mod EndLemmas
+mod InputLemmas
+mod ImageLemmas
+mod LinkLemmas
+mod WriteLemmas

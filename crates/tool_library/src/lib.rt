@@ -10,4 +10,4 @@ pub mod members;
 
 pub use crate::create::create_library;
 pub use crate::extract::{extract_member, list_members};
-pub use crate::linkables::{Linkable, linkable};
+pub use crate::linkables::{Linkable, read_linkable};

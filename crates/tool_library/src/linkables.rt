@@ -43,7 +43,7 @@ fn archive_input(alloc: Global, name: &Text, bytes: &[u8]) -> Result<Linkable, F
 /// The library that a file with a LIB_DIRY chunk holds, or the object of any other file. A refusal of a reader
 /// carries the file's name.
 #[tactic(auto, unfolding(crate::specs::Linkables::linkable_of))]
-pub fn linkable(alloc: Global, name: &Text, bytes: &[u8]) -> Result<Linkable, Fault>
+pub fn read_linkable(alloc: Global, name: &Text, bytes: &[u8]) -> Result<Linkable, Fault>
     requires { length bytes.now < 2 ^ 32 }
     ensures value { Gives result (linkable_of name.now bytes.now) }
     // What is read is valid.

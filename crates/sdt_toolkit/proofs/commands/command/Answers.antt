@@ -1,7 +1,7 @@
 use Rattle.std.proofs.Common.{map, string_bytes, refl}
 use Rattle.tool_words.specs.Commands.{command_of}
 use Rattle.sdt_toolkit.proofs.CommandLemmas.{asked, refused}
-use Rattle.sdt_toolkit.proofs.commands.other.Goals as goal
+use Rattle.sdt_toolkit.proofs.commands.command.Goals as goal
 
 pub returns-in-Ok-clause-commanded : goal.returns-in-Ok-clause-commanded
 returns-in-Ok-clause-commanded g c = asked c.in-Ok.command (command_of (map string_bytes c.args.words.now)) (record {
