@@ -1,6 +1,7 @@
 -- The sizes of an image that is linked, from what is told of its plan.
 use Rattle.std.proofs.Common.{◌≡◌, ℕ, suc, ◌+◌, ◌^◌, ◌≤◌, List, [], ◌∷◌, ◌++◌, map, sum_by, Bool, true, false, cond, nat_lt, Option, Some, None, Result, Ok, Err, refl, sym, ap, ◌∙◌, subst, arith}
 use Rattle.std.proofs.lemmas.Bool.{ltb-false}
+use Rattle.std.proofs.lemmas.List.Sums.{sum_by-append, sum_by-cons}
 use Rattle.std.specs.List.{AllByRecursion}
 use Rattle.std.specs.Option.{option_map, option_or}
 use Rattle.sdt_word.specs.declared.ranges.Range32.{Range32}
@@ -63,24 +64,22 @@ told_none (Some r) plan p h = absurd (let bad : ◌≡◌ {A = Result Placement 
 abbrev IsSmall : Region → Type 0
 IsSmall r = r.length + r.zero ≤ 2 ^ 26
 
-sum_both : (xs ys : List Planned) → sum_by execution_size (xs ++ ys) ≡ sum_by execution_size xs + sum_by execution_size ys
-sum_both [] ys = omega arith
-sum_both (x ∷ xs) ys = let e = sum_both xs ys in omega arith
-
 small_load : (number : ℕ) (rs : List Planned) (rest : List Region) → sum_by execution_size rs ≤ 2 ^ 26 → AllByRecursion IsSmall rest
     → AllByRecursion IsSmall (map (placed_region number) rs ++ rest)
 small_load number [] rest h small = small
 small_load number (r ∷ rs) rest h small =
-    let one : execution_size r ≤ 2 ^ 26 = omega arith in
-    let others : sum_by execution_size rs ≤ 2 ^ 26 = omega arith in
+    let both : sum_by execution_size (r ∷ rs) ≡ execution_size r + sum_by execution_size rs = sum_by-cons execution_size r rs in
+    let one : execution_size r ≤ 2 ^ 26 = omega (arith, both, h) in
+    let others : sum_by execution_size rs ≤ 2 ^ 26 = omega (arith, both, h) in
     (one, small_load number rs rest others small)
 
 small_regions : (number : ℕ) (p : Plan) → sum_by execution_size (regions_of p) ≤ 2 ^ 26 → AllByRecursion IsSmall (placed_regions number p)
 small_regions number [] h = tt
 small_regions number (l ∷ loads) h =
-    let both = sum_both l.regions (regions_of loads) in
-    let own : sum_by execution_size l.regions ≤ 2 ^ 26 = omega arith in
-    let others : sum_by execution_size (regions_of loads) ≤ 2 ^ 26 = omega arith in
+    let both : sum_by execution_size (l.regions ++ regions_of loads) ≡ sum_by execution_size l.regions + sum_by execution_size (regions_of loads) =
+    sum_by-append execution_size l.regions (regions_of loads) in
+    let own : sum_by execution_size l.regions ≤ 2 ^ 26 = omega (arith, both, h) in
+    let others : sum_by execution_size (regions_of loads) ≤ 2 ^ 26 = omega (arith, both, h) in
     small_load number l.regions (placed_regions (suc number) loads) own (small_regions (suc number) loads others)
 
 placed_small : (k : Kind) (ram : Option (List Range32)) (c : Contents) (p : Placement) → placed k ram c ≡ Ok p → AllByRecursion IsSmall p.regions
