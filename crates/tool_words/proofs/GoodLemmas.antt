@@ -1,6 +1,6 @@
 -- What words keep in which no word breaks a rule.
 use Rattle.std.proofs.Common.{◌≡◌, ℕ, ◌+◌, ◌%◌, ◌==◌, nat_lt, Bool, true, false, cond, not, ◌&&◌, List, [], ◌∷◌, ◌++◌, length, map, Option, Some, None, unwrap_or, refl, sym, ap, ◌∙◌, arith}
-use Rattle.std.specs.Prelude.{filter, find, option_map, if◌then◌else◌}
+use Rattle.std.specs.Prelude.{filter, find, option_map, if◌then◌else◌, is_some}
 use Rattle.std.specs.List.{AllByRecursion}
 use Rattle.std.specs.Option.{option_map_or}
 use Rattle.std.proofs.lemmas.Bool.Decides.{nat_tests}
@@ -14,9 +14,9 @@ use Rattle.tool_words.specs.declared.items.Role.{Role}
 use Rattle.tool_words.specs.declared.items.Role.TheVariants.{Name, Known, Unknown}
 use Rattle.tool_words.specs.declared.items.Item.{Item}
 use Rattle.tool_words.specs.Items.{word_at}
-use Rattle.tool_words.specs.Rules.{code, has, is_flag, is_name, number_at, is_aligned, is_size, first_is_good, value_fault, or_else, values_fault, is_allowed, is_surplus, name_count, role_fault, items_fault, names_fault, is_complete, lesser, verb_fault, mode_of}
+use Rattle.tool_words.specs.Rules.{code, has, is_flag, is_name, number_at, is_aligned, is_size, first_is_good, value_fault, or_else, values_fault, is_allowed, is_surplus, name_count, role_fault, items_fault, names_fault, needs_mode, is_met, is_complete, lesser, verb_fault, mode_of}
 use Rattle.tool_words.specs.Commands.{number_of, bank_at, banks_in, image_of, form_of, names_in, link_words, library_command, verb_command, IsBank, IsPlaced, IsFormed, AreBanks, IsLinked, IsGood}
-use Rattle.base_lemmas.proofs.BaseLemmas.{first_of_both}
+use Rattle.base_lemmas.proofs.BaseLemmas.{first_of_both, second_of_both}
 
 -- ---- no fault at all
 
@@ -233,10 +233,8 @@ pub data Links : Verb → Type 0 where
   build : Links Build
 
 named : (verb : Verb) → Links verb → (mode : Option Flag) (items : List Item) → is_complete verb mode items ≡ true → nat_lt 0 (name_count items) ≡ true
-named verb link None items h = absurd (let bad : false ≡ true = h in cc)
-named verb link (Some mode) items h = first_of_both (nat_lt 0 (name_count items)) (has flag.Output items) h
-named verb build None items h = absurd (let bad : false ≡ true = h in cc)
-named verb build (Some mode) items h = first_of_both (nat_lt 0 (name_count items)) (has flag.Output items) h
+named verb link mode items h = first_of_both (nat_lt 0 (name_count items)) _ (second_of_both (is_met (needs_mode verb) (is_some mode)) _ h)
+named verb build mode items h = first_of_both (nat_lt 0 (name_count items)) _ (second_of_both (is_met (needs_mode verb) (is_some mode)) _ h)
 
 all_good : (verb : Verb) (words : List (List ℕ)) (items : List Item) → verb_fault verb words items ≡ None → AllByRecursion (HasValues verb words) items
 all_good verb words items h = all_fine verb words (mode_of items) [] items (lesser_none _ (names_fault verb (mode_of items) words items) (first_none _ _ h))

@@ -4,3 +4,4 @@ pub mod Items
 pub mod Rules
 pub mod Seen
 pub mod Commands
+pub mod Laws

@@ -200,23 +200,49 @@ repeated words before (i ∷ is) =
     if is_name i.role && stands words before (word_at words i.at) then Some i.at
     else repeated words (before ++ i ∷ []) is
 
--- the names of a new library's objects differ
+-- the names of a new library's objects
+abbrev pub must_differ : Verb → Option Flag → Bool
+must_differ Library (Some Create) = true
+must_differ verb mode = false
+
 abbrev pub names_fault : Verb → Option Flag → List (List ℕ) → List Item → Option ℕ
-names_fault Library (Some Create) words items = repeated words [] items
-names_fault verb mode words items = None
+names_fault verb mode words items = if must_differ verb mode then repeated words [] items else None
 
 -- ---- what must stand
 
+abbrev pub needs_mode : Verb → Bool
+needs_mode Assemble = false
+needs_mode Listing = false
+needs_mode other = true
+
+abbrev pub needs_name : Verb → Option Flag → Bool
+needs_name Library (Some Table) = false
+needs_name Run mode = false
+needs_name verb mode = true
+
+-- -o
+abbrev pub needs_output : Verb → Option Flag → Bool
+needs_output Assemble mode = true
+needs_output Library mode = is_the_mode Extract mode
+needs_output Listing mode = false
+needs_output Run mode = false
+needs_output Link mode = true
+needs_output Build mode = true
+
+-- -at
+abbrev pub needs_address : Verb → Option Flag → Bool
+needs_address Run mode = is_the_mode Bin mode
+needs_address other mode = false
+
+abbrev pub is_met : Bool → Bool → Bool
+is_met needed there = not needed || there
+
 abbrev pub is_complete : Verb → Option Flag → List Item → Bool
-is_complete Assemble mode items = nat_lt 0 (name_count items) && has Output items
-is_complete Listing mode items = nat_lt 0 (name_count items)
-is_complete verb None items = false
-is_complete Link mode items = nat_lt 0 (name_count items) && has Output items
-is_complete Build mode items = nat_lt 0 (name_count items) && has Output items
-is_complete verb (Some Create) items = nat_lt 0 (name_count items)
-is_complete verb (Some Extract) items = nat_lt 0 (name_count items) && has Output items
-is_complete verb (Some Bin) items = has At items
-is_complete verb (Some other) items = true
+is_complete verb mode items =
+    is_met (needs_mode verb) (is_some mode)
+    && (is_met (needs_name verb mode) (nat_lt 0 (name_count items))
+    && (is_met (needs_output verb mode) (has Output items)
+    && is_met (needs_address verb mode) (has At items)))
 
 abbrev pub lesser : Option ℕ → Option ℕ → Option ℕ
 lesser None o = o

@@ -4,6 +4,7 @@
 
 pub mod command;
 pub mod items;
+pub mod laws;
 pub mod names;
 pub mod numerals;
 pub mod rules;

@@ -331,19 +331,56 @@ fn has_name(items: &[Item]) -> bool
 
 ghost use Rattle.std.specs.Prelude.{nat_lt};
 
+fn needs_mode(verb: Verb) -> bool
+    ensures { result ≡ rules.needs_mode verb }
+{
+    !matches!(verb, Verb::Assemble | Verb::List)
+}
+
+fn needs_name(verb: Verb, mode: Option<Flag>) -> bool
+    ensures { result ≡ rules.needs_name verb mode }
+{
+    match (verb, mode) {
+        (Verb::Library, Some(Flag::Table)) => false,
+        (Verb::Run, _) => false,
+        (_, _) => true,
+    }
+}
+
+fn needs_output(verb: Verb, mode: Option<Flag>) -> bool
+    ensures { result ≡ rules.needs_output verb mode }
+{
+    match verb {
+        Verb::Library => is_the_mode(Flag::Extract, mode),
+        Verb::List => false,
+        Verb::Run => false,
+        Verb::Assemble => true,
+        Verb::Link => true,
+        Verb::Build => true,
+    }
+}
+
+fn needs_address(verb: Verb, mode: Option<Flag>) -> bool
+    ensures { result ≡ rules.needs_address verb mode }
+{
+    match verb {
+        Verb::Run => is_the_mode(Flag::Bin, mode),
+        _ => false,
+    }
+}
+
+fn is_met(needed: bool, there: bool) -> bool
+    ensures { result ≡ rules.is_met needed there }
+{
+    !needed || there
+}
+
 /// Whether all that the command needs is there.
 pub fn is_complete(verb: Verb, mode: Option<Flag>, items: &[Item]) -> bool
     ensures { result ≡ rules.is_complete verb mode items.now }
 {
-    match (verb, mode) {
-        (Verb::Assemble, _) => has_name(items) && has(Flag::Output, items),
-        (Verb::List, _) => has_name(items),
-        (_, None) => false,
-        (Verb::Link, _) => has_name(items) && has(Flag::Output, items),
-        (Verb::Build, _) => has_name(items) && has(Flag::Output, items),
-        (_, Some(Flag::Create)) => has_name(items),
-        (_, Some(Flag::Extract)) => has_name(items) && has(Flag::Output, items),
-        (_, Some(Flag::Bin)) => has(Flag::At, items),
-        (_, Some(_)) => true,
-    }
+    is_met(needs_mode(verb), mode.is_some())
+        && is_met(needs_name(verb, mode), has_name(items))
+        && is_met(needs_output(verb, mode), has(Flag::Output, items))
+        && is_met(needs_address(verb, mode), has(Flag::At, items))
 }
