@@ -5,3 +5,15 @@ pub mod PlacedLemmas
 pub mod SizedLemmas
 pub mod ShownLemmas
 pub mod Rows
+pub mod MadeAnswerLemmas
+pub mod MadeAssignedLemmas
+pub mod MadePlacedLemmas
+pub mod MadeAddressLemmas
+pub mod MadeVeneerLemmas
+pub mod MadeRegionLemmas
+pub mod MadeAppliedLemmas
+pub mod MadeOnce
+pub mod MadeBytes
+pub mod MadeBytesOfRegions
+pub mod MadeBytesLaws
+pub mod MadeStart

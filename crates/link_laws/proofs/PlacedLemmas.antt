@@ -178,7 +178,7 @@ module _ (k : Kind) (ram : Option (List Range32)) (l : Linked) (regions : List (
       let zeros = zeros_all (IsCleared os) k c words r (shaped n r at) areas in
       stood_within (IsCleared os) r.origin (zero_base_of r) r.zeros (zero_base_of r) (end_of r) (omega arith) (omega arith) zeros
 
-  aligned : (n : ℕ) (r : Planned) → slice_get rs n ≡ Some r → AllByRecursion (λ s. s.address % 4 ≡ 0) (stood_in r)
+  pub aligned : (n : ℕ) (r : Planned) → slice_get rs n ≡ Some r → AllByRecursion (λ s. s.address % 4 ≡ 0) (stood_in r)
   aligned n r at =
       let own = all_weaker (IsOwn os) IsWholeItem (own_whole os h.valid) (areas_in c r.number) (region_own r.number) in
       let shape = shaped n r at in

@@ -41,7 +41,7 @@ use Rattle.link_laws.proofs.RegionLemmas.{things_all, things_of_stood, IsWithin,
 
 -- ---- the startup code, and the header
 
-words_length : (ws : List ℕ) → length (bytes_of_words ws) ≡ 4 * length ws
+pub words_length : (ws : List ℕ) → length (bytes_of_words ws) ≡ 4 * length ws
 words_length [] = refl
 words_length (w ∷ ws) = let rest = words_length ws in omega (arith, length-append (bytes_of w 4) (bytes_of_words ws), length-bytes_of w 4, rest)
 

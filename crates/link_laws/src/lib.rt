@@ -3,4 +3,4 @@
 
 mod laws;
 
-pub use crate::laws::{objects_are_placed, objects_are_shown};
+pub use crate::laws::{made_images, made_links, objects_are_placed, objects_are_shown};

@@ -1,0 +1,12 @@
+use Rattle.link_laws.proofs.MadeAppliedLemmas
+use Rattle.link_laws.proofs.MadePlacedLemmas
+use Rattle.link_laws.proofs.laws.made_links.Goals as goal
+
+pub returns-clause-placed : goal.returns-clause-placed
+returns-clause-placed c = MadePlacedLemmas.made_is_placed
+
+pub returns-clause-places : goal.returns-clause-places
+returns-clause-places c = MadeAppliedLemmas.made_has_places
+
+pub returns-clause-applied : goal.returns-clause-applied
+returns-clause-applied c = MadeAppliedLemmas.made_is_applied
