@@ -1,56 +1,32 @@
 -- The bytes of the regions of a link that is made are those of its plan's image.
-use Rattle.std.proofs.Common.{◌≡◌, ℕ, zero, suc, ◌+◌, ◌-◌, ◌*◌, ◌<◌, ◌≤◌, Bool, true, false, not, cond, ◌==◌, ◌&&◌, if◌then◌else◌, List, [], ◌∷◌, ◌++◌, length, length-append, append_assoc, append-nil, map, refl, sym, ap, subst, ◌∙◌, arith, eq-eqb, eqb-true, leb-true, Option, Some, None}
+use Rattle.std.proofs.Common.{◌≡◌, ℕ, zero, suc, ◌+◌, ◌-◌, ◌*◌, ◌<◌, Bool, true, false, not, ◌==◌, List, [], ◌∷◌, ◌++◌, length, length-append, append_assoc, append-nil, map, refl, sym, ap, subst, ◌∙◌, arith, eq-eqb, eqb-true, Option, Some, None}
 use Rattle.std.specs.Prelude.{slice_get}
-use Rattle.std.specs.List.{cons_option, filter, filter_map, flat_map, find, AllByRecursion}
-use Rattle.std.specs.Option.{option_map, option_and_then, option_map_or}
-use Rattle.std.proofs.lemmas.Grind.{flat_map-append}
-use Rattle.std.proofs.lemmas.List.{map-append}
-use Rattle.std.proofs.lemmas.List.Elements.{filter-append, filter_map-append}
-use Rattle.std.proofs.lemmas.Option.{slice_get-map}
-use Rattle.base_lemmas.proofs.BaseLemmas.{all_append, all_front, all_back, came_through, same}
-use Rattle.sdt_word.specs.Numbers.{bit}
-use Rattle.sdt_word.specs.declared.ranges.Range32.{Range32}
-use Rattle.aof_object.specs.declared.records.Area.{Area}
-use Rattle.aof_object.specs.declared.records.Object.{Object}
-use Rattle.aof_object.specs.Objects.{stored}
-use Rattle.aof_object.specs.Validity.{Holds as HoldsArea, IsValid}
+use Rattle.std.specs.List.{filter, flat_map, find, AllByRecursion}
+use Rattle.std.specs.Option.{option_map}
+use Rattle.std.proofs.lemmas.List.Elements.{filter-append}
+use Rattle.base_lemmas.proofs.BaseLemmas.{all_append}
 use Rattle.boot_code.specs.Startup.{table_list, zeros}
 use Rattle.boot_code.specs.Words.{boot_list}
-use Rattle.byte_maps.specs.Maps.{bytes_of_words}
-use Rattle.patch_model.specs.Fields.{Home, Values}
 use Rattle.place_model.specs.declared.scatter.Kind.{Kind}
 use Rattle.place_model.specs.declared.scatter.Kind.TheVariants as kind
 use Rattle.place_model.specs.Items.{Item, is_zero_initialised}
 use Rattle.place_model.specs.Things.{Thing, Header, AnArea, AVeneer, Startup, alignment_of, size_of, gap, start_of, extent, Stood, stood}
-use Rattle.place_model.specs.Plans.{Contents, RegionVeneer, areas_in, veneers_in, header_in, startup_in, Planned, length_of, zero_base_of, Plan, regions_of, copies_of, parts_of, table_words, plan_for, plan_of, stood_in, address_of, is_startup, boot_address}
+use Rattle.place_model.specs.Plans.{Contents, RegionVeneer, areas_in, veneers_in, header_in, startup_in, Planned, zero_base_of, regions_of, plan_for, stood_in, is_startup, boot_address}
 use Rattle.place_model.proofs.ListLemmas.{all_at, all_indexed, all_map, all_flat}
 use Rattle.image_model.specs.Regions as image
-use Rattle.image_model.specs.Regions.{Given, AreSized, startup_bytes, filled}
-use Rattle.image_laws.proofs.RegionLemmas.{NoStartup, Begins, startup_stands}
-use Rattle.link_model.specs.declared.placing.AreaName.{AreaName}
+use Rattle.image_laws.proofs.RegionLemmas.{NoStartup, startup_stands}
 use Rattle.link_model.specs.declared.placing.PlacedArea.{PlacedArea}
 use Rattle.link_model.specs.declared.placing.PlacedVeneer.{PlacedVeneer}
 use Rattle.link_model.specs.declared.placing.Placement.{Placement}
 use Rattle.link_model.specs.declared.placing.Region.{Region}
-use Rattle.link_model.specs.declared.placing.Veneer.{Veneer}
-use Rattle.link_model.specs.declared.selection.Linked.{Linked}
-use Rattle.link_model.specs.declared.selection.Named.{Named}
-use Rattle.link_model.specs.Members.{Link, link_of, objects_in}
-use Rattle.link_model.specs.RegionValues as numbers
-use Rattle.link_model.specs.Veneers.{IsIn, is_same}
-use Rattle.link_items.specs.LinkedItems.{item_of, item_in, items_in, name_of, region_veneer, contents_of, has_header}
-use Rattle.link_place.specs.Placed.{placed_region, placed_regions, area_of, areas_of, veneer_of, veneers_of, placement_of}
-use Rattle.link_values.specs.Placed.{is_area, values_in}
-use Rattle.link_apply.specs.PatchedBytes.{patched_from, patched_bytes, veneer_bytes}
-use Rattle.link_apply.specs.Placed.{leads_to, veneers_at, target_in}
+use Rattle.link_model.specs.Members.{Link}
+use Rattle.link_model.specs.Veneers.{IsIn}
+use Rattle.link_items.specs.LinkedItems.{has_header}
+use Rattle.link_place.specs.Placed.{area_of, areas_of, veneer_of, veneers_of}
 use Rattle.link_apply.specs.RegionBytes as linked
-use Rattle.link_apply.specs.RegionBytes.{area_piece, area_pieces, veneer_piece, veneer_pieces, entry_of, copy_rows, zero_rows, startup_list, startup_piece, bytes_from, regions_bytes}
-use Rattle.link_laws.specs.Placing.{link_plan, IsPlacedLink}
-use Rattle.link_laws.specs.Joins.{area_bytes, given_in, filled_in, PlacesOf, bytes_of_plan}
+use Rattle.link_apply.specs.RegionBytes.{entry_of, copy_rows, zero_rows, startup_list, startup_piece}
 use Rattle.link_laws.proofs.ListLemmas.{in_front, in_back}
-use Rattle.link_laws.proofs.ItemLemmas.{IsOwn}
-use Rattle.link_laws.proofs.RegionLemmas.{IsShaped, all_shaped, things_all, things_of_stood, header_all, startup_all, IsWithin, stood_within}
-use Rattle.link_laws.proofs.PlacedLemmas.{IsLoaded, IsCleared, loaded, cleared, shaped}
+use Rattle.link_laws.proofs.RegionLemmas.{IsShaped, all_shaped}
 use Rattle.link_laws.proofs.SizedLemmas.{words_length}
 use Rattle.link_laws.proofs.MadeAddressLemmas.{AreCounted}
 use Rattle.link_laws.proofs.MadeOnce.{all_counted}

@@ -1,6 +1,5 @@
 -- The bytes of all regions of a link that is made, and those of its files.
-use Rattle.std.proofs.Common.{◌≡◌, ℕ, zero, suc, ◌+◌, ◌<◌, ◌≤◌, Bool, true, false, ◌==◌, if◌then◌else◌, List, [], ◌∷◌, ◌++◌, append_assoc, append-nil, length, map, refl, sym, ap, subst, ◌∙◌, arith, eq-eqb, eqb-true, Option}
-use Rattle.std.specs.Prelude.{slice_get}
+use Rattle.std.proofs.Common.{◌≡◌, ℕ, zero, suc, ◌+◌, ◌<◌, true, false, ◌==◌, List, [], ◌∷◌, ◌++◌, append_assoc, append-nil, length, map, refl, sym, ap, subst, ◌∙◌, arith, eq-eqb, Option}
 use Rattle.std.specs.List.{flat_map, AllByRecursion}
 use Rattle.std.proofs.lemmas.List.{map-append}
 use Rattle.base_lemmas.proofs.BaseLemmas.{all_back}
@@ -10,9 +9,9 @@ use Rattle.place_model.specs.declared.scatter.Kind.{Kind}
 use Rattle.place_model.specs.declared.scatter.Kind.TheVariants as kind
 use Rattle.place_model.specs.declared.scatter.ScatterLoad.{ScatterLoad}
 use Rattle.place_model.specs.Assignment.{description}
-use Rattle.place_model.specs.Plans.{Contents, Planned, Plan, regions_of, loads_from, table_words, plan_of}
+use Rattle.place_model.specs.Plans.{Contents, Planned, Plan, regions_of, loads_from, table_words}
 use Rattle.place_model.proofs.ListLemmas.{all_indexed}
-use Rattle.image_model.specs.Regions.{Filling, AreSized, region_bytes, filled}
+use Rattle.image_model.specs.Regions.{Filling, AreSized, region_bytes}
 use Rattle.image_model.specs.Views.{file_of, files_of}
 use Rattle.link_model.specs.declared.placing.Assigned.{Assigned}
 use Rattle.link_model.specs.declared.placing.Placement.{Placement}
@@ -27,7 +26,7 @@ use Rattle.link_place.specs.Placed.{placed_region, placed_regions, placement_of}
 use Rattle.link_apply.specs.RegionBytes as linked
 use Rattle.link_apply.specs.RegionBytes.{bytes_from, regions_bytes}
 use Rattle.link_laws.specs.Placing.{link_plan, IsHeaderOf}
-use Rattle.link_laws.specs.Joins.{IsMade, given_in, filled_in, PlacesOf, bytes_of_plan, bytes_of_load, files_from, MadeHasBytes, MadeFiles}
+use Rattle.link_laws.specs.Joins.{IsMade, given_in, filled_in, bytes_of_plan, bytes_of_load, files_from, MadeHasBytes, MadeFiles}
 use Rattle.link_laws.proofs.MadeAddressLemmas.{AreCounted}
 use Rattle.link_laws.proofs.MadeAppliedLemmas.{made_is_applied}
 use Rattle.link_laws.proofs.MadePlacedLemmas.{is_placement, are_needed, made_is_placed}

@@ -1,5 +1,5 @@
 -- The bytes of the regions of a link that is made are those of its plan's image: the pieces of a region are its things.
-use Rattle.std.proofs.Common.{◌≡◌, ℕ, zero, suc, ◌+◌, ◌-◌, ◌*◌, ◌≤◌, Bool, true, false, not, ◌==◌, if◌then◌else◌, List, [], ◌∷◌, ◌++◌, length, append_assoc, map, refl, sym, ap, subst, ◌∙◌, arith, eq-eqb, Option, Some, None}
+use Rattle.std.proofs.Common.{◌≡◌, ℕ, ◌+◌, ◌-◌, ◌*◌, Bool, true, false, ◌==◌, List, [], ◌∷◌, ◌++◌, length, append_assoc, map, refl, sym, ap, subst, ◌∙◌, arith, eq-eqb, Option, Some, None}
 use Rattle.std.specs.Prelude.{slice_get}
 use Rattle.std.specs.List.{cons_option, filter, filter_map, flat_map, find, AllByRecursion}
 use Rattle.std.specs.Option.{option_map, option_and_then, option_map_or}
@@ -7,52 +7,47 @@ use Rattle.std.proofs.lemmas.Grind.{flat_map-append}
 use Rattle.std.proofs.lemmas.List.{map-append}
 use Rattle.std.proofs.lemmas.List.Elements.{filter_map-append}
 use Rattle.std.proofs.lemmas.Option.{slice_get-map}
-use Rattle.base_lemmas.proofs.BaseLemmas.{all_front, all_back, both_true, came_through, same}
+use Rattle.base_lemmas.proofs.BaseLemmas.{all_front, all_back, came_through, same}
 use Rattle.sdt_word.specs.Numbers.{bit}
 use Rattle.sdt_word.specs.declared.ranges.Range32.{Range32}
 use Rattle.aof_object.specs.declared.records.Area.{Area}
 use Rattle.aof_object.specs.declared.records.Object.{Object}
-use Rattle.aof_object.specs.Objects.{stored}
-use Rattle.aof_object.specs.Validity.{Holds as HoldsArea, IsValid}
 use Rattle.boot_code.specs.Startup.{table_list, zeros}
-use Rattle.boot_code.specs.Words.{boot_list}
-use Rattle.byte_maps.specs.Maps.{bytes_of_words}
-use Rattle.patch_model.specs.Fields.{Home, Values}
+use Rattle.patch_model.specs.Fields.{Home}
 use Rattle.place_model.specs.declared.scatter.Kind.{Kind}
 use Rattle.place_model.specs.Items.{Item, is_zero_initialised}
 use Rattle.place_model.specs.Things.{Thing, Header, AnArea, AVeneer, Startup, size_of, start_of, extent, Stood, stood}
-use Rattle.place_model.specs.Plans.{Contents, RegionVeneer, areas_in, veneers_in, startup_in, Planned, length_of, zero_base_of, Plan, regions_of, copies_of, parts_of, table_words, plan_of, stood_in, boot_address}
-use Rattle.place_model.proofs.ListLemmas.{all_at, all_indexed, all_map}
+use Rattle.place_model.specs.Plans.{Contents, RegionVeneer, areas_in, veneers_in, startup_in, Planned, zero_base_of, Plan, regions_of, table_words, plan_of, stood_in}
+use Rattle.place_model.proofs.ListLemmas.{all_at, all_indexed}
 use Rattle.image_model.specs.Regions as image
-use Rattle.image_model.specs.Regions.{Given, AreSized, startup_bytes, filled}
+use Rattle.image_model.specs.Regions.{Given, AreSized, filled}
 use Rattle.link_model.specs.declared.placing.AreaName.{AreaName}
 use Rattle.link_model.specs.declared.placing.PlacedArea.{PlacedArea}
 use Rattle.link_model.specs.declared.placing.PlacedVeneer.{PlacedVeneer}
 use Rattle.link_model.specs.declared.placing.Placement.{Placement}
-use Rattle.link_model.specs.declared.placing.Region.{Region}
 use Rattle.link_model.specs.declared.placing.Veneer.{Veneer}
 use Rattle.link_model.specs.declared.selection.Linked.{Linked}
 use Rattle.link_model.specs.declared.selection.Named.{Named}
-use Rattle.link_model.specs.Members.{Link, link_of, objects_in}
+use Rattle.link_model.specs.Members.{link_of, objects_in}
 use Rattle.link_model.specs.RegionValues as numbers
-use Rattle.link_model.specs.Veneers.{IsIn, is_same}
+use Rattle.link_model.specs.Veneers.{IsIn}
 use Rattle.link_items.specs.LinkedItems.{item_of, item_in, name_of, contents_of, has_header}
-use Rattle.link_place.specs.Placed.{placed_region, placed_regions, area_of, areas_of, veneer_of, veneers_of, placement_of}
+use Rattle.link_place.specs.Placed.{placed_region, area_of, areas_of, veneer_of, veneers_of, placement_of}
 use Rattle.link_values.specs.Placed.{is_area, values_in}
-use Rattle.link_apply.specs.PatchedBytes.{patched_from, patched_bytes, veneer_bytes}
-use Rattle.link_apply.specs.Placed.{leads_to, veneers_at, target_in}
+use Rattle.link_apply.specs.PatchedBytes.{patched_bytes, veneer_bytes}
+use Rattle.link_apply.specs.Placed.{veneers_at, target_in}
 use Rattle.link_apply.specs.RegionBytes as linked
-use Rattle.link_apply.specs.RegionBytes.{area_piece, area_pieces, veneer_piece, veneer_pieces, entry_of, copy_rows, zero_rows, startup_list, startup_piece, bytes_from, regions_bytes}
+use Rattle.link_apply.specs.RegionBytes.{area_piece, area_pieces, veneer_piece, veneer_pieces, entry_of, copy_rows, zero_rows, startup_list, startup_piece}
 use Rattle.link_laws.specs.Placing.{link_plan, IsPlacedLink}
-use Rattle.link_laws.specs.Joins.{area_bytes, given_in, filled_in, PlacesOf, bytes_of_plan}
+use Rattle.link_laws.specs.Joins.{area_bytes, given_in, filled_in}
 use Rattle.link_laws.proofs.ItemLemmas.{IsOwn}
 use Rattle.link_laws.proofs.ListLemmas.{in_front}
-use Rattle.link_laws.proofs.RegionLemmas.{IsShaped, things_all, things_of_stood, startup_all, IsWithin, stood_within}
+use Rattle.link_laws.proofs.RegionLemmas.{IsShaped, startup_all, IsWithin}
 use Rattle.link_laws.proofs.PlacedLemmas.{IsLoaded, IsCleared, loaded, cleared, shaped}
-use Rattle.link_laws.proofs.MadeAddressLemmas.{AreCounted, has_places, veneers_there}
+use Rattle.link_laws.proofs.MadeAddressLemmas.{has_places, veneers_there}
 use Rattle.link_laws.proofs.MadeVeneerLemmas.{AreOnce, things_apart, is_first}
-use Rattle.link_laws.proofs.MadeOnce.{passing, found_only, placed_once, all_counted}
-use Rattle.link_laws.proofs.MadeBytes.{in_flat, own_part, number_at, areas_own, veneers_own, stood_append, extent_append, shown, laid_same, own_areas, before, headless, things_are, booted, startup_shown, four_parts, first_alone, second_alone, HasNoArea, HasNoVeneer, no_areas, no_veneers, areas_no_veneers, veneers_no_areas}
+use Rattle.link_laws.proofs.MadeOnce.{found_only, placed_once, all_counted}
+use Rattle.link_laws.proofs.MadeBytes.{in_flat, own_part, number_at, areas_own, veneers_own, stood_append, extent_append, shown, laid_same, own_areas, before, things_are, booted, startup_shown, four_parts, first_alone, second_alone, HasNoArea, HasNoVeneer, no_areas, no_veneers, areas_no_veneers, veneers_no_areas}
 
 module _ (k : Kind) (ram : Option (List Range32)) (l : Linked) (regions : List (List AreaName)) (vs : List Veneer) (h : IsPlacedLink k ram l regions vs) (plain : has_header k ≡ false)
     (once : AreOnce vs) (sized : AreSized (filled_in l (placement_of (link_plan k l regions vs)) (link_plan k l regions vs)) (link_plan k l regions vs)) where

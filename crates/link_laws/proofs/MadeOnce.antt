@@ -1,20 +1,16 @@
 -- Each area of a linked object stands once in a placement.
-use Rattle.std.proofs.Common.{◌≡◌, ℕ, zero, suc, ◌+◌, ◌<◌, ◌≤◌, Bool, true, false, not, cond, ◌&&◌, ◌==◌, if◌then◌else◌, List, [], ◌∷◌, ◌++◌, length, map, refl, sym, ap, subst, ◌∙◌, arith, eq-eqb, eqb-true, true≢false, Option, Some, None}
+use Rattle.std.proofs.Common.{◌≡◌, ℕ, zero, suc, ◌+◌, ◌<◌, ◌≤◌, Bool, true, false, not, cond, ◌&&◌, ◌==◌, if◌then◌else◌, List, [], ◌∷◌, ◌++◌, length, map, refl, ap, subst, ◌∙◌, arith, eqb-true, Some, None}
 use Rattle.std.specs.Prelude.{nat_le, slice_get, unwrap_or}
-use Rattle.std.specs.List.{cons_option, filter, filter_map, flat_map, find, list_any, AllByRecursion}
+use Rattle.std.specs.List.{cons_option, filter, filter_map, flat_map, find, AllByRecursion}
 use Rattle.std.proofs.lemmas.Grind.{flat_map-append}
-use Rattle.base_lemmas.proofs.BaseLemmas.{both_true, or_true, true_or}
 use Rattle.aof_object.specs.declared.records.Area.{Area}
 use Rattle.aof_object.specs.declared.records.Object.{Object}
-use Rattle.link_items.specs.LinkedItems.{item_of, items_of, items_from, items_in}
-use Rattle.link_model.specs.declared.placing.AreaName.{AreaName}
+use Rattle.link_items.specs.LinkedItems.{items_of, items_from, items_in}
 use Rattle.link_model.specs.declared.placing.PlacedArea.{PlacedArea}
-use Rattle.link_model.specs.declared.placing.Veneer.{Veneer}
 use Rattle.link_model.specs.declared.selection.Named.{Named}
-use Rattle.link_model.specs.Veneers.{IsIn, is_same, first_needs}
+use Rattle.link_model.specs.Veneers.{IsIn}
 use Rattle.link_place.specs.Placed.{area_of, areas_of}
 use Rattle.link_values.specs.Placed as values
-use Rattle.patch_model.specs.Patched.{other_state}
 use Rattle.place_model.specs.declared.scatter.Kind.{Kind}
 use Rattle.place_model.specs.declared.scatter.Kind.TheVariants as kind
 use Rattle.place_model.specs.declared.scatter.ScatterLoad.{ScatterLoad}
@@ -22,7 +18,7 @@ use Rattle.place_model.specs.declared.scatter.ScatterRegion.{ScatterRegion}
 use Rattle.place_model.specs.Assignment.{description, described_regions, Offer, best, Found, Nowhere, Within, Unclear, found, Kept, may_precede, put_in, in_order, kept_by, areas_of as kept_areas, lists_from, offers_of, AreAssigned}
 use Rattle.place_model.specs.Items.{Item, is_zero_initialised}
 use Rattle.place_model.specs.Things.{Thing, Header, AnArea, AVeneer, Startup, size_of, start_of, Stood, stood}
-use Rattle.place_model.specs.Plans.{Contents, RegionVeneer, areas_in, veneers_in, header_in, startup_in, Planned, zero_base_of, length_of, end_of, planned, planned_from, loads_from, Plan, regions_of, plan_for, stood_in, is_area}
+use Rattle.place_model.specs.Plans.{Contents, RegionVeneer, areas_in, veneers_in, header_in, startup_in, Planned, zero_base_of, length_of, end_of, planned, planned_from, loads_from, regions_of, plan_for, is_area}
 use Rattle.link_laws.proofs.MadeAddressLemmas.{AreCounted}
 use Rattle.link_laws.proofs.RegionLemmas.{IsShaped, all_shaped}
 

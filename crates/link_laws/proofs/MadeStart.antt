@@ -1,5 +1,5 @@
 -- A scatter image that is made starts.
-use Rattle.std.proofs.Common.{◌≡◌, ◌≢◌, ℕ, ◌+◌, ◌%◌, ◌^◌, ◌<◌, Bool, true, false, ◌==◌, if◌then◌else◌, List, [], refl, sym, ap, subst, ◌∙◌, arith, Option, Some, None}
+use Rattle.std.proofs.Common.{◌≡◌, ◌≢◌, ℕ, ◌+◌, ◌%◌, ◌^◌, ◌<◌, Bool, true, false, ◌==◌, if◌then◌else◌, List, refl, sym, ap, subst, ◌∙◌, arith, Option, Some, None}
 use Rattle.std.specs.Prelude.{slice_get}
 use Rattle.std.specs.List.{AllByRecursion}
 use Rattle.std.specs.Option.{option_map, IsSomeAnd}
@@ -10,20 +10,16 @@ use Rattle.sdt_word.specs.declared.ranges.Range32.{Range32}
 use Rattle.aof_object.specs.declared.areas.AreaHead.{AreaHead}
 use Rattle.aof_object.specs.declared.records.Area.{Area}
 use Rattle.aof_object.specs.declared.records.Entry.{Entry}
-use Rattle.aof_object.specs.declared.records.Object.{Object}
 use Rattle.aof_object.specs.Checks.{left_over}
 use Rattle.aof_object.specs.Validity.{head_of, heads, IsEntered, IsValid}
 use Rattle.place_model.specs.declared.scatter.Kind.{Kind}
 use Rattle.place_model.specs.declared.scatter.Kind.TheVariants as kind
-use Rattle.place_model.specs.declared.scatter.Scatter.{Scatter}
 use Rattle.place_model.specs.Faults.{load_meeting, execution_meeting}
-use Rattle.place_model.specs.Items.{Item}
 use Rattle.place_model.specs.Laws.{IsWholeItem}
 use Rattle.place_model.specs.Plans.{Contents, Plan}
 use Rattle.place_model.proofs.ListLemmas.{all_at}
 use Rattle.place_model.proofs.SpanLemmas.{or_none}
 use Rattle.image_model.specs.Views.{view_of, files_of}
-use Rattle.image_laws.specs.Laws.{IsImage}
 use Rattle.image_laws.proofs.FileLemmas.{overlap_none, is_load_view}
 use Rattle.image_laws.proofs.Placed.{image_boots}
 use Rattle.image_laws.proofs.ViewLemmas.{is_view}
@@ -31,15 +27,13 @@ use Rattle.link_model.specs.declared.placing.Assigned.{Assigned}
 use Rattle.link_model.specs.declared.placing.Placement.{Placement}
 use Rattle.link_model.specs.declared.placing.Veneer.{Veneer}
 use Rattle.link_model.specs.declared.selection.Linked.{Linked}
-use Rattle.link_model.specs.declared.selection.Named.{Named}
 use Rattle.link_model.specs.Definitions.{is_thumb}
 use Rattle.link_model.specs.Members.{link_of}
 use Rattle.link_items.specs.LinkedItems.{contents_of}
-use Rattle.link_place.specs.Placed.{placement_of}
 use Rattle.link_values.specs.Placed.{base_in}
 use Rattle.link_apply.specs.RegionBytes.{entry_of}
 use Rattle.link_laws.specs.Placing.{bases_of, link_plan, IsPlacedLink}
-use Rattle.link_laws.specs.Joins.{IsEntryOf, IsMade, given_in, filled_in, PlacesOf, MadeStarts, MadeBoots}
+use Rattle.link_laws.specs.Joins.{IsEntryOf, IsMade, given_in, filled_in, MadeStarts, MadeBoots}
 use Rattle.link_laws.proofs.ItemLemmas.{IsOwn, items_own, own_whole}
 use Rattle.link_laws.proofs.MadeAddressLemmas.{has_places}
 use Rattle.link_laws.proofs.MadePlacedLemmas.{is_placement, made_is_placed}
@@ -105,7 +99,7 @@ made_starts s ram l a vs p boot h at =
         loads = placed.loads;
         regions = placed.bases;
         items = all_weaker (λ areas. AllByRecursion (IsOwn l.objects) areas) (λ areas. AllByRecursion IsWholeItem areas)
-        (λ areas all. all_weaker (IsOwn l.objects) IsWholeItem (own_whole l.objects placed.valid) areas all) c.areas (items_own l.objects a.regions vs);
+            (λ areas all. all_weaker (IsOwn l.objects) IsWholeItem (own_whole l.objects placed.valid) areas all) c.areas (items_own l.objects a.regions vs);
       };
       accepted = placed.accepted;
       sized = sized;
