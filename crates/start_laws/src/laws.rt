@@ -1,0 +1,15 @@
+//! Laws of the definitions, each proved as the contract of an empty function.
+
+ghost use Rattle.start_laws.specs.Starting.{PlainImagesLoad, ScatterImagesStart};
+
+use scatter_text::reading_law;
+
+/// A scatter image of objects as they are read and assembled starts: its load regions, where a loader puts them, reach
+/// the entry within the image's bound, with the memory as a view in which each object is shown. Of an image of bytes
+/// alone the load region shows them itself.
+pub fn images_start()
+    ensures scatter { ScatterImagesStart }
+    ensures plain { PlainImagesLoad }
+{
+    reading_law();
+}
