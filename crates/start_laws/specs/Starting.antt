@@ -63,10 +63,14 @@ pub record Loads (os : List (Named Object)) (i : Image) : Type 0 where
 
 -- ---- laws
 
+-- its areas have bytes
+abbrev pub HasBytes : Object → Type 0
+HasBytes o = AllByRecursion (λ a. AreBytes a.bytes) o.areas
+
 -- objects as they are read and assembled
 pub record AreSound (os : List (Named Object)) : Type 0 where
   pub valid : AllByRecursion (λ o. IsValid o.value) os
-  pub bytes : AllByRecursion (λ o. AllByRecursion (λ a. AreBytes a.bytes) o.value.areas) os
+  pub bytes : AllByRecursion (λ o. HasBytes o.value) os
 
 abbrev pub ScatterImagesStart : Type 0
 ScatterImagesStart =

@@ -2,5 +2,7 @@
 #![tactic(auto)]
 
 mod laws;
+mod sound;
 
 pub use crate::laws::images_start;
+pub use crate::sound::{archives_fit, objects_fit};
