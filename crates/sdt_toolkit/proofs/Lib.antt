@@ -1,7 +1,8 @@
 pub mod CommandLemmas
 mod AskLemmas
 mod EndLemmas
-mod InputLemmas
 mod ImageLemmas
+mod InputLemmas
 mod LinkLemmas
+mod LinkOnce
 mod WriteLemmas

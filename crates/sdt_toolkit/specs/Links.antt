@@ -158,7 +158,7 @@ LinkSays sources w o a =
 
 -- the answer to a link, and to a build, where sources are taken: where a read failed, nothing is told of the inputs and
 -- nothing is written; where memory was refused, either nothing is written, or a beginning of what the inputs ask for
-abbrev pub LinkAnswers : Bool → LinkWords → Outside → Answer → Type 0
+unfoldable pub LinkAnswers : Bool → LinkWords → Outside → Answer → Type 0
 LinkAnswers sources w o (answer.ReadFault name) = Rose o.reads o.reads_now × IsReached o.before (files_read w) name × IsLeft o
 LinkAnswers sources w o answer.NoMemory = IsLeft o ⊎ LinkSays sources w o answer.NoMemory
 LinkAnswers sources w o a = LinkSays sources w o a

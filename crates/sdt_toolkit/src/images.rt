@@ -4,7 +4,7 @@ ghost use Rattle.std.specs.Prelude.{◌≡◌, ◌<◌, ◌^◌, All, IfOk, leng
 ghost use Rattle.std.specs.List.{AllByRecursion, list_any};
 ghost use Rattle.alf_archive.specs.Grammar.{IsValid as IsValidArchive};
 ghost use Rattle.aof_object.specs.Validity.{IsValid};
-ghost use Rattle.bin_image.specs.Files.{files_of};
+ghost use Rattle.sdt_fault.specs.declared.answer.Fault.TheVariants as fault;
 ghost use Rattle.tool_words.specs.Commands.{IsFormed, AreBanks};
 ghost use Rattle.sdt_toolkit.specs.Inputs.{AreValid, Tells, archives_among, objects_among};
 ghost use Rattle.sdt_toolkit.specs.Links as links;
@@ -34,11 +34,8 @@ struct Parts {
 }
 
 fn parts_of(alloc: Global, inputs: Vec<Named<Linkable>>) -> Result<Parts, NoMemory>
-    requires { AreValid inputs.items }
     ensures objects { IfOk result (λ parts. parts.objects.items ≡ objects_among inputs.items) }
     ensures archives { IfOk result (λ parts. parts.archives.items ≡ archives_among inputs.items) }
-    ensures valid_objects { IfOk result (λ parts. AllByRecursion (λ o. IsValid o.value) parts.objects.items) }
-    ensures valid_archives { IfOk result (λ parts. AllByRecursion (λ a. IsValidArchive a.value) parts.archives.items) }
 {
     let mut objects = Vec::new(alloc);
     let mut archives = Vec::new(alloc);
@@ -108,7 +105,7 @@ pub fn image_of(
 // ---- its files
 
 fn too_large() -> Fault
-    ensures { result ≡ links.too_large }
+    ensures { result ≡ fault.Refused links.too_large }
 {
     Fault::Refused(Refusal::TooLarge {
         quantity: Quantity::FileBytes,

@@ -50,7 +50,7 @@ pub fn files_read(alloc: Global, words: &LinkWords) -> Result<Vec<Text>, NoMemor
 }
 
 /// The scatter file's text among the contents of the files that are read.
-pub fn text_in(form: &LinkForm, contents: &[Bytes]) -> &[u8]
+pub fn text_in<'a>(form: &LinkForm, contents: &'a [Bytes]) -> &'a [u8]
     ensures { result.now ≡ text_in form.now contents.now }
 {
     match form {
@@ -63,7 +63,7 @@ pub fn text_in(form: &LinkForm, contents: &[Bytes]) -> &[u8]
 }
 
 /// What stands under the names, among the contents of the files that are read.
-pub fn inputs_in(form: &LinkForm, contents: &[Bytes]) -> &[Bytes]
+pub fn inputs_in<'a>(form: &LinkForm, contents: &'a [Bytes]) -> &'a [Bytes]
     ensures { result.now ≡ inputs_in form.now contents.now }
 {
     match form {
