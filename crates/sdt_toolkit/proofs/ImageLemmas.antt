@@ -1,5 +1,5 @@
 -- The image of inputs, and its files.
-use Rattle.std.proofs.Common.{◌≡◌, ℕ, ◌+◌, ◌^◌, ◌<◌, ◌≤◌, List, [], ◌∷◌, ◌++◌, length, map, nat_le, Bool, true, false, cond, ◌||◌, Option, Some, None, Result, Ok, Err, refl, sym, ap, ◌∙◌, subst, arith, get_or, zero, suc}
+use Rattle.std.proofs.Common.{◌≡◌, ℕ, ◌+◌, ◌%◌, ◌^◌, ◌<◌, ◌≤◌, List, [], ◌∷◌, ◌++◌, length, map, nat_le, Bool, true, false, cond, ◌||◌, Option, Some, None, Result, Ok, Err, refl, sym, ap, ◌∙◌, subst, arith, get_or, zero, suc}
 use Rattle.std.proofs.lemmas.Bool.{leb-false}
 use Rattle.std.proofs.lemmas.List.Folds.{list_any-append}
 use Rattle.std.specs.List.{list_any, AllByRecursion}
@@ -16,6 +16,7 @@ use Rattle.link_model.specs.declared.images.ImageKind.TheVariants as shape
 use Rattle.link_model.specs.declared.images.LoadRegion.{LoadRegion}
 use Rattle.link_model.specs.declared.placing.Region.{Region}
 use Rattle.link_model.specs.declared.selection.Named.{Named}
+use Rattle.link_model.specs.Chosen.{AreLinked}
 use Rattle.place_model.specs.declared.scatter.Kind.TheVariants as kind
 use Rattle.armlink_core.specs.Images.{Links, linking, scatter_linking}
 use Rattle.armlink_core.specs.Laws.{IsSized, LinkedSizes, ScatterSizes}
@@ -25,8 +26,11 @@ use Rattle.tool_words.specs.declared.command.Bank.{Bank}
 use Rattle.tool_words.specs.declared.command.LinkForm.{LinkForm}
 use Rattle.tool_words.specs.declared.command.LinkForm.TheVariants as form
 use Rattle.tool_library.specs.declared.linkables.Linkable.{Linkable}
-use Rattle.sdt_toolkit.specs.Inputs.{Tells, archives_among, objects_among}
-use Rattle.sdt_toolkit.specs.Links.{ImageIs, IsFiled, IsRam, IsScatterImage, IsWritable, LinksTo, filed, is_long, is_long_load, too_large}
+use Rattle.sdt_toolkit.proofs.InputLemmas.{valid_archives, valid_objects}
+use Rattle.sdt_toolkit.proofs.SoundLemmas.{sound_linked}
+use Rattle.sdt_toolkit.specs.Inputs.{AreValid, Tells, archives_among, objects_among}
+use Rattle.sdt_toolkit.specs.Starting.{AreSound, HasBytes, PlainImagesLoad, ScatterImagesStart}
+use Rattle.sdt_toolkit.specs.Links.{ImageIs, IsFiled, IsInMemory, IsRam, IsScatterImage, IsWritable, LinksTo, ScattersTo, filed, is_long, is_long_load, too_large}
 
 -- ---- the image
 
@@ -37,19 +41,39 @@ scattered objects archives text banks ram (Err (fault.Refused e)) told h = (h.0,
 scattered objects archives text banks ram (Err (fault.ReadFault q)) told h = h
 scattered objects archives text banks ram (Err fault.NoMemory) told h = tt
 
-pub scatter_image : (inputs : List (Named Linkable)) (file text : List ℕ) (banks : Option (List Bank)) (r : Result Image Fault)
-    → Tells r (IsScatterImage (objects_among inputs) (archives_among inputs) text banks) → Tells r (ImageIs (form.Scatter file) text banks inputs)
-scatter_image inputs file text banks (Ok i) h = record { objects = h.0; linked = h.1; links = h.2 }
-scatter_image inputs file text banks (Err (fault.Refused e)) h = record { objects = h.0; linked = h.1; links = h.2 }
-scatter_image inputs file text banks (Err (fault.ReadFault q)) h = h
-scatter_image inputs file text banks (Err fault.NoMemory) h = tt
+-- what is linked of these is sound
+abbrev pub LinksSound : List (Named Object) → List (Named Archive) → Type 0
+LinksSound objects archives = (os : List (Named Object)) → AreLinked objects archives os → AreSound os
 
-pub plain_image : (inputs : List (Named Linkable)) (base : ℕ) (text : List ℕ) (banks : Option (List Bank)) (r : Result Image Fault)
-    → Links (objects_among inputs) (archives_among inputs) (linking (kind.Plain base) None) r → Tells r (ImageIs (form.Plain base) text banks inputs)
-plain_image inputs base text banks (Ok i) h = record { objects = h.0; linked = h.1; links = sym h.2 }
-plain_image inputs base text banks (Err (fault.Refused e)) h = record { objects = h.0; linked = h.1; links = sym h.2 }
-plain_image inputs base text banks (Err (fault.ReadFault q)) h = h
-plain_image inputs base text banks (Err fault.NoMemory) h = tt
+pub sound_inputs : (inputs : List (Named Linkable)) → AreValid inputs → AllByRecursion (λ o. HasBytes o.value) (objects_among inputs)
+    → AllByRecursion (λ a. AllByRecursion (λ m. HasBytes m.object) a.value.members) (archives_among inputs) → LinksSound (objects_among inputs) (archives_among inputs)
+sound_inputs inputs valid objects archives = λ os linked.
+    sound_linked (objects_among inputs) (archives_among inputs) os linked (valid_objects inputs valid) (valid_archives inputs valid) objects archives
+
+same_memory : (f : LinkForm) (os : List (Named Object)) (i : Image) → IsInMemory f os i → (j : Image) → ◌≡◌ {A = Result Image Refusal} (Ok i) (Ok j) → IsInMemory f os j
+same_memory f os i h j e = subst (IsInMemory f os) (let is : i ≡ j = cc in is) h
+
+no_memory : (f : LinkForm) (os : List (Named Object)) (r : Refusal) (j : Image) → ◌≡◌ {A = Result Image Refusal} (Err r) (Ok j) → IsInMemory f os j
+no_memory f os r j e = absurd cc
+
+pub scatter_image : ScatterImagesStart → (inputs : List (Named Linkable)) (file text : List ℕ) (banks : Option (List Bank)) (r : Result Image Fault)
+    → LinksSound (objects_among inputs) (archives_among inputs) → Tells r (IsScatterImage (objects_among inputs) (archives_among inputs) text banks)
+    → Tells r (ImageIs (form.Scatter file) text banks inputs)
+scatter_image starts inputs file text banks (Ok i) sound h =
+    let links : ScattersTo text banks h.0 (Ok i) = h.2 in
+    record { objects = h.0; linked = h.1; links = h.2; memory = same_memory (form.Scatter file) h.0 i (starts text links.0 h.0 i (sound h.0 h.1) (sym links.2)) }
+scatter_image starts inputs file text banks (Err (fault.Refused e)) sound h = record { objects = h.0; linked = h.1; links = h.2; memory = no_memory (form.Scatter file) h.0 e }
+scatter_image starts inputs file text banks (Err (fault.ReadFault q)) sound h = h
+scatter_image starts inputs file text banks (Err fault.NoMemory) sound h = tt
+
+pub plain_image : PlainImagesLoad → (inputs : List (Named Linkable)) (base : ℕ) (text : List ℕ) (banks : Option (List Bank)) (r : Result Image Fault) → base % 4 ≡ 0
+    → LinksSound (objects_among inputs) (archives_among inputs) → Links (objects_among inputs) (archives_among inputs) (linking (kind.Plain base) None) r
+    → Tells r (ImageIs (form.Plain base) text banks inputs)
+plain_image loads inputs base text banks (Ok i) whole sound h =
+    record { objects = h.0; linked = h.1; links = sym h.2; memory = same_memory (form.Plain base) h.0 i (loads base h.0 i (sound h.0 h.1) whole h.2) }
+plain_image loads inputs base text banks (Err (fault.Refused e)) whole sound h = record { objects = h.0; linked = h.1; links = sym h.2; memory = no_memory (form.Plain base) h.0 e }
+plain_image loads inputs base text banks (Err (fault.ReadFault q)) whole sound h = h
+plain_image loads inputs base text banks (Err fault.NoMemory) whole sound h = tt
 
 -- ---- what is written of it
 

@@ -13,6 +13,7 @@ use Rattle.aof_object.specs.Validity as object
 use Rattle.alf_archive.specs.declared.records.Archive.{Archive}
 use Rattle.alf_archive.specs.Grammar as library
 use Rattle.armasm_core.specs.Assembling.{Assembles}
+use Rattle.armasm_core.specs.Standing.{StandsWherePlaced}
 use Rattle.link_model.specs.declared.selection.Named.{Named}
 use Rattle.tool_library.specs.declared.linkables.Linkable.{Linkable}
 use Rattle.tool_library.specs.declared.linkables.Linkable.TheVariants as input
@@ -61,11 +62,21 @@ part_other name part i lt differs h =
 
 -- ---- an input
 
-pub assembled_as : (name bytes : List ℕ) (o : Object) → Assembles name bytes (Ok o) → IsSource name bytes (Ok (input.Object o))
-assembled_as name bytes o h = record { object = Ok o; assembled = h; as_input = refl }
+pub assembled_as : (name bytes : List ℕ) (o : Object) → Assembles name bytes (Ok o) → StandsWherePlaced name bytes o → IsSource name bytes (Ok (input.Object o))
+assembled_as name bytes o h stands = record {
+  object = Ok o;
+  assembled = h;
+  as_input = refl;
+  stands = λ p e. subst (StandsWherePlaced name bytes) (let same : ◌≡◌ {A = Result Object Refusal} (Ok o) (Ok p) = e in let is : o ≡ p = cc in is) stands;
+}
 
 pub unassembled_as : (name bytes : List ℕ) (f : Fault) → Assembles name bytes (Err f) → Tells {A = Linkable} (Err f) (IsSource name bytes)
-unassembled_as name bytes (fault.Refused r) h = record { object = Err r; assembled = h; as_input = refl }
+unassembled_as name bytes (fault.Refused r) h = record {
+  object = Err r;
+  assembled = h;
+  as_input = refl;
+  stands = λ p e. absurd (let bad : ◌≡◌ {A = Result Object Refusal} (Err r) (Ok p) = e in cc);
+}
 unassembled_as name bytes (fault.ReadFault q) h = h
 unassembled_as name bytes fault.NoMemory h = tt
 

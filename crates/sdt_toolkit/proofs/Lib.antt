@@ -5,4 +5,7 @@ mod ImageLemmas
 mod InputLemmas
 mod LinkLemmas
 mod LinkOnce
+mod HeadlineLemmas
+mod SoundLemmas
+mod StartLemmas
 mod WriteLemmas

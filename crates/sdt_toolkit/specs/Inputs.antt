@@ -9,6 +9,7 @@ use Rattle.chunk_file.specs.Reading.{◌>>=◌}
 use Rattle.aof_object.specs.declared.records.Object.{Object}
 use Rattle.alf_archive.specs.declared.records.Archive.{Archive}
 use Rattle.armasm_core.specs.Assembling.{IsAssembled}
+use Rattle.armasm_core.specs.Standing.{StandsWherePlaced}
 use Rattle.link_model.specs.declared.selection.Named.{Named}
 use Rattle.tool_library.specs.declared.linkables.Linkable.{Linkable}
 use Rattle.tool_library.specs.declared.linkables.Linkable.TheVariants as input
@@ -41,11 +42,12 @@ module_of name = if is_source_name (last_part name) then object_name (last_part 
 
 -- ---- an input
 
--- the object of a source, or its first refusal
+-- the object of a source, whose statements stand wherever it is placed, or its first refusal
 pub record IsSource (name bytes : List ℕ) (made : Result Linkable Refusal) : Type 0 where
   pub object : Result Object Refusal
   pub assembled : IsAssembled name bytes object
   pub as_input : made ≡ (object >>= λ o. Ok (input.Object o))
+  pub stands : (o : Object) → object ≡ Ok o → StandsWherePlaced name bytes o
 
 abbrev pub InputBy : Bool → List ℕ → List ℕ → Result Linkable Refusal → Type 0
 InputBy true name bytes made = IsSource name bytes made

@@ -33,6 +33,7 @@ use Rattle.tool_answers.specs.Outcomes.{Outcome, Outside, AreWritten, FailsAt, I
 use Rattle.tool_library.specs.declared.linkables.Linkable.{Linkable}
 use Rattle.tool_run.specs.Runs.{AreRanges}
 use Rattle.sdt_toolkit.specs.Inputs.{InputsAre, objects_among, archives_among}
+use Rattle.sdt_toolkit.specs.Starting.{Loads, Starts}
 
 -- ---- what is read: the scatter file first, if there is one, and then the names
 
@@ -74,11 +75,17 @@ abbrev pub LinksTo : LinkForm → List ℕ → Option (List Bank) → List (Name
 LinksTo (form.Scatter file) text banks os image = ScattersTo text banks os image
 LinksTo (form.Plain base) text banks os image = image ≡ linking (kind.Plain base) None os
 
+-- in memory an image shows the objects, and a scatter image starts
+abbrev pub IsInMemory : LinkForm → List (Named Object) → Image → Type 0
+IsInMemory (form.Scatter file) os i = Starts os i
+IsInMemory (form.Plain base) os i = Loads os i
+
 -- the image of inputs: of the objects among them, and the members of the libraries among them that are needed
 pub record ImageIs (f : LinkForm) (text : List ℕ) (banks : Option (List Bank)) (inputs : List (Named Linkable)) (image : Result Image Refusal) : Type 0 where
   pub objects : List (Named Object)
   pub linked : AreLinked (objects_among inputs) (archives_among inputs) objects
   pub links : LinksTo f text banks objects image
+  pub memory : (i : Image) → image ≡ Ok i → IsInMemory f objects i
 
 abbrev pub IsScatterImage : List (Named Object) → List (Named Archive) → List ℕ → Option (List Bank) → Result Image Refusal → Type 0
 IsScatterImage objects archives text banks image = (os : List (Named Object)) × AreLinked objects archives os × ScattersTo text banks os image

@@ -10,6 +10,8 @@ ghost use Rattle.sdt_toolkit.specs.Inputs.{AreValid, Tells, archives_among, obje
 ghost use Rattle.sdt_toolkit.specs.Links as links;
 ghost use Rattle.sdt_toolkit.specs.Links.{ImageIs, filed, is_long};
 
+use crate::laws::images_start;
+use crate::sound::{archives_fit, objects_fit};
 use alf_archive::Archive;
 use aof_object::Object;
 use armlink_core::{link_plain, link_scatter};
@@ -96,6 +98,9 @@ pub fn image_of(
     ensures { Tells result (ImageIs form.now text.now ram.now inputs.items) }
 {
     let parts = parts_of(alloc, inputs)?;
+    images_start();
+    objects_fit(parts.objects.as_slice());
+    archives_fit(parts.archives.as_slice());
     match form {
         LinkForm::Plain { base } => link_plain(alloc, parts.objects, parts.archives, *base),
         LinkForm::Scatter { .. } => scatter_image(alloc, parts, text, ram),

@@ -4,6 +4,7 @@
 ghost use Rattle.std.specs.Prelude.{◌≡◌, map, string_bytes, false};
 ghost use Rattle.arm7_bus.specs.Seats.{seats_by};
 ghost use Rattle.sdt_toolkit.specs.Commands.{Commanded, is_run, may_print};
+ghost use Rattle.sdt_toolkit.specs.Headline.{Headline};
 ghost use Rattle.tool_words.specs.Commands.{command_of};
 
 use sdt_fault::answer::Answer;
@@ -17,6 +18,7 @@ mod inputs;
 pub mod laws;
 mod links;
 mod names;
+mod sound;
 mod writing;
 
 /// Carries out a command: `asm`, `link`, `build`, one of the librarian's, `list` or `run`.
@@ -44,6 +46,8 @@ pub fn run_tool<S: Store, K: Sink>(
       faults = K.faults sink.old;
       faults_now = K.faults sink.new;
     }) (seats_by base size state touched devices.old.items) (seats_by base size state touched devices.new.items) result }
+    // The files of a link or a build that is done, put into memory, show what was linked and reach its entry.
+    ensures headline { Headline (command_of (map string_bytes words.now)) (S.files store.old) (S.files store.new) result }
     // The devices are touched by `run` alone, and the sink by commands that print.
     ensures devices { is_run (command_of (map string_bytes words.now)) ≡ false → devices.new ≡ devices.old }
     ensures sink { may_print (command_of (map string_bytes words.now)) ≡ false → sink.new ≡ sink.old }

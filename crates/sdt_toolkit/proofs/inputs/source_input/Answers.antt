@@ -8,4 +8,4 @@ returns-in_err-object-clause-value c =
     rw (p.1, p.2) (unassembled_as c.args.name.now c.args.bytes.now c.in_err-object.field-0.0 c.in_err-object.ensures.assembled)
 
 pub returns-clause-value : goal.returns-clause-value
-returns-clause-value c = assembled_as c.args.name.now c.args.bytes.now c.in_ok-object.object c.in_ok-object.ensures.assembled
+returns-clause-value c = assembled_as c.args.name.now c.args.bytes.now c.in_ok-object.object c.in_ok-object.ensures.assembled c.in_ok-object.ensures.stands

@@ -2,7 +2,7 @@
 
 ghost use Rattle.std.specs.List.{AllByRecursion};
 ghost use Rattle.link_apply.specs.Laws.{AreBytes};
-ghost use Rattle.start_laws.specs.Starting.{HasBytes};
+ghost use Rattle.sdt_toolkit.specs.Starting.{HasBytes};
 
 use alf_archive::{Archive, Member};
 use aof_object::{Area, Object};

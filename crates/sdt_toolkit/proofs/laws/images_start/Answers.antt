@@ -1,5 +1,5 @@
-use Rattle.start_laws.proofs.StartLemmas.{plain_images_load, scatter_images_start}
-use Rattle.start_laws.proofs.laws.images_start.Goals as goal
+use Rattle.sdt_toolkit.proofs.StartLemmas.{plain_images_load, scatter_images_start}
+use Rattle.sdt_toolkit.proofs.laws.images_start.Goals as goal
 
 pub returns-clause-scatter : goal.returns-clause-scatter
 returns-clause-scatter c = scatter_images_start c.reading_law.ensures

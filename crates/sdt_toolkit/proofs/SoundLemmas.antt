@@ -10,7 +10,7 @@ use Rattle.place_model.proofs.ListLemmas.{all_flat, all_map}
 use Rattle.link_model.specs.declared.selection.Named.{Named}
 use Rattle.link_model.specs.Members.{members_in, members_of, named_member}
 use Rattle.link_model.specs.Chosen.{AreLinked, taken}
-use Rattle.start_laws.specs.Starting.{AreSound, HasBytes}
+use Rattle.sdt_toolkit.specs.Starting.{AreSound, HasBytes}
 
 all_taken : {X : Type 0} (P : X → Type 0) (chosen : ℕ → Bool) (i : ℕ) (xs : List X) → AllByRecursion P xs → AllByRecursion P (taken chosen i xs)
 all_taken P chosen i [] h = tt

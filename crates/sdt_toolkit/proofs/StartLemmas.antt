@@ -77,7 +77,7 @@ use Rattle.link_laws.proofs.PlacedLemmas.{objects_are_placed}
 use Rattle.link_laws.proofs.ShownLemmas.{objects_are_shown, ranges_exist}
 use Rattle.armlink_core.specs.Linking.{Made, made_at, made_of, made_with, symbols_of}
 use Rattle.armlink_core.specs.Images.{bytes_in, described, image_of, linking, loads_from as regions_loaded}
-use Rattle.start_laws.specs.Starting.{AreSound, AreShownIn, Loads, PlainImagesLoad, ScatterImagesStart, Starts, segments_of}
+use Rattle.sdt_toolkit.specs.Starting.{AreSound, AreShownIn, Loads, PlainImagesLoad, ScatterImagesStart, Starts, segments_of}
 
 -- ---- answers
 
