@@ -23,7 +23,7 @@ asked c (Ok d) o seats left a h says = subst (λ (e : Command). Commanded (Ok e)
 asked c (Err place) o seats left a h says = absurd h
 
 unasked : (c : Command) (o : Outside) (seats : List Seat) → IsLeft o → Commanded (Ok c) o seats seats answer.NoMemory
-unfolding LinkAnswers
+unfolding LinkAnswers Commanded
 unasked (command.Assemble source output) o seats left = (left, refl)
 unasked (command.CreateLibrary library objects) o seats left = (answers.no_memory (created library objects) (OfAll (creates library objects) objects) objects o (creates library objects objects) (objects, refl, refl) left, refl)
 unasked (command.ListMembers library) o seats left = (answers.no_memory (listed library) (OfOne (lists library)) (library ∷ []) o (lists library []) ([], refl) left, refl)
@@ -34,7 +34,13 @@ unasked (command.Build words) o seats left = (inl left, refl)
 unasked (command.Run run) o seats left = no_memory run o seats seats (record { outside = left; devices = refl })
 
 pub refused : (e : WordsFault) (x : Result Command ℕ) (o : Outside) (seats : List Seat) (a : Answer) → Reads (Err e) x → RefusedBy e a → IsLeft o → Commanded x o seats seats a
+unfolding Commanded
 refused (fault.Place place) (Ok c) o seats a h by left = absurd h
 refused (fault.Place place) (Err told) o seats a h by left = (subst (RefusesWords told o) (sym by) (ap BadWords h, left), refl)
 refused fault.NoMemory (Ok c) o seats a h by left = subst (Commanded (Ok c) o seats seats) (sym by) (unasked c o seats left)
 refused fault.NoMemory (Err told) o seats a h by left = (subst (RefusesWords told o) (sym by) left, refl)
+
+-- words that were read ask for just this command
+pub read_as : (P : Result Command ℕ → Type 0) (c : Command) (x : Result Command ℕ) → Reads (Ok c) x → P x → P (Ok c)
+read_as P c (Ok d) h p = subst (λ (e : Command). P (Ok e)) (sym h) p
+read_as P c (Err place) h p = absurd h

@@ -23,6 +23,7 @@ use Rattle.tool_words.specs.declared.command.Command.TheVariants as command
 use Rattle.tool_words.specs.declared.command.LinkForm.{LinkForm}
 use Rattle.tool_words.specs.declared.command.LinkForm.TheVariants as form
 use Rattle.tool_words.specs.declared.command.LinkWords.{LinkWords}
+use Rattle.tool_words.specs.Commands.{command_of}
 use Rattle.tool_answers.specs.Inputs.{and_others, before_others, found_or, input_of, inputs_of}
 use Rattle.tool_answers.specs.Outcomes.{Outcome, Outside, AreWritten, written}
 use Rattle.tool_library.specs.declared.linkables.Linkable.{Linkable}
@@ -125,7 +126,7 @@ source_at (n ∷ names) (bytes ∷ contents) xs h zero name text at there is =
     let same_name : n ≡ name = cc in
     let same_text : bytes ≡ text = cc in
     let one : NamedIs true name text (Ok x) =
-        subst (λ (t : List ℕ). NamedIs true name t (Ok x)) same_text (subst (λ (q : List ℕ). NamedIs true q bytes (Ok x)) same_name (subst (NamedIs true n bytes) first h.1)) in
+    subst (λ (t : List ℕ). NamedIs true name t (Ok x)) same_text (subst (λ (q : List ℕ). NamedIs true q bytes (Ok x)) same_name (subst (NamedIs true n bytes) first h.1)) in
     subst (λ (zs : List (Named Linkable)). IsObjectAmong (objects_among zs) name text) whole (source_first name text x ys is one)
 source_at (n ∷ names) (bytes ∷ contents) xs h (suc k) name text at there is =
     let (x, ys, first, rest, whole) = behind_first_is h.0 (InputsAre true names contents) xs h.2 in
@@ -176,10 +177,10 @@ module _ (sources : Bool) (w : LinkWords) (before : Files) (after : Option Files
         stand = λ sourced k name text at source holds.
             let there = input_at before w.names (inputs_in w.form contents) (under_names before w.form w.names contents read) k name text at holds in
             let among : IsObjectAmong (objects_among inputs) name text =
-                source_at w.names (inputs_in w.form contents) inputs (subst (λ (b : Bool). InputsAre b w.names (inputs_in w.form contents) (Ok inputs)) sourced judged) k name text at there source in
+            source_at w.names (inputs_in w.form contents) inputs (subst (λ (b : Bool). InputsAre b w.names (inputs_in w.form contents) (Ok inputs)) sourced judged) k name text at there source in
             let found : IsObjectAmong is.objects name text =
-                subst (λ (os : List (Named Object)). IsObjectAmong os name text) (sym is.linked.in_order)
-                (in_front (objects_among inputs) (taken is.linked.chosen 0 (members_of (archives_among inputs))) name text among) in
+            subst (λ (os : List (Named Object)). IsObjectAmong os name text) (sym is.linked.in_order)
+            (in_front (objects_among inputs) (taken is.linked.chosen 0 (members_of (archives_among inputs))) name text among) in
             let seen : IsShownIn view found.object.value = shown found.place found.object found.at in
             (seen.values, seen.region, found.stands seen.number seen.values seen.area_at view seen.region seen.veneers seen.placed seen.shown);
       }
@@ -217,6 +218,7 @@ link_left sources w o before told h =
     told_left sources w before o.after o.before (Rose o.reads o.reads_now) h.0 says.0 told h.1 says.1 says.2
 
 pub headline : (x : Result Command ℕ) (o : Outside) (seats left : List Seat) (a : Answer) → Commanded x o seats left a → Headline x o.before o.after a
+unfolding Commanded
 headline x o seats left a h = record {
   link = λ w before asked told done.
       let answers : LinkAnswers false w o answer.Done = subst (LinkAnswers false w o) done (subst (λ (y : Result Command ℕ). Commanded y o seats left a) asked h).0 in
@@ -227,3 +229,6 @@ headline x o seats left a h = record {
       let r = link_left true w o before told answers in
       (r.view, r.link, r.stand refl);
 }
+
+pub headline_of : (words : List (List ℕ)) (o : Outside) (seats left : List Seat) (a : Answer) → Commanded (command_of words) o seats left a → Headline (command_of words) o.before o.after a
+headline_of words o seats left a h = headline (command_of words) o seats left a h

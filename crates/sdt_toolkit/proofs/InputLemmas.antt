@@ -22,7 +22,6 @@ use Rattle.sdt_toolkit.specs.Inputs.{AreValid, InputBy, InputIs, InputsAre, IsSo
 
 -- ---- the last part of a name
 
-
 -- the last part of a name, of which a beginning is read
 abbrev pub part_behind : List ℕ → List ℕ → List ℕ
 part_behind part rest = cond (list_any (λ d. d == 47) rest) (last_part rest) part

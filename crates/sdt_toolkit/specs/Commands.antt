@@ -27,7 +27,7 @@ RefusesWords place o (answer.Stopped stop) = ⊥
 RefusesWords place o answer.NoMemory = IsLeft o
 
 -- the answer to a command, or to words that break a rule, over devices, which are left so; `run` alone touches them
-abbrev pub Commanded : Result Command ℕ → Outside → List Seat → List Seat → Answer → Type 0
+unfoldable pub Commanded : Result Command ℕ → Outside → List Seat → List Seat → Answer → Type 0
 Commanded (Err place) o seats left a = RefusesWords place o a × (left ≡ seats)
 Commanded (Ok (command.Assemble source output)) o seats left a = AssemblyAnswers source output o a × (left ≡ seats)
 Commanded (Ok (command.CreateLibrary library objects)) o seats left a = Answers (created library objects) (OfAll (creates library objects) objects) objects o a × (left ≡ seats)

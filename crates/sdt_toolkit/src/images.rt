@@ -121,13 +121,17 @@ fn too_large() -> Fault
 fn has_long_load(loads: &[LoadRegion]) -> bool
     ensures { result ≡ list_any (λ l. links.is_long_load l) loads.now }
 {
-    loads.iter().any(|load| load.bytes.as_slice().len() >= 0x1_0000_0000)
+    loads
+        .iter()
+        .any(|load| load.bytes.as_slice().len() >= 0x1_0000_0000)
 }
 
 fn has_long_file(files: &[OutFile]) -> bool
     ensures { result ≡ list_any is_long files.now }
 {
-    files.iter().any(|file| file.bytes.as_slice().len() >= 0x1_0000_0000)
+    files
+        .iter()
+        .any(|file| file.bytes.as_slice().len() >= 0x1_0000_0000)
 }
 
 /// The files of an image in the order in which they are written, or TooLarge, if one would have 2^32 bytes or more.

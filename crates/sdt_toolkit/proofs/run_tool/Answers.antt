@@ -1,5 +1,16 @@
-use Rattle.sdt_toolkit.proofs.HeadlineLemmas.{headline}
+use Rattle.std.proofs.Common.{map}
+use Rattle.std.specs.Prelude.{string_bytes}
+use Rattle.sdt_toolkit.proofs.HeadlineLemmas.{headline_of}
 use Rattle.sdt_toolkit.proofs.run_tool.Goals as goal
 
 pub returns-clause-headline : goal.returns-clause-headline
-returns-clause-headline g c = headline _ _ _ _ c.command.result c.command.ensures.commanded
+returns-clause-headline g c = headline_of (map string_bytes c.args.words.now) _ _ _ c.command.result c.command.ensures.commanded
+
+pub returns-clause-commanded : goal.returns-clause-commanded
+returns-clause-commanded g c = c.command.ensures.commanded
+
+pub returns-clause-devices : goal.returns-clause-devices
+returns-clause-devices g c = c.command.ensures.devices
+
+pub returns-clause-sink : goal.returns-clause-sink
+returns-clause-sink g c = c.command.ensures.sink

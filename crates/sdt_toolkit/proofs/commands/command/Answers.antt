@@ -1,6 +1,9 @@
 use Rattle.std.proofs.Common.{map, string_bytes, refl}
 use Rattle.tool_words.specs.Commands.{command_of}
-use Rattle.sdt_toolkit.proofs.CommandLemmas.{asked, refused}
+use Rattle.std.proofs.Common.{Bool, false, ◌≡◌, Result, ℕ}
+use Rattle.tool_words.specs.declared.command.Command.{Command}
+use Rattle.sdt_toolkit.specs.Commands.{is_run, may_print}
+use Rattle.sdt_toolkit.proofs.CommandLemmas.{asked, refused, read_as}
 use Rattle.sdt_toolkit.proofs.commands.command.Goals as goal
 
 pub returns-in-Ok-clause-commanded : goal.returns-in-Ok-clause-commanded
@@ -30,3 +33,17 @@ returns-in-Err-clause-commanded g c = refused c.in-Err.fault (command_of (map st
   faults = g.K.Sink.faults c.args.sink.now;
   faults_now = g.K.Sink.faults c.args.sink.now;
 }) _ c.refused.result c.in-Err.ensures.exact c.refused.ensures (record { files = refl; sink = refl })
+
+pub returns-in-Ok-clause-devices : goal.returns-in-Ok-clause-devices
+returns-in-Ok-clause-devices g c = λ quiet.
+    c.carried_out.ensures.devices (read_as (λ (x : Result Command ℕ). is_run x ≡ false) c.in-Ok.command (command_of (map string_bytes c.args.words.now)) c.in-Ok.ensures.exact quiet)
+
+pub returns-in-Ok-clause-sink : goal.returns-in-Ok-clause-sink
+returns-in-Ok-clause-sink g c = λ quiet.
+    c.carried_out.ensures.sink (read_as (λ (x : Result Command ℕ). may_print x ≡ false) c.in-Ok.command (command_of (map string_bytes c.args.words.now)) c.in-Ok.ensures.exact quiet)
+
+pub returns-in-Err-clause-devices : goal.returns-in-Err-clause-devices
+returns-in-Err-clause-devices g c = λ quiet. refl
+
+pub returns-in-Err-clause-sink : goal.returns-in-Err-clause-sink
+returns-in-Err-clause-sink g c = λ quiet. refl

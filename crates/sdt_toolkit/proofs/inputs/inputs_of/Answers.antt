@@ -16,7 +16,7 @@ loop-k-preserved c =
     let is = rw c.as_slice.ensures at c.in-Ok.ensures.value in
     record {
       value = rw c.in_ok-push-in-Ok.ensures.items (one_more c.args.sources c.args.names.now c.args.contents.now c.loop-k.k c.loop-k.inputs.items c.index-names-k.result c.index-contents-k.result c.in-Ok.input
-      c.loop-k-test.true c.index-names-k.is (rw c.requires.few c.loop-k-test.true) c.index-contents-k.is is c.loop-k.invariant.value);
+          c.loop-k-test.true c.index-names-k.is (rw c.requires.few c.loop-k-test.true) c.index-contents-k.is is c.loop-k.invariant.value);
       valid = rw c.in_ok-push-in-Ok.ensures.items (all_append (λ x. IsValidInput x.value) c.loop-k.inputs.items (c.in-Ok.input ∷ []) c.loop-k.invariant.valid (c.in-Ok.ensures.valid, tt));
     }
 

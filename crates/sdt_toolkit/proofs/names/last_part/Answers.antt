@@ -12,12 +12,12 @@ loop-i-preserved c =
     let i = c.loop-i.i in
     let before = c.loop-i.invariant in
     elim c.if-name-i-eq47.branch [
-      then-name-i-eq47 w ↦ record {
+      | then-name-i-eq47 w ↦ record {
         low = omega (arith, w.start-is);
         part = rw w.start-is (part_slash name (drop c.loop-i.start name) i c.loop-i-test.true w.if-name-i-eq47.true before.part);
       }
-    | else-name-i-eq47 w ↦ record {
-      low = omega (arith, w.start-is, before.low);
-      part = rw w.start-is (part_other name (drop c.loop-i.start name) i c.loop-i-test.true w.if-name-i-eq47.false before.part);
-    }
+      | else-name-i-eq47 w ↦ record {
+        low = omega (arith, w.start-is, before.low);
+        part = rw w.start-is (part_other name (drop c.loop-i.start name) i c.loop-i-test.true w.if-name-i-eq47.false before.part);
+      }
     ]

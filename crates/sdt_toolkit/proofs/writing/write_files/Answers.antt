@@ -9,7 +9,7 @@ returns-in_default g c =
     let before = c.loop-file.invariant in
     record {
       says = written_fail c.write_file.result (files c.args.store.now) (files c.loop-file.store) (files c.write_file.new.store) c.args.files.now c.loop-file.file-index c.file-item.result
-      (count c.args.store.now) (count c.loop-file.store) (count c.write_file.new.store) c.loop-file-test.true c.file-item.is before.writes before.written c.write_file.ensures.says c.in_default.not-Done;
+          (count c.args.store.now) (count c.loop-file.store) (count c.write_file.new.store) c.loop-file-test.true c.file-item.is before.writes before.written c.write_file.ensures.says c.in_default.not-Done;
       reads = c.write_file.ensures.reads ∙ before.reads;
       writes = omega (arith, c.write_file.ensures.writes, before.writes);
     }
