@@ -3,3 +3,4 @@ pub mod MadeLemmas
 pub mod Rows
 pub mod ValidLemmas
 pub mod WithinLemmas
+mod SizeLaws

@@ -2,3 +2,4 @@
 pub mod Sizes
 pub mod Linking
 pub mod Images
+pub mod Laws

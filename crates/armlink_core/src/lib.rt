@@ -2,6 +2,7 @@
 #![tactic(auto)]
 
 mod imaging;
+pub mod laws;
 mod linking;
 mod loads;
 mod making;

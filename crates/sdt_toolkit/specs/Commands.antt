@@ -1,5 +1,5 @@
 -- Which command words ask for, and what its answer says of the input and leaves of store and sink. This project's.
-use Rattle.std.specs.Prelude.{◌≡◌, ℕ, List, [], ◌∷◌, Bool, true, false, codes, bytes_eq, Result, Ok, Err}
+use Rattle.std.specs.Prelude.{◌≡◌, ℕ, List, [], ◌∷◌, Bool, true, false, Result, Ok, Err}
 use Rattle.sdt_fault.specs.declared.answer.Answer.{Answer}
 use Rattle.sdt_fault.specs.declared.answer.Answer.TheVariants as answer
 use Rattle.sdt_fault.specs.declared.refusal.Refusal.TheVariants.{BadWords}
@@ -7,18 +7,14 @@ use Rattle.tool_words.specs.declared.command.Command.{Command}
 use Rattle.tool_words.specs.declared.command.Command.TheVariants as command
 use Rattle.tool_words.specs.declared.command.WordsFault.{WordsFault}
 use Rattle.tool_words.specs.declared.command.WordsFault.TheVariants as fault
-use Rattle.tool_words.specs.Items.{word_at}
 use Rattle.tool_answers.specs.Outcomes.{Outside, IsLeft, Answers, OfAll, OfOne}
+use Rattle.sdt_toolkit.specs.Links.{LinkAnswers}
 use Rattle.sdt_toolkit.specs.Sources.{AssemblyAnswers}
 use Rattle.tool_library.specs.Libraries.{created, creates, listed, lists, extracted, extracts}
 use Rattle.arm7_bus.specs.Seats.{Seat}
 use Rattle.tool_listing.specs.Lists.{listing_of}
 use Rattle.tool_listing.specs.Lists as listing
 use Rattle.tool_run.specs.Runs.{RunAnswers}
-
--- the command `build`, whose words are judged apart until sources of every kind are built
-abbrev pub is_build : List (List ℕ) → Bool
-is_build words = bytes_eq (word_at words 0) (codes "build")
 
 -- a word breaks a rule
 abbrev pub RefusesWords : ℕ → Outside → Answer → Type 0
@@ -31,7 +27,7 @@ RefusesWords place o (answer.Stopped stop) = ⊥
 RefusesWords place o answer.NoMemory = IsLeft o
 
 -- the answer to a command, or to words that break a rule, over devices, which are left so; `run` alone touches them
-abbrev pub Commanded : Result Command ℕ → Outside → List Seat → List Seat → Answer → Type 0
+unfoldable pub Commanded : Result Command ℕ → Outside → List Seat → List Seat → Answer → Type 0
 Commanded (Err place) o seats left a = RefusesWords place o a × (left ≡ seats)
 Commanded (Ok (command.Assemble source output)) o seats left a = AssemblyAnswers source output o a × (left ≡ seats)
 Commanded (Ok (command.CreateLibrary library objects)) o seats left a = Answers (created library objects) (OfAll (creates library objects) objects) objects o a × (left ≡ seats)
@@ -39,11 +35,20 @@ Commanded (Ok (command.ListMembers library)) o seats left a = Answers (listed li
 Commanded (Ok (command.ExtractMember library member output)) o seats left a = Answers (extracted library member output) (OfOne (extracts library member output)) (library ∷ []) o a × (left ≡ seats)
 Commanded (Ok (command.List file)) o seats left a = Answers (listing_of file) (OfOne (listing.lists file)) (file ∷ []) o a × (left ≡ seats)
 Commanded (Ok (command.Run run)) o seats left a = RunAnswers run o seats left a
+Commanded (Ok (command.Link words)) o seats left a = LinkAnswers false words o a × (left ≡ seats)
+Commanded (Ok (command.Build words)) o seats left a = LinkAnswers true words o a × (left ≡ seats)
 
 -- the words ask for a run
 abbrev pub is_run : Result Command ℕ → Bool
 is_run (Ok (command.Run run)) = true
 is_run other = false
+
+-- the words ask for a text, or for a run, which may print
+abbrev pub may_print : Result Command ℕ → Bool
+may_print (Ok (command.ListMembers library)) = true
+may_print (Ok (command.List file)) = true
+may_print (Ok (command.Run run)) = true
+may_print other = false
 
 -- the answer to words that ask for nothing
 abbrev pub RefusedBy : WordsFault → Answer → Type 0

@@ -2,10 +2,11 @@
 
 ghost use Rattle.std.specs.Prelude.{◌≡◌, Ok, false, map, string_bytes};
 ghost use Rattle.arm7_bus.specs.Seats.{seats_by};
-ghost use Rattle.sdt_toolkit.specs.Commands.{Commanded, is_build, is_run};
+ghost use Rattle.sdt_toolkit.specs.Commands.{Commanded, is_run, may_print};
 ghost use Rattle.tool_words.specs.Commands.{IsGood, command_of};
 
 use crate::assemble::assemble_file;
+use crate::links::link_files;
 use sdt_fault::answer::Answer;
 use sdt_fault::refusal::Refusal;
 use sdt_outside::{Device, Sink, Store};
@@ -14,16 +15,6 @@ use tool_library::{create_library, extract_member, list_members};
 use tool_listing::list_file;
 use tool_run::run;
 use tool_words::{Command, WordsFault, read_words};
-
-/// Whether the words ask for `build`.
-pub fn is_build(words: &[String]) -> bool
-    ensures { result ≡ is_build (map string_bytes words.now) }
-{
-    match words.first() {
-        None => false,
-        Some(word) => word.as_bytes() == b"build".as_slice(),
-    }
-}
 
 fn refused(fault: WordsFault) -> Answer
     ensures { RefusedBy fault result }
@@ -45,6 +36,7 @@ fn carried_out<S: Store, K: Sink>(
 ) -> Answer
     requires { IsGood command }
     ensures devices { is_run (Ok command) ≡ false → devices.new ≡ devices.old }
+    ensures sink { may_print (Ok command) ≡ false → sink.new ≡ sink.old }
     ensures commanded { Commanded (Ok command) (record {
       before = S.files store.old;
       after = S.files store.new;
@@ -71,11 +63,13 @@ fn carried_out<S: Store, K: Sink>(
         } => extract_member(alloc, store, &library, &member, output),
         Command::List { file } => list_file(alloc, store, sink, &file),
         Command::Run(words) => run(alloc, store, sink, devices, &words),
+        Command::Link(words) => link_files(alloc, store, false, &words),
+        Command::Build(words) => link_files(alloc, store, true, &words),
     }
 }
 
-/// Carries out any command but `build`.
-pub fn other<S: Store, K: Sink>(
+/// Carries out the command that words ask for.
+pub fn command<S: Store, K: Sink>(
     alloc: Global,
     words: &[String],
     store: &mut S,
@@ -83,6 +77,7 @@ pub fn other<S: Store, K: Sink>(
     devices: &mut Vec<Box<dyn Device>>,
 ) -> Answer
     ensures devices { is_run (command_of (map string_bytes words.now)) ≡ false → devices.new ≡ devices.old }
+    ensures sink { may_print (command_of (map string_bytes words.now)) ≡ false → sink.new ≡ sink.old }
     ensures commanded { Commanded (command_of (map string_bytes words.now)) (record {
       before = S.files store.old;
       after = S.files store.new;

@@ -1,12 +1,28 @@
 //! Laws of the definitions, each proved as the contract of an empty function.
 
+ghost use Rattle.sdt_toolkit.specs.Links.{OneLinkAsked};
 ghost use Rattle.sdt_toolkit.specs.Sources.{OneAsked};
+ghost use Rattle.sdt_toolkit.specs.Starting.{PlainImagesLoad, ScatterImagesStart};
 
 use armasm_core::laws::one_assembly;
+use link_model::linked_law;
+use scatter_text::reading_law;
 
 /// Files ask for one thing.
 pub fn one_asked()
-    ensures { OneAsked }
+    ensures assembled { OneAsked }
+    ensures linked { OneLinkAsked }
 {
     one_assembly();
+    linked_law();
+}
+
+/// A scatter image of objects as they are read and assembled starts: its load regions, where a loader puts them, reach
+/// the entry within the image's bound, with the memory as a view in which each object is shown. Of an image of bytes
+/// alone the load region shows them itself.
+pub fn images_start()
+    ensures scatter { ScatterImagesStart }
+    ensures plain { PlainImagesLoad }
+{
+    reading_law();
 }

@@ -1,2 +1,3 @@
 -- What the clauses of the crate cite.
 pub mod Libraries
+pub mod Linkables

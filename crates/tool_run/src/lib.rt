@@ -7,6 +7,7 @@ mod ends;
 mod image;
 mod maps;
 
+pub use crate::banks::ranges;
 pub use crate::command::run;
 pub use crate::ends::ImageEnd;
 pub use crate::image::read_image;

@@ -3,5 +3,4 @@ use Rattle.armsdt.proofs.Carrying.{carried}
 use Rattle.armsdt.proofs.carried_out.Goals as goal
 
 pub returns : goal.returns
-returns c =
-    carried (map string_bytes c.args.words.now) c.run_tool.result _ _ _ _ _ _ _ refl c.run_tool.ensures.exact c.run_tool.ensures.commanded
+returns c = carried (map string_bytes c.args.words.now) c.run_tool.result _ _ _ refl c.run_tool.ensures.commanded

@@ -1,11 +1,44 @@
 use Rattle.std.proofs.Common.{refl}
+use Rattle.sdt_toolkit.specs.Commands.{Commanded}
 use Rattle.sdt_toolkit.proofs.commands.carried_out.Goals as goal
 
 pub returns-in-CreateLibrary-clause-commanded : goal.returns-in-CreateLibrary-clause-commanded
+unfolding Commanded
 returns-in-CreateLibrary-clause-commanded g c =
     let says = rw c.as_slice.ensures at c.create_library.ensures in
     rw c.in-CreateLibrary.is (says (g.K.Sink.bytes c.args.sink.now) (g.K.Sink.faults c.args.sink.now), refl)
 
 pub returns-in-Assemble-clause-commanded : goal.returns-in-Assemble-clause-commanded
+unfolding Commanded
 returns-in-Assemble-clause-commanded g c =
     rw c.in-Assemble.is (c.assemble_file.ensures (g.K.Sink.bytes c.args.sink.now) (g.K.Sink.faults c.args.sink.now), refl)
+
+pub returns-in-ListMembers-clause-commanded : goal.returns-in-ListMembers-clause-commanded
+unfolding Commanded
+returns-in-ListMembers-clause-commanded g c =
+    rw c.in-ListMembers.is (c.list_members.ensures, refl)
+
+pub returns-in-ExtractMember-clause-commanded : goal.returns-in-ExtractMember-clause-commanded
+unfolding Commanded
+returns-in-ExtractMember-clause-commanded g c =
+    rw c.in-ExtractMember.is (c.extract_member.ensures (g.K.Sink.bytes c.args.sink.now) (g.K.Sink.faults c.args.sink.now), refl)
+
+pub returns-in-List-clause-commanded : goal.returns-in-List-clause-commanded
+unfolding Commanded
+returns-in-List-clause-commanded g c =
+    rw c.in-List.is (c.list_file.ensures, refl)
+
+pub returns-in-Run-clause-commanded : goal.returns-in-Run-clause-commanded
+unfolding Commanded
+returns-in-Run-clause-commanded g c =
+    rw c.in-Run.is c.run.ensures
+
+pub returns-in-Link-clause-commanded : goal.returns-in-Link-clause-commanded
+unfolding Commanded
+returns-in-Link-clause-commanded g c =
+    rw c.in-Link.is (c.link_files.ensures (g.K.Sink.bytes c.args.sink.now) (g.K.Sink.faults c.args.sink.now), refl)
+
+pub returns-in-Build-clause-commanded : goal.returns-in-Build-clause-commanded
+unfolding Commanded
+returns-in-Build-clause-commanded g c =
+    rw c.in-Build.is (c.link_files-in-Build.ensures (g.K.Sink.bytes c.args.sink.now) (g.K.Sink.faults c.args.sink.now), refl)

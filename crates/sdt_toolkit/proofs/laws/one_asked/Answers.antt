@@ -1,5 +1,9 @@
 use Rattle.sdt_toolkit.proofs.AskLemmas.{one_asked}
+use Rattle.sdt_toolkit.proofs.LinkOnce.{one_link_asked}
 use Rattle.sdt_toolkit.proofs.laws.one_asked.Goals as goal
 
-pub returns : goal.returns
-returns c = one_asked c.one_assembly.ensures
+pub returns-clause-assembled : goal.returns-clause-assembled
+returns-clause-assembled c = one_asked c.one_assembly.ensures
+
+pub returns-clause-linked : goal.returns-clause-linked
+returns-clause-linked c = one_link_asked c.one_assembly.ensures c.linked_law.ensures.one

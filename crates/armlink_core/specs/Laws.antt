@@ -1,0 +1,23 @@
+-- What holds of every image that is linked. This project's.
+use Rattle.std.specs.Prelude.{◌≡◌, ℕ, ◌+◌, ◌^◌, ◌≤◌, List, Option, Ok}
+use Rattle.std.specs.List.{AllByRecursion}
+use Rattle.sdt_word.specs.declared.ranges.Range32.{Range32}
+use Rattle.aof_object.specs.declared.records.Object.{Object}
+use Rattle.link_model.specs.declared.images.Image.{Image}
+use Rattle.link_model.specs.declared.images.ImageKind.{ImageKind}
+use Rattle.link_model.specs.declared.images.ImageKind.TheVariants as form
+use Rattle.link_model.specs.declared.selection.Named.{Named}
+use Rattle.place_model.specs.declared.scatter.Kind.{Kind}
+use Rattle.armlink_core.specs.Images.{form_of, linking, scatter_linking}
+
+-- an image of a form, whose regions have 64 MiB at most
+pub record IsSized (f : ImageKind) (i : Image) : Type 0 where
+  pub form : i.kind ≡ f
+  pub regions : AllByRecursion (λ r. r.length + r.zero ≤ 2 ^ 26) i.regions
+
+abbrev pub LinkedSizes : Type 0
+LinkedSizes = (k : Kind) (ram : Option (List Range32)) (os : List (Named Object)) (i : Image) → linking k ram os ≡ Ok i → IsSized (form_of k) i
+
+abbrev pub ScatterSizes : Type 0
+ScatterSizes =
+    (text : List ℕ) (ram : Option (List Range32)) (os : List (Named Object)) (i : Image) → scatter_linking text ram os ≡ Ok i → IsSized form.Scatter i

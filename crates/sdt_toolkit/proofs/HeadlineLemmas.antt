@@ -1,0 +1,234 @@
+-- What `link` and `build` leave, from their answers.
+use Rattle.std.proofs.Common.{◌≡◌, ℕ, zero, suc, Bool, true, false, cond, List, [], ◌∷◌, ◌++◌, Option, Some, None, Result, Ok, Err, refl, sym, ap, ◌∙◌, subst}
+use Rattle.std.specs.Prelude.{slice_get}
+use Rattle.std.specs.List.{list_any, cons_option}
+use Rattle.sdt_fault.specs.declared.answer.Answer.{Answer}
+use Rattle.sdt_fault.specs.declared.answer.Answer.TheVariants as answer
+use Rattle.sdt_fault.specs.declared.refusal.Refusal.{Refusal}
+use Rattle.sdt_outside.specs.Files.{Files, content}
+use Rattle.sdt_outside.specs.Counts.{Rose}
+use Rattle.chunk_file.specs.Reading.{◌>>=◌}
+use Rattle.aof_object.specs.declared.records.Object.{Object}
+use Rattle.arm7_bus.specs.Seats.{Seat}
+use Rattle.boot_code.specs.Boots.{ByteMap}
+use Rattle.armasm_core.specs.Standing.{StandsWherePlaced}
+use Rattle.link_model.specs.declared.images.Image.{Image}
+use Rattle.link_model.specs.declared.selection.Named.{Named}
+use Rattle.link_model.specs.Chosen.{AreLinked, taken}
+use Rattle.link_model.specs.Members.{members_of}
+use Rattle.bin_image.specs.declared.records.OutFile.{OutFile}
+use Rattle.bin_image.specs.Files.{files_of}
+use Rattle.tool_words.specs.declared.command.Command.{Command}
+use Rattle.tool_words.specs.declared.command.Command.TheVariants as command
+use Rattle.tool_words.specs.declared.command.LinkForm.{LinkForm}
+use Rattle.tool_words.specs.declared.command.LinkForm.TheVariants as form
+use Rattle.tool_words.specs.declared.command.LinkWords.{LinkWords}
+use Rattle.tool_words.specs.Commands.{command_of}
+use Rattle.tool_answers.specs.Inputs.{and_others, before_others, found_or, input_of, inputs_of}
+use Rattle.tool_answers.specs.Outcomes.{Outcome, Outside, AreWritten, written}
+use Rattle.tool_library.specs.declared.linkables.Linkable.{Linkable}
+use Rattle.tool_library.specs.declared.linkables.Linkable.TheVariants as input
+use Rattle.sdt_toolkit.specs.Commands.{Commanded}
+use Rattle.sdt_toolkit.specs.Headline.{Headline, IsLinkedInto, Reaches, SourcesStand}
+use Rattle.sdt_toolkit.specs.Inputs.{Behind, InputBy, InputIs, InputsAre, IsSource, NamedIs, as_object, is_source_name, named, objects_among, archives_among, with_name}
+use Rattle.sdt_toolkit.specs.Links.{FilesAsk, ImageIs, InputsMake, IsInMemory, LinkAnswers, LinkAsks, LinkMakes, ReadAsks, behind_first, filed, files_read, inputs_in, is_long, outputs, read_by, text_in, too_large, writes_all}
+use Rattle.sdt_toolkit.specs.Starting.{AreShownIn, IsShownIn, Loads, Starts}
+
+-- ---- answers
+
+ok_same : {A E : Type 0} (a b : A) → ◌≡◌ {A = Result A E} (Ok a) (Ok b) → a ≡ b
+ok_same a b h = cc
+
+never : {A E : Type 0} (P : Type 0) (a : A) (e : E) → ◌≡◌ {A = Result A E} (Err e) (Ok a) → P
+never P a e h = absurd cc
+
+steps_ok : {A B : Type 0} (x : Result A Refusal) (f : A → Result B Refusal) (b : B) → (x >>= f) ≡ Ok b → (a : A) × (x ≡ Ok a) × (f a ≡ Ok b)
+steps_ok (Ok a) f b h = (a, refl, h)
+steps_ok {B = B} (Err r) f b h = absurd (let bad : ◌≡◌ {A = Result B Refusal} (Err r) (Ok b) = h in cc)
+
+-- ---- what was read
+
+inputs_next : (one : Result (List ℕ) Refusal) (others : Result (List (List ℕ)) Refusal) (contents : List (List ℕ)) → and_others one others ≡ Ok contents
+    → (bytes : List ℕ) × (rest : List (List ℕ)) × (one ≡ Ok bytes) × (others ≡ Ok rest) × (contents ≡ bytes ∷ rest)
+inputs_next (Ok bytes) (Ok rest) contents h = (bytes, rest, refl, refl, sym (ok_same (bytes ∷ rest) contents h))
+inputs_next (Ok bytes) (Err r) contents h = never _ contents r h
+inputs_next (Err r) others contents h = never _ contents r h
+
+under_names : (files : Files) (f : LinkForm) (names contents : List (List ℕ)) → inputs_of files (read_by f names) ≡ Ok contents → inputs_of files names ≡ Ok (inputs_in f contents)
+under_names files (form.Scatter file) names contents h =
+    let (bytes, rest, one, others, whole) = inputs_next (input_of files file) (inputs_of files names) contents h in
+    others ∙ ap (λ (c : List (List ℕ)). Ok (behind_first c)) (sym whole)
+under_names files (form.Plain base) names contents h = h
+
+found_same : (name text bytes : List ℕ) (o : Option (List ℕ)) → o ≡ Some text → found_or name o ≡ Ok bytes → bytes ≡ text
+found_same name text bytes None e h = absurd cc
+found_same name text bytes (Some t) e h = cc
+
+input_at : (files : Files) (names contents : List (List ℕ)) → inputs_of files names ≡ Ok contents → (k : ℕ) (name text : List ℕ) → slice_get names k ≡ Some name
+    → content files name ≡ Some text → slice_get contents k ≡ Some text
+input_at files [] contents h k name text at holds = absurd cc
+input_at files (first ∷ names) contents h zero name text at holds =
+    let (bytes, rest, one, others, whole) = inputs_next (input_of files first) (inputs_of files names) contents h in
+    let is : first ≡ name = cc in
+    let same : bytes ≡ text = found_same name text bytes (content files name) holds (subst (λ (n : List ℕ). found_or n (content files n) ≡ Ok bytes) is one) in
+    ap (λ (c : List (List ℕ)). slice_get c 0) whole ∙ ap Some same
+input_at files (first ∷ names) contents h (suc k) name text at holds =
+    let (bytes, rest, one, others, whole) = inputs_next (input_of files first) (inputs_of files names) contents h in
+    ap (λ (c : List (List ℕ)). slice_get c (suc k)) whole ∙ input_at files names rest others k name text at holds
+
+-- ---- the object of a source
+
+pub record IsObjectAmong (os : List (Named Object)) (name text : List ℕ) : Type 0 where
+  pub place : ℕ
+  pub object : Named Object
+  pub at : slice_get os place ≡ Some object
+  pub stands : StandsWherePlaced name text object.value
+
+in_front : (xs ys : List (Named Object)) (name text : List ℕ) → IsObjectAmong xs name text → IsObjectAmong (xs ++ ys) name text
+in_front xs ys name text h = record { place = h.place; object = h.object; at = go xs h.place h.at; stands = h.stands }
+  where
+    go : (zs : List (Named Object)) (k : ℕ) → slice_get zs k ≡ Some h.object → slice_get (zs ++ ys) k ≡ Some h.object
+    go [] k e = absurd cc
+    go (z ∷ zs) zero e = e
+    go (z ∷ zs) (suc k) e = go zs k e
+
+one_behind : (o : Option (Named Object)) (os : List (Named Object)) (name text : List ℕ) → IsObjectAmong os name text → IsObjectAmong (cons_option o os) name text
+one_behind None os name text h = h
+one_behind (Some o) os name text h = record { place = suc h.place; object = h.object; at = h.at; stands = h.stands }
+
+source_first : (name text : List ℕ) (x : Named Linkable) (xs : List (Named Linkable)) → is_source_name name ≡ true → NamedIs true name text (Ok x) → IsObjectAmong (objects_among (x ∷ xs)) name text
+source_first name text x xs is h =
+    let source : IsSource name text h.0 = subst (λ (b : Bool). InputBy b name text h.0) is h.1 in
+    let (l, made, as_named) = steps_ok h.0 (λ x. Ok (named name x)) x (sym h.2) in
+    let (o, object, as_input) = steps_ok source.object (λ o. Ok (input.Object o)) l (sym source.as_input ∙ made) in
+    let whole : named name (input.Object o) ≡ x = ap (named name) (ok_same (input.Object o) l as_input) ∙ ok_same (named name l) x as_named in
+    let first : IsObjectAmong (objects_among (named name (input.Object o) ∷ xs)) name text = record {
+      place = 0;
+      object = record { name = name; «module» = (named name (input.Object o)).«module»; value = o };
+      at = refl;
+      stands = source.stands o object;
+    } in
+    subst (λ (y : Named Linkable). IsObjectAmong (objects_among (y ∷ xs)) name text) whole first
+
+behind_first_is : (first : Result (Named Linkable) Refusal) (others : Result (List (Named Linkable)) Refusal → Type 0) (xs : List (Named Linkable)) → Behind first others (Ok xs)
+    → (x : Named Linkable) × (ys : List (Named Linkable)) × (first ≡ Ok x) × others (Ok ys) × (x ∷ ys ≡ xs)
+behind_first_is (Err r) others xs h = never _ xs r (sym h)
+behind_first_is (Ok x) others xs h =
+    let (ys, rest, whole) = steps_ok h.0 (λ ys. Ok (x ∷ ys)) xs (sym h.2) in
+    (x, ys, refl, subst others rest h.1, ok_same (x ∷ ys) xs whole)
+
+source_at : (names contents : List (List ℕ)) (xs : List (Named Linkable)) → InputsAre true names contents (Ok xs) → (k : ℕ) (name text : List ℕ) → slice_get names k ≡ Some name
+    → slice_get contents k ≡ Some text → is_source_name name ≡ true → IsObjectAmong (objects_among xs) name text
+source_at [] contents xs h k name text at there is = absurd cc
+source_at (n ∷ names) [] xs h k name text at there is = absurd cc
+source_at (n ∷ names) (bytes ∷ contents) xs h zero name text at there is =
+    let (x, ys, first, rest, whole) = behind_first_is h.0 (InputsAre true names contents) xs h.2 in
+    let same_name : n ≡ name = cc in
+    let same_text : bytes ≡ text = cc in
+    let one : NamedIs true name text (Ok x) =
+    subst (λ (t : List ℕ). NamedIs true name t (Ok x)) same_text (subst (λ (q : List ℕ). NamedIs true q bytes (Ok x)) same_name (subst (NamedIs true n bytes) first h.1)) in
+    subst (λ (zs : List (Named Linkable)). IsObjectAmong (objects_among zs) name text) whole (source_first name text x ys is one)
+source_at (n ∷ names) (bytes ∷ contents) xs h (suc k) name text at there is =
+    let (x, ys, first, rest, whole) = behind_first_is h.0 (InputsAre true names contents) xs h.2 in
+    subst (λ (zs : List (Named Linkable)). IsObjectAmong (objects_among zs) name text) whole
+    (one_behind (as_object x.name x.«module» x.value) (objects_among ys) name text (source_at names contents ys rest k name text at there is))
+
+-- ---- the image in memory
+
+memory_view : (f : LinkForm) (os : List (Named Object)) (i : Image) → IsInMemory f os i → (view : ByteMap) × Reaches f i view × AreShownIn view os
+memory_view (form.Scatter file) os i h = (h.view, (h.copies, h.parts, h.boots), h.shown)
+memory_view (form.Plain base) os i h = (h.view, (h.parts, h.cleared), h.shown)
+
+filed_as : (out : List ℕ) (i : Image) (fs : List OutFile) → filed out i ≡ Ok fs → fs ≡ files_of i out
+filed_as out i fs h = go (list_any is_long (files_of i out)) h
+  where
+    go : (b : Bool) → cond b (Err too_large) (Ok (files_of i out)) ≡ Ok fs → fs ≡ files_of i out
+    go true e = absurd (let bad : ◌≡◌ {A = Result (List OutFile) Refusal} (Err too_large) (Ok fs) = e in cc)
+    go false e = sym (ok_same (files_of i out) fs e)
+
+-- ---- the lemma
+
+pub record IsLeftBy (sources : Bool) (w : LinkWords) (before : Files) (after : Option Files) : Type 0 where
+  pub view : ByteMap
+  pub link : IsLinkedInto sources w before after view
+  pub stand : sources ≡ true → SourcesStand w.names before view
+
+module _ (sources : Bool) (w : LinkWords) (before : Files) (after : Option Files) where
+  image_left : (contents : List (List ℕ)) (fs : List OutFile) (inputs : List (Named Linkable)) (i : Image) (image : Result Image Refusal)
+      → inputs_of before (files_read w) ≡ Ok contents → InputsAre sources w.names (inputs_in w.form contents) (Ok inputs)
+      → ImageIs w.form (text_in w.form contents) w.ram inputs image → image ≡ Ok i → filed w.output i ≡ Ok fs → after ≡ Some (written before (outputs fs))
+      → IsLeftBy sources w before after
+  image_left contents fs inputs i image read judged is made files left =
+      let (view, reaches, shown) = memory_view w.form is.objects i (is.memory i made) in
+      record {
+        view = view;
+        link = record {
+          contents = contents;
+          inputs = inputs;
+          objects = is.objects;
+          image = i;
+          read = read;
+          judged = judged;
+          linked = is.linked;
+          left = left ∙ ap (λ (x : List OutFile). Some (written before (outputs x))) (filed_as w.output i fs files);
+          reaches = reaches;
+          shown = shown;
+        };
+        stand = λ sourced k name text at source holds.
+            let there = input_at before w.names (inputs_in w.form contents) (under_names before w.form w.names contents read) k name text at holds in
+            let among : IsObjectAmong (objects_among inputs) name text =
+            source_at w.names (inputs_in w.form contents) inputs (subst (λ (b : Bool). InputsAre b w.names (inputs_in w.form contents) (Ok inputs)) sourced judged) k name text at there source in
+            let found : IsObjectAmong is.objects name text =
+            subst (λ (os : List (Named Object)). IsObjectAmong os name text) (sym is.linked.in_order)
+            (in_front (objects_among inputs) (taken is.linked.chosen 0 (members_of (archives_among inputs))) name text among) in
+            let seen : IsShownIn view found.object.value = shown found.place found.object found.at in
+            (seen.values, seen.region, found.stands seen.number seen.values seen.area_at view seen.region seen.veneers seen.placed seen.shown);
+      }
+
+  inputs_left : (contents : List (List ℕ)) (fs : List OutFile) (inputs : Result (List (Named Linkable)) Refusal) (made : Result (List OutFile) Refusal)
+      → inputs_of before (files_read w) ≡ Ok contents → InputsAre sources w.names (inputs_in w.form contents) inputs
+      → InputsMake w (text_in w.form contents) inputs made → made ≡ Ok fs → after ≡ Some (written before (outputs fs)) → IsLeftBy sources w before after
+  inputs_left contents fs (Err r) made read judged h ok left = never (IsLeftBy sources w before after) fs r (sym h ∙ ok)
+  inputs_left contents fs (Ok xs) made read judged h ok left =
+      let (i, image, files) = steps_ok h.0 (filed w.output) fs (sym h.2 ∙ ok) in
+      image_left contents fs xs i h.0 read judged h.1 image files left
+
+  files_left : (out : Outcome) (fs : List OutFile) → writes_all fs ≡ Ok out → after ≡ Some (written before out.files) → after ≡ Some (written before (outputs fs))
+  files_left out fs h left =
+      let all : record { files = outputs fs; prints = [] } ≡ out = cc in
+      left ∙ ap (λ (o : Outcome). Some (written before o.files)) (sym all)
+
+  read_left : (contents : Result (List (List ℕ)) Refusal) (asked : Result Outcome Refusal) (out : Outcome) → inputs_of before (files_read w) ≡ contents
+      → ReadAsks sources w contents asked → asked ≡ Ok out → after ≡ Some (written before out.files) → IsLeftBy sources w before after
+  read_left (Err r) asked out read h ok left = never (IsLeftBy sources w before after) out r (sym h ∙ ok)
+  read_left (Ok contents) asked out read h ok left =
+      let (fs, made, writes) = steps_ok h.made writes_all out (sym h.outcome ∙ ok) in
+      inputs_left contents fs h.makes.inputs h.made read h.makes.judged h.makes.files made (files_left out fs writes left)
+
+  told_left : (told : Option Files) (rose : Type 0) (asked : Result Outcome Refusal) (out : Outcome) → told ≡ Some before → FilesAsk sources w told rose asked → asked ≡ Ok out
+      → AreWritten told after out.files → IsLeftBy sources w before after
+  told_left told rose asked out is h ok left =
+      read_left (inputs_of before (files_read w)) asked out refl (subst (λ (t : Option Files). FilesAsk sources w t rose asked) is h) ok
+      (subst (λ (t : Option Files). AreWritten t after out.files) is left)
+
+link_left : (sources : Bool) (w : LinkWords) (o : Outside) (before : Files) → o.before ≡ Some before → LinkAnswers sources w o answer.Done → IsLeftBy sources w before o.after
+unfolding LinkAnswers
+link_left sources w o before told h =
+    let says = h.2 in
+    told_left sources w before o.after o.before (Rose o.reads o.reads_now) h.0 says.0 told h.1 says.1 says.2
+
+pub headline : (x : Result Command ℕ) (o : Outside) (seats left : List Seat) (a : Answer) → Commanded x o seats left a → Headline x o.before o.after a
+unfolding Commanded
+headline x o seats left a h = record {
+  link = λ w before asked told done.
+      let answers : LinkAnswers false w o answer.Done = subst (LinkAnswers false w o) done (subst (λ (y : Result Command ℕ). Commanded y o seats left a) asked h).0 in
+      let r = link_left false w o before told answers in
+      (r.view, r.link);
+  build = λ w before asked told done.
+      let answers : LinkAnswers true w o answer.Done = subst (LinkAnswers true w o) done (subst (λ (y : Result Command ℕ). Commanded y o seats left a) asked h).0 in
+      let r = link_left true w o before told answers in
+      (r.view, r.link, r.stand refl);
+}
+
+pub headline_of : (words : List (List ℕ)) (o : Outside) (seats left : List Seat) (a : Answer) → Commanded (command_of words) o seats left a → Headline (command_of words) o.before o.after a
+headline_of words o seats left a h = headline (command_of words) o seats left a h

@@ -1,0 +1,140 @@
+-- The image of inputs, and its files.
+use Rattle.std.proofs.Common.{◌≡◌, ℕ, ◌+◌, ◌%◌, ◌^◌, ◌<◌, ◌≤◌, List, [], ◌∷◌, ◌++◌, length, map, nat_le, Bool, true, false, cond, ◌||◌, Option, Some, None, Result, Ok, Err, refl, sym, ap, ◌∙◌, subst, arith, get_or, zero, suc}
+use Rattle.std.proofs.lemmas.Bool.{leb-false}
+use Rattle.std.proofs.lemmas.List.Folds.{list_any-append}
+use Rattle.std.specs.List.{list_any, AllByRecursion}
+use Rattle.sdt_word.specs.declared.ranges.Range32.{Range32}
+use Rattle.sdt_fault.specs.declared.answer.Fault.{Fault}
+use Rattle.sdt_fault.specs.declared.answer.Fault.TheVariants as fault
+use Rattle.sdt_fault.specs.declared.refusal.Refusal.{Refusal}
+use Rattle.chunk_file.specs.Reading.{Gives}
+use Rattle.aof_object.specs.declared.records.Object.{Object}
+use Rattle.alf_archive.specs.declared.records.Archive.{Archive}
+use Rattle.link_model.specs.declared.images.Image.{Image}
+use Rattle.link_model.specs.declared.images.ImageKind.{ImageKind}
+use Rattle.link_model.specs.declared.images.ImageKind.TheVariants as shape
+use Rattle.link_model.specs.declared.images.LoadRegion.{LoadRegion}
+use Rattle.link_model.specs.declared.placing.Region.{Region}
+use Rattle.link_model.specs.declared.selection.Named.{Named}
+use Rattle.link_model.specs.Chosen.{AreLinked}
+use Rattle.place_model.specs.declared.scatter.Kind.TheVariants as kind
+use Rattle.armlink_core.specs.Images.{Links, linking, scatter_linking}
+use Rattle.armlink_core.specs.Laws.{IsSized, LinkedSizes, ScatterSizes}
+use Rattle.bin_image.specs.declared.records.OutFile.{OutFile}
+use Rattle.bin_image.specs.Files.{IsMapped, files_by, files_of, load_file, map_file, plain_file}
+use Rattle.tool_words.specs.declared.command.Bank.{Bank}
+use Rattle.tool_words.specs.declared.command.LinkForm.{LinkForm}
+use Rattle.tool_words.specs.declared.command.LinkForm.TheVariants as form
+use Rattle.tool_library.specs.declared.linkables.Linkable.{Linkable}
+use Rattle.sdt_toolkit.proofs.InputLemmas.{valid_archives, valid_objects}
+use Rattle.sdt_toolkit.proofs.SoundLemmas.{sound_linked}
+use Rattle.sdt_toolkit.specs.Inputs.{AreValid, Tells, archives_among, objects_among}
+use Rattle.sdt_toolkit.specs.Starting.{AreSound, HasBytes, PlainImagesLoad, ScatterImagesStart}
+use Rattle.sdt_toolkit.specs.Links.{ImageIs, IsFiled, IsInMemory, IsRam, IsScatterImage, IsWritable, LinksTo, ScattersTo, filed, is_long, is_long_load, too_large}
+
+-- ---- the image
+
+pub scattered : (objects : List (Named Object)) (archives : List (Named Archive)) (text : List ℕ) (banks : Option (List Bank)) (ram : Option (List Range32)) (r : Result Image Fault)
+    → IsRam banks ram → Links objects archives (scatter_linking text ram) r → Tells r (IsScatterImage objects archives text banks)
+scattered objects archives text banks ram (Ok i) told h = (h.0, h.1, (ram, told, sym h.2))
+scattered objects archives text banks ram (Err (fault.Refused e)) told h = (h.0, h.1, (ram, told, sym h.2))
+scattered objects archives text banks ram (Err (fault.ReadFault q)) told h = h
+scattered objects archives text banks ram (Err fault.NoMemory) told h = tt
+
+-- what is linked of these is sound
+abbrev pub LinksSound : List (Named Object) → List (Named Archive) → Type 0
+LinksSound objects archives = (os : List (Named Object)) → AreLinked objects archives os → AreSound os
+
+pub sound_inputs : (inputs : List (Named Linkable)) → AreValid inputs → AllByRecursion (λ o. HasBytes o.value) (objects_among inputs)
+    → AllByRecursion (λ a. AllByRecursion (λ m. HasBytes m.object) a.value.members) (archives_among inputs) → LinksSound (objects_among inputs) (archives_among inputs)
+sound_inputs inputs valid objects archives = λ os linked.
+    sound_linked (objects_among inputs) (archives_among inputs) os linked (valid_objects inputs valid) (valid_archives inputs valid) objects archives
+
+same_memory : (f : LinkForm) (os : List (Named Object)) (i : Image) → IsInMemory f os i → (j : Image) → ◌≡◌ {A = Result Image Refusal} (Ok i) (Ok j) → IsInMemory f os j
+same_memory f os i h j e = subst (IsInMemory f os) (let is : i ≡ j = cc in is) h
+
+no_memory : (f : LinkForm) (os : List (Named Object)) (r : Refusal) (j : Image) → ◌≡◌ {A = Result Image Refusal} (Err r) (Ok j) → IsInMemory f os j
+no_memory f os r j e = absurd cc
+
+pub scatter_image : ScatterImagesStart → (inputs : List (Named Linkable)) (file text : List ℕ) (banks : Option (List Bank)) (r : Result Image Fault)
+    → LinksSound (objects_among inputs) (archives_among inputs) → Tells r (IsScatterImage (objects_among inputs) (archives_among inputs) text banks)
+    → Tells r (ImageIs (form.Scatter file) text banks inputs)
+scatter_image starts inputs file text banks (Ok i) sound h =
+    let links : ScattersTo text banks h.0 (Ok i) = h.2 in
+    record { objects = h.0; linked = h.1; links = h.2; memory = same_memory (form.Scatter file) h.0 i (starts text links.0 h.0 i (sound h.0 h.1) (sym links.2)) }
+scatter_image starts inputs file text banks (Err (fault.Refused e)) sound h = record { objects = h.0; linked = h.1; links = h.2; memory = no_memory (form.Scatter file) h.0 e }
+scatter_image starts inputs file text banks (Err (fault.ReadFault q)) sound h = h
+scatter_image starts inputs file text banks (Err fault.NoMemory) sound h = tt
+
+pub plain_image : PlainImagesLoad → (inputs : List (Named Linkable)) (base : ℕ) (text : List ℕ) (banks : Option (List Bank)) (r : Result Image Fault) → base % 4 ≡ 0
+    → LinksSound (objects_among inputs) (archives_among inputs) → Links (objects_among inputs) (archives_among inputs) (linking (kind.Plain base) None) r
+    → Tells r (ImageIs (form.Plain base) text banks inputs)
+plain_image loads inputs base text banks (Ok i) whole sound h =
+    record { objects = h.0; linked = h.1; links = sym h.2; memory = same_memory (form.Plain base) h.0 i (loads base h.0 i (sound h.0 h.1) whole h.2) }
+plain_image loads inputs base text banks (Err (fault.Refused e)) whole sound h = record { objects = h.0; linked = h.1; links = sym h.2; memory = no_memory (form.Plain base) h.0 e }
+plain_image loads inputs base text banks (Err (fault.ReadFault q)) whole sound h = h
+plain_image loads inputs base text banks (Err fault.NoMemory) whole sound h = tt
+
+-- ---- what is written of it
+
+mapped : (rs : List Region) → AllByRecursion (λ r. r.length + r.zero ≤ 2 ^ 26) rs → AllByRecursion IsMapped rs
+mapped [] h = tt
+mapped (r ∷ rs) h = let small = h.0 in (record { length = omega (arith, small); zero = omega (arith, small) }, mapped rs h.1)
+
+filed_so : (f k : ImageKind) → k ≡ f → IsFiled f → IsFiled k
+filed_so f k e h = subst IsFiled (sym e) h
+
+writable : (f : ImageKind) (i : Image) → IsFiled f → IsSized f i → IsWritable i
+writable f i filed sized = record { form = filed_so f i.kind sized.form filed; regions = mapped i.regions sized.regions }
+
+links_writable : LinkedSizes → ScatterSizes → (f : LinkForm) (text : List ℕ) (banks : Option (List Bank)) (os : List (Named Object)) (i : Image) → LinksTo f text banks os (Ok i) → IsWritable i
+links_writable linked scattered (form.Scatter file) text banks os i h = writable shape.Scatter i tt (scattered text h.0 os i (sym h.2))
+links_writable linked scattered (form.Plain base) text banks os i h = writable shape.Plain i tt (linked (kind.Plain base) None os i (sym h))
+
+pub image_writable : LinkedSizes → ScatterSizes → (f : LinkForm) (text : List ℕ) (banks : Option (List Bank)) (inputs : List (Named Linkable)) (i : Image) → ImageIs f text banks inputs (Ok i) → IsWritable i
+image_writable linked scattered f text banks inputs i h = links_writable linked scattered f text banks h.objects i h.links
+
+-- ---- its files
+
+long_scattered : (out : List ℕ) (ls : List LoadRegion) → list_any is_long_load ls ≡ list_any is_long (map (load_file out) ls)
+long_scattered out [] = refl
+long_scattered out (l ∷ ls) = ap (λ (b : Bool). is_long_load l || b) (long_scattered out ls)
+
+long_plain : (out : List ℕ) (ls : List LoadRegion) → list_any is_long_load ls ≡ list_any is_long (map (plain_file out) ls)
+long_plain out [] = refl
+long_plain out (l ∷ ls) = ap (λ (b : Bool). is_long_load l || b) (long_plain out ls)
+
+or_true : (a b : Bool) → a ≡ true → (a || b) ≡ true
+or_true a b e = rw e refl
+
+long_by : (f : ImageKind) (i : Image) (out : List ℕ) → IsFiled f → list_any is_long_load i.loads ≡ true → list_any is_long (files_by f i out) ≡ true
+long_by shape.Scatter i out filed h =
+    list_any-append is_long (map (load_file out) i.loads) (map_file i out ∷ [])
+    ∙ or_true (list_any is_long (map (load_file out) i.loads)) (list_any is_long (map_file i out ∷ [])) (sym (long_scattered out i.loads) ∙ h)
+long_by shape.Plain i out filed h = sym (long_plain out i.loads) ∙ h
+long_by (shape.Aif relocatable) i out filed h = absurd filed
+
+long_files : (out : List ℕ) (i : Image) → list_any is_long (files_of i out) ≡ true → filed out i ≡ Err too_large
+long_files out i h = ap (λ (b : Bool). cond b (Err too_large) (Ok (files_of i out))) h
+
+pub long_load : (out : List ℕ) (i : Image) → IsWritable i → list_any is_long_load i.loads ≡ true → filed out i ≡ Err too_large
+long_load out i w h = long_files out i (long_by i.kind i out w.form h)
+
+pub long_file : (out : List ℕ) (i : Image) (fs : List OutFile) → fs ≡ files_of i out → list_any is_long fs ≡ true → filed out i ≡ Err too_large
+long_file out i fs e h = long_files out i (ap (list_any is_long) (sym e) ∙ h)
+
+pub short_files : (out : List ℕ) (i : Image) (fs : List OutFile) → fs ≡ files_of i out → list_any is_long fs ≡ false → filed out i ≡ Ok fs
+short_files out i fs e h = ap (λ (b : Bool). cond b (Err too_large) (Ok (files_of i out))) (ap (list_any is_long) (sym e) ∙ h) ∙ ap Ok (sym e)
+
+or_false : (a b : Bool) → (a || b) ≡ false → (a ≡ false) × (b ≡ false)
+or_false true b h = absurd (let bad : true ≡ false = h in cc)
+or_false false b h = (refl, h)
+
+pub short_loads : (ls : List LoadRegion) → list_any is_long_load ls ≡ false → AllByRecursion (λ l. length l.bytes < 2 ^ 32) ls
+short_loads [] h = tt
+short_loads (l ∷ ls) h = let both = or_false (is_long_load l) (list_any is_long_load ls) h in (leb-false (2 ^ 32) (length l.bytes) both.0, short_loads ls both.1)
+
+pub all_short : (fs : List OutFile) → list_any is_long fs ≡ false → (k : ℕ) (d : OutFile) → k < length fs → length (get_or fs k d).bytes < 2 ^ 32
+all_short [] h k d lt = absurd (omega (arith, lt))
+all_short (f ∷ fs) h zero d lt = leb-false (2 ^ 32) (length f.bytes) (or_false (is_long f) (list_any is_long fs) h).0
+all_short (f ∷ fs) h (suc k) d lt = let less : k < length fs = omega (arith, lt) in all_short fs (or_false (is_long f) (list_any is_long fs) h).1 k d less

@@ -1,0 +1,210 @@
+-- Names of inputs, and inputs one after the other.
+use Rattle.std.proofs.Common.{◌≡◌, ◌≢◌, ℕ, suc, ◌+◌, ◌==◌, ◌<◌, List, [], ◌∷◌, ◌++◌, length, drop, get_or, Bool, true, false, cond, Option, Some, None, Result, Ok, Err, refl, sym, ap, ◌∙◌, subst, append_assoc, add-one}
+use Rattle.std.proofs.Math.Seq.{drop-cons}
+use Rattle.std.proofs.lemmas.Bool.{ne_eqb}
+use Rattle.std.proofs.lemmas.List.{append-nil}
+use Rattle.std.specs.List.{list_any, cons_option, AllByRecursion}
+use Rattle.sdt_fault.specs.declared.answer.Fault.{Fault}
+use Rattle.sdt_fault.specs.declared.answer.Fault.TheVariants as fault
+use Rattle.sdt_fault.specs.declared.refusal.Refusal.{Refusal}
+use Rattle.chunk_file.specs.Reading.{◌>>=◌, Gives}
+use Rattle.aof_object.specs.declared.records.Object.{Object}
+use Rattle.aof_object.specs.Validity as object
+use Rattle.alf_archive.specs.declared.records.Archive.{Archive}
+use Rattle.alf_archive.specs.Grammar as library
+use Rattle.armasm_core.specs.Assembling.{Assembles}
+use Rattle.armasm_core.specs.Standing.{StandsWherePlaced}
+use Rattle.link_model.specs.declared.selection.Named.{Named}
+use Rattle.tool_library.specs.declared.linkables.Linkable.{Linkable}
+use Rattle.tool_library.specs.declared.linkables.Linkable.TheVariants as input
+use Rattle.tool_library.specs.Linkables.{linkable_of, IsValidInput}
+use Rattle.sdt_toolkit.specs.Inputs.{AreValid, InputBy, InputIs, InputsAre, IsSource, NamedIs, Tells, archives_among, as_archive, as_object, last_part, named, objects_among}
+
+-- ---- the last part of a name
+
+-- the last part of a name, of which a beginning is read
+abbrev pub part_behind : List ℕ → List ℕ → List ℕ
+part_behind part rest = cond (list_any (λ d. d == 47) rest) (last_part rest) part
+
+whole_part : (cs : List ℕ) → last_part cs ≡ part_behind cs cs
+whole_part [] = refl
+whole_part (c ∷ cs) = by_test (list_any (λ d. d == 47) (c ∷ cs)) where
+  by_test : (b : Bool) → cond b (last_part cs) (c ∷ cs) ≡ cond b (cond b (last_part cs) (c ∷ cs)) (c ∷ cs)
+  by_test true = refl
+  by_test false = refl
+
+slash_test : (c : ℕ) (cs part : List ℕ) (b : Bool) → (c == 47) ≡ b → part_behind part (c ∷ cs) ≡ cond b (last_part cs) (part_behind part cs)
+slash_test c cs part true e = rw e refl
+slash_test c cs part false e = rw e (by_test (list_any (λ d. d == 47) cs)) where
+  by_test : (b : Bool) → cond b (cond b (last_part cs) (c ∷ cs)) part ≡ cond b (last_part cs) part
+  by_test true = refl
+  by_test false = refl
+
+byte_at : (name : List ℕ) (i : ℕ) → i < length name → drop i name ≡ get_or name i 0 ∷ drop (i + 1) name
+byte_at name i lt = rw add-one (drop-cons name i 0 lt)
+
+pub part_start : (name : List ℕ) → part_behind name (drop 0 name) ≡ last_part name
+part_start name = sym (whole_part name)
+
+pub part_slash : (name part : List ℕ) (i : ℕ) → i < length name → get_or name i 0 ≡ 47 → part_behind part (drop i name) ≡ last_part name
+    → part_behind (drop (i + 1) name) (drop (i + 1) name) ≡ last_part name
+part_slash name part i lt is h =
+    let e : (get_or name i 0 == 47) ≡ true = rw is refl in
+    sym (whole_part (drop (i + 1) name))
+    ∙ (sym (slash_test (get_or name i 0) (drop (i + 1) name) part true e) ∙ (ap (part_behind part) (sym (byte_at name i lt)) ∙ h))
+
+pub part_other : (name part : List ℕ) (i : ℕ) → i < length name → get_or name i 0 ≢ 47 → part_behind part (drop i name) ≡ last_part name
+    → part_behind part (drop (i + 1) name) ≡ last_part name
+part_other name part i lt differs h =
+    let e : (get_or name i 0 == 47) ≡ false = ne_eqb (get_or name i 0) 47 differs in
+    sym (slash_test (get_or name i 0) (drop (i + 1) name) part false e) ∙ (ap (part_behind part) (sym (byte_at name i lt)) ∙ h)
+
+-- ---- an input
+
+pub assembled_as : (name bytes : List ℕ) (o : Object) → Assembles name bytes (Ok o) → StandsWherePlaced name bytes o → IsSource name bytes (Ok (input.Object o))
+assembled_as name bytes o h stands = record {
+  object = Ok o;
+  assembled = h;
+  as_input = refl;
+  stands = λ p e. subst (StandsWherePlaced name bytes) (let same : ◌≡◌ {A = Result Object Refusal} (Ok o) (Ok p) = e in let is : o ≡ p = cc in is) stands;
+}
+
+pub unassembled_as : (name bytes : List ℕ) (f : Fault) → Assembles name bytes (Err f) → Tells {A = Linkable} (Err f) (IsSource name bytes)
+unassembled_as name bytes (fault.Refused r) h = record {
+  object = Err r;
+  assembled = h;
+  as_input = refl;
+  stands = λ p e. absurd (let bad : ◌≡◌ {A = Result Object Refusal} (Err r) (Ok p) = e in cc);
+}
+unassembled_as name bytes (fault.ReadFault q) h = h
+unassembled_as name bytes fault.NoMemory h = tt
+
+pub by_source : (b : Bool) (name bytes : List ℕ) (r : Result Linkable Fault) → b ≡ true → Tells r (IsSource name bytes) → Tells r (InputBy b name bytes)
+by_source b name bytes r is h = subst (λ (x : Bool). Tells r (InputBy x name bytes)) (sym is) h
+
+by_file_so : (name bytes : List ℕ) (r : Result Linkable Fault) → Gives r (linkable_of name bytes) → Tells r (InputBy false name bytes)
+by_file_so name bytes (Ok x) h = sym h
+by_file_so name bytes (Err (fault.Refused e)) h = sym h
+by_file_so name bytes (Err (fault.ReadFault q)) h = h
+by_file_so name bytes (Err fault.NoMemory) h = tt
+
+pub by_file : (b : Bool) (name bytes : List ℕ) (r : Result Linkable Fault) → b ≡ false → Gives r (linkable_of name bytes) → Tells r (InputBy b name bytes)
+by_file b name bytes r is h = subst (λ (x : Bool). Tells r (InputBy x name bytes)) (sym is) (by_file_so name bytes r h)
+
+pub named_so : (sources : Bool) (name bytes : List ℕ) (x : Linkable) → InputIs sources name bytes (Ok x) → NamedIs sources name bytes (Ok (named name x))
+named_so sources name bytes x h = (Ok x, h, refl)
+
+pub unnamed : (sources : Bool) (name bytes : List ℕ) (f : Fault) → Tells {A = Linkable} (Err f) (InputIs sources name bytes) → Tells {A = Named Linkable} (Err f) (NamedIs sources name bytes)
+unnamed sources name bytes (fault.Refused r) h = (Err r, h, refl)
+unnamed sources name bytes (fault.ReadFault q) h = h
+unnamed sources name bytes fault.NoMemory h = tt
+
+-- ---- inputs in order
+
+abbrev pub Inputs : Type 0
+Inputs = List (Named Linkable)
+
+-- what others give, behind some inputs
+abbrev pub behind : Inputs → Result Inputs Refusal → Result Inputs Refusal
+behind xs (Ok ys) = Ok (xs ++ ys)
+behind xs (Err r) = Err r
+
+pub behind_none : (r : Result Inputs Refusal) → behind [] r ≡ r
+behind_none (Ok ys) = refl
+behind_none (Err r) = refl
+
+behind_one : (xs : Inputs) (x : Named Linkable) (rest : Result Inputs Refusal) → behind xs (rest >>= λ ys. Ok (x ∷ ys)) ≡ behind (xs ++ x ∷ []) rest
+behind_one xs x (Ok ys) = ap Ok (sym (append_assoc xs (x ∷ []) ys))
+behind_one xs x (Err r) = refl
+
+-- what the inputs from a place on give, behind those before it, is what all give
+abbrev pub IsBehind : Bool → List (List ℕ) → List (List ℕ) → ℕ → Inputs → Type 0
+IsBehind sources names contents k xs =
+    (rest : Result Inputs Refusal) → InputsAre sources (drop k names) (drop k contents) rest → InputsAre sources names contents (behind xs rest)
+
+pub begun : (sources : Bool) (names contents : List (List ℕ)) → IsBehind sources names contents 0 []
+begun sources names contents = λ rest h. subst (InputsAre sources names contents) (sym (behind_none rest)) h
+
+at_place : (xs : List (List ℕ)) (k : ℕ) (x : List ℕ) → k < length xs → x ≡ get_or xs k x → drop k xs ≡ x ∷ drop (k + 1) xs
+at_place xs k x lt is = rw add-one (drop-cons xs k x lt ∙ ap (λ (y : List ℕ). y ∷ drop (suc k) xs) (sym is))
+
+pub one_more : (sources : Bool) (names contents : List (List ℕ)) (k : ℕ) (xs : Inputs) (name bytes : List ℕ) (x : Named Linkable) → k < length names → name ≡ get_or names k name
+    → k < length contents → bytes ≡ get_or contents k bytes → NamedIs sources name bytes (Ok x) → IsBehind sources names contents k xs → IsBehind sources names contents (k + 1) (xs ++ x ∷ [])
+one_more sources names contents k xs name bytes x lt name_is lt' bytes_is is before = λ rest h.
+    let here : InputsAre sources (name ∷ drop (k + 1) names) (bytes ∷ drop (k + 1) contents) (rest >>= λ ys. Ok (x ∷ ys)) = (Ok x, is, (rest, h, refl)) in
+    let there : InputsAre sources (drop k names) (drop k contents) (rest >>= λ ys. Ok (x ∷ ys)) = rw (at_place names k name lt name_is, at_place contents k bytes lt' bytes_is) here in
+    subst (InputsAre sources names contents) (behind_one xs x rest) (before (rest >>= λ ys. Ok (x ∷ ys)) there)
+
+pub one_refused : (sources : Bool) (names contents : List (List ℕ)) (k : ℕ) (xs : Inputs) (name bytes : List ℕ) (f : Fault) → k < length names → name ≡ get_or names k name
+    → k < length contents → bytes ≡ get_or contents k bytes → Tells {A = Named Linkable} (Err f) (NamedIs sources name bytes) → IsBehind sources names contents k xs
+    → Tells {A = Inputs} (Err f) (InputsAre sources names contents)
+one_refused sources names contents k xs name bytes (fault.Refused r) lt name_is lt' bytes_is is before =
+    let here : InputsAre sources (name ∷ drop (k + 1) names) (bytes ∷ drop (k + 1) contents) (Err r) = (Err r, is, refl) in
+    let there : InputsAre sources (drop k names) (drop k contents) (Err r) = rw (at_place names k name lt name_is, at_place contents k bytes lt' bytes_is) here in
+    before (Err r) there
+one_refused sources names contents k xs name bytes (fault.ReadFault q) lt name_is lt' bytes_is is before = is
+one_refused sources names contents k xs name bytes fault.NoMemory lt name_is lt' bytes_is is before = tt
+
+pub all_judged : (sources : Bool) (names contents : List (List ℕ)) (k : ℕ) (xs : Inputs) → drop k names ≡ [] → IsBehind sources names contents k xs → InputsAre sources names contents (Ok xs)
+all_judged sources names contents k xs none before =
+    let there : InputsAre sources (drop k names) (drop k contents) (Ok []) = rw none refl in
+    subst (λ (ys : Inputs). InputsAre sources names contents (Ok ys)) (append-nil xs) (before (Ok []) there)
+
+-- ---- objects and libraries among them
+
+abbrev ValidObjects : List (Named Object) → Type 0
+ValidObjects os = AllByRecursion (λ o. object.IsValid o.value) os
+
+abbrev ValidArchives : List (Named Archive) → Type 0
+ValidArchives xs = AllByRecursion (λ a. library.IsValid a.value) xs
+
+first_object : (name part : List ℕ) (v : Linkable) (rest : List (Named Object)) → IsValidInput v → ValidObjects rest → ValidObjects (cons_option (as_object name part v) rest)
+first_object name part (input.Object o) rest valid others = (valid, others)
+first_object name part (input.Library a) rest valid others = others
+
+first_archive : (name part : List ℕ) (v : Linkable) (rest : List (Named Archive)) → IsValidInput v → ValidArchives rest → ValidArchives (cons_option (as_archive name part v) rest)
+first_archive name part (input.Object o) rest valid others = others
+first_archive name part (input.Library a) rest valid others = (valid, others)
+
+pub valid_objects : (xs : Inputs) → AreValid xs → ValidObjects (objects_among xs)
+valid_objects [] h = tt
+valid_objects (x ∷ xs) h = first_object x.name x.«module» x.value (objects_among xs) h.0 (valid_objects xs h.1)
+
+pub valid_archives : (xs : Inputs) → AreValid xs → ValidArchives (archives_among xs)
+valid_archives [] h = tt
+valid_archives (x ∷ xs) h = first_archive x.name x.«module» x.value (archives_among xs) h.0 (valid_archives xs h.1)
+
+joined : {X : Type 0} (o : Option X) (xs ys : List X) → cons_option o (xs ++ ys) ≡ cons_option o xs ++ ys
+joined None xs ys = refl
+joined (Some x) xs ys = refl
+
+pub objects_both : (xs ys : Inputs) → objects_among (xs ++ ys) ≡ objects_among xs ++ objects_among ys
+objects_both [] ys = refl
+objects_both (x ∷ xs) ys = ap (cons_option (as_object x.name x.«module» x.value)) (objects_both xs ys) ∙ joined (as_object x.name x.«module» x.value) (objects_among xs) (objects_among ys)
+
+pub archives_both : (xs ys : Inputs) → archives_among (xs ++ ys) ≡ archives_among xs ++ archives_among ys
+archives_both [] ys = refl
+archives_both (x ∷ xs) ys = ap (cons_option (as_archive x.name x.«module» x.value)) (archives_both xs ys) ∙ joined (as_archive x.name x.«module» x.value) (archives_among xs) (archives_among ys)
+
+-- one more input, an object or a library
+pub object_more : (ys : Inputs) (x : Named Linkable) (o : Object) (os : List (Named Object)) → os ≡ objects_among ys → x.value ≡ input.Object o
+    → os ++ (record { name = x.name; «module» = x.«module»; value = o }) ∷ [] ≡ objects_among (ys ++ x ∷ [])
+object_more ys x o os before is =
+    ap (λ (zs : List (Named Object)). zs ++ (record { name = x.name; «module» = x.«module»; value = o }) ∷ []) before
+    ∙ (ap (λ (v : Linkable). objects_among ys ++ cons_option (as_object x.name x.«module» v) []) (sym is) ∙ sym (objects_both ys (x ∷ [])))
+
+pub object_same : (ys : Inputs) (x : Named Linkable) (a : Archive) (os : List (Named Object)) → os ≡ objects_among ys → x.value ≡ input.Library a → os ≡ objects_among (ys ++ x ∷ [])
+object_same ys x a os before is =
+    before ∙ (sym (append-nil (objects_among ys))
+    ∙ (ap (λ (v : Linkable). objects_among ys ++ cons_option (as_object x.name x.«module» v) []) (sym is) ∙ sym (objects_both ys (x ∷ []))))
+
+pub archive_more : (ys : Inputs) (x : Named Linkable) (a : Archive) (xs : List (Named Archive)) → xs ≡ archives_among ys → x.value ≡ input.Library a
+    → xs ++ (record { name = x.name; «module» = x.«module»; value = a }) ∷ [] ≡ archives_among (ys ++ x ∷ [])
+archive_more ys x a xs before is =
+    ap (λ (zs : List (Named Archive)). zs ++ (record { name = x.name; «module» = x.«module»; value = a }) ∷ []) before
+    ∙ (ap (λ (v : Linkable). archives_among ys ++ cons_option (as_archive x.name x.«module» v) []) (sym is) ∙ sym (archives_both ys (x ∷ [])))
+
+pub archive_same : (ys : Inputs) (x : Named Linkable) (o : Object) (xs : List (Named Archive)) → xs ≡ archives_among ys → x.value ≡ input.Object o → xs ≡ archives_among (ys ++ x ∷ [])
+archive_same ys x o xs before is =
+    before ∙ (sym (append-nil (archives_among ys))
+    ∙ (ap (λ (v : Linkable). archives_among ys ++ cons_option (as_archive x.name x.«module» v) []) (sym is) ∙ sym (archives_both ys (x ∷ []))))

@@ -1,0 +1,129 @@
+-- What the files of a link make and ask for, and answers to it, by its ends.
+use Rattle.std.proofs.Common.{◌≡◌, ℕ, ◌+◌, ◌<◌, ◌≤◌, ◌^◌, List, [], ◌∷◌, length, get_or, suc, Bool, Option, Some, None, Result, Ok, Err, refl, sym, ap, ◌∙◌, subst, inl, inr, arith}
+use Rattle.sdt_fault.specs.declared.answer.Answer.{Answer}
+use Rattle.sdt_fault.specs.declared.answer.Answer.TheVariants as answer
+use Rattle.sdt_fault.specs.declared.answer.Fault.{Fault}
+use Rattle.sdt_fault.specs.declared.answer.Fault.TheVariants as fault
+use Rattle.sdt_fault.specs.declared.refusal.Refusal.{Refusal}
+use Rattle.sdt_fault.specs.declared.refusal.Refusal.TheVariants.{Missing}
+use Rattle.sdt_outside.specs.Counts.{Rose}
+use Rattle.sdt_outside.specs.Files.{Files}
+use Rattle.sdt_outside.specs.Sinks.{Got}
+use Rattle.chunk_file.specs.Reading.{◌>>=◌, Gives}
+use Rattle.link_model.specs.declared.images.Image.{Image}
+use Rattle.link_model.specs.declared.selection.Named.{Named}
+use Rattle.bin_image.specs.declared.records.OutFile.{OutFile}
+use Rattle.tool_words.specs.declared.command.LinkForm.{LinkForm}
+use Rattle.tool_words.specs.declared.command.LinkForm.TheVariants as form
+use Rattle.tool_words.specs.declared.command.LinkWords.{LinkWords}
+use Rattle.tool_answers.specs.declared.inputs.InputEnd.{InputEnd}
+use Rattle.tool_answers.specs.declared.inputs.InputEnd.TheVariants as end
+use Rattle.tool_answers.specs.Inputs.{AreInputs, InputsEnd, inputs_of, IsReached}
+use Rattle.tool_answers.specs.Outcomes.{Outcome, Outside, IsLeft, Says}
+use Rattle.tool_library.specs.declared.linkables.Linkable.{Linkable}
+use Rattle.tool_library.specs.Libraries.{end_answer, fault_answer}
+use Rattle.sdt_toolkit.specs.Inputs.{InputsAre, Tells}
+use Rattle.sdt_toolkit.specs.Links.{AllWritten, FilesAsk, ImageIs, InputsMake, LinkAnswers, LinkAsks, LinkMakes, LinkSays, ReadAsks, filed, files_read, inputs_in, outputs, read_by, text_in, writes_all}
+
+-- ---- what is read
+
+pub inputs_count : (f : LinkForm) (names contents : List (List ℕ)) → length contents ≡ length (read_by f names) → length (inputs_in f contents) ≡ length names
+inputs_count (form.Scatter file) names [] h = absurd (omega (arith, h))
+inputs_count (form.Scatter file) names (text ∷ contents) h = omega (arith, h)
+inputs_count (form.Plain base) names contents h = h
+
+pub inputs_short : (f : LinkForm) (contents : List (List ℕ)) → ((k : ℕ) (d : List ℕ) → k < length contents → length (get_or contents k d) < 2 ^ 32)
+    → (k : ℕ) (d : List ℕ) → k < length (inputs_in f contents) → length (get_or (inputs_in f contents) k d) < 2 ^ 32
+inputs_short (form.Scatter file) [] h k d lt = absurd (omega (arith, lt))
+inputs_short (form.Scatter file) (text ∷ contents) h k d lt = h (suc k) d (omega (arith, lt))
+inputs_short (form.Plain base) contents h k d lt = h k d lt
+
+-- ---- what it makes
+
+abbrev pub Makes : Bool → LinkWords → List (List ℕ) → Result (List OutFile) Fault → Type 0
+Makes sources w contents r = Tells r (LinkMakes sources w contents)
+
+pub no_inputs : (sources : Bool) (w : LinkWords) (contents : List (List ℕ)) (f : Fault) → Tells {A = List (Named Linkable)} (Err f) (InputsAre sources w.names (inputs_in w.form contents))
+    → Makes sources w contents (Err f)
+no_inputs sources w contents (fault.Refused r) h = record { inputs = Err r; judged = h; files = refl }
+no_inputs sources w contents (fault.ReadFault q) h = h
+no_inputs sources w contents fault.NoMemory h = tt
+
+pub no_image_made : (w : LinkWords) (text : List ℕ) (inputs : List (Named Linkable)) (f : Fault) → Tells {A = Image} (Err f) (ImageIs w.form text w.ram inputs)
+    → Tells {A = List OutFile} (Err f) (InputsMake w text (Ok inputs))
+no_image_made w text inputs (fault.Refused r) h = (Err r, h, refl)
+no_image_made w text inputs (fault.ReadFault q) h = h
+no_image_made w text inputs fault.NoMemory h = tt
+
+pub image_made : (w : LinkWords) (text : List ℕ) (inputs : List (Named Linkable)) (i : Image) (r : Result (List OutFile) Fault) → ImageIs w.form text w.ram inputs (Ok i) → Gives r (filed w.output i)
+    → Tells r (InputsMake w text (Ok inputs))
+image_made w text inputs i (Ok fs) is h = (Ok i, is, sym h)
+image_made w text inputs i (Err (fault.Refused r)) is h = (Ok i, is, sym h)
+image_made w text inputs i (Err (fault.ReadFault q)) is h = h
+image_made w text inputs i (Err fault.NoMemory) is h = tt
+
+pub inputs_made : (sources : Bool) (w : LinkWords) (contents : List (List ℕ)) (inputs : List (Named Linkable)) (r : Result (List OutFile) Fault)
+    → InputsAre sources w.names (inputs_in w.form contents) (Ok inputs) → Tells r (InputsMake w (text_in w.form contents) (Ok inputs)) → Makes sources w contents r
+inputs_made sources w contents inputs (Ok fs) judged h = record { inputs = Ok inputs; judged = judged; files = h }
+inputs_made sources w contents inputs (Err (fault.Refused r)) judged h = record { inputs = Ok inputs; judged = judged; files = h }
+inputs_made sources w contents inputs (Err (fault.ReadFault q)) judged h = h
+inputs_made sources w contents inputs (Err fault.NoMemory) judged h = tt
+
+-- ---- what is asked
+
+contents_ask : (sources : Bool) (w : LinkWords) (told : Option Files) (contents : List (List ℕ)) (rose : Type 0) (asked : Result Outcome Refusal)
+    → AreInputs told (files_read w) contents → length contents ≡ length (files_read w) → LinkAsks sources w contents asked → FilesAsk sources w told rose asked
+contents_ask sources w None contents rose asked read count asks = inl (contents, count, asks)
+contents_ask sources w (Some files) contents rose asked read count asks =
+    subst (λ (x : Result (List (List ℕ)) Refusal). ReadAsks sources w x asked) (sym read) asks
+
+missing_asks : (sources : Bool) (w : LinkWords) (told : Option Files) (name : List ℕ) (rose : Type 0) → InputsEnd (end.Missing name) told (files_read w) rose
+    → FilesAsk sources w told rose (Err (Missing name))
+missing_asks sources w None name rose h = inr (name, refl, h.0, h.1)
+missing_asks sources w (Some files) name rose h =
+    subst (λ (x : Result (List (List ℕ)) Refusal). ReadAsks sources w x (Err (Missing name))) (sym h) refl
+
+-- ---- answers
+
+pub unread : (e : InputEnd) (sources : Bool) (w : LinkWords) (o : Outside) → InputsEnd e o.before (files_read w) (Rose o.reads o.reads_now) → IsLeft o
+    → LinkAnswers sources w o (end_answer e)
+unfolding LinkAnswers
+unread (end.Missing name) sources w o h left =
+    (Err (Missing name), missing_asks sources w o.before name (Rose o.reads o.reads_now) h, (refl, left))
+unread (end.Failed name) sources w o h left = (h.0, h.1, left)
+unread end.NoMemory sources w o h left = inl left
+
+pub refused : (f : Fault) (sources : Bool) (w : LinkWords) (contents : List (List ℕ)) (o : Outside) → AreInputs o.before (files_read w) contents → length contents ≡ length (files_read w)
+    → Makes sources w contents (Err f) → IsLeft o → LinkAnswers sources w o (fault_answer f)
+unfolding LinkAnswers
+refused (fault.Refused r) sources w contents o read count h left =
+    let asks : LinkAsks sources w contents (Err r) = record { made = Err r; makes = h; outcome = refl } in
+    (Err r, contents_ask sources w o.before contents (Rose o.reads o.reads_now) (Err r) read count asks, (refl, left))
+refused (fault.ReadFault q) sources w contents o read count h left = absurd h
+refused fault.NoMemory sources w contents o read count h left = inl left
+
+all_of : List OutFile → Outcome
+all_of fs = record { files = outputs fs; prints = [] }
+
+all_asked : (sources : Bool) (w : LinkWords) (contents : List (List ℕ)) (fs : List OutFile) (told : Option Files) (rose : Type 0) → AreInputs told (files_read w) contents
+    → length contents ≡ length (files_read w) → Makes sources w contents (Ok fs) → FilesAsk sources w told rose (Ok (all_of fs))
+unfolding all_of
+all_asked sources w contents fs told rose read count h =
+    contents_ask sources w told contents rose (Ok (all_of fs)) read count (record { made = Ok fs; makes = h; outcome = refl })
+
+by_answer : (a : Answer) (sources : Bool) (w : LinkWords) (fs : List OutFile) (o : Outside) → FilesAsk sources w o.before (Rose o.reads o.reads_now) (Ok (all_of fs))
+    → Got o.printed o.prints [] → o.prints ≡ o.printed → AllWritten (outputs fs) o.before o.after (Rose o.writes o.writes_now) a → LinkAnswers sources w o a
+unfolding all_of LinkAnswers
+by_answer answer.Done sources w fs o asked got same k = (Ok (all_of fs), asked, (all_of fs, refl, k, got))
+by_answer (answer.WriteFault q) sources w fs o asked got same k = (Ok (all_of fs), asked, (k.0, (all_of fs, refl, k.1), same))
+by_answer answer.NoMemory sources w fs o asked got same k = inr (Ok (all_of fs), asked, inl (all_of fs, refl, k, same))
+by_answer (answer.Refused r) sources w fs o asked got same k = absurd k
+by_answer (answer.ReadFault q) sources w fs o asked got same k = absurd k
+by_answer answer.SinkFault sources w fs o asked got same k = absurd k
+by_answer (answer.Stopped stop) sources w fs o asked got same k = absurd k
+
+pub wrote : (a : Answer) (sources : Bool) (w : LinkWords) (contents : List (List ℕ)) (fs : List OutFile) (o : Outside) → AreInputs o.before (files_read w) contents
+    → length contents ≡ length (files_read w) → Makes sources w contents (Ok fs) → Got o.printed o.prints [] → o.prints ≡ o.printed
+    → AllWritten (outputs fs) o.before o.after (Rose o.writes o.writes_now) a → LinkAnswers sources w o a
+wrote a sources w contents fs o read count h got same written =
+    by_answer a sources w fs o (all_asked sources w contents fs o.before (Rose o.reads o.reads_now) read count h) got same written

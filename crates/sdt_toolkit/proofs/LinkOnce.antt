@@ -1,0 +1,124 @@
+-- Files ask a link for one thing.
+use Rattle.std.proofs.Common.{◌≡◌, ℕ, ◌+◌, ◌≤◌, ◌^◌, Bool, true, false, ◌&&◌, List, [], ◌∷◌, map, Option, Some, None, Result, Ok, Err, refl, sym, ap, ◌∙◌, subst}
+use Rattle.std.specs.Coded.{le_prop}
+use Rattle.sdt_word.specs.declared.ranges.Range32.{Range32}
+use Rattle.sdt_fault.specs.declared.refusal.Refusal.{Refusal}
+use Rattle.chunk_file.specs.Reading.{◌>>=◌}
+use Rattle.aof_object.specs.declared.records.Object.{Object}
+use Rattle.armasm_core.specs.Assembling.{OneAssembly}
+use Rattle.armlink_core.specs.Images.{scatter_linking}
+use Rattle.link_model.specs.declared.images.Image.{Image}
+use Rattle.link_model.specs.declared.selection.Named.{Named}
+use Rattle.link_model.specs.Chosen.{LinkedLaw}
+use Rattle.bin_image.specs.declared.records.OutFile.{OutFile}
+use Rattle.tool_words.specs.declared.command.Bank.{Bank}
+use Rattle.tool_words.specs.declared.command.LinkForm.{LinkForm}
+use Rattle.tool_words.specs.declared.command.LinkForm.TheVariants as form
+use Rattle.tool_words.specs.declared.command.LinkWords.{LinkWords}
+use Rattle.tool_answers.specs.Inputs.{inputs_of}
+use Rattle.tool_answers.specs.Outcomes.{Outcome}
+use Rattle.tool_library.specs.declared.linkables.Linkable.{Linkable}
+use Rattle.tool_library.specs.declared.linkables.Linkable.TheVariants as input
+use Rattle.tool_run.specs.Runs.{AreRanges}
+use Rattle.sdt_toolkit.specs.Inputs.{Behind, InputBy, InputIs, InputsAre, NamedIs, archives_among, is_source_name, objects_among, with_name}
+use Rattle.sdt_toolkit.specs.Links.{ImageIs, InputsMake, IsRam, LinkAsks, LinkMakes, LinksTo, OneLinkAsked, ReadAsks, ScattersTo, filed, files_read, inputs_in, text_in, writes_all}
+
+-- ---- inputs
+
+abbrev Inputs : Type 0
+Inputs = List (Named Linkable)
+
+as_input : Object → Result Linkable Refusal
+as_input o = Ok (input.Object o)
+
+input_once : OneAssembly → (b : Bool) (name bytes : List ℕ) (x y : Result Linkable Refusal) → InputBy b name bytes x → InputBy b name bytes y → x ≡ y
+unfolding as_input
+input_once law true name bytes x y h k =
+    let made : h.object ≡ k.object = law name bytes h.object k.object h.assembled k.assembled in
+    h.as_input ∙ (ap (λ (o : Result Object Refusal). o >>= as_input) made ∙ sym k.as_input)
+input_once law false name bytes x y h k = h ∙ sym k
+
+named_once : OneAssembly → (sources : Bool) (name bytes : List ℕ) (x y : Result (Named Linkable) Refusal) → NamedIs sources name bytes x → NamedIs sources name bytes y → x ≡ y
+named_once law sources name bytes x y h k =
+    let same : h.0 ≡ k.0 = input_once law (sources && is_source_name name) name bytes h.0 k.0 h.1 k.1 in
+    h.2 ∙ (ap (with_name name) same ∙ sym k.2)
+
+behind_once : (first : Result (Named Linkable) Refusal) (others : Result Inputs Refusal → Type 0) (x y : Result Inputs Refusal)
+    → ((r s : Result Inputs Refusal) → others r → others s → r ≡ s) → Behind first others x → Behind first others y → x ≡ y
+behind_once (Err r) others x y one h k = h ∙ sym k
+behind_once (Ok first) others x y one h k =
+    let same : h.0 ≡ k.0 = one h.0 k.0 h.1 k.1 in
+    h.2 ∙ (ap (λ (r : Result Inputs Refusal). r >>= λ xs. Ok (first ∷ xs)) same ∙ sym k.2)
+
+inputs_once : OneAssembly → (sources : Bool) (names contents : List (List ℕ)) (x y : Result Inputs Refusal) → InputsAre sources names contents x → InputsAre sources names contents y → x ≡ y
+inputs_once law sources [] contents x y h k = h ∙ sym k
+inputs_once law sources (name ∷ names) [] x y h k = h ∙ sym k
+inputs_once law sources (name ∷ names) (bytes ∷ contents) x y h k =
+    let first : h.0 ≡ k.0 = named_once law sources name bytes h.0 k.0 h.1 k.1 in
+    let moved : Behind k.0 (InputsAre sources names contents) x = subst (λ (f : Result (Named Linkable) Refusal). Behind f (InputsAre sources names contents) x) first h.2 in
+    behind_once k.0 (InputsAre sources names contents) x y (λ r s. inputs_once law sources names contents r s) moved k.2
+
+-- ---- the ranges that can be written
+
+range : (base size : ℕ) → base + size ≤ 2 ^ 32 → Range32
+range base size within = record { base = base; size = size; in_space = within }
+
+range_once : (b s c t : ℕ) → b ≡ c → s ≡ t → (h : b + s ≤ 2 ^ 32) (k : c + t ≤ 2 ^ 32) → range b s h ≡ range c t k
+range_once b s c t base size =
+    subst (λ (x : ℕ). (h : b + s ≤ 2 ^ 32) (k : x + t ≤ 2 ^ 32) → range b s h ≡ range x t k) base
+    (subst (λ (y : ℕ). (h : b + s ≤ 2 ^ 32) (k : b + y ≤ 2 ^ 32) → range b s h ≡ range b y k) size (λ h k. ap (range b s) (le_prop h k)))
+
+abbrev told : Range32 → ℕ × ℕ
+told r = (r.base, r.size)
+
+first_same : (p q : ℕ × ℕ) (ps qs : List (ℕ × ℕ)) → p ∷ ps ≡ q ∷ qs → (p ≡ q) × (ps ≡ qs)
+first_same p q ps qs h = (cc, cc)
+
+ranges_once : (xs ys : List Range32) → map {B = ℕ × ℕ} (λ r. (r.base, r.size)) xs ≡ map {B = ℕ × ℕ} (λ r. (r.base, r.size)) ys → xs ≡ ys
+unfolding range
+ranges_once [] [] h = refl
+ranges_once [] (y ∷ ys) h = absurd (let bad : ◌≡◌ {A = List (ℕ × ℕ)} [] ((y.base, y.size) ∷ map (λ r. (r.base, r.size)) ys) = h in cc)
+ranges_once (x ∷ xs) [] h = absurd (let bad : ◌≡◌ {A = List (ℕ × ℕ)} ((x.base, x.size) ∷ map (λ r. (r.base, r.size)) xs) [] = h in cc)
+ranges_once (x ∷ xs) (y ∷ ys) h =
+    let both = first_same (x.base, x.size) (y.base, y.size) (map (λ r. (r.base, r.size)) xs) (map (λ r. (r.base, r.size)) ys) h in
+    let one : x ≡ y = range_once x.base x.size y.base y.size (ap (λ (p : ℕ × ℕ). p.0) both.0) (ap (λ (p : ℕ × ℕ). p.1) both.0) x.in_space y.in_space in
+    ap (λ (r : Range32). r ∷ xs) one ∙ ap (λ (rs : List Range32). y ∷ rs) (ranges_once xs ys both.1)
+
+ram_once : (banks : Option (List Bank)) (x y : Option (List Range32)) → IsRam banks x → IsRam banks y → x ≡ y
+ram_once None x y h k = h ∙ sym k
+ram_once (Some banks) x y h k = h.2 ∙ (ap Some (ranges_once h.0 k.0 (h.1 ∙ sym k.1)) ∙ sym k.2)
+
+-- ---- the image and its files
+
+scatters_once : (text : List ℕ) (banks : Option (List Bank)) (os : List (Named Object)) (x y : Result Image Refusal) → ScattersTo text banks os x → ScattersTo text banks os y → x ≡ y
+scatters_once text banks os x y h k =
+    h.2 ∙ (ap (λ (ram : Option (List Range32)). scatter_linking text ram os) (ram_once banks h.0 k.0 h.1 k.1) ∙ sym k.2)
+
+links_once : (f : LinkForm) (text : List ℕ) (banks : Option (List Bank)) (os : List (Named Object)) (x y : Result Image Refusal) → LinksTo f text banks os x → LinksTo f text banks os y → x ≡ y
+links_once (form.Scatter file) text banks os x y h k = scatters_once text banks os x y h k
+links_once (form.Plain base) text banks os x y h k = h ∙ sym k
+
+image_once : LinkedLaw → (f : LinkForm) (text : List ℕ) (banks : Option (List Bank)) (inputs : Inputs) (x y : Result Image Refusal) → ImageIs f text banks inputs x → ImageIs f text banks inputs y → x ≡ y
+image_once law f text banks inputs x y h k =
+    let same : h.objects ≡ k.objects = law (objects_among inputs) (archives_among inputs) h.objects k.objects h.linked k.linked in
+    links_once f text banks k.objects x y (subst (λ (os : List (Named Object)). LinksTo f text banks os x) same h.links) k.links
+
+inputs_make_once : LinkedLaw → (w : LinkWords) (text : List ℕ) (inputs : Result Inputs Refusal) (x y : Result (List OutFile) Refusal) → InputsMake w text inputs x → InputsMake w text inputs y → x ≡ y
+inputs_make_once law w text (Err r) x y h k = h ∙ sym k
+inputs_make_once law w text (Ok inputs) x y h k =
+    let same : h.0 ≡ k.0 = image_once law w.form text w.ram inputs h.0 k.0 h.1 k.1 in
+    h.2 ∙ (ap (λ (i : Result Image Refusal). i >>= filed w.output) same ∙ sym k.2)
+
+makes_once : OneAssembly → LinkedLaw → (sources : Bool) (w : LinkWords) (contents : List (List ℕ)) (x y : Result (List OutFile) Refusal) → LinkMakes sources w contents x → LinkMakes sources w contents y → x ≡ y
+makes_once law linked sources w contents x y h k =
+    let same : h.inputs ≡ k.inputs = inputs_once law sources w.names (inputs_in w.form contents) h.inputs k.inputs h.judged k.judged in
+    inputs_make_once linked w (text_in w.form contents) k.inputs x y (subst (λ (i : Result Inputs Refusal). InputsMake w (text_in w.form contents) i x) same h.files) k.files
+
+read_once : OneAssembly → LinkedLaw → (sources : Bool) (w : LinkWords) (contents : Result (List (List ℕ)) Refusal) (a b : Result Outcome Refusal) → ReadAsks sources w contents a → ReadAsks sources w contents b → a ≡ b
+read_once law linked sources w (Err r) a b h k = h ∙ sym k
+read_once law linked sources w (Ok contents) a b h k =
+    let same : h.made ≡ k.made = makes_once law linked sources w contents h.made k.made h.makes k.makes in
+    h.outcome ∙ (ap (λ (r : Result (List OutFile) Refusal). r >>= writes_all) same ∙ sym k.outcome)
+
+pub one_link_asked : OneAssembly → LinkedLaw → OneLinkAsked
+one_link_asked law linked sources w files a b h k = read_once law linked sources w (inputs_of files (files_read w)) a b h k

@@ -1,0 +1,11 @@
+use Rattle.std.proofs.lemmas.Result.{err_from_is_err_and}
+use Rattle.sdt_toolkit.proofs.InputLemmas.{assembled_as, unassembled_as}
+use Rattle.sdt_toolkit.proofs.inputs.source_input.Goals as goal
+
+pub returns-in_err-object-clause-value : goal.returns-in_err-object-clause-value
+returns-in_err-object-clause-value c =
+    let p = err_from_is_err_and c.from_residual.result c.from_residual.ensures.1 in
+    rw (p.1, p.2) (unassembled_as c.args.name.now c.args.bytes.now c.in_err-object.field-0.0 c.in_err-object.ensures.assembled)
+
+pub returns-clause-value : goal.returns-clause-value
+returns-clause-value c = assembled_as c.args.name.now c.args.bytes.now c.in_ok-object.object c.in_ok-object.ensures.assembled c.in_ok-object.ensures.stands

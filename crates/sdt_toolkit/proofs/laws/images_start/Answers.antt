@@ -1,0 +1,8 @@
+use Rattle.sdt_toolkit.proofs.StartLemmas.{plain_images_load, scatter_images_start}
+use Rattle.sdt_toolkit.proofs.laws.images_start.Goals as goal
+
+pub returns-clause-scatter : goal.returns-clause-scatter
+returns-clause-scatter c = scatter_images_start c.reading_law.ensures
+
+pub returns-clause-plain : goal.returns-clause-plain
+returns-clause-plain c = plain_images_load

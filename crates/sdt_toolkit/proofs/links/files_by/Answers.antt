@@ -1,0 +1,18 @@
+use Rattle.sdt_toolkit.proofs.ImageLemmas.{image_writable}
+use Rattle.sdt_toolkit.proofs.LinkLemmas.{image_made, no_image_made}
+use Rattle.sdt_toolkit.proofs.links.files_by.Goals as goal
+
+pub files_of-requires : goal.files_of-requires
+files_of-requires c =
+    let is = rw c.into_vec.ensures at c.in-Ok.ensures in
+    image_writable c.image_sizes.ensures.linked c.image_sizes.ensures.scattered c.args.words.now.form c.args.text.now c.args.words.now.ram c.args.inputs c.in-Ok.image is
+
+pub returns-in-Ok-clause-makes : goal.returns-in-Ok-clause-makes
+returns-in-Ok-clause-makes c =
+    let is = rw c.into_vec.ensures at c.in-Ok.ensures in
+    image_made c.args.words.now c.args.text.now c.args.inputs c.in-Ok.image c.files_of.result is c.files_of.ensures.value
+
+pub returns-in-Err-clause-makes : goal.returns-in-Err-clause-makes
+returns-in-Err-clause-makes c =
+    let is = rw c.into_vec.ensures at c.in-Err.ensures in
+    no_image_made c.args.words.now c.args.text.now c.args.inputs c.in-Err.fault is

@@ -1,0 +1,65 @@
+-- What `link` and `build` leave where they are done and the store tells its files: the files of an image. Put into memory
+-- they show each linked object in one view; those of a scatter image reach the program's entry, with memory as that view,
+-- within the image's bound; and what `build` assembled stands there. SDT 2.50 Reference Guide; the startup code is this
+-- project's.
+use Rattle.std.specs.Prelude.{◌≡◌, ℕ, ◌+◌, true, false, Bool, List, slice_get, Option, Some, Result, Ok}
+use Rattle.sdt_word.specs.declared.ranges.Range32.{Range32}
+use Rattle.sdt_word.specs.Numbers.{flag}
+use Rattle.sdt_fault.specs.declared.answer.Answer.{Answer}
+use Rattle.sdt_fault.specs.declared.answer.Answer.TheVariants as answer
+use Rattle.sdt_outside.specs.Files.{Files, content}
+use Rattle.aof_object.specs.declared.records.Object.{Object}
+use Rattle.boot_code.specs.declared.rows.CopyRow.{CopyRow}
+use Rattle.boot_code.specs.declared.rows.ZeroRow.{ZeroRow}
+use Rattle.boot_code.specs.Boots.{ByteMap, Boots, zeroed}
+use Rattle.boot_code.specs.Laws.{written_by}
+use Rattle.byte_maps.specs.Maps.{map_of}
+use Rattle.patch_model.specs.Fields.{Values}
+use Rattle.armasm_core.specs.Standing.{SourceStands}
+use Rattle.link_model.specs.declared.images.Image.{Image}
+use Rattle.link_model.specs.declared.selection.Named.{Named}
+use Rattle.link_model.specs.Chosen.{AreLinked}
+use Rattle.bin_image.specs.Files.{files_of}
+use Rattle.tool_words.specs.declared.command.Command.{Command}
+use Rattle.tool_words.specs.declared.command.Command.TheVariants as command
+use Rattle.tool_words.specs.declared.command.LinkForm.{LinkForm}
+use Rattle.tool_words.specs.declared.command.LinkForm.TheVariants as form
+use Rattle.tool_words.specs.declared.command.LinkWords.{LinkWords}
+use Rattle.tool_answers.specs.Inputs.{inputs_of}
+use Rattle.tool_answers.specs.Outcomes.{written}
+use Rattle.tool_library.specs.declared.linkables.Linkable.{Linkable}
+use Rattle.sdt_toolkit.specs.Inputs.{InputsAre, archives_among, is_source_name, objects_among}
+use Rattle.sdt_toolkit.specs.Links.{files_read, inputs_in, outputs}
+use Rattle.sdt_toolkit.specs.Starting.{AreShownIn, segments_of}
+
+-- the load regions of a scatter image reach the entry with memory as the view, and those of another are the view, with
+-- its zero part cleared
+abbrev pub Reaches : LinkForm → Image → ByteMap → Type 0
+Reaches (form.Scatter file) i view =
+    (copies : List CopyRow) × (parts : List ZeroRow) × Boots (map_of (segments_of i)) view (written_by copies parts) i.start i.bound (i.entry + flag i.thumb)
+Reaches (form.Plain base) i view = (parts : List ZeroRow) × ((x : ℕ) → zeroed (Some 0) (map_of (segments_of i)) parts x ≡ view x)
+
+-- of the inputs that were read, the linked objects are shown in the view, and the files of their image were written in order
+pub record IsLinkedInto (sources : Bool) (w : LinkWords) (before : Files) (after : Option Files) (view : ByteMap) : Type 0 where
+  pub contents : List (List ℕ)
+  pub inputs : List (Named Linkable)
+  pub objects : List (Named Object)
+  pub image : Image
+  pub read : inputs_of before (files_read w) ≡ Ok contents
+  pub judged : InputsAre sources w.names (inputs_in w.form contents) (Ok inputs)
+  pub linked : AreLinked (objects_among inputs) (archives_among inputs) objects
+  pub left : after ≡ Some (written before (outputs (files_of image w.output)))
+  pub reaches : Reaches w.form image view
+  pub shown : AreShownIn view objects
+
+-- what the lines of each source among the names say stands there, for some values of its symbols and regions of its areas
+abbrev pub SourcesStand : List (List ℕ) → Files → ByteMap → Type 0
+SourcesStand names files view =
+    (k : ℕ) (name text : List ℕ) → slice_get names k ≡ Some name → is_source_name name ≡ true → content files name ≡ Some text
+    → (values : Values) × (region : ℕ → Range32) × SourceStands name text values view region
+
+pub record Headline (asked : Result Command ℕ) (told after : Option Files) (a : Answer) : Type 0 where
+  pub link : (w : LinkWords) (before : Files) → asked ≡ Ok (command.Link w) → told ≡ Some before → a ≡ answer.Done
+      → (view : ByteMap) × IsLinkedInto false w before after view
+  pub build : (w : LinkWords) (before : Files) → asked ≡ Ok (command.Build w) → told ≡ Some before → a ≡ answer.Done
+      → (view : ByteMap) × IsLinkedInto true w before after view × SourcesStand w.names before view

@@ -1,0 +1,182 @@
+-- What the commands `link` and `build` make of files: the files of an image, or the first refusal, and what each answer
+-- says and leaves (SDT 2.50 Reference Guide, armlink; the order of refusals, and that `build` assembles the sources among
+-- its inputs, are this project's).
+use Rattle.std.specs.Prelude.{◌≡◌, ◌⊎◌, ℕ, ◌^◌, nat_le, Bool, if◌then◌else◌, List, [], ◌∷◌, length, map, Option, Some, None, Result, Ok, Err}
+use Rattle.std.specs.List.{list_any, AllByRecursion}
+use Rattle.sdt_word.specs.declared.ranges.Range32.{Range32}
+use Rattle.sdt_fault.specs.declared.answer.Answer.{Answer}
+use Rattle.sdt_fault.specs.declared.answer.Answer.TheVariants as answer
+use Rattle.sdt_fault.specs.declared.kinds.Quantity.TheVariants.{FileBytes}
+use Rattle.sdt_fault.specs.declared.refusal.Refusal.{Refusal}
+use Rattle.sdt_fault.specs.declared.refusal.Refusal.TheVariants.{TooLarge}
+use Rattle.sdt_outside.specs.Counts.{Rose}
+use Rattle.sdt_outside.specs.Files.{Files}
+use Rattle.chunk_file.specs.Reading.{◌>>=◌}
+use Rattle.aof_object.specs.declared.records.Object.{Object}
+use Rattle.alf_archive.specs.declared.records.Archive.{Archive}
+use Rattle.link_model.specs.declared.images.Image.{Image}
+use Rattle.link_model.specs.declared.images.ImageKind.{ImageKind}
+use Rattle.link_model.specs.declared.images.ImageKind.TheVariants as shape
+use Rattle.link_model.specs.declared.images.LoadRegion.{LoadRegion}
+use Rattle.link_model.specs.declared.selection.Named.{Named}
+use Rattle.link_model.specs.Chosen.{AreLinked}
+use Rattle.place_model.specs.declared.scatter.Kind.TheVariants as kind
+use Rattle.armlink_core.specs.Images.{linking, scatter_linking}
+use Rattle.bin_image.specs.declared.records.OutFile.{OutFile}
+use Rattle.bin_image.specs.Files.{files_of, IsMapped}
+use Rattle.tool_words.specs.declared.command.Bank.{Bank}
+use Rattle.tool_words.specs.declared.command.LinkForm.{LinkForm}
+use Rattle.tool_words.specs.declared.command.LinkForm.TheVariants as form
+use Rattle.tool_words.specs.declared.command.LinkWords.{LinkWords}
+use Rattle.tool_answers.specs.Inputs.{inputs_of, IsReached}
+use Rattle.tool_answers.specs.Outcomes.{Outcome, Outside, AreWritten, FailsAt, IsCutShort, IsLeft, IsLost, Says, unprinted}
+use Rattle.tool_library.specs.declared.linkables.Linkable.{Linkable}
+use Rattle.tool_run.specs.Runs.{AreRanges}
+use Rattle.sdt_toolkit.specs.Inputs.{InputsAre, objects_among, archives_among}
+use Rattle.sdt_toolkit.specs.Starting.{Loads, Starts}
+
+-- ---- what is read: the scatter file first, if there is one, and then the names
+
+abbrev pub read_by : LinkForm → List (List ℕ) → List (List ℕ)
+read_by (form.Scatter file) names = file ∷ names
+read_by (form.Plain base) names = names
+
+abbrev pub files_read : LinkWords → List (List ℕ)
+files_read w = read_by w.form w.names
+
+abbrev pub first_of : List (List ℕ) → List ℕ
+first_of [] = []
+first_of (bytes ∷ others) = bytes
+
+abbrev pub behind_first : List (List ℕ) → List (List ℕ)
+behind_first [] = []
+behind_first (bytes ∷ others) = others
+
+-- the scatter file's text, and what stands under the names
+abbrev pub text_in : LinkForm → List (List ℕ) → List ℕ
+text_in (form.Scatter file) contents = first_of contents
+text_in (form.Plain base) contents = []
+
+abbrev pub inputs_in : LinkForm → List (List ℕ) → List (List ℕ)
+inputs_in (form.Scatter file) contents = behind_first contents
+inputs_in (form.Plain base) contents = contents
+
+-- ---- the image
+
+-- the ranges that can be written, where they are told
+abbrev pub IsRam : Option (List Bank) → Option (List Range32) → Type 0
+IsRam None ram = ram ≡ None
+IsRam (Some banks) ram = (ranges : List Range32) × AreRanges banks ranges × (ram ≡ Some ranges)
+
+abbrev pub ScattersTo : List ℕ → Option (List Bank) → List (Named Object) → Result Image Refusal → Type 0
+ScattersTo text banks os image = (ram : Option (List Range32)) × IsRam banks ram × (image ≡ scatter_linking text ram os)
+
+abbrev pub LinksTo : LinkForm → List ℕ → Option (List Bank) → List (Named Object) → Result Image Refusal → Type 0
+LinksTo (form.Scatter file) text banks os image = ScattersTo text banks os image
+LinksTo (form.Plain base) text banks os image = image ≡ linking (kind.Plain base) None os
+
+-- in memory an image shows the objects, and a scatter image starts
+abbrev pub IsInMemory : LinkForm → List (Named Object) → Image → Type 0
+IsInMemory (form.Scatter file) os i = Starts os i
+IsInMemory (form.Plain base) os i = Loads os i
+
+-- the image of inputs: of the objects among them, and the members of the libraries among them that are needed
+pub record ImageIs (f : LinkForm) (text : List ℕ) (banks : Option (List Bank)) (inputs : List (Named Linkable)) (image : Result Image Refusal) : Type 0 where
+  pub objects : List (Named Object)
+  pub linked : AreLinked (objects_among inputs) (archives_among inputs) objects
+  pub links : LinksTo f text banks objects image
+  pub memory : (i : Image) → image ≡ Ok i → IsInMemory f objects i
+
+abbrev pub IsScatterImage : List (Named Object) → List (Named Archive) → List ℕ → Option (List Bank) → Result Image Refusal → Type 0
+IsScatterImage objects archives text banks image = (os : List (Named Object)) × AreLinked objects archives os × ScattersTo text banks os image
+
+-- ---- the files
+
+abbrev pub too_large : Refusal
+too_large = TooLarge FileBytes 0xFFFFFFFF
+
+abbrev pub is_long_load : LoadRegion → Bool
+is_long_load l = nat_le (2 ^ 32) (length l.bytes)
+
+abbrev pub is_long : OutFile → Bool
+is_long f = nat_le (2 ^ 32) (length f.bytes)
+
+-- the files of an image, unless one of them has 2^32 bytes or more
+abbrev pub filed : List ℕ → Image → Result (List OutFile) Refusal
+filed out i = if list_any is_long (files_of i out) then Err too_large else Ok (files_of i out)
+
+-- an image with files of its own, which is no ARM image file, and with sizes of 32 bits
+abbrev pub IsFiled : ImageKind → Type 0
+IsFiled shape.Scatter = Unit {0}
+IsFiled shape.Plain = Unit {0}
+IsFiled (shape.Aif relocatable) = ⊥
+
+pub record IsWritable (i : Image) : Type 0 where
+  pub form : IsFiled i.kind
+  pub regions : AllByRecursion IsMapped i.regions
+
+abbrev pub InputsMake : LinkWords → List ℕ → Result (List (Named Linkable)) Refusal → Result (List OutFile) Refusal → Type 0
+InputsMake w text (Err r) made = made ≡ Err r
+InputsMake w text (Ok inputs) made = (image : Result Image Refusal) × ImageIs w.form text w.ram inputs image × (made ≡ (image >>= filed w.output))
+
+-- what the files that are read make
+pub record LinkMakes (sources : Bool) (w : LinkWords) (contents : List (List ℕ)) (made : Result (List OutFile) Refusal) : Type 0 where
+  pub inputs : Result (List (Named Linkable)) Refusal
+  pub judged : InputsAre sources w.names (inputs_in w.form contents) inputs
+  pub files : InputsMake w (text_in w.form contents) inputs made
+
+abbrev pub outputs : List OutFile → List (List ℕ × List ℕ)
+outputs fs = map {B = List ℕ × List ℕ} (λ f. (f.name, f.bytes)) fs
+
+abbrev pub writes_all : List OutFile → Result Outcome Refusal
+writes_all fs = Ok (record { files = outputs fs; prints = [] })
+
+-- what they ask for
+pub record LinkAsks (sources : Bool) (w : LinkWords) (contents : List (List ℕ)) (asked : Result Outcome Refusal) : Type 0 where
+  pub made : Result (List OutFile) Refusal
+  pub makes : LinkMakes sources w contents made
+  pub outcome : asked ≡ (made >>= writes_all)
+
+-- ---- files
+
+abbrev pub ReadAsks : Bool → LinkWords → Result (List (List ℕ)) Refusal → Result Outcome Refusal → Type 0
+ReadAsks sources w (Err r) asked = asked ≡ Err r
+ReadAsks sources w (Ok contents) asked = LinkAsks sources w contents asked
+
+-- what the store's files ask for; where it doesn't tell them, what some contents of them ask for, or one is missing, for
+-- which a read failed
+abbrev pub FilesAsk : Bool → LinkWords → Option Files → Type 0 → Result Outcome Refusal → Type 0
+FilesAsk sources w None rose asked =
+    ((contents : List (List ℕ)) × (length contents ≡ length (files_read w)) × LinkAsks sources w contents asked) ⊎ IsLost (files_read w) rose asked
+FilesAsk sources w (Some files) rose asked = ReadAsks sources w (inputs_of files (files_read w)) asked
+
+-- ---- answers
+
+-- the files were written in order, or some of them, and why no more
+abbrev pub AllWritten : List (List ℕ × List ℕ) → Option Files → Option Files → Type 0 → Answer → Type 0
+AllWritten fs before after rose answer.Done = AreWritten before after fs
+AllWritten fs before after rose (answer.WriteFault name) = rose × FailsAt before after fs name
+AllWritten fs before after rose answer.NoMemory = IsCutShort before after fs
+AllWritten fs before after rose other = ⊥
+
+abbrev pub LinkSays : Bool → LinkWords → Outside → Answer → Type 0
+LinkSays sources w o a =
+    (asked : Result Outcome Refusal) × FilesAsk sources w o.before (Rose o.reads o.reads_now) asked × Says asked (files_read w) o a
+
+-- the answer to a link, and to a build, where sources are taken: where a read failed, nothing is told of the inputs and
+-- nothing is written; where memory was refused, either nothing is written, or a beginning of what the inputs ask for
+unfoldable pub LinkAnswers : Bool → LinkWords → Outside → Answer → Type 0
+LinkAnswers sources w o (answer.ReadFault name) = Rose o.reads o.reads_now × IsReached o.before (files_read w) name × IsLeft o
+LinkAnswers sources w o answer.NoMemory = IsLeft o ⊎ LinkSays sources w o answer.NoMemory
+LinkAnswers sources w o a = LinkSays sources w o a
+
+-- the same over the files and counts of a store and beside any sink, of which it prints nothing
+abbrev pub LinkAnswersOver : Bool → LinkWords → Option Files → Option Files → ℕ → ℕ → ℕ → ℕ → Answer → Type 0
+LinkAnswersOver sources w before after reads reads_now writes writes_now a =
+    (printed : Option (List ℕ)) (faults : ℕ) → LinkAnswers sources w (unprinted printed faults before after reads reads_now writes writes_now) a
+
+-- files ask for one thing
+abbrev pub OneLinkAsked : Type 0
+OneLinkAsked =
+    (sources : Bool) (w : LinkWords) (files : Files) (a b : Result Outcome Refusal)
+    → ReadAsks sources w (inputs_of files (files_read w)) a → ReadAsks sources w (inputs_of files (files_read w)) b → a ≡ b

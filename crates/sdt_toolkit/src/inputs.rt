@@ -1,0 +1,140 @@
+//! The inputs of a link: which files are read, and what each of them is.
+
+ghost use Rattle.std.specs.Prelude.{◌≡◌, ◌<◌, ◌^◌, All, IfOk, length};
+ghost use Rattle.sdt_toolkit.specs.Inputs.{AreValid, InputIs, InputsAre, NamedIs, Tells};
+ghost use Rattle.sdt_toolkit.specs.Links.{files_read, inputs_in, read_by, text_in};
+ghost use Rattle.tool_library.specs.Linkables.{IsValidInput};
+
+use crate::names::{is_source_name, module_of};
+use armasm_core::assemble;
+use link_model::Named;
+use sdt_fault::answer::Fault;
+use sdt_fault::{Bytes, List, NoMemory, Text};
+use std::alloc::Global;
+use tool_library::{Linkable, read_linkable};
+use tool_words::{LinkForm, LinkWords};
+
+// ---- what is read
+
+fn scatter_names(alloc: Global, form: &LinkForm) -> Result<Vec<Text>, NoMemory>
+    ensures { IfOk result (λ names. names.items ≡ read_by form.now []) }
+{
+    let mut names = Vec::new(alloc);
+    match form {
+        LinkForm::Scatter { file } => {
+            names.push(file.try_clone(alloc)?)?;
+            Ok(names)
+        }
+        LinkForm::Plain { .. } => Ok(names),
+    }
+}
+
+ghost use Rattle.std.specs.Prelude.{[], ◌++◌, OnOk};
+
+fn push_names(alloc: Global, all: &mut Vec<Text>, names: &[Text]) -> Result<(), NoMemory>
+    ensures { OnOk result (all.new.items ≡ all.old.items ++ names.now) }
+{
+    for name in names {
+        all.push(name.try_clone(alloc)?)?;
+    }
+    Ok(())
+}
+
+/// The files of a link in the order in which they are read: the scatter file, if there is one, and then the names.
+pub fn files_read(alloc: Global, words: &LinkWords) -> Result<Vec<Text>, NoMemory>
+    ensures { IfOk result (λ names. names.items ≡ files_read words.now) }
+{
+    let mut all = scatter_names(alloc, &words.form)?;
+    push_names(alloc, &mut all, words.names.as_slice())?;
+    Ok(all)
+}
+
+/// The scatter file's text among the contents of the files that are read.
+pub fn text_in<'a>(form: &LinkForm, contents: &'a [Bytes]) -> &'a [u8]
+    ensures { result.now ≡ text_in form.now contents.now }
+{
+    match form {
+        LinkForm::Plain { .. } => b"",
+        LinkForm::Scatter { .. } => match contents.first() {
+            Some(text) => text.as_slice(),
+            None => b"",
+        },
+    }
+}
+
+/// What stands under the names, among the contents of the files that are read.
+pub fn inputs_in<'a>(form: &LinkForm, contents: &'a [Bytes]) -> &'a [Bytes]
+    ensures { result.now ≡ inputs_in form.now contents.now }
+{
+    match form {
+        LinkForm::Plain { .. } => contents,
+        LinkForm::Scatter { .. } => match contents.split_first() {
+            Some((_, others)) => others,
+            None => contents,
+        },
+    }
+}
+
+// ---- what it is
+
+fn source_input(alloc: Global, name: &Text, bytes: &[u8]) -> Result<Linkable, Fault>
+    ensures value { Tells result (IsSource name.now bytes.now) }
+    ensures valid { IfOk result IsValidInput }
+{
+    let object = assemble(alloc, name, bytes)?;
+    Ok(Linkable::Object(object))
+}
+
+ghost use Rattle.sdt_toolkit.specs.Inputs.{IsSource};
+
+fn input(alloc: Global, sources: bool, name: &Text, bytes: &[u8]) -> Result<Linkable, Fault>
+    requires { length bytes.now < 2 ^ 32 }
+    ensures value { Tells result (InputIs sources name.now bytes.now) }
+    ensures valid { IfOk result IsValidInput }
+{
+    if sources && is_source_name(name.as_slice()) {
+        return source_input(alloc, name, bytes);
+    }
+    read_linkable(alloc, name, bytes)
+}
+
+fn named_input(
+    alloc: Global,
+    sources: bool,
+    name: &Text,
+    bytes: &[u8],
+) -> Result<Named<Linkable>, Fault>
+    requires { length bytes.now < 2 ^ 32 }
+    ensures value { Tells result (NamedIs sources name.now bytes.now) }
+    ensures valid { IfOk result (λ x. IsValidInput x.value) }
+{
+    let value = input(alloc, sources, name, bytes)?;
+    Ok(Named {
+        name: name.try_clone(alloc)?,
+        module: module_of(alloc, name)?,
+        value,
+    })
+}
+
+/// Files of these names and contents as inputs, or the first refusal. Where `sources` are taken, a name that ends in
+/// `.s` is a source, which is assembled; any other file is a library or an object.
+pub fn inputs_of(
+    alloc: Global,
+    sources: bool,
+    names: &[Text],
+    contents: &[Bytes],
+) -> Result<List<Named<Linkable>>, Fault>
+    requires few { length contents.now ≡ length names.now }
+    requires bounded { All (λ bytes. length bytes < 2 ^ 32) contents.now }
+    ensures value { Tells result (InputsAre sources names.now contents.now) }
+    ensures valid { IfOk result AreValid }
+{
+    let mut inputs = Vec::new(alloc);
+    for k in 0..names.len() {
+        match named_input(alloc, sources, &names[k], contents[k].as_slice()) {
+            Ok(input) => inputs.push(input)?,
+            Err(fault) => return Err(fault),
+        }
+    }
+    Ok(List::from_vec(inputs))
+}

@@ -1,0 +1,84 @@
+//! The commands `link` and `build`.
+
+ghost use Rattle.std.specs.Prelude.{◌≡◌, ◌<◌, ◌^◌, All, IfOk, Ok, length};
+ghost use Rattle.sdt_toolkit.specs.Inputs.{AreValid, Tells};
+ghost use Rattle.sdt_toolkit.specs.Links.{InputsMake, LinkAnswersOver, LinkMakes, files_read};
+ghost use Rattle.tool_words.specs.Commands.{IsLinked};
+
+use crate::images::{files_of, image_of};
+use crate::inputs::{files_read, inputs_in, inputs_of, text_in};
+use crate::writing::write_files;
+use armlink_core::laws::image_sizes;
+use bin_image::OutFile;
+use link_model::Named;
+use sdt_fault::answer::{Answer, Fault};
+use sdt_fault::{Bytes, List, NoMemory};
+use sdt_outside::Store;
+use std::alloc::Global;
+use tool_answers::read_inputs;
+use tool_library::Linkable;
+use tool_library::ends::{end_answer, fault_answer};
+use tool_words::LinkWords;
+
+/// The files that inputs make.
+fn files_by(
+    alloc: Global,
+    words: &LinkWords,
+    text: &[u8],
+    inputs: List<Named<Linkable>>,
+) -> Result<List<OutFile>, Fault>
+    requires good { IsLinked words.now }
+    requires inputs { AreValid inputs }
+    ensures makes { Tells result (InputsMake words.now text.now (Ok inputs)) }
+    ensures short { IfOk result (λ files. All (λ f. length f.bytes < 2 ^ 32) files) }
+{
+    image_sizes();
+    match image_of(alloc, &words.form, text, &words.ram, inputs.into_vec()) {
+        Ok(image) => files_of(alloc, &image, &words.output),
+        Err(fault) => Err(fault),
+    }
+}
+
+/// The files that these contents make.
+fn made(
+    alloc: Global,
+    sources: bool,
+    words: &LinkWords,
+    contents: &[Bytes],
+) -> Result<List<OutFile>, Fault>
+    requires good { IsLinked words.now }
+    requires few { length contents.now ≡ length (files_read words.now) }
+    requires bounded { All (λ bytes. length bytes < 2 ^ 32) contents.now }
+    ensures makes { Tells result (LinkMakes sources words.now contents.now) }
+    ensures short { IfOk result (λ files. All (λ f. length f.bytes < 2 ^ 32) files) }
+{
+    let under_names = inputs_in(&words.form, contents);
+    match inputs_of(alloc, sources, words.names.as_slice(), under_names) {
+        Ok(inputs) => files_by(alloc, words, text_in(&words.form, contents), inputs),
+        Err(fault) => Err(fault),
+    }
+}
+
+/// Links objects and libraries, and sources too where these are taken, and writes the files of the image.
+pub fn link_files<S: Store>(
+    alloc: Global,
+    store: &mut S,
+    sources: bool,
+    words: &LinkWords,
+) -> Answer
+    requires { IsLinked words.now }
+    ensures { LinkAnswersOver sources words.now (S.files store.old) (S.files store.new) (S.read_faults store.old) (S.read_faults store.new)
+        (S.write_faults store.old) (S.write_faults store.new) result }
+{
+    let Ok(names) = files_read(alloc, words) else {
+        return Answer::NoMemory;
+    };
+    let contents = match read_inputs(alloc, store, names.as_slice()) {
+        Ok(contents) => contents,
+        Err(end) => return end_answer(end),
+    };
+    match made(alloc, sources, words, contents.as_slice()) {
+        Ok(files) => write_files(alloc, store, files.as_slice()),
+        Err(fault) => fault_answer(fault),
+    }
+}
