@@ -19,14 +19,14 @@ use Rattle.expand_model.specs.States.{State, started}
 use Rattle.expand_model.specs.Steps.{Sources, Context, Stop, Go, Under, got, visit_limit, Over, Closed, Left, Ended, Unclosed, Bad}
 use Rattle.expand_model.specs.Steps as model
 use Rattle.asm_expand.specs.declared.engine.Engine.{Engine}
-use Rattle.asm_expand.specs.declared.expansion.Expansion.{Expansion}
+use Rattle.asm_variables.specs.declared.expansion.Expansion.{Expansion}
 use Rattle.asm_expand.specs.declared.places.Place.{Place}
 use Rattle.asm_expand.specs.declared.steps.End.{End}
 use Rattle.asm_expand.specs.declared.steps.End.TheVariants as end
 use Rattle.asm_expand.specs.declared.steps.Frame.{Frame}
 use Rattle.asm_expand.specs.declared.steps.Next.{Next}
 use Rattle.asm_expand.specs.declared.steps.Next.TheVariants as next
-use Rattle.asm_expand.specs.Expanding.{Represents}
+use Rattle.asm_variables.specs.Expanding.{Represents}
 use Rattle.asm_expand.specs.Leading.{IsBadAt, IsFault, IsLed, Caused, Gets, IsRefusal, LedOn, IsToldBy, OfFiles, OutermostEnd, RunsTo, Starts, StepsTo, GetsFrom}
 use Rattle.asm_expand.specs.Places.{place_lines}
 use Rattle.asm_expand.specs.Saying.{IsBad, IsEnd, IsFirst, Shows}

@@ -13,13 +13,13 @@ use Rattle.expand_model.specs.States.{State}
 use Rattle.expand_model.specs.Steps.{Sources, Context, Condition, Alternative, Loop, Call, File, Stop, Go, Under, first_line, turn, deeper}
 use Rattle.expand_model.specs.Steps as model
 use Rattle.asm_expand.specs.declared.engine.Engine.{Engine}
-use Rattle.asm_expand.specs.declared.expansion.Expansion.{Expansion}
+use Rattle.asm_variables.specs.declared.expansion.Expansion.{Expansion}
 use Rattle.asm_expand.specs.declared.places.Place.{Place}
 use Rattle.asm_expand.specs.declared.steps.End.{End}
 use Rattle.asm_expand.specs.declared.steps.Frame.{Frame}
 use Rattle.asm_expand.specs.declared.steps.Next.{Next}
 use Rattle.asm_expand.specs.declared.steps.Next.TheVariants as next
-use Rattle.asm_expand.specs.Expanding.{Represents}
+use Rattle.asm_variables.specs.Expanding.{Represents}
 use Rattle.asm_expand.specs.Leading.{AreFrames, IsFault, IsLed, IsShallower, IsDeeper, Opens, RunsTo}
 use Rattle.asm_expand.specs.Places.{place_lines}
 use Rattle.asm_expand.specs.Reading.{Reads}

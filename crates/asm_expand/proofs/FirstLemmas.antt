@@ -13,12 +13,12 @@ use Rattle.expand_model.specs.States.{State, visited}
 use Rattle.expand_model.specs.Steps.{Sources, Depth, Reads, ReadsText, defined_as, definition, first_line, prototype_line, said_text}
 use Rattle.expand_model.specs.Substitution.{substituted}
 use Rattle.expand_model.specs.Words.{words_of}
-use Rattle.asm_expand.specs.declared.expansion.Expansion.{Expansion}
+use Rattle.asm_variables.specs.declared.expansion.Expansion.{Expansion}
 use Rattle.asm_expand.specs.declared.places.Place.{Place}
 use Rattle.asm_expand.specs.declared.steps.End.TheVariants as end
 use Rattle.asm_expand.specs.declared.steps.Next.{Next}
 use Rattle.asm_expand.specs.declared.steps.Next.TheVariants as next
-use Rattle.asm_expand.specs.Expanding.{Represents}
+use Rattle.asm_variables.specs.Expanding.{Represents}
 use Rattle.asm_expand.specs.Places.{place_lines}
 use Rattle.asm_expand.specs.Saying.{Shows}
 use Rattle.asm_expand.proofs.ReadingLemmas.{some_operand}

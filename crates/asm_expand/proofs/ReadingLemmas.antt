@@ -21,7 +21,7 @@ use Rattle.expand_model.specs.States.{State}
 use Rattle.expand_model.specs.Steps.{Reads, ReadsText, takes_expression, kind_of}
 use Rattle.expand_model.specs.Substitution.{substituted}
 use Rattle.expand_model.specs.Words.{words_of}
-use Rattle.asm_expand.specs.Known.{IsExpression, WasRead}
+use Rattle.asm_variables.specs.Known.{IsExpression, WasRead}
 use Rattle.asm_expand.proofs.ScanningLemmas.{some_scan}
 
 pub read_none : (text : List ℕ) → NoTokens text → ReadsExpression text (Err Syntax)

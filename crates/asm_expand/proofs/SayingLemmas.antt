@@ -7,7 +7,7 @@ use Rattle.asm_model.specs.FaultSets.{first_told}
 use Rattle.asm_model.specs.Kinds.{earliest, earlier, told_kind}
 use Rattle.asm_model.proofs.FaultLemmas.{told_by_parts}
 use Rattle.expand_model.specs.Steps.{Sources, Next, bad, judged, valued}
-use Rattle.asm_expand.specs.declared.expansion.Expansion.{Expansion}
+use Rattle.asm_variables.specs.declared.expansion.Expansion.{Expansion}
 use Rattle.asm_expand.specs.declared.places.Place.{Place}
 use Rattle.asm_expand.specs.declared.steps.Next.TheVariants as next
 use Rattle.asm_expand.specs.Places.{place_lines}

@@ -22,7 +22,7 @@ use Rattle.asm_expand.specs.declared.steps.End.TheVariants as end
 use Rattle.asm_expand.specs.declared.steps.Frame.{Frame}
 use Rattle.asm_expand.specs.declared.steps.Next.{Next}
 use Rattle.asm_expand.specs.declared.steps.Next.TheVariants as next
-use Rattle.asm_expand.specs.Expanding.{Represents}
+use Rattle.asm_variables.specs.Expanding.{Represents}
 use Rattle.asm_expand.specs.Places.{place_lines}
 use Rattle.asm_expand.specs.Saying.{IsEnd, IsFirst, IsFrame, Shows, depth_of}
 use Rattle.asm_expand.specs.Unwinding.{Leads, depth_under}

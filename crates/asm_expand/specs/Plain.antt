@@ -13,11 +13,11 @@ use Rattle.expand_model.specs.Known.{Operand}
 use Rattle.expand_model.specs.States.{State, found}
 use Rattle.expand_model.specs.Steps.{equ_number, flat_of, is_equ, number_rows}
 use Rattle.expand_model.specs.Words.{listed}
-use Rattle.asm_expand.specs.declared.expansion.Expansion.{Expansion}
+use Rattle.asm_variables.specs.declared.expansion.Expansion.{Expansion}
 use Rattle.asm_expand.specs.declared.places.Place.{Place}
-use Rattle.asm_expand.specs.Expanding.{Becomes}
+use Rattle.asm_variables.specs.Expanding.{Becomes}
 use Rattle.asm_expand.specs.Places.{place_lines}
-use Rattle.asm_expand.specs.Valued.{Values}
+use Rattle.asm_variables.specs.Valued.{Values}
 
 abbrev pub IsNumber : List ℕ → Expansion → Operand → Option ℕ → Type 0
 IsNumber word c x number = Values c (λ s. number ≡ equ_number (is_equ word) s x)

@@ -9,17 +9,17 @@ use Rattle.expand_model.specs.States.{State}
 use Rattle.expand_model.specs.Steps.{Sources, Depth, alone_kinds, file_kinds, got, judged, macro_called, said_text}
 use Rattle.expand_model.specs.Steps as model
 use Rattle.expand_model.specs.Words.{Words, as_name, operand_text, words_of}
-use Rattle.asm_expand.specs.declared.expansion.Definition.{Definition}
-use Rattle.asm_expand.specs.declared.expansion.Expansion.{Expansion}
+use Rattle.asm_variables.specs.declared.expansion.Definition.{Definition}
+use Rattle.asm_variables.specs.declared.expansion.Expansion.{Expansion}
 use Rattle.asm_expand.specs.declared.places.Place.{Place}
 use Rattle.asm_expand.specs.declared.reading.Kind.{Kind}
 use Rattle.asm_expand.specs.declared.reading.Kind.TheVariants as kind
 use Rattle.asm_expand.specs.declared.steps.Next.{Next}
 use Rattle.asm_expand.specs.declared.steps.Next.TheVariants as next
-use Rattle.asm_expand.specs.Expanding.{Represents, macro_of, maybe_macro}
+use Rattle.asm_variables.specs.Expanding.{Represents, macro_of, maybe_macro}
 use Rattle.asm_expand.specs.Places.{place_lines}
 use Rattle.asm_expand.specs.Saying.{Shows}
-use Rattle.asm_expand.specs.Valued.{Values}
+use Rattle.asm_variables.specs.Valued.{Values}
 
 abbrev pub kind_shown : Kind → model.Kind
 kind_shown (kind.Worded o) = model.Worded o

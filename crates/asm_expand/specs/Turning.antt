@@ -8,13 +8,13 @@ use Rattle.expand_model.specs.States as states
 use Rattle.expand_model.specs.Steps.{Sources, Context}
 use Rattle.expand_model.specs.Steps as model
 use Rattle.expand_model.specs.Substitution.{substituted}
-use Rattle.asm_expand.specs.declared.expansion.Expansion.{Expansion}
-use Rattle.asm_expand.specs.declared.expansion.Scope.{Scope}
+use Rattle.asm_variables.specs.declared.expansion.Expansion.{Expansion}
+use Rattle.asm_variables.specs.declared.expansion.Scope.{Scope}
 use Rattle.asm_expand.specs.declared.places.Place.{Place}
 use Rattle.asm_expand.specs.declared.steps.End.{End}
 use Rattle.asm_expand.specs.declared.steps.Frame.{Frame}
 use Rattle.asm_expand.specs.declared.steps.Next.{Next}
-use Rattle.asm_expand.specs.Expanding.{HasScope, Represents}
+use Rattle.asm_variables.specs.Expanding.{HasScope, Represents}
 use Rattle.asm_expand.specs.Places.{place_lines}
 use Rattle.asm_expand.specs.Saying.{IsEnd, IsFirst, IsFrame, Shows}
 

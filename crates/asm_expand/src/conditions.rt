@@ -3,17 +3,17 @@
 ghost use Rattle.std.specs.Prelude.{◌≡◌, ◌≤◌, ◌++◌, IfOk};
 ghost use Rattle.expand_model.specs.Known.{value_of};
 ghost use Rattle.expand_model.specs.Steps as model;
-ghost use Rattle.asm_expand.specs.Known.{WasRead};
+ghost use Rattle.asm_variables.specs.Known.{WasRead};
 ghost use Rattle.asm_expand.specs.Saying.{Says, SkipsFrom, Shortens, depth_of};
-ghost use Rattle.asm_expand.specs.Steps.{words_shown};
+ghost use Rattle.asm_variables.specs.Steps.{words_shown};
 
-use crate::expansion::Expansion;
+use asm_variables::expansion::Expansion;
 use crate::faults::{opening_fault, settle};
-use crate::pairing::{Skipping, skip};
+use asm_variables::pairing::{Skipping, skip};
 use crate::places::Place;
 use crate::steps::{Depth, End, Frame, Next};
-use crate::values::value_of;
-use crate::words::Words;
+use asm_variables::values::value_of;
+use asm_variables::words::Words;
 use asm_model::{Expr, Value};
 use expand_model::Opening;
 use sdt_fault::NoMemory;

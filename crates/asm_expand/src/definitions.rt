@@ -9,13 +9,13 @@ ghost use Rattle.asm_expand.specs.Saying.{Says};
 ghost use Rattle.expand_model.specs.Words.{listed};
 
 use crate::declarations::is_long;
-use crate::expansion::{Definition, Expansion};
-use crate::maps::{add, is_among};
-use crate::pairing::{Taking, raw_operation, take_body};
+use asm_variables::expansion::{Definition, Expansion};
+use asm_variables::maps::{add, is_among};
+use asm_variables::pairing::{Taking, raw_operation, take_body};
 use crate::places::Place;
-use crate::prototypes::prototype_of;
+use asm_variables::prototypes::prototype_of;
 use crate::steps::{End, Next};
-use crate::words::words_of;
+use asm_variables::words::words_of;
 use asm_expr::told::{first_told, kind_if};
 use asm_model::Line;
 use expand_model::{Operation, Parameter, Prototype};

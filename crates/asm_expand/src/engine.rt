@@ -9,12 +9,12 @@ ghost use Rattle.asm_expand.specs.Places.{place_lines};
 ghost use Rattle.asm_expand.specs.declared.steps.Next.TheVariants as next;
 ghost use Rattle.asm_expand.specs.Leading.{Caused, Closes, Gets, IsBadAt, IsDeeper, IsFault, IsRefusal, IsShallower, LedOn, OfFiles, Opens, OutermostEnd, RunsTo, Smaller, Starts, weight};
 
-use crate::expansion::Expansion;
+use asm_variables::expansion::Expansion;
 use crate::places::Place;
 use crate::reading::read;
 use crate::steps::{Depth, End, Frame, Next};
 use crate::turning::turn;
-use crate::variables::Tables;
+use asm_variables::variables::Tables;
 use asm_lines::split_lines;
 use asm_model::{Flat, bad_line};
 use sdt_fault::answer::Fault;

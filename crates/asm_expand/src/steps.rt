@@ -1,6 +1,6 @@
 //! What lines say, what is open at a place, and how lines end.
 
-use crate::expansion::Scope;
+use asm_variables::expansion::Scope;
 use crate::places::Place;
 use expand_model::Operation;
 use sdt_fault::Text;
