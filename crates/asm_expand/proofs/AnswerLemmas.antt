@@ -11,7 +11,7 @@ use Rattle.sdt_fault.specs.declared.refusal.Refusal.{Refusal}
 use Rattle.sdt_fault.specs.declared.refusal.Refusal.TheVariants as refusal
 use Rattle.sdt_outside.specs.Files.{Files, content}
 use Rattle.asm_model.specs.declared.lines.Line.{Line}
-use Rattle.asm_model.specs.Lines.{numbered, first_beyond, split}
+use Rattle.asm_model.specs.Lines.{first_beyond, split}
 use Rattle.asm_model.specs.Told.{IsBadLine, GivesFault}
 use Rattle.expand_model.specs.declared.operations.Operation.{Operation}
 use Rattle.expand_model.specs.Expands.{Run, Outcome, Expands, Flats, FaultAt, MissingFile, outcome_of, outermost}

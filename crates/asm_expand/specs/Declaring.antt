@@ -14,7 +14,8 @@ use Rattle.asm_variables.specs.Valued.{Values}
 
 abbrev pub GlobalFault : Expansion → Words → List ℕ → Option LineKind → Type 0
 GlobalFault c w name told =
-    Values c (λ s. told ≡ told_kind (label_kinds w ++ kind_if (is_some (found name s.globals)) DuplicateName ++ kind_if (is_long name) TooMany))
+    Values c (λ s. told ≡ told_kind
+    (label_kinds w ++ kind_if (is_some (found name s.globals)) DuplicateName ++ kind_if (is_long name) TooMany))
 
 abbrev pub LocalFault : Expansion → Words → List ℕ → Option LineKind → Type 0
 LocalFault c w name told =

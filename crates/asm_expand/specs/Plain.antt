@@ -28,7 +28,8 @@ Numbers name number old new =
 
 abbrev pub Labels : Option (List ℕ) → BTreeSet (List ℕ) → BTreeSet (List ℕ) → Type 0
 Labels name old new =
-    (q : List ℕ) → contains (slice_cmp nat_cmp) new q ≡ (list_any (λ n. same n q) (listed name) || contains (slice_cmp nat_cmp) old q)
+    (q : List ℕ) →
+    contains (slice_cmp nat_cmp) new q ≡ (list_any (λ n. same n q) (listed name) || contains (slice_cmp nat_cmp) old q)
 
 abbrev pub noted : Flat → Option (List ℕ) → Option ℕ → Bool → State → State
 noted flat name number thumb s = record s {

@@ -1,6 +1,5 @@
 -- Steps of the code that reads lines. This project's.
-use Rattle.std.specs.Prelude.{◌≡◌, ℕ, ◌≤◌, ◌<◌, List, ◌∷◌, Option, Result, Ok, Err, MatchBool}
-use Rattle.sdt_fault.specs.declared.kinds.LineKind.{LineKind}
+use Rattle.std.specs.Prelude.{◌≡◌, ℕ, ◌≤◌, ◌<◌, List, ◌∷◌, Option, Ok, Err, MatchBool}
 use Rattle.sdt_fault.specs.declared.kinds.LineKind.TheVariants.{Syntax}
 use Rattle.asm_model.specs.declared.lines.Line.{Line}
 use Rattle.asm_model.specs.Kinds.{told_kind}

@@ -7,11 +7,11 @@ ghost use Rattle.expand_model.specs.Words.{is_empty};
 ghost use Rattle.asm_expand.specs.Saying.{depth_of, settled};
 ghost use Rattle.asm_variables.specs.Steps.{words_shown};
 
-use asm_variables::operands::operand_text;
 use crate::steps::Depth;
-use asm_variables::words::Words;
 use asm_expr::kinds::earlier;
 use asm_expr::told::{first_told, kind_if};
+use asm_variables::operands::operand_text;
+use asm_variables::words::Words;
 use sdt_fault::kinds::LineKind;
 
 /// How many constructs may be open: IF, WHILE and calls together.

@@ -1,12 +1,11 @@
 -- Maps from names, and tables of names.
-use Rattle.std.proofs.Common.{◌≡◌, ℕ, List, [], ◌∷◌, ◌++◌, Bool, true, false, cond, ◌||◌, ◌&&◌, refl, sym, ◌∙◌, ap, Option, Some, None}
+use Rattle.std.proofs.Common.{◌≡◌, ℕ, List, [], ◌∷◌, ◌++◌, Bool, true, false, cond, ◌&&◌, refl, ◌∙◌, Some, None}
 use Rattle.std.specs.Option.{is_some}
-use Rattle.std.specs.List.{list_any}
 use Rattle.std.specs.Str.{bytes_eq}
 use Rattle.asm_model.specs.Directives.{or_else}
 use Rattle.asm_model.specs.Forms.{same}
 use Rattle.asm_model.proofs.SharedLemmas.{same_back, tests}
-use Rattle.asm_model.proofs.WordLemmas.{same_refl, same_true}
+use Rattle.asm_model.proofs.WordLemmas.{same_true}
 use Rattle.expand_model.specs.States.{Table, found, with_row}
 
 pub bytes_same : (a b : List ℕ) → bytes_eq a b ≡ same a b

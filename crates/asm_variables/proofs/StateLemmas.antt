@@ -1,14 +1,13 @@
 -- States after a change, where the code has them.
-use Rattle.std.proofs.Common.{◌≡◌, ℕ, List, ◌∷◌, Bool, true, false, cond, ◌&&◌, refl, sym, ◌∙◌, ap, Option, Some, None}
+use Rattle.std.proofs.Common.{◌≡◌, ℕ, List, ◌∷◌, true, false, cond, ◌&&◌, refl, sym, ◌∙◌, ap, Option, Some, None}
 use Rattle.std.specs.Option.{is_some}
 use Rattle.std.specs.Ordering.{nat_cmp}
 use Rattle.std.specs.Cmp.Lexicographic.{slice_cmp}
 use Rattle.std.specs.BTreeMap.{BTreeMap, get}
 use Rattle.asm_model.specs.Forms.{same}
 use Rattle.asm_model.specs.declared.values.Value.{Value}
-use Rattle.expand_model.specs.States.{Table, Scope, State, found, with_row, with_scope, locals_of, arguments_of, in_locals, declared_local, with_variable}
+use Rattle.expand_model.specs.States.{Table, Scope, State, found, with_row, locals_of, arguments_of, in_locals, declared_local, with_variable}
 use Rattle.asm_variables.specs.declared.expansion.Expansion.{Expansion}
-use Rattle.asm_variables.specs.declared.variables.Tables.{Tables}
 use Rattle.asm_variables.specs.Expanding.{Represents, Replaces}
 use Rattle.asm_variables.specs.Variables.{HasTables}
 use Rattle.asm_variables.proofs.MapLemmas.{found_with}

@@ -1,7 +1,7 @@
 -- Steps of substitution.
-use Rattle.std.proofs.Common.{◌≡◌, ℕ, ◌+◌, ◌-◌, ◌≤◌, List, [], ◌∷◌, ◌++◌, true, false, length, drop, refl, sym, ◌∙◌, ap, arith, zero, suc, append-nil, append_assoc, length-drop, Option, Some, None}
+use Rattle.std.proofs.Common.{◌≡◌, ℕ, ◌+◌, ◌-◌, ◌≤◌, List, [], ◌∷◌, ◌++◌, length, drop, refl, sym, ◌∙◌, ap, arith, zero, suc, append-nil, append_assoc, length-drop, Option, Some, None}
 use Rattle.std.proofs.lemmas.List.{drop-drop}
-use Rattle.std.specs.Prelude.{Result, Ok, Err, ◌==◌, ◌&&◌}
+use Rattle.std.specs.Prelude.{Result, Ok, Err}
 use Rattle.sdt_fault.specs.declared.kinds.LineKind.{LineKind}
 use Rattle.sdt_fault.specs.declared.kinds.LineKind.TheVariants.{UnknownWord}
 use Rattle.asm_model.specs.Says.{mapped}
@@ -9,8 +9,8 @@ use Rattle.expand_model.specs.declared.standing.Standing.{Standing}
 use Rattle.expand_model.specs.declared.standing.Standing.TheVariants.{Open}
 use Rattle.expand_model.specs.Standing.{Byte, standing, standing_from, begun_at}
 use Rattle.expand_model.specs.States.{State, text_named}
-use Rattle.expand_model.specs.Substitution.{substituted_from, substituted, plain, dollar, takes_dollar}
-use Rattle.asm_variables.specs.Substitution.{Becomes, IsPut}
+use Rattle.expand_model.specs.Substitution.{substituted_from, substituted, plain}
+use Rattle.asm_variables.specs.Substitution.{IsPut}
 
 mapped_nothing : (r : Result (List ℕ) LineKind) → mapped (λ t. [] ++ t) r ≡ r
 mapped_nothing (Ok t) = refl
@@ -20,19 +20,6 @@ mapped_nothing (Err k) = refl
 pub dropped_byte : (texts : List ℕ → Option (List ℕ)) (n m : ℕ) (b : Byte) (bs : List Byte) (old : List ℕ) → n ≡ suc m
     → IsPut (substituted_from texts n (b ∷ bs)) (λ k. substituted_from texts k bs) (Some m) old old
 dropped_byte texts n m b bs old e = ([], sym (append-nil old), rw e (sym (mapped_nothing (substituted_from texts m bs))))
-
--- a dollar
-pub dollar_put : (texts : List ℕ → Option (List ℕ)) (b : Byte) (bs : List Byte) (rest : List ℕ) (taken : Option ℕ) (old new : List ℕ)
-    → (b.0 == 36 && takes_dollar b.1) ≡ true → plain bs ≡ rest → Becomes (dollar texts rest) taken old new
-    → IsPut (substituted_from texts 0 (b ∷ bs)) (λ k. substituted_from texts k bs) taken old new
-dollar_put texts b bs rest None old new e p h = rw (e, p) (rw h refl)
-dollar_put texts b bs rest (Some n) old new e p h = (h.0, h.3, rw (e, p) (rw (h.1, h.2) refl))
-
--- another byte
-pub byte_put : (texts : List ℕ → Option (List ℕ)) (b : Byte) (bs : List Byte) (old new : List ℕ)
-    → (b.0 == 36 && takes_dollar b.1) ≡ false → new ≡ old ++ b.0 ∷ []
-    → IsPut (substituted_from texts 0 (b ∷ bs)) (λ k. substituted_from texts k bs) (Some 0) old new
-byte_put texts b bs old new e p = (b.0 ∷ [], p, rw e refl)
 
 -- bytes as they stand are the bytes
 pub plain_standing : (s : Standing) (n : ℕ) (cs : List ℕ) → plain (standing_from s n cs) ≡ cs

@@ -3,7 +3,7 @@ use Rattle.std.proofs.Common.{◌≡◌, ℕ, suc, List, [], ◌∷◌, ◌++◌
 use Rattle.std.specs.Prelude.{Result, Ok, Err, IfOk, not}
 use Rattle.sdt_fault.specs.declared.NoMemory.{NoMemory}
 use Rattle.sdt_fault.specs.declared.kinds.LineKind.{LineKind}
-use Rattle.sdt_fault.specs.declared.kinds.LineKind.TheVariants.{Forward, Syntax}
+use Rattle.sdt_fault.specs.declared.kinds.LineKind.TheVariants.{Forward}
 use Rattle.asm_model.specs.declared.exprs.Expr.{Expr}
 use Rattle.asm_model.specs.declared.exprs.ExprItem.{ExprItem}
 use Rattle.asm_model.specs.declared.exprs.ExprItem.TheVariants as item
@@ -19,12 +19,11 @@ use Rattle.asm_model.specs.FaultSets.{first_told}
 use Rattle.asm_model.specs.Grammar.{Tree, Leaf, Before, Between, postfix, plain, Spells, operand, of_name, before, grouped, between, tighter, IsSpelled}
 use Rattle.asm_model.specs.Kinds.{told_kind}
 use Rattle.asm_model.specs.Meaning.{named_in, meaning, Evaluates, IsValue}
-use Rattle.asm_model.specs.Trees.{tree_of}
 use Rattle.asm_model.proofs.FaultLemmas.{told_by_parts}
 use Rattle.asm_model.proofs.LateLemmas.{plain_operand}
 use Rattle.asm_model.proofs.TreeLemmas.{trees_read_back}
 use Rattle.std.specs.Option.{is_some}
-use Rattle.expand_model.specs.Known.{Operand, item_kinds, asked_kinds, tree_kinds, name_kinds, names_with, maybe_value, value_with, label_entries}
+use Rattle.expand_model.specs.Known.{Operand, item_kinds, asked_kinds, tree_kinds, name_kinds, names_with, maybe_value, value_with}
 use Rattle.expand_model.specs.States.{State}
 use Rattle.asm_variables.specs.declared.expansion.Expansion.{Expansion}
 use Rattle.asm_variables.specs.declared.values.Sight.{Sight}

@@ -1,8 +1,6 @@
 -- Expressions of expansion: what the code knows of names in them. This project's.
-use Rattle.std.specs.Prelude.{◌≡◌, ℕ, List, [], ◌∷◌, ◌++◌, ◌||◌, not, Bool, true, false, if◌then◌else◌, Option, Some, None, Result, Ok, Err}
+use Rattle.std.specs.Prelude.{◌≡◌, ℕ, List, [], ◌∷◌, ◌++◌, ◌||◌, not, Bool, true, false, if◌then◌else◌, Option, Some, None, Ok, Err}
 use Rattle.std.specs.Option.{is_some}
-use Rattle.sdt_fault.specs.declared.kinds.LineKind.{LineKind}
-use Rattle.asm_model.specs.declared.exprs.Expr.{Expr}
 use Rattle.asm_model.specs.declared.exprs.ExprItem.{ExprItem}
 use Rattle.asm_model.specs.declared.exprs.ExprItem.TheVariants as item
 use Rattle.asm_model.specs.declared.exprs.Part.{Part}
@@ -13,7 +11,7 @@ use Rattle.asm_model.specs.declared.values.Value.TheVariants.{Number}
 use Rattle.asm_model.specs.Directives.{or_else}
 use Rattle.asm_model.specs.Grammar.{Tree, postfix, IsSpelled}
 use Rattle.asm_model.specs.Meaning.{named_in}
-use Rattle.expand_model.specs.Known.{Operand, value_entries, variable_entries, number_entries, label_entries}
+use Rattle.expand_model.specs.Known.{Operand, variable_entries, number_entries, label_entries}
 use Rattle.expand_model.specs.States.{State, found, variable}
 use Rattle.asm_variables.specs.declared.values.Sight.{Sight}
 use Rattle.asm_variables.specs.declared.values.Sight.TheVariants as sight

@@ -54,7 +54,8 @@ HasEntries v c items list = Values c (λ s. list ≡ items_entries (known.all_en
 -- the value of items that tokens spell
 abbrev pub Gives : Sight → Expansion → List ExprItem → Result Value EvalFault → Type 0
 Gives v c items result =
-    Values c (λ s. (ps : List Part) (t : Tree) → IsSpelled ps t → items ≡ postfix t → IsValue (meaning (names_with s (known.all_entries v s)) t) result)
+    Values c (λ s. (ps : List Part) (t : Tree)
+    → IsSpelled ps t → items ≡ postfix t → IsValue (meaning (names_with s (known.all_entries v s)) t) result)
 
 abbrev pub IsValueOf : Sight → Expansion → Operand → Result Value LineKind → Type 0
 IsValueOf v c x value = Values c (λ s. value ≡ value_with s (known.entries_in v s) x)

@@ -12,7 +12,8 @@ use std::collections::{BTreeMap, BTreeSet};
 
 /// Gives a name a value, in the place of the one that it had.
 pub fn put<V: Drop>(map: &mut BTreeMap<Text, V>, name: Text, value: V) -> Result<(), NoMemory>
-    ensures { OnOk result ((q : List ℕ) → get (slice_cmp nat_cmp) map.new q ≡ (if same name q then Some value else get (slice_cmp nat_cmp) map.old q)) }
+    ensures { OnOk result ((q : List ℕ) →
+        get (slice_cmp nat_cmp) map.new q ≡ (if same name q then Some value else get (slice_cmp nat_cmp) map.old q)) }
 {
     map.insert(name, value)?;
     Ok(())
@@ -20,7 +21,8 @@ pub fn put<V: Drop>(map: &mut BTreeMap<Text, V>, name: Text, value: V) -> Result
 
 /// One name more.
 pub fn add(names: &mut BTreeSet<Text>, name: Text) -> Result<(), NoMemory>
-    ensures { OnOk result ((q : List ℕ) → contains (slice_cmp nat_cmp) names.new q ≡ (same name q || contains (slice_cmp nat_cmp) names.old q)) }
+    ensures { OnOk result ((q : List ℕ) →
+        contains (slice_cmp nat_cmp) names.new q ≡ (same name q || contains (slice_cmp nat_cmp) names.old q)) }
 {
     names.insert(name)?;
     Ok(())

@@ -1,5 +1,4 @@
-use Rattle.std.proofs.Common.{sym, ap, ◌∙◌, Some}
-use Rattle.std.proofs.lemmas.Result.{IfOk-weaker}
+use Rattle.std.proofs.Common.{sym, ◌∙◌}
 use Rattle.asm_variables.proofs.KnownLemmas.{entry_some}
 use Rattle.asm_variables.proofs.values.entry_named.Goals as goal
 

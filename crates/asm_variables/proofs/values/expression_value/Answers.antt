@@ -1,8 +1,8 @@
-use Rattle.std.proofs.Common.{◌≡◌, List, sym, ap, subst, ◌∙◌}
-use Rattle.std.specs.Prelude.{Ok, IfOk}
+use Rattle.std.proofs.Common.{List, sym, ap, ◌∙◌}
+use Rattle.std.specs.Prelude.{Ok}
 use Rattle.asm_model.specs.declared.exprs.ExprItem.{ExprItem}
-use Rattle.expand_model.specs.Known.{names_with, value_with}
-use Rattle.asm_variables.specs.Known.{all_entries, entries_in, has_unknown}
+use Rattle.expand_model.specs.Known.{value_with}
+use Rattle.asm_variables.specs.Known.{entries_in, has_unknown}
 use Rattle.asm_variables.proofs.ValueLemmas.{given_each, value_forward, value_meant}
 use Rattle.asm_variables.proofs.values.expression_value.Goals as goal
 

@@ -1,4 +1,4 @@
-use Rattle.std.proofs.Common.{◌≡◌, List, None, ap, ◌∙◌}
+use Rattle.std.proofs.Common.{List, None, ap, ◌∙◌}
 use Rattle.asm_model.specs.declared.exprs.ExprItem.{ExprItem}
 use Rattle.asm_variables.specs.Entries.{items_entries}
 use Rattle.asm_variables.specs.Known.{all_entries}
