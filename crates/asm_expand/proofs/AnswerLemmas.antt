@@ -11,7 +11,7 @@ use Rattle.sdt_fault.specs.declared.refusal.Refusal.{Refusal}
 use Rattle.sdt_fault.specs.declared.refusal.Refusal.TheVariants as refusal
 use Rattle.sdt_outside.specs.Files.{Files, content}
 use Rattle.asm_model.specs.declared.lines.Line.{Line}
-use Rattle.asm_model.specs.Lines.{numbered, first_beyond, split}
+use Rattle.asm_model.specs.Lines.{first_beyond, split}
 use Rattle.asm_model.specs.Told.{IsBadLine, GivesFault}
 use Rattle.expand_model.specs.declared.operations.Operation.{Operation}
 use Rattle.expand_model.specs.Expands.{Run, Outcome, Expands, Flats, FaultAt, MissingFile, outcome_of, outermost}
@@ -19,14 +19,14 @@ use Rattle.expand_model.specs.States.{State, started}
 use Rattle.expand_model.specs.Steps.{Sources, Context, Stop, Go, Under, got, visit_limit, Over, Closed, Left, Ended, Unclosed, Bad}
 use Rattle.expand_model.specs.Steps as model
 use Rattle.asm_expand.specs.declared.engine.Engine.{Engine}
-use Rattle.asm_expand.specs.declared.expansion.Expansion.{Expansion}
+use Rattle.asm_variables.specs.declared.expansion.Expansion.{Expansion}
 use Rattle.asm_expand.specs.declared.places.Place.{Place}
 use Rattle.asm_expand.specs.declared.steps.End.{End}
 use Rattle.asm_expand.specs.declared.steps.End.TheVariants as end
 use Rattle.asm_expand.specs.declared.steps.Frame.{Frame}
 use Rattle.asm_expand.specs.declared.steps.Next.{Next}
 use Rattle.asm_expand.specs.declared.steps.Next.TheVariants as next
-use Rattle.asm_expand.specs.Expanding.{Represents}
+use Rattle.asm_variables.specs.Expanding.{Represents}
 use Rattle.asm_expand.specs.Leading.{IsBadAt, IsFault, IsLed, Caused, Gets, IsRefusal, LedOn, IsToldBy, OfFiles, OutermostEnd, RunsTo, Starts, StepsTo, GetsFrom}
 use Rattle.asm_expand.specs.Places.{place_lines}
 use Rattle.asm_expand.specs.Saying.{IsBad, IsEnd, IsFirst, Shows}

@@ -14,12 +14,12 @@ use Rattle.asm_model.specs.declared.lines.Line.{Line}
 use Rattle.expand_model.specs.Pairing.{Whole, taken}
 use Rattle.expand_model.specs.States.{State}
 use Rattle.expand_model.specs.Steps.{Sources, defined_as, with_visits}
-use Rattle.asm_expand.specs.declared.expansion.Definition.{Definition}
-use Rattle.asm_expand.specs.declared.expansion.Expansion.{Expansion}
+use Rattle.asm_variables.specs.declared.expansion.Definition.{Definition}
+use Rattle.asm_variables.specs.declared.expansion.Expansion.{Expansion}
 use Rattle.asm_expand.specs.declared.places.Place.{Place}
 use Rattle.asm_expand.specs.declared.steps.Next.TheVariants as next
 use Rattle.asm_expand.specs.Defining.{names_of}
-use Rattle.asm_expand.specs.Expanding.{Becomes, Represents, macro_of, maybe_macro, with_macro}
+use Rattle.asm_variables.specs.Expanding.{Becomes, Represents, macro_of, maybe_macro, with_macro}
 use Rattle.asm_expand.specs.Places.{place_lines}
 use Rattle.asm_expand.specs.Saying.{Shows}
 

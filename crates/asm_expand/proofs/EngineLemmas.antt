@@ -1,29 +1,26 @@
 -- Steps of the engine keep where its run ends.
-use Rattle.std.proofs.Common.{◌≡◌, ℕ, List, [], ◌∷◌, ◌++◌, reverse, refl, sym, ◌∙◌, ap, subst, Option, Some, None}
-use Rattle.std.specs.Prelude.{Result, Ok, Err}
+use Rattle.std.proofs.Common.{◌≡◌, ℕ, List, [], ◌∷◌, reverse, refl, sym, ◌∙◌, ap, subst}
 use Rattle.sdt_fault.specs.declared.answer.Fault.{Fault}
 use Rattle.sdt_fault.specs.declared.answer.Fault.TheVariants as fault
 use Rattle.sdt_fault.specs.declared.kinds.LineKind.{LineKind}
-use Rattle.sdt_fault.specs.declared.refusal.Refusal.TheVariants.{BadLine}
 use Rattle.asm_model.specs.declared.lines.Line.{Line}
 use Rattle.asm_model.specs.Told.{IsBadLine}
-use Rattle.expand_model.specs.Expands.{Run, stops, Outcome, Flats, FaultAt, MissingFile, outcome_of, outermost}
-use Rattle.expand_model.specs.Known.{Operand}
+use Rattle.expand_model.specs.Expands.{Run, stops, FaultAt, MissingFile, outermost}
 use Rattle.expand_model.specs.States.{State}
 use Rattle.expand_model.specs.Steps.{Sources, Context, Condition, Alternative, Loop, Call, File, Stop, Go, Under, first_line, turn, deeper}
 use Rattle.expand_model.specs.Steps as model
 use Rattle.asm_expand.specs.declared.engine.Engine.{Engine}
-use Rattle.asm_expand.specs.declared.expansion.Expansion.{Expansion}
+use Rattle.asm_variables.specs.declared.expansion.Expansion.{Expansion}
 use Rattle.asm_expand.specs.declared.places.Place.{Place}
 use Rattle.asm_expand.specs.declared.steps.End.{End}
 use Rattle.asm_expand.specs.declared.steps.Frame.{Frame}
 use Rattle.asm_expand.specs.declared.steps.Next.{Next}
 use Rattle.asm_expand.specs.declared.steps.Next.TheVariants as next
-use Rattle.asm_expand.specs.Expanding.{Represents}
-use Rattle.asm_expand.specs.Leading.{AreFrames, IsFault, IsLed, IsShallower, IsDeeper, Opens, RunsTo}
+use Rattle.asm_variables.specs.Expanding.{Represents}
+use Rattle.asm_expand.specs.Leading.{AreFrames, IsFault, IsLed, IsShallower, Opens, RunsTo}
 use Rattle.asm_expand.specs.Places.{place_lines}
 use Rattle.asm_expand.specs.Reading.{Reads}
-use Rattle.asm_expand.specs.Saying.{IsBad, IsEnd, IsFirst, IsFrame, Shows, depth_of}
+use Rattle.asm_expand.specs.Saying.{IsBad, IsEnd, IsFrame, Shows, depth_of}
 use Rattle.asm_expand.specs.Turning.{Turns}
 use Rattle.asm_expand.specs.Unwinding.{Leads, Unwound, depth_under}
 use Rattle.asm_expand.proofs.UnwindingLemmas.{leads_read, leads_under, leads_behind, led}

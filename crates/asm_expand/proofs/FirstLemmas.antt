@@ -1,8 +1,7 @@
 -- The first line, by what the code finds of it.
-use Rattle.std.proofs.Common.{◌≡◌, ℕ, zero, suc, ◌-◌, ◌==◌, List, [], ◌∷◌, Bool, true, false, refl, sym, ◌∙◌, ap, subst}
-use Rattle.std.specs.Prelude.{Result, Ok, Err}
+use Rattle.std.proofs.Common.{◌≡◌, ℕ, ◌-◌, ◌==◌, List, [], ◌∷◌, true, false, refl, sym, ◌∙◌, ap}
+use Rattle.std.specs.Prelude.{Ok, Err}
 use Rattle.std.proofs.lemmas.Bool.{false_from_ne_true, eqb-true}
-use Rattle.sdt_fault.specs.declared.kinds.LineKind.{LineKind}
 use Rattle.sdt_fault.specs.declared.kinds.LineKind.TheVariants.{Syntax, UnknownWord, TooMany}
 use Rattle.asm_model.specs.declared.lines.Line.{Line}
 use Rattle.expand_model.specs.declared.macros.Prototype.{Prototype}
@@ -13,12 +12,12 @@ use Rattle.expand_model.specs.States.{State, visited}
 use Rattle.expand_model.specs.Steps.{Sources, Depth, Reads, ReadsText, defined_as, definition, first_line, prototype_line, said_text}
 use Rattle.expand_model.specs.Substitution.{substituted}
 use Rattle.expand_model.specs.Words.{words_of}
-use Rattle.asm_expand.specs.declared.expansion.Expansion.{Expansion}
+use Rattle.asm_variables.specs.declared.expansion.Expansion.{Expansion}
 use Rattle.asm_expand.specs.declared.places.Place.{Place}
 use Rattle.asm_expand.specs.declared.steps.End.TheVariants as end
 use Rattle.asm_expand.specs.declared.steps.Next.{Next}
 use Rattle.asm_expand.specs.declared.steps.Next.TheVariants as next
-use Rattle.asm_expand.specs.Expanding.{Represents}
+use Rattle.asm_variables.specs.Expanding.{Represents}
 use Rattle.asm_expand.specs.Places.{place_lines}
 use Rattle.asm_expand.specs.Saying.{Shows}
 use Rattle.asm_expand.proofs.ReadingLemmas.{some_operand}

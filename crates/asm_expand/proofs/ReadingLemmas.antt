@@ -1,10 +1,9 @@
 -- Operands of lines.
-use Rattle.std.proofs.Common.{◌≡◌, ℕ, List, [], ◌∷◌, Bool, true, false, refl, sym, ◌∙◌, ap, map, inl, inr, Option, Some, None}
+use Rattle.std.proofs.Common.{◌≡◌, ℕ, List, [], ◌∷◌, Bool, true, false, refl, map, inl, inr, Option, Some, None}
 use Rattle.std.specs.Prelude.{Result, Ok, Err, MatchBool}
 use Rattle.std.specs.List.{list_any}
 use Rattle.sdt_fault.specs.declared.kinds.LineKind.{LineKind}
 use Rattle.sdt_fault.specs.declared.kinds.LineKind.TheVariants.{Syntax, TooMany, Constant}
-use Rattle.asm_model.specs.declared.exprs.Expr.{Expr}
 use Rattle.asm_model.specs.declared.exprs.ExprItem.{ExprItem}
 use Rattle.asm_model.specs.declared.exprs.Part.{Part}
 use Rattle.asm_model.specs.declared.lines.Line.{Line}
@@ -12,7 +11,7 @@ use Rattle.asm_model.specs.declared.tokens.Token.{Token}
 use Rattle.asm_model.specs.Grammar.{Parses, ParsesTokens}
 use Rattle.asm_model.specs.Parts.{part_of, is_large}
 use Rattle.asm_model.specs.Says.{sentence}
-use Rattle.asm_model.specs.Tokens.{NoTokens, Tokens, Scans, is_long}
+use Rattle.asm_model.specs.Tokens.{NoTokens, Tokens, is_long}
 use Rattle.asm_expr.specs.Parsing.{parsed, started}
 use Rattle.asm_expr.proofs.Spelled.{parsed_spelled, spelled_parsed}
 use Rattle.expand_model.specs.declared.macros.Macro.{Macro}
@@ -21,7 +20,6 @@ use Rattle.expand_model.specs.States.{State}
 use Rattle.expand_model.specs.Steps.{Reads, ReadsText, takes_expression, kind_of}
 use Rattle.expand_model.specs.Substitution.{substituted}
 use Rattle.expand_model.specs.Words.{words_of}
-use Rattle.asm_expand.specs.Known.{IsExpression, WasRead}
 use Rattle.asm_expand.proofs.ScanningLemmas.{some_scan}
 
 pub read_none : (text : List ℕ) → NoTokens text → ReadsExpression text (Err Syntax)
@@ -33,16 +31,6 @@ read_long text ts tokens long = (Err TooMany, inr (refl, (ts, tokens, long)), re
 pub read_all : (text : List ℕ) (ts behind : List Token) (x : Operand) → Tokens text ts → list_any is_long ts ≡ false → behind ≡ (sentence ts).behind
     → ParsesTokens text behind x → ReadsExpression text x
 read_all text ts behind x tokens short e h = (Ok ts, (tokens, short), rw e at h)
-
--- what was read is spelled by tokens
-from_scan : (text : List ℕ) (scan : Result (List Token) LineKind) (x : Operand) → FromScan text scan x → WasRead x
-from_scan text (Ok ts) (Ok e) h = record { parts = map (part_of text) (sentence ts).behind; tree = h.0.0; spelled = h.0.1; are = h.0.2 }
-from_scan text (Ok ts) (Err k) h = tt
-from_scan text (Err k) (Ok e) h = absurd (let g = h in cc)
-from_scan text (Err k) (Err j) h = tt
-
-pub was_read : (text : List ℕ) (x : Operand) → ReadsExpression text x → WasRead x
-was_read text x h = from_scan text h.0 x h.2
 
 -- ---- each line has an operand
 

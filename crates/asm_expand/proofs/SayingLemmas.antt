@@ -1,5 +1,5 @@
 -- What a line says, where a fault is told of it or none.
-use Rattle.std.proofs.Common.{◌≡◌, ℕ, List, [], ◌∷◌, refl, sym, ◌∙◌, ap, subst, Option, Some, None}
+use Rattle.std.proofs.Common.{◌≡◌, List, [], ◌∷◌, refl, sym, ◌∙◌, ap, Option, Some, None}
 use Rattle.std.specs.Prelude.{Result, Ok, Err}
 use Rattle.sdt_fault.specs.declared.kinds.LineKind.{LineKind}
 use Rattle.asm_model.specs.declared.lines.Line.{Line}
@@ -7,7 +7,7 @@ use Rattle.asm_model.specs.FaultSets.{first_told}
 use Rattle.asm_model.specs.Kinds.{earliest, earlier, told_kind}
 use Rattle.asm_model.proofs.FaultLemmas.{told_by_parts}
 use Rattle.expand_model.specs.Steps.{Sources, Next, bad, judged, valued}
-use Rattle.asm_expand.specs.declared.expansion.Expansion.{Expansion}
+use Rattle.asm_variables.specs.declared.expansion.Expansion.{Expansion}
 use Rattle.asm_expand.specs.declared.places.Place.{Place}
 use Rattle.asm_expand.specs.declared.steps.Next.TheVariants as next
 use Rattle.asm_expand.specs.Places.{place_lines}
@@ -41,10 +41,4 @@ valued_settled l kinds (Err k) f (Some j) e =
 pub valued_bad : {A : Type 0} (l : Line) (kinds : List LineKind) (r : Result A LineKind) (f : A → Next) (o : Option LineKind) (given : Result A LineKind) (k : LineKind)
     → o ≡ told_kind kinds → given ≡ r → Err k ≡ settled o given → valued l kinds r f ≡ bad l k
 valued_bad l kinds r f o given k told same h =
-    valued_settled l kinds r f o (sym told) ∙ ap (after l f) (ap (λ x. settled o x) (sym same) ∙ sym h)
-
--- none is
-pub valued_good : {A : Type 0} (l : Line) (kinds : List LineKind) (r : Result A LineKind) (f : A → Next) (o : Option LineKind) (given : Result A LineKind) (a : A)
-    → o ≡ told_kind kinds → given ≡ r → Ok a ≡ settled o given → valued l kinds r f ≡ f a
-valued_good l kinds r f o given a told same h =
     valued_settled l kinds r f o (sym told) ∙ ap (after l f) (ap (λ x. settled o x) (sym same) ∙ sym h)

@@ -1,6 +1,6 @@
 -- Each line has tokens, or one fault.
-use Rattle.std.proofs.Common.{◌≡◌, ℕ, zero, suc, ◌+◌, ◌<◌, ◌≤◌, List, [], ◌∷◌, length, take, drop, Bool, true, false, refl, sym, ◌∙◌, ap, arith, length-drop, ◌⊎◌, inl, inr}
-use Rattle.std.specs.Prelude.{MatchBool, Option, Some, None, Result, Ok, Err, nat_lt}
+use Rattle.std.proofs.Common.{◌≡◌, ℕ, zero, suc, ◌+◌, ◌<◌, ◌≤◌, List, [], ◌∷◌, length, take, drop, Bool, true, false, refl, ◌∙◌, ap, arith, length-drop, ◌⊎◌, inl, inr}
+use Rattle.std.specs.Prelude.{Option, Some, None, Result, Ok, Err}
 use Rattle.std.specs.List.{list_any}
 use Rattle.sdt_fault.specs.declared.kinds.LineKind.{LineKind}
 use Rattle.sdt_fault.specs.declared.kinds.LineKind.TheVariants.{Syntax, TooMany}
@@ -8,7 +8,7 @@ use Rattle.asm_model.specs.declared.tokens.Due.{Due}
 use Rattle.asm_model.specs.declared.tokens.Due.TheVariants.{Label, Operation, Operands, Nothing}
 use Rattle.asm_model.specs.declared.tokens.Token.{Token}
 use Rattle.asm_model.specs.declared.tokens.TokenKind.{TokenKind}
-use Rattle.asm_model.specs.Tokens.{IsTokenAt, is_operation_sign, blanks, is_end, is_long, due_behind, TokensFrom, Tokens, Scans, first_due}
+use Rattle.asm_model.specs.Tokens.{is_operation_sign, blanks, is_end, is_long, due_behind, TokensFrom, Scans, first_due}
 use Rattle.asm_lines.specs.Lengths.{best_of}
 use Rattle.asm_lines.specs.Steps.{IsTheToken}
 use Rattle.asm_lines.proofs.KindLemmas.{best_longest, best_none}

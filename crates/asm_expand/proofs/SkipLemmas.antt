@@ -2,7 +2,7 @@
 use Rattle.std.proofs.Common.{◌≡◌, ℕ, zero, suc, ◌<◌, List, [], ◌∷◌, arith}
 use Rattle.asm_model.specs.declared.lines.Line.{Line}
 use Rattle.expand_model.specs.declared.operations.Opening.{Opening}
-use Rattle.expand_model.specs.Pairing.{Behind, Stays, Closes, Turns, Unpaired, Closed, Turned, Faulty, Endless, skipped, skipped_line, behind_line, raw_operation}
+use Rattle.expand_model.specs.Pairing.{Behind, Stays, Closes, Turns, Unpaired, Turned, skipped, skipped_line, behind_line, raw_operation}
 
 behind : (n : ℕ) (l : Line) (ls : List Line) (m : ℕ) (rest : List Line) (b : Behind)
     → ((p : Opening) (ps : List Opening) → skipped p ps n ls ≡ Turned m rest → m < n)

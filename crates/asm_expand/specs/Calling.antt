@@ -8,9 +8,8 @@ use Rattle.expand_model.specs.declared.macros.Parameter.{Parameter}
 use Rattle.expand_model.specs.declared.macros.Prototype.{Prototype}
 use Rattle.expand_model.specs.Prototypes.{argument_for, argument_rows, label_rows}
 use Rattle.expand_model.specs.States.{Table, found}
-use Rattle.expand_model.specs.States as model
-use Rattle.asm_expand.specs.declared.expansion.Scope.{Scope}
-use Rattle.asm_expand.specs.Expanding.{HasScope}
+use Rattle.asm_variables.specs.declared.expansion.Scope.{Scope}
+use Rattle.asm_variables.specs.Expanding.{HasScope}
 
 abbrev pub Texts : Type 0
 Texts = BTreeMap (List ℕ) (List ℕ)

@@ -9,12 +9,13 @@ use Rattle.expand_model.specs.Prototypes.{kind_if, is_long}
 use Rattle.expand_model.specs.States.{found, locals_of, variable}
 use Rattle.expand_model.specs.Steps.{label_kinds, target_kinds}
 use Rattle.expand_model.specs.Words.{Words}
-use Rattle.asm_expand.specs.declared.expansion.Expansion.{Expansion}
-use Rattle.asm_expand.specs.Valued.{Values}
+use Rattle.asm_variables.specs.declared.expansion.Expansion.{Expansion}
+use Rattle.asm_variables.specs.Valued.{Values}
 
 abbrev pub GlobalFault : Expansion → Words → List ℕ → Option LineKind → Type 0
 GlobalFault c w name told =
-    Values c (λ s. told ≡ told_kind (label_kinds w ++ kind_if (is_some (found name s.globals)) DuplicateName ++ kind_if (is_long name) TooMany))
+    Values c (λ s. told ≡ told_kind
+    (label_kinds w ++ kind_if (is_some (found name s.globals)) DuplicateName ++ kind_if (is_long name) TooMany))
 
 abbrev pub LocalFault : Expansion → Words → List ℕ → Option LineKind → Type 0
 LocalFault c w name told =

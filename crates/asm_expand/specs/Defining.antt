@@ -1,5 +1,5 @@
 -- Steps of the code of definitions. This project's.
-use Rattle.std.specs.Prelude.{◌≡◌, ℕ, List, [], ◌∷◌, map, ◌||◌, Bool, true, false, Option, Some, None, Result, Ok, Err}
+use Rattle.std.specs.Prelude.{◌≡◌, ℕ, List, map, ◌||◌, Bool, true, false, Option, Some, None, Result, Ok, Err}
 use Rattle.std.specs.List.{list_any}
 use Rattle.std.specs.Ordering.{nat_cmp}
 use Rattle.std.specs.Cmp.Lexicographic.{slice_cmp}
@@ -18,14 +18,14 @@ use Rattle.expand_model.specs.Prototypes.{is_repeated, prototype_kinds, prototyp
 use Rattle.expand_model.specs.States.{State}
 use Rattle.expand_model.specs.Steps.{Sources, Next, bad, defined_as, prototype_line}
 use Rattle.expand_model.specs.Words.{words_of}
-use Rattle.asm_expand.specs.declared.expansion.Definition.{Definition}
-use Rattle.asm_expand.specs.declared.expansion.Expansion.{Expansion}
+use Rattle.asm_variables.specs.declared.expansion.Definition.{Definition}
+use Rattle.asm_variables.specs.declared.expansion.Expansion.{Expansion}
 use Rattle.asm_expand.specs.declared.places.Place.{Place}
 use Rattle.asm_expand.specs.declared.steps.Next.{Next as CodeNext}
-use Rattle.asm_expand.specs.Expanding.{Represents, macro_of}
+use Rattle.asm_variables.specs.Expanding.{Represents, macro_of}
 use Rattle.asm_expand.specs.Places.{place_lines}
 use Rattle.asm_expand.specs.Saying.{IsFirst, Shows}
-use Rattle.asm_expand.specs.Valued.{Values}
+use Rattle.asm_variables.specs.Valued.{Values}
 
 abbrev pub IsDefinition : Prototype → List Line → Definition → Type 0
 IsDefinition p body d = macro_of d ≡ record { prototype = p; body = body }

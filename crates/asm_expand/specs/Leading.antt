@@ -7,7 +7,6 @@ use Rattle.sdt_fault.specs.declared.kinds.LineKind.TheVariants.{Nesting}
 use Rattle.sdt_fault.specs.declared.refusal.Refusal.{Refusal}
 use Rattle.sdt_fault.specs.declared.refusal.Refusal.TheVariants.{BadLine, Missing}
 use Rattle.sdt_outside.specs.Files.{Files, content, IsMissing}
-use Rattle.asm_model.specs.declared.lines.Flat.{Flat}
 use Rattle.asm_model.specs.declared.lines.Line.{Line}
 use Rattle.asm_model.specs.Told.{IsBadLine}
 use Rattle.expand_model.specs.Expands.{Run, Outcome, Flats, FaultAt, MissingFile, outcome_of, outermost}
@@ -22,9 +21,9 @@ use Rattle.asm_expand.specs.declared.steps.End.TheVariants as end
 use Rattle.asm_expand.specs.declared.steps.Frame.{Frame}
 use Rattle.asm_expand.specs.declared.steps.Next.{Next}
 use Rattle.asm_expand.specs.declared.steps.Next.TheVariants as next
-use Rattle.asm_expand.specs.Expanding.{Represents}
+use Rattle.asm_variables.specs.Expanding.{Represents}
 use Rattle.asm_expand.specs.Places.{place_lines}
-use Rattle.asm_expand.specs.Saying.{IsEnd, IsFirst, IsFrame, Shows, depth_of}
+use Rattle.asm_expand.specs.Saying.{IsFirst, IsFrame, Shows, depth_of}
 use Rattle.asm_expand.specs.Unwinding.{Leads, depth_under}
 
 -- ---- the answer of the engine
@@ -98,7 +97,8 @@ abbrev pub IsDeeper : Frame → Depth → Depth → Type 0
 IsDeeper f d deep = (c : Context) → IsFrame f c → depth_of deep ≡ model.deeper c (depth_of d)
 
 abbrev pub IsShallower : Frame → Depth → Depth → Type 0
-IsShallower f deep d = (c : Context) (around : model.Depth) → IsFrame f c → depth_of deep ≡ model.deeper c around → depth_of d ≡ around
+IsShallower f deep d =
+    (c : Context) (around : model.Depth) → IsFrame f c → depth_of deep ≡ model.deeper c around → depth_of d ≡ around
 
 -- one frame more is open
 abbrev pub Opens : Frame → Engine → Engine → Type 0

@@ -13,11 +13,11 @@ use Rattle.expand_model.specs.Known.{Operand}
 use Rattle.expand_model.specs.States.{State, found}
 use Rattle.expand_model.specs.Steps.{equ_number, flat_of, is_equ, number_rows}
 use Rattle.expand_model.specs.Words.{listed}
-use Rattle.asm_expand.specs.declared.expansion.Expansion.{Expansion}
+use Rattle.asm_variables.specs.declared.expansion.Expansion.{Expansion}
 use Rattle.asm_expand.specs.declared.places.Place.{Place}
-use Rattle.asm_expand.specs.Expanding.{Becomes}
+use Rattle.asm_variables.specs.Expanding.{Becomes}
 use Rattle.asm_expand.specs.Places.{place_lines}
-use Rattle.asm_expand.specs.Valued.{Values}
+use Rattle.asm_variables.specs.Valued.{Values}
 
 abbrev pub IsNumber : List ℕ → Expansion → Operand → Option ℕ → Type 0
 IsNumber word c x number = Values c (λ s. number ≡ equ_number (is_equ word) s x)
@@ -28,7 +28,8 @@ Numbers name number old new =
 
 abbrev pub Labels : Option (List ℕ) → BTreeSet (List ℕ) → BTreeSet (List ℕ) → Type 0
 Labels name old new =
-    (q : List ℕ) → contains (slice_cmp nat_cmp) new q ≡ (list_any (λ n. same n q) (listed name) || contains (slice_cmp nat_cmp) old q)
+    (q : List ℕ) →
+    contains (slice_cmp nat_cmp) new q ≡ (list_any (λ n. same n q) (listed name) || contains (slice_cmp nat_cmp) old q)
 
 abbrev pub noted : Flat → Option (List ℕ) → Option ℕ → Bool → State → State
 noted flat name number thumb s = record s {

@@ -1,6 +1,5 @@
 -- Steps of the code that reads lines. This project's.
-use Rattle.std.specs.Prelude.{◌≡◌, ℕ, ◌≤◌, ◌<◌, List, ◌∷◌, Option, Result, Ok, Err, MatchBool}
-use Rattle.sdt_fault.specs.declared.kinds.LineKind.{LineKind}
+use Rattle.std.specs.Prelude.{◌≡◌, ℕ, ◌≤◌, ◌<◌, List, ◌∷◌, Option, Ok, Err, MatchBool}
 use Rattle.sdt_fault.specs.declared.kinds.LineKind.TheVariants.{Syntax}
 use Rattle.asm_model.specs.declared.lines.Line.{Line}
 use Rattle.asm_model.specs.Kinds.{told_kind}
@@ -9,17 +8,17 @@ use Rattle.expand_model.specs.States.{State}
 use Rattle.expand_model.specs.Steps.{Sources, Depth, alone_kinds, file_kinds, got, judged, macro_called, said_text}
 use Rattle.expand_model.specs.Steps as model
 use Rattle.expand_model.specs.Words.{Words, as_name, operand_text, words_of}
-use Rattle.asm_expand.specs.declared.expansion.Definition.{Definition}
-use Rattle.asm_expand.specs.declared.expansion.Expansion.{Expansion}
+use Rattle.asm_variables.specs.declared.expansion.Definition.{Definition}
+use Rattle.asm_variables.specs.declared.expansion.Expansion.{Expansion}
 use Rattle.asm_expand.specs.declared.places.Place.{Place}
 use Rattle.asm_expand.specs.declared.reading.Kind.{Kind}
 use Rattle.asm_expand.specs.declared.reading.Kind.TheVariants as kind
 use Rattle.asm_expand.specs.declared.steps.Next.{Next}
 use Rattle.asm_expand.specs.declared.steps.Next.TheVariants as next
-use Rattle.asm_expand.specs.Expanding.{Represents, macro_of, maybe_macro}
+use Rattle.asm_variables.specs.Expanding.{Represents, macro_of, maybe_macro}
 use Rattle.asm_expand.specs.Places.{place_lines}
 use Rattle.asm_expand.specs.Saying.{Shows}
-use Rattle.asm_expand.specs.Valued.{Values}
+use Rattle.asm_variables.specs.Valued.{Values}
 
 abbrev pub kind_shown : Kind → model.Kind
 kind_shown (kind.Worded o) = model.Worded o

@@ -8,7 +8,7 @@ use Rattle.expand_model.specs.Pairing.{skipped}
 use Rattle.expand_model.specs.States.{State}
 use Rattle.expand_model.specs.Steps.{Sources, Context, Condition, Alternative, Loop, Call, File, Over, Closed, Left, Ended, Unclosed, Bad, Stop, Go, Under, got, behind_skipped}
 use Rattle.expand_model.specs.Steps as model
-use Rattle.asm_expand.specs.declared.expansion.Expansion.{Expansion}
+use Rattle.asm_variables.specs.declared.expansion.Expansion.{Expansion}
 use Rattle.asm_expand.specs.declared.places.Place.{Place}
 use Rattle.asm_expand.specs.declared.steps.Depth.{Depth}
 use Rattle.asm_expand.specs.declared.steps.End.{End}
@@ -17,7 +17,7 @@ use Rattle.asm_expand.specs.declared.steps.Frame.{Frame}
 use Rattle.asm_expand.specs.declared.steps.Frame.TheVariants as frame
 use Rattle.asm_expand.specs.declared.steps.Next.{Next}
 use Rattle.asm_expand.specs.declared.steps.Next.TheVariants as next
-use Rattle.asm_expand.specs.Expanding.{HasScope, Represents}
+use Rattle.asm_variables.specs.Expanding.{HasScope, Represents}
 use Rattle.asm_expand.specs.Places.{place_lines}
 
 abbrev pub depth_of : Depth → model.Depth

@@ -1,5 +1,5 @@
 -- Steps of the code behind lines that ended. This project's.
-use Rattle.std.specs.Prelude.{◌≡◌, List, ◌∷◌, Bool, true, false, Option, Some, None}
+use Rattle.std.specs.Prelude.{◌≡◌, List, ◌∷◌, Bool, true, false, Option, Some}
 use Rattle.asm_model.specs.declared.lines.Line.{Line}
 use Rattle.expand_model.specs.declared.operations.Operation.{Operation}
 use Rattle.expand_model.specs.declared.operations.Operation.TheVariants.{While}
@@ -8,20 +8,21 @@ use Rattle.expand_model.specs.States as states
 use Rattle.expand_model.specs.Steps.{Sources, Context}
 use Rattle.expand_model.specs.Steps as model
 use Rattle.expand_model.specs.Substitution.{substituted}
-use Rattle.asm_expand.specs.declared.expansion.Expansion.{Expansion}
-use Rattle.asm_expand.specs.declared.expansion.Scope.{Scope}
+use Rattle.asm_variables.specs.declared.expansion.Expansion.{Expansion}
+use Rattle.asm_variables.specs.declared.expansion.Scope.{Scope}
 use Rattle.asm_expand.specs.declared.places.Place.{Place}
 use Rattle.asm_expand.specs.declared.steps.End.{End}
 use Rattle.asm_expand.specs.declared.steps.Frame.{Frame}
 use Rattle.asm_expand.specs.declared.steps.Next.{Next}
-use Rattle.asm_expand.specs.Expanding.{HasScope, Represents}
+use Rattle.asm_variables.specs.Expanding.{HasScope, Represents}
 use Rattle.asm_expand.specs.Places.{place_lines}
 use Rattle.asm_expand.specs.Saying.{IsEnd, IsFirst, IsFrame, Shows}
 
 -- what follows the lines of a construct that a word closes
 abbrev pub Closes : Place → Operation → Place → Expansion → Expansion → Next → (Line → model.End → model.Next) → Type 0
 Closes at o word old new n f =
-    (sources : Sources) (l m : Line) (s : State) (rest : List Line) → IsFirst at l → place_lines word ≡ m ∷ rest → Represents old s
+    (sources : Sources) (l m : Line) (s : State) (rest : List Line)
+    → IsFirst at l → place_lines word ≡ m ∷ rest → Represents old s
     → Shows sources new n (f l (model.Closed o m s rest))
 
 -- what follows the lines of a construct
@@ -38,12 +39,14 @@ IsWhile c l holds = (s : State) → Represents c s → holds ≡ model.is_while 
 
 abbrev pub Repeats : Place → Place → Expansion → Next → Type 0
 Repeats at word c n =
-    (sources : Sources) (l m : Line) (ls rest : List Line) (s : State) → place_lines at ≡ l ∷ ls → place_lines word ≡ m ∷ rest → Represents c s
+    (sources : Sources) (l m : Line) (ls rest : List Line) (s : State)
+    → place_lines at ≡ l ∷ ls → place_lines word ≡ m ∷ rest → Represents c s
     → Shows sources c n (model.again l ls m s)
 
 abbrev pub ClosesLoop : Place → Operation → Place → Expansion → Next → Type 0
 ClosesLoop at o word c n =
-    (sources : Sources) (l m : Line) (ls rest : List Line) (s : State) → place_lines at ≡ l ∷ ls → place_lines word ≡ m ∷ rest → Represents c s
+    (sources : Sources) (l m : Line) (ls rest : List Line) (s : State)
+    → place_lines at ≡ l ∷ ls → place_lines word ≡ m ∷ rest → Represents c s
     → Shows sources c n (model.behind_turn l ls (model.Closed o m s rest))
 
 abbrev pub TurnsLoop : Place → End → Expansion → Next → Type 0

@@ -3,18 +3,18 @@
 ghost use Rattle.std.specs.Prelude.{◌≡◌, ◌≤◌, ◌++◌, IfOk};
 ghost use Rattle.expand_model.specs.Known.{value_of};
 ghost use Rattle.expand_model.specs.Steps as model;
-ghost use Rattle.asm_expand.specs.Known.{WasRead};
+ghost use Rattle.asm_variables.specs.Known.{WasRead};
 ghost use Rattle.asm_expand.specs.Saying.{Says, SkipsFrom, Shortens, depth_of};
-ghost use Rattle.asm_expand.specs.Steps.{words_shown};
+ghost use Rattle.asm_variables.specs.Steps.{words_shown};
 
-use crate::expansion::Expansion;
 use crate::faults::{opening_fault, settle};
-use crate::pairing::{Skipping, skip};
 use crate::places::Place;
 use crate::steps::{Depth, End, Frame, Next};
-use crate::values::value_of;
-use crate::words::Words;
 use asm_model::{Expr, Value};
+use asm_variables::expansion::Expansion;
+use asm_variables::pairing::{Skipping, skip};
+use asm_variables::values::value_of;
+use asm_variables::words::Words;
 use expand_model::Opening;
 use sdt_fault::NoMemory;
 use sdt_fault::kinds::LineKind;
@@ -97,7 +97,8 @@ pub fn say_if(
 ) -> Result<Next, NoMemory>
     requires { WasRead operand.now }
     ensures says { IfOk result (λ next. Says at state.old state.new next (λ s l ls.
-        model.valued l (model.label_kinds (words_shown words.entry) ++ model.depth_kinds (depth_of depth)) (model.truth (value_of s operand.now)) (model.branch l s ls))) }
+        model.valued l (model.label_kinds (words_shown words.entry) ++ model.depth_kinds (depth_of depth))
+        (model.truth (value_of s operand.now)) (model.branch l s ls))) }
     ensures visits { state.new.visits ≤ state.old.visits }
 {
     let value = value_of(alloc, state, operand)?;
@@ -120,7 +121,8 @@ pub fn say_while(
 ) -> Result<Next, NoMemory>
     requires { WasRead operand.now }
     ensures says { IfOk result (λ next. Says at state.old state.new next (λ s l ls.
-        model.valued l (model.label_kinds (words_shown words.entry) ++ model.depth_kinds (depth_of depth)) (model.truth (value_of s operand.now)) (model.loop l s ls))) }
+        model.valued l (model.label_kinds (words_shown words.entry) ++ model.depth_kinds (depth_of depth))
+        (model.truth (value_of s operand.now)) (model.loop l s ls))) }
     ensures visits { state.new.visits ≤ state.old.visits }
 {
     let value = value_of(alloc, state, operand)?;

@@ -9,14 +9,14 @@ ghost use Rattle.asm_expand.specs.Places.{place_lines};
 ghost use Rattle.asm_expand.specs.declared.steps.Next.TheVariants as next;
 ghost use Rattle.asm_expand.specs.Leading.{Caused, Closes, Gets, IsBadAt, IsDeeper, IsFault, IsRefusal, IsShallower, LedOn, OfFiles, Opens, OutermostEnd, RunsTo, Smaller, Starts, weight};
 
-use crate::expansion::Expansion;
 use crate::places::Place;
 use crate::reading::read;
 use crate::steps::{Depth, End, Frame, Next};
 use crate::turning::turn;
-use crate::variables::Tables;
 use asm_lines::split_lines;
 use asm_model::{Flat, bad_line};
+use asm_variables::expansion::Expansion;
+use asm_variables::variables::Tables;
 use sdt_fault::answer::Fault;
 use sdt_fault::kinds::LineKind;
 use sdt_fault::refusal::Refusal;
@@ -264,8 +264,10 @@ pub fn expand<S: Store>(
     text: &[u8],
     store: &mut S,
 ) -> Result<Vec<Flat>, Fault>
-    ensures flats { IfOk result (λ flats. OfFiles (S.files store.old) (λ sources. Expands sources visit_limit source.now text.now (Flats flats.items))) }
-    ensures fault { IfErr result (λ e. OfFiles (S.files store.old) (λ sources. IsFault e (λ o. Expands sources visit_limit source.now text.now o))) }
+    ensures flats { IfOk result (λ flats. OfFiles (S.files store.old) (λ sources.
+        Expands sources visit_limit source.now text.now (Flats flats.items))) }
+    ensures fault { IfErr result (λ e. OfFiles (S.files store.old) (λ sources.
+        IsFault e (λ o. Expands sources visit_limit source.now text.now o))) }
     ensures cause { IfErr result (λ e. Caused e (S.files store.old) (Rose (S.read_faults store.old) (S.read_faults store.new))) }
     ensures files { S.files store.new ≡ S.files store.old }
     ensures read_faults { S.read_faults store.old ≤ S.read_faults store.new }

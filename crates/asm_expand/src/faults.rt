@@ -5,13 +5,13 @@ ghost use Rattle.asm_model.specs.Kinds.{told_kind};
 ghost use Rattle.expand_model.specs.Steps as model;
 ghost use Rattle.expand_model.specs.Words.{is_empty};
 ghost use Rattle.asm_expand.specs.Saying.{depth_of, settled};
-ghost use Rattle.asm_expand.specs.Steps.{words_shown};
+ghost use Rattle.asm_variables.specs.Steps.{words_shown};
 
-use crate::operands::operand_text;
 use crate::steps::Depth;
-use crate::words::Words;
 use asm_expr::kinds::earlier;
 use asm_expr::told::{first_told, kind_if};
+use asm_variables::operands::operand_text;
+use asm_variables::words::Words;
 use sdt_fault::kinds::LineKind;
 
 /// How many constructs may be open: IF, WHILE and calls together.

@@ -44,7 +44,8 @@ impl Place {
 
     /// The first of the lines.
     pub fn first(&self) -> Option<&Line>
-        ensures { MatchOption result (place_lines self.now ≡ []) (λ line. place_lines self.now ≡ line.now ∷ drop 1 (place_lines self.now)) }
+        ensures { MatchOption result (place_lines self.now ≡ []) (λ line.
+            place_lines self.now ≡ line.now ∷ drop 1 (place_lines self.now)) }
     {
         match self.rest().split_first() {
             None => None,

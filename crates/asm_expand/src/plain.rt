@@ -3,19 +3,19 @@
 ghost use Rattle.std.specs.Prelude.{◌≡◌, ◌≤◌, IfOk, OnOk};
 ghost use Rattle.expand_model.specs.Steps as model;
 ghost use Rattle.expand_model.specs.Words.{as_name, words_of};
-ghost use Rattle.asm_expand.specs.Known.{WasRead};
+ghost use Rattle.asm_variables.specs.Known.{WasRead};
 ghost use Rattle.asm_expand.specs.Plain.{IsFlat, IsNumber, Labels, Numbers, Pushes};
 ghost use Rattle.asm_expand.specs.Saying.{Says};
 
-use crate::expansion::Expansion;
-use crate::maps::{add, put};
 use crate::places::Place;
-use crate::prototypes::name_of;
 use crate::steps::{End, Next};
-use crate::values::known_number;
-use crate::words::words_of;
 use asm_expr::operands::is;
 use asm_model::{Expr, Flat, is_called};
+use asm_variables::expansion::Expansion;
+use asm_variables::maps::{add, put};
+use asm_variables::prototypes::name_of;
+use asm_variables::values::known_number;
+use asm_variables::words::words_of;
 use sdt_fault::kinds::LineKind;
 use sdt_fault::{Bytes, NoMemory, Text};
 use std::alloc::Global;

@@ -1,7 +1,7 @@
 //! What lines say, what is open at a place, and how lines end.
 
-use crate::expansion::Scope;
 use crate::places::Place;
+use asm_variables::expansion::Scope;
 use expand_model::Operation;
 use sdt_fault::Text;
 use sdt_fault::kinds::LineKind;

@@ -6,13 +6,13 @@ ghost use Rattle.asm_expand.specs.Saying.{Shortens};
 ghost use Rattle.asm_expand.specs.Turning.{Answers, Closes, ClosesLoop, IsWhile, Repeats, Resumes, Returns, Turns, TurnsLoop, names_while};
 
 use crate::conditions::skip_from;
-use crate::expansion::{Expansion, Scope};
-use crate::operations::operation_of;
 use crate::places::Place;
 use crate::steps::{End, Frame, Next};
-use crate::substitution::substitute;
-use crate::words::words_of;
 use asm_model::Line;
+use asm_variables::expansion::{Expansion, Scope};
+use asm_variables::operations::operation_of;
+use asm_variables::substitution::substitute;
+use asm_variables::words::words_of;
 use expand_model::{Opening, Operation};
 use sdt_fault::NoMemory;
 use sdt_fault::kinds::LineKind;

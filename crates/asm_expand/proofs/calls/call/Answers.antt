@@ -4,9 +4,9 @@ use Rattle.asm_model.specs.Kinds.{told_kind}
 use Rattle.expand_model.specs.declared.macros.Prototype.{Prototype}
 use Rattle.expand_model.specs.Prototypes.{argument_rows, call_kinds, label_rows, scope_of}
 use Rattle.expand_model.specs.Steps.{depth_kinds}
-use Rattle.asm_expand.specs.Expanding.{HasScope}
+use Rattle.asm_variables.specs.Expanding.{HasScope}
 use Rattle.asm_expand.specs.Saying.{depth_of}
-use Rattle.asm_expand.specs.Steps.{words_shown}
+use Rattle.asm_variables.specs.Steps.{words_shown}
 use Rattle.asm_expand.proofs.calls.call.Goals as goal
 
 pub returns-clause-says : goal.returns-clause-says

@@ -4,7 +4,7 @@ use Rattle.expand_model.specs.Steps.{label_kinds, depth_kinds, truth, loop}
 use Rattle.expand_model.specs.Steps as model
 use Rattle.asm_expand.specs.declared.steps.Next.TheVariants as next
 use Rattle.asm_expand.specs.Saying.{Shows, depth_of}
-use Rattle.asm_expand.specs.Steps.{words_shown}
+use Rattle.asm_variables.specs.Steps.{words_shown}
 use Rattle.asm_expand.proofs.SayingLemmas.{shows_bad, valued_bad}
 use Rattle.asm_expand.proofs.conditions.say_while.Goals as goal
 

@@ -1,4 +1,4 @@
-use Rattle.std.proofs.Common.{◌≡◌, ℕ, List, [], ◌∷◌, ◌++◌, Bool, ◌||◌, refl, sym, ap, ◌∙◌, Option}
+use Rattle.std.proofs.Common.{ℕ, List, [], ◌∷◌, ◌++◌, Bool, ◌||◌, refl, sym, ap, ◌∙◌, Option}
 use Rattle.std.specs.List.{list_any}
 use Rattle.asm_model.specs.declared.lines.Flat.{Flat}
 use Rattle.asm_model.specs.Directives.{or_else}
@@ -6,7 +6,7 @@ use Rattle.asm_model.specs.Forms.{same}
 use Rattle.expand_model.specs.States.{found}
 use Rattle.expand_model.specs.Steps.{number_rows}
 use Rattle.expand_model.specs.Words.{listed}
-use Rattle.asm_expand.proofs.MapLemmas.{found_append}
+use Rattle.asm_variables.proofs.MapLemmas.{found_append}
 use Rattle.asm_expand.proofs.PlainLemmas.{labels_listed}
 use Rattle.asm_expand.proofs.plain.push_flat.Goals as goal
 

@@ -1,5 +1,4 @@
-use Rattle.std.proofs.Common.{◌≡◌, drop, refl, rules, sym}
-use Rattle.std.specs.Prelude.{Ok}
+use Rattle.std.proofs.Common.{drop, refl}
 use Rattle.std.proofs.lemmas.Result.{IfOk-weaker}
 use Rattle.expand_model.specs.States.{visited}
 use Rattle.asm_expand.specs.Places.{place_lines}

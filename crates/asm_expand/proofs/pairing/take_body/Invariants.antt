@@ -1,9 +1,0 @@
-use Rattle.std.proofs.Common.{◌-◌, length}
-use Rattle.asm_expand.proofs.pairing.take_body.Given as goal
-use Rattle.asm_expand.proofs.TakingLemmas.{IsTaking}
-
-abbrev pub invariant-lines : goal.invariant-lines
-invariant-lines l = IsTaking l.visits l.lines l.at
-
-abbrev pub decreases-lines : goal.decreases-lines
-decreases-lines l = length l.lines - l.at

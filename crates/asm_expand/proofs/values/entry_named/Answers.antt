@@ -1,7 +1,0 @@
-use Rattle.std.proofs.Common.{sym, ap, ◌∙◌, Some}
-use Rattle.std.proofs.lemmas.Result.{IfOk-weaker}
-use Rattle.asm_expand.proofs.KnownLemmas.{entry_some}
-use Rattle.asm_expand.proofs.values.entry_named.Goals as goal
-
-pub returns : goal.returns
-returns c = λ s r. rw c.in_ok-entry.ensures (entry_some c.args.sight c.args.name.now s c.in-Some.value (sym c.in-Some.is ∙ c.in_ok-found.ensures s r))

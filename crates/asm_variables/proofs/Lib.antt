@@ -1,0 +1,10 @@
+pub mod KnownLemmas
+pub mod MapLemmas
+pub mod MeaningLemmas
+pub mod OperandLemmas
+pub mod PairLemmas
+pub mod PrototypeLemmas
+pub mod StateLemmas
+pub mod SubstitutionLemmas
+pub mod TakingLemmas
+pub mod ValueLemmas

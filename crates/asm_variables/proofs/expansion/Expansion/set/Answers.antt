@@ -1,0 +1,16 @@
+use Rattle.std.proofs.Common.{sym, ◌∙◌}
+use Rattle.std.proofs.lemmas.Result.{on_ok_weaker}
+use Rattle.asm_variables.proofs.StateLemmas.{local_set, global_set}
+use Rattle.asm_variables.proofs.expansion.Expansion.set.Goals as goal
+
+pub returns-then-contains_key-clause-state : goal.returns-then-contains_key-clause-state
+returns-then-contains_key-clause-state c =
+    on_ok_weaker c.replace.result
+    (λ h. local_set c.args.self.now c.replace.new.map c.args.name c.args.value (sym c.contains_key.ensures ∙ c.if-contains_key.true) h)
+    c.replace.ensures
+
+pub returns-clause-state : goal.returns-clause-state
+returns-clause-state c =
+    on_ok_weaker c.replace-2.result
+    (λ h. global_set c.args.self.now c.replace-2.new.map c.args.name c.args.value (sym c.contains_key.ensures ∙ c.if-contains_key.false) h)
+    c.replace-2.ensures

@@ -1,0 +1,16 @@
+use Rattle.std.proofs.Common.{List, None, ap, ◌∙◌}
+use Rattle.asm_model.specs.declared.exprs.ExprItem.{ExprItem}
+use Rattle.asm_variables.specs.Entries.{items_entries}
+use Rattle.asm_variables.specs.Known.{all_entries}
+use Rattle.asm_variables.proofs.ValueLemmas.{with_small}
+use Rattle.asm_variables.proofs.values.value_known.Goals as goal
+
+pub returns : goal.returns
+returns c =
+    λ s r.
+    let list =
+    c.from_vec.ensures ∙ c.in_ok-list.ensures s r
+    ∙ ap (λ (is : List ExprItem). items_entries (all_entries c.args.sight s) is) c.as_slice.ensures in
+    with_small c.args.sight s c.args.e.now.items _ c.evaluated.result
+    (λ i. record { list = list i; area = None; offset = 0; map = 0; thumb = r.thumb i })
+    c.evaluated.ensures

@@ -1,0 +1,63 @@
+-- Expressions of expansion: what the code knows of names in them. This project's.
+use Rattle.std.specs.Prelude.{◌≡◌, ℕ, List, [], ◌∷◌, ◌++◌, ◌||◌, not, Bool, true, false, if◌then◌else◌, Option, Some, None, Ok, Err}
+use Rattle.std.specs.Option.{is_some}
+use Rattle.asm_model.specs.declared.exprs.ExprItem.{ExprItem}
+use Rattle.asm_model.specs.declared.exprs.ExprItem.TheVariants as item
+use Rattle.asm_model.specs.declared.exprs.Part.{Part}
+use Rattle.asm_model.specs.declared.exprs.UnaryOp.TheVariants as unary
+use Rattle.asm_model.specs.declared.names.LaidName.{LaidName}
+use Rattle.asm_model.specs.declared.values.Value.{Value}
+use Rattle.asm_model.specs.declared.values.Value.TheVariants.{Number}
+use Rattle.asm_model.specs.Directives.{or_else}
+use Rattle.asm_model.specs.Grammar.{Tree, postfix, IsSpelled}
+use Rattle.asm_model.specs.Meaning.{named_in}
+use Rattle.expand_model.specs.Known.{Operand, variable_entries, number_entries, label_entries}
+use Rattle.expand_model.specs.States.{State, found, variable}
+use Rattle.asm_variables.specs.declared.values.Sight.{Sight}
+use Rattle.asm_variables.specs.declared.values.Sight.TheVariants as sight
+
+-- items that tokens spell
+pub record IsExpression (items : List ExprItem) : Type 0 where
+  pub parts : List Part
+  pub tree : Tree
+  pub spelled : IsSpelled parts tree
+  pub are : items ≡ postfix tree
+
+abbrev pub WasRead : Operand → Type 0
+WasRead (Ok e) = IsExpression e.items
+WasRead (Err k) = Unit {0}
+
+-- the names with values
+abbrev pub entries_in : Sight → State → List LaidName
+entries_in sight.Everything s = variable_entries s ++ number_entries s
+entries_in sight.Numbers s = number_entries s
+
+-- all names
+abbrev pub all_entries : Sight → State → List LaidName
+all_entries v s = entries_in v s ++ label_entries s
+
+abbrev pub number_value : Option ℕ → Option Value
+number_value None = None
+number_value (Some n) = Some (Number n)
+
+-- the value for which a name stands
+abbrev pub value_in : Sight → State → List ℕ → Option Value
+value_in sight.Everything s q = or_else (variable s q) (number_value (found q s.numbers))
+value_in sight.Numbers s q = number_value (found q s.numbers)
+
+-- whether :DEF: stands first
+abbrev pub is_asked : List ExprItem → Bool
+is_asked (item.Unary unary.Defined ∷ is) = true
+is_asked _ = false
+
+-- whether an item has a fault, before :DEF: or not
+abbrev pub is_unknown : List LaidName → Bool → ExprItem → Bool
+is_unknown values asked (item.Name q) = if asked then false else not (is_some (named_in q values))
+is_unknown values asked (item.Local q) = true
+is_unknown values asked item.Here = true
+is_unknown values asked item.Map = true
+is_unknown values asked _ = false
+
+abbrev pub has_unknown : List LaidName → List ExprItem → Bool
+has_unknown values [] = false
+has_unknown values (i ∷ is) = is_unknown values (is_asked is) i || has_unknown values is

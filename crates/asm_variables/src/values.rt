@@ -1,0 +1,306 @@
+//! Values of expressions, by the variables and the numbers of EQUs.
+
+ghost use Rattle.std.specs.Prelude.{◌≡◌, false, IfOk, OnOk, Ok};
+ghost use Rattle.asm_model.specs.Entries.{valued_entry};
+ghost use Rattle.asm_model.specs.Meaning.{Evaluates};
+ghost use Rattle.expand_model.specs.Known as model;
+ghost use Rattle.asm_variables.specs.declared.values.Sight.TheVariants as sight;
+ghost use Rattle.asm_variables.specs.Known.{IsExpression, WasRead};
+ghost use Rattle.asm_variables.specs.Known as known;
+ghost use Rattle.asm_variables.specs.Valued.{Gives, HasEntries, HasUnknown, HasValue, IsEntry, IsLabel, IsNamed, IsUnknown, IsValueOf, Knows, PushesItem, PushesName, Values};
+
+use crate::expansion::Expansion;
+use asm_expr::told::told_value;
+use asm_expr::{NameIndex, evaluate_indexed};
+use asm_model::{EvalFault, Expr, ExprItem, LaidName, Names, UnaryOp, Value};
+use sdt_fault::kinds::LineKind;
+use sdt_fault::{List, NoMemory, Text};
+use std::alloc::Global;
+
+/// Which names have values.
+#[derive(Clone, Copy, Debug)]
+pub enum Sight {
+    /// Variables, and numbers of EQUs.
+    Everything,
+    /// Numbers of EQUs.
+    Numbers,
+}
+
+fn number_named(state: &Expansion, name: &Text) -> Option<Value>
+    ensures { IsNamed sight.Numbers state.now name.now result }
+{
+    match state.numbers.get(name) {
+        None => None,
+        Some(number) => Some(Value::Number(*number)),
+    }
+}
+
+/// The value for which a name stands.
+#[tactic(auto, using(crate::proofs::StateLemmas::tables_of))]
+fn value_named(
+    alloc: Global,
+    state: &Expansion,
+    sight: Sight,
+    name: &Text,
+) -> Result<Option<Value>, NoMemory>
+    ensures { IfOk result (λ value. IsNamed sight state.now name.now value) }
+{
+    match sight {
+        Sight::Numbers => Ok(number_named(state, name)),
+        Sight::Everything => match state.tables.variable(name) {
+            None => Ok(number_named(state, name)),
+            Some(value) => Ok(Some(value.try_clone(alloc)?)),
+        },
+    }
+}
+
+/// Whether a name stands for a value.
+#[tactic(auto, using(crate::proofs::StateLemmas::tables_of))]
+fn has_value(state: &Expansion, sight: Sight, name: &Text) -> bool
+    ensures { HasValue sight state.now name.now result }
+{
+    match sight {
+        Sight::Numbers => state.numbers.contains_key(name),
+        Sight::Everything => {
+            state.tables.variable(name).is_some() || state.numbers.contains_key(name)
+        }
+    }
+}
+
+/// Whether one of the names with values is this one.
+fn knows(state: &Expansion, sight: Sight, name: &Text) -> bool
+    ensures { Knows sight state.now name.now result }
+{
+    has_value(state, sight, name)
+}
+
+/// Whether an item has a fault, before `:DEF:` or not.
+fn is_unknown(state: &Expansion, sight: Sight, asked: bool, item: &ExprItem) -> bool
+    ensures { IsUnknown sight state.now asked item.now result }
+{
+    match item {
+        ExprItem::Name(name) => !asked && !knows(state, sight, name),
+        ExprItem::Local(_) => true,
+        ExprItem::Here => true,
+        ExprItem::Map => true,
+        _ => false,
+    }
+}
+
+/// Whether `:DEF:` stands first.
+fn is_asked(items: &[ExprItem]) -> bool
+    ensures { result ≡ known.is_asked items.now }
+{
+    match items {
+        [ExprItem::Unary(UnaryOp::Defined), ..] => true,
+        _ => false,
+    }
+}
+
+/// Whether a name in an expression has no value.
+fn has_unknown(state: &Expansion, sight: Sight, items: &[ExprItem]) -> bool
+    ensures { HasUnknown sight state.now items.now result }
+{
+    let mut left = items;
+    'items: loop {
+        match left {
+            [] => return false,
+            [item, behind @ ..] => {
+                if is_unknown(state, sight, is_asked(behind), item) {
+                    return true;
+                }
+                left = behind;
+            }
+        }
+    }
+}
+
+/// An entry with a value of its own.
+fn entry_of(alloc: Global, name: &Text, value: Value) -> Result<LaidName, NoMemory>
+    ensures { IfOk result (λ entry. entry ≡ valued_entry name.now value false) }
+{
+    let name = name.try_clone(alloc)?;
+    Ok(LaidName {
+        name,
+        value,
+        area: None,
+        offset: 0,
+        size: 0,
+        thumb: false,
+    })
+}
+
+/// The entry of a name in label fields.
+#[tactic(auto, using(crate::proofs::KnownLemmas::named_label))]
+fn label_named(alloc: Global, state: &Expansion, name: &Text) -> Result<Option<LaidName>, NoMemory>
+    ensures { IfOk result (λ entry. IsLabel state.now name.now entry) }
+{
+    if !state.labels.contains(name) {
+        return Ok(None);
+    }
+    let entry = entry_of(alloc, name, Value::Number(0))?;
+    Ok(Some(entry))
+}
+
+/// The entry of a name.
+#[tactic(auto, using(crate::proofs::KnownLemmas::entry_none))]
+fn entry_named(
+    alloc: Global,
+    state: &Expansion,
+    sight: Sight,
+    name: &Text,
+) -> Result<Option<LaidName>, NoMemory>
+    ensures { IfOk result (λ entry. IsEntry sight state.now name.now entry) }
+{
+    let found = value_named(alloc, state, sight, name)?;
+    let Some(value) = found else {
+        return label_named(alloc, state, name);
+    };
+    let entry = entry_of(alloc, name, value)?;
+    Ok(Some(entry))
+}
+
+/// The entry of a name, where it has one.
+fn push_name(
+    alloc: Global,
+    state: &Expansion,
+    sight: Sight,
+    list: &mut Vec<LaidName>,
+    name: &Text,
+) -> Result<(), NoMemory>
+    ensures { OnOk result (PushesName sight state.now name.now list.old.items list.new.items) }
+{
+    match entry_named(alloc, state, sight, name)? {
+        None => Ok(()),
+        Some(entry) => {
+            list.push(entry)?;
+            Ok(())
+        }
+    }
+}
+
+/// The entry of an item that is a name.
+fn push_item(
+    alloc: Global,
+    state: &Expansion,
+    sight: Sight,
+    list: &mut Vec<LaidName>,
+    item: &ExprItem,
+) -> Result<(), NoMemory>
+    ensures { OnOk result (PushesItem sight state.now item.now list.old.items list.new.items) }
+{
+    match item {
+        ExprItem::Name(name) => push_name(alloc, state, sight, list, name),
+        _ => Ok(()),
+    }
+}
+
+/// The entries of the names in an expression.
+fn entries_of(
+    alloc: Global,
+    state: &Expansion,
+    sight: Sight,
+    items: &[ExprItem],
+) -> Result<Vec<LaidName>, NoMemory>
+    ensures { IfOk result (λ list. HasEntries sight state.now items.now list.items) }
+{
+    let mut list = Vec::new(alloc);
+    'items: for item in items {
+        push_item(alloc, state, sight, &mut list, item)?;
+    }
+    Ok(list)
+}
+
+/// The value of an expression with these names.
+fn evaluated(alloc: Global, e: &Expr, names: &Names) -> Result<Value, EvalFault>
+    ensures { Evaluates names.now e.now.items result }
+{
+    let list = names.list.as_slice();
+    if list.len() > 0xFFFF_FFFF {
+        return Err(EvalFault::NoMemory);
+    }
+    let index = NameIndex::of(alloc, list)?;
+    evaluate_indexed(alloc, e, names, &index)
+}
+
+/// The value of an expression whose names have values.
+fn value_known(alloc: Global, state: &Expansion, sight: Sight, e: &Expr) -> Result<Value, EvalFault>
+    ensures { Gives sight state.now e.now.items result }
+{
+    let list = entries_of(alloc, state, sight, e.items.as_slice())?;
+    let names = Names {
+        list: List::from_vec(list),
+        area: None,
+        offset: 0,
+        map: 0,
+        thumb: state.thumb,
+    };
+    evaluated(alloc, e, &names)
+}
+
+/// The value of an expression, or the kind of its fault.
+fn expression_value(
+    alloc: Global,
+    state: &Expansion,
+    sight: Sight,
+    e: &Expr,
+) -> Result<Result<Value, LineKind>, NoMemory>
+    requires { IsExpression e.now.items }
+    ensures { IfOk result (λ value. IsValueOf sight state.now (Ok e.now) value) }
+{
+    if has_unknown(state, sight, e.items.as_slice()) {
+        return Ok(Err(LineKind::Forward));
+    }
+    told_value(value_known(alloc, state, sight, e))
+}
+
+/// The value of what stands behind an operation, with these names.
+fn value_with(
+    alloc: Global,
+    state: &Expansion,
+    sight: Sight,
+    operand: &Result<Expr, LineKind>,
+) -> Result<Result<Value, LineKind>, NoMemory>
+    requires { WasRead operand.now }
+    ensures { IfOk result (λ value. IsValueOf sight state.now operand.now value) }
+{
+    match operand {
+        Ok(e) => expression_value(alloc, state, sight, e),
+        Err(kind) => Ok(Err(*kind)),
+    }
+}
+
+/// The value of an expression of IF, WHILE, SETA, SETL or SETS.
+#[tactic(auto, unfolding(expand_model::specs::Known::value_of))]
+pub fn value_of(
+    alloc: Global,
+    state: &Expansion,
+    operand: &Result<Expr, LineKind>,
+) -> Result<Result<Value, LineKind>, NoMemory>
+    requires { WasRead operand.now }
+    ensures { IfOk result (λ value. Values state.now (λ s. value ≡ model.value_of s operand.now)) }
+{
+    value_with(alloc, state, Sight::Everything, operand)
+}
+
+fn as_number(value: Result<Value, LineKind>) -> Option<u32>
+    ensures { result ≡ model.as_number value }
+{
+    match value {
+        Ok(Value::Number(number)) => Some(number),
+        _ => None,
+    }
+}
+
+/// The number that an EQU's expression is, where it is known without the layout.
+#[tactic(auto, unfolding(expand_model::specs::Known::known_number))]
+pub fn known_number(
+    alloc: Global,
+    state: &Expansion,
+    operand: &Result<Expr, LineKind>,
+) -> Result<Option<u32>, NoMemory>
+    requires { WasRead operand.now }
+    ensures { IfOk result (λ number. Values state.now (λ s. number ≡ model.known_number s operand.now)) }
+{
+    Ok(as_number(value_with(alloc, state, Sight::Numbers, operand)?))
+}
