@@ -1,4 +1,5 @@
-//! Carries out the cases of the files that its words name, and tells which of them fail.
+//! Carries out the cases of the files that its words name, and tells which of them fail. The files behind a word `--` hold wrong
+//! cases, each of which must fail; what is told of these is told last.
 #![tactic(auto)]
 
 use case_runner::{Tool, check_files};
@@ -26,7 +27,7 @@ impl Tool for Toolkit {
     }
 }
 
-/// The status is 0 where all cases pass, 1 where one fails, and 2 where that can't be told.
+/// The status is 0 where all cases pass but for the wrong ones, 1 where one fails, and 2 where that can't be told.
 fn main(rt: HostRuntime) -> ExitCode {
     match check(&rt) {
         Ok(0) => ExitCode::from(0),
@@ -35,14 +36,27 @@ fn main(rt: HostRuntime) -> ExitCode {
     }
 }
 
-// The number of cases that fail.
+// The number of cases that fail and are not meant to.
 fn check(rt: &HostRuntime) -> io::Result<u64> {
     let mut names = Vec::new(rt.alloc());
     for name in env::args(rt)?.skip(1) {
         names.push(name)?;
     }
+    let names = names.as_slice();
+    match names.iter().position(|name| name.as_str() == "--") {
+        None => report(rt, names),
+        Some(end) => {
+            let failed = report(rt, &names[..end])?;
+            report(rt, &names[end + 1..])?;
+            Ok(failed)
+        }
+    }
+}
+
+// Tells which cases of these files fail, and gives their number.
+fn report(rt: &HostRuntime, names: &[String]) -> io::Result<u64> {
     let mut files = FileStore::new(rt.clone()?);
-    let Ok(report) = check_files(rt.alloc(), &Toolkit, &mut files, names.as_slice()) else {
+    let Ok(report) = check_files(rt.alloc(), &Toolkit, &mut files, names) else {
         return Err(io::ErrorKind::OutOfMemory.into());
     };
     let mut output = rt.stdout();

@@ -11,7 +11,7 @@ use Rattle.chunk_file.specs.Reading.{◌>>=◌}
 use Rattle.aof_object.specs.declared.records.Object.{Object}
 use Rattle.arm7_bus.specs.Seats.{Seat}
 use Rattle.boot_code.specs.Boots.{ByteMap}
-use Rattle.armasm_core.specs.Standing.{StandsWherePlaced}
+use Rattle.armasm_core.specs.Standing.{StandsFrom}
 use Rattle.link_model.specs.declared.images.Image.{Image}
 use Rattle.link_model.specs.declared.selection.Named.{Named}
 use Rattle.link_model.specs.Chosen.{AreLinked, taken}
@@ -31,7 +31,8 @@ use Rattle.tool_library.specs.declared.linkables.Linkable.TheVariants as input
 use Rattle.sdt_toolkit.specs.Commands.{Commanded}
 use Rattle.sdt_toolkit.specs.Headline.{Headline, IsLinkedInto, Reaches, SourcesStand}
 use Rattle.sdt_toolkit.specs.Inputs.{Behind, InputBy, InputIs, InputsAre, IsSource, NamedIs, as_object, is_source_name, named, objects_among, archives_among, with_name}
-use Rattle.sdt_toolkit.specs.Links.{FilesAsk, ImageIs, InputsMake, IsInMemory, LinkAnswers, LinkAsks, LinkMakes, ReadAsks, behind_first, filed, files_read, inputs_in, is_long, outputs, read_by, text_in, too_large, writes_all}
+use Rattle.sdt_toolkit.specs.Reads.{Reads, reads_of}
+use Rattle.sdt_toolkit.specs.Links.{FilesAsk, ImageIs, InputsMake, IsInMemory, LinkAnswers, LinkAsks, LinkMakes, ReadAsks, WordsAsk, behind_first, filed, files_read, inputs_in, is_long, outputs, read_by, text_in, too_large, writes_all}
 use Rattle.sdt_toolkit.specs.Starting.{AreShownIn, IsShownIn, Loads, Starts}
 
 -- ---- answers
@@ -78,37 +79,37 @@ input_at files (first ∷ names) contents h (suc k) name text at holds =
 
 -- ---- the object of a source
 
-pub record IsObjectAmong (os : List (Named Object)) (name text : List ℕ) : Type 0 where
+pub record IsObjectAmong (told : Option Files) (os : List (Named Object)) (name text : List ℕ) : Type 0 where
   pub place : ℕ
   pub object : Named Object
   pub at : slice_get os place ≡ Some object
-  pub stands : StandsWherePlaced name text object.value
+  pub stands : StandsFrom told name text object.value
 
-in_front : (xs ys : List (Named Object)) (name text : List ℕ) → IsObjectAmong xs name text → IsObjectAmong (xs ++ ys) name text
-in_front xs ys name text h = record { place = h.place; object = h.object; at = go xs h.place h.at; stands = h.stands }
+in_front : (told : Option Files) (xs ys : List (Named Object)) (name text : List ℕ) → IsObjectAmong told xs name text → IsObjectAmong told (xs ++ ys) name text
+in_front told xs ys name text h = record { place = h.place; object = h.object; at = go xs h.place h.at; stands = h.stands }
   where
     go : (zs : List (Named Object)) (k : ℕ) → slice_get zs k ≡ Some h.object → slice_get (zs ++ ys) k ≡ Some h.object
     go [] k e = absurd cc
     go (z ∷ zs) zero e = e
     go (z ∷ zs) (suc k) e = go zs k e
 
-one_behind : (o : Option (Named Object)) (os : List (Named Object)) (name text : List ℕ) → IsObjectAmong os name text → IsObjectAmong (cons_option o os) name text
-one_behind None os name text h = h
-one_behind (Some o) os name text h = record { place = suc h.place; object = h.object; at = h.at; stands = h.stands }
+one_behind : (told : Option Files) (o : Option (Named Object)) (os : List (Named Object)) (name text : List ℕ) → IsObjectAmong told os name text → IsObjectAmong told (cons_option o os) name text
+one_behind told None os name text h = h
+one_behind told (Some o) os name text h = record { place = suc h.place; object = h.object; at = h.at; stands = h.stands }
 
-source_first : (name text : List ℕ) (x : Named Linkable) (xs : List (Named Linkable)) → is_source_name name ≡ true → NamedIs true name text (Ok x) → IsObjectAmong (objects_among (x ∷ xs)) name text
-source_first name text x xs is h =
-    let source : IsSource name text h.0 = subst (λ (b : Bool). InputBy b name text h.0) is h.1 in
+source_first : (s : Reads) (name text : List ℕ) (x : Named Linkable) (xs : List (Named Linkable)) → is_source_name name ≡ true → NamedIs s true name text (Ok x) → IsObjectAmong s.told (objects_among (x ∷ xs)) name text
+source_first s name text x xs is h =
+    let source : IsSource s name text h.0 = subst (λ (b : Bool). InputBy s b name text h.0) is h.1 in
     let (l, made, as_named) = steps_ok h.0 (λ x. Ok (named name x)) x (sym h.2) in
     let (o, object, as_input) = steps_ok source.object (λ o. Ok (input.Object o)) l (sym source.as_input ∙ made) in
     let whole : named name (input.Object o) ≡ x = ap (named name) (ok_same (input.Object o) l as_input) ∙ ok_same (named name l) x as_named in
-    let first : IsObjectAmong (objects_among (named name (input.Object o) ∷ xs)) name text = record {
+    let first : IsObjectAmong s.told (objects_among (named name (input.Object o) ∷ xs)) name text = record {
       place = 0;
       object = record { name = name; «module» = (named name (input.Object o)).«module»; value = o };
       at = refl;
       stands = source.stands o object;
     } in
-    subst (λ (y : Named Linkable). IsObjectAmong (objects_among (y ∷ xs)) name text) whole first
+    subst (λ (y : Named Linkable). IsObjectAmong s.told (objects_among (y ∷ xs)) name text) whole first
 
 behind_first_is : (first : Result (Named Linkable) Refusal) (others : Result (List (Named Linkable)) Refusal → Type 0) (xs : List (Named Linkable)) → Behind first others (Ok xs)
     → (x : Named Linkable) × (ys : List (Named Linkable)) × (first ≡ Ok x) × others (Ok ys) × (x ∷ ys ≡ xs)
@@ -117,21 +118,21 @@ behind_first_is (Ok x) others xs h =
     let (ys, rest, whole) = steps_ok h.0 (λ ys. Ok (x ∷ ys)) xs (sym h.2) in
     (x, ys, refl, subst others rest h.1, ok_same (x ∷ ys) xs whole)
 
-source_at : (names contents : List (List ℕ)) (xs : List (Named Linkable)) → InputsAre true names contents (Ok xs) → (k : ℕ) (name text : List ℕ) → slice_get names k ≡ Some name
-    → slice_get contents k ≡ Some text → is_source_name name ≡ true → IsObjectAmong (objects_among xs) name text
-source_at [] contents xs h k name text at there is = absurd cc
-source_at (n ∷ names) [] xs h k name text at there is = absurd cc
-source_at (n ∷ names) (bytes ∷ contents) xs h zero name text at there is =
-    let (x, ys, first, rest, whole) = behind_first_is h.0 (InputsAre true names contents) xs h.2 in
+source_at : (s : Reads) (names contents : List (List ℕ)) (xs : List (Named Linkable)) → InputsAre s true names contents (Ok xs) → (k : ℕ) (name text : List ℕ) → slice_get names k ≡ Some name
+    → slice_get contents k ≡ Some text → is_source_name name ≡ true → IsObjectAmong s.told (objects_among xs) name text
+source_at s [] contents xs h k name text at there is = absurd cc
+source_at s (n ∷ names) [] xs h k name text at there is = absurd cc
+source_at s (n ∷ names) (bytes ∷ contents) xs h zero name text at there is =
+    let (x, ys, first, rest, whole) = behind_first_is h.0 (InputsAre s true names contents) xs h.2 in
     let same_name : n ≡ name = cc in
     let same_text : bytes ≡ text = cc in
-    let one : NamedIs true name text (Ok x) =
-    subst (λ (t : List ℕ). NamedIs true name t (Ok x)) same_text (subst (λ (q : List ℕ). NamedIs true q bytes (Ok x)) same_name (subst (NamedIs true n bytes) first h.1)) in
-    subst (λ (zs : List (Named Linkable)). IsObjectAmong (objects_among zs) name text) whole (source_first name text x ys is one)
-source_at (n ∷ names) (bytes ∷ contents) xs h (suc k) name text at there is =
-    let (x, ys, first, rest, whole) = behind_first_is h.0 (InputsAre true names contents) xs h.2 in
-    subst (λ (zs : List (Named Linkable)). IsObjectAmong (objects_among zs) name text) whole
-    (one_behind (as_object x.name x.«module» x.value) (objects_among ys) name text (source_at names contents ys rest k name text at there is))
+    let one : NamedIs s true name text (Ok x) =
+    subst (λ (t : List ℕ). NamedIs s true name t (Ok x)) same_text (subst (λ (q : List ℕ). NamedIs s true q bytes (Ok x)) same_name (subst (NamedIs s true n bytes) first h.1)) in
+    subst (λ (zs : List (Named Linkable)). IsObjectAmong s.told (objects_among zs) name text) whole (source_first s name text x ys is one)
+source_at s (n ∷ names) (bytes ∷ contents) xs h (suc k) name text at there is =
+    let (x, ys, first, rest, whole) = behind_first_is h.0 (InputsAre s true names contents) xs h.2 in
+    subst (λ (zs : List (Named Linkable)). IsObjectAmong s.told (objects_among zs) name text) whole
+    (one_behind s.told (as_object x.name x.«module» x.value) (objects_among ys) name text (source_at s names contents ys rest k name text at there is))
 
 -- ---- the image in memory
 
@@ -153,9 +154,9 @@ pub record IsLeftBy (sources : Bool) (w : LinkWords) (before : Files) (after : O
   pub link : IsLinkedInto sources w before after view
   pub stand : sources ≡ true → SourcesStand w.names before view
 
-module _ (sources : Bool) (w : LinkWords) (before : Files) (after : Option Files) where
+module _ (s : Reads) (sources : Bool) (w : LinkWords) (before : Files) (after : Option Files) (over : s.told ≡ Some before) where
   image_left : (contents : List (List ℕ)) (fs : List OutFile) (inputs : List (Named Linkable)) (i : Image) (image : Result Image Refusal)
-      → inputs_of before (files_read w) ≡ Ok contents → InputsAre sources w.names (inputs_in w.form contents) (Ok inputs)
+      → inputs_of before (files_read w) ≡ Ok contents → InputsAre s sources w.names (inputs_in w.form contents) (Ok inputs)
       → ImageIs w.form (text_in w.form contents) w.ram inputs image → image ≡ Ok i → filed w.output i ≡ Ok fs → after ≡ Some (written before (outputs fs))
       → IsLeftBy sources w before after
   image_left contents fs inputs i image read judged is made files left =
@@ -163,11 +164,13 @@ module _ (sources : Bool) (w : LinkWords) (before : Files) (after : Option Files
       record {
         view = view;
         link = record {
+          reads = s;
           contents = contents;
           inputs = inputs;
           objects = is.objects;
           image = i;
           read = read;
+          told = over;
           judged = judged;
           linked = is.linked;
           left = left ∙ ap (λ (x : List OutFile). Some (written before (outputs x))) (filed_as w.output i fs files);
@@ -176,17 +179,18 @@ module _ (sources : Bool) (w : LinkWords) (before : Files) (after : Option Files
         };
         stand = λ sourced k name text at source holds.
             let there = input_at before w.names (inputs_in w.form contents) (under_names before w.form w.names contents read) k name text at holds in
-            let among : IsObjectAmong (objects_among inputs) name text =
-            source_at w.names (inputs_in w.form contents) inputs (subst (λ (b : Bool). InputsAre b w.names (inputs_in w.form contents) (Ok inputs)) sourced judged) k name text at there source in
-            let found : IsObjectAmong is.objects name text =
-            subst (λ (os : List (Named Object)). IsObjectAmong os name text) (sym is.linked.in_order)
-            (in_front (objects_among inputs) (taken is.linked.chosen 0 (members_of (archives_among inputs))) name text among) in
+            let among : IsObjectAmong s.told (objects_among inputs) name text =
+            source_at s w.names (inputs_in w.form contents) inputs (subst (λ (b : Bool). InputsAre s b w.names (inputs_in w.form contents) (Ok inputs)) sourced judged) k name text at there source in
+            let found : IsObjectAmong s.told is.objects name text =
+            subst (λ (os : List (Named Object)). IsObjectAmong s.told os name text) (sym is.linked.in_order)
+            (in_front s.told (objects_among inputs) (taken is.linked.chosen 0 (members_of (archives_among inputs))) name text among) in
             let seen : IsShownIn view found.object.value = shown found.place found.object found.at in
-            (seen.values, seen.region, found.stands seen.number seen.values seen.area_at view seen.region seen.veneers seen.placed seen.shown);
+            let stands : StandsFrom (Some before) name text found.object.value = subst (λ (t : Option Files). StandsFrom t name text found.object.value) over found.stands in
+            (seen.values, seen.region, stands seen.number seen.values seen.area_at view seen.region seen.veneers seen.placed seen.shown);
       }
 
   inputs_left : (contents : List (List ℕ)) (fs : List OutFile) (inputs : Result (List (Named Linkable)) Refusal) (made : Result (List OutFile) Refusal)
-      → inputs_of before (files_read w) ≡ Ok contents → InputsAre sources w.names (inputs_in w.form contents) inputs
+      → inputs_of before (files_read w) ≡ Ok contents → InputsAre s sources w.names (inputs_in w.form contents) inputs
       → InputsMake w (text_in w.form contents) inputs made → made ≡ Ok fs → after ≡ Some (written before (outputs fs)) → IsLeftBy sources w before after
   inputs_left contents fs (Err r) made read judged h ok left = never (IsLeftBy sources w before after) fs r (sym h ∙ ok)
   inputs_left contents fs (Ok xs) made read judged h ok left =
@@ -199,23 +203,23 @@ module _ (sources : Bool) (w : LinkWords) (before : Files) (after : Option Files
       left ∙ ap (λ (o : Outcome). Some (written before o.files)) (sym all)
 
   read_left : (contents : Result (List (List ℕ)) Refusal) (asked : Result Outcome Refusal) (out : Outcome) → inputs_of before (files_read w) ≡ contents
-      → ReadAsks sources w contents asked → asked ≡ Ok out → after ≡ Some (written before out.files) → IsLeftBy sources w before after
+      → ReadAsks s sources w contents asked → asked ≡ Ok out → after ≡ Some (written before out.files) → IsLeftBy sources w before after
   read_left (Err r) asked out read h ok left = never (IsLeftBy sources w before after) out r (sym h ∙ ok)
   read_left (Ok contents) asked out read h ok left =
       let (fs, made, writes) = steps_ok h.made writes_all out (sym h.outcome ∙ ok) in
       inputs_left contents fs h.makes.inputs h.made read h.makes.judged h.makes.files made (files_left out fs writes left)
 
-  told_left : (told : Option Files) (rose : Type 0) (asked : Result Outcome Refusal) (out : Outcome) → told ≡ Some before → FilesAsk sources w told rose asked → asked ≡ Ok out
-      → AreWritten told after out.files → IsLeftBy sources w before after
-  told_left told rose asked out is h ok left =
-      read_left (inputs_of before (files_read w)) asked out refl (subst (λ (t : Option Files). FilesAsk sources w t rose asked) is h) ok
-      (subst (λ (t : Option Files). AreWritten t after out.files) is left)
+  told_left : (asked : Result Outcome Refusal) (out : Outcome) → WordsAsk s sources w asked → asked ≡ Ok out
+      → AreWritten s.told after out.files → IsLeftBy sources w before after
+  told_left asked out h ok left =
+      read_left (inputs_of before (files_read w)) asked out refl (subst (λ (t : Option Files). FilesAsk t s sources w asked) over h) ok
+      (subst (λ (t : Option Files). AreWritten t after out.files) over left)
 
 link_left : (sources : Bool) (w : LinkWords) (o : Outside) (before : Files) → o.before ≡ Some before → LinkAnswers sources w o answer.Done → IsLeftBy sources w before o.after
 unfolding LinkAnswers
 link_left sources w o before told h =
     let says = h.2 in
-    told_left sources w before o.after o.before (Rose o.reads o.reads_now) h.0 says.0 told h.1 says.1 says.2
+    told_left (reads_of o) sources w before o.after told h.0 says.0 h.1 says.1 says.2
 
 pub headline : (x : Result Command ℕ) (o : Outside) (seats left : List Seat) (a : Answer) → Commanded x o seats left a → Headline x o.before o.after a
 unfolding Commanded

@@ -7,18 +7,22 @@ use Rattle.std.specs.List.{list_any, cons_option, AllByRecursion}
 use Rattle.sdt_fault.specs.declared.answer.Fault.{Fault}
 use Rattle.sdt_fault.specs.declared.answer.Fault.TheVariants as fault
 use Rattle.sdt_fault.specs.declared.refusal.Refusal.{Refusal}
+use Rattle.sdt_outside.specs.Counts.{Rose}
+use Rattle.sdt_outside.specs.Files.{Files}
 use Rattle.chunk_file.specs.Reading.{◌>>=◌, Gives}
 use Rattle.aof_object.specs.declared.records.Object.{Object}
 use Rattle.aof_object.specs.Validity as object
 use Rattle.alf_archive.specs.declared.records.Archive.{Archive}
 use Rattle.alf_archive.specs.Grammar as library
-use Rattle.armasm_core.specs.Assembling.{Assembles}
-use Rattle.armasm_core.specs.Standing.{StandsWherePlaced}
+use Rattle.armasm_core.specs.Assembling.{Assembles, IsCaused}
+use Rattle.armasm_core.specs.Standing.{StandsFrom}
 use Rattle.link_model.specs.declared.selection.Named.{Named}
 use Rattle.tool_library.specs.declared.linkables.Linkable.{Linkable}
 use Rattle.tool_library.specs.declared.linkables.Linkable.TheVariants as input
 use Rattle.tool_library.specs.Linkables.{linkable_of, IsValidInput}
-use Rattle.sdt_toolkit.specs.Inputs.{AreValid, InputBy, InputIs, InputsAre, IsSource, NamedIs, Tells, archives_among, as_archive, as_object, last_part, named, objects_among}
+use Rattle.sdt_toolkit.specs.Inputs.{AreValid, InputBy, InputIs, InputsAre, IsSource, Judges, NamedIs, archives_among, as_archive, as_object, last_part, named, objects_among}
+use Rattle.sdt_toolkit.specs.Reads.{Reads, IsAmong, TellsOf}
+use Rattle.sdt_toolkit.proofs.ReadLemmas.{assembled_among, cause_among, failed_among}
 
 -- ---- the last part of a name
 
@@ -61,43 +65,63 @@ part_other name part i lt differs h =
 
 -- ---- an input
 
-pub assembled_as : (name bytes : List ℕ) (o : Object) → Assembles name bytes (Ok o) → StandsWherePlaced name bytes o → IsSource name bytes (Ok (input.Object o))
-assembled_as name bytes o h stands = record {
-  object = Ok o;
-  assembled = h;
-  as_input = refl;
-  stands = λ p e. subst (StandsWherePlaced name bytes) (let same : ◌≡◌ {A = Result Object Refusal} (Ok o) (Ok p) = e in let is : o ≡ p = cc in is) stands;
-}
+module _ (told : Option Files) (before now : ℕ) (s : Reads) (among : IsAmong told before now s) where
+  pub assembled_as : (name bytes : List ℕ) (o : Object) → Assembles told name bytes (Ok o) → StandsFrom told name bytes o → IsSource s name bytes (Ok (input.Object o))
+  assembled_as name bytes o h stands = record {
+    object = Ok o;
+    assembled = assembled_among told before now s among name bytes (Ok o) h;
+    caused = tt;
+    as_input = refl;
+    stands = λ p e.
+        let same : ◌≡◌ {A = Result Object Refusal} (Ok o) (Ok p) = e in
+        let is : o ≡ p = cc in
+        subst (StandsFrom s.told name bytes) is (subst (λ (t : Option Files). StandsFrom t name bytes o) (sym among.files) stands);
+  }
 
-pub unassembled_as : (name bytes : List ℕ) (f : Fault) → Assembles name bytes (Err f) → Tells {A = Linkable} (Err f) (IsSource name bytes)
-unassembled_as name bytes (fault.Refused r) h = record {
-  object = Err r;
-  assembled = h;
-  as_input = refl;
-  stands = λ p e. absurd (let bad : ◌≡◌ {A = Result Object Refusal} (Err r) (Ok p) = e in cc);
-}
-unassembled_as name bytes (fault.ReadFault q) h = h
-unassembled_as name bytes fault.NoMemory h = tt
+  pub unassembled_as : (name bytes : List ℕ) (f : Fault) → Assembles told name bytes (Err f) → IsCaused told (Rose before now) f
+      → TellsOf {A = Linkable} s (Err f) (IsSource s name bytes)
+  unassembled_as name bytes (fault.Refused r) h cause = record {
+    object = Err r;
+    assembled = assembled_among told before now s among name bytes (Err r) h;
+    caused = cause_among told before now s among r cause;
+    as_input = refl;
+    stands = λ p e. absurd (let bad : ◌≡◌ {A = Result Object Refusal} (Err r) (Ok p) = e in cc);
+  }
+  unassembled_as name bytes (fault.ReadFault q) h cause = failed_among told before now s among cause
+  unassembled_as name bytes fault.NoMemory h cause = tt
 
-pub by_source : (b : Bool) (name bytes : List ℕ) (r : Result Linkable Fault) → b ≡ true → Tells r (IsSource name bytes) → Tells r (InputBy b name bytes)
-by_source b name bytes r is h = subst (λ (x : Bool). Tells r (InputBy x name bytes)) (sym is) h
+-- a read of a source may fail
+judged_source : (s : Reads) (sources : Bool) (name bytes : List ℕ) (r : Result Linkable Fault) → sources ≡ true → TellsOf s r (IsSource s name bytes)
+    → Judges s sources r (InputBy s true name bytes)
+judged_source s sources name bytes (Ok x) taken h = h
+judged_source s sources name bytes (Err (fault.Refused r)) taken h = h
+judged_source s sources name bytes (Err (fault.ReadFault q)) taken h = (taken, h)
+judged_source s sources name bytes (Err fault.NoMemory) taken h = tt
 
-by_file_so : (name bytes : List ℕ) (r : Result Linkable Fault) → Gives r (linkable_of name bytes) → Tells r (InputBy false name bytes)
-by_file_so name bytes (Ok x) h = sym h
-by_file_so name bytes (Err (fault.Refused e)) h = sym h
-by_file_so name bytes (Err (fault.ReadFault q)) h = h
-by_file_so name bytes (Err fault.NoMemory) h = tt
+pub by_source : (s : Reads) (sources b : Bool) (name bytes : List ℕ) (r : Result Linkable Fault) → sources ≡ true → b ≡ true → TellsOf s r (IsSource s name bytes)
+    → Judges s sources r (InputBy s b name bytes)
+by_source s sources b name bytes r taken is h =
+    subst (λ (x : Bool). Judges s sources r (InputBy s x name bytes)) (sym is) (judged_source s sources name bytes r taken h)
 
-pub by_file : (b : Bool) (name bytes : List ℕ) (r : Result Linkable Fault) → b ≡ false → Gives r (linkable_of name bytes) → Tells r (InputBy b name bytes)
-by_file b name bytes r is h = subst (λ (x : Bool). Tells r (InputBy x name bytes)) (sym is) (by_file_so name bytes r h)
+by_file_so : (s : Reads) (sources : Bool) (name bytes : List ℕ) (r : Result Linkable Fault) → Gives r (linkable_of name bytes) → Judges s sources r (InputBy s false name bytes)
+by_file_so s sources name bytes (Ok x) h = sym h
+by_file_so s sources name bytes (Err (fault.Refused e)) h = sym h
+by_file_so s sources name bytes (Err (fault.ReadFault q)) h = absurd h
+by_file_so s sources name bytes (Err fault.NoMemory) h = tt
 
-pub named_so : (sources : Bool) (name bytes : List ℕ) (x : Linkable) → InputIs sources name bytes (Ok x) → NamedIs sources name bytes (Ok (named name x))
-named_so sources name bytes x h = (Ok x, h, refl)
+pub by_file : (s : Reads) (sources b : Bool) (name bytes : List ℕ) (r : Result Linkable Fault) → b ≡ false → Gives r (linkable_of name bytes)
+    → Judges s sources r (InputBy s b name bytes)
+by_file s sources b name bytes r is h =
+    subst (λ (x : Bool). Judges s sources r (InputBy s x name bytes)) (sym is) (by_file_so s sources name bytes r h)
 
-pub unnamed : (sources : Bool) (name bytes : List ℕ) (f : Fault) → Tells {A = Linkable} (Err f) (InputIs sources name bytes) → Tells {A = Named Linkable} (Err f) (NamedIs sources name bytes)
-unnamed sources name bytes (fault.Refused r) h = (Err r, h, refl)
-unnamed sources name bytes (fault.ReadFault q) h = h
-unnamed sources name bytes fault.NoMemory h = tt
+pub named_so : (s : Reads) (sources : Bool) (name bytes : List ℕ) (x : Linkable) → InputIs s sources name bytes (Ok x) → NamedIs s sources name bytes (Ok (named name x))
+named_so s sources name bytes x h = (Ok x, h, refl)
+
+pub unnamed : (s : Reads) (sources : Bool) (name bytes : List ℕ) (f : Fault) → Judges {A = Linkable} s sources (Err f) (InputIs s sources name bytes)
+    → Judges {A = Named Linkable} s sources (Err f) (NamedIs s sources name bytes)
+unnamed s sources name bytes (fault.Refused r) h = (Err r, h, refl)
+unnamed s sources name bytes (fault.ReadFault q) h = h
+unnamed s sources name bytes fault.NoMemory h = tt
 
 -- ---- inputs in order
 
@@ -118,37 +142,41 @@ behind_one xs x (Ok ys) = ap Ok (sym (append_assoc xs (x ∷ []) ys))
 behind_one xs x (Err r) = refl
 
 -- what the inputs from a place on give, behind those before it, is what all give
-abbrev pub IsBehind : Bool → List (List ℕ) → List (List ℕ) → ℕ → Inputs → Type 0
-IsBehind sources names contents k xs =
-    (rest : Result Inputs Refusal) → InputsAre sources (drop k names) (drop k contents) rest → InputsAre sources names contents (behind xs rest)
+abbrev pub IsBehind : Reads → Bool → List (List ℕ) → List (List ℕ) → ℕ → Inputs → Type 0
+IsBehind s sources names contents k xs =
+    (rest : Result Inputs Refusal) → InputsAre s sources (drop k names) (drop k contents) rest → InputsAre s sources names contents (behind xs rest)
 
-pub begun : (sources : Bool) (names contents : List (List ℕ)) → IsBehind sources names contents 0 []
-begun sources names contents = λ rest h. subst (InputsAre sources names contents) (sym (behind_none rest)) h
+pub begun : (s : Reads) (sources : Bool) (names contents : List (List ℕ)) → IsBehind s sources names contents 0 []
+begun s sources names contents = λ rest h. subst (InputsAre s sources names contents) (sym (behind_none rest)) h
 
 at_place : (xs : List (List ℕ)) (k : ℕ) (x : List ℕ) → k < length xs → x ≡ get_or xs k x → drop k xs ≡ x ∷ drop (k + 1) xs
 at_place xs k x lt is = rw add-one (drop-cons xs k x lt ∙ ap (λ (y : List ℕ). y ∷ drop (suc k) xs) (sym is))
 
-pub one_more : (sources : Bool) (names contents : List (List ℕ)) (k : ℕ) (xs : Inputs) (name bytes : List ℕ) (x : Named Linkable) → k < length names → name ≡ get_or names k name
-    → k < length contents → bytes ≡ get_or contents k bytes → NamedIs sources name bytes (Ok x) → IsBehind sources names contents k xs → IsBehind sources names contents (k + 1) (xs ++ x ∷ [])
-one_more sources names contents k xs name bytes x lt name_is lt' bytes_is is before = λ rest h.
-    let here : InputsAre sources (name ∷ drop (k + 1) names) (bytes ∷ drop (k + 1) contents) (rest >>= λ ys. Ok (x ∷ ys)) = (Ok x, is, (rest, h, refl)) in
-    let there : InputsAre sources (drop k names) (drop k contents) (rest >>= λ ys. Ok (x ∷ ys)) = rw (at_place names k name lt name_is, at_place contents k bytes lt' bytes_is) here in
-    subst (InputsAre sources names contents) (behind_one xs x rest) (before (rest >>= λ ys. Ok (x ∷ ys)) there)
+-- the same among all reads that these are among
+abbrev pub AreBehind : Option Files → ℕ → ℕ → Bool → List (List ℕ) → List (List ℕ) → ℕ → Inputs → Type 0
+AreBehind told before now sources names contents k xs = (s : Reads) → IsAmong told before now s → IsBehind s sources names contents k xs
 
-pub one_refused : (sources : Bool) (names contents : List (List ℕ)) (k : ℕ) (xs : Inputs) (name bytes : List ℕ) (f : Fault) → k < length names → name ≡ get_or names k name
-    → k < length contents → bytes ≡ get_or contents k bytes → Tells {A = Named Linkable} (Err f) (NamedIs sources name bytes) → IsBehind sources names contents k xs
-    → Tells {A = Inputs} (Err f) (InputsAre sources names contents)
-one_refused sources names contents k xs name bytes (fault.Refused r) lt name_is lt' bytes_is is before =
-    let here : InputsAre sources (name ∷ drop (k + 1) names) (bytes ∷ drop (k + 1) contents) (Err r) = (Err r, is, refl) in
-    let there : InputsAre sources (drop k names) (drop k contents) (Err r) = rw (at_place names k name lt name_is, at_place contents k bytes lt' bytes_is) here in
-    before (Err r) there
-one_refused sources names contents k xs name bytes (fault.ReadFault q) lt name_is lt' bytes_is is before = is
-one_refused sources names contents k xs name bytes fault.NoMemory lt name_is lt' bytes_is is before = tt
+module _ (s : Reads) (sources : Bool) (names contents : List (List ℕ)) (k : ℕ) (xs : Inputs) (name bytes : List ℕ) (lt : k < length names) (name_is : name ≡ get_or names k name)
+    (lt' : k < length contents) (bytes_is : bytes ≡ get_or contents k bytes) (before : IsBehind s sources names contents k xs) where
+  pub one_more : (x : Named Linkable) → NamedIs s sources name bytes (Ok x) → IsBehind s sources names contents (k + 1) (xs ++ x ∷ [])
+  one_more x is = λ rest h.
+      let here : InputsAre s sources (name ∷ drop (k + 1) names) (bytes ∷ drop (k + 1) contents) (rest >>= λ ys. Ok (x ∷ ys)) = (Ok x, is, (rest, h, refl)) in
+      let there : InputsAre s sources (drop k names) (drop k contents) (rest >>= λ ys. Ok (x ∷ ys)) = rw (at_place names k name lt name_is, at_place contents k bytes lt' bytes_is) here in
+      subst (InputsAre s sources names contents) (behind_one xs x rest) (before (rest >>= λ ys. Ok (x ∷ ys)) there)
 
-pub all_judged : (sources : Bool) (names contents : List (List ℕ)) (k : ℕ) (xs : Inputs) → drop k names ≡ [] → IsBehind sources names contents k xs → InputsAre sources names contents (Ok xs)
-all_judged sources names contents k xs none before =
-    let there : InputsAre sources (drop k names) (drop k contents) (Ok []) = rw none refl in
-    subst (λ (ys : Inputs). InputsAre sources names contents (Ok ys)) (append-nil xs) (before (Ok []) there)
+  pub one_refused : (f : Fault) → Judges {A = Named Linkable} s sources (Err f) (NamedIs s sources name bytes) → Judges {A = Inputs} s sources (Err f) (InputsAre s sources names contents)
+  one_refused (fault.Refused r) is =
+      let here : InputsAre s sources (name ∷ drop (k + 1) names) (bytes ∷ drop (k + 1) contents) (Err r) = (Err r, is, refl) in
+      let there : InputsAre s sources (drop k names) (drop k contents) (Err r) = rw (at_place names k name lt name_is, at_place contents k bytes lt' bytes_is) here in
+      before (Err r) there
+  one_refused (fault.ReadFault q) is = is
+  one_refused fault.NoMemory is = tt
+
+pub all_judged : (s : Reads) (sources : Bool) (names contents : List (List ℕ)) (k : ℕ) (xs : Inputs) → drop k names ≡ [] → IsBehind s sources names contents k xs
+    → InputsAre s sources names contents (Ok xs)
+all_judged s sources names contents k xs none before =
+    let there : InputsAre s sources (drop k names) (drop k contents) (Ok []) = rw none refl in
+    subst (λ (ys : Inputs). InputsAre s sources names contents (Ok ys)) (append-nil xs) (before (Ok []) there)
 
 -- ---- objects and libraries among them
 

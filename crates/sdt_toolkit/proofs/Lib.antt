@@ -5,6 +5,7 @@ mod ImageLemmas
 mod InputLemmas
 mod LinkLemmas
 mod LinkOnce
+mod ReadLemmas
 mod HeadlineLemmas
 mod SoundLemmas
 mod StartLemmas

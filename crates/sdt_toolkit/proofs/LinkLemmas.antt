@@ -22,8 +22,9 @@ use Rattle.tool_answers.specs.Inputs.{AreInputs, InputsEnd, inputs_of, IsReached
 use Rattle.tool_answers.specs.Outcomes.{Outcome, Outside, IsLeft, Says}
 use Rattle.tool_library.specs.declared.linkables.Linkable.{Linkable}
 use Rattle.tool_library.specs.Libraries.{end_answer, fault_answer}
-use Rattle.sdt_toolkit.specs.Inputs.{InputsAre, Tells}
-use Rattle.sdt_toolkit.specs.Links.{AllWritten, FilesAsk, ImageIs, InputsMake, LinkAnswers, LinkAsks, LinkMakes, LinkSays, ReadAsks, filed, files_read, inputs_in, outputs, read_by, text_in, writes_all}
+use Rattle.sdt_toolkit.specs.Inputs.{InputsAre, Judges, Tells}
+use Rattle.sdt_toolkit.specs.Reads.{Reads, HasFailed, reads_of}
+use Rattle.sdt_toolkit.specs.Links.{AllWritten, FilesAsk, ImageIs, InputsMake, LinkAnswers, LinkAsks, LinkMakes, LinkSays, ReadAsks, WordsAsk, filed, files_read, inputs_in, outputs, read_by, text_in, writes_all}
 
 -- ---- what is read
 
@@ -40,14 +41,14 @@ inputs_short (form.Plain base) contents h k d lt = h k d lt
 
 -- ---- what it makes
 
-abbrev pub Makes : Bool → LinkWords → List (List ℕ) → Result (List OutFile) Fault → Type 0
-Makes sources w contents r = Tells r (LinkMakes sources w contents)
+abbrev pub Makes : Reads → Bool → LinkWords → List (List ℕ) → Result (List OutFile) Fault → Type 0
+Makes s sources w contents r = Judges s sources r (LinkMakes s sources w contents)
 
-pub no_inputs : (sources : Bool) (w : LinkWords) (contents : List (List ℕ)) (f : Fault) → Tells {A = List (Named Linkable)} (Err f) (InputsAre sources w.names (inputs_in w.form contents))
-    → Makes sources w contents (Err f)
-no_inputs sources w contents (fault.Refused r) h = record { inputs = Err r; judged = h; files = refl }
-no_inputs sources w contents (fault.ReadFault q) h = h
-no_inputs sources w contents fault.NoMemory h = tt
+pub no_inputs : (s : Reads) (sources : Bool) (w : LinkWords) (contents : List (List ℕ)) (f : Fault)
+    → Judges {A = List (Named Linkable)} s sources (Err f) (InputsAre s sources w.names (inputs_in w.form contents)) → Makes s sources w contents (Err f)
+no_inputs s sources w contents (fault.Refused r) h = record { inputs = Err r; judged = h; files = refl }
+no_inputs s sources w contents (fault.ReadFault q) h = h
+no_inputs s sources w contents fault.NoMemory h = tt
 
 pub no_image_made : (w : LinkWords) (text : List ℕ) (inputs : List (Named Linkable)) (f : Fault) → Tells {A = Image} (Err f) (ImageIs w.form text w.ram inputs)
     → Tells {A = List OutFile} (Err f) (InputsMake w text (Ok inputs))
@@ -62,26 +63,26 @@ image_made w text inputs i (Err (fault.Refused r)) is h = (Ok i, is, sym h)
 image_made w text inputs i (Err (fault.ReadFault q)) is h = h
 image_made w text inputs i (Err fault.NoMemory) is h = tt
 
-pub inputs_made : (sources : Bool) (w : LinkWords) (contents : List (List ℕ)) (inputs : List (Named Linkable)) (r : Result (List OutFile) Fault)
-    → InputsAre sources w.names (inputs_in w.form contents) (Ok inputs) → Tells r (InputsMake w (text_in w.form contents) (Ok inputs)) → Makes sources w contents r
-inputs_made sources w contents inputs (Ok fs) judged h = record { inputs = Ok inputs; judged = judged; files = h }
-inputs_made sources w contents inputs (Err (fault.Refused r)) judged h = record { inputs = Ok inputs; judged = judged; files = h }
-inputs_made sources w contents inputs (Err (fault.ReadFault q)) judged h = h
-inputs_made sources w contents inputs (Err fault.NoMemory) judged h = tt
+pub inputs_made : (s : Reads) (sources : Bool) (w : LinkWords) (contents : List (List ℕ)) (inputs : List (Named Linkable)) (r : Result (List OutFile) Fault)
+    → InputsAre s sources w.names (inputs_in w.form contents) (Ok inputs) → Tells r (InputsMake w (text_in w.form contents) (Ok inputs)) → Makes s sources w contents r
+inputs_made s sources w contents inputs (Ok fs) judged h = record { inputs = Ok inputs; judged = judged; files = h }
+inputs_made s sources w contents inputs (Err (fault.Refused r)) judged h = record { inputs = Ok inputs; judged = judged; files = h }
+inputs_made s sources w contents inputs (Err (fault.ReadFault q)) judged h = absurd h
+inputs_made s sources w contents inputs (Err fault.NoMemory) judged h = tt
 
 -- ---- what is asked
 
-contents_ask : (sources : Bool) (w : LinkWords) (told : Option Files) (contents : List (List ℕ)) (rose : Type 0) (asked : Result Outcome Refusal)
-    → AreInputs told (files_read w) contents → length contents ≡ length (files_read w) → LinkAsks sources w contents asked → FilesAsk sources w told rose asked
-contents_ask sources w None contents rose asked read count asks = inl (contents, count, asks)
-contents_ask sources w (Some files) contents rose asked read count asks =
-    subst (λ (x : Result (List (List ℕ)) Refusal). ReadAsks sources w x asked) (sym read) asks
+contents_ask : (told : Option Files) (s : Reads) (sources : Bool) (w : LinkWords) (contents : List (List ℕ)) (asked : Result Outcome Refusal)
+    → AreInputs told (files_read w) contents → length contents ≡ length (files_read w) → LinkAsks s sources w contents asked → FilesAsk told s sources w asked
+contents_ask None s sources w contents asked read count asks = inl (contents, count, asks)
+contents_ask (Some files) s sources w contents asked read count asks =
+    subst (λ (x : Result (List (List ℕ)) Refusal). ReadAsks s sources w x asked) (sym read) asks
 
-missing_asks : (sources : Bool) (w : LinkWords) (told : Option Files) (name : List ℕ) (rose : Type 0) → InputsEnd (end.Missing name) told (files_read w) rose
-    → FilesAsk sources w told rose (Err (Missing name))
-missing_asks sources w None name rose h = inr (name, refl, h.0, h.1)
-missing_asks sources w (Some files) name rose h =
-    subst (λ (x : Result (List (List ℕ)) Refusal). ReadAsks sources w x (Err (Missing name))) (sym h) refl
+missing_asks : (told : Option Files) (s : Reads) (sources : Bool) (w : LinkWords) (name : List ℕ) → InputsEnd (end.Missing name) told (files_read w) (HasFailed s)
+    → FilesAsk told s sources w (Err (Missing name))
+missing_asks None s sources w name h = inr (name, refl, h.0, h.1)
+missing_asks (Some files) s sources w name h =
+    subst (λ (x : Result (List (List ℕ)) Refusal). ReadAsks s sources w x (Err (Missing name))) (sym h) refl
 
 -- ---- answers
 
@@ -89,29 +90,29 @@ pub unread : (e : InputEnd) (sources : Bool) (w : LinkWords) (o : Outside) → I
     → LinkAnswers sources w o (end_answer e)
 unfolding LinkAnswers
 unread (end.Missing name) sources w o h left =
-    (Err (Missing name), missing_asks sources w o.before name (Rose o.reads o.reads_now) h, (refl, left))
-unread (end.Failed name) sources w o h left = (h.0, h.1, left)
+    (Err (Missing name), missing_asks o.before (reads_of o) sources w name h, (refl, left))
+unread (end.Failed name) sources w o h left = (h.0, inl h.1, left)
 unread end.NoMemory sources w o h left = inl left
 
 pub refused : (f : Fault) (sources : Bool) (w : LinkWords) (contents : List (List ℕ)) (o : Outside) → AreInputs o.before (files_read w) contents → length contents ≡ length (files_read w)
-    → Makes sources w contents (Err f) → IsLeft o → LinkAnswers sources w o (fault_answer f)
+    → Makes (reads_of o) sources w contents (Err f) → IsLeft o → LinkAnswers sources w o (fault_answer f)
 unfolding LinkAnswers
 refused (fault.Refused r) sources w contents o read count h left =
-    let asks : LinkAsks sources w contents (Err r) = record { made = Err r; makes = h; outcome = refl } in
-    (Err r, contents_ask sources w o.before contents (Rose o.reads o.reads_now) (Err r) read count asks, (refl, left))
-refused (fault.ReadFault q) sources w contents o read count h left = absurd h
+    let asks : LinkAsks (reads_of o) sources w contents (Err r) = record { made = Err r; makes = h; outcome = refl } in
+    (Err r, contents_ask o.before (reads_of o) sources w contents (Err r) read count asks, (refl, left))
+refused (fault.ReadFault q) sources w contents o read count h left = (h.1, inr (h.0, (contents, read)), left)
 refused fault.NoMemory sources w contents o read count h left = inl left
 
 all_of : List OutFile → Outcome
 all_of fs = record { files = outputs fs; prints = [] }
 
-all_asked : (sources : Bool) (w : LinkWords) (contents : List (List ℕ)) (fs : List OutFile) (told : Option Files) (rose : Type 0) → AreInputs told (files_read w) contents
-    → length contents ≡ length (files_read w) → Makes sources w contents (Ok fs) → FilesAsk sources w told rose (Ok (all_of fs))
+all_asked : (s : Reads) (sources : Bool) (w : LinkWords) (contents : List (List ℕ)) (fs : List OutFile) → AreInputs s.told (files_read w) contents
+    → length contents ≡ length (files_read w) → Makes s sources w contents (Ok fs) → WordsAsk s sources w (Ok (all_of fs))
 unfolding all_of
-all_asked sources w contents fs told rose read count h =
-    contents_ask sources w told contents rose (Ok (all_of fs)) read count (record { made = Ok fs; makes = h; outcome = refl })
+all_asked s sources w contents fs read count h =
+    contents_ask s.told s sources w contents (Ok (all_of fs)) read count (record { made = Ok fs; makes = h; outcome = refl })
 
-by_answer : (a : Answer) (sources : Bool) (w : LinkWords) (fs : List OutFile) (o : Outside) → FilesAsk sources w o.before (Rose o.reads o.reads_now) (Ok (all_of fs))
+by_answer : (a : Answer) (sources : Bool) (w : LinkWords) (fs : List OutFile) (o : Outside) → WordsAsk (reads_of o) sources w (Ok (all_of fs))
     → Got o.printed o.prints [] → o.prints ≡ o.printed → AllWritten (outputs fs) o.before o.after (Rose o.writes o.writes_now) a → LinkAnswers sources w o a
 unfolding all_of LinkAnswers
 by_answer answer.Done sources w fs o asked got same k = (Ok (all_of fs), asked, (all_of fs, refl, k, got))
@@ -123,7 +124,7 @@ by_answer answer.SinkFault sources w fs o asked got same k = absurd k
 by_answer (answer.Stopped stop) sources w fs o asked got same k = absurd k
 
 pub wrote : (a : Answer) (sources : Bool) (w : LinkWords) (contents : List (List ℕ)) (fs : List OutFile) (o : Outside) → AreInputs o.before (files_read w) contents
-    → length contents ≡ length (files_read w) → Makes sources w contents (Ok fs) → Got o.printed o.prints [] → o.prints ≡ o.printed
+    → length contents ≡ length (files_read w) → Makes (reads_of o) sources w contents (Ok fs) → Got o.printed o.prints [] → o.prints ≡ o.printed
     → AllWritten (outputs fs) o.before o.after (Rose o.writes o.writes_now) a → LinkAnswers sources w o a
 wrote a sources w contents fs o read count h got same written =
-    by_answer a sources w fs o (all_asked sources w contents fs o.before (Rose o.reads o.reads_now) read count h) got same written
+    by_answer a sources w fs o (all_asked (reads_of o) sources w contents fs read count h) got same written

@@ -5,7 +5,8 @@ use Rattle.sdt_word.specs.declared.ranges.Range32.{Range32}
 use Rattle.sdt_fault.specs.declared.refusal.Refusal.{Refusal}
 use Rattle.chunk_file.specs.Reading.{◌>>=◌}
 use Rattle.aof_object.specs.declared.records.Object.{Object}
-use Rattle.armasm_core.specs.Assembling.{OneAssembly}
+use Rattle.sdt_outside.specs.Files.{Files, content}
+use Rattle.armasm_core.specs.Assembling.{AssembledFrom, OneAssembly}
 use Rattle.armlink_core.specs.Images.{scatter_linking}
 use Rattle.link_model.specs.declared.images.Image.{Image}
 use Rattle.link_model.specs.declared.selection.Named.{Named}
@@ -21,7 +22,8 @@ use Rattle.tool_library.specs.declared.linkables.Linkable.{Linkable}
 use Rattle.tool_library.specs.declared.linkables.Linkable.TheVariants as input
 use Rattle.tool_run.specs.Runs.{AreRanges}
 use Rattle.sdt_toolkit.specs.Inputs.{Behind, InputBy, InputIs, InputsAre, NamedIs, archives_among, is_source_name, objects_among, with_name}
-use Rattle.sdt_toolkit.specs.Links.{ImageIs, InputsMake, IsRam, LinkAsks, LinkMakes, LinksTo, OneLinkAsked, ReadAsks, ScattersTo, filed, files_read, inputs_in, text_in, writes_all}
+use Rattle.sdt_toolkit.specs.Reads.{Reads}
+use Rattle.sdt_toolkit.specs.Links.{FilesAsk, ImageIs, InputsMake, IsRam, LinkAsks, LinkMakes, LinksTo, OneLinkAsked, ReadAsks, ScattersTo, WordsAsk, filed, files_read, inputs_in, text_in, writes_all}
 
 -- ---- inputs
 
@@ -31,16 +33,28 @@ Inputs = List (Named Linkable)
 as_input : Object → Result Linkable Refusal
 as_input o = Ok (input.Object o)
 
-input_once : OneAssembly → (b : Bool) (name bytes : List ℕ) (x y : Result Linkable Refusal) → InputBy b name bytes x → InputBy b name bytes y → x ≡ y
-unfolding as_input
-input_once law true name bytes x y h k =
-    let made : h.object ≡ k.object = law name bytes h.object k.object h.assembled k.assembled in
-    h.as_input ∙ (ap (λ (o : Result Object Refusal). o >>= as_input) made ∙ sym k.as_input)
-input_once law false name bytes x y h k = h ∙ sym k
+-- of files that are told
+abbrev OverFiles : Reads → Files → Type 0
+OverFiles s files = s.told ≡ Some files
 
-named_once : OneAssembly → (sources : Bool) (name bytes : List ℕ) (x y : Result (Named Linkable) Refusal) → NamedIs sources name bytes x → NamedIs sources name bytes y → x ≡ y
-named_once law sources name bytes x y h k =
-    let same : h.0 ≡ k.0 = input_once law (sources && is_source_name name) name bytes h.0 k.0 h.1 k.1 in
+assembled_once : OneAssembly → (s : Reads) (files : Files) → OverFiles s files → (name text : List ℕ) (x y : Result Object Refusal)
+    → AssembledFrom s.told name text x → AssembledFrom s.told name text y → x ≡ y
+assembled_once law s files is name text x y h k =
+    let told = λ (r : Result Object Refusal) (a : AssembledFrom s.told name text r). subst (λ (t : Option Files). AssembledFrom t name text r) is a in
+    law (content files) name text x y (told x h) (told y k)
+
+input_once : OneAssembly → (s : Reads) (files : Files) → OverFiles s files → (b : Bool) (name bytes : List ℕ) (x y : Result Linkable Refusal)
+    → InputBy s b name bytes x → InputBy s b name bytes y → x ≡ y
+unfolding as_input
+input_once law s files is true name bytes x y h k =
+    let made : h.object ≡ k.object = assembled_once law s files is name bytes h.object k.object h.assembled k.assembled in
+    h.as_input ∙ (ap (λ (o : Result Object Refusal). o >>= as_input) made ∙ sym k.as_input)
+input_once law s files is false name bytes x y h k = h ∙ sym k
+
+named_once : OneAssembly → (s : Reads) (files : Files) → OverFiles s files → (sources : Bool) (name bytes : List ℕ) (x y : Result (Named Linkable) Refusal)
+    → NamedIs s sources name bytes x → NamedIs s sources name bytes y → x ≡ y
+named_once law s files is sources name bytes x y h k =
+    let same : h.0 ≡ k.0 = input_once law s files is (sources && is_source_name name) name bytes h.0 k.0 h.1 k.1 in
     h.2 ∙ (ap (with_name name) same ∙ sym k.2)
 
 behind_once : (first : Result (Named Linkable) Refusal) (others : Result Inputs Refusal → Type 0) (x y : Result Inputs Refusal)
@@ -50,13 +64,14 @@ behind_once (Ok first) others x y one h k =
     let same : h.0 ≡ k.0 = one h.0 k.0 h.1 k.1 in
     h.2 ∙ (ap (λ (r : Result Inputs Refusal). r >>= λ xs. Ok (first ∷ xs)) same ∙ sym k.2)
 
-inputs_once : OneAssembly → (sources : Bool) (names contents : List (List ℕ)) (x y : Result Inputs Refusal) → InputsAre sources names contents x → InputsAre sources names contents y → x ≡ y
-inputs_once law sources [] contents x y h k = h ∙ sym k
-inputs_once law sources (name ∷ names) [] x y h k = h ∙ sym k
-inputs_once law sources (name ∷ names) (bytes ∷ contents) x y h k =
-    let first : h.0 ≡ k.0 = named_once law sources name bytes h.0 k.0 h.1 k.1 in
-    let moved : Behind k.0 (InputsAre sources names contents) x = subst (λ (f : Result (Named Linkable) Refusal). Behind f (InputsAre sources names contents) x) first h.2 in
-    behind_once k.0 (InputsAre sources names contents) x y (λ r s. inputs_once law sources names contents r s) moved k.2
+inputs_once : OneAssembly → (s : Reads) (files : Files) → OverFiles s files → (sources : Bool) (names contents : List (List ℕ)) (x y : Result Inputs Refusal)
+    → InputsAre s sources names contents x → InputsAre s sources names contents y → x ≡ y
+inputs_once law s files is sources [] contents x y h k = h ∙ sym k
+inputs_once law s files is sources (name ∷ names) [] x y h k = h ∙ sym k
+inputs_once law s files is sources (name ∷ names) (bytes ∷ contents) x y h k =
+    let first : h.0 ≡ k.0 = named_once law s files is sources name bytes h.0 k.0 h.1 k.1 in
+    let moved : Behind k.0 (InputsAre s sources names contents) x = subst (λ (f : Result (Named Linkable) Refusal). Behind f (InputsAre s sources names contents) x) first h.2 in
+    behind_once k.0 (InputsAre s sources names contents) x y (λ r q. inputs_once law s files is sources names contents r q) moved k.2
 
 -- ---- the ranges that can be written
 
@@ -109,16 +124,20 @@ inputs_make_once law w text (Ok inputs) x y h k =
     let same : h.0 ≡ k.0 = image_once law w.form text w.ram inputs h.0 k.0 h.1 k.1 in
     h.2 ∙ (ap (λ (i : Result Image Refusal). i >>= filed w.output) same ∙ sym k.2)
 
-makes_once : OneAssembly → LinkedLaw → (sources : Bool) (w : LinkWords) (contents : List (List ℕ)) (x y : Result (List OutFile) Refusal) → LinkMakes sources w contents x → LinkMakes sources w contents y → x ≡ y
-makes_once law linked sources w contents x y h k =
-    let same : h.inputs ≡ k.inputs = inputs_once law sources w.names (inputs_in w.form contents) h.inputs k.inputs h.judged k.judged in
+makes_once : OneAssembly → LinkedLaw → (s : Reads) (files : Files) → OverFiles s files → (sources : Bool) (w : LinkWords) (contents : List (List ℕ)) (x y : Result (List OutFile) Refusal)
+    → LinkMakes s sources w contents x → LinkMakes s sources w contents y → x ≡ y
+makes_once law linked s files is sources w contents x y h k =
+    let same : h.inputs ≡ k.inputs = inputs_once law s files is sources w.names (inputs_in w.form contents) h.inputs k.inputs h.judged k.judged in
     inputs_make_once linked w (text_in w.form contents) k.inputs x y (subst (λ (i : Result Inputs Refusal). InputsMake w (text_in w.form contents) i x) same h.files) k.files
 
-read_once : OneAssembly → LinkedLaw → (sources : Bool) (w : LinkWords) (contents : Result (List (List ℕ)) Refusal) (a b : Result Outcome Refusal) → ReadAsks sources w contents a → ReadAsks sources w contents b → a ≡ b
-read_once law linked sources w (Err r) a b h k = h ∙ sym k
-read_once law linked sources w (Ok contents) a b h k =
-    let same : h.made ≡ k.made = makes_once law linked sources w contents h.made k.made h.makes k.makes in
+read_once : OneAssembly → LinkedLaw → (s : Reads) (files : Files) → OverFiles s files → (sources : Bool) (w : LinkWords) (contents : Result (List (List ℕ)) Refusal)
+    (a b : Result Outcome Refusal) → ReadAsks s sources w contents a → ReadAsks s sources w contents b → a ≡ b
+read_once law linked s files is sources w (Err r) a b h k = h ∙ sym k
+read_once law linked s files is sources w (Ok contents) a b h k =
+    let same : h.made ≡ k.made = makes_once law linked s files is sources w contents h.made k.made h.makes k.makes in
     h.outcome ∙ (ap (λ (r : Result (List OutFile) Refusal). r >>= writes_all) same ∙ sym k.outcome)
 
 pub one_link_asked : OneAssembly → LinkedLaw → OneLinkAsked
-one_link_asked law linked sources w files a b h k = read_once law linked sources w (inputs_of files (files_read w)) a b h k
+one_link_asked law linked s sources w files a b is h k =
+    let told = λ (x : Result Outcome Refusal) (asks : WordsAsk s sources w x). subst (λ (t : Option Files). FilesAsk t s sources w x) is asks in
+    read_once law linked s files is sources w (inputs_of files (files_read w)) a b (told a h) (told b k)

@@ -30,6 +30,7 @@ use Rattle.tool_answers.specs.Outcomes.{written}
 use Rattle.tool_library.specs.declared.linkables.Linkable.{Linkable}
 use Rattle.sdt_toolkit.specs.Inputs.{InputsAre, archives_among, is_source_name, objects_among}
 use Rattle.sdt_toolkit.specs.Links.{files_read, inputs_in, outputs}
+use Rattle.sdt_toolkit.specs.Reads.{Reads}
 use Rattle.sdt_toolkit.specs.Starting.{AreShownIn, segments_of}
 
 -- the load regions of a scatter image reach the entry with memory as the view, and those of another are the view, with
@@ -41,12 +42,14 @@ Reaches (form.Plain base) i view = (parts : List ZeroRow) × ((x : ℕ) → zero
 
 -- of the inputs that were read, the linked objects are shown in the view, and the files of their image were written in order
 pub record IsLinkedInto (sources : Bool) (w : LinkWords) (before : Files) (after : Option Files) (view : ByteMap) : Type 0 where
+  pub reads : Reads
   pub contents : List (List ℕ)
   pub inputs : List (Named Linkable)
   pub objects : List (Named Object)
   pub image : Image
   pub read : inputs_of before (files_read w) ≡ Ok contents
-  pub judged : InputsAre sources w.names (inputs_in w.form contents) (Ok inputs)
+  pub told : reads.told ≡ Some before
+  pub judged : InputsAre reads sources w.names (inputs_in w.form contents) (Ok inputs)
   pub linked : AreLinked (objects_among inputs) (archives_among inputs) objects
   pub left : after ≡ Some (written before (outputs (files_of image w.output)))
   pub reaches : Reaches w.form image view
@@ -56,7 +59,7 @@ pub record IsLinkedInto (sources : Bool) (w : LinkWords) (before : Files) (after
 abbrev pub SourcesStand : List (List ℕ) → Files → ByteMap → Type 0
 SourcesStand names files view =
     (k : ℕ) (name text : List ℕ) → slice_get names k ≡ Some name → is_source_name name ≡ true → content files name ≡ Some text
-    → (values : Values) × (region : ℕ → Range32) × SourceStands name text values view region
+    → (values : Values) × (region : ℕ → Range32) × SourceStands (content files) name text values view region
 
 pub record Headline (asked : Result Command ℕ) (told after : Option Files) (a : Answer) : Type 0 where
   pub link : (w : LinkWords) (before : Files) → asked ≡ Ok (command.Link w) → told ≡ Some before → a ≡ answer.Done

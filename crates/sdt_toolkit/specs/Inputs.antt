@@ -8,12 +8,13 @@ use Rattle.sdt_fault.specs.declared.refusal.Refusal.{Refusal}
 use Rattle.chunk_file.specs.Reading.{◌>>=◌}
 use Rattle.aof_object.specs.declared.records.Object.{Object}
 use Rattle.alf_archive.specs.declared.records.Archive.{Archive}
-use Rattle.armasm_core.specs.Assembling.{IsAssembled}
-use Rattle.armasm_core.specs.Standing.{StandsWherePlaced}
+use Rattle.armasm_core.specs.Assembling.{AssembledFrom}
+use Rattle.armasm_core.specs.Standing.{StandsFrom}
 use Rattle.link_model.specs.declared.selection.Named.{Named}
 use Rattle.tool_library.specs.declared.linkables.Linkable.{Linkable}
 use Rattle.tool_library.specs.declared.linkables.Linkable.TheVariants as input
 use Rattle.tool_library.specs.Linkables.{linkable_of, IsValidInput}
+use Rattle.sdt_toolkit.specs.Reads.{Reads, HasCause, HasFailed}
 
 -- what a call gives, of which this is told; want of memory is free
 abbrev pub Tells : {A : Type 0} → Result A Fault → (Result A Refusal → Type 0) → Type 0
@@ -21,6 +22,13 @@ Tells (Ok x) is = is (Ok x)
 Tells (Err (fault.Refused r)) is = is (Err r)
 Tells (Err (fault.ReadFault name)) is = ⊥
 Tells (Err fault.NoMemory) is = Unit {0}
+
+-- the same, where a read of a source may fail
+abbrev pub Judges : {A : Type 0} → Reads → Bool → Result A Fault → (Result A Refusal → Type 0) → Type 0
+Judges s sources (Ok x) is = is (Ok x)
+Judges s sources (Err (fault.Refused r)) is = is (Err r)
+Judges s sources (Err (fault.ReadFault name)) is = (sources ≡ true) × HasFailed s
+Judges s sources (Err fault.NoMemory) is = Unit {0}
 
 -- ---- names
 
@@ -43,19 +51,20 @@ module_of name = if is_source_name (last_part name) then object_name (last_part 
 -- ---- an input
 
 -- the object of a source, whose statements stand wherever it is placed, or its first refusal
-pub record IsSource (name bytes : List ℕ) (made : Result Linkable Refusal) : Type 0 where
+pub record IsSource (s : Reads) (name bytes : List ℕ) (made : Result Linkable Refusal) : Type 0 where
   pub object : Result Object Refusal
-  pub assembled : IsAssembled name bytes object
+  pub assembled : AssembledFrom s.told name bytes object
+  pub caused : HasCause s object
   pub as_input : made ≡ (object >>= λ o. Ok (input.Object o))
-  pub stands : (o : Object) → object ≡ Ok o → StandsWherePlaced name bytes o
+  pub stands : (o : Object) → object ≡ Ok o → StandsFrom s.told name bytes o
 
-abbrev pub InputBy : Bool → List ℕ → List ℕ → Result Linkable Refusal → Type 0
-InputBy true name bytes made = IsSource name bytes made
-InputBy false name bytes made = made ≡ linkable_of name bytes
+abbrev pub InputBy : Reads → Bool → List ℕ → List ℕ → Result Linkable Refusal → Type 0
+InputBy s true name bytes made = IsSource s name bytes made
+InputBy s false name bytes made = made ≡ linkable_of name bytes
 
 -- the file under a name as an input; where sources are taken, one with a source's name is assembled
-abbrev pub InputIs : Bool → List ℕ → List ℕ → Result Linkable Refusal → Type 0
-InputIs sources name bytes made = InputBy (sources && is_source_name name) name bytes made
+abbrev pub InputIs : Reads → Bool → List ℕ → List ℕ → Result Linkable Refusal → Type 0
+InputIs s sources name bytes made = InputBy s (sources && is_source_name name) name bytes made
 
 -- reports call an input by the name under which it is read
 abbrev pub named : List ℕ → Linkable → Named Linkable
@@ -65,8 +74,8 @@ abbrev pub with_name : List ℕ → Result Linkable Refusal → Result (Named Li
 with_name name made = made >>= λ x. Ok (named name x)
 
 -- the input of a file with its names
-abbrev pub NamedIs : Bool → List ℕ → List ℕ → Result (Named Linkable) Refusal → Type 0
-NamedIs sources name bytes made = (x : Result Linkable Refusal) × InputIs sources name bytes x × (made ≡ with_name name x)
+abbrev pub NamedIs : Reads → Bool → List ℕ → List ℕ → Result (Named Linkable) Refusal → Type 0
+NamedIs s sources name bytes made = (x : Result Linkable Refusal) × InputIs s sources name bytes x × (made ≡ with_name name x)
 
 -- ---- inputs in order
 
@@ -76,11 +85,11 @@ Behind (Err r) others made = made ≡ Err r
 Behind (Ok x) others made = (rest : Result (List (Named Linkable)) Refusal) × others rest × (made ≡ (rest >>= λ xs. Ok (x ∷ xs)))
 
 -- files of these names and contents as inputs, or the first refusal
-abbrev pub InputsAre : Bool → List (List ℕ) → List (List ℕ) → Result (List (Named Linkable)) Refusal → Type 0
-InputsAre sources [] contents made = made ≡ Ok []
-InputsAre sources (name ∷ names) [] made = made ≡ Ok []
-InputsAre sources (name ∷ names) (bytes ∷ contents) made =
-    (first : Result (Named Linkable) Refusal) × NamedIs sources name bytes first × Behind first (InputsAre sources names contents) made
+abbrev pub InputsAre : Reads → Bool → List (List ℕ) → List (List ℕ) → Result (List (Named Linkable)) Refusal → Type 0
+InputsAre s sources [] contents made = made ≡ Ok []
+InputsAre s sources (name ∷ names) [] made = made ≡ Ok []
+InputsAre s sources (name ∷ names) (bytes ∷ contents) made =
+    (first : Result (Named Linkable) Refusal) × NamedIs s sources name bytes first × Behind first (InputsAre s sources names contents) made
 
 -- ---- objects and libraries among them
 

@@ -1,7 +1,7 @@
 -- What the commands `link` and `build` make of files: the files of an image, or the first refusal, and what each answer
 -- says and leaves (SDT 2.50 Reference Guide, armlink; the order of refusals, and that `build` assembles the sources among
 -- its inputs, are this project's).
-use Rattle.std.specs.Prelude.{◌≡◌, ◌⊎◌, ℕ, ◌^◌, nat_le, Bool, if◌then◌else◌, List, [], ◌∷◌, length, map, Option, Some, None, Result, Ok, Err}
+use Rattle.std.specs.Prelude.{◌≡◌, ◌⊎◌, ℕ, ◌^◌, nat_le, Bool, true, if◌then◌else◌, List, [], ◌∷◌, length, map, Option, Some, None, Result, Ok, Err}
 use Rattle.std.specs.List.{list_any, AllByRecursion}
 use Rattle.sdt_word.specs.declared.ranges.Range32.{Range32}
 use Rattle.sdt_fault.specs.declared.answer.Answer.{Answer}
@@ -28,11 +28,12 @@ use Rattle.tool_words.specs.declared.command.Bank.{Bank}
 use Rattle.tool_words.specs.declared.command.LinkForm.{LinkForm}
 use Rattle.tool_words.specs.declared.command.LinkForm.TheVariants as form
 use Rattle.tool_words.specs.declared.command.LinkWords.{LinkWords}
-use Rattle.tool_answers.specs.Inputs.{inputs_of, IsReached}
+use Rattle.tool_answers.specs.Inputs.{AreInputs, inputs_of, IsReached}
 use Rattle.tool_answers.specs.Outcomes.{Outcome, Outside, AreWritten, FailsAt, IsCutShort, IsLeft, IsLost, Says, unprinted}
 use Rattle.tool_library.specs.declared.linkables.Linkable.{Linkable}
 use Rattle.tool_run.specs.Runs.{AreRanges}
 use Rattle.sdt_toolkit.specs.Inputs.{InputsAre, objects_among, archives_among}
+use Rattle.sdt_toolkit.specs.Reads.{Reads, HasFailed, reads_of}
 use Rattle.sdt_toolkit.specs.Starting.{Loads, Starts}
 
 -- ---- what is read: the scatter file first, if there is one, and then the names
@@ -120,9 +121,9 @@ InputsMake w text (Err r) made = made ≡ Err r
 InputsMake w text (Ok inputs) made = (image : Result Image Refusal) × ImageIs w.form text w.ram inputs image × (made ≡ (image >>= filed w.output))
 
 -- what the files that are read make
-pub record LinkMakes (sources : Bool) (w : LinkWords) (contents : List (List ℕ)) (made : Result (List OutFile) Refusal) : Type 0 where
+pub record LinkMakes (s : Reads) (sources : Bool) (w : LinkWords) (contents : List (List ℕ)) (made : Result (List OutFile) Refusal) : Type 0 where
   pub inputs : Result (List (Named Linkable)) Refusal
-  pub judged : InputsAre sources w.names (inputs_in w.form contents) inputs
+  pub judged : InputsAre s sources w.names (inputs_in w.form contents) inputs
   pub files : InputsMake w (text_in w.form contents) inputs made
 
 abbrev pub outputs : List OutFile → List (List ℕ × List ℕ)
@@ -132,23 +133,27 @@ abbrev pub writes_all : List OutFile → Result Outcome Refusal
 writes_all fs = Ok (record { files = outputs fs; prints = [] })
 
 -- what they ask for
-pub record LinkAsks (sources : Bool) (w : LinkWords) (contents : List (List ℕ)) (asked : Result Outcome Refusal) : Type 0 where
+pub record LinkAsks (s : Reads) (sources : Bool) (w : LinkWords) (contents : List (List ℕ)) (asked : Result Outcome Refusal) : Type 0 where
   pub made : Result (List OutFile) Refusal
-  pub makes : LinkMakes sources w contents made
+  pub makes : LinkMakes s sources w contents made
   pub outcome : asked ≡ (made >>= writes_all)
 
 -- ---- files
 
-abbrev pub ReadAsks : Bool → LinkWords → Result (List (List ℕ)) Refusal → Result Outcome Refusal → Type 0
-ReadAsks sources w (Err r) asked = asked ≡ Err r
-ReadAsks sources w (Ok contents) asked = LinkAsks sources w contents asked
+abbrev pub ReadAsks : Reads → Bool → LinkWords → Result (List (List ℕ)) Refusal → Result Outcome Refusal → Type 0
+ReadAsks s sources w (Err r) asked = asked ≡ Err r
+ReadAsks s sources w (Ok contents) asked = LinkAsks s sources w contents asked
 
 -- what the store's files ask for; where it doesn't tell them, what some contents of them ask for, or one is missing, for
 -- which a read failed
-abbrev pub FilesAsk : Bool → LinkWords → Option Files → Type 0 → Result Outcome Refusal → Type 0
-FilesAsk sources w None rose asked =
-    ((contents : List (List ℕ)) × (length contents ≡ length (files_read w)) × LinkAsks sources w contents asked) ⊎ IsLost (files_read w) rose asked
-FilesAsk sources w (Some files) rose asked = ReadAsks sources w (inputs_of files (files_read w)) asked
+abbrev pub FilesAsk : Option Files → Reads → Bool → LinkWords → Result Outcome Refusal → Type 0
+FilesAsk None s sources w asked =
+    ((contents : List (List ℕ)) × (length contents ≡ length (files_read w)) × LinkAsks s sources w contents asked)
+    ⊎ IsLost (files_read w) (HasFailed s) asked
+FilesAsk (Some files) s sources w asked = ReadAsks s sources w (inputs_of files (files_read w)) asked
+
+abbrev pub WordsAsk : Reads → Bool → LinkWords → Result Outcome Refusal → Type 0
+WordsAsk s sources w asked = FilesAsk s.told s sources w asked
 
 -- ---- answers
 
@@ -161,12 +166,17 @@ AllWritten fs before after rose other = ⊥
 
 abbrev pub LinkSays : Bool → LinkWords → Outside → Answer → Type 0
 LinkSays sources w o a =
-    (asked : Result Outcome Refusal) × FilesAsk sources w o.before (Rose o.reads o.reads_now) asked × Says asked (files_read w) o a
+    (asked : Result Outcome Refusal) × WordsAsk (reads_of o) sources w asked × Says asked (files_read w) o a
+
+-- the file whose read may fail: one that the words name, or, where all these were read, one that a GET of a source names
+abbrev pub MayFail : Bool → LinkWords → Option Files → List ℕ → Type 0
+MayFail sources w told name =
+    IsReached told (files_read w) name ⊎ ((sources ≡ true) × (contents : List (List ℕ)) × AreInputs told (files_read w) contents)
 
 -- the answer to a link, and to a build, where sources are taken: where a read failed, nothing is told of the inputs and
 -- nothing is written; where memory was refused, either nothing is written, or a beginning of what the inputs ask for
 unfoldable pub LinkAnswers : Bool → LinkWords → Outside → Answer → Type 0
-LinkAnswers sources w o (answer.ReadFault name) = Rose o.reads o.reads_now × IsReached o.before (files_read w) name × IsLeft o
+LinkAnswers sources w o (answer.ReadFault name) = Rose o.reads o.reads_now × MayFail sources w o.before name × IsLeft o
 LinkAnswers sources w o answer.NoMemory = IsLeft o ⊎ LinkSays sources w o answer.NoMemory
 LinkAnswers sources w o a = LinkSays sources w o a
 
@@ -178,5 +188,5 @@ LinkAnswersOver sources w before after reads reads_now writes writes_now a =
 -- files ask for one thing
 abbrev pub OneLinkAsked : Type 0
 OneLinkAsked =
-    (sources : Bool) (w : LinkWords) (files : Files) (a b : Result Outcome Refusal)
-    → ReadAsks sources w (inputs_of files (files_read w)) a → ReadAsks sources w (inputs_of files (files_read w)) b → a ≡ b
+    (s : Reads) (sources : Bool) (w : LinkWords) (files : Files) (a b : Result Outcome Refusal) → s.told ≡ Some files
+    → WordsAsk s sources w a → WordsAsk s sources w b → a ≡ b

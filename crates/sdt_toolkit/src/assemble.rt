@@ -1,6 +1,7 @@
 //! The command.
 
-ghost use Rattle.std.specs.Prelude.{◌<◌, ◌^◌, IfOk, length};
+ghost use Rattle.std.specs.Prelude.{◌≡◌, ◌<◌, ◌≤◌, ◌^◌, IfOk, length};
+ghost use Rattle.sdt_toolkit.specs.Reads.{Reads, IsAmong};
 ghost use Rattle.sdt_toolkit.specs.Sources.{AssemblyAnswersOver, SpellsAs};
 
 use aof_object::write_object;
@@ -13,13 +14,23 @@ use std::alloc::Global;
 use tool_answers::{read_input, write};
 use tool_library::ends::{end_answer, fault_answer};
 
-/// The object file of a source's text.
-fn object_file(alloc: Global, source: &Text, text: &[u8]) -> Result<Bytes, Fault>
-    ensures spells { SpellsAs source.now text.now result }
+/// The object file of a source's text, with the files that its GETs name.
+fn object_file<S: Store>(
+    alloc: Global,
+    store: &mut S,
+    source: &Text,
+    text: &[u8],
+) -> Result<Bytes, Fault>
+    ensures spells { (s : Reads)
+        → IsAmong (S.files store.old) (S.read_faults store.old) (S.read_faults store.new) s
+        → SpellsAs s source.now text.now result }
     ensures short { IfOk result (λ bytes. length bytes < 2 ^ 32) }
+    ensures files { S.files store.new ≡ S.files store.old }
+    ensures read_faults { S.read_faults store.old ≤ S.read_faults store.new }
+    ensures write_faults { S.write_faults store.new ≡ S.write_faults store.old }
 {
     size_law();
-    let object = assemble(alloc, source, text)?;
+    let object = assemble(alloc, source, text, store)?;
     write_object(alloc, &object)
 }
 
@@ -32,7 +43,7 @@ pub fn assemble_file<S: Store>(alloc: Global, store: &mut S, source: &Text, outp
         Ok(text) => text,
         Err(end) => return end_answer(end),
     };
-    match object_file(alloc, source, text.as_slice()) {
+    match object_file(alloc, store, source, text.as_slice()) {
         Ok(object) => write(alloc, store, output, object.as_slice()),
         Err(fault) => fault_answer(fault),
     }

@@ -1,7 +1,8 @@
 //! The inputs of a link: which files are read, and what each of them is.
 
-ghost use Rattle.std.specs.Prelude.{◌≡◌, ◌<◌, ◌^◌, All, IfOk, length};
-ghost use Rattle.sdt_toolkit.specs.Inputs.{AreValid, InputIs, InputsAre, NamedIs, Tells};
+ghost use Rattle.std.specs.Prelude.{◌≡◌, ◌<◌, ◌≤◌, ◌^◌, All, IfOk, length};
+ghost use Rattle.sdt_toolkit.specs.Inputs.{AreValid, InputIs, InputsAre, Judges, NamedIs};
+ghost use Rattle.sdt_toolkit.specs.Reads.{IsAmong, Reads, TellsOf};
 ghost use Rattle.sdt_toolkit.specs.Links.{files_read, inputs_in, read_by, text_in};
 ghost use Rattle.tool_library.specs.Linkables.{IsValidInput};
 
@@ -10,6 +11,7 @@ use armasm_core::assemble;
 use link_model::Named;
 use sdt_fault::answer::Fault;
 use sdt_fault::{Bytes, List, NoMemory, Text};
+use sdt_outside::Store;
 use std::alloc::Global;
 use tool_library::{Linkable, read_linkable};
 use tool_words::{LinkForm, LinkWords};
@@ -77,38 +79,67 @@ pub fn inputs_in<'a>(form: &LinkForm, contents: &'a [Bytes]) -> &'a [Bytes]
 
 // ---- what it is
 
-fn source_input(alloc: Global, name: &Text, bytes: &[u8]) -> Result<Linkable, Fault>
-    ensures value { Tells result (IsSource name.now bytes.now) }
+/// The object of a source.
+fn source_input<S: Store>(
+    alloc: Global,
+    store: &mut S,
+    name: &Text,
+    bytes: &[u8],
+) -> Result<Linkable, Fault>
+    ensures value { (s : Reads)
+        → IsAmong (S.files store.old) (S.read_faults store.old) (S.read_faults store.new) s
+        → TellsOf s result (IsSource s name.now bytes.now) }
     ensures valid { IfOk result IsValidInput }
+    ensures files { S.files store.new ≡ S.files store.old }
+    ensures read_faults { S.read_faults store.old ≤ S.read_faults store.new }
+    ensures write_faults { S.write_faults store.new ≡ S.write_faults store.old }
 {
-    let object = assemble(alloc, name, bytes)?;
+    let object = assemble(alloc, name, bytes, store)?;
     Ok(Linkable::Object(object))
 }
 
 ghost use Rattle.sdt_toolkit.specs.Inputs.{IsSource};
 
-fn input(alloc: Global, sources: bool, name: &Text, bytes: &[u8]) -> Result<Linkable, Fault>
+/// A file as an input; where `sources` are taken, one with a source's name is assembled.
+fn input<S: Store>(
+    alloc: Global,
+    store: &mut S,
+    sources: bool,
+    name: &Text,
+    bytes: &[u8],
+) -> Result<Linkable, Fault>
     requires { length bytes.now < 2 ^ 32 }
-    ensures value { Tells result (InputIs sources name.now bytes.now) }
+    ensures value { (s : Reads)
+        → IsAmong (S.files store.old) (S.read_faults store.old) (S.read_faults store.new) s
+        → Judges s sources result (InputIs s sources name.now bytes.now) }
     ensures valid { IfOk result IsValidInput }
+    ensures files { S.files store.new ≡ S.files store.old }
+    ensures read_faults { S.read_faults store.old ≤ S.read_faults store.new }
+    ensures write_faults { S.write_faults store.new ≡ S.write_faults store.old }
 {
     if sources && is_source_name(name.as_slice()) {
-        return source_input(alloc, name, bytes);
+        return source_input(alloc, store, name, bytes);
     }
     read_linkable(alloc, name, bytes)
 }
 
-fn named_input(
+fn named_input<S: Store>(
     alloc: Global,
+    store: &mut S,
     sources: bool,
     name: &Text,
     bytes: &[u8],
 ) -> Result<Named<Linkable>, Fault>
     requires { length bytes.now < 2 ^ 32 }
-    ensures value { Tells result (NamedIs sources name.now bytes.now) }
+    ensures value { (s : Reads)
+        → IsAmong (S.files store.old) (S.read_faults store.old) (S.read_faults store.new) s
+        → Judges s sources result (NamedIs s sources name.now bytes.now) }
     ensures valid { IfOk result (λ x. IsValidInput x.value) }
+    ensures files { S.files store.new ≡ S.files store.old }
+    ensures read_faults { S.read_faults store.old ≤ S.read_faults store.new }
+    ensures write_faults { S.write_faults store.new ≡ S.write_faults store.old }
 {
-    let value = input(alloc, sources, name, bytes)?;
+    let value = input(alloc, store, sources, name, bytes)?;
     Ok(Named {
         name: name.try_clone(alloc)?,
         module: module_of(alloc, name)?,
@@ -117,21 +148,27 @@ fn named_input(
 }
 
 /// Files of these names and contents as inputs, or the first refusal. Where `sources` are taken, a name that ends in
-/// `.s` is a source, which is assembled; any other file is a library or an object.
-pub fn inputs_of(
+/// `.s` is a source, which is assembled, with the files that its GETs name; any other file is a library or an object.
+pub fn inputs_of<S: Store>(
     alloc: Global,
+    store: &mut S,
     sources: bool,
     names: &[Text],
     contents: &[Bytes],
 ) -> Result<List<Named<Linkable>>, Fault>
     requires few { length contents.now ≡ length names.now }
     requires bounded { All (λ bytes. length bytes < 2 ^ 32) contents.now }
-    ensures value { Tells result (InputsAre sources names.now contents.now) }
+    ensures value { (s : Reads)
+        → IsAmong (S.files store.old) (S.read_faults store.old) (S.read_faults store.new) s
+        → Judges s sources result (InputsAre s sources names.now contents.now) }
     ensures valid { IfOk result AreValid }
+    ensures files { S.files store.new ≡ S.files store.old }
+    ensures read_faults { S.read_faults store.old ≤ S.read_faults store.new }
+    ensures write_faults { S.write_faults store.new ≡ S.write_faults store.old }
 {
     let mut inputs = Vec::new(alloc);
     for k in 0..names.len() {
-        match named_input(alloc, sources, &names[k], contents[k].as_slice()) {
+        match named_input(alloc, store, sources, &names[k], contents[k].as_slice()) {
             Ok(input) => inputs.push(input)?,
             Err(fault) => return Err(fault),
         }

@@ -1,7 +1,8 @@
 //! The commands `link` and `build`.
 
-ghost use Rattle.std.specs.Prelude.{◌≡◌, ◌<◌, ◌^◌, All, IfOk, Ok, length};
-ghost use Rattle.sdt_toolkit.specs.Inputs.{AreValid, Tells};
+ghost use Rattle.std.specs.Prelude.{◌≡◌, ◌<◌, ◌≤◌, ◌^◌, All, IfOk, Ok, length};
+ghost use Rattle.sdt_toolkit.specs.Inputs.{AreValid, Judges, Tells};
+ghost use Rattle.sdt_toolkit.specs.Reads.{IsAmong, Reads};
 ghost use Rattle.sdt_toolkit.specs.Links.{InputsMake, LinkAnswersOver, LinkMakes, files_read};
 ghost use Rattle.tool_words.specs.Commands.{IsLinked};
 
@@ -40,8 +41,9 @@ fn files_by(
 }
 
 /// The files that these contents make.
-fn made(
+fn made<S: Store>(
     alloc: Global,
+    store: &mut S,
     sources: bool,
     words: &LinkWords,
     contents: &[Bytes],
@@ -49,11 +51,16 @@ fn made(
     requires good { IsLinked words.now }
     requires few { length contents.now ≡ length (files_read words.now) }
     requires bounded { All (λ bytes. length bytes < 2 ^ 32) contents.now }
-    ensures makes { Tells result (LinkMakes sources words.now contents.now) }
+    ensures makes { (s : Reads)
+        → IsAmong (S.files store.old) (S.read_faults store.old) (S.read_faults store.new) s
+        → Judges s sources result (LinkMakes s sources words.now contents.now) }
     ensures short { IfOk result (λ files. All (λ f. length f.bytes < 2 ^ 32) files) }
+    ensures files { S.files store.new ≡ S.files store.old }
+    ensures read_faults { S.read_faults store.old ≤ S.read_faults store.new }
+    ensures write_faults { S.write_faults store.new ≡ S.write_faults store.old }
 {
     let under_names = inputs_in(&words.form, contents);
-    match inputs_of(alloc, sources, words.names.as_slice(), under_names) {
+    match inputs_of(alloc, store, sources, words.names.as_slice(), under_names) {
         Ok(inputs) => files_by(alloc, words, text_in(&words.form, contents), inputs),
         Err(fault) => Err(fault),
     }
@@ -77,7 +84,7 @@ pub fn link_files<S: Store>(
         Ok(contents) => contents,
         Err(end) => return end_answer(end),
     };
-    match made(alloc, sources, words, contents.as_slice()) {
+    match made(alloc, store, sources, words, contents.as_slice()) {
         Ok(files) => write_files(alloc, store, files.as_slice()),
         Err(fault) => fault_answer(fault),
     }

@@ -4,13 +4,19 @@ use Rattle.sdt_toolkit.proofs.AskLemmas.{spells_none, spells_object}
 use Rattle.sdt_toolkit.proofs.assemble.object_file.Goals as goal
 
 pub returns-in_err-object-clause-spells : goal.returns-in_err-object-clause-spells
-returns-in_err-object-clause-spells c =
+returns-in_err-object-clause-spells g c = λ s among.
     let p = err_from_is_err_and c.from_residual.result c.from_residual.ensures.1 in
-    rw (p.1, p.2) (spells_none c.args.source.now c.args.text.now c.in_err-object.field-0.0 c.in_err-object.ensures.assembled)
+    let files = g.S.Store.files c.args.store.now in
+    let before = g.S.Store.read_faults c.args.store.now in
+    let now = g.S.Store.read_faults c.assemble.new.store in
+    rw (p.1, p.2) (spells_none files before now s among c.args.source.now c.args.text.now c.in_err-object.field-0.0 c.in_err-object.ensures.assembled c.in_err-object.ensures.cause)
 
 pub returns-clause-spells : goal.returns-clause-spells
-returns-clause-spells c =
-    spells_object c.args.source.now c.args.text.now c.in_ok-object.object c.write_object.result c.in_ok-object.ensures.assembled c.write_object.ensures
+returns-clause-spells g c = λ s among.
+    let files = g.S.Store.files c.args.store.now in
+    let before = g.S.Store.read_faults c.args.store.now in
+    let now = g.S.Store.read_faults c.assemble.new.store in
+    spells_object files before now s among c.args.source.now c.args.text.now c.in_ok-object.object c.write_object.result c.in_ok-object.ensures.assembled c.write_object.ensures
 
 pub returns-clause-short : goal.returns-clause-short
-returns-clause-short c = object_short c.size_law.ensures c.in_ok-object.object c.write_object.result c.write_object.ensures
+returns-clause-short g c = object_short c.size_law.ensures c.in_ok-object.object c.write_object.result c.write_object.ensures

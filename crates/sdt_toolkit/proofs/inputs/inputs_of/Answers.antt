@@ -1,26 +1,54 @@
-use Rattle.std.proofs.Common.{[], ◌∷◌}
+use Rattle.std.proofs.Common.{[], ◌∷◌, ◌∙◌, arith, refl}
 use Rattle.std.proofs.lemmas.List.{drop_all}
 use Rattle.base_lemmas.proofs.BaseLemmas.{all_append}
 use Rattle.tool_library.specs.Linkables.{IsValidInput}
-use Rattle.sdt_toolkit.proofs.InputLemmas.{one_more, one_refused, all_judged}
+use Rattle.sdt_toolkit.proofs.InputLemmas.{one_more, one_refused, all_judged, begun}
+use Rattle.sdt_toolkit.proofs.ReadLemmas.{among_later}
 use Rattle.sdt_toolkit.proofs.inputs.inputs_of.Goals as goal
 
+pub loop-k-entry : goal.loop-k-entry
+loop-k-entry g c = record {
+  value = λ s among. begun s c.args.sources c.args.names.now c.args.contents.now;
+  valid = tt;
+  files = refl;
+  read_faults = omega arith;
+  write_faults = refl;
+}
+
 pub returns-in-Err-clause-value : goal.returns-in-Err-clause-value
-returns-in-Err-clause-value c =
-    let is = rw c.as_slice.ensures at c.in-Err.ensures.value in
-    one_refused c.args.sources c.args.names.now c.args.contents.now c.loop-k.k c.loop-k.inputs.items c.index-names-k.result c.index-contents-k.result c.in-Err.fault
-    c.loop-k-test.true c.index-names-k.is (rw c.requires.few c.loop-k-test.true) c.index-contents-k.is is c.loop-k.invariant.value
+returns-in-Err-clause-value g c = λ s among.
+    let told = g.S.Store.files in
+    let count = g.S.Store.read_faults in
+    let before = c.loop-k.invariant in
+    let here = among_later (told c.args.store.now) (told c.loop-k.store) (count c.args.store.now) (count c.loop-k.store) (count c.named_input.new.store) (count c.named_input.new.store) s
+        before.files before.read_faults (omega arith) among in
+    let there = among_later (told c.args.store.now) (told c.args.store.now) (count c.args.store.now) (count c.args.store.now) (count c.loop-k.store) (count c.named_input.new.store) s
+        refl (omega arith) c.named_input.ensures.read_faults among in
+    let is = rw c.as_slice.ensures at c.in-Err.ensures.value s here in
+    one_refused s c.args.sources c.args.names.now c.args.contents.now c.loop-k.k c.loop-k.inputs.items c.index-names-k.result c.index-contents-k.result
+    c.loop-k-test.true c.index-names-k.is (rw c.requires.few c.loop-k-test.true) c.index-contents-k.is (before.value s there) c.in-Err.fault is
 
 pub loop-k-preserved : goal.loop-k-preserved
-loop-k-preserved c =
-    let is = rw c.as_slice.ensures at c.in-Ok.ensures.value in
+loop-k-preserved g c =
+    let told = g.S.Store.files in
+    let count = g.S.Store.read_faults in
+    let before = c.loop-k.invariant in
     record {
-      value = rw c.in_ok-push-in-Ok.ensures.items (one_more c.args.sources c.args.names.now c.args.contents.now c.loop-k.k c.loop-k.inputs.items c.index-names-k.result c.index-contents-k.result c.in-Ok.input
-          c.loop-k-test.true c.index-names-k.is (rw c.requires.few c.loop-k-test.true) c.index-contents-k.is is c.loop-k.invariant.value);
-      valid = rw c.in_ok-push-in-Ok.ensures.items (all_append (λ x. IsValidInput x.value) c.loop-k.inputs.items (c.in-Ok.input ∷ []) c.loop-k.invariant.valid (c.in-Ok.ensures.valid, tt));
+      value = rw c.in_ok-push-in-Ok.ensures.items (λ s among.
+          let here = among_later (told c.args.store.now) (told c.loop-k.store) (count c.args.store.now) (count c.loop-k.store) (count c.named_input.new.store) (count c.named_input.new.store) s
+              before.files before.read_faults (omega arith) among in
+          let there = among_later (told c.args.store.now) (told c.args.store.now) (count c.args.store.now) (count c.args.store.now) (count c.loop-k.store) (count c.named_input.new.store) s
+              refl (omega arith) c.named_input.ensures.read_faults among in
+          let is = rw c.as_slice.ensures at c.in-Ok.ensures.value s here in
+          one_more s c.args.sources c.args.names.now c.args.contents.now c.loop-k.k c.loop-k.inputs.items c.index-names-k.result c.index-contents-k.result
+          c.loop-k-test.true c.index-names-k.is (rw c.requires.few c.loop-k-test.true) c.index-contents-k.is (before.value s there) c.in-Ok.input is);
+      valid = rw c.in_ok-push-in-Ok.ensures.items (all_append (λ x. IsValidInput x.value) c.loop-k.inputs.items (c.in-Ok.input ∷ []) before.valid (c.in-Ok.ensures.valid, tt));
+      files = c.named_input.ensures.files ∙ before.files;
+      read_faults = omega (arith, before.read_faults, c.named_input.ensures.read_faults);
+      write_faults = c.named_input.ensures.write_faults ∙ before.write_faults;
     }
 
 pub returns-clause-value : goal.returns-clause-value
-returns-clause-value c =
-    rw c.from_vec.ensures (all_judged c.args.sources c.args.names.now c.args.contents.now c.loop-k.k c.loop-k.inputs.items
-    (drop_all c.loop-k.k c.args.names.now c.loop-k-test.false) c.loop-k.invariant.value)
+returns-clause-value g c = λ s among.
+    rw c.from_vec.ensures (all_judged s c.args.sources c.args.names.now c.args.contents.now c.loop-k.k c.loop-k.inputs.items
+    (drop_all c.loop-k.k c.args.names.now c.loop-k-test.false) (c.loop-k.invariant.value s among))

@@ -3,9 +3,16 @@ use Rattle.sdt_toolkit.proofs.InputLemmas.{assembled_as, unassembled_as}
 use Rattle.sdt_toolkit.proofs.inputs.source_input.Goals as goal
 
 pub returns-in_err-object-clause-value : goal.returns-in_err-object-clause-value
-returns-in_err-object-clause-value c =
+returns-in_err-object-clause-value g c = λ s among.
     let p = err_from_is_err_and c.from_residual.result c.from_residual.ensures.1 in
-    rw (p.1, p.2) (unassembled_as c.args.name.now c.args.bytes.now c.in_err-object.field-0.0 c.in_err-object.ensures.assembled)
+    let files = g.S.Store.files c.args.store.now in
+    let before = g.S.Store.read_faults c.args.store.now in
+    let now = g.S.Store.read_faults c.assemble.new.store in
+    rw (p.1, p.2) (unassembled_as files before now s among c.args.name.now c.args.bytes.now c.in_err-object.field-0.0 c.in_err-object.ensures.assembled c.in_err-object.ensures.cause)
 
 pub returns-clause-value : goal.returns-clause-value
-returns-clause-value c = assembled_as c.args.name.now c.args.bytes.now c.in_ok-object.object c.in_ok-object.ensures.assembled c.in_ok-object.ensures.stands
+returns-clause-value g c = λ s among.
+    let files = g.S.Store.files c.args.store.now in
+    let before = g.S.Store.read_faults c.args.store.now in
+    let now = g.S.Store.read_faults c.assemble.new.store in
+    assembled_as files before now s among c.args.name.now c.args.bytes.now c.in_ok-object.object c.in_ok-object.ensures.assembled c.in_ok-object.ensures.stands

@@ -1,7 +1,8 @@
-use Rattle.std.proofs.Common.{refl, inl}
+use Rattle.std.proofs.Common.{refl, sym, ◌∙◌, inl, arith}
 use Rattle.tool_answers.specs.Outcomes.{unprinted}
 use Rattle.sdt_outside.proofs.SharedLemmas.{got_none}
 use Rattle.sdt_toolkit.specs.Links.{LinkAnswers}
+use Rattle.sdt_toolkit.specs.Reads.{IsAmong, reads_of}
 use Rattle.sdt_toolkit.proofs.LinkLemmas.{unread, refused, wrote}
 use Rattle.sdt_toolkit.proofs.links.link_files.Goals as goal
 
@@ -18,16 +19,21 @@ returns-in-Err g c = λ shown faults.
 pub returns-in-Ok-made : goal.returns-in-Ok-made
 returns-in-Ok-made g c = λ shown faults.
     let o = unprinted shown faults (g.S.Store.files c.args.store.now) (g.S.Store.files c.write_files.new.store) (g.S.Store.read_faults c.args.store.now) (g.S.Store.read_faults c.write_files.new.store) (g.S.Store.write_faults c.args.store.now) (g.S.Store.write_faults c.write_files.new.store) in
+    let among : IsAmong (g.S.Store.files c.read_inputs.new.store) (g.S.Store.read_faults c.read_inputs.new.store) (g.S.Store.read_faults c.made.new.store) (reads_of o) =
+    record { files = sym c.read_inputs.ensures.files; first = c.read_inputs.ensures.read_faults; last = omega (arith, c.write_files.ensures.reads) } in
     let found = rw (c.as_slice.ensures.value, c.in-Ok.ensures) at c.in-Ok-read_inputs.ensures.found in
     let count = rw (c.as_slice.ensures.value, c.in-Ok.ensures) at c.in-Ok-read_inputs.ensures.count in
-    let makes = rw c.as_slice-2.ensures.value at c.in-Ok-made.ensures.makes in
-    let says = rw (c.as_slice-in-Ok-made.ensures, c.read_inputs.ensures.files, c.read_inputs.ensures.write_faults) at c.write_files.ensures.says in
+    let makes = rw c.as_slice-2.ensures.value at c.in-Ok-made.ensures.makes (reads_of o) among in
+    let says = rw (c.as_slice-in-Ok-made.ensures, c.made.ensures.files, c.read_inputs.ensures.files, c.made.ensures.write_faults, c.read_inputs.ensures.write_faults) at c.write_files.ensures.says in
     wrote c.write_files.result c.args.sources c.args.words.now c.in-Ok-read_inputs.contents.items c.in-Ok-made.files o found count makes (got_none shown) refl says
 
 pub returns : goal.returns
 returns g c = λ shown faults.
-    let o = unprinted shown faults (g.S.Store.files c.args.store.now) (g.S.Store.files c.read_inputs.new.store) (g.S.Store.read_faults c.args.store.now) (g.S.Store.read_faults c.read_inputs.new.store) (g.S.Store.write_faults c.args.store.now) (g.S.Store.write_faults c.read_inputs.new.store) in
+    let o = unprinted shown faults (g.S.Store.files c.args.store.now) (g.S.Store.files c.made.new.store) (g.S.Store.read_faults c.args.store.now) (g.S.Store.read_faults c.made.new.store) (g.S.Store.write_faults c.args.store.now) (g.S.Store.write_faults c.made.new.store) in
+    let among : IsAmong (g.S.Store.files c.read_inputs.new.store) (g.S.Store.read_faults c.read_inputs.new.store) (g.S.Store.read_faults c.made.new.store) (reads_of o) =
+    record { files = sym c.read_inputs.ensures.files; first = c.read_inputs.ensures.read_faults; last = omega arith } in
     let found = rw (c.as_slice.ensures.value, c.in-Ok.ensures) at c.in-Ok-read_inputs.ensures.found in
     let count = rw (c.as_slice.ensures.value, c.in-Ok.ensures) at c.in-Ok-read_inputs.ensures.count in
-    let makes = rw c.as_slice-2.ensures.value at c.in-Err-made.ensures.makes in
-    rw c.fault_answer.ensures (refused c.in-Err-made.fault c.args.sources c.args.words.now c.in-Ok-read_inputs.contents.items o found count makes (record { files = c.read_inputs.ensures.files; sink = refl }))
+    let makes = rw c.as_slice-2.ensures.value at c.in-Err-made.ensures.makes (reads_of o) among in
+    rw c.fault_answer.ensures (refused c.in-Err-made.fault c.args.sources c.args.words.now c.in-Ok-read_inputs.contents.items o found count makes
+    (record { files = c.made.ensures.files ∙ c.read_inputs.ensures.files; sink = refl }))

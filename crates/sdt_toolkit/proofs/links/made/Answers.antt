@@ -2,20 +2,20 @@ use Rattle.sdt_toolkit.proofs.LinkLemmas.{inputs_count, inputs_made, inputs_shor
 use Rattle.sdt_toolkit.proofs.links.made.Goals as goal
 
 pub inputs_of-requires-clause-few : goal.inputs_of-requires-clause-few
-inputs_of-requires-clause-few c =
+inputs_of-requires-clause-few g c =
     rw (c.inputs_in-under_names.ensures, c.as_slice.ensures) (inputs_count c.args.words.now.form c.args.words.now.names c.args.contents.now c.requires.few)
 
 pub inputs_of-requires-clause-bounded : goal.inputs_of-requires-clause-bounded
-inputs_of-requires-clause-bounded c =
+inputs_of-requires-clause-bounded g c =
     rw c.inputs_in-under_names.ensures (inputs_short c.args.words.now.form c.args.contents.now c.requires.bounded)
 
 pub returns-in-Ok-clause-makes : goal.returns-in-Ok-clause-makes
-returns-in-Ok-clause-makes c =
-    let judged = rw (c.inputs_in-under_names.ensures, c.as_slice.ensures) at c.in-Ok.ensures.value in
+returns-in-Ok-clause-makes g c = λ s among.
+    let judged = rw (c.inputs_in-under_names.ensures, c.as_slice.ensures) at c.in-Ok.ensures.value s among in
     let files = rw c.text_in.ensures at c.files_by.ensures.makes in
-    inputs_made c.args.sources c.args.words.now c.args.contents.now c.in-Ok.inputs c.files_by.result judged files
+    inputs_made s c.args.sources c.args.words.now c.args.contents.now c.in-Ok.inputs c.files_by.result judged files
 
 pub returns-in-Err-clause-makes : goal.returns-in-Err-clause-makes
-returns-in-Err-clause-makes c =
-    let judged = rw (c.inputs_in-under_names.ensures, c.as_slice.ensures) at c.in-Err.ensures.value in
-    no_inputs c.args.sources c.args.words.now c.args.contents.now c.in-Err.fault judged
+returns-in-Err-clause-makes g c = λ s among.
+    let judged = rw (c.inputs_in-under_names.ensures, c.as_slice.ensures) at c.in-Err.ensures.value s among in
+    no_inputs s c.args.sources c.args.words.now c.args.contents.now c.in-Err.fault judged
