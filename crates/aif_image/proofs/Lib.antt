@@ -1,1 +1,2 @@
-mod CheckLaws
+pub mod CheckLaws
+pub mod WrittenLemmas

@@ -1,3 +1,4 @@
 -- What the clauses of the crate cite.
 pub mod Checks
+pub mod Files
 pub mod Reading

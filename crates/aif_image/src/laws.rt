@@ -1,5 +1,6 @@
 //! Laws of the format, each proved as the contract of an empty function.
 
+ghost use Rattle.aif_image.specs.Files.{WrittenLaw};
 ghost use Rattle.aif_image.specs.Reading.{AifLaw, FirstFailedLaw, OneRecord};
 
 /// What reading gives is what the bytes say, and where it gives no record they say none.
@@ -15,4 +16,9 @@ pub fn one_record()
 /// The check that reading tells is the first that fails, and the first that fails is told.
 pub fn first_failed_law()
     ensures { FirstFailedLaw }
+{}
+
+/// The file that is written reads as its image's record.
+pub fn written_law()
+    ensures { WrittenLaw }
 {}

@@ -1,6 +1,6 @@
 -- An image that was read, or why not, by what the store told.
 use Rattle.std.proofs.Common.{◌≡◌, ℕ, zero, suc, ◌<◌, List, [], ◌∷◌, ◌++◌, length, Option, Some, None, Result, Ok, Err, refl, sym, ap, ◌∙◌, subst, inl, inr, ◌⊎◌, Bool, true, false, take, drop, arith, append_assoc}
-use Rattle.std.specs.Prelude.{◌==◌, slice_index_or}
+use Rattle.std.specs.Prelude.{◌==◌, ◌||◌, slice_index_or}
 use Rattle.std.proofs.lemmas.List.{take-append-drop}
 use Rattle.std.proofs.lemmas.List.Quantifiers.{position-Some}
 use Rattle.sdt_fault.specs.declared.answer.Fault.{Fault}
@@ -11,6 +11,9 @@ use Rattle.sdt_fault.specs.declared.refusal.Refusal.{Refusal}
 use Rattle.sdt_fault.specs.declared.refusal.Refusal.TheVariants.{BadImage, Missing}
 use Rattle.sdt_outside.specs.Files.{Files, IsFound}
 use Rattle.chunk_file.specs.Reading.{◌>>=◌, Gives}
+use Rattle.link_model.specs.declared.images.Aif.{Aif}
+use Rattle.aif_image.specs.Checks.{Check, checks, kind_of, place_of}
+use Rattle.aif_image.specs.Reading.{aif_of, holds, judged, record_of}
 use Rattle.bin_image.specs.declared.records.MapFile.{MapFile}
 use Rattle.bin_image.specs.declared.records.MapLoad.{MapLoad}
 use Rattle.bin_image.specs.Maps.{ReadsMap}
@@ -19,12 +22,13 @@ use Rattle.bin_image.specs.declared.reading.Stage.TheVariants.{Head}
 use Rattle.run_opening.specs.declared.image.Image.{Image}
 use Rattle.tool_answers.specs.declared.inputs.InputEnd.{InputEnd}
 use Rattle.tool_answers.specs.declared.inputs.InputEnd.TheVariants as input
-use Rattle.tool_answers.specs.Inputs.{AreInputs, InputsEnd, IsReached, found_or, inputs_of}
+use Rattle.tool_answers.specs.Inputs.{AreInputs, InputsEnd, IsReached, found_or, inputs_of, named}
 use Rattle.tool_words.specs.declared.command.RunImage.TheVariants as image
 use Rattle.tool_run.specs.declared.ends.ImageEnd.{ImageEnd}
 use Rattle.tool_run.specs.declared.ends.ImageEnd.TheVariants as end
-use Rattle.tool_run.specs.Ends.{IsMissing, Reads, fault_end, input_end}
-use Rattle.tool_run.specs.Images.{IsGiven, IsInput, IsLost, IsRead, all_named, files_in, front_of, has_zero, lengths_judged, loaded_image, map_image, mapped_image, named_by, unnamed}
+use Rattle.tool_run.specs.Aifs.{aif_at, loaded_aif, placed_aif}
+use Rattle.tool_run.specs.Ends.{IsMissing, Reads, fault_end, input_end, named_by}
+use Rattle.tool_run.specs.Images.{IsGiven, IsInput, IsLost, IsRead, all_named, files_in, front_of, has_zero, lengths_judged, loaded_image, map_image, mapped_image, unnamed}
 
 -- ---- a map's text
 
@@ -68,6 +72,41 @@ map_read (Err (end.Refused r)) (Some files) before after file text m more found 
 map_read (Err (end.Failed name)) told before after file text m more found reads is h =
     (more h.0, inr (record { text = text; found = found; m = m; reads = reads; reached = h.1 }))
 map_read (Err end.NoMemory) told before after file text m more found reads is h = tt
+
+-- ---- an ARM image file
+
+-- one that is refused is no missing file
+wrong_header : (cs : List Check) (b file : List ℕ) (q : Refusal) → named_by file (judged cs b) ≡ Err q → (at : ℕ) × (why : FileKind) × (q ≡ BadImage file at why)
+wrong_header [] b file q h = absurd (let bad : ◌≡◌ {A = Result Aif Refusal} (Ok (record_of b)) (Err q) = h in cc)
+wrong_header (c ∷ cs) b file q h = split (holds c b) refl (λ k. wrong_header cs b file q k)
+  where
+    split : (t : Bool) → holds c b ≡ t → (named_by file (judged cs b) ≡ Err q → (at : ℕ) × (why : FileKind) × (q ≡ BadImage file at why))
+        → (at : ℕ) × (why : FileKind) × (q ≡ BadImage file at why)
+    split true e others = others (rw e at h)
+    split false e others = (place_of c b, kind_of c, let same : ◌≡◌ {A = Result Aif Refusal} (Err (BadImage file (place_of c b) (kind_of c))) (Err q) = (rw e at h) in cc)
+
+wrong_base : (file : List ℕ) (at : Option ℕ) (a : Aif) (bytes : List ℕ) (q : Refusal) → placed_aif file at bytes a ≡ Err q → (o : ℕ) × (why : FileKind) × (q ≡ BadImage file o why)
+wrong_base file None a bytes q h = absurd (let bad : ◌≡◌ {A = Result Image Refusal} (Ok (loaded_aif a.base a bytes)) (Err q) = h in cc)
+wrong_base file (Some at) a bytes q h = split (a.relocatable || at == a.base) refl
+  where
+    split : (t : Bool) → (a.relocatable || at == a.base) ≡ t → (o : ℕ) × (why : FileKind) × (q ≡ BadImage file o why)
+    split true e = absurd (let bad : ◌≡◌ {A = Result Image Refusal} (Ok (loaded_aif at a bytes)) (Err q) = (rw e at h) in cc)
+    split false e = (4, kind.FixedBase, let same : ◌≡◌ {A = Result Image Refusal} (Err (BadImage file 4 kind.FixedBase)) (Err q) = (rw e at h) in cc)
+
+wrong_aif : (r : Result Aif Refusal) (file : List ℕ) (at : Option ℕ) (bytes : List ℕ) (q : Refusal)
+    → ((s : Refusal) → named_by file r ≡ Err s → (o : ℕ) × (why : FileKind) × (s ≡ BadImage file o why))
+    → (named_by file r >>= λ a. placed_aif file at bytes a) ≡ Err q → (o : ℕ) × (why : FileKind) × (q ≡ BadImage file o why)
+wrong_aif (Ok a) file at bytes q wrong h = wrong_base file at a bytes q h
+wrong_aif (Err r) file at bytes q wrong h = wrong q (let same : ◌≡◌ {A = Result Image Refusal} (Err (named file r)) (Err q) = h in let is : named file r ≡ q = cc in ap (λ (s : Refusal). Err s) is)
+
+pub aif_refused : (e : Fault) (told : Option Files) (rose : Type 0) (file bytes : List ℕ) (at : Option ℕ) → IsFound told file bytes → Gives {A = Image} (Err e) (aif_at file at bytes)
+    → Reads (IsRead told rose (image.Aif file at)) rose (IsInput told (image.Aif file at)) (Err (fault_end e))
+unfolding aif_of
+aif_refused (fault.Refused r) None rose file bytes at found h =
+    let wrong = wrong_aif (judged checks bytes) file at bytes r (λ s. wrong_header checks bytes file s) h in not_lost rose _ r file wrong.0 wrong.1 wrong.2
+aif_refused (fault.Refused r) (Some files) rose file bytes at found h = sym (ap (λ x. found_or file x >>= λ b. aif_at file at b) found ∙ h)
+aif_refused (fault.ReadFault name) told rose file bytes at found h = absurd h
+aif_refused fault.NoMemory told rose file bytes at found h = tt
 
 -- ---- load files
 

@@ -22,6 +22,11 @@ Reads is rose input (Err (end.Refused r)) = is (Err r)
 Reads is rose input (Err (end.Failed name)) = rose × input name
 Reads is rose input (Err end.NoMemory) = Unit {0}
 
+-- what a reader gives of a file, with the file's name in a refusal
+abbrev pub named_by : {A : Type 0} → List ℕ → Result A Refusal → Result A Refusal
+named_by name (Ok x) = Ok x
+named_by name (Err r) = Err (named name r)
+
 -- the end where an input was not read, and where a file is refused
 abbrev pub input_end : InputEnd → ImageEnd
 input_end (input.Missing name) = end.Refused (Missing name)

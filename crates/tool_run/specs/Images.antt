@@ -1,4 +1,5 @@
--- The image that the words of a run name, by files: a binary at an address, or the load files of a map. This project's.
+-- The image that the words of a run name, by files: a binary at an address, an ARM image file, or the load files of a
+-- map. This project's.
 use Rattle.std.specs.Prelude.{◌≡◌, ℕ, ◌+◌, ◌==◌, if◌then◌else◌, Bool, true, List, [], ◌∷◌, ◌++◌, map, take, length, slice_index_or, Option, Some, None, Result, Ok, Err, ◌⊎◌}
 use Rattle.std.specs.List.{list_any, position, zip}
 use Rattle.sdt_fault.specs.declared.kinds.FileKind.TheVariants as kind
@@ -14,9 +15,11 @@ use Rattle.bin_image.specs.Reading.{map_of}
 use Rattle.run_opening.specs.declared.image.Image.{Image}
 use Rattle.run_opening.specs.declared.image.Load.{Load}
 use Rattle.run_opening.specs.declared.image.Need.{Need}
-use Rattle.tool_answers.specs.Inputs.{input_of, inputs_of, named, IsReached}
+use Rattle.tool_answers.specs.Inputs.{input_of, inputs_of, IsReached}
 use Rattle.tool_words.specs.declared.command.RunImage.{RunImage}
 use Rattle.tool_words.specs.declared.command.RunImage.TheVariants as image
+use Rattle.tool_run.specs.Aifs.{aif_at}
+use Rattle.tool_run.specs.Ends.{named_by}
 
 -- ---- a binary
 
@@ -90,17 +93,13 @@ mapped_image m files =
     inputs_of files (front_of (files_in m) (unnamed (files_in m))) >>= λ contents.
     all_named (files_in m) (unnamed (files_in m)) >>= λ right. loaded_image m contents
 
--- what a reader gives of a file, with the file's name in a refusal
-abbrev pub named_by : {A : Type 0} → List ℕ → Result A Refusal → Result A Refusal
-named_by name (Ok x) = Ok x
-named_by name (Err r) = Err (named name r)
-
 -- ---- the image
 
--- what the words name, or the first refusal: the file is missing, the map's text is wrong, a load file is missing, a
--- load file has another length
+-- what the words name, or the first refusal: the file is missing, it is no ARM image file or may not stand at the
+-- address, the map's text is wrong, a load file is missing, a load file has another length
 abbrev pub image_of : RunImage → Files → Result Image Refusal
 image_of (image.Binary file at) files = input_of files file >>= λ bytes. Ok (binary_image at bytes)
+image_of (image.Aif file at) files = input_of files file >>= λ bytes. aif_at file at bytes
 image_of (image.Map file) files =
     input_of files file >>= λ text. named_by file (map_of text) >>= λ m. mapped_image m files
 
@@ -112,9 +111,10 @@ pub record IsLoadFile (told : Option Files) (file name : List ℕ) : Type 0 wher
   pub reads : ReadsMap text m
   pub reached : IsReached told (files_in m) name
 
--- the file is one that the words name: the binary, the map, or one of the map's load files
+-- the file is one that the words name: the binary, the ARM image file, the map, or one of the map's load files
 abbrev pub IsInput : Option Files → RunImage → List ℕ → Type 0
 IsInput told (image.Binary file at) name = name ≡ file
+IsInput told (image.Aif file at) name = name ≡ file
 IsInput told (image.Map file) name = (name ≡ file) ⊎ IsLoadFile told file name
 
 -- a refusal for a missing input comes only with a fault, or where its name is the name of no file

@@ -10,6 +10,7 @@ ghost use Rattle.tool_run.specs.Images as images;
 ghost use Rattle.tool_run.specs.Images.{IsGiven, IsInput, IsRead};
 ghost use Rattle.tool_run.specs.Ends.{Reads};
 
+use crate::aifs::aif_at;
 use crate::ends::{ImageEnd, fault_end, input_end, missing};
 use crate::maps::{files_in, front_of, loaded_image, map_named, unnamed};
 use bin_image::MapFile;
@@ -61,6 +62,29 @@ fn read_binary<S: Store>(
     }
 }
 
+fn read_aif_file<S: Store>(
+    alloc: Global,
+    store: &mut S,
+    file: &Text,
+    at: Option<u32>,
+) -> Result<Image, ImageEnd>
+    ensures read { let told = S.files store.old in let rose = Rose (S.read_faults store.old) (S.read_faults store.new) in
+        Reads (IsRead told rose (image.Aif file.now at)) rose (IsInput told (image.Aif file.now at)) result }
+    ensures needed { IfOk result (λ image. AreNeeded image) }
+    ensures files { S.files store.new ≡ S.files store.old }
+    ensures read_faults { S.read_faults store.old ≤ S.read_faults store.new }
+    ensures write_faults { S.write_faults store.new ≡ S.write_faults store.old }
+{
+    let bytes = match read_input(alloc, store, file) {
+        Ok(bytes) => bytes,
+        Err(end) => return Err(input_end(end)),
+    };
+    match aif_at(alloc, file, at, bytes) {
+        Ok(image) => Ok(image),
+        Err(fault) => Err(fault_end(fault)),
+    }
+}
+
 fn read_loads<S: Store>(alloc: Global, store: &mut S, m: &MapFile) -> Result<Image, ImageEnd>
     ensures read { let told = S.files store.old in let rose = Rose (S.read_faults store.old) (S.read_faults store.new) in
         Reads (IsGiven (images.mapped_image m.now) told rose (IsReached told (images.files_in m.now))) rose (IsReached told (images.files_in m.now)) result }
@@ -104,8 +128,9 @@ fn read_mapped<S: Store>(alloc: Global, store: &mut S, file: &Text) -> Result<Im
     }
 }
 
-/// The image that the words of a run name. The map is read first, then its load files in their order, and then their
-/// lengths are judged. A load file whose name has a zero byte is missing.
+/// The image that the words of a run name. Of an ARM image file the header is judged, and then where it may stand. A map
+/// is read first, then its load files in their order, and then their lengths are judged. A load file whose name has a
+/// zero byte is missing.
 pub fn read_image<S: Store>(
     alloc: Global,
     store: &mut S,
@@ -119,6 +144,7 @@ pub fn read_image<S: Store>(
     ensures write_faults { S.write_faults store.new ≡ S.write_faults store.old }
 {
     match words {
+        RunImage::Aif { file, at } => read_aif_file(alloc, store, file, *at),
         RunImage::Binary { file, at } => read_binary(alloc, store, file, *at),
         RunImage::Map { file } => read_mapped(alloc, store, file),
     }

@@ -1,6 +1,7 @@
 //! The command `run`: an image from files, the machine's run of it over banks and devices, and the answer.
 #![tactic(auto)]
 
+mod aifs;
 mod banks;
 mod command;
 mod ends;

@@ -5,6 +5,7 @@ ghost use Rattle.chunk_file.specs.Reading.{Gives};
 ghost use Rattle.bin_image.specs.Maps.{ReadsMap};
 ghost use Rattle.bin_image.specs.Reading.{map_of};
 ghost use Rattle.run_opening.specs.Openings.{AreNeeded};
+ghost use Rattle.tool_run.specs.Ends.{named_by};
 ghost use Rattle.tool_run.specs.Images as images;
 
 use crate::ends::named_fault;
@@ -19,7 +20,7 @@ use std::alloc::Global;
 /// The map that a file spells, or its refusal with the file's name.
 pub fn map_named(alloc: Global, name: &Text, bytes: &[u8]) -> Result<MapFile, Fault>
     requires { length bytes.now < 2 ^ 32 }
-    ensures exact { Gives result (images.named_by name.now (map_of bytes.now)) }
+    ensures exact { Gives result (named_by name.now (map_of bytes.now)) }
     ensures found { IfOk result (λ m. ReadsMap bytes.now m) }
 {
     match read_map(alloc, bytes) {

@@ -15,7 +15,7 @@ use Rattle.tool_words.specs.declared.items.Role.TheVariants.{Name, Known, Unknow
 use Rattle.tool_words.specs.declared.items.Item.{Item}
 use Rattle.tool_words.specs.Items.{word_at}
 use Rattle.tool_words.specs.Rules.{code, has, is_flag, is_name, number_at, is_aligned, is_size, first_is_good, value_fault, or_else, values_fault, is_allowed, is_surplus, name_count, role_fault, items_fault, names_fault, needs_mode, is_met, is_complete, lesser, verb_fault, mode_of}
-use Rattle.tool_words.specs.Commands.{number_of, bank_at, banks_in, image_of, form_of, names_in, link_words, library_command, verb_command, IsBank, IsPlaced, IsFormed, AreBanks, IsLinked, IsGood}
+use Rattle.tool_words.specs.Commands.{number_of, number_told, bank_at, banks_in, image_of, form_of, names_in, link_words, library_command, verb_command, IsBank, IsAddress, IsPlaced, IsFormed, AreBanks, IsLinked, IsGood}
 use Rattle.base_lemmas.proofs.BaseLemmas.{first_of_both, second_of_both}
 
 -- ---- no fault at all
@@ -75,7 +75,8 @@ flag_at n =
     if n == 0 then flag.Create else (if n == 1 then flag.Table else (if n == 2 then flag.Extract else (
     if n == 3 then flag.Output else (if n == 4 then flag.Map else (if n == 5 then flag.Bin else (
     if n == 6 then flag.At else (if n == 7 then flag.Memory else (if n == 8 then flag.Rom else (
-    if n == 9 then flag.Steps else (if n == 10 then flag.Scatter else (if n == 11 then flag.Base else flag.Ram)))))))))))
+    if n == 9 then flag.Steps else (if n == 10 then flag.Scatter else (if n == 11 then flag.Aif else (
+    if n == 12 then flag.Reloc else (if n == 13 then flag.Base else flag.Ram)))))))))))))
 
 back : (f : Flag) → flag_at (code f) ≡ f
 unfolding flag_at
@@ -90,6 +91,8 @@ back flag.Memory = refl
 back flag.Rom = refl
 back flag.Steps = refl
 back flag.Scatter = refl
+back flag.Aif = refl
+back flag.Reloc = refl
 back flag.Base = refl
 back flag.Ram = refl
 
@@ -156,6 +159,15 @@ unfolding found_at
 address_fine verb f k words [] usual u all = u
 address_fine verb f k words (i ∷ is) usual u all = address_more verb f k words i is usual _ refl all.0 (address_fine verb f k words is usual u all.1)
 
+told_more : (verb : Verb) (f : Flag) → Addresses f → (words : List (List ℕ)) (i : Item) (is : List Item) (b : Bool) → is_flag f i.role ≡ b → HasValues verb words i → IsAddress (number_told words is f)
+    → IsAddress (option_map (λ at. unwrap_or (number_at words (at + 1)) 0) (option_map (λ j. j.at) (cond b (Some i) (find (λ j. is_flag f j.role) is))))
+told_more verb f k words i is true e fine rest = address_of verb f k words i.at (fine f (role_of_flag f i.role e))
+told_more verb f k words i is false e fine rest = rest
+
+told_fine : (verb : Verb) (f : Flag) → Addresses f → (words : List (List ℕ)) (items : List Item) → AllByRecursion (HasValues verb words) items → IsAddress (number_told words items f)
+told_fine verb f k words [] all = tt
+told_fine verb f k words (i ∷ is) all = told_more verb f k words i is _ refl all.0 (told_fine verb f k words is all.1)
+
 image_fine : (verb : Verb) (mode : Option Flag) (words : List (List ℕ)) (items : List Item) → AllByRecursion (HasValues verb words) items → IsPlaced (image_of mode words items)
 image_fine verb None words items all = address_fine verb flag.At entry words items 0 refl all
 image_fine verb (Some flag.Create) words items all = address_fine verb flag.At entry words items 0 refl all
@@ -169,6 +181,8 @@ image_fine verb (Some flag.Memory) words items all = address_fine verb flag.At e
 image_fine verb (Some flag.Rom) words items all = address_fine verb flag.At entry words items 0 refl all
 image_fine verb (Some flag.Steps) words items all = address_fine verb flag.At entry words items 0 refl all
 image_fine verb (Some flag.Scatter) words items all = address_fine verb flag.At entry words items 0 refl all
+image_fine verb (Some flag.Aif) words items all = told_fine verb flag.At entry words items all
+image_fine verb (Some flag.Reloc) words items all = address_fine verb flag.At entry words items 0 refl all
 image_fine verb (Some flag.Base) words items all = address_fine verb flag.At entry words items 0 refl all
 image_fine verb (Some flag.Ram) words items all = address_fine verb flag.At entry words items 0 refl all
 
@@ -185,6 +199,8 @@ form_fine verb (Some flag.Memory) words items all = address_fine verb flag.Base 
 form_fine verb (Some flag.Rom) words items all = address_fine verb flag.Base base words items 0x8000 refl all
 form_fine verb (Some flag.Steps) words items all = address_fine verb flag.Base base words items 0x8000 refl all
 form_fine verb (Some flag.Scatter) words items all = tt
+form_fine verb (Some flag.Aif) words items all = address_fine verb flag.Base base words items 0x8000 refl all
+form_fine verb (Some flag.Reloc) words items all = address_fine verb flag.Base base words items 0x8000 refl all
 form_fine verb (Some flag.Base) words items all = address_fine verb flag.Base base words items 0x8000 refl all
 form_fine verb (Some flag.Ram) words items all = address_fine verb flag.Base base words items 0x8000 refl all
 
@@ -224,6 +240,8 @@ library_good (Some flag.Memory) words items = tt
 library_good (Some flag.Rom) words items = tt
 library_good (Some flag.Steps) words items = tt
 library_good (Some flag.Scatter) words items = tt
+library_good (Some flag.Aif) words items = tt
+library_good (Some flag.Reloc) words items = tt
 library_good (Some flag.Base) words items = tt
 library_good (Some flag.Ram) words items = tt
 

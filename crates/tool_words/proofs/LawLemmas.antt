@@ -9,7 +9,7 @@ use Rattle.tool_words.specs.declared.items.Role.{Role}
 use Rattle.tool_words.specs.declared.items.Role.TheVariants.{Name, Known, Unknown}
 use Rattle.tool_words.specs.declared.items.Item.{Item}
 use Rattle.tool_words.specs.declared.command.Command.{Command}
-use Rattle.tool_words.specs.Items.{word_at, verb_named, bin_count, value_count, count_of, items_of}
+use Rattle.tool_words.specs.Items.{word_at, verb_named, form_count, value_count, count_of, items_of}
 use Rattle.tool_words.specs.Rules.{has, is_name, is_bank, bank_count, name_count, is_mode, mode_of, is_plain, first_is_good, second_is_good, value_fault, values_fault, or_else, is_allowed, is_surplus, most_names, is_below, role_fault, items_fault, stands, repeated, must_differ, names_fault, needs_mode, needs_name, needs_output, needs_address, is_met, is_complete, lesser, verb_fault}
 use Rattle.tool_words.specs.Commands.{told, unless, verb_command, verb_words}
 use Rattle.tool_words.specs.Laws as laws
@@ -37,12 +37,13 @@ value_of_test words at good false e =
 value_tells : (words : List (List ℕ)) (at : ℕ) (good : Bool) → Tells (IsBad (length words) at good) (length words ≤ at) (length words) (value_fault words at good)
 value_tells words at good = value_of_test words at good (nat_lt at (length words)) refl
 
-bin_most : (verb : Verb) → bin_count verb ≤ 2
-bin_most Run = omega arith
-bin_most verb = omega arith
+form_most : (verb : Verb) → form_count verb ≤ 2
+form_most Run = omega arith
+form_most verb = omega arith
 
 values_most : (verb : Verb) (f : Flag) → value_count verb f ≤ 2
-values_most verb flag.Bin = bin_most verb
+values_most verb flag.Aif = form_most verb
+values_most verb flag.Bin = form_most verb
 values_most verb f = omega arith
 
 -- of an option with so many values, the first

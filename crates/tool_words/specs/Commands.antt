@@ -5,7 +5,7 @@ use Rattle.std.specs.Option.{option_map_or}
 use Rattle.tool_words.specs.declared.items.Verb.{Verb}
 use Rattle.tool_words.specs.declared.items.Verb.TheVariants.{Assemble, Library, List as Listing, Run, Link, Build}
 use Rattle.tool_words.specs.declared.items.Flag.{Flag}
-use Rattle.tool_words.specs.declared.items.Flag.TheVariants.{Create, Table, Extract, Output, Bin, At, Memory, Rom, Steps, Base, Ram}
+use Rattle.tool_words.specs.declared.items.Flag.TheVariants.{Create, Table, Extract, Output, Bin, At, Memory, Rom, Steps, Reloc, Base, Ram}
 use Rattle.tool_words.specs.declared.items.Flag.TheVariants as flag
 use Rattle.tool_words.specs.declared.items.Item.{Item}
 use Rattle.tool_words.specs.declared.command.Bank.{Bank}
@@ -32,6 +32,9 @@ value_of words items f = option_map_or (λ at. word_at words (at + 1)) (place_of
 abbrev pub number_of : List (List ℕ) → List Item → Flag → ℕ → ℕ
 number_of words items f usual = option_map_or (λ at. unwrap_or (number_at words (at + 1)) 0) (place_of f items) usual
 
+abbrev pub number_told : List (List ℕ) → List Item → Flag → Option ℕ
+number_told words items f = option_map (λ at. unwrap_or (number_at words (at + 1)) 0) (place_of f items)
+
 abbrev pub names_in : List (List ℕ) → List Item → List (List ℕ)
 names_in words items = map (λ i. word_at words i.at) (filter (λ i. is_name i.role) items)
 
@@ -50,11 +53,13 @@ banks_in words items f = map (λ i. bank_at words i.at) (filter (λ i. is_flag f
 
 abbrev pub image_of : Option Flag → List (List ℕ) → List Item → RunImage
 image_of (Some flag.Map) words items = image.Map (value_of words items flag.Map)
+image_of (Some flag.Aif) words items = image.Aif (value_of words items flag.Aif) (number_told words items At)
 image_of mode words items = image.Binary (value_of words items Bin) (number_of words items At 0)
 
 -- the form of an image that is made, and the banks that it may use, where any is told
 abbrev pub form_of : Option Flag → List (List ℕ) → List Item → LinkForm
 form_of (Some flag.Scatter) words items = form.Scatter (value_of words items flag.Scatter)
+form_of (Some flag.Aif) words items = form.Aif (number_of words items Base 0x8000) (has Reloc items)
 form_of mode words items = form.Plain (number_of words items Base 0x8000)
 
 abbrev pub ram_of : List (List ℕ) → List Item → Option (List Bank)
@@ -128,12 +133,18 @@ pub record IsBank (b : Bank) : Type 0 where
   pub some : 0 < b.size
   pub end : b.base + b.size ≤ 2 ^ 32
 
+abbrev pub IsAddress : Option ℕ → Type 0
+IsAddress None = Unit {0}
+IsAddress (Some at) = at % 4 ≡ 0
+
 abbrev pub IsPlaced : RunImage → Type 0
 IsPlaced (image.Map file) = Unit {0}
+IsPlaced (image.Aif file at) = IsAddress at
 IsPlaced (image.Binary file at) = at % 4 ≡ 0
 
 abbrev pub IsFormed : LinkForm → Type 0
 IsFormed (form.Scatter file) = Unit {0}
+IsFormed (form.Aif base relocatable) = base % 4 ≡ 0
 IsFormed (form.Plain base) = base % 4 ≡ 0
 
 abbrev pub AreBanks : Option (List Bank) → Type 0

@@ -3,7 +3,7 @@ use Rattle.std.specs.Prelude.{ℕ, zero, suc, ◌+◌, ◌-◌, ◌==◌, nat_lt
 use Rattle.tool_words.specs.declared.items.Verb.{Verb}
 use Rattle.tool_words.specs.declared.items.Verb.TheVariants.{Assemble, Library, List as Listing, Run, Link, Build}
 use Rattle.tool_words.specs.declared.items.Flag.{Flag}
-use Rattle.tool_words.specs.declared.items.Flag.TheVariants.{Create, Table, Extract, Output, Map, Bin, At, Memory, Rom, Steps, Scatter, Base, Ram}
+use Rattle.tool_words.specs.declared.items.Flag.TheVariants.{Create, Table, Extract, Output, Map, Bin, At, Memory, Rom, Steps, Scatter, Aif, Reloc, Base, Ram}
 use Rattle.tool_words.specs.declared.items.Role.{Role}
 use Rattle.tool_words.specs.declared.items.Role.TheVariants.{Name, Known, Unknown}
 use Rattle.tool_words.specs.declared.items.Item.{Item}
@@ -22,12 +22,14 @@ verb_named word =
     if bytes_eq word (codes "link") then Some Link else (
     if bytes_eq word (codes "build") then Some Build else None)))))
 
--- an option that only the making of an image has
+-- an option of the form and place of an image
 abbrev pub image_flag_named : List ℕ → Option Flag
 image_flag_named word =
     if bytes_eq word (codes "-scatter") then Some Scatter else (
+    if bytes_eq word (codes "-aif") then Some Aif else (
+    if bytes_eq word (codes "-reloc") then Some Reloc else (
     if bytes_eq word (codes "-base") then Some Base else (
-    if bytes_eq word (codes "-ram") then Some Ram else None))
+    if bytes_eq word (codes "-ram") then Some Ram else None))))
 
 -- the option of a spelling
 abbrev pub flag_named : List ℕ → Option Flag
@@ -46,7 +48,9 @@ flag_named word =
 -- the options of making an image
 abbrev pub is_image_flag : Flag → Bool
 is_image_flag Scatter = true
+is_image_flag Aif = true
 is_image_flag Bin = true
+is_image_flag Reloc = true
 is_image_flag Base = true
 is_image_flag Output = true
 is_image_flag Ram = true
@@ -63,6 +67,7 @@ has_flag Library Output = true
 has_flag Library other = false
 has_flag Listing flag = false
 has_flag Run Map = true
+has_flag Run Aif = true
 has_flag Run Bin = true
 has_flag Run At = true
 has_flag Run Memory = true
@@ -85,17 +90,19 @@ begins_with_dash (c ∷ cs) = c == 45
 abbrev pub role_of : Verb → List ℕ → Role
 role_of verb word = if begins_with_dash word then flag_role verb (flag_named word) else Name
 
--- how many values -bin has: the file of an image to run, and none where the image is made
-abbrev pub bin_count : Verb → ℕ
-bin_count Run = 1
-bin_count other = 0
+-- how many values -aif and -bin have: the file of an image to run, and none where the image is made
+abbrev pub form_count : Verb → ℕ
+form_count Run = 1
+form_count other = 0
 
--- how many values an option has: a base and a size, or one word
+-- how many values an option has: a base and a size, one word, or none
 abbrev pub value_count : Verb → Flag → ℕ
 value_count verb Memory = 2
 value_count verb Rom = 2
 value_count verb Ram = 2
-value_count verb Bin = bin_count verb
+value_count verb Aif = form_count verb
+value_count verb Bin = form_count verb
+value_count verb Reloc = 0
 value_count verb other = 1
 
 -- how many values follow; none follow an option that the command hasn't

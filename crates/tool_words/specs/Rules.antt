@@ -5,7 +5,7 @@ use Rattle.std.specs.List.{list_any, list_all}
 use Rattle.tool_words.specs.declared.items.Verb.{Verb}
 use Rattle.tool_words.specs.declared.items.Verb.TheVariants.{Assemble, Library, List as Listing, Run, Link, Build}
 use Rattle.tool_words.specs.declared.items.Flag.{Flag}
-use Rattle.tool_words.specs.declared.items.Flag.TheVariants.{Create, Table, Extract, Output, Map, Bin, At, Memory, Rom, Steps, Scatter, Base, Ram}
+use Rattle.tool_words.specs.declared.items.Flag.TheVariants.{Create, Table, Extract, Output, Map, Bin, At, Memory, Rom, Steps, Scatter, Aif, Reloc, Base, Ram}
 use Rattle.tool_words.specs.declared.items.Role.{Role}
 use Rattle.tool_words.specs.declared.items.Role.TheVariants.{Name, Known, Unknown}
 use Rattle.tool_words.specs.declared.items.Item.{Item}
@@ -27,8 +27,10 @@ code Memory = 7
 code Rom = 8
 code Steps = 9
 code Scatter = 10
-code Base = 11
-code Ram = 12
+code Aif = 11
+code Reloc = 12
+code Base = 13
+code Ram = 14
 
 abbrev pub is_flag : Flag → Role → Bool
 is_flag flag Name = false
@@ -69,6 +71,7 @@ is_mode Extract = true
 is_mode Map = true
 is_mode Bin = true
 is_mode Scatter = true
+is_mode Aif = true
 is_mode other = false
 
 -- the first such option
@@ -88,6 +91,10 @@ mode_of (i ∷ is) = flag_or (role_mode i.role) (mode_of is)
 abbrev pub is_the_mode : Flag → Option Flag → Bool
 is_the_mode flag None = false
 is_the_mode flag (Some mode) = code flag == code mode
+
+-- an image that is one file, with an address of its own
+abbrev pub is_single : Option Flag → Bool
+is_single mode = is_the_mode Aif mode || is_the_mode Bin mode
 
 -- ---- values
 
@@ -141,15 +148,17 @@ values_fault verb flag words at =
 
 -- ---- rules
 
--- an option that depends on another: -o of a library on -e, -at on -bin; of an image that is made, none beside
--- -scatter takes -base, and none beside -bin takes -ram
+-- an option that depends on another: -o of a library on -e, -at on -aif or -bin; of an image that is made, -reloc on
+-- -aif, none beside -scatter takes -base, and none beside -aif or -bin takes -ram
 abbrev pub is_allowed : Verb → Option Flag → Flag → Bool
 is_allowed Library mode Output = is_the_mode Extract mode
-is_allowed Run mode At = is_the_mode Bin mode
+is_allowed Run mode At = is_single mode
 is_allowed Link mode Base = not (is_the_mode Scatter mode)
 is_allowed Build mode Base = not (is_the_mode Scatter mode)
-is_allowed Link mode Ram = not (is_the_mode Bin mode)
-is_allowed Build mode Ram = not (is_the_mode Bin mode)
+is_allowed Link mode Reloc = is_the_mode Aif mode
+is_allowed Build mode Reloc = is_the_mode Aif mode
+is_allowed Link mode Ram = not (is_single mode)
+is_allowed Build mode Ram = not (is_single mode)
 is_allowed verb mode flag = true
 
 -- an option stands once, or sixteen times if it is of banks, and beside no other of which there is one

@@ -23,6 +23,8 @@ pub struct Bank {
 pub enum RunImage {
     /// In the load files of this map.
     Map { file: Text },
+    /// In this ARM image file, which is loaded at an address or, with none, at its own, and entered there.
+    Aif { file: Text, at: Option<u32> },
     /// In this file, which is loaded at an address and entered there.
     Binary { file: Text, at: u32 },
 }
@@ -42,6 +44,8 @@ pub struct RunWords {
 pub enum LinkForm {
     /// Load files and their map, placed as this scatter file says.
     Scatter { file: Text },
+    /// An ARM image file for an address that is a multiple of 4, and whether it can run elsewhere too.
+    Aif { base: u32, relocatable: bool },
     /// The bytes alone, from an address that is a multiple of 4.
     Plain { base: u32 },
 }
@@ -239,6 +243,17 @@ fn number_of(words: &[String], items: &[Item], flag: Flag, usual: u32) -> u32
     }
 }
 
+/// The number of an option that may be left out.
+fn number_told(words: &[String], items: &[Item], flag: Flag) -> Option<u32>
+    requires { All (λ i. i.at < length words.now) items.now }
+    ensures { result ≡ commands.number_told (map string_bytes words.now) items.now flag }
+{
+    match place_of(words, items, flag) {
+        None => None,
+        Some(at) => Some(number_at(words, at + 1).unwrap_or(0)),
+    }
+}
+
 fn names_in(alloc: Global, words: &[String], items: &[Item]) -> Result<List<Text>, NoMemory>
     ensures { IfOk result (λ names. names ≡ commands.names_in (map string_bytes words.now) items.now) }
 {
@@ -301,6 +316,11 @@ fn image_of(
         let file = value_of(alloc, words, items, Flag::Map)?;
         return Ok(RunImage::Map { file });
     }
+    if let Some(Flag::Aif) = mode {
+        let file = value_of(alloc, words, items, Flag::Aif)?;
+        let at = number_told(words, items, Flag::At);
+        return Ok(RunImage::Aif { file, at });
+    }
     let file = value_of(alloc, words, items, Flag::Bin)?;
     let at = number_of(words, items, Flag::At, 0);
     Ok(RunImage::Binary { file, at })
@@ -320,6 +340,10 @@ fn form_of(
         return Ok(LinkForm::Scatter { file });
     }
     let base = number_of(words, items, Flag::Base, 0x8000);
+    if let Some(Flag::Aif) = mode {
+        let relocatable = has(Flag::Reloc, items);
+        return Ok(LinkForm::Aif { base, relocatable });
+    }
     Ok(LinkForm::Plain { base })
 }
 

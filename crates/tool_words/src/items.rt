@@ -48,6 +48,10 @@ pub enum Flag {
     Steps,
     /// `-scatter`
     Scatter,
+    /// `-aif`
+    Aif,
+    /// `-reloc`
+    Reloc,
     /// `-base`
     Base,
     /// `-ram`
@@ -141,12 +145,18 @@ fn flag_named(word: &[u8]) -> Option<Flag>
     image_flag_named(word)
 }
 
-/// An option that only the making of an image has.
+/// An option of the form and place of an image.
 fn image_flag_named(word: &[u8]) -> Option<Flag>
     ensures { result ≡ items.image_flag_named word.now }
 {
     if is(word, b"-scatter") {
         return Some(Flag::Scatter);
+    }
+    if is(word, b"-aif") {
+        return Some(Flag::Aif);
+    }
+    if is(word, b"-reloc") {
+        return Some(Flag::Reloc);
     }
     if is(word, b"-base") {
         return Some(Flag::Base);
@@ -169,7 +179,7 @@ fn has_flag(verb: Verb, flag: Flag) -> bool
         Verb::List => false,
         Verb::Run => matches!(
             flag,
-            Flag::Map | Flag::Bin | Flag::At | Flag::Memory | Flag::Rom | Flag::Steps
+            Flag::Map | Flag::Aif | Flag::Bin | Flag::At | Flag::Memory | Flag::Rom | Flag::Steps
         ),
         Verb::Link => is_image_flag(flag),
         Verb::Build => is_image_flag(flag),
@@ -181,7 +191,7 @@ fn is_image_flag(flag: Flag) -> bool
 {
     matches!(
         flag,
-        Flag::Scatter | Flag::Bin | Flag::Base | Flag::Output | Flag::Ram
+        Flag::Scatter | Flag::Aif | Flag::Bin | Flag::Reloc | Flag::Base | Flag::Output | Flag::Ram
     )
 }
 
@@ -208,8 +218,8 @@ fn flag_role(verb: Verb, named: Option<Flag>) -> Role
     }
 }
 
-fn bin_count(verb: Verb) -> usize
-    ensures { result ≡ items.bin_count verb }
+fn form_count(verb: Verb) -> usize
+    ensures { result ≡ items.form_count verb }
 {
     match verb {
         Verb::Run => 1,
@@ -225,7 +235,9 @@ pub fn value_count(verb: Verb, flag: Flag) -> usize
         Flag::Memory => 2,
         Flag::Rom => 2,
         Flag::Ram => 2,
-        Flag::Bin => bin_count(verb),
+        Flag::Aif => form_count(verb),
+        Flag::Bin => form_count(verb),
+        Flag::Reloc => 0,
         _ => 1,
     }
 }

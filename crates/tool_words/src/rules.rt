@@ -74,7 +74,13 @@ fn is_mode(flag: Flag) -> bool
 {
     matches!(
         flag,
-        Flag::Create | Flag::Table | Flag::Extract | Flag::Map | Flag::Bin | Flag::Scatter
+        Flag::Create
+            | Flag::Table
+            | Flag::Extract
+            | Flag::Map
+            | Flag::Bin
+            | Flag::Scatter
+            | Flag::Aif
     )
 }
 
@@ -113,6 +119,13 @@ fn is_the_mode(flag: Flag, mode: Option<Flag>) -> bool
         None => false,
         Some(mode) => code(flag) == code(mode),
     }
+}
+
+/// Whether the image is one file, with an address of its own.
+fn is_single(mode: Option<Flag>) -> bool
+    ensures { result ≡ rules.is_single mode }
+{
+    is_the_mode(Flag::Aif, mode) || is_the_mode(Flag::Bin, mode)
 }
 
 fn is_plain(word: &[u8]) -> bool
@@ -233,11 +246,13 @@ fn is_allowed(verb: Verb, mode: Option<Flag>, flag: Flag) -> bool
 {
     match (verb, flag) {
         (Verb::Library, Flag::Output) => is_the_mode(Flag::Extract, mode),
-        (Verb::Run, Flag::At) => is_the_mode(Flag::Bin, mode),
+        (Verb::Run, Flag::At) => is_single(mode),
         (Verb::Link, Flag::Base) => !is_the_mode(Flag::Scatter, mode),
         (Verb::Build, Flag::Base) => !is_the_mode(Flag::Scatter, mode),
-        (Verb::Link, Flag::Ram) => !is_the_mode(Flag::Bin, mode),
-        (Verb::Build, Flag::Ram) => !is_the_mode(Flag::Bin, mode),
+        (Verb::Link, Flag::Reloc) => is_the_mode(Flag::Aif, mode),
+        (Verb::Build, Flag::Reloc) => is_the_mode(Flag::Aif, mode),
+        (Verb::Link, Flag::Ram) => !is_single(mode),
+        (Verb::Build, Flag::Ram) => !is_single(mode),
         (_, _) => true,
     }
 }

@@ -1,0 +1,8 @@
+use Rattle.aif_laws.proofs.FileLemmas.{fixed_file, relocatable_file}
+use Rattle.aif_laws.proofs.laws.file_law.Goals as goal
+
+pub returns-clause-fixed : goal.returns-clause-fixed
+returns-clause-fixed c = fixed_file
+
+pub returns-clause-relocatable : goal.returns-clause-relocatable
+returns-clause-relocatable c = relocatable_file
