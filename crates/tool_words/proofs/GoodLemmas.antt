@@ -109,16 +109,16 @@ role_of_flag f (Known g) h = ap Known (sym (same_flag f g h))
 abbrev HasValues : Verb → List (List ℕ) → Item → Type 0
 HasValues verb words i = (f : Flag) → i.role ≡ Known f → values_fault verb f words i.at ≡ None
 
-values_fine : (verb : Verb) (words : List (List ℕ)) (mode : Option Flag) (before : List Item) (at : ℕ) (role : Role) (f : Flag) → role ≡ Known f → role_fault verb words mode before at role ≡ None → values_fault verb f words at ≡ None
-values_fine verb words mode before at role f e h =
-    let k : role_fault verb words mode before at (Known f) ≡ None = ap (role_fault verb words mode before at) (sym e) ∙ h in
-    (chosen (is_allowed verb mode f && not (is_surplus before f)) (values_fault verb f words at) at k).1
+values_fine : (verb : Verb) (words : List (List ℕ)) (mode : Option Flag) (moves : Bool) (before : List Item) (at : ℕ) (role : Role) (f : Flag) → role ≡ Known f → role_fault verb words mode moves before at role ≡ None → values_fault verb f words at ≡ None
+values_fine verb words mode moves before at role f e h =
+    let k : role_fault verb words mode moves before at (Known f) ≡ None = ap (role_fault verb words mode moves before at) (sym e) ∙ h in
+    (chosen (is_allowed verb mode moves f && not (is_surplus before f)) (values_fault verb f words at) at k).1
 
-all_fine : (verb : Verb) (words : List (List ℕ)) (mode : Option Flag) (before items : List Item) → items_fault verb words mode before items ≡ None → AllByRecursion (HasValues verb words) items
-all_fine verb words mode before [] h = tt
-all_fine verb words mode before (i ∷ is) h = (
-  λ f e. values_fine verb words mode before i.at i.role f e (first_none (role_fault verb words mode before i.at i.role) _ h),
-  all_fine verb words mode (before ++ i ∷ []) is (later_none (role_fault verb words mode before i.at i.role) _ h),
+all_fine : (verb : Verb) (words : List (List ℕ)) (mode : Option Flag) (moves : Bool) (before items : List Item) → items_fault verb words mode moves before items ≡ None → AllByRecursion (HasValues verb words) items
+all_fine verb words mode moves before [] h = tt
+all_fine verb words mode moves before (i ∷ is) h = (
+  λ f e. values_fine verb words mode moves before i.at i.role f e (first_none (role_fault verb words mode moves before i.at i.role) _ h),
+  all_fine verb words mode moves (before ++ i ∷ []) is (later_none (role_fault verb words mode moves before i.at i.role) _ h),
 )
 
 bank_more : (verb : Verb) (f : Flag) → Banks f → (words : List (List ℕ)) (i : Item) (is : List Item) (b : Bool) → is_flag f i.role ≡ b → HasValues verb words i → AllByRecursion IsBank (banks_in words is f)
@@ -255,11 +255,11 @@ named verb link mode items h = first_of_both (nat_lt 0 (name_count items)) _ (se
 named verb build mode items h = first_of_both (nat_lt 0 (name_count items)) _ (second_of_both (is_met (needs_mode verb) (is_some mode)) _ h)
 
 all_good : (verb : Verb) (words : List (List ℕ)) (items : List Item) → verb_fault verb words items ≡ None → AllByRecursion (HasValues verb words) items
-all_good verb words items h = all_fine verb words (mode_of items) [] items (lesser_none _ (names_fault verb (mode_of items) words items) (first_none _ _ h))
+all_good verb words items h = all_fine verb words (mode_of items) (has flag.Reloc items) [] items (lesser_none _ (names_fault verb (mode_of items) words items) (first_none _ _ h))
 
 links : (verb : Verb) → Links verb → (words : List (List ℕ)) (items : List Item) → verb_fault verb words items ≡ None → IsLinked (link_words (mode_of items) words items)
 links verb k words items h =
-    let complete : is_complete verb (mode_of items) items ≡ true = (chosen (is_complete verb (mode_of items) items) None (length words) (later_none (lesser (items_fault verb words (mode_of items) [] items) (names_fault verb (mode_of items) words items)) _ h)).0 in
+    let complete : is_complete verb (mode_of items) items ≡ true = (chosen (is_complete verb (mode_of items) items) None (length words) (later_none (lesser (items_fault verb words (mode_of items) (has flag.Reloc items) [] items) (names_fault verb (mode_of items) words items)) _ h)).0 in
     linked verb (mode_of items) words items (all_good verb words items h) (named verb k (mode_of items) items complete)
 
 pub good_words : (verb : Verb) (words : List (List ℕ)) (items : List Item) → verb_fault verb words items ≡ None → IsGood (verb_command verb (mode_of items) words items)

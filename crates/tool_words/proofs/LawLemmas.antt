@@ -133,8 +133,8 @@ no_surplus false less false false some h (inr (inr x)) = opposite false x.1 refl
 not_less : (n : ℕ) → nat_lt n 16 ≡ false → 16 ≤ n
 not_less n e = grind (arith, nat_tests)
 
-module _ (verb : Verb) (words : List (List ℕ)) (mode : Option Flag) (before : List Item) (at : ℕ) (f : Flag) where
-  from_word : (q : ℕ) → OptionBreaks verb words mode before at f q → at ≤ q
+module _ (verb : Verb) (words : List (List ℕ)) (mode : Option Flag) (moves : Bool) (before : List Item) (at : ℕ) (f : Flag) where
+  from_word : (q : ℕ) → OptionBreaks verb words mode moves before at f q → at ≤ q
   from_word q (laws.excluded e) = omega arith
   from_word q (laws.twice b e) = omega arith
   from_word q (laws.second_mode m e) = omega arith
@@ -142,12 +142,12 @@ module _ (verb : Verb) (words : List (List ℕ)) (mode : Option Flag) (before : 
   from_word q (laws.bad_value c lt e) = omega arith
   from_word q (laws.bad_size c lt e) = omega arith
 
-  of_value : (q : ℕ) → BadValue verb words at f q → OptionBreaks verb words mode before at f q
-  of_value q (inl x) = subst (OptionBreaks verb words mode before at f) (sym x.1.0) (laws.bad_value x.0 x.1.1 x.1.2)
-  of_value q (inr x) = subst (OptionBreaks verb words mode before at f) (sym x.1.0) (laws.bad_size x.0 x.1.1 x.1.2)
+  of_value : (q : ℕ) → BadValue verb words at f q → OptionBreaks verb words mode moves before at f q
+  of_value q (inl x) = subst (OptionBreaks verb words mode moves before at f) (sym x.1.0) (laws.bad_value x.0 x.1.1 x.1.2)
+  of_value q (inr x) = subst (OptionBreaks verb words mode moves before at f) (sym x.1.0) (laws.bad_size x.0 x.1.1 x.1.2)
 
-  value_only : (q : ℕ) → is_allowed verb mode f ≡ true → is_surplus before f ≡ false → OptionBreaks verb words mode before at f q → BadValue verb words at f q
-  value_only q a s (laws.excluded e) = absurd (opposite (is_allowed verb mode f) a e)
+  value_only : (q : ℕ) → is_allowed verb mode moves f ≡ true → is_surplus before f ≡ false → OptionBreaks verb words mode moves before at f q → BadValue verb words at f q
+  value_only q a s (laws.excluded e) = absurd (opposite (is_allowed verb mode moves f) a e)
   value_only q a s (laws.twice b e) = absurd (no_surplus (is_bank f) (nat_lt (bank_count before) 16) (has f before) (is_mode f) (is_some (mode_of before)) s (inr (inl (b, e))))
   value_only q a s (laws.second_mode m e) = absurd (no_surplus (is_bank f) (nat_lt (bank_count before) 16) (has f before) (is_mode f) (is_some (mode_of before)) s (inr (inr (mode_no_bank f m, m, e))))
   value_only q a s (laws.too_many_banks b e) =
@@ -156,18 +156,18 @@ module _ (verb : Verb) (words : List (List ℕ)) (mode : Option Flag) (before : 
   value_only q a s (laws.bad_value c lt e) = inl (c, (refl, lt, e))
   value_only q a s (laws.bad_size c lt e) = inr (c, (refl, lt, e))
 
-  too_many : is_surplus before f ≡ true → OptionBreaks verb words mode before at f at
+  too_many : is_surplus before f ≡ true → OptionBreaks verb words mode moves before at f at
   too_many s =
       either (λ x. let full : 16 ≤ bank_count before = not_less (bank_count before) x.1 in laws.too_many_banks x.0 full)
       (either (λ x. laws.twice x.0 x.1) (λ x. laws.second_mode x.0 x.1))
       (surplus (is_bank f) (nat_lt (bank_count before) 16) (has f before) (is_mode f) (is_some (mode_of before)) s)
 
-  option_tells : (allowed many : Bool) → is_allowed verb mode f ≡ allowed → is_surplus before f ≡ many → at < length words
-      → Tells (OptionBreaks verb words mode before at f) (length words ≤ at + value_count verb f) (length words) (cond (allowed && not many) (values_fault verb f words at) (Some at))
+  option_tells : (allowed many : Bool) → is_allowed verb mode moves f ≡ allowed → is_surplus before f ≡ many → at < length words
+      → Tells (OptionBreaks verb words mode moves before at f) (length words ≤ at + value_count verb f) (length words) (cond (allowed && not many) (values_fault verb f words at) (Some at))
   option_tells false many a s lt = inl (record { holds = laws.excluded a; least = λ q l x. absurd (omega (arith, from_word q x, l)) })
   option_tells true true a s lt = inl (record { holds = too_many s; least = λ q l x. absurd (omega (arith, from_word q x, l)) })
   option_tells true false a s lt =
-      tells_same (BadValue verb words at f) (OptionBreaks verb words mode before at f) (length words ≤ at + value_count verb f) (length words ≤ at + value_count verb f) (length words) (values_fault verb f words at)
+      tells_same (BadValue verb words at f) (OptionBreaks verb words mode moves before at f) (length words ≤ at + value_count verb f) (length words ≤ at + value_count verb f) (length words) (values_fault verb f words at)
       of_value (λ q x. value_only q a s x) (λ x. x) (λ x. x) (values_tell verb words at f lt)
 
 -- ---- a name
@@ -207,63 +207,63 @@ module _ (verb : Verb) (words : List (List ℕ)) (mode : Option Flag) (before : 
 
 -- ---- an item, but for names that must differ
 
-abbrev Alone : Verb → List (List ℕ) → Option Flag → List Item → ℕ → Role → ℕ → Type 0
-Alone verb words mode before at Name q = NameAlone verb words mode before at q
-Alone verb words mode before at Unknown q = q ≡ at
-Alone verb words mode before at (Known f) q = OptionBreaks verb words mode before at f q
+abbrev Alone : Verb → List (List ℕ) → Option Flag → Bool → List Item → ℕ → Role → ℕ → Type 0
+Alone verb words mode moves before at Name q = NameAlone verb words mode before at q
+Alone verb words mode moves before at Unknown q = q ≡ at
+Alone verb words mode moves before at (Known f) q = OptionBreaks verb words mode moves before at f q
 
 abbrev Wants : Verb → List (List ℕ) → ℕ → Role → Type 0
 Wants verb words at Name = ⊥
 Wants verb words at Unknown = ⊥
 Wants verb words at (Known f) = length words ≤ at + value_count verb f
 
-role_tells : (verb : Verb) (words : List (List ℕ)) (mode : Option Flag) (before : List Item) (at : ℕ) (role : Role) → at < length words
-    → Tells (Alone verb words mode before at role) (Wants verb words at role) (length words) (role_fault verb words mode before at role)
-role_tells verb words mode before at Name lt = name_tells verb words mode before at (is_plain (word_at words at)) (most_names verb mode) refl refl
-role_tells verb words mode before at Unknown lt = inl (record { holds = refl; least = λ q l x. absurd (omega (arith, x, l)) })
-role_tells verb words mode before at (Known f) lt = option_tells verb words mode before at f (is_allowed verb mode f) (is_surplus before f) refl refl lt
+role_tells : (verb : Verb) (words : List (List ℕ)) (mode : Option Flag) (moves : Bool) (before : List Item) (at : ℕ) (role : Role) → at < length words
+    → Tells (Alone verb words mode moves before at role) (Wants verb words at role) (length words) (role_fault verb words mode moves before at role)
+role_tells verb words mode moves before at Name lt = name_tells verb words mode before at (is_plain (word_at words at)) (most_names verb mode) refl refl
+role_tells verb words mode moves before at Unknown lt = inl (record { holds = refl; least = λ q l x. absurd (omega (arith, x, l)) })
+role_tells verb words mode moves before at (Known f) lt = option_tells verb words mode moves before at f (is_allowed verb mode moves f) (is_surplus before f) refl refl lt
 
-near_option : (verb : Verb) (words : List (List ℕ)) (mode : Option Flag) (before : List Item) (at : ℕ) (f : Flag) (count q : ℕ) → at < length words → count ≡ min (value_count verb f) (length words - (at + 1))
-    → OptionBreaks verb words mode before at f q → q < at + 1 + count
-near_option verb words mode before at f count q lt c (laws.excluded e) = omega arith
-near_option verb words mode before at f count q lt c (laws.twice b e) = omega arith
-near_option verb words mode before at f count q lt c (laws.second_mode m e) = omega arith
-near_option verb words mode before at f count q lt c (laws.too_many_banks b e) = omega arith
-near_option verb words mode before at f count q lt c (laws.bad_value n l e) = omega arith
-near_option verb words mode before at f count q lt c (laws.bad_size n l e) = omega arith
+near_option : (verb : Verb) (words : List (List ℕ)) (mode : Option Flag) (moves : Bool) (before : List Item) (at : ℕ) (f : Flag) (count q : ℕ) → at < length words → count ≡ min (value_count verb f) (length words - (at + 1))
+    → OptionBreaks verb words mode moves before at f q → q < at + 1 + count
+near_option verb words mode moves before at f count q lt c (laws.excluded e) = omega arith
+near_option verb words mode moves before at f count q lt c (laws.twice b e) = omega arith
+near_option verb words mode moves before at f count q lt c (laws.second_mode m e) = omega arith
+near_option verb words mode moves before at f count q lt c (laws.too_many_banks b e) = omega arith
+near_option verb words mode moves before at f count q lt c (laws.bad_value n l e) = omega arith
+near_option verb words mode moves before at f count q lt c (laws.bad_size n l e) = omega arith
 
-near_role : (verb : Verb) (words : List (List ℕ)) (mode : Option Flag) (before : List Item) (at : ℕ) (role : Role) (count q : ℕ) → at < length words → count ≡ min (count_of verb role) (length words - (at + 1))
-    → Alone verb words mode before at role q → (at ≤ q) × (q < at + 1 + count)
-near_role verb words mode before at Name count q lt c x = (omega (arith, x.0), omega (arith, x.0))
-near_role verb words mode before at Unknown count q lt c x = (omega (arith, x), omega (arith, x))
-near_role verb words mode before at (Known f) count q lt c x = (from_word verb words mode before at f q x, near_option verb words mode before at f count q lt c x)
+near_role : (verb : Verb) (words : List (List ℕ)) (mode : Option Flag) (moves : Bool) (before : List Item) (at : ℕ) (role : Role) (count q : ℕ) → at < length words → count ≡ min (count_of verb role) (length words - (at + 1))
+    → Alone verb words mode moves before at role q → (at ≤ q) × (q < at + 1 + count)
+near_role verb words mode moves before at Name count q lt c x = (omega (arith, x.0), omega (arith, x.0))
+near_role verb words mode moves before at Unknown count q lt c x = (omega (arith, x), omega (arith, x))
+near_role verb words mode moves before at (Known f) count q lt c x = (from_word verb words mode moves before at f q x, near_option verb words mode moves before at f count q lt c x)
 
-abbrev ItemAlone : Verb → List (List ℕ) → Option Flag → List Item → Item → ℕ → Type 0
-ItemAlone verb words mode before i q = Alone verb words mode before i.at i.role q
+abbrev ItemAlone : Verb → List (List ℕ) → Option Flag → Bool → List Item → Item → ℕ → Type 0
+ItemAlone verb words mode moves before i q = Alone verb words mode moves before i.at i.role q
 
 abbrev ItemWants : Verb → List (List ℕ) → Item → Type 0
 ItemWants verb words i = Wants verb words i.at i.role
 
-near_item : (verb : Verb) (words : List (List ℕ)) (mode : Option Flag) → IsNear verb words (ItemAlone verb words mode)
-near_item verb words mode before i from q n x = near_role verb words mode before i.at i.role i.count q n.within n.values x
+near_item : (verb : Verb) (words : List (List ℕ)) (mode : Option Flag) (moves : Bool) → IsNear verb words (ItemAlone verb words mode moves)
+near_item verb words mode moves before i from q n x = near_role verb words mode moves before i.at i.role i.count q n.within n.values x
 
 role_ends : (verb : Verb) (words : List (List ℕ)) (at : ℕ) (role : Role) (count : ℕ) → at < length words → count ≡ min (count_of verb role) (length words - (at + 1)) → Wants verb words at role → length words ≤ at + 1 + count
 role_ends verb words at Name count lt c x = absurd x
 role_ends verb words at Unknown count lt c x = absurd x
 role_ends verb words at (Known f) count lt c x = omega (arith, x)
 
-items_walk : (verb : Verb) (words : List (List ℕ)) (mode : Option Flag) (before items : List Item) → walk (λ b i. role_fault verb words mode b i.at i.role) before items ≡ items_fault verb words mode before items
-items_walk verb words mode before [] = refl
-items_walk verb words mode before (i ∷ is) = ap (or_else (role_fault verb words mode before i.at i.role)) (items_walk verb words mode (before ++ i ∷ []) is)
+items_walk : (verb : Verb) (words : List (List ℕ)) (mode : Option Flag) (moves : Bool) (before items : List Item) → walk (λ b i. role_fault verb words mode moves b i.at i.role) before items ≡ items_fault verb words mode moves before items
+items_walk verb words mode moves before [] = refl
+items_walk verb words mode moves before (i ∷ is) = ap (or_else (role_fault verb words mode moves before i.at i.role)) (items_walk verb words mode moves (before ++ i ∷ []) is)
 
-items_tell : (verb : Verb) (words : List (List ℕ)) (mode : Option Flag) (items : List Item) → Chain verb words 1 items
-    → Tells (From (ItemAlone verb words mode) [] items) (Lacks (ItemWants verb words) [] items) (length words) (items_fault verb words mode [] items)
-items_tell verb words mode items c =
-    subst (Tells (From (ItemAlone verb words mode) [] items) (Lacks (ItemWants verb words) [] items) (length words)) (items_walk verb words mode [] items)
-    (walk_tells verb words (ItemAlone verb words mode) (ItemWants verb words) (λ b i. role_fault verb words mode b i.at i.role)
-    (near_item verb words mode)
+items_tell : (verb : Verb) (words : List (List ℕ)) (mode : Option Flag) (moves : Bool) (items : List Item) → Chain verb words 1 items
+    → Tells (From (ItemAlone verb words mode moves) [] items) (Lacks (ItemWants verb words) [] items) (length words) (items_fault verb words mode moves [] items)
+items_tell verb words mode moves items c =
+    subst (Tells (From (ItemAlone verb words mode moves) [] items) (Lacks (ItemWants verb words) [] items) (length words)) (items_walk verb words mode moves [] items)
+    (walk_tells verb words (ItemAlone verb words mode moves) (ItemWants verb words) (λ b i. role_fault verb words mode moves b i.at i.role)
+    (near_item verb words mode moves)
     (λ i from n x. role_ends verb words i.at i.role i.count n.within n.values x)
-    (λ before i lt. role_tells verb words mode before i.at i.role lt)
+    (λ before i lt. role_tells verb words mode moves before i.at i.role lt)
     [] items 1 c)
 
 -- ---- names that must differ
@@ -320,22 +320,22 @@ whole_name verb words mode before at q e (laws.zero_byte z) = inl (e, inl z)
 whole_name verb words mode before at q e (laws.too_many_names most limit over) = inl (e, inr (record { most = most; limit = limit; over = over }))
 whole_name verb words mode before at q e (laws.repeated d s) = inr (d, e, s)
 
-whole_role : (verb : Verb) (words : List (List ℕ)) (mode : Option Flag) (before : List Item) (at : ℕ) (role : Role) (q : ℕ)
-    → RoleBreaks verb words mode before at role q → Alone verb words mode before at role q ⊎ ((must_differ verb mode ≡ true) × (q ≡ at) × ((is_name role && stands words before (word_at words at)) ≡ true))
-whole_role verb words mode before at Name q x = whole_name verb words mode before at q x.0 x.1
-whole_role verb words mode before at Unknown q x = inl x
-whole_role verb words mode before at (Known f) q x = inl x
+whole_role : (verb : Verb) (words : List (List ℕ)) (mode : Option Flag) (moves : Bool) (before : List Item) (at : ℕ) (role : Role) (q : ℕ)
+    → RoleBreaks verb words mode moves before at role q → Alone verb words mode moves before at role q ⊎ ((must_differ verb mode ≡ true) × (q ≡ at) × ((is_name role && stands words before (word_at words at)) ≡ true))
+whole_role verb words mode moves before at Name q x = whole_name verb words mode before at q x.0 x.1
+whole_role verb words mode moves before at Unknown q x = inl x
+whole_role verb words mode moves before at (Known f) q x = inl x
 
-alone_role : (verb : Verb) (words : List (List ℕ)) (mode : Option Flag) (before : List Item) (at : ℕ) (role : Role) (q : ℕ) → Alone verb words mode before at role q → RoleBreaks verb words mode before at role q
-alone_role verb words mode before at Name q x = (x.0, either (λ z. laws.zero_byte z) (λ t. laws.too_many_names t.most t.limit t.over) x.1)
-alone_role verb words mode before at Unknown q x = x
-alone_role verb words mode before at (Known f) q x = x
+alone_role : (verb : Verb) (words : List (List ℕ)) (mode : Option Flag) (moves : Bool) (before : List Item) (at : ℕ) (role : Role) (q : ℕ) → Alone verb words mode moves before at role q → RoleBreaks verb words mode moves before at role q
+alone_role verb words mode moves before at Name q x = (x.0, either (λ z. laws.zero_byte z) (λ t. laws.too_many_names t.most t.limit t.over) x.1)
+alone_role verb words mode moves before at Unknown q x = x
+alone_role verb words mode moves before at (Known f) q x = x
 
-again_role : (verb : Verb) (words : List (List ℕ)) (mode : Option Flag) (before : List Item) (at : ℕ) (role : Role) (q : ℕ)
-    → must_differ verb mode ≡ true → q ≡ at → (is_name role && stands words before (word_at words at)) ≡ true → RoleBreaks verb words mode before at role q
-again_role verb words mode before at Name q d e s = (e, laws.repeated d s)
-again_role verb words mode before at Unknown q d e s = absurd (let bad : false ≡ true = s in cc)
-again_role verb words mode before at (Known f) q d e s = absurd (let bad : false ≡ true = s in cc)
+again_role : (verb : Verb) (words : List (List ℕ)) (mode : Option Flag) (moves : Bool) (before : List Item) (at : ℕ) (role : Role) (q : ℕ)
+    → must_differ verb mode ≡ true → q ≡ at → (is_name role && stands words before (word_at words at)) ≡ true → RoleBreaks verb words mode moves before at role q
+again_role verb words mode moves before at Name q d e s = (e, laws.repeated d s)
+again_role verb words mode moves before at Unknown q d e s = absurd (let bad : false ≡ true = s in cc)
+again_role verb words mode moves before at (Known f) q d e s = absurd (let bad : false ≡ true = s in cc)
 
 wants_option : (verb : Verb) (words : List (List ℕ)) (at : ℕ) (role : Role) → Wants verb words at role → (f : Flag) × (role ≡ Known f) × (length words ≤ at + value_count verb f)
 wants_option verb words at Name x = absurd x
@@ -343,14 +343,14 @@ wants_option verb words at Unknown x = absurd x
 wants_option verb words at (Known f) x = (f, refl, x)
 
 module _ (verb : Verb) (words : List (List ℕ)) (items : List Item) where
-  to_rule : (q : ℕ) → From (ItemAlone verb words (mode_of items)) [] items q ⊎ Same verb words (mode_of items) items q → BreaksRule verb words items q
+  to_rule : (q : ℕ) → From (ItemAlone verb words (mode_of items) (has flag.Reloc items)) [] items q ⊎ Same verb words (mode_of items) items q → BreaksRule verb words items q
   to_rule q (inl x) =
-      let f : Found (ItemAlone verb words (mode_of items)) [] items q = found (ItemAlone verb words (mode_of items)) [] items q x in record {
+      let f : Found (ItemAlone verb words (mode_of items) (has flag.Reloc items)) [] items q = found (ItemAlone verb words (mode_of items) (has flag.Reloc items)) [] items q x in record {
         before = f.before;
         item = f.item;
         after = f.after;
         all = f.all;
-        breaks = alone_role verb words (mode_of items) f.before f.item.at f.item.role q f.holds;
+        breaks = alone_role verb words (mode_of items) (has flag.Reloc items) f.before f.item.at f.item.role q f.holds;
       }
   to_rule q (inr x) =
       let f : Found (Repeats words) [] items q = found (Repeats words) [] items q x.1 in record {
@@ -358,14 +358,14 @@ module _ (verb : Verb) (words : List (List ℕ)) (items : List Item) where
         item = f.item;
         after = f.after;
         all = f.all;
-        breaks = again_role verb words (mode_of items) f.before f.item.at f.item.role q x.0 f.holds.0 f.holds.1;
+        breaks = again_role verb words (mode_of items) (has flag.Reloc items) f.before f.item.at f.item.role q x.0 f.holds.0 f.holds.1;
       }
 
-  of_rule : (q : ℕ) → BreaksRule verb words items q → From (ItemAlone verb words (mode_of items)) [] items q ⊎ Same verb words (mode_of items) items q
+  of_rule : (q : ℕ) → BreaksRule verb words items q → From (ItemAlone verb words (mode_of items) (has flag.Reloc items)) [] items q ⊎ Same verb words (mode_of items) items q
   of_rule q r =
-      either (λ a. inl (subst (λ l. From (ItemAlone verb words (mode_of items)) [] l q) r.all (placed (ItemAlone verb words (mode_of items)) [] r.before r.item r.after q a)))
+      either (λ a. inl (subst (λ l. From (ItemAlone verb words (mode_of items) (has flag.Reloc items)) [] l q) r.all (placed (ItemAlone verb words (mode_of items) (has flag.Reloc items)) [] r.before r.item r.after q a)))
       (λ x. inr (x.0, subst (λ l. From (Repeats words) [] l q) r.all (placed (Repeats words) [] r.before r.item r.after q (x.1, x.2))))
-      (whole_role verb words (mode_of items) r.before r.item.at r.item.role q r.breaks)
+      (whole_role verb words (mode_of items) (has flag.Reloc items) r.before r.item.at r.item.role q r.breaks)
 
   of_value_missing : Lacks (ItemWants verb words) [] items → IsMissing verb words items
   of_value_missing x =
@@ -449,15 +449,15 @@ repeats_within verb words items q c x = (far verb words (Repeats words) (near_re
 
 fault_tells : (verb : Verb) (words : List (List ℕ)) (items : List Item) → Chain verb words 1 items → Tells (BreaksRule verb words items) (IsMissing verb words items) (length words) (verb_fault verb words items)
 fault_tells verb words items c =
-    tells_same (λ q. From (ItemAlone verb words (mode_of items)) [] items q ⊎ Same verb words (mode_of items) items q) (BreaksRule verb words items)
+    tells_same (λ q. From (ItemAlone verb words (mode_of items) (has flag.Reloc items)) [] items q ⊎ Same verb words (mode_of items) items q) (BreaksRule verb words items)
     (Lacks (ItemWants verb words) [] items ⊎ (is_complete verb (mode_of items) items ≡ false)) (IsMissing verb words items) (length words) (verb_fault verb words items)
     (to_rule verb words items) (of_rule verb words items) (either (of_value_missing verb words items) (of_incomplete verb words items)) (to_missing verb words items)
-    (complete_tells (λ q. From (ItemAlone verb words (mode_of items)) [] items q ⊎ Same verb words (mode_of items) items q) (Lacks (ItemWants verb words) [] items) (length words)
-    (lesser (items_fault verb words (mode_of items) [] items) (names_fault verb (mode_of items) words items)) (is_complete verb (mode_of items) items)
-    (lesser_tells (From (ItemAlone verb words (mode_of items)) [] items) (Same verb words (mode_of items) items) (Lacks (ItemWants verb words) [] items) (length words)
-    (items_fault verb words (mode_of items) [] items) (names_fault verb (mode_of items) words items)
+    (complete_tells (λ q. From (ItemAlone verb words (mode_of items) (has flag.Reloc items)) [] items q ⊎ Same verb words (mode_of items) items q) (Lacks (ItemWants verb words) [] items) (length words)
+    (lesser (items_fault verb words (mode_of items) (has flag.Reloc items) [] items) (names_fault verb (mode_of items) words items)) (is_complete verb (mode_of items) items)
+    (lesser_tells (From (ItemAlone verb words (mode_of items) (has flag.Reloc items)) [] items) (Same verb words (mode_of items) items) (Lacks (ItemWants verb words) [] items) (length words)
+    (items_fault verb words (mode_of items) (has flag.Reloc items) [] items) (names_fault verb (mode_of items) words items)
     (λ q x. repeats_within verb words items q c x)
-    (items_tell verb words (mode_of items) items c)
+    (items_tell verb words (mode_of items) (has flag.Reloc items) items c)
     (names_tell verb words (mode_of items) items (must_differ verb (mode_of items)) refl c)))
 
 -- ---- the laws
@@ -498,7 +498,7 @@ fine_law words c h = fine_verb (verb_named (word_at words 0)) words c h
 
 rule_within : (verb : Verb) (words : List (List ℕ)) (items : List Item) (q : ℕ) → Chain verb words 1 items → BreaksRule verb words items q → q < length words
 rule_within verb words items q c r =
-    either (λ x. (far verb words (ItemAlone verb words (mode_of items)) (near_item verb words (mode_of items)) [] items 1 q c x).1)
+    either (λ x. (far verb words (ItemAlone verb words (mode_of items) (has flag.Reloc items)) (near_item verb words (mode_of items) (has flag.Reloc items)) [] items 1 q c x).1)
     (repeats_within verb words items q c)
     (of_rule verb words items q r)
 

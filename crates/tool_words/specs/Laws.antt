@@ -1,9 +1,9 @@
 -- What the place means that is told of words: rule by rule which word breaks it, and what may be missing. Places are
 -- counted from 0. This project's.
-use Rattle.std.specs.Prelude.{◌≡◌, ◌⊎◌, ℕ, ◌+◌, ◌<◌, ◌≤◌, true, false, List, ◌∷◌, ◌++◌, length, Option, Some, None, is_some, Ok, Err}
+use Rattle.std.specs.Prelude.{◌≡◌, ◌⊎◌, ℕ, ◌+◌, ◌<◌, ◌≤◌, Bool, true, false, List, ◌∷◌, ◌++◌, length, Option, Some, None, is_some, Ok, Err}
 use Rattle.tool_words.specs.declared.items.Verb.{Verb}
 use Rattle.tool_words.specs.declared.items.Flag.{Flag}
-use Rattle.tool_words.specs.declared.items.Flag.TheVariants.{Output, At}
+use Rattle.tool_words.specs.declared.items.Flag.TheVariants.{Output, At, Reloc}
 use Rattle.tool_words.specs.declared.items.Role.{Role}
 use Rattle.tool_words.specs.declared.items.Role.TheVariants.{Name, Known, Unknown}
 use Rattle.tool_words.specs.declared.items.Item.{Item}
@@ -14,16 +14,17 @@ use Rattle.tool_words.specs.Commands.{told, command_of}
 
 -- ---- words that break a rule
 
--- why an option breaks one, at its word or at a value: with the command's mode and the items before it
-pub data OptionBreaks (verb : Verb) (words : List (List ℕ)) (mode : Option Flag) (before : List Item) (at : ℕ) (f : Flag) : ℕ → Type 0 where
-  excluded : is_allowed verb mode f ≡ false → OptionBreaks verb words mode before at f at
-  twice : is_bank f ≡ false → has f before ≡ true → OptionBreaks verb words mode before at f at
-  second_mode : is_mode f ≡ true → is_some (mode_of before) ≡ true → OptionBreaks verb words mode before at f at
-  too_many_banks : is_bank f ≡ true → 16 ≤ bank_count before → OptionBreaks verb words mode before at f at
+-- why an option breaks one, at its word or at a value: with the command's mode, whether its image is to move, and the
+-- items before it
+pub data OptionBreaks (verb : Verb) (words : List (List ℕ)) (mode : Option Flag) (moves : Bool) (before : List Item) (at : ℕ) (f : Flag) : ℕ → Type 0 where
+  excluded : is_allowed verb mode moves f ≡ false → OptionBreaks verb words mode moves before at f at
+  twice : is_bank f ≡ false → has f before ≡ true → OptionBreaks verb words mode moves before at f at
+  second_mode : is_mode f ≡ true → is_some (mode_of before) ≡ true → OptionBreaks verb words mode moves before at f at
+  too_many_banks : is_bank f ≡ true → 16 ≤ bank_count before → OptionBreaks verb words mode moves before at f at
   bad_value : 1 ≤ value_count verb f → at + 1 < length words → first_is_good f words at ≡ false
-      → OptionBreaks verb words mode before at f (at + 1)
+      → OptionBreaks verb words mode moves before at f (at + 1)
   bad_size : 2 ≤ value_count verb f → at + 2 < length words → second_is_good words at ≡ false
-      → OptionBreaks verb words mode before at f (at + 2)
+      → OptionBreaks verb words mode moves before at f (at + 2)
 
 -- why a name does
 pub data NameBreaks (verb : Verb) (words : List (List ℕ)) (mode : Option Flag) (before : List Item) (at : ℕ) : Type 0 where
@@ -32,10 +33,10 @@ pub data NameBreaks (verb : Verb) (words : List (List ℕ)) (mode : Option Flag)
   repeated : must_differ verb mode ≡ true → stands words before (word_at words at) ≡ true → NameBreaks verb words mode before at
 
 -- an option that the command hasn't always does
-abbrev pub RoleBreaks : Verb → List (List ℕ) → Option Flag → List Item → ℕ → Role → ℕ → Type 0
-RoleBreaks verb words mode before at Name place = (place ≡ at) × NameBreaks verb words mode before at
-RoleBreaks verb words mode before at (Known f) place = OptionBreaks verb words mode before at f place
-RoleBreaks verb words mode before at Unknown place = place ≡ at
+abbrev pub RoleBreaks : Verb → List (List ℕ) → Option Flag → Bool → List Item → ℕ → Role → ℕ → Type 0
+RoleBreaks verb words mode moves before at Name place = (place ≡ at) × NameBreaks verb words mode before at
+RoleBreaks verb words mode moves before at (Known f) place = OptionBreaks verb words mode moves before at f place
+RoleBreaks verb words mode moves before at Unknown place = place ≡ at
 
 -- the word at a place breaks a rule: it is the word or a value of some item
 pub record BreaksRule (verb : Verb) (words : List (List ℕ)) (items : List Item) (place : ℕ) : Type 0 where
@@ -43,7 +44,7 @@ pub record BreaksRule (verb : Verb) (words : List (List ℕ)) (items : List Item
   pub item : Item
   pub after : List Item
   pub all : before ++ item ∷ after ≡ items
-  pub breaks : RoleBreaks verb words (mode_of items) before item.at item.role place
+  pub breaks : RoleBreaks verb words (mode_of items) (has Reloc items) before item.at item.role place
 
 -- ---- what is missing
 

@@ -92,10 +92,6 @@ abbrev pub is_the_mode : Flag → Option Flag → Bool
 is_the_mode flag None = false
 is_the_mode flag (Some mode) = code flag == code mode
 
--- an image that is one file, with an address of its own
-abbrev pub is_single : Option Flag → Bool
-is_single mode = is_the_mode Aif mode || is_the_mode Bin mode
-
 -- ---- values
 
 -- no file has a name with a zero byte
@@ -149,17 +145,17 @@ values_fault verb flag words at =
 -- ---- rules
 
 -- an option that depends on another: -o of a library on -e, -at on -aif or -bin; of an image that is made, -reloc on
--- -aif, none beside -scatter takes -base, and none beside -aif or -bin takes -ram
-abbrev pub is_allowed : Verb → Option Flag → Flag → Bool
-is_allowed Library mode Output = is_the_mode Extract mode
-is_allowed Run mode At = is_single mode
-is_allowed Link mode Base = not (is_the_mode Scatter mode)
-is_allowed Build mode Base = not (is_the_mode Scatter mode)
-is_allowed Link mode Reloc = is_the_mode Aif mode
-is_allowed Build mode Reloc = is_the_mode Aif mode
-is_allowed Link mode Ram = not (is_single mode)
-is_allowed Build mode Ram = not (is_single mode)
-is_allowed verb mode flag = true
+-- -aif, none beside -scatter takes -base, and none beside -bin or -reloc takes -ram
+abbrev pub is_allowed : Verb → Option Flag → Bool → Flag → Bool
+is_allowed Library mode moves Output = is_the_mode Extract mode
+is_allowed Run mode moves At = is_the_mode Aif mode || is_the_mode Bin mode
+is_allowed Link mode moves Base = not (is_the_mode Scatter mode)
+is_allowed Build mode moves Base = not (is_the_mode Scatter mode)
+is_allowed Link mode moves Reloc = is_the_mode Aif mode
+is_allowed Build mode moves Reloc = is_the_mode Aif mode
+is_allowed Link mode moves Ram = not (is_the_mode Bin mode || moves)
+is_allowed Build mode moves Ram = not (is_the_mode Bin mode || moves)
+is_allowed verb mode moves flag = true
 
 -- an option stands once, or sixteen times if it is of banks, and beside no other of which there is one
 abbrev pub is_surplus : List Item → Flag → Bool
@@ -184,17 +180,17 @@ is_below n None = true
 is_below n (Some most) = nat_lt n most
 
 -- an item, with all items and those before it
-abbrev pub role_fault : Verb → List (List ℕ) → Option Flag → List Item → ℕ → Role → Option ℕ
-role_fault verb words mode before at Name =
+abbrev pub role_fault : Verb → List (List ℕ) → Option Flag → Bool → List Item → ℕ → Role → Option ℕ
+role_fault verb words mode moves before at Name =
     if is_plain (word_at words at) && is_below (name_count before) (most_names verb mode) then None else Some at
-role_fault verb words mode before at Unknown = Some at
-role_fault verb words mode before at (Known flag) =
-    if is_allowed verb mode flag && not (is_surplus before flag) then values_fault verb flag words at else Some at
+role_fault verb words mode moves before at Unknown = Some at
+role_fault verb words mode moves before at (Known flag) =
+    if is_allowed verb mode moves flag && not (is_surplus before flag) then values_fault verb flag words at else Some at
 
-abbrev pub items_fault : Verb → List (List ℕ) → Option Flag → List Item → List Item → Option ℕ
-items_fault verb words mode before [] = None
-items_fault verb words mode before (i ∷ is) =
-    or_else (role_fault verb words mode before i.at i.role) (items_fault verb words mode (before ++ i ∷ []) is)
+abbrev pub items_fault : Verb → List (List ℕ) → Option Flag → Bool → List Item → List Item → Option ℕ
+items_fault verb words mode moves before [] = None
+items_fault verb words mode moves before (i ∷ is) =
+    or_else (role_fault verb words mode moves before i.at i.role) (items_fault verb words mode moves (before ++ i ∷ []) is)
 
 -- ---- names that differ
 
@@ -261,5 +257,5 @@ lesser (Some a) (Some b) = Some (min a b)
 -- the first word that breaks a rule behind a command, or the place of what is missing
 abbrev pub verb_fault : Verb → List (List ℕ) → List Item → Option ℕ
 verb_fault verb words items =
-    or_else (lesser (items_fault verb words (mode_of items) [] items) (names_fault verb (mode_of items) words items))
+    or_else (lesser (items_fault verb words (mode_of items) (has Reloc items) [] items) (names_fault verb (mode_of items) words items))
     (if is_complete verb (mode_of items) items then None else Some (length words))

@@ -163,8 +163,9 @@ fn verb_fault(
     ensures { IfOk result (λ place. place ≡ rules.verb_fault verb (map string_bytes words.now) items.now) }
 {
     let mode = mode_of(items);
+    let moves = has(Flag::Reloc, items);
     let repeated = names_fault(alloc, verb, mode, words, items)?;
-    let place = lesser(items_fault(verb, words, mode, items), repeated);
+    let place = lesser(items_fault(verb, words, mode, moves, items), repeated);
     if place.is_some() {
         return Ok(place);
     }

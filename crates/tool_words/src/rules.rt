@@ -121,13 +121,6 @@ fn is_the_mode(flag: Flag, mode: Option<Flag>) -> bool
     }
 }
 
-/// Whether the image is one file, with an address of its own.
-fn is_single(mode: Option<Flag>) -> bool
-    ensures { result ≡ rules.is_single mode }
-{
-    is_the_mode(Flag::Aif, mode) || is_the_mode(Flag::Bin, mode)
-}
-
 fn is_plain(word: &[u8]) -> bool
     ensures { result ≡ rules.is_plain word.now }
 {
@@ -241,18 +234,18 @@ fn values_fault(verb: Verb, flag: Flag, words: &[String], at: usize) -> Option<u
 
 ghost use Rattle.std.specs.Prelude.{if◌then◌else◌, None};
 
-fn is_allowed(verb: Verb, mode: Option<Flag>, flag: Flag) -> bool
-    ensures { result ≡ rules.is_allowed verb mode flag }
+fn is_allowed(verb: Verb, mode: Option<Flag>, moves: bool, flag: Flag) -> bool
+    ensures { result ≡ rules.is_allowed verb mode moves flag }
 {
     match (verb, flag) {
         (Verb::Library, Flag::Output) => is_the_mode(Flag::Extract, mode),
-        (Verb::Run, Flag::At) => is_single(mode),
+        (Verb::Run, Flag::At) => is_the_mode(Flag::Aif, mode) || is_the_mode(Flag::Bin, mode),
         (Verb::Link, Flag::Base) => !is_the_mode(Flag::Scatter, mode),
         (Verb::Build, Flag::Base) => !is_the_mode(Flag::Scatter, mode),
         (Verb::Link, Flag::Reloc) => is_the_mode(Flag::Aif, mode),
         (Verb::Build, Flag::Reloc) => is_the_mode(Flag::Aif, mode),
-        (Verb::Link, Flag::Ram) => !is_single(mode),
-        (Verb::Build, Flag::Ram) => !is_single(mode),
+        (Verb::Link, Flag::Ram) => !(is_the_mode(Flag::Bin, mode) || moves),
+        (Verb::Build, Flag::Ram) => !(is_the_mode(Flag::Bin, mode) || moves),
         (_, _) => true,
     }
 }
@@ -294,11 +287,12 @@ fn item_fault(
     verb: Verb,
     words: &[String],
     mode: Option<Flag>,
+    moves: bool,
     before: &[Item],
     item: Item,
 ) -> Option<usize>
     requires { item.at < length words.now }
-    ensures { result ≡ rules.role_fault verb (map string_bytes words.now) mode before.now item.at item.role }
+    ensures { result ≡ rules.role_fault verb (map string_bytes words.now) mode moves before.now item.at item.role }
 {
     match item.role {
         Role::Name => {
@@ -309,7 +303,7 @@ fn item_fault(
         }
         Role::Unknown => Some(item.at),
         Role::Known(flag) => {
-            if is_allowed(verb, mode, flag) && !is_surplus(before, flag) {
+            if is_allowed(verb, mode, moves, flag) && !is_surplus(before, flag) {
                 return values_fault(verb, flag, words, item.at);
             }
             Some(item.at)
@@ -317,18 +311,19 @@ fn item_fault(
     }
 }
 
-/// The first word of the items that breaks a rule.
+/// The first word of the items that breaks a rule, with the command's mode and whether its image is to move.
 pub fn items_fault(
     verb: Verb,
     words: &[String],
     mode: Option<Flag>,
+    moves: bool,
     items: &[Item],
 ) -> Option<usize>
     requires { All (λ i. i.at < length words.now) items.now }
-    ensures { result ≡ rules.items_fault verb (map string_bytes words.now) mode [] items.now }
+    ensures { result ≡ rules.items_fault verb (map string_bytes words.now) mode moves [] items.now }
 {
     for (k, item) in items.iter().enumerate() {
-        let fault = item_fault(verb, words, mode, &items[..k], *item);
+        let fault = item_fault(verb, words, mode, moves, &items[..k], *item);
         if fault.is_some() {
             return fault;
         }
