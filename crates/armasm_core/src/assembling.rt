@@ -38,13 +38,23 @@ fn object_of(alloc: Global, source: &Text, reading: Reading) -> Result<Object, F
     emit(alloc, &layout)
 }
 
-/// Assembles the text of the source of this name. A refusal is TooLarge for a text of more than `MOST_BYTES` bytes, or
-/// BadLine at the first line at fault. Wherever the object is placed, the statements of the text stand.
-pub fn assemble(alloc: Global, source: &Text, text: &[u8]) -> Result<Object, Fault>
-    ensures assembled { assembling.Assembles source.now text.now result }
+/// Assembles the text of the source of this name, with the files that its GETs name. A refusal is `TooLarge` for a text of
+/// more than `MOST_BYTES` bytes, `BadLine` at the first line at fault, or `Missing` of a file that isn't there; `ReadFault`
+/// names a file whose read failed. Wherever the object is placed, the statements of the text stand.
+pub fn assemble<S: Store>(
+    alloc: Global,
+    source: &Text,
+    text: &[u8],
+    store: &mut S,
+) -> Result<Object, Fault>
+    ensures assembled { assembling.Assembles (S.files store.old) source.now text.now result }
+    ensures cause { IfErr result (assembling.IsCaused (S.files store.old) (Rose (S.read_faults store.old) (S.read_faults store.new))) }
     ensures few { IfOk result (λ object. length object.symbols < 2 ^ 24) }
-    ensures stands { IfOk result (StandsWherePlaced source.now text.now) }
+    ensures stands { IfOk result (StandsFrom (S.files store.old) source.now text.now) }
     ensures valid { IfOk result IsValid }
+    ensures files { S.files store.new ≡ S.files store.old }
+    ensures read_faults { S.read_faults store.old ≤ S.read_faults store.new }
+    ensures write_faults { S.write_faults store.new ≡ S.write_faults store.old }
 {
     readings_are_fit();
     objects_of_sources_stand();
