@@ -1,9 +1,8 @@
 -- What the flat lines of a source say. END says nothing more here: expansion has ended the file at it. SDT 2.50 Reference
 -- Guide, chapter on the assembler. This project's: until Thumb lines stand, CODE16 and CODE32 are words that nothing names.
-use Rattle.std.specs.Prelude.{◌≡◌, ℕ, ◌+◌, ◌^◌, ◌<◌, ◌==◌, List, [], ◌∷◌, ◌++◌, length, Bool, true, false, if◌then◌else◌, Option, Some, None, Result, Ok, Err}
-use Rattle.std.specs.List.{list_any}
+use Rattle.std.specs.Prelude.{◌≡◌, ℕ, List, [], ◌∷◌, ◌++◌, length, Bool, true, false, if◌then◌else◌, Option, Some, None, Result, Ok, Err}
 use Rattle.sdt_fault.specs.declared.kinds.LineKind.{LineKind}
-use Rattle.sdt_fault.specs.declared.kinds.LineKind.TheVariants.{Syntax, UnknownWord}
+use Rattle.sdt_fault.specs.declared.kinds.LineKind.TheVariants.{UnknownWord}
 use Rattle.asm_arm.specs.Says.{SaysArm}
 use Rattle.asm_locals.specs.Naming.{in_names}
 use Rattle.asm_model.specs.declared.directives.DirectiveLine.TheVariants as line
@@ -11,21 +10,9 @@ use Rattle.asm_model.specs.declared.lines.Flat.{Flat}
 use Rattle.asm_model.specs.declared.statements.Statement.{Statement}
 use Rattle.asm_model.specs.declared.statements.What.{What}
 use Rattle.asm_model.specs.declared.statements.What.TheVariants as what
-use Rattle.asm_model.specs.declared.tokens.Token.{Token}
-use Rattle.asm_model.specs.declared.tokens.TokenKind.{TokenKind}
-use Rattle.asm_model.specs.declared.tokens.TokenKind.TheVariants as kind
 use Rattle.asm_model.specs.Directives.{or_else}
-use Rattle.asm_model.specs.Parts.{piece}
-use Rattle.asm_model.specs.Tokens.{Scans}
 use Rattle.asm_reading.specs.declared.reading.Reading.{Reading}
 use Rattle.asm_reading.specs.declared.reading.Unread.{Unread}
-
-abbrev pub IsShort : Flat → Type 0
-IsShort f = length f.text < 2 ^ 32
-
-abbrev pub AllShort : List Flat → Type 0
-AllShort [] = Unit {0}
-AllShort (f ∷ fs) = IsShort f × AllShort fs
 
 -- ---- what lines say
 
@@ -122,15 +109,3 @@ pub record IsReading (lines : List Flat) (r : Reading) : Type 0 where
 abbrev pub StaysInArm : What → Type 0
 StaysInArm (what.Directive line.Code16) = ⊥
 StaysInArm _ = Unit {0}
-
--- ---- steps
-
--- what lines say of which these are left
-pub record IsSoFar (lines left : List Flat) (r : Reading) : Type 0 where
-  pub done : List (Flat × Said)
-  pub more : (ps : List (Flat × Said)) → Say left ps → Say lines (done ++ ps)
-  pub number : length done + length left ≡ length lines
-  pub statements : r.statements.items ≡ statements_in done
-  pub unread : r.unread ≡ first_unread done
-  pub before : r.before ≡ length (statements_in (read_first done))
-  pub short : AllShort left
