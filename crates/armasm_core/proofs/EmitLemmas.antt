@@ -29,7 +29,7 @@ use Rattle.source_model.specs.SourceFaults.{layout_faults}
 use Rattle.armasm_core.specs.declared.drafting.Growing.{Growing}
 use Rattle.armasm_core.specs.Drafting.{AreDrafts, MeetNoneThere, pieces_put, with_line}
 use Rattle.armasm_core.specs.Emission.{IsEmittable, IsGrown}
-use Rattle.asm_reading.proofs.ReadLemmas.{nothing}
+use Rattle.armasm_core.proofs.ListLemmas.{nothing}
 
 -- ---- things of lines so far stand in the source
 

@@ -21,7 +21,7 @@ use Rattle.source_model.specs.Objects.{source_of, is_exported, is_weak, exports_
 use Rattle.armasm_core.specs.Gathered.{Gains}
 use Rattle.armasm_core.specs.Gathering.{exported_in, weak_in, name_where, names_by}
 use Rattle.asm_model.proofs.SharedLemmas.{same_back}
-use Rattle.asm_reading.proofs.ReadLemmas.{nothing}
+use Rattle.armasm_core.proofs.ListLemmas.{nothing}
 
 -- ---- a set of names, statement by statement
 

@@ -14,7 +14,7 @@ use Rattle.asm_model.specs.Symbols.{symbols_in, symbols_of, listed_behind}
 use Rattle.armasm_core.specs.declared.whole.Whole.{Whole}
 use Rattle.armasm_core.proofs.LoopLemmas.{lines_from, turned_again, first_of, none_left}
 use Rattle.armasm_core.specs.Listing.{StandsThere, needed_by, IsListable, IsListed}
-use Rattle.asm_reading.proofs.ReadLemmas.{nothing}
+use Rattle.armasm_core.proofs.ListLemmas.{nothing}
 
 -- ---- a line
 

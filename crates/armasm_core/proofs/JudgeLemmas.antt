@@ -24,7 +24,7 @@ use Rattle.armasm_core.specs.Judging.{IsJudgeable, IsLeft}
 use Rattle.armasm_core.specs.Whole.{IsWhole, IsHere, kinds_at}
 use Rattle.armasm_core.specs.declared.whole.Whole.{Whole}
 use Rattle.armasm_core.proofs.LoopLemmas.{lines_from, turned_again, first_of, none_left}
-use Rattle.asm_reading.proofs.ReadLemmas.{nothing}
+use Rattle.armasm_core.proofs.ListLemmas.{nothing}
 
 pub left_first : (statements : List Statement) (l : Layout) (known : BTreeMap (List ℕ) ℕ) → IsJudgeable statements l → ((q : List ℕ) → register_at known q ≡ None)
     → IsLeft statements l.statements known

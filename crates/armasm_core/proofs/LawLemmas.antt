@@ -1,34 +1,23 @@
 -- A source has one object, or one first refusal.
-use Rattle.std.proofs.Common.{◌≡◌, ◌⊎◌, inl, inr, ℕ, ◌<◌, ◌≤◌, List, [], length, map, Option, Some, None, Result, Ok, Err, sym, ap, ◌∙◌, subst, if◌then◌else◌, arith}
-use Rattle.sdt_fault.specs.declared.answer.Fault.{Fault}
-use Rattle.sdt_fault.specs.declared.answer.Fault.TheVariants as fault
+use Rattle.std.proofs.Common.{◌≡◌, inl, inr, ℕ, ◌<◌, ◌≤◌, List, [], length, Option, Some, None, Result, Ok, Err, sym, ap, ◌∙◌, subst, if◌then◌else◌, arith}
 use Rattle.sdt_fault.specs.declared.refusal.Refusal.{Refusal}
 use Rattle.aof_object.specs.declared.records.Object.{Object}
-use Rattle.asm_model.specs.declared.lines.Line.{Line}
+use Rattle.asm_model.specs.declared.lines.Flat.{Flat}
 use Rattle.asm_model.specs.declared.statements.Statement.{Statement}
 use Rattle.asm_model.specs.Directives.{or_else}
-use Rattle.asm_model.specs.Lines.{split}
 use Rattle.asm_reading.specs.declared.reading.Reading.{Reading}
 use Rattle.asm_reading.specs.declared.reading.Unread.{Unread}
-use Rattle.asm_reading.specs.Flats.{flat_of}
 use Rattle.asm_reading.specs.Laws.{OneReading}
 use Rattle.asm_reading.specs.Reading.{IsReading}
 use Rattle.asm_model.specs.Laid.{reversed}
+use Rattle.expand_model.specs.Expands.{Outcome, Flats, FaultAt, MissingFile, ExpansionLaw}
+use Rattle.expand_model.specs.Steps.{visit_limit}
 use Rattle.source_laws.specs.Laws.{OneObject}
 use Rattle.source_model.specs.Objects.{IsObject}
 use Rattle.source_model.specs.SourceFaults.{value_faults}
-use Rattle.armasm_core.specs.Assembling.{most_bytes, Says, has_area, told, line_faults, without_area, source_faults, IsObjectOf, IsFaultOf, IsRefused, OneAssembly}
+use Rattle.armasm_core.specs.Assembling.{most_bytes, has_area, told, line_faults, without_area, source_faults, ReadingMakes, FlatsMake, OutcomeMakes, OneAssembly}
 
--- ---- two readings of a source
-
-same_lines : (name text : List ℕ) (a b : List Line) → split name text ≡ Ok a → split name text ≡ Ok b → a ≡ b
-same_lines name text a b h k = let is : ◌≡◌ {A = Result (List Line) Fault} (Ok a) (Ok b) = sym h ∙ k in cc
-
-pub same_says : OneReading → (name text : List ℕ) (a b : Reading) → Says name text a → Says name text b
-    → (a.statements.items ≡ b.statements.items) × (a.unread ≡ b.unread) × (a.before ≡ b.before)
-same_says law name text a b h k =
-    let e : h.lines ≡ k.lines = same_lines name text h.lines k.lines h.parts k.parts in
-    law (map flat_of k.lines) a b (subst (λ (ls : List Line). IsReading (map flat_of ls) a) e h.reading) k.reading
+-- ---- two readings of flat lines
 
 faults_of : List ℕ → List Statement → Option Unread → ℕ → Option Refusal
 faults_of name items unread before =
@@ -37,45 +26,41 @@ faults_of name items unread before =
     else Some (without_area name (line_faults (reversed items []) before unread)))
     (told (value_faults (reversed items [])))
 
-same_faults : OneReading → (name text : List ℕ) (a b : Reading) → Says name text a → Says name text b → source_faults name a ≡ source_faults name b
+same_faults : OneReading → (name : List ℕ) (flats : List Flat) (a b : Reading) → IsReading flats a → IsReading flats b → source_faults name a ≡ source_faults name b
 unfolding faults_of
-same_faults law name text a b h k =
-    let e = same_says law name text a b h k in
+same_faults law name flats a b h k =
+    let e = law flats a b h k in
     ap (λ (x : List Statement). faults_of name x a.unread a.before) e.0 ∙ ap (λ (x : Option Unread). faults_of name b.statements.items x a.before) e.1
     ∙ ap (λ (n : ℕ). faults_of name b.statements.items b.unread n) e.2
 
+-- ---- what flat lines make
+
+made_once : OneReading → OneObject → (name : List ℕ) (flats : List Flat) (p q : Reading) (a b : Result Object Refusal) → IsReading flats p → IsReading flats q
+    → ReadingMakes name p a → ReadingMakes name q b → a ≡ b
+made_once law one name flats p q (Ok o) (Ok y) h k m n =
+    ap Ok (one (reversed q.statements.items []) o y (subst (λ (x : List Statement). IsObject (reversed x []) o) (law flats p q h k).0 m.1) n.1)
+made_once law one name flats p q (Ok o) (Err r) h k m n =
+    absurd (let bad : None ≡ Some r = sym m.0 ∙ same_faults law name flats p q h k ∙ n in cc)
+made_once law one name flats p q (Err r) (Ok o) h k m n =
+    absurd (let bad : None ≡ Some r = sym n.0 ∙ same_faults law name flats q p k h ∙ m in cc)
+made_once law one name flats p q (Err r) (Err s) h k m n = let is : Some r ≡ Some s = sym m ∙ same_faults law name flats p q h k ∙ n in cc
+
+flats_once : OneReading → OneObject → (name : List ℕ) (flats : List Flat) (a b : Result Object Refusal) → FlatsMake name flats a → FlatsMake name flats b → a ≡ b
+flats_once law one name flats a b h k = made_once law one name flats h.reading k.reading a b h.says k.says h.makes k.makes
+
 -- ---- what a source makes
 
-object_once : OneReading → OneObject → (name text : List ℕ) (o p : Object) → IsObjectOf name text o → IsObjectOf name text p → o ≡ p
-object_once law one name text o p h k =
-    let e = same_says law name text h.reading k.reading h.says k.says in
-    one (reversed k.reading.statements.items []) o p (subst (λ (x : List Statement). IsObject (reversed x []) o) e.0 h.object) k.object
+outcome_once : OneReading → OneObject → (name : List ℕ) (o : Outcome) (a b : Result Object Refusal) → OutcomeMakes name o a → OutcomeMakes name o b → a ≡ b
+outcome_once law one name (Flats flats) a b h k = flats_once law one name flats a b h k
+outcome_once law one name (FaultAt file n kind) a b h k = h ∙ sym k
+outcome_once law one name (MissingFile file) a b h k = h ∙ sym k
 
-not_both : OneReading → (name text : List ℕ) (o : Object) (r : Refusal) → IsObjectOf name text o → IsRefused name text r → ⊥
-not_both law name text o r h (inl k) = let long : most_bytes < length text = k.0 in let short : length text ≤ most_bytes = h.short in omega arith
-not_both law name text o r h (inr k) = by_cause k.1
-  where
-    by_cause : (split name text ≡ Err (fault.Refused r)) ⊎ IsFaultOf name text r → ⊥
-    by_cause (inl e) = let bad : ◌≡◌ {A = Result (List Line) Fault} (Ok h.says.lines) (Err (fault.Refused r)) = sym h.says.parts ∙ e in absurd (cc)
-    by_cause (inr f) =
-        let bad : None ≡ Some r = sym h.none ∙ same_faults law name text h.reading f.reading h.says f.says ∙ f.first in
-        absurd (cc)
-
-refusal_once : OneReading → (name text : List ℕ) (r q : Refusal) → IsRefused name text r → IsRefused name text q → r ≡ q
-refusal_once law name text r q (inl h) (inl k) = h.1 ∙ sym k.1
-refusal_once law name text r q (inl h) (inr k) = absurd (let long : most_bytes < length text = h.0 in let short : length text ≤ most_bytes = k.0 in omega arith)
-refusal_once law name text r q (inr h) (inl k) = absurd (let long : most_bytes < length text = k.0 in let short : length text ≤ most_bytes = h.0 in omega arith)
-refusal_once law name text r q (inr h) (inr k) = by_cause h.1 k.1
-  where
-    by_cause : (split name text ≡ Err (fault.Refused r)) ⊎ IsFaultOf name text r → (split name text ≡ Err (fault.Refused q)) ⊎ IsFaultOf name text q → r ≡ q
-    by_cause (inl e) (inl f) = let is : ◌≡◌ {A = Result (List Line) Fault} (Err (fault.Refused r)) (Err (fault.Refused q)) = sym e ∙ f in cc
-    by_cause (inl e) (inr f) = absurd (let bad : ◌≡◌ {A = Result (List Line) Fault} (Err (fault.Refused r)) (Ok f.says.lines) = sym e ∙ f.says.parts in cc)
-    by_cause (inr e) (inl f) = absurd (let bad : ◌≡◌ {A = Result (List Line) Fault} (Ok e.says.lines) (Err (fault.Refused q)) = sym e.says.parts ∙ f in cc)
-    by_cause (inr e) (inr f) =
-        let is : Some r ≡ Some q = sym e.first ∙ same_faults law name text e.reading f.reading e.says f.says ∙ f.first in cc
-
-pub one_assembly : OneReading → OneObject → OneAssembly
-one_assembly law one name text (Ok o) (Ok p) h k = ap Ok (object_once law one name text o p h k)
-one_assembly law one name text (Ok o) (Err r) h k = absurd (not_both law name text o r h k)
-one_assembly law one name text (Err r) (Ok o) h k = absurd (not_both law name text o r k h)
-one_assembly law one name text (Err r) (Err q) h k = ap Err (refusal_once law name text r q h k)
+pub one_assembly : ExpansionLaw → OneReading → OneObject → OneAssembly
+one_assembly expands law one sources name text a b (inl h) (inl k) = h.1 ∙ sym k.1
+one_assembly expands law one sources name text a b (inl h) (inr k) =
+    absurd (let long : most_bytes < length text = h.0 in let short : length text ≤ most_bytes = k.0 in omega arith)
+one_assembly expands law one sources name text a b (inr h) (inl k) =
+    absurd (let long : most_bytes < length text = k.0 in let short : length text ≤ most_bytes = h.0 in omega arith)
+one_assembly expands law one sources name text a b (inr h) (inr k) =
+    let same : h.1 ≡ k.1 = expands sources visit_limit name text h.1 k.1 h.2 k.2 in
+    outcome_once law one name k.1 a b (subst (λ (o : Outcome). OutcomeMakes name o a) same h.3) k.3

@@ -1,15 +1,12 @@
--- The object of a source stands wherever it is placed, and is valid.
-use Rattle.std.proofs.Common.{◌≡◌, ℕ, ◌+◌, ◌^◌, ◌<◌, List, [], length, Bool, true, false, cond, Option, Some, None, Result, Ok, Err, refl, subst, arith}
-use Rattle.std.specs.Prelude.{IfOk}
-use Rattle.sdt_fault.specs.declared.answer.Fault.{Fault}
+-- The object of flat lines stands wherever it is placed, and is valid.
+use Rattle.std.proofs.Common.{◌≡◌, ℕ, ◌+◌, ◌^◌, ◌<◌, ◌≤◌, List, [], length, Bool, true, false, cond, Option, Some, None, Ok, refl, subst, arith}
 use Rattle.sdt_fault.specs.declared.kinds.LineKind.{LineKind}
 use Rattle.sdt_fault.specs.declared.refusal.Refusal.{Refusal}
 use Rattle.aof_object.specs.declared.records.Object.{Object}
-use Rattle.aof_object.specs.Validity.{IsValid}
 use Rattle.armasm_core.proofs.PlacedLemmas.{few_areas as areas_few}
-use Rattle.asm_laying.specs.Behind.{most_statements}
 use Rattle.asm_layout.proofs.WalkLemmas.{reversed_long}
 use Rattle.asm_layout.specs.Front.{front_laid}
+use Rattle.asm_model.specs.declared.lines.Flat.{Flat}
 use Rattle.asm_model.specs.declared.statements.Statement.{Statement}
 use Rattle.asm_model.specs.Directives.{or_else}
 use Rattle.asm_reading.specs.declared.reading.Reading.{Reading}
@@ -17,16 +14,15 @@ use Rattle.asm_reading.specs.declared.reading.Unread.{Unread}
 use Rattle.asm_reading.proofs.ReadLemmas.{few_read}
 use Rattle.asm_reading.specs.Laws.{AreFit, OneReading, ReadingsAreFit}
 use Rattle.asm_model.specs.Laid.{reversed}
+use Rattle.expand_model.specs.Steps.{visit_limit}
 use Rattle.object_laws.specs.Laws.{ObjectsAreValid}
 use Rattle.source_laws.specs.Laws.{SourcesStayInArmState}
 use Rattle.source_model.specs.Objects.{source_of}
 use Rattle.source_model.specs.SourceFaults.{layout_faults, value_faults}
 use Rattle.stand_laws.specs.Laws.{IsFaultless, ObjectsStand}
 use Rattle.stand_model.specs.Stands.{AllStand}
-use Rattle.armasm_core.specs.Assembling.{said_by, told, unread_told, line_faults, without_area, reading_faults, has_area, source_faults, IsObjectOf, Assembles}
-use Rattle.armasm_core.specs.Standing.{StandsWherePlaced, ObjectsOfSourcesStand, ObjectsOfSourcesAreValid}
-use Rattle.armasm_core.proofs.LawLemmas.{same_says}
-use Rattle.armasm_core.proofs.ListLemmas.{few_statements}
+use Rattle.armasm_core.specs.Assembling.{said_by, told, unread_told, line_faults, without_area, reading_faults, has_area, source_faults, FlatsMake}
+use Rattle.armasm_core.specs.Standing.{ObjectsOfFlatsStand, ObjectsOfFlatsAreValid}
 
 -- ---- without faults
 
@@ -59,21 +55,19 @@ source_none name r e =
 
 -- ---- how many areas
 
-few_areas : (name text : List ℕ) (o : Object) → IsObjectOf name text o → length o.areas < 2 ^ 24
-few_areas name text o h =
+few_areas : (name : List ℕ) (flats : List Flat) (o : Object) → FlatsMake name flats (Ok o) → length flats ≤ visit_limit → length o.areas < 2 ^ 24
+few_areas name flats o h short =
     let read = h.reading in
-    let says = h.says in
-    let few : length read.statements.items < most_statements + 1 =
-    few_statements name text says.lines _ read.statements.items says.parts refl (few_read _ read says.reading) in
+    let few : length read.statements.items ≤ length flats = few_read flats read h.says in
     let long : length (said_by read) ≡ length read.statements.items + 0 = reversed_long read.statements.items [] in
-    areas_few (said_by read) o (omega (arith, few, long)) h.object
+    areas_few (said_by read) o (omega (arith, few, long, short)) h.makes.1
 
 -- ---- laws
 
-pub objects_of_sources_stand : OneReading → ReadingsAreFit → SourcesStayInArmState → ObjectsStand → ObjectsOfSourcesStand
-objects_of_sources_stand one fits stays stand name text o h few own values area_at view region veneers placed shown r says =
-    let fit : AreFit (said_by h.reading) = fits _ h.reading h.says.reading in
-    let none = source_none name h.reading h.none in
+pub objects_of_flats_stand : OneReading → ReadingsAreFit → SourcesStayInArmState → ObjectsStand → ObjectsOfFlatsStand
+objects_of_flats_stand one fits stays stand name flats o h short few own values area_at view region veneers placed shown r says =
+    let fit : AreFit (said_by h.reading) = fits flats h.reading h.says in
+    let none = source_none name h.reading h.makes.0 in
     let faultless : IsFaultless (said_by h.reading) = record {
       said = fit.said;
       named = fit.named;
@@ -82,23 +76,11 @@ objects_of_sources_stand one fits stays stand name text o h few own values area_
       valued = none.1;
       arm_state = stays (said_by h.reading) fit.arm;
     } in
-    subst (λ (items : List Statement). AllStand (source_of (reversed items [])) values view region) (same_says one name text h.reading r h.says says).0
-    (stand (said_by h.reading) o faultless h.object (few_areas name text o h) few own values area_at view region veneers placed shown)
+    subst (λ (items : List Statement). AllStand (source_of (reversed items [])) values view region) (one flats h.reading r h.says says).0
+    (stand (said_by h.reading) o faultless h.makes.1 (few_areas name flats o h short) few own values area_at view region veneers placed shown)
 
-pub objects_of_sources_are_valid : ReadingsAreFit → SourcesStayInArmState → ObjectsAreValid → ObjectsOfSourcesAreValid
-objects_of_sources_are_valid fits stays valid name text o h few =
-    let fit : AreFit (said_by h.reading) = fits _ h.reading h.says.reading in
-    let none = source_none name h.reading h.none in
-    valid (said_by h.reading) o fit.said fit.texts fit.fit none.0 none.1 (stays (said_by h.reading) fit.arm) (few_areas name text o h) few h.object
-
--- ---- answers
-
-pub if_stands : ObjectsOfSourcesStand → (name text : List ℕ) (x : Result Object Fault) → Assembles name text x → IfOk x (λ o. length o.symbols < 2 ^ 24)
-    → IfOk x (StandsWherePlaced name text)
-if_stands law name text (Ok o) h few = law name text o h few
-if_stands law name text (Err f) h few = tt
-
-pub if_valid : ObjectsOfSourcesAreValid → (name text : List ℕ) (x : Result Object Fault) → Assembles name text x → IfOk x (λ o. length o.symbols < 2 ^ 24)
-    → IfOk x IsValid
-if_valid law name text (Ok o) h few = law name text o h few
-if_valid law name text (Err f) h few = tt
+pub objects_of_flats_are_valid : ReadingsAreFit → SourcesStayInArmState → ObjectsAreValid → ObjectsOfFlatsAreValid
+objects_of_flats_are_valid fits stays valid name flats o h short few =
+    let fit : AreFit (said_by h.reading) = fits flats h.reading h.says in
+    let none = source_none name h.reading h.makes.0 in
+    valid (said_by h.reading) o fit.said fit.texts fit.fit none.0 none.1 (stays (said_by h.reading) fit.arm) (few_areas name flats o h short) few h.makes.1

@@ -1,7 +1,7 @@
--- One source to one object, or its first fault. A source is judged in passes: its lines, what they say and their layout,
--- and its values. The first pass with a fault counts, in it the first line, and there the first kind. SDT 2.50 Reference
--- Guide, chapter on the assembler; the order of faults and the limit are this project's.
-use Rattle.std.specs.Prelude.{◌≡◌, ◌⊎◌, ℕ, ◌^◌, ◌<◌, ◌≤◌, ◌==◌, List, [], length, map, Bool, true, false, if◌then◌else◌, Option, Some, None, Result, Ok, Err}
+-- One source to one object, or its first fault. A source is judged in passes: its expansion, what its flat lines say and
+-- their layout, and its values. The first pass with a fault counts, in it the first line, and there the first kind. SDT
+-- 2.50 Reference Guide, chapter on the assembler; the order of faults and the limit are this project's.
+use Rattle.std.specs.Prelude.{◌≡◌, ◌⊎◌, ℕ, ◌^◌, ◌<◌, ◌≤◌, ◌==◌, ◌&&◌, List, [], length, Bool, true, false, if◌then◌else◌, Option, Some, None, Result, Ok, Err}
 use Rattle.std.specs.List.{list_any}
 use Rattle.sdt_fault.specs.declared.answer.Fault.{Fault}
 use Rattle.sdt_fault.specs.declared.answer.Fault.TheVariants as fault
@@ -9,22 +9,24 @@ use Rattle.sdt_fault.specs.declared.kinds.LineKind.{LineKind}
 use Rattle.sdt_fault.specs.declared.kinds.LineKind.TheVariants.{NoArea}
 use Rattle.sdt_fault.specs.declared.kinds.Quantity.TheVariants.{SourceBytes}
 use Rattle.sdt_fault.specs.declared.refusal.Refusal.{Refusal}
-use Rattle.sdt_fault.specs.declared.refusal.Refusal.TheVariants.{BadLine, TooLarge}
+use Rattle.sdt_fault.specs.declared.refusal.Refusal.TheVariants.{BadLine, Missing, TooLarge}
+use Rattle.sdt_outside.specs.Files.{Files, content, IsMissing}
 use Rattle.aof_object.specs.declared.records.Object.{Object}
 use Rattle.asm_layout.specs.Front.{front_laid}
 use Rattle.asm_model.specs.declared.directives.DirectiveLine.TheVariants as line
-use Rattle.asm_model.specs.declared.lines.Line.{Line}
+use Rattle.asm_model.specs.declared.lines.Flat.{Flat}
 use Rattle.asm_model.specs.declared.statements.Statement.{Statement}
 use Rattle.asm_model.specs.declared.statements.What.{What}
 use Rattle.asm_model.specs.declared.statements.What.TheVariants as what
 use Rattle.asm_model.specs.Directives.{or_else}
+use Rattle.asm_model.specs.Forms.{same}
 use Rattle.asm_model.specs.Kinds.{earlier}
-use Rattle.asm_model.specs.Lines.{split}
+use Rattle.asm_model.specs.Laid.{reversed}
 use Rattle.asm_reading.specs.declared.reading.Reading.{Reading}
 use Rattle.asm_reading.specs.declared.reading.Unread.{Unread}
-use Rattle.asm_reading.specs.Flats.{flat_of}
 use Rattle.asm_reading.specs.Reading.{IsReading}
-use Rattle.asm_model.specs.Laid.{reversed}
+use Rattle.expand_model.specs.Expands.{Outcome, Flats, FaultAt, MissingFile, Expands}
+use Rattle.expand_model.specs.Steps.{Sources, visit_limit}
 use Rattle.source_model.specs.Objects.{IsObject}
 use Rattle.source_model.specs.SourceFaults.{layout_faults, value_faults}
 
@@ -32,13 +34,7 @@ use Rattle.source_model.specs.SourceFaults.{layout_faults, value_faults}
 abbrev pub most_bytes : ℕ
 most_bytes = 2 ^ 24
 
--- ---- what a source says
-
--- what the lines of a source say, each line standing for itself
-pub record Says (name text : List ℕ) (r : Reading) : Type 0 where
-  pub lines : List Line
-  pub parts : split name text ≡ Ok lines
-  pub reading : IsReading (map flat_of lines) r
+-- ---- what flat lines say
 
 -- the statements, of which the last is listed first
 abbrev pub said_by : Reading → List Statement
@@ -65,9 +61,10 @@ abbrev pub line_faults : List Statement → ℕ → Option Unread → Option Ref
 line_faults statements before None = told (layout_faults statements)
 line_faults statements before (Some u) = or_else (told (front_laid statements before)) (Some (unread_told u))
 
--- of a source without an AREA, the first line has this fault beside any other
+-- of a source without an AREA, the first line has this fault beside any other; a fault of another file is none of it
 abbrev pub without_area : List ℕ → Option Refusal → Refusal
-without_area name (Some (BadLine source number kind)) = BadLine name 1 (if number == 1 then earlier NoArea kind else NoArea)
+without_area name (Some (BadLine source number kind)) =
+    BadLine name 1 (if same source name && number == 1 then earlier NoArea kind else NoArea)
 without_area name _ = BadLine name 1 NoArea
 
 abbrev pub reading_faults : List ℕ → Reading → Option Refusal
@@ -80,37 +77,61 @@ source_faults name r = or_else (reading_faults name r) (told (value_faults (said
 
 -- ---- its object
 
--- a source without faults, and its object
-pub record IsObjectOf (name text : List ℕ) (o : Object) : Type 0 where
-  pub short : length text ≤ most_bytes
+-- what a reading of the flat lines makes: its first fault, or the object of its statements
+abbrev pub ReadingMakes : List ℕ → Reading → Result Object Refusal → Type 0
+ReadingMakes name r (Ok o) = (source_faults name r ≡ None) × IsObject (said_by r) o
+ReadingMakes name r (Err refusal) = source_faults name r ≡ Some refusal
+
+-- what the flat lines of the source of this name make
+pub record FlatsMake (name : List ℕ) (flats : List Flat) (made : Result Object Refusal) : Type 0 where
   pub reading : Reading
-  pub says : Says name text reading
-  pub none : source_faults name reading ≡ None
-  pub object : IsObject (said_by reading) o
+  pub says : IsReading flats reading
+  pub makes : ReadingMakes name reading made
 
-pub record IsFaultOf (name text : List ℕ) (r : Refusal) : Type 0 where
-  pub reading : Reading
-  pub says : Says name text reading
-  pub first : source_faults name reading ≡ Some r
+-- what an outcome of its expansion makes
+abbrev pub OutcomeMakes : List ℕ → Outcome → Result Object Refusal → Type 0
+OutcomeMakes name (Flats flats) made = FlatsMake name flats made
+OutcomeMakes name (FaultAt file number kind) made = made ≡ Err (BadLine file number kind)
+OutcomeMakes name (MissingFile file) made = made ≡ Err (Missing file)
 
--- the first refusal of a source
-abbrev pub IsRefused : List ℕ → List ℕ → Refusal → Type 0
-IsRefused name text r =
-    ((most_bytes < length text) × (r ≡ TooLarge SourceBytes most_bytes))
-    ⊎ ((length text ≤ most_bytes) × ((split name text ≡ Err (fault.Refused r)) ⊎ IsFaultOf name text r))
+-- what a source makes whose expansion has such an outcome; a text that is too long is not expanded
+abbrev pub MakesBy : (Outcome → Type 0) → List ℕ → List ℕ → Result Object Refusal → Type 0
+MakesBy Has name text made =
+    ((most_bytes < length text) × (made ≡ Err (TooLarge SourceBytes most_bytes)))
+    ⊎ ((length text ≤ most_bytes) × (o : Outcome) × Has o × OutcomeMakes name o made)
 
--- the object of a source, or its first refusal
-abbrev pub IsAssembled : List ℕ → List ℕ → Result Object Refusal → Type 0
-IsAssembled name text (Ok o) = IsObjectOf name text o
-IsAssembled name text (Err r) = IsRefused name text r
+-- the object of a source with these files, or its first refusal
+abbrev pub IsAssembled : Sources → List ℕ → List ℕ → Result Object Refusal → Type 0
+IsAssembled sources name text made = MakesBy (Expands sources visit_limit name text) name text made
 
--- what a call answers; want of memory is free
-abbrev pub Assembles : List ℕ → List ℕ → Result Object Fault → Type 0
-Assembles name text (Ok o) = IsAssembled name text (Ok o)
-Assembles name text (Err (fault.Refused r)) = IsAssembled name text (Err r)
-Assembles name text (Err (fault.ReadFault n)) = ⊥
-Assembles name text (Err fault.NoMemory) = Unit {0}
+-- the outcomes that a source may have by the files that a store tells; where it tells none, two reads of one name are tied
+-- by nothing, and each outcome may be
+abbrev pub MayExpand : Option Files → List ℕ → List ℕ → Outcome → Type 0
+MayExpand None name text o = Unit {0}
+MayExpand (Some files) name text o = Expands (content files) visit_limit name text o
+
+-- the object of a source over a store that tells these files, or its first refusal
+abbrev pub AssembledFrom : Option Files → List ℕ → List ℕ → Result Object Refusal → Type 0
+AssembledFrom told name text made = MakesBy (MayExpand told name text) name text made
+
+-- ---- a call
+
+-- what a call answers; a file that could not be read, and want of memory, tell nothing of the source
+abbrev pub Assembles : Option Files → List ℕ → List ℕ → Result Object Fault → Type 0
+Assembles told name text (Ok o) = AssembledFrom told name text (Ok o)
+Assembles told name text (Err (fault.Refused r)) = AssembledFrom told name text (Err r)
+Assembles told name text (Err (fault.ReadFault file)) = Unit {0}
+Assembles told name text (Err fault.NoMemory) = Unit {0}
+
+-- an error has its cause, where the count of read faults rose as told: a file is missing, or a read failed
+abbrev pub IsCaused : Option Files → Type 0 → Fault → Type 0
+IsCaused told rose (fault.Refused (Missing file)) = IsMissing told file rose
+IsCaused told rose (fault.Refused _) = Unit {0}
+IsCaused told rose (fault.ReadFault file) = rose
+IsCaused told rose fault.NoMemory = Unit {0}
 
 -- a source has one object, or one first refusal
 abbrev pub OneAssembly : Type 0
-OneAssembly = (name text : List ℕ) (a b : Result Object Refusal) → IsAssembled name text a → IsAssembled name text b → a ≡ b
+OneAssembly =
+    (sources : Sources) (name text : List ℕ) (a b : Result Object Refusal)
+    → IsAssembled sources name text a → IsAssembled sources name text b → a ≡ b

@@ -5,13 +5,14 @@ use Rattle.sdt_fault.specs.declared.answer.Fault.TheVariants as fault
 use Rattle.sdt_fault.specs.declared.refusal.Refusal.{Refusal}
 use Rattle.aof_object.specs.declared.records.Object.{Object}
 use Rattle.asm_layout.specs.Layout.{IsLayout}
+use Rattle.asm_model.specs.declared.lines.Flat.{Flat}
 use Rattle.asm_model.specs.declared.statements.Statement.{Statement}
 use Rattle.asm_pool.specs.declared.layout.Layout.{Layout}
 use Rattle.asm_reading.specs.declared.reading.Reading.{Reading}
 use Rattle.asm_reading.specs.declared.reading.Unread.{Unread}
 use Rattle.source_model.specs.Objects.{IsObject}
 use Rattle.source_model.specs.SourceFaults.{layout_faults}
-use Rattle.armasm_core.specs.Assembling.{said_by, line_faults, reading_faults, source_faults}
+use Rattle.armasm_core.specs.Assembling.{said_by, line_faults, reading_faults, source_faults, FlatsMake}
 
 -- a fault is the refusal that is told, or want of memory
 abbrev pub IsToldAs : Option Refusal → Fault → Type 0
@@ -36,3 +37,10 @@ LaysOut name r (Err f) = IsToldAs (reading_faults name r) f
 abbrev pub Makes : List ℕ → Reading → Result Object Fault → Type 0
 Makes name r (Ok o) = (source_faults name r ≡ None) × IsObject (said_by r) o
 Makes name r (Err f) = IsToldAs (source_faults name r) f
+
+-- what a call gives of flat lines
+abbrev pub FlatsGive : List ℕ → List Flat → Result Object Fault → Type 0
+FlatsGive name flats (Ok o) = FlatsMake name flats (Ok o)
+FlatsGive name flats (Err (fault.Refused r)) = FlatsMake name flats (Err r)
+FlatsGive name flats (Err (fault.ReadFault file)) = ⊥
+FlatsGive name flats (Err fault.NoMemory) = Unit {0}

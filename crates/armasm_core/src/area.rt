@@ -1,8 +1,9 @@
 //! Sources without an AREA.
 
-ghost use Rattle.std.specs.Prelude.{◌≡◌, ◌==◌, ℕ, List, Option, Some, None, if◌then◌else◌};
+ghost use Rattle.std.specs.Prelude.{◌≡◌, ◌==◌, ◌&&◌, ℕ, List, Option, Some, None, if◌then◌else◌};
 ghost use Rattle.sdt_fault.specs.declared.kinds.LineKind.TheVariants as kind_of;
 ghost use Rattle.sdt_fault.specs.declared.refusal.Refusal.{Refusal as Told};
+ghost use Rattle.asm_model.specs.Forms.{same};
 ghost use Rattle.asm_model.specs.Kinds as kinds;
 ghost use Rattle.armasm_core.specs.Assembling as assembling;
 ghost use Rattle.armasm_core.specs.Passes.{IsToldAs};
@@ -31,11 +32,11 @@ pub fn has_area(statements: &[Statement]) -> bool
     statements.iter().any(|statement| is_area(&statement.what))
 }
 
-/// What is told of line 1, where this is told of a line of this number.
-fn kind_beside(number: u32, kind: LineKind) -> LineKind
-    ensures { result ≡ (if number == 1 then kinds.earlier kind_of.NoArea kind else kind_of.NoArea) }
+/// What is told of line 1 of a source, where this is told of the line of this number of a file.
+fn kind_beside(source: &Text, file: &Text, number: u32, kind: LineKind) -> LineKind
+    ensures { result ≡ (if same file.now source.now && number == 1 then kinds.earlier kind_of.NoArea kind else kind_of.NoArea) }
 {
-    if number == 1 {
+    if file == source && number == 1 {
         return earlier(LineKind::NoArea, kind);
     }
     LineKind::NoArea
@@ -55,11 +56,11 @@ pub fn area_missing_beside(alloc: Global, source: &Text, fault: Fault) -> Fault
     match fault {
         Fault::Refused(
             Refusal::BadLine {
-                source: _,
+                source: file,
                 line,
                 kind,
             },
-        ) => bad_line(alloc, source, 1, kind_beside(line, kind)),
+        ) => bad_line(alloc, source, 1, kind_beside(source, &file, line, kind)),
         _ => Fault::NoMemory,
     }
 }

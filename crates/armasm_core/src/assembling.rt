@@ -1,25 +1,30 @@
 //! One source to one object.
 
-ghost use Rattle.std.specs.Prelude.{◌+◌, ◌<◌, ◌≡◌, ◌^◌, IfOk, Some, length};
+ghost use Rattle.std.specs.Prelude.{◌+◌, ◌<◌, ◌≡◌, ◌≤◌, ◌^◌, IfErr, IfOk, length};
 ghost use Rattle.aof_object.specs.Validity.{IsValid};
+ghost use Rattle.sdt_outside.specs.Counts.{Rose};
 ghost use Rattle.said_model.specs.Said.{AllSaid};
 ghost use Rattle.asm_laying.specs.Behind.{most_statements};
 ghost use Rattle.asm_reading.specs.Laws.{AreFit};
+ghost use Rattle.expand_model.specs.Steps.{visit_limit};
 ghost use Rattle.armasm_core.specs.Assembling as assembling;
-ghost use Rattle.armasm_core.specs.Passes.{Makes};
-ghost use Rattle.armasm_core.specs.Standing.{StandsWherePlaced};
+ghost use Rattle.armasm_core.specs.Passes.{FlatsGive, Makes};
+ghost use Rattle.armasm_core.specs.Standing.{StandsFrom};
 
 use crate::emit;
-use crate::laws::{objects_of_sources_are_valid, objects_of_sources_stand};
+use crate::laws::{objects_of_flats_are_valid, objects_of_flats_stand};
 use crate::reading::laid_out;
 use aof_object::Object;
-use asm_lines::split_lines;
+use asm_expand::expand;
+use asm_model::Flat;
 use asm_reading::laws::readings_are_fit;
-use asm_reading::{Reading, flats_of, read_lines};
+use asm_reading::{Reading, read_lines};
+use expand_model::expansion_law;
 use sdt_fault::Text;
 use sdt_fault::answer::Fault;
 use sdt_fault::kinds::Quantity;
 use sdt_fault::refusal::Refusal;
+use sdt_outside::Store;
 use source_laws::laws::sources_stay_in_arm_state;
 use std::alloc::Global;
 
@@ -38,25 +43,46 @@ fn object_of(alloc: Global, source: &Text, reading: Reading) -> Result<Object, F
     emit(alloc, &layout)
 }
 
-/// Assembles the text of the source of this name. A refusal is TooLarge for a text of more than `MOST_BYTES` bytes, or
-/// BadLine at the first line at fault. Wherever the object is placed, the statements of the text stand.
-pub fn assemble(alloc: Global, source: &Text, text: &[u8]) -> Result<Object, Fault>
-    ensures assembled { assembling.Assembles source.now text.now result }
+/// The object of the flat lines of the source of this name, or their first fault.
+fn assemble_flats(alloc: Global, source: &Text, flats: &[Flat]) -> Result<Object, Fault>
+    requires { length flats.now ≤ visit_limit }
+    ensures made { FlatsGive source.now flats.now result }
     ensures few { IfOk result (λ object. length object.symbols < 2 ^ 24) }
-    ensures stands { IfOk result (StandsWherePlaced source.now text.now) }
-    ensures valid { IfOk result IsValid }
 {
     readings_are_fit();
-    objects_of_sources_stand();
-    objects_of_sources_are_valid();
+    let reading = read_lines(alloc, flats)?;
+    object_of(alloc, source, reading)
+}
+
+/// Assembles the text of the source of this name, with the files that its GETs name. A refusal is `TooLarge` for a text of
+/// more than `MOST_BYTES` bytes, `BadLine` at the first line at fault, or `Missing` of a file that isn't there; `ReadFault`
+/// names a file whose read failed. Wherever the object is placed, the statements of the text stand.
+pub fn assemble<S: Store>(
+    alloc: Global,
+    source: &Text,
+    text: &[u8],
+    store: &mut S,
+) -> Result<Object, Fault>
+    ensures assembled { assembling.Assembles (S.files store.old) source.now text.now result }
+    ensures cause { IfErr result (assembling.IsCaused (S.files store.old) (Rose (S.read_faults store.old) (S.read_faults store.new))) }
+    ensures few { IfOk result (λ object. length object.symbols < 2 ^ 24) }
+    ensures stands { IfOk result (StandsFrom (S.files store.old) source.now text.now) }
+    ensures valid { IfOk result IsValid }
+    ensures files { S.files store.new ≡ S.files store.old }
+    ensures read_faults { S.read_faults store.old ≤ S.read_faults store.new }
+    ensures write_faults { S.write_faults store.new ≡ S.write_faults store.old }
+{
+    objects_of_flats_stand();
+    objects_of_flats_are_valid();
+    expansion_law();
     if text.len() > MOST_BYTES {
         return Err(Fault::Refused(Refusal::TooLarge {
             quantity: Quantity::SourceBytes,
             limit: MOST_BYTES as u64,
         }));
     }
-    let lines = split_lines(alloc, source, text)?;
-    let flats = flats_of(alloc, lines.into_vec())?;
-    let reading = read_lines(alloc, flats.as_slice())?;
-    object_of(alloc, source, reading)
+    match expand(alloc, source, text, store) {
+        Err(fault) => Err(fault),
+        Ok(flats) => assemble_flats(alloc, source, flats.as_slice()),
+    }
 }

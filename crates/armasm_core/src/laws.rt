@@ -1,9 +1,10 @@
 //! Laws of the definitions, each proved as the contract of an empty function.
 
 ghost use Rattle.armasm_core.specs.Assembling.{OneAssembly};
-ghost use Rattle.armasm_core.specs.Standing.{ObjectsOfSourcesAreValid, ObjectsOfSourcesStand};
+ghost use Rattle.armasm_core.specs.Standing.{ObjectsOfFlatsAreValid, ObjectsOfFlatsStand};
 
 use asm_reading::laws::{one_reading, readings_are_fit};
+use expand_model::expansion_law;
 use object_laws::laws::objects_are_valid;
 use source_laws::laws::{one_object, sources_stay_in_arm_state};
 use stand_laws::laws::objects_stand;
@@ -12,13 +13,14 @@ use stand_laws::laws::objects_stand;
 pub fn one_assembly()
     ensures { OneAssembly }
 {
+    expansion_law();
     one_reading();
     one_object();
 }
 
-/// Wherever the object of a source is placed, its statements stand.
-pub fn objects_of_sources_stand()
-    ensures { ObjectsOfSourcesStand }
+/// Wherever the object of flat lines is placed, their statements stand.
+pub fn objects_of_flats_stand()
+    ensures { ObjectsOfFlatsStand }
 {
     one_reading();
     readings_are_fit();
@@ -26,9 +28,9 @@ pub fn objects_of_sources_stand()
     objects_stand();
 }
 
-/// The object of a source is a valid object.
-pub fn objects_of_sources_are_valid()
-    ensures { ObjectsOfSourcesAreValid }
+/// The object of flat lines is a valid object.
+pub fn objects_of_flats_are_valid()
+    ensures { ObjectsOfFlatsAreValid }
 {
     readings_are_fit();
     sources_stay_in_arm_state();

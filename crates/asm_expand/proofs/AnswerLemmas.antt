@@ -1,5 +1,5 @@
 -- What the engine answers.
-use Rattle.std.proofs.Common.{◌≡◌, ℕ, List, [], ◌∷◌, ◌++◌, reverse, refl, sym, ◌∙◌, ap, subst, Option, Some, None}
+use Rattle.std.proofs.Common.{◌≡◌, ◌≤◌, ℕ, List, [], ◌∷◌, ◌++◌, reverse, refl, sym, ◌∙◌, ap, subst, Option, Some, None, arith}
 use Rattle.std.specs.Prelude.{Result, Ok, Err, IfErr}
 use Rattle.std.specs.Str.Lines.{lines}
 use Rattle.std.proofs.lemmas.List.{reverse-append}
@@ -29,7 +29,7 @@ use Rattle.asm_expand.specs.declared.steps.Next.TheVariants as next
 use Rattle.asm_variables.specs.Expanding.{Represents}
 use Rattle.asm_expand.specs.Leading.{IsBadAt, IsFault, IsLed, Caused, Gets, IsRefusal, LedOn, IsToldBy, OfFiles, OutermostEnd, RunsTo, Starts, StepsTo, GetsFrom}
 use Rattle.asm_expand.specs.Places.{place_lines}
-use Rattle.asm_expand.specs.Saying.{IsBad, IsEnd, IsFirst, Shows}
+use Rattle.asm_expand.specs.Saying.{IsBad, IsEnd, IsFirst, Shows, most_flats}
 use Rattle.asm_expand.specs.Unwinding.{Leads}
 use Rattle.asm_expand.proofs.UnwindingLemmas.{leads_from}
 use Rattle.asm_expand.proofs.EngineLemmas.{faulty, led_end, bad_runs, missing_runs, told_by}
@@ -206,6 +206,12 @@ end_caused (Err e) told rose h = refusal_caused e told rose h
 pub of_files : (told : Option Files) (Holds : Sources → Type 0) → ((sources : Sources) → Holds sources) → OfFiles told Holds
 of_files None Holds h = tt
 of_files (Some files) Holds h = h (content files)
+
+pub few_started : (g : Engine) → Starts g → most_flats g.state ≤ visit_limit
+few_started g s =
+    let none : g.state.flats.items ≡ [] = s.0.flats in
+    let all : g.state.visits ≡ visit_limit = s.0.visits in
+    rw none (rw all (omega arith))
 
 pub led_start : (sources : Sources) (g : Engine) (p : Place) → Starts g → IsLed sources (Go (started visit_limit) (place_lines p)) g (next.Go p)
 led_start sources g p s = record {

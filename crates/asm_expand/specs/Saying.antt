@@ -1,5 +1,5 @@
 -- What the code has of contexts and ends, and what it says of lines. This project's.
-use Rattle.std.specs.Prelude.{◌≡◌, ℕ, ◌<◌, ◌≤◌, List, [], ◌∷◌, Option, Some, None, Result, Ok, Err}
+use Rattle.std.specs.Prelude.{◌≡◌, ℕ, ◌+◌, ◌<◌, ◌≤◌, List, [], ◌∷◌, length, Option, Some, None, Result, Ok, Err}
 use Rattle.sdt_fault.specs.declared.kinds.LineKind.{LineKind}
 use Rattle.asm_model.specs.declared.lines.Line.{Line}
 use Rattle.asm_model.specs.Kinds.{earlier}
@@ -80,6 +80,10 @@ abbrev pub Shortens : Next → ℕ → ℕ → Type 0
 Shortens (next.Under f p) old new = new < old
 Shortens (next.Get name p) old new = new < old
 Shortens _ old new = new ≤ old
+
+-- the most flat lines that there can be: those that are there, and one for each line that may still be visited
+abbrev pub most_flats : Expansion → ℕ
+most_flats c = length c.flats.items + c.visits
 
 -- a value, unless a fault is told of its line
 abbrev pub settled : {A : Type 0} → Option LineKind → Result A LineKind → Result A LineKind

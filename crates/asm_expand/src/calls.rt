@@ -155,6 +155,7 @@ pub fn call(
     ensures says { IfOk result (λ next. Says at state.old state.new next (λ s l ls.
         model.call (depth_of depth) l (words_shown words.entry) s ls (macro_of called))) }
     ensures visits { state.new.visits ≤ state.old.visits }
+    ensures flats { state.new.flats.items ≡ state.old.flats.items }
 {
     let texts = arguments(alloc, words.behind)?;
     let prototype = called.prototype.as_ref();

@@ -30,6 +30,7 @@ pub fn skip_from(
 ) -> Result<Next, NoMemory>
     ensures says { IfOk result (λ next. SkipsFrom at from opening state.old state.new next) }
     ensures visits { IfOk result (λ next. Shortens next state.old.visits state.new.visits) }
+    ensures flats { state.new.flats.items ≡ state.old.flats.items }
     ensures fewer { state.new.visits ≤ state.old.visits }
 {
     match skip(alloc, opening, state.visits, from.rest())? {
@@ -50,6 +51,7 @@ pub fn skip_from(
 fn branch(alloc: Global, state: &mut Expansion, at: Place, truth: bool) -> Result<Next, NoMemory>
     ensures says { IfOk result (λ next. Says at state.old state.new next (λ s l ls. model.branch l s ls truth)) }
     ensures visits { state.new.visits ≤ state.old.visits }
+    ensures flats { state.new.flats.items ≡ state.old.flats.items }
 {
     let behind = at.behind()?;
     if truth {
@@ -67,6 +69,7 @@ fn turn_around(
 ) -> Result<Next, NoMemory>
     ensures says { IfOk result (λ next. Says at state.old state.new next (λ s l ls. model.loop l s ls truth)) }
     ensures visits { state.new.visits ≤ state.old.visits }
+    ensures flats { state.new.flats.items ≡ state.old.flats.items }
 {
     let behind = at.behind()?;
     if truth {
@@ -100,6 +103,7 @@ pub fn say_if(
         model.valued l (model.label_kinds (words_shown words.entry) ++ model.depth_kinds (depth_of depth))
         (model.truth (value_of s operand.now)) (model.branch l s ls))) }
     ensures visits { state.new.visits ≤ state.old.visits }
+    ensures flats { state.new.flats.items ≡ state.old.flats.items }
 {
     let value = value_of(alloc, state, operand)?;
     let truth = truth_of(value);
@@ -124,6 +128,7 @@ pub fn say_while(
         model.valued l (model.label_kinds (words_shown words.entry) ++ model.depth_kinds (depth_of depth))
         (model.truth (value_of s operand.now)) (model.loop l s ls))) }
     ensures visits { state.new.visits ≤ state.old.visits }
+    ensures flats { state.new.flats.items ≡ state.old.flats.items }
 {
     let value = value_of(alloc, state, operand)?;
     let truth = truth_of(value);

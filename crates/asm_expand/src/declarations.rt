@@ -80,6 +80,7 @@ pub fn say_global(
     ensures says { IfOk result (λ next. Says at state.old state.new next (λ s l ls.
         model.declares_global l (words_shown words.entry) sort s ls (as_name (operand_text words.entry.behind.now)))) }
     ensures visits { state.new.visits ≤ state.old.visits }
+    ensures flats { state.new.flats.items ≡ state.old.flats.items }
 {
     let Some(name) = name_of(operand_text(words.behind)) else {
         return Ok(Next::Bad(at, LineKind::Syntax));
@@ -118,6 +119,7 @@ pub fn say_local(
     ensures says { IfOk result (λ next. Says at state.old state.new next (λ s l ls.
         model.declares_local l (words_shown words.entry) sort s ls (as_name (operand_text words.entry.behind.now)))) }
     ensures visits { state.new.visits ≤ state.old.visits }
+    ensures flats { state.new.flats.items ≡ state.old.flats.items }
 {
     let Some(name) = name_of(operand_text(words.behind)) else {
         return Ok(Next::Bad(at, LineKind::Syntax));
@@ -171,6 +173,7 @@ pub fn say_set(
     ensures says { IfOk result (λ next. Says at state.old state.new next (λ s l ls.
         model.sets l sort s ls (as_name words.entry.label.now) (value_of s operand.now))) }
     ensures visits { state.new.visits ≤ state.old.visits }
+    ensures flats { state.new.flats.items ≡ state.old.flats.items }
 {
     let Some(name) = name_of(words.label) else {
         return Ok(Next::Bad(at, LineKind::Syntax));

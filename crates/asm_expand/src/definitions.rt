@@ -82,6 +82,7 @@ fn defined(
 ) -> Result<Next, NoMemory>
     ensures says { IfOk result (λ next. Defines at body prototype state.old state.new next) }
     ensures visits { state.new.visits ≤ state.old.visits }
+    ensures flats { state.new.flats.items ≡ state.old.flats.items }
 {
     match take_body(state.visits, body.rest()) {
         Taking::Bad(passed, kind) => Ok(Next::Bad(body.past(passed), kind)),
@@ -232,6 +233,7 @@ fn prototype_on(
 pub fn definition(alloc: Global, state: &mut Expansion, at: Place) -> Result<Next, NoMemory>
     ensures says { IfOk result (λ next. Says at state.old state.new next (λ s l ls. model.definition l s ls)) }
     ensures visits { state.new.visits ≤ state.old.visits }
+    ensures flats { state.new.flats.items ≡ state.old.flats.items }
 {
     let place = at.behind()?;
     let Some(line) = place.first() else {

@@ -1,11 +1,12 @@
 //! The engine: the lines of a source, in a loop over a stack of what is open.
 
-ghost use Rattle.std.specs.Prelude.{◌≡◌, ◌≤◌, ◌∷◌, [], ◌++◌, IfOk, IfErr, MatchOption, OnOk};
+ghost use Rattle.std.specs.Prelude.{◌≡◌, ◌≤◌, ◌∷◌, [], ◌++◌, length, IfOk, IfErr, MatchOption, OnOk};
 ghost use Rattle.sdt_outside.specs.Counts.{Rose};
 ghost use Rattle.expand_model.specs.Expands.{Expands, Flats};
 ghost use Rattle.expand_model.specs.States.{started};
 ghost use Rattle.expand_model.specs.Steps.{Go, visit_limit};
 ghost use Rattle.asm_expand.specs.Places.{place_lines};
+ghost use Rattle.asm_expand.specs.Saying.{most_flats};
 ghost use Rattle.asm_expand.specs.declared.steps.Next.TheVariants as next;
 ghost use Rattle.asm_expand.specs.Leading.{Caused, Closes, Gets, IsBadAt, IsDeeper, IsFault, IsRefusal, IsShallower, LedOn, OfFiles, Opens, OutermostEnd, RunsTo, Smaller, Starts, weight};
 
@@ -120,7 +121,8 @@ fn shallower(frame: &Frame, depth: Depth) -> Depth
 
 /// One frame more is open.
 fn open(engine: &mut Engine, frame: Frame) -> Result<(), NoMemory>
-    ensures { OnOk result (Opens frame engine.old engine.new) }
+    ensures opens { OnOk result (Opens frame engine.old engine.new) }
+    ensures state { engine.new.state ≡ engine.old.state }
 {
     let depth = deeper(&frame, engine.depth)?;
     engine.frames.push(frame)?;
@@ -174,6 +176,7 @@ fn innermost(frames: &mut Vec<Frame>) -> Option<Frame>
 fn close(alloc: Global, engine: &mut Engine, end: End) -> Result<Option<Next>, Fault>
     ensures closes { Closes end engine.old engine.new result }
     ensures smaller { IfOk result (λ after. Smaller (next.Stop end) engine.old after engine.new) }
+    ensures flats { OnOk result (most_flats engine.new.state ≤ most_flats engine.old.state) }
     ensures refused { IfErr result (λ e. IsRefusal e) }
 {
     let Some(frame) = innermost(&mut engine.frames) else {
@@ -214,6 +217,7 @@ fn step<S: Store>(
 ) -> Result<Option<Next>, Fault>
     ensures led { LedOn (S.files store.old) engine.old next engine.new result }
     ensures smaller { IfOk result (λ after. Smaller next engine.old after engine.new) }
+    ensures flats { OnOk result (most_flats engine.new.state ≤ most_flats engine.old.state) }
     ensures cause { IfErr result (λ e. Caused e (S.files store.old) (Rose (S.read_faults store.old) (S.read_faults store.new))) }
     ensures files { S.files store.new ≡ S.files store.old }
     ensures read_faults { S.read_faults store.old ≤ S.read_faults store.new }
@@ -238,6 +242,7 @@ fn step<S: Store>(
 fn expand_lines<S: Store>(alloc: Global, first: Place, store: &mut S) -> Result<Vec<Flat>, Fault>
     ensures flats { IfOk result (λ flats. OfFiles (S.files store.old) (λ sources.
         RunsTo sources (Go (started visit_limit) (place_lines first)) (Flats flats.items))) }
+    ensures few { IfOk result (λ flats. length flats.items ≤ visit_limit) }
     ensures fault { IfErr result (λ e. OfFiles (S.files store.old) (λ sources.
         IsFault e (RunsTo sources (Go (started visit_limit) (place_lines first))))) }
     ensures cause { IfErr result (λ e. Caused e (S.files store.old) (Rose (S.read_faults store.old) (S.read_faults store.new))) }
@@ -266,6 +271,7 @@ pub fn expand<S: Store>(
 ) -> Result<Vec<Flat>, Fault>
     ensures flats { IfOk result (λ flats. OfFiles (S.files store.old) (λ sources.
         Expands sources visit_limit source.now text.now (Flats flats.items))) }
+    ensures few { IfOk result (λ flats. length flats.items ≤ visit_limit) }
     ensures fault { IfErr result (λ e. OfFiles (S.files store.old) (λ sources.
         IsFault e (λ o. Expands sources visit_limit source.now text.now o))) }
     ensures cause { IfErr result (λ e. Caused e (S.files store.old) (Rose (S.read_faults store.old) (S.read_faults store.new))) }

@@ -1,6 +1,6 @@
 //! Lines that are no part of expansion: they stay.
 
-ghost use Rattle.std.specs.Prelude.{◌≡◌, ◌≤◌, IfOk, OnOk};
+ghost use Rattle.std.specs.Prelude.{◌≡◌, ◌+◌, ◌≤◌, length, IfOk, OnOk};
 ghost use Rattle.expand_model.specs.Steps as model;
 ghost use Rattle.expand_model.specs.Words.{as_name, words_of};
 ghost use Rattle.asm_variables.specs.Known.{WasRead};
@@ -110,6 +110,7 @@ fn push_flat(
 ) -> Result<(), NoMemory>
     ensures state { OnOk result (Pushes flat name number thumb state.old state.new) }
     ensures visits { state.new.visits ≡ state.old.visits }
+    ensures flats { length state.new.flats.items ≤ length state.old.flats.items + 1 }
 {
     state.flats.push(flat)?;
     note_number(alloc, &mut state.numbers, &name, number)?;
@@ -145,6 +146,7 @@ pub fn say_plain(
     ensures says { IfOk result (λ next. Says at state.old state.new next (λ s l ls.
         model.plain_line l text.items (words_of text.items) operand.now s ls)) }
     ensures visits { state.new.visits ≤ state.old.visits }
+    ensures flats { length state.new.flats.items ≤ length state.old.flats.items + 1 }
 {
     let words = words_of(text.as_slice());
     let ends = is_called(b"END", words.operation);

@@ -1,6 +1,6 @@
 //! What the first of some lines says.
 
-ghost use Rattle.std.specs.Prelude.{◌≡◌, ◌≤◌, ◌<◌, ◌^◌, length, IfOk};
+ghost use Rattle.std.specs.Prelude.{◌≡◌, ◌+◌, ◌≤◌, ◌<◌, ◌^◌, length, IfOk};
 ghost use Rattle.expand_model.specs.Known.{ReadsExpression};
 ghost use Rattle.std.specs.List.{list_all};
 ghost use Rattle.sdt_fault.specs.declared.kinds.LineKind.TheVariants.{Nesting};
@@ -9,7 +9,7 @@ ghost use Rattle.expand_model.specs.Steps.{Stop, Closed, Left};
 ghost use Rattle.expand_model.specs.Steps as model;
 ghost use Rattle.asm_variables.specs.Known.{WasRead};
 ghost use Rattle.asm_expand.specs.Reading.{IsCalled, IsKind, IsRead, Reads, ReadsText, SaysAlone, SaysGet, TakesOperand, kind_shown};
-ghost use Rattle.asm_expand.specs.Saying.{Says, SaysFrom, depth_of};
+ghost use Rattle.asm_expand.specs.Saying.{Says, SaysFrom, depth_of, most_flats};
 ghost use Rattle.asm_variables.specs.Steps.{words_shown};
 
 use crate::calls::call;
@@ -198,6 +198,7 @@ fn say_macro(
     ensures says { IfOk result (λ next. Says at state.old state.new next (λ s l ls.
         model.judged l (told_kind (model.alone_kinds (words_shown words.entry))) (model.definition l s ls))) }
     ensures visits { state.new.visits ≤ state.old.visits }
+    ensures flats { state.new.flats.items ≡ state.old.flats.items }
 {
     match alone_fault(words) {
         Some(kind) => Ok(Next::Bad(at, kind)),
@@ -219,6 +220,7 @@ fn say_word(
     ensures says { IfOk result (λ next. SaysFrom at state.old state.new next (λ sources s l ls.
         model.said_word sources (depth_of depth) l (words_shown words.entry) operand.now s ls operation)) }
     ensures visits { state.new.visits ≤ state.old.visits }
+    ensures flats { state.new.flats.items ≡ state.old.flats.items }
 {
     match operation {
         Operation::If => say_if(alloc, depth, state, at, words, operand),
@@ -251,6 +253,7 @@ fn say(
     ensures says { IfOk result (λ next. SaysFrom at state.old state.new next (λ sources s l ls.
         model.said sources (depth_of depth) l text.items operand.now s ls (kind_shown kind))) }
     ensures visits { state.new.visits ≤ state.old.visits }
+    ensures flats { length state.new.flats.items ≤ length state.old.flats.items + 1 }
 {
     match kind {
         Kind::Plain => say_plain(alloc, state, at, text, operand),
@@ -272,6 +275,7 @@ fn read_text(
 ) -> Result<Next, NoMemory>
     ensures says { IfOk result (λ next. ReadsText at text.items (depth_of depth) state.old state.new next) }
     ensures visits { state.new.visits ≤ state.old.visits }
+    ensures flats { length state.new.flats.items ≤ length state.old.flats.items + 1 }
 {
     if text.as_slice().len() > LINE_BYTES {
         return Ok(Next::Bad(at, LineKind::TooMany));
@@ -286,6 +290,7 @@ fn read_text(
 pub fn read(alloc: Global, depth: Depth, state: &mut Expansion, at: Place) -> Result<Next, NoMemory>
     ensures says { IfOk result (λ next. Reads at (depth_of depth) state.old state.new next) }
     ensures visits { IfOk result (λ next. IsRead next state.old.visits state.new.visits) }
+    ensures flats { most_flats state.new ≤ most_flats state.old }
 {
     let Some(line) = at.first() else {
         return Ok(Next::Stop(End::Over));

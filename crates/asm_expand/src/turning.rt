@@ -28,6 +28,7 @@ fn close_condition(
 ) -> Result<Next, NoMemory>
     ensures says { IfOk result (λ next. Closes at operation word state.old state.new next (λ l e. model.behind_condition l e)) }
     ensures visits { IfOk result (λ next. Shortens next state.old.visits state.new.visits) }
+    ensures flats { state.new.flats.items ≡ state.old.flats.items }
 {
     match operation {
         Operation::Else => skip_from(alloc, state, Opening::Alternative, at, word.past(1)),
@@ -45,6 +46,7 @@ fn turn_condition(
 ) -> Result<Next, NoMemory>
     ensures says { IfOk result (λ next. Answers at end state.old state.new next (λ l e. model.behind_condition l e)) }
     ensures visits { IfOk result (λ next. Shortens next state.old.visits state.new.visits) }
+    ensures flats { state.new.flats.items ≡ state.old.flats.items }
 {
     match end {
         End::Closed(operation, word) => close_condition(alloc, state, at, operation, word),
@@ -139,6 +141,7 @@ fn turn_loop(alloc: Global, state: &Expansion, at: Place, end: End) -> Result<Ne
 fn turn_call(state: &mut Expansion, scope: Scope, behind: Place, end: End) -> Next
     ensures says { Returns scope behind end state.old state.new result }
     ensures visits { Shortens result state.old.visits state.new.visits }
+    ensures flats { state.new.flats.items ≡ state.old.flats.items }
 {
     match end {
         End::Over => {
@@ -177,6 +180,7 @@ fn turn_file(state: &Expansion, behind: Place, end: End) -> Next
 pub fn turn(alloc: Global, state: &mut Expansion, frame: Frame, end: End) -> Result<Next, NoMemory>
     ensures says { IfOk result (λ next. Turns frame end state.old state.new next) }
     ensures visits { IfOk result (λ next. Shortens next state.old.visits state.new.visits) }
+    ensures flats { state.new.flats.items ≡ state.old.flats.items }
 {
     match frame {
         Frame::Condition(at) => turn_condition(alloc, state, at, end),

@@ -1,5 +1,3 @@
-mod DollarLemmas
 mod FitLemmas
-mod FlatLemmas
 mod LawLemmas
 pub mod ReadLemmas

@@ -1,5 +1,6 @@
 -- Lines that are read one after the other.
-use Rattle.std.proofs.Common.{◌≡◌, ℕ, ◌≤◌, ◌<◌, suc, ◌+◌, Bool, true, false, cond, List, [], ◌∷◌, ◌++◌, length, Option, Some, None, Ok, Err, refl, sym, ap, ◌∙◌, subst, arith, append_assoc, length-append}
+use Rattle.std.proofs.Common.{◌≡◌, ℕ, ◌≤◌, ◌<◌, suc, ◌+◌, Bool, true, false, cond, List, [], ◌∷◌, ◌++◌, length, take, get_or, Option, Some, None, Ok, Err, refl, sym, ap, ◌∙◌, subst, arith, append_assoc, length-append, add-one}
+use Rattle.std.proofs.Math.Seq.{take-suc}
 use Rattle.sdt_fault.specs.declared.kinds.LineKind.TheVariants.{UnknownWord}
 use Rattle.asm_arm.specs.Says.{SaysArm}
 use Rattle.asm_model.specs.declared.lines.Flat.{Flat}
@@ -12,7 +13,7 @@ use Rattle.asm_said.specs.Laws.{LinesAreSaid}
 use Rattle.said_model.specs.Said.{IsSaid, AllSaid}
 use Rattle.asm_reading.specs.declared.reading.Reading.{Reading}
 use Rattle.asm_reading.specs.declared.reading.Unread.{Unread}
-use Rattle.asm_reading.specs.Reading.{AllShort, Said, changes_state, without_states, has_dollar, read_as, SaysLine, says_end, UnlessEnd, Say, statement_in, statements_in, unread_in, first_unread, is_unread, read_first, before_behind, Keeps, IsWritten, IsReading, StaysInArm, IsSoFar}
+use Rattle.asm_reading.specs.Reading.{Said, changes_state, without_states, SaysLine, Say, statement_in, statements_in, unread_in, first_unread, is_unread, read_first, before_behind, Keeps, IsWritten, IsReading, StaysInArm}
 use Rattle.asm_locals.specs.Naming.{Targets, named_what, in_names}
 use Rattle.asm_locals.proofs.KeptLemmas.{IsStable, all_in_names, as_many, said_named}
 use Rattle.std.specs.List.{AllByRecursion}
@@ -22,10 +23,6 @@ use Rattle.std.specs.List.{AllByRecursion}
 append_nil : {A : Type 0} (xs : List A) → xs ++ [] ≡ xs
 append_nil [] = refl
 append_nil (x ∷ xs) = ap (λ l. x ∷ l) (append_nil xs)
-
-pub nothing : {A : Type 0} (xs : List A) → length xs < 1 → xs ≡ []
-nothing [] less = refl
-nothing (x ∷ xs) less = absurd (omega arith)
 
 statements_joined : (ps qs : List (Flat × Said)) → statements_in (ps ++ qs) ≡ statements_in ps ++ statements_in qs
 statements_joined [] qs = refl
@@ -59,19 +56,16 @@ few (p ∷ ps) =
     let j : length (statement_in p.1 ++ statements_in ps) ≡ length (statement_in p.1) + length (statements_in ps) = length-append (statement_in p.1) (statements_in ps) in
     omega arith
 
-no_more : (fs : List Flat) (ps : List (Flat × Said)) → Say fs ps → length ps ≤ length fs
-no_more fs [] h = omega arith
-no_more [] (p ∷ ps) h = absurd h
-no_more (f ∷ fs) (p ∷ ps) h = by_end (says_end p.1) h.2 (λ k. no_more fs ps k)
-  where
-    by_end : (b : Bool) → UnlessEnd b ps (Say fs ps) → (Say fs ps → length ps ≤ length fs) → length (p ∷ ps) ≤ length (f ∷ fs)
-    by_end true e rest = let z : ps ≡ [] = e in rw z (omega arith)
-    by_end false e rest = let r = rest e in omega arith
+as_many_lines : (fs : List Flat) (ps : List (Flat × Said)) → Say fs ps → length ps ≡ length fs
+as_many_lines [] [] h = refl
+as_many_lines [] (p ∷ ps) h = absurd h
+as_many_lines (f ∷ fs) [] h = absurd h
+as_many_lines (f ∷ fs) (p ∷ ps) h = ap suc (as_many_lines fs ps h.2)
 
 few_named : (lines : List Flat) (ps : List (Flat × Said)) → Say lines ps → (named : List Statement) → named ≡ in_names (statements_in ps) → length named ≤ length lines
 few_named lines ps h named e =
     let a : length (statements_in ps) ≤ length ps = few ps in
-    let b : length ps ≤ length lines = no_more lines ps h in
+    let b : length ps ≡ length lines = as_many_lines lines ps h in
     let k : length named ≡ length (statements_in ps) = ap length e ∙ as_many (statements_in ps) in
     omega (arith, k)
 
@@ -114,22 +108,15 @@ without_kept P law f (Ok (Some s)) h = by_test (changes_state s.what) refl
 without_kept P law f (Ok None) h = tt
 without_kept P law f (Err k) h = tt
 
-as_kept : (P : Statement → Type 0) → Law P → (f : Flat) (b : Bool) (s : Said) → SaysArm f s → AllKept P (statement_in (read_as b s))
-as_kept P law f true s h = tt
-as_kept P law f false s h = without_kept P law f s h
-
 one_kept : (P : Statement → Type 0) → Law P → (f : Flat) (r : Said) → SaysLine f r → AllKept P (statement_in r)
-one_kept P law f r h = subst (λ (s : Said). AllKept P (statement_in s)) (sym h.4) (as_kept P law f (has_dollar f.text h.0) h.1 h.3)
+one_kept P law f r h = subst (λ (s : Said). AllKept P (statement_in s)) (sym h.2) (without_kept P law f h.0 h.1)
 
 pub all_kept : (P : Statement → Type 0) → Law P → (fs : List Flat) (ps : List (Flat × Said)) → Say fs ps → AllKept P (statements_in ps)
-all_kept P law fs [] h = tt
+all_kept P law [] [] h = tt
 all_kept P law [] (p ∷ ps) h = absurd h
+all_kept P law (f ∷ fs) [] h = absurd h
 all_kept P law (f ∷ fs) (p ∷ ps) h =
-    kept_joined P (statement_in p.1) (statements_in ps) (one_kept P law f p.1 h.1) (by_end (says_end p.1) h.2 (λ k. all_kept P law fs ps k))
-  where
-    by_end : (b : Bool) → UnlessEnd b ps (Say fs ps) → (Say fs ps → AllKept P (statements_in ps)) → AllKept P (statements_in ps)
-    by_end true e rest = let z : ps ≡ [] = e in rw z tt
-    by_end false e rest = rest e
+    kept_joined P (statement_in p.1) (statements_in ps) (one_kept P law f p.1 h.1) (all_kept P law fs ps h.2)
 
 -- naming keeps the state
 named_stays : (t : Targets) (w : What) → StaysInArm w → StaysInArm (named_what t w)
@@ -187,17 +174,6 @@ behind_read done f (Ok None) =
     sym (ap (λ (l : List Statement). length l) (statements_joined done ((f, Ok None) ∷ []) ∙ append_nil (statements_in done)))
 behind_read done f (Err k) = sym (ap (λ (l : List (Flat × Said)). length (statements_in l)) (append_nil done))
 
--- ---- the end
-
-ends_with : (lines : List Flat) (r : Reading) (ps : List (Flat × Said)) → Say lines ps → r.statements.items ≡ statements_in ps → r.unread ≡ first_unread ps
-    → r.before ≡ length (statements_in (read_first ps)) → IsWritten lines r
-ends_with lines r ps h s u b = record { says = ps; say = h; statements = s; unread = u; before = b }
-
-pub at_the_end : (lines left : List Flat) (r : Reading) → length left < 1 → IsSoFar lines left r → IsWritten lines r
-at_the_end lines left r less h =
-    ends_with lines r h.done
-    (subst (λ (ps : List (Flat × Said)). Say lines ps) (append_nil h.done) (h.more [] (nothing left less))) h.statements h.unread h.before
-
 -- ---- a line more
 
 kept_more : (done : List (Flat × Said)) (f : Flat) (s : Said) (old new : Reading) → Keeps f s old new → old.statements.items ≡ statements_in done
@@ -230,27 +206,26 @@ counts_more done f s old new k h u b = by_unread (first_unread done) refl
         ∙ behind_unread s v old.before (length new.statements.items) ∙ b
         ∙ sym (ap (λ (l : List (Flat × Said)). length (statements_in l)) (first_some done ((f, s) ∷ []) v e))
 
-pub at_end_line : (lines left rest : List Flat) (f : Flat) (s : Said) (old new : Reading) → left ≡ f ∷ rest → SaysLine f s → says_end s ≡ true
-    → Keeps f s old new → IsSoFar lines left old → IsWritten lines new
-at_end_line lines left rest f s old new at says e k h =
-    ends_with lines new (h.done ++ (f, s) ∷ [])
-    (h.more ((f, s) ∷ []) (subst (λ (l : List Flat). Say l ((f, s) ∷ [])) (sym at) (refl, says, rw e refl)))
-    (kept_more h.done f s old new k h.statements) (told_more h.done f s old new k h.unread)
-    (counts_more h.done f s old new k h.statements h.unread h.before)
+say_more : (fs : List Flat) (ps : List (Flat × Said)) (f : Flat) (s : Said) → Say fs ps → SaysLine f s → Say (fs ++ f ∷ []) (ps ++ (f, s) ∷ [])
+say_more [] [] f s h says = (refl, says, tt)
+say_more [] (p ∷ ps) f s h says = absurd h
+say_more (g ∷ gs) [] f s h says = absurd h
+say_more (g ∷ gs) (p ∷ ps) f s h says = (h.0, h.1, say_more gs ps f s h.2 says)
 
-pub goes_on : (lines left rest : List Flat) (f : Flat) (s : Said) (old new : Reading) → left ≡ f ∷ rest → SaysLine f s → says_end s ≡ false
-    → Keeps f s old new → IsSoFar lines left old → IsSoFar lines rest new
-goes_on lines left rest f s old new at says e k h =
-    let long : length left ≡ suc (length rest) = ap (λ (l : List Flat). length l) at in
-    let grown : length (h.done ++ (f, s) ∷ []) ≡ length h.done + 1 = length-append h.done ((f, s) ∷ []) in
-    let number : length h.done + length left ≡ length lines = h.number in
-    record {
-      done = h.done ++ (f, s) ∷ [];
-      more = λ ps q. subst (λ (l : List (Flat × Said)). Say lines l) (sym (append_assoc h.done ((f, s) ∷ []) ps))
-          (h.more ((f, s) ∷ ps) (subst (λ (l : List Flat). Say l ((f, s) ∷ ps)) (sym at) (refl, says, rw e q)));
-      number = omega arith;
-      statements = kept_more h.done f s old new k h.statements;
-      unread = told_more h.done f s old new k h.unread;
-      before = counts_more h.done f s old new k h.statements h.unread h.before;
-      short = (subst (λ (l : List Flat). AllShort l) at h.short).1;
-    }
+written_more : (lines : List Flat) (f : Flat) (s : Said) (old new : Reading) → IsWritten lines old → SaysLine f s → Keeps f s old new
+    → IsWritten (lines ++ f ∷ []) new
+written_more lines f s old new h says k = record {
+  says = h.says ++ (f, s) ∷ [];
+  say = say_more lines h.says f s h.say says;
+  statements = kept_more h.says f s old new k h.statements;
+  unread = told_more h.says f s old new k h.unread;
+  before = counts_more h.says f s old new k h.statements h.unread h.before;
+}
+
+pub written_next : (lines : List Flat) (i : ℕ) (f : Flat) (s : Said) (old new : Reading) → i < length lines → f ≡ get_or lines i f
+    → IsWritten (take i lines) old → SaysLine f s → Keeps f s old new → IsWritten (take (i + 1) lines) new
+written_next lines i f s old new less is h says k =
+    let next : i + 1 ≡ suc i = add-one i in
+    let more : take i lines ++ f ∷ [] ≡ take (i + 1) lines =
+    ap (λ (x : Flat). take i lines ++ x ∷ []) is ∙ sym (take-suc lines i f less) ∙ ap (λ (n : ℕ). take n lines) (sym next) in
+    subst (λ (l : List Flat). IsWritten l new) more (written_more (take i lines) f s old new h says k)

@@ -1,10 +1,8 @@
--- What the lines of a source say, up to the first that says END, which closes it. SDT 2.50 Reference Guide, chapter on the
--- assembler. This project's: until Thumb lines stand, CODE16 and CODE32 are words that nothing names; and until lines are
--- expanded, strings and characters hold no dollar.
-use Rattle.std.specs.Prelude.{◌≡◌, ℕ, ◌+◌, ◌^◌, ◌<◌, ◌==◌, List, [], ◌∷◌, ◌++◌, length, Bool, true, false, if◌then◌else◌, Option, Some, None, Result, Ok, Err}
-use Rattle.std.specs.List.{list_any}
+-- What the flat lines of a source say. END says nothing more here: expansion has ended the file at it. SDT 2.50 Reference
+-- Guide, chapter on the assembler. This project's: until Thumb lines stand, CODE16 and CODE32 are words that nothing names.
+use Rattle.std.specs.Prelude.{◌≡◌, ℕ, List, [], ◌∷◌, ◌++◌, length, Bool, true, false, if◌then◌else◌, Option, Some, None, Result, Ok, Err}
 use Rattle.sdt_fault.specs.declared.kinds.LineKind.{LineKind}
-use Rattle.sdt_fault.specs.declared.kinds.LineKind.TheVariants.{Syntax, UnknownWord}
+use Rattle.sdt_fault.specs.declared.kinds.LineKind.TheVariants.{UnknownWord}
 use Rattle.asm_arm.specs.Says.{SaysArm}
 use Rattle.asm_locals.specs.Naming.{in_names}
 use Rattle.asm_model.specs.declared.directives.DirectiveLine.TheVariants as line
@@ -12,21 +10,9 @@ use Rattle.asm_model.specs.declared.lines.Flat.{Flat}
 use Rattle.asm_model.specs.declared.statements.Statement.{Statement}
 use Rattle.asm_model.specs.declared.statements.What.{What}
 use Rattle.asm_model.specs.declared.statements.What.TheVariants as what
-use Rattle.asm_model.specs.declared.tokens.Token.{Token}
-use Rattle.asm_model.specs.declared.tokens.TokenKind.{TokenKind}
-use Rattle.asm_model.specs.declared.tokens.TokenKind.TheVariants as kind
 use Rattle.asm_model.specs.Directives.{or_else}
-use Rattle.asm_model.specs.Parts.{piece}
-use Rattle.asm_model.specs.Tokens.{Scans}
 use Rattle.asm_reading.specs.declared.reading.Reading.{Reading}
 use Rattle.asm_reading.specs.declared.reading.Unread.{Unread}
-
-abbrev pub IsShort : Flat → Type 0
-IsShort f = length f.text < 2 ^ 32
-
-abbrev pub AllShort : List Flat → Type 0
-AllShort [] = Unit {0}
-AllShort (f ∷ fs) = IsShort f × AllShort fs
 
 -- ---- what lines say
 
@@ -45,50 +31,15 @@ without_states (Ok (Some s)) = if changes_state s.what then Err UnknownWord else
 without_states (Ok None) = Ok None
 without_states (Err k) = Err k
 
--- where a dollar has no meaning
-abbrev pub is_quotation : TokenKind → Bool
-is_quotation kind.Quoted = true
-is_quotation kind.Character = true
-is_quotation _ = false
-
-abbrev pub is_dollar : ℕ → Bool
-is_dollar c = c == 36
-
-abbrev pub holds_dollar : List ℕ → Token → Bool
-holds_dollar text t = if is_quotation t.kind then list_any is_dollar (piece text t) else false
-
-abbrev pub Scan : Type 0
-Scan = Result (List Token) LineKind
-
-abbrev pub has_dollar : List ℕ → Scan → Bool
-has_dollar text (Ok ts) = list_any (holds_dollar text) ts
-has_dollar text (Err k) = false
-
-abbrev pub read_as : Bool → Said → Said
-read_as dollar s = if dollar then Err Syntax else without_states s
-
 abbrev pub SaysLine : Flat → Said → Type 0
-SaysLine f r = (scan : Scan) × (s : Said) × Scans f.text scan × SaysArm f s × (r ≡ read_as (has_dollar f.text scan) s)
+SaysLine f r = (s : Said) × SaysArm f s × (r ≡ without_states s)
 
-abbrev pub is_end : What → Bool
-is_end (what.Directive line.End) = true
-is_end _ = false
-
-abbrev pub says_end : Said → Bool
-says_end (Ok (Some s)) = is_end s.what
-says_end (Ok None) = false
-says_end (Err k) = false
-
--- behind END nothing is said
-abbrev pub UnlessEnd : Bool → List (Flat × Said) → Type 0 → Type 0
-UnlessEnd true ps Rest = ps ≡ []
-UnlessEnd false ps Rest = Rest
-
--- lines with what they say, up to the first that says END
+-- lines with what they say
 abbrev pub Say : List Flat → List (Flat × Said) → Type 0
-Say fs [] = fs ≡ []
+Say [] [] = Unit {0}
 Say [] (p ∷ ps) = ⊥
-Say (f ∷ fs) (p ∷ ps) = (p.0 ≡ f) × SaysLine f p.1 × UnlessEnd (says_end p.1) ps (Say fs ps)
+Say (f ∷ fs) [] = ⊥
+Say (f ∷ fs) (p ∷ ps) = (p.0 ≡ f) × SaysLine f p.1 × Say fs ps
 
 -- ---- what is kept of them
 
@@ -158,15 +109,3 @@ pub record IsReading (lines : List Flat) (r : Reading) : Type 0 where
 abbrev pub StaysInArm : What → Type 0
 StaysInArm (what.Directive line.Code16) = ⊥
 StaysInArm _ = Unit {0}
-
--- ---- steps
-
--- what lines say of which these are left
-pub record IsSoFar (lines left : List Flat) (r : Reading) : Type 0 where
-  pub done : List (Flat × Said)
-  pub more : (ps : List (Flat × Said)) → Say left ps → Say lines (done ++ ps)
-  pub number : length done + length left ≡ length lines
-  pub statements : r.statements.items ≡ statements_in done
-  pub unread : r.unread ≡ first_unread done
-  pub before : r.before ≡ length (statements_in (read_first done))
-  pub short : AllShort left

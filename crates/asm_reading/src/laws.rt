@@ -3,7 +3,6 @@
 ghost use Rattle.asm_reading.specs.Laws.{OneLine, OneReading, ReadingsAreFit};
 
 use asm_arm::says::one_arm;
-use asm_lines::scan::one_scan;
 use asm_said::laws::{
     lines_are_fit, lines_are_named, lines_are_said, lines_have_texts, loads_are_named,
 };
@@ -13,7 +12,6 @@ pub fn one_reading()
     ensures line { OneLine }
     ensures reading { OneReading }
 {
-    one_scan();
     one_arm();
 }
 

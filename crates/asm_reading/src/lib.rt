@@ -1,9 +1,7 @@
 //! The statements of a source's lines.
 #![tactic(auto)]
 
-pub mod flats;
 pub mod laws;
 pub mod reading;
 
-pub use crate::flats::flats_of;
 pub use crate::reading::{Reading, Unread, read_lines};

@@ -85,6 +85,7 @@ impl Expansion {
         requires { 0 < self.old.visits }
         ensures state { Becomes self.old self.new model.visited }
         ensures visits { self.new.visits + 1 ≡ self.old.visits }
+        ensures flats { self.new.flats.items ≡ self.old.flats.items }
     {
         self.visits -= 1;
     }
@@ -93,6 +94,7 @@ impl Expansion {
     pub fn pass(&mut self, count: usize)
         ensures state { Becomes self.old self.new (λ s. with_visits (s.visits - count) s) }
         ensures visits { self.new.visits ≡ self.old.visits - count }
+        ensures flats { self.new.flats.items ≡ self.old.flats.items }
     {
         self.visits = self.visits.saturating_sub(count);
     }
@@ -101,6 +103,7 @@ impl Expansion {
     pub fn declare_global(&mut self, name: Text, value: Value) -> Result<(), NoMemory>
         ensures state { OnOk result (Becomes self.old self.new (model.declared_global name value)) }
         ensures visits { self.new.visits ≡ self.old.visits }
+        ensures flats { self.new.flats.items ≡ self.old.flats.items }
     {
         put(&mut self.tables.globals, name, value)
     }
@@ -110,6 +113,7 @@ impl Expansion {
         requires { self.old.in_call ≡ true }
         ensures state { OnOk result (Becomes self.old self.new (model.declared_local name value)) }
         ensures visits { self.new.visits ≡ self.old.visits }
+        ensures flats { self.new.flats.items ≡ self.old.flats.items }
     {
         put(&mut self.tables.locals, name, value)
     }
@@ -118,6 +122,7 @@ impl Expansion {
     pub fn set(&mut self, name: Text, value: Value) -> Result<(), NoMemory>
         ensures state { OnOk result (Becomes self.old self.new (model.with_variable name value)) }
         ensures visits { self.new.visits ≡ self.old.visits }
+        ensures flats { self.new.flats.items ≡ self.old.flats.items }
     {
         if self.tables.locals.contains_key(&name) {
             return replace(&mut self.tables.locals, name, value);
@@ -129,6 +134,7 @@ impl Expansion {
     pub fn enter(&mut self, scope: Scope) -> Scope
         ensures state { Enters self.old self.new scope result }
         ensures visits { self.new.visits ≡ self.old.visits }
+        ensures flats { self.new.flats.items ≡ self.old.flats.items }
     {
         let Scope {
             in_call,
@@ -148,6 +154,7 @@ impl Expansion {
     pub fn define(&mut self, alloc: Global, definition: Definition) -> Result<(), NoMemory>
         ensures state { OnOk result (Becomes self.old self.new (with_macro (macro_of definition))) }
         ensures visits { self.new.visits ≡ self.old.visits }
+        ensures flats { self.new.flats.items ≡ self.old.flats.items }
     {
         let name = definition.prototype.as_ref().name.try_clone(alloc)?;
         put(&mut self.macros, name, definition)

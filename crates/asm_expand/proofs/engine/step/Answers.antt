@@ -12,8 +12,8 @@ pub returns-in_ok-open-in-Under-clause-led : goal.returns-in_ok-open-in-Under-cl
 returns-in_ok-open-in-Under-clause-led g c =
     led_on _ _ _ _ _
     (λ sources start led.
-    led_open sources start c.args.engine.now c.open.new.engine c.in-Under.frame c.in-Under.place c.in_ok-open-in-Under.ensures
-    (back_one _ _ _ c.in_ok-open-in-Under.ensures.1) (rw c.in-Under.is at led))
+    led_open sources start c.args.engine.now c.open.new.engine c.in-Under.frame c.in-Under.place c.in_ok-open-in-Under.ensures.opens
+    (back_one _ _ _ c.in_ok-open-in-Under.ensures.opens.1) (rw c.in-Under.is at led))
 
 pub returns-in-Bad-clause-led : goal.returns-in-Bad-clause-led
 returns-in-Bad-clause-led g c =

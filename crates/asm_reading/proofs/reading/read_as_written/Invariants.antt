@@ -1,9 +1,6 @@
-use Rattle.std.proofs.Common.{length}
-use Rattle.asm_reading.specs.Reading.{IsSoFar}
+use Rattle.std.proofs.Common.{take}
+use Rattle.asm_reading.specs.Reading.{IsWritten}
 use Rattle.asm_reading.proofs.reading.read_as_written.Given as goal
 
-abbrev pub invariant-lines : goal.invariant-lines
-invariant-lines l = IsSoFar l.lines l.left l.reading
-
-abbrev pub decreases-lines : goal.decreases-lines
-decreases-lines l = length l.left
+abbrev pub invariant-loop-line : goal.invariant-loop-line
+invariant-loop-line l = IsWritten (take l.line-index l.lines) l.reading

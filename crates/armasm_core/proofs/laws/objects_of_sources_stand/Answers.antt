@@ -1,5 +1,0 @@
-use Rattle.armasm_core.proofs.StandingLemmas.{objects_of_sources_stand}
-use Rattle.armasm_core.proofs.laws.objects_of_sources_stand.Goals as goal
-
-pub returns : goal.returns
-returns c = objects_of_sources_stand c.one_reading.ensures.reading c.readings_are_fit.ensures c.sources_stay_in_arm_state.ensures c.objects_stand.ensures
