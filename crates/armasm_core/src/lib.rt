@@ -1,5 +1,5 @@
-//! One source to one object: lines that are read and laid out, the first line whose values have a fault, and the object:
-//! areas with their bytes and relocations, symbols with their records, the entry.
+//! One source to one object: its expansion, flat lines that are read and laid out, the first line whose values have a fault,
+//! and the object: areas with their bytes and relocations, symbols with their records, the entry.
 #![tactic(auto)]
 
 mod area;
