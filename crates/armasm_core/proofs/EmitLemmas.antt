@@ -1,14 +1,14 @@
 -- The lines of a layout, emitted one after the other.
-use Rattle.std.proofs.Common.{◌≡◌, ◌≤◌, ◌<◌, ◌-◌, ℕ, List, [], ◌∷◌, ◌++◌, length, take, drop, get_or, cond, Option, Some, None, sym, ap, ◌∙◌, subst}
+use Rattle.std.proofs.Common.{◌≡◌, inl, inr, ◌≤◌, ◌<◌, ◌-◌, ℕ, List, [], ◌∷◌, ◌++◌, length, take, drop, get_or, cond, Option, Some, None, refl, sym, ap, ◌∙◌, subst}
 use Rattle.std.specs.BTreeMap.{BTreeMap}
 use Rattle.std.proofs.lemmas.Bool.{cond-true}
 use Rattle.asm_instructions.specs.Scenes.{register_at}
 use Rattle.armasm_core.specs.Drafts.{IsDraft}
-use Rattle.armasm_core.specs.declared.putting.LineUnits.{LineUnits}
+use Rattle.asm_units.specs.declared.emitted.LineUnits.{LineUnits}
 use Rattle.armasm_core.specs.declared.whole.Whole.{Whole}
 use Rattle.armasm_core.specs.Giving.{gives}
 use Rattle.armasm_core.specs.Putting.{IsPut}
-use Rattle.armasm_core.specs.Whole.{IsHere}
+use Rattle.armasm_core.specs.Whole.{IsHere, kinds_at}
 use Rattle.armasm_core.proofs.LoopLemmas.{lines_from, turned_again, first_of, none_left}
 use Rattle.asm_layout.proofs.LateLemmas.{rest_of}
 use Rattle.asm_layout.specs.Late.{AreOn}
@@ -19,13 +19,19 @@ use Rattle.asm_registers.proofs.NameLemmas.{found, before_more}
 use Rattle.asm_units.specs.declared.emitted.Emitted.{Emitted as Code}
 use Rattle.asm_model.specs.Labels.{defined_by}
 use Rattle.asm_model.specs.Laid.{LaidLine, laid, reversed}
+use Rattle.asm_model.specs.Directives.{or_else}
+use Rattle.asm_model.specs.Kinds.{told_kind}
+use Rattle.asm_model.specs.LayoutKinds.{told_at}
 use Rattle.asm_model.specs.Offsets.{is_of}
+use Rattle.asm_layout.specs.Layout.{IsTold}
+use Rattle.sdt_fault.specs.declared.answer.Fault.{Fault}
+use Rattle.sdt_fault.specs.declared.kinds.LineKind.{LineKind}
 use Rattle.asm_model.proofs.OffsetLemmas.{is_here}
 use Rattle.source_laws.specs.Laws.{InArmState, SourcesStandApart}
 use Rattle.source_laws.proofs.ListedLemmas.{among_first, among_last, own_things}
 use Rattle.source_model.specs.Objects.{Piece, Source, IsAmong, StandsIn, source_of, things_of, things_behind, things_in}
 use Rattle.source_model.specs.Registers.{Named, register_in, registers_behind, named_by}
-use Rattle.source_model.specs.SourceFaults.{layout_faults}
+use Rattle.source_model.specs.SourceFaults.{first_valued, layout_faults, value_faults}
 use Rattle.armasm_core.specs.declared.drafting.Growing.{Growing}
 use Rattle.armasm_core.specs.Drafting.{AreDrafts, MeetNoneThere, pieces_put, with_line}
 use Rattle.armasm_core.specs.Emission.{IsEmittable, IsGrown}
@@ -79,17 +85,20 @@ grown_first ss l w names known gs h none drafts = record {
   parts = turned_again (laid ss);
   lines = lines_from (laid ss) l.statements h.layout.lines;
   registers = none;
+  none = refl;
   drafts = drafts;
 }
 
 pub grown_all : (ss : List Statement) (names : List (List ℕ)) (left : List LaidStatement) (known : BTreeMap (List ℕ) ℕ) (gs : List Growing) → length left < 1
-    → IsGrown ss names left known gs → AreDrafts names (things_in (source_of ss)) gs
+    → IsGrown ss names left known gs → (value_faults ss ≡ None) × AreDrafts names (things_in (source_of ss)) gs
 grown_all ss names left known gs less h =
     let none = none_left h.before h.rest (subst (λ (xs : List LaidStatement). AreOn h.before h.rest xs) (nothing left less) h.lines) in
-    let all : laid ss ≡ h.before = h.parts ∙ ap (λ (ls : List LaidLine). reversed ls h.before) none in
-    λ area g is.
-    subst (λ (ls : List LaidLine). IsDraft names (things_behind (source_of ss) area ls []) g.draft) (sym all)
-    (subst (λ (ls : List LaidLine). IsDraft names (things_behind (source_of ss) area h.before ls) g.draft) none (h.drafts area g is))
+    let all : laid ss ≡ h.before = h.parts ∙ ap (λ (ls : List LaidLine). reversed ls h.before) none in (
+      h.none ∙ ap (λ (ls : List LaidLine). first_valued (laid ss) ss h.before ls) none,
+      λ area g is.
+          subst (λ (ls : List LaidLine). IsDraft names (things_behind (source_of ss) area ls []) g.draft) (sym all)
+          (subst (λ (ls : List LaidLine). IsDraft names (things_behind (source_of ss) area h.before ls) g.draft) none (h.drafts area g is)),
+    )
 
 -- the lines that are left begin with this one
 pub record Next (ss : List Statement) (l : Layout) (w : Whole) (names : List (List ℕ)) (x : LaidStatement) (more : List LaidStatement) (known : BTreeMap (List ℕ) ℕ) (gs : List Growing) : Type 0 where
@@ -98,6 +107,7 @@ pub record Next (ss : List Statement) (l : Layout) (w : Whole) (names : List (Li
   pub rest : List LaidLine
   pub here : IsHere ss l.areas w known before rest line x
   pub lines : AreOn (line ∷ before) rest more
+  pub none : value_faults ss ≡ first_valued (laid ss) ss before (line ∷ rest)
   pub drafts : AreDrafts names (λ area. things_behind (source_of ss) area before (line ∷ rest)) gs
 
 next_of : (ss : List Statement) (l : Layout) (w : Whole) (names : List (List ℕ)) (x : LaidStatement) (more : List LaidStatement) (known : BTreeMap (List ℕ) ℕ) (gs : List Growing)
@@ -118,6 +128,7 @@ next_of ss l w names x more known gs j k =
         registers = k.registers;
       };
       lines = f.lines;
+      none = k.none ∙ ap (λ (ls : List LaidLine). first_valued (laid ss) ss k.before ls) f.parts;
       drafts = λ area g is. subst (λ (ls : List LaidLine). IsDraft names (things_behind (source_of ss) area k.before ls) g.draft) f.parts (k.drafts area g is);
     }
 
@@ -134,6 +145,17 @@ pub put_there : (ss : List Statement) (l : Layout) (w : Whole) (names : List (Li
 put_there ss l w names x more known gs n u us is h =
     h.pieces ∙ ap (λ (at : ℕ). pieces_put at u.units.items u.literal) (sym n.here.line.offset) ∙ ap (λ (vs : List Code). pieces_put x.offset vs u.literal) (sym is)
 
+told_first : (t u : Option (Statement × LineKind)) (f : Fault) → IsTold t f → IsTold (or_else t u) f
+told_first t u f (inl none) = inl none
+told_first t u f (inr h) = inr (h.0, h.1, ap (λ o. or_else o u) h.2, h.3)
+
+-- the refusal of the first of the lines that are left is that of the source
+pub told_here : (ss : List Statement) (l : Layout) (w : Whole) (names : List (List ℕ)) (x : LaidStatement) (more : List LaidStatement) (known : BTreeMap (List ℕ) ℕ) (gs : List Growing)
+    (n : Next ss l w names x more known gs) (f : Fault) → IsTold (told_at n.line.statement (told_kind (kinds_at ss n.before n.line n.rest))) f → IsTold (value_faults ss) f
+told_here ss l w names x more known gs n f h =
+    subst (λ o. IsTold o f) (sym n.none)
+    (told_first (told_at n.line.statement (told_kind (kinds_at ss n.before n.line n.rest))) (first_valued (laid ss) ss (n.line ∷ n.before) n.rest) f h)
+
 pub grown_more : (ss : List Statement) (l : Layout) (w : Whole) (names : List (List ℕ)) (x : LaidStatement) (more : List LaidStatement) (known new : BTreeMap (List ℕ) ℕ) (gs hs : List Growing)
     (n : Next ss l w names x more known gs) (u : LineUnits) (us : List Code) → us ≡ u.units.items → IsPut ss n.before n.rest n.line u
     → AreDrafts names (with_line (λ area. things_behind (source_of ss) area n.before (n.line ∷ n.rest)) x.area (pieces_put x.offset us u.literal)) hs
@@ -148,6 +170,7 @@ grown_more ss l w names x more known new gs hs n u us is put drafts noted = reco
       found q new ∙ noted q
       ∙ ap (λ (ns : List Named). register_in q (known.entries ++ ns)) (ap (λ (s : Statement). gives u.number (defined_by s)) n.here.line.statement ∙ sym put.given)
       ∙ before_more q known.entries (registers_behind n.before) (named_by n.line.seen (defined_by n.line.statement)) (sym (found q known) ∙ n.here.registers q);
+  none = n.none ∙ ap (λ o. or_else (told_at n.line.statement o) (first_valued (laid ss) ss (n.line ∷ n.before) n.rest)) put.faultless;
   drafts = drafts_there ss names n.before n.rest n.line x.area (pieces_put x.offset us u.literal) hs n.here.line.area
       (put_there ss l w names x more known gs n u us is put) drafts;
 }

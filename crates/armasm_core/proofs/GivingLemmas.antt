@@ -25,7 +25,8 @@ use Rattle.asm_model.specs.LayoutKinds.{fault_kinds}
 use Rattle.said_model.specs.Said.{WhatSaid, GivenSaid, AllSaid}
 use Rattle.source_model.specs.Contexts.{Context, value_of, number_in}
 use Rattle.source_model.specs.Registers.{Named, register_in, as_register, given, with_register, named_by, registers_behind, given_kinds, names_kinds, operand_kinds, registers_of, register_kinds}
-use Rattle.armasm_core.specs.Giving.{IsNumber, gives}
+use Rattle.asm_units.specs.Passing.{IsNumber}
+use Rattle.armasm_core.specs.Giving.{gives}
 
 -- ---- what RN gives
 

@@ -17,7 +17,6 @@ pub mod DraftLemmas
 pub mod RelocLemmas
 mod WriteLemmas
 pub mod GivingLemmas
-pub mod JudgeLemmas
 pub mod LiteralLemmas
 pub mod LoopLemmas
 pub mod PutLemmas

@@ -7,7 +7,7 @@ use Rattle.aof_object.specs.declared.records.Area.{Area}
 use Rattle.aof_object.specs.declared.records.Reloc.{Reloc}
 use Rattle.aof_object.specs.declared.records.Symbol.{Symbol}
 use Rattle.armasm_core.specs.Drafts.{AreRelocs, HoldsPieces, IsDraft}
-use Rattle.armasm_core.specs.Relocations.{relocs_in, RelocsAreOfSources}
+use Rattle.armasm_core.specs.Relocations.{relocs_in}
 use Rattle.asm_layout.specs.Layout.{AreAreas}
 use Rattle.asm_model.specs.declared.statements.Statement.{Statement}
 use Rattle.asm_pool.specs.declared.layout.LaidArea.{LaidArea}
@@ -24,6 +24,7 @@ use Rattle.source_model.specs.SourceFaults.{layout_faults}
 use Rattle.armasm_core.specs.declared.drafting.Growing.{Growing}
 use Rattle.armasm_core.specs.Drafting.{AreDrafts, Frame, IsFinished, frame, frame_of, frames, kept_size, marks_zeroes}
 use Rattle.armasm_core.proofs.AreaLemmas.{zeroes_there}
+use Rattle.armasm_core.proofs.RelocLemmas.{of_source}
 
 -- ---- an area by its number
 
@@ -85,23 +86,23 @@ keeps_there ss area attributes size bytes false zeroes kept same count h =
 
 -- ---- its relocations
 
-relocs_there : RelocsAreOfSources → (ss : List Statement) (names : List (List ℕ)) (area : ℕ) (relocs : List Reloc)
+relocs_there : (ss : List Statement) (names : List (List ℕ)) (area : ℕ) (relocs : List Reloc)
     → names ≡ symbols_of (source_of ss).names (laid ss) → AreRelocs names (things_in (source_of ss) area) relocs → HasRelocs (source_of ss) area relocs
-relocs_there same ss names area relocs e h = record {
+relocs_there ss names area relocs e h = record {
   order = h.order;
   all = λ p r s k. h.all p r s (subst (λ (qs : List Reloc). IsRelocOf qs r) (sym (relocs_are p)) k);
   no_others = λ r k. let o = h.no_others r k in (o.0, o.1, subst (λ (qs : List Reloc). IsRelocOf qs r) (relocs_are o.0) o.2);
 }
   where
     relocs_are : (p : Piece) → relocs_in names p ≡ relocs_of (source_of ss) p
-    relocs_are p = ap (λ (ns : List (List ℕ)). relocs_in ns p) e ∙ same (source_of ss) p
+    relocs_are p = ap (λ (ns : List (List ℕ)). relocs_in ns p) e ∙ of_source (source_of ss) p
 
 -- ---- all areas
 
-area_there : RelocsAreOfSources → (ss : List Statement) (names : List (List ℕ)) (xs : List LaidArea) (area : ℕ) (a : Area) (g : Growing) (x : LaidArea)
+area_there : (ss : List Statement) (names : List (List ℕ)) (xs : List LaidArea) (area : ℕ) (a : Area) (g : Growing) (x : LaidArea)
     → layout_faults ss ≡ None → AreAreas (laid ss) xs → names ≡ symbols_of (source_of ss).names (laid ss)
     → slice_get xs area ≡ Some x → frame g ≡ frame_of x → IsDraft names (things_in (source_of ss) area) g.draft → IsFinished g a → IsArea (source_of ss) area a
-area_there relocs ss names xs area a g x sound laid_areas listed at same draft done =
+area_there ss names xs area a g x sound laid_areas listed at same draft done =
     let i = laid_areas.each area x at in
     let name : a.name ≡ x.name = done.name ∙ ap (λ (f : Frame). f.name) same in
     let attributes : a.attributes ≡ x.attributes = done.attributes ∙ ap (λ (f : Frame). f.attributes) same in
@@ -113,17 +114,17 @@ area_there relocs ss names xs area a g x sound laid_areas listed at same draft d
       size = size ∙ i.size;
       bytes = keeps_there ss area x.attributes x.size a.bytes (marks_zeroes x.attributes) refl (zeroes_there ss sound area x.attributes i.attributes) i.size kept
           (done.held names (things_in (source_of ss) area) draft);
-      relocs = relocs_there relocs ss names area a.relocs listed (done.relocs names (things_in (source_of ss) area) draft);
+      relocs = relocs_there ss names area a.relocs listed (done.relocs names (things_in (source_of ss) area) draft);
     }
 
-pub areas_there : RelocsAreOfSources → (ss : List Statement) (names : List (List ℕ)) (xs : List LaidArea) (gs : List Growing) (areas : List Area)
+pub areas_there : (ss : List Statement) (names : List (List ℕ)) (xs : List LaidArea) (gs : List Growing) (areas : List Area)
     → layout_faults ss ≡ None → AreAreas (laid ss) xs → names ≡ symbols_of (source_of ss).names (laid ss)
     → frames gs ≡ map frame_of xs → AreDrafts names (things_in (source_of ss)) gs → AllZip IsFinished gs areas
     → (area : ℕ) (a : Area) → slice_get areas area ≡ Some a → IsArea (source_of ss) area a
-areas_there relocs ss names xs gs areas sound laid_areas listed same drafts done = λ area a is.
+areas_there ss names xs gs areas sound laid_areas listed same drafts done = λ area a is.
     let p = pair_there gs areas done area a is in
     let f = frame_there gs xs same area p.draft p.there in
-    area_there relocs ss names xs area a p.draft f.laid_area sound laid_areas listed f.there f.same (drafts area p.draft p.there) p.finished
+    area_there ss names xs area a p.draft f.laid_area sound laid_areas listed f.there f.same (drafts area p.draft p.there) p.finished
 
 pub count_there : (ss : List Statement) (xs : List LaidArea) (gs : List Growing) (areas : List Area) → AreAreas (laid ss) xs → frames gs ≡ map frame_of xs
     → AllZip IsFinished gs areas → length areas ≡ length (areas_behind ss)

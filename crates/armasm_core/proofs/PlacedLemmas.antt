@@ -1,5 +1,11 @@
 -- The object of statements stands wherever it is placed.
 use Rattle.std.proofs.Common.{◌≡◌, ◌^◌, ◌<◌, ◌≤◌, List, length, None, arith}
+use Rattle.std.specs.Prelude.{Result, Ok, Err, IfOk}
+use Rattle.sdt_fault.specs.declared.answer.Fault.{Fault}
+use Rattle.asm_layout.specs.Layout.{IsLayout}
+use Rattle.asm_pool.specs.declared.layout.Layout.{Layout}
+use Rattle.armasm_core.specs.Emission.{HasSource}
+use Rattle.armasm_core.specs.Emitted.{IsEmitted}
 use Rattle.aof_object.specs.declared.records.Object.{Object}
 use Rattle.asm_model.specs.declared.statements.Statement.{Statement}
 use Rattle.asm_model.specs.Before.{areas_behind}
@@ -8,7 +14,7 @@ use Rattle.said_model.specs.Named.{AllLoadsNamed}
 use Rattle.said_model.specs.Said.{AllSaid}
 use Rattle.source_laws.specs.Laws.{InArmState}
 use Rattle.source_model.specs.Objects.{IsObject}
-use Rattle.source_model.specs.SourceFaults.{layout_faults, value_faults}
+use Rattle.source_model.specs.SourceFaults.{layout_faults}
 use Rattle.stand_laws.specs.Laws.{ObjectsStand}
 use Rattle.armasm_core.specs.Wherever.{StandsWherever}
 use Rattle.asm_laying.proofs.EnterLemmas.{areas_few}
@@ -20,9 +26,12 @@ few_areas ss o few h =
     let areas : length (areas_behind ss) ≤ length ss = areas_few ss in
     omega arith
 
-pub object_stands : ObjectsStand → (ss : List Statement) (o : Object) → AllSaid ss → AllNamed ss → AllLoadsNamed ss → layout_faults ss ≡ None → value_faults ss ≡ None
-    → InArmState ss → IsObject ss o → length o.areas < 2 ^ 24 → length o.symbols < 2 ^ 24 → StandsWherever ss o
-object_stands stand ss o said named loads sound valued arm object areas symbols =
-    stand ss o
-    (record { said = said; named = named; loads_named = loads; laid_out = sound; valued = valued; arm_state = arm })
-    object areas symbols
+pub object_stands : ObjectsStand → (l : Layout) → HasSource l → (r : Result Object Fault) → IfOk r (λ o. length o.symbols < 2 ^ 24)
+    → ((ss : List Statement) → IsLayout ss l → AllSaid ss → layout_faults ss ≡ None → InArmState ss → IsEmitted ss r)
+    → IfOk r
+    (λ o. (ss : List Statement) → IsLayout ss l → AllSaid ss → AllNamed ss → AllLoadsNamed ss → layout_faults ss ≡ None → InArmState ss → StandsWherever ss o)
+object_stands stand l s (Ok o) few emitted = λ ss layout said named loads sound arm.
+    let made = emitted ss layout said sound arm in
+    stand ss o (record { said = said; named = named; loads_named = loads; laid_out = sound; valued = made.0; arm_state = arm }) made.1
+    (few_areas s.statements o s.few (emitted s.statements s.layout s.said s.sound s.arm).1) few
+object_stands stand l s (Err f) few emitted = tt

@@ -12,46 +12,32 @@ use Rattle.asm_model.specs.declared.statements.PseudoLine.{PseudoLine}
 use Rattle.asm_model.specs.declared.statements.Statement.{Statement}
 use Rattle.asm_model.specs.declared.statements.What.{What}
 use Rattle.asm_model.specs.declared.statements.What.TheVariants as what
-use Rattle.asm_model.specs.declared.values.Value.{Value}
 use Rattle.asm_model.specs.AtLine.{Sight}
+use Rattle.asm_model.specs.Kinds.{told_kind}
+use Rattle.asm_model.specs.LayoutKinds.{told_at}
+use Rattle.asm_layout.specs.Layout.{IsTold}
+use Rattle.sdt_fault.specs.declared.answer.Fault.{Fault}
 use Rattle.asm_model.specs.Says.{on_both, mapped}
 use Rattle.asm_pool.specs.declared.layout.LaidArea.{LaidArea}
 use Rattle.asm_pool.specs.declared.layout.LaidStatement.{LaidStatement}
 use Rattle.asm_units.specs.declared.beside.Beside.{Beside}
+use Rattle.asm_units.specs.declared.emitted.LineUnits.{LineUnits}
 use Rattle.asm_units.specs.Emitting.{emitted_of}
-use Rattle.asm_units.specs.Literals.{literal_in}
-use Rattle.asm_model.specs.Extents.{Extent, Block, Padding, Loading, Pool, value_there}
-use Rattle.asm_model.specs.Laid.{LaidLine, taken}
+use Rattle.asm_units.specs.Passing.{IsPassTwo}
+use Rattle.asm_model.specs.Extents.{value_there}
+use Rattle.asm_model.specs.Laid.{LaidLine, laid, pieces_of, taken}
 use Rattle.asm_model.specs.Marks.{datum_names}
-use Rattle.asm_model.specs.Symbols.{literal_value}
+use Rattle.asm_model.specs.Offsets.{area_size}
 use Rattle.said_model.specs.Said.{IsSaid, ArmSaid, PseudoSaid, WhatSaid}
 use Rattle.source_model.specs.ArmForms.{arm_instruction}
-use Rattle.source_model.specs.Contexts.{Context, sees, value_of, number_in, and_then}
-use Rattle.source_model.specs.Objects.{Piece, or_none, literal_unit, literal_piece, units_from}
+use Rattle.source_model.specs.Contexts.{Context, value_of, number_in, and_then}
+use Rattle.source_model.specs.Objects.{or_none, literal_piece, units_from}
 use Rattle.source_model.specs.PseudoForms.{pseudo_instructions}
 use Rattle.source_model.specs.Units.{Emitted, Bytes, Word, Instruction, Stored, stored, units, directive_units, word_units, half_units, byte_units, byte_operand, narrow, instruction_units, branch_symbol}
-use Rattle.armasm_core.specs.declared.putting.LineUnits.{LineUnits}
 use Rattle.armasm_core.specs.declared.whole.Whole.{Whole}
-use Rattle.armasm_core.specs.Giving.{IsNumber}
-use Rattle.armasm_core.specs.Putting.{UnitFits, AllUnitsFit, IsPut, word_piece}
-use Rattle.armasm_core.specs.Whole.{IsHere, ShowsLine, context_there, word_there}
+use Rattle.armasm_core.specs.Putting.{UnitFits, AllUnitsFit, IsPut}
+use Rattle.armasm_core.specs.Whole.{IsHere, ShowsLine, context_there, kinds_at, word_there}
 use Rattle.armasm_core.proofs.ShowLemmas.{given_there}
-
--- ---- the word of a literal
-
-pub one_piece : (c : Context) (names : List (List ℕ)) (e : Extent) (word : Option ℕ) (v : Value) → literal_in e ≡ Some v
-    → literal_piece c names e word ≡ literal_unit word (stored c names (literal_value (sees c) v))
-one_piece c names (Loading n u) word v h =
-    let same : u ≡ v = cc in
-    ap (λ (k : Value). literal_unit word (stored c names (literal_value (sees c) k))) same
-one_piece c names (Block a n) word v h = absurd (cc)
-one_piece c names (Padding m n) word v h = absurd (cc)
-one_piece c names Pool word v h = absurd (cc)
-
-pub literal_put : (c : Context) (names : List (List ℕ)) (e : Extent) (word at : Option ℕ) (v : Value) (ps : List Piece) (w : Result Stored LineKind) → literal_in e ≡ Some v → at ≡ word
-    → ps ≡ literal_unit at w → w ≡ stored c names (literal_value (sees c) v) → ps ≡ literal_piece c names e word
-literal_put c names e word at v ps w h a p r =
-    p ∙ ap (λ (o : Option ℕ). literal_unit o w) a ∙ ap (literal_unit word) r ∙ sym (one_piece c names e word v h)
 
 -- ---- each instruction has a word
 
@@ -125,25 +111,32 @@ units_fit arms pseudos c names s word (what.Thumb l) small said = tt
 units_fit arms pseudos c names s word (what.Pseudo l) small said = pseudo_fits pseudos c word l (pseudo_instructions c word l) small said refl
 units_fit arms pseudos c names s word (what.Directive d) small said = directive_fits c names s d
 
--- ---- all that a line puts
+-- ---- pass 2 of a line
 
-joined : (at : ℕ) (us vs : List Emitted) (ps qs : List Piece) → us ≡ vs → ps ≡ qs → units_from at us ++ ps ≡ units_from at vs ++ qs
-joined at us vs ps qs e h = ap (λ (xs : List Emitted). units_from at xs ++ ps) e ∙ ap (λ (xs : List Piece). units_from at vs ++ xs) h
+abbrev pub PassesAt : List Statement → List LaidLine → List LaidLine → LaidLine → What → Result LineUnits LineKind → Type 0
+PassesAt statements before rest l =
+    IsPassTwo (context_there statements before l) (datum_names statements) (λ area. area_size area (pieces_of (laid statements))) l.seen (taken l.extent)
+    (word_there before rest l)
 
-pub put_there : InstructionsFit → PseudoInstructionsFit → (statements : List Statement) (areas : List LaidArea) (w : Whole) (known : BTreeMap (List ℕ) ℕ)
-    (before rest : List LaidLine) (l : LaidLine) (x : LaidStatement) (y : Beside) (u : LineUnits) → IsHere statements areas w known before rest l x → IsSaid x.statement
-    → ShowsLine statements before rest l y x.statement.what
-    → map emitted_of u.units.items ≡ or_none (units (context_there statements before l) (datum_names statements) l.seen (word_there before rest l) x.statement.what)
-    → word_piece u.literal ≡ literal_piece (context_there statements before l) (datum_names statements) (taken l.extent) (word_there before rest l)
-    → IsNumber (context_there statements before l) x.statement.what u.number → IsPut statements before rest l u
-put_there arms pseudos statements areas w known before rest l x y u h said shows is literal number =
-    let c = context_there statements before l in
-    let names = datum_names statements in
-    let word = word_there before rest l in
-    let all = map emitted_of u.units.items in
-    let same : all ≡ or_none (units c names l.seen word l.statement.what) = is ∙ ap (λ (s : Statement). or_none (units c names l.seen word s.what)) h.line.statement in
-    record {
-      pieces = sym (joined l.offset all (or_none (units c names l.seen word l.statement.what)) (word_piece u.literal) (literal_piece c names (taken l.extent) word) same literal);
-      given = given_there statements areas w known before rest l x y u.number h shows number;
-      fits = subst AllUnitsFit (sym is) (units_fit arms pseudos c names l.seen word x.statement.what shows.scene.small said.read);
-    }
+module _ (statements : List Statement) (areas : List LaidArea) (w : Whole) (known : BTreeMap (List ℕ) ℕ) (before rest : List LaidLine) (l : LaidLine) (x : LaidStatement)
+    (h : IsHere statements areas w known before rest l x) where
+  pub put_there : InstructionsFit → PseudoInstructionsFit → (y : Beside) (r : Result LineUnits LineKind) (u : LineUnits) → IsSaid x.statement
+      → ShowsLine statements before rest l y x.statement.what → r ≡ Ok u → PassesAt statements before rest l x.statement.what r → IsPut statements before rest l u
+  put_there arms pseudos y r u said shows is passed =
+      let c = context_there statements before l in
+      let put = subst (PassesAt statements before rest l x.statement.what) is passed in
+      let here = subst (λ (s : Statement). PassesAt statements before rest l s.what (Ok u)) h.line.statement put in
+      record {
+        faultless = here.faultless;
+        pieces = ap (λ r. units_from l.offset (or_none r) ++ literal_piece c (datum_names statements) (taken l.extent) (word_there before rest l)) here.all
+            ∙ ap (λ ps. units_from l.offset (map emitted_of u.units.items) ++ ps) here.literal;
+        given = given_there statements areas w known before rest l x y u.number h shows put.number;
+        fits = subst (λ r. AllUnitsFit (or_none r)) put.all
+            (units_fit arms pseudos c (datum_names statements) l.seen (word_there before rest l) x.statement.what shows.scene.small said.read);
+      }
+
+  pub told_there : (r : Result LineUnits LineKind) (k : LineKind) (f : Fault) → r ≡ Err k → PassesAt statements before rest l x.statement.what r
+      → IsTold (Some (x.statement, k)) f → IsTold (told_at l.statement (told_kind (kinds_at statements before l rest))) f
+  told_there r k f is passed told =
+      let here = subst (λ (s : Statement). PassesAt statements before rest l s.what (Err k)) h.line.statement (subst (PassesAt statements before rest l x.statement.what) is passed) in
+      subst (λ o. IsTold o f) (ap (λ (s : Statement). Some (s, k)) h.line.statement ∙ sym (ap (told_at l.statement) here)) told

@@ -4,8 +4,6 @@ use Rattle.std.specs.Prelude.{Result, Ok}
 use Rattle.std.specs.BTreeMap.{BTreeMap}
 use Rattle.std.specs.BTreeSet.{BTreeSet}
 use Rattle.sdt_fault.specs.declared.kinds.LineKind.{LineKind}
-use Rattle.asm_model.specs.Kinds.{told_kind}
-use Rattle.source_model.specs.ValueKinds.{value_kinds}
 use Rattle.asm_pool.specs.Pooled.{flushed}
 use Rattle.std.specs.List.{slice_get}
 use Rattle.asm_instructions.specs.Scenes.{Shows, has_symbol, register_at}
@@ -27,15 +25,15 @@ use Rattle.layout_laws.specs.Final.{KnownValuesAreFinal}
 use Rattle.asm_model.specs.Extents.{Pool, value_there}
 use Rattle.asm_model.specs.Labels.{defined_by, declared_names}
 use Rattle.asm_model.specs.Laid.{LaidLine, laid, taken, pieces_of, reversed, final_names}
-use Rattle.asm_model.specs.Marks.{datum_names}
 use Rattle.asm_model.specs.OffsetLaws.{joined}
-use Rattle.asm_model.specs.Offsets.{Piece, area_size, start_in}
+use Rattle.asm_model.specs.Offsets.{Piece, start_in}
 use Rattle.source_model.specs.Contexts.{sees, value_of}
 use Rattle.source_model.specs.Registers.{register_in, registers_behind, register_names, named_by}
 use Rattle.source_model.specs.SourceFaults.{word_of}
+use Rattle.asm_units.specs.Passing.{IsNumber}
 use Rattle.armasm_core.specs.Loaded as own
-use Rattle.armasm_core.specs.Giving.{IsNumber, gives}
-use Rattle.armasm_core.specs.Whole.{IsHere, ShowsLine, context_there, word_there, kinds_at}
+use Rattle.armasm_core.specs.Giving.{gives}
+use Rattle.armasm_core.specs.Whole.{IsHere, ShowsLine, context_there}
 use Rattle.armasm_core.specs.declared.whole.Whole.{Whole}
 use Rattle.armasm_core.proofs.GivingLemmas.{small_there, gives_there}
 use Rattle.armasm_core.proofs.LiteralLemmas.{IsPlaced}
@@ -185,20 +183,7 @@ shows_beside law statements areas w known before rest l x y p o b =
       known = known_there law statements areas w known before rest l x p;
     }
 
--- ---- what is told, and what RN gives
-
-pub told_there : (statements : List Statement) (areas : List LaidArea) (w : Whole) (known : BTreeMap (List ℕ) ℕ) (before rest : List LaidLine) (l : LaidLine) (x : LaidStatement) (k : Option LineKind)
-    → IsHere statements areas w known before rest l x
-    → k ≡ told_kind (value_kinds (context_there statements before l) (datum_names statements) (λ area. area_size area (pieces_of (laid statements))) l.seen
-    (taken l.extent) (word_there before rest l) x.statement.what)
-    → k ≡ told_kind (kinds_at statements before l rest)
-told_there statements areas w known before rest l x k h e =
-    e
-    ∙ ap
-    (λ (s : Statement). told_kind
-    (value_kinds (context_there statements before l) (datum_names statements) (λ area. area_size area (pieces_of (laid statements))) l.seen (taken l.extent)
-    (word_there before rest l) s.what))
-    h.line.statement
+-- ---- what RN gives
 
 pub given_there : (statements : List Statement) (areas : List LaidArea) (w : Whole) (known : BTreeMap (List ℕ) ℕ) (before rest : List LaidLine) (l : LaidLine) (x : LaidStatement) (y : Beside)
     (n : Result ℕ LineKind) → IsHere statements areas w known before rest l x → ShowsLine statements before rest l y x.statement.what

@@ -4,10 +4,11 @@ use Rattle.std.specs.Prelude.{not}
 use Rattle.std.specs.BTreeMap.{BTreeMap}
 use Rattle.std.specs.List.{slice_get}
 use Rattle.armasm_core.specs.Writing.{AllCanStand, CanStand, HasNumber, HasWord, SymbolHasNumber, TargetHasNumber}
-use Rattle.armasm_core.specs.declared.putting.LineUnits.{LineUnits}
-use Rattle.armasm_core.specs.declared.putting.LiteralWord.{LiteralWord}
+use Rattle.asm_units.specs.declared.emitted.LineUnits.{LineUnits}
+use Rattle.asm_units.specs.declared.emitted.LiteralWord.{LiteralWord}
+use Rattle.asm_units.specs.Passing.{word_piece}
 use Rattle.armasm_core.specs.declared.whole.Whole.{Whole}
-use Rattle.armasm_core.specs.Putting.{AllUnitsFit, IsPut, UnitFits, word_piece}
+use Rattle.armasm_core.specs.Putting.{AllUnitsFit, IsPut, UnitFits}
 use Rattle.armasm_core.specs.Whole.{IsHere}
 use Rattle.source_laws.proofs.WithinLemmas.{IsWithin}
 use Rattle.asm_layout.specs.Layout.{IsArea}
@@ -23,7 +24,7 @@ use Rattle.asm_model.specs.Before.{areas_behind}
 use Rattle.asm_model.specs.Laid.{LaidLine, laid}
 use Rattle.asm_model.specs.Symbols.{symbols_of}
 use Rattle.asm_model.specs.Forms.{same}
-use Rattle.object_laws.specs.Laws.{AreFaultless, OptionListed, TargetListed, UnitListed}
+use Rattle.object_laws.specs.Laws.{OptionListed, TargetListed, UnitListed}
 use Rattle.object_laws.proofs.RelocLemmas.{TargetBelow, UnitBelow, things_below}
 use Rattle.object_laws.proofs.SizeLemmas.{area_small}
 use Rattle.object_laws.proofs.TargetLemmas.{symbols_are_listed}
@@ -31,10 +32,12 @@ use Rattle.source_laws.proofs.FaultlessLemmas.{sources_lie_in_areas}
 use Rattle.source_laws.proofs.ListedLemmas.{among_either, among_last as among_behind, own_things}
 use Rattle.source_laws.proofs.ZeroLemmas.{zero_areas_hold_nothing}
 use Rattle.source_model.specs.Objects.{Piece, IsAmong, StandsIn, contents_of, is_kept, source_of, things_behind, unit_bytes, units_from}
+use Rattle.source_laws.specs.Laws.{InArmState}
+use Rattle.source_model.specs.SourceFaults.{layout_faults}
 use Rattle.source_model.specs.Units.{Emitted, Bytes, Word, Instruction, Target, Nothing, ByArea, BySymbol}
 use Rattle.armasm_core.specs.declared.drafting.Growing.{Growing}
 use Rattle.armasm_core.specs.Drafting.{Frame, LineCanStand, frame_of, frames, kept_size, marks_zeroes, pieces_put}
-use Rattle.armasm_core.specs.Emission.{GrowsOn, HasSymbols, IsEmittable}
+use Rattle.armasm_core.specs.Emission.{GrowsOn, HasSource, HasSymbols, IsEmittable}
 use Rattle.armasm_core.specs.Listing.{StandsThere}
 use Rattle.armasm_core.proofs.AreaLemmas.{zeroes_there}
 use Rattle.armasm_core.proofs.EmitLemmas.{next_there, put_there, stands_there, things_here}
@@ -81,11 +84,12 @@ unit_number names n (Instruction i symbol) few h k = symbol_number names symbol 
 below : (m n : ℕ) → m ≤ n → n < 2 ^ 24 → m < 2 ^ 24
 below m n h k = omega arith
 
-thing_number : (ss : List Statement) → AreFaultless ss → length ss < 2 ^ 24 → (names : List (List ℕ)) → names ≡ symbols_of (source_of ss).names (laid ss)
-    → (area : ℕ) (p : Piece) → StandsIn (source_of ss) area p → HasNumber names p.1
-thing_number ss h few names listed area p x =
-    unit_number names (length (areas_behind ss)) p.1 (below (length (areas_behind ss)) (length ss) (areas_few ss) few)
-    (subst (λ (ns : List (List ℕ)). UnitListed ns p.1) (sym listed) (symbols_are_listed ss h.layout area p x)) (things_below ss h area p x)
+thing_number : (l : Layout) (h : HasSource l) (names : List (List ℕ)) → names ≡ symbols_of (source_of h.statements).names (laid h.statements)
+    → (area : ℕ) (p : Piece) → StandsIn (source_of h.statements) area p → HasNumber names p.1
+thing_number l h names listed area p x =
+    let ss = h.statements in
+    unit_number names (length (areas_behind ss)) p.1 (below (length (areas_behind ss)) (length ss) (areas_few ss) h.few)
+    (subst (λ (ns : List (List ℕ)). UnitListed ns p.1) (sym listed) (symbols_are_listed ss h.sound area p x)) (things_below ss h.said h.texts h.fit h.sound area p x)
 
 -- ---- room
 
@@ -95,15 +99,15 @@ not_kept (Some contents.Code) e = absurd (cc)
 not_kept (Some contents.Data) e = absurd (cc)
 not_kept (Some contents.Zeroes) e = refl
 
-thing_inside : (ss : List Statement) → AreFaultless ss → (area : ℕ) (a : LaidArea) → IsArea (laid ss) area a → (p : Piece) → StandsIn (source_of ss) area p
+thing_inside : (ss : List Statement) → layout_faults ss ≡ None → InArmState ss → (area : ℕ) (a : LaidArea) → IsArea (laid ss) area a → (p : Piece) → StandsIn (source_of ss) area p
     → p.0 + length (unit_bytes p.1) ≤ kept_size a.attributes a.size
-thing_inside ss h area a is p x = by_zeroes (marks_zeroes a.attributes) refl
+thing_inside ss sound arm area a is p x = by_zeroes (marks_zeroes a.attributes) refl
   where
     by_zeroes : (b : Bool) → marks_zeroes a.attributes ≡ b → p.0 + length (unit_bytes p.1) ≤ cond b 0 a.size
     by_zeroes true e =
-        absurd (zero_areas_hold_nothing ss h.layout area p
-        (not_kept (contents_of area (laid ss)) (zeroes_there ss h.layout area a.attributes is.attributes ∙ ap not e)) x)
-    by_zeroes false e = subst (λ (n : ℕ). p.0 + length (unit_bytes p.1) ≤ n) (sym is.size) (sources_lie_in_areas ss h.layout h.arm area p x)
+        absurd (zero_areas_hold_nothing ss sound area p
+        (not_kept (contents_of area (laid ss)) (zeroes_there ss sound area a.attributes is.attributes ∙ ap not e)) x)
+    by_zeroes false e = subst (λ (n : ℕ). p.0 + length (unit_bytes p.1) ≤ n) (sym is.size) (sources_lie_in_areas ss sound arm area p x)
 
 kept_small : (b : Bool) (n : ℕ) → n ≤ 2 ^ 24 → cond b 0 n < 2 ^ 32
 kept_small true n h = omega arith
@@ -120,16 +124,19 @@ frame_got [] i a e = absurd (cc)
 frame_got (x ∷ xs) zero a e = let is : x ≡ a = cc in ap (λ (y : LaidArea). Some (frame_of y)) is
 frame_got (x ∷ xs) (suc i) a e = frame_got xs i a e
 
-line_stands : (ss : List Statement) → AreFaultless ss → length ss < 2 ^ 24 → (names : List (List ℕ)) → names ≡ symbols_of (source_of ss).names (laid ss)
-    → (areas : List LaidArea) (w : Whole) (before rest : List LaidLine) (l : LaidLine) (x : LaidStatement) → StandsThere ss areas w before rest l x
-    → (gs : List Growing) → frames gs ≡ map frame_of areas → (us : List Code) (o : Option LiteralWord) → own_things ss l before rest ≡ pieces_put x.offset us o
-    → AllUnitsFit (map emitted_of us) → LineCanStand names (frames gs) x.area (pieces_put x.offset us o)
-line_stands ss h few names listed areas w before rest l x there gs same us o puts fits = by_area x.area refl
+line_stands : (o : Layout) (h : HasSource o) (names : List (List ℕ)) → names ≡ symbols_of (source_of h.statements).names (laid h.statements)
+    → (areas : List LaidArea) (w : Whole) (before rest : List LaidLine) (l : LaidLine) (x : LaidStatement) → StandsThere h.statements areas w before rest l x
+    → (gs : List Growing) → frames gs ≡ map frame_of areas → (us : List Code) (word : Option LiteralWord) → own_things h.statements l before rest ≡ pieces_put x.offset us word
+    → AllUnitsFit (map emitted_of us) → LineCanStand names (frames gs) x.area (pieces_put x.offset us word)
+line_stands o h names listed areas w before rest l x there gs same us word puts fits = by_area x.area refl
   where
-    more : List Piece
-    more = pieces_put x.offset us o
+    ss : List Statement
+    ss = h.statements
 
-    by_area : (own : Option ℕ) → x.area ≡ own → LineCanStand names (frames gs) own (pieces_put x.offset us o)
+    more : List Piece
+    more = pieces_put x.offset us word
+
+    by_area : (own : Option ℕ) → x.area ≡ own → LineCanStand names (frames gs) own (pieces_put x.offset us word)
     by_area None e = tt
     by_area (Some area) e =
         let here : l.area ≡ Some area = sym there.line.area ∙ e in
@@ -142,30 +149,30 @@ line_stands ss h few names listed areas w before rest l x there gs same us o put
         record {
           own = frame_of a.0;
           there = ap (λ (fs : List Frame). slice_get fs area) same ∙ frame_got areas area a.0 a.1;
-          small = kept_small (marks_zeroes a.0.attributes) a.0.size (subst (λ (n : ℕ). n ≤ 2 ^ 24) (sym is.size) (area_small ss h.layout area));
+          small = kept_small (marks_zeroes a.0.attributes) a.0.size (subst (λ (n : ℕ). n ≤ 2 ^ 24) (sym is.size) (area_small ss h.sound area));
           stand = all_stand names (kept_size a.0.attributes a.0.size) more (λ p k. record {
-            inside = thing_inside ss h area a.0 is p (stands p k);
-            word = put_word x.offset us o p fits k;
-            number = thing_number ss h few names listed area p (stands p k);
+            inside = thing_inside ss h.sound h.arm area a.0 is p (stands p k);
+            word = put_word x.offset us word p fits k;
+            number = thing_number o h names listed area p (stands p k);
           });
         }
 
-pub emittable : (l : Layout) (w : Whole) (names : List (List ℕ)) (h : HasSymbols l w names) → IsEmittable h.statements l w
+pub emittable : (l : Layout) (w : Whole) (names : List (List ℕ)) (h : HasSymbols l w names) → IsEmittable h.source.statements l w
 emittable l w names h =
-    record { layout = h.layout; said = h.faultless.said; sound = h.faultless.layout; arm = h.faultless.arm; whole = h.whole }
+    let s = h.source in record { layout = s.layout; said = s.said; sound = s.sound; arm = s.arm; whole = h.whole }
 
 -- of the lines that are left the first can stand
 pub next_stands : (l : Layout) (w : Whole) (names : List (List ℕ)) (x : LaidStatement) (left : List LaidStatement) (known : BTreeMap (List ℕ) ℕ) (gs : List Growing)
     → 1 ≤ length left → x ≡ get_or left 0 x → (g : GrowsOn l w names left known gs) → frames gs ≡ map frame_of l.areas → (u : LineUnits) (us : List Code) → us ≡ u.units.items
-    → ((before rest : List LaidLine) (line : LaidLine) → IsHere g.source.statements l.areas w known before rest line x → IsPut g.source.statements before rest line u)
+    → ((before rest : List LaidLine) (line : LaidLine) → IsHere g.source.source.statements l.areas w known before rest line x → IsPut g.source.source.statements before rest line u)
     → LineCanStand names (frames gs) x.area (pieces_put x.offset us u.literal)
 next_stands l w names x left known gs some at g same u us is put =
-    let s = g.source in
-    let n = next_there s.statements l w names x left known gs some at (emittable l w names s) g.grown in
+    let s = g.source.source in
+    let n = next_there s.statements l w names x left known gs some at (emittable l w names g.source) g.grown in
     let h = n.here in
     let puts = put n.before n.rest n.line h in
     let there : StandsThere s.statements l.areas w n.before n.rest n.line x =
     record { said = h.said; sound = h.sound; laid_out = h.laid_out; whole = h.whole; parts = h.parts; line = h.line } in
-    line_stands s.statements s.faultless s.few names s.listed l.areas w n.before n.rest n.line x there gs same us u.literal
+    line_stands l s names g.source.listed l.areas w n.before n.rest n.line x there gs same us u.literal
     (put_there s.statements l w names x (take (length left - 1) (drop 1 left)) known gs n u us is puts)
     (subst (λ (vs : List Code). AllUnitsFit (map emitted_of vs)) (sym is) puts.fits)

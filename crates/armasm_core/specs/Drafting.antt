@@ -4,8 +4,8 @@ use Rattle.sdt_word.specs.Numbers.{bit}
 use Rattle.aof_object.specs.declared.records.Area.{Area}
 use Rattle.armasm_core.specs.Drafts.{AreRelocs, HoldsPieces, IsDraft, MeetNone}
 use Rattle.armasm_core.specs.Writing.{AllCanStand}
-use Rattle.armasm_core.specs.declared.putting.LiteralWord.{LiteralWord}
-use Rattle.armasm_core.specs.Putting.{word_piece}
+use Rattle.asm_units.specs.declared.emitted.LiteralWord.{LiteralWord}
+use Rattle.asm_units.specs.Passing.{word_piece}
 use Rattle.asm_pool.specs.declared.layout.LaidArea.{LaidArea}
 use Rattle.asm_units.specs.declared.emitted.Emitted.{Emitted as Code}
 use Rattle.asm_units.specs.Emitting.{emitted_of}

@@ -1,23 +1,24 @@
 -- What emission asks of a layout, the lines that are left to emit, and the areas so far. This project's.
-use Rattle.std.specs.Prelude.{◌≡◌, ℕ, ◌^◌, ◌<◌, List, length, None}
+use Rattle.std.specs.Prelude.{◌≡◌, ℕ, ◌^◌, ◌<◌, List, length, None, Result, Ok, Err}
+use Rattle.std.specs.Global.{Vec}
+use Rattle.sdt_fault.specs.declared.answer.Fault.{Fault}
 use Rattle.std.specs.BTreeMap.{BTreeMap}
 use Rattle.asm_instructions.specs.Scenes.{register_at}
 use Rattle.armasm_core.specs.declared.whole.Whole.{Whole}
 use Rattle.armasm_core.specs.Whole.{IsWhole}
 use Rattle.asm_layout.specs.Late.{AreOn}
-use Rattle.asm_layout.specs.Layout.{IsLayout}
+use Rattle.asm_layout.specs.Layout.{IsLayout, IsTold}
 use Rattle.asm_model.specs.declared.statements.Statement.{Statement}
 use Rattle.asm_pool.specs.declared.layout.LaidStatement.{LaidStatement}
 use Rattle.asm_pool.specs.declared.layout.Layout.{Layout}
 use Rattle.asm_model.specs.Laid.{LaidLine, laid, final_names, reversed}
 use Rattle.asm_model.specs.Symbols.{symbols_of}
-use Rattle.object_laws.specs.Laws.{AreFaultless}
 use Rattle.said_model.specs.Fit.{AllFit}
 use Rattle.said_model.specs.Said.{AllSaid, AllHaveTexts}
 use Rattle.source_laws.specs.Laws.{InArmState}
-use Rattle.source_model.specs.Objects.{source_of, things_behind}
+use Rattle.source_model.specs.Objects.{source_of, things_behind, things_in}
 use Rattle.source_model.specs.Registers.{register_in, registers_behind}
-use Rattle.source_model.specs.SourceFaults.{layout_faults}
+use Rattle.source_model.specs.SourceFaults.{first_valued, layout_faults, value_faults}
 use Rattle.armasm_core.specs.declared.drafting.Growing.{Growing}
 use Rattle.armasm_core.specs.Drafting.{AreDrafts}
 
@@ -32,21 +33,11 @@ pub record HasSource (l : Layout) : Type 0 where
   pub arm : InArmState statements
   pub few : length statements < 2 ^ 24
 
--- and none of their values has a fault
-pub record HasFaultlessSource (l : Layout) : Type 0 where
-  pub statements : List Statement
-  pub layout : IsLayout statements l
-  pub faultless : AreFaultless statements
-  pub few : length statements < 2 ^ 24
-
 -- and these are what its lines share and its symbols
 pub record HasSymbols (l : Layout) (w : Whole) (symbols : List (List ℕ)) : Type 0 where
-  pub statements : List Statement
-  pub layout : IsLayout statements l
-  pub faultless : AreFaultless statements
-  pub few : length statements < 2 ^ 24
-  pub whole : IsWhole statements l.areas w
-  pub listed : symbols ≡ symbols_of (final_names (laid statements)) (laid statements)
+  pub source : HasSource l
+  pub whole : IsWhole source.statements l.areas w
+  pub listed : symbols ≡ symbols_of (final_names (laid source.statements)) (laid source.statements)
 
 -- the layout of statements without faults of their own, and what its lines share
 pub record IsEmittable (statements : List Statement) (l : Layout) (w : Whole) : Type 0 where
@@ -56,16 +47,22 @@ pub record IsEmittable (statements : List Statement) (l : Layout) (w : Whole) : 
   pub arm : InArmState statements
   pub whole : IsWhole statements l.areas w
 
--- of a source's lines these are left, and in the areas stands what those before put there
+-- of a source's lines these are left, none before has a fault of values, and in the areas stands what those before put there
 pub record IsGrown (statements : List Statement) (symbols : List (List ℕ)) (left : List LaidStatement) (known : BTreeMap (List ℕ) ℕ) (gs : List Growing) : Type 0 where
   pub before : List LaidLine
   pub rest : List LaidLine
   pub parts : laid statements ≡ reversed rest before
   pub lines : AreOn before rest left
   pub registers : (q : List ℕ) → register_at known q ≡ register_in q (registers_behind before)
+  pub none : value_faults statements ≡ first_valued (laid statements) statements before rest
   pub drafts : AreDrafts symbols (λ area. things_behind (source_of statements) area before rest) gs
 
 -- of the lines of the layout's source these are left
 pub record GrowsOn (l : Layout) (w : Whole) (symbols : List (List ℕ)) (left : List LaidStatement) (known : BTreeMap (List ℕ) ℕ) (gs : List Growing) : Type 0 where
   pub source : HasSymbols l w symbols
-  pub grown : IsGrown source.statements symbols left known gs
+  pub grown : IsGrown source.source.statements symbols left known gs
+
+-- in the areas stands what all lines put there; or the refusal of the first line whose values have a fault, or want of memory
+abbrev pub AreGrown : List Statement → List (List ℕ) → Result (Vec Growing) Fault → Type 0
+AreGrown statements symbols (Ok gs) = (value_faults statements ≡ None) × AreDrafts symbols (things_in (source_of statements)) gs.items
+AreGrown statements symbols (Err f) = IsTold (value_faults statements) f

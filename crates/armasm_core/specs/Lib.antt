@@ -14,8 +14,6 @@ pub mod Relocations
 pub mod Writing
 pub mod Gathered
 pub mod Giving
-pub mod Judging
-pub mod JudgingLaws
 pub mod Loaded
 pub mod Putting
 pub mod Whole

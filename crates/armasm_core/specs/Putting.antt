@@ -1,23 +1,22 @@
--- What a line puts into its area. This project's.
-use Rattle.std.specs.Prelude.{◌≡◌, List, [], ◌∷◌, ◌++◌, map, Option, Some, None}
+-- Pass 2 of a line of a layout. This project's.
+use Rattle.std.specs.Prelude.{◌≡◌, List, [], ◌∷◌, ◌++◌, map, None, Result, Ok, Err}
+use Rattle.sdt_fault.specs.declared.answer.Fault.{Fault}
 use Rattle.asm_instructions.specs.Fits.{Fits}
+use Rattle.asm_layout.specs.Layout.{IsTold}
 use Rattle.asm_model.specs.declared.statements.Statement.{Statement}
-use Rattle.asm_units.specs.Emitting.{emitted_of, stored_of}
+use Rattle.asm_units.specs.declared.emitted.LineUnits.{LineUnits}
+use Rattle.asm_units.specs.Emitting.{emitted_of}
+use Rattle.asm_units.specs.Passing.{word_piece}
+use Rattle.asm_model.specs.Kinds.{told_kind}
 use Rattle.asm_model.specs.Labels.{defined_by}
 use Rattle.asm_model.specs.Laid.{LaidLine}
+use Rattle.asm_model.specs.LayoutKinds.{told_at}
 use Rattle.asm_model.specs.Marks.{datum_names}
-use Rattle.source_model.specs.Objects.{Piece, pieces_in, units_from}
+use Rattle.source_model.specs.Objects.{pieces_in, units_from}
 use Rattle.source_model.specs.Registers.{named_by}
-use Rattle.source_model.specs.Units.{Emitted, Word, Instruction}
-use Rattle.armasm_core.specs.declared.putting.LineUnits.{LineUnits}
-use Rattle.armasm_core.specs.declared.putting.LiteralWord.{LiteralWord}
+use Rattle.source_model.specs.Units.{Emitted, Instruction}
 use Rattle.armasm_core.specs.Giving.{gives}
-use Rattle.armasm_core.specs.Whole.{context_there, word_there}
-
--- the word of a literal where it stands
-abbrev pub word_piece : Option LiteralWord → List Piece
-word_piece None = []
-word_piece (Some w) = (w.at, Word (stored_of w.word)) ∷ []
+use Rattle.armasm_core.specs.Whole.{context_there, kinds_at, word_there}
 
 -- an instruction has a word
 abbrev pub UnitFits : Emitted → Type 0
@@ -28,10 +27,16 @@ abbrev pub AllUnitsFit : List Emitted → Type 0
 AllUnitsFit [] = Unit {0}
 AllUnitsFit (u ∷ us) = UnitFits u × AllUnitsFit us
 
--- what a line puts into its area, where these lines stand before it, the nearest first, and these behind it; what its RN
--- gives; and each instruction has a word
+-- what a line without a fault puts into its area, where these lines stand before it, the nearest first, and these behind
+-- it; what its RN gives; and each instruction has a word
 pub record IsPut (statements : List Statement) (before rest : List LaidLine) (l : LaidLine) (u : LineUnits) : Type 0 where
+  pub faultless : told_kind (kinds_at statements before l rest) ≡ None
   pub pieces : pieces_in (context_there statements before l) (datum_names statements) l (word_there before rest l)
       ≡ units_from l.offset (map emitted_of u.units.items) ++ word_piece u.literal
   pub given : named_by l.seen (defined_by l.statement) ≡ gives u.number (defined_by l.statement)
   pub fits : AllUnitsFit (map emitted_of u.units.items)
+
+-- what the line puts, or the refusal of the line, or want of memory
+abbrev pub IsPassed : List Statement → List LaidLine → List LaidLine → LaidLine → Result LineUnits Fault → Type 0
+IsPassed statements before rest l (Ok u) = IsPut statements before rest l u
+IsPassed statements before rest l (Err f) = IsTold (told_at l.statement (told_kind (kinds_at statements before l rest))) f

@@ -1,10 +1,9 @@
 -- The relocation of a thing of an area, where it has one, with its symbol's number among the symbols that are listed. SDT
 -- 2.50 Reference Guide, ARM Object Format.
-use Rattle.std.specs.Prelude.{◌≡◌, ℕ, ◌+◌, ◌*◌, ◌^◌, List, [], ◌∷◌, Option, Some, None, nat_eq, if◌then◌else◌}
+use Rattle.std.specs.Prelude.{ℕ, ◌+◌, ◌*◌, ◌^◌, List, [], ◌∷◌, Option, Some, None, nat_eq, if◌then◌else◌}
 use Rattle.aof_object.specs.declared.records.Reloc.{Reloc}
 use Rattle.asm_model.specs.Before.{place_of}
-use Rattle.asm_model.specs.Symbols.{symbols_of}
-use Rattle.source_model.specs.Objects.{Piece, Source, relocs_of}
+use Rattle.source_model.specs.Objects.{Piece}
 use Rattle.source_model.specs.Units.{Target, Nothing, ByArea, BySymbol, Emitted, Bytes, Word, Instruction}
 
 abbrev pub word_relocation : List (List ℕ) → Target → Option ℕ
@@ -28,10 +27,6 @@ one_reloc at (Some word) = record { offset = at; word = word } ∷ []
 
 abbrev pub relocs_in : List (List ℕ) → Piece → List Reloc
 relocs_in names p = one_reloc p.0 (relocation names p.1)
-
--- they are those of a source, where its symbols are listed
-abbrev pub RelocsAreOfSources : Type 0
-RelocsAreOfSources = (s : Source) (p : Piece) → relocs_in (symbols_of s.names s.lines) p ≡ relocs_of s p
 
 -- ---- as code keeps them
 

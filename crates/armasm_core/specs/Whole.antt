@@ -6,24 +6,20 @@ use Rattle.asm_instructions.specs.Scenes.{register_at}
 use Rattle.asm_layout.specs.Layout.{IsStatement, AreAreas}
 use Rattle.asm_model.specs.declared.statements.Statement.{Statement}
 use Rattle.asm_model.specs.declared.statements.What.{What}
-use Rattle.asm_model.specs.Kinds.{told_kind}
 use Rattle.asm_pool.specs.declared.layout.LaidArea.{LaidArea}
 use Rattle.asm_pool.specs.declared.layout.LaidStatement.{LaidStatement}
 use Rattle.asm_units.specs.declared.beside.Beside.{Beside}
 use Rattle.asm_units.specs.Showing.{ShowsBeside}
-use Rattle.asm_model.specs.Labels.{defined_by}
 use Rattle.asm_model.specs.Laid.{LaidLine, laid, taken, pieces_of, reversed, final_names}
 use Rattle.asm_model.specs.Marks.{datum_names}
 use Rattle.asm_model.specs.Offsets.{area_size}
 use Rattle.said_model.specs.Said.{AllSaid}
 use Rattle.source_model.specs.Contexts.{Context}
-use Rattle.source_model.specs.Registers.{register_in, registers_behind, named_by}
+use Rattle.source_model.specs.Registers.{register_in, registers_behind}
 use Rattle.source_model.specs.SourceFaults.{context_of, word_of, layout_faults}
 use Rattle.source_model.specs.ValueKinds.{value_kinds}
-use Rattle.armasm_core.specs.declared.line.Judged.{Judged}
 use Rattle.armasm_core.specs.declared.whole.Whole.{Whole}
 use Rattle.armasm_core.specs.Gathered.{AreSets}
-use Rattle.armasm_core.specs.Giving.{gives}
 
 -- ---- a layout
 
@@ -63,8 +59,3 @@ pub record IsHere (statements : List Statement) (areas : List LaidArea) (w : Who
   pub parts : laid statements ≡ reversed rest (l ∷ before)
   pub line : IsStatement x l before
   pub registers : (q : List ℕ) → register_at known q ≡ register_in q (registers_behind before)
-
--- what is told of a line, and what its RN gives
-pub record IsJudged (statements : List Statement) (before rest : List LaidLine) (l : LaidLine) (j : Judged) : Type 0 where
-  pub told : j.kind ≡ told_kind (kinds_at statements before l rest)
-  pub given : named_by l.seen (defined_by l.statement) ≡ gives j.number (defined_by l.statement)

@@ -3,18 +3,18 @@
 ghost use Rattle.std.specs.Prelude.{◌≡◌, [], ◌++◌, ◌<◌, ◌^◌, ℕ, List as Items, length, map, IfOk, OnOk};
 ghost use Rattle.std.specs.List.{AllZip};
 ghost use Rattle.source_model.specs.Objects.{Piece};
+ghost use Rattle.asm_units.specs.Passing.{word_piece};
 ghost use Rattle.armasm_core.specs.Drafts.{IsDraft, MeetNone};
 ghost use Rattle.armasm_core.specs.Writing.{AllCanStand};
-ghost use Rattle.armasm_core.specs.Putting.{word_piece};
 ghost use Rattle.asm_units.specs.Emitting.{emitted_of, stored_of};
 ghost use Rattle.source_model.specs.Units as model;
 ghost use Rattle.armasm_core.specs.Drafting as drafting;
 ghost use Rattle.armasm_core.specs.Drafting.{AreDrafts, IsFinished, LineCanStand, MeetNoneThere, frame, frame_of, frames, pieces_put, with_line};
 
-use crate::{Draft, LiteralWord};
+use crate::Draft;
 use aof_object::Area;
 use asm_pool::{LaidArea, LaidStatement};
-use asm_units::{Emitted, Stored, Symbols};
+use asm_units::{Emitted, LiteralWord, Stored, Symbols};
 use sdt_fault::{List, NoMemory, Text};
 use std::alloc::Global;
 

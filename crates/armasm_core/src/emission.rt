@@ -11,25 +11,25 @@ ghost use Rattle.asm_model.specs.Symbols as needs;
 ghost use Rattle.said_model.specs.Named.{AllLoadsNamed};
 ghost use Rattle.said_model.specs.Said.{AllSaid};
 ghost use Rattle.source_laws.specs.Laws.{InArmState};
-ghost use Rattle.source_model.specs.Objects.{IsObject, source_of, symbol_records, things_in};
+ghost use Rattle.source_model.specs.Objects.{source_of, symbol_records};
 ghost use Rattle.source_model.specs.SourceFaults.{layout_faults};
 ghost use Rattle.armasm_core.specs.Gathered.{AllLaidSaid};
 ghost use Rattle.armasm_core.specs.Whole.{IsWhole};
-ghost use Rattle.armasm_core.specs.Drafting.{AreDrafts, frame_of, frames};
-ghost use Rattle.armasm_core.specs.Emission.{HasFaultlessSource, HasSource, HasSymbols, IsEmittable};
+ghost use Rattle.armasm_core.specs.Drafting.{frame_of, frames};
+ghost use Rattle.armasm_core.specs.Emission.{AreGrown, HasSource, HasSymbols, IsEmittable};
 ghost use Rattle.armasm_core.specs.Emitted.{IsEmitted};
 ghost use Rattle.armasm_core.specs.Wherever.{StandsWherever};
 
 use crate::drafting::{Growing, all_finished, all_started, put_line};
 use crate::entry::entry_of;
 use crate::facts::gathered_of;
-use crate::judging_laws::laid_statements_are_said;
 use crate::records::records_of;
+use crate::second_pass::pass_line;
 use crate::symbols::symbols_of;
-use crate::{LineUnits, Whole, give, judge, line_units, relocations_are_of_sources, whole_of};
+use crate::{Whole, give, whole_of};
 use aof_object::{Object, Symbol};
 use asm_pool::Layout;
-use asm_units::Symbols;
+use asm_units::{LineUnits, Symbols};
 use sdt_fault::answer::Fault;
 use sdt_fault::{List, NoMemory};
 use source_laws::laws::sources_stand_apart;
@@ -37,18 +37,18 @@ use stand_laws::laws::objects_stand;
 use std::alloc::Global;
 use std::collections::BTreeMap;
 
-/// The areas of a layout with all that its lines put there.
+/// The areas of a layout with all that its lines put there; or the refusal of the first line whose values have a fault.
 fn grown(
     alloc: Global,
     layout: &Layout,
     whole: &Whole,
     symbols: &Symbols,
-) -> Result<Vec<Growing>, NoMemory>
+) -> Result<Vec<Growing>, Fault>
     requires said { AllLaidSaid layout.now.statements }
     requires source { HasSymbols layout.now whole.now symbols.now }
     requires few { length symbols.now < 2 ^ 24 }
     ensures frames { IfOk result (λ gs. frames gs.items ≡ map frame_of layout.now.areas) }
-    ensures drafts { IfOk result (λ gs. (statements : Items Statement) → IsEmittable statements layout.now whole.now → AreDrafts symbols.now (things_in (source_of statements)) gs.items) }
+    ensures grown { (statements : Items Statement) → IsEmittable statements layout.now whole.now → AreGrown statements symbols.now result }
 {
     sources_stand_apart();
     let areas = layout.areas.as_slice();
@@ -63,7 +63,7 @@ fn grown(
                     units,
                     literal,
                     number,
-                } = line_units(alloc, areas, whole, &registers, line)?;
+                } = pass_line(alloc, areas, whole, &registers, line)?;
                 put_line(&mut growing, line, units.as_slice(), literal, symbols)?;
                 give(alloc, &mut registers, &line.statement, number)?;
                 left = rest;
@@ -90,14 +90,13 @@ fn few_records(
     Ok(records)
 }
 
-/// The object of a layout whose values have no fault.
-fn object_of(alloc: Global, layout: &Layout) -> Result<Object, NoMemory>
+/// The object of a layout; or the refusal of the first line whose values have a fault.
+fn object_of(alloc: Global, layout: &Layout) -> Result<Object, Fault>
     requires said { AllLaidSaid layout.now.statements }
-    requires source { HasFaultlessSource layout.now }
-    ensures object { IfOk result (λ o. (statements : Items Statement) → IsLayout statements layout.now → AllSaid statements → layout_faults statements ≡ None → InArmState statements → IsObject statements o) }
+    requires source { HasSource layout.now }
+    ensures emitted { (statements : Items Statement) → IsLayout statements layout.now → AllSaid statements → layout_faults statements ≡ None → InArmState statements → IsEmitted statements result }
     ensures few { IfOk result (λ o. length o.symbols < 2 ^ 24) }
 {
-    relocations_are_of_sources();
     let whole = whole_of(alloc, layout)?;
     let needed = symbols_of(alloc, layout, &whole)?;
     let symbols = few_records(alloc, layout, &whole, &needed)?;
@@ -119,8 +118,6 @@ pub fn emit(alloc: Global, layout: &Layout) -> Result<Object, Fault>
     ensures few { IfOk result (λ o. length o.symbols < 2 ^ 24) }
     ensures stands { IfOk result (λ o. (statements : Items Statement) → IsLayout statements layout.now → AllSaid statements → AllNamed statements → AllLoadsNamed statements → layout_faults statements ≡ None → InArmState statements → StandsWherever statements o) }
 {
-    laid_statements_are_said();
     objects_stand();
-    judge(alloc, layout)?;
-    Ok(object_of(alloc, layout)?)
+    object_of(alloc, layout)
 }

@@ -18,18 +18,17 @@ use Rattle.asm_model.specs.Kinds.{told_kind}
 use Rattle.asm_model.specs.Meaning as meaning
 use Rattle.asm_model.specs.Meaning.{named_in, stands_at, binary}
 use Rattle.asm_model.specs.Says.{mapped}
-use Rattle.asm_model.specs.Extents.{Extent, Block, Padding, Loading, Pool}
 use Rattle.asm_model.specs.LayoutKinds.{fault_kinds}
 use Rattle.asm_model.specs.Symbols.{literal_value}
 use Rattle.source_model.specs.Contexts.{Context, sees}
 use Rattle.source_model.specs.Units.{stored}
-use Rattle.source_model.specs.ValueKinds.{lies_within, kinds_unless, export_kinds, assert_kinds, directive_kinds, literal_kinds, statement_kinds}
+use Rattle.source_model.specs.ValueKinds.{lies_within, kinds_unless, export_kinds, assert_kinds, directive_kinds, statement_kinds}
 use Rattle.asm_instructions.specs.Scenes.{has_symbol, context_of}
 use Rattle.asm_instructions.proofs.ContextLemmas.{Alike, symbols_listed, shown_alike}
 use Rattle.asm_units.specs.declared.beside.Beside.{Beside}
 use Rattle.asm_units.specs.declared.emitted.Stored.{Stored as Code}
 use Rattle.asm_units.specs.Emitting.{stored_of}
-use Rattle.asm_units.specs.Literals.{moved_value, moved_entry, literal_in}
+use Rattle.asm_units.specs.Literals.{moved_value, moved_entry}
 use Rattle.asm_units.specs.Showing.{ShowsBeside, context_beside, sizes_of}
 use Rattle.asm_units.proofs.ShowLemmas.{labels_listed, stands_alike, stored_alike}
 
@@ -75,13 +74,6 @@ pub literal_answered : {E : Type 0} (x : Beside) (v : Value) (r : Result (Result
     → mapped stored_of l ≡ stored c data_names (literal_value (sees c) v))
 literal_answered x v (Ok l) e = λ c data_names sizes s word w h. e ∙ literal_shown x v c data_names sizes s word w h
 literal_answered x v (Err k) e = tt
-
-pub loaded_kinds : (c : Context) (data_names : List (List ℕ)) (e : Extent) (v : Value) → literal_in e ≡ Some v
-    → literal_kinds c data_names e ≡ fault_kinds (stored c data_names (literal_value (sees c) v))
-loaded_kinds c data_names (Loading n u) v e = let same : u ≡ v = cc in ap (λ z. fault_kinds (stored c data_names (literal_value (sees c) z))) same
-loaded_kinds c data_names (Block m n) v e = absurd (cc)
-loaded_kinds c data_names (Padding m n) v e = absurd (cc)
-loaded_kinds c data_names Pool v e = absurd (cc)
 
 -- ---- EXPORT and KEEP
 

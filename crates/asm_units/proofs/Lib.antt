@@ -3,4 +3,5 @@ pub mod KindLemmas
 pub mod ShowLemmas
 mod LineLemmas
 mod NumberLemmas
+pub mod PassLemmas
 mod TreeLemmas

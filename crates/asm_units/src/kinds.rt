@@ -1,26 +1,19 @@
 //! The kinds of faults that values have, once all names are known.
 
 ghost use Rattle.std.specs.Prelude.{◌≡◌, ℕ, List, Option, Some, IfOk, if◌then◌else◌};
-ghost use Rattle.std.specs.Option.{option_copied};
 ghost use Rattle.sdt_fault.specs.declared.kinds.LineKind.TheVariants.{UnknownWord, WrongType};
 ghost use Rattle.asm_model.specs.AtLine.{Sight};
 ghost use Rattle.asm_model.specs.Kinds.{told_kind};
 ghost use Rattle.asm_model.specs.Meaning.{named_in};
 ghost use Rattle.asm_model.specs.declared.statements.What.{What};
-ghost use Rattle.asm_model.specs.Extents.{Extent};
 ghost use Rattle.asm_model.specs.LayoutKinds.{fault_kinds};
 ghost use Rattle.said_model.specs.Said.{DirectiveSaid, WhatSaid};
 ghost use Rattle.source_model.specs.Contexts.{Context};
-ghost use Rattle.source_model.specs.Units.{units as emits};
 ghost use Rattle.source_model.specs.ValueKinds as model;
-ghost use Rattle.asm_units.specs.Literals.{literal_in};
 ghost use Rattle.asm_units.specs.Showing.{ShowsBeside, context_beside, sizes_of};
 
 use crate::beside::Beside;
-use crate::emitted::{Emitted, Stored};
-use crate::literals::literal as literal_word;
-use crate::statements::units;
-use asm_expr::told::{first_told, kind_if};
+use asm_expr::told::kind_if;
 use asm_instructions::scenes::stands_at;
 use asm_instructions::values::value_there;
 use asm_model::{DirectiveLine, Value, What};
@@ -94,24 +87,6 @@ fn value_fault(value: Result<Value, LineKind>) -> Option<LineKind>
     }
 }
 
-fn word_fault(word: Result<Stored, LineKind>) -> Option<LineKind>
-    ensures { result ≡ told_kind (fault_kinds word) }
-{
-    match word {
-        Ok(_) => None,
-        Err(kind) => Some(kind),
-    }
-}
-
-fn units_fault(units: Result<Vec<Emitted>, LineKind>) -> Option<LineKind>
-    ensures { result ≡ told_kind (fault_kinds units) }
-{
-    match units {
-        Ok(_) => None,
-        Err(kind) => Some(kind),
-    }
-}
-
 /// The kind of an ASSERT.
 fn assert_kind(value: Result<Value, LineKind>) -> Option<LineKind>
     ensures { result ≡ told_kind (model.assert_kinds value) }
@@ -160,8 +135,8 @@ fn statement_there(
     }
 }
 
-/// The kind of a statement's own values.
-fn statement_kind(
+/// The kind of a statement's own values: of a name for an expression, of EXPORT, KEEP and ASSERT.
+pub fn statement_kind(
     alloc: Global,
     beside: &Beside<'_>,
     what: &What,
@@ -170,46 +145,4 @@ fn statement_kind(
     ensures { IfOk result (λ kind. (c : Context) (data_names : List (List ℕ)) (sizes : ℕ → ℕ) (s : Sight) (word : Option ℕ) → ShowsBeside beside.now c data_names sizes s word what.now → kind ≡ told_kind (model.statement_kinds c sizes what.now)) }
 {
     statement_there(alloc, beside, what)
-}
-
-/// The kind of what a statement puts into its area.
-fn units_kind(alloc: Global, beside: &Beside<'_>, what: &What) -> Result<Option<LineKind>, NoMemory>
-    requires { WhatSaid what.now }
-    ensures { IfOk result (λ kind. (c : Context) (data_names : List (List ℕ)) (sizes : ℕ → ℕ) (s : Sight) (word : Option ℕ) → ShowsBeside beside.now c data_names sizes s word what.now → kind ≡ told_kind (fault_kinds (emits c data_names s word what.now))) }
-{
-    let units = units(alloc, beside, what)?;
-    Ok(units_fault(units))
-}
-
-/// The kind of a literal's word.
-fn literal_kind(
-    alloc: Global,
-    beside: &Beside<'_>,
-    literal: Option<&Value>,
-) -> Result<Option<LineKind>, NoMemory>
-    ensures { IfOk result (λ kind. (c : Context) (data_names : List (List ℕ)) (sizes : ℕ → ℕ) (s : Sight) (word : Option ℕ) (w : What) (e : Extent) → ShowsBeside beside.now c data_names sizes s word w → literal_in e ≡ option_copied literal.entry → kind ≡ told_kind (model.literal_kinds c data_names e)) }
-{
-    match literal {
-        None => Ok(None),
-        Some(literal) => {
-            let word = literal_word(alloc, beside, literal)?;
-            Ok(word_fault(word))
-        }
-    }
-}
-
-/// The kind that is told of a statement's values, where its literal, if it has one, is this.
-pub fn value_kind(
-    alloc: Global,
-    beside: &Beside<'_>,
-    literal: Option<&Value>,
-    what: &What,
-) -> Result<Option<LineKind>, NoMemory>
-    requires { WhatSaid what.now }
-    ensures { IfOk result (λ kind. (c : Context) (data_names : List (List ℕ)) (sizes : ℕ → ℕ) (s : Sight) (word : Option ℕ) (e : Extent) → ShowsBeside beside.now c data_names sizes s word what.now → literal_in e ≡ option_copied literal.entry → kind ≡ told_kind (model.value_kinds c data_names sizes s e word what.now)) }
-{
-    let emitted = units_kind(alloc, beside, what)?;
-    let loaded = literal_kind(alloc, beside, literal)?;
-    let said = statement_kind(alloc, beside, what)?;
-    Ok(first_told(first_told(emitted, loaded), said))
 }

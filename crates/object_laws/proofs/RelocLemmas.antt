@@ -30,8 +30,9 @@ use Rattle.asm_model.specs.Marks.{datum_names}
 use Rattle.asm_model.specs.Symbols.{symbols_of, literal_value}
 use Rattle.asm_model.specs.Sound.{IsSound, HaveNoPlaces, ArePlain}
 use Rattle.layout_laws.proofs.RoundLemmas.{ResultIs}
-use Rattle.said_model.specs.Fit.{AllPlaceless, WhatFits, IsFit}
-use Rattle.said_model.specs.Said.{HoldsNoZero}
+use Rattle.said_model.specs.Fit.{AllFit, AllPlaceless, WhatFits, IsFit}
+use Rattle.said_model.specs.Said.{AllHaveTexts, AllSaid, HoldsNoZero}
+use Rattle.source_model.specs.SourceFaults.{layout_faults}
 use Rattle.source_model.specs.ArmForms.{arm_instruction}
 use Rattle.source_model.specs.Contexts.{Context, sees, value_of, number_in, and_then}
 use Rattle.source_model.specs.Objects.{Piece, unit_bytes, units_from, or_none, source_of, IsAmong, StandsIn, symbol_number, word_relocs, branch_relocs, relocs_of, IsRelocOf, HasRelocs, contents_of, symbol_named, symbol_records, is_kept, KeepsBytes, IsArea, IsObject}
@@ -161,28 +162,29 @@ unit_below count at [] p h k = absurd k
 unit_below count at (u ∷ us) p h (inl e) = subst (λ (z : Piece). UnitBelow count z.1) (sym e) h.0
 unit_below count at (u ∷ us) p h (inr k) = unit_below count (at + length (unit_bytes u)) us p h.1 k
 
-pub line_sees_below : (ss : List Statement) → AreFaultless ss → (after before : List LaidLine) (l : LaidLine) (area : ℕ) → laid ss ≡ after ++ l ∷ before
+pub line_sees_below : (ss : List Statement) → AllHaveTexts ss → (after before : List LaidLine) (l : LaidLine) (area : ℕ) → laid ss ≡ after ++ l ∷ before
     → l.area ≡ Some area → SeesBelow (length (areas_behind ss)) (context_behind ss l before)
-line_sees_below ss h after before l area e own =
+line_sees_below ss texts after before l area e own =
     record {
       area = area;
       own = line_area ss after before l e ∙ own;
       below = line_below ss after before l e area own;
-      names = λ q n x. (name_shown ss h.texts q n x).1;
+      names = λ q n x. (name_shown ss texts q n x).1;
     }
 
 -- each area that a thing in an area is relocated by is one of the source
-pub things_below : (ss : List Statement) → AreFaultless ss → (area : ℕ) (p : Piece) → StandsIn (source_of ss) area p → UnitBelow (length (areas_behind ss)) p.1
-things_below ss h area p x = by_kind (unit_or_word ss area p x)
+pub things_below : (ss : List Statement) → AllSaid ss → AllHaveTexts ss → AllFit ss → layout_faults ss ≡ None → (area : ℕ) (p : Piece)
+    → StandsIn (source_of ss) area p → UnitBelow (length (areas_behind ss)) p.1
+things_below ss said texts fit none area p x = by_kind (unit_or_word ss area p x)
   where
     count : ℕ
     count = length (areas_behind ss)
 
     sound : IsSound ss
-    sound = layout_sound ss h.layout
+    sound = layout_sound ss none
 
     plain : ArePlain ss
-    plain = said_plain ss h.said
+    plain = said_plain ss said
 
     by_result : (at : ℕ) (r : Result (List Emitted) LineKind) → ResultBelow count r → IsAmong p (units_from at (or_none r)) → UnitBelow count p.1
     by_result at (Ok us) f k = unit_below count at us p f k
@@ -193,13 +195,13 @@ things_below ss h area p x = by_kind (unit_or_word ss area p x)
         let l = u.owner in
         let c = context_behind ss l u.before in
         by_result l.offset (units c (datum_names ss) l.seen (word_among u.after l u.before) l.statement.what)
-        (units_below count c (datum_names ss) l.seen (word_among u.after l u.before) l.statement.what (line_sees_below ss h u.after u.before l area u.parts u.own)
-        (λ e i. value_own ss sound plain u.before l e i) (each_there IsFit ss h.fit u.after u.before l u.parts)) u.among
+        (units_below count c (datum_names ss) l.seen (word_among u.after l u.before) l.statement.what (line_sees_below ss texts u.after u.before l area u.parts u.own)
+        (λ e i. value_own ss sound plain u.before l e i) (each_there IsFit ss fit u.after u.before l u.parts)) u.among
     by_kind (inr w) =
         let c = context_behind ss w.loader w.before in
         let v = literal_value (sees c) w.word.value in
         let below = subst (StoredBelow count) w.word.stores
-        (word_below count c (datum_names ss) v (line_sees_below ss h w.after w.before w.loader area w.parts w.own)
+        (word_below count c (datum_names ss) v (line_sees_below ss texts w.after w.before w.loader area w.parts w.own)
         (literal_own ss sound plain w.before w.loader w.word.value)) in
         subst (λ (t : Piece). UnitBelow count t.1) (sym w.word.is) below
 
@@ -275,7 +277,7 @@ relocs_valid ss h areas symbols few area relocs x =
     (λ r i.
     let p = x.no_others r i in
     piece_valid ss areas symbols few p.0.0 p.0.1 (symbols_are_listed ss h.layout area p.0 p.1)
-    (subst (λ n. UnitBelow n p.0.1) few.areas_are (things_below ss h area p.0 p.1)) r p.2)
+    (subst (λ n. UnitBelow n p.0.1) few.areas_are (things_below ss h.said h.texts h.fit h.layout area p.0 p.1)) r p.2)
 
 -- ---- bytes
 

@@ -1,8 +1,8 @@
 use Rattle.std.proofs.Common.{ℕ, List, ◌++◌, length, map, sym, subst, append_assoc}
 use Rattle.std.proofs.lemmas.Result.{on_ok_weaker}
+use Rattle.asm_units.specs.Passing.{word_piece}
 use Rattle.armasm_core.specs.Drafts.{IsDraft}
 use Rattle.armasm_core.specs.Writing.{AllCanStand}
-use Rattle.armasm_core.specs.Putting.{word_piece}
 use Rattle.asm_units.specs.Emitting.{emitted_of}
 use Rattle.source_model.specs.Objects.{Piece, units_from}
 use Rattle.armasm_core.proofs.GrowLemmas.{meet_front, meet_behind, stand_front, stand_behind}

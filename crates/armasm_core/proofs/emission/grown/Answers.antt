@@ -1,4 +1,5 @@
 use Rattle.std.proofs.Common.{◌-◌, ◌∷◌, ◌∙◌, List, sym, ap, subst, length, map, take, drop}
+use Rattle.std.proofs.lemmas.Result.{err_from_is_err_and}
 use Rattle.asm_model.specs.declared.statements.Statement.{Statement}
 use Rattle.asm_pool.specs.declared.layout.LaidArea.{LaidArea}
 use Rattle.asm_pool.specs.declared.layout.LaidStatement.{LaidStatement}
@@ -10,7 +11,7 @@ use Rattle.armasm_core.specs.Whole.{IsHere}
 use Rattle.armasm_core.proofs.SetLemmas.{said_first}
 use Rattle.armasm_core.specs.Drafting.{frame_of, pieces_put}
 use Rattle.armasm_core.specs.Emission.{IsEmittable, IsGrown}
-use Rattle.armasm_core.proofs.EmitLemmas.{apart_there, grown_first, grown_all, grown_more, next_there, put_there}
+use Rattle.armasm_core.proofs.EmitLemmas.{apart_there, grown_first, grown_all, grown_more, next_there, put_there, told_here}
 use Rattle.armasm_core.proofs.StandLemmas.{emittable, next_stands}
 use Rattle.armasm_core.proofs.emission.grown.Goals as goal
 
@@ -28,12 +29,28 @@ lines-init c =
       subst AllLaidSaid (sym c.as_slice-left.ensures) c.requires.said,
       c.in_ok-growing.ensures.frames ∙ ap (map frame_of) c.as_slice-areas.ensures,
       grown,
-      record { source = c.requires.source; grown = grown c.requires.source.statements (emittable l w names c.requires.source) },
+      record { source = c.requires.source; grown = grown c.requires.source.source.statements (emittable l w names c.requires.source) },
     )
 
-pub returns-in-empty-clause-drafts : goal.returns-in-empty-clause-drafts
-returns-in-empty-clause-drafts c = λ statements h.
+pub returns-in-empty-clause-grown : goal.returns-in-empty-clause-grown
+returns-in-empty-clause-grown c = λ statements h.
     grown_all statements c.args.symbols.now c.lines.left.now c.lines.registers c.lines.growing.items c.in-empty.len_below (c.lines.invariant.2 statements h)
+
+pub returns-in_err-units-in-len1-up-clause-grown : goal.returns-in_err-units-in-len1-up-clause-grown
+returns-in_err-units-in-len1-up-clause-grown c = λ statements j.
+    let l = c.args.layout.now in
+    let w = c.args.whole.now in
+    let names = c.args.symbols.now in
+    let x = c.line-item.result in
+    let left = c.lines.left.now in
+    let known = c.lines.registers in
+    let gs = c.lines.growing.items in
+    let n = next_there statements l w names x left known gs c.in-len1-up.len_at_least c.line-item.is j (c.lines.invariant.2 statements j) in
+    let p = err_from_is_err_and c.from_residual-in_err-units-in-len1-up.result c.from_residual-in_err-units-in-len1-up.ensures.1 in
+    let told = c.in_err-units-in-len1-up.ensures statements n.before n.rest n.line
+    (subst (λ (areas : List LaidArea). IsHere statements areas w known n.before n.rest n.line x) (sym c.as_slice-areas.ensures) n.here) in
+    rw (p.1, p.2)
+    (told_here statements l w names x (take (length left - 1) (drop 1 left)) known gs n c.in_err-units-in-len1-up.field-0.0 told)
 
 pub put_line-requires-clause-stand : goal.put_line-requires-clause-stand
 put_line-requires-clause-stand c =
@@ -44,8 +61,8 @@ put_line-requires-clause-stand c =
     next_stands l w c.args.symbols.now c.line-item.result c.lines.left.now c.lines.registers c.lines.growing.items c.in-len1-up.len_at_least c.line-item.is g
     c.lines.invariant.1 u c.as_slice.result.now c.as_slice.ensures.value
     (λ before rest line here.
-    c.in_ok-units-in-len1-up.ensures g.source.statements before rest line
-    (subst (λ (areas : List LaidArea). IsHere g.source.statements areas w c.lines.registers before rest line c.line-item.result) (sym c.as_slice-areas.ensures) here))
+    c.in_ok-units-in-len1-up.ensures g.source.source.statements before rest line
+    (subst (λ (areas : List LaidArea). IsHere g.source.source.statements areas w c.lines.registers before rest line c.line-item.result) (sym c.as_slice-areas.ensures) here))
 
 pub lines-preserved : goal.lines-preserved
 lines-preserved c =
@@ -74,5 +91,5 @@ lines-preserved c =
       (said_first left x c.lines.invariant.0 c.in-len1-up.len_at_least c.line-item.is).1,
       c.put_line.ensures.frames ∙ c.lines.invariant.1,
       λ statements j. step statements j (c.lines.invariant.2 statements j),
-      record { source = g.source; grown = step g.source.statements (emittable l w names g.source) g.grown },
+      record { source = g.source; grown = step g.source.source.statements (emittable l w names g.source) g.grown },
     )

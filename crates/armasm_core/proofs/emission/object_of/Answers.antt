@@ -6,25 +6,18 @@ pub grown-requires-clause-source : goal.grown-requires-clause-source
 grown-requires-clause-source c =
     let s = c.requires.source in
     let whole = c.in_ok-whole.ensures s.statements s.layout in
-    record {
-      statements = s.statements;
-      layout = s.layout;
-      faultless = s.faultless;
-      few = s.few;
-      whole = whole;
-      listed = c.in_ok-needed.ensures s.statements s.layout s.faultless.said s.faultless.layout whole;
-    }
+    record { source = s; whole = whole; listed = c.in_ok-needed.ensures s.statements s.layout s.said s.sound whole }
 
 pub grown-requires-clause-few : goal.grown-requires-clause-few
 grown-requires-clause-few c =
     let s = c.requires.source in
     let whole = c.in_ok-whole.ensures s.statements s.layout in
-    let listed = c.in_ok-needed.ensures s.statements s.layout s.faultless.said s.faultless.layout whole in
+    let listed = c.in_ok-needed.ensures s.statements s.layout s.said s.sound whole in
     few_there s.statements c.in_ok-needed.needed c.in_ok-symbols.symbols listed
-    (c.in_ok-symbols.ensures.records s.statements s.layout s.faultless.layout whole listed) c.in_ok-symbols.ensures.few
+    (c.in_ok-symbols.ensures.records s.statements s.layout s.sound whole listed) c.in_ok-symbols.ensures.few
 
-pub returns-clause-object : goal.returns-clause-object
-returns-clause-object c = λ statements layout said sound arm.
+pub returns-clause-emitted : goal.returns-clause-emitted
+returns-clause-emitted c = λ statements layout said sound arm.
     let l = c.args.layout.now in
     let w = c.in_ok-whole.whole in
     let gs = c.in_ok-growing.growing.items in
@@ -32,10 +25,12 @@ returns-clause-object c = λ statements layout said sound arm.
     let whole = c.in_ok-whole.ensures statements layout in
     let listed = c.in_ok-needed.ensures statements layout said sound whole in
     let j : IsEmittable statements l w = record { layout = layout; said = said; sound = sound; arm = arm; whole = whole } in
-    record {
-      count = count_there statements l.areas gs areas layout.areas c.in_ok-growing.ensures.frames c.in_ok-areas.ensures;
-      areas = areas_there c.relocations_are_of_sources.ensures statements c.in_ok-needed.needed l.areas gs areas sound layout.areas listed
-          c.in_ok-growing.ensures.frames (c.in_ok-growing.ensures.drafts statements j) c.in_ok-areas.ensures;
-      symbols = c.in_ok-symbols.ensures.records statements layout sound whole listed;
-      entry = c.entry_of.ensures statements layout;
-    }
+    let grown = c.in_ok-growing.ensures.grown statements j in (
+      grown.0,
+      record {
+        count = count_there statements l.areas gs areas layout.areas c.in_ok-growing.ensures.frames c.in_ok-areas.ensures;
+        areas = areas_there statements c.in_ok-needed.needed l.areas gs areas sound layout.areas listed c.in_ok-growing.ensures.frames grown.1 c.in_ok-areas.ensures;
+        symbols = c.in_ok-symbols.ensures.records statements layout sound whole listed;
+        entry = c.entry_of.ensures statements layout;
+      },
+    )

@@ -1,0 +1,44 @@
+//! Pass 2 of a line of a layout.
+
+ghost use Rattle.std.specs.Prelude.{List};
+ghost use Rattle.asm_model.specs.declared.statements.Statement.{Statement};
+ghost use Rattle.asm_model.specs.Laid.{LaidLine};
+ghost use Rattle.said_model.specs.Said.{IsSaid};
+ghost use Rattle.armasm_core.specs.Putting.{IsPassed};
+ghost use Rattle.armasm_core.specs.Whole.{IsHere};
+
+use crate::beside::{beside_of, loaded_of};
+use crate::whole::Whole;
+use asm_instructions::laws::{instructions_fit, pseudo_instructions_fit};
+use asm_layout::lines::line_of;
+use asm_layout::telling::told_of;
+use asm_pool::{LaidArea, LaidStatement};
+use asm_units::{LineUnits, pass_two};
+use sdt_fault::Text;
+use sdt_fault::answer::Fault;
+use std::alloc::Global;
+use std::collections::BTreeMap;
+
+/// What a line puts into its area, and what its RN gives. Refuses a line whose operands, name, literal, EXPORT, KEEP or
+/// ASSERT have a fault.
+pub fn pass_line(
+    alloc: Global,
+    areas: &[LaidArea],
+    whole: &Whole,
+    registers: &BTreeMap<Text, u8>,
+    laid: &LaidStatement,
+) -> Result<LineUnits, Fault>
+    requires { IsSaid laid.now.statement }
+    ensures { (statements : List Statement) (before rest : List LaidLine) (l : LaidLine) → IsHere statements areas.now whole.now registers.now before rest l laid.now → IsPassed statements before rest l result }
+{
+    instructions_fit();
+    pseudo_instructions_fit();
+    let line = line_of(laid);
+    let beside = beside_of(areas, whole, registers, laid, &line);
+    let literal = loaded_of(areas, laid);
+    let passed = pass_two(alloc, &beside, literal, &laid.statement.what)?;
+    match passed {
+        Ok(units) => Ok(units),
+        Err(kind) => Err(told_of(alloc, &laid.statement, kind)),
+    }
+}
