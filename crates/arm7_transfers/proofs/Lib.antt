@@ -3,6 +3,7 @@ pub mod ReadyLemmas
 pub mod DoneLemmas
 pub mod AccessLemmas
 pub mod StoreLemmas
+pub mod SpanLemmas
 pub mod StoreParts
 pub mod SingleLemmas
 pub mod BlockLemmas

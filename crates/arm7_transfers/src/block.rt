@@ -23,7 +23,7 @@ use arm7_registers::{
     set_listed, set_loaded_pc,
 };
 use sdt_outside::Device;
-use sdt_word::Width;
+use sdt_word::{Width, field};
 
 /// A block: whether the base moves before each word, whether it moves up, whether the list names user mode's
 /// registers or returns, whether the moved base is written back, the base's register, and the list, a bit for
@@ -42,6 +42,7 @@ pub struct Block {
 // address `a` on.
 
 /// How many registers there are.
+#[tactic(auto, using(crate::proofs::SpanLemmas::one_counted, crate::proofs::SpanLemmas::bit_few))]
 fn count(list: u32, k: u8) -> u32
     requires { k ≤ 16 }
     ensures value { result ≡ length (places_from k (16 - k) list) }
@@ -50,10 +51,7 @@ fn count(list: u32, k: u8) -> u32
     if k == 16 {
         return 0;
     }
-    if !lists(list, k) {
-        return count(list, k + 1);
-    }
-    1 + count(list, k + 1)
+    field(list, u32::from(k), 1) + count(list, k + 1)
 }
 
 /// Whether each word is there.
@@ -92,6 +90,34 @@ fn all_may_store(bus: &Bus, list: u32, k: u8, a: u32) -> bool
         return false;
     }
     all_may_store(bus, list, k + 1, next_word(a))
+}
+
+/// Whether each word of a list is there. Mostly the bank that was used last has them all.
+fn are_there(bus: &Bus, list: u32, a: u32) -> bool
+    requires ready { IsReady (state_of base size state touched bus.now) }
+    requires aligned { a % 4 ≡ 0 }
+    ensures { result ≡ all_there (board_of (state_of base size state touched bus.now)) (registers 16 list) a }
+{
+    if a <= 0xFFFF_FFC0 {
+        if bus.last_has(a, 64) {
+            return true;
+        }
+    }
+    all_there(bus, list, 0, a)
+}
+
+/// Whether each word of a list may be stored. Mostly the bank that was used last takes them all.
+fn are_storable(bus: &Bus, list: u32, a: u32) -> bool
+    requires ready { IsReady (state_of base size state touched bus.now) }
+    requires aligned { a % 4 ≡ 0 }
+    ensures { result ≡ all_may_store (board_of (state_of base size state touched bus.now)) (registers 16 list) a }
+{
+    if a <= 0xFFFF_FFC0 {
+        if bus.last_takes(a, 64) {
+            return true;
+        }
+    }
+    all_may_store(bus, list, 0, a)
 }
 
 /// Loads each register.
@@ -228,7 +254,7 @@ fn block_stored(core: &mut ArmState, bus: &mut Bus, by: Block, a: u32, end: u32)
     ensures done { IsDone (λ u w. block_stored u by.user by.write_back (registers 16 by.list) a by.register end w) core.old (state_of base size state touched bus.old) result core.new (state_of base size state touched bus.new) }
     ensures ready { IsReady (state_of base size state touched bus.new) }
 {
-    if !all_may_store(bus, by.list, 0, a) {
+    if !are_storable(bus, by.list, a) {
         return Outcome::Aborted;
     }
     if let Some(address) = missing_frame(bus, by.list, a) {
@@ -267,7 +293,7 @@ fn block_loaded(
     ensures done { IsDone (λ u w. block_loaded u thumb by.user by.write_back (registers 16 by.list) a by.register end (lists by.list 15) w) core.old (state_of base size state touched bus.old) result core.new (state_of base size state touched bus.new) }
     ensures ready { IsReady (state_of base size state touched bus.new) }
 {
-    if !all_there(bus, by.list, 0, a) {
+    if !are_there(bus, by.list, a) {
         return Outcome::Aborted;
     }
     let loads_pc = lists(by.list, 15);
