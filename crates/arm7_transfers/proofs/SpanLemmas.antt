@@ -20,8 +20,8 @@ use Rattle.arm7_transfers.proofs.BlockSteps.{sixteen}
 -- ---- the count of a list
 
 kept-count : (b k : ℕ) (ks : List ℕ) → b < 2 → length (kept b k ks) ≡ b + length ks
-kept-count zero k ks lt = refl
-kept-count (suc zero) k ks lt = refl
+kept-count zero k ks lt = omega arith
+kept-count (suc zero) k ks lt = omega arith
 kept-count (suc (suc b)) k ks lt = absurd (omega arith)
 
 one-more : (k : ℕ) → k < 16 → 16 - k ≡ suc (16 - (k + 1))
@@ -43,15 +43,15 @@ part base size a n x k h low high = grind arith
 
 bank-part : (bs : List Bank) (a n x k : ℕ) → bank_has bs a n ≡ true → a ≤ x → x + k ≤ a + n → bank_has bs x k ≡ true
 bank-part [] a n x k h low high = absurd (cc)
-bank-part (b ∷ bs) a n x k h low high = go (has_access b.range.base b.range.size a n) refl
+bank-part (b ∷ bs) a n x k h low high = go (has_access b.range.base b.range.size a n) refl (λ e. bank-part bs a n x k e low high)
   where
     or-true : (v : Bool) → (v || true) ≡ true
     or-true true = refl
     or-true false = refl
 
-    go : (v : Bool) → has_access b.range.base b.range.size a n ≡ v → bank_has (b ∷ bs) x k ≡ true
-    go true e = rw (part b.range.base b.range.size a n x k e low high) refl
-    go false e = rw (bank-part bs a n x k (rw e at h) low high) (or-true (has_access b.range.base b.range.size x k))
+    go : (v : Bool) → has_access b.range.base b.range.size a n ≡ v → (bank_has bs a n ≡ true → bank_has bs x k ≡ true) → bank_has (b ∷ bs) x k ≡ true
+    go true e more = rw (part b.range.base b.range.size a n x k e low high) refl
+    go false e more = rw (more (rw e at h)) (or-true (has_access b.range.base b.range.size x k))
 
 le-of : (m n : ℕ) → nat_le m n ≡ true → m ≤ n
 le-of m n e = grind (arith, nat_tests)
@@ -61,19 +61,19 @@ same a y e low = grind (arith, nat_tests)
 
 none-there : (p : ℕ → Bool) (a n y : ℕ) → any_from p a n ≡ false → a ≤ y → y < a + n → p y ≡ false
 none-there p a zero y h low high = absurd (omega arith)
-none-there p a (suc n) y h low high = go (p a) refl
+none-there p a (suc n) y h low high = go (p a) refl (λ e less. none-there p (suc a) n y e less (omega arith))
   where
     later : (v : Bool) → v ≡ false → (v || any_from p (suc a) n) ≡ false → any_from p (suc a) n ≡ false
     later true f e = absurd (cc)
     later false f e = e
 
-    at_or_behind : (v : Bool) → nat_le (suc a) y ≡ v → p a ≡ false → p y ≡ false
-    at_or_behind true f e = none-there p (suc a) n y (later (p a) e h) (le-of (suc a) y f) (omega arith)
-    at_or_behind false f e = subst (λ (x : ℕ). p x ≡ false) (same a y f low) e
+    here_or_later : (v : Bool) → nat_le (suc a) y ≡ v → p a ≡ false → (suc a ≤ y → p y ≡ false) → p y ≡ false
+    here_or_later true f e more = more (le-of (suc a) y f)
+    here_or_later false f e more = subst (λ (x : ℕ). p x ≡ false) (same a y f low) e
 
-    go : (v : Bool) → p a ≡ v → p y ≡ false
-    go true e = absurd (let x = rw e at h in cc)
-    go false e = at_or_behind (nat_le (suc a) y) refl e
+    go : (v : Bool) → p a ≡ v → (any_from p (suc a) n ≡ false → suc a ≤ y → p y ≡ false) → p y ≡ false
+    go true e more = absurd (let x = rw e at h in cc)
+    go false e more = here_or_later (nat_le (suc a) y) refl e (more (later (p a) e h))
 
 free-part : (bs : List Bank) (a n x : ℕ) → is_protected bs a n ≡ false → a ≤ x → x + 4 ≤ a + n → is_protected bs x 4 ≡ false
 free-part bs a n x h low high =
