@@ -1,6 +1,6 @@
 -- Blocks whose words lie in one span of a bank: they are all there, and may be stored where the span isn't protected.
-use Rattle.std.proofs.Common.{◌≡◌, ℕ, zero, suc, ◌+◌, ◌-◌, ◌*◌, ◌/◌, ◌%◌, ◌^◌, ◌<◌, ◌≤◌, Bool, true, false, not, ◌||◌, List, [], ◌∷◌, length, refl, sym, ap, ◌∙◌, subst, arith, cond, add-one}
-use Rattle.std.specs.Prelude.{◌&&◌, is_some, nat_le}
+use Rattle.std.proofs.Common.{◌≡◌, ℕ, zero, suc, ◌+◌, ◌-◌, ◌*◌, ◌%◌, ◌^◌, ◌<◌, ◌≤◌, Bool, true, false, ◌||◌, List, [], ◌∷◌, length, refl, sym, ap, ◌∙◌, subst, arith, add-one}
+use Rattle.std.specs.Prelude.{nat_le}
 use Rattle.std.proofs.lemmas.Bool.Decides.{nat_tests}
 use Rattle.sdt_word.specs.Numbers.{bit, bits, kept, places_from, registers}
 use Rattle.sdt_word.specs.declared.codes.Width.TheVariants.{Word}
@@ -8,7 +8,7 @@ use Rattle.arm7_model.specs.Accesses.{next_word}
 use Rattle.arm7_model.specs.Blocks.{all_there, all_may_store}
 use Rattle.arm7_model.specs.Memory.{any_from}
 use Rattle.arm7_bus.specs.declared.memory.Bank.{Bank}
-use Rattle.arm7_bus.specs.Seats.{device_at, has_access}
+use Rattle.arm7_bus.specs.Seats.{has_access}
 use Rattle.arm7_bus.specs.States.{State, bank_has, is_protected, protected_at}
 use Rattle.arm7_bus.proofs.LookupLemmas.{bytes_decide}
 use Rattle.arm7_transfers.specs.Boards.{board_of}
