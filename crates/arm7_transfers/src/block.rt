@@ -1,12 +1,12 @@
 //! Loads and stores of several registers.
 
-ghost use Rattle.std.specs.Prelude.{◌≡◌, ℕ, ◌<◌, ◌≤◌, ◌+◌, ◌-◌, ◌%◌, ◌^◌, ◌==◌, ◌&&◌, not, [], length, Some, MatchOption};
+ghost use Rattle.std.specs.Prelude.{◌≡◌, ℕ, ◌<◌, ◌≤◌, ◌+◌, ◌-◌, ◌*◌, ◌%◌, ◌^◌, ◌==◌, ◌&&◌, not, [], length, Some, MatchOption};
 ghost use Rattle.sdt_word.specs.Numbers.{places_from, registers};
 ghost use Rattle.arm7_model.specs.Blocks.{all_may_store, all_there, block_loaded, block_moved, block_stored, lists};
 ghost use Rattle.arm7_bus.specs.Buses.{needs_page};
 ghost use Rattle.arm7_bus.specs.Meets.{lesser_of};
 ghost use Rattle.arm7_bus.specs.Paging.{used_count};
-ghost use Rattle.arm7_transfers.specs.BlockAccesses.{is_page_of, loads_of, pages_needed, stores_of, taken, words_in};
+ghost use Rattle.arm7_transfers.specs.BlockAccesses.{drawn, is_page_of, loads_of, pages_needed, stores_of, taken, words_in};
 ghost use Rattle.arm7_transfers.specs.Boards.{board_of};
 ghost use Rattle.arm7_transfers.specs.Done.{IsDone};
 ghost use Rattle.arm7_transfers.specs.Frames.{Fits, Misses, least_unused, used_with};
@@ -23,7 +23,7 @@ use arm7_registers::{
     set_listed, set_loaded_pc,
 };
 use sdt_outside::Device;
-use sdt_word::{Width, field};
+use sdt_word::{Width, field, word_at};
 
 /// A block: whether the base moves before each word, whether it moves up, whether the list names user mode's
 /// registers or returns, whether the moved base is written back, the base's register, and the list, a bit for
@@ -139,6 +139,43 @@ fn take_all(core: &mut ArmState, bus: &mut Bus, user: bool, list: u32, k: u8, a:
     let v = read(bus, a, Width::Word);
     set_listed(core, user, k, v);
     take_all(core, bus, user, list, k + 1, next_word(a));
+}
+
+/// Loads each register from the words of some bytes, from a place on.
+#[tactic(auto, using(crate::proofs::DrawnLemmas::drawn_here, crate::proofs::DrawnLemmas::room_here, crate::proofs::DrawnLemmas::room_left))]
+fn take_words(core: &mut ArmState, bytes: &[u8], user: bool, list: u32, k: u8, at: usize)
+    requires within { k ≤ 16 }
+    requires room { at + 4 * length (places_from k (16 - k) list) ≤ length bytes.now }
+    ensures { core.new ≡ drawn user (places_from k (16 - k) list) at core.old bytes.now }
+{
+    if k == 16 {
+        return;
+    }
+    if !lists(list, k) {
+        take_words(core, bytes, user, list, k + 1, at);
+        return;
+    }
+    let v = word_at(bytes, at);
+    set_listed(core, user, k, v);
+    take_words(core, bytes, user, list, k + 1, at + 4);
+}
+
+/// Loads each register of a list: mostly from the bytes that one bank and one page have.
+fn take_listed(core: &mut ArmState, bus: &mut Bus, user: bool, list: u32, n: u32, a: u32)
+    requires ready { IsReady (state_of base size state touched bus.old) }
+    requires counted { n ≡ length (registers 16 list) }
+    requires few { n ≤ 16 }
+    requires aligned { a % 4 ≡ 0 }
+    ensures core { core.new ≡ taken user (registers 16 list) a core.old (state_of base size state touched bus.old) }
+    ensures served { state_of base size state touched bus.new ≡ served (state_of base size state touched bus.old) (loads_of (registers 16 list) a) }
+    ensures ready { IsReady (state_of base size state touched bus.new) }
+{
+    let bytes = bus.piece(a);
+    if bytes.len() >= 4 * n as usize {
+        take_words(core, bytes, user, list, 0, 0);
+        return;
+    }
+    take_all(core, bus, user, list, 0, a);
 }
 
 /// Stores each register.
@@ -284,11 +321,14 @@ fn block_loaded(
     bus: &mut Bus,
     thumb: bool,
     by: Block,
+    n: u32,
     a: u32,
     end: u32,
 ) -> Outcome
     requires ready { IsReady (state_of base size state touched bus.old) }
     requires from { by.register < 16 }
+    requires counted { n ≡ length (registers 16 by.list) }
+    requires few { n ≤ 16 }
     requires aligned { a % 4 ≡ 0 }
     ensures done { IsDone (λ u w. block_loaded u thumb by.user by.write_back (registers 16 by.list) a by.register end (lists by.list 15) w) core.old (state_of base size state touched bus.old) result core.new (state_of base size state touched bus.new) }
     ensures ready { IsReady (state_of base size state touched bus.new) }
@@ -300,7 +340,7 @@ fn block_loaded(
     let user = names_user(by.user, loads_pc);
     let mut next = *core;
     set_block_base(&mut next, by.write_back, by.register, end);
-    take_all(&mut next, bus, user, by.list, 0, a);
+    take_listed(&mut next, bus, user, by.list, n, a);
     if !loads_pc {
         *core = next;
         return Outcome::Ran;
@@ -332,7 +372,7 @@ pub fn block_moved(
     let a = aligned(block_start(by.pre, by.up, b, n), Width::Word);
     let end = block_end(by.up, b, n);
     if load {
-        block_loaded(core, bus, thumb, by, a, end)
+        block_loaded(core, bus, thumb, by, n, a, end)
     } else {
         block_stored(core, bus, by, a, end)
     }
