@@ -7,7 +7,6 @@ use Rattle.arm7_model.specs.declared.state.ArmState.{ArmState}
 use Rattle.arm7_model.specs.Accesses.{next_word}
 use Rattle.arm7_model.specs.Blocks.{lists, with_listed}
 use Rattle.arm7_bus.specs.Buses.{after_read}
-use Rattle.arm7_bus.specs.Lookups.{HasFrom}
 use Rattle.arm7_bus.specs.Pieces.{IsPiece}
 use Rattle.arm7_bus.specs.States.{State, bank_has}
 use Rattle.arm7_transfers.specs.BlockAccesses.{drawn, loads_of, taken}

@@ -1,4 +1,4 @@
-use Rattle.std.proofs.Common.{arith, rules}
+use Rattle.std.proofs.Common.{arith}
 use Rattle.arm7_transfers.proofs.DrawnLemmas.{room_left, room_skip}
 use Rattle.arm7_transfers.proofs.block.+take_words.Goals as goal
 
