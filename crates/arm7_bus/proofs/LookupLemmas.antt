@@ -1,5 +1,5 @@
 -- A bank that has an access, by its place; and what it protects, where the banks share no address.
-use Rattle.std.proofs.Common.{◌≡◌, ℕ, zero, suc, ◌+◌, ◌<◌, ◌≤◌, Bool, true, false, ◌||◌, List, [], ◌∷◌, ◌++◌, length, get_or, map, take, drop, Option, Some, None, refl, sym, ap, ◌∙◌, subst, arith}
+use Rattle.std.proofs.Common.{◌≡◌, ℕ, zero, suc, ◌+◌, ◌<◌, ◌≤◌, Bool, true, false, ◌||◌, List, [], ◌∷◌, ◌++◌, length, get_or, map, take, drop, Option, Some, None, refl, sym, ap, ◌∙◌, subst, arith, add-one}
 use Rattle.std.specs.Prelude.{◌&&◌, if◌then◌else◌}
 use Rattle.std.proofs.lemmas.List.{append-nil, length-map, take_all}
 use Rattle.std.proofs.Math.Seq.{drop-length}
@@ -26,6 +26,21 @@ bank_at bs i a n x lt e h = record {
   within = lt;
   access = λ b f. ap (λ (c : Bank). has_access c.range.base c.range.size a n) (f ∙ same_at bs i b x lt ∙ sym e) ∙ h;
 }
+
+-- the bank at the first place, and at a later one
+pub at_first : (b : Bank) (bs : List Bank) (a n : ℕ) → has_access b.range.base b.range.size a n ≡ true → IsBankAt (b ∷ bs) 0 a n
+at_first b bs a n h = record {
+  within = omega arith;
+  access = λ x e. ap (λ (c : Bank). has_access c.range.base c.range.size a n) e ∙ h;
+}
+
+pub at_later : (b : Bank) (bs : List Bank) (i j a n : ℕ) → IsBankAt bs i a n → j ≡ i + 1 → IsBankAt (b ∷ bs) j a n
+at_later b bs i j a n h e = subst (λ (k : ℕ). IsBankAt (b ∷ bs) k a n) (sym (e ∙ add-one i)) later where
+  later : IsBankAt (b ∷ bs) (suc i) a n
+  later = record {
+    within = let w = h.within in omega arith;
+    access = λ x f. h.access x f;
+  }
 
 any_there : (bs : List Bank) (i a n : ℕ) → IsBankAt bs i a n → (b : Bank) → bank_has bs a n ≡ true
 any_there bs i a n h b =

@@ -8,7 +8,8 @@ ghost use Rattle.arm7_bus.specs.Pieces.{IsPiece};
 ghost use Rattle.arm7_bus.specs.Places.{place_of};
 ghost use Rattle.arm7_bus.specs.Seats.{lines_up, seats_by};
 ghost use Rattle.std.specs.Prelude.{◌↔◌, IsOk, OnOk, OnErr};
-ghost use Rattle.arm7_bus.specs.States.{IsStart, is_protected, peeked, store_answer};
+ghost use Rattle.std.specs.Prelude.{true, false};
+ghost use Rattle.arm7_bus.specs.States.{IsStart, bank_has, is_protected, peeked, store_answer};
 ghost use Rattle.arm7_bus.specs.Buses.{bus_state, IsStarted, has_whole, read_answer, after_read, write_fault, after_write, after_bank, after_claim, after_forget, after_protect, after_tick, after_detach};
 ghost use Rattle.std.specs.Prelude.{take, ℕ, ◌≤◌, IfOk, IfErr};
 ghost use Rattle.arm7_bus.specs.Buses.{IsNew, needs_page};
@@ -146,6 +147,24 @@ impl Bus {
         ensures { result ≡ is_protected (bus_state base size state touched self.now).contents.banks a (bytes_in w) }
     {
         self.memory.is_protected(a, w.bytes())
+    }
+
+    /// Whether the bank that was used last has these bytes; where it hasn't, another may have them.
+    #[inline(always)]
+    pub fn last_has(&self, a: u32, n: u32) -> bool
+        ensures { result ≡ true → bank_has (bus_state base size state touched self.now).contents.banks a n ≡ true }
+    {
+        self.memory.last_has(a, n)
+    }
+
+    /// Whether the bank that was used last has these bytes and isn't protected.
+    #[inline(always)]
+    pub fn last_takes(&self, a: u32, n: u32) -> bool
+        requires { 1 ≤ n }
+        ensures has { result ≡ true → bank_has (bus_state base size state touched self.now).contents.banks a n ≡ true }
+        ensures free { result ≡ true → is_protected (bus_state base size state touched self.now).contents.banks a n ≡ false }
+    {
+        self.memory.last_takes(a, n)
     }
 
     /// Whether the page of an address is used.

@@ -82,8 +82,8 @@ fn joined(a: Lines, b: Lines) -> Lines
     ensures fiq { result.fiq ≡ (a.fiq || b.fiq) }
 {
     Lines {
-        irq: a.irq || b.irq,
-        fiq: a.fiq || b.fiq,
+        irq: a.irq | b.irq,
+        fiq: a.fiq | b.fiq,
     }
 }
 

@@ -79,6 +79,7 @@ impl Frames {
     }
 
     /// The bytes of an access, as a number.
+    #[inline(always)]
     pub fn read(&self, at: u32, width: Width) -> u32
         requires aligned { at % bytes_in width ≡ 0 }
         requires room { at + bytes_in width ≤ length self.now }
@@ -88,6 +89,7 @@ impl Frames {
     }
 
     /// Sets the bytes of an access to the low bytes of a value.
+    #[inline(always)]
     #[tactic(auto, using(crate::proofs::FrameLemmas::access_fits, crate::proofs::FrameLemmas::write_made))]
     pub fn write(&mut self, at: u32, width: Width, v: u32)
         requires aligned { at % bytes_in width ≡ 0 }
@@ -126,6 +128,7 @@ fn rest_of(bytes: &[u8], _left: usize, at: usize) -> &[u8]
 }
 
 /// The bytes of an access, as a number, where `_left` zeros follow the bytes.
+#[inline(always)]
 #[tactic(auto, using(crate::proofs::FrameLemmas::number_made, crate::proofs::FrameLemmas::number_byte, crate::proofs::FrameLemmas::number_left))]
 fn number_at(bytes: &[u8], _left: usize, at: usize, width: Width) -> u32
     requires whole { length bytes.now % 4096 ≡ 0 }
@@ -143,6 +146,7 @@ fn number_at(bytes: &[u8], _left: usize, at: usize, width: Width) -> u32
 }
 
 /// Sets the bytes of an access to the low bytes of a value.
+#[inline(always)]
 fn put(bytes: &mut [u8], at: usize, width: Width, v: u32)
     requires { at + bytes_in width ≤ length bytes.old }
     ensures { bytes.new ≡ written bytes.old at (bytes_of v (bytes_in width)) }
@@ -156,6 +160,7 @@ fn put(bytes: &mut [u8], at: usize, width: Width, v: u32)
 
 /// Makes the zeros up to the end of the frame of a place, where they aren't made yet, of the `left` ones that follow the
 /// bytes; how many are left.
+#[inline(always)]
 fn zeros_to(bytes: &mut Vec<u8>, left: usize, at: usize) -> usize
     requires frames { AreFrames (vec_len bytes.old) (vec_capacity bytes.old) left }
     requires within { at < vec_len bytes.old + left }

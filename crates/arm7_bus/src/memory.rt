@@ -69,10 +69,11 @@ fn bank_has_access(banks: &[Bank], a: u64, n: u32) -> bool
 
 /// The place of the first bank that has the whole access.
 #[inline(never)]
+#[tactic(auto, using(crate::proofs::LookupLemmas::at_first, crate::proofs::LookupLemmas::at_later))]
 fn place_of_bank(banks: &[Bank], a: u64, n: u32) -> Option<usize>
     requires { a ≤ 2 ^ 33 }
     ensures found { is_some result ≡ list_any (λ b. has_access b.range.base b.range.size a n) banks.now }
-    ensures within { IfSome result (λ i. i < length banks.now) }
+    ensures at { IfSome result (λ i. IsBankAt banks.now i a n) }
 {
     let [first, rest @ ..] = banks else {
         return None;
@@ -162,6 +163,7 @@ impl Memory {
     ghost use Rattle.arm7_bus.specs.States.{contents_of, noted, IsStart, bank_has, is_protected, store_fault, after_store, store_answer, store_leaves, peeked};
 
     /// Whether the bank that was used last has the whole access.
+    #[inline(always)]
     fn is_last(&self, a: u32, n: u32) -> bool
         ensures { result ≡ true → IsBankAt self.now.banks.items self.now.last a n }
     {
@@ -181,10 +183,11 @@ impl Memory {
         bank_has_access(&self.banks, u64::from(a), n)
     }
 
-    /// The same, by a search that begins with the bank that was used last.
+    /// The same, by a search that begins with the bank that was used last. The bank that has the access becomes the last one.
     #[inline(always)]
     pub fn finds(&mut self, a: u32, n: u32) -> bool
         ensures found { result ≡ bank_has (contents_of self.old).banks a n }
+        ensures at { result ≡ true → IsBankAt self.new.banks.items self.new.last a n }
         ensures same { contents_of self.new ≡ contents_of self.old }
         ensures stores { self.new.stores ≡ self.old.stores }
     {
@@ -218,7 +221,39 @@ impl Memory {
         false
     }
 
+    /// Whether the bank that was used last, which has the access, is protected.
+    #[inline(always)]
+    fn last_protects(&self, _a: u32, _n: u32) -> bool
+        requires found { IsBankAt self.now.banks.items self.now.last _a _n }
+        requires some { 1 ≤ _n }
+        ensures { result ≡ is_protected (contents_of self.now).banks _a _n }
+    {
+        self.banks[self.last].read_only
+    }
+
+    /// Whether the bank that was used last has these bytes; where it hasn't, another may have them.
+    #[inline(always)]
+    pub fn last_has(&self, a: u32, n: u32) -> bool
+        ensures { result ≡ true → bank_has (contents_of self.now).banks a n ≡ true }
+    {
+        self.is_last(a, n)
+    }
+
+    /// Whether the bank that was used last has these bytes and isn't protected.
+    #[inline(always)]
+    pub fn last_takes(&self, a: u32, n: u32) -> bool
+        requires { 1 ≤ n }
+        ensures has { result ≡ true → bank_has (contents_of self.now).banks a n ≡ true }
+        ensures free { result ≡ true → is_protected (contents_of self.now).banks a n ≡ false }
+    {
+        if !self.is_last(a, n) {
+            return false;
+        }
+        !self.last_protects(a, n)
+    }
+
     /// The bytes of an access, as a number.
+    #[inline(always)]
     pub fn read(&self, a: u32, width: Width) -> u32
         requires started { length (contents_of self.now).used ≡ 1048576 }
         requires aligned { a % bytes_in width ≡ 0 }
@@ -262,15 +297,17 @@ impl Memory {
         self.pages.left()
     }
 
-    /// Makes a store that lies in a bank, and notes it.
+    /// Makes a store that lies in the bank that was used last, and notes it.
+    #[inline(always)]
     pub fn store(&mut self, a: u32, width: Width, v: u32) -> Result<(), BusFault>
+        requires found { IsBankAt self.old.banks.items self.old.last a (bytes_in width) }
         requires started { length (contents_of self.old).used ≡ 1048576 }
         requires aligned { a % bytes_in width ≡ 0 }
         requires few { self.old.stores.count < 16 }
         ensures answer { result ≡ store_answer (store_fault (contents_of self.old) a (bytes_in width)) }
         ensures after { contents_of self.new ≡ store_leaves (store_fault (contents_of self.old) a (bytes_in width)) (contents_of self.old) (after_store (contents_of self.old) a width v) }
     {
-        if self.is_protected(a, width.bytes()) {
+        if self.last_protects(a, width.bytes()) {
             return Err(BusFault::ReadOnly);
         }
         if !self.pages.write(a, width, v) {
@@ -392,6 +429,7 @@ impl Stores {
     }
 
     /// Adds the range of an access.
+    #[inline(always)]
     pub fn note(&mut self, a: u32, width: Width)
         requires aligned { a % bytes_in width ≡ 0 }
         requires few { self.old.count < 16 }
@@ -402,6 +440,7 @@ impl Stores {
     }
 }
 
+#[inline(always)]
 fn access_range(a: u32, width: Width) -> Range32
     requires { a % bytes_in width ≡ 0 }
     ensures { (result.base ≡ a) × (result.size ≡ bytes_in width) }

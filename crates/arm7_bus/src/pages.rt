@@ -33,6 +33,7 @@ impl Pages {
     ghost use Rattle.arm7_bus.specs.States.{claimed};
 
     /// The bytes of an access, as a number.
+    #[inline(always)]
     pub fn read(&self, a: u32, width: Width) -> u32
         requires started { length self.now.table.items ≡ 1048576 }
         requires aligned { a % bytes_in width ≡ 0 }
@@ -45,6 +46,7 @@ impl Pages {
     }
 
     /// Sets the bytes of an access in a page that has this frame.
+    #[inline(always)]
     fn put(&mut self, frame: u16, a: u32, width: Width, v: u32)
         requires aligned { a % bytes_in width ≡ 0 }
         requires frame { frame_of self.old.table.items (a / 4096) ≡ Some frame }
@@ -106,6 +108,7 @@ impl Pages {
         self.room - self.used
     }
 
+    #[inline(never)]
     fn put_fresh(&mut self, a: u32, width: Width, v: u32) -> bool
         requires started { length self.old.table.items ≡ 1048576 }
         requires aligned { a % bytes_in width ≡ 0 }
@@ -126,6 +129,7 @@ impl Pages {
     }
 
     /// Sets the bytes of an access, for which its page takes a frame where it has none; false where it can't.
+    #[inline(always)]
     pub fn write(&mut self, a: u32, width: Width, v: u32) -> bool
         requires started { length self.old.table.items ≡ 1048576 }
         requires aligned { a % bytes_in width ≡ 0 }

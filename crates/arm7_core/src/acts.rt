@@ -14,6 +14,7 @@ use arm7_registers::{
 use sdt_word::rotate;
 
 /// Whether an instruction touches registers alone.
+#[inline(always)]
 pub fn is_on_registers(i: &ArmInstr) -> bool
     ensures { result ≡ is_on_registers i.now }
 {
@@ -39,6 +40,7 @@ pub fn is_on_registers(i: &ArmInstr) -> bool
 }
 
 /// Does what the instruction does to registers; nothing, where it touches more.
+#[inline(always)]
 pub fn act(state: &mut ArmState, i: &ArmInstr)
     requires { FitsRow (arm_row i.now) (arm_fields i.now) }
     ensures { state.new ≡ acted i.now state.old }

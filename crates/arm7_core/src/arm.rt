@@ -16,6 +16,7 @@ use sdt_outside::Device;
 use sdt_word::Width;
 
 /// Does what the instruction of a word does; a word that reads as none is unpredictable.
+#[inline(always)]
 fn execute(core: &mut ArmState, bus: &mut Bus, word: u32) -> Outcome
     requires ready { IsReady (state_of base size state touched bus.old) }
     requires quiet { (state_of base size state touched bus.old).contents.stores ≡ [] }

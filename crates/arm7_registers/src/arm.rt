@@ -20,6 +20,7 @@ use sdt_word::{Condition, rotate};
 
 /// The condition of an instruction.
 #[tactic(auto, unfolding(arm7_model::specs::ArmStep::arm_condition))]
+#[inline(always)]
 pub fn arm_condition(i: &ArmInstr) -> Condition
     ensures { result ≡ arm_condition i.now }
 {
@@ -45,6 +46,7 @@ pub fn arm_condition(i: &ArmInstr) -> Condition
 }
 
 /// Whether a data-processing instruction would return by an SPSR that is none.
+#[inline(always)]
 #[tactic(auto, unfolding(arm7_model::specs::ArmStep::bad_return))]
 fn bad_return(operation: Operation, set_flags: bool, rd: u8, state: &ArmState) -> bool
     ensures { result ≡ bad_return operation set_flags rd state.now }
@@ -140,6 +142,7 @@ fn bad_return_or_base(write_back: bool, returns: bool, state: &ArmState) -> bool
 
 /// Whether an instruction is unpredictable in a state with pc at the next instruction.
 #[tactic(auto, unfolding(arm7_model::specs::ArmStep::arm_unpredictable))]
+#[inline(always)]
 pub fn arm_unpredictable(i: &ArmInstr, state: &ArmState) -> bool
     requires { FitsRow (arm_row i.now) (arm_fields i.now) }
     ensures { result ≡ arm_unpredictable i.now state.now }

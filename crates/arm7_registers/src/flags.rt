@@ -46,9 +46,22 @@ pub fn with_flags(status: u32, v: u32, carry: bool, overflow: bool) -> u32
         + status % 0x1000_0000
 }
 
-/// Whether a condition holds of CPSR's flags.
+/// Whether a condition holds of CPSR's flags. Most instructions have the one that always does.
+#[inline(always)]
 #[tactic(auto, unfolding(arm7_model::specs::Arithmetic::passes))]
 pub fn passes(condition: Condition, status: u32) -> bool
+    ensures { result ≡ passes condition status }
+{
+    match condition {
+        Condition::Al => true,
+        _ => flags_pass(condition, status),
+    }
+}
+
+/// Whether the flags are those of a condition.
+#[inline(never)]
+#[tactic(auto, unfolding(arm7_model::specs::Arithmetic::passes))]
+fn flags_pass(condition: Condition, status: u32) -> bool
     ensures { result ≡ passes condition status }
 {
     match condition {

@@ -1,17 +1,16 @@
 -- One access: what the bus answers to it is what the machine asks before it is made.
-use Rattle.std.proofs.Common.{◌≡◌, ℕ, ◌+◌, ◌-◌, ◌%◌, ◌<◌, ◌≤◌, ◌==◌, ◌||◌, Bool, true, false, not, List, [], ◌∷◌, Option, Some, None, is_some, Result, Ok, Err, cond, refl, sym, ap, ◌∙◌, subst, arith}
+use Rattle.std.proofs.Common.{◌≡◌, ℕ, ◌+◌, ◌-◌, ◌%◌, ◌==◌, Bool, true, false, List, [], ◌∷◌, Option, Some, None, is_some, Result, Ok, Err, cond, refl, sym, ap, ◌∙◌, subst, arith}
 use Rattle.std.proofs.lemmas.Bool.Decides.{nat_tests}
-use Rattle.std.specs.Prelude.{◌&&◌, nat_lt, option_map, OnErr}
+use Rattle.std.specs.Prelude.{nat_lt, option_map, OnErr}
 use Rattle.sdt_word.specs.declared.codes.Width.{Width}
 use Rattle.sdt_word.specs.Codes.{bytes_in}
 use Rattle.sdt_word.specs.Bytes.{load, number_of}
 use Rattle.arm7_bus.specs.declared.memory.BusFault.{BusFault}
 use Rattle.arm7_bus.specs.declared.memory.BusFault.TheVariants as fault
 use Rattle.arm7_bus.specs.Buses.{after_read, after_write, has_whole, read_answer, write_fault}
-use Rattle.arm7_bus.specs.Meets.{seats_have}
 use Rattle.arm7_bus.specs.Paging.{page_used_in, used_count}
-use Rattle.arm7_bus.specs.Seats.{Seat, changed_at, device_at, has_access, seat_answer, seat_read, seat_written}
-use Rattle.arm7_bus.specs.States.{State, Contents, after_store, bank_has, is_protected, noted, protected_at, store_answer, store_fault, store_leaves}
+use Rattle.arm7_bus.specs.Seats.{Seat, changed_at, device_at, has_access, seat_answer, seat_read}
+use Rattle.arm7_bus.specs.States.{State, Contents, after_store, bank_has, is_protected, store_answer, store_fault, store_leaves}
 use Rattle.arm7_bus.proofs.LookupLemmas.{bytes_decide, unprotected}
 use Rattle.arm7_transfers.specs.Frames.{IsJudged, lacks_frame, may_be_stored}
 use Rattle.arm7_transfers.specs.Ready.{IsReady}

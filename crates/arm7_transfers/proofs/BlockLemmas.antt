@@ -1,7 +1,6 @@
 -- Blocks of words: they are loaded and stored one after the other.
 use Rattle.std.proofs.Common.{◌≡◌, ℕ, suc, ◌+◌, ◌-◌, ◌/◌, ◌%◌, ◌^◌, ◌<◌, ◌≤◌, Bool, true, false, not, ◌||◌, List, [], ◌∷◌, ◌++◌, set, refl, sym, ap, ◌∙◌, arith, cond, append-nil, append_assoc, eqb-true}
 use Rattle.std.specs.Prelude.{◌&&◌, nat_lt}
-use Rattle.std.proofs.lemmas.Bool.{eqb-false}
 use Rattle.sdt_word.specs.Numbers.{bit, places_from, kept}
 use Rattle.sdt_word.specs.declared.codes.Width.TheVariants.{Word}
 use Rattle.arm7_model.specs.declared.state.ArmState.{ArmState}

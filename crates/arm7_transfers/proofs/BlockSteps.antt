@@ -1,29 +1,24 @@
 -- One register of a list after the other: what each step of the code does to what is left.
-use Rattle.std.proofs.Common.{◌≡◌, ℕ, zero, suc, ◌+◌, ◌-◌, ◌/◌, ◌%◌, ◌^◌, ◌<◌, ◌≤◌, Bool, true, false, not, List, [], ◌∷◌, length, Option, Some, None, refl, sym, ap, ◌∙◌, subst, arith, cond, length-append}
-use Rattle.std.specs.Prelude.{◌&&◌, is_some}
+use Rattle.std.proofs.Common.{◌≡◌, ℕ, zero, suc, ◌+◌, ◌-◌, ◌/◌, ◌%◌, ◌^◌, ◌<◌, ◌≤◌, Bool, true, false, not, List, [], ◌∷◌, length, Option, Some, None, refl, sym, ap, ◌∙◌, arith, cond}
+use Rattle.std.specs.Prelude.{◌&&◌}
 use Rattle.sdt_word.specs.Numbers.{bit, kept, places_from}
-use Rattle.sdt_word.specs.declared.codes.Width.{Width}
 use Rattle.sdt_word.specs.declared.codes.Width.TheVariants.{Word}
-use Rattle.sdt_word.specs.Codes.{bytes_in}
 use Rattle.arm7_model.specs.declared.state.ArmState.{ArmState}
 use Rattle.arm7_model.specs.Accesses.{next_word}
-use Rattle.arm7_model.specs.Blocks.{all_there, all_may_store, lists, listed_at, with_listed}
-use Rattle.arm7_bus.specs.declared.memory.BusFault.{BusFault}
-use Rattle.arm7_bus.specs.Buses.{after_read, after_write, has_whole, needs_page}
+use Rattle.arm7_model.specs.Blocks.{all_there, all_may_store, lists, listed_at}
+use Rattle.arm7_bus.specs.Buses.{after_write, has_whole, needs_page}
 use Rattle.arm7_bus.specs.Meets.{lesser_of}
 use Rattle.arm7_bus.specs.Paging.{used_count, page_used_in}
-use Rattle.arm7_bus.specs.Seats.{device_at, changed_at, seat_written}
-use Rattle.arm7_bus.specs.States.{State, Contents, bank_has, store_fault, store_leaves, after_store, noted}
-use Rattle.arm7_transfers.specs.BlockAccesses.{loads_of, stores_of, taken, words_in, is_page_of, pages_needed}
+use Rattle.arm7_bus.specs.States.{State}
+use Rattle.arm7_transfers.specs.BlockAccesses.{stores_of, words_in, is_page_of, pages_needed}
 use Rattle.arm7_transfers.specs.Boards.{board_of}
 use Rattle.arm7_transfers.specs.Frames.{Fits, Misses, may_be_stored, least_unused, used_with}
 use Rattle.arm7_transfers.specs.Ready.{IsReady}
-use Rattle.arm7_transfers.specs.Served.{value_at, served}
+use Rattle.arm7_transfers.specs.Served.{served}
 use Rattle.arm7_transfers.proofs.BoardLemmas.{there-whole, may-whole}
 use Rattle.arm7_transfers.proofs.BlockLemmas.{places_here}
 use Rattle.arm7_transfers.proofs.PageLemmas.{pages-needed}
 use Rattle.arm7_transfers.proofs.ReadyLemmas.{set-used}
-use Rattle.arm7_model.proofs.ValidThumb.{never as false-true}
 
 abbrev pub left_of : ℕ → ℕ → List ℕ
 left_of k list = places_from k (16 - k) list

@@ -3,6 +3,8 @@ pub mod ReadyLemmas
 pub mod DoneLemmas
 pub mod AccessLemmas
 pub mod StoreLemmas
+pub mod SpanLemmas
+pub mod DrawnLemmas
 pub mod StoreParts
 pub mod SingleLemmas
 pub mod BlockLemmas

@@ -1,5 +1,5 @@
 -- What accesses and time leave as it is: the board, and that a bus is ready.
-use Rattle.std.proofs.Common.{◌≡◌, ℕ, zero, suc, ◌+◌, ◌/◌, ◌%◌, ◌<◌, ◌≤◌, Bool, true, false, ◌||◌, List, [], ◌∷◌, length, get_or, set, map, Some, None, is_some, refl, sym, ap, ◌∙◌, subst, arith, cond}
+use Rattle.std.proofs.Common.{◌≡◌, ℕ, zero, suc, ◌+◌, ◌/◌, ◌%◌, ◌≤◌, Bool, true, false, ◌||◌, List, [], ◌∷◌, length, get_or, set, map, Some, None, is_some, refl, sym, ap, ◌∙◌, subst, arith, cond}
 use Rattle.std.specs.Prelude.{nat_lt}
 use Rattle.std.proofs.Math.Path.{fun_ext}
 use Rattle.std.proofs.lemmas.List.{length-set}
@@ -18,7 +18,6 @@ use Rattle.arm7_bus.specs.States.{State, Contents, bank_has, is_protected, prote
 use Rattle.arm7_bus.specs.WholeWords.{AreWholeBanks, AreWholeSeats}
 use Rattle.arm7_transfers.specs.Boards.{board_of}
 use Rattle.arm7_transfers.specs.Ready.{IsReady, IsLaidOut}
-use Rattle.arm7_bus.proofs.ClaimLemmas.{count_fresh as set-fresh}
 
 -- ---- devices that change keep their places
 

@@ -1,5 +1,6 @@
 -- The accesses of a block of words, in order: a word for each register of a list, from an address on. This project's.
 use Rattle.std.specs.Prelude.{ℕ, ◌+◌, ◌/◌, ◌%◌, ◌^◌, ◌==◌, Bool, false, ◌&&◌, not, if◌then◌else◌, List, [], ◌∷◌, Option, Some, None}
+use Rattle.sdt_word.specs.Bytes.{word_in}
 use Rattle.sdt_word.specs.declared.codes.Width.TheVariants.{Word}
 use Rattle.arm7_model.specs.declared.state.ArmState.{ArmState}
 use Rattle.arm7_model.specs.Accesses.{Access, Load, Store, next_word}
@@ -21,6 +22,11 @@ stores_of user core (k ∷ ks) a = Store a Word (listed_at user core k % 256 ^ 4
 abbrev pub taken : Bool → List ℕ → ℕ → ArmState → State → ArmState
 taken user [] a core s = core
 taken user (k ∷ ks) a core s = taken user ks (next_word a) (with_listed user core k (value_at s a Word)) (after_read s a Word)
+
+-- the same from the bytes of a run of memory, from a place on
+abbrev pub drawn : Bool → List ℕ → ℕ → ArmState → List ℕ → ArmState
+drawn user [] at core bytes = core
+drawn user (k ∷ ks) at core bytes = drawn user ks (at + 4) (with_listed user core k (word_in bytes at)) bytes
 
 -- the addresses of the words that lie in banks
 abbrev pub words_in : List Bank → List ℕ → ℕ → List ℕ

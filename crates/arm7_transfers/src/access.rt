@@ -52,6 +52,7 @@ pub fn fetch(bus: &mut Bus, a: u32, width: Width) -> Option<u32>
 }
 
 /// Writes the low bytes of a value where a store may be made, as far as banks, devices, protection and frames go.
+#[inline(always)]
 pub fn store(bus: &mut Bus, a: u32, width: Width, v: u32) -> Result<(), BusFault>
     requires ready { IsReady (state_of base size state touched bus.old) }
     requires aligned { a % bytes_in width ≡ 0 }
@@ -65,6 +66,7 @@ pub fn store(bus: &mut Bus, a: u32, width: Width, v: u32) -> Result<(), BusFault
 }
 
 /// Reads an access; 0 where it is absent.
+#[inline(always)]
 pub fn read(bus: &mut Bus, a: u32, width: Width) -> u32
     requires ready { IsReady (state_of base size state touched bus.old) }
     requires aligned { a % bytes_in width ≡ 0 }
@@ -79,6 +81,7 @@ pub fn read(bus: &mut Bus, a: u32, width: Width) -> u32
 }
 
 /// Writes the low bytes of a value.
+#[inline(always)]
 pub fn write(bus: &mut Bus, a: u32, width: Width, v: u32)
     requires ready { IsReady (state_of base size state touched bus.old) }
     requires aligned { a % bytes_in width ≡ 0 }
@@ -89,6 +92,7 @@ pub fn write(bus: &mut Bus, a: u32, width: Width, v: u32)
     let _judged = bus.write(a, width, low_bytes(v, width));
 }
 
+#[inline(always)]
 fn low_bytes(v: u32, width: Width) -> u32
     ensures { result ≡ v % 256 ^ bytes_in width }
 {

@@ -1,12 +1,12 @@
 //! Loads and stores of several registers.
 
-ghost use Rattle.std.specs.Prelude.{◌≡◌, ℕ, ◌<◌, ◌≤◌, ◌+◌, ◌-◌, ◌%◌, ◌^◌, ◌==◌, ◌&&◌, not, [], length, Some, MatchOption};
+ghost use Rattle.std.specs.Prelude.{◌≡◌, ℕ, ◌<◌, ◌≤◌, ◌+◌, ◌-◌, ◌*◌, ◌%◌, ◌^◌, ◌==◌, ◌&&◌, not, [], length, Some, MatchOption};
 ghost use Rattle.sdt_word.specs.Numbers.{places_from, registers};
 ghost use Rattle.arm7_model.specs.Blocks.{all_may_store, all_there, block_loaded, block_moved, block_stored, lists};
 ghost use Rattle.arm7_bus.specs.Buses.{needs_page};
 ghost use Rattle.arm7_bus.specs.Meets.{lesser_of};
 ghost use Rattle.arm7_bus.specs.Paging.{used_count};
-ghost use Rattle.arm7_transfers.specs.BlockAccesses.{is_page_of, loads_of, pages_needed, stores_of, taken, words_in};
+ghost use Rattle.arm7_transfers.specs.BlockAccesses.{drawn, is_page_of, loads_of, pages_needed, stores_of, taken, words_in};
 ghost use Rattle.arm7_transfers.specs.Boards.{board_of};
 ghost use Rattle.arm7_transfers.specs.Done.{IsDone};
 ghost use Rattle.arm7_transfers.specs.Frames.{Fits, Misses, least_unused, used_with};
@@ -23,7 +23,7 @@ use arm7_registers::{
     set_listed, set_loaded_pc,
 };
 use sdt_outside::Device;
-use sdt_word::Width;
+use sdt_word::{Width, field, word_at};
 
 /// A block: whether the base moves before each word, whether it moves up, whether the list names user mode's
 /// registers or returns, whether the moved base is written back, the base's register, and the list, a bit for
@@ -42,6 +42,7 @@ pub struct Block {
 // address `a` on.
 
 /// How many registers there are.
+#[tactic(auto, using(crate::proofs::SpanLemmas::one_counted, crate::proofs::SpanLemmas::bit_few))]
 fn count(list: u32, k: u8) -> u32
     requires { k ≤ 16 }
     ensures value { result ≡ length (places_from k (16 - k) list) }
@@ -50,10 +51,7 @@ fn count(list: u32, k: u8) -> u32
     if k == 16 {
         return 0;
     }
-    if !lists(list, k) {
-        return count(list, k + 1);
-    }
-    1 + count(list, k + 1)
+    field(list, u32::from(k), 1) + count(list, k + 1)
 }
 
 /// Whether each word is there.
@@ -94,6 +92,34 @@ fn all_may_store(bus: &Bus, list: u32, k: u8, a: u32) -> bool
     all_may_store(bus, list, k + 1, next_word(a))
 }
 
+/// Whether each word of a list is there. Mostly the bank that was used last has them all.
+fn are_there(bus: &Bus, list: u32, a: u32) -> bool
+    requires ready { IsReady (state_of base size state touched bus.now) }
+    requires aligned { a % 4 ≡ 0 }
+    ensures { result ≡ all_there (board_of (state_of base size state touched bus.now)) (registers 16 list) a }
+{
+    if a <= 0xFFFF_FFC0 {
+        if bus.last_has(a, 64) {
+            return true;
+        }
+    }
+    all_there(bus, list, 0, a)
+}
+
+/// Whether each word of a list may be stored. Mostly the bank that was used last takes them all.
+fn are_storable(bus: &Bus, list: u32, a: u32) -> bool
+    requires ready { IsReady (state_of base size state touched bus.now) }
+    requires aligned { a % 4 ≡ 0 }
+    ensures { result ≡ all_may_store (board_of (state_of base size state touched bus.now)) (registers 16 list) a }
+{
+    if a <= 0xFFFF_FFC0 {
+        if bus.last_takes(a, 64) {
+            return true;
+        }
+    }
+    all_may_store(bus, list, 0, a)
+}
+
 /// Loads each register.
 fn take_all(core: &mut ArmState, bus: &mut Bus, user: bool, list: u32, k: u8, a: u32)
     requires ready { IsReady (state_of base size state touched bus.old) }
@@ -113,6 +139,43 @@ fn take_all(core: &mut ArmState, bus: &mut Bus, user: bool, list: u32, k: u8, a:
     let v = read(bus, a, Width::Word);
     set_listed(core, user, k, v);
     take_all(core, bus, user, list, k + 1, next_word(a));
+}
+
+/// Loads each register from the words of some bytes, from a place on.
+#[tactic(auto, using(crate::proofs::DrawnLemmas::drawn_here, crate::proofs::DrawnLemmas::room_here, crate::proofs::DrawnLemmas::room_left))]
+fn take_words(core: &mut ArmState, bytes: &[u8], user: bool, list: u32, k: u8, at: usize)
+    requires within { k ≤ 16 }
+    requires room { at + 4 * length (places_from k (16 - k) list) ≤ length bytes.now }
+    ensures { core.new ≡ drawn user (places_from k (16 - k) list) at core.old bytes.now }
+{
+    if k == 16 {
+        return;
+    }
+    if !lists(list, k) {
+        take_words(core, bytes, user, list, k + 1, at);
+        return;
+    }
+    let v = word_at(bytes, at);
+    set_listed(core, user, k, v);
+    take_words(core, bytes, user, list, k + 1, at + 4);
+}
+
+/// Loads each register of a list: mostly from the bytes that one bank and one page have.
+fn take_listed(core: &mut ArmState, bus: &mut Bus, user: bool, list: u32, n: u32, a: u32)
+    requires ready { IsReady (state_of base size state touched bus.old) }
+    requires counted { n ≡ length (registers 16 list) }
+    requires few { n ≤ 16 }
+    requires aligned { a % 4 ≡ 0 }
+    ensures core { core.new ≡ taken user (registers 16 list) a core.old (state_of base size state touched bus.old) }
+    ensures served { state_of base size state touched bus.new ≡ served (state_of base size state touched bus.old) (loads_of (registers 16 list) a) }
+    ensures ready { IsReady (state_of base size state touched bus.new) }
+{
+    let bytes = bus.piece(a);
+    if bytes.len() >= 4 * n as usize {
+        take_words(core, bytes, user, list, 0, 0);
+        return;
+    }
+    take_all(core, bus, user, list, 0, a);
 }
 
 /// Stores each register.
@@ -228,7 +291,7 @@ fn block_stored(core: &mut ArmState, bus: &mut Bus, by: Block, a: u32, end: u32)
     ensures done { IsDone (λ u w. block_stored u by.user by.write_back (registers 16 by.list) a by.register end w) core.old (state_of base size state touched bus.old) result core.new (state_of base size state touched bus.new) }
     ensures ready { IsReady (state_of base size state touched bus.new) }
 {
-    if !all_may_store(bus, by.list, 0, a) {
+    if !are_storable(bus, by.list, a) {
         return Outcome::Aborted;
     }
     if let Some(address) = missing_frame(bus, by.list, a) {
@@ -258,23 +321,26 @@ fn block_loaded(
     bus: &mut Bus,
     thumb: bool,
     by: Block,
+    n: u32,
     a: u32,
     end: u32,
 ) -> Outcome
     requires ready { IsReady (state_of base size state touched bus.old) }
     requires from { by.register < 16 }
+    requires counted { n ≡ length (registers 16 by.list) }
+    requires few { n ≤ 16 }
     requires aligned { a % 4 ≡ 0 }
     ensures done { IsDone (λ u w. block_loaded u thumb by.user by.write_back (registers 16 by.list) a by.register end (lists by.list 15) w) core.old (state_of base size state touched bus.old) result core.new (state_of base size state touched bus.new) }
     ensures ready { IsReady (state_of base size state touched bus.new) }
 {
-    if !all_there(bus, by.list, 0, a) {
+    if !are_there(bus, by.list, a) {
         return Outcome::Aborted;
     }
     let loads_pc = lists(by.list, 15);
     let user = names_user(by.user, loads_pc);
     let mut next = *core;
     set_block_base(&mut next, by.write_back, by.register, end);
-    take_all(&mut next, bus, user, by.list, 0, a);
+    take_listed(&mut next, bus, user, by.list, n, a);
     if !loads_pc {
         *core = next;
         return Outcome::Ran;
@@ -306,7 +372,7 @@ pub fn block_moved(
     let a = aligned(block_start(by.pre, by.up, b, n), Width::Word);
     let end = block_end(by.up, b, n);
     if load {
-        block_loaded(core, bus, thumb, by, a, end)
+        block_loaded(core, bus, thumb, by, n, a, end)
     } else {
         block_stored(core, bus, by, a, end)
     }

@@ -2,7 +2,7 @@ use Rattle.std.proofs.Common.{◌∙◌, ap}
 use Rattle.arm7_model.specs.Arithmetic.{passes}
 use Rattle.sdt_word.specs.declared.codes.Condition.{Condition}
 use Rattle.arm7_core.proofs.ArmParts.{done_failed, done_bad, done_well}
-use Rattle.arm7_core.proofs.effect.do_arm.Goals as goal
+use Rattle.arm7_core.proofs.effect.performed.Goals as goal
 
 pub returns-then-not-passes-clause-done : goal.returns-then-not-passes-clause-done
 returns-then-not-passes-clause-done g c =
