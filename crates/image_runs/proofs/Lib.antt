@@ -1,0 +1,6 @@
+mod FileLemmas
+mod Needs
+mod LoadLemmas
+mod Opened
+mod Startup
+mod Starting

@@ -1,0 +1,78 @@
+-- How a run of an image starts: its first steps are the startup code's, which lead to the program's entry. This project's.
+use Rattle.std.specs.Prelude.{◌≡◌, ℕ, ◌+◌, ◌≤◌, Bool, true, false, if◌then◌else◌, List, [], ◌++◌, length, Option, Some}
+use Rattle.sdt_word.specs.Numbers.{flag}
+use Rattle.sdt_fault.specs.declared.answer.Stop.{Stop}
+use Rattle.sdt_fault.specs.declared.answer.Stop.TheVariants as stop
+use Rattle.sdt_outside.specs.Sinks.{Got}
+use Rattle.boot_code.specs.Boots.{BootSteps, Boots, ByteMap}
+use Rattle.byte_maps.specs.Maps.{map_of}
+use Rattle.link_model.specs.declared.images.Image.{Image}
+use Rattle.bin_image.specs.Files as file
+use Rattle.bin_image.specs.Maps.{AreApart}
+use Rattle.arm7_model.specs.declared.state.ArmState.{ArmState}
+use Rattle.arm7_model.specs.Outcomes.{Stepped}
+use Rattle.arm7_model.specs.Runs.{EachStep, accesses_of}
+use Rattle.arm7_bus.specs.declared.memory.Bank.{Bank}
+use Rattle.arm7_bus.specs.Seats.{Seat}
+use Rattle.arm7_bus.specs.States.{State, protected_at}
+use Rattle.arm7_bus.specs.WholeWords.{AreWholeBanks, AreWholeSeats}
+use Rattle.arm7_transfers.specs.Boards.{board_of, over}
+use Rattle.arm7_run.specs.Runs.{is_sink}
+use Rattle.run_laws.specs.Devices.{AreOffDevices, lines_for, touches_of}
+use Rattle.run_laws.specs.Steps.{AreMade}
+use Rattle.image_runs.specs.Images.{AreBytes, is_needed, needs_of, segments_of}
+
+-- ---- before
+
+-- the entry, with bit 0 set for Thumb
+abbrev pub entry_of : Image → ℕ
+entry_of i = i.entry + flag i.thumb
+
+-- the load regions, of which no two meet, reach the entry with memory as the view, of which each address lies in a load or
+-- an execution range
+pub record Reaches (i : Image) (out : List ℕ) (view : ByteMap) (written : ℕ → Bool) : Type 0 where
+  pub boots : Boots (map_of (segments_of i.loads)) view written i.start i.bound (entry_of i)
+  pub ranged : (x b : ℕ) → view x ≡ Some b → is_needed (needs_of i) x ≡ true
+  pub apart : AreApart (file.map_of i out).loads
+  pub bytes : AreBytes i.loads
+
+-- banks and devices are whole words, and what the startup code writes isn't read-only
+pub record Allow (banks : List Bank) (seats : List Seat) (written : ℕ → Bool) : Type 0 where
+  pub banks_whole : AreWholeBanks banks
+  pub seats_whole : AreWholeSeats seats
+  pub writable : (x : ℕ) → written x ≡ true → protected_at banks x ≡ false
+
+-- ---- the startup's steps
+
+-- from registers and a bus: no more than the bound, over the lines of the bus's own devices; they lead to the entry with
+-- memory as the view, each access lies in a load or an execution range, and none is a device's
+pub record AreStartup (i : Image) (view : ByteMap) (core : ArmState) (s : State) (steps : List Stepped) : Type 0 where
+  pub few : length steps ≤ i.bound
+  pub boot : BootSteps (length steps) (map_of (segments_of i.loads)) view (entry_of i) (board_of s) (over core s)
+      (lines_for (length steps) s.devices) steps
+  pub off : EachStep (AreOffDevices (board_of s)) (accesses_of steps)
+
+-- ---- the run
+
+-- how many steps were to be made: as many as were asked for or, where the sink failed, as were made
+abbrev pub budget : Stop → ℕ → ℕ → ℕ
+budget why most made = if is_sink why then made else most
+
+-- the run ended for no other reason than that no more steps were to be made
+abbrev pub IsCut : Stop → Type 0
+IsCut stop.Budget = Unit {0}
+IsCut stop.Sink = Unit {0}
+IsCut other = ⊥
+
+-- a run that ends at or before the entry: it was cut, nothing was printed, and no device was touched
+pub record IsShort (why : Stop) (before after : Option (List ℕ)) (seats left : List Seat) : Type 0 where
+  pub cut : IsCut why
+  pub unprinted : Got before after []
+  pub touches : touches_of left ≡ touches_of seats
+
+-- the startup's steps are the first of a longer run, and a run of no more steps is short
+pub record RunStarts (i : Image) (view : ByteMap) (why : Stop) (most made : ℕ) (core : ArmState) (s : State) (core' : ArmState)
+    (s' : State) (before after : Option (List ℕ)) (steps : List Stepped) : Type 0 where
+  pub startup : AreStartup i view core s steps
+  pub short : budget why most made ≤ length steps → IsShort why before after s.devices s'.devices
+  pub long : length steps ≤ budget why most made → (rest : List Stepped) × AreMade core s (steps ++ rest) core' s'
