@@ -1,7 +1,7 @@
 -- The files of a scatter image, read as the image of a run.
-use Rattle.std.proofs.Common.{◌≡◌, ℕ, ◌+◌, ◌^◌, ◌<◌, Bool, true, false, ◌||◌, List, [], ◌∷◌, ◌++◌, length, map, Option, Some, None, Result, Ok, Err, refl, sym, ap, ◌∙◌, subst, arith}
+use Rattle.std.proofs.Common.{◌≡◌, ℕ, ◌+◌, ◌^◌, ◌<◌, Bool, true, false, cond, ◌||◌, List, [], ◌∷◌, ◌++◌, length, map, Option, Some, None, Result, Ok, Err, refl, sym, ap, ◌∙◌, subst, arith}
 use Rattle.std.specs.Prelude.{◌==◌, codes, nat_lt, ◌&&◌}
-use Rattle.std.specs.List.{list_all, list_any, position, AllByRecursion, zip}
+use Rattle.std.specs.List.{list_all, list_any, position_or_len, AllByRecursion, zip}
 use Rattle.std.proofs.lemmas.Bool.Decides.{nat_tests}
 use Rattle.sdt_fault.specs.declared.refusal.Refusal.{Refusal}
 use Rattle.sdt_outside.specs.Files.{Files, content}
@@ -58,12 +58,24 @@ name-some name h = words-some name (go (nat_lt 0 (length name)) h)
     go true e = e
     go false e = absurd (let bad : false ≡ true = e in cc)
 
-all-named : (out : List ℕ) (ls : List LoadRegion) → has_zero out ≡ false → AllByRecursion IsLoad (map (map_load out) ls)
-    → unnamed (map (λ (l : MapLoad). l.file) (map (map_load out) ls)) ≡ None
-all-named out [] none valid = refl
-all-named out (l ∷ ls) none (valid, rest) =
+abbrev names_in : List ℕ → List LoadRegion → List (List ℕ)
+names_in out ls = map (λ (l : MapLoad). l.file) (map (map_load out) ls)
+
+all-some : (out : List ℕ) (ls : List LoadRegion) → has_zero out ≡ false → AllByRecursion IsLoad (map (map_load out) ls)
+    → position_or_len has_zero (names_in out ls) ≡ length (names_in out ls)
+all-some out [] none valid = refl
+all-some out (l ∷ ls) none (valid, rest) =
     let one : has_zero (load_name out l.name) ≡ false = any-append (λ b. b == 0) (out ++ codes ".") l.name (any-append (λ b. b == 0) out (codes ".") none refl) (name-some l.name valid.named) in
-    rw (one, all-named out ls none rest) refl
+    let more = all-some out ls none rest in
+    rw one (omega arith)
+
+not-below : (n k : ℕ) → n ≡ k → nat_lt n k ≡ false
+not-below n k e = grind (arith, nat_tests)
+
+all-named : (out : List ℕ) (ls : List LoadRegion) → has_zero out ≡ false → AllByRecursion IsLoad (map (map_load out) ls) → unnamed (names_in out ls) ≡ None
+all-named out ls none valid =
+    let n = position_or_len has_zero (names_in out ls) in
+    ap (λ (b : Bool). cond b (Some n) None) (not-below n (length (names_in out ls)) (all-some out ls none valid))
 
 -- ---- contents
 
