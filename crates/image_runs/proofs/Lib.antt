@@ -4,3 +4,4 @@ mod LoadLemmas
 mod Opened
 mod Startup
 mod Starting
+mod Commands

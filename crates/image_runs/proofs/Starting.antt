@@ -141,4 +141,10 @@ runs-start one once i out view written banks seats left most why before after fa
     let o = opened i written banks seats ran.begin ran.roomy allow ran.opening in
     let (steps, p) = startup o r run.core run.reset in
     let (text, ended) = run.runs in
-    (steps, starts one once o r run.core run.reset steps p most why run.made text run.core' run.end before after _ ended, ran.opening.devices, run.devices)
+    record {
+      ran = ran;
+      steps = steps;
+      starts = starts one once o r run.core run.reset steps p most why run.made text run.core' run.end before after _ ended;
+      devices = ran.opening.devices;
+      devices_left = run.devices;
+    }

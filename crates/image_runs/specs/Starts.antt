@@ -3,6 +3,9 @@ use Rattle.std.specs.Prelude.{◌≡◌, ℕ, ◌+◌, ◌≤◌, Bool, true, fa
 use Rattle.sdt_word.specs.Numbers.{flag}
 use Rattle.sdt_fault.specs.declared.answer.Stop.{Stop}
 use Rattle.sdt_fault.specs.declared.answer.Stop.TheVariants as stop
+use Rattle.sdt_fault.specs.declared.answer.Answer.{Answer}
+use Rattle.sdt_fault.specs.declared.answer.Answer.TheVariants as answer
+use Rattle.sdt_outside.specs.Counts.{Rose}
 use Rattle.sdt_outside.specs.Sinks.{Got}
 use Rattle.boot_code.specs.Boots.{BootSteps, Boots, ByteMap}
 use Rattle.byte_maps.specs.Maps.{map_of}
@@ -20,7 +23,10 @@ use Rattle.arm7_transfers.specs.Boards.{board_of, over}
 use Rattle.arm7_run.specs.Runs.{is_sink}
 use Rattle.run_laws.specs.Devices.{AreOffDevices, lines_for, touches_of}
 use Rattle.run_laws.specs.Steps.{AreMade}
-use Rattle.image_runs.specs.Images.{AreBytes, is_needed, needs_of, segments_of}
+use Rattle.tool_answers.specs.Outcomes.{Outside}
+use Rattle.tool_words.specs.declared.command.RunWords.{RunWords}
+use Rattle.tool_run.specs.Runs.{AreBanks, Ran}
+use Rattle.image_runs.specs.Images.{AreBytes, is_needed, needs_of, run_image, segments_of}
 
 -- ---- before
 
@@ -76,3 +82,23 @@ pub record RunStarts (i : Image) (view : ByteMap) (why : Stop) (most made : ℕ)
   pub startup : AreStartup i view core s steps
   pub short : budget why most made ≤ length steps → IsShort why before after s.devices s'.devices
   pub long : length steps ≤ budget why most made → (rest : List Stepped) × AreMade core s (steps ++ rest) core' s'
+
+-- an image was run from reset over banks that were opened for it, and its run starts so
+pub record HasStarted (i : Image) (view : ByteMap) (banks : List Bank) (most : ℕ) (why : Stop) (before after : Option (List ℕ)) (rose : Type 0)
+    (seats left : List Seat) : Type 0 where
+  pub ran : Ran banks (run_image i) most why before after rose seats left
+  pub steps : List Stepped
+  pub starts : RunStarts i view why most ran.is_run.made ran.is_run.core ran.begin ran.is_run.core' ran.is_run.end before after steps
+  pub devices : ran.begin.devices ≡ seats
+  pub devices_left : left ≡ ran.is_run.end.devices
+
+-- so it does for each answer of `run` that tells of a run, in banks that the words tell
+abbrev pub Started : Image → ByteMap → RunWords → Outside → List Seat → List Seat → Stop → Type 0
+Started i view w o seats left why =
+    (banks : List Bank) × AreBanks w banks × HasStarted i view banks w.steps why o.printed o.prints (Rose o.faults o.faults_now) seats left
+
+abbrev pub AnswerStarts : Image → ByteMap → RunWords → Outside → List Seat → List Seat → Answer → Type 0
+AnswerStarts i view w o seats left answer.Done = Started i view w o seats left stop.Exit
+AnswerStarts i view w o seats left (answer.Stopped why) = Started i view w o seats left why
+AnswerStarts i view w o seats left answer.SinkFault = Started i view w o seats left stop.Sink
+AnswerStarts i view w o seats left other = Unit {0}

@@ -1,6 +1,6 @@
 //! The laws. Their calls do nothing; their contracts are the laws.
 
-ghost use Rattle.image_runs.specs.Laws.{FilesAreRead, RunsStart};
+ghost use Rattle.image_runs.specs.Laws.{CommandsStart, FilesAreRead, RunsStart};
 
 use bin_image::{map_law, spelling_law};
 use run_laws::{bus_run_is_one, made_steps_are_one};
@@ -20,4 +20,12 @@ pub fn runs_start()
 {
     bus_run_is_one();
     made_steps_are_one();
+}
+
+/// So, where the image's files stand in a store, does each run that the command `run` makes by the map.
+pub fn commands_start()
+    ensures { CommandsStart }
+{
+    files_are_read();
+    runs_start();
 }

@@ -4,4 +4,4 @@
 
 mod laws;
 
-pub use crate::laws::{files_are_read, runs_start};
+pub use crate::laws::{commands_start, files_are_read, runs_start};
