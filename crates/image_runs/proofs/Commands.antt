@@ -1,5 +1,5 @@
 -- What the answers to `run` tell, where the files of an image stand in the store.
-use Rattle.std.proofs.Common.{◌≡◌, ℕ, Bool, List, Option, Some, Result, Ok, Err, refl, sym, ap, ◌∙◌, subst}
+use Rattle.std.proofs.Common.{◌≡◌, ℕ, Bool, List, Option, Some, Result, Ok, sym, ◌∙◌, subst}
 use Rattle.sdt_fault.specs.declared.answer.Answer.{Answer}
 use Rattle.sdt_fault.specs.declared.answer.Answer.TheVariants as answer
 use Rattle.sdt_fault.specs.declared.answer.Stop.{Stop}
@@ -10,11 +10,9 @@ use Rattle.arm7_bus.specs.declared.memory.Bank.{Bank}
 use Rattle.arm7_bus.specs.Seats.{Seat}
 use Rattle.boot_code.specs.Boots.{ByteMap}
 use Rattle.link_model.specs.declared.images.Image.{Image}
-use Rattle.bin_image.specs.Files.{map_name}
 use Rattle.run_opening.specs.declared.image.Image.{Image as RunImage}
 use Rattle.tool_answers.specs.Outcomes.{Outside}
 use Rattle.tool_words.specs.declared.command.RunImage.{RunImage as Named}
-use Rattle.tool_words.specs.declared.command.RunImage.TheVariants as image
 use Rattle.tool_words.specs.declared.command.RunWords.{RunWords}
 use Rattle.tool_run.specs.Images.{IsRead}
 use Rattle.tool_run.specs.Runs.{AreBanks, HasRun, Ran, RunSays}

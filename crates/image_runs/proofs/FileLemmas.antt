@@ -1,9 +1,8 @@
 -- The files of a scatter image, read as the image of a run.
-use Rattle.std.proofs.Common.{◌≡◌, ℕ, ◌+◌, ◌^◌, ◌<◌, Bool, true, false, cond, ◌||◌, List, [], ◌∷◌, ◌++◌, length, map, Option, Some, None, Result, Ok, Err, refl, sym, ap, ◌∙◌, subst, arith}
+use Rattle.std.proofs.Common.{◌≡◌, ℕ, Bool, true, false, cond, ◌||◌, List, [], ◌∷◌, ◌++◌, length, map, Some, None, Ok, refl, ap, ◌∙◌, subst, arith}
 use Rattle.std.specs.Prelude.{◌==◌, codes, nat_lt, ◌&&◌}
-use Rattle.std.specs.List.{list_all, list_any, position_or_len, AllByRecursion, zip}
+use Rattle.std.specs.List.{list_all, list_any, position_or_len, AllByRecursion}
 use Rattle.std.proofs.lemmas.Bool.Decides.{nat_tests}
-use Rattle.sdt_fault.specs.declared.refusal.Refusal.{Refusal}
 use Rattle.sdt_outside.specs.Files.{Files, content}
 use Rattle.chunk_file.specs.Reading.{◌>>=◌}
 use Rattle.link_model.specs.declared.images.Image.{Image}
@@ -11,20 +10,18 @@ use Rattle.link_model.specs.declared.images.ImageKind.{ImageKind}
 use Rattle.link_model.specs.declared.images.LoadRegion.{LoadRegion}
 use Rattle.link_model.specs.declared.placing.Region.{Region}
 use Rattle.bin_image.specs.declared.records.OutFile.{OutFile}
-use Rattle.bin_image.specs.declared.records.MapFile.{MapFile}
 use Rattle.bin_image.specs.declared.records.MapLoad.{MapLoad}
 use Rattle.bin_image.specs.Fields.{is_name, is_word}
 use Rattle.bin_image.specs.Files.{files_by, load_file, load_name, map_file, map_load, map_name, map_of, map_region}
 use Rattle.bin_image.specs.Maps.{IsLoad, IsValid, map_text}
 use Rattle.bin_image.specs.Reading as reading
 use Rattle.bin_image.specs.Reading.{MapLaw, SpellingLaw}
-use Rattle.run_opening.specs.declared.image.Image.{Image as RunImage}
 use Rattle.run_opening.specs.declared.image.Load.{Load}
 use Rattle.run_opening.specs.declared.image.Need.{Need}
 use Rattle.tool_answers.specs.Inputs.{and_others, before_others, found_or, inputs_of}
 use Rattle.tool_run.specs.Images as run
 use Rattle.tool_run.specs.Images.{all_named, files_in, front_of, has_zero, length_judged, lengths_judged, loaded_image, loads_of, map_image, mapped_image, named_by, unnamed}
-use Rattle.image_runs.specs.Images.{HasFiles, IsFiled, load_need, load_of, region_need, run_image}
+use Rattle.image_runs.specs.Images.{HasFiles, load_need, load_of, region_need, run_image}
 use Rattle.image_runs.specs.Laws.{FilesAreRead}
 
 abbrev bytes_in : List LoadRegion → List (List ℕ)

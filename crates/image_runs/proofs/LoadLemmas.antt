@@ -1,16 +1,15 @@
 -- Memory that load regions were put into, of which no two meet.
-use Rattle.std.proofs.Common.{◌≡◌, ℕ, ◌+◌, ◌-◌, ◌<◌, ◌≤◌, Bool, true, false, cond, List, [], ◌∷◌, ◌++◌, ◌||◌, length, map, Option, Some, None, refl, sym, ap, ◌∙◌, subst, arith, ◌⊎◌, inl, inr}
+use Rattle.std.proofs.Common.{◌≡◌, ℕ, ◌+◌, ◌-◌, ◌<◌, ◌≤◌, Bool, true, false, cond, List, [], ◌∷◌, ◌++◌, ◌||◌, length, map, Option, Some, None, refl, ◌∙◌, arith, ◌⊎◌, inl, inr}
 use Rattle.std.specs.Prelude.{slice_index}
-use Rattle.std.specs.List.{list_any, AllByRecursion}
+use Rattle.std.specs.List.{AllByRecursion}
 use Rattle.std.proofs.lemmas.Bool.Decides.{nat_tests}
 use Rattle.arm7_model.specs.Memory.{Bytes, store}
 use Rattle.arm7_model.proofs.MemoryLemmas.{below_or_not, bytes-store, store-above, store-below, store-in}
 use Rattle.arm7_bus.specs.Seats.{has_access}
 use Rattle.boot_code.specs.Boots.{covers}
 use Rattle.boot_code.proofs.ViewLemmas.{covers-true}
-use Rattle.byte_maps.specs.Maps.{Segment, map_of}
+use Rattle.byte_maps.specs.Maps.{map_of}
 use Rattle.link_model.specs.declared.images.LoadRegion.{LoadRegion}
-use Rattle.bin_image.specs.declared.records.MapLoad.{MapLoad}
 use Rattle.bin_image.specs.Files.{map_load}
 use Rattle.bin_image.specs.Maps.{AreApart, IsApart}
 use Rattle.run_opening.specs.declared.image.Need.{Need}

@@ -1,12 +1,12 @@
 -- A bus that was opened for an image: it is ready, and the startup code may run over it.
-use Rattle.std.proofs.Common.{◌≡◌, ◌≢◌, ℕ, ◌+◌, ◌<◌, ◌≤◌, Bool, true, false, ◌||◌, List, [], ◌∷◌, ◌++◌, length, map, Some, refl, sym, ap, ◌∙◌, subst, arith}
+use Rattle.std.proofs.Common.{◌≡◌, ℕ, ◌<◌, ◌≤◌, Bool, true, false, ◌||◌, List, map, refl, sym, ap, ◌∙◌, subst, arith}
 use Rattle.std.specs.Prelude.{◌&&◌}
 use Rattle.sdt_word.specs.Numbers.{bit, bits}
 use Rattle.arm7_model.specs.declared.state.ArmState.{ArmState}
 use Rattle.arm7_model.specs.Memory.{Bytes}
 use Rattle.arm7_model.specs.Registers.{IsValidState}
 use Rattle.arm7_bus.specs.declared.memory.Bank.{Bank}
-use Rattle.arm7_bus.specs.Meets.{IsNowhere, seats_have, seats_share}
+use Rattle.arm7_bus.specs.Meets.{seats_have, seats_share}
 use Rattle.arm7_bus.specs.Paging.{used_count}
 use Rattle.arm7_bus.specs.Seats.{Seat}
 use Rattle.arm7_bus.specs.States.{State, bank_has}
@@ -16,12 +16,12 @@ use Rattle.arm7_transfers.specs.Ready.{IsReady}
 use Rattle.boot_code.specs.Boots.{ByteMap, CanStart}
 use Rattle.byte_maps.specs.Maps.{map_of}
 use Rattle.link_model.specs.declared.images.Image.{Image}
-use Rattle.run_opening.specs.Banks.{AreUsed, IsRoomy, banks_share, frames_of, two_have}
+use Rattle.run_opening.specs.Banks.{AreUsed, IsRoomy, banks_share, frames_of}
 use Rattle.run_opening.specs.Openings.{IsOpening, loaded}
 use Rattle.image_runs.specs.Images.{is_needed, load_of, needs_of, region_need, run_image, segments_of}
 use Rattle.image_runs.specs.Starts.{Allow, Reaches}
 use Rattle.image_runs.proofs.LoadLemmas.{load-needed, loaded-at, loaded-bytes}
-use Rattle.image_runs.proofs.Needs.{needed-bank, needed-page, none-left, none-right, same-used}
+use Rattle.image_runs.proofs.Needs.{needed-bank, none-left, none-right, same-used}
 
 -- a bus that has room for the image, as its opening left it
 pub record IsOpened (i : Image) (written : ℕ → Bool) (s : State) : Type 0 where

@@ -1,5 +1,5 @@
 -- The startup's steps over an opened bus: no device is touched, nothing printed, and each store is in a used page.
-use Rattle.std.proofs.Common.{◌≡◌, ℕ, zero, suc, ◌+◌, ◌<◌, ◌≤◌, Bool, true, false, cond, List, [], ◌∷◌, ◌++◌, length, map, take, Some, refl, sym, ap, ◌∙◌, subst, arith, ◌⊎◌, inl, inr}
+use Rattle.std.proofs.Common.{◌≡◌, ℕ, zero, suc, ◌+◌, ◌<◌, ◌≤◌, Bool, true, false, cond, List, [], ◌∷◌, length, map, take, refl, sym, ap, ◌∙◌, subst, arith, inl, inr}
 use Rattle.sdt_word.specs.declared.codes.Width.{Width}
 use Rattle.sdt_word.specs.declared.codes.Width.TheVariants as width
 use Rattle.sdt_word.specs.Codes.{bytes_in}
@@ -11,7 +11,6 @@ use Rattle.arm7_model.specs.Memory.{Board}
 use Rattle.arm7_model.specs.Outcomes.{Stepped}
 use Rattle.arm7_model.specs.Registers.{State as Whole}
 use Rattle.arm7_model.specs.Runs.{AreSteps, EachStep, Input, accesses_of}
-use Rattle.arm7_bus.specs.declared.memory.Bank.{Bank}
 use Rattle.arm7_bus.specs.Buses.{after_tick}
 use Rattle.arm7_bus.specs.Paging.{page_used_in}
 use Rattle.arm7_bus.specs.States.{State, bank_has}

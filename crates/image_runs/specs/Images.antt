@@ -1,6 +1,6 @@
 -- What a run makes of a scatter image: the image that its files give, and which of its addresses are to be memory. This
 -- project's.
-use Rattle.std.specs.Prelude.{◌≡◌, ℕ, ◌+◌, ◌%◌, ◌^◌, ◌<◌, Bool, true, false, List, ◌++◌, length, map, slice_index, Some}
+use Rattle.std.specs.Prelude.{◌≡◌, ℕ, ◌+◌, ◌%◌, ◌^◌, ◌<◌, Bool, false, List, ◌++◌, length, map, slice_index, Some}
 use Rattle.std.specs.List.{list_any, AllByRecursion}
 use Rattle.sdt_outside.specs.Files.{Files, content}
 use Rattle.link_model.specs.declared.images.Image.{Image}

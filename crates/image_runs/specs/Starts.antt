@@ -1,5 +1,5 @@
 -- How a run of an image starts: its first steps are the startup code's, which lead to the program's entry. This project's.
-use Rattle.std.specs.Prelude.{◌≡◌, ℕ, ◌+◌, ◌≤◌, Bool, true, false, if◌then◌else◌, List, [], ◌++◌, length, Option, Some}
+use Rattle.std.specs.Prelude.{◌≡◌, ℕ, ◌+◌, ◌≤◌, Bool, true, false, if◌then◌else◌, List, [], ◌++◌, length, take, Option, Some}
 use Rattle.sdt_word.specs.Numbers.{flag}
 use Rattle.sdt_fault.specs.declared.answer.Stop.{Stop}
 use Rattle.sdt_fault.specs.declared.answer.Stop.TheVariants as stop
@@ -22,7 +22,7 @@ use Rattle.arm7_bus.specs.WholeWords.{AreWholeBanks, AreWholeSeats}
 use Rattle.arm7_transfers.specs.Boards.{board_of, over}
 use Rattle.arm7_run.specs.Runs.{is_sink}
 use Rattle.run_laws.specs.Devices.{AreOffDevices, lines_for, touches_of}
-use Rattle.run_laws.specs.Steps.{AreMade}
+use Rattle.run_laws.specs.Steps.{AreMade, steps_made}
 use Rattle.tool_answers.specs.Outcomes.{Outside}
 use Rattle.tool_words.specs.declared.command.RunWords.{RunWords}
 use Rattle.tool_run.specs.Runs.{AreBanks, Ran}
@@ -70,18 +70,28 @@ IsCut stop.Budget = Unit {0}
 IsCut stop.Sink = Unit {0}
 IsCut other = ⊥
 
--- a run that ends at or before the entry: it was cut, nothing was printed, and no device was touched
-pub record IsShort (why : Stop) (before after : Option (List ℕ)) (seats left : List Seat) : Type 0 where
+-- a run of n steps that ends at or before the entry: it was cut, its steps are the first of the startup's, nothing was printed,
+-- and no device was touched
+pub record IsShort (why : Stop) (n made : ℕ) (core : ArmState) (s : State) (core' : ArmState) (s' : State)
+    (before after : Option (List ℕ)) (steps : List Stepped) : Type 0 where
   pub cut : IsCut why
+  pub all : made ≡ n
+  pub are : AreMade core s (take n steps) core' s'
   pub unprinted : Got before after []
-  pub touches : touches_of left ≡ touches_of seats
+  pub touches : touches_of s'.devices ≡ touches_of s.devices
+
+-- a longer run: its steps are the startup's, and then others
+pub record IsLong (why : Stop) (made : ℕ) (core : ArmState) (s : State) (core' : ArmState) (s' : State) (steps : List Stepped) : Type 0 where
+  pub rest : List Stepped
+  pub count : length (steps ++ rest) ≡ steps_made why made
+  pub are : AreMade core s (steps ++ rest) core' s'
 
 -- the startup's steps are the first of a longer run, and a run of no more steps is short
 pub record RunStarts (i : Image) (view : ByteMap) (why : Stop) (most made : ℕ) (core : ArmState) (s : State) (core' : ArmState)
     (s' : State) (before after : Option (List ℕ)) (steps : List Stepped) : Type 0 where
   pub startup : AreStartup i view core s steps
-  pub short : budget why most made ≤ length steps → IsShort why before after s.devices s'.devices
-  pub long : length steps ≤ budget why most made → (rest : List Stepped) × AreMade core s (steps ++ rest) core' s'
+  pub short : budget why most made ≤ length steps → IsShort why (budget why most made) made core s core' s' before after steps
+  pub long : length steps ≤ budget why most made → IsLong why made core s core' s' steps
 
 -- an image was run from reset over banks that were opened for it, and its run starts so
 pub record HasStarted (i : Image) (view : ByteMap) (banks : List Bank) (most : ℕ) (why : Stop) (before after : Option (List ℕ)) (rose : Type 0)
