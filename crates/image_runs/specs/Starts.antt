@@ -81,7 +81,8 @@ pub record IsShort (why : Stop) (n made : ℕ) (core : ArmState) (s : State) (co
   pub touches : touches_of s'.devices ≡ touches_of s.devices
 
 -- a longer run: its steps are the startup's, and then others
-pub record IsLong (why : Stop) (made : ℕ) (core : ArmState) (s : State) (core' : ArmState) (s' : State) (steps : List Stepped) : Type 0 where
+pub record IsLong (why : Stop) (made : ℕ) (core : ArmState) (s : State) (core' : ArmState) (s' : State)
+    (steps : List Stepped) : Type 0 where
   pub rest : List Stepped
   pub count : length (steps ++ rest) ≡ steps_made why made
   pub are : AreMade core s (steps ++ rest) core' s'
@@ -94,8 +95,8 @@ pub record RunStarts (i : Image) (view : ByteMap) (why : Stop) (most made : ℕ)
   pub long : length steps ≤ budget why most made → IsLong why made core s core' s' steps
 
 -- an image was run from reset over banks that were opened for it, and its run starts so
-pub record HasStarted (i : Image) (view : ByteMap) (banks : List Bank) (most : ℕ) (why : Stop) (before after : Option (List ℕ)) (rose : Type 0)
-    (seats left : List Seat) : Type 0 where
+pub record HasStarted (i : Image) (view : ByteMap) (banks : List Bank) (most : ℕ) (why : Stop)
+    (before after : Option (List ℕ)) (rose : Type 0) (seats left : List Seat) : Type 0 where
   pub ran : Ran banks (run_image i) most why before after rose seats left
   pub steps : List Stepped
   pub starts : RunStarts i view why most ran.is_run.made ran.is_run.core ran.begin ran.is_run.core' ran.is_run.end before after steps
