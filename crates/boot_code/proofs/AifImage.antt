@@ -9,12 +9,13 @@ use Rattle.arm_isa.specs.declared.instr.ArmInstr.TheVariants.{BranchExchange, Tr
 use Rattle.arm_isa.specs.ArmRows.{ReadsArm}
 use Rattle.arm7_model.specs.Memory.{Bytes, Board, store}
 use Rattle.arm7_model.specs.Registers.{State, register, is_thumb}
-use Rattle.arm7_model.proofs.Leading.{here, after, lasting}
+use Rattle.arm7_model.proofs.Leading.{here, lasting}
 use Rattle.arm7_model.proofs.MemoryLemmas.{word-store_apart, load-same, store-below, store-above, store-in, below_or_not}
 use Rattle.boot_code.specs.Words.{relocator_list, relocator_instructions}
 use Rattle.boot_code.specs.Startup.{zeros, IsEntered}
 use Rattle.boot_code.specs.Boots.{ByteMap, InRanges, CanStart, BootsIn, covers}
 use Rattle.boot_code.specs.Aif.{Offsets, relocated, marked, moved_image, started_image, clear_steps, aif_steps, IsHeader, IsRelocatable, IsFixed, HasVeneer, IsFixedLoadable, FixedAifIsExact, FixedAifVeneerIsExact, FixedAifBoots, FixedAifVeneerBoots, file_at, shifted_file, aif_written, IsLoadable, AifIsExact, AifVeneerIsExact, AifBoots, AifVeneerBoots, aif_bound}
+use Rattle.boot_code.proofs.Ordinary.{booted_by}
 use Rattle.boot_code.proofs.WordsRead.{relocator_reads}
 use Rattle.boot_code.proofs.ViewLemmas.{length-zeros, covers-inside, covers-true, covers-false, covers-off, apart_store}
 use Rattle.boot_code.proofs.CodeSteps.{World, Run, IsReadable, Code, Good, Low, placed, longer, narrowed, word_reads, code_reads, begun, link, enter_12, still, computes, loads}
@@ -249,18 +250,13 @@ module _ (file : List ℕ) (parts zero_size b : ℕ) (written : ℕ → Bool) (v
         let (t, run, entered) = begun board (InRanges (file_at file b) view) s (b + 0) c.valid.core.visible.count (c.pc ∙ omega arith) (λ g. begins g _ _
         (clear_run b l.whole x parts zero_size e i in_view (λ y low high. ap (λ (f : Bytes). f y) same ∙ merged-in s.memory x b parts y (omega arith) (omega arith))
         (record { readable = narrowed in_view (omega arith) (omega arith); writable = λ y low high. c.writable y (l.free y low high); apart = inr (omega arith) }) enters)) in
-        let (accesses, all_steps, safe) = after (lasting steps run) inputs in (
-          t,
-          accesses,
-          all_steps,
-          record {
-            pc = entered.pc;
-            thumb = entered.thumb;
-            shown = λ y v h. let at = shows y v h in ap (λ (f : Bytes). f y) entered.memory ∙ inside y at.0 at.1 ∙ at.2;
-            elsewhere = λ y none. ap (λ (f : Bytes). f y) entered.memory ∙ outside y none;
-            safe = safe;
-          },
-        )
+        booted_by (lasting steps run) (λ accesses safe. record {
+          pc = entered.pc;
+          thumb = entered.thumb;
+          shown = λ y v h. let at = shows y v h in ap (λ (f : Bytes). f y) entered.memory ∙ inside y at.0 at.1 ∙ at.2;
+          elsewhere = λ y none. ap (λ (f : Bytes). f y) entered.memory ∙ outside y none;
+          safe = safe;
+        }) inputs
 
     -- the entry in ARM state, and by a veneer
     straight : From W 0 (b + e) final (IsEntered (b + e) final)

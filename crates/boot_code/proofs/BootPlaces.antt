@@ -9,7 +9,6 @@ use Rattle.arm7_model.specs.Memory.{Bytes, Board}
 use Rattle.arm7_model.specs.Registers.{State}
 use Rattle.arm7_model.specs.ArmStep.{arm_condition}
 use Rattle.arm7_model.proofs.Steps.{compared-equal, compared-other}
-use Rattle.arm7_model.proofs.Leading.{after}
 use Rattle.arm7_model.proofs.MemoryLemmas.{load-same, not-eq}
 use Rattle.boot_code.specs.declared.rows.CopyRow.{CopyRow}
 use Rattle.boot_code.specs.declared.rows.ZeroRow.{ZeroRow}
@@ -17,6 +16,7 @@ use Rattle.boot_code.specs.Words.{boot_list, boot_instructions}
 use Rattle.boot_code.specs.Startup.{HasWords, copy_words, zero_words, table_list, copied, cleared, copied_words, zeroed_words, copies_steps, parts_steps, startup_steps, IsEntered}
 use Rattle.boot_code.specs.Laws.{StartupIsExact, StartupBoots, bound_of, written_by}
 use Rattle.boot_code.specs.Boots.{ByteMap, InRanges, CanStart, BootsIn, HoldsWord, HoldsWords, AllCopies, AllParts, CopyPlaced, ZeroPlaced, Places, moved, zeroed}
+use Rattle.boot_code.proofs.Ordinary.{booted_by}
 use Rattle.boot_code.proofs.WordsRead.{boot_reads}
 use Rattle.boot_code.proofs.CodeSteps.{World, Code, IsReadable, IsFree, Good, Low, Go, code_reads, longer, still, narrowed_free, begun, skip, branch, enter_0, computes, loads}
 use Rattle.boot_code.proofs.CodeSteps.Computes.{address_0, compare, clear_4}
@@ -214,20 +214,15 @@ module _ (files view : ByteMap) (written : ℕ → Bool) (copies : List CopyRow)
       let (t, run, entered) = begun board (InRanges files view) s (a + 0) c.valid.core.visible.count (c.pc ∙ omega arith)
       (λ g. startup_run boot files view written a (a + 4 * length area) copying free copies parts entry p.each_copy p.each_part p.fair
       (words-after s.memory a boot_list (table_list copies parts entry) area_words) (omega (arith, counted)) good) in
-      let (accesses, steps, safe) = after run inputs in (
-        t,
-        accesses,
-        steps,
-        record {
-          pc = entered.pc;
-          thumb = entered.thumb;
-          shown = λ x b h. ap (λ (m : Bytes). m x) entered.memory ∙ final x ∙ zeroed-some (moved files copies) (moved s.memory copies) parts x b (moved-some files s.memory copies x b held) (p.shows x b h);
-          elsewhere = λ x none.
-              ap (λ (m : Bytes). m x) entered.memory ∙ final x ∙ zeroed-outside view written a _ (moved s.memory copies) parts x none p.each_part
-              ∙ moved-outside files view written a _ s.memory copies x none p.each_copy;
-          safe = safe;
-        },
-      )
+      booted_by run (λ accesses safe. record {
+        pc = entered.pc;
+        thumb = entered.thumb;
+        shown = λ x b h. ap (λ (m : Bytes). m x) entered.memory ∙ final x ∙ zeroed-some (moved files copies) (moved s.memory copies) parts x b (moved-some files s.memory copies x b held) (p.shows x b h);
+        elsewhere = λ x none.
+            ap (λ (m : Bytes). m x) entered.memory ∙ final x ∙ zeroed-outside view written a _ (moved s.memory copies) parts x none p.each_part
+            ∙ moved-outside files view written a _ s.memory copies x none p.each_copy;
+        safe = safe;
+      }) inputs
 
 -- ---- the law, and the bound
 

@@ -6,8 +6,10 @@ use Rattle.sdt_word.specs.Bytes.{bytes_of}
 use Rattle.sdt_word.specs.Numbers.{bit, bits}
 use Rattle.arm7_model.specs.Memory.{Board}
 use Rattle.arm7_model.specs.Registers.{State, IsValidState, register, is_thumb}
+use Rattle.arm7_model.specs.declared.event.Event.TheVariants as event
 use Rattle.arm7_model.specs.Accesses.{Access}
-use Rattle.arm7_model.specs.Runs.{Input, After, EachStep}
+use Rattle.arm7_model.specs.Outcomes.{Stepped}
+use Rattle.arm7_model.specs.Runs.{Input, AreSteps, EachStep, accesses_of, behind}
 use Rattle.boot_code.specs.declared.rows.CopyRow.{CopyRow}
 use Rattle.boot_code.specs.declared.rows.ZeroRow.{ZeroRow}
 use Rattle.boot_code.specs.Safety.{IsSafe}
@@ -45,10 +47,21 @@ pub record HasBooted (files view : ByteMap) (entry : ℕ) (s t : State) (accesse
   pub elsewhere : (x : ℕ) → view x ≡ None → t.memory x ≡ s.memory x
   pub safe : EachStep (IsSafe (InRanges files view)) accesses
 
--- n steps lead from s there, whatever the inputs are
+-- each is an ordinary step: no exception, and nothing that the host does
+abbrev pub AreOrdinary : List Stepped → Type 0
+AreOrdinary [] = Unit {0}
+AreOrdinary (x ∷ xs) = (x.event ≡ event.Ran) × AreOrdinary xs
+
+-- these are n ordinary steps from s there
+pub record BootSteps (n : ℕ) (files view : ByteMap) (entry : ℕ) (board : Board) (s : State) (inputs : List Input) (steps : List Stepped) : Type 0 where
+  pub are : AreSteps board s inputs steps
+  pub ordinary : AreOrdinary steps
+  pub count : length steps ≡ n
+  pub booted : HasBooted files view entry s (behind s steps) (accesses_of steps)
+
+-- n ordinary steps lead from s there, whatever the inputs are
 abbrev pub BootsIn : ℕ → ByteMap → ByteMap → ℕ → Board → State → Type 0
-BootsIn n files view entry board s =
-    (inputs : List Input) → (t : State) × (accesses : List (List Access)) × After board s n inputs accesses t × HasBooted files view entry s t accesses
+BootsIn n files view entry board s = (inputs : List Input) → (steps : List Stepped) × BootSteps n files view entry board s inputs steps
 
 -- from every permitted state, within the bound
 abbrev pub Boots : ByteMap → ByteMap → (ℕ → Bool) → ℕ → ℕ → ℕ → Type 0

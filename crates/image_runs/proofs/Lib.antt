@@ -1,0 +1,7 @@
+mod FileLemmas
+mod Needs
+mod LoadLemmas
+mod Opened
+mod Startup
+mod Starting
+mod Commands

@@ -1,0 +1,98 @@
+-- A bus that was opened for an image: it is ready, and the startup code may run over it.
+use Rattle.std.proofs.Common.{◌≡◌, ℕ, ◌<◌, ◌≤◌, Bool, true, false, ◌||◌, List, map, refl, sym, ap, ◌∙◌, subst, arith}
+use Rattle.std.specs.Prelude.{◌&&◌}
+use Rattle.sdt_word.specs.Numbers.{bit, bits}
+use Rattle.arm7_model.specs.declared.state.ArmState.{ArmState}
+use Rattle.arm7_model.specs.Memory.{Bytes}
+use Rattle.arm7_model.specs.Registers.{IsValidState}
+use Rattle.arm7_bus.specs.declared.memory.Bank.{Bank}
+use Rattle.arm7_bus.specs.Meets.{seats_have, seats_share}
+use Rattle.arm7_bus.specs.Paging.{used_count}
+use Rattle.arm7_bus.specs.Seats.{Seat}
+use Rattle.arm7_bus.specs.States.{State, bank_has}
+use Rattle.arm7_core.specs.Resets.{IsReset}
+use Rattle.arm7_transfers.specs.Boards.{board_of, over}
+use Rattle.arm7_transfers.specs.Ready.{IsReady}
+use Rattle.boot_code.specs.Boots.{ByteMap, CanStart}
+use Rattle.byte_maps.specs.Maps.{map_of}
+use Rattle.link_model.specs.declared.images.Image.{Image}
+use Rattle.run_opening.specs.Banks.{AreUsed, IsRoomy, banks_share, frames_of}
+use Rattle.run_opening.specs.Openings.{IsOpening, loaded}
+use Rattle.image_runs.specs.Images.{is_needed, load_of, needs_of, region_need, run_image, segments_of}
+use Rattle.image_runs.specs.Starts.{Allow, Reaches}
+use Rattle.image_runs.proofs.LoadLemmas.{load-needed, loaded-at, loaded-bytes}
+use Rattle.image_runs.proofs.Needs.{needed-bank, none-left, none-right, same-used}
+
+-- a bus that has room for the image, as its opening left it
+pub record IsOpened (i : Image) (written : ℕ → Bool) (s : State) : Type 0 where
+  pub roomy : IsRoomy s.contents.banks s.devices (needs_of i)
+  pub allow : Allow s.contents.banks s.devices written
+  pub memory : s.contents.memory ≡ loaded (λ a. 0) (map load_of i.loads)
+  pub used : AreUsed s.contents.used (needs_of i)
+  pub frames : s.contents.frames ≡ frames_of s.contents.banks
+
+pub opened : (i : Image) (written : ℕ → Bool) (banks : List Bank) (seats : List Seat) (s : State) → IsRoomy banks seats (needs_of i) → Allow banks seats written
+    → IsOpening banks (run_image i) seats s → IsOpened i written s
+opened i written banks seats s roomy allow o =
+    let b = o.banks_are in let d = o.devices in
+    record {
+      roomy = subst (λ (bs : List Bank). IsRoomy bs s.devices (needs_of i)) (sym b) (subst (λ (ds : List Seat). IsRoomy banks ds (needs_of i)) (sym d) roomy);
+      allow = subst (λ (bs : List Bank). Allow bs s.devices written) (sym b) (subst (λ (ds : List Seat). Allow banks ds written) (sym d) allow);
+      memory = o.memory;
+      used = o.used;
+      frames = o.frames ∙ ap frames_of (sym b);
+    }
+
+not-both : (x y : Bool) → (x && y) ≡ false → y ≡ true → x ≡ false
+not-both true y e h = absurd (let bad : true ≡ false = sym h ∙ e in cc)
+not-both false y e h = refl
+
+module _ {i : Image} {written : ℕ → Bool} {s : State} (o : IsOpened i written s) where
+  both : (a : ℕ) → (banks_share s.contents.banks a || seats_share s.devices a || (bank_has s.contents.banks a 1 && seats_have s.devices a)) ≡ false
+  both a = o.roomy.apart.none a
+
+  pub ready : IsReady s
+  ready = record {
+    laid_out = record {
+      banks = o.allow.banks_whole;
+      devices = o.allow.seats_whole;
+      apart = λ a h. not-both (bank_has s.contents.banks a 1) (seats_have s.devices a)
+          (none-right (banks_share s.contents.banks a || seats_share s.devices a) (bank_has s.contents.banks a 1 && seats_have s.devices a) (both a)) h;
+      alone = record {
+        none = λ a. none-right (banks_share s.contents.banks a) (seats_share s.devices a)
+            (none-left (banks_share s.contents.banks a || seats_share s.devices a) (bank_has s.contents.banks a 1 && seats_have s.devices a) (both a));
+      };
+    };
+    started = o.used.pages;
+    room =
+        let same = same-used o.roomy.frames.used s.contents.used (needs_of i) o.roomy.frames.are_used o.used in
+        subst (λ (n : ℕ). used_count s.contents.used ≤ n) (sym o.frames) (subst (λ (us : List Bool). used_count us ≤ frames_of s.contents.banks) same o.roomy.frames.enough);
+  }
+
+  pub bank-there : (x : ℕ) → is_needed (needs_of i) x ≡ true → (board_of s).memory x ≡ true
+  unfolding board_of
+  bank-there x e = needed-bank s.contents.banks (needs_of i) o.roomy.room x e
+
+  module _ {out : List ℕ} {view : ByteMap} (r : Reaches i out view written) where
+    pub valid : (core : ArmState) → IsReset i.start core → IsValidState (over core s)
+    valid core reset = record {
+      core = reset.valid;
+      memory = λ x. subst (λ (m : Bytes). m x < 256) (sym o.memory) (loaded-bytes (λ a. 0) i.loads (λ y. omega arith) r.bytes x);
+    }
+
+    pub can-start : (core : ArmState) → IsReset i.start core → CanStart (map_of (segments_of i.loads)) view written i.start (board_of s) (over core s)
+    unfolding board_of
+    can-start core reset = record {
+      valid = valid core reset;
+      loaded = λ x b e. (
+        bank-there x (load-needed i.loads (map region_need i.regions) x b e),
+        ap (λ (m : Bytes). m x) o.memory ∙ loaded-at (λ a. 0) out i.loads x b r.apart e,
+      );
+      there = λ x b e. bank-there x (r.ranged x b e);
+      writable = o.allow.writable;
+      supervisor = ap (λ (n : ℕ). bits n 0 5) reset.status;
+      arm = ap (λ (n : ℕ). bit n 5) reset.status;
+      fiq_masked = ap (λ (n : ℕ). bit n 6) reset.status;
+      irq_masked = ap (λ (n : ℕ). bit n 7) reset.status;
+      pc = reset.address;
+    }
