@@ -1,5 +1,5 @@
 -- A line says one thing.
-use Rattle.std.proofs.Common.{◌≡◌, ℕ, List, [], ◌∷◌, Bool, true, false, sym, ◌∙◌, ap, Option, Some, None, map, ◌&&◌}
+use Rattle.std.proofs.Common.{◌≡◌, ℕ, List, Bool, true, false, sym, ◌∙◌, ap, Option, Some, None, map, ◌&&◌}
 use Rattle.std.specs.Prelude.{Result, Ok, Err}
 use Rattle.sdt_fault.specs.declared.kinds.LineKind.{LineKind}
 use Rattle.sdt_word.specs.declared.codes.Width.{Width}

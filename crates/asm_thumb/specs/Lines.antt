@@ -1,7 +1,7 @@
 -- What the tokens behind an operation word say, in each form of a Thumb line. The forms are those of the ARM SDT 2.50
 -- Reference Guide, chapter on the assembler. A form that the tokens don't have is Syntax, and a register that its row
 -- doesn't have is BadOperand. Values are judged elsewhere.
-use Rattle.std.specs.Prelude.{◌≡◌, ℕ, List, [], ◌∷◌, Bool, true, false, Option, Some, None, Result, Ok, Err}
+use Rattle.std.specs.Prelude.{◌≡◌, ℕ, List, Bool, true, false, Option, Some, None, Result, Err}
 use Rattle.sdt_fault.specs.declared.kinds.LineKind.{LineKind}
 use Rattle.sdt_fault.specs.declared.kinds.LineKind.TheVariants.{Syntax, UnknownWord, FloatingPoint}
 use Rattle.sdt_word.specs.declared.codes.Condition.TheVariants as condition

@@ -1,6 +1,5 @@
 -- Steps of the code. This project's.
 use Rattle.std.specs.Prelude.{◌≡◌, ℕ, List, Option, Some, None, Result}
-use Rattle.std.specs.Option.{option_copied}
 use Rattle.sdt_fault.specs.declared.kinds.LineKind.{LineKind}
 use Rattle.asm_model.specs.declared.tokens.Token.{Token}
 use Rattle.asm_model.specs.declared.directives.LabelNeed.TheVariants as need
