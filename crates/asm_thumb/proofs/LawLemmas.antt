@@ -13,15 +13,17 @@ use Rattle.asm_model.specs.declared.statements.What.{What}
 use Rattle.asm_model.specs.Grammar.{OneParse, ParsesTokens}
 use Rattle.asm_model.specs.Operands.{operands}
 use Rattle.asm_model.specs.Parts.{part_of, piece}
-use Rattle.asm_model.specs.Says.{mapped, Expression, sentence, OneDirective}
+use Rattle.asm_model.specs.Says.{sentence, OneDirective}
 use Rattle.asm_model.specs.Tokens.{OneScan}
-use Rattle.asm_arm.specs.Lines.{hash, equals, bracket}
+use Rattle.asm_arm.specs.Lines.{hash, equals, bracket, numbered}
 use Rattle.asm_arm.specs.Operands.{Cuts, none, one, two, three, four, more, cut, without_first}
+use Rattle.asm_thumb.specs.declared.frames.Frame.{Frame}
+use Rattle.asm_thumb.specs.declared.frames.Frame.TheVariants as frame
 use Rattle.asm_thumb.specs.declared.words.Mnemonic.{Mnemonic}
 use Rattle.asm_thumb.specs.declared.words.Mnemonic.TheVariants as mnemonic
 use Rattle.asm_thumb.specs.Data as forms
 use Rattle.asm_thumb.specs.Lines as lines
-use Rattle.asm_thumb.specs.Operands.{ReadsWith}
+use Rattle.asm_thumb.specs.Frames.{ReadsWith}
 use Rattle.asm_thumb.specs.Says.{SaysWords, SaysTokens, SaysOr, SaysScanned, OneThumb}
 use Rattle.asm_thumb.specs.Transfers as transfers
 use Rattle.asm_thumb.specs.Words.{operation_named}
@@ -29,28 +31,24 @@ use Rattle.asm_thumb.specs.Words.{operation_named}
 one_value : OneParse → (text : List ℕ) (ts : List Token) (a b : Result Expr LineKind) → ParsesTokens text ts a → ParsesTokens text ts b → a ≡ b
 one_value law text ts a b p q = law (map (part_of text) ts) a b p q
 
-one_expression : {A : Type 0} → OneParse → (text : List ℕ) (make : Expr → A) (ts : List Token) (a b : Result A LineKind) → Expression text make ts a → Expression text make ts b → a ≡ b
-one_expression law text make ts a b p q = p.2 ∙ ap (mapped make) (one_value law text ts p.0 q.0 p.1 q.1) ∙ sym q.2
-
 -- a reading that is made of another
 one_made : {A B : Type 0} (Reading : Result A LineKind → Type 0) (make : Result A LineKind → Result B LineKind)
     → ((x y : Result A LineKind) → Reading x → Reading y → x ≡ y)
     → (a b : Result B LineKind) → ((x : Result A LineKind) × Reading x × (a ≡ make x)) → ((y : Result A LineKind) × Reading y × (b ≡ make y)) → a ≡ b
 one_made Reading make law a b p q = p.2 ∙ ap make (law p.0 q.0 p.1 q.1) ∙ sym q.2
 
-one_with : {A : Type 0} → OneParse → (text : List ℕ) (make : A → Expr → What) (registers : Result A LineKind) (e : List Token) (a b : Result What LineKind)
-    → ReadsWith text make registers e a → ReadsWith text make registers e b → a ≡ b
-one_with law text make registers e a b p q = one_made (ParsesTokens text e) _ (one_value law text e) a b p q
+one_with : OneParse → (text : List ℕ) (f : Result Frame LineKind) (e : List Token) (a b : Result What LineKind) → ReadsWith text f e a → ReadsWith text f e b → a ≡ b
+one_with law text f e a b p q = one_made (ParsesTokens text e) _ (one_value law text e) a b p q
 
 one_pair : OneParse → (text : List ℕ) (o : ImmediateOperation) (d x : List Token) (n : Option (List Token)) (a b : Result What LineKind)
     → forms.ReadsPair text o d x n a → forms.ReadsPair text o d x n b → a ≡ b
-one_pair law text o d x (Some e) a b p q = one_with law text _ _ e a b p q
+one_pair law text o d x (Some e) a b p q = one_with law text _ e a b p q
 one_pair law text o d x None a b p q = p ∙ sym q
 
 one_sum : OneParse → (text : List ℕ) (s : Option Bool) (d t x : List Token) (n : Option (List Token)) (a b : Result What LineKind)
     → forms.ReadsSum text s d t x n a → forms.ReadsSum text s d t x n b → a ≡ b
 one_sum law text None d t x n a b p q = p ∙ sym q
-one_sum law text (Some s) d t x (Some e) a b p q = one_with law text _ _ e a b p q
+one_sum law text (Some s) d t x (Some e) a b p q = one_with law text _ e a b p q
 one_sum law text (Some s) d t x None a b p q = p ∙ sym q
 
 one_immediate : OneParse → (text : List ℕ) (o : ImmediateOperation) (os : Cuts) (a b : Result What LineKind)
@@ -65,7 +63,7 @@ one_immediate law text o more a b p q = p ∙ sym q
 one_shift_by : OneParse → (text : List ℕ) (k : ThumbShift) (d s : List Token) (n : Option (List Token)) (a b : Result What LineKind)
     → forms.ReadsShiftBy text k d s n a → forms.ReadsShiftBy text k d s n b → a ≡ b
 one_shift_by law text k d s None a b p q = p ∙ sym q
-one_shift_by law text k d s (Some e) a b p q = one_with law text _ _ e a b p q
+one_shift_by law text k d s (Some e) a b p q = one_with law text _ e a b p q
 
 one_shift : OneParse → (text : List ℕ) (k : ThumbShift) (os : Cuts) (a b : Result What LineKind)
     → forms.ReadsShift text k os a → forms.ReadsShift text k os b → a ≡ b
@@ -78,7 +76,7 @@ one_shift law text k more a b p q = p ∙ sym q
 
 one_offset : OneParse → (text : List ℕ) (l : Bool) (w : Width) (d n x : List Token) (o : Option (List Token)) (a b : Result What LineKind)
     → transfers.ReadsOffset text l w d n x o a → transfers.ReadsOffset text l w d n x o b → a ≡ b
-one_offset law text l w d n x (Some e) a b p q = one_with law text _ _ e a b p q
+one_offset law text l w d n x (Some e) a b p q = one_with law text _ e a b p q
 one_offset law text l w d n x None a b p q = p ∙ sym q
 
 one_inside : OneParse → (text : List ℕ) (l : Bool) (w : Width) (d : List Token) (os : Cuts) (a b : Result What LineKind)
@@ -98,8 +96,8 @@ one_bracketed law text l w d (Some os) a b p q = one_inside law text l w d os a 
 one_loaded : OneParse → (text : List ℕ) (l : Bool) (d x : List Token) (o : Option (List Token)) (a b : Result What LineKind)
     → transfers.ReadsLoaded text l d x o a → transfers.ReadsLoaded text l d x o b → a ≡ b
 one_loaded law text false d x o a b p q = p ∙ sym q
-one_loaded law text true d x (Some e) a b p q = one_with law text _ _ e a b p q
-one_loaded law text true d x None a b p q = one_with law text _ _ x a b p q
+one_loaded law text true d x (Some e) a b p q = one_with law text _ e a b p q
+one_loaded law text true d x None a b p q = one_with law text _ x a b p q
 
 one_place : OneParse → (text : List ℕ) (l : Bool) (w : Width) (d x : List Token) (o : Option (List Token)) (a b : Result What LineKind)
     → transfers.ReadsPlace text l w d x o a → transfers.ReadsPlace text l w d x o b → a ≡ b
@@ -119,7 +117,7 @@ one_transfer law text l w more a b p q = p ∙ sym q
 one_address : OneParse → (text : List ℕ) (os : Cuts) (a b : Result What LineKind) → lines.ReadsAddress text os a → lines.ReadsAddress text os b → a ≡ b
 one_address law text none a b p q = p ∙ sym q
 one_address law text (one d) a b p q = p ∙ sym q
-one_address law text (two d e) a b p q = one_with law text _ _ e a b p q
+one_address law text (two d e) a b p q = one_with law text _ e a b p q
 one_address law text (three d x y) a b p q = p ∙ sym q
 one_address law text (four d x y z) a b p q = p ∙ sym q
 one_address law text more a b p q = p ∙ sym q
@@ -132,11 +130,11 @@ one_word law text (mnemonic.Transfer l w) ts a b p q = one_transfer law text l w
 one_word law text (mnemonic.TransferSigned k) ts a b p q = p ∙ sym q
 one_word law text (mnemonic.PushPop l) ts a b p q = p ∙ sym q
 one_word law text (mnemonic.TransferMultiple l) ts a b p q = p ∙ sym q
-one_word law text (mnemonic.BranchConditional c) ts a b p q = one_expression law text _ ts a b p q
-one_word law text mnemonic.Branch ts a b p q = one_expression law text _ ts a b p q
-one_word law text mnemonic.BranchLink ts a b p q = one_expression law text _ ts a b p q
+one_word law text (mnemonic.BranchConditional c) ts a b p q = one_with law text (Ok (frame.BranchConditional c)) ts a b p q
+one_word law text mnemonic.Branch ts a b p q = one_with law text (Ok frame.Branch) ts a b p q
+one_word law text mnemonic.BranchLink ts a b p q = one_with law text (Ok frame.BranchLink) ts a b p q
 one_word law text mnemonic.BranchExchange ts a b p q = p ∙ sym q
-one_word law text mnemonic.SoftwareInterrupt ts a b p q = one_expression law text _ _ a b p q
+one_word law text mnemonic.SoftwareInterrupt ts a b p q = one_with law text (Ok frame.SoftwareInterrupt) (numbered ts (without_first text hash ts)) a b p q
 one_word law text mnemonic.Address ts a b p q = one_address law text (cut (operands text ts)) a b p q
 one_word law text mnemonic.NoOperation ts a b p q = p ∙ sym q
 one_word law text mnemonic.FloatingPoint ts a b p q = p ∙ sym q

@@ -1,5 +1,6 @@
 -- What the clauses of the crate cite.
 pub mod Data
+pub mod Frames
 pub mod Lines
 pub mod Operands
 pub mod Says

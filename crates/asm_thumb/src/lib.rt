@@ -2,6 +2,7 @@
 #![tactic(auto)]
 
 pub mod data;
+pub mod frames;
 pub mod lines;
 pub mod operands;
 pub mod says;

@@ -2,22 +2,20 @@
 
 ghost use Rattle.std.specs.Prelude.{◌≡◌, IfOk};
 ghost use Rattle.asm_model.specs.Says as says;
-ghost use Rattle.asm_model.specs.declared.statements.What.TheVariants as what;
-ghost use Rattle.asm_model.specs.declared.thumb_lines.ThumbLine.TheVariants as line;
 ghost use Rattle.asm_arm.specs.Lines as arm;
 ghost use Rattle.asm_arm.specs.Operands as arm_operands;
 ghost use Rattle.asm_arm.specs.Steps.{cut_of};
 ghost use Rattle.asm_thumb.specs.Lines as lines;
+ghost use Rattle.asm_thumb.specs.declared.frames.Frame.TheVariants as frame;
 
-use crate::data::{Said, immediates, registers, shifts};
+use crate::data::{immediates, registers, shifts};
+use crate::frames::{Frame, Said, with_value};
 use crate::operands::{low_register, register_list, written_base};
 use crate::transfers::{Transfer, signed_transfer, transferred};
 use crate::words::Mnemonic;
 use asm_arm::operands::{Cut, both, cut_operands, register, without_first};
-use asm_expr::read::expression;
 use asm_model::{PseudoLine, Register, RegisterList, ThumbLine, Token, What};
 use sdt_fault::kinds::LineKind;
-use sdt_word::Condition;
 use std::alloc::Global;
 use thumb_isa::HighOperation;
 
@@ -82,50 +80,25 @@ fn exchange(alloc: Global, text: &[u8], cut: Cut<'_>) -> Said
     }
 }
 
+/// ADR, from what is read of its Rd.
+fn address_frame(rd: Result<Register, LineKind>) -> Result<Frame, LineKind>
+    ensures { result ≡ says.mapped (λ rd. frame.Address rd) rd }
+{
+    match rd {
+        Ok(rd) => Ok(Frame::Address { rd }),
+        Err(kind) => Err(kind),
+    }
+}
+
 fn address(alloc: Global, text: &[u8], cut: Cut<'_>) -> Said
     ensures { IfOk result (λ said. lines.ReadsAddress text.now (cut_of cut.entry) said) }
 {
     match cut {
         Cut::Two(rd, target) => {
-            let target = expression(alloc, text, target)?;
-            let rd = low_register(alloc, text, rd)?;
-            match both(rd, target) {
-                Ok((rd, target)) => Ok(Ok(What::Pseudo(PseudoLine::Address {
-                    condition: Condition::Al,
-                    rd,
-                    target,
-                }))),
-                Err(kind) => Ok(Err(kind)),
-            }
+            let frame = address_frame(low_register(alloc, text, rd)?);
+            with_value(alloc, text, frame, target)
         }
         _ => Ok(Err(LineKind::Syntax)),
-    }
-}
-
-fn conditional(alloc: Global, text: &[u8], condition: Condition, tokens: &[Token]) -> Said
-    ensures { IfOk result (λ said. says.Expression text.now (λ e. what.Thumb (line.BranchConditional condition e)) tokens.now said) }
-{
-    match expression(alloc, text, tokens)? {
-        Ok(target) => Ok(Ok(What::Thumb(ThumbLine::BranchConditional { condition, target }))),
-        Err(kind) => Ok(Err(kind)),
-    }
-}
-
-fn branch(alloc: Global, text: &[u8], tokens: &[Token]) -> Said
-    ensures { IfOk result (λ said. says.Expression text.now (λ e. what.Thumb (line.Branch e)) tokens.now said) }
-{
-    match expression(alloc, text, tokens)? {
-        Ok(target) => Ok(Ok(What::Thumb(ThumbLine::Branch { target }))),
-        Err(kind) => Ok(Err(kind)),
-    }
-}
-
-fn branch_link(alloc: Global, text: &[u8], tokens: &[Token]) -> Said
-    ensures { IfOk result (λ said. says.Expression text.now (λ e. what.Thumb (line.BranchLink e)) tokens.now said) }
-{
-    match expression(alloc, text, tokens)? {
-        Ok(target) => Ok(Ok(What::Thumb(ThumbLine::BranchLink { target }))),
-        Err(kind) => Ok(Err(kind)),
     }
 }
 
@@ -136,15 +109,6 @@ fn numbered<'a>(text: &[u8], tokens: &'a [Token]) -> &'a [Token]
     match without_first(text, b"#", tokens) {
         Some(number) => number,
         None => tokens,
-    }
-}
-
-fn interrupt(alloc: Global, text: &[u8], tokens: &[Token]) -> Said
-    ensures { IfOk result (λ said. says.Expression text.now (λ e. what.Thumb (line.SoftwareInterrupt e)) tokens.now said) }
-{
-    match expression(alloc, text, tokens)? {
-        Ok(number) => Ok(Ok(What::Thumb(ThumbLine::SoftwareInterrupt { number }))),
-        Err(kind) => Ok(Err(kind)),
     }
 }
 
@@ -173,11 +137,21 @@ fn of_word(alloc: Global, text: &[u8], mnemonic: Mnemonic, tokens: &[Token]) -> 
         Mnemonic::TransferSigned(kind) => signed_transfer(alloc, text, kind, cut),
         Mnemonic::PushPop { load } => push_pop(alloc, text, load, cut),
         Mnemonic::TransferMultiple { load } => multiple(alloc, text, load, cut),
-        Mnemonic::BranchConditional(condition) => conditional(alloc, text, condition, tokens),
-        Mnemonic::Branch => branch(alloc, text, tokens),
-        Mnemonic::BranchLink => branch_link(alloc, text, tokens),
+        Mnemonic::BranchConditional(condition) => {
+            with_value(
+                alloc,
+                text,
+                Ok(Frame::BranchConditional { condition }),
+                tokens,
+            )
+        }
+        Mnemonic::Branch => with_value(alloc, text, Ok(Frame::Branch), tokens),
+        Mnemonic::BranchLink => with_value(alloc, text, Ok(Frame::BranchLink), tokens),
         Mnemonic::BranchExchange => exchange(alloc, text, cut),
-        Mnemonic::SoftwareInterrupt => interrupt(alloc, text, numbered(text, tokens)),
+        Mnemonic::SoftwareInterrupt => {
+            let number = numbered(text, tokens);
+            with_value(alloc, text, Ok(Frame::SoftwareInterrupt), number)
+        }
         Mnemonic::Address => address(alloc, text, cut),
         Mnemonic::NoOperation => Ok(idle(tokens)),
         Mnemonic::FloatingPoint => Ok(Err(LineKind::FloatingPoint)),

@@ -2,26 +2,14 @@
 
 ghost use Rattle.std.specs.Prelude.{◌≡◌, IfOk};
 ghost use Rattle.std.specs.List.{list_all};
-ghost use Rattle.asm_arm.specs.Operands as arm;
 ghost use Rattle.asm_thumb.specs.Operands as operands;
 
 use asm_arm::lists;
-use asm_arm::operands::{marked, register};
+use asm_arm::operands::{both, marked, register};
 use asm_model::{ListItem, Register, Token};
 use sdt_fault::kinds::LineKind;
 use sdt_fault::{List, NoMemory};
 use std::alloc::Global;
-
-/// The base of an address, or of a sum.
-#[derive(Drop)]
-pub enum Base {
-    /// A register from r0 to r7.
-    Low(Register),
-    /// sp
-    Stack,
-    /// pc
-    Program,
-}
 
 /// A register from r0 to r7; a name counts as one.
 pub fn low(register: Register) -> Result<Register, LineKind>
@@ -52,6 +40,49 @@ pub fn low_register(
     }
 }
 
+/// Two registers from r0 to r7.
+pub fn low_pair(
+    alloc: Global,
+    text: &[u8],
+    first: &[Token],
+    second: &[Token],
+) -> Result<Result<(Register, Register), LineKind>, NoMemory>
+    ensures { IfOk result (λ pair. pair ≡ operands.low_pair text.now first.now second.now) }
+{
+    let first = low_register(alloc, text, first)?;
+    let second = low_register(alloc, text, second)?;
+    Ok(both(first, second))
+}
+
+/// Three registers from r0 to r7.
+pub fn low_three(
+    alloc: Global,
+    text: &[u8],
+    first: &[Token],
+    second: &[Token],
+    third: &[Token],
+) -> Result<Result<((Register, Register), Register), LineKind>, NoMemory>
+    ensures { IfOk result (λ three. three ≡ operands.low_three text.now first.now second.now third.now) }
+{
+    let pair = low_pair(alloc, text, first, second)?;
+    let third = low_register(alloc, text, third)?;
+    Ok(both(pair, third))
+}
+
+/// A register from r0 to r7, and any register.
+pub fn low_and_any(
+    alloc: Global,
+    text: &[u8],
+    first: &[Token],
+    second: &[Token],
+) -> Result<Result<(Register, Register), LineKind>, NoMemory>
+    ensures { IfOk result (λ pair. pair ≡ operands.low_and_any text.now first.now second.now) }
+{
+    let first = low_register(alloc, text, first)?;
+    let second = register(alloc, text, second)?;
+    Ok(both(first, second))
+}
+
 /// Whether a register is one from r8 to r15.
 pub fn is_high(register: &Register) -> bool
     ensures { result ≡ operands.is_high register.now }
@@ -59,43 +90,6 @@ pub fn is_high(register: &Register) -> bool
     match register {
         Register::Number(number) => *number >= 8,
         Register::Named(_) => false,
-    }
-}
-
-/// A base; sp and pc where these have a row.
-fn base_of(stack: bool, program: bool, register: Register) -> Result<Base, LineKind>
-    ensures { result ≡ operands.base_of stack program register }
-{
-    match register {
-        Register::Number(number) => {
-            if number < 8 {
-                return Ok(Base::Low(Register::Number(number)));
-            }
-            if stack && number == 13 {
-                return Ok(Base::Stack);
-            }
-            if program && number == 15 {
-                return Ok(Base::Program);
-            }
-            Err(LineKind::BadOperand)
-        }
-        Register::Named(name) => Ok(Base::Low(Register::Named(name))),
-    }
-}
-
-/// Tokens as a base.
-pub fn base_register(
-    alloc: Global,
-    stack: bool,
-    program: bool,
-    text: &[u8],
-    tokens: &[Token],
-) -> Result<Result<Base, LineKind>, NoMemory>
-    ensures { IfOk result (λ base. base ≡ operands.base_register stack program text.now tokens.now) }
-{
-    match register(alloc, text, tokens)? {
-        Ok(register) => Ok(base_of(stack, program, register)),
-        Err(kind) => Ok(Err(kind)),
     }
 }
 
@@ -109,26 +103,24 @@ pub fn copy_of(alloc: Global, register: &Register) -> Result<Register, NoMemory>
     }
 }
 
-/// Whether the registers of a range may stand in a list, which has one more than r0 to r7 where its row has one.
-fn range_fits(more: Option<u8>, first: u8, last: u8) -> bool
-    ensures { result ≡ operands.range_fits more first last }
+/// Whether a number is that of the one register more.
+fn is_more(more: Option<u8>, number: u8) -> bool
+    ensures { result ≡ operands.is_more more number }
 {
-    if last < 8 {
-        return true;
-    }
     match more {
         None => false,
-        Some(number) => first == last && first == number,
+        Some(other) => number == other,
     }
 }
 
-/// The same of what a range is written with; names are judged elsewhere.
-fn between_fits(more: Option<u8>, first: &Register, last: &Register) -> bool
-    ensures { result ≡ operands.between_fits more first.now last.now }
+/// Whether a range may stand in a list, which has one register more than r0 to r7 where its row has one; names are judged
+/// elsewhere.
+fn range_fits(more: Option<u8>, first: &Register, last: &Register) -> bool
+    ensures { result ≡ operands.range_fits more first.now last.now }
 {
     match first {
         Register::Number(first) => match last {
-            Register::Number(last) => range_fits(more, *first, *last),
+            Register::Number(last) => *last < 8 || (*first == *last && is_more(more, *first)),
             Register::Named(_) => true,
         },
         Register::Named(_) => true,
@@ -140,8 +132,8 @@ fn entry_fits(more: Option<u8>, entry: &ListItem) -> bool
     ensures { result ≡ operands.entry_fits more entry.now }
 {
     match entry {
-        ListItem::One(register) => between_fits(more, register, register),
-        ListItem::Range { first, last } => between_fits(more, first, last),
+        ListItem::One(register) => range_fits(more, register, register),
+        ListItem::Range { first, last } => range_fits(more, first, last),
     }
 }
 
@@ -155,16 +147,6 @@ fn all_fit(more: Option<u8>, items: &[ListItem]) -> bool
         }
     }
     true
-}
-
-/// A list of registers from r0 to r7, and one more where the row has one.
-fn fitting(more: Option<u8>, items: List<ListItem>) -> Result<List<ListItem>, LineKind>
-    ensures { result ≡ operands.fitting more items }
-{
-    if all_fit(more, items.as_slice()) {
-        return Ok(items);
-    }
-    Err(LineKind::BadOperand)
 }
 
 /// A register list, behind which no `^` stands.
@@ -181,19 +163,14 @@ pub fn register_list(
         return Ok(Err(LineKind::Syntax));
     }
     match lists::register_list(alloc, text, tokens)? {
-        Ok((items, _)) => Ok(fitting(more, items)),
+        Ok((items, _)) => {
+            if all_fit(more, items.as_slice()) {
+                return Ok(Ok(items));
+            }
+            Ok(Err(LineKind::BadOperand))
+        }
         Err(kind) => Ok(Err(kind)),
     }
-}
-
-/// A base, which is one of r0 to r7 and written back.
-fn written(register: Register, mark: bool) -> Result<Register, LineKind>
-    ensures { result ≡ operands.written mark register }
-{
-    if mark {
-        return low(register);
-    }
-    Err(LineKind::Syntax)
 }
 
 /// A base from r0 to r7 that is written back.
@@ -205,7 +182,12 @@ pub fn written_base(
     ensures { IfOk result (λ base. base ≡ operands.written_base text.now tokens.now) }
 {
     match lists::base(alloc, text, tokens)? {
-        Ok((register, mark)) => Ok(written(register, mark)),
+        Ok((register, mark)) => {
+            if mark {
+                return Ok(low(register));
+            }
+            Ok(Err(LineKind::Syntax))
+        }
         Err(kind) => Ok(Err(kind)),
     }
 }

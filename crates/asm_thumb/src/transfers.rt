@@ -1,22 +1,21 @@
 //! What the operands of transfers say.
 
-ghost use Rattle.std.specs.Prelude.{◌≡◌, IfOk, Some, None, true, ◌&&◌};
-ghost use Rattle.std.specs.Option.{option_copied};
+ghost use Rattle.std.specs.Prelude.{◌≡◌, IfOk, ◌&&◌};
+ghost use Rattle.asm_model.specs.Says as says;
 ghost use Rattle.asm_arm.specs.Lines as arm;
 ghost use Rattle.asm_arm.specs.Operands as arm_operands;
 ghost use Rattle.asm_arm.specs.Steps.{cut_of};
 ghost use Rattle.asm_thumb.specs.Steps.{cuts_in};
 ghost use Rattle.asm_thumb.specs.Transfers as transfers;
+ghost use Rattle.asm_thumb.specs.declared.frames.Frame.TheVariants as frame;
 
-use crate::data::Said;
-use crate::operands::{Base, base_register, low_register};
-use asm_arm::addresses::zero;
-use asm_arm::operands::{Cut, between, both, cut_operands, without_first};
-use asm_expr::read::expression;
-use asm_model::{Expr, LiteralAddress, PseudoLine, Register, ThumbLine, Token, What};
+use crate::frames::{Frame, Said, with_value, with_zero};
+use crate::operands::{low_and_any, low_register, low_three};
+use asm_arm::operands::{Cut, between, cut_operands, without_first};
+use asm_model::{Register, ThumbLine, Token, What};
 use sdt_fault::NoMemory;
 use sdt_fault::kinds::LineKind;
-use sdt_word::{Condition, Width};
+use sdt_word::Width;
 use std::alloc::Global;
 use thumb_isa::SignedTransfer;
 
@@ -37,58 +36,67 @@ fn is_word(width: Width) -> bool
     }
 }
 
-/// Whether a word is loaded.
-fn loads_word(word: Transfer) -> bool
-    ensures { result ≡ (word.load && transfers.is_word word.width) }
-{
-    word.load && is_word(word.width)
-}
-
 /// A transfer by one of r0 to r7 and a number.
-fn low_line(word: Transfer, rd: Register, rn: Register, offset: Expr) -> What
-    ensures { result ≡ transfers.low_line word.load word.width rd rn offset }
+fn low_frame(word: Transfer, rd: Register, rn: Register) -> Frame
+    ensures { result ≡ transfers.low_frame word.load word.width rd rn }
 {
     let load = word.load;
-    What::Thumb(match word.width {
-        Width::Byte => ThumbLine::TransferImmediate {
+    match word.width {
+        Width::Byte => Frame::Transfer {
             load,
             byte: true,
             rd,
             rn,
-            offset,
         },
-        Width::Half => ThumbLine::TransferHalf {
-            load,
-            rd,
-            rn,
-            offset,
-        },
-        Width::Word => ThumbLine::TransferImmediate {
+        Width::Half => Frame::TransferHalf { load, rd, rn },
+        Width::Word => Frame::Transfer {
             load,
             byte: false,
             rd,
             rn,
-            offset,
         },
-    })
+    }
 }
 
 /// A transfer by a base and a number.
-fn number_line(word: Transfer, rd: Register, base: Base, offset: Expr) -> What
-    ensures { result ≡ transfers.number_line word.load word.width rd base offset }
+fn number_frame(
+    word: Transfer,
+    pair: Result<(Register, Register), LineKind>,
+) -> Result<Frame, LineKind>
+    ensures { result ≡ arm_operands.followed pair (λ p. transfers.number_frame word.load word.width p.0 p.1) }
 {
-    match base {
-        Base::Low(rn) => low_line(word, rd, rn, offset),
-        Base::Stack => What::Thumb(ThumbLine::TransferStack {
-            load: word.load,
-            rd,
-            offset,
-        }),
-        Base::Program => What::Thumb(ThumbLine::LoadLiteral {
-            rd,
-            address: LiteralAddress::Offset(offset),
-        }),
+    match pair {
+        Ok((rd, base)) => match base {
+            Register::Number(number) => {
+                if number < 8 {
+                    return Ok(low_frame(word, rd, Register::Number(number)));
+                }
+                if is_word(word.width) && number == 13 {
+                    let load = word.load;
+                    return Ok(Frame::TransferStack { load, rd });
+                }
+                if word.load && is_word(word.width) && number == 15 {
+                    return Ok(Frame::Literal { rd });
+                }
+                Err(LineKind::BadOperand)
+            }
+            Register::Named(name) => Ok(low_frame(word, rd, Register::Named(name))),
+        },
+        Err(kind) => Err(kind),
     }
+}
+
+/// A transfer with a number, from the tokens of its registers.
+fn based(
+    alloc: Global,
+    text: &[u8],
+    word: Transfer,
+    rd: &[Token],
+    rn: &[Token],
+) -> Result<Result<Frame, LineKind>, NoMemory>
+    ensures { IfOk result (λ frame. frame ≡ transfers.based text.now word.load word.width rd.now rn.now) }
+{
+    Ok(number_frame(word, low_and_any(alloc, text, rd, rn)?))
 }
 
 /// A transfer of half-words without a sign.
@@ -130,67 +138,6 @@ fn register_line(word: Transfer, rd: Register, rn: Register, ro: Register) -> Wh
     })
 }
 
-/// Rd and the base of a transfer with a number.
-fn based(
-    alloc: Global,
-    text: &[u8],
-    word: Transfer,
-    rd: &[Token],
-    rn: &[Token],
-) -> Result<Result<(Register, Base), LineKind>, NoMemory>
-    ensures { IfOk result (λ pair. pair ≡ transfers.based text.now word.load word.width rd.now rn.now) }
-{
-    let stack = is_word(word.width);
-    let rd = low_register(alloc, text, rd)?;
-    let base = base_register(alloc, stack, loads_word(word), text, rn)?;
-    Ok(both(rd, base))
-}
-
-/// Rd, Rn and Ro.
-fn three_registers(
-    alloc: Global,
-    text: &[u8],
-    rd: &[Token],
-    rn: &[Token],
-    ro: &[Token],
-) -> Result<Result<((Register, Register), Register), LineKind>, NoMemory>
-    ensures { IfOk result (λ three. three ≡ transfers.three_registers text.now rd.now rn.now ro.now) }
-{
-    let rd = low_register(alloc, text, rd)?;
-    let rn = low_register(alloc, text, rn)?;
-    let ro = low_register(alloc, text, ro)?;
-    Ok(both(both(rd, rn), ro))
-}
-
-/// A base alone, which is the offset 0.
-fn base_alone(alloc: Global, text: &[u8], word: Transfer, rd: &[Token], rn: &[Token]) -> Said
-    ensures { IfOk result (λ said. transfers.ReadsInside text.now word.load word.width rd.now (arm_operands.one rn.now) said) }
-{
-    match based(alloc, text, word, rd, rn)? {
-        Ok((rd, base)) => Ok(Ok(number_line(word, rd, base, zero(alloc)?))),
-        Err(kind) => Ok(Err(kind)),
-    }
-}
-
-/// A number as an offset.
-fn number_offset(
-    alloc: Global,
-    text: &[u8],
-    word: Transfer,
-    rd: &[Token],
-    rn: &[Token],
-    number: &[Token],
-) -> Said
-    ensures { IfOk result (λ said. transfers.ReadsOffset text.now word.load word.width rd.now rn.now number.now (Some number.now) said) }
-{
-    let offset = expression(alloc, text, number)?;
-    let registers = based(alloc, text, word, rd, rn)?;
-    match both(registers, offset) {
-        Ok(((rd, base), offset)) => Ok(Ok(number_line(word, rd, base, offset))),
-        Err(kind) => Ok(Err(kind)),
-    }
-}
-
 /// A number or a register as an offset.
 fn any_offset(
     alloc: Global,
@@ -200,12 +147,13 @@ fn any_offset(
     rn: &[Token],
     offset: &[Token],
 ) -> Said
-    ensures { IfOk result (λ said. transfers.ReadsInside text.now word.load word.width rd.now (arm_operands.two rn.now offset.now) said) }
+    ensures { IfOk result (λ said. transfers.ReadsOffset text.now word.load word.width rd.now rn.now offset.now (arm_operands.without_first text.now arm.hash offset.now) said) }
 {
     if let Some(number) = without_first(text, b"#", offset) {
-        return number_offset(alloc, text, word, rd, rn, number);
+        let frame = based(alloc, text, word, rd, rn)?;
+        return with_value(alloc, text, frame, number);
     }
-    match three_registers(alloc, text, rd, rn, offset)? {
+    match low_three(alloc, text, rd, rn, offset)? {
         Ok(((rd, rn), ro)) => Ok(Ok(register_line(word, rd, rn, ro))),
         Err(kind) => Ok(Err(kind)),
     }
@@ -226,40 +174,29 @@ fn in_brackets(alloc: Global, text: &[u8], word: Transfer, rd: &[Token], tokens:
     ensures { IfOk result (λ said. transfers.ReadsBracketed text.now word.load word.width rd.now (transfers.bracketed text.now tokens.now) said) }
 {
     match bracketed(text, tokens) {
-        Some(Cut::One(rn)) => base_alone(alloc, text, word, rd, rn),
+        Some(Cut::One(rn)) => with_zero(alloc, based(alloc, text, word, rd, rn)?),
         Some(Cut::Two(rn, offset)) => any_offset(alloc, text, word, rd, rn, offset),
         _ => Ok(Err(LineKind::Syntax)),
     }
 }
 
 /// A number that is loaded.
-fn constant(alloc: Global, text: &[u8], rd: &[Token], number: &[Token]) -> Said
-    ensures { IfOk result (λ said. transfers.ReadsLoaded text.now true rd.now number.now (Some number.now) said) }
+fn constant_frame(rd: Result<Register, LineKind>) -> Result<Frame, LineKind>
+    ensures { result ≡ says.mapped (λ rd. frame.Constant rd) rd }
 {
-    let value = expression(alloc, text, number)?;
-    let rd = low_register(alloc, text, rd)?;
-    match both(rd, value) {
-        Ok((rd, value)) => Ok(Ok(What::Pseudo(PseudoLine::LoadConstant {
-            condition: Condition::Al,
-            rd,
-            value,
-        }))),
-        Err(kind) => Ok(Err(kind)),
+    match rd {
+        Ok(rd) => Ok(Frame::Constant { rd }),
+        Err(kind) => Err(kind),
     }
 }
 
 /// A label that is loaded.
-fn label(alloc: Global, text: &[u8], rd: &[Token], target: &[Token]) -> Said
-    ensures { IfOk result (λ said. transfers.ReadsLoaded text.now true rd.now target.now None said) }
+fn label_frame(rd: Result<Register, LineKind>) -> Result<Frame, LineKind>
+    ensures { result ≡ says.mapped (λ rd. frame.Label rd) rd }
 {
-    let target = expression(alloc, text, target)?;
-    let rd = low_register(alloc, text, rd)?;
-    match both(rd, target) {
-        Ok((rd, target)) => Ok(Ok(What::Thumb(ThumbLine::LoadLiteral {
-            rd,
-            address: LiteralAddress::Label(target),
-        }))),
-        Err(kind) => Ok(Err(kind)),
+    match rd {
+        Ok(rd) => Ok(Frame::Label { rd }),
+        Err(kind) => Err(kind),
     }
 }
 
@@ -267,12 +204,16 @@ fn label(alloc: Global, text: &[u8], rd: &[Token], target: &[Token]) -> Said
 fn loaded(alloc: Global, text: &[u8], word: Transfer, rd: &[Token], tokens: &[Token]) -> Said
     ensures { IfOk result (λ said. transfers.ReadsLoaded text.now (word.load && transfers.is_word word.width) rd.now tokens.now (arm_operands.without_first text.now arm.equals tokens.now) said) }
 {
-    if !loads_word(word) {
+    if !word.load {
         return Ok(Err(LineKind::Syntax));
     }
+    if !is_word(word.width) {
+        return Ok(Err(LineKind::Syntax));
+    }
+    let rd = low_register(alloc, text, rd)?;
     match without_first(text, b"=", tokens) {
-        Some(number) => constant(alloc, text, rd, number),
-        None => label(alloc, text, rd, tokens),
+        Some(number) => with_value(alloc, text, constant_frame(rd), number),
+        None => with_value(alloc, text, label_frame(rd), tokens),
     }
 }
 
@@ -300,7 +241,7 @@ fn signed_inside(
     ensures { IfOk result (λ said. said ≡ transfers.signed_inside text.now kind rd.now (cuts_in address.entry)) }
 {
     match address {
-        Some(Cut::Two(rn, ro)) => match three_registers(alloc, text, rd, rn, ro)? {
+        Some(Cut::Two(rn, ro)) => match low_three(alloc, text, rd, rn, ro)? {
             Ok(((rd, rn), ro)) => Ok(Ok(What::Thumb(ThumbLine::TransferSigned {
                 kind,
                 rd,
