@@ -1,7 +1,7 @@
 -- What the operands of moves, comparisons, sums, shifts and logical operations say: the row that the registers choose. ARM
 -- SDT 2.50 Reference Guide, chapter on the assembler. This project's: a move of one of r0 to r7 to another is the sum with
 -- 0 and sets the flags, and a sum of two such registers is that of three.
-use Rattle.std.specs.Prelude.{◌≡◌, ℕ, List, nat_lt, ◌==◌, ◌&&◌, ◌||◌, not, Bool, true, false, if◌then◌else◌, Option, Some, None, Result, Ok, Err}
+use Rattle.std.specs.Prelude.{◌≡◌, ℕ, List, nat_lt, ◌==◌, ◌||◌, Bool, true, false, if◌then◌else◌, Option, Some, None, Result, Ok, Err}
 use Rattle.sdt_fault.specs.declared.kinds.LineKind.{LineKind}
 use Rattle.sdt_fault.specs.declared.kinds.LineKind.TheVariants.{Syntax, BadOperand}
 use Rattle.thumb_isa.specs.declared.instr.ImmediateOperation.{ImmediateOperation}

@@ -44,13 +44,23 @@ pub enum Mnemonic {
     FloatingPoint,
 }
 
+/// A word of ARM state as one of the FPA.
+fn float_word(word: ArmMnemonic) -> Option<Mnemonic>
+    ensures { result ≡ words.float_word word }
+{
+    match word {
+        ArmMnemonic::FloatingPoint => Some(Mnemonic::FloatingPoint),
+        _ => None,
+    }
+}
+
 /// A word of the FPA, which is that of ARM state.
 fn floating(word: &[u8]) -> Option<Mnemonic>
     ensures { result ≡ words.floating (arm_words.operation_named word.now) }
 {
     match arm_operation(word) {
-        Some((ArmMnemonic::FloatingPoint, _)) => Some(Mnemonic::FloatingPoint),
-        _ => None,
+        Some((word, _)) => float_word(word),
+        None => None,
     }
 }
 
