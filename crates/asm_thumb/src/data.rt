@@ -1,0 +1,261 @@
+//! What the operands of moves, comparisons, sums, shifts and logical operations say.
+
+ghost use Rattle.std.specs.Prelude.{◌≡◌, IfOk, Some};
+ghost use Rattle.asm_arm.specs.Lines as arm;
+ghost use Rattle.asm_arm.specs.Operands as arm_operands;
+ghost use Rattle.asm_arm.specs.Steps.{cut_of};
+ghost use Rattle.asm_thumb.specs.Data as forms;
+
+use crate::frames::{Frame, Said, with_value, with_zero};
+use crate::operands::{copy_of, is_high, low_and_any, low_pair, low_three};
+use asm_arm::operands::{Cut, both, register, without_first};
+use asm_model::{Register, ThumbLine, ThumbOperand, Token, What};
+use sdt_fault::kinds::LineKind;
+use std::alloc::Global;
+use thumb_isa::{HighOperation, ImmediateOperation, ThumbOperation, ThumbShift};
+
+/// ADD and SUB: whether it takes away.
+fn sum_of(operation: ImmediateOperation) -> Option<bool>
+    ensures { result ≡ forms.sum_of operation }
+{
+    match operation {
+        ImmediateOperation::Add => Some(false),
+        ImmediateOperation::Sub => Some(true),
+        _ => None,
+    }
+}
+
+/// An operation of sp and a number.
+fn stack_frame(operation: ImmediateOperation) -> Result<Frame, LineKind>
+    ensures { result ≡ forms.stack_frame (forms.sum_of operation) }
+{
+    match sum_of(operation) {
+        None => Err(LineKind::BadOperand),
+        Some(subtract) => Ok(Frame::AdjustStack { subtract }),
+    }
+}
+
+/// An operation of a register and a number.
+fn immediate_frame(
+    operation: ImmediateOperation,
+    rd: Result<Register, LineKind>,
+) -> Result<Frame, LineKind>
+    ensures { result ≡ arm_operands.followed rd (forms.immediate_frame operation) }
+{
+    match rd {
+        Ok(Register::Number(number)) => {
+            if number < 8 {
+                let rd = Register::Number(number);
+                return Ok(Frame::Immediate { operation, rd });
+            }
+            if number == 13 {
+                return stack_frame(operation);
+            }
+            Err(LineKind::BadOperand)
+        }
+        Ok(Register::Named(name)) => {
+            let rd = Register::Named(name);
+            Ok(Frame::Immediate { operation, rd })
+        }
+        Err(kind) => Err(kind),
+    }
+}
+
+/// An operation of two registers of which one is r8 to r15.
+fn high_line(operation: ImmediateOperation, rd: Register, rs: Register) -> Result<What, LineKind>
+    ensures { result ≡ forms.high_line operation rd rs }
+{
+    let operation = match operation {
+        ImmediateOperation::Add => HighOperation::Add,
+        ImmediateOperation::Cmp => HighOperation::Cmp,
+        ImmediateOperation::Mov => HighOperation::Mov,
+        ImmediateOperation::Sub => return Err(LineKind::Syntax),
+    };
+    Ok(What::Thumb(ThumbLine::HighRegister { operation, rd, rs }))
+}
+
+/// An operation of two registers from r0 to r7.
+fn low_line(alloc: Global, operation: ImmediateOperation, rd: Register, rs: Register) -> Said
+    ensures { IfOk result (λ said. said ≡ forms.low_line operation rd rs) }
+{
+    match operation {
+        ImmediateOperation::Add => {
+            let first = copy_of(alloc, &rd)?;
+            Ok(Ok(What::Thumb(ThumbLine::AddSubtract {
+                subtract: false,
+                rd,
+                rs: first,
+                operand: ThumbOperand::Register(rs),
+            })))
+        }
+        ImmediateOperation::Cmp => Ok(Ok(What::Thumb(ThumbLine::DataRegister {
+            operation: ThumbOperation::Cmp,
+            rd,
+            rs,
+        }))),
+        ImmediateOperation::Mov => {
+            let subtract = false;
+            with_zero(alloc, Ok(Frame::Sum { subtract, rd, rs }))
+        }
+        ImmediateOperation::Sub => Ok(Err(LineKind::Syntax)),
+    }
+}
+
+/// An operation of two registers.
+fn pair_line(alloc: Global, operation: ImmediateOperation, rd: Register, rs: Register) -> Said
+    ensures { IfOk result (λ said. said ≡ forms.pair_line operation rd rs) }
+{
+    if is_high(&rd) || is_high(&rs) {
+        return Ok(high_line(operation, rd, rs));
+    }
+    low_line(alloc, operation, rd, rs)
+}
+
+/// Rd and a number, or two registers.
+fn pair(
+    alloc: Global,
+    text: &[u8],
+    operation: ImmediateOperation,
+    rd: &[Token],
+    operand: &[Token],
+) -> Said
+    ensures { IfOk result (λ said. forms.ReadsPair text.now operation rd.now operand.now (arm_operands.without_first text.now arm.hash operand.now) said) }
+{
+    let rd = register(alloc, text, rd)?;
+    if let Some(number) = without_first(text, b"#", operand) {
+        return with_value(alloc, text, immediate_frame(operation, rd), number);
+    }
+    let rs = register(alloc, text, operand)?;
+    match both(rd, rs) {
+        Ok((rd, rs)) => pair_line(alloc, operation, rd, rs),
+        Err(kind) => Ok(Err(kind)),
+    }
+}
+
+/// A sum of a register and a number; one of sp or pc is an address.
+fn sum_frame(
+    subtract: bool,
+    pair: Result<(Register, Register), LineKind>,
+) -> Result<Frame, LineKind>
+    ensures { result ≡ arm_operands.followed pair (λ p. forms.sum_frame subtract p.0 p.1) }
+{
+    match pair {
+        Ok((rd, rs)) => match rs {
+            Register::Number(number) => {
+                if number < 8 {
+                    let rs = Register::Number(number);
+                    return Ok(Frame::Sum { subtract, rd, rs });
+                }
+                if subtract {
+                    return Err(LineKind::BadOperand);
+                }
+                if number == 13 {
+                    return Ok(Frame::LoadAddress { stack: true, rd });
+                }
+                if number == 15 {
+                    return Ok(Frame::LoadAddress { stack: false, rd });
+                }
+                Err(LineKind::BadOperand)
+            }
+            Register::Named(name) => {
+                let rs = Register::Named(name);
+                Ok(Frame::Sum { subtract, rd, rs })
+            }
+        },
+        Err(kind) => Err(kind),
+    }
+}
+
+/// Rd, Rs, and a number or a register.
+fn sum(
+    alloc: Global,
+    text: &[u8],
+    subtract: bool,
+    rd: &[Token],
+    rs: &[Token],
+    operand: &[Token],
+) -> Said
+    ensures { IfOk result (λ said. forms.ReadsSum text.now (Some subtract) rd.now rs.now operand.now (arm_operands.without_first text.now arm.hash operand.now) said) }
+{
+    if let Some(number) = without_first(text, b"#", operand) {
+        let frame = sum_frame(subtract, low_and_any(alloc, text, rd, rs)?);
+        return with_value(alloc, text, frame, number);
+    }
+    match low_three(alloc, text, rd, rs, operand)? {
+        Ok(((rd, rs), rn)) => Ok(Ok(What::Thumb(ThumbLine::AddSubtract {
+            subtract,
+            rd,
+            rs,
+            operand: ThumbOperand::Register(rn),
+        }))),
+        Err(kind) => Ok(Err(kind)),
+    }
+}
+
+/// MOV, CMP, ADD and SUB.
+pub fn immediates(alloc: Global, text: &[u8], operation: ImmediateOperation, cut: Cut<'_>) -> Said
+    ensures { IfOk result (λ said. forms.ReadsImmediate text.now operation (cut_of cut.entry) said) }
+{
+    match cut {
+        Cut::Two(rd, operand) => pair(alloc, text, operation, rd, operand),
+        Cut::Three(rd, rs, operand) => match sum_of(operation) {
+            None => Ok(Err(LineKind::Syntax)),
+            Some(subtract) => sum(alloc, text, subtract, rd, rs, operand),
+        },
+        _ => Ok(Err(LineKind::Syntax)),
+    }
+}
+
+/// AND to MVN.
+pub fn registers(alloc: Global, text: &[u8], operation: ThumbOperation, cut: Cut<'_>) -> Said
+    ensures { IfOk result (λ said. said ≡ forms.registers text.now operation (cut_of cut.entry)) }
+{
+    match cut {
+        Cut::Two(rd, rs) => match low_pair(alloc, text, rd, rs)? {
+            Ok((rd, rs)) => Ok(Ok(What::Thumb(ThumbLine::DataRegister { operation, rd, rs }))),
+            Err(kind) => Ok(Err(kind)),
+        },
+        _ => Ok(Err(LineKind::Syntax)),
+    }
+}
+
+/// The shift by a register.
+fn shift_operation(shift: ThumbShift) -> ThumbOperation
+    ensures { result ≡ forms.shift_operation shift }
+{
+    match shift {
+        ThumbShift::Lsl => ThumbOperation::Lsl,
+        ThumbShift::Lsr => ThumbOperation::Lsr,
+        ThumbShift::Asr => ThumbOperation::Asr,
+    }
+}
+
+/// The shift by a number.
+fn shift_frame(
+    shift: ThumbShift,
+    pair: Result<(Register, Register), LineKind>,
+) -> Result<Frame, LineKind>
+    ensures { result ≡ forms.shift_frame shift pair }
+{
+    match pair {
+        Ok((rd, rs)) => Ok(Frame::Shift { shift, rd, rs }),
+        Err(kind) => Err(kind),
+    }
+}
+
+/// LSL, LSR and ASR.
+pub fn shifts(alloc: Global, text: &[u8], shift: ThumbShift, cut: Cut<'_>) -> Said
+    ensures { IfOk result (λ said. forms.ReadsShift text.now shift (cut_of cut.entry) said) }
+{
+    match cut {
+        Cut::Two(rd, rs) => registers(alloc, text, shift_operation(shift), Cut::Two(rd, rs)),
+        Cut::Three(rd, rs, amount) => match without_first(text, b"#", amount) {
+            None => Ok(Err(LineKind::Syntax)),
+            Some(number) => {
+                let frame = shift_frame(shift, low_pair(alloc, text, rd, rs)?);
+                with_value(alloc, text, frame, number)
+            }
+        },
+        _ => Ok(Err(LineKind::Syntax)),
+    }
+}

@@ -1,0 +1,169 @@
+//! What the tokens behind an operation word say, in each form of a line.
+
+ghost use Rattle.std.specs.Prelude.{◌≡◌, IfOk};
+ghost use Rattle.asm_model.specs.Says as says;
+ghost use Rattle.asm_arm.specs.Lines as arm;
+ghost use Rattle.asm_arm.specs.Operands as arm_operands;
+ghost use Rattle.asm_arm.specs.Steps.{cut_of};
+ghost use Rattle.asm_thumb.specs.Lines as lines;
+ghost use Rattle.asm_thumb.specs.declared.frames.Frame.TheVariants as frame;
+
+use crate::data::{immediates, registers, shifts};
+use crate::frames::{Frame, Said, with_value};
+use crate::operands::{low_register, register_list, written_base};
+use crate::transfers::{Transfer, signed_transfer, transferred};
+use crate::words::Mnemonic;
+use asm_arm::operands::{Cut, both, cut_operands, register, without_first};
+use asm_model::{PseudoLine, Register, RegisterList, ThumbLine, Token, What};
+use sdt_fault::kinds::LineKind;
+use std::alloc::Global;
+use thumb_isa::HighOperation;
+
+/// The register that a list may have besides r0 to r7: pc for POP, lr for PUSH.
+fn link_of(load: bool) -> Option<u8>
+    ensures { result ≡ lines.link_of load }
+{
+    if load {
+        return Some(15);
+    }
+    Some(14)
+}
+
+fn push_pop(alloc: Global, text: &[u8], load: bool, cut: Cut<'_>) -> Said
+    ensures { IfOk result (λ said. said ≡ lines.push_pop text.now load (cut_of cut.entry)) }
+{
+    match cut {
+        Cut::One(list) => match register_list(alloc, text, link_of(load), list)? {
+            Ok(items) => Ok(Ok(What::Thumb(ThumbLine::PushPop {
+                load,
+                list: RegisterList { items },
+            }))),
+            Err(kind) => Ok(Err(kind)),
+        },
+        _ => Ok(Err(LineKind::Syntax)),
+    }
+}
+
+fn multiple(alloc: Global, text: &[u8], load: bool, cut: Cut<'_>) -> Said
+    ensures { IfOk result (λ said. said ≡ lines.multiple text.now load (cut_of cut.entry)) }
+{
+    match cut {
+        Cut::Two(base, list) => {
+            let rn = written_base(alloc, text, base)?;
+            let list = register_list(alloc, text, None, list)?;
+            match both(rn, list) {
+                Ok((rn, items)) => Ok(Ok(What::Thumb(ThumbLine::TransferMultiple {
+                    load,
+                    rn,
+                    list: RegisterList { items },
+                }))),
+                Err(kind) => Ok(Err(kind)),
+            }
+        }
+        _ => Ok(Err(LineKind::Syntax)),
+    }
+}
+
+fn exchange(alloc: Global, text: &[u8], cut: Cut<'_>) -> Said
+    ensures { IfOk result (λ said. said ≡ lines.exchange text.now (cut_of cut.entry)) }
+{
+    match cut {
+        Cut::One(rs) => match register(alloc, text, rs)? {
+            Ok(rs) => Ok(Ok(What::Thumb(ThumbLine::HighRegister {
+                operation: HighOperation::Bx,
+                rd: Register::Number(0),
+                rs,
+            }))),
+            Err(kind) => Ok(Err(kind)),
+        },
+        _ => Ok(Err(LineKind::Syntax)),
+    }
+}
+
+/// ADR, from what is read of its Rd.
+fn address_frame(rd: Result<Register, LineKind>) -> Result<Frame, LineKind>
+    ensures { result ≡ says.mapped (λ rd. frame.Address rd) rd }
+{
+    match rd {
+        Ok(rd) => Ok(Frame::Address { rd }),
+        Err(kind) => Err(kind),
+    }
+}
+
+fn address(alloc: Global, text: &[u8], cut: Cut<'_>) -> Said
+    ensures { IfOk result (λ said. lines.ReadsAddress text.now (cut_of cut.entry) said) }
+{
+    match cut {
+        Cut::Two(rd, target) => {
+            let frame = address_frame(low_register(alloc, text, rd)?);
+            with_value(alloc, text, frame, target)
+        }
+        _ => Ok(Err(LineKind::Syntax)),
+    }
+}
+
+/// A number, before which # may stand.
+fn numbered<'a>(text: &[u8], tokens: &'a [Token]) -> &'a [Token]
+    ensures { result.now ≡ arm.numbered tokens.now (arm_operands.without_first text.now arm.hash tokens.now) }
+{
+    match without_first(text, b"#", tokens) {
+        Some(number) => number,
+        None => tokens,
+    }
+}
+
+/// No operands.
+fn idle(tokens: &[Token]) -> Result<What, LineKind>
+    ensures { result ≡ arm.idle tokens.now }
+{
+    if tokens.is_empty() {
+        return Ok(What::Pseudo(PseudoLine::NoOperation));
+    }
+    Err(LineKind::Syntax)
+}
+
+/// What the tokens behind an operation word say.
+fn of_word(alloc: Global, text: &[u8], mnemonic: Mnemonic, tokens: &[Token]) -> Said
+    ensures { IfOk result (λ said. lines.ReadsWord text.now mnemonic tokens.now said) }
+{
+    let cut = cut_operands(text, tokens);
+    match mnemonic {
+        Mnemonic::Immediate(operation) => immediates(alloc, text, operation, cut),
+        Mnemonic::Shift(shift) => shifts(alloc, text, shift, cut),
+        Mnemonic::Register(operation) => registers(alloc, text, operation, cut),
+        Mnemonic::Transfer { load, width } => {
+            transferred(alloc, text, Transfer { load, width }, cut)
+        }
+        Mnemonic::TransferSigned(kind) => signed_transfer(alloc, text, kind, cut),
+        Mnemonic::PushPop { load } => push_pop(alloc, text, load, cut),
+        Mnemonic::TransferMultiple { load } => multiple(alloc, text, load, cut),
+        Mnemonic::BranchConditional(condition) => {
+            with_value(
+                alloc,
+                text,
+                Ok(Frame::BranchConditional { condition }),
+                tokens,
+            )
+        }
+        Mnemonic::Branch => with_value(alloc, text, Ok(Frame::Branch), tokens),
+        Mnemonic::BranchLink => with_value(alloc, text, Ok(Frame::BranchLink), tokens),
+        Mnemonic::BranchExchange => exchange(alloc, text, cut),
+        Mnemonic::SoftwareInterrupt => {
+            let number = numbered(text, tokens);
+            with_value(alloc, text, Ok(Frame::SoftwareInterrupt), number)
+        }
+        Mnemonic::Address => address(alloc, text, cut),
+        Mnemonic::NoOperation => Ok(idle(tokens)),
+        Mnemonic::FloatingPoint => Ok(Err(LineKind::FloatingPoint)),
+    }
+}
+
+/// What the tokens behind an operation word say; UnknownWord where no operation has that word.
+pub fn instruction(alloc: Global, text: &[u8], word: Option<Mnemonic>, tokens: &[Token]) -> Said
+    ensures { IfOk result (λ said. lines.Reads text.now word tokens.now said) }
+{
+    match word {
+        None => Ok(Err(LineKind::UnknownWord)),
+        Some(mnemonic) => of_word(alloc, text, mnemonic, tokens),
+    }
+}

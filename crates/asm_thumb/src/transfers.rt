@@ -1,0 +1,265 @@
+//! What the operands of transfers say.
+
+ghost use Rattle.std.specs.Prelude.{◌≡◌, IfOk, ◌&&◌};
+ghost use Rattle.asm_model.specs.Says as says;
+ghost use Rattle.asm_arm.specs.Lines as arm;
+ghost use Rattle.asm_arm.specs.Operands as arm_operands;
+ghost use Rattle.asm_arm.specs.Steps.{cut_of};
+ghost use Rattle.asm_thumb.specs.Steps.{cuts_in};
+ghost use Rattle.asm_thumb.specs.Transfers as transfers;
+ghost use Rattle.asm_thumb.specs.declared.frames.Frame.TheVariants as frame;
+
+use crate::frames::{Frame, Said, with_value, with_zero};
+use crate::operands::{low_and_any, low_register, low_three};
+use asm_arm::operands::{Cut, between, cut_operands, without_first};
+use asm_model::{Register, ThumbLine, Token, What};
+use sdt_fault::NoMemory;
+use sdt_fault::kinds::LineKind;
+use sdt_word::Width;
+use std::alloc::Global;
+use thumb_isa::SignedTransfer;
+
+/// A transfer as its word says it.
+#[derive(Clone, Copy)]
+pub struct Transfer {
+    pub load: bool,
+    pub width: Width,
+}
+
+/// Whether words are moved.
+fn is_word(width: Width) -> bool
+    ensures { result ≡ transfers.is_word width }
+{
+    match width {
+        Width::Word => true,
+        _ => false,
+    }
+}
+
+/// A transfer by one of r0 to r7 and a number.
+fn low_frame(word: Transfer, rd: Register, rn: Register) -> Frame
+    ensures { result ≡ transfers.low_frame word.load word.width rd rn }
+{
+    let load = word.load;
+    match word.width {
+        Width::Byte => Frame::Transfer {
+            load,
+            byte: true,
+            rd,
+            rn,
+        },
+        Width::Half => Frame::TransferHalf { load, rd, rn },
+        Width::Word => Frame::Transfer {
+            load,
+            byte: false,
+            rd,
+            rn,
+        },
+    }
+}
+
+/// A transfer by a base and a number.
+fn number_frame(
+    word: Transfer,
+    pair: Result<(Register, Register), LineKind>,
+) -> Result<Frame, LineKind>
+    ensures { result ≡ arm_operands.followed pair (λ p. transfers.number_frame word.load word.width p.0 p.1) }
+{
+    match pair {
+        Ok((rd, base)) => match base {
+            Register::Number(number) => {
+                if number < 8 {
+                    return Ok(low_frame(word, rd, Register::Number(number)));
+                }
+                if is_word(word.width) && number == 13 {
+                    let load = word.load;
+                    return Ok(Frame::TransferStack { load, rd });
+                }
+                if word.load && is_word(word.width) && number == 15 {
+                    return Ok(Frame::Literal { rd });
+                }
+                Err(LineKind::BadOperand)
+            }
+            Register::Named(name) => Ok(low_frame(word, rd, Register::Named(name))),
+        },
+        Err(kind) => Err(kind),
+    }
+}
+
+/// A transfer with a number, from the tokens of its registers.
+fn based(
+    alloc: Global,
+    text: &[u8],
+    word: Transfer,
+    rd: &[Token],
+    rn: &[Token],
+) -> Result<Result<Frame, LineKind>, NoMemory>
+    ensures { IfOk result (λ frame. frame ≡ transfers.based text.now word.load word.width rd.now rn.now) }
+{
+    Ok(number_frame(word, low_and_any(alloc, text, rd, rn)?))
+}
+
+/// A transfer of half-words without a sign.
+fn half_transfer(load: bool) -> SignedTransfer
+    ensures { result ≡ transfers.half_transfer load }
+{
+    if load {
+        return SignedTransfer::LoadHalf;
+    }
+    SignedTransfer::StoreHalf
+}
+
+/// A transfer by two registers.
+fn register_line(word: Transfer, rd: Register, rn: Register, ro: Register) -> What
+    ensures { result ≡ transfers.register_line word.load word.width rd rn ro }
+{
+    let load = word.load;
+    What::Thumb(match word.width {
+        Width::Byte => ThumbLine::TransferRegister {
+            load,
+            byte: true,
+            rd,
+            rn,
+            ro,
+        },
+        Width::Half => ThumbLine::TransferSigned {
+            kind: half_transfer(load),
+            rd,
+            rn,
+            ro,
+        },
+        Width::Word => ThumbLine::TransferRegister {
+            load,
+            byte: false,
+            rd,
+            rn,
+            ro,
+        },
+    })
+}
+
+/// A number or a register as an offset.
+fn any_offset(
+    alloc: Global,
+    text: &[u8],
+    word: Transfer,
+    rd: &[Token],
+    rn: &[Token],
+    offset: &[Token],
+) -> Said
+    ensures { IfOk result (λ said. transfers.ReadsOffset text.now word.load word.width rd.now rn.now offset.now (arm_operands.without_first text.now arm.hash offset.now) said) }
+{
+    if let Some(number) = without_first(text, b"#", offset) {
+        let frame = based(alloc, text, word, rd, rn)?;
+        return with_value(alloc, text, frame, number);
+    }
+    match low_three(alloc, text, rd, rn, offset)? {
+        Ok(((rd, rn), ro)) => Ok(Ok(register_line(word, rd, rn, ro))),
+        Err(kind) => Ok(Err(kind)),
+    }
+}
+
+/// The operands in brackets.
+fn bracketed<'a>(text: &[u8], tokens: &'a [Token]) -> Option<Cut<'a>>
+    ensures { cuts_in result ≡ transfers.bracketed text.now tokens.now }
+{
+    match between(text, b"[", b"]", tokens) {
+        None => None,
+        Some(inside) => Some(cut_operands(text, inside)),
+    }
+}
+
+/// A transfer with an address in brackets.
+fn in_brackets(alloc: Global, text: &[u8], word: Transfer, rd: &[Token], tokens: &[Token]) -> Said
+    ensures { IfOk result (λ said. transfers.ReadsBracketed text.now word.load word.width rd.now (transfers.bracketed text.now tokens.now) said) }
+{
+    match bracketed(text, tokens) {
+        Some(Cut::One(rn)) => with_zero(alloc, based(alloc, text, word, rd, rn)?),
+        Some(Cut::Two(rn, offset)) => any_offset(alloc, text, word, rd, rn, offset),
+        _ => Ok(Err(LineKind::Syntax)),
+    }
+}
+
+/// A number that is loaded.
+fn constant_frame(rd: Result<Register, LineKind>) -> Result<Frame, LineKind>
+    ensures { result ≡ says.mapped (λ rd. frame.Constant rd) rd }
+{
+    match rd {
+        Ok(rd) => Ok(Frame::Constant { rd }),
+        Err(kind) => Err(kind),
+    }
+}
+
+/// A label that is loaded.
+fn label_frame(rd: Result<Register, LineKind>) -> Result<Frame, LineKind>
+    ensures { result ≡ says.mapped (λ rd. frame.Label rd) rd }
+{
+    match rd {
+        Ok(rd) => Ok(Frame::Label { rd }),
+        Err(kind) => Err(kind),
+    }
+}
+
+/// A transfer whose second operand isn't in brackets.
+fn loaded(alloc: Global, text: &[u8], word: Transfer, rd: &[Token], tokens: &[Token]) -> Said
+    ensures { IfOk result (λ said. transfers.ReadsLoaded text.now (word.load && transfers.is_word word.width) rd.now tokens.now (arm_operands.without_first text.now arm.equals tokens.now) said) }
+{
+    if !word.load {
+        return Ok(Err(LineKind::Syntax));
+    }
+    if !is_word(word.width) {
+        return Ok(Err(LineKind::Syntax));
+    }
+    let rd = low_register(alloc, text, rd)?;
+    match without_first(text, b"=", tokens) {
+        Some(number) => with_value(alloc, text, constant_frame(rd), number),
+        None => with_value(alloc, text, label_frame(rd), tokens),
+    }
+}
+
+/// LDR and STR, with B and H.
+pub fn transferred(alloc: Global, text: &[u8], word: Transfer, cut: Cut<'_>) -> Said
+    ensures { IfOk result (λ said. transfers.ReadsTransfer text.now word.load word.width (cut_of cut.entry) said) }
+{
+    match cut {
+        Cut::Two(rd, address) => match without_first(text, b"[", address) {
+            Some(_) => in_brackets(alloc, text, word, rd, address),
+            None => loaded(alloc, text, word, rd, address),
+        },
+        _ => Ok(Err(LineKind::Syntax)),
+    }
+}
+
+/// LDRSB and LDRSH, behind their Rd.
+fn signed_inside(
+    alloc: Global,
+    text: &[u8],
+    kind: SignedTransfer,
+    rd: &[Token],
+    address: Option<Cut<'_>>,
+) -> Said
+    ensures { IfOk result (λ said. said ≡ transfers.signed_inside text.now kind rd.now (cuts_in address.entry)) }
+{
+    match address {
+        Some(Cut::Two(rn, ro)) => match low_three(alloc, text, rd, rn, ro)? {
+            Ok(((rd, rn), ro)) => Ok(Ok(What::Thumb(ThumbLine::TransferSigned {
+                kind,
+                rd,
+                rn,
+                ro,
+            }))),
+            Err(fault) => Ok(Err(fault)),
+        },
+        _ => Ok(Err(LineKind::Syntax)),
+    }
+}
+
+/// LDRSB and LDRSH.
+pub fn signed_transfer(alloc: Global, text: &[u8], kind: SignedTransfer, cut: Cut<'_>) -> Said
+    ensures { IfOk result (λ said. said ≡ transfers.signed_transfer text.now kind (cut_of cut.entry)) }
+{
+    match cut {
+        Cut::Two(rd, address) => signed_inside(alloc, text, kind, rd, bracketed(text, address)),
+        _ => Ok(Err(LineKind::Syntax)),
+    }
+}
