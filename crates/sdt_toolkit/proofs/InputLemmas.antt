@@ -1,5 +1,5 @@
 -- Names of inputs, and inputs one after the other.
-use Rattle.std.proofs.Common.{◌≡◌, ◌≢◌, ℕ, suc, ◌+◌, ◌==◌, ◌<◌, List, [], ◌∷◌, ◌++◌, length, drop, get_or, Bool, true, false, cond, Option, Some, None, Result, Ok, Err, refl, sym, ap, ◌∙◌, subst, append_assoc, add-one}
+use Rattle.std.proofs.Common.{◌≡◌, ◌≢◌, ℕ, suc, ◌+◌, ◌==◌, ◌<◌, List, [], ◌∷◌, ◌++◌, length, drop, get_or, Bool, true, false, cond, ◌&&◌, Option, Some, None, Result, Ok, Err, refl, sym, ap, ◌∙◌, subst, append_assoc, add-one}
 use Rattle.std.proofs.Math.Seq.{drop-cons}
 use Rattle.std.proofs.lemmas.Bool.{ne_eqb}
 use Rattle.std.proofs.lemmas.List.{append-nil}
@@ -20,8 +20,8 @@ use Rattle.link_model.specs.declared.selection.Named.{Named}
 use Rattle.tool_library.specs.declared.linkables.Linkable.{Linkable}
 use Rattle.tool_library.specs.declared.linkables.Linkable.TheVariants as input
 use Rattle.tool_library.specs.Linkables.{linkable_of, IsValidInput}
-use Rattle.sdt_toolkit.specs.Inputs.{AreValid, InputBy, InputIs, InputsAre, IsSource, Judges, NamedIs, archives_among, as_archive, as_object, last_part, named, objects_among}
-use Rattle.sdt_toolkit.specs.Reads.{Reads, IsAmong, TellsOf}
+use Rattle.sdt_toolkit.specs.Inputs.{AreValid, InputBy, InputIs, InputsAre, IsSource, NamedIs, archives_among, as_archive, as_object, is_source_name, last_part, named, objects_among}
+use Rattle.sdt_toolkit.specs.Reads.{Reads, IsAmong, Judged, Judges, TellsOf, Told}
 use Rattle.sdt_toolkit.proofs.ReadLemmas.{assembled_among, cause_among, failed_among}
 
 -- ---- the last part of a name
@@ -98,7 +98,7 @@ judged_source s sources name bytes (Err (fault.Refused r)) taken h = h
 judged_source s sources name bytes (Err (fault.ReadFault q)) taken h = (taken, h)
 judged_source s sources name bytes (Err fault.NoMemory) taken h = tt
 
-pub by_source : (s : Reads) (sources b : Bool) (name bytes : List ℕ) (r : Result Linkable Fault) → sources ≡ true → b ≡ true → TellsOf s r (IsSource s name bytes)
+by_source : (s : Reads) (sources b : Bool) (name bytes : List ℕ) (r : Result Linkable Fault) → sources ≡ true → b ≡ true → TellsOf s r (IsSource s name bytes)
     → Judges s sources r (InputBy s b name bytes)
 by_source s sources b name bytes r taken is h =
     subst (λ (x : Bool). Judges s sources r (InputBy s x name bytes)) (sym is) (judged_source s sources name bytes r taken h)
@@ -109,19 +109,47 @@ by_file_so s sources name bytes (Err (fault.Refused e)) h = sym h
 by_file_so s sources name bytes (Err (fault.ReadFault q)) h = absurd h
 by_file_so s sources name bytes (Err fault.NoMemory) h = tt
 
-pub by_file : (s : Reads) (sources b : Bool) (name bytes : List ℕ) (r : Result Linkable Fault) → b ≡ false → Gives r (linkable_of name bytes)
+by_file : (s : Reads) (sources b : Bool) (name bytes : List ℕ) (r : Result Linkable Fault) → b ≡ false → Gives r (linkable_of name bytes)
     → Judges s sources r (InputBy s b name bytes)
 by_file s sources b name bytes r is h =
     subst (λ (x : Bool). Judges s sources r (InputBy s x name bytes)) (sym is) (by_file_so s sources name bytes r h)
 
-pub named_so : (s : Reads) (sources : Bool) (name bytes : List ℕ) (x : Linkable) → InputIs s sources name bytes (Ok x) → NamedIs s sources name bytes (Ok (named name x))
+named_so : (s : Reads) (sources : Bool) (name bytes : List ℕ) (x : Linkable) → InputIs s sources name bytes (Ok x) → NamedIs s sources name bytes (Ok (named name x))
 named_so s sources name bytes x h = (Ok x, h, refl)
 
-pub unnamed : (s : Reads) (sources : Bool) (name bytes : List ℕ) (f : Fault) → Judges {A = Linkable} s sources (Err f) (InputIs s sources name bytes)
+unnamed : (s : Reads) (sources : Bool) (name bytes : List ℕ) (f : Fault) → Judges {A = Linkable} s sources (Err f) (InputIs s sources name bytes)
     → Judges {A = Named Linkable} s sources (Err f) (NamedIs s sources name bytes)
 unnamed s sources name bytes (fault.Refused r) h = (Err r, h, refl)
 unnamed s sources name bytes (fault.ReadFault q) h = h
 unnamed s sources name bytes fault.NoMemory h = tt
+
+-- the same whichever reads a call is among
+module _ (told : Option Files) (before now : ℕ) (sources : Bool) (name bytes : List ℕ) where
+  pub source_judged : (r : Result Linkable Fault) → sources ≡ true → (sources && is_source_name name) ≡ true → Told told before now r (λ s. IsSource s name bytes)
+      → Judged told before now sources r (λ s. InputIs s sources name bytes)
+  unfolding Judged Told
+  source_judged r taken is h = λ s among. by_source s sources (sources && is_source_name name) name bytes r taken is (h s among)
+
+  pub file_judged : (r : Result Linkable Fault) → (sources && is_source_name name) ≡ false → Gives r (linkable_of name bytes)
+      → Judged told before now sources r (λ s. InputIs s sources name bytes)
+  unfolding Judged
+  file_judged r is h = λ s among. by_file s sources (sources && is_source_name name) name bytes r is h
+
+  pub named_judged : (x : Linkable) → Judged told before now sources (Ok x) (λ s. InputIs s sources name bytes)
+      → Judged told before now sources (Ok (named name x)) (λ s. NamedIs s sources name bytes)
+  unfolding Judged
+  named_judged x h = λ s among. named_so s sources name bytes x (h s among)
+
+  pub unnamed_judged : (f : Fault) → Judged {A = Linkable} told before now sources (Err f) (λ s. InputIs s sources name bytes)
+      → Judged {A = Named Linkable} told before now sources (Err f) (λ s. NamedIs s sources name bytes)
+  unfolding Judged
+  unnamed_judged f h = λ s among. unnamed s sources name bytes f (h s among)
+
+-- want of memory is free
+pub none_judged : {A : Type 0} (told : Option Files) (before now : ℕ) (sources : Bool) (is : Reads → Result A Refusal → Type 0)
+    → Judged {A = A} told before now sources (Err fault.NoMemory) is
+unfolding Judged
+none_judged told before now sources is = λ s among. tt
 
 -- ---- inputs in order
 

@@ -22,8 +22,8 @@ use Rattle.tool_answers.specs.Inputs.{AreInputs, InputsEnd, inputs_of, IsReached
 use Rattle.tool_answers.specs.Outcomes.{Outcome, Outside, IsLeft, Says}
 use Rattle.tool_library.specs.declared.linkables.Linkable.{Linkable}
 use Rattle.tool_library.specs.Libraries.{end_answer, fault_answer}
-use Rattle.sdt_toolkit.specs.Inputs.{InputsAre, Judges, Tells}
-use Rattle.sdt_toolkit.specs.Reads.{Reads, HasFailed, reads_of}
+use Rattle.sdt_toolkit.specs.Inputs.{InputsAre, Tells}
+use Rattle.sdt_toolkit.specs.Reads.{Reads, HasFailed, Judges, reads_of}
 use Rattle.sdt_toolkit.specs.Links.{AllWritten, FilesAsk, ImageIs, InputsMake, LinkAnswers, LinkAsks, LinkMakes, LinkSays, ReadAsks, WordsAsk, filed, files_read, inputs_in, outputs, read_by, text_in, writes_all}
 
 -- ---- what is read

@@ -14,7 +14,7 @@ use Rattle.link_model.specs.declared.selection.Named.{Named}
 use Rattle.tool_library.specs.declared.linkables.Linkable.{Linkable}
 use Rattle.tool_library.specs.declared.linkables.Linkable.TheVariants as input
 use Rattle.tool_library.specs.Linkables.{linkable_of, IsValidInput}
-use Rattle.sdt_toolkit.specs.Reads.{Reads, HasCause, HasFailed}
+use Rattle.sdt_toolkit.specs.Reads.{Reads, HasCause}
 
 -- what a call gives, of which this is told; want of memory is free
 abbrev pub Tells : {A : Type 0} → Result A Fault → (Result A Refusal → Type 0) → Type 0
@@ -22,13 +22,6 @@ Tells (Ok x) is = is (Ok x)
 Tells (Err (fault.Refused r)) is = is (Err r)
 Tells (Err (fault.ReadFault name)) is = ⊥
 Tells (Err fault.NoMemory) is = Unit {0}
-
--- the same, where a read of a source may fail
-abbrev pub Judges : {A : Type 0} → Reads → Bool → Result A Fault → (Result A Refusal → Type 0) → Type 0
-Judges s sources (Ok x) is = is (Ok x)
-Judges s sources (Err (fault.Refused r)) is = is (Err r)
-Judges s sources (Err (fault.ReadFault name)) is = (sources ≡ true) × HasFailed s
-Judges s sources (Err fault.NoMemory) is = Unit {0}
 
 -- ---- names
 

@@ -1,5 +1,5 @@
 -- What a store tells of its files while a command reads, and its counts of read faults before and behind that. This project's.
-use Rattle.std.specs.Prelude.{◌≡◌, ℕ, ◌≤◌, List, Option, Result, Ok, Err}
+use Rattle.std.specs.Prelude.{◌≡◌, ℕ, ◌≤◌, Bool, true, List, Option, Result, Ok, Err}
 use Rattle.sdt_fault.specs.declared.answer.Fault.{Fault}
 use Rattle.sdt_fault.specs.declared.answer.Fault.TheVariants as fault
 use Rattle.sdt_fault.specs.declared.refusal.Refusal.{Refusal}
@@ -37,3 +37,17 @@ TellsOf s (Ok x) is = is (Ok x)
 TellsOf s (Err (fault.Refused r)) is = is (Err r)
 TellsOf s (Err (fault.ReadFault name)) is = HasFailed s
 TellsOf s (Err fault.NoMemory) is = Unit {0}
+
+-- the same of a call over these files, with these counts before and behind it, whichever reads it is among
+unfoldable pub Told : {A : Type 0} → Option Files → ℕ → ℕ → Result A Fault → (Reads → Result A Refusal → Type 0) → Type 0
+Told told before now r is = (s : Reads) → IsAmong told before now s → TellsOf s r (is s)
+
+-- where a read may fail only if sources are taken
+abbrev pub Judges : {A : Type 0} → Reads → Bool → Result A Fault → (Result A Refusal → Type 0) → Type 0
+Judges s sources (Ok x) is = is (Ok x)
+Judges s sources (Err (fault.Refused r)) is = is (Err r)
+Judges s sources (Err (fault.ReadFault name)) is = (sources ≡ true) × HasFailed s
+Judges s sources (Err fault.NoMemory) is = Unit {0}
+
+unfoldable pub Judged : {A : Type 0} → Option Files → ℕ → ℕ → Bool → Result A Fault → (Reads → Result A Refusal → Type 0) → Type 0
+Judged told before now sources r is = (s : Reads) → IsAmong told before now s → Judges s sources r (is s)

@@ -1,8 +1,8 @@
 //! The command.
 
 ghost use Rattle.std.specs.Prelude.{◌≡◌, ◌<◌, ◌≤◌, ◌^◌, IfOk, length};
-ghost use Rattle.sdt_toolkit.specs.Reads.{Reads, IsAmong};
-ghost use Rattle.sdt_toolkit.specs.Sources.{AssemblyAnswersOver, SpellsAs};
+ghost use Rattle.sdt_toolkit.specs.Reads.{Told};
+ghost use Rattle.sdt_toolkit.specs.Sources.{AssemblyAnswersOver, Spells};
 
 use aof_object::write_object;
 use armasm_core::assemble;
@@ -21,9 +21,8 @@ fn object_file<S: Store>(
     source: &Text,
     text: &[u8],
 ) -> Result<Bytes, Fault>
-    ensures spells { (s : Reads)
-        → IsAmong (S.files store.old) (S.read_faults store.old) (S.read_faults store.new) s
-        → SpellsAs s source.now text.now result }
+    ensures spells { Told (S.files store.old) (S.read_faults store.old) (S.read_faults store.new)
+        result (λ s. Spells s source.now text.now) }
     ensures short { IfOk result (λ bytes. length bytes < 2 ^ 32) }
     ensures files { S.files store.new ≡ S.files store.old }
     ensures read_faults { S.read_faults store.old ≤ S.read_faults store.new }

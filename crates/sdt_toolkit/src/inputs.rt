@@ -1,8 +1,8 @@
 //! The inputs of a link: which files are read, and what each of them is.
 
 ghost use Rattle.std.specs.Prelude.{◌≡◌, ◌<◌, ◌≤◌, ◌^◌, All, IfOk, length};
-ghost use Rattle.sdt_toolkit.specs.Inputs.{AreValid, InputIs, InputsAre, Judges, NamedIs};
-ghost use Rattle.sdt_toolkit.specs.Reads.{IsAmong, Reads, TellsOf};
+ghost use Rattle.sdt_toolkit.specs.Inputs.{AreValid, InputIs, InputsAre, NamedIs};
+ghost use Rattle.sdt_toolkit.specs.Reads.{Judged, Told};
 ghost use Rattle.sdt_toolkit.specs.Links.{files_read, inputs_in, read_by, text_in};
 ghost use Rattle.tool_library.specs.Linkables.{IsValidInput};
 
@@ -86,9 +86,8 @@ fn source_input<S: Store>(
     name: &Text,
     bytes: &[u8],
 ) -> Result<Linkable, Fault>
-    ensures value { (s : Reads)
-        → IsAmong (S.files store.old) (S.read_faults store.old) (S.read_faults store.new) s
-        → TellsOf s result (IsSource s name.now bytes.now) }
+    ensures value { Told (S.files store.old) (S.read_faults store.old) (S.read_faults store.new)
+        result (λ s. IsSource s name.now bytes.now) }
     ensures valid { IfOk result IsValidInput }
     ensures files { S.files store.new ≡ S.files store.old }
     ensures read_faults { S.read_faults store.old ≤ S.read_faults store.new }
@@ -109,9 +108,8 @@ fn input<S: Store>(
     bytes: &[u8],
 ) -> Result<Linkable, Fault>
     requires { length bytes.now < 2 ^ 32 }
-    ensures value { (s : Reads)
-        → IsAmong (S.files store.old) (S.read_faults store.old) (S.read_faults store.new) s
-        → Judges s sources result (InputIs s sources name.now bytes.now) }
+    ensures value { Judged (S.files store.old) (S.read_faults store.old) (S.read_faults store.new)
+        sources result (λ s. InputIs s sources name.now bytes.now) }
     ensures valid { IfOk result IsValidInput }
     ensures files { S.files store.new ≡ S.files store.old }
     ensures read_faults { S.read_faults store.old ≤ S.read_faults store.new }
@@ -131,9 +129,8 @@ fn named_input<S: Store>(
     bytes: &[u8],
 ) -> Result<Named<Linkable>, Fault>
     requires { length bytes.now < 2 ^ 32 }
-    ensures value { (s : Reads)
-        → IsAmong (S.files store.old) (S.read_faults store.old) (S.read_faults store.new) s
-        → Judges s sources result (NamedIs s sources name.now bytes.now) }
+    ensures value { Judged (S.files store.old) (S.read_faults store.old) (S.read_faults store.new)
+        sources result (λ s. NamedIs s sources name.now bytes.now) }
     ensures valid { IfOk result (λ x. IsValidInput x.value) }
     ensures files { S.files store.new ≡ S.files store.old }
     ensures read_faults { S.read_faults store.old ≤ S.read_faults store.new }
@@ -158,9 +155,8 @@ pub fn inputs_of<S: Store>(
 ) -> Result<List<Named<Linkable>>, Fault>
     requires few { length contents.now ≡ length names.now }
     requires bounded { All (λ bytes. length bytes < 2 ^ 32) contents.now }
-    ensures value { (s : Reads)
-        → IsAmong (S.files store.old) (S.read_faults store.old) (S.read_faults store.new) s
-        → Judges s sources result (InputsAre s sources names.now contents.now) }
+    ensures value { Judged (S.files store.old) (S.read_faults store.old) (S.read_faults store.new)
+        sources result (λ s. InputsAre s sources names.now contents.now) }
     ensures valid { IfOk result AreValid }
     ensures files { S.files store.new ≡ S.files store.old }
     ensures read_faults { S.read_faults store.old ≤ S.read_faults store.new }

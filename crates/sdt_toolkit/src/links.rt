@@ -1,8 +1,8 @@
 //! The commands `link` and `build`.
 
 ghost use Rattle.std.specs.Prelude.{◌≡◌, ◌<◌, ◌≤◌, ◌^◌, All, IfOk, Ok, length};
-ghost use Rattle.sdt_toolkit.specs.Inputs.{AreValid, Judges, Tells};
-ghost use Rattle.sdt_toolkit.specs.Reads.{IsAmong, Reads};
+ghost use Rattle.sdt_toolkit.specs.Inputs.{AreValid, Tells};
+ghost use Rattle.sdt_toolkit.specs.Reads.{Judged};
 ghost use Rattle.sdt_toolkit.specs.Links.{InputsMake, LinkAnswersOver, LinkMakes, files_read};
 ghost use Rattle.tool_words.specs.Commands.{IsLinked};
 
@@ -51,9 +51,8 @@ fn made<S: Store>(
     requires good { IsLinked words.now }
     requires few { length contents.now ≡ length (files_read words.now) }
     requires bounded { All (λ bytes. length bytes < 2 ^ 32) contents.now }
-    ensures makes { (s : Reads)
-        → IsAmong (S.files store.old) (S.read_faults store.old) (S.read_faults store.new) s
-        → Judges s sources result (LinkMakes s sources words.now contents.now) }
+    ensures makes { Judged (S.files store.old) (S.read_faults store.old) (S.read_faults store.new)
+        sources result (λ s. LinkMakes s sources words.now contents.now) }
     ensures short { IfOk result (λ files. All (λ f. length f.bytes < 2 ^ 32) files) }
     ensures files { S.files store.new ≡ S.files store.old }
     ensures read_faults { S.read_faults store.old ≤ S.read_faults store.new }

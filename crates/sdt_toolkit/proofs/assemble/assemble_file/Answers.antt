@@ -1,6 +1,6 @@
 use Rattle.std.proofs.Common.{ℕ, List, Ok, Err, refl, sym, ◌∙◌, subst, arith}
 use Rattle.tool_answers.specs.Outcomes.{unprinted}
-use Rattle.sdt_toolkit.specs.Reads.{IsAmong, reads_of}
+use Rattle.sdt_toolkit.specs.Reads.{IsAmong, Told, reads_of}
 use Rattle.sdt_toolkit.specs.Sources.{SpellsAs}
 use Rattle.sdt_toolkit.proofs.EndLemmas.{unread, refused, wrote_object}
 use Rattle.sdt_toolkit.proofs.assemble.assemble_file.Goals as goal
@@ -12,6 +12,7 @@ returns-in-Err g c = λ shown faults.
     rw c.end_answer.ensures (unread c.in-Err.end c.args.source.now c.args.output o c.in-Err.ensures.end (record { files = c.read_input.ensures.files; sink = refl }))
 
 pub returns-in-Ok-object_file : goal.returns-in-Ok-object_file
+unfolding Told
 returns-in-Ok-object_file g c = λ shown faults.
     let o = unprinted shown faults (g.S.Store.files c.args.store.now) (g.S.Store.files c.write.new.store) (g.S.Store.read_faults c.args.store.now) (g.S.Store.read_faults c.write.new.store) (g.S.Store.write_faults c.args.store.now) (g.S.Store.write_faults c.write.new.store) in
     let among : IsAmong (g.S.Store.files c.read_input.new.store) (g.S.Store.read_faults c.read_input.new.store) (g.S.Store.read_faults c.object_file.new.store) (reads_of o) =
@@ -21,6 +22,7 @@ returns-in-Ok-object_file g c = λ shown faults.
     wrote_object c.write.result c.args.source.now c.args.output c.in-Ok.text c.in-Ok-object_file.object o c.in-Ok.ensures.found spells (got_none shown) refl says
 
 pub returns-in-Err-object_file : goal.returns-in-Err-object_file
+unfolding Told
 returns-in-Err-object_file g c = λ shown faults.
     let o = unprinted shown faults (g.S.Store.files c.args.store.now) (g.S.Store.files c.object_file.new.store) (g.S.Store.read_faults c.args.store.now) (g.S.Store.read_faults c.object_file.new.store) (g.S.Store.write_faults c.args.store.now) (g.S.Store.write_faults c.object_file.new.store) in
     let among : IsAmong (g.S.Store.files c.read_input.new.store) (g.S.Store.read_faults c.read_input.new.store) (g.S.Store.read_faults c.object_file.new.store) (reads_of o) =

@@ -3,6 +3,7 @@ use Rattle.std.proofs.lemmas.List.{drop_all}
 use Rattle.base_lemmas.proofs.BaseLemmas.{all_append}
 use Rattle.tool_library.specs.Linkables.{IsValidInput}
 use Rattle.sdt_toolkit.proofs.InputLemmas.{one_more, one_refused, all_judged, begun}
+use Rattle.sdt_toolkit.specs.Reads.{Judged}
 use Rattle.sdt_toolkit.proofs.ReadLemmas.{among_later}
 use Rattle.sdt_toolkit.proofs.inputs.inputs_of.Goals as goal
 
@@ -16,6 +17,7 @@ loop-k-entry g c = record {
 }
 
 pub returns-in-Err-clause-value : goal.returns-in-Err-clause-value
+unfolding Judged
 returns-in-Err-clause-value g c = λ s among.
     let told = g.S.Store.files in
     let count = g.S.Store.read_faults in
@@ -29,6 +31,7 @@ returns-in-Err-clause-value g c = λ s among.
     c.loop-k-test.true c.index-names-k.is (rw c.requires.few c.loop-k-test.true) c.index-contents-k.is (before.value s there) c.in-Err.fault is
 
 pub loop-k-preserved : goal.loop-k-preserved
+unfolding Judged
 loop-k-preserved g c =
     let told = g.S.Store.files in
     let count = g.S.Store.read_faults in
@@ -49,6 +52,7 @@ loop-k-preserved g c =
     }
 
 pub returns-clause-value : goal.returns-clause-value
+unfolding Judged
 returns-clause-value g c = λ s among.
     rw c.from_vec.ensures (all_judged s c.args.sources c.args.names.now c.args.contents.now c.loop-k.k c.loop-k.inputs.items
     (drop_all c.loop-k.k c.args.names.now c.loop-k-test.false) (c.loop-k.invariant.value s among))

@@ -1,8 +1,10 @@
 use Rattle.std.proofs.lemmas.Result.{err_from_is_err_and}
 use Rattle.sdt_toolkit.proofs.InputLemmas.{assembled_as, unassembled_as}
+use Rattle.sdt_toolkit.specs.Reads.{Told}
 use Rattle.sdt_toolkit.proofs.inputs.source_input.Goals as goal
 
 pub returns-in_err-object-clause-value : goal.returns-in_err-object-clause-value
+unfolding Told
 returns-in_err-object-clause-value g c = λ s among.
     let p = err_from_is_err_and c.from_residual.result c.from_residual.ensures.1 in
     let files = g.S.Store.files c.args.store.now in
@@ -11,6 +13,7 @@ returns-in_err-object-clause-value g c = λ s among.
     rw (p.1, p.2) (unassembled_as files before now s among c.args.name.now c.args.bytes.now c.in_err-object.field-0.0 c.in_err-object.ensures.assembled c.in_err-object.ensures.cause)
 
 pub returns-clause-value : goal.returns-clause-value
+unfolding Told
 returns-clause-value g c = λ s among.
     let files = g.S.Store.files c.args.store.now in
     let before = g.S.Store.read_faults c.args.store.now in
