@@ -23,9 +23,9 @@ returns-in-Err-clause-value g c = λ s among.
     let count = g.S.Store.read_faults in
     let before = c.loop-k.invariant in
     let here = among_later (told c.args.store.now) (told c.loop-k.store) (count c.args.store.now) (count c.loop-k.store) (count c.named_input.new.store) (count c.named_input.new.store) s
-        before.files before.read_faults (omega arith) among in
+    before.files before.read_faults (omega arith) among in
     let there = among_later (told c.args.store.now) (told c.args.store.now) (count c.args.store.now) (count c.args.store.now) (count c.loop-k.store) (count c.named_input.new.store) s
-        refl (omega arith) c.named_input.ensures.read_faults among in
+    refl (omega arith) c.named_input.ensures.read_faults among in
     let is = rw c.as_slice.ensures at c.in-Err.ensures.value s here in
     one_refused s c.args.sources c.args.names.now c.args.contents.now c.loop-k.k c.loop-k.inputs.items c.index-names-k.result c.index-contents-k.result
     c.loop-k-test.true c.index-names-k.is (rw c.requires.few c.loop-k-test.true) c.index-contents-k.is (before.value s there) c.in-Err.fault is
@@ -39,9 +39,9 @@ loop-k-preserved g c =
     record {
       value = rw c.in_ok-push-in-Ok.ensures.items (λ s among.
           let here = among_later (told c.args.store.now) (told c.loop-k.store) (count c.args.store.now) (count c.loop-k.store) (count c.named_input.new.store) (count c.named_input.new.store) s
-              before.files before.read_faults (omega arith) among in
+          before.files before.read_faults (omega arith) among in
           let there = among_later (told c.args.store.now) (told c.args.store.now) (count c.args.store.now) (count c.args.store.now) (count c.loop-k.store) (count c.named_input.new.store) s
-              refl (omega arith) c.named_input.ensures.read_faults among in
+          refl (omega arith) c.named_input.ensures.read_faults among in
           let is = rw c.as_slice.ensures at c.in-Ok.ensures.value s here in
           one_more s c.args.sources c.args.names.now c.args.contents.now c.loop-k.k c.loop-k.inputs.items c.index-names-k.result c.index-contents-k.result
           c.loop-k-test.true c.index-names-k.is (rw c.requires.few c.loop-k-test.true) c.index-contents-k.is (before.value s there) c.in-Ok.input is);
