@@ -180,12 +180,12 @@ pub record IsAnswered (k : Kind) (ram : Option (List Range32)) (os : List (Named
   pub placement : Placement
   pub objects : linked.objects ≡ os
   pub made : IsMade k ram linked assigned veneers placement
-  pub image : image_of k (made_by linked assigned veneers placement) ≡ i
+  pub image : image_of k (made_by linked assigned veneers placement) [] ≡ i
 
 module _ (k : Kind) (ram : Option (List Range32)) (os : List (Named Object)) (i : Image) (sound : AreSound os)
     (loads : AllByRecursion (λ load. load.base % 4 ≡ 0) (description k)) (bases : AllByRecursion (λ r. IsWholeBase r.base) (described_regions k)) where
   with_placement : (l : Linked) (a : Assigned) (vs : List Veneer) (p : Placement) (m : Made) → IsSelected os l → assignment_of k l.objects ≡ Ok a
-      → planned_veneers l a (has_header k) ≡ Ok vs → placed k ram (contents_of l.objects a.regions vs) ≡ Ok p → made_at l a vs p ≡ Ok m → image_of k m ≡ i
+      → planned_veneers l a (has_header k) ≡ Ok vs → placed k ram (contents_of l.objects a.regions vs) ≡ Ok p → made_at l a vs p ≡ Ok m → image_of k m [] ≡ i
       → IsAnswered k ram os i
   with_placement l a vs p m s assigned planned places made image =
       let (bytes, applies, is) = steps_ok (applied l p) (λ bytes. Ok (record { linked = l; assigned = a; veneers = vs; placement = p; bytes = bytes })) m made in
@@ -208,14 +208,16 @@ module _ (k : Kind) (ram : Option (List Range32)) (os : List (Named Object)) (i 
           placed = places;
           sound = none;
         };
-        image = ap (λ (b : List (List ℕ)). image_of k (record { linked = l; assigned = a; veneers = vs; placement = p; bytes = b })) (sym same)
-            ∙ ap (image_of k) (ok_same one m is) ∙ image;
+        image = ap (λ (b : List (List ℕ)). image_of k (record { linked = l; assigned = a; veneers = vs; placement = p; bytes = b }) []) (sym same)
+            ∙ ap (λ (n : Made). image_of k n []) (ok_same one m is) ∙ image;
       }
 
-  pub answered : linking k ram os ≡ Ok i → IsAnswered k ram os i
-  answered h =
-      let (l, selection, behind) = steps_ok (selection_of (Some (symbols_of k)) os) (λ l. made_of k ram l >>= λ m. Ok (image_of k m)) i h in
-      let (m, made, image) = steps_ok (made_of k ram l) (λ m. Ok (image_of k m)) i behind in
+  pub answered : can_move k ≡ false → linking k ram os ≡ Ok i → IsAnswered k ram os i
+  answered fixed h =
+      let (l, selection, behind) = steps_ok (selection_of (Some (symbols_of k)) os) (λ l. made_of k ram l >>= image_made k) i h in
+      let (m, made, behind_places) = steps_ok (made_of k ram l) (image_made k) i behind in
+      let none : moves_in k m.linked m.placement ≡ Ok [] = nothing_moves (can_move k) fixed (moved m.linked m.placement) in
+      let image : image_made k m ≡ Ok i = behind_places in
       let (a, assigned, behind_regions) = steps_ok (assignment_of k l.objects) (made_with k ram l) m made in
       let (vs, planned, behind_veneers) = steps_ok (planned_veneers l a (has_header k)) (λ vs. placed k ram (contents_of l.objects a.regions vs) >>= made_at l a vs) m behind_regions in
       let (p, places, behind_places) = steps_ok (placed k ram (contents_of l.objects a.regions vs)) (made_at l a vs) m behind_veneers in
