@@ -1,5 +1,5 @@
 -- The sizes of an image that is linked, from what is told of its plan.
-use Rattle.std.proofs.Common.{◌≡◌, ℕ, suc, ◌+◌, ◌^◌, ◌≤◌, List, [], ◌∷◌, ◌++◌, map, sum_by, Bool, true, false, cond, nat_lt, Option, Some, None, Result, Ok, Err, refl, sym, ap, ◌∙◌, subst, arith}
+use Rattle.std.proofs.Common.{◌≡◌, ℕ, suc, ◌+◌, ◌^◌, ◌≤◌, List, [], ◌∷◌, ◌++◌, map, sum_by, Bool, true, false, cond, nat_lt, Option, Some, None, Result, Ok, Err, refl, subst, arith}
 use Rattle.std.proofs.lemmas.Bool.{ltb-false}
 use Rattle.std.proofs.lemmas.List.Sums.{sum_by-append, sum_by-cons}
 use Rattle.std.specs.List.{AllByRecursion}
@@ -30,7 +30,8 @@ use Rattle.link_apply.specs.Applied.{applied}
 use Rattle.scatter_text.specs.Reading.{scatter_of}
 use Rattle.armlink_core.specs.declared.making.Made.{Made}
 use Rattle.armlink_core.specs.Linking.{made_at, made_of, made_with, symbols_of}
-use Rattle.armlink_core.specs.Images.{described, form_of, image_of, linking, scatter_linking}
+use Rattle.armlink_core.specs.Images.{described, form_of, image_made, image_of}
+use Rattle.armlink_core.specs.Moves.{moves_in}
 use Rattle.armlink_core.specs.Laws.{IsSized, LinkedSizes, ScatterSizes}
 
 ok_same : {A : Type 0} (a b : A) → ◌≡◌ {A = Result A Refusal} (Ok a) (Ok b) → a ≡ b
@@ -92,7 +93,7 @@ placed_small k ram c p h =
 
 -- ---- an image
 
-made_small : (k : Kind) (ram : Option (List Range32)) (l : Linked) (m : Made) → made_of k ram l ≡ Ok m → AllByRecursion IsSmall m.placement.regions
+pub made_small : (k : Kind) (ram : Option (List Range32)) (l : Linked) (m : Made) → made_of k ram l ≡ Ok m → AllByRecursion IsSmall m.placement.regions
 made_small k ram l m h =
     let a = steps_ok (assignment_of k l.objects) (made_with k ram l) m h in
     let vs = steps_ok (planned_veneers l a.0 (has_header k)) (λ vs. placed k ram (contents_of l.objects a.0.regions vs) >>= made_at l a.0 vs) m a.2 in
@@ -103,11 +104,12 @@ made_small k ram l m h =
 
 pub linked_sizes : LinkedSizes
 linked_sizes k ram os i h =
-    let l = steps_ok (selection_of (Some (symbols_of k)) os) (λ l. made_of k ram l >>= λ m. Ok (image_of k m)) i h in
-    let m = steps_ok (made_of k ram l.0) (λ m. Ok (image_of k m)) i l.2 in
-    let one : Image = image_of k m.0 in
+    let l = steps_ok (selection_of (Some (symbols_of k)) os) (λ l. made_of k ram l >>= image_made k) i h in
+    let m = steps_ok (made_of k ram l.0) (image_made k) i l.2 in
+    let moves = steps_ok (moves_in k m.0.linked m.0.placement) (λ moves. Ok (image_of k m.0 moves)) i m.2 in
+    let one : Image = image_of k m.0 moves.0 in
     let sized : IsSized (form_of k) one = record { form = refl; regions = made_small k ram l.0 m.0 m.1 } in
-    subst (IsSized (form_of k)) (ok_same one i m.2) sized
+    subst (IsSized (form_of k)) (ok_same one i moves.2) sized
 
 described_sizes : (d : Result Scatter Refusal) (ram : Option (List Range32)) (os : List (Named Object)) (i : Image) → described d ram os ≡ Ok i → IsSized form.Scatter i
 described_sizes (Ok s) ram os i h = linked_sizes (kind.Scatter s) ram os i h

@@ -1,7 +1,7 @@
 -- The image of a link that is made, and what a link of objects and libraries answers: the refusals of selection, then
 -- that of a description that can't be read, then those of the link (SDT 2.50 Reference Guide, armlink; the order, and
 -- that an image's start is its startup code's, are this project's).
-use Rattle.std.specs.Prelude.{◌≡◌, ℕ, suc, ◌+◌, ◌%◌, ◌^◌, ◌==◌, if◌then◌else◌, List, [], ◌∷◌, ◌++◌, Option, Some, None, unwrap_or, Result, Ok, Err}
+use Rattle.std.specs.Prelude.{◌≡◌, ℕ, suc, ◌+◌, ◌%◌, ◌^◌, ◌==◌, Bool, true, false, if◌then◌else◌, List, [], ◌∷◌, ◌++◌, length, Option, Some, None, unwrap_or, Result, Ok, Err}
 use Rattle.sdt_word.specs.declared.ranges.Range32.{Range32}
 use Rattle.sdt_fault.specs.declared.answer.Fault.{Fault}
 use Rattle.sdt_fault.specs.declared.answer.Fault.TheVariants as fault
@@ -9,6 +9,7 @@ use Rattle.sdt_fault.specs.declared.refusal.Refusal.{Refusal}
 use Rattle.chunk_file.specs.Reading.{◌>>=◌}
 use Rattle.aof_object.specs.declared.records.Object.{Object}
 use Rattle.alf_archive.specs.declared.records.Archive.{Archive}
+use Rattle.boot_code.specs.Aif.{aif_bound}
 use Rattle.boot_code.specs.Laws.{bound_of}
 use Rattle.link_model.specs.declared.images.Image.{Image}
 use Rattle.link_model.specs.declared.images.ImageKind.{ImageKind}
@@ -17,8 +18,10 @@ use Rattle.link_model.specs.declared.images.LoadRegion.{LoadRegion}
 use Rattle.link_model.specs.declared.placing.Placement.{Placement}
 use Rattle.link_model.specs.declared.placing.Region.{Region}
 use Rattle.link_model.specs.declared.selection.Linked.{Linked}
+use Rattle.link_model.specs.declared.selection.LinkedEntry.{LinkedEntry}
 use Rattle.link_model.specs.declared.selection.Named.{Named}
 use Rattle.link_model.specs.Chosen.{AreLinked}
+use Rattle.patch_model.specs.Fields.{Home}
 use Rattle.place_model.specs.declared.scatter.Kind.{Kind}
 use Rattle.place_model.specs.declared.scatter.Kind.TheVariants as kind
 use Rattle.place_model.specs.declared.scatter.Scatter.{Scatter}
@@ -27,9 +30,12 @@ use Rattle.place_model.specs.Assignment.{description}
 use Rattle.scatter_text.specs.Reading.{scatter_of}
 use Rattle.link_select.specs.Selection.{selection_of}
 use Rattle.link_values.specs.Placed.{base_in}
+use Rattle.link_apply.specs.Placed.{veneers_at}
 use Rattle.link_apply.specs.RegionBytes.{copy_rows, zero_rows}
 use Rattle.armlink_core.specs.declared.making.Made.{Made}
 use Rattle.armlink_core.specs.Linking.{made_of, symbols_of}
+use Rattle.armlink_core.specs.Moves.{moves_in}
+use Rattle.armlink_core.specs.Sizes.{size_at}
 
 -- ---- the image
 
@@ -59,29 +65,45 @@ start_of (kind.Aif base relocatable) p = base
 abbrev pub entry_of : Linked → Placement → ℕ
 entry_of l p = (base_in p l.entry.object l.entry.area + l.entry.offset) % 2 ^ 32
 
--- the startup code's steps at most; the bytes alone have none
-abbrev pub bound_in : Kind → Placement → ℕ
-bound_in (kind.Scatter s) p = bound_of (copy_rows p) (zero_rows p)
-bound_in _ p = 0
+abbrev pub home_of : LinkedEntry → Home
+home_of e = record { object = e.object; area = e.area; offset = e.offset }
 
-abbrev pub image_of : Kind → Made → Image
-image_of k m = record {
+-- what an AIF's header calls: an entry in ARM state, or the veneer of its first region to one in Thumb state
+abbrev pub called : Bool → Linked → Placement → ℕ
+called false l p = entry_of l p
+called true l p = unwrap_or (veneers_at p 0 (home_of l.entry) true) 0
+
+abbrev pub call_of : Kind → Linked → Placement → ℕ
+call_of (kind.Aif base relocatable) l p = called l.entry.thumb l p
+call_of _ l p = entry_of l p
+
+-- the steps at most of the startup code, or of an AIF's, which clears its third region; the bytes alone have none
+abbrev pub bound_in : Kind → Placement → List ℕ → ℕ
+bound_in (kind.Scatter s) p moves = bound_of (copy_rows p) (zero_rows p)
+bound_in (kind.Plain base) p moves = 0
+bound_in (kind.Aif base relocatable) p moves = aif_bound (length moves) (size_at p.regions 2)
+
+abbrev pub image_of : Kind → Made → List ℕ → Image
+image_of k m moves = record {
   kind = form_of k;
   loads = loads_from 0 m.placement.regions m.bytes (description k);
   regions = m.placement.regions;
   start = start_of k m.placement;
   entry = entry_of m.linked m.placement;
-  call = entry_of m.linked m.placement;
+  call = call_of k m.linked m.placement;
   thumb = m.linked.entry.thumb;
-  bound = bound_in k m.placement;
-  moves = [];
+  bound = bound_in k m.placement moves;
+  moves = moves;
 }
 
 -- ---- a link
 
+abbrev pub image_made : Kind → Made → Result Image Refusal
+image_made k m = moves_in k m.linked m.placement >>= λ moves. Ok (image_of k m moves)
+
 -- of what is selected
 abbrev pub image_with : Kind → Option (List Range32) → Linked → Result Image Refusal
-image_with k ram l = made_of k ram l >>= λ m. Ok (image_of k m)
+image_with k ram l = made_of k ram l >>= image_made k
 
 abbrev pub linking : Kind → Option (List Range32) → List (Named Object) → Result Image Refusal
 linking k ram os = selection_of (Some (symbols_of k)) os >>= λ l. image_with k ram l

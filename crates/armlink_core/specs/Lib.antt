@@ -1,5 +1,6 @@
 -- What the clauses of the crate cite.
 pub mod Sizes
 pub mod Linking
+pub mod Moves
 pub mod Images
 pub mod Laws

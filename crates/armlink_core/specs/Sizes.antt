@@ -1,6 +1,7 @@
 -- The sizes of descriptions and of placed regions. This project's.
-use Rattle.std.specs.Prelude.{ℕ, ◌+◌, ◌≤◌, nat_lt, List, length, map}
+use Rattle.std.specs.Prelude.{ℕ, ◌+◌, ◌≤◌, nat_lt, List, length, map, slice_get, unwrap_or}
 use Rattle.std.specs.List.{filter}
+use Rattle.std.specs.Option.{option_map}
 use Rattle.boot_code.specs.declared.rows.CopyRow.{CopyRow}
 use Rattle.boot_code.specs.declared.rows.ZeroRow.{ZeroRow}
 use Rattle.link_model.specs.declared.placing.Region.{Region}
@@ -15,6 +16,10 @@ pub record IsSmall (k : Kind) : Type 0 where
 
 abbrev pub region_size : Region → ℕ
 region_size r = r.length + r.zero
+
+-- of the region of a number; 0 where none has it
+abbrev pub size_at : List Region → ℕ → ℕ
+size_at rs number = unwrap_or (option_map region_size (slice_get rs number)) 0
 
 -- ---- the rows of the startup code's table, of some regions
 

@@ -1,16 +1,17 @@
 //! The image of a link that is made.
 
-ghost use Rattle.std.specs.Prelude.{◌≡◌, ◌^◌, ◌≤◌, sum_by, IfOk};
+ghost use Rattle.std.specs.Prelude.{◌≡◌, ◌+◌, ◌^◌, ◌≤◌, false, sum_by, IfOk, Ok};
 ghost use Rattle.std.specs.List.{AllByRecursion};
 ghost use Rattle.std.specs.Option.{option_copied};
 ghost use Rattle.aof_object.specs.Validity.{IsValid};
 ghost use Rattle.chunk_file.specs.Reading.{Gives};
 ghost use Rattle.armlink_core.specs.Images.{form_of, image_of, image_with};
+ghost use Rattle.armlink_core.specs.Moves.{can_move, moves_in};
 ghost use Rattle.armlink_core.specs.Sizes.{region_size, IsSmall};
 
 use crate::loads::load_regions;
 use crate::making::{Made, make};
-use crate::starting::{bound_in, entry_of, start_of};
+use crate::starting::{bound_in, call_of, entry_of, start_of};
 use link_model::{Image, ImageKind, Linked};
 use place_model::Kind;
 use sdt_fault::answer::Fault;
@@ -30,9 +31,10 @@ fn form_of(kind: &Kind) -> ImageKind
     }
 }
 
-fn image_of(alloc: Global, kind: &Kind, made: Made) -> Result<Image, NoMemory>
-    requires { sum_by region_size made.placement.regions ≤ 2 ^ 26 }
-    ensures { IfOk result (λ i. i ≡ image_of kind.now made) }
+fn image_of(alloc: Global, kind: &Kind, made: Made, moves: List<u32>) -> Result<Image, NoMemory>
+    requires whole { sum_by region_size made.placement.regions ≤ 2 ^ 26 }
+    requires each { AllByRecursion (λ r. r.length + r.zero ≤ 2 ^ 26) made.placement.regions }
+    ensures { IfOk result (λ i. i ≡ image_of kind.now made moves) }
 {
     let Made {
         linked,
@@ -40,21 +42,28 @@ fn image_of(alloc: Global, kind: &Kind, made: Made) -> Result<Image, NoMemory>
         bytes,
         ..
     } = made;
-    let entry = entry_of(&linked, &placement);
     Ok(Image {
         kind: form_of(kind),
         loads: load_regions(alloc, placement.regions.as_slice(), bytes.as_slice(), kind)?,
         start: start_of(kind, &placement),
-        entry,
-        call: entry,
+        entry: entry_of(&linked, &placement),
+        call: call_of(kind, &linked, &placement),
         thumb: linked.entry.thumb,
-        bound: bound_in(kind, &placement),
-        moves: List::from_vec(Vec::new(alloc)),
+        bound: bound_in(kind, &placement, moves.as_slice()),
+        moves,
         regions: placement.regions,
     })
 }
 
-/// The image of what is selected, in a form.
+/// What can be moved of an image of a form that can't be moved.
+fn moves_in(alloc: Global, kind: &Kind, made: &Made) -> Result<List<u32>, NoMemory>
+    requires fixed { can_move kind.now ≡ false }
+    ensures { IfOk result (λ moves. moves_in kind.now made.now.linked made.now.placement ≡ Ok moves) }
+{
+    Ok(List::from_vec(Vec::new(alloc)))
+}
+
+/// The image of what is selected, in a form that can't be moved.
 pub fn image_by(
     alloc: Global,
     linked: Linked,
@@ -63,8 +72,10 @@ pub fn image_by(
 ) -> Result<Image, Fault>
     requires objects { AllByRecursion (λ o. IsValid o.value) linked.objects }
     requires small { IsSmall kind.now }
+    requires fixed { can_move kind.now ≡ false }
     ensures { Gives result (image_with kind.now (option_copied ram.entry) linked) }
 {
     let made = make(alloc, linked, kind, ram)?;
-    Ok(image_of(alloc, kind, made)?)
+    let moves = moves_in(alloc, kind, &made)?;
+    Ok(image_of(alloc, kind, made, moves)?)
 }

@@ -1,11 +1,12 @@
 //! Links, without a scatter description and with one.
 
-ghost use Rattle.std.specs.Prelude.{◌≡◌, ◌%◌, None};
+ghost use Rattle.std.specs.Prelude.{◌≡◌, ◌%◌, false, None};
 ghost use Rattle.std.specs.List.{AllByRecursion};
 ghost use Rattle.std.specs.Option.{option_copied};
 ghost use Rattle.alf_archive.specs.Grammar.{IsValid as IsValidArchive};
 ghost use Rattle.aof_object.specs.Validity.{IsValid};
 ghost use Rattle.armlink_core.specs.Images.{linking, scatter_linking, undescribed, Links};
+ghost use Rattle.armlink_core.specs.Moves.{can_move};
 ghost use Rattle.armlink_core.specs.Sizes.{IsSmall};
 ghost use Rattle.place_model.specs.declared.scatter.Kind.TheVariants as kind;
 
@@ -32,6 +33,7 @@ fn link(
     requires objects { AllByRecursion (λ o. IsValid o.value) objects.items }
     requires archives { AllByRecursion (λ a. IsValidArchive a.value) archives.items }
     requires small { IsSmall kind.now }
+    requires fixed { can_move kind.now ≡ false }
     ensures { Links objects.items archives.items (linking kind.now (option_copied ram.entry)) result }
 {
     let symbols = region_symbols(alloc, kind)?;
@@ -71,6 +73,29 @@ pub fn link_plain(
 {
     let kind = Kind::Plain { base };
     link(alloc, objects, archives, &kind, None)
+}
+
+/// An ARM image file that runs at a base alone, a multiple of 4: its load region has 0x80 zero bytes in the place of
+/// the header, the read-only and the read-write parts. `ram` has the ranges that can be written, if they are told.
+///
+/// Refusals are those of `link_plain`; in its place fits what has 16 MiB at most.
+pub fn link_aif(
+    alloc: Global,
+    objects: Vec<Named<Object>>,
+    archives: Vec<Named<Archive>>,
+    base: u32,
+    ram: Option<&[Range32]>,
+) -> Result<Image, Fault>
+    requires objects { AllByRecursion (λ o. IsValid o.value) objects.items }
+    requires archives { AllByRecursion (λ a. IsValidArchive a.value) archives.items }
+    requires base { base % 4 ≡ 0 }
+    ensures exact { Links objects.items archives.items (linking (kind.Aif base false) (option_copied ram.entry)) result }
+{
+    let kind = Kind::Aif {
+        base,
+        relocatable: false,
+    };
+    link(alloc, objects, archives, &kind, ram)
 }
 
 /// The image by a scatter description's text. `ram` has the ranges that can be written, if they are told.

@@ -2,38 +2,26 @@
 -- Reference Guide, ARM Image Format; the counting, and what is NotRelocatable, are this project's).
 use Rattle.std.specs.Prelude.{ℕ, suc, ◌+◌, ◌-◌, ◌%◌, Bool, true, false, not, ◌&&◌, ◌||◌, nat_lt, nat_le, ◌==◌, if◌then◌else◌, List, [], ◌∷◌, ◌++◌, slice_get, count_by, sum_by, unwrap_or, Option, Some, None}
 use Rattle.std.specs.List.{filter_map}
-use Rattle.std.specs.Option.{is_some, option_map}
+use Rattle.std.specs.Option.{option_map}
 use Rattle.sdt_word.specs.Numbers.{flag}
 use Rattle.sdt_fault.specs.declared.refusal.Refusal.{Refusal}
 use Rattle.sdt_fault.specs.declared.refusal.Refusal.TheVariants.{NotRelocatable}
 use Rattle.aof_object.specs.declared.records.Area.{Area}
 use Rattle.aof_object.specs.declared.records.Object.{Object}
 use Rattle.aof_object.specs.declared.records.Reloc.{Reloc}
-use Rattle.aof_object.specs.declared.records.Symbol.{Symbol}
 use Rattle.patch_model.specs.Fields.{Kind, Word, Branch, Field, field_of, is_by_symbol, is_relative, number_named, directives}
 use Rattle.link_model.specs.declared.placing.PlacedArea.{PlacedArea}
 use Rattle.link_model.specs.declared.placing.PlacedVeneer.{PlacedVeneer}
 use Rattle.link_model.specs.declared.placing.Placement.{Placement}
 use Rattle.link_model.specs.declared.selection.Linked.{Linked}
 use Rattle.link_model.specs.declared.selection.Named.{Named}
-use Rattle.link_model.specs.Meaning.{Meaning, Defined, OfRegion, symbol_of}
 use Rattle.link_model.specs.Members.{Link, link_of}
 use Rattle.link_model.specs.RegionValues.{area_of, region_number}
-use Rattle.link_model.specs.Values.{home_area, meaning_at}
+use Rattle.link_model.specs.Values.{meaning_at}
+use Rattle.link_values.specs.Moving.{is_moving}
 use Rattle.link_values.specs.Placed.{base_in}
 
 -- ---- what moves with the image
-
--- a symbol that stands in an area; absolute ones stay
-abbrev pub is_moving_symbol : Option Symbol → Bool
-is_moving_symbol None = false
-is_moving_symbol (Some s) = is_some (home_area s)
-
--- and a region symbol, which here is a Base or a Limit; an undefined weak reference stays
-abbrev pub is_moving : List Object → Option Meaning → Bool
-is_moving os (Some (Defined object k)) = is_moving_symbol (symbol_of os object k)
-is_moving os (Some (OfRegion n)) = true
-is_moving os _ = false
 
 -- what a relocation names, in the object of a number; areas move
 abbrev pub names_moving : Link → Placement → ℕ → Reloc → Bool

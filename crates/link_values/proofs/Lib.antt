@@ -1,2 +1,3 @@
+pub mod MovingLemmas
 mod RegionLemmas
 mod ValueLemmas

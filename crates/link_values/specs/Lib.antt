@@ -3,3 +3,4 @@ pub mod Index
 pub mod Bases
 pub mod Regions
 pub mod Values
+pub mod Moving

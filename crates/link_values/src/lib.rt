@@ -4,10 +4,13 @@
 mod bases;
 mod definitions;
 mod extents;
+mod moving;
 mod names;
 mod objects;
 mod regions;
 mod values;
 
 pub use crate::bases::{AreaBases, area_bases, base_at};
-pub use crate::values::{Place, SymbolValue, symbol_values, value_at};
+pub use crate::moving::is_moving;
+pub use crate::regions::region_numbers;
+pub use crate::values::{Known, Place, SymbolValue, gathered, symbol_values, value_at};

@@ -47,8 +47,8 @@ pub struct Known<'a> {
     pub symbols: RegionSymbols<'a>,
 }
 
-/// What a link and its placement tell, by the numbers of the region symbols of its regions.
-fn gathered<'a>(
+/// What a link and its placement tell of names, by the numbers of the region symbols of its regions.
+pub fn gathered<'a>(
     alloc: Global,
     linked: &'a Linked,
     placement: &'a Placement,
@@ -77,7 +77,7 @@ fn is_placed(symbol: &Symbol) -> bool
     symbol.attributes / 4 % 2 == 0
 }
 
-fn home_area(symbol: &Symbol) -> Option<u32>
+pub fn home_area(symbol: &Symbol) -> Option<u32>
     ensures { result ≡ home symbol.now }
 {
     if !is_placed(symbol) {

@@ -77,7 +77,8 @@ use Rattle.link_laws.proofs.PlacedLemmas.{objects_are_placed}
 use Rattle.link_laws.proofs.ShownLemmas.{objects_are_shown, ranges_exist}
 use Rattle.armlink_core.specs.declared.making.Made.{Made}
 use Rattle.armlink_core.specs.Linking.{made_at, made_of, made_with, symbols_of}
-use Rattle.armlink_core.specs.Images.{bytes_in, described, image_of, linking, loads_from as regions_loaded}
+use Rattle.armlink_core.specs.Images.{bytes_in, described, image_made, image_of, linking, loads_from as regions_loaded}
+use Rattle.armlink_core.specs.Moves.{can_move, moved as moved_list, moves_in}
 use Rattle.sdt_toolkit.specs.Starting.{AreSound, AreShownIn, Loads, PlainImagesLoad, ScatterImagesStart, Starts, segments_of}
 
 -- ---- answers
@@ -180,12 +181,15 @@ pub record IsAnswered (k : Kind) (ram : Option (List Range32)) (os : List (Named
   pub placement : Placement
   pub objects : linked.objects ≡ os
   pub made : IsMade k ram linked assigned veneers placement
-  pub image : image_of k (made_by linked assigned veneers placement) ≡ i
+  pub image : image_of k (made_by linked assigned veneers placement) [] ≡ i
+
+nothing_moves : (k : Kind) (l : Linked) (p : Placement) → can_move k ≡ false → moves_in k l p ≡ Ok []
+nothing_moves k l p fixed = ap (λ (b : Bool). if b then moved_list l p else Ok []) fixed
 
 module _ (k : Kind) (ram : Option (List Range32)) (os : List (Named Object)) (i : Image) (sound : AreSound os)
     (loads : AllByRecursion (λ load. load.base % 4 ≡ 0) (description k)) (bases : AllByRecursion (λ r. IsWholeBase r.base) (described_regions k)) where
   with_placement : (l : Linked) (a : Assigned) (vs : List Veneer) (p : Placement) (m : Made) → IsSelected os l → assignment_of k l.objects ≡ Ok a
-      → planned_veneers l a (has_header k) ≡ Ok vs → placed k ram (contents_of l.objects a.regions vs) ≡ Ok p → made_at l a vs p ≡ Ok m → image_of k m ≡ i
+      → planned_veneers l a (has_header k) ≡ Ok vs → placed k ram (contents_of l.objects a.regions vs) ≡ Ok p → made_at l a vs p ≡ Ok m → image_of k m [] ≡ i
       → IsAnswered k ram os i
   with_placement l a vs p m s assigned planned places made image =
       let (bytes, applies, is) = steps_ok (applied l p) (λ bytes. Ok (record { linked = l; assigned = a; veneers = vs; placement = p; bytes = bytes })) m made in
@@ -208,18 +212,20 @@ module _ (k : Kind) (ram : Option (List Range32)) (os : List (Named Object)) (i 
           placed = places;
           sound = none;
         };
-        image = ap (λ (b : List (List ℕ)). image_of k (record { linked = l; assigned = a; veneers = vs; placement = p; bytes = b })) (sym same)
-            ∙ ap (image_of k) (ok_same one m is) ∙ image;
+        image = ap (λ (b : List (List ℕ)). image_of k (record { linked = l; assigned = a; veneers = vs; placement = p; bytes = b }) []) (sym same)
+            ∙ ap (λ (n : Made). image_of k n []) (ok_same one m is) ∙ image;
       }
 
-  pub answered : linking k ram os ≡ Ok i → IsAnswered k ram os i
-  answered h =
-      let (l, selection, behind) = steps_ok (selection_of (Some (symbols_of k)) os) (λ l. made_of k ram l >>= λ m. Ok (image_of k m)) i h in
-      let (m, made, image) = steps_ok (made_of k ram l) (λ m. Ok (image_of k m)) i behind in
+  pub answered : can_move k ≡ false → linking k ram os ≡ Ok i → IsAnswered k ram os i
+  answered fixed h =
+      let (l, selection, behind) = steps_ok (selection_of (Some (symbols_of k)) os) (λ l. made_of k ram l >>= image_made k) i h in
+      let (m, made, image) = steps_ok (made_of k ram l) (image_made k) i behind in
+      let none : moves_in k m.linked m.placement ≡ Ok [] = nothing_moves k m.linked m.placement fixed in
+      let still : image_made k m ≡ Ok (image_of k m []) = ap (λ (r : Result (List ℕ) Refusal). r >>= λ moves. Ok (image_of k m moves)) none in
       let (a, assigned, behind_regions) = steps_ok (assignment_of k l.objects) (made_with k ram l) m made in
       let (vs, planned, behind_veneers) = steps_ok (planned_veneers l a (has_header k)) (λ vs. placed k ram (contents_of l.objects a.regions vs) >>= made_at l a vs) m behind_regions in
       let (p, places, behind_places) = steps_ok (placed k ram (contents_of l.objects a.regions vs)) (made_at l a vs) m behind_veneers in
-      with_placement l a vs p m (selected (Some (symbols_of k)) os l selection) assigned planned places behind_places (ok_same (image_of k m) i image)
+      with_placement l a vs p m (selected (Some (symbols_of k)) os l selection) assigned planned places behind_places (ok_same (image_of k m []) i (sym still ∙ image))
 
 -- ---- its load regions
 
@@ -251,7 +257,7 @@ module _ (k : Kind) (ram : Option (List Range32)) (l : Linked) (a : Assigned) (v
   made_view = view_of plan held
 
   abbrev made_image : Image
-  made_image = image_of k (made_by l a vs p)
+  made_image = image_of k (made_by l a vs p) []
 
   is_placed : IsPlacedLink k ram l a.regions vs
   is_placed = made_is_placed k ram l a vs p h
@@ -390,7 +396,7 @@ described_starts law text (Err r) at ram os i sound h =
 described_starts law text (Ok s) at ram os i sound h =
     let v : valid.IsValid s.loads = ((law text s).0 at).1 in
     answered_starts s ram os i v
-    (answered (kind.Scatter s) ram os i sound (all_weaker IsValidLoad (λ l. l.base % 4 ≡ 0) (λ l one. one.base.1) s.loads v.each) (whole_bases s v) h)
+    (answered (kind.Scatter s) ram os i sound (all_weaker IsValidLoad (λ l. l.base % 4 ≡ 0) (λ l one. one.base.1) s.loads v.each) (whole_bases s v) refl h)
 
 pub scatter_images_start : ReadingLaw → ScatterImagesStart
 scatter_images_start law text ram os i sound h = described_starts law text (scatter_of text) refl ram os i sound h
@@ -416,6 +422,6 @@ module _ (base : ℕ) (l : Linked) (a : Assigned) (vs : List Veneer) (p : Placem
 pub plain_images_load : PlainImagesLoad
 plain_images_load base os i sound whole h =
     let k : Kind = kind.Plain base in
-    let n = answered k None os i sound (whole, tt) (whole, (refl, (refl, tt))) h in
+    let n = answered k None os i sound (whole, tt) (whole, (refl, (refl, tt))) refl h in
     subst (Loads os) n.image (subst (λ (xs : List (Named Object)). Loads xs (made_image k None n.linked n.assigned n.veneers n.placement n.made refl)) n.objects
     (loads_itself base n.linked n.assigned n.veneers n.placement n.made))

@@ -1,0 +1,14 @@
+use Rattle.std.proofs.Common.{◌∙◌, ap, arith}
+use Rattle.link_apply.specs.Shifts.{names_moving}
+use Rattle.link_model.specs.Members.{link_of}
+use Rattle.link_shifts.specs.Balances.{balance_in}
+use Rattle.link_shifts.proofs.FieldLemmas.{stuck}
+use Rattle.link_shifts.proofs.judging.is_stuck.Goals as goal
+
+pub returns : goal.returns
+returns c =
+    let moving = names_moving (link_of c.args.image.now.linked.now) c.args.image.now.placement.now c.args.judged.now.object in
+    let base = c.base_at-address.ensures ∙ c.requires.image.names.bases c.args.judged.now.object c.args.judged.now.number in
+    stuck moving c.args.judged.now.area.now.relocs c.args.reloc c.args.judged.now.balances.now c.saturating_sub-offset.result _ c.balance_at-balance.result c.names_moving-moving.result c.cannot_move.result
+    c.requires.balances (c.balance_at-balance.ensures ∙ ap (balance_in c.args.judged.now.balances.now) c.spot_of.ensures) c.names_moving-moving.ensures
+    (grind (arith, base, c.saturating_sub-offset.ensures, c.place_of.ensures, c.image_base.ensures, c.from-place.ensures)) c.cannot_move.ensures
