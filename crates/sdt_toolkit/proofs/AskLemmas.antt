@@ -1,5 +1,5 @@
 -- What a source asks for.
-use Rattle.std.proofs.Common.{◌≡◌, inl, inr, ℕ, List, [], ◌∷◌, Option, Some, None, Result, Ok, Err, refl, sym, ap, ◌∙◌, subst}
+use Rattle.std.proofs.Common.{◌≡◌, inl, inr, ℕ, List, Option, Some, None, Result, Ok, Err, refl, sym, ap, ◌∙◌, subst}
 use Rattle.sdt_fault.specs.declared.answer.Fault.{Fault}
 use Rattle.sdt_fault.specs.declared.answer.Fault.TheVariants as fault
 use Rattle.sdt_fault.specs.declared.refusal.Refusal.{Refusal}
@@ -10,9 +10,8 @@ use Rattle.chunk_file.specs.Reading.{◌>>=◌, Gives}
 use Rattle.aof_object.specs.declared.records.Object.{Object}
 use Rattle.aof_object.specs.Spelling.{written}
 use Rattle.armasm_core.specs.Assembling.{Assembles, AssembledFrom, IsCaused, OneAssembly}
-use Rattle.tool_answers.specs.Inputs.{AreInputs, IsReached}
 use Rattle.tool_answers.specs.Outcomes.{Outcome, writes_one}
-use Rattle.sdt_toolkit.specs.Reads.{Reads, HasCause, HasFailed, IsAmong}
+use Rattle.sdt_toolkit.specs.Reads.{Reads, HasFailed, IsAmong}
 use Rattle.sdt_toolkit.specs.Sources.{Spells, TextAsks, SpellsAs, FilesAsk, FoundAsks, SourceAsks, OneAsked}
 use Rattle.sdt_toolkit.proofs.ReadLemmas.{assembled_among, cause_among, failed_among}
 use Rattle.tool_library.proofs.AnswerLemmas.{first_reached as reached}

@@ -6,7 +6,6 @@ use Rattle.sdt_fault.specs.declared.answer.Answer.{Answer}
 use Rattle.sdt_fault.specs.declared.answer.Answer.TheVariants as answer
 use Rattle.sdt_fault.specs.declared.refusal.Refusal.{Refusal}
 use Rattle.sdt_outside.specs.Files.{Files, content}
-use Rattle.sdt_outside.specs.Counts.{Rose}
 use Rattle.chunk_file.specs.Reading.{◌>>=◌}
 use Rattle.aof_object.specs.declared.records.Object.{Object}
 use Rattle.arm7_bus.specs.Seats.{Seat}
@@ -14,26 +13,25 @@ use Rattle.boot_code.specs.Boots.{ByteMap}
 use Rattle.armasm_core.specs.Standing.{StandsFrom}
 use Rattle.link_model.specs.declared.images.Image.{Image}
 use Rattle.link_model.specs.declared.selection.Named.{Named}
-use Rattle.link_model.specs.Chosen.{AreLinked, taken}
+use Rattle.link_model.specs.Chosen.{taken}
 use Rattle.link_model.specs.Members.{members_of}
 use Rattle.bin_image.specs.declared.records.OutFile.{OutFile}
 use Rattle.bin_image.specs.Files.{files_of}
 use Rattle.tool_words.specs.declared.command.Command.{Command}
-use Rattle.tool_words.specs.declared.command.Command.TheVariants as command
 use Rattle.tool_words.specs.declared.command.LinkForm.{LinkForm}
 use Rattle.tool_words.specs.declared.command.LinkForm.TheVariants as form
 use Rattle.tool_words.specs.declared.command.LinkWords.{LinkWords}
 use Rattle.tool_words.specs.Commands.{command_of}
-use Rattle.tool_answers.specs.Inputs.{and_others, before_others, found_or, input_of, inputs_of}
+use Rattle.tool_answers.specs.Inputs.{and_others, found_or, input_of, inputs_of}
 use Rattle.tool_answers.specs.Outcomes.{Outcome, Outside, AreWritten, written}
 use Rattle.tool_library.specs.declared.linkables.Linkable.{Linkable}
 use Rattle.tool_library.specs.declared.linkables.Linkable.TheVariants as input
 use Rattle.sdt_toolkit.specs.Commands.{Commanded}
 use Rattle.sdt_toolkit.specs.Headline.{Headline, IsLinkedInto, Reaches, SourcesStand}
-use Rattle.sdt_toolkit.specs.Inputs.{Behind, InputBy, InputIs, InputsAre, IsSource, NamedIs, as_object, is_source_name, named, objects_among, archives_among, with_name}
+use Rattle.sdt_toolkit.specs.Inputs.{Behind, InputBy, InputsAre, IsSource, NamedIs, as_object, is_source_name, named, objects_among, archives_among}
 use Rattle.sdt_toolkit.specs.Reads.{Reads, reads_of}
-use Rattle.sdt_toolkit.specs.Links.{FilesAsk, ImageIs, InputsMake, IsInMemory, LinkAnswers, LinkAsks, LinkMakes, ReadAsks, WordsAsk, behind_first, filed, files_read, inputs_in, is_long, outputs, read_by, text_in, too_large, writes_all}
-use Rattle.sdt_toolkit.specs.Starting.{AreShownIn, IsShownIn, Loads, Starts}
+use Rattle.sdt_toolkit.specs.Links.{FilesAsk, ImageIs, InputsMake, IsInMemory, LinkAnswers, ReadAsks, WordsAsk, behind_first, filed, files_read, inputs_in, is_long, outputs, read_by, text_in, too_large, writes_all}
+use Rattle.sdt_toolkit.specs.Starting.{AreShownIn, IsShownIn}
 
 -- ---- answers
 

@@ -1,5 +1,5 @@
 -- What the files of a link make and ask for, and answers to it, by its ends.
-use Rattle.std.proofs.Common.{◌≡◌, ℕ, ◌+◌, ◌<◌, ◌≤◌, ◌^◌, List, [], ◌∷◌, length, get_or, suc, Bool, Option, Some, None, Result, Ok, Err, refl, sym, ap, ◌∙◌, subst, inl, inr, arith}
+use Rattle.std.proofs.Common.{◌≡◌, ℕ, ◌<◌, ◌^◌, List, [], ◌∷◌, length, get_or, suc, Bool, Option, Some, None, Result, Ok, Err, refl, sym, subst, inl, inr, arith}
 use Rattle.sdt_fault.specs.declared.answer.Answer.{Answer}
 use Rattle.sdt_fault.specs.declared.answer.Answer.TheVariants as answer
 use Rattle.sdt_fault.specs.declared.answer.Fault.{Fault}
@@ -9,7 +9,7 @@ use Rattle.sdt_fault.specs.declared.refusal.Refusal.TheVariants.{Missing}
 use Rattle.sdt_outside.specs.Counts.{Rose}
 use Rattle.sdt_outside.specs.Files.{Files}
 use Rattle.sdt_outside.specs.Sinks.{Got}
-use Rattle.chunk_file.specs.Reading.{◌>>=◌, Gives}
+use Rattle.chunk_file.specs.Reading.{Gives}
 use Rattle.link_model.specs.declared.images.Image.{Image}
 use Rattle.link_model.specs.declared.selection.Named.{Named}
 use Rattle.bin_image.specs.declared.records.OutFile.{OutFile}
@@ -18,13 +18,13 @@ use Rattle.tool_words.specs.declared.command.LinkForm.TheVariants as form
 use Rattle.tool_words.specs.declared.command.LinkWords.{LinkWords}
 use Rattle.tool_answers.specs.declared.inputs.InputEnd.{InputEnd}
 use Rattle.tool_answers.specs.declared.inputs.InputEnd.TheVariants as end
-use Rattle.tool_answers.specs.Inputs.{AreInputs, InputsEnd, inputs_of, IsReached}
-use Rattle.tool_answers.specs.Outcomes.{Outcome, Outside, IsLeft, Says}
+use Rattle.tool_answers.specs.Inputs.{AreInputs, InputsEnd}
+use Rattle.tool_answers.specs.Outcomes.{Outcome, Outside, IsLeft}
 use Rattle.tool_library.specs.declared.linkables.Linkable.{Linkable}
 use Rattle.tool_library.specs.Libraries.{end_answer, fault_answer}
 use Rattle.sdt_toolkit.specs.Inputs.{InputsAre, Tells}
 use Rattle.sdt_toolkit.specs.Reads.{Reads, HasFailed, Judges, reads_of}
-use Rattle.sdt_toolkit.specs.Links.{AllWritten, FilesAsk, ImageIs, InputsMake, LinkAnswers, LinkAsks, LinkMakes, LinkSays, ReadAsks, WordsAsk, filed, files_read, inputs_in, outputs, read_by, text_in, writes_all}
+use Rattle.sdt_toolkit.specs.Links.{AllWritten, FilesAsk, ImageIs, InputsMake, LinkAnswers, LinkAsks, LinkMakes, ReadAsks, WordsAsk, filed, files_read, inputs_in, outputs, read_by, text_in}
 
 -- ---- what is read
 
@@ -100,7 +100,7 @@ unfolding LinkAnswers
 refused (fault.Refused r) sources w contents o read count h left =
     let asks : LinkAsks (reads_of o) sources w contents (Err r) = record { made = Err r; makes = h; outcome = refl } in
     (Err r, contents_ask o.before (reads_of o) sources w contents (Err r) read count asks, (refl, left))
-refused (fault.ReadFault q) sources w contents o read count h left = (h.1, inr (h.0, (contents, read)), left)
+refused (fault.ReadFault q) sources w contents o read count h left = (h.1, inr (h.0, contents, read), left)
 refused fault.NoMemory sources w contents o read count h left = inl left
 
 all_of : List OutFile → Outcome

@@ -20,10 +20,9 @@ use Rattle.tool_answers.specs.Inputs.{inputs_of}
 use Rattle.tool_answers.specs.Outcomes.{Outcome}
 use Rattle.tool_library.specs.declared.linkables.Linkable.{Linkable}
 use Rattle.tool_library.specs.declared.linkables.Linkable.TheVariants as input
-use Rattle.tool_run.specs.Runs.{AreRanges}
-use Rattle.sdt_toolkit.specs.Inputs.{Behind, InputBy, InputIs, InputsAre, NamedIs, archives_among, is_source_name, objects_among, with_name}
+use Rattle.sdt_toolkit.specs.Inputs.{Behind, InputBy, InputsAre, NamedIs, archives_among, is_source_name, objects_among, with_name}
 use Rattle.sdt_toolkit.specs.Reads.{Reads}
-use Rattle.sdt_toolkit.specs.Links.{FilesAsk, ImageIs, InputsMake, IsRam, LinkAsks, LinkMakes, LinksTo, OneLinkAsked, ReadAsks, ScattersTo, WordsAsk, filed, files_read, inputs_in, text_in, writes_all}
+use Rattle.sdt_toolkit.specs.Links.{FilesAsk, ImageIs, InputsMake, IsRam, LinkMakes, LinksTo, OneLinkAsked, ReadAsks, ScattersTo, WordsAsk, filed, files_read, inputs_in, text_in, writes_all}
 
 -- ---- inputs
 

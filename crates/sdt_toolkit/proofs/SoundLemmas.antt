@@ -1,5 +1,5 @@
 -- What is linked of sound objects and libraries is sound.
-use Rattle.std.proofs.Common.{◌≡◌, ℕ, suc, Bool, true, false, cond, List, [], ◌∷◌, ◌++◌, map, sym, subst}
+use Rattle.std.proofs.Common.{ℕ, suc, Bool, true, false, cond, List, [], ◌∷◌, sym, subst}
 use Rattle.std.specs.List.{AllByRecursion}
 use Rattle.base_lemmas.proofs.BaseLemmas.{all_append, all_weaker}
 use Rattle.aof_object.specs.declared.records.Object.{Object}

@@ -5,7 +5,7 @@ use Rattle.std.specs.FinMap.{insert}
 use Rattle.sdt_fault.specs.declared.answer.Answer.{Answer}
 use Rattle.sdt_fault.specs.declared.answer.Answer.TheVariants as answer
 use Rattle.sdt_outside.specs.Counts.{Rose}
-use Rattle.sdt_outside.specs.Files.{Files, IsWritten, SameBut}
+use Rattle.sdt_outside.specs.Files.{Files, IsWritten}
 use Rattle.bin_image.specs.declared.records.OutFile.{OutFile}
 use Rattle.tool_answers.specs.Outcomes.{AreWritten, Writes, written}
 use Rattle.sdt_toolkit.specs.Links.{AllWritten, outputs}

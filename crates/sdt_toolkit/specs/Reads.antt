@@ -1,5 +1,5 @@
 -- What a store tells of its files while a command reads, and its counts of read faults before and behind that. This project's.
-use Rattle.std.specs.Prelude.{◌≡◌, ℕ, ◌≤◌, Bool, true, List, Option, Result, Ok, Err}
+use Rattle.std.specs.Prelude.{◌≡◌, ℕ, ◌≤◌, Bool, true, Option, Result, Ok, Err}
 use Rattle.sdt_fault.specs.declared.answer.Fault.{Fault}
 use Rattle.sdt_fault.specs.declared.answer.Fault.TheVariants as fault
 use Rattle.sdt_fault.specs.declared.refusal.Refusal.{Refusal}

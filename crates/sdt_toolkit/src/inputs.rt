@@ -1,6 +1,7 @@
 //! The inputs of a link: which files are read, and what each of them is.
 
-ghost use Rattle.std.specs.Prelude.{◌≡◌, ◌<◌, ◌≤◌, ◌^◌, All, IfOk, length};
+ghost use Rattle.std.specs.Prelude.{◌≡◌, ◌<◌, ◌≤◌, ◌^◌, ◌&&◌, true, All, IfOk, length};
+ghost use Rattle.sdt_toolkit.specs.Inputs as inputs;
 ghost use Rattle.sdt_toolkit.specs.Inputs.{AreValid, InputIs, InputsAre, NamedIs};
 ghost use Rattle.sdt_toolkit.specs.Reads.{Judged, Told};
 ghost use Rattle.sdt_toolkit.specs.Links.{files_read, inputs_in, read_by, text_in};
@@ -99,6 +100,17 @@ fn source_input<S: Store>(
 
 ghost use Rattle.sdt_toolkit.specs.Inputs.{IsSource};
 
+/// Whether a name is that of a source, where sources are taken.
+fn is_source(sources: bool, name: &Text) -> bool
+    ensures value { result ≡ (sources && inputs.is_source_name name.now) }
+    ensures taken { result ≡ true → sources ≡ true }
+{
+    if !sources {
+        return false;
+    }
+    is_source_name(name.as_slice())
+}
+
 /// A file as an input; where `sources` are taken, one with a source's name is assembled.
 fn input<S: Store>(
     alloc: Global,
@@ -115,7 +127,7 @@ fn input<S: Store>(
     ensures read_faults { S.read_faults store.old ≤ S.read_faults store.new }
     ensures write_faults { S.write_faults store.new ≡ S.write_faults store.old }
 {
-    if sources && is_source_name(name.as_slice()) {
+    if is_source(sources, name) {
         return source_input(alloc, store, name, bytes);
     }
     read_linkable(alloc, name, bytes)

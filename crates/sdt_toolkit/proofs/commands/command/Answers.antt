@@ -1,6 +1,6 @@
 use Rattle.std.proofs.Common.{map, string_bytes, refl}
 use Rattle.tool_words.specs.Commands.{command_of}
-use Rattle.std.proofs.Common.{Bool, false, ◌≡◌, Result, ℕ}
+use Rattle.std.proofs.Common.{false, ◌≡◌, Result, ℕ}
 use Rattle.tool_words.specs.declared.command.Command.{Command}
 use Rattle.sdt_toolkit.specs.Commands.{is_run, may_print}
 use Rattle.sdt_toolkit.proofs.CommandLemmas.{asked, refused, read_as}

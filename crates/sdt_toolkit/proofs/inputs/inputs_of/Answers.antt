@@ -1,20 +1,17 @@
 use Rattle.std.proofs.Common.{[], ◌∷◌, ◌∙◌, arith, refl}
 use Rattle.std.proofs.lemmas.List.{drop_all}
+use Rattle.std.proofs.lemmas.Result.{err_from_is_err_and}
 use Rattle.base_lemmas.proofs.BaseLemmas.{all_append}
 use Rattle.tool_library.specs.Linkables.{IsValidInput}
-use Rattle.sdt_toolkit.proofs.InputLemmas.{one_more, one_refused, all_judged, begun}
+use Rattle.sdt_toolkit.proofs.InputLemmas.{one_more, one_refused, all_judged, none_judged}
 use Rattle.sdt_toolkit.specs.Reads.{Judged}
 use Rattle.sdt_toolkit.proofs.ReadLemmas.{among_later}
 use Rattle.sdt_toolkit.proofs.inputs.inputs_of.Goals as goal
 
-pub loop-k-entry : goal.loop-k-entry
-loop-k-entry g c = record {
-  value = λ s among. begun s c.args.sources c.args.names.now c.args.contents.now;
-  valid = tt;
-  files = refl;
-  read_faults = omega arith;
-  write_faults = refl;
-}
+pub returns-in_err-push-in-Ok-clause-value : goal.returns-in_err-push-in-Ok-clause-value
+returns-in_err-push-in-Ok-clause-value g c =
+    let p = err_from_is_err_and c.from_residual.result c.from_residual.ensures.1 in
+    rw (p.1, p.2) (none_judged _ _ _ _ _)
 
 pub returns-in-Err-clause-value : goal.returns-in-Err-clause-value
 unfolding Judged
