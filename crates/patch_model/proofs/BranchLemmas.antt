@@ -1,6 +1,6 @@
 -- Branches: where they lead, and what patching keeps.
 use Rattle.std.proofs.Common.{◌≡◌, ℕ, zero, suc, subst, ◌+◌, ◌*◌, ◌/◌, ◌%◌, ◌^◌, ◌<◌, Bool, true, false, refl, ap, ◌∙◌, arith, inl}
-use Rattle.std.specs.Prelude.{Some, nat_lt, ◌&&◌, ◌==◌}
+use Rattle.std.specs.Prelude.{Some, nat_lt, ◌==◌}
 use Rattle.std.proofs.lemmas.Bool.{and_parts as both_true, ltb-true, lt-ltb, eqb-true, eq-eqb}
 use Rattle.sdt_word.specs.Bytes.{bytes_of}
 use Rattle.sdt_word.specs.Numbers.{bits, flag, sign_extended}

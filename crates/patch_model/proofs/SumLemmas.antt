@@ -1,5 +1,5 @@
 -- Sums of what directives add and take away.
-use Rattle.std.proofs.Common.{◌≡◌, ◌≢◌, ◌++◌, cond, eq-eqb, ne_eqb, Some, slice_get, suc, ℕ, ◌+◌, ◌*◌, ◌%◌, ◌^◌, ◌<◌, Bool, true, false, List, [], ◌∷◌, refl, ap, arith}
+use Rattle.std.proofs.Common.{◌≡◌, ◌≢◌, ◌++◌, cond, eq-eqb, ne_eqb, Some, slice_get, suc, ℕ, ◌+◌, ◌*◌, ◌^◌, ◌<◌, Bool, true, false, List, [], ◌∷◌, refl, ap, arith}
 use Rattle.sdt_word.specs.Numbers.{flag}
 use Rattle.aof_object.specs.declared.records.Reloc.{Reloc}
 use Rattle.patch_model.specs.Fields.{Kind, Byte, Half, Word, Branch, Field, Values, field_of, kind_of, is_same_kind, is_field, directives, is_relative, value_named, mark_of, added, taken}

@@ -51,7 +51,7 @@ to_thumb view v target even shows =
     }
 
 to_arm : (view : View) (v field target : ℕ) → v % 4 ≡ 0 → Shows view v (bytes_of 0x4778 2 ++ bytes_of 0x46C0 2 ++ bytes_of (0xEA000000 + field) 4) → field < 2 ^ 24
-    → v + 4 + ahead false + span false (0xEA000000 + field) ≡ target + middle false → VeneerToArm view v target
+    → (v + 4 + ahead false + span false (0xEA000000 + field)) % 2 ^ 32 ≡ (target + middle false) % 2 ^ 32 → VeneerToArm view v target
 to_arm view v field target aligned shows small leads =
     let first = shows_parts view v (bytes_of 0x4778 2 ++ bytes_of 0x46C0 2) (bytes_of (0xEA000000 + field) 4) shows in
     let second = shows_parts view v (bytes_of 0x4778 2) (bytes_of 0x46C0 2) first.0 in
@@ -78,8 +78,8 @@ reads view v target true bytes shows has = let Here : List ℕ → Type 0 = λ l
 reads view v target false bytes shows has =
     let Here : List ℕ → Type 0 = λ l. Shows view v l in to_arm view v has.field target has.aligned (subst Here has.contents shows) has.fits has.leads
 
-field_once : (v target f g : ℕ) → f < 2 ^ 24 → g < 2 ^ 24 → v + 4 + ahead false + span false (0xEA000000 + f) ≡ target + middle false
-    → v + 4 + ahead false + span false (0xEA000000 + g) ≡ target + middle false → f ≡ g
+field_once : (v target f g : ℕ) → f < 2 ^ 24 → g < 2 ^ 24 → (v + 4 + ahead false + span false (0xEA000000 + f)) % 2 ^ 32 ≡ (target + middle false) % 2 ^ 32
+    → (v + 4 + ahead false + span false (0xEA000000 + g)) % 2 ^ 32 ≡ (target + middle false) % 2 ^ 32 → f ≡ g
 field_once v target f g hf hg e d = omega arith
 
 once : (v target : ℕ) (state : Bool) (bytes other : List ℕ) → HasVeneer v target state bytes → HasVeneer v target state other → bytes ≡ other

@@ -1,7 +1,7 @@
 -- What follows from the definitions of patched bytes and of branches. This project's.
 use Rattle.std.specs.Prelude.{◌≡◌, ◌≢◌, ◌++◌, ℕ, ◌+◌, ◌*◌, ◌/◌, ◌%◌, ◌^◌, ◌<◌, ◌≤◌, Bool, true, false, List, [], ◌∷◌, take, drop, slice_get, Decides, Option, Some, None}
 use Rattle.sdt_word.specs.Bytes.{bytes_of, word_in}
-use Rattle.sdt_word.specs.Numbers.{bits, flag, sign_extended}
+use Rattle.sdt_word.specs.Numbers.{bits, sign_extended}
 use Rattle.sdt_word.specs.declared.codes.Condition.{Condition}
 use Rattle.arm_isa.specs.ArmRows.{ReadsArm}
 use Rattle.arm_isa.specs.declared.instr.ArmInstr.TheVariants as arm
@@ -10,8 +10,8 @@ use Rattle.thumb_isa.specs.declared.instr.ThumbInstr.TheVariants as thumb
 use Rattle.aof_object.specs.declared.records.Object.{Object}
 use Rattle.aof_object.specs.declared.records.Reloc.{Reloc}
 use Rattle.sdt_word.specs.declared.ranges.Range32.{Range32}
-use Rattle.patch_model.specs.Fields.{Word, Branch, Field, Home, Meant, Values, field_of, kind_of, is_relative, value_named, mark_of, directives, added, taken}
-use Rattle.patch_model.specs.Patched.{total, IsBranch, is_branch, SameBranch, span, middle, ahead, Veneers, Way, Directly, ByVeneer, first_symbol, other_state, way_home, way_to, IsOutside, AreaPatched, Patched}
+use Rattle.patch_model.specs.Fields.{Word, Branch, Field, Home, Meant, Values, field_of, kind_of, directives, added, taken}
+use Rattle.patch_model.specs.Patched.{total, IsBranch, is_branch, SameBranch, span, middle, ahead, Veneers, Way, Directly, ByVeneer, first_symbol, way_to, IsOutside, AreaPatched, Patched}
 use Rattle.patch_model.specs.Reaches.{View, Shows, BranchesTo, IsVeneer, HasVeneer, VeneersStand, Reaches}
 
 -- ---- bytes
