@@ -1,23 +1,18 @@
 -- What relocations and veneers change at an address, one after the other.
-use Rattle.std.proofs.Common.{◌≡◌, ℕ, suc, ◌+◌, ◌-◌, ◌*◌, ◌<◌, Bool, true, false, cond, if◌then◌else◌, List, [], ◌∷◌, ◌++◌, append_assoc, length, replicate, drop, get_or, refl, sym, ap, ◌∙◌, arith}
-use Rattle.std.specs.Prelude.{◌&&◌, count_by, sum_by}
+use Rattle.std.proofs.Common.{◌≡◌, ℕ, suc, ◌+◌, ◌-◌, ◌*◌, ◌<◌, Bool, true, false, cond, if◌then◌else◌, List, ◌++◌, append_assoc, length, replicate, drop, get_or, sym, ap, ◌∙◌, arith}
+use Rattle.std.specs.Prelude.{◌&&◌, sum_by}
+use Rattle.std.proofs.lemmas.List.{drop_more}
 use Rattle.std.proofs.lemmas.List.Sums.{sum_by-cons}
 use Rattle.aof_object.specs.declared.records.Reloc.{Reloc}
 use Rattle.image_model.specs.AifFiles.{shifted_offsets}
-use Rattle.link_model.specs.declared.placing.PlacedArea.{PlacedArea}
-use Rattle.link_model.specs.declared.placing.PlacedVeneer.{PlacedVeneer}
-use Rattle.link_model.specs.declared.placing.Placement.{Placement}
-use Rattle.link_model.specs.Members.{Link}
-use Rattle.link_values.specs.Shifts.{veneer_shifts}
 use Rattle.patch_model.specs.Fields.{is_relative}
 use Rattle.link_shifts.specs.declared.balances.Balance.{Balance}
 use Rattle.link_shifts.specs.Balances.{is_gain, is_loss, weighed}
-use Rattle.link_shifts.specs.Changes.{area_change, areas_change, change_by, is_word_at, veneers_change, Grows, Leaves}
+use Rattle.link_shifts.specs.Changes.{change_by, is_word_at, Grows, Leaves}
 use Rattle.link_shifts.proofs.FieldLemmas.{counted}
-use Rattle.link_shifts.proofs.JudgeLemmas.{item}
 
-sum_split : {A : Type 0} (f : A → ℕ) (xs : List A) (k : ℕ) (x : A) → k < length xs → x ≡ get_or xs k x → sum_by f (drop k xs) ≡ f x + sum_by f (drop (k + 1) xs)
-sum_split f xs k x h e = ap (sum_by f) (item xs k x h e) ∙ sum_by-cons f x (drop (k + 1) xs)
+sum_split : {A : Type 0} (f : A → ℕ) (xs : List A) (k : ℕ) (d : A) → k < length xs → sum_by f (drop k xs) ≡ f (get_or xs k d) + sum_by f (drop (k + 1) xs)
+sum_split f xs k d h = ap (sum_by f) (drop_more xs k d h) ∙ sum_by-cons f (get_or xs k d) (drop (k + 1) xs)
 
 -- ---- a relocation more
 
@@ -38,46 +33,19 @@ one_word moving address x r old new = go (is_word_at address x r)
         let less = ap (λ (b : Balance). b.less) e in
         record { more = omega (arith, more); less = omega (arith, less) }
 
-pub word_noted : (moving : Reloc → Bool) (address x : ℕ) (relocs : List Reloc) (k : ℕ) (r : Reloc) (before old new : Balance) → k < length relocs → r ≡ get_or relocs k r
-    → new ≡ (if is_word_at address x r then weighed (is_relative r) (moving r) old else old)
+pub word_noted : (moving : Reloc → Bool) (address x : ℕ) (relocs : List Reloc) (k : ℕ) (d : Reloc) (before old new : Balance) → k < length relocs
+    → new ≡ (if is_word_at address x (get_or relocs k d) then weighed (is_relative (get_or relocs k d)) (moving (get_or relocs k d)) old else old)
     → Leaves before (change_by moving address x relocs) old (change_by moving address x (drop k relocs))
     → Leaves before (change_by moving address x relocs) new (change_by moving address x (drop (k + 1) relocs))
-word_noted moving address x relocs k r before old new h e is left =
-    let one = one_word moving address x r old new is in
-    let more = sum_split (λ q. cond (is_word_at address x q && is_gain moving q) 1 0) relocs k r h e in
-    let less = sum_split (λ q. cond (is_word_at address x q && is_loss moving q) 1 0) relocs k r h e in
+word_noted moving address x relocs k d before old new h is left =
+    let one = one_word moving address x (get_or relocs k d) old new is in
+    let more = sum_split (λ q. cond (is_word_at address x q && is_gain moving q) 1 0) relocs k d h in
+    let less = sum_split (λ q. cond (is_word_at address x q && is_loss moving q) 1 0) relocs k d h in
     let a = one.more in
     let b = one.less in
     let c = left.more in
-    let d = left.less in
-    record { more = omega (arith, a, c, more); less = omega (arith, b, d, less) }
-
--- ---- an area more
-
-pub area_noted : (l : Link) (p : Placement) (x : ℕ) (areas : List PlacedArea) (k : ℕ) (at : PlacedArea) (before old new : Balance) → k < length areas → at ≡ get_or areas k at
-    → Grows old (area_change l p x at) new → Leaves before (areas_change l p x areas) old (areas_change l p x (drop k areas))
-    → Leaves before (areas_change l p x areas) new (areas_change l p x (drop (k + 1) areas))
-area_noted l p x areas k at before old new h e one left =
-    let more = sum_split (λ z. (area_change l p x z).more) areas k at h e in
-    let less = sum_split (λ z. (area_change l p x z).less) areas k at h e in
-    let a = one.more in
-    let b = one.less in
-    let c = left.more in
-    let d = left.less in
-    record { more = omega (arith, a, c, more); less = omega (arith, b, d, less) }
-
--- ---- a veneer more
-
-pub veneer_noted : (x : ℕ) (veneers : List PlacedVeneer) (k : ℕ) (v : PlacedVeneer) (before old new : Balance) → k < length veneers → v ≡ get_or veneers k v
-    → Grows old (record { more = veneer_shifts x v; less = 0 }) new → Leaves before (veneers_change x veneers) old (veneers_change x (drop k veneers))
-    → Leaves before (veneers_change x veneers) new (veneers_change x (drop (k + 1) veneers))
-veneer_noted x veneers k v before old new h e one left =
-    let more = sum_split (veneer_shifts x) veneers k v h e in
-    let a = one.more in
-    let b = one.less in
-    let c = left.more in
-    let d = left.less in
-    record { more = omega (arith, a, c, more); less = omega (arith, b, d) }
+    let e = left.less in
+    record { more = omega (arith, a, c, more); less = omega (arith, b, e, less) }
 
 -- ---- a word more in the list of offsets
 

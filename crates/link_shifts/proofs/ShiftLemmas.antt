@@ -1,6 +1,6 @@
 -- Where nothing is unmovable, the shifts of a word are what is added there less what is taken away.
 use Rattle.std.proofs.Common.{◌≡◌, ◌⊎◌, inl, inr, ℕ, zero, suc, ◌+◌, ◌-◌, ◌%◌, ◌<◌, ◌≤◌, Bool, true, false, not, cond, ◌==◌, if◌then◌else◌, List, [], ◌∷◌, ◌++◌, Option, Some, None, refl, sym, ap, subst, ◌∙◌, arith}
-use Rattle.std.specs.Prelude.{◌&&◌, ◌||◌, nat_le, nat_lt, count_by, slice_get, sum_by}
+use Rattle.std.specs.Prelude.{◌&&◌, nat_le, nat_lt, count_by, slice_get, sum_by}
 use Rattle.std.specs.List.{filter, filter_map, AllByRecursion}
 use Rattle.std.proofs.lemmas.Bool.{leb-true, leb-false, ltb-false, eqb-true}
 use Rattle.std.proofs.lemmas.List.Sums.{sum_by-cons}
@@ -19,7 +19,7 @@ use Rattle.link_model.specs.declared.selection.Named.{Named}
 use Rattle.link_model.specs.Members.{Link, link_of, objects_in}
 use Rattle.link_model.specs.RegionValues.{area_of}
 use Rattle.link_values.specs.Placed.{base_in}
-use Rattle.link_values.specs.Shifts.{area_shifts, gains, has_bad_shifts, image_base, is_bad_branch, is_unmovable, losses, names_moving, not_relocatable, shifts_at, shifts_in, shifts_of, unmovable, unmovable_from, unmovable_in, veneer_shifts, word_shifts}
+use Rattle.link_values.specs.Shifts.{area_shifts, gains, has_bad_shifts, image_base, is_bad_branch, is_unmovable, losses, names_moving, not_relocatable, shifts_at, shifts_in, shifts_of, unmovable, unmovable_from, unmovable_in, word_shifts}
 use Rattle.link_shifts.specs.declared.balances.Balance.{Balance}
 use Rattle.link_shifts.specs.Balances.{is_gain, is_loss, none}
 use Rattle.link_shifts.specs.Changes.{area_change, AreChanges, Changes, change_by, change_of, is_word_at, times_in}

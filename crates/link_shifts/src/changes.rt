@@ -131,10 +131,7 @@ fn areas_changes(
 }
 
 /// Notes the target's address in a veneer to Thumb code.
-fn note_veneer(
-    changes: &mut IndexMap<u64, Balance>,
-    placed: PlacedVeneer,
-) -> Result<(), NoMemory>
+fn note_veneer(changes: &mut IndexMap<u64, Balance>, placed: PlacedVeneer) -> Result<(), NoMemory>
     ensures { OnOk result ((x : ℕ) → Grows (change_in changes.old x)
         (record { more = veneer_shifts x placed; less = 0 }) (change_in changes.new x)) }
 {

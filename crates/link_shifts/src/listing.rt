@@ -1,6 +1,6 @@
 //! The list of the words of an image that are shifted where it is moved.
 
-ghost use Rattle.std.specs.Prelude.{◌≡◌, ◌+◌, ◌++◌, replicate, None, IfOk, OnOk};
+ghost use Rattle.std.specs.Prelude.{◌≡◌, ◌+◌, ◌*◌, ◌++◌, replicate, None, IfOk, OnOk};
 ghost use Rattle.chunk_file.specs.Reading.{Gives};
 ghost use Rattle.image_model.specs.AifFiles.{shifted_offsets};
 ghost use Rattle.link_model.specs.Members.{link_of};
@@ -41,7 +41,7 @@ fn parts_words(placement: &Placement) -> Result<u64, NoMemory>
 fn push_offset(offsets: &mut Vec<u32>, offset: u32, times: u64) -> Result<(), NoMemory>
     ensures { OnOk result (offsets.new.items ≡ offsets.old.items ++ replicate times offset) }
 {
-    for _ in 0..times {
+    for i in 0..times {
         offsets.push(offset)?;
     }
     Ok(())
