@@ -78,7 +78,8 @@ use Rattle.link_laws.proofs.ShownLemmas.{objects_are_shown, ranges_exist}
 use Rattle.armlink_core.specs.declared.making.Made.{Made}
 use Rattle.armlink_core.specs.Linking.{made_at, made_of, made_with, symbols_of}
 use Rattle.armlink_core.specs.Images.{bytes_in, described, image_made, image_of, linking, loads_from as regions_loaded}
-use Rattle.armlink_core.specs.Moves.{can_move, moved as moved_list, moves_in}
+use Rattle.armlink_core.specs.Moves.{can_move, moves_in}
+use Rattle.link_shifts.specs.Moves.{moved as moved_list}
 use Rattle.sdt_toolkit.specs.Starting.{AreSound, AreShownIn, Loads, PlainImagesLoad, ScatterImagesStart, Starts, segments_of}
 
 -- ---- answers
