@@ -5,7 +5,7 @@ use Rattle.std.specs.Option.{option_map_or}
 use Rattle.tool_words.specs.declared.items.Verb.{Verb}
 use Rattle.tool_words.specs.declared.items.Verb.TheVariants.{Assemble, Library, List as Listing, Run, Link, Build}
 use Rattle.tool_words.specs.declared.items.Flag.{Flag}
-use Rattle.tool_words.specs.declared.items.Flag.TheVariants.{Create, Table, Extract, Output, Bin, At, Memory, Rom, Steps, Base, Ram}
+use Rattle.tool_words.specs.declared.items.Flag.TheVariants.{Create, Table, Extract, Output, Bin, At, Memory, Rom, Steps, Reloc, Base, Ram}
 use Rattle.tool_words.specs.declared.items.Flag.TheVariants as flag
 use Rattle.tool_words.specs.declared.items.Item.{Item}
 use Rattle.tool_words.specs.declared.command.Bank.{Bank}
@@ -59,6 +59,7 @@ image_of mode words items = image.Binary (value_of words items Bin) (number_of w
 -- the form of an image that is made, and the banks that it may use, where any is told
 abbrev pub form_of : Option Flag → List (List ℕ) → List Item → LinkForm
 form_of (Some flag.Scatter) words items = form.Scatter (value_of words items flag.Scatter)
+form_of (Some flag.Aif) words items = form.Aif (number_of words items Base 0x8000) (has Reloc items)
 form_of mode words items = form.Plain (number_of words items Base 0x8000)
 
 abbrev pub ram_of : List (List ℕ) → List Item → Option (List Bank)
@@ -143,6 +144,7 @@ IsPlaced (image.Binary file at) = at % 4 ≡ 0
 
 abbrev pub IsFormed : LinkForm → Type 0
 IsFormed (form.Scatter file) = Unit {0}
+IsFormed (form.Aif base relocatable) = base % 4 ≡ 0
 IsFormed (form.Plain base) = base % 4 ≡ 0
 
 abbrev pub AreBanks : Option (List Bank) → Type 0

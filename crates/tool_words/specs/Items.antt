@@ -48,7 +48,9 @@ flag_named word =
 -- the options of making an image
 abbrev pub is_image_flag : Flag → Bool
 is_image_flag Scatter = true
+is_image_flag Aif = true
 is_image_flag Bin = true
+is_image_flag Reloc = true
 is_image_flag Base = true
 is_image_flag Output = true
 is_image_flag Ram = true

@@ -44,6 +44,8 @@ pub struct RunWords {
 pub enum LinkForm {
     /// Load files and their map, placed as this scatter file says.
     Scatter { file: Text },
+    /// An ARM image file for an address that is a multiple of 4, and whether it can run elsewhere too.
+    Aif { base: u32, relocatable: bool },
     /// The bytes alone, from an address that is a multiple of 4.
     Plain { base: u32 },
 }
@@ -339,6 +341,10 @@ fn form_of(
         return Ok(LinkForm::Scatter { file });
     }
     let base = number_of(words, items, Flag::Base, 0x8000);
+    if let Some(Flag::Aif) = mode {
+        let relocatable = has(Flag::Reloc, items);
+        return Ok(LinkForm::Aif { base, relocatable });
+    }
     Ok(LinkForm::Plain { base })
 }
 

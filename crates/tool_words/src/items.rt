@@ -191,7 +191,7 @@ fn is_image_flag(flag: Flag) -> bool
 {
     matches!(
         flag,
-        Flag::Scatter | Flag::Bin | Flag::Base | Flag::Output | Flag::Ram
+        Flag::Scatter | Flag::Aif | Flag::Bin | Flag::Reloc | Flag::Base | Flag::Output | Flag::Ram
     )
 }
 
