@@ -18,10 +18,8 @@ use Rattle.link_model.specs.declared.images.LoadRegion.{LoadRegion}
 use Rattle.link_model.specs.declared.placing.Placement.{Placement}
 use Rattle.link_model.specs.declared.placing.Region.{Region}
 use Rattle.link_model.specs.declared.selection.Linked.{Linked}
-use Rattle.link_model.specs.declared.selection.LinkedEntry.{LinkedEntry}
 use Rattle.link_model.specs.declared.selection.Named.{Named}
 use Rattle.link_model.specs.Chosen.{AreLinked}
-use Rattle.patch_model.specs.Fields.{Home}
 use Rattle.place_model.specs.declared.scatter.Kind.{Kind}
 use Rattle.place_model.specs.declared.scatter.Kind.TheVariants as kind
 use Rattle.place_model.specs.declared.scatter.Scatter.{Scatter}
@@ -30,7 +28,7 @@ use Rattle.place_model.specs.Assignment.{description}
 use Rattle.scatter_text.specs.Reading.{scatter_of}
 use Rattle.link_select.specs.Selection.{selection_of}
 use Rattle.link_values.specs.Placed.{base_in}
-use Rattle.link_apply.specs.Placed.{veneers_at}
+use Rattle.link_apply.specs.Placed.{called}
 use Rattle.link_apply.specs.RegionBytes.{copy_rows, zero_rows}
 use Rattle.armlink_core.specs.declared.making.Made.{Made}
 use Rattle.armlink_core.specs.Linking.{made_of, symbols_of}
@@ -65,14 +63,7 @@ start_of (kind.Aif base relocatable) p = base
 abbrev pub entry_of : Linked → Placement → ℕ
 entry_of l p = (base_in p l.entry.object l.entry.area + l.entry.offset) % 2 ^ 32
 
-abbrev pub home_of : LinkedEntry → Home
-home_of e = record { object = e.object; area = e.area; offset = e.offset }
-
--- what an AIF's header calls: an entry in ARM state, or the veneer of its first region to one in Thumb state
-abbrev pub called : Bool → Linked → Placement → ℕ
-called false l p = entry_of l p
-called true l p = unwrap_or (veneers_at p 0 (home_of l.entry) true) 0
-
+-- an AIF's header may call a veneer
 abbrev pub call_of : Kind → Linked → Placement → ℕ
 call_of (kind.Aif base relocatable) l p = called l.entry.thumb l p
 call_of _ l p = entry_of l p

@@ -1,6 +1,6 @@
 //! The image of a link that is made.
 
-ghost use Rattle.std.specs.Prelude.{◌≡◌, ◌+◌, ◌^◌, ◌≤◌, false, sum_by, IfOk, Ok};
+ghost use Rattle.std.specs.Prelude.{◌≡◌, ◌+◌, ◌^◌, ◌≤◌, sum_by, IfOk};
 ghost use Rattle.std.specs.List.{AllByRecursion};
 ghost use Rattle.std.specs.Option.{option_copied};
 ghost use Rattle.aof_object.specs.Validity.{IsValid};
@@ -13,6 +13,7 @@ use crate::loads::load_regions;
 use crate::making::{Made, make};
 use crate::starting::{bound_in, call_of, entry_of, start_of};
 use link_model::{Image, ImageKind, Linked};
+use link_shifts::movements;
 use place_model::Kind;
 use sdt_fault::answer::Fault;
 use sdt_fault::{List, NoMemory};
@@ -55,15 +56,26 @@ fn image_of(alloc: Global, kind: &Kind, made: Made, moves: List<u32>) -> Result<
     })
 }
 
-/// What can be moved of an image of a form that can't be moved.
-fn moves_in(alloc: Global, kind: &Kind, made: &Made) -> Result<List<u32>, NoMemory>
-    requires fixed { can_move kind.now ≡ false }
-    ensures { IfOk result (λ moves. moves_in kind.now made.now.linked made.now.placement ≡ Ok moves) }
+fn can_move(kind: &Kind) -> bool
+    ensures { result ≡ can_move kind.now }
 {
-    Ok(List::from_vec(Vec::new(alloc)))
+    match kind {
+        Kind::Aif { relocatable, .. } => *relocatable,
+        Kind::Scatter(_) | Kind::Plain { .. } => false,
+    }
 }
 
-/// The image of what is selected, in a form that can't be moved.
+/// The offsets of what is shifted where an image of a form is moved.
+fn moves_in(alloc: Global, kind: &Kind, made: &Made) -> Result<List<u32>, Fault>
+    ensures { Gives result (moves_in kind.now made.now.linked made.now.placement) }
+{
+    if !can_move(kind) {
+        return Ok(List::from_vec(Vec::new(alloc)));
+    }
+    movements(alloc, &made.linked, &made.placement)
+}
+
+/// The image of what is selected.
 pub fn image_by(
     alloc: Global,
     linked: Linked,
@@ -72,7 +84,6 @@ pub fn image_by(
 ) -> Result<Image, Fault>
     requires objects { AllByRecursion (λ o. IsValid o.value) linked.objects }
     requires small { IsSmall kind.now }
-    requires fixed { can_move kind.now ≡ false }
     ensures { Gives result (image_with kind.now (option_copied ram.entry) linked) }
 {
     let made = make(alloc, linked, kind, ram)?;

@@ -1,12 +1,11 @@
 //! Links, without a scatter description and with one.
 
-ghost use Rattle.std.specs.Prelude.{◌≡◌, ◌%◌, false, None};
+ghost use Rattle.std.specs.Prelude.{◌≡◌, ◌%◌, None};
 ghost use Rattle.std.specs.List.{AllByRecursion};
 ghost use Rattle.std.specs.Option.{option_copied};
 ghost use Rattle.alf_archive.specs.Grammar.{IsValid as IsValidArchive};
 ghost use Rattle.aof_object.specs.Validity.{IsValid};
 ghost use Rattle.armlink_core.specs.Images.{linking, scatter_linking, undescribed, Links};
-ghost use Rattle.armlink_core.specs.Moves.{can_move};
 ghost use Rattle.armlink_core.specs.Sizes.{IsSmall};
 ghost use Rattle.place_model.specs.declared.scatter.Kind.TheVariants as kind;
 
@@ -33,7 +32,6 @@ fn link(
     requires objects { AllByRecursion (λ o. IsValid o.value) objects.items }
     requires archives { AllByRecursion (λ a. IsValidArchive a.value) archives.items }
     requires small { IsSmall kind.now }
-    requires fixed { can_move kind.now ≡ false }
     ensures { Links objects.items archives.items (linking kind.now (option_copied ram.entry)) result }
 {
     let symbols = region_symbols(alloc, kind)?;
@@ -75,26 +73,27 @@ pub fn link_plain(
     link(alloc, objects, archives, &kind, None)
 }
 
-/// An ARM image file that runs at a base alone, a multiple of 4: its load region has 0x80 zero bytes in the place of
-/// the header, the read-only and the read-write parts. `ram` has the ranges that can be written, if they are told.
+/// An ARM image file that is linked for a base, a multiple of 4, and runs there alone, or elsewhere too where it is
+/// relocatable: its load region has 0x80 zero bytes in the place of the header, the read-only and the read-write parts;
+/// a relocatable one has the offsets of the words that are shifted too. `ram` has the ranges that can be written, if
+/// they are told.
 ///
-/// Refusals are those of `link_plain`; in its place fits what has 16 MiB at most.
+/// Refusals are those of `link_plain`, and then, of a relocatable one, that of `link_shifts::movements`; in its place
+/// fits what has 16 MiB at most.
 pub fn link_aif(
     alloc: Global,
     objects: Vec<Named<Object>>,
     archives: Vec<Named<Archive>>,
     base: u32,
+    relocatable: bool,
     ram: Option<&[Range32]>,
 ) -> Result<Image, Fault>
     requires objects { AllByRecursion (λ o. IsValid o.value) objects.items }
     requires archives { AllByRecursion (λ a. IsValidArchive a.value) archives.items }
     requires base { base % 4 ≡ 0 }
-    ensures exact { Links objects.items archives.items (linking (kind.Aif base false) (option_copied ram.entry)) result }
+    ensures exact { Links objects.items archives.items (linking (kind.Aif base relocatable) (option_copied ram.entry)) result }
 {
-    let kind = Kind::Aif {
-        base,
-        relocatable: false,
-    };
+    let kind = Kind::Aif { base, relocatable };
     link(alloc, objects, archives, &kind, ram)
 }
 

@@ -6,10 +6,10 @@ ghost use Rattle.std.specs.Option.{option_map};
 ghost use Rattle.boot_code.specs.Aif.{aif_bound};
 ghost use Rattle.boot_code.specs.Laws.{bound_of};
 ghost use Rattle.boot_code.specs.Startup.{copied_words, zeroed_words};
-ghost use Rattle.link_apply.specs.Placed.{leads_to};
+ghost use Rattle.link_apply.specs.Placed.{called, home_of, leads_to};
 ghost use Rattle.link_apply.specs.RegionBytes.{is_copied};
 ghost use Rattle.link_values.specs.Placed.{is_area};
-ghost use Rattle.armlink_core.specs.Images.{bound_in, call_of, called, entry_of, home_of, start_of};
+ghost use Rattle.armlink_core.specs.Images.{bound_in, call_of, entry_of, start_of};
 ghost use Rattle.armlink_core.specs.Sizes.{copies_in, region_size, size_at, zeros_in};
 
 use boot_code::steps_bound;

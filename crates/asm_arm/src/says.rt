@@ -25,7 +25,7 @@ use sdt_fault::{NoMemory, Text};
 use std::alloc::Global;
 
 /// The label of a line, and what stands behind it.
-type Labelled = Result<(Option<Text>, What), LineKind>;
+pub type Labelled = Result<(Option<Text>, What), LineKind>;
 
 /// The label and the operation of a line.
 fn with_operation(
@@ -70,22 +70,32 @@ fn words(alloc: Global, text: &[u8], sentence: Sentence<'_>) -> Result<Option<La
     }
 }
 
-/// The statement of a line, or the refusal of its fault.
-fn told(alloc: Global, line: &Flat, read: Labelled) -> Result<Option<Statement>, Fault>
-    ensures { Told line.now.source line.now.number (λ r. r ≡ model.mapped (λ p. says.statement line.now p.0 p.1) read) result }
+/// What was read of a line, behind the line's source, or the refusal of its fault. It is generic, so that the proof of
+/// the exit where memory runs out does not go through every form of a line.
+fn sourced<W: Drop>(
+    alloc: Global,
+    line: &Flat,
+    read: Result<W, LineKind>,
+) -> Result<(Text, W), Fault>
+    ensures { Told line.now.source line.now.number (λ r. r ≡ model.mapped (λ w. (line.now.source, w)) read) result }
 {
     match read {
         Err(kind) => Err(bad_line(alloc, &line.source, line.number, kind)),
-        Ok((label, what)) => {
-            let source = line.source.try_clone(alloc)?;
-            Ok(Some(Statement {
-                source,
-                number: line.number,
-                label,
-                what,
-            }))
-        }
+        Ok(what) => Ok((line.source.try_clone(alloc)?, what)),
     }
+}
+
+/// The statement of a line, or the refusal of its fault.
+pub fn told(alloc: Global, line: &Flat, read: Labelled) -> Result<Option<Statement>, Fault>
+    ensures { Told line.now.source line.now.number (λ r. r ≡ model.mapped (λ p. says.statement line.now p.0 p.1) read) result }
+{
+    let (source, (label, what)) = sourced(alloc, line, read)?;
+    Ok(Some(Statement {
+        source,
+        number: line.number,
+        label,
+        what,
+    }))
 }
 
 /// What a line that is no directive says.

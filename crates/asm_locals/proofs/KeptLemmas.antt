@@ -219,7 +219,7 @@ directive_named t l h = h
 what_named : (t : Targets) (w : What) → WhatSaid w → WhatSaid (named_what t w)
 what_named t what.Nothing h = tt
 what_named t (what.Arm l) h = arm_named t l h
-what_named t (what.Thumb l) h = tt
+what_named t (what.Thumb l) h = h
 what_named t (what.Pseudo l) h = pseudo_named t l h
 what_named t (what.Directive l) h = directive_named t l h
 

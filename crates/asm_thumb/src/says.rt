@@ -5,7 +5,6 @@ ghost use Rattle.asm_model.specs.Told.{Told};
 ghost use Rattle.asm_model.specs.Says as model;
 ghost use Rattle.asm_model.specs.declared.statements.What.TheVariants as what;
 ghost use Rattle.asm_model.specs.declared.directives.LabelNeed.TheVariants as need;
-ghost use Rattle.asm_arm.specs.Says as arm;
 ghost use Rattle.asm_thumb.specs.Says as says;
 ghost use Rattle.asm_thumb.specs.Steps.{IsOperationRead, IsWordsRead};
 ghost use Rattle.asm_expr.specs.SentenceSteps.{sentence_of};
@@ -13,20 +12,17 @@ ghost use Rattle.asm_expr.specs.SentenceSteps.{sentence_of};
 use crate::lines::instruction;
 use crate::words::operation_named;
 use asm_arm::operands::both;
+use asm_arm::says::{Labelled, told};
 use asm_expr::directives::{Sentence, label_field, one_directive, parts_of};
 use asm_expr::operands::piece_of;
 use asm_expr::parse_directive;
 use asm_expr::read::one_parse;
 use asm_lines::scan::one_scan;
 use asm_lines::tokens;
-use asm_model::{Flat, LabelNeed, Statement, Token, What, bad_line};
+use asm_model::{Flat, LabelNeed, Statement, Token, What};
+use sdt_fault::NoMemory;
 use sdt_fault::answer::Fault;
-use sdt_fault::kinds::LineKind;
-use sdt_fault::{NoMemory, Text};
 use std::alloc::Global;
-
-/// The label of a line, and what stands behind it.
-type Labelled = Result<(Option<Text>, What), LineKind>;
 
 /// The label and the operation of a line.
 fn with_operation(
@@ -68,24 +64,6 @@ fn words(alloc: Global, text: &[u8], sentence: Sentence<'_>) -> Result<Option<La
         )?)),
         (None, Some(label)) => Ok(Some(label_alone(alloc, text, label)?)),
         (None, None) => Ok(None),
-    }
-}
-
-/// The statement of a line, or the refusal of its fault.
-fn told(alloc: Global, line: &Flat, read: Labelled) -> Result<Option<Statement>, Fault>
-    ensures { Told line.now.source line.now.number (λ r. r ≡ model.mapped (λ p. arm.statement line.now p.0 p.1) read) result }
-{
-    match read {
-        Err(kind) => Err(bad_line(alloc, &line.source, line.number, kind)),
-        Ok((label, what)) => {
-            let source = line.source.try_clone(alloc)?;
-            Ok(Some(Statement {
-                source,
-                number: line.number,
-                label,
-                what,
-            }))
-        }
     }
 }
 

@@ -10,7 +10,7 @@ use Rattle.sdt_word.proofs.BytesLemmas.{number_of-bytes_of, length-bytes_of}
 use Rattle.aof_object.specs.declared.records.Area.{Area}
 use Rattle.aof_object.specs.declared.records.Reloc.{Reloc}
 use Rattle.patch_model.specs.Fields.{Kind, Byte, Half, Word, Branch, Field, Values, field_of, kind_of, is_same_kind, directives, added, taken, size_of, number_in}
-use Rattle.patch_model.specs.Patched.{IsOutside, IsPatched, AddsUp, first_symbol}
+use Rattle.patch_model.specs.Patched.{IsOutside, IsPatched, AddsUp, first_symbol, AreaPatched}
 use Rattle.patch_model.proofs.PatchLemmas.{part_lt}
 use Rattle.link_model.specs.declared.placing.Placement.{Placement}
 use Rattle.link_apply.specs.Placed.{veneers_at}
@@ -151,14 +151,17 @@ part_is new n place v room each =
     get_or-take n (drop place new) k 0 within ∙ get_or-drop place new k 0 ∙ each (place + k) (omega arith) (omega arith)
     ∙ ap (λ j. v / 2 ^ (8 * j) % 2 ^ 8) back ∙ sym (get_bytes v n k within))
 
+-- a field that is none of the bad ones, whose number is what its directives ask for
+pub record IsFit (p : Placement) (values : Values) (region base area : ℕ) (a : Area) (r : Reloc) : Type 0 where
+  pub form : has_bad_field area a r ≡ false
+  pub adds : AddsUp (kind_of r) (base + (field_of r).place) values (veneers_at p region) (number_in a.bytes (field_of r)) (patched_number p values region base a (field_of r))
+      (added values (directives a.relocs (field_of r))) (taken base (directives a.relocs (field_of r))) (first_symbol (directives a.relocs (field_of r)))
+
 fields : (p : Placement) (values : Values) (region base area : ℕ) (a : Area) (k : ℕ) (r : Reloc) → AreBytes a.bytes → slice_get a.relocs k ≡ Some r
-    → flaw_of p values region base area a r ≡ None
+    → IsFit p values region base area a r
     → IsPatched base values (veneers_at p region) a.bytes (patched_bytes p values region base a) (field_of r) (directives a.relocs (field_of r))
-fields p values region base area a k r bytes there sound =
-    let f : Field = field_of r in
-    let rs : List Reloc = directives a.relocs (field_of r) in
-    let parts = none_of Form (has_bad_field area a r) (value_flaw p values region base a r (kind_of r) (directives a.relocs (field_of r))) sound in
-    let fine = good area a r parts.0 in
+fields p values region base area a k r bytes there fit =
+    let fine = good area a r fit.form in
     let room = fine.within in
     let size = length_patched p values region base a 0 a.bytes in
     let old = part_lt a.bytes (size_of (field_of r).kind) (field_of r).place fine.within bytes in
@@ -169,13 +172,26 @@ fields p values region base area a k r bytes there sound =
     let Adds : ℕ → Type 0 = λ new.
     AddsUp (kind_of r) (base + (field_of r).place) values (veneers_at p region) (number_in a.bytes (field_of r)) new (added values (directives a.relocs (field_of r)))
     (taken base (directives a.relocs (field_of r))) (first_symbol (directives a.relocs (field_of r))) in
-    subst Adds (sym number) (adds_up p values region base a r (kind_of r) (directives a.relocs (field_of r)) parts.1 old)
+    subst Adds (sym number) fit.adds
 
-pub patched_law : PatchedLaw
-patched_law p values region base area a bytes sound = record {
+pub fit_law : (p : Placement) (values : Values) (region base area : ℕ) (a : Area) → AreBytes a.bytes
+    → ((k : ℕ) (r : Reloc) → slice_get a.relocs k ≡ Some r → IsFit p values region base area a r)
+    → AreaPatched a.relocs a.bytes base values (veneers_at p region) (patched_bytes p values region base a)
+fit_law p values region base area a bytes fit = record {
   size = length_patched p values region base a 0 a.bytes;
   bytes = are_bytes p values region base a bytes;
-  within = λ k r there. (good area a r (none_of Form (has_bad_field area a r) (value_flaw p values region base a r (kind_of r) (directives a.relocs (field_of r))) (sound k r there)).0).within;
-  fields = λ k r there. fields p values region base area a k r bytes there (sound k r there);
+  within = λ k r there. (good area a r (fit k r there).form).within;
+  fields = λ k r there. fields p values region base area a k r bytes there (fit k r there);
   others = others p values region base a;
 }
+
+-- as one is that has no flaw
+pub without_flaw : (p : Placement) (values : Values) (region base area : ℕ) (a : Area) (k : ℕ) (r : Reloc) → AreBytes a.bytes → slice_get a.relocs k ≡ Some r
+    → flaw_of p values region base area a r ≡ None → IsFit p values region base area a r
+without_flaw p values region base area a k r bytes there sound =
+    let parts = none_of Form (has_bad_field area a r) (value_flaw p values region base a r (kind_of r) (directives a.relocs (field_of r))) sound in
+    let old = part_lt a.bytes (size_of (field_of r).kind) (field_of r).place (good area a r parts.0).within bytes in
+    record { form = parts.0; adds = adds_up p values region base a r (kind_of r) (directives a.relocs (field_of r)) parts.1 old }
+
+pub patched_law : PatchedLaw
+patched_law p values region base area a bytes sound = fit_law p values region base area a bytes (λ k r there. without_flaw p values region base area a k r bytes there (sound k r there))

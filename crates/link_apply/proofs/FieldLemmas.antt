@@ -153,7 +153,7 @@ has_veneer v target true aligned even near = record { even = not_odd true target
 has_veneer v target false aligned even near =
     let range = not_far false (v + 4 + ahead false) (target + middle false) near in
     let whole = not_odd false target even in
-    let to : ℕ = target + middle false - (v + 4 + ahead false) in
+    let to : ℕ = total target (middle false) (v + 4 + ahead false) in
     record {
       aligned = aligned;
       field = (to / 4 + 2 ^ 23) % 2 ^ 24;

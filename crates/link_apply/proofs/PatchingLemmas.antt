@@ -11,6 +11,7 @@ use Rattle.aof_object.specs.declared.records.Reloc.{Reloc}
 use Rattle.chunk_file.specs.Reading.{Gives}
 use Rattle.link_model.specs.Options.{refused_or}
 use Rattle.patch_model.specs.Fields.{field_of, kind_of, size_of}
+use Rattle.link_values.proofs.FirstLemmas.{first_passed, first_met, joined_passed, joined_met}
 use Rattle.link_apply.specs.Written.{AreFitting, AreInside}
 
 -- ---- answers
@@ -26,22 +27,6 @@ ok_same (Some r) x y e = absurd (cc)
 pub err_refused : {A B : Type 0} (o : Option B) (x : A) (r : B) → Err r ≡ refused_or o x → o ≡ Some r
 err_refused None x r e = absurd (cc)
 err_refused (Some s) x r e = cc
-
--- ---- the first of what is given
-
-pub first_passed : {A B : Type 0} (f : A → Option B) (x : A) (xs : List A) → f x ≡ None → slice_get (filter_map f (x ∷ xs)) 0 ≡ slice_get (filter_map f xs) 0
-first_passed f x xs e = ap (λ o. slice_get (cons_option o (filter_map f xs)) 0) e
-
-pub first_met : {A B : Type 0} (f : A → Option B) (x : A) (xs : List A) (y : B) → f x ≡ Some y → slice_get (filter_map f (x ∷ xs)) 0 ≡ Some y
-first_met f x xs y e = ap (λ o. slice_get (cons_option o (filter_map f xs)) 0) e
-
-pub joined_passed : {A : Type 0} (xs ys : List A) → slice_get xs 0 ≡ None → slice_get (xs ++ ys) 0 ≡ slice_get ys 0
-joined_passed [] ys e = refl
-joined_passed (x ∷ xs) ys e = absurd (cc)
-
-pub joined_met : {A : Type 0} (xs ys : List A) (x : A) → slice_get xs 0 ≡ Some x → slice_get (xs ++ ys) 0 ≡ Some x
-joined_met [] ys x e = absurd (cc)
-joined_met (y ∷ xs) ys x e = e
 
 -- ---- numbers that fit
 

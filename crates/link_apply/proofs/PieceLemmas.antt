@@ -18,7 +18,7 @@ use Rattle.link_apply.specs.declared.laying.Growing.{Growing}
 use Rattle.link_apply.specs.declared.laying.RegionPiece.{RegionPiece}
 use Rattle.boot_code.specs.Startup.{zeros}
 use Rattle.link_apply.specs.PatchedBytes.{patched_bytes}
-use Rattle.link_apply.specs.RegionBytes.{Piece, laid, area_piece, area_pieces, veneer_piece, veneer_pieces, startup_piece, bytes_from, regions_bytes}
+use Rattle.link_apply.specs.RegionBytes.{Piece, laid, filled_up, area_piece, area_pieces, veneer_piece, veneer_pieces, startup_piece, bytes_from, regions_bytes}
 use Rattle.link_apply.specs.Pieces.{piece_of, pieces_in, with_piece, laid_from, grown_from, area_region_piece, area_region_pieces, veneer_region_piece, startup_region_piece, all_pieces}
 
 -- ---- the pieces of a region
@@ -101,7 +101,7 @@ of_all l p k r startup =
 behind_first : (l : Link) (p : Placement) (k : ℕ) (regions : List Region) → laid_from (pieces_in (all_pieces l p)) (suc k) regions ≡ bytes_from l p (suc k) regions
 behind_first l p k [] = refl
 behind_first l p k (r ∷ regions) =
-    (λ i. laid r.base (of_all l p (suc k) r (none_of_startup l p (slice_get p.regions 0) p.boot k r) i) ∷ behind_first l p (suc k) regions i)
+    (λ i. filled_up r.length (laid r.base (of_all l p (suc k) r (none_of_startup l p (slice_get p.regions 0) p.boot k r) i)) ∷ behind_first l p (suc k) regions i)
 
 from_first : (l : Link) (p : Placement) (regions : List Region) → regions ≡ p.regions → laid_from (pieces_in (all_pieces l p)) 0 regions ≡ bytes_from l p 0 regions
 from_first l p [] e = refl
@@ -109,7 +109,7 @@ from_first l p (r ∷ regions) e =
     let first : slice_get p.regions 0 ≡ Some r = ap (λ rs. slice_get rs 0) (sym e) in
     let startup : pieces_in (startup_region_piece l p (slice_get p.regions 0) p.boot) 0 ≡ startup_piece l p 0 r p.boot =
     ap (λ o. pieces_in (startup_region_piece l p o p.boot) 0) first ∙ of_startup l p r p.boot in
-    (λ i. laid r.base (of_all l p 0 r startup i) ∷ behind_first l p 0 regions i)
+    (λ i. filled_up r.length (laid r.base (of_all l p 0 r startup i)) ∷ behind_first l p 0 regions i)
 
 pub all_laid : (l : Link) (p : Placement) → laid_from (pieces_in (all_pieces l p)) 0 p.regions ≡ regions_bytes l p
 all_laid l p = from_first l p p.regions refl
@@ -118,14 +118,15 @@ all_laid l p = from_first l p p.regions refl
 
 -- a piece goes to the region of its number
 abbrev pub Puts : Growing → Growing → Piece → Type 0
-Puts before after piece = (rest : List Piece) → after.bytes.items ++ laid after.at rest ≡ before.bytes.items ++ laid before.at (piece ∷ rest)
+Puts before after piece =
+    (after.length ≡ before.length) × ((rest : List Piece) → after.bytes.items ++ laid after.at rest ≡ before.bytes.items ++ laid before.at (piece ∷ rest))
 
 grown_apart : (x : RegionPiece) (rest : ℕ → List Piece) (i : ℕ) (gs : List Growing) → x.region < i → grown_from rest i gs ≡ grown_from (with_piece x rest) i gs
 grown_apart x rest i [] h = refl
 grown_apart x rest i (g ∷ gs) h =
     let apart : (x.region == i) ≡ false = ne_eqb x.region i (λ same. omega arith) in
     let same : rest i ≡ with_piece x rest i = sym (rw apart refl) in
-    (λ j. (g.bytes.items ++ laid g.at (same j)) ∷ grown_apart x rest (suc i) gs (omega arith) j)
+    (λ j. filled_up g.length (g.bytes.items ++ laid g.at (same j)) ∷ grown_apart x rest (suc i) gs (omega arith) j)
 
 pub grown_put : (x : RegionPiece) (rest : ℕ → List Piece) (i n : ℕ) (gs : List Growing) (g h : Growing) → x.region ≡ i + n → slice_get gs n ≡ Some g → Puts g h (piece_of x)
     → grown_from rest i (set gs n h) ≡ grown_from (with_piece x rest) i gs
@@ -135,30 +136,30 @@ grown_put x rest i zero (f ∷ gs) g h e there puts =
     let here : (x.region == i) ≡ true = eq-eqb x.region i (omega arith) in
     let with : piece_of x ∷ rest i ≡ with_piece x rest i = sym (rw here refl) in
     let behind : x.region < suc i = omega arith in
-    (λ j. (puts (rest i) ∙ (λ k. (sym same k).bytes.items ++ laid (sym same k).at (with k))) j ∷ grown_apart x rest (suc i) gs behind j)
+    (λ j. filled_up ((puts.0 ∙ (λ k. (sym same k).length)) j) ((puts.1 (rest i) ∙ (λ k. (sym same k).bytes.items ++ laid (sym same k).at (with k))) j) ∷ grown_apart x rest (suc i) gs behind j)
 grown_put x rest i (suc n) (f ∷ gs) g h e there puts =
     let apart : (x.region == i) ≡ false = ne_eqb x.region i (λ same. omega arith) in
     let same : rest i ≡ with_piece x rest i = sym (rw apart refl) in
-    (λ j. (f.bytes.items ++ laid f.at (same j)) ∷ grown_put x rest (suc i) n gs g h (omega arith) there puts j)
+    (λ j. filled_up f.length (f.bytes.items ++ laid f.at (same j)) ∷ grown_put x rest (suc i) n gs g h (omega arith) there puts j)
 
 pub grown_same : (x : RegionPiece) (rest : ℕ → List Piece) (i : ℕ) (gs : List Growing) → i + length gs ≤ x.region → grown_from rest i gs ≡ grown_from (with_piece x rest) i gs
 grown_same x rest i [] h = refl
 grown_same x rest i (g ∷ gs) h =
     let apart : (x.region == i) ≡ false = ne_eqb x.region i (λ same. omega arith) in
     let same : rest i ≡ with_piece x rest i = sym (rw apart refl) in
-    (λ j. (g.bytes.items ++ laid g.at (same j)) ∷ grown_same x rest (suc i) gs (omega arith) j)
+    (λ j. filled_up g.length (g.bytes.items ++ laid g.at (same j)) ∷ grown_same x rest (suc i) gs (omega arith) j)
 
-pub grown_bytes : (i : ℕ) (gs : List Growing) → grown_from (λ k. []) i gs ≡ map (λ g. g.bytes.items) gs
+pub grown_bytes : (i : ℕ) (gs : List Growing) → grown_from (λ k. []) i gs ≡ map (λ g. filled_up g.length g.bytes.items) gs
 grown_bytes i [] = refl
-grown_bytes i (g ∷ gs) = (λ j. append-nil g.bytes.items j ∷ grown_bytes (suc i) gs j)
+grown_bytes i (g ∷ gs) = (λ j. filled_up g.length (append-nil g.bytes.items j) ∷ grown_bytes (suc i) gs j)
 
 pub started_more : (i : ℕ) (gs : List Growing) (rs : List Region) → ((rest : ℕ → List Piece) → grown_from rest i gs ≡ laid_from rest i rs)
-    → (g : Growing) (r : Region) → g.bytes.items ≡ [] → g.at ≡ r.base → (rest : ℕ → List Piece) → grown_from rest i (gs ++ g ∷ []) ≡ laid_from rest i (rs ++ r ∷ [])
-started_more i [] [] known g r empty at rest = (λ j. (empty j ++ laid (at j) (rest i)) ∷ [])
-started_more i [] (x ∷ xs) known g r empty at rest = absurd (let e = known rest in cc)
-started_more i (f ∷ fs) [] known g r empty at rest = absurd (let e = known rest in cc)
-started_more i (f ∷ fs) (x ∷ xs) known g r empty at rest =
-    (λ j. get_or (known rest j) 0 [] ∷ started_more (suc i) fs xs (λ more. ap (drop 1) (known more)) g r empty at rest j)
+    → (g : Growing) (r : Region) → g.bytes.items ≡ [] → g.at ≡ r.base → g.length ≡ r.length → (rest : ℕ → List Piece) → grown_from rest i (gs ++ g ∷ []) ≡ laid_from rest i (rs ++ r ∷ [])
+started_more i [] [] known g r empty at size rest = (λ j. filled_up (size j) (empty j ++ laid (at j) (rest i)) ∷ [])
+started_more i [] (x ∷ xs) known g r empty at size rest = absurd (let e = known rest in cc)
+started_more i (f ∷ fs) [] known g r empty at size rest = absurd (let e = known rest in cc)
+started_more i (f ∷ fs) (x ∷ xs) known g r empty at size rest =
+    (λ j. get_or (known rest j) 0 [] ∷ started_more (suc i) fs xs (λ more. ap (drop 1) (known more)) g r empty at size rest j)
 
 same_zeros : (k : ℕ) → replicate k 0 ≡ zeros k
 same_zeros zero = refl

@@ -14,4 +14,3 @@ pub mod Sites
 pub mod Patching
 pub mod Pieces
 pub mod Rows
-pub mod Shifts

@@ -53,9 +53,9 @@ patched_from p values region base a i (byte ∷ bytes) =
 abbrev pub patched_bytes : Placement → Values → ℕ → ℕ → Area → List ℕ
 patched_bytes p values region base a = patched_from p values region base a 0 a.bytes
 
--- ---- a veneer at an address, by its target's address and state
+-- ---- a veneer at an address, by its target's address and state; its own branch counts modulo 2^32
 
 abbrev pub veneer_bytes : ℕ → ℕ → Bool → List ℕ
 veneer_bytes v target true = bytes_of 0xE59FC000 4 ++ bytes_of 0xE12FFF1C 4 ++ bytes_of ((target + 1) % 2 ^ 32) 4
 veneer_bytes v target false =
-    bytes_of 0x4778 2 ++ bytes_of 0x46C0 2 ++ bytes_of (with_span false 0xEA000000 (target + middle false - (v + 4 + ahead false))) 4
+    bytes_of 0x4778 2 ++ bytes_of 0x46C0 2 ++ bytes_of (with_span false 0xEA000000 (total target (middle false) (v + 4 + ahead false))) 4

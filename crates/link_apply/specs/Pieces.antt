@@ -16,7 +16,7 @@ use Rattle.link_apply.specs.declared.sites.Known.{Known}
 use Rattle.link_apply.specs.declared.sites.Site.{Site}
 use Rattle.link_apply.specs.PatchedBytes.{patched_bytes}
 use Rattle.link_apply.specs.Patching.{bytes_at}
-use Rattle.link_apply.specs.RegionBytes.{Piece, laid, veneer_piece, startup_from}
+use Rattle.link_apply.specs.RegionBytes.{Piece, laid, filled_up, veneer_piece, startup_from}
 
 -- ---- of a region of a number
 
@@ -34,12 +34,12 @@ with_piece x pieces region = if x.region == region then piece_of x ∷ pieces re
 
 abbrev pub laid_from : (ℕ → List Piece) → ℕ → List Region → List (List ℕ)
 laid_from pieces i [] = []
-laid_from pieces i (r ∷ regions) = laid r.base (pieces i) ∷ laid_from pieces (suc i) regions
+laid_from pieces i (r ∷ regions) = filled_up r.length (laid r.base (pieces i)) ∷ laid_from pieces (suc i) regions
 
 -- what growing regions are with these pieces behind what they have
 abbrev pub grown_from : (ℕ → List Piece) → ℕ → List Growing → List (List ℕ)
 grown_from pieces i [] = []
-grown_from pieces i (g ∷ growing) = (g.bytes.items ++ laid g.at (pieces i)) ∷ grown_from pieces (suc i) growing
+grown_from pieces i (g ∷ growing) = filled_up g.length (g.bytes.items ++ laid g.at (pieces i)) ∷ grown_from pieces (suc i) growing
 
 -- ---- all pieces
 

@@ -1,6 +1,6 @@
 -- The bytes of a region before its zero part: areas with their fields patched, veneers, and in the first region of a
--- scatter image the startup code with its table; zeros between them (SDT 2.50 Reference Guide, armlink; veneers and the
--- startup code are this project's).
+-- scatter image the startup code with its table; zeros between them, in the place of an ARM image file's header, and up to
+-- the region's length (SDT 2.50 Reference Guide, armlink; veneers and the startup code are this project's).
 use Rattle.std.specs.Prelude.{ℕ, zero, suc, ◌+◌, ◌-◌, ◌%◌, ◌^◌, Bool, not, ◌&&◌, nat_lt, ◌==◌, if◌then◌else◌, List, [], ◌∷◌, ◌++◌, length, map, Option, Some, None}
 use Rattle.std.specs.List.{filter, filter_map}
 use Rattle.sdt_word.specs.Numbers.{bit, flag}
@@ -29,6 +29,10 @@ Piece = ℕ × List ℕ
 abbrev pub laid : ℕ → List Piece → List ℕ
 laid at [] = []
 laid at ((address, bytes) ∷ pieces) = zeros (address - at) ++ (bytes ++ laid (address + length bytes) pieces)
+
+-- with zeros up to a length
+abbrev pub filled_up : ℕ → List ℕ → List ℕ
+filled_up size bytes = bytes ++ zeros (size - length bytes)
 
 -- ---- areas and veneers
 
@@ -79,7 +83,7 @@ startup_piece l p region r boot = []
 
 abbrev pub region_bytes : Link → Placement → ℕ → Region → List ℕ
 region_bytes l p region r =
-    laid r.base (area_pieces l p region ++ (veneer_pieces p region ++ startup_piece l p region r p.boot))
+    filled_up r.length (laid r.base (area_pieces l p region ++ (veneer_pieces p region ++ startup_piece l p region r p.boot)))
 
 -- of regions that are counted from a number on
 abbrev pub bytes_from : Link → Placement → ℕ → List Region → List (List ℕ)

@@ -83,7 +83,7 @@ fn applied_to(alloc: Global, known: &Known<'_>) -> Result<List<Bytes>, Fault>
 }
 
 /// The bytes of each region before its zero part: areas with their fields patched, veneers, the startup code with its
-/// table, and zeros between them.
+/// table, and zeros between them and in the place of an ARM image file's header.
 ///
 /// Relocations are judged in placed order, those of an area in the order of their list, and of the first with a flaw
 /// its form before its value: `BadRelocation`, then `FieldOverflow` of a byte or a half-word and `Unreachable` of a

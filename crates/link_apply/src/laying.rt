@@ -3,7 +3,7 @@
 ghost use Rattle.std.specs.Prelude.{◌≡◌, ℕ, ◌∷◌, ◌++◌, ◌≤◌, ◌^◌, ◌-◌, [], List as Items, OnOk, IfOk, map};
 ghost use Rattle.boot_code.specs.Startup.{zeros};
 ghost use Rattle.link_apply.specs.Pieces.{grown_from, laid_from, pieces_in, with_piece};
-ghost use Rattle.link_apply.specs.RegionBytes.{laid, Piece};
+ghost use Rattle.link_apply.specs.RegionBytes.{filled_up, laid, Piece};
 
 use link_model::Region;
 use sdt_fault::{Bytes, List, NoMemory};
@@ -17,11 +17,12 @@ pub struct RegionPiece {
     pub bytes: Bytes,
 }
 
-/// The first bytes of a region, up to an address.
+/// The first bytes of a region, up to an address, and how many it has in the end.
 #[derive(Drop)]
 pub struct Growing {
     pub bytes: Vec<u8>,
     pub at: u64,
+    pub length: u64,
 }
 
 /// Appends so many zeros.
@@ -37,7 +38,8 @@ pub fn push_zeros(bytes: &mut Vec<u8>, count: u64) -> Result<(), NoMemory>
 /// Appends a piece, with zeros before it.
 fn put_bytes(growing: &mut Growing, address: u64, bytes: &[u8]) -> Result<(), NoMemory>
     requires { address ≤ 2 ^ 32 }
-    ensures { OnOk result ((rest : Items Piece) → growing.new.bytes.items ++ laid growing.new.at rest
+    ensures length { growing.new.length ≡ growing.old.length }
+    ensures bytes { OnOk result ((rest : Items Piece) → growing.new.bytes.items ++ laid growing.new.at rest
         ≡ growing.old.bytes.items ++ laid growing.old.at ((address, bytes.now) ∷ rest)) }
 {
     push_zeros(&mut growing.bytes, address.saturating_sub(growing.at))?;
@@ -72,6 +74,7 @@ fn all_started(alloc: Global, regions: &[Region]) -> Result<Vec<Growing>, NoMemo
         growing.push(Growing {
             bytes: Vec::new(alloc),
             at: region.base,
+            length: region.length,
         })?;
     }
     Ok(growing)
@@ -87,17 +90,30 @@ fn put_all(growing: &mut Vec<Growing>, pieces: &[RegionPiece]) -> Result<(), NoM
     Ok(())
 }
 
+/// Appends zeros up to a length. One beyond the end of memory, which no placement has, counts as want of memory.
+fn fill(mut bytes: Vec<u8>, length: u64) -> Result<Vec<u8>, NoMemory>
+    ensures { IfOk result (λ filled. filled.items ≡ filled_up length bytes.items) }
+{
+    let missing = length.saturating_sub(bytes.len() as u64);
+    if missing > 0x1_0000_0000 {
+        return Err(NoMemory);
+    }
+    push_zeros(&mut bytes, missing)?;
+    Ok(bytes)
+}
+
 fn all_finished(alloc: Global, growing: Vec<Growing>) -> Result<List<Bytes>, NoMemory>
-    ensures { IfOk result (λ all. all ≡ map (λ g. g.bytes.items) growing.items) }
+    ensures { IfOk result (λ all. all ≡ map (λ g. filled_up g.length g.bytes.items) growing.items) }
 {
     let mut all = Vec::new(alloc);
     'growing: for one in growing {
-        all.push(Bytes::from_vec(one.bytes))?;
+        all.push(Bytes::from_vec(fill(one.bytes, one.length)?))?;
     }
     Ok(List::from_vec(all))
 }
 
-/// The bytes of regions by the pieces of all of them: those of each in their order, with zeros before each.
+/// The bytes of regions by the pieces of all of them: those of each in their order, with zeros before each and up to
+/// the region's length.
 pub fn lay(
     alloc: Global,
     regions: &[Region],

@@ -33,7 +33,7 @@ use Rattle.link_model.specs.declared.selection.Linked.{Linked}
 use Rattle.link_model.specs.Members.{link_of, objects_in}
 use Rattle.link_model.specs.RegionValues.{region_number}
 use Rattle.link_items.specs.LinkedItems.{contents_of}
-use Rattle.link_apply.specs.Shifts.{shifts_of}
+use Rattle.link_values.specs.Shifts.{shifts_of}
 use Rattle.link_laws.specs.AifJoins.{shift_between, shifted_words, placement_at, MayMoveTo, filled_at, given_at, moving_list, moving_file, IsViewAt}
 use Rattle.link_laws.specs.Joins.{given_in}
 use Rattle.link_laws.proofs.MadeAppliedLemmas.{made_is_applied}

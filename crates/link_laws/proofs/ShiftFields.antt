@@ -10,7 +10,7 @@ use Rattle.link_model.specs.declared.placing.Placement.{Placement}
 use Rattle.link_apply.specs.Placed.{veneers_at}
 use Rattle.link_apply.specs.Flaws.{veneer_of, lacks_veneer}
 use Rattle.link_apply.specs.PatchedBytes.{with_span, turned, number_by}
-use Rattle.link_apply.specs.Shifts.{gains, losses}
+use Rattle.link_values.specs.Shifts.{gains, losses}
 use Rattle.link_laws.specs.AifJoins.{shift_between}
 use Rattle.link_laws.proofs.ShiftSums.{total_moves, gained_and_lost, IsMovedIn, added_moves, taken_moves}
 

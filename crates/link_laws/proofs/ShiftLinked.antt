@@ -31,7 +31,7 @@ use Rattle.link_values.specs.Placed.{is_area, base_in, values_in}
 use Rattle.link_apply.specs.declared.flaws.Flaw.TheVariants.{Form}
 use Rattle.link_apply.specs.Flaws.{overlaps, is_of_itself, is_based, is_outside, has_bad_field, is_only, lacks_veneer, branch_flaw, way_flaw, veneer_of, goal_of, value_flaw, flaw_of, told, refusal_of, refusals_in, refusals_at, apply_refusal}
 use Rattle.link_apply.specs.PatchedBytes.{patched_bytes}
-use Rattle.link_apply.specs.Shifts.{names_moving, gains, losses, word_shifts, image_base, has_bad_shifts, is_bad_branch, is_unmovable, unmovable, unmovable_in, unmovable_from, not_relocatable}
+use Rattle.link_values.specs.Shifts.{names_moving, gains, losses, word_shifts, image_base, has_bad_shifts, is_bad_branch, is_unmovable, unmovable, unmovable_in, unmovable_from, not_relocatable}
 use Rattle.link_apply.proofs.FieldLemmas.{none_of}
 use Rattle.link_apply.proofs.ListLemmas.{any_none}
 use Rattle.link_laws.specs.AifJoins.{shift_between, shifted_words}

@@ -33,7 +33,7 @@ use Rattle.link_model.proofs.NeedLemmas.{veneers_law}
 use Rattle.link_items.specs.LinkedItems.{contents_of}
 use Rattle.link_place.specs.Placed.{placement_of}
 use Rattle.link_apply.specs.Placed.{veneers_at, target_in}
-use Rattle.link_apply.specs.Shifts.{image_base, shifts_at, shifts_of, not_relocatable}
+use Rattle.link_values.specs.Shifts.{image_base, shifts_at, shifts_of, not_relocatable}
 use Rattle.link_laws.specs.AifJoins.{moved_region, shift_between, shifted_words, placement_at, LeadsNear, VeneersReach, filled_at, BytesMove}
 use Rattle.link_laws.specs.Joins.{IsMade, given_in}
 use Rattle.link_laws.specs.Placing.{bases_of, IsPlacedLink, IsVeneerApplied}

@@ -13,7 +13,7 @@ use Rattle.link_model.specs.declared.placing.Placement.{Placement}
 use Rattle.link_apply.specs.Placed.{veneers_at}
 use Rattle.link_apply.specs.Flaws.{overlaps, lacks_veneer}
 use Rattle.link_apply.specs.PatchedBytes.{patched_number, patched_bytes}
-use Rattle.link_apply.specs.Shifts.{gains, losses, word_shifts, has_bad_shifts}
+use Rattle.link_values.specs.Shifts.{gains, losses, word_shifts, has_bad_shifts}
 use Rattle.link_laws.specs.AifJoins.{shift_between, shifted_words}
 use Rattle.link_laws.proofs.ShiftSums.{IsMovedIn}
 use Rattle.link_laws.proofs.ShiftFields.{IsMovedImage, HasWay, way_moves, number_stays, word_number}

@@ -17,7 +17,7 @@ use Rattle.link_items.specs.LinkedItems.{contents_of}
 use Rattle.link_place.specs.Placed.{placement_of}
 use Rattle.patch_model.specs.Fields.{Home}
 use Rattle.link_apply.specs.Flaws.{apply_refusal}
-use Rattle.link_apply.specs.Shifts.{shifts_of, not_relocatable}
+use Rattle.link_values.specs.Shifts.{shifts_of, not_relocatable}
 use Rattle.link_laws.specs.Joins.{given_in}
 
 -- ---- one object, whose areas of code are read-only; the first has the entry

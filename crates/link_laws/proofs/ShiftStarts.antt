@@ -28,7 +28,7 @@ use Rattle.link_model.specs.declared.placing.Veneer.{Veneer}
 use Rattle.link_model.specs.declared.selection.Linked.{Linked}
 use Rattle.link_model.specs.Members.{link_of}
 use Rattle.link_items.specs.LinkedItems.{contents_of}
-use Rattle.link_apply.specs.Shifts.{shifts_of}
+use Rattle.link_values.specs.Shifts.{shifts_of}
 use Rattle.link_laws.specs.AifJoins.{placement_at, given_at, moving_list, moving_file, IsViewAt, MovedImageShows, HasRoomAt, IsMovingImage, EntersByVeneer, MovedImageBoots}
 use Rattle.link_laws.proofs.MadePlacedLemmas.{is_placement}
 use Rattle.link_laws.proofs.ShiftBoots.{shows}

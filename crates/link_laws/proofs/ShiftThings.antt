@@ -28,7 +28,7 @@ use Rattle.link_place.specs.Placed.{areas_of, veneers_of, placement_of}
 use Rattle.link_place.specs.Placed as placing
 use Rattle.link_values.specs.Placed.{is_area}
 use Rattle.link_apply.specs.Flaws.{apply_refusal}
-use Rattle.link_apply.specs.Shifts.{names_moving, gains, losses, word_shifts, shifts_in, area_shifts, veneer_shifts, shifts_at, not_relocatable}
+use Rattle.link_values.specs.Shifts.{names_moving, gains, losses, word_shifts, shifts_in, area_shifts, veneer_shifts, shifts_at, not_relocatable}
 use Rattle.link_laws.specs.AifJoins.{shift_between, shifted_words}
 use Rattle.link_laws.specs.Joins.{given_in}
 use Rattle.link_laws.proofs.ItemLemmas.{IsOwn}

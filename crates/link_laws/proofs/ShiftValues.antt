@@ -13,7 +13,7 @@ use Rattle.link_model.specs.Members.{Link}
 use Rattle.link_model.specs.RegionValues.{region_number}
 use Rattle.link_model.specs.Values.{home_area, unplaced, meant_at, meant_of, meant_by, meaning_at}
 use Rattle.link_values.specs.Placed.{base_in, values_in}
-use Rattle.link_apply.specs.Shifts.{names_moving}
+use Rattle.link_values.specs.Shifts.{names_moving}
 use Rattle.link_values.specs.Moving.{is_moving_symbol, is_moving}
 use Rattle.link_laws.proofs.ShiftSums.{IsMovedIn}
 use Rattle.link_laws.proofs.ShiftFields.{IsMovedSymbol, IsMovedImage}

@@ -25,7 +25,7 @@ use Rattle.link_model.specs.Members.{link_of}
 use Rattle.link_items.specs.LinkedItems.{contents_of}
 use Rattle.link_place.specs.Placed.{placement_of}
 use Rattle.link_apply.specs.Placed.{target_in}
-use Rattle.link_apply.specs.Shifts.{shifts_of, not_relocatable}
+use Rattle.link_values.specs.Shifts.{shifts_of, not_relocatable}
 use Rattle.link_laws.specs.Joins.{IsMade, given_in}
 
 -- ---- plans

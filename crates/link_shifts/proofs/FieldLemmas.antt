@@ -6,7 +6,7 @@ use Rattle.std.proofs.lemmas.List.Sums.{sum_by-cons}
 use Rattle.sdt_word.specs.Numbers.{bits, flag}
 use Rattle.aof_object.specs.declared.records.Reloc.{Reloc}
 use Rattle.patch_model.specs.Fields.{Branch, kind_by, place_by, field_of, is_field, is_relative, is_same_kind, directives}
-use Rattle.link_apply.specs.Shifts.{gains, has_bad_shifts, is_bad_branch, is_unmovable, losses}
+use Rattle.link_values.specs.Shifts.{gains, has_bad_shifts, is_bad_branch, is_unmovable, losses}
 use Rattle.link_shifts.specs.declared.balances.Balance.{Balance}
 use Rattle.link_shifts.specs.declared.balances.Spot.{Spot}
 use Rattle.link_shifts.specs.Balances.{AreBalances, Balances, balance_in, balance_of, is_gain, is_loss, is_same, spot_of, weighed}
@@ -46,10 +46,10 @@ same_by s (suc (suc (suc (suc t)))) a b hs ht = absurd (omega (arith, ht))
 pub same_field : (q r : Reloc) → is_same (spot_of q) (spot_of r) ≡ is_field (field_of r) q
 same_field q r = same_by (bits q.word 24 2) (bits r.word 24 2) q.offset r.offset (omega arith) (omega arith)
 
-step : {A : Type 0} (p : A → Bool) (x : A) (xs : List A) → count_by p (x ∷ xs) ≡ cond (p x) 1 0 + count_by p xs
+pub step : {A : Type 0} (p : A → Bool) (x : A) (xs : List A) → count_by p (x ∷ xs) ≡ cond (p x) 1 0 + count_by p xs
 step p x xs = sum_by-cons (λ y. cond (p y) 1 0) x xs
 
-count_among : {A : Type 0} (p f q : A → Bool) → ((x : A) → p x ≡ f x) → (xs : List A) → count_by (λ x. p x && q x) xs ≡ count_by q (filter f xs)
+pub count_among : {A : Type 0} (p f q : A → Bool) → ((x : A) → p x ≡ f x) → (xs : List A) → count_by (λ x. p x && q x) xs ≡ count_by q (filter f xs)
 count_among p f q same [] = refl
 count_among {A} p f q same (x ∷ xs) = step (λ y. p y && q y) x xs ∙ go (p x) (f x) (same x) (count_among p f q same xs)
   where
@@ -69,7 +69,7 @@ field_balance moving relocs r = λ i. record {
 
 -- ---- the index of balances, with a relocation more
 
-equal : (a b : ℕ) → (a == b) ≡ true → a ≡ b
+pub equal : (a b : ℕ) → (a == b) ≡ true → a ≡ b
 equal a b h = go (eqb_tells a b)
   where
     go : ((a == b) ≡ true × a ≡ b) ⊎ ((a == b) ≡ false × a ≢ b) → a ≡ b
@@ -84,7 +84,7 @@ same_spot a s h =
     let both = both_true (a.offset == s.offset) (a.type_ == s.type_) h in
     λ i. record { offset = equal a.offset s.offset both.0 i; type_ = equal a.type_ s.type_ both.1 i }
 
-counted : (b : Bool) → cond b 1 0 ≡ flag b
+pub counted : (b : Bool) → cond b 1 0 ≡ flag b
 counted true = refl
 counted false = refl
 

@@ -6,8 +6,8 @@ use Rattle.std.proofs.lemmas.List.{drop_more}
 use Rattle.sdt_fault.specs.declared.refusal.Refusal.{Refusal}
 use Rattle.aof_object.specs.declared.records.Area.{Area}
 use Rattle.aof_object.specs.declared.records.Object.{Object}
-use Rattle.link_apply.specs.Shifts.{unmovable, unmovable_from, unmovable_in}
-use Rattle.link_apply.proofs.PatchingLemmas.{joined_met, joined_passed}
+use Rattle.link_values.specs.Shifts.{unmovable, unmovable_from, unmovable_in}
+use Rattle.link_values.proofs.FirstLemmas.{joined_met, joined_passed}
 use Rattle.link_model.specs.declared.placing.Placement.{Placement}
 use Rattle.link_model.specs.declared.selection.Named.{Named}
 use Rattle.link_model.specs.Members.{Link}

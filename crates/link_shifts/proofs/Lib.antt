@@ -1,2 +1,4 @@
 mod JudgeLemmas
 mod FieldLemmas
+mod ChangeLemmas
+mod ShiftLemmas

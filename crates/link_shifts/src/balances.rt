@@ -2,7 +2,7 @@
 
 ghost use Rattle.std.specs.Prelude.{◌≡◌, ◌+◌, if◌then◌else◌, IfOk, OnOk};
 ghost use Rattle.sdt_word.specs.Numbers.{flag};
-ghost use Rattle.link_apply.specs.Shifts.{names_moving as names_moving_of};
+ghost use Rattle.link_values.specs.Shifts.{names_moving as names_moving_of};
 ghost use Rattle.link_shifts.specs.declared.balances.Spot.{Spot as SpotModel};
 ghost use Rattle.patch_model.specs.Fields.{is_relative};
 ghost use Rattle.link_model.specs.Members.{link_of};
@@ -51,7 +51,7 @@ fn counted(one: bool, count: u64) -> Result<u64, NoMemory>
     Ok(count + 1)
 }
 
-fn weighed(relative: bool, moving: bool, balance: Balance) -> Result<Balance, NoMemory>
+pub fn weighed(relative: bool, moving: bool, balance: Balance) -> Result<Balance, NoMemory>
     ensures { IfOk result (λ b. b ≡ with_one relative moving balance) }
 {
     Ok(Balance {

@@ -3,7 +3,7 @@
 ghost use Rattle.std.specs.Prelude.{◌≡◌, ◌+◌, ◌-◌, ◌||◌, slice_get, IfOk, Some};
 ghost use Rattle.std.specs.List.{filter_map};
 ghost use Rattle.std.specs.Option.{option_map};
-ghost use Rattle.link_apply.specs.Shifts.{has_bad_shifts as bad_shifts, is_bad_branch, is_unmovable, names_moving as names_moving_of, image_base as base_of_image, unmovable, unmovable_from, unmovable_in, not_relocatable};
+ghost use Rattle.link_values.specs.Shifts.{has_bad_shifts as bad_shifts, is_bad_branch, is_unmovable, names_moving as names_moving_of, image_base as base_of_image, unmovable, unmovable_from, unmovable_in, not_relocatable};
 ghost use Rattle.link_model.specs.Members.{link_of};
 ghost use Rattle.link_shifts.specs.Balances.{AreBalances};
 ghost use Rattle.link_shifts.specs.Tells.{Tells};
@@ -183,7 +183,7 @@ fn refusal_of_object(
 }
 
 /// The refusal of the first relocation that can't be moved.
-fn refusal_of(alloc: Global, image: &Image<'_>) -> Result<Option<Refusal>, NoMemory>
+pub fn refusal_of(alloc: Global, image: &Image<'_>) -> Result<Option<Refusal>, NoMemory>
     requires { Tells image.now }
     ensures { IfOk result (λ found. found ≡ not_relocatable image.now.linked.now image.now.placement.now) }
 {

@@ -1,7 +1,7 @@
 //! What the relocations of a placed link name.
 
 ghost use Rattle.std.specs.Prelude.{◌≡◌};
-ghost use Rattle.link_apply.specs.Shifts.{names_moving};
+ghost use Rattle.link_values.specs.Shifts.{names_moving};
 ghost use Rattle.link_model.specs.Members.{link_of};
 ghost use Rattle.link_shifts.specs.Tells.{Tells};
 

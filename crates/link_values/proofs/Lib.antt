@@ -1,3 +1,4 @@
 pub mod MovingLemmas
 mod RegionLemmas
 mod ValueLemmas
+pub mod FirstLemmas

@@ -4,3 +4,4 @@ pub mod Bases
 pub mod Regions
 pub mod Values
 pub mod Moving
+pub mod Shifts

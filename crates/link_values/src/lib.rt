@@ -12,5 +12,6 @@ mod values;
 
 pub use crate::bases::{AreaBases, area_bases, base_at};
 pub use crate::moving::is_moving;
+pub use crate::objects::{area_at, sum};
 pub use crate::regions::region_numbers;
 pub use crate::values::{Known, Place, SymbolValue, gathered, symbol_values, value_at};

@@ -3,10 +3,14 @@
 -- assembler.
 use Rattle.std.specs.Prelude.{◌≡◌, ◌≢◌, ◌<◌, ℕ, List, [], ◌∷◌, ◌++◌, Bool, true, false, Option, Some, None}
 use Rattle.std.specs.List.{AllByRecursion}
+use Rattle.sdt_word.specs.declared.codes.Condition.{Condition}
+use Rattle.sdt_word.specs.declared.codes.Condition.TheVariants as condition
 use Rattle.arm_isa.specs.declared.instr.Operation.{Operation}
 use Rattle.arm_isa.specs.declared.instr.Operation.TheVariants.{Tst, Teq, Cmp, Cmn, Mov, Mvn}
 use Rattle.arm_isa.specs.declared.instr.HalfKind.{HalfKind}
 use Rattle.arm_isa.specs.declared.instr.HalfKind.TheVariants.{Half, SignedByte, SignedHalf}
+use Rattle.thumb_isa.specs.declared.instr.HighOperation.{HighOperation}
+use Rattle.thumb_isa.specs.declared.instr.HighOperation.TheVariants as high
 use Rattle.asm_model.specs.declared.exprs.Expr.{Expr}
 use Rattle.asm_model.specs.declared.exprs.Part.{Part}
 use Rattle.asm_model.specs.declared.operands.Register.{Register}
@@ -21,8 +25,14 @@ use Rattle.asm_model.specs.declared.operands.HalfOffset.{HalfOffset}
 use Rattle.asm_model.specs.declared.operands.HalfOffset.TheVariants as half
 use Rattle.asm_model.specs.declared.operands.ListItem.{ListItem}
 use Rattle.asm_model.specs.declared.operands.ListItem.TheVariants as item
+use Rattle.asm_model.specs.declared.operands.LiteralAddress.{LiteralAddress}
+use Rattle.asm_model.specs.declared.operands.LiteralAddress.TheVariants as literal
+use Rattle.asm_model.specs.declared.operands.ThumbOperand.{ThumbOperand}
+use Rattle.asm_model.specs.declared.operands.ThumbOperand.TheVariants as operand
 use Rattle.asm_model.specs.declared.arm_lines.ArmLine.{ArmLine}
 use Rattle.asm_model.specs.declared.arm_lines.ArmLine.TheVariants as arm
+use Rattle.asm_model.specs.declared.thumb_lines.ThumbLine.{ThumbLine}
+use Rattle.asm_model.specs.declared.thumb_lines.ThumbLine.TheVariants as thumb
 use Rattle.asm_model.specs.declared.directives.Boundary.{Boundary}
 use Rattle.asm_model.specs.declared.directives.Boundary.TheVariants as limit
 use Rattle.asm_model.specs.declared.directives.RnOperand.{RnOperand}
@@ -138,6 +148,45 @@ ArmSaid (arm.TransferBlock condition load mode rn write_back list user) = Regist
 ArmSaid (arm.Branch condition link e) = IsRead e
 ArmSaid (arm.SoftwareInterrupt condition e) = IsRead e
 
+-- BX names no Rd
+abbrev pub HighSaid : HighOperation → Register → Type 0
+HighSaid high.Bx rd = rd ≡ register.Number 0
+HighSaid _ rd = Unit {0}
+
+-- a branch that always goes is no branch with a condition
+abbrev pub IsConditional : Condition → Type 0
+IsConditional condition.Al = ⊥
+IsConditional _ = Unit {0}
+
+abbrev pub ThumbOperandSaid : ThumbOperand → Type 0
+ThumbOperandSaid (operand.Register rn) = RegisterSaid rn
+ThumbOperandSaid (operand.Number e) = IsRead e
+
+abbrev pub LiteralSaid : LiteralAddress → Type 0
+LiteralSaid (literal.Offset e) = IsRead e
+LiteralSaid (literal.Label e) = IsRead e
+
+abbrev pub ThumbSaid : ThumbLine → Type 0
+ThumbSaid (thumb.ShiftImmediate by rd rs e) = RegisterSaid rd × RegisterSaid rs × IsRead e
+ThumbSaid (thumb.AddSubtract subtract rd rs o) = RegisterSaid rd × RegisterSaid rs × ThumbOperandSaid o
+ThumbSaid (thumb.DataImmediate operation rd e) = RegisterSaid rd × IsRead e
+ThumbSaid (thumb.DataRegister operation rd rs) = RegisterSaid rd × RegisterSaid rs
+ThumbSaid (thumb.HighRegister operation rd rs) = RegisterSaid rd × RegisterSaid rs × HighSaid operation rd
+ThumbSaid (thumb.LoadLiteral rd a) = RegisterSaid rd × LiteralSaid a
+ThumbSaid (thumb.TransferRegister load byte rd rn ro) = RegisterSaid rd × RegisterSaid rn × RegisterSaid ro
+ThumbSaid (thumb.TransferSigned kind rd rn ro) = RegisterSaid rd × RegisterSaid rn × RegisterSaid ro
+ThumbSaid (thumb.TransferImmediate load byte rd rn e) = RegisterSaid rd × RegisterSaid rn × IsRead e
+ThumbSaid (thumb.TransferHalf load rd rn e) = RegisterSaid rd × RegisterSaid rn × IsRead e
+ThumbSaid (thumb.TransferStack load rd e) = RegisterSaid rd × IsRead e
+ThumbSaid (thumb.LoadAddress stack rd e) = RegisterSaid rd × IsRead e
+ThumbSaid (thumb.AdjustStack subtract e) = IsRead e
+ThumbSaid (thumb.PushPop load list) = AllItemsSaid list.items
+ThumbSaid (thumb.TransferMultiple load rn list) = RegisterSaid rn × AllItemsSaid list.items
+ThumbSaid (thumb.BranchConditional c e) = IsConditional c × IsRead e
+ThumbSaid (thumb.SoftwareInterrupt e) = IsRead e
+ThumbSaid (thumb.Branch e) = IsRead e
+ThumbSaid (thumb.BranchLink e) = IsRead e
+
 abbrev pub PseudoSaid : PseudoLine → Type 0
 PseudoSaid (pseudo.LoadConstant condition rd e) = RegisterSaid rd × IsRead e
 PseudoSaid (pseudo.Address condition rd e) = RegisterSaid rd × IsRead e
@@ -173,11 +222,10 @@ DirectiveSaid _ = Unit {0}
 
 -- ---- statements
 
--- of instructions of Thumb state nothing is asked yet
 abbrev pub WhatSaid : What → Type 0
 WhatSaid what.Nothing = Unit {0}
 WhatSaid (what.Arm l) = ArmSaid l
-WhatSaid (what.Thumb l) = Unit {0}
+WhatSaid (what.Thumb l) = ThumbSaid l
 WhatSaid (what.Pseudo l) = PseudoSaid l
 WhatSaid (what.Directive l) = DirectiveSaid l
 

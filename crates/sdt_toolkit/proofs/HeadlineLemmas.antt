@@ -16,7 +16,6 @@ use Rattle.link_model.specs.declared.selection.Named.{Named}
 use Rattle.link_model.specs.Chosen.{taken}
 use Rattle.link_model.specs.Members.{members_of}
 use Rattle.bin_image.specs.declared.records.OutFile.{OutFile}
-use Rattle.bin_image.specs.Files.{files_of}
 use Rattle.tool_words.specs.declared.command.Command.{Command}
 use Rattle.tool_words.specs.declared.command.LinkForm.{LinkForm}
 use Rattle.tool_words.specs.declared.command.LinkForm.TheVariants as form
@@ -27,10 +26,10 @@ use Rattle.tool_answers.specs.Outcomes.{Outcome, Outside, AreWritten, written}
 use Rattle.tool_library.specs.declared.linkables.Linkable.{Linkable}
 use Rattle.tool_library.specs.declared.linkables.Linkable.TheVariants as input
 use Rattle.sdt_toolkit.specs.Commands.{Commanded}
-use Rattle.sdt_toolkit.specs.Headline.{Headline, IsLinkedInto, Reaches, SourcesStand}
+use Rattle.sdt_toolkit.specs.Headline.{FitsWhere, Headline, IsLinkedInto, Reaches, SourcesStand}
 use Rattle.sdt_toolkit.specs.Inputs.{Behind, InputBy, InputsAre, IsSource, NamedIs, as_object, is_source_name, named, objects_among, archives_among}
 use Rattle.sdt_toolkit.specs.Reads.{Reads, reads_of}
-use Rattle.sdt_toolkit.specs.Links.{FilesAsk, ImageIs, InputsMake, IsInMemory, LinkAnswers, ReadAsks, WordsAsk, behind_first, filed, files_read, inputs_in, is_long, outputs, read_by, text_in, too_large, writes_all}
+use Rattle.sdt_toolkit.specs.Links.{FilesAsk, ImageIs, InputsMake, IsInMemory, LinkAnswers, ReadAsks, WordsAsk, behind_first, filed, files_read, image_files, inputs_in, is_long, outputs, read_by, text_in, too_large, writes_all}
 use Rattle.sdt_toolkit.specs.Starting.{AreShownIn, IsShownIn}
 
 -- ---- answers
@@ -57,6 +56,7 @@ under_names : (files : Files) (f : LinkForm) (names contents : List (List ℕ)) 
 under_names files (form.Scatter file) names contents h =
     let (bytes, rest, one, others, whole) = inputs_next (input_of files file) (inputs_of files names) contents h in
     others ∙ ap (λ (c : List (List ℕ)). Ok (behind_first c)) (sym whole)
+under_names files (form.Aif base relocatable) names contents h = h
 under_names files (form.Plain base) names contents h = h
 
 found_same : (name text bytes : List ℕ) (o : Option (List ℕ)) → o ≡ Some text → found_or name o ≡ Ok bytes → bytes ≡ text
@@ -134,23 +134,30 @@ source_at s (n ∷ names) (bytes ∷ contents) xs h (suc k) name text at there i
 
 -- ---- the image in memory
 
-memory_view : (f : LinkForm) (os : List (Named Object)) (i : Image) → IsInMemory f os i → (view : ByteMap) × Reaches f i view × AreShownIn view os
-memory_view (form.Scatter file) os i h = (h.view, (h.copies, h.parts, h.boots), h.shown)
-memory_view (form.Plain base) os i h = (h.view, (h.parts, h.cleared), h.shown)
+record InMemory (f : LinkForm) (os : List (Named Object)) (i : Image) : Type 0 where
+  pub views : ℕ → ByteMap
+  pub reaches : Reaches f i views
+  pub shown : (to : ℕ) → FitsWhere f i to → AreShownIn (views to) os
 
-filed_as : (out : List ℕ) (i : Image) (fs : List OutFile) → filed out i ≡ Ok fs → fs ≡ files_of i out
-filed_as out i fs h = go (list_any is_long (files_of i out)) h
+memory_views : (f : LinkForm) (os : List (Named Object)) (i : Image) → IsInMemory f os i → InMemory f os i
+memory_views (form.Scatter file) os i h = record { views = λ to. h.view; reaches = (h.copies, h.parts, h.boots); shown = λ to fits. h.shown }
+memory_views (form.Aif base relocatable) os i h = record { views = h.views; reaches = h.boots; shown = h.shown }
+memory_views (form.Plain base) os i h = record { views = λ to. h.view; reaches = (h.parts, h.cleared); shown = λ to fits. h.shown }
+
+filed_as : (out : List ℕ) (i : Image) (fs : List OutFile) → filed out i ≡ Ok fs → fs ≡ image_files out i
+filed_as out i fs h = go (list_any is_long (image_files out i)) h
   where
-    go : (b : Bool) → cond b (Err too_large) (Ok (files_of i out)) ≡ Ok fs → fs ≡ files_of i out
+    go : (b : Bool) → cond b (Err too_large) (Ok (image_files out i)) ≡ Ok fs → fs ≡ image_files out i
     go true e = absurd (let bad : ◌≡◌ {A = Result (List OutFile) Refusal} (Err too_large) (Ok fs) = e in cc)
-    go false e = sym (ok_same (files_of i out) fs e)
+    go false e = sym (ok_same (image_files out i) fs e)
 
 -- ---- the lemma
 
 pub record IsLeftBy (sources : Bool) (w : LinkWords) (before : Files) (after : Option Files) : Type 0 where
-  pub view : ByteMap
-  pub link : IsLinkedInto sources w before after view
-  pub stand : sources ≡ true → SourcesStand w.names before view
+  pub image : Image
+  pub views : ℕ → ByteMap
+  pub link : IsLinkedInto sources w before after image views
+  pub stand : sources ≡ true → (to : ℕ) → FitsWhere w.form image to → SourcesStand w.names before (views to)
 
 module _ (s : Reads) (sources : Bool) (w : LinkWords) (before : Files) (after : Option Files) (over : s.told ≡ Some before) where
   image_left : (contents : List (List ℕ)) (fs : List OutFile) (inputs : List (Named Linkable)) (i : Image) (image : Result Image Refusal)
@@ -158,33 +165,33 @@ module _ (s : Reads) (sources : Bool) (w : LinkWords) (before : Files) (after : 
       → ImageIs w.form (text_in w.form contents) w.ram inputs image → image ≡ Ok i → filed w.output i ≡ Ok fs → after ≡ Some (written before (outputs fs))
       → IsLeftBy sources w before after
   image_left contents fs inputs i image read judged is made files left =
-      let (view, reaches, shown) = memory_view w.form is.objects i (is.memory i made) in
+      let memory = memory_views w.form is.objects i (is.memory i made) in
       record {
-        view = view;
+        image = i;
+        views = memory.views;
         link = record {
           reads = s;
           contents = contents;
           inputs = inputs;
           objects = is.objects;
-          image = i;
           read = read;
           told = over;
           judged = judged;
           linked = is.linked;
           left = left ∙ ap (λ (x : List OutFile). Some (written before (outputs x))) (filed_as w.output i fs files);
-          reaches = reaches;
-          shown = shown;
+          reaches = memory.reaches;
+          shown = memory.shown;
         };
-        stand = λ sourced k name text at source holds.
+        stand = λ sourced to fits k name text at source holds.
             let there = input_at before w.names (inputs_in w.form contents) (under_names before w.form w.names contents read) k name text at holds in
             let among : IsObjectAmong s.told (objects_among inputs) name text =
             source_at s w.names (inputs_in w.form contents) inputs (subst (λ (b : Bool). InputsAre s b w.names (inputs_in w.form contents) (Ok inputs)) sourced judged) k name text at there source in
             let found : IsObjectAmong s.told is.objects name text =
             subst (λ (os : List (Named Object)). IsObjectAmong s.told os name text) (sym is.linked.in_order)
             (in_front s.told (objects_among inputs) (taken is.linked.chosen 0 (members_of (archives_among inputs))) name text among) in
-            let seen : IsShownIn view found.object.value = shown found.place found.object found.at in
+            let seen : IsShownIn (memory.views to) found.object.value = memory.shown to fits found.place found.object found.at in
             let stands : StandsFrom (Some before) name text found.object.value = subst (λ (t : Option Files). StandsFrom t name text found.object.value) over found.stands in
-            (seen.values, seen.region, stands seen.number seen.values seen.area_at view seen.region seen.veneers seen.placed seen.shown);
+            (seen.values, seen.region, stands seen.number seen.values seen.area_at (memory.views to) seen.region seen.veneers seen.placed seen.shown);
       }
 
   inputs_left : (contents : List (List ℕ)) (fs : List OutFile) (inputs : Result (List (Named Linkable)) Refusal) (made : Result (List OutFile) Refusal)
@@ -225,11 +232,11 @@ headline x o seats left a h = record {
   link = λ w before asked told done.
       let answers : LinkAnswers false w o answer.Done = subst (LinkAnswers false w o) done (subst (λ (y : Result Command ℕ). Commanded y o seats left a) asked h).0 in
       let r = link_left false w o before told answers in
-      (r.view, r.link);
+      (r.image, r.views, r.link);
   build = λ w before asked told done.
       let answers : LinkAnswers true w o answer.Done = subst (LinkAnswers true w o) done (subst (λ (y : Result Command ℕ). Commanded y o seats left a) asked h).0 in
       let r = link_left true w o before told answers in
-      (r.view, r.link, r.stand refl);
+      (r.image, r.views, r.link, r.stand refl);
 }
 
 pub headline_of : (words : List (List ℕ)) (o : Outside) (seats left : List Seat) (a : Answer) → Commanded (command_of words) o seats left a → Headline (command_of words) o.before o.after a

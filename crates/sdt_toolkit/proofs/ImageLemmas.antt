@@ -9,6 +9,7 @@ use Rattle.sdt_fault.specs.declared.answer.Fault.TheVariants as fault
 use Rattle.sdt_fault.specs.declared.refusal.Refusal.{Refusal}
 use Rattle.aof_object.specs.declared.records.Object.{Object}
 use Rattle.alf_archive.specs.declared.records.Archive.{Archive}
+use Rattle.aif_image.specs.Files.{aif_file}
 use Rattle.link_model.specs.declared.images.Image.{Image}
 use Rattle.link_model.specs.declared.images.ImageKind.{ImageKind}
 use Rattle.link_model.specs.declared.images.ImageKind.TheVariants as shape
@@ -28,8 +29,8 @@ use Rattle.tool_library.specs.declared.linkables.Linkable.{Linkable}
 use Rattle.sdt_toolkit.proofs.InputLemmas.{valid_archives, valid_objects}
 use Rattle.sdt_toolkit.proofs.SoundLemmas.{sound_linked}
 use Rattle.sdt_toolkit.specs.Inputs.{AreValid, Tells, archives_among, objects_among}
-use Rattle.sdt_toolkit.specs.Starting.{AreSound, HasBytes, PlainImagesLoad, ScatterImagesStart}
-use Rattle.sdt_toolkit.specs.Links.{ImageIs, IsFiled, IsInMemory, IsRam, IsScatterImage, IsWritable, LinksTo, ScattersTo, filed, is_long, is_long_load, too_large}
+use Rattle.sdt_toolkit.specs.Starting.{AifImagesStart, AreSound, HasBytes, PlainImagesLoad, ScatterImagesStart}
+use Rattle.sdt_toolkit.specs.Links.{AsAif, ImageIs, IsAifImage, IsInMemory, IsLoaded, IsOneFile, IsRam, IsScatterImage, IsWritable, LinksTo, ScattersTo, filed, files_as, image_files, is_long, is_long_load, too_large}
 
 -- ---- the image
 
@@ -39,6 +40,13 @@ scattered objects archives text banks ram (Ok i) told h = (h.0, h.1, (ram, told,
 scattered objects archives text banks ram (Err (fault.Refused e)) told h = (h.0, h.1, (ram, told, sym h.2))
 scattered objects archives text banks ram (Err (fault.ReadFault q)) told h = h
 scattered objects archives text banks ram (Err fault.NoMemory) told h = tt
+
+pub as_aif : (objects : List (Named Object)) (archives : List (Named Archive)) (base : ℕ) (relocatable : Bool) (banks : Option (List Bank)) (ram : Option (List Range32)) (r : Result Image Fault)
+    → IsRam banks ram → Links objects archives (linking (kind.Aif base relocatable) ram) r → Tells r (IsAifImage objects archives base relocatable banks)
+as_aif objects archives base relocatable banks ram (Ok i) told h = (h.0, h.1, (ram, told, sym h.2))
+as_aif objects archives base relocatable banks ram (Err (fault.Refused e)) told h = (h.0, h.1, (ram, told, sym h.2))
+as_aif objects archives base relocatable banks ram (Err (fault.ReadFault q)) told h = h
+as_aif objects archives base relocatable banks ram (Err fault.NoMemory) told h = tt
 
 -- what is linked of these is sound
 abbrev pub LinksSound : List (Named Object) → List (Named Archive) → Type 0
@@ -65,6 +73,22 @@ scatter_image starts inputs file text banks (Err (fault.Refused e)) sound h = re
 scatter_image starts inputs file text banks (Err (fault.ReadFault q)) sound h = h
 scatter_image starts inputs file text banks (Err fault.NoMemory) sound h = tt
 
+pub aif_image : AifImagesStart → (inputs : List (Named Linkable)) (base : ℕ) (relocatable : Bool) (text : List ℕ) (banks : Option (List Bank)) (r : Result Image Fault) → base % 4 ≡ 0
+    → base < 2 ^ 32 → LinksSound (objects_among inputs) (archives_among inputs)
+    → Tells r (IsAifImage (objects_among inputs) (archives_among inputs) base relocatable banks) → Tells r (ImageIs (form.Aif base relocatable) text banks inputs)
+aif_image starts inputs base relocatable text banks (Ok i) whole small sound h =
+    let links : AsAif base relocatable banks h.0 (Ok i) = h.2 in
+    record {
+      objects = h.0;
+      linked = h.1;
+      links = h.2;
+      memory = same_memory (form.Aif base relocatable) h.0 i (starts base relocatable links.0 h.0 i (sound h.0 h.1) whole small (sym links.2));
+    }
+aif_image starts inputs base relocatable text banks (Err (fault.Refused e)) whole small sound h =
+    record { objects = h.0; linked = h.1; links = h.2; memory = no_memory (form.Aif base relocatable) h.0 e }
+aif_image starts inputs base relocatable text banks (Err (fault.ReadFault q)) whole small sound h = h
+aif_image starts inputs base relocatable text banks (Err fault.NoMemory) whole small sound h = tt
+
 pub plain_image : PlainImagesLoad → (inputs : List (Named Linkable)) (base : ℕ) (text : List ℕ) (banks : Option (List Bank)) (r : Result Image Fault) → base % 4 ≡ 0
     → LinksSound (objects_among inputs) (archives_among inputs) → Links (objects_among inputs) (archives_among inputs) (linking (kind.Plain base) None) r
     → Tells r (ImageIs (form.Plain base) text banks inputs)
@@ -80,15 +104,13 @@ mapped : (rs : List Region) → AllByRecursion (λ r. r.length + r.zero ≤ 2 ^ 
 mapped [] h = tt
 mapped (r ∷ rs) h = let small = h.0 in (record { length = omega (arith, small); zero = omega (arith, small) }, mapped rs h.1)
 
-filed_so : (f k : ImageKind) → k ≡ f → IsFiled f → IsFiled k
-filed_so f k e h = subst IsFiled (sym e) h
-
-writable : (f : ImageKind) (i : Image) → IsFiled f → IsSized f i → IsWritable i
-writable f i filed sized = record { form = filed_so f i.kind sized.form filed; regions = mapped i.regions sized.regions }
+writable : (f : ImageKind) (i : Image) → IsSized f i → IsWritable i
+writable f i sized = mapped i.regions sized.regions
 
 links_writable : LinkedSizes → ScatterSizes → (f : LinkForm) (text : List ℕ) (banks : Option (List Bank)) (os : List (Named Object)) (i : Image) → LinksTo f text banks os (Ok i) → IsWritable i
-links_writable linked scattered (form.Scatter file) text banks os i h = writable shape.Scatter i tt (scattered text h.0 os i (sym h.2))
-links_writable linked scattered (form.Plain base) text banks os i h = writable shape.Plain i tt (linked (kind.Plain base) None os i (sym h))
+links_writable linked scattered (form.Scatter file) text banks os i h = writable shape.Scatter i (scattered text h.0 os i (sym h.2))
+links_writable linked scattered (form.Aif base relocatable) text banks os i h = writable (shape.Aif relocatable) i (linked (kind.Aif base relocatable) h.0 os i (sym h.2))
+links_writable linked scattered (form.Plain base) text banks os i h = writable shape.Plain i (linked (kind.Plain base) None os i (sym h))
 
 pub image_writable : LinkedSizes → ScatterSizes → (f : LinkForm) (text : List ℕ) (banks : Option (List Bank)) (inputs : List (Named Linkable)) (i : Image) → ImageIs f text banks inputs (Ok i) → IsWritable i
 image_writable linked scattered f text banks inputs i h = links_writable linked scattered f text banks h.objects i h.links
@@ -106,24 +128,37 @@ long_plain out (l ∷ ls) = ap (λ (b : Bool). is_long_load l || b) (long_plain 
 or_true : (a b : Bool) → a ≡ true → (a || b) ≡ true
 or_true a b e = rw e refl
 
-long_by : (f : ImageKind) (i : Image) (out : List ℕ) → IsFiled f → list_any is_long_load i.loads ≡ true → list_any is_long (files_by f i out) ≡ true
+long_by : (f : ImageKind) (i : Image) (out : List ℕ) → IsLoaded f → list_any is_long_load i.loads ≡ true → list_any is_long (files_by f i out) ≡ true
 long_by shape.Scatter i out filed h =
     list_any-append is_long (map (load_file out) i.loads) (map_file i out ∷ [])
     ∙ or_true (list_any is_long (map (load_file out) i.loads)) (list_any is_long (map_file i out ∷ [])) (sym (long_scattered out i.loads) ∙ h)
 long_by shape.Plain i out filed h = sym (long_plain out i.loads) ∙ h
 long_by (shape.Aif relocatable) i out filed h = absurd filed
 
-long_files : (out : List ℕ) (i : Image) → list_any is_long (files_of i out) ≡ true → filed out i ≡ Err too_large
-long_files out i h = ap (λ (b : Bool). cond b (Err too_large) (Ok (files_of i out))) h
+long_files : (out : List ℕ) (i : Image) → list_any is_long (image_files out i) ≡ true → filed out i ≡ Err too_large
+long_files out i h = ap (λ (b : Bool). cond b (Err too_large) (Ok (image_files out i))) h
 
-pub long_load : (out : List ℕ) (i : Image) → IsWritable i → list_any is_long_load i.loads ≡ true → filed out i ≡ Err too_large
-long_load out i w h = long_files out i (long_by i.kind i out w.form h)
+loaded_files : (f : ImageKind) (out : List ℕ) (i : Image) → IsLoaded f → files_as f out i ≡ files_of i out
+loaded_files shape.Scatter out i h = refl
+loaded_files shape.Plain out i h = refl
+loaded_files (shape.Aif relocatable) out i h = absurd h
 
-pub long_file : (out : List ℕ) (i : Image) (fs : List OutFile) → fs ≡ files_of i out → list_any is_long fs ≡ true → filed out i ≡ Err too_large
+pub one_file : (f : ImageKind) (out : List ℕ) (i : Image) → IsOneFile f → files_as f out i ≡ (record { name = out; bytes = aif_file i }) ∷ []
+one_file shape.Scatter out i h = absurd h
+one_file shape.Plain out i h = absurd h
+one_file (shape.Aif relocatable) out i h = refl
+
+pub long_load : (out : List ℕ) (i : Image) → IsLoaded i.kind → list_any is_long_load i.loads ≡ true → filed out i ≡ Err too_large
+long_load out i w h = long_files out i (ap (list_any is_long) (loaded_files i.kind out i w) ∙ long_by i.kind i out w h)
+
+pub long_file : (out : List ℕ) (i : Image) (fs : List OutFile) → fs ≡ image_files out i → list_any is_long fs ≡ true → filed out i ≡ Err too_large
 long_file out i fs e h = long_files out i (ap (list_any is_long) (sym e) ∙ h)
 
-pub short_files : (out : List ℕ) (i : Image) (fs : List OutFile) → fs ≡ files_of i out → list_any is_long fs ≡ false → filed out i ≡ Ok fs
-short_files out i fs e h = ap (λ (b : Bool). cond b (Err too_large) (Ok (files_of i out))) (ap (list_any is_long) (sym e) ∙ h) ∙ ap Ok (sym e)
+pub short_files : (out : List ℕ) (i : Image) (fs : List OutFile) → fs ≡ image_files out i → list_any is_long fs ≡ false → filed out i ≡ Ok fs
+short_files out i fs e h = ap (λ (b : Bool). cond b (Err too_large) (Ok (image_files out i))) (ap (list_any is_long) (sym e) ∙ h) ∙ ap Ok (sym e)
+
+pub load_files_are : (out : List ℕ) (i : Image) (fs : List OutFile) → IsLoaded i.kind → fs ≡ files_of i out → fs ≡ image_files out i
+load_files_are out i fs w e = e ∙ sym (loaded_files i.kind out i w)
 
 or_false : (a b : Bool) → (a || b) ≡ false → (a ≡ false) × (b ≡ false)
 or_false true b h = absurd (let bad : true ≡ false = h in cc)

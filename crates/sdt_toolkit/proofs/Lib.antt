@@ -1,6 +1,7 @@
 pub mod CommandLemmas
 mod AskLemmas
 mod EndLemmas
+mod EndsLemmas
 mod ImageLemmas
 mod InputLemmas
 mod LinkLemmas

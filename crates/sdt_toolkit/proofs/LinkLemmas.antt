@@ -31,12 +31,14 @@ use Rattle.sdt_toolkit.specs.Links.{AllWritten, FilesAsk, ImageIs, InputsMake, L
 pub inputs_count : (f : LinkForm) (names contents : List (List ℕ)) → length contents ≡ length (read_by f names) → length (inputs_in f contents) ≡ length names
 inputs_count (form.Scatter file) names [] h = absurd (omega (arith, h))
 inputs_count (form.Scatter file) names (text ∷ contents) h = omega (arith, h)
+inputs_count (form.Aif base relocatable) names contents h = h
 inputs_count (form.Plain base) names contents h = h
 
 pub inputs_short : (f : LinkForm) (contents : List (List ℕ)) → ((k : ℕ) (d : List ℕ) → k < length contents → length (get_or contents k d) < 2 ^ 32)
     → (k : ℕ) (d : List ℕ) → k < length (inputs_in f contents) → length (get_or (inputs_in f contents) k d) < 2 ^ 32
 inputs_short (form.Scatter file) [] h k d lt = absurd (omega (arith, lt))
 inputs_short (form.Scatter file) (text ∷ contents) h k d lt = h (suc k) d (omega (arith, lt))
+inputs_short (form.Aif base relocatable) contents h k d lt = h k d lt
 inputs_short (form.Plain base) contents h k d lt = h k d lt
 
 -- ---- what it makes

@@ -7,7 +7,8 @@ use Rattle.chunk_file.specs.Reading.{◌>>=◌}
 use Rattle.aof_object.specs.declared.records.Object.{Object}
 use Rattle.sdt_outside.specs.Files.{Files, content}
 use Rattle.armasm_core.specs.Assembling.{AssembledFrom, OneAssembly}
-use Rattle.armlink_core.specs.Images.{scatter_linking}
+use Rattle.place_model.specs.declared.scatter.Kind.TheVariants as kind
+use Rattle.armlink_core.specs.Images.{linking, scatter_linking}
 use Rattle.link_model.specs.declared.images.Image.{Image}
 use Rattle.link_model.specs.declared.selection.Named.{Named}
 use Rattle.link_model.specs.Chosen.{LinkedLaw}
@@ -22,7 +23,7 @@ use Rattle.tool_library.specs.declared.linkables.Linkable.{Linkable}
 use Rattle.tool_library.specs.declared.linkables.Linkable.TheVariants as input
 use Rattle.sdt_toolkit.specs.Inputs.{Behind, InputBy, InputsAre, NamedIs, archives_among, is_source_name, objects_among, with_name}
 use Rattle.sdt_toolkit.specs.Reads.{Reads}
-use Rattle.sdt_toolkit.specs.Links.{FilesAsk, ImageIs, InputsMake, IsRam, LinkMakes, LinksTo, OneLinkAsked, ReadAsks, ScattersTo, WordsAsk, filed, files_read, inputs_in, text_in, writes_all}
+use Rattle.sdt_toolkit.specs.Links.{AsAif, FilesAsk, ImageIs, InputsMake, IsRam, LinkMakes, LinksTo, OneLinkAsked, ReadAsks, ScattersTo, WordsAsk, filed, files_read, inputs_in, text_in, writes_all}
 
 -- ---- inputs
 
@@ -108,8 +109,14 @@ scatters_once : (text : List ℕ) (banks : Option (List Bank)) (os : List (Named
 scatters_once text banks os x y h k =
     h.2 ∙ (ap (λ (ram : Option (List Range32)). scatter_linking text ram os) (ram_once banks h.0 k.0 h.1 k.1) ∙ sym k.2)
 
+as_aif_once : (base : ℕ) (relocatable : Bool) (banks : Option (List Bank)) (os : List (Named Object)) (x y : Result Image Refusal) → AsAif base relocatable banks os x
+    → AsAif base relocatable banks os y → x ≡ y
+as_aif_once base relocatable banks os x y h k =
+    h.2 ∙ (ap (λ (ram : Option (List Range32)). linking (kind.Aif base relocatable) ram os) (ram_once banks h.0 k.0 h.1 k.1) ∙ sym k.2)
+
 links_once : (f : LinkForm) (text : List ℕ) (banks : Option (List Bank)) (os : List (Named Object)) (x y : Result Image Refusal) → LinksTo f text banks os x → LinksTo f text banks os y → x ≡ y
 links_once (form.Scatter file) text banks os x y h k = scatters_once text banks os x y h k
+links_once (form.Aif base relocatable) text banks os x y h k = as_aif_once base relocatable banks os x y h k
 links_once (form.Plain base) text banks os x y h k = h ∙ sym k
 
 image_once : LinkedLaw → (f : LinkForm) (text : List ℕ) (banks : Option (List Bank)) (inputs : Inputs) (x y : Result Image Refusal) → ImageIs f text banks inputs x → ImageIs f text banks inputs y → x ≡ y

@@ -78,7 +78,8 @@ use Rattle.link_laws.proofs.ShownLemmas.{objects_are_shown, ranges_exist}
 use Rattle.armlink_core.specs.declared.making.Made.{Made}
 use Rattle.armlink_core.specs.Linking.{made_at, made_of, made_with, symbols_of}
 use Rattle.armlink_core.specs.Images.{bytes_in, described, image_made, image_of, linking, loads_from as regions_loaded}
-use Rattle.armlink_core.specs.Moves.{can_move, moved as moved_list, moves_in}
+use Rattle.armlink_core.specs.Moves.{can_move, moves_in}
+use Rattle.link_shifts.specs.Moves.{moved as moved_list}
 use Rattle.sdt_toolkit.specs.Starting.{AreSound, AreShownIn, Loads, PlainImagesLoad, ScatterImagesStart, Starts, segments_of}
 
 -- ---- answers
@@ -181,17 +182,26 @@ pub record IsAnswered (k : Kind) (ram : Option (List Range32)) (os : List (Named
   pub placement : Placement
   pub objects : linked.objects ≡ os
   pub made : IsMade k ram linked assigned veneers placement
-  pub image : image_of k (made_by linked assigned veneers placement) [] ≡ i
+  pub moves : List ℕ
+  pub listed : moves_in k linked placement ≡ Ok moves
+  pub image : image_of k (made_by linked assigned veneers placement) moves ≡ i
 
 nothing_moves : (k : Kind) (l : Linked) (p : Placement) → can_move k ≡ false → moves_in k l p ≡ Ok []
 nothing_moves k l p fixed = ap (λ (b : Bool). if b then moved_list l p else Ok []) fixed
 
+-- the image of a link of which nothing moves
+still_image : (k : Kind) (ram : Option (List Range32)) (os : List (Named Object)) (i : Image) → can_move k ≡ false → (n : IsAnswered k ram os i)
+    → image_of k (made_by n.linked n.assigned n.veneers n.placement) [] ≡ i
+still_image k ram os i fixed n =
+    let none : [] ≡ n.moves = ok_same [] n.moves (sym (nothing_moves k n.linked n.placement fixed) ∙ n.listed) in
+    ap (λ (moves : List ℕ). image_of k (made_by n.linked n.assigned n.veneers n.placement) moves) none ∙ n.image
+
 module _ (k : Kind) (ram : Option (List Range32)) (os : List (Named Object)) (i : Image) (sound : AreSound os)
     (loads : AllByRecursion (λ load. load.base % 4 ≡ 0) (description k)) (bases : AllByRecursion (λ r. IsWholeBase r.base) (described_regions k)) where
-  with_placement : (l : Linked) (a : Assigned) (vs : List Veneer) (p : Placement) (m : Made) → IsSelected os l → assignment_of k l.objects ≡ Ok a
-      → planned_veneers l a (has_header k) ≡ Ok vs → placed k ram (contents_of l.objects a.regions vs) ≡ Ok p → made_at l a vs p ≡ Ok m → image_of k m [] ≡ i
-      → IsAnswered k ram os i
-  with_placement l a vs p m s assigned planned places made image =
+  with_placement : (l : Linked) (a : Assigned) (vs : List Veneer) (p : Placement) (m : Made) (moves : List ℕ) → IsSelected os l → assignment_of k l.objects ≡ Ok a
+      → planned_veneers l a (has_header k) ≡ Ok vs → placed k ram (contents_of l.objects a.regions vs) ≡ Ok p → made_at l a vs p ≡ Ok m
+      → moves_in k m.linked m.placement ≡ Ok moves → image_of k m moves ≡ i → IsAnswered k ram os i
+  with_placement l a vs p m moves s assigned planned places made listed image =
       let (bytes, applies, is) = steps_ok (applied l p) (λ bytes. Ok (record { linked = l; assigned = a; veneers = vs; placement = p; bytes = bytes })) m made in
       let one : Made = record { linked = l; assigned = a; veneers = vs; placement = p; bytes = bytes } in
       let (none, same) = not_refused (apply_refusal l p) (regions_bytes (link_of l) p) bytes applies in
@@ -212,20 +222,21 @@ module _ (k : Kind) (ram : Option (List Range32)) (os : List (Named Object)) (i 
           placed = places;
           sound = none;
         };
-        image = ap (λ (b : List (List ℕ)). image_of k (record { linked = l; assigned = a; veneers = vs; placement = p; bytes = b }) []) (sym same)
-            ∙ ap (λ (n : Made). image_of k n []) (ok_same one m is) ∙ image;
+        moves = moves;
+        listed = subst (λ (n : Made). moves_in k n.linked n.placement ≡ Ok moves) (sym (ok_same one m is)) listed;
+        image = ap (λ (b : List (List ℕ)). image_of k (record { linked = l; assigned = a; veneers = vs; placement = p; bytes = b }) moves) (sym same)
+            ∙ ap (λ (n : Made). image_of k n moves) (ok_same one m is) ∙ image;
       }
 
-  pub answered : can_move k ≡ false → linking k ram os ≡ Ok i → IsAnswered k ram os i
-  answered fixed h =
+  pub answered : linking k ram os ≡ Ok i → IsAnswered k ram os i
+  answered h =
       let (l, selection, behind) = steps_ok (selection_of (Some (symbols_of k)) os) (λ l. made_of k ram l >>= image_made k) i h in
       let (m, made, image) = steps_ok (made_of k ram l) (image_made k) i behind in
-      let none : moves_in k m.linked m.placement ≡ Ok [] = nothing_moves k m.linked m.placement fixed in
-      let still : image_made k m ≡ Ok (image_of k m []) = ap (λ (r : Result (List ℕ) Refusal). r >>= λ moves. Ok (image_of k m moves)) none in
+      let (moves, listed, is) = steps_ok (moves_in k m.linked m.placement) (λ moves. Ok (image_of k m moves)) i image in
       let (a, assigned, behind_regions) = steps_ok (assignment_of k l.objects) (made_with k ram l) m made in
       let (vs, planned, behind_veneers) = steps_ok (planned_veneers l a (has_header k)) (λ vs. placed k ram (contents_of l.objects a.regions vs) >>= made_at l a vs) m behind_regions in
       let (p, places, behind_places) = steps_ok (placed k ram (contents_of l.objects a.regions vs)) (made_at l a vs) m behind_veneers in
-      with_placement l a vs p m (selected (Some (symbols_of k)) os l selection) assigned planned places behind_places (ok_same (image_of k m []) i (sym still ∙ image))
+      with_placement l a vs p m moves (selected (Some (symbols_of k)) os l selection) assigned planned places behind_places listed (ok_same (image_of k m moves) i is)
 
 -- ---- its load regions
 
@@ -385,7 +396,7 @@ module _ (s : Scatter) (ram : Option (List Range32)) (l : Linked) (a : Assigned)
 
 answered_starts : (s : Scatter) (ram : Option (List Range32)) (os : List (Named Object)) (i : Image) → valid.IsValid s.loads → IsAnswered (kind.Scatter s) ram os i → Starts os i
 answered_starts s ram os i v n =
-    subst (Starts os) n.image (subst (λ (xs : List (Named Object)). Starts xs (made_image (kind.Scatter s) ram n.linked n.assigned n.veneers n.placement n.made refl)) n.objects
+    subst (Starts os) (still_image (kind.Scatter s) ram os i refl n) (subst (λ (xs : List (Named Object)). Starts xs (made_image (kind.Scatter s) ram n.linked n.assigned n.veneers n.placement n.made refl)) n.objects
     (starts s ram n.linked n.assigned n.veneers n.placement n.made v))
 
 described_starts : ReadingLaw → (text : List ℕ) (d : Result Scatter Refusal) → scatter_of text ≡ d → (ram : Option (List Range32)) (os : List (Named Object)) (i : Image)
@@ -396,7 +407,7 @@ described_starts law text (Err r) at ram os i sound h =
 described_starts law text (Ok s) at ram os i sound h =
     let v : valid.IsValid s.loads = ((law text s).0 at).1 in
     answered_starts s ram os i v
-    (answered (kind.Scatter s) ram os i sound (all_weaker IsValidLoad (λ l. l.base % 4 ≡ 0) (λ l one. one.base.1) s.loads v.each) (whole_bases s v) refl h)
+    (answered (kind.Scatter s) ram os i sound (all_weaker IsValidLoad (λ l. l.base % 4 ≡ 0) (λ l one. one.base.1) s.loads v.each) (whole_bases s v) h)
 
 pub scatter_images_start : ReadingLaw → ScatterImagesStart
 scatter_images_start law text ram os i sound h = described_starts law text (scatter_of text) refl ram os i sound h
@@ -422,6 +433,6 @@ module _ (base : ℕ) (l : Linked) (a : Assigned) (vs : List Veneer) (p : Placem
 pub plain_images_load : PlainImagesLoad
 plain_images_load base os i sound whole h =
     let k : Kind = kind.Plain base in
-    let n = answered k None os i sound (whole, tt) (whole, (refl, (refl, tt))) refl h in
-    subst (Loads os) n.image (subst (λ (xs : List (Named Object)). Loads xs (made_image k None n.linked n.assigned n.veneers n.placement n.made refl)) n.objects
+    let n = answered k None os i sound (whole, tt) (whole, (refl, (refl, tt))) h in
+    subst (Loads os) (still_image k None os i refl n) (subst (λ (xs : List (Named Object)). Loads xs (made_image k None n.linked n.assigned n.veneers n.placement n.made refl)) n.objects
     (loads_itself base n.linked n.assigned n.veneers n.placement n.made))

@@ -3,6 +3,7 @@ use Rattle.std.specs.Prelude.{◌≡◌, ℕ, List, [], ◌∷◌, Bool, true, f
 use Rattle.sdt_fault.specs.declared.answer.Answer.{Answer}
 use Rattle.sdt_fault.specs.declared.answer.Answer.TheVariants as answer
 use Rattle.sdt_fault.specs.declared.refusal.Refusal.TheVariants.{BadWords}
+use Rattle.sdt_outside.specs.Counts.{Rose}
 use Rattle.tool_words.specs.declared.command.Command.{Command}
 use Rattle.tool_words.specs.declared.command.Command.TheVariants as command
 use Rattle.tool_words.specs.declared.command.WordsFault.{WordsFault}
@@ -14,7 +15,7 @@ use Rattle.tool_library.specs.Libraries.{created, creates, listed, lists, extrac
 use Rattle.arm7_bus.specs.Seats.{Seat}
 use Rattle.tool_listing.specs.Lists.{listing_of}
 use Rattle.tool_listing.specs.Lists as listing
-use Rattle.tool_run.specs.Runs.{RunAnswers}
+use Rattle.tool_run.specs.Runs.{IsUntouched, RunAnswers}
 
 -- a word breaks a rule
 abbrev pub RefusesWords : ℕ → Outside → Answer → Type 0
@@ -49,6 +50,19 @@ may_print (Ok (command.ListMembers library)) = true
 may_print (Ok (command.List file)) = true
 may_print (Ok (command.Run run)) = true
 may_print other = false
+
+-- ---- what each answer leaves, whatever was asked for
+
+-- a refusal and a read fault leave everything as it was; a fault is told only where the store or the sink counted one, of a
+-- write with nothing printed; and a run alone stops
+abbrev pub Ends : Bool → Outside → List Seat → List Seat → Answer → Type 0
+Ends runs o seats left answer.Done = Unit {0}
+Ends runs o seats left (answer.Refused r) = IsUntouched o seats left
+Ends runs o seats left (answer.ReadFault name) = Rose o.reads o.reads_now × IsUntouched o seats left
+Ends runs o seats left (answer.WriteFault name) = Rose o.writes o.writes_now × (o.prints ≡ o.printed) × (left ≡ seats)
+Ends runs o seats left answer.SinkFault = Rose o.faults o.faults_now
+Ends runs o seats left (answer.Stopped why) = runs ≡ true
+Ends runs o seats left answer.NoMemory = Unit {0}
 
 -- the answer to words that ask for nothing
 abbrev pub RefusedBy : WordsFault → Answer → Type 0

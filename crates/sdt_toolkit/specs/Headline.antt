@@ -1,6 +1,7 @@
 -- What `link` and `build` leave where they are done and the store tells its files: the files of an image. Put into memory
--- they show each linked object in one view; those of a scatter image reach the program's entry, with memory as that view,
--- within the image's bound; and what `build` assembled stands there. SDT 2.50 Reference Guide; the startup code is this
+-- they show each linked object in one view; those of a scatter image and an ARM image file reach the program's entry, with
+-- memory as that view, within the image's bound; and what `build` assembled stands there. An ARM image file that can be
+-- moved does so at each address that leaves room, with a view for each. SDT 2.50 Reference Guide; the startup code is this
 -- project's.
 use Rattle.std.specs.Prelude.{◌≡◌, ℕ, ◌+◌, true, false, Bool, List, slice_get, Option, Some, Result, Ok}
 use Rattle.sdt_word.specs.declared.ranges.Range32.{Range32}
@@ -19,7 +20,6 @@ use Rattle.armasm_core.specs.Standing.{SourceStands}
 use Rattle.link_model.specs.declared.images.Image.{Image}
 use Rattle.link_model.specs.declared.selection.Named.{Named}
 use Rattle.link_model.specs.Chosen.{AreLinked}
-use Rattle.bin_image.specs.Files.{files_of}
 use Rattle.tool_words.specs.declared.command.Command.{Command}
 use Rattle.tool_words.specs.declared.command.Command.TheVariants as command
 use Rattle.tool_words.specs.declared.command.LinkForm.{LinkForm}
@@ -29,31 +29,37 @@ use Rattle.tool_answers.specs.Inputs.{inputs_of}
 use Rattle.tool_answers.specs.Outcomes.{written}
 use Rattle.tool_library.specs.declared.linkables.Linkable.{Linkable}
 use Rattle.sdt_toolkit.specs.Inputs.{InputsAre, archives_among, is_source_name, objects_among}
-use Rattle.sdt_toolkit.specs.Links.{files_read, inputs_in, outputs}
+use Rattle.sdt_toolkit.specs.Links.{files_read, image_files, inputs_in, outputs}
 use Rattle.sdt_toolkit.specs.Reads.{Reads}
-use Rattle.sdt_toolkit.specs.Starting.{AreShownIn, segments_of}
+use Rattle.sdt_toolkit.specs.Starting.{AreShownIn, BootsFrom, FitsAt, segments_of}
 
--- the load regions of a scatter image reach the entry with memory as the view, and those of another are the view, with
--- its zero part cleared
-abbrev pub Reaches : LinkForm → Image → ByteMap → Type 0
-Reaches (form.Scatter file) i view =
-    (copies : List CopyRow) × (parts : List ZeroRow) × Boots (map_of (segments_of i)) view (written_by copies parts) i.start i.bound (i.entry + flag i.thumb)
-Reaches (form.Plain base) i view = (parts : List ZeroRow) × ((x : ℕ) → zeroed (Some 0) (map_of (segments_of i)) parts x ≡ view x)
+-- where the image may be put: an ARM image file where it fits, another where it begins
+abbrev pub FitsWhere : LinkForm → Image → ℕ → Type 0
+FitsWhere (form.Aif base relocatable) i to = FitsAt relocatable i to
+FitsWhere _ i to = to ≡ i.start
 
--- of the inputs that were read, the linked objects are shown in the view, and the files of their image were written in order
-pub record IsLinkedInto (sources : Bool) (w : LinkWords) (before : Files) (after : Option Files) (view : ByteMap) : Type 0 where
+-- the load regions of a scatter image, and an ARM image file, reach the entry with memory as the view there, and those of
+-- another image are the view, with its zero part cleared
+abbrev pub Reaches : LinkForm → Image → (ℕ → ByteMap) → Type 0
+Reaches (form.Scatter file) i views =
+    (copies : List CopyRow) × (parts : List ZeroRow)
+    × Boots (map_of (segments_of i)) (views i.start) (written_by copies parts) i.start i.bound (i.entry + flag i.thumb)
+Reaches (form.Aif base relocatable) i views = BootsFrom relocatable i views
+Reaches (form.Plain base) i views = (parts : List ZeroRow) × ((x : ℕ) → zeroed (Some 0) (map_of (segments_of i)) parts x ≡ views i.start x)
+
+-- of the inputs that were read, the linked objects are shown in the views, and the files of their image were written in order
+pub record IsLinkedInto (sources : Bool) (w : LinkWords) (before : Files) (after : Option Files) (image : Image) (views : ℕ → ByteMap) : Type 0 where
   pub reads : Reads
   pub contents : List (List ℕ)
   pub inputs : List (Named Linkable)
   pub objects : List (Named Object)
-  pub image : Image
   pub read : inputs_of before (files_read w) ≡ Ok contents
   pub told : reads.told ≡ Some before
   pub judged : InputsAre reads sources w.names (inputs_in w.form contents) (Ok inputs)
   pub linked : AreLinked (objects_among inputs) (archives_among inputs) objects
-  pub left : after ≡ Some (written before (outputs (files_of image w.output)))
-  pub reaches : Reaches w.form image view
-  pub shown : AreShownIn view objects
+  pub left : after ≡ Some (written before (outputs (image_files w.output image)))
+  pub reaches : Reaches w.form image views
+  pub shown : (to : ℕ) → FitsWhere w.form image to → AreShownIn (views to) objects
 
 -- what the lines of each source among the names say stands there, for some values of its symbols and regions of its areas
 abbrev pub SourcesStand : List (List ℕ) → Files → ByteMap → Type 0
@@ -63,6 +69,7 @@ SourcesStand names files view =
 
 pub record Headline (asked : Result Command ℕ) (told after : Option Files) (a : Answer) : Type 0 where
   pub link : (w : LinkWords) (before : Files) → asked ≡ Ok (command.Link w) → told ≡ Some before → a ≡ answer.Done
-      → (view : ByteMap) × IsLinkedInto false w before after view
+      → (image : Image) × (views : ℕ → ByteMap) × IsLinkedInto false w before after image views
   pub build : (w : LinkWords) (before : Files) → asked ≡ Ok (command.Build w) → told ≡ Some before → a ≡ answer.Done
-      → (view : ByteMap) × IsLinkedInto true w before after view × SourcesStand w.names before view
+      → (image : Image) × (views : ℕ → ByteMap) × IsLinkedInto true w before after image views
+      × ((to : ℕ) → FitsWhere w.form image to → SourcesStand w.names before (views to))

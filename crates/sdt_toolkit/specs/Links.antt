@@ -14,6 +14,7 @@ use Rattle.sdt_outside.specs.Files.{Files}
 use Rattle.chunk_file.specs.Reading.{◌>>=◌}
 use Rattle.aof_object.specs.declared.records.Object.{Object}
 use Rattle.alf_archive.specs.declared.records.Archive.{Archive}
+use Rattle.aif_image.specs.Files.{aif_file}
 use Rattle.link_model.specs.declared.images.Image.{Image}
 use Rattle.link_model.specs.declared.images.ImageKind.{ImageKind}
 use Rattle.link_model.specs.declared.images.ImageKind.TheVariants as shape
@@ -34,12 +35,13 @@ use Rattle.tool_library.specs.declared.linkables.Linkable.{Linkable}
 use Rattle.tool_run.specs.Runs.{AreRanges}
 use Rattle.sdt_toolkit.specs.Inputs.{InputsAre, objects_among, archives_among}
 use Rattle.sdt_toolkit.specs.Reads.{Reads, HasFailed, reads_of}
-use Rattle.sdt_toolkit.specs.Starting.{Loads, Starts}
+use Rattle.sdt_toolkit.specs.Starting.{Loads, Starts, StartsAsAif}
 
 -- ---- what is read: the scatter file first, if there is one, and then the names
 
 abbrev pub read_by : LinkForm → List (List ℕ) → List (List ℕ)
 read_by (form.Scatter file) names = file ∷ names
+read_by (form.Aif base relocatable) names = names
 read_by (form.Plain base) names = names
 
 abbrev pub files_read : LinkWords → List (List ℕ)
@@ -56,10 +58,12 @@ behind_first (bytes ∷ others) = others
 -- the scatter file's text, and what stands under the names
 abbrev pub text_in : LinkForm → List (List ℕ) → List ℕ
 text_in (form.Scatter file) contents = first_of contents
+text_in (form.Aif base relocatable) contents = []
 text_in (form.Plain base) contents = []
 
 abbrev pub inputs_in : LinkForm → List (List ℕ) → List (List ℕ)
 inputs_in (form.Scatter file) contents = behind_first contents
+inputs_in (form.Aif base relocatable) contents = contents
 inputs_in (form.Plain base) contents = contents
 
 -- ---- the image
@@ -72,13 +76,18 @@ IsRam (Some banks) ram = (ranges : List Range32) × AreRanges banks ranges × (r
 abbrev pub ScattersTo : List ℕ → Option (List Bank) → List (Named Object) → Result Image Refusal → Type 0
 ScattersTo text banks os image = (ram : Option (List Range32)) × IsRam banks ram × (image ≡ scatter_linking text ram os)
 
+abbrev pub AsAif : ℕ → Bool → Option (List Bank) → List (Named Object) → Result Image Refusal → Type 0
+AsAif base relocatable banks os image = (ram : Option (List Range32)) × IsRam banks ram × (image ≡ linking (kind.Aif base relocatable) ram os)
+
 abbrev pub LinksTo : LinkForm → List ℕ → Option (List Bank) → List (Named Object) → Result Image Refusal → Type 0
 LinksTo (form.Scatter file) text banks os image = ScattersTo text banks os image
+LinksTo (form.Aif base relocatable) text banks os image = AsAif base relocatable banks os image
 LinksTo (form.Plain base) text banks os image = image ≡ linking (kind.Plain base) None os
 
--- in memory an image shows the objects, and a scatter image starts
+-- in memory an image shows the objects, and a scatter image or an ARM image file starts
 abbrev pub IsInMemory : LinkForm → List (Named Object) → Image → Type 0
 IsInMemory (form.Scatter file) os i = Starts os i
+IsInMemory (form.Aif base relocatable) os i = StartsAsAif relocatable os i
 IsInMemory (form.Plain base) os i = Loads os i
 
 -- the image of inputs: of the objects among them, and the members of the libraries among them that are needed
@@ -91,6 +100,9 @@ pub record ImageIs (f : LinkForm) (text : List ℕ) (banks : Option (List Bank))
 abbrev pub IsScatterImage : List (Named Object) → List (Named Archive) → List ℕ → Option (List Bank) → Result Image Refusal → Type 0
 IsScatterImage objects archives text banks image = (os : List (Named Object)) × AreLinked objects archives os × ScattersTo text banks os image
 
+abbrev pub IsAifImage : List (Named Object) → List (Named Archive) → ℕ → Bool → Option (List Bank) → Result Image Refusal → Type 0
+IsAifImage objects archives base relocatable banks image = (os : List (Named Object)) × AreLinked objects archives os × AsAif base relocatable banks os image
+
 -- ---- the files
 
 abbrev pub too_large : Refusal
@@ -102,19 +114,30 @@ is_long_load l = nat_le (2 ^ 32) (length l.bytes)
 abbrev pub is_long : OutFile → Bool
 is_long f = nat_le (2 ^ 32) (length f.bytes)
 
+-- its ARM image file, or those of its load regions
+abbrev pub files_as : ImageKind → List ℕ → Image → List OutFile
+files_as (shape.Aif relocatable) out i = (record { name = out; bytes = aif_file i }) ∷ []
+files_as other out i = files_of i out
+
+abbrev pub image_files : List ℕ → Image → List OutFile
+image_files out i = files_as i.kind out i
+
 -- the files of an image, unless one of them has 2^32 bytes or more
 abbrev pub filed : List ℕ → Image → Result (List OutFile) Refusal
-filed out i = if list_any is_long (files_of i out) then Err too_large else Ok (files_of i out)
+filed out i = if list_any is_long (image_files out i) then Err too_large else Ok (image_files out i)
 
--- an image with files of its own, which is no ARM image file, and with sizes of 32 bits
-abbrev pub IsFiled : ImageKind → Type 0
-IsFiled shape.Scatter = Unit {0}
-IsFiled shape.Plain = Unit {0}
-IsFiled (shape.Aif relocatable) = ⊥
+-- an image has a file for each load region, or one ARM image file
+abbrev pub IsLoaded : ImageKind → Type 0
+IsLoaded (shape.Aif relocatable) = ⊥
+IsLoaded other = Unit {0}
 
-pub record IsWritable (i : Image) : Type 0 where
-  pub form : IsFiled i.kind
-  pub regions : AllByRecursion IsMapped i.regions
+abbrev pub IsOneFile : ImageKind → Type 0
+IsOneFile (shape.Aif relocatable) = Unit {0}
+IsOneFile other = ⊥
+
+-- an image with sizes of 32 bits
+abbrev pub IsWritable : Image → Type 0
+IsWritable i = AllByRecursion IsMapped i.regions
 
 abbrev pub InputsMake : LinkWords → List ℕ → Result (List (Named Linkable)) Refusal → Result (List OutFile) Refusal → Type 0
 InputsMake w text (Err r) made = made ≡ Err r

@@ -1,8 +1,9 @@
 -- What an image that is linked is in memory: its load regions hold a view of it, in which the objects that it was linked
 -- of are shown, and a scatter image starts: from every permitted state its startup code reaches the entry within the
--- image's bound, with the memory as the view says (SDT 2.50 Reference Guide, scatter loading: load view and execution view;
--- the startup code is this project's).
-use Rattle.std.specs.Prelude.{◌≡◌, ℕ, ◌+◌, ◌%◌, List, map, slice_get, Option, Some, None, Ok}
+-- image's bound, with the memory as the view says. An ARM image file starts so too, from its own address or, where it can
+-- be moved, from each that leaves room (SDT 2.50 Reference Guide, scatter loading: load view and execution view; ARM Image
+-- Format; the startup code is this project's).
+use Rattle.std.specs.Prelude.{◌≡◌, ℕ, ◌+◌, ◌-◌, ◌%◌, ◌^◌, ◌<◌, ◌≤◌, Bool, true, false, List, length, map, slice_get, Option, Some, None, Ok}
 use Rattle.std.specs.List.{AllByRecursion}
 use Rattle.sdt_word.specs.declared.ranges.Range32.{Range32}
 use Rattle.sdt_word.specs.Numbers.{flag}
@@ -10,12 +11,14 @@ use Rattle.aof_object.specs.declared.records.Object.{Object}
 use Rattle.aof_object.specs.Validity.{IsValid}
 use Rattle.boot_code.specs.declared.rows.CopyRow.{CopyRow}
 use Rattle.boot_code.specs.declared.rows.ZeroRow.{ZeroRow}
-use Rattle.boot_code.specs.Boots.{ByteMap, Boots, moved, zeroed}
+use Rattle.boot_code.specs.Aif.{BootsAif, file_at}
+use Rattle.boot_code.specs.Boots.{ByteMap, Boots, covers, moved, zeroed}
 use Rattle.boot_code.specs.Laws.{written_by}
 use Rattle.byte_maps.specs.Maps.{Segment, map_of}
 use Rattle.patch_model.specs.Fields.{Values}
 use Rattle.patch_model.specs.Patched.{Veneers}
 use Rattle.stand_model.specs.Placed.{IsPlaced, ShowsObject}
+use Rattle.aif_image.specs.Files.{aif_file, parts_size, zero_size}
 use Rattle.link_model.specs.declared.images.Image.{Image}
 use Rattle.link_model.specs.declared.selection.Named.{Named}
 use Rattle.link_apply.specs.Laws.{AreBytes}
@@ -61,6 +64,35 @@ pub record Loads (os : List (Named Object)) (i : Image) : Type 0 where
   pub cleared : (x : ℕ) → zeroed (Some 0) (map_of (segments_of i)) parts x ≡ view x
   pub shown : AreShownIn view os
 
+-- ---- ARM image files
+
+-- an address that leaves room for the file, and for the zero part behind its parts
+pub record HasRoom (i : Image) (to : ℕ) : Type 0 where
+  pub whole : to % 4 ≡ 0
+  pub file : to + length (aif_file i) ≤ 2 ^ 32
+  pub zero : to + parts_size i.regions + zero_size i.regions ≤ 2 ^ 32
+
+-- where the file may be put: one that can be moved wherever it has room, another at its own address
+abbrev pub FitsAt : Bool → Image → ℕ → Type 0
+FitsAt true i to = HasRoom i to
+FitsAt false i to = to ≡ i.start
+
+-- its entry there, with bit 0 set for Thumb
+abbrev pub entry_from : Image → ℕ → ℕ
+entry_from i to = to + (i.entry - i.start) + flag i.thumb
+
+-- from there the file reaches its entry, with the memory as the view there
+abbrev pub BootsFrom : Bool → Image → (ℕ → ByteMap) → Type 0
+BootsFrom true i views = BootsAif (aif_file i) (parts_size i.regions) (zero_size i.regions) views i.bound (entry_from i)
+BootsFrom false i views =
+    Boots (file_at (aif_file i) i.start) (views i.start) (covers (i.start + parts_size i.regions) (zero_size i.regions)) i.start i.bound (entry_from i i.start)
+
+-- an ARM image file of these objects
+pub record StartsAsAif (relocatable : Bool) (os : List (Named Object)) (i : Image) : Type 0 where
+  pub views : ℕ → ByteMap
+  pub boots : BootsFrom relocatable i views
+  pub shown : (to : ℕ) → FitsAt relocatable i to → AreShownIn (views to) os
+
 -- ---- laws
 
 -- its areas have bytes
@@ -81,3 +113,8 @@ abbrev pub PlainImagesLoad : Type 0
 PlainImagesLoad =
     (base : ℕ) (os : List (Named Object)) (i : Image)
     → AreSound os → base % 4 ≡ 0 → linking (kind.Plain base) None os ≡ Ok i → Loads os i
+
+abbrev pub AifImagesStart : Type 0
+AifImagesStart =
+    (base : ℕ) (relocatable : Bool) (ram : Option (List Range32)) (os : List (Named Object)) (i : Image)
+    → AreSound os → base % 4 ≡ 0 → base < 2 ^ 32 → linking (kind.Aif base relocatable) ram os ≡ Ok i → StartsAsAif relocatable os i

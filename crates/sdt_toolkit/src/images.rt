@@ -14,9 +14,10 @@ use crate::laws::images_start;
 use crate::sound::{archives_fit, objects_fit};
 use alf_archive::Archive;
 use aof_object::Object;
-use armlink_core::{link_plain, link_scatter};
+use aif_image::make_aif;
+use armlink_core::{link_aif, link_plain, link_scatter};
 use bin_image::{OutFile, make_bins};
-use link_model::{Image, LoadRegion, Named};
+use link_model::{Image, ImageKind, LoadRegion, Named};
 use sdt_fault::answer::Fault;
 use sdt_fault::kinds::Quantity;
 use sdt_fault::refusal::Refusal;
@@ -84,6 +85,43 @@ fn scatter_image(
     }
 }
 
+fn aif_image(
+    alloc: Global,
+    parts: Parts,
+    base: u32,
+    relocatable: bool,
+    ram: &Option<List<Bank>>,
+) -> Result<Image, Fault>
+    requires objects { AllByRecursion (λ o. IsValid o.value) parts.objects.items }
+    requires archives { AllByRecursion (λ a. IsValidArchive a.value) parts.archives.items }
+    requires base { base % 4 ≡ 0 }
+    requires banks { AreBanks ram.now }
+    ensures { Tells result (links.IsAifImage parts.objects.items parts.archives.items base relocatable ram.now) }
+{
+    match ram {
+        None => link_aif(
+            alloc,
+            parts.objects,
+            parts.archives,
+            base,
+            relocatable,
+            None,
+        ),
+        Some(banks) => {
+            let ranges = ranges(alloc, banks.as_slice())?;
+            let ram = Some(ranges.as_slice());
+            link_aif(
+                alloc,
+                parts.objects,
+                parts.archives,
+                base,
+                relocatable,
+                ram,
+            )
+        }
+    }
+}
+
 /// The image of inputs in a form. `text` is the scatter file's.
 pub fn image_of(
     alloc: Global,
@@ -102,6 +140,7 @@ pub fn image_of(
     objects_fit(parts.objects.as_slice());
     archives_fit(parts.archives.as_slice());
     match form {
+        LinkForm::Aif { base, relocatable } => aif_image(alloc, parts, *base, *relocatable, ram),
         LinkForm::Plain { base } => link_plain(alloc, parts.objects, parts.archives, *base),
         LinkForm::Scatter { .. } => scatter_image(alloc, parts, text, ram),
     }
@@ -134,9 +173,10 @@ fn has_long_file(files: &[OutFile]) -> bool
         .any(|file| file.bytes.as_slice().len() >= 0x1_0000_0000)
 }
 
-/// The files of an image in the order in which they are written, or TooLarge, if one would have 2^32 bytes or more.
-pub fn files_of(alloc: Global, image: &Image, out: &Text) -> Result<List<OutFile>, Fault>
+/// The files of load regions, where the image has one for each.
+fn load_files(alloc: Global, image: &Image, out: &Text) -> Result<List<OutFile>, Fault>
     requires { links.IsWritable image.now }
+    requires loads { links.IsLoaded image.now.kind }
     ensures value { Gives result (filed out.now image.now) }
     ensures short { IfOk result (λ files. All (λ f. length f.bytes < 2 ^ 32) files) }
 {
@@ -148,6 +188,37 @@ pub fn files_of(alloc: Global, image: &Image, out: &Text) -> Result<List<OutFile
         return Err(too_large());
     }
     Ok(files)
+}
+
+/// The ARM image file of an image.
+fn aif_files(alloc: Global, image: &Image, out: &Text) -> Result<List<OutFile>, Fault>
+    requires { links.IsWritable image.now }
+    requires form { links.IsOneFile image.now.kind }
+    ensures value { Gives result (filed out.now image.now) }
+    ensures short { IfOk result (λ files. All (λ f. length f.bytes < 2 ^ 32) files) }
+{
+    let bytes = make_aif(alloc, image)?;
+    let mut files = Vec::new(alloc);
+    files.push(OutFile {
+        name: out.copied(alloc)?,
+        bytes,
+    })?;
+    if has_long_file(files.as_slice()) {
+        return Err(too_large());
+    }
+    Ok(List::from_vec(files))
+}
+
+/// The files of an image in the order in which they are written, or TooLarge, if one would have 2^32 bytes or more.
+pub fn files_of(alloc: Global, image: &Image, out: &Text) -> Result<List<OutFile>, Fault>
+    requires { links.IsWritable image.now }
+    ensures value { Gives result (filed out.now image.now) }
+    ensures short { IfOk result (λ files. All (λ f. length f.bytes < 2 ^ 32) files) }
+{
+    match image.kind {
+        ImageKind::Aif { .. } => aif_files(alloc, image, out),
+        ImageKind::Scatter | ImageKind::Plain => load_files(alloc, image, out),
+    }
 }
 
 ghost use Rattle.chunk_file.specs.Reading.{Gives};

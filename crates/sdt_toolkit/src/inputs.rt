@@ -28,7 +28,7 @@ fn scatter_names(alloc: Global, form: &LinkForm) -> Result<Vec<Text>, NoMemory>
             names.push(file.try_clone(alloc)?)?;
             Ok(names)
         }
-        LinkForm::Plain { .. } => Ok(names),
+        LinkForm::Aif { .. } | LinkForm::Plain { .. } => Ok(names),
     }
 }
 
@@ -57,7 +57,7 @@ pub fn text_in<'a>(form: &LinkForm, contents: &'a [Bytes]) -> &'a [u8]
     ensures { result.now ≡ text_in form.now contents.now }
 {
     match form {
-        LinkForm::Plain { .. } => b"",
+        LinkForm::Aif { .. } | LinkForm::Plain { .. } => b"",
         LinkForm::Scatter { .. } => match contents.first() {
             Some(text) => text.as_slice(),
             None => b"",
@@ -70,7 +70,7 @@ pub fn inputs_in<'a>(form: &LinkForm, contents: &'a [Bytes]) -> &'a [Bytes]
     ensures { result.now ≡ inputs_in form.now contents.now }
 {
     match form {
-        LinkForm::Plain { .. } => contents,
+        LinkForm::Aif { .. } | LinkForm::Plain { .. } => contents,
         LinkForm::Scatter { .. } => match contents.split_first() {
             Some((_, others)) => others,
             None => contents,

@@ -2,7 +2,7 @@
 
 ghost use Rattle.sdt_toolkit.specs.Links.{OneLinkAsked};
 ghost use Rattle.sdt_toolkit.specs.Sources.{OneAsked};
-ghost use Rattle.sdt_toolkit.specs.Starting.{PlainImagesLoad, ScatterImagesStart};
+ghost use Rattle.sdt_toolkit.specs.Starting.{AifImagesStart, PlainImagesLoad, ScatterImagesStart};
 
 use armasm_core::laws::one_assembly;
 use link_model::linked_law;
@@ -19,9 +19,11 @@ pub fn one_asked()
 
 /// A scatter image of objects as they are read and assembled starts: its load regions, where a loader puts them, reach
 /// the entry within the image's bound, with the memory as a view in which each object is shown. Of an image of bytes
-/// alone the load region shows them itself.
+/// alone the load region shows them itself. An ARM image file starts as a scatter image does, from its own address or,
+/// where it can be moved, from each that leaves room for it and its zero part.
 pub fn images_start()
     ensures scatter { ScatterImagesStart }
+    ensures aif { AifImagesStart }
     ensures plain { PlainImagesLoad }
 {
     reading_law();

@@ -6,5 +6,6 @@ pub mod Objects
 pub mod PseudoForms
 pub mod Registers
 pub mod SourceFaults
+pub mod ThumbForms
 pub mod Units
 pub mod ValueKinds

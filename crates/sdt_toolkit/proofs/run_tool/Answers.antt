@@ -1,5 +1,6 @@
 use Rattle.std.proofs.Common.{map}
 use Rattle.std.specs.Prelude.{string_bytes}
+use Rattle.sdt_toolkit.proofs.EndsLemmas.{ends_of}
 use Rattle.sdt_toolkit.proofs.HeadlineLemmas.{headline_of}
 use Rattle.sdt_toolkit.proofs.run_tool.Goals as goal
 
@@ -8,6 +9,9 @@ returns-clause-headline g c = headline_of (map string_bytes c.args.words.now) _ 
 
 pub returns-clause-commanded : goal.returns-clause-commanded
 returns-clause-commanded g c = c.command.ensures.commanded
+
+pub returns-clause-ends : goal.returns-clause-ends
+returns-clause-ends g c = ends_of (map string_bytes c.args.words.now) _ _ _ c.command.result c.command.ensures.commanded
 
 pub returns-clause-devices : goal.returns-clause-devices
 returns-clause-devices g c = c.command.ensures.devices

@@ -2,8 +2,7 @@ use Rattle.std.proofs.Common.{◌≡◌, drop, true}
 use Rattle.std.specs.Prelude.{unwrap_or}
 use Rattle.std.specs.List.{find}
 use Rattle.std.specs.Option.{option_map}
-use Rattle.link_apply.specs.Placed.{leads_to}
-use Rattle.armlink_core.specs.Images.{home_of}
+use Rattle.link_apply.specs.Placed.{home_of, leads_to}
 use Rattle.armlink_core.proofs.starting.veneer_to.Given as goal
 
 abbrev pub invariant-loop-placed : goal.invariant-loop-placed

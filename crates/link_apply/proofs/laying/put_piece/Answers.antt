@@ -15,5 +15,5 @@ returns c =
     let there = slice_get_read gs (length gs) c.args.piece.now.region g refl (omega (arith, c.if-number-len.false, c.len.ensures)) c.index_mut.ensures.value in
     on_ok_weaker c.put_bytes.result
     (λ puts rest. grown_put c.args.piece.now rest 0 c.args.piece.now.region gs g c.put_bytes.new.growing (omega arith) there
-    (λ more. puts more ∙ (λ i. g.bytes.items ++ laid g.at ((c.args.piece.now.address, c.as_slice.ensures i) ∷ more))))
-    c.put_bytes.ensures
+    (c.put_bytes.ensures.length, λ more. puts more ∙ (λ i. g.bytes.items ++ laid g.at ((c.args.piece.now.address, c.as_slice.ensures i) ∷ more))))
+    c.put_bytes.ensures.bytes

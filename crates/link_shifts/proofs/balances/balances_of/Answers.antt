@@ -1,5 +1,5 @@
 use Rattle.std.proofs.Common.{◌≡◌, ℕ, ◌+◌, ◌-◌, ◌<◌, arith, refl}
-use Rattle.link_apply.specs.Shifts.{names_moving}
+use Rattle.link_values.specs.Shifts.{names_moving}
 use Rattle.link_model.specs.Members.{link_of}
 use Rattle.link_shifts.proofs.FieldLemmas.{noted}
 use Rattle.link_shifts.proofs.balances.balances_of.Goals as goal

@@ -1,5 +1,5 @@
 use Rattle.std.proofs.Common.{drop}
-use Rattle.link_apply.specs.Shifts.{names_moving}
+use Rattle.link_values.specs.Shifts.{names_moving}
 use Rattle.link_model.specs.Members.{link_of}
 use Rattle.link_shifts.specs.Balances.{AreBalances}
 use Rattle.link_shifts.proofs.balances.balances_of.Given as goal

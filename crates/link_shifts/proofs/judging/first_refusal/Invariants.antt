@@ -1,7 +1,7 @@
 use Rattle.std.proofs.Common.{◌≡◌, drop}
 use Rattle.std.specs.Prelude.{slice_get}
 use Rattle.std.specs.List.{filter_map}
-use Rattle.link_apply.specs.Shifts.{unmovable}
+use Rattle.link_values.specs.Shifts.{unmovable}
 use Rattle.link_model.specs.Members.{link_of}
 use Rattle.link_shifts.proofs.judging.first_refusal.Given as goal
 

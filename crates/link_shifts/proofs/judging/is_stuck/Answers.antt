@@ -1,5 +1,5 @@
 use Rattle.std.proofs.Common.{◌∙◌, ap, arith}
-use Rattle.link_apply.specs.Shifts.{names_moving}
+use Rattle.link_values.specs.Shifts.{names_moving}
 use Rattle.link_model.specs.Members.{link_of}
 use Rattle.link_shifts.specs.Balances.{balance_in}
 use Rattle.link_shifts.proofs.FieldLemmas.{stuck}

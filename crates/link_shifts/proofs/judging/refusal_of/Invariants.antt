@@ -1,6 +1,6 @@
 use Rattle.std.proofs.Common.{◌≡◌, drop}
 use Rattle.std.specs.Prelude.{slice_get}
-use Rattle.link_apply.specs.Shifts.{not_relocatable, unmovable_from}
+use Rattle.link_values.specs.Shifts.{not_relocatable, unmovable_from}
 use Rattle.link_model.specs.Members.{link_of}
 use Rattle.link_shifts.proofs.judging.refusal_of.Given as goal
 

@@ -1,6 +1,6 @@
 use Rattle.std.proofs.Common.{◌≡◌, drop}
 use Rattle.std.specs.Prelude.{slice_get}
-use Rattle.link_apply.specs.Shifts.{unmovable_in}
+use Rattle.link_values.specs.Shifts.{unmovable_in}
 use Rattle.link_model.specs.Members.{link_of}
 use Rattle.link_shifts.proofs.judging.refusal_of_object.Given as goal
 

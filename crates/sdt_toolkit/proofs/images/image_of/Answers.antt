@@ -1,4 +1,5 @@
-use Rattle.sdt_toolkit.proofs.ImageLemmas.{plain_image, scatter_image, sound_inputs}
+use Rattle.std.proofs.Common.{arith}
+use Rattle.sdt_toolkit.proofs.ImageLemmas.{aif_image, plain_image, scatter_image, sound_inputs}
 use Rattle.sdt_toolkit.proofs.InputLemmas.{valid_archives, valid_objects}
 use Rattle.sdt_toolkit.proofs.images.image_of.Goals as goal
 
@@ -13,6 +14,21 @@ scatter_image-requires-clause-objects c = rw c.in_ok-parts.ensures.objects (vali
 
 pub scatter_image-requires-clause-archives : goal.scatter_image-requires-clause-archives
 scatter_image-requires-clause-archives c = rw c.in_ok-parts.ensures.archives (valid_archives c.args.inputs.items c.requires.inputs)
+
+pub aif_image-requires-clause-objects : goal.aif_image-requires-clause-objects
+aif_image-requires-clause-objects c = rw c.in_ok-parts.ensures.objects (valid_objects c.args.inputs.items c.requires.inputs)
+
+pub aif_image-requires-clause-archives : goal.aif_image-requires-clause-archives
+aif_image-requires-clause-archives c = rw c.in_ok-parts.ensures.archives (valid_archives c.args.inputs.items c.requires.inputs)
+
+pub returns-in-Aif : goal.returns-in-Aif
+returns-in-Aif c =
+    let exact = rw (c.in_ok-parts.ensures.objects, c.in_ok-parts.ensures.archives) at c.aif_image.ensures in
+    let objects = rw (c.as_slice.ensures.value, c.in_ok-parts.ensures.objects) at c.objects_fit.ensures in
+    let archives = rw (c.as_slice-2.ensures.value, c.in_ok-parts.ensures.archives) at c.archives_fit.ensures in
+    let whole = rw c.in-Aif.is at c.requires.form in
+    rw c.in-Aif.is (aif_image c.images_start.ensures.aif c.args.inputs.items c.in-Aif.base c.in-Aif.relocatable c.args.text.now c.args.ram.now c.aif_image.result whole arith
+    (sound_inputs c.args.inputs.items c.requires.inputs objects archives) exact)
 
 pub returns-in-Plain : goal.returns-in-Plain
 returns-in-Plain c =

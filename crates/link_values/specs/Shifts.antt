@@ -1,6 +1,6 @@
 -- How often each word of a relocatable AIF is shifted where the image is moved, and what can't be moved with it (SDT 2.50
 -- Reference Guide, ARM Image Format; the counting, and what is NotRelocatable, are this project's).
-use Rattle.std.specs.Prelude.{ℕ, suc, ◌+◌, ◌-◌, ◌%◌, Bool, true, false, not, ◌&&◌, ◌||◌, nat_lt, nat_le, ◌==◌, if◌then◌else◌, List, [], ◌∷◌, ◌++◌, slice_get, count_by, sum_by, unwrap_or, Option, Some, None}
+use Rattle.std.specs.Prelude.{ℕ, suc, ◌+◌, ◌-◌, ◌%◌, Bool, false, not, ◌&&◌, ◌||◌, nat_lt, nat_le, ◌==◌, if◌then◌else◌, List, [], ◌∷◌, ◌++◌, slice_get, count_by, sum_by, unwrap_or, Option, Some, None}
 use Rattle.std.specs.List.{filter_map}
 use Rattle.std.specs.Option.{option_map}
 use Rattle.sdt_word.specs.Numbers.{flag}

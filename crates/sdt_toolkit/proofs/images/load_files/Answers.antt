@@ -1,11 +1,11 @@
 use Rattle.std.proofs.Common.{sym, ◌∙◌}
 use Rattle.sdt_toolkit.proofs.ImageLemmas.{long_load, short_loads}
-use Rattle.sdt_toolkit.proofs.images.files_of.Goals as goal
+use Rattle.sdt_toolkit.proofs.images.load_files.Goals as goal
 
 pub returns-then-has_long_load-clause-value : goal.returns-then-has_long_load-clause-value
 returns-then-has_long_load-clause-value c =
     let long = rw c.as_slice.ensures at c.has_long_load.ensures in
-    rw c.too_large.ensures (long_load c.args.out.now c.args.image.now c.requires (sym long ∙ c.if-has_long_load.true))
+    rw c.too_large.ensures (long_load c.args.out.now c.args.image.now c.requires.loads (sym long ∙ c.if-has_long_load.true))
 
 pub make_bins-requires-clause-loads : goal.make_bins-requires-clause-loads
 make_bins-requires-clause-loads c =
