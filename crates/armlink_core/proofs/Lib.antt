@@ -4,3 +4,4 @@ pub mod Rows
 pub mod ValidLemmas
 pub mod WithinLemmas
 mod SizeLaws
+mod NameLaws

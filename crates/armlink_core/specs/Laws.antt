@@ -1,5 +1,5 @@
 -- What holds of every image that is linked. This project's.
-use Rattle.std.specs.Prelude.{◌≡◌, ℕ, ◌+◌, ◌^◌, ◌≤◌, List, Option, Ok}
+use Rattle.std.specs.Prelude.{◌≡◌, ℕ, ◌+◌, ◌^◌, ◌≤◌, List, map, Option, Ok}
 use Rattle.std.specs.List.{AllByRecursion}
 use Rattle.sdt_word.specs.declared.ranges.Range32.{Range32}
 use Rattle.aof_object.specs.declared.records.Object.{Object}
@@ -21,3 +21,22 @@ LinkedSizes = (k : Kind) (ram : Option (List Range32)) (os : List (Named Object)
 abbrev pub ScatterSizes : Type 0
 ScatterSizes =
     (text : List ℕ) (ram : Option (List Range32)) (os : List (Named Object)) (i : Image) → scatter_linking text ram os ≡ Ok i → IsSized form.Scatter i
+
+-- ---- the names that reports call objects by
+
+abbrev pub unnamed : Named Object → List ℕ × Object
+unnamed o = (o.«module», o.value)
+
+-- the same objects of the same modules, whatever reports call them
+abbrev pub AreAlike : List (Named Object) → List (Named Object) → Type 0
+AreAlike os ps = map unnamed os ≡ map unnamed ps
+
+-- names decide nothing of an image
+abbrev pub NamelessImages : Type 0
+NamelessImages =
+    (k : Kind) (ram : Option (List Range32)) (os ps : List (Named Object)) (i : Image) → AreAlike os ps → linking k ram os ≡ Ok i → linking k ram ps ≡ Ok i
+
+abbrev pub NamelessScatters : Type 0
+NamelessScatters =
+    (text : List ℕ) (ram : Option (List Range32)) (os ps : List (Named Object)) (i : Image)
+    → AreAlike os ps → scatter_linking text ram os ≡ Ok i → scatter_linking text ram ps ≡ Ok i
