@@ -1,7 +1,7 @@
 -- The image of a link that is made, and what a link of objects and libraries answers: the refusals of selection, then
 -- that of a description that can't be read, then those of the link (SDT 2.50 Reference Guide, armlink; the order, and
 -- that an image's start is its startup code's, are this project's).
-use Rattle.std.specs.Prelude.{◌≡◌, ℕ, suc, ◌+◌, ◌%◌, ◌^◌, ◌==◌, Bool, true, false, if◌then◌else◌, List, [], ◌∷◌, ◌++◌, length, Option, Some, None, unwrap_or, Result, Ok, Err}
+use Rattle.std.specs.Prelude.{◌≡◌, ℕ, suc, ◌+◌, ◌%◌, ◌^◌, ◌==◌, if◌then◌else◌, List, [], ◌∷◌, ◌++◌, length, Option, Some, None, unwrap_or, Result, Ok, Err}
 use Rattle.sdt_word.specs.declared.ranges.Range32.{Range32}
 use Rattle.sdt_fault.specs.declared.answer.Fault.{Fault}
 use Rattle.sdt_fault.specs.declared.answer.Fault.TheVariants as fault

@@ -50,7 +50,8 @@ pub record HasParts (plan : Plan) (l : Linked) (p : Placement) : Type 0 where
   pub loads : bytes_of_load 0 p.regions (regions_bytes (link_of l) p) ≡ flat_map (region_bytes (filled (given_of l p) plan (zeros 0x80))) (regions_of plan)
   pub lengths : map (λ r. r.length) p.regions ≡ map length_of (regions_of plan)
   pub sizes : map (λ r. r.length + r.zero) p.regions ≡ map execution_size (regions_of plan)
-  pub parts : unwrap_or (option_map (λ r. r.length) (slice_get p.regions 0)) 0 + unwrap_or (option_map (λ r. r.length) (slice_get p.regions 1)) 0 ≡ parts_size plan
+  pub parts : unwrap_or (option_map (λ r. r.length) (slice_get p.regions 0)) 0 + unwrap_or (option_map (λ r. r.length) (slice_get p.regions 1)) 0
+      ≡ parts_size plan
   pub zero : unwrap_or (option_map (λ r. r.length + r.zero) (slice_get p.regions 2)) 0 ≡ zero_size plan
 
 abbrev pub MadeHasParts : Type 0
@@ -64,10 +65,12 @@ abbrev pub view_at : ℕ → Bool → Linked → Assigned → List Veneer → Pl
 view_at base relocatable l a vs p = aif_view base relocatable (contents_at l a vs) (given_of l p)
 
 -- the linked objects are placed as they stand by the plan at a base, which a view shows
-pub record IsSeen (base : ℕ) (relocatable : Bool) (ram : Option (List Range32)) (l : Linked) (a : Assigned) (vs : List Veneer) (p : Placement) (view : ByteMap) : Type 0 where
+pub record IsSeen (base : ℕ) (relocatable : Bool) (ram : Option (List Range32)) (l : Linked) (a : Assigned) (vs : List Veneer) (p : Placement)
+    (view : ByteMap) : Type 0 where
   pub placed : IsPlacedLink (kind.Aif base relocatable) ram l a.regions vs
   pub applied : AreApplied (aif_plan base relocatable (contents_at l a vs)) l (region_number (objects_in l.objects) p) (given_of l p)
-  pub shows : IsView (aif_plan base relocatable (contents_at l a vs)) (with_header false (aif_plan base relocatable (contents_at l a vs)) base (given_of l p)) view
+  pub shows : IsView (aif_plan base relocatable (contents_at l a vs))
+      (with_header false (aif_plan base relocatable (contents_at l a vs)) base (given_of l p)) view
 
 -- at its own base
 abbrev pub MadeIsSeen : Type 0
