@@ -33,7 +33,7 @@ module _ (a b : Context) (s : Alike a b) where
   pub number_alike : (e : Expr) → number_in a e ≡ number_in b e
   number_alike e = ap as_number (s.value e)
 
-  stands_alike : (q : List ℕ) → stands_at (sees a) q ≡ stands_at (sees b) q
+  pub stands_alike : (q : List ℕ) → stands_at (sees a) q ≡ stands_at (sees b) q
   stands_alike [] = ap (λ area. in_area area 0) s.area
   stands_alike (x ∷ xs) = ap entry_stands_at (s.entry (x ∷ xs))
 
@@ -55,7 +55,7 @@ module _ (a b : Context) (s : Alike a b) where
   shift_alike (shift.By kind e) = rw (number_alike e) refl
   shift_alike shift.Extended = refl
 
-  settled_alike : (q : List ℕ) → is_settled a q ≡ is_settled b q
+  pub settled_alike : (q : List ℕ) → is_settled a q ≡ is_settled b q
   settled_alike q =
       ap (λ t. is_in_area t (stands_at (sees a) q) && same_state a.line.thumb (thumb_of (named_in q (sees a).list))) s.area
       ∙ ap (λ t. is_in_area b.line.area t && same_state a.line.thumb (thumb_of (named_in q (sees a).list))) (stands_alike q)
@@ -69,7 +69,7 @@ module _ (a b : Context) (s : Alike a b) where
       ∙ ap (λ t. from_pc a (cond (is_settled b (x ∷ xs)) (offset_at t + n) n)) (stands_alike (x ∷ xs))
       ∙ pc_alike (cond (is_settled b (x ∷ xs)) (offset_at (stands_at (sees b) (x ∷ xs)) + n) n)
 
-  symbol_alike : (q : List ℕ) → has_symbol a q ≡ has_symbol b q
+  pub symbol_alike : (q : List ℕ) → has_symbol a q ≡ has_symbol b q
   symbol_alike [] = refl
   symbol_alike (x ∷ xs) =
       ap (λ t. t || list_any (same (x ∷ xs)) a.symbols) (settled_alike (x ∷ xs))
@@ -96,7 +96,7 @@ module _ (a b : Context) (s : Alike a b) where
   any_alike k (i ∷ is) =
       ap (λ t. t || list_any (is_listed_by a k) is) (listed_alike k i) ∙ ap (λ t. is_listed_by b k i || t) (any_alike k is)
 
-  bits_alike : (is : List ListItem) (k n : ℕ) → list_bits a is k n ≡ list_bits b is k n
+  pub bits_alike : (is : List ListItem) (k n : ℕ) → list_bits a is k n ≡ list_bits b is k n
   bits_alike is k zero = refl
   bits_alike is k (suc n) =
       ap (λ t. flag t * 2 ^ k + list_bits a is (suc k) n) (any_alike k is)

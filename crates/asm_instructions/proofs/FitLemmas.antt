@@ -44,7 +44,7 @@ use Rattle.base_lemmas.proofs.BaseLemmas.{second_of_both as both_true}
 
 -- ---- what holds of a result
 
-abbrev Holds : {A : Type 0} → (A → Type 0) → Result A LineKind → Type 0
+abbrev pub Holds : {A : Type 0} → (A → Type 0) → Result A LineKind → Type 0
 Holds P (Ok a) = P a
 Holds P (Err k) = Unit {0}
 
@@ -52,20 +52,20 @@ abbrev HoldsIn : {A : Type 0} → (A → Type 0) → Option A → Type 0
 HoldsIn P None = Unit {0}
 HoldsIn P (Some a) = P a
 
-mapped_holds : {A B : Type 0} → (P : A → Type 0) (Q : B → Type 0) (f : A → B) (r : Result A LineKind) → Holds P r → ((a : A) → P a → Q (f a))
+pub mapped_holds : {A B : Type 0} → (P : A → Type 0) (Q : B → Type 0) (f : A → B) (r : Result A LineKind) → Holds P r → ((a : A) → P a → Q (f a))
     → Holds Q (mapped f r)
 mapped_holds P Q f (Ok a) h q = q a h
 mapped_holds P Q f (Err k) h q = tt
 
-then_holds : {A B : Type 0} → (Q : B → Type 0) (f : A → Result B LineKind) (r : Result A LineKind) → ((a : A) → Holds Q (f a)) → Holds Q (and_then r f)
+pub then_holds : {A B : Type 0} → (Q : B → Type 0) (f : A → Result B LineKind) (r : Result A LineKind) → ((a : A) → Holds Q (f a)) → Holds Q (and_then r f)
 then_holds Q f (Ok a) h = h a
 then_holds Q f (Err k) h = tt
 
-where_holds : {A : Type 0} → (P : A → Type 0) (b : Bool) (x y : Result A LineKind) → (b ≡ true → Holds P x) → Holds P y → Holds P (cond b x y)
+pub where_holds : {A : Type 0} → (P : A → Type 0) (b : Bool) (x y : Result A LineKind) → (b ≡ true → Holds P x) → Holds P y → Holds P (cond b x y)
 where_holds P true x y h k = h refl
 where_holds P false x y h k = k
 
-condition_below : (c : Condition) → condition_code c < 2 ^ 4
+pub condition_below : (c : Condition) → condition_code c < 2 ^ 4
 condition_below condition.Eq = omega arith
 condition_below _ = omega arith
 
@@ -85,7 +85,7 @@ half_positive : (k : HalfKind) → half_code k ≡ 0 → ⊥
 half_positive Half e = omega arith
 half_positive _ e = omega arith
 
-flag_below : (b : Bool) → flag b < 2 ^ 1
+pub flag_below : (b : Bool) → flag b < 2 ^ 1
 flag_below true = omega arith
 flag_below false = omega arith
 
@@ -183,7 +183,7 @@ status_fits k saved fields (Some i) low h =
 
 -- ---- shifts and offsets
 
-amount_fits : (kind : ShiftKind) (n : ℕ) → Holds (λ a. a < 2 ^ 5) (amount_field kind n)
+pub amount_fits : (kind : ShiftKind) (n : ℕ) → Holds (λ a. a < 2 ^ 5) (amount_field kind n)
 amount_fits Lsl n = where_holds (λ a. a < 2 ^ 5) (nat_lt n 32) (Ok n) (Err OutOfRange) (λ t. ltb-true n 32 t) tt
 amount_fits Lsr n = where_holds (λ a. a < 2 ^ 5) (nat_le 1 n && nat_le n 32) (Ok (n % 32)) (Err OutOfRange) (λ t. omega arith) tt
 amount_fits Asr n = where_holds (λ a. a < 2 ^ 5) (nat_le 1 n && nat_le n 32) (Ok (n % 32)) (Err OutOfRange) (λ t. omega arith) tt

@@ -3,4 +3,6 @@ pub mod ContextLemmas
 pub mod FitLemmas
 mod PlaceLemmas
 mod RotationLemmas
+pub mod ThumbAlikeLemmas
+pub mod ThumbFitLemmas
 pub mod WordLemmas

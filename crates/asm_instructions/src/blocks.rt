@@ -43,7 +43,7 @@ fn bit_of(number: u32, listed: bool) -> u32
 }
 
 /// A bit for each register of a list.
-fn list_bits(scene: &Scene<'_>, items: &[ListItem]) -> u16
+pub fn list_bits(scene: &Scene<'_>, items: &[ListItem]) -> u16
     ensures { result ≡ forms.list_bits (context_of scene.now) items.now 0 16 }
 {
     let mut bits = 0_u32;

@@ -70,7 +70,7 @@ fn is_thumb(entry: Option<&LaidName>) -> bool
 }
 
 /// Whether a branch of the line to a symbol is settled here: its place is of the same area and state.
-fn is_settled(scene: &Scene<'_>, symbol: &Text) -> bool
+pub fn is_settled(scene: &Scene<'_>, symbol: &Text) -> bool
     ensures { result ≡ forms.is_settled (context_of scene.now) symbol.now }
 {
     if is_in_area(scene.line.area, stands_at(scene, symbol)) {
@@ -79,7 +79,8 @@ fn is_settled(scene: &Scene<'_>, symbol: &Text) -> bool
     false
 }
 
-fn offset_at(place: Option<(u32, u32)>) -> u32
+/// The offset of a place; 0 where there is none.
+pub fn offset_at(place: Option<(u32, u32)>) -> u32
     ensures { result ≡ forms.offset_at place }
 {
     match place {
@@ -103,7 +104,7 @@ fn branch_from(scene: &Scene<'_>, symbol: &Text, plus: u32) -> u32
 }
 
 /// A branch that isn't settled needs a symbol.
-fn has_symbol(scene: &Scene<'_>, symbol: &Text) -> bool
+pub fn has_symbol(scene: &Scene<'_>, symbol: &Text) -> bool
     ensures { result ≡ forms.has_symbol (context_of scene.now) symbol.now }
 {
     if symbol.as_slice().is_empty() {

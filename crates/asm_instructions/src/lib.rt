@@ -1,4 +1,4 @@
-//! The instruction that a line of ARM state says, with its operands' values.
+//! The instruction that a line of ARM or Thumb state says, with its operands' values.
 #![tactic(auto)]
 
 pub mod blocks;
@@ -10,13 +10,21 @@ pub mod lines;
 pub mod pseudo;
 pub mod scenes;
 pub mod shifts;
+pub mod thumb_branches;
+pub mod thumb_data;
+pub mod thumb_lines;
+pub mod thumb_transfers;
+pub mod thumb_values;
 pub mod transfers;
 pub mod values;
 
 pub use crate::laws::{
-    fitting_instructions_are_written, instructions_fit, pseudo_instructions_fit,
+    fitting_instructions_are_written, fitting_thumb_codes_are_written, instructions_fit,
+    pseudo_instructions_fit, thumb_instructions_fit, thumb_pseudo_instructions_fit,
 };
 pub use crate::lines::{arm_instruction, branch_symbol};
 pub use crate::pseudo::pseudo_instructions;
 pub use crate::scenes::Scene;
+pub use crate::thumb_data::Said;
+pub use crate::thumb_lines::{thumb_instruction, thumb_pseudo_instruction};
 pub use crate::values::{number_in, value_of};

@@ -51,7 +51,7 @@ fn rotation_amount(amount: u32) -> Result<u8, LineKind>
 }
 
 /// The field of an amount, where the kind of shift takes it.
-fn amount_field(kind: ShiftKind, amount: u32) -> Result<u8, LineKind>
+pub fn amount_field(kind: ShiftKind, amount: u32) -> Result<u8, LineKind>
     ensures { result ≡ forms.amount_field kind amount }
 {
     match kind {

@@ -11,6 +11,7 @@ pub mod ShiftPlans
 pub mod ShiftFields
 pub mod ShiftAreas
 pub mod ShiftPatched
+pub mod ShiftFits
 pub mod ShiftPlacement
 pub mod ShiftValues
 pub mod MadeAnswerLemmas
@@ -19,6 +20,7 @@ pub mod MadePlacedLemmas
 pub mod MadeAddressLemmas
 pub mod MadeVeneerLemmas
 pub mod MadeRegionLemmas
+pub mod AppliedAt
 pub mod MadeAppliedLemmas
 pub mod MadeOnce
 pub mod MadeBytes
@@ -38,5 +40,8 @@ pub mod ShiftMemory
 pub mod ShiftAif
 pub mod ShiftBoots
 pub mod ShiftStarts
-pub mod ShiftReach
+pub mod ShiftApplied
+pub mod AifEntry
+pub mod AifMade
+pub mod AifStarts
 pub mod ShiftRows

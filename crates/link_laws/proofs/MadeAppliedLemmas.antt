@@ -2,7 +2,7 @@
 use Rattle.std.proofs.Common.{◌≡◌, inl, inr, ℕ, zero, suc, ◌+◌, ◌%◌, ◌^◌, ◌<◌, ◌≤◌, Bool, true, false, cond, ◌&&◌, ◌==◌, List, [], ◌∷◌, ◌++◌, length, refl, sym, ap, subst, ◌∙◌, arith, leb-true, Option, Some, None}
 use Rattle.std.specs.Prelude.{slice_get, nat_le, IsSomeAnd}
 use Rattle.std.specs.List.{filter_map, flat_map, find, AllByRecursion}
-use Rattle.std.specs.Option.{option_map, option_map_or, option_and_then}
+use Rattle.std.specs.Option.{option_map, option_map_or}
 use Rattle.std.proofs.lemmas.Option.{slice_get-map}
 use Rattle.base_lemmas.proofs.BaseLemmas.{all_front, both_true, came_through, same}
 use Rattle.sdt_word.specs.Numbers.{bit}
@@ -15,7 +15,7 @@ use Rattle.aof_object.specs.declared.records.Reloc.{Reloc}
 use Rattle.aof_object.specs.Checks.{left_over}
 use Rattle.aof_object.specs.Validity.{IsValid, IsEntered, head_of, heads}
 use Rattle.patch_model.specs.Fields.{Kind as FieldKind, Byte, Half, Word, Branch, Home, Values, field_of, kind_of, directives, size_of, number_in}
-use Rattle.patch_model.specs.Patched.{Veneers, Way, Directly, ByVeneer, way_of, is_branch, AreaPatched}
+use Rattle.patch_model.specs.Patched.{Way, Directly, ByVeneer, way_of, is_branch, AreaPatched}
 use Rattle.patch_model.specs.Reaches.{HasVeneer}
 use Rattle.patch_model.proofs.BranchLemmas.{branch_tested}
 use Rattle.place_model.specs.declared.scatter.Kind.{Kind}
@@ -47,11 +47,12 @@ use Rattle.link_apply.specs.Placed.{veneers_at, target_in}
 use Rattle.link_apply.proofs.AreaLemmas.{patched_law}
 use Rattle.link_apply.proofs.FieldLemmas.{veneer_law}
 use Rattle.link_apply.proofs.ListLemmas.{Found, found}
-use Rattle.link_laws.specs.Placing.{bases_of, region_with, veneers_in, link_plan, IsPlacedLink, values_in, IsApplied, IsVeneerApplied}
-use Rattle.link_laws.specs.Joins.{IsMade, PlacesOf, MadeHasPlaces, area_bytes, given_in, MadeIsApplied}
+use Rattle.link_laws.specs.Placing.{bases_of, link_plan, IsPlacedLink, values_in, IsApplied, IsVeneerApplied}
+use Rattle.link_laws.specs.Joins.{IsMade, PlacesOf, MadeHasPlaces, given_in, MadeIsApplied}
 use Rattle.link_laws.proofs.PlacedLemmas.{IsFound, shaped, aligned, found as found_area, objects_are_placed}
 use Rattle.link_laws.proofs.MadePlacedLemmas.{is_placement, are_needed, made_is_placed}
-use Rattle.link_laws.proofs.MadeAddressLemmas.{placed_as, area_found, veneers_there, has_places}
+use Rattle.link_laws.proofs.AppliedAt.{is_found as placed_there, applied_at}
+use Rattle.link_laws.proofs.MadeAddressLemmas.{placed_as, veneers_there, has_places}
 use Rattle.link_laws.proofs.MadeRegionLemmas.{found_there}
 use Rattle.link_laws.proofs.MadeVeneerLemmas.{veneer_to, AreOnce, IsPlanned, things_planned, things_apart, all_stood, is_first}
 
@@ -78,7 +79,7 @@ pub record IsNamed (os : List (Named Object)) (name : AreaName) (a : Area) : Typ
   pub at : slice_get os name.object ≡ Some object
   pub there : slice_get object.value.areas name.area ≡ Some a
 
-is_named : (os : List (Named Object)) (name : AreaName) (a : Area) → area_of (objects_in os) name ≡ Some a → IsNamed os name a
+pub is_named : (os : List (Named Object)) (name : AreaName) (a : Area) → area_of (objects_in os) name ≡ Some a → IsNamed os name a
 is_named os name a h =
     let (value, at, there) = came_through (λ (o : Object). slice_get o.areas name.area) (slice_get (objects_in os) name.object) a h in
     go (slice_get os name.object) refl (sym (slice_get-map (λ (o : Named Object). o.value) os name.object) ∙ at) there
@@ -86,12 +87,6 @@ is_named os name a h =
     go : {value : Object} (o : Option (Named Object)) → slice_get os name.object ≡ o → option_map (λ (z : Named Object). z.value) o ≡ Some value → slice_get value.areas name.area ≡ Some a → IsNamed os name a
     go None e f there = absurd cc
     go {value} (Some o) e f there = let is : o.value ≡ value = cc in record { object = o; at = e; there = ap (λ (z : Object). slice_get z.areas name.area) is ∙ there }
-
-area_there : (os : List (Named Object)) (own area : ℕ) (o : Named Object) (a : Area) → slice_get os own ≡ Some o → slice_get o.value.areas area ≡ Some a
-    → area_of (objects_in os) (record { object = own; area = area }) ≡ Some a
-area_there os own area o a here there =
-    let object : slice_get (objects_in os) own ≡ Some o.value = slice_get-map (λ (z : Named Object). z.value) os own ∙ ap (option_map (λ (z : Named Object). z.value)) here in
-    ap (option_and_then (λ (z : Object). slice_get z.areas area)) object ∙ there
 
 -- ---- what a branch needs
 
@@ -102,7 +97,7 @@ pub record IsBranchOf (a : Area) (r : Reloc) : Type 0 where
   pub alone : is_alone a.relocs r ≡ true
   pub branch : has_branch thumb a.bytes (field_of r) ≡ true
 
-is_needing : (l : Link) (region : ℕ) (name : AreaName) (a : Area) (r : Reloc) (v : Veneer) → needed_by l region name a r ≡ Some v → IsBranchOf a r
+pub is_needing : (l : Link) (region : ℕ) (name : AreaName) (a : Area) (r : Reloc) (v : Veneer) → needed_by l region name a r ≡ Some v → IsBranchOf a r
 is_needing l region name a r v h = go (kind_of r) refl h
   where
     go : (kind : FieldKind) → kind_of r ≡ kind → needed_as kind l region name.object a r ≡ Some v → IsBranchOf a r
@@ -196,8 +191,7 @@ module _ (k : Kind) (ram : Option (List Range32)) (l : Linked) (a : Assigned) (v
     is_found : find (is_area own area) p.areas ≡ Some spot
     is_found =
         ap (λ (q : Placement). find (is_area own area) q.areas) (is_placement k ram l a vs p h)
-        ∙ area_found own area (regions_of plan) place.owner place.spot place.region place.there
-        ∙ ap (λ (n : ℕ). Some (placed_as own area place.owner.number n)) (sym place.base)
+        ∙ placed_there k ram l a.regions vs is_placed own o here area x there
 
     -- no relocation has a flaw
     pub sound_area : AreSound p values place.owner.number base area x
@@ -212,26 +206,17 @@ module _ (k : Kind) (ram : Option (List Range32)) (l : Linked) (a : Assigned) (v
         map_none (told o.name o.value x r) (flaw_of p (placed.values_in (link_of l) p own) place.owner.number base area x r) unrefused in
         ap (λ (z : Values). flaw_of p z place.owner.number base area x r) (sym (same_values own)) ∙ flawless
 
-    same_veneers : veneers_at p place.owner.number ≡ veneers_in (region_with plan own area)
-    same_veneers =
-        ap (λ (q : Placement). veneers_at q place.owner.number) (is_placement k ram l a vs p h)
-        ∙ (λ i target thumb. veneers_there k (contents_of l.objects a.regions vs) place.place place.owner place.at target thumb i)
-        ∙ ap veneers_in (sym place.region)
-
-    given_bytes : (given_in (link_of l) p).area own area ≡ patched_bytes p values place.owner.number base x
-    given_bytes =
-        ap (λ (q : Option PlacedArea). area_bytes (link_of l) p q (area_of (objects_in l.objects) (record { object = own; area = area }))) is_found
-        ∙ ap (area_bytes (link_of l) p (Some spot)) (area_there l.objects own area o x here there)
-        ∙ ap (λ (z : Values). patched_bytes p z place.owner.number base x) (same_values own)
-
     pub is_applied : AreBytes x.bytes → IsApplied plan l numbers (given_in (link_of l) p) own area o.value
     is_applied bytes =
-        let patched : AreaPatched x.relocs x.bytes base values (veneers_at p place.owner.number) (patched_bytes p values place.owner.number base x) = patched_law p values place.owner.number base area x bytes sound_area in
-        let by_plan : AreaPatched x.relocs x.bytes base values (veneers_in (region_with plan own area)) (patched_bytes p values place.owner.number base x) =
-        subst (λ (z : Veneers). AreaPatched x.relocs x.bytes base values z (patched_bytes p values place.owner.number base x)) same_veneers patched in
-        let given : AreaPatched x.relocs x.bytes base values (veneers_in (region_with plan own area)) ((given_in (link_of l) p).area own area) =
-        subst (λ (z : List ℕ). AreaPatched x.relocs x.bytes base values (veneers_in (region_with plan own area)) z) (sym given_bytes) by_plan in
-        subst (λ (z : Option Area). IsSomeAnd z (λ (q : Area). AreaPatched q.relocs q.bytes base values (veneers_in (region_with plan own area)) ((given_in (link_of l) p).area own area))) (sym there) given
+        let n : ℕ = place.owner.number in
+        let patched : AreaPatched x.relocs x.bytes base values (veneers_at p n) (patched_bytes p values n base x) = patched_law p values n base area x bytes sound_area in
+        let as_placed : AreaPatched x.relocs x.bytes base (placed.values_in (link_of l) p own) (veneers_at p n) (patched_bytes p (placed.values_in (link_of l) p own) n base x) =
+        subst (λ (z : Values). AreaPatched x.relocs x.bytes base z (veneers_at p n) (patched_bytes p z n base x)) (sym (same_values own)) patched in
+        let at : find (is_area own area) p.areas ≡ Some spot = is_found in
+        let Goal : Placement → Type 0 = λ q. find (is_area own area) q.areas ≡ Some spot
+        → AreaPatched x.relocs x.bytes base (placed.values_in (link_of l) q own) (veneers_at q n) (patched_bytes q (placed.values_in (link_of l) q own) n base x)
+        → IsApplied plan l (region_number (objects_in l.objects) q) (given_in (link_of l) q) own area o.value in
+        subst Goal (sym (is_placement k ram l a vs p h)) (applied_at k ram l a.regions vs is_placed own o here area x there spot) at as_placed
 
   -- ---- the entry
 

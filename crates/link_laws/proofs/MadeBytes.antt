@@ -14,19 +14,20 @@ use Rattle.place_model.specs.Things.{Thing, Header, AnArea, AVeneer, Startup, al
 use Rattle.place_model.specs.Plans.{Contents, RegionVeneer, areas_in, veneers_in, header_in, startup_in, Planned, zero_base_of, regions_of, plan_for, stood_in, is_startup, boot_address}
 use Rattle.place_model.proofs.ListLemmas.{all_at, all_indexed, all_map, all_flat}
 use Rattle.image_model.specs.Regions as image
-use Rattle.image_laws.proofs.RegionLemmas.{NoStartup, startup_stands}
+use Rattle.boot_code.proofs.ViewLemmas.{length-zeros}
+use Rattle.image_laws.proofs.RegionLemmas.{length-laid, NoStartup, startup_stands}
 use Rattle.link_model.specs.declared.placing.PlacedArea.{PlacedArea}
 use Rattle.link_model.specs.declared.placing.PlacedVeneer.{PlacedVeneer}
 use Rattle.link_model.specs.declared.placing.Placement.{Placement}
 use Rattle.link_model.specs.declared.placing.Region.{Region}
 use Rattle.link_model.specs.Members.{Link}
 use Rattle.link_model.specs.Veneers.{IsIn}
-use Rattle.link_items.specs.LinkedItems.{has_header}
 use Rattle.link_place.specs.Placed.{area_of, areas_of, veneer_of, veneers_of}
 use Rattle.link_apply.specs.RegionBytes as linked
-use Rattle.link_apply.specs.RegionBytes.{entry_of, copy_rows, zero_rows, startup_list, startup_piece}
+use Rattle.link_apply.specs.RegionBytes.{filled_up, entry_of, copy_rows, zero_rows, startup_list, startup_piece}
+use Rattle.link_laws.specs.Joins.{front_of}
 use Rattle.link_laws.proofs.ListLemmas.{in_front, in_back}
-use Rattle.link_laws.proofs.RegionLemmas.{IsShaped, all_shaped}
+use Rattle.link_laws.proofs.RegionLemmas.{IsShaped, all_shaped, header_all}
 use Rattle.link_laws.proofs.SizedLemmas.{words_length}
 use Rattle.link_laws.proofs.MadeAddressLemmas.{AreCounted}
 use Rattle.link_laws.proofs.MadeOnce.{all_counted}
@@ -156,6 +157,63 @@ laid_same held origin at (t ∷ ts) all =
     ap (λ (k : ℕ). zeros k ++ (held t ++ linked.laid (start + length (held t)) (shown held (stood origin (start + size_of t) ts)))) space
     ∙ ap (λ (bytes : List ℕ). zeros (gap origin (alignment_of t) at) ++ (held t ++ bytes)) rest
 
+-- ---- a region's bytes
+
+zeros_join : (n k : ℕ) → zeros (n + k) ≡ zeros n ++ zeros k
+zeros_join zero k = let e : 0 + k ≡ k = omega arith in ap zeros e
+zeros_join (suc n) k = let e : suc n + k ≡ suc (n + k) = omega arith in ap zeros e ∙ ap (λ (xs : List ℕ). 0 ∷ xs) (zeros_join n k)
+
+filled_whole : (size : ℕ) (bytes : List ℕ) → length bytes ≡ size → filled_up size bytes ≡ bytes
+filled_whole size bytes e = let none : size - length bytes ≡ 0 = omega (arith, e) in ap (λ (n : ℕ). bytes ++ zeros n) none ∙ append-nil bytes
+
+filled_equal : (size : ℕ) (bytes other : List ℕ) → bytes ≡ other → length other ≡ size → filled_up size bytes ≡ other
+filled_equal size bytes other e f = ap (filled_up size) e ∙ filled_whole size other f
+
+module _ (held : Thing → List ℕ) (origin at : ℕ) where
+  -- a gap before the first thing
+  behind_gap : (n : ℕ) (ts : List Thing) (size : ℕ) → size ≡ n + extent origin (at + n) ts → AllByRecursion (λ t. length (held t) ≡ size_of t) ts
+      → filled_up size (linked.laid at (shown held (stood origin (at + n) ts))) ≡ zeros n ++ image.laid held origin (at + n) ts
+  behind_gap n [] size e all =
+      let own : size - 0 ≡ n = omega (arith, e) in
+      ap zeros own ∙ sym (append-nil (zeros n))
+  behind_gap n (t ∷ ts) size e all =
+      let start : ℕ = start_of origin (at + n) t in
+      let rest : List ℕ = held t ++ linked.laid (start + length (held t)) (shown held (stood origin (start + size_of t) ts)) in
+      let split : start - at ≡ n + (start - (at + n)) = omega arith in
+      let same : linked.laid at (shown held (stood origin (at + n) (t ∷ ts))) ≡ zeros n ++ image.laid held origin (at + n) (t ∷ ts) =
+      ap (λ (k : ℕ). zeros k ++ rest) split ∙ ap (λ (xs : List ℕ). xs ++ rest) (zeros_join n (start - (at + n))) ∙ append_assoc (zeros n) (zeros (start - (at + n))) rest
+      ∙ ap (λ (xs : List ℕ). zeros n ++ xs) (laid_same held origin (at + n) (t ∷ ts) all) in
+      let first = length-append (zeros n) (image.laid held origin (at + n) (t ∷ ts)) in
+      let front = length-zeros n in
+      let behind = length-laid held origin (at + n) (t ∷ ts) all in
+      filled_equal size (linked.laid at (shown held (stood origin (at + n) (t ∷ ts)))) (zeros n ++ image.laid held origin (at + n) (t ∷ ts)) same (omega (arith, e, first, front, behind))
+
+  -- which a header takes
+  headless_same : (ts : List Thing) (size : ℕ) → size ≡ extent origin at ts → AllByRecursion (λ t. length (held t) ≡ size_of t) ts
+      → filled_up size (linked.laid at (shown held (stood origin (at + 0) ts))) ≡ image.laid held origin at ts
+  headless_same ts size e all =
+      let here : at + 0 ≡ at = omega arith in
+      filled_equal size (linked.laid at (shown held (stood origin (at + 0) ts))) (image.laid held origin at ts)
+      (ap (λ (n : ℕ). linked.laid at (shown held (stood origin n ts))) here ∙ laid_same held origin at ts all) (length-laid held origin at ts all ∙ sym e)
+
+  pub headed_same : (k : Kind) (n : ℕ) (ts : List Thing) (size : ℕ) → held Header ≡ front_of k → size ≡ extent origin at (header_in k n ++ ts)
+      → AllByRecursion (λ t. length (held t) ≡ size_of t) ts
+      → filled_up size (linked.laid at (shown held (stood origin (at + extent origin at (header_in k n)) ts))) ≡ image.laid held origin at (header_in k n ++ ts)
+  headed_same (kind.Scatter s) n ts size has e all = headless_same ts size e all
+  headed_same (kind.Plain base) n ts size has e all = headless_same ts size e all
+  headed_same (kind.Aif base relocatable) (suc n) ts size has e all = headless_same ts size e all
+  headed_same (kind.Aif base relocatable) zero ts size has e all =
+      let g : ℕ = gap origin 4 at in
+      let count : g + 128 + 0 ≡ g + 128 = omega arith in
+      let behind : at + (g + 128 + 0) ≡ at + g + 128 = omega arith in
+      let later : extent origin (at + (g + 128 + 0)) ts ≡ extent origin (at + g + 128) ts = ap (λ (m : ℕ). extent origin m ts) behind in
+      behind_gap (g + 128 + 0) ts size (omega (arith, e, later)) all
+      ∙ ap (λ (m : ℕ). zeros m ++ image.laid held origin (at + (g + 128 + 0)) ts) count
+      ∙ ap (λ (m : ℕ). zeros (g + 128) ++ image.laid held origin m ts) behind
+      ∙ ap (λ (xs : List ℕ). xs ++ image.laid held origin (at + g + 128) ts) (zeros_join g 128)
+      ∙ append_assoc (zeros g) (zeros 128) (image.laid held origin (at + g + 128) ts)
+      ∙ ap (λ (xs : List ℕ). zeros g ++ (xs ++ image.laid held origin (at + g + 128) ts)) (sym has)
+
 -- ---- the startup code
 
 areas_have_none : (items : List Item) → NoStartup (map AnArea items)
@@ -174,15 +232,13 @@ before c n = map AnArea (own_areas c n) ++ veneers_in c n
 before_none : (c : Contents) (n : ℕ) → NoStartup (before c n)
 before_none c n = all_append (λ t. is_startup t ≡ false) (map AnArea (own_areas c n)) (veneers_in c n) (areas_have_none (own_areas c n)) (veneers_have_none (filter (λ v. v.region == n) c.veneers))
 
-pub headless : (k : Kind) (n : ℕ) → has_header k ≡ false → header_in k n ≡ []
-headless (kind.Scatter s) n plain = refl
-headless (kind.Plain base) n plain = refl
-headless (kind.Aif base relocatable) n plain = absurd cc
+header_none : (k : Kind) (n : ℕ) → NoStartup (header_in k n)
+header_none k n = header_all (λ t. is_startup t ≡ false) k n refl
 
-pub things_are : (k : Kind) (c : Contents) (words : ℕ) (r : Planned) → has_header k ≡ false → IsShaped k c words r → r.things ≡ before c r.number ++ startup_in k r.number words
-things_are k c words r plain shape =
-    shape.things ∙ ap (λ (ts : List Thing). ts ++ (map AnArea (own_areas c r.number) ++ (veneers_in c r.number ++ startup_in k r.number words))) (headless k r.number plain)
-    ∙ sym (append_assoc (map AnArea (own_areas c r.number)) (veneers_in c r.number) (startup_in k r.number words))
+pub things_are : (k : Kind) (c : Contents) (words : ℕ) (r : Planned) → IsShaped k c words r → r.things ≡ header_in k r.number ++ (before c r.number ++ startup_in k r.number words)
+things_are k c words r shape =
+    shape.things
+    ∙ ap (λ (ts : List Thing). header_in k r.number ++ ts) (sym (append_assoc (map AnArea (own_areas c r.number)) (veneers_in c r.number) (startup_in k r.number words)))
 
 first_is : (rs : List Planned) → AreCounted 0 rs → (j : ℕ) (r : Planned) → slice_get rs j ≡ Some r → r.number ≡ 0 → (rest : List Planned) × (rs ≡ r ∷ rest)
 first_is [] counted j r at e = absurd cc
@@ -195,14 +251,16 @@ boot_there : (k : Kind) (s : _) (c : Contents) (words : ℕ) → k ≡ kind.Scat
 boot_there k s c words is j r at e =
     let rs : List Planned = regions_of (plan_for k c words) in
     let (rest, whole) = first_is rs (all_counted k c words) j r at e in
-    let plain : has_header k ≡ false = ap has_header is in
+    let headless : header_in k r.number ≡ [] = ap (λ (q : Kind). header_in q r.number) is in
     let startup : startup_in k r.number words ≡ Startup words ∷ [] = ap (λ (q : Kind). startup_in q r.number words) is ∙ ap (λ (n : ℕ). startup_in (kind.Scatter s) n words) e in
     startup_stands words rs (record {
       region = r;
       rest = rest;
       whole = whole;
       before = before c r.number;
-      things = things_are k c words r plain (all_at (IsShaped k c words) rs j r (all_shaped k c words) at) ∙ ap (λ (ts : List Thing). before c r.number ++ ts) startup;
+      things =
+          things_are k c words r (all_at (IsShaped k c words) rs j r (all_shaped k c words) at)
+          ∙ ap (λ (ts : List Thing). ts ++ (before c r.number ++ startup_in k r.number words)) headless ∙ ap (λ (ts : List Thing). before c r.number ++ ts) startup;
       none = before_none c r.number;
     })
 
@@ -210,55 +268,63 @@ stood_none : (origin at : ℕ) (ts : List Thing) → NoStartup ts → AllByRecur
 stood_none origin at [] none = tt
 stood_none origin at (t ∷ ts) none = (none.0, stood_none origin (start_of origin at t + size_of t) ts none.1)
 
-no_boot : (base : ℕ) (c : Contents) (words : ℕ) → boot_address (plan_for (kind.Plain base) c words) ≡ None
-no_boot base c words =
-    let k : Kind = kind.Plain base in
+no_boot : (k : Kind) (c : Contents) (words : ℕ) → ((n : ℕ) → startup_in k n words ≡ []) → boot_address (plan_for k c words) ≡ None
+no_boot k c words bare =
     let rs : List Planned = regions_of (plan_for k c words) in
     let none : AllByRecursion (λ r. AllByRecursion (λ s. is_startup s.thing ≡ false) (stood_in r)) rs =
     all_indexed (λ r. AllByRecursion (λ s. is_startup s.thing ≡ false) (stood_in r)) rs (λ j r at.
     let shape = all_at (IsShaped k c words) rs j r (all_shaped k c words) at in
-    let things : NoStartup r.things = subst NoStartup (sym (things_are k c words r refl shape)) (all_append (λ t. is_startup t ≡ false) (before c r.number) [] (before_none c r.number) tt) in
+    let things : NoStartup r.things =
+    subst NoStartup (sym (things_are k c words r shape ∙ ap (λ (ts : List Thing). header_in k r.number ++ (before c r.number ++ ts)) (bare r.number)))
+    (all_append (λ t. is_startup t ≡ false) (header_in k r.number) (before c r.number ++ []) (header_none k r.number)
+    (all_append (λ t. is_startup t ≡ false) (before c r.number) [] (before_none c r.number) tt)) in
     let zeros : NoStartup r.zeros = subst NoStartup (sym shape.zeros) (areas_have_none (filter is_zero_initialised (areas_in c r.number))) in
     all_append (λ s. is_startup s.thing ≡ false) (stood r.origin r.base r.things) (stood r.origin (zero_base_of r) r.zeros)
     (stood_none r.origin r.base r.things things) (stood_none r.origin (zero_base_of r) r.zeros zeros)) in
     ap (option_map (λ s. s.address)) (none_found (λ s. is_startup s.thing) (flat_map stood_in rs) (all_flat (λ s. is_startup s.thing ≡ false) stood_in rs none))
+
+-- where what follows the header begins
+abbrev pub behind_header : Kind → Planned → ℕ
+behind_header k r = r.base + extent r.origin r.base (header_in k r.number)
 
 -- its piece is that of the plan
 abbrev IsBooted : Kind → ℕ → ℕ → ℕ → ℕ → Option ℕ → Type 0
 IsBooted (kind.Scatter s) zero words origin at boot = boot ≡ Some (start_of origin at (Startup words))
 IsBooted (kind.Scatter s) (suc n) words origin at boot = Unit {0}
 IsBooted (kind.Plain base) n words origin at boot = boot ≡ None
-IsBooted (kind.Aif base relocatable) n words origin at boot = Unit {0}
+IsBooted (kind.Aif base relocatable) n words origin at boot = boot ≡ None
 
 pub booted : (k : Kind) (c : Contents) (words : ℕ) (j : ℕ) (r : Planned) → slice_get (regions_of (plan_for k c words)) j ≡ Some r
-    → IsBooted k r.number words r.origin (r.base + extent r.origin r.base (before c r.number)) (boot_address (plan_for k c words))
+    → IsBooted k r.number words r.origin (behind_header k r + extent r.origin (behind_header k r) (before c r.number)) (boot_address (plan_for k c words))
 booted (kind.Scatter s) c words j r at = go r.number refl
   where
     go : (n : ℕ) → r.number ≡ n
-        → IsBooted (kind.Scatter s) n words r.origin (r.base + extent r.origin r.base (before c r.number)) (boot_address (plan_for (kind.Scatter s) c words))
-    go zero e = boot_there (kind.Scatter s) s c words refl j r at e
+        → IsBooted (kind.Scatter s) n words r.origin (behind_header (kind.Scatter s) r + extent r.origin (behind_header (kind.Scatter s) r) (before c r.number)) (boot_address (plan_for (kind.Scatter s) c words))
+    go zero e =
+        let own : r.base ≡ behind_header (kind.Scatter s) r = omega arith in
+        boot_there (kind.Scatter s) s c words refl j r at e ∙ ap (λ (m : ℕ). Some (start_of r.origin (m + extent r.origin m (before c r.number)) (Startup words))) own
     go (suc n) e = tt
-booted (kind.Plain base) c words j r at = no_boot base c words
-booted (kind.Aif base relocatable) c words j r at = tt
+booted (kind.Plain base) c words j r at = no_boot (kind.Plain base) c words (λ n. refl)
+booted (kind.Aif base relocatable) c words j r at = no_boot (kind.Aif base relocatable) c words (λ n. refl)
 
-pub startup_shown : (k : Kind) (n words : ℕ) → has_header k ≡ false → (l : Link) (p : Placement) (origin at : ℕ) (r : Region) (held : Thing → List ℕ)
+no_piece : (l : Link) (p : Placement) (m : ℕ) (r : Region) → startup_piece l p m r None ≡ []
+no_piece l p zero r = refl
+no_piece l p (suc m) r = refl
+
+pub startup_shown : (k : Kind) (n words : ℕ) (l : Link) (p : Placement) (origin at : ℕ) (r : Region) (held : Thing → List ℕ)
     → IsBooted k n words origin at p.boot → r.base + r.length ≡ at + extent origin at (startup_in k n words)
     → held (Startup words) ≡ startup_list l p ++ zeros (4 * (words - length (table_list (copy_rows p) (zero_rows p) (entry_of l p))))
     → startup_piece l p n r p.boot ≡ shown held (stood origin at (startup_in k n words))
-startup_shown (kind.Scatter s) zero words plain l p origin at r held boot end bytes =
+startup_shown (kind.Scatter s) zero words l p origin at r held boot end bytes =
     let a : ℕ = start_of origin at (Startup words) in
     let table : List ℕ = table_list (copy_rows p) (zero_rows p) (entry_of l p) in
     let size : length (startup_list l p) ≡ 4 * (length boot_list + length table) = words_length (boot_list ++ table) ∙ ap (λ (x : ℕ). 4 * x) (length-append boot_list table) in
     let room : r.base + r.length - a - length (startup_list l p) ≡ 4 * (words - length table) = omega (arith, size, end) in
     ap (λ (o : Option ℕ). startup_piece l p 0 r o) boot
     ∙ ap (λ (bytes : List ℕ). (a, bytes) ∷ []) (ap (λ (x : ℕ). startup_list l p ++ zeros x) room ∙ sym bytes)
-startup_shown (kind.Scatter s) (suc n) words plain l p origin at r held boot end bytes = refl
-startup_shown (kind.Plain base) n words plain l p origin at r held boot end bytes = ap (λ (o : Option ℕ). startup_piece l p n r o) boot ∙ none n
-  where
-    none : (m : ℕ) → startup_piece l p m r None ≡ []
-    none zero = refl
-    none (suc m) = refl
-startup_shown (kind.Aif base relocatable) n words plain l p origin at r held boot end bytes = absurd cc
+startup_shown (kind.Scatter s) (suc n) words l p origin at r held boot end bytes = refl
+startup_shown (kind.Plain base) n words l p origin at r held boot end bytes = ap (λ (o : Option ℕ). startup_piece l p n r o) boot ∙ no_piece l p n r
+startup_shown (kind.Aif base relocatable) n words l p origin at r held boot end bytes = ap (λ (o : Option ℕ). startup_piece l p n r o) boot ∙ no_piece l p n r
 
 -- ---- parts of a list
 

@@ -11,7 +11,7 @@ use Rattle.place_model.specs.declared.scatter.ScatterLoad.{ScatterLoad}
 use Rattle.place_model.specs.Assignment.{description}
 use Rattle.place_model.specs.Plans.{Contents, Planned, Plan, regions_of, loads_from, table_words}
 use Rattle.place_model.proofs.ListLemmas.{all_indexed}
-use Rattle.image_model.specs.Regions.{Filling, AreSized, region_bytes}
+use Rattle.image_model.specs.Regions.{Filling, AreSized, region_bytes, filled}
 use Rattle.image_model.specs.Views.{file_of, files_of}
 use Rattle.link_model.specs.declared.placing.Assigned.{Assigned}
 use Rattle.link_model.specs.declared.placing.Placement.{Placement}
@@ -26,7 +26,7 @@ use Rattle.link_place.specs.Placed.{placed_region, placed_regions, placement_of}
 use Rattle.link_apply.specs.RegionBytes as linked
 use Rattle.link_apply.specs.RegionBytes.{bytes_from, regions_bytes}
 use Rattle.link_laws.specs.Placing.{link_plan, IsHeaderOf}
-use Rattle.link_laws.specs.Joins.{IsMade, given_in, filled_in, bytes_of_plan, bytes_of_load, files_from, MadeHasBytes, MadeFiles}
+use Rattle.link_laws.specs.Joins.{IsMade, given_in, front_of, filled_in, bytes_of_plan, bytes_of_load, files_from, MadeHasBytes, MadeFiles}
 use Rattle.link_laws.proofs.MadeAddressLemmas.{AreCounted}
 use Rattle.link_laws.proofs.MadeAppliedLemmas.{made_is_applied}
 use Rattle.link_laws.proofs.MadePlacedLemmas.{is_placement, are_needed, made_is_placed}
@@ -79,7 +79,7 @@ module _ (bytes : Planned → List ℕ) where
       ∙ later_none number (suc load) q (omega (arith, lt))
 
   -- those of the load region at a place
-  abbrev load_at : ℕ → Plan → List ℕ
+  abbrev pub load_at : ℕ → Plan → List ℕ
   load_at n [] = []
   load_at zero (x ∷ q) = flat_map bytes x.regions
   load_at (suc n) (x ∷ q) = load_at n q
@@ -105,45 +105,65 @@ files_alike held k c words region load (d ∷ ds) regions parts h =
     ap (λ (b : List ℕ). (record { base = d.base; bytes = b }) ∷ map (file_of held) (loads_from k c words (region + length d.regions) ds)) (sym (h 0 load (omega arith)))
     ∙ ap (λ (fs : List Segment). (record { base = d.base; bytes = bytes_of_load load regions parts }) ∷ fs) rest
 
--- ---- the laws
+-- ---- with zeros in the place of a header
 
-module _ (k : Kind) (ram : Option (List Range32)) (l : Linked) (a : Assigned) (vs : List Veneer) (p : Placement) (h : IsMade k ram l a vs p) (plain : has_header k ≡ false) where
+module _ (k : Kind) (ram : Option (List Range32)) (l : Linked) (a : Assigned) (vs : List Veneer) (p : Placement) (h : IsMade k ram l a vs p) where
   abbrev plan : Plan
   plan = link_plan k l a.regions vs
+
+  abbrev pub fronted : Placement → Filling
+  fronted q = filled (given_in (link_of l) q) plan (front_of k)
 
   once : AreOnce vs
   once = subst AreOnce (sym (are_needed k ram l a vs p h)) (veneers_law (link_of l) a.regions (has_header k)).once
 
-  pub made_sized : AreSized (filled_in l p plan) plan
-  made_sized =
-      applied_are_sized k ram l a.regions vs (region_number (objects_in l.objects) p) (given_in (link_of l) p) [] (made_is_placed k ram l a vs p h) (made_is_applied k ram l a vs p h) (headed k plain)
+  pub fronted_sized : AreSized (fronted p) plan
+  fronted_sized =
+      applied_are_sized k ram l a.regions vs (region_number (objects_in l.objects) p) (given_in (link_of l) p) (front_of k) (made_is_placed k ram l a vs p h) (made_is_applied k ram l a vs p h) (headed k)
     where
-      headed : (q : Kind) → has_header q ≡ false → IsHeaderOf q []
-      headed (kind.Scatter s) e = tt
-      headed (kind.Plain base) e = tt
-      headed (kind.Aif base relocatable) e = absurd cc
+      headed : (q : Kind) → IsHeaderOf q (front_of q)
+      headed (kind.Scatter s) = tt
+      headed (kind.Plain base) = tt
+      headed (kind.Aif base relocatable) = refl
 
-  alike : AllByRecursion (IsAlike (link_of l) (placement_of plan) (region_bytes (filled_in l (placement_of plan) plan))) (regions_of plan)
+  alike : AllByRecursion (IsAlike (link_of l) (placement_of plan) (region_bytes (fronted (placement_of plan)))) (regions_of plan)
   alike =
-      all_indexed (IsAlike (link_of l) (placement_of plan) (region_bytes (filled_in l (placement_of plan) plan))) (regions_of plan)
+      all_indexed (IsAlike (link_of l) (placement_of plan) (region_bytes (fronted (placement_of plan)))) (regions_of plan)
       (λ n r at load.
-      let sized = subst (λ (q : Placement). AreSized (filled_in l q plan) plan) (is_placement k ram l a vs p h) made_sized in
-      region_same k ram l a.regions vs (made_is_placed k ram l a vs p h) plain once sized n r at load)
+      let sized = subst (λ (q : Placement). AreSized (fronted q) plan) (is_placement k ram l a vs p h) fronted_sized in
+      region_same k ram l a.regions vs (made_is_placed k ram l a vs p h) once sized n r at load)
 
-  pub made_bytes : regions_bytes (link_of l) p ≡ bytes_of_plan l p plan
-  made_bytes =
-      subst (λ (q : Placement). regions_bytes (link_of l) q ≡ bytes_of_plan l q plan) (sym (is_placement k ram l a vs p h))
-      (of_plan (link_of l) (placement_of plan) (region_bytes (filled_in l (placement_of plan) plan)) 0 0 plan (all_counted k (contents_of l.objects a.regions vs) (table_words k (contents_of l.objects a.regions vs))) alike)
+  pub fronted_bytes : regions_bytes (link_of l) p ≡ map (region_bytes (fronted p)) (regions_of plan)
+  fronted_bytes =
+      subst (λ (q : Placement). regions_bytes (link_of l) q ≡ map (region_bytes (fronted q)) (regions_of plan)) (sym (is_placement k ram l a vs p h))
+      (of_plan (link_of l) (placement_of plan) (region_bytes (fronted (placement_of plan))) 0 0 plan (all_counted k (contents_of l.objects a.regions vs) (table_words k (contents_of l.objects a.regions vs))) alike)
 
-  pub made_files : files_of plan (filled_in l p plan) ≡ files_from 0 p.regions (regions_bytes (link_of l) p) (description k)
-  made_files =
-      let held : Filling = filled_in l p plan in
+  pub fronted_load : (n : ℕ) → bytes_of_load n p.regions (regions_bytes (link_of l) p) ≡ load_at (region_bytes (fronted p)) n plan
+  fronted_load n =
+      ap (bytes_of_load n p.regions) fronted_bytes
+      ∙ ap (λ (q : Placement). bytes_of_load n q.regions (map (region_bytes (fronted p)) (regions_of plan))) (is_placement k ram l a vs p h)
+      ∙ load_bytes (region_bytes (fronted p)) n 0 plan n (omega arith)
+
+  fronted_files : files_of plan (fronted p) ≡ files_from 0 p.regions (regions_bytes (link_of l) p) (description k)
+  fronted_files =
       let c : Contents = contents_of l.objects a.regions vs in
-      files_alike held k c (table_words k c) 0 0 (description k) p.regions (regions_bytes (link_of l) p)
-      (λ n number e.
-      ap (bytes_of_load number p.regions) made_bytes
-      ∙ ap (λ (q : Placement). bytes_of_load number q.regions (map (region_bytes held) (regions_of plan))) (is_placement k ram l a vs p h)
-      ∙ load_bytes (region_bytes held) n 0 plan number e)
+      files_alike (fronted p) k c (table_words k c) 0 0 (description k) p.regions (regions_bytes (link_of l) p)
+      (λ n number e. let own : number ≡ n = omega (arith, e) in ap (λ (m : ℕ). bytes_of_load m p.regions (regions_bytes (link_of l) p)) own ∙ fronted_load n)
+
+  -- ---- where there is none
+
+  module _ (plain : has_header k ≡ false) where
+    no_front : front_of k ≡ []
+    no_front = rw plain refl
+
+    pub made_sized : AreSized (filled_in l p plan) plan
+    made_sized = subst (λ (header : List ℕ). AreSized (filled (given_in (link_of l) p) plan header) plan) no_front fronted_sized
+
+    made_bytes : regions_bytes (link_of l) p ≡ bytes_of_plan l p plan
+    made_bytes = fronted_bytes ∙ ap (λ (header : List ℕ). map (region_bytes (filled (given_in (link_of l) p) plan header)) (regions_of plan)) no_front
+
+    made_files : files_of plan (filled_in l p plan) ≡ files_from 0 p.regions (regions_bytes (link_of l) p) (description k)
+    made_files = ap (λ (header : List ℕ). files_of plan (filled (given_in (link_of l) p) plan header)) (sym no_front) ∙ fronted_files
 
 pub made_has_bytes : MadeHasBytes
 made_has_bytes k ram l a vs p h plain = made_bytes k ram l a vs p h plain

@@ -17,7 +17,7 @@ use Rattle.patch_model.specs.Fields.{Home}
 use Rattle.place_model.specs.declared.scatter.Kind.{Kind}
 use Rattle.place_model.specs.Items.{Item, is_zero_initialised}
 use Rattle.place_model.specs.Things.{Thing, Header, AnArea, AVeneer, Startup, size_of, start_of, extent, Stood, stood}
-use Rattle.place_model.specs.Plans.{Contents, RegionVeneer, areas_in, veneers_in, startup_in, Planned, zero_base_of, Plan, regions_of, table_words, plan_of, stood_in}
+use Rattle.place_model.specs.Plans.{Contents, RegionVeneer, areas_in, veneers_in, header_in, startup_in, Planned, length_of, zero_base_of, Plan, regions_of, table_words, plan_of, stood_in}
 use Rattle.place_model.proofs.ListLemmas.{all_at, all_indexed}
 use Rattle.image_model.specs.Regions as image
 use Rattle.image_model.specs.Regions.{Given, AreSized, filled}
@@ -31,7 +31,7 @@ use Rattle.link_model.specs.declared.selection.Named.{Named}
 use Rattle.link_model.specs.Members.{link_of, objects_in}
 use Rattle.link_model.specs.RegionValues as numbers
 use Rattle.link_model.specs.Veneers.{IsIn}
-use Rattle.link_items.specs.LinkedItems.{item_of, item_in, name_of, contents_of, has_header}
+use Rattle.link_items.specs.LinkedItems.{item_of, item_in, name_of, contents_of}
 use Rattle.link_place.specs.Placed.{placed_region, area_of, areas_of, veneer_of, veneers_of, placement_of}
 use Rattle.link_values.specs.Placed.{is_area, values_in}
 use Rattle.link_apply.specs.PatchedBytes.{patched_bytes, veneer_bytes}
@@ -39,18 +39,18 @@ use Rattle.link_apply.specs.Placed.{veneers_at, target_in}
 use Rattle.link_apply.specs.RegionBytes as linked
 use Rattle.link_apply.specs.RegionBytes.{area_piece, area_pieces, veneer_piece, veneer_pieces, entry_of, copy_rows, zero_rows, startup_list, startup_piece}
 use Rattle.link_laws.specs.Placing.{link_plan, IsPlacedLink}
-use Rattle.link_laws.specs.Joins.{area_bytes, given_in, filled_in}
+use Rattle.link_laws.specs.Joins.{area_bytes, given_in, front_of}
 use Rattle.link_laws.proofs.ItemLemmas.{IsOwn}
 use Rattle.link_laws.proofs.ListLemmas.{in_front}
-use Rattle.link_laws.proofs.RegionLemmas.{IsShaped, startup_all, IsWithin}
+use Rattle.link_laws.proofs.RegionLemmas.{IsShaped, header_all, startup_all, IsWithin}
 use Rattle.link_laws.proofs.PlacedLemmas.{IsLoaded, IsCleared, loaded, cleared, shaped}
 use Rattle.link_laws.proofs.MadeAddressLemmas.{has_places, veneers_there}
 use Rattle.link_laws.proofs.MadeVeneerLemmas.{AreOnce, things_apart, is_first}
 use Rattle.link_laws.proofs.MadeOnce.{found_only, placed_once, all_counted}
-use Rattle.link_laws.proofs.MadeBytes.{in_flat, own_part, number_at, areas_own, veneers_own, stood_append, extent_append, shown, laid_same, own_areas, before, things_are, booted, startup_shown, four_parts, first_alone, second_alone, HasNoArea, HasNoVeneer, no_areas, no_veneers, areas_no_veneers, veneers_no_areas}
+use Rattle.link_laws.proofs.MadeBytes.{in_flat, own_part, number_at, areas_own, veneers_own, stood_append, extent_append, shown, headed_same, own_areas, before, things_are, behind_header, booted, startup_shown, four_parts, first_alone, second_alone, HasNoArea, HasNoVeneer, no_areas, no_veneers, areas_no_veneers, veneers_no_areas}
 
-module _ (k : Kind) (ram : Option (List Range32)) (l : Linked) (regions : List (List AreaName)) (vs : List Veneer) (h : IsPlacedLink k ram l regions vs) (plain : has_header k ≡ false)
-    (once : AreOnce vs) (sized : AreSized (filled_in l (placement_of (link_plan k l regions vs)) (link_plan k l regions vs)) (link_plan k l regions vs)) where
+module _ (k : Kind) (ram : Option (List Range32)) (l : Linked) (regions : List (List AreaName)) (vs : List Veneer) (h : IsPlacedLink k ram l regions vs)
+    (once : AreOnce vs) (sized : AreSized (filled (given_in (link_of l) (placement_of (link_plan k l regions vs))) (link_plan k l regions vs) (front_of k)) (link_plan k l regions vs)) where
   abbrev c : Contents
   c = contents_of l.objects regions vs
 
@@ -70,7 +70,7 @@ module _ (k : Kind) (ram : Option (List Range32)) (l : Linked) (regions : List (
   g = given_in (link_of l) p
 
   abbrev held : Planned → Thing → List ℕ
-  held = filled g plan []
+  held = filled g plan (front_of k)
 
   -- ---- areas
 
@@ -211,14 +211,20 @@ module _ (k : Kind) (ram : Option (List Range32)) (l : Linked) (regions : List (
     abbrev areas : List Thing
     areas = map AnArea (own_areas c r.number)
 
+    abbrev behind : ℕ
+    behind = behind_header k r
+
+    abbrev head : List Stood
+    head = stood r.origin r.base (header_in k r.number)
+
     abbrev first : List Stood
-    first = stood r.origin r.base areas
+    first = stood r.origin behind areas
 
     abbrev second : List Stood
-    second = stood r.origin (r.base + extent r.origin r.base areas) (veneers_in c r.number)
+    second = stood r.origin (behind + extent r.origin behind areas) (veneers_in c r.number)
 
     abbrev third : List Stood
-    third = stood r.origin (r.base + extent r.origin r.base (before c r.number)) (startup_in k r.number words)
+    third = stood r.origin (behind + extent r.origin behind (before c r.number)) (startup_in k r.number words)
 
     abbrev fourth : List Stood
     fourth = stood r.origin (zero_base_of r) r.zeros
@@ -226,19 +232,22 @@ module _ (k : Kind) (ram : Option (List Range32)) (l : Linked) (regions : List (
     shape : IsShaped k c words r
     shape = shaped k ram l regions vs h n r at
 
-    stood_before : stood r.origin r.base (before c r.number) ≡ first ++ second
-    stood_before = stood_append r.origin r.base areas (veneers_in c r.number)
+    stood_before : stood r.origin behind (before c r.number) ≡ first ++ second
+    stood_before = stood_append r.origin behind areas (veneers_in c r.number)
 
-    stood_things : stood r.origin r.base r.things ≡ (first ++ second) ++ third
+    stood_behind : stood r.origin behind (before c r.number ++ startup_in k r.number words) ≡ (first ++ second) ++ third
+    stood_behind = stood_append r.origin behind (before c r.number) (startup_in k r.number words) ∙ ap (λ (ss : List Stood). ss ++ third) stood_before
+
+    stood_things : stood r.origin r.base r.things ≡ head ++ ((first ++ second) ++ third)
     stood_things =
-        ap (stood r.origin r.base) (things_are k c words r plain shape)
-        ∙ stood_append r.origin r.base (before c r.number) (startup_in k r.number words) ∙ ap (λ (ss : List Stood). ss ++ third) stood_before
+        ap (stood r.origin r.base) (things_are k c words r shape)
+        ∙ stood_append r.origin r.base (header_in k r.number) (before c r.number ++ startup_in k r.number words) ∙ ap (λ (ss : List Stood). head ++ ss) stood_behind
 
-    stood_all : stood_in r ≡ ((first ++ second) ++ third) ++ fourth
-    stood_all = ap (λ (ss : List Stood). ss ++ fourth) stood_things
+    stood_all : stood_in r ≡ head ++ (((first ++ second) ++ third) ++ fourth)
+    stood_all = ap (λ (ss : List Stood). ss ++ fourth) stood_things ∙ append_assoc head ((first ++ second) ++ third) fourth
 
     parts_good : AllByRecursion (λ s. IsGood r s s.thing) ((first ++ second) ++ third)
-    parts_good = subst (AllByRecursion (λ s. IsGood r s s.thing)) stood_things (all_good n r at)
+    parts_good = all_back (λ s. IsGood r s s.thing) head ((first ++ second) ++ third) (subst (AllByRecursion (λ s. IsGood r s s.thing)) stood_things (all_good n r at))
 
     before_good : AllByRecursion (λ s. IsGood r s s.thing) (first ++ second)
     before_good = all_front (λ s. IsGood r s s.thing) (first ++ second) third parts_good
@@ -250,43 +259,56 @@ module _ (k : Kind) (ram : Option (List Range32)) (l : Linked) (regions : List (
 
     areas_whole : areas_at r (stood_in r) ≡ shown (held r) first
     areas_whole =
-        ap (areas_at r) stood_all ∙ four_parts (areas_at r) (areas_parts r) first second third fourth
+        ap (areas_at r) stood_all ∙ areas_parts r head (((first ++ second) ++ third) ++ fourth)
+        ∙ ap (λ (ps : List linked.Piece). ps ++ areas_at r (((first ++ second) ++ third) ++ fourth))
+        (ap (filter_map piece) (no_areas r.number r.origin r.base (header_in k r.number) (header_all HasNoArea k r.number (λ m a. refl))))
+        ∙ four_parts (areas_at r) (areas_parts r) first second third fourth
         ∙ first_alone (shown (held r) first) (areas_at r first) (areas_at r second) (areas_at r third) (areas_at r fourth)
-        (areas_shown r r.base (own_areas c r.number) (all_front (λ s. IsGood r s s.thing) first second before_good))
-        (ap (filter_map piece) (no_areas r.number r.origin (r.base + extent r.origin r.base areas) (veneers_in c r.number) (veneers_no_areas (filter (λ v. v.region == r.number) c.veneers))))
-        (ap (filter_map piece) (no_areas r.number r.origin (r.base + extent r.origin r.base (before c r.number)) (startup_in k r.number words) (startup_all HasNoArea k r.number words (λ m a. refl))))
+        (areas_shown r behind (own_areas c r.number) (all_front (λ s. IsGood r s s.thing) first second before_good))
+        (ap (filter_map piece) (no_areas r.number r.origin (behind + extent r.origin behind areas) (veneers_in c r.number) (veneers_no_areas (filter (λ v. v.region == r.number) c.veneers))))
+        (ap (filter_map piece) (no_areas r.number r.origin (behind + extent r.origin behind (before c r.number)) (startup_in k r.number words) (startup_all HasNoArea k r.number words (λ m a. refl))))
         (zeros_gone r fourth own_zeros)
 
     veneers_whole : veneers_of_region r (stood_in r) ≡ shown (held r) second
     veneers_whole =
-        ap (veneers_of_region r) stood_all ∙ four_parts (veneers_of_region r) (veneers_parts r) first second third fourth
+        ap (veneers_of_region r) stood_all ∙ veneers_parts r head (((first ++ second) ++ third) ++ fourth)
+        ∙ ap (λ (ps : List linked.Piece). ps ++ veneers_of_region r (((first ++ second) ++ third) ++ fourth))
+        (ap (map (veneer_piece p)) (no_veneers r.number r.origin r.base (header_in k r.number) (header_all HasNoVeneer k r.number (λ m a. refl))))
+        ∙ four_parts (veneers_of_region r) (veneers_parts r) first second third fourth
         ∙ second_alone (shown (held r) second) (veneers_of_region r first) (veneers_of_region r second) (veneers_of_region r third) (veneers_of_region r fourth)
-        (ap (map (veneer_piece p)) (no_veneers r.number r.origin r.base areas (areas_no_veneers (own_areas c r.number))))
-        (veneers_shown r (r.base + extent r.origin r.base areas) (filter (λ v. v.region == r.number) c.veneers) (all_back (λ s. IsGood r s s.thing) first second before_good))
-        (ap (map (veneer_piece p)) (no_veneers r.number r.origin (r.base + extent r.origin r.base (before c r.number)) (startup_in k r.number words) (startup_all HasNoVeneer k r.number words (λ m a. refl))))
+        (ap (map (veneer_piece p)) (no_veneers r.number r.origin behind areas (areas_no_veneers (own_areas c r.number))))
+        (veneers_shown r (behind + extent r.origin behind areas) (filter (λ v. v.region == r.number) c.veneers) (all_back (λ s. IsGood r s s.thing) first second before_good))
+        (ap (map (veneer_piece p)) (no_veneers r.number r.origin (behind + extent r.origin behind (before c r.number)) (startup_in k r.number words) (startup_all HasNoVeneer k r.number words (λ m a. refl))))
         (ap (map (veneer_piece p)) (no_veneers r.number r.origin (zero_base_of r) r.zeros (subst (AllByRecursion HasNoVeneer) (sym shape.zeros) (areas_no_veneers (filter is_zero_initialised (areas_in c r.number))))))
 
     startup_whole : (load : ℕ) → startup_piece (link_of l) p r.number (placed_region load r) p.boot ≡ shown (held r) third
     startup_whole load =
-        let length = ap (extent r.origin r.base) (things_are k c words r plain shape) in
-        let end = extent_append r.origin r.base (before c r.number) (startup_in k r.number words) in
-        let a : ℕ = r.base + extent r.origin r.base (before c r.number) in
-        startup_shown k r.number words plain (link_of l) p r.origin a (placed_region load r) (held r) (booted k c words n r at) (omega (arith, length, end)) startup_same
+        let length = ap (extent r.origin r.base) (things_are k c words r shape) in
+        let front = extent_append r.origin r.base (header_in k r.number) (before c r.number ++ startup_in k r.number words) in
+        let end = extent_append r.origin behind (before c r.number) (startup_in k r.number words) in
+        let a : ℕ = behind + extent r.origin behind (before c r.number) in
+        startup_shown k r.number words (link_of l) p r.origin a (placed_region load r) (held r) (booted k c words n r at) (omega (arith, length, front, end)) startup_same
       where
         startup_same : held r (Startup words) ≡ startup_list (link_of l) p ++ zeros (4 * (words - length (table_list (copy_rows p) (zero_rows p) (entry_of (link_of l) p))))
         startup_same = let places = has_places plan in rw (places.copies, places.parts) refl
 
-    pub region_same : (load : ℕ) → linked.region_bytes (link_of l) p r.number (placed_region load r) ≡ image.region_bytes (filled g plan []) r
+    pub region_same : (load : ℕ) → linked.region_bytes (link_of l) p r.number (placed_region load r) ≡ image.region_bytes (filled g plan (front_of k)) r
     region_same load =
         let number : r.number ≡ 0 + n = number_at 0 rs (all_counted k c words) n r at in
         let own_area_list : area_pieces (link_of l) p r.number ≡ shown (held r) first =
         ap (filter_map piece) (own_part (λ a. a.region) areas_of areas_own 0 rs (all_counted k c words) n r at r.number number) ∙ areas_whole in
         let own_veneer_list : veneer_pieces p r.number ≡ shown (held r) second =
         ap (map (veneer_piece p)) (own_part (λ v. v.veneer.region) veneers_of veneers_own 0 rs (all_counted k c words) n r at r.number number) ∙ veneers_whole in
-        let pieces : area_pieces (link_of l) p r.number ++ (veneer_pieces p r.number ++ startup_piece (link_of l) p r.number (placed_region load r) p.boot) ≡ shown (held r) (stood r.origin r.base r.things) =
+        let rest : List Thing = before c r.number ++ startup_in k r.number words in
+        let pieces : area_pieces (link_of l) p r.number ++ (veneer_pieces p r.number ++ startup_piece (link_of l) p r.number (placed_region load r) p.boot) ≡ shown (held r) (stood r.origin behind rest) =
         rw (own_area_list, own_veneer_list, startup_whole load)
         (sym (append_assoc (shown (held r) first) (shown (held r) second) (shown (held r) third))
         ∙ ap (λ (ps : List linked.Piece). ps ++ shown (held r) third) (sym (map-append (λ s. (s.address, held r s.thing)) first second))
         ∙ sym (map-append (λ s. (s.address, held r s.thing)) (first ++ second) third)
-        ∙ ap (shown (held r)) (sym stood_things)) in
-        ap (linked.laid r.base) pieces ∙ laid_same (held r) r.origin r.base r.things (sized_region n r at)
+        ∙ ap (shown (held r)) (sym stood_behind)) in
+        let whole : r.things ≡ header_in k r.number ++ rest = things_are k c words r shape in
+        let sizes : AllByRecursion (λ t. length (held r t) ≡ size_of t) rest =
+        all_back (λ t. length (held r t) ≡ size_of t) (header_in k r.number) rest (subst (AllByRecursion (λ t. length (held r t) ≡ size_of t)) whole (sized_region n r at)) in
+        ap (λ (ps : List linked.Piece). linked.filled_up (length_of r) (linked.laid r.base ps)) pieces
+        ∙ headed_same (held r) r.origin r.base k r.number rest (length_of r) refl (ap (extent r.origin r.base) whole) sizes
+        ∙ ap (image.laid (held r) r.origin r.base) (sym whole)

@@ -245,7 +245,7 @@ module _ (k : Kind) (ram : Option (List Range32)) (l : Linked) (regions : List (
   abbrev pub IsSomewhere : Planned → Stood → Type 0
   IsSomewhere r s = IsWithin (IsLoaded os) r.base (zero_base_of r) s ⊎ IsWithin (IsCleared os) (zero_base_of r) (end_of r) s
 
-  somewhere : (n : ℕ) (r : Planned) → slice_get rs n ≡ Some r → AllByRecursion (IsSomewhere r) (stood_in r)
+  pub somewhere : (n : ℕ) (r : Planned) → slice_get rs n ≡ Some r → AllByRecursion (IsSomewhere r) (stood_in r)
   somewhere n r at =
       all_append (IsSomewhere r) (stood r.origin r.base r.things) (stood r.origin (zero_base_of r) r.zeros)
       (all_weaker (IsWithin (IsLoaded os) r.base (zero_base_of r)) (IsSomewhere r) (λ s x. inl x) (stood r.origin r.base r.things) (loaded n r at))

@@ -91,7 +91,7 @@ module _ (base : ℕ) (c : Contents) (items : List Item) (g : Given) (ram : Opti
   is_small : image_bytes p ≤ 2 ^ 24
   is_small = let most = small base true c items g ram a in let same = bytes_at to c ∙ sym (bytes_at base c) in omega (arith, most, same)
 
-  accepted_there : place_refusal k None p ≡ None
+  pub accepted_there : place_refusal k None p ≡ None
   accepted_there =
       let z0 = no_zero_0 in
       let z1 = no_zero_1 in

@@ -62,7 +62,7 @@ module _ (moving : Reloc → Bool) (by : ℕ) (p q : Placement) (v w : Values) (
   abbrev less : ℕ
   less = taken base rs
 
-  more_moves : added w rs ≡ more + by * moves
+  pub more_moves : added w rs ≡ more + by * moves
   more_moves = added_moves moving by v w rs values
 
   less_moves : taken (base + by) rs ≡ less + by * count_by is_relative rs
@@ -70,7 +70,7 @@ module _ (moving : Reloc → Bool) (by : ℕ) (p q : Placement) (v w : Values) (
 
   -- where as much is lost as is gained
   module _ (even : gains moving rs ≡ losses moving rs) where
-    even_less : taken (base + by) rs ≡ less + by * moves
+    pub even_less : taken (base + by) rs ≡ less + by * moves
     even_less =
         let counts = gained_and_lost moving rs in
         let same : count_by is_relative rs ≡ moves = omega (arith, counts, even) in
@@ -106,7 +106,7 @@ module _ (moving : Reloc → Bool) (by : ℕ) (p q : Placement) (v w : Values) (
         go None e = absurd cc
         go (Some y) e = let to : y + by + middle thumb - (base + by + f.place + ahead thumb) ≡ y + middle thumb - (base + f.place + ahead thumb) = omega arith in ap (with_span thumb old) to
 
-    total_stays : (old : ℕ) → total old (added w rs) (taken (base + by) rs) ≡ total old more less
+    pub total_stays : (old : ℕ) → total old (added w rs) (taken (base + by) rs) ≡ total old more less
     total_stays old = ap (λ z. total old z (taken (base + by) rs)) more_moves ∙ ap (λ z. total old (more + by * moves) z) even_less ∙ cancelled more less (by * moves)
       where
         cancelled : (a t x : ℕ) → total old (a + x) (t + x) ≡ total old a t

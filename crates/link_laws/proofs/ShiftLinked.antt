@@ -17,7 +17,7 @@ use Rattle.aof_object.specs.Checks.{is_placed, named_by}
 use Rattle.aof_object.specs.Objects.{exported}
 use Rattle.aof_object.specs.Validity.{IsReloc, IsSymbol, Lives, Holds as HoldsArea, IsValid, head_of, heads}
 use Rattle.patch_model.specs.Fields.{Kind, Branch, Values, field_of, kind_of, size_of, number_in, is_by_symbol, number_named, added, taken, directives}
-use Rattle.patch_model.specs.Patched.{way_of, is_branch}
+use Rattle.patch_model.specs.Patched.{way_of, is_branch, AreaPatched}
 use Rattle.place_model.proofs.ListLemmas.{all_at, all_indexed, none_given}
 use Rattle.link_model.specs.declared.placing.PlacedArea.{PlacedArea}
 use Rattle.link_model.specs.declared.placing.Placement.{Placement}
@@ -32,6 +32,9 @@ use Rattle.link_apply.specs.declared.flaws.Flaw.TheVariants.{Form}
 use Rattle.link_apply.specs.Flaws.{overlaps, is_of_itself, is_based, is_outside, has_bad_field, is_only, lacks_veneer, branch_flaw, way_flaw, veneer_of, goal_of, value_flaw, flaw_of, told, refusal_of, refusals_in, refusals_at, apply_refusal}
 use Rattle.link_apply.specs.PatchedBytes.{patched_bytes}
 use Rattle.link_values.specs.Shifts.{names_moving, gains, losses, word_shifts, image_base, has_bad_shifts, is_bad_branch, is_unmovable, unmovable, unmovable_in, unmovable_from, not_relocatable}
+use Rattle.link_apply.specs.Laws.{AreBytes}
+use Rattle.link_apply.specs.Placed.{veneers_at}
+use Rattle.link_apply.proofs.AreaLemmas.{without_flaw, fit_law}
 use Rattle.link_apply.proofs.FieldLemmas.{none_of}
 use Rattle.link_apply.proofs.ListLemmas.{any_none}
 use Rattle.link_laws.specs.AifJoins.{shift_between, shifted_words}
@@ -40,6 +43,7 @@ use Rattle.link_laws.proofs.ListLemmas.{each_at}
 use Rattle.link_laws.proofs.ItemLemmas.{area_valid}
 use Rattle.link_laws.proofs.ShiftSums.{IsMovedIn}
 use Rattle.link_laws.proofs.ShiftAreas.{first_found}
+use Rattle.link_laws.proofs.ShiftFits.{fit_there}
 use Rattle.link_laws.proofs.ShiftPatched.{MayMove, patched_shifts}
 use Rattle.link_laws.proofs.ShiftPlacement.{moved_area, moved_placement, find_area_moves, base_moves}
 use Rattle.link_laws.proofs.ShiftValues.{names_same, image_moves, reloc_moves}
@@ -295,6 +299,19 @@ module _ (l : Linked) (p : Placement) (w : IsWholeImage l p) where
             stored_whole : (b : Bool) (n size : ℕ) → n ≡ (if b then 0 else size) → size % 4 ≡ 0 → n % 4 ≡ 0
             stored_whole true n size e h = omega (arith, e)
             stored_whole false n size e h = omega (arith, e, h)
+
+        -- there too its fields are patched as its directives ask
+        pub area_fits : AreBytes a.bytes → AreaPatched a.relocs a.bytes (at.address + to) (values to) (veneers_at (moved_placement to p) at.region)
+            (patched_bytes (moved_placement to p) (values to) at.region (at.address + to) a)
+        area_fits bytes =
+            fit_law (moved_placement to p) (values to) at.region (at.address + to) area a bytes (λ k r reloc_at.
+            fit_there (names_moving (link_of l) p own) base to p q (moved_placement to p) (values_in (link_of l) p own) (values base) (values to)
+            (image_moves base (link_of l) p w.boot (homes_move base) own) (image_moves to (link_of l) p w.boot (homes_move to) own) at.region at.address a low
+            (relocs_move base own o here area a there) (relocs_move to own o here area a there) area r
+            (all_at (MayMove (names_moving (link_of l) p own) base to p q (moved_placement to p) (values_in (link_of l) p own) (values base) (values to)
+            (image_moves base (link_of l) p w.boot (homes_move base) own) (image_moves to (link_of l) p w.boot (homes_move to) own) at.region at.address a low
+            (relocs_move base own o here area a there) (relocs_move to own o here area a there)) a.relocs k r may_move reloc_at)
+            (without_flaw q (values base) at.region (at.address + base) area a k r bytes reloc_at (no_flaw k r reloc_at)))
 
         -- its bytes are shifted
         pub area_shifts : area_given (link_of l) (moved_placement to p) own area

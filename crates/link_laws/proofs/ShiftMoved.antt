@@ -2,11 +2,9 @@
 use Rattle.std.proofs.Common.{◌≡◌, ℕ, ◌+◌, ◌-◌, ◌%◌, ◌^◌, ◌<◌, ◌≤◌, Bool, true, false, not, List, [], ◌∷◌, length, map, refl, sym, ap, subst, ◌∙◌, arith, codes, Option, Some, None}
 use Rattle.std.specs.Prelude.{slice_get, sum_by}
 use Rattle.std.specs.List.{AllByRecursion}
-use Rattle.std.specs.Option.{option_map}
-use Rattle.base_lemmas.proofs.BaseLemmas.{all_weaker, same}
+use Rattle.base_lemmas.proofs.BaseLemmas.{all_weaker}
 use Rattle.sdt_word.specs.declared.ranges.Range32.{Range32}
 use Rattle.patch_model.specs.Fields.{Home}
-use Rattle.patch_model.specs.Reaches.{HasVeneer}
 use Rattle.place_model.specs.declared.scatter.Kind.{Kind}
 use Rattle.place_model.specs.declared.scatter.Kind.TheVariants as kind
 use Rattle.place_model.specs.declared.scatter.Choice.TheVariants as choice
@@ -29,25 +27,22 @@ use Rattle.link_model.specs.declared.selection.Linked.{Linked}
 use Rattle.link_model.specs.Members.{link_of, objects_in}
 use Rattle.link_model.specs.RegionValues.{region_number}
 use Rattle.link_model.specs.Veneers.{veneers_of, IsIn}
-use Rattle.link_model.proofs.NeedLemmas.{veneers_law}
 use Rattle.link_items.specs.LinkedItems.{contents_of}
 use Rattle.link_place.specs.Placed.{placement_of}
-use Rattle.link_apply.specs.Placed.{veneers_at, target_in}
 use Rattle.link_values.specs.Shifts.{image_base, shifts_at, shifts_of, not_relocatable}
-use Rattle.link_laws.specs.AifJoins.{moved_region, shift_between, shifted_words, placement_at, LeadsNear, VeneersReach, filled_at, BytesMove}
+use Rattle.link_laws.specs.AifJoins.{moved_region, shift_between, shifted_words, placement_at, filled_at, BytesMove}
 use Rattle.link_laws.specs.Joins.{IsMade, given_in}
-use Rattle.link_laws.specs.Placing.{bases_of, IsPlacedLink, IsVeneerApplied}
+use Rattle.link_laws.specs.Placing.{IsPlacedLink}
 use Rattle.link_laws.proofs.ItemLemmas.{IsOwn, items_own, own_whole}
-use Rattle.link_laws.proofs.MadeAddressLemmas.{veneers_there}
-use Rattle.link_laws.proofs.MadeAppliedLemmas.{places, made_is_applied}
+use Rattle.link_laws.proofs.MadeAppliedLemmas.{made_is_applied}
 use Rattle.link_laws.proofs.MadePlacedLemmas.{are_needed}
-use Rattle.link_laws.proofs.MadeVeneerLemmas.{veneer_to, AreOnce, IsPlanned, things_planned, things_apart, all_stood, is_first}
+use Rattle.link_laws.proofs.MadeVeneerLemmas.{veneer_to, IsPlanned, things_planned, all_stood}
 use Rattle.link_laws.proofs.PlacedLemmas.{IsLoaded, IsCleared, loaded, cleared, shaped}
 use Rattle.link_laws.proofs.RegionLemmas.{IsShaped, things_all, header_all, IsWithin}
 use Rattle.link_laws.proofs.ShiftLinked.{IsWholeImage}
-use Rattle.link_laws.proofs.ShiftNeeds.{target_there, reach_there}
+use Rattle.link_laws.proofs.ShiftNeeds.{target_there}
 use Rattle.link_laws.proofs.ShiftPlaced.{aif_placement, is_placed_link, is_moved, whole_image}
-use Rattle.link_laws.proofs.ShiftPlacement.{moved_placement, veneers_move}
+use Rattle.link_laws.proofs.ShiftPlacement.{moved_placement}
 use Rattle.link_laws.proofs.ShiftPlans.{plan_law, regions_move}
 use Rattle.link_laws.proofs.ShiftSpread.{laid_moves, IsInside, IsShiftedThing, laid_shifted, each_thing, AreFrom, IsInsideRegion, each_region}
 use Rattle.link_laws.proofs.ShiftThings.{count_of, counted_all, area_inside, area_shifted, veneer_inside, veneer_counted}
@@ -113,15 +108,6 @@ module _ (base : ℕ) (ram : Option (List Range32)) (l : Linked) (a : Assigned) 
     no_startup = things_all (λ t. is_startup t ≡ false) k c 0 r shape (header_all (λ t. is_startup t ≡ false) k r.number refl) tt (λ t b. refl)
         (all_indexed (λ x. not (is_zero_initialised x) ≡ true → is_startup (AnArea x) ≡ false) (areas_in c r.number) (λ j x there e. refl))
 
-    -- the first veneer of a target is the only one
-    veneer_stands : (i : ℕ) (s : Stood) (target : Home) (thumb : Bool) → slice_get (stood r.origin r.base r.things) i ≡ Some s → s.thing ≡ AVeneer target thumb
-        → veneers_at q r.number target thumb ≡ Some s.address
-    veneer_stands i s target thumb there is =
-        let once : AreOnce vs = subst AreOnce (sym (are_needed k ram l a vs q made)) (veneers_law (link_of l) a.regions true).once in
-        let apart = things_apart l.objects a.regions vs r.number k 0 r shape refl once in
-        let own : q ≡ placement_of plan = ap (moved_placement base) at_0 ∙ sym (aif_placement base c) in
-        ap (λ (z : Placement). veneers_at z r.number target thumb) own ∙ veneers_there k c n r at target thumb ∙ is_first r apart i s target thumb there is
-
     cleared_inside : AllByRecursion (IsInside count) (stood r.origin (zero_base_of r) r.zeros)
     cleared_inside =
         all_weaker (IsWithin (IsCleared l.objects) (zero_base_of r) (end_of r)) (IsInside count) (λ s x. by s.thing s.address x.holds) (stood r.origin (zero_base_of r) r.zeros) (cleared k ram l a.regions vs placed_link n r at)
@@ -171,7 +157,7 @@ module _ (base : ℕ) (ram : Option (List Range32)) (l : Linked) (a : Assigned) 
 
   -- ---- at another base
 
-  module _ (to : ℕ) (reach : VeneersReach (moved_placement to p0)) (header : List ℕ) (headed : length header ≡ 128) where
+  module _ (to : ℕ) (header : List ℕ) (headed : length header ≡ 128) where
     abbrev here : Filling
     here = filled_at base l a vs q header
 
@@ -188,34 +174,14 @@ module _ (base : ℕ) (ram : Option (List Range32)) (l : Linked) (a : Assigned) 
     sized = applied_are_sized k ram l a.regions vs (region_number (objects_in l.objects) q) (given_in (link_of l) q) header placed_link (made_is_applied k ram l a vs q made) headed
 
     module _ (n : ℕ) (r : Planned) (at : slice_get rs n ≡ Some r) where
-      veneer_fine : (target : Home) (thumb : Bool) (address : ℕ) → IsIn vs (veneer_to r.number target thumb) → veneers_at q r.number target thumb ≡ Some address
-          → IsVeneerApplied plan (given_in (link_of l) q) r address (AVeneer target thumb)
+      veneer_fine : (target : Home) (thumb : Bool) (address : ℕ) → IsIn vs (veneer_to r.number target thumb)
           → there r (AVeneer target thumb) ≡ shifted_words by (count (record { thing = AVeneer target thumb; address = address })) address (here r (AVeneer target thumb))
-      veneer_fine target thumb address planned stands applied =
+      veneer_fine target thumb address planned =
           let needed : IsIn (veneers_of (link_of l) a.regions true) (veneer_to r.number target thumb) = subst (λ (ws : List Veneer). IsIn ws (veneer_to r.number target thumb)) (are_needed k ram l a vs q made) planned in
           let placed = target_there l p0 w made.entered a.regions true (veneer_to r.number target thumb) needed in
-          veneer_shifts p0 r.number target base to low placed (link_of l) thumb address stands (near thumb applied) (λ v e. far (veneers_at p0 r.number target thumb) refl v e)
+          veneer_shifts p0 r.number target base to low placed (link_of l) thumb
           ∙ shifted_same by (own_shifts thumb) (count (record { thing = AVeneer target thumb; address = address })) 0 address ((given_in (link_of l) q).veneer r.number target thumb)
           (λ i lt. veneer_counted (link_of l) q target thumb address i)
-        where
-          near : (b : Bool) → HasVeneer address ((bases_of plan target.object target.area + target.offset) % 2 ^ 32) b ((given_in (link_of l) q).veneer r.number target b)
-              → LeadsNear b address (target_in q target)
-          near true h = tt
-          near false h =
-              let goal : target_in q target ≡ (bases_of plan target.object target.area + target.offset) % 2 ^ 32 =
-              ap (λ z. (z + target.offset) % 2 ^ 32) ((places k ram l a vs q made).bases target.object target.area) in
-              let leads = h.leads in
-              subst (λ z. address + 4 + 8 ≤ z + 2 ^ 25) (sym goal) (omega (arith, leads))
-
-          far : (o : Option ℕ) → veneers_at p0 r.number target thumb ≡ o → (v : ℕ) → v + base ≡ address + to → LeadsNear thumb v (target_in (moved_placement to p0) target)
-          far None e v same_place =
-              let none : veneers_at q r.number target thumb ≡ None = veneers_move base p0 r.number target thumb ∙ ap (option_map (λ z. z + base)) e in
-              absurd cc
-          far (Some y) e v same_place =
-              let first : veneers_at q r.number target thumb ≡ Some (y + base) = veneers_move base p0 r.number target thumb ∙ ap (option_map (λ z. z + base)) e in
-              let own : y + base ≡ address = same (y + base) address (sym first ∙ stands) in
-              let place : y + to ≡ v = omega (arith, own, same_place) in
-              reach_there (moved_placement to p0) r.number target thumb v reach (veneers_move to p0 r.number target thumb ∙ ap (option_map (λ z. z + to)) e ∙ ap Some place)
 
       things : AllByRecursion (IsShiftedThing count by (here r) (there r)) (stood r.origin r.base r.things)
       things = all_indexed (IsShiftedThing count by (here r) (there r)) (stood r.origin r.base r.things) (λ i s known.
@@ -226,28 +192,24 @@ module _ (base : ℕ) (ram : Option (List Range32)) (l : Linked) (a : Assigned) 
           (all_stood (λ t. length (here r t) ≡ size_of t) r.origin r.base r.things (all_at (λ z. AllByRecursion (λ t. length (here z t) ≡ size_of t) z.things) rs n r sized at)) known)
           (all_at (λ z. is_startup z.thing ≡ false) (stood r.origin r.base r.things) i s (all_stood (λ t. is_startup t ≡ false) r.origin r.base r.things (no_startup n r at)) known)
           (all_at (λ z. IsPlanned l.objects a.regions vs r.number z.thing) (stood r.origin r.base r.things) i s
-          (all_stood (IsPlanned l.objects a.regions vs r.number) r.origin r.base r.things (things_planned l.objects a.regions vs r.number k 0 r (shape n r at) refl)) known)
-          (λ target thumb is. veneer_stands n r at i s target thumb known is)
-          (all_at (λ z. IsVeneerApplied plan (given_in (link_of l) q) r z.address z.thing) (stood r.origin r.base r.things) i s
-          (all_at (λ z. AllByRecursion (λ y. IsVeneerApplied plan (given_in (link_of l) q) z y.address y.thing) (stood z.origin z.base z.things)) rs n r (made_is_applied k ram l a vs q made).veneers at) known))
+          (all_stood (IsPlanned l.objects a.regions vs r.number) r.origin r.base r.things (things_planned l.objects a.regions vs r.number k 0 r (shape n r at) refl)) known))
         where
           fine : (t : Thing) (address : ℕ) → IsInside count (record { thing = t; address = address }) → IsLoaded l.objects t → length (here r t) ≡ size_of t → is_startup t ≡ false
-              → IsPlanned l.objects a.regions vs r.number t → ((target : Home) (thumb : Bool) → t ≡ AVeneer target thumb → veneers_at q r.number target thumb ≡ Some address)
-              → IsVeneerApplied plan (given_in (link_of l) q) r address t → IsShiftedThing count by (here r) (there r) (record { thing = t; address = address })
-          fine Header address ins own size begun planned stands applied =
+              → IsPlanned l.objects a.regions vs r.number t → IsShiftedThing count by (here r) (there r) (record { thing = t; address = address })
+          fine Header address ins own size begun planned =
               record { inside = ins; whole = whole_header; size = size; shifted = sym (shifted_none by (λ x. 0) address header (λ i lt. refl)) }
-          fine (Startup words) address ins own size begun planned stands applied = absurd cc
-          fine (AnArea i) address ins own size begun planned stands applied = record {
+          fine (Startup words) address ins own size begun planned = absurd cc
+          fine (AnArea i) address ins own size begun planned = record {
             inside = ins;
             whole = whole_area i (own_whole l.objects made.valid i own.0);
             size = size;
             shifted = area_shifted l p0 w base made.sound fair i address to low own.0;
           }
-          fine (AVeneer target thumb) address ins own size begun planned stands applied = record {
+          fine (AVeneer target thumb) address ins own size begun planned = record {
             inside = ins;
             whole = whole_veneer target thumb;
             size = size;
-            shifted = veneer_fine target thumb address planned (stands target thumb refl) applied;
+            shifted = veneer_fine target thumb address planned;
           }
 
       region_shifted : laid (there r) r.origin r.base r.things ≡ shifted_words by (shifts_at (link_of l) q) r.base (laid (here r) r.origin r.base r.things)
@@ -339,12 +301,9 @@ module _ (base : ℕ) (ram : Option (List Range32)) (l : Linked) (a : Assigned) 
   no_header_shifts offset lt =
       ap (λ (z : Placement). shifts_of (link_of l) z offset) is_at ∙ header_stays base ram l a vs at_zero refl made_there whole_there fair_there offset lt
 
-  module _ (to : ℕ) (reach : VeneersReach (placement_at to l a vs)) (header : List ℕ) (headed : length header ≡ 128) where
+  module _ (to : ℕ) (header : List ℕ) (headed : length header ≡ 128) where
     other_at : placement_at to l a vs ≡ moved_placement to at_zero
     other_at = aif_placement to (contents_of l.objects a.regions vs)
-
-    reach_at : VeneersReach (moved_placement to at_zero)
-    reach_at = subst VeneersReach other_at reach
 
     abbrev Things : Placement → Placement → Type 0
     Things z y =
@@ -355,7 +314,7 @@ module _ (base : ℕ) (ram : Option (List Range32)) (l : Linked) (a : Assigned) 
     pub moved_things : Things p (placement_at to l a vs)
     moved_things =
         subst (λ (z : Placement). Things z (placement_at to l a vs)) (sym is_at)
-        (subst (λ (y : Placement). Things (moved_placement base at_zero) y) (sym other_at) (all_things base ram l a vs at_zero refl made_there whole_there fair_there to reach_at header headed))
+        (subst (λ (y : Placement). Things (moved_placement base at_zero) y) (sym other_at) (all_things base ram l a vs at_zero refl made_there whole_there fair_there to header headed))
 
     abbrev Regions : Placement → Placement → Type 0
     Regions z y =
@@ -366,11 +325,11 @@ module _ (base : ℕ) (ram : Option (List Range32)) (l : Linked) (a : Assigned) 
     pub moved_regions : Regions p (placement_at to l a vs)
     moved_regions =
         subst (λ (z : Placement). Regions z (placement_at to l a vs)) (sym is_at)
-        (subst (λ (y : Placement). Regions (moved_placement base at_zero) y) (sym other_at) (regions_shifted base ram l a vs at_zero refl made_there whole_there fair_there to reach_at header headed))
+        (subst (λ (y : Placement). Regions (moved_placement base at_zero) y) (sym other_at) (regions_shifted base ram l a vs at_zero refl made_there whole_there fair_there to header headed))
 
 pub bytes_law : BytesMove
 bytes_law = record {
-  things = λ base to ram l a vs p header m headed. moved_things base ram l a vs p m.made m.movable to m.reach header headed;
-  regions = λ base to ram l a vs p header m headed. moved_regions base ram l a vs p m.made m.movable to m.reach header headed;
+  things = λ base to ram l a vs p header m headed. moved_things base ram l a vs p m.made m.movable to header headed;
+  regions = λ base to ram l a vs p header m headed. moved_regions base ram l a vs p m.made m.movable to header headed;
   header = λ base ram l a vs p made fair offset lt. no_header_shifts base ram l a vs p made fair offset lt;
 }

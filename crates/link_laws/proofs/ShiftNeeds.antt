@@ -1,10 +1,10 @@
 -- The targets of veneers stand in areas that are placed.
-use Rattle.std.proofs.Common.{◌≡◌, inl, inr, ℕ, zero, suc, ◌+◌, ◌<◌, Bool, true, false, not, ◌&&◌, ◌==◌, if◌then◌else◌, List, [], ◌∷◌, refl, sym, ap, subst, ◌∙◌, eqb-true, Option, Some, None}
+use Rattle.std.proofs.Common.{◌≡◌, inl, inr, ℕ, zero, suc, ◌+◌, ◌<◌, Bool, true, false, ◌&&◌, if◌then◌else◌, List, [], ◌∷◌, refl, sym, ap, subst, ◌∙◌, Option, Some, None}
 use Rattle.std.specs.Prelude.{slice_get, is_some, IsSomeAnd}
 use Rattle.std.specs.List.{find}
 use Rattle.std.specs.Option.{option_map}
 use Rattle.std.proofs.lemmas.Option.{slice_get-map}
-use Rattle.base_lemmas.proofs.BaseLemmas.{both_true, same}
+use Rattle.base_lemmas.proofs.BaseLemmas.{same}
 use Rattle.aof_object.specs.declared.areas.AreaHead.{AreaHead}
 use Rattle.aof_object.specs.declared.records.Area.{Area}
 use Rattle.aof_object.specs.declared.records.Reloc.{Reloc}
@@ -15,7 +15,6 @@ use Rattle.patch_model.specs.Fields.{Kind as FieldKind, Byte, Half, Word, Branch
 use Rattle.patch_model.specs.Patched.{total, span, middle, ahead, Directly, ByVeneer, first_symbol, other_state, way_home, way_to, way_of}
 use Rattle.place_model.proofs.ListLemmas.{all_at}
 use Rattle.link_model.specs.declared.placing.AreaName.{AreaName}
-use Rattle.link_model.specs.declared.placing.PlacedVeneer.{PlacedVeneer}
 use Rattle.link_model.specs.declared.placing.Placement.{Placement}
 use Rattle.link_model.specs.declared.placing.Veneer.{Veneer}
 use Rattle.link_model.specs.declared.selection.Linked.{Linked}
@@ -25,10 +24,7 @@ use Rattle.link_model.specs.Values.{Bases, home_area, meant_at, meant_of, meant_
 use Rattle.link_model.specs.Veneers.{is_alone, has_branch, veneer_by, values_apart, needed_as, needed_by, needed_by_header, veneers_of, IsIn, IsNeeded}
 use Rattle.link_model.proofs.NeedLemmas.{veneers_law}
 use Rattle.link_values.specs.Placed.{is_area}
-use Rattle.link_apply.specs.Placed.{leads_to, veneers_at, target_in}
-use Rattle.link_laws.specs.AifJoins.{home_of, LeadsNear, VeneersReach}
 use Rattle.link_laws.specs.Joins.{IsEntryOf}
-use Rattle.link_laws.proofs.ShiftAreas.{first_found}
 use Rattle.link_laws.proofs.ShiftLinked.{IsWholeImage, home_there}
 
 -- ---- homes
@@ -101,7 +97,7 @@ of_branch l region name a r v h = go (kind_of r) h
 -- ---- those that are needed
 
 module _ (l : Linked) (p : Placement) (w : IsWholeImage l p) (entered : IsEntryOf l) where
-  entry_there : is_some (find (is_area l.entry.object l.entry.area) p.areas) ≡ true
+  pub entry_there : is_some (find (is_area l.entry.object l.entry.area) p.areas) ≡ true
   entry_there =
       let valid : IsValid entered.object.value = all_at (λ q. IsValid q.value) l.objects l.entry.object entered.object w.valid entered.at in
       let is : IsEntered (heads entered.object.value.areas) (Some (record { area = l.entry.area; offset = l.entry.offset })) = subst (IsEntered (heads entered.object.value.areas)) entered.entry valid.entry in
@@ -138,32 +134,3 @@ module _ (l : Linked) (p : Placement) (w : IsWholeImage l p) (entered : IsEntryO
           let home = homed (link_of l) (λ other area. 0) (meaning_at (link_of l) (λ q. None) b.name.object own.number) own.home own.there in
           ap (λ n. is_some (find (is_area n v.area.area) p.areas)) own.object ∙ ap (λ n. is_some (find (is_area own.home.object n) p.areas)) own.area
           ∙ home_there l p w own.home.object home.number home.symbol own.home.area home.at home.area
-
--- ---- those that reach their targets
-
-pub reach_there : (q : Placement) (region : ℕ) (target : Home) (thumb : Bool) (v : ℕ) → VeneersReach q → veneers_at q region target thumb ≡ Some v → LeadsNear thumb v (target_in q target)
-reach_there q region target thumb v reach stands = go (find (λ z. leads_to region target thumb z.veneer) q.veneers) refl stands
-  where
-    same_state : (a b : Bool) → not (other_state a b) ≡ true → a ≡ b
-    same_state true true e = refl
-    same_state true false e = absurd cc
-    same_state false true e = absurd cc
-    same_state false false e = refl
-
-    go : (o : Option PlacedVeneer) → find (λ z. leads_to region target thumb z.veneer) q.veneers ≡ o → option_map (λ z. z.address) o ≡ Some v → LeadsNear thumb v (target_in q target)
-    go None e h = absurd cc
-    go (Some z) e h =
-        let f = first_found (λ y. leads_to region target thumb y.veneer) q.veneers z e in
-        let one = both_true (z.veneer.region == region) _ f.passes in
-        let two = both_true (z.veneer.area.object == target.object) _ one.1 in
-        let three = both_true (z.veneer.area.area == target.area) _ two.1 in
-        let four = both_true (z.veneer.offset == target.offset) (not (other_state z.veneer.thumb thumb)) three.1 in
-        let object = eqb-true z.veneer.area.object target.object two.0 in
-        let area = eqb-true z.veneer.area.area target.area three.0 in
-        let offset = eqb-true z.veneer.offset target.offset four.0 in
-        let home : home_of z.veneer ≡ target = λ i. record { object = object i; area = area i; offset = offset i } in
-        let state = same_state z.veneer.thumb thumb four.1 in
-        let address : z.address ≡ v = same z.address v h in
-        let own : LeadsNear z.veneer.thumb z.address (target_in q (home_of z.veneer)) = all_at (λ y. LeadsNear y.veneer.thumb y.address (target_in q (home_of y.veneer))) q.veneers f.number z reach f.there in
-        subst (λ (n : ℕ). LeadsNear thumb n (target_in q target)) address
-        (subst (λ (t : Home). LeadsNear thumb z.address (target_in q t)) home (subst (λ (b : Bool). LeadsNear b z.address (target_in q (home_of z.veneer))) state own))

@@ -21,7 +21,7 @@ use Rattle.link_laws.proofs.ShiftAreas.{IsFound, first_found, filter_none, equal
 
 -- ---- what may be moved
 
-even_or_word : (kind : Kind) (offset more less : ℕ) → has_bad_shifts kind offset more less ≡ false → (more ≡ less) ⊎ ((kind ≡ Word) × (offset % 4 ≡ 0) × (less < more))
+pub even_or_word : (kind : Kind) (offset more less : ℕ) → has_bad_shifts kind offset more less ≡ false → (more ≡ less) ⊎ ((kind ≡ Word) × (offset % 4 ≡ 0) × (less < more))
 even_or_word Byte offset more less h = inl (eqb-true more less (not-false (more == less) h))
 even_or_word Half offset more less h = inl (eqb-true more less (not-false (more == less) h))
 even_or_word (Branch thumb) offset more less h = inl (eqb-true more less (not-false (more == less) h))
@@ -57,10 +57,10 @@ module _ (moving : Reloc → Bool) (b c : ℕ) (p q r : Placement) (v w u : Valu
   abbrev shifts : ℕ → ℕ
   shifts place = word_shifts moving a.relocs place
 
-  own_values : (f : Field) → AllByRecursion (IsMovedIn moving b v w) (rs f)
+  pub own_values : (f : Field) → AllByRecursion (IsMovedIn moving b v w) (rs f)
   own_values f = all_filter (IsMovedIn moving b v w) (is_field f) a.relocs values
 
-  own_others : (f : Field) → AllByRecursion (IsMovedIn moving c v u) (rs f)
+  pub own_others : (f : Field) → AllByRecursion (IsMovedIn moving c v u) (rs f)
   own_others f = all_filter (IsMovedIn moving c v u) (is_field f) a.relocs others
 
   lacks_same : (way : Way) → lacks_veneer q region way ≡ lacks_veneer p region way
@@ -81,13 +81,13 @@ module _ (moving : Reloc → Bool) (b c : ℕ) (p q r : Placement) (v w u : Valu
         sym (lacks_same (way_of base v a.bytes f thumb (rs f)))
         ∙ ap (lacks_veneer q region) (sym (way_moves moving b p q v w first region base a.bytes f (rs f) (own_values f) even thumb)) ∙ m.way thumb e
 
-    first_way : (kind : Kind) → f.kind ≡ kind → HasWay moving b p q v w first region base a.bytes f (rs f) (own_values f) even kind
+    pub first_way : (kind : Kind) → f.kind ≡ kind → HasWay moving b p q v w first region base a.bytes f (rs f) (own_values f) even kind
     first_way Byte e = tt
     first_way Half e = tt
     first_way Word e = tt
     first_way (Branch thumb) e = has_here thumb e
 
-    second_way : (kind : Kind) → f.kind ≡ kind → HasWay moving c p r v u second region base a.bytes f (rs f) (own_others f) even kind
+    pub second_way : (kind : Kind) → f.kind ≡ kind → HasWay moving c p r v u second region base a.bytes f (rs f) (own_others f) even kind
     second_way Byte e = tt
     second_way Half e = tt
     second_way Word e = tt

@@ -117,7 +117,8 @@ absolute_number : listed (with (reloc 4 0x8A000000)) [] ≡ []
 absolute_number = refl
 
 -- ---- a branch of Thumb code to ARM code behind the image: by f + 0x1000 it goes by a veneer, whose own branch reaches from
--- 0x8000; where the image ends near the end of memory, the target's address begins anew at 0, so that it doesn't
+-- 0x8000; where the image ends near the end of memory, the target's address begins anew at 0, and it reaches that too. A link
+-- at that base is refused, since there it is judged without wrapping
 
 abbrev behind_image : Linked
 behind_image =
@@ -145,7 +146,7 @@ behind_image-veneer = refl
 behind_image-moved : (given_in (link_of behind_image) (behind_at 0xFFFFE000)).veneer 0 behind_f false ≡ bytes_of_words (0x46C04778 ∷ 0xEA0003FC ∷ [])
 behind_image-moved = refl
 
-behind_image-far : (given_in (link_of behind_image) (behind_at 0xFFFFF000)).veneer 0 behind_f false ≡ bytes_of_words (0x46C04778 ∷ 0xEA800000 ∷ [])
+behind_image-far : (given_in (link_of behind_image) (behind_at 0xFFFFF000)).veneer 0 behind_f false ≡ bytes_of_words (0x46C04778 ∷ 0xEA0003FC ∷ [])
 behind_image-far = refl
 
 behind_image-refused : apply_refusal behind_image (behind_at 0xFFFFF000) ≡ Some (Unreachable (codes "o") (codes "A") 0 (codes "f"))

@@ -86,7 +86,7 @@ module _ (base : ℕ) (ram : Option (List Range32)) (l : Linked) (a : Assigned) 
 
   shown_at : (to : ℕ) → HasRoomAt file parts cleared to → ShowsImage file parts cleared base offsets to (view to)
   shown_at to r =
-      moved_image_shows base to ram l a vs p items offset (view to) (record { made = m.made; movable = m.movable; reach = m.reach to r }) m.image r.whole r.zero_room (m.shows to r)
+      moved_image_shows base to ram l a vs p items offset (view to) (record { made = m.made; movable = m.movable }) m.image r.whole r.zero_room (m.shows to r)
 
   loadable : (to : ℕ) → HasRoomAt file parts cleared to → IsLoadable file parts cleared base offset offsets to (view to)
   loadable to r =

@@ -1,19 +1,19 @@
 -- The bytes of veneers where the image is moved.
-use Rattle.std.proofs.Common.{◌≡◌, ℕ, ◌+◌, ◌-◌, ◌*◌, ◌/◌, ◌%◌, ◌^◌, ◌≤◌, Bool, true, false, ◌&&◌, ◌==◌, List, [], ◌++◌, refl, sym, ap, subst, ◌∙◌, arith, Option, Some, None}
+use Rattle.std.proofs.Common.{◌≡◌, ℕ, ◌+◌, ◌-◌, ◌*◌, ◌/◌, ◌%◌, ◌^◌, ◌≤◌, Bool, true, false, ◌&&◌, ◌==◌, List, [], ◌++◌, refl, sym, ap, ◌∙◌, arith, Option, Some, None}
 use Rattle.std.specs.Prelude.{is_some}
 use Rattle.std.specs.List.{find}
 use Rattle.std.specs.Option.{option_map, option_map_or}
-use Rattle.base_lemmas.proofs.BaseLemmas.{same}
 use Rattle.sdt_word.specs.Bytes.{bytes_of, number_of}
 use Rattle.sdt_word.specs.Numbers.{flag}
 use Rattle.sdt_word.proofs.BytesLemmas.{number_of-bytes_of}
 use Rattle.patch_model.specs.Fields.{Home}
+use Rattle.patch_model.specs.Patched.{total}
 use Rattle.link_model.specs.declared.placing.Placement.{Placement}
 use Rattle.link_model.specs.Members.{Link}
 use Rattle.link_values.specs.Placed.{is_area, base_in}
 use Rattle.link_apply.specs.PatchedBytes.{veneer_bytes}
 use Rattle.link_apply.specs.Placed.{veneers_at, target_in}
-use Rattle.link_laws.specs.AifJoins.{shift_between, shifted_words, LeadsNear}
+use Rattle.link_laws.specs.AifJoins.{shift_between, shifted_words}
 use Rattle.link_laws.specs.Joins.{given_in}
 use Rattle.link_laws.proofs.ShiftWords.{shifted_none}
 use Rattle.link_laws.proofs.ShiftPlacement.{moved_placement, base_moves, veneers_move}
@@ -24,10 +24,9 @@ use Rattle.link_laws.proofs.ShiftPlacement.{moved_placement, base_moves, veneers
 target_moves : (x o b c : ℕ) → b ≤ 2 ^ 32 → ((x + c + o) % 2 ^ 32 + 1) % 2 ^ 32 ≡ (((x + b + o) % 2 ^ 32 + 1) % 2 ^ 32 + (c + 2 ^ 32 - b) % 2 ^ 32 * 1) % 2 ^ 32
 target_moves x o b c low = omega arith
 
--- the branch's field, where the target is near
-field_moves : (x o b c y : ℕ) → y + b + 4 + 8 ≤ (x + b + o) % 2 ^ 32 + 2 ^ 25 → y + c + 4 + 8 ≤ (x + c + o) % 2 ^ 32 + 2 ^ 25
-    → (((x + c + o) % 2 ^ 32 + 2 ^ 25 - (y + c + 4 + 8)) / 4 + 2 ^ 23) % 2 ^ 24 ≡ (((x + b + o) % 2 ^ 32 + 2 ^ 25 - (y + b + 4 + 8)) / 4 + 2 ^ 23) % 2 ^ 24
-field_moves x o b c y here there = omega (arith, here, there)
+-- the branch's displacement
+branch_moves : (x o b c y : ℕ) → total ((x + c + o) % 2 ^ 32) (2 ^ 25) (y + c + 4 + 8) ≡ total ((x + b + o) % 2 ^ 32) (2 ^ 25) (y + b + 4 + 8)
+branch_moves x o b c y = omega arith
 
 -- ---- one veneer
 
@@ -54,46 +53,34 @@ module _ (p : Placement) (region : ℕ) (target : Home) (b c : ℕ) (low : b ≤
       ap (λ z. (z + 1) % 2 ^ 32) after ∙ target_moves x target.offset b c low ∙ ap (λ z. ((z + 1) % 2 ^ 32 + shift_between b c * 1) % 2 ^ 32) (sym here) in
       ap (λ z. bytes_of 0xE59FC000 4 ++ bytes_of 0xE12FFF1C 4 ++ bytes_of z 4) (value ∙ ap (λ z. (z + shift_between b c * 1) % 2 ^ 32) (sym number))
 
-  arm_bytes : (y : ℕ) → LeadsNear false (y + b) (target_in (moved_placement b p) target) → LeadsNear false (y + c) (target_in (moved_placement c p) target)
-      → veneer_bytes (y + c) (target_in (moved_placement c p) target) false ≡ veneer_bytes (y + b) (target_in (moved_placement b p) target) false
-  arm_bytes y one two =
-      let here = target_at b in
-      let after = target_at c in
-      let low_b : y + b + 4 + 8 ≤ (x + b + target.offset) % 2 ^ 32 + 2 ^ 25 = subst (λ n. y + b + 4 + 8 ≤ n + 2 ^ 25) here one in
-      let low_c : y + c + 4 + 8 ≤ (x + c + target.offset) % 2 ^ 32 + 2 ^ 25 = subst (λ n. y + c + 4 + 8 ≤ n + 2 ^ 25) after two in
-      let Bytes : ℕ → List ℕ = λ field. bytes_of 0x4778 2 ++ bytes_of 0x46C0 2 ++ bytes_of (0xEA000000 / 2 ^ 24 * 2 ^ 24 + field) 4 in
-      ap (λ (t : ℕ). Bytes (((t + 2 ^ 25 - (y + c + 4 + 8)) / 4 + 2 ^ 23) % 2 ^ 24)) after
-      ∙ ap Bytes (field_moves x target.offset b c y low_b low_c)
-      ∙ ap (λ (t : ℕ). Bytes (((t + 2 ^ 25 - (y + b + 4 + 8)) / 4 + 2 ^ 23) % 2 ^ 24)) (sym here)
+  arm_bytes : (y : ℕ) → veneer_bytes (y + c) (target_in (moved_placement c p) target) false ≡ veneer_bytes (y + b) (target_in (moved_placement b p) target) false
+  arm_bytes y =
+      let Bytes : ℕ → List ℕ = λ to. bytes_of 0x4778 2 ++ bytes_of 0x46C0 2 ++ bytes_of (0xEA000000 / 2 ^ 24 * 2 ^ 24 + (to / 4 + 2 ^ 23) % 2 ^ 24) 4 in
+      ap (λ (t : ℕ). Bytes (total t (2 ^ 25) (y + c + 4 + 8))) (target_at c)
+      ∙ ap Bytes (branch_moves x target.offset b c y)
+      ∙ ap (λ (t : ℕ). Bytes (total t (2 ^ 25) (y + b + 4 + 8))) (sym (target_at b))
 
-  bytes_by : (thumb : Bool) (y : ℕ) → LeadsNear thumb (y + b) (target_in (moved_placement b p) target) → LeadsNear thumb (y + c) (target_in (moved_placement c p) target)
-      → veneer_bytes (y + c) (target_in (moved_placement c p) target) thumb
+  bytes_by : (thumb : Bool) (y : ℕ) → veneer_bytes (y + c) (target_in (moved_placement c p) target) thumb
       ≡ shifted_words (shift_between b c) (own_shifts thumb) 0 (veneer_bytes (y + b) (target_in (moved_placement b p) target) thumb)
-  bytes_by true y one two = thumb_bytes y
-  bytes_by false y one two =
-      arm_bytes y one two
+  bytes_by true y = thumb_bytes y
+  bytes_by false y =
+      arm_bytes y
       ∙ sym (shifted_none (shift_between b c) (own_shifts false) 0 (veneer_bytes (y + b) (target_in (moved_placement b p) target) false) (λ i lt. refl))
 
   -- where it stands
-  pub veneer_shifts : (l : Link) (thumb : Bool) (v : ℕ) → veneers_at (moved_placement b p) region target thumb ≡ Some v
-      → LeadsNear thumb v (target_in (moved_placement b p) target)
-      → ((w : ℕ) → w + b ≡ v + c → LeadsNear thumb w (target_in (moved_placement c p) target))
-      → (given_in l (moved_placement c p)).veneer region target thumb
+  pub veneer_shifts : (l : Link) (thumb : Bool) → (given_in l (moved_placement c p)).veneer region target thumb
       ≡ shifted_words (shift_between b c) (own_shifts thumb) 0 ((given_in l (moved_placement b p)).veneer region target thumb)
-  veneer_shifts l thumb v stands one two = go (veneers_at p region target thumb) refl
+  veneer_shifts l thumb = go (veneers_at p region target thumb) refl
     where
       Given : ℕ → Option ℕ → List ℕ
       Given by o = option_map_or (λ w. veneer_bytes w (target_in (moved_placement by p) target) thumb) o []
 
+      there_at : (by : ℕ) (o : Option ℕ) → veneers_at p region target thumb ≡ o → veneers_at (moved_placement by p) region target thumb ≡ option_map (λ y. y + by) o
+      there_at by o e = veneers_move by p region target thumb ∙ ap (option_map (λ y. y + by)) e
+
       go : (o : Option ℕ) → veneers_at p region target thumb ≡ o
           → Given c (veneers_at (moved_placement c p) region target thumb) ≡ shifted_words (shift_between b c) (own_shifts thumb) 0 (Given b (veneers_at (moved_placement b p) region target thumb))
-      go None e =
-          let none : veneers_at (moved_placement b p) region target thumb ≡ None = veneers_move b p region target thumb ∙ ap (option_map (λ y. y + b)) e in
-          absurd cc
+      go None e = ap (Given c) (there_at c None e) ∙ ap (λ (o : Option ℕ). shifted_words (shift_between b c) (own_shifts thumb) 0 (Given b o)) (sym (there_at b None e))
       go (Some y) e =
-          let first : veneers_at (moved_placement b p) region target thumb ≡ Some (y + b) = veneers_move b p region target thumb ∙ ap (option_map (λ z. z + b)) e in
-          let second : veneers_at (moved_placement c p) region target thumb ≡ Some (y + c) = veneers_move c p region target thumb ∙ ap (option_map (λ z. z + c)) e in
-          let own : y + b ≡ v = same (y + b) v (sym first ∙ stands) in
-          let near_b : LeadsNear thumb (y + b) (target_in (moved_placement b p) target) = subst (λ z. LeadsNear thumb z (target_in (moved_placement b p) target)) (sym own) one in
-          ap (Given c) second ∙ bytes_by thumb y near_b (two (y + c) (omega (arith, own)))
-          ∙ ap (λ (o : Option ℕ). shifted_words (shift_between b c) (own_shifts thumb) 0 (Given b o)) (sym first)
+          ap (Given c) (there_at c (Some y) e) ∙ bytes_by thumb y
+          ∙ ap (λ (o : Option ℕ). shifted_words (shift_between b c) (own_shifts thumb) 0 (Given b o)) (sym (there_at b (Some y) e))

@@ -1,11 +1,9 @@
 -- A relocatable AIF starts at every base: its plan, its bytes and its view there are those at its link base, moved. SDT 2.50
 -- Reference Guide, ARM Image Format; the counting of shifts is this project's.
-use Rattle.std.specs.Prelude.{◌≡◌, ◌≢◌, ℕ, ◌+◌, ◌-◌, ◌*◌, ◌%◌, ◌^◌, ◌<◌, ◌≤◌, ◌==◌, Bool, true, false, if◌then◌else◌, List, [], ◌∷◌, ◌++◌, length, map, Option, None}
+use Rattle.std.specs.Prelude.{◌≡◌, ◌≢◌, ℕ, ◌+◌, ◌-◌, ◌*◌, ◌%◌, ◌^◌, ◌<◌, ◌≤◌, ◌==◌, true, false, if◌then◌else◌, List, [], ◌∷◌, ◌++◌, length, map, Option, None}
 use Rattle.std.specs.List.{AllByRecursion}
 use Rattle.sdt_word.specs.declared.ranges.Range32.{Range32}
 use Rattle.sdt_word.specs.Bytes.{bytes_of, number_of}
-use Rattle.patch_model.specs.Fields.{Home}
-use Rattle.patch_model.specs.Patched.{middle, ahead}
 use Rattle.place_model.specs.declared.scatter.Kind.TheVariants as kind
 use Rattle.place_model.specs.Plans.{Contents, Planned, length_of, zero_length_of, PlannedLoad, Plan, regions_of, stood_in}
 use Rattle.place_model.specs.Things.{Stood, stood}
@@ -24,7 +22,6 @@ use Rattle.link_model.specs.declared.selection.Linked.{Linked}
 use Rattle.link_model.specs.Members.{link_of}
 use Rattle.link_items.specs.LinkedItems.{contents_of}
 use Rattle.link_place.specs.Placed.{placement_of}
-use Rattle.link_apply.specs.Placed.{target_in}
 use Rattle.link_values.specs.Shifts.{shifts_of, not_relocatable}
 use Rattle.link_laws.specs.Joins.{IsMade, given_in}
 
@@ -69,23 +66,9 @@ shifted_words by shifts at bytes = bytes
 abbrev pub placement_at : ℕ → Linked → Assigned → List Veneer → Placement
 placement_at base l a vs = placement_of (aif_plan base true (contents_of l.objects a.regions vs))
 
-abbrev pub home_of : Veneer → Home
-home_of v = record { object = v.area.object; area = v.area.area; offset = v.offset }
-
--- the branch of a veneer to ARM code doesn't lead too far back, so that its displacement, counted from the least one, is one;
--- a veneer to Thumb code leads anywhere
-abbrev pub LeadsNear : Bool → ℕ → ℕ → Type 0
-LeadsNear true veneer target = Unit {0}
-LeadsNear false veneer target = veneer + 4 + ahead false ≤ target + middle false
-
--- the target may be outside the image
-abbrev pub VeneersReach : Placement → Type 0
-VeneersReach p = AllByRecursion (λ v. LeadsNear v.veneer.thumb v.address (target_in p (home_of v.veneer))) p.veneers
-
 pub record MayMoveTo (base to : ℕ) (ram : Option (List Range32)) (l : Linked) (a : Assigned) (vs : List Veneer) (p : Placement) : Type 0 where
   pub made : IsMade (kind.Aif base true) ram l a vs p
   pub movable : not_relocatable l p ≡ None
-  pub reach : VeneersReach (placement_at to l a vs)
 
 -- what its regions hold there, with some header
 abbrev pub filled_at : ℕ → Linked → Assigned → List Veneer → Placement → List ℕ → Filling
@@ -150,8 +133,6 @@ pub record IsMovingImage (base : ℕ) (ram : Option (List Range32)) (l : Linked)
   pub made : IsMade (kind.Aif base true) ram l a vs p
   pub movable : not_relocatable l p ≡ None
   pub image : IsAif base true (contents_of l.objects a.regions vs) items (given_at base l p offset) ram
-  pub reach : (to : ℕ) → HasRoomAt (moving_file base l a vs p offset) (parts_size (aif_plan base true (contents_of l.objects a.regions vs)))
-      (zero_size (aif_plan base true (contents_of l.objects a.regions vs))) to → VeneersReach (placement_at to l a vs)
   pub shows : (to : ℕ) → HasRoomAt (moving_file base l a vs p offset) (parts_size (aif_plan base true (contents_of l.objects a.regions vs)))
       (zero_size (aif_plan base true (contents_of l.objects a.regions vs))) to → IsViewAt to l a vs offset (view to)
 
@@ -177,15 +158,3 @@ pub record MovedImageBoots : Type 0 where
       → BootsAif (moving_file base l a vs p offset) (parts_size (aif_plan base true (contents_of l.objects a.regions vs)))
       (zero_size (aif_plan base true (contents_of l.objects a.regions vs))) view
       (aif_bound (length (moving_list base l a vs p)) (zero_size (aif_plan base true (contents_of l.objects a.regions vs)))) entry
-
--- ---- where veneers lead
-
--- none leads to ARM code behind an address
-abbrev pub NoneBehind : ℕ → Placement → Type 0
-NoneBehind limit p = AllByRecursion (λ v. v.veneer.thumb ≡ false → target_in p (home_of v.veneer) < limit) p.veneers
-
--- where none leads behind so many bytes from the base on, and as many have room at another, each reaches its target there
-abbrev pub VeneersStayNear : Type 0
-VeneersStayNear =
-    (base to : ℕ) (ram : Option (List Range32)) (l : Linked) (a : Assigned) (vs : List Veneer) (p : Placement) (size : ℕ) → IsMade (kind.Aif base true) ram l a vs p
-    → NoneBehind (base + size) p → to + size ≤ 2 ^ 32 → VeneersReach (placement_at to l a vs)

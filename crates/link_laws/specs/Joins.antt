@@ -9,6 +9,7 @@ use Rattle.aof_object.specs.declared.records.Object.{Object}
 use Rattle.aof_object.specs.Validity.{IsValid}
 use Rattle.boot_code.specs.Boots.{Boots}
 use Rattle.boot_code.specs.Laws.{bound_of, written_by}
+use Rattle.boot_code.specs.Startup.{zeros}
 use Rattle.byte_maps.specs.Maps.{Segment, map_of}
 use Rattle.place_model.specs.declared.scatter.Kind.{Kind}
 use Rattle.place_model.specs.declared.scatter.Kind.TheVariants as kind
@@ -79,6 +80,10 @@ given_in l p = record {
   call = entry_of l p;
 }
 
+-- zeros stand in the place of a header
+abbrev pub front_of : Kind → List ℕ
+front_of k = if has_header k then zeros 0x80 else []
+
 -- as no header is made of it, these are the bytes of files
 abbrev pub filled_in : Linked → Placement → Plan → Filling
 filled_in l p plan = filled (given_in (link_of l) p) plan []
@@ -110,7 +115,7 @@ MadeIsApplied =
     → IsMade k ram l a vs p
     → AreApplied (link_plan k l a.regions vs) l (region_number (objects_in l.objects) p) (given_in (link_of l) p)
 
--- the bytes of its regions are those of the plan's image
+-- the bytes of its regions are those of the plan's image, without a header
 abbrev pub bytes_of_plan : Linked → Placement → Plan → List (List ℕ)
 bytes_of_plan l p plan = map (region_bytes (filled_in l p plan)) (regions_of plan)
 

@@ -1,6 +1,7 @@
 //! Laws of the definitions, each proved as the contract of an empty function.
 
-ghost use Rattle.link_laws.specs.AifJoins.{BytesMove, MovedImageBoots, MovedImageShows, PlanMoves, VeneersStayNear};
+ghost use Rattle.link_laws.specs.AifJoins.{BytesMove, MovedImageBoots, MovedImageShows, PlanMoves};
+ghost use Rattle.link_laws.specs.AifStarts.{MadeFixedBoots, MadeHasParts, MadeIsAif, MadeIsSeen, MadeMovingBoots, MovedIsSeen};
 ghost use Rattle.link_laws.specs.Joins.{MadeBoots, MadeFiles, MadeHasBytes, MadeHasPlaces, MadeIsApplied, MadeIsPlaced, MadeStarts};
 ghost use Rattle.link_laws.specs.Laws.{AppliedAreSized, ObjectsAreShown, ObjectsArePlaced, RangesExist, StatementsStand};
 
@@ -21,13 +22,11 @@ pub fn objects_are_shown()
 
 /// A relocatable ARM image file at another base has the plan that it has at its link base, moved there. Where nothing in it
 /// is NotRelocatable, its areas and veneers there have the bytes that they have at the link base, each of whose words is
-/// shifted as often as it has shifts, if each veneer to ARM code is near its target there, as those are that lead into the
-/// image. So its file becomes the view of the plan there, and it boots from every base that leaves
-/// room for the file and the zero part, within the bound.
+/// shifted as often as it has shifts. So its file becomes the view of the plan there, and it boots from every base that
+/// leaves room for the file and the zero part, within the bound.
 pub fn aif_moves()
     ensures plans { PlanMoves }
     ensures bytes { BytesMove }
-    ensures reach { VeneersStayNear }
     ensures shows { MovedImageShows }
     ensures boots { MovedImageBoots }
 {}
@@ -48,4 +47,17 @@ pub fn made_images()
     ensures files { MadeFiles }
     ensures starts { MadeStarts }
     ensures boots { MadeBoots }
+{}
+
+/// A link that is made as an ARM image file has the image of its plan, with zeros in the place of the header, and its header
+/// calls the entry in ARM state or by a veneer of its first region. A view of its plan shows the linked objects as they are
+/// placed, at its base and, if it can be moved, at every base that leaves room. It starts there: its file reaches the entry
+/// within the bound, with the memory as that view says.
+pub fn made_aifs()
+    ensures is_aif { MadeIsAif }
+    ensures parts { MadeHasParts }
+    ensures seen { MadeIsSeen }
+    ensures moved { MovedIsSeen }
+    ensures fixed { MadeFixedBoots }
+    ensures moving { MadeMovingBoots }
 {}

@@ -3,4 +3,6 @@
 
 mod laws;
 
-pub use crate::laws::{aif_moves, made_images, made_links, objects_are_placed, objects_are_shown};
+pub use crate::laws::{
+    aif_moves, made_aifs, made_images, made_links, objects_are_placed, objects_are_shown,
+};

@@ -1,4 +1,5 @@
 pub mod CommandLemmas
+mod AifStartLemmas
 mod AskLemmas
 mod EndLemmas
 mod EndsLemmas

@@ -91,7 +91,7 @@ steps_ok : {A B : Type 0} (x : Result A Refusal) (f : A → Result B Refusal) (b
 steps_ok (Ok a) f b h = (a, refl, h)
 steps_ok {B = B} (Err r) f b h = absurd (let bad : ◌≡◌ {A = Result B Refusal} (Err r) (Ok b) = h in cc)
 
-not_refused : {A : Type 0} (o : Option Refusal) (x y : A) → refused_or o x ≡ Ok y → (o ≡ None) × (y ≡ x)
+pub not_refused : {A : Type 0} (o : Option Refusal) (x y : A) → refused_or o x ≡ Ok y → (o ≡ None) × (y ≡ x)
 not_refused None x y h = (refl, cc)
 not_refused (Some r) x y h = absurd cc
 
@@ -172,7 +172,7 @@ selected regions os l h =
 
 -- ---- a link that is answered
 
-abbrev made_by : (l : Linked) → Assigned → List Veneer → Placement → Made
+abbrev pub made_by : (l : Linked) → Assigned → List Veneer → Placement → Made
 made_by l a vs p = record { linked = l; assigned = a; veneers = vs; placement = p; bytes = regions_bytes (link_of l) p }
 
 pub record IsAnswered (k : Kind) (ram : Option (List Range32)) (os : List (Named Object)) (i : Image) : Type 0 where
@@ -190,7 +190,7 @@ nothing_moves : (k : Kind) (l : Linked) (p : Placement) → can_move k ≡ false
 nothing_moves k l p fixed = ap (λ (b : Bool). if b then moved_list l p else Ok []) fixed
 
 -- the image of a link of which nothing moves
-still_image : (k : Kind) (ram : Option (List Range32)) (os : List (Named Object)) (i : Image) → can_move k ≡ false → (n : IsAnswered k ram os i)
+pub still_image : (k : Kind) (ram : Option (List Range32)) (os : List (Named Object)) (i : Image) → can_move k ≡ false → (n : IsAnswered k ram os i)
     → image_of k (made_by n.linked n.assigned n.veneers n.placement) [] ≡ i
 still_image k ram os i fixed n =
     let none : [] ≡ n.moves = ok_same [] n.moves (sym (nothing_moves k n.linked n.placement fixed) ∙ n.listed) in
@@ -240,7 +240,7 @@ module _ (k : Kind) (ram : Option (List Range32)) (os : List (Named Object)) (i 
 
 -- ---- its load regions
 
-bytes_alike : (number : ℕ) (rs : List Region) (parts : List (List ℕ)) → bytes_in number rs parts ≡ bytes_of_load number rs parts
+pub bytes_alike : (number : ℕ) (rs : List Region) (parts : List (List ℕ)) → bytes_in number rs parts ≡ bytes_of_load number rs parts
 bytes_alike number [] parts = refl
 bytes_alike number (r ∷ rs) [] = refl
 bytes_alike number (r ∷ rs) (bytes ∷ parts) = ap (λ (rest : List ℕ). (if r.load_region == number then bytes else []) ++ rest) (bytes_alike number rs parts)

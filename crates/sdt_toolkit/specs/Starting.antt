@@ -77,7 +77,7 @@ abbrev pub FitsAt : Bool → Image → ℕ → Type 0
 FitsAt true i to = HasRoom i to
 FitsAt false i to = to ≡ i.start
 
--- its entry there, with bit 0 set for Thumb
+-- its entry there, as far behind, with bit 0 set for Thumb
 abbrev pub entry_from : Image → ℕ → ℕ
 entry_from i to = to + (i.entry - i.start) + flag i.thumb
 
@@ -85,7 +85,7 @@ entry_from i to = to + (i.entry - i.start) + flag i.thumb
 abbrev pub BootsFrom : Bool → Image → (ℕ → ByteMap) → Type 0
 BootsFrom true i views = BootsAif (aif_file i) (parts_size i.regions) (zero_size i.regions) views i.bound (entry_from i)
 BootsFrom false i views =
-    Boots (file_at (aif_file i) i.start) (views i.start) (covers (i.start + parts_size i.regions) (zero_size i.regions)) i.start i.bound (entry_from i i.start)
+    Boots (file_at (aif_file i) i.start) (views i.start) (covers (i.start + parts_size i.regions) (zero_size i.regions)) i.start i.bound (i.entry + flag i.thumb)
 
 -- an ARM image file of these objects
 pub record StartsAsAif (relocatable : Bool) (os : List (Named Object)) (i : Image) : Type 0 where

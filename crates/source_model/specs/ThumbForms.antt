@@ -157,14 +157,22 @@ immediate_by o d number =
 abbrev pub transfer_unit : Bool → ℕ
 transfer_unit byte = if byte then 1 else 4
 
+abbrev pub low_transfer : Bool → Bool → ℕ → ℕ → ℕ → Result ThumbInstr LineKind
+low_transfer load byte d n v = mapped (λ i. instr.TransferImmediate byte load i n d) (units_below (transfer_unit byte) 32 v)
+
+abbrev pub stack_transfer : Bool → ℕ → ℕ → Result ThumbInstr LineKind
+stack_transfer load d v = mapped (λ i. instr.TransferStack load d i) (units_below 4 256 v)
+
+abbrev pub literal_transfer : ℕ → ℕ → Result ThumbInstr LineKind
+literal_transfer d v = mapped (λ i. instr.LoadLiteral d i) (units_below 4 256 v)
+
 -- a transfer by a base and a number: words also by sp, and loads of them by pc
 abbrev pub transfer_by : Bool → Bool → ℕ → ℕ → Result ℕ LineKind → Result ThumbInstr LineKind
 transfer_by load byte d n number =
-    if is_low n then
-    and_then (both (low_number d) number) (λ p. mapped (λ i. instr.TransferImmediate byte load i n p.0) (units_below (transfer_unit byte) 32 p.1))
+    if is_low n then and_then (both (low_number d) number) (λ p. low_transfer load byte p.0 n p.1)
     else if byte then no_row number
-    else if n == 13 then and_then (both (low_number d) number) (λ p. mapped (λ i. instr.TransferStack load p.0 i) (units_below 4 256 p.1))
-    else if load && n == 15 then and_then (both (low_number d) number) (λ p. mapped (λ i. instr.LoadLiteral p.0 i) (units_below 4 256 p.1))
+    else if n == 13 then and_then (both (low_number d) number) (λ p. stack_transfer load p.0 p.1)
+    else if load && n == 15 then and_then (both (low_number d) number) (λ p. literal_transfer p.0 p.1)
     else no_row number
 
 -- ---- pc
@@ -276,10 +284,14 @@ abbrev pub word_offset : Option ℕ → Result ℕ LineKind
 word_offset None = Err OutOfRange
 word_offset (Some word) = Ok word
 
+abbrev pub loaded : Context → Option ℕ → Register → Result ThumbInstr LineKind
+loaded c word rd = mapped (λ p. instr.LoadLiteral p.0 p.1) (both (low c rd) (words_to c (word_offset word)))
+
+abbrev pub addressed : Context → Register → Expr → Result ThumbInstr LineKind
+addressed c rd e = mapped (λ p. instr.LoadAddress false p.0 p.1) (both (low c rd) (words_to c (own_offset c (value_of c e))))
+
 abbrev pub thumb_pseudo : Context → Option ℕ → PseudoLine → Result ThumbInstr LineKind
-thumb_pseudo c word (pseudo.LoadConstant condition rd e) =
-    mapped (λ p. instr.LoadLiteral p.0 p.1) (both (low c rd) (words_to c (word_offset word)))
-thumb_pseudo c word (pseudo.Address condition rd e) =
-    mapped (λ p. instr.LoadAddress false p.0 p.1) (both (low c rd) (words_to c (own_offset c (value_of c e))))
+thumb_pseudo c word (pseudo.LoadConstant condition rd e) = loaded c word rd
+thumb_pseudo c word (pseudo.Address condition rd e) = addressed c rd e
 thumb_pseudo c word (pseudo.LongAddress condition rd e) = Err Syntax
 thumb_pseudo c word pseudo.NoOperation = Ok (instr.HighRegister high.Mov true true 0 0)

@@ -1,6 +1,5 @@
 use Rattle.link_laws.proofs.ShiftMoved
 use Rattle.link_laws.proofs.ShiftPlans
-use Rattle.link_laws.proofs.ShiftReach
 use Rattle.link_laws.proofs.ShiftStarts
 use Rattle.link_laws.proofs.laws.aif_moves.Goals as goal
 
@@ -9,9 +8,6 @@ returns-clause-plans c = ShiftPlans.plan_law
 
 pub returns-clause-bytes : goal.returns-clause-bytes
 returns-clause-bytes c = ShiftMoved.bytes_law
-
-pub returns-clause-reach : goal.returns-clause-reach
-returns-clause-reach c = ShiftReach.veneers_stay_near
 
 pub returns-clause-shows : goal.returns-clause-shows
 returns-clause-shows c = ShiftStarts.moved_image_shows

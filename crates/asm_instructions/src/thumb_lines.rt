@@ -1,0 +1,202 @@
+//! All lines of Thumb state, and pseudo-instructions there.
+
+ghost use Rattle.std.specs.Prelude.{◌≡◌, IfOk};
+ghost use Rattle.asm_model.specs.declared.statements.PseudoLine.TheVariants as pseudo;
+ghost use Rattle.said_model.specs.Said.{IsRead, PseudoSaid, ThumbSaid};
+ghost use Rattle.source_model.specs.Contexts.{Context};
+ghost use Rattle.source_model.specs.ThumbForms as forms;
+ghost use Rattle.asm_instructions.specs.Scenes.{Shows, context_of};
+ghost use Rattle.asm_instructions.specs.ThumbGroups.{IsWide};
+
+use crate::scenes::Scene;
+use crate::thumb_branches::{branch, branch_conditional, branch_link, software_interrupt};
+use crate::thumb_data::{
+    Said, add_subtract, adjust_stack, data_immediate, data_register, high_register, load_address,
+    shift_immediate,
+};
+use crate::thumb_transfers::{
+    load_literal, push_pop, transfer_half, transfer_immediate, transfer_multiple,
+    transfer_register, transfer_signed, transfer_stack, words_to,
+};
+use crate::thumb_values::{both, low};
+use crate::values::{own_offset, value_there};
+use asm_model::{Expr, PseudoLine, Register, ThumbLine};
+use sdt_fault::NoMemory;
+use sdt_fault::kinds::LineKind;
+use std::alloc::Global;
+use thumb_isa::{HighOperation, ThumbInstr};
+
+/// What a line of many operands says.
+fn wide_there(alloc: Global, scene: &Scene<'_>, line: &ThumbLine) -> Said
+    requires said { ThumbSaid line.now }
+    requires wide { IsWide line.now }
+    ensures { IfOk result (λ i. i ≡ forms.thumb_instruction (context_of scene.now) line.now) }
+{
+    match line {
+        ThumbLine::ShiftImmediate {
+            shift,
+            rd,
+            rs,
+            amount,
+        } => shift_immediate(alloc, scene, *shift, rd, rs, amount),
+        ThumbLine::AddSubtract {
+            subtract,
+            rd,
+            rs,
+            operand,
+        } => add_subtract(alloc, scene, *subtract, rd, rs, operand),
+        ThumbLine::TransferRegister {
+            load,
+            byte,
+            rd,
+            rn,
+            ro,
+        } => Ok(transfer_register(scene, *load, *byte, rd, rn, ro)),
+        ThumbLine::TransferImmediate {
+            load,
+            byte,
+            rd,
+            rn,
+            offset,
+        } => transfer_immediate(alloc, scene, *load, *byte, rd, rn, offset),
+        ThumbLine::TransferHalf {
+            load,
+            rd,
+            rn,
+            offset,
+        } => transfer_half(alloc, scene, *load, rd, rn, offset),
+        _ => Ok(Err(LineKind::Syntax)),
+    }
+}
+
+/// What a line says with what the scene finds, or the kind of its fault.
+fn instruction_there(alloc: Global, scene: &Scene<'_>, line: &ThumbLine) -> Said
+    requires { ThumbSaid line.now }
+    ensures { IfOk result (λ i. i ≡ forms.thumb_instruction (context_of scene.now) line.now) }
+{
+    match line {
+        ThumbLine::DataImmediate {
+            operation,
+            rd,
+            value,
+        } => data_immediate(alloc, scene, *operation, rd, value),
+        ThumbLine::DataRegister { operation, rd, rs } => {
+            Ok(data_register(scene, *operation, rd, rs))
+        }
+        ThumbLine::HighRegister { operation, rd, rs } => {
+            Ok(Ok(high_register(scene, *operation, rd, rs)))
+        }
+        ThumbLine::LoadLiteral { rd, address } => load_literal(alloc, scene, rd, address),
+        ThumbLine::TransferSigned { kind, rd, rn, ro } => {
+            Ok(transfer_signed(scene, *kind, rd, rn, ro))
+        }
+        ThumbLine::TransferStack { load, rd, offset } => {
+            transfer_stack(alloc, scene, *load, rd, offset)
+        }
+        ThumbLine::LoadAddress { stack, rd, offset } => {
+            load_address(alloc, scene, *stack, rd, offset)
+        }
+        ThumbLine::AdjustStack { subtract, offset } => {
+            adjust_stack(alloc, scene, *subtract, offset)
+        }
+        ThumbLine::PushPop { load, list } => Ok(push_pop(scene, *load, list)),
+        ThumbLine::TransferMultiple { load, rn, list } => {
+            Ok(transfer_multiple(scene, *load, rn, list))
+        }
+        ThumbLine::BranchConditional { condition, target } => {
+            branch_conditional(alloc, scene, *condition, target)
+        }
+        ThumbLine::SoftwareInterrupt { number } => software_interrupt(alloc, scene, number),
+        ThumbLine::Branch { target } => branch(alloc, scene, target),
+        ThumbLine::BranchLink { target } => branch_link(alloc, scene, target),
+        _ => wide_there(alloc, scene, line),
+    }
+}
+
+/// What a line of Thumb state says, or the kind of its fault. A BL that is left to the linker holds its number less how
+/// far pc stands behind the start of the area.
+pub fn thumb_instruction(alloc: Global, scene: &Scene<'_>, line: &ThumbLine) -> Said
+    requires { ThumbSaid line.now }
+    ensures { IfOk result (λ i. (c : Context) → Shows scene.now c → i ≡ forms.thumb_instruction c line.now) }
+{
+    instruction_there(alloc, scene, line)
+}
+
+fn word_offset(word: Option<u32>) -> Result<u32, LineKind>
+    ensures { result ≡ forms.word_offset word }
+{
+    match word {
+        None => Err(LineKind::OutOfRange),
+        Some(word) => Ok(word),
+    }
+}
+
+fn load_constant(
+    scene: &Scene<'_>,
+    word: Option<u32>,
+    rd: &Register,
+) -> Result<ThumbInstr, LineKind>
+    ensures { result ≡ forms.loaded (context_of scene.now) word rd.now }
+{
+    match both(low(scene, rd), words_to(scene, word_offset(word))) {
+        Ok((rd, offset)) => Ok(ThumbInstr::LoadLiteral { rd, offset }),
+        Err(kind) => Err(kind),
+    }
+}
+
+fn address(
+    alloc: Global,
+    scene: &Scene<'_>,
+    rd: &Register,
+    target: &Expr,
+) -> Result<Result<ThumbInstr, LineKind>, NoMemory>
+    requires { IsRead target.now }
+    ensures { IfOk result (λ i. i ≡ forms.addressed (context_of scene.now) rd.now target.now) }
+{
+    let value = value_there(alloc, scene, target)?;
+    match both(low(scene, rd), words_to(scene, own_offset(scene, value))) {
+        Ok((rd, offset)) => {
+            let stack = false;
+            Ok(Ok(ThumbInstr::LoadAddress { stack, rd, offset }))
+        }
+        Err(kind) => Ok(Err(kind)),
+    }
+}
+
+/// The instruction of a pseudo-instruction with what the scene finds, or the kind of its fault.
+fn pseudo_there(
+    alloc: Global,
+    scene: &Scene<'_>,
+    word: Option<u32>,
+    line: &PseudoLine,
+) -> Result<Result<ThumbInstr, LineKind>, NoMemory>
+    requires { PseudoSaid line.now }
+    ensures { IfOk result (λ i. i ≡ forms.thumb_pseudo (context_of scene.now) word line.now) }
+{
+    match line {
+        PseudoLine::LoadConstant { rd, .. } => Ok(load_constant(scene, word, rd)),
+        PseudoLine::Address { rd, target, .. } => address(alloc, scene, rd, target),
+        PseudoLine::LongAddress { .. } => Ok(Err(LineKind::Syntax)),
+        PseudoLine::NoOperation => Ok(Ok(ThumbInstr::HighRegister {
+            operation: HighOperation::Mov,
+            high_rd: true,
+            high_rs: true,
+            rs: 0,
+            rd: 0,
+        })),
+    }
+}
+
+/// The instruction of a pseudo-instruction in Thumb state, whose literal has its word at an offset; or the kind of its
+/// fault.
+pub fn thumb_pseudo_instruction(
+    alloc: Global,
+    scene: &Scene<'_>,
+    word: Option<u32>,
+    line: &PseudoLine,
+) -> Result<Result<ThumbInstr, LineKind>, NoMemory>
+    requires { PseudoSaid line.now }
+    ensures { IfOk result (λ i. (c : Context) → Shows scene.now c → i ≡ forms.thumb_pseudo c word line.now) }
+{
+    pseudo_there(alloc, scene, word, line)
+}
