@@ -50,14 +50,16 @@ use Rattle.link_veneer.specs.Interworking.{not_interworking}
 use Rattle.link_veneer.specs.Planning.{planned_veneers}
 use Rattle.link_place.specs.Placed.{placed}
 use Rattle.link_values.specs.Placed.{values_in}
+use Rattle.link_values.specs.Shifts.{not_relocatable, shifts_of, unmovable, unmovable_from, unmovable_in}
+use Rattle.link_shifts.specs.Moves.{moved, parts_words}
 use Rattle.link_apply.specs.Applied.{applied}
 use Rattle.link_apply.specs.Flaws.{apply_refusal, flaw_of, refusal_of, refusals_at, refusals_in, told}
 use Rattle.link_apply.specs.RegionBytes.{regions_bytes}
-use Rattle.link_apply.specs.Shifts.{not_relocatable, shifts_of, unmovable, unmovable_from, unmovable_in}
+use Rattle.link_apply.specs.Placed.{called}
 use Rattle.armlink_core.specs.declared.making.Made.{Made}
 use Rattle.armlink_core.specs.Linking.{made_at, made_of, made_with, symbols_of}
-use Rattle.armlink_core.specs.Images.{call_of, called, described, image_made, image_of, image_with, linking}
-use Rattle.armlink_core.specs.Moves.{can_move, moved, moves_in, parts_words}
+use Rattle.armlink_core.specs.Images.{call_of, described, image_made, image_of, image_with, linking}
+use Rattle.armlink_core.specs.Moves.{can_move, moves_in}
 use Rattle.armlink_core.specs.Laws.{AreAlike, NamelessImages, NamelessScatters, unnamed}
 
 -- ---- where one gives nothing, the other gives nothing

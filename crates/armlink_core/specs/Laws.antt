@@ -34,7 +34,8 @@ AreAlike os ps = map unnamed os ≡ map unnamed ps
 -- names decide nothing of an image
 abbrev pub NamelessImages : Type 0
 NamelessImages =
-    (k : Kind) (ram : Option (List Range32)) (os ps : List (Named Object)) (i : Image) → AreAlike os ps → linking k ram os ≡ Ok i → linking k ram ps ≡ Ok i
+    (k : Kind) (ram : Option (List Range32)) (os ps : List (Named Object)) (i : Image)
+    → AreAlike os ps → linking k ram os ≡ Ok i → linking k ram ps ≡ Ok i
 
 abbrev pub NamelessScatters : Type 0
 NamelessScatters =

@@ -1,6 +1,8 @@
 pub mod CommandLemmas
 mod AifStartLemmas
 mod AskLemmas
+mod BuildLemmas
+mod BuildLaws
 mod EndLemmas
 mod EndsLemmas
 mod ImageLemmas

@@ -1,10 +1,12 @@
 //! Laws of the definitions, each proved as the contract of an empty function.
 
+ghost use Rattle.sdt_toolkit.specs.Builds.{BuildsAreLinks};
 ghost use Rattle.sdt_toolkit.specs.Links.{OneLinkAsked};
 ghost use Rattle.sdt_toolkit.specs.Sources.{OneAsked};
 ghost use Rattle.sdt_toolkit.specs.Starting.{AifImagesStart, PlainImagesLoad, ScatterImagesStart};
 
 use armasm_core::laws::one_assembly;
+use armlink_core::laws::image_names;
 use link_model::linked_law;
 use scatter_text::reading_law;
 
@@ -27,4 +29,13 @@ pub fn images_start()
     ensures plain { PlainImagesLoad }
 {
     reading_law();
+}
+
+/// What `build` makes of sources is what `link` makes of their objects, among files in which each source's object has its
+/// file and all other files that are read are the same.
+pub fn builds_are_links()
+    ensures { BuildsAreLinks }
+{
+    one_assembly();
+    image_names();
 }

@@ -1,0 +1,70 @@
+-- What `build` makes of sources is what `link` makes of the object files that `asm` makes of them. This project's.
+use Rattle.std.specs.Prelude.{◌≡◌, ◌↔◌, ℕ, Bool, true, false, if◌then◌else◌, List, map, Some, Ok}
+use Rattle.std.specs.List.{AllByRecursion}
+use Rattle.sdt_outside.specs.Files.{Files, content}
+use Rattle.aof_object.specs.declared.records.Object.{Object}
+use Rattle.aof_object.specs.Grammar.{Fits}
+use Rattle.aof_object.specs.Spelling.{written}
+use Rattle.aof_object.specs.Validity.{IsValid}
+use Rattle.armasm_core.specs.Assembling.{AssembledFrom}
+use Rattle.armasm_core.specs.Standing.{StandsFrom}
+use Rattle.tool_words.specs.declared.command.LinkForm.{LinkForm}
+use Rattle.tool_words.specs.declared.command.LinkForm.TheVariants as form
+use Rattle.tool_words.specs.declared.command.LinkWords.{LinkWords}
+use Rattle.tool_answers.specs.Outcomes.{Outcome}
+use Rattle.sdt_toolkit.specs.Inputs.{is_source_name, object_name}
+use Rattle.sdt_toolkit.specs.Links.{WordsAsk}
+use Rattle.sdt_toolkit.specs.Reads.{Reads}
+
+-- ---- words
+
+-- the name under which a link finds what a build finds under a name
+abbrev pub link_name : List ℕ → List ℕ
+link_name name = if is_source_name name then object_name name else name
+
+abbrev pub link_words : LinkWords → LinkWords
+link_words w = record { form = w.form; output = w.output; names = map link_name w.names; ram = w.ram }
+
+-- ---- files
+
+-- the bytes are the file of the object that the text of a source is assembled to, as `assemble` gives it
+pub record IsObjectFile (files : Files) (name text bytes : List ℕ) : Type 0 where
+  pub object : Object
+  pub assembled : AssembledFrom (Some files) name text (Ok object)
+  pub stands : StandsFrom (Some files) name text object
+  pub valid : IsValid object
+  pub fits : Fits object
+  pub spelled : written object ≡ Ok bytes
+
+pub record HasObjectFile (files others : Files) (name : List ℕ) : Type 0 where
+  pub text : List ℕ
+  pub bytes : List ℕ
+  pub source : content files name ≡ Some text
+  pub file : content others (object_name name) ≡ Some bytes
+  pub object : IsObjectFile files name text bytes
+
+abbrev pub IsSame : Files → Files → List ℕ → Type 0
+IsSame files others name = content others name ≡ content files name
+
+-- among other files a source's object has its file, and a file that is no source is the same
+abbrev pub HasItsFile : Files → Files → Bool → List ℕ → Type 0
+HasItsFile files others true name = HasObjectFile files others name
+HasItsFile files others false name = IsSame files others name
+
+abbrev pub HasItsDescription : Files → Files → LinkForm → Type 0
+HasItsDescription files others (form.Scatter file) = IsSame files others file
+HasItsDescription files others other = Unit {0}
+
+-- the files that a build reads, with the objects of its sources
+pub record HasObjects (files others : Files) (w : LinkWords) : Type 0 where
+  pub description : HasItsDescription files others w.form
+  pub inputs : AllByRecursion (λ name. HasItsFile files others (is_source_name name) name) w.names
+
+-- ---- the law
+
+-- a build asks for an outcome just where the link of the objects does
+abbrev pub BuildsAreLinks : Type 0
+BuildsAreLinks =
+    (s t : Reads) (files others : Files) (w : LinkWords) (o : Outcome)
+    → s.told ≡ Some files → t.told ≡ Some others → HasObjects files others w
+    → (WordsAsk s true w (Ok o)) ↔ (WordsAsk t false (link_words w) (Ok o))
