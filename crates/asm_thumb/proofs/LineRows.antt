@@ -74,7 +74,7 @@ high_move = refl
 -- ` MOV x,r1`
 pub named_move : Says (codes " MOV x,r1") (token kind.Name 1 4)
     ((token kind.Name 5 6) ∷ (token kind.Sign 6 7) ∷ (token kind.Name 7 9) ∷ [])
-    (Ok (what.Thumb (line.AddSubtract false (register.Named (codes "x")) (register.Number 1) (operand.Number (number 0)))))
+    (Ok (what.Thumb (line.HighRegister high.Mov (register.Named (codes "x")) (register.Number 1))))
 unfolding operation_named core_named depth_behind register_named numbered_register special_register call_register
 named_move = refl
 

@@ -1,6 +1,8 @@
 -- What the operands of moves, comparisons, sums, shifts and logical operations say: the row that the registers choose. ARM
 -- SDT 2.50 Reference Guide, chapter on the assembler. This project's: a move of one of r0 to r7 to another is the sum with
--- 0 and sets the flags, and a sum of two such registers is that of three.
+-- 0 and sets the flags, and a sum of two such registers is that of three. A name that RN gives may stand for one of r8 to
+-- r15, so a move, comparison or sum of two registers with a name says the row of high registers; the instruction is chosen
+-- by the registers' numbers, once they are known.
 use Rattle.std.specs.Prelude.{◌≡◌, ℕ, List, nat_lt, ◌==◌, ◌||◌, Bool, true, false, if◌then◌else◌, Option, Some, None, Result, Ok, Err}
 use Rattle.sdt_fault.specs.declared.kinds.LineKind.{LineKind}
 use Rattle.sdt_fault.specs.declared.kinds.LineKind.TheVariants.{Syntax, BadOperand}
@@ -24,7 +26,7 @@ use Rattle.asm_arm.specs.Operands.{Cuts, two, three, both, followed, register, w
 use Rattle.asm_thumb.specs.declared.frames.Frame.{Frame}
 use Rattle.asm_thumb.specs.declared.frames.Frame.TheVariants as frame
 use Rattle.asm_thumb.specs.Frames.{ReadsWith, with_zero}
-use Rattle.asm_thumb.specs.Operands.{is_high, low_and_any, low_pair, low_three}
+use Rattle.asm_thumb.specs.Operands.{low_and_any, low_pair, low_three, may_be_high}
 
 -- ADD and SUB: whether it takes away
 abbrev pub sum_of : ImmediateOperation → Option Bool
@@ -45,7 +47,7 @@ immediate_frame o (register_is.Number n) =
     else Err BadOperand
 immediate_frame o (register_is.Named s) = Ok (frame.Immediate o (register_is.Named s))
 
--- an operation of two registers of which one is r8 to r15
+-- an operation of two registers of which one is r8 to r15, or a name
 abbrev pub high_line : ImmediateOperation → Register → Register → Result What LineKind
 high_line immediate.Add rd rs = Ok (what.Thumb (line.HighRegister high.Add rd rs))
 high_line immediate.Cmp rd rs = Ok (what.Thumb (line.HighRegister high.Cmp rd rs))
@@ -60,7 +62,7 @@ low_line immediate.Mov rd rs = with_zero (Ok (frame.Sum false rd rs))
 low_line immediate.Sub rd rs = Err Syntax
 
 abbrev pub pair_line : ImmediateOperation → Register → Register → Result What LineKind
-pair_line o rd rs = if is_high rd || is_high rs then high_line o rd rs else low_line o rd rs
+pair_line o rd rs = if may_be_high rd || may_be_high rs then high_line o rd rs else low_line o rd rs
 
 -- Rd and a number, or two registers
 abbrev pub ReadsPair : List ℕ → ImmediateOperation → List Token → List Token → Option (List Token) → Result What LineKind → Type 0

@@ -1,6 +1,6 @@
 -- The registers of Thumb instructions. Most are r0 to r7, and another is BadOperand. A name in the place of a register is
--- one that an RN directive gives; it counts as one of r0 to r7 here, and its register is judged elsewhere. ARM SDT 2.50
--- Reference Guide, chapter on the assembler.
+-- one that an RN directive gives; it counts as one of r0 to r7 here, and its register is judged elsewhere. Where a row of
+-- high registers has the form too, it may stand for any register. ARM SDT 2.50 Reference Guide, chapter on the assembler.
 use Rattle.std.specs.Prelude.{ℕ, List, codes, nat_lt, nat_le, ◌==◌, ◌&&◌, ◌||◌, Bool, true, false, if◌then◌else◌, Option, Some, None, Result, Ok, Err}
 use Rattle.std.specs.List.{list_all}
 use Rattle.sdt_fault.specs.declared.kinds.LineKind.{LineKind}
@@ -32,10 +32,10 @@ low_three text d s x = both (low_pair text d s) (low_register text x)
 abbrev pub low_and_any : List ℕ → List Token → List Token → Result (Register × Register) LineKind
 low_and_any text d s = both (low_register text d) (register text s)
 
--- a register from r8 to r15
-abbrev pub is_high : Register → Bool
-is_high (register_is.Number n) = nat_le 8 n
-is_high (register_is.Named s) = false
+-- a register from r8 to r15, or a name, which may stand for one
+abbrev pub may_be_high : Register → Bool
+may_be_high (register_is.Number n) = nat_le 8 n
+may_be_high (register_is.Named s) = true
 
 -- the registers of a list: r0 to r7, and one more where the row has one
 abbrev pub is_more : Option ℕ → ℕ → Bool

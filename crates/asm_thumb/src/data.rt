@@ -7,7 +7,7 @@ ghost use Rattle.asm_arm.specs.Steps.{cut_of};
 ghost use Rattle.asm_thumb.specs.Data as forms;
 
 use crate::frames::{Frame, Said, with_value, with_zero};
-use crate::operands::{copy_of, is_high, low_and_any, low_pair, low_three};
+use crate::operands::{copy_of, low_and_any, low_pair, low_three, may_be_high};
 use asm_arm::operands::{Cut, both, register, without_first};
 use asm_model::{Register, ThumbLine, ThumbOperand, Token, What};
 use sdt_fault::kinds::LineKind;
@@ -61,7 +61,7 @@ fn immediate_frame(
     }
 }
 
-/// An operation of two registers of which one is r8 to r15.
+/// An operation of two registers of which one is r8 to r15, or a name.
 fn high_line(operation: ImmediateOperation, rd: Register, rs: Register) -> Result<What, LineKind>
     ensures { result ≡ forms.high_line operation rd rs }
 {
@@ -105,7 +105,7 @@ fn low_line(alloc: Global, operation: ImmediateOperation, rd: Register, rs: Regi
 fn pair_line(alloc: Global, operation: ImmediateOperation, rd: Register, rs: Register) -> Said
     ensures { IfOk result (λ said. said ≡ forms.pair_line operation rd rs) }
 {
-    if is_high(&rd) || is_high(&rs) {
+    if may_be_high(&rd) || may_be_high(&rs) {
         return Ok(high_line(operation, rd, rs));
     }
     low_line(alloc, operation, rd, rs)

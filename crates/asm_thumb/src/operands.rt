@@ -83,13 +83,13 @@ pub fn low_and_any(
     Ok(both(first, second))
 }
 
-/// Whether a register is one from r8 to r15.
-pub fn is_high(register: &Register) -> bool
-    ensures { result ≡ operands.is_high register.now }
+/// Whether a register is one from r8 to r15, or a name, which may stand for one.
+pub fn may_be_high(register: &Register) -> bool
+    ensures { result ≡ operands.may_be_high register.now }
 {
     match register {
         Register::Number(number) => *number >= 8,
-        Register::Named(_) => false,
+        Register::Named(_) => true,
     }
 }
 
