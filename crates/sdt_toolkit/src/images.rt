@@ -175,7 +175,7 @@ fn has_long_file(files: &[OutFile]) -> bool
 
 /// The files of load regions, where the image has one for each.
 fn load_files(alloc: Global, image: &Image, out: &Text) -> Result<List<OutFile>, Fault>
-    requires { links.IsWritable image.now }
+    requires sized { links.IsWritable image.now }
     requires loads { links.IsLoaded image.now.kind }
     ensures value { Gives result (filed out.now image.now) }
     ensures short { IfOk result (λ files. All (λ f. length f.bytes < 2 ^ 32) files) }
@@ -192,7 +192,7 @@ fn load_files(alloc: Global, image: &Image, out: &Text) -> Result<List<OutFile>,
 
 /// The ARM image file of an image.
 fn aif_files(alloc: Global, image: &Image, out: &Text) -> Result<List<OutFile>, Fault>
-    requires { links.IsWritable image.now }
+    requires sized { links.IsWritable image.now }
     requires form { links.IsOneFile image.now.kind }
     ensures value { Gives result (filed out.now image.now) }
     ensures short { IfOk result (λ files. All (λ f. length f.bytes < 2 ^ 32) files) }
@@ -200,7 +200,7 @@ fn aif_files(alloc: Global, image: &Image, out: &Text) -> Result<List<OutFile>, 
     let bytes = make_aif(alloc, image)?;
     let mut files = Vec::new(alloc);
     files.push(OutFile {
-        name: out.copied(alloc)?,
+        name: out.try_clone(alloc)?,
         bytes,
     })?;
     if has_long_file(files.as_slice()) {
