@@ -1,6 +1,5 @@
 -- A link that is answered with an ARM image file, and what its image is in memory.
-use Rattle.std.proofs.Common.{◌≡◌, ℕ, ◌+◌, ◌-◌, ◌/◌, ◌^◌, ◌≤◌, Bool, true, false, List, [], ◌∷◌, length, Option, Some, None, Result, Ok, Err, refl, sym, ap, ◌∙◌, subst}
-use Rattle.std.specs.Prelude.{slice_get}
+use Rattle.std.proofs.Common.{◌≡◌, ℕ, ◌+◌, ◌-◌, ◌/◌, ◌^◌, ◌≤◌, Bool, true, false, List, [], length, Option, None, refl, sym, ap, ◌∙◌, subst}
 use Rattle.sdt_word.specs.Numbers.{flag}
 use Rattle.sdt_word.specs.declared.ranges.Range32.{Range32}
 use Rattle.aof_object.specs.declared.records.Object.{Object}
@@ -36,10 +35,9 @@ use Rattle.link_laws.specs.Placing.{AreApplied, IsHeaderOf, IsPlacedLink, bases_
 use Rattle.link_laws.proofs.AifStarts.{made_fixed_boots, made_has_parts, made_is_aif, made_is_seen, made_moving_boots, moved_is_seen}
 use Rattle.link_laws.proofs.PlacedLemmas.{objects_are_placed}
 use Rattle.link_laws.proofs.ShownLemmas.{objects_are_shown, ranges_exist}
-use Rattle.armlink_core.specs.Images.{image_of, linking}
-use Rattle.armlink_core.specs.Moves.{moves_in}
+use Rattle.armlink_core.specs.Images.{image_of}
 use Rattle.sdt_toolkit.proofs.StartLemmas.{IsAnswered, answered, bytes_alike, made_by, not_refused, still_image}
-use Rattle.sdt_toolkit.specs.Starting.{AifImagesStart, AreShownIn, AreSound, FitsAt, HasRoom, StartsAsAif}
+use Rattle.sdt_toolkit.specs.Starting.{AifImagesStart, AreShownIn, HasRoom, StartsAsAif}
 
 -- ---- objects that are seen
 
@@ -142,7 +140,7 @@ module _ (base : ℕ) (ram : Option (List Range32)) (l : Linked) (a : Assigned) 
   moving_boots =
       let boots = made_moving_boots base ram l a vs p h movable in
       let by_moves : BootsAif (aif_at base l a vs p) (plan.parts_size moving_plan) (plan.zero_size moving_plan) moved_views
-          (aif_bound (length (moves_of l p)) (plan.zero_size moving_plan)) moved_entry =
+      (aif_bound (length (moves_of l p)) (plan.zero_size moving_plan)) moved_entry =
       subst (λ (ms : List ℕ). BootsAif (aif_at base l a vs p) (plan.parts_size moving_plan) (plan.zero_size moving_plan) moved_views (aif_bound (length ms) (plan.zero_size moving_plan)) moved_entry)
       (sym same_moves) boots in
       let by_zero : BootsAif (aif_at base l a vs p) (plan.parts_size moving_plan) (zero_size p.regions) moved_views (aif_bound (length (moves_of l p)) (zero_size p.regions)) moved_entry =
@@ -187,5 +185,5 @@ answered_aif base false ram os i n = answered_fixed base ram os i n
 answered_aif base true ram os i n = answered_moving base ram os i n
 
 pub aif_images_start : AifImagesStart
-aif_images_start base relocatable ram os i sound whole small h =
+aif_images_start base relocatable ram os i sound whole h =
     answered_aif base relocatable ram os i (answered (kind.Aif base relocatable) ram os i sound (whole, tt) (whole, (refl, (refl, tt))) h)

@@ -74,20 +74,20 @@ scatter_image starts inputs file text banks (Err (fault.ReadFault q)) sound h = 
 scatter_image starts inputs file text banks (Err fault.NoMemory) sound h = tt
 
 pub aif_image : AifImagesStart → (inputs : List (Named Linkable)) (base : ℕ) (relocatable : Bool) (text : List ℕ) (banks : Option (List Bank)) (r : Result Image Fault) → base % 4 ≡ 0
-    → base < 2 ^ 32 → LinksSound (objects_among inputs) (archives_among inputs)
+    → LinksSound (objects_among inputs) (archives_among inputs)
     → Tells r (IsAifImage (objects_among inputs) (archives_among inputs) base relocatable banks) → Tells r (ImageIs (form.Aif base relocatable) text banks inputs)
-aif_image starts inputs base relocatable text banks (Ok i) whole small sound h =
+aif_image starts inputs base relocatable text banks (Ok i) whole sound h =
     let links : AsAif base relocatable banks h.0 (Ok i) = h.2 in
     record {
       objects = h.0;
       linked = h.1;
       links = h.2;
-      memory = same_memory (form.Aif base relocatable) h.0 i (starts base relocatable links.0 h.0 i (sound h.0 h.1) whole small (sym links.2));
+      memory = same_memory (form.Aif base relocatable) h.0 i (starts base relocatable links.0 h.0 i (sound h.0 h.1) whole (sym links.2));
     }
-aif_image starts inputs base relocatable text banks (Err (fault.Refused e)) whole small sound h =
+aif_image starts inputs base relocatable text banks (Err (fault.Refused e)) whole sound h =
     record { objects = h.0; linked = h.1; links = h.2; memory = no_memory (form.Aif base relocatable) h.0 e }
-aif_image starts inputs base relocatable text banks (Err (fault.ReadFault q)) whole small sound h = h
-aif_image starts inputs base relocatable text banks (Err fault.NoMemory) whole small sound h = tt
+aif_image starts inputs base relocatable text banks (Err (fault.ReadFault q)) whole sound h = h
+aif_image starts inputs base relocatable text banks (Err fault.NoMemory) whole sound h = tt
 
 pub plain_image : PlainImagesLoad → (inputs : List (Named Linkable)) (base : ℕ) (text : List ℕ) (banks : Option (List Bank)) (r : Result Image Fault) → base % 4 ≡ 0
     → LinksSound (objects_among inputs) (archives_among inputs) → Links (objects_among inputs) (archives_among inputs) (linking (kind.Plain base) None) r
@@ -100,12 +100,16 @@ plain_image loads inputs base text banks (Err fault.NoMemory) whole sound h = tt
 
 -- ---- what is written of it
 
-mapped : (rs : List Region) → AllByRecursion (λ r. r.length + r.zero ≤ 2 ^ 26) rs → AllByRecursion IsMapped rs
+pub mapped : (rs : List Region) → AllByRecursion (λ r. r.length + r.zero ≤ 2 ^ 26) rs → AllByRecursion IsMapped rs
 mapped [] h = tt
 mapped (r ∷ rs) h = let small = h.0 in (record { length = omega (arith, small); zero = omega (arith, small) }, mapped rs h.1)
 
 writable : (f : ImageKind) (i : Image) → IsSized f i → IsWritable i
-writable f i sized = mapped i.regions sized.regions
+writable f i sized = sized.regions
+
+pub sized : (rs : List Region) → AllByRecursion (λ r. r.length + r.zero ≤ 2 ^ 26) rs → AllByRecursion (λ r. r.length + r.zero < 2 ^ 32) rs
+sized [] h = tt
+sized (r ∷ rs) h = let small = h.0 in (omega (arith, small), sized rs h.1)
 
 links_writable : LinkedSizes → ScatterSizes → (f : LinkForm) (text : List ℕ) (banks : Option (List Bank)) (os : List (Named Object)) (i : Image) → LinksTo f text banks os (Ok i) → IsWritable i
 links_writable linked scattered (form.Scatter file) text banks os i h = writable shape.Scatter i (scattered text h.0 os i (sym h.2))

@@ -1,7 +1,7 @@
 -- What the commands `link` and `build` make of files: the files of an image, or the first refusal, and what each answer
 -- says and leaves (SDT 2.50 Reference Guide, armlink; the order of refusals, and that `build` assembles the sources among
 -- its inputs, are this project's).
-use Rattle.std.specs.Prelude.{◌≡◌, ◌⊎◌, ℕ, ◌^◌, nat_le, Bool, true, if◌then◌else◌, List, [], ◌∷◌, length, map, Option, Some, None, Result, Ok, Err}
+use Rattle.std.specs.Prelude.{◌≡◌, ◌⊎◌, ℕ, ◌+◌, ◌^◌, ◌≤◌, nat_le, Bool, true, if◌then◌else◌, List, [], ◌∷◌, length, map, Option, Some, None, Result, Ok, Err}
 use Rattle.std.specs.List.{list_any, AllByRecursion}
 use Rattle.sdt_word.specs.declared.ranges.Range32.{Range32}
 use Rattle.sdt_fault.specs.declared.answer.Answer.{Answer}
@@ -24,7 +24,7 @@ use Rattle.link_model.specs.Chosen.{AreLinked}
 use Rattle.place_model.specs.declared.scatter.Kind.TheVariants as kind
 use Rattle.armlink_core.specs.Images.{linking, scatter_linking}
 use Rattle.bin_image.specs.declared.records.OutFile.{OutFile}
-use Rattle.bin_image.specs.Files.{files_of, IsMapped}
+use Rattle.bin_image.specs.Files.{files_of}
 use Rattle.tool_words.specs.declared.command.Bank.{Bank}
 use Rattle.tool_words.specs.declared.command.LinkForm.{LinkForm}
 use Rattle.tool_words.specs.declared.command.LinkForm.TheVariants as form
@@ -135,9 +135,9 @@ abbrev pub IsOneFile : ImageKind → Type 0
 IsOneFile (shape.Aif relocatable) = Unit {0}
 IsOneFile other = ⊥
 
--- an image with sizes of 32 bits
+-- an image whose regions have 64 MiB at most
 abbrev pub IsWritable : Image → Type 0
-IsWritable i = AllByRecursion IsMapped i.regions
+IsWritable i = AllByRecursion (λ r. r.length + r.zero ≤ 2 ^ 26) i.regions
 
 abbrev pub InputsMake : LinkWords → List ℕ → Result (List (Named Linkable)) Refusal → Result (List OutFile) Refusal → Type 0
 InputsMake w text (Err r) made = made ≡ Err r

@@ -3,7 +3,7 @@
 -- image's bound, with the memory as the view says. An ARM image file starts so too, from its own address or, where it can
 -- be moved, from each that leaves room (SDT 2.50 Reference Guide, scatter loading: load view and execution view; ARM Image
 -- Format; the startup code is this project's).
-use Rattle.std.specs.Prelude.{◌≡◌, ℕ, ◌+◌, ◌-◌, ◌%◌, ◌^◌, ◌<◌, ◌≤◌, Bool, true, false, List, length, map, slice_get, Option, Some, None, Ok}
+use Rattle.std.specs.Prelude.{◌≡◌, ℕ, ◌+◌, ◌-◌, ◌%◌, ◌^◌, ◌≤◌, Bool, true, false, List, length, map, slice_get, Option, Some, None, Ok}
 use Rattle.std.specs.List.{AllByRecursion}
 use Rattle.sdt_word.specs.declared.ranges.Range32.{Range32}
 use Rattle.sdt_word.specs.Numbers.{flag}
@@ -117,4 +117,4 @@ PlainImagesLoad =
 abbrev pub AifImagesStart : Type 0
 AifImagesStart =
     (base : ℕ) (relocatable : Bool) (ram : Option (List Range32)) (os : List (Named Object)) (i : Image)
-    → AreSound os → base % 4 ≡ 0 → base < 2 ^ 32 → linking (kind.Aif base relocatable) ram os ≡ Ok i → StartsAsAif relocatable os i
+    → AreSound os → base % 4 ≡ 0 → linking (kind.Aif base relocatable) ram os ≡ Ok i → StartsAsAif relocatable os i

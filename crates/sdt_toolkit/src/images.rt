@@ -1,6 +1,6 @@
 //! The image of inputs, and its files.
 
-ghost use Rattle.std.specs.Prelude.{◌≡◌, ◌<◌, ◌^◌, All, IfOk, length};
+ghost use Rattle.std.specs.Prelude.{◌≡◌, ◌%◌, ◌<◌, ◌^◌, All, IfOk, length};
 ghost use Rattle.std.specs.List.{AllByRecursion, list_any};
 ghost use Rattle.alf_archive.specs.Grammar.{IsValid as IsValidArchive};
 ghost use Rattle.aof_object.specs.Validity.{IsValid};
@@ -12,9 +12,9 @@ ghost use Rattle.sdt_toolkit.specs.Links.{ImageIs, filed, is_long};
 
 use crate::laws::images_start;
 use crate::sound::{archives_fit, objects_fit};
+use aif_image::make_aif;
 use alf_archive::Archive;
 use aof_object::Object;
-use aif_image::make_aif;
 use armlink_core::{link_aif, link_plain, link_scatter};
 use bin_image::{OutFile, make_bins};
 use link_model::{Image, ImageKind, LoadRegion, Named};
@@ -110,14 +110,7 @@ fn aif_image(
         Some(banks) => {
             let ranges = ranges(alloc, banks.as_slice())?;
             let ram = Some(ranges.as_slice());
-            link_aif(
-                alloc,
-                parts.objects,
-                parts.archives,
-                base,
-                relocatable,
-                ram,
-            )
+            link_aif(alloc, parts.objects, parts.archives, base, relocatable, ram)
         }
     }
 }

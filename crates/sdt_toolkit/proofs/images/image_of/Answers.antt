@@ -1,4 +1,3 @@
-use Rattle.std.proofs.Common.{arith}
 use Rattle.sdt_toolkit.proofs.ImageLemmas.{aif_image, plain_image, scatter_image, sound_inputs}
 use Rattle.sdt_toolkit.proofs.InputLemmas.{valid_archives, valid_objects}
 use Rattle.sdt_toolkit.proofs.images.image_of.Goals as goal
@@ -27,7 +26,7 @@ returns-in-Aif c =
     let objects = rw (c.as_slice.ensures.value, c.in_ok-parts.ensures.objects) at c.objects_fit.ensures in
     let archives = rw (c.as_slice-2.ensures.value, c.in_ok-parts.ensures.archives) at c.archives_fit.ensures in
     let whole = rw c.in-Aif.is at c.requires.form in
-    rw c.in-Aif.is (aif_image c.images_start.ensures.aif c.args.inputs.items c.in-Aif.base c.in-Aif.relocatable c.args.text.now c.args.ram.now c.aif_image.result whole arith
+    rw c.in-Aif.is (aif_image c.images_start.ensures.aif c.args.inputs.items c.in-Aif.base c.in-Aif.relocatable c.args.text.now c.args.ram.now c.aif_image.result whole
     (sound_inputs c.args.inputs.items c.requires.inputs objects archives) exact)
 
 pub returns-in-Plain : goal.returns-in-Plain
