@@ -10,8 +10,8 @@ use Rattle.said_model.specs.Fit.{AllFit}
 use Rattle.said_model.specs.Said.{AllSaid, AllHaveTexts}
 use Rattle.source_model.specs.Objects.{IsObject}
 use Rattle.source_model.specs.SourceFaults.{layout_faults, value_faults}
-use Rattle.source_model.specs.Units.{Emitted, Bytes, Word, Instruction, Target, BySymbol}
-use Rattle.source_laws.specs.Laws.{InArmState}
+use Rattle.source_model.specs.Units.{Emitted, Bytes, Word, Instruction, Half, LinkPair, Target, BySymbol}
+use Rattle.source_laws.specs.Laws.{AreOfState}
 
 -- ---- symbols that relocations name
 
@@ -31,20 +31,22 @@ abbrev pub UnitListed : List (List ℕ) → Emitted → Type 0
 UnitListed names (Bytes b) = Unit {0}
 UnitListed names (Word w) = TargetListed names w.target
 UnitListed names (Instruction i symbol) = OptionListed names symbol
+UnitListed names (Half i) = Unit {0}
+UnitListed names (LinkPair first second symbol) = OptionListed names symbol
 
--- as lines of ARM state say them
+-- as lines say them, each of its state
 pub record AreFaultless (statements : List Statement) : Type 0 where
   pub said : AllSaid statements
   pub texts : AllHaveTexts statements
   pub fit : AllFit statements
   pub layout : layout_faults statements ≡ None
   pub values : value_faults statements ≡ None
-  pub arm : InArmState statements
+  pub states : AreOfState statements
 
 -- ---- objects
 
 abbrev pub ObjectsAreValid : Type 0
 ObjectsAreValid =
     (statements : List Statement) (o : Object) → AllSaid statements → AllHaveTexts statements → AllFit statements
-    → layout_faults statements ≡ None → value_faults statements ≡ None → InArmState statements
+    → layout_faults statements ≡ None → value_faults statements ≡ None → AreOfState statements
     → length o.areas < 2 ^ 24 → length o.symbols < 2 ^ 24 → IsObject statements o → IsValid o

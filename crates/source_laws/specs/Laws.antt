@@ -10,6 +10,7 @@ use Rattle.asm_model.specs.declared.statements.Statement.{Statement}
 use Rattle.asm_model.specs.declared.statements.What.{What}
 use Rattle.asm_model.specs.declared.statements.What.TheVariants as what
 use Rattle.asm_model.specs.declared.values.Value.{Value}
+use Rattle.asm_model.specs.Before.{thumb_behind}
 use Rattle.asm_model.specs.Laid.{LaidLine, taken, pieces_of, laid, final_names}
 use Rattle.asm_model.specs.Marks.{datum_names}
 use Rattle.asm_model.specs.Symbols.{literal_value}
@@ -39,9 +40,15 @@ is_filled (what.Directive l) = is_data l
 abbrev pub word_among : List LaidLine → LaidLine → List LaidLine → Option ℕ
 word_among after l before = word_of l.area (taken l.extent) (pieces_of (l ∷ before)) (pieces_of (in_order after []))
 
-abbrev pub InArmState : List Statement → Type 0
-InArmState statements =
-    (after before : List LaidLine) (l : LaidLine) → laid statements ≡ after ++ l ∷ before → l.thumb ≡ false
+-- an instruction is one of the line's state
+abbrev pub IsOfState : Bool → What → Type 0
+IsOfState true (what.Arm l) = ⊥
+IsOfState false (what.Thumb l) = ⊥
+IsOfState thumb w = Unit {0}
+
+abbrev pub AreOfState : List Statement → Type 0
+AreOfState statements =
+    (after before : List LaidLine) (l : LaidLine) → laid statements ≡ after ++ l ∷ before → IsOfState l.thumb l.statement.what
 
 abbrev pub context_behind : List Statement → LaidLine → List LaidLine → Context
 context_behind statements l before = context_of (final_names (laid statements)) statements l before
@@ -56,21 +63,17 @@ StandApart p q = (p.0 + length (unit_bytes p.1) ≤ q.0) ⊎ (q.0 + length (unit
 
 -- ---- sources without faults
 
-abbrev pub IsNoCode16 : What → Type 0
-IsNoCode16 (what.Directive line.Code16) = ⊥
-IsNoCode16 _ = Unit {0}
+-- each statement is of the state that those before it leave
+abbrev pub KeepStates : List Statement → Type 0
+KeepStates [] = Unit {0}
+KeepStates (s ∷ before) = IsOfState (thumb_behind before) s.what × KeepStates before
 
--- no statement is CODE16
-abbrev pub NoCode16 : List Statement → Type 0
-NoCode16 [] = Unit {0}
-NoCode16 (s ∷ before) = IsNoCode16 s.what × NoCode16 before
-
-abbrev pub SourcesStayInArmState : Type 0
-SourcesStayInArmState = (statements : List Statement) → NoCode16 statements → InArmState statements
+abbrev pub SourcesKeepStates : Type 0
+SourcesKeepStates = (statements : List Statement) → KeepStates statements → AreOfState statements
 
 abbrev pub SourcesStandApart : Type 0
 SourcesStandApart =
-    (statements : List Statement) → layout_faults statements ≡ None → InArmState statements
+    (statements : List Statement) → layout_faults statements ≡ None → AreOfState statements
     → (area : ℕ) (p q : Piece) → StandsIn (source_of statements) area p → StandsIn (source_of statements) area q
     → (p ≡ q) ⊎ StandApart p q
 

@@ -7,6 +7,9 @@ use Rattle.sdt_word.specs.Numbers.{flag}
 use Rattle.sdt_word.specs.Rows.{word_of}
 use Rattle.sdt_fault.specs.declared.kinds.LineKind.{LineKind}
 use Rattle.arm_isa.specs.ArmRows.{arm_row, arm_fields}
+use Rattle.thumb_isa.specs.ThumbRows.{thumb_row, thumb_fields}
+use Rattle.thumb_isa.specs.declared.instr.ThumbInstr.{ThumbInstr}
+use Rattle.thumb_isa.specs.declared.instr.ThumbInstr.TheVariants.{BranchLink}
 use Rattle.aof_object.specs.declared.records.Area.{Area}
 use Rattle.aof_object.specs.declared.records.Entry.{Entry}
 use Rattle.aof_object.specs.declared.records.Object.{Object}
@@ -36,7 +39,7 @@ use Rattle.asm_model.specs.Offsets.{is_of, area_size}
 use Rattle.asm_model.specs.Symbols.{symbols_of, literal_value}
 use Rattle.source_model.specs.Contexts.{Context, sees}
 use Rattle.source_model.specs.SourceFaults.{context_of, word_of as literal_place}
-use Rattle.source_model.specs.Units.{Emitted, Bytes, Word, Instruction, Stored, Target, Nothing, ByArea, BySymbol, stored, units}
+use Rattle.source_model.specs.Units.{Emitted, Bytes, Word, Instruction, Half, LinkPair, Stored, Target, Nothing, ByArea, BySymbol, stored, units}
 
 -- ---- areas
 
@@ -67,10 +70,19 @@ attributes_of area thumb (l ∷ before) = or_else (attributes_of area thumb befo
 
 -- ---- what stands in an area
 
+abbrev pub half_of : ThumbInstr → ℕ
+half_of i = word_of (thumb_row i) (thumb_fields i)
+
+-- both halves of BL as one word
+abbrev pub link_word : ℕ → ℕ → ℕ
+link_word first second = half_of (BranchLink false first) + half_of (BranchLink true second) * 2 ^ 16
+
 abbrev pub unit_bytes : Emitted → List ℕ
 unit_bytes (Bytes b) = b
 unit_bytes (Word w) = bytes_of w.number 4
 unit_bytes (Instruction i s) = bytes_of (word_of (arm_row i) (arm_fields i)) 4
+unit_bytes (Half i) = bytes_of (half_of i) 2
+unit_bytes (LinkPair first second s) = bytes_of (link_word first second) 4
 
 abbrev pub units_bytes : List Emitted → List ℕ
 units_bytes [] = []
@@ -173,10 +185,16 @@ abbrev pub branch_relocs : Source → ℕ → Option (List ℕ) → List Reloc
 branch_relocs s at None = []
 branch_relocs s at (Some name) = record { offset = at; word = 2 ^ 31 + 2 ^ 27 + 2 ^ 26 + 3 * 2 ^ 24 + symbol_number s name } ∷ []
 
+-- an odd offset marks the pair of Thumb state
+abbrev pub link_relocs : Source → ℕ → Option (List ℕ) → List Reloc
+link_relocs s at symbol = branch_relocs s (at + 1) symbol
+
 abbrev pub relocs_of : Source → Piece → List Reloc
 relocs_of s (at, Bytes b) = []
 relocs_of s (at, Word w) = word_relocs s at w.target
 relocs_of s (at, Instruction i symbol) = branch_relocs s at symbol
+relocs_of s (at, Half i) = []
+relocs_of s (at, LinkPair first second symbol) = link_relocs s at symbol
 
 abbrev pub IsRelocOf : List Reloc → Reloc → Type 0
 IsRelocOf [] r = ⊥

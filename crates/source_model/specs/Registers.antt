@@ -16,8 +16,12 @@ use Rattle.asm_model.specs.declared.operands.Address.{Address}
 use Rattle.asm_model.specs.declared.operands.Address.TheVariants as address
 use Rattle.asm_model.specs.declared.operands.HalfOffset.{HalfOffset}
 use Rattle.asm_model.specs.declared.operands.HalfOffset.TheVariants as half
+use Rattle.asm_model.specs.declared.operands.ThumbOperand.{ThumbOperand}
+use Rattle.asm_model.specs.declared.operands.ThumbOperand.TheVariants as operand
 use Rattle.asm_model.specs.declared.arm_lines.ArmLine.{ArmLine}
 use Rattle.asm_model.specs.declared.arm_lines.ArmLine.TheVariants as arm
+use Rattle.asm_model.specs.declared.thumb_lines.ThumbLine.{ThumbLine}
+use Rattle.asm_model.specs.declared.thumb_lines.ThumbLine.TheVariants as thumb
 use Rattle.asm_model.specs.declared.statements.Statement.{Statement}
 use Rattle.asm_model.specs.declared.statements.PseudoLine.{PseudoLine}
 use Rattle.asm_model.specs.declared.statements.PseudoLine.TheVariants as pseudo
@@ -106,6 +110,31 @@ arm_registers (arm.TransferBlock condition load mode rn write_back list user) = 
 arm_registers (arm.Branch condition link target) = []
 arm_registers (arm.SoftwareInterrupt condition number) = []
 
+abbrev pub operand_registers : ThumbOperand → List Register
+operand_registers (operand.Register rn) = rn ∷ []
+operand_registers (operand.Number e) = []
+
+abbrev pub thumb_registers : ThumbLine → List Register
+thumb_registers (thumb.ShiftImmediate shift rd rs amount) = rd ∷ rs ∷ []
+thumb_registers (thumb.AddSubtract subtract rd rs o) = rd ∷ rs ∷ operand_registers o
+thumb_registers (thumb.DataImmediate operation rd value) = rd ∷ []
+thumb_registers (thumb.DataRegister operation rd rs) = rd ∷ rs ∷ []
+thumb_registers (thumb.HighRegister operation rd rs) = rd ∷ rs ∷ []
+thumb_registers (thumb.LoadLiteral rd a) = rd ∷ []
+thumb_registers (thumb.TransferRegister load byte rd rn ro) = rd ∷ rn ∷ ro ∷ []
+thumb_registers (thumb.TransferSigned kind rd rn ro) = rd ∷ rn ∷ ro ∷ []
+thumb_registers (thumb.TransferImmediate load byte rd rn offset) = rd ∷ rn ∷ []
+thumb_registers (thumb.TransferHalf load rd rn offset) = rd ∷ rn ∷ []
+thumb_registers (thumb.TransferStack load rd offset) = rd ∷ []
+thumb_registers (thumb.LoadAddress stack rd offset) = rd ∷ []
+thumb_registers (thumb.AdjustStack subtract offset) = []
+thumb_registers (thumb.PushPop load list) = list_registers list.items
+thumb_registers (thumb.TransferMultiple load rn list) = rn ∷ list_registers list.items
+thumb_registers (thumb.BranchConditional condition target) = []
+thumb_registers (thumb.SoftwareInterrupt number) = []
+thumb_registers (thumb.Branch target) = []
+thumb_registers (thumb.BranchLink target) = []
+
 abbrev pub pseudo_registers : PseudoLine → List Register
 pseudo_registers (pseudo.LoadConstant condition rd value) = rd ∷ []
 pseudo_registers (pseudo.Address condition rd target) = rd ∷ []
@@ -114,6 +143,7 @@ pseudo_registers pseudo.NoOperation = []
 
 abbrev pub registers_of : What → List Register
 registers_of (what.Arm l) = arm_registers l
+registers_of (what.Thumb l) = thumb_registers l
 registers_of (what.Pseudo l) = pseudo_registers l
 registers_of _ = []
 
@@ -158,6 +188,8 @@ is_pc (Some n) = n == 15
 -- operands that no instruction has: a range that falls, and pc as the register of ADRL
 abbrev pub operand_kinds : List Named → What → List LineKind
 operand_kinds known (what.Arm (arm.TransferBlock condition load mode rn write_back list user)) = range_kinds known list.items
+operand_kinds known (what.Thumb (thumb.PushPop load list)) = range_kinds known list.items
+operand_kinds known (what.Thumb (thumb.TransferMultiple load rn list)) = range_kinds known list.items
 operand_kinds known (what.Pseudo (pseudo.LongAddress condition rd target)) = kind_if (is_pc (number_of known rd)) BadOperand
 operand_kinds known _ = []
 

@@ -1,17 +1,21 @@
--- What a statement puts into its area: bytes, words that may be relocated, and instructions, one behind the other; all else
--- is zero. A word with a label of its own source holds the label's offset and is relocated by the area, and any other
+-- What a statement puts into its area: bytes, words that may be relocated, and instructions of its state, one behind the
+-- other; all else is zero. A word with a label of its own source holds the label's offset and is relocated by the area, and any other
 -- place by its symbol. SDT 2.50 Reference Guide, chapter on the assembler, and ARM Object Format; ranges and kinds of
 -- faults are this project's.
-use Rattle.std.specs.Prelude.{ℕ, ◌+◌, ◌-◌, ◌*◌, ◌%◌, ◌^◌, ◌||◌, nat_lt, nat_le, List, [], ◌∷◌, if◌then◌else◌, Option, Some, None, Result, Ok, Err}
+use Rattle.std.specs.Prelude.{ℕ, ◌+◌, ◌-◌, ◌*◌, ◌%◌, ◌^◌, ◌||◌, nat_lt, nat_le, List, [], ◌∷◌, Bool, true, false, if◌then◌else◌, Option, Some, None, Result, Ok, Err}
 use Rattle.sdt_word.specs.Bytes.{bytes_of}
 use Rattle.sdt_fault.specs.declared.kinds.LineKind.{LineKind}
-use Rattle.sdt_fault.specs.declared.kinds.LineKind.TheVariants.{Syntax, Forward, WrongType, OutOfRange}
+use Rattle.sdt_fault.specs.declared.kinds.LineKind.TheVariants.{Forward, WrongType, OutOfRange}
 use Rattle.arm_isa.specs.declared.instr.ArmInstr.{ArmInstr}
+use Rattle.thumb_isa.specs.declared.instr.ThumbInstr.{ThumbInstr}
 use Rattle.asm_model.specs.declared.exprs.Expr.{Expr}
 use Rattle.asm_model.specs.declared.values.Value.{Value}
 use Rattle.asm_model.specs.declared.values.Value.TheVariants.{Number, Words, Place}
 use Rattle.asm_model.specs.declared.arm_lines.ArmLine.{ArmLine}
 use Rattle.asm_model.specs.declared.arm_lines.ArmLine.TheVariants as arm
+use Rattle.asm_model.specs.declared.thumb_lines.ThumbLine.{ThumbLine}
+use Rattle.asm_model.specs.declared.thumb_lines.ThumbLine.TheVariants as thumb
+use Rattle.asm_model.specs.declared.statements.PseudoLine.{PseudoLine}
 use Rattle.asm_model.specs.declared.directives.DirectiveLine.{DirectiveLine}
 use Rattle.asm_model.specs.declared.directives.DirectiveLine.TheVariants as line
 use Rattle.asm_model.specs.declared.statements.What.{What}
@@ -24,6 +28,9 @@ use Rattle.asm_model.specs.Marks.{counts_one, thumb_bit}
 use Rattle.source_model.specs.Contexts.{Context, sees, value_of, number_in, and_then}
 use Rattle.source_model.specs.ArmForms.{arm_instruction, is_settled}
 use Rattle.source_model.specs.PseudoForms.{pseudo_instructions}
+use Rattle.source_model.specs.declared.codes.ThumbCode.{ThumbCode}
+use Rattle.source_model.specs.declared.codes.ThumbCode.TheVariants as code
+use Rattle.source_model.specs.ThumbForms.{thumb_instruction, thumb_pseudo}
 
 -- what a word is relocated by
 pub data Target : Type 0 where
@@ -41,6 +48,10 @@ pub data Emitted : Type 0 where
   Word : Stored → Emitted
   -- with the symbol of a branch that is left to the linker
   Instruction : ArmInstr → Option (List ℕ) → Emitted
+  -- an instruction of Thumb state
+  Half : ThumbInstr → Emitted
+  -- BL of Thumb state: the fields of both halves, with the symbol of one that is left to the linker
+  LinkPair : ℕ → ℕ → Option (List ℕ) → Emitted
 
 -- ---- words
 
@@ -96,9 +107,22 @@ abbrev pub branch_symbol : Context → ArmLine → Option (List ℕ)
 branch_symbol c (arm.Branch condition link target) = linked_symbol c (value_of c target)
 branch_symbol c _ = None
 
+abbrev pub link_symbol : Context → ThumbLine → Option (List ℕ)
+link_symbol c (thumb.BranchLink target) = linked_symbol c (value_of c target)
+link_symbol c _ = None
+
+abbrev pub code_unit : Option (List ℕ) → ThumbCode → Emitted
+code_unit symbol (code.One i) = Half i
+code_unit symbol (code.Pair first second) = LinkPair first second symbol
+
 abbrev pub instruction_units : List ArmInstr → List Emitted
 instruction_units [] = []
 instruction_units (i ∷ is) = Instruction i None ∷ instruction_units is
+
+-- in Thumb or ARM state
+abbrev pub pseudo_units : Bool → Context → Option ℕ → PseudoLine → Result (List Emitted) LineKind
+pseudo_units true c word l = mapped (λ i. Half i ∷ []) (thumb_pseudo c word l)
+pseudo_units false c word l = mapped instruction_units (pseudo_instructions c word l)
 
 -- ---- all
 
@@ -109,10 +133,10 @@ directive_units c data_names s (line.Dcw es) = half_units c es
 directive_units c data_names s (line.Dcb es) = byte_units c s es
 directive_units c data_names s _ = Ok []
 
--- of a statement in ARM state that sees this at its line, whose literal has its word at an offset, if it has one
+-- of a statement that sees this at its line, whose literal has its word at an offset, if it has one
 abbrev pub units : Context → List (List ℕ) → Sight → Option ℕ → What → Result (List Emitted) LineKind
 units c data_names s word what.Nothing = Ok []
 units c data_names s word (what.Arm l) = mapped (λ i. Instruction i (branch_symbol c l) ∷ []) (arm_instruction c l)
-units c data_names s word (what.Thumb l) = Err Syntax
-units c data_names s word (what.Pseudo l) = mapped instruction_units (pseudo_instructions c word l)
+units c data_names s word (what.Thumb l) = mapped (λ i. code_unit (link_symbol c l) i ∷ []) (thumb_instruction c l)
+units c data_names s word (what.Pseudo l) = pseudo_units c.line.thumb c word l
 units c data_names s word (what.Directive l) = directive_units c data_names s l

@@ -1,8 +1,9 @@
--- What it means that a statement of ARM state stands at an address. Its data are its operands' values, each name with its
--- address; its word reads as its instruction; a branch reaches its target, itself or by a veneer of its region; a load
--- from a label, ADR and ADRL give the label's address; a literal's word holds its value; and all else is zero. SDT 2.50
+-- What it means that a statement stands at an address. Its data are its operands' values, each name with its address; its
+-- word, half-word or pair of half-words reads as its instruction; a branch reaches its target, itself or by a veneer of its
+-- region; a load from a label, ADR and ADRL give the label's address; a literal's word holds its value; and all else is
+-- zero. SDT 2.50
 -- Reference Guide, chapter on the assembler; ARM Architecture Reference Manual, the instructions.
-use Rattle.std.specs.Prelude.{◌≡◌, ◌⊎◌, ℕ, ◌+◌, ◌-◌, ◌%◌, ◌^◌, ◌<◌, ◌≤◌, Bool, false, true, if◌then◌else◌, List, [], ◌∷◌, length, Option, Some, None, Result, Ok, Err}
+use Rattle.std.specs.Prelude.{◌≡◌, ◌⊎◌, ℕ, ◌+◌, ◌-◌, ◌*◌, ◌/◌, ◌%◌, ◌^◌, ◌<◌, ◌≤◌, Bool, false, true, if◌then◌else◌, List, [], ◌∷◌, length, Option, Some, None, Result, Ok, Err}
 use Rattle.sdt_word.specs.Bytes.{bytes_of}
 use Rattle.sdt_word.specs.Numbers.{flag, operand}
 use Rattle.sdt_word.specs.declared.codes.Condition.{Condition}
@@ -16,12 +17,19 @@ use Rattle.arm_isa.specs.declared.instr.ArmInstr.{ArmInstr}
 use Rattle.arm_isa.specs.declared.instr.ArmInstr.TheVariants as instr
 use Rattle.arm_isa.specs.declared.instr.Operation.{Operation}
 use Rattle.arm_isa.specs.declared.instr.Operation.TheVariants.{Add, Sub, Mov}
+use Rattle.thumb_isa.specs.ThumbRows.{ReadsThumb}
+use Rattle.thumb_isa.specs.declared.instr.HighOperation.TheVariants as high
+use Rattle.thumb_isa.specs.declared.instr.ThumbInstr.{ThumbInstr}
+use Rattle.thumb_isa.specs.declared.instr.ThumbInstr.TheVariants as half
 use Rattle.asm_model.specs.declared.arm_lines.ArmLine.{ArmLine}
 use Rattle.asm_model.specs.declared.arm_lines.ArmLine.TheVariants as arm
 use Rattle.asm_model.specs.declared.directives.DirectiveLine.{DirectiveLine}
 use Rattle.asm_model.specs.declared.directives.DirectiveLine.TheVariants as line
 use Rattle.asm_model.specs.declared.exprs.Expr.{Expr}
 use Rattle.asm_model.specs.declared.operands.Address.TheVariants as address
+use Rattle.asm_model.specs.declared.operands.LiteralAddress.TheVariants as literal
+use Rattle.asm_model.specs.declared.thumb_lines.ThumbLine.{ThumbLine}
+use Rattle.asm_model.specs.declared.thumb_lines.ThumbLine.TheVariants as thumb
 use Rattle.asm_model.specs.declared.statements.PseudoLine.{PseudoLine}
 use Rattle.asm_model.specs.declared.statements.PseudoLine.TheVariants as pseudo
 use Rattle.asm_model.specs.declared.statements.What.{What}
@@ -37,10 +45,12 @@ use Rattle.asm_model.specs.Placing.{Placing, placed_meaning}
 use Rattle.asm_model.specs.Trees.{tree_of}
 use Rattle.patch_model.specs.Fields.{Meant, Values, is_thumb_label}
 use Rattle.patch_model.specs.Laws.{state_of}
-use Rattle.patch_model.specs.Reaches.{View, Shows, ShowsWord, Reaches}
+use Rattle.patch_model.specs.Reaches.{View, Shows, ShowsHalf, ShowsWord, Reaches}
 use Rattle.source_model.specs.ArmForms.{arm_instruction, is_settled}
 use Rattle.source_model.specs.Contexts.{Context, sees, value_of, register}
 use Rattle.source_model.specs.Immediates.{data_immediate}
+use Rattle.source_model.specs.ThumbForms.{thumb_instruction}
+use Rattle.source_model.specs.declared.codes.ThumbCode.TheVariants.{One}
 use Rattle.source_model.specs.Objects.{Piece, Source, At, StandsIn, unit_bytes, context_at, word_at, symbol_number}
 use Rattle.stand_model.specs.Placed.{ShowsZeros}
 
@@ -115,7 +125,7 @@ DirectiveStands s a size (line.Space e) = ShowsZeros s.view a size
 DirectiveStands s a size (line.Align b) = ShowsZeros s.view a size
 DirectiveStands s a size _ = Unit {0}
 
--- ---- instructions
+-- ---- instructions of ARM state
 
 pub record ReadsAt (view : View) (a : ℕ) (i : ArmInstr) : Type 0 where
   pub word : ℕ
@@ -126,18 +136,18 @@ pub record ReadsAt (view : View) (a : ℕ) (i : ArmInstr) : Type 0 where
 abbrev pub from_pc : ℕ → Bool → ℕ → ℕ
 from_pc a up offset = if up then (a + 8 + offset) % 2 ^ 32 else (a + 8 + (2 ^ 32 - offset)) % 2 ^ 32
 
--- the state in which a branch reaches its target: its own, or that of the symbol that is left to the linker
-abbrev pub target_state : Scene → Result Value LineKind → Bool
-target_state s (Ok (Place (x ∷ xs) n)) =
-    if is_settled s.context (x ∷ xs) then false else state_of false (s.meant (x ∷ xs)) (s.meant (x ∷ xs)).home
-target_state s _ = false
+-- the state in which a branch of a state reaches its target: its own, or that of the symbol that is left to the linker
+abbrev pub target_state : Bool → Scene → Result Value LineKind → Bool
+target_state thumb s (Ok (Place (x ∷ xs) n)) =
+    if is_settled s.context (x ∷ xs) then thumb else state_of thumb (s.meant (x ∷ xs)) (s.meant (x ∷ xs)).home
+target_state thumb s _ = thumb
 
 pub record BranchStands (s : Scene) (a : ℕ) (condition : Condition) (link : Bool) (e : Expr) : Type 0 where
   pub field : ℕ
   pub reads : ReadsAt s.view a (instr.Branch condition link field)
   pub target : ℕ
   pub means : IsNumber s e target
-  pub reaches : Reaches s.view s.region false a target (target_state s (value_of s.context e))
+  pub reaches : Reaches s.view s.region false a target (target_state false s (value_of s.context e))
 
 -- a transfer between a register and the word or byte at a label
 pub record TransferStands (s : Scene) (a : ℕ) (condition : Condition) (load byte : Bool) (rd : ℕ) (e : Expr) : Type 0 where
@@ -159,7 +169,61 @@ ArmStands s a (arm.Branch condition link e) = BranchStands s a condition link e
 ArmStands s a (arm.TransferImmediate condition load byte rd (address.Label e)) = TransferStands s a condition load byte (register s.context rd) e
 ArmStands s a l = InstructionStands s a l
 
--- ---- pseudo-instructions
+-- ---- instructions of Thumb state
+
+pub record ReadsHalfAt (view : View) (a : ℕ) (i : ThumbInstr) : Type 0 where
+  pub half : ℕ
+  pub shows : ShowsHalf view a half
+  pub reads : ReadsThumb half i
+
+-- B, and B with a condition
+pub record ShortBranchStands (s : Scene) (a : ℕ) (instruction : ℕ → ThumbInstr) (e : Expr) : Type 0 where
+  pub field : ℕ
+  pub reads : ReadsHalfAt s.view a (instruction field)
+  pub target : ℕ
+  pub means : IsNumber s e target
+  pub reaches : Reaches s.view s.region true a target true
+
+-- both halves of BL
+pub record LinkStands (s : Scene) (a : ℕ) (e : Expr) : Type 0 where
+  pub first : ℕ
+  pub second : ℕ
+  pub reads_first : ReadsHalfAt s.view a (half.BranchLink false first)
+  pub reads_second : ReadsHalfAt s.view (a + 2) (half.BranchLink true second)
+  pub target : ℕ
+  pub means : IsNumber s e target
+  pub reaches : Reaches s.view s.region true a target (target_state true s (value_of s.context e))
+
+-- pc as an instruction at an address reads it, with its low bits cleared
+abbrev pub word_pc : ℕ → ℕ
+word_pc a = (a + 4) / 4 * 4
+
+-- an instruction that counts so many words behind pc to an address
+pub record CountsTo (view : View) (a : ℕ) (instruction : ℕ → ThumbInstr) (address : ℕ) : Type 0 where
+  pub words : ℕ
+  pub reads : ReadsHalfAt view a (instruction words)
+  pub leads : (word_pc a + words * 4) % 2 ^ 32 ≡ address
+
+-- the same to a label: a load of its word, or its address
+pub record LabelCounted (s : Scene) (a : ℕ) (instruction : ℕ → ThumbInstr) (e : Expr) : Type 0 where
+  pub label : ℕ
+  pub means : IsNumber s e label
+  pub counts : CountsTo s.view a instruction label
+
+-- the line's instruction, with the values of its operands
+pub record ThumbInstructionStands (s : Scene) (a : ℕ) (l : ThumbLine) : Type 0 where
+  pub instruction : ThumbInstr
+  pub says : thumb_instruction s.context l ≡ Ok (One instruction)
+  pub reads : ReadsHalfAt s.view a instruction
+
+abbrev pub ThumbStands : Scene → ℕ → ThumbLine → Type 0
+ThumbStands s a (thumb.LoadLiteral rd (literal.Label e)) = LabelCounted s a (half.LoadLiteral (register s.context rd)) e
+ThumbStands s a (thumb.BranchConditional condition e) = ShortBranchStands s a (half.BranchConditional condition) e
+ThumbStands s a (thumb.Branch e) = ShortBranchStands s a half.Branch e
+ThumbStands s a (thumb.BranchLink e) = LinkStands s a e
+ThumbStands s a l = ThumbInstructionStands s a l
+
+-- ---- pseudo-instructions of ARM state
 
 -- MOV or MVN of the number
 pub record MoveStands (s : Scene) (a : ℕ) (condition : Condition) (rd : ℕ) (e : Expr) : Type 0 where
@@ -220,14 +284,31 @@ PseudoStands s a word (pseudo.Address condition rd e) = AddressStands s a condit
 PseudoStands s a word (pseudo.LongAddress condition rd e) = LongStands s a condition (register s.context rd) e
 PseudoStands s a word pseudo.NoOperation = ReadsAt s.view a (instr.DataShifted Al Mov false 0 0 0 Lsl 0)
 
+-- ---- pseudo-instructions of Thumb state
+
+-- a load from the word of the literal, which holds its value
+abbrev pub ThumbLiteralStands : Scene → ℕ → ℕ → Expr → Option ℕ → Type 0
+ThumbLiteralStands s a rd e None = ⊥
+ThumbLiteralStands s a rd e (Some word) = CountsTo s.view a (half.LoadLiteral rd) (word % 2 ^ 32) × WordStands s word e
+
+abbrev pub ThumbPseudoStands : Scene → ℕ → Option ℕ → PseudoLine → Type 0
+ThumbPseudoStands s a word (pseudo.LoadConstant condition rd e) = ThumbLiteralStands s a (register s.context rd) e word
+ThumbPseudoStands s a word (pseudo.Address condition rd e) = LabelCounted s a (half.LoadAddress false (register s.context rd)) e
+ThumbPseudoStands s a word (pseudo.LongAddress condition rd e) = ⊥
+ThumbPseudoStands s a word pseudo.NoOperation = ReadsHalfAt s.view a (half.HighRegister high.Mov true true 0 0)
+
+abbrev pub PseudoStandsIn : Bool → Scene → ℕ → Option ℕ → PseudoLine → Type 0
+PseudoStandsIn true s a word l = ThumbPseudoStands s a word l
+PseudoStandsIn false s a word l = PseudoStands s a word l
+
 -- ---- statements
 
--- a statement of ARM state of so many bytes stands at an address, with the address of its literal's word, if it has one
+-- a statement of so many bytes stands at an address, with the address of its literal's word, if it has one
 abbrev pub Stands : Scene → ℕ → ℕ → Option ℕ → What → Type 0
 Stands s a size word what.Nothing = Unit {0}
 Stands s a size word (what.Arm l) = ArmStands s a l
-Stands s a size word (what.Thumb l) = ⊥
-Stands s a size word (what.Pseudo l) = PseudoStands s a word l
+Stands s a size word (what.Thumb l) = ThumbStands s a l
+Stands s a size word (what.Pseudo l) = PseudoStandsIn s.context.line.thumb s a word l
 Stands s a size word (what.Directive l) = DirectiveStands s a size l
 
 -- ---- a source
