@@ -16,6 +16,8 @@ use Rattle.asm_model.specs.declared.arm_lines.ArmLine.{ArmLine}
 use Rattle.asm_model.specs.declared.arm_lines.ArmLine.TheVariants as arm
 use Rattle.asm_model.specs.declared.statements.PseudoLine.{PseudoLine}
 use Rattle.asm_model.specs.declared.statements.PseudoLine.TheVariants as pseudo
+use Rattle.asm_model.specs.declared.thumb_lines.ThumbLine.{ThumbLine}
+use Rattle.asm_model.specs.declared.thumb_lines.ThumbLine.TheVariants as thumb
 use Rattle.asm_model.specs.declared.values.Value.{Value}
 use Rattle.asm_model.specs.declared.values.Value.TheVariants.{Number, Truth, Words, Place}
 use Rattle.asm_model.specs.Forms.{same}
@@ -26,7 +28,7 @@ use Rattle.asm_model.specs.Symbols.{is_in_area, same_state}
 use Rattle.source_model.specs.Contexts.{Context, sees, value_of, number_in, in_own_area, own_offset, from_pc}
 use Rattle.source_model.specs.ArmForms.{shift_fields, is_listed_by, list_bits, is_settled, branch_from, has_symbol, branch_displacement, arm_instruction, offset_at}
 use Rattle.source_model.specs.PseudoForms.{pseudo_instructions}
-use Rattle.source_model.specs.Units.{linked_symbol, branch_symbol}
+use Rattle.source_model.specs.Units.{linked_symbol, branch_symbol, link_symbol}
 use Rattle.asm_instructions.proofs.ContextLemmas.{Alike}
 
 module _ (a b : Context) (s : Alike a b) where
@@ -146,6 +148,10 @@ module _ (a b : Context) (s : Alike a b) where
   pub branch_symbol_alike : (l : ArmLine) → branch_symbol a l ≡ branch_symbol b l
   branch_symbol_alike (arm.Branch condition link e) = branch_alike e
   branch_symbol_alike _ = refl
+
+  pub link_symbol_alike : (l : ThumbLine) → link_symbol a l ≡ link_symbol b l
+  link_symbol_alike (thumb.BranchLink e) = branch_alike e
+  link_symbol_alike _ = refl
 
   pub pseudo_alike : (word : Option ℕ) (l : PseudoLine) → pseudo_instructions a word l ≡ pseudo_instructions b word l
   pseudo_alike None (pseudo.LoadConstant condition rd e) = rw (number_alike e, s.number rd) refl

@@ -22,7 +22,7 @@ pub use crate::laws::{
     fitting_instructions_are_written, fitting_thumb_codes_are_written, instructions_fit,
     pseudo_instructions_fit, thumb_instructions_fit, thumb_pseudo_instructions_fit,
 };
-pub use crate::lines::{arm_instruction, branch_symbol};
+pub use crate::lines::{arm_instruction, branch_symbol, link_symbol};
 pub use crate::pseudo::pseudo_instructions;
 pub use crate::scenes::Scene;
 pub use crate::thumb_data::Said;

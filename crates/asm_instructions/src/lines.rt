@@ -4,7 +4,7 @@ ghost use Rattle.std.specs.Prelude.{◌≡◌, ◌^◌, nat_lt, Ok, Err, if◌th
 ghost use Rattle.sdt_fault.specs.declared.kinds.LineKind.TheVariants.{OutOfRange};
 ghost use Rattle.arm_isa.specs.declared.instr.ArmInstr.TheVariants as instr;
 ghost use Rattle.asm_model.specs.declared.arm_lines.ArmLine.TheVariants as arm;
-ghost use Rattle.said_model.specs.Said.{IsRead, ArmSaid};
+ghost use Rattle.said_model.specs.Said.{IsRead, ArmSaid, ThumbSaid};
 ghost use Rattle.source_model.specs.ArmForms as forms;
 ghost use Rattle.source_model.specs.Contexts.{Context, and_then};
 ghost use Rattle.source_model.specs.Units as units;
@@ -19,7 +19,7 @@ use crate::scenes::{Scene, register};
 use crate::transfers::{transfer, transfer_half, transfer_shifted};
 use crate::values::number_there;
 use arm_isa::ArmInstr;
-use asm_model::{ArmLine, Expr};
+use asm_model::{ArmLine, Expr, ThumbLine};
 use sdt_fault::kinds::LineKind;
 use sdt_fault::{NoMemory, Text};
 use sdt_word::Condition;
@@ -273,4 +273,26 @@ pub fn branch_symbol(
     ensures { IfOk result (λ s. (c : Context) → Shows scene.now c → s ≡ units.branch_symbol c line.now) }
 {
     symbol_there(alloc, scene, line)
+}
+
+fn link_there(alloc: Global, scene: &Scene<'_>, line: &ThumbLine) -> Result<Option<Text>, NoMemory>
+    requires { ThumbSaid line.now }
+    ensures { IfOk result (λ s. s ≡ units.link_symbol (context_of scene.now) line.now) }
+{
+    match line {
+        ThumbLine::BranchLink { target } => target_symbol(alloc, scene, target),
+        _ => Ok(None),
+    }
+}
+
+/// The symbol of a BL of Thumb state that is left to the linker.
+pub fn link_symbol(
+    alloc: Global,
+    scene: &Scene<'_>,
+    line: &ThumbLine,
+) -> Result<Option<Text>, NoMemory>
+    requires { ThumbSaid line.now }
+    ensures { IfOk result (λ s. (c : Context) → Shows scene.now c → s ≡ units.link_symbol c line.now) }
+{
+    link_there(alloc, scene, line)
 }
