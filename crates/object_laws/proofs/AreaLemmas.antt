@@ -111,13 +111,15 @@ pub first_instruction : (area : ℕ) (thumb : Bool) (lines : List LaidLine) → 
 first_instruction area thumb [] e = absurd (cc)
 first_instruction area thumb (l ∷ ls) e = by_first (first_state area ls) (first_instruction area thumb ls) e
   where
-    here : (a b : Bool) → is_of area l.area ≡ a → is_instruction l.statement.what ≡ b → cond (a && b) (Some l.thumb) None ≡ Some thumb → InstructionOf area thumb (l ∷ ls)
+    here : (a b : Bool) → is_of area l.area ≡ a → is_instruction l.statement.what ≡ b → cond (a && b) (Some l.thumb) None ≡ Some thumb
+        → InstructionOf area thumb (l ∷ ls)
     here true true x y k =
         record { later = []; earlier = ls; owner = l; parts = refl; own = owned area l.area x; says = y; state = cc }
     here true false x y k = absurd (cc)
     here false b x y k = absurd (cc)
 
-    by_first : (o : Option Bool) → (o ≡ Some thumb → InstructionOf area thumb ls) → or_else o (state_of area l) ≡ Some thumb → InstructionOf area thumb (l ∷ ls)
+    by_first : (o : Option Bool) → (o ≡ Some thumb → InstructionOf area thumb ls) → or_else o (state_of area l) ≡ Some thumb
+        → InstructionOf area thumb (l ∷ ls)
     by_first (Some b) f k =
         let i = f k in
         record {

@@ -67,9 +67,11 @@ pub record AreIn (a e : ℕ) (c : Contents) (thumb : Bool) : Type 0 where
   pub zero : bit a 12 ≡ zero_flag c
   pub state : bit a 20 ≡ flag thumb
 
-pub area_bits : (e : ℕ) (c : Contents) (r p q t h i : Bool) → IsExponent e → MarksAgree c i h → StateAgrees c t → AreIn (area_word e c r p q t h i) e c t
+pub area_bits : (e : ℕ) (c : Contents) (r p q t h i : Bool) → IsExponent e → MarksAgree c i h → StateAgrees c t
+    → AreIn (area_word e c r p q t h i) e c t
 area_bits e contents.Code r p q t h i x m s =
-    let b = code_bits e (flag r) (flag p) (flag q) (flag t) (flag h) (flag i) x.1 (flag_small r) (flag_small p) (flag_small q) (flag_small t) (flag_small h) (flag_small i) in
+    let b = code_bits e (flag r) (flag p) (flag q) (flag t) (flag h) (flag i) x.1
+    (flag_small r) (flag_small p) (flag_small q) (flag_small t) (flag_small h) (flag_small i) in
     record {
       low = low_byte e (2 ^ 9) (flag r) (flag p) (flag q) (flag t) (flag h) (flag i) x.1 refl;
       refused = refused_none (area_word e contents.Code r p q t h i) b.0 b.1 b.2 b.3 (inl b.4);

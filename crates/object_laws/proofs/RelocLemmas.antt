@@ -139,7 +139,8 @@ pub bytes_below : (count : ℕ) (c : Context) (s : Sight) (es : List Expr) → R
 bytes_below count c s [] = tt
 bytes_below count c s (e ∷ es) = bytes_joined count (byte_operand (value_there s e) (value_of c e)) (byte_units c s es) (bytes_below count c s es)
 
-pub mapped_below : {A : Type 0} → (count : ℕ) (f : A → List Emitted) (r : Result A LineKind) → ((a : A) → EachBelow count (f a)) → ResultBelow count (mapped f r)
+pub mapped_below : {A : Type 0} → (count : ℕ) (f : A → List Emitted) (r : Result A LineKind) → ((a : A) → EachBelow count (f a))
+    → ResultBelow count (mapped f r)
 mapped_below count f (Ok a) h = h a
 mapped_below count f (Err k) h = tt
 

@@ -211,7 +211,8 @@ pub thumb_listed : (c : Context) (l : ThumbLine) → OptionListed (thumb_symbols
 thumb_listed c (thumb.BranchLink target) = linked_listed c (value_of c target)
 thumb_listed c l = tt
 
-pub mapped_listed : {A : Type 0} → (ns : List (List ℕ)) (f : A → List Emitted) (r : Result A LineKind) → ((a : A) → EachListed ns (f a)) → ResultListed ns (mapped f r)
+pub mapped_listed : {A : Type 0} → (ns : List (List ℕ)) (f : A → List Emitted) (r : Result A LineKind) → ((a : A) → EachListed ns (f a))
+    → ResultListed ns (mapped f r)
 mapped_listed ns f (Ok a) h = h a
 mapped_listed ns f (Err k) h = tt
 
@@ -223,7 +224,8 @@ pub code_listed : (ns : List (List ℕ)) (o : Option (List ℕ)) (i : ThumbCode)
 code_listed ns o (code.One i) h = (tt, tt)
 code_listed ns o (code.Pair first second) h = (h, tt)
 
-pub pseudo_listed : (ns : List (List ℕ)) (thumb : Bool) (c : Context) (word : Option ℕ) (l : PseudoLine) → ResultListed ns (pseudo_units thumb c word l)
+pub pseudo_listed : (ns : List (List ℕ)) (thumb : Bool) (c : Context) (word : Option ℕ) (l : PseudoLine)
+    → ResultListed ns (pseudo_units thumb c word l)
 pseudo_listed ns true c word l = mapped_listed ns (λ i. Half i ∷ []) (thumb_pseudo c word l) (λ i. (tt, tt))
 pseudo_listed ns false c word l = mapped_listed ns instruction_units (pseudo_instructions c word l) (instructions_listed ns)
 

@@ -365,7 +365,8 @@ no_pseudo (what.Directive l) h p = p
 
 -- a statement may stand in its area
 pub contents_there : (ss : List Statement) → layout_faults ss ≡ None → (area : ℕ) (c : Contents) → contents_of area (laid ss) ≡ Some c
-    → (after before : List LaidLine) (l : LaidLine) → laid ss ≡ after ++ l ∷ before → l.area ≡ Some area → contents_kinds (Some c) l.thumb l.statement.what ≡ []
+    → (after before : List LaidLine) (l : LaidLine) → laid ss ≡ after ++ l ∷ before → l.area ≡ Some area
+    → contents_kinds (Some c) l.thumb l.statement.what ≡ []
 contents_there ss none area c holds after before l parts own =
     let S = settled (equals_in ss) in
     let numbered = numbered_rest after (l ∷ before) (subst AreNumbered parts (laid_numbered (declared_names ss) ss)) in
