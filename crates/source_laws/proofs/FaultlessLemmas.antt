@@ -36,7 +36,8 @@ layout_sound ss h =
 
 -- ---- states
 
-pub states_kept : (d : List LaidName) (ss : List Statement) → KeepStates ss → (after before : List LaidLine) (l : LaidLine) → laid_of d ss ≡ after ++ l ∷ before
+pub states_kept : (d : List LaidName) (ss : List Statement) → KeepStates ss
+    → (after before : List LaidLine) (l : LaidLine) → laid_of d ss ≡ after ++ l ∷ before
     → IsOfState l.thumb l.statement.what
 states_kept d [] h [] before l e = absurd (cc)
 states_kept d [] h (x ∷ after) before l e = absurd (cc)

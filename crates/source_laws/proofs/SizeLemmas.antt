@@ -221,7 +221,8 @@ pseudo_long false c word (pseudo.Address condition rd e) =
     (λ at. mapped_count one 1 (address_instruction condition (register c rd) (from_pc c at)) (λ i. refl)))
 pseudo_long false c word (pseudo.LongAddress condition rd e) =
     instructions_long 2 (pseudo_instructions c word (pseudo.LongAddress condition rd e))
-    (then_count 2 (own_offset c (value_of c e)) (λ at. long_address condition (register c rd) (from_pc c at)) (λ at. long_count condition (register c rd) (from_pc c at)))
+    (then_count 2 (own_offset c (value_of c e)) (λ at. long_address condition (register c rd) (from_pc c at))
+    (λ at. long_count condition (register c rd) (from_pc c at)))
 pseudo_long false c word pseudo.NoOperation = instructions_long 1 (pseudo_instructions c word pseudo.NoOperation) refl
 
 pub pseudo_fills : (c : Context) (s : Sight) (word : Option ℕ) (l : PseudoLine)
@@ -292,10 +293,12 @@ pub extent_sized : (l : ThumbLine) → thumb_extent l ≡ Block 2 (thumb_size l)
 extent_sized (thumb.BranchLink target) = refl
 extent_sized l = refl
 
-pub thumb_fills : (c : Context) (o : Option (List ℕ)) (l : ThumbLine) → Fills (Ok (thumb_extent l)) (mapped (λ i. code_unit o i ∷ []) (thumb_instruction c l))
+pub thumb_fills : (c : Context) (o : Option (List ℕ)) (l : ThumbLine)
+    → Fills (Ok (thumb_extent l)) (mapped (λ i. code_unit o i ∷ []) (thumb_instruction c l))
 thumb_fills c o l =
     let r = mapped (λ i. code_unit o i ∷ []) (thumb_instruction c l) in
-    subst (λ x. Fills (Ok x) r) (sym (extent_sized l)) (block_fills 2 (thumb_size l) r (codes_long o (thumb_size l) (thumb_instruction c l) (thumb_coded c l)))
+    subst (λ x. Fills (Ok x) r) (sym (extent_sized l))
+    (block_fills 2 (thumb_size l) r (codes_long o (thumb_size l) (thumb_instruction c l) (thumb_coded c l)))
 
 pub directive_fills : (c : Context) (d : List (List ℕ)) (s : Sight) (word : Option ℕ) (l : DirectiveLine) → is_data l ≡ true
     → Fills (extent_of s (what.Directive l)) (units c d s word (what.Directive l))

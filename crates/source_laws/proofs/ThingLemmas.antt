@@ -27,7 +27,8 @@ pub seen_extent : (ss : List Statement) (after before : List LaidLine) (l : Laid
     → (l.extent ≡ extent_of l.seen l.statement.what) × (l.seen.known.thumb ≡ l.thumb) × (l.line.thumb ≡ l.seen.known.thumb)
 seen_extent ss after before l e =
     let p = is_laid (declared_names ss) ss after before l e in
-    subst (λ (z : LaidLine). (z.extent ≡ extent_of z.seen z.statement.what) × (z.seen.known.thumb ≡ z.thumb) × (z.line.thumb ≡ z.seen.known.thumb)) (sym p.1) (refl, refl, refl)
+    subst (λ (z : LaidLine). (z.extent ≡ extent_of z.seen z.statement.what) × (z.seen.known.thumb ≡ z.thumb) × (z.line.thumb ≡ z.seen.known.thumb))
+    (sym p.1) (refl, refl, refl)
 
 pub known_extent : (ss : List Statement) → IsSound ss → (after before : List LaidLine) (l : LaidLine) → laid ss ≡ after ++ l ∷ before
     → extent_of l.seen l.statement.what ≡ Ok (taken l.extent)
