@@ -20,7 +20,7 @@ use Rattle.source_model.specs.PseudoForms.{pseudo_instructions}
 use Rattle.source_model.specs.ThumbForms.{thumb_instruction, thumb_pseudo}
 use Rattle.source_model.specs.declared.codes.ThumbCode.{ThumbCode}
 use Rattle.source_model.specs.Units.{Emitted, Instruction, Half, branch_symbol, link_symbol, code_unit, instruction_units, pseudo_units, directive_units, units}
-use Rattle.source_laws.specs.Laws.{is_filled, AreOfState, context_behind, word_among}
+use Rattle.source_laws.specs.Laws.{is_filled, context_behind, word_among}
 use Rattle.source_laws.proofs.LineLemmas.{statements_stand_apart, statements_lie_in_areas}
 use Rattle.source_laws.proofs.ListLemmas.{Before, Same, places}
 use Rattle.source_laws.proofs.SizeLemmas.{other_units_are_none, pool_or}
@@ -105,11 +105,11 @@ pub lies_inside : (i offset size all : ℕ) → i < size → offset + size ≤ a
 lies_inside i offset size all h k = omega arith
 
 -- a statement that is neither an instruction nor data, and no pool
-pub nothing_there : (ss : List Statement) → IsSound ss → AreOfState ss → (area : ℕ) (after before : List LaidLine) (l : LaidLine)
+pub nothing_there : (ss : List Statement) → IsSound ss → (area : ℕ) (after before : List LaidLine) (l : LaidLine)
     → laid ss ≡ after ++ l ∷ before → l.area ≡ Some area → is_filled l.statement.what ≡ false
     → ((pool us : List Emitted) → pool_or l.statement.what pool us ≡ us)
     → (i : ℕ) → i < l.size → IsGap (source_of ss) area (l.offset + i)
-nothing_there ss sound arm area after before l e here bare own i small p h = by_kind (held ss sound area p h)
+nothing_there ss sound area after before l e here bare own i small p h = by_kind (held ss sound area p h)
   where
     Misses : Type 0
     Misses = (l.offset + i < p.0) ⊎ (p.0 + length (unit_bytes p.1) ≤ l.offset + i)
@@ -125,29 +125,29 @@ nothing_there ss sound arm area after before l e here bare own i small p h = by_
         let nothing : IsAmong p [] = subst (λ us. IsAmong p (units_from l.offset us)) (puts_own ss area after before l own ∙ ap or_none none) here in
         absurd nothing
     of_place x (inr (inl b)) =
-        inr (lies_behind i l.offset (p.0 + length (unit_bytes p.1)) (x.line.offset + x.line.size) (in_line ss sound arm area p x).1
+        inr (lies_behind i l.offset (p.0 + length (unit_bytes p.1)) (x.line.offset + x.line.size) (in_line ss sound area p x).1
         (statements_stand_apart ss sound area after b.0 x.before l x.line (e ∙ ap (λ z. after ++ l ∷ z) b.1) here x.own))
     of_place x (inr (inr b)) =
         inl (lies_before i l.offset l.size p.0 small
         (chain (l.offset + l.size) x.line.offset x.line.offset p.0
-        (statements_stand_apart ss sound area x.after b.0 before x.line l (x.parts ∙ ap (λ z. x.after ++ x.line ∷ z) b.1) x.own here) (omega arith) (in_line ss sound arm area p x).0))
+        (statements_stand_apart ss sound area x.after b.0 before x.line l (x.parts ∙ ap (λ z. x.after ++ x.line ∷ z) b.1) x.own here) (omega arith) (in_line ss sound area p x).0))
 
     by_kind : Held ss area p → Misses
     by_kind (inl x) = of_place x (places after before x.after x.before l x.line (sym e ∙ x.parts))
     by_kind (inr k) =
         inl (lies_before i l.offset l.size p.0 small (through (l.offset + l.size) (end_behind area (pieces_of (laid ss))) p.0 (lines_end ss sound area after before l e here) (at_end ss area p k).0))
 
-pub zeros_there : (ss : List Statement) → IsSound ss → AreOfState ss → (area : ℕ) (after before : List LaidLine) (l : LaidLine)
+pub zeros_there : (ss : List Statement) → IsSound ss → (area : ℕ) (after before : List LaidLine) (l : LaidLine)
     → laid ss ≡ after ++ l ∷ before → l.area ≡ Some area → is_filled l.statement.what ≡ false
     → ((pool us : List Emitted) → pool_or l.statement.what pool us ≡ us)
     → (view : View) (base : ℕ)
     → ((i : ℕ) → i < area_size area (pieces_of (laid ss)) → IsGap (source_of ss) area i → view (base + i) ≡ Some 0)
     → ShowsZeros view (base + l.offset) l.size
-zeros_there ss sound arm area after before l e here bare own view base gaps i small =
+zeros_there ss sound area after before l e here bare own view base gaps i small =
     ap view (together base l.offset i)
     ∙ gaps (l.offset + i)
     (lies_inside i l.offset l.size (area_size area (pieces_of (laid ss))) small (statements_lie_in_areas ss sound area after before l e here))
-    (nothing_there ss sound arm area after before l e here bare own i small)
+    (nothing_there ss sound area after before l e here bare own i small)
   where
     together : (b o i : ℕ) → b + o + i ≡ b + (o + i)
     together b o i = omega arith

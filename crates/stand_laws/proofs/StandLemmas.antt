@@ -166,7 +166,7 @@ what_meets ss fine o obj own values area_at placed view region area after before
 what_meets ss fine o obj own values area_at placed view region area after before l e here holds gaps (what.Directive d) x =
     directive_zero view (values.base area + l.offset) l.size d
     (λ bare own.
-    zeros_there ss (layout_sound ss fine.laid_out) fine.states area after before l e here (ap is_filled x ∙ bare)
+    zeros_there ss (layout_sound ss fine.laid_out) area after before l e here (ap is_filled x ∙ bare)
     (λ pool us. ap (λ z. pool_or z pool us) x ∙ own pool us) view (values.base area) gaps)
 
 -- what a line puts of its own stands in its area
