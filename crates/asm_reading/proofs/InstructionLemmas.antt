@@ -52,7 +52,3 @@ instruction_in false (what.Thumb l) h = absurd h
 instruction_in true (what.Pseudo l) h = (tt, h.0, h.1, tt)
 instruction_in false (what.Pseudo l) h = (tt, h.0, h.1, tt)
 instruction_in thumb (what.Directive l) h = absurd h
-
-pub load_in : (thumb : Bool) (w : What) → InstructionIn thumb w → LoadNamed w
-load_in thumb (what.Pseudo l) h = h.2
-load_in thumb w h = tt
