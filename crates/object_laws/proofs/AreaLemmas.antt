@@ -27,15 +27,16 @@ use Rattle.asm_model.proofs.LineLemmas.{both_empty}
 use Rattle.asm_model.proofs.WordLemmas.{same_refl}
 use Rattle.asm_model.specs.Before.{area_named, with_name, areas_behind}
 use Rattle.asm_model.specs.Laid.{LaidLine, pieces_of, laid}
-use Rattle.asm_model.specs.LayoutKinds.{kind_if, exponent, exponent_kinds, is_named_otherwise, area_kinds, is_instruction, state_of, first_state, is_thumb_area, settled, equals_in}
+use Rattle.asm_model.specs.LayoutKinds.{kind_if, exponent, exponent_kinds, is_named_otherwise, area_kinds, contents_kinds, is_instruction, state_of, first_state, is_thumb_area, settled, equals_in}
 use Rattle.asm_model.specs.Offsets.{is_of}
 use Rattle.layout_laws.proofs.SoundLemmas.{kind_none}
 use Rattle.said_model.specs.Fit.{WhatFits, IsFit}
 use Rattle.source_model.specs.Objects.{Source, source_of, Piece, StandsIn, attributes_word, or_two, says_area, attributes_of, HasRelocs, contents_in, contents_of, IsArea as IsAreaOf, IsObject}
-use Rattle.source_laws.specs.Laws.{InArmState}
-use Rattle.source_laws.proofs.ZeroLemmas.{line_kinds, zero_areas_hold_nothing}
+use Rattle.source_laws.specs.Laws.{IsOfState}
+use Rattle.source_laws.proofs.ListedLemmas.{owned}
+use Rattle.source_laws.proofs.ZeroLemmas.{contents_there, line_kinds, zero_areas_hold_nothing}
 use Rattle.object_laws.specs.Laws.{AreFaultless}
-use Rattle.object_laws.proofs.BitLemmas.{IsExponent, AreIn, zero_flag, area_bits}
+use Rattle.object_laws.proofs.BitLemmas.{IsExponent, AreIn, StateAgrees, zero_flag, area_bits}
 use Rattle.object_laws.proofs.EachLemmas.{each_there, each_by_place}
 use Rattle.object_laws.proofs.FaultLemmas.{layout_here}
 use Rattle.object_laws.proofs.SizeLemmas.{area_small, area_whole}
@@ -94,32 +95,73 @@ told area thumb (l ∷ ls) = by_first (attributes_of area thumb ls) (contents_of
     by_first None (Some c) h = absurd h
     by_first (Some w) None h = absurd h
 
--- ---- ARM state
+-- ---- the state of an area
 
-abbrev pub IsArm : Option Bool → Type 0
-IsArm None = Unit {0}
-IsArm (Some b) = b ≡ false
+-- a line with an instruction of an area
+pub record InstructionOf (area : ℕ) (thumb : Bool) (lines : List LaidLine) : Type 0 where
+  pub later : List LaidLine
+  pub earlier : List LaidLine
+  pub owner : LaidLine
+  pub parts : lines ≡ later ++ owner ∷ earlier
+  pub own : owner.area ≡ Some area
+  pub says : is_instruction owner.statement.what ≡ true
+  pub state : owner.thumb ≡ thumb
 
-pub first_arm : (ss : List Statement) → InArmState ss → (area : ℕ) (after lines : List LaidLine) → laid ss ≡ after ++ lines → IsArm (first_state area lines)
-first_arm ss arm area after [] e = tt
-first_arm ss arm area after (l ∷ ls) e =
-    by_first (first_state area ls) (first_arm ss arm area (after ++ l ∷ []) ls (e ∙ sym (append_assoc after (l ∷ []) ls)))
+pub first_instruction : (area : ℕ) (thumb : Bool) (lines : List LaidLine) → first_state area lines ≡ Some thumb → InstructionOf area thumb lines
+first_instruction area thumb [] e = absurd (cc)
+first_instruction area thumb (l ∷ ls) e = by_first (first_state area ls) (first_instruction area thumb ls) e
   where
-    by_test : (b : Bool) → IsArm (cond b (Some l.thumb) None)
-    by_test true = arm after ls l e
-    by_test false = tt
+    here : (a b : Bool) → is_of area l.area ≡ a → is_instruction l.statement.what ≡ b → cond (a && b) (Some l.thumb) None ≡ Some thumb
+        → InstructionOf area thumb (l ∷ ls)
+    here true true x y k =
+        record { later = []; earlier = ls; owner = l; parts = refl; own = owned area l.area x; says = y; state = cc }
+    here true false x y k = absurd (cc)
+    here false b x y k = absurd (cc)
 
-    by_first : (o : Option Bool) → IsArm o → IsArm (or_else o (state_of area l))
-    by_first (Some b) h = h
-    by_first None h = by_test (is_of area l.area && is_instruction l.statement.what)
+    by_first : (o : Option Bool) → (o ≡ Some thumb → InstructionOf area thumb ls) → or_else o (state_of area l) ≡ Some thumb
+        → InstructionOf area thumb (l ∷ ls)
+    by_first (Some b) f k =
+        let i = f k in
+        record {
+          later = l ∷ i.later;
+          earlier = i.earlier;
+          owner = i.owner;
+          parts = ap (λ z. l ∷ z) i.parts;
+          own = i.own;
+          says = i.says;
+          state = i.state;
+        }
+    by_first None f k = here (is_of area l.area) (is_instruction l.statement.what) refl refl k
 
-pub arm_area : (ss : List Statement) → InArmState ss → (area : ℕ) → is_thumb_area area (laid ss) ≡ false
-arm_area ss arm area = by_state (first_state area (laid ss)) refl (first_arm ss arm area [] (laid ss) refl)
+-- an instruction of Thumb state stands in code
+pub thumb_agrees : (c : Contents) (w : What) → IsOfState true w → is_instruction w ≡ true → contents_kinds (Some c) true w ≡ [] → StateAgrees c true
+thumb_agrees contents.Code w h i k = tt
+thumb_agrees c (what.Arm l) h i k = absurd h
+thumb_agrees contents.Data (what.Thumb l) h i k = absurd (cc)
+thumb_agrees contents.Data (what.Pseudo l) h i k = absurd (cc)
+thumb_agrees contents.Zeroes (what.Thumb l) h i k = absurd (cc)
+thumb_agrees contents.Zeroes (what.Pseudo l) h i k = absurd (cc)
+thumb_agrees c what.Nothing h i k = absurd (cc)
+thumb_agrees c (what.Directive l) h i k = absurd (cc)
+
+pub arm_agrees : (c : Contents) → StateAgrees c false
+arm_agrees contents.Code = tt
+arm_agrees _ = refl
+
+pub state_agrees : (ss : List Statement) → AreFaultless ss → (area : ℕ) (c : Contents) → contents_of area (laid ss) ≡ Some c
+    → StateAgrees c (is_thumb_area area (laid ss))
+state_agrees ss h area c e = by_state (first_state area (laid ss)) refl
   where
-    by_state : (o : Option Bool) → first_state area (laid ss) ≡ o → IsArm o → is_thumb_area area (laid ss) ≡ false
-    by_state None e h = rw e refl
-    by_state (Some true) e h = absurd (cc)
-    by_state (Some false) e h = rw e refl
+    by_instruction : InstructionOf area true (laid ss) → StateAgrees c true
+    by_instruction i =
+        let l = i.owner in
+        thumb_agrees c l.statement.what (subst (λ b. IsOfState b l.statement.what) i.state (h.states i.later i.earlier l i.parts)) i.says
+        (subst (λ b. contents_kinds (Some c) b l.statement.what ≡ []) i.state (contents_there ss h.layout area c e i.later i.earlier l i.parts i.own))
+
+    by_state : (o : Option Bool) → first_state area (laid ss) ≡ o → StateAgrees c (is_thumb_area area (laid ss))
+    by_state None x = rw x (arm_agrees c)
+    by_state (Some true) x = rw x (by_instruction (first_instruction area true (laid ss) x))
+    by_state (Some false) x = rw x (arm_agrees c)
 
 -- ---- attributes
 
@@ -133,7 +175,7 @@ pub record AreaFacts (ss : List Statement) (area : ℕ) (a : Area) : Type 0 wher
   pub low : ℕ
   pub kind : Contents
   pub exponent : IsExponent low
-  pub bits : AreIn a.attributes low kind
+  pub bits : AreIn a.attributes low kind (is_thumb_area area (laid ss))
   pub contents : contents_of area (laid ss) ≡ Some kind
 
 pub first_facts : (ss : List Statement) → AreFaultless ss → (area : ℕ) (a : Area) (c : Contents) → contents_of area (laid ss) ≡ Some c
@@ -146,13 +188,14 @@ first_facts ss h area a c e f =
     let low = exponent_fine (exponent l.seen t.align)
     (both_empty (exponent_kinds (exponent l.seen t.align)) (kind_if (is_named_otherwise f.name l.seen t f.earlier) BadOperand) own).0 in
     let marks = subst WhatFits f.says (each_there IsFit ss h.fit f.later f.earlier l f.parts) in
-    let bits = area_bits (or_two (exponent l.seen t.align)) t.contents t.read_only t.pic t.reentrant t.halfword t.interwork low marks in
-    let word = f.word ∙ ap (attributes_word t (or_two (exponent l.seen t.align))) (arm_area ss h.arm area) in
+    let thumb = is_thumb_area area (laid ss) in
+    let state = state_agrees ss h area t.contents (e ∙ ap Some f.holds) in
+    let bits = area_bits (or_two (exponent l.seen t.align)) t.contents t.read_only t.pic t.reentrant thumb t.halfword t.interwork low marks state in
     record {
       low = or_two (exponent l.seen t.align);
       kind = t.contents;
       exponent = low;
-      bits = subst (λ w. AreIn w (or_two (exponent l.seen t.align)) t.contents) (sym word) bits;
+      bits = subst (λ w. AreIn w (or_two (exponent l.seen t.align)) t.contents thumb) (sym f.word) bits;
       contents = e ∙ ap Some f.holds;
     }
 

@@ -16,8 +16,8 @@ flag_small false = omega arith
 abbrev pub number_of : ℕ → ℕ → ℕ → ℕ → ℕ → ℕ → ℕ → ℕ → ℕ
 number_of e c r p q t h i = e + c + r * 2 ^ 13 + p * 2 ^ 14 + q * 2 ^ 17 + t * 2 ^ 20 + h * 2 ^ 21 + i * 2 ^ 22
 
-pub low_byte : (e c r p q h i : ℕ) → e ≤ 16 → c % 512 ≡ 0 → number_of e c r p q 0 h i % 256 ≡ e
-low_byte e c r p q h i small whole = omega arith
+pub low_byte : (e c r p q t h i : ℕ) → e ≤ 16 → c % 512 ≡ 0 → number_of e c r p q t h i % 256 ≡ e
+low_byte e c r p q t h i small whole = omega arith
 
 pub refused_none : (a : ℕ) → bit a 8 ≡ 0 → bit a 10 ≡ 0 → bit a 11 ≡ 0 → bit a 15 ≡ 0 → (bit a 9 ≡ 1) ⊎ (bits a 20 8 ≡ 0) → refused_area_bits a ≡ 0
 refused_none a x y z w (inl k) = rw (x, y, z, w, k) refl
@@ -30,11 +30,11 @@ refused_none a x y z w (inr k) = rw (x, y, z, w, k) (nothing (bit a 9 == 1))
 abbrev pub IsExponent : ℕ → Type 0
 IsExponent e = (2 ≤ e) × (e ≤ 16)
 
-pub code_bits : (e r p q h i : ℕ) → e ≤ 16 → r ≤ 1 → p ≤ 1 → q ≤ 1 → h ≤ 1 → i ≤ 1
-    → (bit (number_of e (2 ^ 9) r p q 0 h i) 8 ≡ 0) × (bit (number_of e (2 ^ 9) r p q 0 h i) 10 ≡ 0) × (bit (number_of e (2 ^ 9) r p q 0 h i) 11 ≡ 0)
-    × (bit (number_of e (2 ^ 9) r p q 0 h i) 15 ≡ 0) × (bit (number_of e (2 ^ 9) r p q 0 h i) 9 ≡ 1) × (bit (number_of e (2 ^ 9) r p q 0 h i) 12 ≡ 0)
-    × (bit (number_of e (2 ^ 9) r p q 0 h i) 20 ≡ 0)
-code_bits e r p q h i a b c d f g = (omega arith, omega arith, omega arith, omega arith, omega arith, omega arith, omega arith)
+pub code_bits : (e r p q t h i : ℕ) → e ≤ 16 → r ≤ 1 → p ≤ 1 → q ≤ 1 → t ≤ 1 → h ≤ 1 → i ≤ 1
+    → (bit (number_of e (2 ^ 9) r p q t h i) 8 ≡ 0) × (bit (number_of e (2 ^ 9) r p q t h i) 10 ≡ 0) × (bit (number_of e (2 ^ 9) r p q t h i) 11 ≡ 0)
+    × (bit (number_of e (2 ^ 9) r p q t h i) 15 ≡ 0) × (bit (number_of e (2 ^ 9) r p q t h i) 9 ≡ 1) × (bit (number_of e (2 ^ 9) r p q t h i) 12 ≡ 0)
+    × (bit (number_of e (2 ^ 9) r p q t h i) 20 ≡ t)
+code_bits e r p q t h i a b c d f g k = (omega arith, omega arith, omega arith, omega arith, omega arith, omega arith, omega arith)
 
 pub data_bits : (e r p q : ℕ) → e ≤ 16 → r ≤ 1 → p ≤ 1 → q ≤ 1
     → (bit (number_of e 0 r p q 0 0 0) 8 ≡ 0) × (bit (number_of e 0 r p q 0 0 0) 10 ≡ 0) × (bit (number_of e 0 r p q 0 0 0) 11 ≡ 0)
@@ -52,50 +52,59 @@ abbrev pub zero_flag : Contents → ℕ
 zero_flag contents.Zeroes = 1
 zero_flag _ = 0
 
--- the attributes of an area in ARM state
-abbrev pub area_word : ℕ → Contents → Bool → Bool → Bool → Bool → Bool → ℕ
-area_word e c r p q h i = number_of e (contents_bits c) (flag r) (flag p) (flag q) 0 (flag h) (flag i)
+-- the attributes of an area whose first instruction is of Thumb or ARM state
+abbrev pub area_word : ℕ → Contents → Bool → Bool → Bool → Bool → Bool → Bool → ℕ
+area_word e c r p q t h i = number_of e (contents_bits c) (flag r) (flag p) (flag q) (flag t) (flag h) (flag i)
 
-pub record AreIn (a e : ℕ) (c : Contents) : Type 0 where
+-- only code is of Thumb state
+abbrev pub StateAgrees : Contents → Bool → Type 0
+StateAgrees contents.Code thumb = Unit {0}
+StateAgrees _ thumb = thumb ≡ false
+
+pub record AreIn (a e : ℕ) (c : Contents) (thumb : Bool) : Type 0 where
   pub low : a % 256 ≡ e
   pub refused : refused_area_bits a ≡ 0
   pub zero : bit a 12 ≡ zero_flag c
-  pub arm : bit a 20 ≡ 0
+  pub state : bit a 20 ≡ flag thumb
 
-pub area_bits : (e : ℕ) (c : Contents) (r p q h i : Bool) → IsExponent e → MarksAgree c i h → AreIn (area_word e c r p q h i) e c
-area_bits e contents.Code r p q h i x m =
-    let b = code_bits e (flag r) (flag p) (flag q) (flag h) (flag i) x.1 (flag_small r) (flag_small p) (flag_small q) (flag_small h) (flag_small i) in
+pub area_bits : (e : ℕ) (c : Contents) (r p q t h i : Bool) → IsExponent e → MarksAgree c i h → StateAgrees c t
+    → AreIn (area_word e c r p q t h i) e c t
+area_bits e contents.Code r p q t h i x m s =
+    let b = code_bits e (flag r) (flag p) (flag q) (flag t) (flag h) (flag i) x.1
+    (flag_small r) (flag_small p) (flag_small q) (flag_small t) (flag_small h) (flag_small i) in
     record {
-      low = low_byte e (2 ^ 9) (flag r) (flag p) (flag q) (flag h) (flag i) x.1 refl;
-      refused = refused_none (area_word e contents.Code r p q h i) b.0 b.1 b.2 b.3 (inl b.4);
+      low = low_byte e (2 ^ 9) (flag r) (flag p) (flag q) (flag t) (flag h) (flag i) x.1 refl;
+      refused = refused_none (area_word e contents.Code r p q t h i) b.0 b.1 b.2 b.3 (inl b.4);
       zero = b.5;
-      arm = b.6;
+      state = b.6;
     }
-area_bits e contents.Data r p q h i x m =
-    subst (λ z. AreIn (area_word e contents.Data r p q z i) e contents.Data) (sym m.1)
-    (subst (λ z. AreIn (area_word e contents.Data r p q false z) e contents.Data) (sym m.0) unmarked)
+area_bits e contents.Data r p q t h i x m s =
+    subst (λ y. AreIn (area_word e contents.Data r p q y h i) e contents.Data y) (sym s)
+    (subst (λ z. AreIn (area_word e contents.Data r p q false z i) e contents.Data false) (sym m.1)
+    (subst (λ z. AreIn (area_word e contents.Data r p q false false z) e contents.Data false) (sym m.0) unmarked))
   where
-    unmarked : AreIn (area_word e contents.Data r p q false false) e contents.Data
+    unmarked : AreIn (area_word e contents.Data r p q false false false) e contents.Data false
     unmarked =
         let b = data_bits e (flag r) (flag p) (flag q) x.1 (flag_small r) (flag_small p) (flag_small q) in
         record {
-          low = low_byte e 0 (flag r) (flag p) (flag q) 0 0 x.1 refl;
-          refused = refused_none (area_word e contents.Data r p q false false) b.0 b.1 b.2 b.3 (inr b.4);
+          low = low_byte e 0 (flag r) (flag p) (flag q) 0 0 0 x.1 refl;
+          refused = refused_none (area_word e contents.Data r p q false false false) b.0 b.1 b.2 b.3 (inr b.4);
           zero = b.5;
-          arm = b.6;
+          state = b.6;
         }
-area_bits e contents.Zeroes r p q h i x m =
-    subst (λ z. AreIn (area_word e contents.Zeroes r p q z i) e contents.Zeroes) (sym m.1)
-    (subst (λ z. AreIn (area_word e contents.Zeroes r p q false z) e contents.Zeroes) (sym m.0) unmarked)
+area_bits e contents.Zeroes r p q t h i x m s =
+    subst (λ y. AreIn (area_word e contents.Zeroes r p q y h i) e contents.Zeroes y) (sym s)
+    (subst (λ z. AreIn (area_word e contents.Zeroes r p q false z i) e contents.Zeroes false) (sym m.1)
+    (subst (λ z. AreIn (area_word e contents.Zeroes r p q false false z) e contents.Zeroes false) (sym m.0) unmarked))
   where
-    unmarked : AreIn (area_word e contents.Zeroes r p q false false) e contents.Zeroes
+    unmarked : AreIn (area_word e contents.Zeroes r p q false false false) e contents.Zeroes false
     unmarked =
         let b = zero_bits e (flag r) (flag p) (flag q) x.1 (flag_small r) (flag_small p) (flag_small q) in
         record {
-          low = low_byte e (2 ^ 12) (flag r) (flag p) (flag q) 0 0 x.1 refl;
-          refused = refused_none (area_word e contents.Zeroes r p q false false) b.0 b.1 b.2 b.3 (inr b.4);
+          low = low_byte e (2 ^ 12) (flag r) (flag p) (flag q) 0 0 0 x.1 refl;
+          refused = refused_none (area_word e contents.Zeroes r p q false false false) b.0 b.1 b.2 b.3 (inr b.4);
           zero = b.5;
-          arm = b.6;
+          state = b.6;
         }
 
 -- ---- relocations

@@ -1,7 +1,8 @@
 -- The entry of an object is at an instruction's place in its area.
-use Rattle.std.proofs.Common.{◌≡◌, ℕ, ◌%◌, ◌<◌, ◌==◌, List, [], ◌∷◌, ◌++◌, Bool, true, false, not, cond, ◌||◌, ◌&&◌, nat_lt, refl, sym, ◌∙◌, ap, subst, Option, Some, None}
+use Rattle.std.proofs.Common.{◌≡◌, ℕ, ◌%◌, ◌<◌, ◌==◌, List, [], ◌∷◌, ◌++◌, Bool, true, false, not, cond, ◌||◌, ◌&&◌, nat_lt, refl, sym, ◌∙◌, ap, subst, arith, Option, Some, None}
 use Rattle.std.specs.Prelude.{Ok, IsSomeAnd}
 use Rattle.std.proofs.lemmas.Bool.{or_parts, ltb-true}
+use Rattle.sdt_word.specs.Numbers.{flag}
 use Rattle.sdt_fault.specs.declared.kinds.LineKind.TheVariants.{BadOperand}
 use Rattle.aof_object.specs.declared.records.Entry.{Entry}
 use Rattle.aof_object.specs.declared.records.Object.{Object}
@@ -13,10 +14,10 @@ use Rattle.asm_model.specs.declared.statements.What.{What}
 use Rattle.asm_model.specs.declared.statements.What.TheVariants as what
 use Rattle.asm_model.specs.Directives.{or_else}
 use Rattle.asm_model.proofs.LineLemmas.{both_empty}
-use Rattle.asm_model.specs.Extents.{Block, extent_of}
+use Rattle.asm_model.specs.Extents.{Extent, Block, extent_of}
 use Rattle.asm_model.specs.Laid.{LaidLine, taken, pieces_of, laid}
 use Rattle.asm_model.specs.LayoutKinds.{is_entry, same_mark, is_thumb_area, entry_kinds, literal_kinds}
-use Rattle.asm_model.specs.Offsets.{end_behind, start_in, area_size}
+use Rattle.asm_model.specs.Offsets.{Piece, raised, end_behind, start_in, area_size}
 use Rattle.asm_model.proofs.OffsetLemmas.{raised_four}
 use Rattle.layout_laws.proofs.SoundLemmas.{kind_none}
 use Rattle.source_model.specs.Objects.{in_order, entry_by, entry_of, IsObject}
@@ -84,26 +85,46 @@ pub entry_only : (w : What) → is_entry w ≡ true → w ≡ what.Directive lin
 entry_only (what.Directive line.Entry) h = refl
 entry_only w h = absurd (cc)
 
+pub marks_agree : (a b : Bool) → same_mark a b ≡ true → a ≡ b
+marks_agree true b h = sym h
+marks_agree false true h = absurd (cc)
+marks_agree false false h = refl
+
+-- in its area, and of its area's state
 pub entry_inside : (o : Option ℕ) (area : ℕ) (l : LaidLine) (all : List LaidLine) → o ≡ Some area → is_entry l.statement.what ≡ true → entry_kinds o l all ≡ []
-    → l.offset < area_size area (pieces_of all)
+    → (l.offset < area_size area (pieces_of all)) × (l.thumb ≡ is_thumb_area area all)
 entry_inside o area l all own says h =
     let size = area_size area (pieces_of all) in
-    let other = not (same_mark l.thumb (is_thumb_area area all)) in
+    let same = same_mark l.thumb (is_thumb_area area all) in
     let k = subst (λ z. entry_kinds z l all ≡ []) own h in
-    let p = second_false (is_entry l.statement.what) (not (nat_lt l.offset size) || other) says
-    (kind_none (is_entry l.statement.what && (not (nat_lt l.offset size) || other)) BadOperand k) in
-    ltb-true l.offset size (not_false (nat_lt l.offset size) (or_parts (not (nat_lt l.offset size)) other p).0)
+    let p = second_false (is_entry l.statement.what) (not (nat_lt l.offset size) || not same) says
+    (kind_none (is_entry l.statement.what && (not (nat_lt l.offset size) || not same)) BadOperand k) in
+    let q = or_parts (not (nat_lt l.offset size)) (not same) p in
+    (ltb-true l.offset size (not_false (nat_lt l.offset size) q.0), marks_agree l.thumb (is_thumb_area area all) (not_false same q.1))
+
+-- what an offset leaves over in Thumb or ARM state
+abbrev pub left_in : Bool → ℕ → ℕ
+left_in thumb offset = cond (flag thumb == 1) (offset % 2) (offset % 4)
+
+abbrev pub entry_extent : Bool → Extent
+entry_extent thumb = cond thumb (Block 2 0) (Block 4 0)
+
+pub raised_two : (at : ℕ) → raised at 2 % 2 ≡ 0
+raised_two at = omega arith
+
+pub state_aligned : (thumb : Bool) (area : ℕ) (before : List Piece) → left_in thumb (start_in area before (entry_extent thumb)) ≡ 0
+state_aligned true area before = raised_two (end_behind area before)
+state_aligned false area before = raised_four (end_behind area before)
 
 pub entry_aligned : (ss : List Statement) → AreFaultless ss → (after before : List LaidLine) (l : LaidLine) (area : ℕ) → laid ss ≡ after ++ l ∷ before
-    → l.area ≡ Some area → is_entry l.statement.what ≡ true → l.offset % 4 ≡ 0
+    → l.area ≡ Some area → is_entry l.statement.what ≡ true → left_in l.thumb l.offset ≡ 0
 entry_aligned ss h after before l area e own says =
     let seen = seen_extent ss after before l e in
-    let state : l.seen.known.thumb ≡ false = seen.1 ∙ h.arm after before l e in
-    let extent : l.extent ≡ Ok (Block 4 0) =
-    seen.0 ∙ ap (extent_of l.seen) (entry_only l.statement.what says) ∙ ap (λ b. Ok (cond b (Block 2 0) (Block 4 0))) state in
-    subst (λ z. z % 4 ≡ 0)
+    let extent : l.extent ≡ Ok (entry_extent l.thumb) =
+    seen.0 ∙ ap (extent_of l.seen) (entry_only l.statement.what says) ∙ ap (λ b. Ok (entry_extent b)) seen.1 in
+    subst (λ z. left_in l.thumb z ≡ 0)
     (sym ((stands_in ss (layout_sound ss h.layout) area after before l e own).0 ∙ ap (λ z. start_in area (pieces_of before) (taken z)) extent))
-    (raised_four (end_behind area (pieces_of before)))
+    (state_aligned l.thumb area (pieces_of before))
 
 pub entered : (ss : List Statement) (o : Object) → AreFaultless ss → IsObject ss o → (e : Entry) → EntryLine e (laid ss) → IsEntered (heads o.areas) (Some e)
 entered ss o h x e n =
@@ -116,8 +137,9 @@ entered ss o h x e n =
     let is = x.areas e.area a.0 a.1 in
     let facts = area_facts ss h e.area a.0 is in
     subst (λ z. IsSomeAnd z (λ t. (e.offset < t.size) × (left_over t.attributes e.offset ≡ 0))) (sym (head_there o.areas e.area a.0 a.1)) (
-      subst (λ z. z < a.0.size) n.place (subst (λ z. l.offset < z) (sym is.size) inside),
-      ap (λ z. cond (z == 1) (e.offset % 2) (e.offset % 4)) facts.bits.arm ∙ subst (λ z. z % 4 ≡ 0) n.place aligned,
+      subst (λ z. z < a.0.size) n.place (subst (λ z. l.offset < z) (sym is.size) inside.0),
+      ap (λ z. cond (z == 1) (e.offset % 2) (e.offset % 4)) facts.bits.state
+          ∙ subst (λ b. left_in b e.offset ≡ 0) inside.1 (subst (λ z. left_in l.thumb z ≡ 0) n.place aligned),
     )
 
 pub entries_are_valid : (ss : List Statement) (o : Object) → AreFaultless ss → IsObject ss o → IsEntered (heads o.areas) o.entry

@@ -1,5 +1,5 @@
 -- The bytes and relocations of an object's areas are valid.
-use Rattle.std.proofs.Common.{◌≡◌, ℕ, ◌+◌, ◌*◌, ◌^◌, ◌<◌, ◌==◌, List, [], ◌∷◌, ◌++◌, length, cond, refl, sym, ◌∙◌, ap, subst, arith, Option, Some, None, ◌⊎◌, inl, inr}
+use Rattle.std.proofs.Common.{◌≡◌, ℕ, ◌+◌, ◌*◌, ◌^◌, ◌<◌, ◌==◌, List, [], ◌∷◌, ◌++◌, length, Bool, true, false, cond, refl, sym, ◌∙◌, ap, subst, arith, Option, Some, None, ◌⊎◌, inl, inr}
 use Rattle.std.specs.Prelude.{Result, Ok, Err, map}
 use Rattle.std.specs.List.{AllByRecursion}
 use Rattle.sdt_word.specs.Numbers.{bit}
@@ -15,6 +15,7 @@ use Rattle.asm_model.specs.declared.directives.Contents.TheVariants as contents
 use Rattle.asm_model.specs.declared.directives.DirectiveLine.TheVariants as line
 use Rattle.asm_model.specs.declared.exprs.Expr.{Expr}
 use Rattle.asm_model.specs.declared.names.LaidName.{LaidName}
+use Rattle.asm_model.specs.declared.statements.PseudoLine.{PseudoLine}
 use Rattle.asm_model.specs.declared.statements.Statement.{Statement}
 use Rattle.asm_model.specs.declared.statements.What.{What}
 use Rattle.asm_model.specs.declared.statements.What.TheVariants as what
@@ -37,7 +38,10 @@ use Rattle.source_model.specs.ArmForms.{arm_instruction}
 use Rattle.source_model.specs.Contexts.{Context, sees, value_of, number_in, and_then}
 use Rattle.source_model.specs.Objects.{Piece, unit_bytes, units_from, or_none, source_of, IsAmong, StandsIn, symbol_number, word_relocs, branch_relocs, relocs_of, IsRelocOf, HasRelocs, contents_of, symbol_named, symbol_records, is_kept, KeepsBytes, IsArea, IsObject}
 use Rattle.source_model.specs.PseudoForms.{pseudo_instructions}
-use Rattle.source_model.specs.Units.{Emitted, Bytes, Word, Instruction, Stored, Target, Nothing, ByArea, BySymbol, placed, stored, word_units, narrow, half_units, byte_operand, byte_units, branch_symbol, instruction_units, units}
+use Rattle.source_model.specs.ThumbForms.{thumb_instruction, thumb_pseudo}
+use Rattle.source_model.specs.declared.codes.ThumbCode.{ThumbCode}
+use Rattle.source_model.specs.declared.codes.ThumbCode.TheVariants as code
+use Rattle.source_model.specs.Units.{Emitted, Bytes, Word, Instruction, Half, LinkPair, Stored, Target, Nothing, ByArea, BySymbol, placed, stored, word_units, narrow, half_units, byte_operand, byte_units, branch_symbol, link_symbol, code_unit, instruction_units, pseudo_units, units}
 use Rattle.source_laws.specs.Laws.{word_among, context_behind}
 use Rattle.source_laws.proofs.AgreeLemmas.{line_area}
 use Rattle.source_laws.proofs.FaultlessLemmas.{layout_sound}
@@ -62,6 +66,8 @@ abbrev pub UnitBelow : ℕ → Emitted → Type 0
 UnitBelow count (Bytes b) = Unit {0}
 UnitBelow count (Word w) = TargetBelow count w.target
 UnitBelow count (Instruction i o) = Unit {0}
+UnitBelow count (Half i) = Unit {0}
+UnitBelow count (LinkPair first second o) = Unit {0}
 
 abbrev pub EachBelow : ℕ → List Emitted → Type 0
 EachBelow count us = AllByRecursion (UnitBelow count) us
@@ -133,24 +139,31 @@ pub bytes_below : (count : ℕ) (c : Context) (s : Sight) (es : List Expr) → R
 bytes_below count c s [] = tt
 bytes_below count c s (e ∷ es) = bytes_joined count (byte_operand (value_there s e) (value_of c e)) (byte_units c s es) (bytes_below count c s es)
 
-pub instruction_below : (count : ℕ) (o : Option (List ℕ)) (r : Result ArmInstr LineKind) → ResultBelow count (mapped (λ i. Instruction i o ∷ []) r)
-instruction_below count o (Ok i) = (tt, tt)
-instruction_below count o (Err k) = tt
+pub mapped_below : {A : Type 0} → (count : ℕ) (f : A → List Emitted) (r : Result A LineKind) → ((a : A) → EachBelow count (f a))
+    → ResultBelow count (mapped f r)
+mapped_below count f (Ok a) h = h a
+mapped_below count f (Err k) h = tt
 
 pub instructions_below : (count : ℕ) (is : List ArmInstr) → EachBelow count (instruction_units is)
 instructions_below count [] = tt
 instructions_below count (i ∷ is) = (tt, instructions_below count is)
 
-pub pseudo_below : (count : ℕ) (r : Result (List ArmInstr) LineKind) → ResultBelow count (mapped instruction_units r)
-pseudo_below count (Ok is) = instructions_below count is
-pseudo_below count (Err k) = tt
+pub code_below : (count : ℕ) (o : Option (List ℕ)) (i : ThumbCode) → EachBelow count (code_unit o i ∷ [])
+code_below count o (code.One i) = (tt, tt)
+code_below count o (code.Pair first second) = (tt, tt)
+
+pub pseudo_below : (count : ℕ) (thumb : Bool) (c : Context) (word : Option ℕ) (l : PseudoLine) → ResultBelow count (pseudo_units thumb c word l)
+pseudo_below count true c word l = mapped_below count (λ i. Half i ∷ []) (thumb_pseudo c word l) (λ i. (tt, tt))
+pseudo_below count false c word l = mapped_below count instruction_units (pseudo_instructions c word l) (instructions_below count)
 
 pub units_below : (count : ℕ) (c : Context) (d : List (List ℕ)) (s : Sight) (word : Option ℕ) (w : What) → SeesBelow count c → OwnValues c → WhatFits w
     → ResultBelow count (units c d s word w)
 units_below count c d s word what.Nothing h own k = tt
-units_below count c d s word (what.Arm l) h own k = instruction_below count (branch_symbol c l) (arm_instruction c l)
-units_below count c d s word (what.Thumb l) h own k = tt
-units_below count c d s word (what.Pseudo l) h own k = pseudo_below count (pseudo_instructions c word l)
+units_below count c d s word (what.Arm l) h own k =
+    mapped_below count (λ i. Instruction i (branch_symbol c l) ∷ []) (arm_instruction c l) (λ i. (tt, tt))
+units_below count c d s word (what.Thumb l) h own k =
+    mapped_below count (λ i. code_unit (link_symbol c l) i ∷ []) (thumb_instruction c l) (code_below count (link_symbol c l))
+units_below count c d s word (what.Pseudo l) h own k = pseudo_below count c.line.thumb c word l
 units_below count c d s word (what.Directive (line.Dcd es)) h own k = words_below count c d es h own k
 units_below count c d s word (what.Directive (line.Dcdu es)) h own k = words_below count c d es h own k
 units_below count c d s word (what.Directive (line.Dcw es)) h own k = halves_below count c es
@@ -265,6 +278,8 @@ pub piece_valid : (ss : List Statement) (areas symbols : ℕ) → AreFew ss area
 piece_valid ss areas symbols few at (Bytes b) h k r i = absurd i
 piece_valid ss areas symbols few at (Word w) h k r i = word_valid ss areas symbols few at w.target h k r i
 piece_valid ss areas symbols few at (Instruction x o) h k r i = branch_valid ss areas symbols few at o h r i
+piece_valid ss areas symbols few at (Half x) h k r i = absurd i
+piece_valid ss areas symbols few at (LinkPair first second o) h k r i = branch_valid ss areas symbols few (at + 1) o h r i
 
 pub each_reloc : (P : Reloc → Type 0) (rs : List Reloc) → ((r : Reloc) → IsRelocOf rs r → P r) → AllByRecursion P rs
 each_reloc P [] f = tt

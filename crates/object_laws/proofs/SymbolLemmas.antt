@@ -22,6 +22,8 @@ use Rattle.asm_model.specs.declared.names.LaidName.{LaidName}
 use Rattle.asm_model.specs.declared.statements.Statement.{Statement}
 use Rattle.asm_model.specs.declared.statements.What.{What}
 use Rattle.asm_model.specs.declared.statements.What.TheVariants as what
+use Rattle.asm_model.specs.declared.thumb_lines.ThumbLine.{ThumbLine}
+use Rattle.asm_model.specs.declared.thumb_lines.ThumbLine.TheVariants as thumb
 use Rattle.asm_model.specs.declared.values.Value.{Value}
 use Rattle.asm_model.specs.declared.values.Value.TheVariants.{Number, Truth, Words, Place}
 use Rattle.asm_model.specs.Forms.{same}
@@ -44,7 +46,8 @@ use Rattle.source_model.specs.ArmForms.{is_settled, has_symbol, branch_from, bra
 use Rattle.source_model.specs.Contexts.{Context, sees, value_of, and_then}
 use Rattle.source_model.specs.Objects.{Source, source_of, is_exported as is_exported_name, is_weak, scope, contents_of, holds_code, symbol_placed, in_no_line, symbol_valued, symbol_named, IsObject}
 use Rattle.source_model.specs.SourceFaults.{label_of, symbol_names}
-use Rattle.source_model.specs.Units.{Emitted, Instruction, branch_symbol, units}
+use Rattle.source_model.specs.ThumbForms.{half_words, pair_fields, thumb_displacement, thumb_from, thumb_instruction}
+use Rattle.source_model.specs.Units.{Emitted, Instruction, branch_symbol, link_symbol, code_unit, units}
 use Rattle.source_model.specs.ValueKinds.{lies_within, kinds_unless, export_kinds, statement_kinds}
 use Rattle.source_laws.specs.Laws.{word_among, context_behind}
 use Rattle.source_laws.proofs.FaultlessLemmas.{layout_sound}
@@ -276,16 +279,33 @@ pub linked_good : (ss : List Statement) → AreFaultless ss → (q : List ℕ) (
 linked_good ss h q true k = tt
 linked_good ss h q false k = (symbol_good ss h q k, tt)
 
-pub branch_good : (ss : List Statement) → AreFaultless ss → (before : List LaidLine) (l : LaidLine) (r : Result Value LineKind) (d : ℕ)
-    → branch_displacement (context_behind ss l before) r ≡ Ok d → AreGoodNames ss (branch_symbols (sees (context_behind ss l before)) r)
-branch_good ss h before l (Ok (Place (x ∷ xs) n)) d e =
-    let c = context_behind ss l before in
-    linked_good ss h (x ∷ xs) (is_settled c (x ∷ xs)) (allowed_only (has_symbol c (x ∷ xs)) (branch_from c (x ∷ xs) n) d BadOperand e)
-branch_good ss h before l (Ok (Place [] n)) d e = tt
-branch_good ss h before l (Ok (Number n)) d e = tt
-branch_good ss h before l (Ok (Truth b)) d e = tt
-branch_good ss h before l (Ok (Words w)) d e = tt
-branch_good ss h before l (Err k) d e = tt
+-- the symbol of a branch that isn't settled is one of the source
+abbrev pub HasSymbol : Context → Result Value LineKind → Type 0
+HasSymbol c (Ok (Place s n)) = has_symbol c s ≡ true
+HasSymbol c r = Unit {0}
+
+pub branch_good : (ss : List Statement) → AreFaultless ss → (before : List LaidLine) (l : LaidLine) (r : Result Value LineKind)
+    → HasSymbol (context_behind ss l before) r → AreGoodNames ss (branch_symbols (sees (context_behind ss l before)) r)
+branch_good ss h before l (Ok (Place (x ∷ xs) n)) has = linked_good ss h (x ∷ xs) (is_settled (context_behind ss l before) (x ∷ xs)) has
+branch_good ss h before l (Ok (Place [] n)) has = tt
+branch_good ss h before l (Ok (Number n)) has = tt
+branch_good ss h before l (Ok (Truth b)) has = tt
+branch_good ss h before l (Ok (Words w)) has = tt
+branch_good ss h before l (Err k) has = tt
+
+pub branch_has : (c : Context) (r : Result Value LineKind) (d : ℕ) → branch_displacement c r ≡ Ok d → HasSymbol c r
+branch_has c (Ok (Place s n)) d e = allowed_only (has_symbol c s) (branch_from c s n) d BadOperand e
+branch_has c (Ok (Number n)) d e = tt
+branch_has c (Ok (Truth b)) d e = tt
+branch_has c (Ok (Words w)) d e = tt
+branch_has c (Err k) d e = tt
+
+pub link_has : (c : Context) (r : Result Value LineKind) (d : ℕ) → thumb_displacement true c r ≡ Ok d → HasSymbol c r
+link_has c (Ok (Place s n)) d e = allowed_only (has_symbol c s) (thumb_from c s n) d BadOperand e
+link_has c (Ok (Number n)) d e = tt
+link_has c (Ok (Truth b)) d e = tt
+link_has c (Ok (Words w)) d e = tt
+link_has c (Err k) d e = tt
 
 pub mapped_known : {A B : Type 0} → (f : A → B) (r : Result A LineKind) (b : B) → mapped f r ≡ Ok b → (a : A) × (r ≡ Ok a)
 mapped_known f (Ok a) b e = (a, refl)
@@ -375,15 +395,27 @@ arm_good ss h before l (arm.Branch condition link target) us e t =
     let c = context_behind ss l before in
     let i = mapped_known (λ i. Instruction i (branch_symbol c (arm.Branch condition link target)) ∷ []) (arm_instruction c (arm.Branch condition link target)) us e in
     let d = then_known (λ d. mapped (λ f. instr.Branch condition link f) (branch_field d)) (branch_displacement c (value_of c target)) i.0 i.1 in
-    branch_good ss h before l (value_of c target) d.0 d.1
+    branch_good ss h before l (value_of c target) (branch_has c (value_of c target) d.0 d.1)
 arm_good ss h before l a us e t = tt
+
+pub thumb_good : (ss : List Statement) → AreFaultless ss → (before : List LaidLine) (l : LaidLine) (a : ThumbLine) (us : List Emitted)
+    → mapped (λ i. code_unit (link_symbol (context_behind ss l before) a) i ∷ []) (thumb_instruction (context_behind ss l before) a) ≡ Ok us
+    → (t : Extent) → AreGoodNames ss (symbols_in (final_names (laid ss)) (context_behind ss l before).line t (what.Thumb a))
+thumb_good ss h before l (thumb.BranchLink target) us e t =
+    let c = context_behind ss l before in
+    let f = and_then (thumb_displacement true c (value_of c target)) (half_words (2 ^ 22)) in
+    let i = mapped_known (λ i. code_unit (link_symbol c (thumb.BranchLink target)) i ∷ []) (mapped pair_fields f) us e in
+    let p = mapped_known pair_fields f i.0 i.1 in
+    let d = then_known (half_words (2 ^ 22)) (thumb_displacement true c (value_of c target)) p.0 p.1 in
+    branch_good ss h before l (value_of c target) (link_has c (value_of c target) d.0 d.1)
+thumb_good ss h before l a us e t = tt
 
 pub line_good : (ss : List Statement) → AreFaultless ss → (before : List LaidLine) (l : LaidLine)
     → (word : Option ℕ) (t : Extent) (w : What) → Known ss before l word w
     → AreGoodNames ss (symbols_in (final_names (laid ss)) (context_behind ss l before).line t w)
 line_good ss h before l word t what.Nothing k = tt
 line_good ss h before l word t (what.Arm a) k = arm_good ss h before l a k.emitted k.emits t
-line_good ss h before l word t (what.Thumb a) k = let x = k.emits in absurd (cc)
+line_good ss h before l word t (what.Thumb a) k = thumb_good ss h before l a k.emitted k.emits t
 line_good ss h before l word t (what.Pseudo p) k = literals_good ss h before l t
 line_good ss h before l word t (what.Directive (line.Export name)) k =
     ((export_good ss h (context_behind ss l before) refl name (named_in name (final_names (laid ss))) k.kinds, k.texts.0), tt)

@@ -10,9 +10,12 @@ use Rattle.asm_model.specs.declared.arm_lines.ArmLine.{ArmLine}
 use Rattle.asm_model.specs.declared.arm_lines.ArmLine.TheVariants as arm
 use Rattle.asm_model.specs.declared.directives.DirectiveLine.TheVariants as line
 use Rattle.asm_model.specs.declared.names.LaidName.{LaidName}
+use Rattle.asm_model.specs.declared.statements.PseudoLine.{PseudoLine}
 use Rattle.asm_model.specs.declared.statements.Statement.{Statement}
 use Rattle.asm_model.specs.declared.statements.What.{What}
 use Rattle.asm_model.specs.declared.statements.What.TheVariants as what
+use Rattle.asm_model.specs.declared.thumb_lines.ThumbLine.{ThumbLine}
+use Rattle.asm_model.specs.declared.thumb_lines.ThumbLine.TheVariants as thumb
 use Rattle.asm_model.specs.declared.values.Value.{Value}
 use Rattle.asm_model.specs.declared.values.Value.TheVariants.{Number, Truth, Words, Place}
 use Rattle.asm_model.specs.AtLine.{SourceLine, Sight}
@@ -24,12 +27,15 @@ use Rattle.asm_model.specs.Before.{with_name}
 use Rattle.asm_model.specs.Extents.{Extent, value_there}
 use Rattle.asm_model.specs.Laid.{LaidLine, taken, laid, final_names}
 use Rattle.asm_model.specs.Marks.{datum_names}
-use Rattle.asm_model.specs.Symbols.{literal_value, unless_placed, word_symbols, words_symbols, branch_symbols, arm_symbols, literal_symbols, symbols_in, listed_behind, symbols_of}
+use Rattle.asm_model.specs.Symbols.{literal_value, unless_placed, word_symbols, words_symbols, branch_symbols, arm_symbols, thumb_symbols, literal_symbols, symbols_in, listed_behind, symbols_of}
 use Rattle.source_model.specs.ArmForms.{arm_instruction, is_settled}
 use Rattle.source_model.specs.Contexts.{Context, sees, value_of, number_in, and_then}
 use Rattle.source_model.specs.Objects.{Piece, unit_bytes, units_from, or_none, source_of, IsAmong, StandsIn}
 use Rattle.source_model.specs.PseudoForms.{pseudo_instructions}
-use Rattle.source_model.specs.Units.{Emitted, Bytes, Word, Instruction, Stored, Target, Nothing, ByArea, BySymbol, placed, stored, word_units, narrow, half_units, byte_operand, byte_units, linked_symbol, branch_symbol, instruction_units, units}
+use Rattle.source_model.specs.ThumbForms.{thumb_instruction, thumb_pseudo}
+use Rattle.source_model.specs.declared.codes.ThumbCode.{ThumbCode}
+use Rattle.source_model.specs.declared.codes.ThumbCode.TheVariants as code
+use Rattle.source_model.specs.Units.{Emitted, Bytes, Word, Instruction, Half, LinkPair, Stored, Target, Nothing, ByArea, BySymbol, placed, stored, word_units, narrow, half_units, byte_operand, byte_units, linked_symbol, branch_symbol, link_symbol, code_unit, instruction_units, pseudo_units, units}
 use Rattle.source_laws.specs.Laws.{word_among, context_behind}
 use Rattle.source_laws.proofs.AgreeLemmas.{line_area}
 use Rattle.source_laws.proofs.FaultlessLemmas.{layout_sound}
@@ -112,6 +118,8 @@ pub unit_more : (ns ms : List (List ℕ)) (u : Emitted) → Fewer ns ms → Unit
 unit_more ns ms (Bytes b) f h = tt
 unit_more ns ms (Word w) f h = target_more ns ms w.target f h
 unit_more ns ms (Instruction i o) f h = option_more ns ms o f h
+unit_more ns ms (Half i) f h = tt
+unit_more ns ms (LinkPair first second o) f h = option_more ns ms o f h
 
 abbrev pub EachListed : List (List ℕ) → List Emitted → Type 0
 EachListed ns us = AllByRecursion (UnitListed ns) us
@@ -187,30 +195,39 @@ pub branch_listed : (b : Bool) (q : List ℕ) → OptionListed (cond b [] (q ∷
 branch_listed true q = tt
 branch_listed false q = alone_listed q
 
+pub linked_listed : (c : Context) (r : Result Value LineKind) → OptionListed (branch_symbols (sees c) r) (linked_symbol c r)
+linked_listed c (Ok (Place (x ∷ xs) n)) = branch_listed (is_settled c (x ∷ xs)) (x ∷ xs)
+linked_listed c (Ok (Place [] n)) = tt
+linked_listed c (Ok (Number n)) = tt
+linked_listed c (Ok (Truth b)) = tt
+linked_listed c (Ok (Words w)) = tt
+linked_listed c (Err k) = tt
+
 pub arm_listed : (c : Context) (l : ArmLine) → OptionListed (arm_symbols c.names c.line l) (branch_symbol c l)
-arm_listed c (arm.Branch condition link target) = by_value (value_of c target)
-  where
-    by_value : (r : Result Value LineKind) → OptionListed (branch_symbols (sees c) r) (linked_symbol c r)
-    by_value (Ok (Place (x ∷ xs) n)) = branch_listed (is_settled c (x ∷ xs)) (x ∷ xs)
-    by_value (Ok (Place [] n)) = tt
-    by_value (Ok (Number n)) = tt
-    by_value (Ok (Truth b)) = tt
-    by_value (Ok (Words w)) = tt
-    by_value (Err k) = tt
+arm_listed c (arm.Branch condition link target) = linked_listed c (value_of c target)
 arm_listed c l = tt
 
-pub instruction_listed : (ns : List (List ℕ)) (o : Option (List ℕ)) (r : Result ArmInstr LineKind) → OptionListed ns o
-    → ResultListed ns (mapped (λ i. Instruction i o ∷ []) r)
-instruction_listed ns o (Ok i) h = (h, tt)
-instruction_listed ns o (Err k) h = tt
+pub thumb_listed : (c : Context) (l : ThumbLine) → OptionListed (thumb_symbols c.names c.line l) (link_symbol c l)
+thumb_listed c (thumb.BranchLink target) = linked_listed c (value_of c target)
+thumb_listed c l = tt
+
+pub mapped_listed : {A : Type 0} → (ns : List (List ℕ)) (f : A → List Emitted) (r : Result A LineKind) → ((a : A) → EachListed ns (f a))
+    → ResultListed ns (mapped f r)
+mapped_listed ns f (Ok a) h = h a
+mapped_listed ns f (Err k) h = tt
 
 pub instructions_listed : (ns : List (List ℕ)) (is : List ArmInstr) → EachListed ns (instruction_units is)
 instructions_listed ns [] = tt
 instructions_listed ns (i ∷ is) = (tt, instructions_listed ns is)
 
-pub pseudo_listed : (ns : List (List ℕ)) (r : Result (List ArmInstr) LineKind) → ResultListed ns (mapped instruction_units r)
-pseudo_listed ns (Ok is) = instructions_listed ns is
-pseudo_listed ns (Err k) = tt
+pub code_listed : (ns : List (List ℕ)) (o : Option (List ℕ)) (i : ThumbCode) → OptionListed ns o → EachListed ns (code_unit o i ∷ [])
+code_listed ns o (code.One i) h = (tt, tt)
+code_listed ns o (code.Pair first second) h = (h, tt)
+
+pub pseudo_listed : (ns : List (List ℕ)) (thumb : Bool) (c : Context) (word : Option ℕ) (l : PseudoLine)
+    → ResultListed ns (pseudo_units thumb c word l)
+pseudo_listed ns true c word l = mapped_listed ns (λ i. Half i ∷ []) (thumb_pseudo c word l) (λ i. (tt, tt))
+pseudo_listed ns false c word l = mapped_listed ns instruction_units (pseudo_instructions c word l) (instructions_listed ns)
 
 -- ---- lines
 
@@ -218,9 +235,11 @@ pub line_listed : (c : Context) (d : List (List ℕ)) (s : Sight) (word : Option
     → ResultListed (symbols_in c.names c.line e w) (units c d s word w)
 line_listed c d s word e what.Nothing here = tt
 line_listed c d s word e (what.Arm l) here =
-    instruction_listed (arm_symbols c.names c.line l) (branch_symbol c l) (arm_instruction c l) (arm_listed c l)
-line_listed c d s word e (what.Thumb l) here = tt
-line_listed c d s word e (what.Pseudo l) here = pseudo_listed (literal_symbols c.names c.line e) (pseudo_instructions c word l)
+    mapped_listed (arm_symbols c.names c.line l) (λ i. Instruction i (branch_symbol c l) ∷ []) (arm_instruction c l) (λ i. (arm_listed c l, tt))
+line_listed c d s word e (what.Thumb l) here =
+    mapped_listed (thumb_symbols c.names c.line l) (λ i. code_unit (link_symbol c l) i ∷ []) (thumb_instruction c l)
+    (λ i. code_listed (thumb_symbols c.names c.line l) (link_symbol c l) i (thumb_listed c l))
+line_listed c d s word e (what.Pseudo l) here = pseudo_listed (literal_symbols c.names c.line e) c.line.thumb c word l
 line_listed c d s word e (what.Directive (line.Dcd es)) here = words_listed c d es here
 line_listed c d s word e (what.Directive (line.Dcdu es)) here = words_listed c d es here
 line_listed c d s word e (what.Directive (line.Dcw es)) here = halves_listed [] c es

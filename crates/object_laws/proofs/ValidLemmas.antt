@@ -7,7 +7,7 @@ use Rattle.said_model.specs.Fit.{AllFit}
 use Rattle.said_model.specs.Said.{AllSaid, AllHaveTexts}
 use Rattle.source_model.specs.Objects.{IsObject}
 use Rattle.source_model.specs.SourceFaults.{layout_faults, value_faults}
-use Rattle.source_laws.specs.Laws.{InArmState}
+use Rattle.source_laws.specs.Laws.{AreOfState}
 use Rattle.object_laws.specs.Laws.{AreFaultless}
 use Rattle.object_laws.proofs.AreaLemmas.{areas_are_valid}
 use Rattle.object_laws.proofs.EntryLemmas.{entries_are_valid}
@@ -26,6 +26,6 @@ object_is_valid ss o h areas symbols x =
     }
 
 pub objects_are_valid : (ss : List Statement) (o : Object) → AllSaid ss → AllHaveTexts ss → AllFit ss → layout_faults ss ≡ None → value_faults ss ≡ None
-    → InArmState ss → length o.areas < 2 ^ 24 → length o.symbols < 2 ^ 24 → IsObject ss o → IsValid o
-objects_are_valid ss o said texts fit layout values arm =
-    object_is_valid ss o (record { said = said; texts = texts; fit = fit; layout = layout; values = values; arm = arm })
+    → AreOfState ss → length o.areas < 2 ^ 24 → length o.symbols < 2 ^ 24 → IsObject ss o → IsValid o
+objects_are_valid ss o said texts fit layout values states =
+    object_is_valid ss o (record { said = said; texts = texts; fit = fit; layout = layout; values = values; states = states })

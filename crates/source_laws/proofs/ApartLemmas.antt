@@ -7,7 +7,7 @@ use Rattle.asm_model.specs.Offsets.{Piece as LaidPiece, waiting, lacking, end_be
 use Rattle.asm_model.specs.Sound.{IsSound}
 use Rattle.asm_model.proofs.OffsetLemmas.{more, through, up_to_size}
 use Rattle.source_model.specs.Objects.{Piece, unit_bytes, units_bytes, units_from, source_of, IsAmong, StandsIn}
-use Rattle.source_laws.specs.Laws.{InArmState, StandApart}
+use Rattle.source_laws.specs.Laws.{StandApart}
 use Rattle.source_laws.proofs.LineLemmas.{line_ends, pieces_rise, statements_stand_apart, statements_lie_in_areas}
 use Rattle.source_laws.proofs.ListLemmas.{Before, Same, places}
 use Rattle.source_laws.proofs.PoolLemmas.{Puts, Held, end_things, held}
@@ -23,12 +23,12 @@ Within start end p = (start ≤ p.0) × (p.0 + length (unit_bytes p.1) ≤ end)
 within_sum : (o n s k : ℕ) → n ≤ s → k ≤ o + n → k ≤ o + s
 within_sum o n s k h i = omega arith
 
-pub in_line : (ss : List Statement) → IsSound ss → InArmState ss → (area : ℕ) (p : Piece) (x : Puts ss area p)
+pub in_line : (ss : List Statement) → IsSound ss → (area : ℕ) (p : Piece) (x : Puts ss area p)
     → Within x.line.offset (x.line.offset + x.line.size) p
-in_line ss sound arm area p x =
+in_line ss sound area p x =
     let us = puts ss area x.after x.line x.before in
     let i = units_inside x.line.offset us p x.among in
-    (i.0, within_sum x.line.offset (length (units_bytes us)) x.line.size (p.0 + length (unit_bytes p.1)) (puts_fit ss sound arm area x.after x.before x.line x.parts x.own) i.1)
+    (i.0, within_sum x.line.offset (length (units_bytes us)) x.line.size (p.0 + length (unit_bytes p.1)) (puts_fit ss sound area x.after x.before x.line x.parts x.own) i.1)
 
 -- behind all lines
 pub at_end : (ss : List Statement) (area : ℕ) (p : Piece) → IsAmong p (end_things ss area)
@@ -55,10 +55,10 @@ chain p a b q h i j = omega arith
 -- ---- two things
 
 -- of two lines
-of_lines : (ss : List Statement) → IsSound ss → InArmState ss → (area : ℕ) (p q : Piece) → Puts ss area p → Puts ss area q
+of_lines : (ss : List Statement) → IsSound ss → (area : ℕ) (p q : Piece) → Puts ss area p → Puts ss area q
     → (p ≡ q) ⊎ StandApart p q
-of_lines ss sound arm area p q x y =
-    by_place (in_line ss sound arm area p x) (in_line ss sound arm area q y) (places x.after x.before y.after y.before l m (sym x.parts ∙ y.parts))
+of_lines ss sound area p q x y =
+    by_place (in_line ss sound area p x) (in_line ss sound area q y) (places x.after x.before y.after y.before l m (sym x.parts ∙ y.parts))
   where
     l : LaidLine
     l = x.line
@@ -82,31 +82,31 @@ of_lines ss sound arm area p q x y =
         (statements_stand_apart ss sound area y.after b.0 x.before m l (y.parts ∙ ap (λ z. y.after ++ m ∷ z) b.1) y.own x.own) j.0))
 
 -- of a line and of the end
-of_line_and_end : (ss : List Statement) → IsSound ss → InArmState ss → (area : ℕ) (p q : Piece) → Puts ss area p → IsAmong q (end_things ss area)
+of_line_and_end : (ss : List Statement) → IsSound ss → (area : ℕ) (p q : Piece) → Puts ss area p → IsAmong q (end_things ss area)
     → p.0 + length (unit_bytes p.1) ≤ q.0
-of_line_and_end ss sound arm area p q x h =
-    chain (p.0 + length (unit_bytes p.1)) (x.line.offset + x.line.size) (end_behind area (pieces_of (laid ss))) q.0 (in_line ss sound arm area p x).1
+of_line_and_end ss sound area p q x h =
+    chain (p.0 + length (unit_bytes p.1)) (x.line.offset + x.line.size) (end_behind area (pieces_of (laid ss))) q.0 (in_line ss sound area p x).1
     (lines_end ss sound area x.after x.before x.line x.parts x.own) (at_end ss area q h).0
 
-pub things_stand_apart : (ss : List Statement) → IsSound ss → InArmState ss
+pub things_stand_apart : (ss : List Statement) → IsSound ss
     → (area : ℕ) (p q : Piece) → StandsIn (source_of ss) area p → StandsIn (source_of ss) area q → (p ≡ q) ⊎ StandApart p q
-things_stand_apart ss sound arm area p q h k = by_kind (held ss sound area p h) (held ss sound area q k)
+things_stand_apart ss sound area p q h k = by_kind (held ss sound area p h) (held ss sound area q k)
   where
     all : List LaidPiece
     all = pieces_of (laid ss)
 
     by_kind : Held ss area p → Held ss area q → (p ≡ q) ⊎ StandApart p q
-    by_kind (inl x) (inl y) = of_lines ss sound arm area p q x y
-    by_kind (inl x) (inr j) = inr (inl (of_line_and_end ss sound arm area p q x j))
-    by_kind (inr i) (inl y) = inr (inr (of_line_and_end ss sound arm area q p y i))
+    by_kind (inl x) (inl y) = of_lines ss sound area p q x y
+    by_kind (inl x) (inr j) = inr (inl (of_line_and_end ss sound area p q x j))
+    by_kind (inr i) (inl y) = inr (inr (of_line_and_end ss sound area q p y i))
     by_kind (inr i) (inr j) = units_apart (start_in area all Pool) (pool_units ss area (waiting area all)) p q i j
 
-pub things_lie_in_areas : (ss : List Statement) → IsSound ss → InArmState ss
+pub things_lie_in_areas : (ss : List Statement) → IsSound ss
     → (area : ℕ) (p : Piece) → StandsIn (source_of ss) area p → p.0 + length (unit_bytes p.1) ≤ area_size area (pieces_of (laid ss))
-things_lie_in_areas ss sound arm area p h = by_kind (held ss sound area p h)
+things_lie_in_areas ss sound area p h = by_kind (held ss sound area p h)
   where
     by_kind : Held ss area p → p.0 + length (unit_bytes p.1) ≤ area_size area (pieces_of (laid ss))
     by_kind (inl x) =
         through (p.0 + length (unit_bytes p.1)) (x.line.offset + x.line.size) (area_size area (pieces_of (laid ss)))
-        (in_line ss sound arm area p x).1 (statements_lie_in_areas ss sound area x.after x.before x.line x.parts x.own)
+        (in_line ss sound area p x).1 (statements_lie_in_areas ss sound area x.after x.before x.line x.parts x.own)
     by_kind (inr k) = (at_end ss area p k).1

@@ -1,12 +1,9 @@
 -- Sources without faults meet what the laws ask.
-use Rattle.std.proofs.Common.{◌≡◌, ℕ, ◌+◌, ◌≤◌, List, [], ◌∷◌, ◌++◌, length, Bool, false, refl, sym, ◌∙◌, ap, None, ◌⊎◌}
-use Rattle.asm_model.specs.declared.directives.DirectiveLine.TheVariants as line
+use Rattle.std.proofs.Common.{◌≡◌, ℕ, ◌+◌, ◌≤◌, List, [], ◌∷◌, ◌++◌, length, refl, sym, subst, None, ◌⊎◌}
 use Rattle.asm_model.specs.declared.statements.Statement.{Statement}
-use Rattle.asm_model.specs.declared.statements.What.{What}
-use Rattle.asm_model.specs.declared.statements.What.TheVariants as what
 use Rattle.asm_model.specs.Kinds.{told_kind}
 use Rattle.asm_model.proofs.LineLemmas.{both_empty}
-use Rattle.asm_model.specs.Before.{state_behind, thumb_behind}
+use Rattle.asm_model.specs.Before.{thumb_behind}
 use Rattle.asm_model.specs.Laid.{LaidLine, pieces_of, reversed, laid_behind, laid_of, laid}
 use Rattle.asm_model.specs.LayoutKinds.{equals_in, settled, layout_kinds, told_at, first_fault, first_late}
 use Rattle.asm_model.specs.Offsets.{area_size}
@@ -15,7 +12,7 @@ use Rattle.layout_laws.proofs.SoundLemmas.{or_none, told_none, statements_kept}
 use Rattle.source_model.specs.Objects.{Piece, unit_bytes, source_of, StandsIn}
 use Rattle.source_model.specs.Registers.{register_names, register_kinds}
 use Rattle.source_model.specs.SourceFaults.{first_laid, layout_faults}
-use Rattle.source_laws.specs.Laws.{InArmState, StandApart, IsNoCode16, NoCode16}
+use Rattle.source_laws.specs.Laws.{IsOfState, AreOfState, KeepStates, StandApart}
 use Rattle.source_laws.proofs.ListLemmas.{same_first, same_rest}
 use Rattle.source_laws.proofs.ApartLemmas.{things_stand_apart, things_lie_in_areas}
 use Rattle.asm_model.specs.Labels.{declared_names}
@@ -37,36 +34,28 @@ layout_sound ss h =
     sound_lines (register_names ss) fixed (laid ss)
     (or_none (first_laid (register_names ss) fixed (laid ss)) (first_late (laid ss) [] (reversed (laid ss) [])) h).0
 
--- ---- ARM state
+-- ---- states
 
-pub state_kept : (w : What) (thumb : Bool) → IsNoCode16 w → thumb ≡ false → state_behind w thumb ≡ false
-state_kept (what.Directive line.Code16) thumb h e = absurd h
-state_kept (what.Directive line.Code32) thumb h e = refl
-state_kept w thumb h e = e
+pub states_kept : (d : List LaidName) (ss : List Statement) → KeepStates ss
+    → (after before : List LaidLine) (l : LaidLine) → laid_of d ss ≡ after ++ l ∷ before
+    → IsOfState l.thumb l.statement.what
+states_kept d [] h [] before l e = absurd (cc)
+states_kept d [] h (x ∷ after) before l e = absurd (cc)
+states_kept d (s ∷ ss) h [] before l e =
+    subst (λ (z : LaidLine). IsOfState z.thumb z.statement.what) (same_first (laid_behind d s (laid_of d ss)) l (laid_of d ss) before e)
+    (subst (λ z. IsOfState (thumb_behind z) s.what) (sym (statements_kept d ss)) h.0)
+states_kept d (s ∷ ss) h (x ∷ after) before l e =
+    states_kept d ss h.1 after before l (same_rest (laid_behind d s (laid_of d ss)) x (laid_of d ss) (after ++ l ∷ before) e)
 
-pub thumb_none : (ss : List Statement) → NoCode16 ss → thumb_behind ss ≡ false
-thumb_none [] h = refl
-thumb_none (s ∷ ss) h = state_kept s.what (thumb_behind ss) h.0 (thumb_none ss h.1)
-
-pub in_arm_state : (d : List LaidName) (ss : List Statement) → NoCode16 ss → (after before : List LaidLine) (l : LaidLine) → laid_of d ss ≡ after ++ l ∷ before
-    → l.thumb ≡ false
-in_arm_state d [] h [] before l e = absurd (cc)
-in_arm_state d [] h (x ∷ after) before l e = absurd (cc)
-in_arm_state d (s ∷ ss) h [] before l e =
-    ap (λ (z : LaidLine). z.thumb) (sym (same_first (laid_behind d s (laid_of d ss)) l (laid_of d ss) before e))
-    ∙ ap thumb_behind (statements_kept d ss) ∙ thumb_none ss h.1
-in_arm_state d (s ∷ ss) h (x ∷ after) before l e =
-    in_arm_state d ss h.1 after before l (same_rest (laid_behind d s (laid_of d ss)) x (laid_of d ss) (after ++ l ∷ before) e)
-
-pub sources_stay_in_arm_state : (ss : List Statement) → NoCode16 ss → InArmState ss
-sources_stay_in_arm_state ss h = in_arm_state (declared_names ss) ss h
+pub sources_keep_states : (ss : List Statement) → KeepStates ss → AreOfState ss
+sources_keep_states ss h = states_kept (declared_names ss) ss h
 
 -- ---- what stands in areas
 
-pub sources_stand_apart : (ss : List Statement) → layout_faults ss ≡ None → InArmState ss
+pub sources_stand_apart : (ss : List Statement) → layout_faults ss ≡ None → AreOfState ss
     → (area : ℕ) (p q : Piece) → StandsIn (source_of ss) area p → StandsIn (source_of ss) area q → (p ≡ q) ⊎ StandApart p q
-sources_stand_apart ss none arm = things_stand_apart ss (layout_sound ss none) arm
+sources_stand_apart ss none states = things_stand_apart ss (layout_sound ss none)
 
-pub sources_lie_in_areas : (ss : List Statement) → layout_faults ss ≡ None → InArmState ss
+pub sources_lie_in_areas : (ss : List Statement) → layout_faults ss ≡ None → AreOfState ss
     → (area : ℕ) (p : Piece) → StandsIn (source_of ss) area p → p.0 + length (unit_bytes p.1) ≤ area_size area (pieces_of (laid ss))
-sources_lie_in_areas ss none arm = things_lie_in_areas ss (layout_sound ss none) arm
+sources_lie_in_areas ss none states = things_lie_in_areas ss (layout_sound ss none)

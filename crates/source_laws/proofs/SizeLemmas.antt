@@ -10,6 +10,7 @@ use Rattle.arm_isa.specs.declared.instr.ArmInstr.{ArmInstr}
 use Rattle.arm_isa.specs.declared.instr.Operation.{Operation}
 use Rattle.arm_isa.specs.declared.instr.Operation.TheVariants.{Add, Sub, Mov}
 use Rattle.arm_isa.specs.declared.instr.ArmInstr.TheVariants as instr
+use Rattle.thumb_isa.specs.declared.instr.ThumbInstr.{ThumbInstr}
 use Rattle.asm_model.specs.declared.directives.Boundary.TheVariants as limit
 use Rattle.asm_model.specs.declared.directives.DirectiveLine.{DirectiveLine}
 use Rattle.asm_model.specs.declared.directives.DirectiveLine.TheVariants as line
@@ -30,9 +31,12 @@ use Rattle.source_model.specs.ArmForms.{arm_instruction}
 use Rattle.source_model.specs.Contexts.{Context, value_of, number_in, register, and_then, offset_below, own_offset, from_pc}
 use Rattle.source_model.specs.Immediates.{data_immediate, negated}
 use Rattle.source_model.specs.Objects.{unit_bytes, units_bytes}
+use Rattle.source_model.specs.declared.codes.ThumbCode.{ThumbCode}
+use Rattle.source_model.specs.declared.codes.ThumbCode.TheVariants as code
+use Rattle.source_model.specs.ThumbForms.{one as one_half, pair_fields, thumb_instruction, thumb_pseudo, with_operand}
 use Rattle.source_model.specs.PseudoForms.{address_instruction, two_by, two_of, first_of as first_found, long_address, one, load_literal, pseudo_instructions, first_part, second_part}
 use Rattle.source_model.specs.Immediates.{immediate}
-use Rattle.source_model.specs.Units.{Emitted, Bytes, Word, Instruction, Stored, stored, word_units, narrow, half_units, byte_operand, byte_units, branch_symbol, instruction_units, units}
+use Rattle.source_model.specs.Units.{Emitted, Bytes, Word, Instruction, Half, Stored, stored, word_units, narrow, half_units, byte_operand, byte_units, branch_symbol, link_symbol, code_unit, instruction_units, pseudo_units, units}
 use Rattle.source_laws.specs.Laws.{is_data, is_filled}
 
 -- ---- lengths
@@ -173,43 +177,128 @@ pub block_fills : (a n : ℕ) (r : Result (List Emitted) LineKind) → Long n r 
 block_fills a n (Ok us) h = λ literals at. h
 block_fills a n (Err k) h = tt
 
-pub load_fills : (v : Value) (r : Result (List Emitted) LineKind) → Long 4 r → Fills (Ok (Loading 4 v)) r
-load_fills v (Ok us) h = λ literals at. h
-load_fills v (Err k) h = tt
+pub load_fills : (n : ℕ) (v : Value) (r : Result (List Emitted) LineKind) → Long n r → Fills (Ok (Loading n v)) r
+load_fills n v (Ok us) h = λ literals at. h
+load_fills n v (Err k) h = tt
 
 pub moved_fills : (b : Bool) (v : Value) (r : Result (List Emitted) LineKind) → Long 4 r → Fills (Ok (cond b (Block 4 4) (Loading 4 v))) r
 moved_fills true v r h = block_fills 4 4 r h
-moved_fills false v r h = load_fills v r h
+moved_fills false v r h = load_fills 4 v r h
 
-pub loading_fills : (state : Bool) (x : Result Value LineKind) (r : Result (List Emitted) LineKind) → state ≡ false → Long 4 r → Fills (mapped (loading state) x) r
-loading_fills true x r e h = absurd (cc)
-loading_fills false (Ok (Number n)) r e h = moved_fills (is_moved n) (Number n) r h
-loading_fills false (Ok (Truth b)) r e h = load_fills (Truth b) r h
-loading_fills false (Ok (Words w)) r e h = load_fills (Words w) r h
-loading_fills false (Ok (Place s n)) r e h = load_fills (Place s n) r h
-loading_fills false (Err k) r e h = tt
+-- an instruction in Thumb or ARM state
+abbrev pub instruction_size : Bool → ℕ
+instruction_size thumb = cond thumb 2 4
 
-pub instruction_fills : (state : Bool) (r : Result (List Emitted) LineKind) → state ≡ false → Long 4 r → Fills (Ok (instruction state)) r
-instruction_fills true r e h = absurd (cc)
-instruction_fills false r e h = block_fills 4 4 r h
+pub loading_fills : (thumb : Bool) (x : Result Value LineKind) (r : Result (List Emitted) LineKind) → Long (instruction_size thumb) r
+    → Fills (mapped (loading thumb) x) r
+loading_fills true (Ok (Number n)) r h = load_fills 2 (Number n) r h
+loading_fills true (Ok (Truth b)) r h = load_fills 2 (Truth b) r h
+loading_fills true (Ok (Words w)) r h = load_fills 2 (Words w) r h
+loading_fills true (Ok (Place s n)) r h = load_fills 2 (Place s n) r h
+loading_fills false (Ok (Number n)) r h = moved_fills (is_moved n) (Number n) r h
+loading_fills false (Ok (Truth b)) r h = load_fills 4 (Truth b) r h
+loading_fills false (Ok (Words w)) r h = load_fills 4 (Words w) r h
+loading_fills false (Ok (Place s n)) r h = load_fills 4 (Place s n) r h
+loading_fills thumb (Err k) r h = tt
 
-pub pseudo_fills : (c : Context) (d : List (List ℕ)) (s : Sight) (word : Option ℕ) (l : PseudoLine) → s.known.thumb ≡ false
-    → Fills (extent_of s (what.Pseudo l)) (units c d s word (what.Pseudo l))
-pseudo_fills c d s word (pseudo.LoadConstant condition rd e) h =
-    loading_fills s.known.thumb (literal_there s e) (units c d s word (what.Pseudo (pseudo.LoadConstant condition rd e))) h
-    (instructions_long 1 (load_literal c condition (register c rd) (number_in c e) word) (literal_count c condition (register c rd) (number_in c e) word))
-pseudo_fills c d s word (pseudo.Address condition rd e) h =
-    instruction_fills s.known.thumb (units c d s word (what.Pseudo (pseudo.Address condition rd e))) h
-    (instructions_long 1 (pseudo_instructions c word (pseudo.Address condition rd e))
+pub instruction_fills : (thumb : Bool) (r : Result (List Emitted) LineKind) → Long (instruction_size thumb) r → Fills (Ok (instruction thumb)) r
+instruction_fills true r h = block_fills 2 2 r h
+instruction_fills false r h = block_fills 4 4 r h
+
+abbrev pub pseudo_size : Bool → PseudoLine → ℕ
+pseudo_size thumb (pseudo.LongAddress condition rd e) = 8
+pseudo_size thumb l = instruction_size thumb
+
+-- ADRL in Thumb state is none
+pub pseudo_long : (thumb : Bool) (c : Context) (word : Option ℕ) (l : PseudoLine) → Long (pseudo_size thumb l) (pseudo_units thumb c word l)
+pseudo_long true c word (pseudo.LongAddress condition rd e) = tt
+pseudo_long true c word l = mapped_long (λ i. Half i ∷ []) 2 (thumb_pseudo c word l) (λ i. refl)
+pseudo_long false c word (pseudo.LoadConstant condition rd e) =
+    instructions_long 1 (load_literal c condition (register c rd) (number_in c e) word) (literal_count c condition (register c rd) (number_in c e) word)
+pseudo_long false c word (pseudo.Address condition rd e) =
+    instructions_long 1 (pseudo_instructions c word (pseudo.Address condition rd e))
     (then_count 1 (own_offset c (value_of c e)) (λ at. mapped one (address_instruction condition (register c rd) (from_pc c at)))
-    (λ at. mapped_count one 1 (address_instruction condition (register c rd) (from_pc c at)) (λ i. refl))))
-pseudo_fills c d s word (pseudo.LongAddress condition rd e) h =
-    block_fills 4 8 (units c d s word (what.Pseudo (pseudo.LongAddress condition rd e)))
-    (instructions_long 2 (pseudo_instructions c word (pseudo.LongAddress condition rd e))
-    (then_count 2 (own_offset c (value_of c e)) (λ at. long_address condition (register c rd) (from_pc c at)) (λ at. long_count condition (register c rd) (from_pc c at))))
-pseudo_fills c d s word pseudo.NoOperation h =
-    instruction_fills s.known.thumb (units c d s word (what.Pseudo pseudo.NoOperation)) h
-    (instructions_long 1 (pseudo_instructions c word pseudo.NoOperation) refl)
+    (λ at. mapped_count one 1 (address_instruction condition (register c rd) (from_pc c at)) (λ i. refl)))
+pseudo_long false c word (pseudo.LongAddress condition rd e) =
+    instructions_long 2 (pseudo_instructions c word (pseudo.LongAddress condition rd e))
+    (then_count 2 (own_offset c (value_of c e)) (λ at. long_address condition (register c rd) (from_pc c at))
+    (λ at. long_count condition (register c rd) (from_pc c at)))
+pseudo_long false c word pseudo.NoOperation = instructions_long 1 (pseudo_instructions c word pseudo.NoOperation) refl
+
+pub pseudo_fills : (c : Context) (s : Sight) (word : Option ℕ) (l : PseudoLine)
+    → Fills (extent_of s (what.Pseudo l)) (pseudo_units s.known.thumb c word l)
+pseudo_fills c s word (pseudo.LoadConstant condition rd e) =
+    let l = pseudo.LoadConstant condition rd e in
+    loading_fills s.known.thumb (literal_there s e) (pseudo_units s.known.thumb c word l) (pseudo_long s.known.thumb c word l)
+pseudo_fills c s word (pseudo.Address condition rd e) =
+    let l = pseudo.Address condition rd e in
+    instruction_fills s.known.thumb (pseudo_units s.known.thumb c word l) (pseudo_long s.known.thumb c word l)
+pseudo_fills c s word (pseudo.LongAddress condition rd e) =
+    let l = pseudo.LongAddress condition rd e in
+    block_fills 4 8 (pseudo_units s.known.thumb c word l) (pseudo_long s.known.thumb c word l)
+pseudo_fills c s word pseudo.NoOperation =
+    instruction_fills s.known.thumb (pseudo_units s.known.thumb c word pseudo.NoOperation) (pseudo_long s.known.thumb c word pseudo.NoOperation)
+
+-- a line of Thumb state says one half-word, or both of BL
+abbrev pub code_size : ThumbCode → ℕ
+code_size (code.One i) = 2
+code_size (code.Pair first second) = 4
+
+abbrev pub Coded : ℕ → Result ThumbCode LineKind → Type 0
+Coded n (Ok i) = code_size i ≡ n
+Coded n (Err k) = Unit {0}
+
+pub one_coded : (r : Result ThumbInstr LineKind) → Coded 2 (one_half r)
+one_coded (Ok i) = refl
+one_coded (Err k) = tt
+
+pub pair_coded : (r : Result ℕ LineKind) → Coded 4 (mapped pair_fields r)
+pair_coded (Ok f) = refl
+pair_coded (Err k) = tt
+
+abbrev pub thumb_size : ThumbLine → ℕ
+thumb_size (thumb.BranchLink target) = 4
+thumb_size _ = 2
+
+pub thumb_coded : (c : Context) (l : ThumbLine) → Coded (thumb_size l) (thumb_instruction c l)
+thumb_coded c (thumb.ShiftImmediate by rd rs e) = one_coded _
+thumb_coded c (thumb.AddSubtract subtract rd rs o) = one_coded (with_operand c subtract rd rs o)
+thumb_coded c (thumb.DataImmediate o rd e) = one_coded _
+thumb_coded c (thumb.DataRegister o rd rs) = one_coded _
+thumb_coded c (thumb.HighRegister o rd rs) = refl
+thumb_coded c (thumb.LoadLiteral rd a) = one_coded _
+thumb_coded c (thumb.TransferRegister load byte rd rn ro) = one_coded _
+thumb_coded c (thumb.TransferSigned k rd rn ro) = one_coded _
+thumb_coded c (thumb.TransferImmediate load byte rd rn e) = one_coded _
+thumb_coded c (thumb.TransferHalf load rd rn e) = one_coded _
+thumb_coded c (thumb.TransferStack load rd e) = one_coded _
+thumb_coded c (thumb.LoadAddress stack rd e) = one_coded _
+thumb_coded c (thumb.AdjustStack subtract e) = one_coded _
+thumb_coded c (thumb.PushPop load l) = one_coded _
+thumb_coded c (thumb.TransferMultiple load rn l) = one_coded _
+thumb_coded c (thumb.BranchConditional condition e) = one_coded _
+thumb_coded c (thumb.SoftwareInterrupt e) = one_coded _
+thumb_coded c (thumb.Branch e) = one_coded _
+thumb_coded c (thumb.BranchLink e) = pair_coded _
+
+pub code_long : (o : Option (List ℕ)) (i : ThumbCode) → length (units_bytes (code_unit o i ∷ [])) ≡ code_size i
+code_long o (code.One i) = refl
+code_long o (code.Pair first second) = refl
+
+pub codes_long : (o : Option (List ℕ)) (n : ℕ) (r : Result ThumbCode LineKind) → Coded n r → Long n (mapped (λ i. code_unit o i ∷ []) r)
+codes_long o n (Ok i) h = code_long o i ∙ h
+codes_long o n (Err k) h = tt
+
+pub extent_sized : (l : ThumbLine) → thumb_extent l ≡ Block 2 (thumb_size l)
+extent_sized (thumb.BranchLink target) = refl
+extent_sized l = refl
+
+pub thumb_fills : (c : Context) (o : Option (List ℕ)) (l : ThumbLine)
+    → Fills (Ok (thumb_extent l)) (mapped (λ i. code_unit o i ∷ []) (thumb_instruction c l))
+thumb_fills c o l =
+    let r = mapped (λ i. code_unit o i ∷ []) (thumb_instruction c l) in
+    subst (λ x. Fills (Ok x) r) (sym (extent_sized l))
+    (block_fills 2 (thumb_size l) r (codes_long o (thumb_size l) (thumb_instruction c l) (thumb_coded c l)))
 
 pub directive_fills : (c : Context) (d : List (List ℕ)) (s : Sight) (word : Option ℕ) (l : DirectiveLine) → is_data l ≡ true
     → Fills (extent_of s (what.Directive l)) (units c d s word (what.Directive l))
@@ -219,17 +308,18 @@ directive_fills c d s word (line.Dcw es) h = block_fills 2 (2 * length es) (half
 directive_fills c d s word (line.Dcb es) h = block_fills 1 (byte_counts s es) (byte_units c s es) (bytes_long c s es)
 directive_fills c d s word l h = absurd (cc)
 
-pub fills : (c : Context) (d : List (List ℕ)) (s : Sight) (word : Option ℕ) (w : What) → is_filled w ≡ true → s.known.thumb ≡ false
+pub fills : (c : Context) (d : List (List ℕ)) (s : Sight) (word : Option ℕ) (w : What) → is_filled w ≡ true → c.line.thumb ≡ s.known.thumb
     → Fills (extent_of s w) (units c d s word w)
 fills c d s word what.Nothing h state = absurd (cc)
 fills c d s word (what.Arm l) h state =
     block_fills 4 4 (units c d s word (what.Arm l)) (mapped_long (λ i. Instruction i (branch_symbol c l) ∷ []) 4 (arm_instruction c l) (λ i. refl))
-fills c d s word (what.Thumb l) h state = tt
-fills c d s word (what.Pseudo l) h state = pseudo_fills c d s word l state
+fills c d s word (what.Thumb l) h state = thumb_fills c (link_symbol c l) l
+fills c d s word (what.Pseudo l) h state =
+    subst (λ b. Fills (extent_of s (what.Pseudo l)) (pseudo_units b c word l)) (sym state) (pseudo_fills c s word l)
 fills c d s word (what.Directive l) h state = directive_fills c d s word l h
 
 pub units_fill : (c : Context) (d : List (List ℕ)) (s : Sight) (word : Option ℕ) (w : What) (e : Extent) (us : List Emitted)
-    → is_filled w ≡ true → s.known.thumb ≡ false → extent_of s w ≡ Ok e → units c d s word w ≡ Ok us
+    → is_filled w ≡ true → c.line.thumb ≡ s.known.thumb → extent_of s w ≡ Ok e → units c d s word w ≡ Ok us
     → (literals : List Value) (at : ℕ) → length (units_bytes us) ≡ size_of literals at e
 units_fill c d s word w e us h state x y =
     subst (λ r. Fills r (Ok us)) x (subst (Fills (extent_of s w)) y (fills c d s word w h state))
@@ -262,7 +352,7 @@ pub same_within : (m n : ℕ) → m ≡ n → m ≤ n
 same_within m n h = omega arith
 
 pub units_fit : (c : Context) (d : List (List ℕ)) (s : Sight) (word : Option ℕ) (w : What) (e : Extent) (us : List Emitted)
-    → s.known.thumb ≡ false → extent_of s w ≡ Ok e → units c d s word w ≡ Ok us
+    → c.line.thumb ≡ s.known.thumb → extent_of s w ≡ Ok e → units c d s word w ≡ Ok us
     → (literals : List Value) (at : ℕ) → length (units_bytes us) ≤ size_of literals at e
 units_fit c d s word w e us state x y literals at = by_test (is_filled w) refl
   where

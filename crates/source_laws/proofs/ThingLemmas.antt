@@ -14,7 +14,7 @@ use Rattle.asm_model.specs.Offsets.{waiting, start_in, size_of}
 use Rattle.asm_model.specs.Sound.{IsSound}
 use Rattle.source_model.specs.Objects.{Piece, units_bytes, or_none, literal_piece}
 use Rattle.source_model.specs.Units.{Emitted, units}
-use Rattle.source_laws.specs.Laws.{word_among, InArmState, context_behind}
+use Rattle.source_laws.specs.Laws.{word_among, context_behind}
 use Rattle.source_laws.proofs.LineLemmas.{is_laid, line_fine, line_known, stands_in}
 use Rattle.source_laws.proofs.SizeLemmas.{units_fit, pool_or, pool_or_own}
 use Rattle.source_laws.proofs.WordLemmas.{pool_units, pool_long}
@@ -24,10 +24,11 @@ use Rattle.asm_model.specs.Labels.{declared_names}
 
 -- what a line takes up is by what it sees
 pub seen_extent : (ss : List Statement) (after before : List LaidLine) (l : LaidLine) → laid ss ≡ after ++ l ∷ before
-    → (l.extent ≡ extent_of l.seen l.statement.what) × (l.seen.known.thumb ≡ l.thumb)
+    → (l.extent ≡ extent_of l.seen l.statement.what) × (l.seen.known.thumb ≡ l.thumb) × (l.line.thumb ≡ l.seen.known.thumb)
 seen_extent ss after before l e =
     let p = is_laid (declared_names ss) ss after before l e in
-    subst (λ (z : LaidLine). (z.extent ≡ extent_of z.seen z.statement.what) × (z.seen.known.thumb ≡ z.thumb)) (sym p.1) (refl, refl)
+    subst (λ (z : LaidLine). (z.extent ≡ extent_of z.seen z.statement.what) × (z.seen.known.thumb ≡ z.thumb) × (z.line.thumb ≡ z.seen.known.thumb))
+    (sym p.1) (refl, refl, refl)
 
 pub known_extent : (ss : List Statement) → IsSound ss → (after before : List LaidLine) (l : LaidLine) → laid ss ≡ after ++ l ∷ before
     → extent_of l.seen l.statement.what ≡ Ok (taken l.extent)
@@ -71,9 +72,9 @@ as_long : (m n : ℕ) → m ≡ n → m ≤ n
 as_long m n h = omega arith
 
 -- it is no longer than what the line takes up
-pub puts_fit : (ss : List Statement) → IsSound ss → InArmState ss → (area : ℕ) (after before : List LaidLine) (l : LaidLine) → laid ss ≡ after ++ l ∷ before
+pub puts_fit : (ss : List Statement) → IsSound ss → (area : ℕ) (after before : List LaidLine) (l : LaidLine) → laid ss ≡ after ++ l ∷ before
     → l.area ≡ Some area → length (units_bytes (puts ss area after l before)) ≤ l.size
-puts_fit ss sound arm area after before l e here =
+puts_fit ss sound area after before l e here =
     subst (λ z. length (units_bytes (puts ss area after l before)) ≤ z) (sym (stands_in ss sound area after before l e here).1) (by_what (pool_or_own l.statement.what))
   where
     ws : List Value
@@ -88,7 +89,7 @@ puts_fit ss sound arm area after before l e here =
     by_result (Err j) x = no_more (size_of ws at (taken l.extent))
     by_result (Ok us) x =
         units_fit (context_behind ss l before) (datum_names ss) l.seen (word_among after l before) l.statement.what (taken l.extent) us
-        ((seen_extent ss after before l e).1 ∙ arm after before l e) (known_extent ss sound after before l e) x ws at
+        (seen_extent ss after before l e).2 (known_extent ss sound after before l e) x ws at
 
     by_what : (l.statement.what ≡ what.Directive line.Ltorg) ⊎ ((pool us : List Emitted) → pool_or l.statement.what pool us ≡ us)
         → length (units_bytes (puts ss area after l before)) ≤ size_of ws at (taken l.extent)

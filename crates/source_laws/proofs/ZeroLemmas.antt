@@ -363,20 +363,27 @@ no_pseudo (what.Directive l) h p = p
 
 -- ---- the law
 
-zero_there : (ss : List Statement) → layout_faults ss ≡ None → (area : ℕ) → contents_of area (laid ss) ≡ Some contents.Zeroes
-    → (after before : List LaidLine) (l : LaidLine) → laid ss ≡ after ++ l ∷ before → l.area ≡ Some area → is_zero_statement l.statement.what ≡ true
-zero_there ss none area zeroes after before l parts own =
+-- a statement may stand in its area
+pub contents_there : (ss : List Statement) → layout_faults ss ≡ None → (area : ℕ) (c : Contents) → contents_of area (laid ss) ≡ Some c
+    → (after before : List LaidLine) (l : LaidLine) → laid ss ≡ after ++ l ∷ before → l.area ≡ Some area
+    → contents_kinds (Some c) l.thumb l.statement.what ≡ []
+contents_there ss none area c holds after before l parts own =
     let S = settled (equals_in ss) in
     let numbered = numbered_rest after (l ∷ before) (subst AreNumbered parts (laid_numbered (declared_names ss) ss)) in
     let fine = fine_rest S after (l ∷ before) (subst (λ z. first_fault S z ≡ None) parts (layout_sound ss none)) in
     let behind = contents_are S (l ∷ before) numbered fine area (sym numbered.0 ∙ own) in
     let all : contents_of area (laid ss) ≡ Some behind.0 =
     ap (contents_of area) parts ∙ contents_stay area behind.0 after (l ∷ before) behind.1 in
-    let is_zero : behind.0 ≡ contents.Zeroes = cc in
+    let is : behind.0 ≡ c = cc in
     let p = or_none (first_fault S before) (told_at l.statement (told_kind (layout_kinds S l before))) fine in
     let q = (line_kinds S l before (told_none l.statement (layout_kinds S l before) p.1)).0 in
-    let r = subst (λ o. contents_kinds o l.thumb l.statement.what ≡ []) (behind.2 ∙ ap Some is_zero) q in
-    not_false (is_zero_statement l.statement.what) (kind_none (not (is_zero_statement l.statement.what)) BadOperand r)
+    subst (λ o. contents_kinds o l.thumb l.statement.what ≡ []) (behind.2 ∙ ap Some is) q
+
+zero_there : (ss : List Statement) → layout_faults ss ≡ None → (area : ℕ) → contents_of area (laid ss) ≡ Some contents.Zeroes
+    → (after before : List LaidLine) (l : LaidLine) → laid ss ≡ after ++ l ∷ before → l.area ≡ Some area → is_zero_statement l.statement.what ≡ true
+zero_there ss none area zeroes after before l parts own =
+    not_false (is_zero_statement l.statement.what)
+    (kind_none (not (is_zero_statement l.statement.what)) BadOperand (contents_there ss none area contents.Zeroes zeroes after before l parts own))
 
 pub zero_areas_hold_nothing : (ss : List Statement) → layout_faults ss ≡ None
     → (area : ℕ) (p : Piece) → contents_of area (laid ss) ≡ Some contents.Zeroes → StandsIn (source_of ss) area p → ⊥

@@ -1,10 +1,10 @@
 //! Laws of the definitions, each proved as the contract of an empty function.
 
-ghost use Rattle.source_laws.specs.Laws.{OneObject, SourcesStandApart, SourcesStayInArmState};
+ghost use Rattle.source_laws.specs.Laws.{OneObject, SourcesKeepStates, SourcesStandApart};
 
-/// A source without CODE16 is one of ARM state.
-pub fn sources_stay_in_arm_state()
-    ensures { SourcesStayInArmState }
+/// Where each statement is of the state that those before it leave, each line has an instruction of its state.
+pub fn sources_keep_states()
+    ensures { SourcesKeepStates }
 {}
 
 /// Two things that stand in an area of a source without faults are the same or don't meet.

@@ -40,6 +40,7 @@ pub record Ready (k : Setting) (area at : ℕ) : Type 0 where
   pub own : k.context.line.area ≡ Some area
   pub starts : k.context.line.offset ≡ at
   pub small : at + 8 ≤ 2 ^ 32
+  pub whole : k.base % 4 ≡ 0
 
 -- ---- labels of the statement's own area
 
@@ -155,7 +156,7 @@ pub record Branches (k : Setting) (a : ℕ) (condition : Condition) (link : Bool
   pub means : IsNumber (scene k) e target
   pub reaches : Reaches k.view k.region false a target state
 
-pub branch_made : (k : Setting) (a : ℕ) (condition : Condition) (link : Bool) (e : Expr) (state : Bool) → state ≡ target_state (scene k) (value_of k.context e)
+pub branch_made : (k : Setting) (a : ℕ) (condition : Condition) (link : Bool) (e : Expr) (state : Bool) → state ≡ target_state false (scene k) (value_of k.context e)
     → Branches k a condition link e state → BranchStands (scene k) a condition link e
 branch_made k a condition link e state x b = record {
   field = b.field;
@@ -213,7 +214,7 @@ displaced false x d h = absurd (cc)
 pub to_symbol : (k : Setting) (area at a : ℕ) → Ready k area at → a ≡ k.base + at → (condition : Condition) (link : Bool) (e : Expr) (y : ℕ) (ys : List ℕ) (n d f : ℕ)
     → value_of k.context e ≡ Ok (Place (y ∷ ys) n) → d ≡ branch_from k.context (y ∷ ys) n → branch_field d ≡ Ok f
     → Shown k (at, Instruction (instr.Branch condition link f) (linked_symbol k.context (Ok (Place (y ∷ ys) n)))) → SymbolMeets k (Ok (Place (y ∷ ys) n))
-    → Branches k a condition link e (target_state (scene k) (Ok (Place (y ∷ ys) n)))
+    → Branches k a condition link e (target_state false (scene k) (Ok (Place (y ∷ ys) n)))
 to_symbol k area at a ready x condition link e y ys n d f v h field s meets = by_test (is_settled k.context (y ∷ ys)) refl h s (meets y ys)
   where
     q : List ℕ
@@ -257,7 +258,7 @@ to_symbol k area at a ready x condition link e y ys n d f v h field s meets = by
 pub branch_of : (k : Setting) (area at a : ℕ) → Ready k area at → a ≡ k.base + at → (condition : Condition) (link : Bool) (e : Expr) (r : Result Value LineKind) (d f : ℕ)
     → value_of k.context e ≡ r → branch_displacement k.context r ≡ Ok d → branch_field d ≡ Ok f
     → Shown k (at, Instruction (instr.Branch condition link f) (linked_symbol k.context r)) → SymbolMeets k r
-    → Branches k a condition link e (target_state (scene k) r)
+    → Branches k a condition link e (target_state false (scene k) r)
 branch_of k area at a ready x condition link e (Ok (Place [] n)) d f v h field s meets =
     direct k area at a ready x condition link e d f n ((k.values.base area + 0 + n) % 2 ^ 32)
     (displaced true (away_from k.context n) d h ∙ away_is k area at n ready) field
@@ -280,7 +281,7 @@ branch_stands k area at a ready x condition link e i h s meets =
     let f : ℕ → ArmInstr = λ f. instr.Branch condition link f in
     let t = then_ok (λ d. mapped f (branch_field d)) (branch_displacement k.context (value_of k.context e)) i h in
     let m = mapped_ok f (branch_field t.from) i t.gives in
-    branch_made k a condition link e (target_state (scene k) (value_of k.context e)) refl
+    branch_made k a condition link e (target_state false (scene k) (value_of k.context e)) refl
     (branch_of k area at a ready x condition link e (value_of k.context e) t.from m.from refl t.is m.is
     (subst (λ z. Shown k (at, Instruction z (linked_symbol k.context (value_of k.context e)))) (sym m.gives) s) meets)
 

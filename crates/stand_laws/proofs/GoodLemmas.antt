@@ -1,16 +1,19 @@
 -- What stands in an area: its instructions fit their rows, a branch that is left to the linker stands at a multiple of 4,
 -- and words name areas of the source.
-use Rattle.std.proofs.Common.{◌≡◌, ℕ, ◌+◌, ◌-◌, ◌%◌, ◌<◌, ◌≤◌, List, [], ◌∷◌, ◌++◌, length, Bool, true, false, cond, refl, sym, subst, arith, Option, Some, None, ◌⊎◌, inl, inr, nat_lt}
+use Rattle.std.proofs.Common.{◌≡◌, ℕ, ◌+◌, ◌-◌, ◌%◌, ◌<◌, ◌≤◌, List, [], ◌∷◌, ◌++◌, length, Bool, true, false, cond, refl, sym, ◌∙◌, subst, arith, Option, Some, None, ◌⊎◌, inl, inr, nat_lt}
 use Rattle.std.specs.Prelude.{Result, Ok, Err}
 use Rattle.std.proofs.lemmas.Bool.{ltb-true}
 use Rattle.sdt_fault.specs.declared.kinds.LineKind.{LineKind}
 use Rattle.sdt_fault.specs.declared.kinds.LineKind.TheVariants.{OutOfRange}
 use Rattle.arm_isa.specs.declared.instr.ArmInstr.{ArmInstr}
+use Rattle.thumb_isa.specs.declared.instr.ThumbInstr.{ThumbInstr}
 use Rattle.asm_model.specs.declared.arm_lines.ArmLine.{ArmLine}
 use Rattle.asm_model.specs.declared.directives.DirectiveLine.TheVariants as line
 use Rattle.asm_model.specs.declared.directives.RnOperand.{RnOperand}
 use Rattle.asm_model.specs.declared.directives.RnOperand.TheVariants as rn
 use Rattle.asm_model.specs.declared.exprs.Expr.{Expr}
+use Rattle.asm_model.specs.declared.thumb_lines.ThumbLine.{ThumbLine}
+use Rattle.asm_model.specs.declared.thumb_lines.ThumbLine.TheVariants as thumb
 use Rattle.asm_model.specs.declared.statements.PseudoLine.{PseudoLine}
 use Rattle.asm_model.specs.declared.statements.Statement.{Statement}
 use Rattle.asm_model.specs.declared.statements.What.{What}
@@ -22,7 +25,7 @@ use Rattle.asm_model.specs.Forms.{same}
 use Rattle.asm_model.specs.Meaning.{stands_at}
 use Rattle.asm_model.specs.Says.{on_both, mapped}
 use Rattle.asm_model.specs.Before.{areas_behind}
-use Rattle.asm_model.specs.Extents.{Extent, Block, number_there, value_there, extent_of}
+use Rattle.asm_model.specs.Extents.{Extent, Block, number_there, thumb_extent, value_there, extent_of}
 use Rattle.asm_model.specs.Labels.{Defined, RegisterName, field_defines, defined_by, declared_names}
 use Rattle.asm_model.specs.Laid.{LaidLine, statements_of, taken, pieces_of, laid, final_names}
 use Rattle.asm_model.specs.Marks.{datum_names}
@@ -30,16 +33,21 @@ use Rattle.asm_model.specs.Offsets.{waiting, end_behind, start_from}
 use Rattle.asm_model.specs.Symbols.{literal_value}
 use Rattle.asm_model.specs.Sound.{IsSound}
 use Rattle.layout_laws.proofs.SoundLemmas.{statements_kept}
-use Rattle.said_model.specs.Said.{GivenSaid, ArmSaid, PseudoSaid, WhatSaid, AllSaid}
+use Rattle.said_model.specs.Said.{GivenSaid, ArmSaid, ThumbSaid, PseudoSaid, WhatSaid, AllSaid}
 use Rattle.source_model.specs.ArmForms.{arm_instruction}
 use Rattle.source_model.specs.Contexts.{Context, sees, value_of, number_in, and_then}
 use Rattle.source_model.specs.Objects.{Piece, unit_bytes, units_from, or_none, source_of, IsAmong, StandsIn}
 use Rattle.source_model.specs.PseudoForms.{pseudo_instructions}
+use Rattle.source_model.specs.ThumbForms.{thumb_instruction, thumb_pseudo}
+use Rattle.source_model.specs.declared.codes.ThumbCode.{ThumbCode}
+use Rattle.source_model.specs.declared.codes.ThumbCode.TheVariants.{One, Pair}
 use Rattle.source_model.specs.Registers.{Named, register_in, as_register, given, with_register, named_by, registers_behind}
-use Rattle.source_model.specs.Units.{Emitted, Bytes, Word, Instruction, Stored, Target, Nothing, ByArea, BySymbol, placed, stored, word_units, narrow, half_units, byte_operand, byte_units, branch_symbol, instruction_units, units}
+use Rattle.source_model.specs.Units.{Emitted, Bytes, Word, Instruction, Half, LinkPair, Stored, Target, Nothing, ByArea, BySymbol, placed, stored, word_units, narrow, half_units, byte_operand, byte_units, branch_symbol, link_symbol, code_unit, instruction_units, pseudo_units, units}
 use Rattle.asm_instructions.specs.Fits.{NamesRegisters, Fits, AllFit}
 use Rattle.source_laws.specs.Laws.{word_among, context_behind}
+use Rattle.asm_instructions.specs.ThumbFits.{ThumbFits, CodeFits}
 use Rattle.asm_instructions.proofs.FitLemmas.{instruction_fits, pseudo_instructions_fit}
+use Rattle.asm_instructions.proofs.ThumbFitLemmas.{thumb_instruction_fits, thumb_pseudo_fits}
 use Rattle.source_laws.proofs.LineLemmas.{is_laid, stands_in}
 use Rattle.source_laws.proofs.PoolLemmas.{OwnUnit, PoolWord, unit_or_word}
 use Rattle.source_laws.proofs.ThingLemmas.{known_extent}
@@ -59,6 +67,8 @@ abbrev pub IsGood : ℕ → Piece → Type 0
 IsGood n (at, Bytes b) = Unit {0}
 IsGood n (at, Word w) = TargetWithin n w.target
 IsGood n (at, Instruction i symbol) = Fits i × LinkedAligned at symbol
+IsGood n (at, Half i) = ThumbFits i
+IsGood n (at, LinkPair first second symbol) = CodeFits (Pair first second) × (at % 2 ≡ 0)
 
 abbrev pub AreGood : ℕ → List Piece → Type 0
 AreGood n [] = Unit {0}
@@ -141,9 +151,26 @@ arm_good n at c l named said aligned = by_result (arm_instruction c l) refl
     by_result (Ok i) e = ((instruction_fits c named l i said e, by_symbol (branch_symbol c l)), tt)
     by_result (Err k) e = tt
 
-pseudo_good : (n at : ℕ) (c : Context) (word : Option ℕ) (l : PseudoLine) → NamesRegisters c → PseudoSaid l
-    → ResultGood n at (mapped instruction_units (pseudo_instructions c word l))
-pseudo_good n at c word l named said = by_result (pseudo_instructions c word l) refl
+thumb_good : (n at : ℕ) (c : Context) (l : ThumbLine) → ThumbSaid l → at % 2 ≡ 0
+    → ResultGood n at (mapped (λ i. code_unit (link_symbol c l) i ∷ []) (thumb_instruction c l))
+thumb_good n at c l said even = by_result (thumb_instruction c l) refl
+  where
+    by_code : (i : ThumbCode) → CodeFits i → IsGood n (at, code_unit (link_symbol c l) i)
+    by_code (One i) h = h
+    by_code (Pair first second) h = (h, even)
+
+    by_result : (r : Result ThumbCode LineKind) → thumb_instruction c l ≡ r → ResultGood n at (mapped (λ i. code_unit (link_symbol c l) i ∷ []) r)
+    by_result (Ok i) e = (by_code i (thumb_instruction_fits c l i said e), tt)
+    by_result (Err k) e = tt
+
+pseudo_good : (n at : ℕ) (c : Context) (word : Option ℕ) (l : PseudoLine) (thumb : Bool) → NamesRegisters c → PseudoSaid l
+    → ResultGood n at (pseudo_units thumb c word l)
+pseudo_good n at c word l true named said = by_result (thumb_pseudo c word l) refl
+  where
+    by_result : (r : Result ThumbInstr LineKind) → thumb_pseudo c word l ≡ r → ResultGood n at (mapped (λ i. Half i ∷ []) r)
+    by_result (Ok i) e = (thumb_pseudo_fits c word l i e, tt)
+    by_result (Err k) e = tt
+pseudo_good n at c word l false named said = by_result (pseudo_instructions c word l) refl
   where
     by_result : (r : Result (List ArmInstr) LineKind) → pseudo_instructions c word l ≡ r → ResultGood n at (mapped instruction_units r)
     by_result (Ok is) e = instructions_good n is at (pseudo_instructions_fit c named word l is said e)
@@ -151,16 +178,17 @@ pseudo_good n at c word l named said = by_result (pseudo_instructions c word l) 
 
 -- ---- lines
 
-abbrev pub ArmAligned : ℕ → What → Type 0
-ArmAligned at (what.Arm l) = at % 4 ≡ 0
-ArmAligned at _ = Unit {0}
+abbrev pub IsAligned : ℕ → What → Type 0
+IsAligned at (what.Arm l) = at % 4 ≡ 0
+IsAligned at (what.Thumb l) = at % 2 ≡ 0
+IsAligned at _ = Unit {0}
 
-line_good : (n at : ℕ) (c : Context) (d : List (List ℕ)) (s : Sight) (word : Option ℕ) (w : What) → StandsWithin n c → NamesRegisters c → WhatSaid w → ArmAligned at w
+line_good : (n at : ℕ) (c : Context) (d : List (List ℕ)) (s : Sight) (word : Option ℕ) (w : What) → StandsWithin n c → NamesRegisters c → WhatSaid w → IsAligned at w
     → ResultGood n at (units c d s word w)
 line_good n at c d s word what.Nothing within named said aligned = tt
 line_good n at c d s word (what.Arm l) within named said aligned = arm_good n at c l named said aligned
-line_good n at c d s word (what.Thumb l) within named said aligned = tt
-line_good n at c d s word (what.Pseudo l) within named said aligned = pseudo_good n at c word l named said
+line_good n at c d s word (what.Thumb l) within named said aligned = thumb_good n at c l said aligned
+line_good n at c d s word (what.Pseudo l) within named said aligned = pseudo_good n at c word l c.line.thumb named said
 line_good n at c d s word (what.Directive (line.Dcd es)) within named said aligned = words_good n c d within es at
 line_good n at c d s word (what.Directive (line.Dcdu es)) within named said aligned = words_good n c d within es at
 line_good n at c d s word (what.Directive (line.Dcw es)) within named said aligned = halves_good n c es at
@@ -170,13 +198,21 @@ line_good n at c d s word (what.Directive l) within named said aligned = tt
 raised_aligned : (at x : ℕ) → at ≡ x + (4 + 0 % 4 - x % 4) % 4 → at % 4 ≡ 0
 raised_aligned at x h = omega arith
 
-arm_aligned : (s : Sight) (w : What) (e : Extent) (x : ℕ) (ws : List Value) (at : ℕ) → extent_of s w ≡ Ok e → at ≡ start_from x ws e → ArmAligned at w
-arm_aligned s (what.Arm l) e x ws at h k =
+raised_even : (at x : ℕ) → at ≡ x + (2 + 0 % 2 - x % 2) % 2 → at % 2 ≡ 0
+raised_even at x h = omega arith
+
+thumb_block : (l : ThumbLine) → (n : ℕ) × (thumb_extent l ≡ Block 2 n)
+thumb_block (thumb.BranchLink target) = (4, refl)
+thumb_block l = (2, refl)
+
+instruction_aligned : (s : Sight) (w : What) (e : Extent) (x : ℕ) (ws : List Value) (at : ℕ) → extent_of s w ≡ Ok e → at ≡ start_from x ws e → IsAligned at w
+instruction_aligned s (what.Arm l) e x ws at h k =
     let f : Block 4 4 ≡ e = cc in raised_aligned at x (subst (λ z. at ≡ start_from x ws z) (sym f) k)
-arm_aligned s what.Nothing e x ws at h k = tt
-arm_aligned s (what.Thumb l) e x ws at h k = tt
-arm_aligned s (what.Pseudo l) e x ws at h k = tt
-arm_aligned s (what.Directive l) e x ws at h k = tt
+instruction_aligned s (what.Thumb l) e x ws at h k =
+    let f : thumb_extent l ≡ e = cc in raised_even at x (subst (λ z. at ≡ start_from x ws z) (sym f ∙ (thumb_block l).1) k)
+instruction_aligned s what.Nothing e x ws at h k = tt
+instruction_aligned s (what.Pseudo l) e x ws at h k = tt
+instruction_aligned s (what.Directive l) e x ws at h k = tt
 
 -- ---- names for registers
 
@@ -266,10 +302,10 @@ pub good_thing : (ss : List Statement) (n : ℕ) → IsSound ss → AllSaid ss �
     → (area : ℕ) (p : Piece) → StandsIn (source_of ss) area p → IsGood n p
 good_thing ss n sound said few area p x = by_kind (unit_or_word ss area p x)
   where
-    aligned : (u : OwnUnit ss area p) → ArmAligned u.owner.offset u.owner.statement.what
+    aligned : (u : OwnUnit ss area p) → IsAligned u.owner.offset u.owner.statement.what
     aligned u =
         let l = u.owner in
-        arm_aligned l.seen l.statement.what (taken l.extent) (end_behind area (pieces_of u.before)) (waiting area (pieces_of u.before)) l.offset
+        instruction_aligned l.seen l.statement.what (taken l.extent) (end_behind area (pieces_of u.before)) (waiting area (pieces_of u.before)) l.offset
         (known_extent ss sound u.after u.before l u.parts) (stands_in ss sound area u.after u.before l u.parts u.own).0
 
     by_result : (at : ℕ) (r : Result (List Emitted) LineKind) → ResultGood n at r → IsAmong p (units_from at (or_none r)) → IsGood n p

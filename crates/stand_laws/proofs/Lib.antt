@@ -4,6 +4,7 @@ pub mod DataLemmas
 pub mod DirectiveLemmas
 pub mod FieldLemmas
 pub mod GoodLemmas
+pub mod HalfLemmas
 pub mod KeptLemmas
 pub mod LineLemmas
 pub mod LinkedLemmas
@@ -16,6 +17,7 @@ pub mod Rows
 pub mod ShownLemmas
 pub mod StandLemmas
 pub mod SymbolLemmas
+pub mod ThumbLemmas
 pub mod ValueLemmas
 pub mod ViewLemmas
 pub mod WordLemmas

@@ -1,7 +1,9 @@
 -- A statement by its units, and the zeros where a statement puts nothing.
-use Rattle.std.proofs.Common.{◌≡◌, ℕ, ◌+◌, ◌<◌, ◌≤◌, List, [], ◌∷◌, ◌++◌, length, false, sym, ◌∙◌, ap, subst, arith, Option, Some, ◌⊎◌, inl, inr}
+use Rattle.std.proofs.Common.{◌≡◌, ℕ, ◌+◌, ◌<◌, ◌≤◌, List, [], ◌∷◌, ◌++◌, length, Bool, true, false, sym, ◌∙◌, ap, subst, arith, Option, Some, ◌⊎◌, inl, inr}
 use Rattle.std.specs.Prelude.{Ok}
 use Rattle.arm_isa.specs.declared.instr.ArmInstr.{ArmInstr}
+use Rattle.thumb_isa.specs.declared.instr.ThumbInstr.{ThumbInstr}
+use Rattle.asm_model.specs.declared.statements.PseudoLine.{PseudoLine}
 use Rattle.asm_model.specs.declared.directives.DirectiveLine.{DirectiveLine}
 use Rattle.asm_model.specs.declared.directives.DirectiveLine.TheVariants as line
 use Rattle.asm_model.specs.declared.statements.Statement.{Statement}
@@ -15,8 +17,10 @@ use Rattle.asm_model.specs.Sound.{IsSound}
 use Rattle.source_model.specs.ArmForms.{arm_instruction}
 use Rattle.source_model.specs.Objects.{unit_bytes, units_from, or_none, source_of, IsAmong}
 use Rattle.source_model.specs.PseudoForms.{pseudo_instructions}
-use Rattle.source_model.specs.Units.{Emitted, Instruction, branch_symbol, instruction_units, directive_units, units}
-use Rattle.source_laws.specs.Laws.{is_filled, InArmState, context_behind, word_among}
+use Rattle.source_model.specs.ThumbForms.{thumb_instruction, thumb_pseudo}
+use Rattle.source_model.specs.declared.codes.ThumbCode.{ThumbCode}
+use Rattle.source_model.specs.Units.{Emitted, Instruction, Half, branch_symbol, link_symbol, code_unit, instruction_units, pseudo_units, directive_units, units}
+use Rattle.source_laws.specs.Laws.{is_filled, context_behind, word_among}
 use Rattle.source_laws.proofs.LineLemmas.{statements_stand_apart, statements_lie_in_areas}
 use Rattle.source_laws.proofs.ListLemmas.{Before, Same, places}
 use Rattle.source_laws.proofs.SizeLemmas.{other_units_are_none, pool_or}
@@ -26,11 +30,12 @@ use Rattle.source_laws.proofs.ThingLemmas.{puts, puts_own}
 use Rattle.asm_model.proofs.OffsetLemmas.{through}
 use Rattle.patch_model.specs.Reaches.{View}
 use Rattle.stand_model.specs.Placed.{ShowsZeros}
-use Rattle.stand_model.specs.Stands.{DirectiveStands, Stands, IsGap, address_behind}
+use Rattle.stand_model.specs.Stands.{DirectiveStands, PseudoStandsIn, ReadsHalfAt, Stands, IsGap, address_behind}
 use Rattle.stand_laws.proofs.ArmLemmas.{Ready, BranchMeets, arm_stands}
 use Rattle.stand_laws.proofs.DataLemmas.{KnownStay, words_stand, halves_stand, bytes_stand, first_shown}
 use Rattle.stand_laws.proofs.PseudoLemmas.{PseudoHolds, pseudo_stands}
 use Rattle.stand_laws.proofs.ResultLemmas.{mapped_ok}
+use Rattle.stand_laws.proofs.ThumbLemmas.{LinkMeets, thumb_pseudo_stands, thumb_stands}
 use Rattle.stand_laws.proofs.ValueLemmas.{Setting, scene, AllShown}
 
 -- ---- statements
@@ -44,7 +49,7 @@ DirectiveZero view a size l = Unit {0}
 abbrev pub WhatMeets : Setting → ℕ → ℕ → Option ℕ → What → Type 0
 WhatMeets k a size word what.Nothing = Unit {0}
 WhatMeets k a size word (what.Arm l) = BranchMeets k l
-WhatMeets k a size word (what.Thumb l) = Unit {0}
+WhatMeets k a size word (what.Thumb l) = LinkMeets k l
 WhatMeets k a size word (what.Pseudo l) = PseudoHolds k word l
 WhatMeets k a size word (what.Directive l) = DirectiveZero k.view a size l
 
@@ -59,6 +64,19 @@ directive_stands k area at a ready x s size (line.Space e) us h shown stay zero 
 directive_stands k area at a ready x s size (line.Align b) us h shown stay zero = zero
 directive_stands k area at a ready x s size l us h shown stay zero = tt
 
+-- in Thumb or ARM state
+pseudo_in : (k : Setting) (area at a : ℕ) → Ready k area at → a ≡ k.base + at → (word : Option ℕ) (l : PseudoLine) (us : List Emitted) (thumb : Bool)
+    → pseudo_units thumb k.context word l ≡ Ok us → AllShown k (units_from at us) → PseudoHolds k word l
+    → PseudoStandsIn thumb (scene k) a (address_behind k.base word) l
+pseudo_in k area at a ready x word l us true h shown meets =
+    let f : ThumbInstr → List Emitted = λ i. Half i ∷ [] in
+    let m = mapped_ok f (thumb_pseudo k.context word l) us h in
+    thumb_pseudo_stands k area at a ready x word l m.from m.is
+    (subst (λ z. ReadsHalfAt k.view z m.from) (sym x) (first_shown k at (Half m.from) [] us m.gives shown).0) meets
+pseudo_in k area at a ready x word l us false h shown meets =
+    let m = mapped_ok instruction_units (pseudo_instructions k.context word l) us h in
+    pseudo_stands k area at a ready x word l m.from m.is (subst (λ z. AllShown k (units_from at z)) (sym m.gives) shown) meets
+
 pub line_stands : (k : Setting) (area at a : ℕ) → Ready k area at → a ≡ k.base + at → (s : Sight) (size : ℕ) (word : Option ℕ) (w : What) (us : List Emitted)
     → units k.context (datum_names k.source.statements) s word w ≡ Ok us → AllShown k (units_from at us) → KnownStay k.context s
     → WhatMeets k a size word w → Stands (scene k) a size (address_behind k.base word) w
@@ -67,10 +85,12 @@ line_stands k area at a ready x s size word (what.Arm l) us h shown stay meets =
     let f : ArmInstr → List Emitted = λ i. Instruction i (branch_symbol k.context l) ∷ [] in
     let m = mapped_ok f (arm_instruction k.context l) us h in
     arm_stands k area at a ready x l m.from m.is (first_shown k at (Instruction m.from (branch_symbol k.context l)) [] us m.gives shown).0 meets
-line_stands k area at a ready x s size word (what.Thumb l) us h shown stay meets = absurd (cc)
+line_stands k area at a ready x s size word (what.Thumb l) us h shown stay meets =
+    let f : ThumbCode → List Emitted = λ i. code_unit (link_symbol k.context l) i ∷ [] in
+    let m = mapped_ok f (thumb_instruction k.context l) us h in
+    thumb_stands k area at a ready x l m.from m.is (first_shown k at (code_unit (link_symbol k.context l) m.from) [] us m.gives shown).0 meets
 line_stands k area at a ready x s size word (what.Pseudo l) us h shown stay meets =
-    let m = mapped_ok instruction_units (pseudo_instructions k.context word l) us h in
-    pseudo_stands k area at a ready x word l m.from m.is (subst (λ z. AllShown k (units_from at z)) (sym m.gives) shown) meets
+    pseudo_in k area at a ready x word l us k.context.line.thumb h shown meets
 line_stands k area at a ready x s size word (what.Directive l) us h shown stay meets = directive_stands k area at a ready x s size l us h shown stay meets
 
 -- ---- zeros
@@ -85,11 +105,11 @@ pub lies_inside : (i offset size all : ℕ) → i < size → offset + size ≤ a
 lies_inside i offset size all h k = omega arith
 
 -- a statement that is neither an instruction nor data, and no pool
-pub nothing_there : (ss : List Statement) → IsSound ss → InArmState ss → (area : ℕ) (after before : List LaidLine) (l : LaidLine)
+pub nothing_there : (ss : List Statement) → IsSound ss → (area : ℕ) (after before : List LaidLine) (l : LaidLine)
     → laid ss ≡ after ++ l ∷ before → l.area ≡ Some area → is_filled l.statement.what ≡ false
     → ((pool us : List Emitted) → pool_or l.statement.what pool us ≡ us)
     → (i : ℕ) → i < l.size → IsGap (source_of ss) area (l.offset + i)
-nothing_there ss sound arm area after before l e here bare own i small p h = by_kind (held ss sound area p h)
+nothing_there ss sound area after before l e here bare own i small p h = by_kind (held ss sound area p h)
   where
     Misses : Type 0
     Misses = (l.offset + i < p.0) ⊎ (p.0 + length (unit_bytes p.1) ≤ l.offset + i)
@@ -105,29 +125,29 @@ nothing_there ss sound arm area after before l e here bare own i small p h = by_
         let nothing : IsAmong p [] = subst (λ us. IsAmong p (units_from l.offset us)) (puts_own ss area after before l own ∙ ap or_none none) here in
         absurd nothing
     of_place x (inr (inl b)) =
-        inr (lies_behind i l.offset (p.0 + length (unit_bytes p.1)) (x.line.offset + x.line.size) (in_line ss sound arm area p x).1
+        inr (lies_behind i l.offset (p.0 + length (unit_bytes p.1)) (x.line.offset + x.line.size) (in_line ss sound area p x).1
         (statements_stand_apart ss sound area after b.0 x.before l x.line (e ∙ ap (λ z. after ++ l ∷ z) b.1) here x.own))
     of_place x (inr (inr b)) =
         inl (lies_before i l.offset l.size p.0 small
         (chain (l.offset + l.size) x.line.offset x.line.offset p.0
-        (statements_stand_apart ss sound area x.after b.0 before x.line l (x.parts ∙ ap (λ z. x.after ++ x.line ∷ z) b.1) x.own here) (omega arith) (in_line ss sound arm area p x).0))
+        (statements_stand_apart ss sound area x.after b.0 before x.line l (x.parts ∙ ap (λ z. x.after ++ x.line ∷ z) b.1) x.own here) (omega arith) (in_line ss sound area p x).0))
 
     by_kind : Held ss area p → Misses
     by_kind (inl x) = of_place x (places after before x.after x.before l x.line (sym e ∙ x.parts))
     by_kind (inr k) =
         inl (lies_before i l.offset l.size p.0 small (through (l.offset + l.size) (end_behind area (pieces_of (laid ss))) p.0 (lines_end ss sound area after before l e here) (at_end ss area p k).0))
 
-pub zeros_there : (ss : List Statement) → IsSound ss → InArmState ss → (area : ℕ) (after before : List LaidLine) (l : LaidLine)
+pub zeros_there : (ss : List Statement) → IsSound ss → (area : ℕ) (after before : List LaidLine) (l : LaidLine)
     → laid ss ≡ after ++ l ∷ before → l.area ≡ Some area → is_filled l.statement.what ≡ false
     → ((pool us : List Emitted) → pool_or l.statement.what pool us ≡ us)
     → (view : View) (base : ℕ)
     → ((i : ℕ) → i < area_size area (pieces_of (laid ss)) → IsGap (source_of ss) area i → view (base + i) ≡ Some 0)
     → ShowsZeros view (base + l.offset) l.size
-zeros_there ss sound arm area after before l e here bare own view base gaps i small =
+zeros_there ss sound area after before l e here bare own view base gaps i small =
     ap view (together base l.offset i)
     ∙ gaps (l.offset + i)
     (lies_inside i l.offset l.size (area_size area (pieces_of (laid ss))) small (statements_lie_in_areas ss sound area after before l e here))
-    (nothing_there ss sound arm area after before l e here bare own i small)
+    (nothing_there ss sound area after before l e here bare own i small)
   where
     together : (b o i : ℕ) → b + o + i ≡ b + (o + i)
     together b o i = omega arith

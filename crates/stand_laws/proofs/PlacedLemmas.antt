@@ -19,7 +19,8 @@ use Rattle.patch_model.specs.Fields.{Values}
 use Rattle.patch_model.specs.Patched.{Veneers, AreaPatched}
 use Rattle.patch_model.specs.Reaches.{View}
 use Rattle.source_model.specs.Objects.{source_of, symbol_number, symbol_named, contents_of, is_kept, KeepsBytes, IsArea, IsObject}
-use Rattle.source_laws.proofs.FaultlessLemmas.{layout_sound, sources_stand_apart, sources_lie_in_areas}
+use Rattle.source_laws.proofs.FaultlessLemmas.{layout_sound}
+use Rattle.source_laws.proofs.ApartLemmas.{things_stand_apart, things_lie_in_areas}
 use Rattle.source_laws.proofs.PoolLemmas.{OwnUnit, PoolWord, unit_or_word}
 use Rattle.source_laws.proofs.ZeroLemmas.{zero_areas_hold_nothing}
 use Rattle.stand_model.specs.Placed.{ShowsBy, ShowsArea}
@@ -52,8 +53,8 @@ facts_of ss o faultless obj few_areas few_symbols area =
     record {
       good = good_thing ss (2 ^ 24) (layout_sound ss faultless.laid_out) faultless.said few area;
       symbols = numbers;
-      apart = sources_stand_apart ss faultless.laid_out faultless.arm_state area;
-      inside = sources_lie_in_areas ss faultless.laid_out faultless.arm_state area;
+      apart = things_stand_apart ss (layout_sound ss faultless.laid_out) area;
+      inside = things_lie_in_areas ss (layout_sound ss faultless.laid_out) area;
     }
   where
     numbers : (name : List ℕ) → symbol_number (source_of ss) name < 2 ^ 24

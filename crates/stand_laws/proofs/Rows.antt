@@ -1,11 +1,10 @@
 -- A worked row: a source of a branch meets what the law asks of sources, so that with its placed object, which stand_model
 -- shows, each premise of the law is met.
-use Rattle.std.proofs.Common.{◌≡◌, ℕ, List, [], ◌∷◌, ◌++◌, Bool, false, refl, subst, codes}
+use Rattle.std.proofs.Common.{◌≡◌, ℕ, List, [], ◌∷◌, ◌++◌, Bool, refl, subst, codes}
 use Rattle.asm_model.specs.declared.exprs.ExprItem.TheVariants as item
 use Rattle.asm_model.specs.declared.exprs.Part.{Part}
 use Rattle.asm_model.specs.declared.exprs.Part.TheVariants as part
 use Rattle.asm_model.specs.Grammar.{Tree, Leaf, operand, tighter}
-use Rattle.asm_model.specs.Laid.{LaidLine}
 use Rattle.said_model.specs.Said.{IsRead}
 use Rattle.stand_model.proofs.SourceRows.{branch_source}
 use Rattle.stand_laws.specs.Laws.{IsFaultless}
@@ -22,14 +21,6 @@ name_is_read name =
       items = refl;
     }
 
-three_in_arm : (a b c : LaidLine) → a.thumb ≡ false → b.thumb ≡ false → c.thumb ≡ false
-    → (after before : List LaidLine) (l : LaidLine) → c ∷ b ∷ a ∷ [] ≡ after ++ l ∷ before → l.thumb ≡ false
-three_in_arm a b c ea eb ec [] before l e = let same : c ≡ l = cc in subst (λ (x : LaidLine). x.thumb ≡ false) same ec
-three_in_arm a b c ea eb ec (x ∷ []) before l e = let same : b ≡ l = cc in subst (λ (x : LaidLine). x.thumb ≡ false) same eb
-three_in_arm a b c ea eb ec (x ∷ y ∷ []) before l e = let same : a ≡ l = cc in subst (λ (x : LaidLine). x.thumb ≡ false) same ea
-three_in_arm a b c ea eb ec (x ∷ y ∷ z ∷ []) before l e = absurd (cc)
-three_in_arm a b c ea eb ec (x ∷ y ∷ z ∷ w ∷ rest) before l e = absurd (cc)
-
 -- AREA words, CODE; IMPORT far; B far, or BL far
 pub branch_is_faultless : (link : Bool) → IsFaultless (branch_source link)
 branch_is_faultless link = record {
@@ -44,5 +35,4 @@ branch_is_faultless link = record {
   loads_named = (tt, (tt, (tt, tt)));
   laid_out = refl;
   valued = refl;
-  arm_state = λ after before l e. three_in_arm _ _ _ refl refl refl after before l e;
 }

@@ -6,6 +6,8 @@ use Rattle.sdt_word.specs.declared.ranges.Range32.{Range32}
 use Rattle.aof_object.specs.declared.records.Object.{Object}
 use Rattle.asm_model.specs.declared.arm_lines.ArmLine.{ArmLine}
 use Rattle.asm_model.specs.declared.arm_lines.ArmLine.TheVariants as arm
+use Rattle.asm_model.specs.declared.thumb_lines.ThumbLine.{ThumbLine}
+use Rattle.asm_model.specs.declared.thumb_lines.ThumbLine.TheVariants as thumb
 use Rattle.asm_model.specs.declared.directives.DirectiveLine.{DirectiveLine}
 use Rattle.asm_model.specs.declared.directives.DirectiveLine.TheVariants as line
 use Rattle.asm_model.specs.declared.exprs.Expr.{Expr}
@@ -16,7 +18,9 @@ use Rattle.asm_model.specs.declared.statements.Statement.{Statement}
 use Rattle.asm_model.specs.declared.statements.What.{What}
 use Rattle.asm_model.specs.declared.statements.What.TheVariants as what
 use Rattle.asm_model.specs.Meaning.{named_in, entry_stands_at, in_area}
-use Rattle.asm_model.specs.Laid.{LaidLine, taken, pieces_of, laid, final_names}
+use Rattle.asm_model.specs.Before.{areas_behind}
+use Rattle.layout_laws.proofs.SoundLemmas.{statements_kept}
+use Rattle.asm_model.specs.Laid.{LaidLine, statements_of, taken, pieces_of, laid, final_names}
 use Rattle.asm_model.specs.LayoutKinds.{equals_in, settled}
 use Rattle.asm_model.specs.Offsets.{area_size}
 use Rattle.asm_model.specs.PlacedLines.{AllNamed}
@@ -27,7 +31,7 @@ use Rattle.layout_laws.proofs.FinalLemmas.{known_values_are_final}
 use Rattle.object_laws.specs.Laws.{IsListed, OptionListed}
 use Rattle.object_laws.proofs.FaultLemmas.{layout_here, line_valued}
 use Rattle.object_laws.proofs.SizeLemmas.{line_small}
-use Rattle.object_laws.proofs.TargetLemmas.{arm_listed, lines_listed}
+use Rattle.object_laws.proofs.TargetLemmas.{arm_listed, lines_listed, thumb_listed}
 use Rattle.patch_model.specs.Fields.{Values}
 use Rattle.patch_model.specs.Reaches.{View}
 use Rattle.source_model.specs.Objects.{Piece, source_of, At, IsAmong, StandsIn, word_at, units_from, or_none, IsObject}
@@ -46,8 +50,10 @@ use Rattle.stand_model.specs.Shown.{IsShown, meant_by}
 use Rattle.stand_model.specs.Stands.{Stands, IsGap, scene_at, address_behind}
 use Rattle.stand_laws.specs.Laws.{IsFaultless}
 use Rattle.stand_laws.proofs.ArmLemmas.{Ready, BranchMeets}
+use Rattle.stand_laws.proofs.ThumbLemmas.{LinkMeets}
 use Rattle.stand_laws.proofs.LineLemmas.{DirectiveZero, WhatMeets, line_stands, zeros_there}
 use Rattle.stand_laws.proofs.PseudoLemmas.{LiteralHolds}
+use Rattle.stand_laws.proofs.AreaLemmas.{area_there, found_at}
 use Rattle.stand_laws.proofs.SymbolLemmas.{symbol_placed_there}
 use Rattle.stand_laws.proofs.ValueLemmas.{scene, AllShown, setting}
 use Rattle.stand_laws.proofs.WordLemmas.{literal_holds}
@@ -62,8 +68,8 @@ near_enough offset size h = omega arith
 
 pub line_ready : (ss : List Statement) → AllNamed ss → layout_faults ss ≡ None → (values : Values) (view : View) (region : Range32) (area : ℕ)
     (after before : List LaidLine) (l : LaidLine) → laid ss ≡ after ++ l ∷ before → l.area ≡ Some area
-    → Ready (setting ss values view region area l before) area l.offset
-line_ready ss named none values view region area after before l e own =
+    → values.base area % 4 ≡ 0 → Ready (setting ss values view region area l before) area l.offset
+line_ready ss named none values view region area after before l e own whole =
     let p = is_laid (declared_names ss) ss after before l e in
     record {
       here = lines_have_symbols (final_names (laid ss)) l.line (final_names_have_symbols ss named);
@@ -71,7 +77,17 @@ line_ready ss named none values view region area after before l e own =
       own = line_area ss after before l e ∙ own;
       starts = subst (λ (z : LaidLine). z.line.offset ≡ z.offset) (sym p.1) refl;
       small = near_enough l.offset l.size (line_small (settled (equals_in ss)) l before (layout_here ss none after before l e));
+      whole = whole;
     }
+
+-- the area of a line is one of the object, whose base is a multiple of 4
+base_whole : (ss : List Statement) (o : Object) → IsObject ss o → (own : ℕ) (values : Values) (area_at : ℕ → ℕ → ℕ) → IsPlaced own o values area_at
+    → (area : ℕ) (after before : List LaidLine) (l : LaidLine) → laid ss ≡ after ++ l ∷ before → l.area ≡ Some area → values.base area % 4 ≡ 0
+base_whole ss o obj own values area_at placed area after before l e here =
+    let count : length (areas_behind (statements_of (laid ss))) ≤ length o.areas =
+    let same = ap (λ z. length (areas_behind z)) (statements_kept (declared_names ss) ss) ∙ sym obj.count in omega arith in
+    let f = found_at o.areas area (area_there ss (length o.areas) area after before l count e here) in
+    placed.aligned area f.0 f.1
 
 -- ---- branches to symbols
 
@@ -106,6 +122,23 @@ line_meets ss o obj own values area_at placed view region area after before l e 
     address_meets ss o obj own values area_at placed view region area l before c cs there (named_in q N) refl
 line_meets ss o obj own values area_at placed view region area after before l e a w = tt
 
+pub link_meets : (ss : List Statement) (o : Object) → IsObject ss o → (own : ℕ) (values : Values) (area_at : ℕ → ℕ → ℕ) → IsPlaced own o values area_at
+    → (view : View) (region : Range32) (area : ℕ) (after before : List LaidLine) (l : LaidLine) → laid ss ≡ after ++ l ∷ before
+    → (t : ThumbLine) → l.statement.what ≡ what.Thumb t → LinkMeets (setting ss values view region area l before) t
+link_meets ss o obj own values area_at placed view region area after before l e (thumb.BranchLink target) w = λ c cs h.
+    let N = final_names (laid ss) in
+    let q : List ℕ = c ∷ cs in
+    let k = context_behind ss l before in
+    let here : IsListed (symbols_in N l.line (taken l.extent) (what.Thumb (thumb.BranchLink target))) q =
+    subst (OptionListed (symbols_in N l.line (taken l.extent) (what.Thumb (thumb.BranchLink target)))) h
+    (thumb_listed k (thumb.BranchLink target)) in
+    let there : IsListed (symbols_of N (laid ss)) q =
+    subst (λ z. IsListed (symbols_of N z) q) (sym e)
+    (lines_listed N after before l q
+    (subst (λ z. IsListed (symbols_in N l.line (taken l.extent) z) q) (sym w) here)) in
+    address_meets ss o obj own values area_at placed view region area l before c cs there (named_in q N) refl
+link_meets ss o obj own values area_at placed view region area after before l e t w = tt
+
 -- ---- SPACE and ALIGN
 
 directive_zero : (view : View) (a size : ℕ) (d : DirectiveLine)
@@ -126,13 +159,14 @@ pub what_meets : (ss : List Statement) (fine : IsFaultless ss) (o : Object) → 
 what_meets ss fine o obj own values area_at placed view region area after before l e here holds gaps what.Nothing x = tt
 what_meets ss fine o obj own values area_at placed view region area after before l e here holds gaps (what.Arm a) x =
     line_meets ss o obj own values area_at placed view region area after before l e a x
-what_meets ss fine o obj own values area_at placed view region area after before l e here holds gaps (what.Thumb t) x = tt
+what_meets ss fine o obj own values area_at placed view region area after before l e here holds gaps (what.Thumb t) x =
+    link_meets ss o obj own values area_at placed view region area after before l e t x
 what_meets ss fine o obj own values area_at placed view region area after before l e here holds gaps (what.Pseudo (pseudo.LoadConstant condition rd v)) x = holds condition rd v x
 what_meets ss fine o obj own values area_at placed view region area after before l e here holds gaps (what.Pseudo p) x = tt
 what_meets ss fine o obj own values area_at placed view region area after before l e here holds gaps (what.Directive d) x =
     directive_zero view (values.base area + l.offset) l.size d
     (λ bare own.
-    zeros_there ss (layout_sound ss fine.laid_out) fine.arm_state area after before l e here (ap is_filled x ∙ bare)
+    zeros_there ss (layout_sound ss fine.laid_out) area after before l e here (ap is_filled x ∙ bare)
     (λ pool us. ap (λ z. pool_or z pool us) x ∙ own pool us) view (values.base area) gaps)
 
 -- what a line puts of its own stands in its area
@@ -160,7 +194,7 @@ shown_lines_stand ss o fine obj small own values area_at view region placed l at
     let u = (line_valued ss fine.valued after before l e).0 in
     let word = word_among after l before in
     let units_shown : AllShown k (units_from l.offset u.0) = λ p h. shown p (own_stands ss area p after before l u.0 e here u.1 h) in
-    let ready = line_ready ss fine.named fine.laid_out values view region area after before l e here in
+    let ready = line_ready ss fine.named fine.laid_out values view region area after before l e here (base_whole ss o obj own values area_at placed area after before l e here) in
     line_stands k area l.offset (values.base area + l.offset) ready refl l.seen l.size word
     l.statement.what u.0 u.1 units_shown (known_values_are_final ss (layout_sound ss fine.laid_out) (are_plain ss fine.said) after before l e)
     (what_meets ss fine o obj own values area_at placed view region area after before l e here

@@ -11,21 +11,19 @@ use Rattle.patch_model.specs.Patched.{Veneers}
 use Rattle.patch_model.specs.Reaches.{View}
 use Rattle.said_model.specs.Named.{AllLoadsNamed}
 use Rattle.said_model.specs.Said.{AllSaid}
-use Rattle.source_laws.specs.Laws.{AreOfState}
 use Rattle.source_model.specs.Objects.{Piece, source_of, At, StandsIn, word_at, IsObject}
 use Rattle.source_model.specs.SourceFaults.{layout_faults, value_faults}
 use Rattle.stand_model.specs.Placed.{IsPlaced, ShowsObject}
 use Rattle.stand_model.specs.Shown.{IsShown}
 use Rattle.stand_model.specs.Stands.{Stands, AllStand, IsGap, scene_at, address_behind}
 
--- statements without faults, each of its state
+-- statements without faults, as lines say them
 pub record IsFaultless (statements : List Statement) : Type 0 where
   pub said : AllSaid statements
   pub named : AllNamed statements
   pub loads_named : AllLoadsNamed statements
   pub laid_out : layout_faults statements ≡ None
   pub valued : value_faults statements ≡ None
-  pub states : AreOfState statements
 
 -- memory shows each thing of each area; relocations name areas and symbols by their low 24 bits
 abbrev pub ThingsAreShown : Type 0

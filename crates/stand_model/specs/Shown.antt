@@ -5,13 +5,13 @@ use Rattle.sdt_word.specs.declared.codes.Condition.{Condition}
 use Rattle.sdt_word.specs.declared.ranges.Range32.{Range32}
 use Rattle.arm_isa.specs.declared.instr.ArmInstr.{ArmInstr}
 use Rattle.arm_isa.specs.declared.instr.ArmInstr.TheVariants as instr
-use Rattle.thumb_isa.specs.declared.instr.ThumbInstr.TheVariants.{BranchLink}
 use Rattle.patch_model.specs.Fields.{Meant, Values, is_thumb_label}
 use Rattle.patch_model.specs.Laws.{state_of}
 use Rattle.patch_model.specs.Reaches.{View, Shows, ShowsWord, Reaches}
+use Rattle.source_model.specs.declared.codes.ThumbCode.TheVariants.{Pair}
 use Rattle.source_model.specs.Objects.{Piece, Source, symbol_number}
 use Rattle.source_model.specs.Units.{Target, Nothing, ByArea, BySymbol, Bytes, Word, Instruction, Half, LinkPair}
-use Rattle.stand_model.specs.Stands.{ReadsAt, ReadsHalfAt}
+use Rattle.stand_model.specs.Stands.{CodeReadsAt, ReadsAt, ReadsHalfAt}
 
 abbrev pub meant_by : Source → Values → List ℕ → Meant
 meant_by s values name = values.symbol (symbol_number s name)
@@ -40,13 +40,11 @@ InstructionShown s values view region a offset i (Some name) = LinkedStands view
 pub record LinkedPair (view : View) (region : Range32) (a offset first second : ℕ) (m : Meant) : Type 0 where
   pub high : ℕ
   pub low : ℕ
-  pub reads_high : ReadsHalfAt view a (BranchLink false high)
-  pub reads_low : ReadsHalfAt view (a + 2) (BranchLink true low)
+  pub reads : CodeReadsAt view a (Pair high low)
   pub reaches : Reaches view region true a ((offset + 4 + sign_extended (first * 2 ^ 11 + second) 22 * 2 + m.number) % 2 ^ 32) (state_of true m m.home)
 
 abbrev pub PairShown : Source → Values → View → Range32 → ℕ → ℕ → ℕ → ℕ → Option (List ℕ) → Type 0
-PairShown s values view region a offset first second None =
-    ReadsHalfAt view a (BranchLink false first) × ReadsHalfAt view (a + 2) (BranchLink true second)
+PairShown s values view region a offset first second None = CodeReadsAt view a (Pair first second)
 PairShown s values view region a offset first second (Some name) = LinkedPair view region a offset first second (meant_by s values name)
 
 -- a thing of an area at a base

@@ -50,7 +50,8 @@ use Rattle.source_model.specs.ArmForms.{arm_instruction, is_settled}
 use Rattle.source_model.specs.Contexts.{Context, sees, value_of, register}
 use Rattle.source_model.specs.Immediates.{data_immediate}
 use Rattle.source_model.specs.ThumbForms.{thumb_instruction}
-use Rattle.source_model.specs.declared.codes.ThumbCode.TheVariants.{One}
+use Rattle.source_model.specs.declared.codes.ThumbCode.{ThumbCode}
+use Rattle.source_model.specs.declared.codes.ThumbCode.TheVariants.{One, Pair}
 use Rattle.source_model.specs.Objects.{Piece, Source, At, StandsIn, unit_bytes, context_at, word_at, symbol_number}
 use Rattle.stand_model.specs.Placed.{ShowsZeros}
 
@@ -176,6 +177,11 @@ pub record ReadsHalfAt (view : View) (a : ℕ) (i : ThumbInstr) : Type 0 where
   pub shows : ShowsHalf view a half
   pub reads : ReadsThumb half i
 
+-- the half-word of an instruction, or both halves of BL
+abbrev pub CodeReadsAt : View → ℕ → ThumbCode → Type 0
+CodeReadsAt view a (One i) = ReadsHalfAt view a i
+CodeReadsAt view a (Pair first second) = ReadsHalfAt view a (half.BranchLink false first) × ReadsHalfAt view (a + 2) (half.BranchLink true second)
+
 -- B, and B with a condition
 pub record ShortBranchStands (s : Scene) (a : ℕ) (instruction : ℕ → ThumbInstr) (e : Expr) : Type 0 where
   pub field : ℕ
@@ -188,8 +194,7 @@ pub record ShortBranchStands (s : Scene) (a : ℕ) (instruction : ℕ → ThumbI
 pub record LinkStands (s : Scene) (a : ℕ) (e : Expr) : Type 0 where
   pub first : ℕ
   pub second : ℕ
-  pub reads_first : ReadsHalfAt s.view a (half.BranchLink false first)
-  pub reads_second : ReadsHalfAt s.view (a + 2) (half.BranchLink true second)
+  pub reads : CodeReadsAt s.view a (Pair first second)
   pub target : ℕ
   pub means : IsNumber s e target
   pub reaches : Reaches s.view s.region true a target (target_state true s (value_of s.context e))
@@ -212,9 +217,9 @@ pub record LabelCounted (s : Scene) (a : ℕ) (instruction : ℕ → ThumbInstr)
 
 -- the line's instruction, with the values of its operands
 pub record ThumbInstructionStands (s : Scene) (a : ℕ) (l : ThumbLine) : Type 0 where
-  pub instruction : ThumbInstr
-  pub says : thumb_instruction s.context l ≡ Ok (One instruction)
-  pub reads : ReadsHalfAt s.view a instruction
+  pub code : ThumbCode
+  pub says : thumb_instruction s.context l ≡ Ok code
+  pub reads : CodeReadsAt s.view a code
 
 abbrev pub ThumbStands : Scene → ℕ → ThumbLine → Type 0
 ThumbStands s a (thumb.LoadLiteral rd (literal.Label e)) = LabelCounted s a (half.LoadLiteral (register s.context rd)) e
