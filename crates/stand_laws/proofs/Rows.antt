@@ -1,6 +1,6 @@
 -- A worked row: a source of a branch meets what the law asks of sources, so that with its placed object, which stand_model
 -- shows, each premise of the law is met.
-use Rattle.std.proofs.Common.{◌≡◌, ℕ, List, [], ◌∷◌, ◌++◌, Bool, refl, subst, codes}
+use Rattle.std.proofs.Common.{ℕ, List, [], ◌∷◌, Bool, refl, codes}
 use Rattle.asm_model.specs.declared.exprs.ExprItem.TheVariants as item
 use Rattle.asm_model.specs.declared.exprs.Part.{Part}
 use Rattle.asm_model.specs.declared.exprs.Part.TheVariants as part

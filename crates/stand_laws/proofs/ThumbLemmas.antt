@@ -1,8 +1,8 @@
 -- Instructions of Thumb state: branches, words counted behind pc, and all others.
-use Rattle.std.proofs.Common.{◌≡◌, ℕ, ◌+◌, ◌-◌, ◌*◌, ◌/◌, ◌%◌, ◌^◌, ◌<◌, ◌≤◌, List, [], ◌∷◌, Bool, true, false, cond, refl, sym, ◌∙◌, ap, subst, arith, Option, Some, None, inl, inr}
-use Rattle.std.specs.Prelude.{nat_lt, Result, Ok, Err}
+use Rattle.std.proofs.Common.{◌≡◌, ℕ, ◌+◌, ◌-◌, ◌*◌, ◌/◌, ◌%◌, ◌^◌, List, [], ◌∷◌, Bool, true, false, cond, refl, sym, ◌∙◌, ap, subst, Option, Some, None, inl, inr}
+use Rattle.std.specs.Prelude.{Result, Ok, Err}
 use Rattle.sdt_fault.specs.declared.kinds.LineKind.{LineKind}
-use Rattle.sdt_fault.specs.declared.kinds.LineKind.TheVariants.{BadOperand, Syntax}
+use Rattle.sdt_fault.specs.declared.kinds.LineKind.TheVariants.{BadOperand}
 use Rattle.sdt_word.specs.Numbers.{sign_extended}
 use Rattle.sdt_word.specs.declared.codes.Condition.{Condition}
 use Rattle.thumb_isa.specs.declared.instr.HighOperation.TheVariants as high
@@ -24,15 +24,15 @@ use Rattle.asm_model.specs.Says.{mapped}
 use Rattle.asm_model.specs.Symbols.{same_state}
 use Rattle.patch_model.specs.Fields.{Meant}
 use Rattle.patch_model.specs.Laws.{state_of}
-use Rattle.patch_model.specs.Reaches.{BranchesTo, Reaches}
+use Rattle.patch_model.specs.Reaches.{Reaches}
 use Rattle.source_model.specs.ArmForms.{has_symbol, is_settled, offset_at}
-use Rattle.source_model.specs.Contexts.{Context, sees, value_of, register, and_then, own_offset}
-use Rattle.source_model.specs.ThumbForms.{both, branch_by, from_word_pc, half_words, is_low, low, low_number, one, pair_fields, thumb_displacement, thumb_from, thumb_instruction, thumb_pseudo, units_below, word_offset, words_to}
-use Rattle.source_model.specs.Units.{Half, LinkPair, code_unit, link_symbol, linked_symbol}
+use Rattle.source_model.specs.Contexts.{sees, value_of, register, and_then, own_offset}
+use Rattle.source_model.specs.ThumbForms.{both, branch_by, from_word_pc, half_words, is_low, low, low_number, pair_fields, thumb_displacement, thumb_from, thumb_instruction, thumb_pseudo, units_below, word_offset, words_to}
+use Rattle.source_model.specs.Units.{LinkPair, code_unit, link_symbol, linked_symbol}
 use Rattle.source_model.specs.declared.codes.ThumbCode.{ThumbCode}
 use Rattle.source_model.specs.declared.codes.ThumbCode.TheVariants.{One, Pair}
 use Rattle.stand_model.specs.Shown.{LinkedPair, meant_by}
-use Rattle.stand_model.specs.Stands.{CodeReadsAt, CountsTo, IsNumber, LabelCounted, LinkStands, ReadsHalfAt, ShortBranchStands, ThumbInstructionStands, ThumbPseudoStands, ThumbStands, WordStands, address_behind, target_state}
+use Rattle.stand_model.specs.Stands.{CodeReadsAt, CountsTo, IsNumber, LabelCounted, LinkStands, ReadsHalfAt, ShortBranchStands, ThumbInstructionStands, ThumbPseudoStands, ThumbStands, address_behind, target_state}
 use Rattle.stand_laws.proofs.ArmLemmas.{Ready, SymbolMeets, area_sum, displaced, own_stands, settled_in, start_sum}
 use Rattle.stand_laws.proofs.HalfLemmas.{HoldsHalves, IsWidth, behind, behind_leads, behind_small, conditional_width, halves_held, link_field, link_width, linked_leads, short_width, words_are, words_lead}
 use Rattle.stand_laws.proofs.PseudoLemmas.{PseudoHolds}
