@@ -16,8 +16,8 @@ use Rattle.source_laws.proofs.UnitLemmas.{units_inside}
 use Rattle.armasm_core.specs.declared.drafts.Draft.{Draft}
 use Rattle.armasm_core.specs.Drafts.{MeetsNone, MeetNone, HoldsPieces, IsDraft, AreRelocs}
 use Rattle.armasm_core.specs.Writing.{AllCanStand}
-use Rattle.armasm_core.specs.Relocations.{relocation, relocs_in, noted, relocs_listed}
-use Rattle.armasm_core.proofs.RelocLemmas.{four, reloc_parts, parts_reloc, noted_here, noted_apart, noted_parts, listed_found, found_listed, rising}
+use Rattle.armasm_core.specs.Relocations.{relocation, reloc_at, relocs_in, noted, relocs_listed}
+use Rattle.armasm_core.proofs.RelocLemmas.{four, near, reloc_parts, parts_reloc, noted_here, noted_apart, noted_parts, listed_found, found_listed, rising}
 use Rattle.armasm_core.proofs.WriteLemmas.{apart, other}
 use Rattle.base_lemmas.proofs.BaseLemmas.{rest_of as first_and_rest}
 
@@ -50,59 +50,61 @@ held_more pieces q xs held none h = record {
 
 -- ---- relocations
 
--- two things at one offset that are relocated are the same
-same_place : (names : List (List ℕ)) (p q : Piece) (v w : ℕ) → (p ≡ q) ⊎ StandApart p q → p.0 ≡ q.0
+-- two things that are relocated at one offset are the same
+same_place : (names : List (List ℕ)) (p q : Piece) (v w : ℕ) → (p ≡ q) ⊎ StandApart p q → reloc_at p ≡ reloc_at q
     → relocation names p.1 ≡ Some v → relocation names q.1 ≡ Some w → p ≡ q
 same_place names p q v w (inl e) at f g = e
-same_place names p q v w (inr (inl h)) at f g = absurd (let n = four names p.1 v f in omega arith)
-same_place names p q v w (inr (inr h)) at f g = absurd (let n = four names q.1 w g in omega arith)
+same_place names p q v w (inr (inl h)) at f g =
+    absurd (let n = four names p.1 v f in let here = (near p.0 p.1).1 in let there = (near q.0 q.1).0 in omega arith)
+same_place names p q v w (inr (inr h)) at f g =
+    absurd (let n = four names q.1 w g in let here = (near q.0 q.1).1 in let there = (near p.0 p.1).0 in omega arith)
 
 -- the relocation of a thing stays noted where another is noted
 stays : (names : List (List ℕ)) (p q : Piece) (old o : Option ℕ) (v : ℕ) → (p ≡ q) ⊎ StandApart p q → relocation names p.1 ≡ Some v
-    → relocation names q.1 ≡ o → old ≡ Some v → noted old q.0 o p.0 ≡ Some v
+    → relocation names q.1 ≡ o → old ≡ Some v → noted old (reloc_at q) o (reloc_at p) ≡ Some v
 stays names p q old None v apart f g e = e
-stays names p q old (Some w) v apart f g e = ⊎_elim here (λ h. noted_apart old (Some w) q.0 p.0 h ∙ e) (cases_eq q.0 p.0)
+stays names p q old (Some w) v apart f g e = ⊎_elim here (λ h. noted_apart old (Some w) (reloc_at q) (reloc_at p) h ∙ e) (cases_eq (reloc_at q) (reloc_at p))
   where
-    here : q.0 ≡ p.0 → noted old q.0 (Some w) p.0 ≡ Some v
+    here : reloc_at q ≡ reloc_at p → noted old (reloc_at q) (Some w) (reloc_at p) ≡ Some v
     here h =
         let same : p ≡ q = same_place names p q v w apart (sym h) f g in
         let word : Some w ≡ Some v = sym g ∙ ap (λ (x : Piece). relocation names x.1) (sym same) ∙ f in
-        ap (noted old q.0 (Some w)) (sym h) ∙ noted_here old q.0 w ∙ word
+        ap (noted old (reloc_at q) (Some w)) (sym h) ∙ noted_here old (reloc_at q) w ∙ word
 
 module _ (names : List (List ℕ)) (pieces : List Piece) (q : Piece) (f g : ℕ → Option ℕ)
-    (notes : (k : ℕ) → g k ≡ noted (f k) q.0 (relocation names q.1) k) where
+    (notes : (k : ℕ) → g k ≡ noted (f k) (reloc_at q) (relocation names q.1) k) where
   relocated_more : MeetsNone pieces q → ((p : Piece) (r : Reloc) → IsAmong p pieces → IsRelocOf (relocs_in names p) r → f r.offset ≡ Some r.word)
       → (p : Piece) (r : Reloc) → IsAmong p (pieces ++ q ∷ []) → IsRelocOf (relocs_in names p) r → g r.offset ≡ Some r.word
   relocated_more none old p r among is =
-      let parts = reloc_parts p.0 (relocation names p.1) r is in
+      let parts = reloc_parts (reloc_at p) (relocation names p.1) r is in
       notes r.offset ∙ ⊎_elim (before parts.0 parts.1) (last parts.0 parts.1) (last_among p pieces q among)
     where
-      before : r.offset ≡ p.0 → relocation names p.1 ≡ Some r.word → IsAmong p pieces → noted (f r.offset) q.0 (relocation names q.1) r.offset ≡ Some r.word
+      before : r.offset ≡ reloc_at p → relocation names p.1 ≡ Some r.word → IsAmong p pieces → noted (f r.offset) (reloc_at q) (relocation names q.1) r.offset ≡ Some r.word
       before at word k =
-          ap (noted (f r.offset) q.0 (relocation names q.1)) at
+          ap (noted (f r.offset) (reloc_at q) (relocation names q.1)) at
           ∙ stays names p q (f r.offset) (relocation names q.1) r.word (none p k) word refl (old p r k is)
 
-      last : r.offset ≡ p.0 → relocation names p.1 ≡ Some r.word → p ≡ q → noted (f r.offset) q.0 (relocation names q.1) r.offset ≡ Some r.word
+      last : r.offset ≡ reloc_at p → relocation names p.1 ≡ Some r.word → p ≡ q → noted (f r.offset) (reloc_at q) (relocation names q.1) r.offset ≡ Some r.word
       last at word e =
-          let here : q.0 ≡ r.offset = ap (λ (x : Piece). x.0) (sym e) ∙ sym at in
+          let here : reloc_at q ≡ r.offset = ap reloc_at (sym e) ∙ sym at in
           let same : relocation names q.1 ≡ Some r.word = ap (λ (x : Piece). relocation names x.1) (sym e) ∙ word in
-          ap (λ o. noted (f r.offset) q.0 o r.offset) same ∙ ap (λ k. noted (f r.offset) k (Some r.word) r.offset) here
+          ap (λ o. noted (f r.offset) (reloc_at q) o r.offset) same ∙ ap (λ k. noted (f r.offset) k (Some r.word) r.offset) here
           ∙ noted_here (f r.offset) r.offset r.word
 
   no_others_more : ((r : Reloc) → f r.offset ≡ Some r.word → (p : Piece) × IsAmong p pieces × IsRelocOf (relocs_in names p) r)
       → (r : Reloc) → g r.offset ≡ Some r.word → (p : Piece) × IsAmong p (pieces ++ q ∷ []) × IsRelocOf (relocs_in names p) r
   no_others_more old r e =
       ⊎_elim (λ h. let x = old r h in (x.0, among_front x.0 pieces (q ∷ []) x.1, x.2)) this
-      (noted_parts (f r.offset) (relocation names q.1) q.0 r.offset r.word (sym (notes r.offset) ∙ e))
+      (noted_parts (f r.offset) (relocation names q.1) (reloc_at q) r.offset r.word (sym (notes r.offset) ∙ e))
     where
-      this : (q.0 ≡ r.offset) × (relocation names q.1 ≡ Some r.word) → (p : Piece) × IsAmong p (pieces ++ q ∷ []) × IsRelocOf (relocs_in names p) r
-      this h = (q, among_behind q pieces (q ∷ []) (inl refl), parts_reloc q.0 (relocation names q.1) r (sym h.0) h.1)
+      this : (reloc_at q ≡ r.offset) × (relocation names q.1 ≡ Some r.word) → (p : Piece) × IsAmong p (pieces ++ q ∷ []) × IsRelocOf (relocs_in names p) r
+      this h = (q, among_behind q pieces (q ∷ []) (inl refl), parts_reloc (reloc_at q) (relocation names q.1) r (sym h.0) h.1)
 
 -- ---- drafts
 
 pub draft_more : (names : List (List ℕ)) (pieces : List Piece) (q : Piece) (d e : Draft) → IsDraft names pieces d → MeetsNone pieces q
     → q.0 + length (unit_bytes q.1) ≤ length d.bytes.items → e.bytes.items ≡ written d.bytes.items q.0 (unit_bytes q.1)
-    → ((k : ℕ) → get nat_cmp e.relocs k ≡ noted (get nat_cmp d.relocs k) q.0 (relocation names q.1) k) → IsDraft names (pieces ++ q ∷ []) e
+    → ((k : ℕ) → get nat_cmp e.relocs k ≡ noted (get nat_cmp d.relocs k) (reloc_at q) (relocation names q.1) k) → IsDraft names (pieces ++ q ∷ []) e
 draft_more names pieces q d e is none inside bytes notes = record {
   held = subst (HoldsPieces (pieces ++ q ∷ [])) (sym bytes) (held_more pieces q d.bytes.items is.held none inside);
   relocated = relocated_more names pieces q (get nat_cmp d.relocs) (get nat_cmp e.relocs) notes none is.relocated;

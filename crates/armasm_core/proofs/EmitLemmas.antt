@@ -27,7 +27,7 @@ use Rattle.asm_layout.specs.Layout.{IsTold}
 use Rattle.sdt_fault.specs.declared.answer.Fault.{Fault}
 use Rattle.sdt_fault.specs.declared.kinds.LineKind.{LineKind}
 use Rattle.asm_model.proofs.OffsetLemmas.{is_here}
-use Rattle.source_laws.specs.Laws.{InArmState, SourcesStandApart}
+use Rattle.source_laws.specs.Laws.{AreOfState, SourcesStandApart}
 use Rattle.source_laws.proofs.ListedLemmas.{among_first, among_last, own_things}
 use Rattle.source_model.specs.Objects.{Piece, Source, IsAmong, StandsIn, source_of, things_of, things_behind, things_in}
 use Rattle.source_model.specs.Registers.{Named, register_in, registers_behind, named_by}
@@ -57,12 +57,12 @@ things_here ss area before rest l more here e =
     ap (λ (ps : List Piece). things_behind (source_of ss) area before (l ∷ rest) ++ ps)
     (cond-true (is_of area l.area) (own_things ss l before rest) [] (is_here area l.area here) ∙ e)
 
-pub apart_there : SourcesStandApart → (ss : List Statement) → layout_faults ss ≡ None → InArmState ss
+pub apart_there : SourcesStandApart → (ss : List Statement) → layout_faults ss ≡ None → AreOfState ss
     → (before rest : List LaidLine) (l : LaidLine) (own : Option ℕ) (more : List Piece) → laid ss ≡ reversed rest (l ∷ before) → own ≡ l.area
     → own_things ss l before rest ≡ more → MeetNoneThere (λ area. things_behind (source_of ss) area before (l ∷ rest)) own more
-apart_there apart ss sound arm before rest l own more parts same e = λ area here q u p k.
+apart_there apart ss sound states before rest l own more parts same e = λ area here q u p k.
     let all = sym (things_here ss area before rest l more (sym same ∙ here) e) in
-    apart ss sound arm area p q
+    apart ss sound states area p q
     (stands_there ss area p (l ∷ before) rest parts (subst (IsAmong p) all k))
     (stands_there ss area q (l ∷ before) rest parts
     (subst (IsAmong q) all (among_last q (things_behind (source_of ss) area before (l ∷ rest)) more u)))

@@ -12,7 +12,7 @@ use Rattle.asm_model.specs.Before.{areas_behind}
 use Rattle.asm_model.specs.PlacedLines.{AllNamed}
 use Rattle.said_model.specs.Named.{AllLoadsNamed}
 use Rattle.said_model.specs.Said.{AllSaid}
-use Rattle.source_laws.specs.Laws.{InArmState}
+use Rattle.source_laws.specs.Laws.{AreOfState}
 use Rattle.source_model.specs.Objects.{IsObject}
 use Rattle.source_model.specs.SourceFaults.{layout_faults}
 use Rattle.stand_laws.specs.Laws.{ObjectsStand}
@@ -27,11 +27,11 @@ few_areas ss o few h =
     omega arith
 
 pub object_stands : ObjectsStand → (l : Layout) → HasSource l → (r : Result Object Fault) → IfOk r (λ o. length o.symbols < 2 ^ 24)
-    → ((ss : List Statement) → IsLayout ss l → AllSaid ss → layout_faults ss ≡ None → InArmState ss → IsEmitted ss r)
+    → ((ss : List Statement) → IsLayout ss l → AllSaid ss → layout_faults ss ≡ None → AreOfState ss → IsEmitted ss r)
     → IfOk r
-    (λ o. (ss : List Statement) → IsLayout ss l → AllSaid ss → AllNamed ss → AllLoadsNamed ss → layout_faults ss ≡ None → InArmState ss → StandsWherever ss o)
-object_stands stand l s (Ok o) few emitted = λ ss layout said named loads sound arm.
-    let made = emitted ss layout said sound arm in
-    stand ss o (record { said = said; named = named; loads_named = loads; laid_out = sound; valued = made.0; arm_state = arm }) made.1
-    (few_areas s.statements o s.few (emitted s.statements s.layout s.said s.sound s.arm).1) few
+    (λ o. (ss : List Statement) → IsLayout ss l → AllSaid ss → AllNamed ss → AllLoadsNamed ss → layout_faults ss ≡ None → AreOfState ss → StandsWherever ss o)
+object_stands stand l s (Ok o) few emitted = λ ss layout said named loads sound states.
+    let made = emitted ss layout said sound states in
+    stand ss o (record { said = said; named = named; loads_named = loads; laid_out = sound; valued = made.0; states = states }) made.1
+    (few_areas s.statements o s.few (emitted s.statements s.layout s.said s.sound s.states).1) few
 object_stands stand l s (Err f) few emitted = tt

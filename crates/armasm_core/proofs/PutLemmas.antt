@@ -1,9 +1,11 @@
--- What a line puts into its area is what definitions have, and each instruction has a word.
-use Rattle.std.proofs.Common.{◌≡◌, ℕ, List, [], ◌∷◌, ◌++◌, map, Option, Some, Result, Ok, Err, refl, sym, ap, ◌∙◌, subst}
+-- What a line puts into its area is what definitions have, and its instructions fit their rows.
+use Rattle.std.proofs.Common.{◌≡◌, ℕ, Bool, true, false, List, [], ◌∷◌, ◌++◌, map, Option, Some, Result, Ok, Err, refl, sym, ap, ◌∙◌, subst}
 use Rattle.std.specs.BTreeMap.{BTreeMap}
 use Rattle.sdt_fault.specs.declared.kinds.LineKind.{LineKind}
 use Rattle.arm_isa.specs.declared.instr.ArmInstr.{ArmInstr}
+use Rattle.thumb_isa.specs.declared.instr.ThumbInstr.{ThumbInstr}
 use Rattle.asm_instructions.specs.Fits.{AllFit, InstructionsFit, NamesRegisters, PseudoInstructionsFit}
+use Rattle.asm_instructions.specs.ThumbFits.{CodeFits, ThumbInstructionsFit, ThumbPseudoInstructionsFit}
 use Rattle.asm_model.specs.declared.arm_lines.ArmLine.{ArmLine}
 use Rattle.asm_model.specs.declared.directives.DirectiveLine.{DirectiveLine}
 use Rattle.asm_model.specs.declared.directives.DirectiveLine.TheVariants as line
@@ -12,6 +14,7 @@ use Rattle.asm_model.specs.declared.statements.PseudoLine.{PseudoLine}
 use Rattle.asm_model.specs.declared.statements.Statement.{Statement}
 use Rattle.asm_model.specs.declared.statements.What.{What}
 use Rattle.asm_model.specs.declared.statements.What.TheVariants as what
+use Rattle.asm_model.specs.declared.thumb_lines.ThumbLine.{ThumbLine}
 use Rattle.asm_model.specs.AtLine.{Sight}
 use Rattle.asm_model.specs.Kinds.{told_kind}
 use Rattle.asm_model.specs.LayoutKinds.{told_at}
@@ -28,18 +31,28 @@ use Rattle.asm_model.specs.Extents.{value_there}
 use Rattle.asm_model.specs.Laid.{LaidLine, laid, pieces_of, taken}
 use Rattle.asm_model.specs.Marks.{datum_names}
 use Rattle.asm_model.specs.Offsets.{area_size}
-use Rattle.said_model.specs.Said.{IsSaid, ArmSaid, PseudoSaid, WhatSaid}
+use Rattle.said_model.specs.Said.{IsSaid, ArmSaid, PseudoSaid, ThumbSaid, WhatSaid}
 use Rattle.source_model.specs.ArmForms.{arm_instruction}
 use Rattle.source_model.specs.Contexts.{Context, value_of, number_in, and_then}
 use Rattle.source_model.specs.Objects.{or_none, literal_piece, units_from}
 use Rattle.source_model.specs.PseudoForms.{pseudo_instructions}
-use Rattle.source_model.specs.Units.{Emitted, Bytes, Word, Instruction, Stored, stored, units, directive_units, word_units, half_units, byte_units, byte_operand, narrow, instruction_units, branch_symbol}
+use Rattle.source_model.specs.ThumbForms.{thumb_instruction, thumb_pseudo}
+use Rattle.source_model.specs.declared.codes.ThumbCode.{ThumbCode}
+use Rattle.source_model.specs.declared.codes.ThumbCode.TheVariants.{One, Pair}
+use Rattle.source_model.specs.Units.{Emitted, Bytes, Word, Instruction, Half, Stored, stored, units, directive_units, word_units, half_units, byte_units, byte_operand, narrow, instruction_units, branch_symbol, link_symbol, code_unit, pseudo_units}
 use Rattle.armasm_core.specs.declared.whole.Whole.{Whole}
 use Rattle.armasm_core.specs.Putting.{UnitFits, AllUnitsFit, IsPut}
 use Rattle.armasm_core.specs.Whole.{IsHere, ShowsLine, context_there, kinds_at, word_there}
 use Rattle.armasm_core.proofs.ShowLemmas.{given_there}
 
--- ---- each instruction has a word
+-- ---- instructions fit their rows
+
+-- what lines say fits its rows, in both states
+pub record LinesFit : Type 0 where
+  pub arm : InstructionsFit
+  pub pseudo : PseudoInstructionsFit
+  pub thumb : ThumbInstructionsFit
+  pub thumb_pseudo : ThumbPseudoInstructionsFit
 
 all_fit : (is : List ArmInstr) → AllFit is → AllUnitsFit (instruction_units is)
 all_fit [] h = tt
@@ -98,18 +111,36 @@ arm_fits : InstructionsFit → (c : Context) (l : ArmLine) (r : Result ArmInstr 
 arm_fits law c l (Ok i) small said e = (law c l i small said e, tt)
 arm_fits law c l (Err k) small said e = tt
 
-pseudo_fits : PseudoInstructionsFit → (c : Context) (word : Option ℕ) (l : PseudoLine) (r : Result (List ArmInstr) LineKind) → NamesRegisters c → PseudoSaid l
-    → pseudo_instructions c word l ≡ r → AllUnitsFit (or_none (mapped instruction_units r))
-pseudo_fits law c word l (Ok is) small said e = all_fit is (law c word l is small said e)
-pseudo_fits law c word l (Err k) small said e = tt
+code_fits : (symbol : Option (List ℕ)) (i : ThumbCode) → CodeFits i → UnitFits (code_unit symbol i)
+code_fits symbol (One i) h = h
+code_fits symbol (Pair first second) h = h
 
-units_fit : InstructionsFit → PseudoInstructionsFit → (c : Context) (names : List (List ℕ)) (s : Sight) (word : Option ℕ) (w : What) → NamesRegisters c → WhatSaid w
+thumb_fits : ThumbInstructionsFit → (c : Context) (l : ThumbLine) (r : Result ThumbCode LineKind) → ThumbSaid l → thumb_instruction c l ≡ r
+    → AllUnitsFit (or_none (mapped (λ i. code_unit (link_symbol c l) i ∷ []) r))
+thumb_fits law c l (Ok i) said e = (code_fits (link_symbol c l) i (law c l i said e), tt)
+thumb_fits law c l (Err k) said e = tt
+
+thumb_pseudo_fits : ThumbPseudoInstructionsFit → (c : Context) (word : Option ℕ) (l : PseudoLine) (r : Result ThumbInstr LineKind) → thumb_pseudo c word l ≡ r
+    → AllUnitsFit (or_none (mapped (λ i. Half i ∷ []) r))
+thumb_pseudo_fits law c word l (Ok i) e = (law c word l i e, tt)
+thumb_pseudo_fits law c word l (Err k) e = tt
+
+arm_pseudo_fits : PseudoInstructionsFit → (c : Context) (word : Option ℕ) (l : PseudoLine) (r : Result (List ArmInstr) LineKind) → NamesRegisters c → PseudoSaid l
+    → pseudo_instructions c word l ≡ r → AllUnitsFit (or_none (mapped instruction_units r))
+arm_pseudo_fits law c word l (Ok is) small said e = all_fit is (law c word l is small said e)
+arm_pseudo_fits law c word l (Err k) small said e = tt
+
+pseudo_fits : LinesFit → (thumb : Bool) (c : Context) (word : Option ℕ) (l : PseudoLine) → NamesRegisters c → PseudoSaid l → AllUnitsFit (or_none (pseudo_units thumb c word l))
+pseudo_fits laws true c word l small said = thumb_pseudo_fits laws.thumb_pseudo c word l (thumb_pseudo c word l) refl
+pseudo_fits laws false c word l small said = arm_pseudo_fits laws.pseudo c word l (pseudo_instructions c word l) small said refl
+
+units_fit : LinesFit → (c : Context) (names : List (List ℕ)) (s : Sight) (word : Option ℕ) (w : What) → NamesRegisters c → WhatSaid w
     → AllUnitsFit (or_none (units c names s word w))
-units_fit arms pseudos c names s word what.Nothing small said = tt
-units_fit arms pseudos c names s word (what.Arm l) small said = arm_fits arms c l (arm_instruction c l) small said refl
-units_fit arms pseudos c names s word (what.Thumb l) small said = tt
-units_fit arms pseudos c names s word (what.Pseudo l) small said = pseudo_fits pseudos c word l (pseudo_instructions c word l) small said refl
-units_fit arms pseudos c names s word (what.Directive d) small said = directive_fits c names s d
+units_fit laws c names s word what.Nothing small said = tt
+units_fit laws c names s word (what.Arm l) small said = arm_fits laws.arm c l (arm_instruction c l) small said refl
+units_fit laws c names s word (what.Thumb l) small said = thumb_fits laws.thumb c l (thumb_instruction c l) said refl
+units_fit laws c names s word (what.Pseudo l) small said = pseudo_fits laws c.line.thumb c word l small said
+units_fit laws c names s word (what.Directive d) small said = directive_fits c names s d
 
 -- ---- pass 2 of a line
 
@@ -120,9 +151,9 @@ PassesAt statements before rest l =
 
 module _ (statements : List Statement) (areas : List LaidArea) (w : Whole) (known : BTreeMap (List ℕ) ℕ) (before rest : List LaidLine) (l : LaidLine) (x : LaidStatement)
     (h : IsHere statements areas w known before rest l x) where
-  pub put_there : InstructionsFit → PseudoInstructionsFit → (y : Beside) (r : Result LineUnits LineKind) (u : LineUnits) → IsSaid x.statement
+  pub put_there : LinesFit → (y : Beside) (r : Result LineUnits LineKind) (u : LineUnits) → IsSaid x.statement
       → ShowsLine statements before rest l y x.statement.what → r ≡ Ok u → PassesAt statements before rest l x.statement.what r → IsPut statements before rest l u
-  put_there arms pseudos y r u said shows is passed =
+  put_there laws y r u said shows is passed =
       let c = context_there statements before l in
       let put = subst (PassesAt statements before rest l x.statement.what) is passed in
       let here = subst (λ (s : Statement). PassesAt statements before rest l s.what (Ok u)) h.line.statement put in
@@ -132,7 +163,7 @@ module _ (statements : List Statement) (areas : List LaidArea) (w : Whole) (know
             ∙ ap (λ ps. units_from l.offset (map emitted_of u.units.items) ++ ps) here.literal;
         given = given_there statements areas w known before rest l x y u.number h shows put.number;
         fits = subst (λ r. AllUnitsFit (or_none r)) put.all
-            (units_fit arms pseudos c (datum_names statements) l.seen (word_there before rest l) x.statement.what shows.scene.small said.read);
+            (units_fit laws c (datum_names statements) l.seen (word_there before rest l) x.statement.what shows.scene.small said.read);
       }
 
   pub told_there : (r : Result LineUnits LineKind) (k : LineKind) (f : Fault) → r ≡ Err k → PassesAt statements before rest l x.statement.what r

@@ -1,5 +1,5 @@
 -- Relocations of things, and what is noted of them.
-use Rattle.std.proofs.Common.{◌≡◌, Less, ◌⊎◌, inl, inr, ⊎_elim, ℕ, ◌<◌, Bool, true, false, cond, List, [], ◌∷◌, length, Option, Some, None, refl, sym, ap, ◌∙◌, arith, nat_eq}
+use Rattle.std.proofs.Common.{◌≡◌, Less, ◌⊎◌, inl, inr, ⊎_elim, ℕ, ◌+◌, ◌<◌, ◌≤◌, Bool, true, false, cond, List, [], ◌∷◌, length, Option, Some, None, refl, sym, ap, ◌∙◌, arith, nat_eq}
 use Rattle.std.specs.Ordering.{nat_cmp, is_eq}
 use Rattle.std.specs.BTreeMap.{is_at}
 use Rattle.std.specs.List.{AllByRecursion}
@@ -9,8 +9,8 @@ use Rattle.std.proofs.lemmas.Bool.{cases_eq, eq-eqb, eqb-true, false_from_ne_tru
 use Rattle.aof_object.specs.declared.records.Reloc.{Reloc}
 use Rattle.asm_model.specs.Symbols.{symbols_of}
 use Rattle.source_model.specs.Objects.{Piece, Source, unit_bytes, relocs_of, word_relocs, branch_relocs, IsRelocOf, IsRising}
-use Rattle.source_model.specs.Units.{Target, Nothing, ByArea, BySymbol, Emitted, Bytes, Word, Instruction}
-use Rattle.armasm_core.specs.Relocations.{word_relocation, branch_relocation, relocation, one_reloc, relocs_in, noted, relocs_listed}
+use Rattle.source_model.specs.Units.{Target, Nothing, ByArea, BySymbol, Emitted, Bytes, Word, Instruction, Half, LinkPair}
+use Rattle.armasm_core.specs.Relocations.{word_relocation, branch_relocation, relocation, one_reloc, reloc_at, relocs_in, noted, relocs_listed}
 
 -- ---- tests of numbers
 
@@ -32,12 +32,24 @@ pub of_source : (s : Source) (p : Piece) → relocs_in (symbols_of s.names s.lin
 of_source s (at, Bytes b) = refl
 of_source s (at, Word w) = word_of_source s at w.target
 of_source s (at, Instruction i symbol) = branch_of_source s at symbol
+of_source s (at, Half i) = refl
+of_source s (at, LinkPair first second symbol) = branch_of_source s (at + 1) symbol
 
 -- a thing that is relocated has four bytes
 pub four : (names : List (List ℕ)) (u : Emitted) (w : ℕ) → relocation names u ≡ Some w → length (unit_bytes u) ≡ 4
 four names (Bytes b) w e = absurd (cc)
 four names (Word s) w e = refl
 four names (Instruction i symbol) w e = refl
+four names (Half i) w e = absurd (cc)
+four names (LinkPair first second symbol) w e = refl
+
+-- its relocation has its offset, or one more
+pub near : (at : ℕ) (u : Emitted) → (at ≤ reloc_at (at, u)) × (reloc_at (at, u) ≤ at + 1)
+near at (Bytes b) = (omega arith, omega arith)
+near at (Word w) = (omega arith, omega arith)
+near at (Instruction i symbol) = (omega arith, omega arith)
+near at (Half i) = (omega arith, omega arith)
+near at (LinkPair first second symbol) = (omega arith, omega arith)
 
 pub reloc_parts : (at : ℕ) (o : Option ℕ) (r : Reloc) → IsRelocOf (one_reloc at o) r → (r.offset ≡ at) × (o ≡ Some r.word)
 reloc_parts at None r h = absurd h

@@ -32,9 +32,9 @@ use Rattle.source_laws.proofs.FaultlessLemmas.{sources_lie_in_areas}
 use Rattle.source_laws.proofs.ListedLemmas.{among_either, among_last as among_behind, own_things}
 use Rattle.source_laws.proofs.ZeroLemmas.{zero_areas_hold_nothing}
 use Rattle.source_model.specs.Objects.{Piece, IsAmong, StandsIn, contents_of, is_kept, source_of, things_behind, unit_bytes, units_from}
-use Rattle.source_laws.specs.Laws.{InArmState}
+use Rattle.source_laws.specs.Laws.{AreOfState}
 use Rattle.source_model.specs.SourceFaults.{layout_faults}
-use Rattle.source_model.specs.Units.{Emitted, Bytes, Word, Instruction, Target, Nothing, ByArea, BySymbol}
+use Rattle.source_model.specs.Units.{Emitted, Bytes, Word, Instruction, Half, LinkPair, Target, Nothing, ByArea, BySymbol}
 use Rattle.armasm_core.specs.declared.drafting.Growing.{Growing}
 use Rattle.armasm_core.specs.Drafting.{Frame, LineCanStand, frame_of, frames, kept_size, marks_zeroes, pieces_put}
 use Rattle.armasm_core.specs.Emission.{GrowsOn, HasSource, HasSymbols, IsEmittable}
@@ -50,6 +50,8 @@ unit_word : (u : Emitted) → UnitFits u → HasWord u
 unit_word (Bytes b) h = tt
 unit_word (Word w) h = tt
 unit_word (Instruction i symbol) h = h
+unit_word (Half i) h = h
+unit_word (LinkPair first second symbol) h = h
 
 units_word : (at : ℕ) (us : List Emitted) (p : Piece) → AllUnitsFit us → IsAmong p (units_from at us) → HasWord p.1
 units_word at [] p h k = absurd k
@@ -80,6 +82,8 @@ unit_number : (names : List (List ℕ)) (n : ℕ) (u : Emitted) → n < 2 ^ 24 �
 unit_number names n (Bytes b) few h k = tt
 unit_number names n (Word w) few h k = target_number names n w.target few h k
 unit_number names n (Instruction i symbol) few h k = symbol_number names symbol h
+unit_number names n (Half i) few h k = tt
+unit_number names n (LinkPair first second symbol) few h k = symbol_number names symbol h
 
 below : (m n : ℕ) → m ≤ n → n < 2 ^ 24 → m < 2 ^ 24
 below m n h k = omega arith
@@ -99,15 +103,15 @@ not_kept (Some contents.Code) e = absurd (cc)
 not_kept (Some contents.Data) e = absurd (cc)
 not_kept (Some contents.Zeroes) e = refl
 
-thing_inside : (ss : List Statement) → layout_faults ss ≡ None → InArmState ss → (area : ℕ) (a : LaidArea) → IsArea (laid ss) area a → (p : Piece) → StandsIn (source_of ss) area p
+thing_inside : (ss : List Statement) → layout_faults ss ≡ None → AreOfState ss → (area : ℕ) (a : LaidArea) → IsArea (laid ss) area a → (p : Piece) → StandsIn (source_of ss) area p
     → p.0 + length (unit_bytes p.1) ≤ kept_size a.attributes a.size
-thing_inside ss sound arm area a is p x = by_zeroes (marks_zeroes a.attributes) refl
+thing_inside ss sound states area a is p x = by_zeroes (marks_zeroes a.attributes) refl
   where
     by_zeroes : (b : Bool) → marks_zeroes a.attributes ≡ b → p.0 + length (unit_bytes p.1) ≤ cond b 0 a.size
     by_zeroes true e =
         absurd (zero_areas_hold_nothing ss sound area p
         (not_kept (contents_of area (laid ss)) (zeroes_there ss sound area a.attributes is.attributes ∙ ap not e)) x)
-    by_zeroes false e = subst (λ (n : ℕ). p.0 + length (unit_bytes p.1) ≤ n) (sym is.size) (sources_lie_in_areas ss sound arm area p x)
+    by_zeroes false e = subst (λ (n : ℕ). p.0 + length (unit_bytes p.1) ≤ n) (sym is.size) (sources_lie_in_areas ss sound states area p x)
 
 kept_small : (b : Bool) (n : ℕ) → n ≤ 2 ^ 24 → cond b 0 n < 2 ^ 32
 kept_small true n h = omega arith
@@ -151,7 +155,7 @@ line_stands o h names listed areas w before rest l x there gs same us word puts 
           there = ap (λ (fs : List Frame). slice_get fs area) same ∙ frame_got areas area a.0 a.1;
           small = kept_small (marks_zeroes a.0.attributes) a.0.size (subst (λ (n : ℕ). n ≤ 2 ^ 24) (sym is.size) (area_small ss h.sound area));
           stand = all_stand names (kept_size a.0.attributes a.0.size) more (λ p k. record {
-            inside = thing_inside ss h.sound h.arm area a.0 is p (stands p k);
+            inside = thing_inside ss h.sound h.states area a.0 is p (stands p k);
             word = put_word x.offset us word p fits k;
             number = thing_number o h names listed area p (stands p k);
           });
@@ -159,7 +163,7 @@ line_stands o h names listed areas w before rest l x there gs same us word puts 
 
 pub emittable : (l : Layout) (w : Whole) (names : List (List ℕ)) (h : HasSymbols l w names) → IsEmittable h.source.statements l w
 emittable l w names h =
-    let s = h.source in record { layout = s.layout; said = s.said; sound = s.sound; arm = s.arm; whole = h.whole }
+    let s = h.source in record { layout = s.layout; said = s.said; sound = s.sound; states = s.states; whole = h.whole }
 
 -- of the lines that are left the first can stand
 pub next_stands : (l : Layout) (w : Whole) (names : List (List ℕ)) (x : LaidStatement) (left : List LaidStatement) (known : BTreeMap (List ℕ) ℕ) (gs : List Growing)

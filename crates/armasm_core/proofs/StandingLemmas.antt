@@ -16,7 +16,7 @@ use Rattle.asm_reading.specs.Laws.{AreFit, OneReading, ReadingsAreFit}
 use Rattle.asm_model.specs.Laid.{reversed}
 use Rattle.expand_model.specs.Steps.{visit_limit}
 use Rattle.object_laws.specs.Laws.{ObjectsAreValid}
-use Rattle.source_laws.specs.Laws.{SourcesStayInArmState}
+use Rattle.source_laws.specs.Laws.{SourcesKeepStates}
 use Rattle.source_model.specs.Objects.{source_of}
 use Rattle.source_model.specs.SourceFaults.{layout_faults, value_faults}
 use Rattle.stand_laws.specs.Laws.{IsFaultless, ObjectsStand}
@@ -64,8 +64,8 @@ few_areas name flats o h short =
 
 -- ---- laws
 
-pub objects_of_flats_stand : OneReading → ReadingsAreFit → SourcesStayInArmState → ObjectsStand → ObjectsOfFlatsStand
-objects_of_flats_stand one fits stays stand name flats o h short few own values area_at view region veneers placed shown r says =
+pub objects_of_flats_stand : OneReading → ReadingsAreFit → SourcesKeepStates → ObjectsStand → ObjectsOfFlatsStand
+objects_of_flats_stand one fits keep stand name flats o h short few own values area_at view region veneers placed shown r says =
     let fit : AreFit (said_by h.reading) = fits flats h.reading h.says in
     let none = source_none name h.reading h.makes.0 in
     let faultless : IsFaultless (said_by h.reading) = record {
@@ -74,13 +74,13 @@ objects_of_flats_stand one fits stays stand name flats o h short few own values 
       loads_named = fit.loads_named;
       laid_out = none.0;
       valued = none.1;
-      arm_state = stays (said_by h.reading) fit.arm;
+      states = keep (said_by h.reading) fit.states;
     } in
     subst (λ (items : List Statement). AllStand (source_of (reversed items [])) values view region) (one flats h.reading r h.says says).0
     (stand (said_by h.reading) o faultless h.makes.1 (few_areas name flats o h short) few own values area_at view region veneers placed shown)
 
-pub objects_of_flats_are_valid : ReadingsAreFit → SourcesStayInArmState → ObjectsAreValid → ObjectsOfFlatsAreValid
-objects_of_flats_are_valid fits stays valid name flats o h short few =
+pub objects_of_flats_are_valid : ReadingsAreFit → SourcesKeepStates → ObjectsAreValid → ObjectsOfFlatsAreValid
+objects_of_flats_are_valid fits keep valid name flats o h short few =
     let fit : AreFit (said_by h.reading) = fits flats h.reading h.says in
     let none = source_none name h.reading h.makes.0 in
-    valid (said_by h.reading) o fit.said fit.texts fit.fit none.0 none.1 (stays (said_by h.reading) fit.arm) (few_areas name flats o h short) few h.makes.1
+    valid (said_by h.reading) o fit.said fit.texts fit.fit none.0 none.1 (keep (said_by h.reading) fit.states) (few_areas name flats o h short) few h.makes.1

@@ -15,14 +15,14 @@ use Rattle.asm_model.specs.Laid.{LaidLine, laid, final_names, reversed}
 use Rattle.asm_model.specs.Symbols.{symbols_of}
 use Rattle.said_model.specs.Fit.{AllFit}
 use Rattle.said_model.specs.Said.{AllSaid, AllHaveTexts}
-use Rattle.source_laws.specs.Laws.{InArmState}
+use Rattle.source_laws.specs.Laws.{AreOfState}
 use Rattle.source_model.specs.Objects.{source_of, things_behind, things_in}
 use Rattle.source_model.specs.Registers.{register_in, registers_behind}
 use Rattle.source_model.specs.SourceFaults.{first_valued, layout_faults, value_faults}
 use Rattle.armasm_core.specs.declared.drafting.Growing.{Growing}
 use Rattle.armasm_core.specs.Drafting.{AreDrafts}
 
--- a layout is one of statements of ARM state without faults of layout, as lines say them
+-- a layout is one of statements without faults of layout, as lines say them, each of its state
 pub record HasSource (l : Layout) : Type 0 where
   pub statements : List Statement
   pub layout : IsLayout statements l
@@ -30,7 +30,7 @@ pub record HasSource (l : Layout) : Type 0 where
   pub texts : AllHaveTexts statements
   pub fit : AllFit statements
   pub sound : layout_faults statements ≡ None
-  pub arm : InArmState statements
+  pub states : AreOfState statements
   pub few : length statements < 2 ^ 24
 
 -- and these are what its lines share and its symbols
@@ -44,7 +44,7 @@ pub record IsEmittable (statements : List Statement) (l : Layout) (w : Whole) : 
   pub layout : IsLayout statements l
   pub said : AllSaid statements
   pub sound : layout_faults statements ≡ None
-  pub arm : InArmState statements
+  pub states : AreOfState statements
   pub whole : IsWhole statements l.areas w
 
 -- of a source's lines these are left, none before has a fault of values, and in the areas stands what those before put there

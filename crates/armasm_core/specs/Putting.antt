@@ -1,7 +1,8 @@
 -- Pass 2 of a line of a layout. This project's.
-use Rattle.std.specs.Prelude.{◌≡◌, List, [], ◌∷◌, ◌++◌, map, None, Result, Ok, Err}
+use Rattle.std.specs.Prelude.{◌≡◌, ◌<◌, ◌^◌, List, [], ◌∷◌, ◌++◌, map, None, Result, Ok, Err}
 use Rattle.sdt_fault.specs.declared.answer.Fault.{Fault}
 use Rattle.asm_instructions.specs.Fits.{Fits}
+use Rattle.asm_instructions.specs.ThumbFits.{ThumbFits}
 use Rattle.asm_layout.specs.Layout.{IsTold}
 use Rattle.asm_model.specs.declared.statements.Statement.{Statement}
 use Rattle.asm_units.specs.declared.emitted.LineUnits.{LineUnits}
@@ -14,13 +15,15 @@ use Rattle.asm_model.specs.LayoutKinds.{told_at}
 use Rattle.asm_model.specs.Marks.{datum_names}
 use Rattle.source_model.specs.Objects.{pieces_in, units_from}
 use Rattle.source_model.specs.Registers.{named_by}
-use Rattle.source_model.specs.Units.{Emitted, Instruction}
+use Rattle.source_model.specs.Units.{Emitted, Instruction, Half, LinkPair}
 use Rattle.armasm_core.specs.Giving.{gives}
 use Rattle.armasm_core.specs.Whole.{context_there, kinds_at, word_there}
 
--- an instruction has a word
+-- an instruction has a word, a half-word or two
 abbrev pub UnitFits : Emitted → Type 0
 UnitFits (Instruction i symbol) = Fits i
+UnitFits (Half i) = ThumbFits i
+UnitFits (LinkPair first second symbol) = (first < 2 ^ 11) × (second < 2 ^ 11)
 UnitFits _ = Unit {0}
 
 abbrev pub AllUnitsFit : List Emitted → Type 0
@@ -28,7 +31,7 @@ AllUnitsFit [] = Unit {0}
 AllUnitsFit (u ∷ us) = UnitFits u × AllUnitsFit us
 
 -- what a line without a fault puts into its area, where these lines stand before it, the nearest first, and these behind
--- it; what its RN gives; and each instruction has a word
+-- it; what its RN gives; and its instructions fit their rows
 pub record IsPut (statements : List Statement) (before rest : List LaidLine) (l : LaidLine) (u : LineUnits) : Type 0 where
   pub faultless : told_kind (kinds_at statements before l rest) ≡ None
   pub pieces : pieces_in (context_there statements before l) (datum_names statements) l (word_there before rest l)

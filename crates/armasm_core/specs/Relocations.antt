@@ -4,7 +4,7 @@ use Rattle.std.specs.Prelude.{ℕ, ◌+◌, ◌*◌, ◌^◌, List, [], ◌∷�
 use Rattle.aof_object.specs.declared.records.Reloc.{Reloc}
 use Rattle.asm_model.specs.Before.{place_of}
 use Rattle.source_model.specs.Objects.{Piece}
-use Rattle.source_model.specs.Units.{Target, Nothing, ByArea, BySymbol, Emitted, Bytes, Word, Instruction}
+use Rattle.source_model.specs.Units.{Target, Nothing, ByArea, BySymbol, Emitted, Bytes, Word, Instruction, Half, LinkPair}
 
 abbrev pub word_relocation : List (List ℕ) → Target → Option ℕ
 word_relocation names Nothing = None
@@ -20,13 +20,20 @@ abbrev pub relocation : List (List ℕ) → Emitted → Option ℕ
 relocation names (Bytes b) = None
 relocation names (Word w) = word_relocation names w.target
 relocation names (Instruction i symbol) = branch_relocation names symbol
+relocation names (Half i) = None
+relocation names (LinkPair first second symbol) = branch_relocation names symbol
+
+-- the offset of the relocation of a thing: an odd one marks the pair of Thumb state
+abbrev pub reloc_at : Piece → ℕ
+reloc_at (at, LinkPair first second symbol) = at + 1
+reloc_at (at, u) = at
 
 abbrev pub one_reloc : ℕ → Option ℕ → List Reloc
 one_reloc at None = []
 one_reloc at (Some word) = record { offset = at; word = word } ∷ []
 
 abbrev pub relocs_in : List (List ℕ) → Piece → List Reloc
-relocs_in names p = one_reloc p.0 (relocation names p.1)
+relocs_in names p = one_reloc (reloc_at p) (relocation names p.1)
 
 -- ---- as code keeps them
 

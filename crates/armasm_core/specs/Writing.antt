@@ -1,14 +1,17 @@
 -- What can be put into an area: a thing lies inside the bytes that the area keeps; an instruction fits its row of the
--- instruction table, and so has a word; and a relocation has room for the number of its symbol or area. This project's.
+-- instruction table, and so has a word, a half-word or two; and a relocation has room for the number of its symbol or area. This project's.
 use Rattle.std.specs.Prelude.{◌≡◌, ℕ, ◌+◌, ◌^◌, ◌<◌, ◌≤◌, List, [], ◌∷◌, length, true, Option, Some, None}
 use Rattle.std.specs.List.{list_any}
 use Rattle.asm_model.specs.Forms.{same}
 use Rattle.source_model.specs.Objects.{Piece, unit_bytes}
-use Rattle.source_model.specs.Units.{Emitted, Bytes, Word, Instruction, Target, Nothing, ByArea, BySymbol}
+use Rattle.source_model.specs.Units.{Emitted, Bytes, Word, Instruction, Half, LinkPair, Target, Nothing, ByArea, BySymbol}
 use Rattle.asm_instructions.specs.Fits.{Fits}
+use Rattle.asm_instructions.specs.ThumbFits.{ThumbFits}
 
 abbrev pub HasWord : Emitted → Type 0
 HasWord (Instruction i symbol) = Fits i
+HasWord (Half i) = ThumbFits i
+HasWord (LinkPair first second symbol) = (first < 2 ^ 11) × (second < 2 ^ 11)
 HasWord _ = Unit {0}
 
 -- ---- numbers of relocations
@@ -31,6 +34,8 @@ abbrev pub HasNumber : List (List ℕ) → Emitted → Type 0
 HasNumber names (Bytes b) = Unit {0}
 HasNumber names (Word w) = TargetHasNumber names w.target
 HasNumber names (Instruction i symbol) = SymbolHasNumber names symbol
+HasNumber names (Half i) = Unit {0}
+HasNumber names (LinkPair first second symbol) = SymbolHasNumber names symbol
 
 -- ---- things
 

@@ -25,7 +25,7 @@ use sdt_fault::answer::Fault;
 use sdt_fault::kinds::Quantity;
 use sdt_fault::refusal::Refusal;
 use sdt_outside::Store;
-use source_laws::laws::sources_stay_in_arm_state;
+use source_laws::laws::sources_keep_states;
 use std::alloc::Global;
 
 /// The most bytes of a source.
@@ -38,7 +38,7 @@ fn object_of(alloc: Global, source: &Text, reading: Reading) -> Result<Object, F
     ensures made { Makes source.now reading result }
     ensures few { IfOk result (λ object. length object.symbols < 2 ^ 24) }
 {
-    sources_stay_in_arm_state();
+    sources_keep_states();
     let layout = laid_out(alloc, source, reading)?;
     emit(alloc, &layout)
 }

@@ -81,6 +81,7 @@ fn put_literal(
     symbols: &Symbols,
 ) -> Result<(), NoMemory>
     requires few { length symbols.now < 2 ^ 24 }
+    requires small { length draft.old.bytes.items < 2 ^ 32 }
     requires stand { AllCanStand symbols.now (length draft.old.bytes.items) (word_piece literal) }
     ensures size { length draft.new.bytes.items ≡ length draft.old.bytes.items }
     ensures more { OnOk result ((pieces : Items Piece) → IsDraft symbols.now pieces draft.old → MeetNone pieces (word_piece literal) → IsDraft symbols.now (pieces ++ word_piece literal) draft.new) }

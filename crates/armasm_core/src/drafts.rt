@@ -6,7 +6,7 @@ ghost use Rattle.asm_units.specs.Emitting.{emitted_of};
 ghost use Rattle.armasm_core.specs.Drafts.{AreRelocs, HoldsPieces, IsDraft, MeetNone, MeetsNone};
 ghost use Rattle.armasm_core.specs.Writing.{AllCanStand, CanStand};
 
-use crate::relocations::{listed, note, relocation};
+use crate::relocations::{listed, note, reloc_at, relocation};
 use crate::writing::{put_unit, unit_length};
 use aof_object::Reloc;
 use asm_units::{Emitted, Symbols};
@@ -44,13 +44,15 @@ impl Draft {
     /// Puts a thing at an offset.
     pub fn put(&mut self, at: u32, unit: &Emitted, symbols: &Symbols) -> Result<(), NoMemory>
         requires few { length symbols.now < 2 ^ 24 }
+        requires small { length self.old.bytes.items < 2 ^ 32 }
         requires stands { CanStand symbols.now (length self.old.bytes.items) (at, emitted_of unit.now) }
         ensures size { length self.new.bytes.items ≡ length self.old.bytes.items }
         ensures more { OnOk result ((pieces : Items Piece) → IsDraft symbols.now pieces self.old → MeetsNone pieces (at, emitted_of unit.now) → IsDraft symbols.now (pieces ++ (at, emitted_of unit.now) ∷ []) self.new) }
     {
         let relocation = relocation(symbols, unit);
         put_unit(&mut self.bytes, at as usize, unit);
-        note(&mut self.relocs, at, relocation)
+        let offset = reloc_at(at, unit);
+        note(&mut self.relocs, offset, relocation)
     }
 
     /// Puts things one behind the other.

@@ -10,7 +10,7 @@ ghost use Rattle.asm_model.specs.PlacedLines.{AllNamed};
 ghost use Rattle.asm_model.specs.Symbols as needs;
 ghost use Rattle.said_model.specs.Named.{AllLoadsNamed};
 ghost use Rattle.said_model.specs.Said.{AllSaid};
-ghost use Rattle.source_laws.specs.Laws.{InArmState};
+ghost use Rattle.source_laws.specs.Laws.{AreOfState};
 ghost use Rattle.source_model.specs.Objects.{source_of, symbol_records};
 ghost use Rattle.source_model.specs.SourceFaults.{layout_faults};
 ghost use Rattle.armasm_core.specs.Gathered.{AllLaidSaid};
@@ -94,7 +94,7 @@ fn few_records(
 fn object_of(alloc: Global, layout: &Layout) -> Result<Object, Fault>
     requires said { AllLaidSaid layout.now.statements }
     requires source { HasSource layout.now }
-    ensures emitted { (statements : Items Statement) → IsLayout statements layout.now → AllSaid statements → layout_faults statements ≡ None → InArmState statements → IsEmitted statements result }
+    ensures emitted { (statements : Items Statement) → IsLayout statements layout.now → AllSaid statements → layout_faults statements ≡ None → AreOfState statements → IsEmitted statements result }
     ensures few { IfOk result (λ o. length o.symbols < 2 ^ 24) }
 {
     let whole = whole_of(alloc, layout)?;
@@ -114,9 +114,9 @@ fn object_of(alloc: Global, layout: &Layout) -> Result<Object, Fault>
 /// statements stand.
 pub fn emit(alloc: Global, layout: &Layout) -> Result<Object, Fault>
     requires source { HasSource layout.now }
-    ensures emitted { (statements : Items Statement) → IsLayout statements layout.now → AllSaid statements → layout_faults statements ≡ None → InArmState statements → IsEmitted statements result }
+    ensures emitted { (statements : Items Statement) → IsLayout statements layout.now → AllSaid statements → layout_faults statements ≡ None → AreOfState statements → IsEmitted statements result }
     ensures few { IfOk result (λ o. length o.symbols < 2 ^ 24) }
-    ensures stands { IfOk result (λ o. (statements : Items Statement) → IsLayout statements layout.now → AllSaid statements → AllNamed statements → AllLoadsNamed statements → layout_faults statements ≡ None → InArmState statements → StandsWherever statements o) }
+    ensures stands { IfOk result (λ o. (statements : Items Statement) → IsLayout statements layout.now → AllSaid statements → AllNamed statements → AllLoadsNamed statements → layout_faults statements ≡ None → AreOfState statements → StandsWherever statements o) }
 {
     objects_stand();
     object_of(alloc, layout)

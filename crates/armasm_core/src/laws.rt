@@ -6,7 +6,7 @@ ghost use Rattle.armasm_core.specs.Standing.{ObjectsOfFlatsAreValid, ObjectsOfFl
 use asm_reading::laws::{one_reading, readings_are_fit};
 use expand_model::expansion_law;
 use object_laws::laws::objects_are_valid;
-use source_laws::laws::{one_object, sources_stay_in_arm_state};
+use source_laws::laws::{one_object, sources_keep_states};
 use stand_laws::laws::objects_stand;
 
 /// A source has one object, or one first refusal.
@@ -24,7 +24,7 @@ pub fn objects_of_flats_stand()
 {
     one_reading();
     readings_are_fit();
-    sources_stay_in_arm_state();
+    sources_keep_states();
     objects_stand();
 }
 
@@ -33,6 +33,6 @@ pub fn objects_of_flats_are_valid()
     ensures { ObjectsOfFlatsAreValid }
 {
     readings_are_fit();
-    sources_stay_in_arm_state();
+    sources_keep_states();
     objects_are_valid();
 }

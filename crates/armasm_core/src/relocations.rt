@@ -5,6 +5,7 @@ ghost use Rattle.std.specs.Option.{option_copied};
 ghost use Rattle.std.specs.Ordering.{nat_cmp};
 ghost use Rattle.std.specs.BTreeMap.{IsOrdered, get};
 ghost use Rattle.asm_model.specs.Before.{place_of};
+ghost use Rattle.source_model.specs.Objects.{unit_bytes};
 ghost use Rattle.asm_units.specs.Emitting.{emitted_of, target_of};
 ghost use Rattle.armasm_core.specs.Relocations as model;
 ghost use Rattle.armasm_core.specs.Relocations.{noted, relocs_listed};
@@ -76,6 +77,19 @@ pub fn relocation(symbols: &Symbols, unit: &Emitted) -> Option<u32>
         Emitted::Bytes(_) => None,
         Emitted::Word { target, .. } => word_relocation(symbols, target),
         Emitted::Instruction { symbol, .. } => branch_relocation(symbols, symbol.as_ref()),
+        Emitted::Half(_) => None,
+        Emitted::LinkPair { symbol, .. } => branch_relocation(symbols, symbol.as_ref()),
+    }
+}
+
+/// The offset of the relocation of a thing at an offset: an odd one marks the pair of Thumb state.
+pub fn reloc_at(at: u32, unit: &Emitted) -> u32
+    requires { at + length (unit_bytes (emitted_of unit.now)) < 2 ^ 32 }
+    ensures { result ≡ model.reloc_at (at, emitted_of unit.now) }
+{
+    match unit {
+        Emitted::LinkPair { .. } => at + 1,
+        _ => at,
     }
 }
 

@@ -9,7 +9,10 @@ ghost use Rattle.armasm_core.specs.Whole.{IsHere};
 
 use crate::beside::{beside_of, loaded_of};
 use crate::whole::Whole;
-use asm_instructions::laws::{instructions_fit, pseudo_instructions_fit};
+use asm_instructions::laws::{
+    instructions_fit, pseudo_instructions_fit, thumb_instructions_fit,
+    thumb_pseudo_instructions_fit,
+};
 use asm_layout::lines::line_of;
 use asm_layout::telling::told_of;
 use asm_pool::{LaidArea, LaidStatement};
@@ -33,6 +36,8 @@ pub fn pass_line(
 {
     instructions_fit();
     pseudo_instructions_fit();
+    thumb_instructions_fit();
+    thumb_pseudo_instructions_fit();
     let line = line_of(laid);
     let beside = beside_of(areas, whole, registers, laid, &line);
     let literal = loaded_of(areas, laid);

@@ -15,8 +15,14 @@ use Rattle.asm_model.specs.declared.operands.Address.{Address}
 use Rattle.asm_model.specs.declared.operands.Address.TheVariants as address
 use Rattle.asm_model.specs.declared.operands.HalfOffset.{HalfOffset}
 use Rattle.asm_model.specs.declared.operands.HalfOffset.TheVariants as half
+use Rattle.asm_model.specs.declared.operands.LiteralAddress.{LiteralAddress}
+use Rattle.asm_model.specs.declared.operands.LiteralAddress.TheVariants as literal
+use Rattle.asm_model.specs.declared.operands.ThumbOperand.{ThumbOperand}
+use Rattle.asm_model.specs.declared.operands.ThumbOperand.TheVariants as last
 use Rattle.asm_model.specs.declared.arm_lines.ArmLine.{ArmLine}
 use Rattle.asm_model.specs.declared.arm_lines.ArmLine.TheVariants as arm
+use Rattle.asm_model.specs.declared.thumb_lines.ThumbLine.{ThumbLine}
+use Rattle.asm_model.specs.declared.thumb_lines.ThumbLine.TheVariants as thumb
 use Rattle.asm_model.specs.declared.directives.Boundary.{Boundary}
 use Rattle.asm_model.specs.declared.directives.Boundary.TheVariants as limit
 use Rattle.asm_model.specs.declared.directives.RnOperand.{RnOperand}
@@ -34,9 +40,9 @@ use Rattle.asm_model.specs.PlacedLines.{HasName, HasImport}
 use Rattle.asm_model.specs.Sound.{HasNoPlace, HaveNoPlaces, IsPlain}
 use Rattle.said_model.specs.Fit.{AllPlaceless, WhatFits, IsFit}
 use Rattle.said_model.specs.Named.{ItemNamed, AllItemsNamed, LoadNamed}
-use Rattle.said_model.specs.Said.{IsRead, AllRead, OptionRead, ShiftSaid, AddressSaid, HalfOffsetSaid, ArmSaid, PseudoSaid, BoundaryRead, GivenSaid, DirectiveSaid, WhatSaid, LoadsPlain, IsSaid, what_names, label_names, HoldsNoZero, HasTexts}
+use Rattle.said_model.specs.Said.{IsRead, AllRead, OptionRead, ShiftSaid, AddressSaid, HalfOffsetSaid, ArmSaid, ThumbOperandSaid, LiteralSaid, ThumbSaid, PseudoSaid, BoundaryRead, GivenSaid, DirectiveSaid, WhatSaid, LoadsPlain, IsSaid, what_names, label_names, HoldsNoZero, HasTexts}
 use Rattle.asm_locals.specs.Labels.{number_on, local_number, target}
-use Rattle.asm_locals.specs.Naming.{Targets, hidden_name, reference, named_item, named, all_named, option_named, named_shift, named_address, named_half, named_arm, named_pseudo, named_boundary, named_register, named_directive, named_what, named_label, named_behind, in_names}
+use Rattle.asm_locals.specs.Naming.{Targets, hidden_name, reference, named_item, named, all_named, option_named, named_shift, named_address, named_half, named_arm, named_operand, named_literal, named_thumb, named_pseudo, named_boundary, named_register, named_directive, named_what, named_label, named_behind, in_names}
 
 -- ---- expressions are spelled
 
@@ -185,6 +191,30 @@ arm_named t (arm.ReadStatus condition saved rd) h = h
 arm_named t (arm.WriteStatus condition saved fields rm) h = h
 arm_named t (arm.TransferBlock condition load mode rn write_back list user) h = h
 
+operand_said : (t : Targets) (o : ThumbOperand) → ThumbOperandSaid o → ThumbOperandSaid (named_operand t o)
+operand_said t (last.Number e) h = read_named t e h
+operand_said t (last.Register rn) h = h
+
+literal_named : (t : Targets) (a : LiteralAddress) → LiteralSaid a → LiteralSaid (named_literal t a)
+literal_named t (literal.Offset e) h = read_named t e h
+literal_named t (literal.Label e) h = read_named t e h
+
+thumb_named : (t : Targets) (l : ThumbLine) → ThumbSaid l → ThumbSaid (named_thumb t l)
+thumb_named t (thumb.ShiftImmediate by rd rs e) h = (h.0, h.1, read_named t e h.2)
+thumb_named t (thumb.AddSubtract subtract rd rs o) h = (h.0, h.1, operand_said t o h.2)
+thumb_named t (thumb.DataImmediate operation rd e) h = (h.0, read_named t e h.1)
+thumb_named t (thumb.LoadLiteral rd a) h = (h.0, literal_named t a h.1)
+thumb_named t (thumb.TransferImmediate load byte rd rn e) h = (h.0, h.1, read_named t e h.2)
+thumb_named t (thumb.TransferHalf load rd rn e) h = (h.0, h.1, read_named t e h.2)
+thumb_named t (thumb.TransferStack load rd e) h = (h.0, read_named t e h.1)
+thumb_named t (thumb.LoadAddress stack rd e) h = (h.0, read_named t e h.1)
+thumb_named t (thumb.AdjustStack subtract e) h = read_named t e h
+thumb_named t (thumb.BranchConditional condition e) h = (h.0, read_named t e h.1)
+thumb_named t (thumb.SoftwareInterrupt e) h = read_named t e h
+thumb_named t (thumb.Branch e) h = read_named t e h
+thumb_named t (thumb.BranchLink e) h = read_named t e h
+thumb_named t l h = h
+
 pseudo_named : (t : Targets) (l : PseudoLine) → PseudoSaid l → PseudoSaid (named_pseudo t l)
 pseudo_named t (pseudo.LoadConstant condition rd e) h = (h.0, read_named t e h.1)
 pseudo_named t (pseudo.Address condition rd e) h = (h.0, read_named t e h.1)
@@ -219,7 +249,7 @@ directive_named t l h = h
 what_named : (t : Targets) (w : What) → WhatSaid w → WhatSaid (named_what t w)
 what_named t what.Nothing h = tt
 what_named t (what.Arm l) h = arm_named t l h
-what_named t (what.Thumb l) h = h
+what_named t (what.Thumb l) h = thumb_named t l h
 what_named t (what.Pseudo l) h = pseudo_named t l h
 what_named t (what.Directive l) h = directive_named t l h
 

@@ -9,8 +9,14 @@ use Rattle.asm_model.specs.declared.operands.Address.{Address}
 use Rattle.asm_model.specs.declared.operands.Address.TheVariants as address
 use Rattle.asm_model.specs.declared.operands.HalfOffset.{HalfOffset}
 use Rattle.asm_model.specs.declared.operands.HalfOffset.TheVariants as half
+use Rattle.asm_model.specs.declared.operands.LiteralAddress.{LiteralAddress}
+use Rattle.asm_model.specs.declared.operands.LiteralAddress.TheVariants as literal
+use Rattle.asm_model.specs.declared.operands.ThumbOperand.{ThumbOperand}
+use Rattle.asm_model.specs.declared.operands.ThumbOperand.TheVariants as operand
 use Rattle.asm_model.specs.declared.arm_lines.ArmLine.{ArmLine}
 use Rattle.asm_model.specs.declared.arm_lines.ArmLine.TheVariants as arm
+use Rattle.asm_model.specs.declared.thumb_lines.ThumbLine.{ThumbLine}
+use Rattle.asm_model.specs.declared.thumb_lines.ThumbLine.TheVariants as thumb
 use Rattle.asm_model.specs.declared.directives.AreaAttributes.{AreaAttributes}
 use Rattle.asm_model.specs.declared.directives.Boundary.{Boundary}
 use Rattle.asm_model.specs.declared.directives.Boundary.TheVariants as limit
@@ -25,7 +31,7 @@ use Rattle.asm_model.specs.declared.statements.What.{What}
 use Rattle.asm_model.specs.declared.statements.What.TheVariants as what
 use Rattle.asm_model.specs.Directives.{or_else}
 use Rattle.asm_locals.specs.Labels.{number_on, begins_stretch, label_behind, label_ahead, back_to, forth_to}
-use Rattle.asm_locals.specs.Naming.{Targets, reference, named_item, named, all_named, option_named, named_shift, named_address, named_half, named_arm, named_pseudo, named_attributes, named_boundary, named_register, named_directive, named_what, named_behind, in_names}
+use Rattle.asm_locals.specs.Naming.{Targets, reference, named_item, named, all_named, option_named, named_shift, named_address, named_half, named_arm, named_operand, named_literal, named_thumb, named_pseudo, named_attributes, named_boundary, named_register, named_directive, named_what, named_behind, in_names}
 use Rattle.asm_locals.specs.Passes.{looked_back, looked_ahead}
 
 -- ---- what lines say
@@ -87,6 +93,30 @@ both_arm g f (arm.Branch condition link e) = ap (λ z. arm.Branch condition link
 both_arm g f (arm.SoftwareInterrupt condition e) = ap (λ z. arm.SoftwareInterrupt condition z) (both g f e)
 both_arm g f l = refl
 
+pub both_operand : (g f : Targets) (o : ThumbOperand) → named_operand f (named_operand g o) ≡ named_operand (Either g f) o
+both_operand g f (operand.Number e) = ap (λ z. operand.Number z) (both g f e)
+both_operand g f (operand.Register rn) = refl
+
+pub both_literal : (g f : Targets) (a : LiteralAddress) → named_literal f (named_literal g a) ≡ named_literal (Either g f) a
+both_literal g f (literal.Offset e) = ap (λ z. literal.Offset z) (both g f e)
+both_literal g f (literal.Label e) = ap (λ z. literal.Label z) (both g f e)
+
+pub both_thumb : (g f : Targets) (l : ThumbLine) → named_thumb f (named_thumb g l) ≡ named_thumb (Either g f) l
+both_thumb g f (thumb.ShiftImmediate by rd rs e) = ap (λ z. thumb.ShiftImmediate by rd rs z) (both g f e)
+both_thumb g f (thumb.AddSubtract subtract rd rs o) = ap (λ z. thumb.AddSubtract subtract rd rs z) (both_operand g f o)
+both_thumb g f (thumb.DataImmediate operation rd e) = ap (λ z. thumb.DataImmediate operation rd z) (both g f e)
+both_thumb g f (thumb.LoadLiteral rd a) = ap (λ z. thumb.LoadLiteral rd z) (both_literal g f a)
+both_thumb g f (thumb.TransferImmediate load byte rd rn e) = ap (λ z. thumb.TransferImmediate load byte rd rn z) (both g f e)
+both_thumb g f (thumb.TransferHalf load rd rn e) = ap (λ z. thumb.TransferHalf load rd rn z) (both g f e)
+both_thumb g f (thumb.TransferStack load rd e) = ap (λ z. thumb.TransferStack load rd z) (both g f e)
+both_thumb g f (thumb.LoadAddress stack rd e) = ap (λ z. thumb.LoadAddress stack rd z) (both g f e)
+both_thumb g f (thumb.AdjustStack subtract e) = ap (λ z. thumb.AdjustStack subtract z) (both g f e)
+both_thumb g f (thumb.BranchConditional condition e) = ap (λ z. thumb.BranchConditional condition z) (both g f e)
+both_thumb g f (thumb.SoftwareInterrupt e) = ap (λ z. thumb.SoftwareInterrupt z) (both g f e)
+both_thumb g f (thumb.Branch e) = ap (λ z. thumb.Branch z) (both g f e)
+both_thumb g f (thumb.BranchLink e) = ap (λ z. thumb.BranchLink z) (both g f e)
+both_thumb g f l = refl
+
 pub both_pseudo : (g f : Targets) (l : PseudoLine) → named_pseudo f (named_pseudo g l) ≡ named_pseudo (Either g f) l
 both_pseudo g f (pseudo.LoadConstant condition rd e) = ap (λ z. pseudo.LoadConstant condition rd z) (both g f e)
 both_pseudo g f (pseudo.Address condition rd e) = ap (λ z. pseudo.Address condition rd z) (both g f e)
@@ -125,8 +155,8 @@ pub both_what : (g f : Targets) (w : What) → named_what f (named_what g w) ≡
 both_what g f (what.Arm l) = ap (λ z. what.Arm z) (both_arm g f l)
 both_what g f (what.Pseudo l) = ap (λ z. what.Pseudo z) (both_pseudo g f l)
 both_what g f (what.Directive l) = ap (λ z. what.Directive z) (both_directive g f l)
+both_what g f (what.Thumb l) = ap (λ z. what.Thumb z) (both_thumb g f l)
 both_what g f what.Nothing = refl
-both_what g f (what.Thumb l) = refl
 
 -- ---- what naming keeps
 

@@ -2,7 +2,9 @@
 use Rattle.std.proofs.Common.{◌≡◌, ℕ, List, [], ◌∷◌, false, refl, Option, Some, None, codes}
 use Rattle.asm_model.specs.declared.directives.Contents.TheVariants as contents
 use Rattle.asm_model.specs.declared.directives.DirectiveLine.TheVariants as line
+use Rattle.asm_model.specs.declared.exprs.ExprItem.{ExprItem}
 use Rattle.asm_model.specs.declared.exprs.ExprItem.TheVariants as item
+use Rattle.asm_model.specs.declared.thumb_lines.ThumbLine.TheVariants as thumb
 use Rattle.asm_model.specs.declared.statements.PseudoLine.TheVariants as pseudo
 use Rattle.asm_model.specs.declared.statements.Statement.{Statement}
 use Rattle.asm_model.specs.declared.statements.What.{What}
@@ -75,3 +77,12 @@ own_line = refl
 
 pub not_ahead : in_names (area ∷ says (local (codes "7")) (refers (codes "%F7")) ∷ []) ≡ area ∷ says (Some (hidden_name 1)) (refers (codes "%F7")) ∷ []
 not_ahead = refl
+
+-- a branch of Thumb state
+abbrev branches : ExprItem → What
+branches i = what.Thumb (thumb.Branch (record { items = i ∷ [] }))
+
+pub in_thumb_state :
+    in_names (says None (branches (item.Local (codes "%F1"))) ∷ says (local (codes "1")) no_operation ∷ [])
+    ≡ says None (branches (item.Name (hidden_name 1))) ∷ says (Some (hidden_name 1)) no_operation ∷ []
+in_thumb_state = refl

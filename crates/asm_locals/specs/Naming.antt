@@ -12,8 +12,14 @@ use Rattle.asm_model.specs.declared.operands.Address.{Address}
 use Rattle.asm_model.specs.declared.operands.Address.TheVariants as address
 use Rattle.asm_model.specs.declared.operands.HalfOffset.{HalfOffset}
 use Rattle.asm_model.specs.declared.operands.HalfOffset.TheVariants as half
+use Rattle.asm_model.specs.declared.operands.LiteralAddress.{LiteralAddress}
+use Rattle.asm_model.specs.declared.operands.LiteralAddress.TheVariants as literal
+use Rattle.asm_model.specs.declared.operands.ThumbOperand.{ThumbOperand}
+use Rattle.asm_model.specs.declared.operands.ThumbOperand.TheVariants as operand
 use Rattle.asm_model.specs.declared.arm_lines.ArmLine.{ArmLine}
 use Rattle.asm_model.specs.declared.arm_lines.ArmLine.TheVariants as arm
+use Rattle.asm_model.specs.declared.thumb_lines.ThumbLine.{ThumbLine}
+use Rattle.asm_model.specs.declared.thumb_lines.ThumbLine.TheVariants as thumb
 use Rattle.asm_model.specs.declared.directives.AreaAttributes.{AreaAttributes}
 use Rattle.asm_model.specs.declared.directives.Boundary.{Boundary}
 use Rattle.asm_model.specs.declared.directives.Boundary.TheVariants as limit
@@ -87,6 +93,33 @@ named_arm t (arm.Branch condition link e) = arm.Branch condition link (named t e
 named_arm t (arm.SoftwareInterrupt condition e) = arm.SoftwareInterrupt condition (named t e)
 named_arm t l = named_transfer t l
 
+abbrev pub named_operand : Targets → ThumbOperand → ThumbOperand
+named_operand t (operand.Number e) = operand.Number (named t e)
+named_operand t o = o
+
+abbrev pub named_literal : Targets → LiteralAddress → LiteralAddress
+named_literal t (literal.Offset e) = literal.Offset (named t e)
+named_literal t (literal.Label e) = literal.Label (named t e)
+
+abbrev pub named_thumb_transfer : Targets → ThumbLine → ThumbLine
+named_thumb_transfer t (thumb.LoadLiteral rd a) = thumb.LoadLiteral rd (named_literal t a)
+named_thumb_transfer t (thumb.TransferImmediate load byte rd rn e) = thumb.TransferImmediate load byte rd rn (named t e)
+named_thumb_transfer t (thumb.TransferHalf load rd rn e) = thumb.TransferHalf load rd rn (named t e)
+named_thumb_transfer t (thumb.TransferStack load rd e) = thumb.TransferStack load rd (named t e)
+named_thumb_transfer t l = l
+
+abbrev pub named_thumb : Targets → ThumbLine → ThumbLine
+named_thumb t (thumb.ShiftImmediate by rd rs e) = thumb.ShiftImmediate by rd rs (named t e)
+named_thumb t (thumb.AddSubtract subtract rd rs o) = thumb.AddSubtract subtract rd rs (named_operand t o)
+named_thumb t (thumb.DataImmediate operation rd e) = thumb.DataImmediate operation rd (named t e)
+named_thumb t (thumb.LoadAddress stack rd e) = thumb.LoadAddress stack rd (named t e)
+named_thumb t (thumb.AdjustStack subtract e) = thumb.AdjustStack subtract (named t e)
+named_thumb t (thumb.BranchConditional condition e) = thumb.BranchConditional condition (named t e)
+named_thumb t (thumb.SoftwareInterrupt e) = thumb.SoftwareInterrupt (named t e)
+named_thumb t (thumb.Branch e) = thumb.Branch (named t e)
+named_thumb t (thumb.BranchLink e) = thumb.BranchLink (named t e)
+named_thumb t l = named_thumb_transfer t l
+
 abbrev pub named_pseudo : Targets → PseudoLine → PseudoLine
 named_pseudo t (pseudo.LoadConstant condition rd e) = pseudo.LoadConstant condition rd (named t e)
 named_pseudo t (pseudo.Address condition rd e) = pseudo.Address condition rd (named t e)
@@ -124,9 +157,9 @@ named_directive t (line.Map e) = line.Map (named t e)
 named_directive t (line.Field e) = line.Field (named t e)
 named_directive t l = named_data t l
 
--- until Thumb lines are read, these keep theirs
 abbrev pub named_what : Targets → What → What
 named_what t (what.Arm l) = what.Arm (named_arm t l)
+named_what t (what.Thumb l) = what.Thumb (named_thumb t l)
 named_what t (what.Pseudo l) = what.Pseudo (named_pseudo t l)
 named_what t (what.Directive l) = what.Directive (named_directive t l)
 named_what t w = w

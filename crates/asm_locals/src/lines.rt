@@ -7,8 +7,8 @@ ghost use Rattle.asm_locals.specs.Passes.{found};
 use crate::labels::Nearest;
 use crate::naming::{name_all, name_expr};
 use asm_model::{
-    Address, AreaAttributes, ArmLine, Boundary, DirectiveLine, HalfOffset, PseudoLine, RnOperand,
-    Shift, What,
+    Address, AreaAttributes, ArmLine, Boundary, DirectiveLine, HalfOffset, LiteralAddress,
+    PseudoLine, RnOperand, Shift, ThumbLine, ThumbOperand, What,
 };
 use sdt_fault::NoMemory;
 use std::alloc::Global;
@@ -61,6 +61,62 @@ fn name_transfer(alloc: Global, line: &mut ArmLine, labels: &Nearest) -> Result<
         ArmLine::TransferImmediate { address, .. } => name_address(alloc, address, labels),
         ArmLine::TransferShifted { shift, .. } => name_shift(alloc, shift, labels),
         ArmLine::TransferHalf { offset, .. } => name_half(alloc, offset, labels),
+        _ => Ok(()),
+    }
+}
+
+fn name_operand(alloc: Global, operand: &mut ThumbOperand, labels: &Nearest) -> Result<(), NoMemory>
+    ensures { OnOk result (operand.new ≡ naming.named_operand (found labels.now) operand.old) }
+{
+    match operand {
+        ThumbOperand::Register(_) => Ok(()),
+        ThumbOperand::Number(number) => name_expr(alloc, number, labels),
+    }
+}
+
+fn name_literal(
+    alloc: Global,
+    address: &mut LiteralAddress,
+    labels: &Nearest,
+) -> Result<(), NoMemory>
+    ensures { OnOk result (address.new ≡ naming.named_literal (found labels.now) address.old) }
+{
+    match address {
+        LiteralAddress::Offset(offset) => name_expr(alloc, offset, labels),
+        LiteralAddress::Label(target) => name_expr(alloc, target, labels),
+    }
+}
+
+fn name_thumb(alloc: Global, line: &mut ThumbLine, labels: &Nearest) -> Result<(), NoMemory>
+    ensures { OnOk result (line.new ≡ naming.named_thumb (found labels.now) line.old) }
+{
+    match line {
+        ThumbLine::ShiftImmediate { amount, .. } => name_expr(alloc, amount, labels),
+        ThumbLine::AddSubtract { operand, .. } => name_operand(alloc, operand, labels),
+        ThumbLine::DataImmediate { value, .. } => name_expr(alloc, value, labels),
+        ThumbLine::LoadAddress { offset, .. } => name_expr(alloc, offset, labels),
+        ThumbLine::AdjustStack { offset, .. } => name_expr(alloc, offset, labels),
+        ThumbLine::BranchConditional { target, .. } => name_expr(alloc, target, labels),
+        ThumbLine::SoftwareInterrupt { number } => name_expr(alloc, number, labels),
+        ThumbLine::Branch { target } => name_expr(alloc, target, labels),
+        ThumbLine::BranchLink { target } => name_expr(alloc, target, labels),
+        line => name_thumb_transfer(alloc, line, labels),
+    }
+}
+
+/// The rest of the lines of Thumb state: loads and stores, and those without an expression.
+fn name_thumb_transfer(
+    alloc: Global,
+    line: &mut ThumbLine,
+    labels: &Nearest,
+) -> Result<(), NoMemory>
+    ensures { OnOk result (line.new ≡ naming.named_thumb_transfer (found labels.now) line.old) }
+{
+    match line {
+        ThumbLine::LoadLiteral { address, .. } => name_literal(alloc, address, labels),
+        ThumbLine::TransferImmediate { offset, .. } => name_expr(alloc, offset, labels),
+        ThumbLine::TransferHalf { offset, .. } => name_expr(alloc, offset, labels),
+        ThumbLine::TransferStack { offset, .. } => name_expr(alloc, offset, labels),
         _ => Ok(()),
     }
 }
@@ -147,8 +203,9 @@ pub fn name_what(alloc: Global, what: &mut What, labels: &Nearest) -> Result<(),
 {
     match what {
         What::Arm(line) => name_arm(alloc, line, labels),
+        What::Thumb(line) => name_thumb(alloc, line, labels),
         What::Pseudo(line) => name_pseudo(alloc, line, labels),
         What::Directive(line) => name_directive(alloc, line, labels),
-        _ => Ok(()),
+        What::Nothing => Ok(()),
     }
 }

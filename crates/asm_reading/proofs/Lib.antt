@@ -1,3 +1,19 @@
+mod AddressLemmas
+mod ArmLemmas
+mod DirectiveLemmas
+mod ExpressionLemmas
 mod FitLemmas
+mod FormLemmas
+mod GivesLemmas
+mod InstructionLemmas
 mod LawLemmas
+mod LineLemmas
+mod ListLemmas
+mod LoadedLemmas
+mod NameLemmas
+mod OperandLemmas
 pub mod ReadLemmas
+mod TextLemmas
+mod ThumbLemmas
+mod ThumbWordLemmas
+mod WordLemmas

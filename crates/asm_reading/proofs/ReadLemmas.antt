@@ -1,21 +1,16 @@
 -- Lines that are read one after the other.
-use Rattle.std.proofs.Common.{◌≡◌, ℕ, ◌≤◌, ◌<◌, suc, ◌+◌, Bool, true, false, cond, List, [], ◌∷◌, ◌++◌, length, take, get_or, Option, Some, None, Ok, Err, refl, sym, ap, ◌∙◌, subst, arith, append_assoc, length-append, add-one}
+use Rattle.std.proofs.Common.{◌≡◌, ℕ, ◌≤◌, ◌<◌, suc, ◌+◌, Bool, false, cond, List, [], ◌∷◌, ◌++◌, length, take, get_or, Option, Some, None, Ok, Err, refl, sym, ap, ◌∙◌, subst, arith, append_assoc, length-append, add-one}
 use Rattle.std.proofs.Math.Seq.{take-suc}
-use Rattle.sdt_fault.specs.declared.kinds.LineKind.TheVariants.{UnknownWord}
-use Rattle.asm_arm.specs.Says.{SaysArm}
 use Rattle.asm_model.specs.declared.lines.Flat.{Flat}
-use Rattle.asm_model.specs.declared.directives.DirectiveLine.TheVariants as line
 use Rattle.asm_model.specs.declared.statements.Statement.{Statement}
-use Rattle.asm_model.specs.declared.statements.What.{What}
-use Rattle.asm_model.specs.declared.statements.What.TheVariants as what
 use Rattle.asm_model.specs.Directives.{or_else}
-use Rattle.asm_said.specs.Laws.{LinesAreSaid}
 use Rattle.said_model.specs.Said.{IsSaid, AllSaid}
 use Rattle.asm_reading.specs.declared.reading.Reading.{Reading}
 use Rattle.asm_reading.specs.declared.reading.Unread.{Unread}
-use Rattle.asm_reading.specs.Reading.{Said, changes_state, without_states, SaysLine, Say, statement_in, statements_in, unread_in, first_unread, is_unread, read_first, before_behind, Keeps, IsWritten, IsReading, StaysInArm}
-use Rattle.asm_locals.specs.Naming.{Targets, named_what, in_names}
-use Rattle.asm_locals.proofs.KeptLemmas.{IsStable, all_in_names, as_many, said_named}
+use Rattle.asm_reading.specs.Laws.{LinesAreSaid}
+use Rattle.asm_reading.specs.Reading.{Said, SaysBy, state_after, Say, statement_in, statements_in, unread_in, first_unread, is_unread, read_first, before_behind, Keeps, IsWritten, IsReading}
+use Rattle.asm_locals.specs.Naming.{in_names}
+use Rattle.asm_locals.proofs.KeptLemmas.{all_in_names, as_many, said_named}
 use Rattle.std.specs.List.{AllByRecursion}
 
 -- ---- lists
@@ -56,16 +51,16 @@ few (p ∷ ps) =
     let j : length (statement_in p.1 ++ statements_in ps) ≡ length (statement_in p.1) + length (statements_in ps) = length-append (statement_in p.1) (statements_in ps) in
     omega arith
 
-as_many_lines : (fs : List Flat) (ps : List (Flat × Said)) → Say fs ps → length ps ≡ length fs
-as_many_lines [] [] h = refl
-as_many_lines [] (p ∷ ps) h = absurd h
-as_many_lines (f ∷ fs) [] h = absurd h
-as_many_lines (f ∷ fs) (p ∷ ps) h = ap suc (as_many_lines fs ps h.2)
+as_many_lines : (thumb : Bool) (fs : List Flat) (ps : List (Flat × Said)) → Say thumb fs ps → length ps ≡ length fs
+as_many_lines thumb [] [] h = refl
+as_many_lines thumb [] (p ∷ ps) h = absurd h
+as_many_lines thumb (f ∷ fs) [] h = absurd h
+as_many_lines thumb (f ∷ fs) (p ∷ ps) h = ap suc (as_many_lines (state_after thumb p.1) fs ps h.2)
 
-few_named : (lines : List Flat) (ps : List (Flat × Said)) → Say lines ps → (named : List Statement) → named ≡ in_names (statements_in ps) → length named ≤ length lines
+few_named : (lines : List Flat) (ps : List (Flat × Said)) → Say false lines ps → (named : List Statement) → named ≡ in_names (statements_in ps) → length named ≤ length lines
 few_named lines ps h named e =
     let a : length (statements_in ps) ≤ length ps = few ps in
-    let b : length ps ≡ length lines = as_many_lines lines ps h in
+    let b : length ps ≡ length lines = as_many_lines false lines ps h in
     let k : length named ≡ length (statements_in ps) = ap length e ∙ as_many (statements_in ps) in
     omega (arith, k)
 
@@ -77,63 +72,34 @@ few_read lines r h = few_named lines h.says h.say r.statements.items h.statement
 
 -- ---- each statement
 
--- a fact of each statement that a line of ARM state says
+-- a fact of each statement that a line says
 abbrev pub Law : (Statement → Type 0) → Type 0
-Law P = (f : Flat) (s : Statement) → SaysArm f (Ok (Some s)) → P s
+Law P = (thumb : Bool) (f : Flat) (s : Statement) → SaysBy thumb f (Ok (Some s)) → P s
 
-abbrev pub IsKept : (Statement → Type 0) → Statement → Type 0
-IsKept P s = P s × StaysInArm s.what
-
-abbrev pub AllKept : (Statement → Type 0) → List Statement → Type 0
-AllKept P ss = AllByRecursion (IsKept P) ss
-
-said_of : (ss : List Statement) → AllKept IsSaid ss → AllSaid ss
+said_of : (ss : List Statement) → AllByRecursion IsSaid ss → AllSaid ss
 said_of [] h = tt
-said_of (s ∷ ss) h = (h.0.0, said_of ss h.1)
+said_of (s ∷ ss) h = (h.0, said_of ss h.1)
 
-kept_joined : (P : Statement → Type 0) (xs ys : List Statement) → AllKept P xs → AllKept P ys → AllKept P (xs ++ ys)
+kept_joined : (P : Statement → Type 0) (xs ys : List Statement) → AllByRecursion P xs → AllByRecursion P ys → AllByRecursion P (xs ++ ys)
 kept_joined P [] ys h k = k
 kept_joined P (x ∷ xs) ys h k = (h.0, kept_joined P xs ys h.1 k)
 
-stays : (w : What) → changes_state w ≡ false → StaysInArm w
-stays (what.Directive line.Code16) e = absurd (cc)
-stays w e = tt
+one_kept : (P : Statement → Type 0) → Law P → (thumb : Bool) (f : Flat) (s : Said) → SaysBy thumb f s → AllByRecursion P (statement_in s)
+one_kept P law thumb f (Ok (Some s)) h = (law thumb f s h, tt)
+one_kept P law thumb f (Ok None) h = tt
+one_kept P law thumb f (Err k) h = tt
 
-without_kept : (P : Statement → Type 0) → Law P → (f : Flat) (s : Said) → SaysArm f s → AllKept P (statement_in (without_states s))
-without_kept P law f (Ok (Some s)) h = by_test (changes_state s.what) refl
-  where
-    by_test : (b : Bool) → changes_state s.what ≡ b → AllKept P (statement_in (cond b (Err UnknownWord) (Ok (Some s))))
-    by_test true e = tt
-    by_test false e = ((law f s h, stays s.what e), tt)
-without_kept P law f (Ok None) h = tt
-without_kept P law f (Err k) h = tt
-
-one_kept : (P : Statement → Type 0) → Law P → (f : Flat) (r : Said) → SaysLine f r → AllKept P (statement_in r)
-one_kept P law f r h = subst (λ (s : Said). AllKept P (statement_in s)) (sym h.2) (without_kept P law f h.0 h.1)
-
-pub all_kept : (P : Statement → Type 0) → Law P → (fs : List Flat) (ps : List (Flat × Said)) → Say fs ps → AllKept P (statements_in ps)
-all_kept P law [] [] h = tt
-all_kept P law [] (p ∷ ps) h = absurd h
-all_kept P law (f ∷ fs) [] h = absurd h
-all_kept P law (f ∷ fs) (p ∷ ps) h =
-    kept_joined P (statement_in p.1) (statements_in ps) (one_kept P law f p.1 h.1) (all_kept P law fs ps h.2)
-
--- naming keeps the state
-named_stays : (t : Targets) (w : What) → StaysInArm w → StaysInArm (named_what t w)
-named_stays t (what.Directive line.Code16) h = absurd h
-named_stays t what.Nothing h = tt
-named_stays t (what.Arm l) h = tt
-named_stays t (what.Thumb l) h = tt
-named_stays t (what.Pseudo l) h = tt
-named_stays t (what.Directive l) h = tt
-
-pub named_kept : (P : Statement → Type 0) → IsStable P → (ss : List Statement) → AllKept P ss → AllKept P (in_names ss)
-named_kept P stable ss h = all_in_names (IsKept P) (λ k t s p. (stable k t s p.0, named_stays t s.what p.1)) ss h
+pub all_kept : (P : Statement → Type 0) → Law P → (thumb : Bool) (fs : List Flat) (ps : List (Flat × Said)) → Say thumb fs ps → AllByRecursion P (statements_in ps)
+all_kept P law thumb [] [] h = tt
+all_kept P law thumb [] (p ∷ ps) h = absurd h
+all_kept P law thumb (f ∷ fs) [] h = absurd h
+all_kept P law thumb (f ∷ fs) (p ∷ ps) h =
+    kept_joined P (statement_in p.1) (statements_in ps) (one_kept P law thumb f p.1 h.1) (all_kept P law (state_after thumb p.1) fs ps h.2)
 
 pub said_written : LinesAreSaid → (lines : List Flat) (w : Reading) → IsWritten lines w → (named : List Statement) → named ≡ in_names w.statements.items → AllSaid named
 said_written law lines w h named e =
-    said_of named (subst (λ (l : List Statement). AllKept IsSaid l) (sym (e ∙ ap in_names h.statements))
-    (named_kept IsSaid said_named (statements_in h.says) (all_kept IsSaid law lines h.says h.say)))
+    said_of named (subst (λ (l : List Statement). AllByRecursion IsSaid l) (sym (e ∙ ap in_names h.statements))
+    (all_in_names IsSaid said_named (statements_in h.says) (all_kept IsSaid law false lines h.says h.say)))
 
 -- ---- the lines before the first that can't be read
 
@@ -206,26 +172,46 @@ counts_more done f s old new k h u b = by_unread (first_unread done) refl
         ∙ behind_unread s v old.before (length new.statements.items) ∙ b
         ∙ sym (ap (λ (l : List (Flat × Said)). length (statements_in l)) (first_some done ((f, s) ∷ []) v e))
 
-say_more : (fs : List Flat) (ps : List (Flat × Said)) (f : Flat) (s : Said) → Say fs ps → SaysLine f s → Say (fs ++ f ∷ []) (ps ++ (f, s) ∷ [])
-say_more [] [] f s h says = (refl, says, tt)
-say_more [] (p ∷ ps) f s h says = absurd h
-say_more (g ∷ gs) [] f s h says = absurd h
-say_more (g ∷ gs) (p ∷ ps) f s h says = (h.0, h.1, say_more gs ps f s h.2 says)
+-- the state behind lines
+abbrev states_after : Bool → List (Flat × Said) → Bool
+states_after thumb [] = thumb
+states_after thumb (p ∷ ps) = states_after (state_after thumb p.1) ps
 
-written_more : (lines : List Flat) (f : Flat) (s : Said) (old new : Reading) → IsWritten lines old → SaysLine f s → Keeps f s old new
-    → IsWritten (lines ++ f ∷ []) new
-written_more lines f s old new h says k = record {
-  says = h.says ++ (f, s) ∷ [];
-  say = say_more lines h.says f s h.say says;
-  statements = kept_more h.says f s old new k h.statements;
-  unread = told_more h.says f s old new k h.unread;
-  before = counts_more h.says f s old new k h.statements h.unread h.before;
-}
+state_more : (thumb : Bool) (ps : List (Flat × Said)) (f : Flat) (s : Said) → states_after thumb (ps ++ (f, s) ∷ []) ≡ state_after (states_after thumb ps) s
+state_more thumb [] f s = refl
+state_more thumb (p ∷ ps) f s = state_more (state_after thumb p.1) ps f s
 
-pub written_next : (lines : List Flat) (i : ℕ) (f : Flat) (s : Said) (old new : Reading) → i < length lines → f ≡ get_or lines i f
-    → IsWritten (take i lines) old → SaysLine f s → Keeps f s old new → IsWritten (take (i + 1) lines) new
-written_next lines i f s old new less is h says k =
-    let next : i + 1 ≡ suc i = add-one i in
+say_more : (thumb : Bool) (fs : List Flat) (ps : List (Flat × Said)) (f : Flat) (s : Said) → Say thumb fs ps → SaysBy (states_after thumb ps) f s
+    → Say thumb (fs ++ f ∷ []) (ps ++ (f, s) ∷ [])
+say_more thumb [] [] f s h says = (refl, says, tt)
+say_more thumb [] (p ∷ ps) f s h says = absurd h
+say_more thumb (g ∷ gs) [] f s h says = absurd h
+say_more thumb (g ∷ gs) (p ∷ ps) f s h says = (h.0, h.1, say_more (state_after thumb p.1) gs ps f s h.2 says)
+
+-- lines that are written, with the state of the next
+abbrev pub IsWrittenTo : List Flat → Bool → Reading → Type 0
+IsWrittenTo lines thumb r = (h : IsWritten lines r) × (thumb ≡ states_after false h.says)
+
+written_more : (lines : List Flat) (f : Flat) (s : Said) (thumb : Bool) (old new : Reading) → IsWrittenTo lines thumb old → SaysBy thumb f s → Keeps f s old new
+    → IsWrittenTo (lines ++ f ∷ []) (state_after thumb s) new
+written_more lines f s thumb old new h says k =
+    let done = h.0.says in
+    let next : state_after thumb s ≡ states_after false (done ++ (f, s) ∷ []) = ap (λ (b : Bool). state_after b s) h.1 ∙ sym (state_more false done f s) in (
+      record {
+        says = done ++ (f, s) ∷ [];
+        say = say_more false lines done f s h.0.say (subst (λ (b : Bool). SaysBy b f s) h.1 says);
+        statements = kept_more done f s old new k h.0.statements;
+        unread = told_more done f s old new k h.0.unread;
+        before = counts_more done f s old new k h.0.statements h.0.unread h.0.before;
+      },
+      next,
+    )
+
+pub written_next : (lines : List Flat) (i : ℕ) (f : Flat) (s : Said) (thumb next : Bool) (old new : Reading) → i < length lines → f ≡ get_or lines i f
+    → IsWrittenTo (take i lines) thumb old → SaysBy thumb f s → next ≡ state_after thumb s → Keeps f s old new → IsWrittenTo (take (i + 1) lines) next new
+written_next lines i f s thumb next old new less is h says e k =
+    let number : i + 1 ≡ suc i = add-one i in
     let more : take i lines ++ f ∷ [] ≡ take (i + 1) lines =
-    ap (λ (x : Flat). take i lines ++ x ∷ []) is ∙ sym (take-suc lines i f less) ∙ ap (λ (n : ℕ). take n lines) (sym next) in
-    subst (λ (l : List Flat). IsWritten l new) more (written_more (take i lines) f s old new h says k)
+    ap (λ (x : Flat). take i lines ++ x ∷ []) is ∙ sym (take-suc lines i f less) ∙ ap (λ (n : ℕ). take n lines) (sym number) in
+    subst (λ (b : Bool). IsWrittenTo (take (i + 1) lines) b new) (sym e)
+    (subst (λ (l : List Flat). IsWrittenTo l (state_after thumb s) new) more (written_more (take i lines) f s thumb old new h says k))

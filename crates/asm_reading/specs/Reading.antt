@@ -1,15 +1,14 @@
--- What the flat lines of a source say. END says nothing more here: expansion has ended the file at it. SDT 2.50 Reference
--- Guide, chapter on the assembler. This project's: until Thumb lines stand, CODE16 and CODE32 are words that nothing names.
+-- What the flat lines of a source say. A source begins in ARM state, CODE16 and CODE32 change the state of the lines behind
+-- them, and each line is read in its own. END says nothing more here: expansion has ended the file at it. SDT 2.50 Reference
+-- Guide, chapter on the assembler. This project's: a line that can't be read changes no state.
 use Rattle.std.specs.Prelude.{◌≡◌, ℕ, List, [], ◌∷◌, ◌++◌, length, Bool, true, false, if◌then◌else◌, Option, Some, None, Result, Ok, Err}
 use Rattle.sdt_fault.specs.declared.kinds.LineKind.{LineKind}
-use Rattle.sdt_fault.specs.declared.kinds.LineKind.TheVariants.{UnknownWord}
 use Rattle.asm_arm.specs.Says.{SaysArm}
+use Rattle.asm_thumb.specs.Says.{SaysThumb}
 use Rattle.asm_locals.specs.Naming.{in_names}
-use Rattle.asm_model.specs.declared.directives.DirectiveLine.TheVariants as line
 use Rattle.asm_model.specs.declared.lines.Flat.{Flat}
 use Rattle.asm_model.specs.declared.statements.Statement.{Statement}
-use Rattle.asm_model.specs.declared.statements.What.{What}
-use Rattle.asm_model.specs.declared.statements.What.TheVariants as what
+use Rattle.asm_model.specs.Before.{state_behind}
 use Rattle.asm_model.specs.Directives.{or_else}
 use Rattle.asm_reading.specs.declared.reading.Reading.{Reading}
 use Rattle.asm_reading.specs.declared.reading.Unread.{Unread}
@@ -20,26 +19,23 @@ use Rattle.asm_reading.specs.declared.reading.Unread.{Unread}
 abbrev pub Said : Type 0
 Said = Result (Option Statement) LineKind
 
--- a change of state
-abbrev pub changes_state : What → Bool
-changes_state (what.Directive line.Code16) = true
-changes_state (what.Directive line.Code32) = true
-changes_state _ = false
+-- what a line of Thumb state says, or one of ARM state
+abbrev pub SaysBy : Bool → Flat → Said → Type 0
+SaysBy true f r = SaysThumb f r
+SaysBy false f r = SaysArm f r
 
-abbrev pub without_states : Said → Said
-without_states (Ok (Some s)) = if changes_state s.what then Err UnknownWord else Ok (Some s)
-without_states (Ok None) = Ok None
-without_states (Err k) = Err k
+-- the state of the next line
+abbrev pub state_after : Bool → Said → Bool
+state_after thumb (Ok (Some s)) = state_behind s.what thumb
+state_after thumb (Ok None) = thumb
+state_after thumb (Err k) = thumb
 
-abbrev pub SaysLine : Flat → Said → Type 0
-SaysLine f r = (s : Said) × SaysArm f s × (r ≡ without_states s)
-
--- lines with what they say
-abbrev pub Say : List Flat → List (Flat × Said) → Type 0
-Say [] [] = Unit {0}
-Say [] (p ∷ ps) = ⊥
-Say (f ∷ fs) [] = ⊥
-Say (f ∷ fs) (p ∷ ps) = (p.0 ≡ f) × SaysLine f p.1 × Say fs ps
+-- lines with what they say, the first of them in this state
+abbrev pub Say : Bool → List Flat → List (Flat × Said) → Type 0
+Say thumb [] [] = Unit {0}
+Say thumb [] (p ∷ ps) = ⊥
+Say thumb (f ∷ fs) [] = ⊥
+Say thumb (f ∷ fs) (p ∷ ps) = (p.0 ≡ f) × SaysBy thumb f p.1 × Say (state_after thumb p.1) fs ps
 
 -- ---- what is kept of them
 
@@ -91,7 +87,7 @@ pub record Keeps (f : Flat) (s : Said) (old new : Reading) : Type 0 where
 -- statements stand before it
 pub record IsWritten (lines : List Flat) (r : Reading) : Type 0 where
   pub says : List (Flat × Said)
-  pub say : Say lines says
+  pub say : Say false lines says
   pub statements : r.statements.items ≡ statements_in says
   pub unread : r.unread ≡ first_unread says
   pub before : r.before ≡ length (statements_in (read_first says))
@@ -99,13 +95,7 @@ pub record IsWritten (lines : List Flat) (r : Reading) : Type 0 where
 -- the same, with names for local labels
 pub record IsReading (lines : List Flat) (r : Reading) : Type 0 where
   pub says : List (Flat × Said)
-  pub say : Say lines says
+  pub say : Say false lines says
   pub statements : r.statements.items ≡ in_names (statements_in says)
   pub unread : r.unread ≡ first_unread says
   pub before : r.before ≡ length (statements_in (read_first says))
-
--- ---- ARM state
-
-abbrev pub StaysInArm : What → Type 0
-StaysInArm (what.Directive line.Code16) = ⊥
-StaysInArm _ = Unit {0}

@@ -1,15 +1,17 @@
-//! What the flat lines of a source say. Until Thumb lines stand, CODE16 and CODE32 are words that nothing names.
+//! What the flat lines of a source say, each in its state.
 
-ghost use Rattle.std.specs.Prelude.{◌≡◌, ◌++◌, ◌^◌, ◌<◌, ◌≤◌, length, IfOk, OnOk, Some};
-ghost use Rattle.asm_arm.specs.Says.{SaysArm};
+ghost use Rattle.std.specs.Prelude.{◌≡◌, ◌++◌, ◌^◌, ◌<◌, ◌≤◌, length, IfOk, OnOk};
 ghost use Rattle.asm_locals.specs.Naming.{in_names};
+ghost use Rattle.asm_model.specs.Before as states;
+ghost use Rattle.asm_model.specs.Told.{Told};
 ghost use Rattle.asm_reading.specs.Reading as reading_of;
 ghost use Rattle.said_model.specs.Said.{AllSaid};
 
+use crate::laws::lines_are_said;
 use asm_arm::parse_arm;
 use asm_locals::name_locals;
 use asm_model::{DirectiveLine, Flat, Statement, What};
-use asm_said::laws::lines_are_said;
+use asm_thumb::parse_thumb;
 use sdt_fault::answer::Fault;
 use sdt_fault::kinds::LineKind;
 use sdt_fault::refusal::Refusal;
@@ -38,59 +40,51 @@ pub struct Unread {
 /// What a line says, or the kind that is told of it.
 type Said = Result<Option<Statement>, LineKind>;
 
-/// Whether a statement changes the state.
-fn changes_state(what: &What) -> bool
-    ensures { result ≡ reading_of.changes_state what.now }
+/// The state behind a statement in this state.
+fn state_behind(what: &What, thumb: bool) -> bool
+    ensures { result ≡ states.state_behind what.now thumb }
 {
     match what {
         What::Directive(DirectiveLine::Code16) => true,
-        What::Directive(DirectiveLine::Code32) => true,
-        _ => false,
+        What::Directive(DirectiveLine::Code32) => false,
+        _ => thumb,
     }
 }
 
-/// The statement, unless it changes the state.
-fn arm_statement(statement: Statement) -> Said
-    ensures { result ≡ reading_of.without_states (Ok (Some statement)) }
-{
-    if changes_state(&statement.what) {
-        return Err(LineKind::UnknownWord);
-    }
-    Ok(Some(statement))
-}
-
-/// What a line says, but for changes of state.
-fn without_states(said: Said) -> Said
-    ensures { result ≡ reading_of.without_states said }
+/// The state of the next line.
+fn state_after(thumb: bool, said: &Said) -> bool
+    ensures { result ≡ reading_of.state_after thumb said.now }
 {
     match said {
-        Ok(Some(statement)) => arm_statement(statement),
-        Ok(None) => Ok(None),
-        Err(kind) => Err(kind),
+        Ok(Some(statement)) => state_behind(&statement.what, thumb),
+        Ok(None) => thumb,
+        Err(_) => thumb,
     }
 }
 
-/// What a line of ARM state says, or the kind that is told of it.
-fn arm_line(alloc: Global, line: &Flat) -> Result<Said, NoMemory>
+/// What a line of a state says.
+fn parse(alloc: Global, line: &Flat, thumb: bool) -> Result<Option<Statement>, Fault>
     requires { length line.now.text < 2 ^ 32 }
-    ensures { IfOk result (λ said. SaysArm line.now said) }
+    ensures { Told line.now.source line.now.number (reading_of.SaysBy thumb line.now) result }
 {
-    match parse_arm(alloc, line) {
-        Ok(said) => Ok(Ok(said)),
-        Err(Fault::Refused(Refusal::BadLine { kind, .. })) => Ok(Err(kind)),
-        Err(_) => Err(NoMemory),
+    if thumb {
+        return parse_thumb(alloc, line);
     }
+    parse_arm(alloc, line)
 }
 
 /// What a line says, or the kind that is told of it. A line of 2^32 bytes counts as want of memory.
-fn read_line(alloc: Global, line: &Flat) -> Result<Said, NoMemory>
-    ensures { IfOk result (λ said. reading_of.SaysLine line.now said) }
+fn read_line(alloc: Global, line: &Flat, thumb: bool) -> Result<Said, NoMemory>
+    ensures { IfOk result (λ said. reading_of.SaysBy thumb line.now said) }
 {
     if line.text.as_slice().len() > 0xFFFF_FFFF {
         return Err(NoMemory);
     }
-    let said = arm_line(alloc, line)?;
-    Ok(without_states(said))
+    match parse(alloc, line, thumb) {
+        Ok(said) => Ok(Ok(said)),
+        Err(Fault::Refused(Refusal::BadLine { kind, .. })) => Ok(Err(kind)),
+        Err(_) => Err(NoMemory),
+    }
 }
 
 fn unread_line(alloc: Global, line: &Flat, kind: LineKind) -> Result<Unread, NoMemory>
@@ -141,8 +135,10 @@ fn read_as_written(alloc: Global, lines: &[Flat]) -> Result<Reading, NoMemory>
         unread: None,
         before: 0,
     };
+    let mut thumb = false;
     for line in lines {
-        let said = read_line(alloc, line)?;
+        let said = read_line(alloc, line, thumb)?;
+        thumb = state_after(thumb, &said);
         keep(alloc, &mut reading, line, said)?;
     }
     Ok(reading)
@@ -156,8 +152,8 @@ fn name_all(alloc: Global, statements: &mut Vec<Statement>) -> Result<(), NoMemo
     Ok(())
 }
 
-/// The statements of lines of ARM state with names for local labels, and the first line that can't be read: UnknownWord
-/// where it says CODE16 or CODE32, and the faults of `parse_arm`.
+/// The statements of lines with names for local labels, and the first line that can't be read, with the faults of
+/// `parse_arm`, or of `parse_thumb` where it stands in Thumb state.
 pub fn read_lines(alloc: Global, lines: &[Flat]) -> Result<Reading, NoMemory>
     ensures reads { IfOk result (λ reading. reading_of.IsReading lines.now reading) }
     ensures said { IfOk result (λ reading. AllSaid reading.statements.items) }

@@ -10,6 +10,7 @@ use Rattle.asm_model.specs.declared.operands.Register.TheVariants as register
 use Rattle.asm_model.specs.declared.operands.ListItem.{ListItem}
 use Rattle.asm_model.specs.declared.operands.ListItem.TheVariants as item
 use Rattle.asm_model.specs.declared.arm_lines.ArmLine.TheVariants as arm
+use Rattle.asm_model.specs.declared.thumb_lines.ThumbLine.TheVariants as thumb
 use Rattle.asm_model.specs.declared.statements.PseudoLine.TheVariants as pseudo
 use Rattle.asm_model.specs.declared.statements.Statement.{Statement}
 use Rattle.asm_model.specs.declared.statements.What.{What}
@@ -66,6 +67,8 @@ ranges_same known known' h (item.Range first last ∷ is) =
 
 operands_same : (known known' : List Named) → ((q : List ℕ) → register_in q known ≡ register_in q known') → (w : What) → operand_kinds known w ≡ operand_kinds known' w
 operands_same known known' h (what.Arm (arm.TransferBlock condition load mode rn write_back list user)) = ranges_same known known' h list.items
+operands_same known known' h (what.Thumb (thumb.PushPop load list)) = ranges_same known known' h list.items
+operands_same known known' h (what.Thumb (thumb.TransferMultiple load rn list)) = ranges_same known known' h list.items
 operands_same known known' h (what.Pseudo (pseudo.LongAddress condition rd target)) = ap (λ o. kind_if (is_pc o) BadOperand) (number_same known known' h rd)
 operands_same known known' h _ = refl
 

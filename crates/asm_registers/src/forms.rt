@@ -9,7 +9,9 @@ use crate::lists::{items_kind, ranges_kind};
 use crate::naming::{Scope, four, one, three, two, with_rest};
 use crate::numbers::number_of;
 use asm_expr::told::kind_if;
-use asm_model::{Address, ArmLine, HalfOffset, PseudoLine, Register, What};
+use asm_model::{
+    Address, ArmLine, HalfOffset, PseudoLine, Register, ThumbLine, ThumbOperand, What,
+};
 use sdt_fault::Text;
 use sdt_fault::kinds::LineKind;
 use std::collections::BTreeMap;
@@ -76,6 +78,53 @@ fn arm_kind(scope: &Scope<'_>, line: &ArmLine) -> Option<LineKind>
     }
 }
 
+fn sum_kind(
+    scope: &Scope<'_>,
+    rd: &Register,
+    rs: &Register,
+    operand: &ThumbOperand,
+) -> Option<LineKind>
+    ensures { result ≡ told_of scope.now (rd.now ∷ rs.now ∷ registers.operand_registers operand.now) }
+{
+    match operand {
+        ThumbOperand::Register(rn) => three(scope, rd, rs, rn),
+        ThumbOperand::Number(_) => two(scope, rd, rs),
+    }
+}
+
+fn thumb_kind(scope: &Scope<'_>, line: &ThumbLine) -> Option<LineKind>
+    ensures { result ≡ told_of scope.now (registers.thumb_registers line.now) }
+{
+    match line {
+        ThumbLine::ShiftImmediate { rd, rs, .. } => two(scope, rd, rs),
+        ThumbLine::AddSubtract {
+            rd,
+            rs,
+            operand,
+            ..
+        } => sum_kind(scope, rd, rs, operand),
+        ThumbLine::DataImmediate { rd, .. } => one(scope, rd),
+        ThumbLine::DataRegister { rd, rs, .. } => two(scope, rd, rs),
+        ThumbLine::HighRegister { rd, rs, .. } => two(scope, rd, rs),
+        ThumbLine::LoadLiteral { rd, .. } => one(scope, rd),
+        ThumbLine::TransferRegister { rd, rn, ro, .. } => three(scope, rd, rn, ro),
+        ThumbLine::TransferSigned { rd, rn, ro, .. } => three(scope, rd, rn, ro),
+        ThumbLine::TransferImmediate { rd, rn, .. } => two(scope, rd, rn),
+        ThumbLine::TransferHalf { rd, rn, .. } => two(scope, rd, rn),
+        ThumbLine::TransferStack { rd, .. } => one(scope, rd),
+        ThumbLine::LoadAddress { rd, .. } => one(scope, rd),
+        ThumbLine::AdjustStack { .. } => None,
+        ThumbLine::PushPop { list, .. } => items_kind(scope, list.items.as_slice()),
+        ThumbLine::TransferMultiple { rn, list, .. } => {
+            with_rest(scope, rn, items_kind(scope, list.items.as_slice()))
+        }
+        ThumbLine::BranchConditional { .. } => None,
+        ThumbLine::SoftwareInterrupt { .. } => None,
+        ThumbLine::Branch { .. } => None,
+        ThumbLine::BranchLink { .. } => None,
+    }
+}
+
 fn pseudo_kind(scope: &Scope<'_>, line: &PseudoLine) -> Option<LineKind>
     ensures { result ≡ told_of scope.now (registers.pseudo_registers line.now) }
 {
@@ -93,6 +142,7 @@ pub fn names_kind(scope: &Scope<'_>, what: &What) -> Option<LineKind>
 {
     match what {
         What::Arm(line) => arm_kind(scope, line),
+        What::Thumb(line) => thumb_kind(scope, line),
         What::Pseudo(line) => pseudo_kind(scope, line),
         _ => None,
     }
@@ -113,6 +163,10 @@ pub fn operand_kind(known: &BTreeMap<Text, u8>, what: &What) -> Option<LineKind>
 {
     match what {
         What::Arm(ArmLine::TransferBlock { list, .. }) => ranges_kind(known, list.items.as_slice()),
+        What::Thumb(ThumbLine::PushPop { list, .. }) => ranges_kind(known, list.items.as_slice()),
+        What::Thumb(ThumbLine::TransferMultiple { list, .. }) => {
+            ranges_kind(known, list.items.as_slice())
+        }
         What::Pseudo(PseudoLine::LongAddress { rd, .. }) => {
             kind_if(is_pc(number_of(known, rd)), LineKind::BadOperand)
         }

@@ -4,4 +4,3 @@ pub mod ShowLemmas
 mod LineLemmas
 mod NumberLemmas
 pub mod PassLemmas
-mod TreeLemmas

@@ -3,7 +3,7 @@ use Rattle.std.specs.Prelude.{List, [], ◌∷◌, ◌++◌, map, Result}
 use Rattle.std.specs.Global.{Vec}
 use Rattle.sdt_fault.specs.declared.kinds.LineKind.{LineKind}
 use Rattle.asm_model.specs.Says.{on_both, mapped}
-use Rattle.source_model.specs.Units.{Target, Nothing, ByArea, BySymbol, Stored, Emitted, Bytes, Word, Instruction}
+use Rattle.source_model.specs.Units.{Target, Nothing, ByArea, BySymbol, Stored, Emitted, Bytes, Word, Instruction, Half, LinkPair}
 use Rattle.asm_units.specs.declared.emitted.Target.{Target as TargetCode}
 use Rattle.asm_units.specs.declared.emitted.Target.TheVariants as target
 use Rattle.asm_units.specs.declared.emitted.Stored.{Stored as StoredCode}
@@ -22,6 +22,8 @@ abbrev pub emitted_of : Code → Emitted
 emitted_of (code.Bytes b) = Bytes b
 emitted_of (code.Word n t) = Word (record { number = n; target = target_of t })
 emitted_of (code.Instruction i s) = Instruction i s
+emitted_of (code.Half i) = Half i
+emitted_of (code.LinkPair first second s) = LinkPair first second s
 
 -- all units of a statement, or the kind of its fault
 abbrev pub all_emitted : Result (Vec Code) LineKind → Result (List Emitted) LineKind

@@ -3,6 +3,7 @@
 use arm_isa::ArmInstr;
 use sdt_fault::kinds::LineKind;
 use sdt_fault::{Bytes, Text};
+use thumb_isa::ThumbInstr;
 
 /// What a word is relocated by.
 #[derive(Debug, Drop)]
@@ -31,6 +32,15 @@ pub enum Emitted {
     Instruction {
         instruction: ArmInstr,
         /// Of a branch that is left to the linker.
+        symbol: Option<Text>,
+    },
+    /// An instruction of Thumb state.
+    Half(ThumbInstr),
+    /// Both halves of BL of Thumb state.
+    LinkPair {
+        first: u16,
+        second: u16,
+        /// Of one that is left to the linker.
         symbol: Option<Text>,
     },
 }

@@ -2,10 +2,11 @@
 
 ghost use Rattle.std.specs.Prelude.{◌≡◌, [], ◌∷◌, map, IfOk};
 ghost use Rattle.asm_model.specs.Says.{mapped};
-ghost use Rattle.said_model.specs.Said.{ArmSaid, PseudoSaid};
+ghost use Rattle.said_model.specs.Said.{ArmSaid, PseudoSaid, ThumbSaid};
 ghost use Rattle.source_model.specs.ArmForms as forms;
 ghost use Rattle.source_model.specs.Contexts.{Context};
 ghost use Rattle.source_model.specs.PseudoForms as pseudo;
+ghost use Rattle.source_model.specs.ThumbForms as halves;
 ghost use Rattle.source_model.specs.Units as units;
 ghost use Rattle.asm_instructions.specs.Scenes.{Shows};
 ghost use Rattle.asm_units.specs.Emitting.{all_emitted, emitted_of};
@@ -13,11 +14,16 @@ ghost use Rattle.asm_units.specs.Emitting.{all_emitted, emitted_of};
 use crate::beside::Beside;
 use crate::emitted::Emitted;
 use arm_isa::ArmInstr;
-use asm_instructions::{arm_instruction, branch_symbol, pseudo_instructions};
-use asm_model::{ArmLine, PseudoLine};
+use asm_instructions::{
+    arm_instruction, branch_symbol, link_symbol, pseudo_instructions, thumb_instruction,
+    thumb_pseudo_instruction,
+};
+use asm_model::{ArmLine, PseudoLine, ThumbLine};
 use sdt_fault::kinds::LineKind;
 use sdt_fault::{List, NoMemory, Text};
+use source_model::ThumbCode;
 use std::alloc::Global;
+use thumb_isa::ThumbInstr;
 
 fn one(alloc: Global, unit: Emitted) -> Result<Vec<Emitted>, NoMemory>
     ensures { IfOk result (λ us. map emitted_of us.items ≡ emitted_of unit ∷ []) }
@@ -97,8 +103,77 @@ fn all_units(
     }
 }
 
-/// The instructions of a pseudo-instruction in ARM state.
-pub fn pseudo(
+fn code_unit(symbol: Option<Text>, code: ThumbCode) -> Emitted
+    ensures { emitted_of result ≡ units.code_unit symbol code }
+{
+    match code {
+        ThumbCode::One(instruction) => Emitted::Half(instruction),
+        ThumbCode::Pair(first, second) => Emitted::LinkPair {
+            first,
+            second,
+            symbol,
+        },
+    }
+}
+
+fn code_units(
+    alloc: Global,
+    symbol: Option<Text>,
+    code: Result<ThumbCode, LineKind>,
+) -> Result<Result<Vec<Emitted>, LineKind>, NoMemory>
+    ensures { IfOk result (λ us. all_emitted us ≡ mapped (λ i. units.code_unit symbol i ∷ []) code) }
+{
+    match code {
+        Ok(code) => {
+            let units = one(alloc, code_unit(symbol, code))?;
+            Ok(Ok(units))
+        }
+        Err(kind) => Ok(Err(kind)),
+    }
+}
+
+/// What a line of Thumb state says.
+pub fn thumb(
+    alloc: Global,
+    beside: &Beside<'_>,
+    line: &ThumbLine,
+) -> Result<Result<Vec<Emitted>, LineKind>, NoMemory>
+    requires { ThumbSaid line.now }
+    ensures { IfOk result (λ us. (c : Context) → Shows beside.now.scene c → all_emitted us ≡ mapped (λ i. units.code_unit (units.link_symbol c line.now) i ∷ []) (halves.thumb_instruction c line.now)) }
+{
+    let code = thumb_instruction(alloc, &beside.scene, line)?;
+    let symbol = link_symbol(alloc, &beside.scene, line)?;
+    code_units(alloc, symbol, code)
+}
+
+fn half_units(
+    alloc: Global,
+    instruction: Result<ThumbInstr, LineKind>,
+) -> Result<Result<Vec<Emitted>, LineKind>, NoMemory>
+    ensures { IfOk result (λ us. all_emitted us ≡ mapped (λ i. units.Half i ∷ []) instruction) }
+{
+    match instruction {
+        Ok(instruction) => {
+            let units = one(alloc, Emitted::Half(instruction))?;
+            Ok(Ok(units))
+        }
+        Err(kind) => Ok(Err(kind)),
+    }
+}
+
+fn thumb_pseudo(
+    alloc: Global,
+    beside: &Beside<'_>,
+    line: &PseudoLine,
+) -> Result<Result<Vec<Emitted>, LineKind>, NoMemory>
+    requires { PseudoSaid line.now }
+    ensures { IfOk result (λ us. (c : Context) → Shows beside.now.scene c → all_emitted us ≡ mapped (λ i. units.Half i ∷ []) (halves.thumb_pseudo c beside.now.word line.now)) }
+{
+    let instruction = thumb_pseudo_instruction(alloc, &beside.scene, beside.word, line)?;
+    half_units(alloc, instruction)
+}
+
+fn arm_pseudo(
     alloc: Global,
     beside: &Beside<'_>,
     line: &PseudoLine,
@@ -108,4 +183,19 @@ pub fn pseudo(
 {
     let instructions = pseudo_instructions(alloc, &beside.scene, beside.word, line)?;
     all_units(alloc, instructions)
+}
+
+/// The instructions of a pseudo-instruction, in its line's state.
+pub fn pseudo(
+    alloc: Global,
+    beside: &Beside<'_>,
+    line: &PseudoLine,
+) -> Result<Result<Vec<Emitted>, LineKind>, NoMemory>
+    requires { PseudoSaid line.now }
+    ensures { IfOk result (λ us. (c : Context) → Shows beside.now.scene c → all_emitted us ≡ units.pseudo_units c.line.thumb c beside.now.word line.now) }
+{
+    if beside.scene.line.thumb {
+        return thumb_pseudo(alloc, beside, line);
+    }
+    arm_pseudo(alloc, beside, line)
 }

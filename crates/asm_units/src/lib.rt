@@ -15,7 +15,6 @@ pub mod records;
 mod second_pass;
 mod statements;
 pub mod symbols;
-mod trees;
 mod words;
 
 pub use crate::beside::Beside;

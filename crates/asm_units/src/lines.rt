@@ -6,17 +6,16 @@ ghost use Rattle.asm_names.specs.Lines.{line_of, Sees};
 ghost use Rattle.asm_model.specs.AtLine.{SourceLine};
 ghost use Rattle.asm_model.specs.Extents.{Extent};
 ghost use Rattle.asm_model.specs.Symbols as model;
-ghost use Rattle.said_model.specs.Said.{ArmSaid, DirectiveSaid, WhatSaid};
-ghost use Rattle.source_model.specs.Contexts.{Context, sees, value_of};
-ghost use Rattle.asm_instructions.specs.Scenes.{Shows, context_of};
+ghost use Rattle.said_model.specs.Said.{ArmSaid, DirectiveSaid, ThumbSaid, WhatSaid};
+ghost use Rattle.source_model.specs.Contexts.{Context};
+ghost use Rattle.asm_instructions.specs.Scenes.{Shows};
 ghost use Rattle.asm_units.specs.Literals.{literal_in};
 ghost use Rattle.asm_units.specs.Listing.{statement_symbols};
 
 use crate::needs::{add_branch, add_literal, add_name, add_words};
 use crate::symbols::Symbols;
-use crate::trees::is_read;
 use asm_instructions::Scene;
-use asm_model::{ArmLine, DirectiveLine, Expr, ThumbLine, Value, What};
+use asm_model::{ArmLine, DirectiveLine, ThumbLine, Value, What};
 use asm_names::{KnownNames, PlacedLine};
 use sdt_fault::NoMemory;
 use std::alloc::Global;
@@ -56,31 +55,17 @@ fn add_arm(
     }
 }
 
-/// The symbol that a branch to any items needs; items that are no expression have no value.
-fn add_target(
-    alloc: Global,
-    symbols: &mut Symbols,
-    scene: &Scene<'_>,
-    target: &Expr,
-) -> Result<(), NoMemory>
-    ensures { OnOk result (symbols.new ≡ model.listed_behind symbols.old (model.branch_symbols (sees (context_of scene.now)) (value_of (context_of scene.now) target.now))) }
-{
-    if is_read(target) {
-        return add_branch(alloc, symbols, scene, target);
-    }
-    Ok(())
-}
-
 fn add_thumb(
     alloc: Global,
     symbols: &mut Symbols,
     scene: &Scene<'_>,
     line: &ThumbLine,
 ) -> Result<(), NoMemory>
+    requires { ThumbSaid line.now }
     ensures { OnOk result (symbols.new ≡ model.listed_behind symbols.old (model.thumb_symbols scene.now.names.now (line_of scene.now.line.now) line.now)) }
 {
     match line {
-        ThumbLine::BranchLink { target } => add_target(alloc, symbols, scene, target),
+        ThumbLine::BranchLink { target } => add_branch(alloc, symbols, scene, target),
         _ => Ok(()),
     }
 }

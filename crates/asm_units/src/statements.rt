@@ -14,7 +14,7 @@ ghost use Rattle.asm_units.specs.Showing.{ShowsBeside};
 use crate::beside::Beside;
 use crate::bytes::{bytes, halves};
 use crate::emitted::Emitted;
-use crate::instructions::{arm, pseudo};
+use crate::instructions::{arm, pseudo, thumb};
 use crate::words::words;
 use asm_model::{DirectiveLine, What};
 use sdt_fault::NoMemory;
@@ -61,7 +61,7 @@ pub fn units(
     match what {
         What::Nothing => Ok(Ok(Vec::new(alloc))),
         What::Arm(line) => arm(alloc, beside, line),
-        What::Thumb(_) => Ok(Err(LineKind::Syntax)),
+        What::Thumb(line) => thumb(alloc, beside, line),
         What::Pseudo(line) => pseudo(alloc, beside, line),
         What::Directive(line) => directive(alloc, beside, line),
     }

@@ -15,7 +15,7 @@ emit-requires c =
         texts = fit.texts;
         fit = fit.fit;
         sound = sound.none;
-        arm = c.sources_stay_in_arm_state.ensures (said_by c.args.reading) fit.arm;
+        states = c.sources_keep_states.ensures (said_by c.args.reading) fit.states;
         few = few_behind c.args.reading.statements.items c.requires.few;
       };
     }
@@ -25,4 +25,4 @@ returns-clause-made c =
     let fit = c.requires.fit in
     let sound = c.in_ok-layout.ensures.1 in
     makes c.args.source.now c.args.reading c.emit.result c.in_ok-layout.ensures.0
-    (c.emit.ensures.emitted (said_by c.args.reading) sound.layout fit.said sound.none (c.sources_stay_in_arm_state.ensures (said_by c.args.reading) fit.arm))
+    (c.emit.ensures.emitted (said_by c.args.reading) sound.layout fit.said sound.none (c.sources_keep_states.ensures (said_by c.args.reading) fit.states))

@@ -83,7 +83,7 @@ lines-preserved c =
     let put = c.in_ok-units-in-len1-up.ensures statements n.before n.rest n.line
     (subst (λ (areas : List LaidArea). IsHere statements areas w known n.before n.rest n.line x) (sym c.as_slice-areas.ensures) n.here) in
     let pieces = put_there statements l w names x more known gs n u us c.as_slice.ensures.value put in
-    let apart = apart_there c.sources_stand_apart.ensures statements j.sound j.arm n.before n.rest n.line x.area
+    let apart = apart_there c.sources_stand_apart.ensures statements j.sound j.states n.before n.rest n.line x.area
     (pieces_put x.offset us u.literal) n.here.parts n.here.line.area pieces in
     grown_more statements l w names x more known c.give.new.known gs c.put_line.new.growing.items n u us c.as_slice.ensures.value put
     (c.in_ok-put_line-in-len1-up.ensures.more (λ area. things_behind (source_of statements) area n.before (n.line ∷ n.rest)) n.drafts apart)

@@ -17,14 +17,14 @@ grown-requires-clause-few c =
     (c.in_ok-symbols.ensures.records s.statements s.layout s.sound whole listed) c.in_ok-symbols.ensures.few
 
 pub returns-clause-emitted : goal.returns-clause-emitted
-returns-clause-emitted c = λ statements layout said sound arm.
+returns-clause-emitted c = λ statements layout said sound states.
     let l = c.args.layout.now in
     let w = c.in_ok-whole.whole in
     let gs = c.in_ok-growing.growing.items in
     let areas = c.in_ok-areas.areas in
     let whole = c.in_ok-whole.ensures statements layout in
     let listed = c.in_ok-needed.ensures statements layout said sound whole in
-    let j : IsEmittable statements l w = record { layout = layout; said = said; sound = sound; arm = arm; whole = whole } in
+    let j : IsEmittable statements l w = record { layout = layout; said = said; sound = sound; states = states; whole = whole } in
     let grown = c.in_ok-growing.ensures.grown statements j in (
       grown.0,
       record {

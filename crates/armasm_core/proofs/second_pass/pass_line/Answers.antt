@@ -2,7 +2,7 @@ use Rattle.asm_model.specs.Laid.{laid, pieces_of, taken}
 use Rattle.asm_model.specs.Marks.{datum_names}
 use Rattle.asm_model.specs.Offsets.{area_size}
 use Rattle.armasm_core.specs.Whole.{context_there, word_there}
-use Rattle.armasm_core.proofs.PutLemmas.{put_there, told_there}
+use Rattle.armasm_core.proofs.PutLemmas.{LinesFit, put_there, told_there}
 use Rattle.armasm_core.proofs.second_pass.pass_line.Goals as goal
 
 pub returns-in-Ok : goal.returns-in-Ok
@@ -12,7 +12,13 @@ returns-in-Ok c = λ statements before rest l h.
     let known = c.args.registers.now in
     let x = c.args.laid.now in
     let shows = c.beside_of-beside.ensures statements before rest l h in
-    put_there statements areas w known before rest l x h c.instructions_fit.ensures c.pseudo_instructions_fit.ensures c.beside_of-beside.result c.in_ok-passed.passed
+    let laws : LinesFit = record {
+      arm = c.instructions_fit.ensures;
+      pseudo = c.pseudo_instructions_fit.ensures;
+      thumb = c.thumb_instructions_fit.ensures;
+      thumb_pseudo = c.thumb_pseudo_instructions_fit.ensures;
+    } in
+    put_there statements areas w known before rest l x h laws c.beside_of-beside.result c.in_ok-passed.passed
     c.in-Ok.units c.requires shows c.in-Ok.is
     (c.in_ok-passed.ensures (context_there statements before l) (datum_names statements) (λ area. area_size area (pieces_of (laid statements))) l.seen
     (word_there before rest l) (taken l.extent) shows (c.loaded_of-literal.ensures statements w known before rest l h))

@@ -7,7 +7,7 @@ use Rattle.std.proofs.lemmas.Result.{on_ok_weaker}
 use Rattle.sdt_word.specs.Bytes.{written}
 use Rattle.source_model.specs.Objects.{unit_bytes}
 use Rattle.asm_units.specs.Emitting.{emitted_of}
-use Rattle.armasm_core.specs.Relocations.{noted}
+use Rattle.armasm_core.specs.Relocations.{noted, relocation}
 use Rattle.armasm_core.proofs.DraftLemmas.{draft_more}
 use Rattle.armasm_core.proofs.drafts.Draft.put.Goals as goal
 
@@ -19,5 +19,6 @@ returns-clause-more c =
     (record { bytes = with_items c.args.self.now.bytes c.put_unit.new.bytes; relocs = c.note.new.relocs }) is none c.requires.stands.inside
     (with_items_is c.args.self.now.bytes c.put_unit.new.bytes (c.put_unit.auto.bytes ∙ ap length c.deref_mut.ensures.value ∙ sym c.args.self.now.bytes.ok.0)
     ∙ c.put_unit.ensures ∙ ap (λ (b : List ℕ). written b c.args.at (unit_bytes (emitted_of c.args.unit.now))) c.deref_mut.ensures.value)
-    (λ k. notes k ∙ ap (λ o. noted (get nat_cmp c.args.self.now.relocs k) c.args.at o k) c.relocation-relocation.ensures))
+    (λ k. notes k ∙ ap (λ o. noted (get nat_cmp c.args.self.now.relocs k) c.reloc_at-offset.result o k) c.relocation-relocation.ensures
+    ∙ ap (λ at. noted (get nat_cmp c.args.self.now.relocs k) at (relocation c.args.symbols.now (emitted_of c.args.unit.now)) k) c.reloc_at-offset.ensures))
     c.note.ensures

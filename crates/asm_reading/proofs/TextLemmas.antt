@@ -1,6 +1,6 @@
 -- Names that a line says have a character and hold no zero byte, only an area of code has the marks of code, and operands
 -- of DCD have no place as a constant.
-use Rattle.std.proofs.Common.{◌≡◌, ℕ, ◌==◌, List, [], ◌∷◌, ◌++◌, ◌||◌, ◌&&◌, not, Bool, true, false, cond, refl, subst, sym, Option, Some, None}
+use Rattle.std.proofs.Common.{◌≡◌, ℕ, List, [], ◌∷◌, ◌++◌, ◌||◌, ◌&&◌, not, Bool, true, false, cond, refl, Option, Some, None}
 use Rattle.std.specs.Prelude.{Result, Ok, Err}
 use Rattle.std.specs.List.{AllByRecursion}
 use Rattle.std.proofs.lemmas.Bool.{or_parts}
@@ -33,24 +33,24 @@ use Rattle.asm_model.specs.Grammar.{ParsesTokens}
 use Rattle.asm_model.specs.Kinds.{earlier}
 use Rattle.asm_model.specs.Operands.{operands}
 use Rattle.asm_model.specs.Parts.{piece}
-use Rattle.asm_model.specs.Says.{Form, bare, name, imported, expression, expressions, area, register, boundary, refused, form_of_directive, on_both, mapped, name_of, name_alone, weak_mark, import_of, register_alone, Expression, Expressions, SomeExpressions, Area, Register, Aligned, bare_of, Reads, label_of, label_field, Sentence, sentence, directive_of, statement_of, SaysAs, SaysDirective}
-use Rattle.asm_model.specs.Tokens.{first_due, Tokens, Scans}
-use Rattle.asm_model.specs.Labels.{field_defines, defined_by, imported_in}
+use Rattle.asm_model.specs.Says.{Form, bare, name, imported, expression, expressions, area, register, boundary, refused, form_of_directive, on_both, mapped, name_of, name_alone, weak_mark, import_of, register_alone, Expression, Expressions, SomeExpressions, Area, Register, Aligned, bare_of, Reads, label_of, label_field, Sentence, sentence, directive_of, statement_of, SaysAs}
+use Rattle.asm_model.specs.Labels.{field_defines, imported_in}
 use Rattle.asm_model.specs.PlacedLines.{HasName, HasImport}
-use Rattle.layout_laws.proofs.LineLemmas.{HasForm, EachHasForm, OptionHasForm, tokens_form, sentence_form}
+use Rattle.layout_laws.proofs.LineLemmas.{HasForm, EachHasForm, OptionHasForm}
 use Rattle.asm_model.specs.Sound.{HaveNoPlaces}
 use Rattle.layout_laws.proofs.SaidLemmas.{read_expressions_are_plain}
-use Rattle.asm_arm.specs.Says.{statement, alone, SaysWords, SaysOr, SaysScanned, SaysArm}
-use Rattle.asm_arm.specs.Words.{operation_named}
+use Rattle.asm_arm.specs.Says.{statement, alone}
 use Rattle.said_model.specs.Fit.{MarksAgree, AllPlaceless, DirectiveFits, IsFit}
 use Rattle.said_model.specs.Named.{LoadNamed}
-use Rattle.said_model.specs.Said.{directive_names, what_names, label_names, said_names, HoldsNoZero, HasTexts}
-use Rattle.asm_said.proofs.ArmLemmas.{InstructionSaid, instruction_said}
-use Rattle.asm_said.proofs.DirectiveLemmas.{any_gives}
-use Rattle.asm_said.proofs.FormLemmas.{AllHaveForm, operands_form}
-use Rattle.asm_said.proofs.GivesLemmas.{Gives, OptionGives, equal_gives, mapped_gives, both_give}
-use Rattle.asm_said.proofs.NameLemmas.{IsText, short_text, word_text}
-use Rattle.asm_said.proofs.WordLemmas.{operation_said}
+use Rattle.said_model.specs.Said.{directive_names, what_names, label_names, said_names, HoldsNoZero}
+use Rattle.asm_reading.specs.Laws.{LinesAreFit, LinesAreNamed, LinesHaveTexts, LoadsAreNamed}
+use Rattle.asm_reading.specs.Reading.{SaysBy}
+use Rattle.asm_reading.proofs.DirectiveLemmas.{any_gives}
+use Rattle.asm_reading.proofs.FormLemmas.{AllHaveForm, operands_form}
+use Rattle.asm_reading.proofs.GivesLemmas.{Gives, OptionGives, equal_gives, mapped_gives, both_give}
+use Rattle.asm_reading.proofs.InstructionLemmas.{InstructionIn}
+use Rattle.asm_reading.proofs.LineLemmas.{sentence_forms, ComesOf, directive as from_directive, label as from_label, instruction as from_instruction, comes_of}
+use Rattle.asm_reading.proofs.NameLemmas.{IsText, short_text, word_text}
 
 -- ---- names
 
@@ -256,48 +256,36 @@ says_directive_fine flat s (Some d) r f g h =
     (λ o l p q. (with_label o (directive_names l) p q.0, q.1, tt))
     (field_text (label_need d) flat.text s.label f) (form_fine flat.text (form_of_directive d) s.behind h.0 g (directive_fine d) h.1))
 
-pub instruction_fine : (flat : Flat) (o : Option (List ℕ)) (w : What) → OptionGives IsText o → InstructionSaid w → OptionGives StatementFine (statement flat o w)
-instruction_fine flat o what.Nothing h k = absurd k
-instruction_fine flat o (what.Arm l) h k = (with_label o [] h tt, tt, tt)
-instruction_fine flat o (what.Thumb l) h k = absurd k
-instruction_fine flat o (what.Pseudo l) h k = (with_label o [] h tt, tt, k.2)
-instruction_fine flat o (what.Directive l) h k = absurd k
+instruction_fine : (state : Bool) (flat : Flat) (o : Option (List ℕ)) (w : What) → OptionGives IsText o → InstructionIn state w → OptionGives StatementFine (statement flat o w)
+instruction_fine state flat o what.Nothing h k = absurd k
+instruction_fine state flat o (what.Arm l) h k = (with_label o [] h tt, tt, tt)
+instruction_fine state flat o (what.Thumb l) h k = (with_label o [] h tt, tt, tt)
+instruction_fine state flat o (what.Pseudo l) h k = (with_label o [] h tt, tt, k.2)
+instruction_fine state flat o (what.Directive l) h k = absurd k
 
-pub alone_fine : (flat : Flat) (label : Option Token) → OptionHasForm flat.text label → Gives (OptionGives StatementFine) (alone flat label)
+alone_fine : (flat : Flat) (label : Option Token) → OptionHasForm flat.text label → Gives (OptionGives StatementFine) (alone flat label)
 alone_fine flat None f = tt
 alone_fine flat (Some t) f =
     mapped_gives (OptionGives IsText) (OptionGives StatementFine) (λ o. statement flat o what.Nothing) (label_field need.Optional flat.text (Some t))
     (λ o p. (with_label o [] p tt, tt, tt)) (field_text need.Optional flat.text (Some t) f)
 
-pub words_fine : (flat : Flat) (label o : Option Token) (ts : List Token) (r : Result (Option Statement) LineKind) → OptionHasForm flat.text label
-    → EachHasForm flat.text ts → SaysWords flat label o ts r → Gives (OptionGives StatementFine) r
-words_fine flat label None ts r f g h = equal_gives (OptionGives StatementFine) r (alone flat label) h (alone_fine flat label f)
-words_fine flat label (Some t) ts r f g h =
-    let field = label_field need.Optional flat.text label in
-    let word = operation_named (piece flat.text t) in
-    equal_gives (OptionGives StatementFine) r (on_both (statement flat) field h.0) h.2
-    (both_give (OptionGives IsText) InstructionSaid (OptionGives StatementFine) (statement flat) field h.0 (instruction_fine flat)
-    (field_text need.Optional flat.text label f) (instruction_said flat.text word ts h.0 (operation_said (piece flat.text t)) g h.1))
-
 -- ---- lines
 
-pub or_fine : (flat : Flat) (ts : List Token) (d : Result (Option Statement) LineKind) (s : Statement) → Tokens flat.text ts → SaysDirective flat ts d
-    → SaysOr flat ts d (Ok (Some s)) → StatementFine s
-or_fine flat ts (Ok None) s tokens says h =
-    let forms = sentence_form flat.text ts (tokens_form flat.text ts (first_due flat.text) 0 flat.text refl tokens) in
-    words_fine flat (sentence ts).label (sentence ts).operation (sentence ts).behind (Ok (Some s)) forms.0 forms.1 h
-or_fine flat ts (Ok (Some m)) s tokens says h =
-    let forms = sentence_form flat.text ts (tokens_form flat.text ts (first_due flat.text) 0 flat.text refl tokens) in
-    says_directive_fine flat (sentence ts) (directive_of flat.text (sentence ts).operation) (Ok (Some s)) forms.0 forms.1
-    (subst (SaysDirective flat ts) (sym h) says)
-or_fine flat ts (Err k) s tokens says h = absurd (cc)
+line_fine : (state : Bool) (flat : Flat) (s : Statement) → ComesOf state flat s → StatementFine s
+line_fine state flat s (from_directive ts tokens h) =
+    let forms = sentence_forms flat.text ts tokens in
+    says_directive_fine flat (sentence ts) (directive_of flat.text (sentence ts).operation) (Ok (Some s)) forms.0 forms.1 h
+line_fine state flat s (from_label ts tokens h) =
+    equal_gives (OptionGives StatementFine) (Ok (Some s)) (alone flat (sentence ts).label) h
+    (alone_fine flat (sentence ts).label (sentence_forms flat.text ts tokens).0)
+line_fine state flat s (from_instruction ts tokens w k h) =
+    let field = label_field need.Optional flat.text (sentence ts).label in
+    equal_gives (OptionGives StatementFine) (Ok (Some s)) (on_both (statement flat) field w) h
+    (both_give (OptionGives IsText) (InstructionIn state) (OptionGives StatementFine) (statement flat) field w (instruction_fine state flat)
+    (field_text need.Optional flat.text (sentence ts).label (sentence_forms flat.text ts tokens).0) k)
 
-pub scanned_fine : (flat : Flat) (scan : Result (List Token) LineKind) (s : Statement) → Scans flat.text scan → SaysScanned flat scan (Ok (Some s)) → StatementFine s
-scanned_fine flat (Ok ts) s scans h = or_fine flat ts h.0 s scans.0 h.1 h.2
-scanned_fine flat (Err k) s scans h = absurd (cc)
-
-pub lines_are_fine : (flat : Flat) (s : Statement) → SaysArm flat (Ok (Some s)) → StatementFine s
-lines_are_fine flat s h = scanned_fine flat h.0 s h.1 h.2
+pub lines_are_fine : (state : Bool) (flat : Flat) (s : Statement) → SaysBy state flat (Ok (Some s)) → StatementFine s
+lines_are_fine state flat s h = line_fine state flat s (comes_of state flat s h)
 
 -- ---- what is asked of names
 
@@ -305,8 +293,8 @@ pub no_zeroes : (ns : List (List ℕ)) → AllByRecursion IsText ns → AllByRec
 no_zeroes [] h = tt
 no_zeroes (n ∷ ns) h = (h.0.0, no_zeroes ns h.1)
 
-pub lines_have_texts : (flat : Flat) (s : Statement) → SaysArm flat (Ok (Some s)) → HasTexts s
-lines_have_texts flat s h = no_zeroes (said_names s) (lines_are_fine flat s h).0
+pub lines_have_texts : LinesHaveTexts
+lines_have_texts state flat s h = no_zeroes (said_names s) (lines_are_fine state flat s h).0
 
 pub defined_named : (o : Option (List ℕ)) (w : What) → AllByRecursion IsText (label_names o ++ what_names w) → HasName (field_defines o w)
 defined_named None w h = tt
@@ -323,9 +311,12 @@ imported_named None (what.Directive (line.Extern n weak)) h = h.0.1
 imported_named (Some n) (what.Directive (line.Extern m weak)) h = h.1.0.1
 imported_named o w h = tt
 
-pub lines_are_named : (flat : Flat) (s : Statement) → SaysArm flat (Ok (Some s)) → HasName (defined_by s) × HasImport (imported_in s.what)
-lines_are_named flat s h =
-    let texts = (lines_are_fine flat s h).0 in (defined_named s.label s.what texts, imported_named s.label s.what texts)
+pub lines_are_named : LinesAreNamed
+lines_are_named state flat s h =
+    let texts = (lines_are_fine state flat s h).0 in (defined_named s.label s.what texts, imported_named s.label s.what texts)
 
-pub loads_are_named : (flat : Flat) (s : Statement) → SaysArm flat (Ok (Some s)) → LoadNamed s.what
-loads_are_named flat s h = (lines_are_fine flat s h).2
+pub loads_are_named : LoadsAreNamed
+loads_are_named state flat s h = (lines_are_fine state flat s h).2
+
+pub lines_are_fit : LinesAreFit
+lines_are_fit state flat s h = (lines_are_fine state flat s h).1

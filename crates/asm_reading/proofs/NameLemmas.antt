@@ -10,7 +10,7 @@ use Rattle.asm_model.specs.PlacedLines.{IsName}
 use Rattle.layout_laws.proofs.LineLemmas.{HasForm}
 use Rattle.layout_laws.proofs.SaidLemmas.{form_name, form_barred, no_between}
 use Rattle.said_model.specs.Said.{HoldsNoZero}
-use Rattle.asm_said.proofs.GivesLemmas.{Gives}
+use Rattle.asm_reading.proofs.GivesLemmas.{Gives}
 
 -- ---- bytes
 

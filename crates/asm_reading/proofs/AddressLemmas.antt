@@ -20,10 +20,10 @@ use Rattle.asm_arm.specs.declared.addresses.Addressed.{Addressed}
 use Rattle.asm_arm.specs.Addresses.{signed_by, signed_register, number_shift, ReadsPlainOffset, ReadsOffset, at, ReadsAt, ReadsScaledAt, ReadsInside, bracketed, before_of, ReadsBracketed, ReadsBefore, base, ReadsBehind, ReadsAfter, translated_of, is_base, refused, translated_before, before_as, after_as, unshifted, half_offset}
 use Rattle.asm_arm.specs.Operands.{Cuts, none, one, two, three, four, more, cut, followed, without_first, register}
 use Rattle.said_model.specs.Said.{IsRead, RegisterSaid, ShiftSaid, HalfOffsetSaid, IsUntranslated}
-use Rattle.asm_said.proofs.FormLemmas.{CutsHaveForm, SomeHaveForm, cuts_form, without_first_form, bracketed_form, base_form}
-use Rattle.asm_said.proofs.GivesLemmas.{Gives, equal_gives, mapped_gives, both_give}
-use Rattle.asm_said.proofs.OperandLemmas.{expression_gives, register_said, ScaleSaid, scale_said}
-use Rattle.asm_said.proofs.ReadLemmas.{zero_read}
+use Rattle.asm_reading.proofs.FormLemmas.{CutsHaveForm, SomeHaveForm, cuts_form, without_first_form, bracketed_form, base_form}
+use Rattle.asm_reading.proofs.GivesLemmas.{Gives, equal_gives, mapped_gives, both_give}
+use Rattle.asm_reading.proofs.OperandLemmas.{expression_gives, register_said, ScaleSaid, scale_said}
+use Rattle.asm_reading.proofs.ExpressionLemmas.{zero_read}
 
 -- a reading of a reading
 pub followed_gives : {A B : Type 0} (P : A → Type 0) (Q : B → Type 0) (r : Result A LineKind) (f : A → Result B LineKind)

@@ -1,5 +1,5 @@
 -- Names in expressions that tokens spell have a character.
-use Rattle.std.proofs.Common.{◌≡◌, ℕ, suc, ◌^◌, ◌==◌, nat_lt, List, [], ◌∷◌, ◌++◌, map, Bool, true, false, cond, refl, sym, subst, Some}
+use Rattle.std.proofs.Common.{◌≡◌, ℕ, suc, ◌^◌, ◌==◌, nat_lt, List, [], ◌∷◌, ◌++◌, map, Bool, true, false, cond, sym, subst, Some}
 use Rattle.std.specs.Prelude.{Result, Ok, Err}
 use Rattle.sdt_fault.specs.declared.kinds.LineKind.{LineKind}
 use Rattle.asm_model.specs.declared.exprs.Expr.{Expr}
@@ -18,9 +18,9 @@ use Rattle.layout_laws.proofs.LineLemmas.{HasForm, EachHasForm}
 use Rattle.layout_laws.proofs.SaidLemmas.{read_expressions_are_plain}
 use Rattle.said_model.specs.Named.{ItemNamed, AllItemsNamed}
 use Rattle.said_model.specs.Said.{IsRead}
-use Rattle.asm_said.proofs.GivesLemmas.{Gives}
-use Rattle.asm_said.proofs.NameLemmas.{word_text}
-use Rattle.asm_said.proofs.ReadLemmas.{expressions_are_read}
+use Rattle.asm_reading.proofs.GivesLemmas.{Gives}
+use Rattle.asm_reading.proofs.NameLemmas.{word_text}
+use Rattle.asm_reading.proofs.ExpressionLemmas.{expressions_are_read}
 
 -- ---- parts
 

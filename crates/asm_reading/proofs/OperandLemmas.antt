@@ -1,5 +1,5 @@
 -- Registers and second operands: numbers of registers are below 16.
-use Rattle.std.proofs.Common.{ℕ, ◌<◌, List, [], ◌∷◌, refl, arith, Option, Some, None}
+use Rattle.std.proofs.Common.{ℕ, ◌<◌, List, [], ◌∷◌, arith, Option, Some, None}
 use Rattle.std.specs.Prelude.{codes, Result, Ok, Err}
 use Rattle.sdt_fault.specs.declared.kinds.LineKind.{LineKind}
 use Rattle.sdt_fault.specs.declared.kinds.LineKind.TheVariants.{Syntax}
@@ -13,7 +13,7 @@ use Rattle.asm_model.specs.declared.operands.Shift.TheVariants as shift
 use Rattle.asm_model.specs.Grammar.{ParsesTokens}
 use Rattle.asm_model.specs.Parts.{piece}
 use Rattle.asm_model.specs.Registers.{numbered_register, special_register, call_register, register_named}
-use Rattle.asm_model.specs.Says.{on_both, mapped, between_bars, Expression}
+use Rattle.asm_model.specs.Says.{on_both, mapped, Expression}
 use Rattle.asm_model.specs.Tokens.{is_called}
 use Rattle.layout_laws.proofs.LineLemmas.{EachHasForm}
 use Rattle.asm_arm.specs.declared.operands.Scale.{Scale}
@@ -22,9 +22,9 @@ use Rattle.asm_arm.specs.declared.operands.Second.{Second}
 use Rattle.asm_arm.specs.declared.operands.Second.TheVariants as second
 use Rattle.asm_arm.specs.Operands.{without_first, named, register_of, register, shift_named, extended, ReadsAmount, ReadsKind, ReadsScale, scaled, ReadsPlain, ReadsSecond}
 use Rattle.said_model.specs.Said.{IsRead, RegisterSaid, ShiftSaid}
-use Rattle.asm_said.proofs.FormLemmas.{SomeHaveForm}
-use Rattle.asm_said.proofs.GivesLemmas.{Gives, OptionGives, equal_gives, mapped_gives, both_give, cond_gives, or_else_gives, option_gives}
-use Rattle.asm_said.proofs.ReadLemmas.{expressions_are_read}
+use Rattle.asm_reading.proofs.FormLemmas.{SomeHaveForm}
+use Rattle.asm_reading.proofs.GivesLemmas.{Gives, OptionGives, equal_gives, mapped_gives, both_give, cond_gives, or_else_gives, option_gives}
+use Rattle.asm_reading.proofs.ExpressionLemmas.{expressions_are_read}
 
 -- ---- expressions
 

@@ -23,8 +23,8 @@ use Rattle.asm_model.specs.Operands.{operands}
 use Rattle.asm_model.specs.Parts.{piece}
 use Rattle.asm_model.specs.Says.{Form, bare, name, imported, expression, expressions, area, register, boundary, refused, form_of_directive, on_both, mapped, name_alone, import_of, register_alone, Expressions, SomeExpressions, Area, Register, Aligned, bare_of, Reads}
 use Rattle.said_model.specs.Said.{IsRead, AllRead, OptionRead, DirectiveSaid}
-use Rattle.asm_said.proofs.GivesLemmas.{Gives, OptionGives, equal_gives, mapped_gives, both_give, cond_gives}
-use Rattle.asm_said.proofs.OperandLemmas.{parsed_read, expression_gives, IsRegister, register_small}
+use Rattle.asm_reading.proofs.GivesLemmas.{Gives, OptionGives, equal_gives, mapped_gives, both_give, cond_gives}
+use Rattle.asm_reading.proofs.OperandLemmas.{parsed_read, expression_gives, IsRegister, register_small}
 
 -- ---- attributes of areas
 

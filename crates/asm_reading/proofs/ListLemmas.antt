@@ -18,10 +18,10 @@ use Rattle.layout_laws.proofs.LineLemmas.{EachHasForm}
 use Rattle.asm_arm.specs.Lists.{base, range, range_of, item, items, pc_alone, is_pc, content, list, list_marked, register_list, status_begun, or_bad, occurrences, are_fields, fields_with, fields_named, with_fields, fields_of, fields}
 use Rattle.asm_arm.specs.Operands.{both, marked, between, register, register_of}
 use Rattle.said_model.specs.Said.{RegisterSaid, ItemSaid, AllItemsSaid}
-use Rattle.asm_said.proofs.AddressLemmas.{followed_gives}
-use Rattle.asm_said.proofs.FormLemmas.{AllHaveForm, SomeHaveForm, operands_at_form, marked_form, between_form}
-use Rattle.asm_said.proofs.GivesLemmas.{Gives, OptionGives, mapped_gives, both_give, cond_gives}
-use Rattle.asm_said.proofs.OperandLemmas.{register_of_said, register_said}
+use Rattle.asm_reading.proofs.AddressLemmas.{followed_gives}
+use Rattle.asm_reading.proofs.FormLemmas.{AllHaveForm, SomeHaveForm, operands_at_form, marked_form, between_form}
+use Rattle.asm_reading.proofs.GivesLemmas.{Gives, OptionGives, mapped_gives, both_give, cond_gives}
+use Rattle.asm_reading.proofs.OperandLemmas.{register_of_said, register_said}
 
 -- ---- bases
 

@@ -11,7 +11,7 @@ use Rattle.asm_arm.specs.declared.words.Mnemonic.{Mnemonic}
 use Rattle.asm_arm.specs.declared.words.Mnemonic.TheVariants as mnemonic
 use Rattle.asm_arm.specs.Words.{data_stem, multiply_stem, long_stem, transfer_stem, block_stem, plain_stem, branch_stem, float_arithmetic, float_functions, float_transfers, float_compare, float_block, swap_stem, long_address_stem, short_branch_stem, idle_word, flags_suffix, byte_suffix, word_suffix, store_half, ending, conditioned, stemmed, bare_suffix, data_flags, data_suffix, multiply_suffix, long_suffix, half_of, word_of, half_suffix, transfer_suffix, mode_suffix, block_of, block_suffix, is_float_suffix, float_suffix, float_mode, float_block_suffix, swap_of, swap_suffix, data_named, multiply_named, long_named, transfer_named, block_named, swap_named, plain_named, long_address_named, branch_named, idle_named, float_stem, float_named, moving_named, other_named, operation_named}
 use Rattle.said_model.specs.Said.{HalfSaid}
-use Rattle.asm_said.proofs.GivesLemmas.{OptionGives, or_else_gives, option_gives}
+use Rattle.asm_reading.proofs.GivesLemmas.{OptionGives, or_else_gives, option_gives}
 
 abbrev pub FlagsSaid : Operation → Bool → Type 0
 FlagsSaid operation.Tst s = s ≡ true

@@ -1,5 +1,5 @@
 -- The lines of ARM state, form by form.
-use Rattle.std.proofs.Common.{◌≡◌, ℕ, ◌==◌, ◌&&◌, List, [], ◌∷◌, Bool, true, false, refl, arith, Option, Some, None}
+use Rattle.std.proofs.Common.{◌≡◌, ℕ, ◌==◌, ◌&&◌, List, Bool, true, false, refl, arith, Option, Some, None}
 use Rattle.std.specs.Prelude.{Result, Ok, Err}
 use Rattle.sdt_fault.specs.declared.kinds.LineKind.{LineKind}
 use Rattle.sdt_fault.specs.declared.kinds.LineKind.TheVariants.{Syntax, UnknownWord, FloatingPoint, BadOperand}
@@ -33,31 +33,26 @@ use Rattle.asm_arm.specs.Lines.{hash, equals, bracket, data_line, absent, ReadsD
 use Rattle.asm_arm.specs.Lists as lists
 use Rattle.asm_arm.specs.Operands.{Cuts, none, one, two, three, four, more, cut, both, followed, without_first, no_register, register}
 use Rattle.asm_arm.specs.Words.{shape_of}
-use Rattle.said_model.specs.Named.{LoadNamed}
-use Rattle.said_model.specs.Said.{IsRead, RegisterSaid, OperationSaid, HalfSaid, HalfOffsetSaid, ArmSaid, PseudoSaid, LoadsPlain}
-use Rattle.asm_said.proofs.AddressLemmas.{followed_gives, OffsetSaid, AddressedSaid, PlacedSaid, before_said, after_said, before_as_said, after_as_said, half_offset_said}
-use Rattle.asm_said.proofs.LoadedLemmas.{IsLoaded, parsed_loaded}
-use Rattle.asm_said.proofs.DirectiveLemmas.{any_gives}
-use Rattle.asm_said.proofs.FormLemmas.{CutsHaveForm, SomeHaveForm, cuts_form, without_first_form, base_form}
-use Rattle.asm_said.proofs.GivesLemmas.{Gives, OptionGives, equal_gives, mapped_gives, both_give, cond_gives}
-use Rattle.asm_said.proofs.ListLemmas.{BaseSaid, base_said, PairSaid, ListSaid, register_list_said, FieldsSaid, fields_said}
-use Rattle.asm_said.proofs.OperandLemmas.{parsed_read, expression_gives, register_said, SecondSaid, second_said}
-use Rattle.asm_said.proofs.ReadLemmas.{zero_read}
-use Rattle.asm_said.proofs.WordLemmas.{FlagsSaid, MnemonicSaid, WordSaid}
+use Rattle.said_model.specs.Said.{IsRead, RegisterSaid, OperationSaid, HalfSaid, HalfOffsetSaid}
+use Rattle.asm_reading.proofs.AddressLemmas.{followed_gives, OffsetSaid, AddressedSaid, PlacedSaid, before_said, after_said, before_as_said, after_as_said, half_offset_said}
+use Rattle.asm_reading.proofs.LoadedLemmas.{IsLoaded, parsed_loaded}
+use Rattle.asm_reading.proofs.DirectiveLemmas.{any_gives}
+use Rattle.asm_reading.proofs.FormLemmas.{CutsHaveForm, SomeHaveForm, cuts_form, without_first_form, base_form}
+use Rattle.asm_reading.proofs.GivesLemmas.{Gives, OptionGives, equal_gives, mapped_gives, both_give, cond_gives}
+use Rattle.asm_reading.proofs.InstructionLemmas.{InstructionIn, SaidIn, fault_in, idle_in}
+use Rattle.asm_reading.proofs.ListLemmas.{BaseSaid, base_said, PairSaid, ListSaid, register_list_said, FieldsSaid, fields_said}
+use Rattle.asm_reading.proofs.OperandLemmas.{parsed_read, expression_gives, register_said, SecondSaid, second_said}
+use Rattle.asm_reading.proofs.ExpressionLemmas.{zero_read}
+use Rattle.asm_reading.proofs.WordLemmas.{FlagsSaid, MnemonicSaid, WordSaid}
 
--- what is asked of an instruction or a pseudo-instruction
 abbrev pub InstructionSaid : What → Type 0
-InstructionSaid what.Nothing = ⊥
-InstructionSaid (what.Arm l) = ArmSaid l
-InstructionSaid (what.Thumb l) = ⊥
-InstructionSaid (what.Pseudo l) = PseudoSaid l × LoadsPlain (what.Pseudo l) × LoadNamed (what.Pseudo l)
-InstructionSaid (what.Directive l) = ⊥
+InstructionSaid w = InstructionIn false w
 
 abbrev pub Said : Result What LineKind → Type 0
-Said r = Gives InstructionSaid r
+Said r = SaidIn false r
 
 pub fault_said : (k : LineKind) (r : Result What LineKind) → r ≡ Err k → Said r
-fault_said k r h = equal_gives InstructionSaid r (Err k) h tt
+fault_said k r h = fault_in false k r h
 
 pub pair_said : (a b : Result Register LineKind) → Gives RegisterSaid a → Gives RegisterSaid b → Gives PairSaid (both a b)
 pair_said a b h k = both_give RegisterSaid RegisterSaid PairSaid (λ x y. (x, y)) a b (λ x y p q. (p, q)) h k
@@ -342,10 +337,6 @@ long_address_said text c (three d x y) r f h = fault_said Syntax r h
 long_address_said text c (four d x y z) r f h = fault_said Syntax r h
 long_address_said text c more r f h = fault_said Syntax r h
 
-pub idle_said : (ts : List Token) → Said (idle ts)
-idle_said [] = (tt, tt, tt)
-idle_said (t ∷ ts) = tt
-
 -- ---- all forms
 
 pub word_said : (text : List ℕ) (m : Mnemonic) (c : Condition) (ts : List Token) (r : Result What LineKind) → MnemonicSaid m → EachHasForm text ts
@@ -372,7 +363,7 @@ word_said text mnemonic.SoftwareInterrupt c ts r k f h =
     expression_gives InstructionSaid text (λ e. what.Arm (line.SoftwareInterrupt c e)) (numbered ts (without_first text hash ts)) r h (λ e p. p)
 word_said text mnemonic.Address c ts r k f h = address_said text c (cut (operands text ts)) r (cuts_form text ts f) h
 word_said text mnemonic.LongAddress c ts r k f h = long_address_said text c (cut (operands text ts)) r (cuts_form text ts f) h
-word_said text mnemonic.NoOperation c ts r k f h = equal_gives InstructionSaid r (idle ts) h (idle_said ts)
+word_said text mnemonic.NoOperation c ts r k f h = equal_gives InstructionSaid r (idle ts) h (idle_in false ts)
 word_said text mnemonic.FloatingPoint c ts r k f h = fault_said FloatingPoint r h
 
 pub instruction_said : (text : List ℕ) (m : Option (Mnemonic × Condition)) (ts : List Token) (r : Result What LineKind) → OptionGives WordSaid m → EachHasForm text ts

@@ -1,2 +1,0 @@
--- What the laws of said statements cite.
-pub mod Laws

@@ -1,4 +1,0 @@
-//! Laws: what a line says is a statement as layout and emission ask for it.
-#![tactic(auto)]
-
-pub mod laws;
