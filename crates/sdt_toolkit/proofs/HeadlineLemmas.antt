@@ -29,7 +29,7 @@ use Rattle.sdt_toolkit.specs.Commands.{Commanded}
 use Rattle.sdt_toolkit.specs.Headline.{FitsWhere, Headline, IsLinkedInto, Reaches, SourcesStand}
 use Rattle.sdt_toolkit.specs.Inputs.{Behind, InputBy, InputsAre, IsSource, NamedIs, as_object, is_source_name, named, objects_among, archives_among}
 use Rattle.sdt_toolkit.specs.Reads.{Reads, reads_of}
-use Rattle.sdt_toolkit.specs.Links.{FilesAsk, ImageIs, InputsMake, IsInMemory, LinkAnswers, ReadAsks, WordsAsk, behind_first, filed, files_read, image_files, inputs_in, is_long, outputs, read_by, text_in, too_large, writes_all}
+use Rattle.sdt_toolkit.specs.Links.{FilesAsk, ImageIs, InputsMake, IsInMemory, LinkAnswers, LinksTo, ReadAsks, WordsAsk, behind_first, filed, files_read, image_files, inputs_in, is_long, outputs, read_by, text_in, too_large, writes_all}
 use Rattle.sdt_toolkit.specs.Starting.{AreShownIn, IsShownIn}
 
 -- ---- answers
@@ -178,6 +178,7 @@ module _ (s : Reads) (sources : Bool) (w : LinkWords) (before : Files) (after : 
           told = over;
           judged = judged;
           linked = is.linked;
+          made = subst (LinksTo w.form (text_in w.form contents) w.ram is.objects) made is.links;
           left = left ∙ ap (λ (x : List OutFile). Some (written before (outputs x))) (filed_as w.output i fs files);
           reaches = memory.reaches;
           shown = memory.shown;

@@ -1,8 +1,8 @@
--- What `link` and `build` leave where they are done and the store tells its files: the files of an image. Put into memory
--- they show each linked object in one view; those of a scatter image and an ARM image file reach the program's entry, with
--- memory as that view, within the image's bound; and what `build` assembled stands there. An ARM image file that can be
--- moved does so at each address that leaves room, with a view for each. SDT 2.50 Reference Guide; the startup code is this
--- project's.
+-- What `link` and `build` leave where they are done and the store tells its files: the files of the image that the linked
+-- objects make, with its entry and its bound. Put into memory they show each of these objects in one view; those of a
+-- scatter image and an ARM image file reach the entry, with memory as that view, within the bound; and what `build`
+-- assembled stands there. An ARM image file that can be moved does so at each address that leaves room, with a view for
+-- each. SDT 2.50 Reference Guide; the startup code is this project's.
 use Rattle.std.specs.Prelude.{◌≡◌, ℕ, ◌+◌, true, false, Bool, List, slice_get, Option, Some, Result, Ok}
 use Rattle.sdt_word.specs.declared.ranges.Range32.{Range32}
 use Rattle.sdt_word.specs.Numbers.{flag}
@@ -29,7 +29,7 @@ use Rattle.tool_answers.specs.Inputs.{inputs_of}
 use Rattle.tool_answers.specs.Outcomes.{written}
 use Rattle.tool_library.specs.declared.linkables.Linkable.{Linkable}
 use Rattle.sdt_toolkit.specs.Inputs.{InputsAre, archives_among, is_source_name, objects_among}
-use Rattle.sdt_toolkit.specs.Links.{files_read, image_files, inputs_in, outputs}
+use Rattle.sdt_toolkit.specs.Links.{LinksTo, files_read, image_files, inputs_in, outputs, text_in}
 use Rattle.sdt_toolkit.specs.Reads.{Reads}
 use Rattle.sdt_toolkit.specs.Starting.{AreShownIn, BootsFrom, FitsAt, segments_of}
 
@@ -47,7 +47,8 @@ Reaches (form.Scatter file) i views =
 Reaches (form.Aif base relocatable) i views = BootsFrom relocatable i views
 Reaches (form.Plain base) i views = (parts : List ZeroRow) × ((x : ℕ) → zeroed (Some 0) (map_of (segments_of i)) parts x ≡ views i.start x)
 
--- of the inputs that were read, the linked objects are shown in the views, and the files of their image were written in order
+-- of the inputs that were read, the linked objects make the image and are shown in the views, and its files were written in
+-- order
 pub record IsLinkedInto (sources : Bool) (w : LinkWords) (before : Files) (after : Option Files) (image : Image) (views : ℕ → ByteMap) : Type 0 where
   pub reads : Reads
   pub contents : List (List ℕ)
@@ -57,6 +58,7 @@ pub record IsLinkedInto (sources : Bool) (w : LinkWords) (before : Files) (after
   pub told : reads.told ≡ Some before
   pub judged : InputsAre reads sources w.names (inputs_in w.form contents) (Ok inputs)
   pub linked : AreLinked (objects_among inputs) (archives_among inputs) objects
+  pub made : LinksTo w.form (text_in w.form contents) w.ram objects (Ok image)
   pub left : after ≡ Some (written before (outputs (image_files w.output image)))
   pub reaches : Reaches w.form image views
   pub shown : (to : ℕ) → FitsWhere w.form image to → AreShownIn (views to) objects
