@@ -148,7 +148,7 @@ shown_alike view os ps alike shown k p at =
 
 memory_alike : (f : LinkForm) (os ps : List (Named Object)) (i : Image) → AreAlike os ps → IsInMemory f os i → IsInMemory f ps i
 memory_alike (form.Scatter file) os ps i alike h =
-    record { view = h.view; copies = h.copies; parts = h.parts; loaded = h.loaded; boots = h.boots; shown = shown_alike h.view os ps alike h.shown }
+    record { view = h.view; loaded = h.loaded; boots = h.boots; shown = shown_alike h.view os ps alike h.shown; runs = h.runs }
 memory_alike (form.Aif base relocatable) os ps i alike h =
     record { views = h.views; boots = h.boots; shown = λ to fits. shown_alike (h.views to) os ps alike (h.shown to fits) }
 memory_alike (form.Plain base) os ps i alike h = record { view = h.view; parts = h.parts; cleared = h.cleared; shown = shown_alike h.view os ps alike h.shown }
