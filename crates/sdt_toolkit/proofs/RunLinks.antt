@@ -17,7 +17,7 @@ use Rattle.place_model.specs.declared.scatter.Kind.TheVariants as kind
 use Rattle.place_model.specs.declared.scatter.Scatter.{Scatter}
 use Rattle.place_model.specs.declared.scatter.ScatterLoad.{ScatterLoad}
 use Rattle.place_model.specs.Faults.{execution_meeting, load_meeting, load_span, shared, standing}
-use Rattle.place_model.specs.Plans.{Contents, Plan, PlannedLoad, load_size, regions_of, table_words}
+use Rattle.place_model.specs.Plans.{Contents, Plan, copies_of, load_size, parts_of, regions_of, table_words}
 use Rattle.place_model.proofs.ListLemmas.{Pairs, pairs_map}
 use Rattle.place_model.proofs.SpanLemmas.{meeting_none, or_none}
 use Rattle.image_model.specs.Regions.{Filling}
@@ -69,11 +69,14 @@ loads_fit : (number : ℕ) (rs : List Region) (parts : List (List ℕ)) (ds : Li
 loads_fit number rs parts [] named whole = tt
 loads_fit number rs parts (d ∷ ds) named whole = (record { named = named.0.0; low = whole.0.base.0 }, loads_fit (suc number) rs parts ds named.1 whole.1)
 
-bases_same : (ls : List LoadRegion) → map (λ l. l.base) ls ≡ map (λ s. s.base) (map (λ (l : LoadRegion). record { base = l.base; bytes = l.bytes }) ls)
+abbrev segment_in : LoadRegion → Segment
+segment_in l = record { base = l.base; bytes = l.bytes }
+
+bases_same : (ls : List LoadRegion) → map (λ l. l.base) ls ≡ map (λ z. z.base) (map segment_in ls)
 bases_same [] = refl
 bases_same (l ∷ ls) = ap (λ (ns : List ℕ). l.base ∷ ns) (bases_same ls)
 
-sizes_same : (ls : List LoadRegion) → map (λ l. length l.bytes) ls ≡ map (λ s. length s.bytes) (map (λ (l : LoadRegion). record { base = l.base; bytes = l.bytes }) ls)
+sizes_same : (ls : List LoadRegion) → map (λ l. length l.bytes) ls ≡ map (λ z. length z.bytes) (map segment_in ls)
 sizes_same [] = refl
 sizes_same (l ∷ ls) = ap (λ (ns : List ℕ). length l.bytes ∷ ns) (sizes_same ls)
 
@@ -124,7 +127,7 @@ module _ (s : Scatter) (ram : Option (List Range32)) (l : Linked) (a : Assigned)
 
   module _ (boot : ℕ) (at : p.boot ≡ Some boot) (valid : valid.IsValid s.loads) (named : AllByRecursion IsNamedLoad s.loads) (files : segments_of image ≡ files_of plan held)
       (shown : IsView plan held (view_of plan held)) (loaded : IsLoadView plan (view_of plan held) (files_of plan held)) where
-    abbrev places : Places (map_of (files_of plan held)) (view_of plan held) _ _ _ _ boot
+    places : Places (map_of (files_of plan held)) (view_of plan held) (written_by (copies_of plan) (parts_of plan)) (copies_of plan) (parts_of plan) (given_in (link_of l) p).entry boot
     places = image_places s c (given_in (link_of l) p) ram (view_of plan held) (files_of plan held) boot (made_starts s ram l a vs p boot h at)
 
     start : image.start ≡ boot
