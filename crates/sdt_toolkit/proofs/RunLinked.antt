@@ -65,14 +65,10 @@ scatter_files shape.Scatter out i e = refl
 scatter_files shape.Plain out i e = refl
 scatter_files (shape.Aif relocatable) out i e = absurd cc
 
-some_same : (a b : Files) → ◌≡◌ {A = Option Files} (Some a) (Some b) → a ≡ b
-some_same a b h = cc
-
 pub linked_runs_start : CommandsStart → LinkedRunsStart
-linked_runs_start law sources w description before files i views r o seats left a is_scatter line some link told by_map allow answers =
+linked_runs_start law sources w description before after i views r o seats left a is_scatter line some link told by_map allow answers =
     let (boots, can) : Reaches (form.Scatter description) i views = subst (λ (f : LinkForm). Reaches f i views) is_scatter link.reaches in
     let same : image_files w.output i ≡ files_of i w.output = scatter_files i.kind w.output i (can.filed w.output line some).scatter in
-    let are : written before (outputs (files_of i w.output)) ≡ files =
-    sym (some_same files (written before (outputs (files_of i w.output))) (link.left ∙ ap (λ (fs : List OutFile). Some (written before (outputs fs))) same)) in
-    let has : HasFiles files (files_of i w.output) = subst (λ (fs : Files). HasFiles fs (files_of i w.output)) are (stand before (files_of i w.output) (can.named w.output)) in
-    law i (views i.start) (written_in i) w.output files r o seats left a boots can line some has told by_map allow answers
+    let files : Files = written before (outputs (files_of i w.output)) in
+    let are : o.before ≡ Some files = told ∙ link.left ∙ ap (λ (fs : List OutFile). Some (written before (outputs fs))) same in
+    law i (views i.start) (written_in i) w.output files r o seats left a boots can line some (stand before (files_of i w.output) (can.named w.output)) are by_map allow answers

@@ -145,12 +145,13 @@ CommandsStart =
     → o.before ≡ Some files → w.image ≡ image.Map (map_name out) → ((banks : List Bank) → AreBanks w banks → Allow banks seats written)
     → RunAnswers w o seats left a → AnswerStarts i view w o seats left a
 
--- so, over the files that `link` or `build` left of a scatter image, does each run by their map in banks that allow what the
+-- so, over the files as `link` or `build` left them of a scatter image, does each run by its map in banks that allow what the
 -- image's startup code writes
 abbrev pub LinkedRunsStart : Type 0
 LinkedRunsStart =
-    (sources : Bool) (w : LinkWords) (description : List ℕ) (before files : Files) (i : Image) (views : ℕ → ByteMap) (r : RunWords) (o : Outside)
-    (seats left : List Seat) (a : Answer) → w.form ≡ form.Scatter description → lacks 10 w.output ≡ true → has_zero w.output ≡ false
-    → IsLinkedInto sources w before (Some files) i views → o.before ≡ Some files → r.image ≡ image.Map (map_name w.output)
+    (sources : Bool) (w : LinkWords) (description : List ℕ) (before : Files) (after : Option Files) (i : Image) (views : ℕ → ByteMap)
+    (r : RunWords) (o : Outside) (seats left : List Seat) (a : Answer) → w.form ≡ form.Scatter description
+    → lacks 10 w.output ≡ true → has_zero w.output ≡ false
+    → IsLinkedInto sources w before after i views → o.before ≡ after → r.image ≡ image.Map (map_name w.output)
     → ((banks : List Bank) → AreBanks r banks → Allow banks seats (written_in i))
     → RunAnswers r o seats left a → AnswerStarts i (views i.start) r o seats left a
