@@ -162,9 +162,9 @@ module _ (out : List ℕ) where
   one_apart l q (k ∷ ks) [] base size same apart = absurd same
   one_apart l q (k ∷ ks) (m ∷ ms) base size (own_base, own_size, same) apart = (
     (λ x one other.
-    (subst (IsLeastShared (load_span q) (load_span m)) apart.0 (shared_law (load_span q) (load_span m))) x
-    (record { from_base = omega (arith, base, one.0); below_end = omega (arith, base, size, one.1) })
-    (record { from_base = omega (arith, own_base, other.0); below_end = omega (arith, own_base, own_size, other.1) })),
+        (subst (IsLeastShared (load_span q) (load_span m)) apart.0 (shared_law (load_span q) (load_span m))) x
+        (record { from_base = omega (arith, base, one.0); below_end = omega (arith, base, size, one.1) })
+        (record { from_base = omega (arith, own_base, other.0); below_end = omega (arith, own_base, own_size, other.1) })),
     one_apart l q ks ms base size same apart.1,
   )
 
