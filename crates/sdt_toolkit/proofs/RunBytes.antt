@@ -1,7 +1,7 @@
 -- The load regions of a link are bytes, where the areas of its objects are.
-use Rattle.std.proofs.Common.{◌≡◌, ℕ, zero, suc, ◌+◌, ◌-◌, ◌*◌, ◌/◌, ◌%◌, ◌^◌, ◌<◌, Bool, true, false, cond, ◌==◌, List, [], ◌∷◌, ◌++◌, length, get_or, map, Option, Some, None, refl, sym, subst, arith}
+use Rattle.std.proofs.Common.{◌≡◌, ℕ, zero, suc, ◌+◌, ◌-◌, ◌*◌, ◌/◌, ◌%◌, ◌^◌, ◌<◌, Bool, true, false, cond, ◌==◌, List, [], ◌∷◌, ◌++◌, length, Option, Some, None, refl, sym, subst, arith}
 use Rattle.std.specs.Prelude.{slice_get, slice_index}
-use Rattle.std.specs.List.{filter, filter_map, find, AllByRecursion}
+use Rattle.std.specs.List.{filter, find, AllByRecursion}
 use Rattle.base_lemmas.proofs.BaseLemmas.{all_append, all_weaker, came_through, same}
 use Rattle.sdt_word.specs.Bytes.{bytes_of}
 use Rattle.sdt_word.specs.Numbers.{bit}
@@ -15,7 +15,6 @@ use Rattle.patch_model.specs.Fields.{Home, Values, field_of}
 use Rattle.patch_model.specs.Patched.{ahead, middle, total}
 use Rattle.place_model.specs.declared.scatter.ScatterLoad.{ScatterLoad}
 use Rattle.place_model.proofs.ListLemmas.{all_at, all_filter_map, all_indexed, all_map}
-use Rattle.link_model.specs.declared.images.LoadRegion.{LoadRegion}
 use Rattle.link_model.specs.declared.placing.PlacedArea.{PlacedArea}
 use Rattle.link_model.specs.declared.placing.PlacedVeneer.{PlacedVeneer}
 use Rattle.link_model.specs.declared.placing.Placement.{Placement}

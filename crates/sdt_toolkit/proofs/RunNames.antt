@@ -1,7 +1,7 @@
 -- The names of regions, by the description that was read, and those of an image's files.
-use Rattle.std.proofs.Common.{◌≡◌, ℕ, suc, ◌+◌, ◌==◌, not, ◌||◌, Bool, true, false, nat_lt, List, [], ◌∷◌, ◌++◌, append_assoc, length, map, refl, sym, ap, ◌∙◌, arith}
+use Rattle.std.proofs.Common.{◌≡◌, ℕ, suc, ◌+◌, ◌==◌, not, Bool, true, false, nat_lt, List, [], ◌∷◌, ◌++◌, append_assoc, length, map, refl, sym, ap, ◌∙◌, arith}
 use Rattle.std.specs.Prelude.{◌&&◌, codes}
-use Rattle.std.specs.List.{list_all, flat_map, AllByRecursion}
+use Rattle.std.specs.List.{list_all, AllByRecursion}
 use Rattle.std.proofs.lemmas.Bool.Decides.{nat_tests}
 use Rattle.std.proofs.lemmas.List.{append_cancel_left}
 use Rattle.std.proofs.lemmas.List.Folds.{list_all-append}
@@ -13,7 +13,6 @@ use Rattle.place_model.specs.Plans.{Contents, Planned, end_of, length_of, loads_
 use Rattle.scatter_text.specs.Grammar.{AreOf, IsLoad, IsRegion, Spells}
 use Rattle.scatter_text.specs.Parts.{Part, parts_of}
 use Rattle.scatter_text.specs.Validity.{AreDistinct, load_names}
-use Rattle.link_model.specs.declared.images.LoadRegion.{LoadRegion}
 use Rattle.link_model.specs.declared.placing.Region.{Region}
 use Rattle.bin_image.specs.declared.records.OutFile.{OutFile}
 use Rattle.bin_image.specs.Fields.{is_name, is_word, lacks}
