@@ -1,6 +1,6 @@
 //! Laws of the definitions, each proved as the contract of an empty function.
 
-ghost use Rattle.sdt_toolkit.specs.Builds.{BuildsAreLinks};
+ghost use Rattle.sdt_toolkit.specs.Builds.{BuildsAreLinks, SpelledAreObjectFiles};
 ghost use Rattle.sdt_toolkit.specs.Links.{OneLinkAsked};
 ghost use Rattle.sdt_toolkit.specs.Runs.{CommandsStart, FilesAreRead, LinkedRunsStart, RunsStart};
 ghost use Rattle.sdt_toolkit.specs.Sources.{OneAsked};
@@ -35,9 +35,10 @@ pub fn images_start()
 }
 
 /// What `build` makes of sources is what `link` makes of their objects, among files in which each source's object has its
-/// file and all other files that are read are the same.
+/// file, as `asm` writes it, and all other files that are read are the same.
 pub fn builds_are_links()
-    ensures { BuildsAreLinks }
+    ensures links { BuildsAreLinks }
+    ensures files { SpelledAreObjectFiles }
 {
     one_assembly();
     image_names();
