@@ -1,5 +1,5 @@
 -- A bus that was opened for an image: it is ready, and the startup code may run over it.
-use Rattle.std.proofs.Common.{◌≡◌, ℕ, ◌<◌, ◌≤◌, Bool, true, false, ◌||◌, List, map, refl, sym, ap, ◌∙◌, subst, arith}
+use Rattle.std.proofs.Common.{◌≡◌, ℕ, ◌<◌, ◌≤◌, Bool, true, false, ◌||◌, List, [], map, refl, sym, ap, ◌∙◌, subst, arith}
 use Rattle.std.specs.Prelude.{◌&&◌}
 use Rattle.sdt_word.specs.Numbers.{bit, bits}
 use Rattle.arm7_model.specs.declared.state.ArmState.{ArmState}
@@ -18,10 +18,16 @@ use Rattle.byte_maps.specs.Maps.{map_of}
 use Rattle.link_model.specs.declared.images.Image.{Image}
 use Rattle.run_opening.specs.Banks.{AreUsed, IsRoomy, banks_share, frames_of}
 use Rattle.run_opening.specs.Openings.{IsOpening, loaded}
-use Rattle.image_runs.specs.Images.{is_needed, load_of, needs_of, region_need, run_image, segments_of}
-use Rattle.image_runs.specs.Starts.{Allow, Reaches}
-use Rattle.image_runs.proofs.LoadLemmas.{load-needed, loaded-at, loaded-bytes}
-use Rattle.image_runs.proofs.Needs.{needed-bank, none-left, none-right, same-used}
+use Rattle.sdt_toolkit.specs.RunImages.{CanRun, is_needed, load_of, needs_of, region_need, run_image}
+use Rattle.sdt_toolkit.specs.Runs.{Allow, BootsTo}
+use Rattle.sdt_toolkit.specs.Starting.{segments_of}
+use Rattle.sdt_toolkit.proofs.RunLoads.{load_needed, loaded_at, loaded_bytes}
+use Rattle.sdt_toolkit.proofs.RunNeeds.{needed_bank, none_left, none_right, same_used}
+
+-- the image reaches its entry, and can be run
+pub record Reaches (i : Image) (view : ByteMap) (written : ℕ → Bool) : Type 0 where
+  pub boots : BootsTo i view written
+  pub can : CanRun i view
 
 -- a bus that has room for the image, as its opening left it
 pub record IsOpened (i : Image) (written : ℕ → Bool) (s : State) : Type 0 where
@@ -43,9 +49,9 @@ opened i written banks seats s roomy allow o =
       frames = o.frames ∙ ap frames_of (sym b);
     }
 
-not-both : (x y : Bool) → (x && y) ≡ false → y ≡ true → x ≡ false
-not-both true y e h = absurd (let bad : true ≡ false = sym h ∙ e in cc)
-not-both false y e h = refl
+not_both : (x y : Bool) → (x && y) ≡ false → y ≡ true → x ≡ false
+not_both true y e h = absurd (let bad : true ≡ false = sym h ∙ e in cc)
+not_both false y e h = refl
 
 module _ {i : Image} {written : ℕ → Bool} {s : State} (o : IsOpened i written s) where
   both : (a : ℕ) → (banks_share s.contents.banks a || seats_share s.devices a || (bank_has s.contents.banks a 1 && seats_have s.devices a)) ≡ false
@@ -56,39 +62,39 @@ module _ {i : Image} {written : ℕ → Bool} {s : State} (o : IsOpened i writte
     laid_out = record {
       banks = o.allow.banks_whole;
       devices = o.allow.seats_whole;
-      apart = λ a h. not-both (bank_has s.contents.banks a 1) (seats_have s.devices a)
-          (none-right (banks_share s.contents.banks a || seats_share s.devices a) (bank_has s.contents.banks a 1 && seats_have s.devices a) (both a)) h;
+      apart = λ a h. not_both (bank_has s.contents.banks a 1) (seats_have s.devices a)
+          (none_right (banks_share s.contents.banks a || seats_share s.devices a) (bank_has s.contents.banks a 1 && seats_have s.devices a) (both a)) h;
       alone = record {
-        none = λ a. none-right (banks_share s.contents.banks a) (seats_share s.devices a)
-            (none-left (banks_share s.contents.banks a || seats_share s.devices a) (bank_has s.contents.banks a 1 && seats_have s.devices a) (both a));
+        none = λ a. none_right (banks_share s.contents.banks a) (seats_share s.devices a)
+            (none_left (banks_share s.contents.banks a || seats_share s.devices a) (bank_has s.contents.banks a 1 && seats_have s.devices a) (both a));
       };
     };
     started = o.used.pages;
     room =
-        let same = same-used o.roomy.frames.used s.contents.used (needs_of i) o.roomy.frames.are_used o.used in
+        let same = same_used o.roomy.frames.used s.contents.used (needs_of i) o.roomy.frames.are_used o.used in
         subst (λ (n : ℕ). used_count s.contents.used ≤ n) (sym o.frames) (subst (λ (us : List Bool). used_count us ≤ frames_of s.contents.banks) same o.roomy.frames.enough);
   }
 
-  pub bank-there : (x : ℕ) → is_needed (needs_of i) x ≡ true → (board_of s).memory x ≡ true
+  pub bank_there : (x : ℕ) → is_needed (needs_of i) x ≡ true → (board_of s).memory x ≡ true
   unfolding board_of
-  bank-there x e = needed-bank s.contents.banks (needs_of i) o.roomy.room x e
+  bank_there x e = needed_bank s.contents.banks (needs_of i) o.roomy.room x e
 
-  module _ {out : List ℕ} {view : ByteMap} (r : Reaches i out view written) where
+  module _ {view : ByteMap} (r : Reaches i view written) where
     pub valid : (core : ArmState) → IsReset i.start core → IsValidState (over core s)
     valid core reset = record {
       core = reset.valid;
-      memory = λ x. subst (λ (m : Bytes). m x < 256) (sym o.memory) (loaded-bytes (λ a. 0) i.loads (λ y. omega arith) r.bytes x);
+      memory = λ x. subst (λ (m : Bytes). m x < 256) (sym o.memory) (loaded_bytes (λ a. 0) i.loads (λ y. omega arith) r.can.bytes x);
     }
 
-    pub can-start : (core : ArmState) → IsReset i.start core → CanStart (map_of (segments_of i.loads)) view written i.start (board_of s) (over core s)
+    pub can_start : (core : ArmState) → IsReset i.start core → CanStart (map_of (segments_of i)) view written i.start (board_of s) (over core s)
     unfolding board_of
-    can-start core reset = record {
+    can_start core reset = record {
       valid = valid core reset;
       loaded = λ x b e. (
-        bank-there x (load-needed i.loads (map region_need i.regions) x b e),
-        ap (λ (m : Bytes). m x) o.memory ∙ loaded-at (λ a. 0) out i.loads x b r.apart e,
+        bank_there x (load_needed i.loads (map region_need i.regions) x b e),
+        ap (λ (m : Bytes). m x) o.memory ∙ loaded_at (λ a. 0) [] i.loads x b (r.can.filed [] refl refl).map.apart e,
       );
-      there = λ x b e. bank-there x (r.ranged x b e);
+      there = λ x b e. bank_there x (r.can.ranged x b e);
       writable = o.allow.writable;
       supervisor = ap (λ (n : ℕ). bits n 0 5) reset.status;
       arm = ap (λ (n : ℕ). bit n 5) reset.status;

@@ -1,17 +1,14 @@
 -- How a run of an image starts: its first steps are the startup code's, which lead to the program's entry. This project's.
-use Rattle.std.specs.Prelude.{◌≡◌, ℕ, ◌+◌, ◌≤◌, Bool, true, false, if◌then◌else◌, List, [], ◌++◌, length, take, Option, Some}
+use Rattle.std.specs.Prelude.{◌≡◌, ℕ, ◌+◌, ◌≤◌, Bool, true, false, if◌then◌else◌, List, [], ◌++◌, length, take, Option, Some, Result, Ok}
 use Rattle.sdt_word.specs.Numbers.{flag}
-use Rattle.sdt_fault.specs.declared.answer.Stop.{Stop}
-use Rattle.sdt_fault.specs.declared.answer.Stop.TheVariants as stop
 use Rattle.sdt_fault.specs.declared.answer.Answer.{Answer}
 use Rattle.sdt_fault.specs.declared.answer.Answer.TheVariants as answer
+use Rattle.sdt_fault.specs.declared.answer.Stop.{Stop}
+use Rattle.sdt_fault.specs.declared.answer.Stop.TheVariants as stop
+use Rattle.sdt_fault.specs.declared.refusal.Refusal.{Refusal}
 use Rattle.sdt_outside.specs.Counts.{Rose}
+use Rattle.sdt_outside.specs.Files.{Files}
 use Rattle.sdt_outside.specs.Sinks.{Got}
-use Rattle.boot_code.specs.Boots.{BootSteps, Boots, ByteMap}
-use Rattle.byte_maps.specs.Maps.{map_of}
-use Rattle.link_model.specs.declared.images.Image.{Image}
-use Rattle.bin_image.specs.Files as file
-use Rattle.bin_image.specs.Maps.{AreApart}
 use Rattle.arm7_model.specs.declared.state.ArmState.{ArmState}
 use Rattle.arm7_model.specs.Outcomes.{Stepped}
 use Rattle.arm7_model.specs.Runs.{EachStep, accesses_of}
@@ -23,10 +20,22 @@ use Rattle.arm7_transfers.specs.Boards.{board_of, over}
 use Rattle.arm7_run.specs.Runs.{is_sink}
 use Rattle.run_laws.specs.Devices.{AreOffDevices, lines_for, touches_of}
 use Rattle.run_laws.specs.Steps.{AreMade, steps_made}
+use Rattle.run_opening.specs.declared.image.Image.{Image as RunImage}
+use Rattle.boot_code.specs.Boots.{BootSteps, Boots, ByteMap}
+use Rattle.byte_maps.specs.Maps.{map_of}
+use Rattle.link_model.specs.declared.images.Image.{Image}
+use Rattle.bin_image.specs.Fields.{lacks}
+use Rattle.bin_image.specs.Files.{files_of, map_name}
 use Rattle.tool_answers.specs.Outcomes.{Outside}
+use Rattle.tool_words.specs.declared.command.LinkForm.TheVariants as form
+use Rattle.tool_words.specs.declared.command.LinkWords.{LinkWords}
+use Rattle.tool_words.specs.declared.command.RunImage.TheVariants as image
 use Rattle.tool_words.specs.declared.command.RunWords.{RunWords}
-use Rattle.tool_run.specs.Runs.{AreBanks, Ran}
-use Rattle.image_runs.specs.Images.{AreBytes, is_needed, needs_of, run_image, segments_of}
+use Rattle.tool_run.specs.Images.{IsRead, has_zero}
+use Rattle.tool_run.specs.Runs.{AreBanks, Ran, RunAnswers}
+use Rattle.sdt_toolkit.specs.Headline.{IsLinkedInto}
+use Rattle.sdt_toolkit.specs.RunImages.{CanRun, HasFiles, IsFiled, run_image}
+use Rattle.sdt_toolkit.specs.Starting.{segments_of, written_in}
 
 -- ---- before
 
@@ -34,13 +43,9 @@ use Rattle.image_runs.specs.Images.{AreBytes, is_needed, needs_of, run_image, se
 abbrev pub entry_of : Image → ℕ
 entry_of i = i.entry + flag i.thumb
 
--- the load regions, of which no two meet, reach the entry with memory as the view, of which each address lies in a load or
--- an execution range
-pub record Reaches (i : Image) (out : List ℕ) (view : ByteMap) (written : ℕ → Bool) : Type 0 where
-  pub boots : Boots (map_of (segments_of i.loads)) view written i.start i.bound (entry_of i)
-  pub ranged : (x b : ℕ) → view x ≡ Some b → is_needed (needs_of i) x ≡ true
-  pub apart : AreApart (file.map_of i out).loads
-  pub bytes : AreBytes i.loads
+-- the load regions reach the entry with memory as the view, over what is written
+abbrev pub BootsTo : Image → ByteMap → (ℕ → Bool) → Type 0
+BootsTo i view written = Boots (map_of (segments_of i)) view written i.start i.bound (entry_of i)
 
 -- banks and devices are whole words, and what the startup code writes isn't read-only
 pub record Allow (banks : List Bank) (seats : List Seat) (written : ℕ → Bool) : Type 0 where
@@ -54,7 +59,7 @@ pub record Allow (banks : List Bank) (seats : List Seat) (written : ℕ → Bool
 -- memory as the view, each access lies in a load or an execution range, and none is a device's
 pub record AreStartup (i : Image) (view : ByteMap) (core : ArmState) (s : State) (steps : List Stepped) : Type 0 where
   pub few : length steps ≤ i.bound
-  pub boot : BootSteps (length steps) (map_of (segments_of i.loads)) view (entry_of i) (board_of s) (over core s)
+  pub boot : BootSteps (length steps) (map_of (segments_of i)) view (entry_of i) (board_of s) (over core s)
       (lines_for (length steps) s.devices) steps
   pub off : EachStep (AreOffDevices (board_of s)) (accesses_of steps)
 
@@ -113,3 +118,40 @@ AnswerStarts i view w o seats left answer.Done = Started i view w o seats left s
 AnswerStarts i view w o seats left (answer.Stopped why) = Started i view w o seats left why
 AnswerStarts i view w o seats left answer.SinkFault = Started i view w o seats left stop.Sink
 AnswerStarts i view w o seats left other = Unit {0}
+
+-- ---- laws
+
+-- where a scatter image's files stand in a store, its map reads as the image
+abbrev pub FilesAreRead : Type 0
+FilesAreRead =
+    (i : Image) (out : List ℕ) (files : Files) (faults faults_now : ℕ) (read : Result RunImage Refusal) → IsFiled i out
+    → HasFiles files (files_of i out) → IsRead (Some files) (Rose faults faults_now) (image.Map (map_name out)) read
+    → read ≡ Ok (run_image i)
+
+-- and the first steps of a run of it are the startup's, which lead to the entry
+abbrev pub RunsStart : Type 0
+RunsStart =
+    (i : Image) (view : ByteMap) (written : ℕ → Bool) (banks : List Bank) (seats left : List Seat) (most : ℕ) (why : Stop)
+    (before after : Option (List ℕ)) (faults faults_now : ℕ) → BootsTo i view written → CanRun i view → Allow banks seats written
+    → Ran banks (run_image i) most why before after (Rose faults faults_now) seats left
+    → HasStarted i view banks most why before after (Rose faults faults_now) seats left
+
+-- so, where the files stand in a store under a name of one line without a zero byte, does each run that the command `run`
+-- makes by the map
+abbrev pub CommandsStart : Type 0
+CommandsStart =
+    (i : Image) (view : ByteMap) (written : ℕ → Bool) (out : List ℕ) (files : Files) (w : RunWords) (o : Outside) (seats left : List Seat)
+    (a : Answer) → BootsTo i view written → CanRun i view → lacks 10 out ≡ true → has_zero out ≡ false → HasFiles files (files_of i out)
+    → o.before ≡ Some files → w.image ≡ image.Map (map_name out) → ((banks : List Bank) → AreBanks w banks → Allow banks seats written)
+    → RunAnswers w o seats left a → AnswerStarts i view w o seats left a
+
+-- so, over the files as `link` or `build` left them of a scatter image, does each run by its map in banks that allow what the
+-- image's startup code writes
+abbrev pub LinkedRunsStart : Type 0
+LinkedRunsStart =
+    (sources : Bool) (w : LinkWords) (description : List ℕ) (before : Files) (after : Option Files) (i : Image) (views : ℕ → ByteMap)
+    (r : RunWords) (o : Outside) (seats left : List Seat) (a : Answer) → w.form ≡ form.Scatter description
+    → lacks 10 w.output ≡ true → has_zero w.output ≡ false
+    → IsLinkedInto sources w before after i views → o.before ≡ after → r.image ≡ image.Map (map_name w.output)
+    → ((banks : List Bank) → AreBanks r banks → Allow banks seats (written_in i))
+    → RunAnswers r o seats left a → AnswerStarts i (views i.start) r o seats left a
