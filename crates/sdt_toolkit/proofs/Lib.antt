@@ -18,6 +18,7 @@ mod RunLinks
 mod RunLoads
 mod RunNames
 mod RunNeeds
+mod RunOnce
 mod RunOpened
 mod RunRanges
 mod RunStartup

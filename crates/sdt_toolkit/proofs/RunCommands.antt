@@ -19,7 +19,7 @@ use Rattle.tool_run.specs.Runs.{AreBanks, HasRun, Ran, RunSays}
 use Rattle.sdt_toolkit.specs.RunImages.{CanRun, run_image}
 use Rattle.sdt_toolkit.specs.Runs.{Allow, AnswerStarts, BootsTo, CommandsStart, FilesAreRead, RunsStart, Started}
 
-same_image : (a b : RunImage) (read : Result RunImage Refusal) → read ≡ Ok a → read ≡ Ok b → a ≡ b
+pub same_image : (a b : RunImage) (read : Result RunImage Refusal) → read ≡ Ok a → read ≡ Ok b → a ≡ b
 same_image a b read e f = let same : ◌≡◌ {A = Result RunImage Refusal} (Ok a) (Ok b) = sym e ∙ f in cc
 
 module _ (law : RunsStart) (i : Image) (view : ByteMap) (written : ℕ → Bool) (w : RunWords) (o : Outside) (seats left : List Seat)

@@ -9,12 +9,14 @@ use Rattle.arm7_bus.specs.Seats.{has_access}
 use Rattle.boot_code.specs.Boots.{covers}
 use Rattle.boot_code.proofs.ViewLemmas.{covers-true}
 use Rattle.byte_maps.specs.Maps.{Segment, map_of}
+use Rattle.chunk_file.specs.Grammar.{AreBytes}
 use Rattle.link_model.specs.declared.images.LoadRegion.{LoadRegion}
 use Rattle.bin_image.specs.Files.{map_load}
 use Rattle.bin_image.specs.Maps.{AreApart, IsApart}
+use Rattle.run_opening.specs.declared.image.Load.{Load}
 use Rattle.run_opening.specs.declared.image.Need.{Need}
 use Rattle.run_opening.specs.Openings.{loaded}
-use Rattle.sdt_toolkit.specs.RunImages.{AreBytes, is_needed, load_need, load_of}
+use Rattle.sdt_toolkit.specs.RunImages.{is_needed, load_need, load_of}
 
 -- where a loader puts them
 abbrev segments_in : List LoadRegion → List Segment
@@ -52,7 +54,7 @@ loaded_at m out (l ∷ ls) x b (one, apart) e = go (covers l.base (length l.byte
         loaded_off (store m l.base l.bytes) ls x (others_off out l ls x one lo hi) ∙ store-in m l.base l.bytes x lo hi ∙ some_same _ b h
     go false f h more = more h
 
-pub loaded_bytes : (m : Bytes) (ls : List LoadRegion) → ((x : ℕ) → m x < 256) → AreBytes ls → (x : ℕ) → loaded m (map load_of ls) x < 256
+pub loaded_bytes : (m : Bytes) (ls : List Load) → ((x : ℕ) → m x < 256) → AllByRecursion (λ (l : Load). AreBytes l.bytes) ls → (x : ℕ) → loaded m ls x < 256
 loaded_bytes m [] small bytes x = small x
 loaded_bytes m (l ∷ ls) small (one, bytes) x = loaded_bytes (store m l.base l.bytes) ls (bytes-store m l.base l.bytes small one) bytes x
 

@@ -1,8 +1,9 @@
 -- The addresses that an image needs: each is memory of the banks, in a used page, below 2^32.
-use Rattle.std.proofs.Common.{◌≡◌, ℕ, zero, suc, ◌+◌, ◌*◌, ◌/◌, ◌^◌, ◌<◌, ◌≤◌, Bool, true, false, not, ◌||◌, List, [], ◌∷◌, length, refl, sym, ◌∙◌, arith, le-leb}
-use Rattle.std.specs.Prelude.{◌&&◌, nat_lt, max, min, slice_index_or}
+use Rattle.std.proofs.Common.{◌≡◌, ℕ, ◌+◌, ◌*◌, ◌/◌, ◌^◌, ◌<◌, ◌≤◌, Bool, true, false, not, ◌||◌, List, [], ◌∷◌, refl, sym, ◌∙◌, arith, le-leb}
+use Rattle.std.specs.Prelude.{◌&&◌, nat_lt, max, min}
 use Rattle.std.specs.List.{list_any, AllByRecursion}
 use Rattle.std.proofs.lemmas.Bool.Decides.{nat_tests}
+use Rattle.std.proofs.lemmas.List.{get_or_default, same_lists}
 use Rattle.arm7_bus.specs.declared.memory.Bank.{Bank}
 use Rattle.arm7_bus.specs.Meets.{IsNowhere}
 use Rattle.arm7_bus.specs.Paging.{page_used_in}
@@ -79,16 +80,8 @@ module _ (banks : List Bank) (needs : List Need) (room : IsNowhere (is_lacking b
 
 -- ---- used pages are one list
 
-pub same_flags : (xs ys : List Bool) → length xs ≡ length ys → ((k : ℕ) → k < length xs → slice_index_or xs k false ≡ slice_index_or ys k false) → xs ≡ ys
-same_flags [] [] e same = refl
-same_flags [] (y ∷ ys) e same = absurd (omega arith)
-same_flags (x ∷ xs) [] e same = absurd (omega arith)
-same_flags (x ∷ xs) (y ∷ ys) e same =
-    let first : x ≡ y = same zero (omega arith) in
-    let rest : xs ≡ ys = same_flags xs ys (omega arith) (λ k lt. same (suc k) (omega arith)) in
-    rw (first, rest) refl
-
 pub same_used : (us vs : List Bool) (needs : List Need) → AreUsed us needs → AreUsed vs needs → us ≡ vs
 same_used us vs needs u v =
     let pages = u.pages in let others = v.pages in
-    same_flags us vs (pages ∙ sym others) (λ k lt. let below : k < 1048576 = omega arith in u.each k below ∙ sym (v.each k below))
+    same_lists us vs (pages ∙ sym others)
+    (λ k d lt. get_or_default us k d false lt ∙ (let below : k < 1048576 = omega arith in u.each k below ∙ sym (v.each k below)) ∙ sym (get_or_default vs k d false (omega arith)))

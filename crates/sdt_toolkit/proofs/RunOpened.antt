@@ -10,12 +10,17 @@ use Rattle.arm7_bus.specs.Meets.{seats_have, seats_share}
 use Rattle.arm7_bus.specs.Paging.{used_count}
 use Rattle.arm7_bus.specs.Seats.{Seat}
 use Rattle.arm7_bus.specs.States.{State, bank_has}
+use Rattle.arm7_bus.specs.WholeWords.{AreWholeBanks, AreWholeSeats}
 use Rattle.arm7_core.specs.Resets.{IsReset}
 use Rattle.arm7_transfers.specs.Boards.{board_of, over}
 use Rattle.arm7_transfers.specs.Ready.{IsReady}
 use Rattle.boot_code.specs.Boots.{ByteMap, CanStart}
 use Rattle.byte_maps.specs.Maps.{map_of}
+use Rattle.chunk_file.specs.Grammar.{AreBytes}
+use Rattle.place_model.proofs.ListLemmas.{all_map}
 use Rattle.link_model.specs.declared.images.Image.{Image}
+use Rattle.run_opening.specs.declared.image.Load.{Load}
+use Rattle.run_opening.specs.declared.image.Need.{Need}
 use Rattle.run_opening.specs.Banks.{AreUsed, IsRoomy, banks_share, frames_of}
 use Rattle.run_opening.specs.Openings.{IsOpening, loaded}
 use Rattle.sdt_toolkit.specs.RunImages.{CanRun, is_needed, load_of, needs_of, region_need, run_image}
@@ -53,27 +58,32 @@ not_both : (x y : Bool) → (x && y) ≡ false → y ≡ true → x ≡ false
 not_both true y e h = absurd (let bad : true ≡ false = sym h ∙ e in cc)
 not_both false y e h = refl
 
-module _ {i : Image} {written : ℕ → Bool} {s : State} (o : IsOpened i written s) where
-  both : (a : ℕ) → (banks_share s.contents.banks a || seats_share s.devices a || (bank_has s.contents.banks a 1 && seats_have s.devices a)) ≡ false
-  both a = o.roomy.apart.none a
-
-  pub ready : IsReady s
-  ready = record {
-    laid_out = record {
-      banks = o.allow.banks_whole;
-      devices = o.allow.seats_whole;
-      apart = λ a h. not_both (bank_has s.contents.banks a 1) (seats_have s.devices a)
-          (none_right (banks_share s.contents.banks a || seats_share s.devices a) (bank_has s.contents.banks a 1 && seats_have s.devices a) (both a)) h;
-      alone = record {
-        none = λ a. none_right (banks_share s.contents.banks a) (seats_share s.devices a)
-            (none_left (banks_share s.contents.banks a || seats_share s.devices a) (bank_has s.contents.banks a 1 && seats_have s.devices a) (both a));
-      };
+-- a bus that has room, of whole words, is one on which the machine can step
+pub ready_for : (needs : List Need) (s : State) → IsRoomy s.contents.banks s.devices needs → AreWholeBanks s.contents.banks → AreWholeSeats s.devices
+    → AreUsed s.contents.used needs → s.contents.frames ≡ frames_of s.contents.banks → IsReady s
+ready_for needs s roomy banks seats used frames = record {
+  laid_out = record {
+    banks = banks;
+    devices = seats;
+    apart = λ a h. not_both (bank_has s.contents.banks a 1) (seats_have s.devices a)
+        (none_right (banks_share s.contents.banks a || seats_share s.devices a) (bank_has s.contents.banks a 1 && seats_have s.devices a) (both a)) h;
+    alone = record {
+      none = λ a. none_right (banks_share s.contents.banks a) (seats_share s.devices a)
+          (none_left (banks_share s.contents.banks a || seats_share s.devices a) (bank_has s.contents.banks a 1 && seats_have s.devices a) (both a));
     };
-    started = o.used.pages;
-    room =
-        let same = same_used o.roomy.frames.used s.contents.used (needs_of i) o.roomy.frames.are_used o.used in
-        subst (λ (n : ℕ). used_count s.contents.used ≤ n) (sym o.frames) (subst (λ (us : List Bool). used_count us ≤ frames_of s.contents.banks) same o.roomy.frames.enough);
-  }
+  };
+  started = used.pages;
+  room =
+      let same = same_used roomy.frames.used s.contents.used needs roomy.frames.are_used used in
+      subst (λ (n : ℕ). used_count s.contents.used ≤ n) (sym frames) (subst (λ (us : List Bool). used_count us ≤ frames_of s.contents.banks) same roomy.frames.enough);
+}
+  where
+    both : (a : ℕ) → (banks_share s.contents.banks a || seats_share s.devices a || (bank_has s.contents.banks a 1 && seats_have s.devices a)) ≡ false
+    both a = roomy.apart.none a
+
+module _ {i : Image} {written : ℕ → Bool} {s : State} (o : IsOpened i written s) where
+  pub ready : IsReady s
+  ready = ready_for (needs_of i) s o.roomy o.allow.banks_whole o.allow.seats_whole o.used o.frames
 
   pub bank_there : (x : ℕ) → is_needed (needs_of i) x ≡ true → (board_of s).memory x ≡ true
   unfolding board_of
@@ -83,7 +93,7 @@ module _ {i : Image} {written : ℕ → Bool} {s : State} (o : IsOpened i writte
     pub valid : (core : ArmState) → IsReset i.start core → IsValidState (over core s)
     valid core reset = record {
       core = reset.valid;
-      memory = λ x. subst (λ (m : Bytes). m x < 256) (sym o.memory) (loaded_bytes (λ a. 0) i.loads (λ y. omega arith) r.can.bytes x);
+      memory = λ x. subst (λ (m : Bytes). m x < 256) (sym o.memory) (loaded_bytes (λ a. 0) (map load_of i.loads) (λ y. omega arith) (all_map (λ (l : Load). AreBytes l.bytes) load_of i.loads r.can.bytes) x);
     }
 
     pub can_start : (core : ArmState) → IsReset i.start core → CanStart (map_of (segments_of i)) view written i.start (board_of s) (over core s)

@@ -7,7 +7,7 @@ use Rattle.sdt_fault.specs.declared.answer.Stop.{Stop}
 use Rattle.sdt_fault.specs.declared.answer.Stop.TheVariants as stop
 use Rattle.sdt_fault.specs.declared.refusal.Refusal.{Refusal}
 use Rattle.sdt_outside.specs.Counts.{Rose}
-use Rattle.sdt_outside.specs.Files.{Files}
+use Rattle.sdt_outside.specs.Files.{Files, content}
 use Rattle.sdt_outside.specs.Sinks.{Got}
 use Rattle.arm7_model.specs.declared.state.ArmState.{ArmState}
 use Rattle.arm7_model.specs.Outcomes.{Stepped}
@@ -24,13 +24,16 @@ use Rattle.run_opening.specs.declared.image.Image.{Image as RunImage}
 use Rattle.boot_code.specs.Boots.{BootSteps, Boots, ByteMap}
 use Rattle.byte_maps.specs.Maps.{map_of}
 use Rattle.link_model.specs.declared.images.Image.{Image}
+use Rattle.chunk_file.specs.Grammar.{AreBytes}
 use Rattle.bin_image.specs.Fields.{lacks}
 use Rattle.bin_image.specs.Files.{files_of, map_name}
 use Rattle.tool_answers.specs.Outcomes.{Outside}
+use Rattle.tool_words.specs.declared.command.Command.TheVariants as command
 use Rattle.tool_words.specs.declared.command.LinkForm.TheVariants as form
 use Rattle.tool_words.specs.declared.command.LinkWords.{LinkWords}
 use Rattle.tool_words.specs.declared.command.RunImage.TheVariants as image
 use Rattle.tool_words.specs.declared.command.RunWords.{RunWords}
+use Rattle.tool_words.specs.Commands.{command_of}
 use Rattle.tool_run.specs.Images.{IsRead, has_zero}
 use Rattle.tool_run.specs.Runs.{AreBanks, Ran, RunAnswers}
 use Rattle.sdt_toolkit.specs.Headline.{IsLinkedInto}
@@ -155,3 +158,26 @@ LinkedRunsStart =
     → IsLinkedInto sources w before after i views → o.before ≡ after → r.image ≡ image.Map (map_name w.output)
     → ((banks : List Bank) → AreBanks r banks → Allow banks seats (written_in i))
     → RunAnswers r o seats left a → AnswerStarts i (views i.start) r o seats left a
+
+-- ---- one answer
+
+-- each file holds bytes
+abbrev pub HoldBytes : Files → Type 0
+HoldBytes files = (name bytes : List ℕ) → content files name ≡ Some bytes → AreBytes bytes
+
+-- an answer that neither a fault nor want of memory made
+abbrev pub IsDecided : Answer → Type 0
+IsDecided answer.Done = Unit {0}
+IsDecided (answer.Refused r) = Unit {0}
+IsDecided (answer.Stopped why) = Unit {0}
+IsDecided other = ⊥
+
+-- Words, files of bytes, the text before and devices of whole words decide a run: two such answers to it are one, and leave
+-- one text, the same devices and the same files, whatever store and sink counted.
+abbrev pub OneRun : Type 0
+OneRun =
+    (words : List (List ℕ)) (w : RunWords) (files : Files) (printed : List ℕ) (o p : Outside) (seats left left' : List Seat) (a b : Answer)
+    → command_of words ≡ Ok (command.Run w) → HoldBytes files → AreWholeSeats seats
+    → o.before ≡ Some files → p.before ≡ Some files → o.printed ≡ Some printed → p.printed ≡ Some printed
+    → RunAnswers w o seats left a → RunAnswers w p seats left' b → IsDecided a → IsDecided b
+    → (a ≡ b) × (left ≡ left') × (o.prints ≡ p.prints) × (o.after ≡ p.after)

@@ -2,7 +2,7 @@
 
 ghost use Rattle.sdt_toolkit.specs.Builds.{BuildsAreLinks, SpelledAreObjectFiles};
 ghost use Rattle.sdt_toolkit.specs.Links.{OneLinkAsked};
-ghost use Rattle.sdt_toolkit.specs.Runs.{CommandsStart, FilesAreRead, LinkedRunsStart, RunsStart};
+ghost use Rattle.sdt_toolkit.specs.Runs.{CommandsStart, FilesAreRead, LinkedRunsStart, OneRun, RunsStart};
 ghost use Rattle.sdt_toolkit.specs.Sources.{OneAsked};
 ghost use Rattle.sdt_toolkit.specs.Starting.{AifImagesStart, PlainImagesLoad, ScatterImagesStart};
 
@@ -75,4 +75,12 @@ pub fn linked_runs_start()
     ensures { LinkedRunsStart }
 {
     commands_start();
+}
+
+/// Words, files of bytes, the text before and devices of whole words decide a run. Its answer is one, unless a fault or want of
+/// memory made it, and so are the text, the devices and the files that it leaves.
+pub fn one_run()
+    ensures { OneRun }
+{
+    bus_run_is_one();
 }
