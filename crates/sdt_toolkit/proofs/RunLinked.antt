@@ -1,18 +1,14 @@
 -- What a link leaves in the store are the files of its image, so that each run by their map starts.
-use Rattle.std.proofs.Common.{◌≡◌, ℕ, Bool, true, false, cond, List, [], ◌∷◌, map, Option, Some, None, refl, sym, ap, ◌∙◌, subst}
+use Rattle.std.proofs.Common.{◌≡◌, ℕ, Bool, true, false, cond, List, [], ◌∷◌, map, Some, refl, ap, ◌∙◌, subst}
 use Rattle.std.specs.List.{AllByRecursion}
 use Rattle.std.specs.Ordering.{eq_by_cmp, nat_cmp}
 use Rattle.std.specs.Cmp.{eq_by_cmp_equiv}
 use Rattle.std.specs.Cmp.Lexicographic.{slice_cmp, nat_list_cmp_total}
-use Rattle.std.specs.FinMap.{get, get-insert, insert}
+use Rattle.std.specs.FinMap.{get-insert, insert}
 use Rattle.std.proofs.lemmas.Map.Lookups.{exact_bytes}
 use Rattle.std.proofs.lemmas.Map.Views.{tells_apart}
-use Rattle.sdt_fault.specs.declared.answer.Answer.{Answer}
 use Rattle.sdt_outside.specs.Files.{Files, content}
 use Rattle.scatter_text.specs.Validity.{AreDistinct}
-use Rattle.arm7_bus.specs.declared.memory.Bank.{Bank}
-use Rattle.arm7_bus.specs.Seats.{Seat}
-use Rattle.boot_code.specs.Boots.{ByteMap}
 use Rattle.link_model.specs.declared.images.Image.{Image}
 use Rattle.link_model.specs.declared.images.ImageKind.{ImageKind}
 use Rattle.link_model.specs.declared.images.ImageKind.TheVariants as shape
@@ -21,9 +17,9 @@ use Rattle.bin_image.specs.Files.{files_of}
 use Rattle.tool_answers.specs.Outcomes.{written}
 use Rattle.tool_words.specs.declared.command.LinkForm.{LinkForm}
 use Rattle.tool_words.specs.declared.command.LinkForm.TheVariants as form
-use Rattle.sdt_toolkit.specs.Headline.{IsLinkedInto, Reaches}
+use Rattle.sdt_toolkit.specs.Headline.{Reaches}
 use Rattle.sdt_toolkit.specs.Links.{files_as, image_files, outputs}
-use Rattle.sdt_toolkit.specs.RunImages.{CanRun, HasFiles}
+use Rattle.sdt_toolkit.specs.RunImages.{HasFiles}
 use Rattle.sdt_toolkit.specs.Runs.{CommandsStart, LinkedRunsStart}
 use Rattle.sdt_toolkit.specs.Starting.{written_in}
 

@@ -1,15 +1,14 @@
 -- A scatter image that is linked can be run.
-use Rattle.std.proofs.Common.{◌≡◌, ℕ, suc, ◌+◌, ◌*◌, ◌%◌, ◌^◌, ◌<◌, ◌≤◌, Bool, true, false, List, [], ◌∷◌, ◌++◌, length, map, refl, sym, ap, ◌∙◌, subst, arith, Option, Some, None}
+use Rattle.std.proofs.Common.{◌≡◌, ℕ, suc, ◌+◌, ◌*◌, ◌%◌, ◌^◌, ◌<◌, ◌≤◌, true, List, [], ◌∷◌, ◌++◌, length, map, refl, sym, ap, ◌∙◌, subst, arith, Option, Some, None}
 use Rattle.std.specs.Prelude.{codes, is_some, sum_by, unwrap_or}
-use Rattle.std.specs.List.{list_any, AllByRecursion}
+use Rattle.std.specs.List.{AllByRecursion}
 use Rattle.base_lemmas.proofs.BaseLemmas.{all_weaker}
 use Rattle.sdt_word.specs.declared.ranges.Range32.{Range32}
 use Rattle.boot_code.specs.declared.rows.CopyRow.{CopyRow}
 use Rattle.boot_code.specs.declared.rows.ZeroRow.{ZeroRow}
-use Rattle.boot_code.specs.Boots.{ByteMap, Places}
+use Rattle.boot_code.specs.Boots.{Places}
 use Rattle.boot_code.specs.Laws.{bound_of, written_by}
-use Rattle.boot_code.specs.Startup.{copied_words, table_list, zeroed_words}
-use Rattle.boot_code.specs.Words.{boot_list}
+use Rattle.boot_code.specs.Startup.{copied_words, zeroed_words}
 use Rattle.byte_maps.specs.Maps.{Segment, map_of}
 use Rattle.scatter_text.specs.Validity.{IsValidLoad}
 use Rattle.scatter_text.specs.Validity as valid
@@ -34,21 +33,20 @@ use Rattle.link_model.specs.declared.selection.Linked.{Linked}
 use Rattle.link_model.specs.Members.{link_of}
 use Rattle.link_items.specs.LinkedItems.{contents_of}
 use Rattle.link_place.specs.Placed.{placement_of}
-use Rattle.link_apply.specs.RegionBytes.{copy_rows, regions_bytes, zero_rows}
+use Rattle.link_apply.specs.RegionBytes.{regions_bytes}
 use Rattle.link_laws.specs.Joins.{IsMade, filled_in, given_in}
 use Rattle.link_laws.specs.Placing.{link_plan}
 use Rattle.link_laws.proofs.MadePlacedLemmas.{is_placement, made_is_placed}
 use Rattle.link_laws.proofs.MadeStart.{made_starts}
-use Rattle.bin_image.specs.Fields.{is_name, lacks}
-use Rattle.bin_image.specs.Files.{map_file, map_load, map_of as image_map, map_region}
-use Rattle.bin_image.specs.Maps.{AreApart, IsLoad, IsRegion, IsValid}
+use Rattle.bin_image.specs.Fields.{lacks}
+use Rattle.bin_image.specs.Files.{map_file, map_of as image_map, map_region}
+use Rattle.bin_image.specs.Maps.{IsRegion, IsValid}
 use Rattle.armlink_core.specs.declared.making.Made.{Made}
 use Rattle.armlink_core.specs.Images.{image_of, loads_from}
 use Rattle.armlink_core.specs.Sizes.{copies_in, region_size, zeros_in}
 use Rattle.armlink_core.proofs.LoadLemmas.{copies_few, zeros_few}
 use Rattle.armlink_core.proofs.WithinLemmas.{is_small}
-use Rattle.tool_run.specs.Images.{has_zero}
-use Rattle.sdt_toolkit.specs.RunImages.{CanRun, IsFiled, is_needed, load_need, needs_of, region_need}
+use Rattle.sdt_toolkit.specs.RunImages.{CanRun, is_needed, load_need, needs_of, region_need}
 use Rattle.sdt_toolkit.specs.Starting.{segments_of}
 use Rattle.sdt_toolkit.proofs.RunBytes.{loads_are_bytes}
 use Rattle.sdt_toolkit.proofs.RunNames.{IsNamedLoad, files_differ, plan_named}
