@@ -70,7 +70,7 @@ pub gives_there : (c : Context) (names : List (List ℕ)) (l : LaidLine) (before
 gives_there c names l before x i kept h =
     let own = given_kinds l.seen (defined_by l.statement) in
     let named = names_kinds names l.seen.all (registers_behind before) (registers_of l.statement.what) in
-    let both = both_empty (own ++ named) (operand_kinds (registers_behind before) l.statement.what) h in
+    let both = both_empty (own ++ named) (operand_kinds l.thumb (registers_behind before) l.statement.what) h in
     field_stays c l.seen x l.statement.label l.statement.what i kept (both_empty own named both.0).0
 
 -- ---- registers are below 16

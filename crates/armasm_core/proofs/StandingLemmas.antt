@@ -64,8 +64,8 @@ few_areas name flats o h short =
 
 -- ---- laws
 
-pub objects_of_flats_stand : OneReading → ReadingsAreFit → SourcesKeepStates → ObjectsStand → ObjectsOfFlatsStand
-objects_of_flats_stand one fits keep stand name flats o h short few own values area_at view region veneers placed shown r says =
+pub objects_of_flats_stand : OneReading → ReadingsAreFit → ObjectsStand → ObjectsOfFlatsStand
+objects_of_flats_stand one fits stand name flats o h short few own values area_at view region veneers placed shown r says =
     let fit : AreFit (said_by h.reading) = fits flats h.reading h.says in
     let none = source_none name h.reading h.makes.0 in
     let faultless : IsFaultless (said_by h.reading) = record {
@@ -74,7 +74,6 @@ objects_of_flats_stand one fits keep stand name flats o h short few own values a
       loads_named = fit.loads_named;
       laid_out = none.0;
       valued = none.1;
-      states = keep (said_by h.reading) fit.states;
     } in
     subst (λ (items : List Statement). AllStand (source_of (reversed items [])) values view region) (one flats h.reading r h.says says).0
     (stand (said_by h.reading) o faultless h.makes.1 (few_areas name flats o h short) few own values area_at view region veneers placed shown)

@@ -1,5 +1,6 @@
 -- What can be put into an area: a thing lies inside the bytes that the area keeps; an instruction fits its row of the
--- instruction table, and so has a word, a half-word or two; and a relocation has room for the number of its symbol or area. This project's.
+-- instruction table, and so has a word, a half-word or two; and a relocation has room for the number of its symbol or
+-- area. This project's.
 use Rattle.std.specs.Prelude.{◌≡◌, ℕ, ◌+◌, ◌^◌, ◌<◌, ◌≤◌, List, [], ◌∷◌, length, true, Option, Some, None}
 use Rattle.std.specs.List.{list_any}
 use Rattle.asm_model.specs.Forms.{same}

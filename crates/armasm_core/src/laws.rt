@@ -24,7 +24,6 @@ pub fn objects_of_flats_stand()
 {
     one_reading();
     readings_are_fit();
-    sources_keep_states();
     objects_stand();
 }
 

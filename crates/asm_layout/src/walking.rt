@@ -129,7 +129,7 @@ impl Walk {
             .check(statement, laid.area, laid.thumb, laid.number, is_settled)?;
         let named = self
             .registers
-            .check(statement, laid.number, &outline.names)?;
+            .check(statement, laid.thumb, laid.number, &outline.names)?;
         Ok(Judged {
             laid,
             found: first_told(checked, named),

@@ -1,5 +1,5 @@
 -- What is told of a line's registers, and what the line leaves: a list of names counts by what is found in it alone.
-use Rattle.std.proofs.Common.{◌≡◌, ℕ, Bool, cond, List, [], ◌∷◌, ◌++◌, Option, refl, sym, ap, ◌∙◌}
+use Rattle.std.proofs.Common.{◌≡◌, ℕ, Bool, true, false, not, cond, List, [], ◌∷◌, ◌++◌, Option, refl, sym, ap, ◌∙◌}
 use Rattle.std.specs.Prelude.{Result}
 use Rattle.std.specs.List.{list_any}
 use Rattle.sdt_fault.specs.declared.kinds.LineKind.{LineKind}
@@ -10,7 +10,7 @@ use Rattle.asm_model.specs.declared.operands.Register.TheVariants as register
 use Rattle.asm_model.specs.declared.operands.ListItem.{ListItem}
 use Rattle.asm_model.specs.declared.operands.ListItem.TheVariants as item
 use Rattle.asm_model.specs.declared.arm_lines.ArmLine.TheVariants as arm
-use Rattle.asm_model.specs.declared.thumb_lines.ThumbLine.TheVariants as thumb
+use Rattle.asm_model.specs.declared.statements.PseudoLine.{PseudoLine}
 use Rattle.asm_model.specs.declared.statements.PseudoLine.TheVariants as pseudo
 use Rattle.asm_model.specs.declared.statements.Statement.{Statement}
 use Rattle.asm_model.specs.declared.statements.What.{What}
@@ -23,7 +23,7 @@ use Rattle.asm_model.proofs.FaultLemmas.{told_by_parts}
 use Rattle.asm_model.specs.Labels.{defined_by}
 use Rattle.asm_model.specs.Laid.{LaidLine, reversed}
 use Rattle.asm_model.specs.LayoutKinds.{kind_if}
-use Rattle.source_model.specs.Registers.{Named, register_in, named_by, register_names, registers_behind, registers_of, kinds_unless, name_kinds, names_kinds, number_of, range_kinds, is_pc, operand_kinds, given_kinds, register_kinds}
+use Rattle.source_model.specs.Registers.{Named, register_in, named_by, register_names, registers_behind, registers_of, kinds_unless, name_kinds, names_kinds, number_of, range_kinds, is_pc, has_row, thumb_list, has_pseudo, pseudo_kinds, operand_kinds, given_kinds, register_kinds}
 use Rattle.asm_registers.specs.declared.registers.Registers.{Registers}
 use Rattle.asm_registers.specs.Giving.{AreNames}
 use Rattle.asm_registers.specs.Kept.{AreRegisters, IsLine}
@@ -65,12 +65,23 @@ ranges_same known known' h (item.One r ∷ is) = ranges_same known known' h is
 ranges_same known known' h (item.Range first last ∷ is) =
     rw (number_same known known' h first, number_same known known' h last, ranges_same known known' h is) refl
 
-operands_same : (known known' : List Named) → ((q : List ℕ) → register_in q known ≡ register_in q known') → (w : What) → operand_kinds known w ≡ operand_kinds known' w
-operands_same known known' h (what.Arm (arm.TransferBlock condition load mode rn write_back list user)) = ranges_same known known' h list.items
-operands_same known known' h (what.Thumb (thumb.PushPop load list)) = ranges_same known known' h list.items
-operands_same known known' h (what.Thumb (thumb.TransferMultiple load rn list)) = ranges_same known known' h list.items
-operands_same known known' h (what.Pseudo (pseudo.LongAddress condition rd target)) = ap (λ o. kind_if (is_pc o) BadOperand) (number_same known known' h rd)
-operands_same known known' h _ = refl
+all_same : (known known' : List Named) → ((q : List ℕ) → register_in q known ≡ register_in q known') → number_of known ≡ number_of known'
+all_same known known' h = λ i r. number_same known known' h r i
+
+pseudo_same : (thumb : Bool) (known known' : List Named) → ((q : List ℕ) → register_in q known ≡ register_in q known') → (l : PseudoLine)
+    → pseudo_kinds thumb known l ≡ pseudo_kinds thumb known' l
+pseudo_same true known known' h l = ap (λ n. kind_if (not (has_pseudo n l)) BadOperand) (all_same known known' h)
+pseudo_same false known known' h (pseudo.LongAddress condition rd target) = ap (λ o. kind_if (is_pc o) BadOperand) (number_same known known' h rd)
+pseudo_same false known known' h _ = refl
+
+operands_same : (thumb : Bool) (known known' : List Named) → ((q : List ℕ) → register_in q known ≡ register_in q known') → (w : What)
+    → operand_kinds thumb known w ≡ operand_kinds thumb known' w
+operands_same thumb known known' h (what.Arm (arm.TransferBlock condition load mode rn write_back list user)) = ranges_same known known' h list.items
+operands_same thumb known known' h (what.Thumb l) =
+    ap (λ ks. ks ++ kind_if (not (has_row (number_of known) l)) BadOperand) (ranges_same known known' h (thumb_list l))
+    ∙ ap (λ n. range_kinds known' (thumb_list l) ++ kind_if (not (has_row n l)) BadOperand) (all_same known known' h)
+operands_same thumb known known' h (what.Pseudo l) = pseudo_same thumb known known' h l
+operands_same thumb known known' h _ = refl
 
 -- ---- lines
 
@@ -78,14 +89,14 @@ pub numbers_kept : (names : List (List ℕ)) (before : List LaidLine) (r : Regis
     → (q : List ℕ) → register_in q r.known.entries ≡ register_in q (registers_behind before)
 numbers_kept names before r k q = sym (found q r.known) ∙ k.known q
 
-pub line_told : (names : List (List ℕ)) (s : Statement) (number : Result ℕ LineKind) (declared : List LaidName) (l : LaidLine) (before : List LaidLine) (old : Registers)
+pub line_told : (names : List (List ℕ)) (s : Statement) (thumb : Bool) (number : Result ℕ LineKind) (declared : List LaidName) (l : LaidLine) (before : List LaidLine) (old : Registers)
     (given named operand : Option LineKind)
-    → AreRegisters names before old → IsLine s number declared l
+    → AreRegisters names before old → IsLine s thumb number declared l
     → given ≡ told_kind (given_kinds l.seen (defined_by s))
     → named ≡ told_kind (names_kinds old.all.keys declared old.known.entries (registers_of s.what))
-    → operand ≡ told_kind (operand_kinds old.known.entries s.what)
+    → operand ≡ told_kind (operand_kinds thumb old.known.entries s.what)
     → first_told (first_told given named) operand ≡ told_kind (register_kinds names l before)
-line_told names s number declared l before old given named operand k i a b c =
+line_told names s thumb number declared l before old given named operand k i a b c =
     let numbers = numbers_kept names before old k in
     let alike : FindTheSame old.all.keys names declared l.seen.all old.known.entries (registers_behind before) = record {
       registers = λ q. sym (in_set q old.all) ∙ k.all q;
@@ -94,18 +105,18 @@ line_told names s number declared l before old given named operand k i a b c =
     } in
     let names_told : named ≡ told_kind (names_kinds names l.seen.all (registers_behind before) (registers_of s.what)) =
     b ∙ ap told_kind (names_same old.all.keys names declared l.seen.all old.known.entries (registers_behind before) alike (registers_of s.what)) in
-    let operands_told : operand ≡ told_kind (operand_kinds (registers_behind before) s.what) =
-    c ∙ ap told_kind (operands_same old.known.entries (registers_behind before) numbers s.what) in
-    rw (i.said, a, names_told, operands_told)
-    (sym (told_by_parts (given_kinds l.seen (defined_by s) ++ names_kinds names l.seen.all (registers_behind before) (registers_of s.what)) (operand_kinds (registers_behind before) s.what)
-    ∙ ap (λ o. first_told o (told_kind (operand_kinds (registers_behind before) s.what)))
+    let operands_told : operand ≡ told_kind (operand_kinds thumb (registers_behind before) s.what) =
+    c ∙ ap told_kind (operands_same thumb old.known.entries (registers_behind before) numbers s.what) in
+    rw (i.said, i.state, a, names_told, operands_told)
+    (sym (told_by_parts (given_kinds l.seen (defined_by s) ++ names_kinds names l.seen.all (registers_behind before) (registers_of s.what)) (operand_kinds thumb (registers_behind before) s.what)
+    ∙ ap (λ o. first_told o (told_kind (operand_kinds thumb (registers_behind before) s.what)))
     (told_by_parts (given_kinds l.seen (defined_by s)) (names_kinds names l.seen.all (registers_behind before) (registers_of s.what)))))
 
-pub line_left : (names : List (List ℕ)) (s : Statement) (number : Result ℕ LineKind) (declared : List LaidName) (l : LaidLine) (before : List LaidLine) (old new : Registers)
-    → AreRegisters names before old → IsLine s number declared l → new.all ≡ old.all
+pub line_left : (names : List (List ℕ)) (s : Statement) (thumb : Bool) (number : Result ℕ LineKind) (declared : List LaidName) (l : LaidLine) (before : List LaidLine) (old new : Registers)
+    → AreRegisters names before old → IsLine s thumb number declared l → new.all ≡ old.all
     → ((q : List ℕ) → register_in q new.known.entries ≡ register_in q (old.known.entries ++ named_by l.seen (defined_by s)))
     → AreRegisters names (l ∷ before) new
-line_left names s number declared l before old new k i same_all noted = record {
+line_left names s thumb number declared l before old new k i same_all noted = record {
   all = rw same_all k.all;
   known = rw i.said (λ q. found q new.known ∙ noted q
       ∙ before_more q old.known.entries (registers_behind before) (named_by l.seen (defined_by s)) (numbers_kept names before old k q));

@@ -1,6 +1,6 @@
 -- What is kept of the names for registers of a source, line by line. This project's. Lines are listed with the nearest
 -- first.
-use Rattle.std.specs.Prelude.{◌≡◌, ℕ, List, Result}
+use Rattle.std.specs.Prelude.{◌≡◌, ℕ, List, Bool, Result}
 use Rattle.std.specs.List.{list_any}
 use Rattle.std.specs.Ordering.{nat_cmp}
 use Rattle.std.specs.Cmp.Lexicographic.{slice_cmp}
@@ -21,9 +21,10 @@ pub record AreRegisters (names : List (List ℕ)) (before : List LaidLine) (r : 
   pub all : (q : List ℕ) → contains (slice_cmp nat_cmp) r.all q ≡ list_any (same q) names
   pub known : (q : List ℕ) → get (slice_cmp nat_cmp) r.known q ≡ register_in q (registers_behind before)
 
--- what is known of a line before it is checked: its statement, the number that RN is given, and that these are the other
--- names of the source
-pub record IsLine (s : Statement) (number : Result ℕ LineKind) (declared : List LaidName) (l : LaidLine) : Type 0 where
+-- what is known of a line before it is checked: its statement, its state, the number that RN is given, and that these are the
+-- other names of the source
+pub record IsLine (s : Statement) (thumb : Bool) (number : Result ℕ LineKind) (declared : List LaidName) (l : LaidLine) : Type 0 where
   pub said : l.statement ≡ s
+  pub state : l.thumb ≡ thumb
   pub given : IsGiven l.seen s.what number
   pub names : (q : List ℕ) → is_in l.seen.all q ≡ is_in declared q

@@ -1,14 +1,18 @@
 //! The registers of each form of instruction.
 
-ghost use Rattle.std.specs.Prelude.{◌≡◌, ◌∷◌};
+ghost use Rattle.std.specs.Prelude.{◌≡◌, ◌∷◌, not, true};
+ghost use Rattle.sdt_fault.specs.declared.kinds.LineKind.TheVariants.{BadOperand};
+ghost use Rattle.asm_model.specs.declared.statements.What.TheVariants as what;
 ghost use Rattle.asm_model.specs.Kinds.{told_kind};
+ghost use Rattle.asm_model.specs.LayoutKinds as layout;
 ghost use Rattle.source_model.specs.Registers as registers;
 ghost use Rattle.asm_registers.specs.Scoped.{told_of};
 
 use crate::lists::{items_kind, ranges_kind};
 use crate::naming::{Scope, four, one, three, two, with_rest};
 use crate::numbers::number_of;
-use asm_expr::told::kind_if;
+use crate::rows::{has_pseudo, has_row};
+use asm_expr::told::{first_told, kind_if};
 use asm_model::{
     Address, ArmLine, HalfOffset, PseudoLine, Register, ThumbLine, ThumbOperand, What,
 };
@@ -157,19 +161,56 @@ fn is_pc(number: Option<u8>) -> bool
     }
 }
 
-/// The fault of registers that no instruction has: a range that falls, and pc as the register of ADRL.
-pub fn operand_kind(known: &BTreeMap<Text, u8>, what: &What) -> Option<LineKind>
-    ensures { result ≡ told_kind (registers.operand_kinds known.now.entries what.now) }
+fn row_kind(known: &BTreeMap<Text, u8>, line: &ThumbLine) -> Option<LineKind>
+    ensures { result ≡ told_kind (layout.kind_if (not (registers.has_row (registers.number_of known.now.entries) line.now)) BadOperand) }
+{
+    kind_if(!has_row(known, line), LineKind::BadOperand)
+}
+
+/// The fault of a range that falls.
+fn thumb_range_kind(known: &BTreeMap<Text, u8>, line: &ThumbLine) -> Option<LineKind>
+    ensures { result ≡ told_kind (registers.range_kinds known.now.entries (registers.thumb_list line.now)) }
+{
+    match line {
+        ThumbLine::PushPop { list, .. } => ranges_kind(known, list.items.as_slice()),
+        ThumbLine::TransferMultiple { list, .. } => ranges_kind(known, list.items.as_slice()),
+        _ => None,
+    }
+}
+
+fn thumb_operand_kind(known: &BTreeMap<Text, u8>, line: &ThumbLine) -> Option<LineKind>
+    ensures { result ≡ told_kind (registers.operand_kinds true known.now.entries (what.Thumb line.now)) }
+{
+    first_told(thumb_range_kind(known, line), row_kind(known, line))
+}
+
+fn pseudo_operand_kind(
+    thumb: bool,
+    known: &BTreeMap<Text, u8>,
+    line: &PseudoLine,
+) -> Option<LineKind>
+    ensures { result ≡ told_kind (registers.pseudo_kinds thumb known.now.entries line.now) }
+{
+    if thumb {
+        return kind_if(!has_pseudo(known, line), LineKind::BadOperand);
+    }
+    match line {
+        PseudoLine::LongAddress { rd, .. } => {
+            kind_if(is_pc(number_of(known, rd)), LineKind::BadOperand)
+        }
+        _ => None,
+    }
+}
+
+/// The fault of registers that no instruction has: a range that falls, pc as the register of ADRL, and in Thumb state a
+/// register that the row doesn't have.
+pub fn operand_kind(thumb: bool, known: &BTreeMap<Text, u8>, what: &What) -> Option<LineKind>
+    ensures { result ≡ told_kind (registers.operand_kinds thumb known.now.entries what.now) }
 {
     match what {
         What::Arm(ArmLine::TransferBlock { list, .. }) => ranges_kind(known, list.items.as_slice()),
-        What::Thumb(ThumbLine::PushPop { list, .. }) => ranges_kind(known, list.items.as_slice()),
-        What::Thumb(ThumbLine::TransferMultiple { list, .. }) => {
-            ranges_kind(known, list.items.as_slice())
-        }
-        What::Pseudo(PseudoLine::LongAddress { rd, .. }) => {
-            kind_if(is_pc(number_of(known, rd)), LineKind::BadOperand)
-        }
+        What::Thumb(line) => thumb_operand_kind(known, line),
+        What::Pseudo(line) => pseudo_operand_kind(thumb, known, line),
         _ => None,
     }
 }

@@ -7,5 +7,6 @@ mod lists;
 mod naming;
 mod numbers;
 pub mod registers;
+mod rows;
 
 pub use crate::registers::Registers;

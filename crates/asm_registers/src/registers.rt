@@ -41,20 +41,21 @@ impl Registers {
         })
     }
 
-    /// The fault of the next line's registers that is told. `number` is the number that RN is given, where it is given one
-    /// by an expression; of other statements it isn't looked at. Behind a line with a fault, or an `Err`, nothing more can
-    /// be checked.
+    /// The fault of the next line's registers that is told. `thumb` is the line's state, and `number` the number that RN is
+    /// given, where it is given one by an expression; of other statements it isn't looked at. Behind a line with a fault, or
+    /// an `Err`, nothing more can be checked.
     pub fn check(
         &mut self,
         statement: &Statement,
+        thumb: bool,
         number: Result<u32, LineKind>,
         declared: &KnownNames,
     ) -> Result<Option<LineKind>, NoMemory>
-        ensures told { IfOk result (λ told. (names : List (List ℕ)) (l : LaidLine) (before : List LaidLine) → AreRegisters names before self.old → IsLine statement.now number declared.now l → told ≡ told_kind (registers.register_kinds names l before)) }
-        ensures behind { IfOk result (λ told. (names : List (List ℕ)) (l : LaidLine) (before : List LaidLine) → AreRegisters names before self.old → IsLine statement.now number declared.now l → told ≡ None → AreRegisters names (l ∷ before) self.new) }
+        ensures told { IfOk result (λ told. (names : List (List ℕ)) (l : LaidLine) (before : List LaidLine) → AreRegisters names before self.old → IsLine statement.now thumb number declared.now l → told ≡ told_kind (registers.register_kinds names l before)) }
+        ensures behind { IfOk result (λ told. (names : List (List ℕ)) (l : LaidLine) (before : List LaidLine) → AreRegisters names before self.old → IsLine statement.now thumb number declared.now l → told ≡ None → AreRegisters names (l ∷ before) self.new) }
     {
         let named = self.named(statement, declared);
-        let operand = operand_kind(&self.known, &statement.what);
+        let operand = operand_kind(thumb, &self.known, &statement.what);
         let given = given_kind(self.alloc, &mut self.known, statement, number)?;
         Ok(first_told(first_told(given, named), operand))
     }

@@ -12,7 +12,7 @@ use Rattle.aof_object.specs.Spelling.{written}
 use Rattle.armasm_core.specs.Assembling.{Assembles, AssembledFrom, IsCaused, OneAssembly}
 use Rattle.tool_answers.specs.Outcomes.{Outcome, writes_one}
 use Rattle.sdt_toolkit.specs.Reads.{Reads, HasFailed, IsAmong}
-use Rattle.sdt_toolkit.specs.Sources.{Spells, TextAsks, SpellsAs, FilesAsk, FoundAsks, SourceAsks, OneAsked}
+use Rattle.sdt_toolkit.specs.Sources.{IsObjectOf, Spells, TextAsks, SpellsAs, FilesAsk, FoundAsks, SourceAsks, OneAsked}
 use Rattle.sdt_toolkit.proofs.ReadLemmas.{assembled_among, cause_among, failed_among}
 use Rattle.tool_library.proofs.AnswerLemmas.{first_reached as reached}
 
@@ -24,24 +24,30 @@ module _ (told : Option Files) (before now : ℕ) (s : Reads) (among : IsAmong t
     made = Err r;
     assembled = assembled_among told before now s among name text (Err r) h;
     caused = cause_among told before now s among r cause;
+    sound = λ o e. absurd (let bad : ◌≡◌ {A = Result Object Refusal} (Err r) (Ok o) = e in cc);
     spelled = refl;
   }
   spells_none name text (fault.ReadFault n) h cause = failed_among told before now s among cause
   spells_none name text fault.NoMemory h cause = tt
 
-  spelled : (name text : List ℕ) (o : Object) (r : Result (List ℕ) Refusal) → Assembles told name text (Ok o) → r ≡ written o → Spells s name text r
-  spelled name text o r h k = record {
+  spelled : (name text : List ℕ) (o : Object) (r : Result (List ℕ) Refusal) → Assembles told name text (Ok o) → IsObjectOf told name text o → r ≡ written o → Spells s name text r
+  spelled name text o r h is k = record {
     made = Ok o;
     assembled = assembled_among told before now s among name text (Ok o) h;
     caused = tt;
+    sound = λ p e.
+        let same : ◌≡◌ {A = Result Object Refusal} (Ok o) (Ok p) = e in
+        let one : o ≡ p = cc in
+        subst (IsObjectOf s.told name text) one (subst (λ (t : Option Files). IsObjectOf t name text o) (sym among.files) is);
     spelled = k;
   }
 
-  pub spells_object : (name text : List ℕ) (o : Object) (r : Result (List ℕ) Fault) → Assembles told name text (Ok o) → Gives r (written o) → SpellsAs s name text r
-  spells_object name text o (Ok bytes) h k = spelled name text o (Ok bytes) h (sym k)
-  spells_object name text o (Err (fault.Refused r)) h k = spelled name text o (Err r) h (sym k)
-  spells_object name text o (Err (fault.ReadFault n)) h k = absurd k
-  spells_object name text o (Err fault.NoMemory) h k = tt
+  pub spells_object : (name text : List ℕ) (o : Object) (r : Result (List ℕ) Fault) → Assembles told name text (Ok o) → IsObjectOf told name text o → Gives r (written o)
+      → SpellsAs s name text r
+  spells_object name text o (Ok bytes) h is k = spelled name text o (Ok bytes) h is (sym k)
+  spells_object name text o (Err (fault.Refused r)) h is k = spelled name text o (Err r) h is (sym k)
+  spells_object name text o (Err (fault.ReadFault n)) h is k = absurd k
+  spells_object name text o (Err fault.NoMemory) h is k = tt
 
 asks_bytes : (output : List ℕ) → List ℕ → Result Outcome Refusal
 asks_bytes output b = Ok (writes_one output b)

@@ -10,7 +10,8 @@ use Rattle.chunk_file.specs.Reading.{◌>>=◌}
 use Rattle.aof_object.specs.declared.records.Object.{Object}
 use Rattle.alf_archive.specs.declared.records.Member.{Member}
 use Rattle.boot_code.specs.Boots.{ByteMap}
-use Rattle.armasm_core.specs.Assembling.{OneAssembly}
+use Rattle.aof_object.specs.Spelling.{written}
+use Rattle.armasm_core.specs.Assembling.{AssembledFrom, OneAssembly}
 use Rattle.link_model.specs.declared.images.Image.{Image}
 use Rattle.link_model.specs.declared.selection.Named.{Named}
 use Rattle.link_model.specs.Chosen.{AreChosen, AreLinked, taken}
@@ -26,10 +27,11 @@ use Rattle.tool_answers.specs.Inputs.{and_others, found_or, input_of, inputs_of}
 use Rattle.tool_answers.specs.Outcomes.{Outcome}
 use Rattle.tool_library.specs.declared.linkables.Linkable.{Linkable}
 use Rattle.tool_library.specs.declared.linkables.Linkable.TheVariants as input
-use Rattle.sdt_toolkit.specs.Builds.{BuildsAreLinks, HasItsDescription, HasItsFile, link_name, link_words}
+use Rattle.sdt_toolkit.specs.Builds.{BuildsAreLinks, SpelledAreObjectFiles, HasItsDescription, HasItsFile, link_name, link_words}
 use Rattle.sdt_toolkit.specs.Inputs.{Behind, InputIs, InputsAre, NamedIs, archives_among, is_source_name, module_of, named, object_name, objects_among}
 use Rattle.sdt_toolkit.specs.Links.{AsAif, FilesAsk, ImageIs, InputsMake, IsInMemory, LinkAsks, LinksTo, ReadAsks, ScattersTo, filed, files_read, inputs_in, read_by, text_in, writes_all}
 use Rattle.sdt_toolkit.specs.Reads.{Reads}
+use Rattle.sdt_toolkit.specs.Sources.{IsObjectOf}
 use Rattle.sdt_toolkit.specs.Starting.{AreShownIn, IsShownIn}
 use Rattle.sdt_toolkit.proofs.BuildLemmas.{IsFor, OneOf, built_as, linked_as, same_module}
 
@@ -148,7 +150,7 @@ shown_alike view os ps alike shown k p at =
 
 memory_alike : (f : LinkForm) (os ps : List (Named Object)) (i : Image) → AreAlike os ps → IsInMemory f os i → IsInMemory f ps i
 memory_alike (form.Scatter file) os ps i alike h =
-    record { view = h.view; copies = h.copies; parts = h.parts; loaded = h.loaded; boots = h.boots; shown = shown_alike h.view os ps alike h.shown }
+    record { view = h.view; loaded = h.loaded; boots = h.boots; shown = shown_alike h.view os ps alike h.shown; runs = h.runs }
 memory_alike (form.Aif base relocatable) os ps i alike h =
     record { views = h.views; boots = h.boots; shown = λ to fits. shown_alike (h.views to) os ps alike (h.shown to fits) }
 memory_alike (form.Plain base) os ps i alike h = record { view = h.view; parts = h.parts; cleared = h.cleared; shown = shown_alike h.view os ps alike h.shown }
@@ -388,3 +390,16 @@ builds_are_links law images scatters s t files others w o told_files told_others
           (turned (AreRead files w.form w.names) (inputs_of files (files_read w)) (inputs_of others (files_read v)) read)
           (subst (λ (x : Option Files). FilesAsk x t false v (Ok o)) told_others asks)),
     )
+
+-- ---- files
+
+pub spelled_are_object_files : SpelledAreObjectFiles
+spelled_are_object_files s files name text bytes told h =
+    let (o, made, whole) = came h.made written bytes h.spelled in
+    let assembled : AssembledFrom s.told name text (Ok o) = subst (AssembledFrom s.told name text) made h.assembled in
+    record {
+      object = o;
+      assembled = subst (λ (t : Option Files). AssembledFrom t name text (Ok o)) told assembled;
+      sound = subst (λ (t : Option Files). IsObjectOf t name text o) told (h.sound o made);
+      spelled = sym whole;
+    }

@@ -142,7 +142,7 @@ linked_as s files told false name bytes others one f v h = h ∙ ap (linkable_of
 linked_as s files told true name bytes others one f v h =
     let from : AssembledFrom (Some files) name bytes h.object = subst (λ (t : Option Files). AssembledFrom t name bytes h.object) told h.assembled in
     let same : h.object ≡ Ok f.object = one h.object (Ok f.object) from f.assembled in
-    h.as_input ∙ ap (λ (o : Result Object Refusal). o >>= as_input) same ∙ sym (object_read (object_name name) others f.object f.valid f.fits f.spelled)
+    h.as_input ∙ ap (λ (o : Result Object Refusal). o >>= as_input) same ∙ sym (object_read (object_name name) others f.object f.sound.valid f.sound.fits f.spelled)
 
 pub built_as : (s : Reads) (files : Files) → s.told ≡ Some files → (b : Bool) (name bytes others : List ℕ) → IsFor files b name bytes others
     → (v : Linkable) → Ok v ≡ linkable_of (cond b (object_name name) name) others → InputBy s b name bytes (Ok v)
@@ -151,9 +151,9 @@ built_as s files told true name bytes others f v h = record {
   object = Ok f.object;
   assembled = subst (λ (t : Option Files). AssembledFrom t name bytes (Ok f.object)) (sym told) f.assembled;
   caused = tt;
-  as_input = h ∙ object_read (object_name name) others f.object f.valid f.fits f.spelled;
+  as_input = h ∙ object_read (object_name name) others f.object f.sound.valid f.sound.fits f.spelled;
   stands = λ o e.
       let same : ◌≡◌ {A = Result Object Refusal} (Ok f.object) (Ok o) = e in
       let is : f.object ≡ o = cc in
-      subst (StandsFrom s.told name bytes) is (subst (λ (t : Option Files). StandsFrom t name bytes f.object) (sym told) f.stands);
+      subst (StandsFrom s.told name bytes) is (subst (λ (t : Option Files). StandsFrom t name bytes f.object) (sym told) f.sound.stands);
 }

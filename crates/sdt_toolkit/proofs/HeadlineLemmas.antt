@@ -140,7 +140,7 @@ record InMemory (f : LinkForm) (os : List (Named Object)) (i : Image) : Type 0 w
   pub shown : (to : ℕ) → FitsWhere f i to → AreShownIn (views to) os
 
 memory_views : (f : LinkForm) (os : List (Named Object)) (i : Image) → IsInMemory f os i → InMemory f os i
-memory_views (form.Scatter file) os i h = record { views = λ to. h.view; reaches = (h.copies, h.parts, h.boots); shown = λ to fits. h.shown }
+memory_views (form.Scatter file) os i h = record { views = λ to. h.view; reaches = (h.boots, h.runs); shown = λ to fits. h.shown }
 memory_views (form.Aif base relocatable) os i h = record { views = h.views; reaches = h.boots; shown = h.shown }
 memory_views (form.Plain base) os i h = record { views = λ to. h.view; reaches = (h.parts, h.cleared); shown = λ to fits. h.shown }
 

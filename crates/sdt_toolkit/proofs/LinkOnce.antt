@@ -86,10 +86,10 @@ range_once b s c t base size =
 abbrev told : Range32 → ℕ × ℕ
 told r = (r.base, r.size)
 
-first_same : (p q : ℕ × ℕ) (ps qs : List (ℕ × ℕ)) → p ∷ ps ≡ q ∷ qs → (p ≡ q) × (ps ≡ qs)
+pub first_same : (p q : ℕ × ℕ) (ps qs : List (ℕ × ℕ)) → p ∷ ps ≡ q ∷ qs → (p ≡ q) × (ps ≡ qs)
 first_same p q ps qs h = (cc, cc)
 
-ranges_once : (xs ys : List Range32) → map {B = ℕ × ℕ} (λ r. (r.base, r.size)) xs ≡ map {B = ℕ × ℕ} (λ r. (r.base, r.size)) ys → xs ≡ ys
+pub ranges_once : (xs ys : List Range32) → map {B = ℕ × ℕ} (λ r. (r.base, r.size)) xs ≡ map {B = ℕ × ℕ} (λ r. (r.base, r.size)) ys → xs ≡ ys
 unfolding range
 ranges_once [] [] h = refl
 ranges_once [] (y ∷ ys) h = absurd (let bad : ◌≡◌ {A = List (ℕ × ℕ)} [] ((y.base, y.size) ∷ map (λ r. (r.base, r.size)) ys) = h in cc)

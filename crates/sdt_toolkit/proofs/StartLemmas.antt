@@ -14,6 +14,8 @@ use Rattle.chunk_file.specs.Reading.{◌>>=◌}
 use Rattle.aof_object.specs.declared.records.Entry.{Entry}
 use Rattle.aof_object.specs.declared.records.Object.{Object}
 use Rattle.aof_object.specs.Validity.{IsValid}
+use Rattle.boot_code.specs.declared.rows.CopyRow.{CopyRow}
+use Rattle.boot_code.specs.declared.rows.ZeroRow.{ZeroRow}
 use Rattle.boot_code.specs.Boots.{ByteMap, Boots, moved, zeroed}
 use Rattle.boot_code.specs.Laws.{bound_of, written_by}
 use Rattle.byte_maps.specs.Maps.{Segment, map_of}
@@ -79,8 +81,11 @@ use Rattle.armlink_core.specs.declared.making.Made.{Made}
 use Rattle.armlink_core.specs.Linking.{made_at, made_of, made_with, symbols_of}
 use Rattle.armlink_core.specs.Images.{bytes_in, described, image_made, image_of, linking, loads_from as regions_loaded}
 use Rattle.armlink_core.specs.Moves.{can_move, moves_in}
+use Rattle.armlink_core.specs.Sizes.{zeros_in}
 use Rattle.link_shifts.specs.Moves.{moved as moved_list}
 use Rattle.sdt_toolkit.specs.Starting.{AreSound, AreShownIn, Loads, PlainImagesLoad, ScatterImagesStart, Starts, segments_of}
+use Rattle.sdt_toolkit.proofs.RunLinks.{can_run}
+use Rattle.sdt_toolkit.proofs.RunNames.{IsNamedLoad, named_by}
 
 -- ---- answers
 
@@ -355,7 +360,7 @@ whole_bases s v =
     (λ l one. all_weaker valid.AreWhole (λ r. IsWholeBase r.base) (λ r both. is_whole_base r.base both.0) l.regions one.regions) s.loads v.each)
 
 module _ (s : Scatter) (ram : Option (List Range32)) (l : Linked) (a : Assigned) (vs : List Veneer) (p : Placement) (h : IsMade (kind.Scatter s) ram l a vs p)
-    (v : valid.IsValid s.loads) where
+    (v : valid.IsValid s.loads) (named : AllByRecursion IsNamedLoad s.loads) where
   abbrev scattered : Plan
   scattered = plan (kind.Scatter s) ram l a vs p h refl
 
@@ -377,27 +382,32 @@ module _ (s : Scatter) (ram : Option (List Range32)) (l : Linked) (a : Assigned)
       let (boot, there) = has_boot s (contents_of l.objects a.regions vs) v in
       let at : p.boot ≡ Some boot = its_places.boot ∙ there in
       let start : its_image.start ≡ boot = ap (λ (o : Option ℕ). unwrap_or o 0) at in
-      let bound : its_image.bound ≡ bound_of (copies_of scattered) (parts_of scattered) = (λ i. bound_of (its_places.copies i) (its_places.parts i)) in
       let files : segments_of its_image ≡ files_of scattered filling = segments_same k ram l a vs p h refl in
+      -- the rows of the image's regions are those of the plan
+      let Loaded : List CopyRow → List ZeroRow → ByteMap = λ copies parts x. zeroed (Some 0) (moved (map_of (segments_of its_image)) copies) parts x in
+      let Booted : List CopyRow → List ZeroRow → Type 0 = λ copies parts.
+      Boots (map_of (segments_of its_image)) its_view (written_by copies parts) its_image.start (bound_of copies parts) (its_image.entry + flag its_image.thumb) in
+      let by_plan : Booted (copies_of scattered) (parts_of scattered) =
+      subst (λ (n : ℕ). Boots (map_of (segments_of its_image)) its_view (written_by (copies_of scattered) (parts_of scattered)) n (bound_of (copies_of scattered) (parts_of scattered)) (its_image.entry + flag its_image.thumb)) (sym start)
+      (subst (λ (fs : List Segment). Boots (map_of fs) its_view (written_by (copies_of scattered) (parts_of scattered)) boot (bound_of (copies_of scattered) (parts_of scattered)) (its_image.entry + flag its_image.thumb)) (sym files)
+      (made_boots s ram l a vs p boot h at)) in
       record {
         view = its_view;
-        copies = copies_of scattered;
-        parts = parts_of scattered;
         loaded = λ x b shows.
-            subst (λ (fs : List Segment). zeroed (Some 0) (moved (map_of fs) (copies_of scattered)) (parts_of scattered) x ≡ Some b) (sym files)
+            (λ i. Loaded (its_places.copies i) (its_places.parts i) x)
+            ∙ subst (λ (fs : List Segment). zeroed (Some 0) (moved (map_of fs) (copies_of scattered)) (parts_of scattered) x ≡ Some b) (sym files)
             (moved_view scattered filling its_view (files_of scattered filling) (is_shown k ram l a vs p h refl) (is_loaded k ram l a vs p h refl) x b shows);
         boots =
-            subst (λ (n : ℕ). Boots (map_of (segments_of its_image)) its_view (written_by (copies_of scattered) (parts_of scattered)) n its_image.bound (its_image.entry + flag its_image.thumb)) (sym start)
-            (subst (λ (n : ℕ). Boots (map_of (segments_of its_image)) its_view (written_by (copies_of scattered) (parts_of scattered)) boot n (its_image.entry + flag its_image.thumb)) (sym bound)
-            (subst (λ (fs : List Segment). Boots (map_of fs) its_view (written_by (copies_of scattered) (parts_of scattered)) boot (bound_of (copies_of scattered) (parts_of scattered)) (its_image.entry + flag its_image.thumb)) (sym files)
-            (made_boots s ram l a vs p boot h at)));
+            subst (λ (copies : List CopyRow). Booted copies (zeros_in p.regions)) (sym its_places.copies)
+            (subst (λ (parts : List ZeroRow). Booted (copies_of scattered) parts) (sym its_places.parts) by_plan);
         shown = objects_shown k ram l a vs p h refl;
+        runs = can_run s ram l a vs p h boot at v named files (is_shown k ram l a vs p h refl) (is_loaded k ram l a vs p h refl);
       }
 
-answered_starts : (s : Scatter) (ram : Option (List Range32)) (os : List (Named Object)) (i : Image) → valid.IsValid s.loads → IsAnswered (kind.Scatter s) ram os i → Starts os i
-answered_starts s ram os i v n =
+answered_starts : (s : Scatter) (ram : Option (List Range32)) (os : List (Named Object)) (i : Image) → valid.IsValid s.loads → AllByRecursion IsNamedLoad s.loads → IsAnswered (kind.Scatter s) ram os i → Starts os i
+answered_starts s ram os i v named n =
     subst (Starts os) (still_image (kind.Scatter s) ram os i refl n) (subst (λ (xs : List (Named Object)). Starts xs (made_image (kind.Scatter s) ram n.linked n.assigned n.veneers n.placement n.made refl)) n.objects
-    (starts s ram n.linked n.assigned n.veneers n.placement n.made v))
+    (starts s ram n.linked n.assigned n.veneers n.placement n.made v named))
 
 described_starts : ReadingLaw → (text : List ℕ) (d : Result Scatter Refusal) → scatter_of text ≡ d → (ram : Option (List Range32)) (os : List (Named Object)) (i : Image)
     → AreSound os → described d ram os ≡ Ok i → Starts os i
@@ -405,8 +415,8 @@ described_starts law text (Err r) at ram os i sound h =
     let l = steps_ok (selection_of None os) (λ l. Err r) i h in
     absurd (let bad : ◌≡◌ {A = Result Image Refusal} (Err r) (Ok i) = l.2 in cc)
 described_starts law text (Ok s) at ram os i sound h =
-    let v : valid.IsValid s.loads = ((law text s).0 at).1 in
-    answered_starts s ram os i v
+    let (spelled, v) = (law text s).0 at in
+    answered_starts s ram os i v (named_by text s.loads spelled)
     (answered (kind.Scatter s) ram os i sound (all_weaker IsValidLoad (λ l. l.base % 4 ≡ 0) (λ l one. one.base.1) s.loads v.each) (whole_bases s v) h)
 
 pub scatter_images_start : ReadingLaw → ScatterImagesStart

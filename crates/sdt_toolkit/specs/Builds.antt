@@ -3,11 +3,8 @@ use Rattle.std.specs.Prelude.{◌≡◌, ◌↔◌, ℕ, Bool, true, false, if�
 use Rattle.std.specs.List.{AllByRecursion}
 use Rattle.sdt_outside.specs.Files.{Files, content}
 use Rattle.aof_object.specs.declared.records.Object.{Object}
-use Rattle.aof_object.specs.Grammar.{Fits}
 use Rattle.aof_object.specs.Spelling.{written}
-use Rattle.aof_object.specs.Validity.{IsValid}
 use Rattle.armasm_core.specs.Assembling.{AssembledFrom}
-use Rattle.armasm_core.specs.Standing.{StandsFrom}
 use Rattle.tool_words.specs.declared.command.LinkForm.{LinkForm}
 use Rattle.tool_words.specs.declared.command.LinkForm.TheVariants as form
 use Rattle.tool_words.specs.declared.command.LinkWords.{LinkWords}
@@ -15,6 +12,7 @@ use Rattle.tool_answers.specs.Outcomes.{Outcome}
 use Rattle.sdt_toolkit.specs.Inputs.{is_source_name, object_name}
 use Rattle.sdt_toolkit.specs.Links.{WordsAsk}
 use Rattle.sdt_toolkit.specs.Reads.{Reads}
+use Rattle.sdt_toolkit.specs.Sources.{IsObjectOf, Spells}
 
 -- ---- words
 
@@ -31,9 +29,7 @@ link_words w = record { form = w.form; output = w.output; names = map link_name 
 pub record IsObjectFile (files : Files) (name text bytes : List ℕ) : Type 0 where
   pub object : Object
   pub assembled : AssembledFrom (Some files) name text (Ok object)
-  pub stands : StandsFrom (Some files) name text object
-  pub valid : IsValid object
-  pub fits : Fits object
+  pub sound : IsObjectOf (Some files) name text object
   pub spelled : written object ≡ Ok bytes
 
 pub record HasObjectFile (files others : Files) (name : List ℕ) : Type 0 where
@@ -60,7 +56,12 @@ pub record HasObjects (files others : Files) (w : LinkWords) : Type 0 where
   pub description : HasItsDescription files others w.form
   pub inputs : AllByRecursion (λ name. HasItsFile files others (is_source_name name) name) w.names
 
--- ---- the law
+-- ---- the laws
+
+-- what `asm` writes of a source is such a file
+abbrev pub SpelledAreObjectFiles : Type 0
+SpelledAreObjectFiles =
+    (s : Reads) (files : Files) (name text bytes : List ℕ) → s.told ≡ Some files → Spells s name text (Ok bytes) → IsObjectFile files name text bytes
 
 -- a build asks for an outcome just where the link of the objects does
 abbrev pub BuildsAreLinks : Type 0

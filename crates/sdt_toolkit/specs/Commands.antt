@@ -2,20 +2,24 @@
 use Rattle.std.specs.Prelude.{◌≡◌, ℕ, List, [], ◌∷◌, Bool, true, false, Result, Ok, Err}
 use Rattle.sdt_fault.specs.declared.answer.Answer.{Answer}
 use Rattle.sdt_fault.specs.declared.answer.Answer.TheVariants as answer
+use Rattle.sdt_fault.specs.declared.refusal.Refusal.{Refusal}
 use Rattle.sdt_fault.specs.declared.refusal.Refusal.TheVariants.{BadWords}
 use Rattle.sdt_outside.specs.Counts.{Rose}
 use Rattle.tool_words.specs.declared.command.Command.{Command}
 use Rattle.tool_words.specs.declared.command.Command.TheVariants as command
 use Rattle.tool_words.specs.declared.command.WordsFault.{WordsFault}
 use Rattle.tool_words.specs.declared.command.WordsFault.TheVariants as fault
-use Rattle.tool_answers.specs.Outcomes.{Outside, IsLeft, Answers, OfAll, OfOne}
-use Rattle.sdt_toolkit.specs.Links.{LinkAnswers}
-use Rattle.sdt_toolkit.specs.Sources.{AssemblyAnswers}
+use Rattle.run_opening.specs.declared.image.Image.{Image}
+use Rattle.tool_answers.specs.Outcomes.{Outside, IsAsked, IsLeft, Answers, OfAll, OfOne}
+use Rattle.sdt_toolkit.specs.Links.{LinkAnswers, WordsAsk}
+use Rattle.sdt_toolkit.specs.Reads.{Reads, HasFailed, reads_of}
+use Rattle.sdt_toolkit.specs.Sources.{AssemblyAnswers, SourceAsks}
 use Rattle.tool_library.specs.Libraries.{created, creates, listed, lists, extracted, extracts}
 use Rattle.arm7_bus.specs.Seats.{Seat}
 use Rattle.tool_listing.specs.Lists.{listing_of}
 use Rattle.tool_listing.specs.Lists as listing
-use Rattle.tool_run.specs.Runs.{IsUntouched, RunAnswers}
+use Rattle.tool_run.specs.Images.{IsRead}
+use Rattle.tool_run.specs.Runs.{IsRefusal, IsUntouched, RunAnswers}
 
 -- a word breaks a rule
 abbrev pub RefusesWords : ℕ → Outside → Answer → Type 0
@@ -39,6 +43,25 @@ Commanded (Ok (command.Run run)) o seats left a = RunAnswers run o seats left a
 Commanded (Ok (command.Link words)) o seats left a = LinkAnswers false words o a × (left ≡ seats)
 Commanded (Ok (command.Build words)) o seats left a = LinkAnswers true words o a × (left ≡ seats)
 
+-- ---- refusals: the first defect of the words, then of the files and, for a run, of the banks and devices
+
+-- what a command refuses over what the store tells of its files, and over these devices
+abbrev pub FirstOf : Command → Reads → List Seat → Refusal → Type 0
+FirstOf (command.Assemble source output) s seats r = SourceAsks s source output (Err r)
+FirstOf (command.CreateLibrary library objects) s seats r =
+    IsAsked (created library objects) (OfAll (creates library objects) objects) s.told objects (HasFailed s) (Err r)
+FirstOf (command.ListMembers library) s seats r = IsAsked (listed library) (OfOne (lists library)) s.told (library ∷ []) (HasFailed s) (Err r)
+FirstOf (command.ExtractMember library member output) s seats r =
+    IsAsked (extracted library member output) (OfOne (extracts library member output)) s.told (library ∷ []) (HasFailed s) (Err r)
+FirstOf (command.List file) s seats r = IsAsked (listing_of file) (OfOne (listing.lists file)) s.told (file ∷ []) (HasFailed s) (Err r)
+FirstOf (command.Run run) s seats r = (read : Result Image Refusal) × IsRead s.told (HasFailed s) run.image read × IsRefusal run read seats r
+FirstOf (command.Link words) s seats r = WordsAsk s false words (Err r)
+FirstOf (command.Build words) s seats r = WordsAsk s true words (Err r)
+
+abbrev pub IsFirst : Result Command ℕ → Reads → List Seat → Refusal → Type 0
+IsFirst (Err place) s seats r = r ≡ BadWords place
+IsFirst (Ok c) s seats r = FirstOf c s seats r
+
 -- the words ask for a run
 abbrev pub is_run : Result Command ℕ → Bool
 is_run (Ok (command.Run run)) = true
@@ -51,18 +74,18 @@ may_print (Ok (command.List file)) = true
 may_print (Ok (command.Run run)) = true
 may_print other = false
 
--- ---- what each answer leaves, whatever was asked for
+-- ---- what each answer says and leaves, whatever was asked for
 
--- a refusal and a read fault leave everything as it was; a fault is told only where the store or the sink counted one, of a
--- write with nothing printed; and a run alone stops
-abbrev pub Ends : Bool → Outside → List Seat → List Seat → Answer → Type 0
-Ends runs o seats left answer.Done = Unit {0}
-Ends runs o seats left (answer.Refused r) = IsUntouched o seats left
-Ends runs o seats left (answer.ReadFault name) = Rose o.reads o.reads_now × IsUntouched o seats left
-Ends runs o seats left (answer.WriteFault name) = Rose o.writes o.writes_now × (o.prints ≡ o.printed) × (left ≡ seats)
-Ends runs o seats left answer.SinkFault = Rose o.faults o.faults_now
-Ends runs o seats left (answer.Stopped why) = runs ≡ true
-Ends runs o seats left answer.NoMemory = Unit {0}
+-- a refusal is the first, and like a read fault leaves everything as it was; a fault is told only where the store or the sink
+-- counted one, of a write with nothing printed; and a run alone stops
+abbrev pub Ends : Result Command ℕ → Outside → List Seat → List Seat → Answer → Type 0
+Ends x o seats left answer.Done = Unit {0}
+Ends x o seats left (answer.Refused r) = IsFirst x (reads_of o) seats r × IsUntouched o seats left
+Ends x o seats left (answer.ReadFault name) = Rose o.reads o.reads_now × IsUntouched o seats left
+Ends x o seats left (answer.WriteFault name) = Rose o.writes o.writes_now × (o.prints ≡ o.printed) × (left ≡ seats)
+Ends x o seats left answer.SinkFault = Rose o.faults o.faults_now
+Ends x o seats left (answer.Stopped why) = is_run x ≡ true
+Ends x o seats left answer.NoMemory = Unit {0}
 
 -- the answer to words that ask for nothing
 abbrev pub RefusedBy : WordsFault → Answer → Type 0

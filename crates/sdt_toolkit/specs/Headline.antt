@@ -10,10 +10,8 @@ use Rattle.sdt_fault.specs.declared.answer.Answer.{Answer}
 use Rattle.sdt_fault.specs.declared.answer.Answer.TheVariants as answer
 use Rattle.sdt_outside.specs.Files.{Files, content}
 use Rattle.aof_object.specs.declared.records.Object.{Object}
-use Rattle.boot_code.specs.declared.rows.CopyRow.{CopyRow}
 use Rattle.boot_code.specs.declared.rows.ZeroRow.{ZeroRow}
 use Rattle.boot_code.specs.Boots.{ByteMap, Boots, zeroed}
-use Rattle.boot_code.specs.Laws.{written_by}
 use Rattle.byte_maps.specs.Maps.{map_of}
 use Rattle.patch_model.specs.Fields.{Values}
 use Rattle.armasm_core.specs.Standing.{SourceStands}
@@ -31,19 +29,20 @@ use Rattle.tool_library.specs.declared.linkables.Linkable.{Linkable}
 use Rattle.sdt_toolkit.specs.Inputs.{InputsAre, archives_among, is_source_name, objects_among}
 use Rattle.sdt_toolkit.specs.Links.{LinksTo, files_read, image_files, inputs_in, outputs, text_in}
 use Rattle.sdt_toolkit.specs.Reads.{Reads}
-use Rattle.sdt_toolkit.specs.Starting.{AreShownIn, BootsFrom, FitsAt, segments_of}
+use Rattle.sdt_toolkit.specs.RunImages.{CanRun}
+use Rattle.sdt_toolkit.specs.Starting.{AreShownIn, BootsFrom, FitsAt, segments_of, written_in}
 
 -- where the image may be put: an ARM image file where it fits, another where it begins
 abbrev pub FitsWhere : LinkForm → Image → ℕ → Type 0
 FitsWhere (form.Aif base relocatable) i to = FitsAt relocatable i to
 FitsWhere _ i to = to ≡ i.start
 
--- the load regions of a scatter image, and an ARM image file, reach the entry with memory as the view there, and those of
--- another image are the view, with its zero part cleared
+-- the load regions of a scatter image, which can be run, and an ARM image file reach the entry with memory as the view there,
+-- and those of another image are the view, with its zero part cleared
 abbrev pub Reaches : LinkForm → Image → (ℕ → ByteMap) → Type 0
 Reaches (form.Scatter file) i views =
-    (copies : List CopyRow) × (parts : List ZeroRow)
-    × Boots (map_of (segments_of i)) (views i.start) (written_by copies parts) i.start i.bound (i.entry + flag i.thumb)
+    Boots (map_of (segments_of i)) (views i.start) (written_in i) i.start i.bound (i.entry + flag i.thumb)
+    × CanRun i (views i.start)
 Reaches (form.Aif base relocatable) i views = BootsFrom relocatable i views
 Reaches (form.Plain base) i views = (parts : List ZeroRow) × ((x : ℕ) → zeroed (Some 0) (map_of (segments_of i)) parts x ≡ views i.start x)
 

@@ -1,4 +1,5 @@
--- What the command `asm` makes of a source's file: the file of its object, or its first refusal. This project's.
+-- What the command `asm` makes of a source's file: the file of its object, which is valid and whose statements stand
+-- wherever it is placed, or its first refusal. This project's.
 use Rattle.std.specs.Prelude.{◌≡◌, ◌⊎◌, ℕ, List, [], ◌∷◌, Option, Some, None, Result, Ok, Err}
 use Rattle.sdt_fault.specs.declared.answer.Answer.{Answer}
 use Rattle.sdt_fault.specs.declared.answer.Answer.TheVariants as answer
@@ -9,19 +10,29 @@ use Rattle.sdt_outside.specs.Counts.{Rose}
 use Rattle.sdt_outside.specs.Files.{Files, content, IsFound}
 use Rattle.chunk_file.specs.Reading.{◌>>=◌}
 use Rattle.aof_object.specs.declared.records.Object.{Object}
+use Rattle.aof_object.specs.Grammar.{Fits}
 use Rattle.aof_object.specs.Spelling.{written}
+use Rattle.aof_object.specs.Validity.{IsValid}
 use Rattle.armasm_core.specs.Assembling.{AssembledFrom}
+use Rattle.armasm_core.specs.Standing.{StandsFrom}
 use Rattle.tool_answers.specs.Inputs.{IsReached}
 use Rattle.tool_answers.specs.Outcomes.{Outcome, Outside, IsLeft, Says, IsLost, writes_one, unprinted}
 use Rattle.sdt_toolkit.specs.Reads.{Reads, HasCause, HasFailed, TellsOf, reads_of}
 
 -- ---- a text
 
+-- an object of words, valid, of which the source's statements stand wherever it is placed
+pub record IsObjectOf (told : Option Files) (name text : List ℕ) (o : Object) : Type 0 where
+  pub stands : StandsFrom told name text o
+  pub valid : IsValid o
+  pub fits : Fits o
+
 -- the bytes of the object of a source, or its first refusal; a file that would be too long is refused last
 pub record Spells (s : Reads) (name text : List ℕ) (bytes : Result (List ℕ) Refusal) : Type 0 where
   pub made : Result Object Refusal
   pub assembled : AssembledFrom s.told name text made
   pub caused : HasCause s made
+  pub sound : (o : Object) → made ≡ Ok o → IsObjectOf s.told name text o
   pub spelled : bytes ≡ (made >>= written)
 
 -- what is to be written under a name

@@ -9,7 +9,6 @@ use Rattle.sdt_word.specs.declared.ranges.Range32.{Range32}
 use Rattle.sdt_word.specs.Numbers.{flag}
 use Rattle.aof_object.specs.declared.records.Object.{Object}
 use Rattle.aof_object.specs.Validity.{IsValid}
-use Rattle.boot_code.specs.declared.rows.CopyRow.{CopyRow}
 use Rattle.boot_code.specs.declared.rows.ZeroRow.{ZeroRow}
 use Rattle.boot_code.specs.Aif.{BootsAif, file_at}
 use Rattle.boot_code.specs.Boots.{ByteMap, Boots, covers, moved, zeroed}
@@ -24,10 +23,16 @@ use Rattle.link_model.specs.declared.selection.Named.{Named}
 use Rattle.link_apply.specs.Laws.{AreBytes}
 use Rattle.place_model.specs.declared.scatter.Kind.TheVariants as kind
 use Rattle.armlink_core.specs.Images.{linking, scatter_linking}
+use Rattle.armlink_core.specs.Sizes.{copies_in, zeros_in}
+use Rattle.sdt_toolkit.specs.RunImages.{CanRun}
 
 -- the load regions, where a loader puts them
 abbrev pub segments_of : Image → List Segment
 segments_of i = map (λ l. record { base = l.base; bytes = l.bytes }) i.loads
+
+-- what the startup code of a scatter image writes: the regions that don't run where they are loaded, and the zero parts
+abbrev pub written_in : Image → ℕ → Bool
+written_in i = written_by (copies_in i.regions) (zeros_in i.regions)
 
 -- ---- objects in a view
 
@@ -50,12 +55,11 @@ AreShownIn view os = (k : ℕ) (o : Named Object) → slice_get os k ≡ Some o 
 -- a scatter image of these objects; the entry has bit 0 set for Thumb
 pub record Starts (os : List (Named Object)) (i : Image) : Type 0 where
   pub view : ByteMap
-  pub copies : List CopyRow
-  pub parts : List ZeroRow
   -- the load view, with copied regions moved to where they run and zero parts cleared, is the view
-  pub loaded : (x b : ℕ) → view x ≡ Some b → zeroed (Some 0) (moved (map_of (segments_of i)) copies) parts x ≡ Some b
-  pub boots : Boots (map_of (segments_of i)) view (written_by copies parts) i.start i.bound (i.entry + flag i.thumb)
+  pub loaded : (x b : ℕ) → view x ≡ Some b → zeroed (Some 0) (moved (map_of (segments_of i)) (copies_in i.regions)) (zeros_in i.regions) x ≡ Some b
+  pub boots : Boots (map_of (segments_of i)) view (written_in i) i.start i.bound (i.entry + flag i.thumb)
   pub shown : AreShownIn view os
+  pub runs : CanRun i view
 
 -- an image of bytes alone: with its zero part cleared, they are the view
 pub record Loads (os : List (Named Object)) (i : Image) : Type 0 where

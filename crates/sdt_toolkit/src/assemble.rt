@@ -4,6 +4,7 @@ ghost use Rattle.std.specs.Prelude.{◌≡◌, ◌<◌, ◌≤◌, ◌^◌, IfOk
 ghost use Rattle.sdt_toolkit.specs.Reads.{Told};
 ghost use Rattle.sdt_toolkit.specs.Sources.{AssemblyAnswersOver, Spells};
 
+use crate::sound::object_fits;
 use aof_object::write_object;
 use armasm_core::assemble;
 use chunk_file::size_law;
@@ -30,6 +31,7 @@ fn object_file<S: Store>(
 {
     size_law();
     let object = assemble(alloc, source, text, store)?;
+    object_fits(&object);
     write_object(alloc, &object)
 }
 

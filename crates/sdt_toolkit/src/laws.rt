@@ -1,13 +1,16 @@
 //! Laws of the definitions, each proved as the contract of an empty function.
 
-ghost use Rattle.sdt_toolkit.specs.Builds.{BuildsAreLinks};
+ghost use Rattle.sdt_toolkit.specs.Builds.{BuildsAreLinks, SpelledAreObjectFiles};
 ghost use Rattle.sdt_toolkit.specs.Links.{OneLinkAsked};
+ghost use Rattle.sdt_toolkit.specs.Runs.{CommandsStart, FilesAreRead, LinkedRunsStart, OneRun, RunsStart};
 ghost use Rattle.sdt_toolkit.specs.Sources.{OneAsked};
 ghost use Rattle.sdt_toolkit.specs.Starting.{AifImagesStart, PlainImagesLoad, ScatterImagesStart};
 
 use armasm_core::laws::one_assembly;
 use armlink_core::laws::image_names;
+use bin_image::{map_law, spelling_law};
 use link_model::linked_law;
+use run_laws::{bus_run_is_one, made_steps_are_one};
 use scatter_text::reading_law;
 
 /// Files ask for one thing.
@@ -32,10 +35,52 @@ pub fn images_start()
 }
 
 /// What `build` makes of sources is what `link` makes of their objects, among files in which each source's object has its
-/// file and all other files that are read are the same.
+/// file, as `asm` writes it, and all other files that are read are the same.
 pub fn builds_are_links()
-    ensures { BuildsAreLinks }
+    ensures links { BuildsAreLinks }
+    ensures files { SpelledAreObjectFiles }
 {
     one_assembly();
     image_names();
+}
+
+/// Where the files of a scatter image stand in a store, its map reads as the image.
+fn files_are_read()
+    ensures { FilesAreRead }
+{
+    map_law();
+    spelling_law();
+}
+
+/// The first steps of a run of it are the startup code's, which lead to the entry; a run that ends there or before touches no
+/// device.
+fn runs_start()
+    ensures { RunsStart }
+{
+    bus_run_is_one();
+    made_steps_are_one();
+}
+
+/// Where the files of a scatter image that can be run stand in a store, each run that the command `run` makes by its map
+/// begins with the startup code's steps, which lead to the entry with memory as its view.
+pub fn commands_start()
+    ensures { CommandsStart }
+{
+    files_are_read();
+    runs_start();
+}
+
+/// So does each run by the map that `link` or `build` left of a scatter image, over the files as they left them.
+pub fn linked_runs_start()
+    ensures { LinkedRunsStart }
+{
+    commands_start();
+}
+
+/// Words, files of bytes, the text before and devices of whole words decide a run. Its answer is one, unless a fault or want of
+/// memory made it, and so are the text, the devices and the files that it leaves.
+pub fn one_run()
+    ensures { OneRun }
+{
+    bus_run_is_one();
 }

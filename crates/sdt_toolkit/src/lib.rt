@@ -48,8 +48,9 @@ pub fn run_tool<S: Store, K: Sink>(
     }) (seats_by base size state touched devices.old.items) (seats_by base size state touched devices.new.items) result }
     // The files of a link or a build that is done, put into memory, show what was linked and reach its entry.
     ensures headline { Headline (command_of (map string_bytes words.now)) (S.files store.old) (S.files store.new) result }
-    // Whatever was asked for: a refusal or a read fault leaves everything as it was, and each fault was counted.
-    ensures ends { Ends (is_run (command_of (map string_bytes words.now))) (record {
+    // Whatever was asked for: a refusal names the first defect and, as a read fault does, leaves everything as it was, and each
+    // fault was counted.
+    ensures ends { Ends (command_of (map string_bytes words.now)) (record {
       before = S.files store.old;
       after = S.files store.new;
       printed = K.bytes sink.old;

@@ -1,11 +1,13 @@
-//! Objects as they are read and assembled: what their areas hold are bytes.
+//! Objects as they are read and assembled: what their areas hold are bytes, and their numbers are words.
 
 ghost use Rattle.std.specs.List.{AllByRecursion};
+ghost use Rattle.std.specs.Prelude.{◌<◌, ◌^◌};
+ghost use Rattle.aof_object.specs.Grammar.{AreaFits, Fits};
 ghost use Rattle.link_apply.specs.Laws.{AreBytes};
 ghost use Rattle.sdt_toolkit.specs.Starting.{HasBytes};
 
 use alf_archive::{Archive, Member};
-use aof_object::{Area, Object};
+use aof_object::{Area, Object, Reloc, Symbol};
 use link_model::Named;
 
 fn each_fits(bytes: &[u8])
@@ -46,4 +48,36 @@ pub fn archives_fit(archives: &[Named<Archive>])
     for archive in archives {
         members_fit(archive.value.members.as_slice());
     }
+}
+
+fn relocs_fit(relocs: &[Reloc])
+    ensures { AllByRecursion (λ r. (r.offset < 2 ^ 32) × (r.word < 2 ^ 32)) relocs.now }
+{
+    for reloc in relocs {
+        let _reloc = *reloc;
+    }
+}
+
+fn heads_fit(areas: &[Area])
+    ensures { AllByRecursion AreaFits areas.now }
+{
+    for area in areas {
+        relocs_fit(area.relocs.as_slice());
+    }
+}
+
+fn symbols_fit(symbols: &[Symbol])
+    ensures { AllByRecursion (λ s. (s.attributes < 2 ^ 32) × (s.value < 2 ^ 32)) symbols.now }
+{
+    for symbol in symbols {
+        let _numbers = (symbol.attributes, symbol.value);
+    }
+}
+
+/// The numbers of an object are words.
+pub fn object_fits(object: &Object)
+    ensures { Fits object.now }
+{
+    heads_fit(object.areas.as_slice());
+    symbols_fit(object.symbols.as_slice());
 }

@@ -227,6 +227,6 @@ pub register_of_a_label : name_kinds (codes "base" ∷ []) names [] (register.Na
 register_of_a_label = refl
 
 pub falling_range :
-    operand_kinds ((codes "base", 9) ∷ []) (what.Arm (arm.TransferBlock Al true mode.IncrementAfter (r 0) false (record { items = listed.Range (register.Named (codes "base")) (r 1) ∷ [] }) false))
+    operand_kinds false ((codes "base", 9) ∷ []) (what.Arm (arm.TransferBlock Al true mode.IncrementAfter (r 0) false (record { items = listed.Range (register.Named (codes "base")) (r 1) ∷ [] }) false))
     ≡ BadOperand ∷ []
 falling_range = refl

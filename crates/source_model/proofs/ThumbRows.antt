@@ -1,6 +1,6 @@
 -- Worked rows of Thumb state: half-words of instructions, by the tables of the ARM Architecture Reference Manual, and the
 -- kinds of what has none.
-use Rattle.std.proofs.Common.{◌≡◌, ℕ, List, [], ◌∷◌, true, false, refl, Option, Some, None, codes}
+use Rattle.std.proofs.Common.{◌≡◌, ℕ, ◌+◌, List, [], ◌∷◌, true, false, refl, Option, Some, None, codes}
 use Rattle.std.specs.Prelude.{Result, Ok, Err}
 use Rattle.sdt_word.specs.declared.codes.Condition.TheVariants.{Al, Ne}
 use Rattle.sdt_word.specs.Rows.{word_of}
@@ -23,13 +23,17 @@ use Rattle.asm_model.specs.declared.statements.PseudoLine.{PseudoLine}
 use Rattle.asm_model.specs.declared.statements.PseudoLine.TheVariants as pseudo
 use Rattle.asm_model.specs.declared.thumb_lines.ThumbLine.{ThumbLine}
 use Rattle.asm_model.specs.declared.thumb_lines.ThumbLine.TheVariants as thumb
+use Rattle.asm_model.specs.declared.statements.What.TheVariants as what
 use Rattle.asm_model.specs.declared.values.Value.TheVariants.{Number}
 use Rattle.asm_model.specs.AtLine.{Nameless}
 use Rattle.asm_model.specs.Entries.{label_entry, imported_entry}
 use Rattle.source_model.specs.declared.codes.ThumbCode.{ThumbCode}
 use Rattle.source_model.specs.declared.codes.ThumbCode.TheVariants.{One, Pair}
 use Rattle.source_model.specs.Contexts.{Context}
+use Rattle.source_model.specs.Objects.{Source, relocs_of, symbol_number, unit_bytes}
+use Rattle.source_model.specs.Registers.{operand_kinds}
 use Rattle.source_model.specs.ThumbForms.{thumb_instruction, thumb_pseudo}
+use Rattle.source_model.specs.Units.{LinkPair}
 
 -- ---- a statement at an offset of area 0; start stands at 0 there, ahead at 0x200, and far is imported
 
@@ -179,3 +183,33 @@ no_long_address = refl
 
 pub no_operation : means None pseudo.NoOperation ≡ Ok 0x46C0
 no_operation = refl
+
+-- ---- registers that a row has
+
+abbrev frame : Register
+frame = register.Named (codes "frame")
+
+abbrev told : ThumbLine → List LineKind
+told l = operand_kinds true ((codes "frame", 9) ∷ []) (what.Thumb l)
+
+pub high_shifted : told (thumb.ShiftImmediate shift.Lsl frame (r 0) (number 1)) ≡ BadOperand ∷ []
+high_shifted = refl
+
+pub high_moved : told (thumb.HighRegister high.Mov frame (r 0)) ≡ []
+high_moved = refl
+
+pub high_pushed : told (thumb.PushPop false (record { items = listed.One frame ∷ [] })) ≡ BadOperand ∷ []
+high_pushed = refl
+
+pub link_pushed : told (thumb.PushPop false (record { items = listed.One (r 14) ∷ [] })) ≡ []
+link_pushed = refl
+
+-- ---- units
+
+-- a BL from offset 0x100 to 0x200 puts F000 F87E
+pub link_bytes : unit_bytes (LinkPair 0 0x7E None) ≡ 0x00 ∷ 0xF0 ∷ 0x7E ∷ 0xF8 ∷ []
+link_bytes = refl
+
+-- one that is left to the linker is relocated at its odd offset
+pub link_reloc : (s : Source) → relocs_of s (4, LinkPair 0x7FF 0x7FC (Some (codes "f"))) ≡ record { offset = 5; word = 0x8F000000 + symbol_number s (codes "f") } ∷ []
+link_reloc s = refl

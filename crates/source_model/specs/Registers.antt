@@ -1,10 +1,13 @@
 -- Names for registers. RN gives a name a register, or a number below 16 that is known at its line; the name counts on the
--- lines behind it. A register's own name always means that register, and reading tells it as one. SDT 2.50 Reference
--- Guide, chapter on the assembler; the kinds of faults are this project's.
-use Rattle.std.specs.Prelude.{ℕ, ◌==◌, nat_lt, List, [], ◌∷◌, ◌++◌, Bool, false, if◌then◌else◌, Option, Some, None, Result, Ok, Err}
-use Rattle.std.specs.List.{list_any}
+-- lines behind it. A register's own name always means that register, and reading tells it as one, also as one that the
+-- line's row doesn't have. SDT 2.50 Reference Guide, chapter on the assembler; ARM Architecture Reference Manual, the
+-- instructions; the kinds of faults are this project's.
+use Rattle.std.specs.Prelude.{ℕ, ◌==◌, ◌&&◌, ◌||◌, not, nat_lt, List, [], ◌∷◌, ◌++◌, Bool, true, false, if◌then◌else◌, Option, Some, None, Result, Ok, Err}
+use Rattle.std.specs.List.{list_all, list_any}
 use Rattle.sdt_fault.specs.declared.kinds.LineKind.{LineKind}
 use Rattle.sdt_fault.specs.declared.kinds.LineKind.TheVariants.{UnknownWord, BadOperand, Forward, WrongType, OutOfRange}
+use Rattle.thumb_isa.specs.declared.instr.ImmediateOperation.{ImmediateOperation}
+use Rattle.thumb_isa.specs.declared.instr.ImmediateOperation.TheVariants as immediate
 use Rattle.asm_model.specs.declared.directives.RnOperand.{RnOperand}
 use Rattle.asm_model.specs.declared.directives.RnOperand.TheVariants as rn
 use Rattle.asm_model.specs.declared.names.LaidName.{LaidName}
@@ -185,13 +188,90 @@ abbrev pub is_pc : Option ℕ → Bool
 is_pc None = false
 is_pc (Some n) = n == 15
 
--- operands that no instruction has: a range that falls, and pc as the register of ADRL
-abbrev pub operand_kinds : List Named → What → List LineKind
-operand_kinds known (what.Arm (arm.TransferBlock condition load mode rn write_back list user)) = range_kinds known list.items
-operand_kinds known (what.Thumb (thumb.PushPop load list)) = range_kinds known list.items
-operand_kinds known (what.Thumb (thumb.TransferMultiple load rn list)) = range_kinds known list.items
-operand_kinds known (what.Pseudo (pseudo.LongAddress condition rd target)) = kind_if (is_pc (number_of known rd)) BadOperand
-operand_kinds known _ = []
+-- ---- registers that a row of Thumb state has; a name that isn't known has a kind of its own
+
+abbrev pub Numbers : Type 0
+Numbers = Register → Option ℕ
+
+abbrev pub if_known : (ℕ → Bool) → Option ℕ → Bool
+if_known test None = true
+if_known test (Some n) = test n
+
+abbrev pub is_low : Numbers → Register → Bool
+is_low numbers r = if_known (λ n. nat_lt n 8) (numbers r)
+
+-- of a sum with a number: sp and pc have rows that add
+abbrev pub has_sum : Bool → ℕ → Bool
+has_sum subtract n = nat_lt n 8 || not subtract && (n == 13 || n == 15)
+
+-- sp has rows of its own for ADD and SUB
+abbrev pub adjusts : ImmediateOperation → Bool
+adjusts immediate.Add = true
+adjusts immediate.Sub = true
+adjusts _ = false
+
+-- the base of a transfer with an offset: words also by sp, and loads of them by pc
+abbrev pub has_base : Bool → Bool → ℕ → Bool
+has_base load byte n = nat_lt n 8 || not byte && (n == 13 || load && n == 15)
+
+-- of a list: r0 to r7, and one register more
+abbrev pub is_listed : ℕ → ℕ → Bool
+is_listed more n = nat_lt n 8 || n == more
+
+abbrev pub has_range : ℕ → Option ℕ → Option ℕ → Bool
+has_range more (Some first) (Some last) = nat_lt last 8 || first == more && last == more
+has_range more _ _ = true
+
+abbrev pub has_item : ℕ → Numbers → ListItem → Bool
+has_item more numbers (item.One r) = if_known (is_listed more) (numbers r)
+has_item more numbers (item.Range first last) = has_range more (numbers first) (numbers last)
+
+-- lr of PUSH, pc of POP, and none of others
+abbrev pub link_register : Bool → ℕ
+link_register load = if load then 15 else 14
+
+abbrev pub has_row : Numbers → ThumbLine → Bool
+has_row n (thumb.ShiftImmediate shift rd rs amount) = is_low n rd && is_low n rs
+has_row n (thumb.AddSubtract subtract rd rs (operand.Register rn)) = is_low n rd && (is_low n rs && is_low n rn)
+has_row n (thumb.AddSubtract subtract rd rs (operand.Number e)) = is_low n rd && if_known (has_sum subtract) (n rs)
+has_row n (thumb.DataImmediate operation rd value) = if_known (λ d. nat_lt d 8 || d == 13 && adjusts operation) (n rd)
+has_row n (thumb.DataRegister operation rd rs) = is_low n rd && is_low n rs
+has_row n (thumb.HighRegister operation rd rs) = true
+has_row n (thumb.LoadLiteral rd a) = is_low n rd
+has_row n (thumb.TransferRegister load byte rd rn ro) = is_low n rd && (is_low n rn && is_low n ro)
+has_row n (thumb.TransferSigned kind rd rn ro) = is_low n rd && (is_low n rn && is_low n ro)
+has_row n (thumb.TransferImmediate load byte rd rn offset) = is_low n rd && if_known (has_base load byte) (n rn)
+has_row n (thumb.TransferHalf load rd rn offset) = is_low n rd && is_low n rn
+has_row n (thumb.TransferStack load rd offset) = is_low n rd
+has_row n (thumb.LoadAddress stack rd offset) = is_low n rd
+has_row n (thumb.PushPop load list) = list_all (has_item (link_register load) n) list.items
+has_row n (thumb.TransferMultiple load rn list) = is_low n rn && list_all (has_item 0 n) list.items
+has_row n _ = true
+
+-- the list of a line
+abbrev pub thumb_list : ThumbLine → List ListItem
+thumb_list (thumb.PushPop load list) = list.items
+thumb_list (thumb.TransferMultiple load rn list) = list.items
+thumb_list _ = []
+
+-- the register of a literal or an address
+abbrev pub has_pseudo : Numbers → PseudoLine → Bool
+has_pseudo n (pseudo.LoadConstant condition rd value) = is_low n rd
+has_pseudo n (pseudo.Address condition rd target) = is_low n rd
+has_pseudo n _ = true
+
+-- operands that no instruction has: a range that falls, pc as the register of ADRL, and in Thumb state a register that the
+-- row doesn't have
+abbrev pub pseudo_kinds : Bool → List Named → PseudoLine → List LineKind
+pseudo_kinds true known l = kind_if (not (has_pseudo (number_of known) l)) BadOperand
+pseudo_kinds false known (pseudo.LongAddress condition rd target) = kind_if (is_pc (number_of known rd)) BadOperand
+pseudo_kinds false known _ = []
+
+abbrev pub operand_kinds : Bool → List Named → What → List LineKind
+operand_kinds thumb known (what.Arm (arm.TransferBlock condition load mode rn write_back list user)) = range_kinds known list.items
+operand_kinds thumb known (what.Thumb l) = range_kinds known (thumb_list l) ++ kind_if (not (has_row (number_of known) l)) BadOperand
+operand_kinds thumb known (what.Pseudo l) = pseudo_kinds thumb known l
+operand_kinds thumb known _ = []
 
 abbrev pub given_kinds : Sight → Defined → List LineKind
 given_kinds s (RegisterName name r) = fault_kinds (given s r)
@@ -202,4 +282,4 @@ abbrev pub register_kinds : List (List ℕ) → LaidLine → List LaidLine → L
 register_kinds registers l before =
     given_kinds l.seen (defined_by l.statement)
     ++ names_kinds registers l.seen.all (registers_behind before) (registers_of l.statement.what)
-    ++ operand_kinds (registers_behind before) l.statement.what
+    ++ operand_kinds l.thumb (registers_behind before) l.statement.what

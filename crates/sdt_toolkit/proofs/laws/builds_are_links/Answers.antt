@@ -1,5 +1,8 @@
-use Rattle.sdt_toolkit.proofs.BuildLaws.{builds_are_links}
+use Rattle.sdt_toolkit.proofs.BuildLaws.{builds_are_links, spelled_are_object_files}
 use Rattle.sdt_toolkit.proofs.laws.builds_are_links.Goals as goal
 
-pub returns : goal.returns
-returns c = builds_are_links c.one_assembly.ensures c.image_names.ensures.linked c.image_names.ensures.scattered
+pub returns-clause-links : goal.returns-clause-links
+returns-clause-links c = builds_are_links c.one_assembly.ensures c.image_names.ensures.linked c.image_names.ensures.scattered
+
+pub returns-clause-files : goal.returns-clause-files
+returns-clause-files c = spelled_are_object_files

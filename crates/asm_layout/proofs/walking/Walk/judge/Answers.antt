@@ -26,7 +26,12 @@ returns c = λ names settled before h m.
       aligned = n.exponent_is;
       known = mark_is settled marks c.args.self.now.equals (defined_by s) c.take_mark-is_settled.result (rw c.as_slice.ensures.value at c.take_mark-is_settled.ensures.mark) marked;
     } in
-    let registers_line : IsRegistersLine s c.in_ok-laid.laid.number c.args.outline.now.names l = record { said = refl; given = n.given_is; names = λ q. refl } in
+    let registers_line : IsRegistersLine s c.in_ok-laid.laid.thumb c.in_ok-laid.laid.number c.args.outline.now.names l = record {
+      said = refl;
+      state = sym t.thumb;
+      given = n.given_is;
+      names = λ q. refl;
+    } in
     let checked = c.in_ok-checked.ensures.told settled l before h.checked checks_line in
     let named = c.in_ok-named.ensures.told names l before h.named registers_line in
     record {

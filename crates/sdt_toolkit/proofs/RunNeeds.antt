@@ -1,8 +1,9 @@
 -- The addresses that an image needs: each is memory of the banks, in a used page, below 2^32.
-use Rattle.std.proofs.Common.{◌≡◌, ℕ, zero, suc, ◌+◌, ◌*◌, ◌/◌, ◌^◌, ◌<◌, ◌≤◌, Bool, true, false, not, ◌||◌, List, [], ◌∷◌, length, refl, sym, ◌∙◌, arith, le-leb}
-use Rattle.std.specs.Prelude.{◌&&◌, nat_lt, max, min, slice_index_or}
+use Rattle.std.proofs.Common.{◌≡◌, ℕ, ◌+◌, ◌*◌, ◌/◌, ◌^◌, ◌<◌, ◌≤◌, Bool, true, false, not, ◌||◌, List, [], ◌∷◌, refl, sym, ◌∙◌, arith, le-leb}
+use Rattle.std.specs.Prelude.{◌&&◌, nat_lt, max, min}
 use Rattle.std.specs.List.{list_any, AllByRecursion}
 use Rattle.std.proofs.lemmas.Bool.Decides.{nat_tests}
+use Rattle.std.proofs.lemmas.List.{get_or_default, same_lists}
 use Rattle.arm7_bus.specs.declared.memory.Bank.{Bank}
 use Rattle.arm7_bus.specs.Meets.{IsNowhere}
 use Rattle.arm7_bus.specs.Paging.{page_used_in}
@@ -13,18 +14,18 @@ use Rattle.run_opening.specs.declared.image.Need.{Need}
 use Rattle.run_opening.specs.Banks.{AreUsed, is_lacking, lacks}
 use Rattle.run_opening.specs.Fills.{EndsBelow}
 use Rattle.run_opening.proofs.OpeningLemmas.{ends_below}
-use Rattle.image_runs.specs.Images.{is_needed}
+use Rattle.sdt_toolkit.specs.RunImages.{is_needed}
 
-false-true : {A : Type 0} → false ≡ true → A
-false-true e = absurd (let bad : false ≡ true = e in cc)
+false_true : {A : Type 0} → false ≡ true → A
+false_true e = absurd (let bad : false ≡ true = e in cc)
 
-pub none-left : (x y : Bool) → (x || y) ≡ false → x ≡ false
-none-left true y e = false-true (sym e)
-none-left false y e = refl
+pub none_left : (x y : Bool) → (x || y) ≡ false → x ≡ false
+none_left true y e = false_true (sym e)
+none_left false y e = refl
 
-pub none-right : (x y : Bool) → (x || y) ≡ false → y ≡ false
-none-right true y e = false-true (sym e)
-none-right false y e = e
+pub none_right : (x y : Bool) → (x || y) ≡ false → y ≡ false
+none_right true y e = false_true (sym e)
+none_right false y e = e
 
 record IsThere (banks : List Bank) (needs : List Need) (x : ℕ) : Type 0 where
   pub bank : bank_has banks x 1 ≡ true
@@ -46,18 +47,18 @@ high base size x e = grind (arith, nat_tests)
 within : (banks : List Bank) (n : Need) (x : ℕ) → n.base + n.size ≤ 2 ^ 32 → lacks banks n x ≡ (has_access n.base n.size x 1 && not (bank_has banks x 1))
 within banks n x le = rw (le-leb (n.base + n.size) (2 ^ 32) le) refl
 
-has-bank : (a b : Bool) → a ≡ true → (a && not b) ≡ false → b ≡ true
-has-bank true true e f = refl
-has-bank true false e f = false-true (sym f)
-has-bank false b e f = false-true e
+has_bank : (a b : Bool) → a ≡ true → (a && not b) ≡ false → b ≡ true
+has_bank true true e f = refl
+has_bank true false e f = false_true (sym f)
+has_bank false b e f = false_true e
 
 there : (banks : List Bank) (needs : List Need) (x : ℕ) → AllByRecursion EndsBelow needs → is_lacking banks needs x ≡ false → is_needed needs x ≡ true → IsThere banks needs x
-there banks [] x ends none e = false-true e
-there banks (n ∷ ns) x (end, ends) none e = go (has_access n.base n.size x 1) refl e (there banks ns x ends (none-right (lacks banks n x) (is_lacking banks ns x) none))
+there banks [] x ends none e = false_true e
+there banks (n ∷ ns) x (end, ends) none e = go (has_access n.base n.size x 1) refl e (there banks ns x ends (none_right (lacks banks n x) (is_lacking banks ns x) none))
   where
     go : (b : Bool) → has_access n.base n.size x 1 ≡ b → (b || is_needed ns x) ≡ true → (is_needed ns x ≡ true → IsThere banks ns x) → IsThere banks (n ∷ ns) x
     go true f h more = record {
-      bank = has-bank (has_access n.base n.size x 1) (bank_has banks x 1) f (sym (within banks n x end.end) ∙ none-left (lacks banks n x) (is_lacking banks ns x) none);
+      bank = has_bank (has_access n.base n.size x 1) (bank_has banks x 1) f (sym (within banks n x end.end) ∙ none_left (lacks banks n x) (is_lacking banks ns x) none);
       page = rw (touches n.base n.size x f) refl;
       below = let top = high n.base n.size x f in let room = end.end in omega arith;
     }
@@ -68,27 +69,19 @@ there banks (n ∷ ns) x (end, ends) none e = go (has_access n.base n.size x 1) 
         either false p = p
 
 module _ (banks : List Bank) (needs : List Need) (room : IsNowhere (is_lacking banks needs)) where
-  pub needed-bank : (x : ℕ) → is_needed needs x ≡ true → bank_has banks x 1 ≡ true
-  needed-bank x e = (there banks needs x (ends_below banks needs room) (room.none x) e).bank
+  pub needed_bank : (x : ℕ) → is_needed needs x ≡ true → bank_has banks x 1 ≡ true
+  needed_bank x e = (there banks needs x (ends_below banks needs room) (room.none x) e).bank
 
-  pub needed-page : (used : List Bool) (x : ℕ) → AreUsed used needs → is_needed needs x ≡ true → page_used_in used x ≡ true
-  needed-page used x u e =
+  pub needed_page : (used : List Bool) (x : ℕ) → AreUsed used needs → is_needed needs x ≡ true → page_used_in used x ≡ true
+  needed_page used x u e =
       let t = there banks needs x (ends_below banks needs room) (room.none x) e in
       let below = t.below in
       u.each (x / 4096) (omega arith) ∙ t.page
 
 -- ---- used pages are one list
 
-pub same-flags : (xs ys : List Bool) → length xs ≡ length ys → ((k : ℕ) → k < length xs → slice_index_or xs k false ≡ slice_index_or ys k false) → xs ≡ ys
-same-flags [] [] e same = refl
-same-flags [] (y ∷ ys) e same = absurd (omega arith)
-same-flags (x ∷ xs) [] e same = absurd (omega arith)
-same-flags (x ∷ xs) (y ∷ ys) e same =
-    let first : x ≡ y = same zero (omega arith) in
-    let rest : xs ≡ ys = same-flags xs ys (omega arith) (λ k lt. same (suc k) (omega arith)) in
-    rw (first, rest) refl
-
-pub same-used : (us vs : List Bool) (needs : List Need) → AreUsed us needs → AreUsed vs needs → us ≡ vs
-same-used us vs needs u v =
+pub same_used : (us vs : List Bool) (needs : List Need) → AreUsed us needs → AreUsed vs needs → us ≡ vs
+same_used us vs needs u v =
     let pages = u.pages in let others = v.pages in
-    same-flags us vs (pages ∙ sym others) (λ k lt. let below : k < 1048576 = omega arith in u.each k below ∙ sym (v.each k below))
+    same_lists us vs (pages ∙ sym others)
+    (λ k d lt. get_or_default us k d false lt ∙ (let below : k < 1048576 = omega arith in u.each k below ∙ sym (v.each k below)) ∙ sym (get_or_default vs k d false (omega arith)))

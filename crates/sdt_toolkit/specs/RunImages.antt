@@ -1,16 +1,18 @@
--- What a run makes of a scatter image: the image that its files give, and which of its addresses are to be memory. This
--- project's.
-use Rattle.std.specs.Prelude.{◌≡◌, ℕ, ◌+◌, ◌%◌, ◌^◌, ◌<◌, Bool, false, List, ◌++◌, length, map, slice_index, Some}
+-- What a run makes of a scatter image: the image that its files give, and which of its addresses are to be memory; and what
+-- it asks of the image for that. This project's.
+use Rattle.std.specs.Prelude.{◌≡◌, ℕ, ◌+◌, ◌%◌, ◌^◌, ◌<◌, Bool, true, false, List, ◌++◌, length, map, slice_index, Some}
 use Rattle.std.specs.List.{list_any, AllByRecursion}
 use Rattle.sdt_outside.specs.Files.{Files, content}
+use Rattle.boot_code.specs.Boots.{ByteMap}
 use Rattle.link_model.specs.declared.images.Image.{Image}
 use Rattle.link_model.specs.declared.images.ImageKind.TheVariants as form
 use Rattle.link_model.specs.declared.images.LoadRegion.{LoadRegion}
 use Rattle.link_model.specs.declared.placing.Region.{Region}
 use Rattle.bin_image.specs.declared.records.OutFile.{OutFile}
-use Rattle.bin_image.specs.Files.{map_of}
+use Rattle.bin_image.specs.Fields.{lacks}
+use Rattle.bin_image.specs.Files.{files_of, map_of}
 use Rattle.bin_image.specs.Maps.{IsValid}
-use Rattle.byte_maps.specs.Maps.{Segment}
+use Rattle.scatter_text.specs.Validity.{AreDistinct}
 use Rattle.arm7_bus.specs.Seats.{has_access}
 use Rattle.run_opening.specs.declared.image.Image.{Image as RunImage}
 use Rattle.run_opening.specs.declared.image.Load.{Load}
@@ -38,10 +40,6 @@ run_image i = record { loads = map load_of i.loads; needs = needs_of i; start = 
 abbrev pub is_needed : List Need → ℕ → Bool
 is_needed needs x = list_any (λ n. has_access n.base n.size x 1) needs
 
--- the load regions, where a loader puts them
-abbrev pub segments_of : List LoadRegion → List Segment
-segments_of loads = map (λ l. record { base = l.base; bytes = l.bytes }) loads
-
 -- ---- the files of the image, as they are written under a name
 
 -- the store has each file
@@ -57,3 +55,14 @@ pub record IsFiled (i : Image) (out : List ℕ) : Type 0 where
 -- the load regions are bytes
 abbrev pub AreBytes : List LoadRegion → Type 0
 AreBytes loads = AllByRecursion (λ l. (k : ℕ) → slice_index l.bytes k < 256) loads
+
+-- ---- what a run asks of an image
+
+-- Each address of the view lies in a load or an execution range, and the load regions are bytes. Under every name of one line
+-- that has no zero byte the map is valid, of which it is a part that no two load ranges meet; and the names of the files
+-- differ.
+pub record CanRun (i : Image) (view : ByteMap) : Type 0 where
+  pub ranged : (x b : ℕ) → view x ≡ Some b → is_needed (needs_of i) x ≡ true
+  pub bytes : AreBytes i.loads
+  pub filed : (out : List ℕ) → lacks 10 out ≡ true → has_zero out ≡ false → IsFiled i out
+  pub named : (out : List ℕ) → AreDistinct (map (λ f. f.name) (files_of i out))

@@ -16,20 +16,19 @@ use Rattle.tool_words.specs.declared.command.RunImage.{RunImage as Named}
 use Rattle.tool_words.specs.declared.command.RunWords.{RunWords}
 use Rattle.tool_run.specs.Images.{IsRead}
 use Rattle.tool_run.specs.Runs.{AreBanks, HasRun, Ran, RunSays}
-use Rattle.image_runs.specs.Images.{run_image}
-use Rattle.image_runs.specs.Laws.{CommandsStart, FilesAreRead, RunsStart}
-use Rattle.image_runs.specs.Starts.{Allow, AnswerStarts, Reaches, Started}
+use Rattle.sdt_toolkit.specs.RunImages.{CanRun, run_image}
+use Rattle.sdt_toolkit.specs.Runs.{Allow, AnswerStarts, BootsTo, CommandsStart, FilesAreRead, RunsStart, Started}
 
-same-image : (a b : RunImage) (read : Result RunImage Refusal) → read ≡ Ok a → read ≡ Ok b → a ≡ b
-same-image a b read e f = let same : ◌≡◌ {A = Result RunImage Refusal} (Ok a) (Ok b) = sym e ∙ f in cc
+pub same_image : (a b : RunImage) (read : Result RunImage Refusal) → read ≡ Ok a → read ≡ Ok b → a ≡ b
+same_image a b read e f = let same : ◌≡◌ {A = Result RunImage Refusal} (Ok a) (Ok b) = sym e ∙ f in cc
 
-module _ (law : RunsStart) (i : Image) (out : List ℕ) (view : ByteMap) (written : ℕ → Bool) (w : RunWords) (o : Outside) (seats left : List Seat)
-    (r : Reaches i out view written) (allow : (banks : List Bank) → AreBanks w banks → Allow banks seats written) (read : Result RunImage Refusal) (is : read ≡ Ok (run_image i)) where
+module _ (law : RunsStart) (i : Image) (view : ByteMap) (written : ℕ → Bool) (w : RunWords) (o : Outside) (seats left : List Seat)
+    (boots : BootsTo i view written) (can : CanRun i view) (allow : (banks : List Bank) → AreBanks w banks → Allow banks seats written) (read : Result RunImage Refusal) (is : read ≡ Ok (run_image i)) where
   started : (why : Stop) → HasRun w read why o seats left → Started i view w o seats left why
   started why h =
       let ran : Ran h.banks (run_image i) w.steps why o.printed o.prints (Rose o.faults o.faults_now) seats left =
-      subst (λ (x : RunImage). Ran h.banks x w.steps why o.printed o.prints (Rose o.faults o.faults_now) seats left) (same-image h.image (run_image i) read h.read_so is) h.ran in
-      (h.banks, h.are_banks, law i out view written h.banks seats left w.steps why o.printed o.prints o.faults o.faults_now r (allow h.banks h.are_banks) ran)
+      subst (λ (x : RunImage). Ran h.banks x w.steps why o.printed o.prints (Rose o.faults o.faults_now) seats left) (same_image h.image (run_image i) read h.read_so is) h.ran in
+      (h.banks, h.are_banks, law i view written h.banks seats left w.steps why o.printed o.prints o.faults o.faults_now boots can (allow h.banks h.are_banks) ran)
 
   says : (a : Answer) → RunSays w read o seats left a → AnswerStarts i view w o seats left a
   says answer.Done h = started _ h
@@ -40,9 +39,9 @@ module _ (law : RunsStart) (i : Image) (out : List ℕ) (view : ByteMap) (writte
   says (answer.WriteFault name) h = tt
   says answer.NoMemory h = tt
 
-pub commands-start : FilesAreRead → RunsStart → CommandsStart
-commands-start files-law law i out view written files w o seats left a f r has before map allow answers =
+pub commands_start : FilesAreRead → RunsStart → CommandsStart
+commands_start files_law law i view written out files w o seats left a boots can line named has before map allow answers =
     let read = answers.read in
-    let by-files = subst (λ (told : Option Files). IsRead told (Rose o.reads o.reads_now) w.image read) before answers.read_so in
-    let by-map = subst (λ (x : Named). IsRead (Some files) (Rose o.reads o.reads_now) x read) map by-files in
-    says law i out view written w o seats left r allow read (files-law i out files o.reads o.reads_now read f has by-map) a answers.says
+    let by_files = subst (λ (told : Option Files). IsRead told (Rose o.reads o.reads_now) w.image read) before answers.read_so in
+    let by_map = subst (λ (x : Named). IsRead (Some files) (Rose o.reads o.reads_now) x read) map by_files in
+    says law i view written w o seats left boots can allow read (files_law i out files o.reads o.reads_now read (can.filed out line named) has by_map) a answers.says

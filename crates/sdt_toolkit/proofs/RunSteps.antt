@@ -22,62 +22,61 @@ use Rattle.run_laws.specs.Steps.{AreMade, StoresAreUsed, steps_made}
 use Rattle.run_laws.proofs.BusRuns.{runs-are-bus-runs}
 use Rattle.run_laws.proofs.Devices.{devices-are-left}
 use Rattle.run_laws.proofs.MadeSteps.{run-leaves-devices, steps-are-made}
-use Rattle.image_runs.specs.Laws.{RunsStart}
-use Rattle.image_runs.specs.Starts.{IsCut, IsLong, IsShort, Reaches, RunStarts}
-use Rattle.image_runs.proofs.Opened.{IsOpened, opened, ready, valid}
-use Rattle.image_runs.proofs.Startup.{IsStartup, each-taken, length-taken, ordinary-taken, print-none, startup, steps-taken}
+use Rattle.sdt_toolkit.specs.Runs.{IsCut, IsLong, IsShort, RunStarts, RunsStart}
+use Rattle.sdt_toolkit.proofs.RunOpened.{IsOpened, Reaches, opened, ready, valid}
+use Rattle.sdt_toolkit.proofs.RunStartup.{IsStartup, each_taken, length_taken, ordinary_taken, print_none, startup, steps_taken}
 
 -- ---- stops
 
-budget-cut : (why : Stop) → why ≡ stop.Budget → IsCut why
-budget-cut why e = subst (λ (w : Stop). IsCut w) (sym e) tt
+budget_cut : (why : Stop) → why ≡ stop.Budget → IsCut why
+budget_cut why e = subst (λ (w : Stop). IsCut w) (sym e) tt
 
-sink-cut : (why : Stop) → is_sink why ≡ true → IsCut why
-sink-cut stop.Exit e = absurd (let bad : false ≡ true = e in cc)
-sink-cut stop.Budget e = tt
-sink-cut (stop.Unpredictable a w) e = absurd (let bad : false ≡ true = e in cc)
-sink-cut (stop.BadString a) e = absurd (let bad : false ≡ true = e in cc)
-sink-cut (stop.NoFrame a) e = absurd (let bad : false ≡ true = e in cc)
-sink-cut stop.Sink e = tt
+sink_cut : (why : Stop) → is_sink why ≡ true → IsCut why
+sink_cut stop.Exit e = absurd (let bad : false ≡ true = e in cc)
+sink_cut stop.Budget e = tt
+sink_cut (stop.Unpredictable a w) e = absurd (let bad : false ≡ true = e in cc)
+sink_cut (stop.BadString a) e = absurd (let bad : false ≡ true = e in cc)
+sink_cut (stop.NoFrame a) e = absurd (let bad : false ≡ true = e in cc)
+sink_cut stop.Sink e = tt
 
-sink-made : (why : Stop) (made : ℕ) → is_sink why ≡ true → steps_made stop.Budget made ≡ steps_made why made
-sink-made stop.Exit made e = refl
-sink-made stop.Budget made e = refl
-sink-made (stop.Unpredictable a w) made e = absurd (let bad : false ≡ true = e in cc)
-sink-made (stop.BadString a) made e = refl
-sink-made (stop.NoFrame a) made e = absurd (let bad : false ≡ true = e in cc)
-sink-made stop.Sink made e = refl
+sink_made : (why : Stop) (made : ℕ) → is_sink why ≡ true → steps_made stop.Budget made ≡ steps_made why made
+sink_made stop.Exit made e = refl
+sink_made stop.Budget made e = refl
+sink_made (stop.Unpredictable a w) made e = absurd (let bad : false ≡ true = e in cc)
+sink_made (stop.BadString a) made e = refl
+sink_made (stop.NoFrame a) made e = absurd (let bad : false ≡ true = e in cc)
+sink_made stop.Sink made e = refl
 
 -- a run made no fewer steps than went on
-at-least : (why : Stop) (most n made : ℕ) (core : ArmState) (s : State) (core' : ArmState) (s' : State) → EndsWith most n why core s made core' s' → n ≤ steps_made why made
-at-least stop.Exit most n made core s core' s' (few, count, step) = omega arith
-at-least stop.Budget most n made core s core' s' (all, count, c, b) = omega arith
-at-least (stop.Unpredictable a w) most n made core s core' s' (few, count, at, step) = omega arith
-at-least (stop.BadString a) most n made core s core' s' (few, count, step, broken) = omega arith
-at-least (stop.NoFrame a) most n made core s core' s' (few, count, step) = omega arith
-at-least stop.Sink most n made core s core' s' h = absurd h
+at_least : (why : Stop) (most n made : ℕ) (core : ArmState) (s : State) (core' : ArmState) (s' : State) → EndsWith most n why core s made core' s' → n ≤ steps_made why made
+at_least stop.Exit most n made core s core' s' (few, count, step) = omega arith
+at_least stop.Budget most n made core s core' s' (all, count, c, b) = omega arith
+at_least (stop.Unpredictable a w) most n made core s core' s' (few, count, at, step) = omega arith
+at_least (stop.BadString a) most n made core s core' s' (few, count, step, broken) = omega arith
+at_least (stop.NoFrame a) most n made core s core' s' (few, count, step) = omega arith
+at_least stop.Sink most n made core s core' s' h = absurd h
 
 -- where a run stopped before so many steps, it ended, or so does the run of one step more than went on
-stops-by : (why : Stop) (most n made : ℕ) (core : ArmState) (s : State) (core' : ArmState) (s' : State) → EndsWith most n why core s made core' s'
+stops_by : (why : Stop) (most n made : ℕ) (core : ArmState) (s : State) (core' : ArmState) (s' : State) → EndsWith most n why core s made core' s'
     → (n ≡ most) ⊎ ((why ≡ stop.Budget → ⊥) × EndsWith (n + 1) n why core s made core' s')
-stops-by stop.Exit most n made core s core' s' (few, count, step) = inr ((λ e. cc), (omega arith, count, step))
-stops-by stop.Budget most n made core s core' s' (all, count, c, b) = inl all
-stops-by (stop.Unpredictable a w) most n made core s core' s' (few, count, at, step) = inr ((λ e. cc), (omega arith, count, at, step))
-stops-by (stop.BadString a) most n made core s core' s' (few, count, step, broken) = inr ((λ e. cc), (omega arith, count, step, broken))
-stops-by (stop.NoFrame a) most n made core s core' s' (few, count, step) = inr ((λ e. cc), (omega arith, count, step))
-stops-by stop.Sink most n made core s core' s' h = absurd h
+stops_by stop.Exit most n made core s core' s' (few, count, step) = inr ((λ e. cc), (omega arith, count, step))
+stops_by stop.Budget most n made core s core' s' (all, count, c, b) = inl all
+stops_by (stop.Unpredictable a w) most n made core s core' s' (few, count, at, step) = inr ((λ e. cc), (omega arith, count, at, step))
+stops_by (stop.BadString a) most n made core s core' s' (few, count, step, broken) = inr ((λ e. cc), (omega arith, count, step, broken))
+stops_by (stop.NoFrame a) most n made core s core' s' (few, count, step) = inr ((λ e. cc), (omega arith, count, step))
+stops_by stop.Sink most n made core s core' s' h = absurd h
 
 -- ---- text
 
-no-front : (xs ys : List ℕ) → xs ++ ys ≡ [] → xs ≡ []
-no-front [] ys e = refl
-no-front (x ∷ xs) ys e = absurd (let bad : length (x ∷ (xs ++ ys)) ≡ 0 = ap (λ (zs : List ℕ). length zs) e in omega arith)
+no_front : (xs ys : List ℕ) → xs ++ ys ≡ [] → xs ≡ []
+no_front [] ys e = refl
+no_front (x ∷ xs) ys e = absurd (let bad : length (x ∷ (xs ++ ys)) ≡ 0 = ap (λ (zs : List ℕ). length zs) e in omega arith)
 
-got-none : (before after : Option (List ℕ)) (text : List ℕ) → text ≡ [] → Got before after text → Got before after []
-got-none before after text e got = subst (λ (t : List ℕ). Got before after t) e got
+got_none : (before after : Option (List ℕ)) (text : List ℕ) → text ≡ [] → Got before after text → Got before after []
+got_none before after text e got = subst (λ (t : List ℕ). Got before after t) e got
 
-part-none : (before after : Option (List ℕ)) (text : List ℕ) → text ≡ [] → GotPart before after text → Got before after []
-part-none before after text e (part, rest, is, got) = got-none before after part (no-front part rest (sym is ∙ e)) got
+part_none : (before after : Option (List ℕ)) (text : List ℕ) → text ≡ [] → GotPart before after text → Got before after []
+part_none before after text e (part, rest, is, got) = got_none before after part (no_front part rest (sym is ∙ e)) got
 
 -- ---- the run
 
@@ -88,21 +87,21 @@ record IsQuiet (core : ArmState) (s : State) (core' : ArmState) (s' : State) (st
   pub nothing : text ≡ []
   pub touches : touches_of s'.devices ≡ touches_of s.devices
 
-module _ (one : BusRunIsOne) (once : MadeStepsAreOne) {i : Image} {out : List ℕ} {view : ByteMap} {written : ℕ → Bool} {s : State} (o : IsOpened i written s)
-    (r : Reaches i out view written) (core : ArmState) (reset : IsReset i.start core) (steps : List Stepped) (p : IsStartup o r core steps) where
+module _ (one : BusRunIsOne) (once : MadeStepsAreOne) {i : Image} {view : ByteMap} {written : ℕ → Bool} {s : State} (o : IsOpened i written s)
+    (r : Reaches i view written) (core : ArmState) (reset : IsReset i.start core) (steps : List Stepped) (p : IsStartup o r core steps) where
   -- a run of no more steps than the startup's
   quiet : (most : ℕ) (why : Stop) (made : ℕ) (text : List ℕ) (core' : ArmState) (s' : State) → Runs most core s why made text core' s' → most ≤ length steps → IsQuiet core s core' s' steps most why made text
   quiet most why made text core' s' run le =
       let xs = take most steps in
-      let count = length-taken most steps le in
-      let given = steps-taken (board_of s) (over core s) s most steps p.given in
-      let uses = each-taken (StoresAreUsed s.contents) most steps p.uses in
-      let (core2, s2, leads, is) = runs-are-bus-runs core s [] xs (ready o) given (print-none s xs (ordinary-taken most steps p.are.boot.ordinary)) uses in
+      let count = length_taken most steps le in
+      let given = steps_taken (board_of s) (over core s) s most steps p.given in
+      let uses = each_taken (StoresAreUsed s.contents) most steps p.uses in
+      let (core2, s2, leads, is) = runs-are-bus-runs core s [] xs (ready o) given (print_none s xs (ordinary_taken most steps p.are.boot.ordinary)) uses in
       let (core3, s3, are, behind_is, left_is) = steps-are-made core s xs (ready o) given uses in
       let mine : Runs most core s stop.Budget most [] core2 s2 =
       record { count = most; core1 = core2; s1 = s2; leads = subst (λ (k : ℕ). Leads core s k [] core2 s2) count leads; ends = (refl, refl, refl, refl) } in
       let (why_is, made_is, text_is, core_is, s_is) = one most core s why stop.Budget made most text [] core' core2 s' s2 (ready o) (valid o r core reset) run mine in
-      let (lines, left, touches) = devices-are-left s (accesses_of xs) (each-taken (AreOffDevices (board_of s)) most steps p.are.off) in
+      let (lines, left, touches) = devices-are-left s (accesses_of xs) (each_taken (AreOffDevices (board_of s)) most steps p.are.off) in
       let same_core : core' ≡ core3 = core_is ∙ ap (λ (x : Whole). x.core) (sym is.state ∙ behind_is) in
       let same_bus : s' ≡ s3 = s_is ∙ is.bus ∙ sym left_is in
       record {
@@ -114,8 +113,8 @@ module _ (one : BusRunIsOne) (once : MadeStepsAreOne) {i : Image} {out : List �
       }
 
   -- a longer one goes on as long
-  goes-on : (most : ℕ) (why : Stop) (made : ℕ) (text : List ℕ) (core' : ArmState) (s' : State) (run : Runs most core s why made text core' s') → length steps ≤ most → length steps ≤ run.count
-  goes-on most why made text core' s' run le = go (below_or_not run.count (length steps)) (stops-by why most run.count made run.core1 run.s1 core' s' run.ends)
+  goes_on : (most : ℕ) (why : Stop) (made : ℕ) (text : List ℕ) (core' : ArmState) (s' : State) (run : Runs most core s why made text core' s') → length steps ≤ most → length steps ≤ run.count
+  goes_on most why made text core' s' run le = go (below_or_not run.count (length steps)) (stops_by why most run.count made run.core1 run.s1 core' s' run.ends)
     where
       go : (run.count < length steps) ⊎ (length steps ≤ run.count)
           → (run.count ≡ most) ⊎ ((why ≡ stop.Budget → ⊥) × EndsWith (run.count + 1) run.count why run.core1 run.s1 made core' s') → length steps ≤ run.count
@@ -129,8 +128,8 @@ module _ (one : BusRunIsOne) (once : MadeStepsAreOne) {i : Image} {out : List �
   begins most why made text core' s' run le =
       let (ys, count, are, left) = run-leaves-devices most core s why made text core' s' (ready o) run in
       let (core1, s1, mine, behind, bus) = steps-are-made core s steps (ready o) p.given p.uses in
-      let least = at-least why most run.count made run.core1 run.s1 core' s' run.ends in
-      let long = goes-on most why made text core' s' run le in
+      let least = at_least why most run.count made run.core1 run.s1 core' s' run.ends in
+      let long = goes_on most why made text core' s' run le in
       let front = once core s steps ys core1 core' s1 s' (ready o) (valid o r core reset) mine are (omega arith) in
       let whole : steps ++ drop (length steps) ys ≡ ys = ap (λ (xs : List Stepped). xs ++ drop (length steps) ys) front ∙ take-append-drop (length steps) ys in
       record {
@@ -143,26 +142,27 @@ module _ (one : BusRunIsOne) (once : MadeStepsAreOne) {i : Image} {out : List �
     abbrev Ended : Bool → Type 0
     Ended b = MatchBool b (rose × Runs made core s stop.Budget made text core' s' × GotPart before after text) (Runs most core s why made text core' s' × Got before after text)
 
-    short-by : (b : Bool) → is_sink why ≡ b → Ended b → cond b made most ≤ length steps → IsShort why (cond b made most) made core s core' s' before after steps
-    short-by true e (faulty, run, got) le =
+    short_by : (b : Bool) → is_sink why ≡ b → Ended b → cond b made most ≤ length steps → IsShort why (cond b made most) made core s core' s' before after steps
+    short_by true e (faulty, run, got) le =
         let q = quiet made stop.Budget made text core' s' run le in
-        record { cut = sink-cut why e; all = refl; are = q.are; unprinted = part-none before after text q.nothing got; touches = q.touches }
-    short-by false e (run, got) le =
+        record { cut = sink_cut why e; all = refl; are = q.are; unprinted = part_none before after text q.nothing got; touches = q.touches }
+    short_by false e (run, got) le =
         let q = quiet most why made text core' s' run le in
-        record { cut = budget-cut why q.cut; all = q.all; are = q.are; unprinted = got-none before after text q.nothing got; touches = q.touches }
+        record { cut = budget_cut why q.cut; all = q.all; are = q.are; unprinted = got_none before after text q.nothing got; touches = q.touches }
 
-    long-by : (b : Bool) → is_sink why ≡ b → Ended b → length steps ≤ cond b made most → IsLong why made core s core' s' steps
-    long-by true e (faulty, run, got) le =
+    long_by : (b : Bool) → is_sink why ≡ b → Ended b → length steps ≤ cond b made most → IsLong why made core s core' s' steps
+    long_by true e (faulty, run, got) le =
         let l = begins made stop.Budget made text core' s' run le in
-        record { rest = l.rest; count = l.count ∙ sink-made why made e; are = l.are }
-    long-by false e (run, got) le = begins most why made text core' s' run le
+        record { rest = l.rest; count = l.count ∙ sink_made why made e; are = l.are }
+    long_by false e (run, got) le = begins most why made text core' s' run le
 
     starts : Ended (is_sink why) → RunStarts i view why most made core s core' s' before after steps
-    starts ended = record { startup = p.are; short = short-by (is_sink why) refl ended; long = long-by (is_sink why) refl ended }
+    starts ended = record { startup = p.are; short = short_by (is_sink why) refl ended; long = long_by (is_sink why) refl ended }
 
-pub runs-start : BusRunIsOne → MadeStepsAreOne → RunsStart
-runs-start one once i out view written banks seats left most why before after faults faults_now r allow ran =
+pub runs_start : BusRunIsOne → MadeStepsAreOne → RunsStart
+runs_start one once i view written banks seats left most why before after faults faults_now boots can allow ran =
     let run = ran.is_run in
+    let r : Reaches i view written = record { boots = boots; can = can } in
     let o = opened i written banks seats ran.begin ran.roomy allow ran.opening in
     let (steps, p) = startup o r run.core run.reset in
     let (text, ended) = run.runs in

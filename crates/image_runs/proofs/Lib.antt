@@ -1,7 +1,0 @@
-mod FileLemmas
-mod Needs
-mod LoadLemmas
-mod Opened
-mod Startup
-mod Starting
-mod Commands
