@@ -50,27 +50,54 @@ pub fn archives_fit(archives: &[Named<Archive>])
     }
 }
 
+fn word_fits(word: u32)
+    ensures { word < 2 ^ 32 }
+{
+    let _word = word;
+}
+
+fn reloc_fits(reloc: &Reloc)
+    ensures { (reloc.now.offset < 2 ^ 32) × (reloc.now.word < 2 ^ 32) }
+{
+    word_fits(reloc.offset);
+    word_fits(reloc.word);
+}
+
 fn relocs_fit(relocs: &[Reloc])
     ensures { AllByRecursion (λ r. (r.offset < 2 ^ 32) × (r.word < 2 ^ 32)) relocs.now }
 {
     for reloc in relocs {
-        let _reloc = *reloc;
+        reloc_fits(reloc);
     }
+}
+
+fn area_fits(area: &Area)
+    ensures { AreaFits area.now }
+{
+    word_fits(area.attributes);
+    relocs_fit(area.relocs.as_slice());
 }
 
 fn heads_fit(areas: &[Area])
     ensures { AllByRecursion AreaFits areas.now }
 {
     for area in areas {
-        relocs_fit(area.relocs.as_slice());
+        area_fits(area);
     }
+}
+
+fn symbol_fits(symbol: &Symbol)
+    ensures { (symbol.now.attributes < 2 ^ 32) × (symbol.now.value < 2 ^ 32) }
+{
+    word_fits(symbol.attributes);
+    word_fits(symbol.value);
 }
 
 fn symbols_fit(symbols: &[Symbol])
     ensures { AllByRecursion (λ s. (s.attributes < 2 ^ 32) × (s.value < 2 ^ 32)) symbols.now }
 {
     for symbol in symbols {
-        let _numbers = (symbol.attributes, symbol.value);
+        symbol_fits(symbol);
     }
 }
 
