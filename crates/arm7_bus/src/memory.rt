@@ -152,6 +152,9 @@ fn left_in(banks: &[Bank], a: u32) -> usize
 impl Memory {
     ghost use Rattle.std.specs.Prelude.{◌&&◌, nat_le};
     ghost use Rattle.arm7_bus.specs.Pieces.{IsPiece};
+    ghost use Rattle.arm7_bus.specs.Picked.{IsPicked};
+    ghost use Rattle.arm7_bus.specs.Picks.{picked_bytes};
+    ghost use Rattle.sdt_word.specs.Numbers.{registers};
     ghost use Rattle.arm7_bus.specs.States.{claimed, pages_of};
     ghost use Rattle.arm7_bus.specs.Buses.{with_bank, with_protected};
     ghost use Rattle.arm7_bus.specs.Meets.{IsFound, IsNowhere};
@@ -317,6 +320,29 @@ impl Memory {
         Ok(())
     }
 
+    /// Stores the `n` words from an address on, those of a table at the places where `list` has a 1, and notes each; false, and
+    /// nothing changes, where the bank that was used last hasn't all of them or is protected, or no used page has them.
+    #[inline(always)]
+    pub fn store_picked(&mut self, a: u32, words: &[u32; 16], list: u32, n: u32) -> bool
+        requires started { length (contents_of self.old).used ≡ 1048576 }
+        requires aligned { a % 4 ≡ 0 }
+        requires few { list < 65536 }
+        requires counted { n ≡ length (registers 16 list) }
+        requires some { 1 ≤ n }
+        requires left { self.old.stores.count + n ≤ 16 }
+        ensures stored { result ≡ true → IsPicked (contents_of self.old) a n (picked_bytes words.now (registers 16 list)) (contents_of self.new) }
+        ensures same { result ≡ false → contents_of self.new ≡ contents_of self.old }
+    {
+        if !self.last_takes(a, 4 * n) {
+            return false;
+        }
+        if !self.pages.write_picked(a, words, list, n) {
+            return false;
+        }
+        self.stores.note_words(a, n);
+        true
+    }
+
     /// No banks.
     #[tactic(auto, using(crate::proofs::PagingLemmas::memory_clear, crate::proofs::LookupLemmas::apart_none))]
     pub fn new(alloc: Global) -> Memory
@@ -415,8 +441,9 @@ impl Memory {
 }
 
 impl Stores {
-    ghost use Rattle.std.specs.Prelude.{◌≡◌, ◌<◌, ◌%◌, ◌∷◌, [], ◌++◌, map, take};
+    ghost use Rattle.std.specs.Prelude.{◌≡◌, ◌<◌, ◌≤◌, ◌+◌, ◌%◌, ◌∷◌, [], ◌++◌, map, take};
     ghost use Rattle.sdt_word.specs.Codes.{bytes_in};
+    ghost use Rattle.arm7_bus.specs.Picks.{word_places};
     ghost use Rattle.arm7_bus.specs.Places.{place_of};
 
     pub fn none() -> Stores
@@ -437,6 +464,31 @@ impl Stores {
     {
         self.list[self.count as usize] = access_range(a, width);
         self.count += 1;
+    }
+
+    /// Adds the range of a word.
+    #[inline(always)]
+    fn note_word(&mut self, a: u32)
+        requires aligned { a % 4 ≡ 0 }
+        requires few { self.old.count < 16 }
+        ensures places { map place_of (take self.new.count self.new.list) ≡ map place_of (take self.old.count self.old.list) ++ (a, 4) ∷ [] }
+        ensures count { self.new.count ≡ self.old.count + 1 }
+    {
+        self.list[self.count as usize] = access_range(a, Width::Word);
+        self.count += 1;
+    }
+
+    /// Adds the ranges of `n` words from an address on.
+    pub fn note_words(&mut self, a: u32, n: u32)
+        requires aligned { a % 4 ≡ 0 }
+        requires left { self.old.count + n ≤ 16 }
+        ensures { map place_of (take self.new.count self.new.list) ≡ map place_of (take self.old.count self.old.list) ++ word_places a n }
+    {
+        if n == 0 {
+            return;
+        }
+        self.note_word(a);
+        self.note_words(a.wrapping_add(4), n - 1);
     }
 }
 
