@@ -1,22 +1,18 @@
-use Rattle.std.proofs.Common.{refl}
+use Rattle.std.proofs.Common.{refl, sym, true}
 use Rattle.sdt_word.specs.Numbers.{registers}
-use Rattle.arm7_transfers.proofs.BlockParts.{give_refused, give_lacking, give_ran}
+use Rattle.arm7_transfers.proofs.BlockParts.{done_from, give_part, give_ran}
 use Rattle.arm7_transfers.proofs.block.block_stored.Goals as goal
 
-pub returns-then-not-are_storable-clause-done : goal.returns-then-not-are_storable-clause-done
-returns-then-not-are_storable-clause-done g c =
-    give_refused c.args.by.user c.args.by.write_back (registers 16 c.args.by.list) c.args.a c.args.by.register c.args.end c.args.core.now _ c.are_storable.result
-    c.requires.ready c.are_storable.ensures c.if-not-are_storable.true
-
-pub returns-in-Some-clause-done : goal.returns-in-Some-clause-done
-returns-in-Some-clause-done g c = (
-  give_lacking c.args.by.user c.args.by.write_back (registers 16 c.args.by.list) c.args.a c.args.by.register c.args.end c.in-Some.address c.args.core.now _ c.are_storable.result
-      c.requires.ready c.are_storable.ensures c.if-not-are_storable.false c.in-Some.ensures.more c.in-Some.ensures.least,
-  refl,
-  refl,
-)
+pub returns-then-not-gave_at_once-clause-done : goal.returns-then-not-gave_at_once-clause-done
+returns-then-not-gave_at_once-clause-done g c =
+    done_from (give_part c.args.by.user c.args.by.write_back (registers 16 c.args.by.list) c.args.a c.args.by.register c.args.end) c.args.core.now c.each_stored.new.core _ _ _ c.each_stored.result
+    (c.gave_at_once.ensures.same c.if-not-gave_at_once.true) c.each_stored.ensures.done
 
 pub returns-clause-done : goal.returns-clause-done
 returns-clause-done g c =
-    give_ran c.args.by.user c.args.by.write_back (registers 16 c.args.by.list) c.args.a c.args.by.register c.args.end c.args.core.now c.set_block_base.new.state _ _ c.are_storable.result
-    c.requires.ready c.requires.aligned c.ranges.a.fits c.are_storable.ensures c.if-not-are_storable.false c.in_default.ensures.room c.give_all.ensures.served c.set_block_base.ensures
+    let is = c.if-not-gave_at_once.false in
+    give_ran c.args.by.user c.args.by.write_back (registers 16 c.args.by.list) c.args.a c.args.by.register c.args.end c.args.core.now c.set_block_base.new.state _ _ true
+    c.requires.ready c.requires.aligned c.ranges.a.fits (sym (c.gave_at_once.ensures.may is)) refl (c.gave_at_once.ensures.fits is).room (c.gave_at_once.ensures.served is) c.set_block_base.ensures
+
+pub returns-clause-ready : goal.returns-clause-ready
+returns-clause-ready g c = c.gave_at_once.ensures.ready c.if-not-gave_at_once.false
