@@ -152,9 +152,10 @@ picked_first words old mid new v n at w some fits count le e f g =
 
 -- ---- words that are noted one after the other
 
-pub noted_first : (before here new : List (ℕ × ℕ)) (a b n : ℕ) → (n ≡ 0 → ⊥) → b ≡ next_word a → here ≡ before ++ (a, 4) ∷ [] → new ≡ here ++ word_places b (n - 1)
-    → new ≡ before ++ word_places a n
-noted_first before here new a b zero some e f g = absurd (some refl)
-noted_first before here new a b (suc n) some e f g =
+pub noted_first : (before here : List (ℕ × ℕ)) (f : ℕ → List (ℕ × ℕ)) (at a b n : ℕ) → (n ≡ 0 → ⊥) → b ≡ next_word a → here ≡ before ++ (a, 4) ∷ [] → f (at + 1 + (n - 1)) ≡ here ++ word_places b (n - 1)
+    → f (at + n) ≡ before ++ word_places a n
+noted_first before here f at a b zero some e g h = absurd (some refl)
+noted_first before here f at a b (suc n) some e g h =
     let less : suc n - 1 ≡ n = omega arith in
-    g ∙ ap (λ (x : List (ℕ × ℕ)). x ++ word_places b (suc n - 1)) f ∙ rw (e, less) (append_assoc before ((a, 4) ∷ []) (word_places (next_word a) n))
+    let end : at + suc n ≡ at + 1 + (suc n - 1) = omega arith in
+    ap f end ∙ h ∙ ap (λ (x : List (ℕ × ℕ)). x ++ word_places b (suc n - 1)) g ∙ rw (e, less) (append_assoc before ((a, 4) ∷ []) (word_places (next_word a) n))

@@ -4,6 +4,8 @@ ghost use Rattle.std.specs.Prelude.{◌≡◌, ◌<◌, ◌≤◌, ◌+◌, ◌-
 ghost use Rattle.sdt_word.specs.Bytes.{bytes_of, load, number_of};
 ghost use Rattle.sdt_word.specs.Codes.{bytes_in};
 ghost use Rattle.arm7_bus.specs.Lookups.{AreApartBanks, HasFrom, IsBankAt};
+ghost use Rattle.arm7_bus.specs.Picks.{word_places};
+ghost use Rattle.arm7_bus.specs.Places.{place_of};
 
 use crate::meets::{first_shared, lesser};
 use crate::pages::{PAGE, PAGES, Pages};
@@ -466,30 +468,39 @@ impl Stores {
         self.count += 1;
     }
 
-    /// Adds the range of a word.
-    #[inline(always)]
-    fn note_word(&mut self, a: u32)
-        requires aligned { a % 4 ≡ 0 }
-        requires few { self.old.count < 16 }
-        ensures places { map place_of (take self.new.count self.new.list) ≡ map place_of (take self.old.count self.old.list) ++ (a, 4) ∷ [] }
-        ensures count { self.new.count ≡ self.old.count + 1 }
-    {
-        self.list[self.count as usize] = access_range(a, Width::Word);
-        self.count += 1;
-    }
-
     /// Adds the ranges of `n` words from an address on.
+    #[inline(always)]
     pub fn note_words(&mut self, a: u32, n: u32)
         requires aligned { a % 4 ≡ 0 }
         requires left { self.old.count + n ≤ 16 }
         ensures { map place_of (take self.new.count self.new.list) ≡ map place_of (take self.old.count self.old.list) ++ word_places a n }
     {
-        if n == 0 {
-            return;
-        }
-        self.note_word(a);
-        self.note_words(a.wrapping_add(4), n - 1);
+        put_ranges(&mut self.list, self.count, a, n);
+        self.count += n;
     }
+}
+
+/// Puts the range of a word at a place of a list.
+#[inline(always)]
+fn put_range(list: &mut [Range32; 16], at: u32, a: u32)
+    requires aligned { a % 4 ≡ 0 }
+    requires few { at < 16 }
+    ensures { map place_of (take (at + 1) list.new) ≡ map place_of (take at list.old) ++ (a, 4) ∷ [] }
+{
+    list[at as usize] = access_range(a, Width::Word);
+}
+
+/// Puts the ranges of `n` words from an address on at a place of a list and behind it.
+fn put_ranges(list: &mut [Range32; 16], at: u32, a: u32, n: u32)
+    requires aligned { a % 4 ≡ 0 }
+    requires left { at + n ≤ 16 }
+    ensures { map place_of (take (at + n) list.new) ≡ map place_of (take at list.old) ++ word_places a n }
+{
+    if n == 0 {
+        return;
+    }
+    put_range(list, at, a);
+    put_ranges(list, at + 1, a.wrapping_add(4), n - 1);
 }
 
 #[inline(always)]

@@ -13,7 +13,7 @@ use Rattle.arm7_model.specs.Registers.{register, stored_at}
 use Rattle.arm7_model.proofs.MemoryLemmas.{store-append}
 use Rattle.arm7_bus.specs.declared.memory.Bank.{Bank}
 use Rattle.arm7_bus.specs.Buses.{after_write}
-use Rattle.arm7_bus.specs.Paging.{page_used_in, used_count}
+use Rattle.arm7_bus.specs.Paging.{page_used_in}
 use Rattle.arm7_bus.specs.Picked.{IsPicked}
 use Rattle.arm7_bus.specs.Picks.{picked_bytes, word_places}
 use Rattle.arm7_bus.specs.Seats.{Seat}
@@ -171,13 +171,15 @@ module _ (s : State) (core : ArmState) (list n a : ℕ) (r : IsReady s) (count :
       ∙ ap (λ (ds : List Seat). record { contents = record s.contents { memory = store s.contents.memory a bytes; stores = s.contents.stores ++ word_places a n }; devices = ds }) same in
       subst IsReady (sym is) (ready-same s left (record { banks = refl; have = λ x. refl; share = λ x. refl; whole = λ w. w }) refl r.room r)
 
-  pub picked_served : (s' : State) (user : Bool) → s'.contents ≡ new → user ≡ false → lists list 15 ≡ false → bytes ≡ picked_bytes core.r (registers 16 (list % 65536)) → s'.devices ≡ s.devices
-      → s' ≡ served s (stores_of user core (registers 16 list) a)
-  picked_served s' user to plain none is same =
+  pub picked_served : (s' : State) → s'.contents ≡ new → lists list 15 ≡ false → bytes ≡ picked_bytes core.r (registers 16 (list % 65536)) → s'.devices ≡ s.devices
+      → s' ≡ served s (stores_of false core (registers 16 list) a)
+  picked_served s' to none is same =
       let all = is ∙ ap (picked_bytes core.r) (low_picked list) in
       ap (λ (c : Contents). record s' { contents = c }) (to ∙ p.after)
       ∙ ap (λ (ds : List Seat). record { contents = record s.contents { memory = store s.contents.memory a bytes; stores = s.contents.stores ++ word_places a n }; devices = ds }) same
       ∙ ap (λ (bs : List ℕ). record s { contents = record s.contents { memory = store s.contents.memory a bs; stores = s.contents.stores ++ word_places a n } }) all
       ∙ ap (λ (m : ℕ). record s { contents = record s.contents { memory = store s.contents.memory a (picked_bytes core.r (registers 16 list)); stores = s.contents.stores ++ word_places a m } }) count
       ∙ gave-served s.contents.banks s.contents.used a (4 * n) p.has p.free p.used p.within small core (registers 16 list) a s (no-pc list none) refl refl lies
-      ∙ ap (λ (u : Bool). served s (stores_of u core (registers 16 list) a)) (sym plain)
+
+pub gave_plain : (user : Bool) (core : ArmState) (ks : List ℕ) (a : ℕ) (s s' : State) → user ≡ false → s' ≡ served s (stores_of false core ks a) → s' ≡ served s (stores_of user core ks a)
+gave_plain user core ks a s s' plain e = e ∙ ap (λ (u : Bool). served s (stores_of u core ks a)) (sym plain)

@@ -1,8 +1,8 @@
 -- Blocks whose words lie in one span of a bank: they are all there, and may be stored where the span isn't protected.
-use Rattle.std.proofs.Common.{◌≡◌, ℕ, zero, suc, ◌+◌, ◌-◌, ◌*◌, ◌%◌, ◌^◌, ◌<◌, ◌≤◌, Bool, true, false, ◌||◌, List, [], ◌∷◌, length, refl, sym, ap, ◌∙◌, subst, arith, add-one}
+use Rattle.std.proofs.Common.{◌≡◌, ℕ, zero, suc, ◌+◌, ◌-◌, ◌*◌, ◌%◌, ◌^◌, ◌<◌, ◌≤◌, Bool, true, false, ◌||◌, List, [], ◌∷◌, length, refl, sym, subst, arith}
 use Rattle.std.specs.Prelude.{nat_le}
 use Rattle.std.proofs.lemmas.Bool.Decides.{nat_tests}
-use Rattle.sdt_word.specs.Numbers.{bit, bits, kept, places_from, registers}
+use Rattle.sdt_word.specs.Numbers.{registers}
 use Rattle.sdt_word.specs.declared.codes.Width.TheVariants.{Word}
 use Rattle.arm7_model.specs.Accesses.{next_word}
 use Rattle.arm7_model.specs.Blocks.{all_there, all_may_store}
@@ -16,25 +16,6 @@ use Rattle.arm7_transfers.specs.Ready.{IsReady}
 use Rattle.arm7_transfers.proofs.BoardLemmas.{there-whole, may-whole}
 use Rattle.arm7_transfers.proofs.BlockLemmas.{next-small, next-whole}
 use Rattle.arm7_transfers.proofs.BlockSteps.{sixteen}
-
--- ---- the count of a list
-
-kept-count : (b k : ℕ) (ks : List ℕ) → b < 2 → length (kept b k ks) ≡ b + length ks
-kept-count zero k ks lt = omega arith
-kept-count (suc zero) k ks lt = omega arith
-kept-count (suc (suc b)) k ks lt = absurd (omega arith)
-
-one-more : (k : ℕ) → k < 16 → 16 - k ≡ suc (16 - (k + 1))
-one-more k lt = omega arith
-
-pub bit_few : (list k : ℕ) → bit list k < 2
-bit_few list k = omega arith
-
-pub one_counted : (list k x : ℕ) → k < 16 → x ≡ length (places_from (k + 1) (16 - (k + 1)) list) → bits list k 1 + x ≡ length (places_from k (16 - k) list)
-one_counted list k x lt e =
-    rw (one-more k lt)
-    (ap (λ (n : ℕ). bits list k 1 + n) (e ∙ ap (λ (j : ℕ). length (places_from j (16 - (k + 1)) list)) (add-one k))
-    ∙ sym (kept-count (bit list k) k (places_from (suc k) (16 - (k + 1)) list) (bit_few list k)))
 
 -- ---- parts of an access
 

@@ -136,64 +136,55 @@ fn take_all(core: &mut ArmState, bus: &mut Bus, user: bool, list: u32, k: u8, a:
 }
 
 /// Loads each of the `n` registers from the words of some bytes, from a place on.
-fn take_words(core: &mut ArmState, bytes: &[u8], user: bool, list: u32, n: u32, at: usize)
+fn take_words(core: &mut ArmState, bytes: &[u8], list: u32, n: u32, at: usize)
     requires few { list < 65536 }
     requires counted { n ≡ length (registers 16 list) }
     requires room { at + 4 * n ≤ length bytes.now }
-    ensures { core.new ≡ drawn user (registers 16 list) at core.old bytes.now }
+    ensures { core.new ≡ drawn false (registers 16 list) at core.old bytes.now }
 {
     if n == 0 {
         return;
     }
     let v = word_at(bytes, at);
-    set_listed(core, user, list.trailing_zeros() as u8, v);
-    take_words(core, bytes, user, list & (list - 1), n - 1, at + 4);
+    set_listed(core, false, list.trailing_zeros() as u8, v);
+    take_words(core, bytes, list & (list - 1), n - 1, at + 4);
 }
 
 /// Writes the base back and loads each register of a list from the bytes that one bank and one page have; false, and nothing
 /// changes, where they haven't all of them.
+#[inline(never)]
 fn taken_at_once(
     core: &mut ArmState,
     bus: &Bus,
-    user: bool,
-    by: Block,
-    n: u32,
+    write_back: bool,
+    rn: u8,
+    list: u32,
     a: u32,
     end: u32,
 ) -> bool
     requires ready { IsReady (state_of base size state touched bus.now) }
-    requires from { by.register < 16 }
-    requires counted { n ≡ length (registers 16 by.list) }
-    requires few { n ≤ 16 }
+    requires from { rn < 16 }
     requires aligned { a % 4 ≡ 0 }
-    ensures there { result ≡ true → all_there (board_of (state_of base size state touched bus.now)) (registers 16 by.list) a ≡ true }
-    ensures core { result ≡ true → core.new ≡ taken user (registers 16 by.list) a (with_block_base by.write_back by.register end core.old) (state_of base size state touched bus.now) }
-    ensures served { result ≡ true → state_of base size state touched bus.now ≡ served (state_of base size state touched bus.now) (loads_of (registers 16 by.list) a) }
+    ensures there { result ≡ true → all_there (board_of (state_of base size state touched bus.now)) (registers 16 list) a ≡ true }
+    ensures core { result ≡ true → core.new ≡ taken false (registers 16 list) a (with_block_base write_back rn end core.old) (state_of base size state touched bus.now) }
+    ensures served { result ≡ true → state_of base size state touched bus.now ≡ served (state_of base size state touched bus.now) (loads_of (registers 16 list) a) }
     ensures same { result ≡ false → core.new ≡ core.old }
 {
+    let n = count(list);
     let bytes = bus.piece(a);
     if bytes.len() < 4 * n as usize {
         return false;
     }
-    set_block_base(core, by.write_back, by.register, end);
-    take_words(core, bytes, user, by.list % 0x1_0000, n, 0);
+    set_block_base(core, write_back, rn, end);
+    take_words(core, bytes, list % 0x1_0000, n, 0);
     true
 }
 
-/// Writes the base back and loads each register of a list; false, and nothing changes, where a word is absent.
-fn all_loaded(
-    core: &mut ArmState,
-    bus: &mut Bus,
-    user: bool,
-    by: Block,
-    n: u32,
-    a: u32,
-    end: u32,
-) -> bool
+/// Writes the base back and loads each register by itself; false, and nothing changes, where a word is absent.
+#[inline(never)]
+fn each_loaded(core: &mut ArmState, bus: &mut Bus, user: bool, by: Block, a: u32, end: u32) -> bool
     requires ready { IsReady (state_of base size state touched bus.old) }
     requires from { by.register < 16 }
-    requires counted { n ≡ length (registers 16 by.list) }
-    requires few { n ≤ 16 }
     requires aligned { a % 4 ≡ 0 }
     ensures there { result ≡ all_there (board_of (state_of base size state touched bus.old)) (registers 16 by.list) a }
     ensures core { result ≡ true → core.new ≡ taken user (registers 16 by.list) a (with_block_base by.write_back by.register end core.old) (state_of base size state touched bus.old) }
@@ -201,15 +192,33 @@ fn all_loaded(
     ensures same { result ≡ false → (core.new ≡ core.old) × (state_of base size state touched bus.new ≡ state_of base size state touched bus.old) }
     ensures ready { IsReady (state_of base size state touched bus.new) }
 {
-    if taken_at_once(core, bus, user, by, n, a, end) {
-        return true;
-    }
     if !are_there(bus, by.list, a) {
         return false;
     }
     set_block_base(core, by.write_back, by.register, end);
     take_all(core, bus, user, by.list, 0, a);
     true
+}
+
+/// Writes the base back and loads each register of a list, mostly at once; false, and nothing changes, where a word is absent.
+#[inline(always)]
+fn all_loaded(core: &mut ArmState, bus: &mut Bus, user: bool, by: Block, a: u32, end: u32) -> bool
+    requires ready { IsReady (state_of base size state touched bus.old) }
+    requires from { by.register < 16 }
+    requires aligned { a % 4 ≡ 0 }
+    ensures there { result ≡ all_there (board_of (state_of base size state touched bus.old)) (registers 16 by.list) a }
+    ensures core { result ≡ true → core.new ≡ taken user (registers 16 by.list) a (with_block_base by.write_back by.register end core.old) (state_of base size state touched bus.old) }
+    ensures served { result ≡ true → state_of base size state touched bus.new ≡ served (state_of base size state touched bus.old) (loads_of (registers 16 by.list) a) }
+    ensures same { result ≡ false → (core.new ≡ core.old) × (state_of base size state touched bus.new ≡ state_of base size state touched bus.old) }
+    ensures ready { IsReady (state_of base size state touched bus.new) }
+{
+    if user {
+        return each_loaded(core, bus, user, by, a, end);
+    }
+    if taken_at_once(core, bus, by.write_back, by.register, by.list, a, end) {
+        return true;
+    }
+    each_loaded(core, bus, user, by, a, end)
 }
 
 /// Stores each register.
@@ -234,25 +243,22 @@ fn give_all(core: &ArmState, bus: &mut Bus, user: bool, list: u32, k: u8, a: u32
 }
 
 /// Stores each register where one bank and one used page have all words, as they mostly do; false, and nothing changes, where
-/// they haven't, and where the list has pc or names user mode's registers.
-fn gave_at_once(core: &ArmState, bus: &mut Bus, user: bool, list: u32, n: u32, a: u32) -> bool
+/// they haven't, and where the list has pc or no register.
+#[inline(never)]
+fn gave_at_once(core: &ArmState, bus: &mut Bus, list: u32, a: u32) -> bool
     requires ready { IsReady (state_of base size state touched bus.old) }
     requires quiet { (state_of base size state touched bus.old).contents.stores ≡ [] }
-    requires counted { n ≡ length (registers 16 list) }
-    requires few { n ≤ 16 }
     requires aligned { a % 4 ≡ 0 }
     ensures may { result ≡ true → all_may_store (board_of (state_of base size state touched bus.old)) (registers 16 list) a ≡ true }
     ensures fits { result ≡ true → let s = state_of base size state touched bus.old in Fits s (words_in s.contents.banks (registers 16 list) a) }
-    ensures served { result ≡ true → state_of base size state touched bus.new ≡ served (state_of base size state touched bus.old) (stores_of user core.now (registers 16 list) a) }
+    ensures served { result ≡ true → state_of base size state touched bus.new ≡ served (state_of base size state touched bus.old) (stores_of false core.now (registers 16 list) a) }
     ensures ready { result ≡ true → IsReady (state_of base size state touched bus.new) }
     ensures same { result ≡ false → state_of base size state touched bus.new ≡ state_of base size state touched bus.old }
 {
-    if user {
-        return false;
-    }
     if lists(list, 15) {
         return false;
     }
+    let n = count(list);
     if n == 0 {
         return false;
     }
@@ -344,6 +350,7 @@ fn missing_frame(bus: &Bus, list: u32, a: u32) -> Option<u32>
 }
 
 /// Stores each register by itself.
+#[inline(never)]
 fn each_stored(core: &mut ArmState, bus: &mut Bus, by: Block, a: u32, end: u32) -> Outcome
     requires ready { IsReady (state_of base size state touched bus.old) }
     requires quiet { (state_of base size state touched bus.old).contents.stores ≡ [] }
@@ -363,17 +370,19 @@ fn each_stored(core: &mut ArmState, bus: &mut Bus, by: Block, a: u32, end: u32) 
     Outcome::Ran
 }
 
-fn block_stored(core: &mut ArmState, bus: &mut Bus, by: Block, n: u32, a: u32, end: u32) -> Outcome
+#[inline(always)]
+fn block_stored(core: &mut ArmState, bus: &mut Bus, by: Block, a: u32, end: u32) -> Outcome
     requires ready { IsReady (state_of base size state touched bus.old) }
     requires quiet { (state_of base size state touched bus.old).contents.stores ≡ [] }
     requires from { by.register < 16 }
-    requires counted { n ≡ length (registers 16 by.list) }
-    requires few { n ≤ 16 }
     requires aligned { a % 4 ≡ 0 }
     ensures done { IsDone (λ u w. block_stored u by.user by.write_back (registers 16 by.list) a by.register end w) core.old (state_of base size state touched bus.old) result core.new (state_of base size state touched bus.new) }
     ensures ready { IsReady (state_of base size state touched bus.new) }
 {
-    if !gave_at_once(core, bus, by.user, by.list, n, a) {
+    if by.user {
+        return each_stored(core, bus, by, a, end);
+    }
+    if !gave_at_once(core, bus, by.list, a) {
         return each_stored(core, bus, by, a, end);
     }
     set_block_base(core, by.write_back, by.register, end);
@@ -388,26 +397,24 @@ fn is_no_return(thumb: bool, user: bool, pc: u32) -> bool
 }
 
 /// Loads a list with pc: with `^` it returns from an exception.
+#[inline(never)]
 fn pc_loaded(
     core: &mut ArmState,
     bus: &mut Bus,
     thumb: bool,
     by: Block,
-    n: u32,
     a: u32,
     end: u32,
 ) -> Outcome
     requires ready { IsReady (state_of base size state touched bus.old) }
     requires from { by.register < 16 }
-    requires counted { n ≡ length (registers 16 by.list) }
-    requires few { n ≤ 16 }
     requires pc { lists by.list 15 ≡ true }
     requires aligned { a % 4 ≡ 0 }
     ensures done { IsDone (λ u w. block_loaded u thumb by.user by.write_back (registers 16 by.list) a by.register end (lists by.list 15) w) core.old (state_of base size state touched bus.old) result core.new (state_of base size state touched bus.new) }
     ensures ready { IsReady (state_of base size state touched bus.new) }
 {
     let mut next = *core;
-    if !all_loaded(&mut next, bus, false, by, n, a, end) {
+    if !all_loaded(&mut next, bus, false, by, a, end) {
         return Outcome::Aborted;
     }
     if is_no_return(thumb, by.user, register(&next, 15)) {
@@ -418,27 +425,25 @@ fn pc_loaded(
     Outcome::Ran
 }
 
+#[inline(always)]
 fn block_loaded(
     core: &mut ArmState,
     bus: &mut Bus,
     thumb: bool,
     by: Block,
-    n: u32,
     a: u32,
     end: u32,
 ) -> Outcome
     requires ready { IsReady (state_of base size state touched bus.old) }
     requires from { by.register < 16 }
-    requires counted { n ≡ length (registers 16 by.list) }
-    requires few { n ≤ 16 }
     requires aligned { a % 4 ≡ 0 }
     ensures done { IsDone (λ u w. block_loaded u thumb by.user by.write_back (registers 16 by.list) a by.register end (lists by.list 15) w) core.old (state_of base size state touched bus.old) result core.new (state_of base size state touched bus.new) }
     ensures ready { IsReady (state_of base size state touched bus.new) }
 {
     if lists(by.list, 15) {
-        return pc_loaded(core, bus, thumb, by, n, a, end);
+        return pc_loaded(core, bus, thumb, by, a, end);
     }
-    if all_loaded(core, bus, by.user, by, n, a, end) {
+    if all_loaded(core, bus, by.user, by, a, end) {
         Outcome::Ran
     } else {
         Outcome::Aborted
@@ -446,6 +451,7 @@ fn block_loaded(
 }
 
 /// Loads or stores the registers of a list, in rising order at rising addresses.
+#[inline(always)]
 pub fn block_moved(
     core: &mut ArmState,
     bus: &mut Bus,
@@ -464,8 +470,8 @@ pub fn block_moved(
     let a = aligned(block_start(by.pre, by.up, b, n), Width::Word);
     let end = block_end(by.up, b, n);
     if load {
-        block_loaded(core, bus, thumb, by, n, a, end)
+        block_loaded(core, bus, thumb, by, a, end)
     } else {
-        block_stored(core, bus, by, n, a, end)
+        block_stored(core, bus, by, a, end)
     }
 }

@@ -1,4 +1,4 @@
-use Rattle.std.proofs.Common.{arith}
+use Rattle.std.proofs.Common.{arith, false}
 use Rattle.arm7_bus.proofs.PickLemmas.{place_in, rest_counted, rest_few}
 use Rattle.arm7_transfers.proofs.DrawnLemmas.{drawn_first}
 use Rattle.arm7_transfers.proofs.block.+take_words.Goals as goal
@@ -11,5 +11,5 @@ take_words-requires t c = (omega arith, (rest_few c.args.list c.requires.few, (r
 
 pub returns : goal.returns
 returns t c =
-    drawn_first c.args.user c.args.list c.args.n c.args.at c.word_at-v.result c.args.core.now c.set_listed.new.state c.take_words.new.core c.args.bytes.now
+    drawn_first false c.args.list c.args.n c.args.at c.word_at-v.result c.args.core.now c.set_listed.new.state c.take_words.new.core c.args.bytes.now
     c.if-n-eq0.false c.requires.few c.requires.counted c.word_at-v.ensures c.set_listed.ensures c.take_words.ensures
