@@ -180,6 +180,3 @@ module _ (s : State) (core : ArmState) (list n a : ℕ) (r : IsReady s) (count :
       ∙ ap (λ (bs : List ℕ). record s { contents = record s.contents { memory = store s.contents.memory a bs; stores = s.contents.stores ++ word_places a n } }) all
       ∙ ap (λ (m : ℕ). record s { contents = record s.contents { memory = store s.contents.memory a (picked_bytes core.r (registers 16 list)); stores = s.contents.stores ++ word_places a m } }) count
       ∙ gave-served s.contents.banks s.contents.used a (4 * n) p.has p.free p.used p.within small core (registers 16 list) a s (no-pc list none) refl refl lies
-
-pub gave_plain : (user : Bool) (core : ArmState) (ks : List ℕ) (a : ℕ) (s s' : State) → user ≡ false → s' ≡ served s (stores_of false core ks a) → s' ≡ served s (stores_of user core ks a)
-gave_plain user core ks a s s' plain e = e ∙ ap (λ (u : Bool). served s (stores_of u core ks a)) (sym plain)

@@ -8,6 +8,7 @@ ghost use Rattle.arm7_bus.specs.Meets.{lesser_of};
 ghost use Rattle.arm7_bus.specs.Paging.{used_count};
 ghost use Rattle.arm7_transfers.specs.BlockAccesses.{drawn, is_page_of, loads_of, pages_needed, stores_of, taken, words_in};
 ghost use Rattle.arm7_transfers.specs.Boards.{board_of};
+ghost use Rattle.arm7_transfers.specs.declared.outcome.Outcome.TheVariants as outcome;
 ghost use Rattle.arm7_transfers.specs.Done.{IsDone};
 ghost use Rattle.arm7_transfers.specs.Frames.{Fits, Misses, least_unused, used_with};
 ghost use Rattle.arm7_transfers.specs.Ready.{IsReady};
@@ -152,7 +153,7 @@ fn take_words(core: &mut ArmState, bytes: &[u8], list: u32, n: u32, at: usize)
 
 /// Writes the base back and loads each register of a list from the bytes that one bank and one page have; false, and nothing
 /// changes, where they haven't all of them.
-#[inline(never)]
+#[inline(always)]
 fn taken_at_once(
     core: &mut ArmState,
     bus: &Bus,
@@ -181,7 +182,6 @@ fn taken_at_once(
 }
 
 /// Writes the base back and loads each register by itself; false, and nothing changes, where a word is absent.
-#[inline(never)]
 fn each_loaded(core: &mut ArmState, bus: &mut Bus, user: bool, by: Block, a: u32, end: u32) -> bool
     requires ready { IsReady (state_of base size state touched bus.old) }
     requires from { by.register < 16 }
@@ -201,7 +201,6 @@ fn each_loaded(core: &mut ArmState, bus: &mut Bus, user: bool, by: Block, a: u32
 }
 
 /// Writes the base back and loads each register of a list, mostly at once; false, and nothing changes, where a word is absent.
-#[inline(always)]
 fn all_loaded(core: &mut ArmState, bus: &mut Bus, user: bool, by: Block, a: u32, end: u32) -> bool
     requires ready { IsReady (state_of base size state touched bus.old) }
     requires from { by.register < 16 }
@@ -244,7 +243,7 @@ fn give_all(core: &ArmState, bus: &mut Bus, user: bool, list: u32, k: u8, a: u32
 
 /// Stores each register where one bank and one used page have all words, as they mostly do; false, and nothing changes, where
 /// they haven't, and where the list has pc or no register.
-#[inline(never)]
+#[inline(always)]
 fn gave_at_once(core: &ArmState, bus: &mut Bus, list: u32, a: u32) -> bool
     requires ready { IsReady (state_of base size state touched bus.old) }
     requires quiet { (state_of base size state touched bus.old).contents.stores ≡ [] }
@@ -350,7 +349,6 @@ fn missing_frame(bus: &Bus, list: u32, a: u32) -> Option<u32>
 }
 
 /// Stores each register by itself.
-#[inline(never)]
 fn each_stored(core: &mut ArmState, bus: &mut Bus, by: Block, a: u32, end: u32) -> Outcome
     requires ready { IsReady (state_of base size state touched bus.old) }
     requires quiet { (state_of base size state touched bus.old).contents.stores ≡ [] }
@@ -370,23 +368,30 @@ fn each_stored(core: &mut ArmState, bus: &mut Bus, by: Block, a: u32, end: u32) 
     Outcome::Ran
 }
 
+/// Stores each register at once and writes the base back; false, and nothing changes, where that can't be.
 #[inline(always)]
-fn block_stored(core: &mut ArmState, bus: &mut Bus, by: Block, a: u32, end: u32) -> Outcome
+fn stored_at_once(
+    core: &mut ArmState,
+    bus: &mut Bus,
+    write_back: bool,
+    rn: u8,
+    list: u32,
+    a: u32,
+    end: u32,
+) -> bool
     requires ready { IsReady (state_of base size state touched bus.old) }
     requires quiet { (state_of base size state touched bus.old).contents.stores ≡ [] }
-    requires from { by.register < 16 }
+    requires from { rn < 16 }
     requires aligned { a % 4 ≡ 0 }
-    ensures done { IsDone (λ u w. block_stored u by.user by.write_back (registers 16 by.list) a by.register end w) core.old (state_of base size state touched bus.old) result core.new (state_of base size state touched bus.new) }
+    ensures done { result ≡ true → IsDone (λ u w. block_stored u false write_back (registers 16 list) a rn end w) core.old (state_of base size state touched bus.old) outcome.Ran core.new (state_of base size state touched bus.new) }
+    ensures same { result ≡ false → (core.new ≡ core.old) × (state_of base size state touched bus.new ≡ state_of base size state touched bus.old) }
     ensures ready { IsReady (state_of base size state touched bus.new) }
 {
-    if by.user {
-        return each_stored(core, bus, by, a, end);
+    if !gave_at_once(core, bus, list, a) {
+        return false;
     }
-    if !gave_at_once(core, bus, by.list, a) {
-        return each_stored(core, bus, by, a, end);
-    }
-    set_block_base(core, by.write_back, by.register, end);
-    Outcome::Ran
+    set_block_base(core, write_back, rn, end);
+    true
 }
 
 /// Whether a loaded pc is no address of ARM state.
@@ -397,7 +402,6 @@ fn is_no_return(thumb: bool, user: bool, pc: u32) -> bool
 }
 
 /// Loads a list with pc: with `^` it returns from an exception.
-#[inline(never)]
 fn pc_loaded(
     core: &mut ArmState,
     bus: &mut Bus,
@@ -425,7 +429,6 @@ fn pc_loaded(
     Outcome::Ran
 }
 
-#[inline(always)]
 fn block_loaded(
     core: &mut ArmState,
     bus: &mut Bus,
@@ -450,7 +453,62 @@ fn block_loaded(
     }
 }
 
-/// Loads or stores the registers of a list, in rising order at rising addresses.
+/// Loads or stores a list without `^` and without pc at once, where one bank and one used page have all words; false, and
+/// nothing changes, where they haven't.
+#[inline(never)]
+fn moved_at_once(
+    core: &mut ArmState,
+    bus: &mut Bus,
+    _thumb: bool,
+    load: bool,
+    pre: bool,
+    up: bool,
+    write_back: bool,
+    rn: u8,
+    list: u32,
+) -> bool
+    requires ready { IsReady (state_of base size state touched bus.old) }
+    requires quiet { (state_of base size state touched bus.old).contents.stores ≡ [] }
+    requires from { rn < 16 }
+    ensures done { result ≡ true → IsDone (λ u w. block_moved u _thumb load pre up false write_back rn list w) core.old (state_of base size state touched bus.old) outcome.Ran core.new (state_of base size state touched bus.new) }
+    ensures same { result ≡ false → (core.new ≡ core.old) × (state_of base size state touched bus.new ≡ state_of base size state touched bus.old) }
+    ensures ready { IsReady (state_of base size state touched bus.new) }
+{
+    if lists(list, 15) {
+        return false;
+    }
+    let n = count(list);
+    let b = register(core, rn);
+    let a = aligned(block_start(pre, up, b, n), Width::Word);
+    let end = block_end(up, b, n);
+    if load {
+        taken_at_once(core, bus, write_back, rn, list, a, end)
+    } else {
+        stored_at_once(core, bus, write_back, rn, list, a, end)
+    }
+}
+
+/// Loads or stores the registers of a list, one by one where they aren't loaded at once.
+#[inline(never)]
+fn each_moved(core: &mut ArmState, bus: &mut Bus, thumb: bool, load: bool, by: Block) -> Outcome
+    requires ready { IsReady (state_of base size state touched bus.old) }
+    requires quiet { (state_of base size state touched bus.old).contents.stores ≡ [] }
+    requires from { by.register < 16 }
+    ensures done { IsDone (λ u w. block_moved u thumb load by.pre by.up by.user by.write_back by.register by.list w) core.old (state_of base size state touched bus.old) result core.new (state_of base size state touched bus.new) }
+    ensures ready { IsReady (state_of base size state touched bus.new) }
+{
+    let n = count(by.list);
+    let b = register(core, by.register);
+    let a = aligned(block_start(by.pre, by.up, b, n), Width::Word);
+    let end = block_end(by.up, b, n);
+    if load {
+        block_loaded(core, bus, thumb, by, a, end)
+    } else {
+        each_stored(core, bus, by, a, end)
+    }
+}
+
+/// Loads or stores the registers of a list, in rising order at rising addresses: mostly at once.
 #[inline(always)]
 pub fn block_moved(
     core: &mut ArmState,
@@ -465,13 +523,21 @@ pub fn block_moved(
     ensures done { IsDone (λ u w. block_moved u thumb load by.pre by.up by.user by.write_back by.register by.list w) core.old (state_of base size state touched bus.old) result core.new (state_of base size state touched bus.new) }
     ensures ready { IsReady (state_of base size state touched bus.new) }
 {
-    let n = count(by.list);
-    let b = register(core, by.register);
-    let a = aligned(block_start(by.pre, by.up, b, n), Width::Word);
-    let end = block_end(by.up, b, n);
-    if load {
-        block_loaded(core, bus, thumb, by, a, end)
-    } else {
-        block_stored(core, bus, by, a, end)
+    if by.user {
+        return each_moved(core, bus, thumb, load, by);
     }
+    if !moved_at_once(
+        core,
+        bus,
+        thumb,
+        load,
+        by.pre,
+        by.up,
+        by.write_back,
+        by.register,
+        by.list,
+    ) {
+        return each_moved(core, bus, thumb, load, by);
+    }
+    Outcome::Ran
 }
