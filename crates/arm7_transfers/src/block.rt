@@ -47,7 +47,7 @@ fn count(list: u32) -> u32
     (list % 0x1_0000).count_ones()
 }
 
-// Each of the next two functions goes along the registers of a list from `k` on, and along the words from address `a` on.
+// A function with a place `k` goes along the registers of a list from `k` on, and along the words from address `a` on.
 
 /// Whether each word is there.
 fn all_there(bus: &Bus, list: u32, k: u8, a: u32) -> bool
