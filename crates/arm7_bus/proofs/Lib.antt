@@ -4,6 +4,7 @@ pub mod FrameLemmas
 pub mod LookupLemmas
 pub mod MeetLemmas
 pub mod PagingLemmas
+pub mod PickLemmas
 pub mod PieceLemmas
 pub mod ProtectLemmas
 pub mod SeatLemmas

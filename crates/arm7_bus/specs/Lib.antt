@@ -3,6 +3,8 @@ pub mod Lookups
 pub mod Meets
 pub mod Overlaps
 pub mod Paging
+pub mod Picked
+pub mod Picks
 pub mod Pieces
 pub mod Places
 pub mod Protection

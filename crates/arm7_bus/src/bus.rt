@@ -1,9 +1,12 @@
 //! The bus: memory and devices.
 
-ghost use Rattle.std.specs.Prelude.{◌≡◌, ◌<◌, ◌%◌, ◌-◌, [], length, map};
+ghost use Rattle.std.specs.Prelude.{◌≡◌, ◌<◌, ◌%◌, ◌+◌, ◌-◌, [], length, map};
 ghost use Rattle.std.specs.Result.{result_ok};
 ghost use Rattle.sdt_word.specs.Codes.{bytes_in};
+ghost use Rattle.sdt_word.specs.Numbers.{registers};
 ghost use Rattle.arm7_bus.specs.Paging.{page_used_in, used_count};
+ghost use Rattle.arm7_bus.specs.Picked.{IsPicked};
+ghost use Rattle.arm7_bus.specs.Picks.{picked_bytes};
 ghost use Rattle.arm7_bus.specs.Pieces.{IsPiece};
 ghost use Rattle.arm7_bus.specs.Places.{place_of};
 ghost use Rattle.arm7_bus.specs.Seats.{lines_up, seats_by};
@@ -123,6 +126,23 @@ impl Bus {
             return Ok(());
         }
         Err(BusFault::Absent)
+    }
+
+    /// Stores the `n` words from an address on, those of a table at the places where `list` has a 1, and notes each; false, and
+    /// nothing changes, where the bank that was used last hasn't all of them or is protected, or no used page has them.
+    #[inline(always)]
+    pub fn write_picked(&mut self, a: u32, words: &[u32; 16], list: u32, n: u32) -> bool
+        requires started { IsStarted (bus_state base size state touched self.old) }
+        requires aligned { a % 4 ≡ 0 }
+        requires few { list < 65536 }
+        requires counted { n ≡ length (registers 16 list) }
+        requires some { 1 ≤ n }
+        requires left { length (bus_state base size state touched self.old).contents.stores + n ≤ 16 }
+        ensures stored { result ≡ true → IsPicked (bus_state base size state touched self.old).contents a n (picked_bytes words.now (registers 16 list)) (bus_state base size state touched self.new).contents }
+        ensures devices { (bus_state base size state touched self.new).devices ≡ (bus_state base size state touched self.old).devices }
+        ensures same { result ≡ false → bus_state base size state touched self.new ≡ bus_state base size state touched self.old }
+    {
+        self.memory.store_picked(a, words, list, n)
     }
 
     /// The byte at an address, where a bank has it. No device is touched.

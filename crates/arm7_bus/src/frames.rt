@@ -3,7 +3,9 @@
 ghost use Rattle.std.specs.Prelude.{◌≡◌, ℕ, ◌<◌, ◌≤◌, ◌+◌, ◌*◌, ◌%◌, List, [], ◌++◌, length, take, drop, replicate, slice_index, slice_set, vec_len, vec_capacity, IfOk};
 ghost use Rattle.sdt_word.specs.Bytes.{bytes_of, half_in, number_of, word_in, written};
 ghost use Rattle.sdt_word.specs.Codes.{bytes_in};
+ghost use Rattle.sdt_word.specs.Numbers.{registers};
 ghost use Rattle.arm7_bus.specs.Paging.{AreFrames};
+ghost use Rattle.arm7_bus.specs.Picks.{picked_bytes};
 
 use sdt_fault::NoMemory;
 use sdt_word::{Width, half_at, put_half, put_word, word_at};
@@ -100,6 +102,20 @@ impl Frames {
         self.left = zeros_to(&mut self.bytes, self.left, at);
         put(&mut self.bytes, at, width, v);
     }
+
+    /// Sets the `n` words from a place of a frame on to those of a table at the places where `list` has a 1.
+    #[inline(always)]
+    pub fn write_picked(&mut self, at: u32, words: &[u32; 16], list: u32, n: u32)
+        requires few { list < 65536 }
+        requires counted { n ≡ length (registers 16 list) }
+        requires within { at % 4096 + 4 * n ≤ 4096 }
+        requires inside { at < length self.old }
+        ensures { self.new ≡ written self.old at (picked_bytes words.now (registers 16 list)) }
+    {
+        let at = at as usize;
+        self.left = zeros_to(&mut self.bytes, self.left, at);
+        put_picked(&mut self.bytes, at, words, list, n);
+    }
 }
 
 /// The byte at a place, where `_left` zeros follow the bytes.
@@ -156,6 +172,20 @@ fn put(bytes: &mut [u8], at: usize, width: Width, v: u32)
         Width::Half => put_half(bytes, at, (v % 65536) as u16),
         Width::Word => put_word(bytes, at, v),
     }
+}
+
+/// Sets the `n` words from a place on to those of a table at the places where `list` has a 1.
+fn put_picked(bytes: &mut [u8], at: usize, words: &[u32; 16], list: u32, n: u32)
+    requires few { list < 65536 }
+    requires counted { n ≡ length (registers 16 list) }
+    requires room { at + 4 * n ≤ length bytes.old }
+    ensures { bytes.new ≡ written bytes.old at (picked_bytes words.now (registers 16 list)) }
+{
+    if n == 0 {
+        return;
+    }
+    put_word(bytes, at, words[list.trailing_zeros() as usize]);
+    put_picked(bytes, at + 4, words, list & (list - 1), n - 1);
 }
 
 /// Makes the zeros up to the end of the frame of a place, where they aren't made yet, of the `left` ones that follow the

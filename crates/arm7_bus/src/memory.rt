@@ -4,6 +4,8 @@ ghost use Rattle.std.specs.Prelude.{◌≡◌, ◌<◌, ◌≤◌, ◌+◌, ◌-
 ghost use Rattle.sdt_word.specs.Bytes.{bytes_of, load, number_of};
 ghost use Rattle.sdt_word.specs.Codes.{bytes_in};
 ghost use Rattle.arm7_bus.specs.Lookups.{AreApartBanks, HasFrom, IsBankAt};
+ghost use Rattle.arm7_bus.specs.Picks.{word_places};
+ghost use Rattle.arm7_bus.specs.Places.{place_of};
 
 use crate::meets::{first_shared, lesser};
 use crate::pages::{PAGE, PAGES, Pages};
@@ -152,6 +154,9 @@ fn left_in(banks: &[Bank], a: u32) -> usize
 impl Memory {
     ghost use Rattle.std.specs.Prelude.{◌&&◌, nat_le};
     ghost use Rattle.arm7_bus.specs.Pieces.{IsPiece};
+    ghost use Rattle.arm7_bus.specs.Picked.{IsPicked};
+    ghost use Rattle.arm7_bus.specs.Picks.{picked_bytes};
+    ghost use Rattle.sdt_word.specs.Numbers.{registers};
     ghost use Rattle.arm7_bus.specs.States.{claimed, pages_of};
     ghost use Rattle.arm7_bus.specs.Buses.{with_bank, with_protected};
     ghost use Rattle.arm7_bus.specs.Meets.{IsFound, IsNowhere};
@@ -317,6 +322,29 @@ impl Memory {
         Ok(())
     }
 
+    /// Stores the `n` words from an address on, those of a table at the places where `list` has a 1, and notes each; false, and
+    /// nothing changes, where the bank that was used last hasn't all of them or is protected, or no used page has them.
+    #[inline(always)]
+    pub fn store_picked(&mut self, a: u32, words: &[u32; 16], list: u32, n: u32) -> bool
+        requires started { length (contents_of self.old).used ≡ 1048576 }
+        requires aligned { a % 4 ≡ 0 }
+        requires few { list < 65536 }
+        requires counted { n ≡ length (registers 16 list) }
+        requires some { 1 ≤ n }
+        requires left { self.old.stores.count + n ≤ 16 }
+        ensures stored { result ≡ true → IsPicked (contents_of self.old) a n (picked_bytes words.now (registers 16 list)) (contents_of self.new) }
+        ensures same { result ≡ false → contents_of self.new ≡ contents_of self.old }
+    {
+        if !self.last_takes(a, 4 * n) {
+            return false;
+        }
+        if !self.pages.write_picked(a, words, list, n) {
+            return false;
+        }
+        self.stores.note_words(a, n);
+        true
+    }
+
     /// No banks.
     #[tactic(auto, using(crate::proofs::PagingLemmas::memory_clear, crate::proofs::LookupLemmas::apart_none))]
     pub fn new(alloc: Global) -> Memory
@@ -415,8 +443,9 @@ impl Memory {
 }
 
 impl Stores {
-    ghost use Rattle.std.specs.Prelude.{◌≡◌, ◌<◌, ◌%◌, ◌∷◌, [], ◌++◌, map, take};
+    ghost use Rattle.std.specs.Prelude.{◌≡◌, ◌<◌, ◌≤◌, ◌+◌, ◌%◌, ◌∷◌, [], ◌++◌, map, take};
     ghost use Rattle.sdt_word.specs.Codes.{bytes_in};
+    ghost use Rattle.arm7_bus.specs.Picks.{word_places};
     ghost use Rattle.arm7_bus.specs.Places.{place_of};
 
     pub fn none() -> Stores
@@ -438,6 +467,40 @@ impl Stores {
         self.list[self.count as usize] = access_range(a, width);
         self.count += 1;
     }
+
+    /// Adds the ranges of `n` words from an address on.
+    #[inline(always)]
+    pub fn note_words(&mut self, a: u32, n: u32)
+        requires aligned { a % 4 ≡ 0 }
+        requires left { self.old.count + n ≤ 16 }
+        ensures { map place_of (take self.new.count self.new.list) ≡ map place_of (take self.old.count self.old.list) ++ word_places a n }
+    {
+        put_ranges(&mut self.list, self.count, a, n);
+        self.count += n;
+    }
+}
+
+/// Puts the range of a word at a place of a list.
+#[inline(always)]
+fn put_range(list: &mut [Range32; 16], at: u32, a: u32)
+    requires aligned { a % 4 ≡ 0 }
+    requires few { at < 16 }
+    ensures { map place_of (take (at + 1) list.new) ≡ map place_of (take at list.old) ++ (a, 4) ∷ [] }
+{
+    list[at as usize] = access_range(a, Width::Word);
+}
+
+/// Puts the ranges of `n` words from an address on at a place of a list and behind it.
+fn put_ranges(list: &mut [Range32; 16], at: u32, a: u32, n: u32)
+    requires aligned { a % 4 ≡ 0 }
+    requires left { at + n ≤ 16 }
+    ensures { map place_of (take (at + n) list.new) ≡ map place_of (take at list.old) ++ word_places a n }
+{
+    if n == 0 {
+        return;
+    }
+    put_range(list, at, a);
+    put_ranges(list, at + 1, a.wrapping_add(4), n - 1);
 }
 
 #[inline(always)]

@@ -3,8 +3,10 @@
 ghost use Rattle.std.specs.Prelude.{◌≡◌, ℕ, ◌<◌, ◌≤◌, ◌+◌, ◌*◌, ◌/◌, ◌%◌, List, [], length, IsTrue, is_some, None, Some, IfOk, OnOk, map, replicate, false, slice_index, slice_index_or, slice_set, true, ◌-◌, ◌||◌, nat_lt};
 ghost use Rattle.sdt_word.specs.Bytes.{bytes_of, load, number_of};
 ghost use Rattle.sdt_word.specs.Codes.{bytes_in};
+ghost use Rattle.sdt_word.specs.Numbers.{registers};
 ghost use Rattle.arm7_model.specs.Memory.{store};
 ghost use Rattle.arm7_bus.specs.Paging.{frame_of, memory_in, used_in, page_used_in, used_count, IsPaging, IsUnused};
+ghost use Rattle.arm7_bus.specs.Picks.{picked_bytes};
 
 use crate::frames::Frames;
 use sdt_fault::NoMemory;
@@ -145,6 +147,48 @@ impl Pages {
                 true
             }
             None => self.put_fresh(a, width, v),
+        }
+    }
+
+    /// Sets the words from an address on, in a page that has this frame.
+    #[inline(always)]
+    fn put_picked(&mut self, frame: u16, a: u32, words: &[u32; 16], list: u32, n: u32)
+        requires few { list < 65536 }
+        requires counted { n ≡ length (registers 16 list) }
+        requires within { a % 4096 + 4 * n ≤ 4096 }
+        requires frame { frame_of self.old.table.items (a / 4096) ≡ Some frame }
+        ensures memory { memory_in self.new.table.items self.new.frames ≡ store (memory_in self.old.table.items self.old.frames) a (picked_bytes words.now (registers 16 list)) }
+        ensures table { self.new.table ≡ self.old.table }
+        ensures counts { (self.new.used ≡ self.old.used) × (self.new.room ≡ self.old.room) }
+    {
+        self.frames
+            .write_picked(u32::from(frame) * PAGE + a % PAGE, words, list, n);
+    }
+
+    /// Sets the `n` words from an address on to those of a table at the places where `list` has a 1; false, and nothing
+    /// changes, where one page hasn't all of them, or it has no frame.
+    #[inline(always)]
+    pub fn write_picked(&mut self, a: u32, words: &[u32; 16], list: u32, n: u32) -> bool
+        requires started { length self.old.table.items ≡ 1048576 }
+        requires few { list < 65536 }
+        requires counted { n ≡ length (registers 16 list) }
+        requires most { n ≤ 16 }
+        ensures within { result ≡ true → a % 4096 + 4 * n ≤ 4096 }
+        ensures used { result ≡ true → page_used_in (used_in self.old.table.items) a ≡ true }
+        ensures memory { result ≡ true → memory_in self.new.table.items self.new.frames ≡ store (memory_in self.old.table.items self.old.frames) a (picked_bytes words.now (registers 16 list)) }
+        ensures table { self.new.table ≡ self.old.table }
+        ensures room { self.new.room ≡ self.old.room }
+        ensures same { result ≡ false → self.new ≡ self.old }
+    {
+        if a % PAGE + 4 * n > PAGE {
+            return false;
+        }
+        match self.table[(a / PAGE) as usize] {
+            Some(frame) => {
+                self.put_picked(frame, a, words, list, n);
+                true
+            }
+            None => false,
         }
     }
 

@@ -43,6 +43,7 @@ impl Machine {
 
     /// One step: each device of the bus ticks, and then the processor takes an interrupt or does one instruction. After
     /// [`Event::Unpredictable`] and [`Event::NoFrame`] the state is as before.
+    #[inline(always)]
     pub fn step(&mut self, bus: &mut Bus) -> Event
         requires valid { IsValid self.old.state }
         requires ready { IsReady (state_of base size state touched bus.old) }

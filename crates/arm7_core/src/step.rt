@@ -15,6 +15,7 @@ use arm7_registers::{enter, interrupt, is_thumb, register};
 use sdt_outside::Device;
 
 /// One step: each device of the bus ticks, and then the processor takes an interrupt or does one instruction.
+#[inline(always)]
 pub fn step_state(core: &mut ArmState, bus: &mut Bus) -> Event
     requires valid { IsValid core.old }
     requires ready { IsReady (state_of base size state touched bus.old) }

@@ -93,6 +93,7 @@ fn answer<K: Sink>(machine: &Machine, bus: &Bus, sink: &mut K, event: Event, at:
 }
 
 /// One step, and what the host does behind it.
+#[inline(always)]
 fn make_turn<K: Sink>(m: &mut Machine, bus: &mut Bus, sink: &mut K) -> Turn
     requires valid { IsValid m.old.state }
     requires ready { IsReady (state_of base size state touched bus.old) }

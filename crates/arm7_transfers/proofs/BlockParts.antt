@@ -1,5 +1,5 @@
 -- The two blocks, as the code does them.
-use Rattle.std.proofs.Common.{◌≡◌, ℕ, ◌%◌, ◌^◌, ◌<◌, ◌≤◌, Bool, true, false, not, ◌==◌, List, [], ◌∷◌, ◌++◌, length, Some, refl, sym, ap, ◌∙◌, arith, append-nil, append_assoc}
+use Rattle.std.proofs.Common.{◌≡◌, ℕ, ◌%◌, ◌^◌, ◌<◌, ◌≤◌, Bool, true, false, not, ◌==◌, List, [], ◌∷◌, ◌++◌, length, Some, refl, sym, ap, ◌∙◌, subst, arith, append-nil, append_assoc}
 use Rattle.std.specs.Prelude.{◌&&◌, nat_le}
 use Rattle.arm7_model.specs.declared.state.ArmState.{ArmState}
 use Rattle.sdt_word.specs.declared.codes.Width.TheVariants.{Word}
@@ -82,6 +82,10 @@ give_ran user write_back ks a rn end core core' s s' may r whole lt h t room aft
   kept = tt;
 }
 
+-- what is done of a bus is done of one with the same state
+pub done_from : (part : Part) (core core' : ArmState) (s t s' : State) (o : Outcome) → t ≡ s → IsDone part core t o core' s' → IsDone part core s o core' s'
+done_from part core core' s t s' o e d = subst (λ (x : State). IsDone part core x o core' s') e d
+
 -- ---- loads
 
 abbrev pub take_part : Bool → Bool → Bool → List ℕ → ℕ → ℕ → ℕ → Bool → Part
@@ -94,6 +98,19 @@ unfolding block_loaded
 take_absent thumb user write_back ks a rn end loads_pc core s held r h t =
     makes-nothing (take_part thumb user write_back ks a rn end loads_pc) core core s outcome.Aborted r
     (λ u later before e. rw (e, sym h ∙ t) refl) (refl, refl)
+
+-- the same, of what a call left as it was
+pub absent_from : (thumb user write_back : Bool) (ks : List ℕ) (a rn end : ℕ) (loads_pc : Bool) (core : ArmState) (s s' : State) (held : Bool) → IsReady s
+    → held ≡ all_there (board_of s) ks a → held ≡ false → s' ≡ s
+    → Makes (take_part thumb user write_back ks a rn end loads_pc) core s outcome.Aborted core s'
+absent_from thumb user write_back ks a rn end loads_pc core s s' held r h t e =
+    subst (λ (x : State). Makes (take_part thumb user write_back ks a rn end loads_pc) core s outcome.Aborted core x) (sym e) (take_absent thumb user write_back ks a rn end loads_pc core s held r h t)
+
+pub left_absent : (thumb user write_back : Bool) (ks : List ℕ) (a rn end : ℕ) (loads_pc : Bool) (core core' : ArmState) (s s' : State) (held : Bool) → IsReady s
+    → held ≡ all_there (board_of s) ks a → held ≡ false → core' ≡ core → s' ≡ s
+    → Makes (take_part thumb user write_back ks a rn end loads_pc) core s outcome.Aborted core' s'
+left_absent thumb user write_back ks a rn end loads_pc core core' s s' held r h t e f =
+    subst (λ (x : ArmState). Makes (take_part thumb user write_back ks a rn end loads_pc) core s outcome.Aborted x s') (sym e) (absent_from thumb user write_back ks a rn end loads_pc core s s' held r h t f)
 
 -- the registers are loaded, and what is left is the end
 take-made : (thumb user write_back : Bool) (ks : List ℕ) (a rn end : ℕ) (loads_pc : Bool) (core : ArmState) (s : State) → IsReady s → a % 4 ≡ 0
@@ -163,12 +180,23 @@ module _ (thumb user write_back : Bool) (ks : List ℕ) (a rn end : ℕ) (loads_
   }
 
 -- ---- what the calls of the code gave
-pub taken_by : (user write_back : Bool) (ks : List ℕ) (a rn end : ℕ) (loads_pc : Bool) (core based next : ArmState) (s : State) (pc names : Bool)
-    → pc ≡ loads_pc → names ≡ (user && not pc) → based ≡ with_block_base write_back rn end core → next ≡ taken names ks a based s
-    → next ≡ taken (user && not loads_pc) ks a (with_block_base write_back rn end core) s
-taken_by user write_back ks a rn end loads_pc core based next s pc names e f b h =
-    h ∙ ap (λ (c : ArmState). taken names ks a c s) b
-    ∙ ap (λ (n : Bool). taken n ks a (with_block_base write_back rn end core) s) (f ∙ ap (λ (p : Bool). user && not p) e)
+pub taken_plain : (user write_back : Bool) (ks : List ℕ) (a rn end : ℕ) (loads_pc : Bool) (core next : ArmState) (s : State) → loads_pc ≡ false
+    → next ≡ taken user ks a (with_block_base write_back rn end core) s → next ≡ taken (user && not loads_pc) ks a (with_block_base write_back rn end core) s
+taken_plain user write_back ks a rn end loads_pc core next s none h = h ∙ ap (λ (n : Bool). taken n ks a (with_block_base write_back rn end core) s) (go user loads_pc none)
+  where
+    go : (x y : Bool) → y ≡ false → x ≡ (x && not y)
+    go true true e = e
+    go true false e = refl
+    go false y e = refl
+
+pub taken_pc : (user write_back : Bool) (ks : List ℕ) (a rn end : ℕ) (loads_pc : Bool) (core next : ArmState) (s : State) → loads_pc ≡ true
+    → next ≡ taken false ks a (with_block_base write_back rn end core) s → next ≡ taken (user && not loads_pc) ks a (with_block_base write_back rn end core) s
+taken_pc user write_back ks a rn end loads_pc core next s some h = h ∙ ap (λ (n : Bool). taken n ks a (with_block_base write_back rn end core) s) (go user loads_pc some)
+  where
+    go : (x y : Bool) → y ≡ true → false ≡ (x && not y)
+    go true true e = refl
+    go true false e = e
+    go false y e = refl
 
 pub no_return : (thumb user : Bool) (next : ArmState) (pc : ℕ) (odd : Bool) → pc ≡ register next 15 → odd ≡ (not thumb && (not user && not (pc % 4 == 0)))
     → odd ≡ (not thumb && (not user && not (register next 15 % 4 == 0)))

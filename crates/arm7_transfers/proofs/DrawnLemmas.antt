@@ -1,59 +1,36 @@
 -- Registers that are loaded from the bytes of a run of memory: the same as word by word over the bus.
-use Rattle.std.proofs.Common.{◌≡◌, ℕ, zero, suc, ◌+◌, ◌-◌, ◌*◌, ◌%◌, ◌^◌, ◌<◌, ◌≤◌, ◌==◌, Bool, true, false, List, [], ◌∷◌, length, take, drop, refl, sym, ap, ◌∙◌, subst, arith}
+use Rattle.std.proofs.Common.{◌≡◌, ℕ, zero, suc, ◌+◌, ◌-◌, ◌*◌, ◌%◌, ◌^◌, ◌<◌, ◌≤◌, Bool, true, List, [], ◌∷◌, length, take, drop, refl, sym, ap, ◌∙◌, subst, arith}
 use Rattle.sdt_word.specs.Bytes.{load, number_of, word_in}
-use Rattle.sdt_word.specs.Numbers.{bit, kept, places_from, registers}
+use Rattle.std.specs.Int.{trailing_zeros, w32}
+use Rattle.std.specs.Int.Bits.{bit_and}
+use Rattle.sdt_word.specs.Numbers.{registers}
 use Rattle.sdt_word.specs.declared.codes.Width.TheVariants.{Word}
 use Rattle.arm7_model.specs.declared.state.ArmState.{ArmState}
 use Rattle.arm7_model.specs.Accesses.{next_word}
-use Rattle.arm7_model.specs.Blocks.{lists, with_listed}
+use Rattle.arm7_model.specs.Blocks.{all_there, with_block_base, with_listed}
 use Rattle.arm7_bus.specs.Buses.{after_read}
 use Rattle.arm7_bus.specs.Pieces.{IsPiece}
 use Rattle.arm7_bus.specs.States.{State, bank_has}
+use Rattle.arm7_bus.proofs.PickLemmas.{first_picked, low_picked}
 use Rattle.arm7_transfers.specs.BlockAccesses.{drawn, loads_of, taken}
+use Rattle.arm7_transfers.specs.Boards.{board_of}
 use Rattle.arm7_transfers.specs.Ready.{IsReady}
 use Rattle.arm7_transfers.specs.Served.{served, value_at}
 use Rattle.arm7_transfers.proofs.BoardLemmas.{bank-whole}
-use Rattle.arm7_transfers.proofs.BlockLemmas.{places_here}
+use Rattle.arm7_transfers.proofs.SpanLemmas.{there-each}
 
 -- ---- one register
 
-pub drawn_here : (user : Bool) (k list at v : ℕ) (b : Bool) (core now end : ArmState) (bytes : List ℕ) → k < 16 → b ≡ lists list k → b ≡ true → v ≡ word_in bytes at
-    → now ≡ with_listed user core k v → end ≡ drawn user (places_from (k + 1) (16 - (k + 1)) list) (at + 4) now bytes
-    → end ≡ drawn user (places_from k (16 - k) list) at core bytes
-drawn_here user k list at v b core now end bytes lt e t f g h =
-    h ∙ ap (λ (x : ArmState). drawn user (places_from (k + 1) (16 - (k + 1)) list) (at + 4) x bytes) (g ∙ ap (with_listed user core k) f)
-    ∙ sym (ap (λ (ks : List ℕ). drawn user ks at core bytes) (places_here k list b lt e t))
+some_left : (v n : ℕ) → (n ≡ 0 → ⊥) → n ≡ length (registers 16 v) → 0 < v
+some_left zero n h e = absurd (h e)
+some_left (suc v) n h e = omega arith
 
-pub room_here : (k list at n : ℕ) (b : Bool) → k < 16 → b ≡ lists list k → b ≡ true → at + 4 * length (places_from k (16 - k) list) ≤ n → at + 4 ≤ n
-room_here k list at n b lt e t le =
-    let here = ap length (places_here k list b lt e t) in
-    omega arith
-
-pub room_left : (k list at n : ℕ) (b : Bool) → k < 16 → b ≡ lists list k → b ≡ true → at + 4 * length (places_from k (16 - k) list) ≤ n
-    → at + 4 + 4 * length (places_from (k + 1) (16 - (k + 1)) list) ≤ n
-room_left k list at n b lt e t le =
-    let here = ap length (places_here k list b lt e t) in
-    omega arith
-
-kept-none : (b k : ℕ) (ks : List ℕ) → (b == 1) ≡ false → b < 2 → kept b k ks ≡ ks
-kept-none zero k ks e lt = refl
-kept-none (suc zero) k ks e lt = absurd (cc)
-kept-none (suc (suc b)) k ks e lt = absurd (omega arith)
-
-one-more : (k : ℕ) → k < 16 → 16 - k ≡ suc (16 - (k + 1))
-one-more k lt = omega arith
-
-places_skip : (k list : ℕ) (b : Bool) → k < 16 → b ≡ lists list k → b ≡ false → places_from k (16 - k) list ≡ places_from (k + 1) (16 - (k + 1)) list
-places_skip k list b lt e t =
-    ap (λ (n : ℕ). places_from k n list) (one-more k lt)
-    ∙ kept-none (bit list k) k (places_from (suc k) (16 - (k + 1)) list) (sym e ∙ t) (omega arith)
-    ∙ ap (λ (j : ℕ). places_from j (16 - (k + 1)) list) (omega arith)
-
-pub room_skip : (k list at n : ℕ) (b : Bool) → k < 16 → b ≡ lists list k → b ≡ false → at + 4 * length (places_from k (16 - k) list) ≤ n
-    → at + 4 * length (places_from (k + 1) (16 - (k + 1)) list) ≤ n
-room_skip k list at n b lt e t le =
-    let here = ap length (places_skip k list b lt e t) in
-    omega arith
+pub drawn_first : (user : Bool) (list n at v : ℕ) (core now end : ArmState) (bytes : List ℕ) → (n ≡ 0 → ⊥) → list < 65536 → n ≡ length (registers 16 list) → v ≡ word_in bytes at
+    → now ≡ with_listed user core (trailing_zeros w32 list) v → end ≡ drawn user (registers 16 (bit_and list (list - 1))) (at + 4) now bytes
+    → end ≡ drawn user (registers 16 list) at core bytes
+drawn_first user list n at v core now end bytes some few count e f g =
+    g ∙ ap (λ (x : ArmState). drawn user (registers 16 (bit_and list (list - 1))) (at + 4) x bytes) (f ∙ ap (with_listed user core (trailing_zeros w32 list)) e)
+    ∙ sym (ap (λ (ks : List ℕ). drawn user ks at core bytes) (first_picked list (some_left list n some count) few))
 
 -- ---- a word of a run
 
@@ -120,13 +97,27 @@ served-so s a bytes r p h (k ∷ ks) at x g le e =
     served-so s a bytes r p h ks (at + 4) (next_word x) (omega arith) (omega arith) (further a at x (length bytes) e (omega arith) small)
     ∙ sym (ap (λ (t : State). served t (loads_of ks (next_word x))) left)
 
-pub piece-taken : (s : State) (user : Bool) (list n a : ℕ) (core end : ArmState) (bytes : List ℕ) → IsReady s → a % 4 ≡ 0 → a < 2 ^ 32 → IsPiece s.contents a bytes
-    → n ≡ length (registers 16 list) → 4 * n ≤ length bytes
-    → end ≡ drawn user (registers 16 list) 0 core bytes → end ≡ taken user (registers 16 list) a core s
-piece-taken s user list n a core end bytes r h lt p f le e =
-    e ∙ drawn-taken s a bytes r p h user (registers 16 list) 0 a core (omega arith) (omega arith) (omega arith)
+-- the list as its low bits say it
+pub piece-taken : (s : State) (user write_back : Bool) (list n a rn top : ℕ) (core based end : ArmState) (bytes : List ℕ) → IsReady s → a % 4 ≡ 0 → a < 2 ^ 32 → IsPiece s.contents a bytes
+    → n ≡ length (registers 16 list) → 4 * n ≤ length bytes → based ≡ with_block_base write_back rn top core
+    → end ≡ drawn user (registers 16 (list % 65536)) 0 based bytes → end ≡ taken user (registers 16 list) a (with_block_base write_back rn top core) s
+piece-taken s user write_back list n a rn top core based end bytes r h lt p f le b e =
+    e ∙ ap (λ (ks : List ℕ). drawn user ks 0 based bytes) (low_picked list)
+    ∙ drawn-taken s a bytes r p h user (registers 16 list) 0 a based (omega arith) (omega arith) (omega arith)
+    ∙ ap (λ (c : ArmState). taken user (registers 16 list) a c s) b
 
 pub piece-served : (s : State) (list n a : ℕ) (bytes : List ℕ) → IsReady s → a % 4 ≡ 0 → a < 2 ^ 32 → IsPiece s.contents a bytes
     → n ≡ length (registers 16 list) → 4 * n ≤ length bytes → s ≡ served s (loads_of (registers 16 list) a)
 piece-served s list n a bytes r h lt p f le =
     served-so s a bytes r p h (registers 16 list) 0 a (omega arith) (omega arith) (omega arith)
+
+pub piece-there : (s : State) (list n a : ℕ) (bytes : List ℕ) → IsReady s → a % 4 ≡ 0 → a < 2 ^ 32 → IsPiece s.contents a bytes
+    → n ≡ length (registers 16 list) → 4 * n ≤ length bytes → all_there (board_of s) (registers 16 list) a ≡ true
+piece-there s list n a bytes r h lt p f le =
+    let small = p.within in
+    there-each s (registers 16 list) a r h lt
+    (λ j l. let at : (a + 4 * j) % 2 ^ 32 ≡ a + 4 * j = omega arith in subst (λ (x : ℕ). bank_has s.contents.banks x 4 ≡ true) (sym at)
+    (word-there s a (4 * j) bytes r p h (omega arith) (omega arith)))
+
+pub low_count : (list n : ℕ) → n ≡ length (registers 16 list) → n ≡ length (registers 16 (list % 65536))
+low_count list n e = e ∙ ap length (sym (low_picked list))

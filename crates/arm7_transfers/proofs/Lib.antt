@@ -1,4 +1,5 @@
 pub mod BoardLemmas
+pub mod PickedLemmas
 pub mod ReadyLemmas
 pub mod DoneLemmas
 pub mod AccessLemmas

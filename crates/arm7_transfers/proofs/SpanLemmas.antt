@@ -1,8 +1,8 @@
 -- Blocks whose words lie in one span of a bank: they are all there, and may be stored where the span isn't protected.
-use Rattle.std.proofs.Common.{◌≡◌, ℕ, zero, suc, ◌+◌, ◌-◌, ◌*◌, ◌%◌, ◌^◌, ◌<◌, ◌≤◌, Bool, true, false, ◌||◌, List, [], ◌∷◌, length, refl, sym, ap, ◌∙◌, subst, arith, add-one}
+use Rattle.std.proofs.Common.{◌≡◌, ℕ, zero, suc, ◌+◌, ◌*◌, ◌%◌, ◌^◌, ◌<◌, ◌≤◌, Bool, true, false, ◌||◌, List, [], ◌∷◌, length, refl, sym, subst, arith}
 use Rattle.std.specs.Prelude.{nat_le}
 use Rattle.std.proofs.lemmas.Bool.Decides.{nat_tests}
-use Rattle.sdt_word.specs.Numbers.{bit, bits, kept, places_from, registers}
+use Rattle.sdt_word.specs.Numbers.{registers}
 use Rattle.sdt_word.specs.declared.codes.Width.TheVariants.{Word}
 use Rattle.arm7_model.specs.Accesses.{next_word}
 use Rattle.arm7_model.specs.Blocks.{all_there, all_may_store}
@@ -17,31 +17,12 @@ use Rattle.arm7_transfers.proofs.BoardLemmas.{there-whole, may-whole}
 use Rattle.arm7_transfers.proofs.BlockLemmas.{next-small, next-whole}
 use Rattle.arm7_transfers.proofs.BlockSteps.{sixteen}
 
--- ---- the count of a list
-
-kept-count : (b k : ℕ) (ks : List ℕ) → b < 2 → length (kept b k ks) ≡ b + length ks
-kept-count zero k ks lt = omega arith
-kept-count (suc zero) k ks lt = omega arith
-kept-count (suc (suc b)) k ks lt = absurd (omega arith)
-
-one-more : (k : ℕ) → k < 16 → 16 - k ≡ suc (16 - (k + 1))
-one-more k lt = omega arith
-
-pub bit_few : (list k : ℕ) → bit list k < 2
-bit_few list k = omega arith
-
-pub one_counted : (list k x : ℕ) → k < 16 → x ≡ length (places_from (k + 1) (16 - (k + 1)) list) → bits list k 1 + x ≡ length (places_from k (16 - k) list)
-one_counted list k x lt e =
-    rw (one-more k lt)
-    (ap (λ (n : ℕ). bits list k 1 + n) (e ∙ ap (λ (j : ℕ). length (places_from j (16 - (k + 1)) list)) (add-one k))
-    ∙ sym (kept-count (bit list k) k (places_from (suc k) (16 - (k + 1)) list) (bit_few list k)))
-
 -- ---- parts of an access
 
 part : (base size a n x k : ℕ) → has_access base size a n ≡ true → a ≤ x → x + k ≤ a + n → has_access base size x k ≡ true
 part base size a n x k h low high = grind arith
 
-bank-part : (bs : List Bank) (a n x k : ℕ) → bank_has bs a n ≡ true → a ≤ x → x + k ≤ a + n → bank_has bs x k ≡ true
+pub bank-part : (bs : List Bank) (a n x k : ℕ) → bank_has bs a n ≡ true → a ≤ x → x + k ≤ a + n → bank_has bs x k ≡ true
 bank-part [] a n x k h low high = absurd (cc)
 bank-part (b ∷ bs) a n x k h low high = go (has_access b.range.base b.range.size a n) refl (λ e. bank-part bs a n x k e low high)
   where
@@ -75,7 +56,7 @@ none-there p a (suc n) y h low high = go (p a) refl (λ e less. none-there p (su
     go true e more = absurd (let x = rw e at h in cc)
     go false e more = here_or_later (nat_le (suc a) y) refl e (more (later (p a) e h))
 
-free-part : (bs : List Bank) (a n x : ℕ) → is_protected bs a n ≡ false → a ≤ x → x + 4 ≤ a + n → is_protected bs x 4 ≡ false
+pub free-part : (bs : List Bank) (a n x : ℕ) → is_protected bs a n ≡ false → a ≤ x → x + 4 ≤ a + n → is_protected bs x 4 ≡ false
 free-part bs a n x h low high =
     bytes_decide bs x 4 false (omega arith) (λ y l u. none-there (protected_at bs) a n y h (omega arith) (omega arith))
 
@@ -84,7 +65,7 @@ free-part bs a n x h low high =
 next-at : (a j : ℕ) → (next_word a + 4 * j) % 2 ^ 32 ≡ (a + 4 * suc j) % 2 ^ 32
 next-at a j = omega arith
 
-there-each : (s : State) (ks : List ℕ) (a : ℕ) → IsReady s → a % 4 ≡ 0 → a < 2 ^ 32
+pub there-each : (s : State) (ks : List ℕ) (a : ℕ) → IsReady s → a % 4 ≡ 0 → a < 2 ^ 32
     → ((j : ℕ) → j < length ks → bank_has s.contents.banks ((a + 4 * j) % 2 ^ 32) 4 ≡ true) → all_there (board_of s) ks a ≡ true
 there-each s [] a r h lt f = refl
 there-each s (k ∷ ks) a r h lt f =
@@ -94,7 +75,7 @@ there-each s (k ∷ ks) a r h lt f =
     (λ j few. subst (λ (x : ℕ). bank_has s.contents.banks x 4 ≡ true) (sym (next-at a j)) (f (suc j) (omega arith))) in
     rw (there-whole s a Word r h, here, rest) refl
 
-may-each : (s : State) (ks : List ℕ) (a : ℕ) → IsReady s → a % 4 ≡ 0 → a < 2 ^ 32
+pub may-each : (s : State) (ks : List ℕ) (a : ℕ) → IsReady s → a % 4 ≡ 0 → a < 2 ^ 32
     → ((j : ℕ) → j < length ks → bank_has s.contents.banks ((a + 4 * j) % 2 ^ 32) 4 ≡ true)
     → ((j : ℕ) → j < length ks → is_protected s.contents.banks ((a + 4 * j) % 2 ^ 32) 4 ≡ false) → all_may_store (board_of s) ks a ≡ true
 may-each s [] a r h lt f g = refl

@@ -1,13 +1,14 @@
 //! Loads and stores of several registers.
 
-ghost use Rattle.std.specs.Prelude.{◌≡◌, ℕ, ◌<◌, ◌≤◌, ◌+◌, ◌-◌, ◌*◌, ◌%◌, ◌^◌, ◌==◌, ◌&&◌, not, [], length, Some, MatchOption};
+ghost use Rattle.std.specs.Prelude.{◌≡◌, ℕ, true, false, ◌<◌, ◌≤◌, ◌+◌, ◌-◌, ◌*◌, ◌%◌, ◌^◌, ◌==◌, ◌&&◌, not, [], length, Some, MatchOption};
 ghost use Rattle.sdt_word.specs.Numbers.{places_from, registers};
-ghost use Rattle.arm7_model.specs.Blocks.{all_may_store, all_there, block_loaded, block_moved, block_stored, lists};
+ghost use Rattle.arm7_model.specs.Blocks.{all_may_store, all_there, block_loaded, block_moved, block_stored, lists, with_block_base};
 ghost use Rattle.arm7_bus.specs.Buses.{needs_page};
 ghost use Rattle.arm7_bus.specs.Meets.{lesser_of};
 ghost use Rattle.arm7_bus.specs.Paging.{used_count};
 ghost use Rattle.arm7_transfers.specs.BlockAccesses.{drawn, is_page_of, loads_of, pages_needed, stores_of, taken, words_in};
 ghost use Rattle.arm7_transfers.specs.Boards.{board_of};
+ghost use Rattle.arm7_transfers.specs.declared.outcome.Outcome.TheVariants as outcome;
 ghost use Rattle.arm7_transfers.specs.Done.{IsDone};
 ghost use Rattle.arm7_transfers.specs.Frames.{Fits, Misses, least_unused, used_with};
 ghost use Rattle.arm7_transfers.specs.Ready.{IsReady};
@@ -23,7 +24,7 @@ use arm7_registers::{
     set_listed, set_loaded_pc,
 };
 use sdt_outside::Device;
-use sdt_word::{Width, field, word_at};
+use sdt_word::{Width, word_at};
 
 /// A block: whether the base moves before each word, whether it moves up, whether the list names user mode's
 /// registers or returns, whether the moved base is written back, the base's register, and the list, a bit for
@@ -38,21 +39,15 @@ pub struct Block {
     pub list: u32,
 }
 
-// Each of the functions below goes along the registers of a list from `k` on, and along the words from
-// address `a` on.
-
 /// How many registers there are.
-#[tactic(auto, using(crate::proofs::SpanLemmas::one_counted, crate::proofs::SpanLemmas::bit_few))]
-fn count(list: u32, k: u8) -> u32
-    requires { k ≤ 16 }
-    ensures value { result ≡ length (places_from k (16 - k) list) }
-    ensures few { result + k ≤ 16 }
+fn count(list: u32) -> u32
+    ensures value { result ≡ length (registers 16 list) }
+    ensures few { result ≤ 16 }
 {
-    if k == 16 {
-        return 0;
-    }
-    field(list, u32::from(k), 1) + count(list, k + 1)
+    (list % 0x1_0000).count_ones()
 }
+
+// A function with a place `k` goes along the registers of a list from `k` on, and along the words from address `a` on.
 
 /// Whether each word is there.
 fn all_there(bus: &Bus, list: u32, k: u8, a: u32) -> bool
@@ -141,41 +136,88 @@ fn take_all(core: &mut ArmState, bus: &mut Bus, user: bool, list: u32, k: u8, a:
     take_all(core, bus, user, list, k + 1, next_word(a));
 }
 
-/// Loads each register from the words of some bytes, from a place on.
-#[tactic(auto, using(crate::proofs::DrawnLemmas::drawn_here, crate::proofs::DrawnLemmas::room_here, crate::proofs::DrawnLemmas::room_left))]
-fn take_words(core: &mut ArmState, bytes: &[u8], user: bool, list: u32, k: u8, at: usize)
-    requires within { k ≤ 16 }
-    requires room { at + 4 * length (places_from k (16 - k) list) ≤ length bytes.now }
-    ensures { core.new ≡ drawn user (places_from k (16 - k) list) at core.old bytes.now }
+/// Loads each of the `n` registers from the words of some bytes, from a place on.
+fn take_words(core: &mut ArmState, bytes: &[u8], list: u32, n: u32, at: usize)
+    requires few { list < 65536 }
+    requires counted { n ≡ length (registers 16 list) }
+    requires room { at + 4 * n ≤ length bytes.now }
+    ensures { core.new ≡ drawn false (registers 16 list) at core.old bytes.now }
 {
-    if k == 16 {
-        return;
-    }
-    if !lists(list, k) {
-        take_words(core, bytes, user, list, k + 1, at);
+    if n == 0 {
         return;
     }
     let v = word_at(bytes, at);
-    set_listed(core, user, k, v);
-    take_words(core, bytes, user, list, k + 1, at + 4);
+    set_listed(core, false, list.trailing_zeros() as u8, v);
+    take_words(core, bytes, list & (list - 1), n - 1, at + 4);
 }
 
-/// Loads each register of a list: mostly from the bytes that one bank and one page have.
-fn take_listed(core: &mut ArmState, bus: &mut Bus, user: bool, list: u32, n: u32, a: u32)
-    requires ready { IsReady (state_of base size state touched bus.old) }
-    requires counted { n ≡ length (registers 16 list) }
-    requires few { n ≤ 16 }
+/// Writes the base back and loads each register of a list from the bytes that one bank and one page have; false, and nothing
+/// changes, where they haven't all of them.
+#[inline(always)]
+fn taken_at_once(
+    core: &mut ArmState,
+    bus: &Bus,
+    write_back: bool,
+    rn: u8,
+    list: u32,
+    a: u32,
+    end: u32,
+) -> bool
+    requires ready { IsReady (state_of base size state touched bus.now) }
+    requires from { rn < 16 }
     requires aligned { a % 4 ≡ 0 }
-    ensures core { core.new ≡ taken user (registers 16 list) a core.old (state_of base size state touched bus.old) }
-    ensures served { state_of base size state touched bus.new ≡ served (state_of base size state touched bus.old) (loads_of (registers 16 list) a) }
+    ensures there { result ≡ true → all_there (board_of (state_of base size state touched bus.now)) (registers 16 list) a ≡ true }
+    ensures core { result ≡ true → core.new ≡ taken false (registers 16 list) a (with_block_base write_back rn end core.old) (state_of base size state touched bus.now) }
+    ensures served { result ≡ true → state_of base size state touched bus.now ≡ served (state_of base size state touched bus.now) (loads_of (registers 16 list) a) }
+    ensures same { result ≡ false → core.new ≡ core.old }
+{
+    let n = count(list);
+    let bytes = bus.piece(a);
+    if bytes.len() < 4 * n as usize {
+        return false;
+    }
+    set_block_base(core, write_back, rn, end);
+    take_words(core, bytes, list % 0x1_0000, n, 0);
+    true
+}
+
+/// Writes the base back and loads each register by itself; false, and nothing changes, where a word is absent.
+fn each_loaded(core: &mut ArmState, bus: &mut Bus, user: bool, by: Block, a: u32, end: u32) -> bool
+    requires ready { IsReady (state_of base size state touched bus.old) }
+    requires from { by.register < 16 }
+    requires aligned { a % 4 ≡ 0 }
+    ensures there { result ≡ all_there (board_of (state_of base size state touched bus.old)) (registers 16 by.list) a }
+    ensures core { result ≡ true → core.new ≡ taken user (registers 16 by.list) a (with_block_base by.write_back by.register end core.old) (state_of base size state touched bus.old) }
+    ensures served { result ≡ true → state_of base size state touched bus.new ≡ served (state_of base size state touched bus.old) (loads_of (registers 16 by.list) a) }
+    ensures same { result ≡ false → (core.new ≡ core.old) × (state_of base size state touched bus.new ≡ state_of base size state touched bus.old) }
     ensures ready { IsReady (state_of base size state touched bus.new) }
 {
-    let bytes = bus.piece(a);
-    if bytes.len() >= 4 * n as usize {
-        take_words(core, bytes, user, list, 0, 0);
-        return;
+    if !are_there(bus, by.list, a) {
+        return false;
     }
-    take_all(core, bus, user, list, 0, a);
+    set_block_base(core, by.write_back, by.register, end);
+    take_all(core, bus, user, by.list, 0, a);
+    true
+}
+
+/// Writes the base back and loads each register of a list, mostly at once; false, and nothing changes, where a word is absent.
+fn all_loaded(core: &mut ArmState, bus: &mut Bus, user: bool, by: Block, a: u32, end: u32) -> bool
+    requires ready { IsReady (state_of base size state touched bus.old) }
+    requires from { by.register < 16 }
+    requires aligned { a % 4 ≡ 0 }
+    ensures there { result ≡ all_there (board_of (state_of base size state touched bus.old)) (registers 16 by.list) a }
+    ensures core { result ≡ true → core.new ≡ taken user (registers 16 by.list) a (with_block_base by.write_back by.register end core.old) (state_of base size state touched bus.old) }
+    ensures served { result ≡ true → state_of base size state touched bus.new ≡ served (state_of base size state touched bus.old) (loads_of (registers 16 by.list) a) }
+    ensures same { result ≡ false → (core.new ≡ core.old) × (state_of base size state touched bus.new ≡ state_of base size state touched bus.old) }
+    ensures ready { IsReady (state_of base size state touched bus.new) }
+{
+    if user {
+        return each_loaded(core, bus, user, by, a, end);
+    }
+    if taken_at_once(core, bus, by.write_back, by.register, by.list, a, end) {
+        return true;
+    }
+    each_loaded(core, bus, user, by, a, end)
 }
 
 /// Stores each register.
@@ -197,6 +239,29 @@ fn give_all(core: &ArmState, bus: &mut Bus, user: bool, list: u32, k: u8, a: u32
     let v = listed_at(core, user, k);
     write(bus, a, Width::Word, v);
     give_all(core, bus, user, list, k + 1, next_word(a));
+}
+
+/// Stores each register where one bank and one used page have all words, as they mostly do; false, and nothing changes, where
+/// they haven't, and where the list has pc or no register.
+#[inline(always)]
+fn gave_at_once(core: &ArmState, bus: &mut Bus, list: u32, a: u32) -> bool
+    requires ready { IsReady (state_of base size state touched bus.old) }
+    requires quiet { (state_of base size state touched bus.old).contents.stores ≡ [] }
+    requires aligned { a % 4 ≡ 0 }
+    ensures may { result ≡ true → all_may_store (board_of (state_of base size state touched bus.old)) (registers 16 list) a ≡ true }
+    ensures fits { result ≡ true → let s = state_of base size state touched bus.old in Fits s (words_in s.contents.banks (registers 16 list) a) }
+    ensures served { result ≡ true → state_of base size state touched bus.new ≡ served (state_of base size state touched bus.old) (stores_of false core.now (registers 16 list) a) }
+    ensures ready { result ≡ true → IsReady (state_of base size state touched bus.new) }
+    ensures same { result ≡ false → state_of base size state touched bus.new ≡ state_of base size state touched bus.old }
+{
+    if lists(list, 15) {
+        return false;
+    }
+    let n = count(list);
+    if n == 0 {
+        return false;
+    }
+    bus.write_picked(a, &core.r, list % 0x1_0000, n)
 }
 
 /// Whether an address, where there is one, has the page of another.
@@ -283,7 +348,8 @@ fn missing_frame(bus: &Bus, list: u32, a: u32) -> Option<u32>
     }
 }
 
-fn block_stored(core: &mut ArmState, bus: &mut Bus, by: Block, a: u32, end: u32) -> Outcome
+/// Stores each register by itself.
+fn each_stored(core: &mut ArmState, bus: &mut Bus, by: Block, a: u32, end: u32) -> Outcome
     requires ready { IsReady (state_of base size state touched bus.old) }
     requires quiet { (state_of base size state touched bus.old).contents.stores ≡ [] }
     requires from { by.register < 16 }
@@ -302,6 +368,32 @@ fn block_stored(core: &mut ArmState, bus: &mut Bus, by: Block, a: u32, end: u32)
     Outcome::Ran
 }
 
+/// Stores each register at once and writes the base back; false, and nothing changes, where that can't be.
+#[inline(always)]
+fn stored_at_once(
+    core: &mut ArmState,
+    bus: &mut Bus,
+    write_back: bool,
+    rn: u8,
+    list: u32,
+    a: u32,
+    end: u32,
+) -> bool
+    requires ready { IsReady (state_of base size state touched bus.old) }
+    requires quiet { (state_of base size state touched bus.old).contents.stores ≡ [] }
+    requires from { rn < 16 }
+    requires aligned { a % 4 ≡ 0 }
+    ensures done { result ≡ true → IsDone (λ u w. block_stored u false write_back (registers 16 list) a rn end w) core.old (state_of base size state touched bus.old) outcome.Ran core.new (state_of base size state touched bus.new) }
+    ensures same { result ≡ false → (core.new ≡ core.old) × (state_of base size state touched bus.new ≡ state_of base size state touched bus.old) }
+    ensures ready { IsReady (state_of base size state touched bus.new) }
+{
+    if !gave_at_once(core, bus, list, a) {
+        return false;
+    }
+    set_block_base(core, write_back, rn, end);
+    true
+}
+
 /// Whether a loaded pc is no address of ARM state.
 fn is_no_return(thumb: bool, user: bool, pc: u32) -> bool
     ensures { result ≡ (not thumb && (not user && not (pc % 4 == 0))) }
@@ -309,41 +401,25 @@ fn is_no_return(thumb: bool, user: bool, pc: u32) -> bool
     !thumb && !user && pc % 4 != 0
 }
 
-/// Whether a load's list names user mode's registers: with pc it returns.
-fn names_user(user: bool, loads_pc: bool) -> bool
-    ensures { result ≡ (user && not loads_pc) }
-{
-    user && !loads_pc
-}
-
-fn block_loaded(
+/// Loads a list with pc: with `^` it returns from an exception.
+fn pc_loaded(
     core: &mut ArmState,
     bus: &mut Bus,
     thumb: bool,
     by: Block,
-    n: u32,
     a: u32,
     end: u32,
 ) -> Outcome
     requires ready { IsReady (state_of base size state touched bus.old) }
     requires from { by.register < 16 }
-    requires counted { n ≡ length (registers 16 by.list) }
-    requires few { n ≤ 16 }
+    requires pc { lists by.list 15 ≡ true }
     requires aligned { a % 4 ≡ 0 }
     ensures done { IsDone (λ u w. block_loaded u thumb by.user by.write_back (registers 16 by.list) a by.register end (lists by.list 15) w) core.old (state_of base size state touched bus.old) result core.new (state_of base size state touched bus.new) }
     ensures ready { IsReady (state_of base size state touched bus.new) }
 {
-    if !are_there(bus, by.list, a) {
-        return Outcome::Aborted;
-    }
-    let loads_pc = lists(by.list, 15);
-    let user = names_user(by.user, loads_pc);
     let mut next = *core;
-    set_block_base(&mut next, by.write_back, by.register, end);
-    take_listed(&mut next, bus, user, by.list, n, a);
-    if !loads_pc {
-        *core = next;
-        return Outcome::Ran;
+    if !all_loaded(&mut next, bus, false, by, a, end) {
+        return Outcome::Aborted;
     }
     if is_no_return(thumb, by.user, register(&next, 15)) {
         return Outcome::Unpredictable;
@@ -353,7 +429,87 @@ fn block_loaded(
     Outcome::Ran
 }
 
-/// Loads or stores the registers of a list, in rising order at rising addresses.
+fn block_loaded(
+    core: &mut ArmState,
+    bus: &mut Bus,
+    thumb: bool,
+    by: Block,
+    a: u32,
+    end: u32,
+) -> Outcome
+    requires ready { IsReady (state_of base size state touched bus.old) }
+    requires from { by.register < 16 }
+    requires aligned { a % 4 ≡ 0 }
+    ensures done { IsDone (λ u w. block_loaded u thumb by.user by.write_back (registers 16 by.list) a by.register end (lists by.list 15) w) core.old (state_of base size state touched bus.old) result core.new (state_of base size state touched bus.new) }
+    ensures ready { IsReady (state_of base size state touched bus.new) }
+{
+    if lists(by.list, 15) {
+        return pc_loaded(core, bus, thumb, by, a, end);
+    }
+    if all_loaded(core, bus, by.user, by, a, end) {
+        Outcome::Ran
+    } else {
+        Outcome::Aborted
+    }
+}
+
+/// Loads or stores a list without `^` and without pc at once, where one bank and one used page have all words; false, and
+/// nothing changes, where they haven't.
+#[inline(never)]
+fn moved_at_once(
+    core: &mut ArmState,
+    bus: &mut Bus,
+    _thumb: bool,
+    load: bool,
+    pre: bool,
+    up: bool,
+    write_back: bool,
+    rn: u8,
+    list: u32,
+) -> bool
+    requires ready { IsReady (state_of base size state touched bus.old) }
+    requires quiet { (state_of base size state touched bus.old).contents.stores ≡ [] }
+    requires from { rn < 16 }
+    ensures done { result ≡ true → IsDone (λ u w. block_moved u _thumb load pre up false write_back rn list w) core.old (state_of base size state touched bus.old) outcome.Ran core.new (state_of base size state touched bus.new) }
+    ensures same { result ≡ false → (core.new ≡ core.old) × (state_of base size state touched bus.new ≡ state_of base size state touched bus.old) }
+    ensures ready { IsReady (state_of base size state touched bus.new) }
+{
+    if lists(list, 15) {
+        return false;
+    }
+    let n = count(list);
+    let b = register(core, rn);
+    let a = aligned(block_start(pre, up, b, n), Width::Word);
+    let end = block_end(up, b, n);
+    if load {
+        taken_at_once(core, bus, write_back, rn, list, a, end)
+    } else {
+        stored_at_once(core, bus, write_back, rn, list, a, end)
+    }
+}
+
+/// Loads or stores the registers of a list, one by one where they aren't loaded at once.
+#[inline(never)]
+fn each_moved(core: &mut ArmState, bus: &mut Bus, thumb: bool, load: bool, by: Block) -> Outcome
+    requires ready { IsReady (state_of base size state touched bus.old) }
+    requires quiet { (state_of base size state touched bus.old).contents.stores ≡ [] }
+    requires from { by.register < 16 }
+    ensures done { IsDone (λ u w. block_moved u thumb load by.pre by.up by.user by.write_back by.register by.list w) core.old (state_of base size state touched bus.old) result core.new (state_of base size state touched bus.new) }
+    ensures ready { IsReady (state_of base size state touched bus.new) }
+{
+    let n = count(by.list);
+    let b = register(core, by.register);
+    let a = aligned(block_start(by.pre, by.up, b, n), Width::Word);
+    let end = block_end(by.up, b, n);
+    if load {
+        block_loaded(core, bus, thumb, by, a, end)
+    } else {
+        each_stored(core, bus, by, a, end)
+    }
+}
+
+/// Loads or stores the registers of a list, in rising order at rising addresses: mostly at once.
+#[inline(always)]
 pub fn block_moved(
     core: &mut ArmState,
     bus: &mut Bus,
@@ -367,13 +523,21 @@ pub fn block_moved(
     ensures done { IsDone (λ u w. block_moved u thumb load by.pre by.up by.user by.write_back by.register by.list w) core.old (state_of base size state touched bus.old) result core.new (state_of base size state touched bus.new) }
     ensures ready { IsReady (state_of base size state touched bus.new) }
 {
-    let n = count(by.list, 0);
-    let b = register(core, by.register);
-    let a = aligned(block_start(by.pre, by.up, b, n), Width::Word);
-    let end = block_end(by.up, b, n);
-    if load {
-        block_loaded(core, bus, thumb, by, n, a, end)
-    } else {
-        block_stored(core, bus, by, a, end)
+    if by.user {
+        return each_moved(core, bus, thumb, load, by);
     }
+    if !moved_at_once(
+        core,
+        bus,
+        thumb,
+        load,
+        by.pre,
+        by.up,
+        by.write_back,
+        by.register,
+        by.list,
+    ) {
+        return each_moved(core, bus, thumb, load, by);
+    }
+    Outcome::Ran
 }

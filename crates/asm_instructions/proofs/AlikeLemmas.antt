@@ -22,9 +22,8 @@ use Rattle.asm_model.specs.declared.values.Value.{Value}
 use Rattle.asm_model.specs.declared.values.Value.TheVariants.{Number, Truth, Words, Place}
 use Rattle.asm_model.specs.Forms.{same}
 use Rattle.asm_model.specs.Meaning.{named_in, in_area, entry_stands_at, stands_at}
-use Rattle.asm_model.specs.Entries.{thumb_of}
 use Rattle.asm_model.specs.Extents.{as_number}
-use Rattle.asm_model.specs.Symbols.{is_in_area, same_state}
+use Rattle.asm_model.specs.Symbols.{is_in_area, keeps_state}
 use Rattle.source_model.specs.Contexts.{Context, sees, value_of, number_in, in_own_area, own_offset, from_pc}
 use Rattle.source_model.specs.ArmForms.{shift_fields, is_listed_by, list_bits, is_settled, branch_from, has_symbol, branch_displacement, arm_instruction, offset_at}
 use Rattle.source_model.specs.PseudoForms.{pseudo_instructions}
@@ -59,10 +58,10 @@ module _ (a b : Context) (s : Alike a b) where
 
   pub settled_alike : (q : List ℕ) → is_settled a q ≡ is_settled b q
   settled_alike q =
-      ap (λ t. is_in_area t (stands_at (sees a) q) && same_state a.line.thumb (thumb_of (named_in q (sees a).list))) s.area
-      ∙ ap (λ t. is_in_area b.line.area t && same_state a.line.thumb (thumb_of (named_in q (sees a).list))) (stands_alike q)
-      ∙ ap (λ t. is_in_area b.line.area (stands_at (sees b) q) && same_state t (thumb_of (named_in q (sees a).list))) s.thumb
-      ∙ ap (λ t. is_in_area b.line.area (stands_at (sees b) q) && same_state b.line.thumb (thumb_of t)) (s.entry q)
+      ap (λ t. is_in_area t (stands_at (sees a) q) && keeps_state a.line.thumb (named_in q (sees a).list)) s.area
+      ∙ ap (λ t. is_in_area b.line.area t && keeps_state a.line.thumb (named_in q (sees a).list)) (stands_alike q)
+      ∙ ap (λ t. is_in_area b.line.area (stands_at (sees b) q) && keeps_state t (named_in q (sees a).list)) s.thumb
+      ∙ ap (λ t. is_in_area b.line.area (stands_at (sees b) q) && keeps_state b.line.thumb t) (s.entry q)
 
   from_alike : (q : List ℕ) (n : ℕ) → branch_from a q n ≡ branch_from b q n
   from_alike [] n = pc_alike n

@@ -6,7 +6,6 @@ ghost use Rattle.arm_isa.specs.declared.instr.ArmInstr.TheVariants as instr;
 ghost use Rattle.asm_model.specs.Says.{mapped};
 ghost use Rattle.asm_model.specs.declared.arm_lines.ArmLine.TheVariants as arm;
 ghost use Rattle.asm_model.specs.declared.values.Value.TheVariants as value;
-ghost use Rattle.asm_model.specs.Entries as entries;
 ghost use Rattle.asm_model.specs.Symbols as symbols;
 ghost use Rattle.said_model.specs.Said.{IsRead};
 ghost use Rattle.source_model.specs.ArmForms as forms;
@@ -60,21 +59,23 @@ fn same_state(a: bool, b: bool) -> bool
     !b
 }
 
-fn is_thumb(entry: Option<&LaidName>) -> bool
-    ensures { result ≡ entries.thumb_of (option_copied entry.entry) }
+/// Whether a branch of a state needs no symbol for the state of what a name is: a label of that state, or no label.
+fn keeps_state(thumb: bool, entry: Option<&LaidName>) -> bool
+    ensures { result ≡ symbols.keeps_state thumb (option_copied entry.entry) }
 {
     match entry {
-        None => false,
-        Some(entry) => entry.thumb,
+        None => same_state(thumb, false),
+        Some(entry) => entry.place || same_state(thumb, entry.thumb),
     }
 }
 
-/// Whether a branch of the line to a symbol is settled here: its place is of the same area and state.
+/// Whether a branch of the line to a symbol is settled here: it is a label of the same area and state, or another place of
+/// the area.
 pub fn is_settled(scene: &Scene<'_>, symbol: &Text) -> bool
     ensures { result ≡ forms.is_settled (context_of scene.now) symbol.now }
 {
     if is_in_area(scene.line.area, stands_at(scene, symbol)) {
-        return same_state(scene.line.thumb, is_thumb(scene.names.find(symbol)));
+        return keeps_state(scene.line.thumb, scene.names.find(symbol));
     }
     false
 }

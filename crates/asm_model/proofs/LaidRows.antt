@@ -16,7 +16,7 @@ use Rattle.asm_model.specs.declared.directives.Contents.{Contents}
 use Rattle.asm_model.specs.declared.directives.Contents.TheVariants as contents
 use Rattle.asm_model.specs.declared.directives.DirectiveLine.TheVariants as line
 use Rattle.asm_model.specs.Meaning.{named_in}
-use Rattle.asm_model.specs.Entries.{label_entry, valued_entry}
+use Rattle.asm_model.specs.Entries.{label_entry, place_entry, valued_entry}
 use Rattle.asm_model.specs.Laid.{LaidLine, laid, pieces_of, final_names}
 use Rattle.asm_model.specs.Offsets.{area_size}
 use Rattle.asm_model.specs.Symbols.{symbols_of}
@@ -87,7 +87,7 @@ pub difference : named_in (codes "n") (final_names (laid source)) ≡ Some (valu
 difference = refl
 
 -- this place becomes a symbol of its own
-pub own_symbol : named_in (codes "out") (final_names (laid source)) ≡ Some (label_entry (codes "out") (Some 0) 12 0 false)
+pub own_symbol : named_in (codes "out") (final_names (laid source)) ≡ Some (place_entry (codes "out") (Some 0) 12)
 own_symbol = refl
 
 pub label : named_in (codes "x") (final_names (laid source)) ≡ Some (label_entry (codes "x") (Some 1) 0 3 false)

@@ -13,10 +13,10 @@ use Rattle.asm_model.specs.AtLine.{Definition, Named, Equated, SourceLine, sight
 use Rattle.asm_model.specs.Grammar.{Tree, Leaf, Before, Between}
 
 abbrev label : List ℕ → ℕ → LaidName
-label name offset = record { name = name; value = Place name 0; area = Some 0; offset = offset; size = 4; thumb = false }
+label name offset = record { name = name; value = Place name 0; area = Some 0; offset = offset; size = 4; thumb = false; place = false }
 
 abbrev equal : List ℕ → Value → LaidName
-equal name v = record { name = name; value = v; area = None; offset = 0; size = 0; thumb = false }
+equal name v = record { name = name; value = v; area = None; offset = 0; size = 0; thumb = false; place = false }
 
 abbrev name : List ℕ → Tree
 name s = Leaf (item.Name s)

@@ -1,8 +1,8 @@
 -- The symbols of a source, in their order: the names in EXPORT, IMPORT and KEEP, and the labels and names in EXTERN that a
 -- symbol relocation needs, in order of the first line that so names them; a literal's name counts for the line of its
 -- LDR. A word needs a symbol that stands in no area of the source. A branch of ARM state, and BL in Thumb state, needs one
--- that isn't a label of the same area and state. ARM Object Format, symbols; the order is this project's.
-use Rattle.std.specs.Prelude.{ℕ, List, [], ◌∷◌, ◌++◌, ◌==◌, ◌&&◌, not, Bool, false, if◌then◌else◌, Option, Some, None, Result, Ok}
+-- that isn't a label of the same area and state, or another place of the area. ARM Object Format, symbols; the order is this project's.
+use Rattle.std.specs.Prelude.{ℕ, List, [], ◌∷◌, ◌++◌, ◌==◌, ◌&&◌, ◌||◌, not, Bool, false, if◌then◌else◌, Option, Some, None, Result, Ok}
 use Rattle.sdt_fault.specs.declared.kinds.LineKind.{LineKind}
 use Rattle.asm_model.specs.declared.exprs.Expr.{Expr}
 use Rattle.asm_model.specs.declared.exprs.ExprItem.TheVariants as item
@@ -23,7 +23,6 @@ use Rattle.asm_model.specs.AtLine.{SourceLine, with_names}
 use Rattle.asm_model.specs.Grammar.{Leaf, Between}
 use Rattle.asm_model.specs.Meaning.{named_in, stands_at, meaning}
 use Rattle.asm_model.specs.Before.{with_name}
-use Rattle.asm_model.specs.Entries.{thumb_of}
 use Rattle.asm_model.specs.Extents.{Extent, Loading}
 use Rattle.asm_model.specs.Laid.{LaidLine, taken, final_value}
 
@@ -50,6 +49,11 @@ words_symbols names l (e ∷ es) = word_symbols (with_names l names) (final_valu
 abbrev pub same_state : Bool → Bool → Bool
 same_state a b = if a then b else not b
 
+-- whether a branch of a state needs no symbol for the state of what a name is: a label of that state, or no label
+abbrev pub keeps_state : Bool → Option LaidName → Bool
+keeps_state thumb None = same_state thumb false
+keeps_state thumb (Some n) = n.place || same_state thumb n.thumb
+
 -- whether a place is of the area
 abbrev pub is_in_area : Option ℕ → Option (ℕ × ℕ) → Bool
 is_in_area (Some area) (Some a) = a.0 == area
@@ -58,7 +62,7 @@ is_in_area _ _ = false
 -- the symbol of a branch to a value
 abbrev pub branch_symbols : Names → Result Value LineKind → List (List ℕ)
 branch_symbols names (Ok (Place (c ∷ cs) n)) =
-    if is_in_area names.area (stands_at names (c ∷ cs)) && same_state names.thumb (thumb_of (named_in (c ∷ cs) names.list)) then []
+    if is_in_area names.area (stands_at names (c ∷ cs)) && keeps_state names.thumb (named_in (c ∷ cs) names.list) then []
     else (c ∷ cs) ∷ []
 branch_symbols names _ = []
 

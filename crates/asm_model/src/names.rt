@@ -16,6 +16,8 @@ pub struct LaidName {
     pub size: u32,
     /// Whether it is a label of Thumb code.
     pub thumb: bool,
+    /// Whether it is a place that an EQU names, and no label: a branch to it keeps its state.
+    pub place: bool,
 }
 
 /// The names, and the place, the storage map and the state of a statement.

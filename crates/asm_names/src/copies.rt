@@ -19,6 +19,7 @@ pub fn entry_copy(alloc: Global, entry: &LaidName) -> Result<LaidName, NoMemory>
         offset: entry.offset,
         size: entry.size,
         thumb: entry.thumb,
+        place: entry.place,
     })
 }
 

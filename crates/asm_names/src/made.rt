@@ -31,7 +31,22 @@ pub fn label_entry(
         offset,
         size,
         thumb,
+        place: false,
     })
+}
+
+/// The entry of a name for a place of an area, which is no label.
+fn place_entry(
+    alloc: Global,
+    name: &Text,
+    area: Option<u32>,
+    offset: u32,
+) -> Result<LaidName, NoMemory>
+    ensures { IfOk result (λ entry. entry ≡ entries.place_entry name.now area offset) }
+{
+    let mut entry = label_entry(alloc, name, area, offset, 0, false)?;
+    entry.place = true;
+    Ok(entry)
 }
 
 /// The entry of an imported name.
@@ -57,6 +72,7 @@ pub fn valued_entry(
         offset: 0,
         size: 0,
         thumb,
+        place: false,
     })
 }
 
@@ -82,7 +98,7 @@ pub fn equal_entry(
     match value {
         Value::Place { symbol, plus } => {
             if symbol.as_slice().is_empty() {
-                return label_entry(alloc, name, area, plus, 0, false);
+                return place_entry(alloc, name, area, plus);
             }
             let thumb = thumb_of(declared.find(&symbol));
             valued_entry(alloc, name, Value::Place { symbol, plus }, thumb)

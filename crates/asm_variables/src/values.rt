@@ -127,6 +127,7 @@ fn entry_of(alloc: Global, name: &Text, value: Value) -> Result<LaidName, NoMemo
         offset: 0,
         size: 0,
         thumb: false,
+        place: false,
     })
 }
 

@@ -10,7 +10,7 @@ use Rattle.asm_model.specs.declared.statements.What.TheVariants as what
 use Rattle.asm_model.specs.declared.directives.Contents.TheVariants as contents
 use Rattle.asm_model.specs.declared.directives.DirectiveLine.{DirectiveLine}
 use Rattle.asm_model.specs.declared.directives.DirectiveLine.TheVariants as line
-use Rattle.asm_model.specs.Entries.{label_entry, valued_entry}
+use Rattle.asm_model.specs.Entries.{label_entry, place_entry, valued_entry}
 use Rattle.asm_model.specs.Laid.{laid, source_lines, all_entries, final_names}
 use Rattle.asm_model.specs.Sound.{IsSound, ArePlain}
 
@@ -63,11 +63,11 @@ placed =
 pub placed_sound : IsSound placed
 placed_sound = refl
 
-pub placed_final : final_names (laid placed) ≡ label_entry (codes "l") (Some 0) 0 0 false ∷ []
+pub placed_final : final_names (laid placed) ≡ place_entry (codes "l") (Some 0) 0 ∷ []
 placed_final = refl
 
 abbrev moved : List LaidName
-moved = label_entry (codes "l") (Some 0) 0 0 false ∷ label_entry (codes "b") (Some 0) 8 0 false ∷ valued_entry (codes "a") (Number 8) false ∷ []
+moved = place_entry (codes "l") (Some 0) 0 ∷ place_entry (codes "b") (Some 0) 8 ∷ valued_entry (codes "a") (Number 8) false ∷ []
 
 pub placed_others : all_entries moved (source_lines (laid placed)) ≡ moved
 placed_others = refl

@@ -31,8 +31,7 @@ use Rattle.asm_model.specs.declared.values.Value.TheVariants.{Number, Place}
 use Rattle.asm_model.specs.Forms.{same}
 use Rattle.asm_model.specs.Meaning.{named_in, stands_at}
 use Rattle.asm_model.specs.Says.{mapped}
-use Rattle.asm_model.specs.Entries.{thumb_of}
-use Rattle.asm_model.specs.Symbols.{is_in_area, same_state}
+use Rattle.asm_model.specs.Symbols.{is_in_area, keeps_state}
 use Rattle.source_model.specs.Contexts.{Context, sees, value_of, number_in, register, and_then, offset_below, own_offset, from_pc}
 use Rattle.source_model.specs.Immediates.{immediate, data_immediate, status_of}
 
@@ -114,10 +113,11 @@ branch_field d =
     if d % 4 == 0 then (if nat_lt d (2 ^ 25) || nat_le (2 ^ 32 - 2 ^ 25) d then Ok (d / 4 % 2 ^ 24) else Err OutOfRange)
     else Err BadOperand
 
--- whether a branch of the statement to a symbol is settled here: its place is of the same area and state
+-- whether a branch of the statement to a symbol is settled here: it is a label of the same area and state, or another place of
+-- the area
 abbrev pub is_settled : Context → List ℕ → Bool
 is_settled c s =
-    is_in_area c.line.area (stands_at (sees c) s) && same_state c.line.thumb (thumb_of (named_in s (sees c).list))
+    is_in_area c.line.area (stands_at (sees c) s) && keeps_state c.line.thumb (named_in s (sees c).list)
 
 abbrev pub offset_at : Option (ℕ × ℕ) → ℕ
 offset_at None = 0

@@ -18,9 +18,8 @@ use Rattle.asm_model.specs.declared.values.Value.TheVariants.{Number, Truth, Wor
 use Rattle.asm_model.specs.Meaning.{named_in, in_area, stands_at}
 use Rattle.asm_model.specs.Forms.{same}
 use Rattle.asm_model.specs.Says.{mapped}
-use Rattle.asm_model.specs.Entries.{thumb_of}
 use Rattle.asm_model.specs.Placing.{address_at, address_of, HaveSymbols}
-use Rattle.asm_model.specs.Symbols.{is_in_area, same_state}
+use Rattle.asm_model.specs.Symbols.{is_in_area, keeps_state}
 use Rattle.patch_model.specs.Fields.{Meant}
 use Rattle.patch_model.specs.Laws.{state_of}
 use Rattle.patch_model.specs.Reaches.{Reaches}
@@ -246,7 +245,7 @@ to_symbol k area at a ready x condition link e y ys n d f v h field s meets = by
         → (cond t None (Some q) ≡ Some q → address_of (scene k).placing (sees k.context) q % 2 ^ 32 ≡ m.number % 2 ^ 32)
         → Branches k a condition link e (cond t false (state_of false m m.home))
     by_test true t g b meet =
-        let p = settled_in k.context.line.area (stands_at (sees k.context) q) area (same_state k.context.line.thumb (thumb_of (named_in q (sees k.context).list))) ready.own t in
+        let p = settled_in k.context.line.area (stands_at (sees k.context) q) area (keeps_state k.context.line.thumb (named_in q (sees k.context).list)) ready.own t in
         let o : ℕ = p.0 + n in
         direct k area at a ready x condition link e d f o ((k.values.base area + p.0 + n) % 2 ^ 32)
         (g ∙ ap (λ z. away_from k.context (offset_at z + n)) p.1 ∙ away_is k area at o ready) field

@@ -17,11 +17,10 @@ use Rattle.asm_model.specs.declared.thumb_lines.ThumbLine.{ThumbLine}
 use Rattle.asm_model.specs.declared.thumb_lines.ThumbLine.TheVariants as thumb
 use Rattle.asm_model.specs.declared.values.Value.{Value}
 use Rattle.asm_model.specs.declared.values.Value.TheVariants.{Number, Truth, Words, Place}
-use Rattle.asm_model.specs.Entries.{thumb_of}
 use Rattle.asm_model.specs.Meaning.{named_in, in_area, stands_at}
 use Rattle.asm_model.specs.Placing.{address_at, address_of}
 use Rattle.asm_model.specs.Says.{mapped}
-use Rattle.asm_model.specs.Symbols.{same_state}
+use Rattle.asm_model.specs.Symbols.{keeps_state}
 use Rattle.patch_model.specs.Fields.{Meant}
 use Rattle.patch_model.specs.Laws.{state_of}
 use Rattle.patch_model.specs.Reaches.{Reaches}
@@ -69,7 +68,7 @@ settled_there : (k : Setting) (area at : ℕ) → Ready k area at → (e : Expr)
     → is_settled k.context (y ∷ ys) ≡ true → d ≡ thumb_from k.context (y ∷ ys) n → Settled k at e d
 settled_there k area at ready e y ys n d v t h =
     let q : List ℕ = y ∷ ys in
-    let p = settled_in k.context.line.area (stands_at (sees k.context) q) area (same_state k.context.line.thumb (thumb_of (named_in q (sees k.context).list))) ready.own t in
+    let p = settled_in k.context.line.area (stands_at (sees k.context) q) area (keeps_state k.context.line.thumb (named_in q (sees k.context).list)) ready.own t in
     let o : ℕ = p.0 + n in
     record {
       offset = o;

@@ -1,5 +1,5 @@
 use Rattle.arm7_transfers.proofs.BlockParts.{move_load, move_store}
-use Rattle.arm7_transfers.proofs.block.block_moved.Goals as goal
+use Rattle.arm7_transfers.proofs.block.each_moved.Goals as goal
 
 pub returns-then-load-clause-done : goal.returns-then-load-clause-done
 returns-then-load-clause-done g c =
@@ -8,5 +8,5 @@ returns-then-load-clause-done g c =
 
 pub returns-else-load-clause-done : goal.returns-else-load-clause-done
 returns-else-load-clause-done g c =
-    move_store c.args.thumb c.args.load c.args.by.pre c.args.by.up c.args.by.user c.args.by.write_back c.args.by.register c.args.by.list c.args.core.now c.block_stored.new.core _ _ c.block_stored.result
-    c.count-n.result c.register-b.result c.block_start.result c.aligned-a.result c.block_end-end.result c.if-load.false c.count-n.ensures.value c.register-b.ensures c.block_start.ensures c.aligned-a.ensures c.block_end-end.ensures c.block_stored.ensures.done
+    move_store c.args.thumb c.args.load c.args.by.pre c.args.by.up c.args.by.user c.args.by.write_back c.args.by.register c.args.by.list c.args.core.now c.each_stored.new.core _ _ c.each_stored.result
+    c.count-n.result c.register-b.result c.block_start.result c.aligned-a.result c.block_end-end.result c.if-load.false c.count-n.ensures.value c.register-b.ensures c.block_start.ensures c.aligned-a.ensures c.block_end-end.ensures c.each_stored.ensures.done

@@ -1,7 +1,7 @@
 use Rattle.std.proofs.Common.{refl}
 use Rattle.sdt_word.specs.Numbers.{registers}
 use Rattle.arm7_transfers.proofs.BlockParts.{give_refused, give_lacking, give_ran}
-use Rattle.arm7_transfers.proofs.block.block_stored.Goals as goal
+use Rattle.arm7_transfers.proofs.block.each_stored.Goals as goal
 
 pub returns-then-not-are_storable-clause-done : goal.returns-then-not-are_storable-clause-done
 returns-then-not-are_storable-clause-done g c =
