@@ -92,7 +92,7 @@ all_names_found ss lines declared all whole first known source owed order firsts
     let d = declared_names ss in
     let N = final_names (laid ss) in
     let E = equals_in ss in
-    let sound = sound_each (settled E) d ss source.sound in
+    let sound = sound_each (settled E) ss d ss source.sound in
     let entries = final_names_are_their_entries ss source.sound source.plain in
     let found = each_found N N d (settled E) ss sound (λ q k. ap (named_in q) (sym entries)) in
     let pairs : map equal_pair all ≡ E = ap (map equal_pair) owed ∙ owed_pairs d ss lines source.each in

@@ -135,7 +135,7 @@ source_holds ss h plain =
     let N = final_names (laid ss) in
     let all = sofar N (declared_names ss) ss in
     subst (λ z. HoldsEach z all) (final_names_are_their_entries ss h plain)
-    (sofar_holds N (declared_names ss) (settled (equals_in ss)) ss (sound_each (settled (equals_in ss)) (declared_names ss) ss h))
+    (sofar_holds N (declared_names ss) (settled (equals_in ss)) ss (sound_each (settled (equals_in ss)) ss (declared_names ss) ss h))
 
 pub source_final : (ss : List Statement) → IsSound ss → ArePlain ss → Fewer (final_names (laid ss)) (declared_names ss)
 source_final ss h plain =

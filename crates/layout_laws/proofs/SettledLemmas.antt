@@ -134,7 +134,7 @@ pub all_lead : (ss : List Statement) → IsSound ss → ArePlain ss
 all_lead ss h plain =
     let E = equals_in ss in
     let ls = source_lines (laid ss) in
-    let sound = sound_each (settled E) (declared_names ss) ss h in
+    let sound = sound_each (settled E) ss (declared_names ss) ss h in
     let m = length E in
     let R = λ (p : List ℕ) (t : Tree). TreeIs (IsGood ls m) t in
     each_weaker R (λ p t. TreeIs (IsGood ls (length (laid ss))) t)

@@ -13,7 +13,7 @@ use Rattle.asm_model.proofs.LineLemmas.{both_empty}
 use Rattle.asm_model.proofs.WordLemmas.{same_refl, same_true}
 use Rattle.asm_model.specs.Labels.{Defined, Unnamed, Label, Equal, MapField, RegisterName, defined_by, imported_in}
 use Rattle.asm_model.specs.Laid.{LaidLine, statements_of, laid_behind, laid_of}
-use Rattle.asm_model.specs.LayoutKinds.{fault_kinds, kind_if, map_kinds, no_area_kinds, contents_kinds, contents_behind, area_kinds, own_name, listed, names_in, names_behind, is_entry, is_repeated, name_kinds, equal_of, equals_in, are_settled, settled_by, settled_kinds, layout_kinds, told_at, first_fault, area_bytes}
+use Rattle.asm_model.specs.LayoutKinds.{fault_kinds, kind_if, map_kinds, no_area_kinds, contents_kinds, contents_behind, area_kinds, own_name, listed, names_in, names_behind, is_entry, is_repeated, name_kinds, equal_of, equals_in, are_settled, settled_by, settled_kinds, state_kinds, layout_kinds, told_at, first_fault, area_bytes}
 use Rattle.asm_model.specs.Sound.{HaveNoPlaces, IsPlain, ArePlain}
 use Rattle.layout_laws.proofs.EqualLemmas.{EachEqual, equal_both, equal_joined}
 use Rattle.base_lemmas.proofs.BaseLemmas.{not_false}
@@ -54,28 +54,30 @@ pub statements_kept : (d : List LaidName) (ss : List Statement) → statements_o
 statements_kept d [] = refl
 statements_kept d (s ∷ ss) = ap (λ z. s ∷ z) (statements_kept d ss)
 
-pub line_sound : (S : List (List ℕ)) (l : LaidLine) (before : List LaidLine) → layout_kinds S l before ≡ []
+pub line_sound : (S : List (List ℕ)) (all : List Statement) (l : LaidLine) (before : List LaidLine) → layout_kinds S all l before ≡ []
     → (is_repeated (names_behind (statements_of before)) (names_in l.statement) ≡ false) × (settled_kinds S (defined_by l.statement) ≡ [])
-line_sound S l before h =
+line_sound S all l before h =
     let a = fault_kinds l.extent ++ map_kinds l.seen l.statement.what ++ no_area_kinds l.area (defined_by l.statement) l.statement.what
     ++ contents_kinds (contents_behind (l.statement ∷ statements_of before)) l.thumb l.statement.what
     ++ area_kinds l.seen l.statement.what before in
     let b = name_kinds l.statement (statements_of before) in
     let c = settled_kinds S (defined_by l.statement) in
-    let p = both_empty (a ++ b ++ c) (kind_if (nat_lt area_bytes (l.offset + l.size)) TooMany) h in
+    let d = state_kinds l.area l.thumb l.statement.what all in
+    let o = both_empty (a ++ b ++ c ++ d) (kind_if (nat_lt area_bytes (l.offset + l.size)) TooMany) h in
+    let p = both_empty (a ++ b ++ c) d o.0 in
     let q = both_empty (a ++ b) c p.0 in
     let r = both_empty a b q.0 in
     let t = or_parts (is_repeated (names_behind (statements_of before)) (names_in l.statement)) (is_entry l.statement.what && list_any (λ t. is_entry t.what) (statements_of before))
     (kind_none (is_repeated (names_behind (statements_of before)) (names_in l.statement) || (is_entry l.statement.what && list_any (λ t. is_entry t.what) (statements_of before))) DuplicateName r.1) in
     (t.0, q.1)
 
-pub sound_each : (S : List (List ℕ)) (d : List LaidName) (ss : List Statement) → first_fault S (laid_of d ss) ≡ None → EachSound S ss
-sound_each S d [] h = tt
-sound_each S d (s ∷ ss) h =
+pub sound_each : (S : List (List ℕ)) (all : List Statement) (d : List LaidName) (ss : List Statement) → first_fault S all (laid_of d ss) ≡ None → EachSound S ss
+sound_each S all d [] h = tt
+sound_each S all d (s ∷ ss) h =
     let l = laid_behind d s (laid_of d ss) in
-    let p = or_none (first_fault S (laid_of d ss)) (told_at s (told_kind (layout_kinds S l (laid_of d ss)))) h in
-    let q = line_sound S l (laid_of d ss) (told_none s (layout_kinds S l (laid_of d ss)) p.1) in
-    (subst (λ z. is_repeated (names_behind z) (names_in s) ≡ false) (statements_kept d ss) q.0, q.1, sound_each S d ss p.0)
+    let p = or_none (first_fault S all (laid_of d ss)) (told_at s (told_kind (layout_kinds S all l (laid_of d ss)))) h in
+    let q = line_sound S all l (laid_of d ss) (told_none s (layout_kinds S all l (laid_of d ss)) p.1) in
+    (subst (λ z. is_repeated (names_behind z) (names_in s) ≡ false) (statements_kept d ss) q.0, q.1, sound_each S all d ss p.0)
 
 -- ---- names for expressions
 

@@ -302,7 +302,7 @@ KeepsBytes s area false bytes = bytes ≡ []
 
 pub record IsArea (s : Source) (area : ℕ) (a : Area) : Type 0 where
   pub name : slice_get (areas_behind s.statements) area ≡ Some a.name
-  pub attributes : attributes_of area (is_thumb_area area s.lines) s.lines ≡ Some a.attributes
+  pub attributes : attributes_of area (is_thumb_area area s.statements) s.lines ≡ Some a.attributes
   pub size : a.size ≡ area_size area (pieces_of s.lines)
   pub bytes : KeepsBytes s area (is_kept (contents_of area s.lines)) a.bytes
   pub relocs : HasRelocs s area a.relocs

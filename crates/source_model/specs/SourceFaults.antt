@@ -18,16 +18,17 @@ use Rattle.source_model.specs.ValueKinds.{value_kinds}
 
 -- ---- the pass of layout
 
--- the first line with a fault of its own, where a source has these names for registers and these settled names
-abbrev pub first_laid : List (List ℕ) → List (List ℕ) → List LaidLine → Option (Statement × LineKind)
-first_laid registers settled [] = None
-first_laid registers settled (l ∷ before) =
-    or_else (first_laid registers settled before)
-    (told_at l.statement (told_kind (layout_kinds settled l before ++ register_kinds registers l before)))
+-- the first line with a fault of its own, where a source has these names for registers, these settled names and these
+-- statements that can be read
+abbrev pub first_laid : List (List ℕ) → List (List ℕ) → List Statement → List LaidLine → Option (Statement × LineKind)
+first_laid registers settled all [] = None
+first_laid registers settled all (l ∷ before) =
+    or_else (first_laid registers settled all before)
+    (told_at l.statement (told_kind (layout_kinds settled all l before ++ register_kinds registers l before)))
 
 abbrev pub layout_faults : List Statement → Option (Statement × LineKind)
 layout_faults statements =
-    or_else (first_laid (register_names statements) (settled (equals_in statements)) (laid statements))
+    or_else (first_laid (register_names statements) (settled (equals_in statements)) statements (laid statements))
     (first_late (laid statements) [] (reversed (laid statements) []))
 
 -- ---- the pass of values
