@@ -20,19 +20,19 @@ use Rattle.asm_model.specs.declared.names.LaidName.{LaidName}
 
 -- ---- layouts without faults
 
-pub sound_lines : (names fixed : List (List ℕ)) (ls : List LaidLine) → first_laid names fixed ls ≡ None → first_fault fixed ls ≡ None
-sound_lines names fixed [] e = refl
-sound_lines names fixed (l ∷ before) e =
-    let all = layout_kinds fixed l before ++ register_kinds names l before in
-    let p = or_none (first_laid names fixed before) (told_at l.statement (told_kind all)) e in
-    let q = both_empty (layout_kinds fixed l before) (register_kinds names l before) (told_none l.statement all p.1) in
-    rw (sound_lines names fixed before p.0, q.0) refl
+pub sound_lines : (names fixed : List (List ℕ)) (all : List Statement) (ls : List LaidLine) → first_laid names fixed all ls ≡ None → first_fault fixed all ls ≡ None
+sound_lines names fixed all [] e = refl
+sound_lines names fixed all (l ∷ before) e =
+    let kinds = layout_kinds fixed all l before ++ register_kinds names l before in
+    let p = or_none (first_laid names fixed all before) (told_at l.statement (told_kind kinds)) e in
+    let q = both_empty (layout_kinds fixed all l before) (register_kinds names l before) (told_none l.statement kinds p.1) in
+    rw (sound_lines names fixed all before p.0, q.0) refl
 
 pub layout_sound : (ss : List Statement) → layout_faults ss ≡ None → IsSound ss
 layout_sound ss h =
     let fixed = settled (equals_in ss) in
-    sound_lines (register_names ss) fixed (laid ss)
-    (or_none (first_laid (register_names ss) fixed (laid ss)) (first_late (laid ss) [] (reversed (laid ss) [])) h).0
+    sound_lines (register_names ss) fixed ss (laid ss)
+    (or_none (first_laid (register_names ss) fixed ss (laid ss)) (first_late (laid ss) [] (reversed (laid ss) [])) h).0
 
 -- ---- states
 

@@ -34,7 +34,7 @@ pub known_extent : (ss : List Statement) → IsSound ss → (after before : List
     → extent_of l.seen l.statement.what ≡ Ok (taken l.extent)
 known_extent ss sound after before l e =
     let S = settled (equals_in ss) in
-    let x = line_known S l before (line_fine S after before l (subst (λ z. first_fault S z ≡ None) e sound)) in
+    let x = line_known S ss l before (line_fine S ss after before l (subst (λ z. first_fault S ss z ≡ None) e sound)) in
     sym (seen_extent ss after before l e).0 ∙ x.1 ∙ ap Ok (sym (ap taken x.1))
 
 -- the units of a line's own

@@ -21,7 +21,7 @@ use Rattle.asm_model.proofs.WordLemmas.{same_refl, same_true}
 use Rattle.asm_model.specs.Before.{area_named, with_name, areas_behind, place_of, area_from, area_behind}
 use Rattle.asm_model.specs.Labels.{defined_by, declared_names}
 use Rattle.asm_model.specs.Laid.{LaidLine, statements_of, laid_of, laid}
-use Rattle.asm_model.specs.LayoutKinds.{fault_kinds, kind_if, map_kinds, no_area_kinds, is_zero_statement, contents_kinds, contents_from, contents_behind, exponent, exponent_kinds, same_contents, same_mark, same_exponent, same_attributes, again_with, is_named_otherwise, area_kinds, name_kinds, equals_in, settled, settled_kinds, layout_kinds, told_at, first_fault, area_bytes}
+use Rattle.asm_model.specs.LayoutKinds.{fault_kinds, kind_if, map_kinds, no_area_kinds, is_zero_statement, contents_kinds, contents_from, contents_behind, exponent, exponent_kinds, same_contents, same_mark, same_exponent, same_attributes, again_with, is_named_otherwise, area_kinds, name_kinds, equals_in, settled, settled_kinds, state_kinds, layout_kinds, told_at, first_fault, area_bytes}
 use Rattle.asm_model.specs.Marks.{datum_names}
 use Rattle.asm_model.specs.Offsets.{is_of}
 use Rattle.asm_model.proofs.OffsetLemmas.{is_here}
@@ -105,10 +105,10 @@ pub numbered_rest : (after before : List LaidLine) → AreNumbered (after ++ bef
 numbered_rest [] before h = h
 numbered_rest (l ∷ after) before h = numbered_rest after before h.1
 
-pub fine_rest : (S : List (List ℕ)) (after before : List LaidLine) → first_fault S (after ++ before) ≡ None → first_fault S before ≡ None
-fine_rest S [] before h = h
-fine_rest S (l ∷ after) before h =
-    fine_rest S after before (or_none (first_fault S (after ++ before)) (told_at l.statement (told_kind (layout_kinds S l (after ++ before)))) h).0
+pub fine_rest : (S : List (List ℕ)) (all : List Statement) (after before : List LaidLine) → first_fault S all (after ++ before) ≡ None → first_fault S all before ≡ None
+fine_rest S all [] before h = h
+fine_rest S all (l ∷ after) before h =
+    fine_rest S all after before (or_none (first_fault S all (after ++ before)) (told_at l.statement (told_kind (layout_kinds S all l (after ++ before)))) h).0
 
 pub contents_stay : (area : ℕ) (c : Contents) (after before : List LaidLine) → contents_of area before ≡ Some c → contents_of area (after ++ before) ≡ Some c
 contents_stay area c [] before h = h
@@ -293,16 +293,18 @@ agreed (l ∷ before) h n e =
 -- ---- the contents behind lines
 
 -- what a line's contents and areas tell
-pub line_kinds : (S : List (List ℕ)) (l : LaidLine) (before : List LaidLine) → layout_kinds S l before ≡ []
+pub line_kinds : (S : List (List ℕ)) (all : List Statement) (l : LaidLine) (before : List LaidLine) → layout_kinds S all l before ≡ []
     → (contents_kinds (contents_behind (l.statement ∷ statements_of before)) l.thumb l.statement.what ≡ [])
     × (area_kinds l.seen l.statement.what before ≡ [])
-line_kinds S l before h =
+line_kinds S all l before h =
     let a = fault_kinds l.extent ++ map_kinds l.seen l.statement.what ++ no_area_kinds l.area (defined_by l.statement) l.statement.what in
     let b = contents_kinds (contents_behind (l.statement ∷ statements_of before)) l.thumb l.statement.what in
     let c = area_kinds l.seen l.statement.what before in
     let d = name_kinds l.statement (statements_of before) in
     let e = settled_kinds S (defined_by l.statement) in
-    let p = both_empty (a ++ b ++ c ++ d ++ e) (kind_if (nat_lt area_bytes (l.offset + l.size)) TooMany) h in
+    let f = state_kinds l.area l.thumb l.statement.what all in
+    let o = both_empty (a ++ b ++ c ++ d ++ e ++ f) (kind_if (nat_lt area_bytes (l.offset + l.size)) TooMany) h in
+    let p = both_empty (a ++ b ++ c ++ d ++ e) f o.0 in
     let q = both_empty (a ++ b ++ c ++ d) e p.0 in
     let r = both_empty (a ++ b ++ c) d q.0 in
     let s = both_empty (a ++ b) c r.0 in
@@ -334,13 +336,13 @@ behind_line l before xs o k (what.Directive (line.Area name b)) c known fine ear
 behind_line l before xs o k w c known fine earlier e =
     let p = earlier e in (p.0, ap (λ z. or_else z None) p.1, p.2)
 
-pub contents_are : (S : List (List ℕ)) (lines : List LaidLine) → AreNumbered lines → first_fault S lines ≡ None → (k : ℕ) → area_behind (statements_of lines) ≡ Some k
+pub contents_are : (S : List (List ℕ)) (all : List Statement) (lines : List LaidLine) → AreNumbered lines → first_fault S all lines ≡ None → (k : ℕ) → area_behind (statements_of lines) ≡ Some k
     → Behind k (contents_of k lines) (contents_behind (statements_of lines))
-contents_are S [] h fine k e = absurd (cc)
-contents_are S (l ∷ before) h fine k e =
-    let p = or_none (first_fault S before) (told_at l.statement (told_kind (layout_kinds S l before))) fine in
+contents_are S all [] h fine k e = absurd (cc)
+contents_are S all (l ∷ before) h fine k e =
+    let p = or_none (first_fault S all before) (told_at l.statement (told_kind (layout_kinds S all l before))) fine in
     behind_line l before (names_of before) (area_behind (statements_of before)) k l.statement.what (contents_behind (statements_of before))
-    (agreed (l ∷ before) h) (line_kinds S l before (told_none l.statement (layout_kinds S l before) p.1)).1 (contents_are S before h.1 p.0 k) e
+    (agreed (l ∷ before) h) (line_kinds S all l before (told_none l.statement (layout_kinds S all l before) p.1)).1 (contents_are S all before h.1 p.0 k) e
 
 -- ---- statements among zeros
 
@@ -370,13 +372,13 @@ pub contents_there : (ss : List Statement) → layout_faults ss ≡ None → (ar
 contents_there ss none area c holds after before l parts own =
     let S = settled (equals_in ss) in
     let numbered = numbered_rest after (l ∷ before) (subst AreNumbered parts (laid_numbered (declared_names ss) ss)) in
-    let fine = fine_rest S after (l ∷ before) (subst (λ z. first_fault S z ≡ None) parts (layout_sound ss none)) in
-    let behind = contents_are S (l ∷ before) numbered fine area (sym numbered.0 ∙ own) in
+    let fine = fine_rest S ss after (l ∷ before) (subst (λ z. first_fault S ss z ≡ None) parts (layout_sound ss none)) in
+    let behind = contents_are S ss (l ∷ before) numbered fine area (sym numbered.0 ∙ own) in
     let all : contents_of area (laid ss) ≡ Some behind.0 =
     ap (contents_of area) parts ∙ contents_stay area behind.0 after (l ∷ before) behind.1 in
     let is : behind.0 ≡ c = cc in
-    let p = or_none (first_fault S before) (told_at l.statement (told_kind (layout_kinds S l before))) fine in
-    let q = (line_kinds S l before (told_none l.statement (layout_kinds S l before) p.1)).0 in
+    let p = or_none (first_fault S ss before) (told_at l.statement (told_kind (layout_kinds S ss l before))) fine in
+    let q = (line_kinds S ss l before (told_none l.statement (layout_kinds S ss l before) p.1)).0 in
     subst (λ o. contents_kinds o l.thumb l.statement.what ≡ []) (behind.2 ∙ ap Some is) q
 
 zero_there : (ss : List Statement) → layout_faults ss ≡ None → (area : ℕ) → contents_of area (laid ss) ≡ Some contents.Zeroes
