@@ -2,6 +2,7 @@
 
 ghost use Rattle.std.specs.Prelude.{◌≡◌, ◌&&◌, ◌||◌, ◌∷◌, [], ℕ, List, None, IfOk};
 ghost use Rattle.sdt_fault.specs.declared.kinds.LineKind.TheVariants.{DuplicateName};
+ghost use Rattle.asm_model.specs.declared.statements.Statement.{Statement};
 ghost use Rattle.asm_model.specs.Kinds.{told_kind};
 ghost use Rattle.asm_model.specs.Labels.{defined_by};
 ghost use Rattle.asm_model.specs.Laid.{LaidLine};
@@ -11,7 +12,7 @@ ghost use Rattle.asm_checks.specs.Checked.{checked_kinds, IsChecked, IsLine, IsS
 use crate::areas::{AreaMarks, area_kind};
 use crate::labels::is_equal;
 use crate::names::is_repeated;
-use crate::places::{contents_from, contents_kind, is_entry, no_area_kind};
+use crate::places::{contents_from, contents_kind, is_entry, no_area_kind, state_kind};
 use asm_expr::told::{first_told, kind_if};
 use asm_model::{Contents, Statement, What};
 use sdt_fault::kinds::LineKind;
@@ -80,18 +81,20 @@ impl Checks {
     }
 
     /// The fault of the next line that is told, of those that need no values but the exponent of an area. Where a
-    /// statement is no AREA its `exponent` isn't looked at, and `is_settled` only where it has a name for an expression.
-    /// Behind a line with a fault, or an `Err`, nothing more can be checked.
+    /// statement is no AREA its `exponent` isn't looked at, and `is_settled` only where it has a name for an expression;
+    /// whether its area is one of Thumb code counts for ENTRY. Behind a line with a fault, or an `Err`, nothing more can
+    /// be checked.
     pub fn check(
         &mut self,
         statement: &Statement,
         area: Option<u32>,
         thumb: bool,
+        thumb_area: bool,
         exponent: Result<u32, LineKind>,
         is_settled: bool,
     ) -> Result<Option<LineKind>, NoMemory>
-        ensures told { IfOk result (λ told. (settled : List (List ℕ)) (l : LaidLine) (before : List LaidLine) → IsChecked before self.old → IsLine settled statement.now area thumb exponent is_settled l → told ≡ told_kind (checked_kinds settled l before)) }
-        ensures behind { IfOk result (λ told. (settled : List (List ℕ)) (l : LaidLine) (before : List LaidLine) → IsChecked before self.old → IsLine settled statement.now area thumb exponent is_settled l → told ≡ None → IsChecked (l ∷ before) self.new) }
+        ensures told { IfOk result (λ told. (settled : List (List ℕ)) (all : List Statement) (l : LaidLine) (before : List LaidLine) → IsChecked before self.old → IsLine settled all statement.now area thumb thumb_area exponent is_settled l → told ≡ told_kind (checked_kinds settled all l before)) }
+        ensures behind { IfOk result (λ told. (settled : List (List ℕ)) (all : List Statement) (l : LaidLine) (before : List LaidLine) → IsChecked before self.old → IsLine settled all statement.now area thumb thumb_area exponent is_settled l → told ≡ None → IsChecked (l ∷ before) self.new) }
     {
         self.contents = contents_from(&statement.what, self.contents);
         let here = first_told(
@@ -105,6 +108,8 @@ impl Checks {
             name_kind(repeated, second),
             settled_kind(statement, is_settled),
         );
-        Ok(first_told(here, first_told(attributes, defined)))
+        let found = first_told(here, first_told(attributes, defined));
+        let state = state_kind(&statement.what, area, thumb, thumb_area);
+        Ok(first_told(found, state))
     }
 }

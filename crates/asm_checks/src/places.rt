@@ -1,10 +1,12 @@
 //! Where statements may stand.
 
-ghost use Rattle.std.specs.Prelude.{◌≡◌, Some};
+ghost use Rattle.std.specs.Prelude.{◌≡◌, List, Some};
 ghost use Rattle.asm_model.specs.declared.directives.Contents.TheVariants as contents;
+ghost use Rattle.asm_model.specs.declared.statements.Statement.{Statement};
 ghost use Rattle.asm_model.specs.Kinds.{told_kind};
 ghost use Rattle.asm_model.specs.Labels.{defined_by};
 ghost use Rattle.asm_model.specs.LayoutKinds as layout;
+ghost use Rattle.asm_checks.specs.Checked.{IsThumbArea};
 
 use crate::labels::{has_place, names_here};
 use asm_expr::told::kind_if;
@@ -106,6 +108,16 @@ pub fn contents_kind(contents: Option<Contents>, thumb: bool, what: &What) -> Op
         Some(Contents::Zeroes) => kind_if(!is_zero_statement(what), LineKind::BadOperand),
         _ => None,
     }
+}
+
+/// The fault of an ENTRY in another state than its area's.
+pub fn state_kind(what: &What, area: Option<u32>, thumb: bool, thumb_area: bool) -> Option<LineKind>
+    ensures { (all : List Statement) → IsThumbArea all area thumb_area → result ≡ told_kind (layout.state_kinds area thumb what.now all) }
+{
+    if area.is_none() {
+        return None;
+    }
+    kind_if(is_entry(what) && thumb != thumb_area, LineKind::BadOperand)
 }
 
 /// The contents of the area in which a statement stands, behind others that stand in one of these.

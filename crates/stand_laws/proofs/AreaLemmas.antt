@@ -137,14 +137,14 @@ line_agrees area thumb l before (what.Directive (line.Area name a)) fine = by_te
         (both_empty (exponent_kinds (exponent l.seen a.align)) (kind_if (is_named_otherwise name l.seen a before) BadOperand) fine).0)
 line_agrees area thumb l before w fine = tt
 
-pub lines_agree : (S : List (List ℕ)) (area : ℕ) (thumb : Bool) (lines : List LaidLine) → first_fault S lines ≡ None
+pub lines_agree : (S : List (List ℕ)) (all : List Statement) (area : ℕ) (thumb : Bool) (lines : List LaidLine) → first_fault S all lines ≡ None
     → Agree (attributes_of area thumb lines) (contents_of area lines)
-lines_agree S area thumb [] fine = tt
-lines_agree S area thumb (l ∷ before) fine =
-    let p = or_none (first_fault S before) (told_at l.statement (told_kind (layout_kinds S l before))) fine in
+lines_agree S all area thumb [] fine = tt
+lines_agree S all area thumb (l ∷ before) fine =
+    let p = or_none (first_fault S all before) (told_at l.statement (told_kind (layout_kinds S all l before))) fine in
     either_agrees (attributes_of area thumb before) (says_area area l l.statement.what thumb) (contents_of area before) (contents_in area l l.statement.what)
-    (lines_agree S area thumb before p.0)
-    (line_agrees area thumb l before l.statement.what (line_kinds S l before (told_none l.statement (layout_kinds S l before) p.1)).1)
+    (lines_agree S all area thumb before p.0)
+    (line_agrees area thumb l before l.statement.what (line_kinds S all l before (told_none l.statement (layout_kinds S all l before) p.1)).1)
 
 -- an area of zeros is marked as one, and any other keeps its bytes
 abbrev pub AreaKind : Option Contents → Bool → Type 0

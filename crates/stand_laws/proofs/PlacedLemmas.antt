@@ -75,7 +75,7 @@ area_found : (ss : List Statement) (o : Object) → IsFaultless ss → IsObject 
 area_found ss o faultless obj area h =
     let f = found_at o.areas area h in
     let is = obj.areas area f.0 f.1 in
-    let agree = lines_agree (settled (equals_in ss)) area (is_thumb_area area (laid ss)) (laid ss) (layout_sound ss faultless.laid_out) in
+    let agree = lines_agree (settled (equals_in ss)) ss area (is_thumb_area area ss) (laid ss) (layout_sound ss faultless.laid_out) in
     record {
       found = f.0;
       there = f.1;
