@@ -1,13 +1,13 @@
 -- The faults of a line that laying out finds without values, and what lines before it leave for them. SDT 2.50
 -- Reference Guide, chapter on the assembler; the kinds are this project's. Lines are listed with the nearest first.
-use Rattle.std.specs.Prelude.{◌≡◌, ℕ, List, ◌∷◌, ◌++◌, Bool, Option, Some, None, Result}
+use Rattle.std.specs.Prelude.{◌≡◌, ℕ, List, ◌∷◌, ◌++◌, Bool, Option, Result}
 use Rattle.std.specs.List.{list_any}
 use Rattle.sdt_fault.specs.declared.kinds.LineKind.{LineKind}
 use Rattle.asm_model.specs.declared.statements.Statement.{Statement}
 use Rattle.asm_model.specs.Forms.{same}
 use Rattle.asm_model.specs.Labels.{Defined, Equal, defined_by}
 use Rattle.asm_model.specs.Laid.{LaidLine, statements_of}
-use Rattle.asm_model.specs.LayoutKinds.{is_entry, no_area_kinds, contents_kinds, contents_behind, area_kinds, name_kinds, settled_kinds, is_thumb_area, state_kinds}
+use Rattle.asm_model.specs.LayoutKinds.{is_entry, no_area_kinds, contents_kinds, contents_behind, area_kinds, name_kinds, settled_kinds, in_thumb_area, state_kinds}
 use Rattle.asm_checks.specs.declared.checks.Checks.{Checks}
 use Rattle.asm_checks.specs.Areas.{AreAreasOf, IsExponent}
 use Rattle.asm_checks.specs.Names.{AreNamesOf}
@@ -33,16 +33,11 @@ abbrev pub IsSettled : List (List ℕ) → Defined → Bool → Type 0
 IsSettled settled (Equal name e) b = b ≡ list_any (same name) settled
 IsSettled settled _ b = Unit {0}
 
--- whether an area of a source is one of Thumb code; before the first AREA nothing is said
-abbrev pub IsThumbArea : List Statement → Option ℕ → Bool → Type 0
-IsThumbArea all None b = Unit {0}
-IsThumbArea all (Some area) b = b ≡ is_thumb_area area all
-
 -- what is known of a line before it is checked
 pub record IsLine (settled : List (List ℕ)) (all : List Statement) (s : Statement) (area : Option ℕ) (thumb thumb_area : Bool) (x : Result ℕ LineKind) (is_settled : Bool) (l : LaidLine) : Type 0 where
   pub said : l.statement ≡ s
   pub stands : l.area ≡ area
   pub state : l.thumb ≡ thumb
-  pub within : IsThumbArea all area thumb_area
+  pub within : thumb_area ≡ in_thumb_area area all
   pub aligned : IsExponent l.seen s.what x
   pub known : IsSettled settled (defined_by s) is_settled

@@ -6,7 +6,6 @@ ghost use Rattle.asm_model.specs.declared.statements.Statement.{Statement};
 ghost use Rattle.asm_model.specs.Kinds.{told_kind};
 ghost use Rattle.asm_model.specs.Labels.{defined_by};
 ghost use Rattle.asm_model.specs.LayoutKinds as layout;
-ghost use Rattle.asm_checks.specs.Checked.{IsThumbArea};
 
 use crate::labels::{has_place, names_here};
 use asm_expr::told::kind_if;
@@ -112,7 +111,7 @@ pub fn contents_kind(contents: Option<Contents>, thumb: bool, what: &What) -> Op
 
 /// The fault of an ENTRY in another state than its area's.
 pub fn state_kind(what: &What, area: Option<u32>, thumb: bool, thumb_area: bool) -> Option<LineKind>
-    ensures { (all : List Statement) → IsThumbArea all area thumb_area → result ≡ told_kind (layout.state_kinds area thumb what.now all) }
+    ensures { (all : List Statement) → thumb_area ≡ layout.in_thumb_area area all → result ≡ told_kind (layout.state_kinds area thumb what.now all) }
 {
     if area.is_none() {
         return None;

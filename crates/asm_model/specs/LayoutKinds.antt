@@ -251,6 +251,11 @@ is_true (Some b) = b
 abbrev pub is_thumb_area : ℕ → List Statement → Bool
 is_thumb_area area all = is_true (first_state area all)
 
+-- whether a line's area is one
+abbrev pub in_thumb_area : Option ℕ → List Statement → Bool
+in_thumb_area None all = false
+in_thumb_area (Some area) all = is_thumb_area area all
+
 -- an ENTRY in another state than its area's
 abbrev pub state_kinds : Option ℕ → Bool → What → List Statement → List LineKind
 state_kinds None thumb w all = []
