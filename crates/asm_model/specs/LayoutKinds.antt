@@ -18,7 +18,7 @@ use Rattle.asm_model.specs.declared.directives.DirectiveLine.TheVariants as line
 use Rattle.asm_model.specs.declared.statements.Statement.{Statement}
 use Rattle.asm_model.specs.declared.statements.What.{What}
 use Rattle.asm_model.specs.declared.statements.What.TheVariants as what
-use Rattle.asm_model.specs.AtLine.{Sight}
+use Rattle.asm_model.specs.declared.names.Names.{Names}
 use Rattle.asm_model.specs.Before.{thumb_behind, area_behind}
 use Rattle.asm_model.specs.Directives.{or_else}
 use Rattle.asm_model.specs.Forms.{same}
@@ -116,7 +116,7 @@ contents_behind (s ∷ before) = contents_from s.what (contents_behind before)
 -- ---- areas that are named again
 
 -- the exponent of an area's alignment, which is 2 unless more is said
-abbrev pub exponent : Sight → Option Expr → Result ℕ LineKind
+abbrev pub exponent : Names → Option Expr → Result ℕ LineKind
 exponent s None = Ok 2
 exponent s (Some e) = number_there s e
 
@@ -138,22 +138,22 @@ same_exponent (Ok m) (Ok n) = m == n
 same_exponent _ _ = true
 
 -- whether attributes of two lines agree; an alignment that isn't known is told by itself
-abbrev pub same_attributes : Sight → AreaAttributes → Sight → AreaAttributes → Bool
+abbrev pub same_attributes : Names → AreaAttributes → Names → AreaAttributes → Bool
 same_attributes s a t b =
     same_contents a.contents b.contents && same_mark a.read_only b.read_only && same_mark a.interwork b.interwork
     && same_mark a.halfword b.halfword && same_mark a.pic b.pic && same_mark a.reentrant b.reentrant
     && same_exponent (exponent s a.align) (exponent t b.align)
 
-abbrev pub again_with : List ℕ → Sight → AreaAttributes → Sight → What → Bool → Bool
+abbrev pub again_with : List ℕ → Names → AreaAttributes → Names → What → Bool → Bool
 again_with name s a t (what.Directive (line.Area other b)) rest = if same name other then not (same_attributes s a t b) || rest else rest
 again_with name s a t _ rest = rest
 
 -- whether an earlier line names the area with other attributes
-abbrev pub is_named_otherwise : List ℕ → Sight → AreaAttributes → List LaidLine → Bool
+abbrev pub is_named_otherwise : List ℕ → Names → AreaAttributes → List LaidLine → Bool
 is_named_otherwise name s a [] = false
 is_named_otherwise name s a (l ∷ before) = again_with name s a l.seen l.statement.what (is_named_otherwise name s a before)
 
-abbrev pub area_kinds : Sight → What → List LaidLine → List LineKind
+abbrev pub area_kinds : Names → What → List LaidLine → List LineKind
 area_kinds s (what.Directive (line.Area name a)) before =
     exponent_kinds (exponent s a.align) ++ kind_if (is_named_otherwise name s a before) BadOperand
 area_kinds s _ before = []
@@ -191,14 +191,15 @@ name_kinds s before =
 
 -- ---- names that depend on themselves
 
-abbrev pub equal_of : Defined → List (List ℕ × Expr)
-equal_of (Equal name e) = (name, e) ∷ []
-equal_of _ = []
+-- the name for an expression that a statement defines, where no statement before it defines the name
+abbrev pub first_equal : Defined → List Statement → List (List ℕ × Expr)
+first_equal (Equal name e) before = if list_any (same name) (names_behind before) then [] else (name, e) ∷ []
+first_equal _ before = []
 
--- the names for expressions, with their expressions
+-- the names for expressions, with their expressions, each by its first definition
 abbrev pub equals_in : List Statement → List (List ℕ × Expr)
 equals_in [] = []
-equals_in (s ∷ before) = equals_in before ++ equal_of (defined_by s)
+equals_in (s ∷ before) = equals_in before ++ first_equal (defined_by s) before
 
 abbrev pub is_settled_item : List (List ℕ × Expr) → List (List ℕ) → ExprItem → Bool
 is_settled_item equals settled (item.Name name) = not (list_any (λ e. same name e.0) equals) || list_any (same name) settled
@@ -223,9 +224,9 @@ settled_after (suc k) equals = settled_by equals (settled_after k equals) equals
 abbrev pub settled : List (List ℕ × Expr) → List (List ℕ)
 settled equals = settled_after (length equals) equals
 
-abbrev pub settled_kinds : List (List ℕ) → Defined → List LineKind
-settled_kinds settled (Equal name e) = kind_if (not (list_any (same name) settled)) Forward
-settled_kinds settled _ = []
+abbrev pub settled_kinds : List (List ℕ) → List (List ℕ × Expr) → List LineKind
+settled_kinds settled [] = []
+settled_kinds settled (e ∷ es) = kind_if (not (list_any (same e.0) settled)) Forward
 
 -- ---- the state of an area
 
@@ -266,7 +267,7 @@ state_kinds (Some area) thumb w all = kind_if (is_entry w && not (same_mark thum
 abbrev pub area_bytes : ℕ
 area_bytes = 2 ^ 24
 
-abbrev pub map_kinds : Sight → What → List LineKind
+abbrev pub map_kinds : Names → What → List LineKind
 map_kinds s (what.Directive (line.Map e)) = fault_kinds (number_there s e)
 map_kinds s (what.Directive (line.Field e)) = fault_kinds (number_there s e)
 map_kinds s _ = []
@@ -277,7 +278,7 @@ layout_kinds settled all l before =
     fault_kinds l.extent ++ map_kinds l.seen l.statement.what ++ no_area_kinds l.area (defined_by l.statement) l.statement.what
     ++ contents_kinds (contents_behind (l.statement ∷ statements_of before)) l.thumb l.statement.what
     ++ area_kinds l.seen l.statement.what before ++ name_kinds l.statement (statements_of before)
-    ++ settled_kinds settled (defined_by l.statement) ++ state_kinds l.area l.thumb l.statement.what all
+    ++ settled_kinds settled (first_equal (defined_by l.statement) (statements_of before)) ++ state_kinds l.area l.thumb l.statement.what all
     ++ kind_if (nat_lt area_bytes (l.offset + l.size)) TooMany
 
 -- a statement with the kind that is told of it
