@@ -9,14 +9,12 @@ use Rattle.asm_model.specs.declared.values.Value.{Value}
 use Rattle.asm_model.specs.declared.values.Value.TheVariants.{Number, Truth, Words, Place}
 use Rattle.asm_model.specs.declared.values.EvalFault.{EvalFault}
 use Rattle.asm_model.specs.declared.values.EvalFault.TheVariants as eval
-use Rattle.asm_model.specs.declared.names.Names.{Names}
 use Rattle.asm_model.specs.AtLine.{Sight, name_kinds, unless_told, value_at, kept_names, literal_or}
 use Rattle.asm_model.specs.Grammar.{Tree, postfix, IsSpelled}
 use Rattle.asm_model.specs.Kinds.{told_kind}
 use Rattle.asm_model.specs.Meaning.{meaning, IsValue, Evaluates}
 use Rattle.asm_names.specs.Sights.{SeesValue, SeesLiteral}
-use Rattle.asm_names.specs.Steps.{items_kinds, told_through, kept_items, items_entries, with_list, is_settled, place_or_forward, SeesKept}
-use Rattle.asm_names.proofs.EntryLemmas.{few_meaning}
+use Rattle.asm_names.specs.Steps.{items_kinds, told_through, kept_items, is_settled, place_or_forward, SeesKept}
 use Rattle.asm_names.proofs.ToldLemmas.{told_of_items}
 use Rattle.asm_names.proofs.ItemLemmas.{kinds_of_tree, kept_of_tree, kept_spelled}
 
@@ -29,12 +27,6 @@ told_there s items ps t d e = ap told_kind (sym (kinds_of_tree s ps t d) ∙ ap 
 pub sees_fault : (s : Sight) (items : List ExprItem) (k : LineKind) → told_through s None items ≡ Some k
     → SeesValue s items (Err (eval.Kind k))
 sees_fault s items k h ps t d e = ap (λ o. unless_told o (meaning s.known t)) (told_there s items ps t d e ∙ h)
-
-pub with_few : (n : Names) (items : List ExprItem) (names : Names) (r : Result Value EvalFault) → names ≡ with_list n (items_entries n.list items) → Evaluates names items r → Evaluates n items r
-with_few n items names r h ev ps t d e =
-    let same : meaning names t ≡ meaning n t =
-    ap (λ (m : Names). meaning m t) (h ∙ ap (λ is. with_list n (items_entries n.list is)) e) ∙ few_meaning n t in
-    subst (λ (m : Result Value LineKind). IsValue m r) same (ev ps t d e)
 
 pub sees_value : (s : Sight) (items : List ExprItem) (r : Result Value EvalFault) → told_through s None items ≡ None → Evaluates s.known items r → SeesValue s items r
 sees_value s items r h ev ps t d e =

@@ -9,11 +9,11 @@ ghost use Rattle.asm_names.specs.Search.{is_known as is_known_name};
 use crate::equals::{Equal, Order};
 use crate::index::{find, index_of};
 use crate::search::{settle_next, start};
+use indexmap::IndexMap;
 use sdt_fault::{NoMemory, Text};
 use std::alloc::Global;
-use std::collections::BTreeMap;
 
-fn is_known(index: &BTreeMap<Text, u32>, known: &[bool], name: &Text) -> bool
+fn is_known(index: &IndexMap<&[u8], u32>, known: &[bool], name: &Text) -> bool
     requires { IsWithin index.now (length known.now) }
     ensures { result ≡ is_known_name index.now known.now name.now }
 {
@@ -27,7 +27,7 @@ fn is_known(index: &BTreeMap<Text, u32>, known: &[bool], name: &Text) -> bool
 fn marks_of(
     alloc: Global,
     equals: &[Equal<'_>],
-    index: &BTreeMap<Text, u32>,
+    index: &IndexMap<&[u8], u32>,
     known: &[bool],
 ) -> Result<Vec<bool>, NoMemory>
     requires { IsWithin index.now (length known.now) }
