@@ -71,6 +71,7 @@ number_in (Err e) = Err e
 -- whether a value is the literal, or none is known for want of memory
 abbrev pub is_settled : Result Value EvalFault → Bool
 is_settled (Ok (Number n)) = true
+is_settled (Ok (Place s p)) = true
 is_settled (Err eval.NoMemory) = true
 is_settled _ = false
 

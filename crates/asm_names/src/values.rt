@@ -59,6 +59,7 @@ fn is_settled(value: &Result<Value, EvalFault>) -> bool
 {
     match value {
         Ok(Value::Number(_)) => true,
+        Ok(Value::Place { .. }) => true,
         Ok(_) => false,
         Err(EvalFault::NoMemory) => true,
         Err(EvalFault::Kind(_)) => false,
