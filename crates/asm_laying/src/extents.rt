@@ -139,11 +139,11 @@ fn pseudo_extent(
     match line {
         PseudoLine::LoadConstant { value, .. } => {
             let literal = literal_there(alloc, value, place)?;
-            Ok(loading_of(place.thumb, literal))
+            Ok(loading_of(place.seen.thumb, literal))
         }
-        PseudoLine::Address { .. } => Ok(Ok(instruction(place.thumb))),
+        PseudoLine::Address { .. } => Ok(Ok(instruction(place.seen.thumb))),
         PseudoLine::LongAddress { .. } => Ok(Ok(block(4, 8))),
-        PseudoLine::NoOperation => Ok(Ok(instruction(place.thumb))),
+        PseudoLine::NoOperation => Ok(Ok(instruction(place.seen.thumb))),
     }
 }
 
@@ -285,7 +285,7 @@ fn directive_extent(
     ensures { IfOk result (λ taken. IsTaken (sight_of place.now) (kinds.Directive line.now) taken) }
 {
     match line {
-        DirectiveLine::Entry => Ok(plainly(alloc, Ok(entry(place.thumb)))),
+        DirectiveLine::Entry => Ok(plainly(alloc, Ok(entry(place.seen.thumb)))),
         DirectiveLine::Dcd { values } => Ok(plainly(
             alloc,
             Ok(items(4, 4, values.as_slice().len())),

@@ -16,7 +16,7 @@ use crate::values::{map_after, said_number, value_there};
 use asm_model::{LaidName, Statement, Value};
 use asm_names::defining::{Defines, defined_by, own_entry};
 use asm_names::made::equal_entry;
-use asm_names::{KnownNames, Place};
+use asm_names::{KnownNames, Place, Seen};
 use asm_offsets::Extent;
 use sdt_fault::kinds::LineKind;
 use sdt_fault::{List as Listed, NoMemory, Text};
@@ -74,12 +74,12 @@ fn equal_there(
     defines: &Defines<'_>,
 ) -> Result<Option<LaidName>, NoMemory>
     requires { DefinedRead (defined_of defines.now) }
-    ensures { IfOk result (λ entry. one_entry entry ≡ equal_names declared.now place.now.area (sight_of place.now) (defined_of defines.now)) }
+    ensures { IfOk result (λ entry. one_entry entry ≡ equal_names declared.now place.now.seen.area (sight_of place.now) (defined_of defines.now)) }
 {
     match defines {
         Defines::Equal(name, e) => {
             let value = value_there(alloc, e, place)?;
-            equal_with(alloc, declared, place.area, name, value)
+            equal_with(alloc, declared, place.seen.area, name, value)
         }
         _ => Ok(None),
     }
@@ -97,15 +97,15 @@ fn found_at(
     requires { IsSaid statement.now }
     ensures { IfOk result (λ found. IsFound declared.now spot.now.area spot.now.map (sight_shown declared.now names.now (one_entry (option_copied own.entry)) spot.now) statement.now found) }
 {
-    let place = Place {
-        known: names,
-        declared,
+    let seen = Seen {
+        names,
         own,
         area: spot.area,
         offset: spot.offset,
         map: spot.map,
         thumb: spot.thumb,
     };
+    let place = Place { seen, declared };
     let defines = defined_by(statement);
     let equal = equal_there(alloc, declared, &place, &defines)?;
     let Taken { extent, strings } = extent_of(alloc, &place, &statement.what)?;

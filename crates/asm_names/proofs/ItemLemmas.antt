@@ -8,10 +8,11 @@ use Rattle.asm_model.specs.declared.exprs.Part.TheVariants as part
 use Rattle.asm_model.specs.declared.exprs.UnaryOp.{UnaryOp}
 use Rattle.asm_model.specs.declared.exprs.UnaryOp.TheVariants as unary
 use Rattle.asm_model.specs.declared.values.Value.TheVariants.{Place}
-use Rattle.asm_model.specs.AtLine.{Sight, is_in, item_kinds, asked_kinds, name_kinds, kept_name, kept_names}
+use Rattle.asm_model.specs.AtLine.{Sight, is_in, unknown_kind, item_kinds, asked_kinds, name_kinds, kept_name, kept_names}
 use Rattle.asm_model.specs.Grammar.{Tree, Leaf, Before, Between, postfix, plain, Spells, operand, of_name, before, grouped, between, tighter, IsSpelled}
 use Rattle.asm_names.specs.Steps.{operator_first, name_asked, item_asked, items_kinds, kept_before, kept_items}
 use Rattle.asm_model.proofs.LateLemmas.{plain_operand}
+use Rattle.asm_model.proofs.LineLemmas.{both_empty}
 
 -- ---- operands
 
@@ -167,6 +168,32 @@ pub kept_of_tree : (s : Sight) (ps : List Part) (t : Tree) → IsSpelled ps t �
 kept_of_tree s ps t d =
     ap (kept_items s) (sym (append-nil (postfix t))) ∙ kept_pass s t (spelled_plain 6 ps t d) []
     ∙ append-nil (tree_kept s t []) ∙ kept_whole s t [] refl
+
+-- ---- names that are known
+
+kept_known : (s : Sight) (i : ExprItem) → item_kinds s i ≡ [] → kept_name s i ≡ i
+kept_known s (item.Name q) h = by_test (is_in s.known.list q) h
+  where
+    by_test : (b : Bool) → cond b [] (unknown_kind s q ∷ []) ≡ [] → cond b (item.Name q) (item.Constant (Place q 0)) ≡ item.Name q
+    by_test true k = refl
+    by_test false k = absurd (cc)
+kept_known s i h = refl
+
+-- a tree whose names have no fault stays what it is
+pub kept_same : (s : Sight) (t : Tree) → name_kinds s t ≡ [] → kept_names s t ≡ t
+kept_same s (Leaf i) h = ap Leaf (kept_known s i h)
+kept_same s (Before unary.Size (Leaf i)) h = refl
+kept_same s (Before unary.Defined (Leaf i)) h = refl
+kept_same s (Before op (Leaf i)) h = ap (λ (x : ExprItem). Before op (Leaf x)) (kept_known s i h)
+kept_same s (Before unary.Size (Before o t)) h = ap (Before unary.Size) (kept_same s (Before o t) h)
+kept_same s (Before unary.Size (Between o t u)) h = ap (Before unary.Size) (kept_same s (Between o t u) h)
+kept_same s (Before unary.Defined (Before o t)) h = ap (Before unary.Defined) (kept_same s (Before o t) h)
+kept_same s (Before unary.Defined (Between o t u)) h = ap (Before unary.Defined) (kept_same s (Between o t u) h)
+kept_same s (Before op (Before o t)) h = ap (Before op) (kept_same s (Before o t) h)
+kept_same s (Before op (Between o t u)) h = ap (Before op) (kept_same s (Between o t u) h)
+kept_same s (Between op t u) h =
+    let none = both_empty (name_kinds s t) (name_kinds s u) h in
+    λ i. Between op (kept_same s t none.0 i) (kept_same s u none.1 i)
 
 -- ---- a tree in which names stay names is spelled by other parts
 

@@ -1,8 +1,5 @@
-pub mod AgreeLemmas
 pub mod EntryLemmas
 pub mod ItemLemmas
-pub mod KnownLemmas
-pub mod PlaceLemmas
 pub mod ToldLemmas
 pub mod ValueLemmas
 pub mod CallLemmas

@@ -1,5 +1,4 @@
 -- What the clauses of the crate cite.
-pub mod Indexed
 pub mod Sights
 pub mod Steps
 pub mod Equals

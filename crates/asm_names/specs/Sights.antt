@@ -1,6 +1,6 @@
 -- What an expression sees at its line, and the answers of evaluations there. ARM SDT 2.50 Reference Guide, chapter on
 -- the assembler; which names a line knows is this project's.
-use Rattle.std.specs.Prelude.{◌≡◌, ℕ, List, ◌++◌, Result, Ok, Err}
+use Rattle.std.specs.Prelude.{◌≡◌, ℕ, List, Result, Ok, Err}
 use Rattle.std.specs.Option.{option_copied}
 use Rattle.sdt_fault.specs.declared.kinds.LineKind.{LineKind}
 use Rattle.asm_model.specs.declared.exprs.ExprItem.{ExprItem}
@@ -12,14 +12,15 @@ use Rattle.asm_model.specs.AtLine.{Sight, value_at, literal_at}
 use Rattle.asm_model.specs.Grammar.{Tree, postfix, IsSpelled}
 use Rattle.asm_model.specs.Meaning.{IsValue}
 use Rattle.asm_model.specs.Extents.{as_number}
-use Rattle.asm_names.specs.Steps.{one_entry}
+use Rattle.asm_expr.specs.Places.{one_entry}
+use Rattle.asm_expr.specs.Seeing.{seen_names}
 use Rattle.asm_names.specs.declared.places.Place.{Place}
 
 -- what an expression sees at its place
 abbrev pub sight_of : Place → Sight
 sight_of p = record {
-  known = record { list = p.known.now ++ one_entry (option_copied p.own); area = p.area; offset = p.offset; map = p.map; thumb = p.thumb };
-  unsized = one_entry (option_copied p.own);
+  known = seen_names p.seen;
+  unsized = one_entry (option_copied p.seen.own);
   all = p.declared.now;
 }
 

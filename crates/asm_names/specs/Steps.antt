@@ -11,13 +11,12 @@ use Rattle.asm_model.specs.declared.values.Value.TheVariants.{Number, Place}
 use Rattle.asm_model.specs.declared.values.EvalFault.{EvalFault}
 use Rattle.asm_model.specs.declared.values.EvalFault.TheVariants as eval
 use Rattle.asm_model.specs.declared.exprs.Part.{Part}
-use Rattle.asm_model.specs.declared.names.LaidName.{LaidName}
-use Rattle.asm_model.specs.declared.names.Names.{Names}
 use Rattle.asm_model.specs.AtLine.{Sight, value_kinds, size_kinds, defined_kinds, kept_name, kept_names, value_at}
 use Rattle.asm_model.specs.FaultSets.{first_told}
 use Rattle.asm_model.specs.Kinds.{told_kind}
 use Rattle.asm_model.specs.Grammar.{Tree, postfix, IsSpelled}
-use Rattle.asm_model.specs.Meaning.{named_in, IsValue}
+use Rattle.asm_model.specs.Meaning.{IsValue}
+pub use Rattle.asm_expr.specs.Places.{one_entry}
 
 -- ---- faults of names
 
@@ -61,35 +60,6 @@ abbrev pub kept_items : Sight → List ExprItem → List ExprItem
 kept_items s [] = []
 kept_items s (i ∷ is) = kept_before s (operator_first is) i ∷ kept_items s is
 
--- ---- entries that count
-
-abbrev pub one_entry : Option LaidName → List LaidName
-one_entry None = []
-one_entry (Some n) = n ∷ []
-
--- the entry of a value's symbol
-abbrev pub symbol_entry : List LaidName → Value → List LaidName
-symbol_entry known (Place s p) = one_entry (named_in s known)
-symbol_entry known _ = []
-
--- an entry, and that of its value's symbol
-abbrev pub with_symbol : List LaidName → Option LaidName → List LaidName
-with_symbol known None = []
-with_symbol known (Some n) = n ∷ symbol_entry known n.value
-
-abbrev pub item_entries : List LaidName → ExprItem → List LaidName
-item_entries known (item.Name q) = with_symbol known (named_in q known)
-item_entries known (item.Constant v) = symbol_entry known v
-item_entries known _ = []
-
-abbrev pub items_entries : List LaidName → List ExprItem → List LaidName
-items_entries known [] = []
-items_entries known (i ∷ is) = item_entries known i ++ items_entries known is
-
--- the names of a sight, of which the list has these
-abbrev pub with_list : Names → List LaidName → Names
-with_list names list = record names { list = list }
-
 -- ---- numbers and literals
 
 -- a value as a number
@@ -101,6 +71,7 @@ number_in (Err e) = Err e
 -- whether a value is the literal, or none is known for want of memory
 abbrev pub is_settled : Result Value EvalFault → Bool
 is_settled (Ok (Number n)) = true
+is_settled (Ok (Place s p)) = true
 is_settled (Err eval.NoMemory) = true
 is_settled _ = false
 

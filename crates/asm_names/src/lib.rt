@@ -5,13 +5,11 @@
 pub mod copies;
 pub mod defining;
 mod dues;
-pub mod entries;
 mod equals;
 pub mod faults;
 pub mod final_values;
 mod index;
 pub mod keeping;
-pub mod known;
 pub mod lines;
 pub mod listing;
 pub mod made;
@@ -24,9 +22,9 @@ pub mod values;
 
 pub use crate::equals::{Equal, Order};
 pub use crate::final_values::final_value;
-pub use crate::known::KnownNames;
 pub use crate::lines::PlacedLine;
 pub use crate::names::final_names;
 pub use crate::ordering::order_of;
 pub use crate::places::Place;
-pub use crate::values::{literal_at, number_at, value_at, value_with};
+pub use crate::values::{literal_at, number_at, value_at};
+pub use asm_expr::{KnownNames, Seen};

@@ -5,7 +5,7 @@ ghost use Rattle.std.specs.Option.{option_copied};
 ghost use Rattle.asm_model.specs.Entries as entries;
 ghost use Rattle.asm_model.specs.Labels.{imported_in};
 
-use crate::known::KnownNames;
+use asm_expr::KnownNames;
 use asm_model::{DirectiveLine, LaidName, Value, What};
 use sdt_fault::{NoMemory, Text};
 use std::alloc::Global;

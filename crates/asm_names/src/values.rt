@@ -1,45 +1,17 @@
 //! Values of expressions by what is known at their line.
 
 ghost use Rattle.std.specs.Prelude.{◌≡◌};
-ghost use Rattle.asm_model.specs.Meaning.{Evaluates};
 ghost use Rattle.asm_names.specs.Sights.{sight_of, SeesValue, SeesNumber, SeesLiteral};
 ghost use Rattle.asm_names.specs.Steps as steps;
 
-use crate::entries::names_for;
 use crate::faults::names_fault;
 use crate::keeping::kept_items;
 use crate::places::Place;
-use asm_expr::{NameIndex, evaluate, evaluate_indexed};
-use asm_model::{EvalFault, Expr, Names, Value};
+use asm_expr::evaluate;
+use asm_model::{EvalFault, Expr, Value};
 use sdt_fault::List;
 use sdt_fault::kinds::LineKind;
 use std::alloc::Global;
-
-/// From so many entries on an index finds names.
-const MANY: usize = 16;
-
-/// The value of an expression with these names.
-fn evaluated(alloc: Global, e: &Expr, names: &Names) -> Result<Value, EvalFault>
-    ensures { Evaluates names.now e.now.items result }
-{
-    let list = names.list.as_slice();
-    if list.len() < MANY {
-        return evaluate(alloc, e, names);
-    }
-    if list.len() > 0xFFFF_FFFF {
-        return evaluate(alloc, e, names);
-    }
-    let index = NameIndex::of(alloc, list)?;
-    evaluate_indexed(alloc, e, names, &index)
-}
-
-/// The value of an expression with the names that its line knows, whatever the source has besides.
-pub fn value_with(alloc: Global, e: &Expr, place: &Place<'_>) -> Result<Value, EvalFault>
-    ensures { Evaluates (sight_of place.now).known e.now.items result }
-{
-    let names = names_for(alloc, place, e.items.as_slice())?;
-    evaluated(alloc, e, &names)
-}
 
 /// The value of an expression by what is known at its line, or the kind of its fault: Forward for a name that the
 /// source defines and the line doesn't know, and UnknownWord for one that nothing defines.
@@ -49,7 +21,7 @@ pub fn value_at(alloc: Global, e: &Expr, place: &Place<'_>) -> Result<Value, Eva
     if let Some(kind) = names_fault(place, e.items.as_slice()) {
         return Err(EvalFault::Kind(kind));
     }
-    value_with(alloc, e, place)
+    evaluate(alloc, e, &place.seen)
 }
 
 /// A value as a number.
@@ -87,6 +59,7 @@ fn is_settled(value: &Result<Value, EvalFault>) -> bool
 {
     match value {
         Ok(Value::Number(_)) => true,
+        Ok(Value::Place { .. }) => true,
         Ok(_) => false,
         Err(EvalFault::NoMemory) => true,
         Err(EvalFault::Kind(_)) => false,

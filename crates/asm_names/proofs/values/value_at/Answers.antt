@@ -12,6 +12,6 @@ returns-in-Some c =
 
 pub returns : goal.returns
 returns c =
-    sees_value (sight_of c.args.place.now) c.args.e.now.items c.value_with.result
+    sees_value (sight_of c.args.place.now) c.args.e.now.items c.evaluate.result
     (ap (λ (is : List ExprItem). told_through (sight_of c.args.place.now) None is) (sym c.as_slice.ensures) ∙ sym c.in_default.ensures)
-    c.value_with.ensures
+    c.evaluate.ensures

@@ -3,13 +3,13 @@
 ghost use Rattle.std.specs.Prelude.{◌≡◌, ◌∷◌, ◌++◌, ◌-◌, ◌<◌, ◌^◌, [], ℕ, List, length, OnOk, OnErr};
 ghost use Rattle.std.specs.Option.{option_copied};
 ghost use Rattle.asm_model.specs.Meaning.{named_in};
-ghost use Rattle.asm_expr.specs.Evaluating.{entry as entry_at};
-ghost use Rattle.asm_expr.specs.Places.{number_in, or_number};
+ghost use Rattle.asm_expr.specs.Known.{place_in};
+ghost use Rattle.asm_expr.specs.Places.{entry as entry_at, one_entry, or_number};
 
 use asm_model::LaidName;
+use indexmap::IndexMap;
 use sdt_fault::{NoMemory, Text};
 use std::alloc::Global;
-use std::collections::BTreeMap;
 use std::marker::Model;
 
 /// Names in an order, found by an index. Of entries with one name the first is found.
@@ -17,13 +17,13 @@ use std::marker::Model;
 pub struct KnownNames {
     entries: Vec<LaidName>,
     /// The place of the first entry with each name.
-    places: BTreeMap<Text, u32>,
+    places: IndexMap<Text, u32>,
 }
 
 impl Model for KnownNames {
     ghost use Rattle.std.specs.Prelude.{List};
     ghost use Rattle.asm_model.specs.declared.names.LaidName.{LaidName};
-    ghost use Rattle.asm_names.specs.Indexed.{IsIndexed};
+    ghost use Rattle.asm_expr.specs.Known.{IsIndexed};
 
     ghost Value = { List LaidName };
 
@@ -32,39 +32,27 @@ impl Model for KnownNames {
     ghost invariant = { λ a. IsIndexed a.entries.items a.places };
 }
 
-/// The place of a name.
-fn place_in(places: &BTreeMap<Text, u32>, name: &Text) -> Option<u32>
-    ensures { result ≡ number_in places.now name.now }
-{
-    places.get(name).copied()
-}
-
 /// Notes the place of a name that has none yet. An `Err` changes nothing.
-fn note(places: &mut BTreeMap<Text, u32>, name: Text, place: u32) -> Result<(), NoMemory>
-    ensures ok { OnOk result ((q : List ℕ) → number_in places.new q ≡ or_number (number_in places.old q) name place q) }
-    ensures err { OnErr result ((q : List ℕ) → number_in places.new q ≡ number_in places.old q) }
+fn note(places: &mut IndexMap<Text, u32>, name: Text, place: u32) -> Result<(), NoMemory>
+    ensures ok { OnOk result ((q : List ℕ) → place_in places.new q ≡ or_number (place_in places.old q) name place q) }
+    ensures err { OnErr result ((q : List ℕ) → place_in places.new q ≡ place_in places.old q) }
 {
-    match place_in(places, &name) {
-        Some(_) => Ok(()),
-        None => {
-            places.insert(name, place)?;
-            Ok(())
-        }
-    }
+    places.entry(name)?.or_insert(place);
+    Ok(())
 }
 
 /// One entry more, with its place. An `Err` changes nothing.
 fn put(
     alloc: Global,
     entries: &mut Vec<LaidName>,
-    places: &mut BTreeMap<Text, u32>,
+    places: &mut IndexMap<Text, u32>,
     entry: LaidName,
     place: u32,
 ) -> Result<(), NoMemory>
     ensures more { OnOk result (entries.new.items ≡ entries.old.items ++ entry ∷ []) }
-    ensures noted { OnOk result ((q : List ℕ) → number_in places.new q ≡ or_number (number_in places.old q) entry.name place q) }
+    ensures noted { OnOk result ((q : List ℕ) → place_in places.new q ≡ or_number (place_in places.old q) entry.name place q) }
     ensures kept { OnErr result (entries.new.items ≡ entries.old.items) }
-    ensures unchanged { OnErr result ((q : List ℕ) → number_in places.new q ≡ number_in places.old q) }
+    ensures unchanged { OnErr result ((q : List ℕ) → place_in places.new q ≡ place_in places.old q) }
 {
     let name = entry.name.try_clone(alloc)?;
     entries.push(entry)?;
@@ -92,7 +80,7 @@ impl KnownNames {
     {
         KnownNames {
             entries: Vec::new(alloc),
-            places: BTreeMap::new(alloc),
+            places: IndexMap::new(alloc),
         }
     }
 
@@ -112,7 +100,8 @@ impl KnownNames {
     pub fn find(&self, name: &Text) -> Option<&LaidName>
         ensures { option_copied result ≡ named_in name.now self.now }
     {
-        entry_in(self.entries.as_slice(), place_in(&self.places, name))
+        let place = self.places.get(name).copied();
+        entry_in(self.entries.as_slice(), place)
     }
 
     /// The entries, in the order in which they were added.
@@ -136,4 +125,21 @@ impl KnownNames {
         let KnownNames { entries, .. } = self;
         entries
     }
+}
+
+/// One entry more, where there is one. No more entries than numbers count as want of memory.
+pub fn add_entry(
+    alloc: Global,
+    names: &mut KnownNames,
+    entry: Option<LaidName>,
+) -> Result<(), NoMemory>
+    ensures { OnOk result (names.new ≡ names.old ++ one_entry entry) }
+{
+    let Some(entry) = entry else {
+        return Ok(());
+    };
+    if names.len() >= 0xFFFF_FFFF {
+        return Err(NoMemory);
+    }
+    names.add(alloc, entry)
 }
