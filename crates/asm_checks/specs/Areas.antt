@@ -1,8 +1,5 @@
 -- The areas that lines name, by the attributes of the first such line. This project's.
 use Rattle.std.specs.Prelude.{◌≡◌, ℕ, List, ◌&&◌, not, Bool, false, Option, Some, None, if◌then◌else◌, Result, Ok, Err}
-use Rattle.std.specs.Ordering.{nat_cmp}
-use Rattle.std.specs.Cmp.Lexicographic.{slice_cmp}
-use Rattle.std.specs.BTreeMap.{BTreeMap, get}
 use Rattle.sdt_fault.specs.declared.kinds.LineKind.{LineKind}
 use Rattle.asm_model.specs.declared.directives.AreaAttributes.{AreaAttributes}
 use Rattle.asm_model.specs.declared.directives.DirectiveLine.TheVariants as line
@@ -12,13 +9,14 @@ use Rattle.asm_model.specs.AtLine.{Sight}
 use Rattle.asm_model.specs.Forms.{same}
 use Rattle.asm_model.specs.Laid.{LaidLine}
 use Rattle.asm_model.specs.LayoutKinds.{exponent, same_contents, same_mark, same_exponent, is_named_otherwise}
+use Rattle.asm_sets.specs.Sets.{found_in}
 use Rattle.asm_checks.specs.declared.areas.AreaMarks.{AreaMarks}
 
 abbrev pub Areas : Type 0
-Areas = BTreeMap (List ℕ) AreaMarks
+Areas = List (List ℕ × AreaMarks)
 
 abbrev pub marks_in : Areas → List ℕ → Option AreaMarks
-marks_in areas q = get (slice_cmp nat_cmp) areas q
+marks_in areas q = found_in q areas
 
 -- whether attributes with an exponent agree with those of an area
 abbrev pub agrees : AreaAttributes → Result ℕ LineKind → AreaMarks → Bool

@@ -7,10 +7,10 @@ use Rattle.asm_model.specs.declared.statements.Statement.{Statement}
 use Rattle.asm_model.specs.Forms.{same}
 use Rattle.asm_model.specs.Labels.{Defined, Equal, defined_by}
 use Rattle.asm_model.specs.Laid.{LaidLine, statements_of}
-use Rattle.asm_model.specs.LayoutKinds.{is_entry, no_area_kinds, contents_kinds, contents_behind, area_kinds, name_kinds, settled_kinds, in_thumb_area, state_kinds}
+use Rattle.asm_model.specs.LayoutKinds.{is_entry, no_area_kinds, contents_kinds, contents_behind, area_kinds, name_kinds, names_behind, settled_kinds, in_thumb_area, state_kinds}
 use Rattle.asm_checks.specs.declared.checks.Checks.{Checks}
 use Rattle.asm_checks.specs.Areas.{AreAreasOf, IsExponent}
-use Rattle.asm_checks.specs.Names.{AreNamesOf}
+use Rattle.asm_sets.specs.Sets.{HaveSame}
 
 -- the kinds of a line behind others that need no values but an exponent, where these names are settled and the source has
 -- these statements
@@ -25,7 +25,7 @@ checked_kinds settled all l before =
 pub record IsChecked (before : List LaidLine) (c : Checks) : Type 0 where
   pub contents : c.contents ≡ contents_behind (statements_of before)
   pub areas : AreAreasOf before c.areas
-  pub names : AreNamesOf (statements_of before) c.names
+  pub names : HaveSame c.names (names_behind (statements_of before))
   pub entry : c.has_entry ≡ list_any (λ (s : Statement). is_entry s.what) (statements_of before)
 
 -- whether the name of a statement for an expression is among these; of other statements nothing is said

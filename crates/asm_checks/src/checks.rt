@@ -15,10 +15,10 @@ use crate::names::is_repeated;
 use crate::places::{contents_from, contents_kind, is_entry, no_area_kind, state_kind};
 use asm_expr::told::{first_told, kind_if};
 use asm_model::{Contents, Statement, What};
+use asm_sets::{NameMap, NameSet};
+use sdt_fault::NoMemory;
 use sdt_fault::kinds::LineKind;
-use sdt_fault::{NoMemory, Text};
 use std::alloc::Global;
-use std::collections::{BTreeMap, BTreeSet};
 
 /// What lines leave for the checks of those behind them.
 #[derive(Debug, Drop)]
@@ -27,9 +27,9 @@ pub struct Checks {
     /// The contents of the area in which the last line stands.
     contents: Option<Contents>,
     /// The attributes of each area.
-    areas: BTreeMap<Text, AreaMarks>,
+    areas: NameMap<AreaMarks>,
     /// The names that are defined or imported.
-    names: BTreeSet<Text>,
+    names: NameSet,
     has_entry: bool,
 }
 
@@ -74,8 +74,8 @@ impl Checks {
         Checks {
             alloc,
             contents: None,
-            areas: BTreeMap::new(alloc),
-            names: BTreeSet::new(alloc),
+            areas: NameMap::new(alloc),
+            names: NameSet::new(alloc),
             has_entry: false,
         }
     }

@@ -13,7 +13,7 @@ ghost use Rattle.source_model.specs.Contexts.{and_then, value_of};
 ghost use Rattle.source_model.specs.Units as units;
 ghost use Rattle.asm_instructions.specs.Scenes.{context_of};
 
-use crate::scenes::{Scene, is_symbol, stands_at};
+use crate::scenes::{Scene, stands_at};
 use crate::values::{from_pc, value_there};
 use arm_isa::ArmInstr;
 use asm_model::{Expr, LaidName, Value};
@@ -114,7 +114,7 @@ pub fn has_symbol(scene: &Scene<'_>, symbol: &Text) -> bool
     if is_settled(scene, symbol) {
         return true;
     }
-    is_symbol(scene, symbol)
+    scene.symbols.has(symbol)
 }
 
 fn place_displacement(scene: &Scene<'_>, symbol: &Text, plus: u32) -> Result<u32, LineKind>

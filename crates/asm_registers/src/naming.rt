@@ -12,32 +12,26 @@ use crate::numbers::register_in;
 use asm_expr::told::first_told;
 use asm_model::Register;
 use asm_names::KnownNames;
+use asm_sets::{NameMap, NameSet};
 use sdt_fault::Text;
 use sdt_fault::kinds::LineKind;
-use std::collections::{BTreeMap, BTreeSet};
 
 /// What the names of a line's registers are judged by.
 #[derive(Clone, Copy, Debug)]
 pub struct Scope<'a> {
     /// All names for registers of the source.
-    pub all: &'a BTreeSet<Text>,
+    pub all: &'a NameSet,
     /// All other names of the source; of their entries the names alone count.
     pub declared: &'a KnownNames,
     /// The registers that names stand for at the line.
-    pub known: &'a BTreeMap<Text, u8>,
-}
-
-fn is_register_name(all: &BTreeSet<Text>, name: &Text) -> bool
-    ensures { result ≡ list_any (same name.now) all.now.keys }
-{
-    all.contains(name)
+    pub known: &'a NameMap<u8>,
 }
 
 /// Why a name stands for no register.
 fn no_register(scope: &Scope<'_>, name: &Text) -> LineKind
-    ensures { result ≡ registers.no_register scope.now.all.now.keys scope.now.declared.now name.now }
+    ensures { result ≡ registers.no_register scope.now.all.now scope.now.declared.now name.now }
 {
-    if is_register_name(scope.all, name) {
+    if scope.all.has(name) {
         return LineKind::Forward;
     }
     if scope.declared.find(name).is_some() {
@@ -48,7 +42,7 @@ fn no_register(scope: &Scope<'_>, name: &Text) -> LineKind
 
 /// The fault of a name.
 fn name_kind(scope: &Scope<'_>, name: &Text) -> Option<LineKind>
-    ensures { result ≡ told_kind (registers.kinds_unless (registers.register_in name.now scope.now.known.now.entries) (registers.no_register scope.now.all.now.keys scope.now.declared.now name.now)) }
+    ensures { result ≡ told_kind (registers.kinds_unless (registers.register_in name.now scope.now.known.now) (registers.no_register scope.now.all.now scope.now.declared.now name.now)) }
 {
     if register_in(scope.known, name).is_some() {
         return None;
