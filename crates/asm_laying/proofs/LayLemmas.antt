@@ -17,7 +17,7 @@ use Rattle.asm_model.specs.Kinds.{earlier, told_kind}
 use Rattle.asm_model.specs.Says.{mapped}
 use Rattle.asm_model.specs.Before.{area_behind, is_thumb_label}
 use Rattle.asm_model.specs.Entries.{equal_entry}
-use Rattle.asm_model.specs.Extents.{Extent, Block, Padding, Loading, Pool, number_there, tree_value, extent_of}
+use Rattle.asm_model.specs.Extents.{Extent, Block, Padding, Loading, Pool, number_there, value_there, tree_value, extent_of}
 use Rattle.asm_model.specs.Labels.{Defined, Unnamed, Label, Equal, MapField, RegisterName, defined_by, imported_in, imported_entries}
 use Rattle.asm_model.specs.Laid.{LaidLine, statements_of, lines_of, taken, pieces_of, map_behind, map_from, added, set_or, offset_behind, tree_equated, definition_of, line_behind, imported_lines, sight_behind, laid_behind}
 use Rattle.asm_model.specs.LayoutKinds.{fault_kinds, kind_if, map_kinds, area_bytes}
@@ -30,12 +30,13 @@ use Rattle.asm_offsets.specs.Coded.{extent_of_code, IsExtent}
 use Rattle.asm_offsets.specs.Running.{Standing, piece, IsStanding, IsBehind, IsPlaced, IsThere, entry_behind}
 use Rattle.asm_offsets.specs.Laws.{ExtentsArePlaceable}
 use Rattle.asm_expr.specs.Places.{number_in}
+use Rattle.layout_laws.specs.Final.{IsEqualKnown}
 use Rattle.asm_laying.specs.declared.finding.Spot.{Spot}
 use Rattle.asm_laying.specs.declared.laying.Laying.{Laying}
 use Rattle.asm_laying.specs.declared.laying.Placed.{Placed}
 use Rattle.asm_names.specs.Defining.{own_entry}
 use Rattle.asm_names.specs.Steps.{one_entry}
-use Rattle.asm_laying.specs.Laying.{IsAt, IsSpot, AreNeeded, Reaches, OkExtent, equal_names, told_of, IsLaid, IsPlaced as IsPlacedLine, Tells}
+use Rattle.asm_laying.specs.Laying.{IsAt, IsSpot, AreNeeded, Reaches, OkExtent, equal_names, still_known, told_of, IsLaid, IsPlaced as IsPlacedLine, Tells}
 use Rattle.asm_laying.specs.Reading.{most_bytes, capped, all_capped, coded, map_after, said_number, string_marks}
 use Rattle.asm_laying.proofs.SeeLemmas.{own_there}
 
@@ -235,6 +236,29 @@ names_more d s before e own equal h o q =
     ∙ ap (λ x. seen ++ x) (sym (adds d s before laid.size (defined_by s))) in
     ap (λ x. x ++ import) one ∙ sym (imports d s before (laid.line ∷ lines_of before) (imported_in s.what))
 
+-- ---- names for expressions that are known
+
+made_known : (make : Value → LaidName) (n : LaidName) (r : Result Value LineKind) → n ∷ [] ≡ made_name make r → (v : Value) × (r ≡ Ok v)
+made_known make n (Ok v) h = (v, refl)
+made_known make n (Err k) h = absurd (cc)
+
+equal_known : (names : List LaidName) (area : Option ℕ) (s : Sight) (x : Defined) (equal : Option LaidName) (known : Bool) → one_entry equal ≡ equal_names names area s x
+    → still_known known x equal ≡ true → IsEqualKnown s x
+equal_known names area s (Equal name e) None known h k = absurd (cc)
+equal_known names area s (Equal name e) (Some n) known h k = made_known (equal_entry names area name) n (value_there s e) h
+equal_known names area s Unnamed equal known h k = tt
+equal_known names area s (Label name) equal known h k = tt
+equal_known names area s (MapField name) equal known h k = tt
+equal_known names area s (RegisterName name r) equal known h k = tt
+
+known_before : (x : Defined) (equal : Option LaidName) (known : Bool) → still_known known x equal ≡ true → known ≡ true
+known_before (Equal name e) None known h = absurd (cc)
+known_before (Equal name e) (Some n) known h = h
+known_before Unnamed equal known h = h
+known_before (Label name) equal known h = h
+known_before (MapField name) equal known h = h
+known_before (RegisterName name r) equal known h = h
+
 -- ---- a line more
 
 fits_low : (a b c d : ℕ) → a ≡ c → b ≡ d → a + b ≤ 2 ^ 24 → nat_lt area_bytes (c + d) ≡ false
@@ -244,7 +268,7 @@ fits_not : (a b c d : ℕ) → a ≡ c → b ≡ d → 2 ^ 24 < a + b → nat_lt
 fits_not a b c d h g f = lt-ltb area_bytes (c + d) (omega arith)
 
 pub told_too_large : (d : List LaidName) (s : Statement) (before : List LaidLine) (spot : Spot) (x : Code) (map : ℕ) (equal : Option LaidName) → IsSpot s before spot
-    → AreNeeded d spot.area spot.map (sight_behind d s before) s (Ok x) (Ok map) equal
+    → AreNeeded d spot (sight_behind d s before) s (Ok x) (Ok map) equal
     → 2 ^ 24 < offset_of spot.area (pieces_of before) (extent_of_code x) + size_behind spot.area (pieces_of before) (extent_of_code x)
     → told_of (laid_behind d s before) ≡ Some TooMany
 told_too_large d s before spot x map equal sp found large =
@@ -266,13 +290,14 @@ there_same (Some k) p xs ys h g t = let less : k < length xs = t in let more : k
 
 pub lays : (d : List LaidName) (s : Statement) (before : List LaidLine) (old new : Laying) (spot : Spot) (x : Code) (map : ℕ) (equal : Option LaidName) (p : Put)
     → IsAt d s before old → IsSpot s before spot
-    → AreNeeded d spot.area spot.map (sight_behind d s before) s (Ok x) (Ok map) equal
+    → AreNeeded d spot (sight_behind d s before) s (Ok x) (Ok map) equal
     → IsPlaced spot.area (extent_of_code x) (pieces_of before) new.areas.ends p → length new.areas.ends ≡ length old.areas.ends
     → new.behind ≡ old.behind → new.map ≡ map → new.areas.numbers ≡ old.areas.numbers → new.areas.count ≡ old.areas.count → new.areas.current ≡ old.areas.current
     → new.names ≡ old.names ++ one_entry (own_entry (defined_by s) spot.area spot.offset p.size spot.label_thumb spot.map) ++ one_entry equal ++ imported_entries (imported_in s.what)
+    → new.all_known ≡ still_known old.all_known (defined_by s) equal
     → (strings : List Bool) → strings ≡ string_marks (sight_behind d s before) s.what
     → IsLaid d (laid_behind d s before) before new (record { area = spot.area; offset = p.offset; size = p.size; thumb = spot.thumb; thumb_label = spot.label_thumb; map = spot.map; literal = p.literal; strings = strings })
-lays d s before old new spot x map equal p at sp found placed long behind mapped numbers count current names strings marked =
+lays d s before old new spot x map equal p at sp found placed long behind mapped numbers count current names known strings marked =
     let area = area_behind (s ∷ statements_of before) in
     let pieces = pieces_of before in
     let r = sight_behind d s before in
@@ -284,9 +309,9 @@ lays d s before old new spot x map equal p at sp found placed long behind mapped
     (subst (λ a. IsPlaced a (extent_of_code x) pieces new.areas.ends p) sp.area placed)) in
     let offset : p.offset ≡ l.offset = here.offset ∙ sym (starts_there area pieces r s.what e.0 e.1) in
     let size : p.size ≡ l.size = here.size ∙ ap (λ q. size_behind area pieces (taken q)) (sym e.1) in
-    let own = one_entry (own_entry (defined_by s) spot.area spot.offset p.size spot.label_thumb spot.map) in
+    let mine = one_entry (own_entry (defined_by s) spot.area spot.offset p.size spot.label_thumb spot.map) in
     let import = imported_entries (imported_in s.what) in
-    let own_eq : own ≡ one_entry (own_entry (defined_by s) area (offset_behind s before) l.size (is_thumb_label s (statements_of before)) (map_behind before)) =
+    let own_eq : mine ≡ one_entry (own_entry (defined_by s) area (offset_behind s before) l.size (is_thumb_label s (statements_of before)) (map_behind before)) =
     ap one_entry (own_there (defined_by s) spot.area area spot.offset (offset_behind s before) p.size l.size spot.label_thumb (is_thumb_label s (statements_of before)) spot.map (map_behind before)
     sp.area sp.offset size sp.label_thumb sp.map) in
     let equal_eq : one_entry equal ≡ equal_names d area r (defined_by s) = found.equal_is ∙ ap (λ a. equal_names d a r (defined_by s)) sp.area in
@@ -312,20 +337,25 @@ lays d s before old new spot x map equal p at sp found placed long behind mapped
         };
         map = mapped ∙ map_from_is spot.map map r s.what (sym found.after_is) ∙ ap (λ m. map_from m r s.what) sp.map;
         names =
-            names ∙ ap (λ ns. ns ++ own ++ one_entry equal ++ import) at.names
-            ∙ names_more d s before e.0 own (one_entry equal) e.1 own_eq equal_eq;
+            names ∙ ap (λ ns. ns ++ mine ++ one_entry equal ++ import) at.names
+            ∙ names_more d s before e.0 mine (one_entry equal) e.1 own_eq equal_eq;
+        known = λ k.
+            let j = sym known ∙ k in (
+              equal_known d area r (defined_by s) equal old.all_known equal_eq j,
+              at.known (known_before (defined_by s) equal old.all_known j),
+            );
       };
     }
 
 -- ---- other answers
 
 pub told_no_extent : (d : List LaidName) (s : Statement) (before : List LaidLine) (spot : Spot) (k : LineKind) (map : Result ℕ LineKind) (equal : Option LaidName)
-    → AreNeeded d spot.area spot.map (sight_behind d s before) s (Err k) map equal
+    → AreNeeded d spot (sight_behind d s before) s (Err k) map equal
     → told_of (laid_behind d s before) ≡ Some k
 told_no_extent d s before spot k map equal found = told_extent d s before k (fault_is k (extent_of (sight_behind d s before) s.what) found.extent_is)
 
 pub told_no_map : (d : List LaidName) (s : Statement) (before : List LaidLine) (spot : Spot) (x : Code) (k : LineKind) (equal : Option LaidName)
-    → AreNeeded d spot.area spot.map (sight_behind d s before) s (Ok x) (Err k) equal
+    → AreNeeded d spot (sight_behind d s before) s (Ok x) (Err k) equal
     → told_of (laid_behind d s before) ≡ Some k
 told_no_map d s before spot x k equal found =
     let e = coded_is x (extent_of (sight_behind d s before) s.what) found.extent_is in

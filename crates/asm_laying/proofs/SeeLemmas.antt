@@ -1,12 +1,12 @@
 -- What the expressions of a statement see at its spot.
-use Rattle.std.proofs.Common.{◌≡◌, ℕ, List, [], ◌∷◌, Bool, refl, ap, ◌∙◌, Option, Some, None}
+use Rattle.std.proofs.Common.{◌≡◌, ℕ, List, [], ◌∷◌, Bool, refl, ap, ◌∙◌, subst, Option, Some, None}
 use Rattle.asm_model.specs.declared.names.LaidName.{LaidName}
 use Rattle.asm_model.specs.declared.directives.DirectiveLine.{DirectiveLine}
 use Rattle.asm_model.specs.declared.directives.DirectiveLine.TheVariants as line
 use Rattle.asm_model.specs.declared.statements.Statement.{Statement}
 use Rattle.asm_model.specs.declared.statements.What.{What}
 use Rattle.asm_model.specs.declared.statements.What.TheVariants as what
-use Rattle.asm_model.specs.AtLine.{own_names, seen_behind}
+use Rattle.asm_model.specs.AtLine.{Sight, own_names, seen_behind}
 use Rattle.asm_model.specs.Grammar.{Tree}
 use Rattle.asm_model.specs.Before.{area_behind, is_thumb_label}
 use Rattle.asm_model.specs.Labels.{Defined, Unnamed, Label, Equal, MapField, RegisterName, defined_by, field_defines, directive_defines}
@@ -15,8 +15,9 @@ use Rattle.asm_model.specs.Trees.{tree_of}
 use Rattle.asm_names.specs.Defining.{own_entry}
 use Rattle.asm_names.specs.Steps.{one_entry}
 use Rattle.said_model.specs.Said.{WhatSaid}
+use Rattle.asm_laying.specs.declared.finding.Found.{Found}
 use Rattle.asm_laying.specs.declared.finding.Spot.{Spot}
-use Rattle.asm_laying.specs.Laying.{sight_shown, DefinedRead, IsSpot}
+use Rattle.asm_laying.specs.Laying.{unsized_entry, sight_shown, DefinedRead, IsFound, IsSpot}
 
 -- ---- the line's own name
 
@@ -38,8 +39,8 @@ own_there x a b o p n m t u k j e f g h i = rw (e, f, g, h, i) refl
 
 -- ---- a place at the spot shows the line's sight
 
-pub shown : (d : List LaidName) (s : Statement) (before : List LaidLine) (names : List LaidName) (own : Option LaidName) (p : Spot) → IsSpot s before p
-    → names ≡ seen_behind d (lines_of before) → own ≡ own_entry (defined_by s) p.area p.offset 0 p.label_thumb p.map
+shown : (d : List LaidName) (s : Statement) (before : List LaidLine) (names : List LaidName) (own : Option LaidName) (p : Spot) → IsSpot s before p
+    → names ≡ seen_behind d (lines_of before) → own ≡ unsized_entry (defined_by s) p
     → sight_shown d names (one_entry own) p ≡ sight_behind d s before
 shown d s before names own p sp known owned =
     let area = area_behind (s ∷ statements_of before) in
@@ -58,6 +59,11 @@ shown d s before names own p sp known owned =
     ∙ ap (λ o. see area o p.map p.thumb) sp.offset
     ∙ ap (λ m. see area offset m p.thumb) sp.map
     ∙ ap (λ t. see area offset map t) sp.thumb
+
+pub found_shown : (d : List LaidName) (s : Statement) (before : List LaidLine) (names : List LaidName) (own : Option LaidName) (p : Spot) (f : Found) → IsSpot s before p
+    → names ≡ seen_behind d (lines_of before) → own ≡ unsized_entry (defined_by s) p
+    → IsFound d p (sight_shown d names (one_entry own) p) s f → IsFound d p (sight_behind d s before) s f
+found_shown d s before names own p f at known owned = subst (λ (x : Sight). IsFound d p x s f) (shown d s before names own p at known owned)
 
 -- ---- expressions of names
 

@@ -6,10 +6,11 @@ ghost use Rattle.asm_model.specs.AtLine.{made_name, seen_behind};
 ghost use Rattle.asm_model.specs.Entries.{equal_entry as entry_of_equal};
 ghost use Rattle.asm_model.specs.Laid.{lines_of, sight_behind, LaidLine};
 ghost use Rattle.said_model.specs.Said.{IsSaid};
+ghost use Rattle.asm_model.specs.Labels as labels;
 ghost use Rattle.asm_names.specs.Defining.{defined_of};
 ghost use Rattle.asm_names.specs.Sights.{sight_of};
 ghost use Rattle.asm_names.specs.Steps.{one_entry};
-ghost use Rattle.asm_laying.specs.Laying.{equal_names, sight_shown, DefinedRead, IsFound, IsSpot};
+ghost use Rattle.asm_laying.specs.Laying.{equal_names, unsized_entry, DefinedRead, IsFound, IsSpot};
 
 use crate::extents::{Taken, extent_of};
 use crate::values::{map_after, said_number, value_there};
@@ -85,8 +86,28 @@ fn equal_there(
     }
 }
 
-/// What a statement at a spot needs, where these names are known, and its own name besides.
-fn found_at(
+/// The entry of a statement's own name, as its expressions see it: without a size.
+pub fn unsized_entry(
+    alloc: Global,
+    statement: &Statement,
+    spot: &Spot,
+) -> Result<Option<LaidName>, NoMemory>
+    ensures { IfOk result (λ entry. entry ≡ unsized_entry (labels.defined_by statement.now) spot.now) }
+{
+    let defines = defined_by(statement);
+    own_entry(
+        alloc,
+        &defines,
+        spot.area,
+        spot.offset,
+        0,
+        spot.label_thumb,
+        spot.map,
+    )
+}
+
+/// What a statement at a spot needs, behind the lines that define these names.
+pub fn find(
     alloc: Global,
     names: &KnownNames,
     declared: &KnownNames,
@@ -95,7 +116,7 @@ fn found_at(
     statement: &Statement,
 ) -> Result<Found, NoMemory>
     requires { IsSaid statement.now }
-    ensures { IfOk result (λ found. IsFound declared.now spot.now.area spot.now.map (sight_shown declared.now names.now (one_entry (option_copied own.entry)) spot.now) statement.now found) }
+    ensures { IfOk result (λ found. (before : List LaidLine) → IsSpot statement.now before spot.now → names.now ≡ seen_behind declared.now (lines_of before) → option_copied own.entry ≡ unsized_entry (labels.defined_by statement.now) spot.now → IsFound declared.now spot.now (sight_behind declared.now statement.now before) statement.now found) }
 {
     let seen = Seen {
         names,
@@ -118,29 +139,4 @@ fn found_at(
         number,
         strings,
     })
-}
-
-/// What a statement at a spot needs, behind the lines that define these names.
-pub fn find(
-    alloc: Global,
-    names: &KnownNames,
-    declared: &KnownNames,
-    spot: &Spot,
-    statement: &Statement,
-) -> Result<Found, NoMemory>
-    requires { IsSaid statement.now }
-    ensures { IfOk result (λ found. (before : List LaidLine) → IsSpot statement.now before spot.now → names.now ≡ seen_behind declared.now (lines_of before) → IsFound declared.now spot.now.area spot.now.map (sight_behind declared.now statement.now before) statement.now found) }
-{
-    let defines = defined_by(statement);
-    let own = own_entry(
-        alloc,
-        &defines,
-        spot.area,
-        spot.offset,
-        0,
-        spot.label_thumb,
-        spot.map,
-    )?;
-    let found = found_at(alloc, names, declared, own.as_ref(), spot, statement)?;
-    Ok(found)
 }

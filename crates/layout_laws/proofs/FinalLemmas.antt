@@ -1,24 +1,25 @@
 -- What is known at a line of a source without faults is final.
-use Rattle.std.proofs.Common.{◌≡◌, ℕ, List, [], ◌∷◌, ◌++◌, Bool, true, false, cond, refl, sym, ◌∙◌, ap, subst, Option, Some, None}
+use Rattle.std.proofs.Common.{◌≡◌, ℕ, List, [], ◌∷◌, ◌++◌, Bool, true, false, cond, refl, sym, ◌∙◌, ap, subst, Option, Some, None, append-nil, append_assoc}
 use Rattle.std.specs.Prelude.{Result, Ok, Err}
 use Rattle.sdt_fault.specs.declared.kinds.LineKind.{LineKind}
 use Rattle.asm_model.specs.declared.exprs.Expr.{Expr}
 use Rattle.asm_model.specs.declared.values.Value.{Value}
 use Rattle.asm_model.specs.declared.names.LaidName.{LaidName}
 use Rattle.asm_model.specs.declared.statements.Statement.{Statement}
-use Rattle.asm_model.specs.AtLine.{Definition, Nameless, Named, Equated, SourceLine, with_names, own_names, sight, value_at, made_name, added_names, seen_behind, HoldsEach}
+use Rattle.asm_model.specs.AtLine.{Definition, Nameless, Named, Equated, SourceLine, Sight, with_names, own_names, sight, value_at, made_name, added_names, seen_behind, HoldsEach}
 use Rattle.asm_model.specs.Forms.{same}
 use Rattle.asm_model.specs.Grammar.{Tree}
 use Rattle.asm_model.specs.Meaning.{meaning}
 use Rattle.asm_model.proofs.LineLemmas.{each_append}
 use Rattle.asm_model.specs.Before.{area_behind, is_thumb_label}
-use Rattle.asm_model.specs.Entries.{label_entry, imported_entry}
+use Rattle.asm_model.specs.Entries.{label_entry, imported_entry, equal_entry}
 use Rattle.asm_model.specs.Extents.{value_there, tree_value}
 use Rattle.asm_model.specs.Labels.{Defined, Unnamed, Label, Equal, MapField, RegisterName, defined_by, imported_in, declared_names}
-use Rattle.asm_model.specs.Laid.{LaidLine, statements_of, lines_of, map_behind, offset_behind, definition_of, definition_behind, imported_lines, laid_behind, laid_of, laid, entries_with, all_entries, final_names, final_value}
+use Rattle.asm_model.specs.Laid.{LaidLine, statements_of, lines_of, map_behind, offset_behind, tree_equated, definition_of, definition_behind, line_behind, imported_lines, laid_behind, laid_of, laid, entries_with, all_entries, final_names, final_value}
 use Rattle.asm_model.specs.LayoutKinds.{equals_in, settled}
 use Rattle.asm_model.specs.Trees.{tree_of}
 use Rattle.asm_model.specs.Sound.{IsSound, ArePlain}
+use Rattle.layout_laws.specs.Final.{IsEqualKnown, AreEqualsKnown}
 use Rattle.layout_laws.proofs.KnownLemmas.{AreAlike, EachAlike, Fewer, known_final}
 use Rattle.layout_laws.proofs.NamedLemmas.{sofar, own_of, imports_of, with_statement, sofar_holds, fewer_than_declared}
 use Rattle.layout_laws.proofs.SettledLemmas.{final_names_are_their_entries}
@@ -153,3 +154,53 @@ known_values_are_final ss h plain after before l split e v k =
         → final_value (final_names (laid ss)) l.line e ≡ Ok v
     by_tree None x known = let y : tree_value l.seen None ≡ Ok v = ap (tree_value l.seen) (sym x) ∙ k in absurd (cc)
     by_tree (Some t) x known = let y : tree_value l.seen (Some t) ≡ Ok v = ap (tree_value l.seen) (sym x) ∙ k in rw x (known t v y)
+
+-- ---- names
+
+tree_final : (N names : List LaidName) (s : Sight) (l : SourceLine) (area : Option ℕ) (name : List ℕ) (o : Option Tree) (v : Value)
+    → ((t : Tree) (v : Value) → value_at s t ≡ Ok v → meaning (with_names l N) t ≡ Ok v) → tree_value s o ≡ Ok v
+    → added_names s (tree_equated names area name o) ≡ entries_with N l (tree_equated names area name o)
+tree_final N names s l area name None v f h = refl
+tree_final N names s l area name (Some t) v f h = ap (made_name (equal_entry names area name)) (h ∙ sym (f t v h))
+
+-- what a line adds is its final entry, where its name for an expression is known there
+own_final : (N d seen : List LaidName) (s : Statement) (before : List LaidLine) (x : Defined) (area : Option ℕ) (offset size : ℕ) (thumb : Bool) (m : ℕ)
+    → ((t : Tree) (v : Value) → value_at (sight d seen (line_behind s before (definition_of d x area offset 0 thumb m))) t ≡ Ok v
+    → meaning (with_names (line_behind s before (definition_of d x area offset size thumb m)) N) t ≡ Ok v)
+    → IsEqualKnown (sight d seen (line_behind s before (definition_of d x area offset 0 thumb m))) x
+    → added_names (sight d seen (line_behind s before (definition_of d x area offset size thumb m))) (definition_of d x area offset size thumb m)
+    ≡ entries_with N (line_behind s before (definition_of d x area offset size thumb m)) (definition_of d x area offset size thumb m)
+own_final N d seen s before Unnamed area offset size thumb m f h = refl
+own_final N d seen s before (Label name) area offset size thumb m f h = refl
+own_final N d seen s before (Equal name e) area offset size thumb m f h =
+    let l = line_behind s before (tree_equated d area name (tree_of e)) in tree_final N d (sight d seen l) l area name (tree_of e) h.0 f h.1
+own_final N d seen s before (MapField name) area offset size thumb m f h = refl
+own_final N d seen s before (RegisterName name r) area offset size thumb m f h = refl
+
+import_final : (D N : List LaidName) (s : Statement) (before : List LaidLine) (ls : List SourceLine) (o : Option (List ℕ))
+    → seen_behind D (imported_lines s before o ++ ls) ≡ seen_behind D ls ++ all_entries N (imported_lines s before o)
+import_final D N s before ls None = sym (append-nil (seen_behind D ls))
+import_final D N s before ls (Some name) = refl
+
+all_final : (N d : List LaidName) (ss : List Statement) → AllKnownFinally N (laid_of d ss) → AreEqualsKnown (laid_of d ss)
+    → seen_behind d (lines_of (laid_of d ss)) ≡ sofar N d ss
+all_final N d [] h k = refl
+all_final N d (s ∷ ss) h k =
+    let before = laid_of d ss in
+    let l = (laid_behind d s before).line in
+    let seen = seen_behind d (lines_of before) in
+    let own : added_names (sight d seen l) l.definition ≡ own_of N d s ss =
+    own_final N d seen s before (defined_by s) (area_behind (s ∷ statements_of before)) (offset_behind s before) (laid_behind d s before).size
+    (is_thumb_label s (statements_of before)) (map_behind before) h.0 k.0 in
+    import_final d N s before (l ∷ lines_of before) (imported_in s.what)
+    ∙ ap (λ z. (seen ++ z) ++ imports_of N d s ss) own
+    ∙ ap (λ z. (z ++ own_of N d s ss) ++ imports_of N d s ss) (all_final N d ss h.1 k.1)
+    ∙ append_assoc (sofar N d ss) (own_of N d s ss) (imports_of N d s ss)
+    ∙ sym (with_statement N d s ss)
+
+pub known_names_are_final : (ss : List Statement) → IsSound ss → ArePlain ss → AreEqualsKnown (laid ss)
+    → seen_behind (declared_names ss) (lines_of (laid ss)) ≡ final_names (laid ss)
+known_names_are_final ss h plain k =
+    let N = final_names (laid ss) in
+    all_final N (declared_names ss) ss (all_known N (declared_names ss) (source_final ss h plain) ss (source_holds ss h plain)) k
+    ∙ final_names_are_their_entries ss h plain
