@@ -15,7 +15,7 @@ use Rattle.asm_model.specs.declared.statements.Statement.{Statement}
 use Rattle.asm_model.specs.declared.statements.What.{What}
 use Rattle.asm_model.specs.declared.statements.What.TheVariants as what
 use Rattle.asm_model.specs.Directives.{or_else}
-use Rattle.asm_pool.specs.declared.layout.LaidArea.{LaidArea}
+use Rattle.asm_layout.specs.declared.laid.LaidArea.{LaidArea}
 use Rattle.asm_model.specs.Before.{areas_behind, is_code}
 use Rattle.asm_model.specs.Labels.{defined_by}
 use Rattle.asm_model.specs.declared.names.LaidName.{LaidName}

@@ -9,8 +9,8 @@ use Rattle.asm_model.specs.declared.statements.Statement.{Statement}
 use Rattle.asm_offsets.specs.Running.{entry_behind, pools_behind}
 use Rattle.asm_pool.specs.Laws.{PoolLaw}
 use Rattle.asm_pool.specs.Pooled.{flushed}
-use Rattle.asm_pool.specs.declared.layout.LaidArea.{LaidArea}
-use Rattle.asm_pool.specs.declared.layout.LaidStatement.{LaidStatement}
+use Rattle.asm_layout.specs.declared.laid.LaidArea.{LaidArea}
+use Rattle.asm_layout.specs.declared.laid.LaidStatement.{LaidStatement}
 use Rattle.asm_units.specs.Literals.{literal_in}
 use Rattle.asm_model.specs.Before.{areas_behind}
 use Rattle.asm_model.specs.Extents.{Extent, Pool, extent_of}

@@ -10,7 +10,7 @@ use Rattle.armasm_core.specs.Drafts.{AreRelocs, HoldsPieces, IsDraft}
 use Rattle.armasm_core.specs.Relocations.{relocs_in}
 use Rattle.asm_layout.specs.Layout.{AreAreas}
 use Rattle.asm_model.specs.declared.statements.Statement.{Statement}
-use Rattle.asm_pool.specs.declared.layout.LaidArea.{LaidArea}
+use Rattle.asm_layout.specs.declared.laid.LaidArea.{LaidArea}
 use Rattle.asm_model.specs.Before.{areas_behind}
 use Rattle.asm_model.specs.Labels.{declared_names}
 use Rattle.asm_model.specs.Laid.{final_names, laid, pieces_of}

@@ -17,8 +17,8 @@ use Rattle.asm_model.specs.Meaning.{stands_at}
 use Rattle.asm_offsets.specs.Laws.{AllExtents, ExtentsArePlaceable, LiteralsArePlaced}
 use Rattle.asm_offsets.specs.Running.{entry_behind, pools_behind}
 use Rattle.asm_pool.specs.Laws.{PoolLaw}
-use Rattle.asm_pool.specs.declared.layout.LaidArea.{LaidArea}
-use Rattle.asm_pool.specs.declared.layout.LaidStatement.{LaidStatement}
+use Rattle.asm_layout.specs.declared.laid.LaidArea.{LaidArea}
+use Rattle.asm_layout.specs.declared.laid.LaidStatement.{LaidStatement}
 use Rattle.asm_units.specs.declared.beside.Beside.{Beside}
 use Rattle.asm_units.specs.Literals.{literal_in}
 use Rattle.layout_laws.specs.Final.{KnownValuesAreFinal}
@@ -133,7 +133,7 @@ loads fits law pools statements areas w known before rest l x p =
 -- ---- what is beside the line
 
 pub record IsScene (w : Whole) (known : BTreeMap (List ℕ) ℕ) (x : LaidStatement) (z : Scene) : Type 0 where
-  pub names : z.names.now ≡ w.names
+  pub names : z.names.now ≡ w.names.now
   pub line : IsLineOf x z.line.now
   pub registers : z.registers.now ≡ known
   pub symbols : z.symbols.now ≡ w.sets.symbols

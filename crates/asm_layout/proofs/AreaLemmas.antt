@@ -12,7 +12,7 @@ use Rattle.asm_model.specs.declared.statements.What.TheVariants as what
 use Rattle.asm_offsets.specs.declared.extents.LaidPools.{LaidPools}
 use Rattle.asm_offsets.specs.Finished.{IsLaidOut, IsLaid}
 use Rattle.asm_offsets.specs.Running.{HasNone}
-use Rattle.asm_pool.specs.declared.layout.LaidArea.{LaidArea}
+use Rattle.asm_layout.specs.declared.laid.LaidArea.{LaidArea}
 use Rattle.asm_model.specs.Laid.{LaidLine, pieces_of}
 use Rattle.asm_model.specs.LayoutKinds.{is_thumb_area, first_state}
 use Rattle.asm_model.specs.Offsets.{is_of}

@@ -19,11 +19,14 @@ use Rattle.asm_offsets.specs.Laws.{AllExtents, ExtentsArePlaceable}
 use Rattle.asm_model.specs.Extents.{Extent, extent_of}
 use Rattle.asm_model.specs.declared.names.LaidName.{LaidName}
 use Rattle.asm_model.specs.Labels.{field_defines, what_defines, directive_defines, declared_names}
-use Rattle.asm_model.specs.Laid.{LaidLine, laid, laid_of, sight_behind, taken, pieces_of, reversed}
+use Rattle.asm_model.specs.Laid.{LaidLine, laid, laid_of, sight_behind, taken, pieces_of, reversed, final_names}
 use Rattle.asm_model.specs.LayoutKinds.{layout_kinds, equals_in, settled, told_at, first_fault, first_late}
+use Rattle.layout_laws.specs.Final.{KnownNamesAreFinal}
 use Rattle.said_model.specs.Said.{WhatSaid, AllSaid}
 use Rattle.source_model.specs.Registers.{register_names, register_kinds}
 use Rattle.source_model.specs.SourceFaults.{first_laid, layout_faults}
+use Rattle.asm_laying.specs.Laying.{AreKnownNames}
+use Rattle.asm_layout.specs.declared.laid.LaidStatement.{LaidStatement}
 use Rattle.asm_layout.specs.declared.outline.Outline.{Outline}
 use Rattle.asm_layout.specs.declared.walking.Walk.{Walk}
 use Rattle.asm_layout.specs.Finishing.{IsNamed, IsWhole}
@@ -98,6 +101,10 @@ named_is statements o w h = record {
   lines = h.walked.kept;
   found = λ q. ap (named_in q) h.outlined.names;
 }
+
+pub names_are : KnownNamesAreFinal → (statements : List Statement) (xs : List LaidStatement) (declared names : List LaidName) → IsNamed statements xs declared
+    → AreKnownNames (declared_names statements) (laid statements) (Some names) → names ≡ final_names (laid statements)
+names_are law statements xs declared names h k = k.1 ∙ law statements h.sound h.plain k.0
 
 pub faults_are : (statements : List Statement) (o : Outline) (w : Walk) → IsWhole statements o w
     → layout_faults statements ≡ first_late (laid statements) [] (reversed (laid statements) [])

@@ -11,7 +11,7 @@ use Rattle.asm_names.specs.Source.{AreEach}
 use Rattle.asm_model.specs.declared.statements.Statement.{Statement}
 use Rattle.asm_model.specs.Directives.{or_else}
 use Rattle.asm_model.specs.Kinds.{told_kind}
-use Rattle.asm_pool.specs.declared.layout.LaidStatement.{LaidStatement}
+use Rattle.asm_layout.specs.declared.laid.LaidStatement.{LaidStatement}
 use Rattle.asm_model.specs.Laid.{LaidLine, pieces_of, taken, reversed}
 use Rattle.asm_model.specs.LayoutKinds.{entry_kinds, literal_kinds, first_late, told_at}
 use Rattle.asm_layout.specs.Layout.{IsStatement, AreStatements, IsTold}

@@ -30,7 +30,7 @@ use Rattle.asm_checks.specs.Checked.{IsChecked}
 use Rattle.asm_laying.specs.declared.laying.Laying.{Laying}
 use Rattle.asm_laying.specs.declared.laying.Placed.{Placed}
 use Rattle.asm_laying.specs.Laying.{IsLaying, IsLaid, IsPlaced, told_of}
-use Rattle.asm_pool.specs.declared.layout.LaidStatement.{LaidStatement}
+use Rattle.asm_layout.specs.declared.laid.LaidStatement.{LaidStatement}
 use Rattle.asm_registers.specs.declared.registers.Registers.{Registers}
 use Rattle.asm_registers.specs.Kept.{AreRegisters}
 use Rattle.asm_model.specs.LayoutKinds.{equal_of, told_at}

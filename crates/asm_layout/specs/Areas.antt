@@ -5,7 +5,7 @@ use Rattle.sdt_word.specs.Numbers.{flag}
 use Rattle.asm_areas.specs.declared.starts.AreaStart.{AreaStart}
 use Rattle.asm_areas.specs.Late.{is_true}
 use Rattle.asm_offsets.specs.declared.extents.LaidPools.{LaidPools}
-use Rattle.asm_pool.specs.declared.layout.LaidArea.{LaidArea}
+use Rattle.asm_layout.specs.declared.laid.LaidArea.{LaidArea}
 
 pub record IsMade (p : AreaStart × LaidPools) (a : LaidArea) : Type 0 where
   pub name : a.name ≡ p.0.name

@@ -6,9 +6,9 @@ use Rattle.sdt_fault.specs.declared.answer.Fault.TheVariants as fault
 use Rattle.sdt_fault.specs.declared.kinds.LineKind.{LineKind}
 use Rattle.sdt_fault.specs.declared.refusal.Refusal.TheVariants.{BadLine}
 use Rattle.asm_model.specs.declared.statements.Statement.{Statement}
-use Rattle.asm_pool.specs.declared.layout.LaidArea.{LaidArea}
-use Rattle.asm_pool.specs.declared.layout.LaidStatement.{LaidStatement}
-use Rattle.asm_pool.specs.declared.layout.Layout.{Layout}
+use Rattle.asm_layout.specs.declared.laid.LaidArea.{LaidArea}
+use Rattle.asm_layout.specs.declared.laid.LaidStatement.{LaidStatement}
+use Rattle.asm_layout.specs.declared.laid.Layout.{Layout}
 use Rattle.asm_pool.specs.Pooled.{flushed}
 use Rattle.asm_laying.specs.Reading.{string_marks}
 use Rattle.asm_offsets.specs.Running.{entry_behind, pools_behind}

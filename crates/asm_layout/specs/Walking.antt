@@ -7,7 +7,7 @@ use Rattle.asm_model.specs.declared.statements.Statement.{Statement}
 use Rattle.asm_model.specs.FaultSets.{first_told}
 use Rattle.asm_model.specs.Forms.{same}
 use Rattle.asm_model.specs.Kinds.{told_kind}
-use Rattle.asm_pool.specs.declared.layout.LaidStatement.{LaidStatement}
+use Rattle.asm_layout.specs.declared.laid.LaidStatement.{LaidStatement}
 use Rattle.asm_areas.specs.Starts.{AreStarts, IsLineOf}
 use Rattle.asm_checks.specs.Checked.{checked_kinds, IsChecked}
 use Rattle.asm_laying.specs.declared.laying.Placed.{Placed}

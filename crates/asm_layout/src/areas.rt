@@ -6,9 +6,9 @@ ghost use Rattle.asm_model.specs.Laid.{LaidLine};
 ghost use Rattle.asm_areas.specs.Late.{is_true, AreWhole};
 ghost use Rattle.asm_layout.specs.Layout.{AreAreas};
 
+use crate::laid::LaidArea;
 use asm_areas::AreaStart;
 use asm_offsets::LaidPools;
-use asm_pool::LaidArea;
 use sdt_fault::NoMemory;
 use std::alloc::Global;
 

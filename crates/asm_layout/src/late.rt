@@ -8,10 +8,10 @@ ghost use Rattle.asm_layout.specs.Layout.{AreStatements};
 ghost use Rattle.asm_layout.specs.Late as late;
 ghost use Rattle.asm_layout.specs.Late.{IsCleared};
 
+use crate::laid::LaidStatement;
 use crate::telling::told_of;
 use asm_areas::{AreaStart, Stand, late_kind};
 use asm_offsets::LaidPools;
-use asm_pool::LaidStatement;
 use sdt_fault::answer::Fault;
 use std::alloc::Global;
 

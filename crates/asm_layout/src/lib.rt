@@ -4,6 +4,7 @@
 mod areas;
 mod finishing;
 pub mod front;
+pub mod laid;
 pub mod late;
 pub mod layout;
 pub mod lines;
@@ -12,4 +13,5 @@ pub mod telling;
 mod walking;
 
 pub use crate::front::front_fault;
+pub use crate::laid::{LaidArea, LaidStatement, Layout};
 pub use crate::layout::lay_out;

@@ -13,6 +13,7 @@ ghost use Rattle.asm_layout.specs.Outline.{IsOutline};
 ghost use Rattle.source_model.specs.Registers.{register_names};
 ghost use Rattle.asm_layout.specs.Walking as walking;
 
+use crate::laid::LaidStatement;
 use crate::outline::Outline;
 use crate::telling::told;
 use asm_areas::Starts;
@@ -22,7 +23,6 @@ use asm_expr::told::first_told;
 use asm_laying::laying::{Laid, Laying, Placed};
 use asm_model::Statement;
 use asm_names::defining::{Defines, defined_by};
-use asm_pool::LaidStatement;
 use asm_registers::Registers;
 use sdt_fault::NoMemory;
 use sdt_fault::answer::Fault;

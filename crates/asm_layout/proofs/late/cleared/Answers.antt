@@ -1,5 +1,5 @@
 use Rattle.std.proofs.Common.{◌≡◌, ◌<◌, ◌-◌, ◌∷◌, List, [], take, drop, length, refl, sym, ◌∙◌, subst, arith}
-use Rattle.asm_pool.specs.declared.layout.LaidStatement.{LaidStatement}
+use Rattle.asm_layout.specs.declared.laid.LaidStatement.{LaidStatement}
 use Rattle.asm_layout.specs.Late.{IsLeft}
 use Rattle.asm_layout.proofs.LateLemmas.{first_left, rest_of, next_of, stands, told_here, none_here, none_left}
 use Rattle.asm_layout.proofs.late.cleared.Goals as goal
