@@ -48,10 +48,6 @@ first_left all laid h = record {
   none = refl;
 }
 
-pub rest_of : (xs : List LaidStatement) (x : LaidStatement) → 1 ≤ length xs → x ≡ get_or xs 0 x → xs ≡ x ∷ take (length xs - 1) (drop 1 xs)
-rest_of [] x h e = absurd (let bad : 1 ≤ 0 = h in omega arith)
-rest_of (y ∷ ys) x h e = let same : x ≡ y = e in rw same (grind (arith, common_steps))
-
 -- ---- a line
 
 -- the lines that are left begin with this one
@@ -88,7 +84,6 @@ stands all x more n = record {
   said = ap (λ (s : Statement). s.what) (sym n.line.statement);
   stands = n.line.area;
   start = n.line.offset;
-  state = n.line.thumb;
   entry = n.line.literal;
 }
 

@@ -44,7 +44,7 @@ AreStatements (l ∷ before) xs =
 
 pub record IsArea (all : List LaidLine) (area : ℕ) (a : LaidArea) : Type 0 where
   pub name : slice_get (areas_behind (statements_of all)) area ≡ Some a.name
-  pub attributes : attributes_of area (is_thumb_area area all) all ≡ Some a.attributes
+  pub attributes : attributes_of area (is_thumb_area area (statements_of all)) all ≡ Some a.attributes
   pub size : a.size ≡ area_size area (pieces_of all)
   pub pools : a.pools ≡ flushed (start_in area (pieces_of all) Pool) (pools_behind area (pieces_of all))
 

@@ -64,7 +64,7 @@ pub fn finished(alloc: Global, outline: &Outline, walk: Walk) -> Result<Layout, 
     } = walk;
     let Ended { ends, names } = laying.end();
     let pools = ends.finish()?;
-    cleared(alloc, lines.as_slice(), pools.as_slice(), starts.areas())?;
+    cleared(alloc, lines.as_slice(), pools.as_slice())?;
     let names = names_of(alloc, lines.as_slice(), &outline.names, names)?;
     let areas = areas_of(alloc, starts.into_vec(), pools)?;
     Ok(Layout {

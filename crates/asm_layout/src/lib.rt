@@ -9,6 +9,7 @@ pub mod late;
 pub mod layout;
 pub mod lines;
 mod outline;
+mod states;
 pub mod telling;
 mod walking;
 
