@@ -12,11 +12,10 @@ use Rattle.asm_model.specs.declared.statements.Statement.{Statement}
 use Rattle.asm_model.specs.AtLine.{SourceLine, with_names, own_names, names_at, known_entry, added_names, seen_behind, HoldsEach}
 use Rattle.asm_model.specs.Grammar.{Tree}
 use Rattle.asm_model.specs.Meaning.{named_in, size_of, defined_of, meaning}
-use Rattle.asm_model.specs.Before.{area_behind, is_thumb_label}
 use Rattle.asm_model.specs.Entries.{label_entry, imported_entry, field_entry, register_entry, equal_entry}
 use Rattle.asm_model.specs.Extents.{value_there, tree_value}
 use Rattle.asm_model.specs.Labels.{Defined, Unnamed, Label, Equal, MapField, RegisterName, defined_by, imported_in, declared_names}
-use Rattle.asm_model.specs.Laid.{LaidLine, statements_of, lines_of, map_behind, offset_behind, tree_equated, definition_of, definition_behind, line_behind, imported_lines, laid_behind, laid_of, laid, entries_with, all_entries, final_names, final_value}
+use Rattle.asm_model.specs.Laid.{LaidLine, lines_of, tree_equated, definition_of, definition_behind, line_behind, imported_lines, laid_behind, laid_of, laid, entries_with, all_entries, final_names, final_value}
 use Rattle.asm_model.specs.LayoutKinds.{settled}
 use Rattle.asm_model.specs.Trees.{tree_of}
 use Rattle.asm_model.specs.Sound.{IsSound, ArePlain}
@@ -131,8 +130,7 @@ pub statement_tells : (N d : List LaidName) (s : Statement) (ss : List Statement
     → EachTells N (own_names (definition_behind d s (laid_of d ss) known))
 statement_tells N d s ss known f h =
     let before = laid_of d ss in
-    own_tells N d (laid_behind d s before).line (defined_by s) (area_behind (s ∷ statements_of before)) (offset_behind s before) known
-    (Some (laid_behind d s before).size) (is_thumb_label s (statements_of before)) (map_behind before) f h
+    own_tells N d (laid_behind d s before).line (defined_by s) _ _ known (Some (laid_behind d s before).size) _ _ f h
 
 -- the entries of a source's lines
 pub statement_held : (N d : List LaidName) (s : Statement) (ss : List Statement) → HoldsEach N (sofar N d (s ∷ ss))
@@ -153,8 +151,7 @@ seen_tells N d later (s ∷ ss) h =
     let k = seen_tells N d later ss p.0 in
     import_added d N s before (l ∷ lines_of before) (imported_in s.what) p.2
     (tells_append N seen (added_names (names_at d seen l) l.definition) k
-    (own_added N d seen l (defined_by s) (area_behind (s ∷ statements_of before)) (offset_behind s before) size (is_thumb_label s (statements_of before))
-    (map_behind before) (line_known N d seen (own_names l.definition) l later k (statement_tells N d s ss size (λ n e. e) p.1)) p.1))
+    (own_added N d seen l (defined_by s) _ _ size _ _ (line_known N d seen (own_names l.definition) l later k (statement_tells N d s ss size (λ n e. e) p.1)) p.1))
 
 -- ---- values
 
@@ -243,8 +240,7 @@ all_final N d (s ∷ ss) h k =
     let l = (laid_behind d s before).line in
     let seen = seen_behind d (lines_of before) in
     let own : added_names (names_at d seen l) l.definition ≡ own_of N d s ss =
-    own_final N d seen s before (defined_by s) (area_behind (s ∷ statements_of before)) (offset_behind s before) (Some (laid_behind d s before).size)
-    (is_thumb_label s (statements_of before)) (map_behind before) h.0 k.0 in
+    own_final N d seen s before (defined_by s) _ _ (Some (laid_behind d s before).size) _ _ h.0 k.0 in
     import_final d N s before (l ∷ lines_of before) (imported_in s.what)
     ∙ ap (λ z. (seen ++ z) ++ imports_of N d s ss) own
     ∙ ap (λ z. (z ++ own_of N d s ss) ++ imports_of N d s ss) (all_final N d ss h.1 k.1)
