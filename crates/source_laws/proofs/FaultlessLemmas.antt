@@ -2,7 +2,6 @@
 use Rattle.std.proofs.Common.{◌≡◌, ℕ, ◌+◌, ◌≤◌, List, [], ◌∷◌, ◌++◌, length, refl, sym, subst, None, ◌⊎◌}
 use Rattle.asm_model.specs.declared.statements.Statement.{Statement}
 use Rattle.asm_model.specs.Kinds.{told_kind}
-use Rattle.asm_model.proofs.LineLemmas.{both_empty}
 use Rattle.asm_model.specs.Before.{thumb_behind}
 use Rattle.asm_model.specs.Laid.{LaidLine, pieces_of, reversed, laid_behind, laid_of, laid}
 use Rattle.asm_model.specs.LayoutKinds.{equals_in, settled, layout_kinds, told_at, first_fault, first_late}
@@ -13,7 +12,7 @@ use Rattle.source_model.specs.Objects.{Piece, unit_bytes, source_of, StandsIn}
 use Rattle.source_model.specs.Registers.{register_names, register_kinds}
 use Rattle.source_model.specs.SourceFaults.{first_laid, layout_faults}
 use Rattle.source_laws.specs.Laws.{IsOfState, AreOfState, KeepStates, StandApart}
-use Rattle.source_laws.proofs.ListLemmas.{same_first, same_rest}
+use Rattle.source_laws.proofs.ListLemmas.{both_empty, same_first, same_rest}
 use Rattle.source_laws.proofs.ApartLemmas.{things_stand_apart, things_lie_in_areas}
 use Rattle.asm_model.specs.Labels.{declared_names}
 use Rattle.asm_model.specs.declared.names.LaidName.{LaidName}
