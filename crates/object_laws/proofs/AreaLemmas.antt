@@ -24,7 +24,7 @@ use Rattle.asm_model.specs.declared.statements.What.{What}
 use Rattle.asm_model.specs.declared.statements.What.TheVariants as what
 use Rattle.asm_model.specs.Directives.{or_else}
 use Rattle.asm_model.specs.Forms.{same}
-use Rattle.asm_model.proofs.LineLemmas.{both_empty}
+use Rattle.source_laws.proofs.ListLemmas.{both_empty}
 use Rattle.asm_model.proofs.WordLemmas.{same_refl}
 use Rattle.asm_model.specs.Before.{thumb_behind, area_named, with_name, areas_behind, area_behind}
 use Rattle.asm_model.specs.Labels.{declared_names}

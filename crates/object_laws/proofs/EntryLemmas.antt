@@ -13,7 +13,7 @@ use Rattle.asm_model.specs.declared.statements.Statement.{Statement}
 use Rattle.asm_model.specs.declared.statements.What.{What}
 use Rattle.asm_model.specs.declared.statements.What.TheVariants as what
 use Rattle.asm_model.specs.Directives.{or_else}
-use Rattle.asm_model.proofs.LineLemmas.{both_empty}
+use Rattle.source_laws.proofs.ListLemmas.{both_empty}
 use Rattle.asm_model.specs.Extents.{Extent, Block, extent_of}
 use Rattle.asm_model.specs.Laid.{LaidLine, taken, pieces_of, laid}
 use Rattle.asm_model.specs.LayoutKinds.{is_entry, same_mark, is_thumb_area, state_kinds, entry_kinds, literal_kinds, settled, equals_in}

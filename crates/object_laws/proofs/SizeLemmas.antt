@@ -5,7 +5,7 @@ use Rattle.std.proofs.lemmas.Bool.{cond-true, cond-false, or_parts, or_from, ltb
 use Rattle.sdt_fault.specs.declared.kinds.LineKind.TheVariants.{TooMany}
 use Rattle.asm_model.specs.declared.statements.Statement.{Statement}
 use Rattle.asm_model.specs.declared.values.Value.{Value}
-use Rattle.asm_model.proofs.LineLemmas.{both_empty}
+use Rattle.source_laws.proofs.ListLemmas.{both_empty}
 use Rattle.asm_model.specs.Extents.{Extent, Block, Padding, Loading, Pool}
 use Rattle.asm_model.specs.Laid.{LaidLine, taken, pieces_of, laid}
 use Rattle.asm_model.specs.LayoutKinds.{settled, equals_in, layout_kinds, entry_kinds, literal_kinds, area_bytes}

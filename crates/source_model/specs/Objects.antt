@@ -270,8 +270,11 @@ symbol_valued s name (Ok (Number n)) = record { name = name; attributes = scope 
 symbol_valued s name (Ok (Place label n)) = symbol_placed s name label n (stands_at (sees (in_no_line s)) label)
 symbol_valued s name _ = record { name = name; attributes = 0; value = 0; area = None }
 
+abbrev pub symbol_named : Source → List ℕ → Symbol
+symbol_named s name = symbol_valued s name (value_of (named_in name s.names))
+
 abbrev pub symbol_records : Source → List Symbol
-symbol_records s = map (λ name. symbol_valued s name (value_of (named_in name s.names))) (symbols_of s.names s.lines)
+symbol_records s = map (symbol_named s) (symbols_of s.names s.lines)
 
 -- ---- the entry
 

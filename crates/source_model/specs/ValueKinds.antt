@@ -28,14 +28,15 @@ lies_within sizes (Some a) n = nat_le ((a.1 + n) % 2 ^ 32) (sizes a.0)
 abbrev pub kinds_unless : Bool → LineKind → List LineKind
 kinds_unless holds k = if holds then [] else k ∷ []
 
+-- of a name with a value, or with none
+abbrev pub exported_kinds : Context → (ℕ → ℕ) → Result Value LineKind → List LineKind
+exported_kinds c sizes (Ok (Number m)) = []
+exported_kinds c sizes (Ok (Place s m)) = kinds_unless (lies_within sizes (stands_at (sees c) s) m) WrongType
+exported_kinds c sizes _ = WrongType ∷ []
+
 abbrev pub export_kinds : Context → (ℕ → ℕ) → Option LaidName → List LineKind
 export_kinds c sizes None = UnknownWord ∷ []
-export_kinds c sizes (Some n) = by_value (entry_value n)
-  where
-    by_value : Result Value LineKind → List LineKind
-    by_value (Ok (Number m)) = []
-    by_value (Ok (Place s m)) = kinds_unless (lies_within sizes (stands_at (sees c) s) m) WrongType
-    by_value _ = WrongType ∷ []
+export_kinds c sizes (Some n) = exported_kinds c sizes (entry_value n)
 
 -- ---- ASSERT
 
