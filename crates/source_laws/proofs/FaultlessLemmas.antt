@@ -7,12 +7,12 @@ use Rattle.asm_model.specs.Laid.{LaidLine, pieces_of, reversed, laid_behind, lai
 use Rattle.asm_model.specs.LayoutKinds.{equals_in, settled, layout_kinds, told_at, first_fault, first_late}
 use Rattle.asm_model.specs.Offsets.{area_size}
 use Rattle.asm_model.specs.Sound.{IsSound}
-use Rattle.layout_laws.proofs.SoundLemmas.{or_none, told_none, statements_kept}
+use Rattle.layout_laws.proofs.SoundLemmas.{both_empty, or_none, told_none, statements_kept}
 use Rattle.source_model.specs.Objects.{Piece, unit_bytes, source_of, StandsIn}
 use Rattle.source_model.specs.Registers.{register_names, register_kinds}
 use Rattle.source_model.specs.SourceFaults.{first_laid, layout_faults}
 use Rattle.source_laws.specs.Laws.{IsOfState, AreOfState, KeepStates, StandApart}
-use Rattle.source_laws.proofs.ListLemmas.{both_empty, same_first, same_rest}
+use Rattle.source_laws.proofs.ListLemmas.{same_first, same_rest}
 use Rattle.source_laws.proofs.ApartLemmas.{things_stand_apart, things_lie_in_areas}
 use Rattle.asm_model.specs.Labels.{declared_names}
 use Rattle.asm_model.specs.declared.names.LaidName.{LaidName}

@@ -17,10 +17,6 @@ pub same_rest : {A : Type 0} → (x y : A) (xs ys : List A) → x ∷ xs ≡ y �
 unfolding rest_of
 same_rest x y xs ys e = ap rest_of e
 
-pub both_empty : {A : Type 0} → (xs ys : List A) → xs ++ ys ≡ [] → (xs ≡ []) × (ys ≡ [])
-both_empty [] ys h = (refl, h)
-both_empty (x ∷ xs) ys h = absurd (cc)
-
 -- of two places in a list one comes first, or they are the same
 abbrev pub Before : {A : Type 0} → List A → A → List A → List A → A → List A → Type 0
 Before {A} after l before behind m front = (z : List A) × (before ≡ z ++ m ∷ front) × (behind ≡ after ++ l ∷ z)

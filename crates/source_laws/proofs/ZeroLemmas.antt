@@ -24,14 +24,13 @@ use Rattle.asm_model.specs.LayoutKinds.{fault_kinds, kind_if, map_kinds, no_area
 use Rattle.asm_model.specs.Marks.{datum_names}
 use Rattle.asm_model.specs.Offsets.{is_of}
 use Rattle.asm_model.proofs.OffsetLemmas.{is_here}
-use Rattle.layout_laws.proofs.SoundLemmas.{or_none, told_none, kind_none}
+use Rattle.layout_laws.proofs.SoundLemmas.{both_empty, or_none, told_none, kind_none}
 use Rattle.source_model.specs.Contexts.{Context}
 use Rattle.source_model.specs.Objects.{Piece, units_from, or_none as units_or_none, source_of, IsAmong, StandsIn, contents_in, contents_of}
 use Rattle.source_model.specs.SourceFaults.{layout_faults}
 use Rattle.source_model.specs.Units.{units}
 use Rattle.source_laws.specs.Laws.{word_among, context_behind}
 use Rattle.source_laws.proofs.FaultlessLemmas.{layout_sound}
-use Rattle.source_laws.proofs.ListLemmas.{both_empty}
 use Rattle.source_laws.proofs.ListedLemmas.{owned}
 use Rattle.source_laws.proofs.PoolLemmas.{OwnUnit, PoolWord, unit_or_word}
 use Rattle.source_laws.proofs.SizeLemmas.{IsPseudo, loads_are_pseudo}
