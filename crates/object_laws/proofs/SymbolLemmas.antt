@@ -1,5 +1,5 @@
 -- The symbols of an object are valid.
-use Rattle.std.proofs.Common.{◌≡◌, ◌≢◌, ℕ, zero, suc, ◌+◌, ◌%◌, ◌^◌, ◌<◌, ◌≤◌, List, [], ◌∷◌, ◌++◌, append_assoc, length, Bool, true, false, cond, ◌||◌, ◌&&◌, not, refl, sym, ◌∙◌, ap, subst, arith, Option, Some, None, ◌⊎◌, inl, inr}
+use Rattle.std.proofs.Common.{◌≡◌, ◌≢◌, ℕ, zero, suc, ◌+◌, ◌%◌, ◌^◌, ◌<◌, ◌≤◌, List, [], ◌∷◌, ◌++◌, append_assoc, length, Bool, true, false, cond, ◌||◌, ◌&&◌, not, refl, sym, ◌∙◌, ap, subst, arith, Option, Some, None}
 use Rattle.std.specs.Prelude.{Result, Ok, Err, slice_get, map, IsSomeAnd}
 use Rattle.std.specs.List.{AllByRecursion, list_any}
 use Rattle.std.proofs.lemmas.Bool.{leb-true, and_parts}
@@ -32,7 +32,6 @@ use Rattle.asm_model.specs.Forms.{same}
 use Rattle.asm_model.specs.Grammar.{Tree}
 use Rattle.asm_model.specs.Meaning.{named_in, in_area, entry_stands_at, stands_at, meant, entry_value, value_of as value_of_name}
 use Rattle.asm_model.specs.Says.{mapped}
-use Rattle.asm_model.proofs.WordLemmas.{same_true}
 use Rattle.asm_model.specs.Before.{with_name, areas_behind, is_thumb_label}
 use Rattle.asm_model.specs.Entries.{imported_entry, equal_entry, thumb_of}
 use Rattle.asm_model.specs.Extents.{Extent, Block, Padding, Loading, Pool}
@@ -55,7 +54,7 @@ use Rattle.source_model.specs.ValueKinds.{lies_within, kinds_unless, exported_ki
 use Rattle.source_laws.specs.Laws.{word_among, context_behind}
 use Rattle.source_laws.proofs.FaultlessLemmas.{layout_sound}
 use Rattle.source_laws.proofs.LineLemmas.{statements_lie_in_areas}
-use Rattle.object_laws.specs.Laws.{IsListed, AreFaultless}
+use Rattle.object_laws.specs.Laws.{AreFaultless}
 use Rattle.object_laws.proofs.AreaLemmas.{AreApart, apart_with}
 use Rattle.object_laws.proofs.BitLemmas.{IsAllowed, reference_allowed, placed_allowed, absolute_allowed}
 use Rattle.object_laws.proofs.EachLemmas.{DefinitionIs, EachDefinition, definitions_joined, names_each, found_each, each_joined, each_there, names_text, line_below, name_shown}
