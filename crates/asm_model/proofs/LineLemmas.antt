@@ -1,6 +1,6 @@
 -- What a line sees stays with all names.
-use Rattle.std.proofs.Common.{◌≡◌, ℕ, List, [], ◌∷◌, ◌++◌, Bool, true, false, cond, refl, sym, ◌∙◌, ap, subst, Option, Some, None, ◌⊎◌, inl, inr, elim}
-use Rattle.std.specs.Prelude.{Result, Ok, Err}
+use Rattle.std.proofs.Common.{◌≡◌, ℕ, List, [], ◌∷◌, ◌++◌, Bool, true, false, cond, refl, sym, ◌∙◌, ap, subst, inl, inr, Option, Some, None}
+use Rattle.std.specs.Prelude.{◌⊎◌, Result, Ok, Err}
 use Rattle.sdt_fault.specs.declared.kinds.LineKind.{LineKind}
 use Rattle.sdt_fault.specs.declared.kinds.LineKind.TheVariants.{Forward}
 use Rattle.asm_model.specs.declared.exprs.ExprItem.{ExprItem}
@@ -105,10 +105,9 @@ imports_are_later (Some name) = (refl, refl, tt)
 pub declared_are_later : (ss : List Statement) → AreLater (declared_names ss)
 declared_are_later [] = tt
 declared_are_later (s ∷ before) =
-    later_joined (declared_names before) (declared_entries (defined_by s) s before ++ declared_imports (imported_in s.what))
-    (declared_are_later before)
-    (later_joined (declared_entries (defined_by s) s before) (declared_imports (imported_in s.what))
-    (entries_are_later (defined_by s) s before) (imports_are_later (imported_in s.what)))
+    later_joined (declared_names before ++ declared_entries (defined_by s) s before) (declared_imports (imported_in s.what))
+    (later_joined (declared_names before) (declared_entries (defined_by s) s before) (declared_are_later before) (entries_are_later (defined_by s) s before))
+    (imports_are_later (imported_in s.what))
 
 pub each_more : (xs ys ns : List LaidName) → HoldsEach xs ns → HoldsEach (xs ++ ys) ns
 each_more xs ys [] h = tt
