@@ -61,23 +61,23 @@ fn later_named<'a>(later: Option<&'a KnownNames>, name: &Text) -> Option<&'a Lai
     }
 }
 
-/// The first entry with the name behind the known names.
-fn entry_behind<'a>(seen: &Seen<'a>, name: &Text) -> Option<&'a LaidName>
-    ensures { option_copied result ≡ named_in name.now (one_entry (option_copied seen.now.own) ++ listed (option_copied seen.now.later)) }
+/// The first entry with the name among the known ones.
+fn known_named<'a>(seen: &Seen<'a>, name: &Text) -> Option<&'a LaidName>
+    ensures { option_copied result ≡ named_in name.now (seen.now.names.now ++ one_entry (option_copied seen.now.own)) }
 {
-    if let Some(entry) = own_named(seen.own, name) {
+    let names = seen.names;
+    if let Some(entry) = names.find(name) {
         return Some(entry);
     }
-    later_named(seen.later, name)
+    own_named(seen.own, name)
 }
 
 /// The first entry with the name.
 pub fn entry_named<'a>(seen: &Seen<'a>, name: &Text) -> Option<&'a LaidName>
     ensures { option_copied result ≡ named_in name.now (seen_names seen.now).list }
 {
-    let names = seen.names;
-    if let Some(entry) = names.find(name) {
+    if let Some(entry) = known_named(seen, name) {
         return Some(entry);
     }
-    entry_behind(seen, name)
+    later_named(seen.later, name)
 }

@@ -7,9 +7,11 @@ use Rattle.asm_expr.proofs.names.entry_named.Goals as goal
 
 pub returns-in-Some : goal.returns-in-Some
 returns-in-Some c =
-    found_before c.args.name.now c.args.seen.now.names.now (one_entry (option_copied c.args.seen.now.own) ++ listed (option_copied c.args.seen.now.later)) c.in-Some.entry.now (sym c.in-Some.ensures)
+    found_before c.args.name.now (c.args.seen.now.names.now ++ one_entry (option_copied c.args.seen.now.own)) (listed (option_copied c.args.seen.now.later))
+    c.in-Some.entry.now (sym c.in-Some.ensures)
 
 pub returns : goal.returns
 returns c =
-    c.entry_behind.ensures
-    ∙ found_behind c.args.name.now c.args.seen.now.names.now (one_entry (option_copied c.args.seen.now.own) ++ listed (option_copied c.args.seen.now.later)) (sym c.in_default.ensures)
+    c.later_named.ensures
+    ∙ found_behind c.args.name.now (c.args.seen.now.names.now ++ one_entry (option_copied c.args.seen.now.own)) (listed (option_copied c.args.seen.now.later))
+    (sym c.in_default.ensures)
