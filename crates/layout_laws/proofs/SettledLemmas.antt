@@ -15,11 +15,11 @@ use Rattle.asm_model.specs.Grammar.{Tree}
 use Rattle.asm_model.proofs.WordLemmas.{same_refl}
 use Rattle.asm_model.specs.Labels.{Defined, Unnamed, Label, Equal, MapField, RegisterName, defined_by, declared_names}
 use Rattle.asm_model.specs.Laid.{laid_of, laid, source_lines, all_entries, names_after, final_names}
-use Rattle.asm_model.specs.LayoutKinds.{equal_of, equals_in, is_settled_item, are_settled, settled_by, settled_after, settled}
+use Rattle.asm_model.specs.LayoutKinds.{equals_in, is_settled_item, are_settled, settled_by, settled_after, settled}
 use Rattle.asm_model.specs.Sound.{IsSound, IsNoPlace, HaveNoPlaces, ArePlain, HasNoPlace}
-use Rattle.layout_laws.proofs.EqualLemmas.{EachEqual, OfTrees, equal_all, equal_weaker, equal_both, lines_hold, lines_regular}
+use Rattle.layout_laws.proofs.EqualLemmas.{equal_of, all_equals, EachEqual, OfTrees, equal_all, equal_weaker, equal_both, lines_hold, lines_regular}
 use Rattle.layout_laws.proofs.RoundLemmas.{SymbolIs, ItemIs, TreeIs, tree_weaker}
-use Rattle.layout_laws.proofs.SoundLemmas.{EachSound, sound_each, equals_distinct, equals_settled, IsPlainEqual, equals_plain, IsSettledIn, settled_unique}
+use Rattle.layout_laws.proofs.SoundLemmas.{EachSound, sound_each, equals_are_all, equals_distinct, equals_settled, IsPlainEqual, equals_plain, IsSettledIn, settled_unique}
 use Rattle.layout_laws.proofs.StepLemmas.{EachEquated, each_weaker, IsGood, good_more, rounds, rounds_end}
 use Rattle.layout_laws.proofs.TreeLemmas.{ItemsEach, tree_each, SomeEach}
 use Rattle.asm_model.specs.Trees.{tree_behind}
@@ -80,33 +80,33 @@ pub other_name : (X : Type 0) (r p : List ℕ) → same r p ≡ false → p ≡ 
 other_name X r p h e = let x : same r p ≡ true = subst (λ z. same r z ≡ true) (sym e) (same_refl r) in absurd (cc)
 
 -- what has no expression is good
-pub free_good : (d : List LaidName) (ss : List Statement) (k : ℕ) (r : List ℕ) → list_any (λ e. same r e.0) (equals_in ss) ≡ false
+pub free_good : (d : List LaidName) (ss : List Statement) (k : ℕ) (r : List ℕ) → list_any (λ e. same r e.0) (all_equals ss) ≡ false
     → IsGood (source_lines (laid_of d ss)) (suc k) r
 free_good d ss k r h =
     let P = IsGood (source_lines (laid_of d ss)) k in
     lines_hold (λ p t. p ≡ r → TreeIs P t) d ss
-    (equal_weaker (λ p e. same r p ≡ false) (OfTrees (λ p t. p ≡ r → TreeIs P t)) (λ p e a t s x. other_name (TreeIs P t) r p a x) (equals_in ss)
-    (found_name (equals_in ss) r h))
+    (equal_weaker (λ p e. same r p ≡ false) (OfTrees (λ p t. p ≡ r → TreeIs P t)) (λ p e a t s x. other_name (TreeIs P t) r p a x) (all_equals ss)
+    (found_name (all_equals ss) r h))
 
 -- the names in the expression of a settled name are good
 abbrev pub Leads : List SourceLine → List (List ℕ × Expr) → ℕ → List ℕ → Expr → Type 0
 Leads ls E k p e = list_any (same p) (settled_after k E) ≡ true → OfTrees (λ q t. TreeIs (IsGood ls k) t) p e
 
 pub deep_good : (d : List LaidName) (ss : List Statement) (k : ℕ) (r : List ℕ)
-    → EachEqual (Leads (source_lines (laid_of d ss)) (equals_in ss) k) (equals_in ss)
-    → list_any (same r) (settled_after k (equals_in ss)) ≡ true → IsGood (source_lines (laid_of d ss)) (suc k) r
+    → EachEqual (Leads (source_lines (laid_of d ss)) (all_equals ss) k) (all_equals ss)
+    → list_any (same r) (settled_after k (all_equals ss)) ≡ true → IsGood (source_lines (laid_of d ss)) (suc k) r
 deep_good d ss k r before h =
     let P = IsGood (source_lines (laid_of d ss)) k in
     lines_hold (λ p t. p ≡ r → TreeIs P t) d ss
-    (equal_weaker (Leads (source_lines (laid_of d ss)) (equals_in ss) k) (OfTrees (λ p t. p ≡ r → TreeIs P t))
-    (λ p e f t s x. f (subst (λ z. list_any (same z) (settled_after k (equals_in ss)) ≡ true) (sym x) h) t s) (equals_in ss) before)
+    (equal_weaker (Leads (source_lines (laid_of d ss)) (all_equals ss) k) (OfTrees (λ p t. p ≡ r → TreeIs P t))
+    (λ p e f t s x. f (subst (λ z. list_any (same z) (settled_after k (all_equals ss)) ≡ true) (sym x) h) t s) (all_equals ss) before)
 
 pub settled_lead : (d : List LaidName) (ss : List Statement) (S : List (List ℕ)) → EachSound S ss → ArePlain ss → (k : ℕ)
-    → EachEqual (Leads (source_lines (laid_of d ss)) (equals_in ss) k) (equals_in ss)
+    → EachEqual (Leads (source_lines (laid_of d ss)) (all_equals ss) k) (all_equals ss)
 settled_lead d ss S sound plain zero =
-    equal_all (Leads (source_lines (laid_of d ss)) (equals_in ss) zero) (λ p e h. absurd (cc)) (equals_in ss)
+    equal_all (Leads (source_lines (laid_of d ss)) (all_equals ss) zero) (λ p e h. absurd (cc)) (all_equals ss)
 settled_lead d ss S sound plain (suc k) =
-    let E = equals_in ss in
+    let E = all_equals ss in
     let ls = source_lines (laid_of d ss) in
     let before = settled_lead d ss S sound plain k in
     let plains = equals_plain ss plain in
@@ -125,16 +125,21 @@ few_equals (Equal name e) xs n h = omega (arith, length-append xs (equal_of (Equ
 few_equals (MapField name) xs n h = omega (arith, length-append xs (equal_of (MapField name)))
 few_equals (RegisterName name r) xs n h = omega (arith, length-append xs (equal_of (RegisterName name r)))
 
-pub equals_few : (d : List LaidName) (ss : List Statement) → length (equals_in ss) ≤ length (laid_of d ss)
+pub equals_few : (d : List LaidName) (ss : List Statement) → length (all_equals ss) ≤ length (laid_of d ss)
 equals_few d [] = omega arith
-equals_few d (s ∷ ss) = few_equals (defined_by s) (equals_in ss) (length (laid_of d ss)) (equals_few d ss)
+equals_few d (s ∷ ss) = few_equals (defined_by s) (all_equals ss) (length (laid_of d ss)) (equals_few d ss)
+
+pub source_sound : (ss : List Statement) → IsSound ss → EachSound (settled (all_equals ss)) ss
+source_sound ss h =
+    let sound = sound_each (settled (equals_in ss)) ss (declared_names ss) ss h in
+    subst (λ z. EachSound (settled z) ss) (equals_are_all (settled (equals_in ss)) ss sound) sound
 
 pub all_lead : (ss : List Statement) → IsSound ss → ArePlain ss
     → EachEquated (λ p t. TreeIs (IsGood (source_lines (laid ss)) (length (laid ss))) t) (source_lines (laid ss))
 all_lead ss h plain =
-    let E = equals_in ss in
+    let E = all_equals ss in
     let ls = source_lines (laid ss) in
-    let sound = sound_each (settled E) ss (declared_names ss) ss h in
+    let sound = source_sound ss h in
     let m = length E in
     let R = λ (p : List ℕ) (t : Tree). TreeIs (IsGood ls m) t in
     each_weaker R (λ p t. TreeIs (IsGood ls (length (laid ss))) t)

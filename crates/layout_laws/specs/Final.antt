@@ -4,8 +4,9 @@ use Rattle.std.specs.Prelude.{◌≡◌, List, [], ◌∷◌, ◌++◌, Ok}
 use Rattle.asm_model.specs.declared.exprs.Expr.{Expr}
 use Rattle.asm_model.specs.declared.values.Value.{Value}
 use Rattle.asm_model.specs.declared.names.LaidName.{LaidName}
+use Rattle.asm_model.specs.declared.names.Names.{Names}
 use Rattle.asm_model.specs.declared.statements.Statement.{Statement}
-use Rattle.asm_model.specs.AtLine.{Sight, seen_behind}
+use Rattle.asm_model.specs.AtLine.{seen_behind}
 use Rattle.asm_model.specs.Extents.{value_there}
 use Rattle.asm_model.specs.Labels.{Defined, Equal, defined_by, declared_names}
 use Rattle.asm_model.specs.Laid.{LaidLine, lines_of, laid, source_lines, all_entries, final_names, final_value}
@@ -27,7 +28,7 @@ KnownValuesAreFinal =
     → final_value (final_names (laid statements)) l.line e ≡ Ok v
 
 -- a name for an expression has a value that is known at its line
-abbrev pub IsEqualKnown : Sight → Defined → Type 0
+abbrev pub IsEqualKnown : Names → Defined → Type 0
 IsEqualKnown s (Equal name e) = (v : Value) × (value_there s e ≡ Ok v)
 IsEqualKnown s _ = Unit {0}
 
