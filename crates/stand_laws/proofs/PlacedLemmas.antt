@@ -61,7 +61,7 @@ facts_of ss o faultless obj few_areas few_symbols area =
     numbers name =
         let names = symbols_of (source_of ss).names (source_of ss).lines in
         let many = ap length obj.symbols
-        ∙ length-map names (λ (n : List ℕ). symbol_named (source_of ss) n (named_in n (source_of ss).names)) in
+        ∙ length-map names (symbol_named (source_of ss)) in
         let most = place_most name names in
         omega arith
 
