@@ -1,5 +1,5 @@
 -- An expression in which names that a line doesn't know stay names, by what all names make of it.
-use Rattle.std.proofs.Common.{◌≡◌, ℕ, List, [], ◌∷◌, Bool, true, false, cond, refl, sym, ◌∙◌, ap, subst, arith, inr}
+use Rattle.std.proofs.Common.{◌≡◌, ℕ, List, [], ◌∷◌, Bool, true, false, cond, refl, sym, ◌∙◌, ap, subst, arith}
 use Rattle.std.specs.Prelude.{Result, Ok, Err}
 use Rattle.sdt_fault.specs.declared.kinds.LineKind.{LineKind}
 use Rattle.asm_model.specs.declared.exprs.BinaryOp.{BinaryOp}

@@ -1,5 +1,5 @@
 -- The literal of a line, with all names, is the value of its expression.
-use Rattle.std.proofs.Common.{◌≡◌, ℕ, ◌+◌, ◌%◌, ◌^◌, List, [], ◌∷◌, refl, sym, ◌∙◌, ap, subst, arith, Option, Some, None, ◌⊎◌, inl, inr}
+use Rattle.std.proofs.Common.{◌≡◌, ℕ, ◌+◌, ◌%◌, ◌^◌, List, [], ◌∷◌, refl, sym, ◌∙◌, ap, subst, arith, Option, Some, None}
 use Rattle.std.specs.Prelude.{Result, Ok, Err, ◌==◌}
 use Rattle.std.proofs.lemmas.Bool.{cond-true, eq-eqb}
 use Rattle.sdt_fault.specs.declared.kinds.LineKind.{LineKind}
@@ -11,7 +11,7 @@ use Rattle.asm_model.specs.declared.names.Names.{Names}
 use Rattle.asm_model.specs.declared.values.Value.{Value}
 use Rattle.asm_model.specs.declared.values.Value.TheVariants.{Number, Truth, Words, Place}
 use Rattle.asm_model.specs.Grammar.{Tree, Leaf, Between}
-use Rattle.asm_model.specs.Meaning.{named_in, entry_stands_at, stands_at, less, moved_place, added_place, distance, between_places, as_number, as_place, binary, value_of, on_both, meaning}
+use Rattle.asm_model.specs.Meaning.{named_in, stands_at, less, moved_place, added_place, distance, between_places, as_number, as_place, binary, value_of, on_both, meaning}
 use Rattle.asm_model.proofs.LineLemmas.{number_more}
 use Rattle.layout_laws.proofs.RoundLemmas.{ResultIs}
 use Rattle.layout_laws.proofs.SettledLemmas.{HoldsConstant}
@@ -125,7 +125,7 @@ same_value x f r h k = let e : Ok x ≡ Ok f = sym h ∙ k in cc
 pub exact : (s final : Names) (Own : List ℕ → Type 0) → Later s final Own → (w : Value) (r : Result Value LineKind) → r ≡ Ok w → ResultIs Own r
     → Loads final w r
 exact s final Own later (Place [] n) r e h = e
-exact s final Own later (Place (c ∷ cs) n) r e h f x =
+exact s final Own later (Place (c ∷ cs) n) r e h = λ f x.
     subst (λ z. Plus z n r) (same_value (Place (c ∷ cs) 0) f (value_of (named_in (c ∷ cs) final.list)) (later.entry (c ∷ cs) (subst (ResultIs Own) e h)) x)
     (plus_itself (c ∷ cs) n r e)
 exact s final Own later w r e h = e

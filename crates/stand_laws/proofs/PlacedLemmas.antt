@@ -9,7 +9,6 @@ use Rattle.aof_object.specs.declared.records.Area.{Area}
 use Rattle.aof_object.specs.declared.records.Object.{Object}
 use Rattle.asm_model.specs.declared.statements.Statement.{Statement}
 use Rattle.asm_model.specs.Forms.{same}
-use Rattle.asm_model.specs.Meaning.{named_in}
 use Rattle.asm_model.specs.Before.{areas_behind, place_of}
 use Rattle.asm_model.specs.Laid.{statements_of, laid}
 use Rattle.asm_model.specs.LayoutKinds.{equals_in, settled, is_thumb_area}
