@@ -50,7 +50,8 @@ use Rattle.source_laws.proofs.ZeroLemmas.{place_below}
 use Rattle.object_laws.specs.Laws.{IsListed, OptionListed, TargetListed, UnitListed, AreFaultless}
 use Rattle.object_laws.proofs.AreaLemmas.{area_facts}
 use Rattle.object_laws.proofs.BitLemmas.{zero_flag, by_area, by_symbol, by_branch}
-use Rattle.object_laws.proofs.EachLemmas.{IsBelow, each_there, each_by_place, areas_text, line_below, name_shown}
+use Rattle.object_laws.proofs.EachLemmas.{IsBelow, each_there, each_by_place, areas_text, line_below}
+use Rattle.object_laws.proofs.NameLemmas.{name_shown}
 use Rattle.object_laws.proofs.OriginLemmas.{IsOwn, value_own, literal_own}
 use Rattle.object_laws.proofs.TargetLemmas.{symbols_are_listed}
 use Rattle.aof_object.proofs.SpelledObject.{all_get as each_at}

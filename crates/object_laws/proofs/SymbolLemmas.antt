@@ -29,17 +29,15 @@ use Rattle.asm_model.specs.declared.thumb_lines.ThumbLine.TheVariants as thumb
 use Rattle.asm_model.specs.declared.values.Value.{Value}
 use Rattle.asm_model.specs.declared.values.Value.TheVariants.{Number, Truth, Words, Place}
 use Rattle.asm_model.specs.Forms.{same}
-use Rattle.asm_model.specs.Grammar.{Tree}
 use Rattle.asm_model.specs.Meaning.{named_in, in_area, entry_stands_at, stands_at, meant, entry_value, value_of as value_of_name}
 use Rattle.asm_model.specs.Says.{mapped}
-use Rattle.asm_model.specs.Before.{with_name, areas_behind, is_thumb_label}
+use Rattle.asm_model.specs.Before.{with_name, areas_behind}
 use Rattle.asm_model.specs.Entries.{imported_entry, equal_entry, thumb_of}
 use Rattle.asm_model.specs.Extents.{Extent, Block, Padding, Loading, Pool}
-use Rattle.asm_model.specs.Labels.{Defined, Unnamed, Label, Equal, MapField, RegisterName, defined_by, imported_in, declared_names, is_hidden}
-use Rattle.asm_model.specs.Laid.{LaidLine, statements_of, taken, map_behind, tree_equated, definition_of, imported_lines, laid_behind, laid_of, laid, source_lines, final_names}
+use Rattle.asm_model.specs.Labels.{imported_in, is_hidden}
+use Rattle.asm_model.specs.Laid.{LaidLine, taken, laid, final_names}
 use Rattle.asm_model.specs.Marks.{datum_names}
 use Rattle.asm_model.specs.Sound.{IsSound}
-use Rattle.asm_model.specs.Trees.{tree_of}
 use Rattle.asm_model.specs.Symbols.{literal_value, unless_placed, word_symbols, words_symbols, branch_symbols, literal_symbols, symbols_in, listed_behind, symbols_of, symbols_of}
 use Rattle.layout_laws.proofs.FoundLemmas.{imports_stand}
 use Rattle.layout_laws.proofs.RoundLemmas.{ResultIs}
@@ -47,7 +45,7 @@ use Rattle.said_model.specs.Fit.{AllPlaceless, WhatFits, IsFit}
 use Rattle.said_model.specs.Said.{what_names, HoldsNoZero, HasTexts}
 use Rattle.source_model.specs.ArmForms.{is_settled, has_symbol, branch_from, branch_displacement, branch_field, arm_instruction}
 use Rattle.source_model.specs.Contexts.{Context, sees, is_symbol, is_symbol_entry, may_have_symbol, value_of, and_then}
-use Rattle.source_model.specs.Objects.{Source, source_of, is_exported as is_exported_name, is_weak, scope, contents_of, holds_code, symbol_placed, in_no_line, symbol_valued, symbol_named, IsObject}
+use Rattle.source_model.specs.Objects.{Source, source_of, At, is_exported as is_exported_name, is_weak, scope, contents_of, holds_code, symbol_placed, in_no_line, symbol_valued, symbol_named, IsObject}
 use Rattle.source_model.specs.ThumbForms.{half_words, pair_fields, thumb_displacement, thumb_from, thumb_instruction}
 use Rattle.source_model.specs.Units.{Emitted, Instruction, branch_symbol, link_symbol, code_unit, units}
 use Rattle.source_model.specs.ValueKinds.{lies_within, kinds_unless, exported_kinds, export_kinds, statement_kinds}
@@ -57,7 +55,8 @@ use Rattle.source_laws.proofs.LineLemmas.{statements_lie_in_areas}
 use Rattle.object_laws.specs.Laws.{AreFaultless}
 use Rattle.object_laws.proofs.AreaLemmas.{AreApart, apart_with}
 use Rattle.object_laws.proofs.BitLemmas.{IsAllowed, reference_allowed, placed_allowed, absolute_allowed}
-use Rattle.object_laws.proofs.EachLemmas.{DefinitionIs, EachDefinition, definitions_joined, names_each, found_each, each_joined, each_there, names_text, line_below, name_shown}
+use Rattle.object_laws.proofs.EachLemmas.{each_joined, each_there, names_text, line_below}
+use Rattle.object_laws.proofs.NameLemmas.{final_each, name_shown}
 use Rattle.object_laws.proofs.FaultLemmas.{sizes_of, line_valued}
 use Rattle.object_laws.proofs.OriginLemmas.{IsOwn, named_name, value_own, literal_own}
 use Rattle.said_model.proofs.SharedLemmas.{are_plain as said_plain}
@@ -137,47 +136,23 @@ label_ends count sizes (Some k) offset size f a e =
 abbrev pub Ends : List Statement → LaidName → Type 0
 Ends ss n = is_symbol n.meaning ≡ true → EndsBelow (length (areas_behind ss)) (sizes_of ss) 0 (in_area n.area n.offset)
 
-pub equal_ends : (ss : List Statement) (names : List LaidName) (area : Option ℕ) (name : List ℕ) (r : Result Value LineKind)
+equal_ends : (ss : List Statement) (names : List LaidName) (area : Option ℕ) (name : List ℕ) (r : Result Value LineKind)
     → Ends ss (equal_entry names area name r)
 equal_ends ss names area name (Ok (Place [] n)) k = absurd (cc)
 equal_ends ss names area name r k = absurd (cc)
 
-pub tree_ends : (ss : List Statement) (names : List LaidName) (area : Option ℕ) (name : List ℕ) (o : Option Tree)
-    → DefinitionIs (Ends ss) (tree_equated names area name o)
-tree_ends ss names area name None = tt
-tree_ends ss names area name (Some t) = equal_ends ss names area name
-
-pub definition_ends : (ss : List Statement) (names : List LaidName) (x : Defined) (area : Option ℕ) (offset size : ℕ) (thumb : Bool) (m : ℕ)
-    → ((k : ℕ) → area ≡ Some k → (k < length (areas_behind ss)) × (offset + size ≤ sizes_of ss k))
-    → DefinitionIs (Ends ss) (definition_of names x area offset (Some size) thumb m)
-definition_ends ss names Unnamed area offset size thumb m f = tt
-definition_ends ss names (Label name) area offset size thumb m f = λ k. label_ends (length (areas_behind ss)) (sizes_of ss) area offset size f
-definition_ends ss names (Equal name e) area offset size thumb m f = tree_ends ss names area name (tree_of e)
-definition_ends ss names (MapField name) area offset size thumb m f = λ k. absurd (cc)
-definition_ends ss names (RegisterName name r) area offset size thumb m f = λ k. absurd (cc)
-
-pub import_ends : (ss : List Statement) (s : Statement) (before : List LaidLine) (o : Option (List ℕ))
-    → EachDefinition (Ends ss) (imported_lines s before o)
-import_ends ss s before None = tt
-import_ends ss s before (Some name) = (λ k a e. absurd (no_area 0 a e), tt)
-
-pub lines_end : (all : List Statement) → IsSound all → (after : List LaidLine) (ss : List Statement)
-    → laid all ≡ after ++ laid_of (declared_names all) ss → EachDefinition (Ends all) (source_lines (laid_of (declared_names all) ss))
-lines_end all sound after [] e = tt
-lines_end all sound after (s ∷ ss) e =
-    let d = declared_names all in
-    let before = laid_of d ss in
-    let l = laid_behind d s before in
-    definitions_joined (Ends all) (source_lines before) (l.line ∷ imported_lines s before (imported_in s.what))
-    (lines_end all sound (after ++ l ∷ []) ss (e ∙ sym (append_assoc after (l ∷ []) before))) (
-      definition_ends all d (defined_by s) l.area l.offset l.size (is_thumb_label s (statements_of before)) (map_behind before)
-          (λ k own. (line_below all after before l e k own, statements_lie_in_areas all sound k after before l e own)),
-      import_ends all s before (imported_in s.what),
-    )
-
 pub name_ends : (ss : List Statement) → IsSound ss → (q : List ℕ) (n : LaidName) → named_in q (final_names (laid ss)) ≡ Some n → Ends ss n
-name_ends ss sound q n e =
-    found_each (Ends ss) q (final_names (laid ss)) (names_each (Ends ss) (length (laid ss)) (source_lines (laid ss)) (lines_end ss sound [] ss refl)) n e
+name_ends ss sound = final_each ss (Ends ss) (record {
+  label = λ l at name x thumb is. label_ends (length (areas_behind ss)) (sizes_of ss) l.area l.offset l.size (line_ends l at);
+  equal = λ l at name e x names r. equal_ends ss names l.area name r;
+  field = λ l at name x m is. absurd (cc);
+  register = λ l at name r x is. absurd (cc);
+  imported = λ l at name x is a e. absurd (no_area 0 a e);
+})
+  where
+    line_ends : (l : LaidLine) → At (source_of ss) l → (k : ℕ) → l.area ≡ Some k → (k < length (areas_behind ss)) × (l.offset + l.size ≤ sizes_of ss k)
+    line_ends l at k own =
+        (line_below ss at.rest at.before l at.parts k own, statements_lie_in_areas ss sound k at.rest at.before l at.parts own)
 
 pub own_name_good : (ss : List Statement) → AreFaultless ss → (q : List ℕ) (own : IsOwn (final_names (laid ss)) q)
     → EndsBelow (length (areas_behind ss)) (sizes_of ss) 0 (in_area own.0.area own.0.offset) → IsGoodName ss q
