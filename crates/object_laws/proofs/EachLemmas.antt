@@ -1,6 +1,6 @@
 -- What all entries of names keep, and all statements: names are texts, and areas are those of the source.
 use Rattle.std.proofs.Common.{◌≡◌, ℕ, zero, suc, ◌<◌, ◌≤◌, List, [], ◌∷◌, ◌++◌, length, Bool, true, false, cond, refl, sym, ◌∙◌, ap, subst, arith, Option, Some, None}
-use Rattle.std.specs.Prelude.{Result, Ok, Err, slice_get}
+use Rattle.std.specs.Prelude.{Result, Ok, slice_get}
 use Rattle.std.specs.List.{AllByRecursion, list_any}
 use Rattle.sdt_fault.specs.declared.kinds.LineKind.{LineKind}
 use Rattle.asm_model.specs.declared.directives.DirectiveLine.TheVariants as line
@@ -9,8 +9,8 @@ use Rattle.asm_model.specs.declared.statements.Statement.{Statement}
 use Rattle.asm_model.specs.declared.statements.What.{What}
 use Rattle.asm_model.specs.declared.statements.What.TheVariants as what
 use Rattle.asm_model.specs.declared.values.Value.{Value}
-use Rattle.asm_model.specs.declared.values.Value.TheVariants.{Number, Truth, Words, Place}
-use Rattle.asm_model.specs.AtLine.{Definition, Nameless, Named, Equated, SourceLine, with_names, made_name}
+use Rattle.asm_model.specs.declared.values.Value.TheVariants.{Place}
+use Rattle.asm_model.specs.AtLine.{Definition, Nameless, Named, Equated, SourceLine, with_names}
 use Rattle.asm_model.specs.Forms.{same}
 use Rattle.asm_model.specs.Grammar.{Tree}
 use Rattle.asm_model.specs.Meaning.{named_in, meaning}
@@ -133,7 +133,7 @@ line_below ss after before l e a own =
 abbrev pub DefinitionIs : (LaidName → Type 0) → Definition → Type 0
 DefinitionIs R Nameless = Unit {0}
 DefinitionIs R (Named n) = R n
-DefinitionIs R (Equated make t) = (v : Value) → R (make v)
+DefinitionIs R (Equated make t) = (r : Result Value LineKind) → R (make r)
 
 abbrev pub EachDefinition : (LaidName → Type 0) → List SourceLine → Type 0
 EachDefinition R [] = Unit {0}
@@ -143,14 +143,10 @@ pub definitions_joined : (R : LaidName → Type 0) (ls ms : List SourceLine) →
 definitions_joined R [] ms h k = k
 definitions_joined R (l ∷ ls) ms h k = (h.0, definitions_joined R ls ms h.1 k)
 
-pub made_each : (R : LaidName → Type 0) (make : Value → LaidName) (r : Result Value LineKind) → ((v : Value) → R (make v)) → AllByRecursion R (made_name make r)
-made_each R make (Ok v) f = (f v, tt)
-made_each R make (Err k) f = tt
-
 pub entry_each : (R : LaidName → Type 0) (xs : List LaidName) (l : SourceLine) (d : Definition) → DefinitionIs R d → AllByRecursion R (entries_with xs l d)
 entry_each R xs l Nameless h = tt
 entry_each R xs l (Named n) h = (h, tt)
-entry_each R xs l (Equated make t) h = made_each R make (meaning (with_names l xs) t) h
+entry_each R xs l (Equated make t) h = (h (meaning (with_names l xs) t), tt)
 
 pub entries_each : (R : LaidName → Type 0) (xs : List LaidName) (ls : List SourceLine) → EachDefinition R ls → AllByRecursion R (all_entries xs ls)
 entries_each R xs [] h = tt
@@ -173,26 +169,23 @@ found_each R q (m ∷ ms) h n e = by_test (same m.name q) (found_each R q ms h.1
 abbrev pub IsShown : ℕ → LaidName → Type 0
 IsShown count n = HoldsNoZero n.name × IsBelow count n.area
 
-pub equal_shown : (count : ℕ) (names : List LaidName) (area : Option ℕ) (name : List ℕ) → HoldsNoZero name → IsBelow count area → (v : Value)
-    → IsShown count (equal_entry names area name v)
-equal_shown count names area name h f (Place [] n) = (h, f)
-equal_shown count names area name h f (Place (c ∷ cs) n) = (h, λ a e. absurd (cc))
-equal_shown count names area name h f (Number n) = (h, λ a e. absurd (cc))
-equal_shown count names area name h f (Truth b) = (h, λ a e. absurd (cc))
-equal_shown count names area name h f (Words w) = (h, λ a e. absurd (cc))
+pub equal_shown : (count : ℕ) (names : List LaidName) (area : Option ℕ) (name : List ℕ) → HoldsNoZero name → IsBelow count area → (r : Result Value LineKind)
+    → IsShown count (equal_entry names area name r)
+equal_shown count names area name h f (Ok (Place [] n)) = (h, f)
+equal_shown count names area name h f r = (h, λ a e. absurd (cc))
 
 pub equated_shown : (count : ℕ) (names : List LaidName) (area : Option ℕ) (name : List ℕ) (o : Option Tree) → HoldsNoZero name → IsBelow count area
     → DefinitionIs (IsShown count) (tree_equated names area name o)
 equated_shown count names area name None h f = tt
 equated_shown count names area name (Some t) h f = equal_shown count names area name h f
 
-pub definition_shown : (count : ℕ) (names : List LaidName) (x : Defined) (area : Option ℕ) (offset size : ℕ) (thumb : Bool) (m : ℕ) → DefinedText x → IsBelow count area
+pub definition_shown : (count : ℕ) (names : List LaidName) (x : Defined) (area : Option ℕ) (offset : ℕ) (size : Option ℕ) (thumb : Bool) (m : ℕ) → DefinedText x → IsBelow count area
     → DefinitionIs (IsShown count) (definition_of names x area offset size thumb m)
 definition_shown count names Unnamed area offset size thumb m h f = tt
 definition_shown count names (Label name) area offset size thumb m h f = (h, f)
 definition_shown count names (Equal name e) area offset size thumb m h f = equated_shown count names area name (tree_of e) h f
 definition_shown count names (MapField name) area offset size thumb m h f = (h, λ a e. absurd (cc))
-definition_shown count names (RegisterName name r) area offset size thumb m h f = tt
+definition_shown count names (RegisterName name r) area offset size thumb m h f = (h, λ a e. absurd (cc))
 
 pub imported_shown : (count : ℕ) (s : Statement) (before : List LaidLine) (o : Option (List ℕ)) → OptionText o
     → EachDefinition (IsShown count) (imported_lines s before o)
@@ -206,7 +199,7 @@ lines_shown count d (s ∷ ss) h k =
     let l = laid_behind d s (laid_of d ss) in
     definitions_joined (IsShown count) (source_lines (laid_of d ss)) (l.line ∷ imported_lines s (laid_of d ss) (imported_in s.what))
     (lines_shown count d ss h.1 (no_fewer (area_named s.what) (areas_behind ss) count k)) (
-      definition_shown count d (defined_by s) (area_behind (s ∷ statements_of (laid_of d ss))) (offset_behind s (laid_of d ss)) l.size
+      definition_shown count d (defined_by s) (area_behind (s ∷ statements_of (laid_of d ss))) (offset_behind s (laid_of d ss)) (Some l.size)
           (is_thumb_label s (statements_of (laid_of d ss))) (map_behind (laid_of d ss)) (defined_text s h.0)
           (λ a e. let p = area_below (s ∷ ss) a (ap (λ z. area_behind (s ∷ z)) (sym (statements_kept d ss)) ∙ e) in omega (arith, p)),
       imported_shown count s (laid_of d ss) (imported_in s.what) (import_text s.what (names_text s h.0)),
