@@ -1,5 +1,5 @@
 -- Entries that are found by their names.
-use Rattle.std.proofs.Common.{◌≡◌, ℕ, List, [], ◌∷◌, Bool, true, false, cond, refl, ◌∙◌, ap, Option, Some, None}
+use Rattle.std.proofs.Common.{◌≡◌, ℕ, List, [], ◌∷◌, Bool, true, false, cond, refl, sym, ◌∙◌, ap, Option, Some, None}
 use Rattle.asm_model.specs.declared.names.LaidName.{LaidName}
 use Rattle.asm_model.specs.AtLine.{HoldsEach}
 use Rattle.asm_model.specs.Forms.{same}
@@ -15,6 +15,15 @@ found_name q (n ∷ ns) e h = by_test (same n.name q) refl h (found_name q ns e)
     by_test : (b : Bool) → same n.name q ≡ b → cond b (Some n) (named_in q ns) ≡ Some e → (named_in q ns ≡ Some e → e.name ≡ q) → e.name ≡ q
     by_test true s k rest = let x : n ≡ e = cc in rw (← x) (same_true n.name q s)
     by_test false s k rest = rest k
+
+pub each_has : (list ns : List LaidName) → HoldsEach list ns → (q : List ℕ) (e : LaidName) → named_in q ns ≡ Some e → named_in q list ≡ Some e
+each_has list [] h q e g = absurd (cc)
+each_has list (n ∷ ns) h q e g = by_test (same n.name q) refl (each_has list ns h.1 q e) g
+  where
+    by_test : (b : Bool) → same n.name q ≡ b → (named_in q ns ≡ Some e → named_in q list ≡ Some e)
+        → cond b (Some n) (named_in q ns) ≡ Some e → named_in q list ≡ Some e
+    by_test true s rest k = ap (λ x. named_in x list) (sym (same_true n.name q s)) ∙ h.0 ∙ k
+    by_test false s rest k = rest k
 
 pub named_same : (q : List ℕ) (list : List LaidName) (e : LaidName) → named_in q list ≡ Some e → named_in e.name list ≡ Some e
 named_same q list e h = ap (λ x. named_in x list) (found_name q list e h) ∙ h

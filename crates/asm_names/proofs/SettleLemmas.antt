@@ -1,6 +1,6 @@
 -- Names for expressions that are evaluated in an order have their final entries.
 use Rattle.std.proofs.Common.{◌≡◌, ℕ, ◌+◌, ◌<◌, ◌==◌, List, [], ◌∷◌, ◌++◌, ◌||◌, length, map, take, slice_index_or, Bool, true, false, cond, refl, sym, ◌∙◌, ap, subst, arith, Option, Some, None, inl, inr, append_assoc}
-use Rattle.std.specs.Prelude.{Result, Ok, Err}
+use Rattle.std.specs.Prelude.{Result, Ok}
 use Rattle.std.specs.List.{list_any, slice_get, AllByRecursion}
 use Rattle.std.specs.Option.{option_map}
 use Rattle.std.proofs.lemmas.List.{take_more, length-map}
@@ -14,7 +14,7 @@ use Rattle.asm_model.specs.AtLine.{HoldsEach, with_names}
 use Rattle.asm_model.specs.Directives.{or_else}
 use Rattle.asm_model.specs.Forms.{same}
 use Rattle.asm_model.specs.Meaning.{named_in, entry_value, known as value_known, meaning}
-use Rattle.asm_model.proofs.LineLemmas.{each_has, each_append}
+use Rattle.asm_model.proofs.LineLemmas.{each_append}
 use Rattle.asm_model.proofs.WordLemmas.{same_refl, same_true}
 use Rattle.asm_model.specs.Entries.{valued_entry, thumb_of, equal_entry}
 use Rattle.layout_laws.proofs.EqualLemmas.{equal_made}
@@ -25,7 +25,7 @@ use Rattle.asm_names.specs.Order.{names_at, is_in, IsOrder}
 use Rattle.asm_names.proofs.ListLemmas.{all_get}
 use Rattle.asm_names.proofs.SearchLemmas.{one_more}
 use Rattle.asm_names.specs.Steps.{one_entry}
-use Rattle.asm_names.proofs.EntryLemmas.{found_name, named_same, each_one}
+use Rattle.asm_names.proofs.EntryLemmas.{found_name, each_has, named_same, each_one}
 use Rattle.asm_names.specs.Lines.{line_of}
 use Rattle.asm_names.specs.Source.{Owed, equal_pair, IsEntryAt, Settles, begun, further}
 use Rattle.asm_names.proofs.MatchLemmas.{EachOwn, Fits}

@@ -1,6 +1,6 @@
 -- The names that the code finds are all names of the source.
 use Rattle.std.proofs.Common.{◌≡◌, ℕ, zero, suc, List, [], ◌∷◌, ◌++◌, map, true, refl, sym, ◌∙◌, ap, subst, Some, append_assoc, append-nil}
-use Rattle.std.specs.Prelude.{Result, Ok, Err, IfOk}
+use Rattle.std.specs.Prelude.{Result, IfOk}
 use Rattle.std.specs.List.{list_any, slice_get, flat_map, AllByRecursion}
 use Rattle.sdt_fault.specs.declared.NoMemory.{NoMemory}
 use Rattle.asm_model.specs.declared.exprs.Expr.{Expr}
@@ -17,6 +17,7 @@ use Rattle.layout_laws.proofs.FinalLemmas.{source_holds}
 use Rattle.layout_laws.proofs.SettledLemmas.{source_sound, final_names_are_their_entries}
 use Rattle.layout_laws.proofs.SoundLemmas.{EachSound, equals_distinct, equals_settled, IsSettledIn, settled_unique}
 use Rattle.asm_names.specs.Order.{names_at, is_in, IsOrder}
+use Rattle.asm_names.proofs.CallLemmas.{if_ok_more}
 use Rattle.asm_names.proofs.ListLemmas.{cut_at}
 use Rattle.asm_names.proofs.SearchLemmas.{names_more, one_more}
 use Rattle.asm_names.proofs.SettledLemmas.{rounds_stop}
@@ -116,10 +117,6 @@ all_names_found ss lines declared all whole first known source owed order firsts
 pub pairs_twice : {X Y Z : Type 0} → (f : X → Y) (g : Y → Z) (xs : List X) → map (λ x. g (f x)) xs ≡ map g (map f xs)
 pairs_twice f g [] = refl
 pairs_twice f g (x ∷ xs) = ap (λ z. g (f x) ∷ z) (pairs_twice f g xs)
-
-if_ok_more : {X E : Type 0} → (P Q : X → Type 0) → ((x : X) → P x → Q x) → (r : Result X E) → IfOk r P → IfOk r Q
-if_ok_more P Q f (Ok x) h = f x h
-if_ok_more P Q f (Err e) h = tt
 
 pub final_is : (ss : List Statement) (lines : List PlacedLine) (declared : List LaidName) (dues looked seen : List Due) (places taken : List ℕ)
     (none first known : List LaidName) (r : Result (List LaidName) NoMemory)

@@ -4,20 +4,17 @@ use Rattle.std.specs.Prelude.{Result, Ok, Err}
 use Rattle.sdt_fault.specs.declared.kinds.LineKind.{LineKind}
 use Rattle.sdt_fault.specs.declared.kinds.LineKind.TheVariants.{Forward}
 use Rattle.asm_model.specs.declared.exprs.ExprItem.{ExprItem}
-use Rattle.asm_model.specs.declared.exprs.Part.{Part}
 use Rattle.asm_model.specs.declared.values.Value.{Value}
 use Rattle.asm_model.specs.declared.values.Value.TheVariants.{Number, Truth, Words, Place}
 use Rattle.asm_model.specs.declared.values.EvalFault.{EvalFault}
 use Rattle.asm_model.specs.declared.values.EvalFault.TheVariants as eval
 use Rattle.asm_model.specs.declared.names.Names.{Names}
 use Rattle.asm_model.specs.AtLine.{kept_names, literal_or}
-use Rattle.asm_model.specs.Grammar.{Tree, postfix, IsSpelled}
+use Rattle.asm_model.specs.Grammar.{Tree}
 use Rattle.asm_model.specs.Meaning.{meaning, IsValue, Evaluates}
-use Rattle.asm_model.proofs.LineLemmas.{told_nothing}
-use Rattle.asm_names.specs.Namess.{Evaluates, SeesLiteral}
-use Rattle.asm_names.specs.Steps.{items_kinds, told_through, kept_items, is_settled, place_or_forward, SeesKept}
-use Rattle.asm_names.proofs.ToldLemmas.{told_of_items}
-use Rattle.asm_names.proofs.ItemLemmas.{kinds_of_tree, kept_of_tree, kept_same, kept_spelled}
+use Rattle.asm_names.specs.Steps.{kept_items, is_settled, place_or_forward, SeesKept}
+use Rattle.asm_names.specs.Values.{SeesLiteral}
+use Rattle.asm_names.proofs.ItemLemmas.{kept_of_tree, kept_same, kept_spelled}
 
 pub sees_kept : (s : Names) (items kept : List ExprItem) (r : Result Value EvalFault) → kept ≡ kept_items s items → Evaluates s kept r → SeesKept s items r
 sees_kept s items kept r k h ps t d e =

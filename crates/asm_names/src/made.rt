@@ -93,12 +93,7 @@ pub fn later_entry(alloc: Global, name: &Text, thumb: bool) -> Result<LaidName, 
 }
 
 /// The entry of a name with a value of its own.
-fn valued_entry(
-    alloc: Global,
-    name: &Text,
-    value: Value,
-    thumb: bool,
-) -> Result<LaidName, NoMemory>
+fn valued_entry(alloc: Global, name: &Text, value: Value, thumb: bool) -> Result<LaidName, NoMemory>
     ensures { IfOk result (λ entry. entry ≡ entries.valued_entry name.now value thumb) }
 {
     entry(alloc, name, Meaning::Known(value), Some(0), thumb)
