@@ -10,7 +10,7 @@ use Rattle.asm_model.specs.declared.exprs.Part.{Part}
 use Rattle.asm_model.specs.Grammar.{Tree, postfix, plain, Spells, operand, of_name, before, grouped, between, tighter, IsSpelled}
 use Rattle.asm_model.specs.Meaning.{Operand, operand_of_item, operand_of_tree, meaning}
 use Rattle.asm_expr.specs.Evaluating.{act, run, ended}
-use Rattle.asm_model.proofs.LateLemmas.{plain_operand}
+use Rattle.asm_model.proofs.TreeLemmas.{plain_operand}
 
 act_plain : (names : Names) (i : ExprItem) (s : List Operand) → plain i ≡ Some i → act names i s ≡ operand_of_item names i ∷ s
 act_plain names (item.Name n) s e = refl

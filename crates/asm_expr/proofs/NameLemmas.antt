@@ -14,8 +14,8 @@ named_back q (n ∷ ns) ys h = by_test (same n.name q) h (named_back q ns ys)
     by_test true k rest = absurd (cc)
     by_test false k rest = rest k
 
-pub known_before : (q : List ℕ) (known own : List LaidName) (e : LaidName) → named_in q known ≡ Some e → Some e ≡ named_in q (known ++ own)
-known_before q known own e h = sym (named_front known own q e h)
+pub found_before : (q : List ℕ) (known own : List LaidName) (e : LaidName) → named_in q known ≡ Some e → Some e ≡ named_in q (known ++ own)
+found_before q known own e h = sym (named_front known own q e h)
 
-pub known_own : (q : List ℕ) (known own : List LaidName) → named_in q known ≡ None → named_in q own ≡ named_in q (known ++ own)
-known_own q known own h = sym (named_back q known own h)
+pub found_behind : (q : List ℕ) (known own : List LaidName) → named_in q known ≡ None → named_in q own ≡ named_in q (known ++ own)
+found_behind q known own h = sym (named_back q known own h)

@@ -1,7 +1,6 @@
 -- Evaluation with a stack of operands, its top first. This project's: what the code does, and the laws tie it to
 -- the meaning of the expression.
 use Rattle.std.specs.Prelude.{List, [], ◌∷◌, map, reverse, Result, Ok, Err}
-use Rattle.std.specs.Borrow.{Bor}
 use Rattle.std.specs.Option.{option_copied}
 use Rattle.sdt_fault.specs.declared.kinds.LineKind.{LineKind}
 use Rattle.sdt_fault.specs.declared.kinds.LineKind.TheVariants.{Syntax}
@@ -53,8 +52,3 @@ operand_of (slot.Fault kind) = Known (Err kind)
 -- the operands in slots, the last first
 abbrev pub operands_of : List Slot → List Operand
 operands_of slots = reverse (map operand_of slots)
-
--- a value that was borrowed, or a fault
-abbrev pub value_copied : Result (Bor Value) LineKind → Result Value LineKind
-value_copied (Ok v) = Ok v.now
-value_copied (Err kind) = Err kind

@@ -4,7 +4,7 @@ ghost use Rattle.std.specs.Prelude.{◌≡◌, IfOk};
 ghost use Rattle.asm_model.specs.Meaning as meaning;
 ghost use Rattle.asm_expr.specs.Evaluating as evaluating;
 
-use asm_model::{LaidName, Value};
+use asm_model::{LaidName, Meaning, Value};
 use sdt_fault::NoMemory;
 use sdt_fault::kinds::LineKind;
 use std::alloc::Global;
@@ -19,26 +19,29 @@ pub enum Slot<'a> {
     Fault(LineKind),
 }
 
-/// The value of an operand, where it stands.
-pub fn value_in<'a>(slot: &'a Slot<'_>) -> Result<&'a Value, LineKind>
-    ensures { evaluating.value_copied result ≡ meaning.known (evaluating.operand_of slot.now) }
+/// The value that a name stands for.
+fn entry_value(alloc: Global, entry: &LaidName) -> Result<Result<Value, LineKind>, NoMemory>
+    ensures { IfOk result (λ value. value ≡ meaning.entry_value entry.now) }
 {
-    match slot {
-        Slot::Name(None) => Err(LineKind::UnknownWord),
-        Slot::Name(Some(entry)) => Ok(&entry.value),
-        Slot::Constant(value) => Ok(value),
-        Slot::Known(value) => Ok(value),
-        Slot::Fault(kind) => Err(*kind),
+    match &entry.meaning {
+        Meaning::Later => Ok(Err(LineKind::Forward)),
+        Meaning::Known(value) => Ok(Ok(value.try_clone(alloc)?)),
+        Meaning::Faulty(kind) => Ok(Err(*kind)),
+        Meaning::Register => Ok(Err(LineKind::WrongType)),
+        _ => {
+            let symbol = entry.name.try_clone(alloc)?;
+            Ok(Ok(Value::Place { symbol, plus: 0 }))
+        }
     }
 }
 
-/// The value of an operand, to keep.
+/// The value of an operand.
 pub fn known(alloc: Global, slot: Slot<'_>) -> Result<Result<Value, LineKind>, NoMemory>
     ensures { IfOk result (λ value. value ≡ meaning.known (evaluating.operand_of slot.entry)) }
 {
     match slot {
         Slot::Name(None) => Ok(Err(LineKind::UnknownWord)),
-        Slot::Name(Some(entry)) => Ok(Ok(entry.value.try_clone(alloc)?)),
+        Slot::Name(Some(entry)) => entry_value(alloc, entry),
         Slot::Constant(value) => Ok(Ok(value.try_clone(alloc)?)),
         Slot::Known(value) => Ok(Ok(value)),
         Slot::Fault(kind) => Ok(Err(kind)),

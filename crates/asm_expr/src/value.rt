@@ -9,8 +9,8 @@ ghost use Rattle.asm_expr.specs.Seeing.{seen_names};
 use crate::kinds::earlier;
 use crate::names::{Seen, entry_named};
 use crate::operators::{binary, unary};
-use crate::slots::{Slot, known, slot_of, value_in};
-use asm_model::{BinaryOp, EvalFault, Expr, ExprItem, LaidName, UnaryOp, Value};
+use crate::slots::{Slot, known, slot_of};
+use asm_model::{BinaryOp, EvalFault, Expr, ExprItem, LaidName, Meaning, UnaryOp, Value};
 use sdt_fault::kinds::LineKind;
 use sdt_fault::{NoMemory, Text};
 use std::alloc::Global;
@@ -19,9 +19,27 @@ use std::alloc::Global;
 fn size_of(entry: Option<&LaidName>) -> Result<Value, LineKind>
     ensures { result ≡ meaning.size_of (option_copied entry.entry) }
 {
-    match entry {
-        None => Err(LineKind::UnknownWord),
-        Some(entry) => Ok(Value::Number(entry.size)),
+    let Some(entry) = entry else {
+        return Err(LineKind::UnknownWord);
+    };
+    match (&entry.meaning, entry.size) {
+        (Meaning::Later, _) => Err(LineKind::Forward),
+        (Meaning::Register, _) => Err(LineKind::WrongType),
+        (_, None) => Err(LineKind::Forward),
+        (_, Some(size)) => Ok(Value::Number(size)),
+    }
+}
+
+/// Whether a name is defined.
+fn is_defined(entry: Option<&LaidName>) -> Result<Value, LineKind>
+    ensures { result ≡ meaning.defined_of (option_copied entry.entry) }
+{
+    let Some(entry) = entry else {
+        return Ok(Value::Truth(false));
+    };
+    match &entry.meaning {
+        Meaning::Later => Err(LineKind::Forward),
+        _ => Ok(Value::Truth(true)),
     }
 }
 
@@ -29,12 +47,12 @@ fn size_of(entry: Option<&LaidName>) -> Result<Value, LineKind>
 fn on_value(
     alloc: Global,
     op: UnaryOp,
-    operand: &Slot<'_>,
+    operand: Slot<'_>,
 ) -> Result<Result<Value, LineKind>, NoMemory>
-    ensures { IfOk result (λ value. value ≡ meaning.then_of (meaning.known (evaluating.operand_of operand.now)) (meaning.unary_of op)) }
+    ensures { IfOk result (λ value. value ≡ meaning.then_of (meaning.known (evaluating.operand_of operand.entry)) (meaning.unary_of op)) }
 {
-    match value_in(operand) {
-        Ok(value) => unary(alloc, op, value),
+    match known(alloc, operand)? {
+        Ok(value) => unary(alloc, op, &value),
         Err(kind) => Ok(Err(kind)),
     }
 }
@@ -43,13 +61,13 @@ fn on_value(
 fn applied(
     alloc: Global,
     op: UnaryOp,
-    operand: &Slot<'_>,
+    operand: Slot<'_>,
 ) -> Result<Result<Value, LineKind>, NoMemory>
-    ensures { IfOk result (λ value. value ≡ meaning.applied op (evaluating.operand_of operand.now)) }
+    ensures { IfOk result (λ value. value ≡ meaning.applied op (evaluating.operand_of operand.entry)) }
 {
     match (op, operand) {
-        (UnaryOp::Size, Slot::Name(entry)) => Ok(size_of(*entry)),
-        (UnaryOp::Defined, Slot::Name(entry)) => Ok(Ok(Value::Truth(entry.is_some()))),
+        (UnaryOp::Size, Slot::Name(entry)) => Ok(size_of(entry)),
+        (UnaryOp::Defined, Slot::Name(entry)) => Ok(is_defined(entry)),
         (op, operand) => on_value(alloc, op, operand),
     }
 }
@@ -59,13 +77,13 @@ fn on_both(
     alloc: Global,
     seen: &Seen<'_>,
     op: BinaryOp,
-    left: &Slot<'_>,
-    right: &Slot<'_>,
+    left: Slot<'_>,
+    right: Slot<'_>,
 ) -> Result<Result<Value, LineKind>, NoMemory>
-    ensures { IfOk result (λ value. value ≡ meaning.on_both (meaning.known (evaluating.operand_of left.now)) (meaning.known (evaluating.operand_of right.now)) (meaning.binary (seen_names seen.now) op)) }
+    ensures { IfOk result (λ value. value ≡ meaning.on_both (meaning.known (evaluating.operand_of left.entry)) (meaning.known (evaluating.operand_of right.entry)) (meaning.binary (seen_names seen.now) op)) }
 {
-    match (value_in(left), value_in(right)) {
-        (Ok(left), Ok(right)) => binary(alloc, seen, op, left, right),
+    match (known(alloc, left)?, known(alloc, right)?) {
+        (Ok(left), Ok(right)) => binary(alloc, seen, op, &left, &right),
         (Ok(_), Err(kind)) => Ok(Err(kind)),
         (Err(kind), Ok(_)) => Ok(Err(kind)),
         (Err(kind), Err(other)) => Ok(Err(earlier(kind, other))),
@@ -109,7 +127,7 @@ fn act_unary(alloc: Global, op: UnaryOp, stack: &mut Vec<Slot<'_>>) -> Result<()
         stack.push(Slot::Fault(LineKind::Syntax))?;
         return Ok(());
     };
-    let value = applied(alloc, op, &top)?;
+    let value = applied(alloc, op, top)?;
     stack.push(slot_of(value))?;
     Ok(())
 }
@@ -131,7 +149,7 @@ fn act_binary(
         stack.push(Slot::Fault(LineKind::Syntax))?;
         return Ok(());
     };
-    let value = on_both(alloc, seen, op, &left, &right)?;
+    let value = on_both(alloc, seen, op, left, right)?;
     stack.push(slot_of(value))?;
     Ok(())
 }
@@ -196,8 +214,8 @@ fn value_of(
 }
 
 /// The value of an expression with these names, or the kind of its fault: UnknownWord for a name that isn't there
-/// and for a reference to a local label, WrongType, OutOfRange, DivideByZero, and TooMany for a string of more than
-/// `STRING_BYTES` bytes.
+/// and for a reference to a local label, Forward for a name that means something later, WrongType, OutOfRange,
+/// DivideByZero, and TooMany for a string of more than `STRING_BYTES` bytes.
 pub fn evaluate(alloc: Global, e: &Expr, seen: &Seen<'_>) -> Result<Value, EvalFault>
     ensures { meaning.Evaluates (seen_names seen.now) e.now.items result }
 {

@@ -1,6 +1,5 @@
 pub mod EntryLemmas
 pub mod ItemLemmas
-pub mod ToldLemmas
 pub mod ValueLemmas
 pub mod CallLemmas
 pub mod IndexLemmas
@@ -9,7 +8,6 @@ pub mod LookLemmas
 pub mod OrderLemmas
 pub mod SearchLemmas
 pub mod SettledLemmas
-pub mod LineLemmas
 mod MatchLemmas
 mod OnceLemmas
 mod SettleLemmas

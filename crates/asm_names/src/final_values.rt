@@ -22,6 +22,7 @@ pub fn final_value(
     let seen = Seen {
         names,
         own: None,
+        later: None,
         area: line.area,
         offset: line.offset,
         map: line.map,

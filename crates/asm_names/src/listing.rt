@@ -42,7 +42,7 @@ fn entry_in(
             &defines,
             line.area,
             line.offset,
-            line.size,
+            Some(line.size),
             line.thumb_label,
             line.map,
         ),

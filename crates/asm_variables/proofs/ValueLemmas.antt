@@ -20,7 +20,7 @@ use Rattle.asm_model.specs.Grammar.{Tree, Leaf, Before, Between, postfix, plain,
 use Rattle.asm_model.specs.Kinds.{told_kind}
 use Rattle.asm_model.specs.Meaning.{named_in, meaning, Evaluates, IsValue}
 use Rattle.asm_model.proofs.FaultLemmas.{told_by_parts}
-use Rattle.asm_model.proofs.LateLemmas.{plain_operand}
+use Rattle.asm_model.proofs.TreeLemmas.{plain_operand}
 use Rattle.asm_model.proofs.TreeLemmas.{trees_read_back}
 use Rattle.std.specs.Option.{is_some}
 use Rattle.expand_model.specs.Known.{Operand, item_kinds, asked_kinds, tree_kinds, name_kinds, names_with, maybe_value, value_with}
