@@ -1,5 +1,5 @@
 -- The states of a source's areas, with a statement more.
-use Rattle.std.proofs.Common.{◌≡◌, ◌<◌, ◌≤◌, ℕ, ◌+◌, ◌-◌, Bool, List, [], ◌∷◌, length, take, drop, get_or, refl, sym, ap, ◌∙◌, subst, arith}
+use Rattle.std.proofs.Common.{◌≡◌, ◌<◌, ◌≤◌, ◌+◌, ◌-◌, List, [], ◌∷◌, length, take, drop, get_or, sym, ap, ◌∙◌, subst, arith}
 use Rattle.asm_areas.specs.declared.states.States.{States}
 use Rattle.asm_areas.specs.States.{AreStates}
 use Rattle.asm_laying.specs.declared.areas.Areas.{Areas}

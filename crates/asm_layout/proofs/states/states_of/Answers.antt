@@ -1,4 +1,4 @@
-use Rattle.asm_layout.proofs.StateLemmas.{room, noted_next, all_noted}
+use Rattle.asm_layout.proofs.StateLemmas.{room, noted_next}
 use Rattle.std.proofs.Common.{refl}
 use Rattle.asm_layout.proofs.states.states_of.Goals as goal
 
