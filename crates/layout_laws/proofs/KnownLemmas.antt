@@ -14,12 +14,12 @@ use Rattle.asm_model.specs.declared.names.LaidName.{LaidName}
 use Rattle.asm_model.specs.AtLine.{SourceLine, with_names}
 use Rattle.asm_model.specs.Forms.{same}
 use Rattle.asm_model.specs.Grammar.{Tree, Leaf, Before, Between}
-use Rattle.asm_model.specs.Meaning.{named_in, entry_stands_at, stands_at, distance, between_places, as_number, binary, unary_of, Operand, Known, Unread, value_of, size_of, defined_of, known, then_of, on_both, applied, operand_of_item, operand_of_tree, meaning}
+use Rattle.asm_model.specs.Meaning.{named_in, entry_stands_at, stands_at, distance, between_places, binary, unary_of, Operand, Known, Unread, value_of, size_of, defined_of, known, then_of, on_both, applied, operand_of_item, operand_of_tree, meaning}
 use Rattle.asm_model.specs.Before.{is_thumb_label}
 use Rattle.asm_model.specs.Entries.{later_entry}
 use Rattle.asm_model.specs.Labels.{Defined, Unnamed, Label, Equal, MapField, RegisterName, defined_by, imported_in, declared_entries, declared_imports, declared_names}
 use Rattle.asm_model.specs.declared.statements.Statement.{Statement}
-use Rattle.asm_model.proofs.LineLemmas.{applied_known}
+use Rattle.asm_model.proofs.LineLemmas.{applied_known, number_more}
 use Rattle.asm_model.proofs.WordLemmas.{same_true}
 
 -- ---- entries that tell more
@@ -84,14 +84,11 @@ places_tell l xs ys h Subtract s t p q =
     (stands_tell l xs ys h s) (stands_tell l xs ys h t)
 places_tell l xs ys h op s t p q = λ n k. absurd (cc)
 
-pub number_tells : (r s : Result ℕ LineKind) → Gives r s → Gives (as_number r) (as_number s)
-number_tells (Ok n) s more v h = ap as_number (more n refl) ∙ h
-number_tells (Err k) s more v h = absurd (cc)
-
 pub binary_tells : (l : SourceLine) (xs ys : List LaidName) → TellAll xs ys → (op : BinaryOp) (v w : Value)
     → Gives (binary (with_names l xs) op v w) (binary (with_names l ys) op v w)
 binary_tells l xs ys h op (Place s p) (Place t q) =
-    number_tells (between_places (with_names l xs) op s p t q) (between_places (with_names l ys) op s p t q) (places_tell l xs ys h op s t p q)
+    let near = between_places (with_names l xs) op s p t q in
+    λ r k. number_more near (between_places (with_names l ys) op s p t q) r (places_tell l xs ys h op s t p q) k
 binary_tells l xs ys h op v w = λ r k. k
 
 pub both_tell : (l : SourceLine) (xs ys : List LaidName) → TellAll xs ys
