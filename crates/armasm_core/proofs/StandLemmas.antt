@@ -93,7 +93,7 @@ thing_number : (l : Layout) (h : HasSource l) (names : List (List ℕ)) → name
 thing_number l h names listed area p x =
     let ss = h.statements in
     unit_number names (length (areas_behind ss)) p.1 (below (length (areas_behind ss)) (length ss) (areas_few ss) h.few)
-    (subst (λ (ns : List (List ℕ)). UnitListed ns p.1) (sym listed) (symbols_are_listed ss h.sound area p x)) (things_below ss h.said h.texts h.fit h.sound area p x)
+    (subst (λ (ns : List (List ℕ)). UnitListed ns p.1) (sym listed) (symbols_are_listed ss h.sound area p x)) (things_below ss h.said h.fit h.sound area p x)
 
 -- ---- room
 

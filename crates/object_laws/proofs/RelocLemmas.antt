@@ -14,7 +14,6 @@ use Rattle.asm_model.specs.declared.directives.Contents.{Contents}
 use Rattle.asm_model.specs.declared.directives.Contents.TheVariants as contents
 use Rattle.asm_model.specs.declared.directives.DirectiveLine.TheVariants as line
 use Rattle.asm_model.specs.declared.exprs.Expr.{Expr}
-use Rattle.asm_model.specs.declared.names.LaidName.{LaidName}
 use Rattle.asm_model.specs.declared.statements.PseudoLine.{PseudoLine}
 use Rattle.asm_model.specs.declared.statements.Statement.{Statement}
 use Rattle.asm_model.specs.declared.statements.What.{What}
@@ -22,7 +21,7 @@ use Rattle.asm_model.specs.declared.statements.What.TheVariants as what
 use Rattle.asm_model.specs.declared.values.Value.{Value}
 use Rattle.asm_model.specs.declared.values.Value.TheVariants.{Number, Truth, Words, Place}
 use Rattle.asm_model.specs.declared.names.Names.{Names}
-use Rattle.asm_model.specs.Meaning.{named_in, in_area, entry_stands_at, stands_at}
+use Rattle.asm_model.specs.Meaning.{in_area, entry_stands_at, stands_at}
 use Rattle.asm_model.specs.Says.{on_both, mapped}
 use Rattle.asm_model.specs.Before.{areas_behind}
 use Rattle.asm_model.specs.Extents.{value_there}
@@ -32,7 +31,7 @@ use Rattle.asm_model.specs.Symbols.{symbols_of, literal_value}
 use Rattle.asm_model.specs.Sound.{IsSound, HaveNoPlaces, ArePlain}
 use Rattle.layout_laws.proofs.RoundLemmas.{ResultIs}
 use Rattle.said_model.specs.Fit.{AllFit, AllPlaceless, WhatFits, IsFit}
-use Rattle.said_model.specs.Said.{AllHaveTexts, AllSaid, HoldsNoZero}
+use Rattle.said_model.specs.Said.{AllSaid, HoldsNoZero}
 use Rattle.source_model.specs.SourceFaults.{layout_faults}
 use Rattle.source_model.specs.ArmForms.{arm_instruction}
 use Rattle.source_model.specs.Contexts.{Context, sees, value_of, number_in, and_then}
@@ -50,8 +49,8 @@ use Rattle.source_laws.proofs.ZeroLemmas.{place_below}
 use Rattle.object_laws.specs.Laws.{IsListed, OptionListed, TargetListed, UnitListed, AreFaultless}
 use Rattle.object_laws.proofs.AreaLemmas.{area_facts}
 use Rattle.object_laws.proofs.BitLemmas.{zero_flag, by_area, by_symbol, by_branch}
-use Rattle.object_laws.proofs.EachLemmas.{IsBelow, each_there, each_by_place, areas_text, line_below}
-use Rattle.object_laws.proofs.NameLemmas.{name_shown}
+use Rattle.object_laws.proofs.EachLemmas.{each_there, each_by_place, areas_text, line_below, name_below}
+use Rattle.source_laws.proofs.WithinLemmas.{AllWithin, area_stands}
 use Rattle.object_laws.proofs.OriginLemmas.{IsOwn, value_own, literal_own}
 use Rattle.object_laws.proofs.TargetLemmas.{symbols_are_listed}
 use Rattle.aof_object.proofs.SpelledObject.{all_get as each_at}
@@ -86,11 +85,7 @@ pub record SeesBelow (count : ℕ) (c : Context) : Type 0 where
   pub area : ℕ
   pub own : c.line.area ≡ Some area
   pub below : area < count
-  pub names : (q : List ℕ) (n : LaidName) → named_in q c.names ≡ Some n → IsBelow count n.area
-
-pub entry_below : (count : ℕ) (area : Option ℕ) (offset : ℕ) (a : ℕ × ℕ) → IsBelow count area → in_area area offset ≡ Some a → a.0 < count
-entry_below count None offset a f e = absurd (cc)
-entry_below count (Some k) offset a f e = let x : (k, offset) ≡ a = cc in subst (λ z. z.0 < count) x (f k refl)
+  pub names : AllWithin count c.names
 
 pub placed_below : (count : ℕ) (c : Context) (d : List (List ℕ)) (s : List ℕ) (n : ℕ) (o : Option (ℕ × ℕ)) → ((a : ℕ × ℕ) → o ≡ Some a → a.0 < count)
     → TargetBelow count (placed c d s n o).target
@@ -104,7 +99,7 @@ word_below count c d (Ok (Place [] n)) h k = subst (λ o. TargetBelow count (pla
 word_below count c d (Ok (Place (x ∷ xs) n)) h k =
     placed_below count c d (x ∷ xs) n (stands_at (sees c) (x ∷ xs))
     (λ a e.
-    entry_below count k.0.area k.0.offset a (h.names (x ∷ xs) k.0 k.1) (ap entry_stands_at (sym k.1) ∙ e))
+    area_stands count k.0.area k.0.offset a.0 a.1 (h.names (x ∷ xs) k.0 k.1) (ap entry_stands_at (sym k.1) ∙ e))
 word_below count c d (Ok (Truth b)) h k = tt
 word_below count c d (Ok (Words w)) h k = tt
 word_below count c d (Err j) h k = tt
@@ -176,20 +171,20 @@ unit_below count at [] p h k = absurd k
 unit_below count at (u ∷ us) p h (inl e) = subst (λ (z : Piece). UnitBelow count z.1) (sym e) h.0
 unit_below count at (u ∷ us) p h (inr k) = unit_below count (at + length (unit_bytes u)) us p h.1 k
 
-pub line_sees_below : (ss : List Statement) → AllHaveTexts ss → (after before : List LaidLine) (l : LaidLine) (area : ℕ) → laid ss ≡ after ++ l ∷ before
+pub line_sees_below : (ss : List Statement) (after before : List LaidLine) (l : LaidLine) (area : ℕ) → laid ss ≡ after ++ l ∷ before
     → l.area ≡ Some area → SeesBelow (length (areas_behind ss)) (context_behind ss l before)
-line_sees_below ss texts after before l area e own =
+line_sees_below ss after before l area e own =
     record {
       area = area;
       own = line_area ss after before l e ∙ own;
       below = line_below ss after before l e area own;
-      names = λ q n x. (name_shown ss texts q n x).1;
+      names = name_below ss;
     }
 
 -- each area that a thing in an area is relocated by is one of the source
-pub things_below : (ss : List Statement) → AllSaid ss → AllHaveTexts ss → AllFit ss → layout_faults ss ≡ None → (area : ℕ) (p : Piece)
+pub things_below : (ss : List Statement) → AllSaid ss → AllFit ss → layout_faults ss ≡ None → (area : ℕ) (p : Piece)
     → StandsIn (source_of ss) area p → UnitBelow (length (areas_behind ss)) p.1
-things_below ss said texts fit none area p x = by_kind (unit_or_word ss area p x)
+things_below ss said fit none area p x = by_kind (unit_or_word ss area p x)
   where
     count : ℕ
     count = length (areas_behind ss)
@@ -209,13 +204,13 @@ things_below ss said texts fit none area p x = by_kind (unit_or_word ss area p x
         let l = u.owner in
         let c = context_behind ss l u.before in
         by_result l.offset (units c (datum_names ss) l.seen (word_among u.after l u.before) l.statement.what)
-        (units_below count c (datum_names ss) l.seen (word_among u.after l u.before) l.statement.what (line_sees_below ss texts u.after u.before l area u.parts u.own)
+        (units_below count c (datum_names ss) l.seen (word_among u.after l u.before) l.statement.what (line_sees_below ss u.after u.before l area u.parts u.own)
         (λ e i. value_own ss sound plain u.before l e i) (each_there IsFit ss fit u.after u.before l u.parts)) u.among
     by_kind (inr w) =
         let c = context_behind ss w.loader w.before in
         let v = literal_value (sees c) w.word.value in
         let below = subst (StoredBelow count) w.word.stores
-        (word_below count c (datum_names ss) v (line_sees_below ss texts w.after w.before w.loader area w.parts w.own)
+        (word_below count c (datum_names ss) v (line_sees_below ss w.after w.before w.loader area w.parts w.own)
         (literal_own ss sound plain w.before w.loader w.word.value)) in
         subst (λ (t : Piece). UnitBelow count t.1) (sym w.word.is) below
 
@@ -293,7 +288,7 @@ relocs_valid ss h areas symbols few area relocs x =
     (λ r i.
     let p = x.no_others r i in
     piece_valid ss areas symbols few p.0.0 p.0.1 (symbols_are_listed ss h.layout area p.0 p.1)
-    (subst (λ n. UnitBelow n p.0.1) few.areas_are (things_below ss h.said h.texts h.fit h.layout area p.0 p.1)) r p.2)
+    (subst (λ n. UnitBelow n p.0.1) few.areas_are (things_below ss h.said h.fit h.layout area p.0 p.1)) r p.2)
 
 -- ---- bytes
 

@@ -48,10 +48,11 @@ use Rattle.source_laws.specs.Laws.{word_among, context_behind}
 use Rattle.asm_instructions.specs.ThumbFits.{ThumbFits, CodeFits}
 use Rattle.asm_instructions.proofs.FitLemmas.{instruction_fits, pseudo_instructions_fit}
 use Rattle.asm_instructions.proofs.ThumbFitLemmas.{thumb_instruction_fits, thumb_pseudo_fits}
-use Rattle.source_laws.proofs.LineLemmas.{is_laid, stands_in}
+use Rattle.source_laws.proofs.AgreeLemmas.{line_area}
+use Rattle.source_laws.proofs.LineLemmas.{stands_in}
 use Rattle.source_laws.proofs.PoolLemmas.{OwnUnit, PoolWord, unit_or_word}
 use Rattle.source_laws.proofs.ThingLemmas.{known_extent}
-use Rattle.source_laws.proofs.WithinLemmas.{IsWithin, area_within, names_within, named_within as entry_within, area_stands, areas_more}
+use Rattle.source_laws.proofs.WithinLemmas.{IsWithin, line_within, names_within, named_within as entry_within, area_stands}
 
 abbrev pub TargetWithin : ℕ → Target → Type 0
 TargetWithin n Nothing = Unit {0}
@@ -280,21 +281,11 @@ lines_said : (ss : List Statement) (after before : List LaidLine) (l : LaidLine)
 lines_said ss after before l said e =
     said_behind after (l ∷ before) (subst (λ z. AllSaid (statements_of z)) e (subst AllSaid (sym (statements_kept (declared_names ss) ss)) said))
 
-line_within : (ss : List Statement) (n : ℕ) (after before : List LaidLine) (l : LaidLine) → length (areas_behind (statements_of (laid ss))) ≤ n → laid ss ≡ after ++ l ∷ before
-    → IsWithin n l.line.area
-line_within ss n after before l few e =
-    let p = is_laid (declared_names ss) ss after before l e in
-    let more = areas_more after (l ∷ before) in
-    let all = subst (λ z. length (areas_behind (statements_of z)) ≤ n) e few in
-    let own : length (areas_behind (statements_of (l ∷ before))) ≤ n = omega arith in
-    subst (λ (z : LaidLine). IsWithin n z.line.area) (sym p.1)
-    (area_within n (p.0 ∷ statements_of before) (subst (λ (z : LaidLine). length (areas_behind (statements_of (z ∷ before))) ≤ n) p.1 own))
-
 context_within : (ss : List Statement) (n : ℕ) (after before : List LaidLine) (l : LaidLine) → length (areas_behind (statements_of (laid ss))) ≤ n → laid ss ≡ after ++ l ∷ before
     → StandsWithin n (context_behind ss l before)
-context_within ss n after before l few e [] (x, y) h = area_stands n l.line.area 0 x y (line_within ss n after before l few e) h
+context_within ss n after before l few e [] (x, y) h = area_stands n l.line.area 0 x y (subst (IsWithin n) (sym (line_area ss after before l e)) (line_within ss n after before l few e)) h
 context_within ss n after before l few e (c ∷ cs) (x, y) h =
-    entry_within n (c ∷ cs) (final_names (laid ss)) x y (names_within n (length (laid ss)) (declared_names ss) ss few) h
+    entry_within n (c ∷ cs) (final_names (laid ss)) x y (names_within n ss few) h
 
 -- ---- things
 
