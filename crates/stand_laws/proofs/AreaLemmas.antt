@@ -23,7 +23,7 @@ use Rattle.layout_laws.proofs.SoundLemmas.{both_empty, or_none, told_none, kind_
 use Rattle.source_model.specs.Objects.{or_two, attributes_word, says_area, attributes_of, contents_in, contents_of, is_kept}
 use Rattle.source_laws.proofs.ListedLemmas.{owned}
 use Rattle.source_laws.proofs.WithinLemmas.{IsWithin, area_within, fewer, line_within}
-use Rattle.source_laws.proofs.ZeroLemmas.{AreNumbered, laid_numbered, numbered_rest, line_kinds}
+use Rattle.source_laws.proofs.ZeroLemmas.{AreNumbered, laid_numbered, line_kinds}
 use Rattle.asm_model.specs.Labels.{declared_names}
 
 -- ---- areas that are there
