@@ -6,11 +6,14 @@ use Rattle.asm_model.specs.declared.names.LaidName.{LaidName}
 use Rattle.asm_model.specs.declared.statements.Statement.{Statement}
 use Rattle.asm_model.specs.declared.values.Value.{Value}
 use Rattle.asm_model.specs.declared.values.Value.TheVariants.{Place}
-use Rattle.asm_model.specs.Meaning.{named_in, entry_stands_at, in_area}
+use Rattle.asm_model.specs.Meaning.{named_in, entry_stands_at, in_area, stands_at}
 use Rattle.asm_model.specs.Before.{area_named, with_name, areas_behind, place_of, area_from, area_behind}
 use Rattle.asm_model.specs.Entries.{equal_entry}
 use Rattle.asm_model.specs.Labels.{declared_names}
 use Rattle.asm_model.specs.Laid.{LaidLine, statements_of, laid, final_names}
+use Rattle.source_model.specs.Contexts.{Context, sees}
+use Rattle.source_laws.specs.Laws.{context_behind}
+use Rattle.source_laws.proofs.AgreeLemmas.{line_area}
 use Rattle.source_laws.proofs.NameLemmas.{final_each}
 use Rattle.source_laws.proofs.ZeroLemmas.{place_below, named_with, no_fewer, AreNumbered, laid_numbered, numbered_rest}
 use Rattle.asm_model.proofs.OffsetLemmas.{through as low_of}
@@ -94,3 +97,13 @@ named_within n q es a o h e = by_entry (named_in q es) refl e
     by_entry : (x : Option LaidName) → named_in q es ≡ x → entry_stands_at x ≡ Some (a, o) → a < n
     by_entry None f k = absurd (cc)
     by_entry (Some m) f k = area_stands n m.area m.offset a o (h q m f) k
+
+-- places that a line's expressions mean are of the source's areas
+abbrev pub StandsWithin : ℕ → Context → Type 0
+StandsWithin n c = (s : List ℕ) (a : ℕ × ℕ) → stands_at (sees c) s ≡ Some a → a.0 < n
+
+pub context_within : (ss : List Statement) (n : ℕ) (after before : List LaidLine) (l : LaidLine) → length (areas_behind (statements_of (laid ss))) ≤ n
+    → laid ss ≡ after ++ l ∷ before → StandsWithin n (context_behind ss l before)
+context_within ss n after before l few e [] a h =
+    area_stands n l.line.area 0 a.0 a.1 (subst (IsWithin n) (sym (line_area ss after before l e)) (line_within ss n after before l few e)) h
+context_within ss n after before l few e (c ∷ cs) a h = named_within n (c ∷ cs) (final_names (laid ss)) a.0 a.1 (names_within n ss few) h
