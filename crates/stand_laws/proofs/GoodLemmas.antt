@@ -82,7 +82,9 @@ ResultGood at (Err k) = Unit {0}
 data_joined : {A : Type 0} → (f : A → Emitted) (at : ℕ) (x : Result A LineKind) (y : Result (List Emitted) LineKind) → ((a : A) (i : ℕ) → IsGood (i, f a))
     → ((i : ℕ) → ResultGood i y) → ResultGood at (on_both (λ a us. f a ∷ us) x y)
 data_joined f at (Ok a) (Ok us) h k = (h a at, k (at + length (unit_bytes (f a))))
-data_joined f at x y h k = tt
+data_joined f at (Ok a) (Err j) h k = tt
+data_joined f at (Err j) (Ok us) h k = tt
+data_joined f at (Err j) (Err i) h k = tt
 
 words_good : (c : Context) (d : List (List ℕ)) (es : List Expr) (at : ℕ) → ResultGood at (word_units c d es)
 words_good c d [] at = tt
