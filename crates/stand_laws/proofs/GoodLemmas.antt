@@ -1,6 +1,6 @@
 -- What stands in an area: its instructions fit their rows, a branch that is left to the linker stands at a multiple of 4,
 -- and words name areas of the source.
-use Rattle.std.proofs.Common.{◌≡◌, ℕ, ◌+◌, ◌-◌, ◌%◌, ◌<◌, ◌≤◌, List, [], ◌∷◌, ◌++◌, length, Bool, true, false, cond, refl, sym, ◌∙◌, subst, arith, Option, Some, None, ◌⊎◌, inl, inr, nat_lt}
+use Rattle.std.proofs.Common.{◌≡◌, ℕ, ◌+◌, ◌-◌, ◌%◌, ◌<◌, List, [], ◌∷◌, ◌++◌, length, Bool, true, false, cond, refl, sym, ◌∙◌, subst, arith, Option, Some, None, ◌⊎◌, inl, inr, nat_lt}
 use Rattle.std.specs.Prelude.{Result, Ok, Err}
 use Rattle.std.proofs.lemmas.Bool.{ltb-true}
 use Rattle.sdt_fault.specs.declared.kinds.LineKind.{LineKind}
@@ -19,36 +19,31 @@ use Rattle.asm_model.specs.declared.statements.Statement.{Statement}
 use Rattle.asm_model.specs.declared.statements.What.{What}
 use Rattle.asm_model.specs.declared.statements.What.TheVariants as what
 use Rattle.asm_model.specs.declared.values.Value.{Value}
-use Rattle.asm_model.specs.declared.values.Value.TheVariants.{Number, Truth, Words, Place}
 use Rattle.asm_model.specs.declared.names.Names.{Names}
 use Rattle.asm_model.specs.Forms.{same}
-use Rattle.asm_model.specs.Meaning.{stands_at}
 use Rattle.asm_model.specs.Says.{on_both, mapped}
-use Rattle.asm_model.specs.Before.{areas_behind}
 use Rattle.asm_model.specs.Extents.{Extent, Block, number_there, thumb_extent, value_there, extent_of}
 use Rattle.asm_model.specs.Labels.{Defined, RegisterName, field_defines, defined_by, declared_names}
-use Rattle.asm_model.specs.Laid.{LaidLine, statements_of, taken, pieces_of, laid, final_names}
+use Rattle.asm_model.specs.Laid.{LaidLine, statements_of, taken, pieces_of, laid}
 use Rattle.asm_model.specs.Marks.{datum_names}
 use Rattle.asm_model.specs.Offsets.{waiting, end_behind, start_from}
-use Rattle.asm_model.specs.Symbols.{literal_value}
 use Rattle.asm_model.specs.Sound.{IsSound}
 use Rattle.layout_laws.proofs.SoundLemmas.{statements_kept}
 use Rattle.said_model.specs.Said.{GivenSaid, ArmSaid, ThumbSaid, PseudoSaid, WhatSaid, AllSaid}
 use Rattle.source_model.specs.ArmForms.{arm_instruction}
-use Rattle.source_model.specs.Contexts.{Context, sees, value_of, number_in, and_then}
+use Rattle.source_model.specs.Contexts.{Context, value_of, number_in, and_then}
 use Rattle.source_model.specs.Objects.{Piece, unit_bytes, units_from, or_none, source_of, IsAmong, StandsIn}
 use Rattle.source_model.specs.PseudoForms.{pseudo_instructions}
 use Rattle.source_model.specs.ThumbForms.{thumb_instruction, thumb_pseudo}
 use Rattle.source_model.specs.declared.codes.ThumbCode.{ThumbCode}
 use Rattle.source_model.specs.declared.codes.ThumbCode.TheVariants.{One, Pair}
 use Rattle.source_model.specs.Registers.{Named, register_in, as_register, given, with_register, named_by, registers_behind}
-use Rattle.source_model.specs.Units.{Emitted, Bytes, Word, Instruction, Half, LinkPair, Stored, Target, Nothing, ByArea, BySymbol, placed, stored, word_units, narrow, half_units, byte_operand, byte_units, branch_symbol, link_symbol, code_unit, instruction_units, pseudo_units, units}
+use Rattle.source_model.specs.Units.{Emitted, Bytes, Word, Instruction, Half, LinkPair, stored, word_units, narrow, half_units, byte_operand, byte_units, branch_symbol, link_symbol, code_unit, instruction_units, pseudo_units, units}
 use Rattle.asm_instructions.specs.Fits.{NamesRegisters, Fits, AllFit}
 use Rattle.source_laws.specs.Laws.{word_among, context_behind}
 use Rattle.asm_instructions.specs.ThumbFits.{ThumbFits, CodeFits}
 use Rattle.asm_instructions.proofs.FitLemmas.{instruction_fits, pseudo_instructions_fit}
 use Rattle.asm_instructions.proofs.ThumbFitLemmas.{thumb_instruction_fits, thumb_pseudo_fits}
-use Rattle.source_laws.proofs.AgreeLemmas.{line_area}
 use Rattle.source_laws.proofs.LineLemmas.{stands_in}
 use Rattle.source_laws.proofs.PoolLemmas.{OwnUnit, PoolWord, unit_or_word}
 use Rattle.source_laws.proofs.ThingLemmas.{known_extent}

@@ -29,7 +29,6 @@ use Rattle.stand_model.specs.Stands.{ReadsHalfAt}
 use Rattle.stand_laws.proofs.LinkedLemmas.{IsPair, branch_word, extended_low, target_sum, halves_shown, pair_halves, pair_target, pair_word, same_branch, stands_to}
 use Rattle.stand_laws.proofs.DirectiveLemmas.{Facts, places_rise, outside_thing, adds, takes}
 use Rattle.object_laws.proofs.RelocLemmas.{TargetBelow}
-
 use Rattle.stand_laws.proofs.RelocLemmas.{reloc_place, own_directives, RelocIs, by_area, by_symbol, of_branch, of_pair}
 use Rattle.stand_laws.proofs.ViewLemmas.{shows_there, number_of_bytes, bytes_wrapped}
 
