@@ -90,7 +90,7 @@ place_of statements areas w known before rest l x h =
       here = h;
       behind = b;
       there = there;
-      names = names_within n (length (laid statements)) d statements (areas_low statements areas h.laid_out);
+      names = names_within n statements (areas_low statements areas h.laid_out);
       within = subst (IsWithin n) (sym (area_is d l before b)) (within_there statements areas w before rest l x there);
     }
 

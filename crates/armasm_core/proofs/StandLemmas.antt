@@ -25,6 +25,7 @@ use Rattle.asm_model.specs.Laid.{LaidLine, laid}
 use Rattle.asm_model.specs.Symbols.{symbols_of}
 use Rattle.asm_model.specs.Forms.{same}
 use Rattle.object_laws.specs.Laws.{OptionListed, TargetListed, UnitListed}
+use Rattle.object_laws.proofs.EachLemmas.{areas_kept}
 use Rattle.object_laws.proofs.RelocLemmas.{TargetBelow, UnitBelow, things_below}
 use Rattle.object_laws.proofs.SizeLemmas.{area_small}
 use Rattle.object_laws.proofs.TargetLemmas.{symbols_are_listed}
@@ -93,7 +94,7 @@ thing_number : (l : Layout) (h : HasSource l) (names : List (List ℕ)) → name
 thing_number l h names listed area p x =
     let ss = h.statements in
     unit_number names (length (areas_behind ss)) p.1 (below (length (areas_behind ss)) (length ss) (areas_few ss) h.few)
-    (subst (λ (ns : List (List ℕ)). UnitListed ns p.1) (sym listed) (symbols_are_listed ss h.sound area p x)) (things_below ss h.said h.texts h.fit h.sound area p x)
+    (subst (λ (ns : List (List ℕ)). UnitListed ns p.1) (sym listed) (symbols_are_listed ss h.sound area p x)) (things_below ss (length (areas_behind ss)) (areas_kept ss) area p x)
 
 -- ---- room
 

@@ -1,24 +1,28 @@
 -- What all entries of names keep, and all statements: names are texts, and areas are those of the source.
-use Rattle.std.proofs.Common.{◌≡◌, ℕ, zero, suc, ◌<◌, ◌≤◌, List, [], ◌∷◌, ◌++◌, length, Bool, true, false, cond, refl, sym, ◌∙◌, ap, subst, arith, Option, Some, None}
-use Rattle.std.specs.Prelude.{slice_get}
+use Rattle.std.proofs.Common.{◌≡◌, ℕ, zero, suc, ◌<◌, ◌≤◌, List, [], ◌∷◌, ◌++◌, length, Bool, true, false, cond, refl, sym, ap, subst, arith, Option, Some, None}
+use Rattle.std.specs.Prelude.{Result, Ok, slice_get}
 use Rattle.std.specs.List.{AllByRecursion, list_any}
+use Rattle.sdt_fault.specs.declared.kinds.LineKind.{LineKind}
 use Rattle.asm_model.specs.declared.directives.DirectiveLine.TheVariants as line
+use Rattle.asm_model.specs.declared.names.LaidName.{LaidName}
 use Rattle.asm_model.specs.declared.statements.Statement.{Statement}
 use Rattle.asm_model.specs.declared.statements.What.{What}
 use Rattle.asm_model.specs.declared.statements.What.TheVariants as what
+use Rattle.asm_model.specs.declared.values.Value.{Value}
+use Rattle.asm_model.specs.declared.values.Value.TheVariants.{Place}
+use Rattle.asm_model.specs.Entries.{equal_entry}
 use Rattle.asm_model.specs.Forms.{same}
-use Rattle.asm_model.specs.Before.{area_named, with_name, areas_behind, place_of, area_from, area_behind}
+use Rattle.asm_model.specs.Meaning.{named_in}
+use Rattle.asm_model.specs.Before.{area_named, with_name, areas_behind}
 use Rattle.asm_model.specs.Labels.{Defined, Unnamed, Label, Equal, MapField, RegisterName, field_defines, defined_by, imported_in, declared_names}
-use Rattle.asm_model.specs.Laid.{LaidLine, statements_of, laid}
+use Rattle.asm_model.specs.Laid.{LaidLine, statements_of, laid, final_names}
 use Rattle.layout_laws.proofs.SoundLemmas.{statements_kept}
 use Rattle.said_model.specs.Said.{what_names, label_names, HoldsNoZero, HasTexts, AllHaveTexts}
-use Rattle.source_laws.proofs.ZeroLemmas.{place_below, named_with, AreNumbered, laid_numbered, numbered_rest, names_of, no_fewer}
+use Rattle.source_model.specs.Objects.{source_of, At}
+use Rattle.source_laws.proofs.NameLemmas.{each_joined, final_each}
+use Rattle.source_laws.proofs.WithinLemmas.{IsWithin, AllWithin, line_within, names_within}
 
 -- ---- lists
-
-pub each_joined : {A : Type 0} (P : A → Type 0) (xs ys : List A) → AllByRecursion P xs → AllByRecursion P ys → AllByRecursion P (xs ++ ys)
-each_joined P [] ys h k = k
-each_joined P (x ∷ xs) ys h k = (h.0, each_joined P xs ys h.1 k)
 
 pub each_part : {A : Type 0} (P : A → Type 0) (xs ys : List A) → AllByRecursion P (xs ++ ys) → AllByRecursion P xs × AllByRecursion P ys
 each_part P [] ys h = (tt, h)
@@ -89,32 +93,40 @@ pub areas_text : (ss : List Statement) → AllHaveTexts ss → AllByRecursion Ho
 areas_text [] h = tt
 areas_text (s ∷ ss) h = with_text (area_named s.what) (areas_behind ss) (area_text s.what (names_text s h.0)) (areas_text ss h.1)
 
+equal_text : (names : List LaidName) (area : Option ℕ) (name : List ℕ) → HoldsNoZero name → (r : Result Value LineKind)
+    → HoldsNoZero (equal_entry names area name r).name
+equal_text names area name h (Ok (Place [] n)) = h
+equal_text names area name h r = h
+
+-- the name of each entry is a text
+pub name_text : (ss : List Statement) → AllHaveTexts ss → (q : List ℕ) (n : LaidName) → named_in q (final_names (laid ss)) ≡ Some n → HoldsNoZero n.name
+name_text ss h = final_each ss (λ n. HoldsNoZero n.name) (record {
+  label = λ l at name x thumb. subst DefinedText x (text l at);
+  equal = λ l at name e x names r. equal_text names l.area name (subst DefinedText x (text l at)) r;
+  field = λ l at name x m. subst DefinedText x (text l at);
+  register = λ l at name r x. subst DefinedText x (text l at);
+  imported = λ l at name x. subst OptionText x (import_text l.statement.what (names_text l.statement (texts l at)));
+})
+  where
+    texts : (l : LaidLine) → At (source_of ss) l → HasTexts l.statement
+    texts l at = each_there HasTexts ss h at.rest at.before l at.parts
+
+    text : (l : LaidLine) → At (source_of ss) l → DefinedText (defined_by l.statement)
+    text l at = defined_text l.statement (texts l at)
+
 -- ---- areas
 
-abbrev pub IsBelow : ℕ → Option ℕ → Type 0
-IsBelow count o = (a : ℕ) → o ≡ Some a → a < count
-
-pub named_below : (o : Option (List ℕ)) (xs : List (List ℕ)) (area : Option ℕ) → IsBelow (length xs) area
-    → IsBelow (length (with_name o xs)) (area_from o (with_name o xs) area)
-named_below None xs area f a e = f a e
-named_below (Some n) xs area f a e =
-    let p = place_below n (with_name (Some n) xs) (named_with n xs) in
-    let x : place_of n (with_name (Some n) xs) ≡ a = cc in subst (λ z. z < length (with_name (Some n) xs)) x p
-
-pub area_below : (ss : List Statement) → IsBelow (length (areas_behind ss)) (area_behind ss)
-area_below [] a e = absurd (cc)
-area_below (s ∷ ss) a e = named_below (area_named s.what) (areas_behind ss) (area_behind ss) (area_below ss) a e
-
-pub fewer_before : (after before : List LaidLine) (k : ℕ) → length (names_of (after ++ before)) ≤ k → length (names_of before) ≤ k
-fewer_before [] before k h = h
-fewer_before (x ∷ after) before k h = fewer_before after before k (no_fewer (area_named x.statement.what) (names_of (after ++ before)) k h)
+pub areas_kept : (ss : List Statement) → length (areas_behind (statements_of (laid ss))) ≤ length (areas_behind ss)
+areas_kept ss =
+    let same : length (areas_behind (statements_of (laid ss))) ≡ length (areas_behind ss) = ap (λ z. length (areas_behind z)) (statements_kept (declared_names ss) ss) in
+    omega arith
 
 -- the area of a line is one of the source
-pub line_below : (ss : List Statement) (after before : List LaidLine) (l : LaidLine) → laid ss ≡ after ++ l ∷ before → IsBelow (length (areas_behind ss)) l.area
-line_below ss after before l e a own =
-    let number = (numbered_rest after (l ∷ before) (subst AreNumbered e (laid_numbered (declared_names ss) ss))).0 in
-    let here = area_below (statements_of (l ∷ before)) a (sym number ∙ own) in
-    let count : length (names_of (laid ss)) ≡ length (areas_behind ss) = ap (λ z. length (areas_behind z)) (statements_kept (declared_names ss) ss) in
-    let few = fewer_before after (l ∷ before) (length (areas_behind ss))
-    (subst (λ z. length (names_of z) ≤ length (areas_behind ss)) e (omega (arith, count))) in
-    omega (arith, here, few)
+pub line_below : (ss : List Statement) (after before : List LaidLine) (l : LaidLine) → laid ss ≡ after ++ l ∷ before → (area : ℕ) → l.area ≡ Some area
+    → area < length (areas_behind ss)
+line_below ss after before l e area own =
+    subst (IsWithin (length (areas_behind ss))) own (line_within ss (length (areas_behind ss)) after before l (areas_kept ss) e)
+
+-- and so is that of a name
+pub name_below : (ss : List Statement) → AllWithin (length (areas_behind ss)) (final_names (laid ss))
+name_below ss = names_within (length (areas_behind ss)) ss (areas_kept ss)

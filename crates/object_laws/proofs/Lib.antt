@@ -3,7 +3,6 @@ pub mod BitLemmas
 pub mod EachLemmas
 pub mod EntryLemmas
 pub mod FaultLemmas
-pub mod NameLemmas
 pub mod OriginLemmas
 pub mod RelocLemmas
 pub mod SizeLemmas

@@ -52,11 +52,12 @@ use Rattle.source_model.specs.ValueKinds.{lies_within, kinds_unless, exported_ki
 use Rattle.source_laws.specs.Laws.{word_among, context_behind}
 use Rattle.source_laws.proofs.FaultlessLemmas.{layout_sound}
 use Rattle.source_laws.proofs.LineLemmas.{statements_lie_in_areas}
+use Rattle.source_laws.proofs.NameLemmas.{each_joined, final_each}
+use Rattle.source_laws.proofs.WithinLemmas.{area_stands}
 use Rattle.object_laws.specs.Laws.{AreFaultless}
 use Rattle.object_laws.proofs.AreaLemmas.{AreApart, apart_with}
 use Rattle.object_laws.proofs.BitLemmas.{IsAllowed, reference_allowed, placed_allowed, absolute_allowed}
-use Rattle.object_laws.proofs.EachLemmas.{each_joined, each_there, names_text, line_below}
-use Rattle.object_laws.proofs.NameLemmas.{final_each, name_shown}
+use Rattle.object_laws.proofs.EachLemmas.{each_there, names_text, name_text, line_below, name_below}
 use Rattle.object_laws.proofs.FaultLemmas.{sizes_of, line_valued}
 use Rattle.object_laws.proofs.OriginLemmas.{IsOwn, named_name, value_own, literal_own}
 use Rattle.said_model.proofs.SharedLemmas.{are_plain as said_plain}
@@ -158,7 +159,7 @@ pub own_name_good : (ss : List Statement) → AreFaultless ss → (q : List ℕ)
     → EndsBelow (length (areas_behind ss)) (sizes_of ss) 0 (in_area own.0.area own.0.offset) → IsGoodName ss q
 own_name_good ss h q own ends = (
   own_good (length (areas_behind ss)) (sizes_of ss) (source_of ss) q own ends,
-  subst HoldsNoZero (named_name q (final_names (laid ss)) own.0 own.1) (name_shown ss h.texts q own.0 own.1).0,
+  subst HoldsNoZero (named_name q (final_names (laid ss)) own.0 own.1) (name_text ss h.texts q own.0 own.1),
 )
 
 pub symbol_own : (name : List ℕ) (m : Meaning) → is_symbol m ≡ true → meant name m ≡ Ok (Place name 0)
@@ -285,10 +286,6 @@ within_ends count sizes (Some b) n f h a e =
     let x : b ≡ a = cc in
     subst (λ (z : ℕ × ℕ). (z.0 < count) × ((z.1 + n) % 2 ^ 32 ≤ sizes z.0)) x (f b refl, leb-true ((b.1 + n) % 2 ^ 32) (sizes b.0) h)
 
-pub area_is_below : (count : ℕ) (area : Option ℕ) (offset : ℕ) (a : ℕ × ℕ) → ((k : ℕ) → area ≡ Some k → k < count) → in_area area offset ≡ Some a → a.0 < count
-area_is_below count None offset a f e = absurd (cc)
-area_is_below count (Some k) offset a f e = let x : (k, offset) ≡ a = cc in subst (λ (z : ℕ × ℕ). z.0 < count) x (f k refl)
-
 -- a place that a name stands for
 pub export_place_good : (ss : List Statement) → AreFaultless ss → (c : Context) → c.names ≡ final_names (laid ss) → (name q : List ℕ) (n : ℕ)
     → lies_within (sizes_of ss) (stands_at (sees c) q) n ≡ true
@@ -317,7 +314,7 @@ export_place_good ss h c names name (x ∷ xs) n within = by_entry (named_in (x 
         subst (λ z. IsGood count (sizes_of ss) (symbol_placed s name (x ∷ xs) n z)) (sym (ap entry_stands_at e))
         (placed_good count (sizes_of ss) s name (x ∷ xs) n (in_area f.area f.offset)
         (within_ends count (sizes_of ss) (in_area f.area f.offset) n
-        (λ a. area_is_below count f.area f.offset a (name_shown ss h.texts (x ∷ xs) f e).1)
+        (λ a. area_stands count f.area f.offset a.0 a.1 (name_below ss (x ∷ xs) f e))
         (subst (λ z. lies_within (sizes_of ss) z n ≡ true) (here f e) within)))
 
 pub export_value_good : (ss : List Statement) → AreFaultless ss → (c : Context) → c.names ≡ final_names (laid ss) → (name : List ℕ) (r : Result Value LineKind)

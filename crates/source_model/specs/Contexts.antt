@@ -37,8 +37,7 @@ abbrev pub or_zero : Option ℕ → ℕ
 or_zero None = 0
 or_zero (Some n) = n
 
--- ---- names that symbols may have: those of labels and imports. Local labels are among the names, under names that no line
--- can spell, and have no symbols
+-- ---- symbols: labels and imports may have one, and no local label, whose name no line can spell
 
 abbrev pub is_symbol : Meaning → Bool
 is_symbol means.Label = true

@@ -22,8 +22,8 @@ use Rattle.asm_model.specs.Offsets.{is_of, waiting, waiting_behind, end_from, en
 use Rattle.layout_laws.proofs.SoundLemmas.{both_empty, or_none, told_none, kind_none}
 use Rattle.source_model.specs.Objects.{or_two, attributes_word, says_area, attributes_of, contents_in, contents_of, is_kept}
 use Rattle.source_laws.proofs.ListedLemmas.{owned}
-use Rattle.source_laws.proofs.WithinLemmas.{IsWithin, area_within, fewer, areas_more}
-use Rattle.source_laws.proofs.ZeroLemmas.{AreNumbered, laid_numbered, numbered_rest, line_kinds}
+use Rattle.source_laws.proofs.WithinLemmas.{IsWithin, area_within, fewer, line_within}
+use Rattle.source_laws.proofs.ZeroLemmas.{AreNumbered, laid_numbered, line_kinds}
 use Rattle.asm_model.specs.Labels.{declared_names}
 
 -- ---- areas that are there
@@ -36,12 +36,7 @@ found_at (x ∷ xs) (suc i) h = found_at xs i (omega arith)
 -- a line's area is one of the source
 pub area_there : (ss : List Statement) (n area : ℕ) (after before : List LaidLine) (l : LaidLine) → length (areas_behind (statements_of (laid ss))) ≤ n
     → laid ss ≡ after ++ l ∷ before → l.area ≡ Some area → area < n
-area_there ss n area after before l few e own =
-    let numbered = numbered_rest after (l ∷ before) (subst AreNumbered e (laid_numbered (declared_names ss) ss)) in
-    let more = areas_more after (l ∷ before) in
-    let all = subst (λ z. length (areas_behind (statements_of z)) ≤ n) e few in
-    let here : length (areas_behind (statements_of (l ∷ before))) ≤ n = omega arith in
-    subst (IsWithin n) (sym numbered.0 ∙ own) (area_within n (statements_of (l ∷ before)) here)
+area_there ss n area after before l few e own = subst (IsWithin n) own (line_within ss n after before l few e)
 
 beyond_line : (area n : ℕ) (o : Option ℕ) → IsWithin n o → n ≤ area → is_of area o ≡ false
 beyond_line area n o h k = by_test (is_of area o) refl

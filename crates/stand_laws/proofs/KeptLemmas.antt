@@ -62,27 +62,15 @@ number_and_place s final Own later op (c ∷ cs) p n x r q h g i own =
 pub both_loads : (s final : Names) (Own : List ℕ → Type 0) → Later s final Own → (op : BinaryOp) (v w x : Value) (r q : Result Value LineKind)
     → binary s op v w ≡ Ok x → Loads final v r → Loads final w q → ResultIs Own (on_both r q (binary final op))
     → Loads final x (on_both r q (binary final op))
-both_loads s final Own later op (Number m) (Number n) x r q h g i own =
-    exact s final Own later x (on_both r q (binary final op)) (both_given final op (Number m) (Number n) r q g i ∙ h) own
-both_loads s final Own later op (Number m) (Truth b) x r q h g i own = absurd (cc)
-both_loads s final Own later op (Number m) (Words b) x r q h g i own = absurd (cc)
-both_loads s final Own later op (Number m) (Place a p) x r q h g i own = number_and_place s final Own later op a p m x r q h g i own
-both_loads s final Own later op (Truth a) (Number n) x r q h g i own = absurd (cc)
-both_loads s final Own later op (Truth a) (Truth b) x r q h g i own =
-    exact s final Own later x (on_both r q (binary final op)) (both_given final op (Truth a) (Truth b) r q g i ∙ h) own
-both_loads s final Own later op (Truth a) (Words b) x r q h g i own = absurd (cc)
-both_loads s final Own later op (Truth a) (Place b p) x r q h g i own = absurd (cc)
-both_loads s final Own later op (Words a) (Number n) x r q h g i own =
-    exact s final Own later x (on_both r q (binary final op)) (both_given final op (Words a) (Number n) r q g i ∙ h) own
-both_loads s final Own later op (Words a) (Truth b) x r q h g i own = absurd (cc)
-both_loads s final Own later op (Words a) (Words b) x r q h g i own =
-    exact s final Own later x (on_both r q (binary final op)) (both_given final op (Words a) (Words b) r q g i ∙ h) own
-both_loads s final Own later op (Words a) (Place b p) x r q h g i own = absurd (cc)
 both_loads s final Own later op (Place a p) (Number n) x r q h g i own = place_and_number s final Own later op a p n x r q h g i own
-both_loads s final Own later op (Place a p) (Truth b) x r q h g i own = absurd (cc)
-both_loads s final Own later op (Place a p) (Words b) x r q h g i own = absurd (cc)
+both_loads s final Own later op (Number m) (Place a p) x r q h g i own = number_and_place s final Own later op a p m x r q h g i own
 both_loads s final Own later op (Place a p) (Place b j) x r q h g i own =
     exact s final Own later x (on_both r q (binary final op)) (places_kept s final Own later op a b p j x r q h g i) own
+both_loads s final Own later op (Place a p) (Truth b) x r q h g i own = absurd (cc)
+both_loads s final Own later op (Place a p) (Words b) x r q h g i own = absurd (cc)
+both_loads s final Own later op (Truth a) (Place b p) x r q h g i own = absurd (cc)
+both_loads s final Own later op (Words a) (Place b p) x r q h g i own = absurd (cc)
+both_loads s final Own later op v w x r q h g i own = exact s final Own later x (on_both r q (binary final op)) (both_given final op v w r q g i ∙ h) own
 
 -- ---- operators before values
 
@@ -101,10 +89,8 @@ place_alone op a p x h = absurd (cc)
 
 pub one_loads : (s final : Names) (Own : List ℕ → Type 0) → Later s final Own → (op : UnaryOp) (v x : Value) (r : Result Value LineKind)
     → unary_of op v ≡ Ok x → Loads final v r → ResultIs Own (then_of r (unary_of op)) → Loads final x (then_of r (unary_of op))
-one_loads s final Own later op (Number n) x r h g own = exact s final Own later x (then_of r (unary_of op)) (ap (λ z. then_of z (unary_of op)) g ∙ h) own
-one_loads s final Own later op (Truth b) x r h g own = exact s final Own later x (then_of r (unary_of op)) (ap (λ z. then_of z (unary_of op)) g ∙ h) own
-one_loads s final Own later op (Words w) x r h g own = exact s final Own later x (then_of r (unary_of op)) (ap (λ z. then_of z (unary_of op)) g ∙ h) own
 one_loads s final Own later op (Place a p) x r h g own = absurd (place_alone op a p x h)
+one_loads s final Own later op v x r h g own = exact s final Own later x (then_of r (unary_of op)) (ap (λ z. then_of z (unary_of op)) g ∙ h) own
 
 -- ---- trees
 

@@ -27,6 +27,7 @@ use Rattle.stand_model.specs.Shown.{IsShown}
 use Rattle.stand_laws.specs.Laws.{IsFaultless, ThingsAreShown, GapsAreZero, ShownLinesStand, ObjectsStand}
 use Rattle.stand_laws.proofs.AreaLemmas.{found_at, area_there, no_size, Agree, lines_agree, AreaKind, area_kind}
 use Rattle.stand_laws.proofs.DirectiveLemmas.{Facts, outside_fields}
+use Rattle.object_laws.proofs.RelocLemmas.{things_below}
 use Rattle.stand_laws.proofs.GoodLemmas.{good_thing}
 use Rattle.stand_laws.proofs.ShownLemmas.{IsThere, thing_shown}
 use Rattle.stand_laws.proofs.ViewLemmas.{shows_byte}
@@ -50,7 +51,8 @@ facts_of ss o faultless obj few_areas few_symbols area =
     let count = areas_are ss o obj in
     let few : length (areas_behind (statements_of (laid ss))) ≤ 2 ^ 24 = omega arith in
     record {
-      good = good_thing ss (2 ^ 24) (layout_sound ss faultless.laid_out) faultless.said few area;
+      good = good_thing ss (layout_sound ss faultless.laid_out) faultless.said area;
+      below = things_below ss (2 ^ 24) few area;
       symbols = numbers;
       apart = things_stand_apart ss (layout_sound ss faultless.laid_out) area;
       inside = things_lie_in_areas ss (layout_sound ss faultless.laid_out) area;

@@ -22,7 +22,7 @@ use Rattle.asm_model.specs.Laid.{laid, final_names}
 use Rattle.asm_model.specs.Symbols.{symbols_of}
 use Rattle.object_laws.specs.Laws.{IsListed}
 use Rattle.object_laws.proofs.OriginLemmas.{named_name}
-use Rattle.object_laws.proofs.NameLemmas.{final_each}
+use Rattle.source_laws.proofs.NameLemmas.{final_each}
 use Rattle.patch_model.specs.Fields.{Values}
 use Rattle.source_model.specs.Objects.{source_of, symbol_number, symbol_placed, symbol_valued, symbol_named, is_exported, IsObject}
 use Rattle.stand_model.specs.Placed.{IsMeantBy, IsPlaced}

@@ -1,6 +1,6 @@
 -- What holds of each entry that a line makes holds of each final name.
 use Rattle.std.proofs.Common.{◌≡◌, ℕ, zero, suc, List, [], ◌∷◌, ◌++◌, length, append_assoc, Bool, true, false, cond, refl, sym, ◌∙◌, subst, Option, Some, None}
-use Rattle.std.specs.Prelude.{Result, Ok}
+use Rattle.std.specs.Prelude.{Result}
 use Rattle.std.specs.List.{AllByRecursion}
 use Rattle.sdt_fault.specs.declared.kinds.LineKind.{LineKind}
 use Rattle.asm_model.specs.declared.exprs.Expr.{Expr}
@@ -8,9 +8,8 @@ use Rattle.asm_model.specs.declared.names.LaidName.{LaidName}
 use Rattle.asm_model.specs.declared.directives.RnOperand.{RnOperand}
 use Rattle.asm_model.specs.declared.statements.Statement.{Statement}
 use Rattle.asm_model.specs.declared.values.Value.{Value}
-use Rattle.asm_model.specs.declared.values.Value.TheVariants.{Place}
 use Rattle.asm_model.specs.AtLine.{Definition, Nameless, Named, Equated, SourceLine, with_names}
-use Rattle.asm_model.specs.Before.{areas_behind, is_thumb_label}
+use Rattle.asm_model.specs.Before.{is_thumb_label}
 use Rattle.asm_model.specs.Entries.{label_entry, imported_entry, register_entry, field_entry, equal_entry}
 use Rattle.asm_model.specs.Forms.{same}
 use Rattle.asm_model.specs.Grammar.{Tree}
@@ -18,9 +17,11 @@ use Rattle.asm_model.specs.Labels.{Defined, Unnamed, Label, Equal, MapField, Reg
 use Rattle.asm_model.specs.Laid.{LaidLine, statements_of, map_behind, tree_equated, definition_of, imported_lines, laid_behind, laid_of, laid, source_lines, entries_with, all_entries, names_after, final_names}
 use Rattle.asm_model.specs.Meaning.{named_in, meaning}
 use Rattle.asm_model.specs.Trees.{tree_of}
-use Rattle.said_model.specs.Said.{HoldsNoZero, HasTexts, AllHaveTexts}
 use Rattle.source_model.specs.Objects.{source_of, At}
-use Rattle.object_laws.proofs.EachLemmas.{IsBelow, DefinedText, OptionText, each_joined, each_there, defined_text, names_text, import_text, line_below}
+
+pub each_joined : {A : Type 0} (P : A → Type 0) (xs ys : List A) → AllByRecursion P xs → AllByRecursion P ys → AllByRecursion P (xs ++ ys)
+each_joined P [] ys h k = k
+each_joined P (x ∷ xs) ys h k = (h.0, each_joined P xs ys h.1 k)
 
 -- ---- the entries of lines
 
@@ -103,34 +104,3 @@ lines_are ss R h after (s ∷ front) e =
 pub final_each : (ss : List Statement) (R : LaidName → Type 0) → EntriesAre ss R → (q : List ℕ) (n : LaidName) → named_in q (final_names (laid ss)) ≡ Some n → R n
 final_each ss R h q n e =
     found_each R q (final_names (laid ss)) (names_each R (length (laid ss)) (source_lines (laid ss)) (lines_are ss R h [] ss refl)) n e
-
--- ---- an entry's name is a text, and its area one of the source
-
-abbrev pub IsShown : List Statement → LaidName → Type 0
-IsShown ss n = HoldsNoZero n.name × IsBelow (length (areas_behind ss)) n.area
-
-equal_shown : (ss : List Statement) (names : List LaidName) (area : Option ℕ) (name : List ℕ) → HoldsNoZero name → IsBelow (length (areas_behind ss)) area
-    → (r : Result Value LineKind) → IsShown ss (equal_entry names area name r)
-equal_shown ss names area name h f (Ok (Place [] n)) = (h, f)
-equal_shown ss names area name h f r = (h, λ a e. absurd (cc))
-
-pub name_shown : (ss : List Statement) → AllHaveTexts ss → (q : List ℕ) (n : LaidName) → named_in q (final_names (laid ss)) ≡ Some n → IsShown ss n
-name_shown ss h = final_each ss (IsShown ss) (record {
-  label = λ l at name x thumb. (subst DefinedText x (text l at), below l at);
-  equal = λ l at name e x names r. equal_shown ss names l.area name (subst DefinedText x (text l at)) (below l at) r;
-  field = λ l at name x m. (subst DefinedText x (text l at), nowhere);
-  register = λ l at name r x. (subst DefinedText x (text l at), nowhere);
-  imported = λ l at name x. (subst OptionText x (import_text l.statement.what (names_text l.statement (texts l at))), nowhere);
-})
-  where
-    texts : (l : LaidLine) → At (source_of ss) l → HasTexts l.statement
-    texts l at = each_there HasTexts ss h at.rest at.before l at.parts
-
-    text : (l : LaidLine) → At (source_of ss) l → DefinedText (defined_by l.statement)
-    text l at = defined_text l.statement (texts l at)
-
-    below : (l : LaidLine) → At (source_of ss) l → IsBelow (length (areas_behind ss)) l.area
-    below l at = line_below ss at.rest at.before l at.parts
-
-    nowhere : IsBelow (length (areas_behind ss)) None
-    nowhere a e = absurd (cc)
