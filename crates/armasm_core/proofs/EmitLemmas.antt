@@ -13,8 +13,8 @@ use Rattle.armasm_core.proofs.LoopLemmas.{lines_from, turned_again, first_of, no
 use Rattle.asm_layout.proofs.LateLemmas.{rest_of}
 use Rattle.asm_layout.specs.Late.{AreOn}
 use Rattle.asm_model.specs.declared.statements.Statement.{Statement}
-use Rattle.asm_pool.specs.declared.layout.LaidStatement.{LaidStatement}
-use Rattle.asm_pool.specs.declared.layout.Layout.{Layout}
+use Rattle.asm_layout.specs.declared.laid.LaidStatement.{LaidStatement}
+use Rattle.asm_layout.specs.declared.laid.Layout.{Layout}
 use Rattle.asm_registers.proofs.NameLemmas.{found, before_more}
 use Rattle.asm_units.specs.declared.emitted.Emitted.{Emitted as Code}
 use Rattle.asm_model.specs.Labels.{defined_by}

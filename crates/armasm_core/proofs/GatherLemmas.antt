@@ -12,7 +12,7 @@ use Rattle.asm_model.specs.declared.statements.What.{What}
 use Rattle.asm_model.specs.declared.statements.What.TheVariants as what
 use Rattle.asm_model.specs.Forms.{same}
 use Rattle.asm_instructions.specs.Scenes.{has_symbol}
-use Rattle.asm_pool.specs.declared.layout.LaidStatement.{LaidStatement}
+use Rattle.asm_layout.specs.declared.laid.LaidStatement.{LaidStatement}
 use Rattle.asm_registers.proofs.NameLemmas.{in_set}
 use Rattle.layout_laws.proofs.SoundLemmas.{statements_kept}
 use Rattle.asm_model.specs.Labels.{declared_names}

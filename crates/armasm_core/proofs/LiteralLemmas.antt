@@ -15,7 +15,7 @@ use Rattle.asm_offsets.specs.Running.{entry_in, pools_behind, pools_from}
 use Rattle.asm_offsets.specs.Coded.{IsExtent}
 use Rattle.asm_pool.specs.Laws.{PoolLaw}
 use Rattle.asm_pool.specs.Pooled.{Pooled, noted, flushed, place_of, place_among, entry_at, literals_of}
-use Rattle.asm_pool.specs.declared.layout.LaidArea.{LaidArea}
+use Rattle.asm_layout.specs.declared.laid.LaidArea.{LaidArea}
 use Rattle.asm_units.specs.Literals.{literal_in}
 use Rattle.layout_laws.proofs.SoundLemmas.{kind_none}
 use Rattle.asm_model.specs.Extents.{Extent, Block, Padding, Loading, Pool, extent_of, directive_extent}

@@ -13,7 +13,7 @@ use Rattle.asm_layout.specs.Layout.{AreStatements}
 use Rattle.asm_model.specs.declared.statements.Statement.{Statement}
 use Rattle.asm_model.specs.Forms.{same}
 use Rattle.asm_instructions.specs.Scenes.{has_symbol}
-use Rattle.asm_pool.specs.declared.layout.LaidStatement.{LaidStatement}
+use Rattle.asm_layout.specs.declared.laid.LaidStatement.{LaidStatement}
 use Rattle.asm_registers.proofs.NameLemmas.{in_set, now_named}
 use Rattle.asm_model.specs.Labels.{defined_by, imported_in}
 use Rattle.asm_model.specs.Laid.{LaidLine, reversed, statements_of}

@@ -17,8 +17,8 @@ use Rattle.asm_model.specs.Meaning.{stands_at}
 use Rattle.asm_offsets.specs.Laws.{AllExtents, ExtentsArePlaceable, LiteralsArePlaced}
 use Rattle.asm_offsets.specs.Running.{entry_behind, pools_behind}
 use Rattle.asm_pool.specs.Laws.{PoolLaw}
-use Rattle.asm_pool.specs.declared.layout.LaidArea.{LaidArea}
-use Rattle.asm_pool.specs.declared.layout.LaidStatement.{LaidStatement}
+use Rattle.asm_layout.specs.declared.laid.LaidArea.{LaidArea}
+use Rattle.asm_layout.specs.declared.laid.LaidStatement.{LaidStatement}
 use Rattle.asm_units.specs.declared.beside.Beside.{Beside}
 use Rattle.asm_units.specs.Literals.{literal_in}
 use Rattle.layout_laws.specs.Final.{KnownValuesAreFinal}
@@ -38,7 +38,8 @@ use Rattle.armasm_core.specs.declared.whole.Whole.{Whole}
 use Rattle.armasm_core.proofs.GivingLemmas.{small_there, gives_there}
 use Rattle.armasm_core.proofs.LiteralLemmas.{IsPlaced}
 use Rattle.armasm_core.proofs.LiteralLemmas as placed
-use Rattle.armasm_core.proofs.SplitLemmas.{IsBehind, behind_there, split_there, none_there, is_sound}
+use Rattle.source_laws.proofs.FaultlessLemmas.{layout_sound}
+use Rattle.armasm_core.proofs.SplitLemmas.{IsBehind, behind_there, split_there, none_there}
 use Rattle.source_laws.proofs.WithinLemmas.{IsWithin, AllWithin, names_within, named_within, area_stands}
 use Rattle.armasm_core.specs.Listing.{StandsThere}
 use Rattle.armasm_core.proofs.LoadLemmas.{area_is, area_there, areas_low, within_there, seen_there, loaded}
@@ -133,7 +134,7 @@ loads fits law pools statements areas w known before rest l x p =
 -- ---- what is beside the line
 
 pub record IsScene (w : Whole) (known : BTreeMap (List ℕ) ℕ) (x : LaidStatement) (z : Scene) : Type 0 where
-  pub names : z.names.now ≡ w.names
+  pub names : z.names.now ≡ w.names.now
   pub line : IsLineOf x z.line.now
   pub registers : z.registers.now ≡ known
   pub symbols : z.symbols.now ≡ w.sets.symbols
@@ -162,7 +163,7 @@ pub known_there : KnownValuesAreFinal → (statements : List Statement) (areas :
     → IsPlace statements areas w known before rest l x → (e : Expr) (v : Value) → value_there l.seen e ≡ Ok v
     → value_of (context_there statements before l) e ≡ Ok v
 known_there law statements areas w known before rest l x p e v h =
-    law statements (is_sound statements p.here.sound) (are_plain statements p.here.said) (reversed rest []) before l (split_there (laid statements) rest l before p.here.parts) e v h
+    law statements (layout_sound statements p.here.sound) (are_plain statements p.here.said) (reversed rest []) before l (split_there (laid statements) rest l before p.here.parts) e v h
 
 pub shows_beside : KnownValuesAreFinal → (statements : List Statement) (areas : List LaidArea) (w : Whole) (known : BTreeMap (List ℕ) ℕ) (before rest : List LaidLine) (l : LaidLine) (x : LaidStatement)
     (y : Beside) → IsPlace statements areas w known before rest l x → Loads areas before rest l x → IsBeside areas w known x y

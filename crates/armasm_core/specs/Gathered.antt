@@ -5,7 +5,7 @@ use Rattle.std.specs.BTreeSet.{BTreeSet}
 use Rattle.asm_model.specs.declared.statements.Statement.{Statement}
 use Rattle.asm_model.specs.Forms.{same}
 use Rattle.asm_instructions.specs.Scenes.{has_symbol}
-use Rattle.asm_pool.specs.declared.layout.LaidStatement.{LaidStatement}
+use Rattle.asm_layout.specs.declared.laid.LaidStatement.{LaidStatement}
 use Rattle.asm_model.specs.Labels.{defined_by, imported_in}
 use Rattle.asm_model.specs.Laid.{reversed}
 use Rattle.asm_model.specs.LayoutKinds.{listed, names_in, names_behind}

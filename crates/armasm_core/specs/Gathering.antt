@@ -6,7 +6,7 @@ use Rattle.asm_model.specs.declared.directives.DirectiveLine.TheVariants as line
 use Rattle.asm_model.specs.declared.statements.Statement.{Statement}
 use Rattle.asm_model.specs.declared.statements.What.{What}
 use Rattle.asm_model.specs.declared.statements.What.TheVariants as what
-use Rattle.asm_pool.specs.declared.layout.LaidStatement.{LaidStatement}
+use Rattle.asm_layout.specs.declared.laid.LaidStatement.{LaidStatement}
 use Rattle.source_model.specs.Objects.{source_of, is_exported, is_weak, contents_of, holds_code}
 use Rattle.asm_model.specs.Laid.{laid}
 use Rattle.armasm_core.specs.declared.facts.Gathered.{Gathered}

@@ -6,8 +6,8 @@ use Rattle.asm_instructions.specs.Scenes.{register_at}
 use Rattle.asm_layout.specs.Layout.{IsStatement, AreAreas}
 use Rattle.asm_model.specs.declared.statements.Statement.{Statement}
 use Rattle.asm_model.specs.declared.statements.What.{What}
-use Rattle.asm_pool.specs.declared.layout.LaidArea.{LaidArea}
-use Rattle.asm_pool.specs.declared.layout.LaidStatement.{LaidStatement}
+use Rattle.asm_layout.specs.declared.laid.LaidArea.{LaidArea}
+use Rattle.asm_layout.specs.declared.laid.LaidStatement.{LaidStatement}
 use Rattle.asm_units.specs.declared.beside.Beside.{Beside}
 use Rattle.asm_units.specs.Showing.{ShowsBeside}
 use Rattle.asm_model.specs.Laid.{LaidLine, laid, taken, pieces_of, reversed, final_names}
@@ -24,7 +24,7 @@ use Rattle.armasm_core.specs.Gathered.{AreSets}
 -- ---- a layout
 
 pub record IsWhole (statements : List Statement) (areas : List LaidArea) (w : Whole) : Type 0 where
-  pub names : w.names ≡ final_names (laid statements)
+  pub names : w.names.now ≡ final_names (laid statements)
   pub sets : AreSets statements w.sets
   pub sizes : w.sizes.items ≡ map (λ (a : LaidArea). a.size) areas
 

@@ -13,10 +13,11 @@ ghost use Rattle.armasm_core.specs.Whole.{IsHere, ShowsLine};
 use crate::literals::{literal_of, word_of};
 use crate::whole::Whole;
 use asm_instructions::Scene;
+use asm_layout::{LaidArea, LaidStatement};
 use asm_model::Value;
 use asm_names::PlacedLine;
 use asm_offsets::{extents_are_placeable, literals_are_placed};
-use asm_pool::{LaidArea, LaidStatement, pool_law};
+use asm_pool::pool_law;
 use asm_units::Beside;
 use layout_laws::laws::known_values_are_final;
 use sdt_fault::Text;
@@ -25,7 +26,7 @@ use std::collections::BTreeMap;
 /// What a line's values are judged by.
 pub fn beside_of<'a>(
     areas: &[LaidArea],
-    whole: &'a Whole,
+    whole: &'a Whole<'a>,
     registers: &'a BTreeMap<Text, u8>,
     laid: &'a LaidStatement,
     line: &'a PlacedLine<'a>,
@@ -39,7 +40,7 @@ pub fn beside_of<'a>(
     pool_law();
     Beside {
         scene: Scene {
-            names: &whole.names,
+            names: whole.names,
             line,
             registers,
             symbols: &whole.sets.symbols,

@@ -4,7 +4,7 @@ ghost use Rattle.std.specs.Prelude.{◌≡◌, ◌<◌, ◌^◌, List as Items, 
 ghost use Rattle.aof_object.specs.declared.records.Symbol.{Symbol as Record};
 ghost use Rattle.asm_layout.specs.Layout.{IsLayout};
 ghost use Rattle.asm_model.specs.declared.statements.Statement.{Statement};
-ghost use Rattle.asm_pool.specs.declared.layout.LaidArea.{LaidArea};
+ghost use Rattle.asm_layout.specs.declared.laid.LaidArea.{LaidArea};
 ghost use Rattle.asm_model.specs.Laid.{laid, final_names};
 ghost use Rattle.asm_model.specs.PlacedLines.{AllNamed};
 ghost use Rattle.asm_model.specs.Symbols as needs;
@@ -28,7 +28,7 @@ use crate::second_pass::pass_line;
 use crate::symbols::symbols_of;
 use crate::{Whole, give, whole_of};
 use aof_object::{Object, Symbol};
-use asm_pool::Layout;
+use asm_layout::Layout;
 use asm_units::{LineUnits, Symbols};
 use sdt_fault::answer::Fault;
 use sdt_fault::{List, NoMemory};
@@ -41,7 +41,7 @@ use std::collections::BTreeMap;
 fn grown(
     alloc: Global,
     layout: &Layout,
-    whole: &Whole,
+    whole: &Whole<'_>,
     symbols: &Symbols,
 ) -> Result<Vec<Growing>, Fault>
     requires said { AllLaidSaid layout.now.statements }
@@ -76,7 +76,7 @@ fn grown(
 fn few_records(
     alloc: Global,
     layout: &Layout,
-    whole: &Whole,
+    whole: &Whole<'_>,
     symbols: &Symbols,
 ) -> Result<List<Symbol>, NoMemory>
     ensures few { IfOk result (λ records. length records < 2 ^ 24) }

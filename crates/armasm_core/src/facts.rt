@@ -6,7 +6,7 @@ ghost use Rattle.asm_instructions.specs.Scenes.{has_symbol};
 ghost use Rattle.asm_layout.specs.Layout.{IsLayout};
 ghost use Rattle.asm_model.specs.declared.statements.Statement.{Statement};
 ghost use Rattle.asm_model.specs.Forms.{same};
-ghost use Rattle.asm_pool.specs.declared.layout.LaidArea.{LaidArea as Area};
+ghost use Rattle.asm_layout.specs.declared.laid.LaidArea.{LaidArea as Area};
 ghost use Rattle.asm_model.specs.LayoutKinds.{listed};
 ghost use Rattle.std.specs.Option.{option_copied};
 ghost use Rattle.source_model.specs.Objects.{source_of};
@@ -17,8 +17,8 @@ ghost use Rattle.asm_units.specs.Recording.{Shows};
 ghost use Rattle.armasm_core.specs.Gathering.{IsGathered, exported_in, weak_in, name_where, names_by, marks_code};
 
 use crate::whole::Whole;
+use asm_layout::{LaidArea, LaidStatement, Layout};
 use asm_model::{DirectiveLine, What};
-use asm_pool::{LaidArea, LaidStatement, Layout};
 use asm_units::Facts;
 use sdt_fault::{NoMemory, Text};
 use std::alloc::Global;
@@ -145,11 +145,11 @@ pub fn gathered_of(alloc: Global, layout: &Layout) -> Result<Gathered, NoMemory>
 }
 
 /// What the records of symbols say of a layout whose lines share this.
-pub fn facts_of<'a>(whole: &'a Whole, gathered: &'a Gathered) -> Facts<'a>
+pub fn facts_of<'a>(whole: &'a Whole<'a>, gathered: &'a Gathered) -> Facts<'a>
     ensures { (statements : List Statement) (areas : List Area) → IsWhole statements areas whole.now → IsGathered statements gathered.now → Shows result (source_of statements) }
 {
     Facts {
-        names: &whole.names,
+        names: whole.names,
         exported: &gathered.exported,
         weak: &gathered.weak,
         data: &whole.sets.data,

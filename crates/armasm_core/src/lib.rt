@@ -12,7 +12,6 @@ pub mod entry;
 pub mod facts;
 pub mod laws;
 pub mod literals;
-mod names;
 mod reading;
 pub mod records;
 pub mod registers;

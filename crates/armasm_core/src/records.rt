@@ -3,7 +3,7 @@
 ghost use Rattle.std.specs.Prelude.{◌≡◌, List as Items, map, IfOk};
 ghost use Rattle.asm_model.specs.declared.statements.Statement.{Statement};
 ghost use Rattle.asm_model.specs.Meaning.{named_in};
-ghost use Rattle.asm_pool.specs.declared.layout.LaidArea.{LaidArea};
+ghost use Rattle.asm_layout.specs.declared.laid.LaidArea.{LaidArea};
 ghost use Rattle.asm_model.specs.Laid.{laid, final_names};
 ghost use Rattle.asm_model.specs.Symbols.{symbols_of};
 ghost use Rattle.source_model.specs.Objects.{Source, source_of, symbol_records, symbol_named};
@@ -38,7 +38,7 @@ fn records_with(alloc: Global, names: &[Text], facts: &Facts<'_>) -> Result<Vec<
 pub fn records_of(
     alloc: Global,
     symbols: &Symbols,
-    whole: &Whole,
+    whole: &Whole<'_>,
     gathered: &Gathered,
 ) -> Result<List<Symbol>, NoMemory>
     ensures { IfOk result (λ records. (statements : Items Statement) (areas : Items LaidArea) → IsWhole statements areas whole.now → IsGathered statements gathered.now → symbols.now ≡ symbols_of (final_names (laid statements)) (laid statements) → records ≡ symbol_records (source_of statements)) }

@@ -15,7 +15,7 @@ use asm_instructions::laws::{
 };
 use asm_layout::lines::line_of;
 use asm_layout::telling::told_of;
-use asm_pool::{LaidArea, LaidStatement};
+use asm_layout::{LaidArea, LaidStatement};
 use asm_units::{LineUnits, pass_two};
 use sdt_fault::Text;
 use sdt_fault::answer::Fault;
@@ -27,7 +27,7 @@ use std::collections::BTreeMap;
 pub fn pass_line(
     alloc: Global,
     areas: &[LaidArea],
-    whole: &Whole,
+    whole: &Whole<'_>,
     registers: &BTreeMap<Text, u8>,
     laid: &LaidStatement,
 ) -> Result<LineUnits, Fault>

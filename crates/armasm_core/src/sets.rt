@@ -10,10 +10,10 @@ ghost use Rattle.source_model.specs.SourceFaults as faults;
 ghost use Rattle.asm_names.specs.Defining.{defined_of};
 ghost use Rattle.armasm_core.specs.Gathered.{Gains, GainsAll, AreSets, said_in};
 
+use asm_layout::LaidStatement;
 use asm_model::{DirectiveLine, Statement, What};
 use asm_names::defining::{Defines, defined_by};
 use asm_names::made::imported_name;
-use asm_pool::LaidStatement;
 use sdt_fault::{NoMemory, Text};
 use std::alloc::Global;
 use std::collections::BTreeSet;

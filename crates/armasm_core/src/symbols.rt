@@ -15,7 +15,8 @@ ghost use Rattle.armasm_core.specs.Listing.{StandsThere, needed_by};
 use crate::literals::literal_of;
 use crate::whole::Whole;
 use asm_layout::lines::line_of;
-use asm_pool::{LaidArea, LaidStatement, Layout, pool_law};
+use asm_layout::{LaidArea, LaidStatement, Layout};
+use asm_pool::pool_law;
 use asm_units::{Symbols, add_line};
 use sdt_fault::NoMemory;
 use std::alloc::Global;
@@ -25,7 +26,7 @@ fn add_line_of(
     alloc: Global,
     symbols: &mut Symbols,
     areas: &[LaidArea],
-    whole: &Whole,
+    whole: &Whole<'_>,
     laid: &LaidStatement,
 ) -> Result<(), NoMemory>
     requires { IsSaid laid.now.statement }
@@ -34,12 +35,12 @@ fn add_line_of(
     pool_law();
     let line = line_of(laid);
     let literal = literal_of(areas, laid.area, laid.literal);
-    add_line(alloc, symbols, &whole.names, &line, literal)?;
+    add_line(alloc, symbols, whole.names, &line, literal)?;
     Ok(())
 }
 
 /// The symbols of a layout whose lines share this, in order of the first line that names or needs them.
-pub fn symbols_of(alloc: Global, layout: &Layout, whole: &Whole) -> Result<Symbols, NoMemory>
+pub fn symbols_of(alloc: Global, layout: &Layout, whole: &Whole<'_>) -> Result<Symbols, NoMemory>
     requires said { AllLaidSaid layout.now.statements }
     ensures { IfOk result (λ symbols. (statements : List Statement) → IsLayout statements layout.now → AllSaid statements → layout_faults statements ≡ None → IsWhole statements layout.now.areas whole.now → symbols ≡ needs.symbols_of (model.final_names (model.laid statements)) (model.laid statements)) }
 {

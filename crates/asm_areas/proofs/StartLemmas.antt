@@ -1,26 +1,20 @@
 -- Areas with a line more.
-use Rattle.std.proofs.Common.{subst, Ok, Err, ◌≡◌, ◌≢◌, ◌<◌, ◌≤◌, ℕ, zero, suc, ◌+◌, ◌*◌, ◌^◌, ◌||◌, Bool, true, false, cond, List, [], ◌∷◌, ◌++◌, length, map, Option, Some, None, refl, sym, ap, ◌∙◌, arith, length-append, slice_set}
-use Rattle.std.specs.Prelude.{◌==◌, ◌&&◌, if◌then◌else◌, Result}
+use Rattle.std.proofs.Common.{◌≡◌, ◌≢◌, ◌<◌, ◌≤◌, ℕ, zero, suc, ◌+◌, ◌||◌, Bool, true, false, cond, List, [], ◌∷◌, ◌++◌, length, map, Option, Some, None, refl, sym, ap, ◌∙◌, arith, length-append}
+use Rattle.std.specs.Prelude.{◌==◌, Result}
 use Rattle.std.specs.List.{list_any, slice_get}
-use Rattle.std.specs.Option.{option_map}
 use Rattle.std.proofs.lemmas.Option.{slice_get_past}
-use Rattle.sdt_word.specs.Numbers.{flag}
 use Rattle.sdt_fault.specs.declared.kinds.LineKind.{LineKind}
 use Rattle.asm_model.specs.declared.directives.AreaAttributes.{AreaAttributes}
 use Rattle.asm_model.specs.declared.directives.DirectiveLine.TheVariants as line
 use Rattle.asm_model.specs.declared.statements.Statement.{Statement}
-use Rattle.asm_model.specs.declared.statements.What.{What}
 use Rattle.asm_model.specs.declared.statements.What.TheVariants as what
-use Rattle.asm_model.specs.Directives.{or_else}
 use Rattle.asm_model.specs.Forms.{same}
 use Rattle.asm_model.proofs.WordLemmas.{same_refl}
-use Rattle.asm_model.specs.Before.{area_named, with_name, areas_behind, place_of, area_from, area_behind}
+use Rattle.asm_model.specs.Before.{with_name, areas_behind, place_of}
 use Rattle.asm_model.specs.Laid.{LaidLine, statements_of}
 use Rattle.asm_model.specs.LayoutKinds.{is_thumb_area, in_thumb_area, exponent}
 use Rattle.asm_model.specs.Offsets.{is_of}
-use Rattle.asm_model.specs.declared.directives.Contents.{Contents}
-use Rattle.asm_model.specs.declared.directives.Contents.TheVariants as contents
-use Rattle.source_model.specs.Objects.{contents_bits, attributes_word, or_two, says_area}
+use Rattle.source_model.specs.Objects.{says_area}
 use Rattle.asm_areas.specs.declared.starts.AreaStart.{AreaStart}
 use Rattle.asm_areas.specs.Starts.{IsStart, AreStarts, IsLineOf, begun, is_next, with_area}
 

@@ -1,6 +1,6 @@
 -- Faults that need the whole layout, by what is kept of a source's areas. Lines are listed with the nearest first, those
 -- behind a line in the order of the source. SDT 2.50 Reference Guide, chapter on the assembler; the kinds are this project's.
-use Rattle.std.specs.Prelude.{◌≡◌, ℕ, ◌+◌, ◌&&◌, ◌||◌, not, nat_lt, List, ◌∷◌, slice_get, Bool, false, Option, Some, None}
+use Rattle.std.specs.Prelude.{◌≡◌, ℕ, ◌+◌, ◌&&◌, not, nat_lt, List, ◌∷◌, slice_get, Bool, false, Option, Some, None}
 use Rattle.std.specs.Option.{option_map}
 use Rattle.asm_model.specs.declared.statements.What.{What}
 use Rattle.asm_model.specs.Laid.{LaidLine, taken, pieces_of, reversed}

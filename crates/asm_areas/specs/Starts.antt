@@ -1,15 +1,12 @@
 -- What is kept of a source's areas by their lines: names and attributes. Lines are listed with the nearest first. SDT 2.50
 -- Reference Guide, chapter on the assembler, and ARM Object Format.
-use Rattle.std.specs.Prelude.{◌≡◌, ℕ, ◌+◌, ◌*◌, ◌^◌, ◌<◌, ◌≤◌, ◌==◌, List, [], ◌∷◌, ◌++◌, map, length, slice_get, Bool, false, if◌then◌else◌, Option, Some, None, Result, Ok, Err}
-use Rattle.std.specs.Option.{option_map}
-use Rattle.sdt_word.specs.Numbers.{flag}
+use Rattle.std.specs.Prelude.{◌≡◌, ℕ, ◌≤◌, ◌==◌, List, [], ◌∷◌, ◌++◌, map, length, slice_get, Bool, false, if◌then◌else◌, Option, Some, None, Result, Ok, Err}
 use Rattle.sdt_fault.specs.declared.kinds.LineKind.{LineKind}
 use Rattle.asm_model.specs.declared.directives.AreaAttributes.{AreaAttributes}
 use Rattle.asm_model.specs.declared.directives.DirectiveLine.TheVariants as line
 use Rattle.asm_model.specs.declared.statements.Statement.{Statement}
 use Rattle.asm_model.specs.declared.statements.What.{What}
 use Rattle.asm_model.specs.declared.statements.What.TheVariants as what
-use Rattle.asm_model.specs.Directives.{or_else}
 use Rattle.asm_model.specs.Before.{areas_behind, area_behind}
 use Rattle.asm_model.specs.Laid.{LaidLine, statements_of}
 use Rattle.asm_model.specs.LayoutKinds.{exponent, is_thumb_area, in_thumb_area}

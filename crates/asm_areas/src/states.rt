@@ -50,12 +50,7 @@ impl States {
     }
 
     /// Notes a statement more, by its area and its state.
-    pub fn note(
-        &mut self,
-        what: &What,
-        area: Option<u32>,
-        thumb: bool,
-    ) -> Result<(), NoMemory>
+    pub fn note(&mut self, what: &What, area: Option<u32>, thumb: bool) -> Result<(), NoMemory>
         ensures { OnOk result ((s : Statement) (before : List Statement) → AreStates before self.old → s.what ≡ what.now → before_of.area_behind (s ∷ before) ≡ area → before_of.thumb_behind before ≡ thumb → AreStates (s ∷ before) self.new) }
     {
         if !is_instruction(what) {

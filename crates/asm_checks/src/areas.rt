@@ -2,7 +2,7 @@
 
 ghost use Rattle.std.specs.Prelude.{◌≡◌, ◌++◌, ◌∷◌, List, None, Ok, IfOk, OnOk};
 ghost use Rattle.sdt_fault.specs.declared.kinds.LineKind.TheVariants.{BadOperand};
-ghost use Rattle.asm_model.specs.AtLine.{Sight};
+ghost use Rattle.asm_model.specs.declared.names.Names.{Names};
 ghost use Rattle.asm_model.specs.Kinds.{told_kind};
 ghost use Rattle.asm_model.specs.Laid.{LaidLine};
 ghost use Rattle.asm_model.specs.LayoutKinds as layout;
@@ -163,7 +163,7 @@ pub fn area_kind(
     what: &What,
     exponent: Result<u32, LineKind>,
 ) -> Result<Option<LineKind>, NoMemory>
-    ensures told { IfOk result (λ told. (s : Sight) (before : List LaidLine) → AreAreasOf before areas.old → IsExponent s what.now exponent → told ≡ told_kind (layout.area_kinds s what.now before)) }
+    ensures told { IfOk result (λ told. (s : Names) (before : List LaidLine) → AreAreasOf before areas.old → IsExponent s what.now exponent → told ≡ told_kind (layout.area_kinds s what.now before)) }
     ensures noted { IfOk result (λ told. (l : LaidLine) (before : List LaidLine) → AreAreasOf before areas.old → l.statement.what ≡ what.now → IsExponent l.seen what.now exponent → told ≡ None → AreAreasOf (l ∷ before) areas.new) }
 {
     match what {

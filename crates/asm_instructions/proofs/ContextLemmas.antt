@@ -15,9 +15,11 @@ use Rattle.asm_model.specs.Meaning.{named_in, meaning, IsValue, Evaluates}
 use Rattle.asm_model.specs.Trees.{tree_of}
 use Rattle.asm_model.proofs.TreeLemmas.{trees_read_back}
 use Rattle.layout_laws.proofs.FoundLemmas.{tree_final, final_tree}
-use Rattle.asm_names.specs.Lines.{line_of}
+use Rattle.asm_names.specs.Lines.{line_of, Sees}
 use Rattle.said_model.specs.Said.{IsRead}
 use Rattle.source_model.specs.Contexts.{Context, sees, value_of, register, or_zero}
+use Rattle.source_model.specs.Registers.{register_in}
+use Rattle.asm_sets.specs.Sets.{HaveSame}
 use Rattle.asm_instructions.specs.declared.scenes.Scene.{Scene}
 use Rattle.asm_instructions.specs.Scenes.{Shows, context_of}
 
@@ -42,29 +44,32 @@ pub record Alike (a b : Context) : Type 0 where
   pub entry : (q : List ℕ) → named_in q (sees a).list ≡ named_in q (sees b).list
   pub symbol : (q : List ℕ) → list_any (same q) a.symbols ≡ list_any (same q) b.symbols
 
-sees_same : (x : Scene) (c : Context) → Shows x c → sees (context_of x) ≡ sees c
-sees_same x c s = rw (s.names, s.line.area, s.line.offset, s.line.map, s.line.thumb) refl
+module _ (x : Scene) (c : Context) (names : c.names ≡ x.names.now) (line : Sees x.line.now c.line)
+    (registers : (q : List ℕ) → register_in q x.registers.now ≡ register_in q c.registers) (symbols : HaveSame x.symbols.now c.symbols) where
+  sees_same : sees (context_of x) ≡ sees c
+  sees_same = rw (names, line.area, line.offset, line.map, line.thumb) refl
 
-tree_same : (x : Scene) (c : Context) → Shows x c → (o : Option Tree) → tree_final x.names.now (line_of x.line.now) o ≡ tree_final c.names c.line o
-tree_same x c s None = refl
-tree_same x c s (Some t) = ap (λ (names : Names). meaning names t) (sees_same x c s)
+  tree_same : (o : Option Tree) → tree_final x.names.now (line_of x.line.now) o ≡ tree_final c.names c.line o
+  tree_same None = refl
+  tree_same (Some t) = ap (λ (ns : Names). meaning ns t) sees_same
 
-number_same : (x : Scene) (c : Context) → Shows x c → (r : Register) → register (context_of x) r ≡ register c r
-number_same x c s (reg.Number n) = refl
-number_same x c s (reg.Named q) = ap or_zero (s.registers q)
+  number_same : (r : Register) → register (context_of x) r ≡ register c r
+  number_same (reg.Number n) = refl
+  number_same (reg.Named q) = ap or_zero (registers q)
+
+  pub seen_alike : Alike (context_of x) c
+  seen_alike = record {
+    value = λ e. final_tree x.names.now (line_of x.line.now) e (tree_of e) refl ∙ tree_same (tree_of e) ∙ sym (final_tree c.names c.line e (tree_of e) refl);
+    number = number_same;
+    area = line.area;
+    offset = line.offset;
+    thumb = line.thumb;
+    entry = λ q. ap (named_in q) (sym names);
+    symbol = symbols;
+  }
 
 pub shown_alike : (x : Scene) (c : Context) → Shows x c → Alike (context_of x) c
-shown_alike x c s = record {
-  value = λ e.
-      final_tree x.names.now (line_of x.line.now) e (tree_of e) refl ∙ tree_same x c s (tree_of e)
-      ∙ sym (final_tree c.names c.line e (tree_of e) refl);
-  number = number_same x c s;
-  area = s.line.area;
-  offset = s.line.offset;
-  thumb = s.line.thumb;
-  entry = λ q. ap (named_in q) (sym s.names);
-  symbol = s.symbols;
-}
+shown_alike x c s = seen_alike x c s.names s.line s.registers s.symbols
 
 pub all_shown : {A E : Type 0} → (x : Scene) (f : Context → A) (r : Result A E) → ((c : Context) → Alike (context_of x) c → f (context_of x) ≡ f c)
     → IfOk r (λ v. v ≡ f (context_of x)) → IfOk r (λ v. (c : Context) → Shows x c → v ≡ f c)

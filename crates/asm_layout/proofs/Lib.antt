@@ -3,6 +3,7 @@ pub mod FinishLemmas
 pub mod FrontLemmas
 pub mod LateLemmas
 pub mod OutlineLemmas
+pub mod StateLemmas
 pub mod StepLemmas
 pub mod ToldLemmas
 pub mod WalkLemmas

@@ -3,6 +3,7 @@ use Rattle.std.proofs.Common.{◌≡◌, inl, inr, ◌<◌, ℕ, suc, ◌+◌, B
 use Rattle.std.specs.List.{slice_get}
 use Rattle.sdt_fault.specs.declared.answer.Fault.{Fault}
 use Rattle.sdt_fault.specs.declared.kinds.LineKind.{LineKind}
+use Rattle.asm_areas.specs.States.{AreStates}
 use Rattle.asm_laying.specs.Behind.{most_statements}
 use Rattle.asm_laying.specs.Laying.{IsLaying, MayLay}
 use Rattle.asm_model.specs.declared.exprs.Expr.{Expr}
@@ -91,28 +92,28 @@ is_marked statements ys x zs rest o w outlined e h =
 
 pub goes_along : (statements ys : List Statement) (x : Statement) (zs rest : List Statement) (o : Outline) (old new : Walk) (r : Result (Unit {0}) Fault) (u : Unit {0})
     → IsOutline (reversed statements []) o → rest ≡ x ∷ zs → IsAlong statements ys rest old
-    → ((names settled : List (List ℕ)) (before : List LaidLine) → IsWalking o.names names settled before old → IsMarked settled o.settled.items x before
-    → Steps o.names names settled (laid_behind o.names x before) before new (Ok u))
+    → ((names settled : List (List ℕ)) (all : List Statement) (before : List LaidLine) → AreStates all o.states → IsWalking o.names names settled all before old
+    → IsMarked settled o.settled.items x before → Steps o.names names settled all (laid_behind o.names x before) before new (Ok u))
     → IsAlong statements (ys ++ x ∷ []) zs new
 goes_along statements ys x zs rest o old new r u outlined e h steps =
     let s = reversed statements [] in
     let d = declared_names s in
     let before = laid_of d (reversed ys []) in
-    let walks = steps (register_names s) (settled (equals_in s)) before
-    (subst (λ (c : List LaidName). IsWalking c (register_names s) (settled (equals_in s)) before old) (sym outlined.names) h.walks)
+    let walks = steps (register_names s) (settled (equals_in s)) s before outlined.states
+    (subst (λ (c : List LaidName). IsWalking c (register_names s) (settled (equals_in s)) s before old) (sym outlined.names) h.walks)
     (is_marked statements ys x zs rest o old outlined e h) in
     record {
       whole = h.whole ∙ ap (λ (l : List Statement). ys ++ l) e ∙ sym (append_assoc ys (x ∷ []) zs);
-      walks = subst (λ (l : List Statement). IsWalking d (register_names s) (settled (equals_in s)) (laid_of d l) new) (sym (reversed_joined ys (x ∷ []) []))
-          (subst (λ (c : List LaidName). IsWalking c (register_names s) (settled (equals_in s)) (laid_behind c x before ∷ before) new) outlined.names walks);
+      walks = subst (λ (l : List Statement). IsWalking d (register_names s) (settled (equals_in s)) s (laid_of d l) new) (sym (reversed_joined ys (x ∷ []) []))
+          (subst (λ (c : List LaidName). IsWalking c (register_names s) (settled (equals_in s)) s (laid_behind c x before ∷ before) new) outlined.names walks);
     }
 
 -- ---- a faulty line
 
-pub first_stays : (names settled : List (List ℕ)) (d : List LaidName) (rest ss : List Statement) (t : Statement × LineKind) → first_laid names settled (laid_of d ss) ≡ Some t
-    → first_laid names settled (laid_of d (reversed rest ss)) ≡ Some t
-first_stays names settled d [] ss t e = e
-first_stays names settled d (r ∷ rest) ss t e = first_stays names settled d rest (r ∷ ss) t (rw e refl)
+pub first_stays : (names settled : List (List ℕ)) (all : List Statement) (d : List LaidName) (rest ss : List Statement) (t : Statement × LineKind)
+    → first_laid names settled all (laid_of d ss) ≡ Some t → first_laid names settled all (laid_of d (reversed rest ss)) ≡ Some t
+first_stays names settled all d [] ss t e = e
+first_stays names settled all d (r ∷ rest) ss t e = first_stays names settled all d rest (r ∷ ss) t (rw e refl)
 
 pub told_moves : (o p : Option (Statement × LineKind)) (f : Fault) → ((t : Statement × LineKind) → o ≡ Some t → p ≡ Some t) → IsTold o f → IsTold p f
 told_moves o p f moves (inl e) = inl e

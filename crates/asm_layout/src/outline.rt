@@ -1,13 +1,16 @@
 //! What laying a line needs to know of the whole source.
 
-ghost use Rattle.std.specs.Prelude.{◌≡◌, ◌++◌, [], map, IfOk, OnOk};
+ghost use Rattle.std.specs.Prelude.{◌≡◌, ◌+◌, ◌++◌, ◌<◌, [], length, map, IfOk, OnOk};
 ghost use Rattle.asm_model.specs.Labels as labels;
 ghost use Rattle.asm_model.specs.Laid.{reversed};
 ghost use Rattle.asm_model.specs.LayoutKinds as layout;
 ghost use Rattle.asm_names.specs.Equals.{pairs_of};
 ghost use Rattle.asm_names.specs.Order.{is_settled};
+ghost use Rattle.asm_laying.specs.Behind.{most_statements};
 ghost use Rattle.asm_layout.specs.Outline.{equals_on, IsOutline};
 
+use crate::states::states_of;
+use asm_areas::States;
 use asm_laying::declarations::declare;
 use asm_model::Statement;
 use asm_names::defining::{Defines, defined_by};
@@ -23,6 +26,8 @@ pub struct Outline {
     /// For each name for an expression, in the order of the source, whether it depends neither on itself nor on one that
     /// does.
     pub settled: Vec<bool>,
+    /// The states of the areas.
+    pub states: States,
 }
 
 fn push_equal<'a>(equals: &mut Vec<Equal<'a>>, statement: &'a Statement) -> Result<(), NoMemory>
@@ -64,9 +69,15 @@ fn settled_of(alloc: Global, statements: &[Statement]) -> Result<Vec<bool>, NoMe
 
 /// What the lines of a source need to know of it.
 pub fn outline_of(alloc: Global, statements: &[Statement]) -> Result<Outline, NoMemory>
+    requires few { length statements.now < most_statements + 1 }
     ensures { IfOk result (λ o. IsOutline (reversed statements.now []) o) }
 {
     let names = declare(alloc, statements)?;
     let settled = settled_of(alloc, statements)?;
-    Ok(Outline { names, settled })
+    let states = states_of(alloc, statements)?;
+    Ok(Outline {
+        names,
+        settled,
+        states,
+    })
 }

@@ -1,7 +1,7 @@
 -- A source laid out: each statement with its place, and what an expression sees at its line. What is known at a line are
 -- names of the lines before it, and of the whole source only which names there are. SDT 2.50 Reference Guide, chapter on the
 -- assembler. Statements and laid lines are listed with the nearest first.
-use Rattle.std.specs.Prelude.{ℕ, zero, suc, ◌+◌, ◌%◌, ◌^◌, List, [], ◌∷◌, ◌++◌, length, map, Bool, false, Option, Some, None, Result, Ok, Err}
+use Rattle.std.specs.Prelude.{ℕ, zero, suc, ◌+◌, ◌%◌, ◌^◌, List, [], ◌∷◌, ◌++◌, length, map, Bool, Option, Some, None, Result, Ok, Err}
 use Rattle.sdt_fault.specs.declared.kinds.LineKind.{LineKind}
 use Rattle.sdt_fault.specs.declared.kinds.LineKind.TheVariants.{Syntax}
 use Rattle.asm_model.specs.declared.exprs.Expr.{Expr}

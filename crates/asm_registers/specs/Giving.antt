@@ -6,12 +6,12 @@ use Rattle.asm_model.specs.declared.directives.RnOperand.TheVariants as rn
 use Rattle.asm_model.specs.declared.directives.DirectiveLine.TheVariants as line
 use Rattle.asm_model.specs.declared.statements.What.{What}
 use Rattle.asm_model.specs.declared.statements.What.TheVariants as what
-use Rattle.asm_model.specs.AtLine.{Sight}
+use Rattle.asm_model.specs.declared.names.Names.{Names}
 use Rattle.asm_model.specs.Extents.{number_there}
 use Rattle.source_model.specs.Registers.{as_register}
 
 -- the number of RN's expression, by what its line sees; of other statements nothing is said
-abbrev pub IsGiven : Sight → What → Result ℕ LineKind → Type 0
+abbrev pub IsGiven : Names → What → Result ℕ LineKind → Type 0
 IsGiven s (what.Directive (line.Rn (rn.Number e))) x = x ≡ number_there s e
 IsGiven s _ x = Unit {0}
 

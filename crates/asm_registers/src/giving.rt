@@ -2,7 +2,7 @@
 
 ghost use Rattle.std.specs.Prelude.{◌≡◌, ◌++◌, [], ℕ, List, IfOk, OnOk};
 ghost use Rattle.std.specs.Option.{option_copied};
-ghost use Rattle.asm_model.specs.AtLine.{Sight};
+ghost use Rattle.asm_model.specs.declared.names.Names.{Names};
 ghost use Rattle.asm_model.specs.Kinds.{told_kind};
 ghost use Rattle.asm_model.specs.Labels.{defined_by};
 ghost use Rattle.asm_model.specs.LayoutKinds.{fault_kinds, listed};
@@ -92,8 +92,8 @@ pub fn given_kind(
     statement: &Statement,
     number: Result<u32, LineKind>,
 ) -> Result<Option<LineKind>, NoMemory>
-    ensures told { IfOk result (λ told. (s : Sight) → IsGiven s statement.now.what number → told ≡ told_kind (registers.given_kinds s (defined_by statement.now))) }
-    ensures noted { OnOk result ((s : Sight) → IsGiven s statement.now.what number → (q : List ℕ) → registers.register_in q known.new ≡ registers.register_in q (known.old ++ registers.named_by s (defined_by statement.now))) }
+    ensures told { IfOk result (λ told. (s : Names) → IsGiven s statement.now.what number → told ≡ told_kind (registers.given_kinds s (defined_by statement.now))) }
+    ensures noted { OnOk result ((s : Names) → IsGiven s statement.now.what number → (q : List ℕ) → registers.register_in q known.new ≡ registers.register_in q (known.old ++ registers.named_by s (defined_by statement.now))) }
 {
     match (&statement.label, &statement.what) {
         (Some(name), What::Directive(DirectiveLine::Rn { register })) => {

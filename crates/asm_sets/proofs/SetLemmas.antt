@@ -1,16 +1,17 @@
 -- Keys of maps and sets are told apart as names are.
-use Rattle.std.proofs.Common.{◌≡◌, ℕ, Bool, true, false, cond, List, [], ◌∷◌, ◌++◌, ◌||◌, None, Some, refl, sym, ap, ◌∙◌, map}
-use Rattle.std.specs.Prelude.{nat_eq, if◌then◌else◌}
+use Rattle.std.proofs.Common.{◌≡◌, ℕ, ◌+◌, Bool, true, false, cond, List, [], ◌∷◌, ◌++◌, ◌||◌, length, None, Some, refl, sym, ap, ◌∙◌, map, arith, suc}
+use Rattle.std.specs.Prelude.{nat_eq, nat_lt, if◌then◌else◌}
 use Rattle.std.specs.Borrow.{Bor}
 use Rattle.std.specs.Cmp.Lexicographic.{pointwise}
-use Rattle.std.specs.List.{list_any}
+use Rattle.std.specs.List.{list_any, position, position_or_len}
 use Rattle.std.specs.Map.{lookup}
 use Rattle.std.proofs.lemmas.List.Folds.{list_any-append}
-use Rattle.asm_model.specs.Before.{with_name}
+use Rattle.std.proofs.lemmas.List.Recursion.{is_position_or_len}
+use Rattle.asm_model.specs.Before.{place_of, with_name}
 use Rattle.asm_model.specs.Forms.{same}
 use Rattle.asm_model.proofs.SharedLemmas.{same_back, tests}
 use Rattle.asm_model.proofs.WordLemmas.{same_true}
-use Rattle.asm_sets.specs.Sets.{HaveSame, found_in}
+use Rattle.asm_sets.specs.Sets.{HaveSame, found_in, number_among}
 use Rattle.base_lemmas.proofs.BaseLemmas.{or_cond}
 use Rattle.indexmap.specs.IndexMap.{IndexMap, insert_entry}
 use Rattle.indexmap.specs.IndexSet.{insert_key}
@@ -26,6 +27,28 @@ pub added : (old new : List (List ℕ)) (name copy : List ℕ) → copy ≡ name
 added old new name copy e h =
     h ∙ ap (λ (t : List ℕ → List ℕ → Bool). if list_any (t copy) old then old else old ++ copy ∷ []) is_same
     ∙ ap (λ (n : List ℕ). with_name (Some n) old) e
+
+placed : (q : List ℕ) (names : List (List ℕ)) → place_of q names ≡ position_or_len (same q) names
+placed q = is_position_or_len (place_of q) (same q) refl (λ m ms. by (same q m) (place_of q ms))
+  where
+    by : (b : Bool) (n : ℕ) → cond b 0 (n + 1) ≡ cond b 0 (1 + n)
+    by true n = refl
+    by false n = omega arith
+
+within : (q : List ℕ) (names : List (List ℕ)) → nat_lt (place_of q names) (length names) ≡ list_any (same q) names
+within q [] = refl
+within q (m ∷ ms) = by (same q m) (within q ms)
+  where
+    later : (k n : ℕ) → nat_lt (k + 1) (suc n) ≡ nat_lt k n
+    later k n = grind arith
+
+    by : (b : Bool) → nat_lt (place_of q ms) (length ms) ≡ list_any (same q) ms → nat_lt (cond b 0 (place_of q ms + 1)) (length (m ∷ ms)) ≡ b || list_any (same q) ms
+    by true h = grind arith
+    by false h = later (place_of q ms) (length ms) ∙ h
+
+pub numbered : (q : List ℕ) (names : List (List ℕ)) → position (pointwise nat_eq q) names ≡ number_among q names
+numbered q names =
+    ap (λ (t : List ℕ → List ℕ → Bool). position (t q) names) is_same ∙ rw (← placed q names, within q names) refl
 
 pub with_one : (name : List ℕ) (names : List (List ℕ)) → HaveSame (with_name (Some name) names) (name ∷ names)
 with_one name names q = by (list_any (same name) names) refl

@@ -1,10 +1,10 @@
 //! Sets of names of their own.
 
-ghost use Rattle.std.specs.Prelude.{◌≡◌, ◌∷◌, [], not, position, Some, IfOk, OnOk, OnErr};
+ghost use Rattle.std.specs.Prelude.{◌≡◌, ◌<◌, ◌∷◌, [], length, not, Some, IfOk, IfSome, OnOk, OnErr};
 ghost use Rattle.std.specs.List.{list_any};
 ghost use Rattle.asm_model.specs.Before.{with_name};
 ghost use Rattle.asm_model.specs.Forms.{same};
-ghost use Rattle.asm_sets.specs.Sets.{HaveSame};
+ghost use Rattle.asm_sets.specs.Sets.{HaveSame, number_among};
 
 use indexmap::IndexSet;
 use sdt_fault::{NoMemory, Text};
@@ -54,9 +54,10 @@ impl NameSet {
         self.names.contains(name)
     }
 
-    /// The place of a name.
-    pub fn place_of(&self, name: &Text) -> Option<usize>
-        ensures { result ≡ position (same name.now) self.now }
+    /// The number of a name, which is its place.
+    pub fn number_of(&self, name: &Text) -> Option<usize>
+        ensures number { result ≡ number_among name.now self.now }
+        ensures below { IfSome result (λ number. number < length self.now) }
     {
         self.names.get_index_of(name)
     }

@@ -1,5 +1,5 @@
 -- The kinds of values are those that each context gives that is shown.
-use Rattle.std.proofs.Common.{◌≡◌, ℕ, ◌+◌, ◌%◌, ◌^◌, ◌<◌, Bool, cond, List, [], ◌∷◌, length, Option, Some, None, refl, sym, ap, ◌∙◌, subst}
+use Rattle.std.proofs.Common.{◌≡◌, ℕ, ◌+◌, ◌%◌, ◌^◌, ◌<◌, cond, List, [], ◌∷◌, length, Option, Some, None, refl, sym, ap, ◌∙◌}
 use Rattle.std.specs.Prelude.{Result, Ok, Err, IfOk, nat_le, slice_index}
 use Rattle.std.proofs.lemmas.Option.{slice_get-get_or}
 use Rattle.sdt_fault.specs.declared.kinds.LineKind.{LineKind}
@@ -23,14 +23,14 @@ use Rattle.asm_model.specs.Symbols.{literal_value}
 use Rattle.source_model.specs.Contexts.{Context, sees}
 use Rattle.source_model.specs.Units.{stored}
 use Rattle.source_model.specs.ValueKinds.{lies_within, kinds_unless, export_kinds, assert_kinds, directive_kinds, statement_kinds}
-use Rattle.asm_instructions.specs.Scenes.{has_symbol, context_of}
-use Rattle.asm_instructions.proofs.ContextLemmas.{Alike, symbols_listed, shown_alike}
+use Rattle.asm_instructions.specs.Scenes.{context_of}
+use Rattle.asm_instructions.proofs.ContextLemmas.{Alike, shown_alike}
 use Rattle.asm_units.specs.declared.beside.Beside.{Beside}
 use Rattle.asm_units.specs.declared.emitted.Stored.{Stored as Code}
 use Rattle.asm_units.specs.Emitting.{stored_of}
 use Rattle.asm_units.specs.Literals.{moved_value, moved_entry}
 use Rattle.asm_units.specs.Showing.{ShowsBeside, context_beside, sizes_of}
-use Rattle.asm_units.proofs.ShowLemmas.{labels_listed, stands_alike, stored_alike}
+use Rattle.asm_units.proofs.ShowLemmas.{stands_alike, stored_alike}
 
 pub fault_mapped : {A B : Type 0} (f : A → B) (r : Result A LineKind) → fault_kinds (mapped f r) ≡ fault_kinds r
 fault_mapped f (Ok a) = refl
@@ -60,15 +60,15 @@ literal_alike a b s (Words w) = refl
 
 literal_shown : (x : Beside) (v : Value) (c : Context) (data_names : List (List ℕ)) (sizes : ℕ → ℕ) (s : Sight) (word : Option ℕ) (w : What)
     → ShowsBeside x c data_names sizes s word w
-    → stored (context_of x.scene) x.data.now.keys (literal_value (sees (context_of x.scene)) v) ≡ stored c data_names (literal_value (sees c) v)
+    → stored (context_of x.scene) x.data.now (literal_value (sees (context_of x.scene)) v) ≡ stored c data_names (literal_value (sees c) v)
 literal_shown x v c data_names sizes s word w h =
     let a = context_of x.scene in
     let found = shown_alike x.scene c h.scene in
-    ap (stored a x.data.now.keys) (literal_alike a c found v)
-    ∙ stored_alike a c found x.data.now.keys data_names (labels_listed x data_names h.labels) (literal_value (sees c) v)
+    ap (stored a x.data.now) (literal_alike a c found v)
+    ∙ stored_alike a c found x.data.now data_names h.labels (literal_value (sees c) v)
 
 pub literal_answered : {E : Type 0} (x : Beside) (v : Value) (r : Result (Result Code LineKind) E)
-    → IfOk r (λ l. mapped stored_of l ≡ stored (context_of x.scene) x.data.now.keys (literal_value (sees (context_of x.scene)) v))
+    → IfOk r (λ l. mapped stored_of l ≡ stored (context_of x.scene) x.data.now (literal_value (sees (context_of x.scene)) v))
     → IfOk r
     (λ l. (c : Context) (data_names : List (List ℕ)) (sizes : ℕ → ℕ) (s : Sight) (word : Option ℕ) (w : What) → ShowsBeside x c data_names sizes s word w
     → mapped stored_of l ≡ stored c data_names (literal_value (sees c) v))
@@ -76,12 +76,6 @@ literal_answered x v (Ok l) e = λ c data_names sizes s word w h. e ∙ literal_
 literal_answered x v (Err k) e = tt
 
 -- ---- EXPORT and KEEP
-
-pub unvalued_listed : (x : Beside) (name : List ℕ) (o : Option LaidName) (defined : Bool) (r : Option LineKind) → None ≡ o → defined ≡ has_symbol x.defined.now name
-    → r ≡ Some (cond defined WrongType UnknownWord) → r ≡ told_kind (export_kinds (context_beside x) (sizes_of x) name o)
-unvalued_listed x name o defined r e d h =
-    subst (λ z. r ≡ told_kind (export_kinds (context_beside x) (sizes_of x) name z)) e
-    (h ∙ ap (λ t. Some (cond t WrongType UnknownWord)) (d ∙ symbols_listed x.defined.now name))
 
 module _ (x : Beside) (c : Context) (data_names : List (List ℕ)) (sizes : ℕ → ℕ) (s : Sight) (word : Option ℕ) (w : What) (h : ShowsBeside x c data_names sizes s word w) where
   lies_shown : (p : Option (ℕ × ℕ)) (n : ℕ) → ((area o : ℕ) → p ≡ Some (area, o) → area < length x.sizes.now)
@@ -99,14 +93,14 @@ module _ (x : Beside) (c : Context) (data_names : List (List ℕ)) (sizes : ℕ 
       ap (λ p. kinds_unless (lies_within (sizes_of x) p n) WrongType) (stands_alike (context_of x.scene) c (shown_alike x.scene c h.scene) q)
       ∙ ap (λ t. kinds_unless t WrongType) (lies_shown (stands_at (sees c) q) n (λ area o. h.within q area o))
 
-  entry_shown : (name : List ℕ) (o : Option LaidName) → export_kinds (context_beside x) (sizes_of x) name o ≡ export_kinds c sizes name o
-  entry_shown name None =
-      ap (λ t. cond t WrongType UnknownWord ∷ []) (sym (symbols_listed x.defined.now name) ∙ h.defined name)
-  entry_shown name (Some e) = value_shown name e e.value
+  entry_shown : (name : List ℕ) (o : Option LaidName) → named_in name c.names ≡ o → export_kinds (context_beside x) (sizes_of x) name o ≡ export_kinds c sizes name o
+  entry_shown name None e = ap (λ t. cond t WrongType UnknownWord ∷ []) (h.defined name e)
+  entry_shown name (Some n) e = value_shown name n n.value
 
   export_shown : (name : List ℕ) → export_kinds (context_beside x) (sizes_of x) name (named_in name x.scene.names.now) ≡ export_kinds c sizes name (named_in name c.names)
   export_shown name =
-      entry_shown name (named_in name x.scene.names.now) ∙ ap (λ names. export_kinds c sizes name (named_in name names)) (sym h.scene.names)
+      entry_shown name (named_in name x.scene.names.now) (ap (named_in name) h.scene.names)
+      ∙ ap (λ names. export_kinds c sizes name (named_in name names)) (sym h.scene.names)
 
   directive_shown : (l : DirectiveLine) → directive_kinds (context_beside x) (sizes_of x) l ≡ directive_kinds c sizes l
   directive_shown (line.Export name) = export_shown name

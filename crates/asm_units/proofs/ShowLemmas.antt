@@ -1,8 +1,7 @@
 -- What code finds is what each context finds that it shows.
-use Rattle.std.proofs.Common.{◌≡◌, ℕ, ◌&&◌, Bool, true, false, not, List, [], ◌∷◌, Option, Some, None, refl, sym, ap, ◌∙◌}
+use Rattle.std.proofs.Common.{◌≡◌, ℕ, ◌&&◌, Bool, false, not, List, [], ◌∷◌, Option, Some, None, refl, ap, ◌∙◌}
 use Rattle.std.specs.Prelude.{Result, Ok, Err, IfOk}
 use Rattle.std.specs.List.{list_any}
-use Rattle.std.specs.BTreeSet.{BTreeSet}
 use Rattle.std.specs.Global.{Vec}
 use Rattle.sdt_fault.specs.declared.kinds.LineKind.{LineKind}
 use Rattle.asm_model.specs.declared.exprs.Expr.{Expr}
@@ -20,25 +19,15 @@ use Rattle.asm_model.specs.Extents.{value_there}
 use Rattle.asm_model.specs.Marks.{counts_one}
 use Rattle.source_model.specs.Contexts.{Context, sees, value_of}
 use Rattle.source_model.specs.Units.{Emitted, Bytes, Stored, placed, stored, word_units, half_units, byte_operand, byte_units, directive_units}
-use Rattle.asm_instructions.specs.Scenes.{has_symbol, context_of}
+use Rattle.asm_instructions.specs.Scenes.{context_of}
 use Rattle.asm_instructions.proofs.AlikeLemmas.{number_alike}
-use Rattle.asm_instructions.proofs.ContextLemmas.{Alike, symbols_listed, shown_alike}
+use Rattle.asm_instructions.proofs.ContextLemmas.{Alike, shown_alike}
 use Rattle.asm_laying.specs.Reading.{is_words, marks, string_marks}
 use Rattle.asm_units.specs.declared.beside.Beside.{Beside}
 use Rattle.asm_units.specs.declared.emitted.Emitted.{Emitted as Code}
 use Rattle.asm_units.specs.Emitting.{all_emitted}
 use Rattle.asm_units.specs.Marked.{marked_operand, marked_units, marked_directive}
 use Rattle.asm_units.specs.Showing.{ShowsBeside}
-
--- ---- labels that are data
-
-pub listed_not : (s : BTreeSet (List ℕ)) (q : List ℕ) (thumb found : Bool) → thumb ≡ true → found ≡ has_symbol s q
-    → (not found) ≡ (thumb && not (list_any (same q) s.keys))
-listed_not s q thumb found t f = ap not (f ∙ symbols_listed s q) ∙ sym (ap (λ b. b && not (list_any (same q) s.keys)) t)
-
-pub labels_listed : (x : Beside) (data_names : List (List ℕ)) → ((q : List ℕ) → has_symbol x.data.now q ≡ list_any (same q) data_names)
-    → (q : List ℕ) → list_any (same q) x.data.now.keys ≡ list_any (same q) data_names
-labels_listed x data_names h q = sym (symbols_listed x.data.now q) ∙ h q
 
 -- ---- contexts that find the same
 
@@ -132,15 +121,15 @@ module _ (c : Context) (s : Sight) (known : (e : Expr) (v : Value) → value_the
   directive_marked ds ms _ e = refl
 
 directive_shown : (x : Beside) (l : DirectiveLine) (us : Result (List Emitted) LineKind) (c : Context) (data_names : List (List ℕ)) (sizes : ℕ → ℕ) (s : Sight) (word : Option ℕ)
-    → us ≡ marked_directive (context_of x.scene) x.data.now.keys x.strings.now l
+    → us ≡ marked_directive (context_of x.scene) x.data.now x.strings.now l
     → ShowsBeside x c data_names sizes s word (what.Directive l) → us ≡ directive_units c data_names s l
 directive_shown x l us c data_names sizes s word e h =
     e
-    ∙ directive_alike (context_of x.scene) c (shown_alike x.scene c h.scene) x.data.now.keys data_names (labels_listed x data_names h.labels) x.strings.now l
+    ∙ directive_alike (context_of x.scene) c (shown_alike x.scene c h.scene) x.data.now data_names h.labels x.strings.now l
     ∙ directive_marked c s h.known data_names x.strings.now l h.strings
 
 pub directive_answered : {E : Type 0} (x : Beside) (l : DirectiveLine) (r : Result (Result (Vec Code) LineKind) E)
-    → IfOk r (λ us. all_emitted us ≡ marked_directive (context_of x.scene) x.data.now.keys x.strings.now l)
+    → IfOk r (λ us. all_emitted us ≡ marked_directive (context_of x.scene) x.data.now x.strings.now l)
     → IfOk r
     (λ us. (c : Context) (data_names : List (List ℕ)) (sizes : ℕ → ℕ) (s : Sight) (word : Option ℕ) → ShowsBeside x c data_names sizes s word (what.Directive l)
     → all_emitted us ≡ directive_units c data_names s l)

@@ -1,16 +1,17 @@
 -- What more a line's values are judged by, as code keeps it and as definitions have it. This project's.
-use Rattle.std.specs.Prelude.{◌≡◌, ℕ, ◌<◌, List, length, slice_index, Option, Some, Ok}
+use Rattle.std.specs.Prelude.{◌≡◌, ℕ, ◌<◌, List, length, slice_index, Option, Some, None, Ok}
 use Rattle.std.specs.List.{list_any, slice_get}
 use Rattle.asm_model.specs.declared.exprs.Expr.{Expr}
 use Rattle.asm_model.specs.declared.statements.What.{What}
 use Rattle.asm_model.specs.declared.values.Value.{Value}
 use Rattle.asm_model.specs.AtLine.{Sight}
 use Rattle.asm_model.specs.Forms.{same}
-use Rattle.asm_model.specs.Meaning.{stands_at}
+use Rattle.asm_model.specs.Meaning.{named_in, stands_at}
 use Rattle.asm_model.specs.Extents.{value_there}
 use Rattle.source_model.specs.Contexts.{Context, sees, value_of}
+use Rattle.asm_sets.specs.Sets.{HaveSame}
 use Rattle.asm_names.specs.Lines.{line_of}
-use Rattle.asm_instructions.specs.Scenes.{Shows, has_symbol}
+use Rattle.asm_instructions.specs.Scenes.{Shows}
 use Rattle.asm_laying.specs.Reading.{string_marks}
 use Rattle.asm_units.specs.declared.beside.Beside.{Beside}
 
@@ -18,8 +19,9 @@ use Rattle.asm_units.specs.declared.beside.Beside.{Beside}
 -- the line sees, and the offset of its literal's word
 pub record ShowsBeside (x : Beside) (c : Context) (data_names : List (List ℕ)) (sizes : ℕ → ℕ) (s : Sight) (word : Option ℕ) (w : What) : Type 0 where
   pub scene : Shows x.scene c
-  pub labels : (q : List ℕ) → has_symbol x.data.now q ≡ list_any (same q) data_names
-  pub defined : (q : List ℕ) → has_symbol x.defined.now q ≡ list_any (same q) c.defined
+  pub labels : HaveSame x.data.now data_names
+  -- of a name that has no entry, whether the source defines it
+  pub defined : (q : List ℕ) → named_in q c.names ≡ None → list_any (same q) x.defined.now ≡ list_any (same q) c.defined
   pub measured : (area n : ℕ) → slice_get x.sizes.now area ≡ Some n → n ≡ sizes area
   -- each place is in an area that has a size
   pub within : (q : List ℕ) (area o : ℕ) → stands_at (sees c) q ≡ Some (area, o) → area < length x.sizes.now
@@ -33,9 +35,9 @@ abbrev pub context_beside : Beside → Context
 context_beside x = record {
   names = x.scene.names.now;
   line = line_of x.scene.line.now;
-  registers = x.scene.registers.now.entries;
-  symbols = x.scene.symbols.now.keys;
-  defined = x.defined.now.keys;
+  registers = x.scene.registers.now;
+  symbols = x.scene.symbols.now;
+  defined = x.defined.now;
 }
 
 -- the size of an area; 0 of one that isn't listed

@@ -66,7 +66,7 @@ fn export_kind(beside: &Beside<'_>, name: &Text) -> Option<LineKind>
     ensures { result ≡ told_kind (model.export_kinds (context_beside beside.now) (sizes_of beside.now) name.now (named_in name.now beside.now.scene.names.now)) }
 {
     match beside.scene.names.find(name) {
-        None => unvalued_kind(beside.defined.contains(name)),
+        None => unvalued_kind(beside.defined.has(name)),
         Some(entry) => match &entry.value {
             Value::Number(_) => None,
             Value::Place { symbol, plus } => {

@@ -96,7 +96,7 @@ fn literal_there(
     beside: &Beside<'_>,
     literal: &Value,
 ) -> Result<Result<Stored, LineKind>, NoMemory>
-    ensures { IfOk result (λ w. mapped stored_of w ≡ units.stored (context_of beside.now.scene) beside.now.data.now.keys (symbols.literal_value (sees (context_of beside.now.scene)) literal.now)) }
+    ensures { IfOk result (λ w. mapped stored_of w ≡ units.stored (context_of beside.now.scene) beside.now.data.now (symbols.literal_value (sees (context_of beside.now.scene)) literal.now)) }
 {
     let value = literal_value(alloc, &beside.scene, literal)?;
     Ok(stored(beside, value))

@@ -1,22 +1,23 @@
 //! The records of symbols.
 
 ghost use Rattle.std.specs.Prelude.{◌≡◌, ◌+◌, ◌*◌, ◌≤◌, ◌&&◌, ◌^◌, false, get_or, IfOk, if◌then◌else◌};
+ghost use Rattle.std.specs.List.{list_any};
 ghost use Rattle.std.specs.Option.{option_copied};
 ghost use Rattle.sdt_word.specs.Numbers.{flag as flag_of};
 ghost use Rattle.asm_model.specs.Meaning as meaning;
 ghost use Rattle.asm_model.specs.Entries as entries;
+ghost use Rattle.asm_model.specs.Forms.{same};
 ghost use Rattle.source_model.specs.Contexts.{sees};
 ghost use Rattle.source_model.specs.Objects as objects;
 ghost use Rattle.source_model.specs.Objects.{Source};
-ghost use Rattle.asm_instructions.specs.Scenes.{has_symbol};
 ghost use Rattle.asm_units.specs.Recording.{Shows};
 
 use aof_object::Symbol;
 use asm_model::{LaidName, Value};
 use asm_names::KnownNames;
+use asm_sets::NameRefs;
 use sdt_fault::{NoMemory, Text};
 use std::alloc::Global;
-use std::collections::BTreeSet;
 
 /// What the records of symbols say of a source.
 #[derive(Clone, Copy)]
@@ -24,11 +25,11 @@ pub struct Facts<'a> {
     /// All names of the source.
     pub names: &'a KnownNames,
     /// The names that EXPORT has.
-    pub exported: &'a BTreeSet<Text>,
+    pub exported: &'a NameRefs<'a>,
     /// The names that are imported as weak.
-    pub weak: &'a BTreeSet<Text>,
+    pub weak: &'a NameRefs<'a>,
     /// The labels that are data.
-    pub data: &'a BTreeSet<Text>,
+    pub data: &'a NameRefs<'a>,
     /// Of each area, by number, whether it holds code.
     pub code: &'a [bool],
 }
@@ -58,7 +59,7 @@ fn scope(facts: &Facts<'_>, name: &Text) -> u32
     ensures is { (s : Source) → Shows facts.now s → result ≡ objects.scope s name.now }
     ensures below { result ≤ 3 }
 {
-    scope_by(facts.exported.contains(name))
+    scope_by(facts.exported.has(name))
 }
 
 fn holds_code(code: &[bool], area: u32) -> bool
@@ -81,9 +82,9 @@ fn is_thumb(entry: Option<&LaidName>) -> bool
 
 /// Whether a label is a datum in a code area.
 fn is_marked(facts: &Facts<'_>, label: &Text, area: u32) -> bool
-    ensures { result ≡ has_symbol facts.now.data.now label.now && get_or facts.now.code.now area false }
+    ensures { result ≡ list_any (same label.now) facts.now.data.now && get_or facts.now.code.now area false }
 {
-    if facts.data.contains(label) {
+    if facts.data.has(label) {
         return holds_code(facts.code, area);
     }
     false
@@ -123,7 +124,7 @@ fn undefined(alloc: Global, facts: &Facts<'_>, name: &Text) -> Result<Symbol, No
     let name_copy = name.try_clone(alloc)?;
     Ok(Symbol {
         name: name_copy,
-        attributes: 2 + bits(facts.weak.contains(name), 0x10),
+        attributes: 2 + bits(facts.weak.has(name), 0x10),
         value: 0,
         area: None,
     })

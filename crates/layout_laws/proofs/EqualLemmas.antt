@@ -9,10 +9,9 @@ use Rattle.asm_model.specs.declared.names.LaidName.{LaidName}
 use Rattle.asm_model.specs.declared.statements.Statement.{Statement}
 use Rattle.asm_model.specs.AtLine.{SourceLine}
 use Rattle.asm_model.specs.Grammar.{Tree}
-use Rattle.asm_model.specs.Before.{area_behind, is_thumb_label}
 use Rattle.asm_model.specs.Entries.{equal_entry}
-use Rattle.asm_model.specs.Labels.{Defined, Unnamed, Label, Equal, MapField, RegisterName, defined_by, imported_in}
-use Rattle.asm_model.specs.Laid.{LaidLine, statements_of, map_behind, offset_behind, tree_equated, definition_of, imported_lines, laid_behind, laid_of, source_lines}
+use Rattle.asm_model.specs.Labels.{Defined, Label, Equal, defined_by, imported_in}
+use Rattle.asm_model.specs.Laid.{LaidLine, tree_equated, definition_of, imported_lines, laid_of, source_lines}
 use Rattle.asm_model.specs.Trees.{tree_of}
 use Rattle.layout_laws.proofs.RoundLemmas.{SymbolIs}
 use Rattle.layout_laws.proofs.StepLemmas.{HoldsOf, EachEquated, IsMade, IsRegular, AreRegular}
@@ -65,11 +64,8 @@ tree_holds R names area name (Some t) f = f t refl
 
 pub definition_holds : (R : List ℕ → Tree → Type 0) (names : List LaidName) (x : Defined) (area : Option ℕ) (offset : ℕ) (size : Option ℕ) (thumb : Bool) (m : ℕ)
     → EachEqual (OfTrees R) (equal_of x) → HoldsOf R (definition_of names x area offset size thumb m)
-definition_holds R names Unnamed area offset size thumb m h = tt
-definition_holds R names (Label name) area offset size thumb m h = tt
 definition_holds R names (Equal name e) area offset size thumb m h = tree_holds R names area name (tree_of e) h.0
-definition_holds R names (MapField name) area offset size thumb m h = tt
-definition_holds R names (RegisterName name r) area offset size thumb m h = tt
+definition_holds R names x area offset size thumb m h = tt
 
 pub imported_holds : (R : List ℕ → Tree → Type 0) (s : Statement) (before : List LaidLine) (o : Option (List ℕ)) → EachEquated R (imported_lines s before o)
 imported_holds R s before None = tt
@@ -84,12 +80,8 @@ pub lines_hold : (R : List ℕ → Tree → Type 0) (d : List LaidName) (ss : Li
 lines_hold R d [] h = tt
 lines_hold R d (s ∷ ss) h =
     let parts = equal_parts (OfTrees R) (all_equals ss) (equal_of (defined_by s)) h in
-    holds_joined R (source_lines (laid_of d ss)) ((laid_behind d s (laid_of d ss)).line ∷ imported_lines s (laid_of d ss) (imported_in s.what))
-    (lines_hold R d ss parts.0) (
-      definition_holds R d (defined_by s) (area_behind (s ∷ statements_of (laid_of d ss))) (offset_behind s (laid_of d ss))
-          (Some (laid_behind d s (laid_of d ss)).size) (is_thumb_label s (statements_of (laid_of d ss))) (map_behind (laid_of d ss)) parts.1,
-      imported_holds R s (laid_of d ss) (imported_in s.what),
-    )
+    holds_joined R _ _ (lines_hold R d ss parts.0)
+    (definition_holds R d (defined_by s) _ _ _ _ _ parts.1, imported_holds R s (laid_of d ss) (imported_in s.what))
 
 -- ---- regular lines
 
@@ -107,11 +99,9 @@ tree_regular names area name (Some t) = equal_made names area name
 
 pub definition_regular : (names : List LaidName) (x : Defined) (area : Option ℕ) (offset : ℕ) (size : Option ℕ) (thumb : Bool) (m : ℕ)
     → IsRegular (definition_of names x area offset size thumb m)
-definition_regular names Unnamed area offset size thumb m = tt
 definition_regular names (Label name) area offset size thumb m = own_place name
 definition_regular names (Equal name e) area offset size thumb m = tree_regular names area name (tree_of e)
-definition_regular names (MapField name) area offset size thumb m = tt
-definition_regular names (RegisterName name r) area offset size thumb m = tt
+definition_regular names x area offset size thumb m = tt
 
 pub regular_joined : (ls ms : List SourceLine) → AreRegular ls → AreRegular ms → AreRegular (ls ++ ms)
 regular_joined [] ms h k = k
@@ -119,17 +109,10 @@ regular_joined (l ∷ ls) ms h k = (h.0, regular_joined ls ms h.1 k)
 
 pub imported_regular : (s : Statement) (before : List LaidLine) (o : Option (List ℕ)) → AreRegular (imported_lines s before o)
 imported_regular s before None = tt
-imported_regular s before (Some name) = (
-  own_place name,
-  tt,
-)
+imported_regular s before (Some name) = (own_place name, tt)
 
 pub lines_regular : (d : List LaidName) (ss : List Statement) → AreRegular (source_lines (laid_of d ss))
 lines_regular d [] = tt
 lines_regular d (s ∷ ss) =
-    regular_joined (source_lines (laid_of d ss)) ((laid_behind d s (laid_of d ss)).line ∷ imported_lines s (laid_of d ss) (imported_in s.what))
-    (lines_regular d ss) (
-      definition_regular d (defined_by s) (area_behind (s ∷ statements_of (laid_of d ss))) (offset_behind s (laid_of d ss))
-          (Some (laid_behind d s (laid_of d ss)).size) (is_thumb_label s (statements_of (laid_of d ss))) (map_behind (laid_of d ss)),
-      imported_regular s (laid_of d ss) (imported_in s.what),
-    )
+    regular_joined _ _ (lines_regular d ss)
+    (definition_regular d (defined_by s) _ _ _ _ _, imported_regular s (laid_of d ss) (imported_in s.what))

@@ -14,12 +14,12 @@ use Rattle.asm_model.specs.declared.names.LaidName.{LaidName}
 use Rattle.asm_model.specs.AtLine.{SourceLine, with_names}
 use Rattle.asm_model.specs.Forms.{same}
 use Rattle.asm_model.specs.Grammar.{Tree, Leaf, Before, Between}
-use Rattle.asm_model.specs.Meaning.{named_in, entry_stands_at, stands_at, distance, between_places, as_number, binary, unary_of, Operand, Known, Unread, value_of, size_of, defined_of, known, then_of, on_both, applied, operand_of_item, operand_of_tree, meaning}
+use Rattle.asm_model.specs.Meaning.{named_in, entry_stands_at, stands_at, distance, between_places, binary, unary_of, Operand, Known, Unread, value_of, size_of, defined_of, known, then_of, on_both, applied, operand_of_item, operand_of_tree, meaning}
 use Rattle.asm_model.specs.Before.{is_thumb_label}
 use Rattle.asm_model.specs.Entries.{later_entry}
 use Rattle.asm_model.specs.Labels.{Defined, Unnamed, Label, Equal, MapField, RegisterName, defined_by, imported_in, declared_entries, declared_imports, declared_names}
 use Rattle.asm_model.specs.declared.statements.Statement.{Statement}
-use Rattle.asm_model.proofs.LineLemmas.{applied_known}
+use Rattle.asm_model.proofs.LineLemmas.{applied_known, number_more}
 use Rattle.asm_model.proofs.WordLemmas.{same_true}
 
 -- ---- entries that tell more
@@ -45,14 +45,16 @@ tells_itself o = (λ v h. h, λ v h. h, λ v h. h, λ a h. h)
 abbrev pub OperandTells : Operand → Operand → Type 0
 OperandTells x y = Gives (known x) (known y) × ((op : UnaryOp) → Gives (applied op x) (applied op y))
 
-pub then_tells : (r s : Result Value LineKind) (f : Value → Result Value LineKind) → Gives r s → Gives (then_of r f) (then_of s f)
+pub then_tells : (r s : Result Value LineKind) (f : Value → Result Value LineKind) → Gives r s
+    → Gives (then_of r f) (then_of s f)
 then_tells (Ok w) s f more v h = ap (λ z. then_of z f) (more w refl) ∙ h
 then_tells (Err k) s f more v h = absurd (cc)
 
 pub known_tells : (r s : Result Value LineKind) → Gives r s → OperandTells (Known r) (Known s)
 known_tells r s more = (more, λ op v h. applied_known op s ∙ then_tells r s (unary_of op) more v (sym (applied_known op r) ∙ h))
 
-pub unread_tells : (o p : Option LaidName) → Tells o p → (op : UnaryOp) → Gives (applied op (Unread o)) (applied op (Unread p))
+pub unread_tells : (o p : Option LaidName) → Tells o p → (op : UnaryOp)
+    → Gives (applied op (Unread o)) (applied op (Unread p))
 unread_tells o p h unary.Size = h.1
 unread_tells o p h unary.Defined = h.2
 unread_tells o p h op = then_tells (value_of o) (value_of p) (unary_of op) h.0
@@ -67,30 +69,30 @@ pub stands_tell : (l : SourceLine) (xs ys : List LaidName) → TellAll xs ys →
 stands_tell l xs ys h [] a k = k
 stands_tell l xs ys h (c ∷ cs) a k = (h (c ∷ cs)).3 a k
 
-pub distance_tells : (a b c d : Option (ℕ × ℕ)) (p q : ℕ) → ((x : ℕ × ℕ) → a ≡ Some x → c ≡ Some x) → ((x : ℕ × ℕ) → b ≡ Some x → d ≡ Some x)
+pub distance_tells : (a b c d : Option (ℕ × ℕ)) (p q : ℕ) → ((x : ℕ × ℕ) → a ≡ Some x → c ≡ Some x)
+    → ((x : ℕ × ℕ) → b ≡ Some x → d ≡ Some x)
     → Gives (distance a p b q) (distance c p d q)
 distance_tells (Some x) (Some y) c d p q f g n h = ap (λ z. distance z p d q) (f x refl) ∙ ap (λ z. distance (Some x) p z q) (g y refl) ∙ h
 distance_tells (Some x) None c d p q f g n h = absurd (cc)
 distance_tells None b c d p q f g n h = absurd (cc)
 
-pub places_tell : (l : SourceLine) (xs ys : List LaidName) → TellAll xs ys → (op : BinaryOp) (s t : List ℕ) (p q : ℕ)
+pub places_tell : (l : SourceLine) (xs ys : List LaidName) → TellAll xs ys
+    → (op : BinaryOp) (s t : List ℕ) (p q : ℕ)
     → Gives (between_places (with_names l xs) op s p t q) (between_places (with_names l ys) op s p t q)
 places_tell l xs ys h Subtract s t p q =
     distance_tells (stands_at (with_names l xs) s) (stands_at (with_names l xs) t) (stands_at (with_names l ys) s) (stands_at (with_names l ys) t) p q
     (stands_tell l xs ys h s) (stands_tell l xs ys h t)
 places_tell l xs ys h op s t p q = λ n k. absurd (cc)
 
-pub number_tells : (r s : Result ℕ LineKind) → Gives r s → Gives (as_number r) (as_number s)
-number_tells (Ok n) s more v h = ap as_number (more n refl) ∙ h
-number_tells (Err k) s more v h = absurd (cc)
-
 pub binary_tells : (l : SourceLine) (xs ys : List LaidName) → TellAll xs ys → (op : BinaryOp) (v w : Value)
     → Gives (binary (with_names l xs) op v w) (binary (with_names l ys) op v w)
 binary_tells l xs ys h op (Place s p) (Place t q) =
-    number_tells (between_places (with_names l xs) op s p t q) (between_places (with_names l ys) op s p t q) (places_tell l xs ys h op s t p q)
+    let near = between_places (with_names l xs) op s p t q in
+    λ r k. number_more near (between_places (with_names l ys) op s p t q) r (places_tell l xs ys h op s t p q) k
 binary_tells l xs ys h op v w = λ r k. k
 
-pub both_tell : (l : SourceLine) (xs ys : List LaidName) → TellAll xs ys → (op : BinaryOp) (a b c d : Result Value LineKind) → Gives a c → Gives b d
+pub both_tell : (l : SourceLine) (xs ys : List LaidName) → TellAll xs ys
+    → (op : BinaryOp) (a b c d : Result Value LineKind) → Gives a c → Gives b d
     → Gives (on_both a b (binary (with_names l xs) op)) (on_both c d (binary (with_names l ys) op))
 both_tell l xs ys h op (Ok v) (Ok w) c d f g r k =
     ap (λ z. on_both z d (binary (with_names l ys) op)) (f v refl)
@@ -144,7 +146,8 @@ later_append (n ∷ ns) ms h k = (h.0, later_append ns ms h.1 k)
 pub later_tells : (name : List ℕ) (thumb : Bool) (p : Option LaidName) → Tells (Some (later_entry name thumb)) p
 later_tells name thumb p = (λ v h. absurd (cc), λ v h. absurd (cc), λ v h. absurd (cc), λ a h. absurd (cc))
 
-pub entries_later : (x : Defined) (s : Statement) (before : List Statement) → AreLater (declared_entries x s before)
+pub entries_later : (x : Defined) (s : Statement) (before : List Statement)
+    → AreLater (declared_entries x s before)
 entries_later Unnamed s before = tt
 entries_later (Label name) s before = (later_tells name (is_thumb_label s before), tt)
 entries_later (Equal name e) s before = (later_tells name false, tt)
@@ -165,7 +168,8 @@ declared_later (s ∷ ss) =
 pub none_tells : (p : Option LaidName) → p ≡ None → Tells None p
 none_tells p e = subst (Tells None) (sym e) (tells_itself None)
 
-pub later_tell : (q : List ℕ) (ns : List LaidName) (p : Option LaidName) → AreLater ns → (named_in q ns ≡ None → p ≡ None) → Tells (named_in q ns) p
+pub later_tell : (q : List ℕ) (ns : List LaidName) (p : Option LaidName) → AreLater ns
+    → (named_in q ns ≡ None → p ≡ None) → Tells (named_in q ns) p
 later_tell q [] p h none = none_tells p (none refl)
 later_tell q (n ∷ ns) p h none = by_test (same n.name q) none (later_tell q ns p h.1)
   where

@@ -11,10 +11,10 @@ use Rattle.asm_model.specs.Grammar.{Tree}
 use Rattle.asm_model.specs.Meaning.{named_in, meaning}
 use Rattle.asm_model.proofs.LineLemmas.{each_more, each_append}
 use Rattle.asm_model.proofs.WordLemmas.{same_refl}
-use Rattle.asm_model.specs.Before.{area_behind, is_thumb_label}
+use Rattle.asm_model.specs.Before.{is_thumb_label}
 use Rattle.asm_model.specs.Entries.{equal_entry, label_entry, imported_entry, field_entry, register_entry, later_entry}
 use Rattle.asm_model.specs.Labels.{Defined, Unnamed, Label, Equal, MapField, RegisterName, defined_by, imported_in, declared_entries, declared_imports, declared_names}
-use Rattle.asm_model.specs.Laid.{LaidLine, statements_of, map_behind, offset_behind, tree_equated, definition_of, imported_lines, laid_behind, laid_of, entries_with, all_entries, source_lines}
+use Rattle.asm_model.specs.Laid.{LaidLine, tree_equated, definition_of, imported_lines, laid_behind, laid_of, entries_with, all_entries, source_lines}
 use Rattle.asm_model.specs.LayoutKinds.{own_name, listed, names_in, names_behind, is_repeated}
 use Rattle.asm_model.specs.Trees.{tree_of}
 use Rattle.layout_laws.proofs.EqualLemmas.{equal_made}
@@ -60,15 +60,11 @@ tree_most N l names area name (Some t) = ap (λ z. z ∷ []) (sym (equal_made na
 pub definition_most : (N : List LaidName) (l : SourceLine) (names : List LaidName) (x : Defined) (area : Option ℕ) (offset : ℕ) (size : Option ℕ) (thumb : Bool) (m : ℕ)
     → AtMost (own_name x) (entries_with N l (definition_of names x area offset size thumb m))
 definition_most N l names Unnamed area offset size thumb m = tt
-definition_most N l names (Label name) area offset size thumb m = refl
 definition_most N l names (Equal name e) area offset size thumb m = tree_most N l names area name (tree_of e)
-definition_most N l names (MapField name) area offset size thumb m = refl
-definition_most N l names (RegisterName name r) area offset size thumb m = refl
+definition_most N l names x area offset size thumb m = refl
 
 pub own_most : (N : List LaidName) (d : List LaidName) (s : Statement) (ss : List Statement) → AtMost (own_name (defined_by s)) (own_of N d s ss)
-own_most N d s ss =
-    definition_most N (laid_behind d s (laid_of d ss)).line d (defined_by s) (area_behind (s ∷ statements_of (laid_of d ss)))
-    (offset_behind s (laid_of d ss)) (Some (laid_behind d s (laid_of d ss)).size) (is_thumb_label s (statements_of (laid_of d ss))) (map_behind (laid_of d ss))
+own_most N d s ss = definition_most N (laid_behind d s (laid_of d ss)).line d (defined_by s) _ _ _ _ _
 
 pub import_most : (N : List LaidName) (s : Statement) (before : List LaidLine) (o : Option (List ℕ))
     → AtMost (listed o) (all_entries N (imported_lines s before o))
@@ -187,6 +183,5 @@ undeclared N d q (s ∷ ss) h =
     ap (named_in q) (with_statement N d s ss)
     ∙ none_joined q (sofar N d ss) (own_of N d s ss ++ imports_of N d s ss) (undeclared N d q ss r.0)
     (none_joined q (own_of N d s ss) (imports_of N d s ss)
-    (own_undeclared q s ss N (laid_behind d s (laid_of d ss)).line d (defined_by s) (area_behind (s ∷ statements_of (laid_of d ss)))
-    (offset_behind s (laid_of d ss)) (Some (laid_behind d s (laid_of d ss)).size) (is_thumb_label s (statements_of (laid_of d ss))) (map_behind (laid_of d ss)) r.1)
+    (own_undeclared q s ss N (laid_behind d s (laid_of d ss)).line d (defined_by s) _ _ _ _ _ r.1)
     (import_undeclared q N s (laid_of d ss) (imported_in s.what) p.1))

@@ -31,9 +31,7 @@ use Rattle.layout_laws.proofs.TreeLemmas.{TreeEach}
 abbrev pub SymbolIs : (List ℕ → Type 0) → Value → Type 0
 SymbolIs P (Place [] n) = Unit {0}
 SymbolIs P (Place (c ∷ cs) n) = P (c ∷ cs)
-SymbolIs P (Number n) = Unit {0}
-SymbolIs P (Truth b) = Unit {0}
-SymbolIs P (Words w) = Unit {0}
+SymbolIs P _ = Unit {0}
 
 abbrev pub ResultIs : (List ℕ → Type 0) → Result Value LineKind → Type 0
 ResultIs P (Ok v) = SymbolIs P v
@@ -42,13 +40,8 @@ ResultIs P (Err k) = Unit {0}
 -- so has each name in an item, and in a tree
 abbrev pub ItemIs : (List ℕ → Type 0) → ExprItem → Type 0
 ItemIs P (item.Name q) = P q
-ItemIs P (item.Local q) = Unit {0}
 ItemIs P (item.Constant v) = SymbolIs P v
-ItemIs P item.Here = Unit {0}
-ItemIs P item.Map = Unit {0}
-ItemIs P item.CodeSize = Unit {0}
-ItemIs P (item.Unary op) = Unit {0}
-ItemIs P (item.Binary op) = Unit {0}
+ItemIs P _ = Unit {0}
 
 abbrev pub TreeIs : (List ℕ → Type 0) → Tree → Type 0
 TreeIs P t = TreeEach (ItemIs P) t
@@ -62,11 +55,8 @@ abbrev pub AreSame : (List ℕ → Type 0) → List LaidName → List LaidName �
 AreSame P xs ys = (q : List ℕ) → P q → named_in q xs ≡ named_in q ys
 
 pub symbol_weaker : (P Q : List ℕ → Type 0) → ((q : List ℕ) → P q → Q q) → (v : Value) → SymbolIs P v → SymbolIs Q v
-symbol_weaker P Q f (Place [] n) h = tt
 symbol_weaker P Q f (Place (c ∷ cs) n) h = f (c ∷ cs) h
-symbol_weaker P Q f (Number n) h = tt
-symbol_weaker P Q f (Truth b) h = tt
-symbol_weaker P Q f (Words w) h = tt
+symbol_weaker P Q f v h = tt
 
 pub result_weaker : (P Q : List ℕ → Type 0) → ((q : List ℕ) → P q → Q q) → (r : Result Value LineKind) → ResultIs P r → ResultIs Q r
 result_weaker P Q f (Ok v) h = symbol_weaker P Q f v h
@@ -74,13 +64,8 @@ result_weaker P Q f (Err k) h = tt
 
 pub item_weaker : (P Q : List ℕ → Type 0) → ((q : List ℕ) → P q → Q q) → (i : ExprItem) → ItemIs P i → ItemIs Q i
 item_weaker P Q f (item.Name q) h = f q h
-item_weaker P Q f (item.Local q) h = tt
 item_weaker P Q f (item.Constant v) h = symbol_weaker P Q f v h
-item_weaker P Q f item.Here h = tt
-item_weaker P Q f item.Map h = tt
-item_weaker P Q f item.CodeSize h = tt
-item_weaker P Q f (item.Unary op) h = tt
-item_weaker P Q f (item.Binary op) h = tt
+item_weaker P Q f i h = tt
 
 pub tree_weaker : (P Q : List ℕ → Type 0) → ((q : List ℕ) → P q → Q q) → (t : Tree) → TreeIs P t → TreeIs Q t
 tree_weaker P Q f (Leaf i) h = item_weaker P Q f i h
@@ -139,13 +124,8 @@ value_is P (Some n) h = h n refl
 pub item_is : (P : List ℕ → Type 0) (l : SourceLine) (xs : List LaidName) → IsClosed P xs → (i : ExprItem) → ItemIs P i
     → ResultIs P (known (operand_of_item (with_names l xs) i))
 item_is P l xs closed (item.Name q) h = value_is P (named_in q xs) (λ n. closed q n h)
-item_is P l xs closed (item.Local q) h = tt
 item_is P l xs closed (item.Constant v) h = h
-item_is P l xs closed item.Here h = tt
-item_is P l xs closed item.Map h = tt
-item_is P l xs closed item.CodeSize h = tt
-item_is P l xs closed (item.Unary op) h = tt
-item_is P l xs closed (item.Binary op) h = tt
+item_is P l xs closed i h = tt
 
 pub number_is : (P : List ℕ → Type 0) (r : Result ℕ LineKind) → ResultIs P (as_number r)
 number_is P (Ok n) = tt
@@ -197,13 +177,7 @@ tree_is P l xs closed (Between op t u) h =
 pub item_same : (P : List ℕ → Type 0) (l : SourceLine) (xs ys : List LaidName) → AreSame P xs ys → (i : ExprItem) → ItemIs P i
     → operand_of_item (with_names l xs) i ≡ operand_of_item (with_names l ys) i
 item_same P l xs ys alike (item.Name q) h = ap (λ o. Unread o) (alike q h)
-item_same P l xs ys alike (item.Local q) h = refl
-item_same P l xs ys alike (item.Constant v) h = refl
-item_same P l xs ys alike item.Here h = refl
-item_same P l xs ys alike item.Map h = refl
-item_same P l xs ys alike item.CodeSize h = refl
-item_same P l xs ys alike (item.Unary op) h = refl
-item_same P l xs ys alike (item.Binary op) h = refl
+item_same P l xs ys alike i h = refl
 
 pub stands_same : (P : List ℕ → Type 0) (l : SourceLine) (xs ys : List LaidName) → AreSame P xs ys → (s : List ℕ) (p : ℕ) → SymbolIs P (Place s p)
     → stands_at (with_names l xs) s ≡ stands_at (with_names l ys) s

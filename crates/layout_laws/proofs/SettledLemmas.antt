@@ -6,14 +6,14 @@ use Rattle.asm_model.specs.declared.exprs.Expr.{Expr}
 use Rattle.asm_model.specs.declared.exprs.ExprItem.{ExprItem}
 use Rattle.asm_model.specs.declared.exprs.ExprItem.TheVariants as item
 use Rattle.asm_model.specs.declared.values.Value.{Value}
-use Rattle.asm_model.specs.declared.values.Value.TheVariants.{Number, Truth, Words, Place}
+use Rattle.asm_model.specs.declared.values.Value.TheVariants.{Place}
 use Rattle.asm_model.specs.declared.names.LaidName.{LaidName}
 use Rattle.asm_model.specs.declared.statements.Statement.{Statement}
 use Rattle.asm_model.specs.AtLine.{SourceLine}
 use Rattle.asm_model.specs.Forms.{same}
 use Rattle.asm_model.specs.Grammar.{Tree}
 use Rattle.asm_model.proofs.WordLemmas.{same_refl}
-use Rattle.asm_model.specs.Labels.{Defined, Unnamed, Label, Equal, MapField, RegisterName, defined_by, declared_names}
+use Rattle.asm_model.specs.Labels.{Defined, Equal, defined_by, declared_names}
 use Rattle.asm_model.specs.Laid.{laid_of, laid, source_lines, all_entries, names_after, final_names}
 use Rattle.asm_model.specs.LayoutKinds.{equals_in, is_settled_item, are_settled, settled_by, settled_after, settled}
 use Rattle.asm_model.specs.Sound.{IsSound, IsNoPlace, HaveNoPlaces, ArePlain, HasNoPlace}
@@ -28,9 +28,7 @@ use Rattle.asm_model.specs.Trees.{tree_behind}
 
 pub no_place_is : (P : List ℕ → Type 0) (v : Value) → IsNoPlace v → SymbolIs P v
 no_place_is P (Place s n) h = absurd h
-no_place_is P (Number n) h = tt
-no_place_is P (Truth b) h = tt
-no_place_is P (Words w) h = tt
+no_place_is P v h = tt
 
 -- a constant's symbol has the property
 abbrev pub HoldsConstant : (List ℕ → Type 0) → ExprItem → Type 0
@@ -64,13 +62,8 @@ items_are P E S free deep (i ∷ is) h k =
   where
     by_item : (i : ExprItem) → is_settled_item E S i ≡ true → HaveNoPlaces (i ∷ []) → ItemIs P i
     by_item (item.Name r) e n = either_good (P r) (list_any (λ e. same r e.0) E) (list_any (same r) S) (free r) (deep r) e
-    by_item (item.Local r) e n = tt
     by_item (item.Constant v) e n = no_place_is P v n.0
-    by_item item.Here e n = tt
-    by_item item.Map e n = tt
-    by_item item.CodeSize e n = tt
-    by_item (item.Unary op) e n = tt
-    by_item (item.Binary op) e n = tt
+    by_item i e n = tt
 
 pub found_name : (E : List (List ℕ × Expr)) (r : List ℕ) → list_any (λ e. same r e.0) E ≡ false → EachEqual (λ p e. same r p ≡ false) E
 found_name [] r h = tt
@@ -118,12 +111,12 @@ settled_lead d ss S sound plain (suc k) =
 
 -- ---- enough rounds
 
+pub one_equal : (x : Defined) → length (equal_of x) ≤ 1
+one_equal (Equal name e) = omega arith
+one_equal x = omega arith
+
 pub few_equals : (x : Defined) (xs : List (List ℕ × Expr)) (n : ℕ) → length xs ≤ n → length (xs ++ equal_of x) ≤ suc n
-few_equals Unnamed xs n h = omega (arith, length-append xs (equal_of Unnamed))
-few_equals (Label name) xs n h = omega (arith, length-append xs (equal_of (Label name)))
-few_equals (Equal name e) xs n h = omega (arith, length-append xs (equal_of (Equal name e)))
-few_equals (MapField name) xs n h = omega (arith, length-append xs (equal_of (MapField name)))
-few_equals (RegisterName name r) xs n h = omega (arith, length-append xs (equal_of (RegisterName name r)))
+few_equals x xs n h = omega (arith, length-append xs (equal_of x), one_equal x)
 
 pub equals_few : (d : List LaidName) (ss : List Statement) → length (all_equals ss) ≤ length (laid_of d ss)
 equals_few d [] = omega arith

@@ -10,7 +10,7 @@ use Rattle.asm_model.specs.Directives.{or_else}
 use Rattle.asm_model.specs.Forms.{same}
 use Rattle.asm_model.specs.Kinds.{told_kind}
 use Rattle.asm_model.proofs.WordLemmas.{same_refl, same_true}
-use Rattle.asm_model.specs.Labels.{Defined, Unnamed, Label, Equal, MapField, RegisterName, defined_by, imported_in}
+use Rattle.asm_model.specs.Labels.{Defined, Equal, defined_by, imported_in}
 use Rattle.asm_model.specs.Laid.{LaidLine, statements_of, laid_behind, laid_of}
 use Rattle.asm_model.specs.LayoutKinds.{fault_kinds, kind_if, map_kinds, no_area_kinds, contents_kinds, contents_behind, area_kinds, own_name, listed, names_in, names_behind, is_entry, is_repeated, name_kinds, first_equal, equals_in, are_settled, settled_by, settled_kinds, state_kinds, layout_kinds, told_at, first_fault, area_bytes}
 use Rattle.asm_model.specs.Sound.{HaveNoPlaces, IsPlain, ArePlain}
@@ -101,11 +101,8 @@ sound_each S all d (s ∷ ss) h =
 -- ---- names for expressions
 
 pub equal_apart : (q : List ℕ) (x : Defined) → list_any (same q) (own_name x) ≡ false → EachEqual (λ p e. same q p ≡ false) (equal_of x)
-equal_apart q Unnamed h = tt
-equal_apart q (Label name) h = tt
 equal_apart q (Equal name e) h = ((or_parts (same q name) false h).0, tt)
-equal_apart q (MapField name) h = tt
-equal_apart q (RegisterName name r) h = tt
+equal_apart q x h = tt
 
 pub equals_apart : (q : List ℕ) (ss : List Statement) → list_any (same q) (names_behind ss) ≡ false → EachEqual (λ p e. same q p ≡ false) (all_equals ss)
 equals_apart q [] h = tt
@@ -127,24 +124,18 @@ distinct_end (x ∷ xs) q e h k = (
 
 pub distinct_with : (x : Defined) (i : List (List ℕ)) (ss : List Statement) → is_repeated (names_behind ss) (own_name x ++ i) ≡ false
     → AreDistinct (all_equals ss) → AreDistinct (all_equals ss ++ equal_of x)
-distinct_with Unnamed i ss h k = subst AreDistinct (sym (append-nil (all_equals ss))) k
-distinct_with (Label name) i ss h k = subst AreDistinct (sym (append-nil (all_equals ss))) k
 distinct_with (Equal name e) i ss h k =
     distinct_end (all_equals ss) name e k
     (equals_apart name ss (or_parts (list_any (same name) (names_behind ss)) (is_repeated (name ∷ names_behind ss) i) h).0)
-distinct_with (MapField name) i ss h k = subst AreDistinct (sym (append-nil (all_equals ss))) k
-distinct_with (RegisterName name r) i ss h k = subst AreDistinct (sym (append-nil (all_equals ss))) k
+distinct_with x i ss h k = subst AreDistinct (sym (append-nil (all_equals ss))) k
 
 pub equals_distinct : (S : List (List ℕ)) (ss : List Statement) → EachSound S ss → AreDistinct (all_equals ss)
 equals_distinct S [] h = tt
 equals_distinct S (s ∷ ss) h = distinct_with (defined_by s) (listed (imported_in s.what)) ss h.0 (equals_distinct S ss h.2)
 
 pub equal_settled : (S : List (List ℕ)) (x : Defined) → settled_kinds S (equal_of x) ≡ [] → EachEqual (λ p e. list_any (same p) S ≡ true) (equal_of x)
-equal_settled S Unnamed h = tt
-equal_settled S (Label name) h = tt
 equal_settled S (Equal name e) h = (not_false (list_any (same name) S) (kind_none (not (list_any (same name) S)) Forward h), tt)
-equal_settled S (MapField name) h = tt
-equal_settled S (RegisterName name r) h = tt
+equal_settled S x h = tt
 
 pub equals_settled : (S : List (List ℕ)) (ss : List Statement) → EachSound S ss → EachEqual (λ p e. list_any (same p) S ≡ true) (all_equals ss)
 equals_settled S [] h = tt
@@ -155,11 +146,8 @@ abbrev pub IsPlainEqual : List ℕ → Expr → Type 0
 IsPlainEqual p e = HaveNoPlaces e.items
 
 pub equal_plain : (x : Defined) → IsPlain x → EachEqual IsPlainEqual (equal_of x)
-equal_plain Unnamed h = tt
-equal_plain (Label name) h = tt
 equal_plain (Equal name e) h = (h, tt)
-equal_plain (MapField name) h = tt
-equal_plain (RegisterName name r) h = tt
+equal_plain x h = tt
 
 pub equals_plain : (ss : List Statement) → ArePlain ss → EachEqual IsPlainEqual (all_equals ss)
 equals_plain [] h = tt

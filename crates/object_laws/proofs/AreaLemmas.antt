@@ -24,14 +24,13 @@ use Rattle.asm_model.specs.declared.statements.What.{What}
 use Rattle.asm_model.specs.declared.statements.What.TheVariants as what
 use Rattle.asm_model.specs.Directives.{or_else}
 use Rattle.asm_model.specs.Forms.{same}
-use Rattle.asm_model.proofs.LineLemmas.{both_empty}
 use Rattle.asm_model.proofs.WordLemmas.{same_refl}
 use Rattle.asm_model.specs.Before.{thumb_behind, area_named, with_name, areas_behind, area_behind}
 use Rattle.asm_model.specs.Labels.{declared_names}
 use Rattle.asm_model.specs.Laid.{LaidLine, pieces_of, laid_behind, laid_of, laid}
 use Rattle.asm_model.specs.LayoutKinds.{kind_if, exponent, exponent_kinds, is_named_otherwise, area_kinds, contents_kinds, is_instruction, state_at, first_state, is_thumb_area, settled, equals_in}
 use Rattle.asm_model.specs.Offsets.{is_of}
-use Rattle.layout_laws.proofs.SoundLemmas.{kind_none, statements_kept}
+use Rattle.layout_laws.proofs.SoundLemmas.{both_empty, kind_none, statements_kept}
 use Rattle.said_model.specs.Fit.{WhatFits, IsFit}
 use Rattle.source_model.specs.Objects.{Source, source_of, Piece, StandsIn, attributes_word, or_two, says_area, attributes_of, HasRelocs, contents_in, contents_of, IsArea as IsAreaOf, IsObject}
 use Rattle.source_laws.specs.Laws.{IsOfState}

@@ -13,13 +13,12 @@ use Rattle.asm_model.specs.declared.statements.Statement.{Statement}
 use Rattle.asm_model.specs.declared.statements.What.{What}
 use Rattle.asm_model.specs.declared.statements.What.TheVariants as what
 use Rattle.asm_model.specs.Directives.{or_else}
-use Rattle.asm_model.proofs.LineLemmas.{both_empty}
 use Rattle.asm_model.specs.Extents.{Extent, Block, extent_of}
 use Rattle.asm_model.specs.Laid.{LaidLine, taken, pieces_of, laid}
 use Rattle.asm_model.specs.LayoutKinds.{is_entry, same_mark, is_thumb_area, state_kinds, entry_kinds, literal_kinds, settled, equals_in}
 use Rattle.asm_model.specs.Offsets.{Piece, raised, end_behind, start_in, area_size}
 use Rattle.asm_model.proofs.OffsetLemmas.{raised_four}
-use Rattle.layout_laws.proofs.SoundLemmas.{kind_none}
+use Rattle.layout_laws.proofs.SoundLemmas.{both_empty, kind_none}
 use Rattle.source_model.specs.Objects.{in_order, entry_by, entry_of, IsObject}
 use Rattle.source_laws.proofs.FaultlessLemmas.{layout_sound}
 use Rattle.source_laws.proofs.LineLemmas.{stands_in}

@@ -5,13 +5,12 @@ use Rattle.sdt_fault.specs.declared.kinds.LineKind.{LineKind}
 use Rattle.sdt_fault.specs.declared.kinds.LineKind.TheVariants.{TooMany}
 use Rattle.asm_model.specs.declared.statements.Statement.{Statement}
 use Rattle.asm_model.specs.Kinds.{told_kind}
-use Rattle.asm_model.proofs.LineLemmas.{both_empty}
 use Rattle.asm_model.specs.Labels.{defined_by}
 use Rattle.asm_model.specs.Laid.{LaidLine, statements_of, taken, pieces_of, reversed, laid, final_names}
-use Rattle.asm_model.specs.LayoutKinds.{fault_kinds, kind_if, map_kinds, no_area_kinds, contents_kinds, contents_behind, area_kinds, name_kinds, settled_kinds, state_kinds, area_bytes, layout_kinds, told_at, first_fault, entry_kinds, literal_kinds, first_late, settled, equals_in}
+use Rattle.asm_model.specs.LayoutKinds.{fault_kinds, kind_if, map_kinds, no_area_kinds, contents_kinds, contents_behind, area_kinds, name_kinds, settled_kinds, first_equal, state_kinds, area_bytes, layout_kinds, told_at, first_fault, entry_kinds, literal_kinds, first_late, settled, equals_in}
 use Rattle.asm_model.specs.Marks.{datum_names}
 use Rattle.asm_model.specs.Offsets.{area_size}
-use Rattle.layout_laws.proofs.SoundLemmas.{or_none, told_none}
+use Rattle.layout_laws.proofs.SoundLemmas.{both_empty, or_none, told_none}
 use Rattle.source_model.specs.Objects.{in_order}
 use Rattle.source_model.specs.Registers.{register_names}
 use Rattle.source_model.specs.SourceFaults.{first_laid, layout_faults, context_of, word_of, first_valued, value_faults}
@@ -44,7 +43,7 @@ pub last_kinds : (S : List (List ℕ)) (all : List Statement) (l : LaidLine) (be
 last_kinds S all l before h =
     let a = fault_kinds l.extent ++ map_kinds l.seen l.statement.what ++ no_area_kinds l.area (defined_by l.statement) l.statement.what
     ++ contents_kinds (contents_behind (l.statement ∷ statements_of before)) l.thumb l.statement.what ++ area_kinds l.seen l.statement.what before
-    ++ name_kinds l.statement (statements_of before) ++ settled_kinds S (defined_by l.statement) in
+    ++ name_kinds l.statement (statements_of before) ++ settled_kinds S (first_equal (defined_by l.statement) (statements_of before)) in
     let b = state_kinds l.area l.thumb l.statement.what all in
     let p = both_empty (a ++ b) (kind_if (nat_lt area_bytes (l.offset + l.size)) TooMany) h in ((both_empty a b p.0).1, p.1)
 
@@ -76,7 +75,7 @@ sizes_of ss area = area_size area (pieces_of (laid ss))
 
 abbrev pub valued_kinds : List LaidLine → List Statement → List LaidLine → LaidLine → List LaidLine → List LineKind
 valued_kinds all ss before l rest =
-    value_kinds (context_of (final_names all) ss l before) (datum_names ss) (λ area. area_size area (pieces_of all)) l.seen (taken l.extent)
+    value_kinds (context_of (final_names all) l before) (datum_names ss) (λ area. area_size area (pieces_of all)) l.seen (taken l.extent)
     (word_of l.area (taken l.extent) (pieces_of (l ∷ before)) (pieces_of rest)) l.statement.what
 
 pub valued_behind : (all : List LaidLine) (ss : List Statement) (front before tail : List LaidLine) → first_valued all ss front (reversed before tail) ≡ None

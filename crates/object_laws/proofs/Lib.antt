@@ -3,6 +3,7 @@ pub mod BitLemmas
 pub mod EachLemmas
 pub mod EntryLemmas
 pub mod FaultLemmas
+pub mod NameLemmas
 pub mod OriginLemmas
 pub mod RelocLemmas
 pub mod SizeLemmas

@@ -21,7 +21,7 @@ use Rattle.asm_model.specs.declared.statements.What.{What}
 use Rattle.asm_model.specs.declared.statements.What.TheVariants as what
 use Rattle.asm_model.specs.declared.values.Value.{Value}
 use Rattle.asm_model.specs.declared.values.Value.TheVariants.{Number, Truth, Words, Place}
-use Rattle.asm_model.specs.AtLine.{Sight}
+use Rattle.asm_model.specs.declared.names.Names.{Names}
 use Rattle.asm_model.specs.Meaning.{named_in, in_area, entry_stands_at, stands_at}
 use Rattle.asm_model.specs.Says.{on_both, mapped}
 use Rattle.asm_model.specs.Before.{areas_behind}
@@ -50,7 +50,8 @@ use Rattle.source_laws.proofs.ZeroLemmas.{place_below}
 use Rattle.object_laws.specs.Laws.{IsListed, OptionListed, TargetListed, UnitListed, AreFaultless}
 use Rattle.object_laws.proofs.AreaLemmas.{area_facts}
 use Rattle.object_laws.proofs.BitLemmas.{zero_flag, by_area, by_symbol, by_branch}
-use Rattle.object_laws.proofs.EachLemmas.{IsBelow, each_there, each_by_place, areas_text, line_below, name_shown}
+use Rattle.object_laws.proofs.EachLemmas.{IsBelow, each_there, each_by_place, areas_text, line_below}
+use Rattle.object_laws.proofs.NameLemmas.{name_shown}
 use Rattle.object_laws.proofs.OriginLemmas.{IsOwn, value_own, literal_own}
 use Rattle.object_laws.proofs.TargetLemmas.{symbols_are_listed}
 use Rattle.aof_object.proofs.SpelledObject.{all_get as each_at}
@@ -135,7 +136,7 @@ pub halves_below : (count : ℕ) (c : Context) (es : List Expr) → ResultBelow 
 halves_below count c [] = tt
 halves_below count c (e ∷ es) = bytes_joined count (and_then (number_in c e) (narrow 2)) (half_units c es) (halves_below count c es)
 
-pub bytes_below : (count : ℕ) (c : Context) (s : Sight) (es : List Expr) → ResultBelow count (byte_units c s es)
+pub bytes_below : (count : ℕ) (c : Context) (s : Names) (es : List Expr) → ResultBelow count (byte_units c s es)
 bytes_below count c s [] = tt
 bytes_below count c s (e ∷ es) = bytes_joined count (byte_operand (value_there s e) (value_of c e)) (byte_units c s es) (bytes_below count c s es)
 
@@ -156,7 +157,7 @@ pub pseudo_below : (count : ℕ) (thumb : Bool) (c : Context) (word : Option ℕ
 pseudo_below count true c word l = mapped_below count (λ i. Half i ∷ []) (thumb_pseudo c word l) (λ i. (tt, tt))
 pseudo_below count false c word l = mapped_below count instruction_units (pseudo_instructions c word l) (instructions_below count)
 
-pub units_below : (count : ℕ) (c : Context) (d : List (List ℕ)) (s : Sight) (word : Option ℕ) (w : What) → SeesBelow count c → OwnValues c → WhatFits w
+pub units_below : (count : ℕ) (c : Context) (d : List (List ℕ)) (s : Names) (word : Option ℕ) (w : What) → SeesBelow count c → OwnValues c → WhatFits w
     → ResultBelow count (units c d s word w)
 units_below count c d s word what.Nothing h own k = tt
 units_below count c d s word (what.Arm l) h own k =
@@ -332,7 +333,7 @@ object_few ss o x h k =
     }
   where
     records_counted : length (symbol_records (source_of ss)) ≡ length (symbols_of (source_of ss).names (source_of ss).lines)
-    records_counted = length_map (λ name. symbol_named (source_of ss) name (named_in name (source_of ss).names)) (symbols_of (source_of ss).names (source_of ss).lines)
+    records_counted = length_map (symbol_named (source_of ss)) (symbols_of (source_of ss).names (source_of ss).lines)
 
 pub contents_are_valid : (ss : List Statement) (o : Object) → AreFaultless ss → IsObject ss o → length o.areas < 2 ^ 24 → length o.symbols < 2 ^ 24
     → AllByRecursion (Holds (length o.areas) (length o.symbols)) o.areas

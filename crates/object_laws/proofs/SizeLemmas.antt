@@ -5,14 +5,13 @@ use Rattle.std.proofs.lemmas.Bool.{cond-true, cond-false, or_parts, or_from, ltb
 use Rattle.sdt_fault.specs.declared.kinds.LineKind.TheVariants.{TooMany}
 use Rattle.asm_model.specs.declared.statements.Statement.{Statement}
 use Rattle.asm_model.specs.declared.values.Value.{Value}
-use Rattle.asm_model.proofs.LineLemmas.{both_empty}
 use Rattle.asm_model.specs.Extents.{Extent, Block, Padding, Loading, Pool}
 use Rattle.asm_model.specs.Laid.{LaidLine, taken, pieces_of, laid}
 use Rattle.asm_model.specs.LayoutKinds.{settled, equals_in, layout_kinds, entry_kinds, literal_kinds, area_bytes}
 use Rattle.asm_model.specs.OffsetLaws.{joined, IsLiteral}
 use Rattle.asm_model.specs.Offsets.{Piece, is_of, same_literal, waiting_behind, waiting, start_from, end_from, end_behind, area_size, place_among, word_behind, is_pool, is_pool_of, literal_word}
 use Rattle.asm_model.proofs.OffsetLemmas.{same_itself, raised_four}
-use Rattle.layout_laws.proofs.SoundLemmas.{kind_none}
+use Rattle.layout_laws.proofs.SoundLemmas.{both_empty, kind_none}
 use Rattle.source_model.specs.Objects.{in_order}
 use Rattle.source_model.specs.SourceFaults.{layout_faults}
 use Rattle.source_laws.proofs.FaultlessLemmas.{layout_sound}

@@ -24,10 +24,10 @@ use Rattle.asm_model.specs.Labels.{declared_names}
 
 -- what a line takes up is by what it sees
 pub seen_extent : (ss : List Statement) (after before : List LaidLine) (l : LaidLine) → laid ss ≡ after ++ l ∷ before
-    → (l.extent ≡ extent_of l.seen l.statement.what) × (l.seen.known.thumb ≡ l.thumb) × (l.line.thumb ≡ l.seen.known.thumb)
+    → (l.extent ≡ extent_of l.seen l.statement.what) × (l.seen.thumb ≡ l.thumb) × (l.line.thumb ≡ l.seen.thumb)
 seen_extent ss after before l e =
     let p = is_laid (declared_names ss) ss after before l e in
-    subst (λ (z : LaidLine). (z.extent ≡ extent_of z.seen z.statement.what) × (z.seen.known.thumb ≡ z.thumb) × (z.line.thumb ≡ z.seen.known.thumb))
+    subst (λ (z : LaidLine). (z.extent ≡ extent_of z.seen z.statement.what) × (z.seen.thumb ≡ z.thumb) × (z.line.thumb ≡ z.seen.thumb))
     (sym p.1) (refl, refl, refl)
 
 pub known_extent : (ss : List Statement) → IsSound ss → (after before : List LaidLine) (l : LaidLine) → laid ss ≡ after ++ l ∷ before

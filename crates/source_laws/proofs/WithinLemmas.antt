@@ -6,7 +6,7 @@ use Rattle.asm_model.specs.declared.names.LaidName.{LaidName}
 use Rattle.asm_model.specs.declared.statements.Statement.{Statement}
 use Rattle.asm_model.specs.declared.values.Value.{Value}
 use Rattle.asm_model.specs.declared.values.Value.TheVariants.{Number, Truth, Words, Place}
-use Rattle.asm_model.specs.AtLine.{Definition, Nameless, Named, Equated, SourceLine, with_names, made_name}
+use Rattle.asm_model.specs.AtLine.{Definition, Nameless, Named, Equated, SourceLine, with_names}
 use Rattle.asm_model.specs.Forms.{same}
 use Rattle.asm_model.specs.Grammar.{Tree}
 use Rattle.asm_model.specs.Meaning.{named_in, meaning, entry_stands_at, in_area}
@@ -66,7 +66,7 @@ joined n (x ∷ xs) ys h k = (h.0, joined n xs ys h.1 k)
 abbrev DefinesWithin : ℕ → Definition → Type 0
 DefinesWithin n Nameless = Unit {0}
 DefinesWithin n (Named e) = IsWithin n e.area
-DefinesWithin n (Equated make t) = (v : Value) → IsWithin n (make v).area
+DefinesWithin n (Equated make t) = (r : Result Value LineKind) → IsWithin n (make r).area
 
 abbrev LinesWithin : ℕ → List SourceLine → Type 0
 LinesWithin n [] = Unit {0}
@@ -76,14 +76,10 @@ lines_joined : (n : ℕ) (xs ys : List SourceLine) → LinesWithin n xs → Line
 lines_joined n [] ys h k = k
 lines_joined n (x ∷ xs) ys h k = (h.0, lines_joined n xs ys h.1 k)
 
-made_within : (n : ℕ) (make : Value → LaidName) (r : Result Value LineKind) → ((v : Value) → IsWithin n (make v).area) → AllWithin n (made_name make r)
-made_within n make (Ok v) h = (h v, tt)
-made_within n make (Err k) h = tt
-
 entries_within : (n : ℕ) (names : List LaidName) (l : SourceLine) (d : Definition) → DefinesWithin n d → AllWithin n (entries_with names l d)
 entries_within n names l Nameless h = tt
 entries_within n names l (Named e) h = (h, tt)
-entries_within n names l (Equated make t) h = made_within n make (meaning (with_names l names) t) h
+entries_within n names l (Equated make t) h = (h (meaning (with_names l names) t), tt)
 
 all_within : (n : ℕ) (names : List LaidName) (ls : List SourceLine) → LinesWithin n ls → AllWithin n (all_entries names ls)
 all_within n names [] h = tt
@@ -94,18 +90,20 @@ rounds_within : (n k : ℕ) (ls : List SourceLine) → LinesWithin n ls → AllW
 rounds_within n zero ls h = all_within n [] ls h
 rounds_within n (suc k) ls h = all_within n (names_after k ls) ls h
 
-equal_within : (n : ℕ) (names : List LaidName) (area : Option ℕ) (name : List ℕ) (v : Value) → IsWithin n area → IsWithin n (equal_entry names area name v).area
-equal_within n names area name (Place [] m) h = h
-equal_within n names area name (Place (c ∷ cs) m) h = tt
-equal_within n names area name (Number m) h = tt
-equal_within n names area name (Truth b) h = tt
-equal_within n names area name (Words w) h = tt
+equal_within : (n : ℕ) (names : List LaidName) (area : Option ℕ) (name : List ℕ) (r : Result Value LineKind) → IsWithin n area
+    → IsWithin n (equal_entry names area name r).area
+equal_within n names area name (Ok (Place [] m)) h = h
+equal_within n names area name (Ok (Place (c ∷ cs) m)) h = tt
+equal_within n names area name (Ok (Number m)) h = tt
+equal_within n names area name (Ok (Truth b)) h = tt
+equal_within n names area name (Ok (Words w)) h = tt
+equal_within n names area name (Err k) h = tt
 
 tree_within : (n : ℕ) (names : List LaidName) (area : Option ℕ) (name : List ℕ) (o : Option Tree) → IsWithin n area → DefinesWithin n (tree_equated names area name o)
 tree_within n names area name None h = tt
-tree_within n names area name (Some t) h = λ v. equal_within n names area name v h
+tree_within n names area name (Some t) h = λ r. equal_within n names area name r h
 
-definition_within : (n : ℕ) (names : List LaidName) (d : Defined) (area : Option ℕ) (offset size : ℕ) (thumb : Bool) (m : ℕ) → IsWithin n area
+definition_within : (n : ℕ) (names : List LaidName) (d : Defined) (area : Option ℕ) (offset : ℕ) (size : Option ℕ) (thumb : Bool) (m : ℕ) → IsWithin n area
     → DefinesWithin n (definition_of names d area offset size thumb m)
 definition_within n names Unnamed area offset size thumb m h = tt
 definition_within n names (Label name) area offset size thumb m h = h
@@ -126,7 +124,7 @@ lines_within n d (s ∷ ss) h =
     lines_joined n (source_lines before) ((laid_behind d s before).line ∷ imported_lines s before (imported_in s.what))
     (lines_within n d ss
     (low_of (length (areas_behind (statements_of before))) (length (areas_behind (s ∷ statements_of before))) n (fewer (area_named s.what) (areas_behind (statements_of before))) h)) (
-      definition_within n d (defined_by s) area (offset_behind s before) (laid_behind d s before).size (is_thumb_label s (statements_of before)) (map_behind before)
+      definition_within n d (defined_by s) area (offset_behind s before) (Some (laid_behind d s before).size) (is_thumb_label s (statements_of before)) (map_behind before)
           (area_within n (s ∷ statements_of before) h),
       imports_within n s before (imported_in s.what),
     )

@@ -12,20 +12,19 @@ use Rattle.asm_model.specs.declared.directives.DirectiveLine.TheVariants as line
 use Rattle.asm_model.specs.declared.statements.Statement.{Statement}
 use Rattle.asm_model.specs.declared.statements.What.{What}
 use Rattle.asm_model.specs.declared.statements.What.TheVariants as what
-use Rattle.asm_model.specs.AtLine.{Sight}
+use Rattle.asm_model.specs.declared.names.Names.{Names}
 use Rattle.asm_model.specs.Directives.{or_else}
 use Rattle.asm_model.specs.Forms.{same}
 use Rattle.asm_model.specs.Kinds.{told_kind}
-use Rattle.asm_model.proofs.LineLemmas.{both_empty}
 use Rattle.asm_model.proofs.WordLemmas.{same_refl, same_true}
 use Rattle.asm_model.specs.Before.{area_named, with_name, areas_behind, place_of, area_from, area_behind}
 use Rattle.asm_model.specs.Labels.{defined_by, declared_names}
 use Rattle.asm_model.specs.Laid.{LaidLine, statements_of, laid_of, laid}
-use Rattle.asm_model.specs.LayoutKinds.{fault_kinds, kind_if, map_kinds, no_area_kinds, is_zero_statement, contents_kinds, contents_from, contents_behind, exponent, exponent_kinds, same_contents, same_mark, same_exponent, same_attributes, again_with, is_named_otherwise, area_kinds, name_kinds, equals_in, settled, settled_kinds, state_kinds, layout_kinds, told_at, first_fault, area_bytes}
+use Rattle.asm_model.specs.LayoutKinds.{fault_kinds, kind_if, map_kinds, no_area_kinds, is_zero_statement, contents_kinds, contents_from, contents_behind, exponent, exponent_kinds, same_contents, same_mark, same_exponent, same_attributes, again_with, is_named_otherwise, area_kinds, name_kinds, equals_in, settled, settled_kinds, first_equal, state_kinds, layout_kinds, told_at, first_fault, area_bytes}
 use Rattle.asm_model.specs.Marks.{datum_names}
 use Rattle.asm_model.specs.Offsets.{is_of}
 use Rattle.asm_model.proofs.OffsetLemmas.{is_here}
-use Rattle.layout_laws.proofs.SoundLemmas.{or_none, told_none, kind_none}
+use Rattle.layout_laws.proofs.SoundLemmas.{both_empty, or_none, told_none, kind_none}
 use Rattle.source_model.specs.Contexts.{Context}
 use Rattle.source_model.specs.Objects.{Piece, units_from, or_none as units_or_none, source_of, IsAmong, StandsIn, contents_in, contents_of}
 use Rattle.source_model.specs.SourceFaults.{layout_faults}
@@ -154,10 +153,10 @@ none_beyond (l ∷ before) h k j =
 -- ---- the contents of an area
 
 -- the contents of its first line, which lines that don't name it otherwise have too
-pub record Agreed (first : Option Contents) (otherwise : Sight → AreaAttributes → Bool) : Type 0 where
+pub record Agreed (first : Option Contents) (otherwise : Names → AreaAttributes → Bool) : Type 0 where
   pub kind : Contents
   pub is : first ≡ Some kind
-  pub alike : (s : Sight) (a : AreaAttributes) → otherwise s a ≡ false → a.contents ≡ kind
+  pub alike : (s : Names) (a : AreaAttributes) → otherwise s a ≡ false → a.contents ≡ kind
 
 pub contents_true : (a b : Contents) → same_contents a b ≡ true → a ≡ b
 contents_true contents.Code contents.Code h = refl
@@ -191,14 +190,14 @@ pub all_true : (a b c d e f g : Bool) → a ≡ true → b ≡ true → c ≡ tr
     → (a && b && c && d && e && f && g) ≡ true
 all_true a b c d e f g h i j k l m n = rw (h, i, j, k, l, m, n) refl
 
-pub attributes_same : (s : Sight) (a : AreaAttributes) → same_attributes s a s a ≡ true
+pub attributes_same : (s : Names) (a : AreaAttributes) → same_attributes s a s a ≡ true
 attributes_same s a =
     all_true (same_contents a.contents a.contents) (same_mark a.read_only a.read_only) (same_mark a.interwork a.interwork)
     (same_mark a.halfword a.halfword) (same_mark a.pic a.pic) (same_mark a.reentrant a.reentrant) (same_exponent (exponent s a.align) (exponent s a.align))
     (contents_same a.contents) (mark_same a.read_only) (mark_same a.interwork) (mark_same a.halfword) (mark_same a.pic) (mark_same a.reentrant)
     (exponent_same (exponent s a.align))
 
-pub attributes_true : (s : Sight) (a : AreaAttributes) (t : Sight) (b : AreaAttributes) → same_attributes s a t b ≡ true → a.contents ≡ b.contents
+pub attributes_true : (s : Names) (a : AreaAttributes) (t : Names) (b : AreaAttributes) → same_attributes s a t b ≡ true → a.contents ≡ b.contents
 attributes_true s a t b h =
     contents_true a.contents b.contents
     (first_of_all (same_contents a.contents b.contents) (same_mark a.read_only b.read_only) (same_mark a.interwork b.interwork)
@@ -301,7 +300,7 @@ line_kinds S all l before h =
     let b = contents_kinds (contents_behind (l.statement ∷ statements_of before)) l.thumb l.statement.what in
     let c = area_kinds l.seen l.statement.what before in
     let d = name_kinds l.statement (statements_of before) in
-    let e = settled_kinds S (defined_by l.statement) in
+    let e = settled_kinds S (first_equal (defined_by l.statement) (statements_of before)) in
     let f = state_kinds l.area l.thumb l.statement.what all in
     let o = both_empty (a ++ b ++ c ++ d ++ e ++ f) (kind_if (nat_lt area_bytes (l.offset + l.size)) TooMany) h in
     let p = both_empty (a ++ b ++ c ++ d ++ e) f o.0 in
@@ -313,7 +312,7 @@ line_kinds S all l before h =
 abbrev pub Behind : ℕ → Option Contents → Option Contents → Type 0
 Behind k first nearest = (c : Contents) × (first ≡ Some c) × (nearest ≡ Some c)
 
-pub otherwise_false : (n : List ℕ) (s : Sight) (a : AreaAttributes) (rest : Bool) → rest ≡ false → again_with n s a s (what.Directive (line.Area n a)) rest ≡ false
+pub otherwise_false : (n : List ℕ) (s : Names) (a : AreaAttributes) (rest : Bool) → rest ≡ false → again_with n s a s (what.Directive (line.Area n a)) rest ≡ false
 otherwise_false n s a rest h =
     cond-true (same n n) (not (same_attributes s a s a) || rest) rest (same_refl n) ∙ ap (λ b. not b || rest) (attributes_same s a) ∙ h
 
@@ -346,7 +345,7 @@ contents_are S all (l ∷ before) h fine k e =
 
 -- ---- statements among zeros
 
-pub zero_units : (c : Context) (d : List (List ℕ)) (s : Sight) (word : Option ℕ) (w : What) → is_zero_statement w ≡ true → units c d s word w ≡ Ok []
+pub zero_units : (c : Context) (d : List (List ℕ)) (s : Names) (word : Option ℕ) (w : What) → is_zero_statement w ≡ true → units c d s word w ≡ Ok []
 zero_units c d s word (what.Arm l) h = absurd (cc)
 zero_units c d s word (what.Thumb l) h = absurd (cc)
 zero_units c d s word (what.Pseudo l) h = absurd (cc)

@@ -20,7 +20,7 @@ use Rattle.asm_model.specs.declared.statements.What.{What}
 use Rattle.asm_model.specs.declared.statements.What.TheVariants as what
 use Rattle.asm_model.specs.declared.values.Value.{Value}
 use Rattle.asm_model.specs.declared.values.Value.TheVariants.{Number, Truth, Words, Place}
-use Rattle.asm_model.specs.AtLine.{Sight}
+use Rattle.asm_model.specs.declared.names.Names.{Names}
 use Rattle.asm_model.specs.Forms.{same}
 use Rattle.asm_model.specs.Meaning.{stands_at}
 use Rattle.asm_model.specs.Says.{on_both, mapped}
@@ -129,7 +129,7 @@ halves_good : (n : ℕ) (c : Context) (es : List Expr) (at : ℕ) → ResultGood
 halves_good n c [] at = tt
 halves_good n c (e ∷ es) at = bytes_joined n at (and_then (number_in c e) (narrow 2)) (half_units c es) (halves_good n c es)
 
-bytes_good : (n : ℕ) (c : Context) (s : Sight) (es : List Expr) (at : ℕ) → ResultGood n at (byte_units c s es)
+bytes_good : (n : ℕ) (c : Context) (s : Names) (es : List Expr) (at : ℕ) → ResultGood n at (byte_units c s es)
 bytes_good n c s [] at = tt
 bytes_good n c s (e ∷ es) at = bytes_joined n at (byte_operand (value_there s e) (value_of c e)) (byte_units c s es) (bytes_good n c s es)
 
@@ -183,7 +183,7 @@ IsAligned at (what.Arm l) = at % 4 ≡ 0
 IsAligned at (what.Thumb l) = at % 2 ≡ 0
 IsAligned at _ = Unit {0}
 
-line_good : (n at : ℕ) (c : Context) (d : List (List ℕ)) (s : Sight) (word : Option ℕ) (w : What) → StandsWithin n c → NamesRegisters c → WhatSaid w → IsAligned at w
+line_good : (n at : ℕ) (c : Context) (d : List (List ℕ)) (s : Names) (word : Option ℕ) (w : What) → StandsWithin n c → NamesRegisters c → WhatSaid w → IsAligned at w
     → ResultGood n at (units c d s word w)
 line_good n at c d s word what.Nothing within named said aligned = tt
 line_good n at c d s word (what.Arm l) within named said aligned = arm_good n at c l named said aligned
@@ -205,7 +205,7 @@ thumb_block : (l : ThumbLine) → (n : ℕ) × (thumb_extent l ≡ Block 2 n)
 thumb_block (thumb.BranchLink target) = (4, refl)
 thumb_block l = (2, refl)
 
-instruction_aligned : (s : Sight) (w : What) (e : Extent) (x : ℕ) (ws : List Value) (at : ℕ) → extent_of s w ≡ Ok e → at ≡ start_from x ws e → IsAligned at w
+instruction_aligned : (s : Names) (w : What) (e : Extent) (x : ℕ) (ws : List Value) (at : ℕ) → extent_of s w ≡ Ok e → at ≡ start_from x ws e → IsAligned at w
 instruction_aligned s (what.Arm l) e x ws at h k =
     let f : Block 4 4 ≡ e = cc in raised_aligned at x (subst (λ z. at ≡ start_from x ws z) (sym f) k)
 instruction_aligned s (what.Thumb l) e x ws at h k =
@@ -240,7 +240,7 @@ number_below (Ok m) n e = by_test (nat_lt m 16) refl e
     by_test false t k = absurd (cc)
 number_below (Err k) n e = absurd (cc)
 
-given_below : (s : Sight) (r : RnOperand) → GivenSaid r → (n : ℕ) → given s r ≡ Ok n → n < 16
+given_below : (s : Names) (r : RnOperand) → GivenSaid r → (n : ℕ) → given s r ≡ Ok n → n < 16
 given_below s (rn.Register m) h n e = let is : m ≡ n = cc in subst (λ z. z < 16) is h
 given_below s (rn.Number e) h n k = number_below (number_there s e) n k
 
@@ -252,7 +252,7 @@ abbrev pub DefinedGiven : Defined → Type 0
 DefinedGiven (RegisterName name r) = GivenSaid r
 DefinedGiven _ = Unit {0}
 
-named_below : (s : Sight) (d : Defined) → DefinedGiven d → AreRegisters (named_by s d)
+named_below : (s : Names) (d : Defined) → DefinedGiven d → AreRegisters (named_by s d)
 named_below s (RegisterName name r) h = with_below name (given s r) (given_below s r h)
 named_below s d h = tt
 

@@ -9,7 +9,6 @@ use Rattle.aof_object.specs.declared.records.Area.{Area}
 use Rattle.aof_object.specs.declared.records.Object.{Object}
 use Rattle.asm_model.specs.declared.statements.Statement.{Statement}
 use Rattle.asm_model.specs.Forms.{same}
-use Rattle.asm_model.specs.Meaning.{named_in}
 use Rattle.asm_model.specs.Before.{areas_behind, place_of}
 use Rattle.asm_model.specs.Laid.{statements_of, laid}
 use Rattle.asm_model.specs.LayoutKinds.{equals_in, settled, is_thumb_area}
@@ -61,7 +60,7 @@ facts_of ss o faultless obj few_areas few_symbols area =
     numbers name =
         let names = symbols_of (source_of ss).names (source_of ss).lines in
         let many = ap length obj.symbols
-        ∙ length-map names (λ (n : List ℕ). symbol_named (source_of ss) n (named_in n (source_of ss).names)) in
+        ∙ length-map names (symbol_named (source_of ss)) in
         let most = place_most name names in
         omega arith
 

@@ -1,8 +1,8 @@
 use Rattle.std.proofs.Common.{◌-◌, ◌∷◌, ◌∙◌, List, sym, ap, subst, length, map, take, drop}
 use Rattle.std.proofs.lemmas.Result.{err_from_is_err_and}
 use Rattle.asm_model.specs.declared.statements.Statement.{Statement}
-use Rattle.asm_pool.specs.declared.layout.LaidArea.{LaidArea}
-use Rattle.asm_pool.specs.declared.layout.LaidStatement.{LaidStatement}
+use Rattle.asm_layout.specs.declared.laid.LaidArea.{LaidArea}
+use Rattle.asm_layout.specs.declared.laid.LaidStatement.{LaidStatement}
 use Rattle.asm_registers.proofs.NameLemmas.{found}
 use Rattle.source_model.specs.Objects.{source_of, things_behind}
 use Rattle.source_model.specs.Registers.{Named, register_in}

@@ -1,8 +1,8 @@
 use Rattle.std.proofs.Common.{◌∙◌, Bool, false, List, map, get_or, ap}
 use Rattle.std.specs.List.{list_any}
 use Rattle.asm_model.specs.Forms.{same}
-use Rattle.asm_pool.specs.declared.layout.LaidArea.{LaidArea}
-use Rattle.asm_pool.specs.declared.layout.LaidStatement.{LaidStatement}
+use Rattle.asm_layout.specs.declared.laid.LaidArea.{LaidArea}
+use Rattle.asm_layout.specs.declared.laid.LaidStatement.{LaidStatement}
 use Rattle.armasm_core.specs.Gathering.{marks_code, names_by, exported_in, weak_in}
 use Rattle.armasm_core.proofs.AreaLemmas.{code_there}
 use Rattle.armasm_core.proofs.GatherLemmas.{exported_there, weak_there}

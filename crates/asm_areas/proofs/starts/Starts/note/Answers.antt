@@ -1,4 +1,4 @@
-use Rattle.std.proofs.Common.{◌≡◌, ◌∷◌, List, sym, ◌∙◌, OnOk, rules}
+use Rattle.std.proofs.Common.{◌≡◌, ◌∷◌, List, OnOk, rules}
 use Rattle.std.specs.Prelude.{Result, Ok, Err}
 use Rattle.sdt_fault.specs.declared.NoMemory.{NoMemory}
 use Rattle.asm_model.specs.declared.directives.DirectiveLine.TheVariants as line

@@ -1,7 +1,8 @@
 //! What a source is laid out as.
 
-use crate::pools::Pools;
-use asm_model::{LaidName, Statement};
+use asm_model::Statement;
+use asm_names::KnownNames;
+use asm_pool::Pools;
 use sdt_fault::{List, Text};
 
 /// The areas in the order of their first lines, the statements in the order of the source, and the names.
@@ -9,7 +10,7 @@ use sdt_fault::{List, Text};
 pub struct Layout {
     pub areas: List<LaidArea>,
     pub statements: List<LaidStatement>,
-    pub names: List<LaidName>,
+    pub names: KnownNames,
 }
 
 /// An area; its attributes have its alignment.
