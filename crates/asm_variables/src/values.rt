@@ -12,7 +12,7 @@ use crate::expansion::Expansion;
 use asm_expr::known::add_entry;
 use asm_expr::told::told_value;
 use asm_expr::{KnownNames, Seen, evaluate};
-use asm_model::{EvalFault, Expr, ExprItem, LaidName, UnaryOp, Value};
+use asm_model::{EvalFault, Expr, ExprItem, LaidName, Meaning, UnaryOp, Value};
 use sdt_fault::kinds::LineKind;
 use sdt_fault::{NoMemory, Text};
 use std::alloc::Global;
@@ -122,12 +122,11 @@ fn entry_of(alloc: Global, name: &Text, value: Value) -> Result<LaidName, NoMemo
     let name = name.try_clone(alloc)?;
     Ok(LaidName {
         name,
-        value,
+        meaning: Meaning::Known(value),
         area: None,
         offset: 0,
-        size: 0,
+        size: Some(0),
         thumb: false,
-        place: false,
     })
 }
 
@@ -201,6 +200,7 @@ fn value_known(alloc: Global, state: &Expansion, sight: Sight, e: &Expr) -> Resu
     let seen = Seen {
         names: &names,
         own: None,
+        later: None,
         area: None,
         offset: 0,
         map: 0,
