@@ -3,7 +3,7 @@ use Rattle.std.proofs.Common.{◌≡◌, ◌≤◌, List, ◌∷◌, ◌++◌, l
 use Rattle.asm_model.specs.declared.names.LaidName.{LaidName}
 use Rattle.asm_model.specs.declared.statements.Statement.{Statement}
 use Rattle.asm_model.specs.Before.{is_thumb_label}
-use Rattle.asm_model.specs.Labels.{Defined, Unnamed, Label, Equal, MapField, RegisterName, defined_by, imported_in, imported_entries, declared_names, declared_entries}
+use Rattle.asm_model.specs.Labels.{Defined, Unnamed, Label, Equal, MapField, RegisterName, defined_by, imported_in, declared_imports, declared_names, declared_entries}
 use Rattle.asm_names.specs.Steps.{one_entry}
 use Rattle.asm_laying.specs.declared.behind.Behind.{Behind}
 use Rattle.asm_laying.specs.Behind.{stepped}
@@ -20,7 +20,7 @@ declared_is (RegisterName name r) s before = refl
 between_more : (statements rest : List Statement) (s : Statement) (b : Behind) (old new : List LaidName) (next : Behind)
     → IsBetween statements (s ∷ rest) b old → Declares s b old new next → IsBetween statements rest next new
 between_more statements rest s b old new next h g =
-    let import = imported_entries (imported_in s.what) in
+    let import = declared_imports (imported_in s.what) in
     let own = (subst (λ (x : Behind). Declares s x old new next) h.standing g).names in
     record {
       before = s ∷ h.before;

@@ -6,21 +6,23 @@ use Rattle.sdt_fault.specs.declared.kinds.LineKind.{LineKind}
 use Rattle.sdt_fault.specs.declared.kinds.LineKind.TheVariants.{TooMany}
 use Rattle.asm_model.specs.declared.names.LaidName.{LaidName}
 use Rattle.asm_model.specs.declared.statements.Statement.{Statement}
-use Rattle.asm_model.specs.AtLine.{Sight, seen_behind, made_name}
+use Rattle.asm_model.specs.declared.names.Names.{Names}
+use Rattle.asm_model.specs.AtLine.{seen_behind, added_names}
 use Rattle.asm_model.specs.Kinds.{told_kind}
 use Rattle.asm_model.specs.Before.{thumb_behind, areas_behind, area_behind, is_thumb_label}
-use Rattle.asm_model.specs.Entries.{equal_entry}
-use Rattle.asm_model.specs.Extents.{value_there, extent_of}
+use Rattle.asm_model.specs.Extents.{extent_of}
 use Rattle.asm_model.specs.Labels.{Defined, Equal, defined_by}
-use Rattle.asm_model.specs.Laid.{LaidLine, statements_of, lines_of, taken, pieces_of, map_behind, offset_behind}
+use Rattle.asm_model.specs.Laid.{LaidLine, statements_of, lines_of, taken, pieces_of, map_behind, offset_behind, tree_equated}
+use Rattle.asm_model.specs.Trees.{tree_of}
 use Rattle.asm_model.specs.LayoutKinds.{fault_kinds, kind_if, map_kinds, area_bytes}
 use Rattle.asm_names.specs.Defining.{own_entry}
 use Rattle.asm_names.specs.Steps.{one_entry}
 use Rattle.asm_offsets.specs.Running.{IsBehind, entry_behind}
 use Rattle.asm_offsets.specs.declared.extents.Extent.{Extent as Code}
 use Rattle.asm_offsets.specs.Coded.{extent_of_code, IsExtent}
-use Rattle.layout_laws.specs.Final.{AreEqualsKnown}
+use Rattle.layout_laws.specs.Final.{IsEqualKnown, AreEqualsKnown}
 use Rattle.said_model.specs.Said.{IsRead}
+use Rattle.asm_laying.specs.declared.finding.Equated.{Equated}
 use Rattle.asm_laying.specs.declared.finding.Found.{Found}
 use Rattle.asm_laying.specs.declared.finding.Spot.{Spot}
 use Rattle.asm_laying.specs.declared.laying.Ended.{Ended}
@@ -60,11 +62,6 @@ pub record IsEnded (declared : List LaidName) (before : List LaidLine) (e : Ende
   pub ends : IsBehind (pieces_of before) e.ends
   pub names : AreKnownNames declared before e.names
 
--- whether each name for an expression is known, with one more that may have such an entry
-abbrev pub still_known : Bool → Defined → Option LaidName → Bool
-still_known known (Equal name e) None = false
-still_known known _ _ = known
-
 -- ---- a statement more
 
 -- where a statement stands behind lines
@@ -94,33 +91,33 @@ abbrev pub DefinedRead : Defined → Type 0
 DefinedRead (Equal name e) = IsRead e
 DefinedRead _ = Unit {0}
 
--- the entry of a name for an expression, where the value is known
-abbrev pub equal_names : List LaidName → Option ℕ → Sight → Defined → List LaidName
-equal_names names area s (Equal name e) = made_name (equal_entry names area name) (value_there s e)
+-- the entry of a name for an expression, unless its value needs a later name
+abbrev pub equal_names : List LaidName → Option ℕ → Names → Defined → List LaidName
+equal_names names area s (Equal name e) = added_names s (tree_equated names area name (tree_of e))
 equal_names names area s _ = []
+
+pub record IsEquated (names : List LaidName) (area : Option ℕ) (s : Names) (x : Defined) (q : Equated) : Type 0 where
+  pub entry : one_entry q.entry ≡ equal_names names area s x
+  pub known : q.known ≡ true → IsEqualKnown s x
 
 -- the entry of a name at a spot, before the size of its statement is known
 abbrev pub unsized_entry : Defined → Spot → Option LaidName
-unsized_entry x p = own_entry x p.area p.offset 0 p.label_thumb p.map
+unsized_entry x p = own_entry x p.area p.offset None p.label_thumb p.map
 
--- what a statement takes up, the storage map behind it and the entry of its name for an expression
-pub record AreNeeded (names : List LaidName) (p : Spot) (s : Sight) (statement : Statement) (extent : Result Code LineKind) (after : Result ℕ LineKind) (equal : Option LaidName) : Type 0 where
+-- what a statement takes up, the storage map behind it and its name for an expression
+pub record AreNeeded (names : List LaidName) (p : Spot) (s : Names) (statement : Statement) (extent : Result Code LineKind) (after : Result ℕ LineKind) (equal : Equated) : Type 0 where
   pub extent_is : coded extent ≡ all_capped (extent_of s statement.what)
   pub after_is : after ≡ map_after p.map s statement.what
-  pub equal_is : one_entry equal ≡ equal_names names p.area s (defined_by statement)
+  pub equal_is : IsEquated names p.area s (defined_by statement) equal
 
-pub record IsFound (names : List LaidName) (p : Spot) (s : Sight) (statement : Statement) (f : Found) : Type 0 where
+pub record IsFound (names : List LaidName) (p : Spot) (s : Names) (statement : Statement) (f : Found) : Type 0 where
   pub needed : AreNeeded names p s statement f.extent f.map f.equal
   pub number : f.number ≡ said_number s statement.what
   pub strings : f.strings ≡ string_marks s statement.what
 
 -- what an expression sees at a spot, where a source has these names, those are known, and its line's own besides
-abbrev pub sight_shown : List LaidName → List LaidName → List LaidName → Spot → Sight
-sight_shown d seen own p = record {
-  known = record { list = seen ++ own; area = p.area; offset = p.offset; map = p.map; thumb = p.thumb };
-  unsized = own;
-  all = d;
-}
+abbrev pub names_shown : List LaidName → List LaidName → List LaidName → Spot → Names
+names_shown d seen own p = record { list = seen ++ own ++ d; area = p.area; offset = p.offset; map = p.map; thumb = p.thumb }
 
 abbrev pub OkExtent : Result Code LineKind → Type 0
 OkExtent (Ok e) = IsExtent (extent_of_code e)

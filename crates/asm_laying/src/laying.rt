@@ -3,7 +3,7 @@
 ghost use Rattle.std.specs.Prelude.{◌≡◌, ◌++◌, [], ℕ, Bool, List, Ok, None, Option, Some, if◌then◌else◌, IfOk, OnOk};
 ghost use Rattle.asm_model.specs.declared.names.LaidName.{LaidName};
 ghost use Rattle.asm_model.specs.Labels as labels;
-ghost use Rattle.asm_model.specs.Laid.{laid_behind, sight_behind, LaidLine};
+ghost use Rattle.asm_model.specs.Laid.{laid_behind, names_behind, LaidLine};
 ghost use Rattle.said_model.specs.Said.{IsSaid};
 ghost use Rattle.asm_names.specs.Defining.{own_entry};
 ghost use Rattle.asm_names.specs.Steps.{one_entry};
@@ -15,7 +15,7 @@ ghost use Rattle.asm_laying.specs.Reading.{string_marks};
 use crate::areas::Areas;
 use crate::behind::{Behind, START};
 use crate::declarations::is_thumb_label;
-use crate::finding::{Found, Spot, find, unsized_entry};
+use crate::finding::{Equated, Found, Spot, find, unsized_entry};
 use asm_model::{LaidName, Statement};
 use asm_names::KnownNames;
 use asm_names::defining::{Defines, defined_by};
@@ -66,7 +66,7 @@ pub struct Laying {
     map: u32,
     /// The names that are known.
     names: KnownNames,
-    /// Whether each name for an expression was known at its line.
+    /// Whether the value of each name for an expression was known at its line.
     all_known: bool,
 }
 
@@ -75,33 +75,26 @@ pub struct Laying {
 pub struct Ended {
     /// Where each area ends.
     pub ends: Ends,
-    /// The names, where each name for an expression was known at its line.
+    /// The names, where the value of each name for an expression was known at its line.
     pub names: Option<KnownNames>,
 }
 
-/// The entry of a statement's own name, with the statement's size where it is a label.
+/// The entry of a statement's own name, with its size: the statement's where it is a label.
 fn sized(statement: &Statement, own: Option<LaidName>, size: u32) -> Option<LaidName>
-    ensures { (area : Option ℕ) (offset map : ℕ) (thumb : Bool) → own ≡ own_entry (labels.defined_by statement.now) area offset 0 thumb map → result ≡ own_entry (labels.defined_by statement.now) area offset size thumb map }
+    ensures { (area : Option ℕ) (offset map : ℕ) (thumb : Bool) → own ≡ own_entry (labels.defined_by statement.now) area offset None thumb map → result ≡ own_entry (labels.defined_by statement.now) area offset (Some size) thumb map }
 {
     let Some(mut entry) = own else {
         return None;
     };
     match defined_by(statement) {
         Defines::Label(_) => {
-            entry.size = size;
+            entry.size = Some(size);
             Some(entry)
         }
-        _ => Some(entry),
-    }
-}
-
-/// Whether each name for an expression is known, with that of a statement which may have such an entry.
-fn still_known(all_known: bool, statement: &Statement, equal: &Option<LaidName>) -> bool
-    ensures { result ≡ laying.still_known all_known (labels.defined_by statement.now) equal.now }
-{
-    match (defined_by(statement), equal) {
-        (Defines::Equal(_, _), None) => false,
-        _ => all_known,
+        _ => {
+            entry.size = Some(0);
+            Some(entry)
+        }
     }
 }
 
@@ -172,21 +165,22 @@ impl Laying {
         extent: Extent,
         map: u32,
         own: Option<LaidName>,
-        equal: Option<LaidName>,
+        equal: Equated,
         strings: Listed<bool>,
     ) -> Result<Result<Placed, LineKind>, NoMemory>
         requires there { IsThere spot.now.area self.old.areas.ends }
         requires extent { IsExtent (extent_of_code extent) }
-        ensures { (declared : List LaidName) (before : List LaidLine) → laying.Reaches declared statement.now before self.old spot.now → laying.AreNeeded declared spot.now (sight_behind declared statement.now before) statement.now (Ok extent) (Ok map) equal → strings ≡ string_marks (sight_behind declared statement.now before) statement.now.what → own ≡ laying.unsized_entry (labels.defined_by statement.now) spot.now → IfOk result (λ placed. laying.IsPlaced declared (laid_behind declared statement.now before) before self.new placed) }
+        ensures { (declared : List LaidName) (before : List LaidLine) → laying.Reaches declared statement.now before self.old spot.now → laying.AreNeeded declared spot.now (names_behind declared statement.now before) statement.now (Ok extent) (Ok map) equal → strings ≡ string_marks (names_behind declared statement.now before) statement.now.what → own ≡ laying.unsized_entry (labels.defined_by statement.now) spot.now → IfOk result (λ placed. laying.IsPlaced declared (laid_behind declared statement.now before) before self.new placed) }
     {
         let placed = self.areas.ends.place(spot.area, extent)?;
         match placed {
             Err(TooLarge) => Ok(Err(LineKind::TooMany)),
             Ok(placed) => {
                 self.map = map;
-                self.all_known = still_known(self.all_known, statement, &equal);
+                let Equated { entry, known } = equal;
+                self.all_known = self.all_known && known;
                 let own = sized(statement, own, placed.size);
-                add_names(&mut self.names, alloc, statement, own, equal)?;
+                add_names(&mut self.names, alloc, statement, own, entry)?;
                 Ok(Ok(Placed {
                     area: spot.area,
                     offset: placed.offset,
@@ -210,12 +204,12 @@ impl Laying {
         extent: Extent,
         map: Result<u32, LineKind>,
         own: Option<LaidName>,
-        equal: Option<LaidName>,
+        equal: Equated,
         strings: Listed<bool>,
     ) -> Result<Result<Placed, LineKind>, NoMemory>
         requires there { IsThere spot.now.area self.old.areas.ends }
         requires extent { IsExtent (extent_of_code extent) }
-        ensures { (declared : List LaidName) (before : List LaidLine) → laying.Reaches declared statement.now before self.old spot.now → laying.AreNeeded declared spot.now (sight_behind declared statement.now before) statement.now (Ok extent) map equal → strings ≡ string_marks (sight_behind declared statement.now before) statement.now.what → own ≡ laying.unsized_entry (labels.defined_by statement.now) spot.now → IfOk result (λ placed. laying.IsPlaced declared (laid_behind declared statement.now before) before self.new placed) }
+        ensures { (declared : List LaidName) (before : List LaidLine) → laying.Reaches declared statement.now before self.old spot.now → laying.AreNeeded declared spot.now (names_behind declared statement.now before) statement.now (Ok extent) map equal → strings ≡ string_marks (names_behind declared statement.now before) statement.now.what → own ≡ laying.unsized_entry (labels.defined_by statement.now) spot.now → IfOk result (λ placed. laying.IsPlaced declared (laid_behind declared statement.now before) before self.new placed) }
     {
         match map {
             Err(kind) => Ok(Err(kind)),
@@ -232,12 +226,12 @@ impl Laying {
         extent: Result<Extent, LineKind>,
         map: Result<u32, LineKind>,
         own: Option<LaidName>,
-        equal: Option<LaidName>,
+        equal: Equated,
         strings: Listed<bool>,
     ) -> Result<Result<Placed, LineKind>, NoMemory>
         requires there { IsThere spot.now.area self.old.areas.ends }
         requires extent { laying.OkExtent extent }
-        ensures { (declared : List LaidName) (before : List LaidLine) → laying.Reaches declared statement.now before self.old spot.now → laying.AreNeeded declared spot.now (sight_behind declared statement.now before) statement.now extent map equal → strings ≡ string_marks (sight_behind declared statement.now before) statement.now.what → own ≡ laying.unsized_entry (labels.defined_by statement.now) spot.now → IfOk result (λ placed. laying.IsPlaced declared (laid_behind declared statement.now before) before self.new placed) }
+        ensures { (declared : List LaidName) (before : List LaidLine) → laying.Reaches declared statement.now before self.old spot.now → laying.AreNeeded declared spot.now (names_behind declared statement.now before) statement.now extent map equal → strings ≡ string_marks (names_behind declared statement.now before) statement.now.what → own ≡ laying.unsized_entry (labels.defined_by statement.now) spot.now → IfOk result (λ placed. laying.IsPlaced declared (laid_behind declared statement.now before) before self.new placed) }
     {
         match extent {
             Err(kind) => Ok(Err(kind)),

@@ -2,7 +2,7 @@ use Rattle.std.proofs.Common.{◌∙◌, ap, sym, subst}
 use Rattle.std.specs.Option.{option_copied}
 use Rattle.asm_model.specs.Labels.{Defined}
 use Rattle.asm_names.specs.Steps.{one_entry}
-use Rattle.asm_laying.specs.Laying.{equal_names, sight_shown, DefinedRead}
+use Rattle.asm_laying.specs.Laying.{names_shown, DefinedRead, IsEquated}
 use Rattle.asm_laying.proofs.SeeLemmas.{found_shown, defined_read}
 use Rattle.asm_laying.proofs.finding.find.Goals as goal
 
@@ -15,13 +15,13 @@ returns c = λ before at known owned.
     let d = c.args.declared.now in
     let spot = c.args.spot.now in
     let own = option_copied c.args.own in
-    let seen = sight_shown d c.args.names.now (one_entry own) spot in
+    let seen = names_shown d c.args.names.now (one_entry own) spot in
     found_shown d c.args.statement.now before c.args.names.now own spot _ at known owned
     (record {
       needed = record {
         extent_is = c.in_ok-extent.ensures.extent;
         after_is = c.in_ok-map.ensures;
-        equal_is = c.in_ok-equal.ensures ∙ ap (λ (x : Defined). equal_names d spot.area seen x) c.defined_by-defines.ensures;
+        equal_is = subst (λ (x : Defined). IsEquated d spot.area seen x c.in_ok-equal.equal) c.defined_by-defines.ensures c.in_ok-equal.ensures;
       };
       number = c.in_ok-number.ensures;
       strings = c.in_ok-extent.ensures.strings;

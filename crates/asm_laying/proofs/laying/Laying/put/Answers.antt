@@ -25,6 +25,6 @@ returns-in_ok-add_names-in-Ok c = λ d before reach found marked owned.
     (subst (λ (r : Result Placed TooLarge). Keeps c.args.self.now.areas.ends c.place.new.self (Ok r)) c.in-Ok.is c.in_ok-placed.ensures.keeps)
     refl refl refl refl refl
     (c.in_ok-add_names-in-Ok.ensures
-    ∙ ap (λ (o : Option LaidName). c.args.self.now.names ++ one_entry o ++ one_entry c.args.equal ++ imported_entries (imported_in c.args.statement.now.what))
+    ∙ ap (λ (o : Option LaidName). c.args.self.now.names ++ one_entry o ++ one_entry c.args.equal.entry ++ imported_entries (imported_in c.args.statement.now.what))
     (c.sized-own.ensures c.args.spot.now.area c.args.spot.now.offset c.args.spot.now.map c.args.spot.now.label_thumb owned))
-    c.still_known-self.ensures c.args.strings marked
+    refl c.args.strings marked
