@@ -42,10 +42,9 @@ pub record Alike (a b : Context) : Type 0 where
   pub offset : a.line.offset ≡ b.line.offset
   pub thumb : a.line.thumb ≡ b.line.thumb
   pub entry : (q : List ℕ) → named_in q (sees a).list ≡ named_in q (sees b).list
-  pub symbol : (q : List ℕ) → list_any (same q) a.symbols ≡ list_any (same q) b.symbols
 
 module _ (x : Scene) (c : Context) (names : c.names ≡ x.names.now) (line : Sees x.line.now c.line)
-    (registers : (q : List ℕ) → register_in q x.registers.now ≡ register_in q c.registers) (symbols : HaveSame x.symbols.now c.symbols) where
+    (registers : (q : List ℕ) → register_in q x.registers.now ≡ register_in q c.registers) where
   sees_same : sees (context_of x) ≡ sees c
   sees_same = rw (names, line.area, line.offset, line.map, line.thumb) refl
 
@@ -65,11 +64,10 @@ module _ (x : Scene) (c : Context) (names : c.names ≡ x.names.now) (line : See
     offset = line.offset;
     thumb = line.thumb;
     entry = λ q. ap (named_in q) (sym names);
-    symbol = symbols;
   }
 
 pub shown_alike : (x : Scene) (c : Context) → Shows x c → Alike (context_of x) c
-shown_alike x c s = seen_alike x c s.names s.line s.registers s.symbols
+shown_alike x c s = seen_alike x c s.names s.line s.registers
 
 pub all_shown : {A E : Type 0} → (x : Scene) (f : Context → A) (r : Result A E) → ((c : Context) → Alike (context_of x) c → f (context_of x) ≡ f c)
     → IfOk r (λ v. v ≡ f (context_of x)) → IfOk r (λ v. (c : Context) → Shows x c → v ≡ f c)

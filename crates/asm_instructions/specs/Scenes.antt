@@ -1,9 +1,8 @@
 -- What the operands of a line are found by, as code keeps it and as definitions have it. This project's.
-use Rattle.std.specs.Prelude.{◌≡◌, ℕ, ◌<◌, List, [], Some}
+use Rattle.std.specs.Prelude.{◌≡◌, ℕ, ◌<◌, List, Some}
 use Rattle.asm_names.specs.Lines.{line_of, Sees}
 use Rattle.source_model.specs.Contexts.{Context}
 use Rattle.source_model.specs.Registers.{register_in}
-use Rattle.asm_sets.specs.Sets.{HaveSame}
 use Rattle.asm_instructions.specs.declared.scenes.Scene.{Scene}
 
 -- the scene shows what a context says; RN gives numbers below 16
@@ -12,7 +11,6 @@ pub record Shows (x : Scene) (c : Context) : Type 0 where
   pub line : Sees x.line.now c.line
   pub registers : (q : List ℕ) → register_in q x.registers.now ≡ register_in q c.registers
   pub small : (q : List ℕ) (n : ℕ) → register_in q c.registers ≡ Some n → n < 16
-  pub symbols : HaveSame x.symbols.now c.symbols
 
 -- a context that the scene's own lists make: each other one that it shows finds the same
 abbrev pub context_of : Scene → Context
@@ -20,6 +18,4 @@ context_of x = record {
   names = x.names.now;
   line = line_of x.line.now;
   registers = x.registers.now;
-  symbols = x.symbols.now;
-  defined = [];
 }

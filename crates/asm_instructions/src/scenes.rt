@@ -1,14 +1,16 @@
 //! What the operands of a line are found by.
 
-ghost use Rattle.std.specs.Prelude.{◌≡◌};
+ghost use Rattle.std.specs.Prelude.{◌≡◌, ◌&&◌, not};
 ghost use Rattle.std.specs.Option.{option_copied};
+ghost use Rattle.asm_model.specs.Labels as labels;
 ghost use Rattle.asm_model.specs.Meaning as meaning;
+ghost use Rattle.asm_model.specs.Meaning.{named_in};
 ghost use Rattle.source_model.specs.Contexts as contexts;
 ghost use Rattle.asm_instructions.specs.Scenes.{context_of};
 
-use asm_model::{LaidName, Register};
+use asm_model::{LaidName, Meaning, Register};
 use asm_names::{KnownNames, PlacedLine};
-use asm_sets::{NameMap, NameRefs};
+use asm_sets::NameMap;
 use sdt_fault::Text;
 
 /// What the operands of a line are found by, once all names of the source are known.
@@ -19,8 +21,6 @@ pub struct Scene<'a> {
     pub line: &'a PlacedLine<'a>,
     /// The registers that names stand for at the line.
     pub registers: &'a NameMap<u8>,
-    /// The names of labels and imports.
-    pub symbols: &'a NameRefs<'a>,
 }
 
 /// The number of a register; 0 where it is a name that stands for none, as no name of a source without faults.
@@ -31,6 +31,45 @@ pub fn register(scene: &Scene<'_>, register: &Register) -> u8
         Register::Number(number) => *number,
         Register::Named(name) => scene.registers.find(name).unwrap_or(0),
     }
+}
+
+fn is_symbol(meaning: &Meaning) -> bool
+    ensures { result ≡ contexts.is_symbol meaning.now }
+{
+    match meaning {
+        Meaning::Label => true,
+        Meaning::Imported => true,
+        _ => false,
+    }
+}
+
+fn is_symbol_entry(entry: Option<&LaidName>) -> bool
+    ensures { result ≡ contexts.is_symbol_entry (option_copied entry.entry) }
+{
+    match entry {
+        None => false,
+        Some(entry) => is_symbol(&entry.meaning),
+    }
+}
+
+/// Whether a name is that of a local label.
+fn is_hidden(name: &[u8]) -> bool
+    ensures { result ≡ labels.is_hidden name.now }
+{
+    match name {
+        [] => false,
+        [first, ..] => *first == b'\n',
+    }
+}
+
+/// Whether a symbol may have the name: it is that of a label or an import, and of no local label.
+pub fn may_have_symbol(names: &KnownNames, name: &Text) -> bool
+    ensures { result ≡ (contexts.is_symbol_entry (named_in name.now names.now) && not (labels.is_hidden name.now)) }
+{
+    if is_symbol_entry(names.find(name)) {
+        return !is_hidden(name.as_slice());
+    }
+    false
 }
 
 /// Where a name's entry stands.
