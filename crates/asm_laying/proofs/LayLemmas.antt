@@ -6,24 +6,20 @@ use Rattle.sdt_fault.specs.declared.kinds.LineKind.{LineKind}
 use Rattle.sdt_fault.specs.declared.kinds.LineKind.TheVariants.{Syntax, UnknownWord, FloatingPoint, BadOperand, Constant, Forward, DuplicateName, WrongType, OutOfRange, Nesting, Assert, NoArea, DivideByZero, TooDeep, TooMany}
 use Rattle.asm_model.specs.declared.directives.DirectiveLine.{DirectiveLine}
 use Rattle.asm_model.specs.declared.directives.DirectiveLine.TheVariants as line
-use Rattle.asm_model.specs.declared.values.Value.{Value}
 use Rattle.asm_model.specs.declared.names.LaidName.{LaidName}
 use Rattle.asm_model.specs.declared.names.Names.{Names}
 use Rattle.asm_model.specs.declared.statements.Statement.{Statement}
 use Rattle.asm_model.specs.declared.statements.What.{What}
 use Rattle.asm_model.specs.declared.statements.What.TheVariants as what
 use Rattle.asm_model.specs.AtLine.{SourceLine, names_at, added_names, seen_behind}
-use Rattle.asm_model.specs.Grammar.{Tree}
 use Rattle.asm_model.specs.Kinds.{earlier, told_kind}
 use Rattle.asm_model.specs.Says.{mapped}
 use Rattle.asm_model.specs.Before.{area_behind, is_thumb_label}
-use Rattle.asm_model.specs.Entries.{equal_entry}
-use Rattle.asm_model.specs.Extents.{Extent, Block, Padding, Loading, Pool, number_there, value_there, tree_value, extent_of}
+use Rattle.asm_model.specs.Extents.{Extent, Block, Padding, Loading, Pool, number_there, extent_of}
 use Rattle.asm_model.specs.Labels.{Defined, Unnamed, Label, Equal, MapField, RegisterName, defined_by, imported_in, imported_entries}
-use Rattle.asm_model.specs.Laid.{LaidLine, statements_of, lines_of, taken, pieces_of, map_behind, map_from, added, set_or, offset_behind, tree_equated, definition_of, line_behind, imported_lines, names_behind, laid_behind}
+use Rattle.asm_model.specs.Laid.{LaidLine, statements_of, lines_of, taken, pieces_of, map_behind, map_from, added, set_or, offset_behind, definition_of, line_behind, imported_lines, names_behind, laid_behind}
 use Rattle.asm_model.specs.LayoutKinds.{fault_kinds, kind_if, map_kinds, area_bytes}
 use Rattle.asm_model.specs.Offsets.{Piece, offset_of, size_behind, start_in}
-use Rattle.asm_model.specs.Trees.{tree_of}
 use Rattle.asm_model.proofs.LaidLemmas.{starts_there}
 use Rattle.asm_offsets.specs.declared.extents.Extent.{Extent as Code}
 use Rattle.asm_offsets.specs.declared.extents.Placed.{Placed as Put}
