@@ -10,7 +10,7 @@ use Rattle.asm_model.specs.declared.directives.DirectiveLine.TheVariants as line
 use Rattle.asm_model.specs.declared.statements.What.TheVariants as what
 use Rattle.asm_model.specs.declared.values.Value.{Value}
 use Rattle.asm_model.specs.declared.values.Value.TheVariants.{Number, Truth, Words, Place}
-use Rattle.asm_model.specs.AtLine.{Sight}
+use Rattle.asm_model.specs.declared.names.Names.{Names}
 use Rattle.asm_model.specs.Forms.{same}
 use Rattle.asm_model.specs.Meaning.{named_in, in_area, entry_stands_at, stands_at}
 use Rattle.asm_model.specs.Says.{on_both}
@@ -76,7 +76,7 @@ module _ (a b : Context) (s : Alike a b) where
 
 -- ---- strings that are known where their line is laid
 
-module _ (c : Context) (s : Sight) (known : (e : Expr) (v : Value) → value_there s e ≡ Ok v → value_of c e ≡ Ok v) where
+module _ (c : Context) (s : Names) (known : (e : Expr) (v : Value) → value_there s e ≡ Ok v → value_of c e ≡ Ok v) where
   -- what is no string there is one too late
   late_operand : (there final : Result Value LineKind) → is_words there ≡ false → marked_operand false final ≡ byte_operand there final
   late_operand (Ok (Words w)) final e = cc
@@ -120,7 +120,7 @@ module _ (c : Context) (s : Sight) (known : (e : Expr) (v : Value) → value_the
   directive_marked ds ms (line.Dcb es) e = rw e (bytes_marked es)
   directive_marked ds ms _ e = refl
 
-directive_shown : (x : Beside) (l : DirectiveLine) (us : Result (List Emitted) LineKind) (c : Context) (data_names : List (List ℕ)) (sizes : ℕ → ℕ) (s : Sight) (word : Option ℕ)
+directive_shown : (x : Beside) (l : DirectiveLine) (us : Result (List Emitted) LineKind) (c : Context) (data_names : List (List ℕ)) (sizes : ℕ → ℕ) (s : Names) (word : Option ℕ)
     → us ≡ marked_directive (context_of x.scene) x.data.now x.strings.now l
     → ShowsBeside x c data_names sizes s word (what.Directive l) → us ≡ directive_units c data_names s l
 directive_shown x l us c data_names sizes s word e h =
@@ -131,7 +131,7 @@ directive_shown x l us c data_names sizes s word e h =
 pub directive_answered : {E : Type 0} (x : Beside) (l : DirectiveLine) (r : Result (Result (Vec Code) LineKind) E)
     → IfOk r (λ us. all_emitted us ≡ marked_directive (context_of x.scene) x.data.now x.strings.now l)
     → IfOk r
-    (λ us. (c : Context) (data_names : List (List ℕ)) (sizes : ℕ → ℕ) (s : Sight) (word : Option ℕ) → ShowsBeside x c data_names sizes s word (what.Directive l)
+    (λ us. (c : Context) (data_names : List (List ℕ)) (sizes : ℕ → ℕ) (s : Names) (word : Option ℕ) → ShowsBeside x c data_names sizes s word (what.Directive l)
     → all_emitted us ≡ directive_units c data_names s l)
 directive_answered x l (Ok us) e = λ c data_names sizes s word h. directive_shown x l (all_emitted us) c data_names sizes s word e h
 directive_answered x l (Err k) e = tt

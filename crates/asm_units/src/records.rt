@@ -12,10 +12,12 @@ ghost use Rattle.source_model.specs.Objects as objects;
 ghost use Rattle.source_model.specs.Objects.{Source};
 ghost use Rattle.asm_units.specs.Recording.{Shows};
 
+use crate::named::value_named;
 use aof_object::Symbol;
 use asm_model::{LaidName, Value};
 use asm_names::KnownNames;
 use asm_sets::NameRefs;
+use sdt_fault::kinds::LineKind;
 use sdt_fault::{NoMemory, Text};
 use std::alloc::Global;
 
@@ -179,30 +181,28 @@ fn absolute(alloc: Global, facts: &Facts<'_>, name: &Text, number: u32) -> Resul
     })
 }
 
-fn valued(alloc: Global, facts: &Facts<'_>, name: &Text, value: &Value) -> Result<Symbol, NoMemory>
-    ensures { IfOk result (λ symbol. (s : Source) → Shows facts.now s → symbol ≡ objects.symbol_valued s name.now value.now) }
+fn valued(
+    alloc: Global,
+    facts: &Facts<'_>,
+    name: &Text,
+    value: Result<Value, LineKind>,
+) -> Result<Symbol, NoMemory>
+    ensures { IfOk result (λ symbol. (s : Source) → Shows facts.now s → symbol ≡ objects.symbol_valued s name.now value) }
 {
     match value {
-        Value::Number(number) => absolute(alloc, facts, name, *number),
-        Value::Place { symbol, plus } => {
-            let place = stands_at(facts, symbol);
-            placed(alloc, facts, name, symbol, *plus, place)
+        Ok(Value::Number(number)) => absolute(alloc, facts, name, number),
+        Ok(Value::Place { symbol, plus }) => {
+            let place = stands_at(facts, &symbol);
+            placed(alloc, facts, name, &symbol, plus, place)
         }
         _ => unvalued(alloc, name),
     }
 }
 
-/// The record of a symbol with the entry of its name, where it has one.
-pub fn record_of(
-    alloc: Global,
-    name: &Text,
-    entry: Option<&LaidName>,
-    facts: &Facts<'_>,
-) -> Result<Symbol, NoMemory>
-    ensures { IfOk result (λ symbol. (s : Source) → Shows facts.now s → symbol ≡ objects.symbol_named s name.now (option_copied entry.entry)) }
+/// The record of a symbol.
+pub fn record_of(alloc: Global, name: &Text, facts: &Facts<'_>) -> Result<Symbol, NoMemory>
+    ensures { IfOk result (λ symbol. (s : Source) → Shows facts.now s → symbol ≡ objects.symbol_named s name.now) }
 {
-    match entry {
-        None => unvalued(alloc, name),
-        Some(entry) => valued(alloc, facts, name, &entry.value),
-    }
+    let value = value_named(alloc, facts.names, name)?;
+    valued(alloc, facts, name, value)
 }

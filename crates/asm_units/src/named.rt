@@ -1,0 +1,23 @@
+//! Values of names.
+
+ghost use Rattle.std.specs.Prelude.{◌≡◌, IfOk};
+ghost use Rattle.asm_model.specs.Meaning as meaning;
+ghost use Rattle.asm_model.specs.Meaning.{named_in};
+
+use asm_expr::slots::{Slot, known};
+use asm_model::Value;
+use asm_names::KnownNames;
+use sdt_fault::kinds::LineKind;
+use sdt_fault::{NoMemory, Text};
+use std::alloc::Global;
+
+/// The value that a name stands for.
+pub fn value_named(
+    alloc: Global,
+    names: &KnownNames,
+    name: &Text,
+) -> Result<Result<Value, LineKind>, NoMemory>
+    ensures { IfOk result (λ value. value ≡ meaning.value_of (named_in name.now names.now)) }
+{
+    known(alloc, Slot::Name(names.find(name)))
+}
