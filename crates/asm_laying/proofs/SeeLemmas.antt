@@ -12,12 +12,12 @@ use Rattle.asm_model.specs.declared.statements.Statement.{Statement}
 use Rattle.asm_model.specs.declared.statements.What.{What}
 use Rattle.asm_model.specs.declared.statements.What.TheVariants as what
 use Rattle.asm_model.specs.declared.names.Names.{Names}
-use Rattle.asm_model.specs.AtLine.{is_value, known_entry, own_names, added_names, seen_behind}
+use Rattle.asm_model.specs.AtLine.{is_value, known_entry, own_names, seen_behind}
 use Rattle.asm_model.specs.Entries.{equal_entry}
-use Rattle.asm_model.specs.Extents.{tree_value, value_there}
+use Rattle.asm_model.specs.Extents.{value_there}
 use Rattle.asm_model.specs.Grammar.{Tree}
 use Rattle.asm_model.specs.Before.{area_behind, is_thumb_label}
-use Rattle.asm_model.specs.Labels.{Defined, Unnamed, Label, Equal, MapField, RegisterName, defined_by, field_defines, directive_defines}
+use Rattle.asm_model.specs.Labels.{Defined, Equal, defined_by, field_defines, directive_defines}
 use Rattle.asm_model.specs.Laid.{LaidLine, statements_of, lines_of, map_behind, offset_behind, tree_equated, definition_of, definition_behind, names_behind}
 use Rattle.asm_model.specs.Trees.{tree_of}
 use Rattle.asm_model.proofs.TreeLemmas.{trees_read_back}
@@ -37,11 +37,8 @@ equated_owns names area name (Some t) = refl
 
 own_is : (names : List LaidName) (d : Defined) (area : Option ℕ) (offset : ℕ) (size : Option ℕ) (thumb : Bool) (map : ℕ)
     → one_entry (own_entry d area offset size thumb map) ≡ own_names (definition_of names d area offset size thumb map)
-own_is names Unnamed area offset size thumb map = refl
-own_is names (Label name) area offset size thumb map = refl
 own_is names (Equal name e) area offset size thumb map = equated_owns names area name (tree_of e)
-own_is names (MapField name) area offset size thumb map = refl
-own_is names (RegisterName name r) area offset size thumb map = refl
+own_is names d area offset size thumb map = refl
 
 pub own_there : (x : Defined) (a b : Option ℕ) (o p : ℕ) (n m : Option ℕ) (t u : Bool) (k j : ℕ) → a ≡ b → o ≡ p → n ≡ m → t ≡ u → k ≡ j
     → own_entry x a o n t k ≡ own_entry x b p m u j
@@ -53,22 +50,11 @@ shown : (d : List LaidName) (s : Statement) (before : List LaidLine) (names : Li
     → names ≡ seen_behind d (lines_of before) → own ≡ unsized_entry (defined_by s) p
     → names_shown d names (one_entry own) p ≡ names_behind d s before
 shown d s before names own p sp known owned =
-    let area = area_behind (s ∷ statements_of before) in
-    let offset = offset_behind s before in
     let label = is_thumb_label s (statements_of before) in
-    let map = map_behind before in
-    let seen = seen_behind d (lines_of before) in
-    let mine = own_names (definition_behind d s before None) in
-    let owns : one_entry own ≡ mine =
-    ap one_entry (owned ∙ own_there (defined_by s) p.area area p.offset offset None None p.label_thumb label p.map map sp.area sp.offset refl sp.label_thumb sp.map)
-    ∙ own_is d (defined_by s) area offset None label map in
-    let see = λ (a : Option ℕ) (o m : ℕ) (t : Bool). names_shown d seen mine (record { area = a; offset = o; map = m; thumb = t; label_thumb = label }) in
-    ap (λ ns. names_shown d ns (one_entry own) p) known
-    ∙ ap (λ ns. names_shown d seen ns p) owns
-    ∙ ap (λ a. see a p.offset p.map p.thumb) sp.area
-    ∙ ap (λ o. see area o p.map p.thumb) sp.offset
-    ∙ ap (λ m. see area offset m p.thumb) sp.map
-    ∙ ap (λ t. see area offset map t) sp.thumb
+    let owns : one_entry own ≡ own_names (definition_behind d s before None) =
+    ap one_entry (owned ∙ own_there (defined_by s) p.area (area_behind (s ∷ statements_of before)) p.offset (offset_behind s before) None None p.label_thumb label p.map (map_behind before) sp.area sp.offset refl sp.label_thumb sp.map)
+    ∙ own_is d (defined_by s) (area_behind (s ∷ statements_of before)) (offset_behind s before) None label (map_behind before) in
+    rw (known, owns, sp.area, sp.offset, sp.map, sp.thumb) refl
 
 pub found_shown : (d : List LaidName) (s : Statement) (before : List LaidLine) (names : List LaidName) (own : Option LaidName) (p : Spot) (f : Found) → IsSpot s before p
     → names ≡ seen_behind d (lines_of before) → own ≡ unsized_entry (defined_by s) p
@@ -79,18 +65,12 @@ found_shown d s before names own p f at known owned = subst (λ (x : Names). IsF
 
 directive_read : (name : List ℕ) (l : DirectiveLine) → WhatSaid (what.Directive l) → DefinedRead (directive_defines name l)
 directive_read name (line.Equ e) h = h
-directive_read name (line.Rn r) h = tt
-directive_read name (line.Field e) h = tt
-directive_read name line.Rout h = tt
 directive_read name l h = tt
 
 pub defined_read : (label : Option (List ℕ)) (w : What) → WhatSaid w → DefinedRead (field_defines label w)
 defined_read None w h = tt
 defined_read (Some name) (what.Directive l) h = directive_read name l h
-defined_read (Some name) what.Nothing h = tt
-defined_read (Some name) (what.Arm l) h = tt
-defined_read (Some name) (what.Thumb l) h = tt
-defined_read (Some name) (what.Pseudo l) h = tt
+defined_read (Some name) w h = tt
 
 -- ---- names for expressions
 
@@ -101,14 +81,9 @@ value_known (Err k) h = absurd (cc)
 equated : (d : List LaidName) (area : Option ℕ) (s : Names) (name : List ℕ) (e : Expr) (q : Equated) → IsRead e
     → one_entry q.entry ≡ known_entry (equal_entry d area name) (value_there s e) → q.known ≡ is_value (value_there s e)
     → IsEquated d area s (Equal name e) q
-equated d area s name e q read entry known = record {
-  entry = subst (λ (o : Option Tree). one_entry q.entry ≡ added_names s (tree_equated d area name o)) (sym is)
-      (subst (λ (o : Option Tree). one_entry q.entry ≡ known_entry (equal_entry d area name) (tree_value s o)) is entry);
-  known = λ k. value_known (value_there s e) (sym known ∙ k);
-}
-  where
-    is : tree_of e ≡ Some read.tree
-    is = trees_read_back read.parts read.tree e read.spelled read.items
+equated d area s name e q read entry known =
+    let is : tree_of e ≡ Some read.tree = trees_read_back read.parts read.tree e read.spelled read.items in
+    record { entry = rw is (rw is at entry); known = λ k. value_known (value_there s e) (sym known ∙ k) }
 
 pub equates : (d : List LaidName) (area : Option ℕ) (s : Names) (name : List ℕ) (e : Expr) (v : Result Value LineKind) (r : Result Equated NoMemory) → IsRead e
     → v ≡ value_there s e → IfOk r (λ q. one_entry q.entry ≡ known_entry (equal_entry d area name) v) → IfOk r (λ q. q.known ≡ is_value v)
