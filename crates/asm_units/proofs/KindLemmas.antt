@@ -22,13 +22,14 @@ use Rattle.source_model.specs.Contexts.{Context, sees}
 use Rattle.source_model.specs.Units.{stored}
 use Rattle.source_model.specs.ValueKinds.{lies_within, kinds_unless, exported_kinds, export_kinds, assert_kinds, directive_kinds, statement_kinds}
 use Rattle.asm_instructions.specs.Scenes.{context_of}
+use Rattle.asm_instructions.proofs.AlikeLemmas.{stands_alike}
 use Rattle.asm_instructions.proofs.ContextLemmas.{Alike, shown_alike}
 use Rattle.asm_units.specs.declared.beside.Beside.{Beside}
 use Rattle.asm_units.specs.declared.emitted.Stored.{Stored as Code}
 use Rattle.asm_units.specs.Emitting.{stored_of}
 use Rattle.asm_units.specs.Literals.{moved}
 use Rattle.asm_units.specs.Showing.{ShowsBeside, sizes_of}
-use Rattle.asm_units.proofs.ShowLemmas.{stands_alike, stored_alike}
+use Rattle.asm_units.proofs.ShowLemmas.{stored_alike}
 
 pub fault_mapped : {A B : Type 0} (f : A → B) (r : Result A LineKind) → fault_kinds (mapped f r) ≡ fault_kinds r
 fault_mapped f (Ok a) = refl
@@ -93,7 +94,8 @@ module _ (x : Beside) (c : Context) (data_names : List (List ℕ)) (sizes : ℕ 
   entry_shown (Some n) = value_shown (entry_value n)
 
   export_shown : (name : List ℕ) → export_kinds (context_of x.scene) (sizes_of x) (named_in name x.scene.names.now) ≡ export_kinds c sizes (named_in name c.names)
-  export_shown name = rw h.scene.names (entry_shown (named_in name x.scene.names.now))
+  export_shown name =
+      entry_shown (named_in name x.scene.names.now) ∙ ap (λ names. export_kinds c sizes (named_in name names)) (sym h.scene.names)
 
   directive_shown : (l : DirectiveLine) → directive_kinds (context_of x.scene) (sizes_of x) l ≡ directive_kinds c sizes l
   directive_shown (line.Export name) = export_shown name
