@@ -20,10 +20,10 @@ use Rattle.source_model.specs.Contexts.{Context, sees, value_of}
 use Rattle.asm_names.specs.Lines.{line_of, Sees}
 use Rattle.asm_instructions.specs.declared.scenes.Scene.{Scene}
 use Rattle.asm_instructions.specs.Scenes.{context_of}
+use Rattle.asm_instructions.proofs.AlikeLemmas.{stands_alike}
 use Rattle.asm_instructions.proofs.ContextLemmas.{Alike, seen_alike}
 use Rattle.asm_units.specs.Literals.{literal_in}
 use Rattle.asm_units.proofs.KindLemmas.{literal_alike}
-use Rattle.asm_units.proofs.ShowLemmas.{stands_alike}
 use Rattle.asm_units.specs.Listing.{loaded_symbols, statement_symbols}
 
 module _ (a b : Context) (s : Alike a b) where
@@ -80,7 +80,7 @@ module _ (a b : Context) (s : Alike a b) where
 
 -- the scene's context, at a line as its expressions see it
 abbrev at_line : Scene → SourceLine → Context
-at_line x f = record { names = x.names.now; line = f; registers = x.registers.now; symbols = x.symbols.now; defined = [] }
+at_line x f = record { names = x.names.now; line = f; registers = x.registers.now }
 
 pub line_answered : {A E : Type 0} (x : Scene) (literal : Option Value) (w : What) (old new : List (List ℕ)) (r : Result A E)
     → OnOk r (new ≡ listed_behind old (statement_symbols x.names.now (line_of x.line.now) literal w))
@@ -88,5 +88,5 @@ pub line_answered : {A E : Type 0} (x : Scene) (literal : Option Value) (w : Wha
 line_answered x literal w old new (Ok a) h = λ f e sight loaded.
     h
     ∙ ap (λ o. listed_behind old (statement_symbols x.names.now (line_of x.line.now) o w)) (sym loaded)
-    ∙ ap (listed_behind old) (statement_there (context_of x) (at_line x f) (seen_alike x (at_line x f) refl sight (λ q. refl) (λ q. refl)) e w)
+    ∙ ap (listed_behind old) (statement_there (context_of x) (at_line x f) (seen_alike x (at_line x f) refl sight (λ q. refl)) e w)
 line_answered x literal w old new (Err k) h = tt

@@ -9,8 +9,6 @@ pub struct Beside<'a> {
     pub scene: Scene<'a>,
     /// The labels that are data.
     pub data: &'a NameRefs<'a>,
-    /// Of the names that the source defines at least those that have no entry.
-    pub defined: &'a NameRefs<'a>,
     /// The sizes of areas, by number.
     pub sizes: &'a [u32],
     /// Of each operand of DCB whether it is a string by what is known at its line.
