@@ -1,6 +1,6 @@
 //! The lines of a source, laid one behind the other.
 
-ghost use Rattle.std.specs.Prelude.{◌≡◌, ◌++◌, [], ℕ, Bool, List, Ok, None, Option, Some, if◌then◌else◌, IfOk, OnOk};
+ghost use Rattle.std.specs.Prelude.{◌≡◌, ◌++◌, ◌&&◌, [], ℕ, Bool, List, Ok, None, Option, Some, if◌then◌else◌, IfOk, OnOk};
 ghost use Rattle.asm_model.specs.declared.names.LaidName.{LaidName};
 ghost use Rattle.asm_model.specs.Labels as labels;
 ghost use Rattle.asm_model.specs.Laid.{laid_behind, names_behind, LaidLine};
@@ -98,6 +98,13 @@ fn sized(statement: &Statement, own: Option<LaidName>, size: u32) -> Option<Laid
     }
 }
 
+/// Whether the value of each name for an expression is known, with one more.
+fn still_known(all_known: bool, known: bool) -> bool
+    ensures { result ≡ (all_known && known) }
+{
+    all_known && known
+}
+
 fn names_if(all_known: bool, names: KnownNames) -> Option<KnownNames>
     ensures { result ≡ (if all_known then Some names else None) }
 {
@@ -178,7 +185,7 @@ impl Laying {
             Ok(placed) => {
                 self.map = map;
                 let Equated { entry, known } = equal;
-                self.all_known = self.all_known && known;
+                self.all_known = still_known(self.all_known, known);
                 let own = sized(statement, own, placed.size);
                 add_names(&mut self.names, alloc, statement, own, entry)?;
                 Ok(Ok(Placed {

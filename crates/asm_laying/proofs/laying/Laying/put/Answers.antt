@@ -27,4 +27,4 @@ returns-in_ok-add_names-in-Ok c = λ d before reach found marked owned.
     (c.in_ok-add_names-in-Ok.ensures
     ∙ ap (λ (o : Option LaidName). c.args.self.now.names ++ one_entry o ++ one_entry c.args.equal.entry ++ imported_entries (imported_in c.args.statement.now.what))
     (c.sized-own.ensures c.args.spot.now.area c.args.spot.now.offset c.args.spot.now.map c.args.spot.now.label_thumb owned))
-    refl c.args.strings marked
+    c.still_known-self.ensures c.args.strings marked
