@@ -14,15 +14,15 @@ use std::alloc::Global;
 
 /// What all lines of a layout share.
 #[derive(Debug, Drop)]
-pub struct Whole {
+pub struct Whole<'a> {
     pub names: KnownNames,
-    pub sets: Sets,
+    pub sets: Sets<'a>,
     /// The sizes of areas, by number.
     pub sizes: Vec<u32>,
 }
 
 /// What the lines of a layout share.
-pub fn whole_of(alloc: Global, layout: &Layout) -> Result<Whole, NoMemory>
+pub fn whole_of(alloc: Global, layout: &Layout) -> Result<Whole<'_>, NoMemory>
     ensures { IfOk result (λ whole. (statements : List Statement) → IsLayout statements layout.now → IsWhole statements layout.now.areas whole) }
 {
     let names = names_of(alloc, layout.names.as_slice())?;
