@@ -1,89 +1,31 @@
--- Names that statements say, and the records of names.
-use Rattle.std.proofs.Common.{◌≡◌, ◌≤◌, ◌<◌, ◌-◌, ◌||◌, ◌&&◌, ℕ, Bool, true, false, List, [], ◌∷◌, ◌++◌, length, take, drop, get_or, refl, sym, ap, ◌∙◌, subst, append-nil}
-use Rattle.std.proofs.Math.Bool.{or_comm}
+-- Names that statements say.
+use Rattle.std.proofs.Common.{◌≡◌, ◌||◌, ◌&&◌, ℕ, zero, suc, Bool, true, false, cond, List, [], ◌∷◌, ◌++◌, length, Option, Some, None, refl, sym, ap, ◌∙◌, subst}
 use Rattle.std.proofs.lemmas.List.Folds.{list_any-append}
 use Rattle.std.specs.List.{list_any}
-use Rattle.std.specs.BTreeSet.{BTreeSet}
-use Rattle.asm_layout.proofs.LateLemmas.{rest_of}
-use Rattle.asm_layout.specs.Layout.{AreStatements}
+use Rattle.std.specs.Option.{is_some}
 use Rattle.asm_model.specs.declared.directives.DirectiveLine.TheVariants as line
+use Rattle.asm_model.specs.declared.names.LaidName.{LaidName}
 use Rattle.asm_model.specs.declared.statements.Statement.{Statement}
 use Rattle.asm_model.specs.declared.statements.What.{What}
 use Rattle.asm_model.specs.declared.statements.What.TheVariants as what
+use Rattle.asm_model.specs.AtLine.{SourceLine, is_in}
 use Rattle.asm_model.specs.Forms.{same}
-use Rattle.asm_instructions.specs.Scenes.{has_symbol}
-use Rattle.asm_layout.specs.declared.laid.LaidStatement.{LaidStatement}
-use Rattle.asm_registers.proofs.NameLemmas.{in_set}
-use Rattle.layout_laws.proofs.SoundLemmas.{statements_kept}
-use Rattle.asm_model.specs.Labels.{declared_names}
-use Rattle.asm_model.specs.Laid.{LaidLine, laid, statements_of}
-use Rattle.source_model.specs.Objects.{source_of, is_exported, is_weak, exports_name, is_weak_import}
-use Rattle.armasm_core.specs.Gathered.{Gains}
-use Rattle.armasm_core.specs.Gathering.{exported_in, weak_in, name_where, names_by}
+use Rattle.asm_model.specs.Labels.{Defined, Unnamed, Label, Equal, MapField, RegisterName, declared_names, defined_by, imported_in}
+use Rattle.asm_model.specs.Laid.{LaidLine, all_entries, definition_of, entries_with, final_names, imported_lines, laid, laid_behind, laid_of, names_after, source_lines}
+use Rattle.asm_model.specs.LayoutKinds.{listed, names_behind, own_name}
+use Rattle.asm_model.specs.Meaning.{named_in}
+use Rattle.asm_model.proofs.NameLemmas.{in_either}
 use Rattle.asm_model.proofs.SharedLemmas.{same_back}
-use Rattle.armasm_core.proofs.ListLemmas.{nothing}
-
--- ---- a set of names, statement by statement
-
-abbrev pub IsBetween : (What → List (List ℕ)) → List LaidStatement → List LaidStatement → BTreeSet (List ℕ) → Type 0
-IsBetween says laid left names =
-    (q : List ℕ) → (has_symbol names q || list_any (same q) (names_by says left)) ≡ list_any (same q) (names_by says laid)
-
-assoc : (a b c : Bool) → (a || b) || c ≡ a || (b || c)
-assoc true b c = refl
-assoc false b c = refl
+use Rattle.base_lemmas.proofs.BaseLemmas.{neither}
+use Rattle.layout_laws.proofs.NamedLemmas.{entries_joined}
+use Rattle.source_model.specs.Objects.{exports_name, is_weak_import}
+use Rattle.armasm_core.specs.Gathered.{entryless, entryless_names, exported_in, name_where, weak_in}
 
 or_false : (a : Bool) → a || false ≡ a
 or_false true = refl
 or_false false = refl
 
-pub between_first : (says : What → List (List ℕ)) (laid : List LaidStatement) (names : BTreeSet (List ℕ)) → names.keys ≡ [] → IsBetween says laid laid names
-between_first says laid names none = λ q. rw (in_set q names, none) refl
-
-between_more : (says : What → List (List ℕ)) (laid : List LaidStatement) (x : LaidStatement) (more : List LaidStatement) (old new : BTreeSet (List ℕ))
-    → IsBetween says laid (x ∷ more) old → Gains old new (says x.statement.what) → IsBetween says laid more new
-between_more says laid x more old new h g = λ q.
-    ap (λ b. b || list_any (same q) (names_by says more)) (g q)
-    ∙ assoc (has_symbol old q) (list_any (same q) (says x.statement.what)) (list_any (same q) (names_by says more))
-    ∙ ap (λ b. has_symbol old q || b) (sym (list_any-append (same q) (says x.statement.what) (names_by says more)))
-    ∙ h q
-
-pub between_next : (says : What → List (List ℕ)) (laid left : List LaidStatement) (x : LaidStatement) (old new : BTreeSet (List ℕ))
-    → IsBetween says laid left old → 1 ≤ length left → x ≡ get_or left 0 x → Gains old new (says x.statement.what)
-    → IsBetween says laid (take (length left - 1) (drop 1 left)) new
-between_next says laid left x old new h some at g =
-    between_more says laid x (take (length left - 1) (drop 1 left)) old new
-    (subst (λ (xs : List LaidStatement). IsBetween says laid xs old) (rest_of left x some at) h) g
-
-pub between_all : (says : What → List (List ℕ)) (laid left : List LaidStatement) (names : BTreeSet (List ℕ)) → IsBetween says laid left names → length left < 1
-    → (q : List ℕ) → has_symbol names q ≡ list_any (same q) (names_by says laid)
-between_all says laid left names h less = λ q.
-    sym (or_false (has_symbol names q))
-    ∙ ap (λ (xs : List LaidStatement). has_symbol names q || list_any (same q) (names_by says xs)) (sym (nothing left less)) ∙ h q
-
--- ---- the statements of a layout are those of its lines
-
-says_last : (says : What → List (List ℕ)) (xs : List LaidStatement) (x : LaidStatement) (q : List ℕ)
-    → list_any (same q) (names_by says (xs ++ x ∷ [])) ≡ list_any (same q) (names_by says xs) || list_any (same q) (says x.statement.what)
-says_last says [] x q = ap (λ ns. list_any (same q) ns) (append-nil (says x.statement.what))
-says_last says (y ∷ ys) x q =
-    list_any-append (same q) (says y.statement.what) (names_by says (ys ++ x ∷ []))
-    ∙ ap (λ b. list_any (same q) (says y.statement.what) || b) (says_last says ys x q)
-    ∙ sym (assoc (list_any (same q) (says y.statement.what)) (list_any (same q) (names_by says ys)) (list_any (same q) (says x.statement.what)))
-    ∙ ap (λ b. b || list_any (same q) (says x.statement.what)) (sym (list_any-append (same q) (says y.statement.what) (names_by says ys)))
-
-said_by : (says : What → List (List ℕ)) (test : List ℕ → What → Bool) → ((q : List ℕ) (w : What) → list_any (same q) (says w) ≡ test q w)
-    → (all : List LaidLine) (laid : List LaidStatement) → AreStatements all laid → (q : List ℕ)
-    → list_any (same q) (names_by says laid) ≡ list_any (λ (t : Statement). test q t.what) (statements_of all)
-said_by says test is [] laid h q = rw h refl
-said_by says test is (l ∷ before) laid h q =
-    ap (λ (xs : List LaidStatement). list_any (same q) (names_by says xs)) h.2 ∙ says_last says h.0 h.1 q
-    ∙ or_comm (list_any (same q) (names_by says h.0)) (list_any (same q) (says h.1.statement.what))
-    ∙ ap (λ b. b || list_any (same q) (names_by says h.0)) (is q h.1.statement.what)
-    ∙ ap (λ (s : Statement). test q s.what || list_any (same q) (names_by says h.0)) h.3.statement
-    ∙ ap (λ b. test q l.statement.what || b) (said_by says test is before h.0 h.4 q)
-
-exports_is : (q : List ℕ) (w : What) → list_any (same q) (exported_in w) ≡ exports_name q w
+pub exports_is : (q : List ℕ) (w : What) → list_any (same q) (exported_in w) ≡ exports_name q w
 exports_is q (what.Directive (line.Export n)) = or_false (same q n) ∙ same_back q n
 exports_is q _ = refl
 
@@ -99,19 +41,59 @@ where_is q n false = sym (and_false (same n q))
     and_false true = refl
     and_false false = refl
 
-weak_is : (q : List ℕ) (w : What) → list_any (same q) (weak_in w) ≡ is_weak_import q w
+pub weak_is : (q : List ℕ) (w : What) → list_any (same q) (weak_in w) ≡ is_weak_import q w
 weak_is q (what.Directive (line.Import n weak)) = where_is q n weak
 weak_is q (what.Directive (line.Extern n weak)) = where_is q n weak
 weak_is q _ = refl
 
-pub exported_there : (statements : List Statement) (xs : List LaidStatement) → AreStatements (laid statements) xs → (q : List ℕ)
-    → list_any (same q) (names_by exported_in xs) ≡ is_exported (source_of statements) q
-exported_there statements xs h q =
-    said_by exported_in exports_name exports_is (laid statements) xs h q
-    ∙ ap (λ (ss : List Statement). list_any (λ (t : Statement). exports_name q t.what) ss) (statements_kept (declared_names statements) statements)
+-- ---- names that have an entry
 
-pub weak_there : (statements : List Statement) (xs : List LaidStatement) → AreStatements (laid statements) xs → (q : List ℕ)
-    → list_any (same q) (names_by weak_in xs) ≡ is_weak (source_of statements) q
-weak_there statements xs h q =
-    said_by weak_in is_weak_import weak_is (laid statements) xs h q
-    ∙ ap (λ (ss : List Statement). list_any (λ (t : Statement). is_weak_import q t.what) ss) (statements_kept (declared_names statements) statements)
+module _ (q : List ℕ) (names : List LaidName) where
+  no_entry : (n : LaidName) → is_in (n ∷ []) q ≡ false → same q n.name ≡ false
+  no_entry n h = by (same n.name q) (same_back q n.name) h
+    where
+      by : (b : Bool) → same q n.name ≡ b → is_some (cond b (Some n) None) ≡ false → same q n.name ≡ false
+      by true e h = absurd (cc)
+      by false e h = e
+
+  own : (declared : List LaidName) (l : SourceLine) (d : Defined) (area : Option ℕ) (offset size : ℕ) (thumb : Bool) (map : ℕ)
+      → is_in (entries_with names l (definition_of declared d area offset size thumb map)) q ≡ false → list_any (same q) (entryless d) ≡ list_any (same q) (own_name d)
+  own declared l Unnamed area offset size thumb map h = refl
+  own declared l (Label name) area offset size thumb map h = ap (λ (b : Bool). b || false) (sym (no_entry _ h))
+  own declared l (Equal name e) area offset size thumb map h = refl
+  own declared l (MapField name) area offset size thumb map h = ap (λ (b : Bool). b || false) (sym (no_entry _ h))
+  own declared l (RegisterName name r) area offset size thumb map h = refl
+
+  imported : (s : Statement) (before : List LaidLine) (o : Option (List ℕ)) → is_in (all_entries names (imported_lines s before o)) q ≡ false
+      → list_any (same q) (listed o) ≡ false
+  imported s before None h = refl
+  imported s before (Some name) h = ap (λ (b : Bool). b || false) (no_entry _ h)
+
+  entryless_behind : (declared : List LaidName) (ss : List Statement) → is_in (all_entries names (source_lines (laid_of declared ss))) q ≡ false
+      → list_any (same q) (entryless_names ss) ≡ list_any (same q) (names_behind ss)
+  entryless_behind declared [] h = refl
+  entryless_behind declared (s ∷ before) h =
+      let ls = laid_of declared before in
+      let l = laid_behind declared s ls in
+      let d = defined_by s in
+      let entries = entries_with names l.line l.line.definition in
+      let parts = neither (is_in (all_entries names (source_lines ls)) q) (is_in (entries ++ all_entries names l.imported) q)
+      (sym (in_either q (all_entries names (source_lines ls)) (entries ++ all_entries names l.imported))
+      ∙ ap (λ (ns : List LaidName). is_in ns q) (sym (entries_joined names (source_lines ls) (l.line ∷ l.imported))) ∙ h) in
+      let here = neither (is_in entries q) (is_in (all_entries names l.imported) q) (sym (in_either q entries (all_entries names l.imported)) ∙ parts.1) in
+      list_any-append (same q) (entryless d) (entryless_names before)
+      ∙ ap (λ (b : Bool). b || list_any (same q) (entryless_names before)) (own declared l.line d _ _ _ _ _ here.0)
+      ∙ ap (λ (b : Bool). list_any (same q) (own_name d) || b) (entryless_behind declared before parts.0)
+      ∙ ap (λ (b : Bool). b || list_any (same q) (names_behind before))
+      (sym (list_any-append (same q) (own_name d) (listed (imported_in s.what))
+      ∙ ap (λ (b : Bool). list_any (same q) (own_name d) || b) (imported s ls (imported_in s.what) here.1) ∙ or_false (list_any (same q) (own_name d))))
+      ∙ sym (list_any-append (same q) (own_name d ++ listed (imported_in s.what)) (names_behind before))
+
+-- of names without an entry a source defines those for expressions and registers
+pub entryless_there : (ss : List Statement) (q : List ℕ) → named_in q (final_names (laid ss)) ≡ None
+    → list_any (same q) (entryless_names ss) ≡ list_any (same q) (names_behind ss)
+entryless_there ss q none = by (length (laid ss)) none
+  where
+    by : (n : ℕ) → named_in q (names_after n (source_lines (laid ss))) ≡ None → list_any (same q) (entryless_names ss) ≡ list_any (same q) (names_behind ss)
+    by zero e = entryless_behind q [] (declared_names ss) ss (ap is_some e)
+    by (suc k) e = entryless_behind q (names_after k (source_lines (laid ss))) (declared_names ss) ss (ap is_some e)

@@ -1,6 +1,5 @@
 -- What a line puts into its area is what definitions have, and its instructions fit their rows.
 use Rattle.std.proofs.Common.{◌≡◌, ℕ, Bool, true, false, List, [], ◌∷◌, ◌++◌, map, Option, Some, Result, Ok, Err, refl, sym, ap, ◌∙◌, subst}
-use Rattle.std.specs.BTreeMap.{BTreeMap}
 use Rattle.sdt_fault.specs.declared.kinds.LineKind.{LineKind}
 use Rattle.arm_isa.specs.declared.instr.ArmInstr.{ArmInstr}
 use Rattle.thumb_isa.specs.declared.instr.ThumbInstr.{ThumbInstr}
@@ -40,6 +39,7 @@ use Rattle.source_model.specs.ThumbForms.{thumb_instruction, thumb_pseudo}
 use Rattle.source_model.specs.declared.codes.ThumbCode.{ThumbCode}
 use Rattle.source_model.specs.declared.codes.ThumbCode.TheVariants.{One, Pair}
 use Rattle.source_model.specs.Units.{Emitted, Bytes, Word, Instruction, Half, Stored, stored, units, directive_units, word_units, half_units, byte_units, byte_operand, narrow, instruction_units, branch_symbol, link_symbol, code_unit, pseudo_units}
+use Rattle.source_model.specs.Registers.{Named}
 use Rattle.armasm_core.specs.declared.whole.Whole.{Whole}
 use Rattle.armasm_core.specs.Putting.{UnitFits, AllUnitsFit, IsPut}
 use Rattle.armasm_core.specs.Whole.{IsHere, ShowsLine, context_there, kinds_at, word_there}
@@ -149,7 +149,7 @@ PassesAt statements before rest l =
     IsPassTwo (context_there statements before l) (datum_names statements) (λ area. area_size area (pieces_of (laid statements))) l.seen (taken l.extent)
     (word_there before rest l)
 
-module _ (statements : List Statement) (areas : List LaidArea) (w : Whole) (known : BTreeMap (List ℕ) ℕ) (before rest : List LaidLine) (l : LaidLine) (x : LaidStatement)
+module _ (statements : List Statement) (areas : List LaidArea) (w : Whole) (known : List Named) (before rest : List LaidLine) (l : LaidLine) (x : LaidStatement)
     (h : IsHere statements areas w known before rest l x) where
   pub put_there : LinesFit → (y : Beside) (r : Result LineUnits LineKind) (u : LineUnits) → IsSaid x.statement
       → ShowsLine statements before rest l y x.statement.what → r ≡ Ok u → PassesAt statements before rest l x.statement.what r → IsPut statements before rest l u

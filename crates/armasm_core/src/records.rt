@@ -9,9 +9,9 @@ ghost use Rattle.asm_model.specs.Symbols.{symbols_of};
 ghost use Rattle.source_model.specs.Objects.{Source, source_of, symbol_records, symbol_named};
 ghost use Rattle.armasm_core.specs.Whole.{IsWhole};
 ghost use Rattle.asm_units.specs.Recording.{Shows};
-ghost use Rattle.armasm_core.specs.Gathering.{IsGathered};
+ghost use Rattle.armasm_core.specs.Gathering.{IsCode};
 
-use crate::facts::{Gathered, facts_of};
+use crate::facts::facts_of;
 use crate::whole::Whole;
 use aof_object::Symbol;
 use asm_units::{Facts, Symbols, record_of};
@@ -39,11 +39,11 @@ pub fn records_of(
     alloc: Global,
     symbols: &Symbols,
     whole: &Whole<'_>,
-    gathered: &Gathered,
+    code: &[bool],
 ) -> Result<List<Symbol>, NoMemory>
-    ensures { IfOk result (λ records. (statements : Items Statement) (areas : Items LaidArea) → IsWhole statements areas whole.now → IsGathered statements gathered.now → symbols.now ≡ symbols_of (final_names (laid statements)) (laid statements) → records ≡ symbol_records (source_of statements)) }
+    ensures { IfOk result (λ records. (statements : Items Statement) (areas : Items LaidArea) → IsWhole statements areas whole.now → IsCode statements code.now → symbols.now ≡ symbols_of (final_names (laid statements)) (laid statements) → records ≡ symbol_records (source_of statements)) }
 {
-    let facts = facts_of(whole, gathered);
+    let facts = facts_of(whole, code);
     let records = records_with(alloc, symbols.list(), &facts)?;
     Ok(List::from_vec(records))
 }
