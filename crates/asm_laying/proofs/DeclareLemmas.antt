@@ -12,10 +12,7 @@ use Rattle.base_lemmas.proofs.BaseLemmas.{rest_of}
 
 declared_is : (d : Defined) (s : Statement) (before : List Statement) → one_entry (declared_entry d (is_thumb_label s before)) ≡ declared_entries d s before
 declared_is Unnamed s before = refl
-declared_is (Label name) s before = refl
-declared_is (Equal name e) s before = refl
-declared_is (MapField name) s before = refl
-declared_is (RegisterName name r) s before = refl
+declared_is d s before = refl
 
 between_more : (statements rest : List Statement) (s : Statement) (b : Behind) (old new : List LaidName) (next : Behind)
     → IsBetween statements (s ∷ rest) b old → Declares s b old new next → IsBetween statements rest next new

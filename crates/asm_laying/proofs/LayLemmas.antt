@@ -6,24 +6,20 @@ use Rattle.sdt_fault.specs.declared.kinds.LineKind.{LineKind}
 use Rattle.sdt_fault.specs.declared.kinds.LineKind.TheVariants.{Syntax, UnknownWord, FloatingPoint, BadOperand, Constant, Forward, DuplicateName, WrongType, OutOfRange, Nesting, Assert, NoArea, DivideByZero, TooDeep, TooMany}
 use Rattle.asm_model.specs.declared.directives.DirectiveLine.{DirectiveLine}
 use Rattle.asm_model.specs.declared.directives.DirectiveLine.TheVariants as line
-use Rattle.asm_model.specs.declared.values.Value.{Value}
 use Rattle.asm_model.specs.declared.names.LaidName.{LaidName}
 use Rattle.asm_model.specs.declared.names.Names.{Names}
 use Rattle.asm_model.specs.declared.statements.Statement.{Statement}
 use Rattle.asm_model.specs.declared.statements.What.{What}
 use Rattle.asm_model.specs.declared.statements.What.TheVariants as what
 use Rattle.asm_model.specs.AtLine.{SourceLine, names_at, added_names, seen_behind}
-use Rattle.asm_model.specs.Grammar.{Tree}
 use Rattle.asm_model.specs.Kinds.{earlier, told_kind}
 use Rattle.asm_model.specs.Says.{mapped}
 use Rattle.asm_model.specs.Before.{area_behind, is_thumb_label}
-use Rattle.asm_model.specs.Entries.{equal_entry}
-use Rattle.asm_model.specs.Extents.{Extent, Block, Padding, Loading, Pool, number_there, value_there, tree_value, extent_of}
+use Rattle.asm_model.specs.Extents.{Extent, Block, Padding, Loading, Pool, number_there, extent_of}
 use Rattle.asm_model.specs.Labels.{Defined, Unnamed, Label, Equal, MapField, RegisterName, defined_by, imported_in, imported_entries}
-use Rattle.asm_model.specs.Laid.{LaidLine, statements_of, lines_of, taken, pieces_of, map_behind, map_from, added, set_or, offset_behind, tree_equated, definition_of, line_behind, imported_lines, names_behind, laid_behind}
+use Rattle.asm_model.specs.Laid.{LaidLine, statements_of, lines_of, taken, pieces_of, map_behind, map_from, added, set_or, offset_behind, definition_of, line_behind, imported_lines, names_behind, laid_behind}
 use Rattle.asm_model.specs.LayoutKinds.{fault_kinds, kind_if, map_kinds, area_bytes}
 use Rattle.asm_model.specs.Offsets.{Piece, offset_of, size_behind, start_in}
-use Rattle.asm_model.specs.Trees.{tree_of}
 use Rattle.asm_model.proofs.LaidLemmas.{starts_there}
 use Rattle.asm_offsets.specs.declared.extents.Extent.{Extent as Code}
 use Rattle.asm_offsets.specs.declared.extents.Placed.{Placed as Put}
@@ -45,20 +41,7 @@ use Rattle.asm_laying.proofs.SeeLemmas.{own_there}
 
 earlier_many : (k : LineKind) → earlier k TooMany ≡ k
 earlier_many Syntax = refl
-earlier_many UnknownWord = refl
-earlier_many FloatingPoint = refl
-earlier_many BadOperand = refl
-earlier_many Constant = refl
-earlier_many Forward = refl
-earlier_many DuplicateName = refl
-earlier_many WrongType = refl
-earlier_many OutOfRange = refl
-earlier_many Nesting = refl
-earlier_many Assert = refl
-earlier_many NoArea = refl
-earlier_many DivideByZero = refl
-earlier_many TooDeep = refl
-earlier_many TooMany = refl
+earlier_many k = refl
 
 told_first : (k : LineKind) (b : Bool) → told_kind (k ∷ kind_if b TooMany) ≡ Some k
 told_first k true = ap Some (earlier_many k)
@@ -70,11 +53,8 @@ no_directive_map s (line.Field e) k h = absurd (cc)
 no_directive_map s l k h = refl
 
 no_map : (s : Names) (w : What) (k : LineKind) → extent_of s w ≡ Err k → map_kinds s w ≡ []
-no_map s what.Nothing k h = refl
-no_map s (what.Arm l) k h = refl
-no_map s (what.Thumb l) k h = refl
-no_map s (what.Pseudo l) k h = refl
 no_map s (what.Directive l) k h = no_directive_map s l k h
+no_map s w k h = refl
 
 mapped_faults : {A B : Type 0} (f : A → B) (r : Result A LineKind) → fault_kinds r ≡ fault_kinds (mapped f r)
 mapped_faults f (Ok x) = refl
@@ -86,11 +66,8 @@ directive_map_is map s (line.Field e) = mapped_faults (λ n. (map + n) % 2 ^ 32)
 directive_map_is map s l = refl
 
 map_is : (map : ℕ) (s : Names) (w : What) → map_kinds s w ≡ fault_kinds (map_after map s w)
-map_is map s what.Nothing = refl
-map_is map s (what.Arm l) = refl
-map_is map s (what.Thumb l) = refl
-map_is map s (what.Pseudo l) = refl
 map_is map s (what.Directive l) = directive_map_is map s l
+map_is map s w = refl
 
 abbrev is_large : List LaidName → Statement → List LaidLine → Bool
 is_large d s before = nat_lt area_bytes ((laid_behind d s before).offset + (laid_behind d s before).size)
@@ -134,11 +111,8 @@ directive_map_from map n s (line.Field e) h = added_is map n (number_there s e) 
 directive_map_from map n s l h = let e : Ok map ≡ Ok n = h in cc
 
 pub map_from_is : (map n : ℕ) (s : Names) (w : What) → map_after map s w ≡ Ok n → n ≡ map_from map s w
-map_from_is map n s what.Nothing h = cc
-map_from_is map n s (what.Arm l) h = cc
-map_from_is map n s (what.Thumb l) h = cc
-map_from_is map n s (what.Pseudo l) h = cc
 map_from_is map n s (what.Directive l) h = directive_map_from map n s l h
+map_from_is map n s w h = let e : Ok map ≡ Ok n = h in cc
 
 -- ---- what is taken up
 
@@ -170,9 +144,7 @@ placed_all (Some k) (Block a n) before areas p h =
     let fits : p.offset + p.size ≤ 2 ^ 24 = h.fits in
     let same : min n most_bytes ≡ n = all_there n p.size (sym size) (omega (arith, fits)) in
     subst (λ m. IsPlaced (Some k) (Block a m) before areas p) same h
-placed_all area (Padding m n) before areas p h = h
-placed_all area (Loading n v) before areas p h = h
-placed_all area Pool before areas p h = h
+placed_all area e before areas p h = h
 
 pub large_all : (area : Option ℕ) (e : Extent) (before : List Piece) → 2 ^ 24 < offset_of area before (capped e) + size_behind area before (capped e)
     → 2 ^ 24 < offset_of area before e + size_behind area before e
@@ -181,15 +153,11 @@ large_all (Some k) (Block a n) before h =
     let g : 2 ^ 24 < start_in k before (Block a n) + min n most_bytes = h in
     let less : min n most_bytes ≤ n = omega arith in
     let goal : 2 ^ 24 < start_in k before (Block a n) + n = omega (arith, g, less) in goal
-large_all area (Padding m n) before h = h
-large_all area (Loading n v) before h = h
-large_all area Pool before h = h
+large_all area e before h = h
 
 pub capped_fits : (e : Extent) → IsExtent e → IsExtent (capped e)
 capped_fits (Block a n) h = h
-capped_fits (Padding m n) h = h
-capped_fits (Loading n v) h = h
-capped_fits Pool h = h
+capped_fits e h = h
 
 pub found_fits : ExtentsArePlaceable → (s : Names) (w : What) (x : Code) → coded (Ok x) ≡ all_capped (extent_of s w) → IsExtent (extent_of_code x)
 found_fits law s w x h =
@@ -206,10 +174,7 @@ adds : (d : List LaidName) (s : Statement) (before : List LaidLine) (size : Opti
     ++ equal_names d (area_behind (s ∷ statements_of before))
     (names_at d (seen_behind d (lines_of before)) (line_behind s before (definition_of d x (area_behind (s ∷ statements_of before)) (offset_behind s before) None (is_thumb_label s (statements_of before)) (map_behind before)))) x
 adds d s before size Unnamed = refl
-adds d s before size (Label name) = refl
-adds d s before size (Equal name e) = refl
-adds d s before size (MapField name) = refl
-adds d s before size (RegisterName name r) = refl
+adds d s before size x = refl
 
 imports : (d : List LaidName) (s : Statement) (before : List LaidLine) (rest : List SourceLine) (o : Option (List ℕ))
     → seen_behind d (imported_lines s before o ++ rest) ≡ seen_behind d rest ++ imported_entries o

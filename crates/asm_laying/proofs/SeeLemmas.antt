@@ -37,11 +37,8 @@ equated_owns names area name (Some t) = refl
 
 own_is : (names : List LaidName) (d : Defined) (area : Option ℕ) (offset : ℕ) (size : Option ℕ) (thumb : Bool) (map : ℕ)
     → one_entry (own_entry d area offset size thumb map) ≡ own_names (definition_of names d area offset size thumb map)
-own_is names Unnamed area offset size thumb map = refl
-own_is names (Label name) area offset size thumb map = refl
 own_is names (Equal name e) area offset size thumb map = equated_owns names area name (tree_of e)
-own_is names (MapField name) area offset size thumb map = refl
-own_is names (RegisterName name r) area offset size thumb map = refl
+own_is names d area offset size thumb map = refl
 
 pub own_there : (x : Defined) (a b : Option ℕ) (o p : ℕ) (n m : Option ℕ) (t u : Bool) (k j : ℕ) → a ≡ b → o ≡ p → n ≡ m → t ≡ u → k ≡ j
     → own_entry x a o n t k ≡ own_entry x b p m u j
@@ -53,22 +50,11 @@ shown : (d : List LaidName) (s : Statement) (before : List LaidLine) (names : Li
     → names ≡ seen_behind d (lines_of before) → own ≡ unsized_entry (defined_by s) p
     → names_shown d names (one_entry own) p ≡ names_behind d s before
 shown d s before names own p sp known owned =
-    let area = area_behind (s ∷ statements_of before) in
-    let offset = offset_behind s before in
     let label = is_thumb_label s (statements_of before) in
-    let map = map_behind before in
-    let seen = seen_behind d (lines_of before) in
-    let mine = own_names (definition_behind d s before None) in
-    let owns : one_entry own ≡ mine =
-    ap one_entry (owned ∙ own_there (defined_by s) p.area area p.offset offset None None p.label_thumb label p.map map sp.area sp.offset refl sp.label_thumb sp.map)
-    ∙ own_is d (defined_by s) area offset None label map in
-    let see = λ (a : Option ℕ) (o m : ℕ) (t : Bool). names_shown d seen mine (record { area = a; offset = o; map = m; thumb = t; label_thumb = label }) in
-    ap (λ ns. names_shown d ns (one_entry own) p) known
-    ∙ ap (λ ns. names_shown d seen ns p) owns
-    ∙ ap (λ a. see a p.offset p.map p.thumb) sp.area
-    ∙ ap (λ o. see area o p.map p.thumb) sp.offset
-    ∙ ap (λ m. see area offset m p.thumb) sp.map
-    ∙ ap (λ t. see area offset map t) sp.thumb
+    let owns : one_entry own ≡ own_names (definition_behind d s before None) =
+    ap one_entry (owned ∙ own_there (defined_by s) p.area (area_behind (s ∷ statements_of before)) p.offset (offset_behind s before) None None p.label_thumb label p.map (map_behind before) sp.area sp.offset refl sp.label_thumb sp.map)
+    ∙ own_is d (defined_by s) (area_behind (s ∷ statements_of before)) (offset_behind s before) None label (map_behind before) in
+    rw (known, owns, sp.area, sp.offset, sp.map, sp.thumb) refl
 
 pub found_shown : (d : List LaidName) (s : Statement) (before : List LaidLine) (names : List LaidName) (own : Option LaidName) (p : Spot) (f : Found) → IsSpot s before p
     → names ≡ seen_behind d (lines_of before) → own ≡ unsized_entry (defined_by s) p
@@ -79,18 +65,12 @@ found_shown d s before names own p f at known owned = subst (λ (x : Names). IsF
 
 directive_read : (name : List ℕ) (l : DirectiveLine) → WhatSaid (what.Directive l) → DefinedRead (directive_defines name l)
 directive_read name (line.Equ e) h = h
-directive_read name (line.Rn r) h = tt
-directive_read name (line.Field e) h = tt
-directive_read name line.Rout h = tt
 directive_read name l h = tt
 
 pub defined_read : (label : Option (List ℕ)) (w : What) → WhatSaid w → DefinedRead (field_defines label w)
 defined_read None w h = tt
 defined_read (Some name) (what.Directive l) h = directive_read name l h
-defined_read (Some name) what.Nothing h = tt
-defined_read (Some name) (what.Arm l) h = tt
-defined_read (Some name) (what.Thumb l) h = tt
-defined_read (Some name) (what.Pseudo l) h = tt
+defined_read (Some name) w h = tt
 
 -- ---- names for expressions
 

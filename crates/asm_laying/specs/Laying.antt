@@ -1,6 +1,6 @@
 -- The state behind the lines of a source so far, and what a statement more gives. SDT 2.50 Reference Guide, chapter on the
 -- assembler. Lines are listed with the nearest first.
-use Rattle.std.specs.Prelude.{◌≡◌, ℕ, ◌+◌, ◌<◌, List, [], ◌∷◌, ◌++◌, length, nat_lt, Bool, true, false, Option, Some, None, Result, Ok, Err}
+use Rattle.std.specs.Prelude.{◌≡◌, ℕ, ◌+◌, ◌<◌, List, [], ◌∷◌, ◌++◌, length, nat_lt, true, Option, Some, None, Result, Ok, Err}
 use Rattle.sdt_fault.specs.declared.NoMemory.{NoMemory}
 use Rattle.sdt_fault.specs.declared.kinds.LineKind.{LineKind}
 use Rattle.sdt_fault.specs.declared.kinds.LineKind.TheVariants.{TooMany}

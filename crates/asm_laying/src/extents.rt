@@ -276,11 +276,7 @@ fn padding(
     }
 }
 
-fn directive_extent(
-    alloc: Global,
-    seen: &Seen<'_>,
-    line: &DirectiveLine,
-) -> Result<Taken, NoMemory>
+fn directive_extent(alloc: Global, seen: &Seen<'_>, line: &DirectiveLine) -> Result<Taken, NoMemory>
     requires { DirectiveSaid line.now }
     ensures { IfOk result (λ taken. IsTaken (seen_names seen.now) (kinds.Directive line.now) taken) }
 {

@@ -1,7 +1,6 @@
 use Rattle.std.proofs.Common.{sym, subst}
 use Rattle.std.specs.Prelude.{IfOk}
 use Rattle.asm_expr.specs.Seeing.{seen_names}
-use Rattle.asm_model.specs.Labels.{Defined}
 use Rattle.asm_names.specs.Defining.{defined_of}
 use Rattle.asm_names.specs.declared.defining.Defines.{Defines}
 use Rattle.asm_laying.specs.Laying.{DefinedRead, IsEquated}
