@@ -63,7 +63,7 @@ fn add_imported(alloc: Global, names: &mut KnownNames, what: &What) -> Result<()
 }
 
 /// What a statement more declares.
-fn declare_one(
+pub fn declare_one(
     alloc: Global,
     names: &mut KnownNames,
     behind: Behind,

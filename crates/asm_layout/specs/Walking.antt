@@ -23,6 +23,7 @@ use Rattle.asm_layout.specs.declared.walking.Judged.{Judged}
 use Rattle.asm_layout.specs.declared.walking.Walk.{Walk}
 use Rattle.asm_layout.specs.Front.{front_lines, front_laid}
 use Rattle.asm_layout.specs.Layout.{AreStatements, IsTold}
+use Rattle.asm_layout.specs.Outline.{circle_of, circles_in}
 
 -- ---- names for expressions
 
@@ -33,7 +34,7 @@ or_false (Some b) = b
 -- the mark of the next name for an expression
 abbrev pub IsMark : List Bool → ℕ → Defined → Bool → Type 0
 IsMark marks n (Equal name e) b = b ≡ or_false (slice_get marks n)
-IsMark marks n d b = Unit {0}
+IsMark marks n d b = b ≡ false
 
 abbrev pub one_more : Option Bool → ℕ → ℕ
 one_more None n = n
@@ -47,13 +48,14 @@ pub record IsNext (marks : List Bool) (old new : ℕ) (b : Bool) : Type 0 where
   pub mark : b ≡ or_false (slice_get marks old)
   pub count : new ≡ one_more (slice_get marks old) old
 
-abbrev pub HasMark : List (List ℕ) → List Bool → ℕ → Defined → Type 0
-HasMark settled marks n (Equal name e) = slice_get marks n ≡ Some (list_any (same name) settled)
-HasMark settled marks n d = Unit {0}
+abbrev pub HasMark : List Bool → ℕ → List Bool → Type 0
+HasMark marks n [] = Unit {0}
+HasMark marks n (b ∷ bs) = slice_get marks n ≡ Some b
 
--- the marks say of the next name for an expression whether it is settled
+-- the marks say of the next name for an expression whether it depends on itself
 abbrev pub IsMarked : List (List ℕ) → List Bool → Statement → List LaidLine → Type 0
-IsMarked settled marks s before = HasMark settled marks (length (equals_in (statements_of before))) (defined_by s)
+IsMarked settled marks s before =
+    HasMark marks (length (circles_in settled (statements_of before))) (circle_of settled (defined_by s) (statements_of before))
 
 -- ---- lines so far
 
@@ -64,7 +66,7 @@ pub record IsWalking (d : List LaidName) (names settled : List (List ℕ)) (all 
   pub named : AreRegisters names before w.registers
   pub begun : AreStarts all before w.starts
   pub kept : AreStatements before w.lines.items
-  pub counted : w.equals ≡ length (equals_in (statements_of before))
+  pub counted : w.equals ≡ length (circles_in settled (statements_of before))
   pub none : first_laid names settled all before ≡ None
 
 -- ---- a line more
@@ -78,7 +80,7 @@ pub record IsJudged (d : List LaidName) (names settled : List (List ℕ)) (all :
   pub within : j.thumb_area ≡ in_thumb_area l.area all
   pub begun : new.starts ≡ old.starts
   pub kept : new.lines ≡ old.lines
-  pub counted : new.equals ≡ length (equals_in (statements_of (l ∷ before)))
+  pub counted : new.equals ≡ length (circles_in settled (statements_of (l ∷ before)))
 
 abbrev pub laid_as : Statement → Placed → LaidStatement
 laid_as s p = record {

@@ -41,7 +41,7 @@ pub struct Walk {
     pub starts: Starts,
     /// The lines, in the order of the source.
     pub lines: Vec<LaidStatement>,
-    /// How many names for expressions there are so far.
+    /// How many statements with names for expressions there are so far.
     equals: usize,
 }
 
@@ -55,21 +55,21 @@ struct Judged {
     found: Option<LineKind>,
 }
 
-/// Whether a statement's name for an expression is settled; of other statements nothing is said.
-fn take_mark(equals: &mut usize, settled: &[bool], statement: &Statement) -> bool
-    ensures mark { walking.IsMark settled.now equals.old (labels.defined_by statement.now) result }
-    ensures count { walking.IsCounted settled.now equals.old (labels.defined_by statement.now) equals.new }
+/// Whether a statement is the first that defines a name for an expression which depends on itself.
+fn take_mark(equals: &mut usize, circular: &[bool], statement: &Statement) -> bool
+    ensures mark { walking.IsMark circular.now equals.old (labels.defined_by statement.now) result }
+    ensures count { walking.IsCounted circular.now equals.old (labels.defined_by statement.now) equals.new }
 {
     match defined_by(statement) {
-        Defines::Equal(_, _) => next_mark(equals, settled),
+        Defines::Equal(_, _) => next_mark(equals, circular),
         _ => false,
     }
 }
 
-fn next_mark(equals: &mut usize, settled: &[bool]) -> bool
-    ensures { walking.IsNext settled.now equals.old equals.new result }
+fn next_mark(equals: &mut usize, circular: &[bool]) -> bool
+    ensures { walking.IsNext circular.now equals.old equals.new result }
 {
-    match settled.get(*equals) {
+    match circular.get(*equals) {
         None => false,
         Some(mark) => {
             *equals += 1;
@@ -124,10 +124,10 @@ impl Walk {
     fn judge(&mut self, outline: &Outline, statement: &Statement) -> Result<Judged, NoMemory>
         requires may { laying.MayLay outline.now.names self.old.laying }
         requires said { IsSaid statement.now }
-        ensures { IfOk result (λ j. (names settled : List (List ℕ)) (all : List Statement) (before : List LaidLine) → AreStates all outline.now.states → walking.IsWalking outline.now.names names settled all before self.old → walking.IsMarked settled outline.now.settled.items statement.now before → walking.IsJudged outline.now.names names settled all (laid_behind outline.now.names statement.now before) before self.old self.new j) }
+        ensures { IfOk result (λ j. (names settled : List (List ℕ)) (all : List Statement) (before : List LaidLine) → AreStates all outline.now.states → walking.IsWalking outline.now.names names settled all before self.old → walking.IsMarked settled outline.now.circular.items statement.now before → walking.IsJudged outline.now.names names settled all (laid_behind outline.now.names statement.now before) before self.old self.new j) }
     {
         let laid = self.laying.lay(self.alloc, &outline.names, statement)?;
-        let is_settled = take_mark(&mut self.equals, outline.settled.as_slice(), statement);
+        let circular = take_mark(&mut self.equals, outline.circular.as_slice(), statement);
         let thumb_area = outline.states.is_thumb(laid.area);
         let checked = self.checks.check(
             statement,
@@ -135,7 +135,7 @@ impl Walk {
             laid.thumb,
             thumb_area,
             laid.number,
-            is_settled,
+            circular,
         )?;
         let named = self
             .registers
@@ -188,7 +188,7 @@ impl Walk {
     fn step(&mut self, outline: &Outline, statement: Statement) -> Result<(), Fault>
         requires may { laying.MayLay outline.now.names self.old.laying }
         requires said { IsSaid statement }
-        ensures { (names settled : List (List ℕ)) (all : List Statement) (before : List LaidLine) → AreStates all outline.now.states → walking.IsWalking outline.now.names names settled all before self.old → walking.IsMarked settled outline.now.settled.items statement before → walking.Steps outline.now.names names settled all (laid_behind outline.now.names statement before) before self.new result }
+        ensures { (names settled : List (List ℕ)) (all : List Statement) (before : List LaidLine) → AreStates all outline.now.states → walking.IsWalking outline.now.names names settled all before self.old → walking.IsMarked settled outline.now.circular.items statement before → walking.Steps outline.now.names names settled all (laid_behind outline.now.names statement before) before self.new result }
     {
         let judged = self.judge(outline, &statement)?;
         self.keep_or_tell(statement, judged)
