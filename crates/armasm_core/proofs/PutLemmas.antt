@@ -14,7 +14,7 @@ use Rattle.asm_model.specs.declared.statements.Statement.{Statement}
 use Rattle.asm_model.specs.declared.statements.What.{What}
 use Rattle.asm_model.specs.declared.statements.What.TheVariants as what
 use Rattle.asm_model.specs.declared.thumb_lines.ThumbLine.{ThumbLine}
-use Rattle.asm_model.specs.AtLine.{Sight}
+use Rattle.asm_model.specs.declared.names.Names.{Names}
 use Rattle.asm_model.specs.Kinds.{told_kind}
 use Rattle.asm_model.specs.LayoutKinds.{told_at}
 use Rattle.asm_layout.specs.Layout.{IsTold}
@@ -73,11 +73,11 @@ halves_fit : (c : Context) (es : List Expr) → AllUnitsFit (or_none (half_units
 halves_fit c [] = tt
 halves_fit c (e ∷ es) = with_next (λ (b : List ℕ). Bytes b) (λ b. tt) (and_then (number_in c e) (narrow 2)) (half_units c es) (halves_fit c es)
 
-bytes_fit : (c : Context) (s : Sight) (es : List Expr) → AllUnitsFit (or_none (byte_units c s es))
+bytes_fit : (c : Context) (s : Names) (es : List Expr) → AllUnitsFit (or_none (byte_units c s es))
 bytes_fit c s [] = tt
 bytes_fit c s (e ∷ es) = with_next (λ (b : List ℕ). Bytes b) (λ b. tt) (byte_operand (value_there s e) (value_of c e)) (byte_units c s es) (bytes_fit c s es)
 
-directive_fits : (c : Context) (names : List (List ℕ)) (s : Sight) (d : DirectiveLine) → AllUnitsFit (or_none (directive_units c names s d))
+directive_fits : (c : Context) (names : List (List ℕ)) (s : Names) (d : DirectiveLine) → AllUnitsFit (or_none (directive_units c names s d))
 directive_fits c names s (line.Dcd es) = words_fit c names es
 directive_fits c names s (line.Dcdu es) = words_fit c names es
 directive_fits c names s (line.Dcw es) = halves_fit c es
@@ -134,7 +134,7 @@ pseudo_fits : LinesFit → (thumb : Bool) (c : Context) (word : Option ℕ) (l :
 pseudo_fits laws true c word l small said = thumb_pseudo_fits laws.thumb_pseudo c word l (thumb_pseudo c word l) refl
 pseudo_fits laws false c word l small said = arm_pseudo_fits laws.pseudo c word l (pseudo_instructions c word l) small said refl
 
-units_fit : LinesFit → (c : Context) (names : List (List ℕ)) (s : Sight) (word : Option ℕ) (w : What) → NamesRegisters c → WhatSaid w
+units_fit : LinesFit → (c : Context) (names : List (List ℕ)) (s : Names) (word : Option ℕ) (w : What) → NamesRegisters c → WhatSaid w
     → AllUnitsFit (or_none (units c names s word w))
 units_fit laws c names s word what.Nothing small said = tt
 units_fit laws c names s word (what.Arm l) small said = arm_fits laws.arm c l (arm_instruction c l) small said refl

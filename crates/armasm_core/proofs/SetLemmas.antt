@@ -1,5 +1,5 @@
 -- Names in sets.
-use Rattle.std.proofs.Common.{◌≡◌, ◌≤◌, ◌-◌, ℕ, Bool, List, [], ◌∷◌, ◌++◌, ◌||◌, length, take, drop, get_or, map, refl, sym, ap, ◌∙◌, subst, append_assoc}
+use Rattle.std.proofs.Common.{◌≡◌, ◌≤◌, ◌-◌, ℕ, Bool, List, [], ◌∷◌, ◌++◌, ◌||◌, length, take, drop, get_or, map, refl, sym, ap, ◌∙◌, subst}
 use Rattle.std.proofs.Math.Bool.{or_comm}
 use Rattle.std.proofs.lemmas.List.Folds.{list_any-append}
 use Rattle.std.specs.List.{list_any}
@@ -9,13 +9,10 @@ use Rattle.asm_model.specs.declared.statements.Statement.{Statement}
 use Rattle.asm_model.specs.Forms.{same}
 use Rattle.asm_layout.specs.declared.laid.LaidStatement.{LaidStatement}
 use Rattle.asm_sets.specs.Sets.{HaveSame}
-use Rattle.asm_model.specs.Labels.{defined_by, imported_in}
 use Rattle.asm_model.specs.Laid.{LaidLine, reversed, statements_of}
-use Rattle.asm_model.specs.LayoutKinds.{listed}
 use Rattle.asm_model.specs.Marks.{datum_in, datum_names}
-use Rattle.source_model.specs.SourceFaults.{label_of, symbol_names}
 use Rattle.armasm_core.specs.declared.sets.Sets.{Sets}
-use Rattle.armasm_core.specs.Gathered.{AllLaidSaid, GainsAll, AreSets, entryless, entryless_names, exported_in, said_in, weak_in}
+use Rattle.armasm_core.specs.Gathered.{AllLaidSaid, GainsAll, AreSets, exported_in, said_in, weak_in}
 use Rattle.armasm_core.proofs.GatherLemmas.{exports_is, weak_is}
 
 -- the sets of statements of which these are left
@@ -24,36 +21,24 @@ pub record IsBetween (laid left : List LaidStatement) (x : Sets) : Type 0 where
   pub whole : reversed (map (λ (y : LaidStatement). y.statement) left) before ≡ said_in laid
   pub sets : AreSets before x
 
-pub between_first : (laid : List LaidStatement) (x : Sets) → x.symbols ≡ [] → x.«data» ≡ [] → x.defined ≡ [] → x.exported ≡ [] → x.weak ≡ [] → IsBetween laid laid x
-between_first laid x a b c d e = record {
+pub between_first : (laid : List LaidStatement) (x : Sets) → x.«data» ≡ [] → x.exported ≡ [] → x.weak ≡ [] → IsBetween laid laid x
+between_first laid x a b c = record {
   before = [];
   whole = refl;
   sets = record {
-    symbols = λ q. rw a refl;
-    data_names = λ q. rw b refl;
-    defined = λ q. rw c refl;
-    exported = λ q. rw d refl;
-    weak = λ q. rw e refl;
+    data_names = λ q. rw a refl;
+    exported = λ q. rw b refl;
+    weak = λ q. rw c refl;
   };
 }
 
 pub gains_as : (old new names other : List (List ℕ)) → names ≡ other → HaveSame new (names ++ old) → HaveSame new (other ++ old)
 gains_as old new names other e h = subst (λ (ns : List (List ℕ)). HaveSame new (ns ++ old)) e h
 
-pub gains_both : (old mid new one two : List (List ℕ)) → HaveSame mid (two ++ old) → HaveSame new (one ++ mid) → HaveSame new ((one ++ two) ++ old)
-gains_both old mid new one two h g q =
-    g q ∙ list_any-append (same q) one mid ∙ ap (λ (b : Bool). list_any (same q) one || b) (h q) ∙ sym (list_any-append (same q) one (two ++ old))
-    ∙ ap (λ (ns : List (List ℕ)). list_any (same q) ns) (sym (append_assoc one two old))
-
-module _ (before old new one : List (List ℕ)) (h : HaveSame old before) (g : HaveSame new (one ++ old)) where
-  in_front : HaveSame new (one ++ before)
-  in_front q =
-      g q ∙ list_any-append (same q) one old ∙ ap (λ (b : Bool). list_any (same q) one || b) (h q) ∙ sym (list_any-append (same q) one before)
-
-  behind : HaveSame new (before ++ one)
-  behind q =
-      in_front q ∙ list_any-append (same q) one before ∙ or_comm (list_any (same q) one) (list_any (same q) before)
-      ∙ sym (list_any-append (same q) before one)
+behind : (before old new one : List (List ℕ)) → HaveSame old before → HaveSame new (one ++ old) → HaveSame new (before ++ one)
+behind before old new one h g q =
+    g q ∙ list_any-append (same q) one old ∙ ap (λ (b : Bool). list_any (same q) one || b) (h q)
+    ∙ or_comm (list_any (same q) one) (list_any (same q) before) ∙ sym (list_any-append (same q) before one)
 
 tested : (q : List ℕ) (test rest : Bool) (old new one : List (List ℕ)) → list_any (same q) one ≡ test → list_any (same q) old ≡ rest → HaveSame new (one ++ old)
     → list_any (same q) new ≡ test || rest
@@ -61,9 +46,7 @@ tested q test rest old new one e h g = g q ∙ list_any-append (same q) one old 
 
 more_sets : (s : Statement) (before : List Statement) (old new : Sets) → AreSets before old → GainsAll old new s → AreSets (s ∷ before) new
 more_sets s before old new h k = record {
-  symbols = behind (symbol_names before) old.symbols new.symbols (label_of (defined_by s) ++ listed (imported_in s.what)) h.symbols k.symbols;
   data_names = behind (datum_names before) old.«data» new.«data» (datum_in s.label s.what) h.data_names k.data_names;
-  defined = in_front (entryless_names before) old.defined new.defined (entryless (defined_by s)) h.defined k.defined;
   exported = λ q. tested q _ _ old.exported new.exported (exported_in s.what) (exports_is q s.what) (h.exported q) k.exported;
   weak = λ q. tested q _ _ old.weak new.weak (weak_in s.what) (weak_is q s.what) (h.weak q) k.weak;
 }

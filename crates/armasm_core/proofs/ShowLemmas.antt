@@ -12,7 +12,6 @@ use Rattle.asm_layout.specs.Lines.{IsLineOf}
 use Rattle.asm_model.specs.declared.exprs.Expr.{Expr}
 use Rattle.asm_model.specs.declared.statements.Statement.{Statement}
 use Rattle.asm_model.specs.declared.values.Value.{Value}
-use Rattle.asm_model.specs.Meaning.{stands_at}
 use Rattle.asm_offsets.specs.Laws.{AllExtents, ExtentsArePlaceable, LiteralsArePlaced}
 use Rattle.asm_offsets.specs.Running.{entry_behind, pools_behind}
 use Rattle.asm_pool.specs.Laws.{PoolLaw}
@@ -23,10 +22,10 @@ use Rattle.asm_units.specs.Literals.{literal_in}
 use Rattle.layout_laws.specs.Final.{KnownValuesAreFinal}
 use Rattle.asm_model.specs.Extents.{Pool, value_there}
 use Rattle.asm_model.specs.Labels.{defined_by, declared_names}
-use Rattle.asm_model.specs.Laid.{LaidLine, laid, taken, pieces_of, reversed, final_names}
+use Rattle.asm_model.specs.Laid.{LaidLine, laid, taken, pieces_of, reversed}
 use Rattle.asm_model.specs.OffsetLaws.{joined}
 use Rattle.asm_model.specs.Offsets.{Piece, start_in}
-use Rattle.source_model.specs.Contexts.{sees, value_of}
+use Rattle.source_model.specs.Contexts.{value_of}
 use Rattle.source_model.specs.Registers.{Named, register_in, registers_behind, register_names, named_by}
 use Rattle.source_model.specs.SourceFaults.{word_of}
 use Rattle.asm_units.specs.Passing.{IsNumber}
@@ -34,15 +33,14 @@ use Rattle.armasm_core.specs.Loaded as own
 use Rattle.armasm_core.specs.Giving.{gives}
 use Rattle.armasm_core.specs.Whole.{IsHere, ShowsLine, context_there}
 use Rattle.armasm_core.specs.declared.whole.Whole.{Whole}
-use Rattle.armasm_core.proofs.GatherLemmas.{entryless_there}
 use Rattle.armasm_core.proofs.GivingLemmas.{small_there, gives_there}
 use Rattle.armasm_core.proofs.LiteralLemmas.{IsPlaced}
 use Rattle.armasm_core.proofs.LiteralLemmas as placed
 use Rattle.source_laws.proofs.FaultlessLemmas.{layout_sound}
 use Rattle.armasm_core.proofs.SplitLemmas.{IsBehind, behind_there, split_there, none_there}
-use Rattle.source_laws.proofs.WithinLemmas.{IsWithin, AllWithin, names_within, named_within, area_stands}
+use Rattle.source_laws.proofs.WithinLemmas.{IsWithin, context_within}
 use Rattle.armasm_core.specs.Listing.{StandsThere}
-use Rattle.armasm_core.proofs.LoadLemmas.{area_is, area_there, areas_low, within_there, seen_there, loaded}
+use Rattle.armasm_core.proofs.LoadLemmas.{area_there, areas_low, within_there, seen_there, loaded}
 use Rattle.asm_areas.proofs.LateLemmas.{joined_pieces, parts_extents}
 use Rattle.asm_layout.proofs.FinishLemmas.{all_extents}
 use Rattle.said_model.proofs.SharedLemmas.{are_plain}
@@ -58,13 +56,6 @@ map_long : (areas : List LaidArea) → length (map (λ (a : LaidArea). a.size) a
 map_long [] = refl
 map_long (a ∷ areas) = ap suc (map_long areas)
 
--- ---- what the names of a line see
-
-stands_in : (n : ℕ) (statements : List Statement) (l : LaidLine) (before : List LaidLine) → AllWithin n (final_names (laid statements)) → IsWithin n l.line.area
-    → (q : List ℕ) (a o : ℕ) → stands_at (sees (context_there statements before l)) q ≡ Some (a, o) → a < n
-stands_in n statements l before h k [] a o e = area_stands n l.line.area 0 a o k e
-stands_in n statements l before h k (c ∷ cs) a o e = named_within n (c ∷ cs) (final_names (laid statements)) a o h e
-
 -- ---- areas of a layout
 
 stands : (statements : List Statement) (areas : List LaidArea) (w : Whole) (known : List Named) (before rest : List LaidLine) (l : LaidLine) (x : LaidStatement)
@@ -76,22 +67,17 @@ pub record IsPlace (statements : List Statement) (areas : List LaidArea) (w : Wh
   pub here : IsHere statements areas w known before rest l x
   pub behind : IsBehind (declared_names statements) l before
   pub there : StandsThere statements areas w before rest l x
-  pub names : AllWithin (length areas) (final_names (laid statements))
-  pub within : IsWithin (length areas) l.line.area
+  pub within : IsWithin (length areas) l.area
 
 pub place_of : (statements : List Statement) (areas : List LaidArea) (w : Whole) (known : List Named) (before rest : List LaidLine) (l : LaidLine) (x : LaidStatement)
     → IsHere statements areas w known before rest l x → IsPlace statements areas w known before rest l x
 place_of statements areas w known before rest l x h =
-    let d = declared_names statements in
-    let n = length areas in
-    let b = behind_there d statements rest l before h.said h.parts in
     let there = stands statements areas w known before rest l x h in
     record {
       here = h;
-      behind = b;
+      behind = behind_there (declared_names statements) statements rest l before h.said h.parts;
       there = there;
-      names = names_within n statements (areas_low statements areas h.laid_out);
-      within = subst (IsWithin n) (sym (area_is d l before b)) (within_there statements areas w before rest l x there);
+      within = within_there statements areas w before rest l x there;
     }
 
 -- ---- its literal
@@ -110,7 +96,7 @@ word_is fits law statements areas w known before rest l x p = by_area l.area ref
         ap (λ (a : Option ℕ). own.word_in areas a x.literal) (p.here.line.area ∙ e)
         ∙ sym (ap (λ (a : Option ℕ). word_of a (taken l.extent) (pieces_of (l ∷ before)) (pieces_of rest)) e)
     by_area (Some area) e =
-        let less : area < length areas = subst (IsWithin (length areas)) (area_is (declared_names statements) l before p.behind ∙ e) p.within in
+        let less : area < length areas = subst (IsWithin (length areas)) e p.within in
         let a = area_there areas area less in
         let is = p.here.laid_out.each area a.0 a.1 in
         let pieces = pieces_of before in
@@ -134,15 +120,13 @@ loads fits law pools statements areas w known before rest l x p =
 -- ---- what is beside the line
 
 pub record IsScene (w : Whole) (known : List Named) (x : LaidStatement) (z : Scene) : Type 0 where
-  pub names : z.names.now ≡ w.names
+  pub names : z.names.now ≡ w.names.now
   pub line : IsLineOf x z.line.now
   pub registers : z.registers.now ≡ known
-  pub symbols : z.symbols.now ≡ w.sets.symbols
 
 pub record IsBeside (areas : List LaidArea) (w : Whole) (known : List Named) (x : LaidStatement) (y : Beside) : Type 0 where
   pub scene : IsScene w known x y.scene
   pub labels : y.«data».now ≡ w.sets.«data»
-  pub defined : y.defined.now ≡ w.sets.defined
   pub sizes : y.sizes.now ≡ w.sizes.items
   pub strings : y.strings.now ≡ x.strings
   pub word : y.word ≡ own.word_in areas x.area x.literal
@@ -156,7 +140,6 @@ shows statements areas w known before rest l x z p b = record {
   registers = λ q. ap (register_in q) b.registers ∙ p.here.registers q;
   small = λ q n e.
       small_there (declared_names statements) p.behind.ss p.behind.all q n (subst (λ (ls : List LaidLine). register_in q (registers_behind ls) ≡ Some n) p.behind.behind e);
-  symbols = λ q. ap (λ (ns : List (List ℕ)). list_any (same q) ns) b.symbols ∙ p.here.whole.sets.symbols q;
 }
 
 pub known_there : KnownValuesAreFinal → (statements : List Statement) (areas : List LaidArea) (w : Whole) (known : List Named) (before rest : List LaidLine) (l : LaidLine) (x : LaidStatement)
@@ -173,13 +156,12 @@ shows_beside law statements areas w known before rest l x y p o b =
     record {
       scene = shows statements areas w known before rest l x y.scene p b.scene;
       labels = λ q. ap (λ (ns : List (List ℕ)). list_any (same q) ns) b.labels ∙ p.here.whole.sets.data_names q;
-      defined = λ q none.
-          ap (λ (ns : List (List ℕ)). list_any (same q) ns) b.defined ∙ p.here.whole.sets.defined q ∙ entryless_there statements q none;
       measured = λ area n e.
           let r = sized areas area n (subst (λ (ns : List ℕ). slice_get ns area ≡ Some n) sizes e) in sym r.2 ∙ (p.here.laid_out.each area r.0 r.1).size;
       within = λ q area offset e.
           subst (λ (n : ℕ). area < n) (sym (ap (λ (ns : List ℕ). length ns) sizes ∙ map_long areas))
-          (stands_in (length areas) statements l before p.names p.within q area offset e);
+          (context_within statements (length areas) (reversed rest []) before l (areas_low statements areas p.here.laid_out)
+          (split_there (laid statements) rest l before p.here.parts) q (area, offset) e);
       strings = b.strings ∙ p.here.line.strings ∙ ap (λ (s : Statement). string_marks l.seen s.what) (sym p.here.line.statement);
       literal = b.word ∙ o.word;
       known = known_there law statements areas w known before rest l x p;

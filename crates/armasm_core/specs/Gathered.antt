@@ -1,4 +1,4 @@
--- What all lines of a layout share: names in sets, as its statements say them. This project's.
+-- Names of a source in sets, as its statements say them. This project's.
 use Rattle.std.specs.Prelude.{◌≡◌, ℕ, Bool, true, false, List, [], ◌∷◌, ◌++◌, map}
 use Rattle.std.specs.List.{list_any}
 use Rattle.asm_model.specs.declared.directives.DirectiveLine.TheVariants as line
@@ -8,13 +8,10 @@ use Rattle.asm_model.specs.declared.statements.What.TheVariants as what
 use Rattle.asm_model.specs.Forms.{same}
 use Rattle.asm_layout.specs.declared.laid.LaidStatement.{LaidStatement}
 use Rattle.asm_sets.specs.Sets.{HaveSame}
-use Rattle.asm_model.specs.Labels.{Defined, Equal, RegisterName, defined_by, imported_in}
 use Rattle.asm_model.specs.Laid.{reversed}
-use Rattle.asm_model.specs.LayoutKinds.{listed}
 use Rattle.asm_model.specs.Marks.{datum_in, datum_names}
 use Rattle.said_model.specs.Said.{IsSaid}
 use Rattle.source_model.specs.Objects.{exports_name, is_weak_import}
-use Rattle.source_model.specs.SourceFaults.{label_of, symbol_names}
 use Rattle.armasm_core.specs.declared.sets.Sets.{Sets}
 
 -- ---- statements of a layout
@@ -28,16 +25,6 @@ abbrev pub said_in : List LaidStatement → List Statement
 said_in xs = reversed (map (λ (x : LaidStatement). x.statement) xs) []
 
 -- ---- names of statements
-
--- a name for an expression or a register: any other that a statement defines or imports has an entry
-abbrev pub entryless : Defined → List (List ℕ)
-entryless (Equal name e) = name ∷ []
-entryless (RegisterName name r) = name ∷ []
-entryless _ = []
-
-abbrev pub entryless_names : List Statement → List (List ℕ)
-entryless_names [] = []
-entryless_names (s ∷ before) = entryless (defined_by s) ++ entryless_names before
 
 abbrev pub exported_in : What → List (List ℕ)
 exported_in (what.Directive (line.Export n)) = n ∷ []
@@ -56,16 +43,12 @@ weak_in _ = []
 
 -- the sets have the names of a statement more
 pub record GainsAll (old new : Sets) (s : Statement) : Type 0 where
-  pub symbols : HaveSame new.symbols ((label_of (defined_by s) ++ listed (imported_in s.what)) ++ old.symbols)
   pub data_names : HaveSame new.«data» (datum_in s.label s.what ++ old.«data»)
-  pub defined : HaveSame new.defined (entryless (defined_by s) ++ old.defined)
   pub exported : HaveSame new.exported (exported_in s.what ++ old.exported)
   pub weak : HaveSame new.weak (weak_in s.what ++ old.weak)
 
 -- the sets have the names of statements, of which the last is listed first
 pub record AreSets (statements : List Statement) (x : Sets) : Type 0 where
-  pub symbols : HaveSame x.symbols (symbol_names statements)
   pub data_names : HaveSame x.«data» (datum_names statements)
-  pub defined : HaveSame x.defined (entryless_names statements)
   pub exported : (q : List ℕ) → list_any (same q) x.exported ≡ list_any (λ s. exports_name q s.what) statements
   pub weak : (q : List ℕ) → list_any (same q) x.weak ≡ list_any (λ s. is_weak_import q s.what) statements

@@ -42,7 +42,7 @@ pub fn beside_of<'a>(
             names: whole.names,
             line,
             registers,
-            },
+        },
         data: &whole.sets.data,
         sizes: whole.sizes.as_slice(),
         strings: laid.strings.as_slice(),

@@ -2,7 +2,6 @@
 
 ghost use Rattle.std.specs.Prelude.{◌≡◌, List as Items, map, IfOk};
 ghost use Rattle.asm_model.specs.declared.statements.Statement.{Statement};
-ghost use Rattle.asm_model.specs.Meaning.{named_in};
 ghost use Rattle.asm_layout.specs.declared.laid.LaidArea.{LaidArea};
 ghost use Rattle.asm_model.specs.Laid.{laid, final_names};
 ghost use Rattle.asm_model.specs.Symbols.{symbols_of};
@@ -18,18 +17,12 @@ use asm_units::{Facts, Symbols, record_of};
 use sdt_fault::{List, NoMemory, Text};
 use std::alloc::Global;
 
-fn record_named(alloc: Global, name: &Text, facts: &Facts<'_>) -> Result<Symbol, NoMemory>
-    ensures { IfOk result (λ symbol. (s : Source) → Shows facts.now s → symbol ≡ symbol_named s name.now (named_in name.now s.names)) }
-{
-    record_of(alloc, name, facts.names.find(name), facts)
-}
-
 fn records_with(alloc: Global, names: &[Text], facts: &Facts<'_>) -> Result<Vec<Symbol>, NoMemory>
-    ensures { IfOk result (λ records. (s : Source) → Shows facts.now s → records.items ≡ map (λ name. symbol_named s name (named_in name s.names)) names.now) }
+    ensures { IfOk result (λ records. (s : Source) → Shows facts.now s → records.items ≡ map (symbol_named s) names.now) }
 {
     let mut records = Vec::new(alloc);
     'names: for name in names {
-        records.push(record_named(alloc, name, facts)?)?;
+        records.push(record_of(alloc, name, facts)?)?;
     }
     Ok(records)
 }

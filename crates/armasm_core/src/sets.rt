@@ -2,19 +2,13 @@
 
 ghost use Rattle.std.specs.Prelude.{◌≡◌, ◌++◌, IfOk, OnOk};
 ghost use Rattle.std.specs.Option.{option_copied};
-ghost use Rattle.asm_model.specs.Labels as labels;
 ghost use Rattle.asm_model.specs.LayoutKinds.{listed};
 ghost use Rattle.asm_model.specs.Marks as marks;
-ghost use Rattle.source_model.specs.SourceFaults as faults;
 ghost use Rattle.asm_sets.specs.Sets.{HaveSame};
-ghost use Rattle.asm_names.specs.Defining.{defined_of};
-ghost use Rattle.armasm_core.specs.Gathered.{GainsAll, AreSets, entryless, exported_in, name_where, said_in, weak_in};
+ghost use Rattle.armasm_core.specs.Gathered.{GainsAll, AreSets, exported_in, name_where, said_in, weak_in};
 
 use asm_layout::LaidStatement;
 use asm_model::{DirectiveLine, Statement, What};
-use asm_names::defining::{Defines, defined_by};
-use asm_names::made::imported_name;
-use asm_layout::LaidStatement;
 use asm_sets::NameRefs;
 use sdt_fault::{NoMemory, Text};
 use std::alloc::Global;
