@@ -3,7 +3,7 @@ use Rattle.std.proofs.Common.{◌≡◌, ◌≤◌, List, ◌∷◌, ◌++◌, l
 use Rattle.asm_model.specs.declared.names.LaidName.{LaidName}
 use Rattle.asm_model.specs.declared.statements.Statement.{Statement}
 use Rattle.asm_model.specs.Before.{is_thumb_label}
-use Rattle.asm_model.specs.Labels.{Defined, Unnamed, Label, Equal, MapField, RegisterName, defined_by, imported_in, declared_imports, declared_names, declared_entries}
+use Rattle.asm_model.specs.Labels.{Defined, Unnamed, defined_by, imported_in, declared_imports, declared_names, declared_entries}
 use Rattle.asm_names.specs.Steps.{one_entry}
 use Rattle.asm_laying.specs.declared.behind.Behind.{Behind}
 use Rattle.asm_laying.specs.Behind.{stepped}

@@ -12,12 +12,12 @@ use Rattle.asm_model.specs.declared.statements.Statement.{Statement}
 use Rattle.asm_model.specs.declared.statements.What.{What}
 use Rattle.asm_model.specs.declared.statements.What.TheVariants as what
 use Rattle.asm_model.specs.declared.names.Names.{Names}
-use Rattle.asm_model.specs.AtLine.{is_value, known_entry, own_names, added_names, seen_behind}
+use Rattle.asm_model.specs.AtLine.{is_value, known_entry, own_names, seen_behind}
 use Rattle.asm_model.specs.Entries.{equal_entry}
-use Rattle.asm_model.specs.Extents.{tree_value, value_there}
+use Rattle.asm_model.specs.Extents.{value_there}
 use Rattle.asm_model.specs.Grammar.{Tree}
 use Rattle.asm_model.specs.Before.{area_behind, is_thumb_label}
-use Rattle.asm_model.specs.Labels.{Defined, Unnamed, Label, Equal, MapField, RegisterName, defined_by, field_defines, directive_defines}
+use Rattle.asm_model.specs.Labels.{Defined, Equal, defined_by, field_defines, directive_defines}
 use Rattle.asm_model.specs.Laid.{LaidLine, statements_of, lines_of, map_behind, offset_behind, tree_equated, definition_of, definition_behind, names_behind}
 use Rattle.asm_model.specs.Trees.{tree_of}
 use Rattle.asm_model.proofs.TreeLemmas.{trees_read_back}
@@ -81,14 +81,9 @@ value_known (Err k) h = absurd (cc)
 equated : (d : List LaidName) (area : Option ℕ) (s : Names) (name : List ℕ) (e : Expr) (q : Equated) → IsRead e
     → one_entry q.entry ≡ known_entry (equal_entry d area name) (value_there s e) → q.known ≡ is_value (value_there s e)
     → IsEquated d area s (Equal name e) q
-equated d area s name e q read entry known = record {
-  entry = subst (λ (o : Option Tree). one_entry q.entry ≡ added_names s (tree_equated d area name o)) (sym is)
-      (subst (λ (o : Option Tree). one_entry q.entry ≡ known_entry (equal_entry d area name) (tree_value s o)) is entry);
-  known = λ k. value_known (value_there s e) (sym known ∙ k);
-}
-  where
-    is : tree_of e ≡ Some read.tree
-    is = trees_read_back read.parts read.tree e read.spelled read.items
+equated d area s name e q read entry known =
+    let is : tree_of e ≡ Some read.tree = trees_read_back read.parts read.tree e read.spelled read.items in
+    record { entry = rw is (rw is at entry); known = λ k. value_known (value_there s e) (sym known ∙ k) }
 
 pub equates : (d : List LaidName) (area : Option ℕ) (s : Names) (name : List ℕ) (e : Expr) (v : Result Value LineKind) (r : Result Equated NoMemory) → IsRead e
     → v ≡ value_there s e → IfOk r (λ q. one_entry q.entry ≡ known_entry (equal_entry d area name) v) → IfOk r (λ q. q.known ≡ is_value v)

@@ -85,6 +85,7 @@ fn equal_with(
 }
 
 /// What a statement's name for an expression means, by what its line sees.
+#[tactic(auto, using(crate::proofs::SeeLemmas::equates))]
 fn equal_there(
     alloc: Global,
     declared: &KnownNames,

@@ -93,7 +93,8 @@ module _ (x : Beside) (c : Context) (data_names : List (List ℕ)) (sizes : ℕ 
   entry_shown (Some n) = value_shown (entry_value n)
 
   export_shown : (name : List ℕ) → export_kinds (context_of x.scene) (sizes_of x) (named_in name x.scene.names.now) ≡ export_kinds c sizes (named_in name c.names)
-  export_shown name = rw h.scene.names (entry_shown (named_in name x.scene.names.now))
+  export_shown name =
+      entry_shown (named_in name x.scene.names.now) ∙ ap (λ names. export_kinds c sizes (named_in name names)) (sym h.scene.names)
 
   directive_shown : (l : DirectiveLine) → directive_kinds (context_of x.scene) (sizes_of x) l ≡ directive_kinds c sizes l
   directive_shown (line.Export name) = export_shown name
