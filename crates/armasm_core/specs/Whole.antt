@@ -30,7 +30,7 @@ pub record IsWhole (statements : List Statement) (areas : List LaidArea) (w : Wh
 
 -- what a line's values are found by, where these lines stand before it, the nearest first
 abbrev pub context_there : List Statement → List LaidLine → LaidLine → Context
-context_there statements before l = context_of (final_names (laid statements)) statements l before
+context_there statements before l = context_of (final_names (laid statements)) l before
 
 -- the offset of the word of its literal, where these lines stand behind it
 abbrev pub word_there : List LaidLine → List LaidLine → LaidLine → Option ℕ
