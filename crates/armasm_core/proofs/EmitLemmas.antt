@@ -8,7 +8,7 @@ use Rattle.armasm_core.specs.Giving.{gives}
 use Rattle.armasm_core.specs.Putting.{IsPut}
 use Rattle.armasm_core.specs.Whole.{IsHere, kinds_at}
 use Rattle.armasm_core.proofs.LoopLemmas.{lines_from, turned_again, first_of, none_left}
-use Rattle.asm_layout.proofs.LateLemmas.{rest_of}
+use Rattle.base_lemmas.proofs.BaseLemmas.{rest_of}
 use Rattle.asm_layout.specs.Late.{AreOn}
 use Rattle.asm_model.specs.declared.statements.Statement.{Statement}
 use Rattle.asm_layout.specs.declared.laid.LaidStatement.{LaidStatement}
