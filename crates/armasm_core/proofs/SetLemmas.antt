@@ -21,20 +21,6 @@ pub record IsBetween (laid left : List LaidStatement) (x : Sets) : Type 0 where
   pub whole : reversed (map (λ (y : LaidStatement). y.statement) left) before ≡ said_in laid
   pub sets : AreSets before x
 
-pub between_first : (laid : List LaidStatement) (x : Sets) → x.«data» ≡ [] → x.exported ≡ [] → x.weak ≡ [] → IsBetween laid laid x
-between_first laid x a b c = record {
-  before = [];
-  whole = refl;
-  sets = record {
-    data_names = λ q. rw a refl;
-    exported = λ q. rw b refl;
-    weak = λ q. rw c refl;
-  };
-}
-
-pub gains_as : (old new names other : List (List ℕ)) → names ≡ other → HaveSame new (names ++ old) → HaveSame new (other ++ old)
-gains_as old new names other e h = subst (λ (ns : List (List ℕ)). HaveSame new (ns ++ old)) e h
-
 behind : (before old new one : List (List ℕ)) → HaveSame old before → HaveSame new (one ++ old) → HaveSame new (before ++ one)
 behind before old new one h g q =
     g q ∙ list_any-append (same q) one old ∙ ap (λ (b : Bool). list_any (same q) one || b) (h q)
