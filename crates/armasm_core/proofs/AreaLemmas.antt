@@ -6,7 +6,7 @@ use Rattle.sdt_word.specs.Numbers.{flag}
 use Rattle.sdt_fault.specs.declared.kinds.LineKind.{LineKind}
 use Rattle.sdt_fault.specs.declared.kinds.LineKind.TheVariants.{TooMany, BadOperand}
 use Rattle.asm_layout.specs.Layout.{AreAreas}
-use Rattle.asm_model.proofs.LineLemmas.{both_empty}
+use Rattle.layout_laws.proofs.SoundLemmas.{both_empty}
 use Rattle.asm_model.specs.declared.directives.AreaAttributes.{AreaAttributes}
 use Rattle.asm_model.specs.declared.directives.Contents.{Contents}
 use Rattle.asm_model.specs.declared.directives.Contents.TheVariants as contents
@@ -15,19 +15,18 @@ use Rattle.asm_model.specs.declared.statements.Statement.{Statement}
 use Rattle.asm_model.specs.declared.statements.What.{What}
 use Rattle.asm_model.specs.declared.statements.What.TheVariants as what
 use Rattle.asm_model.specs.Directives.{or_else}
-use Rattle.asm_pool.specs.declared.layout.LaidArea.{LaidArea}
+use Rattle.asm_layout.specs.declared.laid.LaidArea.{LaidArea}
 use Rattle.asm_model.specs.Before.{areas_behind, is_code}
 use Rattle.asm_model.specs.Labels.{defined_by}
 use Rattle.asm_model.specs.declared.names.LaidName.{LaidName}
 use Rattle.asm_model.specs.Labels.{declared_names}
 use Rattle.asm_model.specs.Laid.{LaidLine, laid, laid_of, laid_behind, statements_of, reversed}
-use Rattle.asm_model.specs.LayoutKinds.{exponent, exponent_kinds, area_kinds, is_named_otherwise, layout_kinds, fault_kinds, map_kinds, no_area_kinds, contents_kinds, contents_behind, name_kinds, settled_kinds, settled, equals_in, kind_if, area_bytes, is_thumb_area}
+use Rattle.asm_model.specs.LayoutKinds.{exponent, exponent_kinds, area_kinds, is_named_otherwise, layout_kinds, fault_kinds, map_kinds, no_area_kinds, contents_kinds, contents_behind, name_kinds, first_equal, settled_kinds, state_kinds, settled, equals_in, kind_if, area_bytes, is_thumb_area}
 use Rattle.asm_model.specs.Offsets.{is_of}
 use Rattle.source_model.specs.Objects.{attributes_word, contents_bits, or_two, says_area, attributes_of, contents_in, contents_of, holds_code, is_kept}
 use Rattle.source_model.specs.SourceFaults.{layout_faults}
 use Rattle.armasm_core.proofs.SplitLemmas.{none_there}
-use Rattle.source_laws.proofs.WithinLemmas.{IsWithin, area_within}
-use Rattle.armasm_core.proofs.WithinLemmas.{areas_fewer}
+use Rattle.source_laws.proofs.WithinLemmas.{IsWithin, area_within, areas_more}
 use Rattle.armasm_core.specs.Drafting.{marks_zeroes}
 use Rattle.armasm_core.specs.Gathering.{marks_code}
 use Rattle.asm_model.proofs.OffsetLemmas.{through as low_of}
@@ -77,23 +76,25 @@ abbrev AreAligned : List LaidLine → Type 0
 AreAligned [] = Unit {0}
 AreAligned (l ∷ before) = (area_kinds l.seen l.statement.what before ≡ []) × AreAligned before
 
-fifth_empty : (a b c d e f g h : List LineKind) → a ++ b ++ c ++ d ++ e ++ f ++ g ++ h ≡ [] → e ≡ []
-fifth_empty a b c d e f g h none =
-    let r = both_empty (a ++ b ++ c ++ d ++ e ++ f ++ g) h none in
+fifth_empty : (a b c d e f g h i : List LineKind) → a ++ b ++ c ++ d ++ e ++ f ++ g ++ h ++ i ≡ [] → e ≡ []
+fifth_empty a b c d e f g h i none =
+    let s = both_empty (a ++ b ++ c ++ d ++ e ++ f ++ g ++ h) i none in
+    let r = both_empty (a ++ b ++ c ++ d ++ e ++ f ++ g) h s.0 in
     let q = both_empty (a ++ b ++ c ++ d ++ e ++ f) g r.0 in
     let p = both_empty (a ++ b ++ c ++ d ++ e) f q.0 in
     (both_empty (a ++ b ++ c ++ d) e p.0).1
 
-own_aligned : (fixed : List (List ℕ)) (l : LaidLine) (before : List LaidLine) → layout_kinds fixed l before ≡ [] → area_kinds l.seen l.statement.what before ≡ []
-own_aligned fixed l before e =
+own_aligned : (fixed : List (List ℕ)) (all : List Statement) (l : LaidLine) (before : List LaidLine) → layout_kinds fixed all l before ≡ [] → area_kinds l.seen l.statement.what before ≡ []
+own_aligned fixed all l before e =
     fifth_empty (fault_kinds l.extent) (map_kinds l.seen l.statement.what) (no_area_kinds l.area (defined_by l.statement) l.statement.what)
     (contents_kinds (contents_behind (l.statement ∷ statements_of before)) l.thumb l.statement.what) (area_kinds l.seen l.statement.what before)
-    (name_kinds l.statement (statements_of before)) (settled_kinds fixed (defined_by l.statement)) (kind_if (nat_lt area_bytes (l.offset + l.size)) TooMany) e
+    (name_kinds l.statement (statements_of before)) (settled_kinds fixed (first_equal (defined_by l.statement) (statements_of before))) (state_kinds l.area l.thumb l.statement.what all)
+    (kind_if (nat_lt area_bytes (l.offset + l.size)) TooMany) e
 
 are_aligned : (statements : List Statement) → layout_faults statements ≡ None → (rest before : List LaidLine) → laid statements ≡ reversed rest before → AreAligned before
 are_aligned statements e rest [] parts = tt
 are_aligned statements e rest (l ∷ before) parts =
-    (own_aligned (settled (equals_in statements)) l before (none_there statements rest l before e parts).laying, are_aligned statements e (l ∷ rest) before parts)
+    (own_aligned (settled (equals_in statements)) statements l before (none_there statements rest l before e parts).laying, are_aligned statements e (l ∷ rest) before parts)
 
 -- ---- attributes and contents
 
@@ -144,7 +145,7 @@ none_past d [] area n fits past = refl
 none_past d (s ∷ ss) area n fits past =
     let before = laid_of d ss in
     let l = laid_behind d s before in
-    let fewer = low_of (length (areas_behind (statements_of before))) (length (areas_behind (statements_of (l ∷ before)))) n (areas_fewer (l ∷ []) before) fits in
+    let fewer = low_of (length (areas_behind (statements_of before))) (length (areas_behind (statements_of (l ∷ before)))) n (areas_more (l ∷ []) before) fits in
     let within = area_within n (s ∷ statements_of before) fits in
     rw (none_past d ss area n fewer past) (none_in area l l.statement.what (other_area area n l.area within past))
 
@@ -177,11 +178,11 @@ kept_alike w (Some c) h = h.1
 
 -- an area keeps its bytes unless its attributes have the bit of zeros
 pub zeroes_there : (statements : List Statement) → layout_faults statements ≡ None → (area w : ℕ)
-    → attributes_of area (is_thumb_area area (laid statements)) (laid statements) ≡ Some w → is_kept (contents_of area (laid statements)) ≡ not (marks_zeroes w)
+    → attributes_of area (is_thumb_area area (statements_of (laid statements))) (laid statements) ≡ Some w → is_kept (contents_of area (laid statements)) ≡ not (marks_zeroes w)
 zeroes_there statements e area w is =
     kept_alike w (contents_of area (laid statements))
     (subst (λ (o : Option ℕ). AreAlike o (contents_of area (laid statements))) is
-    (lines_alike area (is_thumb_area area (laid statements)) (laid statements) (are_aligned statements e [] (laid statements) refl)))
+    (lines_alike area (is_thumb_area area (statements_of (laid statements))) (laid statements) (are_aligned statements e [] (laid statements) refl)))
 
 same_low : (m n : ℕ) → m ≡ n → n ≤ m
 same_low m n e = omega arith
@@ -193,8 +194,8 @@ code_there statements areas h e area = got areas area ∙ by_area (slice_get are
     all : List LaidLine
     all = laid statements
 
-    alike : AreAlike (attributes_of area (is_thumb_area area (laid statements)) (laid statements)) (contents_of area (laid statements))
-    alike = lines_alike area (is_thumb_area area (laid statements)) (laid statements) (are_aligned statements e [] (laid statements) refl)
+    alike : AreAlike (attributes_of area (is_thumb_area area (statements_of (laid statements))) (laid statements)) (contents_of area (laid statements))
+    alike = lines_alike area (is_thumb_area area (statements_of (laid statements))) (laid statements) (are_aligned statements e [] (laid statements) refl)
 
     by_area : (o : Option LaidArea) → slice_get areas area ≡ o → marked_at o ≡ holds_code (contents_of area (laid statements))
     by_area (Some a) is =

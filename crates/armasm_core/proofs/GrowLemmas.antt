@@ -6,7 +6,7 @@ use Rattle.std.proofs.lemmas.Option.{slice_get_read}
 use Rattle.armasm_core.specs.Drafts.{IsDraft, MeetNone}
 use Rattle.source_laws.proofs.ListedLemmas.{among_first as among_front, among_last as among_behind}
 use Rattle.armasm_core.specs.Writing.{AllCanStand}
-use Rattle.asm_pool.specs.declared.layout.LaidArea.{LaidArea}
+use Rattle.asm_layout.specs.declared.laid.LaidArea.{LaidArea}
 use Rattle.asm_model.specs.Offsets.{is_of}
 use Rattle.asm_model.proofs.OffsetLemmas.{is_here}
 use Rattle.source_model.specs.Objects.{Piece, IsAmong}

@@ -1,14 +1,14 @@
 -- The symbols of a layout's lines, one after the other.
 use Rattle.std.proofs.Common.{◌≡◌, ◌≤◌, ◌<◌, ◌-◌, ℕ, List, [], ◌∷◌, length, take, drop, get_or, refl, sym, ap, ◌∙◌, subst}
-use Rattle.asm_layout.proofs.LateLemmas.{rest_of}
+use Rattle.base_lemmas.proofs.BaseLemmas.{rest_of}
 use Rattle.asm_layout.specs.Late.{AreOn}
 use Rattle.asm_layout.specs.Lines.{IsLineOf}
 use Rattle.asm_names.specs.declared.lines.PlacedLine.{PlacedLine}
 use Rattle.asm_model.specs.declared.names.LaidName.{LaidName}
 use Rattle.asm_model.specs.declared.statements.Statement.{Statement}
-use Rattle.asm_pool.specs.declared.layout.LaidArea.{LaidArea}
-use Rattle.asm_pool.specs.declared.layout.LaidStatement.{LaidStatement}
-use Rattle.asm_pool.specs.declared.layout.Layout.{Layout}
+use Rattle.asm_layout.specs.declared.laid.LaidArea.{LaidArea}
+use Rattle.asm_layout.specs.declared.laid.LaidStatement.{LaidStatement}
+use Rattle.asm_layout.specs.declared.laid.Layout.{Layout}
 use Rattle.asm_model.specs.Laid.{LaidLine, laid, taken, reversed, final_names}
 use Rattle.asm_model.specs.Symbols.{symbols_in, symbols_of, listed_behind}
 use Rattle.armasm_core.specs.declared.whole.Whole.{Whole}
@@ -20,7 +20,7 @@ use Rattle.armasm_core.proofs.ListLemmas.{nothing}
 
 pub needed_there : (statements : List Statement) (areas : List LaidArea) (w : Whole) (before rest : List LaidLine) (l : LaidLine) (x : LaidStatement) (y : PlacedLine) (old new : List (List ℕ))
     → StandsThere statements areas w before rest l x → IsLineOf x y
-    → new ≡ listed_behind old (symbols_in w.names l.line (taken l.extent) y.statement.now.what)
+    → new ≡ listed_behind old (symbols_in w.names.now l.line (taken l.extent) y.statement.now.what)
     → new ≡ listed_behind old (needed_by statements l)
 needed_there statements areas w before rest l x y old new h r e =
     e

@@ -4,13 +4,13 @@ use Rattle.std.specs.Prelude.{Result, nat_lt}
 use Rattle.std.specs.List.{slice_get}
 use Rattle.sdt_fault.specs.declared.kinds.LineKind.{LineKind}
 use Rattle.sdt_fault.specs.declared.kinds.LineKind.TheVariants.{TooMany}
-use Rattle.asm_model.proofs.LineLemmas.{both_empty}
+use Rattle.layout_laws.proofs.SoundLemmas.{both_empty}
 use Rattle.asm_model.specs.declared.statements.Statement.{Statement}
 use Rattle.asm_offsets.specs.Running.{entry_behind, pools_behind}
 use Rattle.asm_pool.specs.Laws.{PoolLaw}
 use Rattle.asm_pool.specs.Pooled.{flushed}
-use Rattle.asm_pool.specs.declared.layout.LaidArea.{LaidArea}
-use Rattle.asm_pool.specs.declared.layout.LaidStatement.{LaidStatement}
+use Rattle.asm_layout.specs.declared.laid.LaidArea.{LaidArea}
+use Rattle.asm_layout.specs.declared.laid.LaidStatement.{LaidStatement}
 use Rattle.asm_units.specs.Literals.{literal_in}
 use Rattle.asm_model.specs.Before.{areas_behind}
 use Rattle.asm_model.specs.Extents.{Extent, Pool, extent_of}
@@ -21,43 +21,41 @@ use Rattle.asm_names.specs.Lines.{Sees}
 use Rattle.asm_layout.specs.Layout.{AreAreas}
 use Rattle.asm_layout.specs.Lines.{IsLineOf}
 use Rattle.asm_model.specs.Laid.{LaidLine, laid, laid_of, laid_behind, map_behind, taken, pieces_of, reversed, statements_of}
-use Rattle.asm_model.specs.LayoutKinds.{layout_kinds, fault_kinds, map_kinds, no_area_kinds, contents_kinds, contents_behind, area_kinds, name_kinds, settled_kinds, kind_if, area_bytes, settled, equals_in}
+use Rattle.asm_model.specs.LayoutKinds.{layout_kinds, fault_kinds, map_kinds, no_area_kinds, contents_kinds, contents_behind, area_kinds, name_kinds, first_equal, settled_kinds, state_kinds, kind_if, area_bytes, settled, equals_in}
 use Rattle.asm_model.specs.OffsetLaws.{joined}
 use Rattle.asm_model.specs.Offsets.{Piece, start_in}
 use Rattle.armasm_core.specs.Loaded as own
 use Rattle.armasm_core.specs.declared.whole.Whole.{Whole}
 use Rattle.armasm_core.proofs.LiteralLemmas.{IsPlaced, free_there, literal_there}
-use Rattle.armasm_core.proofs.SplitLemmas.{IsBehind, behind_there, none_there}
-use Rattle.source_laws.proofs.WithinLemmas.{IsWithin, area_within}
-use Rattle.armasm_core.proofs.WithinLemmas.{areas_fewer}
+use Rattle.armasm_core.proofs.SplitLemmas.{IsBehind, behind_there, split_there, none_there}
+use Rattle.source_laws.proofs.WithinLemmas.{IsWithin, line_within}
 use Rattle.armasm_core.specs.Listing.{StandsThere}
 use Rattle.asm_areas.proofs.LateLemmas.{joined_pieces}
-use Rattle.asm_model.proofs.OffsetLemmas.{through as low_of}
 
 -- ---- outside areas
 
-third_empty : (a b c d e f g h : List LineKind) → a ++ b ++ c ++ d ++ e ++ f ++ g ++ h ≡ [] → c ≡ []
-third_empty a b c d e f g h none =
-    let r = both_empty (a ++ b ++ c ++ d ++ e ++ f ++ g) h none in
+third_empty : (a b c d e f g h i : List LineKind) → a ++ b ++ c ++ d ++ e ++ f ++ g ++ h ++ i ≡ [] → c ≡ []
+third_empty a b c d e f g h i none =
+    let s = both_empty (a ++ b ++ c ++ d ++ e ++ f ++ g ++ h) i none in
+    let r = both_empty (a ++ b ++ c ++ d ++ e ++ f ++ g) h s.0 in
     let q = both_empty (a ++ b ++ c ++ d ++ e ++ f) g r.0 in
     let p = both_empty (a ++ b ++ c ++ d ++ e) f q.0 in
     let o = both_empty (a ++ b ++ c ++ d) e p.0 in
     let n = both_empty (a ++ b ++ c) d o.0 in
     (both_empty (a ++ b) c n.0).1
 
-pub has_area : (fixed : List (List ℕ)) (l : LaidLine) (before : List LaidLine) → layout_kinds fixed l before ≡ [] → no_area_kinds l.area (defined_by l.statement) l.statement.what ≡ []
-has_area fixed l before e =
+pub has_area : (fixed : List (List ℕ)) (all : List Statement) (l : LaidLine) (before : List LaidLine) → layout_kinds fixed all l before ≡ []
+    → no_area_kinds l.area (defined_by l.statement) l.statement.what ≡ []
+has_area fixed all l before e =
     third_empty (fault_kinds l.extent) (map_kinds l.seen l.statement.what) (no_area_kinds l.area (defined_by l.statement) l.statement.what)
     (contents_kinds (contents_behind (l.statement ∷ statements_of before)) l.thumb l.statement.what) (area_kinds l.seen l.statement.what before)
-    (name_kinds l.statement (statements_of before)) (settled_kinds fixed (defined_by l.statement)) (kind_if (nat_lt area_bytes (l.offset + l.size)) TooMany) e
+    (name_kinds l.statement (statements_of before)) (settled_kinds fixed (first_equal (defined_by l.statement) (statements_of before))) (state_kinds l.area l.thumb l.statement.what all)
+    (kind_if (nat_lt area_bytes (l.offset + l.size)) TooMany) e
 
 pub extent_is : (d : List LaidName) (l : LaidLine) (before : List LaidLine) → IsBehind d l before → l.extent ≡ extent_of l.seen l.statement.what
 extent_is d l before b = subst (λ (k : LaidLine). k.extent ≡ extent_of k.seen k.statement.what) (sym b.line) refl
 
 -- ---- inside
-
-pub area_is : (d : List LaidName) (l : LaidLine) (before : List LaidLine) → IsBehind d l before → l.line.area ≡ l.area
-area_is d l before b = subst (λ (k : LaidLine). k.line.area ≡ k.area) (sym b.line) refl
 
 same_low : (m n : ℕ) → m ≡ n → n ≤ m
 same_low m n e = omega arith
@@ -68,16 +66,7 @@ areas_low statements areas h = same_low (length areas) (length (areas_behind (st
 pub within_there : (statements : List Statement) (areas : List LaidArea) (w : Whole) (before rest : List LaidLine) (l : LaidLine) (x : LaidStatement)
     → StandsThere statements areas w before rest l x → IsWithin (length areas) l.area
 within_there statements areas w before rest l x h =
-    let d = declared_names statements in
-    let n = length areas in
-    let b = behind_there d statements rest l before h.said h.parts in
-    let same : l ∷ before ≡ laid_behind d b.s (laid_of d b.ss) ∷ laid_of d b.ss =
-    ap (λ (k : LaidLine). k ∷ before) b.line ∙ ap (λ (ls : List LaidLine). laid_behind d b.s (laid_of d b.ss) ∷ ls) b.behind in
-    let low : length (areas_behind (statements_of (l ∷ before))) ≤ n =
-    low_of (length (areas_behind (statements_of (l ∷ before)))) (length (areas_behind (statements_of (reversed rest (l ∷ before))))) n (areas_fewer rest (l ∷ before))
-    (subst (λ (ls : List LaidLine). length (areas_behind (statements_of ls)) ≤ n) h.parts (areas_low statements areas h.laid_out)) in
-    subst (λ (k : LaidLine). IsWithin n k.area) (sym b.line)
-    (area_within n (b.s ∷ statements_of (laid_of d b.ss)) (subst (λ (ls : List LaidLine). length (areas_behind (statements_of ls)) ≤ n) same low))
+    line_within statements (length areas) (reversed rest []) before l (areas_low statements areas h.laid_out) (split_there (laid statements) rest l before h.parts)
 
 -- ---- what the line's expressions see
 
@@ -109,7 +98,7 @@ loaded pools statements areas w before rest l x h = by_area l.area refl
         let b = behind_there (declared_names statements) statements rest l before h.said h.parts in
         let laying = (none_there statements rest l before h.sound h.parts).laying in
         let here : no_area_kinds None (defined_by l.statement) l.statement.what ≡ [] =
-        subst (λ (o : Option ℕ). no_area_kinds o (defined_by l.statement) l.statement.what ≡ []) e (has_area (settled (equals_in statements)) l before laying) in
+        subst (λ (o : Option ℕ). no_area_kinds o (defined_by l.statement) l.statement.what ≡ []) e (has_area (settled (equals_in statements)) statements l before laying) in
         ap (λ (r : Result Extent LineKind). literal_in (taken r)) (extent_is (declared_names statements) l before b)
         ∙ free_there l.seen l.statement.what (defined_by l.statement) here
         ∙ sym (ap (λ (a : Option ℕ). own.literal_in areas a x.literal) (h.line.area ∙ e))

@@ -1,6 +1,6 @@
 -- The statements of a layout, from the first on.
 use Rattle.std.proofs.Common.{◌≡◌, List, [], ◌∷◌, ◌++◌, refl, sym, ap, subst, append-nil}
-use Rattle.asm_pool.specs.declared.layout.LaidStatement.{LaidStatement}
+use Rattle.asm_layout.specs.declared.laid.LaidStatement.{LaidStatement}
 use Rattle.asm_model.specs.Laid.{LaidLine, reversed}
 use Rattle.asm_layout.specs.Layout.{IsStatement, AreStatements}
 use Rattle.asm_layout.specs.Late.{AreOn}

@@ -10,16 +10,16 @@ use Rattle.armasm_core.specs.Drafts.{AreRelocs, HoldsPieces, IsDraft}
 use Rattle.armasm_core.specs.Relocations.{relocs_in}
 use Rattle.asm_layout.specs.Layout.{AreAreas}
 use Rattle.asm_model.specs.declared.statements.Statement.{Statement}
-use Rattle.asm_pool.specs.declared.layout.LaidArea.{LaidArea}
+use Rattle.asm_layout.specs.declared.laid.LaidArea.{LaidArea}
 use Rattle.asm_model.specs.Before.{areas_behind}
 use Rattle.asm_model.specs.Labels.{declared_names}
+use Rattle.asm_model.specs.LayoutKinds.{is_thumb_area}
 use Rattle.asm_model.specs.Laid.{final_names, laid, pieces_of}
 use Rattle.asm_model.specs.Offsets.{area_size}
 use Rattle.asm_model.specs.Symbols.{symbols_of}
-use Rattle.asm_model.specs.Meaning.{named_in}
 use Rattle.object_laws.proofs.RelocLemmas.{length_map}
 use Rattle.layout_laws.proofs.SoundLemmas.{statements_kept}
-use Rattle.source_model.specs.Objects.{Piece, source_of, things_in, KeepsBytes, HasRelocs, IsRelocOf, IsArea, contents_of, is_kept, relocs_of, symbol_named, symbol_records}
+use Rattle.source_model.specs.Objects.{Piece, source_of, things_in, attributes_of, KeepsBytes, HasRelocs, IsRelocOf, IsArea, contents_of, is_kept, relocs_of, symbol_named, symbol_records}
 use Rattle.source_model.specs.SourceFaults.{layout_faults}
 use Rattle.armasm_core.specs.declared.drafting.Growing.{Growing}
 use Rattle.armasm_core.specs.Drafting.{AreDrafts, Frame, IsFinished, frame, frame_of, frames, kept_size, marks_zeroes}
@@ -110,7 +110,8 @@ area_there ss names xs area a g x sound laid_areas listed at same draft done =
     let kept : length a.bytes ≡ kept_size x.attributes x.size = done.kept ∙ ap (λ (f : Frame). f.kept) same in
     record {
       name = ap (λ (ss : List Statement). slice_get (areas_behind ss) area) (sym (statements_kept (declared_names ss) ss)) ∙ i.name ∙ ap Some (sym name);
-      attributes = i.attributes ∙ ap Some (sym attributes);
+      attributes = ap (λ (ss' : List Statement). attributes_of area (is_thumb_area area ss') (laid ss)) (sym (statements_kept (declared_names ss) ss)) ∙ i.attributes
+          ∙ ap Some (sym attributes);
       size = size ∙ i.size;
       bytes = keeps_there ss area x.attributes x.size a.bytes (marks_zeroes x.attributes) refl (zeroes_there ss sound area x.attributes i.attributes) i.size kept
           (done.held names (things_in (source_of ss) area) draft);
@@ -137,5 +138,5 @@ pub few_there : (ss : List Statement) (names : List (List ℕ)) (records : List 
 few_there ss names records listed same few =
     subst (λ (n : ℕ). n < 2 ^ 24)
     (ap length same
-    ∙ length_map (λ (name : List ℕ). symbol_named (source_of ss) name (named_in name (source_of ss).names)) (symbols_of (final_names (laid ss)) (laid ss))
+    ∙ length_map (symbol_named (source_of ss)) (symbols_of (final_names (laid ss)) (laid ss))
     ∙ sym (ap length listed)) few

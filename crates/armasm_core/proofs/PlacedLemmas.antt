@@ -3,7 +3,7 @@ use Rattle.std.proofs.Common.{◌≡◌, ◌^◌, ◌<◌, ◌≤◌, List, leng
 use Rattle.std.specs.Prelude.{Result, Ok, Err, IfOk}
 use Rattle.sdt_fault.specs.declared.answer.Fault.{Fault}
 use Rattle.asm_layout.specs.Layout.{IsLayout}
-use Rattle.asm_pool.specs.declared.layout.Layout.{Layout}
+use Rattle.asm_layout.specs.declared.laid.Layout.{Layout}
 use Rattle.armasm_core.specs.Emission.{HasSource}
 use Rattle.armasm_core.specs.Emitted.{IsEmitted}
 use Rattle.aof_object.specs.declared.records.Object.{Object}

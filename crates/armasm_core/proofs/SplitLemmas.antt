@@ -1,7 +1,7 @@
 -- A line among those of a source, and that it has no fault of its own.
 use Rattle.std.proofs.Common.{◌≡◌, ℕ, List, [], ◌∷◌, ◌++◌, None, refl, sym, ap, ◌∙◌, subst}
 use Rattle.sdt_fault.specs.declared.kinds.LineKind.{LineKind}
-use Rattle.asm_model.proofs.LineLemmas.{both_empty}
+use Rattle.layout_laws.proofs.SoundLemmas.{both_empty}
 use Rattle.asm_model.specs.declared.statements.Statement.{Statement}
 use Rattle.asm_model.specs.Directives.{or_else}
 use Rattle.asm_model.specs.Kinds.{told_kind}
@@ -49,43 +49,35 @@ split_there all rest l before e = e ∙ turned rest (l ∷ before)
 
 -- ---- a line has no fault of its own
 
-first_before : (names fixed : List (List ℕ)) (rest before : List LaidLine) → first_laid names fixed (reversed rest before) ≡ None → first_laid names fixed before ≡ None
-first_before names fixed [] before e = e
-first_before names fixed (l ∷ rest) before e =
-    let h = first_before names fixed rest (l ∷ before) e in
-    (or_none (first_laid names fixed before) (told_at l.statement (told_kind (layout_kinds fixed l before ++ register_kinds names l before))) h).0
+first_before : (names fixed : List (List ℕ)) (all : List Statement) (rest before : List LaidLine) → first_laid names fixed all (reversed rest before) ≡ None
+    → first_laid names fixed all before ≡ None
+first_before names fixed all [] before e = e
+first_before names fixed all (l ∷ rest) before e =
+    let h = first_before names fixed all rest (l ∷ before) e in
+    (or_none (first_laid names fixed all before) (told_at l.statement (told_kind (layout_kinds fixed all l before ++ register_kinds names l before))) h).0
 
 pub record HasNone (statements : List Statement) (l : LaidLine) (before : List LaidLine) : Type 0 where
-  pub laying : layout_kinds (settled (equals_in statements)) l before ≡ []
+  pub laying : layout_kinds (settled (equals_in statements)) statements l before ≡ []
   pub registers : register_kinds (register_names statements) l before ≡ []
 
-own_none : (names fixed : List (List ℕ)) (l : LaidLine) (before : List LaidLine) → first_laid names fixed (l ∷ before) ≡ None
-    → (layout_kinds fixed l before ≡ []) × (register_kinds names l before ≡ [])
-own_none names fixed l before e =
-    both_empty (layout_kinds fixed l before) (register_kinds names l before)
-    (told_none l.statement (layout_kinds fixed l before ++ register_kinds names l before)
-    (or_none (first_laid names fixed before) (told_at l.statement (told_kind (layout_kinds fixed l before ++ register_kinds names l before))) e).1)
+own_none : (names fixed : List (List ℕ)) (all : List Statement) (l : LaidLine) (before : List LaidLine) → first_laid names fixed all (l ∷ before) ≡ None
+    → (layout_kinds fixed all l before ≡ []) × (register_kinds names l before ≡ [])
+own_none names fixed all l before e =
+    let kinds = layout_kinds fixed all l before ++ register_kinds names l before in
+    both_empty (layout_kinds fixed all l before) (register_kinds names l before)
+    (told_none l.statement kinds (or_none (first_laid names fixed all before) (told_at l.statement (told_kind kinds)) e).1)
 
-first_none : (statements : List Statement) → layout_faults statements ≡ None → first_laid (register_names statements) (settled (equals_in statements)) (laid statements) ≡ None
+first_none : (statements : List Statement) → layout_faults statements ≡ None
+    → first_laid (register_names statements) (settled (equals_in statements)) statements (laid statements) ≡ None
 first_none statements e =
-    (or_none (first_laid (register_names statements) (settled (equals_in statements)) (laid statements)) (first_late (laid statements) [] (reversed (laid statements) [])) e).0
+    (or_none (first_laid (register_names statements) (settled (equals_in statements)) statements (laid statements))
+    (first_late (laid statements) [] (reversed (laid statements) [])) e).0
 
 pub none_there : (statements : List Statement) (rest : List LaidLine) (l : LaidLine) (before : List LaidLine) → layout_faults statements ≡ None
     → laid statements ≡ reversed rest (l ∷ before) → HasNone statements l before
 none_there statements rest l before e parts =
     let names = register_names statements in
     let fixed = settled (equals_in statements) in
-    let whole = subst (λ (ls : List LaidLine). first_laid names fixed ls ≡ None) parts (first_none statements e) in
-    let r = own_none names fixed l before (first_before names fixed rest (l ∷ before) whole) in
+    let whole = subst (λ (ls : List LaidLine). first_laid names fixed statements ls ≡ None) parts (first_none statements e) in
+    let r = own_none names fixed statements l before (first_before names fixed statements rest (l ∷ before) whole) in
     record { laying = r.0; registers = r.1 }
-
-lines_sound : (names fixed : List (List ℕ)) (ls : List LaidLine) → first_laid names fixed ls ≡ None → first_fault fixed ls ≡ None
-lines_sound names fixed [] e = refl
-lines_sound names fixed (l ∷ before) e =
-    let own = (own_none names fixed l before e).0 in
-    let rest = lines_sound names fixed before
-    (or_none (first_laid names fixed before) (told_at l.statement (told_kind (layout_kinds fixed l before ++ register_kinds names l before))) e).0 in
-    ap (λ (ks : List LineKind). or_else (first_fault fixed before) (told_at l.statement (told_kind ks))) own ∙ ap (λ o. or_else o None) rest
-
-pub is_sound : (statements : List Statement) → layout_faults statements ≡ None → IsSound statements
-is_sound statements e = lines_sound (register_names statements) (settled (equals_in statements)) (laid statements) (first_none statements e)

@@ -1,8 +1,8 @@
 -- What a line puts into its area can stand there.
 use Rattle.std.proofs.Common.{◌≡◌, inl, inr, ⊎_elim, ◌≤◌, ◌<◌, ◌+◌, ◌-◌, ◌^◌, ℕ, zero, suc, List, [], ◌∷◌, length, map, take, drop, get_or, Bool, true, false, cond, Option, Some, None, refl, sym, ap, ◌∙◌, subst, arith}
 use Rattle.std.specs.Prelude.{not}
-use Rattle.std.specs.BTreeMap.{BTreeMap}
 use Rattle.std.specs.List.{slice_get}
+use Rattle.source_model.specs.Registers.{Named}
 use Rattle.armasm_core.specs.Writing.{AllCanStand, CanStand, HasNumber, HasWord, SymbolHasNumber, TargetHasNumber}
 use Rattle.asm_units.specs.declared.emitted.LineUnits.{LineUnits}
 use Rattle.asm_units.specs.declared.emitted.LiteralWord.{LiteralWord}
@@ -15,9 +15,9 @@ use Rattle.asm_layout.specs.Layout.{IsArea}
 use Rattle.asm_model.specs.declared.directives.Contents.{Contents}
 use Rattle.asm_model.specs.declared.directives.Contents.TheVariants as contents
 use Rattle.asm_model.specs.declared.statements.Statement.{Statement}
-use Rattle.asm_pool.specs.declared.layout.LaidArea.{LaidArea}
-use Rattle.asm_pool.specs.declared.layout.LaidStatement.{LaidStatement}
-use Rattle.asm_pool.specs.declared.layout.Layout.{Layout}
+use Rattle.asm_layout.specs.declared.laid.LaidArea.{LaidArea}
+use Rattle.asm_layout.specs.declared.laid.LaidStatement.{LaidStatement}
+use Rattle.asm_layout.specs.declared.laid.Layout.{Layout}
 use Rattle.asm_units.specs.declared.emitted.Emitted.{Emitted as Code}
 use Rattle.asm_units.specs.Emitting.{emitted_of}
 use Rattle.asm_model.specs.Before.{areas_behind}
@@ -25,6 +25,7 @@ use Rattle.asm_model.specs.Laid.{LaidLine, laid}
 use Rattle.asm_model.specs.Symbols.{symbols_of}
 use Rattle.asm_model.specs.Forms.{same}
 use Rattle.object_laws.specs.Laws.{OptionListed, TargetListed, UnitListed}
+use Rattle.object_laws.proofs.EachLemmas.{areas_kept}
 use Rattle.object_laws.proofs.RelocLemmas.{TargetBelow, UnitBelow, things_below}
 use Rattle.object_laws.proofs.SizeLemmas.{area_small}
 use Rattle.object_laws.proofs.TargetLemmas.{symbols_are_listed}
@@ -93,7 +94,7 @@ thing_number : (l : Layout) (h : HasSource l) (names : List (List ℕ)) → name
 thing_number l h names listed area p x =
     let ss = h.statements in
     unit_number names (length (areas_behind ss)) p.1 (below (length (areas_behind ss)) (length ss) (areas_few ss) h.few)
-    (subst (λ (ns : List (List ℕ)). UnitListed ns p.1) (sym listed) (symbols_are_listed ss h.sound area p x)) (things_below ss h.said h.texts h.fit h.sound area p x)
+    (subst (λ (ns : List (List ℕ)). UnitListed ns p.1) (sym listed) (symbols_are_listed ss h.sound area p x)) (things_below ss (length (areas_behind ss)) (areas_kept ss) area p x)
 
 -- ---- room
 
@@ -166,7 +167,7 @@ emittable l w names h =
     let s = h.source in record { layout = s.layout; said = s.said; sound = s.sound; states = s.states; whole = h.whole }
 
 -- of the lines that are left the first can stand
-pub next_stands : (l : Layout) (w : Whole) (names : List (List ℕ)) (x : LaidStatement) (left : List LaidStatement) (known : BTreeMap (List ℕ) ℕ) (gs : List Growing)
+pub next_stands : (l : Layout) (w : Whole) (names : List (List ℕ)) (x : LaidStatement) (left : List LaidStatement) (known : List Named) (gs : List Growing)
     → 1 ≤ length left → x ≡ get_or left 0 x → (g : GrowsOn l w names left known gs) → frames gs ≡ map frame_of l.areas → (u : LineUnits) (us : List Code) → us ≡ u.units.items
     → ((before rest : List LaidLine) (line : LaidLine) → IsHere g.source.source.statements l.areas w known before rest line x → IsPut g.source.source.statements before rest line u)
     → LineCanStand names (frames gs) x.area (pieces_put x.offset us u.literal)

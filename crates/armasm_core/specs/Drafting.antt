@@ -6,7 +6,7 @@ use Rattle.armasm_core.specs.Drafts.{AreRelocs, HoldsPieces, IsDraft, MeetNone}
 use Rattle.armasm_core.specs.Writing.{AllCanStand}
 use Rattle.asm_units.specs.declared.emitted.LiteralWord.{LiteralWord}
 use Rattle.asm_units.specs.Passing.{word_piece}
-use Rattle.asm_pool.specs.declared.layout.LaidArea.{LaidArea}
+use Rattle.asm_layout.specs.declared.laid.LaidArea.{LaidArea}
 use Rattle.asm_units.specs.declared.emitted.Emitted.{Emitted as Code}
 use Rattle.asm_units.specs.Emitting.{emitted_of}
 use Rattle.asm_model.specs.Offsets.{is_of}

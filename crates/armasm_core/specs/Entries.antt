@@ -2,7 +2,7 @@
 use Rattle.std.specs.Prelude.{List, [], ◌∷◌, Option, None}
 use Rattle.aof_object.specs.declared.records.Entry.{Entry}
 use Rattle.asm_model.specs.Directives.{or_else}
-use Rattle.asm_pool.specs.declared.layout.LaidStatement.{LaidStatement}
+use Rattle.asm_layout.specs.declared.laid.LaidStatement.{LaidStatement}
 use Rattle.asm_model.specs.LayoutKinds.{is_entry}
 use Rattle.source_model.specs.Objects.{entry_by}
 

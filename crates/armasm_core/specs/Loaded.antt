@@ -2,7 +2,7 @@
 use Rattle.std.specs.Prelude.{ℕ, List, Option, Some, None}
 use Rattle.std.specs.List.{slice_get}
 use Rattle.asm_model.specs.declared.values.Value.{Value}
-use Rattle.asm_pool.specs.declared.layout.LaidArea.{LaidArea}
+use Rattle.asm_layout.specs.declared.laid.LaidArea.{LaidArea}
 use Rattle.asm_pool.specs.Pooled.{place_of, literals_of}
 
 abbrev pub word_at : Option LaidArea → ℕ → Option ℕ

@@ -7,7 +7,7 @@ use Rattle.aof_object.specs.declared.records.Object.{Object}
 use Rattle.asm_layout.specs.Layout.{IsLayout}
 use Rattle.asm_model.specs.declared.lines.Flat.{Flat}
 use Rattle.asm_model.specs.declared.statements.Statement.{Statement}
-use Rattle.asm_pool.specs.declared.layout.Layout.{Layout}
+use Rattle.asm_layout.specs.declared.laid.Layout.{Layout}
 use Rattle.asm_reading.specs.declared.reading.Reading.{Reading}
 use Rattle.asm_reading.specs.declared.reading.Unread.{Unread}
 use Rattle.source_model.specs.Objects.{IsObject}

@@ -13,7 +13,7 @@ ghost use Rattle.armasm_core.specs.Drafting.{AreDrafts, IsFinished, LineCanStand
 
 use crate::Draft;
 use aof_object::Area;
-use asm_pool::{LaidArea, LaidStatement};
+use asm_layout::{LaidArea, LaidStatement};
 use asm_units::{Emitted, LiteralWord, Stored, Symbols};
 use sdt_fault::{List, NoMemory, Text};
 use std::alloc::Global;

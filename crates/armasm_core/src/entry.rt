@@ -9,8 +9,8 @@ ghost use Rattle.source_model.specs.Objects as objects;
 ghost use Rattle.armasm_core.specs.Entries.{entry_at, first_entry as first_of};
 
 use aof_object::Entry;
+use asm_layout::{LaidStatement, Layout};
 use asm_model::{DirectiveLine, What};
-use asm_pool::{LaidStatement, Layout};
 
 fn is_entry(what: &What) -> bool
     ensures { result ≡ says_entry what.now }

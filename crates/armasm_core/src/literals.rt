@@ -4,8 +4,8 @@ ghost use Rattle.std.specs.Prelude.{◌≡◌};
 ghost use Rattle.std.specs.Option.{option_copied};
 ghost use Rattle.armasm_core.specs.Loaded.{word_in, literal_in};
 
+use asm_layout::LaidArea;
 use asm_model::Value;
-use asm_pool::LaidArea;
 
 /// The offset of a literal's word, by the number of its entry.
 pub fn word_of(areas: &[LaidArea], area: Option<u32>, entry: Option<u32>) -> Option<u32>

@@ -7,8 +7,7 @@ ghost use Rattle.armasm_core.specs.Assembling as assembling;
 ghost use Rattle.armasm_core.specs.Passes.{IsToldAs, LaysLines, LaysOut};
 
 use crate::area::{area_missing, area_missing_beside, has_area};
-use asm_layout::{front_fault, lay_out};
-use asm_pool::Layout;
+use asm_layout::{Layout, front_fault, lay_out};
 use asm_reading::{Reading, Unread};
 use sdt_fault::Text;
 use sdt_fault::answer::Fault;

@@ -1,5 +1,5 @@
 -- Faults that need the whole layout, by what is kept of areas.
-use Rattle.std.proofs.Common.{◌≡◌, ℕ, Bool, true, false, List, [], ◌∷◌, ◌++◌, Option, Some, None, refl, sym, ap, ◌∙◌}
+use Rattle.std.proofs.Common.{◌≡◌, ℕ, true, false, List, [], ◌∷◌, ◌++◌, Option, Some, None, refl, sym, ap, ◌∙◌}
 use Rattle.std.specs.Prelude.{◌&&◌}
 use Rattle.std.specs.List.{slice_get}
 use Rattle.sdt_fault.specs.declared.kinds.LineKind.{LineKind}
@@ -9,7 +9,7 @@ use Rattle.asm_model.specs.FaultSets.{first_told}
 use Rattle.asm_model.specs.Kinds.{told_kind}
 use Rattle.asm_model.specs.Extents.{Extent, Block, Padding, Loading, Pool}
 use Rattle.asm_model.specs.Laid.{LaidLine, taken, pieces_of, reversed}
-use Rattle.asm_model.specs.LayoutKinds.{kind_if, entry_kinds, literal_kinds, is_entry, is_thumb_area, first_state}
+use Rattle.asm_model.specs.LayoutKinds.{kind_if, entry_kinds, literal_kinds, is_entry}
 use Rattle.asm_model.specs.OffsetLaws.{joined}
 use Rattle.asm_model.specs.Offsets.{Piece, is_of, area_size, literal_word, start_in}
 use Rattle.asm_offsets.specs.declared.extents.LaidPools.{LaidPools}
@@ -18,9 +18,7 @@ use Rattle.asm_offsets.specs.Laws.{AllExtents, LiteralsArePlaced}
 use Rattle.asm_offsets.specs.Running.{entry_behind, entry_in, pools_behind, HasNone}
 use Rattle.asm_pool.specs.Pooled.{noted, flushed, place_of}
 use Rattle.asm_areas.specs.declared.late.Stand.{Stand}
-use Rattle.asm_areas.specs.declared.starts.AreaStart.{AreaStart}
-use Rattle.asm_areas.specs.Late.{AreWhole, IsStand, is_true, size_in, state_in, is_thumb_in, is_misplaced, is_wrong_entry, is_far}
-use Rattle.asm_areas.specs.Starts.{IsStart}
+use Rattle.asm_areas.specs.Late.{AreWhole, IsStand, size_in, ends_before, is_wrong_entry, is_far}
 use Rattle.asm_areas.proofs.StartLemmas.{self}
 use Rattle.asm_model.proofs.SharedLemmas.{told_of_two}
 
@@ -51,29 +49,21 @@ has_laid all before rest l area None parts at h =
 
 -- ---- an ENTRY
 
-state_is : (all : List LaidLine) (area : ℕ) (o : Option AreaStart) → IsStart all area o → is_thumb_area area all ≡ state_in o
-state_is all area None h = rw h.1 refl
-state_is all area (Some s) h = by_state s.state h.1
-  where
-    by_state : (b : Option Bool) → first_state area all ≡ b → is_thumb_area area all ≡ is_true b
-    by_state None e = rw e refl
-    by_state (Some b) e = rw e refl
-
-pub entry_is : (all before rest : List LaidLine) (l : LaidLine) (w : What) (x : Stand) (pools : List LaidPools) (starts : List AreaStart) (area : ℕ)
-    → AreWhole all pools starts → IsStand all before rest l w x → x.area ≡ Some area
-    → entry_kinds l.area l all ≡ kind_if (is_wrong_entry w area x.offset x.thumb pools starts) BadOperand
-entry_is all before rest l w x pools starts area h i at =
+pub entry_is : (all before rest : List LaidLine) (l : LaidLine) (w : What) (x : Stand) (pools : List LaidPools) (area : ℕ)
+    → AreWhole all pools → IsStand all before rest l w x → x.area ≡ Some area
+    → entry_kinds l.area l all ≡ kind_if (is_wrong_entry w area x.offset pools) BadOperand
+entry_is all before rest l w x pools area h i at =
     let here : l.area ≡ Some area = sym i.stands ∙ at in
     let laid = has_laid all before rest l area (slice_get pools area) i.parts here (h.laid.each area) in
     let size : size_in pools area ≡ Some (area_size area (pieces_of all)) = rw laid.1 (ap Some laid.2.size) in
-    rw (here, i.said, sym i.start, sym i.state, state_is all area (slice_get starts area) (h.begun.each area)) (ap (λ (o : Option ℕ). kind_if (is_entry w && is_misplaced o x.offset (is_thumb_in starts area) x.thumb) BadOperand) (sym size))
+    rw (here, i.said, sym i.start) (ap (λ (o : Option ℕ). kind_if (is_entry w && ends_before o x.offset) BadOperand) (sym size))
 
 -- ---- a literal
 
-pub literal_is : LiteralsArePlaced → (all before rest : List LaidLine) (l : LaidLine) (w : What) (x : Stand) (pools : List LaidPools) (starts : List AreaStart) (area : ℕ)
-    → AreWhole all pools starts → IsStand all before rest l w x → x.area ≡ Some area
+pub literal_is : LiteralsArePlaced → (all before rest : List LaidLine) (l : LaidLine) (w : What) (x : Stand) (pools : List LaidPools) (area : ℕ)
+    → AreWhole all pools → IsStand all before rest l w x → x.area ≡ Some area
     → literal_kinds l.area (taken l.extent) (pieces_of (l ∷ before)) (pieces_of rest) ≡ kind_if (is_far pools area x.literal) TooMany
-literal_is law all before rest l w x pools starts area h i at =
+literal_is law all before rest l w x pools area h i at =
     let here : l.area ≡ Some area = sym i.stands ∙ at in
     let laid = has_laid all before rest l area (slice_get pools area) i.parts here (h.laid.each area) in
     let extents : AllExtents (pieces_of (reversed rest (l ∷ before))) = rw i.parts at h.extents in
@@ -99,10 +89,10 @@ literal_is law all before rest l w x pools starts area h i at =
 
 -- ---- both
 
-pub late_is : LiteralsArePlaced → (all before rest : List LaidLine) (l : LaidLine) (w : What) (x : Stand) (pools : List LaidPools) (starts : List AreaStart) (area : ℕ) (a b : Option LineKind)
-    → a ≡ told_kind (kind_if (is_wrong_entry w area x.offset x.thumb pools starts) BadOperand) → b ≡ told_kind (kind_if (is_far pools area x.literal) TooMany)
-    → AreWhole all pools starts → IsStand all before rest l w x → x.area ≡ Some area
+pub late_is : LiteralsArePlaced → (all before rest : List LaidLine) (l : LaidLine) (w : What) (x : Stand) (pools : List LaidPools) (area : ℕ) (a b : Option LineKind)
+    → a ≡ told_kind (kind_if (is_wrong_entry w area x.offset pools) BadOperand) → b ≡ told_kind (kind_if (is_far pools area x.literal) TooMany)
+    → AreWhole all pools → IsStand all before rest l w x → x.area ≡ Some area
     → first_told a b ≡ told_kind (entry_kinds l.area l all ++ literal_kinds l.area (taken l.extent) (pieces_of (l ∷ before)) (pieces_of rest))
-late_is law all before rest l w x pools starts area a b e f h i at =
-    rw (entry_is all before rest l w x pools starts area h i at, literal_is law all before rest l w x pools starts area h i at)
-    (told_of_two a b (kind_if (is_wrong_entry w area x.offset x.thumb pools starts) BadOperand) (kind_if (is_far pools area x.literal) TooMany) e f)
+late_is law all before rest l w x pools area a b e f h i at =
+    rw (entry_is all before rest l w x pools area h i at, literal_is law all before rest l w x pools area h i at)
+    (told_of_two a b (kind_if (is_wrong_entry w area x.offset pools) BadOperand) (kind_if (is_far pools area x.literal) TooMany) e f)

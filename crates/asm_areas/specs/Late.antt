@@ -1,25 +1,22 @@
 -- Faults that need the whole layout, by what is kept of a source's areas. Lines are listed with the nearest first, those
 -- behind a line in the order of the source. SDT 2.50 Reference Guide, chapter on the assembler; the kinds are this project's.
-use Rattle.std.specs.Prelude.{◌≡◌, ℕ, ◌+◌, ◌&&◌, ◌||◌, not, nat_lt, List, ◌∷◌, slice_get, Bool, false, Option, Some, None}
+use Rattle.std.specs.Prelude.{◌≡◌, ℕ, ◌+◌, ◌&&◌, not, nat_lt, List, ◌∷◌, slice_get, Bool, false, Option, Some, None}
 use Rattle.std.specs.Option.{option_map}
 use Rattle.asm_model.specs.declared.statements.What.{What}
 use Rattle.asm_model.specs.Laid.{LaidLine, taken, pieces_of, reversed}
-use Rattle.asm_model.specs.LayoutKinds.{is_entry, same_mark, area_bytes}
+use Rattle.asm_model.specs.LayoutKinds.{is_entry, area_bytes}
 use Rattle.asm_offsets.specs.declared.extents.LaidPools.{LaidPools}
 use Rattle.asm_offsets.specs.Finished.{AreLaid}
 use Rattle.asm_offsets.specs.Laws.{AllExtents}
 use Rattle.asm_offsets.specs.Running.{entry_behind}
 use Rattle.asm_pool.specs.Pooled.{place_of}
 use Rattle.asm_areas.specs.declared.late.Stand.{Stand}
-use Rattle.asm_areas.specs.declared.starts.AreaStart.{AreaStart}
-use Rattle.asm_areas.specs.Starts.{AreStarts}
 
 -- ---- a source and its lines
 
--- areas are laid out and begun as all lines say
-pub record AreWhole (all : List LaidLine) (pools : List LaidPools) (starts : List AreaStart) : Type 0 where
+-- areas are laid out as all lines say
+pub record AreWhole (all : List LaidLine) (pools : List LaidPools) : Type 0 where
   pub laid : AreLaid (pieces_of all) pools
-  pub begun : AreStarts all starts
   pub extents : AllExtents (pieces_of all)
 
 -- a line among all, behind those before it
@@ -28,7 +25,6 @@ pub record IsStand (all before rest : List LaidLine) (l : LaidLine) (w : What) (
   pub said : l.statement.what ≡ w
   pub stands : x.area ≡ l.area
   pub start : x.offset ≡ l.offset
-  pub state : x.thumb ≡ l.thumb
   pub entry : x.literal ≡ entry_behind l.area (pieces_of before) (taken l.extent)
 
 -- ---- what is asked of the areas
@@ -36,23 +32,12 @@ pub record IsStand (all before rest : List LaidLine) (l : LaidLine) (w : What) (
 abbrev pub size_in : List LaidPools → ℕ → Option ℕ
 size_in pools area = option_map (λ (l : LaidPools). l.size) (slice_get pools area)
 
-abbrev pub is_true : Option Bool → Bool
-is_true None = false
-is_true (Some b) = b
+abbrev pub ends_before : Option ℕ → ℕ → Bool
+ends_before None offset = false
+ends_before (Some size) offset = not (nat_lt offset size)
 
-abbrev pub state_in : Option AreaStart → Bool
-state_in None = false
-state_in (Some s) = is_true s.state
-
-abbrev pub is_thumb_in : List AreaStart → ℕ → Bool
-is_thumb_in starts area = state_in (slice_get starts area)
-
-abbrev pub is_misplaced : Option ℕ → ℕ → Bool → Bool → Bool
-is_misplaced None offset thumb_area thumb = false
-is_misplaced (Some size) offset thumb_area thumb = not (nat_lt offset size) || not (same_mark thumb thumb_area)
-
-abbrev pub is_wrong_entry : What → ℕ → ℕ → Bool → List LaidPools → List AreaStart → Bool
-is_wrong_entry w area offset thumb pools starts = is_entry w && is_misplaced (size_in pools area) offset (is_thumb_in starts area) thumb
+abbrev pub is_wrong_entry : What → ℕ → ℕ → List LaidPools → Bool
+is_wrong_entry w area offset pools = is_entry w && ends_before (size_in pools area) offset
 
 abbrev pub place_in : ℕ → Option LaidPools → Option ℕ
 place_in literal None = None

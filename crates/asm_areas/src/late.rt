@@ -1,4 +1,4 @@
-//! Faults that need the whole layout: an ENTRY in the wrong place or state, and literals whose words end too far.
+//! Faults that need the whole layout: an ENTRY in the wrong place, and literals whose words end too far.
 
 ghost use Rattle.std.specs.Prelude.{◌≡◌, ◌∷◌, ◌++◌, List};
 ghost use Rattle.asm_model.specs.Kinds.{told_kind};
@@ -6,7 +6,6 @@ ghost use Rattle.asm_model.specs.Laid.{pieces_of, reversed, taken, LaidLine};
 ghost use Rattle.asm_model.specs.LayoutKinds as layout;
 ghost use Rattle.asm_areas.specs.Late as late;
 
-use crate::starts::AreaStart;
 use asm_expr::told::{first_told, kind_if};
 use asm_model::{DirectiveLine, What};
 use asm_offsets::{LaidPools, literals_are_placed};
@@ -21,7 +20,6 @@ pub struct Stand {
     /// Its area, counted from 0; None before the first.
     pub area: Option<u32>,
     pub offset: u32,
-    pub thumb: bool,
     /// The number of its literal's entry in the pools of its area.
     pub literal: Option<u32>,
 }
@@ -45,45 +43,21 @@ fn size_of(pools: &[LaidPools], area: u32) -> Option<u32>
     }
 }
 
-/// Whether an area is one of Thumb code.
-fn is_thumb(starts: &[AreaStart], area: u32) -> bool
-    ensures { result ≡ late.is_thumb_in starts.now area }
-{
-    match starts.get(area as usize) {
-        None => false,
-        Some(start) => start.state == Some(true),
-    }
-}
-
-/// Whether an ENTRY stands behind its area's last byte, or in another state than the area's.
-fn is_misplaced(size: Option<u32>, offset: u32, thumb_area: bool, thumb: bool) -> bool
-    ensures { result ≡ late.is_misplaced size offset thumb_area thumb }
+/// Whether an area ends before an offset, or there.
+fn ends_before(size: Option<u32>, offset: u32) -> bool
+    ensures { result ≡ late.ends_before size offset }
 {
     match size {
         None => false,
-        Some(size) => {
-            if offset >= size {
-                return true;
-            }
-            thumb != thumb_area
-        }
+        Some(size) => offset >= size,
     }
 }
 
-fn is_wrong_entry(
-    what: &What,
-    area: u32,
-    offset: u32,
-    thumb: bool,
-    pools: &[LaidPools],
-    starts: &[AreaStart],
-) -> bool
-    ensures { result ≡ late.is_wrong_entry what.now area offset thumb pools.now starts.now }
+/// Whether a statement is an ENTRY behind its area's last byte.
+fn is_wrong_entry(what: &What, area: u32, offset: u32, pools: &[LaidPools]) -> bool
+    ensures { result ≡ late.is_wrong_entry what.now area offset pools.now }
 {
-    if !is_entry(what) {
-        return false;
-    }
-    is_misplaced(size_of(pools, area), offset, is_thumb(starts, area), thumb)
+    is_entry(what) && ends_before(size_of(pools, area), offset)
 }
 
 /// The offset of a literal's word.
@@ -115,20 +89,15 @@ fn ends_far(word: Option<u32>) -> bool
     }
 }
 
-/// The fault of a line that needs the whole layout, where the areas of the source were laid out and begun so.
-pub fn late_kind(
-    what: &What,
-    stand: Stand,
-    pools: &[LaidPools],
-    starts: &[AreaStart],
-) -> Option<LineKind>
-    ensures { (all before rest : List LaidLine) (l : LaidLine) → late.AreWhole all pools.now starts.now → late.IsStand all before rest l what.now stand → result ≡ told_kind (layout.entry_kinds l.area l all ++ layout.literal_kinds l.area (taken l.extent) (pieces_of (l ∷ before)) (pieces_of rest)) }
+/// The fault of a line that needs the whole layout, where the areas of the source were laid out so.
+pub fn late_kind(what: &What, stand: Stand, pools: &[LaidPools]) -> Option<LineKind>
+    ensures { (all before rest : List LaidLine) (l : LaidLine) → late.AreWhole all pools.now → late.IsStand all before rest l what.now stand → result ≡ told_kind (layout.entry_kinds l.area l all ++ layout.literal_kinds l.area (taken l.extent) (pieces_of (l ∷ before)) (pieces_of rest)) }
 {
     literals_are_placed();
     match stand.area {
         None => None,
         Some(area) => {
-            let entry = is_wrong_entry(what, area, stand.offset, stand.thumb, pools, starts);
+            let entry = is_wrong_entry(what, area, stand.offset, pools);
             let far = is_far(pools, area, stand.literal);
             first_told(
                 kind_if(entry, LineKind::BadOperand),

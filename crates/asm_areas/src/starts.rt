@@ -1,11 +1,11 @@
-//! The areas of a source by its lines so far: their names, their attributes, and the state of their first instruction.
+//! The areas of a source by its lines so far: their names and their attributes.
 
-ghost use Rattle.std.specs.Prelude.{◌≡◌, ◌≤◌, ◌++◌, ◌*◌, [], ◌∷◌, List, length, false, OnOk};
+ghost use Rattle.std.specs.Prelude.{◌≡◌, ◌≤◌, ◌++◌, ◌*◌, [], ◌∷◌, List, length, OnOk};
 ghost use Rattle.sdt_word.specs.Numbers.{flag as flag_of};
+ghost use Rattle.asm_model.specs.declared.statements.Statement.{Statement};
 ghost use Rattle.asm_model.specs.Laid.{LaidLine};
-ghost use Rattle.asm_model.specs.LayoutKinds as layout;
 ghost use Rattle.source_model.specs.Objects as objects;
-ghost use Rattle.asm_areas.specs.Starts.{begun, is_next, run, with_area, AreRun, AreStarts, IsLineOf, IsSmall};
+ghost use Rattle.asm_areas.specs.Starts.{begun, is_next, with_area, AreStarts, IsLineOf, IsSmall};
 
 use asm_model::{AreaAttributes, Contents, DirectiveLine, What};
 use sdt_fault::kinds::LineKind;
@@ -17,10 +17,8 @@ use std::marker::Model;
 #[derive(Debug, Drop)]
 pub struct AreaStart {
     pub name: Text,
-    /// The object format's attributes, without the bit of Thumb code.
+    /// The object format's attributes.
     pub attributes: u32,
-    /// Whether its first instruction is one of Thumb state; None where it has no instruction.
-    pub state: Option<bool>,
 }
 
 /// The areas in order of their first lines.
@@ -74,34 +72,24 @@ fn small_or_two(exponent: u32) -> u32
     if exponent > 16 { 2 } else { exponent }
 }
 
-fn attributes_word(attributes: &AreaAttributes, exponent: u32) -> u32
+fn attributes_word(attributes: &AreaAttributes, exponent: u32, thumb: bool) -> u32
     requires { exponent ≤ 16 }
-    ensures { result ≡ objects.attributes_word attributes.now exponent false }
+    ensures { result ≡ objects.attributes_word attributes.now exponent thumb }
 {
     exponent
         + contents_bits(attributes.contents)
         + bit(attributes.read_only, 0x2000)
         + bit(attributes.pic, 0x4000)
         + bit(attributes.reentrant, 0x2_0000)
+        + bit(thumb, 0x10_0000)
         + bit(attributes.halfword, 0x20_0000)
         + bit(attributes.interwork, 0x40_0000)
-}
-
-fn is_instruction(what: &What) -> bool
-    ensures { result ≡ layout.is_instruction what.now }
-{
-    match what {
-        What::Arm(_) => true,
-        What::Thumb(_) => true,
-        What::Pseudo(_) => true,
-        _ => false,
-    }
 }
 
 impl Starts {
     /// Before the first line. The allocator is kept for `note`.
     pub fn new(alloc: Global) -> Starts
-        ensures { AreStarts [] result }
+        ensures { (all : List Statement) → AreStarts all [] result }
     {
         Starts {
             alloc,
@@ -115,13 +103,6 @@ impl Starts {
     {
         let Starts { areas, .. } = self;
         areas
-    }
-
-    /// The areas, by their numbers.
-    pub fn areas(&self) -> &[AreaStart]
-        ensures { result.now ≡ self.now }
-    {
-        self.areas.as_slice()
     }
 
     /// Whether the area is the one with the next number.
@@ -138,17 +119,14 @@ impl Starts {
         &mut self,
         name: &Text,
         attributes: &AreaAttributes,
+        thumb: bool,
         exponent: Result<u32, LineKind>,
     ) -> Result<(), NoMemory>
-        ensures { OnOk result (IsSmall exponent → self.new ≡ self.old ++ begun name.now attributes.now exponent ∷ []) }
+        ensures { OnOk result (IsSmall exponent → self.new ≡ self.old ++ begun name.now attributes.now thumb exponent ∷ []) }
     {
         let name = name.try_clone(self.alloc)?;
-        let attributes = attributes_word(attributes, or_two(exponent));
-        self.areas.push(AreaStart {
-            name,
-            attributes,
-            state: None,
-        })?;
+        let attributes = attributes_word(attributes, or_two(exponent), thumb);
+        self.areas.push(AreaStart { name, attributes })?;
         Ok(())
     }
 
@@ -158,59 +136,33 @@ impl Starts {
         name: &Text,
         attributes: &AreaAttributes,
         area: Option<u32>,
+        thumb: bool,
         exponent: Result<u32, LineKind>,
     ) -> Result<(), NoMemory>
-        ensures { OnOk result (IsSmall exponent → self.new ≡ with_area name.now attributes.now area exponent self.old) }
+        ensures { OnOk result (IsSmall exponent → self.new ≡ with_area name.now attributes.now area thumb exponent self.old) }
     {
         if self.is_next(area) {
-            return self.begin(name, attributes, exponent);
+            return self.begin(name, attributes, thumb, exponent);
         }
         Ok(())
     }
 
-    /// Notes an instruction.
-    fn note_state(&mut self, area: Option<u32>, thumb: bool)
-        ensures { AreRun area thumb self.old self.new }
-    {
-        if let Some(area) = area {
-            if (area as usize) < self.areas.len() {
-                self.areas[area as usize].run(thumb);
-            }
-        }
-    }
-
-    /// Notes a line more, by its area and its state; of an AREA by the exponent of its alignment too, which isn't looked at
-    /// otherwise.
+    /// Notes a line more, by its area and whether that is one of Thumb code; of an AREA by the exponent of its alignment
+    /// too, which isn't looked at otherwise.
     pub fn note(
         &mut self,
         what: &What,
         area: Option<u32>,
-        thumb: bool,
+        thumb_area: bool,
         exponent: Result<u32, LineKind>,
     ) -> Result<(), NoMemory>
-        ensures { OnOk result ((l : LaidLine) (before : List LaidLine) → AreStarts before self.old → IsLineOf what.now area thumb exponent l before → AreStarts (l ∷ before) self.new) }
+        ensures { OnOk result ((all : List Statement) (l : LaidLine) (before : List LaidLine) → AreStarts all before self.old → IsLineOf all what.now area thumb_area exponent l before → AreStarts all (l ∷ before) self.new) }
     {
         match what {
             What::Directive(DirectiveLine::Area { name, attributes }) => {
-                self.note_area(name, attributes, area, exponent)
+                self.note_area(name, attributes, area, thumb_area, exponent)
             }
-            _ => {
-                if is_instruction(what) {
-                    self.note_state(area, thumb);
-                }
-                Ok(())
-            }
-        }
-    }
-}
-
-impl AreaStart {
-    /// Notes the state of an instruction, which counts where it is the first.
-    fn run(&mut self, thumb: bool)
-        ensures { self.new ≡ run thumb self.old }
-    {
-        if self.state.is_none() {
-            self.state = Some(thumb);
+            _ => Ok(()),
         }
     }
 }

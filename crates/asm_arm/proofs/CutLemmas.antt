@@ -1,7 +1,7 @@
 -- More operands than any line has.
-use Rattle.std.proofs.Common.{◌≡◌, ℕ, List, [], ◌∷◌, ◌++◌, refl}
+use Rattle.std.proofs.Common.{◌≡◌, ℕ, List, [], ◌∷◌, refl}
 use Rattle.asm_model.specs.declared.tokens.Token.{Token}
-use Rattle.asm_model.specs.Operands.{operands_at, lengthened}
+use Rattle.asm_model.specs.Operands.{operands_at}
 use Rattle.asm_expr.proofs.OperandLemmas.{begins}
 use Rattle.asm_arm.specs.Operands.{cut, more}
 use Rattle.asm_expr.proofs.ReadingLemmas.{some_operand}

@@ -8,7 +8,7 @@ use Rattle.asm_model.specs.declared.lines.Flat.{Flat}
 use Rattle.asm_model.specs.declared.tokens.Token.{Token}
 use Rattle.asm_model.specs.declared.statements.What.{What}
 use Rattle.asm_model.specs.declared.statements.What.TheVariants as what
-use Rattle.asm_model.specs.Says.{on_both, mapped, Sentence}
+use Rattle.asm_model.specs.Says.{mapped, Sentence}
 use Rattle.asm_model.specs.Told.{Told, ToldFault}
 use Rattle.asm_arm.specs.Says.{statement, SaysWords, SaysInstruction}
 use Rattle.asm_arm.specs.Steps.{IsLineRead, IsWordsRead}

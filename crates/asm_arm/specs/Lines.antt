@@ -3,7 +3,7 @@
 -- and the pseudo-instructions. A form that the tokens don't have is Syntax. Values are judged elsewhere.
 use Rattle.std.specs.Prelude.{◌≡◌, ℕ, List, [], ◌∷◌, codes, ◌==◌, not, ◌&&◌, Bool, true, false, if◌then◌else◌, Option, Some, None, Result, Ok, Err}
 use Rattle.sdt_fault.specs.declared.kinds.LineKind.{LineKind}
-use Rattle.sdt_fault.specs.declared.kinds.LineKind.TheVariants.{Syntax, UnknownWord, FloatingPoint, BadOperand}
+use Rattle.sdt_fault.specs.declared.kinds.LineKind.TheVariants.{Syntax, FloatingPoint, BadOperand}
 use Rattle.sdt_word.specs.declared.codes.Condition.{Condition}
 use Rattle.arm_isa.specs.declared.instr.Operation.{Operation}
 use Rattle.arm_isa.specs.declared.instr.HalfKind.{HalfKind}
@@ -252,7 +252,7 @@ ReadsWord text mnemonic.LongAddress c ts r = ReadsLongAddress text c (cut (opera
 ReadsWord text mnemonic.NoOperation c ts r = r ≡ idle ts
 ReadsWord text mnemonic.FloatingPoint c ts r = r ≡ Err FloatingPoint
 
--- a word that no operation has
-abbrev pub Reads : List ℕ → Option (Mnemonic × Condition) → List Token → Result What LineKind → Type 0
-Reads text None ts r = r ≡ Err UnknownWord
-Reads text (Some m) ts r = ReadsWord text m.0 m.1 ts r
+-- the same, of an operation that may have no name, and the kind of the fault then
+abbrev pub Reads : List ℕ → LineKind → Option (Mnemonic × Condition) → List Token → Result What LineKind → Type 0
+Reads text k None ts r = r ≡ Err k
+Reads text k (Some m) ts r = ReadsWord text m.0 m.1 ts r

@@ -11,7 +11,7 @@ use Rattle.asm_model.specs.declared.statements.Statement.{Statement}
 use Rattle.asm_model.specs.declared.statements.What.{What}
 use Rattle.asm_model.specs.declared.statements.What.TheVariants as what
 use Rattle.asm_model.specs.Parts.{piece}
-use Rattle.asm_model.specs.Says.{on_both, mapped, label_field, Sentence, sentence, SaysDirective}
+use Rattle.asm_model.specs.Says.{on_both, mapped, label_field, Sentence, sentence, unnamed, SaysDirective}
 use Rattle.asm_model.specs.Tokens.{Scans}
 use Rattle.asm_arm.specs.Lines.{Reads}
 use Rattle.asm_arm.specs.Words.{operation_named}
@@ -28,7 +28,7 @@ alone flat (Some t) = mapped (λ label. statement flat label what.Nothing) (labe
 -- a line with an operation
 abbrev pub SaysOperation : Flat → Option Token → Token → List Token → Result (Option Statement) LineKind → Type 0
 SaysOperation flat label t ts r =
-    (w : Result What LineKind) × Reads flat.text (operation_named (piece flat.text t)) ts w
+    (w : Result What LineKind) × Reads flat.text (unnamed t.kind) (operation_named (piece flat.text t)) ts w
     × (r ≡ on_both (statement flat) (label_field need.Optional flat.text label) w)
 
 abbrev pub SaysWords : Flat → Option Token → Option Token → List Token → Result (Option Statement) LineKind → Type 0

@@ -1,6 +1,6 @@
 -- What the look-up of an operation word in one table of stems gives. This project's: what the code gives; that its rows
 -- give what the tables of `Words` give is proved.
-use Rattle.std.specs.Prelude.{ℕ, List, [], ◌∷◌, take, drop, length, Bool, if◌then◌else◌, Option, Some, None}
+use Rattle.std.specs.Prelude.{ℕ, List, [], ◌∷◌, take, drop, length, if◌then◌else◌, Option, None}
 use Rattle.sdt_word.specs.declared.codes.Condition.{Condition}
 use Rattle.sdt_word.specs.declared.codes.Condition.TheVariants as condition
 use Rattle.asm_model.specs.Directives.{or_else}

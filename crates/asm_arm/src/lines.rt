@@ -21,7 +21,7 @@ use crate::transfers::{HalfTransfer, Transfer, block, transfer_half, word_transf
 use crate::words::{Mnemonic, Shape, shape_of};
 use arm_isa::Operation;
 use asm_expr::read::expression;
-use asm_model::{ArmLine, Expr, PseudoLine, Register, Token, What};
+use asm_model::{ArmLine, Expr, PseudoLine, Register, Token, TokenKind, What};
 use sdt_fault::NoMemory;
 use sdt_fault::kinds::LineKind;
 use sdt_word::Condition;
@@ -610,17 +610,28 @@ fn of_word(
     }
 }
 
-/// What the tokens behind an operation word say; UnknownWord where no operation has that word.
+/// Why a token names no operation: only a word can be one.
+pub fn unnamed(kind: TokenKind) -> LineKind
+    ensures { result ≡ says.unnamed kind }
+{
+    match kind {
+        TokenKind::Name | TokenKind::Barred => LineKind::UnknownWord,
+        _ => LineKind::Syntax,
+    }
+}
+
+/// What the tokens behind an operation say, or the fault where nothing names it.
 pub fn instruction(
     alloc: Global,
     text: &[u8],
+    fault: LineKind,
     word: Option<(Mnemonic, Condition)>,
     tokens: &[Token],
 ) -> Said
-    ensures { IfOk result (λ said. lines.Reads text.now word tokens.now said) }
+    ensures { IfOk result (λ said. lines.Reads text.now fault word tokens.now said) }
 {
     match word {
-        None => Ok(Err(LineKind::UnknownWord)),
+        None => Ok(Err(fault)),
         Some((mnemonic, condition)) => of_word(alloc, text, mnemonic, condition, tokens),
     }
 }

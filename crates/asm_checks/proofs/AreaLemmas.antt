@@ -1,11 +1,7 @@
 -- Areas that are named again: what agrees with an area's attributes is the same.
 use Rattle.std.proofs.Common.{◌≡◌, ℕ, ◌||◌, Bool, true, false, cond, List, ◌∷◌, ◌++◌, Option, Some, None, refl, sym, ap, ◌∙◌}
 use Rattle.std.specs.Prelude.{not, nat_lt, Result, Ok, Err}
-use Rattle.std.specs.Ordering.{nat_cmp}
-use Rattle.std.specs.Cmp.Lexicographic.{slice_cmp}
-use Rattle.std.specs.BTreeMap.{UpdatesBy}
 use Rattle.std.proofs.lemmas.Bool.{eqb-true}
-use Rattle.std.proofs.lemmas.Map.Text.{is_eq-slice_cmp}
 use Rattle.sdt_fault.specs.declared.kinds.LineKind.{LineKind}
 use Rattle.sdt_fault.specs.declared.kinds.LineKind.TheVariants.{BadOperand}
 use Rattle.asm_model.specs.declared.directives.AreaAttributes.{AreaAttributes}
@@ -20,7 +16,6 @@ use Rattle.asm_model.specs.Laid.{LaidLine}
 use Rattle.asm_model.specs.LayoutKinds.{kind_if, exponent, exponent_kinds, same_contents, same_mark, same_attributes, again_with, is_named_otherwise}
 use Rattle.asm_checks.specs.declared.areas.AreaMarks.{AreaMarks}
 use Rattle.asm_checks.specs.Areas.{Areas, marks_in, agrees, is_otherwise, marks_of, noted, IsNoted, AreAreasOf}
-use Rattle.asm_model.proofs.SharedLemmas.{tests}
 use Rattle.base_lemmas.proofs.BaseLemmas.{both_true}
 
 -- ---- the map
@@ -41,10 +36,10 @@ pub known : (areas : Areas) (name : List ℕ) (a : AreaAttributes) (x : Result �
 known areas name a x n m e f = as_it_was areas name (noted a x (marks_in areas name)) (rw (e, f) refl)
 
 pub put_new : (old new : Areas) (name : List ℕ) (a : AreaAttributes) (x : Result ℕ LineKind) (n : ℕ) → x ≡ Ok n → marks_in old name ≡ None
-    → UpdatesBy (slice_cmp nat_cmp) (slice_cmp nat_cmp name) old new (Some (marks_of a n)) → IsNoted name a x old new
+    → ((q : List ℕ) → marks_in new q ≡ cond (same q name) (Some (marks_of a n)) (marks_in old q)) → IsNoted name a x old new
 put_new old new name a x n e f updates q =
     let first : noted a x (marks_in old name) ≡ Some (marks_of a n) = rw (e, f) refl in
-    updates.0 q ∙ rw (first, is_eq-slice_cmp name q, tests name q) refl
+    updates q ∙ rw first refl
 
 -- ---- attributes
 

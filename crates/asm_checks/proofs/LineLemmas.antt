@@ -10,10 +10,10 @@ use Rattle.asm_model.specs.FaultSets.{first_told}
 use Rattle.asm_model.specs.Kinds.{told_kind}
 use Rattle.asm_model.specs.Labels.{defined_by}
 use Rattle.asm_model.specs.Laid.{LaidLine, statements_of}
-use Rattle.asm_model.specs.LayoutKinds.{is_entry, kind_if, no_area_kinds, contents_kinds, contents_from, contents_behind, area_kinds, is_repeated, names_behind, names_in, name_kinds, settled_kinds}
+use Rattle.asm_model.specs.LayoutKinds.{is_entry, kind_if, no_area_kinds, contents_kinds, contents_from, contents_behind, area_kinds, is_repeated, names_behind, names_in, name_kinds, first_equal, settled_kinds, state_kinds}
 use Rattle.asm_checks.specs.declared.checks.Checks.{Checks}
 use Rattle.asm_checks.specs.Checked.{checked_kinds, IsChecked, IsLine}
-use Rattle.asm_checks.proofs.ToldLemmas.{told_of_five}
+use Rattle.asm_checks.proofs.ToldLemmas.{told_of_six}
 
 pub names_told : (s : Statement) (before : List Statement) (repeated second had : Bool) (o : Option LineKind)
     → repeated ≡ is_repeated (names_behind before) (names_in s) → second ≡ (is_entry s.what && had) → had ≡ list_any (λ (t : Statement). is_entry t.what) before
@@ -22,22 +22,23 @@ names_told s before repeated second had o e f g h =
     h ∙ ap (λ (b : Bool). told_kind (kind_if (b || second) DuplicateName)) e
     ∙ ap (λ (b : Bool). told_kind (kind_if (is_repeated (names_behind before) (names_in s) || b) DuplicateName)) (f ∙ ap (λ (b : Bool). is_entry s.what && b) g)
 
-pub line_told : (settled : List (List ℕ)) (s : Statement) (area : Option ℕ) (thumb : Bool) (x : Result ℕ LineKind) (is_settled : Bool) (l : LaidLine) (before : List LaidLine)
-    (old : Checks) (contents : Option Contents) (here attributes defined : Option LineKind) (nowhere allowed repeated unsettled : Option LineKind)
-    → IsChecked before old → IsLine settled s area thumb x is_settled l
+pub line_told : (settled : List (List ℕ)) (all : List Statement) (s : Statement) (area : Option ℕ) (thumb thumb_area : Bool) (x : Result ℕ LineKind) (circular : Bool)
+    (l : LaidLine) (before : List LaidLine)
+    (old : Checks) (contents : Option Contents) (here attributes defined state : Option LineKind) (nowhere allowed repeated unsettled : Option LineKind)
+    → IsChecked before old → IsLine settled all s area thumb thumb_area x circular l before
     → contents ≡ contents_from s.what old.contents
     → nowhere ≡ told_kind (no_area_kinds area (defined_by s) s.what)
     → allowed ≡ told_kind (contents_kinds contents thumb s.what)
     → attributes ≡ told_kind (area_kinds l.seen s.what before)
     → repeated ≡ told_kind (name_kinds s (statements_of before))
-    → unsettled ≡ told_kind (settled_kinds settled (defined_by s))
-    → here ≡ first_told nowhere allowed → defined ≡ first_told repeated unsettled
-    → first_told here (first_told attributes defined) ≡ told_kind (checked_kinds settled l before)
-line_told settled s area thumb x is_settled l before old contents here attributes defined nowhere allowed repeated unsettled k i inside a b c d e f g =
-    rw (i.said, i.stands, i.state)
-    (told_of_five here attributes defined
+    → unsettled ≡ told_kind (settled_kinds settled (first_equal (defined_by s) (statements_of before)))
+    → here ≡ first_told nowhere allowed → defined ≡ first_told repeated unsettled → state ≡ told_kind (state_kinds area thumb s.what all)
+    → first_told (first_told here (first_told attributes defined)) state ≡ told_kind (checked_kinds settled all l before)
+line_told settled all s area thumb thumb_area x circular l before old contents here attributes defined state nowhere allowed repeated unsettled k i inside a b c d e f g h =
+    rw (i.said, i.stands, i.state, h)
+    (told_of_six here attributes defined
     (no_area_kinds area (defined_by s) s.what) (contents_kinds (contents_behind (s ∷ statements_of before)) thumb s.what) (area_kinds l.seen s.what before)
-    (name_kinds s (statements_of before)) (settled_kinds settled (defined_by s))
+    (name_kinds s (statements_of before)) (settled_kinds settled (first_equal (defined_by s) (statements_of before))) (state_kinds area thumb s.what all)
     (f ∙ ap (λ o. first_told o allowed) a
     ∙ ap (first_told (told_kind (no_area_kinds area (defined_by s) s.what)))
     (b ∙ ap (λ o. told_kind (contents_kinds o thumb s.what)) (inside ∙ ap (contents_from s.what) k.contents)))

@@ -1,20 +1,26 @@
 -- What is told of a line's faults, part by part.
-use Rattle.std.proofs.Common.{◌≡◌, List, ◌++◌, Option, Some, None, refl, sym, ◌∙◌}
+use Rattle.std.proofs.Common.{◌≡◌, List, ◌++◌, Option, Some, None, refl, sym, ap, ◌∙◌}
 use Rattle.sdt_fault.specs.declared.kinds.LineKind.{LineKind}
 use Rattle.asm_model.specs.FaultSets.{first_told}
 use Rattle.asm_model.specs.Kinds.{told_kind}
 use Rattle.asm_model.proofs.FaultLemmas.{first_assoc, told_by_parts}
 
-pub told_of_five : (here attributes defined : Option LineKind) (ks ls ms ns os : List LineKind)
+pub told_of_six : (here attributes defined : Option LineKind) (ks ls ms ns os ps : List LineKind)
     → here ≡ first_told (told_kind ks) (told_kind ls) → attributes ≡ told_kind ms → defined ≡ first_told (told_kind ns) (told_kind os)
-    → first_told here (first_told attributes defined) ≡ told_kind (ks ++ ls ++ ms ++ ns ++ os)
-told_of_five here attributes defined ks ls ms ns os e f g =
+    → first_told (first_told here (first_told attributes defined)) (told_kind ps) ≡ told_kind (ks ++ ls ++ ms ++ ns ++ os ++ ps)
+told_of_six here attributes defined ks ls ms ns os ps e f g =
     rw (e, f, g)
+    (ap (λ (o : Option LineKind). first_told o (told_kind ps))
     (first_assoc (first_told (told_kind ks) (told_kind ls)) (told_kind ms) (first_told (told_kind ns) (told_kind os))
-    ∙ first_assoc (first_told (first_told (told_kind ks) (told_kind ls)) (told_kind ms)) (told_kind ns) (told_kind os)
-    ∙ sym (rw (told_by_parts (((ks ++ ls) ++ ms) ++ ns) os, told_by_parts ((ks ++ ls) ++ ms) ns, told_by_parts (ks ++ ls) ms, told_by_parts ks ls) refl))
+    ∙ first_assoc (first_told (first_told (told_kind ks) (told_kind ls)) (told_kind ms)) (told_kind ns) (told_kind os))
+    ∙ sym (rw (told_by_parts ((((ks ++ ls) ++ ms) ++ ns) ++ os) ps, told_by_parts (((ks ++ ls) ++ ms) ++ ns) os, told_by_parts ((ks ++ ls) ++ ms) ns, told_by_parts (ks ++ ls) ms, told_by_parts ks ls) refl))
 
 -- where nothing is told, nothing is told of a part
+pub none_first : (a b : Option LineKind) → first_told a b ≡ None → a ≡ None
+none_first None b e = refl
+none_first (Some k) None e = absurd (cc)
+none_first (Some k) (Some j) e = absurd (cc)
+
 pub none_of_attributes : (here attributes defined : Option LineKind) → first_told here (first_told attributes defined) ≡ None → attributes ≡ None
 none_of_attributes here None defined e = refl
 none_of_attributes None (Some k) None e = absurd (cc)

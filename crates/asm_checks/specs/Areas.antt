@@ -1,24 +1,22 @@
 -- The areas that lines name, by the attributes of the first such line. This project's.
 use Rattle.std.specs.Prelude.{◌≡◌, ℕ, List, ◌&&◌, not, Bool, false, Option, Some, None, if◌then◌else◌, Result, Ok, Err}
-use Rattle.std.specs.Ordering.{nat_cmp}
-use Rattle.std.specs.Cmp.Lexicographic.{slice_cmp}
-use Rattle.std.specs.BTreeMap.{BTreeMap, get}
 use Rattle.sdt_fault.specs.declared.kinds.LineKind.{LineKind}
 use Rattle.asm_model.specs.declared.directives.AreaAttributes.{AreaAttributes}
 use Rattle.asm_model.specs.declared.directives.DirectiveLine.TheVariants as line
 use Rattle.asm_model.specs.declared.statements.What.{What}
 use Rattle.asm_model.specs.declared.statements.What.TheVariants as what
-use Rattle.asm_model.specs.AtLine.{Sight}
+use Rattle.asm_model.specs.declared.names.Names.{Names}
 use Rattle.asm_model.specs.Forms.{same}
 use Rattle.asm_model.specs.Laid.{LaidLine}
 use Rattle.asm_model.specs.LayoutKinds.{exponent, same_contents, same_mark, same_exponent, is_named_otherwise}
+use Rattle.asm_sets.specs.Sets.{found_in}
 use Rattle.asm_checks.specs.declared.areas.AreaMarks.{AreaMarks}
 
 abbrev pub Areas : Type 0
-Areas = BTreeMap (List ℕ) AreaMarks
+Areas = List (List ℕ × AreaMarks)
 
 abbrev pub marks_in : Areas → List ℕ → Option AreaMarks
-marks_in areas q = get (slice_cmp nat_cmp) areas q
+marks_in areas q = found_in q areas
 
 -- whether attributes with an exponent agree with those of an area
 abbrev pub agrees : AreaAttributes → Result ℕ LineKind → AreaMarks → Bool
@@ -54,10 +52,10 @@ IsNoted name a x before after = (q : List ℕ) → marks_in after q ≡ (if same
 -- the map tells of any attributes whether lines name the area otherwise
 abbrev pub AreAreasOf : List LaidLine → Areas → Type 0
 AreAreasOf before areas =
-    (name : List ℕ) (s : Sight) (a : AreaAttributes)
+    (name : List ℕ) (s : Names) (a : AreaAttributes)
     → is_named_otherwise name s a before ≡ is_otherwise a (exponent s a.align) (marks_in areas name)
 
 -- the exponent of an AREA's alignment, by what its line sees
-abbrev pub IsExponent : Sight → What → Result ℕ LineKind → Type 0
+abbrev pub IsExponent : Names → What → Result ℕ LineKind → Type 0
 IsExponent s (what.Directive (line.Area name a)) x = x ≡ exponent s a.align
 IsExponent s _ x = Unit {0}

@@ -1,41 +1,44 @@
 -- The faults of a line that laying out finds without values, and what lines before it leave for them. SDT 2.50
 -- Reference Guide, chapter on the assembler; the kinds are this project's. Lines are listed with the nearest first.
-use Rattle.std.specs.Prelude.{◌≡◌, ℕ, List, ◌∷◌, ◌++◌, Bool, Option, Result}
+use Rattle.std.specs.Prelude.{◌≡◌, ℕ, List, [], ◌∷◌, ◌++◌, not, Bool, false, Option, Result}
 use Rattle.std.specs.List.{list_any}
 use Rattle.sdt_fault.specs.declared.kinds.LineKind.{LineKind}
+use Rattle.asm_model.specs.declared.exprs.Expr.{Expr}
 use Rattle.asm_model.specs.declared.statements.Statement.{Statement}
 use Rattle.asm_model.specs.Forms.{same}
-use Rattle.asm_model.specs.Labels.{Defined, Equal, defined_by}
+use Rattle.asm_model.specs.Labels.{defined_by}
 use Rattle.asm_model.specs.Laid.{LaidLine, statements_of}
-use Rattle.asm_model.specs.LayoutKinds.{is_entry, no_area_kinds, contents_kinds, contents_behind, area_kinds, name_kinds, settled_kinds}
+use Rattle.asm_model.specs.LayoutKinds.{is_entry, no_area_kinds, contents_kinds, contents_behind, area_kinds, name_kinds, names_behind, first_equal, settled_kinds, in_thumb_area, state_kinds}
 use Rattle.asm_checks.specs.declared.checks.Checks.{Checks}
 use Rattle.asm_checks.specs.Areas.{AreAreasOf, IsExponent}
-use Rattle.asm_checks.specs.Names.{AreNamesOf}
+use Rattle.asm_sets.specs.Sets.{HaveSame}
 
--- the kinds of a line behind others that need no values but an exponent, where these names are settled
-abbrev pub checked_kinds : List (List ℕ) → LaidLine → List LaidLine → List LineKind
-checked_kinds settled l before =
+-- the kinds of a line behind others that need no values but an exponent, where these names are settled and the source has
+-- these statements
+abbrev pub checked_kinds : List (List ℕ) → List Statement → LaidLine → List LaidLine → List LineKind
+checked_kinds settled all l before =
     no_area_kinds l.area (defined_by l.statement) l.statement.what
     ++ contents_kinds (contents_behind (l.statement ∷ statements_of before)) l.thumb l.statement.what
     ++ area_kinds l.seen l.statement.what before ++ name_kinds l.statement (statements_of before)
-    ++ settled_kinds settled (defined_by l.statement)
+    ++ settled_kinds settled (first_equal (defined_by l.statement) (statements_of before)) ++ state_kinds l.area l.thumb l.statement.what all
 
 -- what is kept of lines of which none has such a kind
 pub record IsChecked (before : List LaidLine) (c : Checks) : Type 0 where
   pub contents : c.contents ≡ contents_behind (statements_of before)
   pub areas : AreAreasOf before c.areas
-  pub names : AreNamesOf (statements_of before) c.names
+  pub names : HaveSame c.names (names_behind (statements_of before))
   pub entry : c.has_entry ≡ list_any (λ (s : Statement). is_entry s.what) (statements_of before)
 
--- whether the name of a statement for an expression is among these; of other statements nothing is said
-abbrev pub IsSettled : List (List ℕ) → Defined → Bool → Type 0
-IsSettled settled (Equal name e) b = b ≡ list_any (same name) settled
-IsSettled settled _ b = Unit {0}
+-- whether a name for an expression, where a statement is the first that defines it, isn't among these
+abbrev pub IsCircular : List (List ℕ) → List (List ℕ × Expr) → Bool → Type 0
+IsCircular settled [] b = b ≡ false
+IsCircular settled (e ∷ es) b = b ≡ not (list_any (same e.0) settled)
 
 -- what is known of a line before it is checked
-pub record IsLine (settled : List (List ℕ)) (s : Statement) (area : Option ℕ) (thumb : Bool) (x : Result ℕ LineKind) (is_settled : Bool) (l : LaidLine) : Type 0 where
+pub record IsLine (settled : List (List ℕ)) (all : List Statement) (s : Statement) (area : Option ℕ) (thumb thumb_area : Bool) (x : Result ℕ LineKind) (circular : Bool) (l : LaidLine) (before : List LaidLine) : Type 0 where
   pub said : l.statement ≡ s
   pub stands : l.area ≡ area
   pub state : l.thumb ≡ thumb
+  pub within : thumb_area ≡ in_thumb_area area all
   pub aligned : IsExponent l.seen s.what x
-  pub known : IsSettled settled (defined_by s) is_settled
+  pub known : IsCircular settled (first_equal (defined_by s) (statements_of before)) circular

@@ -1,4 +1,3 @@
 -- What the clauses of checks cite.
 pub mod Areas
 pub mod Checked
-pub mod Names

@@ -2,7 +2,7 @@
 
 ghost use Rattle.std.specs.Prelude.{◌≡◌, ◌++◌, ◌∷◌, List, None, Ok, IfOk, OnOk};
 ghost use Rattle.sdt_fault.specs.declared.kinds.LineKind.TheVariants.{BadOperand};
-ghost use Rattle.asm_model.specs.AtLine.{Sight};
+ghost use Rattle.asm_model.specs.declared.names.Names.{Names};
 ghost use Rattle.asm_model.specs.Kinds.{told_kind};
 ghost use Rattle.asm_model.specs.Laid.{LaidLine};
 ghost use Rattle.asm_model.specs.LayoutKinds as layout;
@@ -11,10 +11,10 @@ ghost use Rattle.asm_checks.specs.Areas.{AreAreasOf, IsExponent, IsNoted};
 
 use asm_expr::told::{first_told, kind_if};
 use asm_model::{AreaAttributes, Contents, DirectiveLine, What};
+use asm_sets::NameMap;
 use sdt_fault::kinds::LineKind;
 use sdt_fault::{NoMemory, Text};
 use std::alloc::Global;
-use std::collections::BTreeMap;
 
 /// The attributes of an area.
 #[derive(Clone, Copy, Debug)]
@@ -97,16 +97,16 @@ fn marks_of(attributes: &AreaAttributes, exponent: u32) -> AreaMarks
 }
 
 /// The attributes of the area with the name.
-fn marks_in(areas: &BTreeMap<Text, AreaMarks>, name: &Text) -> Option<AreaMarks>
+fn marks_in(areas: &NameMap<AreaMarks>, name: &Text) -> Option<AreaMarks>
     ensures { result ≡ areas_of.marks_in areas.now name.now }
 {
-    areas.get(name).copied()
+    areas.find(name)
 }
 
 /// Notes the attributes of an area that has none yet, where its exponent is known.
 fn note(
     alloc: Global,
-    areas: &mut BTreeMap<Text, AreaMarks>,
+    areas: &mut NameMap<AreaMarks>,
     name: &Text,
     attributes: &AreaAttributes,
     exponent: Result<u32, LineKind>,
@@ -117,7 +117,7 @@ fn note(
         (Err(_), _) => Ok(()),
         (Ok(_), Some(_)) => Ok(()),
         (Ok(exponent), None) => {
-            areas.insert(name.try_clone(alloc)?, marks_of(attributes, exponent))?;
+            areas.add(alloc, name, marks_of(attributes, exponent))?;
             Ok(())
         }
     }
@@ -140,7 +140,7 @@ fn is_otherwise(
 /// The fault of an AREA line. From now on its area is known.
 fn named_kind(
     alloc: Global,
-    areas: &mut BTreeMap<Text, AreaMarks>,
+    areas: &mut NameMap<AreaMarks>,
     name: &Text,
     attributes: &AreaAttributes,
     exponent: Result<u32, LineKind>,
@@ -159,11 +159,11 @@ fn named_kind(
 /// The fault of a line by the attributes that it gives an area. Behind a line without one its area is known.
 pub fn area_kind(
     alloc: Global,
-    areas: &mut BTreeMap<Text, AreaMarks>,
+    areas: &mut NameMap<AreaMarks>,
     what: &What,
     exponent: Result<u32, LineKind>,
 ) -> Result<Option<LineKind>, NoMemory>
-    ensures told { IfOk result (λ told. (s : Sight) (before : List LaidLine) → AreAreasOf before areas.old → IsExponent s what.now exponent → told ≡ told_kind (layout.area_kinds s what.now before)) }
+    ensures told { IfOk result (λ told. (s : Names) (before : List LaidLine) → AreAreasOf before areas.old → IsExponent s what.now exponent → told ≡ told_kind (layout.area_kinds s what.now before)) }
     ensures noted { IfOk result (λ told. (l : LaidLine) (before : List LaidLine) → AreAreasOf before areas.old → l.statement.what ≡ what.now → IsExponent l.seen what.now exponent → told ≡ None → AreAreasOf (l ∷ before) areas.new) }
 {
     match what {

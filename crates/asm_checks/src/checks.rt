@@ -2,22 +2,22 @@
 
 ghost use Rattle.std.specs.Prelude.{◌≡◌, ◌&&◌, ◌||◌, ◌∷◌, [], ℕ, List, None, IfOk};
 ghost use Rattle.sdt_fault.specs.declared.kinds.LineKind.TheVariants.{DuplicateName};
+ghost use Rattle.asm_model.specs.declared.exprs.Expr.{Expr};
+ghost use Rattle.asm_model.specs.declared.statements.Statement.{Statement};
 ghost use Rattle.asm_model.specs.Kinds.{told_kind};
-ghost use Rattle.asm_model.specs.Labels.{defined_by};
 ghost use Rattle.asm_model.specs.Laid.{LaidLine};
 ghost use Rattle.asm_model.specs.LayoutKinds as layout;
-ghost use Rattle.asm_checks.specs.Checked.{checked_kinds, IsChecked, IsLine, IsSettled};
+ghost use Rattle.asm_checks.specs.Checked.{checked_kinds, IsChecked, IsCircular, IsLine};
 
 use crate::areas::{AreaMarks, area_kind};
-use crate::labels::is_equal;
 use crate::names::is_repeated;
-use crate::places::{contents_from, contents_kind, is_entry, no_area_kind};
+use crate::places::{contents_from, contents_kind, is_entry, no_area_kind, state_kind};
 use asm_expr::told::{first_told, kind_if};
 use asm_model::{Contents, Statement, What};
+use asm_sets::{NameMap, NameSet};
+use sdt_fault::NoMemory;
 use sdt_fault::kinds::LineKind;
-use sdt_fault::{NoMemory, Text};
 use std::alloc::Global;
-use std::collections::{BTreeMap, BTreeSet};
 
 /// What lines leave for the checks of those behind them.
 #[derive(Debug, Drop)]
@@ -26,20 +26,17 @@ pub struct Checks {
     /// The contents of the area in which the last line stands.
     contents: Option<Contents>,
     /// The attributes of each area.
-    areas: BTreeMap<Text, AreaMarks>,
+    areas: NameMap<AreaMarks>,
     /// The names that are defined or imported.
-    names: BTreeSet<Text>,
+    names: NameSet,
     has_entry: bool,
 }
 
-/// The fault of a name for an expression that isn't settled.
-fn settled_kind(statement: &Statement, is_settled: bool) -> Option<LineKind>
-    ensures { (settled : List (List ℕ)) → IsSettled settled (defined_by statement.now) is_settled → result ≡ told_kind (layout.settled_kinds settled (defined_by statement.now)) }
+/// The fault of a name for an expression that depends on itself, or on one that does.
+fn circular_kind(circular: bool) -> Option<LineKind>
+    ensures { (settled : List (List ℕ)) (equals : List (List ℕ × Expr)) → IsCircular settled equals circular → result ≡ told_kind (layout.settled_kinds settled equals) }
 {
-    if is_settled {
-        return None;
-    }
-    kind_if(is_equal(statement), LineKind::Forward)
+    kind_if(circular, LineKind::Forward)
 }
 
 /// Whether a statement is an ENTRY behind another one. From now on there is one.
@@ -73,25 +70,27 @@ impl Checks {
         Checks {
             alloc,
             contents: None,
-            areas: BTreeMap::new(alloc),
-            names: BTreeSet::new(alloc),
+            areas: NameMap::new(alloc),
+            names: NameSet::new(alloc),
             has_entry: false,
         }
     }
 
     /// The fault of the next line that is told, of those that need no values but the exponent of an area. Where a
-    /// statement is no AREA its `exponent` isn't looked at, and `is_settled` only where it has a name for an expression.
-    /// Behind a line with a fault, or an `Err`, nothing more can be checked.
+    /// statement is no AREA its `exponent` isn't looked at; `circular` tells whether it is the first that defines a name which depends on itself;
+    /// whether its area is one of Thumb code counts for ENTRY. Behind a line with a fault, or an `Err`, nothing more can
+    /// be checked.
     pub fn check(
         &mut self,
         statement: &Statement,
         area: Option<u32>,
         thumb: bool,
+        thumb_area: bool,
         exponent: Result<u32, LineKind>,
-        is_settled: bool,
+        circular: bool,
     ) -> Result<Option<LineKind>, NoMemory>
-        ensures told { IfOk result (λ told. (settled : List (List ℕ)) (l : LaidLine) (before : List LaidLine) → IsChecked before self.old → IsLine settled statement.now area thumb exponent is_settled l → told ≡ told_kind (checked_kinds settled l before)) }
-        ensures behind { IfOk result (λ told. (settled : List (List ℕ)) (l : LaidLine) (before : List LaidLine) → IsChecked before self.old → IsLine settled statement.now area thumb exponent is_settled l → told ≡ None → IsChecked (l ∷ before) self.new) }
+        ensures told { IfOk result (λ told. (settled : List (List ℕ)) (all : List Statement) (l : LaidLine) (before : List LaidLine) → IsChecked before self.old → IsLine settled all statement.now area thumb thumb_area exponent circular l before → told ≡ told_kind (checked_kinds settled all l before)) }
+        ensures behind { IfOk result (λ told. (settled : List (List ℕ)) (all : List Statement) (l : LaidLine) (before : List LaidLine) → IsChecked before self.old → IsLine settled all statement.now area thumb thumb_area exponent circular l before → told ≡ None → IsChecked (l ∷ before) self.new) }
     {
         self.contents = contents_from(&statement.what, self.contents);
         let here = first_told(
@@ -101,10 +100,9 @@ impl Checks {
         let attributes = area_kind(self.alloc, &mut self.areas, &statement.what, exponent)?;
         let repeated = is_repeated(self.alloc, &mut self.names, statement)?;
         let second = is_second_entry(&mut self.has_entry, &statement.what);
-        let defined = first_told(
-            name_kind(repeated, second),
-            settled_kind(statement, is_settled),
-        );
-        Ok(first_told(here, first_told(attributes, defined)))
+        let defined = first_told(name_kind(repeated, second), circular_kind(circular));
+        let found = first_told(here, first_told(attributes, defined));
+        let state = state_kind(&statement.what, area, thumb, thumb_area);
+        Ok(first_told(found, state))
     }
 }

@@ -5,7 +5,6 @@ ghost use Rattle.std.specs.List.{list_any};
 ghost use Rattle.std.specs.Option.{option_copied};
 ghost use Rattle.asm_model.specs.Labels as defined;
 ghost use Rattle.asm_model.specs.LayoutKinds as layout;
-ghost use Rattle.asm_checks.specs.Names.{is_equal as is_equal_name};
 
 use asm_model::{DirectiveLine, Expr, ExprItem, Statement, What};
 use sdt_fault::Text;
@@ -73,16 +72,6 @@ pub fn names_here(statement: &Statement) -> bool
 {
     match (&statement.label, &statement.what) {
         (Some(_), What::Directive(DirectiveLine::Equ { value })) => mentions_here(value),
-        (_, _) => false,
-    }
-}
-
-/// Whether a statement has a name for an expression.
-pub fn is_equal(statement: &Statement) -> bool
-    ensures { result ≡ is_equal_name (defined.defined_by statement.now) }
-{
-    match (&statement.label, &statement.what) {
-        (Some(_), What::Directive(DirectiveLine::Equ { .. })) => true,
         (_, _) => false,
     }
 }

@@ -1,37 +1,31 @@
 //! Names that are defined twice.
 
-ghost use Rattle.std.specs.Prelude.{◌≡◌, ◌∷◌, ◌||◌, List, ℕ, IfOk, OnOk};
+ghost use Rattle.std.specs.Prelude.{◌≡◌, ◌∷◌, ◌++◌, List, IfOk, OnOk};
 ghost use Rattle.std.specs.List.{list_any};
 ghost use Rattle.std.specs.Option.{option_copied};
 ghost use Rattle.asm_model.specs.declared.statements.Statement.{Statement};
 ghost use Rattle.asm_model.specs.Forms.{same};
 ghost use Rattle.asm_model.specs.LayoutKinds as layout;
-ghost use Rattle.asm_checks.specs.Names.{has_name, AreNamesOf};
+ghost use Rattle.asm_sets.specs.Sets.{HaveSame};
 
 use crate::labels::{imported_name, own_name};
 use asm_model::Statement;
+use asm_sets::NameSet;
 use sdt_fault::{NoMemory, Text};
 use std::alloc::Global;
-use std::collections::BTreeSet;
 
 /// Whether a name is in the set; from now on it is.
-fn was_there(alloc: Global, names: &mut BTreeSet<Text>, name: &Text) -> Result<bool, NoMemory>
-    ensures answer { IfOk result (λ there. there ≡ has_name names.old name.now) }
-    ensures more { OnOk result ((q : List ℕ) → has_name names.new q ≡ (same q name.now || has_name names.old q)) }
+fn was_there(alloc: Global, names: &mut NameSet, name: &Text) -> Result<bool, NoMemory>
+    ensures answer { IfOk result (λ there. there ≡ list_any (same name.now) names.old) }
+    ensures more { OnOk result (HaveSame names.new (name.now ∷ names.old)) }
 {
-    let copy = name.try_clone(alloc)?;
-    let fresh = names.insert(copy)?;
-    Ok(!fresh)
+    Ok(!names.add(alloc, name)?)
 }
 
 /// Whether a name is in the set, where there is a name; from now on it is.
-fn is_again(
-    alloc: Global,
-    names: &mut BTreeSet<Text>,
-    name: Option<&Text>,
-) -> Result<bool, NoMemory>
-    ensures answer { IfOk result (λ again. again ≡ list_any (has_name names.old) (layout.listed (option_copied name.entry))) }
-    ensures more { OnOk result ((q : List ℕ) → has_name names.new q ≡ (list_any (same q) (layout.listed (option_copied name.entry)) || has_name names.old q)) }
+fn is_again(alloc: Global, names: &mut NameSet, name: Option<&Text>) -> Result<bool, NoMemory>
+    ensures answer { IfOk result (λ again. again ≡ list_any (λ n. list_any (same n) names.old) (layout.listed (option_copied name.entry))) }
+    ensures more { OnOk result (HaveSame names.new (layout.listed (option_copied name.entry) ++ names.old)) }
 {
     match name {
         None => Ok(false),
@@ -42,11 +36,11 @@ fn is_again(
 /// Whether a statement defines a name that one before it defines, or one name twice. From now on its names are known.
 pub fn is_repeated(
     alloc: Global,
-    names: &mut BTreeSet<Text>,
+    names: &mut NameSet,
     statement: &Statement,
 ) -> Result<bool, NoMemory>
-    ensures told { IfOk result (λ repeated. (before : List Statement) → AreNamesOf before names.old → repeated ≡ layout.is_repeated (layout.names_behind before) (layout.names_in statement.now)) }
-    ensures noted { OnOk result ((before : List Statement) → AreNamesOf before names.old → AreNamesOf (statement.now ∷ before) names.new) }
+    ensures told { IfOk result (λ repeated. (before : List Statement) → HaveSame names.old (layout.names_behind before) → repeated ≡ layout.is_repeated (layout.names_behind before) (layout.names_in statement.now)) }
+    ensures noted { OnOk result ((before : List Statement) → HaveSame names.old (layout.names_behind before) → HaveSame names.new (layout.names_behind (statement.now ∷ before))) }
 {
     let own = is_again(alloc, names, own_name(statement))?;
     let imported = is_again(alloc, names, imported_name(statement))?;

@@ -1,7 +1,8 @@
 //! Where statements may stand.
 
-ghost use Rattle.std.specs.Prelude.{◌≡◌, Some};
+ghost use Rattle.std.specs.Prelude.{◌≡◌, List, Some};
 ghost use Rattle.asm_model.specs.declared.directives.Contents.TheVariants as contents;
+ghost use Rattle.asm_model.specs.declared.statements.Statement.{Statement};
 ghost use Rattle.asm_model.specs.Kinds.{told_kind};
 ghost use Rattle.asm_model.specs.Labels.{defined_by};
 ghost use Rattle.asm_model.specs.LayoutKinds as layout;
@@ -106,6 +107,16 @@ pub fn contents_kind(contents: Option<Contents>, thumb: bool, what: &What) -> Op
         Some(Contents::Zeroes) => kind_if(!is_zero_statement(what), LineKind::BadOperand),
         _ => None,
     }
+}
+
+/// The fault of an ENTRY in another state than its area's.
+pub fn state_kind(what: &What, area: Option<u32>, thumb: bool, thumb_area: bool) -> Option<LineKind>
+    ensures { (all : List Statement) → thumb_area ≡ layout.in_thumb_area area all → result ≡ told_kind (layout.state_kinds area thumb what.now all) }
+{
+    if area.is_none() {
+        return None;
+    }
+    kind_if(is_entry(what) && thumb != thumb_area, LineKind::BadOperand)
 }
 
 /// The contents of the area in which a statement stands, behind others that stand in one of these.

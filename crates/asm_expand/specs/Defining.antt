@@ -1,9 +1,6 @@
 -- Steps of the code of definitions. This project's.
 use Rattle.std.specs.Prelude.{◌≡◌, ℕ, List, map, ◌||◌, Bool, true, false, Option, Some, None, Result, Ok, Err}
 use Rattle.std.specs.List.{list_any}
-use Rattle.std.specs.Ordering.{nat_cmp}
-use Rattle.std.specs.Cmp.Lexicographic.{slice_cmp}
-use Rattle.std.specs.BTreeSet.{BTreeSet, contains}
 use Rattle.sdt_fault.specs.declared.kinds.LineKind.{LineKind}
 use Rattle.sdt_fault.specs.declared.kinds.LineKind.TheVariants.{Syntax, Nesting}
 use Rattle.asm_model.specs.declared.lines.Line.{Line}
@@ -18,6 +15,7 @@ use Rattle.expand_model.specs.Prototypes.{is_repeated, prototype_kinds, prototyp
 use Rattle.expand_model.specs.States.{State}
 use Rattle.expand_model.specs.Steps.{Sources, Next, bad, defined_as, prototype_line}
 use Rattle.expand_model.specs.Words.{words_of}
+use Rattle.asm_variables.specs.Maps.{Set, has_name}
 use Rattle.asm_variables.specs.declared.expansion.Definition.{Definition}
 use Rattle.asm_variables.specs.declared.expansion.Expansion.{Expansion}
 use Rattle.asm_expand.specs.declared.places.Place.{Place}
@@ -40,18 +38,18 @@ abbrev pub names_of : List Parameter → List (List ℕ)
 names_of ps = map (λ p. p.name) ps
 
 -- whether two parameters have one name, and else which names they have
-abbrev pub IsRepeated : List Parameter → Bool → BTreeSet (List ℕ) → Type 0
+abbrev pub IsRepeated : List Parameter → Bool → Set → Type 0
 IsRepeated ps true seen = is_repeated (names_of ps) ≡ true
 IsRepeated ps false seen =
     (is_repeated (names_of ps) ≡ false)
-    × ((q : List ℕ) → contains (slice_cmp nat_cmp) seen q ≡ list_any (λ n. same n q) (names_of ps))
+    × ((q : List ℕ) → has_name seen q ≡ list_any (λ n. same n q) (names_of ps))
 
 -- whether a name is among these, and else it is noted
-abbrev pub Notes : List ℕ → Bool → BTreeSet (List ℕ) → BTreeSet (List ℕ) → Type 0
-Notes name true old new = contains (slice_cmp nat_cmp) old name ≡ true
+abbrev pub Notes : List ℕ → Bool → Set → Set → Type 0
+Notes name true old new = has_name old name ≡ true
 Notes name false old new =
-    (contains (slice_cmp nat_cmp) old name ≡ false)
-    × ((q : List ℕ) → contains (slice_cmp nat_cmp) new q ≡ (same name q || contains (slice_cmp nat_cmp) old q))
+    (has_name old name ≡ false)
+    × ((q : List ℕ) → has_name new q ≡ (same name q || has_name old q))
 
 abbrev pub PrototypeFault : Expansion → Prototype → Option LineKind → Type 0
 PrototypeFault c p told = Values c (λ s. told ≡ told_kind (prototype_kinds s.macros p))

@@ -1,10 +1,6 @@
 -- Steps of the code of lines that stay. This project's.
 use Rattle.std.specs.Prelude.{◌≡◌, ℕ, List, [], ◌∷◌, ◌++◌, ◌||◌, Bool, Option, Some, None}
 use Rattle.std.specs.List.{list_any}
-use Rattle.std.specs.Ordering.{nat_cmp}
-use Rattle.std.specs.Cmp.Lexicographic.{slice_cmp}
-use Rattle.std.specs.BTreeMap.{BTreeMap, get}
-use Rattle.std.specs.BTreeSet.{BTreeSet, contains}
 use Rattle.asm_model.specs.declared.lines.Flat.{Flat}
 use Rattle.asm_model.specs.declared.lines.Line.{Line}
 use Rattle.asm_model.specs.Directives.{or_else}
@@ -13,6 +9,7 @@ use Rattle.expand_model.specs.Known.{Operand}
 use Rattle.expand_model.specs.States.{State, found}
 use Rattle.expand_model.specs.Steps.{equ_number, flat_of, is_equ, number_rows}
 use Rattle.expand_model.specs.Words.{listed}
+use Rattle.asm_variables.specs.Maps.{Map, Set, value_named, has_name}
 use Rattle.asm_variables.specs.declared.expansion.Expansion.{Expansion}
 use Rattle.asm_expand.specs.declared.places.Place.{Place}
 use Rattle.asm_variables.specs.Expanding.{Becomes}
@@ -22,14 +19,14 @@ use Rattle.asm_variables.specs.Valued.{Values}
 abbrev pub IsNumber : List ℕ → Expansion → Operand → Option ℕ → Type 0
 IsNumber word c x number = Values c (λ s. number ≡ equ_number (is_equ word) s x)
 
-abbrev pub Numbers : Option (List ℕ) → Option ℕ → BTreeMap (List ℕ) ℕ → BTreeMap (List ℕ) ℕ → Type 0
+abbrev pub Numbers : Option (List ℕ) → Option ℕ → Map ℕ → Map ℕ → Type 0
 Numbers name number old new =
-    (q : List ℕ) → get (slice_cmp nat_cmp) new q ≡ or_else (get (slice_cmp nat_cmp) old q) (found q (number_rows name number))
+    (q : List ℕ) → value_named new q ≡ or_else (value_named old q) (found q (number_rows name number))
 
-abbrev pub Labels : Option (List ℕ) → BTreeSet (List ℕ) → BTreeSet (List ℕ) → Type 0
+abbrev pub Labels : Option (List ℕ) → Set → Set → Type 0
 Labels name old new =
     (q : List ℕ) →
-    contains (slice_cmp nat_cmp) new q ≡ (list_any (λ n. same n q) (listed name) || contains (slice_cmp nat_cmp) old q)
+    has_name new q ≡ (list_any (λ n. same n q) (listed name) || has_name old q)
 
 abbrev pub noted : Flat → Option (List ℕ) → Option ℕ → Bool → State → State
 noted flat name number thumb s = record s {

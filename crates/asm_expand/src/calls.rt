@@ -21,10 +21,10 @@ use asm_variables::maps::put;
 use asm_variables::operands::arguments;
 use asm_variables::words::Words;
 use expand_model::{Parameter, Prototype};
+use indexmap::IndexMap;
 use sdt_fault::kinds::LineKind;
 use sdt_fault::{NoMemory, Text};
 use std::alloc::Global;
-use std::collections::BTreeMap;
 
 /// Whether there is a parameter for a label.
 fn takes_label(label: &Option<Text>) -> bool
@@ -80,7 +80,7 @@ fn argument_for(alloc: Global, parameter: &Parameter, text: Option<&Text>) -> Re
 /// Notes the text for which a parameter stands.
 fn put_argument(
     alloc: Global,
-    map: &mut BTreeMap<Text, Text>,
+    map: &mut IndexMap<Text, Text>,
     parameter: &Parameter,
     text: Option<&Text>,
 ) -> Result<(), NoMemory>
@@ -96,10 +96,10 @@ fn rows_of(
     alloc: Global,
     parameters: &[Parameter],
     texts: &[Text],
-) -> Result<BTreeMap<Text, Text>, NoMemory>
+) -> Result<IndexMap<Text, Text>, NoMemory>
     ensures { IfOk result (λ map. HasRows map (prototypes.argument_rows parameters.now texts.now)) }
 {
-    let mut map = BTreeMap::new(alloc);
+    let mut map = IndexMap::new(alloc);
     for i in (0..parameters.len()).rev() {
         put_argument(alloc, &mut map, &parameters[i], texts.get(i))?;
     }
@@ -109,7 +109,7 @@ fn rows_of(
 /// Notes the label, where a parameter takes it.
 fn put_label(
     alloc: Global,
-    map: &mut BTreeMap<Text, Text>,
+    map: &mut IndexMap<Text, Text>,
     parameter: &Option<Text>,
     label: &[u8],
 ) -> Result<(), NoMemory>
@@ -138,7 +138,7 @@ fn scope_of(
     put_label(alloc, &mut rows, &prototype.label, label)?;
     Ok(Scope {
         in_call: true,
-        locals: BTreeMap::new(alloc),
+        locals: IndexMap::new(alloc),
         arguments: rows,
     })
 }

@@ -19,10 +19,10 @@ use asm_variables::pairing::{Taking, raw_operation, take_body};
 use asm_variables::prototypes::prototype_of;
 use asm_variables::words::words_of;
 use expand_model::{Operation, Parameter, Prototype};
+use indexmap::IndexSet;
 use sdt_fault::kinds::LineKind;
 use sdt_fault::{List, NoMemory, Text};
 use std::alloc::Global;
-use std::collections::BTreeSet;
 use std::rc::Rc;
 
 fn line_copy(alloc: Global, line: &Line) -> Result<Line, NoMemory>
@@ -102,7 +102,7 @@ fn defined(
 fn is_repeated(alloc: Global, prototype: &Prototype) -> Result<bool, NoMemory>
     ensures { IfOk result (λ b. b ≡ prototypes.is_repeated (prototypes.parameter_names prototype.now)) }
 {
-    let mut seen = BTreeSet::new(alloc);
+    let mut seen = IndexSet::new(alloc);
     if has_twice(alloc, prototype.parameters.as_slice(), &mut seen)? {
         return Ok(true);
     }
@@ -115,7 +115,7 @@ fn is_repeated(alloc: Global, prototype: &Prototype) -> Result<bool, NoMemory>
 /// Whether the parameter's name is among these; where it isn't, it is noted.
 fn note_name(
     alloc: Global,
-    seen: &mut BTreeSet<Text>,
+    seen: &mut IndexSet<Text>,
     parameter: &Parameter,
 ) -> Result<bool, NoMemory>
     ensures { IfOk result (λ b. Notes parameter.now.name b seen.old seen.new) }
@@ -132,7 +132,7 @@ fn note_name(
 fn has_twice(
     alloc: Global,
     parameters: &[Parameter],
-    seen: &mut BTreeSet<Text>,
+    seen: &mut IndexSet<Text>,
 ) -> Result<bool, NoMemory>
     requires { IsRepeated [] false seen.old }
     ensures { IfOk result (λ b. IsRepeated parameters.now b seen.new) }

@@ -18,13 +18,13 @@ use asm_lines::split_lines;
 use asm_model::{Flat, bad_line};
 use asm_variables::expansion::Expansion;
 use asm_variables::variables::Tables;
+use indexmap::{IndexMap, IndexSet};
 use sdt_fault::answer::Fault;
 use sdt_fault::kinds::LineKind;
 use sdt_fault::refusal::Refusal;
 use sdt_fault::{NoMemory, Text};
 use sdt_outside::{Store, StoreError};
 use std::alloc::Global;
-use std::collections::{BTreeMap, BTreeSet};
 
 /// How many lines may be visited.
 pub const VISIT_LIMIT: usize = 1_000_000;
@@ -45,15 +45,15 @@ fn started(alloc: Global) -> Engine
         state: Expansion {
             visits: VISIT_LIMIT,
             tables: Tables {
-                globals: BTreeMap::new(alloc),
-                locals: BTreeMap::new(alloc),
-                arguments: BTreeMap::new(alloc),
+                globals: IndexMap::new(alloc),
+                locals: IndexMap::new(alloc),
+                arguments: IndexMap::new(alloc),
             },
             in_call: false,
-            macros: BTreeMap::new(alloc),
+            macros: IndexMap::new(alloc),
             flats: Vec::new(alloc),
-            numbers: BTreeMap::new(alloc),
-            labels: BTreeSet::new(alloc),
+            numbers: IndexMap::new(alloc),
+            labels: IndexSet::new(alloc),
             thumb: false,
         },
         frames: Vec::new(alloc),

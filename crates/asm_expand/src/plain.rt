@@ -16,10 +16,10 @@ use asm_variables::maps::{add, put};
 use asm_variables::prototypes::name_of;
 use asm_variables::values::known_number;
 use asm_variables::words::words_of;
+use indexmap::{IndexMap, IndexSet};
 use sdt_fault::kinds::LineKind;
 use sdt_fault::{Bytes, NoMemory, Text};
 use std::alloc::Global;
-use std::collections::{BTreeMap, BTreeSet};
 
 /// Whether an operation is EQU.
 pub fn is_equ(word: &[u8]) -> bool
@@ -70,7 +70,7 @@ fn equ_number(
 /// Notes the number of a name that has none yet.
 fn note_number(
     alloc: Global,
-    numbers: &mut BTreeMap<Text, u32>,
+    numbers: &mut IndexMap<Text, u32>,
     name: &Option<Text>,
     number: Option<u32>,
 ) -> Result<(), NoMemory>
@@ -90,7 +90,7 @@ fn note_number(
 }
 
 /// Notes a name in a label field.
-fn note_label(labels: &mut BTreeSet<Text>, name: Option<Text>) -> Result<(), NoMemory>
+fn note_label(labels: &mut IndexSet<Text>, name: Option<Text>) -> Result<(), NoMemory>
     ensures { OnOk result (Labels name labels.old labels.new) }
 {
     match name {

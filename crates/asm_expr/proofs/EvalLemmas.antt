@@ -1,29 +1,16 @@
--- Stacks of operands, and the places of names.
-use Rattle.std.proofs.Common.{◌≡◌, ℕ, suc, ◌<◌, List, [], ◌∷◌, ◌++◌, length, get_or, drop, Bool, true, refl, sym, ◌∙◌, ap, Some, drop-cons, append_assoc, append-nil}
+-- Stacks of operands.
+use Rattle.std.proofs.Common.{◌≡◌, ℕ, suc, List, [], ◌∷◌, ◌++◌, refl, sym, ◌∙◌, ap, Some, append_assoc, append-nil}
 use Rattle.std.specs.Prelude.{Result}
 use Rattle.sdt_fault.specs.declared.kinds.LineKind.{LineKind}
 use Rattle.asm_model.specs.declared.values.Value.{Value}
-use Rattle.std.specs.List.{slice_get}
-use Rattle.std.proofs.lemmas.Bool.{cond-true}
-use Rattle.std.proofs.lemmas.Option.{slice_get-get_or}
-use Rattle.asm_model.specs.declared.names.LaidName.{LaidName}
 use Rattle.asm_model.specs.declared.names.Names.{Names}
 use Rattle.asm_model.specs.declared.exprs.ExprItem.{ExprItem}
 use Rattle.asm_model.specs.declared.exprs.ExprItem.TheVariants as item
 use Rattle.asm_model.specs.declared.exprs.Part.{Part}
-use Rattle.asm_model.specs.Forms.{same}
 use Rattle.asm_model.specs.Grammar.{Tree, postfix, plain, Spells, operand, of_name, before, grouped, between, tighter, IsSpelled}
-use Rattle.asm_model.specs.Meaning.{named_in, Operand, operand_of_item, operand_of_tree, meaning}
-use Rattle.asm_expr.specs.declared.slots.Slot.{Slot}
-use Rattle.asm_expr.specs.Evaluating.{act, run, ended, operands_in}
-use Rattle.asm_model.proofs.LateLemmas.{plain_operand}
-
--- the first entry with the name stands there
-pub found_at : (list : List LaidName) (name : List ℕ) (i : ℕ) (x : LaidName) (b : Bool) → i < length list → x ≡ get_or list i x → b ≡ same x.name name → b ≡ true
-    → named_in name (drop i list) ≡ named_in name list → slice_get list i ≡ named_in name list
-found_at list name i x b h is test yes_ rest =
-    let cut : drop i list ≡ x ∷ drop (suc i) list = drop-cons list i x h ∙ ap (λ (y : LaidName). y ∷ drop (suc i) list) (sym is) in
-    slice_get-get_or list i x h ∙ ap Some (sym is) ∙ sym (cond-true (same x.name name) (Some x) (named_in name (drop (suc i) list)) (sym test ∙ yes_)) ∙ sym (ap (named_in name) cut) ∙ rest
+use Rattle.asm_model.specs.Meaning.{Operand, operand_of_item, operand_of_tree, meaning}
+use Rattle.asm_expr.specs.Evaluating.{act, run, ended}
+use Rattle.asm_model.proofs.TreeLemmas.{plain_operand}
 
 act_plain : (names : Names) (i : ExprItem) (s : List Operand) → plain i ≡ Some i → act names i s ≡ operand_of_item names i ∷ s
 act_plain names (item.Name n) s e = refl
@@ -53,9 +40,8 @@ pub run_expression : (names : Names) (ps : List Part) (t : Tree) → IsSpelled p
 run_expression names ps t d =
     ap (λ (x : List ExprItem). ended (run names x [])) (sym (append-nil (postfix t))) ∙ ap ended (run_tree names 6 ps t d [] [])
 
--- what the stack leaves is the meaning of the expression
-pub evaluated : (names : Names) (list : List LaidName) (items seen : List ExprItem) (stack : List Slot) (r : Result Value LineKind)
-    → seen ≡ items → list ≡ names.list → operands_in names.list stack ≡ run names seen [] → r ≡ ended (operands_in list stack)
+-- what the items leave is the meaning of the expression
+pub evaluated : (names : Names) (items seen : List ExprItem) (r : Result Value LineKind) → seen ≡ items → r ≡ ended (run names seen [])
     → (ps : List Part) (t : Tree) → IsSpelled ps t → items ≡ postfix t → meaning names t ≡ r
-evaluated names list items seen stack r s l o e ps t d i =
-    sym (run_expression names ps t d) ∙ ap (λ (x : List ExprItem). ended (run names x [])) (sym i ∙ sym s) ∙ ap ended (sym o) ∙ ap (λ (x : List LaidName). ended (operands_in x stack)) (sym l) ∙ sym e
+evaluated names items seen r s e ps t d i =
+    sym (run_expression names ps t d) ∙ ap (λ (x : List ExprItem). ended (run names x [])) (sym i ∙ sym s) ∙ sym e

@@ -1,5 +1,7 @@
 pub mod DigitLemmas
 pub mod EvalLemmas
+mod KnownLemmas
+pub mod NameLemmas
 pub mod OperandLemmas
 pub mod ParseLaws
 pub mod PlaceLemmas

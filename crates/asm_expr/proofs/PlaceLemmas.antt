@@ -11,8 +11,7 @@ use Rattle.asm_model.specs.declared.names.LaidName.{LaidName}
 use Rattle.asm_model.specs.Forms.{same}
 use Rattle.asm_model.specs.Meaning.{named_in}
 use Rattle.asm_model.proofs.WordLemmas.{same_refl, same_true}
-use Rattle.asm_expr.specs.Evaluating.{entry}
-use Rattle.asm_expr.specs.Places.{number_in, or_number, one_later, place_of}
+use Rattle.asm_expr.specs.Places.{entry, number_in, or_number, one_later, place_of}
 
 -- the two tests of words
 pub tests : (a b : List ℕ) → bytes_eq a b ≡ same a b
@@ -34,15 +33,6 @@ noted m n name number fresh updates q =
     updates.0 q ∙ rw (is_eq-slice_cmp name q, tests name q) (set_or_kept name q number (same name q) (number_in m q) refl
     (λ t. let h : name ≡ q = same_true name q t in ap (number_in m) (sym h) ∙ fresh))
 
--- a name that has a number keeps it
-pub kept : (m : BTreeMap (List ℕ) ℕ) (name : List ℕ) (number k : ℕ) → number_in m name ≡ Some k → (q : List ℕ) → number_in m q ≡ or_number (number_in m q) name number q
-kept m name number k there q = by_number (number_in m q) (same name q) refl (λ t. let e : name ≡ q = same_true name q t in ap (number_in m) (sym e) ∙ there)
-  where
-    by_number : (o : Option ℕ) (b : Bool) → same name q ≡ b → (b ≡ true → o ≡ Some k) → o ≡ or_number o name number q
-    by_number (Some j) b e h = refl
-    by_number None true e h = absurd (let bad : None ≡ Some k = h refl in cc)
-    by_number None false e h = rw e refl
-
 -- an entry more
 pub later_or : (o : Option ℕ) (name q : List ℕ) (n : ℕ) → one_later (or_number o name n q) ≡ or_number (one_later o) name (n + 1) q
 later_or (Some k) name q n = refl
@@ -63,10 +53,11 @@ place_push q (n ∷ ns) x = by_test (same n.name q) (place_push q ns x)
         ap one_later h ∙ later_or (place_of q ns) x.name q (length ns)
         ∙ ap (λ k. or_number (one_later (place_of q ns)) x.name k q) (add-one (length ns))
 
-pub added : (m n : BTreeMap (List ℕ) ℕ) (name : List ℕ) (number : ℕ) → ((q : List ℕ) → number_in n q ≡ or_number (number_in m q) name number q)
-    → (list : List LaidName) (x : LaidName) → ((q : List ℕ) → number_in m q ≡ place_of q list) → length list ≡ number → x.name ≡ name
-    → (q : List ℕ) → number_in n q ≡ place_of q (list ++ x ∷ [])
-added m n name number more list x index at named q =
+-- numbers that are the places of names, behind an entry more
+pub added : (old new : List ℕ → Option ℕ) (name : List ℕ) (number : ℕ) → ((q : List ℕ) → new q ≡ or_number (old q) name number q)
+    → (list : List LaidName) (x : LaidName) → ((q : List ℕ) → old q ≡ place_of q list) → length list ≡ number → x.name ≡ name
+    → (q : List ℕ) → new q ≡ place_of q (list ++ x ∷ [])
+added old new name number more list x index at named q =
     more q ∙ ap (λ o. or_number o name number q) (index q) ∙ ap (λ k. or_number (place_of q list) name k q) (sym at)
     ∙ ap (λ w. or_number (place_of q list) w (length list) q) (sym named) ∙ sym (place_push q list x)
 
@@ -82,6 +73,3 @@ entry_there name (n ∷ ns) = by_test (same n.name name) (entry_there name ns)
     by_test : (b : Bool) → entry ns (place_of name ns) ≡ named_in name ns → entry (n ∷ ns) (cond b (Some 0) (one_later (place_of name ns))) ≡ cond b (Some n) (named_in name ns)
     by_test true h = refl
     by_test false h = later (place_of name ns) ∙ h
-
-pub entry_found : (name : List ℕ) (list : List LaidName) (o p : Option ℕ) → o ≡ place_of name list → o ≡ p → entry list p ≡ named_in name list
-entry_found name list o p h e = ap (entry list) (sym e ∙ h) ∙ entry_there name list

@@ -1,7 +1,7 @@
 -- Evaluation with a stack of operands, its top first. This project's: what the code does, and the laws tie it to
 -- the meaning of the expression.
-use Rattle.std.specs.Prelude.{ℕ, List, [], ◌∷◌, map, reverse, Option, Some, None, Result, Ok, Err}
-use Rattle.std.specs.List.{slice_get}
+use Rattle.std.specs.Prelude.{List, [], ◌∷◌, map, reverse, Result, Ok, Err}
+use Rattle.std.specs.Option.{option_copied}
 use Rattle.sdt_fault.specs.declared.kinds.LineKind.{LineKind}
 use Rattle.sdt_fault.specs.declared.kinds.LineKind.TheVariants.{Syntax}
 use Rattle.asm_model.specs.declared.exprs.ExprItem.{ExprItem}
@@ -9,7 +9,6 @@ use Rattle.asm_model.specs.declared.exprs.ExprItem.TheVariants as item
 use Rattle.asm_model.specs.declared.exprs.UnaryOp.{UnaryOp}
 use Rattle.asm_model.specs.declared.exprs.BinaryOp.{BinaryOp}
 use Rattle.asm_model.specs.declared.values.Value.{Value}
-use Rattle.asm_model.specs.declared.names.LaidName.{LaidName}
 use Rattle.asm_model.specs.declared.names.Names.{Names}
 use Rattle.asm_model.specs.Meaning.{Operand, Known, Unread, known, on_both, applied, binary, operand_of_item}
 use Rattle.asm_expr.specs.declared.slots.Slot.{Slot}
@@ -43,17 +42,13 @@ ended [] = Err Syntax
 ended (x ∷ []) = known x
 ended (y ∷ x ∷ s) = Err Syntax
 
--- the entry at a place of the list
-abbrev pub entry : List LaidName → Option ℕ → Option LaidName
-entry list None = None
-entry list (Some i) = slice_get list i
-
 -- the operand in a slot
-abbrev pub operand_in : List LaidName → Slot → Operand
-operand_in list (slot.Name place) = Unread (entry list place)
-operand_in list (slot.Known v) = Known (Ok v)
-operand_in list (slot.Fault kind) = Known (Err kind)
+abbrev pub operand_of : Slot → Operand
+operand_of (slot.Name entry) = Unread (option_copied entry)
+operand_of (slot.Constant v) = Known (Ok v.now)
+operand_of (slot.Known v) = Known (Ok v)
+operand_of (slot.Fault kind) = Known (Err kind)
 
 -- the operands in slots, the last first
-abbrev pub operands_in : List LaidName → List Slot → List Operand
-operands_in list slots = reverse (map (operand_in list) slots)
+abbrev pub operands_of : List Slot → List Operand
+operands_of slots = reverse (map operand_of slots)

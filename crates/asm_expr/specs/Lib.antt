@@ -1,8 +1,9 @@
 -- What the clauses of the crate cite.
 pub mod AreaSteps
 pub mod Evaluating
-pub mod Finding
+pub mod Known
 pub mod Parsing
 pub mod Places
+pub mod Seeing
 pub mod SentenceSteps
 pub mod Steps

@@ -1,5 +1,6 @@
--- A map from names to places in a list. This project's.
+-- Places of names in a list, and a map from names to numbers. This project's.
 use Rattle.std.specs.Prelude.{ℕ, ◌+◌, List, [], ◌∷◌, Option, Some, None, if◌then◌else◌}
+use Rattle.std.specs.List.{slice_get}
 use Rattle.std.specs.Ordering.{nat_cmp}
 use Rattle.std.specs.Cmp.Lexicographic.{slice_cmp}
 use Rattle.std.specs.BTreeMap.{BTreeMap, get}
@@ -23,3 +24,12 @@ one_later (Some i) = Some (i + 1)
 abbrev pub place_of : List ℕ → List LaidName → Option ℕ
 place_of name [] = None
 place_of name (n ∷ ns) = if same n.name name then Some 0 else one_later (place_of name ns)
+
+-- the entry at a place of the list
+abbrev pub entry : List LaidName → Option ℕ → Option LaidName
+entry list None = None
+entry list (Some i) = slice_get list i
+
+abbrev pub one_entry : Option LaidName → List LaidName
+one_entry None = []
+one_entry (Some n) = n ∷ []

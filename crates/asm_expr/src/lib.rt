@@ -4,8 +4,9 @@
 pub mod areas;
 pub mod directive_names;
 pub mod directives;
-pub mod index;
 pub mod kinds;
+pub mod known;
+pub mod names;
 pub mod operands;
 pub mod operators;
 pub mod parser;
@@ -18,7 +19,8 @@ pub mod told;
 pub mod value;
 
 pub use crate::directives::parse_directive;
-pub use crate::index::NameIndex;
+pub use crate::known::KnownNames;
+pub use crate::names::Seen;
 pub use crate::read::parse_expr;
 pub use crate::registers::register_named;
-pub use crate::value::{evaluate, evaluate_indexed};
+pub use crate::value::evaluate;

@@ -5,15 +5,15 @@ ghost use Rattle.std.specs.Fmt.{digit_glyph};
 ghost use Rattle.sdt_fault.specs.Digits.{hexadecimal_places};
 ghost use Rattle.asm_model.specs.declared.exprs.UnaryOp.TheVariants as unary;
 ghost use Rattle.asm_model.specs.declared.values.Value.TheVariants as value;
-ghost use Rattle.asm_expr.specs.Evaluating as evaluating;
-ghost use Rattle.asm_expr.specs.Finding.{Finds};
+ghost use Rattle.asm_expr.specs.Seeing.{seen_names};
+ghost use Rattle.std.specs.Option.{option_copied};
 ghost use Rattle.std.specs.Ordering.{nat_cmp};
 ghost use Rattle.std.specs.Cmp.Lexicographic.{slice_cmp};
 ghost use Rattle.asm_model.specs.Meaning as meaning;
 ghost use Rattle.asm_model.specs.declared.exprs.BinaryOp.TheVariants as op;
 
-use crate::index::{Finder, place_in};
-use asm_model::{BinaryOp, LaidName, Names, UnaryOp, Value};
+use crate::names::{Seen, entry_named};
+use asm_model::{BinaryOp, LaidName, UnaryOp, Value};
 use sdt_fault::kinds::LineKind;
 use sdt_fault::{Bytes, NoMemory, Text};
 use std::alloc::Global;
@@ -173,33 +173,29 @@ fn added(op: BinaryOp, n: u32, plus: u32) -> Result<u32, LineKind>
 }
 
 /// The area and the offset of an entry.
-fn entry_at(list: &[LaidName], place: Option<usize>) -> Option<(u32, u32)>
-    ensures { result ≡ meaning.entry_stands_at (evaluating.entry list.now place) }
+fn entry_at(entry: Option<&LaidName>) -> Option<(u32, u32)>
+    ensures { result ≡ meaning.entry_stands_at (option_copied entry.entry) }
 {
-    let Some(at) = place else {
+    let Some(entry) = entry else {
         return None;
     };
-    match list.get(at) {
+    match entry.area {
         None => None,
-        Some(entry) => match entry.area {
-            None => None,
-            Some(area) => Some((area, entry.offset)),
-        },
+        Some(area) => Some((area, entry.offset)),
     }
 }
 
 /// The area of a symbol and its offset there.
-fn stands_at(finder: Finder<'_>, names: &Names, symbol: &Text) -> Option<(u32, u32)>
-    requires { Finds finder names.now.list }
-    ensures { result ≡ meaning.stands_at names.now symbol.now }
+fn stands_at(seen: &Seen<'_>, symbol: &Text) -> Option<(u32, u32)>
+    ensures { result ≡ meaning.stands_at (seen_names seen.now) symbol.now }
 {
     if symbol.as_slice().is_empty() {
-        return match names.area {
+        return match seen.area {
             None => None,
             Some(area) => Some((area, 0)),
         };
     }
-    entry_at(names.list.as_slice(), place_in(finder, names, symbol))
+    entry_at(entry_named(seen, symbol))
 }
 
 /// The distance of two places in one area.
@@ -220,24 +216,17 @@ fn distance(a: Option<(u32, u32)>, p: u32, b: Option<(u32, u32)>, q: u32) -> Res
 
 /// Two places.
 fn between_places(
-    finder: Finder<'_>,
-    names: &Names,
+    seen: &Seen<'_>,
     op: BinaryOp,
     s: &Text,
     p: u32,
     t: &Text,
     q: u32,
 ) -> Result<u32, LineKind>
-    requires { Finds finder names.now.list }
-    ensures { result ≡ meaning.between_places names.now op s.now p t.now q }
+    ensures { result ≡ meaning.between_places (seen_names seen.now) op s.now p t.now q }
 {
     match op {
-        BinaryOp::Subtract => distance(
-            stands_at(finder, names, s),
-            p,
-            stands_at(finder, names, t),
-            q,
-        ),
+        BinaryOp::Subtract => distance(stands_at(seen, s), p, stands_at(seen, t), q),
         _ => Err(LineKind::WrongType),
     }
 }
@@ -269,12 +258,19 @@ fn as_words(words: Result<Bytes, LineKind>) -> Result<Value, LineKind>
     }
 }
 
-fn as_place(symbol: Text, plus: Result<u32, LineKind>) -> Result<Value, LineKind>
-    ensures { result ≡ meaning.as_place symbol plus }
+fn as_place(
+    alloc: Global,
+    symbol: &Text,
+    plus: Result<u32, LineKind>,
+) -> Result<Result<Value, LineKind>, NoMemory>
+    ensures { IfOk result (λ value. value ≡ meaning.as_place symbol.now plus) }
 {
     match plus {
-        Ok(plus) => Ok(Value::Place { symbol, plus }),
-        Err(kind) => Err(kind),
+        Ok(plus) => {
+            let symbol = symbol.try_clone(alloc)?;
+            Ok(Ok(Value::Place { symbol, plus }))
+        }
+        Err(kind) => Ok(Err(kind)),
     }
 }
 
@@ -304,30 +300,26 @@ fn of_strings(
 /// An operator between two values.
 pub fn binary(
     alloc: Global,
-    finder: Finder<'_>,
-    names: &Names,
+    seen: &Seen<'_>,
     op: BinaryOp,
-    left: Value,
-    right: Value,
+    left: &Value,
+    right: &Value,
 ) -> Result<Result<Value, LineKind>, NoMemory>
-    requires { Finds finder names.now.list }
-    ensures { IfOk result (λ value. value ≡ meaning.binary names.now op left right) }
+    ensures { IfOk result (λ value. value ≡ meaning.binary (seen_names seen.now) op left.now right.now) }
 {
     match (left, right) {
-        (Value::Number(m), Value::Number(n)) => Ok(of_numbers(op, m, n)),
-        (Value::Truth(a), Value::Truth(b)) => Ok(as_truth(logical(op, a, b))),
-        (Value::Words(v), Value::Words(w)) => of_strings(alloc, op, &v, &w),
-        (Value::Words(v), Value::Number(n)) => Ok(as_words(cut(alloc, op, v.as_slice(), n)?)),
-        (Value::Place { symbol, plus }, Value::Number(n)) => Ok(as_place(
-            symbol,
-            moved(op, plus, n),
-        )),
-        (Value::Number(n), Value::Place { symbol, plus }) => Ok(as_place(
-            symbol,
-            added(op, n, plus),
-        )),
+        (Value::Number(m), Value::Number(n)) => Ok(of_numbers(op, *m, *n)),
+        (Value::Truth(a), Value::Truth(b)) => Ok(as_truth(logical(op, *a, *b))),
+        (Value::Words(v), Value::Words(w)) => of_strings(alloc, op, v, w),
+        (Value::Words(v), Value::Number(n)) => Ok(as_words(cut(alloc, op, v.as_slice(), *n)?)),
+        (Value::Place { symbol, plus }, Value::Number(n)) => {
+            as_place(alloc, symbol, moved(op, *plus, *n))
+        }
+        (Value::Number(n), Value::Place { symbol, plus }) => {
+            as_place(alloc, symbol, added(op, *n, *plus))
+        }
         (Value::Place { symbol: s, plus: p }, Value::Place { symbol: t, plus: q }) => Ok(as_number(
-            between_places(finder, names, op, &s, p, &t, q),
+            between_places(seen, op, s, *p, t, *q),
         )),
         _ => Ok(Err(LineKind::WrongType)),
     }
@@ -391,19 +383,19 @@ fn string_of(alloc: Global, n: u32) -> Result<Result<Bytes, LineKind>, NoMemory>
 pub fn unary(
     alloc: Global,
     op: UnaryOp,
-    operand: Value,
+    operand: &Value,
 ) -> Result<Result<Value, LineKind>, NoMemory>
-    ensures { IfOk result (λ v. v ≡ meaning.unary_of op operand) }
+    ensures { IfOk result (λ v. v ≡ meaning.unary_of op operand.now) }
 {
     match (op, operand) {
-        (UnaryOp::Plus, Value::Number(n)) => Ok(Ok(Value::Number(n))),
-        (UnaryOp::Minus, Value::Number(n)) => Ok(Ok(Value::Number(0u32.wrapping_sub(n)))),
-        (UnaryOp::Not, Value::Number(n)) => Ok(Ok(Value::Number(u32::MAX - n))),
-        (UnaryOp::LogicalNot, Value::Truth(truth)) => Ok(Ok(Value::Truth(!truth))),
+        (UnaryOp::Plus, Value::Number(n)) => Ok(Ok(Value::Number(*n))),
+        (UnaryOp::Minus, Value::Number(n)) => Ok(Ok(Value::Number(0u32.wrapping_sub(*n)))),
+        (UnaryOp::Not, Value::Number(n)) => Ok(Ok(Value::Number(u32::MAX - *n))),
+        (UnaryOp::LogicalNot, Value::Truth(truth)) => Ok(Ok(Value::Truth(!*truth))),
         (UnaryOp::Length, Value::Words(words)) => Ok(as_number(string_length(words.as_slice()))),
-        (UnaryOp::Character, Value::Number(n)) => Ok(as_words(string_of(alloc, n)?)),
+        (UnaryOp::Character, Value::Number(n)) => Ok(as_words(string_of(alloc, *n)?)),
         (UnaryOp::String, Value::Number(n)) => {
-            let words = Bytes::from_slice(alloc, &hexadecimal(n))?;
+            let words = Bytes::from_slice(alloc, &hexadecimal(*n))?;
             Ok(Ok(Value::Words(words)))
         }
         (UnaryOp::String, Value::Truth(true)) => {

@@ -1,54 +1,58 @@
 //! The value of an expression.
 
 ghost use Rattle.std.specs.Prelude.{◌≡◌, [], IfOk, OnOk, if◌then◌else◌};
-ghost use Rattle.std.specs.Option.{is_some};
+ghost use Rattle.std.specs.Option.{option_copied};
 ghost use Rattle.asm_model.specs.Meaning as meaning;
 ghost use Rattle.asm_expr.specs.Evaluating as evaluating;
-ghost use Rattle.asm_expr.specs.Finding.{Finds, Indexes};
+ghost use Rattle.asm_expr.specs.Seeing.{seen_names};
 
-use crate::index::{Finder, NameIndex, place_in};
 use crate::kinds::earlier;
+use crate::names::{Seen, entry_named};
 use crate::operators::{binary, unary};
 use crate::slots::{Slot, known, slot_of};
-use asm_model::{BinaryOp, EvalFault, Expr, ExprItem, LaidName, Names, UnaryOp, Value};
+use asm_model::{BinaryOp, EvalFault, Expr, ExprItem, LaidName, Meaning, UnaryOp, Value};
 use sdt_fault::kinds::LineKind;
 use sdt_fault::{NoMemory, Text};
 use std::alloc::Global;
 
-/// The number of bytes of the statement that defines the name at a place of the list.
-fn size_at(list: &[LaidName], place: Option<usize>) -> Result<Value, LineKind>
-    ensures { result ≡ meaning.size_of (evaluating.entry list.now place) }
+/// The number of bytes of the statement that defines a name.
+fn size_of(entry: Option<&LaidName>) -> Result<Value, LineKind>
+    ensures { result ≡ meaning.size_of (option_copied entry.entry) }
 {
-    let Some(at) = place else {
+    let Some(entry) = entry else {
         return Err(LineKind::UnknownWord);
     };
-    match list.get(at) {
-        None => Err(LineKind::UnknownWord),
-        Some(entry) => Ok(Value::Number(entry.size)),
+    match (&entry.meaning, entry.size) {
+        (Meaning::Later, _) => Err(LineKind::Forward),
+        (Meaning::Register, _) => Err(LineKind::WrongType),
+        (_, None) => Err(LineKind::Forward),
+        (_, Some(size)) => Ok(Value::Number(size)),
     }
 }
 
-/// Whether a name stands at a place of the list.
-fn is_at(list: &[LaidName], place: Option<usize>) -> bool
-    ensures { result ≡ is_some (evaluating.entry list.now place) }
+/// Whether a name is defined.
+fn is_defined(entry: Option<&LaidName>) -> Result<Value, LineKind>
+    ensures { result ≡ meaning.defined_of (option_copied entry.entry) }
 {
-    match place {
-        None => false,
-        Some(at) => at < list.len(),
+    let Some(entry) = entry else {
+        return Ok(Value::Truth(false));
+    };
+    match &entry.meaning {
+        Meaning::Later => Err(LineKind::Forward),
+        _ => Ok(Value::Truth(true)),
     }
 }
 
 /// An operator before the value of an operand.
 fn on_value(
     alloc: Global,
-    list: &[LaidName],
     op: UnaryOp,
-    operand: Slot,
+    operand: Slot<'_>,
 ) -> Result<Result<Value, LineKind>, NoMemory>
-    ensures { IfOk result (λ value. value ≡ meaning.then_of (meaning.known (evaluating.operand_in list.now operand)) (meaning.unary_of op)) }
+    ensures { IfOk result (λ value. value ≡ meaning.then_of (meaning.known (evaluating.operand_of operand.entry)) (meaning.unary_of op)) }
 {
-    match known(alloc, list, operand)? {
-        Ok(value) => unary(alloc, op, value),
+    match known(alloc, operand)? {
+        Ok(value) => unary(alloc, op, &value),
         Err(kind) => Ok(Err(kind)),
     }
 }
@@ -56,35 +60,30 @@ fn on_value(
 /// An operator before an operand.
 fn applied(
     alloc: Global,
-    list: &[LaidName],
     op: UnaryOp,
-    operand: Slot,
+    operand: Slot<'_>,
 ) -> Result<Result<Value, LineKind>, NoMemory>
-    ensures { IfOk result (λ value. value ≡ meaning.applied op (evaluating.operand_in list.now operand)) }
+    ensures { IfOk result (λ value. value ≡ meaning.applied op (evaluating.operand_of operand.entry)) }
 {
     match (op, operand) {
-        (UnaryOp::Size, Slot::Name(place)) => Ok(size_at(list, place)),
-        (UnaryOp::Defined, Slot::Name(place)) => Ok(Ok(Value::Truth(is_at(list, place)))),
-        (op, operand) => on_value(alloc, list, op, operand),
+        (UnaryOp::Size, Slot::Name(entry)) => Ok(size_of(entry)),
+        (UnaryOp::Defined, Slot::Name(entry)) => Ok(is_defined(entry)),
+        (op, operand) => on_value(alloc, op, operand),
     }
 }
 
 /// An operator between two operands.
 fn on_both(
     alloc: Global,
-    finder: Finder<'_>,
-    names: &Names,
+    seen: &Seen<'_>,
     op: BinaryOp,
-    left: Slot,
-    right: Slot,
+    left: Slot<'_>,
+    right: Slot<'_>,
 ) -> Result<Result<Value, LineKind>, NoMemory>
-    requires { Finds finder names.now.list }
-    ensures { IfOk result (λ value. value ≡ meaning.on_both (meaning.known (evaluating.operand_in names.now.list left)) (meaning.known (evaluating.operand_in names.now.list right)) (meaning.binary names.now op)) }
+    ensures { IfOk result (λ value. value ≡ meaning.on_both (meaning.known (evaluating.operand_of left.entry)) (meaning.known (evaluating.operand_of right.entry)) (meaning.binary (seen_names seen.now) op)) }
 {
-    let left = known(alloc, names.list.as_slice(), left)?;
-    let right = known(alloc, names.list.as_slice(), right)?;
-    match (left, right) {
-        (Ok(left), Ok(right)) => binary(alloc, finder, names, op, left, right),
+    match (known(alloc, left)?, known(alloc, right)?) {
+        (Ok(left), Ok(right)) => binary(alloc, seen, op, &left, &right),
         (Ok(_), Err(kind)) => Ok(Err(kind)),
         (Err(kind), Ok(_)) => Ok(Err(kind)),
         (Err(kind), Err(other)) => Ok(Err(earlier(kind, other))),
@@ -92,28 +91,22 @@ fn on_both(
 }
 
 /// An item that is an operand.
-fn operand(
-    alloc: Global,
-    finder: Finder<'_>,
-    names: &Names,
-    item: &ExprItem,
-) -> Result<Slot, NoMemory>
-    requires { Finds finder names.now.list }
-    ensures { IfOk result (λ slot. evaluating.operand_in names.now.list slot ≡ meaning.operand_of_item names.now item.now) }
+fn operand<'a>(alloc: Global, seen: &Seen<'a>, item: &'a ExprItem) -> Result<Slot<'a>, NoMemory>
+    ensures { IfOk result (λ slot. evaluating.operand_of slot ≡ meaning.operand_of_item (seen_names seen.now) item.now) }
 {
     match item {
-        ExprItem::Name(name) => Ok(Slot::Name(place_in(finder, names, name))),
+        ExprItem::Name(name) => Ok(Slot::Name(entry_named(seen, name))),
         ExprItem::Local(_) => Ok(Slot::Fault(LineKind::UnknownWord)),
-        ExprItem::Constant(value) => Ok(Slot::Known(value.try_clone(alloc)?)),
+        ExprItem::Constant(value) => Ok(Slot::Constant(value)),
         ExprItem::Here => {
             let symbol = Text::from_slice(alloc, b"")?;
             Ok(Slot::Known(Value::Place {
                 symbol,
-                plus: names.offset,
+                plus: seen.offset,
             }))
         }
-        ExprItem::Map => Ok(Slot::Known(Value::Number(names.map))),
-        ExprItem::CodeSize => Ok(Slot::Known(Value::Number(code_size(names.thumb)))),
+        ExprItem::Map => Ok(Slot::Known(Value::Number(seen.map))),
+        ExprItem::CodeSize => Ok(Slot::Known(Value::Number(code_size(seen.thumb)))),
         ExprItem::Unary(_) => Ok(Slot::Fault(LineKind::Syntax)),
         ExprItem::Binary(_) => Ok(Slot::Fault(LineKind::Syntax)),
     }
@@ -127,19 +120,14 @@ fn code_size(thumb: bool) -> u32
 }
 
 /// An operator before the operand on the top.
-fn act_unary(
-    alloc: Global,
-    list: &[LaidName],
-    op: UnaryOp,
-    stack: &mut Vec<Slot>,
-) -> Result<(), NoMemory>
-    ensures { OnOk result (evaluating.operands_in list.now stack.new.items ≡ evaluating.act_unary op (evaluating.operands_in list.now stack.old.items)) }
+fn act_unary(alloc: Global, op: UnaryOp, stack: &mut Vec<Slot<'_>>) -> Result<(), NoMemory>
+    ensures { OnOk result (evaluating.operands_of stack.new.items ≡ evaluating.act_unary op (evaluating.operands_of stack.old.items)) }
 {
     let Some(top) = stack.pop() else {
         stack.push(Slot::Fault(LineKind::Syntax))?;
         return Ok(());
     };
-    let value = applied(alloc, list, op, top)?;
+    let value = applied(alloc, op, top)?;
     stack.push(slot_of(value))?;
     Ok(())
 }
@@ -147,13 +135,11 @@ fn act_unary(
 /// An operator between the two operands on the top.
 fn act_binary(
     alloc: Global,
-    finder: Finder<'_>,
-    names: &Names,
+    seen: &Seen<'_>,
     op: BinaryOp,
-    stack: &mut Vec<Slot>,
+    stack: &mut Vec<Slot<'_>>,
 ) -> Result<(), NoMemory>
-    requires { Finds finder names.now.list }
-    ensures { OnOk result (evaluating.operands_in names.now.list stack.new.items ≡ evaluating.act_binary names.now op (evaluating.operands_in names.now.list stack.old.items)) }
+    ensures { OnOk result (evaluating.operands_of stack.new.items ≡ evaluating.act_binary (seen_names seen.now) op (evaluating.operands_of stack.old.items)) }
 {
     let Some(right) = stack.pop() else {
         stack.push(Slot::Fault(LineKind::Syntax))?;
@@ -163,27 +149,25 @@ fn act_binary(
         stack.push(Slot::Fault(LineKind::Syntax))?;
         return Ok(());
     };
-    let value = on_both(alloc, finder, names, op, left, right)?;
+    let value = on_both(alloc, seen, op, left, right)?;
     stack.push(slot_of(value))?;
     Ok(())
 }
 
 /// One item more.
-fn act(
+fn act<'a>(
     alloc: Global,
-    finder: Finder<'_>,
-    names: &Names,
-    item: &ExprItem,
-    stack: &mut Vec<Slot>,
+    seen: &Seen<'a>,
+    item: &'a ExprItem,
+    stack: &mut Vec<Slot<'a>>,
 ) -> Result<(), NoMemory>
-    requires { Finds finder names.now.list }
-    ensures { OnOk result (evaluating.operands_in names.now.list stack.new.items ≡ evaluating.act names.now item.now (evaluating.operands_in names.now.list stack.old.items)) }
+    ensures { OnOk result (evaluating.operands_of stack.new.items ≡ evaluating.act (seen_names seen.now) item.now (evaluating.operands_of stack.old.items)) }
 {
     match item {
-        ExprItem::Unary(op) => act_unary(alloc, names.list.as_slice(), *op, stack),
-        ExprItem::Binary(op) => act_binary(alloc, finder, names, *op, stack),
+        ExprItem::Unary(op) => act_unary(alloc, *op, stack),
+        ExprItem::Binary(op) => act_binary(alloc, seen, *op, stack),
         _ => {
-            let slot = operand(alloc, finder, names, item)?;
+            let slot = operand(alloc, seen, item)?;
             stack.push(slot)?;
             Ok(())
         }
@@ -191,75 +175,52 @@ fn act(
 }
 
 /// The operands that items leave.
-fn run(
-    alloc: Global,
-    finder: Finder<'_>,
-    names: &Names,
-    items: &[ExprItem],
-) -> Result<Vec<Slot>, NoMemory>
-    requires { Finds finder names.now.list }
-    ensures { IfOk result (λ stack. evaluating.operands_in names.now.list stack.items ≡ evaluating.run names.now items.now []) }
+fn run<'a>(alloc: Global, seen: &Seen<'a>, items: &'a [ExprItem]) -> Result<Vec<Slot<'a>>, NoMemory>
+    ensures { IfOk result (λ stack. evaluating.operands_of stack.items ≡ evaluating.run (seen_names seen.now) items.now []) }
 {
     let mut stack = Vec::new(alloc);
     'items: for item in items {
-        act(alloc, finder, names, item, &mut stack)?;
+        act(alloc, seen, item, &mut stack)?;
     }
     Ok(stack)
 }
 
 /// The value where one operand is left.
-fn ended(
-    alloc: Global,
-    list: &[LaidName],
-    stack: Vec<Slot>,
-) -> Result<Result<Value, LineKind>, NoMemory>
-    ensures { IfOk result (λ value. value ≡ evaluating.ended (evaluating.operands_in list.now stack.items)) }
+fn ended(alloc: Global, stack: &mut Vec<Slot<'_>>) -> Result<Result<Value, LineKind>, NoMemory>
+    ensures { IfOk result (λ value. value ≡ evaluating.ended (evaluating.operands_of stack.old.items)) }
 {
-    let mut stack = stack;
     let Some(top) = stack.pop() else {
         return Ok(Err(LineKind::Syntax));
     };
     if let Some(_) = stack.pop() {
         return Ok(Err(LineKind::Syntax));
     }
-    known(alloc, list, top)
+    known(alloc, top)
 }
 
-/// The value of an expression with these names, which a finder finds.
-fn evaluate_by(
+/// The value of items. One alone, as most expressions have, needs no stack.
+fn value_of(
     alloc: Global,
-    finder: Finder<'_>,
-    e: &Expr,
-    names: &Names,
-) -> Result<Value, EvalFault>
-    requires { Finds finder names.now.list }
-    ensures { meaning.Evaluates names.now e.now.items result }
+    seen: &Seen<'_>,
+    items: &[ExprItem],
+) -> Result<Result<Value, LineKind>, NoMemory>
+    ensures { IfOk result (λ value. value ≡ evaluating.ended (evaluating.run (seen_names seen.now) items.now [])) }
 {
-    let stack = run(alloc, finder, names, e.items.as_slice())?;
-    match ended(alloc, names.list.as_slice(), stack)? {
-        Ok(value) => Ok(value),
-        Err(kind) => Err(EvalFault::Kind(kind)),
+    if let [item] = items {
+        return known(alloc, operand(alloc, seen, item)?);
     }
+    let mut stack = run(alloc, seen, items)?;
+    ended(alloc, &mut stack)
 }
 
 /// The value of an expression with these names, or the kind of its fault: UnknownWord for a name that isn't there
-/// and for a reference to a local label, WrongType, OutOfRange, DivideByZero, and TooMany for a string of more than
-/// `STRING_BYTES` bytes. Names are found by a search through the list.
-pub fn evaluate(alloc: Global, e: &Expr, names: &Names) -> Result<Value, EvalFault>
-    ensures { meaning.Evaluates names.now e.now.items result }
+/// and for a reference to a local label, Forward for a name that means something later, WrongType, OutOfRange,
+/// DivideByZero, and TooMany for a string of more than `STRING_BYTES` bytes.
+pub fn evaluate(alloc: Global, e: &Expr, seen: &Seen<'_>) -> Result<Value, EvalFault>
+    ensures { meaning.Evaluates (seen_names seen.now) e.now.items result }
 {
-    evaluate_by(alloc, Finder::Search, e, names)
-}
-
-/// What `evaluate` gives, with the names found by an index of their list.
-pub fn evaluate_indexed(
-    alloc: Global,
-    e: &Expr,
-    names: &Names,
-    index: &NameIndex,
-) -> Result<Value, EvalFault>
-    requires { Indexes index.now names.now.list }
-    ensures { meaning.Evaluates names.now e.now.items result }
-{
-    evaluate_by(alloc, Finder::Index(index), e, names)
+    match value_of(alloc, seen, e.items.as_slice())? {
+        Ok(value) => Ok(value),
+        Err(kind) => Err(EvalFault::Kind(kind)),
+    }
 }

@@ -1,5 +1,5 @@
 -- Contexts that find the same say the same instructions.
-use Rattle.std.proofs.Common.{◌≡◌, ℕ, zero, suc, ◌+◌, ◌-◌, ◌*◌, ◌%◌, ◌^◌, ◌&&◌, ◌||◌, List, [], ◌∷◌, cond, Option, Some, None, refl, ap, ◌∙◌}
+use Rattle.std.proofs.Common.{◌≡◌, ℕ, zero, suc, ◌+◌, ◌-◌, ◌*◌, ◌%◌, ◌^◌, ◌&&◌, ◌||◌, not, List, [], ◌∷◌, cond, Option, Some, None, refl, ap, ◌∙◌}
 use Rattle.std.specs.Prelude.{Result, Ok, Err}
 use Rattle.std.specs.List.{list_any}
 use Rattle.sdt_word.specs.Numbers.{flag}
@@ -20,11 +20,11 @@ use Rattle.asm_model.specs.declared.thumb_lines.ThumbLine.{ThumbLine}
 use Rattle.asm_model.specs.declared.thumb_lines.ThumbLine.TheVariants as thumb
 use Rattle.asm_model.specs.declared.values.Value.{Value}
 use Rattle.asm_model.specs.declared.values.Value.TheVariants.{Number, Truth, Words, Place}
-use Rattle.asm_model.specs.Forms.{same}
+use Rattle.asm_model.specs.Labels.{is_hidden}
 use Rattle.asm_model.specs.Meaning.{named_in, in_area, entry_stands_at, stands_at}
 use Rattle.asm_model.specs.Extents.{as_number}
 use Rattle.asm_model.specs.Symbols.{is_in_area, keeps_state}
-use Rattle.source_model.specs.Contexts.{Context, sees, value_of, number_in, in_own_area, own_offset, from_pc}
+use Rattle.source_model.specs.Contexts.{Context, sees, value_of, may_have_symbol, is_symbol_entry, number_in, in_own_area, own_offset, from_pc}
 use Rattle.source_model.specs.ArmForms.{shift_fields, is_listed_by, list_bits, is_settled, branch_from, has_symbol, branch_displacement, arm_instruction, offset_at}
 use Rattle.source_model.specs.PseudoForms.{pseudo_instructions}
 use Rattle.source_model.specs.Units.{linked_symbol, branch_symbol, link_symbol}
@@ -73,8 +73,8 @@ module _ (a b : Context) (s : Alike a b) where
   pub symbol_alike : (q : List ℕ) → has_symbol a q ≡ has_symbol b q
   symbol_alike [] = refl
   symbol_alike (x ∷ xs) =
-      ap (λ t. t || list_any (same (x ∷ xs)) a.symbols) (settled_alike (x ∷ xs))
-      ∙ ap (λ t. is_settled b (x ∷ xs) || t) (s.symbol (x ∷ xs))
+      ap (λ t. t || may_have_symbol a (x ∷ xs)) (settled_alike (x ∷ xs))
+      ∙ ap (λ t. is_settled b (x ∷ xs) || (is_symbol_entry t && not (is_hidden (x ∷ xs)))) (s.entry (x ∷ xs))
 
   displacement_alike : (v : Result Value LineKind) → branch_displacement a v ≡ branch_displacement b v
   displacement_alike (Ok (Place q n)) =

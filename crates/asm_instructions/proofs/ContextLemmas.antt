@@ -1,13 +1,6 @@
 -- What a scene finds is what each context finds that it shows.
-use Rattle.std.proofs.Common.{◌≡◌, ℕ, cond, List, [], ◌∷◌, ◌||◌, Option, Some, None, refl, sym, ap, ◌∙◌, subst}
+use Rattle.std.proofs.Common.{◌≡◌, ℕ, List, Option, Some, None, refl, sym, ap, ◌∙◌, subst}
 use Rattle.std.specs.Prelude.{Result, Ok, Err, IfOk}
-use Rattle.std.specs.List.{list_any}
-use Rattle.std.specs.Ordering.{nat_cmp}
-use Rattle.std.specs.Cmp.Lexicographic.{slice_cmp}
-use Rattle.std.specs.BTreeMap.{BTreeMap, is_at}
-use Rattle.std.specs.BTreeSet.{BTreeSet}
-use Rattle.std.specs.Map.{lookup}
-use Rattle.std.proofs.lemmas.Map.Text.{is_eq-slice_cmp}
 use Rattle.asm_model.specs.declared.exprs.Expr.{Expr}
 use Rattle.asm_model.specs.declared.operands.Register.{Register}
 use Rattle.asm_model.specs.declared.operands.Register.TheVariants as reg
@@ -21,37 +14,12 @@ use Rattle.asm_model.specs.Meaning.{named_in, meaning, IsValue, Evaluates}
 use Rattle.asm_model.specs.Trees.{tree_of}
 use Rattle.asm_model.proofs.TreeLemmas.{trees_read_back}
 use Rattle.layout_laws.proofs.FoundLemmas.{tree_final, final_tree}
-use Rattle.asm_names.specs.Lines.{line_of}
+use Rattle.asm_names.specs.Lines.{line_of, Sees}
 use Rattle.said_model.specs.Said.{IsRead}
 use Rattle.source_model.specs.Contexts.{Context, sees, value_of, register, or_zero}
-use Rattle.source_model.specs.Registers.{Named, register_in}
+use Rattle.source_model.specs.Registers.{register_in}
 use Rattle.asm_instructions.specs.declared.scenes.Scene.{Scene}
-use Rattle.asm_instructions.specs.Scenes.{register_at, has_symbol, Shows, context_of}
-use Rattle.asm_expr.proofs.PlaceLemmas.{tests as same_words}
-use Rattle.asm_model.proofs.SharedLemmas.{tests as turned_words}
-
--- ---- maps and sets as the lists of their keys
-
-entries_listed : (q : List ℕ) (es : List Named) → lookup (is_at (slice_cmp nat_cmp q)) es ≡ register_in q es
-entries_listed q [] = refl
-entries_listed q (e ∷ es) =
-    ap (λ b. cond b (Some e.1) (lookup (is_at (slice_cmp nat_cmp q)) es)) (is_eq-slice_cmp q e.0 ∙ turned_words q e.0)
-    ∙ ap (cond (same e.0 q) (Some e.1)) (entries_listed q es)
-
-pub registers_listed : (m : BTreeMap (List ℕ) ℕ) (q : List ℕ) → register_at m q ≡ register_in q m.entries
-registers_listed m q = entries_listed q m.entries
-
-keys_listed : (q : List ℕ) (ks : List (List ℕ)) → list_any (is_at (slice_cmp nat_cmp q)) ks ≡ list_any (same q) ks
-keys_listed q [] = refl
-keys_listed q (k ∷ ks) =
-    ap (λ b. b || list_any (is_at (slice_cmp nat_cmp q)) ks) (is_eq-slice_cmp q k ∙ same_words q k)
-    ∙ ap (λ b. same q k || b) (keys_listed q ks)
-
-pub symbols_listed : (s : BTreeSet (List ℕ)) (q : List ℕ) → has_symbol s q ≡ list_any (same q) s.keys
-symbols_listed s q = keys_listed q s.keys
-
-pub named_listed : (x : Scene) (r : Register) (q : List ℕ) (n : ℕ) → r ≡ reg.Named q → n ≡ or_zero (register_at x.registers.now q) → n ≡ register (context_of x) r
-named_listed x r q n e h = h ∙ ap or_zero (registers_listed x.registers.now q) ∙ ap (register (context_of x)) (sym e)
+use Rattle.asm_instructions.specs.Scenes.{Shows, context_of}
 
 -- ---- names
 
@@ -72,31 +40,32 @@ pub record Alike (a b : Context) : Type 0 where
   pub offset : a.line.offset ≡ b.line.offset
   pub thumb : a.line.thumb ≡ b.line.thumb
   pub entry : (q : List ℕ) → named_in q (sees a).list ≡ named_in q (sees b).list
-  pub symbol : (q : List ℕ) → list_any (same q) a.symbols ≡ list_any (same q) b.symbols
 
-sees_same : (x : Scene) (c : Context) → Shows x c → sees (context_of x) ≡ sees c
-sees_same x c s = rw (s.names, s.line.area, s.line.offset, s.line.map, s.line.thumb) refl
+module _ (x : Scene) (c : Context) (names : c.names ≡ x.names.now) (line : Sees x.line.now c.line)
+    (registers : (q : List ℕ) → register_in q x.registers.now ≡ register_in q c.registers) where
+  sees_same : sees (context_of x) ≡ sees c
+  sees_same = rw (names, line.area, line.offset, line.map, line.thumb) refl
 
-tree_same : (x : Scene) (c : Context) → Shows x c → (o : Option Tree) → tree_final x.names.now (line_of x.line.now) o ≡ tree_final c.names c.line o
-tree_same x c s None = refl
-tree_same x c s (Some t) = ap (λ (names : Names). meaning names t) (sees_same x c s)
+  tree_same : (o : Option Tree) → tree_final x.names.now (line_of x.line.now) o ≡ tree_final c.names c.line o
+  tree_same None = refl
+  tree_same (Some t) = ap (λ (ns : Names). meaning ns t) sees_same
 
-number_same : (x : Scene) (c : Context) → Shows x c → (r : Register) → register (context_of x) r ≡ register c r
-number_same x c s (reg.Number n) = refl
-number_same x c s (reg.Named q) = ap or_zero (sym (registers_listed x.registers.now q) ∙ s.registers q)
+  number_same : (r : Register) → register (context_of x) r ≡ register c r
+  number_same (reg.Number n) = refl
+  number_same (reg.Named q) = ap or_zero (registers q)
+
+  pub seen_alike : Alike (context_of x) c
+  seen_alike = record {
+    value = λ e. final_tree x.names.now (line_of x.line.now) e (tree_of e) refl ∙ tree_same (tree_of e) ∙ sym (final_tree c.names c.line e (tree_of e) refl);
+    number = number_same;
+    area = line.area;
+    offset = line.offset;
+    thumb = line.thumb;
+    entry = λ q. ap (named_in q) (sym names);
+  }
 
 pub shown_alike : (x : Scene) (c : Context) → Shows x c → Alike (context_of x) c
-shown_alike x c s = record {
-  value = λ e.
-      final_tree x.names.now (line_of x.line.now) e (tree_of e) refl ∙ tree_same x c s (tree_of e)
-      ∙ sym (final_tree c.names c.line e (tree_of e) refl);
-  number = number_same x c s;
-  area = s.line.area;
-  offset = s.line.offset;
-  thumb = s.line.thumb;
-  entry = λ q. ap (named_in q) (sym s.names);
-  symbol = λ q. sym (symbols_listed x.symbols.now q) ∙ s.symbols q;
-}
+shown_alike x c s = seen_alike x c s.names s.line s.registers
 
 pub all_shown : {A E : Type 0} → (x : Scene) (f : Context → A) (r : Result A E) → ((c : Context) → Alike (context_of x) c → f (context_of x) ≡ f c)
     → IfOk r (λ v. v ≡ f (context_of x)) → IfOk r (λ v. (c : Context) → Shows x c → v ≡ f c)

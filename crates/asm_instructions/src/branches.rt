@@ -13,10 +13,10 @@ ghost use Rattle.source_model.specs.Contexts.{and_then, value_of};
 ghost use Rattle.source_model.specs.Units as units;
 ghost use Rattle.asm_instructions.specs.Scenes.{context_of};
 
-use crate::scenes::{Scene, is_symbol, stands_at};
+use crate::scenes::{Scene, may_have_symbol, stands_at};
 use crate::values::{from_pc, value_there};
 use arm_isa::ArmInstr;
-use asm_model::{Expr, LaidName, Value};
+use asm_model::{Expr, LaidName, Meaning, Value};
 use sdt_fault::kinds::LineKind;
 use sdt_fault::{NoMemory, Text};
 use sdt_word::Condition;
@@ -59,13 +59,22 @@ fn same_state(a: bool, b: bool) -> bool
     !b
 }
 
+fn is_place(meaning: &Meaning) -> bool
+    ensures { result ≡ symbols.is_place meaning.now }
+{
+    match meaning {
+        Meaning::Place => true,
+        _ => false,
+    }
+}
+
 /// Whether a branch of a state needs no symbol for the state of what a name is: a label of that state, or no label.
 fn keeps_state(thumb: bool, entry: Option<&LaidName>) -> bool
     ensures { result ≡ symbols.keeps_state thumb (option_copied entry.entry) }
 {
     match entry {
         None => same_state(thumb, false),
-        Some(entry) => entry.place || same_state(thumb, entry.thumb),
+        Some(entry) => is_place(&entry.meaning) || same_state(thumb, entry.thumb),
     }
 }
 
@@ -114,7 +123,7 @@ pub fn has_symbol(scene: &Scene<'_>, symbol: &Text) -> bool
     if is_settled(scene, symbol) {
         return true;
     }
-    is_symbol(scene, symbol)
+    may_have_symbol(scene.names, symbol)
 }
 
 fn place_displacement(scene: &Scene<'_>, symbol: &Text, plus: u32) -> Result<u32, LineKind>

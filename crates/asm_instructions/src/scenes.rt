@@ -1,17 +1,17 @@
 //! What the operands of a line are found by.
 
-ghost use Rattle.std.specs.Prelude.{◌≡◌};
-ghost use Rattle.std.specs.List.{list_any};
+ghost use Rattle.std.specs.Prelude.{◌≡◌, ◌&&◌, not};
 ghost use Rattle.std.specs.Option.{option_copied};
-ghost use Rattle.asm_model.specs.Forms.{same};
+ghost use Rattle.asm_model.specs.Labels as labels;
 ghost use Rattle.asm_model.specs.Meaning as meaning;
+ghost use Rattle.asm_model.specs.Meaning.{named_in};
 ghost use Rattle.source_model.specs.Contexts as contexts;
-ghost use Rattle.asm_instructions.specs.Scenes.{context_of, register_at};
+ghost use Rattle.asm_instructions.specs.Scenes.{context_of};
 
-use asm_model::{LaidName, Register};
+use asm_model::{LaidName, Meaning, Register};
 use asm_names::{KnownNames, PlacedLine};
+use asm_sets::NameMap;
 use sdt_fault::Text;
-use std::collections::{BTreeMap, BTreeSet};
 
 /// What the operands of a line are found by, once all names of the source are known.
 #[derive(Clone, Copy)]
@@ -20,33 +20,60 @@ pub struct Scene<'a> {
     pub names: &'a KnownNames,
     pub line: &'a PlacedLine<'a>,
     /// The registers that names stand for at the line.
-    pub registers: &'a BTreeMap<Text, u8>,
-    /// The names of labels and imports.
-    pub symbols: &'a BTreeSet<Text>,
+    pub registers: &'a NameMap<u8>,
 }
 
-/// The register of a name; 0 where it has none, as no name of a source without faults.
-fn named_register(registers: &BTreeMap<Text, u8>, name: &Text) -> u8
-    ensures { result ≡ contexts.or_zero (register_at registers.now name.now) }
-{
-    match registers.get(name) {
-        None => 0,
-        Some(number) => *number,
-    }
-}
-
-/// The number of a register.
+/// The number of a register; 0 where it is a name that stands for none, as no name of a source without faults.
 pub fn register(scene: &Scene<'_>, register: &Register) -> u8
     ensures { result ≡ contexts.register (context_of scene.now) register.now }
 {
     match register {
         Register::Number(number) => *number,
-        Register::Named(name) => named_register(scene.registers, name),
+        Register::Named(name) => scene.registers.find(name).unwrap_or(0),
     }
 }
 
+fn is_symbol(meaning: &Meaning) -> bool
+    ensures { result ≡ contexts.is_symbol meaning.now }
+{
+    match meaning {
+        Meaning::Label => true,
+        Meaning::Imported => true,
+        _ => false,
+    }
+}
+
+fn is_symbol_entry(entry: Option<&LaidName>) -> bool
+    ensures { result ≡ contexts.is_symbol_entry (option_copied entry.entry) }
+{
+    match entry {
+        None => false,
+        Some(entry) => is_symbol(&entry.meaning),
+    }
+}
+
+/// Whether a name is that of a local label.
+fn is_hidden(name: &[u8]) -> bool
+    ensures { result ≡ labels.is_hidden name.now }
+{
+    match name {
+        [] => false,
+        [first, ..] => *first == b'\n',
+    }
+}
+
+/// Whether a symbol may have the name: it is that of a label or an import, and of no local label.
+pub fn may_have_symbol(names: &KnownNames, name: &Text) -> bool
+    ensures { result ≡ (contexts.is_symbol_entry (named_in name.now names.now) && not (labels.is_hidden name.now)) }
+{
+    if is_symbol_entry(names.find(name)) {
+        return !is_hidden(name.as_slice());
+    }
+    false
+}
+
 /// Where a name's entry stands.
-fn entry_stands_at(entry: Option<&LaidName>) -> Option<(u32, u32)>
+pub fn entry_stands_at(entry: Option<&LaidName>) -> Option<(u32, u32)>
     ensures { result ≡ meaning.entry_stands_at (option_copied entry.entry) }
 {
     match entry {
@@ -69,11 +96,4 @@ pub fn stands_at(scene: &Scene<'_>, symbol: &Text) -> Option<(u32, u32)>
         };
     }
     entry_stands_at(scene.names.find(symbol))
-}
-
-/// Whether a name is one of a label or an import.
-pub fn is_symbol(scene: &Scene<'_>, name: &Text) -> bool
-    ensures { result ≡ list_any (same name.now) (context_of scene.now).symbols }
-{
-    scene.symbols.contains(name)
 }

@@ -1,5 +1,5 @@
 -- A statement is reached behind lines.
-use Rattle.std.proofs.Common.{◌≡◌, ◌<◌, ◌≤◌, ℕ, ◌+◌, ◌&&◌, Bool, true, false, cond, List, [], ◌∷◌, ◌++◌, length, Option, Some, None, ap, ◌∙◌, arith, length-append}
+use Rattle.std.proofs.Common.{◌≡◌, ◌<◌, ◌≤◌, ℕ, ◌+◌, ◌&&◌, Bool, true, false, cond, List, [], ◌∷◌, ◌++◌, length, Option, Some, None, sym, ap, ◌∙◌, arith, length-append}
 use Rattle.std.specs.List.{list_any}
 use Rattle.std.proofs.lemmas.List.{length-map}
 use Rattle.asm_model.specs.declared.names.LaidName.{LaidName}
@@ -51,9 +51,9 @@ placeable state w areas h g =
 pub reaches : (d : List LaidName) (s : Statement) (before : List LaidLine) (old new : Laying) (next : Behind) (offset : ℕ) (label : Bool) → IsLaying d before old
     → next ≡ stepped s.what old.behind → new.behind ≡ next → Enters (area_named s.what) old.areas new.areas
     → ((pieces : List Piece) → IsBehind pieces new.areas.ends → offset ≡ aligned_end new.areas.current pieces old.behind.thumb s.what)
-    → new.map ≡ old.map → new.names ≡ old.names → label ≡ (old.behind.thumb && next.code)
+    → new.map ≡ old.map → new.names ≡ old.names → new.all_known ≡ old.all_known → label ≡ (old.behind.thumb && next.code)
     → Reaches d s before new (record { area = new.areas.current; offset = offset; map = old.map; thumb = old.behind.thumb; label_thumb = label })
-reaches d s before old new next offset label h steps standing enters starts map names thumbed =
+reaches d s before old new next offset label h steps standing enters starts map names known thumbed =
     let area = area_behind (s ∷ statements_of before) in
     let pieces = pieces_of before in
     let areas : AreNumbered (areas_behind (s ∷ statements_of before)) area pieces new.areas =
@@ -62,7 +62,7 @@ reaches d s before old new next offset label h steps standing enters starts map 
     let thumb : old.behind.thumb ≡ thumb_behind (statements_of before) = ap (λ (b : Behind). b.thumb) h.standing in
     let code : next.code ≡ code_behind (s ∷ statements_of before) = ap (λ (b : Behind). b.code) after in
     record {
-      at = record { standing = standing ∙ after; areas = areas; map = map ∙ h.map; names = names ∙ h.names };
+      at = record { standing = standing ∙ after; areas = areas; map = map ∙ h.map; names = names ∙ h.names; known = λ k. h.known (sym known ∙ k) };
       spot = record {
         area = areas.here;
         offset = starts pieces areas.ends ∙ ap (λ a. aligned_end a pieces old.behind.thumb s.what) areas.here ∙ ap (λ t. aligned_end area pieces t s.what) thumb;

@@ -1,28 +1,25 @@
 -- A line more.
-use Rattle.std.proofs.Common.{◌≡◌, ◌<◌, ◌≤◌, ℕ, ◌+◌, ◌%◌, ◌^◌, Bool, true, false, List, [], ◌∷◌, ◌++◌, length, Option, Some, None, refl, sym, ap, ◌∙◌, subst, arith, nat_lt, min, slice_get, append-nil, append_assoc}
+use Rattle.std.proofs.Common.{◌≡◌, ◌<◌, ◌≤◌, ℕ, ◌+◌, ◌%◌, ◌^◌, ◌&&◌, Bool, true, false, List, [], ◌∷◌, ◌++◌, length, Option, Some, None, refl, sym, ap, ◌∙◌, subst, arith, nat_lt, min, slice_get, append-nil, append_assoc}
 use Rattle.std.specs.Prelude.{Result, Ok, Err}
 use Rattle.std.proofs.lemmas.Bool.{lt-ltb, le-ltb}
 use Rattle.sdt_fault.specs.declared.kinds.LineKind.{LineKind}
-use Rattle.sdt_fault.specs.declared.kinds.LineKind.TheVariants.{Syntax, UnknownWord, FloatingPoint, BadOperand, Constant, Forward, DuplicateName, WrongType, OutOfRange, Nesting, Assert, NoArea, DivideByZero, TooDeep, TooMany}
+use Rattle.sdt_fault.specs.declared.kinds.LineKind.TheVariants.{Syntax, TooMany}
 use Rattle.asm_model.specs.declared.directives.DirectiveLine.{DirectiveLine}
 use Rattle.asm_model.specs.declared.directives.DirectiveLine.TheVariants as line
-use Rattle.asm_model.specs.declared.values.Value.{Value}
-use Rattle.asm_model.specs.declared.LaidName.{LaidName}
+use Rattle.asm_model.specs.declared.names.LaidName.{LaidName}
+use Rattle.asm_model.specs.declared.names.Names.{Names}
 use Rattle.asm_model.specs.declared.statements.Statement.{Statement}
 use Rattle.asm_model.specs.declared.statements.What.{What}
 use Rattle.asm_model.specs.declared.statements.What.TheVariants as what
-use Rattle.asm_model.specs.AtLine.{SourceLine, Sight, sight, added_names, seen_behind, made_name}
-use Rattle.asm_model.specs.Grammar.{Tree}
+use Rattle.asm_model.specs.AtLine.{SourceLine, names_at, added_names, seen_behind}
 use Rattle.asm_model.specs.Kinds.{earlier, told_kind}
 use Rattle.asm_model.specs.Says.{mapped}
 use Rattle.asm_model.specs.Before.{area_behind, is_thumb_label}
-use Rattle.asm_model.specs.Entries.{equal_entry}
-use Rattle.asm_model.specs.Extents.{Extent, Block, Padding, Loading, Pool, number_there, tree_value, extent_of}
-use Rattle.asm_model.specs.Labels.{Defined, Unnamed, Label, Equal, MapField, RegisterName, defined_by, imported_in, imported_entries}
-use Rattle.asm_model.specs.Laid.{LaidLine, statements_of, lines_of, taken, pieces_of, map_behind, map_from, added, set_or, offset_behind, tree_equated, definition_of, line_behind, imported_lines, sight_behind, laid_behind}
+use Rattle.asm_model.specs.Extents.{Extent, Block, number_there, extent_of}
+use Rattle.asm_model.specs.Labels.{Defined, Unnamed, defined_by, imported_in, imported_entries}
+use Rattle.asm_model.specs.Laid.{LaidLine, statements_of, lines_of, taken, pieces_of, map_behind, map_from, added, set_or, offset_behind, definition_of, line_behind, imported_lines, names_behind, laid_behind}
 use Rattle.asm_model.specs.LayoutKinds.{fault_kinds, kind_if, map_kinds, area_bytes}
 use Rattle.asm_model.specs.Offsets.{Piece, offset_of, size_behind, start_in}
-use Rattle.asm_model.specs.Trees.{tree_of}
 use Rattle.asm_model.proofs.LaidLemmas.{starts_there}
 use Rattle.asm_offsets.specs.declared.extents.Extent.{Extent as Code}
 use Rattle.asm_offsets.specs.declared.extents.Placed.{Placed as Put}
@@ -30,6 +27,7 @@ use Rattle.asm_offsets.specs.Coded.{extent_of_code, IsExtent}
 use Rattle.asm_offsets.specs.Running.{Standing, piece, IsStanding, IsBehind, IsPlaced, IsThere, entry_behind}
 use Rattle.asm_offsets.specs.Laws.{ExtentsArePlaceable}
 use Rattle.asm_expr.specs.Places.{number_in}
+use Rattle.asm_laying.specs.declared.finding.Equated.{Equated}
 use Rattle.asm_laying.specs.declared.finding.Spot.{Spot}
 use Rattle.asm_laying.specs.declared.laying.Laying.{Laying}
 use Rattle.asm_laying.specs.declared.laying.Placed.{Placed}
@@ -43,77 +41,58 @@ use Rattle.asm_laying.proofs.SeeLemmas.{own_there}
 
 earlier_many : (k : LineKind) → earlier k TooMany ≡ k
 earlier_many Syntax = refl
-earlier_many UnknownWord = refl
-earlier_many FloatingPoint = refl
-earlier_many BadOperand = refl
-earlier_many Constant = refl
-earlier_many Forward = refl
-earlier_many DuplicateName = refl
-earlier_many WrongType = refl
-earlier_many OutOfRange = refl
-earlier_many Nesting = refl
-earlier_many Assert = refl
-earlier_many NoArea = refl
-earlier_many DivideByZero = refl
-earlier_many TooDeep = refl
-earlier_many TooMany = refl
+earlier_many k = refl
 
 told_first : (k : LineKind) (b : Bool) → told_kind (k ∷ kind_if b TooMany) ≡ Some k
 told_first k true = ap Some (earlier_many k)
 told_first k false = refl
 
-no_directive_map : (s : Sight) (l : DirectiveLine) (k : LineKind) → extent_of s (what.Directive l) ≡ Err k → map_kinds s (what.Directive l) ≡ []
+no_directive_map : (s : Names) (l : DirectiveLine) (k : LineKind) → extent_of s (what.Directive l) ≡ Err k → map_kinds s (what.Directive l) ≡ []
 no_directive_map s (line.Map e) k h = absurd (cc)
 no_directive_map s (line.Field e) k h = absurd (cc)
 no_directive_map s l k h = refl
 
-no_map : (s : Sight) (w : What) (k : LineKind) → extent_of s w ≡ Err k → map_kinds s w ≡ []
-no_map s what.Nothing k h = refl
-no_map s (what.Arm l) k h = refl
-no_map s (what.Thumb l) k h = refl
-no_map s (what.Pseudo l) k h = refl
+no_map : (s : Names) (w : What) (k : LineKind) → extent_of s w ≡ Err k → map_kinds s w ≡ []
 no_map s (what.Directive l) k h = no_directive_map s l k h
+no_map s w k h = refl
 
 mapped_faults : {A B : Type 0} (f : A → B) (r : Result A LineKind) → fault_kinds r ≡ fault_kinds (mapped f r)
 mapped_faults f (Ok x) = refl
 mapped_faults f (Err k) = refl
 
-directive_map_is : (map : ℕ) (s : Sight) (l : DirectiveLine) → map_kinds s (what.Directive l) ≡ fault_kinds (map_after map s (what.Directive l))
+directive_map_is : (map : ℕ) (s : Names) (l : DirectiveLine) → map_kinds s (what.Directive l) ≡ fault_kinds (map_after map s (what.Directive l))
 directive_map_is map s (line.Map e) = refl
 directive_map_is map s (line.Field e) = mapped_faults (λ n. (map + n) % 2 ^ 32) (number_there s e)
 directive_map_is map s l = refl
 
-map_is : (map : ℕ) (s : Sight) (w : What) → map_kinds s w ≡ fault_kinds (map_after map s w)
-map_is map s what.Nothing = refl
-map_is map s (what.Arm l) = refl
-map_is map s (what.Thumb l) = refl
-map_is map s (what.Pseudo l) = refl
+map_is : (map : ℕ) (s : Names) (w : What) → map_kinds s w ≡ fault_kinds (map_after map s w)
 map_is map s (what.Directive l) = directive_map_is map s l
+map_is map s w = refl
 
 abbrev is_large : List LaidName → Statement → List LaidLine → Bool
 is_large d s before = nat_lt area_bytes ((laid_behind d s before).offset + (laid_behind d s before).size)
 
-pub told_extent : (d : List LaidName) (s : Statement) (before : List LaidLine) (k : LineKind) → extent_of (sight_behind d s before) s.what ≡ Err k
+pub told_extent : (d : List LaidName) (s : Statement) (before : List LaidLine) (k : LineKind) → extent_of (names_behind d s before) s.what ≡ Err k
     → told_of (laid_behind d s before) ≡ Some k
 told_extent d s before k h =
-    ap (λ r. told_kind (fault_kinds r ++ map_kinds (sight_behind d s before) s.what ++ kind_if (is_large d s before) TooMany)) h
-    ∙ ap (λ ks. told_kind ((k ∷ []) ++ ks ++ kind_if (is_large d s before) TooMany)) (no_map (sight_behind d s before) s.what k h)
+    ap (λ r. told_kind (fault_kinds r ++ map_kinds (names_behind d s before) s.what ++ kind_if (is_large d s before) TooMany)) h
+    ∙ ap (λ ks. told_kind ((k ∷ []) ++ ks ++ kind_if (is_large d s before) TooMany)) (no_map (names_behind d s before) s.what k h)
     ∙ told_first k (is_large d s before)
 
 told_placed : (d : List LaidName) (s : Statement) (before : List LaidLine) (e : Extent) (map : ℕ) (r : Result ℕ LineKind)
-    → extent_of (sight_behind d s before) s.what ≡ Ok e → map_after map (sight_behind d s before) s.what ≡ r
+    → extent_of (names_behind d s before) s.what ≡ Ok e → map_after map (names_behind d s before) s.what ≡ r
     → told_of (laid_behind d s before) ≡ told_kind (fault_kinds r ++ kind_if (is_large d s before) TooMany)
 told_placed d s before e map r h g =
-    ap (λ x. told_kind (fault_kinds x ++ map_kinds (sight_behind d s before) s.what ++ kind_if (is_large d s before) TooMany)) h
-    ∙ ap (λ ks. told_kind (ks ++ kind_if (is_large d s before) TooMany)) (map_is map (sight_behind d s before) s.what ∙ ap (λ x. fault_kinds x) g)
+    ap (λ x. told_kind (fault_kinds x ++ map_kinds (names_behind d s before) s.what ++ kind_if (is_large d s before) TooMany)) h
+    ∙ ap (λ ks. told_kind (ks ++ kind_if (is_large d s before) TooMany)) (map_is map (names_behind d s before) s.what ∙ ap (λ x. fault_kinds x) g)
 
 pub told_map : (d : List LaidName) (s : Statement) (before : List LaidLine) (e : Extent) (map : ℕ) (k : LineKind)
-    → extent_of (sight_behind d s before) s.what ≡ Ok e → map_after map (sight_behind d s before) s.what ≡ Err k
+    → extent_of (names_behind d s before) s.what ≡ Ok e → map_after map (names_behind d s before) s.what ≡ Err k
     → told_of (laid_behind d s before) ≡ Some k
 told_map d s before e map k h g = told_placed d s before e map (Err k) h g ∙ told_first k (is_large d s before)
 
 told_large : (d : List LaidName) (s : Statement) (before : List LaidLine) (e : Extent) (map n : ℕ) (b : Bool)
-    → extent_of (sight_behind d s before) s.what ≡ Ok e → map_after map (sight_behind d s before) s.what ≡ Ok n → is_large d s before ≡ b
+    → extent_of (names_behind d s before) s.what ≡ Ok e → map_after map (names_behind d s before) s.what ≡ Ok n → is_large d s before ≡ b
     → told_of (laid_behind d s before) ≡ told_kind (kind_if b TooMany)
 told_large d s before e map n b h g t = told_placed d s before e map (Ok n) h g ∙ ap (λ x. told_kind (kind_if x TooMany)) t
 
@@ -126,17 +105,14 @@ added_is : (map n : ℕ) (r : Result ℕ LineKind) → mapped (λ k. (map + k) %
 added_is map n (Ok k) h = cc
 added_is map n (Err k) h = absurd (cc)
 
-directive_map_from : (map n : ℕ) (s : Sight) (l : DirectiveLine) → map_after map s (what.Directive l) ≡ Ok n → n ≡ map_from map s (what.Directive l)
+directive_map_from : (map n : ℕ) (s : Names) (l : DirectiveLine) → map_after map s (what.Directive l) ≡ Ok n → n ≡ map_from map s (what.Directive l)
 directive_map_from map n s (line.Map e) h = set_is map n (number_there s e) h
 directive_map_from map n s (line.Field e) h = added_is map n (number_there s e) h
 directive_map_from map n s l h = let e : Ok map ≡ Ok n = h in cc
 
-pub map_from_is : (map n : ℕ) (s : Sight) (w : What) → map_after map s w ≡ Ok n → n ≡ map_from map s w
-map_from_is map n s what.Nothing h = cc
-map_from_is map n s (what.Arm l) h = cc
-map_from_is map n s (what.Thumb l) h = cc
-map_from_is map n s (what.Pseudo l) h = cc
+pub map_from_is : (map n : ℕ) (s : Names) (w : What) → map_after map s w ≡ Ok n → n ≡ map_from map s w
 map_from_is map n s (what.Directive l) h = directive_map_from map n s l h
+map_from_is map n s w h = let e : Ok map ≡ Ok n = h in cc
 
 -- ---- what is taken up
 
@@ -168,9 +144,7 @@ placed_all (Some k) (Block a n) before areas p h =
     let fits : p.offset + p.size ≤ 2 ^ 24 = h.fits in
     let same : min n most_bytes ≡ n = all_there n p.size (sym size) (omega (arith, fits)) in
     subst (λ m. IsPlaced (Some k) (Block a m) before areas p) same h
-placed_all area (Padding m n) before areas p h = h
-placed_all area (Loading n v) before areas p h = h
-placed_all area Pool before areas p h = h
+placed_all area e before areas p h = h
 
 pub large_all : (area : Option ℕ) (e : Extent) (before : List Piece) → 2 ^ 24 < offset_of area before (capped e) + size_behind area before (capped e)
     → 2 ^ 24 < offset_of area before e + size_behind area before e
@@ -179,60 +153,45 @@ large_all (Some k) (Block a n) before h =
     let g : 2 ^ 24 < start_in k before (Block a n) + min n most_bytes = h in
     let less : min n most_bytes ≤ n = omega arith in
     let goal : 2 ^ 24 < start_in k before (Block a n) + n = omega (arith, g, less) in goal
-large_all area (Padding m n) before h = h
-large_all area (Loading n v) before h = h
-large_all area Pool before h = h
+large_all area e before h = h
 
 pub capped_fits : (e : Extent) → IsExtent e → IsExtent (capped e)
 capped_fits (Block a n) h = h
-capped_fits (Padding m n) h = h
-capped_fits (Loading n v) h = h
-capped_fits Pool h = h
+capped_fits e h = h
 
-pub found_fits : ExtentsArePlaceable → (s : Sight) (w : What) (x : Code) → coded (Ok x) ≡ all_capped (extent_of s w) → IsExtent (extent_of_code x)
+pub found_fits : ExtentsArePlaceable → (s : Names) (w : What) (x : Code) → coded (Ok x) ≡ all_capped (extent_of s w) → IsExtent (extent_of_code x)
 found_fits law s w x h =
     let e = coded_is x (extent_of s w) h in
     subst IsExtent (sym e.2) (capped_fits e.0 (law s w e.0 e.1))
 
 -- ---- names
 
-made_is : (make : Value → LaidName) (s : Sight) (names : List LaidName) (area : Option ℕ) (name : List ℕ) (o : Option Tree)
-    → added_names s (tree_equated names area name o) ≡ made_name (equal_entry names area name) (tree_value s o)
-made_is make s names area name None = refl
-made_is make s names area name (Some t) = refl
-
--- a definition adds its own name, or that of an expression; the sight of a name for an expression does not hang on its size
-adds : (d : List LaidName) (s : Statement) (before : List LaidLine) (size : ℕ) (x : Defined)
-    → added_names (sight d (seen_behind d (lines_of before)) (line_behind s before (definition_of d x (area_behind (s ∷ statements_of before)) (offset_behind s before) size (is_thumb_label s (statements_of before)) (map_behind before))))
+-- a definition adds its own name, or that of an expression; what a name for an expression means does not hang on its size
+adds : (d : List LaidName) (s : Statement) (before : List LaidLine) (size : Option ℕ) (x : Defined)
+    → added_names (names_at d (seen_behind d (lines_of before)) (line_behind s before (definition_of d x (area_behind (s ∷ statements_of before)) (offset_behind s before) size (is_thumb_label s (statements_of before)) (map_behind before))))
     (definition_of d x (area_behind (s ∷ statements_of before)) (offset_behind s before) size (is_thumb_label s (statements_of before)) (map_behind before))
     ≡ one_entry (own_entry x (area_behind (s ∷ statements_of before)) (offset_behind s before) size (is_thumb_label s (statements_of before)) (map_behind before))
     ++ equal_names d (area_behind (s ∷ statements_of before))
-    (sight d (seen_behind d (lines_of before)) (line_behind s before (definition_of d x (area_behind (s ∷ statements_of before)) (offset_behind s before) 0 (is_thumb_label s (statements_of before)) (map_behind before)))) x
+    (names_at d (seen_behind d (lines_of before)) (line_behind s before (definition_of d x (area_behind (s ∷ statements_of before)) (offset_behind s before) None (is_thumb_label s (statements_of before)) (map_behind before)))) x
 adds d s before size Unnamed = refl
-adds d s before size (Label name) = refl
-adds d s before size (Equal name e) =
-    made_is (equal_entry d (area_behind (s ∷ statements_of before)) name)
-    (sight d (seen_behind d (lines_of before)) (line_behind s before (definition_of d (Equal name e) (area_behind (s ∷ statements_of before)) (offset_behind s before) 0 (is_thumb_label s (statements_of before)) (map_behind before))))
-    d (area_behind (s ∷ statements_of before)) name (tree_of e)
-adds d s before size (MapField name) = refl
-adds d s before size (RegisterName name r) = refl
+adds d s before size x = refl
 
 imports : (d : List LaidName) (s : Statement) (before : List LaidLine) (rest : List SourceLine) (o : Option (List ℕ))
     → seen_behind d (imported_lines s before o ++ rest) ≡ seen_behind d rest ++ imported_entries o
 imports d s before rest None = sym (append-nil (seen_behind d rest))
 imports d s before rest (Some name) = refl
 
-pub names_more : (d : List LaidName) (s : Statement) (before : List LaidLine) (e : Extent) (own equal : List LaidName) → extent_of (sight_behind d s before) s.what ≡ Ok e
-    → own ≡ one_entry (own_entry (defined_by s) (area_behind (s ∷ statements_of before)) (offset_behind s before) (laid_behind d s before).size (is_thumb_label s (statements_of before)) (map_behind before))
-    → equal ≡ equal_names d (area_behind (s ∷ statements_of before)) (sight_behind d s before) (defined_by s)
+pub names_more : (d : List LaidName) (s : Statement) (before : List LaidLine) (e : Extent) (own equal : List LaidName) → extent_of (names_behind d s before) s.what ≡ Ok e
+    → own ≡ one_entry (own_entry (defined_by s) (area_behind (s ∷ statements_of before)) (offset_behind s before) (Some (laid_behind d s before).size) (is_thumb_label s (statements_of before)) (map_behind before))
+    → equal ≡ equal_names d (area_behind (s ∷ statements_of before)) (names_behind d s before) (defined_by s)
     → seen_behind d (lines_of before) ++ own ++ equal ++ imported_entries (imported_in s.what) ≡ seen_behind d (lines_of (laid_behind d s before ∷ before))
 names_more d s before e own equal h o q =
     let seen = seen_behind d (lines_of before) in
     let import = imported_entries (imported_in s.what) in
     let laid = laid_behind d s before in
     let one : seen ++ own ++ equal ≡ seen_behind d (laid.line ∷ lines_of before) =
-    append_assoc seen own equal ∙ ap (λ x. seen ++ (x ++ equal)) o ∙ ap (λ x. seen ++ (one_entry (own_entry (defined_by s) (area_behind (s ∷ statements_of before)) (offset_behind s before) laid.size (is_thumb_label s (statements_of before)) (map_behind before)) ++ x)) q
-    ∙ ap (λ x. seen ++ x) (sym (adds d s before laid.size (defined_by s))) in
+    append_assoc seen own equal ∙ ap (λ x. seen ++ (x ++ equal)) o ∙ ap (λ x. seen ++ (one_entry (own_entry (defined_by s) (area_behind (s ∷ statements_of before)) (offset_behind s before) (Some laid.size) (is_thumb_label s (statements_of before)) (map_behind before)) ++ x)) q
+    ∙ ap (λ x. seen ++ x) (sym (adds d s before (Some laid.size) (defined_by s))) in
     ap (λ x. x ++ import) one ∙ sym (imports d s before (laid.line ∷ lines_of before) (imported_in s.what))
 
 -- ---- a line more
@@ -243,14 +202,14 @@ fits_low a b c d h g f = le-ltb area_bytes (c + d) (omega arith)
 fits_not : (a b c d : ℕ) → a ≡ c → b ≡ d → 2 ^ 24 < a + b → nat_lt area_bytes (c + d) ≡ true
 fits_not a b c d h g f = lt-ltb area_bytes (c + d) (omega arith)
 
-pub told_too_large : (d : List LaidName) (s : Statement) (before : List LaidLine) (spot : Spot) (x : Code) (map : ℕ) (equal : Option LaidName) → IsSpot s before spot
-    → AreNeeded d spot.area spot.map (sight_behind d s before) s (Ok x) (Ok map) equal
+pub told_too_large : (d : List LaidName) (s : Statement) (before : List LaidLine) (spot : Spot) (x : Code) (map : ℕ) (equal : Equated) → IsSpot s before spot
+    → AreNeeded d spot (names_behind d s before) s (Ok x) (Ok map) equal
     → 2 ^ 24 < offset_of spot.area (pieces_of before) (extent_of_code x) + size_behind spot.area (pieces_of before) (extent_of_code x)
     → told_of (laid_behind d s before) ≡ Some TooMany
 told_too_large d s before spot x map equal sp found large =
     let area = area_behind (s ∷ statements_of before) in
     let pieces = pieces_of before in
-    let r = sight_behind d s before in
+    let r = names_behind d s before in
     let e = coded_is x (extent_of r s.what) found.extent_is in
     let over : 2 ^ 24 < offset_of area pieces e.0 + size_behind area pieces e.0 =
     large_all area e.0 pieces
@@ -264,18 +223,23 @@ there_same : (o p : Option ℕ) (xs ys : List Standing) → p ≡ o → length y
 there_same None p xs ys h g t = rw h t
 there_same (Some k) p xs ys h g t = let less : k < length xs = t in let more : k < length ys = omega arith in rw h more
 
-pub lays : (d : List LaidName) (s : Statement) (before : List LaidLine) (old new : Laying) (spot : Spot) (x : Code) (map : ℕ) (equal : Option LaidName) (p : Put)
+both_hold : (a b : Bool) → (a && b) ≡ true → (a ≡ true) × (b ≡ true)
+both_hold true b h = (refl, h)
+both_hold false b h = absurd (cc)
+
+pub lays : (d : List LaidName) (s : Statement) (before : List LaidLine) (old new : Laying) (spot : Spot) (x : Code) (map : ℕ) (equal : Equated) (p : Put)
     → IsAt d s before old → IsSpot s before spot
-    → AreNeeded d spot.area spot.map (sight_behind d s before) s (Ok x) (Ok map) equal
+    → AreNeeded d spot (names_behind d s before) s (Ok x) (Ok map) equal
     → IsPlaced spot.area (extent_of_code x) (pieces_of before) new.areas.ends p → length new.areas.ends ≡ length old.areas.ends
     → new.behind ≡ old.behind → new.map ≡ map → new.areas.numbers ≡ old.areas.numbers → new.areas.count ≡ old.areas.count → new.areas.current ≡ old.areas.current
-    → new.names ≡ old.names ++ one_entry (own_entry (defined_by s) spot.area spot.offset p.size spot.label_thumb spot.map) ++ one_entry equal ++ imported_entries (imported_in s.what)
-    → (strings : List Bool) → strings ≡ string_marks (sight_behind d s before) s.what
+    → new.names ≡ old.names ++ one_entry (own_entry (defined_by s) spot.area spot.offset (Some p.size) spot.label_thumb spot.map) ++ one_entry equal.entry ++ imported_entries (imported_in s.what)
+    → new.all_known ≡ (old.all_known && equal.known)
+    → (strings : List Bool) → strings ≡ string_marks (names_behind d s before) s.what
     → IsLaid d (laid_behind d s before) before new (record { area = spot.area; offset = p.offset; size = p.size; thumb = spot.thumb; thumb_label = spot.label_thumb; map = spot.map; literal = p.literal; strings = strings })
-lays d s before old new spot x map equal p at sp found placed long behind mapped numbers count current names strings marked =
+lays d s before old new spot x map equal p at sp found placed long behind mapped numbers count current names known strings marked =
     let area = area_behind (s ∷ statements_of before) in
     let pieces = pieces_of before in
-    let r = sight_behind d s before in
+    let r = names_behind d s before in
     let l = laid_behind d s before in
     let e = coded_is x (extent_of r s.what) found.extent_is in
     let here : IsPlaced area e.0 pieces new.areas.ends p =
@@ -284,12 +248,12 @@ lays d s before old new spot x map equal p at sp found placed long behind mapped
     (subst (λ a. IsPlaced a (extent_of_code x) pieces new.areas.ends p) sp.area placed)) in
     let offset : p.offset ≡ l.offset = here.offset ∙ sym (starts_there area pieces r s.what e.0 e.1) in
     let size : p.size ≡ l.size = here.size ∙ ap (λ q. size_behind area pieces (taken q)) (sym e.1) in
-    let own = one_entry (own_entry (defined_by s) spot.area spot.offset p.size spot.label_thumb spot.map) in
+    let mine = one_entry (own_entry (defined_by s) spot.area spot.offset (Some p.size) spot.label_thumb spot.map) in
     let import = imported_entries (imported_in s.what) in
-    let own_eq : own ≡ one_entry (own_entry (defined_by s) area (offset_behind s before) l.size (is_thumb_label s (statements_of before)) (map_behind before)) =
-    ap one_entry (own_there (defined_by s) spot.area area spot.offset (offset_behind s before) p.size l.size spot.label_thumb (is_thumb_label s (statements_of before)) spot.map (map_behind before)
-    sp.area sp.offset size sp.label_thumb sp.map) in
-    let equal_eq : one_entry equal ≡ equal_names d area r (defined_by s) = found.equal_is ∙ ap (λ a. equal_names d a r (defined_by s)) sp.area in
+    let own_eq : mine ≡ one_entry (own_entry (defined_by s) area (offset_behind s before) (Some l.size) (is_thumb_label s (statements_of before)) (map_behind before)) =
+    ap one_entry (own_there (defined_by s) spot.area area spot.offset (offset_behind s before) (Some p.size) (Some l.size) spot.label_thumb (is_thumb_label s (statements_of before)) spot.map (map_behind before)
+    sp.area sp.offset (ap Some size) sp.label_thumb sp.map) in
+    let equal_eq : one_entry equal.entry ≡ equal_names d area r (defined_by s) = found.equal_is.entry ∙ ap (λ a. equal_names d a r (defined_by s)) sp.area in
     record {
       told = told_large d s before e.0 spot.map map false e.1 (sym found.after_is) (fits_low p.offset p.size l.offset l.size offset size here.fits);
       area = sp.area;
@@ -312,33 +276,34 @@ lays d s before old new spot x map equal p at sp found placed long behind mapped
         };
         map = mapped ∙ map_from_is spot.map map r s.what (sym found.after_is) ∙ ap (λ m. map_from m r s.what) sp.map;
         names =
-            names ∙ ap (λ ns. ns ++ own ++ one_entry equal ++ import) at.names
-            ∙ names_more d s before e.0 own (one_entry equal) e.1 own_eq equal_eq;
+            names ∙ ap (λ ns. ns ++ mine ++ one_entry equal.entry ++ import) at.names
+            ∙ names_more d s before e.0 mine (one_entry equal.entry) e.1 own_eq equal_eq;
+        known = λ k. let both = both_hold old.all_known equal.known (sym known ∙ k) in (found.equal_is.known both.1, at.known both.0);
       };
     }
 
 -- ---- other answers
 
-pub told_no_extent : (d : List LaidName) (s : Statement) (before : List LaidLine) (spot : Spot) (k : LineKind) (map : Result ℕ LineKind) (equal : Option LaidName)
-    → AreNeeded d spot.area spot.map (sight_behind d s before) s (Err k) map equal
+pub told_no_extent : (d : List LaidName) (s : Statement) (before : List LaidLine) (spot : Spot) (k : LineKind) (map : Result ℕ LineKind) (equal : Equated)
+    → AreNeeded d spot (names_behind d s before) s (Err k) map equal
     → told_of (laid_behind d s before) ≡ Some k
-told_no_extent d s before spot k map equal found = told_extent d s before k (fault_is k (extent_of (sight_behind d s before) s.what) found.extent_is)
+told_no_extent d s before spot k map equal found = told_extent d s before k (fault_is k (extent_of (names_behind d s before) s.what) found.extent_is)
 
-pub told_no_map : (d : List LaidName) (s : Statement) (before : List LaidLine) (spot : Spot) (x : Code) (k : LineKind) (equal : Option LaidName)
-    → AreNeeded d spot.area spot.map (sight_behind d s before) s (Ok x) (Err k) equal
+pub told_no_map : (d : List LaidName) (s : Statement) (before : List LaidLine) (spot : Spot) (x : Code) (k : LineKind) (equal : Equated)
+    → AreNeeded d spot (names_behind d s before) s (Ok x) (Err k) equal
     → told_of (laid_behind d s before) ≡ Some k
 told_no_map d s before spot x k equal found =
-    let e = coded_is x (extent_of (sight_behind d s before) s.what) found.extent_is in
+    let e = coded_is x (extent_of (names_behind d s before) s.what) found.extent_is in
     told_map d s before e.0 spot.map k e.1 (sym found.after_is)
 
 pub may_place : (d : List LaidName) (s : Statement) (before : List LaidLine) (state : Laying) (spot : Spot) → Reaches d s before state spot → IsThere spot.area state.areas.ends
 may_place d s before state spot h = there_same state.areas.current spot.area state.areas.ends state.areas.ends (h.spot.area ∙ sym h.at.areas.here) refl h.at.areas.there
 
-pub fits_all : ExtentsArePlaceable → (s : Sight) (w : What) (r : Result Code LineKind) → coded r ≡ all_capped (extent_of s w) → OkExtent r
+pub fits_all : ExtentsArePlaceable → (s : Names) (w : What) (r : Result Code LineKind) → coded r ≡ all_capped (extent_of s w) → OkExtent r
 fits_all law s w (Ok x) h = found_fits law s w x h
 fits_all law s w (Err k) h = tt
 
 pub tells : (d : List LaidName) (s : Statement) (before : List LaidLine) (spot : Spot) (number : Result ℕ LineKind) (placed : Result Placed LineKind) (state : Laying)
-    → IsSpot s before spot → number ≡ said_number (sight_behind d s before) s.what → IsPlacedLine d (laid_behind d s before) before state placed
+    → IsSpot s before spot → number ≡ said_number (names_behind d s before) s.what → IsPlacedLine d (laid_behind d s before) before state placed
     → Tells d (laid_behind d s before) before state (record { area = spot.area; thumb = spot.thumb; number = number; placed = placed })
 tells d s before spot number placed state sp h g = record { area = sp.area; thumb = sp.thumb; number = h; placed = g }

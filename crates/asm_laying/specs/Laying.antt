@@ -1,26 +1,31 @@
 -- The state behind the lines of a source so far, and what a statement more gives. SDT 2.50 Reference Guide, chapter on the
 -- assembler. Lines are listed with the nearest first.
-use Rattle.std.specs.Prelude.{◌≡◌, ℕ, ◌+◌, ◌<◌, List, [], ◌∷◌, ◌++◌, length, nat_lt, Option, Some, None, Result, Ok, Err}
+use Rattle.std.specs.Prelude.{◌≡◌, ℕ, ◌+◌, ◌<◌, List, [], ◌∷◌, ◌++◌, length, nat_lt, true, Option, Some, None, Result, Ok, Err}
 use Rattle.sdt_fault.specs.declared.NoMemory.{NoMemory}
 use Rattle.sdt_fault.specs.declared.kinds.LineKind.{LineKind}
 use Rattle.sdt_fault.specs.declared.kinds.LineKind.TheVariants.{TooMany}
 use Rattle.asm_model.specs.declared.names.LaidName.{LaidName}
 use Rattle.asm_model.specs.declared.statements.Statement.{Statement}
-use Rattle.asm_model.specs.AtLine.{Sight, seen_behind, made_name}
+use Rattle.asm_model.specs.declared.names.Names.{Names}
+use Rattle.asm_model.specs.AtLine.{seen_behind, added_names}
 use Rattle.asm_model.specs.Kinds.{told_kind}
 use Rattle.asm_model.specs.Before.{thumb_behind, areas_behind, area_behind, is_thumb_label}
-use Rattle.asm_model.specs.Entries.{equal_entry}
-use Rattle.asm_model.specs.Extents.{value_there, extent_of}
+use Rattle.asm_model.specs.Extents.{extent_of}
 use Rattle.asm_model.specs.Labels.{Defined, Equal, defined_by}
-use Rattle.asm_model.specs.Laid.{LaidLine, statements_of, lines_of, taken, pieces_of, map_behind, offset_behind}
+use Rattle.asm_model.specs.Laid.{LaidLine, statements_of, lines_of, taken, pieces_of, map_behind, offset_behind, tree_equated}
+use Rattle.asm_model.specs.Trees.{tree_of}
 use Rattle.asm_model.specs.LayoutKinds.{fault_kinds, kind_if, map_kinds, area_bytes}
+use Rattle.asm_names.specs.Defining.{own_entry}
 use Rattle.asm_names.specs.Steps.{one_entry}
-use Rattle.asm_offsets.specs.Running.{entry_behind}
+use Rattle.asm_offsets.specs.Running.{IsBehind, entry_behind}
 use Rattle.asm_offsets.specs.declared.extents.Extent.{Extent as Code}
 use Rattle.asm_offsets.specs.Coded.{extent_of_code, IsExtent}
+use Rattle.layout_laws.specs.Final.{IsEqualKnown, AreEqualsKnown}
 use Rattle.said_model.specs.Said.{IsRead}
+use Rattle.asm_laying.specs.declared.finding.Equated.{Equated}
 use Rattle.asm_laying.specs.declared.finding.Found.{Found}
 use Rattle.asm_laying.specs.declared.finding.Spot.{Spot}
+use Rattle.asm_laying.specs.declared.laying.Ended.{Ended}
 use Rattle.asm_laying.specs.declared.laying.Laid.{Laid}
 use Rattle.asm_laying.specs.declared.laying.Laying.{Laying}
 use Rattle.asm_laying.specs.declared.laying.Placed.{Placed}
@@ -35,6 +40,7 @@ pub record IsLaying (declared : List LaidName) (before : List LaidLine) (state :
   pub areas : AreNumbered (areas_behind (statements_of before)) (area_behind (statements_of before)) (pieces_of before) state.areas
   pub map : state.map ≡ map_behind before
   pub names : state.names ≡ seen_behind declared (lines_of before)
+  pub known : state.all_known ≡ true → AreEqualsKnown before
 
 -- lines of a source were laid, and there may be one more
 pub record MayLay (declared : List LaidName) (state : Laying) : Type 0 where
@@ -45,6 +51,16 @@ pub record MayLay (declared : List LaidName) (state : Laying) : Type 0 where
 pub record MayStep (state : Laying) : Type 0 where
   pub declared : List LaidName
   pub may : MayLay declared state
+
+-- names that are known behind lines, where each line's name for an expression is known there
+abbrev pub AreKnownNames : List LaidName → List LaidLine → Option (List LaidName) → Type 0
+AreKnownNames declared before None = Unit {0}
+AreKnownNames declared before (Some names) = AreEqualsKnown before × (names ≡ seen_behind declared (lines_of before))
+
+-- what lines leave behind the last of them
+pub record IsEnded (declared : List LaidName) (before : List LaidLine) (e : Ended) : Type 0 where
+  pub ends : IsBehind (pieces_of before) e.ends
+  pub names : AreKnownNames declared before e.names
 
 -- ---- a statement more
 
@@ -62,6 +78,7 @@ pub record IsAt (declared : List LaidName) (s : Statement) (before : List LaidLi
   pub areas : AreNumbered (areas_behind (s ∷ statements_of before)) (area_behind (s ∷ statements_of before)) (pieces_of before) state.areas
   pub map : state.map ≡ map_behind before
   pub names : state.names ≡ seen_behind declared (lines_of before)
+  pub known : state.all_known ≡ true → AreEqualsKnown before
 
 pub record Reaches (declared : List LaidName) (s : Statement) (before : List LaidLine) (state : Laying) (p : Spot) : Type 0 where
   pub at : IsAt declared s before state
@@ -74,29 +91,33 @@ abbrev pub DefinedRead : Defined → Type 0
 DefinedRead (Equal name e) = IsRead e
 DefinedRead _ = Unit {0}
 
--- the entry of a name for an expression, where the value is known
-abbrev pub equal_names : List LaidName → Option ℕ → Sight → Defined → List LaidName
-equal_names names area s (Equal name e) = made_name (equal_entry names area name) (value_there s e)
+-- the entry of a name for an expression, unless its value needs a later name
+abbrev pub equal_names : List LaidName → Option ℕ → Names → Defined → List LaidName
+equal_names names area s (Equal name e) = added_names s (tree_equated names area name (tree_of e))
 equal_names names area s _ = []
 
--- what a statement takes up, the storage map behind it and the entry of its name for an expression
-pub record AreNeeded (names : List LaidName) (area : Option ℕ) (map : ℕ) (s : Sight) (statement : Statement) (extent : Result Code LineKind) (after : Result ℕ LineKind) (equal : Option LaidName) : Type 0 where
-  pub extent_is : coded extent ≡ all_capped (extent_of s statement.what)
-  pub after_is : after ≡ map_after map s statement.what
-  pub equal_is : one_entry equal ≡ equal_names names area s (defined_by statement)
+pub record IsEquated (names : List LaidName) (area : Option ℕ) (s : Names) (x : Defined) (q : Equated) : Type 0 where
+  pub entry : one_entry q.entry ≡ equal_names names area s x
+  pub known : q.known ≡ true → IsEqualKnown s x
 
-pub record IsFound (names : List LaidName) (area : Option ℕ) (map : ℕ) (s : Sight) (statement : Statement) (f : Found) : Type 0 where
-  pub needed : AreNeeded names area map s statement f.extent f.map f.equal
+-- the entry of a name at a spot, before the size of its statement is known
+abbrev pub unsized_entry : Defined → Spot → Option LaidName
+unsized_entry x p = own_entry x p.area p.offset None p.label_thumb p.map
+
+-- what a statement takes up, the storage map behind it and its name for an expression
+pub record AreNeeded (names : List LaidName) (p : Spot) (s : Names) (statement : Statement) (extent : Result Code LineKind) (after : Result ℕ LineKind) (equal : Equated) : Type 0 where
+  pub extent_is : coded extent ≡ all_capped (extent_of s statement.what)
+  pub after_is : after ≡ map_after p.map s statement.what
+  pub equal_is : IsEquated names p.area s (defined_by statement) equal
+
+pub record IsFound (names : List LaidName) (p : Spot) (s : Names) (statement : Statement) (f : Found) : Type 0 where
+  pub needed : AreNeeded names p s statement f.extent f.map f.equal
   pub number : f.number ≡ said_number s statement.what
   pub strings : f.strings ≡ string_marks s statement.what
 
 -- what an expression sees at a spot, where a source has these names, those are known, and its line's own besides
-abbrev pub sight_shown : List LaidName → List LaidName → List LaidName → Spot → Sight
-sight_shown d seen own p = record {
-  known = record { list = seen ++ own; area = p.area; offset = p.offset; map = p.map; thumb = p.thumb };
-  unsized = own;
-  all = d;
-}
+abbrev pub names_shown : List LaidName → List LaidName → List LaidName → Spot → Names
+names_shown d seen own p = record { list = seen ++ own ++ d; area = p.area; offset = p.offset; map = p.map; thumb = p.thumb }
 
 abbrev pub OkExtent : Result Code LineKind → Type 0
 OkExtent (Ok e) = IsExtent (extent_of_code e)

@@ -8,7 +8,7 @@ use Rattle.asm_model.specs.declared.directives.DirectiveLine.TheVariants as line
 use Rattle.asm_model.specs.declared.directives.RnOperand.TheVariants as rn
 use Rattle.asm_model.specs.declared.statements.What.{What}
 use Rattle.asm_model.specs.declared.statements.What.TheVariants as what
-use Rattle.asm_model.specs.AtLine.{Sight}
+use Rattle.asm_model.specs.declared.names.Names.{Names}
 use Rattle.asm_model.specs.Says.{mapped}
 use Rattle.asm_model.specs.Extents.{Extent, Block, value_there, number_there, extent_of}
 use Rattle.asm_model.specs.LayoutKinds.{exponent}
@@ -36,7 +36,7 @@ coded r = mapped extent_of_code r
 -- ---- the storage map
 
 -- the storage map behind a statement, or the fault of its number
-abbrev pub map_after : ℕ → Sight → What → Result ℕ LineKind
+abbrev pub map_after : ℕ → Names → What → Result ℕ LineKind
 map_after map s (what.Directive (line.Map e)) = number_there s e
 map_after map s (what.Directive (line.Field e)) = mapped (λ n. (map + n) % 2 ^ 32) (number_there s e)
 map_after map s _ = Ok map
@@ -44,7 +44,7 @@ map_after map s _ = Ok map
 -- ---- numbers and strings
 
 -- the number that a line says which checks ask for
-abbrev pub said_number : Sight → What → Result ℕ LineKind
+abbrev pub said_number : Names → What → Result ℕ LineKind
 said_number s (what.Directive (line.Area name a)) = exponent s a.align
 said_number s (what.Directive (line.Rn (rn.Number e))) = number_there s e
 -- nobody asks for one
@@ -56,15 +56,15 @@ is_words (Ok (Words w)) = true
 is_words _ = false
 
 -- which operands are strings
-abbrev pub marks : Sight → List Expr → List Bool
+abbrev pub marks : Names → List Expr → List Bool
 marks s es = map (λ e. is_words (value_there s e)) es
 
 -- which operands of DCB are strings by what is known at their line
-abbrev pub string_marks : Sight → What → List Bool
+abbrev pub string_marks : Names → What → List Bool
 string_marks s (what.Directive (line.Dcb es)) = marks s es
 string_marks s _ = []
 
 -- what a statement takes up, as code keeps it, with its strings
-pub record IsTaken (s : Sight) (w : What) (t : Taken) : Type 0 where
+pub record IsTaken (s : Names) (w : What) (t : Taken) : Type 0 where
   pub extent : coded t.extent ≡ all_capped (extent_of s w)
   pub strings : t.strings ≡ string_marks s w

@@ -1,18 +1,18 @@
-//! The names of a source, before it is laid out.
+//! What a statement declares, before it is laid out.
 
-ghost use Rattle.std.specs.Prelude.{◌≡◌, ◌++◌, ◌&&◌, [], IfOk};
+ghost use Rattle.std.specs.Prelude.{◌≡◌, ◌++◌, ◌&&◌, Some, IfOk, OnOk};
+ghost use Rattle.asm_model.specs.Entries as entries;
 ghost use Rattle.asm_model.specs.Labels as labels;
-ghost use Rattle.asm_model.specs.Laid.{reversed};
 ghost use Rattle.asm_names.specs.Defining.{defined_of};
 ghost use Rattle.asm_laying.specs.Declaring.{declared_entry, Declares};
 
-use crate::behind::{Behind, START};
-use asm_model::{LaidName, Statement, Value};
+use crate::behind::Behind;
+use asm_model::{LaidName, Statement, What};
 use asm_names::KnownNames;
-use asm_names::defining::{Defines, defined_by, own_entry};
-use asm_names::listing::{add_entry, add_imported};
-use asm_names::made::valued_entry;
-use sdt_fault::NoMemory;
+use asm_names::defining::{Defines, defined_by};
+use asm_names::listing::add_entry;
+use asm_names::made::{imported_name, later_entry};
+use sdt_fault::{NoMemory, Text};
 use std::alloc::Global;
 
 /// Whether a label is one of Thumb code.
@@ -25,6 +25,12 @@ pub fn is_thumb_label(thumb: bool, code: bool) -> bool
     false
 }
 
+fn later(alloc: Global, name: &Text, thumb: bool) -> Result<Option<LaidName>, NoMemory>
+    ensures { IfOk result (λ entry. entry ≡ Some (entries.later_entry name.now thumb)) }
+{
+    Ok(Some(later_entry(alloc, name, thumb)?))
+}
+
 /// The entry of a statement's name before the source is laid out.
 fn declared_entry(
     alloc: Global,
@@ -34,16 +40,29 @@ fn declared_entry(
     ensures { IfOk result (λ entry. entry ≡ declared_entry (defined_of defines.now) thumb) }
 {
     match defines {
-        Defines::Equal(name, _) => {
-            let entry = valued_entry(alloc, name, Value::Number(0), false)?;
-            Ok(Some(entry))
+        Defines::Unnamed => Ok(None),
+        Defines::Label(name) => later(alloc, name, thumb),
+        Defines::Equal(name, _) => later(alloc, name, false),
+        Defines::MapField(name) => later(alloc, name, false),
+        Defines::RegisterName(name, _) => later(alloc, name, false),
+    }
+}
+
+/// The entry of the name that a statement imports.
+fn add_imported(alloc: Global, names: &mut KnownNames, what: &What) -> Result<(), NoMemory>
+    ensures { OnOk result (names.new ≡ names.old ++ labels.declared_imports (labels.imported_in what.now)) }
+{
+    match imported_name(what) {
+        None => Ok(()),
+        Some(name) => {
+            let entry = later(alloc, name, false)?;
+            add_entry(alloc, names, entry)
         }
-        _ => own_entry(alloc, defines, None, 0, 0, thumb, 0),
     }
 }
 
 /// What a statement more declares.
-fn declare_one(
+pub fn declare_one(
     alloc: Global,
     names: &mut KnownNames,
     behind: Behind,
@@ -58,22 +77,4 @@ fn declare_one(
     add_entry(alloc, names, entry)?;
     add_imported(alloc, names, &statement.what)?;
     Ok(next)
-}
-
-/// The names of a source, in its order. Their entries have no places and values yet.
-pub fn declare(alloc: Global, statements: &[Statement]) -> Result<KnownNames, NoMemory>
-    ensures { IfOk result (λ names. names ≡ labels.declared_names (reversed statements.now [])) }
-{
-    let mut names = KnownNames::new(alloc);
-    let mut behind = START;
-    let mut left = statements;
-    'statements: loop {
-        match left {
-            [] => return Ok(names),
-            [statement, rest @ ..] => {
-                behind = declare_one(alloc, &mut names, behind, statement)?;
-                left = rest;
-            }
-        }
-    }
 }

@@ -7,16 +7,16 @@ ghost use Rattle.asm_model.specs.Extents.{Block, Padding, Loading};
 ghost use Rattle.asm_model.specs.declared.values.Value.TheVariants as value;
 ghost use Rattle.asm_model.specs.declared.statements.What.TheVariants as kinds;
 ghost use Rattle.asm_offsets.specs.Coded.{extent_of_code};
-ghost use Rattle.asm_names.specs.Sights.{sight_of};
+ghost use Rattle.asm_expr.specs.Seeing.{seen_names};
 ghost use Rattle.said_model.specs.Said.{AllRead, BoundaryRead, DirectiveSaid, PseudoSaid, WhatSaid};
 ghost use Rattle.asm_model.specs.declared.directives.DirectiveLine.TheVariants as lines;
 ghost use Rattle.asm_laying.specs.Reading.{all_capped, capped, coded, is_words, marks, most_bytes, IsTaken};
 
 use crate::numbers::{as_multiple, bytes_of, is_moved, more_bytes};
 use crate::values::{literal_there, number_there, value_there};
+use asm_expr::Seen;
 use asm_expr::kinds::earlier;
 use asm_model::{Boundary, DirectiveLine, Expr, PseudoLine, ThumbLine, Value, What};
-use asm_names::Place;
 use asm_offsets::Extent;
 use sdt_fault::kinds::LineKind;
 use sdt_fault::{List as Listed, NoMemory};
@@ -130,20 +130,20 @@ fn loading_of(thumb: bool, literal: Result<Value, LineKind>) -> Result<Extent, L
 
 fn pseudo_extent(
     alloc: Global,
-    place: &Place<'_>,
+    seen: &Seen<'_>,
     line: &PseudoLine,
 ) -> Result<Result<Extent, LineKind>, NoMemory>
     requires { PseudoSaid line.now }
-    ensures { IfOk result (λ extent. coded extent ≡ all_capped (extents.pseudo_extent (sight_of place.now) line.now)) }
+    ensures { IfOk result (λ extent. coded extent ≡ all_capped (extents.pseudo_extent (seen_names seen.now) line.now)) }
 {
     match line {
         PseudoLine::LoadConstant { value, .. } => {
-            let literal = literal_there(alloc, value, place)?;
-            Ok(loading_of(place.thumb, literal))
+            let literal = literal_there(alloc, value, seen)?;
+            Ok(loading_of(seen.thumb, literal))
         }
-        PseudoLine::Address { .. } => Ok(Ok(instruction(place.thumb))),
+        PseudoLine::Address { .. } => Ok(Ok(instruction(seen.thumb))),
         PseudoLine::LongAddress { .. } => Ok(Ok(block(4, 8))),
-        PseudoLine::NoOperation => Ok(Ok(instruction(place.thumb))),
+        PseudoLine::NoOperation => Ok(Ok(instruction(seen.thumb))),
     }
 }
 
@@ -168,10 +168,10 @@ fn is_string(value: &Result<Value, LineKind>) -> bool
 }
 
 /// The bytes and marks of operands of DCB.
-fn byte_counts(alloc: Global, place: &Place<'_>, operands: &[Expr]) -> Result<Counted, NoMemory>
+fn byte_counts(alloc: Global, seen: &Seen<'_>, operands: &[Expr]) -> Result<Counted, NoMemory>
     requires { AllRead operands.now }
-    ensures bytes { IfOk result (λ counted. counted.bytes ≡ min (extents.byte_counts (sight_of place.now) operands.now) most_bytes) }
-    ensures strings { IfOk result (λ counted. counted.strings.items ≡ marks (sight_of place.now) operands.now) }
+    ensures bytes { IfOk result (λ counted. counted.bytes ≡ min (extents.byte_counts (seen_names seen.now) operands.now) most_bytes) }
+    ensures strings { IfOk result (λ counted. counted.strings.items ≡ marks (seen_names seen.now) operands.now) }
 {
     let mut bytes: u32 = 0;
     let mut strings = Vec::new(alloc);
@@ -180,7 +180,7 @@ fn byte_counts(alloc: Global, place: &Place<'_>, operands: &[Expr]) -> Result<Co
         match left {
             [] => return Ok(Counted { bytes, strings }),
             [operand, behind @ ..] => {
-                let value = value_there(alloc, operand, place)?;
+                let value = value_there(alloc, operand, seen)?;
                 bytes = more_bytes(bytes, byte_count(&value));
                 strings.push(is_string(&value))?;
                 left = behind;
@@ -190,11 +190,11 @@ fn byte_counts(alloc: Global, place: &Place<'_>, operands: &[Expr]) -> Result<Co
 }
 
 /// What operands of DCB take up.
-fn bytes_taken(alloc: Global, place: &Place<'_>, operands: &[Expr]) -> Result<Taken, NoMemory>
+fn bytes_taken(alloc: Global, seen: &Seen<'_>, operands: &[Expr]) -> Result<Taken, NoMemory>
     requires { AllRead operands.now }
-    ensures { IfOk result (λ taken. IsTaken (sight_of place.now) (kinds.Directive (lines.Dcb operands.now)) taken) }
+    ensures { IfOk result (λ taken. IsTaken (seen_names seen.now) (kinds.Directive (lines.Dcb operands.now)) taken) }
 {
-    let counted = byte_counts(alloc, place, operands)?;
+    let counted = byte_counts(alloc, seen, operands)?;
     let Counted { bytes, strings } = counted;
     Ok(Taken {
         extent: Ok(Extent::Block {
@@ -253,11 +253,11 @@ fn behind_of(
 
 fn padding(
     alloc: Global,
-    place: &Place<'_>,
+    seen: &Seen<'_>,
     boundary: &Boundary,
 ) -> Result<Result<Extent, LineKind>, NoMemory>
     requires { BoundaryRead boundary.now }
-    ensures { IfOk result (λ extent. coded extent ≡ all_capped (extents.padding (sight_of place.now) boundary.now)) }
+    ensures { IfOk result (λ extent. coded extent ≡ all_capped (extents.padding (seen_names seen.now) boundary.now)) }
 {
     match boundary {
         Boundary::Word => Ok(Ok(Extent::Padding {
@@ -265,27 +265,23 @@ fn padding(
             offset: 0,
         })),
         Boundary::Multiple { of } => {
-            let number = number_there(alloc, of, place)?;
+            let number = number_there(alloc, of, seen)?;
             Ok(multiple_of(as_multiple(number)))
         }
         Boundary::Behind { multiple, offset } => {
-            let number = number_there(alloc, multiple, place)?;
-            let offset = number_there(alloc, offset, place)?;
+            let number = number_there(alloc, multiple, seen)?;
+            let offset = number_there(alloc, offset, seen)?;
             Ok(behind_of(as_multiple(number), offset))
         }
     }
 }
 
-fn directive_extent(
-    alloc: Global,
-    place: &Place<'_>,
-    line: &DirectiveLine,
-) -> Result<Taken, NoMemory>
+fn directive_extent(alloc: Global, seen: &Seen<'_>, line: &DirectiveLine) -> Result<Taken, NoMemory>
     requires { DirectiveSaid line.now }
-    ensures { IfOk result (λ taken. IsTaken (sight_of place.now) (kinds.Directive line.now) taken) }
+    ensures { IfOk result (λ taken. IsTaken (seen_names seen.now) (kinds.Directive line.now) taken) }
 {
     match line {
-        DirectiveLine::Entry => Ok(plainly(alloc, Ok(entry(place.thumb)))),
+        DirectiveLine::Entry => Ok(plainly(alloc, Ok(entry(seen.thumb)))),
         DirectiveLine::Dcd { values } => Ok(plainly(
             alloc,
             Ok(items(4, 4, values.as_slice().len())),
@@ -298,13 +294,13 @@ fn directive_extent(
             alloc,
             Ok(items(2, 2, values.as_slice().len())),
         )),
-        DirectiveLine::Dcb { values } => bytes_taken(alloc, place, values.as_slice()),
+        DirectiveLine::Dcb { values } => bytes_taken(alloc, seen, values.as_slice()),
         DirectiveLine::Space { size } => {
-            let number = number_there(alloc, size, place)?;
+            let number = number_there(alloc, size, seen)?;
             Ok(plainly(alloc, space_of(number)))
         }
         DirectiveLine::Align { boundary } => {
-            let extent = padding(alloc, place, boundary)?;
+            let extent = padding(alloc, seen, boundary)?;
             Ok(plainly(alloc, extent))
         }
         DirectiveLine::Ltorg => Ok(plainly(alloc, Ok(Extent::Pool))),
@@ -313,18 +309,18 @@ fn directive_extent(
 }
 
 /// What a statement takes up, by what is known at its line, or the kind of its fault; and which operands are strings.
-pub fn extent_of(alloc: Global, place: &Place<'_>, what: &What) -> Result<Taken, NoMemory>
+pub fn extent_of(alloc: Global, seen: &Seen<'_>, what: &What) -> Result<Taken, NoMemory>
     requires { WhatSaid what.now }
-    ensures { IfOk result (λ taken. IsTaken (sight_of place.now) what.now taken) }
+    ensures { IfOk result (λ taken. IsTaken (seen_names seen.now) what.now taken) }
 {
     match what {
         What::Nothing => Ok(plainly(alloc, Ok(block(1, 0)))),
         What::Arm(_) => Ok(plainly(alloc, Ok(block(4, 4)))),
         What::Thumb(line) => Ok(plainly(alloc, Ok(thumb_extent(line)))),
         What::Pseudo(line) => {
-            let extent = pseudo_extent(alloc, place, line)?;
+            let extent = pseudo_extent(alloc, seen, line)?;
             Ok(plainly(alloc, extent))
         }
-        What::Directive(line) => directive_extent(alloc, place, line),
+        What::Directive(line) => directive_extent(alloc, seen, line),
     }
 }

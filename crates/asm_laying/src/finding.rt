@@ -2,21 +2,22 @@
 
 ghost use Rattle.std.specs.Prelude.{◌≡◌, List, IfOk};
 ghost use Rattle.std.specs.Option.{option_copied};
-ghost use Rattle.asm_model.specs.AtLine.{made_name, seen_behind};
+ghost use Rattle.asm_expr.specs.Seeing.{seen_names};
+ghost use Rattle.asm_model.specs.AtLine.{is_value, known_entry, seen_behind};
 ghost use Rattle.asm_model.specs.Entries.{equal_entry as entry_of_equal};
-ghost use Rattle.asm_model.specs.Laid.{lines_of, sight_behind, LaidLine};
+ghost use Rattle.asm_model.specs.Laid.{lines_of, names_behind, LaidLine};
 ghost use Rattle.said_model.specs.Said.{IsSaid};
+ghost use Rattle.asm_model.specs.Labels as labels;
 ghost use Rattle.asm_names.specs.Defining.{defined_of};
-ghost use Rattle.asm_names.specs.Sights.{sight_of};
 ghost use Rattle.asm_names.specs.Steps.{one_entry};
-ghost use Rattle.asm_laying.specs.Laying.{equal_names, sight_shown, DefinedRead, IsFound, IsSpot};
+ghost use Rattle.asm_laying.specs.Laying.{unsized_entry, DefinedRead, IsEquated, IsFound, IsSpot};
 
 use crate::extents::{Taken, extent_of};
 use crate::values::{map_after, said_number, value_there};
 use asm_model::{LaidName, Statement, Value};
 use asm_names::defining::{Defines, defined_by, own_entry};
 use asm_names::made::equal_entry;
-use asm_names::{KnownNames, Place};
+use asm_names::{KnownNames, Seen};
 use asm_offsets::Extent;
 use sdt_fault::kinds::LineKind;
 use sdt_fault::{List as Listed, NoMemory, Text};
@@ -34,59 +35,100 @@ pub struct Spot {
     pub label_thumb: bool,
 }
 
+/// A name for an expression, where a statement defines one.
+#[derive(Debug, Drop)]
+pub struct Equated {
+    /// Its entry, unless the value needs a later name.
+    pub entry: Option<LaidName>,
+    /// Whether the value is known; without such a name it counts as known.
+    pub known: bool,
+}
+
 /// What laying a statement needs of the values of its expressions.
 #[derive(Debug, Drop)]
 pub struct Found {
     pub extent: Result<Extent, LineKind>,
     /// The storage map behind the statement.
     pub map: Result<u32, LineKind>,
-    /// The entry of its name for an expression, where the value is known.
-    pub equal: Option<LaidName>,
+    pub equal: Equated,
     /// The number that checks ask for.
     pub number: Result<u32, LineKind>,
     /// Of each operand of DCB whether it is a string.
     pub strings: Listed<bool>,
 }
 
+/// A name for an expression whose value, or the kind of its fault, is known at its line, or else Forward.
 fn equal_with(
     alloc: Global,
     declared: &KnownNames,
     area: Option<u32>,
     name: &Text,
     value: Result<Value, LineKind>,
-) -> Result<Option<LaidName>, NoMemory>
-    ensures { IfOk result (λ entry. one_entry entry ≡ made_name (entry_of_equal declared.now area name.now) value) }
+) -> Result<Equated, NoMemory>
+    ensures entry { IfOk result (λ equal. one_entry equal.entry ≡ known_entry (entry_of_equal declared.now area name.now) value) }
+    ensures known { IfOk result (λ equal. equal.known ≡ is_value value) }
 {
     match value {
-        Ok(value) => {
-            let entry = equal_entry(alloc, declared, area, name, value)?;
-            Ok(Some(entry))
-        }
-        Err(_) => Ok(None),
+        Ok(value) => Ok(Equated {
+            entry: Some(equal_entry(alloc, declared, area, name, Ok(value))?),
+            known: true,
+        }),
+        Err(LineKind::Forward) => Ok(Equated {
+            entry: None,
+            known: false,
+        }),
+        Err(kind) => Ok(Equated {
+            entry: Some(equal_entry(alloc, declared, area, name, Err(kind))?),
+            known: false,
+        }),
     }
 }
 
-/// The entry of a name for an expression.
+/// What a statement's name for an expression means, by what its line sees.
+#[tactic(auto, using(crate::proofs::SeeLemmas::equates))]
 fn equal_there(
     alloc: Global,
     declared: &KnownNames,
-    place: &Place<'_>,
+    seen: &Seen<'_>,
     defines: &Defines<'_>,
-) -> Result<Option<LaidName>, NoMemory>
+) -> Result<Equated, NoMemory>
     requires { DefinedRead (defined_of defines.now) }
-    ensures { IfOk result (λ entry. one_entry entry ≡ equal_names declared.now place.now.area (sight_of place.now) (defined_of defines.now)) }
+    ensures { IfOk result (λ equal. IsEquated declared.now seen.now.area (seen_names seen.now) (defined_of defines.now) equal) }
 {
     match defines {
         Defines::Equal(name, e) => {
-            let value = value_there(alloc, e, place)?;
-            equal_with(alloc, declared, place.area, name, value)
+            let value = value_there(alloc, e, seen)?;
+            equal_with(alloc, declared, seen.area, name, value)
         }
-        _ => Ok(None),
+        _ => Ok(Equated {
+            entry: None,
+            known: true,
+        }),
     }
 }
 
-/// What a statement at a spot needs, where these names are known, and its own name besides.
-fn found_at(
+/// The entry of a statement's own name, as its expressions see it: without a size.
+pub fn unsized_entry(
+    alloc: Global,
+    statement: &Statement,
+    spot: &Spot,
+) -> Result<Option<LaidName>, NoMemory>
+    ensures { IfOk result (λ entry. entry ≡ unsized_entry (labels.defined_by statement.now) spot.now) }
+{
+    let defines = defined_by(statement);
+    own_entry(
+        alloc,
+        &defines,
+        spot.area,
+        spot.offset,
+        None,
+        spot.label_thumb,
+        spot.map,
+    )
+}
+
+/// What a statement at a spot needs, behind the lines that define these names.
+pub fn find(
     alloc: Global,
     names: &KnownNames,
     declared: &KnownNames,
@@ -95,22 +137,22 @@ fn found_at(
     statement: &Statement,
 ) -> Result<Found, NoMemory>
     requires { IsSaid statement.now }
-    ensures { IfOk result (λ found. IsFound declared.now spot.now.area spot.now.map (sight_shown declared.now names.now (one_entry (option_copied own.entry)) spot.now) statement.now found) }
+    ensures { IfOk result (λ found. (before : List LaidLine) → IsSpot statement.now before spot.now → names.now ≡ seen_behind declared.now (lines_of before) → option_copied own.entry ≡ unsized_entry (labels.defined_by statement.now) spot.now → IsFound declared.now spot.now (names_behind declared.now statement.now before) statement.now found) }
 {
-    let place = Place {
-        known: names,
-        declared,
+    let seen = Seen {
+        names,
         own,
+        later: Some(declared),
         area: spot.area,
         offset: spot.offset,
         map: spot.map,
         thumb: spot.thumb,
     };
     let defines = defined_by(statement);
-    let equal = equal_there(alloc, declared, &place, &defines)?;
-    let Taken { extent, strings } = extent_of(alloc, &place, &statement.what)?;
-    let map = map_after(alloc, spot.map, &place, &statement.what)?;
-    let number = said_number(alloc, &statement.what, &place)?;
+    let equal = equal_there(alloc, declared, &seen, &defines)?;
+    let Taken { extent, strings } = extent_of(alloc, &seen, &statement.what)?;
+    let map = map_after(alloc, spot.map, &seen, &statement.what)?;
+    let number = said_number(alloc, &statement.what, &seen)?;
     Ok(Found {
         extent,
         map,
@@ -118,29 +160,4 @@ fn found_at(
         number,
         strings,
     })
-}
-
-/// What a statement at a spot needs, behind the lines that define these names.
-pub fn find(
-    alloc: Global,
-    names: &KnownNames,
-    declared: &KnownNames,
-    spot: &Spot,
-    statement: &Statement,
-) -> Result<Found, NoMemory>
-    requires { IsSaid statement.now }
-    ensures { IfOk result (λ found. (before : List LaidLine) → IsSpot statement.now before spot.now → names.now ≡ seen_behind declared.now (lines_of before) → IsFound declared.now spot.now.area spot.now.map (sight_behind declared.now statement.now before) statement.now found) }
-{
-    let defines = defined_by(statement);
-    let own = own_entry(
-        alloc,
-        &defines,
-        spot.area,
-        spot.offset,
-        0,
-        spot.label_thumb,
-        spot.map,
-    )?;
-    let found = found_at(alloc, names, declared, own.as_ref(), spot, statement)?;
-    Ok(found)
 }

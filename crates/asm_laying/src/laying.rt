@@ -1,24 +1,24 @@
 //! The lines of a source, laid one behind the other.
 
-ghost use Rattle.std.specs.Prelude.{◌≡◌, ◌++◌, [], List, Ok, IfOk, OnOk};
+ghost use Rattle.std.specs.Prelude.{◌≡◌, ◌++◌, ◌&&◌, [], ℕ, Bool, List, Ok, None, Option, Some, if◌then◌else◌, IfOk, OnOk};
 ghost use Rattle.asm_model.specs.declared.names.LaidName.{LaidName};
 ghost use Rattle.asm_model.specs.Labels as labels;
-ghost use Rattle.asm_model.specs.Laid.{laid_behind, pieces_of, sight_behind, LaidLine};
+ghost use Rattle.asm_model.specs.Laid.{laid_behind, names_behind, LaidLine};
 ghost use Rattle.said_model.specs.Said.{IsSaid};
-ghost use Rattle.asm_names.specs.Defining.{own_entry as entry_of_own};
+ghost use Rattle.asm_names.specs.Defining.{own_entry};
 ghost use Rattle.asm_names.specs.Steps.{one_entry};
 ghost use Rattle.asm_offsets.specs.Coded.{extent_of_code, IsExtent};
-ghost use Rattle.asm_offsets.specs.Running.{IsBehind, IsThere};
+ghost use Rattle.asm_offsets.specs.Running.{IsThere};
 ghost use Rattle.asm_laying.specs.Laying as laying;
 ghost use Rattle.asm_laying.specs.Reading.{string_marks};
 
 use crate::areas::Areas;
 use crate::behind::{Behind, START};
 use crate::declarations::is_thumb_label;
-use crate::finding::{Found, Spot, find};
+use crate::finding::{Equated, Found, Spot, find, unsized_entry};
 use asm_model::{LaidName, Statement};
 use asm_names::KnownNames;
-use asm_names::defining::{defined_by, own_entry};
+use asm_names::defining::{Defines, defined_by};
 use asm_names::listing::{add_entry, add_imported};
 use asm_offsets::{Ends, Extent, TooLarge, extents_are_placeable};
 use sdt_fault::kinds::LineKind;
@@ -66,6 +66,52 @@ pub struct Laying {
     map: u32,
     /// The names that are known.
     names: KnownNames,
+    /// Whether the value of each name for an expression was known at its line.
+    all_known: bool,
+}
+
+/// What lines leave behind the last of them.
+#[derive(Debug, Drop)]
+pub struct Ended {
+    /// Where each area ends.
+    pub ends: Ends,
+    /// The names, where the value of each name for an expression was known at its line.
+    pub names: Option<KnownNames>,
+}
+
+/// The entry of a statement's own name, with its size: the statement's where it is a label.
+fn sized(statement: &Statement, own: Option<LaidName>, size: u32) -> Option<LaidName>
+    ensures { (area : Option ℕ) (offset map : ℕ) (thumb : Bool) → own ≡ own_entry (labels.defined_by statement.now) area offset None thumb map → result ≡ own_entry (labels.defined_by statement.now) area offset (Some size) thumb map }
+{
+    let Some(mut entry) = own else {
+        return None;
+    };
+    match defined_by(statement) {
+        Defines::Label(_) => {
+            entry.size = Some(size);
+            Some(entry)
+        }
+        _ => {
+            entry.size = Some(0);
+            Some(entry)
+        }
+    }
+}
+
+/// Whether the value of each name for an expression is known, with one more.
+fn still_known(all_known: bool, known: bool) -> bool
+    ensures { result ≡ (all_known && known) }
+{
+    all_known && known
+}
+
+fn names_if(all_known: bool, names: KnownNames) -> Option<KnownNames>
+    ensures { result ≡ (if all_known then Some names else None) }
+{
+    if all_known {
+        return Some(names);
+    }
+    None
 }
 
 /// The names that a statement adds to those that are known.
@@ -73,22 +119,11 @@ fn add_names(
     names: &mut KnownNames,
     alloc: Global,
     statement: &Statement,
-    spot: &Spot,
-    size: u32,
+    own: Option<LaidName>,
     equal: Option<LaidName>,
 ) -> Result<(), NoMemory>
-    ensures { OnOk result (names.new ≡ names.old ++ one_entry (entry_of_own (labels.defined_by statement.now) spot.now.area spot.now.offset size spot.now.label_thumb spot.now.map) ++ one_entry equal ++ labels.imported_entries (labels.imported_in statement.now.what)) }
+    ensures { OnOk result (names.new ≡ names.old ++ one_entry own ++ one_entry equal ++ labels.imported_entries (labels.imported_in statement.now.what)) }
 {
-    let defines = defined_by(statement);
-    let own = own_entry(
-        alloc,
-        &defines,
-        spot.area,
-        spot.offset,
-        size,
-        spot.label_thumb,
-        spot.map,
-    )?;
     add_entry(alloc, names, own)?;
     add_entry(alloc, names, equal)?;
     add_imported(alloc, names, &statement.what)
@@ -104,6 +139,7 @@ impl Laying {
             areas: Areas::new(alloc),
             map: 0,
             names: KnownNames::new(alloc),
+            all_known: true,
         }
     }
 
@@ -135,19 +171,23 @@ impl Laying {
         spot: &Spot,
         extent: Extent,
         map: u32,
-        equal: Option<LaidName>,
+        own: Option<LaidName>,
+        equal: Equated,
         strings: Listed<bool>,
     ) -> Result<Result<Placed, LineKind>, NoMemory>
         requires there { IsThere spot.now.area self.old.areas.ends }
         requires extent { IsExtent (extent_of_code extent) }
-        ensures { (declared : List LaidName) (before : List LaidLine) → laying.Reaches declared statement.now before self.old spot.now → laying.AreNeeded declared spot.now.area spot.now.map (sight_behind declared statement.now before) statement.now (Ok extent) (Ok map) equal → strings ≡ string_marks (sight_behind declared statement.now before) statement.now.what → IfOk result (λ placed. laying.IsPlaced declared (laid_behind declared statement.now before) before self.new placed) }
+        ensures { (declared : List LaidName) (before : List LaidLine) → laying.Reaches declared statement.now before self.old spot.now → laying.AreNeeded declared spot.now (names_behind declared statement.now before) statement.now (Ok extent) (Ok map) equal → strings ≡ string_marks (names_behind declared statement.now before) statement.now.what → own ≡ laying.unsized_entry (labels.defined_by statement.now) spot.now → IfOk result (λ placed. laying.IsPlaced declared (laid_behind declared statement.now before) before self.new placed) }
     {
         let placed = self.areas.ends.place(spot.area, extent)?;
         match placed {
             Err(TooLarge) => Ok(Err(LineKind::TooMany)),
             Ok(placed) => {
                 self.map = map;
-                add_names(&mut self.names, alloc, statement, spot, placed.size, equal)?;
+                let Equated { entry, known } = equal;
+                self.all_known = still_known(self.all_known, known);
+                let own = sized(statement, own, placed.size);
+                add_names(&mut self.names, alloc, statement, own, entry)?;
                 Ok(Ok(Placed {
                     area: spot.area,
                     offset: placed.offset,
@@ -170,16 +210,17 @@ impl Laying {
         spot: &Spot,
         extent: Extent,
         map: Result<u32, LineKind>,
-        equal: Option<LaidName>,
+        own: Option<LaidName>,
+        equal: Equated,
         strings: Listed<bool>,
     ) -> Result<Result<Placed, LineKind>, NoMemory>
         requires there { IsThere spot.now.area self.old.areas.ends }
         requires extent { IsExtent (extent_of_code extent) }
-        ensures { (declared : List LaidName) (before : List LaidLine) → laying.Reaches declared statement.now before self.old spot.now → laying.AreNeeded declared spot.now.area spot.now.map (sight_behind declared statement.now before) statement.now (Ok extent) map equal → strings ≡ string_marks (sight_behind declared statement.now before) statement.now.what → IfOk result (λ placed. laying.IsPlaced declared (laid_behind declared statement.now before) before self.new placed) }
+        ensures { (declared : List LaidName) (before : List LaidLine) → laying.Reaches declared statement.now before self.old spot.now → laying.AreNeeded declared spot.now (names_behind declared statement.now before) statement.now (Ok extent) map equal → strings ≡ string_marks (names_behind declared statement.now before) statement.now.what → own ≡ laying.unsized_entry (labels.defined_by statement.now) spot.now → IfOk result (λ placed. laying.IsPlaced declared (laid_behind declared statement.now before) before self.new placed) }
     {
         match map {
             Err(kind) => Ok(Err(kind)),
-            Ok(map) => self.put(alloc, statement, spot, extent, map, equal, strings),
+            Ok(map) => self.put(alloc, statement, spot, extent, map, own, equal, strings),
         }
     }
 
@@ -191,26 +232,35 @@ impl Laying {
         spot: &Spot,
         extent: Result<Extent, LineKind>,
         map: Result<u32, LineKind>,
-        equal: Option<LaidName>,
+        own: Option<LaidName>,
+        equal: Equated,
         strings: Listed<bool>,
     ) -> Result<Result<Placed, LineKind>, NoMemory>
         requires there { IsThere spot.now.area self.old.areas.ends }
         requires extent { laying.OkExtent extent }
-        ensures { (declared : List LaidName) (before : List LaidLine) → laying.Reaches declared statement.now before self.old spot.now → laying.AreNeeded declared spot.now.area spot.now.map (sight_behind declared statement.now before) statement.now extent map equal → strings ≡ string_marks (sight_behind declared statement.now before) statement.now.what → IfOk result (λ placed. laying.IsPlaced declared (laid_behind declared statement.now before) before self.new placed) }
+        ensures { (declared : List LaidName) (before : List LaidLine) → laying.Reaches declared statement.now before self.old spot.now → laying.AreNeeded declared spot.now (names_behind declared statement.now before) statement.now extent map equal → strings ≡ string_marks (names_behind declared statement.now before) statement.now.what → own ≡ laying.unsized_entry (labels.defined_by statement.now) spot.now → IfOk result (λ placed. laying.IsPlaced declared (laid_behind declared statement.now before) before self.new placed) }
     {
         match extent {
             Err(kind) => Ok(Err(kind)),
-            Ok(extent) => self.settle_map(alloc, statement, spot, extent, map, equal, strings),
+            Ok(extent) => self.settle_map(alloc, statement, spot, extent, map, own, equal, strings),
         }
     }
 
-    /// The areas' ends, behind the last line.
-    pub fn end(self) -> Ends
-        ensures { (declared : List LaidName) (before : List LaidLine) → laying.IsLaying declared before self → IsBehind (pieces_of before) result }
+    /// What the lines leave.
+    pub fn end(self) -> Ended
+        ensures { (declared : List LaidName) (before : List LaidLine) → laying.IsLaying declared before self → laying.IsEnded declared before result }
     {
-        let Laying { areas, .. } = self;
+        let Laying {
+            areas,
+            names,
+            all_known,
+            ..
+        } = self;
         let Areas { ends, .. } = areas;
-        ends
+        Ended {
+            ends,
+            names: names_if(all_known, names),
+        }
     }
 
     /// Lays a statement behind the lines so far, in a source that declares these names. Where it has a fault, or memory
@@ -227,7 +277,8 @@ impl Laying {
     {
         extents_are_placeable();
         let spot = self.enter(alloc, statement)?;
-        let found = find(alloc, &self.names, declared, &spot, statement)?;
+        let own = unsized_entry(alloc, statement, &spot)?;
+        let found = find(alloc, &self.names, declared, own.as_ref(), &spot, statement)?;
         let Found {
             extent,
             map,
@@ -235,7 +286,7 @@ impl Laying {
             number,
             strings,
         } = found;
-        let placed = self.settle(alloc, statement, &spot, extent, map, equal, strings)?;
+        let placed = self.settle(alloc, statement, &spot, extent, map, own, equal, strings)?;
         Ok(Laid {
             area: spot.area,
             thumb: spot.thumb,

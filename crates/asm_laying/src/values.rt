@@ -5,15 +5,17 @@ ghost use Rattle.asm_model.specs.Says.{mapped};
 ghost use Rattle.sdt_fault.specs.declared.kinds.LineKind.{LineKind};
 ghost use Rattle.asm_model.specs.Extents as extents;
 ghost use Rattle.asm_model.specs.LayoutKinds.{exponent};
-ghost use Rattle.asm_names.specs.Sights.{sight_of, IsNumber};
+ghost use Rattle.asm_expr.specs.Seeing.{seen_names};
+ghost use Rattle.asm_names.specs.Values.{IsNumber};
 ghost use Rattle.said_model.specs.Said.{DirectiveSaid, GivenSaid, IsRead, OptionRead, WhatSaid};
 ghost use Rattle.asm_model.specs.declared.statements.What.TheVariants as kinds;
 ghost use Rattle.asm_model.specs.declared.directives.DirectiveLine.TheVariants as lines;
 ghost use Rattle.asm_laying.specs.Reading.{map_after, said_number};
 
 use asm_expr::told::told_value;
+use asm_expr::{Seen, evaluate};
 use asm_model::{DirectiveLine, EvalFault, Expr, RnOperand, Value, What};
-use asm_names::{Place, literal_at, number_at, value_at};
+use asm_names::{literal_at, number_at};
 use sdt_fault::NoMemory;
 use sdt_fault::kinds::LineKind;
 use std::alloc::Global;
@@ -32,50 +34,50 @@ fn told_number(number: Result<u32, EvalFault>) -> Result<Result<u32, LineKind>, 
 pub fn value_there(
     alloc: Global,
     e: &Expr,
-    place: &Place<'_>,
+    seen: &Seen<'_>,
 ) -> Result<Result<Value, LineKind>, NoMemory>
     requires { IsRead e.now }
-    ensures { IfOk result (λ value. value ≡ extents.value_there (sight_of place.now) e.now) }
+    ensures { IfOk result (λ value. value ≡ extents.value_there (seen_names seen.now) e.now) }
 {
-    told_value(value_at(alloc, e, place))
+    told_value(evaluate(alloc, e, seen))
 }
 
 /// The number of an expression, or the kind of its fault.
 pub fn number_there(
     alloc: Global,
     e: &Expr,
-    place: &Place<'_>,
+    seen: &Seen<'_>,
 ) -> Result<Result<u32, LineKind>, NoMemory>
     requires { IsRead e.now }
-    ensures { IfOk result (λ number. number ≡ extents.number_there (sight_of place.now) e.now) }
+    ensures { IfOk result (λ number. number ≡ extents.number_there (seen_names seen.now) e.now) }
 {
-    told_number(number_at(alloc, e, place))
+    told_number(number_at(alloc, e, seen))
 }
 
 /// The literal of an expression, or the kind of its fault.
 pub fn literal_there(
     alloc: Global,
     e: &Expr,
-    place: &Place<'_>,
+    seen: &Seen<'_>,
 ) -> Result<Result<Value, LineKind>, NoMemory>
     requires { IsRead e.now }
-    ensures { IfOk result (λ literal. literal ≡ extents.literal_there (sight_of place.now) e.now) }
+    ensures { IfOk result (λ literal. literal ≡ extents.literal_there (seen_names seen.now) e.now) }
 {
-    told_value(literal_at(alloc, e, place))
+    told_value(literal_at(alloc, e, seen))
 }
 
 /// The exponent of an area's alignment, or the kind of its fault.
 fn exponent_there(
     alloc: Global,
     align: &Option<Expr>,
-    place: &Place<'_>,
+    seen: &Seen<'_>,
 ) -> Result<Result<u32, LineKind>, NoMemory>
     requires { OptionRead align.now }
-    ensures { IfOk result (λ number. number ≡ exponent (sight_of place.now) align.now) }
+    ensures { IfOk result (λ number. number ≡ exponent (seen_names seen.now) align.now) }
 {
     match align {
         None => Ok(Ok(2)),
-        Some(e) => number_there(alloc, e, place),
+        Some(e) => number_there(alloc, e, seen),
     }
 }
 
@@ -83,28 +85,28 @@ fn exponent_there(
 fn given_there(
     alloc: Global,
     given: &RnOperand,
-    place: &Place<'_>,
+    seen: &Seen<'_>,
 ) -> Result<Result<u32, LineKind>, NoMemory>
     requires { GivenSaid given.now }
-    ensures { IfOk result (λ number. number ≡ said_number (sight_of place.now) (kinds.Directive (lines.Rn given.now))) }
+    ensures { IfOk result (λ number. number ≡ said_number (seen_names seen.now) (kinds.Directive (lines.Rn given.now))) }
 {
     match given {
         RnOperand::Register(_) => Ok(Ok(0)),
-        RnOperand::Number(e) => number_there(alloc, e, place),
+        RnOperand::Number(e) => number_there(alloc, e, seen),
     }
 }
 
 fn directive_number(
     alloc: Global,
     line: &DirectiveLine,
-    place: &Place<'_>,
+    seen: &Seen<'_>,
 ) -> Result<Result<u32, LineKind>, NoMemory>
     requires { DirectiveSaid line.now }
-    ensures { IfOk result (λ number. number ≡ said_number (sight_of place.now) (kinds.Directive line.now)) }
+    ensures { IfOk result (λ number. number ≡ said_number (seen_names seen.now) (kinds.Directive line.now)) }
 {
     match line {
-        DirectiveLine::Area { attributes, .. } => exponent_there(alloc, &attributes.align, place),
-        DirectiveLine::Rn { register } => given_there(alloc, register, place),
+        DirectiveLine::Area { attributes, .. } => exponent_there(alloc, &attributes.align, seen),
+        DirectiveLine::Rn { register } => given_there(alloc, register, seen),
         _ => Ok(Ok(0)),
     }
 }
@@ -113,13 +115,13 @@ fn directive_number(
 pub fn said_number(
     alloc: Global,
     what: &What,
-    place: &Place<'_>,
+    seen: &Seen<'_>,
 ) -> Result<Result<u32, LineKind>, NoMemory>
     requires { WhatSaid what.now }
-    ensures { IfOk result (λ number. number ≡ said_number (sight_of place.now) what.now) }
+    ensures { IfOk result (λ number. number ≡ said_number (seen_names seen.now) what.now) }
 {
     match what {
-        What::Directive(line) => directive_number(alloc, line, place),
+        What::Directive(line) => directive_number(alloc, line, seen),
         _ => Ok(Ok(0)),
     }
 }
@@ -138,16 +140,16 @@ fn added(map: u32, number: Result<u32, LineKind>) -> Result<u32, LineKind>
 pub fn map_after(
     alloc: Global,
     map: u32,
-    place: &Place<'_>,
+    seen: &Seen<'_>,
     what: &What,
 ) -> Result<Result<u32, LineKind>, NoMemory>
     requires { WhatSaid what.now }
-    ensures { IfOk result (λ after. after ≡ map_after map (sight_of place.now) what.now) }
+    ensures { IfOk result (λ after. after ≡ map_after map (seen_names seen.now) what.now) }
 {
     match what {
-        What::Directive(DirectiveLine::Map { value }) => number_there(alloc, value, place),
+        What::Directive(DirectiveLine::Map { value }) => number_there(alloc, value, seen),
         What::Directive(DirectiveLine::Field { size }) => {
-            let number = number_there(alloc, size, place)?;
+            let number = number_there(alloc, size, seen)?;
             Ok(added(map, number))
         }
         _ => Ok(Ok(map)),

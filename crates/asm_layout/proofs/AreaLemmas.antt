@@ -1,20 +1,20 @@
 -- The areas of a layout, made of what begins and what ends each of them.
-use Rattle.std.proofs.Common.{◌≡◌, ◌<◌, ℕ, zero, suc, Bool, true, false, List, [], ◌∷◌, length, map, Option, Some, None, refl, sym, ap, ◌∙◌, subst, arith}
+use Rattle.std.proofs.Common.{◌≡◌, ◌<◌, ℕ, zero, suc, Bool, false, List, [], ◌∷◌, length, map, Option, Some, None, refl, sym, ap, ◌∙◌, subst, arith}
 use Rattle.std.specs.List.{slice_get, zip}
 use Rattle.std.proofs.lemmas.Slice.Zip.{AllZip-long}
 use Rattle.asm_areas.specs.declared.starts.AreaStart.{AreaStart}
-use Rattle.asm_areas.specs.Late.{AreWhole, is_true}
-use Rattle.asm_areas.specs.Starts.{IsStart}
+use Rattle.asm_areas.specs.Starts.{IsStart, AreStarts}
 use Rattle.asm_model.specs.declared.directives.DirectiveLine.{DirectiveLine}
 use Rattle.asm_model.specs.declared.directives.DirectiveLine.TheVariants as line
+use Rattle.asm_model.specs.declared.statements.Statement.{Statement}
 use Rattle.asm_model.specs.declared.statements.What.{What}
 use Rattle.asm_model.specs.declared.statements.What.TheVariants as what
 use Rattle.asm_offsets.specs.declared.extents.LaidPools.{LaidPools}
-use Rattle.asm_offsets.specs.Finished.{IsLaidOut, IsLaid}
+use Rattle.asm_offsets.specs.Finished.{IsLaidOut, IsLaid, AreLaid}
 use Rattle.asm_offsets.specs.Running.{HasNone}
-use Rattle.asm_pool.specs.declared.layout.LaidArea.{LaidArea}
-use Rattle.asm_model.specs.Laid.{LaidLine, pieces_of}
-use Rattle.asm_model.specs.LayoutKinds.{is_thumb_area, first_state}
+use Rattle.asm_layout.specs.declared.laid.LaidArea.{LaidArea}
+use Rattle.asm_model.specs.Laid.{LaidLine, statements_of, pieces_of}
+use Rattle.asm_model.specs.LayoutKinds.{is_thumb_area}
 use Rattle.asm_model.specs.Offsets.{is_of}
 use Rattle.source_model.specs.Objects.{says_area, attributes_of}
 use Rattle.asm_layout.specs.Areas.{IsMade, AreMade}
@@ -62,17 +62,10 @@ no_attributes : (all : List LaidLine) (area : ℕ) (t : Bool) → HasNone area (
 no_attributes [] area t h = refl
 no_attributes (l ∷ before) area t h = rw (no_attributes before area t h.1) (says_none l.statement.what area l t h.0)
 
-has_laid : (all : List LaidLine) (area : ℕ) (s : AreaStart) (o : Option LaidPools) → IsStart all area (Some s) → IsLaidOut area (pieces_of all) o
+has_laid : (ss : List Statement) (all : List LaidLine) (area : ℕ) (s : AreaStart) (o : Option LaidPools) → IsStart ss all area (Some s) → IsLaidOut area (pieces_of all) o
     → (p : LaidPools) × (o ≡ Some p) × IsLaid area (pieces_of all) p
-has_laid all area s (Some p) b h = (p, refl, h)
-has_laid all area s None b h = let e : attributes_of area true all ≡ None = no_attributes all area true h in let f = b.0 true in absurd (cc)
-
-thumb_is : (all : List LaidLine) (area : ℕ) (s : AreaStart) → first_state area all ≡ s.state → is_thumb_area area all ≡ is_true s.state
-thumb_is all area s h = by_state s.state h
-  where
-    by_state : (b : Option Bool) → first_state area all ≡ b → is_thumb_area area all ≡ is_true b
-    by_state None e = rw e refl
-    by_state (Some b) e = rw e refl
+has_laid ss all area s (Some p) b h = (p, refl, h)
+has_laid ss all area s None b h = let e = no_attributes all area (is_thumb_area area ss) h in absurd (cc)
 
 -- ---- pairs
 
@@ -106,20 +99,21 @@ map_long [] = refl
 map_long (s ∷ ss) = ap suc (map_long ss)
 
 pub areas_are : (all : List LaidLine) (ss : List AreaStart) (ps : List LaidPools) (yielded : List (AreaStart × LaidPools)) (areas : List LaidArea)
-    → yielded ≡ zip ss ps → AreMade yielded areas → AreWhole all ps ss → AreAreas all areas
-areas_are all ss ps yielded areas y m w =
+    → yielded ≡ zip ss ps → AreMade yielded areas → AreLaid (pieces_of all) ps → AreStarts (statements_of all) all ss → AreAreas all areas
+areas_are all ss ps yielded areas y m laid begun =
+    let statements = statements_of all in
     let made : AreMade (zip ss ps) areas = subst (λ (xs : List (AreaStart × LaidPools)). AreMade xs areas) y m in
     let full : length (zip ss ps) ≡ length ss = zip_long ss ps (λ i less. let s = within ss i less in
-    let r = has_laid all i s.0 (slice_get ps i) (subst (λ (o : Option AreaStart). IsStart all i o) s.1 (w.begun.each i)) (w.laid.each i) in (r.0, r.1)) in
+    let r = has_laid statements all i s.0 (slice_get ps i) (subst (λ (o : Option AreaStart). IsStart statements all i o) s.1 (begun.each i)) (laid.each i) in (r.0, r.1)) in
     record {
-      count = AllZip-long IsMade (zip ss ps) areas made ∙ full ∙ sym (map_long ss) ∙ ap (λ (ns : List (List ℕ)). length ns) w.begun.names;
+      count = AllZip-long IsMade (zip ss ps) areas made ∙ full ∙ sym (map_long ss) ∙ ap (λ (ns : List (List ℕ)). length ns) begun.names;
       each = λ i a e.
           let r = made_at ss ps areas i a made e in
-          let b : IsStart all i (Some r.0) = subst (λ (o : Option AreaStart). IsStart all i o) r.2 (w.begun.each i) in
-          let l : IsLaid i (pieces_of all) r.1 = subst (λ (o : Option LaidPools). IsLaidOut i (pieces_of all) o) r.3 (w.laid.each i) in
+          let b : IsStart statements all i (Some r.0) = subst (λ (o : Option AreaStart). IsStart statements all i o) r.2 (begun.each i) in
+          let l : IsLaid i (pieces_of all) r.1 = subst (λ (o : Option LaidPools). IsLaidOut i (pieces_of all) o) r.3 (laid.each i) in
           record {
-            name = ap (λ (ns : List (List ℕ)). slice_get ns i) (sym w.begun.names) ∙ named_at ss i r.0 r.2 ∙ ap Some (sym r.4.name);
-            attributes = rw (thumb_is all i r.0 b.1) (b.0 (is_true r.0.state) ∙ ap Some (sym (r.4.attributes b.2)));
+            name = ap (λ (ns : List (List ℕ)). slice_get ns i) (sym begun.names) ∙ named_at ss i r.0 r.2 ∙ ap Some (sym r.4.name);
+            attributes = b ∙ ap Some (sym r.4.attributes);
             size = r.4.size ∙ l.size;
             pools = r.4.pools ∙ l.pools;
           };

@@ -1,7 +1,8 @@
 -- A source whose lines have no fault of their own.
-use Rattle.std.proofs.Common.{◌≡◌, ℕ, List, [], ◌∷◌, ◌++◌, Option, Some, None, Result, Ok, Err, refl, sym, ap, ◌∙◌, arith}
+use Rattle.std.proofs.Common.{◌≡◌, ℕ, List, [], ◌∷◌, ◌++◌, Option, Some, None, Result, Ok, Err, refl, sym, ap, ◌∙◌, subst, arith}
 use Rattle.sdt_fault.specs.declared.kinds.LineKind.{LineKind}
 use Rattle.asm_areas.specs.Late.{AreWhole}
+use Rattle.asm_areas.specs.Starts.{AreStarts}
 use Rattle.asm_names.specs.Source.{IsReadDefined, AreRead}
 use Rattle.asm_model.specs.declared.directives.DirectiveLine.{DirectiveLine}
 use Rattle.asm_model.specs.declared.directives.DirectiveLine.TheVariants as line
@@ -19,11 +20,15 @@ use Rattle.asm_offsets.specs.Laws.{AllExtents, ExtentsArePlaceable}
 use Rattle.asm_model.specs.Extents.{Extent, extent_of}
 use Rattle.asm_model.specs.declared.names.LaidName.{LaidName}
 use Rattle.asm_model.specs.Labels.{field_defines, what_defines, directive_defines, declared_names}
-use Rattle.asm_model.specs.Laid.{LaidLine, laid, laid_of, sight_behind, taken, pieces_of, reversed}
+use Rattle.asm_model.specs.Laid.{LaidLine, statements_of, laid, laid_of, names_behind, taken, pieces_of, reversed, final_names}
 use Rattle.asm_model.specs.LayoutKinds.{layout_kinds, equals_in, settled, told_at, first_fault, first_late}
+use Rattle.layout_laws.specs.Final.{KnownNamesAreFinal}
+use Rattle.layout_laws.proofs.SoundLemmas.{statements_kept}
 use Rattle.said_model.specs.Said.{WhatSaid, AllSaid}
 use Rattle.source_model.specs.Registers.{register_names, register_kinds}
 use Rattle.source_model.specs.SourceFaults.{first_laid, layout_faults}
+use Rattle.asm_laying.specs.Laying.{AreKnownNames}
+use Rattle.asm_layout.specs.declared.laid.LaidStatement.{LaidStatement}
 use Rattle.asm_layout.specs.declared.outline.Outline.{Outline}
 use Rattle.asm_layout.specs.declared.walking.Walk.{Walk}
 use Rattle.asm_layout.specs.Finishing.{IsNamed, IsWhole}
@@ -66,38 +71,47 @@ untold : (s : Statement) (o : Option LineKind) → told_at s o ≡ None → o �
 untold s None e = refl
 untold s (Some k) e = absurd (cc)
 
-sound_lines : (names fixed : List (List ℕ)) (ls : List LaidLine) → first_laid names fixed ls ≡ None → first_fault fixed ls ≡ None
-sound_lines names fixed [] e = refl
-sound_lines names fixed (l ∷ before) e =
-    let whole = untold l.statement (told_kind (layout_kinds fixed l before ++ register_kinds names l before))
-    (none_right (first_laid names fixed before) (told_at l.statement (told_kind (layout_kinds fixed l before ++ register_kinds names l before))) e) in
-    let part : told_kind (layout_kinds fixed l before) ≡ None =
-    none_first (told_kind (layout_kinds fixed l before)) (told_kind (register_kinds names l before)) (sym whole ∙ told_by_parts (layout_kinds fixed l before) (register_kinds names l before)) in
-    rw (sound_lines names fixed before (none_left (first_laid names fixed before) (told_at l.statement (told_kind (layout_kinds fixed l before ++ register_kinds names l before))) e), part) refl
+sound_lines : (names fixed : List (List ℕ)) (all : List Statement) (ls : List LaidLine) → first_laid names fixed all ls ≡ None → first_fault fixed all ls ≡ None
+sound_lines names fixed all [] e = refl
+sound_lines names fixed all (l ∷ before) e =
+    let layout = layout_kinds fixed all l before in
+    let registers = register_kinds names l before in
+    let told = told_at l.statement (told_kind (layout ++ registers)) in
+    let whole = untold l.statement (told_kind (layout ++ registers)) (none_right (first_laid names fixed all before) told e) in
+    let part : told_kind layout ≡ None = none_first (told_kind layout) (told_kind registers) (sym whole ∙ told_by_parts layout registers) in
+    rw (sound_lines names fixed all before (none_left (first_laid names fixed all before) told e), part) refl
 
 -- what laid lines take up can be placed
-pub extent_fits : ExtentsArePlaceable → (d : List LaidName) (s : Statement) (before : List LaidLine) (r : Result Extent LineKind) → extent_of (sight_behind d s before) s.what ≡ r → IsExtent (taken r)
-extent_fits law d s before (Ok e) h = law (sight_behind d s before) s.what e h
+pub extent_fits : ExtentsArePlaceable → (d : List LaidName) (s : Statement) (before : List LaidLine) (r : Result Extent LineKind) → extent_of (names_behind d s before) s.what ≡ r → IsExtent (taken r)
+extent_fits law d s before (Ok e) h = law (names_behind d s before) s.what e h
 extent_fits law d s before (Err k) h = record { some = omega arith; small = omega arith }
 
 pub all_extents : ExtentsArePlaceable → (d : List LaidName) (ss : List Statement) → AllExtents (pieces_of (laid_of d ss))
 all_extents law d [] = tt
-all_extents law d (s ∷ ss) = (extent_fits law d s (laid_of d ss) (extent_of (sight_behind d s (laid_of d ss)) s.what) refl, all_extents law d ss)
+all_extents law d (s ∷ ss) = (extent_fits law d s (laid_of d ss) (extent_of (names_behind d s (laid_of d ss)) s.what) refl, all_extents law d ss)
 
 -- ---- the whole source
 
 pub whole_is : ExtentsArePlaceable → (statements : List Statement) (o : Outline) (w : Walk) (pools : List LaidPools) → IsWhole statements o w → AreLaid (pieces_of (laid statements)) pools
-    → AreWhole (laid statements) pools w.starts
-whole_is law statements o w pools h l = record { laid = l; begun = h.walked.begun; extents = all_extents law (declared_names statements) statements }
+    → AreWhole (laid statements) pools
+whole_is law statements o w pools h l = record { laid = l; extents = all_extents law (declared_names statements) statements }
+
+pub begun_is : (statements : List Statement) (o : Outline) (w : Walk) → IsWhole statements o w → AreStarts (statements_of (laid statements)) (laid statements) w.starts
+begun_is statements o w h =
+    subst (λ (all : List Statement). AreStarts all (laid statements) w.starts) (sym (statements_kept (declared_names statements) statements)) h.walked.begun
 
 pub named_is : (statements : List Statement) (o : Outline) (w : Walk) → IsWhole statements o w → IsNamed statements w.lines.items o.names
 named_is statements o w h = record {
-  sound = sound_lines (register_names statements) (settled (equals_in statements)) (laid statements) h.walked.none;
+  sound = sound_lines (register_names statements) (settled (equals_in statements)) statements (laid statements) h.walked.none;
   plain = all_plain statements h.said;
   read = all_read statements h.said;
   lines = h.walked.kept;
   found = λ q. ap (named_in q) h.outlined.names;
 }
+
+pub names_are : KnownNamesAreFinal → (statements : List Statement) (xs : List LaidStatement) (declared names : List LaidName) → IsNamed statements xs declared
+    → AreKnownNames (declared_names statements) (laid statements) (Some names) → names ≡ final_names (laid statements)
+names_are law statements xs declared names h k = k.1 ∙ law statements h.sound h.plain k.0
 
 pub faults_are : (statements : List Statement) (o : Outline) (w : Walk) → IsWhole statements o w
     → layout_faults statements ≡ first_late (laid statements) [] (reversed (laid statements) [])

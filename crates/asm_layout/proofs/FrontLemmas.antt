@@ -9,13 +9,14 @@ use Rattle.asm_model.specs.Laid.{LaidLine, laid, laid_behind, laid_of, reversed}
 use Rattle.asm_model.specs.LayoutKinds.{equals_in, settled, told_at}
 use Rattle.source_model.specs.Registers.{register_names}
 use Rattle.source_model.specs.SourceFaults.{first_laid}
+use Rattle.asm_areas.specs.States.{AreStates}
 use Rattle.asm_layout.specs.declared.outline.Outline.{Outline}
 use Rattle.asm_layout.specs.declared.walking.Walk.{Walk}
 use Rattle.asm_layout.specs.Front.{front_laid, front_lines}
 use Rattle.asm_layout.specs.Layout.{IsTold}
 use Rattle.asm_layout.specs.Outline.{IsOutline}
-use Rattle.asm_layout.specs.Walking.{IsMarked, IsWalking, IsAlong, IsWalked, IsFrontWalked, Steps, told_by}
-use Rattle.asm_layout.proofs.WalkLemmas.{reversed_joined, reversed_long, is_marked, first_stays, told_moves}
+use Rattle.asm_layout.specs.Walking.{IsOutlined, IsWalking, IsAlong, IsWalked, IsFrontWalked, Steps, told_by}
+use Rattle.asm_layout.proofs.WalkLemmas.{reversed_joined, reversed_long, is_outlined, first_stays, told_moves}
 
 -- ---- lines that are left out
 
@@ -50,11 +51,11 @@ pub all_walked : (statements : List Statement) (n : ℕ) (r : Result Walk Fault)
     → IsWalked (reversed statements []) r
 all_walked statements n (Ok w) e h =
     let s = reversed statements [] in
-    subst (λ (ls : List LaidLine). IsWalking (declared_names s) (register_names s) (settled (equals_in s)) ls w)
+    subst (λ (ls : List LaidLine). IsWalking (declared_names s) (register_names s) (settled (equals_in s)) s ls w)
     (ap (λ (k : ℕ). front_lines s k) e ∙ all_lines statements) h
 all_walked statements n (Err f) e h =
     let s = reversed statements [] in
-    subst (λ (ls : List LaidLine). IsTold (first_laid (register_names s) (settled (equals_in s)) ls) f)
+    subst (λ (ls : List LaidLine). IsTold (first_laid (register_names s) (settled (equals_in s)) s ls) f)
     (ap (λ (k : ℕ). front_lines s k) e ∙ all_lines statements) h
 
 -- ---- the lines in front, one behind the other
@@ -73,14 +74,14 @@ nothing (x ∷ xs) less = absurd (omega arith)
 pub front_ends : (statements ys : List Statement) (n : ℕ) (w : Walk) → IsAlong statements ys (drop n statements) w → IsFrontWalked (reversed statements []) n (Ok w)
 front_ends statements ys n w h =
     let s = reversed statements [] in
-    subst (λ (ls : List LaidLine). IsWalking (declared_names s) (register_names s) (settled (equals_in s)) ls w) (sym (front_is statements ys n h.whole)) h.walks
+    subst (λ (ls : List LaidLine). IsWalking (declared_names s) (register_names s) (settled (equals_in s)) s ls w) (sym (front_is statements ys n h.whole)) h.walks
 
 -- ---- a faulty line
 
 pub told_front : (statements ys : List Statement) (x : Statement) (zs rest : List Statement) (n : ℕ) (o : Outline) (old new : Walk) (f : Fault)
     → IsOutline (reversed statements []) o → rest ≡ x ∷ zs → IsAlong statements ys (rest ++ drop n statements) old
-    → ((names settled : List (List ℕ)) (before : List LaidLine) → IsWalking o.names names settled before old → IsMarked settled o.settled.items x before
-    → Steps o.names names settled (laid_behind o.names x before) before new (Err f))
+    → ((names settled : List (List ℕ)) (all : List Statement) (before : List LaidLine) → AreStates all o.states → IsWalking o.names names settled all before old
+    → IsOutlined o.names settled o.circular.items x before → Steps o.names names settled all (laid_behind o.names x before) before new (Err f))
     → IsTold (front_laid (reversed statements []) n) f
 told_front statements ys x zs rest n o old new f outlined e h steps =
     let s = reversed statements [] in
@@ -89,15 +90,15 @@ told_front statements ys x zs rest n o old new f outlined e h steps =
     let fixed = settled (equals_in s) in
     let before = laid_of d (reversed ys []) in
     let next = next_is statements n x zs rest e in
-    let told = steps names fixed before
-    (subst (λ (c : List LaidName). IsWalking c names fixed before old) (sym outlined.names) h.walks)
-    (is_marked statements ys x (zs ++ drop n statements) (rest ++ drop n statements) o old outlined next h) in
-    let here : IsTold (told_at x (told_by names fixed (laid_behind d x before) before)) f =
-    subst (λ (c : List LaidName). IsTold (told_at x (told_by names fixed (laid_behind c x before) before)) f) outlined.names told in
+    let told = steps names fixed s before outlined.states
+    (subst (λ (c : List LaidName). IsWalking c names fixed s before old) (sym outlined.names) h.walks)
+    (is_outlined statements ys x (zs ++ drop n statements) (rest ++ drop n statements) o old outlined next h) in
+    let here : IsTold (told_at x (told_by names fixed s (laid_behind d x before) before)) f =
+    subst (λ (c : List LaidName). IsTold (told_at x (told_by names fixed s (laid_behind c x before) before)) f) outlined.names told in
     let whole : statements ≡ (ys ++ x ∷ zs) ++ drop n statements =
     h.whole ∙ ap (λ (l : List Statement). ys ++ l) next ∙ sym (append_assoc ys (x ∷ zs) (drop n statements)) in
     let lines : front_lines s n ≡ laid_of d (reversed zs (x ∷ reversed ys [])) =
     front_is statements (ys ++ x ∷ zs) n whole ∙ ap (λ (l : List Statement). laid_of d l) (reversed_joined ys (x ∷ zs) []) in
-    subst (λ (ls : List LaidLine). IsTold (first_laid names fixed ls) f) (sym lines)
-    (told_moves (told_at x (told_by names fixed (laid_behind d x before) before)) (first_laid names fixed (laid_of d (reversed zs (x ∷ reversed ys [])))) f
-    (λ t is. first_stays names fixed d zs (x ∷ reversed ys []) t (rw h.walks.none is)) here)
+    subst (λ (ls : List LaidLine). IsTold (first_laid names fixed s ls) f) (sym lines)
+    (told_moves (told_at x (told_by names fixed s (laid_behind d x before) before)) (first_laid names fixed s (laid_of d (reversed zs (x ∷ reversed ys [])))) f
+    (λ t is. first_stays names fixed s d zs (x ∷ reversed ys []) t (rw h.walks.none is)) here)

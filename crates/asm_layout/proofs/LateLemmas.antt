@@ -1,7 +1,5 @@
 -- Lines that are judged once more when the whole layout is known.
-use Rattle.std.proofs.Common.{◌≡◌, ◌≤◌, ◌-◌, List, [], ◌∷◌, ◌++◌, length, take, drop, Option, Some, None, refl, sym, ap, ◌∙◌, subst, arith}
-use Rattle.std.proofs.lemmas.Grind.{common_steps}
-use Rattle.std.specs.Prelude.{get_or}
+use Rattle.std.proofs.Common.{◌≡◌, List, [], ◌∷◌, ◌++◌, Option, Some, None, refl, sym, ap, ◌∙◌, subst}
 use Rattle.std.specs.List.{AllZip}
 use Rattle.sdt_fault.specs.declared.answer.Fault.{Fault}
 use Rattle.sdt_fault.specs.declared.kinds.LineKind.{LineKind}
@@ -11,7 +9,7 @@ use Rattle.asm_names.specs.Source.{AreEach}
 use Rattle.asm_model.specs.declared.statements.Statement.{Statement}
 use Rattle.asm_model.specs.Directives.{or_else}
 use Rattle.asm_model.specs.Kinds.{told_kind}
-use Rattle.asm_pool.specs.declared.layout.LaidStatement.{LaidStatement}
+use Rattle.asm_layout.specs.declared.laid.LaidStatement.{LaidStatement}
 use Rattle.asm_model.specs.Laid.{LaidLine, pieces_of, taken, reversed}
 use Rattle.asm_model.specs.LayoutKinds.{entry_kinds, literal_kinds, first_late, told_at}
 use Rattle.asm_layout.specs.Layout.{IsStatement, AreStatements, IsTold}
@@ -47,10 +45,6 @@ first_left all laid h = record {
   lines = subst (λ (xs : List LaidStatement). AreOn [] (reversed all []) xs) (append_nil laid) (lines_on all [] laid [] h refl);
   none = refl;
 }
-
-pub rest_of : (xs : List LaidStatement) (x : LaidStatement) → 1 ≤ length xs → x ≡ get_or xs 0 x → xs ≡ x ∷ take (length xs - 1) (drop 1 xs)
-rest_of [] x h e = absurd (let bad : 1 ≤ 0 = h in omega arith)
-rest_of (y ∷ ys) x h e = let same : x ≡ y = e in rw same (grind (arith, common_steps))
 
 -- ---- a line
 
@@ -88,7 +82,6 @@ stands all x more n = record {
   said = ap (λ (s : Statement). s.what) (sym n.line.statement);
   stands = n.line.area;
   start = n.line.offset;
-  state = n.line.thumb;
   entry = n.line.literal;
 }
 

@@ -3,6 +3,8 @@ pub mod FinishLemmas
 pub mod FrontLemmas
 pub mod LateLemmas
 pub mod OutlineLemmas
+pub mod SeenLemmas
+pub mod StateLemmas
 pub mod StepLemmas
 pub mod ToldLemmas
 pub mod WalkLemmas

@@ -1,11 +1,12 @@
 -- A line more.
-use Rattle.std.proofs.Common.{◌≡◌, ◌≤◌, ℕ, ◌+◌, ◌||◌, Bool, true, false, List, [], ◌∷◌, ◌++◌, length, Option, Some, None, Result, Ok, Err, refl, sym, ap, ◌∙◌, subst, arith}
+use Rattle.std.proofs.Common.{◌≡◌, ◌≤◌, ℕ, ◌+◌, ◌||◌, Bool, true, false, not, cond, List, [], ◌∷◌, ◌++◌, length, Option, Some, None, Result, Ok, Err, refl, sym, ap, ◌∙◌, subst, arith}
 use Rattle.std.specs.Prelude.{nat_lt}
+use Rattle.std.specs.List.{list_any}
 use Rattle.sdt_fault.specs.declared.kinds.LineKind.{LineKind}
 use Rattle.sdt_fault.specs.declared.kinds.LineKind.TheVariants.{BadOperand}
 use Rattle.asm_areas.specs.Starts.{IsSmall, IsAligned}
 use Rattle.asm_checks.specs.Areas.{IsExponent}
-use Rattle.asm_checks.specs.Checked.{checked_kinds, IsSettled}
+use Rattle.asm_checks.specs.Checked.{checked_kinds, IsCircular}
 use Rattle.asm_laying.specs.Reading.{said_number}
 use Rattle.asm_registers.specs.Giving.{IsGiven}
 use Rattle.asm_model.specs.declared.directives.DirectiveLine.{DirectiveLine}
@@ -20,7 +21,7 @@ use Rattle.asm_model.specs.Kinds.{told_kind}
 use Rattle.asm_model.proofs.FaultLemmas.{told_by_parts}
 use Rattle.asm_model.specs.Labels.{Defined, Unnamed, Label, Equal, MapField, RegisterName, defined_by}
 use Rattle.asm_model.specs.Laid.{LaidLine, laid_behind, statements_of}
-use Rattle.asm_model.specs.LayoutKinds.{exponent, exponent_kinds, kind_if, area_kinds, no_area_kinds, contents_kinds, contents_behind, name_kinds, settled_kinds, is_named_otherwise}
+use Rattle.asm_model.specs.LayoutKinds.{exponent, exponent_kinds, kind_if, area_kinds, no_area_kinds, contents_kinds, contents_behind, name_kinds, settled_kinds, state_kinds, in_thumb_area, is_named_otherwise, names_behind, first_equal, told_at}
 use Rattle.std.specs.Global.{Vec}
 use Rattle.sdt_fault.specs.declared.answer.Fault.{Fault}
 use Rattle.asm_areas.specs.declared.starts.AreaStart.{AreaStart}
@@ -30,14 +31,15 @@ use Rattle.asm_checks.specs.Checked.{IsChecked}
 use Rattle.asm_laying.specs.declared.laying.Laying.{Laying}
 use Rattle.asm_laying.specs.declared.laying.Placed.{Placed}
 use Rattle.asm_laying.specs.Laying.{IsLaying, IsLaid, IsPlaced, told_of}
-use Rattle.asm_pool.specs.declared.layout.LaidStatement.{LaidStatement}
+use Rattle.asm_layout.specs.declared.laid.LaidStatement.{LaidStatement}
 use Rattle.asm_registers.specs.declared.registers.Registers.{Registers}
 use Rattle.asm_registers.specs.Kept.{AreRegisters}
-use Rattle.asm_model.specs.LayoutKinds.{equal_of, told_at}
+use Rattle.asm_model.specs.Forms.{same}
 use Rattle.source_model.specs.Registers.{register_kinds}
 use Rattle.asm_layout.specs.declared.walking.Judged.{Judged}
 use Rattle.asm_layout.specs.declared.walking.Walk.{Walk}
 use Rattle.asm_layout.specs.Layout.{IsTold}
+use Rattle.asm_layout.specs.Outline.{circle_of}
 use Rattle.asm_layout.specs.Walking.{IsMark, HasMark, IsCounted, one_more, or_false, IsWalking, IsJudged, Keeps, laid_as, told_by}
 use Rattle.asm_layout.proofs.ToldLemmas.{none_first, none_second, told_parts}
 
@@ -95,84 +97,92 @@ exponent_small (Ok n) e = by_test (nat_lt n 2 || nat_lt 16 n) refl e
     by_test false t e = grind arith
 
 -- nothing is told of an AREA's attributes
-area_part : (w : What) (settled : List (List ℕ)) (l : LaidLine) (before : List LaidLine) → l.statement.what ≡ w → told_kind (checked_kinds settled l before) ≡ None
+area_part : (w : What) (settled : List (List ℕ)) (all : List Statement) (l : LaidLine) (before : List LaidLine) → l.statement.what ≡ w → told_kind (checked_kinds settled all l before) ≡ None
     → told_kind (area_kinds l.seen w before) ≡ None
-area_part w settled l before is none =
+area_part w settled all l before is none =
     let here = no_area_kinds l.area (defined_by l.statement) l.statement.what ++ contents_kinds (contents_behind (l.statement ∷ statements_of before)) l.thumb l.statement.what in
     let names = name_kinds l.statement (statements_of before) in
-    let last = settled_kinds settled (defined_by l.statement) in
-    let a = none_first (told_kind (here ++ area_kinds l.seen l.statement.what before ++ names)) (told_kind last) (sym none ∙ told_by_parts (here ++ area_kinds l.seen l.statement.what before ++ names) last) in
+    let last = settled_kinds settled (first_equal (defined_by l.statement) (statements_of before)) in
+    let state = state_kinds l.area l.thumb l.statement.what all in
+    let rest = here ++ area_kinds l.seen l.statement.what before ++ names ++ last in
+    let most = none_first (told_kind rest) (told_kind state) (sym none ∙ told_by_parts rest state) in
+    let a = none_first (told_kind (here ++ area_kinds l.seen l.statement.what before ++ names)) (told_kind last) (sym most ∙ told_by_parts (here ++ area_kinds l.seen l.statement.what before ++ names) last) in
     let b = none_first (told_kind (here ++ area_kinds l.seen l.statement.what before)) (told_kind names) (sym a ∙ told_by_parts (here ++ area_kinds l.seen l.statement.what before) names) in
     let c = none_second (told_kind here) (told_kind (area_kinds l.seen l.statement.what before)) (sym b ∙ told_by_parts here (area_kinds l.seen l.statement.what before)) in
     subst (λ (v : What). told_kind (area_kinds l.seen v before) ≡ None) is c
 
-directive_aligned : (d : DirectiveLine) (l : LaidLine) (before : List LaidLine) (settled : List (List ℕ)) (x : Result ℕ LineKind) → l.statement.what ≡ what.Directive d
-    → IsExponent l.seen (what.Directive d) x → told_kind (checked_kinds settled l before) ≡ None → IsAligned (what.Directive d) x l
-directive_aligned (line.Area name a) l before settled x w e none =
-    let parts = area_part (what.Directive (line.Area name a)) settled l before w none in (
+directive_aligned : (d : DirectiveLine) (l : LaidLine) (before : List LaidLine) (settled : List (List ℕ)) (all : List Statement) (x : Result ℕ LineKind) → l.statement.what ≡ what.Directive d
+    → IsExponent l.seen (what.Directive d) x → told_kind (checked_kinds settled all l before) ≡ None → IsAligned (what.Directive d) x l
+directive_aligned (line.Area name a) l before settled all x w e none =
+    let parts = area_part (what.Directive (line.Area name a)) settled all l before w none in (
       e,
       exponent_small x (subst (λ (y : Result ℕ LineKind). told_kind (exponent_kinds y) ≡ None) (sym e)
           (none_first (told_kind (exponent_kinds (exponent l.seen a.align))) (told_kind (kind_if (is_named_otherwise name l.seen a before) BadOperand))
           (sym parts ∙ told_by_parts (exponent_kinds (exponent l.seen a.align)) (kind_if (is_named_otherwise name l.seen a before) BadOperand)))),
     )
-directive_aligned (line.Rn r) l before settled x w e none = tt
-directive_aligned line.Entry l before settled x w e none = tt
-directive_aligned line.End l before settled x w e none = tt
-directive_aligned (line.Export name) l before settled x w e none = tt
-directive_aligned (line.Import name weak) l before settled x w e none = tt
-directive_aligned (line.Extern name weak) l before settled x w e none = tt
-directive_aligned (line.Keep name) l before settled x w e none = tt
-directive_aligned (line.Equ v) l before settled x w e none = tt
-directive_aligned line.Rout l before settled x w e none = tt
-directive_aligned (line.Assert v) l before settled x w e none = tt
-directive_aligned line.Nofp l before settled x w e none = tt
-directive_aligned (line.Opt v) l before settled x w e none = tt
-directive_aligned line.Ttl l before settled x w e none = tt
-directive_aligned line.Subt l before settled x w e none = tt
-directive_aligned (line.Dcd v) l before settled x w e none = tt
-directive_aligned (line.Dcdu v) l before settled x w e none = tt
-directive_aligned (line.Dcw v) l before settled x w e none = tt
-directive_aligned (line.Dcb v) l before settled x w e none = tt
-directive_aligned (line.Space v) l before settled x w e none = tt
-directive_aligned (line.Align b) l before settled x w e none = tt
-directive_aligned line.Ltorg l before settled x w e none = tt
-directive_aligned line.Data l before settled x w e none = tt
-directive_aligned (line.Map v) l before settled x w e none = tt
-directive_aligned (line.Field v) l before settled x w e none = tt
-directive_aligned line.Code16 l before settled x w e none = tt
-directive_aligned line.Code32 l before settled x w e none = tt
+directive_aligned (line.Rn r) l before settled all x w e none = tt
+directive_aligned line.Entry l before settled all x w e none = tt
+directive_aligned line.End l before settled all x w e none = tt
+directive_aligned (line.Export name) l before settled all x w e none = tt
+directive_aligned (line.Import name weak) l before settled all x w e none = tt
+directive_aligned (line.Extern name weak) l before settled all x w e none = tt
+directive_aligned (line.Keep name) l before settled all x w e none = tt
+directive_aligned (line.Equ v) l before settled all x w e none = tt
+directive_aligned line.Rout l before settled all x w e none = tt
+directive_aligned (line.Assert v) l before settled all x w e none = tt
+directive_aligned line.Nofp l before settled all x w e none = tt
+directive_aligned (line.Opt v) l before settled all x w e none = tt
+directive_aligned line.Ttl l before settled all x w e none = tt
+directive_aligned line.Subt l before settled all x w e none = tt
+directive_aligned (line.Dcd v) l before settled all x w e none = tt
+directive_aligned (line.Dcdu v) l before settled all x w e none = tt
+directive_aligned (line.Dcw v) l before settled all x w e none = tt
+directive_aligned (line.Dcb v) l before settled all x w e none = tt
+directive_aligned (line.Space v) l before settled all x w e none = tt
+directive_aligned (line.Align b) l before settled all x w e none = tt
+directive_aligned line.Ltorg l before settled all x w e none = tt
+directive_aligned line.Data l before settled all x w e none = tt
+directive_aligned (line.Map v) l before settled all x w e none = tt
+directive_aligned (line.Field v) l before settled all x w e none = tt
+directive_aligned line.Code16 l before settled all x w e none = tt
+directive_aligned line.Code32 l before settled all x w e none = tt
 
-pub aligned : (v : What) (l : LaidLine) (before : List LaidLine) (settled : List (List ℕ)) (x : Result ℕ LineKind) → l.statement.what ≡ v
-    → IsExponent l.seen v x → told_kind (checked_kinds settled l before) ≡ None → IsAligned v x l
-aligned what.Nothing l before settled x w e none = tt
-aligned (what.Arm a) l before settled x w e none = tt
-aligned (what.Thumb a) l before settled x w e none = tt
-aligned (what.Pseudo a) l before settled x w e none = tt
-aligned (what.Directive d) l before settled x w e none = directive_aligned d l before settled x w e none
+pub aligned : (v : What) (l : LaidLine) (before : List LaidLine) (settled : List (List ℕ)) (all : List Statement) (x : Result ℕ LineKind) → l.statement.what ≡ v
+    → IsExponent l.seen v x → told_kind (checked_kinds settled all l before) ≡ None → IsAligned v x l
+aligned what.Nothing l before settled all x w e none = tt
+aligned (what.Arm a) l before settled all x w e none = tt
+aligned (what.Thumb a) l before settled all x w e none = tt
+aligned (what.Pseudo a) l before settled all x w e none = tt
+aligned (what.Directive d) l before settled all x w e none = directive_aligned d l before settled all x w e none
 
 -- ---- the mark of a name for an expression
 
-pub mark_is : (settled : List (List ℕ)) (marks : List Bool) (n : ℕ) (x : Defined) (b : Bool) → IsMark marks n x b → HasMark settled marks n x → IsSettled settled x b
-mark_is settled marks n (Equal name e) b h k = h ∙ ap or_false k
-mark_is settled marks n Unnamed b h k = tt
-mark_is settled marks n (Label name) b h k = tt
-mark_is settled marks n (MapField name) b h k = tt
-mark_is settled marks n (RegisterName name r) b h k = tt
+pub mark_is : (settled : List (List ℕ)) (marks : List Bool) (n : ℕ) (x : Defined) (before : List Statement) (b : Bool) → IsMark marks n x b
+    → HasMark marks n (circle_of settled x before) → IsCircular settled (first_equal x before) b
+mark_is settled marks n (Equal name e) before b h k = by_test (list_any (same name) (names_behind before)) (h ∙ ap or_false k)
+  where
+    by_test : (t : Bool) → b ≡ cond t false (not (list_any (same name) settled)) → IsCircular settled (cond t [] ((name, e) ∷ [])) b
+    by_test true is = is
+    by_test false is = is
+mark_is settled marks n Unnamed before b h k = h
+mark_is settled marks n (Label name) before b h k = h
+mark_is settled marks n (MapField name) before b h k = h
+mark_is settled marks n (RegisterName name r) before b h k = h
 
--- how many names for expressions there are with a line more
-pub count_is : (settled : List (List ℕ)) (marks : List Bool) (n m : ℕ) (x : Defined) → IsCounted marks n x m → HasMark settled marks n x
-    → m ≡ n + length (equal_of x)
-count_is settled marks n m (Equal name e) h k = h ∙ ap (λ o. one_more o n) k
-count_is settled marks n m Unnamed h k = h ∙ omega arith
-count_is settled marks n m (Label name) h k = h ∙ omega arith
-count_is settled marks n m (MapField name) h k = h ∙ omega arith
-count_is settled marks n m (RegisterName name r) h k = h ∙ omega arith
+-- how many marks there are with a line more
+pub count_is : (settled : List (List ℕ)) (marks : List Bool) (n m : ℕ) (x : Defined) (before : List Statement) → IsCounted marks n x m
+    → HasMark marks n (circle_of settled x before) → m ≡ n + length (circle_of settled x before)
+count_is settled marks n m (Equal name e) before h k = h ∙ ap (λ o. one_more o n) k
+count_is settled marks n m Unnamed before h k = h ∙ omega arith
+count_is settled marks n m (Label name) before h k = h ∙ omega arith
+count_is settled marks n m (MapField name) before h k = h ∙ omega arith
+count_is settled marks n m (RegisterName name r) before h k = h ∙ omega arith
 
 -- ---- what is told of a judged line
 
-pub judged_told : (d : List LaidName) (names settled : List (List ℕ)) (l : LaidLine) (before : List LaidLine) (old new : Walk) (j : Judged) → IsJudged d names settled l before old new j
-    → told_by names settled l before ≡ first_told (told_of l) j.found
-judged_told d names settled l before old new j h = told_parts names settled l before ∙ ap (first_told (told_of l)) (sym h.told)
+pub judged_told : (d : List LaidName) (names settled : List (List ℕ)) (all : List Statement) (l : LaidLine) (before : List LaidLine) (old new : Walk) (j : Judged)
+    → IsJudged d names settled all l before old new j → told_by names settled all l before ≡ first_told (told_of l) j.found
+judged_told d names settled all l before old new j h = told_parts names settled all l before ∙ ap (first_told (told_of l)) (sym h.told)
 
 pub err_told : (d : List LaidName) (l : LaidLine) (before : List LaidLine) (state : Laying) (r : Result Placed LineKind) (k : LineKind) → r ≡ Err k → IsPlaced d l before state r
     → told_of l ≡ Some k
@@ -187,27 +197,27 @@ tells s o k f e h = subst (λ (x : Option LineKind). IsTold (told_at s x) f) (sy
 
 -- ---- a line is kept
 
-pub keep_line : (d : List LaidName) (names settled : List (List ℕ)) (s : Statement) (before : List LaidLine) (old mid new : Walk) (j : Judged) (p : Placed)
-    → IsWalking d names settled before old → IsJudged d names settled (laid_behind d s before) before old mid j → j.found ≡ None
-    → IsLaid d (laid_behind d s before) before mid.laying p → Keeps s j.laid.number p mid new
-    → IsWalking d names settled (laid_behind d s before ∷ before) new
-keep_line d names settled s before old mid new j p w h none laid k =
+pub keep_line : (d : List LaidName) (names settled : List (List ℕ)) (all : List Statement) (s : Statement) (before : List LaidLine) (old mid new : Walk) (j : Judged) (p : Placed)
+    → IsWalking d names settled all before old → IsJudged d names settled all (laid_behind d s before) before old mid j → j.found ≡ None
+    → IsLaid d (laid_behind d s before) before mid.laying p → Keeps s j.laid.number j.thumb_area p mid new
+    → IsWalking d names settled all (laid_behind d s before ∷ before) new
+keep_line d names settled all s before old mid new j p w h none laid k =
     let l = laid_behind d s before in
-    let parts : None ≡ first_told (told_kind (checked_kinds settled l before)) (told_kind (register_kinds names l before)) = sym none ∙ h.told in
-    let unchecked : told_kind (checked_kinds settled l before) ≡ None = none_first (told_kind (checked_kinds settled l before)) (told_kind (register_kinds names l before)) parts in
-    let line : IsLineOf s.what p.area p.thumb j.laid.number l before = record {
+    let parts : None ≡ first_told (told_kind (checked_kinds settled all l before)) (told_kind (register_kinds names l before)) = sym none ∙ h.told in
+    let unchecked : told_kind (checked_kinds settled all l before) ≡ None = none_first (told_kind (checked_kinds settled all l before)) (told_kind (register_kinds names l before)) parts in
+    let line : IsLineOf all s.what p.area j.thumb_area j.laid.number l before = record {
       said = refl;
       stands = sym laid.area;
       counted = refl;
-      state = sym laid.thumb;
-      aligned = aligned s.what l before settled j.laid.number refl (numbers s.what l j.laid.number h.tells.number).exponent_is unchecked;
+      state = h.within ∙ ap (λ (o : Option ℕ). in_thumb_area o all) (sym laid.area);
+      aligned = aligned s.what l before settled all j.laid.number refl (numbers s.what l j.laid.number h.tells.number).exponent_is unchecked;
     } in
-    let untold : told_by names settled l before ≡ None = judged_told d names settled l before old mid j h ∙ rw (laid.told, none) refl in
+    let untold : told_by names settled all l before ≡ None = judged_told d names settled all l before old mid j h ∙ rw (laid.told, none) refl in
     record {
       lays = subst (λ (x : Laying). IsLaying d (l ∷ before) x) (sym k.laying) laid.laying;
       checked = subst (λ (x : Checks). IsChecked (l ∷ before) x) (sym k.checks) (h.checked none);
       named = subst (λ (x : Registers). AreRegisters names (l ∷ before) x) (sym k.registers) (h.named none);
-      begun = k.starts l before (subst (λ (x : List AreaStart). AreStarts before x) (sym h.begun) w.begun) line;
+      begun = k.starts all l before (subst (λ (x : List AreaStart). AreStarts all before x) (sym h.begun) w.begun) line;
       kept = (
         old.lines.items,
         laid_as s p,

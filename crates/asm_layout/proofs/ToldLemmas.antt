@@ -5,12 +5,13 @@ use Rattle.sdt_fault.specs.declared.kinds.LineKind.{LineKind}
 use Rattle.sdt_fault.specs.declared.kinds.LineKind.TheVariants.{Syntax, UnknownWord, FloatingPoint, BadOperand, Constant, Forward, DuplicateName, WrongType, OutOfRange, Nesting, Assert, NoArea, DivideByZero, TooDeep, TooMany}
 use Rattle.asm_checks.specs.Checked.{checked_kinds}
 use Rattle.asm_laying.specs.Laying.{told_of}
+use Rattle.asm_model.specs.declared.statements.Statement.{Statement}
 use Rattle.asm_model.specs.FaultSets.{first_told}
 use Rattle.asm_model.specs.Kinds.{rank, earlier, told_kind}
 use Rattle.asm_model.proofs.FaultLemmas.{takes, stays, first_assoc, told_by_parts}
 use Rattle.asm_model.specs.Labels.{defined_by}
 use Rattle.asm_model.specs.Laid.{LaidLine, statements_of}
-use Rattle.asm_model.specs.LayoutKinds.{fault_kinds, map_kinds, no_area_kinds, contents_kinds, contents_behind, area_kinds, name_kinds, settled_kinds, kind_if, area_bytes}
+use Rattle.asm_model.specs.LayoutKinds.{fault_kinds, map_kinds, no_area_kinds, contents_kinds, contents_behind, area_kinds, name_kinds, settled_kinds, first_equal, state_kinds, kind_if, area_bytes}
 use Rattle.source_model.specs.Registers.{register_kinds}
 use Rattle.asm_layout.specs.Walking.{told_by}
 
@@ -86,25 +87,28 @@ append_assoc : (xs ys zs : List LineKind) → (xs ++ ys) ++ zs ≡ xs ++ (ys ++ 
 append_assoc [] ys zs = refl
 append_assoc (x ∷ xs) ys zs = ap (λ l. x ∷ l) (append_assoc xs ys zs)
 
-joined_kinds : (es ms hs bs cs ds fs ts rs : List LineKind)
-    → told_kind ((es ++ ms ++ hs ++ bs ++ cs ++ ds ++ fs ++ ts) ++ rs)
-    ≡ first_told (told_kind (es ++ ms ++ ts)) (first_told (told_kind (hs ++ bs ++ cs ++ ds ++ fs)) (told_kind rs))
-joined_kinds es ms hs bs cs ds fs ts rs =
-    ap (λ l. told_kind ((l ++ ts) ++ rs)) (grouped (es ++ ms)) ∙ split_kinds es ms (hs ++ bs ++ cs ++ ds ++ fs) ts rs
+joined_kinds : (es ms hs bs cs ds fs gs ts rs : List LineKind)
+    → told_kind ((es ++ ms ++ hs ++ bs ++ cs ++ ds ++ fs ++ gs ++ ts) ++ rs)
+    ≡ first_told (told_kind (es ++ ms ++ ts)) (first_told (told_kind (hs ++ bs ++ cs ++ ds ++ fs ++ gs)) (told_kind rs))
+joined_kinds es ms hs bs cs ds fs gs ts rs =
+    ap (λ l. told_kind ((l ++ ts) ++ rs)) (grouped (es ++ ms)) ∙ split_kinds es ms (hs ++ bs ++ cs ++ ds ++ fs ++ gs) ts rs
   where
-    grouped : (ks : List LineKind) → ks ++ hs ++ bs ++ cs ++ ds ++ fs ≡ ks ++ (hs ++ bs ++ cs ++ ds ++ fs)
+    grouped : (ks : List LineKind) → ks ++ hs ++ bs ++ cs ++ ds ++ fs ++ gs ≡ ks ++ (hs ++ bs ++ cs ++ ds ++ fs ++ gs)
     grouped ks =
-        append_assoc (ks ++ hs ++ bs ++ cs) ds fs ∙ append_assoc (ks ++ hs ++ bs) cs (ds ++ fs) ∙ append_assoc (ks ++ hs) bs (cs ++ (ds ++ fs))
-        ∙ append_assoc ks hs (bs ++ (cs ++ (ds ++ fs)))
-        ∙ ap (λ l. ks ++ l) (sym (append_assoc (hs ++ bs ++ cs) ds fs ∙ append_assoc (hs ++ bs) cs (ds ++ fs) ∙ append_assoc hs bs (cs ++ (ds ++ fs))))
+        append_assoc (ks ++ hs ++ bs ++ cs ++ ds) fs gs ∙ append_assoc (ks ++ hs ++ bs ++ cs) ds (fs ++ gs)
+        ∙ append_assoc (ks ++ hs ++ bs) cs (ds ++ (fs ++ gs)) ∙ append_assoc (ks ++ hs) bs (cs ++ (ds ++ (fs ++ gs)))
+        ∙ append_assoc ks hs (bs ++ (cs ++ (ds ++ (fs ++ gs))))
+        ∙ ap (λ l. ks ++ l)
+        (sym (append_assoc (hs ++ bs ++ cs ++ ds) fs gs ∙ append_assoc (hs ++ bs ++ cs) ds (fs ++ gs) ∙ append_assoc (hs ++ bs) cs (ds ++ (fs ++ gs))
+        ∙ append_assoc hs bs (cs ++ (ds ++ (fs ++ gs)))))
 
-pub told_parts : (names settled : List (List ℕ)) (l : LaidLine) (before : List LaidLine)
-    → told_by names settled l before ≡ first_told (told_of l) (first_told (told_kind (checked_kinds settled l before)) (told_kind (register_kinds names l before)))
-told_parts names settled l before =
+pub told_parts : (names settled : List (List ℕ)) (all : List Statement) (l : LaidLine) (before : List LaidLine)
+    → told_by names settled all l before ≡ first_told (told_of l) (first_told (told_kind (checked_kinds settled all l before)) (told_kind (register_kinds names l before)))
+told_parts names settled all l before =
     joined_kinds (fault_kinds l.extent) (map_kinds l.seen l.statement.what) (no_area_kinds l.area (defined_by l.statement) l.statement.what)
     (contents_kinds (contents_behind (l.statement ∷ statements_of before)) l.thumb l.statement.what) (area_kinds l.seen l.statement.what before)
-    (name_kinds l.statement (statements_of before)) (settled_kinds settled (defined_by l.statement)) (kind_if (nat_lt area_bytes (l.offset + l.size)) TooMany)
-    (register_kinds names l before)
+    (name_kinds l.statement (statements_of before)) (settled_kinds settled (first_equal (defined_by l.statement) (statements_of before))) (state_kinds l.area l.thumb l.statement.what all)
+    (kind_if (nat_lt area_bytes (l.offset + l.size)) TooMany) (register_kinds names l before)
 
 -- where nothing is told of two, nothing is told of each
 pub none_first : (a b : Option LineKind) → None ≡ first_told a b → a ≡ None

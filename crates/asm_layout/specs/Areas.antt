@@ -1,15 +1,13 @@
 -- The areas of a layout, made of what begins and what ends each of them. This project's.
-use Rattle.std.specs.Prelude.{◌≡◌, ◌+◌, ◌*◌, ◌^◌, ◌<◌, List}
+use Rattle.std.specs.Prelude.{◌≡◌, List}
 use Rattle.std.specs.List.{AllZip}
-use Rattle.sdt_word.specs.Numbers.{flag}
 use Rattle.asm_areas.specs.declared.starts.AreaStart.{AreaStart}
-use Rattle.asm_areas.specs.Late.{is_true}
 use Rattle.asm_offsets.specs.declared.extents.LaidPools.{LaidPools}
-use Rattle.asm_pool.specs.declared.layout.LaidArea.{LaidArea}
+use Rattle.asm_layout.specs.declared.laid.LaidArea.{LaidArea}
 
 pub record IsMade (p : AreaStart × LaidPools) (a : LaidArea) : Type 0 where
   pub name : a.name ≡ p.0.name
-  pub attributes : p.0.attributes < 2 ^ 23 → a.attributes ≡ p.0.attributes + flag (is_true p.0.state) * 2 ^ 20
+  pub attributes : a.attributes ≡ p.0.attributes
   pub size : a.size ≡ p.1.size
   pub pools : a.pools ≡ p.1.pools
 

@@ -14,4 +14,4 @@ front_lines statements n = drop (length statements - n) (laid statements)
 
 -- the first faulty line among them, where the names of the whole source count
 abbrev pub front_laid : List Statement → ℕ → Option (Statement × LineKind)
-front_laid statements n = first_laid (register_names statements) (settled (equals_in statements)) (front_lines statements n)
+front_laid statements n = first_laid (register_names statements) (settled (equals_in statements)) statements (front_lines statements n)

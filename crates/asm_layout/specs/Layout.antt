@@ -6,9 +6,9 @@ use Rattle.sdt_fault.specs.declared.answer.Fault.TheVariants as fault
 use Rattle.sdt_fault.specs.declared.kinds.LineKind.{LineKind}
 use Rattle.sdt_fault.specs.declared.refusal.Refusal.TheVariants.{BadLine}
 use Rattle.asm_model.specs.declared.statements.Statement.{Statement}
-use Rattle.asm_pool.specs.declared.layout.LaidArea.{LaidArea}
-use Rattle.asm_pool.specs.declared.layout.LaidStatement.{LaidStatement}
-use Rattle.asm_pool.specs.declared.layout.Layout.{Layout}
+use Rattle.asm_layout.specs.declared.laid.LaidArea.{LaidArea}
+use Rattle.asm_layout.specs.declared.laid.LaidStatement.{LaidStatement}
+use Rattle.asm_layout.specs.declared.laid.Layout.{Layout}
 use Rattle.asm_pool.specs.Pooled.{flushed}
 use Rattle.asm_laying.specs.Reading.{string_marks}
 use Rattle.asm_offsets.specs.Running.{entry_behind, pools_behind}
@@ -44,7 +44,7 @@ AreStatements (l ∷ before) xs =
 
 pub record IsArea (all : List LaidLine) (area : ℕ) (a : LaidArea) : Type 0 where
   pub name : slice_get (areas_behind (statements_of all)) area ≡ Some a.name
-  pub attributes : attributes_of area (is_thumb_area area all) all ≡ Some a.attributes
+  pub attributes : attributes_of area (is_thumb_area area (statements_of all)) all ≡ Some a.attributes
   pub size : a.size ≡ area_size area (pieces_of all)
   pub pools : a.pools ≡ flushed (start_in area (pieces_of all) Pool) (pools_behind area (pieces_of all))
 

@@ -6,4 +6,5 @@ pub mod Late
 pub mod Layout
 pub mod Lines
 pub mod Outline
+pub mod States
 pub mod Walking

@@ -2,7 +2,7 @@
 use Rattle.std.specs.Prelude.{◌≡◌, List}
 use Rattle.std.specs.List.{AllZip}
 use Rattle.asm_names.specs.declared.lines.PlacedLine.{PlacedLine}
-use Rattle.asm_pool.specs.declared.layout.LaidStatement.{LaidStatement}
+use Rattle.asm_layout.specs.declared.laid.LaidStatement.{LaidStatement}
 
 pub record IsLineOf (x : LaidStatement) (y : PlacedLine) : Type 0 where
   pub statement : y.statement.now ≡ x.statement

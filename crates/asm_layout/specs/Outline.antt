@@ -1,17 +1,78 @@
 -- What laying a line needs to know of the whole source. This project's.
-use Rattle.std.specs.Prelude.{◌≡◌, ℕ, List, [], ◌∷◌, ◌++◌, map}
+use Rattle.std.specs.Prelude.{◌≡◌, ℕ, List, [], ◌∷◌, ◌++◌, Bool, true, false, not, if◌then◌else◌}
+use Rattle.std.specs.List.{list_any}
 use Rattle.asm_model.specs.declared.exprs.Expr.{Expr}
 use Rattle.asm_model.specs.declared.statements.Statement.{Statement}
-use Rattle.asm_names.specs.Order.{is_settled}
-use Rattle.asm_model.specs.Labels.{defined_by, declared_names}
-use Rattle.asm_model.specs.LayoutKinds.{equal_of, equals_in}
+use Rattle.asm_model.specs.Forms.{same}
+use Rattle.asm_model.specs.Labels.{Defined, Equal, defined_by, declared_names}
+use Rattle.asm_model.specs.LayoutKinds.{names_behind, first_equal, equals_in, settled}
+use Rattle.asm_model.specs.Laid.{reversed}
+use Rattle.asm_areas.specs.States.{AreStates}
+use Rattle.asm_laying.specs.declared.behind.Behind.{Behind}
+use Rattle.asm_laying.specs.Behind.{behind}
+use Rattle.asm_names.specs.Equals.{pairs_of}
+use Rattle.asm_layout.specs.declared.outline.Listed.{Listed}
 use Rattle.asm_layout.specs.declared.outline.Outline.{Outline}
 
--- the names for expressions of statements in the order of the source
-abbrev pub equals_on : List Statement → List (List ℕ × Expr)
-equals_on [] = []
-equals_on (s ∷ ss) = equal_of (defined_by s) ++ equals_on ss
+-- ---- names for expressions, one behind the other
+
+-- whether a statement with a name for an expression is the first that defines the name
+abbrev pub first_of : Defined → List Statement → List Bool
+first_of (Equal name e) before = not (list_any (same name) (names_behind before)) ∷ []
+first_of _ before = []
+
+abbrev pub firsts_in : List Statement → List Bool
+firsts_in [] = []
+firsts_in (s ∷ before) = firsts_in before ++ first_of (defined_by s) before
+
+-- whether its name depends on itself, or on one that does; of a statement that isn't the first that defines the name this isn't
+-- asked
+abbrev pub circle_of : List (List ℕ) → Defined → List Statement → List Bool
+circle_of settled (Equal name e) before =
+    (if list_any (same name) (names_behind before) then false else not (list_any (same name) settled)) ∷ []
+circle_of settled _ before = []
+
+abbrev pub circles_in : List (List ℕ) → List Statement → List Bool
+circles_in settled [] = []
+circles_in settled (s ∷ before) = circles_in settled before ++ circle_of settled (defined_by s) before
+
+-- the marks of first definitions, of which each that is settled is told, among those of all
+abbrev pub marks_of : List Bool → List Bool → List Bool
+marks_of [] settled = []
+marks_of (false ∷ firsts) settled = false ∷ marks_of firsts settled
+marks_of (true ∷ firsts) [] = false ∷ marks_of firsts []
+marks_of (true ∷ firsts) (b ∷ settled) = not b ∷ marks_of firsts settled
+
+-- ---- lists of code
+
+-- a name with its expression, where it is listed
+abbrev pub pair_if : Bool → List ℕ → Expr → List (List ℕ × Expr)
+pair_if true name e = (name, e) ∷ []
+pair_if false name e = []
+
+-- what is listed of statements, the last of them first
+pub record IsListed (statements : List Statement) (l : Listed) : Type 0 where
+  pub names : l.names ≡ declared_names statements
+  pub equals : pairs_of l.equals.items ≡ equals_in statements
+  pub firsts : l.firsts.items ≡ firsts_in statements
+
+-- what is listed of statements of which these are left
+pub record IsListing (statements left : List Statement) (b : Behind) (l : Listed) : Type 0 where
+  -- those before, the last of them first
+  pub before : List Statement
+  pub whole : reversed left before ≡ reversed statements []
+  pub standing : b ≡ behind before
+  pub listed : IsListed before l
+
+-- what is listed of a statement more, but for its names
+pub record Lists (s : Statement) (old new : Listed) : Type 0 where
+  pub names : new.names ≡ old.names
+  pub equals : (before : List Statement) → old.names ≡ declared_names before
+      → pairs_of new.equals.items ≡ pairs_of old.equals.items ++ first_equal (defined_by s) before
+  pub firsts : (before : List Statement) → old.names ≡ declared_names before
+      → new.firsts.items ≡ old.firsts.items ++ first_of (defined_by s) before
 
 pub record IsOutline (statements : List Statement) (o : Outline) : Type 0 where
   pub names : o.names ≡ declared_names statements
-  pub marks : o.settled.items ≡ map (λ (e : List ℕ × Expr). is_settled (equals_in statements) e.0) (equals_in statements)
+  pub states : AreStates statements o.states
+  pub marks : o.circular.items ≡ circles_in (settled (equals_in statements)) statements

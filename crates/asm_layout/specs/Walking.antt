@@ -1,13 +1,12 @@
 -- The lines of a source so far, laid and judged. This project's. Lines are listed with the nearest first.
 use Rattle.std.specs.Prelude.{◌≡◌, ℕ, ◌+◌, List, [], ◌∷◌, ◌++◌, length, slice_get, Bool, false, Option, Some, None, Result, Ok, Err}
-use Rattle.std.specs.List.{list_any}
+use Rattle.std.specs.Option.{is_some}
 use Rattle.sdt_fault.specs.declared.answer.Fault.{Fault}
 use Rattle.sdt_fault.specs.declared.kinds.LineKind.{LineKind}
 use Rattle.asm_model.specs.declared.statements.Statement.{Statement}
 use Rattle.asm_model.specs.FaultSets.{first_told}
-use Rattle.asm_model.specs.Forms.{same}
 use Rattle.asm_model.specs.Kinds.{told_kind}
-use Rattle.asm_pool.specs.declared.layout.LaidStatement.{LaidStatement}
+use Rattle.asm_layout.specs.declared.laid.LaidStatement.{LaidStatement}
 use Rattle.asm_areas.specs.Starts.{AreStarts, IsLineOf}
 use Rattle.asm_checks.specs.Checked.{checked_kinds, IsChecked}
 use Rattle.asm_laying.specs.declared.laying.Placed.{Placed}
@@ -15,14 +14,16 @@ use Rattle.asm_laying.specs.Laying.{IsLaying, Tells}
 use Rattle.asm_registers.specs.Kept.{AreRegisters}
 use Rattle.asm_model.specs.declared.names.LaidName.{LaidName}
 use Rattle.asm_model.specs.Labels.{Defined, Equal, defined_by, declared_names}
-use Rattle.asm_model.specs.Laid.{LaidLine, statements_of, laid, laid_of, reversed}
-use Rattle.asm_model.specs.LayoutKinds.{layout_kinds, equals_in, settled, told_at}
+use Rattle.asm_model.specs.Laid.{LaidLine, statements_of, names_behind, laid, laid_of, reversed}
+use Rattle.asm_model.specs.Meaning.{named_in}
+use Rattle.asm_model.specs.LayoutKinds.{layout_kinds, equals_in, settled, in_thumb_area, told_at}
 use Rattle.source_model.specs.Registers.{register_names, register_kinds}
 use Rattle.source_model.specs.SourceFaults.{first_laid}
 use Rattle.asm_layout.specs.declared.walking.Judged.{Judged}
 use Rattle.asm_layout.specs.declared.walking.Walk.{Walk}
 use Rattle.asm_layout.specs.Front.{front_lines, front_laid}
 use Rattle.asm_layout.specs.Layout.{AreStatements, IsTold}
+use Rattle.asm_layout.specs.Outline.{circle_of, circles_in}
 
 -- ---- names for expressions
 
@@ -33,7 +34,7 @@ or_false (Some b) = b
 -- the mark of the next name for an expression
 abbrev pub IsMark : List Bool → ℕ → Defined → Bool → Type 0
 IsMark marks n (Equal name e) b = b ≡ or_false (slice_get marks n)
-IsMark marks n d b = Unit {0}
+IsMark marks n d b = b ≡ false
 
 abbrev pub one_more : Option Bool → ℕ → ℕ
 one_more None n = n
@@ -47,37 +48,40 @@ pub record IsNext (marks : List Bool) (old new : ℕ) (b : Bool) : Type 0 where
   pub mark : b ≡ or_false (slice_get marks old)
   pub count : new ≡ one_more (slice_get marks old) old
 
-abbrev pub HasMark : List (List ℕ) → List Bool → ℕ → Defined → Type 0
-HasMark settled marks n (Equal name e) = slice_get marks n ≡ Some (list_any (same name) settled)
-HasMark settled marks n d = Unit {0}
+abbrev pub HasMark : List Bool → ℕ → List Bool → Type 0
+HasMark marks n [] = Unit {0}
+HasMark marks n (b ∷ bs) = slice_get marks n ≡ Some b
 
--- the marks say of the next name for an expression whether it is settled
-abbrev pub IsMarked : List (List ℕ) → List Bool → Statement → List LaidLine → Type 0
-IsMarked settled marks s before = HasMark settled marks (length (equals_in (statements_of before))) (defined_by s)
+-- what an outline with these names and marks says of a statement behind lines: whether its name depends on itself; and names
+-- that its line knows are among the outline's
+pub record IsOutlined (d : List LaidName) (settled : List (List ℕ)) (marks : List Bool) (s : Statement) (before : List LaidLine) : Type 0 where
+  pub mark : HasMark marks (length (circles_in settled (statements_of before))) (circle_of settled (defined_by s) (statements_of before))
+  pub names : (q : List ℕ) → is_some (named_in q (names_behind d s before).list) ≡ is_some (named_in q d)
 
 -- ---- lines so far
 
--- lines without faults, where a source has these names for registers and these settled names
-pub record IsWalking (d : List LaidName) (names settled : List (List ℕ)) (before : List LaidLine) (w : Walk) : Type 0 where
+-- lines without faults, where a source has these names for registers, these settled names and these statements
+pub record IsWalking (d : List LaidName) (names settled : List (List ℕ)) (all : List Statement) (before : List LaidLine) (w : Walk) : Type 0 where
   pub lays : IsLaying d before w.laying
   pub checked : IsChecked before w.checks
   pub named : AreRegisters names before w.registers
-  pub begun : AreStarts before w.starts
+  pub begun : AreStarts all before w.starts
   pub kept : AreStatements before w.lines.items
-  pub counted : w.equals ≡ length (equals_in (statements_of before))
-  pub none : first_laid names settled before ≡ None
+  pub counted : w.equals ≡ length (circles_in settled (statements_of before))
+  pub none : first_laid names settled all before ≡ None
 
 -- ---- a line more
 
 -- what is known of a line before it is kept
-pub record IsJudged (d : List LaidName) (names settled : List (List ℕ)) (l : LaidLine) (before : List LaidLine) (old new : Walk) (j : Judged) : Type 0 where
+pub record IsJudged (d : List LaidName) (names settled : List (List ℕ)) (all : List Statement) (l : LaidLine) (before : List LaidLine) (old new : Walk) (j : Judged) : Type 0 where
   pub tells : Tells d l before new.laying j.laid
-  pub told : j.found ≡ first_told (told_kind (checked_kinds settled l before)) (told_kind (register_kinds names l before))
+  pub told : j.found ≡ first_told (told_kind (checked_kinds settled all l before)) (told_kind (register_kinds names l before))
   pub checked : j.found ≡ None → IsChecked (l ∷ before) new.checks
   pub named : j.found ≡ None → AreRegisters names (l ∷ before) new.registers
+  pub within : j.thumb_area ≡ in_thumb_area l.area all
   pub begun : new.starts ≡ old.starts
   pub kept : new.lines ≡ old.lines
-  pub counted : new.equals ≡ length (equals_in (statements_of (l ∷ before)))
+  pub counted : new.equals ≡ length (circles_in settled (statements_of (l ∷ before)))
 
 abbrev pub laid_as : Statement → Placed → LaidStatement
 laid_as s p = record {
@@ -93,36 +97,37 @@ laid_as s p = record {
 }
 
 -- a line without a fault is kept
-pub record Keeps (s : Statement) (number : Result ℕ LineKind) (p : Placed) (old new : Walk) : Type 0 where
+pub record Keeps (s : Statement) (number : Result ℕ LineKind) (thumb_area : Bool) (p : Placed) (old new : Walk) : Type 0 where
   pub laying : new.laying ≡ old.laying
   pub checks : new.checks ≡ old.checks
   pub registers : new.registers ≡ old.registers
   pub lines : new.lines.items ≡ old.lines.items ++ laid_as s p ∷ []
   pub equals : new.equals ≡ old.equals
-  pub starts : (l : LaidLine) (before : List LaidLine) → AreStarts before old.starts → IsLineOf s.what p.area p.thumb number l before → AreStarts (l ∷ before) new.starts
+  pub starts : (all : List Statement) (l : LaidLine) (before : List LaidLine) → AreStarts all before old.starts
+      → IsLineOf all s.what p.area thumb_area number l before → AreStarts all (l ∷ before) new.starts
 
 -- the kind that is told of a line
-abbrev pub told_by : List (List ℕ) → List (List ℕ) → LaidLine → List LaidLine → Option LineKind
-told_by names settled l before = told_kind (layout_kinds settled l before ++ register_kinds names l before)
+abbrev pub told_by : List (List ℕ) → List (List ℕ) → List Statement → LaidLine → List LaidLine → Option LineKind
+told_by names settled all l before = told_kind (layout_kinds settled all l before ++ register_kinds names l before)
 
-abbrev pub Steps : List LaidName → List (List ℕ) → List (List ℕ) → LaidLine → List LaidLine → Walk → Result (Unit {0}) Fault → Type 0
-Steps d names settled l before new (Ok u) = IsWalking d names settled (l ∷ before) new
-Steps d names settled l before new (Err f) = IsTold (told_at l.statement (told_by names settled l before)) f
+abbrev pub Steps : List LaidName → List (List ℕ) → List (List ℕ) → List Statement → LaidLine → List LaidLine → Walk → Result (Unit {0}) Fault → Type 0
+Steps d names settled all l before new (Ok u) = IsWalking d names settled all (l ∷ before) new
+Steps d names settled all l before new (Err f) = IsTold (told_at l.statement (told_by names settled all l before)) f
 
 -- ---- all lines
 
 -- the lines of a source, or its first with a fault that is told at it
 abbrev pub IsWalked : List Statement → Result Walk Fault → Type 0
-IsWalked statements (Ok w) = IsWalking (declared_names statements) (register_names statements) (settled (equals_in statements)) (laid statements) w
-IsWalked statements (Err f) = IsTold (first_laid (register_names statements) (settled (equals_in statements)) (laid statements)) f
+IsWalked statements (Ok w) = IsWalking (declared_names statements) (register_names statements) (settled (equals_in statements)) statements (laid statements) w
+IsWalked statements (Err f) = IsTold (first_laid (register_names statements) (settled (equals_in statements)) statements (laid statements)) f
 
 -- the first lines of a source, or the first of them with a fault that is told at it
 abbrev pub IsFrontWalked : List Statement → ℕ → Result Walk Fault → Type 0
-IsFrontWalked statements n (Ok w) = IsWalking (declared_names statements) (register_names statements) (settled (equals_in statements)) (front_lines statements n) w
+IsFrontWalked statements n (Ok w) = IsWalking (declared_names statements) (register_names statements) (settled (equals_in statements)) statements (front_lines statements n) w
 IsFrontWalked statements n (Err f) = IsTold (front_laid statements n) f
 
 -- lines of a source, of which these are walked and those left
 pub record IsAlong (statements yielded left : List Statement) (w : Walk) : Type 0 where
   pub whole : statements ≡ yielded ++ left
-  pub walks : IsWalking (declared_names (reversed statements [])) (register_names (reversed statements [])) (settled (equals_in (reversed statements [])))
+  pub walks : IsWalking (declared_names (reversed statements [])) (register_names (reversed statements [])) (settled (equals_in (reversed statements []))) (reversed statements [])
       (laid_of (declared_names (reversed statements [])) (reversed yielded [])) w

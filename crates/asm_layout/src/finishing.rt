@@ -2,24 +2,28 @@
 
 ghost use Rattle.std.specs.Prelude.{◌≡◌, List, IfOk};
 ghost use Rattle.asm_model.specs.Laid as laid_model;
+ghost use Rattle.asm_model.specs.Labels.{declared_names};
 ghost use Rattle.asm_model.specs.declared.statements.Statement.{Statement};
+ghost use Rattle.asm_laying.specs.Laying.{AreKnownNames};
 ghost use Rattle.asm_layout.specs.Layout.{IsOutcome};
 ghost use Rattle.asm_layout.specs.Finishing.{IsNamed, IsWhole};
 
 use crate::areas::areas_of;
+use crate::laid::{LaidStatement, Layout};
 use crate::late::cleared;
 use crate::lines::lines_of;
 use crate::outline::Outline;
 use crate::walking::Walk;
+use asm_laying::laying::Ended;
 use asm_names::{KnownNames, final_names};
 use asm_offsets::extents_are_placeable;
-use asm_pool::{LaidStatement, Layout};
+use layout_laws::laws::known_names_are_final;
 use sdt_fault::answer::Fault;
 use sdt_fault::{List as Listed, NoMemory};
 use std::alloc::Global;
 
-/// All names of a source.
-fn names_of(
+/// All names of a source, by those that it declares.
+fn made_names(
     alloc: Global,
     laid: &[LaidStatement],
     declared: &KnownNames,
@@ -29,6 +33,22 @@ fn names_of(
     let lines = lines_of(alloc, laid)?;
     let names = final_names(alloc, lines.as_slice(), declared)?;
     Ok(names)
+}
+
+/// All names of a source: those that its lines knew, where these are all.
+fn names_of(
+    alloc: Global,
+    laid: &[LaidStatement],
+    declared: &KnownNames,
+    known: Option<KnownNames>,
+) -> Result<KnownNames, NoMemory>
+    ensures { IfOk result (λ names. (statements : List Statement) → IsNamed statements laid.now declared.now → AreKnownNames (declared_names statements) (laid_model.laid statements) known → names ≡ laid_model.final_names (laid_model.laid statements)) }
+{
+    known_names_are_final();
+    match known {
+        Some(names) => Ok(names),
+        None => made_names(alloc, laid, declared),
+    }
 }
 
 /// The layout, or the refusal of the first line with a fault that needs the whole layout.
@@ -42,13 +62,14 @@ pub fn finished(alloc: Global, outline: &Outline, walk: Walk) -> Result<Layout, 
         lines,
         ..
     } = walk;
-    let pools = laying.end().finish()?;
-    cleared(alloc, lines.as_slice(), pools.as_slice(), starts.areas())?;
-    let names = names_of(alloc, lines.as_slice(), &outline.names)?;
+    let Ended { ends, names } = laying.end();
+    let pools = ends.finish()?;
+    cleared(alloc, lines.as_slice(), pools.as_slice())?;
+    let names = names_of(alloc, lines.as_slice(), &outline.names, names)?;
     let areas = areas_of(alloc, starts.into_vec(), pools)?;
     Ok(Layout {
         areas: Listed::from_vec(areas),
         statements: Listed::from_vec(lines),
-        names: Listed::from_vec(names.into_vec()),
+        names,
     })
 }

@@ -8,10 +8,10 @@ ghost use Rattle.asm_layout.specs.Layout.{AreStatements};
 ghost use Rattle.asm_layout.specs.Late as late;
 ghost use Rattle.asm_layout.specs.Late.{IsCleared};
 
+use crate::laid::LaidStatement;
 use crate::telling::told_of;
-use asm_areas::{AreaStart, Stand, late_kind};
+use asm_areas::{Stand, late_kind};
 use asm_offsets::LaidPools;
-use asm_pool::LaidStatement;
 use sdt_fault::answer::Fault;
 use std::alloc::Global;
 
@@ -21,26 +21,20 @@ fn stand_of(laid: &LaidStatement) -> Stand
     Stand {
         area: laid.area,
         offset: laid.offset,
-        thumb: laid.thumb,
         literal: laid.literal,
     }
 }
 
 /// Tells the first line with such a fault.
-pub fn cleared(
-    alloc: Global,
-    laid: &[LaidStatement],
-    pools: &[LaidPools],
-    starts: &[AreaStart],
-) -> Result<(), Fault>
-    ensures { (all : List LaidLine) → AreWhole all pools.now starts.now → AreStatements all laid.now → IsCleared (first_late all [] (reversed all [])) result }
+pub fn cleared(alloc: Global, laid: &[LaidStatement], pools: &[LaidPools]) -> Result<(), Fault>
+    ensures { (all : List LaidLine) → AreWhole all pools.now → AreStatements all laid.now → IsCleared (first_late all [] (reversed all [])) result }
 {
     let mut left = laid;
     'lines: loop {
         match left {
             [] => return Ok(()),
             [line, rest @ ..] => {
-                if let Some(kind) = late_kind(&line.statement.what, stand_of(line), pools, starts) {
+                if let Some(kind) = late_kind(&line.statement.what, stand_of(line), pools) {
                     return Err(told_of(alloc, &line.statement, kind));
                 }
                 left = rest;

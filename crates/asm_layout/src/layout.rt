@@ -7,10 +7,10 @@ ghost use Rattle.asm_laying.specs.Behind.{most_statements};
 ghost use Rattle.asm_layout.specs.Layout.{IsOutcome};
 
 use crate::finishing::finished;
+use crate::laid::Layout;
 use crate::outline::outline_of;
 use crate::walking::walked;
 use asm_model::Statement;
-use asm_pool::Layout;
 use sdt_fault::answer::Fault;
 use std::alloc::Global;
 

@@ -6,8 +6,8 @@ ghost use Rattle.asm_names.specs.Source.{AreEach};
 ghost use Rattle.asm_layout.specs.Layout.{AreStatements};
 ghost use Rattle.asm_layout.specs.Lines.{IsLineOf};
 
+use crate::laid::LaidStatement;
 use asm_names::PlacedLine;
-use asm_pool::LaidStatement;
 use sdt_fault::NoMemory;
 use std::alloc::Global;
 

@@ -1,72 +1,153 @@
 //! What laying a line needs to know of the whole source.
 
-ghost use Rattle.std.specs.Prelude.{◌≡◌, ◌++◌, [], map, IfOk, OnOk};
-ghost use Rattle.asm_model.specs.Labels as labels;
+ghost use Rattle.std.specs.Prelude.{◌≡◌, ◌+◌, ◌∷◌, ◌++◌, ◌<◌, [], List, Bool, drop, length, map, IfOk, OnOk};
 ghost use Rattle.asm_model.specs.Laid.{reversed};
-ghost use Rattle.asm_model.specs.LayoutKinds as layout;
 ghost use Rattle.asm_names.specs.Equals.{pairs_of};
 ghost use Rattle.asm_names.specs.Order.{is_settled};
-ghost use Rattle.asm_layout.specs.Outline.{equals_on, IsOutline};
+ghost use Rattle.asm_laying.specs.Behind.{most_statements};
+ghost use Rattle.asm_layout.specs.Outline.{marks_of, pair_if, IsOutline, IsListed, Lists};
 
-use asm_laying::declarations::declare;
-use asm_model::Statement;
+use crate::states::states_of;
+use asm_areas::States;
+use asm_laying::behind::START;
+use asm_laying::declarations::declare_one;
+use asm_model::{Expr, Statement};
 use asm_names::defining::{Defines, defined_by};
 use asm_names::{Equal, KnownNames, order_of};
-use sdt_fault::NoMemory;
+use sdt_fault::{NoMemory, Text};
 use std::alloc::Global;
 
 /// What laying a line needs to know of the whole source.
 #[derive(Debug, Drop)]
 pub struct Outline {
-    /// All names, without places and values.
+    /// All names, which mean something later.
     pub names: KnownNames,
-    /// For each name for an expression, in the order of the source, whether it depends neither on itself nor on one that
-    /// does.
-    pub settled: Vec<bool>,
+    /// For each statement with a name for an expression, in the order of the source, whether it is the first that defines
+    /// the name, and the name depends on itself or on one that does.
+    pub circular: Vec<bool>,
+    /// The states of the areas.
+    pub states: States,
 }
 
-fn push_equal<'a>(equals: &mut Vec<Equal<'a>>, statement: &'a Statement) -> Result<(), NoMemory>
-    ensures { OnOk result (pairs_of equals.new.items ≡ pairs_of equals.old.items ++ layout.equal_of (labels.defined_by statement.now)) }
+/// The names of a source, and those that are for expressions.
+#[derive(Debug, Drop)]
+struct Listed<'a> {
+    names: KnownNames,
+    /// The first definitions of names for expressions.
+    equals: Vec<Equal<'a>>,
+    /// For each statement with a name for an expression whether it is the first that defines the name.
+    firsts: Vec<bool>,
+}
+
+/// Notes a name with its expression, where this is the first that defines the name.
+fn push_first<'a>(
+    equals: &mut Vec<Equal<'a>>,
+    first: bool,
+    name: &'a Text,
+    value: &'a Expr,
+) -> Result<(), NoMemory>
+    ensures { OnOk result (pairs_of equals.new.items ≡ pairs_of equals.old.items ++ pair_if first name.now value.now) }
 {
-    if let Defines::Equal(name, value) = defined_by(statement) {
+    if first {
         equals.push(Equal { name, value })?;
     }
     Ok(())
 }
 
-/// The names for expressions, in the order of the source.
-fn equals_of<'a>(alloc: Global, statements: &'a [Statement]) -> Result<Vec<Equal<'a>>, NoMemory>
-    ensures { IfOk result (λ equals. pairs_of equals.items ≡ equals_on statements.now) }
+/// Notes a name for an expression, where these names are defined before.
+fn list_equal<'a>(listed: &mut Listed<'a>, statement: &'a Statement) -> Result<(), NoMemory>
+    ensures { OnOk result (Lists statement.now listed.old listed.new) }
 {
-    let mut equals = Vec::new(alloc);
+    if let Defines::Equal(name, value) = defined_by(statement) {
+        let first = listed.names.find(name).is_none();
+        push_first(&mut listed.equals, first, name, value)?;
+        listed.firsts.push(first)?;
+    }
+    Ok(())
+}
+
+/// The names of a source, in its order.
+fn list_all<'a>(alloc: Global, statements: &'a [Statement]) -> Result<Listed<'a>, NoMemory>
+    ensures { IfOk result (λ l. IsListed (reversed statements.now []) l) }
+{
+    let mut listed = Listed {
+        names: KnownNames::new(alloc),
+        equals: Vec::new(alloc),
+        firsts: Vec::new(alloc),
+    };
+    let mut behind = START;
     let mut left = statements;
     'statements: loop {
         match left {
-            [] => return Ok(equals),
+            [] => return Ok(listed),
             [statement, rest @ ..] => {
-                push_equal(&mut equals, statement)?;
+                list_equal(&mut listed, statement)?;
+                behind = declare_one(alloc, &mut listed.names, behind, statement)?;
                 left = rest;
             }
         }
     }
 }
 
-fn settled_of(alloc: Global, statements: &[Statement]) -> Result<Vec<bool>, NoMemory>
-    ensures { IfOk result (λ settled. settled.items ≡ map (λ e. is_settled (equals_on statements.now) e.0) (equals_on statements.now)) }
+/// The mark of a definition, and how many of the first definitions are taken behind it.
+fn marked(first: bool, settled: &[bool], taken: usize) -> (bool, usize)
+    ensures { (rest : List Bool) → marks_of (first ∷ rest) (drop taken settled.now) ≡ result.0 ∷ marks_of rest (drop result.1 settled.now) }
 {
-    let equals = equals_of(alloc, statements)?;
+    if !first {
+        return (false, taken);
+    }
+    match settled.get(taken) {
+        None => (false, taken),
+        Some(is_settled) => (!*is_settled, taken + 1),
+    }
+}
+
+/// The marks of all definitions, where those of the first ones tell whether they are settled.
+fn circular_of(alloc: Global, firsts: &[bool], settled: &[bool]) -> Result<Vec<bool>, NoMemory>
+    ensures { IfOk result (λ marks. marks.items ≡ marks_of firsts.now settled.now) }
+{
+    let mut marks = Vec::new(alloc);
+    let mut taken = 0;
+    let mut left = firsts;
+    'firsts: loop {
+        match left {
+            [] => return Ok(marks),
+            [first, rest @ ..] => {
+                let (mark, next) = marked(*first, settled, taken);
+                marks.push(mark)?;
+                taken = next;
+                left = rest;
+            }
+        }
+    }
+}
+
+/// The names for expressions that depend on themselves.
+fn circular_in(alloc: Global, equals: &[Equal<'_>], firsts: &[bool]) -> Result<Vec<bool>, NoMemory>
+    ensures { IfOk result (λ marks. marks.items ≡ marks_of firsts.now (map (λ e. is_settled (pairs_of equals.now) e.name.now) equals.now)) }
+{
     if equals.len() > 0xFFFF_FFFF {
         return Err(NoMemory);
     }
-    let order = order_of(alloc, equals.as_slice())?;
-    Ok(order.settled)
+    let order = order_of(alloc, equals)?;
+    circular_of(alloc, firsts, order.settled.as_slice())
 }
 
 /// What the lines of a source need to know of it.
 pub fn outline_of(alloc: Global, statements: &[Statement]) -> Result<Outline, NoMemory>
+    requires few { length statements.now < most_statements + 1 }
     ensures { IfOk result (λ o. IsOutline (reversed statements.now []) o) }
 {
-    let names = declare(alloc, statements)?;
-    let settled = settled_of(alloc, statements)?;
-    Ok(Outline { names, settled })
+    let Listed {
+        names,
+        equals,
+        firsts,
+    } = list_all(alloc, statements)?;
+    let circular = circular_in(alloc, equals.as_slice(), firsts.as_slice())?;
+    let states = states_of(alloc, statements)?;
+    Ok(Outline {
+        names,
+        circular,
+        states,
+    })
 }

@@ -3,16 +3,19 @@
 ghost use Rattle.std.specs.Prelude.{◌≡◌, ◌∷◌, ◌+◌, ◌<◌, [], ℕ, List, Bool, Some, length, IfOk, OnOk};
 ghost use Rattle.asm_model.specs.Labels as labels;
 ghost use Rattle.asm_model.specs.declared.names.LaidName.{LaidName};
+ghost use Rattle.asm_model.specs.declared.statements.Statement.{Statement};
 ghost use Rattle.asm_model.specs.Laid.{laid_behind, reversed, LaidLine};
 ghost use Rattle.said_model.specs.Said.{AllSaid, IsSaid};
 ghost use Rattle.asm_laying.specs.Behind.{most_statements};
 ghost use Rattle.asm_laying.specs.Laying as laying;
 ghost use Rattle.asm_model.specs.FaultSets as sets;
+ghost use Rattle.asm_areas.specs.States.{AreStates};
 ghost use Rattle.asm_layout.specs.Layout.{IsTold};
 ghost use Rattle.asm_layout.specs.Outline.{IsOutline};
 ghost use Rattle.source_model.specs.Registers.{register_names};
 ghost use Rattle.asm_layout.specs.Walking as walking;
 
+use crate::laid::LaidStatement;
 use crate::outline::Outline;
 use crate::telling::told;
 use asm_areas::Starts;
@@ -22,7 +25,6 @@ use asm_expr::told::first_told;
 use asm_laying::laying::{Laid, Laying, Placed};
 use asm_model::Statement;
 use asm_names::defining::{Defines, defined_by};
-use asm_pool::LaidStatement;
 use asm_registers::Registers;
 use sdt_fault::NoMemory;
 use sdt_fault::answer::Fault;
@@ -39,7 +41,7 @@ pub struct Walk {
     pub starts: Starts,
     /// The lines, in the order of the source.
     pub lines: Vec<LaidStatement>,
-    /// How many names for expressions there are so far.
+    /// How many statements with names for expressions there are so far.
     equals: usize,
 }
 
@@ -47,25 +49,27 @@ pub struct Walk {
 #[derive(Debug, Drop)]
 struct Judged {
     laid: Laid,
+    /// Whether its area is one of Thumb code.
+    thumb_area: bool,
     /// The fault that is told, of those that need no values.
     found: Option<LineKind>,
 }
 
-/// Whether a statement's name for an expression is settled; of other statements nothing is said.
-fn take_mark(equals: &mut usize, settled: &[bool], statement: &Statement) -> bool
-    ensures mark { walking.IsMark settled.now equals.old (labels.defined_by statement.now) result }
-    ensures count { walking.IsCounted settled.now equals.old (labels.defined_by statement.now) equals.new }
+/// Whether a statement is the first that defines a name for an expression which depends on itself.
+fn take_mark(equals: &mut usize, circular: &[bool], statement: &Statement) -> bool
+    ensures mark { walking.IsMark circular.now equals.old (labels.defined_by statement.now) result }
+    ensures count { walking.IsCounted circular.now equals.old (labels.defined_by statement.now) equals.new }
 {
     match defined_by(statement) {
-        Defines::Equal(_, _) => next_mark(equals, settled),
+        Defines::Equal(_, _) => next_mark(equals, circular),
         _ => false,
     }
 }
 
-fn next_mark(equals: &mut usize, settled: &[bool]) -> bool
-    ensures { walking.IsNext settled.now equals.old equals.new result }
+fn next_mark(equals: &mut usize, circular: &[bool]) -> bool
+    ensures { walking.IsNext circular.now equals.old equals.new result }
 {
-    match settled.get(*equals) {
+    match circular.get(*equals) {
         None => false,
         Some(mark) => {
             *equals += 1;
@@ -103,7 +107,7 @@ fn laid_statement(statement: Statement, placed: Placed) -> LaidStatement
 impl Walk {
     /// Before the first line.
     fn new(alloc: Global, statements: &[Statement]) -> Result<Walk, NoMemory>
-        ensures { IfOk result (λ w. (d : List LaidName) (settled : List (List ℕ)) → walking.IsWalking d (register_names (reversed statements.now [])) settled [] w) }
+        ensures { IfOk result (λ w. (d : List LaidName) (settled : List (List ℕ)) (all : List Statement) → walking.IsWalking d (register_names (reversed statements.now [])) settled all [] w) }
     {
         Ok(Walk {
             alloc,
@@ -120,18 +124,25 @@ impl Walk {
     fn judge(&mut self, outline: &Outline, statement: &Statement) -> Result<Judged, NoMemory>
         requires may { laying.MayLay outline.now.names self.old.laying }
         requires said { IsSaid statement.now }
-        ensures { IfOk result (λ j. (names settled : List (List ℕ)) (before : List LaidLine) → walking.IsWalking outline.now.names names settled before self.old → walking.IsMarked settled outline.now.settled.items statement.now before → walking.IsJudged outline.now.names names settled (laid_behind outline.now.names statement.now before) before self.old self.new j) }
+        ensures { IfOk result (λ j. (names settled : List (List ℕ)) (all : List Statement) (before : List LaidLine) → AreStates all outline.now.states → walking.IsWalking outline.now.names names settled all before self.old → walking.IsOutlined outline.now.names settled outline.now.circular.items statement.now before → walking.IsJudged outline.now.names names settled all (laid_behind outline.now.names statement.now before) before self.old self.new j) }
     {
         let laid = self.laying.lay(self.alloc, &outline.names, statement)?;
-        let is_settled = take_mark(&mut self.equals, outline.settled.as_slice(), statement);
-        let checked = self
-            .checks
-            .check(statement, laid.area, laid.thumb, laid.number, is_settled)?;
+        let circular = take_mark(&mut self.equals, outline.circular.as_slice(), statement);
+        let thumb_area = outline.states.is_thumb(laid.area);
+        let checked = self.checks.check(
+            statement,
+            laid.area,
+            laid.thumb,
+            thumb_area,
+            laid.number,
+            circular,
+        )?;
         let named = self
             .registers
             .check(statement, laid.thumb, laid.number, &outline.names)?;
         Ok(Judged {
             laid,
+            thumb_area,
             found: first_told(checked, named),
         })
     }
@@ -141,28 +152,33 @@ impl Walk {
         &mut self,
         statement: Statement,
         number: Result<u32, LineKind>,
+        thumb_area: bool,
         placed: Placed,
     ) -> Result<(), NoMemory>
-        ensures { OnOk result (walking.Keeps statement number placed self.old self.new) }
+        ensures { OnOk result (walking.Keeps statement number thumb_area placed self.old self.new) }
     {
         self.starts
-            .note(&statement.what, placed.area, placed.thumb, number)?;
+            .note(&statement.what, placed.area, thumb_area, number)?;
         self.lines.push(laid_statement(statement, placed))?;
         Ok(())
     }
 
     /// Keeps a line, or tells its fault.
     fn keep_or_tell(&mut self, statement: Statement, judged: Judged) -> Result<(), Fault>
-        ensures { (d : List LaidName) (names settled : List (List ℕ)) (old : Walk) (before : List LaidLine) → walking.IsWalking d names settled before old → walking.IsJudged d names settled (laid_behind d statement before) before old self.old judged → walking.Steps d names settled (laid_behind d statement before) before self.new result }
+        ensures { (d : List LaidName) (names settled : List (List ℕ)) (all : List Statement) (old : Walk) (before : List LaidLine) → walking.IsWalking d names settled all before old → walking.IsJudged d names settled all (laid_behind d statement before) before old self.old judged → walking.Steps d names settled all (laid_behind d statement before) before self.new result }
     {
-        let Judged { laid, found } = judged;
+        let Judged {
+            laid,
+            thumb_area,
+            found,
+        } = judged;
         let Laid { number, placed, .. } = laid;
         match (placed, found) {
             (Err(kind), None) => Err(told(statement, kind)),
             (Err(kind), Some(other)) => Err(told(statement, earlier(kind, other))),
             (Ok(_), Some(kind)) => Err(told(statement, kind)),
             (Ok(placed), None) => {
-                self.keep(statement, number, placed)?;
+                self.keep(statement, number, thumb_area, placed)?;
                 Ok(())
             }
         }
@@ -172,7 +188,7 @@ impl Walk {
     fn step(&mut self, outline: &Outline, statement: Statement) -> Result<(), Fault>
         requires may { laying.MayLay outline.now.names self.old.laying }
         requires said { IsSaid statement }
-        ensures { (names settled : List (List ℕ)) (before : List LaidLine) → walking.IsWalking outline.now.names names settled before self.old → walking.IsMarked settled outline.now.settled.items statement before → walking.Steps outline.now.names names settled (laid_behind outline.now.names statement before) before self.new result }
+        ensures { (names settled : List (List ℕ)) (all : List Statement) (before : List LaidLine) → AreStates all outline.now.states → walking.IsWalking outline.now.names names settled all before self.old → walking.IsOutlined outline.now.names settled outline.now.circular.items statement before → walking.Steps outline.now.names names settled all (laid_behind outline.now.names statement before) before self.new result }
     {
         let judged = self.judge(outline, &statement)?;
         self.keep_or_tell(statement, judged)

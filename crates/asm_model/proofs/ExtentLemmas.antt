@@ -14,7 +14,7 @@ use Rattle.asm_model.specs.declared.directives.Boundary.{Boundary}
 use Rattle.asm_model.specs.declared.directives.Boundary.TheVariants as limit
 use Rattle.asm_model.specs.declared.directives.DirectiveLine.{DirectiveLine}
 use Rattle.asm_model.specs.declared.directives.DirectiveLine.TheVariants as line
-use Rattle.asm_model.specs.AtLine.{Sight}
+use Rattle.asm_model.specs.declared.names.Names.{Names}
 use Rattle.asm_model.specs.Says.{on_both, mapped}
 use Rattle.asm_model.specs.Extents.{Extent, Block, Padding, Loading, number_there, literal_there, is_moved, instruction, loading, thumb_extent, pseudo_extent, as_multiple, padding, directive_extent, extent_of, pseudo_alignment, directive_alignment, alignment}
 use Rattle.asm_model.specs.Offsets.{alignment_of}
@@ -57,14 +57,14 @@ pub aligns_thumb : (literals : List Value) (l : ThumbLine) → alignment_of lite
 aligns_thumb literals (thumb.BranchLink target) = refl
 aligns_thumb literals l = refl
 
-pub aligns_pseudo : (s : Sight) (literals : List Value) (l : PseudoLine) → AlignsAs literals (pseudo_alignment s.known.thumb l) (pseudo_extent s l)
+pub aligns_pseudo : (s : Names) (literals : List Value) (l : PseudoLine) → AlignsAs literals (pseudo_alignment s.thumb l) (pseudo_extent s l)
 aligns_pseudo s literals (pseudo.LoadConstant condition rd value) =
-    aligns_mapped literals (cond s.known.thumb 2 4) (loading s.known.thumb) (literal_there s value) (aligns_loading literals s.known.thumb)
-aligns_pseudo s literals (pseudo.Address condition rd target) = aligns_instruction literals s.known.thumb
+    aligns_mapped literals (cond s.thumb 2 4) (loading s.thumb) (literal_there s value) (aligns_loading literals s.thumb)
+aligns_pseudo s literals (pseudo.Address condition rd target) = aligns_instruction literals s.thumb
 aligns_pseudo s literals (pseudo.LongAddress condition rd target) = refl
-aligns_pseudo s literals pseudo.NoOperation = aligns_instruction literals s.known.thumb
+aligns_pseudo s literals pseudo.NoOperation = aligns_instruction literals s.thumb
 
-pub aligns_padding : (s : Sight) (literals : List Value) (b : Boundary) → AlignsAs literals 1 (padding s b)
+pub aligns_padding : (s : Names) (literals : List Value) (b : Boundary) → AlignsAs literals 1 (padding s b)
 aligns_padding s literals limit.Word = refl
 aligns_padding s literals (limit.Multiple e) =
     aligns_mapped literals 1 (λ m. Padding m 0) (as_multiple (number_there s e)) (λ x. refl)
@@ -75,8 +75,8 @@ pub aligns_entry : (literals : List Value) (thumb : Bool) → alignment_of liter
 aligns_entry literals true = refl
 aligns_entry literals false = refl
 
-pub aligns_directive : (s : Sight) (literals : List Value) (l : DirectiveLine) → AlignsAs literals (directive_alignment s.known.thumb literals l) (directive_extent s l)
-aligns_directive s literals line.Entry = aligns_entry literals s.known.thumb
+pub aligns_directive : (s : Names) (literals : List Value) (l : DirectiveLine) → AlignsAs literals (directive_alignment s.thumb literals l) (directive_extent s l)
+aligns_directive s literals line.Entry = aligns_entry literals s.thumb
 aligns_directive s literals (line.Space e) = aligns_mapped literals 1 (λ n. Block 1 n) (number_there s e) (λ x. refl)
 aligns_directive s literals (line.Align b) = aligns_padding s literals b
 aligns_directive s literals (line.Dcd es) = refl
@@ -86,13 +86,13 @@ aligns_directive s literals (line.Dcb es) = refl
 aligns_directive s literals line.Ltorg = refl
 aligns_directive s literals l = refl
 
-pub aligns : (s : Sight) (literals : List Value) (w : What) → AlignsAs literals (alignment s.known.thumb literals w) (extent_of s w)
+pub aligns : (s : Names) (literals : List Value) (w : What) → AlignsAs literals (alignment s.thumb literals w) (extent_of s w)
 aligns s literals what.Nothing = refl
 aligns s literals (what.Arm l) = refl
 aligns s literals (what.Thumb l) = aligns_thumb literals l
 aligns s literals (what.Pseudo l) = aligns_pseudo s literals l
 aligns s literals (what.Directive l) = aligns_directive s literals l
 
-pub alignments_agree : (s : Sight) (w : What) (literals : List Value) (e : Extent)
-    → extent_of s w ≡ Ok e → alignment_of literals e ≡ alignment s.known.thumb literals w
-alignments_agree s w literals e h = subst (λ r. AlignsAs literals (alignment s.known.thumb literals w) r) h (aligns s literals w)
+pub alignments_agree : (s : Names) (w : What) (literals : List Value) (e : Extent)
+    → extent_of s w ≡ Ok e → alignment_of literals e ≡ alignment s.thumb literals w
+alignments_agree s w literals e h = subst (λ r. AlignsAs literals (alignment s.thumb literals w) r) h (aligns s literals w)

@@ -75,9 +75,15 @@ entry_behind = refl
 pub entry_in_data : told (words 3 None ∷ says 2 None line.Entry ∷ area 1 contents.Data false ∷ []) ≡ Some (2, BadOperand)
 entry_in_data = refl
 
--- a fault of a line itself comes first
-pub entry_and_label : told (words 5 (Some (codes "x")) ∷ words 4 (Some (codes "x")) ∷ says 3 None line.Entry ∷ says 2 None line.Code16 ∷ area 1 contents.Code false ∷ []) ≡ Some (5, DuplicateName)
+-- ENTRY's state is judged at its line; without an instruction the area counts as ARM
+pub entry_and_label : told (words 5 (Some (codes "x")) ∷ words 4 (Some (codes "x")) ∷ says 3 None line.Entry ∷ says 2 None line.Code16 ∷ area 1 contents.Code false ∷ []) ≡ Some (3, BadOperand)
 entry_and_label = refl
+
+-- and its place where no line has a fault of its own
+pub place_and_label : told
+    (record { source = codes "t.s"; number = 4; label = Some (codes "x"); what = what.Nothing }
+    ∷ says 3 None line.Entry ∷ words 2 (Some (codes "x")) ∷ area 1 contents.Code false ∷ []) ≡ Some (4, DuplicateName)
+place_and_label = refl
 
 -- the area's only instruction is one of ARM state
 pub entry_in_thumb : told

@@ -5,6 +5,7 @@ use Rattle.sdt_fault.specs.declared.kinds.LineKind.{LineKind}
 use Rattle.asm_model.specs.declared.values.Value.{Value}
 use Rattle.asm_model.specs.declared.values.Value.TheVariants.{Number, Truth, Words, Place}
 use Rattle.asm_model.specs.declared.names.LaidName.{LaidName}
+use Rattle.asm_model.specs.declared.names.Names.{Names}
 use Rattle.asm_model.specs.declared.statements.Statement.{Statement}
 use Rattle.asm_model.specs.declared.statements.What.{What}
 use Rattle.asm_model.specs.declared.statements.What.TheVariants as what
@@ -16,12 +17,13 @@ use Rattle.asm_model.specs.declared.directives.Boundary.{Boundary}
 use Rattle.asm_model.specs.declared.directives.Boundary.TheVariants as limit
 use Rattle.asm_model.specs.declared.directives.DirectiveLine.{DirectiveLine}
 use Rattle.asm_model.specs.declared.directives.DirectiveLine.TheVariants as line
-use Rattle.asm_model.specs.AtLine.{Sight, value_at, kept_names, literal_or}
+use Rattle.asm_model.specs.AtLine.{kept_names, literal_or}
+use Rattle.asm_model.specs.Meaning.{meaning}
 use Rattle.asm_model.specs.Grammar.{Tree}
 use Rattle.asm_model.specs.Says.{on_both, mapped}
 use Rattle.asm_model.specs.Before.{area_behind}
 use Rattle.asm_model.specs.Extents.{Extent, Block, Padding, Loading, number_there, literal_there, tree_literal, is_moved, instruction, loading, thumb_extent, pseudo_extent, as_multiple, padding, directive_extent, extent_of}
-use Rattle.asm_model.specs.Laid.{LaidLine, statements_of, pieces_of, taken, aligned_end, sight_behind, laid_behind}
+use Rattle.asm_model.specs.Laid.{LaidLine, statements_of, pieces_of, taken, aligned_end, names_behind, laid_behind}
 use Rattle.asm_model.specs.OffsetLaws.{IsLiteral}
 use Rattle.asm_model.specs.Offsets.{Piece, raised, waiting, end_behind, offset_of, size_behind}
 use Rattle.asm_model.specs.Trees.{tree_of}
@@ -29,8 +31,8 @@ use Rattle.asm_model.proofs.ExtentLemmas.{alignments_agree}
 
 -- ---- offsets
 
-pub starts_there : (area : Option ℕ) (pieces : List Piece) (s : Sight) (w : What) (e : Extent) → extent_of s w ≡ Ok e
-    → aligned_end area pieces s.known.thumb w ≡ offset_of area pieces e
+pub starts_there : (area : Option ℕ) (pieces : List Piece) (s : Names) (w : What) (e : Extent) → extent_of s w ≡ Ok e
+    → aligned_end area pieces s.thumb w ≡ offset_of area pieces e
 starts_there None pieces s w e h = refl
 starts_there (Some area) pieces s w e h = ap (raised (end_behind area pieces)) (sym (alignments_agree s w (waiting area pieces) e h))
 
@@ -38,7 +40,7 @@ pub lines_stand_at_offsets : (d : List LaidName) (s : Statement) (before : List 
     → ((laid_behind d s before).offset ≡ offset_of (laid_behind d s before).area (pieces_of before) e)
     × ((laid_behind d s before).size ≡ size_behind (laid_behind d s before).area (pieces_of before) e)
 lines_stand_at_offsets d s before e h = (
-  starts_there (area_behind (s ∷ statements_of before)) (pieces_of before) (sight_behind d s before) s.what e h,
+  starts_there (area_behind (s ∷ statements_of before)) (pieces_of before) (names_behind d s before) s.what e h,
   ap (λ r. size_behind (area_behind (s ∷ statements_of before)) (pieces_of before) (taken r)) h,
 )
 
@@ -61,9 +63,9 @@ literal_or_is (Ok (Number n)) y = tt
 literal_or_is x (Ok (Place s n)) = tt
 literal_or_is x y = tt
 
-pub literal_there_is : (s : Sight) (t : Option Tree) → OkLiteral (tree_literal s t)
+pub literal_there_is : (s : Names) (t : Option Tree) → OkLiteral (tree_literal s t)
 literal_there_is s None = tt
-literal_there_is s (Some t) = literal_or_is (value_at s t) (value_at s (kept_names s t))
+literal_there_is s (Some t) = literal_or_is (meaning s t) (meaning s (kept_names s t))
 
 pub loads_mapped : {A : Type 0} (f : A → Extent) (r : Result A LineKind) → ((x : A) → LoadsLiteral (f x)) → OkLoads (mapped f r)
 loads_mapped f (Ok x) h = h x
@@ -101,13 +103,13 @@ pub loads_thumb : (l : ThumbLine) → LoadsLiteral (thumb_extent l)
 loads_thumb (thumb.BranchLink target) = tt
 loads_thumb l = tt
 
-pub loads_pseudo : (s : Sight) (l : PseudoLine) → OkLoads (pseudo_extent s l)
-loads_pseudo s (pseudo.LoadConstant condition rd value) = loads_there s.known.thumb (literal_there s value) (literal_there_is s (tree_of value))
-loads_pseudo s (pseudo.Address condition rd target) = loads_instruction s.known.thumb
+pub loads_pseudo : (s : Names) (l : PseudoLine) → OkLoads (pseudo_extent s l)
+loads_pseudo s (pseudo.LoadConstant condition rd value) = loads_there s.thumb (literal_there s value) (literal_there_is s (tree_of value))
+loads_pseudo s (pseudo.Address condition rd target) = loads_instruction s.thumb
 loads_pseudo s (pseudo.LongAddress condition rd target) = tt
-loads_pseudo s pseudo.NoOperation = loads_instruction s.known.thumb
+loads_pseudo s pseudo.NoOperation = loads_instruction s.thumb
 
-pub loads_padding : (s : Sight) (b : Boundary) → OkLoads (padding s b)
+pub loads_padding : (s : Names) (b : Boundary) → OkLoads (padding s b)
 loads_padding s limit.Word = tt
 loads_padding s (limit.Multiple e) = loads_mapped (λ m. Padding m 0) (as_multiple (number_there s e)) (λ x. tt)
 loads_padding s (limit.Behind e f) = loads_both (λ m n. Padding m n) (as_multiple (number_there s e)) (number_there s f) (λ x y. tt)
@@ -116,8 +118,8 @@ pub loads_entry : (thumb : Bool) → LoadsLiteral (cond thumb (Block 2 0) (Block
 loads_entry true = tt
 loads_entry false = tt
 
-pub loads_directive : (s : Sight) (l : DirectiveLine) → OkLoads (directive_extent s l)
-loads_directive s line.Entry = loads_entry s.known.thumb
+pub loads_directive : (s : Names) (l : DirectiveLine) → OkLoads (directive_extent s l)
+loads_directive s line.Entry = loads_entry s.thumb
 loads_directive s (line.Space e) = loads_mapped (λ n. Block 1 n) (number_there s e) (λ x. tt)
 loads_directive s (line.Align b) = loads_padding s b
 loads_directive s (line.Dcd es) = tt
@@ -127,12 +129,12 @@ loads_directive s (line.Dcb es) = tt
 loads_directive s line.Ltorg = tt
 loads_directive s l = tt
 
-pub loads : (s : Sight) (w : What) → OkLoads (extent_of s w)
+pub loads : (s : Names) (w : What) → OkLoads (extent_of s w)
 loads s what.Nothing = tt
 loads s (what.Arm l) = tt
 loads s (what.Thumb l) = loads_thumb l
 loads s (what.Pseudo l) = loads_pseudo s l
 loads s (what.Directive l) = loads_directive s l
 
-pub loadings_are_literals : (s : Sight) (w : What) (n : ℕ) (v : Value) → extent_of s w ≡ Ok (Loading n v) → IsLiteral v
+pub loadings_are_literals : (s : Names) (w : What) (n : ℕ) (v : Value) → extent_of s w ≡ Ok (Loading n v) → IsLiteral v
 loadings_are_literals s w n v h = subst OkLoads h (loads s w)

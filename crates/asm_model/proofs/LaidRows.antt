@@ -90,7 +90,7 @@ difference = refl
 pub own_symbol : named_in (codes "out") (final_names (laid source)) ≡ Some (place_entry (codes "out") (Some 0) 12)
 own_symbol = refl
 
-pub label : named_in (codes "x") (final_names (laid source)) ≡ Some (label_entry (codes "x") (Some 1) 0 3 false)
+pub label : named_in (codes "x") (final_names (laid source)) ≡ Some (label_entry (codes "x") (Some 1) 0 (Some 3) false)
 label = refl
 
 -- B needs no symbol, nor does the word of a label

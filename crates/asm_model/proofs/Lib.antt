@@ -1,5 +1,4 @@
 pub mod FaultLemmas
-pub mod LateLemmas
 pub mod LineLemmas
 pub mod LineRows
 pub mod Rows
@@ -11,7 +10,6 @@ pub mod ImmediateLemmas
 pub mod KindRows
 pub mod LaidLemmas
 pub mod LaidRows
-pub mod NameLemmas
 pub mod OffsetLemmas
 pub mod OffsetRows
 pub mod PlacedLemmas

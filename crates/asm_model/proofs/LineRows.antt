@@ -1,5 +1,5 @@
 -- Worked rows: what is known at a line.
-use Rattle.std.proofs.Common.{◌≡◌, ℕ, List, [], ◌∷◌, false, refl, Some, None, codes}
+use Rattle.std.proofs.Common.{◌≡◌, ℕ, List, [], ◌∷◌, true, false, refl, Option, Some, None, codes}
 use Rattle.std.specs.Prelude.{Result, Ok, Err}
 use Rattle.sdt_fault.specs.declared.kinds.LineKind.{LineKind}
 use Rattle.sdt_fault.specs.declared.kinds.LineKind.TheVariants.{Forward, UnknownWord, WrongType, DivideByZero}
@@ -9,14 +9,15 @@ use Rattle.asm_model.specs.declared.exprs.BinaryOp.TheVariants.{Multiply, Divide
 use Rattle.asm_model.specs.declared.values.Value.{Value}
 use Rattle.asm_model.specs.declared.values.Value.TheVariants.{Number, Truth, Place}
 use Rattle.asm_model.specs.declared.names.LaidName.{LaidName}
-use Rattle.asm_model.specs.AtLine.{Definition, Named, Equated, SourceLine, sight, seen_behind, known_value, literal_at}
+use Rattle.asm_model.specs.AtLine.{Definition, Named, Equated, SourceLine, names_at, seen_behind, known_value, literal_at}
+use Rattle.asm_model.specs.Entries.{label_entry, register_entry, later_entry, equal_entry}
 use Rattle.asm_model.specs.Grammar.{Tree, Leaf, Before, Between}
 
-abbrev label : List ℕ → ℕ → LaidName
-label name offset = record { name = name; value = Place name 0; area = Some 0; offset = offset; size = 4; thumb = false; place = false }
+abbrev label : List ℕ → ℕ → Option ℕ → LaidName
+label name offset size = label_entry name (Some 0) offset size false
 
-abbrev equal : List ℕ → Value → LaidName
-equal name v = record { name = name; value = v; area = None; offset = 0; size = 0; thumb = false; place = false }
+abbrev equal : List ℕ → Result Value LineKind → LaidName
+equal name r = equal_entry [] (Some 0) name r
 
 abbrev name : List ℕ → Tree
 name s = Leaf (item.Name s)
@@ -28,22 +29,26 @@ abbrev line_at : ℕ → Definition → SourceLine
 line_at offset definition =
     record { area = Some 0; offset = offset; map = 0; thumb = false; definition = definition }
 
--- start at 0; n EQU 4; m EQU end - start; then the label here at 8, and end at 12
+-- start at 0; n EQU 4; m EQU end - start; zero EQU 1/0; r RN 1; then the label here at 8, and end at 12
 abbrev all : List LaidName
-all = label (codes "start") 0 ∷ equal (codes "n") (Number 4) ∷ equal (codes "m") (Number 12) ∷ label (codes "here") 8 ∷ label (codes "end") 12 ∷ []
+all =
+    later_entry (codes "start") false ∷ later_entry (codes "n") false ∷ later_entry (codes "m") false ∷ later_entry (codes "zero") false
+    ∷ later_entry (codes "r") false ∷ later_entry (codes "here") false ∷ later_entry (codes "end") false ∷ []
 
 -- the nearest first
 abbrev before_here : List SourceLine
 before_here =
-    line_at 4 (Equated (equal (codes "m")) (Between Subtract (name (codes "end")) (name (codes "start"))))
+    line_at 4 (Named (register_entry (codes "r")))
+    ∷ line_at 4 (Equated (equal (codes "zero")) (Between Divide (number 1) (number 0)))
+    ∷ line_at 4 (Equated (equal (codes "m")) (Between Subtract (name (codes "end")) (name (codes "start"))))
     ∷ line_at 4 (Equated (equal (codes "n")) (number 4))
-    ∷ line_at 0 (Named (label (codes "start") 0)) ∷ []
+    ∷ line_at 0 (Named (label (codes "start") 0 (Some 4))) ∷ []
 
 abbrev value : Tree → Result Value LineKind
-value t = known_value all before_here (line_at 8 (Named (label (codes "here") 8))) t
+value t = known_value all before_here (line_at 8 (Named (label (codes "here") 8 None))) t
 
 abbrev literal : Tree → Result Value LineKind
-literal t = literal_at (sight all (seen_behind all before_here) (line_at 8 (Named (label (codes "here") 8)))) t
+literal t = literal_at (names_at all (seen_behind all before_here) (line_at 8 (Named (label (codes "here") 8 None)))) t
 
 pub own_place : value (Between Subtract (name (codes "here")) (name (codes "start"))) ≡ Ok (Number 8)
 own_place = refl
@@ -76,6 +81,28 @@ name_before_division = refl
 pub division : value (Between Divide (name (codes "n")) (number 0)) ≡ Err DivideByZero
 division = refl
 
+-- a name for an expression hands on its fault, and is defined all the same
+pub faulty_name : value (Between Add (name (codes "zero")) (number 1)) ≡ Err DivideByZero
+faulty_name = refl
+
+pub later_before_faulty : value (Between Add (name (codes "zero")) (name (codes "end"))) ≡ Err Forward
+later_before_faulty = refl
+
+pub faulty_is_defined : value (Before unary.Defined (name (codes "zero"))) ≡ Ok (Truth true)
+faulty_is_defined = refl
+
+pub faulty_size : value (Before unary.Size (name (codes "zero"))) ≡ Ok (Number 0)
+faulty_size = refl
+
+pub name_of_a_register : value (name (codes "r")) ≡ Err WrongType
+name_of_a_register = refl
+
+pub size_of_a_register : value (Before unary.Size (name (codes "r"))) ≡ Err WrongType
+size_of_a_register = refl
+
+pub register_is_defined : value (Before unary.Defined (name (codes "r"))) ≡ Ok (Truth true)
+register_is_defined = refl
+
 pub product_of_a_label : value (Between Multiply (name (codes "start")) (number 2)) ≡ Err WrongType
 product_of_a_label = refl
 
@@ -93,6 +120,9 @@ later_literal = refl
 
 pub literal_of_no_name : literal (Between Subtract (name (codes "none")) (number 4)) ≡ Ok (Place (codes "none") 4294967292)
 literal_of_no_name = refl
+
+pub faulty_literal : literal (name (codes "zero")) ≡ Ok (Place (codes "zero") 0)
+faulty_literal = refl
 
 pub literal_product : literal (Between Multiply (name (codes "end")) (number 2)) ≡ Err Forward
 literal_product = refl

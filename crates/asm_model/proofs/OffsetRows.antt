@@ -19,23 +19,21 @@ use Rattle.asm_model.specs.declared.thumb_lines.ThumbLine.TheVariants as thumb
 use Rattle.asm_model.specs.declared.directives.Boundary.TheVariants as limit
 use Rattle.asm_model.specs.declared.directives.DirectiveLine.{DirectiveLine}
 use Rattle.asm_model.specs.declared.directives.DirectiveLine.TheVariants as line
-use Rattle.asm_model.specs.AtLine.{Sight}
-use Rattle.asm_model.specs.Entries.{label_entry, valued_entry}
+use Rattle.asm_model.specs.declared.names.Names.{Names}
+use Rattle.asm_model.specs.Entries.{label_entry, valued_entry, later_entry}
 use Rattle.asm_model.specs.Extents.{Extent, Block, Padding, Loading, Pool, is_moved, is_power, extent_of}
 use Rattle.asm_model.specs.Offsets.{Piece, end_behind, start_in, size_behind, waiting, area_size, literal_word}
 
 -- ---- what statements take up
 
 -- start at 0 and the string s are known; end isn't
-abbrev known : List LaidName
-known = label_entry (codes "start") (Some 0) 0 4 false ∷ valued_entry (codes "s") (Words (codes "four")) false ∷ []
+abbrev names : List LaidName
+names =
+    label_entry (codes "start") (Some 0) 0 (Some 4) false ∷ valued_entry (codes "s") (Words (codes "four")) false
+    ∷ later_entry (codes "end") false ∷ []
 
-abbrev sight_in : Bool → Sight
-sight_in thumb = record {
-  known = record { list = known; area = Some 0; offset = 8; map = 0; thumb = thumb };
-  unsized = [];
-  all = label_entry (codes "end") (Some 0) 12 4 false ∷ known;
-}
+abbrev seen_in : Bool → Names
+seen_in thumb = record { list = names; area = Some 0; offset = 8; map = 0; thumb = thumb }
 
 abbrev items : List ExprItem → Expr
 items is = record { items = is }
@@ -53,10 +51,10 @@ abbrev load : Expr → What
 load e = what.Pseudo (pseudo.LoadConstant Al (register.Number 0) e)
 
 abbrev arm : What → Result Extent LineKind
-arm w = extent_of (sight_in false) w
+arm w = extent_of (seen_in false) w
 
 abbrev data_extent : DirectiveLine → Result Extent LineKind
-data_extent l = extent_of (sight_in false) (what.Directive l)
+data_extent l = extent_of (seen_in false) (what.Directive l)
 
 pub loads_number : arm (load (number 0x12345678)) ≡ Ok (Loading 4 (Number 0x12345678))
 unfolding is_moved
@@ -66,7 +64,7 @@ pub moves_number : arm (load (number 0xFFFFFF00)) ≡ Ok (Block 4 4)
 unfolding is_moved
 moves_number = refl
 
-pub thumb_loads : extent_of (sight_in true) (load (number 1)) ≡ Ok (Loading 2 (Number 1))
+pub thumb_loads : extent_of (seen_in true) (load (number 1)) ≡ Ok (Loading 2 (Number 1))
 thumb_loads = refl
 
 pub loads_later_name : arm (load (items (item.Name (codes "end") ∷ item.Constant (Number 4) ∷ item.Binary op.Add ∷ []))) ≡ Ok (Loading 4 (Place (codes "end") 4))
@@ -78,7 +76,7 @@ loads_no_product = refl
 pub long_address : arm (what.Pseudo (pseudo.LongAddress Al (register.Number 0) (name (codes "end")))) ≡ Ok (Block 4 8)
 long_address = refl
 
-pub thumb_call : extent_of (sight_in true) (what.Thumb (thumb.BranchLink (name (codes "end")))) ≡ Ok (Block 2 4)
+pub thumb_call : extent_of (seen_in true) (what.Thumb (thumb.BranchLink (name (codes "end")))) ≡ Ok (Block 2 4)
 thumb_call = refl
 
 pub words : data_extent (line.Dcd (number 1 ∷ name (codes "end") ∷ [])) ≡ Ok (Block 4 8)

@@ -1,12 +1,12 @@
 -- All names of a source have symbols.
 use Rattle.std.proofs.Common.{ℕ, zero, suc, List, [], ◌∷◌, ◌++◌, length, Bool, Option, Some, None}
-use Rattle.std.specs.Prelude.{Result, Ok, Err}
+use Rattle.std.specs.Prelude.{Result}
 use Rattle.sdt_fault.specs.declared.kinds.LineKind.{LineKind}
 use Rattle.asm_model.specs.declared.values.Value.{Value}
 use Rattle.asm_model.specs.declared.values.Value.TheVariants.{Place}
 use Rattle.asm_model.specs.declared.names.LaidName.{LaidName}
 use Rattle.asm_model.specs.declared.statements.Statement.{Statement}
-use Rattle.asm_model.specs.AtLine.{Definition, Nameless, Named, Equated, SourceLine, with_names, made_name}
+use Rattle.asm_model.specs.AtLine.{Definition, Nameless, Named, Equated, SourceLine, with_names}
 use Rattle.asm_model.specs.Grammar.{Tree}
 use Rattle.asm_model.specs.Meaning.{meaning}
 use Rattle.asm_model.specs.Before.{area_behind, is_thumb_label}
@@ -14,7 +14,7 @@ use Rattle.asm_model.specs.Entries.{EachHasSymbol}
 use Rattle.asm_model.specs.Labels.{Defined, Unnamed, Label, Equal, MapField, RegisterName, defined_by, imported_in, declared_names}
 use Rattle.asm_model.specs.Laid.{LaidLine, statements_of, map_behind, offset_behind, tree_equated, definition_of, imported_lines, laid_behind, laid_of, laid, source_lines, entries_with, all_entries, names_after, final_names}
 use Rattle.asm_model.specs.PlacedLines.{IsName, HasName, HasImport, AllNamed}
-use Rattle.asm_model.specs.Placing.{HasSymbol}
+use Rattle.asm_model.specs.Placing.{HasSymbol, EntryHasSymbol}
 use Rattle.asm_model.specs.Trees.{tree_of}
 use Rattle.asm_model.proofs.EntryLemmas.{equal_names_have_symbols}
 
@@ -22,8 +22,8 @@ use Rattle.asm_model.proofs.EntryLemmas.{equal_names_have_symbols}
 
 abbrev MakesSymbols : Definition → Type 0
 MakesSymbols Nameless = Unit {0}
-MakesSymbols (Named n) = HasSymbol n.value
-MakesSymbols (Equated make t) = (v : Value) → HasSymbol (make v).value
+MakesSymbols (Named n) = EntryHasSymbol n
+MakesSymbols (Equated make t) = (r : Result Value LineKind) → EntryHasSymbol (make r)
 
 abbrev EachMakes : List SourceLine → Type 0
 EachMakes [] = Unit {0}
@@ -37,14 +37,10 @@ pub symbols_joined : (ns ms : List LaidName) → EachHasSymbol ns → EachHasSym
 symbols_joined [] ms h g = g
 symbols_joined (n ∷ ns) ms h g = (h.0, symbols_joined ns ms h.1 g)
 
-pub made_symbols : (make : Value → LaidName) (r : Result Value LineKind) → ((v : Value) → HasSymbol (make v).value) → EachHasSymbol (made_name make r)
-made_symbols make (Ok v) h = (h v, tt)
-made_symbols make (Err k) h = tt
-
 pub entry_symbols : (names : List LaidName) (l : SourceLine) (d : Definition) → MakesSymbols d → EachHasSymbol (entries_with names l d)
 entry_symbols names l Nameless h = tt
 entry_symbols names l (Named n) h = (h, tt)
-entry_symbols names l (Equated make t) h = made_symbols make (meaning (with_names l names) t) h
+entry_symbols names l (Equated make t) h = (h (meaning (with_names l names) t), tt)
 
 pub all_symbols : (names : List LaidName) (ls : List SourceLine) → EachMakes ls → EachHasSymbol (all_entries names ls)
 all_symbols names [] h = tt
@@ -66,7 +62,7 @@ pub named_symbol : (name : List ℕ) → IsName name → HasSymbol (Place name 0
 named_symbol [] h = absurd h
 named_symbol (c ∷ cs) h = tt
 
-pub definition_makes : (names : List LaidName) (x : Defined) (area : Option ℕ) (offset size : ℕ) (thumb : Bool) (m : ℕ) → HasName x
+pub definition_makes : (names : List LaidName) (x : Defined) (area : Option ℕ) (offset : ℕ) (size : Option ℕ) (thumb : Bool) (m : ℕ) → HasName x
     → MakesSymbols (definition_of names x area offset size thumb m)
 definition_makes names Unnamed area offset size thumb m h = tt
 definition_makes names (Label name) area offset size thumb m h = named_symbol name h
@@ -84,7 +80,7 @@ lines_make d (s ∷ ss) h =
     makes_joined (source_lines (laid_of d ss)) ((laid_behind d s (laid_of d ss)).line ∷ imported_lines s (laid_of d ss) (imported_in s.what))
     (lines_make d ss h.2) (
       definition_makes d (defined_by s) (area_behind (s ∷ statements_of (laid_of d ss))) (offset_behind s (laid_of d ss))
-          (laid_behind d s (laid_of d ss)).size (is_thumb_label s (statements_of (laid_of d ss))) (map_behind (laid_of d ss)) h.0,
+          (Some (laid_behind d s (laid_of d ss)).size) (is_thumb_label s (statements_of (laid_of d ss))) (map_behind (laid_of d ss)) h.0,
       imported_makes s (laid_of d ss) (imported_in s.what) h.1,
     )
 

@@ -4,9 +4,8 @@ use Rattle.std.proofs.lemmas.Bool.{eqb-true}
 use Rattle.std.specs.Prelude.{Result, Ok, Err, nat_lt}
 use Rattle.std.specs.Ordering.{nat_cmp}
 use Rattle.std.specs.Cmp.Lexicographic.{slice_cmp}
-use Rattle.std.specs.Option.{is_some}
 use Rattle.sdt_fault.specs.declared.kinds.LineKind.{LineKind}
-use Rattle.sdt_fault.specs.declared.kinds.LineKind.TheVariants.{Syntax, UnknownWord, WrongType, OutOfRange, TooMany}
+use Rattle.sdt_fault.specs.declared.kinds.LineKind.TheVariants.{Syntax, UnknownWord, Forward, WrongType, OutOfRange, TooMany}
 use Rattle.asm_model.specs.declared.exprs.ExprItem.{ExprItem}
 use Rattle.asm_model.specs.declared.exprs.ExprItem.TheVariants as item
 use Rattle.asm_model.specs.declared.exprs.UnaryOp.{UnaryOp}
@@ -16,13 +15,15 @@ use Rattle.asm_model.specs.declared.exprs.BinaryOp.TheVariants.{Add, Subtract}
 use Rattle.asm_model.specs.declared.values.Value.{Value}
 use Rattle.asm_model.specs.declared.values.Value.TheVariants.{Number, Truth, Words, Place}
 use Rattle.asm_model.specs.declared.names.LaidName.{LaidName}
+use Rattle.asm_model.specs.declared.names.Meaning.{Meaning}
+use Rattle.asm_model.specs.declared.names.Meaning.TheVariants as means
 use Rattle.asm_model.specs.declared.names.Names.{Names}
 use Rattle.asm_model.specs.Forms.{same}
 use Rattle.asm_model.specs.Grammar.{Tree, Leaf, Before, Between}
 use Rattle.asm_model.specs.Limits.{string_bytes}
-use Rattle.asm_model.specs.Meaning.{named_in, less, arithmetic, related, logical, joined_strings, cut_string, moved_place, added_place, stands_at, distance, between_places, as_number, as_truth, as_words, as_place, truth_or, binary, unary_of, Known, Unread, value_of, size_of, known, then_of, on_both, applied, operand_of_item, meaning}
+use Rattle.asm_model.specs.Meaning.{named_in, less, arithmetic, related, logical, joined_strings, cut_string, moved_place, added_place, stands_at, distance, between_places, as_number, as_truth, as_words, as_place, truth_or, binary, unary_of, Known, Unread, is_later, meant, known_size, size_in, value_of, size_of, defined_of, known, then_of, on_both, applied, operand_of_item, meaning}
 use Rattle.asm_model.proofs.LineLemmas.{applied_known}
-use Rattle.asm_model.specs.Placing.{Placing, address_at, address_of, placed_value, seen_from, placed_name, placed_names, placed_item, placed_meaning, HasSymbol, HaveSymbols}
+use Rattle.asm_model.specs.Placing.{Placing, address_at, address_of, placed_value, seen_from, placed_in, placed_name, placed_names, placed_item, placed_meaning, HasSymbol, ResultHasSymbol, EntryHasSymbol, HaveSymbols}
 
 -- ---- numbers
 
@@ -68,22 +69,61 @@ same_seen p names area (Number n) h = refl
 same_seen p names area (Truth b) h = refl
 same_seen p names area (Words w) h = refl
 
+pub means_placed : (p : Placing) (names : Names) (area : Option ℕ) (name : List ℕ) (m : Meaning) (v : Value) → ResultHasSymbol (meant name m)
+    → meant name m ≡ Ok v → meant name (placed_in p (seen_from names area) name m) ≡ Ok (placed_value p names v)
+means_placed p names area name means.Later v here h = absurd (cc)
+means_placed p names area name means.Label v here h = ap Ok (same_seen p names area (Place name 0) here) ∙ ap (placed_result p names) h
+means_placed p names area name means.Imported v here h = ap Ok (same_seen p names area (Place name 0) here) ∙ ap (placed_result p names) h
+means_placed p names area name means.Place v here h = ap Ok (same_seen p names area (Place name 0) here) ∙ ap (placed_result p names) h
+means_placed p names area name (means.Known w) v here h = ap Ok (same_seen p names area w here) ∙ ap (placed_result p names) h
+means_placed p names area name (means.Faulty k) v here h = absurd (cc)
+means_placed p names area name means.Register v here h = absurd (cc)
+
 pub value_placed : (p : Placing) (names : Names) (o : Option LaidName) (v : Value)
-    → ((n : LaidName) → o ≡ Some n → HasSymbol n.value)
+    → ((n : LaidName) → o ≡ Some n → EntryHasSymbol n)
     → value_of o ≡ Ok v → value_of (placed_option p names o) ≡ Ok (placed_value p names v)
 value_placed p names None v here h = absurd (cc)
-value_placed p names (Some n) v here h =
-    ap (λ w. Ok w) (same_seen p names n.area n.value (here n refl)) ∙ ap (placed_result p names) h
+value_placed p names (Some n) v here h = means_placed p names n.area n.name n.meaning v (here n refl) h
+
+pub known_size_placed : (p : Placing) (names : Names) (o : Option ℕ) (v : Value) → known_size o ≡ Ok v → known_size o ≡ Ok (placed_value p names v)
+known_size_placed p names None v h = absurd (cc)
+known_size_placed p names (Some n) v h = ap (placed_result p names) h
+
+pub means_size : (p : Placing) (names at : Names) (name : List ℕ) (m : Meaning) (size : Option ℕ) (v : Value)
+    → size_in m size ≡ Ok v → size_in (placed_in p at name m) size ≡ Ok (placed_value p names v)
+means_size p names at name means.Later size v h = absurd (cc)
+means_size p names at name means.Label size v h = known_size_placed p names size v h
+means_size p names at name means.Imported size v h = known_size_placed p names size v h
+means_size p names at name means.Place size v h = known_size_placed p names size v h
+means_size p names at name (means.Known w) size v h = known_size_placed p names size v h
+means_size p names at name (means.Faulty k) size v h = known_size_placed p names size v h
+means_size p names at name means.Register size v h = absurd (cc)
 
 pub size_placed : (p : Placing) (names : Names) (o : Option LaidName) (v : Value)
     → size_of o ≡ Ok v → size_of (placed_option p names o) ≡ Ok (placed_value p names v)
 size_placed p names None v h = absurd (cc)
-size_placed p names (Some n) v h = ap (placed_result p names) h
+size_placed p names (Some n) v h = means_size p names (seen_from names n.area) n.name n.meaning n.size v h
 
-pub defined_placed : (p : Placing) (names : Names) (o : Option LaidName) (v : Value) → as_truth (Ok (is_some o)) ≡ Ok v
-    → as_truth (Ok (is_some (placed_option p names o))) ≡ Ok (placed_value p names v)
+pub means_later : (p : Placing) (at : Names) (name : List ℕ) (m : Meaning) → is_later (placed_in p at name m) ≡ is_later m
+means_later p at name means.Later = refl
+means_later p at name means.Label = refl
+means_later p at name means.Imported = refl
+means_later p at name means.Place = refl
+means_later p at name (means.Known w) = refl
+means_later p at name (means.Faulty k) = refl
+means_later p at name means.Register = refl
+
+pub truth_placed : (p : Placing) (names : Names) (b : Bool) (v : Value)
+    → cond b (Err Forward) (Ok (Truth true)) ≡ Ok v → cond b (Err Forward) (Ok (Truth true)) ≡ Ok (placed_value p names v)
+truth_placed p names true v h = absurd (cc)
+truth_placed p names false v h = ap (placed_result p names) h
+
+pub defined_placed : (p : Placing) (names : Names) (o : Option LaidName) (v : Value) → defined_of o ≡ Ok v
+    → defined_of (placed_option p names o) ≡ Ok (placed_value p names v)
 defined_placed p names None v h = ap (placed_result p names) h
-defined_placed p names (Some n) v h = ap (placed_result p names) h
+defined_placed p names (Some n) v h =
+    ap (λ b. cond b (Err Forward) (Ok (Truth true))) (means_later p (seen_from names n.area) n.name n.meaning)
+    ∙ truth_placed p names (is_later n.meaning) v h
 
 -- ---- operators before an operand
 
@@ -138,7 +178,7 @@ pub known_placed : (p : Placing) (names : Names) (op : UnaryOp) (x y : Result Va
 known_placed p names op x y v more h = applied_known op y ∙ then_placed p names op x y v more (sym (applied_known op x) ∙ h)
 
 pub unread_placed : (p : Placing) (names : Names) (op : UnaryOp) (o : Option LaidName) (v : Value)
-    → ((n : LaidName) → o ≡ Some n → HasSymbol n.value)
+    → ((n : LaidName) → o ≡ Some n → EntryHasSymbol n)
     → applied op (Unread o) ≡ Ok v → applied op (Unread (placed_option p names o)) ≡ Ok (placed_value p names v)
 unread_placed p names unary.Size o v here h = size_placed p names o v h
 unread_placed p names unary.Defined o v here h = defined_placed p names o v h

@@ -4,14 +4,37 @@ use Rattle.asm_model.specs.declared.exprs.Expr.{Expr}
 use Rattle.asm_model.specs.declared.exprs.ExprItem.{ExprItem}
 use Rattle.asm_model.specs.declared.exprs.ExprItem.TheVariants as item
 use Rattle.asm_model.specs.declared.exprs.Part.{Part}
-use Rattle.asm_model.specs.Grammar.{Tree, Leaf, Before, Between, postfix, plain, Spells, operand, of_name, before, grouped, between, tighter, IsSpelled}
+use Rattle.asm_model.specs.declared.exprs.Part.TheVariants as part
+use Rattle.asm_model.specs.declared.values.Value.TheVariants.{Number}
+use Rattle.asm_model.specs.Grammar.{Tree, Leaf, Before, Between, postfix, plain, operand_of, Spells, operand, of_name, before, grouped, between, tighter, IsSpelled}
 use Rattle.asm_model.specs.Trees.{grown, tree_behind, tree_of}
-use Rattle.asm_model.proofs.LateLemmas.{plain_operand}
 
+-- no item of the tree is an operator
 abbrev IsPlain : Tree → Type 0
 IsPlain (Leaf i) = plain i ≡ Some i
 IsPlain (Before op t) = IsPlain t
 IsPlain (Between op t u) = IsPlain t × IsPlain u
+
+pub kept : (j i : ExprItem) → plain j ≡ Some i → plain i ≡ Some i
+kept (item.Name n) i e = let x : item.Name n ≡ i = cc in rw (← x) refl
+kept (item.Local n) i e = let x : item.Local n ≡ i = cc in rw (← x) refl
+kept (item.Constant v) i e = let x : item.Constant v ≡ i = cc in rw (← x) refl
+kept item.Here i e = let x : item.Here ≡ i = cc in rw (← x) refl
+kept item.Map i e = let x : item.Map ≡ i = cc in rw (← x) refl
+kept item.CodeSize i e = let x : item.CodeSize ≡ i = cc in rw (← x) refl
+kept (item.Unary op) i e = absurd (cc)
+kept (item.Binary op) i e = absurd (cc)
+
+pub plain_operand : (p : Part) (i : ExprItem) → operand_of p ≡ Some i → plain i ≡ Some i
+plain_operand (part.Operand j) i e = kept j i e
+plain_operand part.TooLarge i e = kept (item.Constant (Number 0)) i e
+plain_operand part.Open i e = absurd (cc)
+plain_operand part.Close i e = absurd (cc)
+plain_operand (part.Prefix op) i e = absurd (cc)
+plain_operand (part.OfName op) i e = absurd (cc)
+plain_operand (part.Infix op) i e = absurd (cc)
+plain_operand (part.Sum u b) i e = absurd (cc)
+plain_operand part.Other i e = absurd (cc)
 
 pub spelled_plain : (l : ℕ) (ps : List Part) (t : Tree) → Spells l ps t → IsPlain t
 spelled_plain l ps t (operand p i e) = plain_operand p i e

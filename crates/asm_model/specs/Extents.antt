@@ -20,8 +20,10 @@ use Rattle.asm_model.specs.declared.directives.Boundary.{Boundary}
 use Rattle.asm_model.specs.declared.directives.Boundary.TheVariants as limit
 use Rattle.asm_model.specs.declared.directives.DirectiveLine.{DirectiveLine}
 use Rattle.asm_model.specs.declared.directives.DirectiveLine.TheVariants as line
-use Rattle.asm_model.specs.AtLine.{Sight, value_at, literal_at}
+use Rattle.asm_model.specs.declared.names.Names.{Names}
+use Rattle.asm_model.specs.AtLine.{literal_at}
 use Rattle.asm_model.specs.Grammar.{Tree}
+use Rattle.asm_model.specs.Meaning.{meaning}
 use Rattle.asm_model.specs.Says.{on_both, mapped}
 use Rattle.asm_model.specs.Trees.{tree_of}
 
@@ -37,12 +39,12 @@ pub data Extent : Type 0 where
 
 -- ---- values
 
-abbrev pub tree_value : Sight → Option Tree → Result Value LineKind
+abbrev pub tree_value : Names → Option Tree → Result Value LineKind
 tree_value s None = Err Syntax
-tree_value s (Some t) = value_at s t
+tree_value s (Some t) = meaning s t
 
 -- the value of an expression by what is known at its line
-abbrev pub value_there : Sight → Expr → Result Value LineKind
+abbrev pub value_there : Names → Expr → Result Value LineKind
 value_there s e = tree_value s (tree_of e)
 
 abbrev pub as_number : Result Value LineKind → Result ℕ LineKind
@@ -51,15 +53,15 @@ as_number (Ok _) = Err WrongType
 as_number (Err k) = Err k
 
 -- the number of an expression by what is known at its line
-abbrev pub number_there : Sight → Expr → Result ℕ LineKind
+abbrev pub number_there : Names → Expr → Result ℕ LineKind
 number_there s e = as_number (value_there s e)
 
-abbrev pub tree_literal : Sight → Option Tree → Result Value LineKind
+abbrev pub tree_literal : Names → Option Tree → Result Value LineKind
 tree_literal s None = Err Syntax
 tree_literal s (Some t) = literal_at s t
 
 -- the literal of an expression by what is known at its line
-abbrev pub literal_there : Sight → Expr → Result Value LineKind
+abbrev pub literal_there : Names → Expr → Result Value LineKind
 literal_there s e = tree_literal s (tree_of e)
 
 -- ---- instructions
@@ -89,11 +91,11 @@ loading thumb (Number n) =
     if thumb then Loading 2 (Number n) else if is_moved n then Block 4 4 else Loading 4 (Number n)
 loading thumb v = if thumb then Loading 2 v else Loading 4 v
 
-abbrev pub pseudo_extent : Sight → PseudoLine → Result Extent LineKind
-pseudo_extent s (pseudo.LoadConstant condition rd value) = mapped (loading s.known.thumb) (literal_there s value)
-pseudo_extent s (pseudo.Address condition rd target) = Ok (instruction s.known.thumb)
+abbrev pub pseudo_extent : Names → PseudoLine → Result Extent LineKind
+pseudo_extent s (pseudo.LoadConstant condition rd value) = mapped (loading s.thumb) (literal_there s value)
+pseudo_extent s (pseudo.Address condition rd target) = Ok (instruction s.thumb)
 pseudo_extent s (pseudo.LongAddress condition rd target) = Ok (Block 4 8)
-pseudo_extent s pseudo.NoOperation = Ok (instruction s.known.thumb)
+pseudo_extent s pseudo.NoOperation = Ok (instruction s.thumb)
 
 -- ---- directives
 
@@ -102,7 +104,7 @@ abbrev pub byte_count : Result Value LineKind → ℕ
 byte_count (Ok (Words w)) = length w
 byte_count _ = 1
 
-abbrev pub byte_counts : Sight → List Expr → ℕ
+abbrev pub byte_counts : Names → List Expr → ℕ
 byte_counts s [] = 0
 byte_counts s (e ∷ es) = byte_count (value_there s e) + byte_counts s es
 
@@ -119,13 +121,13 @@ abbrev pub as_multiple : Result ℕ LineKind → Result ℕ LineKind
 as_multiple (Ok n) = if is_power n then Ok n else Err BadOperand
 as_multiple (Err k) = Err k
 
-abbrev pub padding : Sight → Boundary → Result Extent LineKind
+abbrev pub padding : Names → Boundary → Result Extent LineKind
 padding s limit.Word = Ok (Padding 4 0)
 padding s (limit.Multiple e) = mapped (λ m. Padding m 0) (as_multiple (number_there s e))
 padding s (limit.Behind e f) = on_both (λ m n. Padding m n) (as_multiple (number_there s e)) (number_there s f)
 
-abbrev pub directive_extent : Sight → DirectiveLine → Result Extent LineKind
-directive_extent s line.Entry = Ok (if s.known.thumb then Block 2 0 else Block 4 0)
+abbrev pub directive_extent : Names → DirectiveLine → Result Extent LineKind
+directive_extent s line.Entry = Ok (if s.thumb then Block 2 0 else Block 4 0)
 directive_extent s (line.Dcd es) = Ok (Block 4 (4 * length es))
 directive_extent s (line.Dcdu es) = Ok (Block 1 (4 * length es))
 directive_extent s (line.Dcw es) = Ok (Block 2 (2 * length es))
@@ -136,7 +138,7 @@ directive_extent s line.Ltorg = Ok Pool
 directive_extent s _ = Ok (Block 1 0)
 
 -- what a statement takes up, or the kind of its fault
-abbrev pub extent_of : Sight → What → Result Extent LineKind
+abbrev pub extent_of : Names → What → Result Extent LineKind
 extent_of s what.Nothing = Ok (Block 1 0)
 extent_of s (what.Arm l) = Ok (Block 4 4)
 extent_of s (what.Thumb l) = Ok (thumb_extent l)

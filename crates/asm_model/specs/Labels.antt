@@ -2,7 +2,6 @@
 -- besides a name that it imports. A label on ROUT names nothing. SDT 2.50 Reference Guide, chapter on the assembler.
 use Rattle.std.specs.Prelude.{ℕ, ◌==◌, List, [], ◌∷◌, ◌++◌, Bool, false, Option, Some, None}
 use Rattle.asm_model.specs.declared.exprs.Expr.{Expr}
-use Rattle.asm_model.specs.declared.values.Value.TheVariants.{Number}
 use Rattle.asm_model.specs.declared.names.LaidName.{LaidName}
 use Rattle.asm_model.specs.declared.directives.RnOperand.{RnOperand}
 use Rattle.asm_model.specs.declared.directives.DirectiveLine.{DirectiveLine}
@@ -11,7 +10,7 @@ use Rattle.asm_model.specs.declared.statements.Statement.{Statement}
 use Rattle.asm_model.specs.declared.statements.What.{What}
 use Rattle.asm_model.specs.declared.statements.What.TheVariants as what
 use Rattle.asm_model.specs.Before.{is_thumb_label}
-use Rattle.asm_model.specs.Entries.{label_entry, imported_entry, valued_entry}
+use Rattle.asm_model.specs.Entries.{imported_entry, later_entry}
 
 pub data Defined : Type 0 where
   Unnamed : Defined
@@ -53,16 +52,20 @@ abbrev pub imported_entries : Option (List ℕ) → List LaidName
 imported_entries None = []
 imported_entries (Some name) = imported_entry name ∷ []
 
--- ---- all names of a source, with their marks but without places and values
+-- ---- all names of a source, which mean something later
 
 abbrev pub declared_entries : Defined → Statement → List Statement → List LaidName
 declared_entries Unnamed s before = []
-declared_entries (Label name) s before = label_entry name None 0 0 (is_thumb_label s before) ∷ []
-declared_entries (Equal name e) s before = valued_entry name (Number 0) false ∷ []
-declared_entries (MapField name) s before = valued_entry name (Number 0) false ∷ []
-declared_entries (RegisterName name r) s before = []
+declared_entries (Label name) s before = later_entry name (is_thumb_label s before) ∷ []
+declared_entries (Equal name e) s before = later_entry name false ∷ []
+declared_entries (MapField name) s before = later_entry name false ∷ []
+declared_entries (RegisterName name r) s before = later_entry name false ∷ []
+
+abbrev pub declared_imports : Option (List ℕ) → List LaidName
+declared_imports None = []
+declared_imports (Some name) = later_entry name false ∷ []
 
 abbrev pub declared_names : List Statement → List LaidName
 declared_names [] = []
 declared_names (s ∷ before) =
-    declared_names before ++ declared_entries (defined_by s) s before ++ imported_entries (imported_in s.what)
+    declared_names before ++ declared_entries (defined_by s) s before ++ declared_imports (imported_in s.what)

@@ -1,22 +1,22 @@
 -- A source laid out: each statement with its place, and what an expression sees at its line. What is known at a line are
 -- names of the lines before it, and of the whole source only which names there are. SDT 2.50 Reference Guide, chapter on the
 -- assembler. Statements and laid lines are listed with the nearest first.
-use Rattle.std.specs.Prelude.{ℕ, zero, suc, ◌+◌, ◌%◌, ◌^◌, List, [], ◌∷◌, ◌++◌, length, map, Bool, false, Option, Some, None, Result, Ok, Err}
+use Rattle.std.specs.Prelude.{ℕ, zero, suc, ◌+◌, ◌%◌, ◌^◌, List, [], ◌∷◌, ◌++◌, length, map, Bool, Option, Some, None, Result, Ok, Err}
 use Rattle.sdt_fault.specs.declared.kinds.LineKind.{LineKind}
 use Rattle.sdt_fault.specs.declared.kinds.LineKind.TheVariants.{Syntax}
 use Rattle.asm_model.specs.declared.exprs.Expr.{Expr}
 use Rattle.asm_model.specs.declared.values.Value.{Value}
-use Rattle.asm_model.specs.declared.values.Value.TheVariants.{Number}
 use Rattle.asm_model.specs.declared.names.LaidName.{LaidName}
+use Rattle.asm_model.specs.declared.names.Names.{Names}
 use Rattle.asm_model.specs.declared.directives.DirectiveLine.TheVariants as line
 use Rattle.asm_model.specs.declared.statements.Statement.{Statement}
 use Rattle.asm_model.specs.declared.statements.What.{What}
 use Rattle.asm_model.specs.declared.statements.What.TheVariants as what
-use Rattle.asm_model.specs.AtLine.{Definition, Nameless, Named, Equated, SourceLine, Sight, sight, seen_behind, with_names, made_name}
+use Rattle.asm_model.specs.AtLine.{Definition, Nameless, Named, Equated, SourceLine, names_at, seen_behind, with_names}
 use Rattle.asm_model.specs.Grammar.{Tree}
 use Rattle.asm_model.specs.Meaning.{meaning}
 use Rattle.asm_model.specs.Before.{thumb_behind, area_behind, is_thumb_label}
-use Rattle.asm_model.specs.Entries.{label_entry, imported_entry, valued_entry, equal_entry}
+use Rattle.asm_model.specs.Entries.{label_entry, imported_entry, register_entry, field_entry, equal_entry}
 use Rattle.asm_model.specs.Extents.{Extent, Block, number_there, extent_of, alignment}
 use Rattle.asm_model.specs.Labels.{Defined, Unnamed, Label, Equal, MapField, RegisterName, defined_by, imported_in, declared_names}
 use Rattle.asm_model.specs.Offsets.{Piece, raised, waiting, end_behind, size_behind}
@@ -32,7 +32,7 @@ pub record LaidLine : Type 0 where
   pub extent : Result Extent LineKind
   pub size : ℕ
   -- what its expressions see, before its size is known
-  pub seen : Sight
+  pub seen : Names
   -- what the lines behind it see of it: what its label defines, and behind that a name that it imports
   pub line : SourceLine
   pub imported : List SourceLine
@@ -62,7 +62,7 @@ abbrev pub set_or : ℕ → Result ℕ LineKind → ℕ
 set_or map (Ok n) = n
 set_or map (Err k) = map
 
-abbrev pub map_from : ℕ → Sight → What → ℕ
+abbrev pub map_from : ℕ → Names → What → ℕ
 map_from map s (what.Directive (line.Map e)) = set_or map (number_there s e)
 map_from map s (what.Directive (line.Field e)) = added map (number_there s e)
 map_from map s _ = map
@@ -89,13 +89,14 @@ abbrev pub tree_equated : List LaidName → Option ℕ → List ℕ → Option T
 tree_equated names area name None = Nameless
 tree_equated names area name (Some t) = Equated (equal_entry names area name) t
 
--- what a line defines, by its area, its offset, its size, whether its label is one of Thumb code, and the storage map
-abbrev pub definition_of : List LaidName → Defined → Option ℕ → ℕ → ℕ → Bool → ℕ → Definition
+-- what a line defines, by its area, its offset, its size, which the line doesn't know itself, whether its label is one of
+-- Thumb code, and the storage map
+abbrev pub definition_of : List LaidName → Defined → Option ℕ → ℕ → Option ℕ → Bool → ℕ → Definition
 definition_of names Unnamed area offset size thumb map = Nameless
 definition_of names (Label name) area offset size thumb map = Named (label_entry name area offset size thumb)
 definition_of names (Equal name e) area offset size thumb map = tree_equated names area name (tree_of e)
-definition_of names (MapField name) area offset size thumb map = Named (valued_entry name (Number map) false)
-definition_of names (RegisterName name r) area offset size thumb map = Nameless
+definition_of names (MapField name) area offset size thumb map = Named (field_entry name map size)
+definition_of names (RegisterName name r) area offset size thumb map = Named (register_entry name)
 
 -- a line of the source with a definition
 abbrev pub line_behind : Statement → List LaidLine → Definition → SourceLine
@@ -108,7 +109,7 @@ line_behind s before definition = record {
 }
 
 -- the definition of a statement of a size, where the source has these names
-abbrev pub definition_behind : List LaidName → Statement → List LaidLine → ℕ → Definition
+abbrev pub definition_behind : List LaidName → Statement → List LaidLine → Option ℕ → Definition
 definition_behind declared s before size =
     definition_of declared (defined_by s) (area_behind (s ∷ statements_of before)) (offset_behind s before) size
     (is_thumb_label s (statements_of before)) (map_behind before)
@@ -117,10 +118,10 @@ abbrev pub imported_lines : Statement → List LaidLine → Option (List ℕ) �
 imported_lines s before None = []
 imported_lines s before (Some name) = line_behind s before (Named (imported_entry name)) ∷ []
 
--- what the expressions of a statement see; the size of its own label counts as 0, and nothing asks for it
-abbrev pub sight_behind : List LaidName → Statement → List LaidLine → Sight
-sight_behind declared s before =
-    sight declared (seen_behind declared (lines_of before)) (line_behind s before (definition_behind declared s before 0))
+-- what the expressions of a statement see
+abbrev pub names_behind : List LaidName → Statement → List LaidLine → Names
+names_behind declared s before =
+    names_at declared (seen_behind declared (lines_of before)) (line_behind s before (definition_behind declared s before None))
 
 -- ---- lines
 
@@ -133,8 +134,8 @@ with_extent declared s before extent size = record {
   thumb = thumb_behind (statements_of before);
   extent = extent;
   size = size;
-  seen = sight_behind declared s before;
-  line = line_behind s before (definition_behind declared s before size);
+  seen = names_behind declared s before;
+  line = line_behind s before (definition_behind declared s before (Some size));
   imported = imported_lines s before (imported_in s.what);
 }
 
@@ -143,7 +144,7 @@ sized declared s before extent =
     with_extent declared s before extent (size_behind (area_behind (s ∷ statements_of before)) (pieces_of before) (taken extent))
 
 abbrev pub laid_behind : List LaidName → Statement → List LaidLine → LaidLine
-laid_behind declared s before = sized declared s before (extent_of (sight_behind declared s before) s.what)
+laid_behind declared s before = sized declared s before (extent_of (names_behind declared s before) s.what)
 
 abbrev pub with_line : List LaidName → Statement → List LaidLine → List LaidLine
 with_line declared s before = laid_behind declared s before ∷ before
@@ -171,7 +172,7 @@ source_lines (l ∷ before) = source_lines before ++ l.line ∷ l.imported
 abbrev pub entries_with : List LaidName → SourceLine → Definition → List LaidName
 entries_with names l Nameless = []
 entries_with names l (Named n) = n ∷ []
-entries_with names l (Equated make t) = made_name make (meaning (with_names l names) t)
+entries_with names l (Equated make t) = make (meaning (with_names l names) t) ∷ []
 
 abbrev pub all_entries : List LaidName → List SourceLine → List LaidName
 all_entries names [] = []

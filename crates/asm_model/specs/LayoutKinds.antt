@@ -1,8 +1,8 @@
 -- The kinds of faults that laying out finds at a line, besides those of reading it: NoArea, DuplicateName, places where a
 -- statement may not stand, areas that are named again otherwise, what must be known at its line, names that depend on
--- themselves, and areas that grow too large. SDT 2.50 Reference Guide, chapter on the assembler; the kinds are this
--- project's. What needs the whole layout, as an ENTRY's state and the pool at an area's end, counts only where no line
--- has a kind of these.
+-- themselves, an ENTRY in another state than its area's, and areas that grow too large. SDT 2.50 Reference Guide, chapter
+-- on the assembler; the kinds are this project's. What needs the whole layout, as an ENTRY's place and the pool at an
+-- area's end, counts only where no line has a kind of these.
 use Rattle.std.specs.Prelude.{ℕ, zero, suc, ◌+◌, ◌^◌, ◌==◌, ◌&&◌, ◌||◌, not, nat_lt, List, [], ◌∷◌, ◌++◌, length, Bool, true, false, if◌then◌else◌, Option, Some, None, Result, Ok, Err}
 use Rattle.std.specs.List.{list_any}
 use Rattle.sdt_fault.specs.declared.kinds.LineKind.{LineKind}
@@ -18,7 +18,8 @@ use Rattle.asm_model.specs.declared.directives.DirectiveLine.TheVariants as line
 use Rattle.asm_model.specs.declared.statements.Statement.{Statement}
 use Rattle.asm_model.specs.declared.statements.What.{What}
 use Rattle.asm_model.specs.declared.statements.What.TheVariants as what
-use Rattle.asm_model.specs.AtLine.{Sight}
+use Rattle.asm_model.specs.declared.names.Names.{Names}
+use Rattle.asm_model.specs.Before.{thumb_behind, area_behind}
 use Rattle.asm_model.specs.Directives.{or_else}
 use Rattle.asm_model.specs.Forms.{same}
 use Rattle.asm_model.specs.Kinds.{told_kind}
@@ -115,7 +116,7 @@ contents_behind (s ∷ before) = contents_from s.what (contents_behind before)
 -- ---- areas that are named again
 
 -- the exponent of an area's alignment, which is 2 unless more is said
-abbrev pub exponent : Sight → Option Expr → Result ℕ LineKind
+abbrev pub exponent : Names → Option Expr → Result ℕ LineKind
 exponent s None = Ok 2
 exponent s (Some e) = number_there s e
 
@@ -137,22 +138,22 @@ same_exponent (Ok m) (Ok n) = m == n
 same_exponent _ _ = true
 
 -- whether attributes of two lines agree; an alignment that isn't known is told by itself
-abbrev pub same_attributes : Sight → AreaAttributes → Sight → AreaAttributes → Bool
+abbrev pub same_attributes : Names → AreaAttributes → Names → AreaAttributes → Bool
 same_attributes s a t b =
     same_contents a.contents b.contents && same_mark a.read_only b.read_only && same_mark a.interwork b.interwork
     && same_mark a.halfword b.halfword && same_mark a.pic b.pic && same_mark a.reentrant b.reentrant
     && same_exponent (exponent s a.align) (exponent t b.align)
 
-abbrev pub again_with : List ℕ → Sight → AreaAttributes → Sight → What → Bool → Bool
+abbrev pub again_with : List ℕ → Names → AreaAttributes → Names → What → Bool → Bool
 again_with name s a t (what.Directive (line.Area other b)) rest = if same name other then not (same_attributes s a t b) || rest else rest
 again_with name s a t _ rest = rest
 
 -- whether an earlier line names the area with other attributes
-abbrev pub is_named_otherwise : List ℕ → Sight → AreaAttributes → List LaidLine → Bool
+abbrev pub is_named_otherwise : List ℕ → Names → AreaAttributes → List LaidLine → Bool
 is_named_otherwise name s a [] = false
 is_named_otherwise name s a (l ∷ before) = again_with name s a l.seen l.statement.what (is_named_otherwise name s a before)
 
-abbrev pub area_kinds : Sight → What → List LaidLine → List LineKind
+abbrev pub area_kinds : Names → What → List LaidLine → List LineKind
 area_kinds s (what.Directive (line.Area name a)) before =
     exponent_kinds (exponent s a.align) ++ kind_if (is_named_otherwise name s a before) BadOperand
 area_kinds s _ before = []
@@ -190,14 +191,15 @@ name_kinds s before =
 
 -- ---- names that depend on themselves
 
-abbrev pub equal_of : Defined → List (List ℕ × Expr)
-equal_of (Equal name e) = (name, e) ∷ []
-equal_of _ = []
+-- the name for an expression that a statement defines, where no statement before it defines the name
+abbrev pub first_equal : Defined → List Statement → List (List ℕ × Expr)
+first_equal (Equal name e) before = if list_any (same name) (names_behind before) then [] else (name, e) ∷ []
+first_equal _ before = []
 
--- the names for expressions, with their expressions
+-- the names for expressions, with their expressions, each by its first definition
 abbrev pub equals_in : List Statement → List (List ℕ × Expr)
 equals_in [] = []
-equals_in (s ∷ before) = equals_in before ++ equal_of (defined_by s)
+equals_in (s ∷ before) = equals_in before ++ first_equal (defined_by s) before
 
 abbrev pub is_settled_item : List (List ℕ × Expr) → List (List ℕ) → ExprItem → Bool
 is_settled_item equals settled (item.Name name) = not (list_any (λ e. same name e.0) equals) || list_any (same name) settled
@@ -222,40 +224,11 @@ settled_after (suc k) equals = settled_by equals (settled_after k equals) equals
 abbrev pub settled : List (List ℕ × Expr) → List (List ℕ)
 settled equals = settled_after (length equals) equals
 
-abbrev pub settled_kinds : List (List ℕ) → Defined → List LineKind
-settled_kinds settled (Equal name e) = kind_if (not (list_any (same name) settled)) Forward
-settled_kinds settled _ = []
+abbrev pub settled_kinds : List (List ℕ) → List (List ℕ × Expr) → List LineKind
+settled_kinds settled [] = []
+settled_kinds settled (e ∷ es) = kind_if (not (list_any (same e.0) settled)) Forward
 
--- ---- lines
-
-abbrev pub area_bytes : ℕ
-area_bytes = 2 ^ 24
-
-abbrev pub map_kinds : Sight → What → List LineKind
-map_kinds s (what.Directive (line.Map e)) = fault_kinds (number_there s e)
-map_kinds s (what.Directive (line.Field e)) = fault_kinds (number_there s e)
-map_kinds s _ = []
-
--- the kinds of a line behind others, where these names are settled
-abbrev pub layout_kinds : List (List ℕ) → LaidLine → List LaidLine → List LineKind
-layout_kinds settled l before =
-    fault_kinds l.extent ++ map_kinds l.seen l.statement.what ++ no_area_kinds l.area (defined_by l.statement) l.statement.what
-    ++ contents_kinds (contents_behind (l.statement ∷ statements_of before)) l.thumb l.statement.what
-    ++ area_kinds l.seen l.statement.what before ++ name_kinds l.statement (statements_of before)
-    ++ settled_kinds settled (defined_by l.statement) ++ kind_if (nat_lt area_bytes (l.offset + l.size)) TooMany
-
--- a statement with the kind that is told of it
-abbrev pub told_at : Statement → Option LineKind → Option (Statement × LineKind)
-told_at s None = None
-told_at s (Some k) = Some (s, k)
-
--- the first line with a fault, among lines of which the last stands first
-abbrev pub first_fault : List (List ℕ) → List LaidLine → Option (Statement × LineKind)
-first_fault settled [] = None
-first_fault settled (l ∷ before) =
-    or_else (first_fault settled before) (told_at l.statement (told_kind (layout_kinds settled l before)))
-
--- ---- what needs the whole layout
+-- ---- the state of an area
 
 abbrev pub is_instruction : What → Bool
 is_instruction (what.Arm l) = true
@@ -263,29 +236,68 @@ is_instruction (what.Thumb l) = true
 is_instruction (what.Pseudo l) = true
 is_instruction _ = false
 
-abbrev pub state_of : ℕ → LaidLine → Option Bool
-state_of area l = if is_of area l.area && is_instruction l.statement.what then Some l.thumb else None
+abbrev pub state_at : ℕ → Statement → List Statement → Option Bool
+state_at area s before = if is_of area (area_behind (s ∷ before)) && is_instruction s.what then Some (thumb_behind before) else None
 
 -- the state of an area's first instruction
-abbrev pub first_state : ℕ → List LaidLine → Option Bool
+abbrev pub first_state : ℕ → List Statement → Option Bool
 first_state area [] = None
-first_state area (l ∷ before) = or_else (first_state area before) (state_of area l)
+first_state area (s ∷ before) = or_else (first_state area before) (state_at area s before)
 
--- whether an area is one of Thumb code; without an instruction it counts as ARM
-abbrev pub is_thumb_area : ℕ → List LaidLine → Bool
+abbrev pub is_true : Option Bool → Bool
+is_true None = false
+is_true (Some b) = b
+
+-- whether an area of a source of these statements is one of Thumb code; without an instruction it counts as ARM
+abbrev pub is_thumb_area : ℕ → List Statement → Bool
 is_thumb_area area all = is_true (first_state area all)
-  where
-    is_true : Option Bool → Bool
-    is_true None = false
-    is_true (Some b) = b
 
--- an ENTRY behind its area's last byte, or in another state than the area's
+-- whether a line's area is one
+abbrev pub in_thumb_area : Option ℕ → List Statement → Bool
+in_thumb_area None all = false
+in_thumb_area (Some area) all = is_thumb_area area all
+
+-- an ENTRY in another state than its area's
+abbrev pub state_kinds : Option ℕ → Bool → What → List Statement → List LineKind
+state_kinds None thumb w all = []
+state_kinds (Some area) thumb w all = kind_if (is_entry w && not (same_mark thumb (is_thumb_area area all))) BadOperand
+
+-- ---- lines
+
+abbrev pub area_bytes : ℕ
+area_bytes = 2 ^ 24
+
+abbrev pub map_kinds : Names → What → List LineKind
+map_kinds s (what.Directive (line.Map e)) = fault_kinds (number_there s e)
+map_kinds s (what.Directive (line.Field e)) = fault_kinds (number_there s e)
+map_kinds s _ = []
+
+-- the kinds of a line behind others, where these names are settled and the source has these statements that can be read
+abbrev pub layout_kinds : List (List ℕ) → List Statement → LaidLine → List LaidLine → List LineKind
+layout_kinds settled all l before =
+    fault_kinds l.extent ++ map_kinds l.seen l.statement.what ++ no_area_kinds l.area (defined_by l.statement) l.statement.what
+    ++ contents_kinds (contents_behind (l.statement ∷ statements_of before)) l.thumb l.statement.what
+    ++ area_kinds l.seen l.statement.what before ++ name_kinds l.statement (statements_of before)
+    ++ settled_kinds settled (first_equal (defined_by l.statement) (statements_of before)) ++ state_kinds l.area l.thumb l.statement.what all
+    ++ kind_if (nat_lt area_bytes (l.offset + l.size)) TooMany
+
+-- a statement with the kind that is told of it
+abbrev pub told_at : Statement → Option LineKind → Option (Statement × LineKind)
+told_at s None = None
+told_at s (Some k) = Some (s, k)
+
+-- the first line with a fault, among lines of which the last stands first
+abbrev pub first_fault : List (List ℕ) → List Statement → List LaidLine → Option (Statement × LineKind)
+first_fault settled all [] = None
+first_fault settled all (l ∷ before) =
+    or_else (first_fault settled all before) (told_at l.statement (told_kind (layout_kinds settled all l before)))
+
+-- ---- what needs the whole layout
+
+-- an ENTRY behind its area's last byte
 abbrev pub entry_kinds : Option ℕ → LaidLine → List LaidLine → List LineKind
 entry_kinds None l all = []
-entry_kinds (Some area) l all =
-    kind_if
-    (is_entry l.statement.what && (not (nat_lt l.offset (area_size area (pieces_of all))) || not (same_mark l.thumb (is_thumb_area area all))))
-    BadOperand
+entry_kinds (Some area) l all = kind_if (is_entry l.statement.what && not (nat_lt l.offset (area_size area (pieces_of all)))) BadOperand
 
 -- a literal whose word ends too far
 abbrev pub literal_kinds : Option ℕ → Extent → List Piece → List Piece → List LineKind
@@ -305,4 +317,4 @@ abbrev pub layout_fault : List Statement → Option (Statement × LineKind)
 layout_fault statements = fault_of (laid statements)
   where
     fault_of : List LaidLine → Option (Statement × LineKind)
-    fault_of lines = or_else (first_fault (settled (equals_in statements)) lines) (first_late lines [] (reversed lines []))
+    fault_of lines = or_else (first_fault (settled (equals_in statements)) statements lines) (first_late lines [] (reversed lines []))

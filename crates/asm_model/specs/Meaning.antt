@@ -2,14 +2,13 @@
 -- Guide, chapter on the assembler; their meanings are this project's: arithmetic is modulo 2^32, division and
 -- comparison are unsigned, and a label takes part only as label plus or minus a number and as the difference of
 -- two labels of one area. Faults: of the operands' faults the first in the order of the kinds is handed on.
-use Rattle.std.specs.Prelude.{◌≡◌, ℕ, ◌+◌, ◌-◌, ◌*◌, ◌/◌, ◌%◌, ◌^◌, List, [], ◌∷◌, ◌++◌, length, take, drop, nat_lt, ◌==◌, ◌&&◌, ◌||◌, not, Bool, if◌then◌else◌, codes, Option, Some, None, Result, Ok, Err, bit_and, bit_or, bit_xor}
-use Rattle.std.specs.Option.{is_some}
+use Rattle.std.specs.Prelude.{◌≡◌, ℕ, ◌+◌, ◌-◌, ◌*◌, ◌/◌, ◌%◌, ◌^◌, List, [], ◌∷◌, ◌++◌, length, take, drop, nat_lt, ◌==◌, ◌&&◌, ◌||◌, not, Bool, true, false, if◌then◌else◌, codes, Option, Some, None, Result, Ok, Err, bit_and, bit_or, bit_xor}
 use Rattle.std.specs.Int.{w32, rotate_left, rotate_right}
 use Rattle.std.specs.declared.cmp.Ordering.{Ordering}
 use Rattle.std.specs.Ordering.{nat_cmp, is_lt, is_le, is_eq, is_gt, is_ge}
 use Rattle.std.specs.Cmp.Lexicographic.{slice_cmp}
 use Rattle.sdt_fault.specs.declared.kinds.LineKind.{LineKind}
-use Rattle.sdt_fault.specs.declared.kinds.LineKind.TheVariants.{Syntax, UnknownWord, WrongType, OutOfRange, DivideByZero, TooMany}
+use Rattle.sdt_fault.specs.declared.kinds.LineKind.TheVariants.{Syntax, UnknownWord, Forward, WrongType, OutOfRange, DivideByZero, TooMany}
 use Rattle.sdt_fault.specs.Digits.{hexadecimal_places}
 use Rattle.asm_model.specs.declared.exprs.ExprItem.{ExprItem}
 use Rattle.asm_model.specs.declared.exprs.ExprItem.TheVariants as item
@@ -22,6 +21,8 @@ use Rattle.asm_model.specs.declared.values.Value.TheVariants.{Number, Truth, Wor
 use Rattle.asm_model.specs.declared.values.EvalFault.{EvalFault}
 use Rattle.asm_model.specs.declared.values.EvalFault.TheVariants as eval
 use Rattle.asm_model.specs.declared.names.LaidName.{LaidName}
+use Rattle.asm_model.specs.declared.names.Meaning.{Meaning}
+use Rattle.asm_model.specs.declared.names.Meaning.TheVariants as means
 use Rattle.asm_model.specs.declared.names.Names.{Names}
 use Rattle.asm_model.specs.Forms.{same}
 use Rattle.asm_model.specs.declared.exprs.Part.{Part}
@@ -167,14 +168,46 @@ pub data Operand : Type 0 where
   Known : Result Value LineKind → Operand
   Unread : Option LaidName → Operand
 
+-- what a name stands for
+abbrev pub meant : List ℕ → Meaning → Result Value LineKind
+meant name means.Later = Err Forward
+meant name means.Label = Ok (Place name 0)
+meant name means.Imported = Ok (Place name 0)
+meant name means.Place = Ok (Place name 0)
+meant name (means.Known v) = Ok v
+meant name (means.Faulty k) = Err k
+meant name means.Register = Err WrongType
+
+abbrev pub entry_value : LaidName → Result Value LineKind
+entry_value n = meant n.name n.meaning
+
 -- the value of a name
 abbrev pub value_of : Option LaidName → Result Value LineKind
 value_of None = Err UnknownWord
-value_of (Some n) = Ok n.value
+value_of (Some n) = entry_value n
 
+abbrev pub known_size : Option ℕ → Result Value LineKind
+known_size None = Err Forward
+known_size (Some n) = Ok (Number n)
+
+abbrev pub size_in : Meaning → Option ℕ → Result Value LineKind
+size_in means.Later size = Err Forward
+size_in means.Register size = Err WrongType
+size_in _ size = known_size size
+
+-- the size of a name
 abbrev pub size_of : Option LaidName → Result Value LineKind
 size_of None = Err UnknownWord
-size_of (Some n) = Ok (Number n.size)
+size_of (Some n) = size_in n.meaning n.size
+
+abbrev pub is_later : Meaning → Bool
+is_later means.Later = true
+is_later _ = false
+
+-- whether a name is defined
+abbrev pub defined_of : Option LaidName → Result Value LineKind
+defined_of None = Ok (Truth false)
+defined_of (Some n) = if is_later n.meaning then Err Forward else Ok (Truth true)
 
 abbrev pub known : Operand → Result Value LineKind
 known (Known r) = r
@@ -194,7 +227,7 @@ on_both (Err k) (Err j) f = Err (earlier k j)
 -- an operator before an operand
 abbrev pub applied : UnaryOp → Operand → Result Value LineKind
 applied unary.Size (Unread n) = size_of n
-applied unary.Defined (Unread n) = Ok (Truth (is_some n))
+applied unary.Defined (Unread n) = defined_of n
 applied op x = then_of (known x) (unary_of op)
 
 -- an item that is an operand; a reference to a local label that is still one names nothing

@@ -3,16 +3,18 @@
 -- evaluating and then placing is evaluating what is placed. This project's.
 -- The law says nothing of an expression that has no value with symbols, though it may have one when placed, as a
 -- product with a label has.
-use Rattle.std.specs.Prelude.{◌≡◌, ℕ, ◌+◌, ◌%◌, ◌^◌, List, [], ◌∷◌, map, Option, Some, None, Result}
+use Rattle.std.specs.Prelude.{◌≡◌, ℕ, ◌+◌, ◌%◌, ◌^◌, List, [], ◌∷◌, map, Option, Some, None, Result, Ok, Err}
 use Rattle.sdt_fault.specs.declared.kinds.LineKind.{LineKind}
 use Rattle.asm_model.specs.declared.exprs.ExprItem.{ExprItem}
 use Rattle.asm_model.specs.declared.exprs.ExprItem.TheVariants as item
 use Rattle.asm_model.specs.declared.values.Value.{Value}
 use Rattle.asm_model.specs.declared.values.Value.TheVariants.{Number, Truth, Words, Place}
 use Rattle.asm_model.specs.declared.names.LaidName.{LaidName}
+use Rattle.asm_model.specs.declared.names.Meaning.{Meaning}
+use Rattle.asm_model.specs.declared.names.Meaning.TheVariants as means
 use Rattle.asm_model.specs.declared.names.Names.{Names}
 use Rattle.asm_model.specs.Grammar.{Tree, Leaf, Before, Between}
-use Rattle.asm_model.specs.Meaning.{named_in, stands_at, meaning}
+use Rattle.asm_model.specs.Meaning.{named_in, stands_at, entry_value, meaning}
 
 -- a base for each area, and a value for each symbol that stands in none, as an imported one
 pub record Placing : Type 0 where
@@ -39,9 +41,17 @@ placed_value p names (Words w) = Words w
 abbrev pub seen_from : Names → Option ℕ → Names
 seen_from names area = record names { area = area }
 
+-- what a name means, placed: a value that it has, and else what it means
+abbrev pub placed_in : Placing → Names → List ℕ → Meaning → Meaning
+placed_in p names name means.Label = means.Known (placed_value p names (Place name 0))
+placed_in p names name means.Imported = means.Known (placed_value p names (Place name 0))
+placed_in p names name means.Place = means.Known (placed_value p names (Place name 0))
+placed_in p names name (means.Known v) = means.Known (placed_value p names v)
+placed_in p names name m = m
+
 -- an entry, placed: an empty symbol is the start of the entry's own area
 abbrev pub placed_name : Placing → Names → LaidName → LaidName
-placed_name p names n = record n { value = placed_value p (seen_from names n.area) n.value }
+placed_name p names n = record n { meaning = placed_in p (seen_from names n.area) n.name n.meaning }
 
 abbrev pub placed_names : Placing → Names → Names
 placed_names p names = record names { list = map (placed_name p names) names.list }
@@ -74,5 +84,12 @@ HasSymbol (Number n) = Unit {0}
 HasSymbol (Truth b) = Unit {0}
 HasSymbol (Words w) = Unit {0}
 
+abbrev pub ResultHasSymbol : Result Value LineKind → Type 0
+ResultHasSymbol (Ok v) = HasSymbol v
+ResultHasSymbol (Err k) = Unit {0}
+
+abbrev pub EntryHasSymbol : LaidName → Type 0
+EntryHasSymbol n = ResultHasSymbol (entry_value n)
+
 abbrev pub HaveSymbols : Names → Type 0
-HaveSymbols names = (q : List ℕ) (n : LaidName) → named_in q names.list ≡ Some n → HasSymbol n.value
+HaveSymbols names = (q : List ℕ) (n : LaidName) → named_in q names.list ≡ Some n → EntryHasSymbol n

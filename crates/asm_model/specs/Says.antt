@@ -221,6 +221,12 @@ abbrev pub directive_of : List ℕ → Option Token → Option Directive
 directive_of text None = None
 directive_of text (Some t) = directive_named (piece text t)
 
+-- why a token names no operation: only a word can be one
+abbrev pub unnamed : TokenKind → LineKind
+unnamed kind.Name = UnknownWord
+unnamed kind.Barred = UnknownWord
+unnamed _ = Syntax
+
 -- a statement of the line
 abbrev pub statement_of : Flat → Option (List ℕ) → DirectiveLine → Option Statement
 statement_of flat label l =

@@ -11,7 +11,7 @@ use Rattle.asm_model.specs.LayoutKinds.{equals_in, settled, first_fault}
 
 -- no line of the source has a fault that is told at it
 abbrev pub IsSound : List Statement → Type 0
-IsSound statements = first_fault (settled (equals_in statements)) (laid statements) ≡ None
+IsSound statements = first_fault (settled (equals_in statements)) statements (laid statements) ≡ None
 
 abbrev pub IsNoPlace : Value → Type 0
 IsNoPlace (Place s n) = ⊥

@@ -2,7 +2,7 @@
 -- symbol relocation needs, in order of the first line that so names them; a literal's name counts for the line of its
 -- LDR. A word needs a symbol that stands in no area of the source. A branch of ARM state, and BL in Thumb state, needs one
 -- that isn't a label of the same area and state, or another place of the area. ARM Object Format, symbols; the order is this project's.
-use Rattle.std.specs.Prelude.{ℕ, List, [], ◌∷◌, ◌++◌, ◌==◌, ◌&&◌, ◌||◌, not, Bool, false, if◌then◌else◌, Option, Some, None, Result, Ok}
+use Rattle.std.specs.Prelude.{ℕ, List, [], ◌∷◌, ◌++◌, ◌==◌, ◌&&◌, ◌||◌, not, Bool, true, false, if◌then◌else◌, Option, Some, None, Result, Ok}
 use Rattle.sdt_fault.specs.declared.kinds.LineKind.{LineKind}
 use Rattle.asm_model.specs.declared.exprs.Expr.{Expr}
 use Rattle.asm_model.specs.declared.exprs.ExprItem.TheVariants as item
@@ -10,6 +10,8 @@ use Rattle.asm_model.specs.declared.exprs.BinaryOp.TheVariants.{Add}
 use Rattle.asm_model.specs.declared.values.Value.{Value}
 use Rattle.asm_model.specs.declared.values.Value.TheVariants.{Number, Place}
 use Rattle.asm_model.specs.declared.names.LaidName.{LaidName}
+use Rattle.asm_model.specs.declared.names.Meaning.{Meaning}
+use Rattle.asm_model.specs.declared.names.Meaning.TheVariants as means
 use Rattle.asm_model.specs.declared.names.Names.{Names}
 use Rattle.asm_model.specs.declared.arm_lines.ArmLine.{ArmLine}
 use Rattle.asm_model.specs.declared.arm_lines.ArmLine.TheVariants as arm
@@ -49,10 +51,14 @@ words_symbols names l (e ∷ es) = word_symbols (with_names l names) (final_valu
 abbrev pub same_state : Bool → Bool → Bool
 same_state a b = if a then b else not b
 
+abbrev pub is_place : Meaning → Bool
+is_place means.Place = true
+is_place _ = false
+
 -- whether a branch of a state needs no symbol for the state of what a name is: a label of that state, or no label
 abbrev pub keeps_state : Bool → Option LaidName → Bool
 keeps_state thumb None = same_state thumb false
-keeps_state thumb (Some n) = n.place || same_state thumb n.thumb
+keeps_state thumb (Some n) = is_place n.meaning || same_state thumb n.thumb
 
 -- whether a place is of the area
 abbrev pub is_in_area : Option ℕ → Option (ℕ × ℕ) → Bool

@@ -1,6 +1,5 @@
 //! Laws of the definitions, each proved as the contract of an empty function.
 
-ghost use Rattle.asm_model.specs.AtLine.{ToldAtLine};
 ghost use Rattle.asm_model.specs.FaultSets.{ToldOfAll, ToldOfDirectives, ToldOfValues};
 
 /// The kind that is told of a list of kinds is the first of its set.
@@ -16,9 +15,4 @@ pub fn told_of_values()
 /// The fault of a line that is read as a directive is the first of its kinds.
 pub fn told_of_directives()
     ensures { ToldOfDirectives }
-{}
-
-/// The fault of a value at its line is the first of the expression's kinds there.
-pub fn told_at_line()
-    ensures { ToldAtLine }
 {}

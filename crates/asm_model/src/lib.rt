@@ -26,7 +26,7 @@ pub use crate::directives::{
 pub use crate::exprs::{BinaryOp, Expr, ExprItem, Part, UnaryOp};
 pub use crate::faults::bad_line;
 pub use crate::lines::{Flat, Line};
-pub use crate::names::{LaidName, Names};
+pub use crate::names::{LaidName, Meaning, Names};
 pub use crate::operands::{
     Address, BlockMode, HalfOffset, Indexing, ListItem, LiteralAddress, Register, RegisterList,
     Shift, ThumbOperand,

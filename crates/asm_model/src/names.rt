@@ -1,23 +1,41 @@
 //! What an expression is evaluated with.
 
 use crate::values::Value;
+use sdt_fault::kinds::LineKind;
 use sdt_fault::{List, Text};
+
+/// What a name means.
+#[derive(Debug, Drop)]
+pub enum Meaning {
+    /// The source defines the name, and a line doesn't know yet what it means.
+    Later,
+    /// A label: itself, in its area.
+    Label,
+    /// An imported name: itself.
+    Imported,
+    /// A place that an EQU names, and no label: itself, in its area. A branch to it keeps its state.
+    Place,
+    /// A value.
+    Known(Value),
+    /// An expression without a value, with the kind of its fault.
+    Faulty(LineKind),
+    /// A register.
+    Register,
+}
 
 /// A name that a source defines or imports.
 #[derive(Debug, Drop)]
 pub struct LaidName {
     pub name: Text,
-    pub value: Value,
-    /// The area of a label, counted from 0.
+    pub meaning: Meaning,
+    /// The area of a label or a place, counted from 0.
     pub area: Option<u32>,
-    /// The label's offset in its area.
+    /// Its offset in the area.
     pub offset: u32,
-    /// The number of bytes of the statement that defines the name.
-    pub size: u32,
+    /// The number of bytes of the statement that defines the name, where it is known.
+    pub size: Option<u32>,
     /// Whether it is a label of Thumb code.
     pub thumb: bool,
-    /// Whether it is a place that an EQU names, and no label: a branch to it keeps its state.
-    pub place: bool,
 }
 
 /// The names, and the place, the storage map and the state of a statement.

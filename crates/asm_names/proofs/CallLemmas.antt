@@ -1,6 +1,6 @@
 -- What the calls of the search need: expressions at their numbers, and the bounds of numbers.
 use Rattle.std.proofs.Common.{◌≡◌, ◌≢◌, ℕ, zero, suc, ◌+◌, ◌-◌, ◌<◌, ◌≤◌, Bool, true, false, cond, true≢false, ◌||◌, ◌==◌, length, List, [], ◌∷◌, ◌++◌, drop, map, get_or, Option, Some, None, Result, Ok, Err, refl, sym, ap, ◌∙◌, subst, arith, append_assoc}
-use Rattle.std.specs.Prelude.{slice_get, OnOk}
+use Rattle.std.specs.Prelude.{slice_get, OnOk, IfOk}
 use Rattle.std.specs.Option.{option_map, option_or}
 use Rattle.std.proofs.lemmas.Bool.{eqb-true, eq-eqb}
 use Rattle.std.proofs.lemmas.List.Sums.{sum_by-cons}
@@ -84,6 +84,10 @@ unknown_below m known n i (x ∷ xs) u w h = by (unknown_in m known x) refl (λ 
 pub ok_more : {E : Type 0} (r : Result (Unit {0}) E) (P Q : Type 0) → (P → Q) → OnOk r P → OnOk r Q
 ok_more (Ok x) P Q f p = f p
 ok_more (Err e) P Q f p = tt
+
+pub if_ok_more : {X E : Type 0} → (P Q : X → Type 0) → ((x : X) → P x → Q x) → (r : Result X E) → IfOk r P → IfOk r Q
+if_ok_more P Q f (Ok x) h = f x h
+if_ok_more P Q f (Err e) h = tt
 
 got_in : (is : List ℕ) (j i : ℕ) → slice_get is j ≡ Some i → is_in i is ≡ true
 got_in [] j i h = absurd (cc)

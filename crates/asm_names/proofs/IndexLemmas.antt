@@ -1,11 +1,10 @@
 -- The first expression of each name.
 use Rattle.std.proofs.Common.{◌≡◌, ℕ, zero, suc, ◌+◌, Bool, true, false, cond, true≢false, ◌||◌, length, List, [], ◌∷◌, Some, None, refl, sym, ap, ◌∙◌, arith}
-use Rattle.std.specs.Prelude.{slice_get, is_some}
-use Rattle.std.specs.Ordering.{nat_cmp}
-use Rattle.std.specs.Cmp.Lexicographic.{slice_cmp}
-use Rattle.std.specs.BTreeMap.{UpdatesBy}
+use Rattle.std.specs.Prelude.{nat_eq, slice_get, is_some}
+use Rattle.std.specs.Borrow.{Bor}
+use Rattle.std.specs.Cmp.Lexicographic.{pointwise}
 use Rattle.std.specs.List.{list_any}
-use Rattle.std.proofs.lemmas.Map.Text.{is_eq-slice_cmp}
+use Rattle.indexmap.specs.IndexMap.{Updates}
 use Rattle.std.proofs.lemmas.Option.{slice_get_within}
 use Rattle.asm_model.specs.declared.exprs.Expr.{Expr}
 use Rattle.asm_model.specs.Forms.{same}
@@ -13,9 +12,10 @@ use Rattle.asm_model.proofs.WordLemmas.{same_refl, same_true}
 use Rattle.asm_names.specs.Index.{Numbers, number_in, first_from, IsIndexOf, IsWithin}
 use Rattle.asm_model.proofs.SharedLemmas.{tests}
 
-pub put_is : (m n : Numbers) (name : List ℕ) (k : ℕ) → UpdatesBy (slice_cmp nat_cmp) (slice_cmp nat_cmp name) m n (Some k)
-    → (q : List ℕ) → number_in n q ≡ cond (same q name) (Some k) (number_in m q)
-put_is m n name k updates q = updates.0 q ∙ rw (is_eq-slice_cmp name q, tests name q) refl
+pub put_is : (m n : Numbers) (name : Bor (List ℕ)) (k : ℕ) → Updates (λ a b. pointwise nat_eq a.now b.now) m n name (Some k)
+    → (q : List ℕ) → number_in n q ≡ cond (same q name.now) (Some k) (number_in m q)
+put_is m n name k updates q =
+    updates.0 (record { ref_ptr = (0, 0); now = q }) ∙ ap (λ (b : Bool). cond b (Some k) (number_in m q)) (tests name.now q)
 
 -- ---- what has a number
 

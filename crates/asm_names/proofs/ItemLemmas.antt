@@ -1,5 +1,6 @@
--- Items of a tree, each operator behind its operands: the faults of their names, and names that stay names.
+-- Items of a tree, each operator behind its operands, in which names stay names.
 use Rattle.std.proofs.Common.{◌≡◌, ℕ, suc, List, [], ◌∷◌, ◌++◌, Bool, true, false, cond, refl, sym, ◌∙◌, ap, append_assoc, append-nil, Option, Some, None}
+use Rattle.std.specs.Prelude.{Result, Ok, Err}
 use Rattle.sdt_fault.specs.declared.kinds.LineKind.{LineKind}
 use Rattle.asm_model.specs.declared.exprs.ExprItem.{ExprItem}
 use Rattle.asm_model.specs.declared.exprs.ExprItem.TheVariants as item
@@ -7,11 +8,16 @@ use Rattle.asm_model.specs.declared.exprs.Part.{Part}
 use Rattle.asm_model.specs.declared.exprs.Part.TheVariants as part
 use Rattle.asm_model.specs.declared.exprs.UnaryOp.{UnaryOp}
 use Rattle.asm_model.specs.declared.exprs.UnaryOp.TheVariants as unary
+use Rattle.asm_model.specs.declared.values.Value.{Value}
 use Rattle.asm_model.specs.declared.values.Value.TheVariants.{Place}
-use Rattle.asm_model.specs.AtLine.{Sight, is_in, item_kinds, asked_kinds, name_kinds, kept_name, kept_names}
+use Rattle.asm_model.specs.declared.names.LaidName.{LaidName}
+use Rattle.asm_model.specs.declared.names.Names.{Names}
+use Rattle.asm_model.specs.AtLine.{is_value, has_value, kept_name, kept_names}
 use Rattle.asm_model.specs.Grammar.{Tree, Leaf, Before, Between, postfix, plain, Spells, operand, of_name, before, grouped, between, tighter, IsSpelled}
-use Rattle.asm_names.specs.Steps.{operator_first, name_asked, item_asked, items_kinds, kept_before, kept_items}
-use Rattle.asm_model.proofs.LateLemmas.{plain_operand}
+use Rattle.asm_model.specs.Meaning.{named_in, Known, value_of, unary_of, binary, known, then_of, on_both, applied, operand_of_item, meaning}
+use Rattle.asm_names.specs.Steps.{operator_first, kept_before, kept_items}
+use Rattle.asm_model.proofs.LineLemmas.{applied_known}
+use Rattle.asm_model.proofs.TreeLemmas.{plain_operand}
 
 -- ---- operands
 
@@ -50,88 +56,31 @@ tree_first (Between op t u) p rest =
     ap operator_first (append_assoc (postfix t ++ postfix u) (item.Binary op ∷ []) rest ∙ append_assoc (postfix t) (postfix u) (item.Binary op ∷ rest))
     ∙ tree_first t p.0 (postfix u ++ item.Binary op ∷ rest)
 
--- ---- faults of names
-
-asked_alone : (s : Sight) (i : ExprItem) → item_asked s None i ≡ item_kinds s i
-asked_alone s (item.Name q) = refl
-asked_alone s (item.Local q) = refl
-asked_alone s (item.Constant v) = refl
-asked_alone s item.Here = refl
-asked_alone s item.Map = refl
-asked_alone s item.CodeSize = refl
-asked_alone s (item.Unary op) = refl
-asked_alone s (item.Binary op) = refl
-
-asked_name : (s : Sight) (op : UnaryOp) (q : List ℕ) → name_asked s (Some op) q ≡ asked_kinds s op (item.Name q)
-asked_name s unary.Size q = refl
-asked_name s unary.Defined q = refl
-asked_name s op q = refl
-
-asked_other : (s : Sight) (op : UnaryOp) (i : ExprItem) → item_asked s (Some op) i ≡ asked_kinds s op i
-asked_other s op (item.Name q) = asked_name s op q
-asked_other s unary.Size i = refl
-asked_other s unary.Defined i = refl
-asked_other s op i = refl
-
--- the faults of a tree's names, before these items
-abbrev tree_kinds : Sight → Tree → List ExprItem → List LineKind
-tree_kinds s (Leaf i) rest = item_asked s (operator_first rest) i
-tree_kinds s t rest = name_kinds s t
-
-kinds_alone : (s : Sight) (t : Tree) (rest : List ExprItem) → operator_first rest ≡ None → tree_kinds s t rest ≡ name_kinds s t
-kinds_alone s (Leaf i) rest h = ap (λ o. item_asked s o i) h ∙ asked_alone s i
-kinds_alone s (Before op t) rest h = refl
-kinds_alone s (Between op t u) rest h = refl
-
-kinds_before : (s : Sight) (op : UnaryOp) (t : Tree) (rest : List ExprItem) → tree_kinds s t (item.Unary op ∷ rest) ≡ name_kinds s (Before op t)
-kinds_before s op (Leaf i) rest = asked_other s op i
-kinds_before s op (Before o t) rest = refl
-kinds_before s op (Between o t u) rest = refl
-
-kinds_pass : (s : Sight) (t : Tree) → IsPlain t → (rest : List ExprItem)
-    → items_kinds s (postfix t ++ rest) ≡ tree_kinds s t rest ++ items_kinds s rest
-kinds_pass s (Leaf i) p rest = refl
-kinds_pass s (Before op t) p rest =
-    ap (items_kinds s) (append_assoc (postfix t) (item.Unary op ∷ []) rest)
-    ∙ kinds_pass s t p (item.Unary op ∷ rest)
-    ∙ ap (λ z. z ++ items_kinds s rest) (kinds_before s op t rest)
-kinds_pass s (Between op t u) p rest =
-    ap (items_kinds s) (append_assoc (postfix t ++ postfix u) (item.Binary op ∷ []) rest ∙ append_assoc (postfix t) (postfix u) (item.Binary op ∷ rest))
-    ∙ kinds_pass s t p.0 (postfix u ++ item.Binary op ∷ rest)
-    ∙ ap (λ z. z ++ items_kinds s (postfix u ++ item.Binary op ∷ rest)) (kinds_alone s t (postfix u ++ item.Binary op ∷ rest) (tree_first u p.1 (item.Binary op ∷ rest)))
-    ∙ ap (λ z. name_kinds s t ++ z) (kinds_pass s u p.1 (item.Binary op ∷ rest) ∙ ap (λ z. z ++ items_kinds s rest) (kinds_alone s u (item.Binary op ∷ rest) refl))
-    ∙ sym (append_assoc (name_kinds s t) (name_kinds s u) (items_kinds s rest))
-
-pub kinds_of_tree : (s : Sight) (ps : List Part) (t : Tree) → IsSpelled ps t → items_kinds s (postfix t) ≡ name_kinds s t
-kinds_of_tree s ps t d =
-    ap (items_kinds s) (sym (append-nil (postfix t))) ∙ kinds_pass s t (spelled_plain 6 ps t d) []
-    ∙ append-nil (tree_kinds s t []) ∙ kinds_alone s t [] refl
-
 -- ---- names that stay names
 
-kept_operator : (s : Sight) (o : Option UnaryOp) (op : UnaryOp) → kept_before s o (item.Unary op) ≡ item.Unary op
+kept_operator : (s : Names) (o : Option UnaryOp) (op : UnaryOp) → kept_before s o (item.Unary op) ≡ item.Unary op
 kept_operator s None op = refl
 kept_operator s (Some unary.Size) op = refl
 kept_operator s (Some unary.Defined) op = refl
 kept_operator s (Some o) op = refl
 
-kept_binary : (s : Sight) (o : Option UnaryOp) (i : ExprItem) → kept_name s i ≡ i → kept_before s o i ≡ i
+kept_binary : (s : Names) (o : Option UnaryOp) (i : ExprItem) → kept_name s i ≡ i → kept_before s o i ≡ i
 kept_binary s None i h = h
 kept_binary s (Some unary.Size) i h = refl
 kept_binary s (Some unary.Defined) i h = refl
 kept_binary s (Some o) i h = h
 
 -- the items of a tree, before these items
-abbrev tree_kept : Sight → Tree → List ExprItem → List ExprItem
+abbrev tree_kept : Names → Tree → List ExprItem → List ExprItem
 tree_kept s (Leaf i) rest = kept_before s (operator_first rest) i ∷ []
 tree_kept s t rest = postfix (kept_names s t)
 
-kept_whole : (s : Sight) (t : Tree) (rest : List ExprItem) → operator_first rest ≡ None → tree_kept s t rest ≡ postfix (kept_names s t)
+kept_whole : (s : Names) (t : Tree) (rest : List ExprItem) → operator_first rest ≡ None → tree_kept s t rest ≡ postfix (kept_names s t)
 kept_whole s (Leaf i) rest h = ap (λ o. kept_before s o i ∷ []) h
 kept_whole s (Before op t) rest h = refl
 kept_whole s (Between op t u) rest h = refl
 
-kept_under : (s : Sight) (op : UnaryOp) (t : Tree) (rest : List ExprItem)
+kept_under : (s : Names) (op : UnaryOp) (t : Tree) (rest : List ExprItem)
     → tree_kept s t (item.Unary op ∷ rest) ++ item.Unary op ∷ [] ≡ postfix (kept_names s (Before op t))
 kept_under s unary.Size (Leaf i) rest = refl
 kept_under s unary.Defined (Leaf i) rest = refl
@@ -143,7 +92,7 @@ kept_under s unary.Defined (Between o t u) rest = refl
 kept_under s op (Before o t) rest = refl
 kept_under s op (Between o t u) rest = refl
 
-kept_pass : (s : Sight) (t : Tree) → IsPlain t → (rest : List ExprItem)
+kept_pass : (s : Names) (t : Tree) → IsPlain t → (rest : List ExprItem)
     → kept_items s (postfix t ++ rest) ≡ tree_kept s t rest ++ kept_items s rest
 kept_pass s (Leaf i) p rest = refl
 kept_pass s (Before op t) p rest =
@@ -163,10 +112,60 @@ kept_pass s (Between op t u) p rest =
     ∙ sym (append_assoc (postfix (kept_names s t)) (postfix (kept_names s u)) (item.Binary op ∷ kept_items s rest))
     ∙ sym (append_assoc (postfix (kept_names s t) ++ postfix (kept_names s u)) (item.Binary op ∷ []) (kept_items s rest))
 
-pub kept_of_tree : (s : Sight) (ps : List Part) (t : Tree) → IsSpelled ps t → kept_items s (postfix t) ≡ postfix (kept_names s t)
+pub kept_of_tree : (s : Names) (ps : List Part) (t : Tree) → IsSpelled ps t → kept_items s (postfix t) ≡ postfix (kept_names s t)
 kept_of_tree s ps t d =
     ap (kept_items s) (sym (append-nil (postfix t))) ∙ kept_pass s t (spelled_plain 6 ps t d) []
     ∙ append-nil (tree_kept s t []) ∙ kept_whole s t [] refl
+
+-- ---- names with values
+
+kept_known : (s : Names) (i : ExprItem) (v : Value) → known (operand_of_item s i) ≡ Ok v → kept_name s i ≡ i
+kept_known s (item.Name q) v h = by_entry (named_in q s.list) h
+  where
+    by_entry : (o : Option LaidName) → value_of o ≡ Ok v → cond (has_value o) (item.Name q) (item.Constant (Place q 0)) ≡ item.Name q
+    by_entry None k = absurd (cc)
+    by_entry (Some n) k = ap (λ r. cond (is_value r) (item.Name q) (item.Constant (Place q 0))) k
+kept_known s i v h = refl
+
+then_known : (x : Result Value LineKind) (f : Value → Result Value LineKind) (v : Value) → then_of x f ≡ Ok v → (w : Value) × (x ≡ Ok w)
+then_known (Ok w) f v h = (w, refl)
+then_known (Err k) f v h = absurd (cc)
+
+before_known : (op : UnaryOp) (x : Result Value LineKind) (v : Value) → applied op (Known x) ≡ Ok v → (w : Value) × (x ≡ Ok w)
+before_known op x v h = then_known x (unary_of op) v (sym (applied_known op x) ∙ h)
+
+both_known : (x y : Result Value LineKind) (f : Value → Value → Result Value LineKind) (v : Value) → on_both x y f ≡ Ok v
+    → (a : Value) × (b : Value) × (x ≡ Ok a) × (y ≡ Ok b)
+both_known (Ok a) (Ok b) f v h = (a, b, refl, refl)
+both_known (Ok a) (Err j) f v h = absurd (cc)
+both_known (Err k) (Ok b) f v h = absurd (cc)
+both_known (Err k) (Err j) f v h = absurd (cc)
+
+kept_below : (s : Names) (op : UnaryOp) (t : Tree) → kept_names s t ≡ t → kept_names s (Before op t) ≡ Before op t
+kept_below s unary.Size (Leaf i) h = refl
+kept_below s unary.Defined (Leaf i) h = refl
+kept_below s op (Leaf i) h = ap (Before op) h
+kept_below s unary.Size (Before o t) h = ap (Before unary.Size) h
+kept_below s unary.Size (Between o t u) h = ap (Before unary.Size) h
+kept_below s unary.Defined (Before o t) h = ap (Before unary.Defined) h
+kept_below s unary.Defined (Between o t u) h = ap (Before unary.Defined) h
+kept_below s op (Before o t) h = ap (Before op) h
+kept_below s op (Between o t u) h = ap (Before op) h
+
+-- a tree with a value stays what it is
+pub kept_same : (s : Names) (t : Tree) (v : Value) → meaning s t ≡ Ok v → kept_names s t ≡ t
+kept_same s (Leaf i) v h = ap Leaf (kept_known s i v h)
+kept_same s (Before unary.Size (Leaf i)) v h = refl
+kept_same s (Before unary.Defined (Leaf i)) v h = refl
+kept_same s (Before op (Leaf i)) v h =
+    let x = then_known (known (operand_of_item s i)) (unary_of op) v h in ap (λ (x : ExprItem). Before op (Leaf x)) (kept_known s i x.0 x.1)
+kept_same s (Before op (Before o t)) v h =
+    let x = before_known op (meaning s (Before o t)) v h in kept_below s op (Before o t) (kept_same s (Before o t) x.0 x.1)
+kept_same s (Before op (Between o t u)) v h =
+    let x = before_known op (meaning s (Between o t u)) v h in kept_below s op (Between o t u) (kept_same s (Between o t u) x.0 x.1)
+kept_same s (Between op t u) v h =
+    let x = both_known (meaning s t) (meaning s u) (binary s op) v h in
+    λ i. Between op (kept_same s t x.0 x.2 i) (kept_same s u x.1 x.3 i)
 
 -- ---- a tree in which names stay names is spelled by other parts
 
@@ -176,8 +175,8 @@ SpelledAt l t = (ps : List Part) × Spells l ps t
 respell_leaf : (i : ExprItem) → plain i ≡ Some i → SpelledAt 0 (Leaf i)
 respell_leaf i h = (part.Operand i ∷ [], operand (part.Operand i) i h)
 
-kept_plain : (s : Sight) (i : ExprItem) → plain i ≡ Some i → plain (kept_name s i) ≡ Some (kept_name s i)
-kept_plain s (item.Name q) h = by_test (is_in s.known.list q)
+kept_plain : (s : Names) (i : ExprItem) → plain i ≡ Some i → plain (kept_name s i) ≡ Some (kept_name s i)
+kept_plain s (item.Name q) h = by_test (has_value (named_in q s.list))
   where
     by_test : (b : Bool) → plain (cond b (item.Name q) (item.Constant (Place q 0))) ≡ Some (cond b (item.Name q) (item.Constant (Place q 0)))
     by_test true = refl
@@ -193,7 +192,7 @@ kept_plain s (item.Binary op) h = absurd (cc)
 respell_before : (op : UnaryOp) (t : Tree) → SpelledAt 0 t → SpelledAt 0 (Before op t)
 respell_before op t d = (part.Prefix op ∷ d.0, before (part.Prefix op) op d.0 t refl d.1)
 
-respell_kept : (s : Sight) (op : UnaryOp) (t : Tree) → IsPlain t → SpelledAt 0 (kept_names s t) → SpelledAt 0 (kept_names s (Before op t))
+respell_kept : (s : Names) (op : UnaryOp) (t : Tree) → IsPlain t → SpelledAt 0 (kept_names s t) → SpelledAt 0 (kept_names s (Before op t))
 respell_kept s unary.Size (Leaf i) p d = respell_before unary.Size (Leaf i) (respell_leaf i p)
 respell_kept s unary.Defined (Leaf i) p d = respell_before unary.Defined (Leaf i) (respell_leaf i p)
 respell_kept s op (Leaf i) p d = respell_before op (kept_names s (Leaf i)) d
@@ -204,7 +203,7 @@ respell_kept s unary.Defined (Between o t u) p d = respell_before unary.Defined 
 respell_kept s op (Before o t) p d = respell_before op (kept_names s (Before o t)) d
 respell_kept s op (Between o t u) p d = respell_before op (kept_names s (Between o t u)) d
 
-respell : (s : Sight) (l : ℕ) (ps : List Part) (t : Tree) → Spells l ps t → SpelledAt l (kept_names s t)
+respell : (s : Names) (l : ℕ) (ps : List Part) (t : Tree) → Spells l ps t → SpelledAt l (kept_names s t)
 respell s l ps t (operand p i e) = respell_leaf (kept_name s i) (kept_plain s i (plain_operand p i e))
 respell s l ps t (of_name op q) = respell_kept s op (Leaf (item.Name q)) refl (respell_leaf (kept_name s (item.Name q)) (kept_plain s (item.Name q) refl))
 respell s l ps t (before p op qs u e d) = respell_kept s op u (spelled_plain 0 qs u d) (respell s 0 qs u d)
@@ -219,5 +218,5 @@ respell s l ps t (tighter k qs u d) =
     let r = respell s k qs u d in
     (r.0, tighter k r.0 (kept_names s u) r.1)
 
-pub kept_spelled : (s : Sight) (ps : List Part) (t : Tree) → IsSpelled ps t → (qs : List Part) × IsSpelled qs (kept_names s t)
+pub kept_spelled : (s : Names) (ps : List Part) (t : Tree) → IsSpelled ps t → (qs : List Part) × IsSpelled qs (kept_names s t)
 kept_spelled s ps t d = respell s 6 ps t d

@@ -1,9 +1,5 @@
-pub mod AgreeLemmas
 pub mod EntryLemmas
 pub mod ItemLemmas
-pub mod KnownLemmas
-pub mod PlaceLemmas
-pub mod ToldLemmas
 pub mod ValueLemmas
 pub mod CallLemmas
 pub mod IndexLemmas
@@ -12,7 +8,6 @@ pub mod LookLemmas
 pub mod OrderLemmas
 pub mod SearchLemmas
 pub mod SettledLemmas
-pub mod LineLemmas
 mod MatchLemmas
 mod OnceLemmas
 mod SettleLemmas

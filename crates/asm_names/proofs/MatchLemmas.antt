@@ -6,24 +6,23 @@ use Rattle.asm_model.specs.declared.exprs.Expr.{Expr}
 use Rattle.asm_model.specs.declared.exprs.Part.{Part}
 use Rattle.asm_model.specs.declared.names.LaidName.{LaidName}
 use Rattle.asm_model.specs.declared.statements.Statement.{Statement}
-use Rattle.asm_model.specs.AtLine.{Nameless, SourceLine, HoldsEach, with_names, made_name}
+use Rattle.asm_model.specs.AtLine.{Nameless, SourceLine, HoldsEach, with_names}
 use Rattle.asm_model.specs.Directives.{or_else}
 use Rattle.asm_model.specs.Forms.{same}
 use Rattle.asm_model.specs.Grammar.{Tree, postfix, IsSpelled}
-use Rattle.asm_model.specs.Meaning.{named_in, meaning}
+use Rattle.asm_model.specs.Meaning.{named_in, entry_value, meaning}
 use Rattle.asm_model.proofs.LineLemmas.{each_append}
 use Rattle.asm_model.specs.Before.{is_thumb_label}
 use Rattle.asm_model.specs.Entries.{equal_entry}
 use Rattle.asm_model.specs.Labels.{Defined, Unnamed, Label, Equal, MapField, RegisterName, defined_by, imported_in, imported_entries}
 use Rattle.asm_model.specs.Laid.{LaidLine, statements_of, tree_equated, definition_of, imported_lines, laid_behind, laid_of, entries_with, all_entries}
-use Rattle.asm_model.specs.LayoutKinds.{equal_of, equals_in}
 use Rattle.asm_model.specs.Trees.{tree_of}
 use Rattle.asm_model.proofs.TreeLemmas.{trees_read_back}
 use Rattle.asm_model.specs.Sound.{HaveNoPlaces, ArePlain, IsPlain}
-use Rattle.layout_laws.proofs.EqualLemmas.{own_place}
+use Rattle.layout_laws.proofs.EqualLemmas.{equal_of, all_equals, own_place}
 use Rattle.layout_laws.proofs.FinalLemmas.{each_split}
 use Rattle.layout_laws.proofs.NamedLemmas.{sofar, own_of, imports_of, with_statement, definition_most, most_lacks}
-use Rattle.layout_laws.proofs.RoundLemmas.{SymbolIs, named_joined}
+use Rattle.layout_laws.proofs.RoundLemmas.{ResultIs, named_joined}
 use Rattle.layout_laws.proofs.SoundLemmas.{any_parts}
 use Rattle.asm_names.specs.Steps.{one_entry}
 use Rattle.asm_names.specs.declared.lines.PlacedLine.{PlacedLine}
@@ -36,7 +35,7 @@ use Rattle.base_lemmas.proofs.BaseLemmas.{all_append}
 
 -- what it defines, by the line's own fields
 abbrev made_of : List LaidName → List LaidName → PlacedLine → Defined → List LaidName
-made_of N names x y = entries_with N (line_of x) (definition_of names y x.area x.offset x.size x.thumb_label x.map)
+made_of N names x y = entries_with N (line_of x) (definition_of names y x.area x.offset (Some x.size) x.thumb_label x.map)
 
 made_own : (N : List LaidName) (d : List LaidName) (s : Statement) (ss : List Statement) (x : PlacedLine)
     → IsLine x (laid_behind d s (laid_of d ss)) (laid_of d ss) → made_of N d x (defined_by s) ≡ own_of N d s ss
@@ -45,7 +44,7 @@ made_own N d s ss x is =
     let l = laid_behind d s before in
     let make = λ (area : Option ℕ) (offset size : ℕ) (thumb label : Bool) (m : ℕ).
     entries_with N (record { area = area; offset = offset; map = m; thumb = thumb; definition = Nameless })
-    (definition_of d (defined_by s) area offset size label m) in
+    (definition_of d (defined_by s) area offset (Some size) label m) in
     ap (λ a. make a x.offset x.size x.thumb x.thumb_label x.map) is.area
     ∙ ap (λ o. make l.area o x.size x.thumb x.thumb_label x.map) is.offset
     ∙ ap (λ n. make l.area l.offset n x.thumb x.thumb_label x.map) is.size
@@ -68,7 +67,7 @@ own_lacking N names x q Unnamed h = refl
 own_lacking N names x q (Label name) h = refl
 own_lacking N names x q (Equal name e) h =
     sym (most_lacks q (name ∷ []) (made_of N names x (Equal name e))
-    (definition_most N (line_of x) names (Equal name e) x.area x.offset x.size x.thumb_label x.map) h)
+    (definition_most N (line_of x) names (Equal name e) x.area x.offset (Some x.size) x.thumb_label x.map) h)
 own_lacking N names x q (MapField name) h = refl
 own_lacking N names x q (RegisterName name r) h = refl
 
@@ -78,12 +77,12 @@ own_held M N names x Unnamed h = tt
 own_held M N names x (Label name) h = h
 own_held M N names x (Equal name e) h = tt
 own_held M N names x (MapField name) h = h
-own_held M N names x (RegisterName name r) h = tt
+own_held M N names x (RegisterName name r) h = h
 
 -- an entry is its own symbol, or has none
 abbrev pub EachOwn : List LaidName → Type 0
 EachOwn [] = Unit {0}
-EachOwn (n ∷ ns) = SymbolIs (λ s. s ≡ n.name) n.value × EachOwn ns
+EachOwn (n ∷ ns) = ResultIs (λ s. s ≡ n.name) (entry_value n) × EachOwn ns
 
 own_joined : (ns ms : List LaidName) → EachOwn ns → EachOwn ms → EachOwn (ns ++ ms)
 own_joined [] ms h k = k
@@ -94,7 +93,7 @@ own_symbols x Unnamed = tt
 own_symbols x (Label name) = (own_place name, tt)
 own_symbols x (Equal name e) = tt
 own_symbols x (MapField name) = (tt, tt)
-own_symbols x (RegisterName name r) = tt
+own_symbols x (RegisterName name r) = (tt, tt)
 
 import_symbols : (o : Option (List ℕ)) → EachOwn (imported_entries o)
 import_symbols None = tt
@@ -135,13 +134,13 @@ lines_same known N d (s ∷ ss) xs h found =
 
 -- names that aren't for expressions have them from the start
 pub lines_lacking : (N : List LaidName) (d : List LaidName) (q : List ℕ) (ss : List Statement) (xs : List PlacedLine)
-    → AreEach (laid_of d ss) xs → list_any (λ (e : List ℕ × Expr). same q e.0) (equals_in ss) ≡ false
+    → AreEach (laid_of d ss) xs → list_any (λ (e : List ℕ × Expr). same q e.0) (all_equals ss) ≡ false
     → named_in q (flat_map (line_entries []) xs) ≡ named_in q (sofar N d ss)
 lines_lacking N d q [] xs h free = ap (λ z. named_in q (flat_map (line_entries []) z)) h
 lines_lacking N d q (s ∷ ss) xs h free =
     let front = h.0 in
     let x = h.1 in
-    let p = any_parts (λ (e : List ℕ × Expr). same q e.0) (equals_in ss) (equal_of (defined_by s)) free in
+    let p = any_parts (λ (e : List ℕ × Expr). same q e.0) (all_equals ss) (equal_of (defined_by s)) free in
     let first = flat_map (line_entries []) front in
     let own = own_entries [] x (defined_by s) in
     let imports = imported_entries (imported_in s.what) in
@@ -197,7 +196,7 @@ pairs_of_line x (Equal name e) = refl
 pairs_of_line x (MapField name) = refl
 pairs_of_line x (RegisterName name r) = refl
 
-pub owed_pairs : (d : List LaidName) (ss : List Statement) (xs : List PlacedLine) → AreEach (laid_of d ss) xs → map equal_pair (flat_map owed_in xs) ≡ equals_in ss
+pub owed_pairs : (d : List LaidName) (ss : List Statement) (xs : List PlacedLine) → AreEach (laid_of d ss) xs → map equal_pair (flat_map owed_in xs) ≡ all_equals ss
 owed_pairs d [] xs h = ap (λ z. map equal_pair (flat_map owed_in z)) h
 owed_pairs d (s ∷ ss) xs h =
     let front = h.0 in
@@ -205,7 +204,7 @@ owed_pairs d (s ∷ ss) xs h =
     ap (map equal_pair) (owed_more xs front x s h.2 h.3.statement)
     ∙ map-append equal_pair (flat_map owed_in front) (owed_by x (defined_by s))
     ∙ ap (λ z. z ++ map equal_pair (owed_by x (defined_by s))) (owed_pairs d ss front h.4)
-    ∙ ap (λ z. equals_in ss ++ z) (pairs_of_line x (defined_by s))
+    ∙ ap (λ z. all_equals ss ++ z) (pairs_of_line x (defined_by s))
 
 -- what is known of a name for an expression
 pub record Fits (N names : List LaidName) (o : Owed) : Type 0 where
@@ -215,10 +214,10 @@ pub record Fits (N names : List LaidName) (o : Owed) : Type 0 where
   pub items : o.value.items ≡ postfix tree
   pub is : tree_of o.value ≡ Some tree
   pub plain : HaveNoPlaces o.value.items
-  pub found : one_entry (named_in o.name N) ≡ made_name (equal_entry names o.line.area o.name) (meaning (with_names (line_of o.line) N) tree)
+  pub found : one_entry (named_in o.name N) ≡ equal_entry names o.line.area o.name (meaning (with_names (line_of o.line) N) tree) ∷ []
 
 made_equal : (N : List LaidName) (f : SourceLine) (names : List LaidName) (area : Option ℕ) (name : List ℕ) (o : Option Tree) (t : Tree) → o ≡ Some t
-    → entries_with N f (tree_equated names area name o) ≡ made_name (equal_entry names area name) (meaning (with_names f N) t)
+    → entries_with N f (tree_equated names area name o) ≡ equal_entry names area name (meaning (with_names f N) t) ∷ []
 made_equal N f names area name o t e = ap (λ z. entries_with N f (tree_equated names area name z)) e
 
 fits_line : (N d : List LaidName) (ss : List Statement) (s : Statement) (x : PlacedLine) → IsLine x (laid_behind d s (laid_of d ss)) (laid_of d ss)

@@ -1,6 +1,6 @@
 -- Names for expressions that are evaluated in an order have their final entries.
 use Rattle.std.proofs.Common.{◌≡◌, ℕ, ◌+◌, ◌<◌, ◌==◌, List, [], ◌∷◌, ◌++◌, ◌||◌, length, map, take, slice_index_or, Bool, true, false, cond, refl, sym, ◌∙◌, ap, subst, arith, Option, Some, None, inl, inr, append_assoc}
-use Rattle.std.specs.Prelude.{Result, Ok, Err}
+use Rattle.std.specs.Prelude.{Result, Ok}
 use Rattle.std.specs.List.{list_any, slice_get, AllByRecursion}
 use Rattle.std.specs.Option.{option_map}
 use Rattle.std.proofs.lemmas.List.{take_more, length-map}
@@ -9,23 +9,23 @@ use Rattle.sdt_fault.specs.declared.kinds.LineKind.{LineKind}
 use Rattle.asm_model.specs.declared.exprs.Expr.{Expr}
 use Rattle.asm_model.specs.declared.names.LaidName.{LaidName}
 use Rattle.asm_model.specs.declared.values.Value.{Value}
-use Rattle.asm_model.specs.declared.values.Value.TheVariants.{Number, Truth, Words, Place}
-use Rattle.asm_model.specs.AtLine.{HoldsEach, with_names, made_name}
+use Rattle.asm_model.specs.declared.values.Value.TheVariants.{Place}
+use Rattle.asm_model.specs.AtLine.{HoldsEach, with_names}
 use Rattle.asm_model.specs.Directives.{or_else}
 use Rattle.asm_model.specs.Forms.{same}
-use Rattle.asm_model.specs.Meaning.{named_in, known as value_known, meaning}
-use Rattle.asm_model.proofs.LineLemmas.{each_has, each_append}
+use Rattle.asm_model.specs.Meaning.{named_in, entry_value, known as value_known, meaning}
+use Rattle.asm_model.proofs.LineLemmas.{each_append}
 use Rattle.asm_model.proofs.WordLemmas.{same_refl, same_true}
 use Rattle.asm_model.specs.Entries.{valued_entry, thumb_of, equal_entry}
 use Rattle.layout_laws.proofs.EqualLemmas.{equal_made}
-use Rattle.layout_laws.proofs.RoundLemmas.{SymbolIs, ResultIs, TreeIs, IsClosed, symbol_weaker, named_joined, tree_is, tree_same}
+use Rattle.layout_laws.proofs.RoundLemmas.{ResultIs, TreeIs, IsClosed, result_weaker, named_joined, tree_is, tree_same}
 use Rattle.layout_laws.proofs.SettledLemmas.{items_are, tree_of_items}
-use Rattle.layout_laws.proofs.StepLemmas.{name_of, Or, made_is}
+use Rattle.layout_laws.proofs.StepLemmas.{Or, made_is}
 use Rattle.asm_names.specs.Order.{names_at, is_in, IsOrder}
 use Rattle.asm_names.proofs.ListLemmas.{all_get}
 use Rattle.asm_names.proofs.SearchLemmas.{one_more}
 use Rattle.asm_names.specs.Steps.{one_entry}
-use Rattle.asm_names.proofs.EntryLemmas.{found_name, named_same, each_one}
+use Rattle.asm_names.proofs.EntryLemmas.{found_name, each_has, named_same, each_one}
 use Rattle.asm_names.specs.Lines.{line_of}
 use Rattle.asm_names.specs.Source.{Owed, equal_pair, IsEntryAt, Settles, begun, further}
 use Rattle.asm_names.proofs.MatchLemmas.{EachOwn, Fits}
@@ -80,50 +80,48 @@ own_held N name = each_one N (named_in name N) (λ e h. named_same name N e h)
 
 -- ---- symbols of entries
 
-own_closed : (P : List ℕ → Type 0) (q : List ℕ) (ns : List LaidName) (n : LaidName) → EachOwn ns → P q → named_in q ns ≡ Some n → SymbolIs P n.value
-own_closed P q ns n own h e = symbol_weaker (λ s. s ≡ n.name) P (λ s x. subst P (sym (x ∙ found_name q ns n e)) h) n.value (symbols ns own e)
+own_closed : (P : List ℕ → Type 0) (q : List ℕ) (ns : List LaidName) (n : LaidName) → EachOwn ns → P q → named_in q ns ≡ Some n → ResultIs P (entry_value n)
+own_closed P q ns n own h e = result_weaker (λ s. s ≡ n.name) P (λ s x. subst P (sym (x ∙ found_name q ns n e)) h) (entry_value n) (symbols ns own e)
   where
-    symbols : (ns : List LaidName) → EachOwn ns → named_in q ns ≡ Some n → SymbolIs (λ s. s ≡ n.name) n.value
+    symbols : (ns : List LaidName) → EachOwn ns → named_in q ns ≡ Some n → ResultIs (λ s. s ≡ n.name) (entry_value n)
     symbols [] own e = absurd (cc)
     symbols (m ∷ ms) own e = by_test (same m.name q) (symbols ms own.1) e
       where
-        by_test : (b : Bool) → (named_in q ms ≡ Some n → SymbolIs (λ s. s ≡ n.name) n.value) → cond b (Some m) (named_in q ms) ≡ Some n → SymbolIs (λ s. s ≡ n.name) n.value
-        by_test true rest k = let x : m ≡ n = cc in subst (λ (z : LaidName). SymbolIs (λ s. s ≡ z.name) z.value) x own.0
+        by_test : (b : Bool) → (named_in q ms ≡ Some n → ResultIs (λ s. s ≡ n.name) (entry_value n)) → cond b (Some m) (named_in q ms) ≡ Some n → ResultIs (λ s. s ≡ n.name) (entry_value n)
+        by_test true rest k = let x : m ≡ n = cc in subst (λ (z : LaidName). ResultIs (λ s. s ≡ z.name) (entry_value z)) x own.0
         by_test false rest k = rest k
 
 made_symbol : (N known names : List LaidName) (area : Option ℕ) (name : List ℕ) (r : Result Value LineKind) (q : List ℕ) (n : LaidName)
-    → HoldsEach N known → one_entry (named_in name N) ≡ made_name (equal_entry names area name) r → ResultIs (IsComplete N known) r
-    → named_in q (made_name (equal_entry names area name) r) ≡ Some n → SymbolIs (IsComplete N (known ++ one_entry (named_in name N))) n.value
-made_symbol N known names area name (Err k) q n held e is h = absurd (cc)
-made_symbol N known names area name (Ok v) q n held e is h = by_test (same (equal_entry names area name v).name q) h
+    → HoldsEach N known → ResultIs (IsComplete N known) r → named_in q (equal_entry names area name r ∷ []) ≡ Some n
+    → ResultIs (IsComplete N (known ++ one_entry (named_in name N))) (entry_value n)
+made_symbol N known names area name r q n held is h = by_test (same (equal_entry names area name r).name q) h
   where
-    by_test : (b : Bool) → cond b (Some (equal_entry names area name v)) None ≡ Some n → SymbolIs (IsComplete N (known ++ one_entry (named_in name N))) n.value
+    by_test : (b : Bool) → cond b (Some (equal_entry names area name r)) None ≡ Some n → ResultIs (IsComplete N (known ++ one_entry (named_in name N))) (entry_value n)
     by_test false k = absurd (cc)
     by_test true k =
-        let x : equal_entry names area name v ≡ n = cc in
-        let own : name_of (equal_entry names area name) ≡ name = (equal_made names area name (Number 0)).0 in
-        subst (λ (z : LaidName). SymbolIs (IsComplete N (known ++ one_entry (named_in name N))) z.value) x
-        (symbol_weaker (Or (IsComplete N known) name) (IsComplete N (known ++ one_entry (named_in name N)))
+        let x : equal_entry names area name r ≡ n = cc in
+        subst (λ (z : LaidName). ResultIs (IsComplete N (known ++ one_entry (named_in name N))) (entry_value z)) x
+        (result_weaker (Or (IsComplete N known) name) (IsComplete N (known ++ one_entry (named_in name N)))
         (λ s o. elim o [
           | inl y ↦ subst (IsComplete N (known ++ one_entry (named_in name N))) (sym y) (own_complete N known name held)
           | inr y ↦ complete_more N known (one_entry (named_in name N)) (own_held N name) s y
         ])
-        (equal_entry names area name v).value
-        (made_is (IsComplete N known) (equal_entry names area name) v name (equal_made names area name v) own is))
+        (entry_value (equal_entry names area name r))
+        (made_is (IsComplete N known) (equal_entry names area name) r name (equal_made names area name r) refl is))
 
 closed_more : (N known names : List LaidName) (area : Option ℕ) (name : List ℕ) (r : Result Value LineKind)
-    → HoldsEach N known → one_entry (named_in name N) ≡ made_name (equal_entry names area name) r → ResultIs (IsComplete N known) r
+    → HoldsEach N known → one_entry (named_in name N) ≡ equal_entry names area name r ∷ [] → ResultIs (IsComplete N known) r
     → IsClosed (IsComplete N known) known
     → IsClosed (IsComplete N (known ++ one_entry (named_in name N))) (known ++ one_entry (named_in name N))
 closed_more N known names area name r held e is closed q n h found =
     by_entry (named_in q known) refl (sym (named_joined q known (one_entry (named_in name N))) ∙ found)
   where
     by_entry : (o : Option LaidName) → named_in q known ≡ o → or_else o (named_in q (one_entry (named_in name N))) ≡ Some n
-        → SymbolIs (IsComplete N (known ++ one_entry (named_in name N))) n.value
-    by_entry None x k = made_symbol N known names area name r q n held e is (ap (named_in q) (sym e) ∙ k)
+        → ResultIs (IsComplete N (known ++ one_entry (named_in name N))) (entry_value n)
+    by_entry None x k = made_symbol N known names area name r q n held is (ap (named_in q) (sym e) ∙ k)
     by_entry (Some m) x k =
         let y : named_in q known ≡ Some n = x ∙ k in
-        symbol_weaker (IsComplete N known) (IsComplete N (known ++ one_entry (named_in name N))) (complete_more N known (one_entry (named_in name N)) (own_held N name)) n.value
+        result_weaker (IsComplete N known) (IsComplete N (known ++ one_entry (named_in name N))) (complete_more N known (one_entry (named_in name N)) (own_held N name)) (entry_value n)
         (closed q n (y ∙ sym (each_has N known held q n y)) y)
 
 -- ---- what is known behind some places
@@ -144,7 +142,7 @@ knows_first N E known held free own = record {
 }
 
 knows_more : (N : List LaidName) (E : List (List ℕ × Expr)) (places : List ℕ) (known names : List LaidName) (area : Option ℕ) (i : ℕ) (name : List ℕ) (v : Expr) (r : Result Value LineKind)
-    → slice_get E i ≡ Some (name, v) → Knows N E places known → one_entry (named_in name N) ≡ made_name (equal_entry names area name) r → ResultIs (IsComplete N known) r
+    → slice_get E i ≡ Some (name, v) → Knows N E places known → one_entry (named_in name N) ≡ equal_entry names area name r ∷ [] → ResultIs (IsComplete N known) r
     → Knows N E (places ++ i ∷ []) (known ++ one_entry (named_in name N))
 knows_more N E places known names area i name v r at h e is =
     let more = complete_more N known (one_entry (named_in name N)) (own_held N name) in record {
@@ -161,18 +159,10 @@ knows_more N E places known names area i name v r at h e is =
 
 -- ---- where the same is found under the names that a source declares, names have the same entries
 
-equal_same : (xs ys : List LaidName) → ((q : List ℕ) → named_in q xs ≡ named_in q ys) → (area : Option ℕ) (name : List ℕ) (v : Value)
-    → equal_entry xs area name v ≡ equal_entry ys area name v
-equal_same xs ys h area name (Number n) = refl
-equal_same xs ys h area name (Truth b) = refl
-equal_same xs ys h area name (Words w) = refl
-equal_same xs ys h area name (Place [] n) = refl
-equal_same xs ys h area name (Place (c ∷ cs) n) = ap (λ o. valued_entry name (Place (c ∷ cs) n) (thumb_of o)) (h (c ∷ cs))
-
-made_same : (xs ys : List LaidName) → ((q : List ℕ) → named_in q xs ≡ named_in q ys) → (area : Option ℕ) (name : List ℕ) (r : Result Value LineKind)
-    → made_name (equal_entry xs area name) r ≡ made_name (equal_entry ys area name) r
-made_same xs ys h area name (Ok v) = ap (λ n. n ∷ []) (equal_same xs ys h area name v)
-made_same xs ys h area name (Err k) = refl
+equal_same : (xs ys : List LaidName) → ((q : List ℕ) → named_in q xs ≡ named_in q ys) → (area : Option ℕ) (name : List ℕ) (r : Result Value LineKind)
+    → equal_entry xs area name r ≡ equal_entry ys area name r
+equal_same xs ys h area name (Ok (Place (c ∷ cs) n)) = ap (λ o. valued_entry name (Place (c ∷ cs) n) (thumb_of o)) (h (c ∷ cs))
+equal_same xs ys h area name r = refl
 
 -- ---- all places
 
@@ -196,7 +186,8 @@ known_further N names declared all whole same_names fits order places known i re
     let within : i < length (map equal_pair all) = order.within i (subst (λ z. is_in i z ≡ true) (sym split) (there_in i places rest)) in
     let len = length-map all equal_pair in
     absurd (some_there all i (omega (arith, within, len)) x)
-known_further N names declared all whole same_names fits order places known i rest entry split h (Some o) x k =
+known_further N names declared all whole same_names fits order places known i rest None split h (Some o) x k = absurd k
+known_further N names declared all whole same_names fits order places known i rest (Some entry) split h (Some o) x k =
     let fit = all_get (Fits N names) all i o fits x in
     let there : slice_get (map equal_pair all) i ≡ Some (o.name, o.value) = slice_get-map equal_pair all i ∙ ap (option_map equal_pair) x in
     let P = IsComplete N known in
@@ -205,13 +196,13 @@ known_further N names declared all whole same_names fits order places known i re
     tree_of_items P o.value.items (Some []) fit.tree
     (items_are P (map equal_pair all) (names_at (map equal_pair all) places) h.free h.deep o.value.items
     (order.behind places i rest (o.name, o.value) split there) fit.plain) tt fit.is in
-    let made = λ (r : Result Value LineKind). made_name (equal_entry names o.line.area o.name) r in
+    let made = λ (r : Result Value LineKind). equal_entry names o.line.area o.name r ∷ [] in
     let value : meaning (with_names line known) fit.tree ≡ meaning (with_names line N) fit.tree =
     ap value_known (tree_same P line known N h.closed (λ q c. c) fit.tree tree) in
     let found : one_entry (named_in o.name N) ≡ made (meaning (with_names line known) fit.tree) = fit.found ∙ ap made (sym value) in
-    let entry_is : one_entry entry ≡ one_entry (named_in o.name N) =
-    k fit.parts fit.tree fit.spelled fit.items
-    ∙ made_same declared names same_names o.line.area o.name (meaning (with_names line known) fit.tree)
+    let entry_is : entry ∷ [] ≡ one_entry (named_in o.name N) =
+    ap (λ (z : LaidName). z ∷ [])
+    (k fit.parts fit.tree fit.spelled fit.items ∙ equal_same declared names same_names o.line.area o.name (meaning (with_names line known) fit.tree))
     ∙ sym found in
     subst (λ z. Knows N (map equal_pair all) (places ++ i ∷ []) (known ++ z)) (sym entry_is)
     (knows_more N (map equal_pair all) places known names o.line.area i o.name o.value (meaning (with_names line known) fit.tree) there h found

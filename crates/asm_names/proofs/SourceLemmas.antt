@@ -1,6 +1,6 @@
 -- The names that the code finds are all names of the source.
 use Rattle.std.proofs.Common.{◌≡◌, ℕ, zero, suc, List, [], ◌∷◌, ◌++◌, map, true, refl, sym, ◌∙◌, ap, subst, Some, append_assoc, append-nil}
-use Rattle.std.specs.Prelude.{Result, Ok, Err, IfOk}
+use Rattle.std.specs.Prelude.{Result, IfOk}
 use Rattle.std.specs.List.{list_any, slice_get, flat_map, AllByRecursion}
 use Rattle.sdt_fault.specs.declared.NoMemory.{NoMemory}
 use Rattle.asm_model.specs.declared.exprs.Expr.{Expr}
@@ -11,12 +11,13 @@ use Rattle.asm_model.specs.Meaning.{named_in}
 use Rattle.asm_model.proofs.WordLemmas.{same_refl}
 use Rattle.asm_model.specs.Labels.{defined_by, declared_names}
 use Rattle.asm_model.specs.Laid.{laid, final_names}
-use Rattle.asm_model.specs.LayoutKinds.{equal_of, equals_in, are_settled, settled_by, settled}
-use Rattle.layout_laws.proofs.EqualLemmas.{EachEqual, equal_parts, equal_both}
+use Rattle.asm_model.specs.LayoutKinds.{are_settled, settled_by, settled}
+use Rattle.layout_laws.proofs.EqualLemmas.{equal_of, all_equals, EachEqual, equal_parts, equal_both}
 use Rattle.layout_laws.proofs.FinalLemmas.{source_holds}
-use Rattle.layout_laws.proofs.SettledLemmas.{final_names_are_their_entries}
-use Rattle.layout_laws.proofs.SoundLemmas.{EachSound, sound_each, equals_distinct, equals_settled, IsSettledIn, settled_unique}
+use Rattle.layout_laws.proofs.SettledLemmas.{source_sound, final_names_are_their_entries}
+use Rattle.layout_laws.proofs.SoundLemmas.{EachSound, equals_distinct, equals_settled, IsSettledIn, settled_unique}
 use Rattle.asm_names.specs.Order.{names_at, is_in, IsOrder}
+use Rattle.asm_names.proofs.CallLemmas.{if_ok_more}
 use Rattle.asm_names.proofs.ListLemmas.{cut_at}
 use Rattle.asm_names.proofs.SearchLemmas.{names_more, one_more}
 use Rattle.asm_names.proofs.SettledLemmas.{rounds_stop}
@@ -45,10 +46,10 @@ each_there R (y ∷ ys) h (suc i) x e = each_there R ys h.1 i x e
 
 -- ---- each name for an expression has its place
 
-all_settled : (ss : List Statement) → EachSound (settled (equals_in ss)) ss
-    → EachEqual (λ p e. are_settled (equals_in ss) (settled (equals_in ss)) e.items ≡ true) (equals_in ss)
+all_settled : (ss : List Statement) → EachSound (settled (all_equals ss)) ss
+    → EachEqual (λ p e. are_settled (all_equals ss) (settled (all_equals ss)) e.items ≡ true) (all_equals ss)
 all_settled ss sound =
-    let E = equals_in ss in
+    let E = all_equals ss in
     let S = settled E in
     equal_both (λ p e. list_any (same p) S ≡ true) (IsSettledIn E S (settled_by E S E)) (λ p e. are_settled E S e.items ≡ true)
     (λ p e a f. f (subst (λ z. list_any (same p) z ≡ true) (sym (rounds_stop E)) a)) E
@@ -63,19 +64,19 @@ placed_name E whole i x at h =
     subst (λ z. list_any (same x.0) (names_at E z) ≡ true) (append_assoc cut.0 (i ∷ []) cut.1 ∙ sym cut.2)
     (names_more E (cut.0 ++ i ∷ []) cut.1 x.0 here)
 
-all_complete : (N known : List LaidName) (ss : List Statement) (whole : List ℕ) → EachSound (settled (equals_in ss)) ss → IsOrder (equals_in ss) whole
-    → Knows N (equals_in ss) whole known → EachEqual (λ p e. IsComplete N known p) (equals_in ss)
+all_complete : (N known : List LaidName) (ss : List Statement) (whole : List ℕ) → EachSound (settled (all_equals ss)) ss → IsOrder (all_equals ss) whole
+    → Knows N (all_equals ss) whole known → EachEqual (λ p e. IsComplete N known p) (all_equals ss)
 all_complete N known ss whole sound order h =
-    let E = equals_in ss in
+    let E = all_equals ss in
     each_place (λ p e. IsComplete N known p) E
     (λ i x at. h.deep x.0 (placed_name E whole i x at
     (order.whole i x at ∙ each_there (λ p e. are_settled E (settled E) e.items ≡ true) E (all_settled ss sound) i x at)))
 
-found_known : (known N : List LaidName) (d : List LaidName) (ss : List Statement) → EachEqual (λ p e. IsComplete N known p) (equals_in ss)
+found_known : (known N : List LaidName) (d : List LaidName) (ss : List Statement) → EachEqual (λ p e. IsComplete N known p) (all_equals ss)
     → EachFound N N d ss → EachFound known N d ss
 found_known known N d [] h found = tt
 found_known known N d (s ∷ ss) h found =
-    let p = equal_parts (λ p e. IsComplete N known p) (equals_in ss) (equal_of (defined_by s)) h in (
+    let p = equal_parts (λ p e. IsComplete N known p) (all_equals ss) (equal_of (defined_by s)) h in (
       λ name e x.
           ap one_entry (subst (λ y. EachEqual (λ p e. IsComplete N known p) (equal_of y)) x p.1).0 ∙ found.0 name e x,
       found_known known N d ss p.0 found.1,
@@ -91,8 +92,8 @@ pub all_names_found : (ss : List Statement) (lines : List PlacedLine) (declared 
 all_names_found ss lines declared all whole first known source owed order firsts settles =
     let d = declared_names ss in
     let N = final_names (laid ss) in
-    let E = equals_in ss in
-    let sound = sound_each (settled E) d ss source.sound in
+    let E = all_equals ss in
+    let sound = source_sound ss source.sound in
     let entries = final_names_are_their_entries ss source.sound source.plain in
     let found = each_found N N d (settled E) ss sound (λ q k. ap (named_in q) (sym entries)) in
     let pairs : map equal_pair all ≡ E = ap (map equal_pair) owed ∙ owed_pairs d ss lines source.each in
@@ -116,10 +117,6 @@ all_names_found ss lines declared all whole first known source owed order firsts
 pub pairs_twice : {X Y Z : Type 0} → (f : X → Y) (g : Y → Z) (xs : List X) → map (λ x. g (f x)) xs ≡ map g (map f xs)
 pairs_twice f g [] = refl
 pairs_twice f g (x ∷ xs) = ap (λ z. g (f x) ∷ z) (pairs_twice f g xs)
-
-if_ok_more : {X E : Type 0} → (P Q : X → Type 0) → ((x : X) → P x → Q x) → (r : Result X E) → IfOk r P → IfOk r Q
-if_ok_more P Q f (Ok x) h = f x h
-if_ok_more P Q f (Err e) h = tt
 
 pub final_is : (ss : List Statement) (lines : List PlacedLine) (declared : List LaidName) (dues looked seen : List Due) (places taken : List ℕ)
     (none first known : List LaidName) (r : Result (List LaidName) NoMemory)

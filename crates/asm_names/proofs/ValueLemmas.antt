@@ -1,51 +1,27 @@
 -- The answers of evaluations at a line.
-use Rattle.std.proofs.Common.{◌≡◌, ℕ, List, false, refl, sym, ◌∙◌, ap, subst, Some, None}
+use Rattle.std.proofs.Common.{◌≡◌, ℕ, List, true, false, refl, sym, ◌∙◌, ap, subst}
 use Rattle.std.specs.Prelude.{Result, Ok, Err}
 use Rattle.sdt_fault.specs.declared.kinds.LineKind.{LineKind}
 use Rattle.sdt_fault.specs.declared.kinds.LineKind.TheVariants.{Forward}
 use Rattle.asm_model.specs.declared.exprs.ExprItem.{ExprItem}
-use Rattle.asm_model.specs.declared.exprs.Part.{Part}
 use Rattle.asm_model.specs.declared.values.Value.{Value}
 use Rattle.asm_model.specs.declared.values.Value.TheVariants.{Number, Truth, Words, Place}
 use Rattle.asm_model.specs.declared.values.EvalFault.{EvalFault}
 use Rattle.asm_model.specs.declared.values.EvalFault.TheVariants as eval
 use Rattle.asm_model.specs.declared.names.Names.{Names}
-use Rattle.asm_model.specs.AtLine.{Sight, name_kinds, unless_told, value_at, kept_names, literal_or}
-use Rattle.asm_model.specs.Grammar.{Tree, postfix, IsSpelled}
-use Rattle.asm_model.specs.Kinds.{told_kind}
+use Rattle.asm_model.specs.AtLine.{kept_names, literal_or}
+use Rattle.asm_model.specs.Grammar.{Tree}
 use Rattle.asm_model.specs.Meaning.{meaning, IsValue, Evaluates}
-use Rattle.asm_names.specs.Sights.{SeesValue, SeesLiteral}
-use Rattle.asm_names.specs.Steps.{items_kinds, told_through, kept_items, items_entries, with_list, is_settled, place_or_forward, SeesKept}
-use Rattle.asm_names.proofs.EntryLemmas.{few_meaning}
-use Rattle.asm_names.proofs.ToldLemmas.{told_of_items}
-use Rattle.asm_names.proofs.ItemLemmas.{kinds_of_tree, kept_of_tree, kept_spelled}
+use Rattle.asm_names.specs.Steps.{kept_items, is_settled, place_or_forward, SeesKept}
+use Rattle.asm_names.specs.Values.{SeesLiteral}
+use Rattle.asm_names.proofs.ItemLemmas.{kept_of_tree, kept_same, kept_spelled}
 
--- ---- values
-
-told_there : (s : Sight) (items : List ExprItem) (ps : List Part) (t : Tree) → IsSpelled ps t → items ≡ postfix t
-    → told_kind (name_kinds s t) ≡ told_through s None items
-told_there s items ps t d e = ap told_kind (sym (kinds_of_tree s ps t d) ∙ ap (items_kinds s) (sym e)) ∙ sym (told_of_items s items)
-
-pub sees_fault : (s : Sight) (items : List ExprItem) (k : LineKind) → told_through s None items ≡ Some k
-    → SeesValue s items (Err (eval.Kind k))
-sees_fault s items k h ps t d e = ap (λ o. unless_told o (meaning s.known t)) (told_there s items ps t d e ∙ h)
-
-pub with_few : (n : Names) (items : List ExprItem) (names : Names) (r : Result Value EvalFault) → names ≡ with_list n (items_entries n.list items) → Evaluates names items r → Evaluates n items r
-with_few n items names r h ev ps t d e =
-    let same : meaning names t ≡ meaning n t =
-    ap (λ (m : Names). meaning m t) (h ∙ ap (λ is. with_list n (items_entries n.list is)) e) ∙ few_meaning n t in
-    subst (λ (m : Result Value LineKind). IsValue m r) same (ev ps t d e)
-
-pub sees_value : (s : Sight) (items : List ExprItem) (r : Result Value EvalFault) → told_through s None items ≡ None → Evaluates s.known items r → SeesValue s items r
-sees_value s items r h ev ps t d e =
-    subst (λ (m : Result Value LineKind). IsValue m r) (ap (λ o. unless_told o (meaning s.known t)) (sym (told_there s items ps t d e ∙ h))) (ev ps t d e)
-
-pub sees_kept : (s : Sight) (items kept : List ExprItem) (r : Result Value EvalFault) → kept ≡ kept_items s items → SeesValue s kept r → SeesKept s items r
+pub sees_kept : (s : Names) (items kept : List ExprItem) (r : Result Value EvalFault) → kept ≡ kept_items s items → Evaluates s kept r → SeesKept s items r
 sees_kept s items kept r k h ps t d e =
     let spelled = kept_spelled s ps t d in
     h spelled.0 (kept_names s t) spelled.1 (k ∙ ap (kept_items s) e ∙ kept_of_tree s ps t d)
 
--- ---- numbers
+-- ---- literals
 
 abbrev NoNumber : Result Value LineKind → Type 0
 NoNumber (Ok (Number n)) = ⊥
@@ -89,7 +65,7 @@ unsettled : (x : Result Value LineKind) (r : Result Value EvalFault) → IsValue
 unsettled x (Ok (Number n)) h u = absurd (cc)
 unsettled x (Ok (Truth b)) h u = subst NoNumber (sym h) tt
 unsettled x (Ok (Words w)) h u = subst NoNumber (sym h) tt
-unsettled x (Ok (Place s p)) h u = subst NoNumber (sym h) tt
+unsettled x (Ok (Place s p)) h u = absurd (cc)
 unsettled x (Err (eval.Kind k)) h u = subst NoNumber (sym h) tt
 unsettled x (Err eval.NoMemory) h u = absurd (cc)
 
@@ -101,7 +77,20 @@ literal_is x m (Ok (Place s p)) h v = ap (literal_or x) v ∙ literal_place x s 
 literal_is x m (Err (eval.Kind k)) h v = ap (literal_or x) v ∙ literal_forward x (Err k) h tt
 literal_is x m (Err eval.NoMemory) h v = tt
 
-pub sees_literal : (s : Sight) (items : List ExprItem) (r k : Result Value EvalFault) → SeesValue s items r → is_settled r ≡ false → SeesKept s items k
+pub sees_settled : (s : Names) (items : List ExprItem) (r : Result Value EvalFault) → Evaluates s items r → is_settled r ≡ true → SeesLiteral s items r
+sees_settled s items r h u ps t d e = by_value r (h ps t d e) u
+  where
+    by_value : (r : Result Value EvalFault) → IsValue (meaning s t) r → is_settled r ≡ true → IsValue (literal_or (meaning s t) (meaning s (kept_names s t))) r
+    by_value (Ok (Number n)) h u = ap (λ x. literal_or x (meaning s (kept_names s t))) h
+    by_value (Ok (Truth b)) h u = absurd (cc)
+    by_value (Ok (Words w)) h u = absurd (cc)
+    by_value (Ok (Place q p)) h u =
+        ap (λ (v : Tree). literal_or (meaning s t) (meaning s v)) (kept_same s t (Place q p) h)
+        ∙ ap (λ x. literal_or x x) h
+    by_value (Err (eval.Kind k)) h u = absurd (cc)
+    by_value (Err eval.NoMemory) h u = tt
+
+pub sees_literal : (s : Names) (items : List ExprItem) (r k : Result Value EvalFault) → Evaluates s items r → is_settled r ≡ false → SeesKept s items k
     → SeesLiteral s items (place_or_forward k)
 sees_literal s items r k h u g ps t d e =
-    literal_is (value_at s t) (value_at s (kept_names s t)) k (unsettled (value_at s t) r (h ps t d e) u) (g ps t d e)
+    literal_is (meaning s t) (meaning s (kept_names s t)) k (unsettled (meaning s t) r (h ps t d e) u) (g ps t d e)

@@ -1,16 +1,18 @@
--- A map from names to the numbers of expressions. This project's.
-use Rattle.std.specs.Prelude.{◌≡◌, ℕ, suc, ◌<◌, List, [], ◌∷◌, Option, Some, None, if◌then◌else◌}
-use Rattle.std.specs.Ordering.{nat_cmp}
-use Rattle.std.specs.Cmp.Lexicographic.{slice_cmp}
-use Rattle.std.specs.BTreeMap.{BTreeMap, get}
+-- A map from borrowed names to the numbers of expressions. This project's.
+use Rattle.std.specs.Prelude.{◌≡◌, ℕ, suc, ◌<◌, nat_eq, List, [], ◌∷◌, Option, Some, None, if◌then◌else◌}
+use Rattle.std.specs.Borrow.{Bor}
+use Rattle.std.specs.Cmp.Lexicographic.{pointwise}
+use Rattle.std.specs.declared.hash.FoldHasher.{FoldHasher}
+use Rattle.std.specs.declared.hash.BuildHasherDefault.{BuildHasherDefault}
+use Rattle.indexmap.specs.IndexMap.{IndexMap, get_by}
 use Rattle.asm_model.specs.declared.exprs.Expr.{Expr}
 use Rattle.asm_model.specs.Forms.{same}
 
 abbrev pub Numbers : Type 0
-Numbers = BTreeMap (List ℕ) ℕ
+Numbers = IndexMap (Bor (List ℕ)) ℕ (BuildHasherDefault FoldHasher)
 
 abbrev pub number_in : Numbers → List ℕ → Option ℕ
-number_in m q = get (slice_cmp nat_cmp) m q
+number_in m q = get_by (λ k. pointwise nat_eq q k.now) m
 
 -- the number of a name's first expression among these, which are counted from i on
 abbrev pub first_from : ℕ → List (List ℕ × Expr) → List ℕ → Option ℕ

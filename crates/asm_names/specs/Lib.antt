@@ -1,7 +1,6 @@
 -- What the clauses of the crate cite.
-pub mod Indexed
-pub mod Sights
 pub mod Steps
+pub mod Values
 pub mod Equals
 pub mod Index
 pub mod Laws

@@ -6,7 +6,7 @@ use Rattle.asm_model.specs.declared.exprs.Expr.{Expr}
 use Rattle.asm_model.specs.declared.exprs.Part.{Part}
 use Rattle.asm_model.specs.declared.names.LaidName.{LaidName}
 use Rattle.asm_model.specs.declared.statements.Statement.{Statement}
-use Rattle.asm_model.specs.AtLine.{with_names, made_name}
+use Rattle.asm_model.specs.AtLine.{with_names}
 use Rattle.asm_model.specs.Grammar.{Tree, postfix, IsSpelled}
 use Rattle.asm_model.specs.Meaning.{named_in, meaning}
 use Rattle.asm_model.specs.Entries.{equal_entry}
@@ -55,7 +55,7 @@ pub record IsSource (statements : List Statement) (lines : List PlacedLine) (dec
 -- the entry of what a line defines, where names for expressions have those that are known
 abbrev pub own_entries : List LaidName → PlacedLine → Defined → List LaidName
 own_entries known x (Equal name e) = one_entry (named_in name known)
-own_entries known x d = one_entry (own_entry d x.area x.offset x.size x.thumb_label x.map)
+own_entries known x d = one_entry (own_entry d x.area x.offset (Some x.size) x.thumb_label x.map)
 
 abbrev pub line_entries : List LaidName → PlacedLine → List LaidName
 line_entries known x = own_entries known x (defined_by x.statement.now) ++ imported_entries (imported_in x.statement.now.what)
@@ -79,15 +79,16 @@ owed_in x = owed_by x (defined_by x.statement.now)
 abbrev pub equal_pair : Owed → List ℕ × Expr
 equal_pair o = (o.name, o.value)
 
--- the entry that a name has by these names, where its expression has a value
-abbrev pub IsEntryOf : List LaidName → List LaidName → Owed → Option LaidName → Type 0
+-- the entry that a name has by these names
+abbrev pub IsEntryOf : List LaidName → List LaidName → Owed → LaidName → Type 0
 IsEntryOf known declared o entry =
     (ps : List Part) (t : Tree) → IsSpelled ps t → o.value.items ≡ postfix t
-    → one_entry entry ≡ made_name (equal_entry declared o.line.area o.name) (meaning (with_names (line_of o.line) known) t)
+    → entry ≡ equal_entry declared o.line.area o.name (meaning (with_names (line_of o.line) known) t)
 
 abbrev pub IsEntryAt : List LaidName → List LaidName → Option Owed → Option LaidName → Type 0
 IsEntryAt known declared None entry = Unit {0}
-IsEntryAt known declared (Some o) entry = IsEntryOf known declared o entry
+IsEntryAt known declared (Some o) None = ⊥
+IsEntryAt known declared (Some o) (Some entry) = IsEntryOf known declared o entry
 
 -- the names that are known behind some places, where each place's name has its entry by those before
 pub data Settles (declared : List LaidName) (all : List Owed) (first : List LaidName) : List ℕ → List LaidName → Type 0 where

@@ -1,7 +1,6 @@
 -- Steps of the code over an expression's items, each operator behind its operands. This project's.
-use Rattle.std.specs.Prelude.{◌≡◌, ℕ, List, [], ◌∷◌, ◌++◌, Bool, true, false, Option, Some, None, Result, Ok, Err}
-use Rattle.sdt_fault.specs.declared.kinds.LineKind.{LineKind}
-use Rattle.sdt_fault.specs.declared.kinds.LineKind.TheVariants.{UnknownWord, WrongType, Forward}
+use Rattle.std.specs.Prelude.{◌≡◌, ℕ, List, [], ◌∷◌, Bool, true, false, Option, Some, None, Result, Ok, Err}
+use Rattle.sdt_fault.specs.declared.kinds.LineKind.TheVariants.{WrongType, Forward}
 use Rattle.asm_model.specs.declared.exprs.ExprItem.{ExprItem}
 use Rattle.asm_model.specs.declared.exprs.ExprItem.TheVariants as item
 use Rattle.asm_model.specs.declared.exprs.UnaryOp.{UnaryOp}
@@ -11,84 +10,27 @@ use Rattle.asm_model.specs.declared.values.Value.TheVariants.{Number, Place}
 use Rattle.asm_model.specs.declared.values.EvalFault.{EvalFault}
 use Rattle.asm_model.specs.declared.values.EvalFault.TheVariants as eval
 use Rattle.asm_model.specs.declared.exprs.Part.{Part}
-use Rattle.asm_model.specs.declared.names.LaidName.{LaidName}
 use Rattle.asm_model.specs.declared.names.Names.{Names}
-use Rattle.asm_model.specs.AtLine.{Sight, value_kinds, size_kinds, defined_kinds, kept_name, kept_names, value_at}
-use Rattle.asm_model.specs.FaultSets.{first_told}
-use Rattle.asm_model.specs.Kinds.{told_kind}
+use Rattle.asm_model.specs.AtLine.{kept_name, kept_names}
 use Rattle.asm_model.specs.Grammar.{Tree, postfix, IsSpelled}
-use Rattle.asm_model.specs.Meaning.{named_in, IsValue}
+use Rattle.asm_model.specs.Meaning.{meaning, IsValue}
+pub use Rattle.asm_expr.specs.Places.{one_entry}
 
--- ---- faults of names
+-- ---- names that stay names
 
 -- the operator of one operand that stands first
 abbrev pub operator_first : List ExprItem → Option UnaryOp
 operator_first (item.Unary op ∷ is) = Some op
 operator_first _ = None
 
--- the fault of a name before an operator
-abbrev pub name_asked : Sight → Option UnaryOp → List ℕ → List LineKind
-name_asked s (Some unary.Size) q = size_kinds s q
-name_asked s (Some unary.Defined) q = defined_kinds s q
-name_asked s op q = value_kinds s q
-
--- the fault of an item before an operator
-abbrev pub item_asked : Sight → Option UnaryOp → ExprItem → List LineKind
-item_asked s op (item.Name q) = name_asked s op q
-item_asked s op (item.Local q) = UnknownWord ∷ []
-item_asked s op _ = []
-
-abbrev pub items_kinds : Sight → List ExprItem → List LineKind
-items_kinds s [] = []
-items_kinds s (i ∷ is) = item_asked s (operator_first is) i ++ items_kinds s is
-
--- what is told of an item, before items, and of what was told before
-abbrev pub told_with : Sight → Option LineKind → ExprItem → List ExprItem → Option LineKind
-told_with s told i rest = first_told told (told_kind (item_asked s (operator_first rest) i))
-
-abbrev pub told_through : Sight → Option LineKind → List ExprItem → Option LineKind
-told_through s told [] = told
-told_through s told (i ∷ is) = told_through s (told_with s told i is) is
-
--- ---- names that stay names
-
-abbrev pub kept_before : Sight → Option UnaryOp → ExprItem → ExprItem
+abbrev pub kept_before : Names → Option UnaryOp → ExprItem → ExprItem
 kept_before s (Some unary.Size) i = i
 kept_before s (Some unary.Defined) i = i
 kept_before s op i = kept_name s i
 
-abbrev pub kept_items : Sight → List ExprItem → List ExprItem
+abbrev pub kept_items : Names → List ExprItem → List ExprItem
 kept_items s [] = []
 kept_items s (i ∷ is) = kept_before s (operator_first is) i ∷ kept_items s is
-
--- ---- entries that count
-
-abbrev pub one_entry : Option LaidName → List LaidName
-one_entry None = []
-one_entry (Some n) = n ∷ []
-
--- the entry of a value's symbol
-abbrev pub symbol_entry : List LaidName → Value → List LaidName
-symbol_entry known (Place s p) = one_entry (named_in s known)
-symbol_entry known _ = []
-
--- an entry, and that of its value's symbol
-abbrev pub with_symbol : List LaidName → Option LaidName → List LaidName
-with_symbol known None = []
-with_symbol known (Some n) = n ∷ symbol_entry known n.value
-
-abbrev pub item_entries : List LaidName → ExprItem → List LaidName
-item_entries known (item.Name q) = with_symbol known (named_in q known)
-item_entries known (item.Constant v) = symbol_entry known v
-item_entries known _ = []
-
-abbrev pub items_entries : List LaidName → List ExprItem → List LaidName
-items_entries known [] = []
-items_entries known (i ∷ is) = item_entries known i ++ items_entries known is
-
--- the names of a sight, of which the list has these
-abbrev pub with_list : Names → List LaidName → Names
-with_list names list = record names { list = list }
 
 -- ---- numbers and literals
 
@@ -101,6 +43,7 @@ number_in (Err e) = Err e
 -- whether a value is the literal, or none is known for want of memory
 abbrev pub is_settled : Result Value EvalFault → Bool
 is_settled (Ok (Number n)) = true
+is_settled (Ok (Place s p)) = true
 is_settled (Err eval.NoMemory) = true
 is_settled _ = false
 
@@ -110,7 +53,7 @@ place_or_forward (Ok (Place s p)) = Ok (Place s p)
 place_or_forward (Err eval.NoMemory) = Err eval.NoMemory
 place_or_forward _ = Err (eval.Kind Forward)
 
--- the value, where names that aren't known stay names
-abbrev pub SeesKept : Sight → List ExprItem → Result Value EvalFault → Type 0
+-- the value, where names without a value stay names
+abbrev pub SeesKept : Names → List ExprItem → Result Value EvalFault → Type 0
 SeesKept s items result =
-    (ps : List Part) (t : Tree) → IsSpelled ps t → items ≡ postfix t → IsValue (value_at s (kept_names s t)) result
+    (ps : List Part) (t : Tree) → IsSpelled ps t → items ≡ postfix t → IsValue (meaning s (kept_names s t)) result

@@ -2,24 +2,38 @@
 
 ghost use Rattle.std.specs.Prelude.{◌≡◌, IfOk};
 
-use asm_model::{ExprItem, LaidName};
+use asm_model::{ExprItem, LaidName, Meaning};
 use sdt_fault::NoMemory;
 use std::alloc::Global;
+
+/// A copy of what a name means.
+fn meaning_copy(alloc: Global, meaning: &Meaning) -> Result<Meaning, NoMemory>
+    ensures { IfOk result (λ copy. copy ≡ meaning.now) }
+{
+    match meaning {
+        Meaning::Later => Ok(Meaning::Later),
+        Meaning::Label => Ok(Meaning::Label),
+        Meaning::Imported => Ok(Meaning::Imported),
+        Meaning::Place => Ok(Meaning::Place),
+        Meaning::Known(value) => Ok(Meaning::Known(value.try_clone(alloc)?)),
+        Meaning::Faulty(kind) => Ok(Meaning::Faulty(*kind)),
+        Meaning::Register => Ok(Meaning::Register),
+    }
+}
 
 /// A copy of an entry.
 pub fn entry_copy(alloc: Global, entry: &LaidName) -> Result<LaidName, NoMemory>
     ensures { IfOk result (λ copy. copy ≡ entry.now) }
 {
     let name = entry.name.try_clone(alloc)?;
-    let value = entry.value.try_clone(alloc)?;
+    let meaning = meaning_copy(alloc, &entry.meaning)?;
     Ok(LaidName {
         name,
-        value,
+        meaning,
         area: entry.area,
         offset: entry.offset,
         size: entry.size,
         thumb: entry.thumb,
-        place: entry.place,
     })
 }
 

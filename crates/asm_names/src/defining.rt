@@ -4,8 +4,8 @@ ghost use Rattle.std.specs.Prelude.{◌≡◌, IfOk};
 ghost use Rattle.asm_model.specs.Labels as labels;
 ghost use Rattle.asm_names.specs.Defining.{defined_of, own_entry};
 
-use crate::made::{label_entry, valued_entry};
-use asm_model::{DirectiveLine, Expr, LaidName, RnOperand, Statement, Value, What};
+use crate::made::{field_entry, label_entry, register_entry};
+use asm_model::{DirectiveLine, Expr, LaidName, RnOperand, Statement, What};
 use sdt_fault::{NoMemory, Text};
 use std::alloc::Global;
 
@@ -43,13 +43,13 @@ pub fn defined_by(statement: &Statement) -> Defines<'_>
     }
 }
 
-/// The entry of a statement's own name, as its expressions see it.
+/// The entry of a statement's own name, unless it is for an expression.
 pub fn own_entry(
     alloc: Global,
     defines: &Defines<'_>,
     area: Option<u32>,
     offset: u32,
-    size: u32,
+    size: Option<u32>,
     thumb: bool,
     map: u32,
 ) -> Result<Option<LaidName>, NoMemory>
@@ -60,10 +60,8 @@ pub fn own_entry(
             let entry = label_entry(alloc, name, area, offset, size, thumb)?;
             Ok(Some(entry))
         }
-        Defines::MapField(name) => {
-            let entry = valued_entry(alloc, name, Value::Number(map), false)?;
-            Ok(Some(entry))
-        }
+        Defines::MapField(name) => Ok(Some(field_entry(alloc, name, map, size)?)),
+        Defines::RegisterName(name, _) => Ok(Some(register_entry(alloc, name)?)),
         _ => Ok(None),
     }
 }

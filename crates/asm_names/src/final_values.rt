@@ -5,7 +5,7 @@ ghost use Rattle.asm_model.specs.Meaning.{Evaluates};
 ghost use Rattle.asm_names.specs.Lines.{line_of};
 
 use crate::lines::PlacedLine;
-use crate::{KnownNames, Place, value_with};
+use asm_expr::{KnownNames, Seen, evaluate};
 use asm_model::{EvalFault, Expr, Value};
 use std::alloc::Global;
 
@@ -19,14 +19,14 @@ pub fn final_value(
 ) -> Result<Value, EvalFault>
     ensures { Evaluates (with_names (line_of line.now) names.now) e.now.items result }
 {
-    let place = Place {
-        known: names,
-        declared: names,
+    let seen = Seen {
+        names,
         own: None,
+        later: None,
         area: line.area,
         offset: line.offset,
         map: line.map,
         thumb: line.thumb,
     };
-    value_with(alloc, e, &place)
+    evaluate(alloc, e, &seen)
 }

@@ -6,19 +6,19 @@ ghost use Rattle.asm_names.specs.Index.{number_in, IsIndexOf};
 ghost use Rattle.asm_names.specs.Equals.{pairs_of};
 
 use crate::equals::Equal;
+use indexmap::IndexMap;
 use sdt_fault::{NoMemory, Text};
 use std::alloc::Global;
-use std::collections::BTreeMap;
 
 /// The number of a name.
-pub fn find(index: &BTreeMap<Text, u32>, name: &Text) -> Option<u32>
+pub fn find(index: &IndexMap<&[u8], u32>, name: &Text) -> Option<u32>
     ensures { result ≡ number_in index.now name.now }
 {
-    index.get(name).copied()
+    index.get(name.as_slice()).copied()
 }
 
 /// The number of a name that has one.
-pub fn number_of(index: &BTreeMap<Text, u32>, name: &Text) -> u32
+pub fn number_of(index: &IndexMap<&[u8], u32>, name: &Text) -> u32
     requires { IsSome (number_in index.now name.now) }
     ensures { number_in index.now name.now ≡ Some result }
 {
@@ -26,26 +26,24 @@ pub fn number_of(index: &BTreeMap<Text, u32>, name: &Text) -> u32
 }
 
 /// Gives a name a number, in the place of the one that it had.
-fn put(
-    alloc: Global,
-    index: &mut BTreeMap<Text, u32>,
-    name: &Text,
-    number: u32,
-) -> Result<(), NoMemory>
+fn put<'a>(index: &mut IndexMap<&'a [u8], u32>, name: &'a Text, number: u32) -> Result<(), NoMemory>
     ensures { OnOk result ((q : List ℕ) → number_in index.new q ≡ (if same q name.now then Some number else number_in index.old q)) }
 {
-    index.insert(name.try_clone(alloc)?, number)?;
+    index.insert(name.as_slice(), number)?;
     Ok(())
 }
 
 /// The number of the first expression that each name is for. The last one is noted first, and gives way to earlier ones.
-pub fn index_of(alloc: Global, equals: &[Equal<'_>]) -> Result<BTreeMap<Text, u32>, NoMemory>
+pub fn index_of<'a>(
+    alloc: Global,
+    equals: &[Equal<'a>],
+) -> Result<IndexMap<&'a [u8], u32>, NoMemory>
     requires { length equals.now < 2 ^ 32 }
     ensures { IfOk result (λ index. IsIndexOf 0 (pairs_of equals.now) index) }
 {
-    let mut index = BTreeMap::new(alloc);
+    let mut index = IndexMap::new(alloc);
     for i in (0..equals.len()).rev() {
-        put(alloc, &mut index, equals[i].name, i as u32)?;
+        put(&mut index, equals[i].name, i as u32)?;
     }
     Ok(index)
 }

@@ -1,32 +1,27 @@
-//! Names and their values: by what is known at a line (the names that the lines before it define, found by an index, and
-//! the line's own name), and with all names of a source, in an order in which each can be evaluated.
+//! Names and their values: by what a line sees, and with all names of a source, in an order in which each can be
+//! evaluated.
 #![tactic(auto)]
 
 pub mod copies;
 pub mod defining;
 mod dues;
-pub mod entries;
 mod equals;
-pub mod faults;
 pub mod final_values;
 mod index;
 pub mod keeping;
-pub mod known;
 pub mod lines;
 pub mod listing;
 pub mod made;
 mod names;
 mod ordering;
-pub mod places;
 mod search;
 mod settling;
 pub mod values;
 
 pub use crate::equals::{Equal, Order};
 pub use crate::final_values::final_value;
-pub use crate::known::KnownNames;
 pub use crate::lines::PlacedLine;
 pub use crate::names::final_names;
 pub use crate::ordering::order_of;
-pub use crate::places::Place;
-pub use crate::values::{literal_at, number_at, value_at, value_with};
+pub use crate::values::{literal_at, number_at};
+pub use asm_expr::{KnownNames, Seen};

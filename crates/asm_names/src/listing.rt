@@ -12,6 +12,7 @@ use crate::copies::entry_copy;
 use crate::defining::{Defines, defined_by, own_entry};
 use crate::lines::PlacedLine;
 use crate::made::{imported_entry, imported_name};
+pub use asm_expr::known::add_entry;
 use asm_model::{LaidName, What};
 use sdt_fault::{NoMemory, Text};
 use std::alloc::Global;
@@ -41,28 +42,11 @@ fn entry_in(
             &defines,
             line.area,
             line.offset,
-            line.size,
+            Some(line.size),
             line.thumb_label,
             line.map,
         ),
     }
-}
-
-/// One entry more, where there is one. No more entries than numbers count as want of memory.
-pub fn add_entry(
-    alloc: Global,
-    names: &mut KnownNames,
-    entry: Option<LaidName>,
-) -> Result<(), NoMemory>
-    ensures { OnOk result (names.new ≡ names.old ++ one_entry entry) }
-{
-    let Some(entry) = entry else {
-        return Ok(());
-    };
-    if names.len() >= 0xFFFF_FFFF {
-        return Err(NoMemory);
-    }
-    names.add(alloc, entry)
 }
 
 /// The entry of the name that a statement imports.

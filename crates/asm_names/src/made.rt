@@ -1,12 +1,13 @@
 //! The entries of names, as statements make them.
 
-ghost use Rattle.std.specs.Prelude.{◌≡◌, IfOk};
+ghost use Rattle.std.specs.Prelude.{◌≡◌, Ok, IfOk};
 ghost use Rattle.std.specs.Option.{option_copied};
 ghost use Rattle.asm_model.specs.Entries as entries;
 ghost use Rattle.asm_model.specs.Labels.{imported_in};
 
-use crate::known::KnownNames;
-use asm_model::{DirectiveLine, LaidName, Value, What};
+use asm_expr::KnownNames;
+use asm_model::{DirectiveLine, LaidName, Meaning, Value, What};
+use sdt_fault::kinds::LineKind;
 use sdt_fault::{NoMemory, Text};
 use std::alloc::Global;
 
@@ -16,22 +17,18 @@ pub fn label_entry(
     name: &Text,
     area: Option<u32>,
     offset: u32,
-    size: u32,
+    size: Option<u32>,
     thumb: bool,
 ) -> Result<LaidName, NoMemory>
     ensures { IfOk result (λ entry. entry ≡ entries.label_entry name.now area offset size thumb) }
 {
     Ok(LaidName {
         name: name.try_clone(alloc)?,
-        value: Value::Place {
-            symbol: name.try_clone(alloc)?,
-            plus: 0,
-        },
+        meaning: Meaning::Label,
         area,
         offset,
         size,
         thumb,
-        place: false,
     })
 }
 
@@ -44,36 +41,84 @@ fn place_entry(
 ) -> Result<LaidName, NoMemory>
     ensures { IfOk result (λ entry. entry ≡ entries.place_entry name.now area offset) }
 {
-    let mut entry = label_entry(alloc, name, area, offset, 0, false)?;
-    entry.place = true;
-    Ok(entry)
+    Ok(LaidName {
+        name: name.try_clone(alloc)?,
+        meaning: Meaning::Place,
+        area,
+        offset,
+        size: Some(0),
+        thumb: false,
+    })
+}
+
+/// The entry of a name that stands nowhere.
+fn entry(
+    alloc: Global,
+    name: &Text,
+    meaning: Meaning,
+    size: Option<u32>,
+    thumb: bool,
+) -> Result<LaidName, NoMemory>
+    ensures { IfOk result (λ entry. entry ≡ entries.entry name.now meaning size thumb) }
+{
+    Ok(LaidName {
+        name: name.try_clone(alloc)?,
+        meaning,
+        area: None,
+        offset: 0,
+        size,
+        thumb,
+    })
 }
 
 /// The entry of an imported name.
 pub fn imported_entry(alloc: Global, name: &Text) -> Result<LaidName, NoMemory>
     ensures { IfOk result (λ entry. entry ≡ entries.imported_entry name.now) }
 {
-    label_entry(alloc, name, None, 0, 0, false)
+    entry(alloc, name, Meaning::Imported, Some(0), false)
+}
+
+/// The entry of a name for a register.
+pub fn register_entry(alloc: Global, name: &Text) -> Result<LaidName, NoMemory>
+    ensures { IfOk result (λ entry. entry ≡ entries.register_entry name.now) }
+{
+    entry(alloc, name, Meaning::Register, Some(0), false)
+}
+
+/// The entry of a name that a line may not know yet.
+pub fn later_entry(alloc: Global, name: &Text, thumb: bool) -> Result<LaidName, NoMemory>
+    ensures { IfOk result (λ entry. entry ≡ entries.later_entry name.now thumb) }
+{
+    entry(alloc, name, Meaning::Later, None, thumb)
 }
 
 /// The entry of a name with a value of its own.
-pub fn valued_entry(
-    alloc: Global,
-    name: &Text,
-    value: Value,
-    thumb: bool,
-) -> Result<LaidName, NoMemory>
+fn valued_entry(alloc: Global, name: &Text, value: Value, thumb: bool) -> Result<LaidName, NoMemory>
     ensures { IfOk result (λ entry. entry ≡ entries.valued_entry name.now value thumb) }
 {
-    Ok(LaidName {
-        name: name.try_clone(alloc)?,
-        value,
-        area: None,
-        offset: 0,
-        size: 0,
-        thumb,
-        place: false,
-    })
+    entry(alloc, name, Meaning::Known(value), Some(0), thumb)
+}
+
+fn none_or_zero(size: Option<u32>) -> Option<u32>
+    ensures { result ≡ entries.none_or_zero size }
+{
+    match size {
+        None => None,
+        Some(_) => Some(0),
+    }
+}
+
+/// The entry of a field of the storage map.
+pub fn field_entry(
+    alloc: Global,
+    name: &Text,
+    map: u32,
+    size: Option<u32>,
+) -> Result<LaidName, NoMemory>
+    ensures { IfOk result (λ entry. entry ≡ entries.field_entry name.now map size) }
+{
+    let meaning = Meaning::Known(Value::Number(map));
+    entry(alloc, name, meaning, none_or_zero(size), false)
 }
 
 fn thumb_of(entry: Option<&LaidName>) -> bool
@@ -85,15 +130,15 @@ fn thumb_of(entry: Option<&LaidName>) -> bool
     }
 }
 
-/// The entry of a name for an expression of an area that has the value there.
-pub fn equal_entry(
+/// The entry of a name for an expression that has the value in an area.
+fn known_entry(
     alloc: Global,
     declared: &KnownNames,
     area: Option<u32>,
     name: &Text,
     value: Value,
 ) -> Result<LaidName, NoMemory>
-    ensures { IfOk result (λ entry. entry ≡ entries.equal_entry declared.now area name.now value) }
+    ensures { IfOk result (λ entry. entry ≡ entries.equal_entry declared.now area name.now (Ok value)) }
 {
     match value {
         Value::Place { symbol, plus } => {
@@ -104,6 +149,22 @@ pub fn equal_entry(
             valued_entry(alloc, name, Value::Place { symbol, plus }, thumb)
         }
         _ => valued_entry(alloc, name, value, false),
+    }
+}
+
+/// The entry of a name for an expression that has the value in an area, or a fault of the kind.
+pub fn equal_entry(
+    alloc: Global,
+    declared: &KnownNames,
+    area: Option<u32>,
+    name: &Text,
+    value: Result<Value, LineKind>,
+) -> Result<LaidName, NoMemory>
+    ensures { IfOk result (λ entry. entry ≡ entries.equal_entry declared.now area name.now value) }
+{
+    match value {
+        Ok(value) => known_entry(alloc, declared, area, name, value),
+        Err(kind) => entry(alloc, name, Meaning::Faulty(kind), Some(0), false),
     }
 }
 

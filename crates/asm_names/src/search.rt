@@ -8,9 +8,9 @@ ghost use Rattle.asm_names.specs.Search.{unknown_in as unknown_number, unknown_f
 use crate::equals::Equal;
 use crate::index::{find, number_of};
 use asm_model::ExprItem;
-use sdt_fault::{NoMemory, Text};
+use indexmap::IndexMap;
+use sdt_fault::NoMemory;
 use std::alloc::Global;
-use std::collections::BTreeMap;
 use std::mem;
 
 /// An expression that waits.
@@ -43,7 +43,7 @@ pub struct Progress {
 }
 
 /// The number of the name that an item mentions, where it is not known.
-fn unknown_in(index: &BTreeMap<Text, u32>, known: &[bool], item: &ExprItem) -> Option<u32>
+fn unknown_in(index: &IndexMap<&[u8], u32>, known: &[bool], item: &ExprItem) -> Option<u32>
     requires { IsWithin index.now (length known.now) }
     ensures { result ≡ unknown_number index.now known.now item.now }
 {
@@ -61,7 +61,7 @@ fn unknown_in(index: &BTreeMap<Text, u32>, known: &[bool], item: &ExprItem) -> O
 
 /// The first unknown name among items, from a place on.
 fn next_unknown(
-    index: &BTreeMap<Text, u32>,
+    index: &IndexMap<&[u8], u32>,
     known: &[bool],
     items: &[ExprItem],
     from: usize,
@@ -91,7 +91,7 @@ fn wait(waits: &mut Vec<Vec<Waiting>>, number: usize, waiting: Waiting) -> Resul
 /// Lets an expression wait for its next unknown name. Without one it has its place.
 fn look_at(
     equals: &[Equal<'_>],
-    index: &BTreeMap<Text, u32>,
+    index: &IndexMap<&[u8], u32>,
     known: &[bool],
     waits: &mut Vec<Vec<Waiting>>,
     places: &mut Vec<u32>,
@@ -123,7 +123,7 @@ fn look_at(
 /// Looks at each of these expressions.
 fn look_at_all(
     equals: &[Equal<'_>],
-    index: &BTreeMap<Text, u32>,
+    index: &IndexMap<&[u8], u32>,
     progress: &mut Progress,
     hand: Vec<Waiting>,
 ) -> Result<(), NoMemory>
@@ -156,7 +156,7 @@ fn take_waiting(alloc: Global, waits: &mut Vec<Vec<Waiting>>, number: usize) -> 
 pub fn settle_next(
     alloc: Global,
     equals: &[Equal<'_>],
-    index: &BTreeMap<Text, u32>,
+    index: &IndexMap<&[u8], u32>,
     progress: &mut Progress,
 ) -> Result<(), NoMemory>
     requires kept { Kept (pairs_of equals.now) index.now progress.old [] }
@@ -207,7 +207,7 @@ fn all_waiting(alloc: Global, count: usize) -> Result<Vec<Waiting>, NoMemory>
 pub fn start(
     alloc: Global,
     equals: &[Equal<'_>],
-    index: &BTreeMap<Text, u32>,
+    index: &IndexMap<&[u8], u32>,
 ) -> Result<Progress, NoMemory>
     requires few { length equals.now < 2 ^ 32 }
     requires index { IsIndexOf 0 (pairs_of equals.now) index.now }

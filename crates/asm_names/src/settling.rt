@@ -10,28 +10,23 @@ use crate::dues::Due;
 use crate::final_values::final_value;
 use crate::listing::add_entry;
 use crate::made::equal_entry;
-use asm_model::{EvalFault, LaidName};
+use asm_expr::told::told_value;
+use asm_model::LaidName;
 use sdt_fault::NoMemory;
 use std::alloc::Global;
 
-/// The entry that a name has by the names that are known, where its expression has a value.
+/// The entry that a name has by the names that are known.
 fn entry_of(
     alloc: Global,
     known: &KnownNames,
     declared: &KnownNames,
     due: &Due<'_>,
-) -> Result<Option<LaidName>, NoMemory>
+) -> Result<LaidName, NoMemory>
     ensures { IfOk result (λ entry. IsEntryOf known.now declared.now (owed_of due.now) entry) }
 {
     let line = due.line;
-    match final_value(alloc, due.value, known, &line) {
-        Ok(value) => {
-            let entry = equal_entry(alloc, declared, line.area, due.name, value)?;
-            Ok(Some(entry))
-        }
-        Err(EvalFault::Kind(_)) => Ok(None),
-        Err(EvalFault::NoMemory) => Err(NoMemory),
-    }
+    let value = told_value(final_value(alloc, due.value, known, &line))?;
+    equal_entry(alloc, declared, line.area, due.name, value)
 }
 
 fn entry_at(
@@ -45,7 +40,7 @@ fn entry_at(
 {
     match dues.get(place as usize) {
         None => Ok(None),
-        Some(due) => entry_of(alloc, known, declared, due),
+        Some(due) => Ok(Some(entry_of(alloc, known, declared, due)?)),
     }
 }
 

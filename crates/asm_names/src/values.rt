@@ -1,56 +1,16 @@
-//! Values of expressions by what is known at their line.
+//! Numbers and literals by what a line sees.
 
 ghost use Rattle.std.specs.Prelude.{◌≡◌};
-ghost use Rattle.asm_model.specs.Meaning.{Evaluates};
-ghost use Rattle.asm_names.specs.Sights.{sight_of, SeesValue, SeesNumber, SeesLiteral};
+ghost use Rattle.asm_expr.specs.Seeing.{seen_names};
 ghost use Rattle.asm_names.specs.Steps as steps;
+ghost use Rattle.asm_names.specs.Values.{SeesNumber, SeesLiteral};
 
-use crate::entries::names_for;
-use crate::faults::names_fault;
 use crate::keeping::kept_items;
-use crate::places::Place;
-use asm_expr::{NameIndex, evaluate, evaluate_indexed};
-use asm_model::{EvalFault, Expr, Names, Value};
+use asm_expr::{Seen, evaluate};
+use asm_model::{EvalFault, Expr, Value};
 use sdt_fault::List;
 use sdt_fault::kinds::LineKind;
 use std::alloc::Global;
-
-/// From so many entries on an index finds names.
-const MANY: usize = 16;
-
-/// The value of an expression with these names.
-fn evaluated(alloc: Global, e: &Expr, names: &Names) -> Result<Value, EvalFault>
-    ensures { Evaluates names.now e.now.items result }
-{
-    let list = names.list.as_slice();
-    if list.len() < MANY {
-        return evaluate(alloc, e, names);
-    }
-    if list.len() > 0xFFFF_FFFF {
-        return evaluate(alloc, e, names);
-    }
-    let index = NameIndex::of(alloc, list)?;
-    evaluate_indexed(alloc, e, names, &index)
-}
-
-/// The value of an expression with the names that its line knows, whatever the source has besides.
-pub fn value_with(alloc: Global, e: &Expr, place: &Place<'_>) -> Result<Value, EvalFault>
-    ensures { Evaluates (sight_of place.now).known e.now.items result }
-{
-    let names = names_for(alloc, place, e.items.as_slice())?;
-    evaluated(alloc, e, &names)
-}
-
-/// The value of an expression by what is known at its line, or the kind of its fault: Forward for a name that the
-/// source defines and the line doesn't know, and UnknownWord for one that nothing defines.
-pub fn value_at(alloc: Global, e: &Expr, place: &Place<'_>) -> Result<Value, EvalFault>
-    ensures { SeesValue (sight_of place.now) e.now.items result }
-{
-    if let Some(kind) = names_fault(place, e.items.as_slice()) {
-        return Err(EvalFault::Kind(kind));
-    }
-    value_with(alloc, e, place)
-}
 
 /// A value as a number.
 fn number_in(value: Result<Value, EvalFault>) -> Result<u32, EvalFault>
@@ -63,22 +23,22 @@ fn number_in(value: Result<Value, EvalFault>) -> Result<u32, EvalFault>
     }
 }
 
-/// The number of an expression by what is known at its line; WrongType where its value is no number.
-pub fn number_at(alloc: Global, e: &Expr, place: &Place<'_>) -> Result<u32, EvalFault>
-    ensures { SeesNumber (sight_of place.now) e.now.items result }
+/// The number of an expression by what its line sees; WrongType where its value is no number.
+pub fn number_at(alloc: Global, e: &Expr, seen: &Seen<'_>) -> Result<u32, EvalFault>
+    ensures { SeesNumber (seen_names seen.now) e.now.items result }
 {
-    number_in(value_at(alloc, e, place))
+    number_in(evaluate(alloc, e, seen))
 }
 
-/// The value of an expression in which names that aren't known stay names.
-fn kept_value(alloc: Global, e: &Expr, place: &Place<'_>) -> Result<Value, EvalFault>
-    ensures { steps.SeesKept (sight_of place.now) e.now.items result }
+/// The value of an expression in which names without a value stay names.
+fn kept_value(alloc: Global, e: &Expr, seen: &Seen<'_>) -> Result<Value, EvalFault>
+    ensures { steps.SeesKept (seen_names seen.now) e.now.items result }
 {
-    let items = kept_items(alloc, place, e.items.as_slice())?;
+    let items = kept_items(alloc, seen, e.items.as_slice())?;
     let kept = Expr {
         items: List::from_vec(items),
     };
-    value_at(alloc, &kept, place)
+    evaluate(alloc, &kept, seen)
 }
 
 /// Whether a value is the literal, or none is known for want of memory.
@@ -87,6 +47,7 @@ fn is_settled(value: &Result<Value, EvalFault>) -> bool
 {
     match value {
         Ok(Value::Number(_)) => true,
+        Ok(Value::Place { .. }) => true,
         Ok(_) => false,
         Err(EvalFault::NoMemory) => true,
         Err(EvalFault::Kind(_)) => false,
@@ -105,14 +66,14 @@ fn place_or_forward(value: Result<Value, EvalFault>) -> Result<Value, EvalFault>
     }
 }
 
-/// The literal of an expression by what is known at its line: a number that is known, or else one name plus a number;
+/// The literal of an expression by what its line sees: a number that is known, or else one name plus a number;
 /// Forward where it is neither.
-pub fn literal_at(alloc: Global, e: &Expr, place: &Place<'_>) -> Result<Value, EvalFault>
-    ensures { SeesLiteral (sight_of place.now) e.now.items result }
+pub fn literal_at(alloc: Global, e: &Expr, seen: &Seen<'_>) -> Result<Value, EvalFault>
+    ensures { SeesLiteral (seen_names seen.now) e.now.items result }
 {
-    let value = value_at(alloc, e, place);
+    let value = evaluate(alloc, e, seen);
     if is_settled(&value) {
         return value;
     }
-    place_or_forward(kept_value(alloc, e, place))
+    place_or_forward(kept_value(alloc, e, seen))
 }

@@ -15,7 +15,7 @@ use Rattle.asm_model.specs.declared.directives.Boundary.{Boundary}
 use Rattle.asm_model.specs.declared.directives.Boundary.TheVariants as limit
 use Rattle.asm_model.specs.declared.directives.DirectiveLine.{DirectiveLine}
 use Rattle.asm_model.specs.declared.directives.DirectiveLine.TheVariants as line
-use Rattle.asm_model.specs.AtLine.{Sight}
+use Rattle.asm_model.specs.declared.names.Names.{Names}
 use Rattle.asm_model.specs.Says.{on_both, mapped}
 use Rattle.asm_model.specs.Extents.{Extent, Block, Padding, Loading, Pool, number_there, literal_there, is_moved, is_power, loading, thumb_extent, pseudo_extent, as_multiple, padding, directive_extent, extent_of}
 use Rattle.asm_model.specs.OffsetLaws.{IsLiteral}
@@ -68,11 +68,11 @@ aligned_thumb : (l : ThumbLine) → IsAligned (thumb_extent l)
 aligned_thumb (thumb.BranchLink target) = two
 aligned_thumb l = two
 
-aligned_pseudo : (s : Sight) (l : PseudoLine) → OkAligned (pseudo_extent s l)
-aligned_pseudo s (pseudo.LoadConstant condition rd value) = aligned_mapped (loading s.known.thumb) (literal_there s value) (aligned_loading s.known.thumb)
-aligned_pseudo s (pseudo.Address condition rd target) = aligned_instruction s.known.thumb 2 4
+aligned_pseudo : (s : Names) (l : PseudoLine) → OkAligned (pseudo_extent s l)
+aligned_pseudo s (pseudo.LoadConstant condition rd value) = aligned_mapped (loading s.thumb) (literal_there s value) (aligned_loading s.thumb)
+aligned_pseudo s (pseudo.Address condition rd target) = aligned_instruction s.thumb 2 4
 aligned_pseudo s (pseudo.LongAddress condition rd target) = four
-aligned_pseudo s pseudo.NoOperation = aligned_instruction s.known.thumb 2 4
+aligned_pseudo s pseudo.NoOperation = aligned_instruction s.thumb 2 4
 
 not_zero : is_power 0 ≡ false
 unfolding is_power
@@ -104,13 +104,13 @@ both_some (Ok m) (Err k) = by_test (is_power m)
 both_some (Err j) (Ok n) = tt
 both_some (Err j) (Err k) = tt
 
-aligned_padding : (s : Sight) (b : Boundary) → OkAligned (padding s b)
+aligned_padding : (s : Names) (b : Boundary) → OkAligned (padding s b)
 aligned_padding s limit.Word = omega arith
 aligned_padding s (limit.Multiple e) = multiple_some (number_there s e) 0
 aligned_padding s (limit.Behind e f) = both_some (number_there s e) (number_there s f)
 
-aligned_directive : (s : Sight) (l : DirectiveLine) → OkAligned (directive_extent s l)
-aligned_directive s line.Entry = aligned_instruction s.known.thumb 0 0
+aligned_directive : (s : Names) (l : DirectiveLine) → OkAligned (directive_extent s l)
+aligned_directive s line.Entry = aligned_instruction s.thumb 0 0
 aligned_directive s (line.Space e) = aligned_mapped (λ n. Block 1 n) (number_there s e) (λ x. one)
 aligned_directive s (line.Align b) = aligned_padding s b
 aligned_directive s (line.Dcd es) = four
@@ -120,7 +120,7 @@ aligned_directive s (line.Dcb es) = one
 aligned_directive s line.Ltorg = tt
 aligned_directive s l = one
 
-aligned : (s : Sight) (w : What) → OkAligned (extent_of s w)
+aligned : (s : Names) (w : What) → OkAligned (extent_of s w)
 aligned s what.Nothing = one
 aligned s (what.Arm l) = four
 aligned s (what.Thumb l) = aligned_thumb l

@@ -2,7 +2,7 @@
 use Rattle.std.specs.Prelude.{◌≡◌, ℕ, List, [], ◌∷◌, Some, Ok}
 use Rattle.asm_model.specs.declared.values.Value.{Value}
 use Rattle.asm_model.specs.declared.statements.What.{What}
-use Rattle.asm_model.specs.AtLine.{Sight}
+use Rattle.asm_model.specs.declared.names.Names.{Names}
 use Rattle.asm_offsets.specs.Coded.{IsExtent}
 use Rattle.asm_offsets.specs.Running.{pools_behind}
 use Rattle.asm_pool.specs.Pooled.{noted, flushed, place_of}
@@ -12,7 +12,7 @@ use Rattle.asm_model.specs.OffsetLaws.{joined}
 
 -- what statements take up can be placed
 abbrev pub ExtentsArePlaceable : Type 0
-ExtentsArePlaceable = (s : Sight) (w : What) (e : Extent) → extent_of s w ≡ Ok e → IsExtent e
+ExtentsArePlaceable = (s : Names) (w : What) (e : Extent) → extent_of s w ≡ Ok e → IsExtent e
 
 abbrev pub AllExtents : List Piece → Type 0
 AllExtents [] = Unit {0}

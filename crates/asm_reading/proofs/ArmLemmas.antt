@@ -2,7 +2,7 @@
 use Rattle.std.proofs.Common.{◌≡◌, ℕ, ◌==◌, ◌&&◌, List, Bool, true, false, refl, arith, Option, Some, None}
 use Rattle.std.specs.Prelude.{Result, Ok, Err}
 use Rattle.sdt_fault.specs.declared.kinds.LineKind.{LineKind}
-use Rattle.sdt_fault.specs.declared.kinds.LineKind.TheVariants.{Syntax, UnknownWord, FloatingPoint, BadOperand}
+use Rattle.sdt_fault.specs.declared.kinds.LineKind.TheVariants.{Syntax, FloatingPoint, BadOperand}
 use Rattle.sdt_word.specs.declared.codes.Condition.{Condition}
 use Rattle.arm_isa.specs.declared.instr.Operation.{Operation}
 use Rattle.arm_isa.specs.declared.instr.Operation.TheVariants as operation
@@ -366,7 +366,7 @@ word_said text mnemonic.LongAddress c ts r k f h = long_address_said text c (cut
 word_said text mnemonic.NoOperation c ts r k f h = equal_gives InstructionSaid r (idle ts) h (idle_in false ts)
 word_said text mnemonic.FloatingPoint c ts r k f h = fault_said FloatingPoint r h
 
-pub instruction_said : (text : List ℕ) (m : Option (Mnemonic × Condition)) (ts : List Token) (r : Result What LineKind) → OptionGives WordSaid m → EachHasForm text ts
-    → Reads text m ts r → Said r
-instruction_said text None ts r k f h = fault_said UnknownWord r h
-instruction_said text (Some m) ts r k f h = word_said text m.0 m.1 ts r k f h
+pub instruction_said : (text : List ℕ) (unnamed : LineKind) (m : Option (Mnemonic × Condition)) (ts : List Token) (r : Result What LineKind) → OptionGives WordSaid m → EachHasForm text ts
+    → Reads text unnamed m ts r → Said r
+instruction_said text unnamed None ts r k f h = fault_said unnamed r h
+instruction_said text unnamed (Some m) ts r k f h = word_said text m.0 m.1 ts r k f h

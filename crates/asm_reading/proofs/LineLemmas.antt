@@ -12,7 +12,7 @@ use Rattle.asm_model.specs.declared.statements.What.{What}
 use Rattle.asm_model.specs.declared.statements.What.TheVariants as what
 use Rattle.asm_model.specs.Directives.{label_need}
 use Rattle.asm_model.specs.Parts.{piece}
-use Rattle.asm_model.specs.Says.{form_of_directive, on_both, label_field, Sentence, sentence, directive_of, statement_of, SaysAs, SaysDirective}
+use Rattle.asm_model.specs.Says.{form_of_directive, on_both, label_field, Sentence, sentence, directive_of, unnamed, statement_of, SaysAs, SaysDirective}
 use Rattle.asm_model.specs.Tokens.{first_due, Tokens, Scans}
 use Rattle.layout_laws.proofs.LineLemmas.{EachHasForm, OptionHasForm, tokens_form, sentence_form, read_directives_are_plain, other_statements_are_plain}
 use Rattle.asm_arm.specs.Says as arm
@@ -50,7 +50,7 @@ arm_words_come flat ts None s tokens h = label ts tokens h
 arm_words_come flat ts (Some t) s tokens h =
     let word = piece flat.text t in
     instruction ts tokens h.0
-    (instruction_said flat.text (arm_words.operation_named word) (sentence ts).behind h.0 (operation_said word) (sentence_forms flat.text ts tokens).1 h.1) h.2
+    (instruction_said flat.text (unnamed t.kind) (arm_words.operation_named word) (sentence ts).behind h.0 (operation_said word) (sentence_forms flat.text ts tokens).1 h.1) h.2
 
 arm_comes : (flat : Flat) (ts : List Token) (d : Result (Option Statement) LineKind) (s : Statement) → Tokens flat.text ts → SaysDirective flat ts d
     → arm.SaysOr flat ts d (Ok (Some s)) → ComesOf false flat s
@@ -68,7 +68,7 @@ thumb_words_come flat ts None s tokens h = label ts tokens h
 thumb_words_come flat ts (Some t) s tokens h =
     let word = piece flat.text t in
     instruction ts tokens h.0
-    (thumb_instruction_said flat.text (thumb_words.operation_named word) (sentence ts).behind h.0 (thumb_operation_said word) (sentence_forms flat.text ts tokens).1 h.1) h.2
+    (thumb_instruction_said flat.text (unnamed t.kind) (thumb_words.operation_named word) (sentence ts).behind h.0 (thumb_operation_said word) (sentence_forms flat.text ts tokens).1 h.1) h.2
 
 thumb_comes : (flat : Flat) (ts : List Token) (d : Result (Option Statement) LineKind) (s : Statement) → Tokens flat.text ts → SaysDirective flat ts d
     → thumb.SaysOr flat ts d (Ok (Some s)) → ComesOf true flat s

@@ -3,7 +3,7 @@ use Rattle.std.proofs.Common.{◌≡◌, ℕ, ◌==◌, ◌&&◌, ◌||◌, nat_
 use Rattle.std.specs.Prelude.{codes, Result, Ok, Err}
 use Rattle.std.specs.List.{list_all}
 use Rattle.sdt_fault.specs.declared.kinds.LineKind.{LineKind}
-use Rattle.sdt_fault.specs.declared.kinds.LineKind.TheVariants.{Syntax, UnknownWord, FloatingPoint, BadOperand}
+use Rattle.sdt_fault.specs.declared.kinds.LineKind.TheVariants.{Syntax, FloatingPoint, BadOperand}
 use Rattle.sdt_word.specs.declared.codes.Width.{Width}
 use Rattle.sdt_word.specs.declared.codes.Width.TheVariants as width
 use Rattle.thumb_isa.specs.declared.instr.HighOperation.TheVariants as high
@@ -394,7 +394,7 @@ word_reads text mnemonic.Address ts r k f h = address_reads text (cut (operands 
 word_reads text mnemonic.NoOperation ts r k f h = equal_gives InThumb r (idle ts) h (idle_in true ts)
 word_reads text mnemonic.FloatingPoint ts r k f h = fault FloatingPoint r h
 
-pub thumb_instruction_said : (text : List ℕ) (m : Option Mnemonic) (ts : List Token) (r : Result What LineKind) → OptionGives ThumbMnemonicSaid m
-    → EachHasForm text ts → Reads text m ts r → SaidInThumb r
-thumb_instruction_said text None ts r k f h = fault UnknownWord r h
-thumb_instruction_said text (Some m) ts r k f h = word_reads text m ts r k f h
+pub thumb_instruction_said : (text : List ℕ) (unnamed : LineKind) (m : Option Mnemonic) (ts : List Token) (r : Result What LineKind) → OptionGives ThumbMnemonicSaid m
+    → EachHasForm text ts → Reads text unnamed m ts r → SaidInThumb r
+thumb_instruction_said text unnamed None ts r k f h = fault unnamed r h
+thumb_instruction_said text unnamed (Some m) ts r k f h = word_reads text m ts r k f h

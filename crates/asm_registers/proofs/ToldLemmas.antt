@@ -17,25 +17,25 @@ use Rattle.base_lemmas.proofs.BaseLemmas.{rest_of}
 
 -- what is told of a register and others
 pub told_before : (s : Scope) (r : Register) (rs : List Register) (a b : Option LineKind)
-    → a ≡ told_kind (name_kinds s.all.now.keys s.declared.now s.known.now.entries r) → b ≡ told_of s rs → first_told a b ≡ told_of s (r ∷ rs)
+    → a ≡ told_kind (name_kinds s.all.now s.declared.now s.known.now r) → b ≡ told_of s rs → first_told a b ≡ told_of s (r ∷ rs)
 told_before s r rs a b e f =
-    told_of_two a b (name_kinds s.all.now.keys s.declared.now s.known.now.entries r) (names_kinds s.all.now.keys s.declared.now s.known.now.entries rs) e f
+    told_of_two a b (name_kinds s.all.now s.declared.now s.known.now r) (names_kinds s.all.now s.declared.now s.known.now rs) e f
 
 -- ---- lists
 
 names_joined : (s : Scope) (rs ss : List Register)
-    → names_kinds s.all.now.keys s.declared.now s.known.now.entries (rs ++ ss)
-    ≡ names_kinds s.all.now.keys s.declared.now s.known.now.entries rs ++ names_kinds s.all.now.keys s.declared.now s.known.now.entries ss
+    → names_kinds s.all.now s.declared.now s.known.now (rs ++ ss)
+    ≡ names_kinds s.all.now s.declared.now s.known.now rs ++ names_kinds s.all.now s.declared.now s.known.now ss
 names_joined s [] ss = refl
 names_joined s (r ∷ rs) ss =
-    ap (λ ks. name_kinds s.all.now.keys s.declared.now s.known.now.entries r ++ ks) (names_joined s rs ss)
-    ∙ sym (append_assoc (name_kinds s.all.now.keys s.declared.now s.known.now.entries r) (names_kinds s.all.now.keys s.declared.now s.known.now.entries rs)
-    (names_kinds s.all.now.keys s.declared.now s.known.now.entries ss))
+    ap (λ ks. name_kinds s.all.now s.declared.now s.known.now r ++ ks) (names_joined s rs ss)
+    ∙ sym (append_assoc (name_kinds s.all.now s.declared.now s.known.now r) (names_kinds s.all.now s.declared.now s.known.now rs)
+    (names_kinds s.all.now s.declared.now s.known.now ss))
 
 told_joined : (s : Scope) (rs ss : List Register) → told_of s (rs ++ ss) ≡ first_told (told_of s rs) (told_of s ss)
 told_joined s rs ss =
     ap told_kind (names_joined s rs ss)
-    ∙ told_by_parts (names_kinds s.all.now.keys s.declared.now s.known.now.entries rs) (names_kinds s.all.now.keys s.declared.now s.known.now.entries ss)
+    ∙ told_by_parts (names_kinds s.all.now s.declared.now s.known.now rs) (names_kinds s.all.now s.declared.now s.known.now ss)
 
 item_told : (s : Scope) (i : ListItem) (is : List ListItem) (told now : Option LineKind) (all : Option LineKind)
     → first_told told (told_of s (list_registers (i ∷ is))) ≡ all → now ≡ told_of s (item_registers i)

@@ -1,21 +1,17 @@
 -- What RN gives, by the number that its expression has at its line. This project's.
-use Rattle.std.specs.Prelude.{◌≡◌, ℕ, List, Result, Ok}
-use Rattle.std.specs.List.{list_any}
-use Rattle.std.specs.BTreeSet.{BTreeSet}
+use Rattle.std.specs.Prelude.{◌≡◌, ℕ, Result, Ok}
 use Rattle.sdt_fault.specs.declared.kinds.LineKind.{LineKind}
 use Rattle.asm_model.specs.declared.directives.RnOperand.{RnOperand}
 use Rattle.asm_model.specs.declared.directives.RnOperand.TheVariants as rn
 use Rattle.asm_model.specs.declared.directives.DirectiveLine.TheVariants as line
-use Rattle.asm_model.specs.declared.statements.Statement.{Statement}
 use Rattle.asm_model.specs.declared.statements.What.{What}
 use Rattle.asm_model.specs.declared.statements.What.TheVariants as what
-use Rattle.asm_model.specs.AtLine.{Sight}
-use Rattle.asm_model.specs.Forms.{same}
+use Rattle.asm_model.specs.declared.names.Names.{Names}
 use Rattle.asm_model.specs.Extents.{number_there}
-use Rattle.source_model.specs.Registers.{as_register, register_names}
+use Rattle.source_model.specs.Registers.{as_register}
 
 -- the number of RN's expression, by what its line sees; of other statements nothing is said
-abbrev pub IsGiven : Sight → What → Result ℕ LineKind → Type 0
+abbrev pub IsGiven : Names → What → Result ℕ LineKind → Type 0
 IsGiven s (what.Directive (line.Rn (rn.Number e))) x = x ≡ number_there s e
 IsGiven s _ x = Unit {0}
 
@@ -23,7 +19,3 @@ IsGiven s _ x = Unit {0}
 abbrev pub given_by : RnOperand → Result ℕ LineKind → Result ℕ LineKind
 given_by (rn.Register n) x = Ok n
 given_by (rn.Number e) x = as_register x
-
--- the set has the names for registers of statements, of which the last is listed first
-abbrev pub AreNames : List Statement → BTreeSet (List ℕ) → Type 0
-AreNames before all = (q : List ℕ) → list_any (same q) all.keys ≡ list_any (same q) (register_names before)

@@ -7,4 +7,4 @@ use Rattle.source_model.specs.Registers.{names_kinds}
 use Rattle.asm_registers.specs.declared.naming.Scope.{Scope}
 
 abbrev pub told_of : Scope → List Register → Option LineKind
-told_of s rs = told_kind (names_kinds s.all.now.keys s.declared.now s.known.now.entries rs)
+told_of s rs = told_kind (names_kinds s.all.now s.declared.now s.known.now rs)

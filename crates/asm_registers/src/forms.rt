@@ -16,9 +16,8 @@ use asm_expr::told::{first_told, kind_if};
 use asm_model::{
     Address, ArmLine, HalfOffset, PseudoLine, Register, ThumbLine, ThumbOperand, What,
 };
-use sdt_fault::Text;
+use asm_sets::NameMap;
 use sdt_fault::kinds::LineKind;
-use std::collections::BTreeMap;
 
 fn address_kind(scope: &Scope<'_>, address: &Address) -> Option<LineKind>
     ensures { result ≡ told_of scope.now (registers.address_registers address.now) }
@@ -161,15 +160,15 @@ fn is_pc(number: Option<u8>) -> bool
     }
 }
 
-fn row_kind(known: &BTreeMap<Text, u8>, line: &ThumbLine) -> Option<LineKind>
-    ensures { result ≡ told_kind (layout.kind_if (not (registers.has_row (registers.number_of known.now.entries) line.now)) BadOperand) }
+fn row_kind(known: &NameMap<u8>, line: &ThumbLine) -> Option<LineKind>
+    ensures { result ≡ told_kind (layout.kind_if (not (registers.has_row (registers.number_of known.now) line.now)) BadOperand) }
 {
     kind_if(!has_row(known, line), LineKind::BadOperand)
 }
 
 /// The fault of a range that falls.
-fn thumb_range_kind(known: &BTreeMap<Text, u8>, line: &ThumbLine) -> Option<LineKind>
-    ensures { result ≡ told_kind (registers.range_kinds known.now.entries (registers.thumb_list line.now)) }
+fn thumb_range_kind(known: &NameMap<u8>, line: &ThumbLine) -> Option<LineKind>
+    ensures { result ≡ told_kind (registers.range_kinds known.now (registers.thumb_list line.now)) }
 {
     match line {
         ThumbLine::PushPop { list, .. } => ranges_kind(known, list.items.as_slice()),
@@ -178,18 +177,14 @@ fn thumb_range_kind(known: &BTreeMap<Text, u8>, line: &ThumbLine) -> Option<Line
     }
 }
 
-fn thumb_operand_kind(known: &BTreeMap<Text, u8>, line: &ThumbLine) -> Option<LineKind>
-    ensures { result ≡ told_kind (registers.operand_kinds true known.now.entries (what.Thumb line.now)) }
+fn thumb_operand_kind(known: &NameMap<u8>, line: &ThumbLine) -> Option<LineKind>
+    ensures { result ≡ told_kind (registers.operand_kinds true known.now (what.Thumb line.now)) }
 {
     first_told(thumb_range_kind(known, line), row_kind(known, line))
 }
 
-fn pseudo_operand_kind(
-    thumb: bool,
-    known: &BTreeMap<Text, u8>,
-    line: &PseudoLine,
-) -> Option<LineKind>
-    ensures { result ≡ told_kind (registers.pseudo_kinds thumb known.now.entries line.now) }
+fn pseudo_operand_kind(thumb: bool, known: &NameMap<u8>, line: &PseudoLine) -> Option<LineKind>
+    ensures { result ≡ told_kind (registers.pseudo_kinds thumb known.now line.now) }
 {
     if thumb {
         return kind_if(!has_pseudo(known, line), LineKind::BadOperand);
@@ -204,8 +199,8 @@ fn pseudo_operand_kind(
 
 /// The fault of registers that no instruction has: a range that falls, pc as the register of ADRL, and in Thumb state a
 /// register that the row doesn't have.
-pub fn operand_kind(thumb: bool, known: &BTreeMap<Text, u8>, what: &What) -> Option<LineKind>
-    ensures { result ≡ told_kind (registers.operand_kinds thumb known.now.entries what.now) }
+pub fn operand_kind(thumb: bool, known: &NameMap<u8>, what: &What) -> Option<LineKind>
+    ensures { result ≡ told_kind (registers.operand_kinds thumb known.now what.now) }
 {
     match what {
         What::Arm(ArmLine::TransferBlock { list, .. }) => ranges_kind(known, list.items.as_slice()),

@@ -1,23 +1,22 @@
 //! What RN gives.
 
 ghost use Rattle.std.specs.Prelude.{◌≡◌, ◌++◌, [], ℕ, List, IfOk, OnOk};
-ghost use Rattle.std.specs.List.{list_any};
 ghost use Rattle.std.specs.Option.{option_copied};
-ghost use Rattle.asm_model.specs.AtLine.{Sight};
-ghost use Rattle.asm_model.specs.Forms.{same};
+ghost use Rattle.asm_model.specs.declared.names.Names.{Names};
 ghost use Rattle.asm_model.specs.Kinds.{told_kind};
 ghost use Rattle.asm_model.specs.Labels.{defined_by};
 ghost use Rattle.asm_model.specs.LayoutKinds.{fault_kinds, listed};
 ghost use Rattle.asm_model.specs.Laid.{reversed};
 ghost use Rattle.source_model.specs.Registers as registers;
-ghost use Rattle.asm_registers.specs.Giving.{given_by, AreNames, IsGiven};
+ghost use Rattle.asm_registers.specs.Giving.{given_by, IsGiven};
+ghost use Rattle.asm_sets.specs.Sets.{HaveSame};
 
 use crate::numbers::register_in;
 use asm_model::{DirectiveLine, RnOperand, Statement, What};
+use asm_sets::{NameMap, NameSet};
 use sdt_fault::kinds::LineKind;
 use sdt_fault::{NoMemory, Text};
 use std::alloc::Global;
-use std::collections::{BTreeMap, BTreeSet};
 
 /// A number as a register.
 fn as_register(number: Result<u32, LineKind>) -> Result<u8, LineKind>
@@ -56,17 +55,17 @@ fn fault_of(register: Result<u8, LineKind>) -> Option<LineKind>
 /// Notes the register of a name that stands for none yet.
 pub fn note(
     alloc: Global,
-    known: &mut BTreeMap<Text, u8>,
+    known: &mut NameMap<u8>,
     name: &Text,
     register: Result<u8, LineKind>,
 ) -> Result<(), NoMemory>
-    ensures { OnOk result ((q : List ℕ) → registers.register_in q known.new.entries ≡ registers.register_in q (known.old.entries ++ registers.with_register name.now register)) }
+    ensures { OnOk result ((q : List ℕ) → registers.register_in q known.new ≡ registers.register_in q (known.old ++ registers.with_register name.now register)) }
 {
     match (register, register_in(known, name)) {
         (Err(_), _) => Ok(()),
         (Ok(_), Some(_)) => Ok(()),
         (Ok(register), None) => {
-            known.insert(name.try_clone(alloc)?, register)?;
+            known.add(alloc, name, register)?;
             Ok(())
         }
     }
@@ -75,12 +74,12 @@ pub fn note(
 /// The fault of a register that RN gives a name. From now on the name stands for it.
 fn give(
     alloc: Global,
-    known: &mut BTreeMap<Text, u8>,
+    known: &mut NameMap<u8>,
     name: &Text,
     register: Result<u8, LineKind>,
 ) -> Result<Option<LineKind>, NoMemory>
     ensures told { IfOk result (λ told. told ≡ told_kind (fault_kinds register)) }
-    ensures noted { OnOk result ((q : List ℕ) → registers.register_in q known.new.entries ≡ registers.register_in q (known.old.entries ++ registers.with_register name.now register)) }
+    ensures noted { OnOk result ((q : List ℕ) → registers.register_in q known.new ≡ registers.register_in q (known.old ++ registers.with_register name.now register)) }
 {
     note(alloc, known, name, register)?;
     Ok(fault_of(register))
@@ -89,12 +88,12 @@ fn give(
 /// The fault of the register that a statement gives its name. From now on the name stands for it.
 pub fn given_kind(
     alloc: Global,
-    known: &mut BTreeMap<Text, u8>,
+    known: &mut NameMap<u8>,
     statement: &Statement,
     number: Result<u32, LineKind>,
 ) -> Result<Option<LineKind>, NoMemory>
-    ensures told { IfOk result (λ told. (s : Sight) → IsGiven s statement.now.what number → told ≡ told_kind (registers.given_kinds s (defined_by statement.now))) }
-    ensures noted { OnOk result ((s : Sight) → IsGiven s statement.now.what number → (q : List ℕ) → registers.register_in q known.new.entries ≡ registers.register_in q (known.old.entries ++ registers.named_by s (defined_by statement.now))) }
+    ensures told { IfOk result (λ told. (s : Names) → IsGiven s statement.now.what number → told ≡ told_kind (registers.given_kinds s (defined_by statement.now))) }
+    ensures noted { OnOk result ((s : Names) → IsGiven s statement.now.what number → (q : List ℕ) → registers.register_in q known.new ≡ registers.register_in q (known.old ++ registers.named_by s (defined_by statement.now))) }
 {
     match (&statement.label, &statement.what) {
         (Some(name), What::Directive(DirectiveLine::Rn { register })) => {
@@ -116,23 +115,23 @@ fn register_name(statement: &Statement) -> Option<&Text>
 }
 
 /// Notes that the name which a statement gives a register is one.
-fn note_name(alloc: Global, all: &mut BTreeSet<Text>, statement: &Statement) -> Result<(), NoMemory>
-    ensures { OnOk result ((q : List ℕ) → list_any (same q) all.new.keys ≡ list_any (same q) (all.old.keys ++ registers.register_name (defined_by statement.now))) }
+fn note_name(alloc: Global, all: &mut NameSet, statement: &Statement) -> Result<(), NoMemory>
+    ensures { OnOk result (HaveSame all.new (registers.register_name (defined_by statement.now) ++ all.old)) }
 {
     match register_name(statement) {
         None => Ok(()),
         Some(name) => {
-            all.insert(name.try_clone(alloc)?)?;
+            all.add(alloc, name)?;
             Ok(())
         }
     }
 }
 
 /// All names for registers of a source.
-pub fn register_names(alloc: Global, statements: &[Statement]) -> Result<BTreeSet<Text>, NoMemory>
-    ensures { IfOk result (λ all. AreNames (reversed statements.now []) all) }
+pub fn register_names(alloc: Global, statements: &[Statement]) -> Result<NameSet, NoMemory>
+    ensures { IfOk result (λ all. HaveSame all (registers.register_names (reversed statements.now []))) }
 {
-    let mut all = BTreeSet::new(alloc);
+    let mut all = NameSet::new(alloc);
     let mut left = statements;
     'statements: loop {
         match left {

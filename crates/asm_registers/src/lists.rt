@@ -9,9 +9,8 @@ use crate::naming::{Scope, one, two};
 use crate::numbers::number_of;
 use asm_expr::told::{first_told, kind_if};
 use asm_model::{ListItem, Register};
-use sdt_fault::Text;
+use asm_sets::NameMap;
 use sdt_fault::kinds::LineKind;
-use std::collections::BTreeMap;
 
 fn item_kind(scope: &Scope<'_>, item: &ListItem) -> Option<LineKind>
     ensures { result ≡ told_of scope.now (registers.item_registers item.now) }
@@ -40,8 +39,8 @@ pub fn items_kind(scope: &Scope<'_>, items: &[ListItem]) -> Option<LineKind>
 }
 
 /// Whether a range falls.
-fn falls(known: &BTreeMap<Text, u8>, first: &Register, last: &Register) -> bool
-    ensures { result ≡ registers.falls (registers.number_of known.now.entries first.now) (registers.number_of known.now.entries last.now) }
+fn falls(known: &NameMap<u8>, first: &Register, last: &Register) -> bool
+    ensures { result ≡ registers.falls (registers.number_of known.now first.now) (registers.number_of known.now last.now) }
 {
     match (number_of(known, first), number_of(known, last)) {
         (Some(first), Some(last)) => last < first,
@@ -49,8 +48,8 @@ fn falls(known: &BTreeMap<Text, u8>, first: &Register, last: &Register) -> bool
     }
 }
 
-fn range_kind(known: &BTreeMap<Text, u8>, item: &ListItem) -> Option<LineKind>
-    ensures { result ≡ told_kind (registers.range_kinds known.now.entries (item.now ∷ [])) }
+fn range_kind(known: &NameMap<u8>, item: &ListItem) -> Option<LineKind>
+    ensures { result ≡ told_kind (registers.range_kinds known.now (item.now ∷ [])) }
 {
     match item {
         ListItem::One(_) => None,
@@ -59,8 +58,8 @@ fn range_kind(known: &BTreeMap<Text, u8>, item: &ListItem) -> Option<LineKind>
 }
 
 /// The fault of a list with a range that falls.
-pub fn ranges_kind(known: &BTreeMap<Text, u8>, items: &[ListItem]) -> Option<LineKind>
-    ensures { result ≡ told_kind (registers.range_kinds known.now.entries items.now) }
+pub fn ranges_kind(known: &NameMap<u8>, items: &[ListItem]) -> Option<LineKind>
+    ensures { result ≡ told_kind (registers.range_kinds known.now items.now) }
 {
     let mut told = None;
     let mut left = items;

@@ -5,6 +5,7 @@ ghost use Rattle.std.specs.List.{list_any};
 ghost use Rattle.asm_model.specs.declared.operands.Register.{Register};
 ghost use Rattle.asm_model.specs.Forms.{same};
 ghost use Rattle.asm_model.specs.Kinds.{told_kind};
+ghost use Rattle.asm_model.specs.Meaning.{named_in};
 ghost use Rattle.source_model.specs.Registers as registers;
 ghost use Rattle.asm_registers.specs.Scoped.{told_of};
 
@@ -12,43 +13,37 @@ use crate::numbers::register_in;
 use asm_expr::told::first_told;
 use asm_model::Register;
 use asm_names::KnownNames;
+use asm_sets::{NameMap, NameSet};
 use sdt_fault::Text;
 use sdt_fault::kinds::LineKind;
-use std::collections::{BTreeMap, BTreeSet};
 
 /// What the names of a line's registers are judged by.
 #[derive(Clone, Copy, Debug)]
 pub struct Scope<'a> {
     /// All names for registers of the source.
-    pub all: &'a BTreeSet<Text>,
-    /// All other names of the source; of their entries the names alone count.
+    pub all: &'a NameSet,
+    /// All names of the source; that they are there is what counts.
     pub declared: &'a KnownNames,
     /// The registers that names stand for at the line.
-    pub known: &'a BTreeMap<Text, u8>,
-}
-
-fn is_register_name(all: &BTreeSet<Text>, name: &Text) -> bool
-    ensures { result ≡ list_any (same name.now) all.now.keys }
-{
-    all.contains(name)
+    pub known: &'a NameMap<u8>,
 }
 
 /// Why a name stands for no register.
 fn no_register(scope: &Scope<'_>, name: &Text) -> LineKind
-    ensures { result ≡ registers.no_register scope.now.all.now.keys scope.now.declared.now name.now }
+    ensures { result ≡ registers.no_register scope.now.all.now name.now (named_in name.now scope.now.declared.now) }
 {
-    if is_register_name(scope.all, name) {
+    if scope.declared.find(name).is_none() {
+        return LineKind::UnknownWord;
+    }
+    if scope.all.has(name) {
         return LineKind::Forward;
     }
-    if scope.declared.find(name).is_some() {
-        return LineKind::WrongType;
-    }
-    LineKind::UnknownWord
+    LineKind::WrongType
 }
 
 /// The fault of a name.
 fn name_kind(scope: &Scope<'_>, name: &Text) -> Option<LineKind>
-    ensures { result ≡ told_kind (registers.kinds_unless (registers.register_in name.now scope.now.known.now.entries) (registers.no_register scope.now.all.now.keys scope.now.declared.now name.now)) }
+    ensures { result ≡ told_kind (registers.kinds_unless (registers.register_in name.now scope.now.known.now) (registers.no_register scope.now.all.now name.now (named_in name.now scope.now.declared.now))) }
 {
     if register_in(scope.known, name).is_some() {
         return None;

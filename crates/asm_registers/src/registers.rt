@@ -13,18 +13,18 @@ use crate::numbers::number_of;
 use asm_expr::told::first_told;
 use asm_model::{Register, Statement};
 use asm_names::KnownNames;
+use asm_sets::{NameMap, NameSet};
+use sdt_fault::NoMemory;
 use sdt_fault::kinds::LineKind;
-use sdt_fault::{NoMemory, Text};
 use std::alloc::Global;
-use std::collections::{BTreeMap, BTreeSet};
 
 /// The names for registers of a source, and which register each of them stands for that is known so far.
 #[derive(Debug, Drop)]
 pub struct Registers {
     alloc: Global,
     /// All names for registers of the source.
-    all: BTreeSet<Text>,
-    known: BTreeMap<Text, u8>,
+    all: NameSet,
+    known: NameMap<u8>,
 }
 
 impl Registers {
@@ -37,7 +37,7 @@ impl Registers {
         Ok(Registers {
             alloc,
             all,
-            known: BTreeMap::new(alloc),
+            known: NameMap::new(alloc),
         })
     }
 
@@ -62,7 +62,7 @@ impl Registers {
 
     /// The fault of the names among a statement's registers.
     fn named(&self, statement: &Statement, declared: &KnownNames) -> Option<LineKind>
-        ensures { result ≡ told_kind (registers.names_kinds self.now.all.keys declared.now self.now.known.entries (registers.registers_of statement.now.what)) }
+        ensures { result ≡ told_kind (registers.names_kinds self.now.all declared.now self.now.known (registers.registers_of statement.now.what)) }
     {
         let scope = Scope {
             all: &self.all,
@@ -73,7 +73,7 @@ impl Registers {
     }
 
     /// The registers that names stand for behind the lines so far.
-    pub fn known(&self) -> &BTreeMap<Text, u8>
+    pub fn known(&self) -> &NameMap<u8>
         ensures { result.now ≡ self.now.known }
     {
         &self.known

@@ -7,12 +7,11 @@ ghost use Rattle.source_model.specs.Registers as registers;
 
 use crate::numbers::number_of;
 use asm_model::{ListItem, PseudoLine, Register, ThumbLine, ThumbOperand};
-use sdt_fault::Text;
-use std::collections::BTreeMap;
+use asm_sets::NameMap;
 use thumb_isa::ImmediateOperation;
 
-fn is_low(known: &BTreeMap<Text, u8>, register: &Register) -> bool
-    ensures { result ≡ registers.is_low (registers.number_of known.now.entries) register.now }
+fn is_low(known: &NameMap<u8>, register: &Register) -> bool
+    ensures { result ≡ registers.is_low (registers.number_of known.now) register.now }
 {
     match number_of(known, register) {
         None => true,
@@ -20,14 +19,14 @@ fn is_low(known: &BTreeMap<Text, u8>, register: &Register) -> bool
     }
 }
 
-fn two_low(known: &BTreeMap<Text, u8>, a: &Register, b: &Register) -> bool
-    ensures { result ≡ registers.is_low (registers.number_of known.now.entries) a.now && registers.is_low (registers.number_of known.now.entries) b.now }
+fn two_low(known: &NameMap<u8>, a: &Register, b: &Register) -> bool
+    ensures { result ≡ registers.is_low (registers.number_of known.now) a.now && registers.is_low (registers.number_of known.now) b.now }
 {
     is_low(known, a) && is_low(known, b)
 }
 
-fn three_low(known: &BTreeMap<Text, u8>, a: &Register, b: &Register, c: &Register) -> bool
-    ensures { result ≡ registers.is_low (registers.number_of known.now.entries) a.now && (registers.is_low (registers.number_of known.now.entries) b.now && registers.is_low (registers.number_of known.now.entries) c.now) }
+fn three_low(known: &NameMap<u8>, a: &Register, b: &Register, c: &Register) -> bool
+    ensures { result ≡ registers.is_low (registers.number_of known.now) a.now && (registers.is_low (registers.number_of known.now) b.now && registers.is_low (registers.number_of known.now) c.now) }
 {
     is_low(known, a) && two_low(known, b, c)
 }
@@ -39,8 +38,8 @@ fn has_sum(subtract: bool, number: u8) -> bool
     number < 8 || (!subtract && (number == 13 || number == 15))
 }
 
-fn is_sum_base(known: &BTreeMap<Text, u8>, subtract: bool, register: &Register) -> bool
-    ensures { result ≡ registers.if_known (registers.has_sum subtract) (registers.number_of known.now.entries register.now) }
+fn is_sum_base(known: &NameMap<u8>, subtract: bool, register: &Register) -> bool
+    ensures { result ≡ registers.if_known (registers.has_sum subtract) (registers.number_of known.now register.now) }
 {
     match number_of(known, register) {
         None => true,
@@ -49,13 +48,13 @@ fn is_sum_base(known: &BTreeMap<Text, u8>, subtract: bool, register: &Register) 
 }
 
 fn adds(
-    known: &BTreeMap<Text, u8>,
+    known: &NameMap<u8>,
     subtract: bool,
     rd: &Register,
     rs: &Register,
     operand: &ThumbOperand,
 ) -> bool
-    ensures { result ≡ registers.has_row (registers.number_of known.now.entries) (thumb.AddSubtract subtract rd.now rs.now operand.now) }
+    ensures { result ≡ registers.has_row (registers.number_of known.now) (thumb.AddSubtract subtract rd.now rs.now operand.now) }
 {
     match operand {
         ThumbOperand::Register(rn) => three_low(known, rd, rs, rn),
@@ -74,8 +73,8 @@ fn adjusts(operation: ImmediateOperation) -> bool
     }
 }
 
-fn has_immediate(known: &BTreeMap<Text, u8>, operation: ImmediateOperation, rd: &Register) -> bool
-    ensures { result ≡ registers.if_known (λ d. nat_lt d 8 || d == 13 && registers.adjusts operation) (registers.number_of known.now.entries rd.now) }
+fn has_immediate(known: &NameMap<u8>, operation: ImmediateOperation, rd: &Register) -> bool
+    ensures { result ≡ registers.if_known (λ d. nat_lt d 8 || d == 13 && registers.adjusts operation) (registers.number_of known.now rd.now) }
 {
     match number_of(known, rd) {
         None => true,
@@ -90,8 +89,8 @@ fn has_base(load: bool, byte: bool, number: u8) -> bool
     number < 8 || (!byte && (number == 13 || (load && number == 15)))
 }
 
-fn is_base(known: &BTreeMap<Text, u8>, load: bool, byte: bool, register: &Register) -> bool
-    ensures { result ≡ registers.if_known (registers.has_base load byte) (registers.number_of known.now.entries register.now) }
+fn is_base(known: &NameMap<u8>, load: bool, byte: bool, register: &Register) -> bool
+    ensures { result ≡ registers.if_known (registers.has_base load byte) (registers.number_of known.now register.now) }
 {
     match number_of(known, register) {
         None => true,
@@ -108,8 +107,8 @@ fn is_listed(more: u8, number: u8) -> bool
     number < 8 || number == more
 }
 
-fn has_one(known: &BTreeMap<Text, u8>, more: u8, register: &Register) -> bool
-    ensures { result ≡ registers.if_known (registers.is_listed more) (registers.number_of known.now.entries register.now) }
+fn has_one(known: &NameMap<u8>, more: u8, register: &Register) -> bool
+    ensures { result ≡ registers.if_known (registers.is_listed more) (registers.number_of known.now register.now) }
 {
     match number_of(known, register) {
         None => true,
@@ -126,8 +125,8 @@ fn has_range(more: u8, first: Option<u8>, last: Option<u8>) -> bool
     }
 }
 
-fn has_item(known: &BTreeMap<Text, u8>, more: u8, item: &ListItem) -> bool
-    ensures { result ≡ registers.has_item more (registers.number_of known.now.entries) item.now }
+fn has_item(known: &NameMap<u8>, more: u8, item: &ListItem) -> bool
+    ensures { result ≡ registers.has_item more (registers.number_of known.now) item.now }
 {
     match item {
         ListItem::One(register) => has_one(known, more, register),
@@ -137,8 +136,8 @@ fn has_item(known: &BTreeMap<Text, u8>, more: u8, item: &ListItem) -> bool
     }
 }
 
-fn has_items(known: &BTreeMap<Text, u8>, more: u8, items: &[ListItem]) -> bool
-    ensures { result ≡ list_all (registers.has_item more (registers.number_of known.now.entries)) items.now }
+fn has_items(known: &NameMap<u8>, more: u8, items: &[ListItem]) -> bool
+    ensures { result ≡ list_all (registers.has_item more (registers.number_of known.now)) items.now }
 {
     items.iter().all(|item| has_item(known, more, item))
 }
@@ -156,8 +155,8 @@ fn link_register(load: bool) -> u8
 // ---- lines
 
 /// Whether the row of a line has its registers.
-pub fn has_row(known: &BTreeMap<Text, u8>, line: &ThumbLine) -> bool
-    ensures { result ≡ registers.has_row (registers.number_of known.now.entries) line.now }
+pub fn has_row(known: &NameMap<u8>, line: &ThumbLine) -> bool
+    ensures { result ≡ registers.has_row (registers.number_of known.now) line.now }
 {
     match line {
         ThumbLine::ShiftImmediate { rd, rs, .. } => two_low(known, rd, rs),
@@ -193,8 +192,8 @@ pub fn has_row(known: &BTreeMap<Text, u8>, line: &ThumbLine) -> bool
 }
 
 /// Whether the instruction of a literal or an address has its register.
-pub fn has_pseudo(known: &BTreeMap<Text, u8>, line: &PseudoLine) -> bool
-    ensures { result ≡ registers.has_pseudo (registers.number_of known.now.entries) line.now }
+pub fn has_pseudo(known: &NameMap<u8>, line: &PseudoLine) -> bool
+    ensures { result ≡ registers.has_pseudo (registers.number_of known.now) line.now }
 {
     match line {
         PseudoLine::LoadConstant { rd, .. } => is_low(known, rd),

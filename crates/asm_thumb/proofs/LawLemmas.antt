@@ -13,7 +13,7 @@ use Rattle.asm_model.specs.declared.statements.What.{What}
 use Rattle.asm_model.specs.Grammar.{OneParse, ParsesTokens}
 use Rattle.asm_model.specs.Operands.{operands}
 use Rattle.asm_model.specs.Parts.{part_of, piece}
-use Rattle.asm_model.specs.Says.{sentence, OneDirective}
+use Rattle.asm_model.specs.Says.{sentence, unnamed, OneDirective}
 use Rattle.asm_model.specs.Tokens.{OneScan}
 use Rattle.asm_arm.specs.Lines.{hash, equals, bracket, numbered}
 use Rattle.asm_arm.specs.Operands.{Cuts, none, one, two, three, four, more, cut, without_first}
@@ -139,14 +139,15 @@ one_word law text mnemonic.Address ts a b p q = one_address law text (cut (opera
 one_word law text mnemonic.NoOperation ts a b p q = p ∙ sym q
 one_word law text mnemonic.FloatingPoint ts a b p q = p ∙ sym q
 
-one_reading : OneParse → (text : List ℕ) (m : Option Mnemonic) (ts : List Token) (a b : Result What LineKind) → lines.Reads text m ts a → lines.Reads text m ts b → a ≡ b
-one_reading law text None ts a b p q = p ∙ sym q
-one_reading law text (Some m) ts a b p q = one_word law text m ts a b p q
+one_reading : OneParse → (text : List ℕ) (k : LineKind) (m : Option Mnemonic) (ts : List Token) (a b : Result What LineKind) → lines.Reads text k m ts a → lines.Reads text k m ts b → a ≡ b
+one_reading law text k None ts a b p q = p ∙ sym q
+one_reading law text k (Some m) ts a b p q = one_word law text m ts a b p q
 
 one_words : OneParse → (flat : Flat) (label o : Option Token) (ts : List Token) (a b : Result (Option Statement) LineKind) → SaysWords flat label o ts a → SaysWords flat label o ts b → a ≡ b
 one_words law flat label None ts a b p q = p ∙ sym q
 one_words law flat label (Some t) ts a b p q =
-    one_made (lines.Reads flat.text (operation_named (piece flat.text t)) ts) _ (one_reading law flat.text (operation_named (piece flat.text t)) ts) a b p q
+    one_made (lines.Reads flat.text (unnamed t.kind) (operation_named (piece flat.text t)) ts) _
+    (one_reading law flat.text (unnamed t.kind) (operation_named (piece flat.text t)) ts) a b p q
 
 one_or : OneParse → (flat : Flat) (ts : List Token) (d a b : Result (Option Statement) LineKind) → SaysOr flat ts d a → SaysOr flat ts d b → a ≡ b
 one_or law flat ts (Ok None) a b p q = one_words law flat (sentence ts).label (sentence ts).operation (sentence ts).behind a b p q

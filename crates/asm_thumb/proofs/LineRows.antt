@@ -25,6 +25,7 @@ use Rattle.asm_model.specs.Grammar.{Parses, Leaf, operand as leaf, plain, tighte
 use Rattle.asm_model.specs.Operands.{depth_behind}
 use Rattle.asm_model.specs.Parts.{piece}
 use Rattle.asm_model.specs.Registers.{call_register, numbered_register, register_named, special_register}
+use Rattle.asm_model.specs.Says.{unnamed}
 use Rattle.asm_arm.specs.Words as arm
 use Rattle.asm_thumb.specs.Lines.{Reads}
 use Rattle.asm_thumb.specs.Words.{core_named, operation_named}
@@ -34,7 +35,7 @@ token kind start end = record { kind = kind; start = start; end = end }
 
 -- what a line says, from its operation and the tokens behind it
 abbrev Says : List ℕ → Token → List Token → Result What LineKind → Type 0
-Says text o ts r = Reads text (operation_named (piece text o)) ts r
+Says text o ts r = Reads text (unnamed o.kind) (operation_named (piece text o)) ts r
 
 abbrev leaf_of : ExprItem → Expr
 leaf_of i = record { items = i ∷ [] }

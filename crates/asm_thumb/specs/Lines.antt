@@ -3,7 +3,7 @@
 -- doesn't have is BadOperand. Values are judged elsewhere.
 use Rattle.std.specs.Prelude.{◌≡◌, ℕ, List, Bool, true, false, Option, Some, None, Result, Ok, Err}
 use Rattle.sdt_fault.specs.declared.kinds.LineKind.{LineKind}
-use Rattle.sdt_fault.specs.declared.kinds.LineKind.TheVariants.{Syntax, UnknownWord, FloatingPoint}
+use Rattle.sdt_fault.specs.declared.kinds.LineKind.TheVariants.{Syntax, FloatingPoint}
 use Rattle.thumb_isa.specs.declared.instr.HighOperation.TheVariants as high
 use Rattle.asm_model.specs.declared.tokens.Token.{Token}
 use Rattle.asm_model.specs.declared.statements.What.{What}
@@ -68,7 +68,7 @@ ReadsWord text mnemonic.Address ts r = ReadsAddress text (cut (operands text ts)
 ReadsWord text mnemonic.NoOperation ts r = r ≡ idle ts
 ReadsWord text mnemonic.FloatingPoint ts r = r ≡ Err FloatingPoint
 
--- a word that no operation has
-abbrev pub Reads : List ℕ → Option Mnemonic → List Token → Result What LineKind → Type 0
-Reads text None ts r = r ≡ Err UnknownWord
-Reads text (Some m) ts r = ReadsWord text m ts r
+-- the same, of an operation that may have no name, and the kind of the fault then
+abbrev pub Reads : List ℕ → LineKind → Option Mnemonic → List Token → Result What LineKind → Type 0
+Reads text k None ts r = r ≡ Err k
+Reads text k (Some m) ts r = ReadsWord text m ts r

@@ -10,7 +10,7 @@ use Rattle.asm_model.specs.declared.directives.LabelNeed.TheVariants as need
 use Rattle.asm_model.specs.declared.statements.Statement.{Statement}
 use Rattle.asm_model.specs.declared.statements.What.{What}
 use Rattle.asm_model.specs.Parts.{piece}
-use Rattle.asm_model.specs.Says.{on_both, label_field, Sentence, sentence, SaysDirective}
+use Rattle.asm_model.specs.Says.{on_both, label_field, Sentence, sentence, unnamed, SaysDirective}
 use Rattle.asm_model.specs.Tokens.{Scans}
 use Rattle.asm_arm.specs.Says.{alone, statement}
 use Rattle.asm_thumb.specs.Lines.{Reads}
@@ -19,7 +19,7 @@ use Rattle.asm_thumb.specs.Words.{operation_named}
 -- a line with an operation
 abbrev pub SaysOperation : Flat → Option Token → Token → List Token → Result (Option Statement) LineKind → Type 0
 SaysOperation flat label t ts r =
-    (w : Result What LineKind) × Reads flat.text (operation_named (piece flat.text t)) ts w
+    (w : Result What LineKind) × Reads flat.text (unnamed t.kind) (operation_named (piece flat.text t)) ts w
     × (r ≡ on_both (statement flat) (label_field need.Optional flat.text label) w)
 
 abbrev pub SaysWords : Flat → Option Token → Option Token → List Token → Result (Option Statement) LineKind → Type 0

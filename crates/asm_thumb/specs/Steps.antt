@@ -6,7 +6,7 @@ use Rattle.asm_model.specs.declared.directives.LabelNeed.TheVariants as need
 use Rattle.asm_model.specs.declared.statements.What.{What}
 use Rattle.asm_model.specs.declared.statements.What.TheVariants as what
 use Rattle.asm_model.specs.Parts.{piece}
-use Rattle.asm_model.specs.Says.{mapped, label_field, Sentence}
+use Rattle.asm_model.specs.Says.{mapped, label_field, Sentence, unnamed}
 use Rattle.asm_arm.specs.declared.operands.Cut.{Cut}
 use Rattle.asm_arm.specs.Operands.{Cuts, both}
 use Rattle.asm_arm.specs.Steps.{cut_of}
@@ -21,7 +21,7 @@ cuts_in (Some c) = Some (cut_of c)
 -- the label and the operation of a line
 abbrev pub IsOperationRead : List ℕ → Option Token → Token → List Token → Result (Option (List ℕ) × What) LineKind → Type 0
 IsOperationRead text label t ts r =
-    (w : Result What LineKind) × Reads text (operation_named (piece text t)) ts w
+    (w : Result What LineKind) × Reads text (unnamed t.kind) (operation_named (piece text t)) ts w
     × (r ≡ both (label_field need.Optional text label) w)
 
 abbrev pub IsLineRead : List ℕ → Option Token → Option Token → List Token → Result (Option (List ℕ) × What) LineKind → Type 0

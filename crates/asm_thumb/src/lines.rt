@@ -158,12 +158,18 @@ fn of_word(alloc: Global, text: &[u8], mnemonic: Mnemonic, tokens: &[Token]) -> 
     }
 }
 
-/// What the tokens behind an operation word say; UnknownWord where no operation has that word.
-pub fn instruction(alloc: Global, text: &[u8], word: Option<Mnemonic>, tokens: &[Token]) -> Said
-    ensures { IfOk result (λ said. lines.Reads text.now word tokens.now said) }
+/// What the tokens behind an operation say, or the fault where nothing names it.
+pub fn instruction(
+    alloc: Global,
+    text: &[u8],
+    fault: LineKind,
+    word: Option<Mnemonic>,
+    tokens: &[Token],
+) -> Said
+    ensures { IfOk result (λ said. lines.Reads text.now fault word tokens.now said) }
 {
     match word {
-        None => Ok(Err(LineKind::UnknownWord)),
+        None => Ok(Err(fault)),
         Some(mnemonic) => of_word(alloc, text, mnemonic, tokens),
     }
 }

@@ -11,6 +11,7 @@ ghost use Rattle.asm_expr.specs.SentenceSteps.{sentence_of};
 
 use crate::lines::instruction;
 use crate::words::operation_named;
+use asm_arm::lines::unnamed;
 use asm_arm::operands::both;
 use asm_arm::says::{Labelled, told};
 use asm_expr::directives::{Sentence, label_field, one_directive, parts_of};
@@ -36,7 +37,7 @@ fn with_operation(
 {
     let label = label_field(alloc, LabelNeed::Optional, text, label)?;
     let word = operation_named(piece_of(text, operation));
-    let said = instruction(alloc, text, word, tokens)?;
+    let said = instruction(alloc, text, unnamed(operation.kind), word, tokens)?;
     Ok(both(label, said))
 }
 
@@ -88,11 +89,11 @@ fn parse_tokens(alloc: Global, line: &Flat, tokens: &[Token]) -> Result<Option<S
 }
 
 /// What a line of Thumb state says; None exactly for a blank line. A line with faults is refused, and of several kinds
-/// the first in the order of the kinds is told: Syntax where the line has no tokens or its tokens have no form,
-/// UnknownWord for an operation that nothing names in this state, FloatingPoint for a word of the FPA, BadOperand for a
-/// register that no row of the form has and for a range of registers that falls, Constant for a number above 2^32 - 1;
-/// and the faults of directives. The values of expressions are judged elsewhere, and so are names in the place of
-/// registers, which count as registers from r0 to r7 here.
+/// the first in the order of the kinds is told: Syntax where the line has no tokens, its tokens have no form or its
+/// operation is no word, UnknownWord for an operation word that nothing names in this state, FloatingPoint for a word
+/// of the FPA, BadOperand for a register that no row of the form has and for a range of registers that falls, Constant
+/// for a number above 2^32 - 1; and the faults of directives. The values of expressions are judged elsewhere, and so
+/// are names in the place of registers, which count as registers from r0 to r7 here.
 pub fn parse_thumb(alloc: Global, line: &Flat) -> Result<Option<Statement>, Fault>
     requires { length line.now.text < 2 ^ 32 }
     ensures { Told line.now.source line.now.number (says.SaysThumb line.now) result }

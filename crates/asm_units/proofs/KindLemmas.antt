@@ -1,9 +1,9 @@
 -- The kinds of values are those that each context gives that is shown.
-use Rattle.std.proofs.Common.{◌≡◌, ℕ, ◌+◌, ◌%◌, ◌^◌, ◌<◌, Bool, cond, List, [], ◌∷◌, length, Option, Some, None, refl, sym, ap, ◌∙◌, subst}
+use Rattle.std.proofs.Common.{◌≡◌, ℕ, ◌+◌, ◌%◌, ◌^◌, ◌<◌, List, [], ◌∷◌, length, Option, Some, None, refl, sym, ap, ◌∙◌}
 use Rattle.std.specs.Prelude.{Result, Ok, Err, IfOk, nat_le, slice_index}
 use Rattle.std.proofs.lemmas.Option.{slice_get-get_or}
 use Rattle.sdt_fault.specs.declared.kinds.LineKind.{LineKind}
-use Rattle.sdt_fault.specs.declared.kinds.LineKind.TheVariants.{UnknownWord, WrongType}
+use Rattle.sdt_fault.specs.declared.kinds.LineKind.TheVariants.{WrongType}
 use Rattle.asm_model.specs.declared.exprs.BinaryOp.TheVariants.{Add}
 use Rattle.asm_model.specs.declared.directives.DirectiveLine.{DirectiveLine}
 use Rattle.asm_model.specs.declared.directives.DirectiveLine.TheVariants as line
@@ -13,24 +13,23 @@ use Rattle.asm_model.specs.declared.statements.What.{What}
 use Rattle.asm_model.specs.declared.statements.What.TheVariants as what
 use Rattle.asm_model.specs.declared.values.Value.{Value}
 use Rattle.asm_model.specs.declared.values.Value.TheVariants.{Number, Truth, Words, Place}
-use Rattle.asm_model.specs.AtLine.{Sight}
 use Rattle.asm_model.specs.Kinds.{told_kind}
-use Rattle.asm_model.specs.Meaning as meaning
-use Rattle.asm_model.specs.Meaning.{named_in, stands_at, binary}
+use Rattle.asm_model.specs.Meaning.{named_in, stands_at, entry_value, value_of, on_both, binary}
 use Rattle.asm_model.specs.Says.{mapped}
 use Rattle.asm_model.specs.LayoutKinds.{fault_kinds}
 use Rattle.asm_model.specs.Symbols.{literal_value}
 use Rattle.source_model.specs.Contexts.{Context, sees}
 use Rattle.source_model.specs.Units.{stored}
-use Rattle.source_model.specs.ValueKinds.{lies_within, kinds_unless, export_kinds, assert_kinds, directive_kinds, statement_kinds}
-use Rattle.asm_instructions.specs.Scenes.{has_symbol, context_of}
-use Rattle.asm_instructions.proofs.ContextLemmas.{Alike, symbols_listed, shown_alike}
+use Rattle.source_model.specs.ValueKinds.{lies_within, kinds_unless, exported_kinds, export_kinds, assert_kinds, directive_kinds, statement_kinds}
+use Rattle.asm_instructions.specs.Scenes.{context_of}
+use Rattle.asm_instructions.proofs.AlikeLemmas.{stands_alike}
+use Rattle.asm_instructions.proofs.ContextLemmas.{Alike, shown_alike}
 use Rattle.asm_units.specs.declared.beside.Beside.{Beside}
 use Rattle.asm_units.specs.declared.emitted.Stored.{Stored as Code}
 use Rattle.asm_units.specs.Emitting.{stored_of}
-use Rattle.asm_units.specs.Literals.{moved_value, moved_entry}
-use Rattle.asm_units.specs.Showing.{ShowsBeside, context_beside, sizes_of}
-use Rattle.asm_units.proofs.ShowLemmas.{labels_listed, stands_alike, stored_alike}
+use Rattle.asm_units.specs.Literals.{moved}
+use Rattle.asm_units.specs.Showing.{ShowsBeside, sizes_of}
+use Rattle.asm_units.proofs.ShowLemmas.{stored_alike}
 
 pub fault_mapped : {A B : Type 0} (f : A → B) (r : Result A LineKind) → fault_kinds (mapped f r) ≡ fault_kinds r
 fault_mapped f (Ok a) = refl
@@ -38,91 +37,81 @@ fault_mapped f (Err k) = refl
 
 -- ---- literals
 
-value_moved : (names : Names) (v : Value) (n : ℕ) → binary names Add v (Number n) ≡ moved_value v n
-value_moved names (Number m) n = refl
-value_moved names (Truth t) n = refl
-value_moved names (Words w) n = refl
-value_moved names (Place q m) n = refl
-
-entry_moved : (names : Names) (o : Option LaidName) (n : ℕ) → meaning.on_both (meaning.value_of o) (Ok (Number n)) (binary names Add) ≡ moved_entry o n
-entry_moved names None n = refl
-entry_moved names (Some e) n = value_moved names e.value n
+value_moved : (names : Names) (r : Result Value LineKind) (n : ℕ) → on_both r (Ok (Number n)) (binary names Add) ≡ moved r n
+value_moved names (Ok (Number m)) n = refl
+value_moved names (Ok (Truth t)) n = refl
+value_moved names (Ok (Words w)) n = refl
+value_moved names (Ok (Place q m)) n = refl
+value_moved names (Err k) n = refl
 
 pub literal_alike : (a b : Context) → Alike a b → (v : Value) → literal_value (sees a) v ≡ literal_value (sees b) v
 literal_alike a b s (Place (x ∷ xs) n) =
-    entry_moved (sees a) (named_in (x ∷ xs) (sees a).list) n
-    ∙ ap (λ o. moved_entry o n) (s.entry (x ∷ xs))
-    ∙ sym (entry_moved (sees b) (named_in (x ∷ xs) (sees b).list) n)
+    value_moved (sees a) (value_of (named_in (x ∷ xs) (sees a).list)) n
+    ∙ ap (λ o. moved (value_of o) n) (s.entry (x ∷ xs))
+    ∙ sym (value_moved (sees b) (value_of (named_in (x ∷ xs) (sees b).list)) n)
 literal_alike a b s (Place [] n) = refl
 literal_alike a b s (Number n) = refl
 literal_alike a b s (Truth t) = refl
 literal_alike a b s (Words w) = refl
 
-literal_shown : (x : Beside) (v : Value) (c : Context) (data_names : List (List ℕ)) (sizes : ℕ → ℕ) (s : Sight) (word : Option ℕ) (w : What)
+literal_shown : (x : Beside) (v : Value) (c : Context) (data_names : List (List ℕ)) (sizes : ℕ → ℕ) (s : Names) (word : Option ℕ) (w : What)
     → ShowsBeside x c data_names sizes s word w
-    → stored (context_of x.scene) x.data.now.keys (literal_value (sees (context_of x.scene)) v) ≡ stored c data_names (literal_value (sees c) v)
+    → stored (context_of x.scene) x.data.now (literal_value (sees (context_of x.scene)) v) ≡ stored c data_names (literal_value (sees c) v)
 literal_shown x v c data_names sizes s word w h =
     let a = context_of x.scene in
     let found = shown_alike x.scene c h.scene in
-    ap (stored a x.data.now.keys) (literal_alike a c found v)
-    ∙ stored_alike a c found x.data.now.keys data_names (labels_listed x data_names h.labels) (literal_value (sees c) v)
+    ap (stored a x.data.now) (literal_alike a c found v)
+    ∙ stored_alike a c found x.data.now data_names h.labels (literal_value (sees c) v)
 
 pub literal_answered : {E : Type 0} (x : Beside) (v : Value) (r : Result (Result Code LineKind) E)
-    → IfOk r (λ l. mapped stored_of l ≡ stored (context_of x.scene) x.data.now.keys (literal_value (sees (context_of x.scene)) v))
+    → IfOk r (λ l. mapped stored_of l ≡ stored (context_of x.scene) x.data.now (literal_value (sees (context_of x.scene)) v))
     → IfOk r
-    (λ l. (c : Context) (data_names : List (List ℕ)) (sizes : ℕ → ℕ) (s : Sight) (word : Option ℕ) (w : What) → ShowsBeside x c data_names sizes s word w
+    (λ l. (c : Context) (data_names : List (List ℕ)) (sizes : ℕ → ℕ) (s : Names) (word : Option ℕ) (w : What) → ShowsBeside x c data_names sizes s word w
     → mapped stored_of l ≡ stored c data_names (literal_value (sees c) v))
 literal_answered x v (Ok l) e = λ c data_names sizes s word w h. e ∙ literal_shown x v c data_names sizes s word w h
 literal_answered x v (Err k) e = tt
 
 -- ---- EXPORT and KEEP
 
-pub unvalued_listed : (x : Beside) (name : List ℕ) (o : Option LaidName) (defined : Bool) (r : Option LineKind) → None ≡ o → defined ≡ has_symbol x.defined.now name
-    → r ≡ Some (cond defined WrongType UnknownWord) → r ≡ told_kind (export_kinds (context_beside x) (sizes_of x) name o)
-unvalued_listed x name o defined r e d h =
-    subst (λ z. r ≡ told_kind (export_kinds (context_beside x) (sizes_of x) name z)) e
-    (h ∙ ap (λ t. Some (cond t WrongType UnknownWord)) (d ∙ symbols_listed x.defined.now name))
-
-module _ (x : Beside) (c : Context) (data_names : List (List ℕ)) (sizes : ℕ → ℕ) (s : Sight) (word : Option ℕ) (w : What) (h : ShowsBeside x c data_names sizes s word w) where
+module _ (x : Beside) (c : Context) (data_names : List (List ℕ)) (sizes : ℕ → ℕ) (s : Names) (word : Option ℕ) (w : What) (h : ShowsBeside x c data_names sizes s word w) where
   lies_shown : (p : Option (ℕ × ℕ)) (n : ℕ) → ((area o : ℕ) → p ≡ Some (area, o) → area < length x.sizes.now)
       → lies_within (sizes_of x) p n ≡ lies_within sizes p n
   lies_shown None n within = refl
   lies_shown (Some a) n within =
       ap (nat_le ((a.1 + n) % 2 ^ 32)) (h.measured a.0 (slice_index x.sizes.now a.0) (slice_get-get_or x.sizes.now a.0 0 (within a.0 a.1 refl)))
 
-  value_shown : (name : List ℕ) (e : LaidName) (v : Value)
-      → export_kinds (context_beside x) (sizes_of x) name (Some (record e { value = v })) ≡ export_kinds c sizes name (Some (record e { value = v }))
-  value_shown name e (Number n) = refl
-  value_shown name e (Truth t) = refl
-  value_shown name e (Words ws) = refl
-  value_shown name e (Place q n) =
+  value_shown : (r : Result Value LineKind) → exported_kinds (context_of x.scene) (sizes_of x) r ≡ exported_kinds c sizes r
+  value_shown (Ok (Number n)) = refl
+  value_shown (Ok (Truth t)) = refl
+  value_shown (Ok (Words ws)) = refl
+  value_shown (Ok (Place q n)) =
       ap (λ p. kinds_unless (lies_within (sizes_of x) p n) WrongType) (stands_alike (context_of x.scene) c (shown_alike x.scene c h.scene) q)
       ∙ ap (λ t. kinds_unless t WrongType) (lies_shown (stands_at (sees c) q) n (λ area o. h.within q area o))
+  value_shown (Err k) = refl
 
-  entry_shown : (name : List ℕ) (o : Option LaidName) → export_kinds (context_beside x) (sizes_of x) name o ≡ export_kinds c sizes name o
-  entry_shown name None =
-      ap (λ t. cond t WrongType UnknownWord ∷ []) (sym (symbols_listed x.defined.now name) ∙ h.defined name)
-  entry_shown name (Some e) = value_shown name e e.value
+  entry_shown : (o : Option LaidName) → export_kinds (context_of x.scene) (sizes_of x) o ≡ export_kinds c sizes o
+  entry_shown None = refl
+  entry_shown (Some n) = value_shown (entry_value n)
 
-  export_shown : (name : List ℕ) → export_kinds (context_beside x) (sizes_of x) name (named_in name x.scene.names.now) ≡ export_kinds c sizes name (named_in name c.names)
+  export_shown : (name : List ℕ) → export_kinds (context_of x.scene) (sizes_of x) (named_in name x.scene.names.now) ≡ export_kinds c sizes (named_in name c.names)
   export_shown name =
-      entry_shown name (named_in name x.scene.names.now) ∙ ap (λ names. export_kinds c sizes name (named_in name names)) (sym h.scene.names)
+      entry_shown (named_in name x.scene.names.now) ∙ ap (λ names. export_kinds c sizes (named_in name names)) (sym h.scene.names)
 
-  directive_shown : (l : DirectiveLine) → directive_kinds (context_beside x) (sizes_of x) l ≡ directive_kinds c sizes l
+  directive_shown : (l : DirectiveLine) → directive_kinds (context_of x.scene) (sizes_of x) l ≡ directive_kinds c sizes l
   directive_shown (line.Export name) = export_shown name
   directive_shown (line.Keep name) = export_shown name
   directive_shown (line.Equ e) = ap fault_kinds ((shown_alike x.scene c h.scene).value e)
   directive_shown (line.Assert e) = ap assert_kinds ((shown_alike x.scene c h.scene).value e)
   directive_shown _ = refl
 
-  statement_shown : (u : What) → statement_kinds (context_beside x) (sizes_of x) u ≡ statement_kinds c sizes u
+  statement_shown : (u : What) → statement_kinds (context_of x.scene) (sizes_of x) u ≡ statement_kinds c sizes u
   statement_shown (what.Directive l) = directive_shown l
   statement_shown _ = refl
 
 pub statement_answered : {E : Type 0} (x : Beside) (w : What) (r : Result (Option LineKind) E)
-    → IfOk r (λ kind. kind ≡ told_kind (statement_kinds (context_beside x) (sizes_of x) w))
+    → IfOk r (λ kind. kind ≡ told_kind (statement_kinds (context_of x.scene) (sizes_of x) w))
     → IfOk r
-    (λ kind. (c : Context) (data_names : List (List ℕ)) (sizes : ℕ → ℕ) (s : Sight) (word : Option ℕ) → ShowsBeside x c data_names sizes s word w
+    (λ kind. (c : Context) (data_names : List (List ℕ)) (sizes : ℕ → ℕ) (s : Names) (word : Option ℕ) → ShowsBeside x c data_names sizes s word w
     → kind ≡ told_kind (statement_kinds c sizes w))
 statement_answered x w (Ok kind) e = λ c data_names sizes s word h. e ∙ ap told_kind (statement_shown x c data_names sizes s word w h w)
 statement_answered x w (Err k) e = tt

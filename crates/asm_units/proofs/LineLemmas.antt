@@ -1,7 +1,6 @@
 -- What lines need is found by the entries of their names.
 use Rattle.std.proofs.Common.{◌≡◌, ℕ, List, [], ◌∷◌, ◌++◌, Option, refl, sym, ap, ◌∙◌}
 use Rattle.std.specs.Prelude.{Result, Ok, Err, OnOk}
-use Rattle.std.specs.List.{list_any}
 use Rattle.sdt_fault.specs.declared.kinds.LineKind.{LineKind}
 use Rattle.asm_model.specs.declared.arm_lines.ArmLine.{ArmLine}
 use Rattle.asm_model.specs.declared.arm_lines.ArmLine.TheVariants as arm
@@ -15,18 +14,16 @@ use Rattle.asm_model.specs.declared.thumb_lines.ThumbLine.TheVariants as thumb
 use Rattle.asm_model.specs.declared.values.Value.{Value}
 use Rattle.asm_model.specs.declared.values.Value.TheVariants.{Number, Truth, Words, Place}
 use Rattle.asm_model.specs.AtLine.{SourceLine}
-use Rattle.asm_model.specs.Forms.{same}
 use Rattle.asm_model.specs.Extents.{Extent, Block, Padding, Loading, Pool}
 use Rattle.asm_model.specs.Symbols.{unless_placed, word_symbols, words_symbols, branch_symbols, arm_symbols, thumb_symbols, literal_value, literal_symbols, directive_symbols, symbols_in, listed_behind}
 use Rattle.source_model.specs.Contexts.{Context, sees, value_of}
-use Rattle.source_model.specs.Registers.{register_in}
 use Rattle.asm_names.specs.Lines.{line_of, Sees}
 use Rattle.asm_instructions.specs.declared.scenes.Scene.{Scene}
-use Rattle.asm_instructions.specs.Scenes.{Shows, context_of}
-use Rattle.asm_instructions.proofs.ContextLemmas.{Alike, registers_listed, symbols_listed, shown_alike}
+use Rattle.asm_instructions.specs.Scenes.{context_of}
+use Rattle.asm_instructions.proofs.AlikeLemmas.{stands_alike}
+use Rattle.asm_instructions.proofs.ContextLemmas.{Alike, seen_alike}
 use Rattle.asm_units.specs.Literals.{literal_in}
 use Rattle.asm_units.proofs.KindLemmas.{literal_alike}
-use Rattle.asm_units.proofs.ShowLemmas.{stands_alike}
 use Rattle.asm_units.specs.Listing.{loaded_symbols, statement_symbols}
 
 module _ (a b : Context) (s : Alike a b) where
@@ -81,31 +78,15 @@ module _ (a b : Context) (s : Alike a b) where
   statement_there e (what.Pseudo p) = literal_there e
   statement_there e (what.Directive l) = directive_alike l
 
--- a line as its expressions see it, where no names are for registers
-abbrev alone : Scene → SourceLine → Context
-alone x f = record { names = x.names.now; line = f; registers = []; symbols = []; defined = [] }
-
-alone_shown : (x : Scene) (f : SourceLine) → x.registers.now.entries ≡ [] → x.symbols.now.keys ≡ [] → Sees x.line.now f → Shows x (alone x f)
-alone_shown x f registers symbols sight = record {
-  names = refl;
-  line = sight;
-  registers = λ q. registers_listed x.registers.now q ∙ ap (register_in q) registers;
-  small = λ q n h. absurd (cc);
-  symbols = λ q. symbols_listed x.symbols.now q ∙ ap (list_any (same q)) symbols;
-}
-
-pub statement_answered : {A E : Type 0} (x : Scene) (literal : Option Value) (w : What) (old new : List (List ℕ)) (r : Result A E)
-    → OnOk r (new ≡ listed_behind old (statement_symbols x.names.now (line_of x.line.now) literal w))
-    → OnOk r ((c : Context) (e : Extent) → Shows x c → literal_in e ≡ literal → new ≡ listed_behind old (symbols_in c.names c.line e w))
-statement_answered x literal w old new (Ok a) h = λ c e shown loaded.
-    h
-    ∙ ap (λ o. listed_behind old (statement_symbols x.names.now (line_of x.line.now) o w)) (sym loaded)
-    ∙ ap (listed_behind old) (statement_there (context_of x) c (shown_alike x c shown) e w)
-statement_answered x literal w old new (Err k) h = tt
+-- the scene's context, at a line as its expressions see it
+abbrev at_line : Scene → SourceLine → Context
+at_line x f = record { names = x.names.now; line = f; registers = x.registers.now }
 
 pub line_answered : {A E : Type 0} (x : Scene) (literal : Option Value) (w : What) (old new : List (List ℕ)) (r : Result A E)
-    → OnOk r ((c : Context) (e : Extent) → Shows x c → literal_in e ≡ literal → new ≡ listed_behind old (symbols_in c.names c.line e w))
-    → x.registers.now.entries ≡ [] → x.symbols.now.keys ≡ []
+    → OnOk r (new ≡ listed_behind old (statement_symbols x.names.now (line_of x.line.now) literal w))
     → OnOk r ((f : SourceLine) (e : Extent) → Sees x.line.now f → literal_in e ≡ literal → new ≡ listed_behind old (symbols_in x.names.now f e w))
-line_answered x literal w old new (Ok a) h registers symbols = λ f e sight loaded. h (alone x f) e (alone_shown x f registers symbols sight) loaded
-line_answered x literal w old new (Err k) h registers symbols = tt
+line_answered x literal w old new (Ok a) h = λ f e sight loaded.
+    h
+    ∙ ap (λ o. listed_behind old (statement_symbols x.names.now (line_of x.line.now) o w)) (sym loaded)
+    ∙ ap (listed_behind old) (statement_there (context_of x) (at_line x f) (seen_alike x (at_line x f) refl sight (λ q. refl)) e w)
+line_answered x literal w old new (Err k) h = tt

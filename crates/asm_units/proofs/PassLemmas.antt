@@ -5,7 +5,7 @@ use Rattle.std.specs.Global.{Vec}
 use Rattle.sdt_fault.specs.declared.kinds.LineKind.{LineKind}
 use Rattle.asm_model.specs.declared.statements.What.{What}
 use Rattle.asm_model.specs.declared.values.Value.{Value}
-use Rattle.asm_model.specs.AtLine.{Sight}
+use Rattle.asm_model.specs.declared.names.Names.{Names}
 use Rattle.asm_model.specs.Extents.{Extent, Block, Padding, Loading, Pool}
 use Rattle.asm_model.specs.FaultSets.{first_told}
 use Rattle.asm_model.specs.Kinds.{told_kind}
@@ -50,7 +50,7 @@ piece_there c data_names e word at v w r h same is there =
 
 -- ---- all parts of a line
 
-module _ (c : Context) (data_names : List (List ℕ)) (sizes : ℕ → ℕ) (s : Sight) (e : Extent) (word : Option ℕ) (w : What)
+module _ (c : Context) (data_names : List (List ℕ)) (sizes : ℕ → ℕ) (s : Names) (e : Extent) (word : Option ℕ) (w : What)
     (us : Result (Vec Code) LineKind) (literal : Result (Option LiteralWord) LineKind) (said : Option LineKind) (number : Result ℕ LineKind) where
   told_all : all_emitted us ≡ units c data_names s word w → fault_kinds literal ≡ literal_kinds c data_names e → said ≡ told_kind (statement_kinds c sizes w)
       → first_told (told_kind (fault_kinds us ++ fault_kinds literal)) said ≡ told_kind (value_kinds c data_names sizes s e word w)

@@ -1,8 +1,7 @@
 -- What code finds is what each context finds that it shows.
-use Rattle.std.proofs.Common.{◌≡◌, ℕ, ◌&&◌, Bool, true, false, not, List, [], ◌∷◌, Option, Some, None, refl, sym, ap, ◌∙◌}
+use Rattle.std.proofs.Common.{◌≡◌, ℕ, ◌&&◌, Bool, false, not, List, [], ◌∷◌, Option, Some, None, refl, ap, ◌∙◌}
 use Rattle.std.specs.Prelude.{Result, Ok, Err, IfOk}
 use Rattle.std.specs.List.{list_any}
-use Rattle.std.specs.BTreeSet.{BTreeSet}
 use Rattle.std.specs.Global.{Vec}
 use Rattle.sdt_fault.specs.declared.kinds.LineKind.{LineKind}
 use Rattle.asm_model.specs.declared.exprs.Expr.{Expr}
@@ -11,18 +10,18 @@ use Rattle.asm_model.specs.declared.directives.DirectiveLine.TheVariants as line
 use Rattle.asm_model.specs.declared.statements.What.TheVariants as what
 use Rattle.asm_model.specs.declared.values.Value.{Value}
 use Rattle.asm_model.specs.declared.values.Value.TheVariants.{Number, Truth, Words, Place}
-use Rattle.asm_model.specs.AtLine.{Sight}
+use Rattle.asm_model.specs.declared.names.Names.{Names}
 use Rattle.asm_model.specs.Forms.{same}
-use Rattle.asm_model.specs.Meaning.{named_in, in_area, entry_stands_at, stands_at}
+use Rattle.asm_model.specs.Meaning.{named_in, stands_at}
 use Rattle.asm_model.specs.Says.{on_both}
 use Rattle.asm_model.specs.Entries.{thumb_of}
 use Rattle.asm_model.specs.Extents.{value_there}
 use Rattle.asm_model.specs.Marks.{counts_one}
 use Rattle.source_model.specs.Contexts.{Context, sees, value_of}
 use Rattle.source_model.specs.Units.{Emitted, Bytes, Stored, placed, stored, word_units, half_units, byte_operand, byte_units, directive_units}
-use Rattle.asm_instructions.specs.Scenes.{has_symbol, context_of}
-use Rattle.asm_instructions.proofs.AlikeLemmas.{number_alike}
-use Rattle.asm_instructions.proofs.ContextLemmas.{Alike, symbols_listed, shown_alike}
+use Rattle.asm_instructions.specs.Scenes.{context_of}
+use Rattle.asm_instructions.proofs.AlikeLemmas.{number_alike, stands_alike}
+use Rattle.asm_instructions.proofs.ContextLemmas.{Alike, shown_alike}
 use Rattle.asm_laying.specs.Reading.{is_words, marks, string_marks}
 use Rattle.asm_units.specs.declared.beside.Beside.{Beside}
 use Rattle.asm_units.specs.declared.emitted.Emitted.{Emitted as Code}
@@ -30,23 +29,9 @@ use Rattle.asm_units.specs.Emitting.{all_emitted}
 use Rattle.asm_units.specs.Marked.{marked_operand, marked_units, marked_directive}
 use Rattle.asm_units.specs.Showing.{ShowsBeside}
 
--- ---- labels that are data
-
-pub listed_not : (s : BTreeSet (List ℕ)) (q : List ℕ) (thumb found : Bool) → thumb ≡ true → found ≡ has_symbol s q
-    → (not found) ≡ (thumb && not (list_any (same q) s.keys))
-listed_not s q thumb found t f = ap not (f ∙ symbols_listed s q) ∙ sym (ap (λ b. b && not (list_any (same q) s.keys)) t)
-
-pub labels_listed : (x : Beside) (data_names : List (List ℕ)) → ((q : List ℕ) → has_symbol x.data.now q ≡ list_any (same q) data_names)
-    → (q : List ℕ) → list_any (same q) x.data.now.keys ≡ list_any (same q) data_names
-labels_listed x data_names h q = sym (symbols_listed x.data.now q) ∙ h q
-
 -- ---- contexts that find the same
 
 module _ (a b : Context) (s : Alike a b) where
-  pub stands_alike : (q : List ℕ) → stands_at (sees a) q ≡ stands_at (sees b) q
-  stands_alike [] = ap (λ area. in_area area 0) s.area
-  stands_alike (x ∷ xs) = ap entry_stands_at (s.entry (x ∷ xs))
-
   module _ (ds es : List (List ℕ)) (d : (q : List ℕ) → list_any (same q) ds ≡ list_any (same q) es) where
     counts_alike : (q : List ℕ) → counts_one ds (sees a) q ≡ counts_one es (sees b) q
     counts_alike q =
@@ -60,7 +45,7 @@ module _ (a b : Context) (s : Alike a b) where
     pub stored_alike : (v : Result Value LineKind) → stored a ds v ≡ stored b es v
     stored_alike (Ok (Number n)) = refl
     stored_alike (Ok (Place q n)) =
-        ap (λ p. Ok (placed a ds q n p)) (stands_alike q) ∙ ap (λ (z : Stored). Ok z) (placed_alike q n (stands_at (sees b) q))
+        ap (λ p. Ok (placed a ds q n p)) (stands_alike a b s q) ∙ ap (λ (z : Stored). Ok z) (placed_alike q n (stands_at (sees b) q))
     stored_alike (Ok (Truth t)) = refl
     stored_alike (Ok (Words w)) = refl
     stored_alike (Err k) = refl
@@ -87,7 +72,7 @@ module _ (a b : Context) (s : Alike a b) where
 
 -- ---- strings that are known where their line is laid
 
-module _ (c : Context) (s : Sight) (known : (e : Expr) (v : Value) → value_there s e ≡ Ok v → value_of c e ≡ Ok v) where
+module _ (c : Context) (s : Names) (known : (e : Expr) (v : Value) → value_there s e ≡ Ok v → value_of c e ≡ Ok v) where
   -- what is no string there is one too late
   late_operand : (there final : Result Value LineKind) → is_words there ≡ false → marked_operand false final ≡ byte_operand there final
   late_operand (Ok (Words w)) final e = cc
@@ -131,18 +116,18 @@ module _ (c : Context) (s : Sight) (known : (e : Expr) (v : Value) → value_the
   directive_marked ds ms (line.Dcb es) e = rw e (bytes_marked es)
   directive_marked ds ms _ e = refl
 
-directive_shown : (x : Beside) (l : DirectiveLine) (us : Result (List Emitted) LineKind) (c : Context) (data_names : List (List ℕ)) (sizes : ℕ → ℕ) (s : Sight) (word : Option ℕ)
-    → us ≡ marked_directive (context_of x.scene) x.data.now.keys x.strings.now l
+directive_shown : (x : Beside) (l : DirectiveLine) (us : Result (List Emitted) LineKind) (c : Context) (data_names : List (List ℕ)) (sizes : ℕ → ℕ) (s : Names) (word : Option ℕ)
+    → us ≡ marked_directive (context_of x.scene) x.data.now x.strings.now l
     → ShowsBeside x c data_names sizes s word (what.Directive l) → us ≡ directive_units c data_names s l
 directive_shown x l us c data_names sizes s word e h =
     e
-    ∙ directive_alike (context_of x.scene) c (shown_alike x.scene c h.scene) x.data.now.keys data_names (labels_listed x data_names h.labels) x.strings.now l
+    ∙ directive_alike (context_of x.scene) c (shown_alike x.scene c h.scene) x.data.now data_names h.labels x.strings.now l
     ∙ directive_marked c s h.known data_names x.strings.now l h.strings
 
 pub directive_answered : {E : Type 0} (x : Beside) (l : DirectiveLine) (r : Result (Result (Vec Code) LineKind) E)
-    → IfOk r (λ us. all_emitted us ≡ marked_directive (context_of x.scene) x.data.now.keys x.strings.now l)
+    → IfOk r (λ us. all_emitted us ≡ marked_directive (context_of x.scene) x.data.now x.strings.now l)
     → IfOk r
-    (λ us. (c : Context) (data_names : List (List ℕ)) (sizes : ℕ → ℕ) (s : Sight) (word : Option ℕ) → ShowsBeside x c data_names sizes s word (what.Directive l)
+    (λ us. (c : Context) (data_names : List (List ℕ)) (sizes : ℕ → ℕ) (s : Names) (word : Option ℕ) → ShowsBeside x c data_names sizes s word (what.Directive l)
     → all_emitted us ≡ directive_units c data_names s l)
 directive_answered x l (Ok us) e = λ c data_names sizes s word h. directive_shown x l (all_emitted us) c data_names sizes s word e h
 directive_answered x l (Err k) e = tt

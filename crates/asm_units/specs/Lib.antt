@@ -4,6 +4,5 @@ pub mod Literals
 pub mod Marked
 pub mod Showing
 pub mod Listing
-pub mod Numbers
 pub mod Passing
 pub mod Recording

@@ -7,7 +7,7 @@ use Rattle.asm_model.specs.declared.directives.RnOperand.TheVariants as rn
 use Rattle.asm_model.specs.declared.directives.DirectiveLine.TheVariants as line
 use Rattle.asm_model.specs.declared.statements.What.{What}
 use Rattle.asm_model.specs.declared.statements.What.TheVariants as what
-use Rattle.asm_model.specs.AtLine.{Sight}
+use Rattle.asm_model.specs.declared.names.Names.{Names}
 use Rattle.asm_model.specs.Extents.{Extent}
 use Rattle.asm_model.specs.FaultSets.{first_told}
 use Rattle.asm_model.specs.Kinds.{told_kind}
@@ -32,13 +32,13 @@ IsNumber c (what.Directive (line.Rn (rn.Number e))) x = x ≡ number_in c e
 IsNumber c _ x = Unit {0}
 
 -- a line whose values have no fault puts this
-pub record PutsUnits (c : Context) (data_names : List (List ℕ)) (sizes : ℕ → ℕ) (s : Sight) (e : Extent) (word : Option ℕ) (w : What) (u : LineUnits) : Type 0 where
+pub record PutsUnits (c : Context) (data_names : List (List ℕ)) (sizes : ℕ → ℕ) (s : Names) (e : Extent) (word : Option ℕ) (w : What) (u : LineUnits) : Type 0 where
   pub faultless : told_kind (value_kinds c data_names sizes s e word w) ≡ None
   pub all : units c data_names s word w ≡ Ok (map emitted_of u.units.items)
   pub literal : literal_piece c data_names e word ≡ word_piece u.literal
   pub number : IsNumber c w u.number
 
-abbrev pub IsPassTwo : Context → List (List ℕ) → (ℕ → ℕ) → Sight → Extent → Option ℕ → What → Result LineUnits LineKind → Type 0
+abbrev pub IsPassTwo : Context → List (List ℕ) → (ℕ → ℕ) → Names → Extent → Option ℕ → What → Result LineUnits LineKind → Type 0
 IsPassTwo c data_names sizes s e word w (Ok u) = PutsUnits c data_names sizes s e word w u
 IsPassTwo c data_names sizes s e word w (Err k) = told_kind (value_kinds c data_names sizes s e word w) ≡ Some k
 

@@ -4,14 +4,14 @@ use Rattle.std.specs.List.{list_any}
 use Rattle.asm_model.specs.Forms.{same}
 use Rattle.asm_model.specs.Marks.{datum_names}
 use Rattle.source_model.specs.Objects.{Source, is_exported, is_weak, contents_of, holds_code}
-use Rattle.asm_instructions.specs.Scenes.{has_symbol}
+use Rattle.asm_sets.specs.Sets.{HaveSame}
 use Rattle.asm_units.specs.declared.records.Facts.{Facts}
 
 -- the facts are those of a source
 pub record Shows (x : Facts) (s : Source) : Type 0 where
   pub names : x.names.now ≡ s.names
-  pub exported : (q : List ℕ) → has_symbol x.exported.now q ≡ is_exported s q
-  pub weak : (q : List ℕ) → has_symbol x.weak.now q ≡ is_weak s q
-  pub labels : (q : List ℕ) → has_symbol x.data.now q ≡ list_any (same q) (datum_names s.statements)
+  pub exported : (q : List ℕ) → list_any (same q) x.exported.now ≡ is_exported s q
+  pub weak : (q : List ℕ) → list_any (same q) x.weak.now ≡ is_weak s q
+  pub labels : HaveSame x.data.now (datum_names s.statements)
   -- an area that isn't listed holds no code
   pub code : (area : ℕ) → get_or x.code.now area false ≡ holds_code (contents_of area s.lines)

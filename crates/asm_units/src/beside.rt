@@ -1,17 +1,14 @@
 //! What more a line's values are judged by.
 
 use asm_instructions::Scene;
-use sdt_fault::Text;
-use std::collections::BTreeSet;
+use asm_sets::NameRefs;
 
 /// What more a line's values are judged by.
 #[derive(Clone, Copy)]
 pub struct Beside<'a> {
     pub scene: Scene<'a>,
     /// The labels that are data.
-    pub data: &'a BTreeSet<Text>,
-    /// The names that the source defines or imports, values or none.
-    pub defined: &'a BTreeSet<Text>,
+    pub data: &'a NameRefs<'a>,
     /// The sizes of areas, by number.
     pub sizes: &'a [u32],
     /// Of each operand of DCB whether it is a string by what is known at its line.

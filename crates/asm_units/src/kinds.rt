@@ -1,8 +1,7 @@
 //! The kinds of faults that values have, once all names are known.
 
-ghost use Rattle.std.specs.Prelude.{◌≡◌, ℕ, List, Option, Some, IfOk, if◌then◌else◌};
-ghost use Rattle.sdt_fault.specs.declared.kinds.LineKind.TheVariants.{UnknownWord, WrongType};
-ghost use Rattle.asm_model.specs.AtLine.{Sight};
+ghost use Rattle.std.specs.Prelude.{◌≡◌, ℕ, List, Option, IfOk};
+ghost use Rattle.asm_model.specs.declared.names.Names.{Names};
 ghost use Rattle.asm_model.specs.Kinds.{told_kind};
 ghost use Rattle.asm_model.specs.Meaning.{named_in};
 ghost use Rattle.asm_model.specs.declared.statements.What.{What};
@@ -10,9 +9,11 @@ ghost use Rattle.asm_model.specs.LayoutKinds.{fault_kinds};
 ghost use Rattle.said_model.specs.Said.{DirectiveSaid, WhatSaid};
 ghost use Rattle.source_model.specs.Contexts.{Context};
 ghost use Rattle.source_model.specs.ValueKinds as model;
-ghost use Rattle.asm_units.specs.Showing.{ShowsBeside, context_beside, sizes_of};
+ghost use Rattle.asm_instructions.specs.Scenes.{context_of};
+ghost use Rattle.asm_units.specs.Showing.{ShowsBeside, sizes_of};
 
 use crate::beside::Beside;
+use asm_expr::slots::{Slot, known};
 use asm_expr::told::kind_if;
 use asm_instructions::scenes::stands_at;
 use asm_instructions::values::value_there;
@@ -51,30 +52,34 @@ fn lies_within(beside: &Beside<'_>, place: Option<(u32, u32)>, plus: u32) -> boo
     }
 }
 
-/// The kind of a name without a value in EXPORT and KEEP.
-fn unvalued_kind(defined: bool) -> Option<LineKind>
-    ensures { result ≡ Some (if defined then WrongType else UnknownWord) }
+/// The kind of a name with a value, or with none, in EXPORT and KEEP.
+fn exported_kind(beside: &Beside<'_>, value: Result<Value, LineKind>) -> Option<LineKind>
+    ensures { result ≡ told_kind (model.exported_kinds (context_of beside.now.scene) (sizes_of beside.now) value) }
 {
-    if defined {
-        return Some(LineKind::WrongType);
+    match value {
+        Ok(Value::Number(_)) => None,
+        Ok(Value::Place { symbol, plus }) => {
+            let place = stands_at(&beside.scene, &symbol);
+            kind_unless(lies_within(beside, place, plus), LineKind::WrongType)
+        }
+        _ => Some(LineKind::WrongType),
     }
-    Some(LineKind::UnknownWord)
 }
 
 /// The kind of a name in EXPORT and KEEP.
-fn export_kind(beside: &Beside<'_>, name: &Text) -> Option<LineKind>
-    ensures { result ≡ told_kind (model.export_kinds (context_beside beside.now) (sizes_of beside.now) name.now (named_in name.now beside.now.scene.names.now)) }
+fn export_kind(
+    alloc: Global,
+    beside: &Beside<'_>,
+    name: &Text,
+) -> Result<Option<LineKind>, NoMemory>
+    ensures { IfOk result (λ kind. kind ≡ told_kind (model.export_kinds (context_of beside.now.scene) (sizes_of beside.now) (named_in name.now beside.now.scene.names.now))) }
 {
     match beside.scene.names.find(name) {
-        None => unvalued_kind(beside.defined.contains(name)),
-        Some(entry) => match &entry.value {
-            Value::Number(_) => None,
-            Value::Place { symbol, plus } => {
-                let place = stands_at(&beside.scene, symbol);
-                kind_unless(lies_within(beside, place, *plus), LineKind::WrongType)
-            }
-            _ => Some(LineKind::WrongType),
-        },
+        None => Ok(Some(LineKind::UnknownWord)),
+        Some(entry) => {
+            let value = known(alloc, Slot::Name(Some(entry)))?;
+            Ok(exported_kind(beside, value))
+        }
     }
 }
 
@@ -104,11 +109,11 @@ fn directive_there(
     line: &DirectiveLine,
 ) -> Result<Option<LineKind>, NoMemory>
     requires { DirectiveSaid line.now }
-    ensures { IfOk result (λ kind. kind ≡ told_kind (model.directive_kinds (context_beside beside.now) (sizes_of beside.now) line.now)) }
+    ensures { IfOk result (λ kind. kind ≡ told_kind (model.directive_kinds (context_of beside.now.scene) (sizes_of beside.now) line.now)) }
 {
     match line {
-        DirectiveLine::Export { name } => Ok(export_kind(beside, name)),
-        DirectiveLine::Keep { name } => Ok(export_kind(beside, name)),
+        DirectiveLine::Export { name } => export_kind(alloc, beside, name),
+        DirectiveLine::Keep { name } => export_kind(alloc, beside, name),
         DirectiveLine::Equ { value } => {
             let value = value_there(alloc, &beside.scene, value)?;
             Ok(value_fault(value))
@@ -127,7 +132,7 @@ fn statement_there(
     what: &What,
 ) -> Result<Option<LineKind>, NoMemory>
     requires { WhatSaid what.now }
-    ensures { IfOk result (λ kind. kind ≡ told_kind (model.statement_kinds (context_beside beside.now) (sizes_of beside.now) what.now)) }
+    ensures { IfOk result (λ kind. kind ≡ told_kind (model.statement_kinds (context_of beside.now.scene) (sizes_of beside.now) what.now)) }
 {
     match what {
         What::Directive(line) => directive_there(alloc, beside, line),
@@ -142,7 +147,7 @@ pub fn statement_kind(
     what: &What,
 ) -> Result<Option<LineKind>, NoMemory>
     requires { WhatSaid what.now }
-    ensures { IfOk result (λ kind. (c : Context) (data_names : List (List ℕ)) (sizes : ℕ → ℕ) (s : Sight) (word : Option ℕ) → ShowsBeside beside.now c data_names sizes s word what.now → kind ≡ told_kind (model.statement_kinds c sizes what.now)) }
+    ensures { IfOk result (λ kind. (c : Context) (data_names : List (List ℕ)) (sizes : ℕ → ℕ) (s : Names) (word : Option ℕ) → ShowsBeside beside.now c data_names sizes s word what.now → kind ≡ told_kind (model.statement_kinds c sizes what.now)) }
 {
     statement_there(alloc, beside, what)
 }

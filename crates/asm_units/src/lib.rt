@@ -10,6 +10,7 @@ mod joining;
 mod kinds;
 mod lines;
 mod literals;
+mod named;
 mod needs;
 pub mod records;
 mod second_pass;

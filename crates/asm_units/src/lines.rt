@@ -7,8 +7,6 @@ ghost use Rattle.asm_model.specs.AtLine.{SourceLine};
 ghost use Rattle.asm_model.specs.Extents.{Extent};
 ghost use Rattle.asm_model.specs.Symbols as model;
 ghost use Rattle.said_model.specs.Said.{ArmSaid, DirectiveSaid, ThumbSaid, WhatSaid};
-ghost use Rattle.source_model.specs.Contexts.{Context};
-ghost use Rattle.asm_instructions.specs.Scenes.{Shows};
 ghost use Rattle.asm_units.specs.Literals.{literal_in};
 ghost use Rattle.asm_units.specs.Listing.{statement_symbols};
 
@@ -16,10 +14,8 @@ use crate::needs::{add_branch, add_literal, add_name, add_words};
 use crate::symbols::Symbols;
 use asm_instructions::Scene;
 use asm_model::{ArmLine, DirectiveLine, ThumbLine, Value, What};
-use asm_names::{KnownNames, PlacedLine};
 use sdt_fault::NoMemory;
 use std::alloc::Global;
-use std::collections::{BTreeMap, BTreeSet};
 
 fn add_directive(
     alloc: Global,
@@ -89,37 +85,15 @@ fn add_statement(
     }
 }
 
-fn add_shown(
+/// Adds the symbols that the scene's line names or needs, where its literal, if it has one, is this.
+pub fn add_line(
     alloc: Global,
     symbols: &mut Symbols,
     scene: &Scene<'_>,
     literal: Option<&Value>,
-    what: &What,
 ) -> Result<(), NoMemory>
-    requires { WhatSaid what.now }
-    ensures { OnOk result ((c : Context) (e : Extent) → Shows scene.now c → literal_in e ≡ option_copied literal.entry → symbols.new ≡ model.listed_behind symbols.old (model.symbols_in c.names c.line e what.now)) }
+    requires { WhatSaid scene.now.line.now.statement.now.what }
+    ensures { OnOk result ((f : SourceLine) (e : Extent) → Sees scene.now.line.now f → literal_in e ≡ option_copied literal.entry → symbols.new ≡ model.listed_behind symbols.old (model.symbols_in scene.now.names.now f e scene.now.line.now.statement.now.what)) }
 {
-    add_statement(alloc, symbols, scene, literal, what)
-}
-
-/// Adds the symbols that a line names or needs, where its literal, if it has one, is this.
-pub fn add_line(
-    alloc: Global,
-    symbols: &mut Symbols,
-    names: &KnownNames,
-    line: &PlacedLine<'_>,
-    literal: Option<&Value>,
-) -> Result<(), NoMemory>
-    requires { WhatSaid line.now.statement.now.what }
-    ensures { OnOk result ((f : SourceLine) (e : Extent) → Sees line.now f → literal_in e ≡ option_copied literal.entry → symbols.new ≡ model.listed_behind symbols.old (model.symbols_in names.now f e line.now.statement.now.what)) }
-{
-    let registers = BTreeMap::new(alloc);
-    let labels = BTreeSet::new(alloc);
-    let scene = Scene {
-        names,
-        line,
-        registers: &registers,
-        symbols: &labels,
-    };
-    add_shown(alloc, symbols, &scene, literal, &line.statement.what)
+    add_statement(alloc, symbols, scene, literal, &scene.line.statement.what)
 }

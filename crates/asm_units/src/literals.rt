@@ -1,9 +1,7 @@
 //! Literals, which LDR loads from a pool.
 
 ghost use Rattle.std.specs.Prelude.{◌≡◌, ◌∷◌, ℕ, List, Option, Ok, IfOk};
-ghost use Rattle.std.specs.Option.{option_copied};
-ghost use Rattle.asm_model.specs.AtLine.{Sight};
-ghost use Rattle.asm_model.specs.Meaning.{named_in};
+ghost use Rattle.asm_model.specs.declared.names.Names.{Names};
 ghost use Rattle.asm_model.specs.Says.{mapped};
 ghost use Rattle.asm_model.specs.declared.statements.What.{What};
 ghost use Rattle.asm_model.specs.declared.values.Value.TheVariants.{Place};
@@ -12,49 +10,36 @@ ghost use Rattle.source_model.specs.Contexts.{Context, sees};
 ghost use Rattle.source_model.specs.Units as units;
 ghost use Rattle.asm_instructions.specs.Scenes.{context_of};
 ghost use Rattle.asm_units.specs.Emitting.{stored_of};
-ghost use Rattle.asm_units.specs.Literals.{moved_entry, moved_value};
+ghost use Rattle.asm_units.specs.Literals as literals;
 ghost use Rattle.asm_units.specs.Showing.{ShowsBeside};
 
 use crate::beside::Beside;
 use crate::emitted::Stored;
+use crate::named::value_named;
 use crate::words::stored;
 use asm_instructions::Scene;
-use asm_model::{LaidName, Value};
+use asm_model::Value;
 use sdt_fault::kinds::LineKind;
 use sdt_fault::{NoMemory, Text};
 use std::alloc::Global;
 
 /// A value plus a number.
-fn moved(alloc: Global, value: &Value, plus: u32) -> Result<Result<Value, LineKind>, NoMemory>
-    ensures { IfOk result (λ v. v ≡ moved_value value.now plus) }
+fn moved(value: Result<Value, LineKind>, plus: u32) -> Result<Value, LineKind>
+    ensures { result ≡ literals.moved value plus }
 {
     match value {
-        Value::Number(number) => Ok(Ok(Value::Number(number.wrapping_add(plus)))),
-        Value::Place {
-            symbol,
-            plus: before,
-        } => {
-            let symbol = symbol.try_clone(alloc)?;
-            Ok(Ok(Value::Place {
+        Ok(Value::Number(number)) => Ok(Value::Number(number.wrapping_add(plus))),
+        Ok(
+            Value::Place {
                 symbol,
-                plus: before.wrapping_add(plus),
-            }))
-        }
-        _ => Ok(Err(LineKind::WrongType)),
-    }
-}
-
-/// The value of a name plus a number.
-fn entry_moved(
-    alloc: Global,
-    entry: Option<&LaidName>,
-    plus: u32,
-) -> Result<Result<Value, LineKind>, NoMemory>
-    ensures { IfOk result (λ v. v ≡ moved_entry (option_copied entry.entry) plus) }
-{
-    match entry {
-        None => Ok(Err(LineKind::UnknownWord)),
-        Some(entry) => moved(alloc, &entry.value, plus),
+                plus: before,
+            },
+        ) => Ok(Value::Place {
+            symbol,
+            plus: before.wrapping_add(plus),
+        }),
+        Ok(_) => Err(LineKind::WrongType),
+        Err(kind) => Err(kind),
     }
 }
 
@@ -71,7 +56,8 @@ fn place_value(
         let symbol = symbol.try_clone(alloc)?;
         return Ok(Ok(Value::Place { symbol, plus }));
     }
-    entry_moved(alloc, scene.names.find(symbol), plus)
+    let value = value_named(alloc, scene.names, symbol)?;
+    Ok(moved(value, plus))
 }
 
 /// The value of a literal, once all names are known.
@@ -96,7 +82,7 @@ fn literal_there(
     beside: &Beside<'_>,
     literal: &Value,
 ) -> Result<Result<Stored, LineKind>, NoMemory>
-    ensures { IfOk result (λ w. mapped stored_of w ≡ units.stored (context_of beside.now.scene) beside.now.data.now.keys (symbols.literal_value (sees (context_of beside.now.scene)) literal.now)) }
+    ensures { IfOk result (λ w. mapped stored_of w ≡ units.stored (context_of beside.now.scene) beside.now.data.now (symbols.literal_value (sees (context_of beside.now.scene)) literal.now)) }
 {
     let value = literal_value(alloc, &beside.scene, literal)?;
     Ok(stored(beside, value))
@@ -108,7 +94,7 @@ pub fn literal(
     beside: &Beside<'_>,
     literal: &Value,
 ) -> Result<Result<Stored, LineKind>, NoMemory>
-    ensures { IfOk result (λ stored. (c : Context) (data_names : List (List ℕ)) (sizes : ℕ → ℕ) (s : Sight) (word : Option ℕ) (w : What) → ShowsBeside beside.now c data_names sizes s word w → mapped stored_of stored ≡ units.stored c data_names (symbols.literal_value (sees c) literal.now)) }
+    ensures { IfOk result (λ stored. (c : Context) (data_names : List (List ℕ)) (sizes : ℕ → ℕ) (s : Names) (word : Option ℕ) (w : What) → ShowsBeside beside.now c data_names sizes s word w → mapped stored_of stored ≡ units.stored c data_names (symbols.literal_value (sees c) literal.now)) }
 {
     literal_there(alloc, beside, literal)
 }

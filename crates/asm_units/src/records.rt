@@ -1,22 +1,24 @@
 //! The records of symbols.
 
 ghost use Rattle.std.specs.Prelude.{◌≡◌, ◌+◌, ◌*◌, ◌≤◌, ◌&&◌, ◌^◌, false, get_or, IfOk, if◌then◌else◌};
-ghost use Rattle.std.specs.Option.{option_copied};
+ghost use Rattle.std.specs.List.{list_any};
 ghost use Rattle.sdt_word.specs.Numbers.{flag as flag_of};
 ghost use Rattle.asm_model.specs.Meaning as meaning;
-ghost use Rattle.asm_model.specs.Entries as entries;
+ghost use Rattle.asm_model.specs.Forms.{same};
 ghost use Rattle.source_model.specs.Contexts.{sees};
 ghost use Rattle.source_model.specs.Objects as objects;
 ghost use Rattle.source_model.specs.Objects.{Source};
-ghost use Rattle.asm_instructions.specs.Scenes.{has_symbol};
 ghost use Rattle.asm_units.specs.Recording.{Shows};
 
+use crate::named::{is_thumb, value_named};
 use aof_object::Symbol;
-use asm_model::{LaidName, Value};
+use asm_instructions::scenes::entry_stands_at;
+use asm_model::Value;
 use asm_names::KnownNames;
+use asm_sets::NameRefs;
+use sdt_fault::kinds::LineKind;
 use sdt_fault::{NoMemory, Text};
 use std::alloc::Global;
-use std::collections::BTreeSet;
 
 /// What the records of symbols say of a source.
 #[derive(Clone, Copy)]
@@ -24,11 +26,11 @@ pub struct Facts<'a> {
     /// All names of the source.
     pub names: &'a KnownNames,
     /// The names that EXPORT has.
-    pub exported: &'a BTreeSet<Text>,
+    pub exported: &'a NameRefs<'a>,
     /// The names that are imported as weak.
-    pub weak: &'a BTreeSet<Text>,
+    pub weak: &'a NameRefs<'a>,
     /// The labels that are data.
-    pub data: &'a BTreeSet<Text>,
+    pub data: &'a NameRefs<'a>,
     /// Of each area, by number, whether it holds code.
     pub code: &'a [bool],
 }
@@ -58,7 +60,7 @@ fn scope(facts: &Facts<'_>, name: &Text) -> u32
     ensures is { (s : Source) → Shows facts.now s → result ≡ objects.scope s name.now }
     ensures below { result ≤ 3 }
 {
-    scope_by(facts.exported.contains(name))
+    scope_by(facts.exported.has(name))
 }
 
 fn holds_code(code: &[bool], area: u32) -> bool
@@ -70,20 +72,11 @@ fn holds_code(code: &[bool], area: u32) -> bool
     }
 }
 
-fn is_thumb(entry: Option<&LaidName>) -> bool
-    ensures { result ≡ entries.thumb_of (option_copied entry.entry) }
-{
-    match entry {
-        None => false,
-        Some(entry) => entry.thumb,
-    }
-}
-
 /// Whether a label is a datum in a code area.
 fn is_marked(facts: &Facts<'_>, label: &Text, area: u32) -> bool
-    ensures { result ≡ has_symbol facts.now.data.now label.now && get_or facts.now.code.now area false }
+    ensures { result ≡ list_any (same label.now) facts.now.data.now && get_or facts.now.code.now area false }
 {
-    if facts.data.contains(label) {
+    if facts.data.has(label) {
         return holds_code(facts.code, area);
     }
     false
@@ -93,19 +86,7 @@ fn marks(facts: &Facts<'_>, label: &Text, area: u32) -> u32
     ensures is { (s : Source) → Shows facts.now s → result ≡ objects.marks_of s label.now area }
     ensures below { result ≤ 0x1100 }
 {
-    bits(is_marked(facts, label, area), 0x100) + bits(is_thumb(facts.names.find(label)), 0x1000)
-}
-
-fn entry_stands_at(entry: Option<&LaidName>) -> Option<(u32, u32)>
-    ensures { result ≡ meaning.entry_stands_at (option_copied entry.entry) }
-{
-    match entry {
-        None => None,
-        Some(entry) => match entry.area {
-            None => None,
-            Some(area) => Some((area, entry.offset)),
-        },
-    }
+    bits(is_marked(facts, label, area), 0x100) + bits(is_thumb(facts.names, label), 0x1000)
 }
 
 fn stands_at(facts: &Facts<'_>, label: &Text) -> Option<(u32, u32)>
@@ -123,7 +104,7 @@ fn undefined(alloc: Global, facts: &Facts<'_>, name: &Text) -> Result<Symbol, No
     let name_copy = name.try_clone(alloc)?;
     Ok(Symbol {
         name: name_copy,
-        attributes: 2 + bits(facts.weak.contains(name), 0x10),
+        attributes: 2 + bits(facts.weak.has(name), 0x10),
         value: 0,
         area: None,
     })
@@ -178,30 +159,28 @@ fn absolute(alloc: Global, facts: &Facts<'_>, name: &Text, number: u32) -> Resul
     })
 }
 
-fn valued(alloc: Global, facts: &Facts<'_>, name: &Text, value: &Value) -> Result<Symbol, NoMemory>
-    ensures { IfOk result (λ symbol. (s : Source) → Shows facts.now s → symbol ≡ objects.symbol_valued s name.now value.now) }
+fn valued(
+    alloc: Global,
+    facts: &Facts<'_>,
+    name: &Text,
+    value: Result<Value, LineKind>,
+) -> Result<Symbol, NoMemory>
+    ensures { IfOk result (λ symbol. (s : Source) → Shows facts.now s → symbol ≡ objects.symbol_valued s name.now value) }
 {
     match value {
-        Value::Number(number) => absolute(alloc, facts, name, *number),
-        Value::Place { symbol, plus } => {
-            let place = stands_at(facts, symbol);
-            placed(alloc, facts, name, symbol, *plus, place)
+        Ok(Value::Number(number)) => absolute(alloc, facts, name, number),
+        Ok(Value::Place { symbol, plus }) => {
+            let place = stands_at(facts, &symbol);
+            placed(alloc, facts, name, &symbol, plus, place)
         }
         _ => unvalued(alloc, name),
     }
 }
 
-/// The record of a symbol with the entry of its name, where it has one.
-pub fn record_of(
-    alloc: Global,
-    name: &Text,
-    entry: Option<&LaidName>,
-    facts: &Facts<'_>,
-) -> Result<Symbol, NoMemory>
-    ensures { IfOk result (λ symbol. (s : Source) → Shows facts.now s → symbol ≡ objects.symbol_named s name.now (option_copied entry.entry)) }
+/// The record of a symbol.
+pub fn record_of(alloc: Global, name: &Text, facts: &Facts<'_>) -> Result<Symbol, NoMemory>
+    ensures { IfOk result (λ symbol. (s : Source) → Shows facts.now s → symbol ≡ objects.symbol_named s name.now) }
 {
-    match entry {
-        None => unvalued(alloc, name),
-        Some(entry) => valued(alloc, facts, name, &entry.value),
-    }
+    let value = value_named(alloc, facts.names, name)?;
+    valued(alloc, facts, name, value)
 }

@@ -2,7 +2,7 @@
 
 ghost use Rattle.std.specs.Prelude.{◌≡◌, ◌++◌, ℕ, List, Option, Ok, Some, IfOk, MatchResult};
 ghost use Rattle.std.specs.Option.{option_copied};
-ghost use Rattle.asm_model.specs.AtLine.{Sight};
+ghost use Rattle.asm_model.specs.declared.names.Names.{Names};
 ghost use Rattle.asm_model.specs.FaultSets as sets;
 ghost use Rattle.asm_model.specs.Kinds.{told_kind};
 ghost use Rattle.asm_model.specs.Extents.{Extent};
@@ -49,8 +49,8 @@ fn loaded(
     beside: &Beside<'_>,
     value: Option<&Value>,
 ) -> Result<Result<Option<LiteralWord>, LineKind>, NoMemory>
-    ensures kinds { IfOk result (λ r. (c : Context) (data_names : List (List ℕ)) (sizes : ℕ → ℕ) (s : Sight) (word : Option ℕ) (said : Said) (e : Extent) → ShowsBeside beside.now c data_names sizes s word said → literal_in e ≡ option_copied value.entry → fault_kinds r ≡ model.literal_kinds c data_names e) }
-    ensures piece { IfOk result (λ r. (c : Context) (data_names : List (List ℕ)) (sizes : ℕ → ℕ) (s : Sight) (word : Option ℕ) (said : Said) (e : Extent) → ShowsBeside beside.now c data_names sizes s word said → literal_in e ≡ option_copied value.entry → IfOk r (λ w. word_piece w ≡ objects.literal_piece c data_names e word)) }
+    ensures kinds { IfOk result (λ r. (c : Context) (data_names : List (List ℕ)) (sizes : ℕ → ℕ) (s : Names) (word : Option ℕ) (said : Said) (e : Extent) → ShowsBeside beside.now c data_names sizes s word said → literal_in e ≡ option_copied value.entry → fault_kinds r ≡ model.literal_kinds c data_names e) }
+    ensures piece { IfOk result (λ r. (c : Context) (data_names : List (List ℕ)) (sizes : ℕ → ℕ) (s : Names) (word : Option ℕ) (said : Said) (e : Extent) → ShowsBeside beside.now c data_names sizes s word said → literal_in e ≡ option_copied value.entry → IfOk r (λ w. word_piece w ≡ objects.literal_piece c data_names e word)) }
 {
     match value {
         None => Ok(Ok(None)),
@@ -121,7 +121,7 @@ pub fn pass_two(
     what: &What,
 ) -> Result<Result<LineUnits, LineKind>, NoMemory>
     requires { WhatSaid what.now }
-    ensures { IfOk result (λ r. (c : Context) (data_names : List (List ℕ)) (sizes : ℕ → ℕ) (s : Sight) (word : Option ℕ) (e : Extent) → ShowsBeside beside.now c data_names sizes s word what.now → literal_in e ≡ option_copied value.entry → IsPassTwo c data_names sizes s e word what.now r) }
+    ensures { IfOk result (λ r. (c : Context) (data_names : List (List ℕ)) (sizes : ℕ → ℕ) (s : Names) (word : Option ℕ) (e : Extent) → ShowsBeside beside.now c data_names sizes s word what.now → literal_in e ≡ option_copied value.entry → IsPassTwo c data_names sizes s e word what.now r) }
 {
     let units = units(alloc, beside, what)?;
     let literal = loaded(alloc, beside, value)?;

@@ -1,7 +1,7 @@
 //! What a statement puts into its area.
 
 ghost use Rattle.std.specs.Prelude.{◌≡◌, ℕ, List, Option, IfOk};
-ghost use Rattle.asm_model.specs.AtLine.{Sight};
+ghost use Rattle.asm_model.specs.declared.names.Names.{Names};
 ghost use Rattle.asm_model.specs.declared.statements.What.TheVariants as kinds;
 ghost use Rattle.said_model.specs.Said.{DirectiveSaid, WhatSaid};
 ghost use Rattle.source_model.specs.Contexts.{Context};
@@ -27,7 +27,7 @@ fn directive_there(
     line: &DirectiveLine,
 ) -> Result<Result<Vec<Emitted>, LineKind>, NoMemory>
     requires { DirectiveSaid line.now }
-    ensures { IfOk result (λ us. all_emitted us ≡ marked_directive (context_of beside.now.scene) beside.now.data.now.keys beside.now.strings.now line.now) }
+    ensures { IfOk result (λ us. all_emitted us ≡ marked_directive (context_of beside.now.scene) beside.now.data.now beside.now.strings.now line.now) }
 {
     match line {
         DirectiveLine::Dcd { values } => words(alloc, beside, values.as_slice()),
@@ -44,7 +44,7 @@ fn directive(
     line: &DirectiveLine,
 ) -> Result<Result<Vec<Emitted>, LineKind>, NoMemory>
     requires { DirectiveSaid line.now }
-    ensures { IfOk result (λ us. (c : Context) (data_names : List (List ℕ)) (sizes : ℕ → ℕ) (s : Sight) (word : Option ℕ) → ShowsBeside beside.now c data_names sizes s word (kinds.Directive line.now) → all_emitted us ≡ model.directive_units c data_names s line.now) }
+    ensures { IfOk result (λ us. (c : Context) (data_names : List (List ℕ)) (sizes : ℕ → ℕ) (s : Names) (word : Option ℕ) → ShowsBeside beside.now c data_names sizes s word (kinds.Directive line.now) → all_emitted us ≡ model.directive_units c data_names s line.now) }
 {
     directive_there(alloc, beside, line)
 }
@@ -56,7 +56,7 @@ pub fn units(
     what: &What,
 ) -> Result<Result<Vec<Emitted>, LineKind>, NoMemory>
     requires { WhatSaid what.now }
-    ensures { IfOk result (λ us. (c : Context) (data_names : List (List ℕ)) (sizes : ℕ → ℕ) (s : Sight) (word : Option ℕ) → ShowsBeside beside.now c data_names sizes s word what.now → all_emitted us ≡ model.units c data_names s word what.now) }
+    ensures { IfOk result (λ us. (c : Context) (data_names : List (List ℕ)) (sizes : ℕ → ℕ) (s : Names) (word : Option ℕ) → ShowsBeside beside.now c data_names sizes s word what.now → all_emitted us ≡ model.units c data_names s word what.now) }
 {
     match what {
         What::Nothing => Ok(Ok(Vec::new(alloc))),

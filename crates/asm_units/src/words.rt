@@ -1,10 +1,7 @@
 //! Words that may be relocated.
 
 ghost use Rattle.std.specs.Prelude.{◌≡◌, Ok, IfOk};
-ghost use Rattle.std.specs.Option.{option_copied};
-ghost use Rattle.asm_model.specs.Meaning as meaning;
 ghost use Rattle.asm_model.specs.Says.{mapped};
-ghost use Rattle.asm_model.specs.Entries as entries;
 ghost use Rattle.asm_model.specs.Marks as marks;
 ghost use Rattle.said_model.specs.Said.{AllRead, IsRead};
 ghost use Rattle.source_model.specs.Contexts.{sees, value_of};
@@ -15,28 +12,20 @@ ghost use Rattle.asm_units.specs.Emitting.{all_emitted, emitted_of, stored_of};
 use crate::beside::Beside;
 use crate::emitted::{Emitted, Stored, Target};
 use crate::joining::{push_next, word_unit};
+use crate::named::is_thumb;
 use asm_instructions::scenes::stands_at;
 use asm_instructions::values::value_there;
-use asm_model::{Expr, LaidName, Value};
+use asm_model::{Expr, Value};
 use sdt_fault::kinds::LineKind;
 use sdt_fault::{NoMemory, Text};
 use std::alloc::Global;
 
-fn is_thumb(entry: Option<&LaidName>) -> bool
-    ensures { result ≡ entries.thumb_of (option_copied entry.entry) }
-{
-    match entry {
-        None => false,
-        Some(entry) => entry.thumb,
-    }
-}
-
 /// Whether a symbol counts one more in a word: a label of Thumb code that is no datum.
 fn counts_one(beside: &Beside<'_>, symbol: &Text) -> bool
-    ensures { result ≡ marks.counts_one beside.now.data.now.keys (sees (context_of beside.now.scene)) symbol.now }
+    ensures { result ≡ marks.counts_one beside.now.data.now (sees (context_of beside.now.scene)) symbol.now }
 {
-    if is_thumb(beside.scene.names.find(symbol)) {
-        return !beside.data.contains(symbol);
+    if is_thumb(beside.scene.names, symbol) {
+        return !beside.data.has(symbol);
     }
     false
 }
@@ -52,7 +41,7 @@ fn thumb_bit(counts: bool) -> u32
 
 /// A word with a symbol plus a number: of the label's area where it is of this source, and else of the symbol.
 fn placed(beside: &Beside<'_>, symbol: Text, plus: u32, place: Option<(u32, u32)>) -> Stored
-    ensures { stored_of result ≡ units.placed (context_of beside.now.scene) beside.now.data.now.keys symbol plus place }
+    ensures { stored_of result ≡ units.placed (context_of beside.now.scene) beside.now.data.now symbol plus place }
 {
     match place {
         None => Stored {
@@ -71,7 +60,7 @@ fn placed(beside: &Beside<'_>, symbol: Text, plus: u32, place: Option<(u32, u32)
 
 /// What a word with a value holds.
 pub fn stored(beside: &Beside<'_>, value: Result<Value, LineKind>) -> Result<Stored, LineKind>
-    ensures { mapped stored_of result ≡ units.stored (context_of beside.now.scene) beside.now.data.now.keys value }
+    ensures { mapped stored_of result ≡ units.stored (context_of beside.now.scene) beside.now.data.now value }
 {
     match value {
         Ok(Value::Number(number)) => Ok(Stored {
@@ -93,7 +82,7 @@ fn word(
     operand: &Expr,
 ) -> Result<Result<Emitted, LineKind>, NoMemory>
     requires { IsRead operand.now }
-    ensures { IfOk result (λ word. mapped emitted_of word ≡ mapped (λ w. units.Word w) (units.stored (context_of beside.now.scene) beside.now.data.now.keys (value_of (context_of beside.now.scene) operand.now))) }
+    ensures { IfOk result (λ word. mapped emitted_of word ≡ mapped (λ w. units.Word w) (units.stored (context_of beside.now.scene) beside.now.data.now (value_of (context_of beside.now.scene) operand.now))) }
 {
     let value = value_there(alloc, &beside.scene, operand)?;
     Ok(word_unit(stored(beside, value)))
@@ -106,7 +95,7 @@ pub fn words(
     operands: &[Expr],
 ) -> Result<Result<Vec<Emitted>, LineKind>, NoMemory>
     requires { AllRead operands.now }
-    ensures { IfOk result (λ us. all_emitted us ≡ units.word_units (context_of beside.now.scene) beside.now.data.now.keys operands.now) }
+    ensures { IfOk result (λ us. all_emitted us ≡ units.word_units (context_of beside.now.scene) beside.now.data.now operands.now) }
 {
     let mut so_far = Ok(Vec::new(alloc));
     let mut left = operands;

@@ -13,7 +13,8 @@ use Rattle.asm_model.specs.declared.names.Names.{Names}
 use Rattle.asm_model.specs.Forms.{same}
 use Rattle.asm_model.specs.Grammar.{Tree, Leaf, Before, Between, postfix}
 use Rattle.asm_model.specs.Meaning.{named_in, entry_stands_at, stands_at, distance, between_places, as_number, binary, Known, Unread, known, on_both, applied, operand_of_item, operand_of_tree, meaning}
-use Rattle.asm_variables.specs.Entries.{one_entry, items_entries}
+use Rattle.asm_expr.specs.Places.{one_entry}
+use Rattle.asm_variables.specs.Entries.{items_entries}
 use Rattle.asm_model.proofs.WordLemmas.{same_refl, same_true}
 
 -- ---- names that stand at no place

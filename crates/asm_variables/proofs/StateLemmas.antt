@@ -1,12 +1,10 @@
 -- States after a change, where the code has them.
 use Rattle.std.proofs.Common.{◌≡◌, ℕ, List, ◌∷◌, true, false, cond, ◌&&◌, refl, sym, ◌∙◌, ap, Option, Some, None}
 use Rattle.std.specs.Option.{is_some}
-use Rattle.std.specs.Ordering.{nat_cmp}
-use Rattle.std.specs.Cmp.Lexicographic.{slice_cmp}
-use Rattle.std.specs.BTreeMap.{BTreeMap, get}
 use Rattle.asm_model.specs.Forms.{same}
 use Rattle.asm_model.specs.declared.values.Value.{Value}
 use Rattle.expand_model.specs.States.{Table, Scope, State, found, with_row, locals_of, arguments_of, in_locals, declared_local, with_variable}
+use Rattle.asm_variables.specs.Maps.{Map, value_named}
 use Rattle.asm_variables.specs.declared.expansion.Expansion.{Expansion}
 use Rattle.asm_variables.specs.Expanding.{Represents, Replaces}
 use Rattle.asm_variables.specs.Variables.{HasTables}
@@ -31,17 +29,14 @@ called_in : (f : Table Value → Table Value) (o : Option Scope) → is_some (in
 called_in f None = refl
 called_in f (Some c) = refl
 
-abbrev Map : Type 0
-Map = BTreeMap (List ℕ) Value
-
-abbrev with_locals : Expansion → Map → Expansion
+abbrev with_locals : Expansion → Map Value → Expansion
 with_locals c m = record c { tables = record c.tables { locals = m } }
 
-abbrev with_globals : Expansion → Map → Expansion
+abbrev with_globals : Expansion → Map Value → Expansion
 with_globals c m = record c { tables = record c.tables { globals = m } }
 
-pub local_declared : (c : Expansion) (m : Map) (name : List ℕ) (v : Value) → c.in_call ≡ true
-    → ((q : List ℕ) → get (slice_cmp nat_cmp) m q ≡ cond (same name q) (Some v) (get (slice_cmp nat_cmp) c.tables.locals q))
+pub local_declared : (c : Expansion) (m : Map Value) (name : List ℕ) (v : Value) → c.in_call ≡ true
+    → ((q : List ℕ) → value_named m q ≡ cond (same name q) (Some v) (value_named c.tables.locals q))
     → (s : State) → Represents c s → Represents (with_locals c m) (declared_local name v s)
 local_declared c m name v called h s r =
     let add : Table Value → Table Value = λ rows. (name, v) ∷ rows in
@@ -59,15 +54,15 @@ local_declared c m name v called h s r =
       thumb = r.thumb;
     }
 
-replaced : (m : Map) (name : List ℕ) (v : Value) (old : Map) (rows : Table Value) → Replaces name v old m
-    → ((q : List ℕ) → get (slice_cmp nat_cmp) old q ≡ found q rows) → (q : List ℕ) → get (slice_cmp nat_cmp) m q ≡ found q (with_row name v rows)
+replaced : (m : Map Value) (name : List ℕ) (v : Value) (old : Map Value) (rows : Table Value) → Replaces name v old m
+    → ((q : List ℕ) → value_named old q ≡ found q rows) → (q : List ℕ) → value_named m q ≡ found q (with_row name v rows)
 replaced m name v old rows h k q =
     h q
-    ∙ ap (λ (o : Option Value). cond (same name q && is_some o) (Some v) (get (slice_cmp nat_cmp) old q)) (k name)
+    ∙ ap (λ (o : Option Value). cond (same name q && is_some o) (Some v) (value_named old q)) (k name)
     ∙ ap (λ (o : Option Value). cond (same name q && is_some (found name rows)) (Some v) o) (k q)
     ∙ sym (found_with name v q rows)
 
-pub local_set : (c : Expansion) (m : Map) (name : List ℕ) (v : Value) → is_some (get (slice_cmp nat_cmp) c.tables.locals name) ≡ true
+pub local_set : (c : Expansion) (m : Map Value) (name : List ℕ) (v : Value) → is_some (value_named c.tables.locals name) ≡ true
     → Replaces name v c.tables.locals m → (s : State) → Represents c s → Represents (with_locals c m) (with_variable name v s)
 local_set c m name v known h s r =
     let some : is_some (found name (locals_of s.scope)) ≡ true = sym (ap (λ (o : Option Value). is_some o) (r.locals name)) ∙ known in
@@ -85,7 +80,7 @@ local_set c m name v known h s r =
       thumb = r.thumb;
     })
 
-pub global_set : (c : Expansion) (m : Map) (name : List ℕ) (v : Value) → is_some (get (slice_cmp nat_cmp) c.tables.locals name) ≡ false
+pub global_set : (c : Expansion) (m : Map Value) (name : List ℕ) (v : Value) → is_some (value_named c.tables.locals name) ≡ false
     → Replaces name v c.tables.globals m → (s : State) → Represents c s → Represents (with_globals c m) (with_variable name v s)
 global_set c m name v unknown h s r =
     let none : is_some (found name (locals_of s.scope)) ≡ false = sym (ap (λ (o : Option Value). is_some o) (r.locals name)) ∙ unknown in

@@ -14,16 +14,14 @@ use Rattle.asm_model.specs.declared.names.LaidName.{LaidName}
 use Rattle.asm_model.specs.declared.names.Names.{Names}
 use Rattle.asm_model.specs.declared.values.EvalFault.{EvalFault}
 use Rattle.asm_model.specs.declared.values.Value.{Value}
-use Rattle.asm_model.specs.AtLine.{unless_told}
 use Rattle.asm_model.specs.FaultSets.{first_told}
 use Rattle.asm_model.specs.Grammar.{Tree, Leaf, Before, Between, postfix, plain, Spells, operand, of_name, before, grouped, between, tighter, IsSpelled}
 use Rattle.asm_model.specs.Kinds.{told_kind}
 use Rattle.asm_model.specs.Meaning.{named_in, meaning, Evaluates, IsValue}
 use Rattle.asm_model.proofs.FaultLemmas.{told_by_parts}
-use Rattle.asm_model.proofs.LateLemmas.{plain_operand}
-use Rattle.asm_model.proofs.TreeLemmas.{trees_read_back}
+use Rattle.asm_model.proofs.TreeLemmas.{plain_operand, trees_read_back}
 use Rattle.std.specs.Option.{is_some}
-use Rattle.expand_model.specs.Known.{Operand, item_kinds, asked_kinds, tree_kinds, name_kinds, names_with, maybe_value, value_with}
+use Rattle.expand_model.specs.Known.{Operand, item_kinds, asked_kinds, tree_kinds, name_kinds, unless_told, names_with, maybe_value, value_with}
 use Rattle.expand_model.specs.States.{State}
 use Rattle.asm_variables.specs.declared.expansion.Expansion.{Expansion}
 use Rattle.asm_variables.specs.declared.values.Sight.{Sight}

@@ -1,5 +1,5 @@
 -- Steps of the code that finds values. This project's.
-use Rattle.std.specs.Prelude.{◌≡◌, ℕ, List, ◌++◌, Bool, Option, Result}
+use Rattle.std.specs.Prelude.{◌≡◌, ℕ, List, Bool, Option, Result}
 use Rattle.std.specs.Option.{is_some}
 use Rattle.sdt_fault.specs.declared.kinds.LineKind.{LineKind}
 use Rattle.asm_model.specs.declared.exprs.ExprItem.{ExprItem}
@@ -13,7 +13,8 @@ use Rattle.expand_model.specs.Known.{Operand, label_entries, names_with, value_w
 use Rattle.expand_model.specs.States.{State}
 use Rattle.asm_variables.specs.declared.expansion.Expansion.{Expansion}
 use Rattle.asm_variables.specs.declared.values.Sight.{Sight}
-use Rattle.asm_variables.specs.Entries.{item_entries, items_entries, one_entry}
+use Rattle.asm_expr.specs.Places.{one_entry}
+use Rattle.asm_variables.specs.Entries.{item_entries, items_entries}
 use Rattle.asm_variables.specs.Expanding.{Represents}
 use Rattle.asm_variables.specs.Known as known
 
@@ -42,11 +43,8 @@ IsUnknown v c asked i b = Values c (λ s. b ≡ known.is_unknown (known.entries_
 abbrev pub HasUnknown : Sight → Expansion → List ExprItem → Bool → Type 0
 HasUnknown v c items b = Values c (λ s. b ≡ known.has_unknown (known.entries_in v s) items)
 
-abbrev pub PushesName : Sight → Expansion → List ℕ → List LaidName → List LaidName → Type 0
-PushesName v c q old new = Values c (λ s. new ≡ old ++ one_entry (named_in q (known.all_entries v s)))
-
-abbrev pub PushesItem : Sight → Expansion → ExprItem → List LaidName → List LaidName → Type 0
-PushesItem v c i old new = Values c (λ s. new ≡ old ++ item_entries (known.all_entries v s) i)
+abbrev pub HasEntry : Sight → Expansion → ExprItem → Option LaidName → Type 0
+HasEntry v c i entry = Values c (λ s. one_entry entry ≡ item_entries (known.all_entries v s) i)
 
 abbrev pub HasEntries : Sight → Expansion → List ExprItem → List LaidName → Type 0
 HasEntries v c items list = Values c (λ s. list ≡ items_entries (known.all_entries v s) items)

@@ -9,9 +9,9 @@ use crate::maps::put;
 use crate::variables::Tables;
 use asm_model::{Flat, Line, Value};
 use expand_model::Prototype;
+use indexmap::{IndexMap, IndexSet};
 use sdt_fault::{List, NoMemory, Text};
 use std::alloc::Global;
-use std::collections::{BTreeMap, BTreeSet};
 use std::mem;
 use std::rc::Rc;
 
@@ -19,8 +19,8 @@ use std::rc::Rc;
 #[derive(Drop)]
 pub struct Scope {
     pub in_call: bool,
-    pub locals: BTreeMap<Text, Value>,
-    pub arguments: BTreeMap<Text, Text>,
+    pub locals: IndexMap<Text, Value>,
+    pub arguments: IndexMap<Text, Text>,
 }
 
 /// A macro. Copies share it.
@@ -38,12 +38,12 @@ pub struct Expansion {
     pub tables: Tables,
     /// Whether a call of a macro is open.
     pub in_call: bool,
-    pub macros: BTreeMap<Text, Definition>,
+    pub macros: IndexMap<Text, Definition>,
     pub flats: Vec<Flat>,
     /// The names that an EQU made a number.
-    pub numbers: BTreeMap<Text, u32>,
+    pub numbers: IndexMap<Text, u32>,
     /// The names in label fields of flat lines.
-    pub labels: BTreeSet<Text>,
+    pub labels: IndexSet<Text>,
     pub thumb: bool,
 }
 
@@ -59,7 +59,7 @@ impl Definition {
 }
 
 /// Sets the value of a name that has one.
-fn replace(map: &mut BTreeMap<Text, Value>, name: Text, value: Value) -> Result<(), NoMemory>
+fn replace(map: &mut IndexMap<Text, Value>, name: Text, value: Value) -> Result<(), NoMemory>
     ensures { OnOk result (Replaces name value map.old map.new) }
 {
     if !map.contains_key(&name) {
@@ -73,8 +73,8 @@ impl Scope {
     pub fn none(alloc: Global) -> Scope {
         Scope {
             in_call: false,
-            locals: BTreeMap::new(alloc),
-            arguments: BTreeMap::new(alloc),
+            locals: IndexMap::new(alloc),
+            arguments: IndexMap::new(alloc),
         }
     }
 }

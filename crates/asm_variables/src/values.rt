@@ -1,20 +1,20 @@
 //! Values of expressions, by the variables and the numbers of EQUs.
 
-ghost use Rattle.std.specs.Prelude.{◌≡◌, false, IfOk, OnOk, Ok};
+ghost use Rattle.std.specs.Prelude.{◌≡◌, false, IfOk, Ok};
 ghost use Rattle.asm_model.specs.Entries.{valued_entry};
-ghost use Rattle.asm_model.specs.Meaning.{Evaluates};
 ghost use Rattle.expand_model.specs.Known as model;
 ghost use Rattle.asm_variables.specs.declared.values.Sight.TheVariants as sight;
 ghost use Rattle.asm_variables.specs.Known.{IsExpression, WasRead};
 ghost use Rattle.asm_variables.specs.Known as known;
-ghost use Rattle.asm_variables.specs.Valued.{Gives, HasEntries, HasUnknown, HasValue, IsEntry, IsLabel, IsNamed, IsUnknown, IsValueOf, Knows, PushesItem, PushesName, Values};
+ghost use Rattle.asm_variables.specs.Valued.{Gives, HasEntries, HasEntry, HasUnknown, HasValue, IsEntry, IsLabel, IsNamed, IsUnknown, IsValueOf, Knows, Values};
 
 use crate::expansion::Expansion;
+use asm_expr::known::add_entry;
 use asm_expr::told::told_value;
-use asm_expr::{NameIndex, evaluate_indexed};
-use asm_model::{EvalFault, Expr, ExprItem, LaidName, Names, UnaryOp, Value};
+use asm_expr::{KnownNames, Seen, evaluate};
+use asm_model::{EvalFault, Expr, ExprItem, LaidName, Meaning, UnaryOp, Value};
 use sdt_fault::kinds::LineKind;
-use sdt_fault::{List, NoMemory, Text};
+use sdt_fault::{NoMemory, Text};
 use std::alloc::Global;
 
 /// Which names have values.
@@ -122,12 +122,11 @@ fn entry_of(alloc: Global, name: &Text, value: Value) -> Result<LaidName, NoMemo
     let name = name.try_clone(alloc)?;
     Ok(LaidName {
         name,
-        value,
+        meaning: Meaning::Known(value),
         area: None,
         offset: 0,
-        size: 0,
+        size: Some(0),
         thumb: false,
-        place: false,
     })
 }
 
@@ -161,38 +160,18 @@ fn entry_named(
     Ok(Some(entry))
 }
 
-/// The entry of a name, where it has one.
-fn push_name(
-    alloc: Global,
-    state: &Expansion,
-    sight: Sight,
-    list: &mut Vec<LaidName>,
-    name: &Text,
-) -> Result<(), NoMemory>
-    ensures { OnOk result (PushesName sight state.now name.now list.old.items list.new.items) }
-{
-    match entry_named(alloc, state, sight, name)? {
-        None => Ok(()),
-        Some(entry) => {
-            list.push(entry)?;
-            Ok(())
-        }
-    }
-}
-
 /// The entry of an item that is a name.
-fn push_item(
+fn item_entry(
     alloc: Global,
     state: &Expansion,
     sight: Sight,
-    list: &mut Vec<LaidName>,
     item: &ExprItem,
-) -> Result<(), NoMemory>
-    ensures { OnOk result (PushesItem sight state.now item.now list.old.items list.new.items) }
+) -> Result<Option<LaidName>, NoMemory>
+    ensures { IfOk result (λ entry. HasEntry sight state.now item.now entry) }
 {
     match item {
-        ExprItem::Name(name) => push_name(alloc, state, sight, list, name),
-        _ => Ok(()),
+        ExprItem::Name(name) => entry_named(alloc, state, sight, name),
+        _ => Ok(None),
     }
 }
 
@@ -202,41 +181,32 @@ fn entries_of(
     state: &Expansion,
     sight: Sight,
     items: &[ExprItem],
-) -> Result<Vec<LaidName>, NoMemory>
-    ensures { IfOk result (λ list. HasEntries sight state.now items.now list.items) }
+) -> Result<KnownNames, NoMemory>
+    ensures { IfOk result (λ names. HasEntries sight state.now items.now names) }
 {
-    let mut list = Vec::new(alloc);
+    let mut names = KnownNames::new(alloc);
     'items: for item in items {
-        push_item(alloc, state, sight, &mut list, item)?;
+        let entry = item_entry(alloc, state, sight, item)?;
+        add_entry(alloc, &mut names, entry)?;
     }
-    Ok(list)
-}
-
-/// The value of an expression with these names.
-fn evaluated(alloc: Global, e: &Expr, names: &Names) -> Result<Value, EvalFault>
-    ensures { Evaluates names.now e.now.items result }
-{
-    let list = names.list.as_slice();
-    if list.len() > 0xFFFF_FFFF {
-        return Err(EvalFault::NoMemory);
-    }
-    let index = NameIndex::of(alloc, list)?;
-    evaluate_indexed(alloc, e, names, &index)
+    Ok(names)
 }
 
 /// The value of an expression whose names have values.
 fn value_known(alloc: Global, state: &Expansion, sight: Sight, e: &Expr) -> Result<Value, EvalFault>
     ensures { Gives sight state.now e.now.items result }
 {
-    let list = entries_of(alloc, state, sight, e.items.as_slice())?;
-    let names = Names {
-        list: List::from_vec(list),
+    let names = entries_of(alloc, state, sight, e.items.as_slice())?;
+    let seen = Seen {
+        names: &names,
+        own: None,
+        later: None,
         area: None,
         offset: 0,
         map: 0,
         thumb: state.thumb,
     };
-    evaluated(alloc, e, &names)
+    evaluate(alloc, e, &seen)
 }
 
 /// The value of an expression, or the kind of its fault.

@@ -7,17 +7,17 @@ ghost use Rattle.expand_model.specs.States as model;
 ghost use Rattle.asm_variables.specs.Variables.{HasTables, Appends};
 
 use asm_model::Value;
+use indexmap::IndexMap;
 use sdt_fault::digits::push_hexadecimal_places;
 use sdt_fault::{NoMemory, Text};
 use std::alloc::Global;
-use std::collections::BTreeMap;
 
 /// The global variables, and the variables and arguments of the call that is open.
 #[derive(Debug, Drop)]
 pub struct Tables {
-    pub globals: BTreeMap<Text, Value>,
-    pub locals: BTreeMap<Text, Value>,
-    pub arguments: BTreeMap<Text, Text>,
+    pub globals: IndexMap<Text, Value>,
+    pub locals: IndexMap<Text, Value>,
+    pub arguments: IndexMap<Text, Text>,
 }
 
 /// Appends a variable's text.

@@ -16,7 +16,6 @@ use Rattle.asm_model.specs.declared.names.Names.{Names}
 use Rattle.asm_model.specs.declared.tokens.Token.{Token}
 use Rattle.asm_model.specs.declared.values.Value.{Value}
 use Rattle.asm_model.specs.declared.values.Value.TheVariants.{Number}
-use Rattle.asm_model.specs.AtLine.{unless_told}
 use Rattle.asm_model.specs.Entries.{valued_entry}
 use Rattle.asm_model.specs.Grammar.{Tree, Leaf, Before, Between, ParsesTokens}
 use Rattle.asm_model.specs.Kinds.{told_kind}
@@ -80,6 +79,11 @@ tree_kinds values (Between op t u) = tree_kinds values t ++ tree_kinds values u
 
 abbrev pub names_with : State → List LaidName → Names
 names_with s list = record { list = list; area = None; offset = 0; map = 0; thumb = s.thumb }
+
+-- the kinds of its names come before all others that an expression has
+abbrev pub unless_told : Option LineKind → Result Value LineKind → Result Value LineKind
+unless_told None r = r
+unless_told (Some k) r = Err k
 
 -- the value of an expression with these names
 abbrev pub tree_value : State → List LaidName → Tree → Result Value LineKind

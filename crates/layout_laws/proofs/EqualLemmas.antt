@@ -1,22 +1,31 @@
 -- The names for expressions of a source, and its lines.
+use Rattle.std.specs.Prelude.{Result, Ok}
 use Rattle.std.proofs.Common.{◌≡◌, ℕ, List, [], ◌∷◌, ◌++◌, Bool, refl, Option, Some, None, inl, inr}
+use Rattle.sdt_fault.specs.declared.kinds.LineKind.{LineKind}
 use Rattle.asm_model.specs.declared.exprs.Expr.{Expr}
 use Rattle.asm_model.specs.declared.values.Value.{Value}
-use Rattle.asm_model.specs.declared.values.Value.TheVariants.{Number, Truth, Words, Place}
+use Rattle.asm_model.specs.declared.values.Value.TheVariants.{Place}
 use Rattle.asm_model.specs.declared.names.LaidName.{LaidName}
 use Rattle.asm_model.specs.declared.statements.Statement.{Statement}
 use Rattle.asm_model.specs.AtLine.{SourceLine}
 use Rattle.asm_model.specs.Grammar.{Tree}
-use Rattle.asm_model.specs.Before.{area_behind, is_thumb_label}
 use Rattle.asm_model.specs.Entries.{equal_entry}
-use Rattle.asm_model.specs.Labels.{Defined, Unnamed, Label, Equal, MapField, RegisterName, defined_by, imported_in}
-use Rattle.asm_model.specs.Laid.{LaidLine, statements_of, map_behind, offset_behind, tree_equated, definition_of, imported_lines, laid_behind, laid_of, source_lines}
-use Rattle.asm_model.specs.LayoutKinds.{equal_of, equals_in}
+use Rattle.asm_model.specs.Labels.{Defined, Label, Equal, defined_by, imported_in}
+use Rattle.asm_model.specs.Laid.{LaidLine, tree_equated, definition_of, imported_lines, laid_of, source_lines}
 use Rattle.asm_model.specs.Trees.{tree_of}
 use Rattle.layout_laws.proofs.RoundLemmas.{SymbolIs}
 use Rattle.layout_laws.proofs.StepLemmas.{HoldsOf, EachEquated, IsMade, IsRegular, AreRegular}
 
 -- ---- names for expressions
+
+-- the name for an expression that a statement defines, whatever stands before it
+abbrev pub equal_of : Defined → List (List ℕ × Expr)
+equal_of (Equal name e) = (name, e) ∷ []
+equal_of _ = []
+
+abbrev pub all_equals : List Statement → List (List ℕ × Expr)
+all_equals [] = []
+all_equals (s ∷ before) = all_equals before ++ equal_of (defined_by s)
 
 abbrev pub EachEqual : (List ℕ → Expr → Type 0) → List (List ℕ × Expr) → Type 0
 EachEqual R [] = Unit {0}
@@ -53,13 +62,10 @@ pub tree_holds : (R : List ℕ → Tree → Type 0) (names : List LaidName) (are
 tree_holds R names area name None f = tt
 tree_holds R names area name (Some t) f = f t refl
 
-pub definition_holds : (R : List ℕ → Tree → Type 0) (names : List LaidName) (x : Defined) (area : Option ℕ) (offset size : ℕ) (thumb : Bool) (m : ℕ)
+pub definition_holds : (R : List ℕ → Tree → Type 0) (names : List LaidName) (x : Defined) (area : Option ℕ) (offset : ℕ) (size : Option ℕ) (thumb : Bool) (m : ℕ)
     → EachEqual (OfTrees R) (equal_of x) → HoldsOf R (definition_of names x area offset size thumb m)
-definition_holds R names Unnamed area offset size thumb m h = tt
-definition_holds R names (Label name) area offset size thumb m h = tt
 definition_holds R names (Equal name e) area offset size thumb m h = tree_holds R names area name (tree_of e) h.0
-definition_holds R names (MapField name) area offset size thumb m h = tt
-definition_holds R names (RegisterName name r) area offset size thumb m h = tt
+definition_holds R names x area offset size thumb m h = tt
 
 pub imported_holds : (R : List ℕ → Tree → Type 0) (s : Statement) (before : List LaidLine) (o : Option (List ℕ)) → EachEquated R (imported_lines s before o)
 imported_holds R s before None = tt
@@ -69,17 +75,13 @@ pub holds_joined : (R : List ℕ → Tree → Type 0) (ls ms : List SourceLine) 
 holds_joined R [] ms h k = k
 holds_joined R (l ∷ ls) ms h k = (h.0, holds_joined R ls ms h.1 k)
 
-pub lines_hold : (R : List ℕ → Tree → Type 0) (d : List LaidName) (ss : List Statement) → EachEqual (OfTrees R) (equals_in ss)
+pub lines_hold : (R : List ℕ → Tree → Type 0) (d : List LaidName) (ss : List Statement) → EachEqual (OfTrees R) (all_equals ss)
     → EachEquated R (source_lines (laid_of d ss))
 lines_hold R d [] h = tt
 lines_hold R d (s ∷ ss) h =
-    let parts = equal_parts (OfTrees R) (equals_in ss) (equal_of (defined_by s)) h in
-    holds_joined R (source_lines (laid_of d ss)) ((laid_behind d s (laid_of d ss)).line ∷ imported_lines s (laid_of d ss) (imported_in s.what))
-    (lines_hold R d ss parts.0) (
-      definition_holds R d (defined_by s) (area_behind (s ∷ statements_of (laid_of d ss))) (offset_behind s (laid_of d ss))
-          (laid_behind d s (laid_of d ss)).size (is_thumb_label s (statements_of (laid_of d ss))) (map_behind (laid_of d ss)) parts.1,
-      imported_holds R s (laid_of d ss) (imported_in s.what),
-    )
+    let parts = equal_parts (OfTrees R) (all_equals ss) (equal_of (defined_by s)) h in
+    holds_joined R _ _ (lines_hold R d ss parts.0)
+    (definition_holds R d (defined_by s) _ _ _ _ _ parts.1, imported_holds R s (laid_of d ss) (imported_in s.what))
 
 -- ---- regular lines
 
@@ -87,24 +89,19 @@ pub own_place : (name : List ℕ) → SymbolIs (λ s. s ≡ name) (Place name 0)
 own_place [] = tt
 own_place (c ∷ cs) = refl
 
-pub equal_made : (names : List LaidName) (area : Option ℕ) (name : List ℕ) (v : Value) → IsMade (equal_entry names area name) v
-equal_made names area name (Place [] n) = (refl, inr refl)
-equal_made names area name (Place (c ∷ cs) n) = (refl, inl refl)
-equal_made names area name (Number n) = (refl, inl refl)
-equal_made names area name (Truth b) = (refl, inl refl)
-equal_made names area name (Words w) = (refl, inl refl)
+pub equal_made : (names : List LaidName) (area : Option ℕ) (name : List ℕ) (r : Result Value LineKind) → IsMade (equal_entry names area name) r
+equal_made names area name (Ok (Place [] n)) = (refl, inr refl)
+equal_made names area name r = (refl, inl refl)
 
 pub tree_regular : (names : List LaidName) (area : Option ℕ) (name : List ℕ) (o : Option Tree) → IsRegular (tree_equated names area name o)
 tree_regular names area name None = tt
 tree_regular names area name (Some t) = equal_made names area name
 
-pub definition_regular : (names : List LaidName) (x : Defined) (area : Option ℕ) (offset size : ℕ) (thumb : Bool) (m : ℕ)
+pub definition_regular : (names : List LaidName) (x : Defined) (area : Option ℕ) (offset : ℕ) (size : Option ℕ) (thumb : Bool) (m : ℕ)
     → IsRegular (definition_of names x area offset size thumb m)
-definition_regular names Unnamed area offset size thumb m = tt
 definition_regular names (Label name) area offset size thumb m = own_place name
 definition_regular names (Equal name e) area offset size thumb m = tree_regular names area name (tree_of e)
-definition_regular names (MapField name) area offset size thumb m = tt
-definition_regular names (RegisterName name r) area offset size thumb m = tt
+definition_regular names x area offset size thumb m = tt
 
 pub regular_joined : (ls ms : List SourceLine) → AreRegular ls → AreRegular ms → AreRegular (ls ++ ms)
 regular_joined [] ms h k = k
@@ -112,17 +109,10 @@ regular_joined (l ∷ ls) ms h k = (h.0, regular_joined ls ms h.1 k)
 
 pub imported_regular : (s : Statement) (before : List LaidLine) (o : Option (List ℕ)) → AreRegular (imported_lines s before o)
 imported_regular s before None = tt
-imported_regular s before (Some name) = (
-  own_place name,
-  tt,
-)
+imported_regular s before (Some name) = (own_place name, tt)
 
 pub lines_regular : (d : List LaidName) (ss : List Statement) → AreRegular (source_lines (laid_of d ss))
 lines_regular d [] = tt
 lines_regular d (s ∷ ss) =
-    regular_joined (source_lines (laid_of d ss)) ((laid_behind d s (laid_of d ss)).line ∷ imported_lines s (laid_of d ss) (imported_in s.what))
-    (lines_regular d ss) (
-      definition_regular d (defined_by s) (area_behind (s ∷ statements_of (laid_of d ss))) (offset_behind s (laid_of d ss))
-          (laid_behind d s (laid_of d ss)).size (is_thumb_label s (statements_of (laid_of d ss))) (map_behind (laid_of d ss)),
-      imported_regular s (laid_of d ss) (imported_in s.what),
-    )
+    regular_joined _ _ (lines_regular d ss)
+    (definition_regular d (defined_by s) _ _ _ _ _, imported_regular s (laid_of d ss) (imported_in s.what))

@@ -1,205 +1,179 @@
--- A value that is known at its line is the value with all names, whatever the size of the line's own label.
+-- A value that is known at a line is the value with all names.
 use Rattle.std.proofs.Common.{◌≡◌, ℕ, List, [], ◌∷◌, ◌++◌, Bool, true, false, cond, refl, sym, ◌∙◌, ap, subst, Option, Some, None}
 use Rattle.std.specs.Prelude.{Result, Ok, Err}
-use Rattle.std.specs.Option.{is_some}
 use Rattle.sdt_fault.specs.declared.kinds.LineKind.{LineKind}
-use Rattle.sdt_fault.specs.declared.kinds.LineKind.TheVariants.{Forward, UnknownWord}
 use Rattle.asm_model.specs.declared.exprs.ExprItem.{ExprItem}
 use Rattle.asm_model.specs.declared.exprs.ExprItem.TheVariants as item
 use Rattle.asm_model.specs.declared.exprs.UnaryOp.{UnaryOp}
 use Rattle.asm_model.specs.declared.exprs.UnaryOp.TheVariants as unary
 use Rattle.asm_model.specs.declared.exprs.BinaryOp.{BinaryOp}
+use Rattle.asm_model.specs.declared.exprs.BinaryOp.TheVariants.{Subtract}
 use Rattle.asm_model.specs.declared.values.Value.{Value}
-use Rattle.asm_model.specs.declared.values.Value.TheVariants.{Number, Truth, Words, Place}
+use Rattle.asm_model.specs.declared.values.Value.TheVariants.{Place}
 use Rattle.asm_model.specs.declared.names.LaidName.{LaidName}
-use Rattle.asm_model.specs.declared.names.Names.{Names}
-use Rattle.asm_model.specs.AtLine.{SourceLine, Sight, with_names, own_names, is_in, item_kinds, asked_kinds, name_kinds, value_at, HoldsEach}
-use Rattle.asm_model.specs.Directives.{or_else}
+use Rattle.asm_model.specs.AtLine.{SourceLine, with_names}
+use Rattle.asm_model.specs.Forms.{same}
 use Rattle.asm_model.specs.Grammar.{Tree, Leaf, Before, Between}
-use Rattle.asm_model.specs.Meaning.{named_in, entry_stands_at, stands_at, as_number, binary, unary_of, Known, Unread, value_of, size_of, known, then_of, on_both, applied, operand_of_item, meaning}
-use Rattle.asm_model.proofs.LineLemmas.{each_has, each_append, both_empty, tree_more, told_nothing}
-use Rattle.layout_laws.proofs.RoundLemmas.{named_joined, places_same}
+use Rattle.asm_model.specs.Meaning.{named_in, entry_stands_at, stands_at, distance, between_places, binary, unary_of, Operand, Known, Unread, value_of, size_of, defined_of, known, then_of, on_both, applied, operand_of_item, operand_of_tree, meaning}
+use Rattle.asm_model.specs.Before.{is_thumb_label}
+use Rattle.asm_model.specs.Entries.{later_entry}
+use Rattle.asm_model.specs.Labels.{Defined, Unnamed, Label, Equal, MapField, RegisterName, defined_by, imported_in, declared_entries, declared_imports, declared_names}
+use Rattle.asm_model.specs.declared.statements.Statement.{Statement}
+use Rattle.asm_model.proofs.LineLemmas.{applied_known, number_more}
+use Rattle.asm_model.proofs.WordLemmas.{same_true}
 
-abbrev pub seeing : Names → List LaidName → List LaidName → Sight
-seeing k u all = record { known = k; unsized = u; all = all }
+-- ---- entries that tell more
 
--- ---- entries that differ in their sizes alone
+-- a value of the first result is the second's
+abbrev pub Gives : {X : Type 0} → Result X LineKind → Result X LineKind → Type 0
+Gives {X = X} r s = (v : X) → r ≡ Ok v → s ≡ Ok v
 
-abbrev pub AreAlike : Option LaidName → Option LaidName → Type 0
-AreAlike o p = (value_of o ≡ value_of p) × (entry_stands_at o ≡ entry_stands_at p) × (is_some o ≡ is_some p)
+-- what an entry tells, the other tells too
+abbrev pub Tells : Option LaidName → Option LaidName → Type 0
+Tells o p =
+    Gives (value_of o) (value_of p) × Gives (size_of o) (size_of p) × Gives (defined_of o) (defined_of p)
+    × ((a : ℕ × ℕ) → entry_stands_at o ≡ Some a → entry_stands_at p ≡ Some a)
 
-abbrev pub EachAlike : List LaidName → List LaidName → Type 0
-EachAlike xs ys = (q : List ℕ) → AreAlike (named_in q xs) (named_in q ys)
+abbrev pub TellAll : List LaidName → List LaidName → Type 0
+TellAll xs ys = (q : List ℕ) → Tells (named_in q xs) (named_in q ys)
 
--- names that aren't among these have the same entries
-abbrev pub SameBut : List LaidName → List LaidName → List LaidName → Type 0
-SameBut us xs ys = (q : List ℕ) → is_in us q ≡ false → named_in q xs ≡ named_in q ys
+pub tells_itself : (o : Option LaidName) → Tells o o
+tells_itself o = (λ v h. h, λ v h. h, λ v h. h, λ a h. h)
 
-pub none_same : (o p : Option LaidName) → is_some o ≡ false → is_some o ≡ is_some p → o ≡ p
-none_same None None h e = refl
-none_same None (Some y) h e = absurd (cc)
-none_same (Some x) p h e = absurd (cc)
+-- ---- expressions
 
-pub alike_in : (o p a : Option LaidName) → AreAlike o p → AreAlike (or_else a o) (or_else a p)
-alike_in o p (Some x) h = (refl, refl, refl)
-alike_in o p None h = h
+abbrev pub OperandTells : Operand → Operand → Type 0
+OperandTells x y = Gives (known x) (known y) × ((op : UnaryOp) → Gives (applied op x) (applied op y))
 
-pub named_within : (q : List ℕ) (xs us bs : List LaidName) → named_in q (xs ++ us ++ bs) ≡ or_else (or_else (named_in q xs) (named_in q us)) (named_in q bs)
-named_within q xs us bs = named_joined q (xs ++ us) bs ∙ ap (λ o. or_else o (named_in q bs)) (named_joined q xs us)
+pub then_tells : (r s : Result Value LineKind) (f : Value → Result Value LineKind) → Gives r s
+    → Gives (then_of r f) (then_of s f)
+then_tells (Ok w) s f more v h = ap (λ z. then_of z f) (more w refl) ∙ h
+then_tells (Err k) s f more v h = absurd (cc)
 
-pub alike_behind : (xs us vs : List LaidName) → EachAlike us vs → EachAlike (xs ++ us) (xs ++ vs)
-alike_behind xs us vs h q =
-    let a = alike_in (named_in q us) (named_in q vs) (named_in q xs) (h q) in
-    let x = named_joined q xs us in
-    let y = named_joined q xs vs in (
-      ap value_of x ∙ a.0 ∙ sym (ap value_of y),
-      ap entry_stands_at x ∙ a.1 ∙ sym (ap entry_stands_at y),
-      ap is_some x ∙ a.2 ∙ sym (ap is_some y),
-    )
+pub known_tells : (r s : Result Value LineKind) → Gives r s → OperandTells (Known r) (Known s)
+known_tells r s more = (more, λ op v h. applied_known op s ∙ then_tells r s (unary_of op) more v (sym (applied_known op r) ∙ h))
 
-pub same_behind : (xs us vs : List LaidName) → EachAlike us vs → SameBut us (xs ++ us) (xs ++ vs)
-same_behind xs us vs h q e =
-    named_joined q xs us ∙ ap (or_else (named_in q xs)) (none_same (named_in q us) (named_in q vs) e (h q).2) ∙ sym (named_joined q xs vs)
+pub unread_tells : (o p : Option LaidName) → Tells o p → (op : UnaryOp)
+    → Gives (applied op (Unread o)) (applied op (Unread p))
+unread_tells o p h unary.Size = h.1
+unread_tells o p h unary.Defined = h.2
+unread_tells o p h op = then_tells (value_of o) (value_of p) (unary_of op) h.0
 
--- ---- their values are the same where no size is asked for
+pub item_tells : (l : SourceLine) (xs ys : List LaidName) → TellAll xs ys → (i : ExprItem)
+    → OperandTells (operand_of_item (with_names l xs) i) (operand_of_item (with_names l ys) i)
+item_tells l xs ys h (item.Name q) = ((h q).0, unread_tells (named_in q xs) (named_in q ys) (h q))
+item_tells l xs ys h i = (λ v k. k, λ op v k. k)
 
-pub stands_alike : (l : SourceLine) (xs ys : List LaidName) → EachAlike xs ys → (s : List ℕ) → stands_at (with_names l xs) s ≡ stands_at (with_names l ys) s
-stands_alike l xs ys h [] = refl
-stands_alike l xs ys h (c ∷ cs) = (h (c ∷ cs)).1
+pub stands_tell : (l : SourceLine) (xs ys : List LaidName) → TellAll xs ys → (s : List ℕ) (a : ℕ × ℕ)
+    → stands_at (with_names l xs) s ≡ Some a → stands_at (with_names l ys) s ≡ Some a
+stands_tell l xs ys h [] a k = k
+stands_tell l xs ys h (c ∷ cs) a k = (h (c ∷ cs)).3 a k
 
-pub binary_alike : (l : SourceLine) (xs ys : List LaidName) → EachAlike xs ys → (op : BinaryOp) (v w : Value)
-    → binary (with_names l xs) op v w ≡ binary (with_names l ys) op v w
-binary_alike l xs ys h op (Place s p) (Place t q) = ap as_number (places_same l xs ys op s p t q (stands_alike l xs ys h s) (stands_alike l xs ys h t))
-binary_alike l xs ys h op (Place s p) (Number n) = refl
-binary_alike l xs ys h op (Place s p) (Truth b) = refl
-binary_alike l xs ys h op (Place s p) (Words w) = refl
-binary_alike l xs ys h op (Number m) (Number n) = refl
-binary_alike l xs ys h op (Number m) (Truth b) = refl
-binary_alike l xs ys h op (Number m) (Words w) = refl
-binary_alike l xs ys h op (Number m) (Place t q) = refl
-binary_alike l xs ys h op (Truth a) (Number n) = refl
-binary_alike l xs ys h op (Truth a) (Truth b) = refl
-binary_alike l xs ys h op (Truth a) (Words w) = refl
-binary_alike l xs ys h op (Truth a) (Place t q) = refl
-binary_alike l xs ys h op (Words v) (Number n) = refl
-binary_alike l xs ys h op (Words v) (Truth b) = refl
-binary_alike l xs ys h op (Words v) (Words w) = refl
-binary_alike l xs ys h op (Words v) (Place t q) = refl
+pub distance_tells : (a b c d : Option (ℕ × ℕ)) (p q : ℕ) → ((x : ℕ × ℕ) → a ≡ Some x → c ≡ Some x)
+    → ((x : ℕ × ℕ) → b ≡ Some x → d ≡ Some x)
+    → Gives (distance a p b q) (distance c p d q)
+distance_tells (Some x) (Some y) c d p q f g n h = ap (λ z. distance z p d q) (f x refl) ∙ ap (λ z. distance (Some x) p z q) (g y refl) ∙ h
+distance_tells (Some x) None c d p q f g n h = absurd (cc)
+distance_tells None b c d p q f g n h = absurd (cc)
 
-pub both_alike : (l : SourceLine) (xs ys : List LaidName) → EachAlike xs ys → (op : BinaryOp) (x y : Result Value LineKind)
-    → on_both x y (binary (with_names l xs) op) ≡ on_both x y (binary (with_names l ys) op)
-both_alike l xs ys h op (Ok v) (Ok w) = binary_alike l xs ys h op v w
-both_alike l xs ys h op (Ok v) (Err j) = refl
-both_alike l xs ys h op (Err i) (Ok w) = refl
-both_alike l xs ys h op (Err i) (Err j) = refl
+pub places_tell : (l : SourceLine) (xs ys : List LaidName) → TellAll xs ys
+    → (op : BinaryOp) (s t : List ℕ) (p q : ℕ)
+    → Gives (between_places (with_names l xs) op s p t q) (between_places (with_names l ys) op s p t q)
+places_tell l xs ys h Subtract s t p q =
+    distance_tells (stands_at (with_names l xs) s) (stands_at (with_names l xs) t) (stands_at (with_names l ys) s) (stands_at (with_names l ys) t) p q
+    (stands_tell l xs ys h s) (stands_tell l xs ys h t)
+places_tell l xs ys h op s t p q = λ n k. absurd (cc)
 
-pub unsized : (b : Bool) (ks : List LineKind) → cond b (Forward ∷ []) ks ≡ [] → b ≡ false
-unsized true ks h = absurd (cc)
-unsized false ks h = refl
+pub binary_tells : (l : SourceLine) (xs ys : List LaidName) → TellAll xs ys → (op : BinaryOp) (v w : Value)
+    → Gives (binary (with_names l xs) op v w) (binary (with_names l ys) op v w)
+binary_tells l xs ys h op (Place s p) (Place t q) =
+    let near = between_places (with_names l xs) op s p t q in
+    λ r k. number_more near (between_places (with_names l ys) op s p t q) r (places_tell l xs ys h op s t p q) k
+binary_tells l xs ys h op v w = λ r k. k
 
-pub asked_alike : (l : SourceLine) (xs ys us all : List LaidName) → EachAlike xs ys → SameBut us xs ys → (op : UnaryOp) (q : List ℕ)
-    → asked_kinds (seeing (with_names l xs) us all) op (item.Name q) ≡ [] → applied op (Unread (named_in q xs)) ≡ applied op (Unread (named_in q ys))
-asked_alike l xs ys us all h but unary.Size q none =
-    ap size_of (but q (unsized (is_in us q) (cond (is_in xs q) [] (cond (is_in all q) Forward UnknownWord ∷ [])) none))
-asked_alike l xs ys us all h but unary.Defined q none = ap (λ b. Ok (Truth b)) (h q).2
-asked_alike l xs ys us all h but op q none = ap (λ r. then_of r (unary_of op)) (h q).0
+pub both_tell : (l : SourceLine) (xs ys : List LaidName) → TellAll xs ys
+    → (op : BinaryOp) (a b c d : Result Value LineKind) → Gives a c → Gives b d
+    → Gives (on_both a b (binary (with_names l xs) op)) (on_both c d (binary (with_names l ys) op))
+both_tell l xs ys h op (Ok v) (Ok w) c d f g r k =
+    ap (λ z. on_both z d (binary (with_names l ys) op)) (f v refl)
+    ∙ ap (λ z. on_both (Ok v) z (binary (with_names l ys) op)) (g w refl)
+    ∙ binary_tells l xs ys h op v w r k
+both_tell l xs ys h op (Ok v) (Err j) c d f g r k = absurd (cc)
+both_tell l xs ys h op (Err i) (Ok w) c d f g r k = absurd (cc)
+both_tell l xs ys h op (Err i) (Err j) c d f g r k = absurd (cc)
 
-pub item_alike : (l : SourceLine) (xs ys : List LaidName) → EachAlike xs ys → (i : ExprItem)
-    → known (operand_of_item (with_names l xs) i) ≡ known (operand_of_item (with_names l ys) i)
-item_alike l xs ys h (item.Name q) = (h q).0
-item_alike l xs ys h (item.Local q) = refl
-item_alike l xs ys h (item.Constant v) = refl
-item_alike l xs ys h item.Here = refl
-item_alike l xs ys h item.Map = refl
-item_alike l xs ys h item.CodeSize = refl
-item_alike l xs ys h (item.Unary op) = refl
-item_alike l xs ys h (item.Binary op) = refl
+pub tree_tells : (l : SourceLine) (xs ys : List LaidName) → TellAll xs ys → (t : Tree)
+    → OperandTells (operand_of_tree (with_names l xs) t) (operand_of_tree (with_names l ys) t)
+tree_tells l xs ys h (Leaf i) = item_tells l xs ys h i
+tree_tells l xs ys h (Before op t) =
+    known_tells (applied op (operand_of_tree (with_names l xs) t)) (applied op (operand_of_tree (with_names l ys) t)) ((tree_tells l xs ys h t).1 op)
+tree_tells l xs ys h (Between op t u) =
+    known_tells (meaning (with_names l xs) (Between op t u)) (meaning (with_names l ys) (Between op t u))
+    (both_tell l xs ys h op (meaning (with_names l xs) t) (meaning (with_names l xs) u) (meaning (with_names l ys) t) (meaning (with_names l ys) u)
+    (tree_tells l xs ys h t).0 (tree_tells l xs ys h u).0)
 
-pub before_alike : (l : SourceLine) (xs ys us all : List LaidName) → EachAlike xs ys → SameBut us xs ys → (op : UnaryOp) (i : ExprItem)
-    → asked_kinds (seeing (with_names l xs) us all) op i ≡ [] → applied op (operand_of_item (with_names l xs) i) ≡ applied op (operand_of_item (with_names l ys) i)
-before_alike l xs ys us all h but op (item.Name q) none = asked_alike l xs ys us all h but op q none
-before_alike l xs ys us all h but op (item.Local q) none = refl
-before_alike l xs ys us all h but op (item.Constant v) none = refl
-before_alike l xs ys us all h but op item.Here none = refl
-before_alike l xs ys us all h but op item.Map none = refl
-before_alike l xs ys us all h but op item.CodeSize none = refl
-before_alike l xs ys us all h but op (item.Unary o) none = refl
-before_alike l xs ys us all h but op (item.Binary o) none = refl
+-- ---- lists of entries
 
-pub tree_alike : (l : SourceLine) (xs ys us all : List LaidName) → EachAlike xs ys → SameBut us xs ys → (t : Tree)
-    → name_kinds (seeing (with_names l xs) us all) t ≡ [] → meaning (with_names l xs) t ≡ meaning (with_names l ys) t
-tree_alike l xs ys us all h but (Leaf i) none = item_alike l xs ys h i
-tree_alike l xs ys us all h but (Before op (Leaf i)) none = before_alike l xs ys us all h but op i none
-tree_alike l xs ys us all h but (Before op (Before o t)) none = ap (λ r. applied op (Known r)) (tree_alike l xs ys us all h but (Before o t) none)
-tree_alike l xs ys us all h but (Before op (Between o t u)) none = ap (λ r. applied op (Known r)) (tree_alike l xs ys us all h but (Between o t u) none)
-tree_alike l xs ys us all h but (Between op t u) none =
-    let parts = both_empty (name_kinds (seeing (with_names l xs) us all) t) (name_kinds (seeing (with_names l xs) us all) u) none in
-    both_alike l xs ys h op (meaning (with_names l xs) t) (meaning (with_names l xs) u)
-    ∙ ap (λ z. on_both z (meaning (with_names l xs) u) (binary (with_names l ys) op)) (tree_alike l xs ys us all h but t parts.0)
-    ∙ ap (λ z. on_both (meaning (with_names l ys) t) z (binary (with_names l ys) op)) (tree_alike l xs ys us all h but u parts.1)
+-- what each of these entries tells, the list tells too
+abbrev pub EachTells : List LaidName → List LaidName → Type 0
+EachTells N [] = Unit {0}
+EachTells N (n ∷ ns) = Tells (Some n) (named_in n.name N) × EachTells N ns
 
--- ---- no kinds where fewer names are there
+pub tells_append : (N ns ms : List LaidName) → EachTells N ns → EachTells N ms → EachTells N (ns ++ ms)
+tells_append N [] ms h k = k
+tells_append N (n ∷ ns) ms h k = (h.0, tells_append N ns ms h.1 k)
 
-abbrev pub Fewer : List LaidName → List LaidName → Type 0
-Fewer bs ds = (q : List ℕ) → is_in bs q ≡ true → is_in ds q ≡ true
+pub tell_behind : (N ns ms : List LaidName) → EachTells N ns → TellAll ms N → TellAll (ns ++ ms) N
+tell_behind N [] ms h k q = k q
+tell_behind N (n ∷ ns) ms h k q = by_test (same n.name q) refl (tell_behind N ns ms h.1 k q)
+  where
+    by_test : (b : Bool) → same n.name q ≡ b → Tells (named_in q (ns ++ ms)) (named_in q N)
+        → Tells (cond b (Some n) (named_in q (ns ++ ms))) (named_in q N)
+    by_test true s rest = subst (λ z. Tells (Some n) (named_in z N)) (same_true n.name q s) h.0
+    by_test false s rest = rest
 
-pub no_value : (a b : Bool) (k j : LineKind) → a ≡ b → cond a [] (k ∷ []) ≡ [] → cond b [] (j ∷ []) ≡ []
-no_value true true k j e h = refl
-no_value true false k j e h = absurd (cc)
-no_value false b k j e h = absurd (cc)
+-- ---- names that mean something later
 
-pub no_defined : (a b c d : Bool) → a ≡ b → (d ≡ true → c ≡ true) → cond a [] (cond c (Forward ∷ []) []) ≡ [] → cond b [] (cond d (Forward ∷ []) []) ≡ []
-no_defined a true c d e f h = refl
-no_defined a false c false e f h = refl
-no_defined true false c true e f h = absurd (cc)
-no_defined false false c true e f h = let x = f refl in absurd (let y : cond true (Forward ∷ []) [] ≡ [] = subst (λ z. cond z (Forward ∷ []) [] ≡ []) x h in cc)
+-- an entry that tells nothing but that it is there
+abbrev pub AreLater : List LaidName → Type 0
+AreLater [] = Unit {0}
+AreLater (n ∷ ns) = ((p : Option LaidName) → Tells (Some n) p) × AreLater ns
 
-pub no_size : (u a b : Bool) (k j : LineKind) → a ≡ b → cond u (Forward ∷ []) (cond a [] (k ∷ [])) ≡ [] → cond u (Forward ∷ []) (cond b [] (j ∷ [])) ≡ []
-no_size true a b k j e h = absurd (cc)
-no_size false a b k j e h = no_value a b k j e h
+pub later_append : (ns ms : List LaidName) → AreLater ns → AreLater ms → AreLater (ns ++ ms)
+later_append [] ms h k = k
+later_append (n ∷ ns) ms h k = (h.0, later_append ns ms h.1 k)
 
-pub item_fewer : (l : SourceLine) (xs ys us ds bs : List LaidName) → EachAlike xs ys → Fewer bs ds → (i : ExprItem)
-    → item_kinds (seeing (with_names l xs) us ds) i ≡ [] → item_kinds (seeing (with_names l ys) us bs) i ≡ []
-item_fewer l xs ys us ds bs h f (item.Name q) none =
-    no_value (is_in xs q) (is_in ys q) (cond (is_in ds q) Forward UnknownWord) (cond (is_in bs q) Forward UnknownWord) (h q).2 none
-item_fewer l xs ys us ds bs h f (item.Local q) none = absurd (cc)
-item_fewer l xs ys us ds bs h f (item.Constant v) none = refl
-item_fewer l xs ys us ds bs h f item.Here none = refl
-item_fewer l xs ys us ds bs h f item.Map none = refl
-item_fewer l xs ys us ds bs h f item.CodeSize none = refl
-item_fewer l xs ys us ds bs h f (item.Unary op) none = refl
-item_fewer l xs ys us ds bs h f (item.Binary op) none = refl
+pub later_tells : (name : List ℕ) (thumb : Bool) (p : Option LaidName) → Tells (Some (later_entry name thumb)) p
+later_tells name thumb p = (λ v h. absurd (cc), λ v h. absurd (cc), λ v h. absurd (cc), λ a h. absurd (cc))
 
-pub asked_fewer : (l : SourceLine) (xs ys us ds bs : List LaidName) → EachAlike xs ys → Fewer bs ds → (op : UnaryOp) (i : ExprItem)
-    → asked_kinds (seeing (with_names l xs) us ds) op i ≡ [] → asked_kinds (seeing (with_names l ys) us bs) op i ≡ []
-asked_fewer l xs ys us ds bs h f unary.Size (item.Name q) none =
-    no_size (is_in us q) (is_in xs q) (is_in ys q) (cond (is_in ds q) Forward UnknownWord) (cond (is_in bs q) Forward UnknownWord) (h q).2 none
-asked_fewer l xs ys us ds bs h f unary.Defined (item.Name q) none =
-    no_defined (is_in xs q) (is_in ys q) (is_in ds q) (is_in bs q) (h q).2 (f q) none
-asked_fewer l xs ys us ds bs h f op i none = item_fewer l xs ys us ds bs h f i none
+pub entries_later : (x : Defined) (s : Statement) (before : List Statement)
+    → AreLater (declared_entries x s before)
+entries_later Unnamed s before = tt
+entries_later (Label name) s before = (later_tells name (is_thumb_label s before), tt)
+entries_later (Equal name e) s before = (later_tells name false, tt)
+entries_later (MapField name) s before = (later_tells name false, tt)
+entries_later (RegisterName name r) s before = (later_tells name false, tt)
 
-pub tree_fewer : (l : SourceLine) (xs ys us ds bs : List LaidName) → EachAlike xs ys → Fewer bs ds → (t : Tree)
-    → name_kinds (seeing (with_names l xs) us ds) t ≡ [] → name_kinds (seeing (with_names l ys) us bs) t ≡ []
-tree_fewer l xs ys us ds bs h f (Leaf i) none = item_fewer l xs ys us ds bs h f i none
-tree_fewer l xs ys us ds bs h f (Before op (Leaf i)) none = asked_fewer l xs ys us ds bs h f op i none
-tree_fewer l xs ys us ds bs h f (Before op (Before o t)) none = tree_fewer l xs ys us ds bs h f (Before o t) none
-tree_fewer l xs ys us ds bs h f (Before op (Between o t u)) none = tree_fewer l xs ys us ds bs h f (Between o t u) none
-tree_fewer l xs ys us ds bs h f (Between op t u) none =
-    let parts = both_empty (name_kinds (seeing (with_names l xs) us ds) t) (name_kinds (seeing (with_names l xs) us ds) u) none in
-    ap (λ z. z ++ name_kinds (seeing (with_names l ys) us bs) u) (tree_fewer l xs ys us ds bs h f t parts.0)
-    ∙ tree_fewer l xs ys us ds bs h f u parts.1
+pub imports_later : (o : Option (List ℕ)) → AreLater (declared_imports o)
+imports_later None = tt
+imports_later (Some name) = (later_tells name false, tt)
 
--- ---- what is known is among all names
+pub declared_later : (ss : List Statement) → AreLater (declared_names ss)
+declared_later [] = tt
+declared_later (s ∷ ss) =
+    later_append (declared_names ss ++ declared_entries (defined_by s) s ss) (declared_imports (imported_in s.what))
+    (later_append (declared_names ss) (declared_entries (defined_by s) s ss) (declared_later ss) (entries_later (defined_by s) s ss))
+    (imports_later (imported_in s.what))
 
--- what a line knows, of which the own names have other sizes, is known finally
-pub known_final : (D N seen us : List LaidName) (l : SourceLine) → HoldsEach N seen → HoldsEach N (own_names l.definition) → Fewer N D
-    → EachAlike us (own_names l.definition) → (t : Tree) (v : Value) → value_at (seeing (with_names l (seen ++ us)) us D) t ≡ Ok v
-    → meaning (with_names l N) t ≡ Ok v
-known_final D N seen us l h own fewer alike t v e =
-    let xs = seen ++ us in
-    let ys = seen ++ own_names l.definition in
-    let parts = told_nothing (name_kinds (seeing (with_names l xs) us D) t) (meaning (with_names l xs) t) v e in
-    let each = alike_behind seen us (own_names l.definition) alike in
-    let same_value = tree_alike l xs ys us D each (same_behind seen us (own_names l.definition) alike) t parts.0 in
-    tree_more l ys us N (each_has N ys (each_append N seen (own_names l.definition) h own)) t v (tree_fewer l xs ys us D N each fewer t parts.0)
-    (sym same_value ∙ parts.1)
+pub none_tells : (p : Option LaidName) → p ≡ None → Tells None p
+none_tells p e = subst (Tells None) (sym e) (tells_itself None)
+
+pub later_tell : (q : List ℕ) (ns : List LaidName) (p : Option LaidName) → AreLater ns
+    → (named_in q ns ≡ None → p ≡ None) → Tells (named_in q ns) p
+later_tell q [] p h none = none_tells p (none refl)
+later_tell q (n ∷ ns) p h none = by_test (same n.name q) none (later_tell q ns p h.1)
+  where
+    by_test : (b : Bool) → (cond b (Some n) (named_in q ns) ≡ None → p ≡ None) → ((named_in q ns ≡ None → p ≡ None) → Tells (named_in q ns) p)
+        → Tells (cond b (Some n) (named_in q ns)) p
+    by_test true f rest = h.0 p
+    by_test false f rest = rest f

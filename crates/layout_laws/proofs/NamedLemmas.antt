@@ -1,29 +1,23 @@
 -- In a source without faults each entry is the first with its name, and no other names have entries.
 use Rattle.std.proofs.Common.{◌≡◌, ℕ, List, [], ◌∷◌, ◌++◌, Bool, true, false, cond, refl, sym, ◌∙◌, ap, subst, Option, Some, None, append_assoc}
-use Rattle.std.specs.Prelude.{Result, Ok, Err}
 use Rattle.std.specs.List.{list_any}
-use Rattle.std.specs.Option.{is_some}
 use Rattle.std.proofs.lemmas.Bool.{or_parts}
-use Rattle.sdt_fault.specs.declared.kinds.LineKind.{LineKind}
-use Rattle.asm_model.specs.declared.values.Value.{Value}
-use Rattle.asm_model.specs.declared.values.Value.TheVariants.{Number}
 use Rattle.asm_model.specs.declared.names.LaidName.{LaidName}
 use Rattle.asm_model.specs.declared.statements.Statement.{Statement}
-use Rattle.asm_model.specs.AtLine.{SourceLine, with_names, is_in, made_name, HoldsEach}
+use Rattle.asm_model.specs.AtLine.{SourceLine, with_names, HoldsEach}
 use Rattle.asm_model.specs.Directives.{or_else}
 use Rattle.asm_model.specs.Forms.{same}
 use Rattle.asm_model.specs.Grammar.{Tree}
 use Rattle.asm_model.specs.Meaning.{named_in, meaning}
 use Rattle.asm_model.proofs.LineLemmas.{each_more, each_append}
 use Rattle.asm_model.proofs.WordLemmas.{same_refl}
-use Rattle.asm_model.specs.Before.{area_behind, is_thumb_label}
-use Rattle.asm_model.specs.Entries.{equal_entry, label_entry, valued_entry}
-use Rattle.asm_model.specs.Labels.{Defined, Unnamed, Label, Equal, MapField, RegisterName, defined_by, imported_in, imported_entries, declared_entries, declared_names}
-use Rattle.asm_model.specs.Laid.{LaidLine, statements_of, map_behind, offset_behind, tree_equated, definition_of, imported_lines, laid_behind, laid_of, entries_with, all_entries, source_lines}
+use Rattle.asm_model.specs.Before.{is_thumb_label}
+use Rattle.asm_model.specs.Entries.{equal_entry, label_entry, imported_entry, field_entry, register_entry, later_entry}
+use Rattle.asm_model.specs.Labels.{Defined, Unnamed, Label, Equal, MapField, RegisterName, defined_by, imported_in, declared_entries, declared_imports, declared_names}
+use Rattle.asm_model.specs.Laid.{LaidLine, tree_equated, definition_of, imported_lines, laid_behind, laid_of, entries_with, all_entries, source_lines}
 use Rattle.asm_model.specs.LayoutKinds.{own_name, listed, names_in, names_behind, is_repeated}
 use Rattle.asm_model.specs.Trees.{tree_of}
 use Rattle.layout_laws.proofs.EqualLemmas.{equal_made}
-use Rattle.layout_laws.proofs.KnownLemmas.{Fewer, named_within}
 use Rattle.layout_laws.proofs.RoundLemmas.{named_joined}
 use Rattle.layout_laws.proofs.SoundLemmas.{EachSound, same_flip, any_parts, or_none}
 
@@ -58,27 +52,19 @@ AtMost ps [] = Unit {0}
 AtMost ps (n ∷ []) = ps ≡ n.name ∷ []
 AtMost ps (n ∷ m ∷ ns) = ⊥
 
-pub made_most : (names : List LaidName) (area : Option ℕ) (name : List ℕ) (r : Result Value LineKind) → AtMost (name ∷ []) (made_name (equal_entry names area name) r)
-made_most names area name (Err k) = tt
-made_most names area name (Ok v) = ap (λ z. z ∷ []) (sym (equal_made names area name v).0)
-
 pub tree_most : (N : List LaidName) (l : SourceLine) (names : List LaidName) (area : Option ℕ) (name : List ℕ) (o : Option Tree)
     → AtMost (name ∷ []) (entries_with N l (tree_equated names area name o))
 tree_most N l names area name None = tt
-tree_most N l names area name (Some t) = made_most names area name (meaning (with_names l N) t)
+tree_most N l names area name (Some t) = ap (λ z. z ∷ []) (sym (equal_made names area name (meaning (with_names l N) t)).0)
 
-pub definition_most : (N : List LaidName) (l : SourceLine) (names : List LaidName) (x : Defined) (area : Option ℕ) (offset size : ℕ) (thumb : Bool) (m : ℕ)
+pub definition_most : (N : List LaidName) (l : SourceLine) (names : List LaidName) (x : Defined) (area : Option ℕ) (offset : ℕ) (size : Option ℕ) (thumb : Bool) (m : ℕ)
     → AtMost (own_name x) (entries_with N l (definition_of names x area offset size thumb m))
 definition_most N l names Unnamed area offset size thumb m = tt
-definition_most N l names (Label name) area offset size thumb m = refl
 definition_most N l names (Equal name e) area offset size thumb m = tree_most N l names area name (tree_of e)
-definition_most N l names (MapField name) area offset size thumb m = refl
-definition_most N l names (RegisterName name r) area offset size thumb m = tt
+definition_most N l names x area offset size thumb m = refl
 
 pub own_most : (N : List LaidName) (d : List LaidName) (s : Statement) (ss : List Statement) → AtMost (own_name (defined_by s)) (own_of N d s ss)
-own_most N d s ss =
-    definition_most N (laid_behind d s (laid_of d ss)).line d (defined_by s) (area_behind (s ∷ statements_of (laid_of d ss)))
-    (offset_behind s (laid_of d ss)) (laid_behind d s (laid_of d ss)).size (is_thumb_label s (statements_of (laid_of d ss))) (map_behind (laid_of d ss))
+own_most N d s ss = definition_most N (laid_behind d s (laid_of d ss)).line d (defined_by s) _ _ _ _ _
 
 pub import_most : (N : List LaidName) (s : Statement) (before : List LaidLine) (o : Option (List ℕ))
     → AtMost (listed o) (all_entries N (imported_lines s before o))
@@ -155,59 +141,47 @@ sofar_holds N d S (s ∷ ss) h =
 
 -- ---- names that are not declared
 
-pub some_none : (o : Option LaidName) → is_some o ≡ false → o ≡ None
-some_none None h = refl
-some_none (Some n) h = absurd (cc)
+pub none_parts : (q : List ℕ) (xs ys : List LaidName) → named_in q (xs ++ ys) ≡ None → (named_in q xs ≡ None) × (named_in q ys ≡ None)
+none_parts q xs ys h = or_none (named_in q xs) (named_in q ys) (sym (named_joined q xs ys) ∙ h)
 
 pub cond_none : (b : Bool) (x y : LaidName) → cond b (Some x) None ≡ None → cond b (Some y) None ≡ None
 cond_none true x y h = absurd (cc)
 cond_none false x y h = refl
 
-pub made_undeclared : (q : List ℕ) (names : List LaidName) (area : Option ℕ) (name : List ℕ) (x : LaidName) (r : Result Value LineKind)
-    → cond (same name q) (Some x) None ≡ None → named_in q (made_name (equal_entry names area name) r) ≡ None
-made_undeclared q names area name x (Err k) h = refl
-made_undeclared q names area name x (Ok v) h =
-    ap (λ z. cond (same z q) (Some (equal_entry names area name v)) None) (equal_made names area name v).0
-    ∙ cond_none (same name q) x (equal_entry names area name v) h
-
 pub tree_undeclared : (q : List ℕ) (N : List LaidName) (l : SourceLine) (names : List LaidName) (area : Option ℕ) (name : List ℕ) (x : LaidName) (o : Option Tree)
     → cond (same name q) (Some x) None ≡ None → named_in q (entries_with N l (tree_equated names area name o)) ≡ None
 tree_undeclared q N l names area name x None h = refl
-tree_undeclared q N l names area name x (Some t) h = made_undeclared q names area name x (meaning (with_names l N) t) h
+tree_undeclared q N l names area name x (Some t) h =
+    let r = meaning (with_names l N) t in
+    ap (λ z. cond (same z q) (Some (equal_entry names area name r)) None) (equal_made names area name r).0
+    ∙ cond_none (same name q) x (equal_entry names area name r) h
 
 pub own_undeclared : (q : List ℕ) (s : Statement) (before : List Statement) (N : List LaidName) (l : SourceLine) (names : List LaidName) (x : Defined) (area : Option ℕ)
-    (offset size : ℕ) (thumb : Bool) (m : ℕ) → named_in q (declared_entries x s before) ≡ None
+    (offset : ℕ) (size : Option ℕ) (thumb : Bool) (m : ℕ) → named_in q (declared_entries x s before) ≡ None
     → named_in q (entries_with N l (definition_of names x area offset size thumb m)) ≡ None
 own_undeclared q s before N l names Unnamed area offset size thumb m h = refl
-own_undeclared q s before N l names (Label name) area offset size thumb m h = cond_none (same name q) (label_entry name None 0 0 (is_thumb_label s before)) (label_entry name area offset size thumb) h
-own_undeclared q s before N l names (Equal name e) area offset size thumb m h = tree_undeclared q N l names area name (valued_entry name (Number 0) false) (tree_of e) h
-own_undeclared q s before N l names (MapField name) area offset size thumb m h = cond_none (same name q) (valued_entry name (Number 0) false) (valued_entry name (Number m) false) h
-own_undeclared q s before N l names (RegisterName name r) area offset size thumb m h = refl
+own_undeclared q s before N l names (Label name) area offset size thumb m h =
+    cond_none (same name q) (later_entry name (is_thumb_label s before)) (label_entry name area offset size thumb) h
+own_undeclared q s before N l names (Equal name e) area offset size thumb m h = tree_undeclared q N l names area name (later_entry name false) (tree_of e) h
+own_undeclared q s before N l names (MapField name) area offset size thumb m h =
+    cond_none (same name q) (later_entry name false) (field_entry name m size) h
+own_undeclared q s before N l names (RegisterName name r) area offset size thumb m h =
+    cond_none (same name q) (later_entry name false) (register_entry name) h
 
-pub import_undeclared : (q : List ℕ) (N : List LaidName) (s : Statement) (before : List LaidLine) (o : Option (List ℕ)) → named_in q (imported_entries o) ≡ None
+pub import_undeclared : (q : List ℕ) (N : List LaidName) (s : Statement) (before : List LaidLine) (o : Option (List ℕ)) → named_in q (declared_imports o) ≡ None
     → named_in q (all_entries N (imported_lines s before o)) ≡ None
 import_undeclared q N s before None h = refl
-import_undeclared q N s before (Some name) h = h
+import_undeclared q N s before (Some name) h = cond_none (same name q) (later_entry name false) (imported_entry name) h
 
 pub undeclared : (N : List LaidName) (d : List LaidName) (q : List ℕ) (ss : List Statement) → named_in q (declared_names ss) ≡ None
     → named_in q (sofar N d ss) ≡ None
 undeclared N d q [] h = refl
 undeclared N d q (s ∷ ss) h =
     let x = declared_entries (defined_by s) s ss in
-    let i = imported_entries (imported_in s.what) in
-    let p = or_none (or_else (named_in q (declared_names ss)) (named_in q x)) (named_in q i) (sym (named_within q (declared_names ss) x i) ∙ h) in
-    let r = or_none (named_in q (declared_names ss)) (named_in q x) p.0 in
+    let p = none_parts q (declared_names ss ++ x) (declared_imports (imported_in s.what)) h in
+    let r = none_parts q (declared_names ss) x p.0 in
     ap (named_in q) (with_statement N d s ss)
     ∙ none_joined q (sofar N d ss) (own_of N d s ss ++ imports_of N d s ss) (undeclared N d q ss r.0)
     (none_joined q (own_of N d s ss) (imports_of N d s ss)
-    (own_undeclared q s ss N (laid_behind d s (laid_of d ss)).line d (defined_by s) (area_behind (s ∷ statements_of (laid_of d ss)))
-    (offset_behind s (laid_of d ss)) (laid_behind d s (laid_of d ss)).size (is_thumb_label s (statements_of (laid_of d ss))) (map_behind (laid_of d ss)) r.1)
+    (own_undeclared q s ss N (laid_behind d s (laid_of d ss)).line d (defined_by s) _ _ _ _ _ r.1)
     (import_undeclared q N s (laid_of d ss) (imported_in s.what) p.1))
-
-pub fewer_than_declared : (N : List LaidName) (d : List LaidName) (ss : List Statement) → Fewer (sofar N d ss) (declared_names ss)
-fewer_than_declared N d ss q h = by_test (is_in (declared_names ss) q) refl
-  where
-    by_test : (b : Bool) → is_in (declared_names ss) q ≡ b → b ≡ true
-    by_test true e = refl
-    by_test false e =
-        let x : is_some (named_in q (sofar N d ss)) ≡ false = ap is_some (undeclared N d q ss (some_none (named_in q (declared_names ss)) e)) in absurd (cc)

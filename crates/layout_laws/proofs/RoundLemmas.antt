@@ -4,7 +4,7 @@ use Rattle.std.specs.Prelude.{Result, Ok, Err, nat_lt}
 use Rattle.std.specs.Ordering.{nat_cmp}
 use Rattle.std.specs.Cmp.Lexicographic.{slice_cmp}
 use Rattle.sdt_fault.specs.declared.kinds.LineKind.{LineKind}
-use Rattle.sdt_fault.specs.declared.kinds.LineKind.TheVariants.{TooMany, OutOfRange}
+use Rattle.sdt_fault.specs.declared.kinds.LineKind.TheVariants.{Forward, TooMany, OutOfRange}
 use Rattle.asm_model.specs.declared.exprs.ExprItem.{ExprItem}
 use Rattle.asm_model.specs.declared.exprs.ExprItem.TheVariants as item
 use Rattle.asm_model.specs.declared.exprs.UnaryOp.{UnaryOp}
@@ -14,13 +14,15 @@ use Rattle.asm_model.specs.declared.exprs.BinaryOp.TheVariants.{Subtract}
 use Rattle.asm_model.specs.declared.values.Value.{Value}
 use Rattle.asm_model.specs.declared.values.Value.TheVariants.{Number, Truth, Words, Place}
 use Rattle.asm_model.specs.declared.names.LaidName.{LaidName}
+use Rattle.asm_model.specs.declared.names.Meaning.{Meaning}
+use Rattle.asm_model.specs.declared.names.Meaning.TheVariants as means
 use Rattle.asm_model.specs.declared.names.Names.{Names}
 use Rattle.asm_model.specs.AtLine.{SourceLine, with_names}
 use Rattle.asm_model.specs.Directives.{or_else}
 use Rattle.asm_model.specs.Forms.{same}
 use Rattle.asm_model.specs.Grammar.{Tree, Leaf, Before, Between}
 use Rattle.asm_model.specs.Limits.{string_bytes}
-use Rattle.asm_model.specs.Meaning.{named_in, entry_stands_at, stands_at, distance, between_places, related, arithmetic, logical, joined_strings, cut_string, moved_place, added_place, as_number, as_truth, as_words, as_place, truth_or, binary, unary_of, Operand, Known, Unread, value_of, known, then_of, on_both, applied, operand_of_item, operand_of_tree, meaning}
+use Rattle.asm_model.specs.Meaning.{named_in, entry_stands_at, stands_at, distance, between_places, related, arithmetic, logical, joined_strings, cut_string, moved_place, added_place, as_number, as_truth, as_words, as_place, truth_or, binary, unary_of, Operand, Known, Unread, entry_value, value_of, known_size, size_in, is_later, known, then_of, on_both, applied, operand_of_item, operand_of_tree, meaning}
 use Rattle.layout_laws.proofs.TreeLemmas.{TreeEach}
 
 -- ---- symbols
@@ -29,9 +31,7 @@ use Rattle.layout_laws.proofs.TreeLemmas.{TreeEach}
 abbrev pub SymbolIs : (List ℕ → Type 0) → Value → Type 0
 SymbolIs P (Place [] n) = Unit {0}
 SymbolIs P (Place (c ∷ cs) n) = P (c ∷ cs)
-SymbolIs P (Number n) = Unit {0}
-SymbolIs P (Truth b) = Unit {0}
-SymbolIs P (Words w) = Unit {0}
+SymbolIs P _ = Unit {0}
 
 abbrev pub ResultIs : (List ℕ → Type 0) → Result Value LineKind → Type 0
 ResultIs P (Ok v) = SymbolIs P v
@@ -40,41 +40,32 @@ ResultIs P (Err k) = Unit {0}
 -- so has each name in an item, and in a tree
 abbrev pub ItemIs : (List ℕ → Type 0) → ExprItem → Type 0
 ItemIs P (item.Name q) = P q
-ItemIs P (item.Local q) = Unit {0}
 ItemIs P (item.Constant v) = SymbolIs P v
-ItemIs P item.Here = Unit {0}
-ItemIs P item.Map = Unit {0}
-ItemIs P item.CodeSize = Unit {0}
-ItemIs P (item.Unary op) = Unit {0}
-ItemIs P (item.Binary op) = Unit {0}
+ItemIs P _ = Unit {0}
 
 abbrev pub TreeIs : (List ℕ → Type 0) → Tree → Type 0
 TreeIs P t = TreeEach (ItemIs P) t
 
 -- what stands for names with the property has symbols with it
 abbrev pub IsClosed : (List ℕ → Type 0) → List LaidName → Type 0
-IsClosed P xs = (q : List ℕ) (n : LaidName) → P q → named_in q xs ≡ Some n → SymbolIs P n.value
+IsClosed P xs = (q : List ℕ) (n : LaidName) → P q → named_in q xs ≡ Some n → ResultIs P (entry_value n)
 
 -- names with the property have the same entries
 abbrev pub AreSame : (List ℕ → Type 0) → List LaidName → List LaidName → Type 0
 AreSame P xs ys = (q : List ℕ) → P q → named_in q xs ≡ named_in q ys
 
 pub symbol_weaker : (P Q : List ℕ → Type 0) → ((q : List ℕ) → P q → Q q) → (v : Value) → SymbolIs P v → SymbolIs Q v
-symbol_weaker P Q f (Place [] n) h = tt
 symbol_weaker P Q f (Place (c ∷ cs) n) h = f (c ∷ cs) h
-symbol_weaker P Q f (Number n) h = tt
-symbol_weaker P Q f (Truth b) h = tt
-symbol_weaker P Q f (Words w) h = tt
+symbol_weaker P Q f v h = tt
+
+pub result_weaker : (P Q : List ℕ → Type 0) → ((q : List ℕ) → P q → Q q) → (r : Result Value LineKind) → ResultIs P r → ResultIs Q r
+result_weaker P Q f (Ok v) h = symbol_weaker P Q f v h
+result_weaker P Q f (Err k) h = tt
 
 pub item_weaker : (P Q : List ℕ → Type 0) → ((q : List ℕ) → P q → Q q) → (i : ExprItem) → ItemIs P i → ItemIs Q i
 item_weaker P Q f (item.Name q) h = f q h
-item_weaker P Q f (item.Local q) h = tt
 item_weaker P Q f (item.Constant v) h = symbol_weaker P Q f v h
-item_weaker P Q f item.Here h = tt
-item_weaker P Q f item.Map h = tt
-item_weaker P Q f item.CodeSize h = tt
-item_weaker P Q f (item.Unary op) h = tt
-item_weaker P Q f (item.Binary op) h = tt
+item_weaker P Q f i h = tt
 
 pub tree_weaker : (P Q : List ℕ → Type 0) → ((q : List ℕ) → P q → Q q) → (t : Tree) → TreeIs P t → TreeIs Q t
 tree_weaker P Q f (Leaf i) h = item_weaker P Q f i h
@@ -110,26 +101,31 @@ pub then_is : (P : List ℕ → Type 0) (op : UnaryOp) (r : Result Value LineKin
 then_is P op (Ok v) = unary_is P op v
 then_is P op (Err k) = tt
 
+pub known_size_is : (P : List ℕ → Type 0) (o : Option ℕ) → ResultIs P (known_size o)
+known_size_is P None = tt
+known_size_is P (Some n) = tt
+
+pub size_is : (P : List ℕ → Type 0) (m : Meaning) (o : Option ℕ) → ResultIs P (size_in m o)
+size_is P means.Later o = tt
+size_is P means.Register o = tt
+size_is P m o = known_size_is P o
+
 pub applied_is : (P : List ℕ → Type 0) (op : UnaryOp) (x : Operand) → ResultIs P (applied op x)
 applied_is P unary.Size (Unread None) = tt
-applied_is P unary.Size (Unread (Some n)) = tt
-applied_is P unary.Defined (Unread n) = tt
+applied_is P unary.Size (Unread (Some n)) = size_is P n.meaning n.size
+applied_is P unary.Defined (Unread None) = tt
+applied_is P unary.Defined (Unread (Some n)) = cond_is P (is_later n.meaning) (Err Forward) (Ok (Truth true)) tt tt
 applied_is P op x = then_is P op (known x)
 
-pub value_is : (P : List ℕ → Type 0) (o : Option LaidName) → ((n : LaidName) → o ≡ Some n → SymbolIs P n.value) → ResultIs P (value_of o)
+pub value_is : (P : List ℕ → Type 0) (o : Option LaidName) → ((n : LaidName) → o ≡ Some n → ResultIs P (entry_value n)) → ResultIs P (value_of o)
 value_is P None h = tt
 value_is P (Some n) h = h n refl
 
 pub item_is : (P : List ℕ → Type 0) (l : SourceLine) (xs : List LaidName) → IsClosed P xs → (i : ExprItem) → ItemIs P i
     → ResultIs P (known (operand_of_item (with_names l xs) i))
 item_is P l xs closed (item.Name q) h = value_is P (named_in q xs) (λ n. closed q n h)
-item_is P l xs closed (item.Local q) h = tt
 item_is P l xs closed (item.Constant v) h = h
-item_is P l xs closed item.Here h = tt
-item_is P l xs closed item.Map h = tt
-item_is P l xs closed item.CodeSize h = tt
-item_is P l xs closed (item.Unary op) h = tt
-item_is P l xs closed (item.Binary op) h = tt
+item_is P l xs closed i h = tt
 
 pub number_is : (P : List ℕ → Type 0) (r : Result ℕ LineKind) → ResultIs P (as_number r)
 number_is P (Ok n) = tt
@@ -161,15 +157,7 @@ binary_is P names op (Words v) (Number n) h k = words_is P (cut_string op v n)
 binary_is P names op (Place s p) (Number n) h k = place_is P s p (moved_place op p n) h
 binary_is P names op (Number n) (Place s p) h k = place_is P s p (added_place op n p) k
 binary_is P names op (Place s p) (Place t q) h k = number_is P (between_places names op s p t q)
-binary_is P names op (Number m) (Truth b) h k = tt
-binary_is P names op (Number m) (Words w) h k = tt
-binary_is P names op (Truth a) (Number n) h k = tt
-binary_is P names op (Truth a) (Words w) h k = tt
-binary_is P names op (Truth a) (Place t n) h k = tt
-binary_is P names op (Words v) (Truth b) h k = tt
-binary_is P names op (Words v) (Place t n) h k = tt
-binary_is P names op (Place s q) (Truth b) h k = tt
-binary_is P names op (Place s q) (Words w) h k = tt
+binary_is P names op v w h k = tt
 
 pub both_is : (P : List ℕ → Type 0) (names : Names) (op : BinaryOp) (x y : Result Value LineKind) → ResultIs P x → ResultIs P y
     → ResultIs P (on_both x y (binary names op))
@@ -189,13 +177,7 @@ tree_is P l xs closed (Between op t u) h =
 pub item_same : (P : List ℕ → Type 0) (l : SourceLine) (xs ys : List LaidName) → AreSame P xs ys → (i : ExprItem) → ItemIs P i
     → operand_of_item (with_names l xs) i ≡ operand_of_item (with_names l ys) i
 item_same P l xs ys alike (item.Name q) h = ap (λ o. Unread o) (alike q h)
-item_same P l xs ys alike (item.Local q) h = refl
-item_same P l xs ys alike (item.Constant v) h = refl
-item_same P l xs ys alike item.Here h = refl
-item_same P l xs ys alike item.Map h = refl
-item_same P l xs ys alike item.CodeSize h = refl
-item_same P l xs ys alike (item.Unary op) h = refl
-item_same P l xs ys alike (item.Binary op) h = refl
+item_same P l xs ys alike i h = refl
 
 pub stands_same : (P : List ℕ → Type 0) (l : SourceLine) (xs ys : List LaidName) → AreSame P xs ys → (s : List ℕ) (p : ℕ) → SymbolIs P (Place s p)
     → stands_at (with_names l xs) s ≡ stands_at (with_names l ys) s
@@ -213,21 +195,7 @@ pub binary_same : (P : List ℕ → Type 0) (l : SourceLine) (xs ys : List LaidN
     → SymbolIs P v → SymbolIs P w → binary (with_names l xs) op v w ≡ binary (with_names l ys) op v w
 binary_same P l xs ys alike op (Place s p) (Place t q) h k =
     ap as_number (places_same l xs ys op s p t q (stands_same P l xs ys alike s p h) (stands_same P l xs ys alike t q k))
-binary_same P l xs ys alike op (Place s p) (Number n) h k = refl
-binary_same P l xs ys alike op (Place s p) (Truth b) h k = refl
-binary_same P l xs ys alike op (Place s p) (Words w) h k = refl
-binary_same P l xs ys alike op (Number m) (Number n) h k = refl
-binary_same P l xs ys alike op (Number m) (Truth b) h k = refl
-binary_same P l xs ys alike op (Number m) (Words w) h k = refl
-binary_same P l xs ys alike op (Number m) (Place t q) h k = refl
-binary_same P l xs ys alike op (Truth a) (Number n) h k = refl
-binary_same P l xs ys alike op (Truth a) (Truth b) h k = refl
-binary_same P l xs ys alike op (Truth a) (Words w) h k = refl
-binary_same P l xs ys alike op (Truth a) (Place t q) h k = refl
-binary_same P l xs ys alike op (Words v) (Number n) h k = refl
-binary_same P l xs ys alike op (Words v) (Truth b) h k = refl
-binary_same P l xs ys alike op (Words v) (Words w) h k = refl
-binary_same P l xs ys alike op (Words v) (Place t q) h k = refl
+binary_same P l xs ys alike op v w h k = refl
 
 pub both_same : (P : List ℕ → Type 0) (l : SourceLine) (xs ys : List LaidName) → AreSame P xs ys → (op : BinaryOp) (x y : Result Value LineKind)
     → ResultIs P x → ResultIs P y → on_both x y (binary (with_names l xs) op) ≡ on_both x y (binary (with_names l ys) op)

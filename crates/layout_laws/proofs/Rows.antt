@@ -3,14 +3,16 @@ use Rattle.std.proofs.Common.{◌≡◌, ℕ, List, [], ◌∷◌, false, refl, 
 use Rattle.asm_model.specs.declared.exprs.BinaryOp.TheVariants.{Add, Subtract}
 use Rattle.asm_model.specs.declared.exprs.ExprItem.{ExprItem}
 use Rattle.asm_model.specs.declared.exprs.ExprItem.TheVariants as item
+use Rattle.sdt_fault.specs.declared.kinds.LineKind.TheVariants.{WrongType}
 use Rattle.asm_model.specs.declared.names.LaidName.{LaidName}
+use Rattle.asm_model.specs.declared.names.Meaning.TheVariants as means
 use Rattle.asm_model.specs.declared.values.Value.TheVariants.{Number, Place}
 use Rattle.asm_model.specs.declared.statements.Statement.{Statement}
 use Rattle.asm_model.specs.declared.statements.What.TheVariants as what
 use Rattle.asm_model.specs.declared.directives.Contents.TheVariants as contents
 use Rattle.asm_model.specs.declared.directives.DirectiveLine.{DirectiveLine}
 use Rattle.asm_model.specs.declared.directives.DirectiveLine.TheVariants as line
-use Rattle.asm_model.specs.Entries.{label_entry, place_entry, valued_entry}
+use Rattle.asm_model.specs.Entries.{label_entry, place_entry, valued_entry, entry}
 use Rattle.asm_model.specs.Laid.{laid, source_lines, all_entries, final_names}
 use Rattle.asm_model.specs.Sound.{IsSound, ArePlain}
 
@@ -48,7 +50,7 @@ pub forward_plain : ArePlain forward
 forward_plain = (tt, ((tt, tt), (tt, ((tt, (tt, (tt, tt))), (tt, tt)))))
 
 pub forward_final : final_names (laid forward)
-    ≡ valued_entry (codes "y") (Place (codes "z") 4) false ∷ valued_entry (codes "x") (Place (codes "z") 0) false ∷ label_entry (codes "z") (Some 0) 4 4 false ∷ []
+    ≡ valued_entry (codes "y") (Place (codes "z") 4) false ∷ valued_entry (codes "x") (Place (codes "z") 0) false ∷ label_entry (codes "z") (Some 0) 4 (Some 4) false ∷ []
 forward_final = refl
 
 -- AREA a,DATA / l EQU . / b EQU . + a / a EQU b - l, of places as constants
@@ -63,7 +65,8 @@ placed =
 pub placed_sound : IsSound placed
 placed_sound = refl
 
-pub placed_final : final_names (laid placed) ≡ place_entry (codes "l") (Some 0) 0 ∷ []
+pub placed_final : final_names (laid placed)
+    ≡ place_entry (codes "l") (Some 0) 0 ∷ entry (codes "b") (means.Faulty WrongType) (Some 0) false ∷ entry (codes "a") (means.Faulty WrongType) (Some 0) false ∷ []
 placed_final = refl
 
 abbrev moved : List LaidName

@@ -6,20 +6,20 @@ use Rattle.asm_model.specs.declared.exprs.Expr.{Expr}
 use Rattle.asm_model.specs.declared.exprs.ExprItem.{ExprItem}
 use Rattle.asm_model.specs.declared.exprs.ExprItem.TheVariants as item
 use Rattle.asm_model.specs.declared.values.Value.{Value}
-use Rattle.asm_model.specs.declared.values.Value.TheVariants.{Number, Truth, Words, Place}
+use Rattle.asm_model.specs.declared.values.Value.TheVariants.{Place}
 use Rattle.asm_model.specs.declared.names.LaidName.{LaidName}
 use Rattle.asm_model.specs.declared.statements.Statement.{Statement}
 use Rattle.asm_model.specs.AtLine.{SourceLine}
 use Rattle.asm_model.specs.Forms.{same}
 use Rattle.asm_model.specs.Grammar.{Tree}
 use Rattle.asm_model.proofs.WordLemmas.{same_refl}
-use Rattle.asm_model.specs.Labels.{Defined, Unnamed, Label, Equal, MapField, RegisterName, defined_by, declared_names}
+use Rattle.asm_model.specs.Labels.{Defined, Equal, defined_by, declared_names}
 use Rattle.asm_model.specs.Laid.{laid_of, laid, source_lines, all_entries, names_after, final_names}
-use Rattle.asm_model.specs.LayoutKinds.{equal_of, equals_in, is_settled_item, are_settled, settled_by, settled_after, settled}
+use Rattle.asm_model.specs.LayoutKinds.{equals_in, is_settled_item, are_settled, settled_by, settled_after, settled}
 use Rattle.asm_model.specs.Sound.{IsSound, IsNoPlace, HaveNoPlaces, ArePlain, HasNoPlace}
-use Rattle.layout_laws.proofs.EqualLemmas.{EachEqual, OfTrees, equal_all, equal_weaker, equal_both, lines_hold, lines_regular}
+use Rattle.layout_laws.proofs.EqualLemmas.{equal_of, all_equals, EachEqual, OfTrees, equal_all, equal_weaker, equal_both, lines_hold, lines_regular}
 use Rattle.layout_laws.proofs.RoundLemmas.{SymbolIs, ItemIs, TreeIs, tree_weaker}
-use Rattle.layout_laws.proofs.SoundLemmas.{EachSound, sound_each, equals_distinct, equals_settled, IsPlainEqual, equals_plain, IsSettledIn, settled_unique}
+use Rattle.layout_laws.proofs.SoundLemmas.{EachSound, sound_each, equals_are_all, equals_distinct, equals_settled, IsPlainEqual, equals_plain, IsSettledIn, settled_unique}
 use Rattle.layout_laws.proofs.StepLemmas.{EachEquated, each_weaker, IsGood, good_more, rounds, rounds_end}
 use Rattle.layout_laws.proofs.TreeLemmas.{ItemsEach, tree_each, SomeEach}
 use Rattle.asm_model.specs.Trees.{tree_behind}
@@ -28,9 +28,7 @@ use Rattle.asm_model.specs.Trees.{tree_behind}
 
 pub no_place_is : (P : List ℕ → Type 0) (v : Value) → IsNoPlace v → SymbolIs P v
 no_place_is P (Place s n) h = absurd h
-no_place_is P (Number n) h = tt
-no_place_is P (Truth b) h = tt
-no_place_is P (Words w) h = tt
+no_place_is P v h = tt
 
 -- a constant's symbol has the property
 abbrev pub HoldsConstant : (List ℕ → Type 0) → ExprItem → Type 0
@@ -64,13 +62,8 @@ items_are P E S free deep (i ∷ is) h k =
   where
     by_item : (i : ExprItem) → is_settled_item E S i ≡ true → HaveNoPlaces (i ∷ []) → ItemIs P i
     by_item (item.Name r) e n = either_good (P r) (list_any (λ e. same r e.0) E) (list_any (same r) S) (free r) (deep r) e
-    by_item (item.Local r) e n = tt
     by_item (item.Constant v) e n = no_place_is P v n.0
-    by_item item.Here e n = tt
-    by_item item.Map e n = tt
-    by_item item.CodeSize e n = tt
-    by_item (item.Unary op) e n = tt
-    by_item (item.Binary op) e n = tt
+    by_item i e n = tt
 
 pub found_name : (E : List (List ℕ × Expr)) (r : List ℕ) → list_any (λ e. same r e.0) E ≡ false → EachEqual (λ p e. same r p ≡ false) E
 found_name [] r h = tt
@@ -80,33 +73,33 @@ pub other_name : (X : Type 0) (r p : List ℕ) → same r p ≡ false → p ≡ 
 other_name X r p h e = let x : same r p ≡ true = subst (λ z. same r z ≡ true) (sym e) (same_refl r) in absurd (cc)
 
 -- what has no expression is good
-pub free_good : (d : List LaidName) (ss : List Statement) (k : ℕ) (r : List ℕ) → list_any (λ e. same r e.0) (equals_in ss) ≡ false
+pub free_good : (d : List LaidName) (ss : List Statement) (k : ℕ) (r : List ℕ) → list_any (λ e. same r e.0) (all_equals ss) ≡ false
     → IsGood (source_lines (laid_of d ss)) (suc k) r
 free_good d ss k r h =
     let P = IsGood (source_lines (laid_of d ss)) k in
     lines_hold (λ p t. p ≡ r → TreeIs P t) d ss
-    (equal_weaker (λ p e. same r p ≡ false) (OfTrees (λ p t. p ≡ r → TreeIs P t)) (λ p e a t s x. other_name (TreeIs P t) r p a x) (equals_in ss)
-    (found_name (equals_in ss) r h))
+    (equal_weaker (λ p e. same r p ≡ false) (OfTrees (λ p t. p ≡ r → TreeIs P t)) (λ p e a t s x. other_name (TreeIs P t) r p a x) (all_equals ss)
+    (found_name (all_equals ss) r h))
 
 -- the names in the expression of a settled name are good
 abbrev pub Leads : List SourceLine → List (List ℕ × Expr) → ℕ → List ℕ → Expr → Type 0
 Leads ls E k p e = list_any (same p) (settled_after k E) ≡ true → OfTrees (λ q t. TreeIs (IsGood ls k) t) p e
 
 pub deep_good : (d : List LaidName) (ss : List Statement) (k : ℕ) (r : List ℕ)
-    → EachEqual (Leads (source_lines (laid_of d ss)) (equals_in ss) k) (equals_in ss)
-    → list_any (same r) (settled_after k (equals_in ss)) ≡ true → IsGood (source_lines (laid_of d ss)) (suc k) r
+    → EachEqual (Leads (source_lines (laid_of d ss)) (all_equals ss) k) (all_equals ss)
+    → list_any (same r) (settled_after k (all_equals ss)) ≡ true → IsGood (source_lines (laid_of d ss)) (suc k) r
 deep_good d ss k r before h =
     let P = IsGood (source_lines (laid_of d ss)) k in
     lines_hold (λ p t. p ≡ r → TreeIs P t) d ss
-    (equal_weaker (Leads (source_lines (laid_of d ss)) (equals_in ss) k) (OfTrees (λ p t. p ≡ r → TreeIs P t))
-    (λ p e f t s x. f (subst (λ z. list_any (same z) (settled_after k (equals_in ss)) ≡ true) (sym x) h) t s) (equals_in ss) before)
+    (equal_weaker (Leads (source_lines (laid_of d ss)) (all_equals ss) k) (OfTrees (λ p t. p ≡ r → TreeIs P t))
+    (λ p e f t s x. f (subst (λ z. list_any (same z) (settled_after k (all_equals ss)) ≡ true) (sym x) h) t s) (all_equals ss) before)
 
 pub settled_lead : (d : List LaidName) (ss : List Statement) (S : List (List ℕ)) → EachSound S ss → ArePlain ss → (k : ℕ)
-    → EachEqual (Leads (source_lines (laid_of d ss)) (equals_in ss) k) (equals_in ss)
+    → EachEqual (Leads (source_lines (laid_of d ss)) (all_equals ss) k) (all_equals ss)
 settled_lead d ss S sound plain zero =
-    equal_all (Leads (source_lines (laid_of d ss)) (equals_in ss) zero) (λ p e h. absurd (cc)) (equals_in ss)
+    equal_all (Leads (source_lines (laid_of d ss)) (all_equals ss) zero) (λ p e h. absurd (cc)) (all_equals ss)
 settled_lead d ss S sound plain (suc k) =
-    let E = equals_in ss in
+    let E = all_equals ss in
     let ls = source_lines (laid_of d ss) in
     let before = settled_lead d ss S sound plain k in
     let plains = equals_plain ss plain in
@@ -118,23 +111,28 @@ settled_lead d ss S sound plain (suc k) =
 
 -- ---- enough rounds
 
-pub few_equals : (x : Defined) (xs : List (List ℕ × Expr)) (n : ℕ) → length xs ≤ n → length (xs ++ equal_of x) ≤ suc n
-few_equals Unnamed xs n h = omega (arith, length-append xs (equal_of Unnamed))
-few_equals (Label name) xs n h = omega (arith, length-append xs (equal_of (Label name)))
-few_equals (Equal name e) xs n h = omega (arith, length-append xs (equal_of (Equal name e)))
-few_equals (MapField name) xs n h = omega (arith, length-append xs (equal_of (MapField name)))
-few_equals (RegisterName name r) xs n h = omega (arith, length-append xs (equal_of (RegisterName name r)))
+pub one_equal : (x : Defined) → length (equal_of x) ≤ 1
+one_equal (Equal name e) = omega arith
+one_equal x = omega arith
 
-pub equals_few : (d : List LaidName) (ss : List Statement) → length (equals_in ss) ≤ length (laid_of d ss)
+pub few_equals : (x : Defined) (xs : List (List ℕ × Expr)) (n : ℕ) → length xs ≤ n → length (xs ++ equal_of x) ≤ suc n
+few_equals x xs n h = omega (arith, length-append xs (equal_of x), one_equal x)
+
+pub equals_few : (d : List LaidName) (ss : List Statement) → length (all_equals ss) ≤ length (laid_of d ss)
 equals_few d [] = omega arith
-equals_few d (s ∷ ss) = few_equals (defined_by s) (equals_in ss) (length (laid_of d ss)) (equals_few d ss)
+equals_few d (s ∷ ss) = few_equals (defined_by s) (all_equals ss) (length (laid_of d ss)) (equals_few d ss)
+
+pub source_sound : (ss : List Statement) → IsSound ss → EachSound (settled (all_equals ss)) ss
+source_sound ss h =
+    let sound = sound_each (settled (equals_in ss)) ss (declared_names ss) ss h in
+    subst (λ z. EachSound (settled z) ss) (equals_are_all (settled (equals_in ss)) ss sound) sound
 
 pub all_lead : (ss : List Statement) → IsSound ss → ArePlain ss
     → EachEquated (λ p t. TreeIs (IsGood (source_lines (laid ss)) (length (laid ss))) t) (source_lines (laid ss))
 all_lead ss h plain =
-    let E = equals_in ss in
+    let E = all_equals ss in
     let ls = source_lines (laid ss) in
-    let sound = sound_each (settled E) (declared_names ss) ss h in
+    let sound = source_sound ss h in
     let m = length E in
     let R = λ (p : List ℕ) (t : Tree). TreeIs (IsGood ls m) t in
     each_weaker R (λ p t. TreeIs (IsGood ls (length (laid ss))) t)

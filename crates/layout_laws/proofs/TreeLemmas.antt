@@ -30,12 +30,7 @@ grown_each Q (item.Unary op) (t ∷ ts) h k = k
 grown_each Q (item.Binary op) [] h k = tt
 grown_each Q (item.Binary op) (u ∷ []) h k = tt
 grown_each Q (item.Binary op) (u ∷ t ∷ ts) h k = ((k.1.0, k.0), k.1.1)
-grown_each Q (item.Name q) ts h k = (h, k)
-grown_each Q (item.Local q) ts h k = (h, k)
-grown_each Q (item.Constant v) ts h k = (h, k)
-grown_each Q item.Here ts h k = (h, k)
-grown_each Q item.Map ts h k = (h, k)
-grown_each Q item.CodeSize ts h k = (h, k)
+grown_each Q i ts h k = (h, k)
 
 pub behind_each : (Q : ExprItem → Type 0) (i : ExprItem) (o : Option (List Tree)) → Q i → SomeEach Q o → SomeEach Q (grown_behind o i)
 behind_each Q i None h k = tt

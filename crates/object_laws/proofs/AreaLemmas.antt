@@ -18,18 +18,19 @@ use Rattle.asm_model.specs.declared.directives.AreaAttributes.{AreaAttributes}
 use Rattle.asm_model.specs.declared.directives.Contents.{Contents}
 use Rattle.asm_model.specs.declared.directives.Contents.TheVariants as contents
 use Rattle.asm_model.specs.declared.directives.DirectiveLine.TheVariants as line
+use Rattle.asm_model.specs.declared.names.LaidName.{LaidName}
 use Rattle.asm_model.specs.declared.statements.Statement.{Statement}
 use Rattle.asm_model.specs.declared.statements.What.{What}
 use Rattle.asm_model.specs.declared.statements.What.TheVariants as what
 use Rattle.asm_model.specs.Directives.{or_else}
 use Rattle.asm_model.specs.Forms.{same}
-use Rattle.asm_model.proofs.LineLemmas.{both_empty}
 use Rattle.asm_model.proofs.WordLemmas.{same_refl}
-use Rattle.asm_model.specs.Before.{area_named, with_name, areas_behind}
-use Rattle.asm_model.specs.Laid.{LaidLine, pieces_of, laid}
-use Rattle.asm_model.specs.LayoutKinds.{kind_if, exponent, exponent_kinds, is_named_otherwise, area_kinds, contents_kinds, is_instruction, state_of, first_state, is_thumb_area, settled, equals_in}
+use Rattle.asm_model.specs.Before.{thumb_behind, area_named, with_name, areas_behind, area_behind}
+use Rattle.asm_model.specs.Labels.{declared_names}
+use Rattle.asm_model.specs.Laid.{LaidLine, pieces_of, laid_behind, laid_of, laid}
+use Rattle.asm_model.specs.LayoutKinds.{kind_if, exponent, exponent_kinds, is_named_otherwise, area_kinds, contents_kinds, is_instruction, state_at, first_state, is_thumb_area, settled, equals_in}
 use Rattle.asm_model.specs.Offsets.{is_of}
-use Rattle.layout_laws.proofs.SoundLemmas.{kind_none}
+use Rattle.layout_laws.proofs.SoundLemmas.{both_empty, kind_none, statements_kept}
 use Rattle.said_model.specs.Fit.{WhatFits, IsFit}
 use Rattle.source_model.specs.Objects.{Source, source_of, Piece, StandsIn, attributes_word, or_two, says_area, attributes_of, HasRelocs, contents_in, contents_of, IsArea as IsAreaOf, IsObject}
 use Rattle.source_laws.specs.Laws.{IsOfState}
@@ -107,19 +108,29 @@ pub record InstructionOf (area : ℕ) (thumb : Bool) (lines : List LaidLine) : T
   pub says : is_instruction owner.statement.what ≡ true
   pub state : owner.thumb ≡ thumb
 
-pub first_instruction : (area : ℕ) (thumb : Bool) (lines : List LaidLine) → first_state area lines ≡ Some thumb → InstructionOf area thumb lines
-first_instruction area thumb [] e = absurd (cc)
-first_instruction area thumb (l ∷ ls) e = by_first (first_state area ls) (first_instruction area thumb ls) e
+pub first_instruction : (d : List LaidName) (area : ℕ) (thumb : Bool) (ss : List Statement) → first_state area ss ≡ Some thumb → InstructionOf area thumb (laid_of d ss)
+first_instruction d area thumb [] e = absurd (cc)
+first_instruction d area thumb (s ∷ ss) e = by_first (first_state area ss) (first_instruction d area thumb ss) e
   where
-    here : (a b : Bool) → is_of area l.area ≡ a → is_instruction l.statement.what ≡ b → cond (a && b) (Some l.thumb) None ≡ Some thumb
-        → InstructionOf area thumb (l ∷ ls)
-    here true true x y k =
-        record { later = []; earlier = ls; owner = l; parts = refl; own = owned area l.area x; says = y; state = cc }
+    l : LaidLine
+    l = laid_behind d s (laid_of d ss)
+
+    here : (a b : Bool) → is_of area (area_behind (s ∷ ss)) ≡ a → is_instruction s.what ≡ b → cond (a && b) (Some (thumb_behind ss)) None ≡ Some thumb
+        → InstructionOf area thumb (l ∷ laid_of d ss)
+    here true true x y k = record {
+      later = [];
+      earlier = laid_of d ss;
+      owner = l;
+      parts = refl;
+      own = ap (λ z. area_behind (s ∷ z)) (statements_kept d ss) ∙ owned area (area_behind (s ∷ ss)) x;
+      says = y;
+      state = ap thumb_behind (statements_kept d ss) ∙ cc;
+    }
     here true false x y k = absurd (cc)
     here false b x y k = absurd (cc)
 
-    by_first : (o : Option Bool) → (o ≡ Some thumb → InstructionOf area thumb ls) → or_else o (state_of area l) ≡ Some thumb
-        → InstructionOf area thumb (l ∷ ls)
+    by_first : (o : Option Bool) → (o ≡ Some thumb → InstructionOf area thumb (laid_of d ss)) → or_else o (state_at area s ss) ≡ Some thumb
+        → InstructionOf area thumb (l ∷ laid_of d ss)
     by_first (Some b) f k =
         let i = f k in
         record {
@@ -131,7 +142,7 @@ first_instruction area thumb (l ∷ ls) e = by_first (first_state area ls) (firs
           says = i.says;
           state = i.state;
         }
-    by_first None f k = here (is_of area l.area) (is_instruction l.statement.what) refl refl k
+    by_first None f k = here (is_of area (area_behind (s ∷ ss))) (is_instruction s.what) refl refl k
 
 -- an instruction of Thumb state stands in code
 pub thumb_agrees : (c : Contents) (w : What) → IsOfState true w → is_instruction w ≡ true → contents_kinds (Some c) true w ≡ [] → StateAgrees c true
@@ -149,8 +160,8 @@ arm_agrees contents.Code = tt
 arm_agrees _ = refl
 
 pub state_agrees : (ss : List Statement) → AreFaultless ss → (area : ℕ) (c : Contents) → contents_of area (laid ss) ≡ Some c
-    → StateAgrees c (is_thumb_area area (laid ss))
-state_agrees ss h area c e = by_state (first_state area (laid ss)) refl
+    → StateAgrees c (is_thumb_area area ss)
+state_agrees ss h area c e = by_state (first_state area ss) refl
   where
     by_instruction : InstructionOf area true (laid ss) → StateAgrees c true
     by_instruction i =
@@ -158,9 +169,9 @@ state_agrees ss h area c e = by_state (first_state area (laid ss)) refl
         thumb_agrees c l.statement.what (subst (λ b. IsOfState b l.statement.what) i.state (h.states i.later i.earlier l i.parts)) i.says
         (subst (λ b. contents_kinds (Some c) b l.statement.what ≡ []) i.state (contents_there ss h.layout area c e i.later i.earlier l i.parts i.own))
 
-    by_state : (o : Option Bool) → first_state area (laid ss) ≡ o → StateAgrees c (is_thumb_area area (laid ss))
+    by_state : (o : Option Bool) → first_state area ss ≡ o → StateAgrees c (is_thumb_area area ss)
     by_state None x = rw x (arm_agrees c)
-    by_state (Some true) x = rw x (by_instruction (first_instruction area true (laid ss) x))
+    by_state (Some true) x = rw x (by_instruction (first_instruction (declared_names ss) area true ss x))
     by_state (Some false) x = rw x (arm_agrees c)
 
 -- ---- attributes
@@ -175,20 +186,20 @@ pub record AreaFacts (ss : List Statement) (area : ℕ) (a : Area) : Type 0 wher
   pub low : ℕ
   pub kind : Contents
   pub exponent : IsExponent low
-  pub bits : AreIn a.attributes low kind (is_thumb_area area (laid ss))
+  pub bits : AreIn a.attributes low kind (is_thumb_area area ss)
   pub contents : contents_of area (laid ss) ≡ Some kind
 
 pub first_facts : (ss : List Statement) → AreFaultless ss → (area : ℕ) (a : Area) (c : Contents) → contents_of area (laid ss) ≡ Some c
-    → FirstLine area (is_thumb_area area (laid ss)) (laid ss) a.attributes c → AreaFacts ss area a
+    → FirstLine area (is_thumb_area area ss) (laid ss) a.attributes c → AreaFacts ss area a
 first_facts ss h area a c e f =
     let l = f.owner in
     let t = f.attributes in
-    let kinds = (line_kinds (settled (equals_in ss)) l f.earlier (layout_here ss h.layout f.later f.earlier l f.parts)).1 in
+    let kinds = (line_kinds (settled (equals_in ss)) ss l f.earlier (layout_here ss h.layout f.later f.earlier l f.parts)).1 in
     let own = subst (λ w. area_kinds l.seen w f.earlier ≡ []) f.says kinds in
     let low = exponent_fine (exponent l.seen t.align)
     (both_empty (exponent_kinds (exponent l.seen t.align)) (kind_if (is_named_otherwise f.name l.seen t f.earlier) BadOperand) own).0 in
     let marks = subst WhatFits f.says (each_there IsFit ss h.fit f.later f.earlier l f.parts) in
-    let thumb = is_thumb_area area (laid ss) in
+    let thumb = is_thumb_area area ss in
     let state = state_agrees ss h area t.contents (e ∙ ap Some f.holds) in
     let bits = area_bits (or_two (exponent l.seen t.align)) t.contents t.read_only t.pic t.reentrant thumb t.halfword t.interwork low marks state in
     record {
@@ -202,10 +213,10 @@ first_facts ss h area a c e f =
 pub area_facts : (ss : List Statement) → AreFaultless ss → (area : ℕ) (a : Area) → IsAreaOf (source_of ss) area a → AreaFacts ss area a
 area_facts ss h area a x =
     by_contents (contents_of area (laid ss)) refl
-    (subst (λ o. Told area (is_thumb_area area (laid ss)) (laid ss) o (contents_of area (laid ss))) x.attributes
-    (told area (is_thumb_area area (laid ss)) (laid ss)))
+    (subst (λ o. Told area (is_thumb_area area ss) (laid ss) o (contents_of area (laid ss))) x.attributes
+    (told area (is_thumb_area area ss) (laid ss)))
   where
-    by_contents : (o : Option Contents) → contents_of area (laid ss) ≡ o → Told area (is_thumb_area area (laid ss)) (laid ss) (Some a.attributes) o
+    by_contents : (o : Option Contents) → contents_of area (laid ss) ≡ o → Told area (is_thumb_area area ss) (laid ss) (Some a.attributes) o
         → AreaFacts ss area a
     by_contents None e f = absurd f
     by_contents (Some c) e f = first_facts ss h area a c e f

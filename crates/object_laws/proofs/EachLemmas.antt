@@ -1,6 +1,6 @@
 -- What all entries of names keep, and all statements: names are texts, and areas are those of the source.
-use Rattle.std.proofs.Common.{◌≡◌, ℕ, zero, suc, ◌<◌, ◌≤◌, List, [], ◌∷◌, ◌++◌, length, Bool, true, false, cond, refl, sym, ◌∙◌, ap, subst, arith, Option, Some, None}
-use Rattle.std.specs.Prelude.{Result, Ok, Err, slice_get}
+use Rattle.std.proofs.Common.{◌≡◌, ℕ, zero, suc, ◌<◌, ◌≤◌, List, [], ◌∷◌, ◌++◌, length, Bool, true, false, cond, refl, sym, ap, subst, arith, Option, Some, None}
+use Rattle.std.specs.Prelude.{Result, Ok, slice_get}
 use Rattle.std.specs.List.{AllByRecursion, list_any}
 use Rattle.sdt_fault.specs.declared.kinds.LineKind.{LineKind}
 use Rattle.asm_model.specs.declared.directives.DirectiveLine.TheVariants as line
@@ -9,25 +9,20 @@ use Rattle.asm_model.specs.declared.statements.Statement.{Statement}
 use Rattle.asm_model.specs.declared.statements.What.{What}
 use Rattle.asm_model.specs.declared.statements.What.TheVariants as what
 use Rattle.asm_model.specs.declared.values.Value.{Value}
-use Rattle.asm_model.specs.declared.values.Value.TheVariants.{Number, Truth, Words, Place}
-use Rattle.asm_model.specs.AtLine.{Definition, Nameless, Named, Equated, SourceLine, with_names, made_name}
-use Rattle.asm_model.specs.Forms.{same}
-use Rattle.asm_model.specs.Grammar.{Tree}
-use Rattle.asm_model.specs.Meaning.{named_in, meaning}
-use Rattle.asm_model.specs.Before.{area_named, with_name, areas_behind, place_of, area_from, area_behind, is_thumb_label}
+use Rattle.asm_model.specs.declared.values.Value.TheVariants.{Place}
 use Rattle.asm_model.specs.Entries.{equal_entry}
+use Rattle.asm_model.specs.Forms.{same}
+use Rattle.asm_model.specs.Meaning.{named_in}
+use Rattle.asm_model.specs.Before.{area_named, with_name, areas_behind}
 use Rattle.asm_model.specs.Labels.{Defined, Unnamed, Label, Equal, MapField, RegisterName, field_defines, defined_by, imported_in, declared_names}
-use Rattle.asm_model.specs.Laid.{LaidLine, statements_of, map_behind, offset_behind, tree_equated, definition_of, imported_lines, laid_behind, laid_of, laid, source_lines, entries_with, all_entries, names_after, final_names}
-use Rattle.asm_model.specs.Trees.{tree_of}
+use Rattle.asm_model.specs.Laid.{LaidLine, statements_of, laid, final_names}
 use Rattle.layout_laws.proofs.SoundLemmas.{statements_kept}
 use Rattle.said_model.specs.Said.{what_names, label_names, HoldsNoZero, HasTexts, AllHaveTexts}
-use Rattle.source_laws.proofs.ZeroLemmas.{place_below, named_with, AreNumbered, laid_numbered, numbered_rest, names_of, no_fewer}
+use Rattle.source_model.specs.Objects.{source_of, At}
+use Rattle.source_laws.proofs.NameLemmas.{each_joined, final_each}
+use Rattle.source_laws.proofs.WithinLemmas.{IsWithin, AllWithin, line_within, names_within}
 
 -- ---- lists
-
-pub each_joined : {A : Type 0} (P : A → Type 0) (xs ys : List A) → AllByRecursion P xs → AllByRecursion P ys → AllByRecursion P (xs ++ ys)
-each_joined P [] ys h k = k
-each_joined P (x ∷ xs) ys h k = (h.0, each_joined P xs ys h.1 k)
 
 pub each_part : {A : Type 0} (P : A → Type 0) (xs ys : List A) → AllByRecursion P (xs ++ ys) → AllByRecursion P xs × AllByRecursion P ys
 each_part P [] ys h = (tt, h)
@@ -98,125 +93,40 @@ pub areas_text : (ss : List Statement) → AllHaveTexts ss → AllByRecursion Ho
 areas_text [] h = tt
 areas_text (s ∷ ss) h = with_text (area_named s.what) (areas_behind ss) (area_text s.what (names_text s h.0)) (areas_text ss h.1)
 
+equal_text : (names : List LaidName) (area : Option ℕ) (name : List ℕ) → HoldsNoZero name → (r : Result Value LineKind)
+    → HoldsNoZero (equal_entry names area name r).name
+equal_text names area name h (Ok (Place [] n)) = h
+equal_text names area name h r = h
+
+-- the name of each entry is a text
+pub name_text : (ss : List Statement) → AllHaveTexts ss → (q : List ℕ) (n : LaidName) → named_in q (final_names (laid ss)) ≡ Some n → HoldsNoZero n.name
+name_text ss h = final_each ss (λ n. HoldsNoZero n.name) (record {
+  label = λ l at name x thumb. subst DefinedText x (text l at);
+  equal = λ l at name e x names r. equal_text names l.area name (subst DefinedText x (text l at)) r;
+  field = λ l at name x m. subst DefinedText x (text l at);
+  register = λ l at name r x. subst DefinedText x (text l at);
+  imported = λ l at name x. subst OptionText x (import_text l.statement.what (names_text l.statement (texts l at)));
+})
+  where
+    texts : (l : LaidLine) → At (source_of ss) l → HasTexts l.statement
+    texts l at = each_there HasTexts ss h at.rest at.before l at.parts
+
+    text : (l : LaidLine) → At (source_of ss) l → DefinedText (defined_by l.statement)
+    text l at = defined_text l.statement (texts l at)
+
 -- ---- areas
 
-abbrev pub IsBelow : ℕ → Option ℕ → Type 0
-IsBelow count o = (a : ℕ) → o ≡ Some a → a < count
-
-pub named_below : (o : Option (List ℕ)) (xs : List (List ℕ)) (area : Option ℕ) → IsBelow (length xs) area
-    → IsBelow (length (with_name o xs)) (area_from o (with_name o xs) area)
-named_below None xs area f a e = f a e
-named_below (Some n) xs area f a e =
-    let p = place_below n (with_name (Some n) xs) (named_with n xs) in
-    let x : place_of n (with_name (Some n) xs) ≡ a = cc in subst (λ z. z < length (with_name (Some n) xs)) x p
-
-pub area_below : (ss : List Statement) → IsBelow (length (areas_behind ss)) (area_behind ss)
-area_below [] a e = absurd (cc)
-area_below (s ∷ ss) a e = named_below (area_named s.what) (areas_behind ss) (area_behind ss) (area_below ss) a e
-
-pub fewer_before : (after before : List LaidLine) (k : ℕ) → length (names_of (after ++ before)) ≤ k → length (names_of before) ≤ k
-fewer_before [] before k h = h
-fewer_before (x ∷ after) before k h = fewer_before after before k (no_fewer (area_named x.statement.what) (names_of (after ++ before)) k h)
+pub areas_kept : (ss : List Statement) → length (areas_behind (statements_of (laid ss))) ≤ length (areas_behind ss)
+areas_kept ss =
+    let same : length (areas_behind (statements_of (laid ss))) ≡ length (areas_behind ss) = ap (λ z. length (areas_behind z)) (statements_kept (declared_names ss) ss) in
+    omega arith
 
 -- the area of a line is one of the source
-pub line_below : (ss : List Statement) (after before : List LaidLine) (l : LaidLine) → laid ss ≡ after ++ l ∷ before → IsBelow (length (areas_behind ss)) l.area
-line_below ss after before l e a own =
-    let number = (numbered_rest after (l ∷ before) (subst AreNumbered e (laid_numbered (declared_names ss) ss))).0 in
-    let here = area_below (statements_of (l ∷ before)) a (sym number ∙ own) in
-    let count : length (names_of (laid ss)) ≡ length (areas_behind ss) = ap (λ z. length (areas_behind z)) (statements_kept (declared_names ss) ss) in
-    let few = fewer_before after (l ∷ before) (length (areas_behind ss))
-    (subst (λ z. length (names_of z) ≤ length (areas_behind ss)) e (omega (arith, count))) in
-    omega (arith, here, few)
+pub line_below : (ss : List Statement) (after before : List LaidLine) (l : LaidLine) → laid ss ≡ after ++ l ∷ before → (area : ℕ) → l.area ≡ Some area
+    → area < length (areas_behind ss)
+line_below ss after before l e area own =
+    subst (IsWithin (length (areas_behind ss))) own (line_within ss (length (areas_behind ss)) after before l (areas_kept ss) e)
 
--- ---- entries
-
-abbrev pub DefinitionIs : (LaidName → Type 0) → Definition → Type 0
-DefinitionIs R Nameless = Unit {0}
-DefinitionIs R (Named n) = R n
-DefinitionIs R (Equated make t) = (v : Value) → R (make v)
-
-abbrev pub EachDefinition : (LaidName → Type 0) → List SourceLine → Type 0
-EachDefinition R [] = Unit {0}
-EachDefinition R (l ∷ ls) = DefinitionIs R l.definition × EachDefinition R ls
-
-pub definitions_joined : (R : LaidName → Type 0) (ls ms : List SourceLine) → EachDefinition R ls → EachDefinition R ms → EachDefinition R (ls ++ ms)
-definitions_joined R [] ms h k = k
-definitions_joined R (l ∷ ls) ms h k = (h.0, definitions_joined R ls ms h.1 k)
-
-pub made_each : (R : LaidName → Type 0) (make : Value → LaidName) (r : Result Value LineKind) → ((v : Value) → R (make v)) → AllByRecursion R (made_name make r)
-made_each R make (Ok v) f = (f v, tt)
-made_each R make (Err k) f = tt
-
-pub entry_each : (R : LaidName → Type 0) (xs : List LaidName) (l : SourceLine) (d : Definition) → DefinitionIs R d → AllByRecursion R (entries_with xs l d)
-entry_each R xs l Nameless h = tt
-entry_each R xs l (Named n) h = (h, tt)
-entry_each R xs l (Equated make t) h = made_each R make (meaning (with_names l xs) t) h
-
-pub entries_each : (R : LaidName → Type 0) (xs : List LaidName) (ls : List SourceLine) → EachDefinition R ls → AllByRecursion R (all_entries xs ls)
-entries_each R xs [] h = tt
-entries_each R xs (l ∷ ls) h =
-    each_joined R (entries_with xs l l.definition) (all_entries xs ls) (entry_each R xs l l.definition h.0) (entries_each R xs ls h.1)
-
-pub names_each : (R : LaidName → Type 0) (k : ℕ) (ls : List SourceLine) → EachDefinition R ls → AllByRecursion R (names_after k ls)
-names_each R zero ls h = entries_each R [] ls h
-names_each R (suc k) ls h = entries_each R (names_after k ls) ls h
-
-pub found_each : (R : LaidName → Type 0) (q : List ℕ) (ns : List LaidName) → AllByRecursion R ns → (n : LaidName) → named_in q ns ≡ Some n → R n
-found_each R q [] h n e = absurd (cc)
-found_each R q (m ∷ ms) h n e = by_test (same m.name q) (found_each R q ms h.1 n) e
-  where
-    by_test : (b : Bool) → (named_in q ms ≡ Some n → R n) → cond b (Some m) (named_in q ms) ≡ Some n → R n
-    by_test true f k = let x : m ≡ n = cc in subst R x h.0
-    by_test false f k = f k
-
--- an entry's name is a text, and its area one of so many
-abbrev pub IsShown : ℕ → LaidName → Type 0
-IsShown count n = HoldsNoZero n.name × IsBelow count n.area
-
-pub equal_shown : (count : ℕ) (names : List LaidName) (area : Option ℕ) (name : List ℕ) → HoldsNoZero name → IsBelow count area → (v : Value)
-    → IsShown count (equal_entry names area name v)
-equal_shown count names area name h f (Place [] n) = (h, f)
-equal_shown count names area name h f (Place (c ∷ cs) n) = (h, λ a e. absurd (cc))
-equal_shown count names area name h f (Number n) = (h, λ a e. absurd (cc))
-equal_shown count names area name h f (Truth b) = (h, λ a e. absurd (cc))
-equal_shown count names area name h f (Words w) = (h, λ a e. absurd (cc))
-
-pub equated_shown : (count : ℕ) (names : List LaidName) (area : Option ℕ) (name : List ℕ) (o : Option Tree) → HoldsNoZero name → IsBelow count area
-    → DefinitionIs (IsShown count) (tree_equated names area name o)
-equated_shown count names area name None h f = tt
-equated_shown count names area name (Some t) h f = equal_shown count names area name h f
-
-pub definition_shown : (count : ℕ) (names : List LaidName) (x : Defined) (area : Option ℕ) (offset size : ℕ) (thumb : Bool) (m : ℕ) → DefinedText x → IsBelow count area
-    → DefinitionIs (IsShown count) (definition_of names x area offset size thumb m)
-definition_shown count names Unnamed area offset size thumb m h f = tt
-definition_shown count names (Label name) area offset size thumb m h f = (h, f)
-definition_shown count names (Equal name e) area offset size thumb m h f = equated_shown count names area name (tree_of e) h f
-definition_shown count names (MapField name) area offset size thumb m h f = (h, λ a e. absurd (cc))
-definition_shown count names (RegisterName name r) area offset size thumb m h f = tt
-
-pub imported_shown : (count : ℕ) (s : Statement) (before : List LaidLine) (o : Option (List ℕ)) → OptionText o
-    → EachDefinition (IsShown count) (imported_lines s before o)
-imported_shown count s before None h = tt
-imported_shown count s before (Some name) h = ((h, λ a e. absurd (cc)), tt)
-
-pub lines_shown : (count : ℕ) (d : List LaidName) (ss : List Statement) → AllHaveTexts ss → length (areas_behind ss) ≤ count
-    → EachDefinition (IsShown count) (source_lines (laid_of d ss))
-lines_shown count d [] h k = tt
-lines_shown count d (s ∷ ss) h k =
-    let l = laid_behind d s (laid_of d ss) in
-    definitions_joined (IsShown count) (source_lines (laid_of d ss)) (l.line ∷ imported_lines s (laid_of d ss) (imported_in s.what))
-    (lines_shown count d ss h.1 (no_fewer (area_named s.what) (areas_behind ss) count k)) (
-      definition_shown count d (defined_by s) (area_behind (s ∷ statements_of (laid_of d ss))) (offset_behind s (laid_of d ss)) l.size
-          (is_thumb_label s (statements_of (laid_of d ss))) (map_behind (laid_of d ss)) (defined_text s h.0)
-          (λ a e. let p = area_below (s ∷ ss) a (ap (λ z. area_behind (s ∷ z)) (sym (statements_kept d ss)) ∙ e) in omega (arith, p)),
-      imported_shown count s (laid_of d ss) (imported_in s.what) (import_text s.what (names_text s h.0)),
-    )
-
-pub entries_shown : (ss : List Statement) → AllHaveTexts ss → AllByRecursion (IsShown (length (areas_behind ss))) (final_names (laid ss))
-entries_shown ss h =
-    names_each (IsShown (length (areas_behind ss))) (length (laid ss)) (source_lines (laid ss))
-    (lines_shown (length (areas_behind ss)) (declared_names ss) ss h (omega arith))
-
-pub name_shown : (ss : List Statement) → AllHaveTexts ss → (q : List ℕ) (n : LaidName) → named_in q (final_names (laid ss)) ≡ Some n
-    → IsShown (length (areas_behind ss)) n
-name_shown ss h q n e = found_each (IsShown (length (areas_behind ss))) q (final_names (laid ss)) (entries_shown ss h) n e
+-- and so is that of a name
+pub name_below : (ss : List Statement) → AllWithin (length (areas_behind ss)) (final_names (laid ss))
+name_below ss = names_within (length (areas_behind ss)) ss (areas_kept ss)

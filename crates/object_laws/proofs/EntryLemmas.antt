@@ -1,7 +1,7 @@
 -- The entry of an object is at an instruction's place in its area.
-use Rattle.std.proofs.Common.{◌≡◌, ℕ, ◌%◌, ◌<◌, ◌==◌, List, [], ◌∷◌, ◌++◌, Bool, true, false, not, cond, ◌||◌, ◌&&◌, nat_lt, refl, sym, ◌∙◌, ap, subst, arith, Option, Some, None}
+use Rattle.std.proofs.Common.{◌≡◌, ℕ, ◌%◌, ◌<◌, ◌==◌, List, [], ◌∷◌, ◌++◌, Bool, true, false, not, cond, ◌&&◌, nat_lt, refl, sym, ◌∙◌, ap, subst, arith, Option, Some, None}
 use Rattle.std.specs.Prelude.{Ok, IsSomeAnd}
-use Rattle.std.proofs.lemmas.Bool.{or_parts, ltb-true}
+use Rattle.std.proofs.lemmas.Bool.{ltb-true}
 use Rattle.sdt_word.specs.Numbers.{flag}
 use Rattle.sdt_fault.specs.declared.kinds.LineKind.TheVariants.{BadOperand}
 use Rattle.aof_object.specs.declared.records.Entry.{Entry}
@@ -13,13 +13,12 @@ use Rattle.asm_model.specs.declared.statements.Statement.{Statement}
 use Rattle.asm_model.specs.declared.statements.What.{What}
 use Rattle.asm_model.specs.declared.statements.What.TheVariants as what
 use Rattle.asm_model.specs.Directives.{or_else}
-use Rattle.asm_model.proofs.LineLemmas.{both_empty}
 use Rattle.asm_model.specs.Extents.{Extent, Block, extent_of}
 use Rattle.asm_model.specs.Laid.{LaidLine, taken, pieces_of, laid}
-use Rattle.asm_model.specs.LayoutKinds.{is_entry, same_mark, is_thumb_area, entry_kinds, literal_kinds}
+use Rattle.asm_model.specs.LayoutKinds.{is_entry, same_mark, is_thumb_area, state_kinds, entry_kinds, literal_kinds, settled, equals_in}
 use Rattle.asm_model.specs.Offsets.{Piece, raised, end_behind, start_in, area_size}
 use Rattle.asm_model.proofs.OffsetLemmas.{raised_four}
-use Rattle.layout_laws.proofs.SoundLemmas.{kind_none}
+use Rattle.layout_laws.proofs.SoundLemmas.{both_empty, kind_none}
 use Rattle.source_model.specs.Objects.{in_order, entry_by, entry_of, IsObject}
 use Rattle.source_laws.proofs.FaultlessLemmas.{layout_sound}
 use Rattle.source_laws.proofs.LineLemmas.{stands_in}
@@ -27,7 +26,7 @@ use Rattle.source_laws.proofs.ThingLemmas.{seen_extent}
 use Rattle.object_laws.specs.Laws.{AreFaultless}
 use Rattle.object_laws.proofs.AreaLemmas.{area_facts}
 use Rattle.object_laws.proofs.EachLemmas.{line_below}
-use Rattle.object_laws.proofs.FaultLemmas.{late_here}
+use Rattle.object_laws.proofs.FaultLemmas.{layout_here, last_kinds, late_here}
 use Rattle.object_laws.proofs.SymbolLemmas.{within, head_there}
 use Rattle.base_lemmas.proofs.BaseLemmas.{not_false, second_false}
 
@@ -90,17 +89,22 @@ marks_agree true b h = sym h
 marks_agree false true h = absurd (cc)
 marks_agree false false h = refl
 
--- in its area, and of its area's state
+-- in its area
 pub entry_inside : (o : Option ℕ) (area : ℕ) (l : LaidLine) (all : List LaidLine) → o ≡ Some area → is_entry l.statement.what ≡ true → entry_kinds o l all ≡ []
-    → (l.offset < area_size area (pieces_of all)) × (l.thumb ≡ is_thumb_area area all)
+    → l.offset < area_size area (pieces_of all)
 entry_inside o area l all own says h =
     let size = area_size area (pieces_of all) in
-    let same = same_mark l.thumb (is_thumb_area area all) in
-    let k = subst (λ z. entry_kinds z l all ≡ []) own h in
-    let p = second_false (is_entry l.statement.what) (not (nat_lt l.offset size) || not same) says
-    (kind_none (is_entry l.statement.what && (not (nat_lt l.offset size) || not same)) BadOperand k) in
-    let q = or_parts (not (nat_lt l.offset size)) (not same) p in
-    (ltb-true l.offset size (not_false (nat_lt l.offset size) q.0), marks_agree l.thumb (is_thumb_area area all) (not_false same q.1))
+    let p = second_false (is_entry l.statement.what) (not (nat_lt l.offset size)) says
+    (kind_none (is_entry l.statement.what && not (nat_lt l.offset size)) BadOperand (subst (λ z. entry_kinds z l all ≡ []) own h)) in
+    ltb-true l.offset size (not_false (nat_lt l.offset size) p)
+
+-- and of its area's state
+pub entry_state : (o : Option ℕ) (area : ℕ) (thumb : Bool) (w : What) (all : List Statement) → o ≡ Some area → is_entry w ≡ true → state_kinds o thumb w all ≡ []
+    → thumb ≡ is_thumb_area area all
+entry_state o area thumb w all own says h =
+    let same = same_mark thumb (is_thumb_area area all) in
+    marks_agree thumb (is_thumb_area area all)
+    (not_false same (second_false (is_entry w) (not same) says (kind_none (is_entry w && not same) BadOperand (subst (λ z. state_kinds z thumb w all ≡ []) own h))))
 
 -- what an offset leaves over in Thumb or ARM state
 abbrev pub left_in : Bool → ℕ → ℕ
@@ -132,14 +136,16 @@ entered ss o h x e n =
     let late = both_empty (entry_kinds l.area l (laid ss)) (literal_kinds l.area (taken l.extent) (pieces_of (l ∷ n.earlier)) (pieces_of (in_order n.later [])))
     (late_here ss h.layout n.later n.earlier l n.parts) in
     let inside = entry_inside l.area e.area l (laid ss) n.own n.says late.0 in
+    let own = last_kinds (settled (equals_in ss)) ss l n.earlier (layout_here ss h.layout n.later n.earlier l n.parts) in
+    let state = entry_state l.area e.area l.thumb l.statement.what ss n.own n.says own.0 in
     let aligned = entry_aligned ss h n.later n.earlier l e.area n.parts n.own n.says in
     let a = within o.areas e.area (subst (λ z. e.area < z) (sym x.count) (line_below ss n.later n.earlier l n.parts e.area n.own)) in
     let is = x.areas e.area a.0 a.1 in
     let facts = area_facts ss h e.area a.0 is in
     subst (λ z. IsSomeAnd z (λ t. (e.offset < t.size) × (left_over t.attributes e.offset ≡ 0))) (sym (head_there o.areas e.area a.0 a.1)) (
-      subst (λ z. z < a.0.size) n.place (subst (λ z. l.offset < z) (sym is.size) inside.0),
+      subst (λ z. z < a.0.size) n.place (subst (λ z. l.offset < z) (sym is.size) inside),
       ap (λ z. cond (z == 1) (e.offset % 2) (e.offset % 4)) facts.bits.state
-          ∙ subst (λ b. left_in b e.offset ≡ 0) inside.1 (subst (λ z. left_in l.thumb z ≡ 0) n.place aligned),
+          ∙ subst (λ b. left_in b e.offset ≡ 0) state (subst (λ z. left_in l.thumb z ≡ 0) n.place aligned),
     )
 
 pub entries_are_valid : (ss : List Statement) (o : Object) → AreFaultless ss → IsObject ss o → IsEntered (heads o.areas) o.entry

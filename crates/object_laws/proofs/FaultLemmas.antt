@@ -1,15 +1,16 @@
 -- What a line of a source without faults keeps, in the pass of layout and in that of values.
-use Rattle.std.proofs.Common.{◌≡◌, ℕ, List, [], ◌∷◌, ◌++◌, append-nil, refl, subst, None}
+use Rattle.std.proofs.Common.{◌≡◌, ℕ, ◌+◌, List, [], ◌∷◌, ◌++◌, append-nil, refl, subst, None, nat_lt}
 use Rattle.std.specs.Prelude.{Result, Ok, Err}
 use Rattle.sdt_fault.specs.declared.kinds.LineKind.{LineKind}
+use Rattle.sdt_fault.specs.declared.kinds.LineKind.TheVariants.{TooMany}
 use Rattle.asm_model.specs.declared.statements.Statement.{Statement}
 use Rattle.asm_model.specs.Kinds.{told_kind}
-use Rattle.asm_model.proofs.LineLemmas.{both_empty}
-use Rattle.asm_model.specs.Laid.{LaidLine, taken, pieces_of, reversed, laid, final_names}
-use Rattle.asm_model.specs.LayoutKinds.{fault_kinds, layout_kinds, told_at, first_fault, entry_kinds, literal_kinds, first_late, settled, equals_in}
+use Rattle.asm_model.specs.Labels.{defined_by}
+use Rattle.asm_model.specs.Laid.{LaidLine, statements_of, taken, pieces_of, reversed, laid, final_names}
+use Rattle.asm_model.specs.LayoutKinds.{fault_kinds, kind_if, map_kinds, no_area_kinds, contents_kinds, contents_behind, area_kinds, name_kinds, settled_kinds, first_equal, state_kinds, area_bytes, layout_kinds, told_at, first_fault, entry_kinds, literal_kinds, first_late, settled, equals_in}
 use Rattle.asm_model.specs.Marks.{datum_names}
 use Rattle.asm_model.specs.Offsets.{area_size}
-use Rattle.layout_laws.proofs.SoundLemmas.{or_none, told_none}
+use Rattle.layout_laws.proofs.SoundLemmas.{both_empty, or_none, told_none}
 use Rattle.source_model.specs.Objects.{in_order}
 use Rattle.source_model.specs.Registers.{register_names}
 use Rattle.source_model.specs.SourceFaults.{first_laid, layout_faults, context_of, word_of, first_valued, value_faults}
@@ -32,9 +33,19 @@ reversed_split (x ∷ after) before l tail = reversed_split after before l (x �
 -- ---- the pass of layout
 
 pub layout_here : (ss : List Statement) → layout_faults ss ≡ None → (after before : List LaidLine) (l : LaidLine) → laid ss ≡ after ++ l ∷ before
-    → layout_kinds (settled (equals_in ss)) l before ≡ []
+    → layout_kinds (settled (equals_in ss)) ss l before ≡ []
 layout_here ss none after before l e =
-    let S = settled (equals_in ss) in line_fine S after before l (subst (λ z. first_fault S z ≡ None) e (layout_sound ss none))
+    let S = settled (equals_in ss) in line_fine S ss after before l (subst (λ z. first_fault S ss z ≡ None) e (layout_sound ss none))
+
+-- the last kinds of a line: an ENTRY in another state than its area's, and an area that grows too large
+pub last_kinds : (S : List (List ℕ)) (all : List Statement) (l : LaidLine) (before : List LaidLine) → layout_kinds S all l before ≡ []
+    → (state_kinds l.area l.thumb l.statement.what all ≡ []) × (kind_if (nat_lt area_bytes (l.offset + l.size)) TooMany ≡ [])
+last_kinds S all l before h =
+    let a = fault_kinds l.extent ++ map_kinds l.seen l.statement.what ++ no_area_kinds l.area (defined_by l.statement) l.statement.what
+    ++ contents_kinds (contents_behind (l.statement ∷ statements_of before)) l.thumb l.statement.what ++ area_kinds l.seen l.statement.what before
+    ++ name_kinds l.statement (statements_of before) ++ settled_kinds S (first_equal (defined_by l.statement) (statements_of before)) in
+    let b = state_kinds l.area l.thumb l.statement.what all in
+    let p = both_empty (a ++ b) (kind_if (nat_lt area_bytes (l.offset + l.size)) TooMany) h in ((both_empty a b p.0).1, p.1)
 
 abbrev pub late_kinds : List LaidLine → List LaidLine → LaidLine → List LaidLine → List LineKind
 late_kinds all before l rest =
@@ -50,7 +61,7 @@ pub late_here : (ss : List Statement) → layout_faults ss ≡ None → (after b
     → late_kinds (laid ss) before l (in_order after []) ≡ []
 late_here ss none after before l e =
     let all = laid ss in
-    let late = (or_none (first_laid (register_names ss) (settled (equals_in ss)) all) (first_late all [] (reversed all [])) none).1 in
+    let late = (or_none (first_laid (register_names ss) (settled (equals_in ss)) ss all) (first_late all [] (reversed all [])) none).1 in
     let split = subst (λ z. first_late all [] z ≡ None) (reversed_split after before l []) (subst (λ z. first_late all [] (reversed z []) ≡ None) e late) in
     let here = subst (λ z. first_late all z (l ∷ reversed after []) ≡ None) (append-nil before) (late_behind all [] before (l ∷ reversed after []) split) in
     subst (λ z. late_kinds all before l z ≡ []) (reversed_order after [])
@@ -64,7 +75,7 @@ sizes_of ss area = area_size area (pieces_of (laid ss))
 
 abbrev pub valued_kinds : List LaidLine → List Statement → List LaidLine → LaidLine → List LaidLine → List LineKind
 valued_kinds all ss before l rest =
-    value_kinds (context_of (final_names all) ss l before) (datum_names ss) (λ area. area_size area (pieces_of all)) l.seen (taken l.extent)
+    value_kinds (context_of (final_names all) l before) (datum_names ss) (λ area. area_size area (pieces_of all)) l.seen (taken l.extent)
     (word_of l.area (taken l.extent) (pieces_of (l ∷ before)) (pieces_of rest)) l.statement.what
 
 pub valued_behind : (all : List LaidLine) (ss : List Statement) (front before tail : List LaidLine) → first_valued all ss front (reversed before tail) ≡ None

@@ -1,6 +1,6 @@
 -- A symbol of a value is a name of the source that stands for itself.
 use Rattle.std.proofs.Common.{◌≡◌, ℕ, zero, suc, List, [], ◌∷◌, ◌++◌, length, Bool, true, false, cond, refl, sym, ◌∙◌, ap, subst, Option, Some, None, ◌⊎◌, inl, inr}
-use Rattle.std.specs.Prelude.{Result, Ok, Err}
+use Rattle.std.specs.Prelude.{Result, Ok}
 use Rattle.sdt_fault.specs.declared.kinds.LineKind.{LineKind}
 use Rattle.asm_model.specs.declared.exprs.BinaryOp.TheVariants.{Add}
 use Rattle.asm_model.specs.declared.exprs.Expr.{Expr}
@@ -10,21 +10,20 @@ use Rattle.asm_model.specs.declared.values.Value.{Value}
 use Rattle.asm_model.specs.declared.values.Value.TheVariants.{Number, Truth, Words, Place}
 use Rattle.asm_model.specs.declared.names.LaidName.{LaidName}
 use Rattle.asm_model.specs.declared.statements.Statement.{Statement}
-use Rattle.asm_model.specs.AtLine.{Definition, Nameless, Named, Equated, SourceLine, with_names, made_name}
+use Rattle.asm_model.specs.AtLine.{Definition, Nameless, Named, Equated, SourceLine, with_names}
 use Rattle.asm_model.specs.Forms.{same}
 use Rattle.asm_model.specs.Grammar.{Tree, Leaf, Before, Between}
-use Rattle.asm_model.specs.Meaning.{named_in, known, operand_of_item, operand_of_tree, meaning}
+use Rattle.asm_model.specs.Meaning.{named_in, entry_value, known, operand_of_item, operand_of_tree, meaning}
 use Rattle.asm_model.proofs.WordLemmas.{same_true}
 use Rattle.asm_model.specs.Before.{area_behind, is_thumb_label}
 use Rattle.asm_model.specs.Labels.{Defined, Unnamed, Label, Equal, MapField, RegisterName, defined_by, imported_in, declared_names}
 use Rattle.asm_model.specs.Laid.{LaidLine, statements_of, map_behind, offset_behind, tree_equated, definition_of, imported_lines, laid_behind, laid_of, laid, source_lines, entries_with, all_entries, final_names}
-use Rattle.asm_model.specs.LayoutKinds.{equals_in}
 use Rattle.asm_model.specs.Symbols.{literal_value}
 use Rattle.asm_model.specs.Trees.{tree_of}
 use Rattle.asm_model.specs.Sound.{IsSound, HaveNoPlaces, ArePlain}
-use Rattle.layout_laws.proofs.EqualLemmas.{OfTrees, equal_weaker, lines_hold, lines_regular}
+use Rattle.layout_laws.proofs.EqualLemmas.{all_equals, OfTrees, equal_weaker, lines_hold, lines_regular}
 use Rattle.layout_laws.proofs.FoundLemmas.{tree_final, final_tree}
-use Rattle.layout_laws.proofs.RoundLemmas.{SymbolIs, ResultIs, ItemIs, TreeIs, symbol_weaker, applied_is, value_is, both_is}
+use Rattle.layout_laws.proofs.RoundLemmas.{SymbolIs, ResultIs, ItemIs, TreeIs, result_weaker, applied_is, value_is, both_is}
 use Rattle.layout_laws.proofs.SettledLemmas.{all_lead, final_names_are_their_entries}
 use Rattle.layout_laws.proofs.SoundLemmas.{IsPlainEqual, equals_plain}
 use Rattle.layout_laws.proofs.StepLemmas.{name_of, EachEquated, HoldsOf, IsMade, IsRegular, AreRegular, IsGood, each_weaker}
@@ -37,7 +36,7 @@ use Rattle.layout_laws.proofs.TreeLemmas.{TreeEach, tree_each}
 
 -- names with the one property stand for values whose symbols have the other
 abbrev pub ClosedTo : (List ℕ → Type 0) → (List ℕ → Type 0) → List LaidName → Type 0
-ClosedTo P Q xs = (q : List ℕ) (n : LaidName) → P q → named_in q xs ≡ Some n → SymbolIs Q n.value
+ClosedTo P Q xs = (q : List ℕ) (n : LaidName) → P q → named_in q xs ≡ Some n → ResultIs Q (entry_value n)
 
 pub item_to : (P Q : List ℕ → Type 0) (l : SourceLine) (xs : List LaidName) → ClosedTo P Q xs → (i : ExprItem) → ItemIs P i → HoldsConstant Q i
     → ResultIs Q (known (operand_of_item (with_names l xs) i))
@@ -61,11 +60,11 @@ tree_to P Q l xs closed (Between op t u) h k =
 
 -- an entry is its own symbol, or its symbol has the property
 abbrev pub OwnOr : (List ℕ → Type 0) → LaidName → Type 0
-OwnOr Q n = (n.value ≡ Place n.name 0) ⊎ SymbolIs Q n.value
+OwnOr Q n = (entry_value n ≡ Ok (Place n.name 0)) ⊎ ResultIs Q (entry_value n)
 
 pub own_weaker : (P Q : List ℕ → Type 0) → ((q : List ℕ) → P q → Q q) → (n : LaidName) → OwnOr P n → OwnOr Q n
 own_weaker P Q f n (inl e) = inl e
-own_weaker P Q f n (inr h) = inr (symbol_weaker P Q f n.value h)
+own_weaker P Q f n (inr h) = inr (result_weaker P Q f (entry_value n) h)
 
 abbrev pub nothing : List ℕ → Type 0
 nothing q = ⊥
@@ -81,20 +80,20 @@ AreOwned (l ∷ ls) = IsOwned l.definition × AreOwned ls
 abbrev pub LeadTo : (List ℕ → Type 0) → (List ℕ → Type 0) → List ℕ → List ℕ → Tree → Type 0
 LeadTo P Q q p t = p ≡ q → TreeIs P t × TreeEach (HoldsConstant Q) t
 
-pub made_own : (Q : List ℕ → Type 0) (make : Value → LaidName) (v : Value) → IsMade make v → SymbolIs Q v → OwnOr Q (make v)
-made_own Q make v made h =
-    elim made.1 [ inl x ↦ inr (subst (λ z. SymbolIs Q z) (sym x) h) | inr x ↦ inl (x ∙ ap (λ z. Place z 0) (sym made.0)) ]
+pub made_own : (Q : List ℕ → Type 0) (make : Result Value LineKind → LaidName) (r : Result Value LineKind) → IsMade make r → ResultIs Q r
+    → OwnOr Q (make r)
+made_own Q make r made h =
+    elim made.1 [ inl x ↦ inr (subst (ResultIs Q) (sym x) h) | inr x ↦ inl (x ∙ ap (λ z. Ok (Place z 0)) (sym made.0)) ]
 
-pub made_found : (Q : List ℕ → Type 0) (make : Value → LaidName) (r : Result Value LineKind) (q : List ℕ) (us : List LaidName) (n : LaidName)
-    → ((v : Value) → IsMade make v) → (name_of make ≡ q → ResultIs Q r) → (named_in q us ≡ Some n → OwnOr Q n)
-    → named_in q (made_name make r ++ us) ≡ Some n → OwnOr Q n
-made_found Q make (Err k) q us n made h rest e = rest e
-made_found Q make (Ok v) q us n made h rest e = by_test (same (make v).name q) refl e
+pub made_found : (Q : List ℕ → Type 0) (make : Result Value LineKind → LaidName) (r : Result Value LineKind) (q : List ℕ) (us : List LaidName) (n : LaidName)
+    → IsMade make r → (name_of make ≡ q → ResultIs Q r) → (named_in q us ≡ Some n → OwnOr Q n)
+    → named_in q (make r ∷ us) ≡ Some n → OwnOr Q n
+made_found Q make r q us n made h rest e = by_test (same (make r).name q) refl e
   where
-    by_test : (c : Bool) → same (make v).name q ≡ c → cond c (Some (make v)) (named_in q us) ≡ Some n → OwnOr Q n
+    by_test : (c : Bool) → same (make r).name q ≡ c → cond c (Some (make r)) (named_in q us) ≡ Some n → OwnOr Q n
     by_test true s k =
-        let x : make v ≡ n = cc in
-        subst (OwnOr Q) x (made_own Q make v (made v) (h (sym (made v).0 ∙ same_true (make v).name q s)))
+        let x : make r ≡ n = cc in
+        subst (OwnOr Q) x (made_own Q make r made (h (sym made.0 ∙ same_true (make r).name q s)))
     by_test false s k = rest k
 
 pub entry_own : (P Q : List ℕ → Type 0) (xs : List LaidName) (q : List ℕ) (l : SourceLine) (us : List LaidName) (n : LaidName)
@@ -107,7 +106,7 @@ entry_own P Q xs q l us n closed (Named m) regular owned h rest e = by_test (sam
     by_test true k = let x : m ≡ n = cc in subst (OwnOr Q) x (own_weaker nothing Q (λ s g. absurd g) m owned)
     by_test false k = rest k
 entry_own P Q xs q l us n closed (Equated make t) regular owned h rest e =
-    made_found Q make (meaning (with_names l xs) t) q us n regular (λ y. let p = h y in tree_to P Q l xs closed t p.0 p.1) rest e
+    made_found Q make (meaning (with_names l xs) t) q us n (regular (meaning (with_names l xs) t)) (λ y. let p = h y in tree_to P Q l xs closed t p.0 p.1) rest e
 
 pub entries_own : (P Q : List ℕ → Type 0) (xs : List LaidName) (q : List ℕ) (n : LaidName) → ClosedTo P Q xs
     → (ls : List SourceLine) → AreRegular ls → AreOwned ls → EachEquated (LeadTo P Q q) ls → named_in q (all_entries xs ls) ≡ Some n → OwnOr Q n
@@ -119,7 +118,7 @@ entries_own P Q xs q n closed (l ∷ ls) regular owned h e =
 -- ---- names that stand for themselves
 
 abbrev pub IsOwn : List LaidName → List ℕ → Type 0
-IsOwn names s = (n : LaidName) × (named_in s names ≡ Some n) × (n.value ≡ Place s 0)
+IsOwn names s = (n : LaidName) × (named_in s names ≡ Some n) × (entry_value n ≡ Ok (Place s 0))
 
 pub own_place_is : (names : List LaidName) (q : List ℕ) → IsOwn names q → SymbolIs (IsOwn names) (Place q 0)
 own_place_is names [] h = tt
@@ -151,25 +150,25 @@ pub record AreFinal (names : List LaidName) (ls : List SourceLine) : Type 0 wher
   pub placeless : EachEquated (λ p t. TreeEach (HoldsConstant (IsOwn names)) t) ls
 
 pub one_step : (names : List LaidName) (ls : List SourceLine) → AreFinal names ls → (P : List ℕ → Type 0) → ClosedTo P (IsOwn names) names
-    → (q : List ℕ) (n : LaidName) → EachEquated (λ p t. p ≡ q → TreeIs P t) ls → named_in q names ≡ Some n → SymbolIs (IsOwn names) n.value
+    → (q : List ℕ) (n : LaidName) → EachEquated (λ p t. p ≡ q → TreeIs P t) ls → named_in q names ≡ Some n → ResultIs (IsOwn names) (entry_value n)
 one_step names ls final P closed q n h e =
     by_case
     (entries_own P (IsOwn names) names q n closed ls final.regular final.owned
     (each_both (λ p t. p ≡ q → TreeIs P t) (λ p t. TreeEach (HoldsConstant (IsOwn names)) t) (LeadTo P (IsOwn names) q) (λ p t f k x. (f x, k)) ls h final.placeless)
     (ap (named_in q) final.same_again ∙ e))
   where
-    by_case : OwnOr (IsOwn names) n → SymbolIs (IsOwn names) n.value
+    by_case : OwnOr (IsOwn names) n → ResultIs (IsOwn names) (entry_value n)
     by_case (inr k) = k
     by_case (inl x) =
-        let y : n.value ≡ Place q 0 = x ∙ ap (λ z. Place z 0) (named_name q names n e) in
-        subst (SymbolIs (IsOwn names)) (sym y) (own_place_is names q (n, e, y))
+        let y : entry_value n ≡ Ok (Place q 0) = x ∙ ap (λ z. Ok (Place z 0)) (named_name q names n e) in
+        subst (ResultIs (IsOwn names)) (sym y) (own_place_is names q (n, e, y))
 
 pub good_own : (names : List LaidName) (ls : List SourceLine) → AreFinal names ls → (k : ℕ) → ClosedTo (IsGood ls k) (IsOwn names) names
 good_own names ls final zero q n h e = absurd h
 good_own names ls final (suc k) q n h e = one_step names ls final (IsGood ls k) (good_own names ls final k) q n h e
 
 pub all_own : (names : List LaidName) (ls : List SourceLine) → AreFinal names ls → (k : ℕ) → EachEquated (λ p t. TreeIs (IsGood ls k) t) ls
-    → (q : List ℕ) (n : LaidName) → named_in q names ≡ Some n → SymbolIs (IsOwn names) n.value
+    → (q : List ℕ) (n : LaidName) → named_in q names ≡ Some n → ResultIs (IsOwn names) (entry_value n)
 all_own names ls final k lead q n e =
     one_step names ls final (IsGood ls k) (good_own names ls final k) q n
     (each_weaker (λ p t. TreeIs (IsGood ls k) t) (λ p t. p ≡ q → TreeIs (IsGood ls k) t) (λ p t h x. h) ls lead) e
@@ -180,13 +179,13 @@ pub equated_owned : (names : List LaidName) (area : Option ℕ) (name : List ℕ
 equated_owned names area name None = tt
 equated_owned names area name (Some t) = tt
 
-pub definition_owned : (names : List LaidName) (x : Defined) (area : Option ℕ) (offset size : ℕ) (thumb : Bool) (m : ℕ)
+pub definition_owned : (names : List LaidName) (x : Defined) (area : Option ℕ) (offset : ℕ) (size : Option ℕ) (thumb : Bool) (m : ℕ)
     → IsOwned (definition_of names x area offset size thumb m)
 definition_owned names Unnamed area offset size thumb m = tt
 definition_owned names (Label name) area offset size thumb m = inl refl
 definition_owned names (Equal name e) area offset size thumb m = equated_owned names area name (tree_of e)
 definition_owned names (MapField name) area offset size thumb m = inr tt
-definition_owned names (RegisterName name r) area offset size thumb m = tt
+definition_owned names (RegisterName name r) area offset size thumb m = inr tt
 
 pub imported_owned : (s : Statement) (before : List LaidLine) (o : Option (List ℕ)) → AreOwned (imported_lines s before o)
 imported_owned s before None = tt
@@ -202,7 +201,7 @@ lines_owned d (s ∷ ss) =
     owned_joined (source_lines (laid_of d ss)) ((laid_behind d s (laid_of d ss)).line ∷ imported_lines s (laid_of d ss) (imported_in s.what))
     (lines_owned d ss) (
       definition_owned d (defined_by s) (area_behind (s ∷ statements_of (laid_of d ss))) (offset_behind s (laid_of d ss))
-          (laid_behind d s (laid_of d ss)).size (is_thumb_label s (statements_of (laid_of d ss))) (map_behind (laid_of d ss)),
+          (Some (laid_behind d s (laid_of d ss)).size) (is_thumb_label s (statements_of (laid_of d ss))) (map_behind (laid_of d ss)),
       imported_owned s (laid_of d ss) (imported_in s.what),
     )
 
@@ -211,7 +210,7 @@ pub lines_placeless : (Q : List ℕ → Type 0) (d : List LaidName) (ss : List S
 lines_placeless Q d ss plain =
     lines_hold (λ p t. TreeEach (HoldsConstant Q) t) d ss
     (equal_weaker IsPlainEqual (OfTrees (λ p t. TreeEach (HoldsConstant Q) t))
-    (λ p e a t s. tree_each (HoldsConstant Q) e.items (Some []) t (no_places_hold Q e.items a) tt s) (equals_in ss) (equals_plain ss plain))
+    (λ p e a t s. tree_each (HoldsConstant Q) e.items (Some []) t (no_places_hold Q e.items a) tt s) (all_equals ss) (equals_plain ss plain))
 
 -- ---- the source
 
@@ -225,7 +224,7 @@ source_final ss sound plain = record {
 
 -- the symbol of each name's value stands for itself
 pub names_own : (ss : List Statement) → IsSound ss → ArePlain ss → (q : List ℕ) (n : LaidName) → named_in q (final_names (laid ss)) ≡ Some n
-    → SymbolIs (IsOwn (final_names (laid ss))) n.value
+    → ResultIs (IsOwn (final_names (laid ss))) (entry_value n)
 names_own ss sound plain =
     all_own (final_names (laid ss)) (source_lines (laid ss)) (source_final ss sound plain) (length (laid ss)) (all_lead ss sound plain)
 

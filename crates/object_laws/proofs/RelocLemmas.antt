@@ -1,5 +1,5 @@
 -- The bytes and relocations of an object's areas are valid.
-use Rattle.std.proofs.Common.{◌≡◌, ℕ, ◌+◌, ◌*◌, ◌^◌, ◌<◌, ◌==◌, List, [], ◌∷◌, ◌++◌, length, Bool, true, false, cond, refl, sym, ◌∙◌, ap, subst, arith, Option, Some, None, ◌⊎◌, inl, inr}
+use Rattle.std.proofs.Common.{◌≡◌, ℕ, ◌+◌, ◌*◌, ◌^◌, ◌<◌, ◌≤◌, ◌==◌, List, [], ◌∷◌, length, Bool, true, false, cond, refl, sym, ◌∙◌, ap, subst, arith, Option, Some, None, ◌⊎◌, inl, inr}
 use Rattle.std.specs.Prelude.{Result, Ok, Err, map}
 use Rattle.std.specs.List.{AllByRecursion}
 use Rattle.sdt_word.specs.Numbers.{bit}
@@ -14,26 +14,21 @@ use Rattle.asm_model.specs.declared.directives.Contents.{Contents}
 use Rattle.asm_model.specs.declared.directives.Contents.TheVariants as contents
 use Rattle.asm_model.specs.declared.directives.DirectiveLine.TheVariants as line
 use Rattle.asm_model.specs.declared.exprs.Expr.{Expr}
-use Rattle.asm_model.specs.declared.names.LaidName.{LaidName}
 use Rattle.asm_model.specs.declared.statements.PseudoLine.{PseudoLine}
 use Rattle.asm_model.specs.declared.statements.Statement.{Statement}
 use Rattle.asm_model.specs.declared.statements.What.{What}
 use Rattle.asm_model.specs.declared.statements.What.TheVariants as what
 use Rattle.asm_model.specs.declared.values.Value.{Value}
-use Rattle.asm_model.specs.declared.values.Value.TheVariants.{Number, Truth, Words, Place}
-use Rattle.asm_model.specs.AtLine.{Sight}
-use Rattle.asm_model.specs.Meaning.{named_in, in_area, entry_stands_at, stands_at}
+use Rattle.asm_model.specs.declared.values.Value.TheVariants.{Place}
+use Rattle.asm_model.specs.declared.names.Names.{Names}
+use Rattle.asm_model.specs.Meaning.{stands_at}
 use Rattle.asm_model.specs.Says.{on_both, mapped}
 use Rattle.asm_model.specs.Before.{areas_behind}
 use Rattle.asm_model.specs.Extents.{value_there}
-use Rattle.asm_model.specs.Laid.{LaidLine, laid}
+use Rattle.asm_model.specs.Laid.{statements_of, laid}
 use Rattle.asm_model.specs.Marks.{datum_names}
 use Rattle.asm_model.specs.Symbols.{symbols_of, literal_value}
-use Rattle.asm_model.specs.Sound.{IsSound, HaveNoPlaces, ArePlain}
-use Rattle.layout_laws.proofs.RoundLemmas.{ResultIs}
-use Rattle.said_model.specs.Fit.{AllFit, AllPlaceless, WhatFits, IsFit}
-use Rattle.said_model.specs.Said.{AllHaveTexts, AllSaid, HoldsNoZero}
-use Rattle.source_model.specs.SourceFaults.{layout_faults}
+use Rattle.said_model.specs.Said.{HoldsNoZero}
 use Rattle.source_model.specs.ArmForms.{arm_instruction}
 use Rattle.source_model.specs.Contexts.{Context, sees, value_of, number_in, and_then}
 use Rattle.source_model.specs.Objects.{Piece, unit_bytes, units_from, or_none, source_of, IsAmong, StandsIn, symbol_number, word_relocs, branch_relocs, relocs_of, IsRelocOf, HasRelocs, contents_of, symbol_named, symbol_records, is_kept, KeepsBytes, IsArea, IsObject}
@@ -43,18 +38,15 @@ use Rattle.source_model.specs.declared.codes.ThumbCode.{ThumbCode}
 use Rattle.source_model.specs.declared.codes.ThumbCode.TheVariants as code
 use Rattle.source_model.specs.Units.{Emitted, Bytes, Word, Instruction, Half, LinkPair, Stored, Target, Nothing, ByArea, BySymbol, placed, stored, word_units, narrow, half_units, byte_operand, byte_units, branch_symbol, link_symbol, code_unit, instruction_units, pseudo_units, units}
 use Rattle.source_laws.specs.Laws.{word_among, context_behind}
-use Rattle.source_laws.proofs.AgreeLemmas.{line_area}
-use Rattle.source_laws.proofs.FaultlessLemmas.{layout_sound}
 use Rattle.source_laws.proofs.PoolLemmas.{OwnUnit, PoolWord, unit_or_word}
 use Rattle.source_laws.proofs.ZeroLemmas.{place_below}
 use Rattle.object_laws.specs.Laws.{IsListed, OptionListed, TargetListed, UnitListed, AreFaultless}
 use Rattle.object_laws.proofs.AreaLemmas.{area_facts}
 use Rattle.object_laws.proofs.BitLemmas.{zero_flag, by_area, by_symbol, by_branch}
-use Rattle.object_laws.proofs.EachLemmas.{IsBelow, each_there, each_by_place, areas_text, line_below, name_shown}
-use Rattle.object_laws.proofs.OriginLemmas.{IsOwn, value_own, literal_own}
+use Rattle.object_laws.proofs.EachLemmas.{each_by_place, areas_text, areas_kept}
+use Rattle.source_laws.proofs.WithinLemmas.{StandsWithin, context_within}
 use Rattle.object_laws.proofs.TargetLemmas.{symbols_are_listed}
 use Rattle.aof_object.proofs.SpelledObject.{all_get as each_at}
-use Rattle.said_model.proofs.SharedLemmas.{are_plain as said_plain}
 
 -- ---- areas that words name
 
@@ -80,33 +72,14 @@ abbrev pub StoredBelow : ℕ → Result Stored LineKind → Type 0
 StoredBelow count (Ok w) = TargetBelow count w.target
 StoredBelow count (Err k) = Unit {0}
 
--- the line stands in one of so many areas, and so do names that stand for themselves
-pub record SeesBelow (count : ℕ) (c : Context) : Type 0 where
-  pub area : ℕ
-  pub own : c.line.area ≡ Some area
-  pub below : area < count
-  pub names : (q : List ℕ) (n : LaidName) → named_in q c.names ≡ Some n → IsBelow count n.area
-
-pub entry_below : (count : ℕ) (area : Option ℕ) (offset : ℕ) (a : ℕ × ℕ) → IsBelow count area → in_area area offset ≡ Some a → a.0 < count
-entry_below count None offset a f e = absurd (cc)
-entry_below count (Some k) offset a f e = let x : (k, offset) ≡ a = cc in subst (λ z. z.0 < count) x (f k refl)
-
 pub placed_below : (count : ℕ) (c : Context) (d : List (List ℕ)) (s : List ℕ) (n : ℕ) (o : Option (ℕ × ℕ)) → ((a : ℕ × ℕ) → o ≡ Some a → a.0 < count)
     → TargetBelow count (placed c d s n o).target
 placed_below count c d s n None f = tt
 placed_below count c d s n (Some a) f = f a refl
 
-pub word_below : (count : ℕ) (c : Context) (d : List (List ℕ)) (r : Result Value LineKind) → SeesBelow count c → ResultIs (IsOwn c.names) r
-    → StoredBelow count (stored c d r)
-word_below count c d (Ok (Number n)) h k = tt
-word_below count c d (Ok (Place [] n)) h k = subst (λ o. TargetBelow count (placed c d [] n (in_area o 0)).target) (sym h.own) h.below
-word_below count c d (Ok (Place (x ∷ xs) n)) h k =
-    placed_below count c d (x ∷ xs) n (stands_at (sees c) (x ∷ xs))
-    (λ a e.
-    entry_below count k.0.area k.0.offset a (h.names (x ∷ xs) k.0 k.1) (ap entry_stands_at (sym k.1) ∙ e))
-word_below count c d (Ok (Truth b)) h k = tt
-word_below count c d (Ok (Words w)) h k = tt
-word_below count c d (Err j) h k = tt
+pub word_below : (count : ℕ) (c : Context) (d : List (List ℕ)) → StandsWithin count c → (r : Result Value LineKind) → StoredBelow count (stored c d r)
+word_below count c d within (Ok (Place s n)) = placed_below count c d s n (stands_at (sees c) s) (within s)
+word_below count c d within r = tt
 
 pub words_joined : (count : ℕ) (x : Result Stored LineKind) (y : Result (List Emitted) LineKind) → StoredBelow count x → ResultBelow count y
     → ResultBelow count (on_both (λ w us. Word w ∷ us) x y)
@@ -115,14 +88,10 @@ words_joined count (Ok w) (Err k) h i = tt
 words_joined count (Err k) (Ok us) h i = tt
 words_joined count (Err k) (Err j) h i = tt
 
-abbrev pub OwnValues : Context → Type 0
-OwnValues c = (e : Expr) → HaveNoPlaces e.items → ResultIs (IsOwn c.names) (value_of c e)
-
-pub words_below : (count : ℕ) (c : Context) (d : List (List ℕ)) (es : List Expr) → SeesBelow count c → OwnValues c → AllPlaceless es
-    → ResultBelow count (word_units c d es)
-words_below count c d [] h own k = tt
-words_below count c d (e ∷ es) h own k =
-    words_joined count (stored c d (value_of c e)) (word_units c d es) (word_below count c d (value_of c e) h (own e k.0)) (words_below count c d es h own k.1)
+pub words_below : (count : ℕ) (c : Context) (d : List (List ℕ)) → StandsWithin count c → (es : List Expr) → ResultBelow count (word_units c d es)
+words_below count c d within [] = tt
+words_below count c d within (e ∷ es) =
+    words_joined count (stored c d (value_of c e)) (word_units c d es) (word_below count c d within (value_of c e)) (words_below count c d within es)
 
 pub bytes_joined : (count : ℕ) (x : Result (List ℕ) LineKind) (y : Result (List Emitted) LineKind) → ResultBelow count y
     → ResultBelow count (on_both (λ b us. Bytes b ∷ us) x y)
@@ -135,7 +104,7 @@ pub halves_below : (count : ℕ) (c : Context) (es : List Expr) → ResultBelow 
 halves_below count c [] = tt
 halves_below count c (e ∷ es) = bytes_joined count (and_then (number_in c e) (narrow 2)) (half_units c es) (halves_below count c es)
 
-pub bytes_below : (count : ℕ) (c : Context) (s : Sight) (es : List Expr) → ResultBelow count (byte_units c s es)
+pub bytes_below : (count : ℕ) (c : Context) (s : Names) (es : List Expr) → ResultBelow count (byte_units c s es)
 bytes_below count c s [] = tt
 bytes_below count c s (e ∷ es) = bytes_joined count (byte_operand (value_there s e) (value_of c e)) (byte_units c s es) (bytes_below count c s es)
 
@@ -156,49 +125,29 @@ pub pseudo_below : (count : ℕ) (thumb : Bool) (c : Context) (word : Option ℕ
 pseudo_below count true c word l = mapped_below count (λ i. Half i ∷ []) (thumb_pseudo c word l) (λ i. (tt, tt))
 pseudo_below count false c word l = mapped_below count instruction_units (pseudo_instructions c word l) (instructions_below count)
 
-pub units_below : (count : ℕ) (c : Context) (d : List (List ℕ)) (s : Sight) (word : Option ℕ) (w : What) → SeesBelow count c → OwnValues c → WhatFits w
-    → ResultBelow count (units c d s word w)
-units_below count c d s word what.Nothing h own k = tt
-units_below count c d s word (what.Arm l) h own k =
+pub units_below : (count : ℕ) (c : Context) (d : List (List ℕ)) (s : Names) (word : Option ℕ) → StandsWithin count c → (w : What) → ResultBelow count (units c d s word w)
+units_below count c d s word within what.Nothing = tt
+units_below count c d s word within (what.Arm l) =
     mapped_below count (λ i. Instruction i (branch_symbol c l) ∷ []) (arm_instruction c l) (λ i. (tt, tt))
-units_below count c d s word (what.Thumb l) h own k =
+units_below count c d s word within (what.Thumb l) =
     mapped_below count (λ i. code_unit (link_symbol c l) i ∷ []) (thumb_instruction c l) (code_below count (link_symbol c l))
-units_below count c d s word (what.Pseudo l) h own k = pseudo_below count c.line.thumb c word l
-units_below count c d s word (what.Directive (line.Dcd es)) h own k = words_below count c d es h own k
-units_below count c d s word (what.Directive (line.Dcdu es)) h own k = words_below count c d es h own k
-units_below count c d s word (what.Directive (line.Dcw es)) h own k = halves_below count c es
-units_below count c d s word (what.Directive (line.Dcb es)) h own k = bytes_below count c s es
-units_below count c d s word (what.Directive l) h own k = tt
+units_below count c d s word within (what.Pseudo l) = pseudo_below count c.line.thumb c word l
+units_below count c d s word within (what.Directive (line.Dcd es)) = words_below count c d within es
+units_below count c d s word within (what.Directive (line.Dcdu es)) = words_below count c d within es
+units_below count c d s word within (what.Directive (line.Dcw es)) = halves_below count c es
+units_below count c d s word within (what.Directive (line.Dcb es)) = bytes_below count c s es
+units_below count c d s word within (what.Directive l) = tt
 
 pub unit_below : (count : ℕ) (at : ℕ) (us : List Emitted) (p : Piece) → EachBelow count us → IsAmong p (units_from at us) → UnitBelow count p.1
 unit_below count at [] p h k = absurd k
 unit_below count at (u ∷ us) p h (inl e) = subst (λ (z : Piece). UnitBelow count z.1) (sym e) h.0
 unit_below count at (u ∷ us) p h (inr k) = unit_below count (at + length (unit_bytes u)) us p h.1 k
 
-pub line_sees_below : (ss : List Statement) → AllHaveTexts ss → (after before : List LaidLine) (l : LaidLine) (area : ℕ) → laid ss ≡ after ++ l ∷ before
-    → l.area ≡ Some area → SeesBelow (length (areas_behind ss)) (context_behind ss l before)
-line_sees_below ss texts after before l area e own =
-    record {
-      area = area;
-      own = line_area ss after before l e ∙ own;
-      below = line_below ss after before l e area own;
-      names = λ q n x. (name_shown ss texts q n x).1;
-    }
-
 -- each area that a thing in an area is relocated by is one of the source
-pub things_below : (ss : List Statement) → AllSaid ss → AllHaveTexts ss → AllFit ss → layout_faults ss ≡ None → (area : ℕ) (p : Piece)
-    → StandsIn (source_of ss) area p → UnitBelow (length (areas_behind ss)) p.1
-things_below ss said texts fit none area p x = by_kind (unit_or_word ss area p x)
+pub things_below : (ss : List Statement) (count : ℕ) → length (areas_behind (statements_of (laid ss))) ≤ count → (area : ℕ) (p : Piece)
+    → StandsIn (source_of ss) area p → UnitBelow count p.1
+things_below ss count few area p x = by_kind (unit_or_word ss area p x)
   where
-    count : ℕ
-    count = length (areas_behind ss)
-
-    sound : IsSound ss
-    sound = layout_sound ss none
-
-    plain : ArePlain ss
-    plain = said_plain ss said
-
     by_result : (at : ℕ) (r : Result (List Emitted) LineKind) → ResultBelow count r → IsAmong p (units_from at (or_none r)) → UnitBelow count p.1
     by_result at (Ok us) f k = unit_below count at us p f k
     by_result at (Err j) f k = absurd k
@@ -208,15 +157,12 @@ things_below ss said texts fit none area p x = by_kind (unit_or_word ss area p x
         let l = u.owner in
         let c = context_behind ss l u.before in
         by_result l.offset (units c (datum_names ss) l.seen (word_among u.after l u.before) l.statement.what)
-        (units_below count c (datum_names ss) l.seen (word_among u.after l u.before) l.statement.what (line_sees_below ss texts u.after u.before l area u.parts u.own)
-        (λ e i. value_own ss sound plain u.before l e i) (each_there IsFit ss fit u.after u.before l u.parts)) u.among
+        (units_below count c (datum_names ss) l.seen (word_among u.after l u.before) (context_within ss count u.after u.before l few u.parts) l.statement.what) u.among
     by_kind (inr w) =
         let c = context_behind ss w.loader w.before in
-        let v = literal_value (sees c) w.word.value in
-        let below = subst (StoredBelow count) w.word.stores
-        (word_below count c (datum_names ss) v (line_sees_below ss texts w.after w.before w.loader area w.parts w.own)
-        (literal_own ss sound plain w.before w.loader w.word.value)) in
-        subst (λ (t : Piece). UnitBelow count t.1) (sym w.word.is) below
+        subst (λ (t : Piece). UnitBelow count t.1) (sym w.word.is)
+        (subst (StoredBelow count) w.word.stores
+        (word_below count c (datum_names ss) (context_within ss count w.after w.before w.loader few w.parts) (literal_value (sees c) w.word.value)))
 
 -- ---- relocations
 
@@ -292,7 +238,7 @@ relocs_valid ss h areas symbols few area relocs x =
     (λ r i.
     let p = x.no_others r i in
     piece_valid ss areas symbols few p.0.0 p.0.1 (symbols_are_listed ss h.layout area p.0 p.1)
-    (subst (λ n. UnitBelow n p.0.1) few.areas_are (things_below ss h.said h.texts h.fit h.layout area p.0 p.1)) r p.2)
+    (things_below ss areas (subst (λ n. length (areas_behind (statements_of (laid ss))) ≤ n) few.areas_are (areas_kept ss)) area p.0 p.1) r p.2)
 
 -- ---- bytes
 
@@ -332,7 +278,7 @@ object_few ss o x h k =
     }
   where
     records_counted : length (symbol_records (source_of ss)) ≡ length (symbols_of (source_of ss).names (source_of ss).lines)
-    records_counted = length_map (λ name. symbol_named (source_of ss) name (named_in name (source_of ss).names)) (symbols_of (source_of ss).names (source_of ss).lines)
+    records_counted = length_map (symbol_named (source_of ss)) (symbols_of (source_of ss).names (source_of ss).lines)
 
 pub contents_are_valid : (ss : List Statement) (o : Object) → AreFaultless ss → IsObject ss o → length o.areas < 2 ^ 24 → length o.symbols < 2 ^ 24
     → AllByRecursion (Holds (length o.areas) (length o.symbols)) o.areas

@@ -5,32 +5,26 @@ use Rattle.std.proofs.lemmas.Bool.{cond-true, cond-false, or_parts, or_from, ltb
 use Rattle.sdt_fault.specs.declared.kinds.LineKind.TheVariants.{TooMany}
 use Rattle.asm_model.specs.declared.statements.Statement.{Statement}
 use Rattle.asm_model.specs.declared.values.Value.{Value}
-use Rattle.asm_model.proofs.LineLemmas.{both_empty}
 use Rattle.asm_model.specs.Extents.{Extent, Block, Padding, Loading, Pool}
-use Rattle.asm_model.specs.Labels.{defined_by}
-use Rattle.asm_model.specs.Laid.{LaidLine, statements_of, taken, pieces_of, laid}
-use Rattle.asm_model.specs.LayoutKinds.{fault_kinds, kind_if, map_kinds, no_area_kinds, contents_kinds, contents_behind, area_kinds, name_kinds, settled_kinds, settled, equals_in, layout_kinds, entry_kinds, literal_kinds, area_bytes}
+use Rattle.asm_model.specs.Laid.{LaidLine, taken, pieces_of, laid}
+use Rattle.asm_model.specs.LayoutKinds.{settled, equals_in, layout_kinds, entry_kinds, literal_kinds, area_bytes}
 use Rattle.asm_model.specs.OffsetLaws.{joined, IsLiteral}
 use Rattle.asm_model.specs.Offsets.{Piece, is_of, same_literal, waiting_behind, waiting, start_from, end_from, end_behind, area_size, place_among, word_behind, is_pool, is_pool_of, literal_word}
 use Rattle.asm_model.proofs.OffsetLemmas.{same_itself, raised_four}
-use Rattle.layout_laws.proofs.SoundLemmas.{kind_none}
+use Rattle.layout_laws.proofs.SoundLemmas.{both_empty, kind_none}
 use Rattle.source_model.specs.Objects.{in_order}
 use Rattle.source_model.specs.SourceFaults.{layout_faults}
 use Rattle.source_laws.proofs.FaultlessLemmas.{layout_sound}
 use Rattle.source_laws.proofs.LineLemmas.{piece_of, line_ends}
 use Rattle.source_laws.proofs.ListedLemmas.{owned}
 use Rattle.source_laws.proofs.WordLemmas.{NoPools, no_pool_of, literal_next, loads_literal, no_pools_order, pieces_before}
-use Rattle.object_laws.proofs.FaultLemmas.{layout_here, late_here}
+use Rattle.object_laws.proofs.FaultLemmas.{layout_here, last_kinds, late_here}
 
 -- ---- lines end early enough
 
-pub line_small : (S : List (List ℕ)) (l : LaidLine) (before : List LaidLine) → layout_kinds S l before ≡ [] → l.offset + l.size ≤ 2 ^ 24
-line_small S l before h =
-    let a = fault_kinds l.extent ++ map_kinds l.seen l.statement.what ++ no_area_kinds l.area (defined_by l.statement) l.statement.what
-    ++ contents_kinds (contents_behind (l.statement ∷ statements_of before)) l.thumb l.statement.what ++ area_kinds l.seen l.statement.what before
-    ++ name_kinds l.statement (statements_of before) ++ settled_kinds S (defined_by l.statement) in
-    let p = both_empty a (kind_if (nat_lt area_bytes (l.offset + l.size)) TooMany) h in
-    ltb-false area_bytes (l.offset + l.size) (kind_none (nat_lt area_bytes (l.offset + l.size)) TooMany p.1)
+pub line_small : (S : List (List ℕ)) (all : List Statement) (l : LaidLine) (before : List LaidLine) → layout_kinds S all l before ≡ [] → l.offset + l.size ≤ 2 ^ 24
+line_small S all l before h =
+    ltb-false area_bytes (l.offset + l.size) (kind_none (nat_lt area_bytes (l.offset + l.size)) TooMany (last_kinds S all l before h).1)
 
 pub either_small : (b : Bool) (x y n : ℕ) → (b ≡ true → cond b x y ≤ n) → y ≤ n → cond b x y ≤ n
 either_small true x y n f h = f refl
@@ -43,7 +37,7 @@ ends_small ss none area after (l ∷ ls) e =
     either_small (is_of area l.area) (end_from (end_behind area (pieces_of ls)) (waiting area (pieces_of ls)) (taken l.extent)) (end_behind area (pieces_of ls)) (2 ^ 24)
     (λ x.
     subst (λ z. z ≤ 2 ^ 24) (line_ends ss (layout_sound ss none) area after ls l e (owned area l.area x))
-    (line_small (settled (equals_in ss)) l ls (layout_here ss none after ls l e)))
+    (line_small (settled (equals_in ss)) ss l ls (layout_here ss none after ls l e)))
     (ends_small ss none area (after ++ l ∷ []) ls (e ∙ sym (append_assoc after (l ∷ []) ls)))
 
 -- ---- the last literal that waits

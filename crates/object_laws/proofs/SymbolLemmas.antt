@@ -1,8 +1,8 @@
 -- The symbols of an object are valid.
-use Rattle.std.proofs.Common.{◌≡◌, ◌≢◌, ℕ, zero, suc, ◌+◌, ◌%◌, ◌^◌, ◌<◌, ◌≤◌, List, [], ◌∷◌, ◌++◌, append_assoc, length, Bool, true, false, cond, ◌||◌, ◌&&◌, refl, sym, ◌∙◌, ap, subst, arith, Option, Some, None, ◌⊎◌, inl, inr}
+use Rattle.std.proofs.Common.{◌≡◌, ◌≢◌, ℕ, zero, suc, ◌+◌, ◌%◌, ◌^◌, ◌<◌, ◌≤◌, List, [], ◌∷◌, ◌++◌, append_assoc, length, Bool, true, false, cond, ◌||◌, ◌&&◌, not, refl, sym, ◌∙◌, ap, subst, arith, Option, Some, None}
 use Rattle.std.specs.Prelude.{Result, Ok, Err, slice_get, map, IsSomeAnd}
 use Rattle.std.specs.List.{AllByRecursion, list_any}
-use Rattle.std.proofs.lemmas.Bool.{leb-true}
+use Rattle.std.proofs.lemmas.Bool.{leb-true, and_parts}
 use Rattle.sdt_fault.specs.declared.kinds.LineKind.{LineKind}
 use Rattle.sdt_fault.specs.declared.kinds.LineKind.TheVariants.{BadOperand, WrongType}
 use Rattle.chunk_file.specs.Reading.{EachStands}
@@ -19,6 +19,8 @@ use Rattle.asm_model.specs.declared.arm_lines.ArmLine.TheVariants as arm
 use Rattle.asm_model.specs.declared.directives.DirectiveLine.TheVariants as line
 use Rattle.asm_model.specs.declared.exprs.Expr.{Expr}
 use Rattle.asm_model.specs.declared.names.LaidName.{LaidName}
+use Rattle.asm_model.specs.declared.names.Meaning.{Meaning}
+use Rattle.asm_model.specs.declared.names.Meaning.TheVariants as means
 use Rattle.asm_model.specs.declared.statements.Statement.{Statement}
 use Rattle.asm_model.specs.declared.statements.What.{What}
 use Rattle.asm_model.specs.declared.statements.What.TheVariants as what
@@ -27,35 +29,35 @@ use Rattle.asm_model.specs.declared.thumb_lines.ThumbLine.TheVariants as thumb
 use Rattle.asm_model.specs.declared.values.Value.{Value}
 use Rattle.asm_model.specs.declared.values.Value.TheVariants.{Number, Truth, Words, Place}
 use Rattle.asm_model.specs.Forms.{same}
-use Rattle.asm_model.specs.Meaning.{named_in, in_area, entry_stands_at, stands_at}
+use Rattle.asm_model.specs.Meaning.{named_in, in_area, entry_stands_at, stands_at, meant, entry_value, value_of as value_of_name}
 use Rattle.asm_model.specs.Says.{mapped}
-use Rattle.asm_model.proofs.WordLemmas.{same_true}
-use Rattle.asm_model.specs.Before.{with_name, areas_behind, is_thumb_label}
-use Rattle.asm_model.specs.Entries.{label_entry, imported_entry, thumb_of}
+use Rattle.asm_model.specs.Before.{with_name, areas_behind}
+use Rattle.asm_model.specs.Entries.{imported_entry, equal_entry, thumb_of}
 use Rattle.asm_model.specs.Extents.{Extent, Block, Padding, Loading, Pool}
-use Rattle.asm_model.specs.Labels.{Defined, Unnamed, Label, Equal, MapField, RegisterName, defined_by, imported_in, declared_names, is_hidden}
-use Rattle.asm_model.specs.Laid.{LaidLine, statements_of, taken, laid_behind, laid_of, laid, final_names}
-use Rattle.asm_model.specs.LayoutKinds.{listed}
+use Rattle.asm_model.specs.Labels.{imported_in, is_hidden}
+use Rattle.asm_model.specs.Laid.{LaidLine, taken, laid, final_names}
 use Rattle.asm_model.specs.Marks.{datum_names}
+use Rattle.asm_model.specs.Sound.{IsSound}
 use Rattle.asm_model.specs.Symbols.{literal_value, unless_placed, word_symbols, words_symbols, branch_symbols, literal_symbols, symbols_in, listed_behind, symbols_of, symbols_of}
-use Rattle.layout_laws.proofs.FoundLemmas.{labels_stand, imports_stand}
+use Rattle.layout_laws.proofs.FoundLemmas.{imports_stand}
 use Rattle.layout_laws.proofs.RoundLemmas.{ResultIs}
 use Rattle.said_model.specs.Fit.{AllPlaceless, WhatFits, IsFit}
 use Rattle.said_model.specs.Said.{what_names, HoldsNoZero, HasTexts}
 use Rattle.source_model.specs.ArmForms.{is_settled, has_symbol, branch_from, branch_displacement, branch_field, arm_instruction}
-use Rattle.source_model.specs.Contexts.{Context, sees, value_of, and_then}
-use Rattle.source_model.specs.Objects.{Source, source_of, is_exported as is_exported_name, is_weak, scope, contents_of, holds_code, symbol_placed, in_no_line, symbol_valued, symbol_named, IsObject}
-use Rattle.source_model.specs.SourceFaults.{label_of, symbol_names}
+use Rattle.source_model.specs.Contexts.{Context, sees, is_symbol, is_symbol_entry, may_have_symbol, value_of, and_then}
+use Rattle.source_model.specs.Objects.{Source, source_of, At, is_exported as is_exported_name, is_weak, scope, contents_of, holds_code, symbol_placed, in_no_line, symbol_valued, symbol_named, IsObject}
 use Rattle.source_model.specs.ThumbForms.{half_words, pair_fields, thumb_displacement, thumb_from, thumb_instruction}
 use Rattle.source_model.specs.Units.{Emitted, Instruction, branch_symbol, link_symbol, code_unit, units}
-use Rattle.source_model.specs.ValueKinds.{lies_within, kinds_unless, export_kinds, statement_kinds}
+use Rattle.source_model.specs.ValueKinds.{lies_within, kinds_unless, exported_kinds, export_kinds, statement_kinds}
 use Rattle.source_laws.specs.Laws.{word_among, context_behind}
 use Rattle.source_laws.proofs.FaultlessLemmas.{layout_sound}
 use Rattle.source_laws.proofs.LineLemmas.{statements_lie_in_areas}
-use Rattle.object_laws.specs.Laws.{IsListed, AreFaultless}
+use Rattle.source_laws.proofs.NameLemmas.{each_joined, final_each}
+use Rattle.source_laws.proofs.WithinLemmas.{area_stands}
+use Rattle.object_laws.specs.Laws.{AreFaultless}
 use Rattle.object_laws.proofs.AreaLemmas.{AreApart, apart_with}
 use Rattle.object_laws.proofs.BitLemmas.{IsAllowed, reference_allowed, placed_allowed, absolute_allowed}
-use Rattle.object_laws.proofs.EachLemmas.{DefinedText, OptionText, each_joined, each_there, defined_text, names_text, import_text, line_below, name_shown}
+use Rattle.object_laws.proofs.EachLemmas.{each_there, names_text, name_text, line_below, name_below}
 use Rattle.object_laws.proofs.FaultLemmas.{sizes_of, line_valued}
 use Rattle.object_laws.proofs.OriginLemmas.{IsOwn, named_name, value_own, literal_own}
 use Rattle.said_model.proofs.SharedLemmas.{are_plain as said_plain}
@@ -90,30 +92,29 @@ placed_good count sizes s name label n (Some a) f =
       lives = f a refl;
     }
 
-pub absolute_good : (count : ℕ) (sizes : ℕ → ℕ) (s : Source) (name : List ℕ) (n : ℕ) → IsGood count sizes (symbol_valued s name (Number n))
+pub absolute_good : (count : ℕ) (sizes : ℕ → ℕ) (s : Source) (name : List ℕ) (n : ℕ) → IsGood count sizes (symbol_valued s name (Ok (Number n)))
 absolute_good count sizes s name n =
     let b = scope_small (is_exported_name s name) in
     let a = absolute_allowed (scope s name) b.0 b.1 in record { allowed = a.0; lives = a.1 }
 
 -- a name that stands for itself
 pub own_place_good : (count : ℕ) (sizes : ℕ → ℕ) (s : Source) (q : List ℕ) (f : LaidName) → named_in q s.names ≡ Some f
-    → EndsBelow count sizes 0 (in_area f.area f.offset) → IsGood count sizes (symbol_valued s q (Place q 0))
+    → EndsBelow count sizes 0 (in_area f.area f.offset) → IsGood count sizes (symbol_valued s q (Ok (Place q 0)))
 own_place_good count sizes s [] f e h = placed_good count sizes s [] [] 0 None (λ a x. absurd (cc))
 own_place_good count sizes s (c ∷ cs) f e h =
     placed_good count sizes s (c ∷ cs) (c ∷ cs) 0 (stands_at (sees (in_no_line s)) (c ∷ cs))
     (λ a x. h a (ap entry_stands_at (sym e) ∙ x))
 
-pub own_good : (count : ℕ) (sizes : ℕ → ℕ) (s : Source) (q : List ℕ) (f : LaidName) → named_in q s.names ≡ Some f → f.value ≡ Place q 0
-    → EndsBelow count sizes 0 (in_area f.area f.offset) → IsGood count sizes (symbol_named s q (named_in q s.names))
-own_good count sizes s q f e v h =
-    subst (λ o. IsGood count sizes (symbol_named s q o)) (sym e)
-    (subst (λ z. IsGood count sizes (symbol_valued s q z)) (sym v) (own_place_good count sizes s q f e h))
+pub own_good : (count : ℕ) (sizes : ℕ → ℕ) (s : Source) (q : List ℕ) (own : IsOwn s.names q)
+    → EndsBelow count sizes 0 (in_area own.0.area own.0.offset) → IsGood count sizes (symbol_named s q)
+own_good count sizes s q own h =
+    subst (λ r. IsGood count sizes (symbol_valued s q r)) (sym (ap value_of_name own.1 ∙ own.2)) (own_place_good count sizes s q own.0 own.1 h)
 
 -- ---- names
 
 abbrev pub IsGoodName : List Statement → List ℕ → Type 0
 IsGoodName ss q =
-    IsGood (length (areas_behind ss)) (sizes_of ss) (symbol_named (source_of ss) q (named_in q (source_of ss).names)) × HoldsNoZero q
+    IsGood (length (areas_behind ss)) (sizes_of ss) (symbol_named (source_of ss) q) × HoldsNoZero q
 
 abbrev pub AreGoodNames : List Statement → List (List ℕ) → Type 0
 AreGoodNames ss names = AllByRecursion (IsGoodName ss) names
@@ -132,97 +133,59 @@ label_ends count sizes (Some k) offset size f a e =
     let p = f k refl in
     subst (λ (z : ℕ × ℕ). (z.0 < count) × ((z.1 + 0) % 2 ^ 32 ≤ sizes z.0)) x (p.0, start_small offset size (sizes k) p.1)
 
--- a line that has a label, or imports a name
-pub record NamedLine (q : List ℕ) (lines : List LaidLine) : Type 0 where
-  pub later : List LaidLine
-  pub earlier : List LaidLine
-  pub owner : LaidLine
-  pub parts : lines ≡ later ++ owner ∷ earlier
-  pub says : (defined_by owner.statement ≡ Label q) ⊎ (imported_in owner.statement.what ≡ Some q)
+-- a name that may have a symbol ends in its area
+abbrev pub Ends : List Statement → LaidName → Type 0
+Ends ss n = is_symbol n.meaning ≡ true → EndsBelow (length (areas_behind ss)) (sizes_of ss) 0 (in_area n.area n.offset)
 
-pub alone_same : (q n : List ℕ) → (same q n || false) ≡ true → q ≡ n
-alone_same q n h = by_test (same q n) refl h
+equal_ends : (ss : List Statement) (names : List LaidName) (area : Option ℕ) (name : List ℕ) (r : Result Value LineKind)
+    → Ends ss (equal_entry names area name r)
+equal_ends ss names area name (Ok (Place [] n)) k = absurd (cc)
+equal_ends ss names area name r k = absurd (cc)
+
+pub name_ends : (ss : List Statement) → IsSound ss → (q : List ℕ) (n : LaidName) → named_in q (final_names (laid ss)) ≡ Some n → Ends ss n
+name_ends ss sound = final_each ss (Ends ss) (record {
+  label = λ l at name x thumb is. label_ends (length (areas_behind ss)) (sizes_of ss) l.area l.offset l.size (line_ends l at);
+  equal = λ l at name e x names r. equal_ends ss names l.area name r;
+  field = λ l at name x m is. absurd (cc);
+  register = λ l at name r x is. absurd (cc);
+  imported = λ l at name x is a e. absurd (no_area 0 a e);
+})
   where
-    by_test : (b : Bool) → same q n ≡ b → (b || false) ≡ true → q ≡ n
-    by_test true e k = same_true q n e
-    by_test false e k = absurd (cc)
+    line_ends : (l : LaidLine) → At (source_of ss) l → (k : ℕ) → l.area ≡ Some k → (k < length (areas_behind ss)) × (l.offset + l.size ≤ sizes_of ss k)
+    line_ends l at k own =
+        (line_below ss at.rest at.before l at.parts k own, statements_lie_in_areas ss sound k at.rest at.before l at.parts own)
 
-pub label_says : (q : List ℕ) (x : Defined) → IsListed (label_of x) q → x ≡ Label q
-label_says q Unnamed h = absurd (cc)
-label_says q (Label name) h = by_test (is_hidden name) h
-  where
-    by_test : (b : Bool) → IsListed (cond b [] (name ∷ [])) q → Label name ≡ Label q
-    by_test true k = absurd (cc)
-    by_test false k = ap Label (sym (alone_same q name k))
-label_says q (Equal name e) h = absurd (cc)
-label_says q (MapField name) h = absurd (cc)
-label_says q (RegisterName name r) h = absurd (cc)
+pub own_name_good : (ss : List Statement) → AreFaultless ss → (q : List ℕ) (own : IsOwn (final_names (laid ss)) q)
+    → EndsBelow (length (areas_behind ss)) (sizes_of ss) 0 (in_area own.0.area own.0.offset) → IsGoodName ss q
+own_name_good ss h q own ends = (
+  own_good (length (areas_behind ss)) (sizes_of ss) (source_of ss) q own ends,
+  subst HoldsNoZero (named_name q (final_names (laid ss)) own.0 own.1) (name_text ss h.texts q own.0 own.1),
+)
 
-pub import_says : (q : List ℕ) (o : Option (List ℕ)) → IsListed (listed o) q → o ≡ Some q
-import_says q None h = absurd (cc)
-import_says q (Some name) h = ap Some (sym (alone_same q name h))
-
-pub any_split : (q : List ℕ) (xs ys : List (List ℕ)) → IsListed (xs ++ ys) q → IsListed xs q ⊎ IsListed ys q
-any_split q [] ys h = inr h
-any_split q (x ∷ xs) ys h = by_test (same q x) (any_split q xs ys) h
-  where
-    by_test : (b : Bool) → (IsListed (xs ++ ys) q → IsListed xs q ⊎ IsListed ys q) → (b || list_any (same q) (xs ++ ys)) ≡ true
-        → ((b || list_any (same q) xs) ≡ true) ⊎ IsListed ys q
-    by_test true f k = inl refl
-    by_test false f k = f k
-
-pub named_later : (q : List ℕ) (l : LaidLine) (ls : List LaidLine) → NamedLine q ls → NamedLine q (l ∷ ls)
-named_later q l ls n =
-    record { later = l ∷ n.later; earlier = n.earlier; owner = n.owner; parts = ap (λ z. l ∷ z) n.parts; says = n.says }
-
-pub named_line : (d : List LaidName) (ss : List Statement) (q : List ℕ) → IsListed (symbol_names ss) q → NamedLine q (laid_of d ss)
-named_line d [] q h = absurd (cc)
-named_line d (s ∷ ss) q h =
-    by_part (any_split q (symbol_names ss ++ label_of (defined_by s)) (listed (imported_in s.what)) h) (named_line d ss q)
-  where
-    here : (defined_by s ≡ Label q) ⊎ (imported_in s.what ≡ Some q) → NamedLine q (laid_of d (s ∷ ss))
-    here x = record { later = []; earlier = laid_of d ss; owner = laid_behind d s (laid_of d ss); parts = refl; says = x }
-
-    by_front : IsListed (symbol_names ss) q ⊎ IsListed (label_of (defined_by s)) q → (IsListed (symbol_names ss) q → NamedLine q (laid_of d ss))
-        → NamedLine q (laid_of d (s ∷ ss))
-    by_front (inl k) f = named_later q (laid_behind d s (laid_of d ss)) (laid_of d ss) (f k)
-    by_front (inr k) f = here (inl (label_says q (defined_by s) k))
-
-    by_part : IsListed (symbol_names ss ++ label_of (defined_by s)) q ⊎ IsListed (listed (imported_in s.what)) q
-        → (IsListed (symbol_names ss) q → NamedLine q (laid_of d ss)) → NamedLine q (laid_of d (s ∷ ss))
-    by_part (inl k) f = by_front (any_split q (symbol_names ss) (label_of (defined_by s)) k) f
-    by_part (inr k) f = here (inr (import_says q (imported_in s.what) k))
+pub symbol_own : (name : List ℕ) (m : Meaning) → is_symbol m ≡ true → meant name m ≡ Ok (Place name 0)
+symbol_own name means.Label h = refl
+symbol_own name means.Imported h = refl
+symbol_own name m h = absurd (cc)
 
 -- labels and imports are good names
-pub label_good : (ss : List Statement) → AreFaultless ss → (after before : List LaidLine) (l : LaidLine) → laid ss ≡ after ++ l ∷ before
-    → (q : List ℕ) → defined_by l.statement ≡ Label q → IsGoodName ss q
-label_good ss h after before l e q x = (
-  own_good (length (areas_behind ss)) (sizes_of ss) (source_of ss) q
-      (label_entry q l.area l.offset l.size (is_thumb_label l.statement (statements_of before)))
-      (labels_stand ss (layout_sound ss h.layout) (said_plain ss h.said) after before l e q x) refl
-      (label_ends (length (areas_behind ss)) (sizes_of ss) l.area l.offset l.size
-      (λ k own. (line_below ss after before l e k own, statements_lie_in_areas ss (layout_sound ss h.layout) k after before l e own))),
-  subst DefinedText x (defined_text l.statement (each_there HasTexts ss h.texts after before l e)),
-)
+pub symbol_good : (ss : List Statement) → AreFaultless ss → (q : List ℕ) (hidden : Bool)
+    → (is_symbol_entry (named_in q (final_names (laid ss))) && hidden) ≡ true → IsGoodName ss q
+symbol_good ss h q hidden k = by_entry (named_in q (final_names (laid ss))) refl k
+  where
+    by_entry : (o : Option LaidName) → named_in q (final_names (laid ss)) ≡ o → (is_symbol_entry o && hidden) ≡ true → IsGoodName ss q
+    by_entry None e k = absurd (cc)
+    by_entry (Some n) e k =
+        let is = (and_parts (is_symbol n.meaning) hidden k).0 in
+        own_name_good ss h q
+        (n, e, symbol_own n.name n.meaning is ∙ ap (λ z. Ok (Place z 0)) (named_name q (final_names (laid ss)) n e))
+        (name_ends ss (layout_sound ss h.layout) q n e is)
 
 pub import_good : (ss : List Statement) → AreFaultless ss → (after before : List LaidLine) (l : LaidLine) → laid ss ≡ after ++ l ∷ before
     → (q : List ℕ) → imported_in l.statement.what ≡ Some q → IsGoodName ss q
-import_good ss h after before l e q x = (
-  own_good (length (areas_behind ss)) (sizes_of ss) (source_of ss) q (imported_entry q)
-      (imports_stand ss (layout_sound ss h.layout) (said_plain ss h.said) after before l e q x) refl
-      (λ a y. absurd (no_area 0 a y)),
-  subst OptionText x (import_text l.statement.what (names_text l.statement (each_there HasTexts ss h.texts after before l e))),
-)
-
-pub symbol_good : (ss : List Statement) → AreFaultless ss → (q : List ℕ) → IsListed (symbol_names ss) q → IsGoodName ss q
-symbol_good ss h q k = by_line (named_line (declared_names ss) ss q k)
-  where
-    by_line : NamedLine q (laid ss) → IsGoodName ss q
-    by_line n =
-        elim n.says [
-          | inl x ↦ label_good ss h n.later n.earlier n.owner n.parts q x
-          | inr x ↦ import_good ss h n.later n.earlier n.owner n.parts q x
-        ]
+import_good ss h after before l e q x =
+    own_name_good ss h q
+    (imported_entry q, imports_stand ss (layout_sound ss h.layout) (said_plain ss h.said) after before l e q x, refl)
+    (λ a y. absurd (no_area 0 a y))
 
 -- ---- words
 
@@ -230,13 +193,7 @@ symbol_good ss h q k = by_line (named_line (declared_names ss) ss q k)
 pub loose_good : (ss : List Statement) → AreFaultless ss → (q : List ℕ) → IsOwn (final_names (laid ss)) q → (o : Option (ℕ × ℕ))
     → ((n : LaidName) → named_in q (final_names (laid ss)) ≡ Some n → o ≡ in_area n.area n.offset) → AreGoodNames ss (unless_placed q o)
 loose_good ss h q own (Some a) f = tt
-loose_good ss h q own None f = (
-  (
-    own_good (length (areas_behind ss)) (sizes_of ss) (source_of ss) q own.0 own.1 own.2 (λ a y. let z = f own.0 own.1 in absurd (cc)),
-    subst HoldsNoZero (named_name q (final_names (laid ss)) own.0 own.1) (name_shown ss h.texts q own.0 own.1).0,
-  ),
-  tt,
-)
+loose_good ss h q own None f = (own_name_good ss h q own (λ a y. let z = f own.0 own.1 in absurd (cc)), tt)
 
 pub word_good : (ss : List Statement) → AreFaultless ss → (before : List LaidLine) (l : LaidLine) (r : Result Value LineKind) → ResultIs (IsOwn (final_names (laid ss))) r
     → AreGoodNames ss (word_symbols (sees (context_behind ss l before)) r)
@@ -274,10 +231,11 @@ pub allowed_only : {A : Type 0} → (b : Bool) (x y : A) (k : LineKind) → cond
 allowed_only true x y k e = refl
 allowed_only false x y k e = absurd (cc)
 
-pub linked_good : (ss : List Statement) → AreFaultless ss → (q : List ℕ) (b : Bool) → (b || list_any (same q) (symbol_names ss)) ≡ true
-    → AreGoodNames ss (cond b [] (q ∷ []))
-linked_good ss h q true k = tt
-linked_good ss h q false k = (symbol_good ss h q k, tt)
+pub linked_good : (ss : List Statement) → AreFaultless ss → (c : Context) → c.names ≡ final_names (laid ss) → (q : List ℕ) (b : Bool)
+    → (b || may_have_symbol c q) ≡ true → AreGoodNames ss (cond b [] (q ∷ []))
+linked_good ss h c names q true k = tt
+linked_good ss h c names q false k =
+    (symbol_good ss h q (not (is_hidden q)) (subst (λ z. (is_symbol_entry (named_in q z) && not (is_hidden q)) ≡ true) names k), tt)
 
 -- the symbol of a branch that isn't settled is one of the source
 abbrev pub HasSymbol : Context → Result Value LineKind → Type 0
@@ -286,7 +244,7 @@ HasSymbol c r = Unit {0}
 
 pub branch_good : (ss : List Statement) → AreFaultless ss → (before : List LaidLine) (l : LaidLine) (r : Result Value LineKind)
     → HasSymbol (context_behind ss l before) r → AreGoodNames ss (branch_symbols (sees (context_behind ss l before)) r)
-branch_good ss h before l (Ok (Place (x ∷ xs) n)) has = linked_good ss h (x ∷ xs) (is_settled (context_behind ss l before) (x ∷ xs)) has
+branch_good ss h before l (Ok (Place (x ∷ xs) n)) has = linked_good ss h (context_behind ss l before) refl (x ∷ xs) (is_settled (context_behind ss l before) (x ∷ xs)) has
 branch_good ss h before l (Ok (Place [] n)) has = tt
 branch_good ss h before l (Ok (Number n)) has = tt
 branch_good ss h before l (Ok (Truth b)) has = tt
@@ -328,14 +286,10 @@ within_ends count sizes (Some b) n f h a e =
     let x : b ≡ a = cc in
     subst (λ (z : ℕ × ℕ). (z.0 < count) × ((z.1 + n) % 2 ^ 32 ≤ sizes z.0)) x (f b refl, leb-true ((b.1 + n) % 2 ^ 32) (sizes b.0) h)
 
-pub area_is_below : (count : ℕ) (area : Option ℕ) (offset : ℕ) (a : ℕ × ℕ) → ((k : ℕ) → area ≡ Some k → k < count) → in_area area offset ≡ Some a → a.0 < count
-area_is_below count None offset a f e = absurd (cc)
-area_is_below count (Some k) offset a f e = let x : (k, offset) ≡ a = cc in subst (λ (z : ℕ × ℕ). z.0 < count) x (f k refl)
-
 -- a place that a name stands for
 pub export_place_good : (ss : List Statement) → AreFaultless ss → (c : Context) → c.names ≡ final_names (laid ss) → (name q : List ℕ) (n : ℕ)
     → lies_within (sizes_of ss) (stands_at (sees c) q) n ≡ true
-    → IsGood (length (areas_behind ss)) (sizes_of ss) (symbol_valued (source_of ss) name (Place q n))
+    → IsGood (length (areas_behind ss)) (sizes_of ss) (symbol_valued (source_of ss) name (Ok (Place q n)))
 export_place_good ss h c names name [] n within =
     placed_good (length (areas_behind ss)) (sizes_of ss) (source_of ss) name [] n None (λ a x. absurd (cc))
 export_place_good ss h c names name (x ∷ xs) n within = by_entry (named_in (x ∷ xs) N) refl
@@ -352,7 +306,7 @@ export_place_good ss h c names name (x ∷ xs) n within = by_entry (named_in (x 
     here : (f : LaidName) → named_in (x ∷ xs) N ≡ Some f → stands_at (sees c) (x ∷ xs) ≡ in_area f.area f.offset
     here f e = ap entry_stands_at (ap (named_in (x ∷ xs)) names ∙ e)
 
-    by_entry : (o : Option LaidName) → named_in (x ∷ xs) N ≡ o → IsGood count (sizes_of ss) (symbol_valued s name (Place (x ∷ xs) n))
+    by_entry : (o : Option LaidName) → named_in (x ∷ xs) N ≡ o → IsGood count (sizes_of ss) (symbol_valued s name (Ok (Place (x ∷ xs) n)))
     by_entry None e =
         subst (λ z. IsGood count (sizes_of ss) (symbol_placed s name (x ∷ xs) n z)) (sym (ap entry_stands_at e))
         (placed_good count (sizes_of ss) s name (x ∷ xs) n None (λ a y. absurd (cc)))
@@ -360,22 +314,27 @@ export_place_good ss h c names name (x ∷ xs) n within = by_entry (named_in (x 
         subst (λ z. IsGood count (sizes_of ss) (symbol_placed s name (x ∷ xs) n z)) (sym (ap entry_stands_at e))
         (placed_good count (sizes_of ss) s name (x ∷ xs) n (in_area f.area f.offset)
         (within_ends count (sizes_of ss) (in_area f.area f.offset) n
-        (λ a. area_is_below count f.area f.offset a (name_shown ss h.texts (x ∷ xs) f e).1)
+        (λ a. area_stands count f.area f.offset a.0 a.1 (name_below ss (x ∷ xs) f e))
         (subst (λ z. lies_within (sizes_of ss) z n ≡ true) (here f e) within)))
 
-pub export_value_good : (ss : List Statement) → AreFaultless ss → (c : Context) → c.names ≡ final_names (laid ss) → (name : List ℕ) (f : LaidName) (v : Value)
-    → export_kinds c (sizes_of ss) name (Some (record f { value = v })) ≡ []
-    → IsGood (length (areas_behind ss)) (sizes_of ss) (symbol_valued (source_of ss) name v)
-export_value_good ss h c names name f (Number n) e = absolute_good (length (areas_behind ss)) (sizes_of ss) (source_of ss) name n
-export_value_good ss h c names name f (Truth b) e = absurd (cc)
-export_value_good ss h c names name f (Words w) e = absurd (cc)
-export_value_good ss h c names name f (Place q n) e =
+pub export_value_good : (ss : List Statement) → AreFaultless ss → (c : Context) → c.names ≡ final_names (laid ss) → (name : List ℕ) (r : Result Value LineKind)
+    → exported_kinds c (sizes_of ss) r ≡ []
+    → IsGood (length (areas_behind ss)) (sizes_of ss) (symbol_valued (source_of ss) name r)
+export_value_good ss h c names name (Ok (Number n)) e = absolute_good (length (areas_behind ss)) (sizes_of ss) (source_of ss) name n
+export_value_good ss h c names name (Ok (Place q n)) e =
     export_place_good ss h c names name q n (unless_none (lies_within (sizes_of ss) (stands_at (sees c) q) n) WrongType e)
+export_value_good ss h c names name r e = absurd (cc)
 
-pub export_good : (ss : List Statement) → AreFaultless ss → (c : Context) → c.names ≡ final_names (laid ss) → (name : List ℕ) (o : Option LaidName)
-    → export_kinds c (sizes_of ss) name o ≡ [] → IsGood (length (areas_behind ss)) (sizes_of ss) (symbol_named (source_of ss) name o)
-export_good ss h c names name None e = absurd (cc)
-export_good ss h c names name (Some f) e = export_value_good ss h c names name f f.value e
+pub export_good : (ss : List Statement) → AreFaultless ss → (c : Context) → c.names ≡ final_names (laid ss) → (name : List ℕ)
+    → export_kinds c (sizes_of ss) (named_in name c.names) ≡ [] → IsGood (length (areas_behind ss)) (sizes_of ss) (symbol_named (source_of ss) name)
+export_good ss h c names name e =
+    subst (λ z. IsGood (length (areas_behind ss)) (sizes_of ss) (symbol_valued (source_of ss) name (value_of_name (named_in name z)))) names
+    (by_entry (named_in name c.names) e)
+  where
+    by_entry : (o : Option LaidName) → export_kinds c (sizes_of ss) o ≡ []
+        → IsGood (length (areas_behind ss)) (sizes_of ss) (symbol_valued (source_of ss) name (value_of_name o))
+    by_entry None k = absurd (cc)
+    by_entry (Some n) k = export_value_good ss h c names name (entry_value n) k
 
 -- ---- the symbols of a line
 
@@ -418,9 +377,9 @@ line_good ss h before l word t (what.Arm a) k = arm_good ss h before l a k.emitt
 line_good ss h before l word t (what.Thumb a) k = thumb_good ss h before l a k.emitted k.emits t
 line_good ss h before l word t (what.Pseudo p) k = literals_good ss h before l t
 line_good ss h before l word t (what.Directive (line.Export name)) k =
-    ((export_good ss h (context_behind ss l before) refl name (named_in name (final_names (laid ss))) k.kinds, k.texts.0), tt)
+    ((export_good ss h (context_behind ss l before) refl name k.kinds, k.texts.0), tt)
 line_good ss h before l word t (what.Directive (line.Keep name)) k =
-    ((export_good ss h (context_behind ss l before) refl name (named_in name (final_names (laid ss))) k.kinds, k.texts.0), tt)
+    ((export_good ss h (context_behind ss l before) refl name k.kinds, k.texts.0), tt)
 line_good ss h before l word t (what.Directive (line.Import name weak)) k = (k.imports name refl, tt)
 line_good ss h before l word t (what.Directive (line.Dcd es)) k = words_good ss h before l es k.fits
 line_good ss h before l word t (what.Directive (line.Dcdu es)) k = words_good ss h before l es k.fits
@@ -477,25 +436,17 @@ pub placed_name : (s : Source) (name label : List ℕ) (n : ℕ) (o : Option (�
 placed_name s name label n None = refl
 placed_name s name label n (Some a) = refl
 
-pub valued_name : (s : Source) (name : List ℕ) (v : Value) → (symbol_valued s name v).name ≡ name
-valued_name s name (Number n) = refl
-valued_name s name (Place q n) = placed_name s name q n (stands_at (sees (in_no_line s)) q)
-valued_name s name (Truth b) = refl
-valued_name s name (Words w) = refl
+pub symbol_name : (s : Source) (name : List ℕ) (r : Result Value LineKind) → (symbol_valued s name r).name ≡ name
+symbol_name s name (Ok (Number n)) = refl
+symbol_name s name (Ok (Place q n)) = placed_name s name q n (stands_at (sees (in_no_line s)) q)
+symbol_name s name r = refl
 
-pub symbol_name : (s : Source) (name : List ℕ) (o : Option LaidName) → (symbol_named s name o).name ≡ name
-symbol_name s name None = refl
-symbol_name s name (Some n) = valued_name s name n.value
-
-abbrev pub made : Source → List ℕ → Symbol
-made s name = symbol_named s name (named_in name s.names)
-
-pub exported_lacks : (s : Source) (q : List ℕ) (names : List (List ℕ)) → Lacks names q → Lacks (exported (map (made s) names)) q
+pub exported_lacks : (s : Source) (q : List ℕ) (names : List (List ℕ)) → Lacks names q → Lacks (exported (map (symbol_named s) names)) q
 exported_lacks s q [] h = tt
-exported_lacks s q (n ∷ ns) h = by_test (is_exported (made s n).attributes) (exported_lacks s q ns h.1)
+exported_lacks s q (n ∷ ns) h = by_test (is_exported (symbol_named s n).attributes) (exported_lacks s q ns h.1)
   where
-    by_test : (b : Bool) → Lacks (exported (map (made s) ns)) q → Lacks (cond b ((made s n).name ∷ exported (map (made s) ns)) (exported (map (made s) ns))) q
-    by_test true k = (subst (λ z. z ≢ q) (sym (symbol_name s n (named_in n s.names))) h.0, k)
+    by_test : (b : Bool) → Lacks (exported (map (symbol_named s) ns)) q → Lacks (cond b ((symbol_named s n).name ∷ exported (map (symbol_named s) ns)) (exported (map (symbol_named s) ns))) q
+    by_test true k = (subst (λ z. z ≢ q) (sym (symbol_name s n (value_of_name (named_in n s.names)))) h.0, k)
     by_test false k = k
 
 pub map_end : {A B : Type 0} → (f : A → B) (xs : List A) (x : A) → map f (xs ++ x ∷ []) ≡ map f xs ++ f x ∷ []
@@ -525,30 +476,30 @@ lives areas sizes f attributes value (Some k) h =
     (λ p. subst (λ z. value ≤ z) (sym (f k a.0 a.1)) h.1)
 
 pub records_stand : (s : Source) (areas : List Area) (sizes : ℕ → ℕ) → HaveSizes areas sizes → (before names : List (List ℕ)) → AreApart before names
-    → AllByRecursion (λ q. IsGood (length areas) sizes (made s q)) names
-    → EachStands (λ b t. IsSymbol (exported b) (heads areas) t) (map (made s) before) (map (made s) names)
+    → AllByRecursion (λ q. IsGood (length areas) sizes (symbol_named s q)) names
+    → EachStands (λ b t. IsSymbol (exported b) (heads areas) t) (map (symbol_named s) before) (map (symbol_named s) names)
 records_stand s areas sizes f before [] h k = tt
 records_stand s areas sizes f before (q ∷ names) h k = (
   record {
-    fresh = λ e. subst (Lacks (exported (map (made s) before))) (sym (symbol_name s q (named_in q s.names))) (exported_lacks s q before h.0);
+    fresh = λ e. subst (Lacks (exported (map (symbol_named s) before))) (sym (symbol_name s q (value_of_name (named_in q s.names)))) (exported_lacks s q before h.0);
     permitted = k.0.allowed.permitted;
     scope = k.0.allowed.scope;
-    lives = lives areas sizes f (made s q).attributes (made s q).value (made s q).area k.0.lives;
+    lives = lives areas sizes f (symbol_named s q).attributes (symbol_named s q).value (symbol_named s q).area k.0.lives;
   },
-  subst (λ z. EachStands (λ b t. IsSymbol (exported b) (heads areas) t) z (map (made s) names)) (map_end (made s) before q)
+  subst (λ z. EachStands (λ b t. IsSymbol (exported b) (heads areas) t) z (map (symbol_named s) names)) (map_end (symbol_named s) before q)
       (records_stand s areas sizes f (before ++ q ∷ []) names h.1 k.1),
 )
 
-pub records_text : (s : Source) (names : List (List ℕ)) → AllByRecursion HoldsNoZero names → AllByRecursion (λ t. IsText t.name) (map (made s) names)
+pub records_text : (s : Source) (names : List (List ℕ)) → AllByRecursion HoldsNoZero names → AllByRecursion (λ t. IsText t.name) (map (symbol_named s) names)
 records_text s [] h = tt
-records_text s (q ∷ names) h = (subst HoldsNoZero (sym (symbol_name s q (named_in q s.names))) h.0, records_text s names h.1)
+records_text s (q ∷ names) h = (subst HoldsNoZero (sym (symbol_name s q (value_of_name (named_in q s.names)))) h.0, records_text s names h.1)
 
 pub each_good : (ss : List Statement) (count : ℕ) → length (areas_behind ss) ≡ count → (names : List (List ℕ)) → AreGoodNames ss names
-    → AllByRecursion (λ q. IsGood count (sizes_of ss) (made (source_of ss) q)) names × AllByRecursion HoldsNoZero names
+    → AllByRecursion (λ q. IsGood count (sizes_of ss) (symbol_named (source_of ss) q)) names × AllByRecursion HoldsNoZero names
 each_good ss count e [] h = (tt, tt)
 each_good ss count e (q ∷ names) h =
     let p = each_good ss count e names h.1 in
-    ((subst (λ z. IsGood z (sizes_of ss) (made (source_of ss) q)) e h.0.0, p.0), (h.0.1, p.1))
+    ((subst (λ z. IsGood z (sizes_of ss) (symbol_named (source_of ss) q)) e h.0.0, p.0), (h.0.1, p.1))
 
 pub symbols_are_valid : (ss : List Statement) (o : Object) → AreFaultless ss → IsObject ss o
     → EachStands (λ before s. IsSymbol (exported before) (heads o.areas) s) [] o.symbols × AllByRecursion (λ s. IsText s.name) o.symbols

@@ -18,7 +18,8 @@ use Rattle.asm_model.specs.declared.thumb_lines.ThumbLine.{ThumbLine}
 use Rattle.asm_model.specs.declared.thumb_lines.ThumbLine.TheVariants as thumb
 use Rattle.asm_model.specs.declared.values.Value.{Value}
 use Rattle.asm_model.specs.declared.values.Value.TheVariants.{Number, Truth, Words, Place}
-use Rattle.asm_model.specs.AtLine.{SourceLine, Sight}
+use Rattle.asm_model.specs.declared.names.Names.{Names}
+use Rattle.asm_model.specs.AtLine.{SourceLine}
 use Rattle.asm_model.specs.Forms.{same}
 use Rattle.asm_model.specs.Meaning.{stands_at, in_area}
 use Rattle.asm_model.specs.Says.{on_both, mapped}
@@ -185,7 +186,7 @@ pub halves_listed : (ns : List (List ℕ)) (c : Context) (es : List Expr) → Re
 halves_listed ns c [] = tt
 halves_listed ns c (e ∷ es) = bytes_joined ns (and_then (number_in c e) (narrow 2)) (half_units c es) (halves_listed ns c es)
 
-pub bytes_listed : (ns : List (List ℕ)) (c : Context) (s : Sight) (es : List Expr) → ResultListed ns (byte_units c s es)
+pub bytes_listed : (ns : List (List ℕ)) (c : Context) (s : Names) (es : List Expr) → ResultListed ns (byte_units c s es)
 bytes_listed ns c s [] = tt
 bytes_listed ns c s (e ∷ es) = bytes_joined ns (byte_operand (value_there s e) (value_of c e)) (byte_units c s es) (bytes_listed ns c s es)
 
@@ -231,7 +232,7 @@ pseudo_listed ns false c word l = mapped_listed ns instruction_units (pseudo_ins
 
 -- ---- lines
 
-pub line_listed : (c : Context) (d : List (List ℕ)) (s : Sight) (word : Option ℕ) (e : Extent) (w : What) → InArea c
+pub line_listed : (c : Context) (d : List (List ℕ)) (s : Names) (word : Option ℕ) (e : Extent) (w : What) → InArea c
     → ResultListed (symbols_in c.names c.line e w) (units c d s word w)
 line_listed c d s word e what.Nothing here = tt
 line_listed c d s word e (what.Arm l) here =

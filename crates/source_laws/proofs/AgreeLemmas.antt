@@ -8,7 +8,7 @@ use Rattle.asm_model.specs.declared.values.Value.TheVariants.{Number, Truth, Wor
 use Rattle.asm_model.specs.declared.names.LaidName.{LaidName}
 use Rattle.asm_model.specs.declared.names.Names.{Names}
 use Rattle.asm_model.specs.declared.statements.Statement.{Statement}
-use Rattle.asm_model.specs.Meaning.{named_in, entry_stands_at, in_area, binary, value_of, on_both}
+use Rattle.asm_model.specs.Meaning.{named_in, entry_stands_at, in_area, binary, entry_value, value_of, on_both}
 use Rattle.asm_model.specs.Labels.{declared_names}
 use Rattle.asm_model.specs.Laid.{LaidLine, laid, final_names}
 use Rattle.asm_model.specs.Marks.{datum_names}
@@ -27,13 +27,14 @@ with_number names o n = on_both (value_of o) (Ok (Number n)) (binary names Add)
 
 pub sum_same : (a b : Names) (o : Option LaidName) (n : ℕ) → with_number a o n ≡ with_number b o n
 sum_same a b None n = refl
-sum_same a b (Some e) n = by_value e.value
+sum_same a b (Some e) n = by_value (entry_value e)
   where
-    by_value : (v : Value) → binary a Add v (Number n) ≡ binary b Add v (Number n)
-    by_value (Number m) = refl
-    by_value (Truth c) = refl
-    by_value (Words w) = refl
-    by_value (Place s p) = refl
+    by_value : (r : Result Value LineKind) → on_both r (Ok (Number n)) (binary a Add) ≡ on_both r (Ok (Number n)) (binary b Add)
+    by_value (Ok (Number m)) = refl
+    by_value (Ok (Truth c)) = refl
+    by_value (Ok (Words w)) = refl
+    by_value (Ok (Place s p)) = refl
+    by_value (Err k) = refl
 
 -- all names of a source, in an area
 abbrev pub context_in : List Statement → ℕ → Context
@@ -41,8 +42,6 @@ context_in ss area = record {
   names = final_names (laid ss);
   line = record { area = Some area; offset = 0; map = 0; thumb = false; definition = Nameless };
   registers = [];
-  symbols = [];
-  defined = [];
 }
 
 abbrev pub or_empty : Result Stored LineKind → Stored

@@ -2,13 +2,12 @@
 use Rattle.std.proofs.Common.{◌≡◌, ℕ, ◌+◌, ◌≤◌, List, [], ◌∷◌, ◌++◌, length, refl, sym, subst, None, ◌⊎◌}
 use Rattle.asm_model.specs.declared.statements.Statement.{Statement}
 use Rattle.asm_model.specs.Kinds.{told_kind}
-use Rattle.asm_model.proofs.LineLemmas.{both_empty}
 use Rattle.asm_model.specs.Before.{thumb_behind}
 use Rattle.asm_model.specs.Laid.{LaidLine, pieces_of, reversed, laid_behind, laid_of, laid}
 use Rattle.asm_model.specs.LayoutKinds.{equals_in, settled, layout_kinds, told_at, first_fault, first_late}
 use Rattle.asm_model.specs.Offsets.{area_size}
 use Rattle.asm_model.specs.Sound.{IsSound}
-use Rattle.layout_laws.proofs.SoundLemmas.{or_none, told_none, statements_kept}
+use Rattle.layout_laws.proofs.SoundLemmas.{both_empty, or_none, told_none, statements_kept}
 use Rattle.source_model.specs.Objects.{Piece, unit_bytes, source_of, StandsIn}
 use Rattle.source_model.specs.Registers.{register_names, register_kinds}
 use Rattle.source_model.specs.SourceFaults.{first_laid, layout_faults}
@@ -20,19 +19,19 @@ use Rattle.asm_model.specs.declared.names.LaidName.{LaidName}
 
 -- ---- layouts without faults
 
-pub sound_lines : (names fixed : List (List ℕ)) (ls : List LaidLine) → first_laid names fixed ls ≡ None → first_fault fixed ls ≡ None
-sound_lines names fixed [] e = refl
-sound_lines names fixed (l ∷ before) e =
-    let all = layout_kinds fixed l before ++ register_kinds names l before in
-    let p = or_none (first_laid names fixed before) (told_at l.statement (told_kind all)) e in
-    let q = both_empty (layout_kinds fixed l before) (register_kinds names l before) (told_none l.statement all p.1) in
-    rw (sound_lines names fixed before p.0, q.0) refl
+pub sound_lines : (names fixed : List (List ℕ)) (all : List Statement) (ls : List LaidLine) → first_laid names fixed all ls ≡ None → first_fault fixed all ls ≡ None
+sound_lines names fixed all [] e = refl
+sound_lines names fixed all (l ∷ before) e =
+    let kinds = layout_kinds fixed all l before ++ register_kinds names l before in
+    let p = or_none (first_laid names fixed all before) (told_at l.statement (told_kind kinds)) e in
+    let q = both_empty (layout_kinds fixed all l before) (register_kinds names l before) (told_none l.statement kinds p.1) in
+    rw (sound_lines names fixed all before p.0, q.0) refl
 
 pub layout_sound : (ss : List Statement) → layout_faults ss ≡ None → IsSound ss
 layout_sound ss h =
     let fixed = settled (equals_in ss) in
-    sound_lines (register_names ss) fixed (laid ss)
-    (or_none (first_laid (register_names ss) fixed (laid ss)) (first_late (laid ss) [] (reversed (laid ss) [])) h).0
+    sound_lines (register_names ss) fixed ss (laid ss)
+    (or_none (first_laid (register_names ss) fixed ss (laid ss)) (first_late (laid ss) [] (reversed (laid ss) [])) h).0
 
 -- ---- states
 

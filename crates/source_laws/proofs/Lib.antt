@@ -4,6 +4,7 @@ pub mod FaultlessLemmas
 pub mod LineLemmas
 pub mod ListLemmas
 pub mod ListedLemmas
+pub mod NameLemmas
 pub mod ObjectLemmas
 pub mod PoolLemmas
 pub mod SizeLemmas

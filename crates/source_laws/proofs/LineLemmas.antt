@@ -8,7 +8,7 @@ use Rattle.asm_model.specs.Kinds.{told_kind}
 use Rattle.asm_model.specs.Extents.{Extent}
 use Rattle.asm_model.specs.Laid.{LaidLine, statements_of, taken, pieces_of, laid_behind, laid_of, laid}
 use Rattle.asm_model.specs.Labels.{defined_by, declared_names}
-use Rattle.asm_model.specs.LayoutKinds.{fault_kinds, kind_if, map_kinds, no_area_kinds, contents_kinds, contents_behind, area_kinds, name_kinds, settled_kinds, equals_in, settled, layout_kinds, told_at, first_fault, area_bytes}
+use Rattle.asm_model.specs.LayoutKinds.{fault_kinds, kind_if, map_kinds, no_area_kinds, contents_kinds, contents_behind, area_kinds, name_kinds, settled_kinds, first_equal, state_kinds, equals_in, settled, layout_kinds, told_at, first_fault, area_bytes}
 use Rattle.asm_model.specs.Offsets.{Piece, lacking, waiting, alignment_of, end_behind, start_in, size_of, offset_of, size_behind, end_from, area_size}
 use Rattle.asm_model.proofs.LaidLemmas.{lines_stand_at_offsets}
 use Rattle.asm_model.proofs.OffsetLemmas.{more, through, end_here, end_rises, all_rise, up_to_size}
@@ -32,24 +32,25 @@ is_laid d (s ∷ ss) [] before l e = (
 )
 is_laid d (s ∷ ss) (x ∷ after) before l e = is_laid d ss after before l (same_rest (laid_behind d s (laid_of d ss)) x (laid_of d ss) (after ++ l ∷ before) e)
 
-pub line_fine : (S : List (List ℕ)) (after before : List LaidLine) (l : LaidLine) → first_fault S (after ++ l ∷ before) ≡ None → layout_kinds S l before ≡ []
-line_fine S [] before l h =
-    told_none l.statement (layout_kinds S l before) (or_none (first_fault S before) (told_at l.statement (told_kind (layout_kinds S l before))) h).1
-line_fine S (x ∷ after) before l h =
-    line_fine S after before l
-    (or_none (first_fault S (after ++ l ∷ before)) (told_at x.statement (told_kind (layout_kinds S x (after ++ l ∷ before)))) h).0
+pub line_fine : (S : List (List ℕ)) (all : List Statement) (after before : List LaidLine) (l : LaidLine) → first_fault S all (after ++ l ∷ before) ≡ None
+    → layout_kinds S all l before ≡ []
+line_fine S all [] before l h =
+    told_none l.statement (layout_kinds S all l before) (or_none (first_fault S all before) (told_at l.statement (told_kind (layout_kinds S all l before))) h).1
+line_fine S all (x ∷ after) before l h =
+    line_fine S all after before l
+    (or_none (first_fault S all (after ++ l ∷ before)) (told_at x.statement (told_kind (layout_kinds S all x (after ++ l ∷ before)))) h).0
 
-pub extent_known : (r : Result Extent LineKind) (b c d e f g h : List LineKind) → fault_kinds r ++ b ++ c ++ d ++ e ++ f ++ g ++ h ≡ []
+pub extent_known : (r : Result Extent LineKind) (b c d e f g h i : List LineKind) → fault_kinds r ++ b ++ c ++ d ++ e ++ f ++ g ++ h ++ i ≡ []
     → (x : Extent) × (r ≡ Ok x)
-extent_known (Ok x) b c d e f g h k = (x, refl)
-extent_known (Err j) b c d e f g h k = absurd (cc)
+extent_known (Ok x) b c d e f g h i k = (x, refl)
+extent_known (Err j) b c d e f g h i k = absurd (cc)
 
-pub line_known : (S : List (List ℕ)) (l : LaidLine) (before : List LaidLine) → layout_kinds S l before ≡ [] → (x : Extent) × (l.extent ≡ Ok x)
-line_known S l before h =
+pub line_known : (S : List (List ℕ)) (all : List Statement) (l : LaidLine) (before : List LaidLine) → layout_kinds S all l before ≡ [] → (x : Extent) × (l.extent ≡ Ok x)
+line_known S all l before h =
     extent_known l.extent (map_kinds l.seen l.statement.what) (no_area_kinds l.area (defined_by l.statement) l.statement.what)
     (contents_kinds (contents_behind (l.statement ∷ statements_of before)) l.thumb l.statement.what)
     (area_kinds l.seen l.statement.what before) (name_kinds l.statement (statements_of before))
-    (settled_kinds S (defined_by l.statement)) (kind_if (nat_lt area_bytes (l.offset + l.size)) TooMany) h
+    (settled_kinds S (first_equal (defined_by l.statement) (statements_of before))) (state_kinds l.area l.thumb l.statement.what all) (kind_if (nat_lt area_bytes (l.offset + l.size)) TooMany) h
 
 pub stands_there : (d : List LaidName) (ss : List Statement) (after before : List LaidLine) (l : LaidLine) (x : Extent) → laid_of d ss ≡ after ++ l ∷ before → l.extent ≡ Ok x
     → (l.offset ≡ offset_of l.area (pieces_of before) x) × (l.size ≡ size_behind l.area (pieces_of before) x)
@@ -73,7 +74,7 @@ pub stands_in : (ss : List Statement) → IsSound ss → (area : ℕ) (after bef
     × (l.size ≡ size_of (waiting area (pieces_of before)) (start_in area (pieces_of before) (taken l.extent)) (taken l.extent))
 stands_in ss sound area after before l e here =
     let S = settled (equals_in ss) in
-    let x = line_known S l before (line_fine S after before l (subst (λ z. first_fault S z ≡ None) e sound)) in
+    let x = line_known S ss l before (line_fine S ss after before l (subst (λ z. first_fault S ss z ≡ None) e sound)) in
     let p = stands_there (declared_names ss) ss after before l x.0 e x.1 in
     let t : taken l.extent ≡ x.0 = ap taken x.1 in (
       p.0 ∙ ap (λ a. offset_of a (pieces_of before) x.0) here ∙ ap (start_in area (pieces_of before)) (sym t),

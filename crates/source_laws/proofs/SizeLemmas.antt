@@ -23,7 +23,7 @@ use Rattle.asm_model.specs.declared.thumb_lines.ThumbLine.{ThumbLine}
 use Rattle.asm_model.specs.declared.thumb_lines.ThumbLine.TheVariants as thumb
 use Rattle.asm_model.specs.declared.values.Value.{Value}
 use Rattle.asm_model.specs.declared.values.Value.TheVariants.{Number, Truth, Words, Place}
-use Rattle.asm_model.specs.AtLine.{Sight}
+use Rattle.asm_model.specs.declared.names.Names.{Names}
 use Rattle.asm_model.specs.Says.{on_both, mapped}
 use Rattle.asm_model.specs.Extents.{Extent, Block, Padding, Loading, Pool, value_there, number_there, as_multiple, literal_there, is_moved, instruction, loading, thumb_extent, byte_count, byte_counts, extent_of}
 use Rattle.asm_model.specs.Offsets.{size_of}
@@ -109,7 +109,7 @@ byte_long known (Ok (Truth b)) = tt
 byte_long known (Ok (Place s n)) = tt
 byte_long known (Err k) = tt
 
-pub bytes_long : (c : Context) (s : Sight) (es : List Expr) → Long (byte_counts s es) (byte_units c s es)
+pub bytes_long : (c : Context) (s : Names) (es : List Expr) → Long (byte_counts s es) (byte_units c s es)
 bytes_long c s [] = refl
 bytes_long c s (e ∷ es) =
     one_longer Bytes (byte_count (value_there s e)) (byte_counts s es) (byte_operand (value_there s e) (value_of c e)) (byte_units c s es)
@@ -225,19 +225,19 @@ pseudo_long false c word (pseudo.LongAddress condition rd e) =
     (λ at. long_count condition (register c rd) (from_pc c at)))
 pseudo_long false c word pseudo.NoOperation = instructions_long 1 (pseudo_instructions c word pseudo.NoOperation) refl
 
-pub pseudo_fills : (c : Context) (s : Sight) (word : Option ℕ) (l : PseudoLine)
-    → Fills (extent_of s (what.Pseudo l)) (pseudo_units s.known.thumb c word l)
+pub pseudo_fills : (c : Context) (s : Names) (word : Option ℕ) (l : PseudoLine)
+    → Fills (extent_of s (what.Pseudo l)) (pseudo_units s.thumb c word l)
 pseudo_fills c s word (pseudo.LoadConstant condition rd e) =
     let l = pseudo.LoadConstant condition rd e in
-    loading_fills s.known.thumb (literal_there s e) (pseudo_units s.known.thumb c word l) (pseudo_long s.known.thumb c word l)
+    loading_fills s.thumb (literal_there s e) (pseudo_units s.thumb c word l) (pseudo_long s.thumb c word l)
 pseudo_fills c s word (pseudo.Address condition rd e) =
     let l = pseudo.Address condition rd e in
-    instruction_fills s.known.thumb (pseudo_units s.known.thumb c word l) (pseudo_long s.known.thumb c word l)
+    instruction_fills s.thumb (pseudo_units s.thumb c word l) (pseudo_long s.thumb c word l)
 pseudo_fills c s word (pseudo.LongAddress condition rd e) =
     let l = pseudo.LongAddress condition rd e in
-    block_fills 4 8 (pseudo_units s.known.thumb c word l) (pseudo_long s.known.thumb c word l)
+    block_fills 4 8 (pseudo_units s.thumb c word l) (pseudo_long s.thumb c word l)
 pseudo_fills c s word pseudo.NoOperation =
-    instruction_fills s.known.thumb (pseudo_units s.known.thumb c word pseudo.NoOperation) (pseudo_long s.known.thumb c word pseudo.NoOperation)
+    instruction_fills s.thumb (pseudo_units s.thumb c word pseudo.NoOperation) (pseudo_long s.thumb c word pseudo.NoOperation)
 
 -- a line of Thumb state says one half-word, or both of BL
 abbrev pub code_size : ThumbCode → ℕ
@@ -300,7 +300,7 @@ thumb_fills c o l =
     subst (λ x. Fills (Ok x) r) (sym (extent_sized l))
     (block_fills 2 (thumb_size l) r (codes_long o (thumb_size l) (thumb_instruction c l) (thumb_coded c l)))
 
-pub directive_fills : (c : Context) (d : List (List ℕ)) (s : Sight) (word : Option ℕ) (l : DirectiveLine) → is_data l ≡ true
+pub directive_fills : (c : Context) (d : List (List ℕ)) (s : Names) (word : Option ℕ) (l : DirectiveLine) → is_data l ≡ true
     → Fills (extent_of s (what.Directive l)) (units c d s word (what.Directive l))
 directive_fills c d s word (line.Dcd es) h = block_fills 4 (4 * length es) (word_units c d es) (words_long c d es)
 directive_fills c d s word (line.Dcdu es) h = block_fills 1 (4 * length es) (word_units c d es) (words_long c d es)
@@ -308,7 +308,7 @@ directive_fills c d s word (line.Dcw es) h = block_fills 2 (2 * length es) (half
 directive_fills c d s word (line.Dcb es) h = block_fills 1 (byte_counts s es) (byte_units c s es) (bytes_long c s es)
 directive_fills c d s word l h = absurd (cc)
 
-pub fills : (c : Context) (d : List (List ℕ)) (s : Sight) (word : Option ℕ) (w : What) → is_filled w ≡ true → c.line.thumb ≡ s.known.thumb
+pub fills : (c : Context) (d : List (List ℕ)) (s : Names) (word : Option ℕ) (w : What) → is_filled w ≡ true → c.line.thumb ≡ s.thumb
     → Fills (extent_of s w) (units c d s word w)
 fills c d s word what.Nothing h state = absurd (cc)
 fills c d s word (what.Arm l) h state =
@@ -318,15 +318,15 @@ fills c d s word (what.Pseudo l) h state =
     subst (λ b. Fills (extent_of s (what.Pseudo l)) (pseudo_units b c word l)) (sym state) (pseudo_fills c s word l)
 fills c d s word (what.Directive l) h state = directive_fills c d s word l h
 
-pub units_fill : (c : Context) (d : List (List ℕ)) (s : Sight) (word : Option ℕ) (w : What) (e : Extent) (us : List Emitted)
-    → is_filled w ≡ true → c.line.thumb ≡ s.known.thumb → extent_of s w ≡ Ok e → units c d s word w ≡ Ok us
+pub units_fill : (c : Context) (d : List (List ℕ)) (s : Names) (word : Option ℕ) (w : What) (e : Extent) (us : List Emitted)
+    → is_filled w ≡ true → c.line.thumb ≡ s.thumb → extent_of s w ≡ Ok e → units c d s word w ≡ Ok us
     → (literals : List Value) (at : ℕ) → length (units_bytes us) ≡ size_of literals at e
 units_fill c d s word w e us h state x y =
     subst (λ r. Fills r (Ok us)) x (subst (Fills (extent_of s w)) y (fills c d s word w h state))
 
 -- ---- others
 
-pub no_data : (c : Context) (d : List (List ℕ)) (s : Sight) (word : Option ℕ) (l : DirectiveLine) → is_data l ≡ false
+pub no_data : (c : Context) (d : List (List ℕ)) (s : Names) (word : Option ℕ) (l : DirectiveLine) → is_data l ≡ false
     → units c d s word (what.Directive l) ≡ Ok []
 no_data c d s word (line.Dcd es) h = absurd (cc)
 no_data c d s word (line.Dcdu es) h = absurd (cc)
@@ -334,7 +334,7 @@ no_data c d s word (line.Dcw es) h = absurd (cc)
 no_data c d s word (line.Dcb es) h = absurd (cc)
 no_data c d s word l h = refl
 
-pub other_units_are_none : (c : Context) (d : List (List ℕ)) (s : Sight) (word : Option ℕ) (w : What) → is_filled w ≡ false → units c d s word w ≡ Ok []
+pub other_units_are_none : (c : Context) (d : List (List ℕ)) (s : Names) (word : Option ℕ) (w : What) → is_filled w ≡ false → units c d s word w ≡ Ok []
 other_units_are_none c d s word what.Nothing h = refl
 other_units_are_none c d s word (what.Arm l) h = absurd (cc)
 other_units_are_none c d s word (what.Thumb l) h = absurd (cc)
@@ -351,8 +351,8 @@ nothing_within n = omega arith
 pub same_within : (m n : ℕ) → m ≡ n → m ≤ n
 same_within m n h = omega arith
 
-pub units_fit : (c : Context) (d : List (List ℕ)) (s : Sight) (word : Option ℕ) (w : What) (e : Extent) (us : List Emitted)
-    → c.line.thumb ≡ s.known.thumb → extent_of s w ≡ Ok e → units c d s word w ≡ Ok us
+pub units_fit : (c : Context) (d : List (List ℕ)) (s : Names) (word : Option ℕ) (w : What) (e : Extent) (us : List Emitted)
+    → c.line.thumb ≡ s.thumb → extent_of s w ≡ Ok e → units c d s word w ≡ Ok us
     → (literals : List Value) (at : ℕ) → length (units_bytes us) ≤ size_of literals at e
 units_fit c d s word w e us state x y literals at = by_test (is_filled w) refl
   where
@@ -405,8 +405,8 @@ thumb_said : (w : What) (l : ThumbLine) → IsSaid w (Ok (thumb_extent l))
 thumb_said w (thumb.BranchLink target) = tt
 thumb_said w l = tt
 
-directive_said : (s : Sight) (l : DirectiveLine) → IsSaid (what.Directive l) (extent_of s (what.Directive l))
-directive_said s line.Entry = state_said (what.Directive line.Entry) s.known.thumb 2 0 4 0
+directive_said : (s : Names) (l : DirectiveLine) → IsSaid (what.Directive l) (extent_of s (what.Directive l))
+directive_said s line.Entry = state_said (what.Directive line.Entry) s.thumb 2 0 4 0
 directive_said s (line.Space e) = mapped_said (what.Directive (line.Space e)) (λ n. Block 1 n) (number_there s e) (λ n. tt)
 directive_said s (line.Align limit.Word) = tt
 directive_said s (line.Align (limit.Multiple e)) =
@@ -415,20 +415,20 @@ directive_said s (line.Align (limit.Behind e f)) = both_said (what.Directive (li
 directive_said s line.Ltorg = refl
 directive_said s l = tt
 
-extents_are_said : (s : Sight) (w : What) → IsSaid w (extent_of s w)
+extents_are_said : (s : Names) (w : What) → IsSaid w (extent_of s w)
 extents_are_said s what.Nothing = tt
 extents_are_said s (what.Arm l) = tt
 extents_are_said s (what.Thumb l) = thumb_said (what.Thumb l) l
-extents_are_said s (what.Pseudo (pseudo.LoadConstant condition rd e)) = load_said (pseudo.LoadConstant condition rd e) s.known.thumb (literal_there s e)
-extents_are_said s (what.Pseudo (pseudo.Address condition rd e)) = state_said (what.Pseudo (pseudo.Address condition rd e)) s.known.thumb 2 2 4 4
+extents_are_said s (what.Pseudo (pseudo.LoadConstant condition rd e)) = load_said (pseudo.LoadConstant condition rd e) s.thumb (literal_there s e)
+extents_are_said s (what.Pseudo (pseudo.Address condition rd e)) = state_said (what.Pseudo (pseudo.Address condition rd e)) s.thumb 2 2 4 4
 extents_are_said s (what.Pseudo (pseudo.LongAddress condition rd e)) = tt
-extents_are_said s (what.Pseudo pseudo.NoOperation) = state_said (what.Pseudo pseudo.NoOperation) s.known.thumb 2 2 4 4
+extents_are_said s (what.Pseudo pseudo.NoOperation) = state_said (what.Pseudo pseudo.NoOperation) s.thumb 2 2 4 4
 extents_are_said s (what.Directive l) = directive_said s l
 
-pub pools_are_said : (s : Sight) (w : What) → extent_of s w ≡ Ok Pool → w ≡ what.Directive line.Ltorg
+pub pools_are_said : (s : Names) (w : What) → extent_of s w ≡ Ok Pool → w ≡ what.Directive line.Ltorg
 pools_are_said s w h = subst (IsSaid w) h (extents_are_said s w)
 
-pub loads_are_pseudo : (s : Sight) (w : What) (n : ℕ) (v : Value) → extent_of s w ≡ Ok (Loading n v) → IsPseudo w
+pub loads_are_pseudo : (s : Names) (w : What) (n : ℕ) (v : Value) → extent_of s w ≡ Ok (Loading n v) → IsPseudo w
 loads_are_pseudo s w n v h = subst (IsSaid w) h (extents_are_said s w)
 
 -- ---- lines

@@ -24,17 +24,17 @@ use Rattle.asm_model.specs.Labels.{declared_names}
 
 -- what a line takes up is by what it sees
 pub seen_extent : (ss : List Statement) (after before : List LaidLine) (l : LaidLine) → laid ss ≡ after ++ l ∷ before
-    → (l.extent ≡ extent_of l.seen l.statement.what) × (l.seen.known.thumb ≡ l.thumb) × (l.line.thumb ≡ l.seen.known.thumb)
+    → (l.extent ≡ extent_of l.seen l.statement.what) × (l.seen.thumb ≡ l.thumb) × (l.line.thumb ≡ l.seen.thumb)
 seen_extent ss after before l e =
     let p = is_laid (declared_names ss) ss after before l e in
-    subst (λ (z : LaidLine). (z.extent ≡ extent_of z.seen z.statement.what) × (z.seen.known.thumb ≡ z.thumb) × (z.line.thumb ≡ z.seen.known.thumb))
+    subst (λ (z : LaidLine). (z.extent ≡ extent_of z.seen z.statement.what) × (z.seen.thumb ≡ z.thumb) × (z.line.thumb ≡ z.seen.thumb))
     (sym p.1) (refl, refl, refl)
 
 pub known_extent : (ss : List Statement) → IsSound ss → (after before : List LaidLine) (l : LaidLine) → laid ss ≡ after ++ l ∷ before
     → extent_of l.seen l.statement.what ≡ Ok (taken l.extent)
 known_extent ss sound after before l e =
     let S = settled (equals_in ss) in
-    let x = line_known S l before (line_fine S after before l (subst (λ z. first_fault S z ≡ None) e sound)) in
+    let x = line_known S ss l before (line_fine S ss after before l (subst (λ z. first_fault S ss z ≡ None) e sound)) in
     sym (seen_extent ss after before l e).0 ∙ x.1 ∙ ap Ok (sym (ap taken x.1))
 
 -- the units of a line's own

@@ -1,22 +1,21 @@
 -- Each name stands in an area of the source, or in none.
-use Rattle.std.proofs.Common.{◌≡◌, ◌≤◌, ◌<◌, ℕ, zero, suc, Bool, true, false, cond, List, [], ◌∷◌, ◌++◌, length, Option, Some, None, ap, subst, arith}
-use Rattle.std.specs.Prelude.{Result, Ok, Err}
+use Rattle.std.proofs.Common.{◌≡◌, ◌≤◌, ◌<◌, ℕ, List, [], ◌∷◌, ◌++◌, length, Option, Some, None, refl, sym, ap, subst, arith}
+use Rattle.std.specs.Prelude.{Result, Ok}
 use Rattle.sdt_fault.specs.declared.kinds.LineKind.{LineKind}
 use Rattle.asm_model.specs.declared.names.LaidName.{LaidName}
 use Rattle.asm_model.specs.declared.statements.Statement.{Statement}
 use Rattle.asm_model.specs.declared.values.Value.{Value}
-use Rattle.asm_model.specs.declared.values.Value.TheVariants.{Number, Truth, Words, Place}
-use Rattle.asm_model.specs.AtLine.{Definition, Nameless, Named, Equated, SourceLine, with_names, made_name}
-use Rattle.asm_model.specs.Forms.{same}
-use Rattle.asm_model.specs.Grammar.{Tree}
-use Rattle.asm_model.specs.Meaning.{named_in, meaning, entry_stands_at, in_area}
+use Rattle.asm_model.specs.declared.values.Value.TheVariants.{Place}
+use Rattle.asm_model.specs.Meaning.{named_in, entry_stands_at, in_area, stands_at}
 use Rattle.asm_model.specs.Before.{area_named, with_name, areas_behind, place_of, area_from, area_behind}
 use Rattle.asm_model.specs.Entries.{equal_entry}
-use Rattle.asm_model.specs.Labels.{Defined, Unnamed, Label, Equal, MapField, RegisterName, defined_by, imported_in}
-use Rattle.asm_model.specs.Laid.{LaidLine, statements_of, laid_of, laid_behind, tree_equated, definition_of, imported_lines, entries_with, all_entries, names_after, map_behind, offset_behind, source_lines}
-use Rattle.asm_model.specs.Before.{is_thumb_label}
-use Rattle.asm_model.specs.Trees.{tree_of}
-use Rattle.source_laws.proofs.ZeroLemmas.{place_below, named_with, no_fewer}
+use Rattle.asm_model.specs.Labels.{declared_names}
+use Rattle.asm_model.specs.Laid.{LaidLine, statements_of, laid, final_names}
+use Rattle.source_model.specs.Contexts.{Context, sees}
+use Rattle.source_laws.specs.Laws.{context_behind}
+use Rattle.source_laws.proofs.AgreeLemmas.{line_area}
+use Rattle.source_laws.proofs.NameLemmas.{final_each}
+use Rattle.source_laws.proofs.ZeroLemmas.{place_below, named_with, no_fewer, AreNumbered, laid_numbered, numbered_rest}
 use Rattle.asm_model.proofs.OffsetLemmas.{through as low_of}
 
 -- ---- areas by their numbers
@@ -53,87 +52,33 @@ areas_more (l ∷ after) before =
     low_of (length (areas_behind (statements_of before))) (length (areas_behind (statements_of (after ++ before)))) (length (areas_behind (statements_of (l ∷ after ++ before))))
     (areas_more after before) (fewer (area_named l.statement.what) (areas_behind (statements_of (after ++ before))))
 
--- ---- entries
+-- a line stands in an area of the source, or in none
+pub line_within : (ss : List Statement) (n : ℕ) (after before : List LaidLine) (l : LaidLine) → length (areas_behind (statements_of (laid ss))) ≤ n
+    → laid ss ≡ after ++ l ∷ before → IsWithin n l.area
+line_within ss n after before l few e =
+    let numbered = numbered_rest after (l ∷ before) (subst AreNumbered e (laid_numbered (declared_names ss) ss)) in
+    let more = areas_more after (l ∷ before) in
+    let all = subst (λ z. length (areas_behind (statements_of z)) ≤ n) e few in
+    subst (IsWithin n) (sym numbered.0) (area_within n (statements_of (l ∷ before)) (omega arith))
+
+-- ---- names
 
 abbrev pub AllWithin : ℕ → List LaidName → Type 0
-AllWithin n [] = Unit {0}
-AllWithin n (e ∷ es) = IsWithin n e.area × AllWithin n es
+AllWithin n es = (q : List ℕ) (e : LaidName) → named_in q es ≡ Some e → IsWithin n e.area
 
-joined : (n : ℕ) (xs ys : List LaidName) → AllWithin n xs → AllWithin n ys → AllWithin n (xs ++ ys)
-joined n [] ys h k = k
-joined n (x ∷ xs) ys h k = (h.0, joined n xs ys h.1 k)
+equal_within : (n : ℕ) (names : List LaidName) (area : Option ℕ) (name : List ℕ) (r : Result Value LineKind) → IsWithin n area
+    → IsWithin n (equal_entry names area name r).area
+equal_within n names area name (Ok (Place [] m)) h = h
+equal_within n names area name r h = tt
 
-abbrev DefinesWithin : ℕ → Definition → Type 0
-DefinesWithin n Nameless = Unit {0}
-DefinesWithin n (Named e) = IsWithin n e.area
-DefinesWithin n (Equated make t) = (v : Value) → IsWithin n (make v).area
-
-abbrev LinesWithin : ℕ → List SourceLine → Type 0
-LinesWithin n [] = Unit {0}
-LinesWithin n (l ∷ ls) = DefinesWithin n l.definition × LinesWithin n ls
-
-lines_joined : (n : ℕ) (xs ys : List SourceLine) → LinesWithin n xs → LinesWithin n ys → LinesWithin n (xs ++ ys)
-lines_joined n [] ys h k = k
-lines_joined n (x ∷ xs) ys h k = (h.0, lines_joined n xs ys h.1 k)
-
-made_within : (n : ℕ) (make : Value → LaidName) (r : Result Value LineKind) → ((v : Value) → IsWithin n (make v).area) → AllWithin n (made_name make r)
-made_within n make (Ok v) h = (h v, tt)
-made_within n make (Err k) h = tt
-
-entries_within : (n : ℕ) (names : List LaidName) (l : SourceLine) (d : Definition) → DefinesWithin n d → AllWithin n (entries_with names l d)
-entries_within n names l Nameless h = tt
-entries_within n names l (Named e) h = (h, tt)
-entries_within n names l (Equated make t) h = made_within n make (meaning (with_names l names) t) h
-
-all_within : (n : ℕ) (names : List LaidName) (ls : List SourceLine) → LinesWithin n ls → AllWithin n (all_entries names ls)
-all_within n names [] h = tt
-all_within n names (l ∷ ls) h =
-    joined n (entries_with names l l.definition) (all_entries names ls) (entries_within n names l l.definition h.0) (all_within n names ls h.1)
-
-rounds_within : (n k : ℕ) (ls : List SourceLine) → LinesWithin n ls → AllWithin n (names_after k ls)
-rounds_within n zero ls h = all_within n [] ls h
-rounds_within n (suc k) ls h = all_within n (names_after k ls) ls h
-
-equal_within : (n : ℕ) (names : List LaidName) (area : Option ℕ) (name : List ℕ) (v : Value) → IsWithin n area → IsWithin n (equal_entry names area name v).area
-equal_within n names area name (Place [] m) h = h
-equal_within n names area name (Place (c ∷ cs) m) h = tt
-equal_within n names area name (Number m) h = tt
-equal_within n names area name (Truth b) h = tt
-equal_within n names area name (Words w) h = tt
-
-tree_within : (n : ℕ) (names : List LaidName) (area : Option ℕ) (name : List ℕ) (o : Option Tree) → IsWithin n area → DefinesWithin n (tree_equated names area name o)
-tree_within n names area name None h = tt
-tree_within n names area name (Some t) h = λ v. equal_within n names area name v h
-
-definition_within : (n : ℕ) (names : List LaidName) (d : Defined) (area : Option ℕ) (offset size : ℕ) (thumb : Bool) (m : ℕ) → IsWithin n area
-    → DefinesWithin n (definition_of names d area offset size thumb m)
-definition_within n names Unnamed area offset size thumb m h = tt
-definition_within n names (Label name) area offset size thumb m h = h
-definition_within n names (Equal name e) area offset size thumb m h = tree_within n names area name (tree_of e) h
-definition_within n names (MapField name) area offset size thumb m h = tt
-definition_within n names (RegisterName name r) area offset size thumb m h = tt
-
-imports_within : (n : ℕ) (s : Statement) (before : List LaidLine) (o : Option (List ℕ)) → LinesWithin n (imported_lines s before o)
-imports_within n s before None = tt
-imports_within n s before (Some name) = (tt, tt)
-
-lines_within : (n : ℕ) (d : List LaidName) (ss : List Statement) → length (areas_behind (statements_of (laid_of d ss))) ≤ n
-    → LinesWithin n (source_lines (laid_of d ss))
-lines_within n d [] h = tt
-lines_within n d (s ∷ ss) h =
-    let before = laid_of d ss in
-    let area = area_behind (s ∷ statements_of before) in
-    lines_joined n (source_lines before) ((laid_behind d s before).line ∷ imported_lines s before (imported_in s.what))
-    (lines_within n d ss
-    (low_of (length (areas_behind (statements_of before))) (length (areas_behind (s ∷ statements_of before))) n (fewer (area_named s.what) (areas_behind (statements_of before))) h)) (
-      definition_within n d (defined_by s) area (offset_behind s before) (laid_behind d s before).size (is_thumb_label s (statements_of before)) (map_behind before)
-          (area_within n (s ∷ statements_of before) h),
-      imports_within n s before (imported_in s.what),
-    )
-
-pub names_within : (n k : ℕ) (d : List LaidName) (ss : List Statement) → length (areas_behind (statements_of (laid_of d ss))) ≤ n
-    → AllWithin n (names_after k (source_lines (laid_of d ss)))
-names_within n k d ss h = rounds_within n k (source_lines (laid_of d ss)) (lines_within n d ss h)
+pub names_within : (n : ℕ) (ss : List Statement) → length (areas_behind (statements_of (laid ss))) ≤ n → AllWithin n (final_names (laid ss))
+names_within n ss few = final_each ss (λ e. IsWithin n e.area) (record {
+  label = λ l at name x thumb. line_within ss n at.rest at.before l few at.parts;
+  equal = λ l at name e x names r. equal_within n names l.area name r (line_within ss n at.rest at.before l few at.parts);
+  field = λ l at name x m. tt;
+  register = λ l at name r x. tt;
+  imported = λ l at name x. tt;
+})
 
 -- ---- where a name stands
 
@@ -147,9 +92,18 @@ area_stands n None x a o k e = absurd (cc)
 area_stands n (Some b) x a o k e = let is : b ≡ a = ap first_in e in subst (λ m. m < n) is k
 
 pub named_within : (n : ℕ) (q : List ℕ) (es : List LaidName) (a o : ℕ) → AllWithin n es → entry_stands_at (named_in q es) ≡ Some (a, o) → a < n
-named_within n q [] a o h e = absurd (cc)
-named_within n q (x ∷ es) a o h e = by_test (same x.name q) e (named_within n q es a o h.1)
+named_within n q es a o h e = by_entry (named_in q es) refl e
   where
-    by_test : (b : Bool) → entry_stands_at (cond b (Some x) (named_in q es)) ≡ Some (a, o) → (entry_stands_at (named_in q es) ≡ Some (a, o) → a < n) → a < n
-    by_test true e rest = area_stands n x.area x.offset a o h.0 e
-    by_test false e rest = rest e
+    by_entry : (x : Option LaidName) → named_in q es ≡ x → entry_stands_at x ≡ Some (a, o) → a < n
+    by_entry None f k = absurd (cc)
+    by_entry (Some m) f k = area_stands n m.area m.offset a o (h q m f) k
+
+-- places that a line's expressions mean are of the source's areas
+abbrev pub StandsWithin : ℕ → Context → Type 0
+StandsWithin n c = (s : List ℕ) (a : ℕ × ℕ) → stands_at (sees c) s ≡ Some a → a.0 < n
+
+pub context_within : (ss : List Statement) (n : ℕ) (after before : List LaidLine) (l : LaidLine) → length (areas_behind (statements_of (laid ss))) ≤ n
+    → laid ss ≡ after ++ l ∷ before → StandsWithin n (context_behind ss l before)
+context_within ss n after before l few e [] a h =
+    area_stands n l.line.area 0 a.0 a.1 (subst (IsWithin n) (sym (line_area ss after before l e)) (line_within ss n after before l few e)) h
+context_within ss n after before l few e (c ∷ cs) a h = named_within n (c ∷ cs) (final_names (laid ss)) a.0 a.1 (names_within n ss few) h

@@ -10,7 +10,7 @@ use Rattle.asm_model.specs.declared.values.Value.TheVariants.{Number, Place}
 use Rattle.asm_model.specs.Forms.{same}
 use Rattle.asm_model.proofs.WordLemmas.{same_true}
 use Rattle.asm_model.specs.Extents.{Extent, Loading}
-use Rattle.asm_model.specs.Laid.{LaidLine, taken, pieces_of, sight_behind, laid}
+use Rattle.asm_model.specs.Laid.{LaidLine, taken, pieces_of, names_behind, laid}
 use Rattle.asm_model.specs.OffsetLaws.{joined, IsLiteral}
 use Rattle.asm_model.specs.Offsets.{Piece as LaidPiece, is_of, same_literal, waiting, place_among, word_behind, is_pool, is_pool_of, literal_word}
 use Rattle.asm_model.proofs.LaidLemmas.{loadings_are_literals}
@@ -63,7 +63,7 @@ pub loads_literal : (ss : List Statement) (after before : List LaidLine) (l : La
     → taken l.extent ≡ Loading n v → IsLiteral v
 loads_literal ss after before l n v e h =
     let p = is_laid (declared_names ss) ss after before l e in
-    loadings_are_literals (sight_behind (declared_names ss) p.0 before) p.0.what n v
+    loadings_are_literals (names_behind (declared_names ss) p.0 before) p.0.what n v
     (ap (λ (z : LaidLine). z.extent) (sym p.1) ∙ taken_loads l.extent n v h)
 
 -- the literal of a line waits behind it

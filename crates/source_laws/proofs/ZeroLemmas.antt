@@ -12,20 +12,19 @@ use Rattle.asm_model.specs.declared.directives.DirectiveLine.TheVariants as line
 use Rattle.asm_model.specs.declared.statements.Statement.{Statement}
 use Rattle.asm_model.specs.declared.statements.What.{What}
 use Rattle.asm_model.specs.declared.statements.What.TheVariants as what
-use Rattle.asm_model.specs.AtLine.{Sight}
+use Rattle.asm_model.specs.declared.names.Names.{Names}
 use Rattle.asm_model.specs.Directives.{or_else}
 use Rattle.asm_model.specs.Forms.{same}
 use Rattle.asm_model.specs.Kinds.{told_kind}
-use Rattle.asm_model.proofs.LineLemmas.{both_empty}
 use Rattle.asm_model.proofs.WordLemmas.{same_refl, same_true}
 use Rattle.asm_model.specs.Before.{area_named, with_name, areas_behind, place_of, area_from, area_behind}
 use Rattle.asm_model.specs.Labels.{defined_by, declared_names}
 use Rattle.asm_model.specs.Laid.{LaidLine, statements_of, laid_of, laid}
-use Rattle.asm_model.specs.LayoutKinds.{fault_kinds, kind_if, map_kinds, no_area_kinds, is_zero_statement, contents_kinds, contents_from, contents_behind, exponent, exponent_kinds, same_contents, same_mark, same_exponent, same_attributes, again_with, is_named_otherwise, area_kinds, name_kinds, equals_in, settled, settled_kinds, layout_kinds, told_at, first_fault, area_bytes}
+use Rattle.asm_model.specs.LayoutKinds.{fault_kinds, kind_if, map_kinds, no_area_kinds, is_zero_statement, contents_kinds, contents_from, contents_behind, exponent, exponent_kinds, same_contents, same_mark, same_exponent, same_attributes, again_with, is_named_otherwise, area_kinds, name_kinds, equals_in, settled, settled_kinds, first_equal, state_kinds, layout_kinds, told_at, first_fault, area_bytes}
 use Rattle.asm_model.specs.Marks.{datum_names}
 use Rattle.asm_model.specs.Offsets.{is_of}
 use Rattle.asm_model.proofs.OffsetLemmas.{is_here}
-use Rattle.layout_laws.proofs.SoundLemmas.{or_none, told_none, kind_none}
+use Rattle.layout_laws.proofs.SoundLemmas.{both_empty, or_none, told_none, kind_none}
 use Rattle.source_model.specs.Contexts.{Context}
 use Rattle.source_model.specs.Objects.{Piece, units_from, or_none as units_or_none, source_of, IsAmong, StandsIn, contents_in, contents_of}
 use Rattle.source_model.specs.SourceFaults.{layout_faults}
@@ -105,10 +104,10 @@ pub numbered_rest : (after before : List LaidLine) → AreNumbered (after ++ bef
 numbered_rest [] before h = h
 numbered_rest (l ∷ after) before h = numbered_rest after before h.1
 
-pub fine_rest : (S : List (List ℕ)) (after before : List LaidLine) → first_fault S (after ++ before) ≡ None → first_fault S before ≡ None
-fine_rest S [] before h = h
-fine_rest S (l ∷ after) before h =
-    fine_rest S after before (or_none (first_fault S (after ++ before)) (told_at l.statement (told_kind (layout_kinds S l (after ++ before)))) h).0
+pub fine_rest : (S : List (List ℕ)) (all : List Statement) (after before : List LaidLine) → first_fault S all (after ++ before) ≡ None → first_fault S all before ≡ None
+fine_rest S all [] before h = h
+fine_rest S all (l ∷ after) before h =
+    fine_rest S all after before (or_none (first_fault S all (after ++ before)) (told_at l.statement (told_kind (layout_kinds S all l (after ++ before)))) h).0
 
 pub contents_stay : (area : ℕ) (c : Contents) (after before : List LaidLine) → contents_of area before ≡ Some c → contents_of area (after ++ before) ≡ Some c
 contents_stay area c [] before h = h
@@ -154,10 +153,10 @@ none_beyond (l ∷ before) h k j =
 -- ---- the contents of an area
 
 -- the contents of its first line, which lines that don't name it otherwise have too
-pub record Agreed (first : Option Contents) (otherwise : Sight → AreaAttributes → Bool) : Type 0 where
+pub record Agreed (first : Option Contents) (otherwise : Names → AreaAttributes → Bool) : Type 0 where
   pub kind : Contents
   pub is : first ≡ Some kind
-  pub alike : (s : Sight) (a : AreaAttributes) → otherwise s a ≡ false → a.contents ≡ kind
+  pub alike : (s : Names) (a : AreaAttributes) → otherwise s a ≡ false → a.contents ≡ kind
 
 pub contents_true : (a b : Contents) → same_contents a b ≡ true → a ≡ b
 contents_true contents.Code contents.Code h = refl
@@ -191,14 +190,14 @@ pub all_true : (a b c d e f g : Bool) → a ≡ true → b ≡ true → c ≡ tr
     → (a && b && c && d && e && f && g) ≡ true
 all_true a b c d e f g h i j k l m n = rw (h, i, j, k, l, m, n) refl
 
-pub attributes_same : (s : Sight) (a : AreaAttributes) → same_attributes s a s a ≡ true
+pub attributes_same : (s : Names) (a : AreaAttributes) → same_attributes s a s a ≡ true
 attributes_same s a =
     all_true (same_contents a.contents a.contents) (same_mark a.read_only a.read_only) (same_mark a.interwork a.interwork)
     (same_mark a.halfword a.halfword) (same_mark a.pic a.pic) (same_mark a.reentrant a.reentrant) (same_exponent (exponent s a.align) (exponent s a.align))
     (contents_same a.contents) (mark_same a.read_only) (mark_same a.interwork) (mark_same a.halfword) (mark_same a.pic) (mark_same a.reentrant)
     (exponent_same (exponent s a.align))
 
-pub attributes_true : (s : Sight) (a : AreaAttributes) (t : Sight) (b : AreaAttributes) → same_attributes s a t b ≡ true → a.contents ≡ b.contents
+pub attributes_true : (s : Names) (a : AreaAttributes) (t : Names) (b : AreaAttributes) → same_attributes s a t b ≡ true → a.contents ≡ b.contents
 attributes_true s a t b h =
     contents_true a.contents b.contents
     (first_of_all (same_contents a.contents b.contents) (same_mark a.read_only b.read_only) (same_mark a.interwork b.interwork)
@@ -293,16 +292,18 @@ agreed (l ∷ before) h n e =
 -- ---- the contents behind lines
 
 -- what a line's contents and areas tell
-pub line_kinds : (S : List (List ℕ)) (l : LaidLine) (before : List LaidLine) → layout_kinds S l before ≡ []
+pub line_kinds : (S : List (List ℕ)) (all : List Statement) (l : LaidLine) (before : List LaidLine) → layout_kinds S all l before ≡ []
     → (contents_kinds (contents_behind (l.statement ∷ statements_of before)) l.thumb l.statement.what ≡ [])
     × (area_kinds l.seen l.statement.what before ≡ [])
-line_kinds S l before h =
+line_kinds S all l before h =
     let a = fault_kinds l.extent ++ map_kinds l.seen l.statement.what ++ no_area_kinds l.area (defined_by l.statement) l.statement.what in
     let b = contents_kinds (contents_behind (l.statement ∷ statements_of before)) l.thumb l.statement.what in
     let c = area_kinds l.seen l.statement.what before in
     let d = name_kinds l.statement (statements_of before) in
-    let e = settled_kinds S (defined_by l.statement) in
-    let p = both_empty (a ++ b ++ c ++ d ++ e) (kind_if (nat_lt area_bytes (l.offset + l.size)) TooMany) h in
+    let e = settled_kinds S (first_equal (defined_by l.statement) (statements_of before)) in
+    let f = state_kinds l.area l.thumb l.statement.what all in
+    let o = both_empty (a ++ b ++ c ++ d ++ e ++ f) (kind_if (nat_lt area_bytes (l.offset + l.size)) TooMany) h in
+    let p = both_empty (a ++ b ++ c ++ d ++ e) f o.0 in
     let q = both_empty (a ++ b ++ c ++ d) e p.0 in
     let r = both_empty (a ++ b ++ c) d q.0 in
     let s = both_empty (a ++ b) c r.0 in
@@ -311,7 +312,7 @@ line_kinds S l before h =
 abbrev pub Behind : ℕ → Option Contents → Option Contents → Type 0
 Behind k first nearest = (c : Contents) × (first ≡ Some c) × (nearest ≡ Some c)
 
-pub otherwise_false : (n : List ℕ) (s : Sight) (a : AreaAttributes) (rest : Bool) → rest ≡ false → again_with n s a s (what.Directive (line.Area n a)) rest ≡ false
+pub otherwise_false : (n : List ℕ) (s : Names) (a : AreaAttributes) (rest : Bool) → rest ≡ false → again_with n s a s (what.Directive (line.Area n a)) rest ≡ false
 otherwise_false n s a rest h =
     cond-true (same n n) (not (same_attributes s a s a) || rest) rest (same_refl n) ∙ ap (λ b. not b || rest) (attributes_same s a) ∙ h
 
@@ -334,17 +335,17 @@ behind_line l before xs o k (what.Directive (line.Area name b)) c known fine ear
 behind_line l before xs o k w c known fine earlier e =
     let p = earlier e in (p.0, ap (λ z. or_else z None) p.1, p.2)
 
-pub contents_are : (S : List (List ℕ)) (lines : List LaidLine) → AreNumbered lines → first_fault S lines ≡ None → (k : ℕ) → area_behind (statements_of lines) ≡ Some k
+pub contents_are : (S : List (List ℕ)) (all : List Statement) (lines : List LaidLine) → AreNumbered lines → first_fault S all lines ≡ None → (k : ℕ) → area_behind (statements_of lines) ≡ Some k
     → Behind k (contents_of k lines) (contents_behind (statements_of lines))
-contents_are S [] h fine k e = absurd (cc)
-contents_are S (l ∷ before) h fine k e =
-    let p = or_none (first_fault S before) (told_at l.statement (told_kind (layout_kinds S l before))) fine in
+contents_are S all [] h fine k e = absurd (cc)
+contents_are S all (l ∷ before) h fine k e =
+    let p = or_none (first_fault S all before) (told_at l.statement (told_kind (layout_kinds S all l before))) fine in
     behind_line l before (names_of before) (area_behind (statements_of before)) k l.statement.what (contents_behind (statements_of before))
-    (agreed (l ∷ before) h) (line_kinds S l before (told_none l.statement (layout_kinds S l before) p.1)).1 (contents_are S before h.1 p.0 k) e
+    (agreed (l ∷ before) h) (line_kinds S all l before (told_none l.statement (layout_kinds S all l before) p.1)).1 (contents_are S all before h.1 p.0 k) e
 
 -- ---- statements among zeros
 
-pub zero_units : (c : Context) (d : List (List ℕ)) (s : Sight) (word : Option ℕ) (w : What) → is_zero_statement w ≡ true → units c d s word w ≡ Ok []
+pub zero_units : (c : Context) (d : List (List ℕ)) (s : Names) (word : Option ℕ) (w : What) → is_zero_statement w ≡ true → units c d s word w ≡ Ok []
 zero_units c d s word (what.Arm l) h = absurd (cc)
 zero_units c d s word (what.Thumb l) h = absurd (cc)
 zero_units c d s word (what.Pseudo l) h = absurd (cc)
@@ -370,13 +371,13 @@ pub contents_there : (ss : List Statement) → layout_faults ss ≡ None → (ar
 contents_there ss none area c holds after before l parts own =
     let S = settled (equals_in ss) in
     let numbered = numbered_rest after (l ∷ before) (subst AreNumbered parts (laid_numbered (declared_names ss) ss)) in
-    let fine = fine_rest S after (l ∷ before) (subst (λ z. first_fault S z ≡ None) parts (layout_sound ss none)) in
-    let behind = contents_are S (l ∷ before) numbered fine area (sym numbered.0 ∙ own) in
+    let fine = fine_rest S ss after (l ∷ before) (subst (λ z. first_fault S ss z ≡ None) parts (layout_sound ss none)) in
+    let behind = contents_are S ss (l ∷ before) numbered fine area (sym numbered.0 ∙ own) in
     let all : contents_of area (laid ss) ≡ Some behind.0 =
     ap (contents_of area) parts ∙ contents_stay area behind.0 after (l ∷ before) behind.1 in
     let is : behind.0 ≡ c = cc in
-    let p = or_none (first_fault S before) (told_at l.statement (told_kind (layout_kinds S l before))) fine in
-    let q = (line_kinds S l before (told_none l.statement (layout_kinds S l before) p.1)).0 in
+    let p = or_none (first_fault S ss before) (told_at l.statement (told_kind (layout_kinds S ss l before))) fine in
+    let q = (line_kinds S ss l before (told_none l.statement (layout_kinds S ss l before) p.1)).0 in
     subst (λ o. contents_kinds o l.thumb l.statement.what ≡ []) (behind.2 ∙ ap Some is) q
 
 zero_there : (ss : List Statement) → layout_faults ss ≡ None → (area : ℕ) → contents_of area (laid ss) ≡ Some contents.Zeroes

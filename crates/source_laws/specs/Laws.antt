@@ -51,7 +51,7 @@ AreOfState statements =
     (after before : List LaidLine) (l : LaidLine) → laid statements ≡ after ++ l ∷ before → IsOfState l.thumb l.statement.what
 
 abbrev pub context_behind : List Statement → LaidLine → List LaidLine → Context
-context_behind statements l before = context_of (final_names (laid statements)) statements l before
+context_behind statements l before = context_of (final_names (laid statements)) l before
 
 -- what the word of a literal holds
 abbrev pub stored_literal : List Statement → Context → Value → Result Stored LineKind

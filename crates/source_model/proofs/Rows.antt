@@ -27,11 +27,12 @@ use Rattle.asm_model.specs.declared.arm_lines.ArmLine.{ArmLine}
 use Rattle.asm_model.specs.declared.arm_lines.ArmLine.TheVariants as arm
 use Rattle.asm_model.specs.declared.directives.DirectiveLine.TheVariants as line
 use Rattle.asm_model.specs.declared.names.LaidName.{LaidName}
+use Rattle.asm_model.specs.declared.names.Names.{Names}
 use Rattle.asm_model.specs.declared.statements.PseudoLine.{PseudoLine}
 use Rattle.asm_model.specs.declared.statements.PseudoLine.TheVariants as pseudo
 use Rattle.asm_model.specs.declared.statements.What.TheVariants as what
-use Rattle.asm_model.specs.AtLine.{SourceLine, Sight, Nameless, sight}
-use Rattle.asm_model.specs.Entries.{label_entry, imported_entry, valued_entry}
+use Rattle.asm_model.specs.AtLine.{SourceLine, Nameless, with_names}
+use Rattle.asm_model.specs.Entries.{label_entry, imported_entry, register_entry, valued_entry, equal_entry}
 use Rattle.source_model.specs.Contexts.{Context}
 use Rattle.source_model.specs.Registers.{name_kinds, operand_kinds}
 use Rattle.source_model.specs.ValueKinds.{statement_kinds}
@@ -42,25 +43,22 @@ use Rattle.source_model.specs.Units.{Bytes, Word, Nothing, ByArea, BySymbol, uni
 
 -- ---- a statement at offset 8 of area 0; start stands at 0 there, other at 4 of area 1, and far is imported
 
+abbrev faulty_entry : LaidName
+faulty_entry = equal_entry [] None (codes "faulty") (Err OutOfRange)
+
 abbrev names : List LaidName
 names =
-    label_entry (codes "start") (Some 0) 0 4 false ∷ label_entry (codes "other") (Some 1) 4 4 false ∷ imported_entry (codes "far")
-    ∷ valued_entry (codes "six") (Number 6) false ∷ []
+    label_entry (codes "start") (Some 0) 0 (Some 4) false ∷ label_entry (codes "other") (Some 1) 4 (Some 4) false ∷ imported_entry (codes "far")
+    ∷ valued_entry (codes "six") (Number 6) false ∷ faulty_entry ∷ register_entry (codes "base") ∷ []
 
 abbrev here : SourceLine
 here = record { area = Some 0; offset = 8; map = 0; thumb = false; definition = Nameless }
 
 abbrev context : Context
-context = record {
-  names = names;
-  line = here;
-  registers = (codes "base", 9) ∷ [];
-  symbols = codes "start" ∷ codes "other" ∷ codes "far" ∷ [];
-  defined = codes "base" ∷ [];
-}
+context = record { names = names; line = here; registers = (codes "base", 9) ∷ [] }
 
-abbrev seen : Sight
-seen = sight names names here
+abbrev seen : Names
+seen = with_names here names
 
 abbrev items : List ExprItem → Expr
 items is = record { items = is }
@@ -214,6 +212,9 @@ import_exported = refl
 
 pub register_exported : exported (codes "base") ≡ WrongType ∷ []
 register_exported = refl
+
+pub faulty_name_exported : exported (codes "faulty") ≡ WrongType ∷ []
+faulty_name_exported = refl
 
 pub nothing_exported : exported (codes "none") ≡ UnknownWord ∷ []
 nothing_exported = refl

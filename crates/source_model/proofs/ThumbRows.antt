@@ -39,11 +39,9 @@ use Rattle.source_model.specs.Units.{LinkPair}
 
 abbrev at : ℕ → Context
 at offset = record {
-  names = label_entry (codes "start") (Some 0) 0 2 true ∷ label_entry (codes "ahead") (Some 0) 0x200 2 true ∷ imported_entry (codes "far") ∷ [];
+  names = label_entry (codes "start") (Some 0) 0 (Some 2) true ∷ label_entry (codes "ahead") (Some 0) 0x200 (Some 2) true ∷ imported_entry (codes "far") ∷ [];
   line = record { area = Some 0; offset = offset; map = 0; thumb = true; definition = Nameless };
   registers = (codes "low", 2) ∷ (codes "frame", 9) ∷ (codes "stack", 13) ∷ [];
-  symbols = codes "start" ∷ codes "ahead" ∷ codes "far" ∷ [];
-  defined = [];
 }
 
 abbrev number : ℕ → Expr

@@ -28,11 +28,10 @@ use Rattle.asm_model.specs.declared.arm_lines.ArmLine.{ArmLine}
 use Rattle.asm_model.specs.declared.arm_lines.ArmLine.TheVariants as arm
 use Rattle.asm_model.specs.declared.values.Value.{Value}
 use Rattle.asm_model.specs.declared.values.Value.TheVariants.{Number, Place}
-use Rattle.asm_model.specs.Forms.{same}
 use Rattle.asm_model.specs.Meaning.{named_in, stands_at}
 use Rattle.asm_model.specs.Says.{mapped}
 use Rattle.asm_model.specs.Symbols.{is_in_area, keeps_state}
-use Rattle.source_model.specs.Contexts.{Context, sees, value_of, number_in, register, and_then, offset_below, own_offset, from_pc}
+use Rattle.source_model.specs.Contexts.{Context, sees, may_have_symbol, value_of, number_in, register, and_then, offset_below, own_offset, from_pc}
 use Rattle.source_model.specs.Immediates.{immediate, data_immediate, status_of}
 
 -- ---- shifts
@@ -131,7 +130,7 @@ branch_from c (x ∷ xs) n = from_pc c (if is_settled c (x ∷ xs) then offset_a
 -- a branch that isn't settled needs a symbol
 abbrev pub has_symbol : Context → List ℕ → Bool
 has_symbol c [] = true
-has_symbol c (x ∷ xs) = is_settled c (x ∷ xs) || list_any (same (x ∷ xs)) c.symbols
+has_symbol c (x ∷ xs) = is_settled c (x ∷ xs) || may_have_symbol c (x ∷ xs)
 
 abbrev pub branch_displacement : Context → Result Value LineKind → Result ℕ LineKind
 branch_displacement c (Ok (Place s n)) = if has_symbol c s then Ok (branch_from c s n) else Err BadOperand

@@ -1,29 +1,28 @@
 -- What the operands of a statement mean in the end: its registers by their numbers, and its expressions with all names of
 -- the source. This project's.
-use Rattle.std.specs.Prelude.{ℕ, ◌+◌, ◌-◌, ◌%◌, ◌^◌, ◌==◌, nat_lt, List, Bool, if◌then◌else◌, Option, Some, None, Result, Ok, Err}
+use Rattle.std.specs.Prelude.{ℕ, ◌+◌, ◌-◌, ◌%◌, ◌^◌, ◌==◌, ◌&&◌, not, nat_lt, List, Bool, true, false, if◌then◌else◌, Option, Some, None, Result, Ok, Err}
 use Rattle.sdt_fault.specs.declared.kinds.LineKind.{LineKind}
 use Rattle.sdt_fault.specs.declared.kinds.LineKind.TheVariants.{WrongType, BadOperand, OutOfRange}
 use Rattle.asm_model.specs.declared.exprs.Expr.{Expr}
 use Rattle.asm_model.specs.declared.names.LaidName.{LaidName}
+use Rattle.asm_model.specs.declared.names.Meaning.{Meaning}
+use Rattle.asm_model.specs.declared.names.Meaning.TheVariants as means
 use Rattle.asm_model.specs.declared.names.Names.{Names}
 use Rattle.asm_model.specs.declared.operands.Register.{Register}
 use Rattle.asm_model.specs.declared.values.Value.{Value}
 use Rattle.asm_model.specs.declared.values.Value.TheVariants.{Place}
 use Rattle.asm_model.specs.AtLine.{SourceLine, with_names}
-use Rattle.asm_model.specs.Meaning.{stands_at}
+use Rattle.asm_model.specs.Labels.{is_hidden}
+use Rattle.asm_model.specs.Meaning.{named_in, stands_at}
 use Rattle.asm_model.specs.Extents.{as_number}
 use Rattle.asm_model.specs.Laid.{final_value}
 use Rattle.source_model.specs.Registers.{Named, number_of}
 
--- all names of the source, the statement's line, the names for registers that are known there, the names that symbols may
--- have, those of labels and imports, and the names that the source defines or imports, values or none. Local labels are
--- among the names, under names that no line can spell, and have no symbols
+-- all names of the source, the statement's line, and the names for registers that are known there
 pub record Context : Type 0 where
   pub names : List LaidName
   pub line : SourceLine
   pub registers : List Named
-  pub symbols : List (List ℕ)
-  pub defined : List (List ℕ)
 
 abbrev pub sees : Context → Names
 sees c = with_names c.line c.names
@@ -38,9 +37,27 @@ abbrev pub or_zero : Option ℕ → ℕ
 or_zero None = 0
 or_zero (Some n) = n
 
+-- ---- symbols: labels and imports may have one, and no local label, whose name no line can spell
+
+abbrev pub is_symbol : Meaning → Bool
+is_symbol means.Label = true
+is_symbol means.Imported = true
+is_symbol _ = false
+
+abbrev pub is_symbol_entry : Option LaidName → Bool
+is_symbol_entry None = false
+is_symbol_entry (Some n) = is_symbol n.meaning
+
+abbrev pub may_have_symbol : Context → List ℕ → Bool
+may_have_symbol c name = is_symbol_entry (named_in name c.names) && not (is_hidden name)
+
+-- ---- registers
+
 -- the number of a register; each name of a source without faults has one
 abbrev pub register : Context → Register → ℕ
 register c r = or_zero (number_of c.registers r)
+
+-- ---- results
 
 -- what comes behind a result
 abbrev pub and_then : {A B : Type 0} → Result A LineKind → (A → Result B LineKind) → Result B LineKind

@@ -28,7 +28,7 @@ use Rattle.asm_model.specs.declared.values.Value.TheVariants.{Number, Place}
 use Rattle.asm_model.specs.AtLine.{Nameless}
 use Rattle.asm_model.specs.Directives.{or_else}
 use Rattle.asm_model.specs.Forms.{same}
-use Rattle.asm_model.specs.Meaning.{named_in, stands_at}
+use Rattle.asm_model.specs.Meaning.{named_in, stands_at, value_of}
 use Rattle.asm_model.specs.Before.{areas_behind, place_of, is_code}
 use Rattle.asm_model.specs.Entries.{thumb_of}
 use Rattle.asm_model.specs.Extents.{Extent, Loading}
@@ -136,7 +136,7 @@ in_order [] after = after
 in_order (l ∷ ls) after = in_order ls (l ∷ after)
 
 abbrev pub context_at : (s : Source) (l : LaidLine) → At s l → Context
-context_at s l at = context_of s.names s.statements l at.before
+context_at s l at = context_of s.names l at.before
 
 abbrev pub word_at : (s : Source) (l : LaidLine) → At s l → Option ℕ
 word_at s l at = literal_place l.area (taken l.extent) (pieces_of (l ∷ at.before)) (pieces_of (in_order at.rest []))
@@ -145,7 +145,7 @@ word_at s l at = literal_place l.area (taken l.extent) (pieces_of (l ∷ at.befo
 abbrev pub things_of : Source → ℕ → LaidLine → List LaidLine → List LaidLine → List Piece
 things_of s area l before rest =
     if is_of area l.area then
-    pieces_in (context_of s.names s.statements l before) (datum_names s.statements) l
+    pieces_in (context_of s.names l before) (datum_names s.statements) l
     (literal_place l.area (taken l.extent) (pieces_of (l ∷ before)) (pieces_of rest))
     else []
 
@@ -263,21 +263,18 @@ in_no_line s = record {
   names = s.names;
   line = record { area = None; offset = 0; map = 0; thumb = false; definition = Nameless };
   registers = [];
-  symbols = [];
-  defined = [];
 }
 
-abbrev pub symbol_valued : Source → List ℕ → Value → Symbol
-symbol_valued s name (Number n) = record { name = name; attributes = scope s name + 2 ^ 2; value = n; area = None }
-symbol_valued s name (Place label n) = symbol_placed s name label n (stands_at (sees (in_no_line s)) label)
+abbrev pub symbol_valued : Source → List ℕ → Result Value LineKind → Symbol
+symbol_valued s name (Ok (Number n)) = record { name = name; attributes = scope s name + 2 ^ 2; value = n; area = None }
+symbol_valued s name (Ok (Place label n)) = symbol_placed s name label n (stands_at (sees (in_no_line s)) label)
 symbol_valued s name _ = record { name = name; attributes = 0; value = 0; area = None }
 
-abbrev pub symbol_named : Source → List ℕ → Option LaidName → Symbol
-symbol_named s name None = record { name = name; attributes = 0; value = 0; area = None }
-symbol_named s name (Some n) = symbol_valued s name n.value
+abbrev pub symbol_named : Source → List ℕ → Symbol
+symbol_named s name = symbol_valued s name (value_of (named_in name s.names))
 
 abbrev pub symbol_records : Source → List Symbol
-symbol_records s = map (λ name. symbol_named s name (named_in name s.names)) (symbols_of s.names s.lines)
+symbol_records s = map (symbol_named s) (symbols_of s.names s.lines)
 
 -- ---- the entry
 
@@ -302,7 +299,7 @@ KeepsBytes s area false bytes = bytes ≡ []
 
 pub record IsArea (s : Source) (area : ℕ) (a : Area) : Type 0 where
   pub name : slice_get (areas_behind s.statements) area ≡ Some a.name
-  pub attributes : attributes_of area (is_thumb_area area s.lines) s.lines ≡ Some a.attributes
+  pub attributes : attributes_of area (is_thumb_area area s.statements) s.lines ≡ Some a.attributes
   pub size : a.size ≡ area_size area (pieces_of s.lines)
   pub bytes : KeepsBytes s area (is_kept (contents_of area s.lines)) a.bytes
   pub relocs : HasRelocs s area a.relocs

@@ -11,6 +11,7 @@ use Rattle.thumb_isa.specs.declared.instr.ImmediateOperation.TheVariants as imme
 use Rattle.asm_model.specs.declared.directives.RnOperand.{RnOperand}
 use Rattle.asm_model.specs.declared.directives.RnOperand.TheVariants as rn
 use Rattle.asm_model.specs.declared.names.LaidName.{LaidName}
+use Rattle.asm_model.specs.declared.names.Names.{Names}
 use Rattle.asm_model.specs.declared.operands.Register.{Register}
 use Rattle.asm_model.specs.declared.operands.Register.TheVariants as register
 use Rattle.asm_model.specs.declared.operands.ListItem.{ListItem}
@@ -30,8 +31,8 @@ use Rattle.asm_model.specs.declared.statements.PseudoLine.{PseudoLine}
 use Rattle.asm_model.specs.declared.statements.PseudoLine.TheVariants as pseudo
 use Rattle.asm_model.specs.declared.statements.What.{What}
 use Rattle.asm_model.specs.declared.statements.What.TheVariants as what
-use Rattle.asm_model.specs.AtLine.{Sight, is_in}
 use Rattle.asm_model.specs.Forms.{same}
+use Rattle.asm_model.specs.Meaning.{named_in}
 use Rattle.asm_model.specs.Extents.{number_there}
 use Rattle.asm_model.specs.Labels.{Defined, RegisterName, defined_by}
 use Rattle.asm_model.specs.Laid.{LaidLine}
@@ -51,7 +52,7 @@ abbrev pub as_register : Result ℕ LineKind → Result ℕ LineKind
 as_register (Ok n) = if nat_lt n 16 then Ok n else Err OutOfRange
 as_register (Err k) = Err k
 
-abbrev pub given : Sight → RnOperand → Result ℕ LineKind
+abbrev pub given : Names → RnOperand → Result ℕ LineKind
 given s (rn.Register n) = Ok n
 given s (rn.Number e) = as_register (number_there s e)
 
@@ -59,7 +60,7 @@ abbrev pub with_register : List ℕ → Result ℕ LineKind → List Named
 with_register name (Ok n) = (name, n) ∷ []
 with_register name (Err k) = []
 
-abbrev pub named_by : Sight → Defined → List Named
+abbrev pub named_by : Names → Defined → List Named
 named_by s (RegisterName name r) = with_register name (given s r)
 named_by s _ = []
 
@@ -153,18 +154,18 @@ registers_of _ = []
 -- ---- faults of names for registers
 
 -- a name that is none yet, another name, or no name
-abbrev pub no_register : List (List ℕ) → List LaidName → List ℕ → LineKind
-no_register registers names name =
-    if list_any (same name) registers then Forward else if is_in names name then WrongType else UnknownWord
+abbrev pub no_register : List (List ℕ) → List ℕ → Option LaidName → LineKind
+no_register registers name None = UnknownWord
+no_register registers name (Some n) = if list_any (same name) registers then Forward else WrongType
 
 abbrev pub kinds_unless : Option ℕ → LineKind → List LineKind
 kinds_unless (Some n) k = []
 kinds_unless None k = k ∷ []
 
--- of a register, where a source has these names for registers and these other names, and those are known
+-- of a register, where a source has these names for registers and all these names, and those registers are known
 abbrev pub name_kinds : List (List ℕ) → List LaidName → List Named → Register → List LineKind
 name_kinds registers names known (register.Number n) = []
-name_kinds registers names known (register.Named name) = kinds_unless (register_in name known) (no_register registers names name)
+name_kinds registers names known (register.Named name) = kinds_unless (register_in name known) (no_register registers name (named_in name names))
 
 abbrev pub names_kinds : List (List ℕ) → List LaidName → List Named → List Register → List LineKind
 names_kinds registers names known [] = []
@@ -273,7 +274,7 @@ operand_kinds thumb known (what.Thumb l) = range_kinds known (thumb_list l) ++ k
 operand_kinds thumb known (what.Pseudo l) = pseudo_kinds thumb known l
 operand_kinds thumb known _ = []
 
-abbrev pub given_kinds : Sight → Defined → List LineKind
+abbrev pub given_kinds : Names → Defined → List LineKind
 given_kinds s (RegisterName name r) = fault_kinds (given s r)
 given_kinds s _ = []
 
@@ -281,5 +282,5 @@ given_kinds s _ = []
 abbrev pub register_kinds : List (List ℕ) → LaidLine → List LaidLine → List LineKind
 register_kinds registers l before =
     given_kinds l.seen (defined_by l.statement)
-    ++ names_kinds registers l.seen.all (registers_behind before) (registers_of l.statement.what)
+    ++ names_kinds registers l.seen.list (registers_behind before) (registers_of l.statement.what)
     ++ operand_kinds l.thumb (registers_behind before) l.statement.what

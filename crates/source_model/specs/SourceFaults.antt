@@ -1,15 +1,14 @@
 -- The first faulty line of statements: in the pass of layout, and, where that has none, in the pass of values. This
 -- project's. What a source without an AREA and lines that can't be read tell is judged with the lines.
-use Rattle.std.specs.Prelude.{ℕ, List, [], ◌∷◌, ◌++◌, if◌then◌else◌, Option, Some, None}
+use Rattle.std.specs.Prelude.{ℕ, List, [], ◌∷◌, ◌++◌, Option, Some, None}
 use Rattle.sdt_fault.specs.declared.kinds.LineKind.{LineKind}
 use Rattle.asm_model.specs.declared.names.LaidName.{LaidName}
 use Rattle.asm_model.specs.declared.statements.Statement.{Statement}
 use Rattle.asm_model.specs.Directives.{or_else}
 use Rattle.asm_model.specs.Kinds.{told_kind}
 use Rattle.asm_model.specs.Extents.{Extent, Loading}
-use Rattle.asm_model.specs.Labels.{Defined, Label, defined_by, imported_in, is_hidden}
 use Rattle.asm_model.specs.Laid.{LaidLine, taken, pieces_of, laid, reversed, final_names}
-use Rattle.asm_model.specs.LayoutKinds.{layout_kinds, told_at, first_late, names_behind, settled, equals_in, listed}
+use Rattle.asm_model.specs.LayoutKinds.{layout_kinds, told_at, first_late, settled, equals_in}
 use Rattle.asm_model.specs.Marks.{datum_names}
 use Rattle.asm_model.specs.Offsets.{Piece, area_size, literal_word}
 use Rattle.source_model.specs.Contexts.{Context}
@@ -18,42 +17,28 @@ use Rattle.source_model.specs.ValueKinds.{value_kinds}
 
 -- ---- the pass of layout
 
--- the first line with a fault of its own, where a source has these names for registers and these settled names
-abbrev pub first_laid : List (List ℕ) → List (List ℕ) → List LaidLine → Option (Statement × LineKind)
-first_laid registers settled [] = None
-first_laid registers settled (l ∷ before) =
-    or_else (first_laid registers settled before)
-    (told_at l.statement (told_kind (layout_kinds settled l before ++ register_kinds registers l before)))
+-- the first line with a fault of its own, where a source has these names for registers, these settled names and these
+-- statements that can be read
+abbrev pub first_laid : List (List ℕ) → List (List ℕ) → List Statement → List LaidLine → Option (Statement × LineKind)
+first_laid registers settled all [] = None
+first_laid registers settled all (l ∷ before) =
+    or_else (first_laid registers settled all before)
+    (told_at l.statement (told_kind (layout_kinds settled all l before ++ register_kinds registers l before)))
 
 abbrev pub layout_faults : List Statement → Option (Statement × LineKind)
 layout_faults statements =
-    or_else (first_laid (register_names statements) (settled (equals_in statements)) (laid statements))
+    or_else (first_laid (register_names statements) (settled (equals_in statements)) statements (laid statements))
     (first_late (laid statements) [] (reversed (laid statements) []))
 
 -- ---- the pass of values
-
-abbrev pub label_of : Defined → List (List ℕ)
-label_of (Label name) = if is_hidden name then [] else name ∷ []
-label_of _ = []
-
--- the names of labels and imports; a local label has no symbol
-abbrev pub symbol_names : List Statement → List (List ℕ)
-symbol_names [] = []
-symbol_names (s ∷ before) = symbol_names before ++ label_of (defined_by s) ++ listed (imported_in s.what)
 
 -- the offset of the word of a statement's literal, where these pieces stand before it and these behind
 abbrev pub word_of : Option ℕ → Extent → List Piece → List Piece → Option ℕ
 word_of (Some area) (Loading n v) before rest = Some (literal_word area before rest v)
 word_of _ _ before rest = None
 
-abbrev pub context_of : List LaidName → List Statement → LaidLine → List LaidLine → Context
-context_of names statements l before = record {
-  names = names;
-  line = l.line;
-  registers = registers_behind before;
-  symbols = symbol_names statements;
-  defined = names_behind statements;
-}
+abbrev pub context_of : List LaidName → LaidLine → List LaidLine → Context
+context_of names l before = record { names = names; line = l.line; registers = registers_behind before }
 
 -- the first line with a fault of values, where these lines stand before it, the nearest first, and these from it on
 abbrev pub first_valued : List LaidLine → List Statement → List LaidLine → List LaidLine → Option (Statement × LineKind)
@@ -62,7 +47,7 @@ first_valued all statements before (l ∷ rest) =
     or_else
     (told_at l.statement
     (told_kind
-    (value_kinds (context_of (final_names all) statements l before) (datum_names statements)
+    (value_kinds (context_of (final_names all) l before) (datum_names statements)
     (λ area. area_size area (pieces_of all)) l.seen (taken l.extent) (word_of l.area (taken l.extent) (pieces_of (l ∷ before)) (pieces_of rest))
     l.statement.what)))
     (first_valued all statements (l ∷ before) rest)

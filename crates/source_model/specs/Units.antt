@@ -11,6 +11,7 @@ use Rattle.thumb_isa.specs.declared.instr.ThumbInstr.{ThumbInstr}
 use Rattle.asm_model.specs.declared.exprs.Expr.{Expr}
 use Rattle.asm_model.specs.declared.values.Value.{Value}
 use Rattle.asm_model.specs.declared.values.Value.TheVariants.{Number, Words, Place}
+use Rattle.asm_model.specs.declared.names.Names.{Names}
 use Rattle.asm_model.specs.declared.arm_lines.ArmLine.{ArmLine}
 use Rattle.asm_model.specs.declared.arm_lines.ArmLine.TheVariants as arm
 use Rattle.asm_model.specs.declared.thumb_lines.ThumbLine.{ThumbLine}
@@ -20,7 +21,6 @@ use Rattle.asm_model.specs.declared.directives.DirectiveLine.{DirectiveLine}
 use Rattle.asm_model.specs.declared.directives.DirectiveLine.TheVariants as line
 use Rattle.asm_model.specs.declared.statements.What.{What}
 use Rattle.asm_model.specs.declared.statements.What.TheVariants as what
-use Rattle.asm_model.specs.AtLine.{Sight}
 use Rattle.asm_model.specs.Meaning.{stands_at}
 use Rattle.asm_model.specs.Says.{on_both, mapped}
 use Rattle.asm_model.specs.Extents.{value_there}
@@ -93,7 +93,7 @@ byte_operand known (Ok (Number n)) = narrow 1 n
 byte_operand known (Ok _) = Err WrongType
 byte_operand known (Err k) = Err k
 
-abbrev pub byte_units : Context → Sight → List Expr → Result (List Emitted) LineKind
+abbrev pub byte_units : Context → Names → List Expr → Result (List Emitted) LineKind
 byte_units c s [] = Ok []
 byte_units c s (e ∷ es) = on_both (λ b us. Bytes b ∷ us) (byte_operand (value_there s e) (value_of c e)) (byte_units c s es)
 
@@ -126,7 +126,7 @@ pseudo_units false c word l = mapped instruction_units (pseudo_instructions c wo
 
 -- ---- all
 
-abbrev pub directive_units : Context → List (List ℕ) → Sight → DirectiveLine → Result (List Emitted) LineKind
+abbrev pub directive_units : Context → List (List ℕ) → Names → DirectiveLine → Result (List Emitted) LineKind
 directive_units c data_names s (line.Dcd es) = word_units c data_names es
 directive_units c data_names s (line.Dcdu es) = word_units c data_names es
 directive_units c data_names s (line.Dcw es) = half_units c es
@@ -134,7 +134,7 @@ directive_units c data_names s (line.Dcb es) = byte_units c s es
 directive_units c data_names s _ = Ok []
 
 -- of a statement that sees this at its line, whose literal has its word at an offset, if it has one
-abbrev pub units : Context → List (List ℕ) → Sight → Option ℕ → What → Result (List Emitted) LineKind
+abbrev pub units : Context → List (List ℕ) → Names → Option ℕ → What → Result (List Emitted) LineKind
 units c data_names s word what.Nothing = Ok []
 units c data_names s word (what.Arm l) = mapped (λ i. Instruction i (branch_symbol c l) ∷ []) (arm_instruction c l)
 units c data_names s word (what.Thumb l) = mapped (λ i. code_unit (link_symbol c l) i ∷ []) (thumb_instruction c l)

@@ -1,19 +1,17 @@
 -- The kinds of faults that values have, once all names of a source are known: of operands, of names for expressions, of
 -- EXPORT and KEEP, and of ASSERT. SDT 2.50 Reference Guide, chapter on the assembler; the kinds are this project's.
 use Rattle.std.specs.Prelude.{ℕ, ◌+◌, ◌%◌, ◌^◌, nat_le, List, [], ◌∷◌, ◌++◌, Bool, false, if◌then◌else◌, Option, Some, None, Result, Ok, Err}
-use Rattle.std.specs.List.{list_any}
 use Rattle.sdt_fault.specs.declared.kinds.LineKind.{LineKind}
 use Rattle.sdt_fault.specs.declared.kinds.LineKind.TheVariants.{UnknownWord, WrongType, Assert}
 use Rattle.asm_model.specs.declared.directives.DirectiveLine.{DirectiveLine}
 use Rattle.asm_model.specs.declared.directives.DirectiveLine.TheVariants as line
 use Rattle.asm_model.specs.declared.names.LaidName.{LaidName}
+use Rattle.asm_model.specs.declared.names.Names.{Names}
 use Rattle.asm_model.specs.declared.statements.What.{What}
 use Rattle.asm_model.specs.declared.statements.What.TheVariants as what
 use Rattle.asm_model.specs.declared.values.Value.{Value}
 use Rattle.asm_model.specs.declared.values.Value.TheVariants.{Number, Truth, Place}
-use Rattle.asm_model.specs.AtLine.{Sight}
-use Rattle.asm_model.specs.Forms.{same}
-use Rattle.asm_model.specs.Meaning.{named_in, stands_at}
+use Rattle.asm_model.specs.Meaning.{named_in, stands_at, entry_value}
 use Rattle.asm_model.specs.Extents.{Extent, Loading}
 use Rattle.asm_model.specs.LayoutKinds.{fault_kinds}
 use Rattle.asm_model.specs.Symbols.{literal_value}
@@ -30,14 +28,15 @@ lies_within sizes (Some a) n = nat_le ((a.1 + n) % 2 ^ 32) (sizes a.0)
 abbrev pub kinds_unless : Bool → LineKind → List LineKind
 kinds_unless holds k = if holds then [] else k ∷ []
 
-abbrev pub export_kinds : Context → (ℕ → ℕ) → List ℕ → Option LaidName → List LineKind
-export_kinds c sizes name None = (if list_any (same name) c.defined then WrongType else UnknownWord) ∷ []
-export_kinds c sizes name (Some n) = by_value n.value
-  where
-    by_value : Value → List LineKind
-    by_value (Number m) = []
-    by_value (Place s m) = kinds_unless (lies_within sizes (stands_at (sees c) s) m) WrongType
-    by_value _ = WrongType ∷ []
+-- of a name with a value, or with none
+abbrev pub exported_kinds : Context → (ℕ → ℕ) → Result Value LineKind → List LineKind
+exported_kinds c sizes (Ok (Number m)) = []
+exported_kinds c sizes (Ok (Place s m)) = kinds_unless (lies_within sizes (stands_at (sees c) s) m) WrongType
+exported_kinds c sizes _ = WrongType ∷ []
+
+abbrev pub export_kinds : Context → (ℕ → ℕ) → Option LaidName → List LineKind
+export_kinds c sizes None = UnknownWord ∷ []
+export_kinds c sizes (Some n) = exported_kinds c sizes (entry_value n)
 
 -- ---- ASSERT
 
@@ -49,8 +48,8 @@ assert_kinds (Err k) = k ∷ []
 -- ---- all
 
 abbrev pub directive_kinds : Context → (ℕ → ℕ) → DirectiveLine → List LineKind
-directive_kinds c sizes (line.Export name) = export_kinds c sizes name (named_in name c.names)
-directive_kinds c sizes (line.Keep name) = export_kinds c sizes name (named_in name c.names)
+directive_kinds c sizes (line.Export name) = export_kinds c sizes (named_in name c.names)
+directive_kinds c sizes (line.Keep name) = export_kinds c sizes (named_in name c.names)
 directive_kinds c sizes (line.Equ e) = fault_kinds (value_of c e)
 directive_kinds c sizes (line.Assert e) = assert_kinds (value_of c e)
 directive_kinds c sizes _ = []
@@ -66,6 +65,6 @@ statement_kinds c sizes _ = []
 
 -- of a statement that takes up this and sees this at its line, where its literal has its word at an offset, if it has one,
 -- and areas have these sizes
-abbrev pub value_kinds : Context → List (List ℕ) → (ℕ → ℕ) → Sight → Extent → Option ℕ → What → List LineKind
+abbrev pub value_kinds : Context → List (List ℕ) → (ℕ → ℕ) → Names → Extent → Option ℕ → What → List LineKind
 value_kinds c data_names sizes s e word w =
     fault_kinds (units c data_names s word w) ++ literal_kinds c data_names e ++ statement_kinds c sizes w

@@ -15,16 +15,15 @@ use Rattle.asm_model.specs.declared.statements.What.{What}
 use Rattle.asm_model.specs.declared.statements.What.TheVariants as what
 use Rattle.asm_model.specs.Directives.{or_else}
 use Rattle.asm_model.specs.Kinds.{told_kind}
-use Rattle.asm_model.proofs.LineLemmas.{both_empty}
 use Rattle.asm_model.specs.Before.{area_named, areas_behind}
 use Rattle.asm_model.specs.Laid.{LaidLine, statements_of, taken, pieces_of, laid}
 use Rattle.asm_model.specs.LayoutKinds.{exponent, exponent_kinds, is_named_otherwise, kind_if, area_kinds, layout_kinds, told_at, first_fault}
 use Rattle.asm_model.specs.Offsets.{is_of, waiting, waiting_behind, end_from, end_behind, area_size}
-use Rattle.layout_laws.proofs.SoundLemmas.{or_none, told_none, kind_none}
+use Rattle.layout_laws.proofs.SoundLemmas.{both_empty, or_none, told_none, kind_none}
 use Rattle.source_model.specs.Objects.{or_two, attributes_word, says_area, attributes_of, contents_in, contents_of, is_kept}
 use Rattle.source_laws.proofs.ListedLemmas.{owned}
-use Rattle.source_laws.proofs.WithinLemmas.{IsWithin, area_within, fewer, areas_more}
-use Rattle.source_laws.proofs.ZeroLemmas.{AreNumbered, laid_numbered, numbered_rest, line_kinds}
+use Rattle.source_laws.proofs.WithinLemmas.{IsWithin, area_within, fewer, line_within}
+use Rattle.source_laws.proofs.ZeroLemmas.{AreNumbered, laid_numbered, line_kinds}
 use Rattle.asm_model.specs.Labels.{declared_names}
 
 -- ---- areas that are there
@@ -37,12 +36,7 @@ found_at (x ∷ xs) (suc i) h = found_at xs i (omega arith)
 -- a line's area is one of the source
 pub area_there : (ss : List Statement) (n area : ℕ) (after before : List LaidLine) (l : LaidLine) → length (areas_behind (statements_of (laid ss))) ≤ n
     → laid ss ≡ after ++ l ∷ before → l.area ≡ Some area → area < n
-area_there ss n area after before l few e own =
-    let numbered = numbered_rest after (l ∷ before) (subst AreNumbered e (laid_numbered (declared_names ss) ss)) in
-    let more = areas_more after (l ∷ before) in
-    let all = subst (λ z. length (areas_behind (statements_of z)) ≤ n) e few in
-    let here : length (areas_behind (statements_of (l ∷ before))) ≤ n = omega arith in
-    subst (IsWithin n) (sym numbered.0 ∙ own) (area_within n (statements_of (l ∷ before)) here)
+area_there ss n area after before l few e own = subst (IsWithin n) own (line_within ss n after before l few e)
 
 beyond_line : (area n : ℕ) (o : Option ℕ) → IsWithin n o → n ≤ area → is_of area o ≡ false
 beyond_line area n o h k = by_test (is_of area o) refl
@@ -137,14 +131,14 @@ line_agrees area thumb l before (what.Directive (line.Area name a)) fine = by_te
         (both_empty (exponent_kinds (exponent l.seen a.align)) (kind_if (is_named_otherwise name l.seen a before) BadOperand) fine).0)
 line_agrees area thumb l before w fine = tt
 
-pub lines_agree : (S : List (List ℕ)) (area : ℕ) (thumb : Bool) (lines : List LaidLine) → first_fault S lines ≡ None
+pub lines_agree : (S : List (List ℕ)) (all : List Statement) (area : ℕ) (thumb : Bool) (lines : List LaidLine) → first_fault S all lines ≡ None
     → Agree (attributes_of area thumb lines) (contents_of area lines)
-lines_agree S area thumb [] fine = tt
-lines_agree S area thumb (l ∷ before) fine =
-    let p = or_none (first_fault S before) (told_at l.statement (told_kind (layout_kinds S l before))) fine in
+lines_agree S all area thumb [] fine = tt
+lines_agree S all area thumb (l ∷ before) fine =
+    let p = or_none (first_fault S all before) (told_at l.statement (told_kind (layout_kinds S all l before))) fine in
     either_agrees (attributes_of area thumb before) (says_area area l l.statement.what thumb) (contents_of area before) (contents_in area l l.statement.what)
-    (lines_agree S area thumb before p.0)
-    (line_agrees area thumb l before l.statement.what (line_kinds S l before (told_none l.statement (layout_kinds S l before) p.1)).1)
+    (lines_agree S all area thumb before p.0)
+    (line_agrees area thumb l before l.statement.what (line_kinds S all l before (told_none l.statement (layout_kinds S all l before) p.1)).1)
 
 -- an area of zeros is marked as one, and any other keeps its bytes
 abbrev pub AreaKind : Option Contents → Bool → Type 0

@@ -8,7 +8,7 @@ use Rattle.sdt_word.specs.Numbers.{flag}
 use Rattle.asm_model.specs.declared.exprs.Expr.{Expr}
 use Rattle.asm_model.specs.declared.values.Value.{Value}
 use Rattle.asm_model.specs.declared.values.Value.TheVariants.{Number, Truth, Words, Place}
-use Rattle.asm_model.specs.AtLine.{Sight}
+use Rattle.asm_model.specs.declared.names.Names.{Names}
 use Rattle.asm_model.specs.Meaning.{stands_at}
 use Rattle.asm_model.specs.Extents.{value_there}
 use Rattle.asm_model.specs.Marks.{counts_one, thumb_bit, datum_names}
@@ -125,7 +125,7 @@ halves_stand k (e ∷ es) us a at here x h s =
     )
 
 -- what is known at the line is so in the end
-abbrev pub KnownStay : Context → Sight → Type 0
+abbrev pub KnownStay : Context → Names → Type 0
 KnownStay c s = (e : Expr) (v : Value) → value_there s e ≡ Ok v → value_of c e ≡ Ok v
 
 abbrev pub ByteIs : Result Value LineKind → Result Value LineKind → List ℕ → Type 0
@@ -139,7 +139,7 @@ byte_is known (Ok (Truth b)) bytes h = absurd (cc)
 byte_is known (Ok (Place s n)) bytes h = absurd (cc)
 byte_is known (Err j) bytes h = absurd (cc)
 
-pub bytes_stand : (k : Setting) (s : Sight) (es : List Expr) (us : List Emitted) (a at : ℕ) → HaveSymbols (sees k.context) → KnownStay k.context s
+pub bytes_stand : (k : Setting) (s : Names) (es : List Expr) (us : List Emitted) (a at : ℕ) → HaveSymbols (sees k.context) → KnownStay k.context s
     → a ≡ k.base + at → byte_units k.context s es ≡ Ok us → AllShown k (units_from at us) → BytesStand (scene k) a es
 bytes_stand k s [] us a at here stay x h shown = tt
 bytes_stand k s (e ∷ es) us a at here stay x h shown =

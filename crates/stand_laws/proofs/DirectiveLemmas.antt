@@ -12,12 +12,14 @@ use Rattle.patch_model.proofs.SumLemmas.{one}
 use Rattle.source_model.specs.Objects.{Piece, unit_bytes, Source, source_of, StandsIn, symbol_number, word_relocs, branch_relocs, link_relocs, relocs_of, IsRelocOf, HasRelocs}
 use Rattle.source_model.specs.Units.{Bytes, Word, Instruction, Half, LinkPair, Stored, Target, Nothing, ByArea, BySymbol}
 use Rattle.source_laws.specs.Laws.{StandApart}
-use Rattle.stand_laws.proofs.GoodLemmas.{TargetWithin, LinkedAligned, IsGood}
+use Rattle.object_laws.proofs.RelocLemmas.{TargetBelow, UnitBelow}
+use Rattle.stand_laws.proofs.GoodLemmas.{LinkedAligned, IsGood}
 use Rattle.stand_laws.proofs.RelocLemmas.{reloc_at, PlacesRise, RelocIs, by_area, by_symbol, of_branch, of_pair}
 
 -- what is known of what stands in an area
 pub record Facts (ss : List Statement) (area : ℕ) : Type 0 where
-  pub good : (p : Piece) → StandsIn (source_of ss) area p → IsGood (2 ^ 24) p
+  pub good : (p : Piece) → StandsIn (source_of ss) area p → IsGood p
+  pub below : (p : Piece) → StandsIn (source_of ss) area p → UnitBelow (2 ^ 24) p.1
   pub symbols : (name : List ℕ) → symbol_number (source_of ss) name < 2 ^ 24
   pub apart : (p q : Piece) → StandsIn (source_of ss) area p → StandsIn (source_of ss) area q → (p ≡ q) ⊎ StandApart p q
   pub inside : (p : Piece) → StandsIn (source_of ss) area p → p.0 + length (unit_bytes p.1) ≤ area_size area (pieces_of (laid ss))
@@ -34,7 +36,7 @@ field_by : (q : Piece) (r : Reloc) (kind : Kind) (relative by : Bool) (n : ℕ) 
     → size_of kind ≡ length (unit_bytes q.1) → FieldOf q r
 field_by q r kind relative by n is low high s = record { place = is.place; size = ap size_of is.kind_is ∙ s; from_offset = low; to_offset = high }
 
-word_field : (s : Source) (at : ℕ) (w : Stored) (t : Target) (r : Reloc) → TargetWithin (2 ^ 24) t → ((name : List ℕ) → symbol_number s name < 2 ^ 24)
+word_field : (s : Source) (at : ℕ) (w : Stored) (t : Target) (r : Reloc) → TargetBelow (2 ^ 24) t → ((name : List ℕ) → symbol_number s name < 2 ^ 24)
     → IsRelocOf (word_relocs s at t) r → FieldOf (at, Word w) r
 word_field s at w Nothing r good symbols h = absurd h
 word_field s at w (ByArea k) r good symbols (inl e) =
@@ -67,13 +69,13 @@ pair_field s at first second (Some name) r even symbols (inl e) =
     (of_pair at n (symbols name) even) (omega arith) (omega arith) refl)
 pair_field s at first second (Some name) r even symbols (inr h) = absurd h
 
-pub piece_field : (s : Source) (q : Piece) (r : Reloc) → IsGood (2 ^ 24) q → ((name : List ℕ) → symbol_number s name < 2 ^ 24)
+pub piece_field : (s : Source) (q : Piece) (r : Reloc) → IsGood q → UnitBelow (2 ^ 24) q.1 → ((name : List ℕ) → symbol_number s name < 2 ^ 24)
     → IsRelocOf (relocs_of s q) r → FieldOf q r
-piece_field s (at, Bytes b) r good symbols h = absurd h
-piece_field s (at, Word w) r good symbols h = word_field s at w w.target r good symbols h
-piece_field s (at, Instruction i o) r good symbols h = branch_field s at i o r good.1 symbols h
-piece_field s (at, Half i) r good symbols h = absurd h
-piece_field s (at, LinkPair first second o) r good symbols h = pair_field s at first second o r good.1 symbols h
+piece_field s (at, Bytes b) r good below symbols h = absurd h
+piece_field s (at, Word w) r good below symbols h = word_field s at w w.target r below symbols h
+piece_field s (at, Instruction i o) r good below symbols h = branch_field s at i o r good.1 symbols h
+piece_field s (at, Half i) r good below symbols h = absurd h
+piece_field s (at, LinkPair first second o) r good below symbols h = pair_field s at first second o r good.1 symbols h
 
 -- ---- all fields of an area
 
@@ -122,10 +124,10 @@ places_rise ss area relocs facts has q r i j lt = by_case (facts.apart x.0 y.0 x
     y = has.no_others r j
 
     f : FieldOf x.0 q
-    f = piece_field (source_of ss) x.0 q (facts.good x.0 x.1) facts.symbols x.2
+    f = piece_field (source_of ss) x.0 q (facts.good x.0 x.1) (facts.below x.0 x.1) facts.symbols x.2
 
     g : FieldOf y.0 r
-    g = piece_field (source_of ss) y.0 r (facts.good y.0 y.1) facts.symbols y.2
+    g = piece_field (source_of ss) y.0 r (facts.good y.0 y.1) (facts.below y.0 y.1) facts.symbols y.2
 
     long : (p : Piece) (z : Reloc) → FieldOf p z → 1 ≤ length (unit_bytes p.1)
     long p z h = subst (λ n. 1 ≤ n) h.size (some_size (field_of z).kind)
@@ -151,7 +153,7 @@ pub outside_fields : (ss : List Statement) (area : ℕ) (relocs : List Reloc) �
     → IsOutside relocs i
 outside_fields ss area relocs facts has i away k r there =
     let p = has.no_others r (reloc_at relocs k r there) in
-    let f = piece_field (source_of ss) p.0 r (facts.good p.0 p.1) facts.symbols p.2 in
+    let f = piece_field (source_of ss) p.0 r (facts.good p.0 p.1) (facts.below p.0 p.1) facts.symbols p.2 in
     misses i (field_of r).place (size_of (field_of r).kind) p.0.0 (length (unit_bytes p.0.1)) f.place f.size (away p.0 p.1 r p.2)
 
 -- each place of a thing without relocations

@@ -1,5 +1,5 @@
 -- An expression in which names that a line doesn't know stay names, by what all names make of it.
-use Rattle.std.proofs.Common.{◌≡◌, ℕ, List, [], ◌∷◌, Bool, true, false, cond, refl, sym, ◌∙◌, ap, subst, arith, inr}
+use Rattle.std.proofs.Common.{◌≡◌, ℕ, List, [], ◌∷◌, Bool, true, false, cond, refl, sym, ◌∙◌, ap, subst, arith}
 use Rattle.std.specs.Prelude.{Result, Ok, Err}
 use Rattle.sdt_fault.specs.declared.kinds.LineKind.{LineKind}
 use Rattle.asm_model.specs.declared.exprs.BinaryOp.{BinaryOp}
@@ -10,17 +10,16 @@ use Rattle.asm_model.specs.declared.exprs.UnaryOp.TheVariants as unary
 use Rattle.asm_model.specs.declared.names.Names.{Names}
 use Rattle.asm_model.specs.declared.values.Value.{Value}
 use Rattle.asm_model.specs.declared.values.Value.TheVariants.{Number, Truth, Words, Place}
-use Rattle.asm_model.specs.AtLine.{Sight, is_in, name_kinds, kept_name, kept_names}
+use Rattle.asm_model.specs.AtLine.{has_value, kept_name, kept_names}
 use Rattle.asm_model.specs.Grammar.{Tree, Leaf, Before, Between}
 use Rattle.asm_model.specs.Meaning.{named_in, binary, unary_of, Known, value_of, then_of, on_both, applied, meaning}
-use Rattle.asm_model.proofs.LineLemmas.{applied_known, both_empty}
+use Rattle.asm_model.proofs.LineLemmas.{applied_known}
 use Rattle.asm_model.specs.PlacedLines.{IsName}
 use Rattle.layout_laws.proofs.RoundLemmas.{ResultIs}
 use Rattle.layout_laws.proofs.SettledLemmas.{HoldsConstant}
 use Rattle.layout_laws.proofs.TreeLemmas.{TreeEach}
 use Rattle.said_model.specs.Named.{ItemNamed}
 use Rattle.stand_laws.proofs.LiteralLemmas.{Plus, moves, adds, plus_moved, plus_added, Later, Loads, exact, whole, places_kept}
-use Rattle.layout_laws.proofs.NamedLemmas.{some_none as not_in}
 
 -- ---- operators between values
 
@@ -40,50 +39,38 @@ both_known f (Err k) (Err j) x h = absurd (cc)
 pub both_given : (names : Names) (op : BinaryOp) (v w : Value) (r q : Result Value LineKind) → r ≡ Ok v → q ≡ Ok w → on_both r q (binary names op) ≡ binary names op v w
 both_given names op v w r q h g = ap (λ z. on_both z q (binary names op)) h ∙ ap (λ z. on_both (Ok v) z (binary names op)) g
 
-pub place_and_number : (s : Sight) (final : Names) (Own : List ℕ → Type 0) → Later s final Own → (op : BinaryOp) (a : List ℕ) (p n : ℕ) (x : Value) (r q : Result Value LineKind)
-    → binary s.known op (Place a p) (Number n) ≡ Ok x → Loads s final Own (Place a p) r → q ≡ Ok (Number n) → ResultIs Own (on_both r q (binary final op))
-    → Loads s final Own x (on_both r q (binary final op))
+pub place_and_number : (s final : Names) (Own : List ℕ → Type 0) → Later s final Own → (op : BinaryOp) (a : List ℕ) (p n : ℕ) (x : Value) (r q : Result Value LineKind)
+    → binary s op (Place a p) (Number n) ≡ Ok x → Loads final (Place a p) r → q ≡ Ok (Number n) → ResultIs Own (on_both r q (binary final op))
+    → Loads final x (on_both r q (binary final op))
 place_and_number s final Own later op [] p n x r q h g i own =
     exact s final Own later x (on_both r q (binary final op)) (both_given final op (Place [] p) (Number n) r q g i ∙ h) own
 place_and_number s final Own later op (c ∷ cs) p n x r q h g i own =
     let m = moves final op (c ∷ cs) p n x h in
-    subst (λ z. Loads s final Own z (on_both r q (binary final op))) (sym m.is)
-    (record { which = g.which; gives = λ f e. plus_moved final op (c ∷ cs) p n x m f r q i (g.gives f e) })
+    subst (λ z. Loads final z (on_both r q (binary final op))) (sym m.is)
+    (λ f e. plus_moved final op (c ∷ cs) p n x m f r q i (g f e))
 
-pub number_and_place : (s : Sight) (final : Names) (Own : List ℕ → Type 0) → Later s final Own → (op : BinaryOp) (a : List ℕ) (p n : ℕ) (x : Value) (r q : Result Value LineKind)
-    → binary s.known op (Number n) (Place a p) ≡ Ok x → r ≡ Ok (Number n) → Loads s final Own (Place a p) q → ResultIs Own (on_both r q (binary final op))
-    → Loads s final Own x (on_both r q (binary final op))
+pub number_and_place : (s final : Names) (Own : List ℕ → Type 0) → Later s final Own → (op : BinaryOp) (a : List ℕ) (p n : ℕ) (x : Value) (r q : Result Value LineKind)
+    → binary s op (Number n) (Place a p) ≡ Ok x → r ≡ Ok (Number n) → Loads final (Place a p) q → ResultIs Own (on_both r q (binary final op))
+    → Loads final x (on_both r q (binary final op))
 number_and_place s final Own later op [] p n x r q h g i own =
     exact s final Own later x (on_both r q (binary final op)) (both_given final op (Number n) (Place [] p) r q g i ∙ h) own
 number_and_place s final Own later op (c ∷ cs) p n x r q h g i own =
     let m = adds final op (c ∷ cs) p n x h in
-    subst (λ z. Loads s final Own z (on_both r q (binary final op))) (sym m.is)
-    (record { which = i.which; gives = λ f e. plus_added final op (c ∷ cs) p n x m f r q g (i.gives f e) })
+    subst (λ z. Loads final z (on_both r q (binary final op))) (sym m.is)
+    (λ f e. plus_added final op (c ∷ cs) p n x m f r q g (i f e))
 
-pub both_loads : (s : Sight) (final : Names) (Own : List ℕ → Type 0) → Later s final Own → (op : BinaryOp) (v w x : Value) (r q : Result Value LineKind)
-    → binary s.known op v w ≡ Ok x → Loads s final Own v r → Loads s final Own w q → ResultIs Own (on_both r q (binary final op))
-    → Loads s final Own x (on_both r q (binary final op))
-both_loads s final Own later op (Number m) (Number n) x r q h g i own =
-    exact s final Own later x (on_both r q (binary final op)) (both_given final op (Number m) (Number n) r q g i ∙ h) own
-both_loads s final Own later op (Number m) (Truth b) x r q h g i own = absurd (cc)
-both_loads s final Own later op (Number m) (Words b) x r q h g i own = absurd (cc)
-both_loads s final Own later op (Number m) (Place a p) x r q h g i own = number_and_place s final Own later op a p m x r q h g i own
-both_loads s final Own later op (Truth a) (Number n) x r q h g i own = absurd (cc)
-both_loads s final Own later op (Truth a) (Truth b) x r q h g i own =
-    exact s final Own later x (on_both r q (binary final op)) (both_given final op (Truth a) (Truth b) r q g i ∙ h) own
-both_loads s final Own later op (Truth a) (Words b) x r q h g i own = absurd (cc)
-both_loads s final Own later op (Truth a) (Place b p) x r q h g i own = absurd (cc)
-both_loads s final Own later op (Words a) (Number n) x r q h g i own =
-    exact s final Own later x (on_both r q (binary final op)) (both_given final op (Words a) (Number n) r q g i ∙ h) own
-both_loads s final Own later op (Words a) (Truth b) x r q h g i own = absurd (cc)
-both_loads s final Own later op (Words a) (Words b) x r q h g i own =
-    exact s final Own later x (on_both r q (binary final op)) (both_given final op (Words a) (Words b) r q g i ∙ h) own
-both_loads s final Own later op (Words a) (Place b p) x r q h g i own = absurd (cc)
+pub both_loads : (s final : Names) (Own : List ℕ → Type 0) → Later s final Own → (op : BinaryOp) (v w x : Value) (r q : Result Value LineKind)
+    → binary s op v w ≡ Ok x → Loads final v r → Loads final w q → ResultIs Own (on_both r q (binary final op))
+    → Loads final x (on_both r q (binary final op))
 both_loads s final Own later op (Place a p) (Number n) x r q h g i own = place_and_number s final Own later op a p n x r q h g i own
-both_loads s final Own later op (Place a p) (Truth b) x r q h g i own = absurd (cc)
-both_loads s final Own later op (Place a p) (Words b) x r q h g i own = absurd (cc)
+both_loads s final Own later op (Number m) (Place a p) x r q h g i own = number_and_place s final Own later op a p m x r q h g i own
 both_loads s final Own later op (Place a p) (Place b j) x r q h g i own =
     exact s final Own later x (on_both r q (binary final op)) (places_kept s final Own later op a b p j x r q h g i) own
+both_loads s final Own later op (Place a p) (Truth b) x r q h g i own = absurd (cc)
+both_loads s final Own later op (Place a p) (Words b) x r q h g i own = absurd (cc)
+both_loads s final Own later op (Truth a) (Place b p) x r q h g i own = absurd (cc)
+both_loads s final Own later op (Words a) (Place b p) x r q h g i own = absurd (cc)
+both_loads s final Own later op v w x r q h g i own = exact s final Own later x (on_both r q (binary final op)) (both_given final op v w r q g i ∙ h) own
 
 -- ---- operators before values
 
@@ -100,12 +87,10 @@ pub place_alone : (op : UnaryOp) (a : List ℕ) (p : ℕ) (x : Value) → unary_
 place_alone unary.Plus a p x h = absurd (cc)
 place_alone op a p x h = absurd (cc)
 
-pub one_loads : (s : Sight) (final : Names) (Own : List ℕ → Type 0) → Later s final Own → (op : UnaryOp) (v x : Value) (r : Result Value LineKind)
-    → unary_of op v ≡ Ok x → Loads s final Own v r → ResultIs Own (then_of r (unary_of op)) → Loads s final Own x (then_of r (unary_of op))
-one_loads s final Own later op (Number n) x r h g own = exact s final Own later x (then_of r (unary_of op)) (ap (λ z. then_of z (unary_of op)) g ∙ h) own
-one_loads s final Own later op (Truth b) x r h g own = exact s final Own later x (then_of r (unary_of op)) (ap (λ z. then_of z (unary_of op)) g ∙ h) own
-one_loads s final Own later op (Words w) x r h g own = exact s final Own later x (then_of r (unary_of op)) (ap (λ z. then_of z (unary_of op)) g ∙ h) own
+pub one_loads : (s final : Names) (Own : List ℕ → Type 0) → Later s final Own → (op : UnaryOp) (v x : Value) (r : Result Value LineKind)
+    → unary_of op v ≡ Ok x → Loads final v r → ResultIs Own (then_of r (unary_of op)) → Loads final x (then_of r (unary_of op))
 one_loads s final Own later op (Place a p) x r h g own = absurd (place_alone op a p x h)
+one_loads s final Own later op v x r h g own = exact s final Own later x (then_of r (unary_of op)) (ap (λ z. then_of z (unary_of op)) g ∙ h) own
 
 -- ---- trees
 
@@ -123,79 +108,70 @@ plus_nothing (Place q m) r h = (m, h, omega arith)
 plus_nothing (Truth b) r h = tt
 plus_nothing (Words w) r h = tt
 
--- a name that the line doesn't know
-pub name_kept : (s : Sight) (final : Names) (Own : List ℕ → Type 0) (q : List ℕ) (w : Value) → IsName q → is_in s.known.list q ≡ false → Place q 0 ≡ w
-    → Loads s final Own w (value_of (named_in q final.list))
-name_kept s final Own [] w h x e = absurd h
-name_kept s final Own (c ∷ cs) w h x e =
-    subst (λ z. Loads s final Own z (value_of (named_in (c ∷ cs) final.list))) e
-    (record { which = inr (not_in (named_in (c ∷ cs) s.known.list) x); gives = λ f g. plus_nothing f (value_of (named_in (c ∷ cs) final.list)) g })
+-- a name that stays a name
+pub name_kept : (final : Names) (q : List ℕ) (w : Value) → IsName q → Place q 0 ≡ w → Loads final w (value_of (named_in q final.list))
+name_kept final [] w h e = absurd h
+name_kept final (c ∷ cs) w h e =
+    subst (λ z. Loads final z (value_of (named_in (c ∷ cs) final.list))) e (λ f g. plus_nothing f (value_of (named_in (c ∷ cs) final.list)) g)
 
-pub item_loads : (s : Sight) (final : Names) (Own : List ℕ → Type 0) → Later s final Own → (i : ExprItem) (w : Value) → IsLoaded Own i
-    → name_kinds s (Leaf (kept_name s i)) ≡ [] → meaning s.known (Leaf (kept_name s i)) ≡ Ok w → Loads s final Own w (meaning final (Leaf i))
-item_loads s final Own later (item.Name q) w each none h = by_test (is_in s.known.list q) refl none h
+pub item_loads : (s final : Names) (Own : List ℕ → Type 0) → Later s final Own → (i : ExprItem) (w : Value) → IsLoaded Own i
+    → meaning s (Leaf (kept_name s i)) ≡ Ok w → Loads final w (meaning final (Leaf i))
+item_loads s final Own later (item.Name q) w each h = by_test (has_value (named_in q s.list)) h
   where
-    by_test : (b : Bool) → is_in s.known.list q ≡ b → name_kinds s (Leaf (cond b (item.Name q) (item.Constant (Place q 0)))) ≡ []
-        → meaning s.known (Leaf (cond b (item.Name q) (item.Constant (Place q 0)))) ≡ Ok w → Loads s final Own w (meaning final (Leaf (item.Name q)))
-    by_test true x k e = whole s final Own later (Leaf (item.Name q)) w each.0 k e
-    by_test false x k e = let same : Place q 0 ≡ w = cc in name_kept s final Own q w each.1 x same
-item_loads s final Own later i w each none h = whole s final Own later (Leaf i) w each.0 none h
+    by_test : (b : Bool) → meaning s (Leaf (cond b (item.Name q) (item.Constant (Place q 0)))) ≡ Ok w → Loads final w (meaning final (Leaf (item.Name q)))
+    by_test true e = whole s final Own later (Leaf (item.Name q)) w each.0 e
+    by_test false e = let same : Place q 0 ≡ w = cc in name_kept final q w each.1 same
+item_loads s final Own later i w each h = whole s final Own later (Leaf i) w each.0 h
 
 -- an operator stays before what stays
-pub kept_before : (s : Sight) (op : UnaryOp) (t : Tree) → (u : Tree) × (kept_names s (Before op t) ≡ Before op u)
+pub kept_before : (s : Names) (op : UnaryOp) (t : Tree) → (u : Tree) × (kept_names s (Before op t) ≡ Before op u)
 kept_before s unary.Size (Leaf i) = (Leaf i, refl)
 kept_before s unary.Defined (Leaf i) = (Leaf i, refl)
 kept_before s op t = (kept_names s t, refl)
 
-pub over_before : (s : Sight) (op o : UnaryOp) (t : Tree) → kept_names s (Before op (Before o t)) ≡ Before op (kept_names s (Before o t))
+pub over_before : (s : Names) (op o : UnaryOp) (t : Tree) → kept_names s (Before op (Before o t)) ≡ Before op (kept_names s (Before o t))
 over_before s unary.Size o t = refl
 over_before s op o t = refl
 
-pub over_between : (s : Sight) (op : UnaryOp) (o : BinaryOp) (t u : Tree) → kept_names s (Before op (Between o t u)) ≡ Before op (kept_names s (Between o t u))
+pub over_between : (s : Names) (op : UnaryOp) (o : BinaryOp) (t u : Tree) → kept_names s (Before op (Between o t u)) ≡ Before op (kept_names s (Between o t u))
 over_between s unary.Size o t u = refl
 over_between s op o t u = refl
 
 -- an operator before something whose value is known, with a value known by then
-pub before_loads : (s : Sight) (final : Names) (Own : List ℕ → Type 0) → Later s final Own → (op : UnaryOp) (a r : Result Value LineKind) (w : Value)
-    → applied op (Known a) ≡ Ok w → ((v : Value) → a ≡ Ok v → Loads s final Own v r) → ResultIs Own (applied op (Known r)) → Loads s final Own w (applied op (Known r))
-before_loads s final Own later op a r w h loads own =
-    let p = applied_is op a w (sym (applied_known op a) ∙ h) in
-    subst (Loads s final Own w) (sym (applied_known op r))
-    (one_loads s final Own later op p.from w r p.gives (loads p.from p.is) (subst (ResultIs Own) (applied_known op r) own))
-
-pub step_loads : (s : Sight) (final : Names) (Own : List ℕ → Type 0) → Later s final Own → (op : UnaryOp) (a r : Result Value LineKind) (w : Value)
-    → then_of a (unary_of op) ≡ Ok w → ((v : Value) → a ≡ Ok v → Loads s final Own v r) → ResultIs Own (then_of r (unary_of op))
-    → Loads s final Own w (then_of r (unary_of op))
+pub step_loads : (s final : Names) (Own : List ℕ → Type 0) → Later s final Own → (op : UnaryOp) (a r : Result Value LineKind) (w : Value)
+    → then_of a (unary_of op) ≡ Ok w → ((v : Value) → a ≡ Ok v → Loads final v r) → ResultIs Own (then_of r (unary_of op))
+    → Loads final w (then_of r (unary_of op))
 step_loads s final Own later op a r w h loads own =
     let p = applied_is op a w h in
     one_loads s final Own later op p.from w r p.gives (loads p.from p.is) own
 
-pub kept_loads : (s : Sight) (final : Names) (Own : List ℕ → Type 0) → Later s final Own → (t : Tree) (w : Value) → TreeEach (IsLoaded Own) t
-    → name_kinds s (kept_names s t) ≡ [] → meaning s.known (kept_names s t) ≡ Ok w → Loads s final Own w (meaning final t)
-kept_loads s final Own later (Leaf i) w each none h = item_loads s final Own later i w each none h
-kept_loads s final Own later (Before unary.Size (Leaf i)) w each none h = whole s final Own later (Before unary.Size (Leaf i)) w each.0 none h
-kept_loads s final Own later (Before unary.Defined (Leaf i)) w each none h = whole s final Own later (Before unary.Defined (Leaf i)) w each.0 none h
-kept_loads s final Own later (Before op (Leaf i)) w each none h =
-    step_loads s final Own later op (meaning s.known (Leaf (kept_name s i))) (meaning final (Leaf i)) w h
-    (λ v e. item_loads s final Own later i v each none e) (later.own (Before op (Leaf i)) each.0)
-kept_loads s final Own later (Before op (Before o t)) w each none h =
+pub before_loads : (s final : Names) (Own : List ℕ → Type 0) → Later s final Own → (op : UnaryOp) (a r : Result Value LineKind) (w : Value)
+    → applied op (Known a) ≡ Ok w → ((v : Value) → a ≡ Ok v → Loads final v r) → ResultIs Own (applied op (Known r)) → Loads final w (applied op (Known r))
+before_loads s final Own later op a r w h loads own =
+    subst (Loads final w) (sym (applied_known op r))
+    (step_loads s final Own later op a r w (sym (applied_known op a) ∙ h) loads (subst (ResultIs Own) (applied_known op r) own))
+
+pub kept_loads : (s final : Names) (Own : List ℕ → Type 0) → Later s final Own → (t : Tree) (w : Value) → TreeEach (IsLoaded Own) t
+    → meaning s (kept_names s t) ≡ Ok w → Loads final w (meaning final t)
+kept_loads s final Own later (Leaf i) w each h = item_loads s final Own later i w each h
+kept_loads s final Own later (Before unary.Size (Leaf i)) w each h = whole s final Own later (Before unary.Size (Leaf i)) w each.0 h
+kept_loads s final Own later (Before unary.Defined (Leaf i)) w each h = whole s final Own later (Before unary.Defined (Leaf i)) w each.0 h
+kept_loads s final Own later (Before op (Leaf i)) w each h =
+    step_loads s final Own later op (meaning s (Leaf (kept_name s i))) (meaning final (Leaf i)) w h
+    (λ v e. item_loads s final Own later i v each e) (later.own (Before op (Leaf i)) each.0)
+kept_loads s final Own later (Before op (Before o t)) w each h =
     let p = kept_before s o t in
-    let same : kept_names s (Before op (Before o t)) ≡ Before op (Before o p.0) = over_before s op o t ∙ ap (λ z. Before op z) p.1 in
-    let kinds : name_kinds s (Before o p.0) ≡ [] = ap (name_kinds s) (sym same) ∙ none in
-    let means : applied op (Known (meaning s.known (Before o p.0))) ≡ Ok w = ap (meaning s.known) (sym same) ∙ h in
-    before_loads s final Own later op (meaning s.known (Before o p.0)) (meaning final (Before o t)) w means
-    (λ v e. kept_loads s final Own later (Before o t) v each (ap (name_kinds s) p.1 ∙ kinds) (ap (meaning s.known) p.1 ∙ e))
+    let means : applied op (Known (meaning s (Before o p.0))) ≡ Ok w = ap (meaning s) (sym (over_before s op o t ∙ ap (λ z. Before op z) p.1)) ∙ h in
+    before_loads s final Own later op (meaning s (Before o p.0)) (meaning final (Before o t)) w means
+    (λ v e. kept_loads s final Own later (Before o t) v each (ap (meaning s) p.1 ∙ e))
     (later.own (Before op (Before o t)) (constants_hold Own (Before op (Before o t)) each))
-kept_loads s final Own later (Before op (Between o t u)) w each none h =
-    let same = over_between s op o t u in
-    let kinds : name_kinds s (kept_names s (Between o t u)) ≡ [] = ap (name_kinds s) (sym same) ∙ none in
-    let means : applied op (Known (meaning s.known (kept_names s (Between o t u)))) ≡ Ok w = ap (meaning s.known) (sym same) ∙ h in
-    before_loads s final Own later op (meaning s.known (kept_names s (Between o t u))) (meaning final (Between o t u)) w means
-    (λ v e. kept_loads s final Own later (Between o t u) v each kinds e)
+kept_loads s final Own later (Before op (Between o t u)) w each h =
+    let means : applied op (Known (meaning s (kept_names s (Between o t u)))) ≡ Ok w = ap (meaning s) (sym (over_between s op o t u)) ∙ h in
+    before_loads s final Own later op (meaning s (kept_names s (Between o t u))) (meaning final (Between o t u)) w means
+    (λ v e. kept_loads s final Own later (Between o t u) v each e)
     (later.own (Before op (Between o t u)) (constants_hold Own (Before op (Between o t u)) each))
-kept_loads s final Own later (Between op t u) w each none h =
-    let k = both_empty (name_kinds s (kept_names s t)) (name_kinds s (kept_names s u)) none in
-    let b = both_known (binary s.known op) (meaning s.known (kept_names s t)) (meaning s.known (kept_names s u)) w h in
+kept_loads s final Own later (Between op t u) w each h =
+    let b = both_known (binary s op) (meaning s (kept_names s t)) (meaning s (kept_names s u)) w h in
     both_loads s final Own later op b.first b.second w (meaning final t) (meaning final u) b.gives
-    (kept_loads s final Own later t b.first each.0 k.0 b.is_first) (kept_loads s final Own later u b.second each.1 k.1 b.is_second)
+    (kept_loads s final Own later t b.first each.0 b.is_first) (kept_loads s final Own later u b.second each.1 b.is_second)
     (later.own (Between op t u) (constants_hold Own (Between op t u) each))

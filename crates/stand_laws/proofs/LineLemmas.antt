@@ -9,7 +9,7 @@ use Rattle.asm_model.specs.declared.directives.DirectiveLine.TheVariants as line
 use Rattle.asm_model.specs.declared.statements.Statement.{Statement}
 use Rattle.asm_model.specs.declared.statements.What.{What}
 use Rattle.asm_model.specs.declared.statements.What.TheVariants as what
-use Rattle.asm_model.specs.AtLine.{Sight}
+use Rattle.asm_model.specs.declared.names.Names.{Names}
 use Rattle.asm_model.specs.Laid.{LaidLine, pieces_of, laid}
 use Rattle.asm_model.specs.Marks.{datum_names}
 use Rattle.asm_model.specs.Offsets.{end_behind, area_size}
@@ -53,7 +53,7 @@ WhatMeets k a size word (what.Thumb l) = LinkMeets k l
 WhatMeets k a size word (what.Pseudo l) = PseudoHolds k word l
 WhatMeets k a size word (what.Directive l) = DirectiveZero k.view a size l
 
-pub directive_stands : (k : Setting) (area at a : ℕ) → Ready k area at → a ≡ k.base + at → (s : Sight) (size : ℕ) (l : DirectiveLine) (us : List Emitted)
+pub directive_stands : (k : Setting) (area at a : ℕ) → Ready k area at → a ≡ k.base + at → (s : Names) (size : ℕ) (l : DirectiveLine) (us : List Emitted)
     → directive_units k.context (datum_names k.source.statements) s l ≡ Ok us → AllShown k (units_from at us) → KnownStay k.context s
     → DirectiveZero k.view a size l → DirectiveStands (scene k) a size l
 directive_stands k area at a ready x s size (line.Dcd es) us h shown stay zero = words_stand k es us a at ready.here x h shown
@@ -77,7 +77,7 @@ pseudo_in k area at a ready x word l us false h shown meets =
     let m = mapped_ok instruction_units (pseudo_instructions k.context word l) us h in
     pseudo_stands k area at a ready x word l m.from m.is (subst (λ z. AllShown k (units_from at z)) (sym m.gives) shown) meets
 
-pub line_stands : (k : Setting) (area at a : ℕ) → Ready k area at → a ≡ k.base + at → (s : Sight) (size : ℕ) (word : Option ℕ) (w : What) (us : List Emitted)
+pub line_stands : (k : Setting) (area at a : ℕ) → Ready k area at → a ≡ k.base + at → (s : Names) (size : ℕ) (word : Option ℕ) (w : What) (us : List Emitted)
     → units k.context (datum_names k.source.statements) s word w ≡ Ok us → AllShown k (units_from at us) → KnownStay k.context s
     → WhatMeets k a size word w → Stands (scene k) a size (address_behind k.base word) w
 line_stands k area at a ready x s size word what.Nothing us h shown stay meets = tt

@@ -1,17 +1,17 @@
 -- The literal of a line, with all names, is the value of its expression.
-use Rattle.std.proofs.Common.{◌≡◌, ℕ, ◌+◌, ◌%◌, ◌^◌, List, [], ◌∷◌, refl, sym, ◌∙◌, ap, subst, arith, Option, Some, None, ◌⊎◌, inl, inr}
-use Rattle.std.specs.Prelude.{Result, Ok, Err}
+use Rattle.std.proofs.Common.{◌≡◌, ℕ, ◌+◌, ◌%◌, ◌^◌, List, [], ◌∷◌, refl, sym, ◌∙◌, ap, subst, arith, Option, Some, None}
+use Rattle.std.specs.Prelude.{Result, Ok, Err, ◌==◌}
+use Rattle.std.proofs.lemmas.Bool.{cond-true, eq-eqb}
 use Rattle.sdt_fault.specs.declared.kinds.LineKind.{LineKind}
+use Rattle.sdt_fault.specs.declared.kinds.LineKind.TheVariants.{WrongType}
 use Rattle.asm_model.specs.declared.exprs.BinaryOp.{BinaryOp}
 use Rattle.asm_model.specs.declared.exprs.BinaryOp.TheVariants.{Add, Subtract}
 use Rattle.asm_model.specs.declared.exprs.ExprItem.TheVariants as item
 use Rattle.asm_model.specs.declared.names.Names.{Names}
 use Rattle.asm_model.specs.declared.values.Value.{Value}
 use Rattle.asm_model.specs.declared.values.Value.TheVariants.{Number, Truth, Words, Place}
-use Rattle.asm_model.specs.AtLine.{Sight, name_kinds, unless_told, value_at}
 use Rattle.asm_model.specs.Grammar.{Tree, Leaf, Between}
-use Rattle.asm_model.specs.Kinds.{told_kind}
-use Rattle.asm_model.specs.Meaning.{named_in, entry_stands_at, stands_at, less, moved_place, added_place, distance, between_places, as_number, as_place, binary, value_of, on_both, meaning}
+use Rattle.asm_model.specs.Meaning.{named_in, stands_at, less, moved_place, added_place, distance, between_places, as_number, as_place, binary, value_of, on_both, meaning}
 use Rattle.asm_model.proofs.LineLemmas.{number_more}
 use Rattle.layout_laws.proofs.RoundLemmas.{ResultIs}
 use Rattle.layout_laws.proofs.SettledLemmas.{HoldsConstant}
@@ -102,23 +102,19 @@ plus_added names op s p n x m (Words w) r q e h = tt
 
 -- ---- what all names make of a value with names that stay names
 
--- what a line knows is so with all names; symbols with the property stand for themselves
-pub record Later (s : Sight) (final : Names) (Own : List ℕ → Type 0) : Type 0 where
-  pub known : (t : Tree) (v : Value) → value_at s t ≡ Ok v → meaning final t ≡ Ok v
+-- what a line knows is so with all names; symbols with the property stand for themselves, and so do those that stand in an
+-- area
+pub record Later (s final : Names) (Own : List ℕ → Type 0) : Type 0 where
+  pub known : (t : Tree) (v : Value) → meaning s t ≡ Ok v → meaning final t ≡ Ok v
   pub own : (t : Tree) → TreeEach (HoldsConstant Own) t → ResultIs Own (meaning final t)
   pub entry : (q : List ℕ) → Own q → value_of (named_in q final.list) ≡ Ok (Place q 0)
+  pub stands : (c : ℕ) (cs : List ℕ) (a : ℕ × ℕ) → stands_at s (c ∷ cs) ≡ Some a → value_of (named_in (c ∷ cs) final.list) ≡ Ok (Place (c ∷ cs) 0)
 
--- a symbol that stands for itself, or a name that the line doesn't know
-pub record Held (s : Sight) (final : Names) (Own : List ℕ → Type 0) (q : List ℕ) (n : ℕ) (r : Result Value LineKind) : Type 0 where
-  pub which : Own q ⊎ (named_in q s.known.list ≡ None)
-  pub gives : (f : Value) → value_of (named_in q final.list) ≡ Ok f → Plus f n r
-
-abbrev pub Loads : Sight → Names → (List ℕ → Type 0) → Value → Result Value LineKind → Type 0
-Loads s final Own (Place [] n) r = r ≡ Ok (Place [] n)
-Loads s final Own (Place (c ∷ cs) n) r = Held s final Own (c ∷ cs) n r
-Loads s final Own (Number n) r = r ≡ Ok (Number n)
-Loads s final Own (Truth b) r = r ≡ Ok (Truth b)
-Loads s final Own (Words w) r = r ≡ Ok (Words w)
+-- a result is a value, and for a symbol what it stands for with all names, plus the number
+abbrev pub Loads : Names → Value → Result Value LineKind → Type 0
+Loads final (Place [] n) r = r ≡ Ok (Place [] n)
+Loads final (Place (c ∷ cs) n) r = (f : Value) → value_of (named_in (c ∷ cs) final.list) ≡ Ok f → Plus f n r
+Loads final v r = r ≡ Ok v
 
 pub plus_itself : (q : List ℕ) (n : ℕ) (r : Result Value LineKind) → r ≡ Ok (Place q n) → Plus (Place q 0) n r
 plus_itself q n r h = (n, h, omega arith)
@@ -126,25 +122,18 @@ plus_itself q n r h = (n, h, omega arith)
 pub same_value : (x f : Value) (r : Result Value LineKind) → r ≡ Ok x → r ≡ Ok f → x ≡ f
 same_value x f r h k = let e : Ok x ≡ Ok f = sym h ∙ k in cc
 
-pub exact : (s : Sight) (final : Names) (Own : List ℕ → Type 0) → Later s final Own → (w : Value) (r : Result Value LineKind) → r ≡ Ok w → ResultIs Own r
-    → Loads s final Own w r
+pub exact : (s final : Names) (Own : List ℕ → Type 0) → Later s final Own → (w : Value) (r : Result Value LineKind) → r ≡ Ok w → ResultIs Own r
+    → Loads final w r
 exact s final Own later (Place [] n) r e h = e
-exact s final Own later (Place (c ∷ cs) n) r e h =
-    let own : Own (c ∷ cs) = subst (ResultIs Own) e h in
-    record {
-      which = inl own;
-      gives = λ f x. subst (λ z. Plus z n r) (same_value (Place (c ∷ cs) 0) f (value_of (named_in (c ∷ cs) final.list)) (later.entry (c ∷ cs) own) x)
-          (plus_itself (c ∷ cs) n r e);
-    }
-exact s final Own later (Number n) r e h = e
-exact s final Own later (Truth b) r e h = e
-exact s final Own later (Words w) r e h = e
+exact s final Own later (Place (c ∷ cs) n) r e h = λ f x.
+    subst (λ z. Plus z n r) (same_value (Place (c ∷ cs) 0) f (value_of (named_in (c ∷ cs) final.list)) (later.entry (c ∷ cs) (subst (ResultIs Own) e h)) x)
+    (plus_itself (c ∷ cs) n r e)
+exact s final Own later w r e h = e
 
 -- a tree that stays as it is
-pub whole : (s : Sight) (final : Names) (Own : List ℕ → Type 0) → Later s final Own → (t : Tree) (w : Value) → TreeEach (HoldsConstant Own) t
-    → name_kinds s t ≡ [] → meaning s.known t ≡ Ok w → Loads s final Own w (meaning final t)
-whole s final Own later t w each none h =
-    exact s final Own later w (meaning final t) (later.known t w (ap (λ z. unless_told (told_kind z) (meaning s.known t)) none ∙ h)) (later.own t each)
+pub whole : (s final : Names) (Own : List ℕ → Type 0) → Later s final Own → (t : Tree) (w : Value) → TreeEach (HoldsConstant Own) t
+    → meaning s t ≡ Ok w → Loads final w (meaning final t)
+whole s final Own later t w each h = exact s final Own later w (meaning final t) (later.known t w h) (later.own t each)
 
 -- ---- operators between two places
 
@@ -178,26 +167,33 @@ some_number (Ok d) x h = (d, refl)
 some_number (Err k) x h = absurd (cc)
 
 -- a place of an area keeps its symbol
-pub place_kept : (s : Sight) (final : Names) (Own : List ℕ → Type 0) → Later s final Own → (q : List ℕ) (p : ℕ) (r : Result Value LineKind)
-    → Lies s.known q → Loads s final Own (Place q p) r → (k : ℕ) × (r ≡ Ok (Place q k)) × Same32 k p
+pub place_kept : (s final : Names) (Own : List ℕ → Type 0) → Later s final Own → (q : List ℕ) (p : ℕ) (r : Result Value LineKind)
+    → Lies s q → Loads final (Place q p) r → (k : ℕ) × (r ≡ Ok (Place q k)) × Same32 k p
 place_kept s final Own later [] p r lies h = (p, h, refl)
-place_kept s final Own later (c ∷ cs) p r lies h = by_kind h.which
-  where
-    by_kind : Own (c ∷ cs) ⊎ (named_in (c ∷ cs) s.known.list ≡ None) → (k : ℕ) × (r ≡ Ok (Place (c ∷ cs) k)) × Same32 k p
-    by_kind (inl own) = let g = h.gives (Place (c ∷ cs) 0) (later.entry (c ∷ cs) own) in (g.0, g.1, g.2 ∙ omega arith)
-    by_kind (inr none) = let y : entry_stands_at None ≡ Some lies.0 = ap entry_stands_at (sym none) ∙ lies.1 in absurd (cc)
+place_kept s final Own later (c ∷ cs) p r lies h =
+    let g = h (Place (c ∷ cs) 0) (later.stands c cs lies.0 lies.1) in (g.0, g.1, g.2 ∙ omega arith)
 
 abbrev pub constants : BinaryOp → Value → Value → Tree
 constants op v w = Between op (Leaf (item.Constant v)) (Leaf (item.Constant w))
 
-pub places_kept : (s : Sight) (final : Names) (Own : List ℕ → Type 0) → Later s final Own → (op : BinaryOp) (a b : List ℕ) (p q : ℕ) (x : Value) (r u : Result Value LineKind)
-    → binary s.known op (Place a p) (Place b q) ≡ Ok x → Loads s final Own (Place a p) r → Loads s final Own (Place b q) u → on_both r u (binary final op) ≡ Ok x
+pub places_kept : (s final : Names) (Own : List ℕ → Type 0) → Later s final Own → (op : BinaryOp) (a b : List ℕ) (p q : ℕ) (x : Value) (r u : Result Value LineKind)
+    → binary s op (Place a p) (Place b q) ≡ Ok x → Loads final (Place a p) r → Loads final (Place b q) u → on_both r u (binary final op) ≡ Ok x
 places_kept s final Own later op a b p q x r u h g i =
-    let d = some_number (between_places s.known op a p b q) x h in
-    let lies = between_lies s.known op a b p q d.0 d.1 in
+    let d = some_number (between_places s op a p b q) x h in
+    let lies = between_lies s op a b p q d.0 d.1 in
     let first = place_kept s final Own later a p r lies.0 g in
     let second = place_kept s final Own later b q u lies.1 i in
     ap (λ z. on_both z u (binary final op)) first.1
     ∙ ap (λ z. on_both (Ok (Place a first.0)) z (binary final op)) second.1
     ∙ number_more (between_places final op a p b q) (between_places final op a first.0 b second.0) x
     (λ n. between_same final op a b p q first.0 second.0 n first.2 second.2) (later.known (constants op (Place a p) (Place b q)) x h)
+
+-- a symbol that stands in an area as a line sees it does so with all names, since the distance from it to itself is known
+pub stands_finally : (s final : Names) → ((t : Tree) (v : Value) → meaning s t ≡ Ok v → meaning final t ≡ Ok v) → (q : List ℕ) (a : ℕ × ℕ)
+    → stands_at s q ≡ Some a → Lies final q
+stands_finally s final known q a h =
+    let n = less ((a.1 + 0) % 2 ^ 32) ((a.1 + 0) % 2 ^ 32) in
+    let here : between_places s Subtract q 0 q 0 ≡ Ok n = ap (λ o. distance o 0 o 0) h ∙ cond-true (a.0 == a.0) (Ok n) (Err WrongType) (eq-eqb a.0 a.0 refl) in
+    let there = known (constants Subtract (Place q 0) (Place q 0)) (Number n) (ap as_number here) in
+    let d = some_number (between_places final Subtract q 0 q 0) (Number n) there in
+    (between_lies final Subtract q q 0 0 d.0 d.1).0

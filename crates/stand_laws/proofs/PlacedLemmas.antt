@@ -9,7 +9,6 @@ use Rattle.aof_object.specs.declared.records.Area.{Area}
 use Rattle.aof_object.specs.declared.records.Object.{Object}
 use Rattle.asm_model.specs.declared.statements.Statement.{Statement}
 use Rattle.asm_model.specs.Forms.{same}
-use Rattle.asm_model.specs.Meaning.{named_in}
 use Rattle.asm_model.specs.Before.{areas_behind, place_of}
 use Rattle.asm_model.specs.Laid.{statements_of, laid}
 use Rattle.asm_model.specs.LayoutKinds.{equals_in, settled, is_thumb_area}
@@ -28,6 +27,7 @@ use Rattle.stand_model.specs.Shown.{IsShown}
 use Rattle.stand_laws.specs.Laws.{IsFaultless, ThingsAreShown, GapsAreZero, ShownLinesStand, ObjectsStand}
 use Rattle.stand_laws.proofs.AreaLemmas.{found_at, area_there, no_size, Agree, lines_agree, AreaKind, area_kind}
 use Rattle.stand_laws.proofs.DirectiveLemmas.{Facts, outside_fields}
+use Rattle.object_laws.proofs.RelocLemmas.{things_below}
 use Rattle.stand_laws.proofs.GoodLemmas.{good_thing}
 use Rattle.stand_laws.proofs.ShownLemmas.{IsThere, thing_shown}
 use Rattle.stand_laws.proofs.ViewLemmas.{shows_byte}
@@ -51,7 +51,8 @@ facts_of ss o faultless obj few_areas few_symbols area =
     let count = areas_are ss o obj in
     let few : length (areas_behind (statements_of (laid ss))) ≤ 2 ^ 24 = omega arith in
     record {
-      good = good_thing ss (2 ^ 24) (layout_sound ss faultless.laid_out) faultless.said few area;
+      good = good_thing ss (layout_sound ss faultless.laid_out) faultless.said area;
+      below = things_below ss (2 ^ 24) few area;
       symbols = numbers;
       apart = things_stand_apart ss (layout_sound ss faultless.laid_out) area;
       inside = things_lie_in_areas ss (layout_sound ss faultless.laid_out) area;
@@ -61,7 +62,7 @@ facts_of ss o faultless obj few_areas few_symbols area =
     numbers name =
         let names = symbols_of (source_of ss).names (source_of ss).lines in
         let many = ap length obj.symbols
-        ∙ length-map names (λ (n : List ℕ). symbol_named (source_of ss) n (named_in n (source_of ss).names)) in
+        ∙ length-map names (symbol_named (source_of ss)) in
         let most = place_most name names in
         omega arith
 
@@ -75,7 +76,7 @@ area_found : (ss : List Statement) (o : Object) → IsFaultless ss → IsObject 
 area_found ss o faultless obj area h =
     let f = found_at o.areas area h in
     let is = obj.areas area f.0 f.1 in
-    let agree = lines_agree (settled (equals_in ss)) area (is_thumb_area area (laid ss)) (laid ss) (layout_sound ss faultless.laid_out) in
+    let agree = lines_agree (settled (equals_in ss)) ss area (is_thumb_area area ss) (laid ss) (layout_sound ss faultless.laid_out) in
     record {
       found = f.0;
       there = f.1;

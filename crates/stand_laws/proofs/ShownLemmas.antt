@@ -28,7 +28,7 @@ use Rattle.stand_model.specs.Shown.{meant_by, added_by, LinkedBranch, LinkedPair
 use Rattle.stand_model.specs.Stands.{ReadsHalfAt}
 use Rattle.stand_laws.proofs.LinkedLemmas.{IsPair, branch_word, extended_low, target_sum, halves_shown, pair_halves, pair_target, pair_word, same_branch, stands_to}
 use Rattle.stand_laws.proofs.DirectiveLemmas.{Facts, places_rise, outside_thing, adds, takes}
-use Rattle.stand_laws.proofs.GoodLemmas.{TargetWithin}
+use Rattle.object_laws.proofs.RelocLemmas.{TargetBelow}
 use Rattle.stand_laws.proofs.RelocLemmas.{reloc_place, own_directives, RelocIs, by_area, by_symbol, of_branch, of_pair}
 use Rattle.stand_laws.proofs.ViewLemmas.{shows_there, number_of_bytes, bytes_wrapped}
 
@@ -96,7 +96,7 @@ module _ (ss : List Statement) (area : ℕ) (a : Area) (values : Values) (view :
   word_thing at w (ByArea k) x e =
       let r : Reloc = record { offset = at; word = 2 ^ 31 + 2 * 2 ^ 24 + k } in
       let i = there.relocs.all (at, Word w) r x (subst (λ (t : Target). IsRelocOf (word_relocs (source_of ss) at t) r) (sym e) (inl refl)) in
-      let is = by_area at k (subst (TargetWithin (2 ^ 24)) e (facts.good (at, Word w) x)) in
+      let is = by_area at k (subst (TargetBelow (2 ^ 24)) e (facts.below (at, Word w) x)) in
       word_shown at w false k r (values.base k) x i is (bare (added values (r ∷ [])) (values.base k) (adds values (values.base area) r WordField false false k is))
   word_thing at w (BySymbol name) x e =
       let n = symbol_number (source_of ss) name in

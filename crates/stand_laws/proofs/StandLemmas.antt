@@ -76,7 +76,7 @@ line_ready ss named none values view region area after before l e own whole =
       based = refl;
       own = line_area ss after before l e ∙ own;
       starts = subst (λ (z : LaidLine). z.line.offset ≡ z.offset) (sym p.1) refl;
-      small = near_enough l.offset l.size (line_small (settled (equals_in ss)) l before (layout_here ss none after before l e));
+      small = near_enough l.offset l.size (line_small (settled (equals_in ss)) ss l before (layout_here ss none after before l e));
       whole = whole;
     }
 

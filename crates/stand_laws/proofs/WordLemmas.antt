@@ -14,10 +14,9 @@ use Rattle.asm_model.specs.declared.statements.Statement.{Statement}
 use Rattle.asm_model.specs.declared.statements.What.TheVariants as what
 use Rattle.asm_model.specs.declared.values.Value.{Value}
 use Rattle.asm_model.specs.declared.values.Value.TheVariants.{Number, Truth, Words, Place}
-use Rattle.asm_model.specs.AtLine.{Sight, name_kinds, value_at, kept_names, literal_or}
+use Rattle.asm_model.specs.AtLine.{with_names, kept_names, literal_or}
 use Rattle.asm_model.specs.Grammar.{Tree}
-use Rattle.asm_model.specs.Meaning.{named_in, stands_at, binary, value_of as entry_value, on_both, meaning}
-use Rattle.asm_model.proofs.LineLemmas.{both_empty, told_nothing}
+use Rattle.asm_model.specs.Meaning.{named_in, entry_stands_at, stands_at, binary, value_of as entry_value, on_both, meaning}
 use Rattle.asm_model.specs.Extents.{Extent, Block, Padding, Loading, Pool, is_moved, loading, tree_literal, literal_there, extent_of}
 use Rattle.asm_model.specs.Laid.{LaidLine, taken, pieces_of, laid_behind, laid_of, laid, final_names}
 use Rattle.asm_model.specs.LayoutKinds.{fault_kinds}
@@ -27,9 +26,10 @@ use Rattle.asm_model.specs.Placing.{HaveSymbols}
 use Rattle.asm_model.specs.Symbols.{literal_value}
 use Rattle.asm_model.specs.Trees.{tree_of}
 use Rattle.asm_model.specs.Sound.{IsSound, HaveNoPlaces, ArePlain}
-use Rattle.layout_laws.proofs.FinalLemmas.{AllKnownFinally, all_known, known_there, source_final, source_holds}
+use Rattle.layout_laws.proofs.FinalLemmas.{AllKnownFinally, known_there, source_known}
 use Rattle.layout_laws.proofs.FoundLemmas.{final_tree}
 use Rattle.layout_laws.proofs.RoundLemmas.{ResultIs}
+use Rattle.layout_laws.proofs.SoundLemmas.{both_empty}
 use Rattle.object_laws.proofs.FaultLemmas.{sizes_of, valued_here, known_result}
 use Rattle.object_laws.proofs.OriginLemmas.{IsOwn, tree_to, names_own, anything, any_tree}
 use Rattle.patch_model.specs.Fields.{Values}
@@ -52,7 +52,8 @@ use Rattle.said_model.specs.Named.{AllItemsNamed, LoadNamed, AllLoadsNamed}
 use Rattle.stand_laws.specs.Laws.{IsFaultless}
 use Rattle.stand_laws.proofs.DataLemmas.{total_of, word_stands}
 use Rattle.stand_laws.proofs.KeptLemmas.{IsLoaded, constants_hold, kept_loads}
-use Rattle.stand_laws.proofs.LiteralLemmas.{Same32, Plus, Later, Loads}
+use Rattle.stand_laws.proofs.LiteralLemmas.{Same32, Plus, Later, Loads, stands_finally}
+use Rattle.stand_laws.proofs.SymbolLemmas.{stands_own}
 use Rattle.stand_laws.proofs.PseudoLemmas.{LiteralHolds}
 use Rattle.stand_laws.proofs.ResultLemmas.{mapped_ok}
 use Rattle.stand_laws.proofs.ValueLemmas.{Setting, scene, Shown, setting}
@@ -99,25 +100,24 @@ sum_stored k n (Ok (Truth b)) r st plus h = absurd (cc)
 sum_stored k n (Ok (Words w)) r st plus h = absurd (cc)
 sum_stored k n (Err j) r st plus h = absurd (cc)
 
-pub literal_stored : (k : Setting) (s : Sight) (Own : List ℕ → Type 0) (v : Value) (r : Result Value LineKind) (st : Stored) → Loads s (sees k.context) Own v r
+pub literal_stored : (k : Setting) (v : Value) (r : Result Value LineKind) (st : Stored) → Loads (sees k.context) v r
     → stored k.context (datum_names k.source.statements) (literal_value (sees k.context) v) ≡ Ok st → StoresSame k r st
-literal_stored k s Own (Number n) r st h e = (st, ap (stored k.context (datum_names k.source.statements)) h ∙ e, refl)
-literal_stored k s Own (Place [] n) r st h e = (st, ap (stored k.context (datum_names k.source.statements)) h ∙ e, refl)
-literal_stored k s Own (Place (c ∷ cs) n) r st h e = sum_stored k n (entry_value (named_in (c ∷ cs) (sees k.context).list)) r st h.gives e
-literal_stored k s Own (Truth b) r st h e = absurd (cc)
-literal_stored k s Own (Words w) r st h e = absurd (cc)
+literal_stored k (Number n) r st h e = (st, ap (stored k.context (datum_names k.source.statements)) h ∙ e, refl)
+literal_stored k (Place [] n) r st h e = (st, ap (stored k.context (datum_names k.source.statements)) h ∙ e, refl)
+literal_stored k (Place (c ∷ cs) n) r st h e = sum_stored k n (entry_value (named_in (c ∷ cs) (sees k.context).list)) r st h e
+literal_stored k (Truth b) r st h e = absurd (cc)
+literal_stored k (Words w) r st h e = absurd (cc)
 
 -- ---- the literal of a line
 
-pub loads_by : (s : Sight) (final : Names) (Own : List ℕ → Type 0) → Later s final Own → (t : Tree) → TreeEach (IsLoaded Own) t → ResultIs Own (meaning final t)
-    → (x y : Result Value LineKind) → value_at s t ≡ x → value_at s (kept_names s t) ≡ y → (v : Value) → literal_or x y ≡ Ok v → Loads s final Own v (meaning final t)
+pub loads_by : (s final : Names) (Own : List ℕ → Type 0) → Later s final Own → (t : Tree) → TreeEach (IsLoaded Own) t → ResultIs Own (meaning final t)
+    → (x y : Result Value LineKind) → meaning s t ≡ x → meaning s (kept_names s t) ≡ y → (v : Value) → literal_or x y ≡ Ok v → Loads final v (meaning final t)
 loads_by s final Own later t each own (Ok (Number n)) y h g v e =
     let same : Number n ≡ v = cc in
-    subst (λ z. Loads s final Own z (meaning final t)) same (later.known t (Number n) h)
+    subst (λ z. Loads final z (meaning final t)) same (later.known t (Number n) h)
 loads_by s final Own later t each own x (Ok (Place q n)) h g v e =
     let same : Place q n ≡ v = cc in
-    let p = told_nothing (name_kinds s (kept_names s t)) (meaning s.known (kept_names s t)) (Place q n) g in
-    subst (λ z. Loads s final Own z (meaning final t)) same (kept_loads s final Own later t (Place q n) each p.0 p.1)
+    subst (λ z. Loads final z (meaning final t)) same (kept_loads s final Own later t (Place q n) each g)
 loads_by s final Own later t each own x y h g v e = absurd (cc)
 
 pub loading_is : (thumb : Bool) (u v : Value) (n : ℕ) → loading thumb u ≡ Loading n v → u ≡ v
@@ -152,24 +152,34 @@ items_loaded Own (i ∷ is) h g = ((no_place_holds Own i h.0, g.0), items_loaded
 
 -- ---- a line
 
+-- a symbol that stands in an area stands for itself
+own_there : (ss : List Statement) (c : ℕ) (cs : List ℕ) (a : ℕ × ℕ) → entry_stands_at (named_in (c ∷ cs) (final_names (laid ss))) ≡ Some a
+    → entry_value (named_in (c ∷ cs) (final_names (laid ss))) ≡ Ok (Place (c ∷ cs) 0)
+own_there ss c cs a h = by_entry (named_in (c ∷ cs) (final_names (laid ss))) refl h
+  where
+    by_entry : (o : Option LaidName) → named_in (c ∷ cs) (final_names (laid ss)) ≡ o → entry_stands_at o ≡ Some a → entry_value o ≡ Ok (Place (c ∷ cs) 0)
+    by_entry None e k = absurd (cc)
+    by_entry (Some n) e k = stands_own ss (c ∷ cs) n a e k
+
 pub line_later : (ss : List Statement) → IsSound ss → ArePlain ss → (after before : List LaidLine) (l : LaidLine) → laid ss ≡ after ++ l ∷ before
     → Later l.seen (sees (context_behind ss l before)) (IsOwn (final_names (laid ss)))
 line_later ss sound plain after before l e =
     let N = final_names (laid ss) in
+    let known = known_there N after l before (subst (AllKnownFinally N) e (source_known ss sound plain)) in
     record {
-      known = known_there N after l before
-          (subst (AllKnownFinally N) e (all_known N (declared_names ss) (source_final ss sound plain) ss (source_holds ss sound plain)));
+      known = known;
       own = λ t h. tree_to anything (IsOwn N) l.line N (λ q n x. names_own ss sound plain q n) t (any_tree t) h;
-      entry = λ q h. ap entry_value h.1 ∙ ap Ok h.2;
+      entry = λ q h. ap entry_value h.1 ∙ h.2;
+      stands = λ c cs a h. let p = stands_finally l.seen (with_names l.line N) known (c ∷ cs) a h in own_there ss c cs p.0 p.1;
     }
 
 -- the literal of a line whose statement loads the expression
 pub line_loads : (ss : List Statement) → IsSound ss → AllSaid ss → AllLoadsNamed ss → (after before : List LaidLine) (l : LaidLine) → laid ss ≡ after ++ l ∷ before
     → (condition : Condition) (rd : Register) (e : Expr) → l.statement.what ≡ what.Pseudo (pseudo.LoadConstant condition rd e)
     → (n : ℕ) (v : Value) → taken l.extent ≡ Loading n v
-    → Loads l.seen (sees (context_behind ss l before)) (IsOwn (final_names (laid ss))) v (value_of (context_behind ss l before) e)
+    → Loads (sees (context_behind ss l before)) v (value_of (context_behind ss l before) e)
 line_loads ss sound said named after before l split condition rd e w n v x =
-    let thumb = l.seen.known.thumb in
+    let thumb = l.seen.thumb in
     let known : extent_of l.seen (what.Pseudo (pseudo.LoadConstant condition rd e)) ≡ Ok (Loading n v) =
     ap (extent_of l.seen) (sym w) ∙ known_extent ss sound after before l split ∙ ap Ok x in
     let m = mapped_ok (loading thumb) (literal_there l.seen e) (Loading n v) known in
@@ -188,14 +198,14 @@ line_loads ss sound said named after before l split condition rd e w n v x =
         let long : LoadNamed (what.Pseudo (pseudo.LoadConstant condition rd e)) = subst LoadNamed w b.1 in
         tree_each (IsLoaded Own) e.items (Some []) t (items_loaded Own e.items plain long) tt h
 
-    by_tree : (o : Option Tree) → tree_of e ≡ o → literal_there l.seen e ≡ Ok v → Loads l.seen (sees c) Own v (value_of c e)
+    by_tree : (o : Option Tree) → tree_of e ≡ o → literal_there l.seen e ≡ Ok v → Loads (sees c) v (value_of c e)
     by_tree None h g = let y : tree_literal l.seen None ≡ Ok v = ap (tree_literal l.seen) (sym h) ∙ g in absurd (cc)
     by_tree (Some t) h g =
         let y : tree_literal l.seen (Some t) ≡ Ok v = ap (tree_literal l.seen) (sym h) ∙ g in
-        subst (λ z. Loads l.seen (sees c) Own v z) (sym (final_tree c.names c.line e (Some t) h))
+        subst (λ z. Loads (sees c) v z) (sym (final_tree c.names c.line e (Some t) h))
         (loads_by l.seen (sees c) Own (line_later ss sound (are_plain ss said) after before l split) t (each t h)
         ((line_later ss sound (are_plain ss said) after before l split).own t (constants_hold Own t (each t h)))
-        (value_at l.seen t) (value_at l.seen (kept_names l.seen t)) refl refl v y)
+        (meaning l.seen t) (meaning l.seen (kept_names l.seen t)) refl refl v y)
 
 -- a line with a word loads a literal
 pub word_loads : (area : Option ℕ) (x : Extent) (before rest : List LaidPiece) (w : ℕ) → word_of area x before rest ≡ Some w
@@ -240,7 +250,7 @@ literal_holds ss fine values view region area after before l e own here shown co
     let piece : Among (own_words ss after l before) =
     subst (λ z. Among (literal_piece c (datum_names ss) z (word_among after l before))) (sym q.2) unit in
     word_holds k (values.base area + place) x st.0 here
-    (literal_stored k l.seen (IsOwn (final_names (laid ss))) q.1 (value_of c x) st.0
+    (literal_stored k q.1 (value_of c x) st.0
     (line_loads ss (layout_sound ss fine.laid_out) fine.said fine.loads_named after before l e condition rd x w q.0 q.1 q.2) st.1)
     (shown (place, Word st.0)
     (line_thing ss area (place, Word st.0) after before l e own

@@ -61,7 +61,7 @@ has_relocs s p word reloc one is = record {
 pub is_object : (statements : List Statement) (p : Piece) (attributes word reloc : ℕ) (y : Symbol)
     → HasOne (source_of statements) p → IsWord (source_of statements) p word reloc
     → areas_behind statements ≡ codes "words" ∷ []
-    → attributes_of 0 (is_thumb_area 0 (laid statements)) (laid statements) ≡ Some attributes
+    → attributes_of 0 (is_thumb_area 0 statements) (laid statements) ≡ Some attributes
     → 4 ≡ area_size 0 (pieces_of (laid statements)) → is_kept (contents_of 0 (laid statements)) ≡ true
     → y ∷ [] ≡ symbol_records (source_of statements) → None ≡ entry_of (laid statements)
     → IsObject statements (object (word_area attributes word reloc) y)

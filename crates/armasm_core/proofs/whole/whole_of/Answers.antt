@@ -1,6 +1,6 @@
 use Rattle.std.proofs.Common.{◌∙◌, List, map, ap, subst}
 use Rattle.asm_model.specs.declared.statements.Statement.{Statement}
-use Rattle.asm_pool.specs.declared.layout.LaidArea.{LaidArea}
+use Rattle.asm_layout.specs.declared.laid.LaidArea.{LaidArea}
 use Rattle.layout_laws.proofs.SoundLemmas.{statements_kept}
 use Rattle.asm_model.specs.Labels.{declared_names}
 use Rattle.asm_model.specs.Laid.{laid}
@@ -10,8 +10,8 @@ use Rattle.armasm_core.proofs.whole.whole_of.Goals as goal
 
 pub returns : goal.returns
 returns c = λ statements h. record {
-  names = c.in_ok-names.ensures ∙ c.as_slice.ensures ∙ h.names;
+  names = h.names;
   sets = subst (λ (ss : List Statement). AreSets ss c.in_ok-sets.sets)
-      (ap said_in c.as_slice-2.ensures ∙ said_is (laid statements) c.args.layout.now.statements h.lines ∙ statements_kept (declared_names statements) statements) c.in_ok-sets.ensures;
-  sizes = c.in_ok-sizes.ensures ∙ ap (λ (xs : List LaidArea). map (λ (a : LaidArea). a.size) xs) c.as_slice-3.ensures;
+      (ap said_in c.as_slice.ensures ∙ said_is (laid statements) c.args.layout.now.statements h.lines ∙ statements_kept (declared_names statements) statements) c.in_ok-sets.ensures;
+  sizes = c.in_ok-sizes.ensures ∙ ap (λ (xs : List LaidArea). map (λ (a : LaidArea). a.size) xs) c.as_slice-2.ensures;
 }

@@ -1,7 +1,5 @@
 use Rattle.std.proofs.Common.{◌∙◌, sym}
-use Rattle.std.specs.BTreeSet.{contains}
-use Rattle.std.specs.Ordering.{nat_cmp}
-use Rattle.std.specs.Cmp.Lexicographic.{slice_cmp}
+use Rattle.asm_variables.specs.Maps.{has_name}
 use Rattle.asm_expand.proofs.DefiningLemmas.{twice_here, once_here, seen_more}
 use Rattle.asm_expand.proofs.definitions.has_twice.Goals as goal
 
@@ -19,5 +17,5 @@ loop-i-preserved c =
           (sym (c.loop-i.invariant.1 p.name) ∙ n.0) c.loop-i.invariant.0,
       λ q.
           n.1 q
-          ∙ seen_more c.args.parameters.now c.loop-i.i p q (contains (slice_cmp nat_cmp) c.loop-i.seen q) c.loop-i-test.true c.loop-i.auto.i c.index-parameters-i.is (c.loop-i.invariant.1 q),
+          ∙ seen_more c.args.parameters.now c.loop-i.i p q (has_name c.loop-i.seen q) c.loop-i-test.true c.loop-i.auto.i c.index-parameters-i.is (c.loop-i.invariant.1 q),
     )

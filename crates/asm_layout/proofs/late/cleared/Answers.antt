@@ -1,7 +1,8 @@
 use Rattle.std.proofs.Common.{◌≡◌, ◌<◌, ◌-◌, ◌∷◌, List, [], take, drop, length, refl, sym, ◌∙◌, subst, arith}
-use Rattle.asm_pool.specs.declared.layout.LaidStatement.{LaidStatement}
+use Rattle.asm_layout.specs.declared.laid.LaidStatement.{LaidStatement}
 use Rattle.asm_layout.specs.Late.{IsLeft}
-use Rattle.asm_layout.proofs.LateLemmas.{first_left, rest_of, next_of, stands, told_here, none_here, none_left}
+use Rattle.asm_layout.proofs.LateLemmas.{first_left, next_of, stands, told_here, none_here, none_left}
+use Rattle.base_lemmas.proofs.BaseLemmas.{rest_of}
 use Rattle.asm_layout.proofs.late.cleared.Goals as goal
 
 pub lines-init : goal.lines-init

@@ -6,7 +6,7 @@ use Rattle.asm_layout.specs.Late.{IsLeft}
 use Rattle.asm_layout.proofs.late.cleared.Given as goal
 
 abbrev pub invariant-lines : goal.invariant-lines
-invariant-lines l = (all : List LaidLine) → AreWhole all l.pools l.starts → AreStatements all l.laid → IsLeft all l.left
+invariant-lines l = (all : List LaidLine) → AreWhole all l.pools → AreStatements all l.laid → IsLeft all l.left
 
 abbrev pub decreases-lines : goal.decreases-lines
 decreases-lines l = length l.left

@@ -15,9 +15,9 @@ pub statements-init : goal.statements-init
 statements-init c = record {
   whole = begins c.args.statements.items c.args.count
       ∙ ap (λ (l : List Statement). l ++ drop c.args.count c.args.statements.items) (sym (c.into_iter-statement-iterator.ensures.into_iter_gives.0 ∙ c.truncate.ensures.items));
-  walks = subst (λ (l : List Statement). IsWalking (declared_names (reversed c.args.statements.items [])) (register_names (reversed l [])) (settled (equals_in (reversed c.args.statements.items []))) [] c.in_ok-walk.walk)
+  walks = subst (λ (l : List Statement). IsWalking (declared_names (reversed c.args.statements.items [])) (register_names (reversed l [])) (settled (equals_in (reversed c.args.statements.items []))) (reversed c.args.statements.items []) [] c.in_ok-walk.walk)
       c.as_slice.ensures.value
-      (c.in_ok-walk.ensures (declared_names (reversed c.args.statements.items [])) (settled (equals_in (reversed c.args.statements.items []))));
+      (c.in_ok-walk.ensures (declared_names (reversed c.args.statements.items [])) (settled (equals_in (reversed c.args.statements.items []))) (reversed c.args.statements.items []));
 }
 
 pub step-requires-clause-may : goal.step-requires-clause-may

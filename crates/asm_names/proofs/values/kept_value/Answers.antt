@@ -1,10 +1,10 @@
 use Rattle.std.proofs.Common.{ap, ◌∙◌}
-use Rattle.asm_names.specs.Sights.{sight_of}
+use Rattle.asm_expr.specs.Seeing.{seen_names}
 use Rattle.asm_names.specs.Steps.{kept_items}
 use Rattle.asm_names.proofs.ValueLemmas.{sees_kept}
 use Rattle.asm_names.proofs.values.kept_value.Goals as goal
 
 pub returns : goal.returns
 returns c =
-    sees_kept (sight_of c.args.place.now) c.args.e.now.items c.from_vec.result c.value_at.result
-    (c.from_vec.ensures ∙ c.in_ok-items.ensures ∙ ap (kept_items (sight_of c.args.place.now)) c.as_slice.ensures) c.value_at.ensures
+    sees_kept (seen_names c.args.seen.now) c.args.e.now.items c.from_vec.result c.evaluate.result
+    (c.from_vec.ensures ∙ c.in_ok-items.ensures ∙ ap (kept_items (seen_names c.args.seen.now)) c.as_slice.ensures) c.evaluate.ensures

@@ -7,7 +7,7 @@ use Rattle.asm_registers.proofs.forms.thumb_operand_kind.Goals as goal
 
 pub returns : goal.returns
 returns c =
-    let known = c.args.known.now.entries in
+    let known = c.args.known.now in
     let l = c.args.line.now in
     c.first_told.ensures
     ∙ told_of_two c.thumb_range_kind.result c.row_kind.result (range_kinds known (thumb_list l)) (kind_if (not (has_row (number_of known) l)) BadOperand)

@@ -4,5 +4,5 @@ use Rattle.asm_units.proofs.lines.add_line.Goals as goal
 
 pub returns : goal.returns
 returns c =
-    line_answered _ (option_copied c.args.literal) c.args.line.now.statement.now.what c.args.symbols.now c.add_shown.new.symbols c.add_shown.result
-    c.add_shown.ensures c.new-registers.ensures.empty c.new-labels.ensures.empty
+    line_answered c.args.scene.now (option_copied c.args.literal) c.args.scene.now.line.now.statement.now.what c.args.symbols.now c.add_statement.new.symbols
+    c.add_statement.result c.add_statement.ensures

@@ -11,7 +11,7 @@ use Rattle.asm_units.proofs.words.words.Goals as goal
 pub operands-preserved : goal.operands-preserved
 operands-preserved c =
     let seen = context_of c.args.beside.now.scene in
-    let labels = c.args.beside.now.data.now.keys in
+    let labels = c.args.beside.now.data.now in
     operand_next (λ w. Word w) (λ (e : Expr). stored seen labels (value_of seen e)) (word_units seen labels) (word_units seen labels) (λ e es. refl)
     c.operands.left.now c.operand-item.result (all_emitted c.operands.so_far) (all_emitted c.in_ok-so_far-in-len1-up.so_far) (mapped emitted_of c.in_ok-next-in-len1-up.next)
     (word_units seen labels c.args.operands.now)

@@ -9,8 +9,8 @@ use Rattle.asm_units.proofs.words.words.Given as goal
 abbrev pub invariant-operands : goal.invariant-operands
 invariant-operands l =
     AllRead l.left
-    × (joined (all_emitted l.so_far) (word_units (context_of l.beside.scene) l.beside.data.now.keys l.left)
-    ≡ word_units (context_of l.beside.scene) l.beside.data.now.keys l.operands)
+    × (joined (all_emitted l.so_far) (word_units (context_of l.beside.scene) l.beside.data.now l.left)
+    ≡ word_units (context_of l.beside.scene) l.beside.data.now l.operands)
 
 abbrev pub decreases-operands : goal.decreases-operands
 decreases-operands l = length l.left

@@ -1,4 +1,4 @@
-use Rattle.std.proofs.Common.{List, None, ap, ◌∙◌}
+use Rattle.std.proofs.Common.{List, None, ap, append-nil, ◌∙◌}
 use Rattle.asm_model.specs.declared.exprs.ExprItem.{ExprItem}
 use Rattle.asm_variables.specs.Entries.{items_entries}
 use Rattle.asm_variables.specs.Known.{all_entries}
@@ -9,8 +9,8 @@ pub returns : goal.returns
 returns c =
     λ s r.
     let list =
-    c.from_vec.ensures ∙ c.in_ok-list.ensures s r
+    append-nil _ ∙ append-nil _ ∙ c.in_ok-names.ensures s r
     ∙ ap (λ (is : List ExprItem). items_entries (all_entries c.args.sight s) is) c.as_slice.ensures in
-    with_small c.args.sight s c.args.e.now.items _ c.evaluated.result
+    with_small c.args.sight s c.args.e.now.items _ c.evaluate.result
     (λ i. record { list = list i; area = None; offset = 0; map = 0; thumb = r.thumb i })
-    c.evaluated.ensures
+    c.evaluate.ensures

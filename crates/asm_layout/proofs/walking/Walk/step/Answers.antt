@@ -1,5 +1,5 @@
 use Rattle.asm_layout.proofs.walking.Walk.step.Goals as goal
 
 pub returns : goal.returns
-returns c = λ names settled before h m.
-    c.keep_or_tell.ensures c.args.outline.now.names names settled c.args.self.now before h (c.in_ok-judged.ensures names settled before h m)
+returns c = λ names settled all before states h m.
+    c.keep_or_tell.ensures c.args.outline.now.names names settled all c.args.self.now before h (c.in_ok-judged.ensures names settled all before states h m)

@@ -1,0 +1,35 @@
+//! The states of a source's areas.
+
+ghost use Rattle.std.specs.Prelude.{◌+◌, ◌<◌, [], length, IfOk};
+ghost use Rattle.asm_model.specs.Laid.{reversed};
+ghost use Rattle.asm_areas.specs.States.{AreStates};
+ghost use Rattle.asm_laying.specs.Behind.{most_statements};
+
+use asm_areas::States;
+use asm_laying::areas::Areas;
+use asm_laying::behind::START;
+use asm_model::Statement;
+use sdt_fault::NoMemory;
+use std::alloc::Global;
+
+/// The states of the areas of a source, by its statements in their order.
+pub fn states_of(alloc: Global, statements: &[Statement]) -> Result<States, NoMemory>
+    requires { length statements.now < most_statements + 1 }
+    ensures { IfOk result (λ states. AreStates (reversed statements.now []) states) }
+{
+    let mut areas = Areas::new(alloc);
+    let mut behind = START;
+    let mut states = States::new(alloc);
+    let mut left = statements;
+    'statements: loop {
+        match left {
+            [] => return Ok(states),
+            [statement, rest @ ..] => {
+                areas.enter(alloc, &statement.what)?;
+                states.note(&statement.what, areas.current, behind.thumb)?;
+                behind = behind.stepped(&statement.what);
+                left = rest;
+            }
+        }
+    }
+}
