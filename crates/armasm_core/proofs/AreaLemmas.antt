@@ -6,7 +6,7 @@ use Rattle.sdt_word.specs.Numbers.{flag}
 use Rattle.sdt_fault.specs.declared.kinds.LineKind.{LineKind}
 use Rattle.sdt_fault.specs.declared.kinds.LineKind.TheVariants.{TooMany, BadOperand}
 use Rattle.asm_layout.specs.Layout.{AreAreas}
-use Rattle.asm_model.proofs.LineLemmas.{both_empty}
+use Rattle.layout_laws.proofs.SoundLemmas.{both_empty}
 use Rattle.asm_model.specs.declared.directives.AreaAttributes.{AreaAttributes}
 use Rattle.asm_model.specs.declared.directives.Contents.{Contents}
 use Rattle.asm_model.specs.declared.directives.Contents.TheVariants as contents
@@ -21,13 +21,12 @@ use Rattle.asm_model.specs.Labels.{defined_by}
 use Rattle.asm_model.specs.declared.names.LaidName.{LaidName}
 use Rattle.asm_model.specs.Labels.{declared_names}
 use Rattle.asm_model.specs.Laid.{LaidLine, laid, laid_of, laid_behind, statements_of, reversed}
-use Rattle.asm_model.specs.LayoutKinds.{exponent, exponent_kinds, area_kinds, is_named_otherwise, layout_kinds, fault_kinds, map_kinds, no_area_kinds, contents_kinds, contents_behind, name_kinds, settled_kinds, state_kinds, settled, equals_in, kind_if, area_bytes, is_thumb_area}
+use Rattle.asm_model.specs.LayoutKinds.{exponent, exponent_kinds, area_kinds, is_named_otherwise, layout_kinds, fault_kinds, map_kinds, no_area_kinds, contents_kinds, contents_behind, name_kinds, first_equal, settled_kinds, state_kinds, settled, equals_in, kind_if, area_bytes, is_thumb_area}
 use Rattle.asm_model.specs.Offsets.{is_of}
 use Rattle.source_model.specs.Objects.{attributes_word, contents_bits, or_two, says_area, attributes_of, contents_in, contents_of, holds_code, is_kept}
 use Rattle.source_model.specs.SourceFaults.{layout_faults}
 use Rattle.armasm_core.proofs.SplitLemmas.{none_there}
-use Rattle.source_laws.proofs.WithinLemmas.{IsWithin, area_within}
-use Rattle.armasm_core.proofs.WithinLemmas.{areas_fewer}
+use Rattle.source_laws.proofs.WithinLemmas.{IsWithin, area_within, areas_more}
 use Rattle.armasm_core.specs.Drafting.{marks_zeroes}
 use Rattle.armasm_core.specs.Gathering.{marks_code}
 use Rattle.asm_model.proofs.OffsetLemmas.{through as low_of}
@@ -89,7 +88,7 @@ own_aligned : (fixed : List (List ℕ)) (all : List Statement) (l : LaidLine) (b
 own_aligned fixed all l before e =
     fifth_empty (fault_kinds l.extent) (map_kinds l.seen l.statement.what) (no_area_kinds l.area (defined_by l.statement) l.statement.what)
     (contents_kinds (contents_behind (l.statement ∷ statements_of before)) l.thumb l.statement.what) (area_kinds l.seen l.statement.what before)
-    (name_kinds l.statement (statements_of before)) (settled_kinds fixed (defined_by l.statement)) (state_kinds l.area l.thumb l.statement.what all)
+    (name_kinds l.statement (statements_of before)) (settled_kinds fixed (first_equal (defined_by l.statement) (statements_of before))) (state_kinds l.area l.thumb l.statement.what all)
     (kind_if (nat_lt area_bytes (l.offset + l.size)) TooMany) e
 
 are_aligned : (statements : List Statement) → layout_faults statements ≡ None → (rest before : List LaidLine) → laid statements ≡ reversed rest before → AreAligned before
@@ -146,7 +145,7 @@ none_past d [] area n fits past = refl
 none_past d (s ∷ ss) area n fits past =
     let before = laid_of d ss in
     let l = laid_behind d s before in
-    let fewer = low_of (length (areas_behind (statements_of before))) (length (areas_behind (statements_of (l ∷ before)))) n (areas_fewer (l ∷ []) before) fits in
+    let fewer = low_of (length (areas_behind (statements_of before))) (length (areas_behind (statements_of (l ∷ before)))) n (areas_more (l ∷ []) before) fits in
     let within = area_within n (s ∷ statements_of before) fits in
     rw (none_past d ss area n fewer past) (none_in area l l.statement.what (other_area area n l.area within past))
 

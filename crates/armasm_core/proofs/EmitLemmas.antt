@@ -1,8 +1,6 @@
 -- The lines of a layout, emitted one after the other.
 use Rattle.std.proofs.Common.{◌≡◌, inl, inr, ◌≤◌, ◌<◌, ◌-◌, ℕ, List, [], ◌∷◌, ◌++◌, length, take, drop, get_or, cond, Option, Some, None, refl, sym, ap, ◌∙◌, subst}
-use Rattle.std.specs.BTreeMap.{BTreeMap}
 use Rattle.std.proofs.lemmas.Bool.{cond-true}
-use Rattle.asm_instructions.specs.Scenes.{register_at}
 use Rattle.armasm_core.specs.Drafts.{IsDraft}
 use Rattle.asm_units.specs.declared.emitted.LineUnits.{LineUnits}
 use Rattle.armasm_core.specs.declared.whole.Whole.{Whole}
@@ -10,12 +8,12 @@ use Rattle.armasm_core.specs.Giving.{gives}
 use Rattle.armasm_core.specs.Putting.{IsPut}
 use Rattle.armasm_core.specs.Whole.{IsHere, kinds_at}
 use Rattle.armasm_core.proofs.LoopLemmas.{lines_from, turned_again, first_of, none_left}
-use Rattle.asm_layout.proofs.LateLemmas.{rest_of}
+use Rattle.base_lemmas.proofs.BaseLemmas.{rest_of}
 use Rattle.asm_layout.specs.Late.{AreOn}
 use Rattle.asm_model.specs.declared.statements.Statement.{Statement}
 use Rattle.asm_layout.specs.declared.laid.LaidStatement.{LaidStatement}
 use Rattle.asm_layout.specs.declared.laid.Layout.{Layout}
-use Rattle.asm_registers.proofs.NameLemmas.{found, before_more}
+use Rattle.asm_registers.proofs.NameLemmas.{before_more}
 use Rattle.asm_units.specs.declared.emitted.Emitted.{Emitted as Code}
 use Rattle.asm_model.specs.Labels.{defined_by}
 use Rattle.asm_model.specs.Laid.{LaidLine, laid, reversed}
@@ -77,8 +75,8 @@ drafts_there ss names before rest l own more gs same e h = λ area g is.
 
 -- ---- all lines
 
-pub grown_first : (ss : List Statement) (l : Layout) (w : Whole) (names : List (List ℕ)) (known : BTreeMap (List ℕ) ℕ) (gs : List Growing) → IsEmittable ss l w
-    → ((q : List ℕ) → register_at known q ≡ None) → AreDrafts names (λ area. []) gs → IsGrown ss names l.statements known gs
+pub grown_first : (ss : List Statement) (l : Layout) (w : Whole) (names : List (List ℕ)) (known : List Named) (gs : List Growing) → IsEmittable ss l w
+    → ((q : List ℕ) → register_in q known ≡ None) → AreDrafts names (λ area. []) gs → IsGrown ss names l.statements known gs
 grown_first ss l w names known gs h none drafts = record {
   before = [];
   rest = reversed (laid ss) [];
@@ -89,7 +87,7 @@ grown_first ss l w names known gs h none drafts = record {
   drafts = drafts;
 }
 
-pub grown_all : (ss : List Statement) (names : List (List ℕ)) (left : List LaidStatement) (known : BTreeMap (List ℕ) ℕ) (gs : List Growing) → length left < 1
+pub grown_all : (ss : List Statement) (names : List (List ℕ)) (left : List LaidStatement) (known : List Named) (gs : List Growing) → length left < 1
     → IsGrown ss names left known gs → (value_faults ss ≡ None) × AreDrafts names (things_in (source_of ss)) gs
 grown_all ss names left known gs less h =
     let none = none_left h.before h.rest (subst (λ (xs : List LaidStatement). AreOn h.before h.rest xs) (nothing left less) h.lines) in
@@ -101,7 +99,7 @@ grown_all ss names left known gs less h =
     )
 
 -- the lines that are left begin with this one
-pub record Next (ss : List Statement) (l : Layout) (w : Whole) (names : List (List ℕ)) (x : LaidStatement) (more : List LaidStatement) (known : BTreeMap (List ℕ) ℕ) (gs : List Growing) : Type 0 where
+pub record Next (ss : List Statement) (l : Layout) (w : Whole) (names : List (List ℕ)) (x : LaidStatement) (more : List LaidStatement) (known : List Named) (gs : List Growing) : Type 0 where
   pub before : List LaidLine
   pub line : LaidLine
   pub rest : List LaidLine
@@ -110,7 +108,7 @@ pub record Next (ss : List Statement) (l : Layout) (w : Whole) (names : List (Li
   pub none : value_faults ss ≡ first_valued (laid ss) ss before (line ∷ rest)
   pub drafts : AreDrafts names (λ area. things_behind (source_of ss) area before (line ∷ rest)) gs
 
-next_of : (ss : List Statement) (l : Layout) (w : Whole) (names : List (List ℕ)) (x : LaidStatement) (more : List LaidStatement) (known : BTreeMap (List ℕ) ℕ) (gs : List Growing)
+next_of : (ss : List Statement) (l : Layout) (w : Whole) (names : List (List ℕ)) (x : LaidStatement) (more : List LaidStatement) (known : List Named) (gs : List Growing)
     → IsEmittable ss l w → IsGrown ss names (x ∷ more) known gs → Next ss l w names x more known gs
 next_of ss l w names x more known gs j k =
     let f = first_of k.before k.rest x more k.lines in
@@ -132,14 +130,14 @@ next_of ss l w names x more known gs j k =
       drafts = λ area g is. subst (λ (ls : List LaidLine). IsDraft names (things_behind (source_of ss) area k.before ls) g.draft) f.parts (k.drafts area g is);
     }
 
-pub next_there : (ss : List Statement) (l : Layout) (w : Whole) (names : List (List ℕ)) (x : LaidStatement) (left : List LaidStatement) (known : BTreeMap (List ℕ) ℕ) (gs : List Growing)
+pub next_there : (ss : List Statement) (l : Layout) (w : Whole) (names : List (List ℕ)) (x : LaidStatement) (left : List LaidStatement) (known : List Named) (gs : List Growing)
     → 1 ≤ length left → x ≡ get_or left 0 x → IsEmittable ss l w → IsGrown ss names left known gs → Next ss l w names x (take (length left - 1) (drop 1 left)) known gs
 next_there ss l w names x left known gs some at j k =
     next_of ss l w names x (take (length left - 1) (drop 1 left)) known gs j
     (subst (λ (xs : List LaidStatement). IsGrown ss names xs known gs) (rest_of left x some at) k)
 
 -- what the line puts is what definitions have
-pub put_there : (ss : List Statement) (l : Layout) (w : Whole) (names : List (List ℕ)) (x : LaidStatement) (more : List LaidStatement) (known : BTreeMap (List ℕ) ℕ) (gs : List Growing)
+pub put_there : (ss : List Statement) (l : Layout) (w : Whole) (names : List (List ℕ)) (x : LaidStatement) (more : List LaidStatement) (known : List Named) (gs : List Growing)
     (n : Next ss l w names x more known gs) (u : LineUnits) (us : List Code) → us ≡ u.units.items → IsPut ss n.before n.rest n.line u
     → own_things ss n.line n.before n.rest ≡ pieces_put x.offset us u.literal
 put_there ss l w names x more known gs n u us is h =
@@ -150,16 +148,16 @@ told_first t u f (inl none) = inl none
 told_first t u f (inr h) = inr (h.0, h.1, ap (λ o. or_else o u) h.2, h.3)
 
 -- the refusal of the first of the lines that are left is that of the source
-pub told_here : (ss : List Statement) (l : Layout) (w : Whole) (names : List (List ℕ)) (x : LaidStatement) (more : List LaidStatement) (known : BTreeMap (List ℕ) ℕ) (gs : List Growing)
+pub told_here : (ss : List Statement) (l : Layout) (w : Whole) (names : List (List ℕ)) (x : LaidStatement) (more : List LaidStatement) (known : List Named) (gs : List Growing)
     (n : Next ss l w names x more known gs) (f : Fault) → IsTold (told_at n.line.statement (told_kind (kinds_at ss n.before n.line n.rest))) f → IsTold (value_faults ss) f
 told_here ss l w names x more known gs n f h =
     subst (λ o. IsTold o f) (sym n.none)
     (told_first (told_at n.line.statement (told_kind (kinds_at ss n.before n.line n.rest))) (first_valued (laid ss) ss (n.line ∷ n.before) n.rest) f h)
 
-pub grown_more : (ss : List Statement) (l : Layout) (w : Whole) (names : List (List ℕ)) (x : LaidStatement) (more : List LaidStatement) (known new : BTreeMap (List ℕ) ℕ) (gs hs : List Growing)
+pub grown_more : (ss : List Statement) (l : Layout) (w : Whole) (names : List (List ℕ)) (x : LaidStatement) (more : List LaidStatement) (known new : List Named) (gs hs : List Growing)
     (n : Next ss l w names x more known gs) (u : LineUnits) (us : List Code) → us ≡ u.units.items → IsPut ss n.before n.rest n.line u
     → AreDrafts names (with_line (λ area. things_behind (source_of ss) area n.before (n.line ∷ n.rest)) x.area (pieces_put x.offset us u.literal)) hs
-    → ((q : List ℕ) → register_in q new.entries ≡ register_in q (known.entries ++ gives u.number (defined_by x.statement)))
+    → ((q : List ℕ) → register_in q new ≡ register_in q (known ++ gives u.number (defined_by x.statement)))
     → IsGrown ss names more new hs
 grown_more ss l w names x more known new gs hs n u us is put drafts noted = record {
   before = n.line ∷ n.before;
@@ -167,9 +165,9 @@ grown_more ss l w names x more known new gs hs n u us is put drafts noted = reco
   parts = n.here.parts;
   lines = n.lines;
   registers = λ q.
-      found q new ∙ noted q
-      ∙ ap (λ (ns : List Named). register_in q (known.entries ++ ns)) (ap (λ (s : Statement). gives u.number (defined_by s)) n.here.line.statement ∙ sym put.given)
-      ∙ before_more q known.entries (registers_behind n.before) (named_by n.line.seen (defined_by n.line.statement)) (sym (found q known) ∙ n.here.registers q);
+      noted q
+      ∙ ap (λ (ns : List Named). register_in q (known ++ ns)) (ap (λ (s : Statement). gives u.number (defined_by s)) n.here.line.statement ∙ sym put.given)
+      ∙ before_more q known (registers_behind n.before) (named_by n.line.seen (defined_by n.line.statement)) (n.here.registers q);
   none = n.none ∙ ap (λ o. or_else (told_at n.line.statement o) (first_valued (laid ss) ss (n.line ∷ n.before) n.rest)) put.faultless;
   drafts = drafts_there ss names n.before n.rest n.line x.area (pieces_put x.offset us u.literal) hs n.here.line.area
       (put_there ss l w names x more known gs n u us is put) drafts;

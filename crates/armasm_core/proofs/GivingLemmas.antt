@@ -3,7 +3,7 @@ use Rattle.std.proofs.Common.{◌≡◌, ◌<◌, ℕ, Bool, true, false, cond, 
 use Rattle.std.specs.Prelude.{Result, Ok, Err, nat_lt}
 use Rattle.sdt_fault.specs.declared.kinds.LineKind.{LineKind}
 use Rattle.sdt_fault.specs.declared.kinds.LineKind.TheVariants.{OutOfRange}
-use Rattle.asm_model.proofs.LineLemmas.{both_empty}
+use Rattle.layout_laws.proofs.SoundLemmas.{both_empty}
 use Rattle.asm_model.specs.declared.exprs.Expr.{Expr}
 use Rattle.asm_model.specs.declared.directives.DirectiveLine.{DirectiveLine}
 use Rattle.asm_model.specs.declared.directives.DirectiveLine.TheVariants as line
@@ -14,7 +14,7 @@ use Rattle.asm_model.specs.declared.statements.What.{What}
 use Rattle.asm_model.specs.declared.statements.What.TheVariants as what
 use Rattle.asm_model.specs.declared.values.Value.{Value}
 use Rattle.asm_model.specs.declared.values.Value.TheVariants.{Number, Truth, Words, Place}
-use Rattle.asm_model.specs.AtLine.{Sight}
+use Rattle.asm_model.specs.declared.names.Names.{Names}
 use Rattle.asm_model.specs.Forms.{same}
 use Rattle.asm_registers.specs.Giving.{given_by}
 use Rattle.asm_model.specs.Extents.{value_there, number_there, as_number}
@@ -30,7 +30,7 @@ use Rattle.armasm_core.specs.Giving.{gives}
 
 -- ---- what RN gives
 
-number_stays : (c : Context) (s : Sight) (e : Expr) (r : Result Value LineKind) → value_there s e ≡ r → ((v : Value) → value_there s e ≡ Ok v → value_of c e ≡ Ok v)
+number_stays : (c : Context) (s : Names) (e : Expr) (r : Result Value LineKind) → value_there s e ≡ r → ((v : Value) → value_there s e ≡ Ok v → value_of c e ≡ Ok v)
     → fault_kinds (as_register (as_number r)) ≡ [] → number_there s e ≡ number_in c e
 number_stays c s e (Ok (Number n)) is kept h = ap as_number is ∙ sym (ap as_number (kept (Number n) is))
 number_stays c s e (Ok (Truth b)) is kept h = absurd (cc)
@@ -38,26 +38,26 @@ number_stays c s e (Ok (Words w)) is kept h = absurd (cc)
 number_stays c s e (Ok (Place p n)) is kept h = absurd (cc)
 number_stays c s e (Err k) is kept h = absurd (cc)
 
-given_stays : (c : Context) (s : Sight) (x : Result ℕ LineKind) (name : List ℕ) (r : RnOperand) → IsNumber c (what.Directive (line.Rn r)) x
+given_stays : (c : Context) (s : Names) (x : Result ℕ LineKind) (name : List ℕ) (r : RnOperand) → IsNumber c (what.Directive (line.Rn r)) x
     → ((e : Expr) (v : Value) → value_there s e ≡ Ok v → value_of c e ≡ Ok v) → fault_kinds (given s r) ≡ []
     → with_register name (given s r) ≡ with_register name (given_by r x)
 given_stays c s x name (rn.Register n) i kept h = refl
 given_stays c s x name (rn.Number e) i kept h =
     ap (λ (m : Result ℕ LineKind). with_register name (as_register m)) (number_stays c s e (value_there s e) refl (kept e) h ∙ sym i)
 
-directive_stays : (c : Context) (s : Sight) (x : Result ℕ LineKind) (name : List ℕ) (d : DirectiveLine) → IsNumber c (what.Directive d) x
+directive_stays : (c : Context) (s : Names) (x : Result ℕ LineKind) (name : List ℕ) (d : DirectiveLine) → IsNumber c (what.Directive d) x
     → ((e : Expr) (v : Value) → value_there s e ≡ Ok v → value_of c e ≡ Ok v) → given_kinds s (directive_defines name d) ≡ []
     → named_by s (directive_defines name d) ≡ gives x (directive_defines name d)
 directive_stays c s x name (line.Rn r) i kept h = given_stays c s x name r i kept h
 directive_stays c s x name _ i kept h = refl
 
-what_stays : (c : Context) (s : Sight) (x : Result ℕ LineKind) (name : List ℕ) (w : What) → IsNumber c w x
+what_stays : (c : Context) (s : Names) (x : Result ℕ LineKind) (name : List ℕ) (w : What) → IsNumber c w x
     → ((e : Expr) (v : Value) → value_there s e ≡ Ok v → value_of c e ≡ Ok v) → given_kinds s (what_defines name w) ≡ []
     → named_by s (what_defines name w) ≡ gives x (what_defines name w)
 what_stays c s x name (what.Directive d) i kept h = directive_stays c s x name d i kept h
 what_stays c s x name _ i kept h = refl
 
-field_stays : (c : Context) (s : Sight) (x : Result ℕ LineKind) (label : Option (List ℕ)) (w : What) → IsNumber c w x
+field_stays : (c : Context) (s : Names) (x : Result ℕ LineKind) (label : Option (List ℕ)) (w : What) → IsNumber c w x
     → ((e : Expr) (v : Value) → value_there s e ≡ Ok v → value_of c e ≡ Ok v) → given_kinds s (field_defines label w) ≡ []
     → named_by s (field_defines label w) ≡ gives x (field_defines label w)
 field_stays c s x None w i kept h = refl
@@ -69,7 +69,7 @@ pub gives_there : (c : Context) (names : List (List ℕ)) (l : LaidLine) (before
     → named_by l.seen (defined_by l.statement) ≡ gives x (defined_by l.statement)
 gives_there c names l before x i kept h =
     let own = given_kinds l.seen (defined_by l.statement) in
-    let named = names_kinds names l.seen.all (registers_behind before) (registers_of l.statement.what) in
+    let named = names_kinds names l.seen.list (registers_behind before) (registers_of l.statement.what) in
     let both = both_empty (own ++ named) (operand_kinds l.thumb (registers_behind before) l.statement.what) h in
     field_stays c l.seen x l.statement.label l.statement.what i kept (both_empty own named both.0).0
 
@@ -91,19 +91,19 @@ small_number name (Ok n) = by_test (nat_lt n 16) refl
     by_test true e = (grind arith, tt)
     by_test false e = tt
 
-small_given : (s : Sight) (name : List ℕ) (r : RnOperand) → GivenSaid r → AllSmall (with_register name (given s r))
+small_given : (s : Names) (name : List ℕ) (r : RnOperand) → GivenSaid r → AllSmall (with_register name (given s r))
 small_given s name (rn.Register n) h = (h, tt)
 small_given s name (rn.Number e) h = small_number name (number_there s e)
 
-small_directive : (s : Sight) (name : List ℕ) (d : DirectiveLine) → WhatSaid (what.Directive d) → AllSmall (named_by s (directive_defines name d))
+small_directive : (s : Names) (name : List ℕ) (d : DirectiveLine) → WhatSaid (what.Directive d) → AllSmall (named_by s (directive_defines name d))
 small_directive s name (line.Rn r) h = small_given s name r h
 small_directive s name _ h = tt
 
-small_what : (s : Sight) (name : List ℕ) (w : What) → WhatSaid w → AllSmall (named_by s (what_defines name w))
+small_what : (s : Names) (name : List ℕ) (w : What) → WhatSaid w → AllSmall (named_by s (what_defines name w))
 small_what s name (what.Directive d) h = small_directive s name d h
 small_what s name _ h = tt
 
-small_field : (s : Sight) (label : Option (List ℕ)) (w : What) → WhatSaid w → AllSmall (named_by s (field_defines label w))
+small_field : (s : Names) (label : Option (List ℕ)) (w : What) → WhatSaid w → AllSmall (named_by s (field_defines label w))
 small_field s None w h = tt
 small_field s (Some name) w h = small_what s name w h
 

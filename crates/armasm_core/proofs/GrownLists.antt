@@ -1,6 +1,6 @@
 -- The symbols of a layout's lines, one after the other.
 use Rattle.std.proofs.Common.{◌≡◌, ◌≤◌, ◌<◌, ◌-◌, ℕ, List, [], ◌∷◌, length, take, drop, get_or, refl, sym, ap, ◌∙◌, subst}
-use Rattle.asm_layout.proofs.LateLemmas.{rest_of}
+use Rattle.base_lemmas.proofs.BaseLemmas.{rest_of}
 use Rattle.asm_layout.specs.Late.{AreOn}
 use Rattle.asm_layout.specs.Lines.{IsLineOf}
 use Rattle.asm_names.specs.declared.lines.PlacedLine.{PlacedLine}

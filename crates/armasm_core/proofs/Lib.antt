@@ -24,4 +24,3 @@ pub mod SaidLemmas
 pub mod SetLemmas
 pub mod ShowLemmas
 pub mod SplitLemmas
-pub mod WithinLemmas

@@ -9,7 +9,7 @@ use Rattle.asm_model.specs.declared.directives.DirectiveLine.TheVariants as line
 use Rattle.asm_model.specs.declared.statements.What.{What}
 use Rattle.asm_model.specs.declared.statements.What.TheVariants as what
 use Rattle.asm_model.specs.declared.values.Value.{Value}
-use Rattle.asm_model.specs.AtLine.{Sight}
+use Rattle.asm_model.specs.declared.names.Names.{Names}
 use Rattle.asm_offsets.specs.Laws.{AllExtents, LiteralsArePlaced}
 use Rattle.asm_offsets.specs.Running.{entry_in, pools_behind, pools_from}
 use Rattle.asm_offsets.specs.Coded.{IsExtent}
@@ -31,7 +31,7 @@ use Rattle.base_lemmas.proofs.BaseLemmas.{not_false}
 
 -- ---- before the first area
 
-free_directive : (s : Sight) (d : DirectiveLine) → is_free (what.Directive d) ≡ true → literal_in (taken (directive_extent s d)) ≡ None
+free_directive : (s : Names) (d : DirectiveLine) → is_free (what.Directive d) ≡ true → literal_in (taken (directive_extent s d)) ≡ None
 free_directive s (line.Area n a) e = refl
 free_directive s line.Entry e = absurd (cc)
 free_directive s line.End e = refl
@@ -60,14 +60,14 @@ free_directive s (line.Field v) e = refl
 free_directive s line.Code16 e = refl
 free_directive s line.Code32 e = refl
 
-free_extent : (s : Sight) (w : What) → is_free w ≡ true → literal_in (taken (extent_of s w)) ≡ None
+free_extent : (s : Names) (w : What) → is_free w ≡ true → literal_in (taken (extent_of s w)) ≡ None
 free_extent s what.Nothing e = refl
 free_extent s (what.Arm l) e = refl
 free_extent s (what.Thumb l) e = absurd (cc)
 free_extent s (what.Pseudo l) e = absurd (cc)
 free_extent s (what.Directive d) e = free_directive s d e
 
-pub free_there : (s : Sight) (w : What) (d : Defined) → no_area_kinds None d w ≡ [] → literal_in (taken (extent_of s w)) ≡ None
+pub free_there : (s : Names) (w : What) (d : Defined) → no_area_kinds None d w ≡ [] → literal_in (taken (extent_of s w)) ≡ None
 free_there s w d e =
     let none : (not (is_free w) || has_place d || names_here d) ≡ false = kind_none (not (is_free w) || has_place d || names_here d) NoArea e in
     let a = or_parts (not (is_free w) || has_place d) (names_here d) none in

@@ -4,7 +4,7 @@ use Rattle.std.specs.Prelude.{Result, nat_lt}
 use Rattle.std.specs.List.{slice_get}
 use Rattle.sdt_fault.specs.declared.kinds.LineKind.{LineKind}
 use Rattle.sdt_fault.specs.declared.kinds.LineKind.TheVariants.{TooMany}
-use Rattle.asm_model.proofs.LineLemmas.{both_empty}
+use Rattle.layout_laws.proofs.SoundLemmas.{both_empty}
 use Rattle.asm_model.specs.declared.statements.Statement.{Statement}
 use Rattle.asm_offsets.specs.Running.{entry_behind, pools_behind}
 use Rattle.asm_pool.specs.Laws.{PoolLaw}
@@ -21,18 +21,16 @@ use Rattle.asm_names.specs.Lines.{Sees}
 use Rattle.asm_layout.specs.Layout.{AreAreas}
 use Rattle.asm_layout.specs.Lines.{IsLineOf}
 use Rattle.asm_model.specs.Laid.{LaidLine, laid, laid_of, laid_behind, map_behind, taken, pieces_of, reversed, statements_of}
-use Rattle.asm_model.specs.LayoutKinds.{layout_kinds, fault_kinds, map_kinds, no_area_kinds, contents_kinds, contents_behind, area_kinds, name_kinds, settled_kinds, state_kinds, kind_if, area_bytes, settled, equals_in}
+use Rattle.asm_model.specs.LayoutKinds.{layout_kinds, fault_kinds, map_kinds, no_area_kinds, contents_kinds, contents_behind, area_kinds, name_kinds, first_equal, settled_kinds, state_kinds, kind_if, area_bytes, settled, equals_in}
 use Rattle.asm_model.specs.OffsetLaws.{joined}
 use Rattle.asm_model.specs.Offsets.{Piece, start_in}
 use Rattle.armasm_core.specs.Loaded as own
 use Rattle.armasm_core.specs.declared.whole.Whole.{Whole}
 use Rattle.armasm_core.proofs.LiteralLemmas.{IsPlaced, free_there, literal_there}
-use Rattle.armasm_core.proofs.SplitLemmas.{IsBehind, behind_there, none_there}
-use Rattle.source_laws.proofs.WithinLemmas.{IsWithin, area_within}
-use Rattle.armasm_core.proofs.WithinLemmas.{areas_fewer}
+use Rattle.armasm_core.proofs.SplitLemmas.{IsBehind, behind_there, split_there, none_there}
+use Rattle.source_laws.proofs.WithinLemmas.{IsWithin, line_within}
 use Rattle.armasm_core.specs.Listing.{StandsThere}
 use Rattle.asm_areas.proofs.LateLemmas.{joined_pieces}
-use Rattle.asm_model.proofs.OffsetLemmas.{through as low_of}
 
 -- ---- outside areas
 
@@ -51,16 +49,13 @@ pub has_area : (fixed : List (List ℕ)) (all : List Statement) (l : LaidLine) (
 has_area fixed all l before e =
     third_empty (fault_kinds l.extent) (map_kinds l.seen l.statement.what) (no_area_kinds l.area (defined_by l.statement) l.statement.what)
     (contents_kinds (contents_behind (l.statement ∷ statements_of before)) l.thumb l.statement.what) (area_kinds l.seen l.statement.what before)
-    (name_kinds l.statement (statements_of before)) (settled_kinds fixed (defined_by l.statement)) (state_kinds l.area l.thumb l.statement.what all)
+    (name_kinds l.statement (statements_of before)) (settled_kinds fixed (first_equal (defined_by l.statement) (statements_of before))) (state_kinds l.area l.thumb l.statement.what all)
     (kind_if (nat_lt area_bytes (l.offset + l.size)) TooMany) e
 
 pub extent_is : (d : List LaidName) (l : LaidLine) (before : List LaidLine) → IsBehind d l before → l.extent ≡ extent_of l.seen l.statement.what
 extent_is d l before b = subst (λ (k : LaidLine). k.extent ≡ extent_of k.seen k.statement.what) (sym b.line) refl
 
 -- ---- inside
-
-pub area_is : (d : List LaidName) (l : LaidLine) (before : List LaidLine) → IsBehind d l before → l.line.area ≡ l.area
-area_is d l before b = subst (λ (k : LaidLine). k.line.area ≡ k.area) (sym b.line) refl
 
 same_low : (m n : ℕ) → m ≡ n → n ≤ m
 same_low m n e = omega arith
@@ -71,16 +66,7 @@ areas_low statements areas h = same_low (length areas) (length (areas_behind (st
 pub within_there : (statements : List Statement) (areas : List LaidArea) (w : Whole) (before rest : List LaidLine) (l : LaidLine) (x : LaidStatement)
     → StandsThere statements areas w before rest l x → IsWithin (length areas) l.area
 within_there statements areas w before rest l x h =
-    let d = declared_names statements in
-    let n = length areas in
-    let b = behind_there d statements rest l before h.said h.parts in
-    let same : l ∷ before ≡ laid_behind d b.s (laid_of d b.ss) ∷ laid_of d b.ss =
-    ap (λ (k : LaidLine). k ∷ before) b.line ∙ ap (λ (ls : List LaidLine). laid_behind d b.s (laid_of d b.ss) ∷ ls) b.behind in
-    let low : length (areas_behind (statements_of (l ∷ before))) ≤ n =
-    low_of (length (areas_behind (statements_of (l ∷ before)))) (length (areas_behind (statements_of (reversed rest (l ∷ before))))) n (areas_fewer rest (l ∷ before))
-    (subst (λ (ls : List LaidLine). length (areas_behind (statements_of ls)) ≤ n) h.parts (areas_low statements areas h.laid_out)) in
-    subst (λ (k : LaidLine). IsWithin n k.area) (sym b.line)
-    (area_within n (b.s ∷ statements_of (laid_of d b.ss)) (subst (λ (ls : List LaidLine). length (areas_behind (statements_of ls)) ≤ n) same low))
+    line_within statements (length areas) (reversed rest []) before l (areas_low statements areas h.laid_out) (split_there (laid statements) rest l before h.parts)
 
 -- ---- what the line's expressions see
 

@@ -17,7 +17,6 @@ use Rattle.asm_model.specs.LayoutKinds.{is_thumb_area}
 use Rattle.asm_model.specs.Laid.{final_names, laid, pieces_of}
 use Rattle.asm_model.specs.Offsets.{area_size}
 use Rattle.asm_model.specs.Symbols.{symbols_of}
-use Rattle.asm_model.specs.Meaning.{named_in}
 use Rattle.object_laws.proofs.RelocLemmas.{length_map}
 use Rattle.layout_laws.proofs.SoundLemmas.{statements_kept}
 use Rattle.source_model.specs.Objects.{Piece, source_of, things_in, attributes_of, KeepsBytes, HasRelocs, IsRelocOf, IsArea, contents_of, is_kept, relocs_of, symbol_named, symbol_records}
@@ -139,5 +138,5 @@ pub few_there : (ss : List Statement) (names : List (List ℕ)) (records : List 
 few_there ss names records listed same few =
     subst (λ (n : ℕ). n < 2 ^ 24)
     (ap length same
-    ∙ length_map (λ (name : List ℕ). symbol_named (source_of ss) name (named_in name (source_of ss).names)) (symbols_of (final_names (laid ss)) (laid ss))
+    ∙ length_map (symbol_named (source_of ss)) (symbols_of (final_names (laid ss)) (laid ss))
     ∙ sym (ap length listed)) few

@@ -1,6 +1,5 @@
 -- What a line puts into its area is what definitions have, and its instructions fit their rows.
 use Rattle.std.proofs.Common.{◌≡◌, ℕ, Bool, true, false, List, [], ◌∷◌, ◌++◌, map, Option, Some, Result, Ok, Err, refl, sym, ap, ◌∙◌, subst}
-use Rattle.std.specs.BTreeMap.{BTreeMap}
 use Rattle.sdt_fault.specs.declared.kinds.LineKind.{LineKind}
 use Rattle.arm_isa.specs.declared.instr.ArmInstr.{ArmInstr}
 use Rattle.thumb_isa.specs.declared.instr.ThumbInstr.{ThumbInstr}
@@ -15,7 +14,7 @@ use Rattle.asm_model.specs.declared.statements.Statement.{Statement}
 use Rattle.asm_model.specs.declared.statements.What.{What}
 use Rattle.asm_model.specs.declared.statements.What.TheVariants as what
 use Rattle.asm_model.specs.declared.thumb_lines.ThumbLine.{ThumbLine}
-use Rattle.asm_model.specs.AtLine.{Sight}
+use Rattle.asm_model.specs.declared.names.Names.{Names}
 use Rattle.asm_model.specs.Kinds.{told_kind}
 use Rattle.asm_model.specs.LayoutKinds.{told_at}
 use Rattle.asm_layout.specs.Layout.{IsTold}
@@ -40,6 +39,7 @@ use Rattle.source_model.specs.ThumbForms.{thumb_instruction, thumb_pseudo}
 use Rattle.source_model.specs.declared.codes.ThumbCode.{ThumbCode}
 use Rattle.source_model.specs.declared.codes.ThumbCode.TheVariants.{One, Pair}
 use Rattle.source_model.specs.Units.{Emitted, Bytes, Word, Instruction, Half, Stored, stored, units, directive_units, word_units, half_units, byte_units, byte_operand, narrow, instruction_units, branch_symbol, link_symbol, code_unit, pseudo_units}
+use Rattle.source_model.specs.Registers.{Named}
 use Rattle.armasm_core.specs.declared.whole.Whole.{Whole}
 use Rattle.armasm_core.specs.Putting.{UnitFits, AllUnitsFit, IsPut}
 use Rattle.armasm_core.specs.Whole.{IsHere, ShowsLine, context_there, kinds_at, word_there}
@@ -73,11 +73,11 @@ halves_fit : (c : Context) (es : List Expr) → AllUnitsFit (or_none (half_units
 halves_fit c [] = tt
 halves_fit c (e ∷ es) = with_next (λ (b : List ℕ). Bytes b) (λ b. tt) (and_then (number_in c e) (narrow 2)) (half_units c es) (halves_fit c es)
 
-bytes_fit : (c : Context) (s : Sight) (es : List Expr) → AllUnitsFit (or_none (byte_units c s es))
+bytes_fit : (c : Context) (s : Names) (es : List Expr) → AllUnitsFit (or_none (byte_units c s es))
 bytes_fit c s [] = tt
 bytes_fit c s (e ∷ es) = with_next (λ (b : List ℕ). Bytes b) (λ b. tt) (byte_operand (value_there s e) (value_of c e)) (byte_units c s es) (bytes_fit c s es)
 
-directive_fits : (c : Context) (names : List (List ℕ)) (s : Sight) (d : DirectiveLine) → AllUnitsFit (or_none (directive_units c names s d))
+directive_fits : (c : Context) (names : List (List ℕ)) (s : Names) (d : DirectiveLine) → AllUnitsFit (or_none (directive_units c names s d))
 directive_fits c names s (line.Dcd es) = words_fit c names es
 directive_fits c names s (line.Dcdu es) = words_fit c names es
 directive_fits c names s (line.Dcw es) = halves_fit c es
@@ -134,7 +134,7 @@ pseudo_fits : LinesFit → (thumb : Bool) (c : Context) (word : Option ℕ) (l :
 pseudo_fits laws true c word l small said = thumb_pseudo_fits laws.thumb_pseudo c word l (thumb_pseudo c word l) refl
 pseudo_fits laws false c word l small said = arm_pseudo_fits laws.pseudo c word l (pseudo_instructions c word l) small said refl
 
-units_fit : LinesFit → (c : Context) (names : List (List ℕ)) (s : Sight) (word : Option ℕ) (w : What) → NamesRegisters c → WhatSaid w
+units_fit : LinesFit → (c : Context) (names : List (List ℕ)) (s : Names) (word : Option ℕ) (w : What) → NamesRegisters c → WhatSaid w
     → AllUnitsFit (or_none (units c names s word w))
 units_fit laws c names s word what.Nothing small said = tt
 units_fit laws c names s word (what.Arm l) small said = arm_fits laws.arm c l (arm_instruction c l) small said refl
@@ -149,7 +149,7 @@ PassesAt statements before rest l =
     IsPassTwo (context_there statements before l) (datum_names statements) (λ area. area_size area (pieces_of (laid statements))) l.seen (taken l.extent)
     (word_there before rest l)
 
-module _ (statements : List Statement) (areas : List LaidArea) (w : Whole) (known : BTreeMap (List ℕ) ℕ) (before rest : List LaidLine) (l : LaidLine) (x : LaidStatement)
+module _ (statements : List Statement) (areas : List LaidArea) (w : Whole) (known : List Named) (before rest : List LaidLine) (l : LaidLine) (x : LaidStatement)
     (h : IsHere statements areas w known before rest l x) where
   pub put_there : LinesFit → (y : Beside) (r : Result LineUnits LineKind) (u : LineUnits) → IsSaid x.statement
       → ShowsLine statements before rest l y x.statement.what → r ≡ Ok u → PassesAt statements before rest l x.statement.what r → IsPut statements before rest l u

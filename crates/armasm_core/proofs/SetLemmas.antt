@@ -1,41 +1,19 @@
 -- Names in sets.
-use Rattle.std.proofs.Common.{◌≡◌, ◌≤◌, ◌-◌, ℕ, Bool, true, List, [], ◌∷◌, ◌++◌, ◌||◌, length, take, drop, get_or, map, refl, sym, ap, ◌∙◌, subst}
+use Rattle.std.proofs.Common.{◌≡◌, ◌≤◌, ◌-◌, ℕ, Bool, List, [], ◌∷◌, ◌++◌, ◌||◌, length, take, drop, get_or, map, refl, sym, ap, ◌∙◌, subst}
 use Rattle.std.proofs.Math.Bool.{or_comm}
 use Rattle.std.proofs.lemmas.List.Folds.{list_any-append}
-use Rattle.std.specs.Prelude.{Some}
 use Rattle.std.specs.List.{list_any}
-use Rattle.std.specs.Ordering.{nat_cmp}
-use Rattle.std.specs.Cmp.Lexicographic.{slice_cmp}
-use Rattle.std.specs.BTreeSet as set
-use Rattle.std.specs.BTreeSet.{BTreeSet}
-use Rattle.asm_layout.proofs.LateLemmas.{rest_of}
+use Rattle.base_lemmas.proofs.BaseLemmas.{rest_of}
 use Rattle.asm_layout.specs.Layout.{AreStatements}
 use Rattle.asm_model.specs.declared.statements.Statement.{Statement}
 use Rattle.asm_model.specs.Forms.{same}
-use Rattle.asm_instructions.specs.Scenes.{has_symbol}
 use Rattle.asm_layout.specs.declared.laid.LaidStatement.{LaidStatement}
-use Rattle.asm_registers.proofs.NameLemmas.{in_set, now_named}
-use Rattle.asm_model.specs.Labels.{defined_by, imported_in}
+use Rattle.asm_sets.specs.Sets.{HaveSame}
 use Rattle.asm_model.specs.Laid.{LaidLine, reversed, statements_of}
-use Rattle.asm_model.specs.LayoutKinds.{listed, names_in, names_behind}
 use Rattle.asm_model.specs.Marks.{datum_in, datum_names}
-use Rattle.source_model.specs.SourceFaults.{label_of, symbol_names}
 use Rattle.armasm_core.specs.declared.sets.Sets.{Sets}
-use Rattle.armasm_core.specs.Gathered.{AllLaidSaid, Gains, GainsAll, AreSets, said_in}
-
-pub gains_one : (old new : BTreeSet (List ℕ)) (name text : List ℕ) → text ≡ name → set.UpdatesBy (slice_cmp nat_cmp) (slice_cmp nat_cmp text) old new true
-    → Gains old new (name ∷ [])
-gains_one old new name text copied updates = λ q.
-    in_set q new ∙ now_named q name text old new (name ∷ []) (Some name) refl refl copied updates ∙ list_any-append (same q) old.keys (name ∷ [])
-    ∙ ap (λ (b : Bool). b || list_any (same q) (name ∷ [])) (sym (in_set q old))
-
-pub gains_as : (old new : BTreeSet (List ℕ)) (names other : List (List ℕ)) → names ≡ other → Gains old new names → Gains old new other
-gains_as old new names other e h = subst (λ (ns : List (List ℕ)). Gains old new ns) e h
-
-pub gains_both : (old new : BTreeSet (List ℕ)) (names other more : List (List ℕ)) → names ≡ other → Gains old new (names ++ more) → Gains old new (other ++ more)
-gains_both old new names other more e h = subst (λ (ns : List (List ℕ)). Gains old new (ns ++ more)) e h
-
--- ---- both parts at once
+use Rattle.armasm_core.specs.Gathered.{AllLaidSaid, GainsAll, AreSets, exported_in, said_in, weak_in}
+use Rattle.armasm_core.proofs.GatherLemmas.{exports_is, weak_is}
 
 -- the sets of statements of which these are left
 pub record IsBetween (laid left : List LaidStatement) (x : Sets) : Type 0 where
@@ -43,26 +21,20 @@ pub record IsBetween (laid left : List LaidStatement) (x : Sets) : Type 0 where
   pub whole : reversed (map (λ (y : LaidStatement). y.statement) left) before ≡ said_in laid
   pub sets : AreSets before x
 
-has_more : (old new : BTreeSet (List ℕ)) (before one : List (List ℕ)) → ((q : List ℕ) → has_symbol old q ≡ list_any (same q) before) → Gains old new one
-    → (q : List ℕ) → has_symbol new q ≡ list_any (same q) (before ++ one)
-has_more old new before one h k q = k q ∙ rw (h q) (sym (list_any-append (same q) before one))
+behind : (before old new one : List (List ℕ)) → HaveSame old before → HaveSame new (one ++ old) → HaveSame new (before ++ one)
+behind before old new one h g q =
+    g q ∙ list_any-append (same q) one old ∙ ap (λ (b : Bool). list_any (same q) one || b) (h q)
+    ∙ or_comm (list_any (same q) one) (list_any (same q) before) ∙ sym (list_any-append (same q) before one)
 
-has_front : (old new : BTreeSet (List ℕ)) (before one : List (List ℕ)) → ((q : List ℕ) → has_symbol old q ≡ list_any (same q) before) → Gains old new one
-    → (q : List ℕ) → has_symbol new q ≡ list_any (same q) (one ++ before)
-has_front old new before one h k q =
-    k q ∙ rw (h q) (or_comm (list_any (same q) before) (list_any (same q) one)) ∙ sym (list_any-append (same q) one before)
-
-append_two : {A : Type 0} (xs ys zs : List A) → xs ++ (ys ++ zs) ≡ (xs ++ ys) ++ zs
-append_two [] ys zs = refl
-append_two {A = A} (x ∷ xs) ys zs = ap (λ (l : List A). x ∷ l) (append_two xs ys zs)
+tested : (q : List ℕ) (test rest : Bool) (old new one : List (List ℕ)) → list_any (same q) one ≡ test → list_any (same q) old ≡ rest → HaveSame new (one ++ old)
+    → list_any (same q) new ≡ test || rest
+tested q test rest old new one e h g = g q ∙ list_any-append (same q) one old ∙ rw (e, h) refl
 
 more_sets : (s : Statement) (before : List Statement) (old new : Sets) → AreSets before old → GainsAll old new s → AreSets (s ∷ before) new
 more_sets s before old new h k = record {
-  symbols = λ q.
-      has_more old.symbols new.symbols (symbol_names before) (label_of (defined_by s) ++ listed (imported_in s.what)) h.symbols k.symbols q
-      ∙ ap (λ (ns : List (List ℕ)). list_any (same q) ns) (append_two (symbol_names before) (label_of (defined_by s)) (listed (imported_in s.what)));
-  data_names = has_more old.«data» new.«data» (datum_names before) (datum_in s.label s.what) h.data_names k.data_names;
-  defined = has_front old.defined new.defined (names_behind before) (names_in s) h.defined k.defined;
+  data_names = behind (datum_names before) old.«data» new.«data» (datum_in s.label s.what) h.data_names k.data_names;
+  exported = λ q. tested q _ _ old.exported new.exported (exported_in s.what) (exports_is q s.what) (h.exported q) k.exported;
+  weak = λ q. tested q _ _ old.weak new.weak (weak_in s.what) (weak_is q s.what) (h.weak q) k.weak;
 }
 
 between_more : (laid : List LaidStatement) (x : LaidStatement) (rest : List LaidStatement) (old new : Sets) → IsBetween laid (x ∷ rest) old → GainsAll old new x.statement

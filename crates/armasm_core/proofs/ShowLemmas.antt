@@ -1,19 +1,17 @@
 -- What a line's values are judged by is what definitions have.
 use Rattle.std.proofs.Common.{◌≡◌, ◌<◌, ℕ, zero, suc, List, [], ◌∷◌, length, map, Option, Some, None, refl, sym, ap, ◌∙◌, subst}
 use Rattle.std.specs.Prelude.{Result, Ok}
-use Rattle.std.specs.BTreeMap.{BTreeMap}
-use Rattle.std.specs.BTreeSet.{BTreeSet}
 use Rattle.sdt_fault.specs.declared.kinds.LineKind.{LineKind}
 use Rattle.asm_pool.specs.Pooled.{flushed}
-use Rattle.std.specs.List.{slice_get}
-use Rattle.asm_instructions.specs.Scenes.{Shows, has_symbol, register_at}
+use Rattle.std.specs.List.{list_any, slice_get}
+use Rattle.asm_model.specs.Forms.{same}
+use Rattle.asm_instructions.specs.Scenes.{Shows}
 use Rattle.asm_instructions.specs.declared.scenes.Scene.{Scene}
 use Rattle.asm_laying.specs.Reading.{string_marks}
 use Rattle.asm_layout.specs.Lines.{IsLineOf}
 use Rattle.asm_model.specs.declared.exprs.Expr.{Expr}
 use Rattle.asm_model.specs.declared.statements.Statement.{Statement}
 use Rattle.asm_model.specs.declared.values.Value.{Value}
-use Rattle.asm_model.specs.Meaning.{stands_at}
 use Rattle.asm_offsets.specs.Laws.{AllExtents, ExtentsArePlaceable, LiteralsArePlaced}
 use Rattle.asm_offsets.specs.Running.{entry_behind, pools_behind}
 use Rattle.asm_pool.specs.Laws.{PoolLaw}
@@ -24,11 +22,11 @@ use Rattle.asm_units.specs.Literals.{literal_in}
 use Rattle.layout_laws.specs.Final.{KnownValuesAreFinal}
 use Rattle.asm_model.specs.Extents.{Pool, value_there}
 use Rattle.asm_model.specs.Labels.{defined_by, declared_names}
-use Rattle.asm_model.specs.Laid.{LaidLine, laid, taken, pieces_of, reversed, final_names}
+use Rattle.asm_model.specs.Laid.{LaidLine, laid, taken, pieces_of, reversed}
 use Rattle.asm_model.specs.OffsetLaws.{joined}
 use Rattle.asm_model.specs.Offsets.{Piece, start_in}
-use Rattle.source_model.specs.Contexts.{sees, value_of}
-use Rattle.source_model.specs.Registers.{register_in, registers_behind, register_names, named_by}
+use Rattle.source_model.specs.Contexts.{value_of}
+use Rattle.source_model.specs.Registers.{Named, register_in, registers_behind, register_names, named_by}
 use Rattle.source_model.specs.SourceFaults.{word_of}
 use Rattle.asm_units.specs.Passing.{IsNumber}
 use Rattle.armasm_core.specs.Loaded as own
@@ -40,9 +38,9 @@ use Rattle.armasm_core.proofs.LiteralLemmas.{IsPlaced}
 use Rattle.armasm_core.proofs.LiteralLemmas as placed
 use Rattle.source_laws.proofs.FaultlessLemmas.{layout_sound}
 use Rattle.armasm_core.proofs.SplitLemmas.{IsBehind, behind_there, split_there, none_there}
-use Rattle.source_laws.proofs.WithinLemmas.{IsWithin, AllWithin, names_within, named_within, area_stands}
+use Rattle.source_laws.proofs.WithinLemmas.{IsWithin, context_within}
 use Rattle.armasm_core.specs.Listing.{StandsThere}
-use Rattle.armasm_core.proofs.LoadLemmas.{area_is, area_there, areas_low, within_there, seen_there, loaded}
+use Rattle.armasm_core.proofs.LoadLemmas.{area_there, areas_low, within_there, seen_there, loaded}
 use Rattle.asm_areas.proofs.LateLemmas.{joined_pieces, parts_extents}
 use Rattle.asm_layout.proofs.FinishLemmas.{all_extents}
 use Rattle.said_model.proofs.SharedLemmas.{are_plain}
@@ -58,40 +56,28 @@ map_long : (areas : List LaidArea) → length (map (λ (a : LaidArea). a.size) a
 map_long [] = refl
 map_long (a ∷ areas) = ap suc (map_long areas)
 
--- ---- what the names of a line see
-
-stands_in : (n : ℕ) (statements : List Statement) (l : LaidLine) (before : List LaidLine) → AllWithin n (final_names (laid statements)) → IsWithin n l.line.area
-    → (q : List ℕ) (a o : ℕ) → stands_at (sees (context_there statements before l)) q ≡ Some (a, o) → a < n
-stands_in n statements l before h k [] a o e = area_stands n l.line.area 0 a o k e
-stands_in n statements l before h k (c ∷ cs) a o e = named_within n (c ∷ cs) (final_names (laid statements)) a o h e
-
 -- ---- areas of a layout
 
-stands : (statements : List Statement) (areas : List LaidArea) (w : Whole) (known : BTreeMap (List ℕ) ℕ) (before rest : List LaidLine) (l : LaidLine) (x : LaidStatement)
+stands : (statements : List Statement) (areas : List LaidArea) (w : Whole) (known : List Named) (before rest : List LaidLine) (l : LaidLine) (x : LaidStatement)
     → IsHere statements areas w known before rest l x → StandsThere statements areas w before rest l x
 stands statements areas w known before rest l x h =
     record { said = h.said; sound = h.sound; laid_out = h.laid_out; whole = h.whole; parts = h.parts; line = h.line }
 
-pub record IsPlace (statements : List Statement) (areas : List LaidArea) (w : Whole) (known : BTreeMap (List ℕ) ℕ) (before rest : List LaidLine) (l : LaidLine) (x : LaidStatement) : Type 0 where
+pub record IsPlace (statements : List Statement) (areas : List LaidArea) (w : Whole) (known : List Named) (before rest : List LaidLine) (l : LaidLine) (x : LaidStatement) : Type 0 where
   pub here : IsHere statements areas w known before rest l x
   pub behind : IsBehind (declared_names statements) l before
   pub there : StandsThere statements areas w before rest l x
-  pub names : AllWithin (length areas) (final_names (laid statements))
-  pub within : IsWithin (length areas) l.line.area
+  pub within : IsWithin (length areas) l.area
 
-pub place_of : (statements : List Statement) (areas : List LaidArea) (w : Whole) (known : BTreeMap (List ℕ) ℕ) (before rest : List LaidLine) (l : LaidLine) (x : LaidStatement)
+pub place_of : (statements : List Statement) (areas : List LaidArea) (w : Whole) (known : List Named) (before rest : List LaidLine) (l : LaidLine) (x : LaidStatement)
     → IsHere statements areas w known before rest l x → IsPlace statements areas w known before rest l x
 place_of statements areas w known before rest l x h =
-    let d = declared_names statements in
-    let n = length areas in
-    let b = behind_there d statements rest l before h.said h.parts in
     let there = stands statements areas w known before rest l x h in
     record {
       here = h;
-      behind = b;
+      behind = behind_there (declared_names statements) statements rest l before h.said h.parts;
       there = there;
-      names = names_within n statements (areas_low statements areas h.laid_out);
-      within = subst (IsWithin n) (sym (area_is d l before b)) (within_there statements areas w before rest l x there);
+      within = within_there statements areas w before rest l x there;
     }
 
 -- ---- its literal
@@ -100,7 +86,7 @@ pub record Loads (areas : List LaidArea) (before rest : List LaidLine) (l : Laid
   pub word : own.word_in areas x.area x.literal ≡ word_of l.area (taken l.extent) (pieces_of (l ∷ before)) (pieces_of rest)
   pub literal : literal_in (taken l.extent) ≡ own.literal_in areas x.area x.literal
 
-word_is : ExtentsArePlaceable → LiteralsArePlaced → (statements : List Statement) (areas : List LaidArea) (w : Whole) (known : BTreeMap (List ℕ) ℕ)
+word_is : ExtentsArePlaceable → LiteralsArePlaced → (statements : List Statement) (areas : List LaidArea) (w : Whole) (known : List Named)
     (before rest : List LaidLine) (l : LaidLine) (x : LaidStatement) → IsPlace statements areas w known before rest l x
     → own.word_in areas x.area x.literal ≡ word_of l.area (taken l.extent) (pieces_of (l ∷ before)) (pieces_of rest)
 word_is fits law statements areas w known before rest l x p = by_area l.area refl
@@ -110,7 +96,7 @@ word_is fits law statements areas w known before rest l x p = by_area l.area ref
         ap (λ (a : Option ℕ). own.word_in areas a x.literal) (p.here.line.area ∙ e)
         ∙ sym (ap (λ (a : Option ℕ). word_of a (taken l.extent) (pieces_of (l ∷ before)) (pieces_of rest)) e)
     by_area (Some area) e =
-        let less : area < length areas = subst (IsWithin (length areas)) (area_is (declared_names statements) l before p.behind ∙ e) p.within in
+        let less : area < length areas = subst (IsWithin (length areas)) e p.within in
         let a = area_there areas area less in
         let is = p.here.laid_out.each area a.0 a.1 in
         let pieces = pieces_of before in
@@ -126,59 +112,56 @@ word_is fits law statements areas w known before rest l x p = by_area l.area ref
         ∙ placed.word_there law areas area a.0 pieces behind t a.1 settled_there extents.0.1 extents.0.0 extents.1
         ∙ ap (λ (o : Option ℕ). word_of o t ((record { area = o; extent = t }) ∷ pieces) behind) (sym e)
 
-pub loads : ExtentsArePlaceable → LiteralsArePlaced → PoolLaw → (statements : List Statement) (areas : List LaidArea) (w : Whole) (known : BTreeMap (List ℕ) ℕ)
+pub loads : ExtentsArePlaceable → LiteralsArePlaced → PoolLaw → (statements : List Statement) (areas : List LaidArea) (w : Whole) (known : List Named)
     (before rest : List LaidLine) (l : LaidLine) (x : LaidStatement) → IsPlace statements areas w known before rest l x → Loads areas before rest l x
 loads fits law pools statements areas w known before rest l x p =
     record { word = word_is fits law statements areas w known before rest l x p; literal = loaded pools statements areas w before rest l x p.there }
 
 -- ---- what is beside the line
 
-pub record IsScene (w : Whole) (known : BTreeMap (List ℕ) ℕ) (x : LaidStatement) (z : Scene) : Type 0 where
+pub record IsScene (w : Whole) (known : List Named) (x : LaidStatement) (z : Scene) : Type 0 where
   pub names : z.names.now ≡ w.names.now
   pub line : IsLineOf x z.line.now
   pub registers : z.registers.now ≡ known
-  pub symbols : z.symbols.now ≡ w.sets.symbols
 
-pub record IsBeside (areas : List LaidArea) (w : Whole) (known : BTreeMap (List ℕ) ℕ) (x : LaidStatement) (y : Beside) : Type 0 where
+pub record IsBeside (areas : List LaidArea) (w : Whole) (known : List Named) (x : LaidStatement) (y : Beside) : Type 0 where
   pub scene : IsScene w known x y.scene
   pub labels : y.«data».now ≡ w.sets.«data»
-  pub defined : y.defined.now ≡ w.sets.defined
   pub sizes : y.sizes.now ≡ w.sizes.items
   pub strings : y.strings.now ≡ x.strings
   pub word : y.word ≡ own.word_in areas x.area x.literal
 
-pub shows : (statements : List Statement) (areas : List LaidArea) (w : Whole) (known : BTreeMap (List ℕ) ℕ) (before rest : List LaidLine) (l : LaidLine) (x : LaidStatement) (z : Scene)
+pub shows : (statements : List Statement) (areas : List LaidArea) (w : Whole) (known : List Named) (before rest : List LaidLine) (l : LaidLine) (x : LaidStatement) (z : Scene)
     → IsPlace statements areas w known before rest l x → IsScene w known x z
     → Shows z (context_there statements before l)
 shows statements areas w known before rest l x z p b = record {
   names = sym (b.names ∙ p.here.whole.names);
   line = seen_there statements areas w before rest l x z.line.now p.there b.line;
-  registers = λ q. ap (λ (m : BTreeMap (List ℕ) ℕ). register_at m q) b.registers ∙ p.here.registers q;
+  registers = λ q. ap (register_in q) b.registers ∙ p.here.registers q;
   small = λ q n e.
       small_there (declared_names statements) p.behind.ss p.behind.all q n (subst (λ (ls : List LaidLine). register_in q (registers_behind ls) ≡ Some n) p.behind.behind e);
-  symbols = λ q. ap (λ (s : BTreeSet (List ℕ)). has_symbol s q) b.symbols ∙ p.here.whole.sets.symbols q;
 }
 
-pub known_there : KnownValuesAreFinal → (statements : List Statement) (areas : List LaidArea) (w : Whole) (known : BTreeMap (List ℕ) ℕ) (before rest : List LaidLine) (l : LaidLine) (x : LaidStatement)
+pub known_there : KnownValuesAreFinal → (statements : List Statement) (areas : List LaidArea) (w : Whole) (known : List Named) (before rest : List LaidLine) (l : LaidLine) (x : LaidStatement)
     → IsPlace statements areas w known before rest l x → (e : Expr) (v : Value) → value_there l.seen e ≡ Ok v
     → value_of (context_there statements before l) e ≡ Ok v
 known_there law statements areas w known before rest l x p e v h =
     law statements (layout_sound statements p.here.sound) (are_plain statements p.here.said) (reversed rest []) before l (split_there (laid statements) rest l before p.here.parts) e v h
 
-pub shows_beside : KnownValuesAreFinal → (statements : List Statement) (areas : List LaidArea) (w : Whole) (known : BTreeMap (List ℕ) ℕ) (before rest : List LaidLine) (l : LaidLine) (x : LaidStatement)
+pub shows_beside : KnownValuesAreFinal → (statements : List Statement) (areas : List LaidArea) (w : Whole) (known : List Named) (before rest : List LaidLine) (l : LaidLine) (x : LaidStatement)
     (y : Beside) → IsPlace statements areas w known before rest l x → Loads areas before rest l x → IsBeside areas w known x y
     → ShowsLine statements before rest l y x.statement.what
 shows_beside law statements areas w known before rest l x y p o b =
     let sizes : y.sizes.now ≡ map (λ (a : LaidArea). a.size) areas = b.sizes ∙ p.here.whole.sizes in
     record {
       scene = shows statements areas w known before rest l x y.scene p b.scene;
-      labels = λ q. ap (λ (s : BTreeSet (List ℕ)). has_symbol s q) b.labels ∙ p.here.whole.sets.data_names q;
-      defined = λ q. ap (λ (s : BTreeSet (List ℕ)). has_symbol s q) b.defined ∙ p.here.whole.sets.defined q;
+      labels = λ q. ap (λ (ns : List (List ℕ)). list_any (same q) ns) b.labels ∙ p.here.whole.sets.data_names q;
       measured = λ area n e.
           let r = sized areas area n (subst (λ (ns : List ℕ). slice_get ns area ≡ Some n) sizes e) in sym r.2 ∙ (p.here.laid_out.each area r.0 r.1).size;
       within = λ q area offset e.
           subst (λ (n : ℕ). area < n) (sym (ap (λ (ns : List ℕ). length ns) sizes ∙ map_long areas))
-          (stands_in (length areas) statements l before p.names p.within q area offset e);
+          (context_within statements (length areas) (reversed rest []) before l (areas_low statements areas p.here.laid_out)
+          (split_there (laid statements) rest l before p.here.parts) q (area, offset) e);
       strings = b.strings ∙ p.here.line.strings ∙ ap (λ (s : Statement). string_marks l.seen s.what) (sym p.here.line.statement);
       literal = b.word ∙ o.word;
       known = known_there law statements areas w known before rest l x p;
@@ -186,7 +169,7 @@ shows_beside law statements areas w known before rest l x y p o b =
 
 -- ---- what RN gives
 
-pub given_there : (statements : List Statement) (areas : List LaidArea) (w : Whole) (known : BTreeMap (List ℕ) ℕ) (before rest : List LaidLine) (l : LaidLine) (x : LaidStatement) (y : Beside)
+pub given_there : (statements : List Statement) (areas : List LaidArea) (w : Whole) (known : List Named) (before rest : List LaidLine) (l : LaidLine) (x : LaidStatement) (y : Beside)
     (n : Result ℕ LineKind) → IsHere statements areas w known before rest l x → ShowsLine statements before rest l y x.statement.what
     → IsNumber (context_there statements before l) x.statement.what n → named_by l.seen (defined_by l.statement) ≡ gives n (defined_by l.statement)
 given_there statements areas w known before rest l x y n h shows i =

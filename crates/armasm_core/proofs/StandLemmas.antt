@@ -1,8 +1,8 @@
 -- What a line puts into its area can stand there.
 use Rattle.std.proofs.Common.{◌≡◌, inl, inr, ⊎_elim, ◌≤◌, ◌<◌, ◌+◌, ◌-◌, ◌^◌, ℕ, zero, suc, List, [], ◌∷◌, length, map, take, drop, get_or, Bool, true, false, cond, Option, Some, None, refl, sym, ap, ◌∙◌, subst, arith}
 use Rattle.std.specs.Prelude.{not}
-use Rattle.std.specs.BTreeMap.{BTreeMap}
 use Rattle.std.specs.List.{slice_get}
+use Rattle.source_model.specs.Registers.{Named}
 use Rattle.armasm_core.specs.Writing.{AllCanStand, CanStand, HasNumber, HasWord, SymbolHasNumber, TargetHasNumber}
 use Rattle.asm_units.specs.declared.emitted.LineUnits.{LineUnits}
 use Rattle.asm_units.specs.declared.emitted.LiteralWord.{LiteralWord}
@@ -167,7 +167,7 @@ emittable l w names h =
     let s = h.source in record { layout = s.layout; said = s.said; sound = s.sound; states = s.states; whole = h.whole }
 
 -- of the lines that are left the first can stand
-pub next_stands : (l : Layout) (w : Whole) (names : List (List ℕ)) (x : LaidStatement) (left : List LaidStatement) (known : BTreeMap (List ℕ) ℕ) (gs : List Growing)
+pub next_stands : (l : Layout) (w : Whole) (names : List (List ℕ)) (x : LaidStatement) (left : List LaidStatement) (known : List Named) (gs : List Growing)
     → 1 ≤ length left → x ≡ get_or left 0 x → (g : GrowsOn l w names left known gs) → frames gs ≡ map frame_of l.areas → (u : LineUnits) (us : List Code) → us ≡ u.units.items
     → ((before rest : List LaidLine) (line : LaidLine) → IsHere g.source.source.statements l.areas w known before rest line x → IsPut g.source.source.statements before rest line u)
     → LineCanStand names (frames gs) x.area (pieces_put x.offset us u.literal)

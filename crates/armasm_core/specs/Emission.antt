@@ -2,8 +2,6 @@
 use Rattle.std.specs.Prelude.{◌≡◌, ℕ, ◌^◌, ◌<◌, List, length, None, Result, Ok, Err}
 use Rattle.std.specs.Global.{Vec}
 use Rattle.sdt_fault.specs.declared.answer.Fault.{Fault}
-use Rattle.std.specs.BTreeMap.{BTreeMap}
-use Rattle.asm_instructions.specs.Scenes.{register_at}
 use Rattle.armasm_core.specs.declared.whole.Whole.{Whole}
 use Rattle.armasm_core.specs.Whole.{IsWhole}
 use Rattle.asm_layout.specs.Late.{AreOn}
@@ -17,7 +15,7 @@ use Rattle.said_model.specs.Fit.{AllFit}
 use Rattle.said_model.specs.Said.{AllSaid, AllHaveTexts}
 use Rattle.source_laws.specs.Laws.{AreOfState}
 use Rattle.source_model.specs.Objects.{source_of, things_behind, things_in}
-use Rattle.source_model.specs.Registers.{register_in, registers_behind}
+use Rattle.source_model.specs.Registers.{Named, register_in, registers_behind}
 use Rattle.source_model.specs.SourceFaults.{first_valued, layout_faults, value_faults}
 use Rattle.armasm_core.specs.declared.drafting.Growing.{Growing}
 use Rattle.armasm_core.specs.Drafting.{AreDrafts}
@@ -48,17 +46,17 @@ pub record IsEmittable (statements : List Statement) (l : Layout) (w : Whole) : 
   pub whole : IsWhole statements l.areas w
 
 -- of a source's lines these are left, none before has a fault of values, and in the areas stands what those before put there
-pub record IsGrown (statements : List Statement) (symbols : List (List ℕ)) (left : List LaidStatement) (known : BTreeMap (List ℕ) ℕ) (gs : List Growing) : Type 0 where
+pub record IsGrown (statements : List Statement) (symbols : List (List ℕ)) (left : List LaidStatement) (known : List Named) (gs : List Growing) : Type 0 where
   pub before : List LaidLine
   pub rest : List LaidLine
   pub parts : laid statements ≡ reversed rest before
   pub lines : AreOn before rest left
-  pub registers : (q : List ℕ) → register_at known q ≡ register_in q (registers_behind before)
+  pub registers : (q : List ℕ) → register_in q known ≡ register_in q (registers_behind before)
   pub none : value_faults statements ≡ first_valued (laid statements) statements before rest
   pub drafts : AreDrafts symbols (λ area. things_behind (source_of statements) area before rest) gs
 
 -- of the lines of the layout's source these are left
-pub record GrowsOn (l : Layout) (w : Whole) (symbols : List (List ℕ)) (left : List LaidStatement) (known : BTreeMap (List ℕ) ℕ) (gs : List Growing) : Type 0 where
+pub record GrowsOn (l : Layout) (w : Whole) (symbols : List (List ℕ)) (left : List LaidStatement) (known : List Named) (gs : List Growing) : Type 0 where
   pub source : HasSymbols l w symbols
   pub grown : IsGrown source.source.statements symbols left known gs
 

@@ -1,17 +1,17 @@
--- What all lines of a layout share: names in sets, as its statements say them. This project's.
-use Rattle.std.specs.Prelude.{◌≡◌, ◌||◌, ℕ, List, [], ◌∷◌, ◌++◌, map}
+-- Names of a source in sets, as its statements say them. This project's.
+use Rattle.std.specs.Prelude.{◌≡◌, ℕ, Bool, true, false, List, [], ◌∷◌, ◌++◌, map}
 use Rattle.std.specs.List.{list_any}
-use Rattle.std.specs.BTreeSet.{BTreeSet}
+use Rattle.asm_model.specs.declared.directives.DirectiveLine.TheVariants as line
 use Rattle.asm_model.specs.declared.statements.Statement.{Statement}
+use Rattle.asm_model.specs.declared.statements.What.{What}
+use Rattle.asm_model.specs.declared.statements.What.TheVariants as what
 use Rattle.asm_model.specs.Forms.{same}
-use Rattle.asm_instructions.specs.Scenes.{has_symbol}
 use Rattle.asm_layout.specs.declared.laid.LaidStatement.{LaidStatement}
-use Rattle.asm_model.specs.Labels.{defined_by, imported_in}
+use Rattle.asm_sets.specs.Sets.{HaveSame}
 use Rattle.asm_model.specs.Laid.{reversed}
-use Rattle.asm_model.specs.LayoutKinds.{listed, names_in, names_behind}
 use Rattle.asm_model.specs.Marks.{datum_in, datum_names}
 use Rattle.said_model.specs.Said.{IsSaid}
-use Rattle.source_model.specs.SourceFaults.{label_of, symbol_names}
+use Rattle.source_model.specs.Objects.{exports_name, is_weak_import}
 use Rattle.armasm_core.specs.declared.sets.Sets.{Sets}
 
 -- ---- statements of a layout
@@ -24,20 +24,31 @@ AllLaidSaid (x ∷ xs) = IsSaid x.statement × AllLaidSaid xs
 abbrev pub said_in : List LaidStatement → List Statement
 said_in xs = reversed (map (λ (x : LaidStatement). x.statement) xs) []
 
--- ---- names in sets
+-- ---- names of statements
 
--- the set has these names more
-abbrev pub Gains : BTreeSet (List ℕ) → BTreeSet (List ℕ) → List (List ℕ) → Type 0
-Gains old new names = (q : List ℕ) → has_symbol new q ≡ (has_symbol old q || list_any (same q) names)
+abbrev pub exported_in : What → List (List ℕ)
+exported_in (what.Directive (line.Export n)) = n ∷ []
+exported_in _ = []
+
+abbrev pub name_where : Bool → List ℕ → List (List ℕ)
+name_where true n = n ∷ []
+name_where false n = []
+
+abbrev pub weak_in : What → List (List ℕ)
+weak_in (what.Directive (line.Import n weak)) = name_where weak n
+weak_in (what.Directive (line.Extern n weak)) = name_where weak n
+weak_in _ = []
+
+-- ---- names in sets
 
 -- the sets have the names of a statement more
 pub record GainsAll (old new : Sets) (s : Statement) : Type 0 where
-  pub symbols : Gains old.symbols new.symbols (label_of (defined_by s) ++ listed (imported_in s.what))
-  pub data_names : Gains old.«data» new.«data» (datum_in s.label s.what)
-  pub defined : Gains old.defined new.defined (names_in s)
+  pub data_names : HaveSame new.«data» (datum_in s.label s.what ++ old.«data»)
+  pub exported : HaveSame new.exported (exported_in s.what ++ old.exported)
+  pub weak : HaveSame new.weak (weak_in s.what ++ old.weak)
 
 -- the sets have the names of statements, of which the last is listed first
 pub record AreSets (statements : List Statement) (x : Sets) : Type 0 where
-  pub symbols : (q : List ℕ) → has_symbol x.symbols q ≡ list_any (same q) (symbol_names statements)
-  pub data_names : (q : List ℕ) → has_symbol x.«data» q ≡ list_any (same q) (datum_names statements)
-  pub defined : (q : List ℕ) → has_symbol x.defined q ≡ list_any (same q) (names_behind statements)
+  pub data_names : HaveSame x.«data» (datum_names statements)
+  pub exported : (q : List ℕ) → list_any (same q) x.exported ≡ list_any (λ s. exports_name q s.what) statements
+  pub weak : (q : List ℕ) → list_any (same q) x.weak ≡ list_any (λ s. is_weak_import q s.what) statements

@@ -1,8 +1,6 @@
 -- What all lines of a layout share, and a line among them. This project's.
 use Rattle.std.specs.Prelude.{◌≡◌, ℕ, List, ◌∷◌, map, Option, None}
-use Rattle.std.specs.BTreeMap.{BTreeMap}
 use Rattle.sdt_fault.specs.declared.kinds.LineKind.{LineKind}
-use Rattle.asm_instructions.specs.Scenes.{register_at}
 use Rattle.asm_layout.specs.Layout.{IsStatement, AreAreas}
 use Rattle.asm_model.specs.declared.statements.Statement.{Statement}
 use Rattle.asm_model.specs.declared.statements.What.{What}
@@ -15,7 +13,7 @@ use Rattle.asm_model.specs.Marks.{datum_names}
 use Rattle.asm_model.specs.Offsets.{area_size}
 use Rattle.said_model.specs.Said.{AllSaid}
 use Rattle.source_model.specs.Contexts.{Context}
-use Rattle.source_model.specs.Registers.{register_in, registers_behind}
+use Rattle.source_model.specs.Registers.{Named, register_in, registers_behind}
 use Rattle.source_model.specs.SourceFaults.{context_of, word_of, layout_faults}
 use Rattle.source_model.specs.ValueKinds.{value_kinds}
 use Rattle.armasm_core.specs.declared.whole.Whole.{Whole}
@@ -32,7 +30,7 @@ pub record IsWhole (statements : List Statement) (areas : List LaidArea) (w : Wh
 
 -- what a line's values are found by, where these lines stand before it, the nearest first
 abbrev pub context_there : List Statement → List LaidLine → LaidLine → Context
-context_there statements before l = context_of (final_names (laid statements)) statements l before
+context_there statements before l = context_of (final_names (laid statements)) l before
 
 -- the offset of the word of its literal, where these lines stand behind it
 abbrev pub word_there : List LaidLine → List LaidLine → LaidLine → Option ℕ
@@ -51,11 +49,11 @@ ShowsLine statements before rest l y w =
     (word_there before rest l) w
 
 -- a line of a source whose layout has no fault, and the names for registers that are known there
-pub record IsHere (statements : List Statement) (areas : List LaidArea) (w : Whole) (known : BTreeMap (List ℕ) ℕ) (before rest : List LaidLine) (l : LaidLine) (x : LaidStatement) : Type 0 where
+pub record IsHere (statements : List Statement) (areas : List LaidArea) (w : Whole) (known : List Named) (before rest : List LaidLine) (l : LaidLine) (x : LaidStatement) : Type 0 where
   pub said : AllSaid statements
   pub sound : layout_faults statements ≡ None
   pub laid_out : AreAreas (laid statements) areas
   pub whole : IsWhole statements areas w
   pub parts : laid statements ≡ reversed rest (l ∷ before)
   pub line : IsStatement x l before
-  pub registers : (q : List ℕ) → register_at known q ≡ register_in q (registers_behind before)
+  pub registers : (q : List ℕ) → register_in q known ≡ register_in q (registers_behind before)

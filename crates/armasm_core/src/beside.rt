@@ -1,12 +1,12 @@
 //! What a line of a layout is judged by.
 
-ghost use Rattle.std.specs.Prelude.{◌≡◌, ℕ, List};
-ghost use Rattle.std.specs.BTreeMap.{BTreeMap as Map};
+ghost use Rattle.std.specs.Prelude.{◌≡◌, List};
 ghost use Rattle.std.specs.Option.{option_copied};
 ghost use Rattle.asm_layout.specs.Lines.{IsLineOf};
 ghost use Rattle.asm_model.specs.declared.statements.Statement.{Statement};
 ghost use Rattle.asm_model.specs.Laid.{LaidLine, taken};
 ghost use Rattle.asm_units.specs.Literals as loads;
+ghost use Rattle.source_model.specs.Registers.{Named};
 ghost use Rattle.armasm_core.specs.declared.whole.Whole.{Whole as Shared};
 ghost use Rattle.armasm_core.specs.Whole.{IsHere, ShowsLine};
 
@@ -18,16 +18,15 @@ use asm_model::Value;
 use asm_names::PlacedLine;
 use asm_offsets::{extents_are_placeable, literals_are_placed};
 use asm_pool::pool_law;
+use asm_sets::NameMap;
 use asm_units::Beside;
 use layout_laws::laws::known_values_are_final;
-use sdt_fault::Text;
-use std::collections::BTreeMap;
 
 /// What a line's values are judged by.
 pub fn beside_of<'a>(
     areas: &[LaidArea],
     whole: &'a Whole<'a>,
-    registers: &'a BTreeMap<Text, u8>,
+    registers: &'a NameMap<u8>,
     laid: &'a LaidStatement,
     line: &'a PlacedLine<'a>,
 ) -> Beside<'a>
@@ -43,10 +42,8 @@ pub fn beside_of<'a>(
             names: whole.names,
             line,
             registers,
-            symbols: &whole.sets.symbols,
         },
         data: &whole.sets.data,
-        defined: &whole.sets.defined,
         sizes: whole.sizes.as_slice(),
         strings: laid.strings.as_slice(),
         word: word_of(areas, laid.area, laid.literal),
@@ -55,7 +52,7 @@ pub fn beside_of<'a>(
 
 /// The literal that a line loads.
 pub fn loaded_of<'a>(areas: &'a [LaidArea], laid: &LaidStatement) -> Option<&'a Value>
-    ensures { (statements : List Statement) (w : Shared) (known : Map (List ℕ) ℕ) (before rest : List LaidLine) (l : LaidLine) → IsHere statements areas.now w known before rest l laid.now → loads.literal_in (taken l.extent) ≡ option_copied result }
+    ensures { (statements : List Statement) (w : Shared) (known : List Named) (before rest : List LaidLine) (l : LaidLine) → IsHere statements areas.now w known before rest l laid.now → loads.literal_in (taken l.extent) ≡ option_copied result }
 {
     extents_are_placeable();
     literals_are_placed();

@@ -22,20 +22,20 @@ ghost use Rattle.armasm_core.specs.Wherever.{StandsWherever};
 
 use crate::drafting::{Growing, all_finished, all_started, put_line};
 use crate::entry::entry_of;
-use crate::facts::gathered_of;
+use crate::facts::code_of;
 use crate::records::records_of;
 use crate::second_pass::pass_line;
 use crate::symbols::symbols_of;
 use crate::{Whole, give, whole_of};
 use aof_object::{Object, Symbol};
 use asm_layout::Layout;
+use asm_sets::NameMap;
 use asm_units::{LineUnits, Symbols};
 use sdt_fault::answer::Fault;
 use sdt_fault::{List, NoMemory};
 use source_laws::laws::sources_stand_apart;
 use stand_laws::laws::objects_stand;
 use std::alloc::Global;
-use std::collections::BTreeMap;
 
 /// The areas of a layout with all that its lines put there; or the refusal of the first line whose values have a fault.
 fn grown(
@@ -53,7 +53,7 @@ fn grown(
     sources_stand_apart();
     let areas = layout.areas.as_slice();
     let mut growing = all_started(alloc, areas)?;
-    let mut registers = BTreeMap::new(alloc);
+    let mut registers = NameMap::new(alloc);
     let mut left = layout.statements.as_slice();
     'lines: loop {
         match left {
@@ -82,8 +82,8 @@ fn few_records(
     ensures few { IfOk result (λ records. length records < 2 ^ 24) }
     ensures records { IfOk result (λ records. (statements : Items Statement) → IsLayout statements layout.now → layout_faults statements ≡ None → IsWhole statements layout.now.areas whole.now → symbols.now ≡ needs.symbols_of (final_names (laid statements)) (laid statements) → records ≡ symbol_records (source_of statements)) }
 {
-    let gathered = gathered_of(alloc, layout)?;
-    let records = records_of(alloc, symbols, whole, &gathered)?;
+    let code = code_of(alloc, layout)?;
+    let records = records_of(alloc, symbols, whole, code.as_slice())?;
     if records.as_slice().len() >= 0x100_0000 {
         return Err(NoMemory);
     }

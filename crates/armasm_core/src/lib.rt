@@ -26,7 +26,7 @@ pub use crate::assembling::assemble;
 pub use crate::drafts::{Draft, Finished};
 pub use crate::emission::emit;
 pub use crate::entry::entry_of;
-pub use crate::facts::{Gathered, facts_of, gathered_of};
+pub use crate::facts::{code_of, facts_of};
 pub use crate::records::records_of;
 pub use crate::registers::give;
 pub use crate::symbols::symbols_of;

@@ -2,34 +2,27 @@
 
 ghost use Rattle.std.specs.Prelude.{◌≡◌, List as Items, map, IfOk};
 ghost use Rattle.asm_model.specs.declared.statements.Statement.{Statement};
-ghost use Rattle.asm_model.specs.Meaning.{named_in};
 ghost use Rattle.asm_layout.specs.declared.laid.LaidArea.{LaidArea};
 ghost use Rattle.asm_model.specs.Laid.{laid, final_names};
 ghost use Rattle.asm_model.specs.Symbols.{symbols_of};
 ghost use Rattle.source_model.specs.Objects.{Source, source_of, symbol_records, symbol_named};
 ghost use Rattle.armasm_core.specs.Whole.{IsWhole};
 ghost use Rattle.asm_units.specs.Recording.{Shows};
-ghost use Rattle.armasm_core.specs.Gathering.{IsGathered};
+ghost use Rattle.armasm_core.specs.Gathering.{IsCode};
 
-use crate::facts::{Gathered, facts_of};
+use crate::facts::facts_of;
 use crate::whole::Whole;
 use aof_object::Symbol;
 use asm_units::{Facts, Symbols, record_of};
 use sdt_fault::{List, NoMemory, Text};
 use std::alloc::Global;
 
-fn record_named(alloc: Global, name: &Text, facts: &Facts<'_>) -> Result<Symbol, NoMemory>
-    ensures { IfOk result (λ symbol. (s : Source) → Shows facts.now s → symbol ≡ symbol_named s name.now (named_in name.now s.names)) }
-{
-    record_of(alloc, name, facts.names.find(name), facts)
-}
-
 fn records_with(alloc: Global, names: &[Text], facts: &Facts<'_>) -> Result<Vec<Symbol>, NoMemory>
-    ensures { IfOk result (λ records. (s : Source) → Shows facts.now s → records.items ≡ map (λ name. symbol_named s name (named_in name s.names)) names.now) }
+    ensures { IfOk result (λ records. (s : Source) → Shows facts.now s → records.items ≡ map (symbol_named s) names.now) }
 {
     let mut records = Vec::new(alloc);
     'names: for name in names {
-        records.push(record_named(alloc, name, facts)?)?;
+        records.push(record_of(alloc, name, facts)?)?;
     }
     Ok(records)
 }
@@ -39,11 +32,11 @@ pub fn records_of(
     alloc: Global,
     symbols: &Symbols,
     whole: &Whole<'_>,
-    gathered: &Gathered,
+    code: &[bool],
 ) -> Result<List<Symbol>, NoMemory>
-    ensures { IfOk result (λ records. (statements : Items Statement) (areas : Items LaidArea) → IsWhole statements areas whole.now → IsGathered statements gathered.now → symbols.now ≡ symbols_of (final_names (laid statements)) (laid statements) → records ≡ symbol_records (source_of statements)) }
+    ensures { IfOk result (λ records. (statements : Items Statement) (areas : Items LaidArea) → IsWhole statements areas whole.now → IsCode statements code.now → symbols.now ≡ symbols_of (final_names (laid statements)) (laid statements) → records ≡ symbol_records (source_of statements)) }
 {
-    let facts = facts_of(whole, gathered);
+    let facts = facts_of(whole, code);
     let records = records_with(alloc, symbols.list(), &facts)?;
     Ok(List::from_vec(records))
 }

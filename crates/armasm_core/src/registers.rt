@@ -7,19 +7,19 @@ ghost use Rattle.armasm_core.specs.Giving.{gives};
 
 use asm_model::{DirectiveLine, Statement, What};
 use asm_registers::giving::{given, note};
+use asm_sets::NameMap;
 use sdt_fault::kinds::LineKind;
-use sdt_fault::{NoMemory, Text};
+use sdt_fault::NoMemory;
 use std::alloc::Global;
-use std::collections::BTreeMap;
 
 /// From now on the name that a statement gives a register stands for it.
 pub fn give(
     alloc: Global,
-    known: &mut BTreeMap<Text, u8>,
+    known: &mut NameMap<u8>,
     statement: &Statement,
     number: Result<u32, LineKind>,
 ) -> Result<(), NoMemory>
-    ensures { OnOk result ((q : List ℕ) → registers.register_in q known.new.entries ≡ registers.register_in q (known.old.entries ++ gives number (labels.defined_by statement.now))) }
+    ensures { OnOk result ((q : List ℕ) → registers.register_in q known.new ≡ registers.register_in q (known.old ++ gives number (labels.defined_by statement.now))) }
 {
     match (&statement.label, &statement.what) {
         (Some(name), What::Directive(DirectiveLine::Rn { register })) => {

@@ -16,11 +16,10 @@ use asm_instructions::laws::{
 use asm_layout::lines::line_of;
 use asm_layout::telling::told_of;
 use asm_layout::{LaidArea, LaidStatement};
+use asm_sets::NameMap;
 use asm_units::{LineUnits, pass_two};
-use sdt_fault::Text;
 use sdt_fault::answer::Fault;
 use std::alloc::Global;
-use std::collections::BTreeMap;
 
 /// What a line puts into its area, and what its RN gives. Refuses a line whose operands, name, literal, EXPORT, KEEP or
 /// ASSERT have a fault.
@@ -28,7 +27,7 @@ pub fn pass_line(
     alloc: Global,
     areas: &[LaidArea],
     whole: &Whole<'_>,
-    registers: &BTreeMap<Text, u8>,
+    registers: &NameMap<u8>,
     laid: &LaidStatement,
 ) -> Result<LineUnits, Fault>
     requires { IsSaid laid.now.statement }

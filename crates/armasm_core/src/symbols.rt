@@ -14,9 +14,11 @@ ghost use Rattle.armasm_core.specs.Listing.{StandsThere, needed_by};
 
 use crate::literals::literal_of;
 use crate::whole::Whole;
+use asm_instructions::Scene;
 use asm_layout::lines::line_of;
 use asm_layout::{LaidArea, LaidStatement, Layout};
 use asm_pool::pool_law;
+use asm_sets::NameMap;
 use asm_units::{Symbols, add_line};
 use sdt_fault::NoMemory;
 use std::alloc::Global;
@@ -27,6 +29,7 @@ fn add_line_of(
     symbols: &mut Symbols,
     areas: &[LaidArea],
     whole: &Whole<'_>,
+    registers: &NameMap<u8>,
     laid: &LaidStatement,
 ) -> Result<(), NoMemory>
     requires { IsSaid laid.now.statement }
@@ -35,7 +38,12 @@ fn add_line_of(
     pool_law();
     let line = line_of(laid);
     let literal = literal_of(areas, laid.area, laid.literal);
-    add_line(alloc, symbols, whole.names, &line, literal)?;
+    let scene = Scene {
+        names: whole.names,
+        line: &line,
+        registers,
+    };
+    add_line(alloc, symbols, &scene, literal)?;
     Ok(())
 }
 
@@ -45,13 +53,14 @@ pub fn symbols_of(alloc: Global, layout: &Layout, whole: &Whole<'_>) -> Result<S
     ensures { IfOk result (λ symbols. (statements : List Statement) → IsLayout statements layout.now → AllSaid statements → layout_faults statements ≡ None → IsWhole statements layout.now.areas whole.now → symbols ≡ needs.symbols_of (model.final_names (model.laid statements)) (model.laid statements)) }
 {
     let areas = layout.areas.as_slice();
+    let registers = NameMap::new(alloc);
     let mut symbols = Symbols::new(alloc);
     let mut left = layout.statements.as_slice();
     'lines: loop {
         match left {
             [] => return Ok(symbols),
             [line, rest @ ..] => {
-                add_line_of(alloc, &mut symbols, areas, whole, line)?;
+                add_line_of(alloc, &mut symbols, areas, whole, &registers, line)?;
                 left = rest;
             }
         }

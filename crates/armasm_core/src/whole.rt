@@ -15,7 +15,7 @@ use std::alloc::Global;
 #[derive(Debug, Drop)]
 pub struct Whole<'a> {
     pub names: &'a KnownNames,
-    pub sets: Sets,
+    pub sets: Sets<'a>,
     /// The sizes of areas, by number.
     pub sizes: Vec<u32>,
 }

@@ -16,10 +16,8 @@ returns c = λ statements before rest l h.
         names = refl;
         line = c.requires;
         registers = refl;
-        symbols = refl;
       };
       labels = refl;
-      defined = refl;
       sizes = c.as_slice.ensures.value;
       strings = c.as_slice-2.ensures;
       word = c.word_of.ensures;

@@ -3,9 +3,8 @@ use Rattle.std.proofs.lemmas.Result.{err_from_is_err_and}
 use Rattle.asm_model.specs.declared.statements.Statement.{Statement}
 use Rattle.asm_layout.specs.declared.laid.LaidArea.{LaidArea}
 use Rattle.asm_layout.specs.declared.laid.LaidStatement.{LaidStatement}
-use Rattle.asm_registers.proofs.NameLemmas.{found}
 use Rattle.source_model.specs.Objects.{source_of, things_behind}
-use Rattle.source_model.specs.Registers.{Named, register_in}
+use Rattle.source_model.specs.Registers.{register_in}
 use Rattle.armasm_core.specs.Gathered.{AllLaidSaid}
 use Rattle.armasm_core.specs.Whole.{IsHere}
 use Rattle.armasm_core.proofs.SetLemmas.{said_first}
@@ -24,7 +23,7 @@ lines-init c =
     let gs = c.in_ok-growing.growing.items in
     let grown : (statements : List Statement) → IsEmittable statements l w → IsGrown statements names c.as_slice-left.result.now known gs = λ statements j.
     subst (λ (xs : List LaidStatement). IsGrown statements names xs known gs) (sym c.as_slice-left.ensures)
-    (grown_first statements l w names known gs j (λ q. found q known ∙ ap (λ (ns : List Named). register_in q ns) c.new-registers.ensures.empty)
+    (grown_first statements l w names known gs j (λ q. ap (register_in q) c.new-registers.ensures)
     (c.in_ok-growing.ensures.empty names)) in (
       subst AllLaidSaid (sym c.as_slice-left.ensures) c.requires.said,
       c.in_ok-growing.ensures.frames ∙ ap (map frame_of) c.as_slice-areas.ensures,
