@@ -3,6 +3,7 @@ use Rattle.std.proofs.Common.{◌≡◌, ℕ, List, [], ◌∷◌, ◌++◌, ◌
 use Rattle.std.specs.List.{list_any}
 use Rattle.std.specs.Borrow.{Bor}
 use Rattle.std.specs.Option.{is_some, option_copied}
+use Rattle.std.proofs.Math.Bool.{or_assoc, or_comm}
 use Rattle.std.proofs.lemmas.List.Folds.{list_any-append}
 use Rattle.asm_model.specs.declared.exprs.Expr.{Expr}
 use Rattle.asm_model.specs.declared.names.LaidName.{LaidName}
@@ -13,7 +14,7 @@ use Rattle.asm_model.specs.Forms.{same}
 use Rattle.asm_model.specs.Meaning.{named_in}
 use Rattle.asm_model.specs.Before.{is_thumb_label}
 use Rattle.asm_model.specs.Labels.{Defined, Unnamed, Label, Equal, MapField, RegisterName, defined_by, imported_in, declared_entries, declared_imports, declared_names}
-use Rattle.asm_model.specs.LayoutKinds.{own_name, listed, names_in, names_behind, first_equal, equals_in, settled}
+use Rattle.asm_model.specs.LayoutKinds.{own_name, listed, names_behind, first_equal, equals_in, settled}
 use Rattle.asm_model.proofs.SharedLemmas.{same_back}
 use Rattle.layout_laws.proofs.RoundLemmas.{named_joined}
 use Rattle.asm_names.specs.declared.equals.Equal.{Equal as Code}
@@ -24,9 +25,12 @@ use Rattle.asm_layout.specs.Outline.{IsListed, pair_if, first_of, firsts_in, cir
 
 -- ---- whether a name is defined before
 
-some_or : (o p : Option LaidName) → is_some (or_else o p) ≡ (is_some o || is_some p)
-some_or None p = refl
-some_or (Some n) p = refl
+any_named : (q : List ℕ) (xs ys : List LaidName) → is_some (named_in q (xs ++ ys)) ≡ (is_some (named_in q xs) || is_some (named_in q ys))
+any_named q xs ys = ap is_some (named_joined q xs ys) ∙ some_or (named_in q xs) (named_in q ys)
+  where
+    some_or : (o p : Option LaidName) → is_some (or_else o p) ≡ (is_some o || is_some p)
+    some_or None p = refl
+    some_or (Some n) p = refl
 
 one_named : (q name : List ℕ) (thumb : Bool) → is_some (named_in q (later_entry name thumb ∷ [])) ≡ list_any (same q) (name ∷ [])
 one_named q name thumb = by_test (same name q) (same q name) (same_back name q)
@@ -54,26 +58,15 @@ is_named q [] = refl
 is_named q (s ∷ ss) =
     let x = defined_by s in
     let i = imported_in s.what in
-    let rest = declared_names ss in
     let own = declared_entries x s ss in
-    ap is_some (named_joined q (rest ++ own) (declared_imports i)) ∙ some_or (named_in q (rest ++ own)) (named_in q (declared_imports i))
-    ∙ ap (λ (b : Bool). b || is_some (named_in q (declared_imports i))) (ap is_some (named_joined q rest own) ∙ some_or (named_in q rest) (named_in q own))
-    ∙ ap (λ (b : Bool). (b || is_some (named_in q own)) || is_some (named_in q (declared_imports i))) (is_named q ss)
-    ∙ ap (λ (b : Bool). (list_any (same q) (names_behind ss) || b) || is_some (named_in q (declared_imports i))) (own_named q x s ss)
-    ∙ ap (λ (b : Bool). (list_any (same q) (names_behind ss) || list_any (same q) (own_name x)) || b) (import_named q i)
-    ∙ turned (list_any (same q) (names_behind ss)) (list_any (same q) (own_name x)) (list_any (same q) (listed i))
-    ∙ sym (list_any-append (same q) (own_name x ++ listed i) (names_behind ss)
-    ∙ ap (λ (b : Bool). b || list_any (same q) (names_behind ss)) (list_any-append (same q) (own_name x) (listed i)))
-  where
-    turned : (a b c : Bool) → ((a || b) || c) ≡ ((b || c) || a)
-    turned true true true = refl
-    turned true true false = refl
-    turned true false true = refl
-    turned true false false = refl
-    turned false true true = refl
-    turned false true false = refl
-    turned false false true = refl
-    turned false false false = refl
+    let a = list_any (same q) (names_behind ss) in
+    let b = list_any (same q) (own_name x) in
+    let c = list_any (same q) (listed i) in
+    let turned : ((is_some (named_in q (declared_names ss)) || is_some (named_in q own)) || is_some (named_in q (declared_imports i))) ≡ ((b || c) || a) =
+    rw (is_named q ss, own_named q x s ss, import_named q i) (or_assoc a b c ∙ or_comm a (b || c)) in
+    any_named q (declared_names ss ++ own) (declared_imports i) ∙ ap (λ (t : Bool). t || is_some (named_in q (declared_imports i))) (any_named q (declared_names ss) own)
+    ∙ turned
+    ∙ sym (list_any-append (same q) (own_name x ++ listed i) (names_behind ss) ∙ ap (λ (t : Bool). t || a) (list_any-append (same q) (own_name x) (listed i)))
 
 pub copied_some : (o : Option (Bor LaidName)) → is_some o ≡ is_some (option_copied o)
 copied_some None = refl

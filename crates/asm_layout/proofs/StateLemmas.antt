@@ -9,7 +9,6 @@ use Rattle.asm_laying.specs.Numbered.{Enters}
 use Rattle.asm_laying.proofs.EnterLemmas.{areas_few}
 use Rattle.asm_model.specs.declared.statements.Statement.{Statement}
 use Rattle.asm_model.specs.Before.{thumb_behind, area_named, areas_behind, area_behind}
-use Rattle.asm_model.specs.Laid.{reversed}
 use Rattle.asm_layout.specs.States.{AreNoted}
 use Rattle.asm_layout.proofs.WalkLemmas.{reversed_long}
 use Rattle.base_lemmas.proofs.BaseLemmas.{rest_of}
@@ -45,8 +44,3 @@ pub noted_next : (statements left : List Statement) (s : Statement) (areas new :
 noted_next statements left s areas new b next old states h some at enters steps notes =
     noted_more statements (take (length left - 1) (drop 1 left)) s areas new b next old states
     (subst (λ (l : List Statement). AreNoted statements l areas b old) (rest_of left s some at) h) enters steps notes
-
-pub all_noted : (statements left : List Statement) (areas : Areas) (b : Behind) (states : States) → AreNoted statements left areas b states → length left < 1
-    → AreStates (reversed statements []) states
-all_noted statements [] areas b states h less = subst (λ (l : List Statement). AreStates l states) h.whole h.noted
-all_noted statements (s ∷ left) areas b states h less = absurd (omega arith)
