@@ -20,12 +20,11 @@ use Rattle.asm_model.specs.declared.thumb_lines.ThumbLine.{ThumbLine}
 use Rattle.asm_model.specs.declared.thumb_lines.ThumbLine.TheVariants as thumb
 use Rattle.asm_model.specs.declared.values.Value.{Value}
 use Rattle.asm_model.specs.declared.values.Value.TheVariants.{Number, Truth, Words, Place}
-use Rattle.asm_model.specs.Forms.{same}
+use Rattle.asm_model.specs.Labels.{is_hidden}
 use Rattle.asm_model.specs.Meaning.{named_in, in_area, entry_stands_at, stands_at}
 use Rattle.asm_model.specs.Extents.{as_number}
 use Rattle.asm_model.specs.Symbols.{is_in_area, keeps_state}
 use Rattle.source_model.specs.Contexts.{Context, sees, value_of, may_have_symbol, is_symbol_entry, number_in, in_own_area, own_offset, from_pc}
-use Rattle.asm_model.specs.Labels.{is_hidden}
 use Rattle.source_model.specs.ArmForms.{shift_fields, is_listed_by, list_bits, is_settled, branch_from, has_symbol, branch_displacement, arm_instruction, offset_at}
 use Rattle.source_model.specs.PseudoForms.{pseudo_instructions}
 use Rattle.source_model.specs.Units.{linked_symbol, branch_symbol, link_symbol}

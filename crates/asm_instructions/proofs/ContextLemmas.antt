@@ -1,7 +1,6 @@
 -- What a scene finds is what each context finds that it shows.
 use Rattle.std.proofs.Common.{◌≡◌, ℕ, List, Option, Some, None, refl, sym, ap, ◌∙◌, subst}
 use Rattle.std.specs.Prelude.{Result, Ok, Err, IfOk}
-use Rattle.std.specs.List.{list_any}
 use Rattle.asm_model.specs.declared.exprs.Expr.{Expr}
 use Rattle.asm_model.specs.declared.operands.Register.{Register}
 use Rattle.asm_model.specs.declared.operands.Register.TheVariants as reg
@@ -19,7 +18,6 @@ use Rattle.asm_names.specs.Lines.{line_of, Sees}
 use Rattle.said_model.specs.Said.{IsRead}
 use Rattle.source_model.specs.Contexts.{Context, sees, value_of, register, or_zero}
 use Rattle.source_model.specs.Registers.{register_in}
-use Rattle.asm_sets.specs.Sets.{HaveSame}
 use Rattle.asm_instructions.specs.declared.scenes.Scene.{Scene}
 use Rattle.asm_instructions.specs.Scenes.{Shows, context_of}
 

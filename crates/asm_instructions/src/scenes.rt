@@ -73,7 +73,7 @@ pub fn may_have_symbol(names: &KnownNames, name: &Text) -> bool
 }
 
 /// Where a name's entry stands.
-fn entry_stands_at(entry: Option<&LaidName>) -> Option<(u32, u32)>
+pub fn entry_stands_at(entry: Option<&LaidName>) -> Option<(u32, u32)>
     ensures { result ≡ meaning.entry_stands_at (option_copied entry.entry) }
 {
     match entry {

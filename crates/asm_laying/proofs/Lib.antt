@@ -1,5 +1,4 @@
 pub mod AreaLemmas
-pub mod DeclareLemmas
 pub mod EnterLemmas
 pub mod LayLemmas
 pub mod NumberLemmas

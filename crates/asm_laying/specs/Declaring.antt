@@ -1,14 +1,13 @@
--- The names of a source, by its lines so far. This project's.
-use Rattle.std.specs.Prelude.{◌≡◌, List, [], ◌++◌, ◌&&◌, Bool, false, Option, Some, None}
+-- What a statement declares. This project's.
+use Rattle.std.specs.Prelude.{◌≡◌, List, ◌++◌, ◌&&◌, Bool, false, Option, Some, None}
 use Rattle.asm_model.specs.declared.names.LaidName.{LaidName}
 use Rattle.asm_model.specs.declared.statements.Statement.{Statement}
 use Rattle.asm_model.specs.Before.{code_from}
 use Rattle.asm_model.specs.Entries.{later_entry}
-use Rattle.asm_model.specs.Labels.{Defined, Unnamed, Label, Equal, MapField, RegisterName, defined_by, imported_in, declared_imports, declared_names}
-use Rattle.asm_model.specs.Laid.{reversed}
+use Rattle.asm_model.specs.Labels.{Defined, Unnamed, Label, Equal, MapField, RegisterName, defined_by, imported_in, declared_imports}
 use Rattle.asm_names.specs.Steps.{one_entry}
 use Rattle.asm_laying.specs.declared.behind.Behind.{Behind}
-use Rattle.asm_laying.specs.Behind.{behind, stepped}
+use Rattle.asm_laying.specs.Behind.{stepped}
 
 -- the entry of a name of the source, which means something later
 abbrev pub declared_entry : Defined → Bool → Option LaidName
@@ -22,11 +21,3 @@ declared_entry (RegisterName name r) thumb = Some (later_entry name false)
 pub record Declares (s : Statement) (b : Behind) (old new : List LaidName) (next : Behind) : Type 0 where
   pub names : new ≡ old ++ one_entry (declared_entry (defined_by s) (b.thumb && code_from s.what b.code)) ++ declared_imports (imported_in s.what)
   pub steps : next ≡ stepped s.what b
-
--- what statements declare of which these are left
-pub record IsBetween (statements left : List Statement) (b : Behind) (names : List LaidName) : Type 0 where
-  -- those before, the last of them first
-  pub before : List Statement
-  pub whole : reversed left before ≡ reversed statements []
-  pub standing : b ≡ behind before
-  pub declared : names ≡ declared_names before

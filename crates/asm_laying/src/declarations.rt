@@ -1,13 +1,12 @@
-//! The names of a source, before it is laid out.
+//! What a statement declares, before it is laid out.
 
-ghost use Rattle.std.specs.Prelude.{◌≡◌, ◌++◌, ◌&&◌, [], Some, IfOk, OnOk};
+ghost use Rattle.std.specs.Prelude.{◌≡◌, ◌++◌, ◌&&◌, Some, IfOk, OnOk};
 ghost use Rattle.asm_model.specs.Entries as entries;
 ghost use Rattle.asm_model.specs.Labels as labels;
-ghost use Rattle.asm_model.specs.Laid.{reversed};
 ghost use Rattle.asm_names.specs.Defining.{defined_of};
 ghost use Rattle.asm_laying.specs.Declaring.{declared_entry, Declares};
 
-use crate::behind::{Behind, START};
+use crate::behind::Behind;
 use asm_model::{LaidName, Statement, What};
 use asm_names::KnownNames;
 use asm_names::defining::{Defines, defined_by};
@@ -78,22 +77,4 @@ pub fn declare_one(
     add_entry(alloc, names, entry)?;
     add_imported(alloc, names, &statement.what)?;
     Ok(next)
-}
-
-/// The names of a source, in its order, which mean something later.
-pub fn declare(alloc: Global, statements: &[Statement]) -> Result<KnownNames, NoMemory>
-    ensures { IfOk result (λ names. names ≡ labels.declared_names (reversed statements.now [])) }
-{
-    let mut names = KnownNames::new(alloc);
-    let mut behind = START;
-    let mut left = statements;
-    'statements: loop {
-        match left {
-            [] => return Ok(names),
-            [statement, rest @ ..] => {
-                behind = declare_one(alloc, &mut names, behind, statement)?;
-                left = rest;
-            }
-        }
-    }
 }

@@ -82,13 +82,13 @@ sound_lines names fixed all (l ∷ before) e =
     rw (sound_lines names fixed all before (none_left (first_laid names fixed all before) told e), part) refl
 
 -- what laid lines take up can be placed
-pub extent_fits : ExtentsArePlaceable → (d : List LaidName) (s : Statement) (before : List LaidLine) (r : Result Extent LineKind) → extent_of (sight_behind d s before) s.what ≡ r → IsExtent (taken r)
-extent_fits law d s before (Ok e) h = law (sight_behind d s before) s.what e h
+pub extent_fits : ExtentsArePlaceable → (d : List LaidName) (s : Statement) (before : List LaidLine) (r : Result Extent LineKind) → extent_of (names_behind d s before) s.what ≡ r → IsExtent (taken r)
+extent_fits law d s before (Ok e) h = law (names_behind d s before) s.what e h
 extent_fits law d s before (Err k) h = record { some = omega arith; small = omega arith }
 
 pub all_extents : ExtentsArePlaceable → (d : List LaidName) (ss : List Statement) → AllExtents (pieces_of (laid_of d ss))
 all_extents law d [] = tt
-all_extents law d (s ∷ ss) = (extent_fits law d s (laid_of d ss) (extent_of (sight_behind d s (laid_of d ss)) s.what) refl, all_extents law d ss)
+all_extents law d (s ∷ ss) = (extent_fits law d s (laid_of d ss) (extent_of (names_behind d s (laid_of d ss)) s.what) refl, all_extents law d ss)
 
 -- ---- the whole source
 

@@ -15,8 +15,8 @@ use Rattle.asm_layout.specs.declared.walking.Walk.{Walk}
 use Rattle.asm_layout.specs.Front.{front_laid, front_lines}
 use Rattle.asm_layout.specs.Layout.{IsTold}
 use Rattle.asm_layout.specs.Outline.{IsOutline}
-use Rattle.asm_layout.specs.Walking.{IsMarked, IsWalking, IsAlong, IsWalked, IsFrontWalked, Steps, told_by}
-use Rattle.asm_layout.proofs.WalkLemmas.{reversed_joined, reversed_long, is_marked, first_stays, told_moves}
+use Rattle.asm_layout.specs.Walking.{IsOutlined, IsWalking, IsAlong, IsWalked, IsFrontWalked, Steps, told_by}
+use Rattle.asm_layout.proofs.WalkLemmas.{reversed_joined, reversed_long, is_outlined, first_stays, told_moves}
 
 -- ---- lines that are left out
 
@@ -81,7 +81,7 @@ front_ends statements ys n w h =
 pub told_front : (statements ys : List Statement) (x : Statement) (zs rest : List Statement) (n : ℕ) (o : Outline) (old new : Walk) (f : Fault)
     → IsOutline (reversed statements []) o → rest ≡ x ∷ zs → IsAlong statements ys (rest ++ drop n statements) old
     → ((names settled : List (List ℕ)) (all : List Statement) (before : List LaidLine) → AreStates all o.states → IsWalking o.names names settled all before old
-    → IsMarked settled o.settled.items x before → Steps o.names names settled all (laid_behind o.names x before) before new (Err f))
+    → IsOutlined o.names settled o.circular.items x before → Steps o.names names settled all (laid_behind o.names x before) before new (Err f))
     → IsTold (front_laid (reversed statements []) n) f
 told_front statements ys x zs rest n o old new f outlined e h steps =
     let s = reversed statements [] in
@@ -92,7 +92,7 @@ told_front statements ys x zs rest n o old new f outlined e h steps =
     let next = next_is statements n x zs rest e in
     let told = steps names fixed s before outlined.states
     (subst (λ (c : List LaidName). IsWalking c names fixed s before old) (sym outlined.names) h.walks)
-    (is_marked statements ys x (zs ++ drop n statements) (rest ++ drop n statements) o old outlined next h) in
+    (is_outlined statements ys x (zs ++ drop n statements) (rest ++ drop n statements) o old outlined next h) in
     let here : IsTold (told_at x (told_by names fixed s (laid_behind d x before) before)) f =
     subst (λ (c : List LaidName). IsTold (told_at x (told_by names fixed s (laid_behind c x before) before)) f) outlined.names told in
     let whole : statements ≡ (ys ++ x ∷ zs) ++ drop n statements =

@@ -3,6 +3,7 @@ pub mod FinishLemmas
 pub mod FrontLemmas
 pub mod LateLemmas
 pub mod OutlineLemmas
+pub mod SeenLemmas
 pub mod StateLemmas
 pub mod StepLemmas
 pub mod ToldLemmas

@@ -1,11 +1,12 @@
 -- A line more.
-use Rattle.std.proofs.Common.{◌≡◌, ◌≤◌, ℕ, ◌+◌, ◌||◌, Bool, true, false, List, [], ◌∷◌, ◌++◌, length, Option, Some, None, Result, Ok, Err, refl, sym, ap, ◌∙◌, subst, arith}
+use Rattle.std.proofs.Common.{◌≡◌, ◌≤◌, ℕ, ◌+◌, ◌||◌, Bool, true, false, not, cond, List, [], ◌∷◌, ◌++◌, length, Option, Some, None, Result, Ok, Err, refl, sym, ap, ◌∙◌, subst, arith}
 use Rattle.std.specs.Prelude.{nat_lt}
+use Rattle.std.specs.List.{list_any}
 use Rattle.sdt_fault.specs.declared.kinds.LineKind.{LineKind}
 use Rattle.sdt_fault.specs.declared.kinds.LineKind.TheVariants.{BadOperand}
 use Rattle.asm_areas.specs.Starts.{IsSmall, IsAligned}
 use Rattle.asm_checks.specs.Areas.{IsExponent}
-use Rattle.asm_checks.specs.Checked.{checked_kinds, IsSettled}
+use Rattle.asm_checks.specs.Checked.{checked_kinds, IsCircular}
 use Rattle.asm_laying.specs.Reading.{said_number}
 use Rattle.asm_registers.specs.Giving.{IsGiven}
 use Rattle.asm_model.specs.declared.directives.DirectiveLine.{DirectiveLine}
@@ -20,7 +21,7 @@ use Rattle.asm_model.specs.Kinds.{told_kind}
 use Rattle.asm_model.proofs.FaultLemmas.{told_by_parts}
 use Rattle.asm_model.specs.Labels.{Defined, Unnamed, Label, Equal, MapField, RegisterName, defined_by}
 use Rattle.asm_model.specs.Laid.{LaidLine, laid_behind, statements_of}
-use Rattle.asm_model.specs.LayoutKinds.{exponent, exponent_kinds, kind_if, area_kinds, no_area_kinds, contents_kinds, contents_behind, name_kinds, settled_kinds, state_kinds, in_thumb_area, is_named_otherwise}
+use Rattle.asm_model.specs.LayoutKinds.{exponent, exponent_kinds, kind_if, area_kinds, no_area_kinds, contents_kinds, contents_behind, name_kinds, settled_kinds, state_kinds, in_thumb_area, is_named_otherwise, names_behind, first_equal, told_at}
 use Rattle.std.specs.Global.{Vec}
 use Rattle.sdt_fault.specs.declared.answer.Fault.{Fault}
 use Rattle.asm_areas.specs.declared.starts.AreaStart.{AreaStart}
@@ -33,11 +34,12 @@ use Rattle.asm_laying.specs.Laying.{IsLaying, IsLaid, IsPlaced, told_of}
 use Rattle.asm_layout.specs.declared.laid.LaidStatement.{LaidStatement}
 use Rattle.asm_registers.specs.declared.registers.Registers.{Registers}
 use Rattle.asm_registers.specs.Kept.{AreRegisters}
-use Rattle.asm_model.specs.LayoutKinds.{equal_of, told_at}
+use Rattle.asm_model.specs.Forms.{same}
 use Rattle.source_model.specs.Registers.{register_kinds}
 use Rattle.asm_layout.specs.declared.walking.Judged.{Judged}
 use Rattle.asm_layout.specs.declared.walking.Walk.{Walk}
 use Rattle.asm_layout.specs.Layout.{IsTold}
+use Rattle.asm_layout.specs.Outline.{circle_of}
 use Rattle.asm_layout.specs.Walking.{IsMark, HasMark, IsCounted, one_more, or_false, IsWalking, IsJudged, Keeps, laid_as, told_by}
 use Rattle.asm_layout.proofs.ToldLemmas.{none_first, none_second, told_parts}
 
@@ -100,7 +102,7 @@ area_part : (w : What) (settled : List (List ℕ)) (all : List Statement) (l : L
 area_part w settled all l before is none =
     let here = no_area_kinds l.area (defined_by l.statement) l.statement.what ++ contents_kinds (contents_behind (l.statement ∷ statements_of before)) l.thumb l.statement.what in
     let names = name_kinds l.statement (statements_of before) in
-    let last = settled_kinds settled (defined_by l.statement) in
+    let last = settled_kinds settled (first_equal (defined_by l.statement) (statements_of before)) in
     let state = state_kinds l.area l.thumb l.statement.what all in
     let rest = here ++ area_kinds l.seen l.statement.what before ++ names ++ last in
     let most = none_first (told_kind rest) (told_kind state) (sym none ∙ told_by_parts rest state) in
@@ -155,21 +157,26 @@ aligned (what.Directive d) l before settled all x w e none = directive_aligned d
 
 -- ---- the mark of a name for an expression
 
-pub mark_is : (settled : List (List ℕ)) (marks : List Bool) (n : ℕ) (x : Defined) (b : Bool) → IsMark marks n x b → HasMark settled marks n x → IsSettled settled x b
-mark_is settled marks n (Equal name e) b h k = h ∙ ap or_false k
-mark_is settled marks n Unnamed b h k = tt
-mark_is settled marks n (Label name) b h k = tt
-mark_is settled marks n (MapField name) b h k = tt
-mark_is settled marks n (RegisterName name r) b h k = tt
+pub mark_is : (settled : List (List ℕ)) (marks : List Bool) (n : ℕ) (x : Defined) (before : List Statement) (b : Bool) → IsMark marks n x b
+    → HasMark marks n (circle_of settled x before) → IsCircular settled (first_equal x before) b
+mark_is settled marks n (Equal name e) before b h k = by_test (list_any (same name) (names_behind before)) (h ∙ ap or_false k)
+  where
+    by_test : (t : Bool) → b ≡ cond t false (not (list_any (same name) settled)) → IsCircular settled (cond t [] ((name, e) ∷ [])) b
+    by_test true is = is
+    by_test false is = is
+mark_is settled marks n Unnamed before b h k = h
+mark_is settled marks n (Label name) before b h k = h
+mark_is settled marks n (MapField name) before b h k = h
+mark_is settled marks n (RegisterName name r) before b h k = h
 
--- how many names for expressions there are with a line more
-pub count_is : (settled : List (List ℕ)) (marks : List Bool) (n m : ℕ) (x : Defined) → IsCounted marks n x m → HasMark settled marks n x
-    → m ≡ n + length (equal_of x)
-count_is settled marks n m (Equal name e) h k = h ∙ ap (λ o. one_more o n) k
-count_is settled marks n m Unnamed h k = h ∙ omega arith
-count_is settled marks n m (Label name) h k = h ∙ omega arith
-count_is settled marks n m (MapField name) h k = h ∙ omega arith
-count_is settled marks n m (RegisterName name r) h k = h ∙ omega arith
+-- how many marks there are with a line more
+pub count_is : (settled : List (List ℕ)) (marks : List Bool) (n m : ℕ) (x : Defined) (before : List Statement) → IsCounted marks n x m
+    → HasMark marks n (circle_of settled x before) → m ≡ n + length (circle_of settled x before)
+count_is settled marks n m (Equal name e) before h k = h ∙ ap (λ o. one_more o n) k
+count_is settled marks n m Unnamed before h k = h ∙ omega arith
+count_is settled marks n m (Label name) before h k = h ∙ omega arith
+count_is settled marks n m (MapField name) before h k = h ∙ omega arith
+count_is settled marks n m (RegisterName name r) before h k = h ∙ omega arith
 
 -- ---- what is told of a judged line
 

@@ -11,7 +11,7 @@ use Rattle.asm_model.specs.Kinds.{rank, earlier, told_kind}
 use Rattle.asm_model.proofs.FaultLemmas.{takes, stays, first_assoc, told_by_parts}
 use Rattle.asm_model.specs.Labels.{defined_by}
 use Rattle.asm_model.specs.Laid.{LaidLine, statements_of}
-use Rattle.asm_model.specs.LayoutKinds.{fault_kinds, map_kinds, no_area_kinds, contents_kinds, contents_behind, area_kinds, name_kinds, settled_kinds, state_kinds, kind_if, area_bytes}
+use Rattle.asm_model.specs.LayoutKinds.{fault_kinds, map_kinds, no_area_kinds, contents_kinds, contents_behind, area_kinds, name_kinds, settled_kinds, first_equal, state_kinds, kind_if, area_bytes}
 use Rattle.source_model.specs.Registers.{register_kinds}
 use Rattle.asm_layout.specs.Walking.{told_by}
 
@@ -107,7 +107,7 @@ pub told_parts : (names settled : List (List ℕ)) (all : List Statement) (l : L
 told_parts names settled all l before =
     joined_kinds (fault_kinds l.extent) (map_kinds l.seen l.statement.what) (no_area_kinds l.area (defined_by l.statement) l.statement.what)
     (contents_kinds (contents_behind (l.statement ∷ statements_of before)) l.thumb l.statement.what) (area_kinds l.seen l.statement.what before)
-    (name_kinds l.statement (statements_of before)) (settled_kinds settled (defined_by l.statement)) (state_kinds l.area l.thumb l.statement.what all)
+    (name_kinds l.statement (statements_of before)) (settled_kinds settled (first_equal (defined_by l.statement) (statements_of before))) (state_kinds l.area l.thumb l.statement.what all)
     (kind_if (nat_lt area_bytes (l.offset + l.size)) TooMany) (register_kinds names l before)
 
 -- where nothing is told of two, nothing is told of each

@@ -1,28 +1,28 @@
 -- The lines of a source, one behind the other.
-use Rattle.std.proofs.Common.{◌≡◌, inl, inr, ◌<◌, ℕ, suc, ◌+◌, Bool, List, [], ◌∷◌, ◌++◌, length, map, Option, Some, Result, Ok, refl, sym, ap, ◌∙◌, subst, arith, append_assoc, length-append}
+use Rattle.std.proofs.Common.{◌≡◌, inl, inr, ◌<◌, ℕ, zero, suc, ◌+◌, Bool, List, [], ◌∷◌, ◌++◌, length, Option, Some, None, Result, Ok, refl, sym, ap, ◌∙◌, subst, arith, append_assoc, length-append}
 use Rattle.std.specs.List.{slice_get}
+use Rattle.std.specs.Option.{is_some}
 use Rattle.sdt_fault.specs.declared.answer.Fault.{Fault}
 use Rattle.sdt_fault.specs.declared.kinds.LineKind.{LineKind}
 use Rattle.asm_areas.specs.States.{AreStates}
 use Rattle.asm_laying.specs.Behind.{most_statements}
 use Rattle.asm_laying.specs.Laying.{IsLaying, MayLay}
-use Rattle.asm_model.specs.declared.exprs.Expr.{Expr}
 use Rattle.asm_model.specs.declared.statements.Statement.{Statement}
-use Rattle.asm_names.specs.Order.{is_settled}
 use Rattle.layout_laws.proofs.SoundLemmas.{statements_kept}
-use Rattle.asm_model.specs.Labels.{Defined, Unnamed, Label, Equal, MapField, RegisterName, defined_by, declared_names}
+use Rattle.asm_model.specs.Labels.{defined_by, declared_names}
+use Rattle.asm_model.specs.Meaning.{named_in}
 use Rattle.asm_model.specs.declared.names.LaidName.{LaidName}
-use Rattle.asm_model.specs.Laid.{LaidLine, laid_behind, laid_of, reversed}
-use Rattle.asm_model.specs.LayoutKinds.{equal_of, equals_in, settled}
+use Rattle.asm_model.specs.Laid.{LaidLine, names_behind, laid_behind, laid_of, reversed}
+use Rattle.asm_model.specs.LayoutKinds.{equals_in, settled}
 use Rattle.said_model.specs.Said.{IsSaid, AllSaid}
 use Rattle.source_model.specs.Registers.{register_names}
 use Rattle.source_model.specs.SourceFaults.{first_laid}
 use Rattle.asm_layout.specs.declared.outline.Outline.{Outline}
 use Rattle.asm_layout.specs.declared.walking.Walk.{Walk}
 use Rattle.asm_layout.specs.Layout.{IsTold}
-use Rattle.asm_layout.specs.Outline.{equals_on, IsOutline}
-use Rattle.asm_layout.specs.Walking.{HasMark, IsMarked, IsWalking, IsAlong, Steps}
-use Rattle.asm_layout.proofs.OutlineLemmas.{equals_reversed}
+use Rattle.asm_layout.specs.Outline.{circle_of, circles_in, IsOutline}
+use Rattle.asm_layout.specs.Walking.{HasMark, IsOutlined, IsWalking, IsAlong, Steps}
+use Rattle.asm_layout.proofs.SeenLemmas.{declared_before, seen_declared}
 
 -- ---- lists
 
@@ -62,38 +62,55 @@ may_lay statements ys x zs rest o w outlined few e h =
       few = omega arith;
     }
 
-mark_at : (f : List ℕ × Expr → Bool) (xs : List (List ℕ × Expr)) (p : List ℕ × Expr) (ys : List (List ℕ × Expr)) → slice_get (map f (xs ++ p ∷ ys)) (length xs) ≡ Some (f p)
-mark_at f [] p ys = refl
-mark_at f (x ∷ xs) p ys = mark_at f xs p ys
+-- ---- what the outline says of it
 
-marked_by : (equals before after : List (List ℕ × Expr)) (marks : List Bool) (x : Defined) → marks ≡ map (λ (e : List ℕ × Expr). is_settled equals e.0) equals
-    → equals ≡ (before ++ equal_of x) ++ after → HasMark (settled equals) marks (length before) x
-marked_by equals before after marks (Equal name e) m w =
-    ap (λ (l : List Bool). slice_get l (length before))
-    (m ∙ ap (λ (l : List (List ℕ × Expr)). map (λ (e : List ℕ × Expr). is_settled equals e.0) l) (w ∙ append_assoc before ((name, e) ∷ []) after))
-    ∙ mark_at (λ (e : List ℕ × Expr). is_settled equals e.0) before (name, e) after
-marked_by equals before after marks Unnamed m w = tt
-marked_by equals before after marks (Label name) m w = tt
-marked_by equals before after marks (MapField name) m w = tt
-marked_by equals before after marks (RegisterName name r) m w = tt
+pub mark_stays : (bs more : List Bool) (n : ℕ) (xs : List Bool) → HasMark bs n xs → HasMark (bs ++ more) n xs
+mark_stays bs more n [] h = tt
+mark_stays bs more n (x ∷ xs) h = at bs n h
+  where
+    at : (ys : List Bool) (k : ℕ) → slice_get ys k ≡ Some x → slice_get (ys ++ more) k ≡ Some x
+    at [] k e = absurd (cc)
+    at (y ∷ ys) zero e = e
+    at (y ∷ ys) (suc k) e = at ys k e
 
-pub is_marked : (statements ys : List Statement) (x : Statement) (zs rest : List Statement) (o : Outline) (w : Walk) → IsOutline (reversed statements []) o → rest ≡ x ∷ zs
+mark_at : (front bs : List Bool) → HasMark (front ++ bs) (length front) bs
+mark_at front [] = tt
+mark_at front (b ∷ bs) = at front
+  where
+    at : (ys : List Bool) → slice_get (ys ++ b ∷ bs) (length ys) ≡ Some b
+    at [] = refl
+    at (y ∷ ys) = at ys
+
+marks_stay : (fixed : List (List ℕ)) (zs ss : List Statement) (n : ℕ) (xs : List Bool) → HasMark (circles_in fixed ss) n xs → HasMark (circles_in fixed (reversed zs ss)) n xs
+marks_stay fixed [] ss n xs h = h
+marks_stay fixed (z ∷ zs) ss n xs h = marks_stay fixed zs (z ∷ ss) n xs (mark_stays (circles_in fixed ss) (circle_of fixed (defined_by z) ss) n xs h)
+
+pub is_outlined : (statements ys : List Statement) (x : Statement) (zs rest : List Statement) (o : Outline) (w : Walk) → IsOutline (reversed statements []) o → rest ≡ x ∷ zs
     → IsAlong statements ys rest w
-    → IsMarked (settled (equals_in (reversed statements []))) o.settled.items x (laid_of (declared_names (reversed statements [])) (reversed ys []))
-is_marked statements ys x zs rest o w outlined e h =
+    → IsOutlined o.names (settled (equals_in (reversed statements []))) o.circular.items x (laid_of (declared_names (reversed statements [])) (reversed ys []))
+is_outlined statements ys x zs rest o w outlined e h =
     let s = reversed statements [] in
-    let whole : s ≡ reversed zs (x ∷ reversed ys []) = whole_is statements ys x zs (h.whole ∙ ap (λ (l : List Statement). ys ++ l) e) in
-    subst (λ (l : List Statement). HasMark (settled (equals_in s)) o.settled.items (length (equals_in l)) (defined_by x))
-    (sym (statements_kept (declared_names s) (reversed ys [])))
-    (marked_by (equals_in s) (equals_in (reversed ys [])) (equals_on zs) o.settled.items (defined_by x) outlined.marks
-    (ap equals_in whole ∙ equals_reversed zs (x ∷ reversed ys [])))
+    let d = declared_names s in
+    let fixed = settled (equals_in s) in
+    let before = reversed ys [] in
+    let whole : s ≡ reversed zs (x ∷ before) = whole_is statements ys x zs (h.whole ∙ ap (λ (l : List Statement). ys ++ l) e) in
+    let mark : HasMark o.circular.items (length (circles_in fixed before)) (circle_of fixed (defined_by x) before) =
+    subst (λ (bs : List Bool). HasMark bs (length (circles_in fixed before)) (circle_of fixed (defined_by x) before))
+    (ap (circles_in fixed) (sym whole) ∙ sym outlined.marks)
+    (marks_stay fixed zs (x ∷ before) (length (circles_in fixed before)) (circle_of fixed (defined_by x) before)
+    (mark_at (circles_in fixed before) (circle_of fixed (defined_by x) before))) in
+    record {
+      mark = subst (λ (l : List Statement). HasMark o.circular.items (length (circles_in fixed l)) (circle_of fixed (defined_by x) l)) (sym (statements_kept d before)) mark;
+      names = λ q. subst (λ (c : List LaidName). is_some (named_in q (names_behind c x (laid_of d before)).list) ≡ is_some (named_in q c)) (sym outlined.names)
+          (seen_declared d q x before (λ none. declared_before q zs (x ∷ before) (subst (λ (l : List Statement). named_in q (declared_names l) ≡ None) whole none)));
+    }
 
 -- ---- a statement more
 
 pub goes_along : (statements ys : List Statement) (x : Statement) (zs rest : List Statement) (o : Outline) (old new : Walk) (r : Result (Unit {0}) Fault) (u : Unit {0})
     → IsOutline (reversed statements []) o → rest ≡ x ∷ zs → IsAlong statements ys rest old
     → ((names settled : List (List ℕ)) (all : List Statement) (before : List LaidLine) → AreStates all o.states → IsWalking o.names names settled all before old
-    → IsMarked settled o.settled.items x before → Steps o.names names settled all (laid_behind o.names x before) before new (Ok u))
+    → IsOutlined o.names settled o.circular.items x before → Steps o.names names settled all (laid_behind o.names x before) before new (Ok u))
     → IsAlong statements (ys ++ x ∷ []) zs new
 goes_along statements ys x zs rest o old new r u outlined e h steps =
     let s = reversed statements [] in
@@ -101,7 +118,7 @@ goes_along statements ys x zs rest o old new r u outlined e h steps =
     let before = laid_of d (reversed ys []) in
     let walks = steps (register_names s) (settled (equals_in s)) s before outlined.states
     (subst (λ (c : List LaidName). IsWalking c (register_names s) (settled (equals_in s)) s before old) (sym outlined.names) h.walks)
-    (is_marked statements ys x zs rest o old outlined e h) in
+    (is_outlined statements ys x zs rest o old outlined e h) in
     record {
       whole = h.whole ∙ ap (λ (l : List Statement). ys ++ l) e ∙ sym (append_assoc ys (x ∷ []) zs);
       walks = subst (λ (l : List Statement). IsWalking d (register_names s) (settled (equals_in s)) s (laid_of d l) new) (sym (reversed_joined ys (x ∷ []) []))

@@ -1,11 +1,15 @@
 -- What laying a line needs to know of the whole source. This project's.
 use Rattle.std.specs.Prelude.{◌≡◌, ℕ, List, [], ◌∷◌, ◌++◌, Bool, true, false, not, if◌then◌else◌}
 use Rattle.std.specs.List.{list_any}
+use Rattle.asm_model.specs.declared.exprs.Expr.{Expr}
 use Rattle.asm_model.specs.declared.statements.Statement.{Statement}
 use Rattle.asm_model.specs.Forms.{same}
 use Rattle.asm_model.specs.Labels.{Defined, Equal, defined_by, declared_names}
 use Rattle.asm_model.specs.LayoutKinds.{names_behind, first_equal, equals_in, settled}
+use Rattle.asm_model.specs.Laid.{reversed}
 use Rattle.asm_areas.specs.States.{AreStates}
+use Rattle.asm_laying.specs.declared.behind.Behind.{Behind}
+use Rattle.asm_laying.specs.Behind.{behind}
 use Rattle.asm_names.specs.Equals.{pairs_of}
 use Rattle.asm_layout.specs.declared.outline.Listed.{Listed}
 use Rattle.asm_layout.specs.declared.outline.Outline.{Outline}
@@ -41,11 +45,24 @@ marks_of (true ∷ firsts) (b ∷ settled) = not b ∷ marks_of firsts settled
 
 -- ---- lists of code
 
+-- a name with its expression, where it is listed
+abbrev pub pair_if : Bool → List ℕ → Expr → List (List ℕ × Expr)
+pair_if true name e = (name, e) ∷ []
+pair_if false name e = []
+
 -- what is listed of statements, the last of them first
 pub record IsListed (statements : List Statement) (l : Listed) : Type 0 where
   pub names : l.names ≡ declared_names statements
   pub equals : pairs_of l.equals.items ≡ equals_in statements
   pub firsts : l.firsts.items ≡ firsts_in statements
+
+-- what is listed of statements of which these are left
+pub record IsListing (statements left : List Statement) (b : Behind) (l : Listed) : Type 0 where
+  -- those before, the last of them first
+  pub before : List Statement
+  pub whole : reversed left before ≡ reversed statements []
+  pub standing : b ≡ behind before
+  pub listed : IsListed before l
 
 -- what is listed of a statement more, but for its names
 pub record Lists (s : Statement) (old new : Listed) : Type 0 where

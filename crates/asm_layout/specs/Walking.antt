@@ -1,11 +1,10 @@
 -- The lines of a source so far, laid and judged. This project's. Lines are listed with the nearest first.
 use Rattle.std.specs.Prelude.{◌≡◌, ℕ, ◌+◌, List, [], ◌∷◌, ◌++◌, length, slice_get, Bool, false, Option, Some, None, Result, Ok, Err}
-use Rattle.std.specs.List.{list_any}
+use Rattle.std.specs.Option.{is_some}
 use Rattle.sdt_fault.specs.declared.answer.Fault.{Fault}
 use Rattle.sdt_fault.specs.declared.kinds.LineKind.{LineKind}
 use Rattle.asm_model.specs.declared.statements.Statement.{Statement}
 use Rattle.asm_model.specs.FaultSets.{first_told}
-use Rattle.asm_model.specs.Forms.{same}
 use Rattle.asm_model.specs.Kinds.{told_kind}
 use Rattle.asm_layout.specs.declared.laid.LaidStatement.{LaidStatement}
 use Rattle.asm_areas.specs.Starts.{AreStarts, IsLineOf}
@@ -15,7 +14,8 @@ use Rattle.asm_laying.specs.Laying.{IsLaying, Tells}
 use Rattle.asm_registers.specs.Kept.{AreRegisters}
 use Rattle.asm_model.specs.declared.names.LaidName.{LaidName}
 use Rattle.asm_model.specs.Labels.{Defined, Equal, defined_by, declared_names}
-use Rattle.asm_model.specs.Laid.{LaidLine, statements_of, laid, laid_of, reversed}
+use Rattle.asm_model.specs.Laid.{LaidLine, statements_of, names_behind, laid, laid_of, reversed}
+use Rattle.asm_model.specs.Meaning.{named_in}
 use Rattle.asm_model.specs.LayoutKinds.{layout_kinds, equals_in, settled, in_thumb_area, told_at}
 use Rattle.source_model.specs.Registers.{register_names, register_kinds}
 use Rattle.source_model.specs.SourceFaults.{first_laid}
@@ -52,10 +52,11 @@ abbrev pub HasMark : List Bool → ℕ → List Bool → Type 0
 HasMark marks n [] = Unit {0}
 HasMark marks n (b ∷ bs) = slice_get marks n ≡ Some b
 
--- the marks say of the next name for an expression whether it depends on itself
-abbrev pub IsMarked : List (List ℕ) → List Bool → Statement → List LaidLine → Type 0
-IsMarked settled marks s before =
-    HasMark marks (length (circles_in settled (statements_of before))) (circle_of settled (defined_by s) (statements_of before))
+-- what an outline with these names and marks says of a statement behind lines: whether its name depends on itself; and names
+-- that its line knows are among the outline's
+pub record IsOutlined (d : List LaidName) (settled : List (List ℕ)) (marks : List Bool) (s : Statement) (before : List LaidLine) : Type 0 where
+  pub mark : HasMark marks (length (circles_in settled (statements_of before))) (circle_of settled (defined_by s) (statements_of before))
+  pub names : (q : List ℕ) → is_some (named_in q (names_behind d s before).list) ≡ is_some (named_in q d)
 
 -- ---- lines so far
 

@@ -1,20 +1,20 @@
 //! What laying a line needs to know of the whole source.
 
-ghost use Rattle.std.specs.Prelude.{◌≡◌, ◌+◌, ◌∷◌, ◌<◌, [], List, Bool, drop, length, map, IfOk, OnOk};
+ghost use Rattle.std.specs.Prelude.{◌≡◌, ◌+◌, ◌∷◌, ◌++◌, ◌<◌, [], List, Bool, drop, length, map, IfOk, OnOk};
 ghost use Rattle.asm_model.specs.Laid.{reversed};
 ghost use Rattle.asm_names.specs.Equals.{pairs_of};
 ghost use Rattle.asm_names.specs.Order.{is_settled};
 ghost use Rattle.asm_laying.specs.Behind.{most_statements};
-ghost use Rattle.asm_layout.specs.Outline.{marks_of, IsOutline, IsListed, Lists};
+ghost use Rattle.asm_layout.specs.Outline.{marks_of, pair_if, IsOutline, IsListed, Lists};
 
 use crate::states::states_of;
 use asm_areas::States;
 use asm_laying::behind::START;
 use asm_laying::declarations::declare_one;
-use asm_model::Statement;
+use asm_model::{Expr, Statement};
 use asm_names::defining::{Defines, defined_by};
 use asm_names::{Equal, KnownNames, order_of};
-use sdt_fault::NoMemory;
+use sdt_fault::{NoMemory, Text};
 use std::alloc::Global;
 
 /// What laying a line needs to know of the whole source.
@@ -39,22 +39,35 @@ struct Listed<'a> {
     firsts: Vec<bool>,
 }
 
+/// Notes a name with its expression, where this is the first that defines the name.
+fn push_first<'a>(
+    equals: &mut Vec<Equal<'a>>,
+    first: bool,
+    name: &'a Text,
+    value: &'a Expr,
+) -> Result<(), NoMemory>
+    ensures { OnOk result (pairs_of equals.new.items ≡ pairs_of equals.old.items ++ pair_if first name.now value.now) }
+{
+    if first {
+        equals.push(Equal { name, value })?;
+    }
+    Ok(())
+}
+
 /// Notes a name for an expression, where these names are defined before.
 fn list_equal<'a>(listed: &mut Listed<'a>, statement: &'a Statement) -> Result<(), NoMemory>
     ensures { OnOk result (Lists statement.now listed.old listed.new) }
 {
     if let Defines::Equal(name, value) = defined_by(statement) {
         let first = listed.names.find(name).is_none();
-        if first {
-            listed.equals.push(Equal { name, value })?;
-        }
+        push_first(&mut listed.equals, first, name, value)?;
         listed.firsts.push(first)?;
     }
     Ok(())
 }
 
 /// The names of a source, in its order.
-fn listed<'a>(alloc: Global, statements: &'a [Statement]) -> Result<Listed<'a>, NoMemory>
+fn list_all<'a>(alloc: Global, statements: &'a [Statement]) -> Result<Listed<'a>, NoMemory>
     ensures { IfOk result (λ l. IsListed (reversed statements.now []) l) }
 {
     let mut listed = Listed {
@@ -111,7 +124,7 @@ fn circular_of(alloc: Global, firsts: &[bool], settled: &[bool]) -> Result<Vec<b
 
 /// The names for expressions that depend on themselves.
 fn circular_in(alloc: Global, equals: &[Equal<'_>], firsts: &[bool]) -> Result<Vec<bool>, NoMemory>
-    ensures { IfOk result (λ marks. marks.items ≡ marks_of firsts.now (map (λ e. is_settled (pairs_of equals.now) e.0) (pairs_of equals.now))) }
+    ensures { IfOk result (λ marks. marks.items ≡ marks_of firsts.now (map (λ e. is_settled (pairs_of equals.now) e.name.now) equals.now)) }
 {
     if equals.len() > 0xFFFF_FFFF {
         return Err(NoMemory);
@@ -129,7 +142,7 @@ pub fn outline_of(alloc: Global, statements: &[Statement]) -> Result<Outline, No
         names,
         equals,
         firsts,
-    } = listed(alloc, statements)?;
+    } = list_all(alloc, statements)?;
     let circular = circular_in(alloc, equals.as_slice(), firsts.as_slice())?;
     let states = states_of(alloc, statements)?;
     Ok(Outline {

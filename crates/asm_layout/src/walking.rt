@@ -124,7 +124,7 @@ impl Walk {
     fn judge(&mut self, outline: &Outline, statement: &Statement) -> Result<Judged, NoMemory>
         requires may { laying.MayLay outline.now.names self.old.laying }
         requires said { IsSaid statement.now }
-        ensures { IfOk result (λ j. (names settled : List (List ℕ)) (all : List Statement) (before : List LaidLine) → AreStates all outline.now.states → walking.IsWalking outline.now.names names settled all before self.old → walking.IsMarked settled outline.now.circular.items statement.now before → walking.IsJudged outline.now.names names settled all (laid_behind outline.now.names statement.now before) before self.old self.new j) }
+        ensures { IfOk result (λ j. (names settled : List (List ℕ)) (all : List Statement) (before : List LaidLine) → AreStates all outline.now.states → walking.IsWalking outline.now.names names settled all before self.old → walking.IsOutlined outline.now.names settled outline.now.circular.items statement.now before → walking.IsJudged outline.now.names names settled all (laid_behind outline.now.names statement.now before) before self.old self.new j) }
     {
         let laid = self.laying.lay(self.alloc, &outline.names, statement)?;
         let circular = take_mark(&mut self.equals, outline.circular.as_slice(), statement);
@@ -188,7 +188,7 @@ impl Walk {
     fn step(&mut self, outline: &Outline, statement: Statement) -> Result<(), Fault>
         requires may { laying.MayLay outline.now.names self.old.laying }
         requires said { IsSaid statement }
-        ensures { (names settled : List (List ℕ)) (all : List Statement) (before : List LaidLine) → AreStates all outline.now.states → walking.IsWalking outline.now.names names settled all before self.old → walking.IsMarked settled outline.now.circular.items statement before → walking.Steps outline.now.names names settled all (laid_behind outline.now.names statement before) before self.new result }
+        ensures { (names settled : List (List ℕ)) (all : List Statement) (before : List LaidLine) → AreStates all outline.now.states → walking.IsWalking outline.now.names names settled all before self.old → walking.IsOutlined outline.now.names settled outline.now.circular.items statement before → walking.Steps outline.now.names names settled all (laid_behind outline.now.names statement before) before self.new result }
     {
         let judged = self.judge(outline, &statement)?;
         self.keep_or_tell(statement, judged)

@@ -22,13 +22,14 @@ use Rattle.source_model.specs.Contexts.{Context, sees}
 use Rattle.source_model.specs.Units.{stored}
 use Rattle.source_model.specs.ValueKinds.{lies_within, kinds_unless, exported_kinds, export_kinds, assert_kinds, directive_kinds, statement_kinds}
 use Rattle.asm_instructions.specs.Scenes.{context_of}
+use Rattle.asm_instructions.proofs.AlikeLemmas.{stands_alike}
 use Rattle.asm_instructions.proofs.ContextLemmas.{Alike, shown_alike}
 use Rattle.asm_units.specs.declared.beside.Beside.{Beside}
 use Rattle.asm_units.specs.declared.emitted.Stored.{Stored as Code}
 use Rattle.asm_units.specs.Emitting.{stored_of}
 use Rattle.asm_units.specs.Literals.{moved}
 use Rattle.asm_units.specs.Showing.{ShowsBeside, sizes_of}
-use Rattle.asm_units.proofs.ShowLemmas.{stands_alike, stored_alike}
+use Rattle.asm_units.proofs.ShowLemmas.{stored_alike}
 
 pub fault_mapped : {A B : Type 0} (f : A → B) (r : Result A LineKind) → fault_kinds (mapped f r) ≡ fault_kinds r
 fault_mapped f (Ok a) = refl

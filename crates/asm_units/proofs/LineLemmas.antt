@@ -20,10 +20,10 @@ use Rattle.source_model.specs.Contexts.{Context, sees, value_of}
 use Rattle.asm_names.specs.Lines.{line_of, Sees}
 use Rattle.asm_instructions.specs.declared.scenes.Scene.{Scene}
 use Rattle.asm_instructions.specs.Scenes.{context_of}
+use Rattle.asm_instructions.proofs.AlikeLemmas.{stands_alike}
 use Rattle.asm_instructions.proofs.ContextLemmas.{Alike, seen_alike}
 use Rattle.asm_units.specs.Literals.{literal_in}
 use Rattle.asm_units.proofs.KindLemmas.{literal_alike}
-use Rattle.asm_units.proofs.ShowLemmas.{stands_alike}
 use Rattle.asm_units.specs.Listing.{loaded_symbols, statement_symbols}
 
 module _ (a b : Context) (s : Alike a b) where

@@ -12,7 +12,7 @@ use Rattle.asm_model.specs.declared.values.Value.{Value}
 use Rattle.asm_model.specs.declared.values.Value.TheVariants.{Number, Truth, Words, Place}
 use Rattle.asm_model.specs.declared.names.Names.{Names}
 use Rattle.asm_model.specs.Forms.{same}
-use Rattle.asm_model.specs.Meaning.{named_in, in_area, entry_stands_at, stands_at}
+use Rattle.asm_model.specs.Meaning.{named_in, stands_at}
 use Rattle.asm_model.specs.Says.{on_both}
 use Rattle.asm_model.specs.Entries.{thumb_of}
 use Rattle.asm_model.specs.Extents.{value_there}
@@ -20,7 +20,7 @@ use Rattle.asm_model.specs.Marks.{counts_one}
 use Rattle.source_model.specs.Contexts.{Context, sees, value_of}
 use Rattle.source_model.specs.Units.{Emitted, Bytes, Stored, placed, stored, word_units, half_units, byte_operand, byte_units, directive_units}
 use Rattle.asm_instructions.specs.Scenes.{context_of}
-use Rattle.asm_instructions.proofs.AlikeLemmas.{number_alike}
+use Rattle.asm_instructions.proofs.AlikeLemmas.{number_alike, stands_alike}
 use Rattle.asm_instructions.proofs.ContextLemmas.{Alike, shown_alike}
 use Rattle.asm_laying.specs.Reading.{is_words, marks, string_marks}
 use Rattle.asm_units.specs.declared.beside.Beside.{Beside}
@@ -32,10 +32,6 @@ use Rattle.asm_units.specs.Showing.{ShowsBeside}
 -- ---- contexts that find the same
 
 module _ (a b : Context) (s : Alike a b) where
-  pub stands_alike : (q : List ℕ) → stands_at (sees a) q ≡ stands_at (sees b) q
-  stands_alike [] = ap (λ area. in_area area 0) s.area
-  stands_alike (x ∷ xs) = ap entry_stands_at (s.entry (x ∷ xs))
-
   module _ (ds es : List (List ℕ)) (d : (q : List ℕ) → list_any (same q) ds ≡ list_any (same q) es) where
     counts_alike : (q : List ℕ) → counts_one ds (sees a) q ≡ counts_one es (sees b) q
     counts_alike q =
@@ -49,7 +45,7 @@ module _ (a b : Context) (s : Alike a b) where
     pub stored_alike : (v : Result Value LineKind) → stored a ds v ≡ stored b es v
     stored_alike (Ok (Number n)) = refl
     stored_alike (Ok (Place q n)) =
-        ap (λ p. Ok (placed a ds q n p)) (stands_alike q) ∙ ap (λ (z : Stored). Ok z) (placed_alike q n (stands_at (sees b) q))
+        ap (λ p. Ok (placed a ds q n p)) (stands_alike a b s q) ∙ ap (λ (z : Stored). Ok z) (placed_alike q n (stands_at (sees b) q))
     stored_alike (Ok (Truth t)) = refl
     stored_alike (Ok (Words w)) = refl
     stored_alike (Err k) = refl

@@ -29,10 +29,12 @@ fn moved(value: Result<Value, LineKind>, plus: u32) -> Result<Value, LineKind>
 {
     match value {
         Ok(Value::Number(number)) => Ok(Value::Number(number.wrapping_add(plus))),
-        Ok(Value::Place {
-            symbol,
-            plus: before,
-        }) => Ok(Value::Place {
+        Ok(
+            Value::Place {
+                symbol,
+                plus: before,
+            },
+        ) => Ok(Value::Place {
             symbol,
             plus: before.wrapping_add(plus),
         }),

@@ -2,19 +2,18 @@
 
 ghost use Rattle.std.specs.Prelude.{◌≡◌, ◌+◌, ◌*◌, ◌≤◌, ◌&&◌, ◌^◌, false, get_or, IfOk, if◌then◌else◌};
 ghost use Rattle.std.specs.List.{list_any};
-ghost use Rattle.std.specs.Option.{option_copied};
 ghost use Rattle.sdt_word.specs.Numbers.{flag as flag_of};
 ghost use Rattle.asm_model.specs.Meaning as meaning;
-ghost use Rattle.asm_model.specs.Entries as entries;
 ghost use Rattle.asm_model.specs.Forms.{same};
 ghost use Rattle.source_model.specs.Contexts.{sees};
 ghost use Rattle.source_model.specs.Objects as objects;
 ghost use Rattle.source_model.specs.Objects.{Source};
 ghost use Rattle.asm_units.specs.Recording.{Shows};
 
-use crate::named::value_named;
+use crate::named::{is_thumb, value_named};
 use aof_object::Symbol;
-use asm_model::{LaidName, Value};
+use asm_instructions::scenes::entry_stands_at;
+use asm_model::Value;
 use asm_names::KnownNames;
 use asm_sets::NameRefs;
 use sdt_fault::kinds::LineKind;
@@ -73,15 +72,6 @@ fn holds_code(code: &[bool], area: u32) -> bool
     }
 }
 
-fn is_thumb(entry: Option<&LaidName>) -> bool
-    ensures { result ≡ entries.thumb_of (option_copied entry.entry) }
-{
-    match entry {
-        None => false,
-        Some(entry) => entry.thumb,
-    }
-}
-
 /// Whether a label is a datum in a code area.
 fn is_marked(facts: &Facts<'_>, label: &Text, area: u32) -> bool
     ensures { result ≡ list_any (same label.now) facts.now.data.now && get_or facts.now.code.now area false }
@@ -96,19 +86,7 @@ fn marks(facts: &Facts<'_>, label: &Text, area: u32) -> u32
     ensures is { (s : Source) → Shows facts.now s → result ≡ objects.marks_of s label.now area }
     ensures below { result ≤ 0x1100 }
 {
-    bits(is_marked(facts, label, area), 0x100) + bits(is_thumb(facts.names.find(label)), 0x1000)
-}
-
-fn entry_stands_at(entry: Option<&LaidName>) -> Option<(u32, u32)>
-    ensures { result ≡ meaning.entry_stands_at (option_copied entry.entry) }
-{
-    match entry {
-        None => None,
-        Some(entry) => match entry.area {
-            None => None,
-            Some(area) => Some((area, entry.offset)),
-        },
-    }
+    bits(is_marked(facts, label, area), 0x100) + bits(is_thumb(facts.names, label), 0x1000)
 }
 
 fn stands_at(facts: &Facts<'_>, label: &Text) -> Option<(u32, u32)>

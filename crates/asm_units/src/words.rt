@@ -1,10 +1,7 @@
 //! Words that may be relocated.
 
 ghost use Rattle.std.specs.Prelude.{◌≡◌, Ok, IfOk};
-ghost use Rattle.std.specs.Option.{option_copied};
-ghost use Rattle.asm_model.specs.Meaning as meaning;
 ghost use Rattle.asm_model.specs.Says.{mapped};
-ghost use Rattle.asm_model.specs.Entries as entries;
 ghost use Rattle.asm_model.specs.Marks as marks;
 ghost use Rattle.said_model.specs.Said.{AllRead, IsRead};
 ghost use Rattle.source_model.specs.Contexts.{sees, value_of};
@@ -15,27 +12,19 @@ ghost use Rattle.asm_units.specs.Emitting.{all_emitted, emitted_of, stored_of};
 use crate::beside::Beside;
 use crate::emitted::{Emitted, Stored, Target};
 use crate::joining::{push_next, word_unit};
+use crate::named::is_thumb;
 use asm_instructions::scenes::stands_at;
 use asm_instructions::values::value_there;
-use asm_model::{Expr, LaidName, Value};
+use asm_model::{Expr, Value};
 use sdt_fault::kinds::LineKind;
 use sdt_fault::{NoMemory, Text};
 use std::alloc::Global;
-
-fn is_thumb(entry: Option<&LaidName>) -> bool
-    ensures { result ≡ entries.thumb_of (option_copied entry.entry) }
-{
-    match entry {
-        None => false,
-        Some(entry) => entry.thumb,
-    }
-}
 
 /// Whether a symbol counts one more in a word: a label of Thumb code that is no datum.
 fn counts_one(beside: &Beside<'_>, symbol: &Text) -> bool
     ensures { result ≡ marks.counts_one beside.now.data.now (sees (context_of beside.now.scene)) symbol.now }
 {
-    if is_thumb(beside.scene.names.find(symbol)) {
+    if is_thumb(beside.scene.names, symbol) {
         return !beside.data.has(symbol);
     }
     false

@@ -4,7 +4,8 @@ use Rattle.asm_laying.specs.Laying.{Tells}
 use Rattle.asm_registers.specs.Kept.{IsLine as IsRegistersLine}
 use Rattle.asm_model.specs.Labels.{defined_by}
 use Rattle.asm_model.specs.Laid.{LaidLine, laid_behind, statements_of}
-use Rattle.asm_model.specs.LayoutKinds.{equal_of, equals_in, in_thumb_area}
+use Rattle.asm_model.specs.LayoutKinds.{in_thumb_area}
+use Rattle.asm_layout.specs.Outline.{circle_of, circles_in}
 use Rattle.asm_layout.specs.Walking.{HasMark}
 use Rattle.asm_layout.proofs.StepLemmas.{numbers, mark_is, count_is}
 use Rattle.asm_layout.proofs.ToldLemmas.{none_first, none_second}
@@ -15,23 +16,24 @@ returns c = λ names settled all before states h m.
     let s = c.args.statement.now in
     let d = c.args.outline.now.names in
     let l : LaidLine = laid_behind d s before in
-    let marks = c.args.outline.now.settled.items in
+    let marks = c.args.outline.now.circular.items in
+    let circle = circle_of settled (defined_by s) (statements_of before) in
     let t : Tells d l before c.lay.new.self c.in_ok-laid.laid = c.in_ok-laid.ensures before h.lays in
     let n = numbers s.what l c.in_ok-laid.laid.number t.number in
-    let marked : HasMark settled marks c.args.self.now.equals (defined_by s) = subst (λ k. HasMark settled marks k (defined_by s)) (sym h.counted) m in
-    let checks_line : IsChecksLine settled all s c.in_ok-laid.laid.area c.in_ok-laid.laid.thumb c.is_thumb-thumb_area.result c.in_ok-laid.laid.number c.take_mark-is_settled.result l = record {
+    let marked : HasMark marks c.args.self.now.equals circle = subst (λ k. HasMark marks k circle) (sym h.counted) m.mark in
+    let checks_line : IsChecksLine settled all s c.in_ok-laid.laid.area c.in_ok-laid.laid.thumb c.is_thumb-thumb_area.result c.in_ok-laid.laid.number c.take_mark-circular.result l before = record {
       said = refl;
       stands = sym t.area;
       state = sym t.thumb;
       within = c.is_thumb-thumb_area.ensures all states;
       aligned = n.exponent_is;
-      known = mark_is settled marks c.args.self.now.equals (defined_by s) c.take_mark-is_settled.result (rw c.as_slice.ensures.value at c.take_mark-is_settled.ensures.mark) marked;
+      known = mark_is settled marks c.args.self.now.equals (defined_by s) (statements_of before) c.take_mark-circular.result (rw c.as_slice.ensures.value at c.take_mark-circular.ensures.mark) marked;
     } in
     let registers_line : IsRegistersLine s c.in_ok-laid.laid.thumb c.in_ok-laid.laid.number c.args.outline.now.names l = record {
       said = refl;
       state = sym t.thumb;
       given = n.given_is;
-      names = λ q. refl;
+      names = m.names;
     } in
     let checked = c.in_ok-checked.ensures.told settled all l before h.checked checks_line in
     let named = c.in_ok-named.ensures.told names l before h.named registers_line in
@@ -43,6 +45,6 @@ returns c = λ names settled all before states h m.
       within = c.is_thumb-thumb_area.ensures all states ∙ ap (λ (o : Option ℕ). in_thumb_area o all) t.area;
       begun = refl;
       kept = refl;
-      counted = count_is settled marks c.args.self.now.equals c.take_mark-is_settled.new.equals (defined_by s) (rw c.as_slice.ensures.value at c.take_mark-is_settled.ensures.count) marked
-          ∙ ap (λ k. k + length (equal_of (defined_by s))) h.counted ∙ sym (length-append (equals_in (statements_of before)) (equal_of (defined_by s)));
+      counted = count_is settled marks c.args.self.now.equals c.take_mark-circular.new.equals (defined_by s) (statements_of before) (rw c.as_slice.ensures.value at c.take_mark-circular.ensures.count) marked
+          ∙ ap (λ k. k + length circle) h.counted ∙ sym (length-append (circles_in settled (statements_of before)) circle);
     }

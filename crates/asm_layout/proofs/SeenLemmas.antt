@@ -1,0 +1,99 @@
+-- The names that a line knows are among those that its source declares.
+use Rattle.std.proofs.Common.{◌≡◌, ℕ, List, [], ◌∷◌, ◌++◌, Bool, false, cond, Option, Some, None, refl, sym, ap, ◌∙◌}
+use Rattle.std.specs.Option.{is_some}
+use Rattle.std.specs.Prelude.{Result, Ok, Err}
+use Rattle.sdt_fault.specs.declared.kinds.LineKind.{LineKind}
+use Rattle.sdt_fault.specs.declared.kinds.LineKind.TheVariants.{Forward}
+use Rattle.asm_model.specs.declared.names.LaidName.{LaidName}
+use Rattle.asm_model.specs.declared.names.Names.{Names}
+use Rattle.asm_model.specs.declared.statements.Statement.{Statement}
+use Rattle.asm_model.specs.declared.values.Value.{Value}
+use Rattle.asm_model.specs.AtLine.{SourceLine, Definition, Nameless, Named, Equated, own_names, names_at, known_entry, added_names, seen_behind}
+use Rattle.asm_model.specs.Before.{is_thumb_label}
+use Rattle.asm_model.specs.Directives.{or_else}
+use Rattle.asm_model.specs.Entries.{equal_entry, label_entry, imported_entry, field_entry, register_entry, later_entry}
+use Rattle.asm_model.specs.Forms.{same}
+use Rattle.asm_model.specs.Grammar.{Tree}
+use Rattle.asm_model.specs.Labels.{Defined, Unnamed, Label, Equal, MapField, RegisterName, defined_by, imported_in, declared_entries, declared_imports, declared_names}
+use Rattle.asm_model.specs.Laid.{LaidLine, lines_of, tree_equated, definition_of, definition_behind, line_behind, imported_lines, names_behind, laid_behind, laid_of, reversed}
+use Rattle.asm_model.specs.Meaning.{named_in, meaning}
+use Rattle.asm_model.specs.Trees.{tree_of}
+use Rattle.layout_laws.proofs.EqualLemmas.{equal_made}
+use Rattle.layout_laws.proofs.NamedLemmas.{cond_none, none_joined, none_parts}
+use Rattle.layout_laws.proofs.RoundLemmas.{named_joined}
+
+-- ---- what a line adds
+
+equal_none : (q : List ℕ) (d : List LaidName) (area : Option ℕ) (name : List ℕ) (x : LaidName) (r : Result Value LineKind) → cond (same name q) (Some x) None ≡ None
+    → named_in q (known_entry (equal_entry d area name) r) ≡ None
+equal_none q d area name x (Err Forward) h = refl
+equal_none q d area name x r h =
+    ap (λ (z : List ℕ). cond (same z q) (Some (equal_entry d area name r)) None) (equal_made d area name r).0
+    ∙ cond_none (same name q) x (equal_entry d area name r) h
+
+tree_none : (q : List ℕ) (d : List LaidName) (names : Names) (area : Option ℕ) (name : List ℕ) (x : LaidName) (o : Option Tree) → cond (same name q) (Some x) None ≡ None
+    → named_in q (added_names names (tree_equated d area name o)) ≡ None
+tree_none q d names area name x None h = refl
+tree_none q d names area name x (Some t) h = equal_none q d area name x (meaning names t) h
+
+added_none : (q : List ℕ) (d : List LaidName) (names : Names) (s : Statement) (before : List Statement) (x : Defined) (area : Option ℕ) (offset : ℕ) (size : Option ℕ) (thumb : Bool) (m : ℕ)
+    → named_in q (declared_entries x s before) ≡ None → named_in q (added_names names (definition_of d x area offset size thumb m)) ≡ None
+added_none q d names s before Unnamed area offset size thumb m h = refl
+added_none q d names s before (Label name) area offset size thumb m h =
+    cond_none (same name q) (later_entry name (is_thumb_label s before)) (label_entry name area offset size thumb) h
+added_none q d names s before (Equal name e) area offset size thumb m h = tree_none q d names area name (later_entry name false) (tree_of e) h
+added_none q d names s before (MapField name) area offset size thumb m h = cond_none (same name q) (later_entry name false) (field_entry name m size) h
+added_none q d names s before (RegisterName name r) area offset size thumb m h = cond_none (same name q) (later_entry name false) (register_entry name) h
+
+-- a name that a line knows itself it adds
+own_none : (q : List ℕ) (names : Names) (x : Definition) → named_in q (added_names names x) ≡ None → named_in q (own_names x) ≡ None
+own_none q names Nameless h = refl
+own_none q names (Named n) h = h
+own_none q names (Equated make t) h = refl
+
+imported_none : (q : List ℕ) (d : List LaidName) (s : Statement) (before : List LaidLine) (ls : List SourceLine) (o : Option (List ℕ))
+    → named_in q (seen_behind d ls) ≡ None → named_in q (declared_imports o) ≡ None → named_in q (seen_behind d (imported_lines s before o ++ ls)) ≡ None
+imported_none q d s before ls None h k = h
+imported_none q d s before ls (Some name) h k =
+    none_joined q (seen_behind d ls) (imported_entry name ∷ []) h (cond_none (same name q) (later_entry name false) (imported_entry name) k)
+
+-- ---- lines
+
+statement_parts : (q : List ℕ) (s : Statement) (ss : List Statement) → named_in q (declared_names (s ∷ ss)) ≡ None
+    → (named_in q (declared_names ss) ≡ None) × (named_in q (declared_entries (defined_by s) s ss) ≡ None) × (named_in q (declared_imports (imported_in s.what)) ≡ None)
+statement_parts q s ss h =
+    let own = declared_entries (defined_by s) s ss in
+    let p = none_parts q (declared_names ss ++ own) (declared_imports (imported_in s.what)) h in
+    let r = none_parts q (declared_names ss) own p.0 in (r.0, r.1, p.1)
+
+seen_none : (d : List LaidName) (q : List ℕ) (ss : List Statement) → named_in q (declared_names ss) ≡ None → named_in q (seen_behind d (lines_of (laid_of d ss))) ≡ None
+seen_none d q [] h = refl
+seen_none d q (s ∷ ss) h =
+    let before = laid_of d ss in
+    let seen = seen_behind d (lines_of before) in
+    let l = (laid_behind d s before).line in
+    let parts = statement_parts q s ss h in
+    imported_none q d s before (l ∷ lines_of before) (imported_in s.what)
+    (none_joined q seen (added_names (names_at d seen l) l.definition) (seen_none d q ss parts.0) (added_none q d (names_at d seen l) s ss (defined_by s) _ _ _ _ _ parts.1)) parts.2
+
+some_behind : (o p : Option LaidName) → (p ≡ None → o ≡ None) → is_some (or_else o p) ≡ is_some p
+some_behind None p h = refl
+some_behind (Some n) None h = let e = h refl in absurd (cc)
+some_behind (Some n) (Some m) h = refl
+
+pub declared_before : (q : List ℕ) (zs ss : List Statement) → named_in q (declared_names (reversed zs ss)) ≡ None → named_in q (declared_names ss) ≡ None
+declared_before q [] ss h = h
+declared_before q (z ∷ zs) ss h = (statement_parts q z ss (declared_before q zs (z ∷ ss) h)).0
+
+-- what a line sees of a name is among names with those of its statements
+pub seen_declared : (d : List LaidName) (q : List ℕ) (s : Statement) (ss : List Statement) → (named_in q d ≡ None → named_in q (declared_names (s ∷ ss)) ≡ None)
+    → is_some (named_in q (names_behind d s (laid_of d ss)).list) ≡ is_some (named_in q d)
+seen_declared d q s ss among =
+    let before = laid_of d ss in
+    let seen = seen_behind d (lines_of before) in
+    let l = line_behind s before (definition_behind d s before None) in
+    let known : named_in q d ≡ None → named_in q (seen ++ own_names l.definition) ≡ None =
+    λ none. let parts = statement_parts q s ss (among none) in
+    none_joined q seen (own_names l.definition) (seen_none d q ss parts.0)
+    (own_none q (names_at d seen l) l.definition (added_none q d (names_at d seen l) s ss (defined_by s) _ _ _ _ _ parts.1)) in
+    ap is_some (named_joined q (seen ++ own_names l.definition) d) ∙ some_behind (named_in q (seen ++ own_names l.definition)) (named_in q d) known
