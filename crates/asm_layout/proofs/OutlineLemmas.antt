@@ -13,7 +13,7 @@ use Rattle.asm_model.specs.Forms.{same}
 use Rattle.asm_model.specs.Meaning.{named_in}
 use Rattle.asm_model.specs.Before.{is_thumb_label}
 use Rattle.asm_model.specs.Labels.{Defined, Unnamed, Label, Equal, MapField, RegisterName, defined_by, imported_in, declared_entries, declared_imports, declared_names}
-use Rattle.asm_model.specs.LayoutKinds.{own_name, listed, names_in, names_behind, first_equal, equals_in, settled}
+use Rattle.asm_model.specs.LayoutKinds.{own_name, listed, names_behind, first_equal, equals_in, settled}
 use Rattle.asm_model.proofs.SharedLemmas.{same_back}
 use Rattle.layout_laws.proofs.RoundLemmas.{named_joined}
 use Rattle.asm_names.specs.declared.equals.Equal.{Equal as Code}

@@ -1,4 +1,4 @@
-use Rattle.std.proofs.Common.{◌∙◌, [], ap}
+use Rattle.std.proofs.Common.{◌∙◌, []}
 use Rattle.asm_model.specs.Laid.{reversed}
 use Rattle.asm_layout.proofs.OutlineLemmas.{marks_are}
 use Rattle.asm_layout.proofs.outline.outline_of.Goals as goal
