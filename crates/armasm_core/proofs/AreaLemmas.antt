@@ -6,7 +6,7 @@ use Rattle.sdt_word.specs.Numbers.{flag}
 use Rattle.sdt_fault.specs.declared.kinds.LineKind.{LineKind}
 use Rattle.sdt_fault.specs.declared.kinds.LineKind.TheVariants.{TooMany, BadOperand}
 use Rattle.asm_layout.specs.Layout.{AreAreas}
-use Rattle.layout_laws.proofs.SoundLemmas.{both_empty}
+use Rattle.layout_laws.proofs.SoundLemmas.{both_empty, or_none, told_none}
 use Rattle.asm_model.specs.declared.directives.AreaAttributes.{AreaAttributes}
 use Rattle.asm_model.specs.declared.directives.Contents.{Contents}
 use Rattle.asm_model.specs.declared.directives.Contents.TheVariants as contents
@@ -15,28 +15,27 @@ use Rattle.asm_model.specs.declared.statements.Statement.{Statement}
 use Rattle.asm_model.specs.declared.statements.What.{What}
 use Rattle.asm_model.specs.declared.statements.What.TheVariants as what
 use Rattle.asm_model.specs.Directives.{or_else}
+use Rattle.asm_model.specs.Kinds.{told_kind}
 use Rattle.asm_layout.specs.declared.laid.LaidArea.{LaidArea}
 use Rattle.asm_model.specs.Before.{areas_behind, is_code}
 use Rattle.asm_model.specs.Labels.{defined_by}
 use Rattle.asm_model.specs.declared.names.LaidName.{LaidName}
 use Rattle.asm_model.specs.Labels.{declared_names}
 use Rattle.asm_model.specs.Laid.{LaidLine, laid, laid_of, laid_behind, statements_of, reversed}
-use Rattle.asm_model.specs.LayoutKinds.{exponent, exponent_kinds, area_kinds, is_named_otherwise, layout_kinds, fault_kinds, map_kinds, no_area_kinds, contents_kinds, contents_behind, name_kinds, first_equal, settled_kinds, state_kinds, settled, equals_in, kind_if, area_bytes, is_thumb_area}
+use Rattle.asm_model.specs.LayoutKinds.{exponent, exponent_kinds, area_kinds, is_named_otherwise, layout_kinds, first_fault, told_at, settled, equals_in, kind_if, is_thumb_area}
 use Rattle.asm_model.specs.Offsets.{is_of}
 use Rattle.source_model.specs.Objects.{attributes_word, contents_bits, or_two, says_area, attributes_of, contents_in, contents_of, holds_code, is_kept}
 use Rattle.source_model.specs.SourceFaults.{layout_faults}
-use Rattle.armasm_core.proofs.SplitLemmas.{none_there}
+use Rattle.object_laws.proofs.BitLemmas.{flag_small}
+use Rattle.source_laws.proofs.FaultlessLemmas.{layout_sound}
+use Rattle.source_laws.proofs.ZeroLemmas.{line_kinds}
 use Rattle.source_laws.proofs.WithinLemmas.{IsWithin, area_within, areas_more}
 use Rattle.armasm_core.specs.Drafting.{marks_zeroes}
 use Rattle.armasm_core.specs.Gathering.{marks_code}
 use Rattle.asm_model.proofs.OffsetLemmas.{through as low_of}
-use Rattle.stand_laws.proofs.AreaLemmas.{exponent_small}
+use Rattle.stand_laws.proofs.AreaLemmas.{Agree, exponent_small, lines_agree}
 
 -- ---- a word of attributes
-
-flag_low : (b : Bool) → flag b ≤ 1
-flag_low true = omega arith
-flag_low false = omega arith
 
 word_bit : (c : Contents) (n r p e t h i : ℕ) → n ≤ 16 → r ≤ 1 → p ≤ 1 → e ≤ 1 → t ≤ 1 → h ≤ 1 → i ≤ 1
     → marks_code (n + contents_bits c + r * 2 ^ 13 + p * 2 ^ 14 + e * 2 ^ 17 + t * 2 ^ 20 + h * 2 ^ 21 + i * 2 ^ 22) ≡ is_code c
@@ -50,57 +49,16 @@ word_bit contents.Zeroes n r p e t h i x a b c d f g =
     let is : (n + 2 ^ 12 + r * 2 ^ 13 + p * 2 ^ 14 + e * 2 ^ 17 + t * 2 ^ 20 + h * 2 ^ 21 + i * 2 ^ 22) / 2 ^ 9 % 2 ≡ 0 = omega arith in
     ap (λ (m : ℕ). m == 1) is
 
-zero_bit : (c : Contents) (n r p e t h i : ℕ) → n ≤ 16 → r ≤ 1 → p ≤ 1 → e ≤ 1 → t ≤ 1 → h ≤ 1 → i ≤ 1
-    → is_kept (Some c) ≡ not (marks_zeroes (n + contents_bits c + r * 2 ^ 13 + p * 2 ^ 14 + e * 2 ^ 17 + t * 2 ^ 20 + h * 2 ^ 21 + i * 2 ^ 22))
-zero_bit contents.Code n r p e t h i x a b c d f g =
-    let is : (n + 2 ^ 9 + r * 2 ^ 13 + p * 2 ^ 14 + e * 2 ^ 17 + t * 2 ^ 20 + h * 2 ^ 21 + i * 2 ^ 22) / 2 ^ 12 % 2 ≡ 0 = omega arith in
-    ap (λ (m : ℕ). not (m == 1)) (sym is)
-zero_bit contents.Data n r p e t h i x a b c d f g =
-    let is : (n + 0 + r * 2 ^ 13 + p * 2 ^ 14 + e * 2 ^ 17 + t * 2 ^ 20 + h * 2 ^ 21 + i * 2 ^ 22) / 2 ^ 12 % 2 ≡ 0 = omega arith in
-    ap (λ (m : ℕ). not (m == 1)) (sym is)
-zero_bit contents.Zeroes n r p e t h i x a b c d f g =
-    let is : (n + 2 ^ 12 + r * 2 ^ 13 + p * 2 ^ 14 + e * 2 ^ 17 + t * 2 ^ 20 + h * 2 ^ 21 + i * 2 ^ 22) / 2 ^ 12 % 2 ≡ 1 = omega arith in
-    ap (λ (m : ℕ). not (m == 1)) (sym is)
-
-kept_bit : (a : AreaAttributes) (n : ℕ) (thumb : Bool) → n ≤ 16 → is_kept (Some a.contents) ≡ not (marks_zeroes (attributes_word a n thumb))
-kept_bit a n thumb small =
-    zero_bit a.contents n (flag a.read_only) (flag a.pic) (flag a.reentrant) (flag thumb) (flag a.halfword) (flag a.interwork) small
-    (flag_low a.read_only) (flag_low a.pic) (flag_low a.reentrant) (flag_low thumb) (flag_low a.halfword) (flag_low a.interwork)
-
 code_bit : (a : AreaAttributes) (n : ℕ) (thumb : Bool) → n ≤ 16 → marks_code (attributes_word a n thumb) ≡ is_code a.contents
 code_bit a n thumb small =
     word_bit a.contents n (flag a.read_only) (flag a.pic) (flag a.reentrant) (flag thumb) (flag a.halfword) (flag a.interwork) small
-    (flag_low a.read_only) (flag_low a.pic) (flag_low a.reentrant) (flag_low thumb) (flag_low a.halfword) (flag_low a.interwork)
-
-abbrev AreAligned : List LaidLine → Type 0
-AreAligned [] = Unit {0}
-AreAligned (l ∷ before) = (area_kinds l.seen l.statement.what before ≡ []) × AreAligned before
-
-fifth_empty : (a b c d e f g h i : List LineKind) → a ++ b ++ c ++ d ++ e ++ f ++ g ++ h ++ i ≡ [] → e ≡ []
-fifth_empty a b c d e f g h i none =
-    let s = both_empty (a ++ b ++ c ++ d ++ e ++ f ++ g ++ h) i none in
-    let r = both_empty (a ++ b ++ c ++ d ++ e ++ f ++ g) h s.0 in
-    let q = both_empty (a ++ b ++ c ++ d ++ e ++ f) g r.0 in
-    let p = both_empty (a ++ b ++ c ++ d ++ e) f q.0 in
-    (both_empty (a ++ b ++ c ++ d) e p.0).1
-
-own_aligned : (fixed : List (List ℕ)) (all : List Statement) (l : LaidLine) (before : List LaidLine) → layout_kinds fixed all l before ≡ [] → area_kinds l.seen l.statement.what before ≡ []
-own_aligned fixed all l before e =
-    fifth_empty (fault_kinds l.extent) (map_kinds l.seen l.statement.what) (no_area_kinds l.area (defined_by l.statement) l.statement.what)
-    (contents_kinds (contents_behind (l.statement ∷ statements_of before)) l.thumb l.statement.what) (area_kinds l.seen l.statement.what before)
-    (name_kinds l.statement (statements_of before)) (settled_kinds fixed (first_equal (defined_by l.statement) (statements_of before))) (state_kinds l.area l.thumb l.statement.what all)
-    (kind_if (nat_lt area_bytes (l.offset + l.size)) TooMany) e
-
-are_aligned : (statements : List Statement) → layout_faults statements ≡ None → (rest before : List LaidLine) → laid statements ≡ reversed rest before → AreAligned before
-are_aligned statements e rest [] parts = tt
-are_aligned statements e rest (l ∷ before) parts =
-    (own_aligned (settled (equals_in statements)) statements l before (none_there statements rest l before e parts).laying, are_aligned statements e (l ∷ rest) before parts)
+    (flag_small a.read_only) (flag_small a.pic) (flag_small a.reentrant) (flag_small thumb) (flag_small a.halfword) (flag_small a.interwork)
 
 -- ---- attributes and contents
 
 abbrev AreAlike : Option ℕ → Option Contents → Type 0
 AreAlike None None = Unit {0}
-AreAlike (Some w) (Some c) = (marks_code w ≡ is_code c) × (is_kept (Some c) ≡ not (marks_zeroes w))
+AreAlike (Some w) (Some c) = marks_code w ≡ is_code c
 AreAlike _ _ = ⊥
 
 first_alike : (a b : Option ℕ) (c d : Option Contents) → AreAlike a c → AreAlike b d → AreAlike (or_else a b) (or_else c d)
@@ -116,15 +74,18 @@ line_alike area thumb l before (what.Directive (line.Area name a)) e = by_area (
     small = exponent_small (exponent l.seen a.align) (both_empty (exponent_kinds (exponent l.seen a.align)) (kind_if (is_named_otherwise name l.seen a before) BadOperand) e).0
 
     by_area : (b : Bool) → AreAlike (cond b (Some (attributes_word a (or_two (exponent l.seen a.align)) thumb)) None) (cond b (Some a.contents) None)
-    by_area true = (code_bit a (or_two (exponent l.seen a.align)) thumb small, kept_bit a (or_two (exponent l.seen a.align)) thumb small)
+    by_area true = code_bit a (or_two (exponent l.seen a.align)) thumb small
     by_area false = tt
 line_alike area thumb l before _ e = tt
 
-lines_alike : (area : ℕ) (thumb : Bool) (all : List LaidLine) → AreAligned all → AreAlike (attributes_of area thumb all) (contents_of area all)
-lines_alike area thumb [] h = tt
-lines_alike area thumb (l ∷ before) h =
+lines_alike : (S : List (List ℕ)) (all : List Statement) (area : ℕ) (thumb : Bool) (lines : List LaidLine) → first_fault S all lines ≡ None
+    → AreAlike (attributes_of area thumb lines) (contents_of area lines)
+lines_alike S all area thumb [] fine = tt
+lines_alike S all area thumb (l ∷ before) fine =
+    let p = or_none (first_fault S all before) (told_at l.statement (told_kind (layout_kinds S all l before))) fine in
     first_alike (attributes_of area thumb before) (says_area area l l.statement.what thumb) (contents_of area before) (contents_in area l l.statement.what)
-    (lines_alike area thumb before h.1) (line_alike area thumb l before l.statement.what h.0)
+    (lines_alike S all area thumb before p.0)
+    (line_alike area thumb l before l.statement.what (line_kinds S all l before (told_none l.statement (layout_kinds S all l before) p.1)).1)
 
 -- ---- an area that isn't listed
 
@@ -170,19 +131,21 @@ past_all (a ∷ areas) (suc i) e = let h = past_all areas i e in omega arith
 
 code_alike : (w : ℕ) (o : Option Contents) → AreAlike (Some w) o → marks_code w ≡ holds_code o
 code_alike w None h = absurd h
-code_alike w (Some c) h = h.0
+code_alike w (Some c) h = h
 
-kept_alike : (w : ℕ) (o : Option Contents) → AreAlike (Some w) o → is_kept o ≡ not (marks_zeroes w)
+kept_alike : (w : ℕ) (o : Option Contents) → Agree (Some w) o → is_kept o ≡ not (marks_zeroes w)
 kept_alike w None h = absurd h
-kept_alike w (Some c) h = h.1
+kept_alike w (Some contents.Code) h = sym (ap not h)
+kept_alike w (Some contents.Data) h = sym (ap not h)
+kept_alike w (Some contents.Zeroes) h = sym (ap not h)
 
 -- an area keeps its bytes unless its attributes have the bit of zeros
 pub zeroes_there : (statements : List Statement) → layout_faults statements ≡ None → (area w : ℕ)
     → attributes_of area (is_thumb_area area (statements_of (laid statements))) (laid statements) ≡ Some w → is_kept (contents_of area (laid statements)) ≡ not (marks_zeroes w)
 zeroes_there statements e area w is =
     kept_alike w (contents_of area (laid statements))
-    (subst (λ (o : Option ℕ). AreAlike o (contents_of area (laid statements))) is
-    (lines_alike area (is_thumb_area area (statements_of (laid statements))) (laid statements) (are_aligned statements e [] (laid statements) refl)))
+    (subst (λ (o : Option ℕ). Agree o (contents_of area (laid statements))) is
+    (lines_agree (settled (equals_in statements)) statements area (is_thumb_area area (statements_of (laid statements))) (laid statements) (layout_sound statements e)))
 
 same_low : (m n : ℕ) → m ≡ n → n ≤ m
 same_low m n e = omega arith
@@ -195,7 +158,7 @@ code_there statements areas h e area = got areas area ∙ by_area (slice_get are
     all = laid statements
 
     alike : AreAlike (attributes_of area (is_thumb_area area (statements_of (laid statements))) (laid statements)) (contents_of area (laid statements))
-    alike = lines_alike area (is_thumb_area area (statements_of (laid statements))) (laid statements) (are_aligned statements e [] (laid statements) refl)
+    alike = lines_alike (settled (equals_in statements)) statements area (is_thumb_area area (statements_of (laid statements))) (laid statements) (layout_sound statements e)
 
     by_area : (o : Option LaidArea) → slice_get areas area ≡ o → marked_at o ≡ holds_code (contents_of area (laid statements))
     by_area (Some a) is =

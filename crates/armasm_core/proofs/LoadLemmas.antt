@@ -27,7 +27,7 @@ use Rattle.asm_model.specs.Offsets.{Piece, start_in}
 use Rattle.armasm_core.specs.Loaded as own
 use Rattle.armasm_core.specs.declared.whole.Whole.{Whole}
 use Rattle.armasm_core.proofs.LiteralLemmas.{IsPlaced, free_there, literal_there}
-use Rattle.armasm_core.proofs.SplitLemmas.{IsBehind, behind_there, split_there, none_there}
+use Rattle.armasm_core.proofs.SplitLemmas.{IsBehind, behind_there, split_there, layout_there}
 use Rattle.source_laws.proofs.WithinLemmas.{IsWithin, line_within}
 use Rattle.armasm_core.specs.Listing.{StandsThere}
 use Rattle.asm_areas.proofs.LateLemmas.{joined_pieces}
@@ -96,7 +96,7 @@ loaded pools statements areas w before rest l x h = by_area l.area refl
     by_area : (o : Option ℕ) → l.area ≡ o → literal_in (taken l.extent) ≡ own.literal_in areas x.area x.literal
     by_area None e =
         let b = behind_there (declared_names statements) statements rest l before h.said h.parts in
-        let laying = (none_there statements rest l before h.sound h.parts).laying in
+        let laying = layout_there statements rest l before h.sound h.parts in
         let here : no_area_kinds None (defined_by l.statement) l.statement.what ≡ [] =
         subst (λ (o : Option ℕ). no_area_kinds o (defined_by l.statement) l.statement.what ≡ []) e (has_area (settled (equals_in statements)) statements l before laying) in
         ap (λ (r : Result Extent LineKind). literal_in (taken r)) (extent_is (declared_names statements) l before b)

@@ -37,7 +37,7 @@ use Rattle.armasm_core.proofs.GivingLemmas.{small_there, gives_there}
 use Rattle.armasm_core.proofs.LiteralLemmas.{IsPlaced}
 use Rattle.armasm_core.proofs.LiteralLemmas as placed
 use Rattle.source_laws.proofs.FaultlessLemmas.{layout_sound}
-use Rattle.armasm_core.proofs.SplitLemmas.{IsBehind, behind_there, split_there, none_there}
+use Rattle.armasm_core.proofs.SplitLemmas.{IsBehind, behind_there, split_there, registers_there}
 use Rattle.source_laws.proofs.WithinLemmas.{IsWithin, context_within}
 use Rattle.armasm_core.specs.Listing.{StandsThere}
 use Rattle.armasm_core.proofs.LoadLemmas.{area_there, areas_low, within_there, seen_there, loaded}
@@ -175,4 +175,4 @@ pub given_there : (statements : List Statement) (areas : List LaidArea) (w : Who
 given_there statements areas w known before rest l x y n h shows i =
     let c = context_there statements before l in
     gives_there c (register_names statements) l before n (subst (λ (s : Statement). IsNumber c s.what n) h.line.statement i) shows.known
-    (none_there statements rest l before h.sound h.parts).registers
+    (registers_there statements rest l before h.sound h.parts)

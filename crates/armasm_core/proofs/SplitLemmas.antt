@@ -13,6 +13,7 @@ use Rattle.asm_model.specs.LayoutKinds.{layout_kinds, told_at, first_fault, firs
 use Rattle.said_model.specs.Said.{IsSaid, AllSaid}
 use Rattle.source_model.specs.Registers.{register_names, register_kinds}
 use Rattle.source_model.specs.SourceFaults.{first_laid, layout_faults}
+use Rattle.object_laws.proofs.FaultLemmas.{layout_here}
 use Rattle.armasm_core.proofs.LoopLemmas.{append_one}
 
 -- ---- a line is laid behind others
@@ -56,28 +57,17 @@ first_before names fixed all (l ∷ rest) before e =
     let h = first_before names fixed all rest (l ∷ before) e in
     (or_none (first_laid names fixed all before) (told_at l.statement (told_kind (layout_kinds fixed all l before ++ register_kinds names l before))) h).0
 
-pub record HasNone (statements : List Statement) (l : LaidLine) (before : List LaidLine) : Type 0 where
-  pub laying : layout_kinds (settled (equals_in statements)) statements l before ≡ []
-  pub registers : register_kinds (register_names statements) l before ≡ []
-
-own_none : (names fixed : List (List ℕ)) (all : List Statement) (l : LaidLine) (before : List LaidLine) → first_laid names fixed all (l ∷ before) ≡ None
-    → (layout_kinds fixed all l before ≡ []) × (register_kinds names l before ≡ [])
-own_none names fixed all l before e =
-    let kinds = layout_kinds fixed all l before ++ register_kinds names l before in
-    both_empty (layout_kinds fixed all l before) (register_kinds names l before)
-    (told_none l.statement kinds (or_none (first_laid names fixed all before) (told_at l.statement (told_kind kinds)) e).1)
-
-first_none : (statements : List Statement) → layout_faults statements ≡ None
-    → first_laid (register_names statements) (settled (equals_in statements)) statements (laid statements) ≡ None
-first_none statements e =
-    (or_none (first_laid (register_names statements) (settled (equals_in statements)) statements (laid statements))
-    (first_late (laid statements) [] (reversed (laid statements) [])) e).0
-
-pub none_there : (statements : List Statement) (rest : List LaidLine) (l : LaidLine) (before : List LaidLine) → layout_faults statements ≡ None
-    → laid statements ≡ reversed rest (l ∷ before) → HasNone statements l before
-none_there statements rest l before e parts =
+pub registers_there : (statements : List Statement) (rest : List LaidLine) (l : LaidLine) (before : List LaidLine) → layout_faults statements ≡ None
+    → laid statements ≡ reversed rest (l ∷ before) → register_kinds (register_names statements) l before ≡ []
+registers_there statements rest l before e parts =
     let names = register_names statements in
     let fixed = settled (equals_in statements) in
-    let whole = subst (λ (ls : List LaidLine). first_laid names fixed statements ls ≡ None) parts (first_none statements e) in
-    let r = own_none names fixed statements l before (first_before names fixed statements rest (l ∷ before) whole) in
-    record { laying = r.0; registers = r.1 }
+    let kinds = layout_kinds fixed statements l before ++ register_kinds names l before in
+    let whole = subst (λ (ls : List LaidLine). first_laid names fixed statements ls ≡ None) parts
+    (or_none (first_laid names fixed statements (laid statements)) (first_late (laid statements) [] (reversed (laid statements) [])) e).0 in
+    let here = or_none (first_laid names fixed statements before) (told_at l.statement (told_kind kinds)) (first_before names fixed statements rest (l ∷ before) whole) in
+    (both_empty (layout_kinds fixed statements l before) (register_kinds names l before) (told_none l.statement kinds here.1)).1
+
+pub layout_there : (statements : List Statement) (rest : List LaidLine) (l : LaidLine) (before : List LaidLine) → layout_faults statements ≡ None
+    → laid statements ≡ reversed rest (l ∷ before) → layout_kinds (settled (equals_in statements)) statements l before ≡ []
+layout_there statements rest l before e parts = layout_here statements e (reversed rest []) before l (split_there (laid statements) rest l before parts)

@@ -1,3 +1,5 @@
+use Rattle.std.proofs.Common.{inl, refl}
+use Rattle.std.proofs.lemmas.Result.{err_from_is_err_and}
 use Rattle.armasm_core.specs.Emission.{IsEmittable}
 use Rattle.armasm_core.proofs.ObjectLemmas.{areas_there, count_there, few_there}
 use Rattle.armasm_core.proofs.emission.object_of.Goals as goal
@@ -34,3 +36,18 @@ returns-clause-emitted c = λ statements layout said sound states.
         entry = c.entry_of.ensures statements layout;
       },
     )
+
+pub returns-in_err-symbols-clause-emitted : goal.returns-in_err-symbols-clause-emitted
+returns-in_err-symbols-clause-emitted c = λ statements layout said sound states.
+    let p = err_from_is_err_and c.from_residual-in_err-symbols.result c.from_residual-in_err-symbols.ensures.1 in rw (p.1, p.2) (inl refl)
+
+pub returns-in_err-growing-clause-emitted : goal.returns-in_err-growing-clause-emitted
+returns-in_err-growing-clause-emitted c = λ statements layout said sound states.
+    let p = err_from_is_err_and c.from_residual-in_err-growing.result c.from_residual-in_err-growing.ensures.1 in
+    rw (p.1, p.2)
+    (c.in_err-growing.ensures.grown statements
+    (record { layout = layout; said = said; sound = sound; states = states; whole = c.in_ok-whole.ensures statements layout }))
+
+pub returns-in_err-areas-clause-emitted : goal.returns-in_err-areas-clause-emitted
+returns-in_err-areas-clause-emitted c = λ statements layout said sound states.
+    let p = err_from_is_err_and c.from_residual-in_err-areas.result c.from_residual-in_err-areas.ensures.1 in rw (p.1, p.2) (inl refl)
