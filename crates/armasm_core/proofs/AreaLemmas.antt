@@ -1,10 +1,9 @@
 -- An area holds code, or zeros, where its attributes have the bit.
-use Rattle.std.proofs.Common.{◌≡◌, ◌≤◌, ◌<◌, ℕ, zero, suc, ◌+◌, ◌*◌, ◌/◌, ◌%◌, ◌^◌, Bool, true, false, cond, List, [], ◌∷◌, ◌++◌, length, map, get_or, Option, Some, None, refl, sym, ap, ◌∙◌, subst, arith}
-use Rattle.std.specs.Prelude.{nat_lt, ◌==◌, not}
+use Rattle.std.proofs.Common.{◌≡◌, ◌≤◌, ◌<◌, ℕ, zero, suc, ◌+◌, ◌*◌, ◌/◌, ◌%◌, ◌^◌, Bool, true, false, cond, List, [], ◌∷◌, length, map, get_or, Option, Some, None, refl, sym, ap, ◌∙◌, subst, arith}
+use Rattle.std.specs.Prelude.{◌==◌, not}
 use Rattle.std.specs.List.{slice_get}
 use Rattle.sdt_word.specs.Numbers.{flag}
-use Rattle.sdt_fault.specs.declared.kinds.LineKind.{LineKind}
-use Rattle.sdt_fault.specs.declared.kinds.LineKind.TheVariants.{TooMany, BadOperand}
+use Rattle.sdt_fault.specs.declared.kinds.LineKind.TheVariants.{BadOperand}
 use Rattle.asm_layout.specs.Layout.{AreAreas}
 use Rattle.layout_laws.proofs.SoundLemmas.{both_empty, or_none, told_none}
 use Rattle.asm_model.specs.declared.directives.AreaAttributes.{AreaAttributes}
@@ -18,10 +17,9 @@ use Rattle.asm_model.specs.Directives.{or_else}
 use Rattle.asm_model.specs.Kinds.{told_kind}
 use Rattle.asm_layout.specs.declared.laid.LaidArea.{LaidArea}
 use Rattle.asm_model.specs.Before.{areas_behind, is_code}
-use Rattle.asm_model.specs.Labels.{defined_by}
 use Rattle.asm_model.specs.declared.names.LaidName.{LaidName}
 use Rattle.asm_model.specs.Labels.{declared_names}
-use Rattle.asm_model.specs.Laid.{LaidLine, laid, laid_of, laid_behind, statements_of, reversed}
+use Rattle.asm_model.specs.Laid.{LaidLine, laid, laid_of, laid_behind, statements_of}
 use Rattle.asm_model.specs.LayoutKinds.{exponent, exponent_kinds, area_kinds, is_named_otherwise, layout_kinds, first_fault, told_at, settled, equals_in, kind_if, is_thumb_area}
 use Rattle.asm_model.specs.Offsets.{is_of}
 use Rattle.source_model.specs.Objects.{attributes_word, contents_bits, or_two, says_area, attributes_of, contents_in, contents_of, holds_code, is_kept}

@@ -20,7 +20,7 @@ use Rattle.asm_names.specs.declared.lines.PlacedLine.{PlacedLine}
 use Rattle.asm_names.specs.Lines.{Sees}
 use Rattle.asm_layout.specs.Layout.{AreAreas}
 use Rattle.asm_layout.specs.Lines.{IsLineOf}
-use Rattle.asm_model.specs.Laid.{LaidLine, laid, laid_of, laid_behind, map_behind, taken, pieces_of, reversed, statements_of}
+use Rattle.asm_model.specs.Laid.{LaidLine, laid, map_behind, taken, pieces_of, reversed, statements_of}
 use Rattle.asm_model.specs.LayoutKinds.{layout_kinds, fault_kinds, map_kinds, no_area_kinds, contents_kinds, contents_behind, area_kinds, name_kinds, first_equal, settled_kinds, state_kinds, kind_if, area_bytes, settled, equals_in}
 use Rattle.asm_model.specs.OffsetLaws.{joined}
 use Rattle.asm_model.specs.Offsets.{Piece, start_in}

@@ -1,15 +1,12 @@
 -- A line among those of a source, and that it has no fault of its own.
 use Rattle.std.proofs.Common.{◌≡◌, ℕ, List, [], ◌∷◌, ◌++◌, None, refl, sym, ap, ◌∙◌, subst}
-use Rattle.sdt_fault.specs.declared.kinds.LineKind.{LineKind}
 use Rattle.layout_laws.proofs.SoundLemmas.{both_empty}
 use Rattle.asm_model.specs.declared.statements.Statement.{Statement}
-use Rattle.asm_model.specs.Directives.{or_else}
 use Rattle.asm_model.specs.Kinds.{told_kind}
 use Rattle.layout_laws.proofs.SoundLemmas.{or_none, told_none}
-use Rattle.asm_model.specs.Sound.{IsSound}
 use Rattle.asm_model.specs.declared.names.LaidName.{LaidName}
 use Rattle.asm_model.specs.Laid.{LaidLine, laid, laid_of, laid_behind, reversed}
-use Rattle.asm_model.specs.LayoutKinds.{layout_kinds, told_at, first_fault, first_late, settled, equals_in}
+use Rattle.asm_model.specs.LayoutKinds.{layout_kinds, told_at, first_late, settled, equals_in}
 use Rattle.said_model.specs.Said.{IsSaid, AllSaid}
 use Rattle.source_model.specs.Registers.{register_names, register_kinds}
 use Rattle.source_model.specs.SourceFaults.{first_laid, layout_faults}

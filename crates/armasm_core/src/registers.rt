@@ -8,8 +8,8 @@ ghost use Rattle.armasm_core.specs.Giving.{gives};
 use asm_model::{DirectiveLine, Statement, What};
 use asm_registers::giving::{given, note};
 use asm_sets::NameMap;
-use sdt_fault::kinds::LineKind;
 use sdt_fault::NoMemory;
+use sdt_fault::kinds::LineKind;
 use std::alloc::Global;
 
 /// From now on the name that a statement gives a register stands for it.

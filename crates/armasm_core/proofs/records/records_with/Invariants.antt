@@ -1,4 +1,4 @@
-use Rattle.std.proofs.Common.{◌≡◌, ℕ, List, take, map}
+use Rattle.std.proofs.Common.{◌≡◌, take, map}
 use Rattle.source_model.specs.Objects.{Source, symbol_named}
 use Rattle.asm_units.specs.Recording.{Shows}
 use Rattle.armasm_core.proofs.records.records_with.Given as goal
