@@ -1,7 +1,7 @@
 -- One source to one object, or its first fault. A source is judged in passes: its expansion, what its flat lines say and
 -- their layout, and its values. The first pass with a fault counts, in it the first line, and there the first kind. SDT
 -- 2.50 Reference Guide, chapter on the assembler; the order of faults and the limit are this project's.
-use Rattle.std.specs.Prelude.{◌≡◌, ◌⊎◌, ℕ, ◌^◌, ◌<◌, ◌≤◌, ◌==◌, ◌&&◌, List, [], length, Bool, true, false, if◌then◌else◌, Option, Some, None, Result, Ok, Err}
+use Rattle.std.specs.Prelude.{◌≡◌, ◌⊎◌, ℕ, ◌^◌, ◌<◌, ◌≤◌, ◌==◌, ◌&&◌, List, [], length, codes, Bool, if◌then◌else◌, Option, Some, None, Result, Ok, Err}
 use Rattle.std.specs.List.{list_any}
 use Rattle.sdt_fault.specs.declared.answer.Fault.{Fault}
 use Rattle.sdt_fault.specs.declared.answer.Fault.TheVariants as fault
@@ -13,20 +13,19 @@ use Rattle.sdt_fault.specs.declared.refusal.Refusal.TheVariants.{BadLine, Missin
 use Rattle.sdt_outside.specs.Files.{Files, content, IsMissing}
 use Rattle.aof_object.specs.declared.records.Object.{Object}
 use Rattle.asm_layout.specs.Front.{front_laid}
-use Rattle.asm_model.specs.declared.directives.DirectiveLine.TheVariants as line
 use Rattle.asm_model.specs.declared.lines.Flat.{Flat}
 use Rattle.asm_model.specs.declared.statements.Statement.{Statement}
-use Rattle.asm_model.specs.declared.statements.What.{What}
-use Rattle.asm_model.specs.declared.statements.What.TheVariants as what
 use Rattle.asm_model.specs.Directives.{or_else}
 use Rattle.asm_model.specs.Forms.{same}
 use Rattle.asm_model.specs.Kinds.{earlier}
 use Rattle.asm_model.specs.Laid.{reversed}
+use Rattle.asm_model.specs.Tokens.{is_called}
 use Rattle.asm_reading.specs.declared.reading.Reading.{Reading}
 use Rattle.asm_reading.specs.declared.reading.Unread.{Unread}
 use Rattle.asm_reading.specs.Reading.{IsReading}
 use Rattle.expand_model.specs.Expands.{Outcome, Flats, FaultAt, MissingFile, Expands}
 use Rattle.expand_model.specs.Steps.{Sources, visit_limit}
+use Rattle.expand_model.specs.Words.{words_of}
 use Rattle.source_model.specs.Objects.{IsObject}
 use Rattle.source_model.specs.SourceFaults.{layout_faults, value_faults}
 
@@ -40,12 +39,9 @@ most_bytes = 2 ^ 24
 abbrev pub said_by : Reading → List Statement
 said_by r = reversed r.statements.items []
 
-abbrev pub is_area : What → Bool
-is_area (what.Directive (line.Area name attributes)) = true
-is_area _ = false
-
-abbrev pub has_area : List Statement → Bool
-has_area statements = list_any (λ s. is_area s.what) statements
+-- whether a line's operation is AREA, also where the line can't be read
+abbrev pub says_area : Flat → Bool
+says_area f = is_called (codes "AREA") (words_of f.text).operation
 
 -- ---- its faults
 
@@ -67,26 +63,27 @@ without_area name (Some (BadLine source number kind)) =
     BadLine name 1 (if same source name && number == 1 then earlier NoArea kind else NoArea)
 without_area name _ = BadLine name 1 NoArea
 
-abbrev pub reading_faults : List ℕ → Reading → Option Refusal
-reading_faults name r =
-    if has_area r.statements.items then line_faults (said_by r) r.before r.unread
+-- of a reading of these flat lines
+abbrev pub reading_faults : List ℕ → List Flat → Reading → Option Refusal
+reading_faults name flats r =
+    if list_any says_area flats then line_faults (said_by r) r.before r.unread
     else Some (without_area name (line_faults (said_by r) r.before r.unread))
 
-abbrev pub source_faults : List ℕ → Reading → Option Refusal
-source_faults name r = or_else (reading_faults name r) (told (value_faults (said_by r)))
+abbrev pub source_faults : List ℕ → List Flat → Reading → Option Refusal
+source_faults name flats r = or_else (reading_faults name flats r) (told (value_faults (said_by r)))
 
 -- ---- its object
 
 -- what a reading of the flat lines makes: its first fault, or the object of its statements
-abbrev pub ReadingMakes : List ℕ → Reading → Result Object Refusal → Type 0
-ReadingMakes name r (Ok o) = (source_faults name r ≡ None) × IsObject (said_by r) o
-ReadingMakes name r (Err refusal) = source_faults name r ≡ Some refusal
+abbrev pub ReadingMakes : List ℕ → List Flat → Reading → Result Object Refusal → Type 0
+ReadingMakes name flats r (Ok o) = (source_faults name flats r ≡ None) × IsObject (said_by r) o
+ReadingMakes name flats r (Err refusal) = source_faults name flats r ≡ Some refusal
 
 -- what the flat lines of the source of this name make
 pub record FlatsMake (name : List ℕ) (flats : List Flat) (made : Result Object Refusal) : Type 0 where
   pub reading : Reading
   pub says : IsReading flats reading
-  pub makes : ReadingMakes name reading made
+  pub makes : ReadingMakes name flats reading made
 
 -- what an outcome of its expansion makes
 abbrev pub OutcomeMakes : List ℕ → Outcome → Result Object Refusal → Type 0

@@ -1,10 +1,10 @@
 -- What a line sees of names. It knows the names of labels, imports, registers and map fields that the lines before it
--- define, and its own but for the size of its statement; a name for an expression is known behind its line where that
--- line knew the expression's value or what is wrong with it. A name that the source defines and the line doesn't know means
+-- define, and its own but for the size of its statement; a name for an expression is known behind its line with the value
+-- that its line knew, or with what is wrong with it there. A name that the source defines and the line doesn't know means
 -- something later: it is Forward. This project's.
 use Rattle.std.specs.Prelude.{◌≡◌, ℕ, List, [], ◌∷◌, ◌++◌, Bool, true, false, if◌then◌else◌, Option, Some, None, Result, Ok, Err}
 use Rattle.sdt_fault.specs.declared.kinds.LineKind.{LineKind}
-use Rattle.sdt_fault.specs.declared.kinds.LineKind.TheVariants.{Forward}
+use Rattle.sdt_fault.specs.declared.kinds.LineKind.TheVariants.{UnknownWord, Forward}
 use Rattle.asm_model.specs.declared.exprs.ExprItem.{ExprItem}
 use Rattle.asm_model.specs.declared.exprs.ExprItem.TheVariants as item
 use Rattle.asm_model.specs.declared.exprs.UnaryOp.TheVariants as unary
@@ -44,16 +44,11 @@ own_names (Equated make t) = []
 abbrev pub names_at : List LaidName → List LaidName → SourceLine → Names
 names_at all seen l = with_names l (seen ++ own_names l.definition ++ all)
 
--- the entry that the result of an expression makes, unless it needs a later name
-abbrev pub known_entry : (Result Value LineKind → LaidName) → Result Value LineKind → List LaidName
-known_entry make (Err Forward) = []
-known_entry make r = make r ∷ []
-
 -- the names that a line which sees these adds to those that are known
 abbrev pub added_names : Names → Definition → List LaidName
 added_names names Nameless = []
 added_names names (Named n) = n ∷ []
-added_names names (Equated make t) = known_entry make (meaning names t)
+added_names names (Equated make t) = make (meaning names t) ∷ []
 
 -- the names that are known behind lines, the nearest first
 abbrev pub seen_behind : List LaidName → List SourceLine → List LaidName
@@ -87,10 +82,11 @@ kept_names names (Before unary.Defined (Leaf i)) = Before unary.Defined (Leaf i)
 kept_names names (Before op t) = Before op (kept_names names t)
 kept_names names (Between op t u) = Between op (kept_names names t) (kept_names names u)
 
--- a number that is known, or else one name plus a number; else Forward
+-- a number that is known, or else one name plus a number; else Forward, but where it has what nothing defines
 abbrev pub literal_or : Result Value LineKind → Result Value LineKind → Result Value LineKind
 literal_or (Ok (Number n)) other = Ok (Number n)
 literal_or x (Ok (Place name n)) = Ok (Place name n)
+literal_or x (Err UnknownWord) = Err UnknownWord
 literal_or x other = Err Forward
 
 -- the literal of an expression by what its line sees

@@ -41,14 +41,9 @@ later_entry name thumb = entry name means.Later None thumb
 abbrev pub valued_entry : List ℕ → Value → Bool → LaidName
 valued_entry name v thumb = entry name (means.Known v) (Some 0) thumb
 
--- the size of a name that is no label is 0, once its line is laid
-abbrev pub none_or_zero : Option ℕ → Option ℕ
-none_or_zero None = None
-none_or_zero (Some n) = Some 0
-
 -- a field of the storage map
-abbrev pub field_entry : List ℕ → ℕ → Option ℕ → LaidName
-field_entry name map size = entry name (means.Known (Number map)) (none_or_zero size) false
+abbrev pub field_entry : List ℕ → ℕ → LaidName
+field_entry name map = entry name (means.Known (Number map)) (Some 0) false
 
 abbrev pub thumb_of : Option LaidName → Bool
 thumb_of None = false

@@ -1,9 +1,8 @@
 -- The grammar of expressions: operators have levels, each level joins to the left, and parentheses group. The
 -- levels are this project's profile of those in the ARM SDT 2.50 Reference Guide, chapter on the assembler.
-use Rattle.std.specs.Prelude.{◌≡◌, ℕ, suc, List, [], ◌∷◌, ◌++◌, true, false, Option, Some, None, map, Result, Ok, Err, ◌⊎◌}
-use Rattle.std.specs.List.{list_any}
+use Rattle.std.specs.Prelude.{◌≡◌, ℕ, suc, List, [], ◌∷◌, ◌++◌, Option, Some, None, map, Result, Ok, Err}
 use Rattle.sdt_fault.specs.declared.kinds.LineKind.{LineKind}
-use Rattle.sdt_fault.specs.declared.kinds.LineKind.TheVariants.{Syntax, Constant}
+use Rattle.sdt_fault.specs.declared.kinds.LineKind.TheVariants.{Syntax}
 use Rattle.asm_model.specs.declared.tokens.Token.{Token}
 use Rattle.asm_model.specs.declared.exprs.Expr.{Expr}
 use Rattle.asm_model.specs.declared.exprs.ExprItem.{ExprItem}
@@ -13,8 +12,7 @@ use Rattle.asm_model.specs.declared.exprs.Part.TheVariants as part
 use Rattle.asm_model.specs.declared.exprs.UnaryOp.{UnaryOp}
 use Rattle.asm_model.specs.declared.exprs.BinaryOp.{BinaryOp}
 use Rattle.asm_model.specs.declared.exprs.BinaryOp.TheVariants.{Multiply, Divide, Modulo, Left, Right, Concatenate, RotateLeft, RotateRight, ShiftLeft, ShiftRight, Add, Subtract, And, Or, ExclusiveOr, Equal, NotEqual, Less, LessEqual, Greater, GreaterEqual, LogicalAnd, LogicalOr, LogicalExclusiveOr}
-use Rattle.asm_model.specs.declared.values.Value.TheVariants.{Number}
-use Rattle.asm_model.specs.Parts.{part_of, is_large}
+use Rattle.asm_model.specs.Parts.{part_of}
 
 -- the level of an operator between operands, the tightest first; operators before an operand are tighter
 abbrev pub level : BinaryOp → ℕ
@@ -64,7 +62,6 @@ plain i = Some i
 -- the operand that a part is
 abbrev pub operand_of : Part → Option ExprItem
 operand_of (part.Operand i) = plain i
-operand_of part.TooLarge = Some (item.Constant (Number 0))
 operand_of part.Open = None
 operand_of part.Close = None
 operand_of (part.Prefix op) = None
@@ -76,7 +73,6 @@ operand_of part.Other = None
 -- the operator that a part is before an operand
 abbrev pub before_of : Part → Option UnaryOp
 before_of (part.Operand i) = None
-before_of part.TooLarge = None
 before_of part.Open = None
 before_of part.Close = None
 before_of (part.Prefix op) = Some op
@@ -88,7 +84,6 @@ before_of part.Other = None
 -- the operator that a part is between operands
 abbrev pub between_of : Part → Option BinaryOp
 between_of (part.Operand i) = None
-between_of part.TooLarge = None
 between_of part.Open = None
 between_of part.Close = None
 between_of (part.Prefix op) = None
@@ -111,13 +106,10 @@ pub data Spells : ℕ → List Part → Tree → Type 0 where
 abbrev pub IsSpelled : List Part → Tree → Type 0
 IsSpelled ps t = Spells 6 ps t
 
--- what reading tokens of a line as an expression gives: its items; Syntax exactly where they spell none;
--- Constant where a number in them is too large
+-- what reading tokens of a line as an expression gives: its items, or Syntax exactly where they spell none
 abbrev pub Parses : List Part → Result Expr LineKind → Type 0
-Parses ps (Ok e) = ((t : Tree) × IsSpelled ps t × (e.items ≡ postfix t)) × (list_any is_large ps ≡ false)
-Parses ps (Err kind) =
-    ((kind ≡ Syntax) × ((t : Tree) → IsSpelled ps t → ⊥))
-    ⊎ ((kind ≡ Constant) × ((t : Tree) × IsSpelled ps t) × (list_any is_large ps ≡ true))
+Parses ps (Ok e) = (t : Tree) × IsSpelled ps t × (e.items ≡ postfix t)
+Parses ps (Err kind) = (kind ≡ Syntax) × ((t : Tree) → IsSpelled ps t → ⊥)
 
 -- the same, of tokens of a line
 abbrev pub ParsesTokens : List ℕ → List Token → Result Expr LineKind → Type 0

@@ -95,7 +95,7 @@ abbrev pub definition_of : List LaidName → Defined → Option ℕ → ℕ → 
 definition_of names Unnamed area offset size thumb map = Nameless
 definition_of names (Label name) area offset size thumb map = Named (label_entry name area offset size thumb)
 definition_of names (Equal name e) area offset size thumb map = tree_equated names area name (tree_of e)
-definition_of names (MapField name) area offset size thumb map = Named (field_entry name map size)
+definition_of names (MapField name) area offset size thumb map = Named (field_entry name map)
 definition_of names (RegisterName name r) area offset size thumb map = Named (register_entry name)
 
 -- a line of the source with a definition

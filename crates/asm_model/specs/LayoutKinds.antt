@@ -1,12 +1,12 @@
--- The kinds of faults that laying out finds at a line, besides those of reading it: NoArea, DuplicateName, places where a
--- statement may not stand, areas that are named again otherwise, what must be known at its line, names that depend on
+-- The kinds of faults that a line which can be read has by itself and by the lines around it: a number that is too large,
+-- NoArea, DuplicateName, places where a statement may not stand, areas that are named again otherwise, what must be known at its line, names that depend on
 -- themselves, an ENTRY in another state than its area's, and areas that grow too large. SDT 2.50 Reference Guide, chapter
 -- on the assembler; the kinds are this project's. What needs the whole layout, as an ENTRY's place and the pool at an
 -- area's end, counts only where no line has a kind of these.
 use Rattle.std.specs.Prelude.{ℕ, zero, suc, ◌+◌, ◌^◌, ◌==◌, ◌&&◌, ◌||◌, not, nat_lt, List, [], ◌∷◌, ◌++◌, length, Bool, true, false, if◌then◌else◌, Option, Some, None, Result, Ok, Err}
 use Rattle.std.specs.List.{list_any}
 use Rattle.sdt_fault.specs.declared.kinds.LineKind.{LineKind}
-use Rattle.sdt_fault.specs.declared.kinds.LineKind.TheVariants.{BadOperand, Forward, DuplicateName, NoArea, TooMany}
+use Rattle.sdt_fault.specs.declared.kinds.LineKind.TheVariants.{BadOperand, Constant, Forward, DuplicateName, NoArea, TooMany}
 use Rattle.asm_model.specs.declared.exprs.Expr.{Expr}
 use Rattle.asm_model.specs.declared.exprs.ExprItem.{ExprItem}
 use Rattle.asm_model.specs.declared.exprs.ExprItem.TheVariants as item
@@ -21,6 +21,7 @@ use Rattle.asm_model.specs.declared.statements.What.TheVariants as what
 use Rattle.asm_model.specs.declared.names.Names.{Names}
 use Rattle.asm_model.specs.Before.{thumb_behind, area_behind}
 use Rattle.asm_model.specs.Directives.{or_else}
+use Rattle.asm_model.specs.Exprs.{has_large}
 use Rattle.asm_model.specs.Forms.{same}
 use Rattle.asm_model.specs.Kinds.{told_kind}
 use Rattle.asm_model.specs.Extents.{Extent, Loading, number_there}
@@ -279,7 +280,7 @@ layout_kinds settled all l before =
     ++ contents_kinds (contents_behind (l.statement ∷ statements_of before)) l.thumb l.statement.what
     ++ area_kinds l.seen l.statement.what before ++ name_kinds l.statement (statements_of before)
     ++ settled_kinds settled (first_equal (defined_by l.statement) (statements_of before)) ++ state_kinds l.area l.thumb l.statement.what all
-    ++ kind_if (nat_lt area_bytes (l.offset + l.size)) TooMany
+    ++ kind_if (nat_lt area_bytes (l.offset + l.size)) TooMany ++ kind_if (has_large l.statement.what) Constant
 
 -- a statement with the kind that is told of it
 abbrev pub told_at : Statement → Option LineKind → Option (Statement × LineKind)

@@ -17,6 +17,7 @@ pub mod Told
 pub mod Tokens
 pub mod Before
 pub mod Entries
+pub mod Exprs
 pub mod Extents
 pub mod Immediates
 pub mod Labels

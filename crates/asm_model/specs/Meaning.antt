@@ -8,7 +8,7 @@ use Rattle.std.specs.declared.cmp.Ordering.{Ordering}
 use Rattle.std.specs.Ordering.{nat_cmp, is_lt, is_le, is_eq, is_gt, is_ge}
 use Rattle.std.specs.Cmp.Lexicographic.{slice_cmp}
 use Rattle.sdt_fault.specs.declared.kinds.LineKind.{LineKind}
-use Rattle.sdt_fault.specs.declared.kinds.LineKind.TheVariants.{Syntax, UnknownWord, Forward, WrongType, OutOfRange, DivideByZero, TooMany}
+use Rattle.sdt_fault.specs.declared.kinds.LineKind.TheVariants.{Syntax, UnknownWord, Constant, Forward, WrongType, OutOfRange, DivideByZero, TooMany}
 use Rattle.sdt_fault.specs.Digits.{hexadecimal_places}
 use Rattle.asm_model.specs.declared.exprs.ExprItem.{ExprItem}
 use Rattle.asm_model.specs.declared.exprs.ExprItem.TheVariants as item
@@ -230,11 +230,13 @@ applied unary.Size (Unread n) = size_of n
 applied unary.Defined (Unread n) = defined_of n
 applied op x = then_of (known x) (unary_of op)
 
--- an item that is an operand; a reference to a local label that is still one names nothing
+-- an item that is an operand; a number that is too large is a faulty one, and a reference to a local label that is still
+-- one names nothing
 abbrev pub operand_of_item : Names → ExprItem → Operand
 operand_of_item names (item.Name name) = Unread (named_in name names.list)
 operand_of_item names (item.Local name) = Known (Err UnknownWord)
 operand_of_item names (item.Constant v) = Known (Ok v)
+operand_of_item names item.TooLarge = Known (Err Constant)
 operand_of_item names item.Here = Known (Ok (Place [] names.offset))
 operand_of_item names item.Map = Known (Ok (Number names.map))
 operand_of_item names item.CodeSize = Known (Ok (Number (if names.thumb then 16 else 32)))

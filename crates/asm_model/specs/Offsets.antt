@@ -98,6 +98,34 @@ size_behind (Some area) before e = size_of (waiting area before) (start_in area 
 abbrev pub area_size : ℕ → List Piece → ℕ
 area_size area all = raised (end_from (end_behind area all) (waiting area all) Pool) 4
 
+-- ---- pools
+
+-- literals with the offsets of their words, one behind the other
+abbrev pub words_from : ℕ → List Value → List (Value × ℕ)
+words_from at [] = []
+words_from at (v ∷ vs) = (v, at) ∷ words_from (at + 4) vs
+
+-- the pool of the area's literals that wait behind these statements
+abbrev pub pool_behind : ℕ → List Piece → List (Value × ℕ)
+pool_behind area before = words_from (start_in area before Pool) (waiting area before)
+
+abbrev pub is_pool : Extent → Bool
+is_pool Pool = true
+is_pool _ = false
+
+-- whether a statement is a pool of the area
+abbrev pub is_pool_of : ℕ → Piece → Bool
+is_pool_of area s = is_of area s.area && is_pool s.extent
+
+-- the words of the area's pools among these statements
+abbrev pub pooled : ℕ → List Piece → List (Value × ℕ)
+pooled area [] = []
+pooled area (s ∷ before) = if is_pool_of area s then pooled area before ++ pool_behind area before else pooled area before
+
+-- all, with those of the pool at the area's end
+abbrev pub all_pooled : ℕ → List Piece → List (Value × ℕ)
+all_pooled area all = pooled area all ++ pool_behind area all
+
 -- ---- the word of a literal
 
 -- the place of a literal among those that wait
@@ -108,14 +136,6 @@ place_among v (w ∷ ws) = if same_literal v w then 0 else place_among v ws + 1
 -- the word of a literal in the pool behind these statements
 abbrev pub word_behind : ℕ → List Piece → Value → ℕ
 word_behind area before v = start_in area before Pool + 4 * place_among v (waiting area before)
-
-abbrev pub is_pool : Extent → Bool
-is_pool Pool = true
-is_pool _ = false
-
--- whether a statement is a pool of the area
-abbrev pub is_pool_of : ℕ → Piece → Bool
-is_pool_of area s = is_of area s.area && is_pool s.extent
 
 -- the offset of a literal's word: in the next pool of the area, among these statements, or at the area's end
 abbrev pub literal_word : ℕ → List Piece → List Piece → Value → ℕ

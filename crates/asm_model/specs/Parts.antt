@@ -1,12 +1,13 @@
 -- What tokens are in an expression. ARM SDT 2.50 Reference Guide, chapter on the assembler; the values of
 -- {CONFIG}, {CODESIZE} and {ENDIAN} are this project's.
-use Rattle.std.specs.Prelude.{ℕ, ◌+◌, ◌-◌, ◌*◌, ◌^◌, List, [], ◌∷◌, length, take, drop, nat_lt, nat_le, ◌==◌, Bool, true, false, if◌then◌else◌, codes, fold}
+use Rattle.std.specs.Prelude.{ℕ, ◌+◌, ◌-◌, ◌*◌, ◌^◌, List, [], ◌∷◌, length, take, drop, nat_lt, nat_le, ◌==◌, true, false, if◌then◌else◌, codes, fold}
 use Rattle.asm_model.specs.declared.tokens.Token.{Token}
 use Rattle.asm_model.specs.declared.tokens.TokenKind.{TokenKind}
 use Rattle.asm_model.specs.declared.tokens.TokenKind.TheVariants as kind
+use Rattle.asm_model.specs.declared.exprs.ExprItem.{ExprItem}
 use Rattle.asm_model.specs.declared.exprs.ExprItem.TheVariants as item
 use Rattle.asm_model.specs.declared.exprs.Part.{Part}
-use Rattle.asm_model.specs.declared.exprs.Part.TheVariants.{Operand, TooLarge, Open, Close, Prefix, OfName, Infix, Sum, Other}
+use Rattle.asm_model.specs.declared.exprs.Part.TheVariants.{Operand, Open, Close, Prefix, OfName, Infix, Sum, Other}
 use Rattle.asm_model.specs.declared.exprs.UnaryOp.TheVariants as unary
 use Rattle.asm_model.specs.declared.exprs.BinaryOp.TheVariants as binary
 use Rattle.asm_model.specs.declared.values.Value.TheVariants.{Number, Truth, Words}
@@ -34,9 +35,9 @@ number_value (a ∷ b ∷ digits) =
     else if b == 95 then digits_value (a - 48) digits
     else digits_value 10 (a ∷ b ∷ digits)
 
--- a written number as an operand
-abbrev pub number_part : ℕ → Part
-number_part n = if nat_lt n (2 ^ 32) then Operand (item.Constant (Number n)) else TooLarge
+-- a written number
+abbrev pub number_item : ℕ → ExprItem
+number_item n = if nat_lt n (2 ^ 32) then item.Constant (Number n) else item.TooLarge
 
 -- the bytes of a string behind its first quote, up to its last, with one quote for two
 abbrev pub undoubled : List ℕ → List ℕ
@@ -118,7 +119,7 @@ sign_part (c ∷ cs) = if c == 58 then worded_part (c ∷ cs) else plain_part (c
 abbrev pub part_of_kind : TokenKind → List ℕ → Part
 part_of_kind kind.Name s = Operand (item.Name s)
 part_of_kind kind.Barred s = Operand (item.Name (take (length s - 2) (drop 1 s)))
-part_of_kind kind.Number s = number_part (number_value s)
+part_of_kind kind.Number s = Operand (number_item (number_value s))
 part_of_kind kind.Quoted s = Operand (item.Constant (Words (undoubled (drop 1 s))))
 part_of_kind kind.Character s = Operand (item.Constant (Number (character_value s)))
 part_of_kind kind.Braced s = braced_part s
@@ -128,15 +129,3 @@ part_of_kind kind.Sign s = sign_part s
 -- a token of a line
 abbrev pub part_of : List ℕ → Token → Part
 part_of text t = part_of_kind t.kind (piece text t)
-
--- whether a part is a number that is too large
-abbrev pub is_large : Part → Bool
-is_large (Operand i) = false
-is_large TooLarge = true
-is_large Open = false
-is_large Close = false
-is_large (Prefix op) = false
-is_large (OfName op) = false
-is_large (Infix op) = false
-is_large (Sum u b) = false
-is_large Other = false

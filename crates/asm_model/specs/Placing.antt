@@ -60,6 +60,7 @@ placed_names p names = record names { list = map (placed_name p names) names.lis
 abbrev pub placed_item : Placing → Names → ExprItem → ExprItem
 placed_item p names item.Here = item.Constant (placed_value p names (Place [] names.offset))
 placed_item p names (item.Constant v) = item.Constant (placed_value p names v)
+placed_item p names item.TooLarge = item.TooLarge
 placed_item p names (item.Name s) = item.Name s
 placed_item p names (item.Local s) = item.Local s
 placed_item p names item.Map = item.Map

@@ -15,6 +15,8 @@ pub enum ExprItem {
     /// A reference to a local label, as it is written.
     Local(Text),
     Constant(Value),
+    /// A number above 2^32 - 1.
+    TooLarge,
     /// This place: `.` or `{PC}`.
     Here,
     /// The storage map: `@` or `{VAR}`.
@@ -76,8 +78,6 @@ pub enum BinaryOp {
 #[derive(Debug, Drop)]
 pub enum Part {
     Operand(ExprItem),
-    /// A number above 2^32 - 1.
-    TooLarge,
     Open,
     Close,
     /// An operator before an operand.

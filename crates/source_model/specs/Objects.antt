@@ -31,11 +31,10 @@ use Rattle.asm_model.specs.Forms.{same}
 use Rattle.asm_model.specs.Meaning.{named_in, stands_at, value_of}
 use Rattle.asm_model.specs.Before.{areas_behind, place_of, is_code}
 use Rattle.asm_model.specs.Entries.{thumb_of}
-use Rattle.asm_model.specs.Extents.{Extent, Loading}
 use Rattle.asm_model.specs.Laid.{LaidLine, taken, pieces_of, laid, final_names}
 use Rattle.asm_model.specs.LayoutKinds.{exponent, is_entry, is_thumb_area}
 use Rattle.asm_model.specs.Marks.{datum_names}
-use Rattle.asm_model.specs.Offsets.{is_of, area_size}
+use Rattle.asm_model.specs.Offsets.{is_of, area_size, all_pooled}
 use Rattle.asm_model.specs.Symbols.{symbols_of, literal_value}
 use Rattle.source_model.specs.Contexts.{Context, sees}
 use Rattle.source_model.specs.SourceFaults.{context_of, word_of as literal_place}
@@ -68,7 +67,7 @@ abbrev pub attributes_of : ℕ → Bool → List LaidLine → Option ℕ
 attributes_of area thumb [] = None
 attributes_of area thumb (l ∷ before) = or_else (attributes_of area thumb before) (says_area area l l.statement.what thumb)
 
--- ---- what stands in an area
+-- ---- what lines put
 
 abbrev pub half_of : ThumbInstr → ℕ
 half_of i = word_of (thumb_row i) (thumb_fields i)
@@ -101,18 +100,9 @@ abbrev pub or_none : Result (List Emitted) LineKind → List Emitted
 or_none (Ok us) = us
 or_none (Err k) = []
 
-abbrev pub literal_unit : Option ℕ → Result Stored LineKind → List Piece
-literal_unit (Some at) (Ok w) = (at, Word w) ∷ []
-literal_unit _ _ = []
-
-abbrev pub literal_piece : Context → List (List ℕ) → Extent → Option ℕ → List Piece
-literal_piece c data_names (Loading n v) word = literal_unit word (stored c data_names (literal_value (sees c) v))
-literal_piece c data_names _ word = []
-
--- what a line puts into its area, the word of its literal too
+-- what a line puts into its area, where the word of its literal is at an offset, if it has one
 abbrev pub pieces_in : Context → List (List ℕ) → LaidLine → Option ℕ → List Piece
-pieces_in c data_names l word =
-    units_from l.offset (or_none (units c data_names l.seen word l.statement.what)) ++ literal_piece c data_names (taken l.extent) word
+pieces_in c data_names l word = units_from l.offset (or_none (units c data_names l.seen word l.statement.what))
 
 -- ---- the whole source
 
@@ -154,8 +144,32 @@ abbrev pub things_behind : Source → ℕ → List LaidLine → List LaidLine �
 things_behind s area [] rest = []
 things_behind s area (l ∷ before) rest = things_behind s area before (l ∷ rest) ++ things_of s area l before rest
 
+-- ---- pools
+
+-- what expressions see that are of no line, in an area or in none
+abbrev pub context_in : Source → Option ℕ → Context
+context_in s area = record {
+  names = s.names;
+  line = record { area = area; offset = 0; map = 0; thumb = false; definition = Nameless };
+  registers = [];
+}
+
+abbrev pub literal_stored : Source → ℕ → Value → Result Stored LineKind
+literal_stored s area v =
+    stored (context_in s (Some area)) (datum_names s.statements) (literal_value (sees (context_in s (Some area))) v)
+
+abbrev pub word_piece : ℕ → Result Stored LineKind → List Piece
+word_piece at (Ok w) = (at, Word w) ∷ []
+word_piece at (Err k) = []
+
+-- the words of literals with their offsets
+abbrev pub words_of : Source → ℕ → List (Value × ℕ) → List Piece
+words_of s area [] = []
+words_of s area (p ∷ ps) = word_piece p.1 (literal_stored s area p.0) ++ words_of s area ps
+
+-- what stands in an area: what its lines put there, and the words of its pools
 abbrev pub things_in : Source → ℕ → List Piece
-things_in s area = things_behind s area s.lines []
+things_in s area = things_behind s area s.lines [] ++ words_of s area (all_pooled area (pieces_of s.lines))
 
 abbrev pub IsAmong : Piece → List Piece → Type 0
 IsAmong p [] = ⊥
@@ -258,16 +272,9 @@ symbol_placed s name label n (Some a) = record {
   area = Some a.0;
 }
 
-abbrev pub in_no_line : Source → Context
-in_no_line s = record {
-  names = s.names;
-  line = record { area = None; offset = 0; map = 0; thumb = false; definition = Nameless };
-  registers = [];
-}
-
 abbrev pub symbol_valued : Source → List ℕ → Result Value LineKind → Symbol
 symbol_valued s name (Ok (Number n)) = record { name = name; attributes = scope s name + 2 ^ 2; value = n; area = None }
-symbol_valued s name (Ok (Place label n)) = symbol_placed s name label n (stands_at (sees (in_no_line s)) label)
+symbol_valued s name (Ok (Place label n)) = symbol_placed s name label n (stands_at (sees (context_in s None)) label)
 symbol_valued s name _ = record { name = name; attributes = 0; value = 0; area = None }
 
 abbrev pub symbol_named : Source → List ℕ → Symbol
