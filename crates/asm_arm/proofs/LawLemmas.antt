@@ -6,18 +6,16 @@ use Rattle.sdt_word.specs.declared.codes.Condition.{Condition}
 use Rattle.sdt_word.specs.declared.codes.ShiftKind.{ShiftKind}
 use Rattle.arm_isa.specs.declared.instr.Operation.{Operation}
 use Rattle.arm_isa.specs.declared.instr.HalfKind.{HalfKind}
-use Rattle.asm_model.specs.declared.lines.Flat.{Flat}
+use Rattle.arm_isa.specs.declared.instr.HalfKind.TheVariants as half
 use Rattle.asm_model.specs.declared.tokens.Token.{Token}
 use Rattle.asm_model.specs.declared.exprs.Expr.{Expr}
 use Rattle.asm_model.specs.declared.operands.Register.{Register}
 use Rattle.asm_model.specs.declared.operands.Indexing.{Indexing}
-use Rattle.asm_model.specs.declared.statements.Statement.{Statement}
 use Rattle.asm_model.specs.declared.statements.What.{What}
 use Rattle.asm_model.specs.Grammar.{OneParse, ParsesTokens}
 use Rattle.asm_model.specs.Operands.{operands}
 use Rattle.asm_model.specs.Parts.{part_of, piece}
-use Rattle.asm_model.specs.Says.{mapped, Expression, sentence, unnamed, OneDirective}
-use Rattle.asm_model.specs.Tokens.{OneScan}
+use Rattle.asm_model.specs.Says.{mapped, Expression, unnamed}
 use Rattle.asm_arm.specs.declared.words.Mnemonic.{Mnemonic}
 use Rattle.asm_arm.specs.declared.words.Mnemonic.TheVariants as mnemonic
 use Rattle.asm_arm.specs.declared.words.Shape.{Shape}
@@ -133,7 +131,7 @@ one_sum law text c o s more a b p q = p ∙ sym q
 
 one_shape : OneParse → (text : List ℕ) (c : Condition) (o : Operation) (s : Bool) (h : Shape) (os : Cuts) (a b : Result What LineKind) → lines.ReadsShape text c o s h os a → lines.ReadsShape text c o s h os b → a ≡ b
 one_shape law text c o s shape.Move os a b p q = one_move law text c o s os a b p q
-one_shape law text c o s shape.Comparison os a b p q = one_comparison law text c o s os a b p q
+one_shape law text c o s shape.Comparison os a b p q = one_comparison law text c o true os a b p q
 one_shape law text c o s shape.Sum os a b p q = one_sum law text c o s os a b p q
 
 one_status_value : OneParse → (text : List ℕ) (c : Condition) (f : Result (Bool × ℕ) LineKind) (m : List Token) (o : Option (List Token)) (a b : Result What LineKind)
@@ -204,7 +202,8 @@ one_word law text mnemonic.BranchExchange c ts a b p q = p ∙ sym q
 one_word law text mnemonic.ReadStatus c ts a b p q = p ∙ sym q
 one_word law text mnemonic.WriteStatus c ts a b p q = one_write_status law text c (cut (operands text ts)) a b p q
 one_word law text (mnemonic.Transfer l w t) c ts a b p q = one_transfer law text c l w t (cut (operands text ts)) a b p q
-one_word law text (mnemonic.TransferHalf l k) c ts a b p q = one_half law text c l k (cut (operands text ts)) a b p q
+one_word law text (mnemonic.LoadHalf k) c ts a b p q = one_half law text c true k (cut (operands text ts)) a b p q
+one_word law text mnemonic.StoreHalf c ts a b p q = one_half law text c false half.Half (cut (operands text ts)) a b p q
 one_word law text (mnemonic.TransferBlock l k) c ts a b p q = p ∙ sym q
 one_word law text (mnemonic.Branch l) c ts a b p q = one_expression law text _ ts a b p q
 one_word law text mnemonic.SoftwareInterrupt c ts a b p q = one_expression law text _ _ a b p q

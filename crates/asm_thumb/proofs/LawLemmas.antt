@@ -5,16 +5,13 @@ use Rattle.sdt_fault.specs.declared.kinds.LineKind.{LineKind}
 use Rattle.sdt_word.specs.declared.codes.Width.{Width}
 use Rattle.thumb_isa.specs.declared.instr.ImmediateOperation.{ImmediateOperation}
 use Rattle.thumb_isa.specs.declared.instr.ThumbShift.{ThumbShift}
-use Rattle.asm_model.specs.declared.lines.Flat.{Flat}
 use Rattle.asm_model.specs.declared.tokens.Token.{Token}
 use Rattle.asm_model.specs.declared.exprs.Expr.{Expr}
-use Rattle.asm_model.specs.declared.statements.Statement.{Statement}
 use Rattle.asm_model.specs.declared.statements.What.{What}
 use Rattle.asm_model.specs.Grammar.{OneParse, ParsesTokens}
 use Rattle.asm_model.specs.Operands.{operands}
 use Rattle.asm_model.specs.Parts.{part_of, piece}
-use Rattle.asm_model.specs.Says.{sentence, unnamed, OneDirective}
-use Rattle.asm_model.specs.Tokens.{OneScan}
+use Rattle.asm_model.specs.Says.{unnamed}
 use Rattle.asm_arm.specs.Lines.{hash, equals, bracket, numbered}
 use Rattle.asm_arm.specs.Operands.{Cuts, none, one, two, three, four, more, cut, without_first}
 use Rattle.asm_thumb.specs.declared.frames.Frame.{Frame}

@@ -243,8 +243,7 @@ pub record IsSaid (s : Statement) : Type 0 where
   pub loaded : LoadsPlain s.what
 
 abbrev pub AllSaid : List Statement → Type 0
-AllSaid [] = Unit {0}
-AllSaid (s ∷ ss) = IsSaid s × AllSaid ss
+AllSaid statements = AllByRecursion IsSaid statements
 
 -- ---- names
 
