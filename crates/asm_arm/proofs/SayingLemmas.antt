@@ -8,10 +8,13 @@ use Rattle.asm_model.specs.declared.lines.Flat.{Flat}
 use Rattle.asm_model.specs.declared.tokens.Token.{Token}
 use Rattle.asm_model.specs.declared.statements.Statement.{Statement}
 use Rattle.asm_model.specs.declared.statements.What.{What}
-use Rattle.asm_model.specs.Says.{on_both, sentence, OneDirective}
+use Rattle.asm_model.specs.declared.directives.LabelNeed.TheVariants as need
+use Rattle.asm_model.specs.Says.{on_both, mapped, label_field, sentence, OneDirective}
 use Rattle.asm_model.specs.Tokens.{first_due}
 use Rattle.asm_model.specs.Told.{Told, ToldFault}
-use Rattle.asm_arm.specs.Says.{Said, statement, within_limit, AreTokens, SaysWords, SaysOr, SaysTokens, SaysAll, SaysLine}
+use Rattle.asm_arm.specs.Says.{Said, statement, within_limit, AreTokens, SaysOperation, SaysWords, SaysOr, SaysTokens, SaysAll, SaysLine}
+use Rattle.asm_arm.specs.Operands.{both}
+use Rattle.asm_expr.proofs.SayingLemmas.{made_of_both}
 use Rattle.asm_lines.proofs.ScanLemmas.{one_list}
 
 -- ---- an answer for what was read
@@ -27,6 +30,17 @@ pub told_said : {E : Type 0} (source : List ℕ) (number : ℕ) (P : Said → Ty
 told_said source number P (Ok s) (Ok x) h k = let e : s ≡ Ok x = cc in subst P e h
 told_said source number P (Err e) (Ok x) h k = absurd (cc)
 told_said source number P s (Err f) h k = told_fault source number P s f h k
+
+-- ---- a line with an operation
+
+pub operation_said : (Operation : List ℕ → Token → List Token → Result What LineKind → Type 0) (flat : Flat) (label : Option Token) (t : Token) (ts : List Token) (text : List ℕ)
+    (l : Result (Option (List ℕ)) LineKind) (w : Result What LineKind) (r : Said) → text ≡ flat.text → l ≡ label_field need.Optional text label → Operation text t ts w
+    → r ≡ mapped (λ p. statement flat p.0 p.1) (both l w) → SaysOperation Operation flat label t ts r
+operation_said Operation flat label t ts text l w r e h k m = (
+  w,
+  subst (λ z. Operation z t ts w) e k,
+  m ∙ made_of_both (λ p. statement flat p.0 p.1) (λ x y. (x, y)) l w ∙ ap (λ x. on_both (statement flat) x w) (h ∙ ap (λ z. label_field need.Optional z label) e),
+)
 
 -- ---- a line says one thing
 

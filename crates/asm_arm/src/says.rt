@@ -65,10 +65,10 @@ pub fn statement(alloc: Global, line: &Flat, read: Labelled) -> Result<Said, NoM
 pub fn alone(alloc: Global, line: &Flat, label: Option<Token>) -> Result<Said, NoMemory>
     ensures { IfOk result (λ said. said ≡ says.alone line.now label) }
 {
-    if label.is_none() {
+    let Some(label) = label else {
         return Ok(Ok(None));
-    }
-    match label_field(alloc, LabelNeed::Optional, line.text.as_slice(), label)? {
+    };
+    match label_field(alloc, LabelNeed::Optional, line.text.as_slice(), Some(label))? {
         Ok(label) => statement(alloc, line, Ok((label, What::Nothing))),
         Err(kind) => Ok(Err(kind)),
     }
