@@ -221,14 +221,10 @@ told_either (Err k) (Ok y) A B p q = told_union (Some k) None A B p q
 told_either (Err k) (Err j) A B p q = told_union (Some k) (Some j) A B p q
 
 pub not_parsed : (ps : List Part) (e : Expr) (k : LineKind) → Parses ps (Ok e) → Parses ps (Err k) → ⊥
-not_parsed ps e k p q = elim q [ inl none ↦ none.1 p.0.0 p.0.1 | inr large ↦ (let a = p.1 in let b = large.2 in cc) ]
+not_parsed ps e k p q = q.1 p.0 p.1
 
 pub one_kind : (ps : List Part) (k j : LineKind) → Parses ps (Err k) → Parses ps (Err j) → k ≡ j
-one_kind ps k j p q =
-    elim p [
-      | inl none ↦ elim q [ inl other ↦ none.0 ∙ sym other.0 | inr large ↦ absurd (none.1 large.1.0 large.1.1) ]
-      | inr large ↦ elim q [ inl other ↦ absurd (other.1 large.1.0 large.1.1) | inr more ↦ large.0 ∙ sym more.0 ]
-    ]
+one_kind ps k j p q = p.0 ∙ sym q.0
 
 pub told_parsed : (text : List ℕ) (ts : List Token) (e : Result Expr LineKind) → ParsesTokens text ts e → IsToldOf (fault e) (λ k. ParsesTokens text ts (Err k))
 told_parsed text ts (Ok e) p = λ k q. not_parsed (map (part_of text) ts) e k p q

@@ -2,6 +2,7 @@
 use Rattle.std.proofs.Common.{◌≡◌, ℕ, List, ◌∷◌, Bool, true, false, cond, refl, sym, ap, subst, Option, Some, None}
 use Rattle.std.specs.Prelude.{Result, Ok, Err}
 use Rattle.sdt_fault.specs.declared.kinds.LineKind.{LineKind}
+use Rattle.sdt_fault.specs.declared.kinds.LineKind.TheVariants.{UnknownWord, Forward}
 use Rattle.asm_model.specs.declared.values.Value.{Value}
 use Rattle.asm_model.specs.declared.values.Value.TheVariants.{Number, Truth, Words, Place}
 use Rattle.asm_model.specs.declared.names.LaidName.{LaidName}
@@ -58,10 +59,23 @@ abbrev OkLiteral : Result Value LineKind → Type 0
 OkLiteral (Ok v) = IsLiteral v
 OkLiteral (Err k) = Unit {0}
 
+other_is : (y : Result Value LineKind) → OkLiteral (literal_or (Err Forward) y)
+other_is (Ok (Number n)) = tt
+other_is (Ok (Truth b)) = tt
+other_is (Ok (Words w)) = tt
+other_is (Ok (Place s n)) = tt
+other_is (Err k) = kind_is k
+  where
+    kind_is : (k : LineKind) → OkLiteral (literal_or (Err Forward) (Err k))
+    kind_is UnknownWord = tt
+    kind_is _ = tt
+
 pub literal_or_is : (x y : Result Value LineKind) → OkLiteral (literal_or x y)
 literal_or_is (Ok (Number n)) y = tt
-literal_or_is x (Ok (Place s n)) = tt
-literal_or_is x y = tt
+literal_or_is (Ok (Truth b)) y = other_is y
+literal_or_is (Ok (Words w)) y = other_is y
+literal_or_is (Ok (Place s n)) y = other_is y
+literal_or_is (Err k) y = other_is y
 
 pub literal_there_is : (s : Names) (t : Option Tree) → OkLiteral (tree_literal s t)
 literal_there_is s None = tt

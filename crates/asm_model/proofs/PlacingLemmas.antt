@@ -5,7 +5,7 @@ use Rattle.std.specs.Prelude.{Result, Ok, Err, nat_lt}
 use Rattle.std.specs.Ordering.{nat_cmp}
 use Rattle.std.specs.Cmp.Lexicographic.{slice_cmp}
 use Rattle.sdt_fault.specs.declared.kinds.LineKind.{LineKind}
-use Rattle.sdt_fault.specs.declared.kinds.LineKind.TheVariants.{Syntax, UnknownWord, Forward, WrongType, OutOfRange, TooMany}
+use Rattle.sdt_fault.specs.declared.kinds.LineKind.TheVariants.{Syntax, UnknownWord, Constant, Forward, WrongType, OutOfRange, TooMany}
 use Rattle.asm_model.specs.declared.exprs.ExprItem.{ExprItem}
 use Rattle.asm_model.specs.declared.exprs.ExprItem.TheVariants as item
 use Rattle.asm_model.specs.declared.exprs.UnaryOp.{UnaryOp}
@@ -290,6 +290,7 @@ pub item_placed : (p : Placing) (names : Names) (i : ExprItem) (v : Value) → H
 item_placed p names (item.Name q) v here h = name_placed p names q v here h
 item_placed p names (item.Local q) v here h = ap (placed_result p names) h
 item_placed p names (item.Constant w) v here h = ap (placed_result p names) h
+item_placed p names item.TooLarge v here h = ap (placed_result p names) h
 item_placed p names item.Here v here h = ap (placed_result p names) h
 item_placed p names item.Map v here h = ap (placed_result p names) h
 item_placed p names item.CodeSize v here h = ap (placed_result p names) h
@@ -305,6 +306,7 @@ before_item p names op (item.Local q) v here h =
     known_placed p names op (Err UnknownWord) (Err UnknownWord) v (λ u e. ap (placed_result p names) e) h
 before_item p names op (item.Constant w) v here h =
     known_placed p names op (Ok w) (Ok (placed_value p names w)) v (λ u e. ap (placed_result p names) e) h
+before_item p names op item.TooLarge v here h = known_placed p names op (Err Constant) (Err Constant) v (λ u e. ap (placed_result p names) e) h
 before_item p names op item.Here v here h =
     known_placed p names op (Ok (Place [] names.offset)) (Ok (placed_value p names (Place [] names.offset))) v (λ u e. ap (placed_result p names) e) h
 before_item p names op item.Map v here h =

@@ -5,12 +5,11 @@ use Rattle.asm_model.specs.declared.exprs.ExprItem.{ExprItem}
 use Rattle.asm_model.specs.declared.exprs.ExprItem.TheVariants as item
 use Rattle.asm_model.specs.declared.exprs.Part.{Part}
 use Rattle.asm_model.specs.declared.exprs.Part.TheVariants as part
-use Rattle.asm_model.specs.declared.values.Value.TheVariants.{Number}
 use Rattle.asm_model.specs.Grammar.{Tree, Leaf, Before, Between, postfix, plain, operand_of, Spells, operand, of_name, before, grouped, between, tighter, IsSpelled}
 use Rattle.asm_model.specs.Trees.{grown, tree_behind, tree_of}
 
 -- no item of the tree is an operator
-abbrev IsPlain : Tree → Type 0
+abbrev pub IsPlain : Tree → Type 0
 IsPlain (Leaf i) = plain i ≡ Some i
 IsPlain (Before op t) = IsPlain t
 IsPlain (Between op t u) = IsPlain t × IsPlain u
@@ -19,6 +18,7 @@ pub kept : (j i : ExprItem) → plain j ≡ Some i → plain i ≡ Some i
 kept (item.Name n) i e = let x : item.Name n ≡ i = cc in rw (← x) refl
 kept (item.Local n) i e = let x : item.Local n ≡ i = cc in rw (← x) refl
 kept (item.Constant v) i e = let x : item.Constant v ≡ i = cc in rw (← x) refl
+kept item.TooLarge i e = let x : item.TooLarge ≡ i = cc in rw (← x) refl
 kept item.Here i e = let x : item.Here ≡ i = cc in rw (← x) refl
 kept item.Map i e = let x : item.Map ≡ i = cc in rw (← x) refl
 kept item.CodeSize i e = let x : item.CodeSize ≡ i = cc in rw (← x) refl
@@ -27,7 +27,6 @@ kept (item.Binary op) i e = absurd (cc)
 
 pub plain_operand : (p : Part) (i : ExprItem) → operand_of p ≡ Some i → plain i ≡ Some i
 plain_operand (part.Operand j) i e = kept j i e
-plain_operand part.TooLarge i e = kept (item.Constant (Number 0)) i e
 plain_operand part.Open i e = absurd (cc)
 plain_operand part.Close i e = absurd (cc)
 plain_operand (part.Prefix op) i e = absurd (cc)
@@ -48,6 +47,7 @@ pub grown_leaf : (i : ExprItem) (ts : List Tree) → plain i ≡ Some i → grow
 grown_leaf (item.Name n) ts e = refl
 grown_leaf (item.Local n) ts e = refl
 grown_leaf (item.Constant v) ts e = refl
+grown_leaf item.TooLarge ts e = refl
 grown_leaf item.Here ts e = refl
 grown_leaf item.Map ts e = refl
 grown_leaf item.CodeSize ts e = refl
