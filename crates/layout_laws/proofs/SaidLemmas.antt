@@ -19,7 +19,6 @@ use Rattle.asm_model.specs.Sound.{HasNoPlace, HaveNoPlaces}
 
 abbrev pub IsPlainPart : Part → Type 0
 IsPlainPart (part.Operand i) = HasNoPlace i
-IsPlainPart part.TooLarge = Unit {0}
 IsPlainPart part.Open = Unit {0}
 IsPlainPart part.Close = Unit {0}
 IsPlainPart (part.Prefix op) = Unit {0}
@@ -41,10 +40,14 @@ worded_plain s = search (or_plain) depth 25
 pub sign_plain : (s : List ℕ) → IsPlainPart (plain_part s)
 sign_plain s = search (or_plain) depth 25
 
+pub number_plain : (b : Bool) (n : ℕ) → HasNoPlace (cond b (item.Constant (Number n)) item.TooLarge)
+number_plain true n = tt
+number_plain false n = tt
+
 pub kind_plain : (k : TokenKind) (s : List ℕ) → IsPlainPart (part_of_kind k s)
 kind_plain kind.Name s = tt
 kind_plain kind.Barred s = tt
-kind_plain kind.Number s = or_plain (nat_lt (number_value s) (2 ^ 32)) (part.Operand (item.Constant (Number (number_value s)))) part.TooLarge tt tt
+kind_plain kind.Number s = number_plain (nat_lt (number_value s) (2 ^ 32)) (number_value s)
 kind_plain kind.Quoted s = tt
 kind_plain kind.Character s = tt
 kind_plain kind.Braced s = braced_plain s
@@ -74,6 +77,7 @@ pub plain_item : (j i : ExprItem) → plain j ≡ Some i → HasNoPlace j → Ha
 plain_item (item.Name n) i e h = let x : item.Name n ≡ i = cc in subst HasNoPlace x h
 plain_item (item.Local n) i e h = let x : item.Local n ≡ i = cc in subst HasNoPlace x h
 plain_item (item.Constant v) i e h = let x : item.Constant v ≡ i = cc in subst HasNoPlace x h
+plain_item item.TooLarge i e h = let x : item.TooLarge ≡ i = cc in subst HasNoPlace x h
 plain_item item.Here i e h = let x : item.Here ≡ i = cc in subst HasNoPlace x h
 plain_item item.Map i e h = let x : item.Map ≡ i = cc in subst HasNoPlace x h
 plain_item item.CodeSize i e h = let x : item.CodeSize ≡ i = cc in subst HasNoPlace x h
@@ -82,7 +86,6 @@ plain_item (item.Binary op) i e h = absurd (cc)
 
 pub operand_plain : (p : Part) (i : ExprItem) → operand_of p ≡ Some i → IsPlainPart p → HasNoPlace i
 operand_plain (part.Operand j) i e h = plain_item j i e h
-operand_plain part.TooLarge i e h = plain_item (item.Constant (Number 0)) i e tt
 operand_plain part.Open i e h = absurd (cc)
 operand_plain part.Close i e h = absurd (cc)
 operand_plain (part.Prefix op) i e h = absurd (cc)
@@ -104,7 +107,7 @@ spelled_no_places l ps t (tighter k qs u d) h = spelled_no_places k qs u d h
 
 pub read_expressions_are_plain : (text : List ℕ) (ts : List Token) (e : Expr) → ParsesTokens text ts (Ok e) → HaveNoPlaces e.items
 read_expressions_are_plain text ts e h =
-    subst HaveNoPlaces (sym h.0.2) (spelled_no_places 6 (map (part_of text) ts) h.0.0 h.0.1 (tokens_plain text ts))
+    subst HaveNoPlaces (sym h.2) (spelled_no_places 6 (map (part_of text) ts) h.0 h.1 (tokens_plain text ts))
 
 -- ---- names
 
