@@ -35,22 +35,12 @@ use Rattle.base_lemmas.proofs.BaseLemmas.{all_append}
 
 -- what it defines, by the line's own fields
 abbrev made_of : List LaidName → List LaidName → PlacedLine → Defined → List LaidName
-made_of N names x y = entries_with N (line_of x) (definition_of names y x.area x.offset (Some x.size) x.thumb_label x.map)
+made_of N names x y = entries_with N (line_of x) (definition_of names y x.place.area x.place.offset (Some x.place.size) x.place.thumb_label x.place.map)
 
 made_own : (N : List LaidName) (d : List LaidName) (s : Statement) (ss : List Statement) (x : PlacedLine)
     → IsLine x (laid_behind d s (laid_of d ss)) (laid_of d ss) → made_of N d x (defined_by s) ≡ own_of N d s ss
 made_own N d s ss x is =
-    let before = laid_of d ss in
-    let l = laid_behind d s before in
-    let make = λ (area : Option ℕ) (offset size : ℕ) (thumb label : Bool) (m : ℕ).
-    entries_with N (record { area = area; offset = offset; map = m; thumb = thumb; definition = Nameless })
-    (definition_of d (defined_by s) area offset (Some size) label m) in
-    ap (λ a. make a x.offset x.size x.thumb x.thumb_label x.map) is.area
-    ∙ ap (λ o. make l.area o x.size x.thumb x.thumb_label x.map) is.offset
-    ∙ ap (λ n. make l.area l.offset n x.thumb x.thumb_label x.map) is.size
-    ∙ ap (λ b. make l.area l.offset l.size b x.thumb_label x.map) is.thumb
-    ∙ ap (λ b. make l.area l.offset l.size l.thumb b x.map) is.thumb_label
-    ∙ ap (λ m. make l.area l.offset l.size l.thumb (is_thumb_label s (statements_of before)) m) is.map
+    let p = is.place in rw (p.area, p.offset, p.size, p.thumb, p.thumb_label, p.map) refl
 
 own_same : (known N : List LaidName) (names : List LaidName) (x : PlacedLine) (y : Defined)
     → ((name : List ℕ) (e : Expr) → y ≡ Equal name e → one_entry (named_in name known) ≡ made_of N names x y)
@@ -67,7 +57,7 @@ own_lacking N names x q Unnamed h = refl
 own_lacking N names x q (Label name) h = refl
 own_lacking N names x q (Equal name e) h =
     sym (most_lacks q (name ∷ []) (made_of N names x (Equal name e))
-    (definition_most N (line_of x) names (Equal name e) x.area x.offset (Some x.size) x.thumb_label x.map) h)
+    (definition_most N (line_of x) names (Equal name e) x.place.area x.place.offset (Some x.place.size) x.place.thumb_label x.place.map) h)
 own_lacking N names x q (MapField name) h = refl
 own_lacking N names x q (RegisterName name r) h = refl
 
@@ -214,7 +204,7 @@ pub record Fits (N names : List LaidName) (o : Owed) : Type 0 where
   pub items : o.value.items ≡ postfix tree
   pub is : tree_of o.value ≡ Some tree
   pub plain : HaveNoPlaces o.value.items
-  pub found : one_entry (named_in o.name N) ≡ equal_entry names o.line.area o.name (meaning (with_names (line_of o.line) N) tree) ∷ []
+  pub found : one_entry (named_in o.name N) ≡ equal_entry names o.line.place.area o.name (meaning (with_names (line_of o.line) N) tree) ∷ []
 
 made_equal : (N : List LaidName) (f : SourceLine) (names : List LaidName) (area : Option ℕ) (name : List ℕ) (o : Option Tree) (t : Tree) → o ≡ Some t
     → entries_with N f (tree_equated names area name o) ≡ equal_entry names area name (meaning (with_names f N) t) ∷ []
@@ -240,7 +230,7 @@ fits_line N d ss s x is plain read found (Equal name v) e =
         plain = subst IsPlain e plain;
         found =
             found name v e ∙ sym (made_own N d s ss x is) ∙ ap (made_of N d x) e
-            ∙ made_equal N (line_of x) d x.area name (tree_of v) spelled.1 tree;
+            ∙ made_equal N (line_of x) d x.place.area name (tree_of v) spelled.1 tree;
       },
       tt,
     )

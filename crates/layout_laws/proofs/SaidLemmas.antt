@@ -19,13 +19,7 @@ use Rattle.asm_model.specs.Sound.{HasNoPlace, HaveNoPlaces}
 
 abbrev pub IsPlainPart : Part → Type 0
 IsPlainPart (part.Operand i) = HasNoPlace i
-IsPlainPart part.Open = Unit {0}
-IsPlainPart part.Close = Unit {0}
-IsPlainPart (part.Prefix op) = Unit {0}
-IsPlainPart (part.OfName op) = Unit {0}
-IsPlainPart (part.Infix op) = Unit {0}
-IsPlainPart (part.Sum u b) = Unit {0}
-IsPlainPart part.Other = Unit {0}
+IsPlainPart _ = Unit {0}
 
 pub or_plain : (b : Bool) (x y : Part) → IsPlainPart x → IsPlainPart y → IsPlainPart (cond b x y)
 or_plain true x y h k = h
@@ -74,25 +68,13 @@ items_joined [] js h k = k
 items_joined (i ∷ is) js h k = (h.0, items_joined is js h.1 k)
 
 pub plain_item : (j i : ExprItem) → plain j ≡ Some i → HasNoPlace j → HasNoPlace i
-plain_item (item.Name n) i e h = let x : item.Name n ≡ i = cc in subst HasNoPlace x h
-plain_item (item.Local n) i e h = let x : item.Local n ≡ i = cc in subst HasNoPlace x h
-plain_item (item.Constant v) i e h = let x : item.Constant v ≡ i = cc in subst HasNoPlace x h
-plain_item item.TooLarge i e h = let x : item.TooLarge ≡ i = cc in subst HasNoPlace x h
-plain_item item.Here i e h = let x : item.Here ≡ i = cc in subst HasNoPlace x h
-plain_item item.Map i e h = let x : item.Map ≡ i = cc in subst HasNoPlace x h
-plain_item item.CodeSize i e h = let x : item.CodeSize ≡ i = cc in subst HasNoPlace x h
 plain_item (item.Unary op) i e h = absurd (cc)
 plain_item (item.Binary op) i e h = absurd (cc)
+plain_item j i e h = let x : j ≡ i = cc in subst HasNoPlace x h
 
 pub operand_plain : (p : Part) (i : ExprItem) → operand_of p ≡ Some i → IsPlainPart p → HasNoPlace i
 operand_plain (part.Operand j) i e h = plain_item j i e h
-operand_plain part.Open i e h = absurd (cc)
-operand_plain part.Close i e h = absurd (cc)
-operand_plain (part.Prefix op) i e h = absurd (cc)
-operand_plain (part.OfName op) i e h = absurd (cc)
-operand_plain (part.Infix op) i e h = absurd (cc)
-operand_plain (part.Sum u b) i e h = absurd (cc)
-operand_plain part.Other i e h = absurd (cc)
+operand_plain p i e h = absurd (cc)
 
 pub spelled_no_places : (l : ℕ) (ps : List Part) (t : Tree) → Spells l ps t → ArePlainParts ps → HaveNoPlaces (postfix t)
 spelled_no_places l ps t (operand p i e) h = (operand_plain p i e h.0, tt)
