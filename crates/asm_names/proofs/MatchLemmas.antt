@@ -45,29 +45,20 @@ made_own N d s ss x is =
 own_same : (known N : List LaidName) (names : List LaidName) (x : PlacedLine) (y : Defined)
     → ((name : List ℕ) (e : Expr) → y ≡ Equal name e → one_entry (named_in name known) ≡ made_of N names x y)
     → own_entries known x y ≡ made_of N names x y
-own_same known N names x Unnamed h = refl
-own_same known N names x (Label name) h = refl
 own_same known N names x (Equal name e) h = h name e refl
-own_same known N names x (MapField name) h = refl
-own_same known N names x (RegisterName name r) h = refl
+own_same known N names x y h = refl
 
 own_lacking : (N : List LaidName) (names : List LaidName) (x : PlacedLine) (q : List ℕ) (y : Defined)
     → list_any (λ (e : List ℕ × Expr). same q e.0) (equal_of y) ≡ false → named_in q (own_entries [] x y) ≡ named_in q (made_of N names x y)
-own_lacking N names x q Unnamed h = refl
-own_lacking N names x q (Label name) h = refl
 own_lacking N names x q (Equal name e) h =
     sym (most_lacks q (name ∷ []) (made_of N names x (Equal name e))
     (definition_most N (line_of x) names (Equal name e) x.place.area x.place.offset (Some x.place.size) x.place.thumb_label x.place.map) h)
-own_lacking N names x q (MapField name) h = refl
-own_lacking N names x q (RegisterName name r) h = refl
+own_lacking N names x q y h = refl
 
 own_held : (M N : List LaidName) (names : List LaidName) (x : PlacedLine) (y : Defined)
     → HoldsEach M (made_of N names x y) → HoldsEach M (own_entries [] x y)
-own_held M N names x Unnamed h = tt
-own_held M N names x (Label name) h = h
 own_held M N names x (Equal name e) h = tt
-own_held M N names x (MapField name) h = h
-own_held M N names x (RegisterName name r) h = h
+own_held M N names x y h = h
 
 -- an entry is its own symbol, or has none
 abbrev pub EachOwn : List LaidName → Type 0
@@ -180,11 +171,8 @@ owed_more xs front x s e is =
     ap (flat_map owed_in) e ∙ sym (flat_map_more owed_in [] front x) ∙ ap (λ (z : Statement). flat_map owed_in front ++ owed_by x (defined_by z)) is
 
 pairs_of_line : (x : PlacedLine) (y : Defined) → map equal_pair (owed_by x y) ≡ equal_of y
-pairs_of_line x Unnamed = refl
-pairs_of_line x (Label name) = refl
 pairs_of_line x (Equal name e) = refl
-pairs_of_line x (MapField name) = refl
-pairs_of_line x (RegisterName name r) = refl
+pairs_of_line x y = refl
 
 pub owed_pairs : (d : List LaidName) (ss : List Statement) (xs : List PlacedLine) → AreEach (laid_of d ss) xs → map equal_pair (flat_map owed_in xs) ≡ all_equals ss
 owed_pairs d [] xs h = ap (λ z. map equal_pair (flat_map owed_in z)) h
@@ -214,10 +202,6 @@ fits_line : (N d : List LaidName) (ss : List Statement) (s : Statement) (x : Pla
     → IsPlain (defined_by s) → IsReadDefined (defined_by s)
     → ((name : List ℕ) (e : Expr) → defined_by s ≡ Equal name e → one_entry (named_in name N) ≡ own_of N d s ss)
     → (y : Defined) → defined_by s ≡ y → AllByRecursion (Fits N d) (owed_by x y)
-fits_line N d ss s x is plain read found Unnamed e = tt
-fits_line N d ss s x is plain read found (Label name) e = tt
-fits_line N d ss s x is plain read found (MapField name) e = tt
-fits_line N d ss s x is plain read found (RegisterName name r) e = tt
 fits_line N d ss s x is plain read found (Equal name v) e =
     let spelled = subst IsReadDefined e read in
     let tree = trees_read_back spelled.0 spelled.1 v spelled.2 spelled.3 in (
@@ -234,6 +218,7 @@ fits_line N d ss s x is plain read found (Equal name v) e =
       },
       tt,
     )
+fits_line N d ss s x is plain read found y e = tt
 
 pub owed_fit : (N d : List LaidName) (ss : List Statement) (xs : List PlacedLine) → AreEach (laid_of d ss) xs → ArePlain ss → AreRead ss
     → EachFound N N d ss → AllByRecursion (Fits N d) (flat_map owed_in xs)
