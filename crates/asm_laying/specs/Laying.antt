@@ -16,6 +16,7 @@ use Rattle.asm_model.specs.Laid.{LaidLine, statements_of, lines_of, taken, piece
 use Rattle.asm_model.specs.Trees.{tree_of}
 use Rattle.asm_model.specs.LayoutKinds.{fault_kinds, kind_if, map_kinds, area_bytes}
 use Rattle.asm_names.specs.Defining.{own_entry}
+use Rattle.asm_names.specs.Lines.{IsPlace}
 use Rattle.asm_names.specs.Steps.{one_entry}
 use Rattle.asm_offsets.specs.Running.{IsBehind, entry_behind}
 use Rattle.asm_offsets.specs.declared.extents.Extent.{Extent as Code}
@@ -132,12 +133,7 @@ told_of l =
 
 pub record IsLaid (declared : List LaidName) (l : LaidLine) (before : List LaidLine) (state : Laying) (p : Placed) : Type 0 where
   pub told : told_of l ≡ None
-  pub area : p.area ≡ l.area
-  pub offset : p.offset ≡ l.offset
-  pub size : p.size ≡ l.size
-  pub thumb : p.thumb ≡ l.thumb
-  pub thumb_label : p.thumb_label ≡ is_thumb_label l.statement (statements_of before)
-  pub map : p.map ≡ map_behind before
+  pub place : IsPlace p.place l before
   pub literal : p.literal ≡ entry_behind l.area (pieces_of before) (taken l.extent)
   pub strings : p.strings ≡ string_marks l.seen l.statement.what
   pub laying : IsLaying declared (l ∷ before) state

@@ -17,7 +17,7 @@ use crate::behind::{Behind, START};
 use crate::declarations::is_thumb_label;
 use crate::finding::{Equated, Found, Spot, find, unsized_entry};
 use asm_model::{LaidName, Statement};
-use asm_names::KnownNames;
+use asm_names::{KnownNames, Place};
 use asm_names::defining::{Defines, defined_by};
 use asm_names::listing::{add_entry, add_imported};
 use asm_offsets::{Ends, Extent, TooLarge, extents_are_placeable};
@@ -28,17 +28,7 @@ use std::alloc::Global;
 /// A statement with its place.
 #[derive(Debug, Drop)]
 pub struct Placed {
-    /// Its area, counted from 0; None before the first.
-    pub area: Option<u32>,
-    pub offset: u32,
-    /// In bytes.
-    pub size: u32,
-    /// Whether it stands in Thumb state.
-    pub thumb: bool,
-    /// Whether its label is one of Thumb code.
-    pub thumb_label: bool,
-    /// The storage map before it.
-    pub map: u32,
+    pub place: Place,
     /// The number of its literal's entry in the pools of its area.
     pub literal: Option<u32>,
     /// For DCB, of each operand whether it is a string by what is known at its line.
@@ -189,12 +179,14 @@ impl Laying {
                 let own = sized(statement, own, placed.size);
                 add_names(&mut self.names, alloc, statement, own, entry)?;
                 Ok(Ok(Placed {
-                    area: spot.area,
-                    offset: placed.offset,
-                    size: placed.size,
-                    thumb: spot.thumb,
-                    thumb_label: spot.label_thumb,
-                    map: spot.map,
+                    place: Place {
+                        area: spot.area,
+                        offset: placed.offset,
+                        size: placed.size,
+                        thumb: spot.thumb,
+                        thumb_label: spot.label_thumb,
+                        map: spot.map,
+                    },
                     literal: placed.literal,
                     strings,
                 }))
