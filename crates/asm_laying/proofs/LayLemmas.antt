@@ -127,7 +127,7 @@ fault_is k (Err j) h = cc
 
 standing_any : (area : ℕ) (before : List Piece) (e f : Extent) (o : Option Standing) → IsStanding area (piece None e ∷ before) o → IsStanding area (piece None f ∷ before) o
 standing_any area before e f None h = h
-standing_any area before e f (Some a) h = record { end = h.end; waiting = h.waiting; pools = h.pools }
+standing_any area before e f (Some a) h = record { end = h.end; waiting = h.waiting; placed = h.placed; pools = h.pools }
 
 all_there : (n : ℕ) (m : ℕ) → min n most_bytes ≡ m → m ≤ 2 ^ 24 → min n most_bytes ≡ n
 all_there n m h g = omega arith
