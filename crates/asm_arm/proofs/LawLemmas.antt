@@ -186,21 +186,13 @@ one_half law text c l k (three d x y) a b p q = one_made (ReadsAfter text x y No
 one_half law text c l k (four d x y s) a b p q = p ∙ sym q
 one_half law text c l k more a b p q = p ∙ sym q
 
-one_address : OneParse → (text : List ℕ) (c : Condition) (os : Cuts) (a b : Result What LineKind) → lines.ReadsAddress text c os a → lines.ReadsAddress text c os b → a ≡ b
-one_address law text c none a b p q = p ∙ sym q
-one_address law text c (one d) a b p q = p ∙ sym q
-one_address law text c (two d e) a b p q = one_made (ParsesTokens text e) _ (one_value law text e) a b p q
-one_address law text c (three d x y) a b p q = p ∙ sym q
-one_address law text c (four d x y s) a b p q = p ∙ sym q
-one_address law text c more a b p q = p ∙ sym q
-
-one_long_address : OneParse → (text : List ℕ) (c : Condition) (os : Cuts) (a b : Result What LineKind) → lines.ReadsLongAddress text c os a → lines.ReadsLongAddress text c os b → a ≡ b
-one_long_address law text c none a b p q = p ∙ sym q
-one_long_address law text c (one d) a b p q = p ∙ sym q
-one_long_address law text c (two d e) a b p q = one_made (ParsesTokens text e) _ (one_value law text e) a b p q
-one_long_address law text c (three d x y) a b p q = p ∙ sym q
-one_long_address law text c (four d x y s) a b p q = p ∙ sym q
-one_long_address law text c more a b p q = p ∙ sym q
+one_address : OneParse → (text : List ℕ) (c : Condition) (long : Bool) (os : Cuts) (a b : Result What LineKind) → lines.ReadsAddress text c long os a → lines.ReadsAddress text c long os b → a ≡ b
+one_address law text c long none a b p q = p ∙ sym q
+one_address law text c long (one d) a b p q = p ∙ sym q
+one_address law text c long (two d e) a b p q = one_made (ParsesTokens text e) _ (one_value law text e) a b p q
+one_address law text c long (three d x y) a b p q = p ∙ sym q
+one_address law text c long (four d x y s) a b p q = p ∙ sym q
+one_address law text c long more a b p q = p ∙ sym q
 
 one_word : OneParse → (text : List ℕ) (m : Mnemonic) (c : Condition) (ts : List Token) (a b : Result What LineKind) → lines.ReadsWord text m c ts a → lines.ReadsWord text m c ts b → a ≡ b
 one_word law text (mnemonic.Data o s) c ts a b p q = one_shape law text c o s (shape_of o) (cut (operands text ts)) a b p q
@@ -215,8 +207,8 @@ one_word law text (mnemonic.TransferHalf l k) c ts a b p q = one_half law text c
 one_word law text (mnemonic.TransferBlock l k) c ts a b p q = p ∙ sym q
 one_word law text (mnemonic.Branch l) c ts a b p q = one_expression law text _ ts a b p q
 one_word law text mnemonic.SoftwareInterrupt c ts a b p q = one_expression law text _ _ a b p q
-one_word law text mnemonic.Address c ts a b p q = one_address law text c (cut (operands text ts)) a b p q
-one_word law text mnemonic.LongAddress c ts a b p q = one_long_address law text c (cut (operands text ts)) a b p q
+one_word law text mnemonic.Address c ts a b p q = one_address law text c false (cut (operands text ts)) a b p q
+one_word law text mnemonic.LongAddress c ts a b p q = one_address law text c true (cut (operands text ts)) a b p q
 one_word law text mnemonic.NoOperation c ts a b p q = p ∙ sym q
 one_word law text mnemonic.FloatingPoint c ts a b p q = p ∙ sym q
 

@@ -121,9 +121,9 @@ fn parse_tokens(alloc: Global, line: &Flat, tokens: &[Token]) -> Result<Option<S
 /// What a line of ARM state says; None exactly for a blank line. A line with faults is refused, and of several kinds
 /// the first in the order of the kinds is told: Syntax where the line has no tokens, its tokens have no form or its
 /// operation is no word, UnknownWord for an operation word that nothing names, FloatingPoint for a word of the FPA,
-/// BadOperand for a range of registers that falls, a status register that is none, the suffix T with another address
-/// than `[Rn]` or one behind brackets, and ADRL of pc, Constant for a number above 2^32 - 1; and the faults of
-/// directives. The values of expressions are judged elsewhere, and so are names in the place of registers.
+/// BadOperand for a status register that is none and for the suffix T with another address than `[Rn]` or one behind
+/// brackets; and the faults of directives. Registers are judged by the row and not here, and so are the values of
+/// expressions.
 pub fn parse_arm(alloc: Global, line: &Flat) -> Result<Option<Statement>, Fault>
     requires { length line.now.text < 2 ^ 32 }
     ensures { Told line.now.source line.now.number (says.SaysArm line.now) result }

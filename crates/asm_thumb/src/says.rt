@@ -91,9 +91,8 @@ fn parse_tokens(alloc: Global, line: &Flat, tokens: &[Token]) -> Result<Option<S
 /// What a line of Thumb state says; None exactly for a blank line. A line with faults is refused, and of several kinds
 /// the first in the order of the kinds is told: Syntax where the line has no tokens, its tokens have no form or its
 /// operation is no word, UnknownWord for an operation word that nothing names in this state, FloatingPoint for a word
-/// of the FPA, BadOperand for a register that no row of the form has and for a range of registers that falls, Constant
-/// for a number above 2^32 - 1; and the faults of directives. The values of expressions are judged elsewhere, and so
-/// are names in the place of registers, which count as registers from r0 to r7 here.
+/// of the FPA; and the faults of directives. Registers are judged by the row and not here, and so are the values of
+/// expressions.
 pub fn parse_thumb(alloc: Global, line: &Flat) -> Result<Option<Statement>, Fault>
     requires { length line.now.text < 2 ^ 32 }
     ensures { Told line.now.source line.now.number (says.SaysThumb line.now) result }
