@@ -16,6 +16,7 @@ act_plain : (names : Names) (i : ExprItem) (s : List Operand) → plain i ≡ So
 act_plain names (item.Name n) s e = refl
 act_plain names (item.Local n) s e = refl
 act_plain names (item.Constant v) s e = refl
+act_plain names item.TooLarge s e = refl
 act_plain names item.Here s e = refl
 act_plain names item.Map s e = refl
 act_plain names item.CodeSize s e = refl

@@ -9,7 +9,6 @@ use Rattle.asm_model.specs.declared.exprs.Part.TheVariants as part
 use Rattle.asm_model.specs.declared.exprs.UnaryOp.{UnaryOp}
 use Rattle.asm_model.specs.declared.exprs.BinaryOp.{BinaryOp}
 use Rattle.asm_model.specs.declared.exprs.BinaryOp.TheVariants.{Multiply, Divide, Modulo, Left, Right, Concatenate, RotateLeft, RotateRight, ShiftLeft, ShiftRight, Add, Subtract, And, Or, ExclusiveOr, Equal, NotEqual, Less, LessEqual, Greater, GreaterEqual, LogicalAnd, LogicalOr, LogicalExclusiveOr}
-use Rattle.asm_model.specs.declared.values.Value.TheVariants.{Number}
 use Rattle.asm_model.specs.Grammar.{level, Tree, Leaf, Before, Between, postfix, plain, operand_of, before_of, between_of, Spells, operand, of_name, before, grouped, between, tighter, IsSpelled}
 use Rattle.asm_expr.specs.declared.parser.Stage.{Stage}
 use Rattle.asm_expr.specs.declared.parser.Stage.TheVariants as stage
@@ -101,7 +100,6 @@ record Stands (l : ℕ) (items : List ExprItem) (hs : List Held) (ps rest : List
 on_operand_is : (p : Part) (i : ExprItem) (items : List ExprItem) (hs : List Held) → operand_of p ≡ Some i
     → on_operand items hs p ≡ Some (record { due = stage.Operator; items = items ++ i ∷ []; stack = hs })
 on_operand_is (part.Operand j) i items hs e = ap (put items hs) e
-on_operand_is part.TooLarge i items hs e = let x : item.Constant (Number 0) ≡ i = cc in rw x refl
 on_operand_is part.Open i items hs e = absurd (cc)
 on_operand_is part.Close i items hs e = absurd (cc)
 on_operand_is (part.Prefix op) i items hs e = absurd (cc)
@@ -113,7 +111,6 @@ on_operand_is part.Other i items hs e = absurd (cc)
 on_before_is : (p : Part) (op : UnaryOp) (items : List ExprItem) (hs : List Held) → before_of p ≡ Some op
     → on_operand items hs p ≡ Some (record { due = stage.Operand; items = items; stack = held.Before op ∷ hs })
 on_before_is (part.Operand j) op items hs e = absurd (cc)
-on_before_is part.TooLarge op items hs e = absurd (cc)
 on_before_is part.Open op items hs e = absurd (cc)
 on_before_is part.Close op items hs e = absurd (cc)
 on_before_is (part.Prefix u) op items hs e = let x : u ≡ op = cc in rw x refl
@@ -125,7 +122,6 @@ on_before_is part.Other op items hs e = absurd (cc)
 on_between_is : (p : Part) (op : BinaryOp) (items : List ExprItem) (hs : List Held) → between_of p ≡ Some op
     → on_operator items hs p ≡ Some (joined op (settled (level op) items hs))
 on_between_is (part.Operand j) op items hs e = absurd (cc)
-on_between_is part.TooLarge op items hs e = absurd (cc)
 on_between_is part.Open op items hs e = absurd (cc)
 on_between_is part.Close op items hs e = absurd (cc)
 on_between_is (part.Prefix u) op items hs e = absurd (cc)
@@ -320,7 +316,6 @@ put_good is hs ps i (Some j) e h =
 operand_good : (is : List ExprItem) (hs : List Held) (ps : List Part) (p : Part) → Pend hs ps is → GoodState (on_operand is hs p) (ps ++ p ∷ [])
 unfolding GoodState Good Pend
 operand_good is hs ps (part.Operand i) h = put_good is hs ps i (plain i) refl h
-operand_good is hs ps part.TooLarge h = record { front = ps; qs = part.TooLarge ∷ []; js = is; tree = Leaf (item.Constant (Number 0)); parts = refl; items = refl; pend = h; spells = operand part.TooLarge (item.Constant (Number 0)) refl }
 operand_good is hs ps part.Open h = (ps, refl, h)
 operand_good is hs ps part.Close h = tt
 operand_good is hs ps (part.Prefix op) h = (ps, part.Prefix op, refl, refl, h)
@@ -344,12 +339,12 @@ name_good op is hs ps (part.Operand (item.Name n)) h =
     }
 name_good op is hs ps (part.Operand (item.Local n)) h = tt
 name_good op is hs ps (part.Operand (item.Constant v)) h = tt
+name_good op is hs ps (part.Operand item.TooLarge) h = tt
 name_good op is hs ps (part.Operand item.Here) h = tt
 name_good op is hs ps (part.Operand item.Map) h = tt
 name_good op is hs ps (part.Operand item.CodeSize) h = tt
 name_good op is hs ps (part.Operand (item.Unary u)) h = tt
 name_good op is hs ps (part.Operand (item.Binary b)) h = tt
-name_good op is hs ps part.TooLarge h = tt
 name_good op is hs ps part.Open h = tt
 name_good op is hs ps part.Close h = tt
 name_good op is hs ps (part.Prefix u) h = tt
@@ -385,7 +380,6 @@ closed_good is (held.Open ∷ hs) ps w =
 operator_good : (is : List ExprItem) (hs : List Held) (ps : List Part) (p : Part) → Whole 0 ps is hs → GoodState (on_operator is hs p) (ps ++ p ∷ [])
 unfolding GoodState
 operator_good is hs ps (part.Operand i) w = tt
-operator_good is hs ps part.TooLarge w = tt
 operator_good is hs ps part.Open w = tt
 operator_good is hs ps part.Close w = let s = settled_whole 6 0 ps is hs (omega arith) tt w in closed_good (settled 6 is hs).0 (settled 6 is hs).1 ps s.0
 operator_good is hs ps (part.Prefix op) w = tt

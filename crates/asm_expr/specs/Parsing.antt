@@ -7,7 +7,6 @@ use Rattle.asm_model.specs.declared.exprs.Part.{Part}
 use Rattle.asm_model.specs.declared.exprs.Part.TheVariants as part
 use Rattle.asm_model.specs.declared.exprs.UnaryOp.{UnaryOp}
 use Rattle.asm_model.specs.declared.exprs.BinaryOp.{BinaryOp}
-use Rattle.asm_model.specs.declared.values.Value.TheVariants.{Number}
 use Rattle.asm_model.specs.Grammar.{level, plain}
 use Rattle.asm_expr.specs.declared.parser.Stage.{Stage}
 use Rattle.asm_expr.specs.declared.parser.Stage.TheVariants as stage
@@ -55,8 +54,6 @@ put items hs (Some i) = Some (record { due = stage.Operator; items = items ++ i 
 
 abbrev pub on_operand : List ExprItem → List Held → Part → Option State
 on_operand items hs (part.Operand i) = put items hs (plain i)
-on_operand items hs part.TooLarge =
-    Some (record { due = stage.Operator; items = items ++ item.Constant (Number 0) ∷ []; stack = hs })
 on_operand items hs part.Open = Some (record { due = stage.Operand; items = items; stack = held.Open ∷ hs })
 on_operand items hs part.Close = None
 on_operand items hs (part.Prefix op) = Some (record { due = stage.Operand; items = items; stack = held.Before op ∷ hs })
@@ -70,6 +67,7 @@ on_named op items hs (item.Name name) =
     Some (record { due = stage.Operator; items = items ++ item.Name name ∷ item.Unary op ∷ []; stack = hs })
 on_named op items hs (item.Local name) = None
 on_named op items hs (item.Constant v) = None
+on_named op items hs item.TooLarge = None
 on_named op items hs item.Here = None
 on_named op items hs item.Map = None
 on_named op items hs item.CodeSize = None
@@ -78,7 +76,6 @@ on_named op items hs (item.Binary b) = None
 
 abbrev pub on_name : UnaryOp → List ExprItem → List Held → Part → Option State
 on_name op items hs (part.Operand i) = on_named op items hs i
-on_name op items hs part.TooLarge = None
 on_name op items hs part.Open = None
 on_name op items hs part.Close = None
 on_name op items hs (part.Prefix u) = None
@@ -89,7 +86,6 @@ on_name op items hs part.Other = None
 
 abbrev pub on_operator : List ExprItem → List Held → Part → Option State
 on_operator items hs (part.Operand i) = None
-on_operator items hs part.TooLarge = None
 on_operator items hs part.Open = None
 on_operator items hs part.Close = closed (settled 6 items hs).0 (settled 6 items hs).1
 on_operator items hs (part.Prefix op) = None

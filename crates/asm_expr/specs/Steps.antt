@@ -3,12 +3,10 @@ use Rattle.std.specs.Prelude.{◌≡◌, ℕ, ◌<◌, ◌+◌, List, [], ◌∷
 use Rattle.asm_expr.specs.declared.parser.Held.{Held}
 use Rattle.asm_expr.specs.declared.parser.Parser.{Parser}
 use Rattle.sdt_fault.specs.declared.NoMemory.{NoMemory}
-use Rattle.std.specs.List.{list_any}
+use Rattle.asm_model.specs.declared.exprs.Expr.{Expr}
 use Rattle.asm_model.specs.declared.exprs.Part.{Part}
-use Rattle.asm_model.specs.Parts.{is_large}
 use Rattle.asm_model.specs.declared.tokens.Token.{Token}
 use Rattle.asm_model.specs.Operands.{operands_at}
-use Rattle.asm_expr.specs.declared.read.Reading.{Reading}
 use Rattle.asm_expr.specs.Parsing.{State, is_tight, parsed, started}
 
 -- the top, where it is tight, or the stack as it was
@@ -30,10 +28,10 @@ Takes next (Ok true) new = next ≡ Some new
 Takes next (Ok false) new = next ≡ None
 Takes next (Err e) new = Unit {0}
 
--- the items that parts spell, and whether one of them is too large; nothing where they spell none
-abbrev pub IsRead : List Part → Option Reading → Type 0
+-- the items that parts spell; nothing where they spell none
+abbrev pub IsRead : List Part → Option Expr → Type 0
 IsRead ps None = parsed (Some started) ps ≡ None
-IsRead ps (Some r) = (parsed (Some started) ps ≡ Some r.items.items) × (r.is_large ≡ list_any is_large ps)
+IsRead ps (Some e) = parsed (Some started) ps ≡ Some e.items
 
 -- the place of the first comma outside brackets, where there is one
 abbrev pub IsComma : List ℕ → List Token → Option ℕ → Type 0

@@ -272,8 +272,8 @@ fn directive_of(text: &[u8], operation: Option<Token>) -> Option<Directive>
 /// What a line says as a directive, from its tokens; None where it has no operation, or its operation is no
 /// directive. A line with faults is refused, and of several kinds the first in the order of the kinds is told:
 /// Syntax where the tokens have no form, UnknownWord for a word that expansion takes away, FloatingPoint for
-/// DCFS, DCFD and FN, BadOperand for attributes of AREA that no area has or that exclude each other, and for a
-/// mark of an import other than WEAK, Constant for a number above 2^32 - 1.
+/// DCFS, DCFD and FN, and BadOperand for attributes of AREA that no area has or that exclude each other, and for a
+/// mark of an import other than WEAK.
 pub fn parse_directive(
     alloc: Global,
     line: &Flat,

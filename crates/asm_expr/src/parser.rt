@@ -5,7 +5,7 @@ ghost use Rattle.asm_model.specs.Grammar as grammar;
 ghost use Rattle.asm_expr.specs.Parsing as parsing;
 ghost use Rattle.asm_expr.specs.Steps.{Pops, Takes, state_of};
 
-use asm_model::{BinaryOp, ExprItem, Part, UnaryOp, Value};
+use asm_model::{BinaryOp, ExprItem, Part, UnaryOp};
 use sdt_fault::NoMemory;
 use std::alloc::Global;
 
@@ -145,10 +145,6 @@ impl Parser {
                     return Ok(false);
                 }
                 self.items.push(item)?;
-                self.due = Stage::Operator;
-            }
-            Part::TooLarge => {
-                self.items.push(ExprItem::Constant(Value::Number(0)))?;
                 self.due = Stage::Operator;
             }
             Part::Open => {

@@ -37,7 +37,7 @@ fn part_of_kind(alloc: Global, kind: TokenKind, piece: &[u8]) -> Result<Part, No
             let name = Text::from_slice(alloc, inside(piece))?;
             Ok(Part::Operand(ExprItem::Name(name)))
         }
-        TokenKind::Number => Ok(number_part(piece)),
+        TokenKind::Number => Ok(Part::Operand(number_item(piece))),
         TokenKind::Quoted => {
             let words = undoubled(alloc, behind_one(piece))?;
             Ok(Part::Operand(ExprItem::Constant(Value::Words(words))))
@@ -130,12 +130,12 @@ fn number_value(piece: &[u8]) -> Option<u32>
     digits_value(10, piece)
 }
 
-fn number_part(piece: &[u8]) -> Part
-    ensures { result ≡ parts.number_part (parts.number_value piece.now) }
+fn number_item(piece: &[u8]) -> ExprItem
+    ensures { result ≡ parts.number_item (parts.number_value piece.now) }
 {
     match number_value(piece) {
-        None => Part::TooLarge,
-        Some(value) => Part::Operand(ExprItem::Constant(Value::Number(value))),
+        None => ExprItem::TooLarge,
+        Some(value) => ExprItem::Constant(Value::Number(value)),
     }
 }
 

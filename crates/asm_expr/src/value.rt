@@ -98,6 +98,7 @@ fn operand<'a>(alloc: Global, seen: &Seen<'a>, item: &'a ExprItem) -> Result<Slo
         ExprItem::Name(name) => Ok(Slot::Name(entry_named(seen, name))),
         ExprItem::Local(_) => Ok(Slot::Fault(LineKind::UnknownWord)),
         ExprItem::Constant(value) => Ok(Slot::Constant(value)),
+        ExprItem::TooLarge => Ok(Slot::Fault(LineKind::Constant)),
         ExprItem::Here => {
             let symbol = Text::from_slice(alloc, b"")?;
             Ok(Slot::Known(Value::Place {
@@ -214,8 +215,8 @@ fn value_of(
 }
 
 /// The value of an expression with these names, or the kind of its fault: UnknownWord for a name that isn't there
-/// and for a reference to a local label, Forward for a name that means something later, WrongType, OutOfRange,
-/// DivideByZero, and TooMany for a string of more than `STRING_BYTES` bytes.
+/// and for a reference to a local label, Constant for a number above 2^32 - 1, Forward for a name that means something
+/// later, WrongType, OutOfRange, DivideByZero, and TooMany for a string of more than `STRING_BYTES` bytes.
 pub fn evaluate(alloc: Global, e: &Expr, seen: &Seen<'_>) -> Result<Value, EvalFault>
     ensures { meaning.Evaluates (seen_names seen.now) e.now.items result }
 {

@@ -1,15 +1,12 @@
-use Rattle.std.proofs.Common.{refl}
-use Rattle.asm_expr.proofs.ParseLaws.{read_nothing, read_large, read_all}
+use Rattle.std.proofs.Common.{map}
+use Rattle.asm_model.specs.Parts.{part_of}
+use Rattle.asm_expr.proofs.ParseLaws.{parsed_none}
+use Rattle.asm_expr.proofs.Spelled.{parsed_spelled}
 use Rattle.asm_expr.proofs.read.expression.Goals as goal
 
-pub returns-in_default : goal.returns-in_default
-returns-in_default c =
-    read_nothing c.args.text.now c.args.text.now c.args.tokens.now c.in_ok-reading.field-0 refl c.in_ok-reading.ensures c.in_default.is
+pub returns-in-None : goal.returns-in-None
+returns-in-None c = parsed_none (map (part_of c.args.text.now) c.args.tokens.now) (rw c.in-None.is at c.in_ok-read.ensures)
 
-pub returns-then-reading : goal.returns-then-reading
-returns-then-reading c =
-    read_large c.args.text.now c.args.text.now c.args.tokens.now c.in_ok-reading.field-0 c.in-Some.reading refl c.in_ok-reading.ensures c.in-Some.is c.if-reading.true
-
-pub returns : goal.returns
-returns c =
-    read_all c.args.text.now c.args.text.now c.args.tokens.now c.in_ok-reading.field-0 c.in-Some.reading c.from_vec.result refl c.in_ok-reading.ensures c.in-Some.is c.if-reading.false c.from_vec.ensures
+pub returns-in-Some : goal.returns-in-Some
+returns-in-Some c =
+    parsed_spelled (map (part_of c.args.text.now) c.args.tokens.now) c.in-Some.expression.items (rw c.in-Some.is at c.in_ok-read.ensures)
