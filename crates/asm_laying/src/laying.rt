@@ -71,7 +71,7 @@ pub struct Ended {
 
 /// The entry of a statement's own name, with its size: the statement's where it is a label.
 fn sized(statement: &Statement, own: Option<LaidName>, size: u32) -> Option<LaidName>
-    ensures { (area : Option ℕ) (offset map : ℕ) (thumb : Bool) → own ≡ own_entry (labels.defined_by statement.now) area offset None thumb map → result ≡ own_entry (labels.defined_by statement.now) area offset (Some size) thumb map }
+    ensures { laying.Sizes (labels.defined_by statement.now) size own result }
 {
     let Some(mut entry) = own else {
         return None;
@@ -81,10 +81,7 @@ fn sized(statement: &Statement, own: Option<LaidName>, size: u32) -> Option<Laid
             entry.size = Some(size);
             Some(entry)
         }
-        _ => {
-            entry.size = Some(0);
-            Some(entry)
-        }
+        _ => Some(entry),
     }
 }
 
@@ -112,7 +109,7 @@ fn add_names(
     own: Option<LaidName>,
     equal: Option<LaidName>,
 ) -> Result<(), NoMemory>
-    ensures { OnOk result (names.new ≡ names.old ++ one_entry own ++ one_entry equal ++ labels.imported_entries (labels.imported_in statement.now.what)) }
+    ensures { OnOk result (names.new ≡ laying.with_entries names.old own equal statement.now) }
 {
     add_entry(alloc, names, own)?;
     add_entry(alloc, names, equal)?;
@@ -136,7 +133,7 @@ impl Laying {
     /// Reaches a statement: its area and its offset.
     fn enter(&mut self, alloc: Global, statement: &Statement) -> Result<Spot, NoMemory>
         requires { laying.MayStep self.old }
-        ensures { IfOk result (λ spot. (declared : List LaidName) (before : List LaidLine) → laying.IsLaying declared before self.old → laying.Reaches declared statement.now before self.new spot) }
+        ensures { IfOk result (λ spot. laying.Enters statement.now self.old self.new spot) }
     {
         let behind = self.behind;
         let next = behind.stepped(&statement.what);
@@ -167,7 +164,7 @@ impl Laying {
     ) -> Result<Result<Placed, LineKind>, NoMemory>
         requires there { IsThere spot.now.area self.old.areas.ends }
         requires extent { IsExtent (extent_of_code extent) }
-        ensures { (declared : List LaidName) (before : List LaidLine) → laying.Reaches declared statement.now before self.old spot.now → laying.AreNeeded declared spot.now (names_behind declared statement.now before) statement.now (Ok extent) (Ok map) equal → strings ≡ string_marks (names_behind declared statement.now before) statement.now.what → own ≡ laying.unsized_entry (labels.defined_by statement.now) spot.now → IfOk result (λ placed. laying.IsPlaced declared (laid_behind declared statement.now before) before self.new placed) }
+        ensures { laying.Puts statement.now spot.now (Ok extent) (Ok map) own equal strings self.old self.new result }
     {
         let placed = self.areas.ends.place(spot.area, extent)?;
         match placed {
@@ -208,7 +205,7 @@ impl Laying {
     ) -> Result<Result<Placed, LineKind>, NoMemory>
         requires there { IsThere spot.now.area self.old.areas.ends }
         requires extent { IsExtent (extent_of_code extent) }
-        ensures { (declared : List LaidName) (before : List LaidLine) → laying.Reaches declared statement.now before self.old spot.now → laying.AreNeeded declared spot.now (names_behind declared statement.now before) statement.now (Ok extent) map equal → strings ≡ string_marks (names_behind declared statement.now before) statement.now.what → own ≡ laying.unsized_entry (labels.defined_by statement.now) spot.now → IfOk result (λ placed. laying.IsPlaced declared (laid_behind declared statement.now before) before self.new placed) }
+        ensures { laying.Puts statement.now spot.now (Ok extent) map own equal strings self.old self.new result }
     {
         match map {
             Err(kind) => Ok(Err(kind)),
@@ -230,7 +227,7 @@ impl Laying {
     ) -> Result<Result<Placed, LineKind>, NoMemory>
         requires there { IsThere spot.now.area self.old.areas.ends }
         requires extent { laying.OkExtent extent }
-        ensures { (declared : List LaidName) (before : List LaidLine) → laying.Reaches declared statement.now before self.old spot.now → laying.AreNeeded declared spot.now (names_behind declared statement.now before) statement.now extent map equal → strings ≡ string_marks (names_behind declared statement.now before) statement.now.what → own ≡ laying.unsized_entry (labels.defined_by statement.now) spot.now → IfOk result (λ placed. laying.IsPlaced declared (laid_behind declared statement.now before) before self.new placed) }
+        ensures { laying.Puts statement.now spot.now extent map own equal strings self.old self.new result }
     {
         match extent {
             Err(kind) => Ok(Err(kind)),
@@ -240,7 +237,7 @@ impl Laying {
 
     /// What the lines leave.
     pub fn end(self) -> Ended
-        ensures { (declared : List LaidName) (before : List LaidLine) → laying.IsLaying declared before self → laying.IsEnded declared before result }
+        ensures { laying.Ends self result }
     {
         let Laying {
             areas,
@@ -265,7 +262,7 @@ impl Laying {
     ) -> Result<Laid, NoMemory>
         requires may { laying.MayLay declared.now self.old }
         requires said { IsSaid statement.now }
-        ensures { (before : List LaidLine) → laying.IsLaying declared.now before self.old → laying.Lays declared.now (laid_behind declared.now statement.now before) before self.new result }
+        ensures { laying.LaysNext declared.now statement.now self.old self.new result }
     {
         extents_are_placeable();
         let spot = self.enter(alloc, statement)?;

@@ -174,35 +174,8 @@ line_plain (Some n) (line.Equ e) h = h
 line_plain (Some n) l h = tt
 
 pub directive_gives : (d : Directive) → Gives IsPlainLine (form_of_directive d)
-directive_gives directive.Area = λ n a. tt
-directive_gives directive.Entry = tt
-directive_gives directive.End = tt
-directive_gives directive.Export = λ n. tt
-directive_gives directive.Import = λ n w. tt
-directive_gives directive.Extern = λ n w. tt
-directive_gives directive.Keep = λ n. tt
 directive_gives directive.Equ = λ e p. p
-directive_gives directive.Rn = λ r. tt
-directive_gives directive.Rout = tt
-directive_gives directive.Assert = λ e p. tt
-directive_gives directive.Nofp = tt
-directive_gives directive.Opt = λ e p. tt
-directive_gives directive.Ttl = tt
-directive_gives directive.Subt = tt
-directive_gives directive.Dcd = λ es. tt
-directive_gives directive.Dcdu = λ es. tt
-directive_gives directive.Dcw = λ es. tt
-directive_gives directive.Dcb = λ es. tt
-directive_gives directive.Space = λ e p. tt
-directive_gives directive.Align = λ b. tt
-directive_gives directive.Ltorg = tt
-directive_gives directive.Data = tt
-directive_gives directive.Map = λ e p. tt
-directive_gives directive.Field = λ e p. tt
-directive_gives directive.Code16 = tt
-directive_gives directive.Code32 = tt
-directive_gives directive.FloatingPoint = tt
-directive_gives directive.Expansion = tt
+directive_gives d = search tt
 
 pub said_plain : (flat : Flat) (s : Sentence) (d : Option Directive) (m : Statement) → SaysAs flat s d (Ok (Some m)) → IsPlain (defined_by m)
 said_plain flat s None m e = absurd (cc)
@@ -224,10 +197,7 @@ read_directives_are_plain flat ts s says = said_plain flat (sentence ts) (direct
 pub other_plain : (o : Option (List ℕ)) (w : What) → IsNoDirective w → IsPlain (field_defines o w)
 other_plain o (what.Directive l) h = absurd h
 other_plain None w h = tt
-other_plain (Some n) what.Nothing h = tt
-other_plain (Some n) (what.Arm l) h = tt
-other_plain (Some n) (what.Thumb l) h = tt
-other_plain (Some n) (what.Pseudo l) h = tt
+other_plain (Some n) w h = tt
 
 pub other_statements_are_plain : (s : Statement) → IsNoDirective s.what → IsPlain (defined_by s)
 other_statements_are_plain s h = other_plain s.label s.what h

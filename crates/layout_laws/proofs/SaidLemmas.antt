@@ -19,14 +19,7 @@ use Rattle.asm_model.specs.Sound.{HasNoPlace, HaveNoPlaces}
 
 abbrev pub IsPlainPart : Part → Type 0
 IsPlainPart (part.Operand i) = HasNoPlace i
-IsPlainPart part.TooLarge = Unit {0}
-IsPlainPart part.Open = Unit {0}
-IsPlainPart part.Close = Unit {0}
-IsPlainPart (part.Prefix op) = Unit {0}
-IsPlainPart (part.OfName op) = Unit {0}
-IsPlainPart (part.Infix op) = Unit {0}
-IsPlainPart (part.Sum u b) = Unit {0}
-IsPlainPart part.Other = Unit {0}
+IsPlainPart _ = Unit {0}
 
 pub or_plain : (b : Bool) (x y : Part) → IsPlainPart x → IsPlainPart y → IsPlainPart (cond b x y)
 or_plain true x y h k = h
@@ -41,10 +34,14 @@ worded_plain s = search (or_plain) depth 25
 pub sign_plain : (s : List ℕ) → IsPlainPart (plain_part s)
 sign_plain s = search (or_plain) depth 25
 
+pub number_plain : (b : Bool) (n : ℕ) → HasNoPlace (cond b (item.Constant (Number n)) item.TooLarge)
+number_plain true n = tt
+number_plain false n = tt
+
 pub kind_plain : (k : TokenKind) (s : List ℕ) → IsPlainPart (part_of_kind k s)
 kind_plain kind.Name s = tt
 kind_plain kind.Barred s = tt
-kind_plain kind.Number s = or_plain (nat_lt (number_value s) (2 ^ 32)) (part.Operand (item.Constant (Number (number_value s)))) part.TooLarge tt tt
+kind_plain kind.Number s = number_plain (nat_lt (number_value s) (2 ^ 32)) (number_value s)
 kind_plain kind.Quoted s = tt
 kind_plain kind.Character s = tt
 kind_plain kind.Braced s = braced_plain s
@@ -71,25 +68,13 @@ items_joined [] js h k = k
 items_joined (i ∷ is) js h k = (h.0, items_joined is js h.1 k)
 
 pub plain_item : (j i : ExprItem) → plain j ≡ Some i → HasNoPlace j → HasNoPlace i
-plain_item (item.Name n) i e h = let x : item.Name n ≡ i = cc in subst HasNoPlace x h
-plain_item (item.Local n) i e h = let x : item.Local n ≡ i = cc in subst HasNoPlace x h
-plain_item (item.Constant v) i e h = let x : item.Constant v ≡ i = cc in subst HasNoPlace x h
-plain_item item.Here i e h = let x : item.Here ≡ i = cc in subst HasNoPlace x h
-plain_item item.Map i e h = let x : item.Map ≡ i = cc in subst HasNoPlace x h
-plain_item item.CodeSize i e h = let x : item.CodeSize ≡ i = cc in subst HasNoPlace x h
 plain_item (item.Unary op) i e h = absurd (cc)
 plain_item (item.Binary op) i e h = absurd (cc)
+plain_item j i e h = let x : j ≡ i = cc in subst HasNoPlace x h
 
 pub operand_plain : (p : Part) (i : ExprItem) → operand_of p ≡ Some i → IsPlainPart p → HasNoPlace i
 operand_plain (part.Operand j) i e h = plain_item j i e h
-operand_plain part.TooLarge i e h = plain_item (item.Constant (Number 0)) i e tt
-operand_plain part.Open i e h = absurd (cc)
-operand_plain part.Close i e h = absurd (cc)
-operand_plain (part.Prefix op) i e h = absurd (cc)
-operand_plain (part.OfName op) i e h = absurd (cc)
-operand_plain (part.Infix op) i e h = absurd (cc)
-operand_plain (part.Sum u b) i e h = absurd (cc)
-operand_plain part.Other i e h = absurd (cc)
+operand_plain p i e h = absurd (cc)
 
 pub spelled_no_places : (l : ℕ) (ps : List Part) (t : Tree) → Spells l ps t → ArePlainParts ps → HaveNoPlaces (postfix t)
 spelled_no_places l ps t (operand p i e) h = (operand_plain p i e h.0, tt)
@@ -104,7 +89,7 @@ spelled_no_places l ps t (tighter k qs u d) h = spelled_no_places k qs u d h
 
 pub read_expressions_are_plain : (text : List ℕ) (ts : List Token) (e : Expr) → ParsesTokens text ts (Ok e) → HaveNoPlaces e.items
 read_expressions_are_plain text ts e h =
-    subst HaveNoPlaces (sym h.0.2) (spelled_no_places 6 (map (part_of text) ts) h.0.0 h.0.1 (tokens_plain text ts))
+    subst HaveNoPlaces (sym h.2) (spelled_no_places 6 (map (part_of text) ts) h.0 h.1 (tokens_plain text ts))
 
 -- ---- names
 
