@@ -2,9 +2,10 @@
 use Rattle.std.proofs.Common.{◌≡◌, ℕ, ◌+◌, List, [], ◌∷◌, ◌++◌, append-nil, refl, subst, None, nat_lt}
 use Rattle.std.specs.Prelude.{Result, Ok, Err}
 use Rattle.sdt_fault.specs.declared.kinds.LineKind.{LineKind}
-use Rattle.sdt_fault.specs.declared.kinds.LineKind.TheVariants.{TooMany}
+use Rattle.sdt_fault.specs.declared.kinds.LineKind.TheVariants.{Constant, TooMany}
 use Rattle.asm_model.specs.declared.statements.Statement.{Statement}
 use Rattle.asm_model.specs.Kinds.{told_kind}
+use Rattle.asm_model.specs.Exprs.{has_large}
 use Rattle.asm_model.specs.Labels.{defined_by}
 use Rattle.asm_model.specs.Laid.{LaidLine, statements_of, taken, pieces_of, reversed, laid, final_names}
 use Rattle.asm_model.specs.LayoutKinds.{fault_kinds, kind_if, map_kinds, no_area_kinds, contents_kinds, contents_behind, area_kinds, name_kinds, settled_kinds, first_equal, state_kinds, area_bytes, layout_kinds, told_at, first_fault, entry_kinds, literal_kinds, first_late, settled, equals_in}
@@ -45,7 +46,9 @@ last_kinds S all l before h =
     ++ contents_kinds (contents_behind (l.statement ∷ statements_of before)) l.thumb l.statement.what ++ area_kinds l.seen l.statement.what before
     ++ name_kinds l.statement (statements_of before) ++ settled_kinds S (first_equal (defined_by l.statement) (statements_of before)) in
     let b = state_kinds l.area l.thumb l.statement.what all in
-    let p = both_empty (a ++ b) (kind_if (nat_lt area_bytes (l.offset + l.size)) TooMany) h in ((both_empty a b p.0).1, p.1)
+    let c = kind_if (nat_lt area_bytes (l.offset + l.size)) TooMany in
+    let o = both_empty (a ++ b ++ c) (kind_if (has_large l.statement.what) Constant) h in
+    let p = both_empty (a ++ b) c o.0 in ((both_empty a b p.0).1, p.1)
 
 abbrev pub late_kinds : List LaidLine → List LaidLine → LaidLine → List LaidLine → List LineKind
 late_kinds all before l rest =
