@@ -8,6 +8,7 @@ use Rattle.sdt_fault.specs.declared.kinds.LineKind.TheVariants.{Syntax, Floating
 use Rattle.sdt_word.specs.declared.codes.Condition.{Condition}
 use Rattle.arm_isa.specs.declared.instr.Operation.{Operation}
 use Rattle.arm_isa.specs.declared.instr.HalfKind.{HalfKind}
+use Rattle.arm_isa.specs.declared.instr.HalfKind.TheVariants as half
 use Rattle.asm_model.specs.declared.tokens.Token.{Token}
 use Rattle.asm_model.specs.declared.exprs.Expr.{Expr}
 use Rattle.asm_model.specs.declared.arm_lines.ArmLine.TheVariants as line
@@ -61,7 +62,7 @@ abbrev pub ReadsData : List ℕ → Condition → Operation → Bool → Result 
 ReadsData text c o s rs x sh r =
     (y : Result Second LineKind) × ReadsSecond text x sh y × (r ≡ on_both (λ p z. data_line c o s p.0 p.1 z) rs y)
 
--- the operands of MOV and MVN, of comparisons, and of the others
+-- the operands of MOV and MVN, of comparisons, which always set the flags, and of the others
 abbrev pub ReadsMove : List ℕ → Condition → Operation → Bool → Cuts → Result What LineKind → Type 0
 ReadsMove text c o s (two d x) r = ReadsData text c o s (both (register text d) absent) x None r
 ReadsMove text c o s (three d x sh) r = ReadsData text c o s (both (register text d) absent) x (Some sh) r
@@ -79,7 +80,7 @@ ReadsSum text c o s _ r = r ≡ Err Syntax
 
 abbrev pub ReadsShape : List ℕ → Condition → Operation → Bool → Shape → Cuts → Result What LineKind → Type 0
 ReadsShape text c o s shape.Move os r = ReadsMove text c o s os r
-ReadsShape text c o s shape.Comparison os r = ReadsComparison text c o s os r
+ReadsShape text c o s shape.Comparison os r = ReadsComparison text c o true os r
 ReadsShape text c o s shape.Sum os r = ReadsSum text c o s os r
 
 -- Rd, Rm, Rs, and Rn where it accumulates
@@ -232,7 +233,8 @@ ReadsWord text mnemonic.BranchExchange c ts r = r ≡ exchange text c (cut (oper
 ReadsWord text mnemonic.ReadStatus c ts r = r ≡ read_status text c (cut (operands text ts))
 ReadsWord text mnemonic.WriteStatus c ts r = ReadsWriteStatus text c (cut (operands text ts)) r
 ReadsWord text (mnemonic.Transfer l b t) c ts r = ReadsTransfer text c l b t (cut (operands text ts)) r
-ReadsWord text (mnemonic.TransferHalf l k) c ts r = ReadsHalf text c l k (cut (operands text ts)) r
+ReadsWord text (mnemonic.LoadHalf k) c ts r = ReadsHalf text c true k (cut (operands text ts)) r
+ReadsWord text mnemonic.StoreHalf c ts r = ReadsHalf text c false half.Half (cut (operands text ts)) r
 ReadsWord text (mnemonic.TransferBlock l m) c ts r = r ≡ block text c l m (cut (operands text ts))
 ReadsWord text (mnemonic.Branch l) c ts r = Expression text (λ e. what.Arm (line.Branch c l e)) ts r
 ReadsWord text mnemonic.SoftwareInterrupt c ts r =

@@ -22,7 +22,7 @@ use crate::operands::{
 };
 use crate::transfers::{HalfTransfer, Transfer, block, transfer_half, word_transfer};
 use crate::words::{Mnemonic, Shape, shape_of};
-use arm_isa::Operation;
+use arm_isa::{HalfKind, Operation};
 use asm_expr::read::expression;
 use asm_model::{ArmLine, Expr, PseudoLine, Register, Token, TokenKind, What};
 use sdt_fault::NoMemory;
@@ -200,7 +200,13 @@ fn data_words(alloc: Global, text: &[u8], process: Process, tokens: &[Token]) ->
     let cut = cut_operands(text, tokens);
     match shape_of(process.operation) {
         Shape::Move => moves(alloc, text, process, cut),
-        Shape::Comparison => comparisons(alloc, text, process, cut),
+        Shape::Comparison => {
+            let process = Process {
+                set_flags: true,
+                ..process
+            };
+            comparisons(alloc, text, process, cut)
+        }
         Shape::Sum => sums(alloc, text, process, cut),
     }
 }
@@ -556,11 +562,19 @@ fn of_word(
             };
             word_transfer(alloc, text, word, cut)
         }
-        Mnemonic::TransferHalf { load, kind } => {
+        Mnemonic::LoadHalf(kind) => {
             let word = HalfTransfer {
                 condition,
-                load,
+                load: true,
                 kind,
+            };
+            transfer_half(alloc, text, word, cut)
+        }
+        Mnemonic::StoreHalf => {
+            let word = HalfTransfer {
+                condition,
+                load: false,
+                kind: HalfKind::Half,
             };
             transfer_half(alloc, text, word, cut)
         }
