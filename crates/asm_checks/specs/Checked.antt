@@ -1,14 +1,17 @@
 -- The faults of a line that laying out finds without values, and what lines before it leave for them. SDT 2.50
 -- Reference Guide, chapter on the assembler; the kinds are this project's. Lines are listed with the nearest first.
-use Rattle.std.specs.Prelude.{◌≡◌, ℕ, List, [], ◌∷◌, ◌++◌, not, Bool, false, Option, Result}
+use Rattle.std.specs.Prelude.{◌≡◌, ℕ, List, [], ◌∷◌, ◌++◌, not, Bool, false, Option, None, Result}
 use Rattle.std.specs.List.{list_any}
 use Rattle.sdt_fault.specs.declared.kinds.LineKind.{LineKind}
+use Rattle.sdt_fault.specs.declared.kinds.LineKind.TheVariants.{Constant}
 use Rattle.asm_model.specs.declared.exprs.Expr.{Expr}
 use Rattle.asm_model.specs.declared.statements.Statement.{Statement}
+use Rattle.asm_model.specs.Exprs.{has_large}
 use Rattle.asm_model.specs.Forms.{same}
+use Rattle.asm_model.specs.Kinds.{told_kind}
 use Rattle.asm_model.specs.Labels.{defined_by}
 use Rattle.asm_model.specs.Laid.{LaidLine, statements_of}
-use Rattle.asm_model.specs.LayoutKinds.{is_entry, no_area_kinds, contents_kinds, contents_behind, area_kinds, name_kinds, names_behind, first_equal, settled_kinds, in_thumb_area, state_kinds}
+use Rattle.asm_model.specs.LayoutKinds.{is_entry, no_area_kinds, kind_if, contents_kinds, contents_behind, area_kinds, name_kinds, names_behind, first_equal, settled_kinds, in_thumb_area, state_kinds}
 use Rattle.asm_checks.specs.declared.checks.Checks.{Checks}
 use Rattle.asm_checks.specs.Areas.{AreAreasOf, IsExponent}
 use Rattle.asm_sets.specs.Sets.{HaveSame}
@@ -21,6 +24,7 @@ checked_kinds settled all l before =
     ++ contents_kinds (contents_behind (l.statement ∷ statements_of before)) l.thumb l.statement.what
     ++ area_kinds l.seen l.statement.what before ++ name_kinds l.statement (statements_of before)
     ++ settled_kinds settled (first_equal (defined_by l.statement) (statements_of before)) ++ state_kinds l.area l.thumb l.statement.what all
+    ++ kind_if (has_large l.statement.what) Constant
 
 -- what is kept of lines of which none has such a kind
 pub record IsChecked (before : List LaidLine) (c : Checks) : Type 0 where
@@ -35,10 +39,26 @@ IsCircular settled [] b = b ≡ false
 IsCircular settled (e ∷ es) b = b ≡ not (list_any (same e.0) settled)
 
 -- what is known of a line before it is checked
-pub record IsLine (settled : List (List ℕ)) (all : List Statement) (s : Statement) (area : Option ℕ) (thumb thumb_area : Bool) (x : Result ℕ LineKind) (circular : Bool) (l : LaidLine) (before : List LaidLine) : Type 0 where
+pub record IsLine (s : Statement) (area : Option ℕ) (thumb thumb_area : Bool) (x : Result ℕ LineKind) (circular : Bool)
+    (settled : List (List ℕ)) (all : List Statement) (l : LaidLine) (before : List LaidLine) : Type 0 where
   pub said : l.statement ≡ s
   pub stands : l.area ≡ area
   pub state : l.thumb ≡ thumb
   pub within : thumb_area ≡ in_thumb_area area all
   pub aligned : IsExponent l.seen s.what x
   pub known : IsCircular settled (first_equal (defined_by s) (statements_of before)) circular
+
+abbrev pub Line : Type 1
+Line = List (List ℕ) → List Statement → LaidLine → List LaidLine → Type 0
+
+-- the kind that is told of a line of which this is known
+abbrev pub Tells : Line → Checks → Option LineKind → Type 0
+Tells known old told =
+    (settled : List (List ℕ)) (all : List Statement) (l : LaidLine) (before : List LaidLine)
+    → IsChecked before old → known settled all l before → told ≡ told_kind (checked_kinds settled all l before)
+
+-- what is kept behind it, where none is told
+abbrev pub Keeps : Line → Checks → Checks → Option LineKind → Type 0
+Keeps known old new told =
+    (settled : List (List ℕ)) (all : List Statement) (l : LaidLine) (before : List LaidLine)
+    → IsChecked before old → known settled all l before → told ≡ None → IsChecked (l ∷ before) new

@@ -1,3 +1,4 @@
 -- What the clauses of checks cite.
 pub mod Areas
 pub mod Checked
+pub mod Large

@@ -7,9 +7,10 @@ ghost use Rattle.asm_model.specs.declared.statements.Statement.{Statement};
 ghost use Rattle.asm_model.specs.Kinds.{told_kind};
 ghost use Rattle.asm_model.specs.Laid.{LaidLine};
 ghost use Rattle.asm_model.specs.LayoutKinds as layout;
-ghost use Rattle.asm_checks.specs.Checked.{checked_kinds, IsChecked, IsCircular, IsLine};
+ghost use Rattle.asm_checks.specs.Checked.{IsChecked, IsCircular, IsLine, Keeps, Tells};
 
 use crate::areas::{AreaMarks, area_kind};
+use crate::large::has_large;
 use crate::names::is_repeated;
 use crate::places::{contents_from, contents_kind, is_entry, no_area_kind, state_kind};
 use asm_expr::told::{first_told, kind_if};
@@ -89,8 +90,8 @@ impl Checks {
         exponent: Result<u32, LineKind>,
         circular: bool,
     ) -> Result<Option<LineKind>, NoMemory>
-        ensures told { IfOk result (λ told. (settled : List (List ℕ)) (all : List Statement) (l : LaidLine) (before : List LaidLine) → IsChecked before self.old → IsLine settled all statement.now area thumb thumb_area exponent circular l before → told ≡ told_kind (checked_kinds settled all l before)) }
-        ensures behind { IfOk result (λ told. (settled : List (List ℕ)) (all : List Statement) (l : LaidLine) (before : List LaidLine) → IsChecked before self.old → IsLine settled all statement.now area thumb thumb_area exponent circular l before → told ≡ None → IsChecked (l ∷ before) self.new) }
+        ensures told { IfOk result (λ told. Tells (IsLine statement.now area thumb thumb_area exponent circular) self.old told) }
+        ensures behind { IfOk result (λ told. Keeps (IsLine statement.now area thumb thumb_area exponent circular) self.old self.new told) }
     {
         self.contents = contents_from(&statement.what, self.contents);
         let here = first_told(
@@ -103,6 +104,7 @@ impl Checks {
         let defined = first_told(name_kind(repeated, second), circular_kind(circular));
         let found = first_told(here, first_told(attributes, defined));
         let state = state_kind(&statement.what, area, thumb, thumb_area);
-        Ok(first_told(found, state))
+        let large = kind_if(has_large(&statement.what), LineKind::Constant);
+        Ok(first_told(first_told(found, state), large))
     }
 }

@@ -5,6 +5,7 @@
 mod areas;
 pub mod checks;
 mod labels;
+mod large;
 mod names;
 mod places;
 

@@ -31,6 +31,7 @@ use Rattle.asm_laying.specs.declared.finding.Equated.{Equated}
 use Rattle.asm_laying.specs.declared.finding.Spot.{Spot}
 use Rattle.asm_laying.specs.declared.laying.Laying.{Laying}
 use Rattle.asm_laying.specs.declared.laying.Placed.{Placed}
+use Rattle.asm_names.specs.declared.lines.Place.{Place}
 use Rattle.asm_names.specs.Defining.{own_entry}
 use Rattle.asm_names.specs.Steps.{one_entry}
 use Rattle.asm_laying.specs.Laying.{IsAt, IsSpot, AreNeeded, Reaches, OkExtent, equal_names, told_of, IsLaid, IsPlaced as IsPlacedLine, Tells}
@@ -126,7 +127,7 @@ fault_is k (Err j) h = cc
 
 standing_any : (area : ℕ) (before : List Piece) (e f : Extent) (o : Option Standing) → IsStanding area (piece None e ∷ before) o → IsStanding area (piece None f ∷ before) o
 standing_any area before e f None h = h
-standing_any area before e f (Some a) h = record { end = h.end; waiting = h.waiting; pools = h.pools }
+standing_any area before e f (Some a) h = record { end = h.end; waiting = h.waiting; placed = h.placed; pools = h.pools }
 
 all_there : (n : ℕ) (m : ℕ) → min n most_bytes ≡ m → m ≤ 2 ^ 24 → min n most_bytes ≡ n
 all_there n m h g = omega arith
@@ -227,6 +228,10 @@ both_hold : (a b : Bool) → (a && b) ≡ true → (a ≡ true) × (b ≡ true)
 both_hold true b h = (refl, h)
 both_hold false b h = absurd (cc)
 
+abbrev placed_at : Spot → ℕ → ℕ → Place
+placed_at spot offset size =
+    record { area = spot.area; offset = offset; size = size; thumb = spot.thumb; thumb_label = spot.label_thumb; map = spot.map }
+
 pub lays : (d : List LaidName) (s : Statement) (before : List LaidLine) (old new : Laying) (spot : Spot) (x : Code) (map : ℕ) (equal : Equated) (p : Put)
     → IsAt d s before old → IsSpot s before spot
     → AreNeeded d spot (names_behind d s before) s (Ok x) (Ok map) equal
@@ -235,7 +240,7 @@ pub lays : (d : List LaidName) (s : Statement) (before : List LaidLine) (old new
     → new.names ≡ old.names ++ one_entry (own_entry (defined_by s) spot.area spot.offset (Some p.size) spot.label_thumb spot.map) ++ one_entry equal.entry ++ imported_entries (imported_in s.what)
     → new.all_known ≡ (old.all_known && equal.known)
     → (strings : List Bool) → strings ≡ string_marks (names_behind d s before) s.what
-    → IsLaid d (laid_behind d s before) before new (record { area = spot.area; offset = p.offset; size = p.size; thumb = spot.thumb; thumb_label = spot.label_thumb; map = spot.map; literal = p.literal; strings = strings })
+    → IsLaid d (laid_behind d s before) before new (record { place = placed_at spot p.offset p.size; literal = p.literal; strings = strings })
 lays d s before old new spot x map equal p at sp found placed long behind mapped numbers count current names known strings marked =
     let area = area_behind (s ∷ statements_of before) in
     let pieces = pieces_of before in
@@ -256,12 +261,7 @@ lays d s before old new spot x map equal p at sp found placed long behind mapped
     let equal_eq : one_entry equal.entry ≡ equal_names d area r (defined_by s) = found.equal_is.entry ∙ ap (λ a. equal_names d a r (defined_by s)) sp.area in
     record {
       told = told_large d s before e.0 spot.map map false e.1 (sym found.after_is) (fits_low p.offset p.size l.offset l.size offset size here.fits);
-      area = sp.area;
-      offset = offset;
-      size = size;
-      thumb = sp.thumb;
-      thumb_label = sp.label_thumb;
-      map = sp.map;
+      place = record { area = sp.area; offset = offset; size = size; thumb = sp.thumb; thumb_label = sp.label_thumb; map = sp.map };
       literal = here.literal ∙ ap (λ q. entry_behind area pieces (taken q)) (sym e.1);
       strings = marked;
       laying = record {

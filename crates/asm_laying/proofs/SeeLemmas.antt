@@ -12,7 +12,7 @@ use Rattle.asm_model.specs.declared.statements.Statement.{Statement}
 use Rattle.asm_model.specs.declared.statements.What.{What}
 use Rattle.asm_model.specs.declared.statements.What.TheVariants as what
 use Rattle.asm_model.specs.declared.names.Names.{Names}
-use Rattle.asm_model.specs.AtLine.{is_value, known_entry, own_names, seen_behind}
+use Rattle.asm_model.specs.AtLine.{is_value, own_names, seen_behind}
 use Rattle.asm_model.specs.Entries.{equal_entry}
 use Rattle.asm_model.specs.Extents.{value_there}
 use Rattle.asm_model.specs.Grammar.{Tree}
@@ -79,14 +79,15 @@ value_known (Ok v) h = (v, refl)
 value_known (Err k) h = absurd (cc)
 
 equated : (d : List LaidName) (area : Option ℕ) (s : Names) (name : List ℕ) (e : Expr) (q : Equated) → IsRead e
-    → one_entry q.entry ≡ known_entry (equal_entry d area name) (value_there s e) → q.known ≡ is_value (value_there s e)
+    → q.entry ≡ Some (equal_entry d area name (value_there s e)) → q.known ≡ is_value (value_there s e)
     → IsEquated d area s (Equal name e) q
 equated d area s name e q read entry known =
     let is : tree_of e ≡ Some read.tree = trees_read_back read.parts read.tree e read.spelled read.items in
-    record { entry = rw is (rw is at entry); known = λ k. value_known (value_there s e) (sym known ∙ k) }
+    record { entry = rw is (rw is at ap one_entry entry); known = λ k. value_known (value_there s e) (sym known ∙ k) }
 
 pub equates : (d : List LaidName) (area : Option ℕ) (s : Names) (name : List ℕ) (e : Expr) (v : Result Value LineKind) (r : Result Equated NoMemory) → IsRead e
-    → v ≡ value_there s e → IfOk r (λ q. one_entry q.entry ≡ known_entry (equal_entry d area name) v) → IfOk r (λ q. q.known ≡ is_value v)
+    → v ≡ value_there s e → IfOk r (λ q. q.entry ≡ Some (equal_entry d area name v)) → IfOk r (λ q. q.known ≡ is_value v)
     → IfOk r (λ q. IsEquated d area s (Equal name e) q)
-equates d area s name e v (Ok q) read is entry known = equated d area s name e q read (entry ∙ ap (λ x. known_entry (equal_entry d area name) x) is) (known ∙ ap is_value is)
+equates d area s name e v (Ok q) read is entry known =
+    equated d area s name e q read (entry ∙ ap (λ x. Some (equal_entry d area name x)) is) (known ∙ ap is_value is)
 equates d area s name e v (Err m) read is entry known = tt

@@ -1,6 +1,6 @@
 -- The state behind the lines of a source so far, and what a statement more gives. SDT 2.50 Reference Guide, chapter on the
 -- assembler. Lines are listed with the nearest first.
-use Rattle.std.specs.Prelude.{◌≡◌, ℕ, ◌+◌, ◌<◌, List, [], ◌∷◌, ◌++◌, length, nat_lt, true, Option, Some, None, Result, Ok, Err}
+use Rattle.std.specs.Prelude.{◌≡◌, ℕ, ◌+◌, ◌<◌, List, [], ◌∷◌, ◌++◌, length, nat_lt, Bool, true, Option, Some, None, Result, Ok, Err, IfOk}
 use Rattle.sdt_fault.specs.declared.NoMemory.{NoMemory}
 use Rattle.sdt_fault.specs.declared.kinds.LineKind.{LineKind}
 use Rattle.sdt_fault.specs.declared.kinds.LineKind.TheVariants.{TooMany}
@@ -11,11 +11,12 @@ use Rattle.asm_model.specs.AtLine.{seen_behind, added_names}
 use Rattle.asm_model.specs.Kinds.{told_kind}
 use Rattle.asm_model.specs.Before.{thumb_behind, areas_behind, area_behind, is_thumb_label}
 use Rattle.asm_model.specs.Extents.{extent_of}
-use Rattle.asm_model.specs.Labels.{Defined, Equal, defined_by}
-use Rattle.asm_model.specs.Laid.{LaidLine, statements_of, lines_of, taken, pieces_of, map_behind, offset_behind, tree_equated}
+use Rattle.asm_model.specs.Labels.{Defined, Equal, defined_by, imported_in, imported_entries}
+use Rattle.asm_model.specs.Laid.{LaidLine, statements_of, lines_of, taken, pieces_of, map_behind, offset_behind, names_behind, laid_behind, tree_equated}
 use Rattle.asm_model.specs.Trees.{tree_of}
 use Rattle.asm_model.specs.LayoutKinds.{fault_kinds, kind_if, map_kinds, area_bytes}
 use Rattle.asm_names.specs.Defining.{own_entry}
+use Rattle.asm_names.specs.Lines.{IsPlace}
 use Rattle.asm_names.specs.Steps.{one_entry}
 use Rattle.asm_offsets.specs.Running.{IsBehind, entry_behind}
 use Rattle.asm_offsets.specs.declared.extents.Extent.{Extent as Code}
@@ -62,6 +63,9 @@ pub record IsEnded (declared : List LaidName) (before : List LaidLine) (e : Ende
   pub ends : IsBehind (pieces_of before) e.ends
   pub names : AreKnownNames declared before e.names
 
+abbrev pub Ends : Laying → Ended → Type 0
+Ends state e = (declared : List LaidName) (before : List LaidLine) → IsLaying declared before state → IsEnded declared before e
+
 -- ---- a statement more
 
 -- where a statement stands behind lines
@@ -84,6 +88,10 @@ pub record Reaches (declared : List LaidName) (s : Statement) (before : List Lai
   pub at : IsAt declared s before state
   pub spot : IsSpot s before p
 
+-- a statement more is reached
+abbrev pub Enters : Statement → Laying → Laying → Spot → Type 0
+Enters s old new p = (declared : List LaidName) (before : List LaidLine) → IsLaying declared before old → Reaches declared s before new p
+
 -- ---- what a statement's values are needed for
 
 -- the expression of a name is what tokens spell
@@ -91,7 +99,7 @@ abbrev pub DefinedRead : Defined → Type 0
 DefinedRead (Equal name e) = IsRead e
 DefinedRead _ = Unit {0}
 
--- the entry of a name for an expression, unless its value needs a later name
+-- the entry of a name for an expression
 abbrev pub equal_names : List LaidName → Option ℕ → Names → Defined → List LaidName
 equal_names names area s (Equal name e) = added_names s (tree_equated names area name (tree_of e))
 equal_names names area s _ = []
@@ -104,6 +112,16 @@ pub record IsEquated (names : List LaidName) (area : Option ℕ) (s : Names) (x 
 abbrev pub unsized_entry : Defined → Spot → Option LaidName
 unsized_entry x p = own_entry x p.area p.offset None p.label_thumb p.map
 
+-- the entry of a statement's own name, with the size of the statement, from the one without
+abbrev pub Sizes : Defined → ℕ → Option LaidName → Option LaidName → Type 0
+Sizes x size own sized =
+    (area : Option ℕ) (offset map : ℕ) (thumb : Bool) → own ≡ own_entry x area offset None thumb map
+    → sized ≡ own_entry x area offset (Some size) thumb map
+
+-- names with those that a statement adds: its own, that of its name for an expression, and the imported one
+abbrev pub with_entries : List LaidName → Option LaidName → Option LaidName → Statement → List LaidName
+with_entries names own equal s = names ++ one_entry own ++ one_entry equal ++ imported_entries (imported_in s.what)
+
 -- what a statement takes up, the storage map behind it and its name for an expression
 pub record AreNeeded (names : List LaidName) (p : Spot) (s : Names) (statement : Statement) (extent : Result Code LineKind) (after : Result ℕ LineKind) (equal : Equated) : Type 0 where
   pub extent_is : coded extent ≡ all_capped (extent_of s statement.what)
@@ -114,6 +132,12 @@ pub record IsFound (names : List LaidName) (p : Spot) (s : Names) (statement : S
   pub needed : AreNeeded names p s statement f.extent f.map f.equal
   pub number : f.number ≡ said_number s statement.what
   pub strings : f.strings ≡ string_marks s statement.what
+
+-- what is found for a statement at a spot, where these names are known and its own besides
+abbrev pub Finds : List LaidName → List LaidName → Option LaidName → Spot → Statement → Found → Type 0
+Finds declared names own p s f =
+    (before : List LaidLine) → IsSpot s before p → names ≡ seen_behind declared (lines_of before) → own ≡ unsized_entry (defined_by s) p
+    → IsFound declared p (names_behind declared s before) s f
 
 -- what an expression sees at a spot, where a source has these names, those are known, and its line's own besides
 abbrev pub names_shown : List LaidName → List LaidName → List LaidName → Spot → Names
@@ -132,12 +156,7 @@ told_of l =
 
 pub record IsLaid (declared : List LaidName) (l : LaidLine) (before : List LaidLine) (state : Laying) (p : Placed) : Type 0 where
   pub told : told_of l ≡ None
-  pub area : p.area ≡ l.area
-  pub offset : p.offset ≡ l.offset
-  pub size : p.size ≡ l.size
-  pub thumb : p.thumb ≡ l.thumb
-  pub thumb_label : p.thumb_label ≡ is_thumb_label l.statement (statements_of before)
-  pub map : p.map ≡ map_behind before
+  pub place : IsPlace p.place l before
   pub literal : p.literal ≡ entry_behind l.area (pieces_of before) (taken l.extent)
   pub strings : p.strings ≡ string_marks l.seen l.statement.what
   pub laying : IsLaying declared (l ∷ before) state
@@ -146,6 +165,14 @@ pub record IsLaid (declared : List LaidName) (l : LaidLine) (before : List LaidL
 abbrev pub IsPlaced : List LaidName → LaidLine → List LaidLine → Laying → Result Placed LineKind → Type 0
 IsPlaced declared l before state (Ok p) = IsLaid declared l before state p
 IsPlaced declared l before state (Err kind) = told_of l ≡ Some kind
+
+-- a statement that is reached gets its place, by what it needs of values
+abbrev pub Puts : Statement → Spot → Result Code LineKind → Result ℕ LineKind → Option LaidName → Equated → List Bool → Laying → Laying
+    → Result (Result Placed LineKind) NoMemory → Type 0
+Puts s p extent map own equal strings old new result =
+    (declared : List LaidName) (before : List LaidLine) → Reaches declared s before old p
+    → AreNeeded declared p (names_behind declared s before) s extent map equal → strings ≡ string_marks (names_behind declared s before) s.what
+    → own ≡ unsized_entry (defined_by s) p → IfOk result (λ placed. IsPlaced declared (laid_behind declared s before) before new placed)
 
 -- what laying a line tells of it
 pub record Tells (declared : List LaidName) (l : LaidLine) (before : List LaidLine) (state : Laying) (x : Laid) : Type 0 where
@@ -158,3 +185,8 @@ pub record Tells (declared : List LaidName) (l : LaidLine) (before : List LaidLi
 abbrev pub Lays : List LaidName → LaidLine → List LaidLine → Laying → Result Laid NoMemory → Type 0
 Lays declared l before state (Ok x) = Tells declared l before state x
 Lays declared l before state (Err m) = Unit {0}
+
+-- what a statement more gives behind lines of a source that declares these names
+abbrev pub LaysNext : List LaidName → Statement → Laying → Laying → Result Laid NoMemory → Type 0
+LaysNext declared s old new result =
+    (before : List LaidLine) → IsLaying declared before old → Lays declared (laid_behind declared s before) before new result

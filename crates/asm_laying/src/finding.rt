@@ -1,16 +1,14 @@
 //! What a statement's place needs of the values of its expressions.
 
-ghost use Rattle.std.specs.Prelude.{◌≡◌, List, IfOk};
+ghost use Rattle.std.specs.Prelude.{◌≡◌, Some, IfOk};
 ghost use Rattle.std.specs.Option.{option_copied};
 ghost use Rattle.asm_expr.specs.Seeing.{seen_names};
-ghost use Rattle.asm_model.specs.AtLine.{is_value, known_entry, seen_behind};
+ghost use Rattle.asm_model.specs.AtLine.{is_value};
 ghost use Rattle.asm_model.specs.Entries.{equal_entry as entry_of_equal};
-ghost use Rattle.asm_model.specs.Laid.{lines_of, names_behind, LaidLine};
 ghost use Rattle.said_model.specs.Said.{IsSaid};
 ghost use Rattle.asm_model.specs.Labels as labels;
 ghost use Rattle.asm_names.specs.Defining.{defined_of};
-ghost use Rattle.asm_names.specs.Steps.{one_entry};
-ghost use Rattle.asm_laying.specs.Laying.{unsized_entry, DefinedRead, IsEquated, IsFound, IsSpot};
+ghost use Rattle.asm_laying.specs.Laying.{unsized_entry, DefinedRead, Finds, IsEquated};
 
 use crate::extents::{Taken, extent_of};
 use crate::values::{map_after, said_number, value_there};
@@ -38,7 +36,7 @@ pub struct Spot {
 /// A name for an expression, where a statement defines one.
 #[derive(Debug, Drop)]
 pub struct Equated {
-    /// Its entry, unless the value needs a later name.
+    /// Its entry, with the kind of its fault where the value isn't known.
     pub entry: Option<LaidName>,
     /// Whether the value is known; without such a name it counts as known.
     pub known: bool,
@@ -57,7 +55,7 @@ pub struct Found {
     pub strings: Listed<bool>,
 }
 
-/// A name for an expression whose value, or the kind of its fault, is known at its line, or else Forward.
+/// A name for an expression with the value that is known at its line, or with the kind of its fault there.
 fn equal_with(
     alloc: Global,
     declared: &KnownNames,
@@ -65,17 +63,13 @@ fn equal_with(
     name: &Text,
     value: Result<Value, LineKind>,
 ) -> Result<Equated, NoMemory>
-    ensures entry { IfOk result (λ equal. one_entry equal.entry ≡ known_entry (entry_of_equal declared.now area name.now) value) }
+    ensures entry { IfOk result (λ equal. equal.entry ≡ Some (entry_of_equal declared.now area name.now value)) }
     ensures known { IfOk result (λ equal. equal.known ≡ is_value value) }
 {
     match value {
         Ok(value) => Ok(Equated {
             entry: Some(equal_entry(alloc, declared, area, name, Ok(value))?),
             known: true,
-        }),
-        Err(LineKind::Forward) => Ok(Equated {
-            entry: None,
-            known: false,
         }),
         Err(kind) => Ok(Equated {
             entry: Some(equal_entry(alloc, declared, area, name, Err(kind))?),
@@ -137,7 +131,7 @@ pub fn find(
     statement: &Statement,
 ) -> Result<Found, NoMemory>
     requires { IsSaid statement.now }
-    ensures { IfOk result (λ found. (before : List LaidLine) → IsSpot statement.now before spot.now → names.now ≡ seen_behind declared.now (lines_of before) → option_copied own.entry ≡ unsized_entry (labels.defined_by statement.now) spot.now → IsFound declared.now spot.now (names_behind declared.now statement.now before) statement.now found) }
+    ensures { IfOk result (λ found. Finds declared.now names.now (option_copied own.entry) spot.now statement.now found) }
 {
     let seen = Seen {
         names,

@@ -17,7 +17,7 @@ use crate::behind::{Behind, START};
 use crate::declarations::is_thumb_label;
 use crate::finding::{Equated, Found, Spot, find, unsized_entry};
 use asm_model::{LaidName, Statement};
-use asm_names::KnownNames;
+use asm_names::{KnownNames, Place};
 use asm_names::defining::{Defines, defined_by};
 use asm_names::listing::{add_entry, add_imported};
 use asm_offsets::{Ends, Extent, TooLarge, extents_are_placeable};
@@ -28,17 +28,7 @@ use std::alloc::Global;
 /// A statement with its place.
 #[derive(Debug, Drop)]
 pub struct Placed {
-    /// Its area, counted from 0; None before the first.
-    pub area: Option<u32>,
-    pub offset: u32,
-    /// In bytes.
-    pub size: u32,
-    /// Whether it stands in Thumb state.
-    pub thumb: bool,
-    /// Whether its label is one of Thumb code.
-    pub thumb_label: bool,
-    /// The storage map before it.
-    pub map: u32,
+    pub place: Place,
     /// The number of its literal's entry in the pools of its area.
     pub literal: Option<u32>,
     /// For DCB, of each operand whether it is a string by what is known at its line.
@@ -81,7 +71,7 @@ pub struct Ended {
 
 /// The entry of a statement's own name, with its size: the statement's where it is a label.
 fn sized(statement: &Statement, own: Option<LaidName>, size: u32) -> Option<LaidName>
-    ensures { (area : Option ℕ) (offset map : ℕ) (thumb : Bool) → own ≡ own_entry (labels.defined_by statement.now) area offset None thumb map → result ≡ own_entry (labels.defined_by statement.now) area offset (Some size) thumb map }
+    ensures { laying.Sizes (labels.defined_by statement.now) size own result }
 {
     let Some(mut entry) = own else {
         return None;
@@ -91,10 +81,7 @@ fn sized(statement: &Statement, own: Option<LaidName>, size: u32) -> Option<Laid
             entry.size = Some(size);
             Some(entry)
         }
-        _ => {
-            entry.size = Some(0);
-            Some(entry)
-        }
+        _ => Some(entry),
     }
 }
 
@@ -122,7 +109,7 @@ fn add_names(
     own: Option<LaidName>,
     equal: Option<LaidName>,
 ) -> Result<(), NoMemory>
-    ensures { OnOk result (names.new ≡ names.old ++ one_entry own ++ one_entry equal ++ labels.imported_entries (labels.imported_in statement.now.what)) }
+    ensures { OnOk result (names.new ≡ laying.with_entries names.old own equal statement.now) }
 {
     add_entry(alloc, names, own)?;
     add_entry(alloc, names, equal)?;
@@ -146,7 +133,7 @@ impl Laying {
     /// Reaches a statement: its area and its offset.
     fn enter(&mut self, alloc: Global, statement: &Statement) -> Result<Spot, NoMemory>
         requires { laying.MayStep self.old }
-        ensures { IfOk result (λ spot. (declared : List LaidName) (before : List LaidLine) → laying.IsLaying declared before self.old → laying.Reaches declared statement.now before self.new spot) }
+        ensures { IfOk result (λ spot. laying.Enters statement.now self.old self.new spot) }
     {
         let behind = self.behind;
         let next = behind.stepped(&statement.what);
@@ -177,7 +164,7 @@ impl Laying {
     ) -> Result<Result<Placed, LineKind>, NoMemory>
         requires there { IsThere spot.now.area self.old.areas.ends }
         requires extent { IsExtent (extent_of_code extent) }
-        ensures { (declared : List LaidName) (before : List LaidLine) → laying.Reaches declared statement.now before self.old spot.now → laying.AreNeeded declared spot.now (names_behind declared statement.now before) statement.now (Ok extent) (Ok map) equal → strings ≡ string_marks (names_behind declared statement.now before) statement.now.what → own ≡ laying.unsized_entry (labels.defined_by statement.now) spot.now → IfOk result (λ placed. laying.IsPlaced declared (laid_behind declared statement.now before) before self.new placed) }
+        ensures { laying.Puts statement.now spot.now (Ok extent) (Ok map) own equal strings self.old self.new result }
     {
         let placed = self.areas.ends.place(spot.area, extent)?;
         match placed {
@@ -189,12 +176,14 @@ impl Laying {
                 let own = sized(statement, own, placed.size);
                 add_names(&mut self.names, alloc, statement, own, entry)?;
                 Ok(Ok(Placed {
-                    area: spot.area,
-                    offset: placed.offset,
-                    size: placed.size,
-                    thumb: spot.thumb,
-                    thumb_label: spot.label_thumb,
-                    map: spot.map,
+                    place: Place {
+                        area: spot.area,
+                        offset: placed.offset,
+                        size: placed.size,
+                        thumb: spot.thumb,
+                        thumb_label: spot.label_thumb,
+                        map: spot.map,
+                    },
                     literal: placed.literal,
                     strings,
                 }))
@@ -216,7 +205,7 @@ impl Laying {
     ) -> Result<Result<Placed, LineKind>, NoMemory>
         requires there { IsThere spot.now.area self.old.areas.ends }
         requires extent { IsExtent (extent_of_code extent) }
-        ensures { (declared : List LaidName) (before : List LaidLine) → laying.Reaches declared statement.now before self.old spot.now → laying.AreNeeded declared spot.now (names_behind declared statement.now before) statement.now (Ok extent) map equal → strings ≡ string_marks (names_behind declared statement.now before) statement.now.what → own ≡ laying.unsized_entry (labels.defined_by statement.now) spot.now → IfOk result (λ placed. laying.IsPlaced declared (laid_behind declared statement.now before) before self.new placed) }
+        ensures { laying.Puts statement.now spot.now (Ok extent) map own equal strings self.old self.new result }
     {
         match map {
             Err(kind) => Ok(Err(kind)),
@@ -238,7 +227,7 @@ impl Laying {
     ) -> Result<Result<Placed, LineKind>, NoMemory>
         requires there { IsThere spot.now.area self.old.areas.ends }
         requires extent { laying.OkExtent extent }
-        ensures { (declared : List LaidName) (before : List LaidLine) → laying.Reaches declared statement.now before self.old spot.now → laying.AreNeeded declared spot.now (names_behind declared statement.now before) statement.now extent map equal → strings ≡ string_marks (names_behind declared statement.now before) statement.now.what → own ≡ laying.unsized_entry (labels.defined_by statement.now) spot.now → IfOk result (λ placed. laying.IsPlaced declared (laid_behind declared statement.now before) before self.new placed) }
+        ensures { laying.Puts statement.now spot.now extent map own equal strings self.old self.new result }
     {
         match extent {
             Err(kind) => Ok(Err(kind)),
@@ -248,7 +237,7 @@ impl Laying {
 
     /// What the lines leave.
     pub fn end(self) -> Ended
-        ensures { (declared : List LaidName) (before : List LaidLine) → laying.IsLaying declared before self → laying.IsEnded declared before result }
+        ensures { laying.Ends self result }
     {
         let Laying {
             areas,
@@ -273,7 +262,7 @@ impl Laying {
     ) -> Result<Laid, NoMemory>
         requires may { laying.MayLay declared.now self.old }
         requires said { IsSaid statement.now }
-        ensures { (before : List LaidLine) → laying.IsLaying declared.now before self.old → laying.Lays declared.now (laid_behind declared.now statement.now before) before self.new result }
+        ensures { laying.LaysNext declared.now statement.now self.old self.new result }
     {
         extents_are_placeable();
         let spot = self.enter(alloc, statement)?;

@@ -10,7 +10,7 @@ use Rattle.asm_model.specs.LayoutKinds.{first_late}
 use Rattle.asm_layout.specs.Layout.{IsStatement, IsTold}
 
 abbrev pub stand_of : LaidStatement → Stand
-stand_of x = record { area = x.area; offset = x.offset; literal = x.literal }
+stand_of x = record { area = x.place.area; offset = x.place.offset; literal = x.literal }
 
 -- no line is told, or the refusal of the one that is
 abbrev pub IsCleared : Option (Statement × LineKind) → Result (Unit {0}) Fault → Type 0

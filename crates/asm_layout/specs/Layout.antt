@@ -11,12 +11,13 @@ use Rattle.asm_layout.specs.declared.laid.LaidStatement.{LaidStatement}
 use Rattle.asm_layout.specs.declared.laid.Layout.{Layout}
 use Rattle.asm_pool.specs.Pooled.{flushed}
 use Rattle.asm_laying.specs.Reading.{string_marks}
+use Rattle.asm_names.specs.Lines.{IsPlace}
 use Rattle.asm_offsets.specs.Running.{entry_behind, pools_behind}
-use Rattle.asm_model.specs.Before.{areas_behind, is_thumb_label}
+use Rattle.asm_model.specs.Before.{areas_behind}
 use Rattle.asm_model.specs.Extents.{Pool}
-use Rattle.asm_model.specs.Laid.{LaidLine, statements_of, taken, pieces_of, map_behind, laid, final_names}
+use Rattle.asm_model.specs.Laid.{LaidLine, statements_of, taken, pieces_of, laid, final_names}
 use Rattle.asm_model.specs.LayoutKinds.{is_thumb_area}
-use Rattle.asm_model.specs.Offsets.{area_size, start_in}
+use Rattle.asm_model.specs.Offsets.{area_size, start_in, all_pooled}
 use Rattle.source_model.specs.Objects.{attributes_of}
 use Rattle.source_model.specs.SourceFaults.{layout_faults}
 
@@ -25,12 +26,7 @@ use Rattle.source_model.specs.SourceFaults.{layout_faults}
 -- a statement of a layout is a laid line behind those before it
 pub record IsStatement (x : LaidStatement) (l : LaidLine) (before : List LaidLine) : Type 0 where
   pub statement : x.statement ≡ l.statement
-  pub area : x.area ≡ l.area
-  pub offset : x.offset ≡ l.offset
-  pub size : x.size ≡ l.size
-  pub thumb : x.thumb ≡ l.thumb
-  pub thumb_label : x.thumb_label ≡ is_thumb_label l.statement (statements_of before)
-  pub map : x.map ≡ map_behind before
+  pub place : IsPlace x.place l before
   pub literal : x.literal ≡ entry_behind l.area (pieces_of before) (taken l.extent)
   pub strings : x.strings ≡ string_marks l.seen l.statement.what
 
@@ -47,6 +43,7 @@ pub record IsArea (all : List LaidLine) (area : ℕ) (a : LaidArea) : Type 0 whe
   pub attributes : attributes_of area (is_thumb_area area (statements_of all)) all ≡ Some a.attributes
   pub size : a.size ≡ area_size area (pieces_of all)
   pub pools : a.pools ≡ flushed (start_in area (pieces_of all) Pool) (pools_behind area (pieces_of all))
+  pub words : a.pools.placed ≡ all_pooled area (pieces_of all)
 
 -- each area with its number, and no others
 pub record AreAreas (all : List LaidLine) (areas : List LaidArea) : Type 0 where

@@ -6,12 +6,7 @@ use Rattle.asm_layout.specs.declared.laid.LaidStatement.{LaidStatement}
 
 pub record IsLineOf (x : LaidStatement) (y : PlacedLine) : Type 0 where
   pub statement : y.statement.now ≡ x.statement
-  pub area : y.area ≡ x.area
-  pub offset : y.offset ≡ x.offset
-  pub size : y.size ≡ x.size
-  pub thumb : y.thumb ≡ x.thumb
-  pub thumb_label : y.thumb_label ≡ x.thumb_label
-  pub map : y.map ≡ x.map
+  pub place : y.place ≡ x.place
 
 abbrev pub AreLinesOf : List LaidStatement → List PlacedLine → Type 0
 AreLinesOf xs ys = AllZip IsLineOf xs ys

@@ -86,12 +86,7 @@ pub record IsJudged (d : List LaidName) (names settled : List (List ℕ)) (all :
 abbrev pub laid_as : Statement → Placed → LaidStatement
 laid_as s p = record {
   statement = s;
-  area = p.area;
-  offset = p.offset;
-  size = p.size;
-  thumb = p.thumb;
-  thumb_label = p.thumb_label;
-  map = p.map;
+  place = p.place;
   literal = p.literal;
   strings = p.strings;
 }
@@ -104,7 +99,7 @@ pub record Keeps (s : Statement) (number : Result ℕ LineKind) (thumb_area : Bo
   pub lines : new.lines.items ≡ old.lines.items ++ laid_as s p ∷ []
   pub equals : new.equals ≡ old.equals
   pub starts : (all : List Statement) (l : LaidLine) (before : List LaidLine) → AreStarts all before old.starts
-      → IsLineOf all s.what p.area thumb_area number l before → AreStarts all (l ∷ before) new.starts
+      → IsLineOf all s.what p.place.area thumb_area number l before → AreStarts all (l ∷ before) new.starts
 
 -- the kind that is told of a line
 abbrev pub told_by : List (List ℕ) → List (List ℕ) → List Statement → LaidLine → List LaidLine → Option LineKind

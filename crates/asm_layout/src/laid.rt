@@ -1,7 +1,7 @@
 //! What a source is laid out as.
 
 use asm_model::Statement;
-use asm_names::KnownNames;
+use asm_names::{KnownNames, Place};
 use asm_pool::Pools;
 use sdt_fault::{List, Text};
 
@@ -27,18 +27,7 @@ pub struct LaidArea {
 #[derive(Debug, Drop)]
 pub struct LaidStatement {
     pub statement: Statement,
-    /// The statement's area, counted from 0; None before the first.
-    pub area: Option<u32>,
-    /// The statement's offset in its area.
-    pub offset: u32,
-    /// In bytes.
-    pub size: u32,
-    /// Whether it stands in Thumb state.
-    pub thumb: bool,
-    /// Whether its label is one of Thumb code.
-    pub thumb_label: bool,
-    /// The storage map before it.
-    pub map: u32,
+    pub place: Place,
     /// The number of its literal's entry in the pools of its area.
     pub literal: Option<u32>,
     /// For DCB, of each operand whether it is a string by what is known at its line.

@@ -19,8 +19,8 @@ fn stand_of(laid: &LaidStatement) -> Stand
     ensures { result ≡ late.stand_of laid.now }
 {
     Stand {
-        area: laid.area,
-        offset: laid.offset,
+        area: laid.place.area,
+        offset: laid.place.offset,
         literal: laid.literal,
     }
 }

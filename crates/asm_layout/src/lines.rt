@@ -17,12 +17,7 @@ pub fn line_of(laid: &LaidStatement) -> PlacedLine<'_>
 {
     PlacedLine {
         statement: &laid.statement,
-        area: laid.area,
-        offset: laid.offset,
-        size: laid.size,
-        thumb: laid.thumb,
-        thumb_label: laid.thumb_label,
-        map: laid.map,
+        place: laid.place,
     }
 }
 

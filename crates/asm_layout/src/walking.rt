@@ -82,23 +82,13 @@ fn laid_statement(statement: Statement, placed: Placed) -> LaidStatement
     ensures { result ≡ walking.laid_as statement placed }
 {
     let Placed {
-        area,
-        offset,
-        size,
-        thumb,
-        thumb_label,
-        map,
+        place,
         literal,
         strings,
     } = placed;
     LaidStatement {
         statement,
-        area,
-        offset,
-        size,
-        thumb,
-        thumb_label,
-        map,
+        place,
         literal,
         strings,
     }
@@ -158,7 +148,7 @@ impl Walk {
         ensures { OnOk result (walking.Keeps statement number thumb_area placed self.old self.new) }
     {
         self.starts
-            .note(&statement.what, placed.area, thumb_area, number)?;
+            .note(&statement.what, placed.place.area, thumb_area, number)?;
         self.lines.push(laid_statement(statement, placed))?;
         Ok(())
     }

@@ -68,13 +68,7 @@ unknown_below m known n i (x ∷ xs) u w h = by (unknown_in m known x) refl (λ 
 
     of_item : (x : ExprItem) (k : ℕ) → unknown_in m known x ≡ Some k → k < n
     of_item (item.Name q) k h = of_number q (number_in m q) k refl h
-    of_item (item.Local l) k h = absurd (cc)
-    of_item (item.Constant v) k h = absurd (cc)
-    of_item item.Here k h = absurd (cc)
-    of_item item.Map k h = absurd (cc)
-    of_item item.CodeSize k h = absurd (cc)
-    of_item (item.Unary op) k h = absurd (cc)
-    of_item (item.Binary op) k h = absurd (cc)
+    of_item x k h = absurd (cc)
 
     by : (o : Option ℕ) → unknown_in m known x ≡ o → (unknown_from m known (suc i) xs ≡ Some u → u.number < n)
         → option_or (option_map (unknown_at i) o) (unknown_from m known (suc i) xs) ≡ Some u → u.number < n

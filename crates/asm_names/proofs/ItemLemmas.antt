@@ -39,14 +39,8 @@ spelled_plain l ps t (tighter k qs u d) = spelled_plain k qs u d
 
 -- no operator stands first among the items of a tree
 no_operator : (i : ExprItem) (rest : List ExprItem) → plain i ≡ Some i → operator_first (i ∷ rest) ≡ None
-no_operator (item.Name q) rest h = refl
-no_operator (item.Local q) rest h = refl
-no_operator (item.Constant v) rest h = refl
-no_operator item.Here rest h = refl
-no_operator item.Map rest h = refl
-no_operator item.CodeSize rest h = refl
 no_operator (item.Unary op) rest h = absurd (cc)
-no_operator (item.Binary op) rest h = refl
+no_operator i rest h = refl
 
 tree_first : (t : Tree) → IsPlain t → (rest : List ExprItem) → operator_first (postfix t ++ rest) ≡ None
 tree_first (Leaf i) p rest = no_operator i rest p
@@ -59,16 +53,13 @@ tree_first (Between op t u) p rest =
 -- ---- names that stay names
 
 kept_operator : (s : Names) (o : Option UnaryOp) (op : UnaryOp) → kept_before s o (item.Unary op) ≡ item.Unary op
-kept_operator s None op = refl
 kept_operator s (Some unary.Size) op = refl
-kept_operator s (Some unary.Defined) op = refl
-kept_operator s (Some o) op = refl
+kept_operator s o op = refl
 
 kept_binary : (s : Names) (o : Option UnaryOp) (i : ExprItem) → kept_name s i ≡ i → kept_before s o i ≡ i
-kept_binary s None i h = h
 kept_binary s (Some unary.Size) i h = refl
 kept_binary s (Some unary.Defined) i h = refl
-kept_binary s (Some o) i h = h
+kept_binary s o i h = h
 
 -- the items of a tree, before these items
 abbrev tree_kept : Names → Tree → List ExprItem → List ExprItem
@@ -85,12 +76,7 @@ kept_under : (s : Names) (op : UnaryOp) (t : Tree) (rest : List ExprItem)
 kept_under s unary.Size (Leaf i) rest = refl
 kept_under s unary.Defined (Leaf i) rest = refl
 kept_under s op (Leaf i) rest = refl
-kept_under s unary.Size (Before o t) rest = refl
-kept_under s unary.Size (Between o t u) rest = refl
-kept_under s unary.Defined (Before o t) rest = refl
-kept_under s unary.Defined (Between o t u) rest = refl
-kept_under s op (Before o t) rest = refl
-kept_under s op (Between o t u) rest = refl
+kept_under s op t rest = refl
 
 kept_pass : (s : Names) (t : Tree) → IsPlain t → (rest : List ExprItem)
     → kept_items s (postfix t ++ rest) ≡ tree_kept s t rest ++ kept_items s rest
@@ -144,13 +130,7 @@ both_known (Err k) (Err j) f v h = absurd (cc)
 kept_below : (s : Names) (op : UnaryOp) (t : Tree) → kept_names s t ≡ t → kept_names s (Before op t) ≡ Before op t
 kept_below s unary.Size (Leaf i) h = refl
 kept_below s unary.Defined (Leaf i) h = refl
-kept_below s op (Leaf i) h = ap (Before op) h
-kept_below s unary.Size (Before o t) h = ap (Before unary.Size) h
-kept_below s unary.Size (Between o t u) h = ap (Before unary.Size) h
-kept_below s unary.Defined (Before o t) h = ap (Before unary.Defined) h
-kept_below s unary.Defined (Between o t u) h = ap (Before unary.Defined) h
-kept_below s op (Before o t) h = ap (Before op) h
-kept_below s op (Between o t u) h = ap (Before op) h
+kept_below s op t h = ap (Before op) h
 
 -- a tree with a value stays what it is
 pub kept_same : (s : Names) (t : Tree) (v : Value) → meaning s t ≡ Ok v → kept_names s t ≡ t
@@ -181,13 +161,9 @@ kept_plain s (item.Name q) h = by_test (has_value (named_in q s.list))
     by_test : (b : Bool) → plain (cond b (item.Name q) (item.Constant (Place q 0))) ≡ Some (cond b (item.Name q) (item.Constant (Place q 0)))
     by_test true = refl
     by_test false = refl
-kept_plain s (item.Local q) h = refl
-kept_plain s (item.Constant v) h = refl
-kept_plain s item.Here h = refl
-kept_plain s item.Map h = refl
-kept_plain s item.CodeSize h = refl
 kept_plain s (item.Unary op) h = absurd (cc)
 kept_plain s (item.Binary op) h = absurd (cc)
+kept_plain s i h = refl
 
 respell_before : (op : UnaryOp) (t : Tree) → SpelledAt 0 t → SpelledAt 0 (Before op t)
 respell_before op t d = (part.Prefix op ∷ d.0, before (part.Prefix op) op d.0 t refl d.1)
@@ -195,13 +171,7 @@ respell_before op t d = (part.Prefix op ∷ d.0, before (part.Prefix op) op d.0 
 respell_kept : (s : Names) (op : UnaryOp) (t : Tree) → IsPlain t → SpelledAt 0 (kept_names s t) → SpelledAt 0 (kept_names s (Before op t))
 respell_kept s unary.Size (Leaf i) p d = respell_before unary.Size (Leaf i) (respell_leaf i p)
 respell_kept s unary.Defined (Leaf i) p d = respell_before unary.Defined (Leaf i) (respell_leaf i p)
-respell_kept s op (Leaf i) p d = respell_before op (kept_names s (Leaf i)) d
-respell_kept s unary.Size (Before o t) p d = respell_before unary.Size (kept_names s (Before o t)) d
-respell_kept s unary.Size (Between o t u) p d = respell_before unary.Size (kept_names s (Between o t u)) d
-respell_kept s unary.Defined (Before o t) p d = respell_before unary.Defined (kept_names s (Before o t)) d
-respell_kept s unary.Defined (Between o t u) p d = respell_before unary.Defined (kept_names s (Between o t u)) d
-respell_kept s op (Before o t) p d = respell_before op (kept_names s (Before o t)) d
-respell_kept s op (Between o t u) p d = respell_before op (kept_names s (Between o t u)) d
+respell_kept s op t p d = respell_before op (kept_names s t) d
 
 respell : (s : Names) (l : ℕ) (ps : List Part) (t : Tree) → Spells l ps t → SpelledAt l (kept_names s t)
 respell s l ps t (operand p i e) = respell_leaf (kept_name s i) (kept_plain s i (plain_operand p i e))

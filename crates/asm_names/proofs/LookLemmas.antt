@@ -39,13 +39,7 @@ free_name equals m known names k q h = by (number_in m q) refl h
 pub free_item : (equals : List (List ℕ × Expr)) (m : Numbers) (known : List Bool) (names : List (List ℕ)) → Knows equals m known names → (x : ExprItem) → unknown_in m known x ≡ None
     → is_settled_item equals names x ≡ true
 free_item equals m known names k (item.Name q) h = free_name equals m known names k q h
-free_item equals m known names k (item.Local l) h = refl
-free_item equals m known names k (item.Constant v) h = refl
-free_item equals m known names k item.Here h = refl
-free_item equals m known names k item.Map h = refl
-free_item equals m known names k item.CodeSize h = refl
-free_item equals m known names k (item.Unary op) h = refl
-free_item equals m known names k (item.Binary op) h = refl
+free_item equals m known names k x h = refl
 
 -- an item whose name is unknown
 pub record IsUnknown (equals : List (List ℕ × Expr)) (m : Numbers) (names : List (List ℕ)) (x : ExprItem) (k : ℕ) : Type 0 where
@@ -76,13 +70,7 @@ held_name equals m known names k q i h = by (number_in m q) refl h
 pub held_item : (equals : List (List ℕ × Expr)) (m : Numbers) (known : List Bool) (names : List (List ℕ)) → Knows equals m known names → (x : ExprItem) (i : ℕ) → unknown_in m known x ≡ Some i
     → IsUnknown equals m names x i
 held_item equals m known names k (item.Name q) i h = held_name equals m known names k q i h
-held_item equals m known names k (item.Local l) i h = absurd (cc)
-held_item equals m known names k (item.Constant v) i h = absurd (cc)
-held_item equals m known names k item.Here i h = absurd (cc)
-held_item equals m known names k item.Map i h = absurd (cc)
-held_item equals m known names k item.CodeSize i h = absurd (cc)
-held_item equals m known names k (item.Unary op) i h = absurd (cc)
-held_item equals m known names k (item.Binary op) i h = absurd (cc)
+held_item equals m known names k x i h = absurd (cc)
 
 -- ---- items from a place on
 

@@ -35,49 +35,30 @@ use Rattle.base_lemmas.proofs.BaseLemmas.{all_append}
 
 -- what it defines, by the line's own fields
 abbrev made_of : List LaidName → List LaidName → PlacedLine → Defined → List LaidName
-made_of N names x y = entries_with N (line_of x) (definition_of names y x.area x.offset (Some x.size) x.thumb_label x.map)
+made_of N names x y = entries_with N (line_of x) (definition_of names y x.place.area x.place.offset (Some x.place.size) x.place.thumb_label x.place.map)
 
 made_own : (N : List LaidName) (d : List LaidName) (s : Statement) (ss : List Statement) (x : PlacedLine)
     → IsLine x (laid_behind d s (laid_of d ss)) (laid_of d ss) → made_of N d x (defined_by s) ≡ own_of N d s ss
 made_own N d s ss x is =
-    let before = laid_of d ss in
-    let l = laid_behind d s before in
-    let make = λ (area : Option ℕ) (offset size : ℕ) (thumb label : Bool) (m : ℕ).
-    entries_with N (record { area = area; offset = offset; map = m; thumb = thumb; definition = Nameless })
-    (definition_of d (defined_by s) area offset (Some size) label m) in
-    ap (λ a. make a x.offset x.size x.thumb x.thumb_label x.map) is.area
-    ∙ ap (λ o. make l.area o x.size x.thumb x.thumb_label x.map) is.offset
-    ∙ ap (λ n. make l.area l.offset n x.thumb x.thumb_label x.map) is.size
-    ∙ ap (λ b. make l.area l.offset l.size b x.thumb_label x.map) is.thumb
-    ∙ ap (λ b. make l.area l.offset l.size l.thumb b x.map) is.thumb_label
-    ∙ ap (λ m. make l.area l.offset l.size l.thumb (is_thumb_label s (statements_of before)) m) is.map
+    let p = is.place in rw (p.area, p.offset, p.size, p.thumb, p.thumb_label, p.map) refl
 
 own_same : (known N : List LaidName) (names : List LaidName) (x : PlacedLine) (y : Defined)
     → ((name : List ℕ) (e : Expr) → y ≡ Equal name e → one_entry (named_in name known) ≡ made_of N names x y)
     → own_entries known x y ≡ made_of N names x y
-own_same known N names x Unnamed h = refl
-own_same known N names x (Label name) h = refl
 own_same known N names x (Equal name e) h = h name e refl
-own_same known N names x (MapField name) h = refl
-own_same known N names x (RegisterName name r) h = refl
+own_same known N names x y h = refl
 
 own_lacking : (N : List LaidName) (names : List LaidName) (x : PlacedLine) (q : List ℕ) (y : Defined)
     → list_any (λ (e : List ℕ × Expr). same q e.0) (equal_of y) ≡ false → named_in q (own_entries [] x y) ≡ named_in q (made_of N names x y)
-own_lacking N names x q Unnamed h = refl
-own_lacking N names x q (Label name) h = refl
 own_lacking N names x q (Equal name e) h =
     sym (most_lacks q (name ∷ []) (made_of N names x (Equal name e))
-    (definition_most N (line_of x) names (Equal name e) x.area x.offset (Some x.size) x.thumb_label x.map) h)
-own_lacking N names x q (MapField name) h = refl
-own_lacking N names x q (RegisterName name r) h = refl
+    (definition_most N (line_of x) names (Equal name e) x.place.area x.place.offset (Some x.place.size) x.place.thumb_label x.place.map) h)
+own_lacking N names x q y h = refl
 
 own_held : (M N : List LaidName) (names : List LaidName) (x : PlacedLine) (y : Defined)
     → HoldsEach M (made_of N names x y) → HoldsEach M (own_entries [] x y)
-own_held M N names x Unnamed h = tt
-own_held M N names x (Label name) h = h
 own_held M N names x (Equal name e) h = tt
-own_held M N names x (MapField name) h = h
-own_held M N names x (RegisterName name r) h = h
+own_held M N names x y h = h
 
 -- an entry is its own symbol, or has none
 abbrev pub EachOwn : List LaidName → Type 0
@@ -190,11 +171,8 @@ owed_more xs front x s e is =
     ap (flat_map owed_in) e ∙ sym (flat_map_more owed_in [] front x) ∙ ap (λ (z : Statement). flat_map owed_in front ++ owed_by x (defined_by z)) is
 
 pairs_of_line : (x : PlacedLine) (y : Defined) → map equal_pair (owed_by x y) ≡ equal_of y
-pairs_of_line x Unnamed = refl
-pairs_of_line x (Label name) = refl
 pairs_of_line x (Equal name e) = refl
-pairs_of_line x (MapField name) = refl
-pairs_of_line x (RegisterName name r) = refl
+pairs_of_line x y = refl
 
 pub owed_pairs : (d : List LaidName) (ss : List Statement) (xs : List PlacedLine) → AreEach (laid_of d ss) xs → map equal_pair (flat_map owed_in xs) ≡ all_equals ss
 owed_pairs d [] xs h = ap (λ z. map equal_pair (flat_map owed_in z)) h
@@ -214,7 +192,7 @@ pub record Fits (N names : List LaidName) (o : Owed) : Type 0 where
   pub items : o.value.items ≡ postfix tree
   pub is : tree_of o.value ≡ Some tree
   pub plain : HaveNoPlaces o.value.items
-  pub found : one_entry (named_in o.name N) ≡ equal_entry names o.line.area o.name (meaning (with_names (line_of o.line) N) tree) ∷ []
+  pub found : one_entry (named_in o.name N) ≡ equal_entry names o.line.place.area o.name (meaning (with_names (line_of o.line) N) tree) ∷ []
 
 made_equal : (N : List LaidName) (f : SourceLine) (names : List LaidName) (area : Option ℕ) (name : List ℕ) (o : Option Tree) (t : Tree) → o ≡ Some t
     → entries_with N f (tree_equated names area name o) ≡ equal_entry names area name (meaning (with_names f N) t) ∷ []
@@ -224,10 +202,6 @@ fits_line : (N d : List LaidName) (ss : List Statement) (s : Statement) (x : Pla
     → IsPlain (defined_by s) → IsReadDefined (defined_by s)
     → ((name : List ℕ) (e : Expr) → defined_by s ≡ Equal name e → one_entry (named_in name N) ≡ own_of N d s ss)
     → (y : Defined) → defined_by s ≡ y → AllByRecursion (Fits N d) (owed_by x y)
-fits_line N d ss s x is plain read found Unnamed e = tt
-fits_line N d ss s x is plain read found (Label name) e = tt
-fits_line N d ss s x is plain read found (MapField name) e = tt
-fits_line N d ss s x is plain read found (RegisterName name r) e = tt
 fits_line N d ss s x is plain read found (Equal name v) e =
     let spelled = subst IsReadDefined e read in
     let tree = trees_read_back spelled.0 spelled.1 v spelled.2 spelled.3 in (
@@ -240,10 +214,11 @@ fits_line N d ss s x is plain read found (Equal name v) e =
         plain = subst IsPlain e plain;
         found =
             found name v e ∙ sym (made_own N d s ss x is) ∙ ap (made_of N d x) e
-            ∙ made_equal N (line_of x) d x.area name (tree_of v) spelled.1 tree;
+            ∙ made_equal N (line_of x) d x.place.area name (tree_of v) spelled.1 tree;
       },
       tt,
     )
+fits_line N d ss s x is plain read found y e = tt
 
 pub owed_fit : (N d : List LaidName) (ss : List Statement) (xs : List PlacedLine) → AreEach (laid_of d ss) xs → ArePlain ss → AreRead ss
     → EachFound N N d ss → AllByRecursion (Fits N d) (flat_map owed_in xs)

@@ -196,16 +196,16 @@ known_further N names declared all whole same_names fits order places known i re
     tree_of_items P o.value.items (Some []) fit.tree
     (items_are P (map equal_pair all) (names_at (map equal_pair all) places) h.free h.deep o.value.items
     (order.behind places i rest (o.name, o.value) split there) fit.plain) tt fit.is in
-    let made = λ (r : Result Value LineKind). equal_entry names o.line.area o.name r ∷ [] in
+    let made = λ (r : Result Value LineKind). equal_entry names o.line.place.area o.name r ∷ [] in
     let value : meaning (with_names line known) fit.tree ≡ meaning (with_names line N) fit.tree =
     ap value_known (tree_same P line known N h.closed (λ q c. c) fit.tree tree) in
     let found : one_entry (named_in o.name N) ≡ made (meaning (with_names line known) fit.tree) = fit.found ∙ ap made (sym value) in
     let entry_is : entry ∷ [] ≡ one_entry (named_in o.name N) =
     ap (λ (z : LaidName). z ∷ [])
-    (k fit.parts fit.tree fit.spelled fit.items ∙ equal_same declared names same_names o.line.area o.name (meaning (with_names line known) fit.tree))
+    (k fit.parts fit.tree fit.spelled fit.items ∙ equal_same declared names same_names o.line.place.area o.name (meaning (with_names line known) fit.tree))
     ∙ sym found in
     subst (λ z. Knows N (map equal_pair all) (places ++ i ∷ []) (known ++ z)) (sym entry_is)
-    (knows_more N (map equal_pair all) places known names o.line.area i o.name o.value (meaning (with_names line known) fit.tree) there h found
+    (knows_more N (map equal_pair all) places known names o.line.place.area i o.name o.value (meaning (with_names line known) fit.tree) there h found
     (tree_is P line known h.closed fit.tree tree))
 
 pub all_known : (N names declared : List LaidName) (all : List Owed) (first : List LaidName) (whole : List ℕ)

@@ -20,13 +20,7 @@ or_more false b c f h = f h
 
 pub item_more : (equals : List (List ℕ × Expr)) (a b : List (List ℕ)) → AreAmong a b → (i : ExprItem) → is_settled_item equals a i ≡ true → is_settled_item equals b i ≡ true
 item_more equals a b more (item.Name q) h = or_more (not (list_any (λ e. same q e.0) equals)) (list_any (same q) a) (list_any (same q) b) (more q) h
-item_more equals a b more (item.Local l) h = refl
-item_more equals a b more (item.Constant v) h = refl
-item_more equals a b more item.Here h = refl
-item_more equals a b more item.Map h = refl
-item_more equals a b more item.CodeSize h = refl
-item_more equals a b more (item.Unary op) h = refl
-item_more equals a b more (item.Binary op) h = refl
+item_more equals a b more i h = refl
 
 pub items_more : (equals : List (List ℕ × Expr)) (a b : List (List ℕ)) → AreAmong a b → (is : List ExprItem) → are_settled equals a is ≡ true → are_settled equals b is ≡ true
 items_more equals a b more [] h = refl

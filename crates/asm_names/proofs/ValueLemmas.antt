@@ -2,10 +2,10 @@
 use Rattle.std.proofs.Common.{◌≡◌, ℕ, List, true, false, refl, sym, ◌∙◌, ap, subst}
 use Rattle.std.specs.Prelude.{Result, Ok, Err}
 use Rattle.sdt_fault.specs.declared.kinds.LineKind.{LineKind}
-use Rattle.sdt_fault.specs.declared.kinds.LineKind.TheVariants.{Forward}
+use Rattle.sdt_fault.specs.declared.kinds.LineKind.TheVariants.{UnknownWord}
 use Rattle.asm_model.specs.declared.exprs.ExprItem.{ExprItem}
 use Rattle.asm_model.specs.declared.values.Value.{Value}
-use Rattle.asm_model.specs.declared.values.Value.TheVariants.{Number, Truth, Words, Place}
+use Rattle.asm_model.specs.declared.values.Value.TheVariants.{Number, Place}
 use Rattle.asm_model.specs.declared.values.EvalFault.{EvalFault}
 use Rattle.asm_model.specs.declared.values.EvalFault.TheVariants as eval
 use Rattle.asm_model.specs.declared.names.Names.{Names}
@@ -27,68 +27,31 @@ abbrev NoNumber : Result Value LineKind → Type 0
 NoNumber (Ok (Number n)) = ⊥
 NoNumber _ = Unit {0}
 
-abbrev NoPlace : Result Value LineKind → Type 0
-NoPlace (Ok (Place s p)) = ⊥
-NoPlace _ = Unit {0}
-
-literal_place : (x : Result Value LineKind) (s : List ℕ) (p : ℕ) → NoNumber x → literal_or x (Ok (Place s p)) ≡ Ok (Place s p)
-literal_place (Ok (Number n)) s p h = absurd h
-literal_place (Ok (Truth b)) s p h = refl
-literal_place (Ok (Words w)) s p h = refl
-literal_place (Ok (Place t q)) s p h = refl
-literal_place (Err k) s p h = refl
-
-literal_forward : (x m : Result Value LineKind) → NoNumber x → NoPlace m → literal_or x m ≡ Err Forward
-literal_forward x m h g = by_value x h m g
-  where
-    by_value : (y : Result Value LineKind) → NoNumber y → (m : Result Value LineKind) → NoPlace m → literal_or y m ≡ Err Forward
-    by_value (Ok (Number n)) h m g = absurd h
-    by_value y h (Ok (Place s p)) g = absurd g
-    by_value (Ok (Truth b)) h (Ok (Number n)) g = refl
-    by_value (Ok (Truth b)) h (Ok (Truth c)) g = refl
-    by_value (Ok (Truth b)) h (Ok (Words w)) g = refl
-    by_value (Ok (Truth b)) h (Err k) g = refl
-    by_value (Ok (Words v)) h (Ok (Number n)) g = refl
-    by_value (Ok (Words v)) h (Ok (Truth c)) g = refl
-    by_value (Ok (Words v)) h (Ok (Words w)) g = refl
-    by_value (Ok (Words v)) h (Err k) g = refl
-    by_value (Ok (Place t q)) h (Ok (Number n)) g = refl
-    by_value (Ok (Place t q)) h (Ok (Truth c)) g = refl
-    by_value (Ok (Place t q)) h (Ok (Words w)) g = refl
-    by_value (Ok (Place t q)) h (Err k) g = refl
-    by_value (Err j) h (Ok (Number n)) g = refl
-    by_value (Err j) h (Ok (Truth c)) g = refl
-    by_value (Err j) h (Ok (Words w)) g = refl
-    by_value (Err j) h (Err k) g = refl
-
 unsettled : (x : Result Value LineKind) (r : Result Value EvalFault) → IsValue x r → is_settled r ≡ false → NoNumber x
 unsettled x (Ok (Number n)) h u = absurd (cc)
-unsettled x (Ok (Truth b)) h u = subst NoNumber (sym h) tt
-unsettled x (Ok (Words w)) h u = subst NoNumber (sym h) tt
-unsettled x (Ok (Place s p)) h u = absurd (cc)
-unsettled x (Err (eval.Kind k)) h u = subst NoNumber (sym h) tt
 unsettled x (Err eval.NoMemory) h u = absurd (cc)
+unsettled x (Ok w) h u = subst NoNumber (sym h) tt
+unsettled x (Err (eval.Kind k)) h u = subst NoNumber (sym h) tt
 
 literal_is : (x m : Result Value LineKind) (r : Result Value EvalFault) → NoNumber x → IsValue m r → IsValue (literal_or x m) (place_or_forward r)
-literal_is x m (Ok (Number n)) h v = ap (literal_or x) v ∙ literal_forward x (Ok (Number n)) h tt
-literal_is x m (Ok (Truth b)) h v = ap (literal_or x) v ∙ literal_forward x (Ok (Truth b)) h tt
-literal_is x m (Ok (Words w)) h v = ap (literal_or x) v ∙ literal_forward x (Ok (Words w)) h tt
-literal_is x m (Ok (Place s p)) h v = ap (literal_or x) v ∙ literal_place x s p h
-literal_is x m (Err (eval.Kind k)) h v = ap (literal_or x) v ∙ literal_forward x (Err k) h tt
+literal_is (Ok (Number n)) m r h v = absurd h
 literal_is x m (Err eval.NoMemory) h v = tt
+literal_is x m (Ok (Place s p)) h v = ap (literal_or x) v
+literal_is x m (Err (eval.Kind UnknownWord)) h v = ap (literal_or x) v
+literal_is x m (Ok w) h v = ap (literal_or x) v
+literal_is x m (Err (eval.Kind k)) h v = ap (literal_or x) v
 
 pub sees_settled : (s : Names) (items : List ExprItem) (r : Result Value EvalFault) → Evaluates s items r → is_settled r ≡ true → SeesLiteral s items r
 sees_settled s items r h u ps t d e = by_value r (h ps t d e) u
   where
     by_value : (r : Result Value EvalFault) → IsValue (meaning s t) r → is_settled r ≡ true → IsValue (literal_or (meaning s t) (meaning s (kept_names s t))) r
     by_value (Ok (Number n)) h u = ap (λ x. literal_or x (meaning s (kept_names s t))) h
-    by_value (Ok (Truth b)) h u = absurd (cc)
-    by_value (Ok (Words w)) h u = absurd (cc)
     by_value (Ok (Place q p)) h u =
         ap (λ (v : Tree). literal_or (meaning s t) (meaning s v)) (kept_same s t (Place q p) h)
         ∙ ap (λ x. literal_or x x) h
-    by_value (Err (eval.Kind k)) h u = absurd (cc)
     by_value (Err eval.NoMemory) h u = tt
+    by_value (Ok w) h u = absurd (cc)
+    by_value (Err (eval.Kind k)) h u = absurd (cc)
 
 pub sees_literal : (s : Names) (items : List ExprItem) (r k : Result Value EvalFault) → Evaluates s items r → is_settled r ≡ false → SeesKept s items k
     → SeesLiteral s items (place_or_forward k)

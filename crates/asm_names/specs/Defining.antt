@@ -17,6 +17,6 @@ defined_of (code.RegisterName name r) = RegisterName name.now r.now
 -- the entry of a statement's own name, unless it is for an expression
 abbrev pub own_entry : Defined → Option ℕ → ℕ → Option ℕ → Bool → ℕ → Option LaidName
 own_entry (Label name) area offset size thumb map = Some (label_entry name area offset size thumb)
-own_entry (MapField name) area offset size thumb map = Some (field_entry name map size)
+own_entry (MapField name) area offset size thumb map = Some (field_entry name map)
 own_entry (RegisterName name r) area offset size thumb map = Some (register_entry name)
 own_entry _ area offset size thumb map = None

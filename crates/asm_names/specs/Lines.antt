@@ -4,11 +4,11 @@ use Rattle.std.specs.Prelude.{◌≡◌, List}
 use Rattle.asm_model.specs.AtLine.{Nameless, SourceLine}
 use Rattle.asm_model.specs.Before.{is_thumb_label}
 use Rattle.asm_model.specs.Laid.{LaidLine, statements_of, map_behind}
+use Rattle.asm_names.specs.declared.lines.Place.{Place}
 use Rattle.asm_names.specs.declared.lines.PlacedLine.{PlacedLine}
 
--- the line is this one of a source, behind those before it
-pub record IsLine (x : PlacedLine) (l : LaidLine) (before : List LaidLine) : Type 0 where
-  pub statement : x.statement.now ≡ l.statement
+-- the place is that of this line of a source, behind those before it
+pub record IsPlace (x : Place) (l : LaidLine) (before : List LaidLine) : Type 0 where
   pub area : x.area ≡ l.area
   pub offset : x.offset ≡ l.offset
   pub size : x.size ≡ l.size
@@ -16,13 +16,18 @@ pub record IsLine (x : PlacedLine) (l : LaidLine) (before : List LaidLine) : Typ
   pub thumb_label : x.thumb_label ≡ is_thumb_label l.statement (statements_of before)
   pub map : x.map ≡ map_behind before
 
+-- the line is this one of a source, behind those before it
+pub record IsLine (x : PlacedLine) (l : LaidLine) (before : List LaidLine) : Type 0 where
+  pub statement : x.statement.now ≡ l.statement
+  pub place : IsPlace x.place l before
+
 -- the line as its expressions see it; what it defines they find among all names
 abbrev pub line_of : PlacedLine → SourceLine
-line_of x = record { area = x.area; offset = x.offset; map = x.map; thumb = x.thumb; definition = Nameless }
+line_of x = record { area = x.place.area; offset = x.place.offset; map = x.place.map; thumb = x.place.thumb; definition = Nameless }
 
 -- expressions of the line see the same as those of another
 pub record Sees (x : PlacedLine) (f : SourceLine) : Type 0 where
-  pub area : x.area ≡ f.area
-  pub offset : x.offset ≡ f.offset
-  pub map : x.map ≡ f.map
-  pub thumb : x.thumb ≡ f.thumb
+  pub area : x.place.area ≡ f.area
+  pub offset : x.place.offset ≡ f.offset
+  pub map : x.place.map ≡ f.map
+  pub thumb : x.place.thumb ≡ f.thumb

@@ -1,6 +1,6 @@
 -- Steps of the code over an expression's items, each operator behind its operands. This project's.
 use Rattle.std.specs.Prelude.{◌≡◌, ℕ, List, [], ◌∷◌, Bool, true, false, Option, Some, None, Result, Ok, Err}
-use Rattle.sdt_fault.specs.declared.kinds.LineKind.TheVariants.{WrongType, Forward}
+use Rattle.sdt_fault.specs.declared.kinds.LineKind.TheVariants.{UnknownWord, WrongType, Forward}
 use Rattle.asm_model.specs.declared.exprs.ExprItem.{ExprItem}
 use Rattle.asm_model.specs.declared.exprs.ExprItem.TheVariants as item
 use Rattle.asm_model.specs.declared.exprs.UnaryOp.{UnaryOp}
@@ -47,10 +47,11 @@ is_settled (Ok (Place s p)) = true
 is_settled (Err eval.NoMemory) = true
 is_settled _ = false
 
--- one name plus a number, or else Forward
+-- one name plus a number, or else Forward, but where it has what nothing defines
 abbrev pub place_or_forward : Result Value EvalFault → Result Value EvalFault
 place_or_forward (Ok (Place s p)) = Ok (Place s p)
 place_or_forward (Err eval.NoMemory) = Err eval.NoMemory
+place_or_forward (Err (eval.Kind UnknownWord)) = Err (eval.Kind UnknownWord)
 place_or_forward _ = Err (eval.Kind Forward)
 
 -- the value, where names without a value stay names

@@ -45,6 +45,7 @@ pub fn item_copy(alloc: Global, item: &ExprItem) -> Result<ExprItem, NoMemory>
         ExprItem::Name(name) => Ok(ExprItem::Name(name.try_clone(alloc)?)),
         ExprItem::Local(name) => Ok(ExprItem::Local(name.try_clone(alloc)?)),
         ExprItem::Constant(value) => Ok(ExprItem::Constant(value.try_clone(alloc)?)),
+        ExprItem::TooLarge => Ok(ExprItem::TooLarge),
         ExprItem::Here => Ok(ExprItem::Here),
         ExprItem::Map => Ok(ExprItem::Map),
         ExprItem::CodeSize => Ok(ExprItem::CodeSize),

@@ -60,7 +60,7 @@ pub fn own_entry(
             let entry = label_entry(alloc, name, area, offset, size, thumb)?;
             Ok(Some(entry))
         }
-        Defines::MapField(name) => Ok(Some(field_entry(alloc, name, map, size)?)),
+        Defines::MapField(name) => Ok(Some(field_entry(alloc, name, map)?)),
         Defines::RegisterName(name, _) => Ok(Some(register_entry(alloc, name)?)),
         _ => Ok(None),
     }

@@ -23,10 +23,10 @@ pub fn final_value(
         names,
         own: None,
         later: None,
-        area: line.area,
-        offset: line.offset,
-        map: line.map,
-        thumb: line.thumb,
+        area: line.place.area,
+        offset: line.place.offset,
+        map: line.place.map,
+        thumb: line.place.thumb,
     };
     evaluate(alloc, e, &seen)
 }

@@ -20,7 +20,7 @@ pub mod values;
 
 pub use crate::equals::{Equal, Order};
 pub use crate::final_values::final_value;
-pub use crate::lines::PlacedLine;
+pub use crate::lines::{Place, PlacedLine};
 pub use crate::names::final_names;
 pub use crate::ordering::order_of;
 pub use crate::values::{literal_at, number_at};

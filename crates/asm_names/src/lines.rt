@@ -2,10 +2,9 @@
 
 use asm_model::Statement;
 
-/// A statement where it stands, with what its expressions and its label's entry are made of.
+/// Where a statement stands, with what its expressions and its label's entry are made of.
 #[derive(Clone, Copy, Debug)]
-pub struct PlacedLine<'a> {
-    pub statement: &'a Statement,
+pub struct Place {
     /// The statement's area, counted from 0; None before the first.
     pub area: Option<u32>,
     /// The statement's offset in its area.
@@ -16,6 +15,13 @@ pub struct PlacedLine<'a> {
     pub thumb: bool,
     /// Whether its label is one of Thumb code.
     pub thumb_label: bool,
-    /// The storage map.
+    /// The storage map before it.
     pub map: u32,
+}
+
+/// A statement where it stands.
+#[derive(Clone, Copy, Debug)]
+pub struct PlacedLine<'a> {
+    pub statement: &'a Statement,
+    pub place: Place,
 }

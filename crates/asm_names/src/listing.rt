@@ -40,11 +40,11 @@ fn entry_in(
         defines => own_entry(
             alloc,
             &defines,
-            line.area,
-            line.offset,
-            Some(line.size),
-            line.thumb_label,
-            line.map,
+            line.place.area,
+            line.place.offset,
+            Some(line.place.size),
+            line.place.thumb_label,
+            line.place.map,
         ),
     }
 }

@@ -99,26 +99,11 @@ fn valued_entry(alloc: Global, name: &Text, value: Value, thumb: bool) -> Result
     entry(alloc, name, Meaning::Known(value), Some(0), thumb)
 }
 
-fn none_or_zero(size: Option<u32>) -> Option<u32>
-    ensures { result ≡ entries.none_or_zero size }
-{
-    match size {
-        None => None,
-        Some(_) => Some(0),
-    }
-}
-
 /// The entry of a field of the storage map.
-pub fn field_entry(
-    alloc: Global,
-    name: &Text,
-    map: u32,
-    size: Option<u32>,
-) -> Result<LaidName, NoMemory>
-    ensures { IfOk result (λ entry. entry ≡ entries.field_entry name.now map size) }
+pub fn field_entry(alloc: Global, name: &Text, map: u32) -> Result<LaidName, NoMemory>
+    ensures { IfOk result (λ entry. entry ≡ entries.field_entry name.now map) }
 {
-    let meaning = Meaning::Known(Value::Number(map));
-    entry(alloc, name, meaning, none_or_zero(size), false)
+    valued_entry(alloc, name, Value::Number(map), false)
 }
 
 fn thumb_of(entry: Option<&LaidName>) -> bool

@@ -26,7 +26,7 @@ fn entry_of(
 {
     let line = due.line;
     let value = told_value(final_value(alloc, due.value, known, &line))?;
-    equal_entry(alloc, declared, line.area, due.name, value)
+    equal_entry(alloc, declared, line.place.area, due.name, value)
 }
 
 fn entry_at(

@@ -54,20 +54,20 @@ fn is_settled(value: &Result<Value, EvalFault>) -> bool
     }
 }
 
-/// One name plus a number, or else Forward.
+/// One name plus a number, or else Forward, but where it has what nothing defines.
 fn place_or_forward(value: Result<Value, EvalFault>) -> Result<Value, EvalFault>
     ensures { result ≡ steps.place_or_forward value }
 {
     match value {
         Ok(Value::Place { symbol, plus }) => Ok(Value::Place { symbol, plus }),
-        Ok(_) => Err(EvalFault::Kind(LineKind::Forward)),
         Err(EvalFault::NoMemory) => Err(EvalFault::NoMemory),
-        Err(EvalFault::Kind(_)) => Err(EvalFault::Kind(LineKind::Forward)),
+        Err(EvalFault::Kind(LineKind::UnknownWord)) => Err(EvalFault::Kind(LineKind::UnknownWord)),
+        _ => Err(EvalFault::Kind(LineKind::Forward)),
     }
 }
 
 /// The literal of an expression by what its line sees: a number that is known, or else one name plus a number;
-/// Forward where it is neither.
+/// UnknownWord where it has what nothing defines, Forward where it is none of these.
 pub fn literal_at(alloc: Global, e: &Expr, seen: &Seen<'_>) -> Result<Value, EvalFault>
     ensures { SeesLiteral (seen_names seen.now) e.now.items result }
 {

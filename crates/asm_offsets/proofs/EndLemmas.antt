@@ -1,5 +1,5 @@
 -- Areas behind statements, when an area or a statement is added.
-use Rattle.std.proofs.Common.{◌≡◌, ℕ, zero, suc, ◌+◌, ◌<◌, ◌^◌, List, [], ◌∷◌, ◌++◌, length, set, true, false, cond, eqb, Option, Some, None, Result, Ok, Err, refl, sym, ap, ◌∙◌, subst, arith, eq-eqb}
+use Rattle.std.proofs.Common.{◌≡◌, ℕ, zero, suc, ◌+◌, ◌<◌, ◌^◌, ◌&&◌, List, [], ◌∷◌, ◌++◌, length, set, true, false, cond, eqb, Option, Some, None, Result, Ok, Err, refl, sym, ap, ◌∙◌, subst, arith, eq-eqb}
 use Rattle.std.specs.Prelude.{slice_get, map}
 use Rattle.std.proofs.lemmas.Bool.{ne_eqb}
 use Rattle.sdt_fault.specs.declared.NoMemory.{NoMemory}
@@ -7,22 +7,23 @@ use Rattle.asm_offsets.specs.declared.extents.Placed.{Placed}
 use Rattle.asm_offsets.specs.declared.extents.TooLarge.{TooLarge}
 use Rattle.asm_pool.specs.Pooled.{flushed}
 use Rattle.asm_model.specs.Extents.{Extent, Pool}
-use Rattle.asm_model.specs.Offsets.{Piece, is_of, raised, waiting, waiting_behind, start_from, end_from, start_in, end_behind, size_of}
+use Rattle.asm_model.specs.Offsets.{Piece, is_of, raised, waiting, waiting_behind, start_from, end_from, start_in, end_behind, size_of, is_pool, pooled, all_pooled}
 use Rattle.asm_offsets.specs.Coded.{IsExtent}
 use Rattle.asm_offsets.specs.Running.{Standing, nothing, pools_from, entry_in, moved, pools_behind, HasNone, StandsBehind, IsStanding, IsBehind, piece, Places}
 use Rattle.asm_offsets.specs.Steps.{Steps}
 use Rattle.asm_offsets.specs.Finished.{finished, IsLaid, IsLaidOut, AreLaid}
-use Rattle.asm_offsets.proofs.PlaceLemmas.{waits_behind}
+use Rattle.asm_offsets.proofs.PlaceLemmas.{waits_behind, pool_placed, placed_behind}
 
 -- ---- an area more
 
 pub stands_none : (area : ℕ) (before : List Piece) → HasNone area before → StandsBehind area before nothing
-stands_none area [] h = record { end = refl; waiting = refl; pools = refl }
+stands_none area [] h = record { end = refl; waiting = refl; placed = refl; pools = refl }
 stands_none area (s ∷ before) h =
     let rest = stands_none area before h.1 in
     record {
       end = rest.end ∙ sym (ap (λ b. cond b (end_from (end_behind area before) (waiting area before) s.extent) (end_behind area before)) h.0);
       waiting = rest.waiting ∙ sym (ap (λ b. cond b (waiting_behind s.extent (waiting area before)) (waiting area before)) h.0);
+      placed = rest.placed ∙ sym (ap (λ b. cond (b && is_pool s.extent) (all_pooled area before) (pooled area before)) h.0);
       pools = rest.pools ∙ sym (ap (λ b. cond b (pools_from (start_in area before s.extent) s.extent (pools_behind area before)) (pools_behind area before)) h.0);
     }
 
@@ -56,8 +57,13 @@ stays area before s None e h = (e, h)
 stays area before s (Some a) e h = record {
   end = h.end ∙ sym (ap (λ b. cond b (end_from (end_behind area before) (waiting area before) s.extent) (end_behind area before)) e);
   waiting = h.waiting ∙ sym (ap (λ b. cond b (waiting_behind s.extent (waiting area before)) (waiting area before)) e);
+  placed = h.placed ∙ sym (ap (λ b. cond (b && is_pool s.extent) (all_pooled area before) (pooled area before)) e);
   pools = h.pools ∙ sym (ap (λ b. cond b (pools_from (start_in area before s.extent) s.extent (pools_behind area before)) (pools_behind area before)) e);
 }
+
+-- where a statement more starts
+starts : (area : ℕ) (before : List Piece) (e : Extent) (a : Standing) → StandsBehind area before a → start_from a.end a.pools.waiting e ≡ start_in area before e
+starts area before e a h = ap (λ n. start_from n a.pools.waiting e) h.end ∙ ap (λ ws. start_from (end_behind area before) ws e) h.waiting
 
 pub goes_on : (area : ℕ) (before : List Piece) (e : Extent) (a : Standing) → IsExtent e
     → StandsBehind area before a → StandsBehind area (piece (Some area) e ∷ before) (moved e a)
@@ -70,9 +76,11 @@ goes_on area before e a x h =
       waiting =
           waits_behind (start_from a.end a.pools.waiting e) e a.pools x ∙ ap (waiting_behind e) h.waiting
           ∙ sym (ap (λ b. cond b (waiting_behind e (waiting area before)) (waiting area before)) here);
+      placed =
+          placed_behind area (start_from a.end a.pools.waiting e) e before a.pools x h.waiting h.placed (starts area before e a h)
+          ∙ sym (ap (λ b. cond (b && is_pool e) (all_pooled area before) (pooled area before)) here);
       pools =
-          ap (λ n. pools_from (start_from n a.pools.waiting e) e a.pools) h.end
-          ∙ ap (λ ws. pools_from (start_from (end_behind area before) ws e) e a.pools) h.waiting
+          ap (λ n. pools_from n e a.pools) (starts area before e a h)
           ∙ ap (pools_from (start_in area before e) e) h.pools
           ∙ sym (ap (λ b. cond b (pools_from (start_in area before e) e (pools_behind area before)) (pools_behind area before)) here);
     }
@@ -99,10 +107,8 @@ places_some areas before k a b e (Ok (Err t)) x within there step h =
 places_some areas before k a b e (Ok (Ok p)) x within there step h =
     let s = standing_there areas before k a h there in
     record {
-      offset = step.offset ∙ ap (λ n. start_from n a.pools.waiting e) s.end ∙ ap (λ ws. start_from (end_behind k before) ws e) s.waiting;
-      size =
-          step.size ∙ ap (λ n. size_of a.pools.waiting (start_from n a.pools.waiting e) e) s.end
-          ∙ ap (λ ws. size_of ws (start_from (end_behind k before) ws e) e) s.waiting;
+      offset = step.offset ∙ starts k before e a s;
+      size = step.size ∙ ap (λ n. size_of a.pools.waiting n e) (starts k before e a s) ∙ ap (λ ws. size_of ws (start_in k before e) e) s.waiting;
       fits = step.fits;
       literal = step.literal ∙ ap (entry_in e) s.pools;
       behind = subst (λ c. IsBehind (piece (Some k) e ∷ before) (set areas k c)) (sym step.moves) (behind_some areas before k a e x within there h);
@@ -124,9 +130,8 @@ laid_out area all a h = record {
       ap (λ n. raised (end_from n a.pools.waiting Pool) 4) h.end
       ∙ ap (λ ws. raised (end_from (end_behind area all) ws Pool) 4) h.waiting;
   pools =
-      ap (λ n. flushed (start_from n a.pools.waiting Pool) a.pools) h.end
-      ∙ ap (λ ws. flushed (start_from (end_behind area all) ws Pool) a.pools) h.waiting
-      ∙ ap (flushed (start_in area all Pool)) h.pools;
+      ap (λ n. flushed n a.pools) (starts area all Pool a h) ∙ ap (flushed (start_in area all Pool)) h.pools;
+  words = pool_placed area (start_from a.end a.pools.waiting Pool) all a.pools h.waiting h.placed (starts area all Pool a h);
 }
 
 pub are_laid : (areas : List Standing) (all : List Piece) → IsBehind all areas → AreLaid all (map finished areas)

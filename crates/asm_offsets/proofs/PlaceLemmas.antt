@@ -8,7 +8,7 @@ use Rattle.asm_model.specs.Forms.{same}
 use Rattle.asm_pool.specs.Pooled as pool
 use Rattle.asm_pool.specs.Pooled.{Pooled}
 use Rattle.asm_model.specs.Extents.{Extent, Block, Padding, Loading, Pool}
-use Rattle.asm_model.specs.Offsets.{same_literal, noted, waiting_behind, place_among, lacking, alignment_of, start_from, size_of}
+use Rattle.asm_model.specs.Offsets.{Piece, same_literal, noted, waiting, waiting_behind, place_among, lacking, alignment_of, start_in, start_from, size_of, is_pool, words_from, pooled, all_pooled}
 use Rattle.asm_model.specs.OffsetLaws.{IsLiteral}
 use Rattle.asm_model.proofs.OffsetLemmas.{same_itself, more}
 use Rattle.asm_offsets.specs.Coded.{IsExtent}
@@ -95,6 +95,25 @@ waits_behind start (Block a n) p h = refl
 waits_behind start (Padding m n) p h = refl
 waits_behind start (Loading n v) p h = (notes v p h.literal).waiting
 waits_behind start Pool p h = refl
+
+-- ---- the words of pools
+
+words_agree : (at : ℕ) (vs : List Value) → pool.placed_from at vs ≡ words_from at vs
+words_agree at [] = refl
+words_agree at (v ∷ vs) = ap (λ t. (v, at) ∷ t) (words_agree (at + 4) vs)
+
+-- with those of a pool more
+pub pool_placed : (area start : ℕ) (before : List Piece) (p : Pooled) → p.waiting ≡ waiting area before → p.placed ≡ pooled area before → start ≡ start_in area before Pool
+    → (pool.flushed start p).placed ≡ all_pooled area before
+pool_placed area start before p waits placed s = rw (waits, placed, s) (ap (λ ws. pooled area before ++ ws) (words_agree (start_in area before Pool) (waiting area before)))
+
+-- behind a statement
+pub placed_behind : (area start : ℕ) (e : Extent) (before : List Piece) (p : Pooled) → IsExtent e → p.waiting ≡ waiting area before → p.placed ≡ pooled area before
+    → start ≡ start_in area before e → (pools_from start e p).placed ≡ cond (is_pool e) (all_pooled area before) (pooled area before)
+placed_behind area start (Block a n) before p h waits placed s = placed
+placed_behind area start (Padding m n) before p h waits placed s = placed
+placed_behind area start (Loading n v) before p h waits placed s = (notes v p h.literal).placed ∙ placed
+placed_behind area start Pool before p h waits placed s = pool_placed area start before p waits placed s
 
 -- ---- how many entries there are
 

@@ -5,7 +5,7 @@ use Rattle.asm_offsets.specs.declared.extents.LaidPools.{LaidPools}
 use Rattle.asm_offsets.specs.Running.{Standing, HasNone, pools_behind}
 use Rattle.asm_pool.specs.Pooled.{flushed}
 use Rattle.asm_model.specs.Extents.{Pool}
-use Rattle.asm_model.specs.Offsets.{Piece, raised, start_from, end_from, start_in, area_size}
+use Rattle.asm_model.specs.Offsets.{Piece, raised, start_from, end_from, start_in, area_size, all_pooled}
 
 -- an area with the pool at its end
 abbrev pub finished : Standing → LaidPools
@@ -17,6 +17,7 @@ finished a = record {
 pub record IsLaid (area : ℕ) (all : List Piece) (l : LaidPools) : Type 0 where
   pub size : l.size ≡ area_size area all
   pub pools : l.pools ≡ flushed (start_in area all Pool) (pools_behind area all)
+  pub words : l.pools.placed ≡ all_pooled area all
 
 abbrev pub IsLaidOut : ℕ → List Piece → Option LaidPools → Type 0
 IsLaidOut area all None = HasNone area all

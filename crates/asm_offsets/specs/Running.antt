@@ -7,7 +7,7 @@ use Rattle.asm_offsets.specs.declared.extents.Placed.{Placed}
 use Rattle.asm_offsets.specs.declared.extents.TooLarge.{TooLarge}
 use Rattle.asm_pool.specs.Pooled.{Pooled, noted, flushed}
 use Rattle.asm_model.specs.Extents.{Extent, Loading, Pool, pool_alignment}
-use Rattle.asm_model.specs.Offsets.{Piece, is_of, raised, waiting, start_from, end_from, start_in, end_behind, offset_of, size_behind}
+use Rattle.asm_model.specs.Offsets.{Piece, is_of, raised, waiting, pooled, start_from, end_from, start_in, end_behind, offset_of, size_behind}
 
 -- ---- an area
 
@@ -56,6 +56,7 @@ HasNone area (s ∷ before) = (is_of area s.area ≡ false) × HasNone area befo
 pub record StandsBehind (area : ℕ) (before : List Piece) (a : Standing) : Type 0 where
   pub end : a.end ≡ end_behind area before
   pub waiting : a.pools.waiting ≡ waiting area before
+  pub placed : a.pools.placed ≡ pooled area before
   pub pools : a.pools ≡ pools_behind area before
 
 abbrev pub IsStanding : ℕ → List Piece → Option Standing → Type 0

@@ -24,6 +24,12 @@ zip_literals [] (o ∷ os) h = absurd (omega arith)
 zip_literals (v ∷ vs) [] h = refl
 zip_literals (v ∷ vs) (o ∷ os) h = ap (λ t. v ∷ t) (zip_literals vs os (omega arith))
 
+pub zip_offsets : (vs : List Value) (os : List ℕ) → length os ≤ length vs → map (λ (e : Value × ℕ). e.1) (zip vs os) ≡ os
+zip_offsets [] [] h = refl
+zip_offsets [] (o ∷ os) h = absurd (omega arith)
+zip_offsets (v ∷ vs) [] h = refl
+zip_offsets (v ∷ vs) (o ∷ os) h = ap (λ t. o ∷ t) (zip_offsets vs os (omega arith))
+
 pub zip_place : (vs : List Value) (os : List ℕ) (i : ℕ) → length os ≤ length vs → option_map (λ (e : Value × ℕ). e.1) (slice_get (zip vs os) i) ≡ slice_get os i
 zip_place [] [] i h = refl
 zip_place [] (o ∷ os) i h = absurd (omega arith)

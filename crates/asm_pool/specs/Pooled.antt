@@ -58,6 +58,10 @@ place_of entry p = option_map (λ (e : Value × ℕ). e.1) (slice_get p.placed e
 abbrev pub literals_of : Pooled → List Value
 literals_of p = map (λ (e : Value × ℕ). e.0) p.placed ++ p.waiting
 
+-- the offsets of the entries that are placed, in order
+abbrev pub offsets_of : Pooled → List ℕ
+offsets_of p = map (λ (e : Value × ℕ). e.1) p.placed
+
 -- the same literals are equal values
 abbrev pub LiteralLaw : Type 0
 LiteralLaw = (v w : Value) → IsTrue (same_literal v w) ↔ (v ≡ w)

@@ -138,6 +138,13 @@ impl Pools {
         self.literals.as_slice()
     }
 
+    /// The offsets of the entries that are placed, by their numbers.
+    pub fn offsets(&self) -> &[u32]
+        ensures { result.now ≡ pooled.offsets_of self.now }
+    {
+        self.offsets.as_slice()
+    }
+
     /// How many entries wait for the next pool.
     pub fn waiting(&self) -> u32
         ensures { result ≡ length self.now.waiting }

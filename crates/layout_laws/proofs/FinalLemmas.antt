@@ -2,14 +2,13 @@
 use Rattle.std.proofs.Common.{◌≡◌, ℕ, List, [], ◌∷◌, ◌++◌, Bool, true, refl, sym, ◌∙◌, ap, subst, Option, Some, None, append-nil, append_assoc}
 use Rattle.std.specs.Prelude.{Result, Ok, Err}
 use Rattle.sdt_fault.specs.declared.kinds.LineKind.{LineKind}
-use Rattle.sdt_fault.specs.declared.kinds.LineKind.TheVariants.{Forward}
 use Rattle.asm_model.specs.declared.exprs.Expr.{Expr}
 use Rattle.asm_model.specs.declared.values.Value.{Value}
 use Rattle.asm_model.specs.declared.values.Value.TheVariants.{Number, Truth, Place}
 use Rattle.asm_model.specs.declared.names.LaidName.{LaidName}
 use Rattle.asm_model.specs.declared.names.Names.{Names}
 use Rattle.asm_model.specs.declared.statements.Statement.{Statement}
-use Rattle.asm_model.specs.AtLine.{SourceLine, with_names, own_names, names_at, known_entry, added_names, seen_behind, HoldsEach}
+use Rattle.asm_model.specs.AtLine.{SourceLine, with_names, own_names, names_at, added_names, seen_behind, HoldsEach}
 use Rattle.asm_model.specs.Grammar.{Tree}
 use Rattle.asm_model.specs.Meaning.{named_in, size_of, defined_of, meaning}
 use Rattle.asm_model.specs.Entries.{label_entry, imported_entry, field_entry, register_entry, equal_entry}
@@ -62,8 +61,7 @@ equal_tells names area name (Err k) m f = (
 )
 
 pub made_tells : (N names : List LaidName) (area : Option ℕ) (name : List ℕ) (r m : Result Value LineKind) → Gives r m
-    → HoldsEach N (equal_entry names area name m ∷ []) → EachTells N (known_entry (equal_entry names area name) r)
-made_tells N names area name (Err Forward) m f h = tt
+    → HoldsEach N (equal_entry names area name m ∷ []) → EachTells N (equal_entry names area name r ∷ [])
 made_tells N names area name r m f h =
     let same_name = (equal_made names area name m).0 ∙ sym (equal_made names area name r).0 in
     held_tells N (equal_entry names area name r) (equal_entry names area name m) same_name (equal_tells names area name r m f) h
@@ -81,9 +79,7 @@ own_tells N names l (Equal name e) area offset size thumb m h = by_tree (tree_of
     by_tree : (o : Option Tree) → EachTells N (own_names (tree_equated names area name o))
     by_tree None = tt
     by_tree (Some t) = tt
-own_tells N names l (MapField name) area offset size thumb m h =
-    held_tells N (field_entry name m None) (field_entry name m size) refl
-    (λ v k. k, λ v k. absurd (cc), λ v k. k, λ a k. k) h
+own_tells N names l (MapField name) area offset size thumb m h = held_itself N (field_entry name m) h
 own_tells N names l (RegisterName name r) area offset size thumb m h = held_itself N (register_entry name) h
 
 -- ---- lines
@@ -210,7 +206,7 @@ tree_final : (N d : List LaidName) (names : Names) (l : SourceLine) (area : Opti
     → added_names names (tree_equated d area name o) ≡ entries_with N l (tree_equated d area name o)
 tree_final N d names l area name None v f h = refl
 tree_final N d names l area name (Some t) v f h =
-    ap (known_entry (equal_entry d area name)) h ∙ ap (λ r. equal_entry d area name r ∷ []) (sym (f t v h))
+    ap (λ r. equal_entry d area name r ∷ []) (h ∙ sym (f t v h))
 
 -- what a line adds is its final entry, where its name for an expression is known there
 own_final : (N d seen : List LaidName) (s : Statement) (before : List LaidLine) (x : Defined) (area : Option ℕ) (offset : ℕ)

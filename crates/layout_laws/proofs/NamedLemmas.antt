@@ -164,7 +164,7 @@ own_undeclared q s before N l names (Label name) area offset size thumb m h =
     cond_none (same name q) (later_entry name (is_thumb_label s before)) (label_entry name area offset size thumb) h
 own_undeclared q s before N l names (Equal name e) area offset size thumb m h = tree_undeclared q N l names area name (later_entry name false) (tree_of e) h
 own_undeclared q s before N l names (MapField name) area offset size thumb m h =
-    cond_none (same name q) (later_entry name false) (field_entry name m size) h
+    cond_none (same name q) (later_entry name false) (field_entry name m) h
 own_undeclared q s before N l names (RegisterName name r) area offset size thumb m h =
     cond_none (same name q) (later_entry name false) (register_entry name) h
 

@@ -81,21 +81,9 @@ cond_is P false x y h k = k
 pub unary_is : (P : List ℕ → Type 0) (op : UnaryOp) (v : Value) → ResultIs P (unary_of op v)
 unary_is P unary.Length (Words w) = cond_is P (nat_lt string_bytes (length w)) (Err TooMany) (Ok (Number (length w))) tt tt
 unary_is P unary.Character (Number n) = cond_is P (nat_lt 255 n) (Err OutOfRange) (Ok (Words (n ∷ []))) tt tt
-unary_is P unary.Plus (Number n) = tt
-unary_is P unary.Plus v = tt
-unary_is P unary.Minus (Number n) = tt
-unary_is P unary.Minus v = tt
-unary_is P unary.Size v = tt
-unary_is P unary.Not (Number n) = tt
-unary_is P unary.Not v = tt
-unary_is P unary.LogicalNot (Truth b) = tt
-unary_is P unary.LogicalNot v = tt
-unary_is P unary.Length v = tt
-unary_is P unary.Character v = tt
-unary_is P unary.String (Number n) = tt
-unary_is P unary.String (Truth b) = tt
-unary_is P unary.String v = tt
-unary_is P unary.Defined v = tt
+unary_is P op (Number n) = tt
+unary_is P op (Truth b) = tt
+unary_is P op v = tt
 
 pub then_is : (P : List ℕ → Type 0) (op : UnaryOp) (r : Result Value LineKind) → ResultIs P (then_of r (unary_of op))
 then_is P op (Ok v) = unary_is P op v

@@ -3,7 +3,7 @@ use Rattle.std.proofs.Common.{◌≡◌, ℕ, ◌+◌, List, [], ◌∷◌, ◌+
 use Rattle.std.specs.List.{list_any}
 use Rattle.std.proofs.lemmas.Bool.{or_parts, or_from}
 use Rattle.sdt_fault.specs.declared.kinds.LineKind.{LineKind}
-use Rattle.sdt_fault.specs.declared.kinds.LineKind.TheVariants.{DuplicateName, Forward, TooMany}
+use Rattle.sdt_fault.specs.declared.kinds.LineKind.TheVariants.{Constant, DuplicateName, Forward, TooMany}
 use Rattle.asm_model.specs.declared.exprs.Expr.{Expr}
 use Rattle.asm_model.specs.declared.statements.Statement.{Statement}
 use Rattle.asm_model.specs.Directives.{or_else}
@@ -12,6 +12,7 @@ use Rattle.asm_model.specs.Kinds.{told_kind}
 use Rattle.asm_model.proofs.WordLemmas.{same_refl, same_true}
 use Rattle.asm_model.specs.Labels.{Defined, Equal, defined_by, imported_in}
 use Rattle.asm_model.specs.Laid.{LaidLine, statements_of, laid_behind, laid_of}
+use Rattle.asm_model.specs.Exprs.{has_large}
 use Rattle.asm_model.specs.LayoutKinds.{fault_kinds, kind_if, map_kinds, no_area_kinds, contents_kinds, contents_behind, area_kinds, own_name, listed, names_in, names_behind, is_entry, is_repeated, name_kinds, first_equal, equals_in, are_settled, settled_by, settled_kinds, state_kinds, layout_kinds, told_at, first_fault, area_bytes}
 use Rattle.asm_model.specs.Sound.{HaveNoPlaces, IsPlain, ArePlain}
 use Rattle.layout_laws.proofs.EqualLemmas.{equal_of, all_equals, EachEqual, equal_both, equal_joined}
@@ -80,7 +81,9 @@ line_sound S all l before h =
     let b = name_kinds l.statement (statements_of before) in
     let c = settled_kinds S (first_equal (defined_by l.statement) (statements_of before)) in
     let d = state_kinds l.area l.thumb l.statement.what all in
-    let o = both_empty (a ++ b ++ c ++ d) (kind_if (nat_lt area_bytes (l.offset + l.size)) TooMany) h in
+    let e = kind_if (nat_lt area_bytes (l.offset + l.size)) TooMany in
+    let n = both_empty (a ++ b ++ c ++ d ++ e) (kind_if (has_large l.statement.what) Constant) h in
+    let o = both_empty (a ++ b ++ c ++ d) e n.0 in
     let p = both_empty (a ++ b ++ c) d o.0 in
     let q = both_empty (a ++ b) c p.0 in
     let r = both_empty a b q.0 in

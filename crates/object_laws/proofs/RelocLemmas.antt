@@ -38,7 +38,9 @@ use Rattle.source_model.specs.declared.codes.ThumbCode.{ThumbCode}
 use Rattle.source_model.specs.declared.codes.ThumbCode.TheVariants as code
 use Rattle.source_model.specs.Units.{Emitted, Bytes, Word, Instruction, Half, LinkPair, Stored, Target, Nothing, ByArea, BySymbol, placed, stored, word_units, narrow, half_units, byte_operand, byte_units, branch_symbol, link_symbol, code_unit, instruction_units, pseudo_units, units}
 use Rattle.source_laws.specs.Laws.{word_among, context_behind}
-use Rattle.source_laws.proofs.PoolLemmas.{OwnUnit, PoolWord, unit_or_word}
+use Rattle.source_laws.proofs.AgreeLemmas.{literal_stored_there}
+use Rattle.source_laws.proofs.ListedLemmas.{OwnUnit}
+use Rattle.source_laws.proofs.PoolLemmas.{PoolWord, unit_or_word}
 use Rattle.source_laws.proofs.ZeroLemmas.{place_below}
 use Rattle.object_laws.specs.Laws.{IsListed, OptionListed, TargetListed, UnitListed, AreFaultless}
 use Rattle.object_laws.proofs.AreaLemmas.{area_facts}
@@ -159,10 +161,12 @@ things_below ss count few area p x = by_kind (unit_or_word ss area p x)
         by_result l.offset (units c (datum_names ss) l.seen (word_among u.after l u.before) l.statement.what)
         (units_below count c (datum_names ss) l.seen (word_among u.after l u.before) (context_within ss count u.after u.before l few u.parts) l.statement.what) u.among
     by_kind (inr w) =
-        let c = context_behind ss w.loader w.before in
-        subst (λ (t : Piece). UnitBelow count t.1) (sym w.word.is)
-        (subst (StoredBelow count) w.word.stores
-        (word_below count c (datum_names ss) (context_within ss count w.after w.before w.loader few w.parts) (literal_value (sees c) w.word.value)))
+        let x = w.loads in
+        let c = context_behind ss x.loader x.before in
+        let stores = sym (literal_stored_there ss area x.after x.before x.loader x.parts x.own w.value) ∙ w.stores in
+        subst (λ (t : Piece). UnitBelow count t.1) (sym w.is)
+        (subst (StoredBelow count) stores
+        (word_below count c (datum_names ss) (context_within ss count x.after x.before x.loader few x.parts) (literal_value (sees c) w.value)))
 
 -- ---- relocations
 

@@ -45,7 +45,7 @@ use Rattle.said_model.specs.Fit.{AllPlaceless, WhatFits, IsFit}
 use Rattle.said_model.specs.Said.{what_names, HoldsNoZero, HasTexts}
 use Rattle.source_model.specs.ArmForms.{is_settled, has_symbol, branch_from, branch_displacement, branch_field, arm_instruction}
 use Rattle.source_model.specs.Contexts.{Context, sees, is_symbol, is_symbol_entry, may_have_symbol, value_of, and_then}
-use Rattle.source_model.specs.Objects.{Source, source_of, At, is_exported as is_exported_name, is_weak, scope, contents_of, holds_code, symbol_placed, in_no_line, symbol_valued, symbol_named, IsObject}
+use Rattle.source_model.specs.Objects.{Source, source_of, At, is_exported as is_exported_name, is_weak, scope, contents_of, holds_code, symbol_placed, context_in, symbol_valued, symbol_named, IsObject}
 use Rattle.source_model.specs.ThumbForms.{half_words, pair_fields, thumb_displacement, thumb_from, thumb_instruction}
 use Rattle.source_model.specs.Units.{Emitted, Instruction, branch_symbol, link_symbol, code_unit, units}
 use Rattle.source_model.specs.ValueKinds.{lies_within, kinds_unless, exported_kinds, export_kinds, statement_kinds}
@@ -102,7 +102,7 @@ pub own_place_good : (count : ℕ) (sizes : ℕ → ℕ) (s : Source) (q : List 
     → EndsBelow count sizes 0 (in_area f.area f.offset) → IsGood count sizes (symbol_valued s q (Ok (Place q 0)))
 own_place_good count sizes s [] f e h = placed_good count sizes s [] [] 0 None (λ a x. absurd (cc))
 own_place_good count sizes s (c ∷ cs) f e h =
-    placed_good count sizes s (c ∷ cs) (c ∷ cs) 0 (stands_at (sees (in_no_line s)) (c ∷ cs))
+    placed_good count sizes s (c ∷ cs) (c ∷ cs) 0 (stands_at (sees (context_in s None)) (c ∷ cs))
     (λ a x. h a (ap entry_stands_at (sym e) ∙ x))
 
 pub own_good : (count : ℕ) (sizes : ℕ → ℕ) (s : Source) (q : List ℕ) (own : IsOwn s.names q)
@@ -438,7 +438,7 @@ placed_name s name label n (Some a) = refl
 
 pub symbol_name : (s : Source) (name : List ℕ) (r : Result Value LineKind) → (symbol_valued s name r).name ≡ name
 symbol_name s name (Ok (Number n)) = refl
-symbol_name s name (Ok (Place q n)) = placed_name s name q n (stands_at (sees (in_no_line s)) q)
+symbol_name s name (Ok (Place q n)) = placed_name s name q n (stands_at (sees (context_in s None)) q)
 symbol_name s name r = refl
 
 pub exported_lacks : (s : Source) (q : List ℕ) (names : List (List ℕ)) → Lacks names q → Lacks (exported (map (symbol_named s) names)) q

@@ -1,10 +1,11 @@
 -- Where the lines of a source stand.
-use Rattle.std.proofs.Common.{◌≡◌, ℕ, ◌+◌, ◌≤◌, List, [], ◌∷◌, ◌++◌, append_assoc, refl, sym, ◌∙◌, ap, subst, arith, Some, None}
+use Rattle.std.proofs.Common.{◌≡◌, ℕ, ◌+◌, ◌≤◌, List, [], ◌∷◌, ◌++◌, refl, sym, ◌∙◌, ap, subst, arith, Some, None}
 use Rattle.std.specs.Prelude.{Result, Ok, Err}
 use Rattle.sdt_fault.specs.declared.kinds.LineKind.{LineKind}
-use Rattle.sdt_fault.specs.declared.kinds.LineKind.TheVariants.{TooMany}
+use Rattle.sdt_fault.specs.declared.kinds.LineKind.TheVariants.{Constant, TooMany}
 use Rattle.asm_model.specs.declared.statements.Statement.{Statement}
 use Rattle.asm_model.specs.Kinds.{told_kind}
+use Rattle.asm_model.specs.Exprs.{has_large}
 use Rattle.asm_model.specs.Extents.{Extent}
 use Rattle.asm_model.specs.Laid.{LaidLine, statements_of, taken, pieces_of, laid_behind, laid_of, laid}
 use Rattle.asm_model.specs.Labels.{defined_by, declared_names}
@@ -40,17 +41,18 @@ line_fine S all (x ∷ after) before l h =
     line_fine S all after before l
     (or_none (first_fault S all (after ++ l ∷ before)) (told_at x.statement (told_kind (layout_kinds S all x (after ++ l ∷ before)))) h).0
 
-pub extent_known : (r : Result Extent LineKind) (b c d e f g h i : List LineKind) → fault_kinds r ++ b ++ c ++ d ++ e ++ f ++ g ++ h ++ i ≡ []
+pub extent_known : (r : Result Extent LineKind) (b c d e f g h i j : List LineKind) → fault_kinds r ++ b ++ c ++ d ++ e ++ f ++ g ++ h ++ i ++ j ≡ []
     → (x : Extent) × (r ≡ Ok x)
-extent_known (Ok x) b c d e f g h i k = (x, refl)
-extent_known (Err j) b c d e f g h i k = absurd (cc)
+extent_known (Ok x) b c d e f g h i j k = (x, refl)
+extent_known (Err x) b c d e f g h i j k = absurd (cc)
 
 pub line_known : (S : List (List ℕ)) (all : List Statement) (l : LaidLine) (before : List LaidLine) → layout_kinds S all l before ≡ [] → (x : Extent) × (l.extent ≡ Ok x)
 line_known S all l before h =
     extent_known l.extent (map_kinds l.seen l.statement.what) (no_area_kinds l.area (defined_by l.statement) l.statement.what)
     (contents_kinds (contents_behind (l.statement ∷ statements_of before)) l.thumb l.statement.what)
     (area_kinds l.seen l.statement.what before) (name_kinds l.statement (statements_of before))
-    (settled_kinds S (first_equal (defined_by l.statement) (statements_of before))) (state_kinds l.area l.thumb l.statement.what all) (kind_if (nat_lt area_bytes (l.offset + l.size)) TooMany) h
+    (settled_kinds S (first_equal (defined_by l.statement) (statements_of before))) (state_kinds l.area l.thumb l.statement.what all) (kind_if (nat_lt area_bytes (l.offset + l.size)) TooMany)
+    (kind_if (has_large l.statement.what) Constant) h
 
 pub stands_there : (d : List LaidName) (ss : List Statement) (after before : List LaidLine) (l : LaidLine) (x : Extent) → laid_of d ss ≡ after ++ l ∷ before → l.extent ≡ Ok x
     → (l.offset ≡ offset_of l.area (pieces_of before) x) × (l.size ≡ size_behind l.area (pieces_of before) x)
@@ -103,14 +105,6 @@ line_starts ss sound area after before l e here =
 pub pieces_rise : (area : ℕ) (later before : List LaidLine) → end_behind area (pieces_of before) ≤ end_behind area (pieces_of (later ++ before))
 pieces_rise area later before =
     subst (λ z. end_behind area (pieces_of before) ≤ end_behind area z) (sym (pieces_joined later before)) (all_rise area (pieces_of later) (pieces_of before))
-
-pub statements_stand_apart : (ss : List Statement) → IsSound ss
-    → (area : ℕ) (after between before : List LaidLine) (l m : LaidLine) → laid ss ≡ after ++ l ∷ (between ++ m ∷ before)
-    → l.area ≡ Some area → m.area ≡ Some area → m.offset + m.size ≤ l.offset
-statements_stand_apart ss sound area after between before l m e here there =
-    subst (λ z. z ≤ l.offset) (sym (line_ends ss sound area (after ++ l ∷ between) before m (e ∙ sym (append_assoc after (l ∷ between) (m ∷ before))) there))
-    (through (end_behind area (pieces_of (m ∷ before))) (end_behind area (pieces_of (between ++ m ∷ before))) l.offset
-    (pieces_rise area between (m ∷ before)) (line_starts ss sound area after (between ++ m ∷ before) l e here))
 
 pub statements_lie_in_areas : (ss : List Statement) → IsSound ss
     → (area : ℕ) (after before : List LaidLine) (l : LaidLine) → laid ss ≡ after ++ l ∷ before

@@ -4,9 +4,9 @@ use Rattle.std.proofs.lemmas.Bool.{cond-true, eqb-true}
 use Rattle.asm_model.specs.declared.statements.Statement.{Statement}
 use Rattle.asm_model.specs.Laid.{LaidLine, taken, pieces_of, laid}
 use Rattle.asm_model.specs.Marks.{datum_names}
-use Rattle.asm_model.specs.Offsets.{is_of}
+use Rattle.asm_model.specs.Offsets.{is_of, all_pooled}
 use Rattle.asm_model.proofs.OffsetLemmas.{is_here}
-use Rattle.source_model.specs.Objects.{Piece, pieces_in, source_of, in_order, things_of, things_behind, IsAmong, StandsIn}
+use Rattle.source_model.specs.Objects.{Piece, pieces_in, source_of, in_order, things_of, things_behind, words_of, IsAmong, StandsIn}
 use Rattle.source_model.specs.SourceFaults.{word_of}
 use Rattle.source_laws.specs.Laws.{context_behind}
 
@@ -80,10 +80,15 @@ owner_among ss area p (l ∷ before) rest h =
     by_side f (inl k) = earlier (f k)
     by_side f (inr k) = here (is_of area l.area) refl k
 
-pub owner_of : (ss : List Statement) (area : ℕ) (p : Piece) → StandsIn (source_of ss) area p → Owner ss area p (laid ss) []
+-- a unit that a line puts itself
+abbrev pub OwnUnit : List Statement → ℕ → Piece → Type 0
+OwnUnit ss area p = Owner ss area p (laid ss) []
+
+pub owner_of : (ss : List Statement) (area : ℕ) (p : Piece) → IsAmong p (things_behind (source_of ss) area (laid ss) []) → OwnUnit ss area p
 owner_of ss area p h = owner_among ss area p (laid ss) [] h
 
 pub line_thing : (ss : List Statement) (area : ℕ) (p : Piece) (after before : List LaidLine) (l : LaidLine) → laid ss ≡ after ++ l ∷ before → l.area ≡ Some area
     → IsAmong p (own_things ss l before (in_order after [])) → StandsIn (source_of ss) area p
 line_thing ss area p after before l e here h =
-    subst (λ z. IsAmong p (things_behind (source_of ss) area z [])) (sym e) (listed_there ss area p after before [] l here h)
+    among_first p (things_behind (source_of ss) area (laid ss) []) (words_of (source_of ss) area (all_pooled area (pieces_of (laid ss))))
+    (subst (λ z. IsAmong p (things_behind (source_of ss) area z [])) (sym e) (listed_there ss area p after before [] l here h))

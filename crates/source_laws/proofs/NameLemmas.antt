@@ -64,7 +64,7 @@ pub record EntriesAre (ss : List Statement) (R : LaidName → Type 0) : Type 0 w
   pub equal : (l : LaidLine) → At (source_of ss) l → (name : List ℕ) (e : Expr) → defined_by l.statement ≡ Equal name e
       → (names : List LaidName) (r : Result Value LineKind) → R (equal_entry names l.area name r)
   pub field : (l : LaidLine) → At (source_of ss) l → (name : List ℕ) → defined_by l.statement ≡ MapField name → (m : ℕ)
-      → R (field_entry name m (Some l.size))
+      → R (field_entry name m)
   pub register : (l : LaidLine) → At (source_of ss) l → (name : List ℕ) (r : RnOperand) → defined_by l.statement ≡ RegisterName name r
       → R (register_entry name)
   pub imported : (l : LaidLine) → At (source_of ss) l → (name : List ℕ) → imported_in l.statement.what ≡ Some name → R (imported_entry name)

@@ -1,219 +1,229 @@
--- Each thing of an area is a unit of a line's own, or the word of a literal that a line loads; and each such word lies in the
--- area's next pool, where an LTORG stands or behind all lines.
-use Rattle.std.proofs.Common.{◌≡◌, ℕ, List, [], ◌∷◌, ◌++◌, Bool, true, false, cond, refl, sym, ◌∙◌, ap, subst, Option, Some, None, ◌⊎◌, inl, inr}
+-- The words of pools are those of the literals that lines load: each word is that of a line's literal, and the literal of a
+-- line has its word.
+use Rattle.std.proofs.Common.{◌≡◌, ℕ, ◌+◌, ◌*◌, ◌||◌, List, [], ◌∷◌, ◌++◌, append_assoc, Bool, true, false, cond, refl, sym, ◌∙◌, ap, subst, arith, Some, ◌⊎◌, inl, inr}
 use Rattle.std.specs.Prelude.{Result, Ok, Err}
-use Rattle.std.proofs.lemmas.Bool.{and_parts}
+use Rattle.std.specs.List.{AllByRecursion, list_any}
 use Rattle.sdt_fault.specs.declared.kinds.LineKind.{LineKind}
-use Rattle.asm_model.specs.declared.directives.DirectiveLine.TheVariants as line
 use Rattle.asm_model.specs.declared.statements.Statement.{Statement}
-use Rattle.asm_model.specs.declared.statements.What.TheVariants as what
 use Rattle.asm_model.specs.declared.values.Value.{Value}
-use Rattle.asm_model.specs.Extents.{Extent, Block, Padding, Loading, Pool}
+use Rattle.asm_model.specs.Extents.{Extent, Loading, Pool}
 use Rattle.asm_model.specs.Laid.{LaidLine, taken, pieces_of, laid}
-use Rattle.asm_model.specs.Marks.{datum_names}
-use Rattle.asm_model.specs.Offsets.{Piece as LaidPiece, is_of, is_pool, is_pool_of, waiting, start_in, word_behind, literal_word}
-use Rattle.asm_model.specs.Sound.{IsSound}
+use Rattle.asm_model.specs.OffsetLaws.{joined}
+use Rattle.asm_model.specs.Offsets.{Piece as LaidPiece, is_of, same_literal, waiting_behind, waiting, start_in, place_among, word_behind, is_pool_of, literal_word, words_from, pool_behind, pooled, all_pooled}
 use Rattle.asm_model.proofs.OffsetLemmas.{behind_keeps}
-use Rattle.source_model.specs.Contexts.{Context}
-use Rattle.source_model.specs.Objects.{Piece, units_from, literal_unit, literal_piece, or_none, source_of, in_order, IsAmong, StandsIn}
-use Rattle.source_model.specs.SourceFaults.{word_of}
-use Rattle.source_model.specs.Units.{Emitted, Word, Stored, units}
-use Rattle.source_laws.specs.Laws.{word_among, context_behind, stored_literal}
-use Rattle.source_laws.proofs.AgreeLemmas.{or_empty, context_in, literal_stored, literal_loaded}
-use Rattle.source_laws.proofs.LineLemmas.{piece_of, stands_in}
-use Rattle.source_laws.proofs.ListedLemmas.{among_either, owned, owner_of, Owner}
-use Rattle.source_laws.proofs.SizeLemmas.{pools_are_said, pool_or, pool_or_own}
-use Rattle.source_laws.proofs.ThingLemmas.{own_units, own_words, puts, puts_pool, puts_own, known_extent}
-use Rattle.source_laws.proofs.WordLemmas.{Waits, pool_units, pool_word, waits_behind}
+use Rattle.source_model.specs.Objects.{Piece, Source, source_of, in_order, literal_stored, word_piece, words_of, things_behind, IsAmong, StandsIn}
+use Rattle.source_model.specs.Units.{Word, Stored}
+use Rattle.source_laws.proofs.LineLemmas.{piece_of}
+use Rattle.source_laws.proofs.ListedLemmas.{among_either, among_first, among_last, owned, OwnUnit, owner_of}
+use Rattle.source_laws.proofs.NameLemmas.{each_joined}
+use Rattle.source_laws.proofs.WordLemmas.{Waits, same_value, pieces_before, waits_behind}
 
--- ---- what a thing is
+-- ---- each word is that of a line's literal
 
-pub record IsWord (statements : List Statement) (c : Context) (e : Extent) (word : Option ℕ) (p : Piece) : Type 0 where
-  pub size : ℕ
-  pub value : Value
-  pub place : ℕ
-  pub holds : Stored
-  pub extent : e ≡ Loading size value
-  pub stands : word ≡ Some place
-  pub stores : stored_literal statements c value ≡ Ok holds
-  pub is : p ≡ (place, Word holds)
+pub each_weaker : {A : Type 0} (P Q : A → Type 0) → ((x : A) → P x → Q x) → (xs : List A) → AllByRecursion P xs → AllByRecursion Q xs
+each_weaker P Q f [] h = tt
+each_weaker P Q f (x ∷ xs) h = (f x h.0, each_weaker P Q f xs h.1)
 
-pub is_word : (statements : List Statement) (c : Context) (e : Extent) (word : Option ℕ) (p : Piece)
-    → IsAmong p (literal_piece c (datum_names statements) e word) → IsWord statements c e word p
-is_word statements c (Block a n) word p h = absurd h
-is_word statements c (Padding m n) word p h = absurd h
-is_word statements c Pool word p h = absurd h
-is_word statements c (Loading n v) word p h = by_result word (stored_literal statements c v) refl refl h
-  where
-    by_result : (o : Option ℕ) (r : Result Stored LineKind) → word ≡ o → stored_literal statements c v ≡ r → IsAmong p (literal_unit o r)
-        → IsWord statements c (Loading n v) word p
-    by_result None r x y k = absurd k
-    by_result (Some at) (Err j) x y k = absurd k
-    by_result (Some at) (Ok w) x y (inl e) =
-        record { size = n; value = v; place = at; holds = w; extent = refl; stands = x; stores = y; is = e }
-    by_result (Some at) (Ok w) x y (inr k) = absurd k
-
-pub record OwnUnit (ss : List Statement) (area : ℕ) (p : Piece) : Type 0 where
-  pub owner : LaidLine
-  pub after : List LaidLine
-  pub before : List LaidLine
-  pub parts : laid ss ≡ after ++ owner ∷ before
-  pub own : owner.area ≡ Some area
-  pub among : IsAmong p (units_from owner.offset (own_units ss after owner before))
-
-pub record PoolWord (ss : List Statement) (area : ℕ) (p : Piece) : Type 0 where
+-- a line of the area among these loads the literal
+pub record Loads (area : ℕ) (lines : List LaidLine) (v : Value) : Type 0 where
   pub loader : LaidLine
   pub after : List LaidLine
   pub before : List LaidLine
-  pub parts : laid ss ≡ after ++ loader ∷ before
+  pub parts : lines ≡ after ++ loader ∷ before
   pub own : loader.area ≡ Some area
-  pub word : IsWord ss (context_behind ss loader before) (taken loader.extent) (word_among after loader before) p
+  pub size : ℕ
+  pub extent : taken loader.extent ≡ Loading size v
+
+loads_later : (area : ℕ) (l : LaidLine) (lines : List LaidLine) (v : Value) → Loads area lines v → Loads area (l ∷ lines) v
+loads_later area l lines v x = record {
+  loader = x.loader;
+  after = l ∷ x.after;
+  before = x.before;
+  parts = ap (λ z. l ∷ z) x.parts;
+  own = x.own;
+  size = x.size;
+  extent = x.extent;
+}
+
+waiting_loaded : (area : ℕ) (lines : List LaidLine) → AllByRecursion (Loads area lines) (waiting area (pieces_of lines))
+waiting_loaded area [] = tt
+waiting_loaded area (l ∷ lines) =
+    by_area (each_weaker (Loads area lines) (Loads area (l ∷ lines)) (loads_later area l lines) (waiting area (pieces_of lines)) (waiting_loaded area lines))
+    (is_of area l.area) refl
+  where
+    ws : List Value
+    ws = waiting area (pieces_of lines)
+
+    Now : Value → Type 0
+    Now = Loads area (l ∷ lines)
+
+    by_noted : AllByRecursion Now ws → (v : Value) → Now v → (b : Bool) → AllByRecursion Now (cond b ws (ws ++ v ∷ []))
+    by_noted older v x true = older
+    by_noted older v x false = each_joined Now ws (v ∷ []) older (x, tt)
+
+    by_extent : AllByRecursion Now ws → l.area ≡ Some area → (e : Extent) → taken l.extent ≡ e → AllByRecursion Now (waiting_behind e ws)
+    by_extent older own (Loading n v) x =
+        by_noted older v (record { loader = l; after = []; before = lines; parts = refl; own = own; size = n; extent = x }) (list_any (same_literal v) ws)
+    by_extent older own Pool x = tt
+    by_extent older own e x = older
+
+    by_area : AllByRecursion Now ws → (b : Bool) → is_of area l.area ≡ b → AllByRecursion Now (cond b (waiting_behind (taken l.extent) ws) ws)
+    by_area older true x = by_extent older (owned area l.area x) (taken l.extent) refl
+    by_area older false x = older
+
+abbrev pub EachLoads : ℕ → List LaidLine → List (Value × ℕ) → Type 0
+EachLoads area lines words = AllByRecursion (λ w. Loads area lines w.0) words
+
+words_loaded : (P : Value → Type 0) (at : ℕ) (ws : List Value) → AllByRecursion P ws → AllByRecursion (λ w. P w.0) (words_from at ws)
+words_loaded P at [] h = tt
+words_loaded P at (w ∷ ws) h = (h.0, words_loaded P (at + 4) ws h.1)
+
+pool_loaded : (area : ℕ) (lines : List LaidLine) → EachLoads area lines (pool_behind area (pieces_of lines))
+pool_loaded area lines =
+    words_loaded (Loads area lines) (start_in area (pieces_of lines) Pool) (waiting area (pieces_of lines)) (waiting_loaded area lines)
+
+pooled_loaded : (area : ℕ) (lines : List LaidLine) → EachLoads area lines (pooled area (pieces_of lines))
+pooled_loaded area [] = tt
+pooled_loaded area (l ∷ lines) = by_pool (pooled_loaded area lines) (is_pool_of area (piece_of l))
+  where
+    front : List (Value × ℕ)
+    front = pooled area (pieces_of lines)
+
+    pool : List (Value × ℕ)
+    pool = pool_behind area (pieces_of lines)
+
+    later : (words : List (Value × ℕ)) → EachLoads area lines words → EachLoads area (l ∷ lines) words
+    later words h = each_weaker (λ w. Loads area lines w.0) (λ w. Loads area (l ∷ lines) w.0) (λ w. loads_later area l lines w.0) words h
+
+    by_pool : EachLoads area lines front → (b : Bool) → EachLoads area (l ∷ lines) (cond b (front ++ pool) front)
+    by_pool older true = each_joined (λ w. Loads area (l ∷ lines) w.0) front pool (later front older) (later pool (pool_loaded area lines))
+    by_pool older false = later front older
+
+pub words_are_loaded : (area : ℕ) (lines : List LaidLine) → EachLoads area lines (all_pooled area (pieces_of lines))
+words_are_loaded area lines =
+    each_joined (λ w. Loads area lines w.0) (pooled area (pieces_of lines)) (pool_behind area (pieces_of lines))
+    (pooled_loaded area lines) (pool_loaded area lines)
+
+-- ---- what a thing is
+
+pub record PoolWord (ss : List Statement) (area : ℕ) (p : Piece) : Type 0 where
+  pub value : Value
+  pub place : ℕ
+  pub holds : Stored
+  pub loads : Loads area (laid ss) value
+  pub stores : literal_stored (source_of ss) area value ≡ Ok holds
+  pub is : p ≡ (place, Word holds)
+
+word_among : (ss : List Statement) (area : ℕ) (p : Piece) (words : List (Value × ℕ)) → EachLoads area (laid ss) words
+    → IsAmong p (words_of (source_of ss) area words) → PoolWord ss area p
+word_among ss area p [] each h = absurd h
+word_among ss area p (w ∷ words) each h =
+    by_part (word_among ss area p words each.1) (among_either p (word_piece w.1 (literal_stored (source_of ss) area w.0)) (words_of (source_of ss) area words) h)
+  where
+    by_result : (r : Result Stored LineKind) → literal_stored (source_of ss) area w.0 ≡ r → IsAmong p (word_piece w.1 r) → PoolWord ss area p
+    by_result (Ok x) e (inl k) = record { value = w.0; place = w.1; holds = x; loads = each.0; stores = e; is = k }
+    by_result (Ok x) e (inr k) = absurd k
+    by_result (Err j) e k = absurd k
+
+    by_part : (IsAmong p (words_of (source_of ss) area words) → PoolWord ss area p)
+        → IsAmong p (word_piece w.1 (literal_stored (source_of ss) area w.0)) ⊎ IsAmong p (words_of (source_of ss) area words) → PoolWord ss area p
+    by_part later (inl k) = by_result (literal_stored (source_of ss) area w.0) refl k
+    by_part later (inr k) = later k
 
 pub unit_or_word : (ss : List Statement) (area : ℕ) (p : Piece) → StandsIn (source_of ss) area p → OwnUnit ss area p ⊎ PoolWord ss area p
-unit_or_word ss area p h =
-    by_kind (among_either p (units_from x.owner.offset (own_units ss x.after x.owner x.before)) (own_words ss x.after x.owner x.before) x.among)
+unit_or_word ss area p h = by_kind (among_either p (things_behind (source_of ss) area (laid ss) []) (words_of (source_of ss) area words) h)
   where
-    x : Owner ss area p (laid ss) []
-    x = owner_of ss area p h
+    words : List (Value × ℕ)
+    words = all_pooled area (pieces_of (laid ss))
 
-    by_kind : IsAmong p (units_from x.owner.offset (own_units ss x.after x.owner x.before)) ⊎ IsAmong p (own_words ss x.after x.owner x.before)
-        → OwnUnit ss area p ⊎ PoolWord ss area p
-    by_kind (inl k) = inl (record { owner = x.owner; after = x.after; before = x.before; parts = x.parts; own = x.own; among = k })
-    by_kind (inr k) =
-        inr
-        (record {
-          loader = x.owner;
-          after = x.after;
-          before = x.before;
-          parts = x.parts;
-          own = x.own;
-          word = is_word ss (context_behind ss x.owner x.before) (taken x.owner.extent) (word_among x.after x.owner x.before) p k;
-        })
+    by_kind : IsAmong p (things_behind (source_of ss) area (laid ss) []) ⊎ IsAmong p (words_of (source_of ss) area words) → OwnUnit ss area p ⊎ PoolWord ss area p
+    by_kind (inl k) = inl (owner_of ss area p k)
+    by_kind (inr k) = inr (word_among ss area p words (words_are_loaded area (laid ss)) k)
 
--- ---- where a thing lies
+-- ---- a line's literal has its word
 
--- where a line stands
-pub record Puts (ss : List Statement) (area : ℕ) (p : Piece) : Type 0 where
-  pub line : LaidLine
-  pub after : List LaidLine
-  pub before : List LaidLine
-  pub parts : laid ss ≡ after ++ line ∷ before
-  pub own : line.area ≡ Some area
-  pub among : IsAmong p (units_from line.offset (puts ss area after line before))
+pub words_joined : (s : Source) (area : ℕ) (xs ys : List (Value × ℕ)) → words_of s area (xs ++ ys) ≡ words_of s area xs ++ words_of s area ys
+words_joined s area [] ys = refl
+words_joined s area (x ∷ xs) ys =
+    let word = word_piece x.1 (literal_stored s area x.0) in
+    ap (λ z. word ++ z) (words_joined s area xs ys) ∙ sym (append_assoc word (words_of s area xs) (words_of s area ys))
 
--- in the pool at the area's end
-abbrev pub end_things : List Statement → ℕ → List Piece
-end_things ss area = units_from (start_in area (pieces_of (laid ss)) Pool) (pool_units ss area (waiting area (pieces_of (laid ss))))
+pub words_first : (s : Source) (area : ℕ) (p : Piece) (xs ys : List (Value × ℕ)) → IsAmong p (words_of s area xs) → IsAmong p (words_of s area (xs ++ ys))
+words_first s area p xs ys h =
+    subst (IsAmong p) (sym (words_joined s area xs ys)) (among_first p (words_of s area xs) (words_of s area ys) h)
 
-abbrev pub Held : List Statement → ℕ → Piece → Type 0
-Held ss area p = Puts ss area p ⊎ IsAmong p (end_things ss area)
+pub words_last : (s : Source) (area : ℕ) (p : Piece) (xs ys : List (Value × ℕ)) → IsAmong p (words_of s area ys) → IsAmong p (words_of s area (xs ++ ys))
+words_last s area p xs ys h =
+    subst (IsAmong p) (sym (words_joined s area xs ys)) (among_last p (words_of s area xs) (words_of s area ys) h)
 
-ordered : (after : List LaidLine) (l : LaidLine) (before : List LaidLine) → in_order (in_order after []) (l ∷ before) ≡ after ++ l ∷ before
-ordered after l before = turned after [] (l ∷ before)
+pub words_either : (s : Source) (area : ℕ) (p : Piece) (xs ys : List (Value × ℕ)) → IsAmong p (words_of s area (xs ++ ys))
+    → IsAmong p (words_of s area xs) ⊎ IsAmong p (words_of s area ys)
+words_either s area p xs ys h = among_either p (words_of s area xs) (words_of s area ys) (subst (IsAmong p) (words_joined s area xs ys) h)
+
+at_first : (at : ℕ) → at + 4 * 0 ≡ at
+at_first at = omega arith
+
+at_next : (at k : ℕ) → at + 4 + 4 * k ≡ at + 4 * (k + 1)
+at_next at k = omega arith
+
+-- a literal that waits has its word there
+word_there : (s : Source) (area at : ℕ) (ws : List Value) (v : Value) (x : Stored) → literal_stored s area v ≡ Ok x → Waits v ws
+    → IsAmong (at + 4 * place_among v ws, Word x) (words_of s area (words_from at ws))
+word_there s area at [] v x e h = absurd (cc)
+word_there s area at (w ∷ ws) v x e h = by_test (same_literal v w) refl h (word_there s area (at + 4) ws v x e)
   where
-    turned : (xs ys zs : List LaidLine) → in_order (in_order xs ys) zs ≡ in_order ys (xs ++ zs)
-    turned [] ys zs = refl
-    turned (x ∷ xs) ys zs = turned xs (x ∷ ys) zs
+    first : Result Stored LineKind
+    first = literal_stored s area w
 
-back : (rest before : List LaidLine) → (later : List LaidLine) × (in_order rest before ≡ later ++ before) × (in_order later [] ≡ rest)
-back rest before = (in_order rest [], joined rest [] before, twice rest [])
+    rest : List Piece
+    rest = words_of s area (words_from (at + 4) ws)
+
+    by_test : (b : Bool) → same_literal v w ≡ b → (b || list_any (same_literal v) ws) ≡ true
+        → (Waits v ws → IsAmong (at + 4 + 4 * place_among v ws, Word x) rest)
+        → IsAmong (at + 4 * cond b 0 (place_among v ws + 1), Word x) (word_piece at first ++ rest)
+    by_test true y k later =
+        subst (λ r. IsAmong (at + 4 * 0, Word x) (word_piece at r ++ rest)) (sym e ∙ ap (literal_stored s area) (same_value v w y)) (inl (ap (λ z. (z, Word x)) (at_first at)))
+    by_test false y k later =
+        among_last (at + 4 * (place_among v ws + 1), Word x) (word_piece at first) rest (subst (λ z. IsAmong (z, Word x) rest) (at_next at (place_among v ws)) (later k))
+
+-- what is in a pool stays there
+pooled_kept : (s : Source) (area : ℕ) (p : Piece) (before rest : List LaidPiece) → IsAmong p (words_of s area (pooled area before))
+    → IsAmong p (words_of s area (all_pooled area (joined before rest)))
+pooled_kept s area p before [] h = words_first s area p (pooled area before) (pool_behind area before) h
+pooled_kept s area p before (m ∷ rest) h = pooled_kept s area p (m ∷ before) rest (by_pool (is_pool_of area m))
   where
-    joined : (xs ys zs : List LaidLine) → in_order xs (ys ++ zs) ≡ in_order xs ys ++ zs
-    joined [] ys zs = refl
-    joined (x ∷ xs) ys zs = joined xs (x ∷ ys) zs
+    by_pool : (b : Bool) → IsAmong p (words_of s area (cond b (pooled area before ++ pool_behind area before) (pooled area before)))
+    by_pool true = words_first s area p (pooled area before) (pool_behind area before) h
+    by_pool false = h
 
-    twice : (xs ys : List LaidLine) → in_order (in_order xs ys) [] ≡ in_order ys xs
-    twice [] ys = refl
-    twice (x ∷ xs) ys = twice xs (x ∷ ys)
-
-word_held : (ss : List Statement) → IsSound ss → (area : ℕ) (v : Value) (rest before : List LaidLine) → laid ss ≡ in_order rest before
-    → Waits v (waiting area (pieces_of before))
-    → Held ss area (literal_word area (pieces_of before) (pieces_of rest) v, Word (literal_stored ss (context_in ss area) v))
-word_held ss sound area v [] before e h =
-    let word = Word (literal_stored ss (context_in ss area) v) in
-    subst (λ z. Held ss area (word_behind area (pieces_of z) v, word)) e
-    (inr
-    (pool_word ss area (start_in area (pieces_of (laid ss)) Pool) (waiting area (pieces_of (laid ss))) v (subst (λ z. Waits v (waiting area (pieces_of z))) (sym e) h)))
-word_held ss sound area v (m ∷ rest) before e h =
-    by_test (is_pool_of area (piece_of m)) refl
-    (λ k. word_held ss sound area v rest (m ∷ before) e (behind_keeps v (is_of area m.area) (taken m.extent) (waiting area (pieces_of before)) k h))
+word_pooled : (s : Source) (area : ℕ) (v : Value) (x : Stored) → literal_stored s area v ≡ Ok x → (before rest : List LaidPiece) → Waits v (waiting area before)
+    → IsAmong (literal_word area before rest v, Word x) (words_of s area (all_pooled area (joined before rest)))
+word_pooled s area v x e before [] h =
+    words_last s area (word_behind area before v, Word x) (pooled area before) (pool_behind area before)
+    (word_there s area (start_in area before Pool) (waiting area before) v x e h)
+word_pooled s area v x e before (m ∷ rest) h =
+    by_pool (is_pool_of area m) refl (λ k. word_pooled s area v x e (m ∷ before) rest (behind_keeps v (is_of area m.area) m.extent (waiting area before) k h))
   where
-    word : Emitted
-    word = Word (literal_stored ss (context_in ss area) v)
+    all : List Piece
+    all = words_of s area (all_pooled area (joined (m ∷ before) rest))
 
-    pool_of : (x : Extent) → is_pool x ≡ true → x ≡ Pool
-    pool_of Pool y = refl
-    pool_of (Block a n) y = absurd (cc)
-    pool_of (Padding k n) y = absurd (cc)
-    pool_of (Loading n u) y = absurd (cc)
+    here : is_pool_of area m ≡ true → IsAmong (word_behind area before v, Word x) (words_of s area (pooled area (m ∷ before)))
+    here y =
+        subst (λ b. IsAmong (word_behind area before v, Word x) (words_of s area (cond b (pooled area before ++ pool_behind area before) (pooled area before)))) (sym y)
+        (words_last s area (word_behind area before v, Word x) (pooled area before) (pool_behind area before)
+        (word_there s area (start_in area before Pool) (waiting area before) v x e h))
 
-    there : is_pool_of area (piece_of m) ≡ true → Held ss area (word_behind area (pieces_of before) v, word)
-    there k =
-        let both = and_parts (is_of area m.area) (is_pool (taken m.extent)) k in
-        let own = owned area m.area both.0 in
-        let pool = pool_of (taken m.extent) both.1 in
-        let b = back rest (m ∷ before) in
-        let parts = e ∙ b.1 in
-        let says = pools_are_said m.seen m.statement.what (known_extent ss sound b.0 before m parts ∙ ap Ok pool) in
-        let at = (stands_in ss sound area b.0 before m parts own).0 ∙ ap (start_in area (pieces_of before)) pool in
-        let word_there : Piece = (word_behind area (pieces_of before) v, word) in
-        inl
-        (record {
-          line = m;
-          after = b.0;
-          before = before;
-          parts = parts;
-          own = own;
-          among = subst (λ us. IsAmong word_there (units_from m.offset us)) (sym (puts_pool ss area b.0 before m says))
-              (subst (λ z. IsAmong word_there (units_from z (pool_units ss area (waiting area (pieces_of before))))) (sym at)
-              (pool_word ss area (start_in area (pieces_of before) Pool) (waiting area (pieces_of before)) v h));
-        })
+    by_pool : (b : Bool) → is_pool_of area m ≡ b → (is_pool_of area m ≡ false → IsAmong (literal_word area (m ∷ before) rest v, Word x) all)
+        → IsAmong (cond b (word_behind area before v) (literal_word area (m ∷ before) rest v), Word x) all
+    by_pool true y later = pooled_kept s area (word_behind area before v, Word x) (m ∷ before) rest (here y)
+    by_pool false y later = later y
 
-    by_test : (b : Bool) → is_pool_of area (piece_of m) ≡ b
-        → (is_pool_of area (piece_of m) ≡ false → Held ss area (literal_word area (pieces_of (m ∷ before)) (pieces_of rest) v, word))
-        → Held ss area (cond b (word_behind area (pieces_of before) v) (literal_word area (pieces_of (m ∷ before)) (pieces_of rest) v), word)
-    by_test true k later = there k
-    by_test false k later = later k
-
-word_is : (area : ℕ) (o : Option ℕ) (e : Extent) (n : ℕ) (v : Value) (before rest : List LaidPiece) (w : ℕ) → o ≡ Some area → e ≡ Loading n v
-    → word_of o e before rest ≡ Some w → literal_word area before rest v ≡ w
-word_is area o e n v before rest w own loads h =
-    some_same (literal_word area before rest v) w
-    (sym (ap (λ z. word_of z e before rest) own ∙ ap (λ z. word_of (Some area) z before rest) loads) ∙ h)
-  where
-    some_same : (a b : ℕ) → Some a ≡ Some b → a ≡ b
-    some_same a b k = cc
-
-pub held : (ss : List Statement) → IsSound ss → (area : ℕ) (p : Piece) → StandsIn (source_of ss) area p → Held ss area p
-held ss sound area p h = by_kind (unit_or_word ss area p h)
-  where
-    of_unit : (u : OwnUnit ss area p)
-        → (u.owner.statement.what ≡ what.Directive line.Ltorg) ⊎ ((pool us : List Emitted) → pool_or u.owner.statement.what pool us ≡ us) → Held ss area p
-    of_unit u (inl w) =
-        let c = context_behind ss u.owner u.before in
-        let nothing : IsAmong p [] = subst
-        (λ z. IsAmong p (units_from u.owner.offset (or_none (units c (datum_names ss) u.owner.seen (word_among u.after u.owner u.before) z)))) w u.among in
-        absurd nothing
-    of_unit u (inr own) =
-        inl
-        (record {
-          line = u.owner;
-          after = u.after;
-          before = u.before;
-          parts = u.parts;
-          own = u.own;
-          among = subst (λ us. IsAmong p (units_from u.owner.offset us)) (sym (puts_own ss area u.after u.before u.owner own)) u.among;
-        })
-
-    by_kind : OwnUnit ss area p ⊎ PoolWord ss area p → Held ss area p
-    by_kind (inl u) = of_unit u (pool_or_own u.owner.statement.what)
-    by_kind (inr x) =
-        let l = x.loader in
-        let w = x.word in
-        let before = pieces_of (l ∷ x.before) in
-        let rest = pieces_of (in_order x.after []) in
-        let place = word_is area l.area (taken l.extent) w.size w.value before rest w.place x.own w.extent w.stands in
-        let holds : literal_stored ss (context_in ss area) w.value ≡ w.holds = literal_loaded ss x.after x.before l area x.parts x.own w.value ∙ ap or_empty w.stores in
-        subst (λ (q : Piece). Held ss area q) (ap (λ z. (z, Word (literal_stored ss (context_in ss area) w.value))) place ∙ ap (λ z. (w.place, Word z)) holds ∙ sym w.is)
-        (word_held ss sound area w.value (in_order x.after []) (l ∷ x.before) (x.parts ∙ sym (ordered x.after l x.before))
-        (waits_behind ss area x.after x.before l w.size w.value x.parts x.own w.extent))
+-- the word of a line's literal stands in the line's area
+pub literal_stands : (ss : List Statement) (area : ℕ) (after before : List LaidLine) (l : LaidLine) (n : ℕ) (v : Value) (x : Stored)
+    → laid ss ≡ after ++ l ∷ before → l.area ≡ Some area → taken l.extent ≡ Loading n v → literal_stored (source_of ss) area v ≡ Ok x
+    → StandsIn (source_of ss) area (literal_word area (pieces_of (l ∷ before)) (pieces_of (in_order after [])) v, Word x)
+literal_stands ss area after before l n v x e own loads stores =
+    let p : Piece = (literal_word area (pieces_of (l ∷ before)) (pieces_of (in_order after [])) v, Word x) in
+    among_last p (things_behind (source_of ss) area (laid ss) []) (words_of (source_of ss) area (all_pooled area (pieces_of (laid ss))))
+    (subst (λ z. IsAmong p (words_of (source_of ss) area (all_pooled area z))) (pieces_before after (l ∷ before) ∙ ap pieces_of (sym e))
+    (word_pooled (source_of ss) area v x stores (pieces_of (l ∷ before)) (pieces_of (in_order after [])) (waits_behind ss area after before l n v e own loads)))

@@ -1,5 +1,5 @@
 -- What a statement puts into its area is as long as what it takes up, or empty.
-use Rattle.std.proofs.Common.{◌≡◌, ℕ, ◌+◌, ◌-◌, ◌*◌, ◌%◌, ◌^◌, ◌≤◌, nat_lt, nat_le, ◌||◌, List, [], ◌∷◌, length, length-append, Bool, true, false, cond, refl, sym, ◌∙◌, ap, subst, arith, Option, Some, None, ◌⊎◌, inl, inr}
+use Rattle.std.proofs.Common.{◌≡◌, ℕ, ◌+◌, ◌-◌, ◌*◌, ◌%◌, ◌^◌, ◌≤◌, nat_lt, nat_le, ◌||◌, List, [], ◌∷◌, length, length-append, Bool, true, false, cond, refl, sym, ◌∙◌, ap, subst, arith, Option, Some, None}
 use Rattle.std.specs.Prelude.{Result, Ok, Err}
 use Rattle.sdt_word.specs.Bytes.{bytes_of}
 use Rattle.sdt_word.specs.declared.codes.Condition.{Condition}
@@ -430,14 +430,3 @@ pools_are_said s w h = subst (IsSaid w) h (extents_are_said s w)
 
 pub loads_are_pseudo : (s : Names) (w : What) (n : ℕ) (v : Value) → extent_of s w ≡ Ok (Loading n v) → IsPseudo w
 loads_are_pseudo s w n v h = subst (IsSaid w) h (extents_are_said s w)
-
--- ---- lines
-
--- a pool for LTORG, and for another statement its own units
-abbrev pub pool_or : What → List Emitted → List Emitted → List Emitted
-pool_or (what.Directive line.Ltorg) pool us = pool
-pool_or _ pool us = us
-
-pub pool_or_own : (w : What) → (w ≡ what.Directive line.Ltorg) ⊎ ((pool us : List Emitted) → pool_or w pool us ≡ us)
-pool_or_own (what.Directive line.Ltorg) = inl refl
-pool_or_own w = inr (λ pool us. refl)

@@ -1,5 +1,5 @@
--- Literals that wait for a pool, and the words of pools.
-use Rattle.std.proofs.Common.{◌≡◌, ℕ, ◌+◌, ◌*◌, ◌==◌, ◌&&◌, ◌||◌, List, [], ◌∷◌, ◌++◌, length, length-append, map, Bool, true, false, cond, eqb-true, refl, sym, ◌∙◌, ap, subst, arith, Some, inl, inr}
+-- Literals that wait for a pool.
+use Rattle.std.proofs.Common.{◌≡◌, ℕ, ◌==◌, ◌&&◌, List, [], ◌∷◌, ◌++◌, Bool, true, false, cond, eqb-true, refl, sym, ◌∙◌, ap, Some}
 use Rattle.std.specs.List.{list_any}
 use Rattle.std.proofs.lemmas.Bool.{or_parts, or_from}
 use Rattle.std.specs.Prelude.{Result, Ok, Err}
@@ -12,14 +12,11 @@ use Rattle.asm_model.proofs.WordLemmas.{same_true}
 use Rattle.asm_model.specs.Extents.{Extent, Loading}
 use Rattle.asm_model.specs.Laid.{LaidLine, taken, pieces_of, names_behind, laid}
 use Rattle.asm_model.specs.OffsetLaws.{joined, IsLiteral}
-use Rattle.asm_model.specs.Offsets.{Piece as LaidPiece, is_of, same_literal, waiting, place_among, word_behind, is_pool, is_pool_of, literal_word}
+use Rattle.asm_model.specs.Offsets.{Piece as LaidPiece, is_of, same_literal, waiting, word_behind, is_pool, is_pool_of, literal_word}
 use Rattle.asm_model.proofs.LaidLemmas.{loadings_are_literals}
 use Rattle.asm_model.proofs.OffsetLemmas.{loaded_waits}
-use Rattle.source_model.specs.Objects.{Piece, unit_bytes, units_bytes, units_from, in_order, IsAmong}
-use Rattle.source_model.specs.Units.{Emitted, Word}
-use Rattle.source_laws.proofs.AgreeLemmas.{context_in, literal_stored}
+use Rattle.source_model.specs.Objects.{in_order}
 use Rattle.source_laws.proofs.LineLemmas.{piece_of, pieces_joined, is_laid}
-use Rattle.source_laws.proofs.SizeLemmas.{summed, four_more, longer}
 use Rattle.asm_model.specs.Labels.{declared_names}
 
 -- a literal waits for a pool
@@ -72,8 +69,6 @@ pub waits_behind : (ss : List Statement) (area : ℕ) (after before : List LaidL
 waits_behind ss area after before l n v e here h =
     loaded_waits area (pieces_of before) (piece_of l) n v here h (loads_literal ss after before l n v e h)
 
--- ---- the words of a pool
-
 pub same_value : (u v : Value) → same_literal u v ≡ true → u ≡ v
 same_value (Number m) (Number n) h = ap Number (eqb-true m n h)
 same_value (Place s p) (Place t q) h =
@@ -84,36 +79,3 @@ same_value (Place s p) (Place t q) h =
     both true false x y k = absurd (cc)
     both false b x y k = absurd (cc)
 same_value u v h = absurd (cc)
-
--- of literals of an area
-abbrev pub pool_units : List Statement → ℕ → List Value → List Emitted
-pool_units ss area literals = map (λ v. Word (literal_stored ss (context_in ss area) v)) literals
-
-pub pool_long : (ss : List Statement) (area : ℕ) (ws : List Value) → length (units_bytes (pool_units ss area ws)) ≡ 4 * length ws
-pool_long ss area [] = refl
-pool_long ss area (w ∷ ws) =
-    let u = Word (literal_stored ss (context_in ss area) w) in
-    summed (length (units_bytes (pool_units ss area (w ∷ ws)))) (length (unit_bytes u)) (length (units_bytes (pool_units ss area ws))) 4 (4 * length ws)
-    (length-append (unit_bytes u) (units_bytes (pool_units ss area ws))) refl (pool_long ss area ws)
-    ∙ four_more (length ws) (length (w ∷ ws)) (longer w ws)
-
-at_first : (at : ℕ) → at + 4 * 0 ≡ at
-at_first at = omega arith
-
-at_next : (at k : ℕ) → at + 4 + 4 * k ≡ at + 4 * (k + 1)
-at_next at k = omega arith
-
--- a literal that waits has its word there
-pub pool_word : (ss : List Statement) (area at : ℕ) (ws : List Value) (v : Value) → Waits v ws
-    → IsAmong (at + 4 * place_among v ws, Word (literal_stored ss (context_in ss area) v)) (units_from at (pool_units ss area ws))
-pool_word ss area at [] v h = absurd (cc)
-pool_word ss area at (w ∷ ws) v h = by_test (same_literal v w) refl h (pool_word ss area (at + 4) ws v)
-  where
-    word : Value → Piece
-    word u = (0, Word (literal_stored ss (context_in ss area) u))
-
-    by_test : (b : Bool) → same_literal v w ≡ b → (b || list_any (same_literal v) ws) ≡ true
-        → (Waits v ws → IsAmong (at + 4 + 4 * place_among v ws, (word v).1) (units_from (at + 4) (pool_units ss area ws)))
-        → IsAmong (at + 4 * cond b 0 (place_among v ws + 1), (word v).1) (units_from at (pool_units ss area (w ∷ ws)))
-    by_test true e k rest = inl (ap (λ z. (z, (word v).1)) (at_first at) ∙ ap (λ u. (at, (word u).1)) (same_value v w e))
-    by_test false e k rest = inr (subst (λ z. IsAmong (z, (word v).1) (units_from (at + 4) (pool_units ss area ws))) (at_next at (place_among v ws)) (rest k))

@@ -4,7 +4,7 @@ use Rattle.std.specs.Prelude.{Result, Ok, Err}
 use Rattle.std.specs.List.{list_any}
 use Rattle.std.proofs.lemmas.Bool.{cond-true, cond-false, eq-eqb, or_parts}
 use Rattle.sdt_fault.specs.declared.kinds.LineKind.{LineKind}
-use Rattle.sdt_fault.specs.declared.kinds.LineKind.TheVariants.{BadOperand, TooMany}
+use Rattle.sdt_fault.specs.declared.kinds.LineKind.TheVariants.{Constant, BadOperand, TooMany}
 use Rattle.asm_model.specs.declared.directives.AreaAttributes.{AreaAttributes}
 use Rattle.asm_model.specs.declared.directives.Contents.{Contents}
 use Rattle.asm_model.specs.declared.directives.Contents.TheVariants as contents
@@ -19,6 +19,7 @@ use Rattle.asm_model.specs.Kinds.{told_kind}
 use Rattle.asm_model.proofs.WordLemmas.{same_refl, same_true}
 use Rattle.asm_model.specs.Before.{area_named, with_name, areas_behind, place_of, area_from, area_behind}
 use Rattle.asm_model.specs.Labels.{defined_by, declared_names}
+use Rattle.asm_model.specs.Exprs.{has_large}
 use Rattle.asm_model.specs.Laid.{LaidLine, statements_of, laid_of, laid}
 use Rattle.asm_model.specs.LayoutKinds.{fault_kinds, kind_if, map_kinds, no_area_kinds, is_zero_statement, contents_kinds, contents_from, contents_behind, exponent, exponent_kinds, same_contents, same_mark, same_exponent, same_attributes, again_with, is_named_otherwise, area_kinds, name_kinds, equals_in, settled, settled_kinds, first_equal, state_kinds, layout_kinds, told_at, first_fault, area_bytes}
 use Rattle.asm_model.specs.Marks.{datum_names}
@@ -32,7 +33,8 @@ use Rattle.source_model.specs.Units.{units}
 use Rattle.source_laws.specs.Laws.{word_among, context_behind}
 use Rattle.source_laws.proofs.FaultlessLemmas.{layout_sound}
 use Rattle.source_laws.proofs.ListedLemmas.{owned}
-use Rattle.source_laws.proofs.PoolLemmas.{OwnUnit, PoolWord, unit_or_word}
+use Rattle.source_laws.proofs.ListedLemmas.{OwnUnit}
+use Rattle.source_laws.proofs.PoolLemmas.{PoolWord, unit_or_word}
 use Rattle.source_laws.proofs.SizeLemmas.{IsPseudo, loads_are_pseudo}
 use Rattle.source_laws.proofs.ThingLemmas.{known_extent}
 use Rattle.base_lemmas.proofs.BaseLemmas.{not_false}
@@ -302,7 +304,9 @@ line_kinds S all l before h =
     let d = name_kinds l.statement (statements_of before) in
     let e = settled_kinds S (first_equal (defined_by l.statement) (statements_of before)) in
     let f = state_kinds l.area l.thumb l.statement.what all in
-    let o = both_empty (a ++ b ++ c ++ d ++ e ++ f) (kind_if (nat_lt area_bytes (l.offset + l.size)) TooMany) h in
+    let g = kind_if (nat_lt area_bytes (l.offset + l.size)) TooMany in
+    let n = both_empty (a ++ b ++ c ++ d ++ e ++ f ++ g) (kind_if (has_large l.statement.what) Constant) h in
+    let o = both_empty (a ++ b ++ c ++ d ++ e ++ f) g n.0 in
     let p = both_empty (a ++ b ++ c ++ d ++ e) f o.0 in
     let q = both_empty (a ++ b ++ c ++ d) e p.0 in
     let r = both_empty (a ++ b ++ c) d q.0 in
@@ -396,7 +400,8 @@ zero_areas_hold_nothing ss none area p zeroes h = by_kind (unit_or_word ss area 
         subst (λ r. IsAmong p (units_from l.offset (units_or_none r)))
         (zero_units (context_behind ss l x.before) (datum_names ss) l.seen (word_among x.after l x.before) l.statement.what
         (zero_there ss none area zeroes x.after x.before l x.parts x.own)) x.among
-    by_kind (inr x) =
+    by_kind (inr w) =
+        let x = w.loads in
         let l = x.loader in
         no_pseudo l.statement.what (zero_there ss none area zeroes x.after x.before l x.parts x.own)
-        (loads_are_pseudo l.seen l.statement.what x.word.size x.word.value (known_extent ss (layout_sound ss none) x.after x.before l x.parts ∙ ap Ok x.word.extent))
+        (loads_are_pseudo l.seen l.statement.what x.size w.value (known_extent ss (layout_sound ss none) x.after x.before l x.parts ∙ ap Ok x.extent))

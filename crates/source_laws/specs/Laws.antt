@@ -1,23 +1,18 @@
--- What statements put into their areas stands apart: what a statement puts there is no longer than what it takes up, the
--- statements of an area follow each other, and the words of literals lie in pools, where no statement puts anything
--- itself. A source makes one object at most. Lines are listed with the last first. This project's.
-use Rattle.std.specs.Prelude.{◌≡◌, ◌⊎◌, ℕ, ◌+◌, ◌≤◌, List, [], ◌∷◌, ◌++◌, length, Bool, true, false, Option, None, Result}
-use Rattle.sdt_fault.specs.declared.kinds.LineKind.{LineKind}
+-- What stands in an area stands apart: what a statement puts there is no longer than what it takes up, the statements of
+-- an area follow each other, and the words of a pool lie where its LTORG stands or at the area's end. A source makes one
+-- object at most. Lines are listed with the last first. This project's.
+use Rattle.std.specs.Prelude.{◌≡◌, ◌⊎◌, ℕ, ◌+◌, ◌≤◌, List, [], ◌∷◌, ◌++◌, length, Bool, true, false, Option, None}
 use Rattle.aof_object.specs.declared.records.Object.{Object}
 use Rattle.asm_model.specs.declared.directives.DirectiveLine.{DirectiveLine}
 use Rattle.asm_model.specs.declared.directives.DirectiveLine.TheVariants as line
 use Rattle.asm_model.specs.declared.statements.Statement.{Statement}
 use Rattle.asm_model.specs.declared.statements.What.{What}
 use Rattle.asm_model.specs.declared.statements.What.TheVariants as what
-use Rattle.asm_model.specs.declared.values.Value.{Value}
 use Rattle.asm_model.specs.Before.{thumb_behind}
 use Rattle.asm_model.specs.Laid.{LaidLine, taken, pieces_of, laid, final_names}
-use Rattle.asm_model.specs.Marks.{datum_names}
-use Rattle.asm_model.specs.Symbols.{literal_value}
-use Rattle.source_model.specs.Contexts.{Context, sees}
+use Rattle.source_model.specs.Contexts.{Context}
 use Rattle.source_model.specs.Objects.{Piece, unit_bytes, source_of, in_order, StandsIn, IsObject}
 use Rattle.source_model.specs.SourceFaults.{layout_faults, context_of, word_of}
-use Rattle.source_model.specs.Units.{Stored, stored}
 
 -- ---- sizes
 
@@ -52,10 +47,6 @@ AreOfState statements =
 
 abbrev pub context_behind : List Statement → LaidLine → List LaidLine → Context
 context_behind statements l before = context_of (final_names (laid statements)) l before
-
--- what the word of a literal holds
-abbrev pub stored_literal : List Statement → Context → Value → Result Stored LineKind
-stored_literal statements c v = stored c (datum_names statements) (literal_value (sees c) v)
 
 -- of two things that stand in an area each ends before the other, or they are the same
 abbrev pub StandApart : Piece → Piece → Type 0

@@ -10,7 +10,7 @@ use Rattle.asm_names.proofs.settling.entry_of.Goals as goal
 
 pub returns : goal.returns
 returns c =
-    let make = equal_entry c.args.declared.now c.args.due.now.line.area c.args.due.now.name.now in
+    let make = equal_entry c.args.declared.now c.args.due.now.line.place.area c.args.due.now.name.now in
     if_ok_more (λ entry. entry ≡ make c.in_ok-value.value) (IsEntryOf c.args.known.now c.args.declared.now (owed_of c.args.due.now))
     (λ entry e ps t d is.
     e ∙ ap make (c.in_ok-value.ensures (meaning (with_names (line_of c.args.due.now.line) c.args.known.now) t) (c.final_value.ensures ps t d is)))
