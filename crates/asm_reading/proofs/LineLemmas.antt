@@ -14,7 +14,7 @@ use Rattle.asm_model.specs.declared.statements.What.{What}
 use Rattle.asm_model.specs.declared.statements.What.TheVariants as what
 use Rattle.asm_model.specs.Directives.{label_need}
 use Rattle.asm_model.specs.Parts.{piece}
-use Rattle.asm_model.specs.Says.{form_of_directive, on_both, label_field, Sentence, sentence, directive_of, unnamed, statement_of, SaysAs}
+use Rattle.asm_model.specs.Says.{on_both, label_field, Sentence, sentence, directive_of, unnamed, statement_of, SaysAs}
 use Rattle.asm_model.specs.Tokens.{is_long, first_due, Tokens}
 use Rattle.asm_arm.specs.Says.{Said, statement, alone, SaysWords, SaysOr, SaysTokens, within_limit, SaysLine, ReadsArm}
 use Rattle.asm_arm.specs.Words as arm_words

@@ -19,7 +19,7 @@ use Rattle.asm_model.specs.declared.statements.What.{What}
 use Rattle.asm_model.specs.declared.statements.What.TheVariants as what
 use Rattle.asm_model.specs.declared.thumb_lines.ThumbLine.TheVariants as line
 use Rattle.asm_model.specs.Operands.{operands}
-use Rattle.asm_model.specs.Says.{on_both, mapped}
+use Rattle.asm_model.specs.Says.{mapped}
 use Rattle.asm_arm.specs.Addresses.{zero}
 use Rattle.asm_arm.specs.Lines.{hash, equals, bracket, numbered, idle}
 use Rattle.asm_arm.specs.Lists as lists
@@ -32,7 +32,7 @@ use Rattle.asm_thumb.specs.Data.{sum_of, stack_frame, immediate_frame, high_line
 use Rattle.asm_thumb.specs.Frames.{filled, ReadsWith, with_zero}
 use Rattle.asm_thumb.specs.Lines.{push_pop, multiple, exchange, ReadsAddress, ReadsWord, Reads}
 use Rattle.asm_thumb.specs.Operands.{is_sp, is_pc, may_be_high, unmarked, register_list, written, written_base}
-use Rattle.asm_thumb.specs.Transfers.{is_word, word_frame, number_frame, based, register_line, ReadsOffset, ReadsInside, cuts_of, bracketed, ReadsBracketed, ReadsLoaded, ReadsPlace, ReadsTransfer, signed_inside, signed_transfer}
+use Rattle.asm_thumb.specs.Transfers.{is_word, number_frame, based, register_line, ReadsOffset, ReadsInside, cuts_of, bracketed, ReadsBracketed, ReadsLoaded, ReadsPlace, ReadsTransfer, signed_inside, signed_transfer}
 use Rattle.said_model.specs.Said.{IsRead, RegisterSaid, AllItemsSaid, IsConditional}
 use Rattle.asm_reading.proofs.ArmLemmas.{numbered_form}
 use Rattle.asm_reading.proofs.ExpressionLemmas.{zero_read, with_expression}
