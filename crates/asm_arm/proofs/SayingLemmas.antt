@@ -42,7 +42,7 @@ operation_said Operation flat label t ts text x (Ok r) e h k =
       read.0,
       read.1,
       k ∙ ap (mapped (λ p. statement flat p.0 p.1)) read.2
-      ∙ made_of_both (λ p. statement flat p.0 p.1) (λ x y. (x, y)) (label_field need.Optional flat.text label) read.0,
+          ∙ made_of_both (λ p. statement flat p.0 p.1) (λ x y. (x, y)) (label_field need.Optional flat.text label) read.0,
     )
 
 -- ---- a line says one thing

@@ -69,7 +69,12 @@ pub fn alone(alloc: Global, line: &Flat, label: Option<Token>) -> Result<Said, N
     let Some(label) = label else {
         return Ok(Ok(None));
     };
-    match label_field(alloc, LabelNeed::Optional, line.text.as_slice(), Some(label))? {
+    match label_field(
+        alloc,
+        LabelNeed::Optional,
+        line.text.as_slice(),
+        Some(label),
+    )? {
         Ok(label) => statement(alloc, line, Ok((label, What::Nothing))),
         Err(kind) => Ok(Err(kind)),
     }
