@@ -34,21 +34,12 @@ pub literal_next : (area : ℕ) (before rest : List LaidPiece) (s : LaidPiece) (
     → literal_word area before (s ∷ rest) v ≡ literal_word area (s ∷ before) rest v
 literal_next area before rest s v h = ap (λ b. cond b (word_behind area before v) (literal_word area (s ∷ before) rest v)) h
 
-abbrev pub NoPools : ℕ → List LaidPiece → Type 0
-NoPools area ps = list_any (is_pool_of area) ps ≡ false
-
 pub joined_order : (xs ys : List LaidLine) (before : List LaidPiece) → joined before (pieces_of (in_order xs ys)) ≡ joined (pieces_of xs ++ before) (pieces_of ys)
 joined_order [] ys before = refl
 joined_order (x ∷ xs) ys before = joined_order xs (x ∷ ys) before
 
 pub pieces_before : (between before : List LaidLine) → joined (pieces_of before) (pieces_of (in_order between [])) ≡ pieces_of (between ++ before)
 pieces_before between before = joined_order between [] (pieces_of before) ∙ sym (pieces_joined between before)
-
-pub no_pools_order : (area : ℕ) (xs ys : List LaidLine) → NoPools area (pieces_of xs) → NoPools area (pieces_of ys) → NoPools area (pieces_of (in_order xs ys))
-no_pools_order area [] ys h k = k
-no_pools_order area (x ∷ xs) ys h k =
-    let p = or_parts (is_pool_of area (piece_of x)) (list_any (is_pool_of area) (pieces_of xs)) h in
-    no_pools_order area xs (x ∷ ys) p.1 (or_from (is_pool_of area (piece_of x)) (list_any (is_pool_of area) (pieces_of ys)) p.0 k)
 
 -- ---- literals are loaded by lines
 
