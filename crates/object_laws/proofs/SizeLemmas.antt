@@ -1,21 +1,20 @@
 -- An area of a source without faults is at most 2^24 bytes long, and whole words.
-use Rattle.std.proofs.Common.{◌≡◌, ℕ, suc, ◌+◌, ◌*◌, ◌-◌, ◌%◌, ◌^◌, ◌≤◌, List, [], ◌∷◌, ◌++◌, append_assoc, length, Bool, true, false, cond, ◌&&◌, nat_lt, refl, sym, ◌∙◌, ap, subst, arith, Option, Some, None, ◌⊎◌, inl, inr}
+use Rattle.std.proofs.Common.{◌≡◌, ℕ, suc, ◌+◌, ◌*◌, ◌-◌, ◌%◌, ◌^◌, ◌≤◌, List, [], ◌∷◌, ◌++◌, append_assoc, length, Bool, true, false, cond, nat_lt, refl, sym, ◌∙◌, ap, subst, arith, Option, Some, None, ◌⊎◌, inl, inr}
 use Rattle.std.specs.List.{AllByRecursion, list_any}
-use Rattle.std.proofs.lemmas.Bool.{cond-true, cond-false, or_parts, or_from, ltb-false}
+use Rattle.std.proofs.lemmas.Bool.{or_parts, ltb-false}
 use Rattle.sdt_fault.specs.declared.kinds.LineKind.TheVariants.{TooMany}
 use Rattle.asm_model.specs.declared.statements.Statement.{Statement}
 use Rattle.asm_model.specs.declared.values.Value.{Value}
-use Rattle.asm_model.specs.Extents.{Extent, Block, Padding, Loading, Pool}
+use Rattle.asm_model.specs.Extents.{Extent, Loading, Pool}
 use Rattle.asm_model.specs.Laid.{LaidLine, taken, pieces_of, laid}
 use Rattle.asm_model.specs.LayoutKinds.{settled, equals_in, layout_kinds, entry_kinds, literal_kinds, area_bytes}
-use Rattle.asm_model.specs.OffsetLaws.{joined, IsLiteral}
-use Rattle.asm_model.specs.Offsets.{Piece, is_of, same_literal, waiting_behind, waiting, start_from, end_from, end_behind, start_in, area_size, place_among, word_behind, is_pool, is_pool_of, literal_word}
+use Rattle.asm_model.specs.Offsets.{Piece, is_of, same_literal, waiting_behind, waiting, end_from, end_behind, start_in, area_size, place_among, word_behind, literal_word}
 use Rattle.asm_model.proofs.OffsetLemmas.{same_itself, raised_four}
 use Rattle.layout_laws.proofs.SoundLemmas.{both_empty, kind_none}
 use Rattle.source_model.specs.Objects.{in_order}
 use Rattle.source_model.specs.SourceFaults.{layout_faults}
 use Rattle.source_laws.proofs.FaultlessLemmas.{layout_sound}
-use Rattle.source_laws.proofs.LineLemmas.{piece_of, line_ends}
+use Rattle.source_laws.proofs.LineLemmas.{line_ends}
 use Rattle.source_laws.proofs.ListedLemmas.{owned}
 use Rattle.source_laws.proofs.PoolLemmas.{Awaits, waiting_loaded}
 use Rattle.source_laws.proofs.WordLemmas.{loads_literal}
