@@ -3,6 +3,7 @@ use Rattle.std.proofs.Common.{◌≡◌, ℕ, ◌+◌, ◌<◌, ◌≤◌, List,
 use Rattle.std.specs.Prelude.{Result, Ok, Err}
 use Rattle.std.specs.List.{AllByRecursion, list_any}
 use Rattle.std.proofs.lemmas.Bool.{or_left, or_right}
+use Rattle.std.proofs.lemmas.List.Folds.{list_any-append}
 use Rattle.sdt_fault.specs.declared.kinds.LineKind.{LineKind}
 use Rattle.arm_isa.specs.declared.instr.ArmInstr.{ArmInstr}
 use Rattle.asm_model.specs.declared.exprs.Expr.{Expr}
@@ -45,6 +46,7 @@ use Rattle.source_laws.proofs.PoolLemmas.{Loads, PoolWord, unit_or_word, literal
 use Rattle.source_laws.proofs.SizeLemmas.{IsPseudo, loads_are_pseudo}
 use Rattle.source_laws.proofs.ThingLemmas.{seen_extent}
 use Rattle.source_laws.proofs.WordLemmas.{taken_loads}
+use Rattle.source_laws.proofs.ZeroLemmas.{named_with}
 use Rattle.source_laws.proofs.WithinLemmas.{StandsWithin, context_within}
 use Rattle.source_model.specs.SourceFaults.{layout_faults}
 use Rattle.object_laws.specs.Laws.{IsListed, OptionListed, TargetListed, UnitListed}
@@ -55,16 +57,10 @@ abbrev pub Fewer : List (List ℕ) → List (List ℕ) → Type 0
 Fewer ns ms = (q : List ℕ) → IsListed ns q → IsListed ms q
 
 pub any_joined : (q : List ℕ) (xs ys : List (List ℕ)) → IsListed xs q → IsListed (xs ++ ys) q
-any_joined q [] ys h = absurd (cc)
-any_joined q (x ∷ xs) ys h = by_test (same q x) (any_joined q xs ys) h
-  where
-    by_test : (b : Bool) → (IsListed xs q → IsListed (xs ++ ys) q) → (b || list_any (same q) xs) ≡ true → (b || list_any (same q) (xs ++ ys)) ≡ true
-    by_test true f k = refl
-    by_test false f k = f k
+any_joined q xs ys h = list_any-append (same q) xs ys ∙ or_left (list_any (same q) xs) (list_any (same q) ys) h
 
 pub any_later : (q : List ℕ) (xs ys : List (List ℕ)) → IsListed ys q → IsListed (xs ++ ys) q
-any_later q [] ys h = h
-any_later q (x ∷ xs) ys h = or_right (same q x) (list_any (same q) (xs ++ ys)) (any_later q xs ys h)
+any_later q xs ys h = list_any-append (same q) xs ys ∙ or_right (list_any (same q) xs) (list_any (same q) ys) h
 
 pub alone_listed : (q : List ℕ) → IsListed (q ∷ []) q
 alone_listed q = or_left (same q q) false (same_refl q)
@@ -75,13 +71,6 @@ with_kept q n xs h = by_test (list_any (same n) xs)
     by_test : (b : Bool) → IsListed (cond b xs (xs ++ n ∷ [])) q
     by_test true = h
     by_test false = any_joined q xs (n ∷ []) h
-
-pub with_named : (n : List ℕ) (xs : List (List ℕ)) → IsListed (with_name (Some n) xs) n
-with_named n xs = by_test (list_any (same n) xs) refl
-  where
-    by_test : (b : Bool) → list_any (same n) xs ≡ b → IsListed (cond b xs (xs ++ n ∷ [])) n
-    by_test true e = e
-    by_test false e = any_later n xs (n ∷ []) (alone_listed n)
 
 pub listed_kept : (q : List ℕ) (xs ss : List (List ℕ)) → IsListed xs q → IsListed (listed_behind xs ss) q
 listed_kept q xs [] h = h
@@ -95,7 +84,7 @@ listed_here q xs (s ∷ ss) h = by_test (same q s) refl (listed_here q (with_nam
         → IsListed (listed_behind (with_name (Some s) xs) ss) q
     by_test true e f k =
         listed_kept q (with_name (Some s) xs) ss
-        (subst (λ z. IsListed (with_name (Some s) xs) z) (sym (same_true q s e)) (with_named s xs))
+        (subst (λ z. IsListed (with_name (Some s) xs) z) (sym (same_true q s e)) (named_with s xs))
     by_test false e f k = f k
 
 -- the symbols of a line are among those of the source
