@@ -1,6 +1,7 @@
 -- What a call answers of a text.
 use Rattle.std.proofs.Common.{◌≡◌, inr, ℕ, ◌^◌, ◌<◌, ◌≤◌, Bool, true, false, cond, List, length, Option, Some, None, Result, Ok, Err, refl, sym, subst}
 use Rattle.std.specs.Prelude.{IfErr, IfOk}
+use Rattle.std.specs.List.{list_any}
 use Rattle.sdt_fault.specs.declared.answer.Fault.{Fault}
 use Rattle.sdt_fault.specs.declared.answer.Fault.TheVariants as fault
 use Rattle.sdt_fault.specs.declared.kinds.LineKind.{LineKind}
@@ -21,13 +22,13 @@ use Rattle.expand_model.specs.Expands.{Outcome, Flats, FaultAt, MissingFile, Exp
 use Rattle.expand_model.specs.Steps.{visit_limit}
 use Rattle.source_model.specs.SourceFaults.{layout_faults, value_faults}
 use Rattle.stand_model.specs.Placed.{HoldsWherePlaced}
-use Rattle.armasm_core.specs.Assembling.{most_bytes, said_by, has_area, told, unread_told, line_faults, without_area, reading_faults, source_faults, FlatsMake, OutcomeMakes, MayExpand, Assembles, IsCaused}
+use Rattle.armasm_core.specs.Assembling.{most_bytes, said_by, says_area, told, unread_told, line_faults, without_area, reading_faults, source_faults, FlatsMake, OutcomeMakes, MayExpand, Assembles, IsCaused}
 use Rattle.armasm_core.specs.Passes.{FlatsGive, Makes}
 use Rattle.armasm_core.specs.Standing.{FlatsStand, StandsFrom, ObjectsOfFlatsAreValid, ObjectsOfFlatsStand}
 
 -- ---- flat lines
 
-pub flats_give : (name : List ℕ) (flats : List Flat) (r : Reading) (x : Result Object Fault) → IsReading flats r → Makes name r x → FlatsGive name flats x
+pub flats_give : (name : List ℕ) (flats : List Flat) (r : Reading) (x : Result Object Fault) → IsReading flats r → Makes name flats r x → FlatsGive name flats x
 flats_give name flats r (Ok o) says made = record { reading = r; says = says; makes = made }
 flats_give name flats r (Err (fault.Refused q)) says made = record { reading = r; says = says; makes = made }
 flats_give name flats r (Err (fault.ReadFault file)) says made = made
@@ -68,17 +69,17 @@ beside_of_line : (name : List ℕ) (t : Option Refusal) → IsOfLine (Some (with
 beside_of_line name (Some (BadLine file n k)) = tt
 beside_of_line name t = tt
 
-reading_of_line : (name : List ℕ) (r : Reading) → IsOfLine (reading_faults name r)
-reading_of_line name r = by_area (has_area r.statements.items)
+reading_of_line : (name : List ℕ) (flats : List Flat) (r : Reading) → IsOfLine (reading_faults name flats r)
+reading_of_line name flats r = by_area (list_any says_area flats)
   where
     by_area : (b : Bool)
         → IsOfLine (cond b (line_faults (said_by r) r.before r.unread) (Some (without_area name (line_faults (said_by r) r.before r.unread))))
     by_area true = lines_of_line (said_by r) r.before r.unread
     by_area false = beside_of_line name (line_faults (said_by r) r.before r.unread)
 
-source_of_line : (name : List ℕ) (r : Reading) → IsOfLine (source_faults name r)
-source_of_line name r =
-    either_of_line (reading_faults name r) (told (value_faults (said_by r))) (reading_of_line name r) (of_line (value_faults (said_by r)))
+source_of_line : (name : List ℕ) (flats : List Flat) (r : Reading) → IsOfLine (source_faults name flats r)
+source_of_line name flats r =
+    either_of_line (reading_faults name flats r) (told (value_faults (said_by r))) (reading_of_line name flats r) (of_line (value_faults (said_by r)))
 
 line_caused : (files : Option Files) (rose : Type 0) (q : Refusal) → IsOfLine (Some q) → IsCaused files rose (fault.Refused q)
 line_caused files rose (Missing file) h = absurd h
@@ -87,7 +88,7 @@ line_caused files rose q h = tt
 pub made_caused : (files : Option Files) (rose : Type 0) (name : List ℕ) (flats : List Flat) (x : Result Object Fault) → FlatsGive name flats x → IfErr x (IsCaused files rose)
 made_caused files rose name flats (Ok o) made = tt
 made_caused files rose name flats (Err (fault.Refused r)) made =
-    line_caused files rose r (subst IsOfLine made.makes (source_of_line name made.reading))
+    line_caused files rose r (subst IsOfLine made.makes (source_of_line name flats made.reading))
 made_caused files rose name flats (Err (fault.ReadFault file)) made = absurd made
 made_caused files rose name flats (Err fault.NoMemory) made = tt
 

@@ -1,7 +1,10 @@
 -- The lines of a layout, emitted one after the other.
-use Rattle.std.proofs.Common.{◌≡◌, inl, inr, ◌≤◌, ◌<◌, ◌-◌, ℕ, List, [], ◌∷◌, ◌++◌, length, take, drop, get_or, cond, Option, Some, None, refl, sym, ap, ◌∙◌, subst}
+use Rattle.std.proofs.Common.{◌≡◌, inl, inr, ⊎_elim, ◌≤◌, ◌<◌, ◌-◌, ℕ, List, [], ◌∷◌, ◌++◌, length, map, take, drop, get_or, cond, Option, Some, None, refl, sym, ap, ◌∙◌, subst, append_assoc, append-nil}
+use Rattle.std.specs.List.{slice_get}
 use Rattle.std.proofs.lemmas.Bool.{cond-true}
-use Rattle.armasm_core.specs.Drafts.{IsDraft}
+use Rattle.armasm_core.specs.declared.drafts.Draft.{Draft}
+use Rattle.armasm_core.specs.Drafts.{IsDraft, MeetNone}
+use Rattle.armasm_core.specs.Pools.{pool_words, pooled_words, words_in}
 use Rattle.asm_units.specs.declared.emitted.LineUnits.{LineUnits}
 use Rattle.armasm_core.specs.declared.whole.Whole.{Whole}
 use Rattle.armasm_core.specs.Giving.{gives}
@@ -11,6 +14,7 @@ use Rattle.armasm_core.proofs.LoopLemmas.{lines_from, turned_again, first_of, no
 use Rattle.base_lemmas.proofs.BaseLemmas.{rest_of}
 use Rattle.asm_layout.specs.Late.{AreOn}
 use Rattle.asm_model.specs.declared.statements.Statement.{Statement}
+use Rattle.asm_layout.specs.declared.laid.LaidArea.{LaidArea}
 use Rattle.asm_layout.specs.declared.laid.LaidStatement.{LaidStatement}
 use Rattle.asm_layout.specs.declared.laid.Layout.{Layout}
 use Rattle.asm_registers.proofs.NameLemmas.{before_more}
@@ -21,18 +25,19 @@ use Rattle.asm_model.specs.Directives.{or_else}
 use Rattle.asm_model.specs.Kinds.{told_kind}
 use Rattle.asm_model.specs.LayoutKinds.{told_at}
 use Rattle.asm_model.specs.Offsets.{is_of}
-use Rattle.asm_layout.specs.Layout.{IsTold}
+use Rattle.asm_layout.specs.Layout.{AreAreas, IsTold}
 use Rattle.sdt_fault.specs.declared.answer.Fault.{Fault}
 use Rattle.sdt_fault.specs.declared.kinds.LineKind.{LineKind}
 use Rattle.asm_model.proofs.OffsetLemmas.{is_here}
 use Rattle.source_laws.specs.Laws.{AreOfState, SourcesStandApart}
-use Rattle.source_laws.proofs.ListedLemmas.{among_first, among_last, own_things}
-use Rattle.source_model.specs.Objects.{Piece, Source, IsAmong, StandsIn, source_of, things_of, things_behind, things_in}
+use Rattle.source_laws.proofs.ListedLemmas.{among_either, among_first, among_last, own_things}
+use Rattle.source_model.specs.Objects.{Piece, Source, IsAmong, StandsIn, source_of, things_of, things_behind, things_in, words_of}
 use Rattle.source_model.specs.Registers.{Named, register_in, registers_behind, named_by}
 use Rattle.source_model.specs.SourceFaults.{first_valued, layout_faults, value_faults}
 use Rattle.armasm_core.specs.declared.drafting.Growing.{Growing}
-use Rattle.armasm_core.specs.Drafting.{AreDrafts, MeetNoneThere, pieces_put, with_line}
-use Rattle.armasm_core.specs.Emission.{IsEmittable, IsGrown}
+use Rattle.armasm_core.specs.Drafting.{AreDrafts, MeetNoneThere, frame_of, frames, pieces_put, with_line}
+use Rattle.armasm_core.specs.Emission.{IsEmittable, IsGrown, things_so_far}
+use Rattle.armasm_core.proofs.FrameLemmas.{frame_there}
 use Rattle.armasm_core.proofs.ListLemmas.{nothing}
 
 -- ---- things of lines so far stand in the source
@@ -44,39 +49,90 @@ later s area p before (r ∷ rest) h =
     later s area p (r ∷ before) rest (among_first p (things_behind s area before (r ∷ rest)) (things_of s area r before rest) h)
 
 pub stands_there : (ss : List Statement) (area : ℕ) (p : Piece) (before rest : List LaidLine) → laid ss ≡ reversed rest before
-    → IsAmong p (things_behind (source_of ss) area before rest) → StandsIn (source_of ss) area p
+    → IsAmong p (things_so_far (source_of ss) before rest area) → StandsIn (source_of ss) area p
 stands_there ss area p before rest parts h =
-    subst (λ (ls : List LaidLine). IsAmong p (things_behind (source_of ss) area ls [])) (sym parts) (later (source_of ss) area p before rest h)
+    ⊎_elim (λ k. among_last p (things_behind s area s.lines []) (pooled_words s area) k) (λ k. among_first p (things_behind s area s.lines []) (pooled_words s area) (line_there k))
+    (among_either p (pooled_words s area) (things_behind s area before rest) h)
+  where
+    s : Source
+    s = source_of ss
+
+    line_there : IsAmong p (things_behind s area before rest) → IsAmong p (things_behind s area s.lines [])
+    line_there k = subst (λ (ls : List LaidLine). IsAmong p (things_behind s area ls [])) (sym parts) (later s area p before rest k)
 
 -- what a line puts into its area
 pub things_here : (ss : List Statement) (area : ℕ) (before rest : List LaidLine) (l : LaidLine) (more : List Piece) → l.area ≡ Some area → own_things ss l before rest ≡ more
-    → things_behind (source_of ss) area (l ∷ before) rest ≡ things_behind (source_of ss) area before (l ∷ rest) ++ more
+    → things_so_far (source_of ss) (l ∷ before) rest area ≡ things_so_far (source_of ss) before (l ∷ rest) area ++ more
 things_here ss area before rest l more here e =
-    ap (λ (ps : List Piece). things_behind (source_of ss) area before (l ∷ rest) ++ ps)
+    ap (λ (ps : List Piece). pooled_words (source_of ss) area ++ (things_behind (source_of ss) area before (l ∷ rest) ++ ps))
     (cond-true (is_of area l.area) (own_things ss l before rest) [] (is_here area l.area here) ∙ e)
+    ∙ sym (append_assoc (pooled_words (source_of ss) area) (things_behind (source_of ss) area before (l ∷ rest)) more)
 
 pub apart_there : SourcesStandApart → (ss : List Statement) → layout_faults ss ≡ None → AreOfState ss
     → (before rest : List LaidLine) (l : LaidLine) (own : Option ℕ) (more : List Piece) → laid ss ≡ reversed rest (l ∷ before) → own ≡ l.area
-    → own_things ss l before rest ≡ more → MeetNoneThere (λ area. things_behind (source_of ss) area before (l ∷ rest)) own more
+    → own_things ss l before rest ≡ more → MeetNoneThere (things_so_far (source_of ss) before (l ∷ rest)) own more
 apart_there apart ss sound states before rest l own more parts same e = λ area here q u p k.
-    let all = sym (things_here ss area before rest l more (sym same ∙ here) e) in
-    apart ss sound states area p q
-    (stands_there ss area p (l ∷ before) rest parts (subst (IsAmong p) all k))
+    apart ss sound states area p q (stands_there ss area p before (l ∷ rest) parts k)
     (stands_there ss area q (l ∷ before) rest parts
-    (subst (IsAmong q) all (among_last q (things_behind (source_of ss) area before (l ∷ rest)) more u)))
+    (subst (IsAmong q) (sym (things_here ss area before rest l more (sym same ∙ here) e))
+    (among_last q (things_so_far (source_of ss) before (l ∷ rest) area) more u)))
 
-pub drafts_there : (ss : List Statement) (names : List (List ℕ)) (before rest : List LaidLine) (l : LaidLine) (own : Option ℕ) (more : List Piece) (gs : List Growing)
+drafts_there : (ss : List Statement) (names : List (List ℕ)) (before rest : List LaidLine) (l : LaidLine) (own : Option ℕ) (more : List Piece) (gs : List Growing)
     → own ≡ l.area → own_things ss l before rest ≡ more
-    → AreDrafts names (with_line (λ area. things_behind (source_of ss) area before (l ∷ rest)) own more) gs → AreDrafts names (λ area. things_behind (source_of ss) area (l ∷ before) rest) gs
+    → AreDrafts names (with_line (things_so_far (source_of ss) before (l ∷ rest)) own more) gs → AreDrafts names (things_so_far (source_of ss) (l ∷ before) rest) gs
 drafts_there ss names before rest l own more gs same e h = λ area g is.
+    let words = pooled_words (source_of ss) area in
+    let things = things_behind (source_of ss) area before (l ∷ rest) in
     subst (λ (ps : List Piece). IsDraft names ps g.draft)
-    (ap (λ (o : Option ℕ). things_behind (source_of ss) area before (l ∷ rest) ++ cond (is_of area o) more []) same
-    ∙ ap (λ (ps : List Piece). things_behind (source_of ss) area before (l ∷ rest) ++ cond (is_of area l.area) ps []) (sym e)) (h area g is)
+    (ap (λ (o : Option ℕ). (words ++ things) ++ cond (is_of area o) more []) same
+    ∙ ap (λ (ps : List Piece). (words ++ things) ++ cond (is_of area l.area) ps []) (sym e)
+    ∙ append_assoc words things (cond (is_of area l.area) (own_things ss l before rest) [])) (h area g is)
+
+-- ---- the words of pools
+
+-- the things of a draft in another order
+turned : (names : List (List ℕ)) (ps qs : List Piece) (d : Draft) → IsDraft names (ps ++ qs) d → IsDraft names (qs ++ ps) d
+turned names ps qs d h = record {
+  held = record {
+    standing = λ p k. h.held.standing p (swap p qs ps k);
+    others = λ i clear. h.held.others i (λ p k. clear p (swap p ps qs k));
+  };
+  relocated = λ p r k. h.relocated p r (swap p qs ps k);
+  no_others = λ r e. let x = h.no_others r e in (x.0, swap x.0 ps qs x.1, x.2);
+}
+  where
+    swap : (p : Piece) (xs ys : List Piece) → IsAmong p (xs ++ ys) → IsAmong p (ys ++ xs)
+    swap p xs ys k = ⊎_elim (λ here. among_last p ys xs here) (λ here. among_first p ys xs here) (among_either p xs ys k)
+
+pub words_stand : (ss : List Statement) (area : ℕ) (p : Piece) → IsAmong p (pooled_words (source_of ss) area) → StandsIn (source_of ss) area p
+words_stand ss area p k = among_last p (things_behind (source_of ss) area (laid ss) []) (pooled_words (source_of ss) area) k
+
+-- the words of a listed area's pools
+pub words_are : (ss : List Statement) (xs : List LaidArea) (area : ℕ) (a : LaidArea) → AreAreas (laid ss) xs → slice_get xs area ≡ Some a
+    → words_of (source_of ss) area a.pools.placed ≡ pooled_words (source_of ss) area
+words_are ss xs area a h at = ap (words_of (source_of ss) area) (h.each area a at).words
+
+pub words_apart : SourcesStandApart → (ss : List Statement) (xs : List LaidArea) → layout_faults ss ≡ None → AreOfState ss → AreAreas (laid ss) xs → (area : ℕ)
+    → MeetNone (pool_words (source_of ss) xs area) (pool_words (source_of ss) xs area)
+words_apart apart ss xs sound states h area = by_area (slice_get xs area) refl
+  where
+    by_area : (o : Option LaidArea) → slice_get xs area ≡ o → MeetNone (words_in (source_of ss) area o) (words_in (source_of ss) area o)
+    by_area None at = λ q u p k. absurd k
+    by_area (Some a) at =
+        subst (λ (ps : List Piece). MeetNone ps ps) (sym (words_are ss xs area a h at))
+        (λ q u p k. apart ss sound states area p q (words_stand ss area p k) (words_stand ss area q u))
+
+pub pools_first : (ss : List Statement) (names : List (List ℕ)) (xs : List LaidArea) (gs : List Growing) → AreAreas (laid ss) xs → frames gs ≡ map frame_of xs
+    → AreDrafts names (pool_words (source_of ss) xs) gs → AreDrafts names (pooled_words (source_of ss)) gs
+pools_first ss names xs gs h same drafts = λ area g is.
+    let f = frame_there gs xs same area g is in
+    subst (λ (ps : List Piece). IsDraft names ps g.draft)
+    (ap (words_in (source_of ss) area) f.there ∙ words_are ss xs area f.laid_area h f.there) (drafts area g is)
 
 -- ---- all lines
 
 pub grown_first : (ss : List Statement) (l : Layout) (w : Whole) (names : List (List ℕ)) (known : List Named) (gs : List Growing) → IsEmittable ss l w
-    → ((q : List ℕ) → register_in q known ≡ None) → AreDrafts names (λ area. []) gs → IsGrown ss names l.statements known gs
+    → ((q : List ℕ) → register_in q known ≡ None) → AreDrafts names (pooled_words (source_of ss)) gs → IsGrown ss names l.statements known gs
 grown_first ss l w names known gs h none drafts = record {
   before = [];
   rest = reversed (laid ss) [];
@@ -84,7 +140,7 @@ grown_first ss l w names known gs h none drafts = record {
   lines = lines_from (laid ss) l.statements h.layout.lines;
   registers = none;
   none = refl;
-  drafts = drafts;
+  drafts = λ area g is. subst (λ (ps : List Piece). IsDraft names ps g.draft) (sym (append-nil (pooled_words (source_of ss) area))) (drafts area g is);
 }
 
 pub grown_all : (ss : List Statement) (names : List (List ℕ)) (left : List LaidStatement) (known : List Named) (gs : List Growing) → length left < 1
@@ -94,8 +150,9 @@ grown_all ss names left known gs less h =
     let all : laid ss ≡ h.before = h.parts ∙ ap (λ (ls : List LaidLine). reversed ls h.before) none in (
       h.none ∙ ap (λ (ls : List LaidLine). first_valued (laid ss) ss h.before ls) none,
       λ area g is.
-          subst (λ (ls : List LaidLine). IsDraft names (things_behind (source_of ss) area ls []) g.draft) (sym all)
-          (subst (λ (ls : List LaidLine). IsDraft names (things_behind (source_of ss) area h.before ls) g.draft) none (h.drafts area g is)),
+          turned names (pooled_words (source_of ss) area) (things_behind (source_of ss) area (laid ss) []) g.draft
+          (subst (λ (ls : List LaidLine). IsDraft names (things_so_far (source_of ss) ls [] area) g.draft) (sym all)
+          (subst (λ (ls : List LaidLine). IsDraft names (things_so_far (source_of ss) h.before ls area) g.draft) none (h.drafts area g is))),
     )
 
 -- the lines that are left begin with this one
@@ -106,7 +163,7 @@ pub record Next (ss : List Statement) (l : Layout) (w : Whole) (names : List (Li
   pub here : IsHere ss l.areas w known before rest line x
   pub lines : AreOn (line ∷ before) rest more
   pub none : value_faults ss ≡ first_valued (laid ss) ss before (line ∷ rest)
-  pub drafts : AreDrafts names (λ area. things_behind (source_of ss) area before (line ∷ rest)) gs
+  pub drafts : AreDrafts names (things_so_far (source_of ss) before (line ∷ rest)) gs
 
 next_of : (ss : List Statement) (l : Layout) (w : Whole) (names : List (List ℕ)) (x : LaidStatement) (more : List LaidStatement) (known : List Named) (gs : List Growing)
     → IsEmittable ss l w → IsGrown ss names (x ∷ more) known gs → Next ss l w names x more known gs
@@ -127,7 +184,7 @@ next_of ss l w names x more known gs j k =
       };
       lines = f.lines;
       none = k.none ∙ ap (λ (ls : List LaidLine). first_valued (laid ss) ss k.before ls) f.parts;
-      drafts = λ area g is. subst (λ (ls : List LaidLine). IsDraft names (things_behind (source_of ss) area k.before ls) g.draft) f.parts (k.drafts area g is);
+      drafts = λ area g is. subst (λ (ls : List LaidLine). IsDraft names (things_so_far (source_of ss) k.before ls area) g.draft) f.parts (k.drafts area g is);
     }
 
 pub next_there : (ss : List Statement) (l : Layout) (w : Whole) (names : List (List ℕ)) (x : LaidStatement) (left : List LaidStatement) (known : List Named) (gs : List Growing)
@@ -139,9 +196,9 @@ next_there ss l w names x left known gs some at j k =
 -- what the line puts is what definitions have
 pub put_there : (ss : List Statement) (l : Layout) (w : Whole) (names : List (List ℕ)) (x : LaidStatement) (more : List LaidStatement) (known : List Named) (gs : List Growing)
     (n : Next ss l w names x more known gs) (u : LineUnits) (us : List Code) → us ≡ u.units.items → IsPut ss n.before n.rest n.line u
-    → own_things ss n.line n.before n.rest ≡ pieces_put x.offset us u.literal
+    → own_things ss n.line n.before n.rest ≡ pieces_put x.place.offset us
 put_there ss l w names x more known gs n u us is h =
-    h.pieces ∙ ap (λ (at : ℕ). pieces_put at u.units.items u.literal) (sym n.here.line.offset) ∙ ap (λ (vs : List Code). pieces_put x.offset vs u.literal) (sym is)
+    h.pieces ∙ ap (λ (at : ℕ). pieces_put at u.units.items) (sym n.here.line.place.offset) ∙ ap (pieces_put x.place.offset) (sym is)
 
 told_first : (t u : Option (Statement × LineKind)) (f : Fault) → IsTold t f → IsTold (or_else t u) f
 told_first t u f (inl none) = inl none
@@ -156,7 +213,7 @@ told_here ss l w names x more known gs n f h =
 
 pub grown_more : (ss : List Statement) (l : Layout) (w : Whole) (names : List (List ℕ)) (x : LaidStatement) (more : List LaidStatement) (known new : List Named) (gs hs : List Growing)
     (n : Next ss l w names x more known gs) (u : LineUnits) (us : List Code) → us ≡ u.units.items → IsPut ss n.before n.rest n.line u
-    → AreDrafts names (with_line (λ area. things_behind (source_of ss) area n.before (n.line ∷ n.rest)) x.area (pieces_put x.offset us u.literal)) hs
+    → AreDrafts names (with_line (things_so_far (source_of ss) n.before (n.line ∷ n.rest)) x.place.area (pieces_put x.place.offset us)) hs
     → ((q : List ℕ) → register_in q new ≡ register_in q (known ++ gives u.number (defined_by x.statement)))
     → IsGrown ss names more new hs
 grown_more ss l w names x more known new gs hs n u us is put drafts noted = record {
@@ -169,6 +226,6 @@ grown_more ss l w names x more known new gs hs n u us is put drafts noted = reco
       ∙ ap (λ (ns : List Named). register_in q (known ++ ns)) (ap (λ (s : Statement). gives u.number (defined_by s)) n.here.line.statement ∙ sym put.given)
       ∙ before_more q known (registers_behind n.before) (named_by n.line.seen (defined_by n.line.statement)) (n.here.registers q);
   none = n.none ∙ ap (λ o. or_else (told_at n.line.statement o) (first_valued (laid ss) ss (n.line ∷ n.before) n.rest)) put.faultless;
-  drafts = drafts_there ss names n.before n.rest n.line x.area (pieces_put x.offset us u.literal) hs n.here.line.area
+  drafts = drafts_there ss names n.before n.rest n.line x.place.area (pieces_put x.place.offset us) hs n.here.line.place.area
       (put_there ss l w names x more known gs n u us is put) drafts;
 }

@@ -1,33 +1,18 @@
 -- Areas in which a line more stands.
-use Rattle.std.proofs.Common.{◌≡◌, ◌⊎◌, inl, inr, ◌<◌, ◌^◌, ℕ, zero, suc, List, [], ◌∷◌, ◌++◌, length, map, get_or, cond, false, Option, Some, None, refl, sym, ap, ◌∙◌, subst, arith, append_assoc, append-nil, nat_eq}
+use Rattle.std.proofs.Common.{◌≡◌, ◌⊎◌, inl, inr, ◌<◌, ◌^◌, ℕ, zero, suc, List, [], ◌∷◌, ◌++◌, length, map, get_or, cond, false, Option, Some, None, refl, sym, ap, ◌∙◌, subst, arith, append-nil, nat_eq}
 use Rattle.std.specs.List.{slice_get, slice_set}
 use Rattle.std.proofs.lemmas.Bool.{cond-true, cond-false, eqb-true, false_from_ne_true}
 use Rattle.std.proofs.lemmas.Option.{slice_get_read}
-use Rattle.armasm_core.specs.Drafts.{IsDraft, MeetNone}
-use Rattle.source_laws.proofs.ListedLemmas.{among_first as among_front, among_last as among_behind}
+use Rattle.armasm_core.specs.Drafts.{IsDraft, MeetNone, TakesMore}
 use Rattle.armasm_core.specs.Writing.{AllCanStand}
 use Rattle.asm_layout.specs.declared.laid.LaidArea.{LaidArea}
 use Rattle.asm_model.specs.Offsets.{is_of}
 use Rattle.asm_model.proofs.OffsetLemmas.{is_here}
-use Rattle.source_model.specs.Objects.{Piece, IsAmong}
+use Rattle.source_model.specs.Objects.{Piece, words_of}
 use Rattle.armasm_core.specs.declared.drafting.Growing.{Growing}
+use Rattle.armasm_core.specs.declared.whole.Whole.{Whole}
+use Rattle.armasm_core.specs.Pools.{BeginsWith, HoldPools, pool_words, words_in}
 use Rattle.armasm_core.specs.Drafting.{AreDrafts, CanTake, LineCanStand, MeetNoneThere, Frame, frame, frame_of, frames, with_line}
-
--- ---- the units of a line, and behind them the word of its literal
-
-pub meet_front : (ps us ws : List Piece) → MeetNone (ps ++ (us ++ ws)) (us ++ ws) → MeetNone ps us
-meet_front ps us ws h = λ q u p k. h q (among_front q us ws u) p (among_front p ps (us ++ ws) k)
-
-pub stand_front : (names : List (List ℕ)) (room : ℕ) (us ws : List Piece) → AllCanStand names room (us ++ ws) → AllCanStand names room us
-stand_front names room [] ws h = tt
-stand_front names room (u ∷ us) ws h = (h.0, stand_front names room us ws h.1)
-
-pub stand_behind : (names : List (List ℕ)) (room : ℕ) (us ws : List Piece) → AllCanStand names room (us ++ ws) → AllCanStand names room ws
-stand_behind names room [] ws h = h
-stand_behind names room (u ∷ us) ws h = stand_behind names room us ws h.1
-
-pub meet_behind : (ps us ws : List Piece) → MeetNone (ps ++ (us ++ ws)) (us ++ ws) → MeetNone (ps ++ us) ws
-meet_behind ps us ws h = λ q u p k. h q (among_behind q us ws u) p (subst (IsAmong p) (append_assoc ps us ws) (among_front p (ps ++ us) ws k))
 
 -- ---- one area of many
 
@@ -80,7 +65,7 @@ take_stand names gs own area more x e at h =
 
 pub drafts_put : (names : List (List ℕ)) (held : ℕ → List Piece) (gs : List Growing) (i : ℕ) (x y : Growing) (own : Option ℕ) (more : List Piece)
     → own ≡ Some i → i < length gs → x ≡ get_or gs i x → AreDrafts names held gs → MeetNoneThere held own more
-    → ((pieces : List Piece) → IsDraft names pieces x.draft → MeetNone (pieces ++ more) more → IsDraft names (pieces ++ more) y.draft)
+    → TakesMore names more x.draft y.draft
     → AreDrafts names (with_line held own more) (slice_set gs i y)
 drafts_put names held gs i x y own more here less at old apart grows = λ area g is. by_place area g (set_got gs i area y g is)
   where
@@ -112,18 +97,26 @@ drafts_same names held gs own more none old = λ area g is.
 
 -- ---- areas one behind the other
 
-pub drafts_more : (names : List (List ℕ)) (gs : List Growing) (y : Growing) → AreDrafts names (λ area. []) gs → IsDraft names [] y.draft
-    → AreDrafts names (λ area. []) (gs ++ y ∷ [])
-drafts_more names [] y h k = λ area g is. one area g is
+pub drafts_more : (names : List (List ℕ)) (held : ℕ → List Piece) (gs : List Growing) (y : Growing) → AreDrafts names held gs → IsDraft names (held (length gs)) y.draft
+    → AreDrafts names held (gs ++ y ∷ [])
+drafts_more names held [] y h k = λ area g is. one area g is
   where
-    one : (area : ℕ) (g : Growing) → slice_get (y ∷ []) area ≡ Some g → IsDraft names [] g.draft
-    one zero g is = let same : y ≡ g = cc in subst (λ (z : Growing). IsDraft names [] z.draft) same k
+    one : (area : ℕ) (g : Growing) → slice_get (y ∷ []) area ≡ Some g → IsDraft names (held area) g.draft
+    one zero g is = let same : y ≡ g = cc in subst (λ (z : Growing). IsDraft names (held zero) z.draft) same k
     one (suc area) g is = absurd (cc)
-drafts_more names (x ∷ gs) y h k = λ area g is. by_place (drafts_more names gs y (λ n z e. h (suc n) z e) k) area g is
+drafts_more names held (x ∷ gs) y h k = λ area g is. by_place (drafts_more names (λ n. held (suc n)) gs y (λ n z e. h (suc n) z e) k) area g is
   where
-    by_place : AreDrafts names (λ area. []) (gs ++ y ∷ []) → (area : ℕ) (g : Growing) → slice_get (x ∷ (gs ++ y ∷ [])) area ≡ Some g → IsDraft names [] g.draft
+    by_place : AreDrafts names (λ n. held (suc n)) (gs ++ y ∷ []) → (area : ℕ) (g : Growing) → slice_get (x ∷ (gs ++ y ∷ [])) area ≡ Some g → IsDraft names (held area) g.draft
     by_place rest zero g is = h zero g is
     by_place rest (suc area) g is = rest area g is
+
+pub pools_more : (w : Whole) (names : List (List ℕ)) (areas : List LaidArea) (gs : List Growing) (n : ℕ) (a : LaidArea) (y : Growing) → length gs ≡ n → slice_get areas n ≡ Some a
+    → HoldPools w names areas gs → BeginsWith w names n a.pools.placed y.draft → HoldPools w names areas (gs ++ y ∷ [])
+pools_more w names areas gs n a y count at held begins = λ s shares apart.
+    let there : words_in s n (slice_get areas n) ≡ words_of s n a.pools.placed = ap (words_in s n) at in
+    drafts_more names (pool_words s areas) gs y (held s shares apart)
+    (subst (λ (m : ℕ). IsDraft names (pool_words s areas m) y.draft) (sym count)
+    (subst (λ (ps : List Piece). IsDraft names ps y.draft) (sym there) (begins s shares (subst (λ (ps : List Piece). MeetNone ps ps) there (apart n)))))
 
 pub frames_more : (gs : List Growing) (y : Growing) (xs : List LaidArea) (x : LaidArea) → frames gs ≡ map frame_of xs → frame y ≡ frame_of x
     → frames (gs ++ y ∷ []) ≡ map frame_of (xs ++ x ∷ [])

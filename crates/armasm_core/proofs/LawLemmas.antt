@@ -1,5 +1,6 @@
 -- A source has one object, or one first refusal.
 use Rattle.std.proofs.Common.{◌≡◌, inl, inr, ℕ, ◌<◌, ◌≤◌, List, [], length, Option, Some, None, Result, Ok, Err, sym, ap, ◌∙◌, subst, if◌then◌else◌, arith}
+use Rattle.std.specs.List.{list_any}
 use Rattle.sdt_fault.specs.declared.refusal.Refusal.{Refusal}
 use Rattle.aof_object.specs.declared.records.Object.{Object}
 use Rattle.asm_model.specs.declared.lines.Flat.{Flat}
@@ -15,28 +16,28 @@ use Rattle.expand_model.specs.Steps.{visit_limit}
 use Rattle.source_laws.specs.Laws.{OneObject}
 use Rattle.source_model.specs.Objects.{IsObject}
 use Rattle.source_model.specs.SourceFaults.{value_faults}
-use Rattle.armasm_core.specs.Assembling.{most_bytes, has_area, told, line_faults, without_area, source_faults, ReadingMakes, FlatsMake, OutcomeMakes, OneAssembly}
+use Rattle.armasm_core.specs.Assembling.{most_bytes, says_area, told, line_faults, without_area, source_faults, ReadingMakes, FlatsMake, OutcomeMakes, OneAssembly}
 
 -- ---- two readings of flat lines
 
-faults_of : List ℕ → List Statement → Option Unread → ℕ → Option Refusal
-faults_of name items unread before =
+faults_of : List ℕ → List Flat → List Statement → Option Unread → ℕ → Option Refusal
+faults_of name flats items unread before =
     or_else
-    (if has_area items then line_faults (reversed items []) before unread
+    (if list_any says_area flats then line_faults (reversed items []) before unread
     else Some (without_area name (line_faults (reversed items []) before unread)))
     (told (value_faults (reversed items [])))
 
-same_faults : OneReading → (name : List ℕ) (flats : List Flat) (a b : Reading) → IsReading flats a → IsReading flats b → source_faults name a ≡ source_faults name b
+same_faults : OneReading → (name : List ℕ) (flats : List Flat) (a b : Reading) → IsReading flats a → IsReading flats b → source_faults name flats a ≡ source_faults name flats b
 unfolding faults_of
 same_faults law name flats a b h k =
     let e = law flats a b h k in
-    ap (λ (x : List Statement). faults_of name x a.unread a.before) e.0 ∙ ap (λ (x : Option Unread). faults_of name b.statements.items x a.before) e.1
-    ∙ ap (λ (n : ℕ). faults_of name b.statements.items b.unread n) e.2
+    ap (λ (x : List Statement). faults_of name flats x a.unread a.before) e.0 ∙ ap (λ (x : Option Unread). faults_of name flats b.statements.items x a.before) e.1
+    ∙ ap (λ (n : ℕ). faults_of name flats b.statements.items b.unread n) e.2
 
 -- ---- what flat lines make
 
 made_once : OneReading → OneObject → (name : List ℕ) (flats : List Flat) (p q : Reading) (a b : Result Object Refusal) → IsReading flats p → IsReading flats q
-    → ReadingMakes name p a → ReadingMakes name q b → a ≡ b
+    → ReadingMakes name flats p a → ReadingMakes name flats q b → a ≡ b
 made_once law one name flats p q (Ok o) (Ok y) h k m n =
     ap Ok (one (reversed q.statements.items []) o y (subst (λ (x : List Statement). IsObject (reversed x []) o) (law flats p q h k).0 m.1) n.1)
 made_once law one name flats p q (Ok o) (Err r) h k m n =

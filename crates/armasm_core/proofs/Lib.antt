@@ -2,11 +2,13 @@ mod AssembleLemmas
 mod FaultLemmas
 mod LawLemmas
 mod ListLemmas
+mod PoolLemmas
 mod StandingLemmas
 mod AreaLemmas
 mod EmitLemmas
 mod EntryLemmas
 mod GatherLemmas
+mod FrameLemmas
 mod GrowLemmas
 mod GrownLists
 mod LoadLemmas

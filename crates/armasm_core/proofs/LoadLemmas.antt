@@ -3,7 +3,7 @@ use Rattle.std.proofs.Common.{◌≡◌, ◌≤◌, ◌<◌, ℕ, zero, suc, ◌
 use Rattle.std.specs.Prelude.{Result, nat_lt}
 use Rattle.std.specs.List.{slice_get}
 use Rattle.sdt_fault.specs.declared.kinds.LineKind.{LineKind}
-use Rattle.sdt_fault.specs.declared.kinds.LineKind.TheVariants.{TooMany}
+use Rattle.sdt_fault.specs.declared.kinds.LineKind.TheVariants.{Constant, TooMany}
 use Rattle.layout_laws.proofs.SoundLemmas.{both_empty}
 use Rattle.asm_model.specs.declared.statements.Statement.{Statement}
 use Rattle.asm_offsets.specs.Running.{entry_behind, pools_behind}
@@ -13,9 +13,11 @@ use Rattle.asm_layout.specs.declared.laid.LaidArea.{LaidArea}
 use Rattle.asm_layout.specs.declared.laid.LaidStatement.{LaidStatement}
 use Rattle.asm_units.specs.Literals.{literal_in}
 use Rattle.asm_model.specs.Before.{areas_behind}
+use Rattle.asm_model.specs.Exprs.{has_large}
 use Rattle.asm_model.specs.Extents.{Extent, Pool, extent_of}
 use Rattle.asm_model.specs.declared.names.LaidName.{LaidName}
 use Rattle.asm_model.specs.Labels.{defined_by, declared_names}
+use Rattle.asm_names.specs.declared.lines.Place.{Place}
 use Rattle.asm_names.specs.declared.lines.PlacedLine.{PlacedLine}
 use Rattle.asm_names.specs.Lines.{Sees}
 use Rattle.asm_layout.specs.Layout.{AreAreas}
@@ -34,9 +36,10 @@ use Rattle.asm_areas.proofs.LateLemmas.{joined_pieces}
 
 -- ---- outside areas
 
-third_empty : (a b c d e f g h i : List LineKind) → a ++ b ++ c ++ d ++ e ++ f ++ g ++ h ++ i ≡ [] → c ≡ []
-third_empty a b c d e f g h i none =
-    let s = both_empty (a ++ b ++ c ++ d ++ e ++ f ++ g ++ h) i none in
+third_empty : (a b c d e f g h i j : List LineKind) → a ++ b ++ c ++ d ++ e ++ f ++ g ++ h ++ i ++ j ≡ [] → c ≡ []
+third_empty a b c d e f g h i j none =
+    let t = both_empty (a ++ b ++ c ++ d ++ e ++ f ++ g ++ h ++ i) j none in
+    let s = both_empty (a ++ b ++ c ++ d ++ e ++ f ++ g ++ h) i t.0 in
     let r = both_empty (a ++ b ++ c ++ d ++ e ++ f ++ g) h s.0 in
     let q = both_empty (a ++ b ++ c ++ d ++ e ++ f) g r.0 in
     let p = both_empty (a ++ b ++ c ++ d ++ e) f q.0 in
@@ -50,7 +53,7 @@ has_area fixed all l before e =
     third_empty (fault_kinds l.extent) (map_kinds l.seen l.statement.what) (no_area_kinds l.area (defined_by l.statement) l.statement.what)
     (contents_kinds (contents_behind (l.statement ∷ statements_of before)) l.thumb l.statement.what) (area_kinds l.seen l.statement.what before)
     (name_kinds l.statement (statements_of before)) (settled_kinds fixed (first_equal (defined_by l.statement) (statements_of before))) (state_kinds l.area l.thumb l.statement.what all)
-    (kind_if (nat_lt area_bytes (l.offset + l.size)) TooMany) e
+    (kind_if (nat_lt area_bytes (l.offset + l.size)) TooMany) (kind_if (has_large l.statement.what) Constant) e
 
 pub extent_is : (d : List LaidName) (l : LaidLine) (before : List LaidLine) → IsBehind d l before → l.extent ≡ extent_of l.seen l.statement.what
 extent_is d l before b = subst (λ (k : LaidLine). k.extent ≡ extent_of k.seen k.statement.what) (sym b.line) refl
@@ -76,12 +79,12 @@ pub seen_there : (statements : List Statement) (areas : List LaidArea) (w : Whol
 seen_there statements areas w before rest l x y h r =
     let d = declared_names statements in
     let b = behind_there d statements rest l before h.said h.parts in
-    let k = h.line in
+    let k = h.line.place in
     record {
-      area = r.area ∙ k.area ∙ subst (λ (m : LaidLine). m.area ≡ m.line.area) (sym b.line) refl;
-      offset = r.offset ∙ k.offset ∙ subst (λ (m : LaidLine). m.offset ≡ m.line.offset) (sym b.line) refl;
-      map = r.map ∙ k.map ∙ ap map_behind b.behind ∙ ap (λ (m : LaidLine). m.line.map) (sym b.line);
-      thumb = r.thumb ∙ k.thumb ∙ subst (λ (m : LaidLine). m.thumb ≡ m.line.thumb) (sym b.line) refl;
+      area = ap (λ (p : Place). p.area) r.place ∙ k.area ∙ subst (λ (m : LaidLine). m.area ≡ m.line.area) (sym b.line) refl;
+      offset = ap (λ (p : Place). p.offset) r.place ∙ k.offset ∙ subst (λ (m : LaidLine). m.offset ≡ m.line.offset) (sym b.line) refl;
+      map = ap (λ (p : Place). p.map) r.place ∙ k.map ∙ ap map_behind b.behind ∙ ap (λ (m : LaidLine). m.line.map) (sym b.line);
+      thumb = ap (λ (p : Place). p.thumb) r.place ∙ k.thumb ∙ subst (λ (m : LaidLine). m.thumb ≡ m.line.thumb) (sym b.line) refl;
     }
 
 pub area_there : (areas : List LaidArea) (i : ℕ) → i < length areas → (a : LaidArea) × (slice_get areas i ≡ Some a)
@@ -90,10 +93,10 @@ area_there (a ∷ areas) zero less = (a, refl)
 area_there (a ∷ areas) (suc i) less = area_there areas i (omega arith)
 
 pub loaded : PoolLaw → (statements : List Statement) (areas : List LaidArea) (w : Whole) (before rest : List LaidLine) (l : LaidLine) (x : LaidStatement)
-    → StandsThere statements areas w before rest l x → literal_in (taken l.extent) ≡ own.literal_in areas x.area x.literal
+    → StandsThere statements areas w before rest l x → literal_in (taken l.extent) ≡ own.literal_in areas x.place.area x.literal
 loaded pools statements areas w before rest l x h = by_area l.area refl
   where
-    by_area : (o : Option ℕ) → l.area ≡ o → literal_in (taken l.extent) ≡ own.literal_in areas x.area x.literal
+    by_area : (o : Option ℕ) → l.area ≡ o → literal_in (taken l.extent) ≡ own.literal_in areas x.place.area x.literal
     by_area None e =
         let b = behind_there (declared_names statements) statements rest l before h.said h.parts in
         let laying = layout_there statements rest l before h.sound h.parts in
@@ -101,7 +104,7 @@ loaded pools statements areas w before rest l x h = by_area l.area refl
         subst (λ (o : Option ℕ). no_area_kinds o (defined_by l.statement) l.statement.what ≡ []) e (has_area (settled (equals_in statements)) statements l before laying) in
         ap (λ (r : Result Extent LineKind). literal_in (taken r)) (extent_is (declared_names statements) l before b)
         ∙ free_there l.seen l.statement.what (defined_by l.statement) here
-        ∙ sym (ap (λ (a : Option ℕ). own.literal_in areas a x.literal) (h.line.area ∙ e))
+        ∙ sym (ap (λ (a : Option ℕ). own.literal_in areas a x.literal) (h.line.place.area ∙ e))
     by_area (Some area) e =
         let less : area < length areas = subst (λ (o : Option ℕ). IsWithin (length areas) o) e (within_there statements areas w before rest l x h) in
         let a = area_there areas area less in
@@ -115,4 +118,4 @@ loaded pools statements areas w before rest l x h = by_area l.area refl
         record { pools = is.pools ∙ ap (λ (ps : List Piece). flushed (start_in area ps Pool) (pools_behind area ps)) whole } in
         let entry = h.line.literal ∙ ap (λ (o : Option ℕ). entry_behind o pieces t) e in
         literal_there pools areas area a.0 pieces behind t a.1 placed
-        ∙ sym (ap (λ (o : Option ℕ). own.literal_in areas o x.literal) (h.line.area ∙ e) ∙ ap (own.literal_in areas (Some area)) entry)
+        ∙ sym (ap (λ (o : Option ℕ). own.literal_in areas o x.literal) (h.line.place.area ∙ e) ∙ ap (own.literal_in areas (Some area)) entry)

@@ -24,6 +24,7 @@ use Rattle.source_model.specs.SourceFaults.{layout_faults}
 use Rattle.armasm_core.specs.declared.drafting.Growing.{Growing}
 use Rattle.armasm_core.specs.Drafting.{AreDrafts, Frame, IsFinished, frame, frame_of, frames, kept_size, marks_zeroes}
 use Rattle.armasm_core.proofs.AreaLemmas.{zeroes_there}
+use Rattle.armasm_core.proofs.FrameLemmas.{frame_there}
 use Rattle.armasm_core.proofs.RelocLemmas.{of_source}
 
 -- ---- an area by its number
@@ -43,23 +44,6 @@ pair_there (g ∷ gs) (b ∷ areas) h zero a is =
 pair_there (g ∷ gs) (b ∷ areas) h (suc area) a is =
     let p = pair_there gs areas h.1 area a is in
     record { draft = p.draft; there = p.there; finished = p.finished }
-
-record HasFrame (xs : List LaidArea) (area : ℕ) (g : Growing) : Type 0 where
-  laid_area : LaidArea
-  there : slice_get xs area ≡ Some laid_area
-  same : frame g ≡ frame_of laid_area
-
-frame_there : (gs : List Growing) (xs : List LaidArea) → frames gs ≡ map frame_of xs → (area : ℕ) (g : Growing) → slice_get gs area ≡ Some g → HasFrame xs area g
-frame_there [] xs e area g is = absurd (cc)
-frame_there (y ∷ gs) [] e area g is = absurd (cc)
-frame_there (y ∷ gs) (x ∷ xs) e zero g is =
-    let same : y ≡ g = cc in
-    let first : frame y ≡ frame_of x = cc in
-    record { laid_area = x; there = refl; same = ap frame (sym same) ∙ first }
-frame_there (y ∷ gs) (x ∷ xs) e (suc area) g is =
-    let more : frames gs ≡ map frame_of xs = cc in
-    let f = frame_there gs xs more area g is in
-    record { laid_area = f.laid_area; there = f.there; same = f.same }
 
 long : (gs : List Growing) (xs : List LaidArea) → frames gs ≡ map frame_of xs → length gs ≡ length xs
 long [] [] e = refl

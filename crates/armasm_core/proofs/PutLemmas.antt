@@ -33,7 +33,7 @@ use Rattle.asm_model.specs.Offsets.{area_size}
 use Rattle.said_model.specs.Said.{IsSaid, ArmSaid, PseudoSaid, ThumbSaid, WhatSaid}
 use Rattle.source_model.specs.ArmForms.{arm_instruction}
 use Rattle.source_model.specs.Contexts.{Context, value_of, number_in, and_then}
-use Rattle.source_model.specs.Objects.{or_none, literal_piece, units_from}
+use Rattle.source_model.specs.Objects.{or_none, units_from}
 use Rattle.source_model.specs.PseudoForms.{pseudo_instructions}
 use Rattle.source_model.specs.ThumbForms.{thumb_instruction, thumb_pseudo}
 use Rattle.source_model.specs.declared.codes.ThumbCode.{ThumbCode}
@@ -159,8 +159,7 @@ module _ (statements : List Statement) (areas : List LaidArea) (w : Whole) (know
       let here = subst (λ (s : Statement). PassesAt statements before rest l s.what (Ok u)) h.line.statement put in
       record {
         faultless = here.faultless;
-        pieces = ap (λ r. units_from l.offset (or_none r) ++ literal_piece c (datum_names statements) (taken l.extent) (word_there before rest l)) here.all
-            ∙ ap (λ ps. units_from l.offset (map emitted_of u.units.items) ++ ps) here.literal;
+        pieces = ap (λ r. units_from l.offset (or_none r)) here.all;
         given = given_there statements areas w known before rest l x y u.number h shows put.number;
         fits = subst (λ r. AllUnitsFit (or_none r)) put.all
             (units_fit laws c (datum_names statements) l.seen (word_there before rest l) x.statement.what shows.scene.small said.read);

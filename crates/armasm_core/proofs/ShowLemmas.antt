@@ -83,17 +83,17 @@ place_of statements areas w known before rest l x h =
 -- ---- its literal
 
 pub record Loads (areas : List LaidArea) (before rest : List LaidLine) (l : LaidLine) (x : LaidStatement) : Type 0 where
-  pub word : own.word_in areas x.area x.literal ≡ word_of l.area (taken l.extent) (pieces_of (l ∷ before)) (pieces_of rest)
-  pub literal : literal_in (taken l.extent) ≡ own.literal_in areas x.area x.literal
+  pub word : own.word_in areas x.place.area x.literal ≡ word_of l.area (taken l.extent) (pieces_of (l ∷ before)) (pieces_of rest)
+  pub literal : literal_in (taken l.extent) ≡ own.literal_in areas x.place.area x.literal
 
 word_is : ExtentsArePlaceable → LiteralsArePlaced → (statements : List Statement) (areas : List LaidArea) (w : Whole) (known : List Named)
     (before rest : List LaidLine) (l : LaidLine) (x : LaidStatement) → IsPlace statements areas w known before rest l x
-    → own.word_in areas x.area x.literal ≡ word_of l.area (taken l.extent) (pieces_of (l ∷ before)) (pieces_of rest)
+    → own.word_in areas x.place.area x.literal ≡ word_of l.area (taken l.extent) (pieces_of (l ∷ before)) (pieces_of rest)
 word_is fits law statements areas w known before rest l x p = by_area l.area refl
   where
-    by_area : (o : Option ℕ) → l.area ≡ o → own.word_in areas x.area x.literal ≡ word_of l.area (taken l.extent) (pieces_of (l ∷ before)) (pieces_of rest)
+    by_area : (o : Option ℕ) → l.area ≡ o → own.word_in areas x.place.area x.literal ≡ word_of l.area (taken l.extent) (pieces_of (l ∷ before)) (pieces_of rest)
     by_area None e =
-        ap (λ (a : Option ℕ). own.word_in areas a x.literal) (p.here.line.area ∙ e)
+        ap (λ (a : Option ℕ). own.word_in areas a x.literal) (p.here.line.place.area ∙ e)
         ∙ sym (ap (λ (a : Option ℕ). word_of a (taken l.extent) (pieces_of (l ∷ before)) (pieces_of rest)) e)
     by_area (Some area) e =
         let less : area < length areas = subst (IsWithin (length areas)) e p.within in
@@ -108,7 +108,7 @@ word_is fits law statements areas w known before rest l x p = by_area l.area ref
         record { pools = is.pools ∙ ap (λ (ps : List Piece). flushed (start_in area ps Pool) (pools_behind area ps)) whole } in
         let extents = parts_extents rest (l ∷ before) (subst (λ (ls : List LaidLine). AllExtents (pieces_of ls)) p.here.parts (all_extents fits (declared_names statements) statements)) in
         let entry = p.here.line.literal ∙ ap (λ (o : Option ℕ). entry_behind o pieces t) e in
-        ap (λ (o : Option ℕ). own.word_in areas o x.literal) (p.here.line.area ∙ e) ∙ ap (own.word_in areas (Some area)) entry
+        ap (λ (o : Option ℕ). own.word_in areas o x.literal) (p.here.line.place.area ∙ e) ∙ ap (own.word_in areas (Some area)) entry
         ∙ placed.word_there law areas area a.0 pieces behind t a.1 settled_there extents.0.1 extents.0.0 extents.1
         ∙ ap (λ (o : Option ℕ). word_of o t ((record { area = o; extent = t }) ∷ pieces) behind) (sym e)
 
@@ -129,7 +129,7 @@ pub record IsBeside (areas : List LaidArea) (w : Whole) (known : List Named) (x 
   pub labels : y.«data».now ≡ w.sets.«data»
   pub sizes : y.sizes.now ≡ w.sizes.items
   pub strings : y.strings.now ≡ x.strings
-  pub word : y.word ≡ own.word_in areas x.area x.literal
+  pub word : y.word ≡ own.word_in areas x.place.area x.literal
 
 pub shows : (statements : List Statement) (areas : List LaidArea) (w : Whole) (known : List Named) (before rest : List LaidLine) (l : LaidLine) (x : LaidStatement) (z : Scene)
     → IsPlace statements areas w known before rest l x → IsScene w known x z

@@ -1,15 +1,18 @@
 -- What a line puts into its area can stand there.
 use Rattle.std.proofs.Common.{◌≡◌, inl, inr, ⊎_elim, ◌≤◌, ◌<◌, ◌+◌, ◌-◌, ◌^◌, ℕ, zero, suc, List, [], ◌∷◌, length, map, take, drop, get_or, Bool, true, false, cond, Option, Some, None, refl, sym, ap, ◌∙◌, subst, arith}
-use Rattle.std.specs.Prelude.{not}
+use Rattle.std.specs.Prelude.{not, Result, Ok, Err}
 use Rattle.std.specs.List.{slice_get}
+use Rattle.sdt_fault.specs.declared.kinds.LineKind.{LineKind}
+use Rattle.asm_model.specs.declared.values.Value.{Value}
+use Rattle.asm_model.specs.Labels.{declared_names}
+use Rattle.layout_laws.proofs.SoundLemmas.{statements_kept}
 use Rattle.source_model.specs.Registers.{Named}
 use Rattle.armasm_core.specs.Writing.{AllCanStand, CanStand, HasNumber, HasWord, SymbolHasNumber, TargetHasNumber}
 use Rattle.asm_units.specs.declared.emitted.LineUnits.{LineUnits}
-use Rattle.asm_units.specs.declared.emitted.LiteralWord.{LiteralWord}
-use Rattle.asm_units.specs.Passing.{word_piece}
 use Rattle.armasm_core.specs.declared.whole.Whole.{Whole}
 use Rattle.armasm_core.specs.Putting.{AllUnitsFit, IsPut, UnitFits}
-use Rattle.armasm_core.specs.Whole.{IsHere}
+use Rattle.armasm_core.specs.Whole.{IsHere, IsWhole}
+use Rattle.armasm_core.specs.Pools.{PoolsCanStand, Shares}
 use Rattle.source_laws.proofs.WithinLemmas.{IsWithin}
 use Rattle.asm_layout.specs.Layout.{IsArea}
 use Rattle.asm_model.specs.declared.directives.Contents.{Contents}
@@ -32,16 +35,16 @@ use Rattle.object_laws.proofs.TargetLemmas.{symbols_are_listed}
 use Rattle.source_laws.proofs.FaultlessLemmas.{sources_lie_in_areas}
 use Rattle.source_laws.proofs.ListedLemmas.{among_either, among_last as among_behind, own_things}
 use Rattle.source_laws.proofs.ZeroLemmas.{zero_areas_hold_nothing}
-use Rattle.source_model.specs.Objects.{Piece, IsAmong, StandsIn, contents_of, is_kept, source_of, things_behind, unit_bytes, units_from}
+use Rattle.source_model.specs.Objects.{Piece, Source, IsAmong, StandsIn, contents_of, is_kept, literal_stored, source_of, unit_bytes, units_from, word_piece, words_of}
 use Rattle.source_laws.specs.Laws.{AreOfState}
 use Rattle.source_model.specs.SourceFaults.{layout_faults}
-use Rattle.source_model.specs.Units.{Emitted, Bytes, Word, Instruction, Half, LinkPair, Target, Nothing, ByArea, BySymbol}
+use Rattle.source_model.specs.Units.{Emitted, Bytes, Word, Instruction, Half, LinkPair, Stored, Target, Nothing, ByArea, BySymbol}
 use Rattle.armasm_core.specs.declared.drafting.Growing.{Growing}
 use Rattle.armasm_core.specs.Drafting.{Frame, LineCanStand, frame_of, frames, kept_size, marks_zeroes, pieces_put}
-use Rattle.armasm_core.specs.Emission.{GrowsOn, HasSource, HasSymbols, IsEmittable}
+use Rattle.armasm_core.specs.Emission.{GrowsOn, HasSource, HasSymbols, IsEmittable, things_so_far}
 use Rattle.armasm_core.specs.Listing.{StandsThere}
 use Rattle.armasm_core.proofs.AreaLemmas.{zeroes_there}
-use Rattle.armasm_core.proofs.EmitLemmas.{next_there, put_there, stands_there, things_here}
+use Rattle.armasm_core.proofs.EmitLemmas.{next_there, put_there, stands_there, things_here, words_are, words_stand}
 use Rattle.armasm_core.proofs.LoadLemmas.{area_there, within_there}
 use Rattle.asm_laying.proofs.EnterLemmas.{areas_few}
 
@@ -59,14 +62,14 @@ units_word at [] p h k = absurd k
 units_word at (u ∷ us) p h (inl e) = subst (λ (q : Piece). HasWord q.1) (sym e) (unit_word u h.0)
 units_word at (u ∷ us) p h (inr k) = units_word (at + length (unit_bytes u)) us p h.1 k
 
-literal_has_word : (o : Option LiteralWord) (p : Piece) → IsAmong p (word_piece o) → HasWord p.1
-literal_has_word None p k = absurd k
-literal_has_word (Some w) p (inl e) = subst (λ (q : Piece). HasWord q.1) (sym e) tt
-literal_has_word (Some w) p (inr k) = absurd k
-
-put_word : (at : ℕ) (us : List Code) (o : Option LiteralWord) (p : Piece) → AllUnitsFit (map emitted_of us) → IsAmong p (pieces_put at us o) → HasWord p.1
-put_word at us o p h k =
-    ⊎_elim (units_word at (map emitted_of us) p h) (literal_has_word o p) (among_either p (units_from at (map emitted_of us)) (word_piece o) k)
+words_word : (s : Source) (area : ℕ) (es : List (Value × ℕ)) (p : Piece) → IsAmong p (words_of s area es) → HasWord p.1
+words_word s area [] p k = absurd k
+words_word s area (e ∷ es) p k = ⊎_elim (first (literal_stored s area e.0)) (words_word s area es p) (among_either p (word_piece e.1 (literal_stored s area e.0)) (words_of s area es) k)
+  where
+    first : (r : Result Stored LineKind) → IsAmong p (word_piece e.1 r) → HasWord p.1
+    first (Ok w) (inl is) = subst (λ (q : Piece). HasWord q.1) (sym is) tt
+    first (Ok w) (inr none) = absurd none
+    first (Err kind) none = absurd none
 
 -- ---- numbers
 
@@ -118,11 +121,24 @@ kept_small : (b : Bool) (n : ℕ) → n ≤ 2 ^ 24 → cond b 0 n < 2 ^ 32
 kept_small true n h = omega arith
 kept_small false n h = omega arith
 
--- ---- a line
+-- ---- things of an area
 
-all_stand : (names : List (List ℕ)) (room : ℕ) (ps : List Piece) → ((p : Piece) → IsAmong p ps → CanStand names room p) → AllCanStand names room ps
-all_stand names room [] f = tt
-all_stand names room (p ∷ ps) f = (f p (inl refl), all_stand names room ps (λ q k. f q (inr k)))
+-- they lie in the bytes that the area keeps, and what they name is listed
+things_stand : (l : Layout) (h : HasSource l) (names : List (List ℕ)) → names ≡ symbols_of (source_of h.statements).names (laid h.statements)
+    → (area : ℕ) (a : LaidArea) → IsArea (laid h.statements) area a → (ps : List Piece)
+    → ((p : Piece) → IsAmong p ps → StandsIn (source_of h.statements) area p × HasWord p.1) → AllCanStand names (kept_size a.attributes a.size) ps
+things_stand l h names listed area a is [] f = tt
+things_stand l h names listed area a is (p ∷ ps) f =
+    let here = f p (inl refl) in (
+      record {
+        inside = thing_inside h.statements h.sound h.states area a is p here.0;
+        word = here.1;
+        number = thing_number l h names listed area p here.0;
+      },
+      things_stand l h names listed area a is ps (λ q k. f q (inr k)),
+    )
+
+-- ---- a line
 
 frame_got : (xs : List LaidArea) (i : ℕ) (a : LaidArea) → slice_get xs i ≡ Some a → slice_get (map frame_of xs) i ≡ Some (frame_of a)
 frame_got [] i a e = absurd (cc)
@@ -131,35 +147,33 @@ frame_got (x ∷ xs) (suc i) a e = frame_got xs i a e
 
 line_stands : (o : Layout) (h : HasSource o) (names : List (List ℕ)) → names ≡ symbols_of (source_of h.statements).names (laid h.statements)
     → (areas : List LaidArea) (w : Whole) (before rest : List LaidLine) (l : LaidLine) (x : LaidStatement) → StandsThere h.statements areas w before rest l x
-    → (gs : List Growing) → frames gs ≡ map frame_of areas → (us : List Code) (word : Option LiteralWord) → own_things h.statements l before rest ≡ pieces_put x.offset us word
-    → AllUnitsFit (map emitted_of us) → LineCanStand names (frames gs) x.area (pieces_put x.offset us word)
-line_stands o h names listed areas w before rest l x there gs same us word puts fits = by_area x.area refl
+    → (gs : List Growing) → frames gs ≡ map frame_of areas → (us : List Code) → own_things h.statements l before rest ≡ pieces_put x.place.offset us
+    → AllUnitsFit (map emitted_of us) → LineCanStand names (frames gs) x.place.area (pieces_put x.place.offset us)
+line_stands o h names listed areas w before rest l x there gs same us puts fits = by_area x.place.area refl
   where
     ss : List Statement
     ss = h.statements
 
     more : List Piece
-    more = pieces_put x.offset us word
+    more = pieces_put x.place.offset us
 
-    by_area : (own : Option ℕ) → x.area ≡ own → LineCanStand names (frames gs) own (pieces_put x.offset us word)
+    by_area : (own : Option ℕ) → x.place.area ≡ own → LineCanStand names (frames gs) own (pieces_put x.place.offset us)
     by_area None e = tt
     by_area (Some area) e =
-        let here : l.area ≡ Some area = sym there.line.area ∙ e in
+        let here : l.area ≡ Some area = sym there.line.place.area ∙ e in
         let less : area < length areas = subst (λ (a : Option ℕ). IsWithin (length areas) a) here (within_there ss areas w before rest l x there) in
         let a = area_there areas area less in
         let is = there.laid_out.each area a.0 a.1 in
-        let stands = λ (p : Piece) (k : IsAmong p more).
-        stands_there ss area p (l ∷ before) rest there.parts
-        (subst (IsAmong p) (sym (things_here ss area before rest l more here puts)) (among_behind p (things_behind (source_of ss) area before (l ∷ rest)) more k)) in
         record {
           own = frame_of a.0;
           there = ap (λ (fs : List Frame). slice_get fs area) same ∙ frame_got areas area a.0 a.1;
           small = kept_small (marks_zeroes a.0.attributes) a.0.size (subst (λ (n : ℕ). n ≤ 2 ^ 24) (sym is.size) (area_small ss h.sound area));
-          stand = all_stand names (kept_size a.0.attributes a.0.size) more (λ p k. record {
-            inside = thing_inside ss h.sound h.states area a.0 is p (stands p k);
-            word = put_word x.offset us word p fits k;
-            number = thing_number o h names listed area p (stands p k);
-          });
+          stand = things_stand o h names listed area a.0 is more
+              (λ p k. (
+                stands_there ss area p (l ∷ before) rest there.parts
+                    (subst (IsAmong p) (sym (things_here ss area before rest l more here puts)) (among_behind p (things_so_far (source_of ss) before (l ∷ rest) area) more k)),
+                units_word x.place.offset (map emitted_of us) p fits k,
+              ));
         }
 
 pub emittable : (l : Layout) (w : Whole) (names : List (List ℕ)) (h : HasSymbols l w names) → IsEmittable h.source.statements l w
@@ -170,7 +184,7 @@ emittable l w names h =
 pub next_stands : (l : Layout) (w : Whole) (names : List (List ℕ)) (x : LaidStatement) (left : List LaidStatement) (known : List Named) (gs : List Growing)
     → 1 ≤ length left → x ≡ get_or left 0 x → (g : GrowsOn l w names left known gs) → frames gs ≡ map frame_of l.areas → (u : LineUnits) (us : List Code) → us ≡ u.units.items
     → ((before rest : List LaidLine) (line : LaidLine) → IsHere g.source.source.statements l.areas w known before rest line x → IsPut g.source.source.statements before rest line u)
-    → LineCanStand names (frames gs) x.area (pieces_put x.offset us u.literal)
+    → LineCanStand names (frames gs) x.place.area (pieces_put x.place.offset us)
 next_stands l w names x left known gs some at g same u us is put =
     let s = g.source.source in
     let n = next_there s.statements l w names x left known gs some at (emittable l w names g.source) g.grown in
@@ -178,6 +192,29 @@ next_stands l w names x left known gs some at g same u us is put =
     let puts = put n.before n.rest n.line h in
     let there : StandsThere s.statements l.areas w n.before n.rest n.line x =
     record { said = h.said; sound = h.sound; laid_out = h.laid_out; whole = h.whole; parts = h.parts; line = h.line } in
-    line_stands l s names g.source.listed l.areas w n.before n.rest n.line x there gs same us u.literal
+    line_stands l s names g.source.listed l.areas w n.before n.rest n.line x there gs same us
     (put_there s.statements l w names x (take (length left - 1) (drop 1 left)) known gs n u us is puts)
     (subst (λ (vs : List Code). AllUnitsFit (map emitted_of vs)) (sym is) puts.fits)
+
+-- ---- the words of pools
+
+pub shares : (ss : List Statement) (areas : List LaidArea) (w : Whole) → IsWhole ss areas w → Shares w (source_of ss)
+shares ss areas w h = record { names = h.names; labels = h.sets.data_names }
+
+pub pools_stand : (l : Layout) (w : Whole) (names : List (List ℕ)) → HasSymbols l w names → PoolsCanStand w names l.areas
+pools_stand l w names h =
+    let s = h.source in
+    let ss = s.statements in
+    let count : length l.areas ≡ length (areas_behind ss) = s.layout.areas.count ∙ ap (λ (ss : List Statement). length (areas_behind ss)) (statements_kept (declared_names ss) ss) in
+    record {
+      few = subst (λ (n : ℕ). n < 2 ^ 24) (sym count) (below (length (areas_behind ss)) (length ss) (areas_few ss) s.few);
+      each = λ area a at. record {
+        source = source_of ss;
+        shares = shares ss l.areas w h.whole;
+        stand = things_stand l s names h.listed area a (s.layout.areas.each area a at) (words_of (source_of ss) area a.pools.placed)
+            (λ p k. (
+              words_stand ss area p (subst (IsAmong p) (words_are ss l.areas area a s.layout.areas at) k),
+              words_word (source_of ss) area a.pools.placed p k,
+            ));
+      };
+    }

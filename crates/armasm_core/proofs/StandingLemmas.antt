@@ -1,5 +1,6 @@
 -- The object of flat lines stands wherever it is placed, and is valid.
 use Rattle.std.proofs.Common.{◌≡◌, ℕ, ◌+◌, ◌^◌, ◌<◌, ◌≤◌, List, [], length, Bool, true, false, cond, Option, Some, None, Ok, refl, subst, arith}
+use Rattle.std.specs.List.{list_any}
 use Rattle.sdt_fault.specs.declared.kinds.LineKind.{LineKind}
 use Rattle.sdt_fault.specs.declared.refusal.Refusal.{Refusal}
 use Rattle.aof_object.specs.declared.records.Object.{Object}
@@ -21,7 +22,7 @@ use Rattle.source_model.specs.Objects.{source_of}
 use Rattle.source_model.specs.SourceFaults.{layout_faults, value_faults}
 use Rattle.stand_laws.specs.Laws.{IsFaultless, ObjectsStand}
 use Rattle.stand_model.specs.Stands.{AllStand}
-use Rattle.armasm_core.specs.Assembling.{said_by, told, unread_told, line_faults, without_area, reading_faults, has_area, source_faults, FlatsMake}
+use Rattle.armasm_core.specs.Assembling.{said_by, told, unread_told, line_faults, without_area, reading_faults, says_area, source_faults, FlatsMake}
 use Rattle.armasm_core.specs.Standing.{ObjectsOfFlatsStand, ObjectsOfFlatsAreValid}
 
 -- ---- without faults
@@ -39,8 +40,8 @@ lines_none ss before None e = told_none (layout_faults ss) e
 lines_none ss before (Some u) e =
     let bad : Some (unread_told u) ≡ None = (neither (told (front_laid ss before)) (Some (unread_told u)) e).1 in absurd (cc)
 
-reading_none : (name : List ℕ) (r : Reading) → reading_faults name r ≡ None → layout_faults (said_by r) ≡ None
-reading_none name r e = by_area (has_area r.statements.items) e
+reading_none : (name : List ℕ) (flats : List Flat) (r : Reading) → reading_faults name flats r ≡ None → layout_faults (said_by r) ≡ None
+reading_none name flats r e = by_area (list_any says_area flats) e
   where
     by_area : (b : Bool)
         → cond b (line_faults (said_by r) r.before r.unread) (Some (without_area name (line_faults (said_by r) r.before r.unread))) ≡ None
@@ -48,10 +49,11 @@ reading_none name r e = by_area (has_area r.statements.items) e
     by_area true k = lines_none (said_by r) r.before r.unread k
     by_area false k = absurd (cc)
 
-source_none : (name : List ℕ) (r : Reading) → source_faults name r ≡ None → (layout_faults (said_by r) ≡ None) × (value_faults (said_by r) ≡ None)
-source_none name r e =
-    let both = neither (reading_faults name r) (told (value_faults (said_by r))) e in
-    (reading_none name r both.0, told_none (value_faults (said_by r)) both.1)
+source_none : (name : List ℕ) (flats : List Flat) (r : Reading) → source_faults name flats r ≡ None
+    → (layout_faults (said_by r) ≡ None) × (value_faults (said_by r) ≡ None)
+source_none name flats r e =
+    let both = neither (reading_faults name flats r) (told (value_faults (said_by r))) e in
+    (reading_none name flats r both.0, told_none (value_faults (said_by r)) both.1)
 
 -- ---- how many areas
 
@@ -67,7 +69,7 @@ few_areas name flats o h short =
 pub objects_of_flats_stand : OneReading → ReadingsAreFit → ObjectsStand → ObjectsOfFlatsStand
 objects_of_flats_stand one fits stand name flats o h short few own values area_at view region veneers placed shown r says =
     let fit : AreFit (said_by h.reading) = fits flats h.reading h.says in
-    let none = source_none name h.reading h.makes.0 in
+    let none = source_none name flats h.reading h.makes.0 in
     let faultless : IsFaultless (said_by h.reading) = record {
       said = fit.said;
       named = fit.named;
@@ -81,5 +83,5 @@ objects_of_flats_stand one fits stand name flats o h short few own values area_a
 pub objects_of_flats_are_valid : ReadingsAreFit → SourcesKeepStates → ObjectsAreValid → ObjectsOfFlatsAreValid
 objects_of_flats_are_valid fits keep valid name flats o h short few =
     let fit : AreFit (said_by h.reading) = fits flats h.reading h.says in
-    let none = source_none name h.reading h.makes.0 in
+    let none = source_none name flats h.reading h.makes.0 in
     valid (said_by h.reading) o fit.said fit.texts fit.fit none.0 none.1 (keep (said_by h.reading) fit.states) (few_areas name flats o h short) few h.makes.1

@@ -4,8 +4,6 @@ use Rattle.sdt_word.specs.Numbers.{bit}
 use Rattle.aof_object.specs.declared.records.Area.{Area}
 use Rattle.armasm_core.specs.Drafts.{AreRelocs, HoldsPieces, IsDraft, MeetNone}
 use Rattle.armasm_core.specs.Writing.{AllCanStand}
-use Rattle.asm_units.specs.declared.emitted.LiteralWord.{LiteralWord}
-use Rattle.asm_units.specs.Passing.{word_piece}
 use Rattle.asm_layout.specs.declared.laid.LaidArea.{LaidArea}
 use Rattle.asm_units.specs.declared.emitted.Emitted.{Emitted as Code}
 use Rattle.asm_units.specs.Emitting.{emitted_of}
@@ -45,9 +43,9 @@ frames gs = map frame gs
 abbrev pub AreDrafts : List (List ℕ) → (ℕ → List Piece) → List Growing → Type 0
 AreDrafts names held gs = (area : ℕ) (g : Growing) → slice_get gs area ≡ Some g → IsDraft names (held area) g.draft
 
--- what a line puts from an offset on, the word of its literal too
-abbrev pub pieces_put : ℕ → List Code → Option LiteralWord → List Piece
-pieces_put at us literal = units_from at (map emitted_of us) ++ word_piece literal
+-- what a line puts from an offset on
+abbrev pub pieces_put : ℕ → List Code → List Piece
+pieces_put at us = units_from at (map emitted_of us)
 
 -- the things of an area with those of a line, if it is the line's
 abbrev pub with_line : (ℕ → List Piece) → Option ℕ → List Piece → ℕ → List Piece
@@ -65,9 +63,14 @@ abbrev pub LineCanStand : List (List ℕ) → List Frame → Option ℕ → List
 LineCanStand names fs None more = Unit {0}
 LineCanStand names fs (Some area) more = CanTake names fs area more
 
--- no thing of a line meets another of its area
+-- no thing of a line meets another that stands in its area
 abbrev pub MeetNoneThere : (ℕ → List Piece) → Option ℕ → List Piece → Type 0
-MeetNoneThere held own more = (area : ℕ) → own ≡ Some area → MeetNone (held area ++ more) more
+MeetNoneThere held own more = (area : ℕ) → own ≡ Some area → MeetNone (held area) more
+
+-- of these areas that of a line takes what the line puts
+abbrev pub AreasTake : List (List ℕ) → Option ℕ → List Piece → List Growing → List Growing → Type 0
+AreasTake names own more old new =
+    (held : ℕ → List Piece) → AreDrafts names held old → MeetNoneThere held own more → AreDrafts names (with_line held own more) new
 
 -- ---- finished areas
 

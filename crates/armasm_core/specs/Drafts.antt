@@ -1,6 +1,6 @@
 -- The bytes and relocations of an area in which some things stand, while others are still to be put there, and of one that
 -- is finished. This project's.
-use Rattle.std.specs.Prelude.{◌≡◌, ◌⊎◌, ℕ, ◌+◌, ◌<◌, ◌≤◌, List, length, take, drop, get_or, Some}
+use Rattle.std.specs.Prelude.{◌≡◌, ◌⊎◌, ℕ, ◌+◌, ◌<◌, ◌≤◌, List, ◌++◌, length, take, drop, get_or, Some}
 use Rattle.std.specs.Ordering.{nat_cmp}
 use Rattle.std.specs.BTreeMap.{get}
 use Rattle.aof_object.specs.declared.records.Reloc.{Reloc}
@@ -32,3 +32,7 @@ pub record AreRelocs (names : List (List ℕ)) (pieces : List Piece) (relocs : L
   pub order : IsRising relocs
   pub all : (p : Piece) (r : Reloc) → IsAmong p pieces → IsRelocOf (relocs_in names p) r → IsRelocOf relocs r
   pub no_others : (r : Reloc) → IsRelocOf relocs r → (p : Piece) × IsAmong p pieces × IsRelocOf (relocs_in names p) r
+
+-- a draft takes these things more
+abbrev pub TakesMore : List (List ℕ) → List Piece → Draft → Draft → Type 0
+TakesMore names more old new = (pieces : List Piece) → IsDraft names pieces old → MeetNone pieces more → IsDraft names (pieces ++ more) new

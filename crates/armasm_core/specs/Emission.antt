@@ -1,5 +1,5 @@
 -- What emission asks of a layout, the lines that are left to emit, and the areas so far. This project's.
-use Rattle.std.specs.Prelude.{◌≡◌, ℕ, ◌^◌, ◌<◌, List, length, None, Result, Ok, Err}
+use Rattle.std.specs.Prelude.{◌≡◌, ℕ, ◌^◌, ◌<◌, List, ◌++◌, length, None, Result, Ok, Err}
 use Rattle.std.specs.Global.{Vec}
 use Rattle.sdt_fault.specs.declared.answer.Fault.{Fault}
 use Rattle.armasm_core.specs.declared.whole.Whole.{Whole}
@@ -14,11 +14,12 @@ use Rattle.asm_model.specs.Symbols.{symbols_of}
 use Rattle.said_model.specs.Fit.{AllFit}
 use Rattle.said_model.specs.Said.{AllSaid, AllHaveTexts}
 use Rattle.source_laws.specs.Laws.{AreOfState}
-use Rattle.source_model.specs.Objects.{source_of, things_behind, things_in}
+use Rattle.source_model.specs.Objects.{Piece, Source, source_of, things_behind, things_in}
 use Rattle.source_model.specs.Registers.{Named, register_in, registers_behind}
 use Rattle.source_model.specs.SourceFaults.{first_valued, layout_faults, value_faults}
 use Rattle.armasm_core.specs.declared.drafting.Growing.{Growing}
 use Rattle.armasm_core.specs.Drafting.{AreDrafts}
+use Rattle.armasm_core.specs.Pools.{pooled_words}
 
 -- a layout is one of statements without faults of layout, as lines say them, each of its state
 pub record HasSource (l : Layout) : Type 0 where
@@ -45,6 +46,10 @@ pub record IsEmittable (statements : List Statement) (l : Layout) (w : Whole) : 
   pub states : AreOfState statements
   pub whole : IsWhole statements l.areas w
 
+-- the words of an area's pools, and what these lines put there before those behind them
+abbrev pub things_so_far : Source → List LaidLine → List LaidLine → ℕ → List Piece
+things_so_far s before rest area = pooled_words s area ++ things_behind s area before rest
+
 -- of a source's lines these are left, none before has a fault of values, and in the areas stands what those before put there
 pub record IsGrown (statements : List Statement) (symbols : List (List ℕ)) (left : List LaidStatement) (known : List Named) (gs : List Growing) : Type 0 where
   pub before : List LaidLine
@@ -53,7 +58,7 @@ pub record IsGrown (statements : List Statement) (symbols : List (List ℕ)) (le
   pub lines : AreOn before rest left
   pub registers : (q : List ℕ) → register_in q known ≡ register_in q (registers_behind before)
   pub none : value_faults statements ≡ first_valued (laid statements) statements before rest
-  pub drafts : AreDrafts symbols (λ area. things_behind (source_of statements) area before rest) gs
+  pub drafts : AreDrafts symbols (things_so_far (source_of statements) before rest) gs
 
 -- of the lines of the layout's source these are left
 pub record GrowsOn (l : Layout) (w : Whole) (symbols : List (List ℕ)) (left : List LaidStatement) (known : List Named) (gs : List Growing) : Type 0 where

@@ -8,7 +8,7 @@ use Rattle.source_model.specs.Objects.{entry_by}
 
 -- the entry that a statement gives
 abbrev pub entry_at : LaidStatement → Option Entry
-entry_at x = entry_by (is_entry x.statement.what) x.area x.offset
+entry_at x = entry_by (is_entry x.statement.what) x.place.area x.place.offset
 
 -- the first
 abbrev pub first_entry : List LaidStatement → Option Entry

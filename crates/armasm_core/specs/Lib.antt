@@ -15,5 +15,6 @@ pub mod Writing
 pub mod Gathered
 pub mod Giving
 pub mod Loaded
+pub mod Pools
 pub mod Putting
 pub mod Whole

@@ -30,13 +30,14 @@ abbrev pub LaysLines : List Statement → ℕ → Option Unread → Result Layou
 LaysLines statements before unread (Ok l) = (line_faults statements before unread ≡ None) × IsSoundLayout statements l
 LaysLines statements before unread (Err f) = IsToldAs (line_faults statements before unread) f
 
-abbrev pub LaysOut : List ℕ → Reading → Result Layout Fault → Type 0
-LaysOut name r (Ok l) = (reading_faults name r ≡ None) × IsSoundLayout (said_by r) l
-LaysOut name r (Err f) = IsToldAs (reading_faults name r) f
+-- of a reading of these flat lines
+abbrev pub LaysOut : List ℕ → List Flat → Reading → Result Layout Fault → Type 0
+LaysOut name flats r (Ok l) = (reading_faults name flats r ≡ None) × IsSoundLayout (said_by r) l
+LaysOut name flats r (Err f) = IsToldAs (reading_faults name flats r) f
 
-abbrev pub Makes : List ℕ → Reading → Result Object Fault → Type 0
-Makes name r (Ok o) = (source_faults name r ≡ None) × IsObject (said_by r) o
-Makes name r (Err f) = IsToldAs (source_faults name r) f
+abbrev pub Makes : List ℕ → List Flat → Reading → Result Object Fault → Type 0
+Makes name flats r (Ok o) = (source_faults name flats r ≡ None) × IsObject (said_by r) o
+Makes name flats r (Err f) = IsToldAs (source_faults name flats r) f
 
 -- what a call gives of flat lines
 abbrev pub FlatsGive : List ℕ → List Flat → Result Object Fault → Type 0

@@ -1,5 +1,5 @@
 -- Pass 2 of a line of a layout. This project's.
-use Rattle.std.specs.Prelude.{◌≡◌, ◌<◌, ◌^◌, List, [], ◌∷◌, ◌++◌, map, None, Result, Ok, Err}
+use Rattle.std.specs.Prelude.{◌≡◌, ◌<◌, ◌^◌, List, [], ◌∷◌, map, None, Result, Ok, Err}
 use Rattle.sdt_fault.specs.declared.answer.Fault.{Fault}
 use Rattle.asm_instructions.specs.Fits.{Fits}
 use Rattle.asm_instructions.specs.ThumbFits.{ThumbFits}
@@ -7,7 +7,6 @@ use Rattle.asm_layout.specs.Layout.{IsTold}
 use Rattle.asm_model.specs.declared.statements.Statement.{Statement}
 use Rattle.asm_units.specs.declared.emitted.LineUnits.{LineUnits}
 use Rattle.asm_units.specs.Emitting.{emitted_of}
-use Rattle.asm_units.specs.Passing.{word_piece}
 use Rattle.asm_model.specs.Kinds.{told_kind}
 use Rattle.asm_model.specs.Labels.{defined_by}
 use Rattle.asm_model.specs.Laid.{LaidLine}
@@ -35,7 +34,7 @@ AllUnitsFit (u ∷ us) = UnitFits u × AllUnitsFit us
 pub record IsPut (statements : List Statement) (before rest : List LaidLine) (l : LaidLine) (u : LineUnits) : Type 0 where
   pub faultless : told_kind (kinds_at statements before l rest) ≡ None
   pub pieces : pieces_in (context_there statements before l) (datum_names statements) l (word_there before rest l)
-      ≡ units_from l.offset (map emitted_of u.units.items) ++ word_piece u.literal
+      ≡ units_from l.offset (map emitted_of u.units.items)
   pub given : named_by l.seen (defined_by l.statement) ≡ gives u.number (defined_by l.statement)
   pub fits : AllUnitsFit (map emitted_of u.units.items)
 

@@ -1,6 +1,7 @@
 //! Sources without an AREA.
 
 ghost use Rattle.std.specs.Prelude.{◌≡◌, ◌==◌, ◌&&◌, ℕ, List, Option, Some, None, if◌then◌else◌};
+ghost use Rattle.std.specs.List.{list_any};
 ghost use Rattle.sdt_fault.specs.declared.kinds.LineKind.TheVariants as kind_of;
 ghost use Rattle.sdt_fault.specs.declared.refusal.Refusal.{Refusal as Told};
 ghost use Rattle.asm_model.specs.Forms.{same};
@@ -9,27 +10,26 @@ ghost use Rattle.armasm_core.specs.Assembling as assembling;
 ghost use Rattle.armasm_core.specs.Passes.{IsToldAs};
 
 use asm_expr::kinds::earlier;
-use asm_model::{DirectiveLine, Statement, What, bad_line};
+use asm_model::{Flat, bad_line, is_called};
+use asm_variables::words::words_of;
 use sdt_fault::Text;
 use sdt_fault::answer::Fault;
 use sdt_fault::kinds::LineKind;
 use sdt_fault::refusal::Refusal;
 use std::alloc::Global;
 
-fn is_area(what: &What) -> bool
-    ensures { result ≡ assembling.is_area what.now }
+/// Whether a line's operation is AREA, also where the line can't be read.
+fn says_area(flat: &Flat) -> bool
+    ensures { result ≡ assembling.says_area flat.now }
 {
-    match what {
-        What::Directive(DirectiveLine::Area { .. }) => true,
-        _ => false,
-    }
+    is_called(b"AREA", words_of(flat.text.as_slice()).operation)
 }
 
-/// Whether statements begin an area.
-pub fn has_area(statements: &[Statement]) -> bool
-    ensures { result ≡ assembling.has_area statements.now }
+/// Whether a line of these begins an area.
+pub fn has_area(flats: &[Flat]) -> bool
+    ensures { result ≡ list_any assembling.says_area flats.now }
 {
-    statements.iter().any(|statement| is_area(&statement.what))
+    flats.iter().any(|flat| says_area(flat))
 }
 
 /// What is told of line 1 of a source, where this is told of the line of this number of a file.

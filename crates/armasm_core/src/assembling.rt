@@ -31,15 +31,20 @@ use std::alloc::Global;
 /// The most bytes of a source.
 pub const MOST_BYTES: usize = 1 << 24;
 
-fn object_of(alloc: Global, source: &Text, reading: Reading) -> Result<Object, Fault>
+fn object_of(
+    alloc: Global,
+    source: &Text,
+    flats: &[Flat],
+    reading: Reading,
+) -> Result<Object, Fault>
     requires few { length reading.statements.items < most_statements + 1 }
     requires said { AllSaid reading.statements.items }
     requires fit { AreFit (assembling.said_by reading) }
-    ensures made { Makes source.now reading result }
+    ensures made { Makes source.now flats.now reading result }
     ensures few { IfOk result (λ object. length object.symbols < 2 ^ 24) }
 {
     sources_keep_states();
-    let layout = laid_out(alloc, source, reading)?;
+    let layout = laid_out(alloc, source, flats, reading)?;
     emit(alloc, &layout)
 }
 
@@ -51,7 +56,7 @@ fn assemble_flats(alloc: Global, source: &Text, flats: &[Flat]) -> Result<Object
 {
     readings_are_fit();
     let reading = read_lines(alloc, flats)?;
-    object_of(alloc, source, reading)
+    object_of(alloc, source, flats, reading)
 }
 
 /// Assembles the text of the source of this name, with the files that its GETs name. A refusal is `TooLarge` for a text of

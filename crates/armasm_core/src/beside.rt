@@ -46,7 +46,7 @@ pub fn beside_of<'a>(
         data: &whole.sets.data,
         sizes: whole.sizes.as_slice(),
         strings: laid.strings.as_slice(),
-        word: word_of(areas, laid.area, laid.literal),
+        word: word_of(areas, laid.place.area, laid.literal),
     }
 }
 
@@ -57,5 +57,5 @@ pub fn loaded_of<'a>(areas: &'a [LaidArea], laid: &LaidStatement) -> Option<&'a 
     extents_are_placeable();
     literals_are_placed();
     pool_law();
-    literal_of(areas, laid.area, laid.literal)
+    literal_of(areas, laid.place.area, laid.literal)
 }

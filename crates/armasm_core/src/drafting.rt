@@ -1,20 +1,19 @@
 //! The areas of an object while it is emitted.
 
-ghost use Rattle.std.specs.Prelude.{◌≡◌, [], ◌++◌, ◌<◌, ◌^◌, ℕ, List as Items, length, map, IfOk, OnOk};
+ghost use Rattle.std.specs.Prelude.{◌≡◌, ◌<◌, ◌^◌, length, map, IfOk, OnOk};
 ghost use Rattle.std.specs.List.{AllZip};
-ghost use Rattle.source_model.specs.Objects.{Piece};
-ghost use Rattle.asm_units.specs.Passing.{word_piece};
-ghost use Rattle.armasm_core.specs.Drafts.{IsDraft, MeetNone};
+ghost use Rattle.armasm_core.specs.Drafts.{TakesMore};
 ghost use Rattle.armasm_core.specs.Writing.{AllCanStand};
-ghost use Rattle.asm_units.specs.Emitting.{emitted_of, stored_of};
-ghost use Rattle.source_model.specs.Units as model;
 ghost use Rattle.armasm_core.specs.Drafting as drafting;
-ghost use Rattle.armasm_core.specs.Drafting.{AreDrafts, IsFinished, LineCanStand, MeetNoneThere, frame, frame_of, frames, pieces_put, with_line};
+ghost use Rattle.armasm_core.specs.Drafting.{AreasTake, IsFinished, LineCanStand, frame, frame_of, frames, pieces_put};
+ghost use Rattle.armasm_core.specs.Pools.{BeginsWith, HoldPools, PoolsCanStand, WordsCanStand};
 
-use crate::Draft;
+use crate::pools::put_words;
+use crate::{Draft, Whole};
 use aof_object::Area;
-use asm_layout::{LaidArea, LaidStatement};
-use asm_units::{Emitted, LiteralWord, Stored, Symbols};
+use asm_layout::LaidArea;
+use asm_names::Place;
+use asm_units::{Emitted, Symbols};
 use sdt_fault::{List, NoMemory, Text};
 use std::alloc::Global;
 
@@ -39,112 +38,84 @@ fn kept_size(attributes: u32, size: u32) -> u32
     size
 }
 
-fn started(alloc: Global, area: &LaidArea) -> Result<Growing, NoMemory>
-    ensures frame { IfOk result (λ g. frame g ≡ frame_of area.now) }
-    ensures empty { IfOk result (λ g. (names : Items (Items ℕ)) → IsDraft names [] g.draft) }
+fn started(
+    alloc: Global,
+    laid: &LaidArea,
+    number: u32,
+    whole: &Whole<'_>,
+    symbols: &Symbols,
+) -> Result<Growing, NoMemory>
+    requires few { length symbols.now < 2 ^ 24 }
+    requires stand { WordsCanStand whole.now symbols.now (drafting.kept_size laid.now.attributes laid.now.size) number laid.now.pools.placed }
+    ensures frame { IfOk result (λ g. frame g ≡ frame_of laid.now) }
+    ensures words { IfOk result (λ g. BeginsWith whole.now symbols.now number laid.now.pools.placed g.draft) }
 {
-    let name = area.name.try_clone(alloc)?;
-    let draft = Draft::new(alloc, kept_size(area.attributes, area.size))?;
+    let name = laid.name.try_clone(alloc)?;
+    let mut draft = Draft::new(alloc, kept_size(laid.attributes, laid.size))?;
+    let literals = laid.pools.literals();
+    let offsets = laid.pools.offsets();
+    put_words(alloc, &mut draft, whole, number, literals, offsets, symbols)?;
     Ok(Growing {
         name,
-        attributes: area.attributes,
-        size: area.size,
+        attributes: laid.attributes,
+        size: laid.size,
         draft,
     })
 }
 
-/// The areas of a layout, in which nothing stands yet.
-pub fn all_started(alloc: Global, areas: &[LaidArea]) -> Result<Vec<Growing>, NoMemory>
+/// The areas of a layout, in which the words of their pools stand.
+pub fn all_started(
+    alloc: Global,
+    areas: &[LaidArea],
+    whole: &Whole<'_>,
+    symbols: &Symbols,
+) -> Result<Vec<Growing>, NoMemory>
+    requires few { length symbols.now < 2 ^ 24 }
+    requires stand { PoolsCanStand whole.now symbols.now areas.now }
     ensures frames { IfOk result (λ gs. frames gs.items ≡ map frame_of areas.now) }
-    ensures empty { IfOk result (λ gs. (names : Items (Items ℕ)) → AreDrafts names (λ area. []) gs.items) }
+    ensures words { IfOk result (λ gs. HoldPools whole.now symbols.now areas.now gs.items) }
 {
     let mut growing = Vec::new(alloc);
+    let mut number = 0;
     'areas: for area in areas {
-        growing.push(started(alloc, area)?)?;
+        growing.push(started(alloc, area, number, whole, symbols)?)?;
+        number += 1;
     }
     Ok(growing)
-}
-
-fn word_unit(word: Stored) -> Emitted
-    ensures { emitted_of result ≡ model.Word (stored_of word) }
-{
-    Emitted::Word {
-        number: word.number,
-        target: word.target,
-    }
-}
-
-/// Puts the word of a literal.
-fn put_literal(
-    draft: &mut Draft,
-    literal: Option<LiteralWord>,
-    symbols: &Symbols,
-) -> Result<(), NoMemory>
-    requires few { length symbols.now < 2 ^ 24 }
-    requires small { length draft.old.bytes.items < 2 ^ 32 }
-    requires stand { AllCanStand symbols.now (length draft.old.bytes.items) (word_piece literal) }
-    ensures size { length draft.new.bytes.items ≡ length draft.old.bytes.items }
-    ensures more { OnOk result ((pieces : Items Piece) → IsDraft symbols.now pieces draft.old → MeetNone pieces (word_piece literal) → IsDraft symbols.now (pieces ++ word_piece literal) draft.new) }
-{
-    let Some(literal) = literal else {
-        return Ok(());
-    };
-    let at = literal.at;
-    draft.put(at, &word_unit(literal.word), symbols)
-}
-
-/// What a line puts into its area.
-fn put_into(
-    draft: &mut Draft,
-    at: u32,
-    units: &[Emitted],
-    literal: Option<LiteralWord>,
-    symbols: &Symbols,
-) -> Result<(), NoMemory>
-    requires few { length symbols.now < 2 ^ 24 }
-    requires small { length draft.old.bytes.items < 2 ^ 32 }
-    requires stand { AllCanStand symbols.now (length draft.old.bytes.items) (pieces_put at units.now literal) }
-    ensures size { length draft.new.bytes.items ≡ length draft.old.bytes.items }
-    ensures more { OnOk result ((pieces : Items Piece) → IsDraft symbols.now pieces draft.old → MeetNone (pieces ++ pieces_put at units.now literal) (pieces_put at units.now literal) → IsDraft symbols.now (pieces ++ pieces_put at units.now literal) draft.new) }
-{
-    draft.put_all(at, units, symbols)?;
-    put_literal(draft, literal, symbols)
 }
 
 fn grow(
     growing: &mut Growing,
     at: u32,
     units: &[Emitted],
-    literal: Option<LiteralWord>,
     symbols: &Symbols,
 ) -> Result<(), NoMemory>
     requires few { length symbols.now < 2 ^ 24 }
     requires small { length growing.old.draft.bytes.items < 2 ^ 32 }
-    requires stand { AllCanStand symbols.now (length growing.old.draft.bytes.items) (pieces_put at units.now literal) }
+    requires stand { AllCanStand symbols.now (length growing.old.draft.bytes.items) (pieces_put at units.now) }
     ensures frame { frame growing.new ≡ frame growing.old }
-    ensures more { OnOk result ((pieces : Items Piece) → IsDraft symbols.now pieces growing.old.draft → MeetNone (pieces ++ pieces_put at units.now literal) (pieces_put at units.now literal) → IsDraft symbols.now (pieces ++ pieces_put at units.now literal) growing.new.draft) }
+    ensures more { OnOk result (TakesMore symbols.now (pieces_put at units.now) growing.old.draft growing.new.draft) }
 {
-    put_into(&mut growing.draft, at, units, literal, symbols)
+    growing.draft.put_all(at, units, symbols)
 }
 
 /// Puts into a line's area what the line puts there.
 pub fn put_line(
     growing: &mut Vec<Growing>,
-    laid: &LaidStatement,
+    place: &Place,
     units: &[Emitted],
-    literal: Option<LiteralWord>,
     symbols: &Symbols,
 ) -> Result<(), NoMemory>
     requires few { length symbols.now < 2 ^ 24 }
-    requires stand { LineCanStand symbols.now (frames growing.old.items) laid.now.area (pieces_put laid.now.offset units.now literal) }
+    requires stand { LineCanStand symbols.now (frames growing.old.items) place.now.area (pieces_put place.now.offset units.now) }
     ensures frames { frames growing.new.items ≡ frames growing.old.items }
-    ensures more { OnOk result ((held : ℕ → Items Piece) → AreDrafts symbols.now held growing.old.items → MeetNoneThere held laid.now.area (pieces_put laid.now.offset units.now literal) → AreDrafts symbols.now (with_line held laid.now.area (pieces_put laid.now.offset units.now literal)) growing.new.items) }
+    ensures more { OnOk result (AreasTake symbols.now place.now.area (pieces_put place.now.offset units.now) growing.old.items growing.new.items) }
 {
-    let Some(area) = laid.area else {
+    let Some(area) = place.area else {
         return Ok(());
     };
     let number = area as usize;
-    grow(&mut growing[number], laid.offset, units, literal, symbols)
+    grow(&mut growing[number], place.offset, units, symbols)
 }
 
 fn finished(alloc: Global, growing: Growing) -> Result<Area, NoMemory>

@@ -3,7 +3,7 @@
 ghost use Rattle.std.specs.Prelude.{◌≡◌, ◌++◌, ◌<◌, ◌^◌, ℕ, List as Items, [], ◌∷◌, length, map, IfOk, OnOk};
 ghost use Rattle.source_model.specs.Objects.{Piece, units_from};
 ghost use Rattle.asm_units.specs.Emitting.{emitted_of};
-ghost use Rattle.armasm_core.specs.Drafts.{AreRelocs, HoldsPieces, IsDraft, MeetNone, MeetsNone};
+ghost use Rattle.armasm_core.specs.Drafts.{AreRelocs, HoldsPieces, IsDraft, MeetsNone, TakesMore};
 ghost use Rattle.armasm_core.specs.Writing.{AllCanStand, CanStand};
 
 use crate::relocations::{listed, note, reloc_at, relocation};
@@ -14,8 +14,7 @@ use sdt_fault::{Bytes, List, NoMemory};
 use std::alloc::Global;
 use std::collections::BTreeMap;
 
-/// The bytes of an area, and of each relocation its second word, by offset. The word of a literal is put once for each
-/// line that loads it.
+/// The bytes of an area, and of each relocation its second word, by offset.
 #[derive(Debug, Drop)]
 pub struct Draft {
     bytes: Vec<u8>,
@@ -61,7 +60,7 @@ impl Draft {
         requires small { length self.old.bytes.items < 2 ^ 32 }
         requires stand { AllCanStand symbols.now (length self.old.bytes.items) (units_from at (map emitted_of units.now)) }
         ensures size { length self.new.bytes.items ≡ length self.old.bytes.items }
-        ensures more { OnOk result ((pieces : Items Piece) → IsDraft symbols.now pieces self.old → MeetNone pieces (units_from at (map emitted_of units.now)) → IsDraft symbols.now (pieces ++ units_from at (map emitted_of units.now)) self.new) }
+        ensures more { OnOk result (TakesMore symbols.now (units_from at (map emitted_of units.now)) self.old self.new) }
     {
         let mut next = at;
         let mut left = units;

@@ -37,7 +37,7 @@ use source_laws::laws::sources_stand_apart;
 use stand_laws::laws::objects_stand;
 use std::alloc::Global;
 
-/// The areas of a layout with all that its lines put there; or the refusal of the first line whose values have a fault.
+/// The areas of a layout with the words of their pools and all that its lines put there; or the refusal of the first line whose values have a fault.
 fn grown(
     alloc: Global,
     layout: &Layout,
@@ -52,19 +52,16 @@ fn grown(
 {
     sources_stand_apart();
     let areas = layout.areas.as_slice();
-    let mut growing = all_started(alloc, areas)?;
+    let mut growing = all_started(alloc, areas, whole, symbols)?;
     let mut registers = NameMap::new(alloc);
     let mut left = layout.statements.as_slice();
     'lines: loop {
         match left {
             [] => return Ok(growing),
             [line, rest @ ..] => {
-                let LineUnits {
-                    units,
-                    literal,
-                    number,
-                } = pass_line(alloc, areas, whole, &registers, line)?;
-                put_line(&mut growing, line, units.as_slice(), literal, symbols)?;
+                let LineUnits { units, number } =
+                    pass_line(alloc, areas, whole, &registers, line)?;
+                put_line(&mut growing, &line.place, units.as_slice(), symbols)?;
                 give(alloc, &mut registers, &line.statement, number)?;
                 left = rest;
             }

@@ -27,11 +27,11 @@ fn entry_here(laid: &LaidStatement) -> Option<Entry>
     if !is_entry(&laid.statement.what) {
         return None;
     }
-    match laid.area {
+    match laid.place.area {
         None => None,
         Some(area) => Some(Entry {
             area,
-            offset: laid.offset,
+            offset: laid.place.offset,
         }),
     }
 }

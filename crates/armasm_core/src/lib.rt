@@ -12,6 +12,7 @@ pub mod entry;
 pub mod facts;
 pub mod laws;
 pub mod literals;
+mod pools;
 mod reading;
 pub mod records;
 pub mod registers;

@@ -8,6 +8,7 @@ ghost use Rattle.armasm_core.specs.Passes.{IsToldAs, LaysLines, LaysOut};
 
 use crate::area::{area_missing, area_missing_beside, has_area};
 use asm_layout::{Layout, front_fault, lay_out};
+use asm_model::Flat;
 use asm_reading::{Reading, Unread};
 use sdt_fault::Text;
 use sdt_fault::answer::Fault;
@@ -49,13 +50,18 @@ fn laid_lines(alloc: Global, reading: Reading) -> Result<Layout, Fault>
     }
 }
 
-/// The layout of a source of this name, or its first fault of reading and layout.
-pub fn laid_out(alloc: Global, source: &Text, reading: Reading) -> Result<Layout, Fault>
+/// The layout of the flat lines of a source of this name, of which this is a reading, or their first fault of reading and layout.
+pub fn laid_out(
+    alloc: Global,
+    source: &Text,
+    flats: &[Flat],
+    reading: Reading,
+) -> Result<Layout, Fault>
     requires few { length reading.statements.items < most_statements + 1 }
     requires said { AllSaid reading.statements.items }
-    ensures { LaysOut source.now reading result }
+    ensures { LaysOut source.now flats.now reading result }
 {
-    if has_area(reading.statements.as_slice()) {
+    if has_area(flats) {
         return laid_lines(alloc, reading);
     }
     match laid_lines(alloc, reading) {

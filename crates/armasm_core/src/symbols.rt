@@ -37,7 +37,7 @@ fn add_line_of(
 {
     pool_law();
     let line = line_of(laid);
-    let literal = literal_of(areas, laid.area, laid.literal);
+    let literal = literal_of(areas, laid.place.area, laid.literal);
     let scene = Scene {
         names: whole.names,
         line: &line,

@@ -83,8 +83,8 @@ fn keeps_state(thumb: bool, entry: Option<&LaidName>) -> bool
 pub fn is_settled(scene: &Scene<'_>, symbol: &Text) -> bool
     ensures { result ≡ forms.is_settled (context_of scene.now) symbol.now }
 {
-    if is_in_area(scene.line.area, stands_at(scene, symbol)) {
-        return keeps_state(scene.line.thumb, scene.names.find(symbol));
+    if is_in_area(scene.line.place.area, stands_at(scene, symbol)) {
+        return keeps_state(scene.line.place.thumb, scene.names.find(symbol));
     }
     false
 }

@@ -90,7 +90,7 @@ pub fn stands_at(scene: &Scene<'_>, symbol: &Text) -> Option<(u32, u32)>
     ensures { result ≡ meaning.stands_at (contexts.sees (context_of scene.now)) symbol.now }
 {
     if symbol.as_slice().is_empty() {
-        return match scene.line.area {
+        return match scene.line.place.area {
             None => None,
             Some(area) => Some((area, 0)),
         };

@@ -25,7 +25,7 @@ use thumb_isa::ThumbInstr;
 fn behind_pc(scene: &Scene<'_>, offset: u32) -> u32
     ensures { result ≡ forms.behind_pc (context_of scene.now) offset }
 {
-    let back = 0x1_0000_0000_u64.saturating_sub(u64::from(scene.line.offset) + 4);
+    let back = 0x1_0000_0000_u64.saturating_sub(u64::from(scene.line.place.offset) + 4);
     ((u64::from(offset) + back) % 0x1_0000_0000) as u32
 }
 

@@ -23,7 +23,7 @@ use thumb_isa::{SignedTransfer, ThumbInstr};
 fn from_word_pc(scene: &Scene<'_>, offset: u32) -> u32
     ensures { result ≡ forms.from_word_pc (context_of scene.now) offset }
 {
-    let pc = (u64::from(scene.line.offset) + 4) / 4 * 4;
+    let pc = (u64::from(scene.line.place.offset) + 4) / 4 * 4;
     let back = 0x1_0000_0000_u64.saturating_sub(pc);
     ((u64::from(offset) + back) % 0x1_0000_0000) as u32
 }

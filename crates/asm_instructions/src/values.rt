@@ -127,7 +127,7 @@ pub fn own_offset(scene: &Scene<'_>, value: Result<Value, LineKind>) -> Result<u
 {
     match value {
         Ok(Value::Place { symbol, plus }) => {
-            in_own_area(scene.line.area, stands_at(scene, &symbol), plus)
+            in_own_area(scene.line.place.area, stands_at(scene, &symbol), plus)
         }
         Ok(_) => Err(LineKind::WrongType),
         Err(kind) => Err(kind),
@@ -138,6 +138,6 @@ pub fn own_offset(scene: &Scene<'_>, value: Result<Value, LineKind>) -> Result<u
 pub fn from_pc(scene: &Scene<'_>, offset: u32) -> u32
     ensures { result ≡ contexts.from_pc (context_of scene.now) offset }
 {
-    let back = 0x1_0000_0000_u64.saturating_sub(u64::from(scene.line.offset) + 8);
+    let back = 0x1_0000_0000_u64.saturating_sub(u64::from(scene.line.place.offset) + 8);
     ((u64::from(offset) + back) % 0x1_0000_0000) as u32
 }

@@ -19,17 +19,13 @@ use Rattle.asm_model.specs.Says.{mapped}
 use Rattle.asm_model.specs.LayoutKinds.{fault_kinds}
 use Rattle.asm_model.specs.Symbols.{literal_value}
 use Rattle.source_model.specs.Contexts.{Context, sees}
-use Rattle.source_model.specs.Units.{stored}
 use Rattle.source_model.specs.ValueKinds.{lies_within, kinds_unless, exported_kinds, export_kinds, assert_kinds, directive_kinds, statement_kinds}
 use Rattle.asm_instructions.specs.Scenes.{context_of}
 use Rattle.asm_instructions.proofs.AlikeLemmas.{stands_alike}
 use Rattle.asm_instructions.proofs.ContextLemmas.{Alike, shown_alike}
 use Rattle.asm_units.specs.declared.beside.Beside.{Beside}
-use Rattle.asm_units.specs.declared.emitted.Stored.{Stored as Code}
-use Rattle.asm_units.specs.Emitting.{stored_of}
 use Rattle.asm_units.specs.Literals.{moved}
 use Rattle.asm_units.specs.Showing.{ShowsBeside, sizes_of}
-use Rattle.asm_units.proofs.ShowLemmas.{stored_alike}
 
 pub fault_mapped : {A B : Type 0} (f : A → B) (r : Result A LineKind) → fault_kinds (mapped f r) ≡ fault_kinds r
 fault_mapped f (Ok a) = refl
@@ -44,32 +40,15 @@ value_moved names (Ok (Words w)) n = refl
 value_moved names (Ok (Place q m)) n = refl
 value_moved names (Err k) n = refl
 
-pub literal_alike : (a b : Context) → Alike a b → (v : Value) → literal_value (sees a) v ≡ literal_value (sees b) v
-literal_alike a b s (Place (x ∷ xs) n) =
-    value_moved (sees a) (value_of (named_in (x ∷ xs) (sees a).list)) n
-    ∙ ap (λ o. moved (value_of o) n) (s.entry (x ∷ xs))
-    ∙ sym (value_moved (sees b) (value_of (named_in (x ∷ xs) (sees b).list)) n)
-literal_alike a b s (Place [] n) = refl
-literal_alike a b s (Number n) = refl
-literal_alike a b s (Truth t) = refl
-literal_alike a b s (Words w) = refl
-
-literal_shown : (x : Beside) (v : Value) (c : Context) (data_names : List (List ℕ)) (sizes : ℕ → ℕ) (s : Names) (word : Option ℕ) (w : What)
-    → ShowsBeside x c data_names sizes s word w
-    → stored (context_of x.scene) x.data.now (literal_value (sees (context_of x.scene)) v) ≡ stored c data_names (literal_value (sees c) v)
-literal_shown x v c data_names sizes s word w h =
-    let a = context_of x.scene in
-    let found = shown_alike x.scene c h.scene in
-    ap (stored a x.data.now) (literal_alike a c found v)
-    ∙ stored_alike a c found x.data.now data_names h.labels (literal_value (sees c) v)
-
-pub literal_answered : {E : Type 0} (x : Beside) (v : Value) (r : Result (Result Code LineKind) E)
-    → IfOk r (λ l. mapped stored_of l ≡ stored (context_of x.scene) x.data.now (literal_value (sees (context_of x.scene)) v))
-    → IfOk r
-    (λ l. (c : Context) (data_names : List (List ℕ)) (sizes : ℕ → ℕ) (s : Names) (word : Option ℕ) (w : What) → ShowsBeside x c data_names sizes s word w
-    → mapped stored_of l ≡ stored c data_names (literal_value (sees c) v))
-literal_answered x v (Ok l) e = λ c data_names sizes s word w h. e ∙ literal_shown x v c data_names sizes s word w h
-literal_answered x v (Err k) e = tt
+pub literal_alike : (s t : Names) → ((q : List ℕ) → named_in q s.list ≡ named_in q t.list) → (v : Value) → literal_value s v ≡ literal_value t v
+literal_alike s t same (Place (x ∷ xs) n) =
+    value_moved s (value_of (named_in (x ∷ xs) s.list)) n
+    ∙ ap (λ o. moved (value_of o) n) (same (x ∷ xs))
+    ∙ sym (value_moved t (value_of (named_in (x ∷ xs) t.list)) n)
+literal_alike s t same (Place [] n) = refl
+literal_alike s t same (Number n) = refl
+literal_alike s t same (Truth b) = refl
+literal_alike s t same (Words w) = refl
 
 -- ---- EXPORT and KEEP
 

@@ -66,7 +66,7 @@ module _ (a b : Context) (s : Alike a b) where
   directive_alike _ = refl
 
   literal_there : (e : Extent) → loaded_symbols (sees a) (literal_in e) ≡ literal_symbols b.names b.line e
-  literal_there (Loading n v) = ap (word_symbols (sees a)) (literal_alike a b s v) ∙ word_alike (literal_value (sees b) v)
+  literal_there (Loading n v) = ap (word_symbols (sees a)) (literal_alike (sees a) (sees b) s.entry v) ∙ word_alike (literal_value (sees b) v)
   literal_there (Block m n) = refl
   literal_there (Padding m n) = refl
   literal_there Pool = refl

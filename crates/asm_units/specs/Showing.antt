@@ -4,6 +4,7 @@ use Rattle.std.specs.List.{slice_get}
 use Rattle.asm_model.specs.declared.exprs.Expr.{Expr}
 use Rattle.asm_model.specs.declared.statements.What.{What}
 use Rattle.asm_model.specs.declared.values.Value.{Value}
+use Rattle.asm_model.specs.declared.names.LaidName.{LaidName}
 use Rattle.asm_model.specs.declared.names.Names.{Names}
 use Rattle.asm_model.specs.Meaning.{stands_at}
 use Rattle.asm_model.specs.Extents.{value_there}
@@ -12,6 +13,12 @@ use Rattle.asm_sets.specs.Sets.{HaveSame}
 use Rattle.asm_instructions.specs.Scenes.{Shows}
 use Rattle.asm_laying.specs.Reading.{string_marks}
 use Rattle.asm_units.specs.declared.beside.Beside.{Beside}
+
+-- a context has these names, and its line is of this area; these labels of a source are data
+pub record ShowsNames (all : List LaidName) (marked : List (List ℕ)) (own : Option ℕ) (c : Context) (data_names : List (List ℕ)) : Type 0 where
+  pub names : c.names ≡ all
+  pub area : c.line.area ≡ own
+  pub labels : HaveSame marked data_names
 
 -- the scene and what is beside it show what a context says, with these labels that are data, these sizes of areas, what
 -- the line sees, and the offset of its literal's word

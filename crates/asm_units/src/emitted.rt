@@ -45,20 +45,11 @@ pub enum Emitted {
     },
 }
 
-/// The word of a literal, at an offset in bytes in its area.
-#[derive(Debug, Drop)]
-pub struct LiteralWord {
-    pub at: u32,
-    pub word: Stored,
-}
-
 /// What a line puts into its area, and what its RN gives.
 #[derive(Debug, Drop)]
 pub struct LineUnits {
     /// From the line's offset on, one behind the other.
     pub units: Vec<Emitted>,
-    /// The word of the line's literal; none where the line loads none.
-    pub literal: Option<LiteralWord>,
     /// The number that RN is given by an expression; of other statements it says nothing.
     pub number: Result<u32, LineKind>,
 }

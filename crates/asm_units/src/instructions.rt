@@ -194,7 +194,7 @@ pub fn pseudo(
     requires { PseudoSaid line.now }
     ensures { IfOk result (λ us. (c : Context) → Shows beside.now.scene c → all_emitted us ≡ units.pseudo_units c.line.thumb c beside.now.word line.now) }
 {
-    if beside.scene.line.thumb {
+    if beside.scene.line.place.thumb {
         return thumb_pseudo(alloc, beside, line);
     }
     arm_pseudo(alloc, beside, line)

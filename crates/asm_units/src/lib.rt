@@ -19,8 +19,9 @@ pub mod symbols;
 mod words;
 
 pub use crate::beside::Beside;
-pub use crate::emitted::{Emitted, LineUnits, LiteralWord, Stored, Target};
+pub use crate::emitted::{Emitted, LineUnits, Stored, Target};
 pub use crate::lines::add_line;
+pub use crate::literals::literal_stored;
 pub use crate::records::{Facts, record_of};
 pub use crate::second_pass::pass_two;
 pub use crate::symbols::Symbols;

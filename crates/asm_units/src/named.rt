@@ -2,9 +2,12 @@
 
 ghost use Rattle.std.specs.Prelude.{◌≡◌, IfOk};
 ghost use Rattle.asm_model.specs.Entries.{thumb_of};
+ghost use Rattle.asm_model.specs.Meaning as meaning;
 ghost use Rattle.asm_model.specs.Meaning.{named_in, value_of};
+ghost use Rattle.asm_model.specs.declared.names.Names.{Names};
 
 use asm_expr::slots::{Slot, known};
+use asm_instructions::scenes::entry_stands_at;
 use asm_model::Value;
 use asm_names::KnownNames;
 use sdt_fault::kinds::LineKind;
@@ -30,4 +33,17 @@ pub fn is_thumb(names: &KnownNames, name: &Text) -> bool
         None => false,
         Some(entry) => entry.thumb,
     }
+}
+
+/// The area of a symbol and its offset there; the empty symbol is the start of this area.
+pub fn stands_at(names: &KnownNames, area: Option<u32>, symbol: &Text) -> Option<(u32, u32)>
+    ensures { (s : Names) → s.list ≡ names.now → s.area ≡ area → result ≡ meaning.stands_at s symbol.now }
+{
+    if symbol.as_slice().is_empty() {
+        return match area {
+            None => None,
+            Some(area) => Some((area, 0)),
+        };
+    }
+    entry_stands_at(names.find(symbol))
 }

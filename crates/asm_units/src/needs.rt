@@ -122,7 +122,7 @@ fn add_loaded(
 ) -> Result<(), NoMemory>
     ensures { OnOk result (symbols.new ≡ model.listed_behind symbols.old (model.word_symbols (sees (context_of scene.now)) (model.literal_value (sees (context_of scene.now)) literal.now))) }
 {
-    let value = literal_value(alloc, scene, literal)?;
+    let value = literal_value(alloc, scene.names, literal)?;
     add_needed(alloc, symbols, word_symbol(scene, value))
 }
 

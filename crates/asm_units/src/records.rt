@@ -10,9 +10,8 @@ ghost use Rattle.source_model.specs.Objects as objects;
 ghost use Rattle.source_model.specs.Objects.{Source};
 ghost use Rattle.asm_units.specs.Recording.{Shows};
 
-use crate::named::{is_thumb, value_named};
+use crate::named::{is_thumb, stands_at, value_named};
 use aof_object::Symbol;
-use asm_instructions::scenes::entry_stands_at;
 use asm_model::Value;
 use asm_names::KnownNames;
 use asm_sets::NameRefs;
@@ -89,13 +88,11 @@ fn marks(facts: &Facts<'_>, label: &Text, area: u32) -> u32
     bits(is_marked(facts, label, area), 0x100) + bits(is_thumb(facts.names, label), 0x1000)
 }
 
-fn stands_at(facts: &Facts<'_>, label: &Text) -> Option<(u32, u32)>
-    ensures { (s : Source) → Shows facts.now s → result ≡ meaning.stands_at (sees (objects.in_no_line s)) label.now }
+/// Where a label stands.
+fn label_place(facts: &Facts<'_>, label: &Text) -> Option<(u32, u32)>
+    ensures { (s : Source) → Shows facts.now s → result ≡ meaning.stands_at (sees (objects.context_in s None)) label.now }
 {
-    if label.as_slice().is_empty() {
-        return None;
-    }
-    entry_stands_at(facts.names.find(label))
+    stands_at(facts.names, None, label)
 }
 
 fn undefined(alloc: Global, facts: &Facts<'_>, name: &Text) -> Result<Symbol, NoMemory>
@@ -170,7 +167,7 @@ fn valued(
     match value {
         Ok(Value::Number(number)) => absolute(alloc, facts, name, number),
         Ok(Value::Place { symbol, plus }) => {
-            let place = stands_at(facts, &symbol);
+            let place = label_place(facts, &symbol);
             placed(alloc, facts, name, &symbol, plus, place)
         }
         _ => unvalued(alloc, name),

@@ -1,62 +1,58 @@
 //! Pass 2 of a line.
 
-ghost use Rattle.std.specs.Prelude.{◌≡◌, ◌++◌, ℕ, List, Option, Ok, Some, IfOk, MatchResult};
+ghost use Rattle.std.specs.Prelude.{◌≡◌, ℕ, List, Option, Some, IfOk};
 ghost use Rattle.std.specs.Option.{option_copied};
 ghost use Rattle.asm_model.specs.declared.names.Names.{Names};
 ghost use Rattle.asm_model.specs.FaultSets as sets;
 ghost use Rattle.asm_model.specs.Kinds.{told_kind};
 ghost use Rattle.asm_model.specs.Extents.{Extent};
 ghost use Rattle.asm_model.specs.LayoutKinds.{fault_kinds};
-ghost use Rattle.asm_model.specs.Says.{mapped};
 ghost use Rattle.asm_model.specs.declared.statements.What.{What as Said};
 ghost use Rattle.said_model.specs.Said.{WhatSaid};
 ghost use Rattle.source_model.specs.Contexts.{Context};
-ghost use Rattle.source_model.specs.Objects as objects;
 ghost use Rattle.source_model.specs.ValueKinds as model;
 ghost use Rattle.asm_instructions.specs.Scenes.{Shows};
-ghost use Rattle.asm_units.specs.Emitting.{stored_of};
 ghost use Rattle.asm_units.specs.Literals.{literal_in};
-ghost use Rattle.asm_units.specs.Passing.{AreJoined, IsNumber, IsPassTwo, word_piece};
+ghost use Rattle.asm_units.specs.Passing.{AreJoined, IsNumber, IsPassTwo};
 ghost use Rattle.asm_units.specs.Showing.{ShowsBeside};
 
 use crate::beside::Beside;
-use crate::emitted::{Emitted, LineUnits, LiteralWord, Stored};
+use crate::emitted::{Emitted, LineUnits, Stored};
 use crate::kinds::statement_kind;
-use crate::literals::literal;
+use crate::literals::literal_stored;
 use crate::statements::units;
 use asm_expr::kinds::earlier;
+use asm_expr::told::first_told;
 use asm_instructions::{Scene, number_in};
 use asm_model::{DirectiveLine, RnOperand, Value, What};
 use sdt_fault::NoMemory;
 use sdt_fault::kinds::LineKind;
 use std::alloc::Global;
 
-/// The word of a literal at its offset; without one it has no place.
-fn word_at(at: Option<u32>, word: Result<Stored, LineKind>) -> Result<Option<LiteralWord>, LineKind>
-    ensures kinds { fault_kinds result ≡ fault_kinds word }
-    ensures piece { IfOk result (λ w. word_piece w ≡ objects.literal_unit at (mapped stored_of word)) }
+fn fault_of(word: &Result<Stored, LineKind>) -> Option<LineKind>
+    ensures { result ≡ told_kind (fault_kinds word.now) }
 {
-    match (word, at) {
-        (Ok(word), Some(at)) => Ok(Some(LiteralWord { at, word })),
-        (Ok(_), None) => Ok(None),
-        (Err(kind), _) => Err(kind),
+    match word {
+        Ok(_) => None,
+        Err(kind) => Some(*kind),
     }
 }
 
-/// The word of the literal that a statement loads, or the kind of its fault.
-fn loaded(
+/// The kind of the fault of the literal that a statement loads.
+fn literal_kind(
     alloc: Global,
     beside: &Beside<'_>,
     value: Option<&Value>,
-) -> Result<Result<Option<LiteralWord>, LineKind>, NoMemory>
-    ensures kinds { IfOk result (λ r. (c : Context) (data_names : List (List ℕ)) (sizes : ℕ → ℕ) (s : Names) (word : Option ℕ) (said : Said) (e : Extent) → ShowsBeside beside.now c data_names sizes s word said → literal_in e ≡ option_copied value.entry → fault_kinds r ≡ model.literal_kinds c data_names e) }
-    ensures piece { IfOk result (λ r. (c : Context) (data_names : List (List ℕ)) (sizes : ℕ → ℕ) (s : Names) (word : Option ℕ) (said : Said) (e : Extent) → ShowsBeside beside.now c data_names sizes s word said → literal_in e ≡ option_copied value.entry → IfOk r (λ w. word_piece w ≡ objects.literal_piece c data_names e word)) }
+) -> Result<Option<LineKind>, NoMemory>
+    ensures { IfOk result (λ kind. (c : Context) (data_names : List (List ℕ)) (sizes : ℕ → ℕ) (s : Names) (word : Option ℕ) (said : Said) (e : Extent) → ShowsBeside beside.now c data_names sizes s word said → literal_in e ≡ option_copied value.entry → kind ≡ told_kind (model.literal_kinds c data_names e)) }
 {
     match value {
-        None => Ok(Ok(None)),
+        None => Ok(None),
         Some(value) => {
-            let word = literal(alloc, beside, value)?;
-            Ok(word_at(beside.word, word))
+            let scene = &beside.scene;
+            let area = scene.line.place.area;
+            let word = literal_stored(alloc, scene.names, beside.data, area, value)?;
+            Ok(fault_of(&word))
         }
     }
 }
@@ -93,22 +89,15 @@ fn kind_with(kind: LineKind, other: Option<LineKind>) -> LineKind
 /// What a line puts, where none of its parts has a fault; else the kind that is told.
 fn joined(
     units: Result<Vec<Emitted>, LineKind>,
-    literal: Result<Option<LiteralWord>, LineKind>,
     said: Option<LineKind>,
     number: Result<u32, LineKind>,
 ) -> Result<LineUnits, LineKind>
-    ensures { AreJoined units literal said number result }
+    ensures { AreJoined units said number result }
 {
-    match (units, literal, said) {
-        (Ok(units), Ok(literal), None) => Ok(LineUnits {
-            units,
-            literal,
-            number,
-        }),
-        (Ok(_), Ok(_), Some(kind)) => Err(kind),
-        (Ok(_), Err(kind), said) => Err(kind_with(kind, said)),
-        (Err(kind), Ok(_), said) => Err(kind_with(kind, said)),
-        (Err(kind), Err(other), said) => Err(kind_with(earlier(kind, other), said)),
+    match (units, said) {
+        (Ok(units), None) => Ok(LineUnits { units, number }),
+        (Ok(_), Some(kind)) => Err(kind),
+        (Err(kind), said) => Err(kind_with(kind, said)),
     }
 }
 
@@ -124,8 +113,8 @@ pub fn pass_two(
     ensures { IfOk result (λ r. (c : Context) (data_names : List (List ℕ)) (sizes : ℕ → ℕ) (s : Names) (word : Option ℕ) (e : Extent) → ShowsBeside beside.now c data_names sizes s word what.now → literal_in e ≡ option_copied value.entry → IsPassTwo c data_names sizes s e word what.now r) }
 {
     let units = units(alloc, beside, what)?;
-    let literal = loaded(alloc, beside, value)?;
+    let loads = literal_kind(alloc, beside, value)?;
     let said = statement_kind(alloc, beside, what)?;
     let number = given_number(alloc, &beside.scene, what)?;
-    Ok(joined(units, literal, said, number))
+    Ok(joined(units, first_told(loads, said), number))
 }

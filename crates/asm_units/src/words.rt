@@ -1,31 +1,33 @@
 //! Words that may be relocated.
 
-ghost use Rattle.std.specs.Prelude.{◌≡◌, Ok, IfOk};
+ghost use Rattle.std.specs.Prelude.{◌≡◌, ℕ, List, Option, Ok, IfOk};
 ghost use Rattle.asm_model.specs.Says.{mapped};
 ghost use Rattle.asm_model.specs.Marks as marks;
 ghost use Rattle.said_model.specs.Said.{AllRead, IsRead};
-ghost use Rattle.source_model.specs.Contexts.{sees, value_of};
+ghost use Rattle.source_model.specs.Contexts.{Context, sees, value_of};
 ghost use Rattle.source_model.specs.Units as units;
 ghost use Rattle.asm_instructions.specs.Scenes.{context_of};
 ghost use Rattle.asm_units.specs.Emitting.{all_emitted, emitted_of, stored_of};
+ghost use Rattle.asm_units.specs.Showing.{ShowsNames};
 
 use crate::beside::Beside;
 use crate::emitted::{Emitted, Stored, Target};
 use crate::joining::{push_next, word_unit};
-use crate::named::is_thumb;
-use asm_instructions::scenes::stands_at;
+use crate::named::{is_thumb, stands_at};
 use asm_instructions::values::value_there;
 use asm_model::{Expr, Value};
+use asm_names::KnownNames;
+use asm_sets::NameRefs;
 use sdt_fault::kinds::LineKind;
 use sdt_fault::{NoMemory, Text};
 use std::alloc::Global;
 
 /// Whether a symbol counts one more in a word: a label of Thumb code that is no datum.
-fn counts_one(beside: &Beside<'_>, symbol: &Text) -> bool
-    ensures { result ≡ marks.counts_one beside.now.data.now (sees (context_of beside.now.scene)) symbol.now }
+fn counts_one(names: &KnownNames, data_names: &NameRefs<'_>, symbol: &Text) -> bool
+    ensures { (c : Context) (labels : List (List ℕ)) (area : Option ℕ) → ShowsNames names.now data_names.now area c labels → result ≡ marks.counts_one labels (sees c) symbol.now }
 {
-    if is_thumb(beside.scene.names, symbol) {
-        return !beside.data.has(symbol);
+    if is_thumb(names, symbol) {
+        return !data_names.has(symbol);
     }
     false
 }
@@ -40,8 +42,14 @@ fn thumb_bit(counts: bool) -> u32
 }
 
 /// A word with a symbol plus a number: of the label's area where it is of this source, and else of the symbol.
-fn placed(beside: &Beside<'_>, symbol: Text, plus: u32, place: Option<(u32, u32)>) -> Stored
-    ensures { stored_of result ≡ units.placed (context_of beside.now.scene) beside.now.data.now symbol plus place }
+fn placed(
+    names: &KnownNames,
+    data_names: &NameRefs<'_>,
+    symbol: Text,
+    plus: u32,
+    place: Option<(u32, u32)>,
+) -> Stored
+    ensures { (c : Context) (labels : List (List ℕ)) (area : Option ℕ) → ShowsNames names.now data_names.now area c labels → stored_of result ≡ units.placed c labels symbol plus place }
 {
     match place {
         None => Stored {
@@ -49,7 +57,7 @@ fn placed(beside: &Beside<'_>, symbol: Text, plus: u32, place: Option<(u32, u32)
             target: Target::Symbol(symbol),
         },
         Some((area, offset)) => {
-            let bit = thumb_bit(counts_one(beside, &symbol));
+            let bit = thumb_bit(counts_one(names, data_names, &symbol));
             Stored {
                 number: offset.wrapping_add(plus).wrapping_add(bit),
                 target: Target::Area(area),
@@ -58,9 +66,14 @@ fn placed(beside: &Beside<'_>, symbol: Text, plus: u32, place: Option<(u32, u32)
     }
 }
 
-/// What a word with a value holds.
-pub fn stored(beside: &Beside<'_>, value: Result<Value, LineKind>) -> Result<Stored, LineKind>
-    ensures { mapped stored_of result ≡ units.stored (context_of beside.now.scene) beside.now.data.now value }
+/// What a word with a value holds, where the empty symbol is the start of this area.
+pub fn stored(
+    names: &KnownNames,
+    data_names: &NameRefs<'_>,
+    area: Option<u32>,
+    value: Result<Value, LineKind>,
+) -> Result<Stored, LineKind>
+    ensures { (c : Context) (labels : List (List ℕ)) → ShowsNames names.now data_names.now area c labels → mapped stored_of result ≡ units.stored c labels value }
 {
     match value {
         Ok(Value::Number(number)) => Ok(Stored {
@@ -68,8 +81,8 @@ pub fn stored(beside: &Beside<'_>, value: Result<Value, LineKind>) -> Result<Sto
             target: Target::Nothing,
         }),
         Ok(Value::Place { symbol, plus }) => {
-            let place = stands_at(&beside.scene, &symbol);
-            Ok(placed(beside, symbol, plus, place))
+            let place = stands_at(names, area, &symbol);
+            Ok(placed(names, data_names, symbol, plus, place))
         }
         Ok(_) => Err(LineKind::WrongType),
         Err(kind) => Err(kind),
@@ -85,7 +98,9 @@ fn word(
     ensures { IfOk result (λ word. mapped emitted_of word ≡ mapped (λ w. units.Word w) (units.stored (context_of beside.now.scene) beside.now.data.now (value_of (context_of beside.now.scene) operand.now))) }
 {
     let value = value_there(alloc, &beside.scene, operand)?;
-    Ok(word_unit(stored(beside, value)))
+    let scene = &beside.scene;
+    let stored = stored(scene.names, beside.data, scene.line.place.area, value);
+    Ok(word_unit(stored))
 }
 
 /// The words of DCD and DCDU.

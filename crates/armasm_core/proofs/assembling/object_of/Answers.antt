@@ -24,5 +24,5 @@ pub returns-clause-made : goal.returns-clause-made
 returns-clause-made c =
     let fit = c.requires.fit in
     let sound = c.in_ok-layout.ensures.1 in
-    makes c.args.source.now c.args.reading c.emit.result c.in_ok-layout.ensures.0
+    makes c.args.source.now c.args.flats.now c.args.reading c.emit.result c.in_ok-layout.ensures.0
     (c.emit.ensures.emitted (said_by c.args.reading) sound.layout fit.said sound.none (c.sources_keep_states.ensures (said_by c.args.reading) fit.states))

@@ -1,18 +1,24 @@
-use Rattle.std.proofs.Common.{◌-◌, ◌∷◌, ◌∙◌, List, sym, ap, subst, length, map, take, drop}
+use Rattle.std.proofs.Common.{◌≡◌, ◌-◌, ◌∷◌, ◌∙◌, List, sym, ap, subst, length, map, take, drop}
 use Rattle.std.proofs.lemmas.Result.{err_from_is_err_and}
 use Rattle.asm_model.specs.declared.statements.Statement.{Statement}
 use Rattle.asm_layout.specs.declared.laid.LaidArea.{LaidArea}
 use Rattle.asm_layout.specs.declared.laid.LaidStatement.{LaidStatement}
-use Rattle.source_model.specs.Objects.{source_of, things_behind}
+use Rattle.source_model.specs.Objects.{source_of}
 use Rattle.source_model.specs.Registers.{register_in}
 use Rattle.armasm_core.specs.Gathered.{AllLaidSaid}
 use Rattle.armasm_core.specs.Whole.{IsHere}
 use Rattle.armasm_core.proofs.SetLemmas.{said_first}
-use Rattle.armasm_core.specs.Drafting.{frame_of, pieces_put}
-use Rattle.armasm_core.specs.Emission.{IsEmittable, IsGrown}
-use Rattle.armasm_core.proofs.EmitLemmas.{apart_there, grown_first, grown_all, grown_more, next_there, put_there, told_here}
-use Rattle.armasm_core.proofs.StandLemmas.{emittable, next_stands}
+use Rattle.armasm_core.specs.Drafting.{frame_of, frames, pieces_put}
+use Rattle.armasm_core.specs.Emission.{IsEmittable, IsGrown, things_so_far}
+use Rattle.armasm_core.specs.Pools.{HoldPools, PoolsCanStand}
+use Rattle.armasm_core.proofs.EmitLemmas.{apart_there, grown_first, grown_all, grown_more, next_there, pools_first, put_there, told_here, words_apart}
+use Rattle.armasm_core.proofs.StandLemmas.{emittable, next_stands, pools_stand, shares}
 use Rattle.armasm_core.proofs.emission.grown.Goals as goal
+
+pub all_started-requires-clause-stand : goal.all_started-requires-clause-stand
+all_started-requires-clause-stand c =
+    subst (PoolsCanStand c.args.whole.now c.args.symbols.now) (sym c.as_slice-areas.ensures)
+    (pools_stand c.args.layout.now c.args.whole.now c.args.symbols.now c.requires.source)
 
 pub lines-init : goal.lines-init
 lines-init c =
@@ -21,12 +27,16 @@ lines-init c =
     let names = c.args.symbols.now in
     let known = c.new-registers.result in
     let gs = c.in_ok-growing.growing.items in
+    let same : frames gs ≡ map frame_of l.areas = c.in_ok-growing.ensures.frames ∙ ap (map frame_of) c.as_slice-areas.ensures in
+    let words : HoldPools w names l.areas gs = subst (λ (xs : List LaidArea). HoldPools w names xs gs) c.as_slice-areas.ensures c.in_ok-growing.ensures.words in
     let grown : (statements : List Statement) → IsEmittable statements l w → IsGrown statements names c.as_slice-left.result.now known gs = λ statements j.
     subst (λ (xs : List LaidStatement). IsGrown statements names xs known gs) (sym c.as_slice-left.ensures)
     (grown_first statements l w names known gs j (λ q. ap (register_in q) c.new-registers.ensures)
-    (c.in_ok-growing.ensures.empty names)) in (
+    (pools_first statements names l.areas gs j.layout.areas same
+    (words (source_of statements) (shares statements l.areas w j.whole)
+    (words_apart c.sources_stand_apart.ensures statements l.areas j.sound j.states j.layout.areas)))) in (
       subst AllLaidSaid (sym c.as_slice-left.ensures) c.requires.said,
-      c.in_ok-growing.ensures.frames ∙ ap (map frame_of) c.as_slice-areas.ensures,
+      same,
       grown,
       record { source = c.requires.source; grown = grown c.requires.source.source.statements (emittable l w names c.requires.source) },
     )
@@ -82,10 +92,10 @@ lines-preserved c =
     let put = c.in_ok-units-in-len1-up.ensures statements n.before n.rest n.line
     (subst (λ (areas : List LaidArea). IsHere statements areas w known n.before n.rest n.line x) (sym c.as_slice-areas.ensures) n.here) in
     let pieces = put_there statements l w names x more known gs n u us c.as_slice.ensures.value put in
-    let apart = apart_there c.sources_stand_apart.ensures statements j.sound j.states n.before n.rest n.line x.area
-    (pieces_put x.offset us u.literal) n.here.parts n.here.line.area pieces in
+    let apart = apart_there c.sources_stand_apart.ensures statements j.sound j.states n.before n.rest n.line x.place.area
+    (pieces_put x.place.offset us) n.here.parts n.here.line.place.area pieces in
     grown_more statements l w names x more known c.give.new.known gs c.put_line.new.growing.items n u us c.as_slice.ensures.value put
-    (c.in_ok-put_line-in-len1-up.ensures.more (λ area. things_behind (source_of statements) area n.before (n.line ∷ n.rest)) n.drafts apart)
+    (c.in_ok-put_line-in-len1-up.ensures.more (things_so_far (source_of statements) n.before (n.line ∷ n.rest)) n.drafts apart)
     c.in_ok-give-in-len1-up.ensures in (
       (said_first left x c.lines.invariant.0 c.in-len1-up.len_at_least c.line-item.is).1,
       c.put_line.ensures.frames ∙ c.lines.invariant.1,
