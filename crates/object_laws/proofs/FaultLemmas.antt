@@ -1,9 +1,10 @@
 -- What a line of a source without faults keeps, in the pass of layout and in that of values.
-use Rattle.std.proofs.Common.{◌≡◌, ℕ, ◌+◌, List, [], ◌∷◌, ◌++◌, append-nil, refl, subst, None, nat_lt}
+use Rattle.std.proofs.Common.{◌≡◌, ℕ, ◌+◌, List, [], ◌∷◌, ◌++◌, append-nil, refl, ◌∙◌, subst, None, nat_lt}
 use Rattle.std.specs.Prelude.{Result, Ok, Err}
 use Rattle.sdt_fault.specs.declared.kinds.LineKind.{LineKind}
 use Rattle.sdt_fault.specs.declared.kinds.LineKind.TheVariants.{Constant, TooMany}
 use Rattle.asm_model.specs.declared.statements.Statement.{Statement}
+use Rattle.asm_model.specs.declared.values.Value.{Value}
 use Rattle.asm_model.specs.Kinds.{told_kind}
 use Rattle.asm_model.specs.Exprs.{has_large}
 use Rattle.asm_model.specs.Labels.{defined_by}
@@ -11,15 +12,19 @@ use Rattle.asm_model.specs.Laid.{LaidLine, statements_of, taken, pieces_of, reve
 use Rattle.asm_model.specs.LayoutKinds.{fault_kinds, kind_if, map_kinds, no_area_kinds, contents_kinds, contents_behind, area_kinds, name_kinds, settled_kinds, first_equal, state_kinds, area_bytes, layout_kinds, told_at, first_fault, entry_kinds, literal_kinds, first_late, settled, equals_in}
 use Rattle.asm_model.specs.Marks.{datum_names}
 use Rattle.asm_model.specs.Offsets.{area_size}
+use Rattle.asm_model.specs.Symbols.{literal_value}
 use Rattle.layout_laws.proofs.SoundLemmas.{both_empty, or_none, told_none}
-use Rattle.source_model.specs.Objects.{in_order}
+use Rattle.source_model.specs.Contexts.{sees}
+use Rattle.source_model.specs.Objects.{source_of, in_order, literal_stored}
 use Rattle.source_model.specs.Registers.{register_names}
 use Rattle.source_model.specs.SourceFaults.{first_laid, layout_faults, context_of, word_of, first_valued, value_faults}
-use Rattle.source_model.specs.Units.{Emitted, units}
+use Rattle.source_model.specs.Units.{Emitted, Stored, stored, units}
 use Rattle.source_model.specs.ValueKinds.{value_kinds, statement_kinds, literal_kinds as value_literal_kinds}
 use Rattle.source_laws.specs.Laws.{word_among, context_behind}
+use Rattle.source_laws.proofs.AgreeLemmas.{literal_stored_there}
 use Rattle.source_laws.proofs.FaultlessLemmas.{layout_sound}
 use Rattle.source_laws.proofs.LineLemmas.{line_fine}
+use Rattle.source_laws.proofs.PoolLemmas.{Loads}
 
 -- ---- lines in their order
 
@@ -112,3 +117,16 @@ line_valued ss none after before l e =
     let b = value_literal_kinds c (datum_names ss) (taken l.extent) in
     let p = both_empty (a ++ b) (statement_kinds c (sizes_of ss) l.statement.what) (valued_here ss none after before l e) in
     let q = both_empty a b p.0 in (known_result (units c (datum_names ss) l.seen (word_among after l before) l.statement.what) q.0, p.1)
+
+-- the word of each literal that a line loads is known
+pub literal_known : (ss : List Statement) → value_faults ss ≡ None → (area : ℕ) (v : Value) → Loads area (laid ss) v
+    → (x : Stored) × (literal_stored (source_of ss) area v ≡ Ok x)
+literal_known ss none area v h =
+    let l = h.loader in
+    let c = context_behind ss l h.before in
+    let a = fault_kinds (units c (datum_names ss) l.seen (word_among h.after l h.before) l.statement.what) in
+    let b = value_literal_kinds c (datum_names ss) (taken l.extent) in
+    let p = both_empty (a ++ b) (statement_kinds c (sizes_of ss) l.statement.what) (valued_here ss none h.after h.before l h.parts) in
+    let k = subst (λ e. value_literal_kinds c (datum_names ss) e ≡ []) h.extent (both_empty a b p.0).1 in
+    let r = known_result (stored c (datum_names ss) (literal_value (sees c) v)) k in
+    (r.0, literal_stored_there ss area h.after h.before l h.parts h.own v ∙ r.1)

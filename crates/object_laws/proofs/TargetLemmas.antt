@@ -26,12 +26,13 @@ use Rattle.asm_model.specs.Says.{on_both, mapped}
 use Rattle.asm_model.proofs.WordLemmas.{same_refl, same_true}
 use Rattle.asm_model.specs.Before.{with_name}
 use Rattle.asm_model.specs.Extents.{Extent, value_there}
-use Rattle.asm_model.specs.Laid.{LaidLine, taken, laid, final_names}
+use Rattle.asm_model.specs.Laid.{LaidLine, taken, pieces_of, laid, final_names}
 use Rattle.asm_model.specs.Marks.{datum_names}
+use Rattle.asm_model.specs.Offsets.{literal_word}
 use Rattle.asm_model.specs.Symbols.{literal_value, unless_placed, word_symbols, words_symbols, branch_symbols, arm_symbols, thumb_symbols, literal_symbols, symbols_in, listed_behind, symbols_of}
 use Rattle.source_model.specs.ArmForms.{arm_instruction, is_settled}
 use Rattle.source_model.specs.Contexts.{Context, sees, value_of, number_in, and_then}
-use Rattle.source_model.specs.Objects.{Piece, unit_bytes, units_from, or_none, source_of, IsAmong, StandsIn}
+use Rattle.source_model.specs.Objects.{Piece, unit_bytes, units_from, or_none, source_of, in_order, literal_stored, IsAmong, StandsIn}
 use Rattle.source_model.specs.PseudoForms.{pseudo_instructions}
 use Rattle.source_model.specs.ThumbForms.{thumb_instruction, thumb_pseudo}
 use Rattle.source_model.specs.declared.codes.ThumbCode.{ThumbCode}
@@ -41,7 +42,7 @@ use Rattle.source_laws.specs.Laws.{word_among, context_behind}
 use Rattle.source_laws.proofs.AgreeLemmas.{line_area, literal_stored_there}
 use Rattle.source_laws.proofs.FaultlessLemmas.{layout_sound}
 use Rattle.source_laws.proofs.ListedLemmas.{OwnUnit}
-use Rattle.source_laws.proofs.PoolLemmas.{PoolWord, unit_or_word}
+use Rattle.source_laws.proofs.PoolLemmas.{Loads, PoolWord, unit_or_word, literal_stands}
 use Rattle.source_laws.proofs.SizeLemmas.{IsPseudo, loads_are_pseudo}
 use Rattle.source_laws.proofs.ThingLemmas.{known_extent}
 use Rattle.source_model.specs.SourceFaults.{layout_faults}
@@ -300,3 +301,11 @@ symbols_are_listed ss none area p x = by_kind (unit_or_word ss area p x)
         let pseudo = loads_are_pseudo l.seen l.statement.what x.size w.value (known_extent ss (layout_sound ss none) x.after x.before l x.parts ∙ ap Ok x.extent) in
         there x.after x.before l x.parts
         (unit_more (literal_symbols names l.line (taken l.extent)) (own l) p.1 (literal_fewer names l.line (taken l.extent) l.statement.what pseudo) literal)
+
+-- that of the word of each literal that a line loads too
+pub literal_listed : (ss : List Statement) → layout_faults ss ≡ None → (area : ℕ) (v : Value) → Loads area (laid ss) v
+    → (x : Stored) → literal_stored (source_of ss) area v ≡ Ok x → TargetListed (symbols_of (final_names (laid ss)) (laid ss)) x.target
+literal_listed ss none area v h x e =
+    symbols_are_listed ss none area
+    (literal_word area (pieces_of (h.loader ∷ h.before)) (pieces_of (in_order h.after [])) v, Word x)
+    (literal_stands ss area h.after h.before h.loader h.size v x h.parts h.own h.extent e)
