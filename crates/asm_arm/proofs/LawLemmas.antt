@@ -6,18 +6,16 @@ use Rattle.sdt_word.specs.declared.codes.Condition.{Condition}
 use Rattle.sdt_word.specs.declared.codes.ShiftKind.{ShiftKind}
 use Rattle.arm_isa.specs.declared.instr.Operation.{Operation}
 use Rattle.arm_isa.specs.declared.instr.HalfKind.{HalfKind}
-use Rattle.asm_model.specs.declared.lines.Flat.{Flat}
+use Rattle.arm_isa.specs.declared.instr.HalfKind.TheVariants as half
 use Rattle.asm_model.specs.declared.tokens.Token.{Token}
 use Rattle.asm_model.specs.declared.exprs.Expr.{Expr}
 use Rattle.asm_model.specs.declared.operands.Register.{Register}
 use Rattle.asm_model.specs.declared.operands.Indexing.{Indexing}
-use Rattle.asm_model.specs.declared.statements.Statement.{Statement}
 use Rattle.asm_model.specs.declared.statements.What.{What}
 use Rattle.asm_model.specs.Grammar.{OneParse, ParsesTokens}
 use Rattle.asm_model.specs.Operands.{operands}
 use Rattle.asm_model.specs.Parts.{part_of, piece}
-use Rattle.asm_model.specs.Says.{mapped, Expression, sentence, unnamed, OneDirective}
-use Rattle.asm_model.specs.Tokens.{OneScan}
+use Rattle.asm_model.specs.Says.{mapped, Expression, unnamed}
 use Rattle.asm_arm.specs.declared.words.Mnemonic.{Mnemonic}
 use Rattle.asm_arm.specs.declared.words.Mnemonic.TheVariants as mnemonic
 use Rattle.asm_arm.specs.declared.words.Shape.{Shape}
@@ -29,7 +27,8 @@ use Rattle.asm_arm.specs.declared.addresses.Addressed.{Addressed}
 use Rattle.asm_arm.specs.Addresses.{ReadsPlainOffset, ReadsOffset, ReadsAt, ReadsScaledAt, ReadsInside, ReadsBracketed, ReadsBefore, ReadsBehind, ReadsAfter, bracketed, base}
 use Rattle.asm_arm.specs.Lines as lines
 use Rattle.asm_arm.specs.Operands.{Cuts, none, one, two, three, four, more, cut, ReadsAmount, ReadsKind, ReadsScale, ReadsPlain, ReadsSecond}
-use Rattle.asm_arm.specs.Says.{SaysWords, SaysTokens, SaysOr, SaysScanned, OneArm}
+use Rattle.asm_arm.specs.Says.{ReadsArm}
+use Rattle.asm_arm.proofs.SayingLemmas.{OneOperation}
 use Rattle.asm_arm.specs.Words.{operation_named, shape_of}
 
 one_value : OneParse → (text : List ℕ) (ts : List Token) (a b : Result Expr LineKind) → ParsesTokens text ts a → ParsesTokens text ts b → a ≡ b
@@ -132,7 +131,7 @@ one_sum law text c o s more a b p q = p ∙ sym q
 
 one_shape : OneParse → (text : List ℕ) (c : Condition) (o : Operation) (s : Bool) (h : Shape) (os : Cuts) (a b : Result What LineKind) → lines.ReadsShape text c o s h os a → lines.ReadsShape text c o s h os b → a ≡ b
 one_shape law text c o s shape.Move os a b p q = one_move law text c o s os a b p q
-one_shape law text c o s shape.Comparison os a b p q = one_comparison law text c o s os a b p q
+one_shape law text c o s shape.Comparison os a b p q = one_comparison law text c o true os a b p q
 one_shape law text c o s shape.Sum os a b p q = one_sum law text c o s os a b p q
 
 one_status_value : OneParse → (text : List ℕ) (c : Condition) (f : Result (Bool × ℕ) LineKind) (m : List Token) (o : Option (List Token)) (a b : Result What LineKind)
@@ -186,21 +185,13 @@ one_half law text c l k (three d x y) a b p q = one_made (ReadsAfter text x y No
 one_half law text c l k (four d x y s) a b p q = p ∙ sym q
 one_half law text c l k more a b p q = p ∙ sym q
 
-one_address : OneParse → (text : List ℕ) (c : Condition) (os : Cuts) (a b : Result What LineKind) → lines.ReadsAddress text c os a → lines.ReadsAddress text c os b → a ≡ b
-one_address law text c none a b p q = p ∙ sym q
-one_address law text c (one d) a b p q = p ∙ sym q
-one_address law text c (two d e) a b p q = one_made (ParsesTokens text e) _ (one_value law text e) a b p q
-one_address law text c (three d x y) a b p q = p ∙ sym q
-one_address law text c (four d x y s) a b p q = p ∙ sym q
-one_address law text c more a b p q = p ∙ sym q
-
-one_long_address : OneParse → (text : List ℕ) (c : Condition) (os : Cuts) (a b : Result What LineKind) → lines.ReadsLongAddress text c os a → lines.ReadsLongAddress text c os b → a ≡ b
-one_long_address law text c none a b p q = p ∙ sym q
-one_long_address law text c (one d) a b p q = p ∙ sym q
-one_long_address law text c (two d e) a b p q = one_made (ParsesTokens text e) _ (one_value law text e) a b p q
-one_long_address law text c (three d x y) a b p q = p ∙ sym q
-one_long_address law text c (four d x y s) a b p q = p ∙ sym q
-one_long_address law text c more a b p q = p ∙ sym q
+one_address : OneParse → (text : List ℕ) (c : Condition) (long : Bool) (os : Cuts) (a b : Result What LineKind) → lines.ReadsAddress text c long os a → lines.ReadsAddress text c long os b → a ≡ b
+one_address law text c long none a b p q = p ∙ sym q
+one_address law text c long (one d) a b p q = p ∙ sym q
+one_address law text c long (two d e) a b p q = one_made (ParsesTokens text e) _ (one_value law text e) a b p q
+one_address law text c long (three d x y) a b p q = p ∙ sym q
+one_address law text c long (four d x y s) a b p q = p ∙ sym q
+one_address law text c long more a b p q = p ∙ sym q
 
 one_word : OneParse → (text : List ℕ) (m : Mnemonic) (c : Condition) (ts : List Token) (a b : Result What LineKind) → lines.ReadsWord text m c ts a → lines.ReadsWord text m c ts b → a ≡ b
 one_word law text (mnemonic.Data o s) c ts a b p q = one_shape law text c o s (shape_of o) (cut (operands text ts)) a b p q
@@ -211,12 +202,13 @@ one_word law text mnemonic.BranchExchange c ts a b p q = p ∙ sym q
 one_word law text mnemonic.ReadStatus c ts a b p q = p ∙ sym q
 one_word law text mnemonic.WriteStatus c ts a b p q = one_write_status law text c (cut (operands text ts)) a b p q
 one_word law text (mnemonic.Transfer l w t) c ts a b p q = one_transfer law text c l w t (cut (operands text ts)) a b p q
-one_word law text (mnemonic.TransferHalf l k) c ts a b p q = one_half law text c l k (cut (operands text ts)) a b p q
+one_word law text (mnemonic.LoadHalf k) c ts a b p q = one_half law text c true k (cut (operands text ts)) a b p q
+one_word law text mnemonic.StoreHalf c ts a b p q = one_half law text c false half.Half (cut (operands text ts)) a b p q
 one_word law text (mnemonic.TransferBlock l k) c ts a b p q = p ∙ sym q
 one_word law text (mnemonic.Branch l) c ts a b p q = one_expression law text _ ts a b p q
 one_word law text mnemonic.SoftwareInterrupt c ts a b p q = one_expression law text _ _ a b p q
-one_word law text mnemonic.Address c ts a b p q = one_address law text c (cut (operands text ts)) a b p q
-one_word law text mnemonic.LongAddress c ts a b p q = one_long_address law text c (cut (operands text ts)) a b p q
+one_word law text mnemonic.Address c ts a b p q = one_address law text c false (cut (operands text ts)) a b p q
+one_word law text mnemonic.LongAddress c ts a b p q = one_address law text c true (cut (operands text ts)) a b p q
 one_word law text mnemonic.NoOperation c ts a b p q = p ∙ sym q
 one_word law text mnemonic.FloatingPoint c ts a b p q = p ∙ sym q
 
@@ -224,29 +216,5 @@ one_reading : OneParse → (text : List ℕ) (k : LineKind) (m : Option (Mnemoni
 one_reading law text k None ts a b p q = p ∙ sym q
 one_reading law text k (Some m) ts a b p q = one_word law text m.0 m.1 ts a b p q
 
-one_words : OneParse → (flat : Flat) (label o : Option Token) (ts : List Token) (a b : Result (Option Statement) LineKind) → SaysWords flat label o ts a → SaysWords flat label o ts b → a ≡ b
-one_words law flat label None ts a b p q = p ∙ sym q
-one_words law flat label (Some t) ts a b p q =
-    one_made (lines.Reads flat.text (unnamed t.kind) (operation_named (piece flat.text t)) ts) _
-    (one_reading law flat.text (unnamed t.kind) (operation_named (piece flat.text t)) ts) a b p q
-
-one_or : OneParse → (flat : Flat) (ts : List Token) (d a b : Result (Option Statement) LineKind) → SaysOr flat ts d a → SaysOr flat ts d b → a ≡ b
-one_or law flat ts (Ok None) a b p q = one_words law flat (sentence ts).label (sentence ts).operation (sentence ts).behind a b p q
-one_or law flat ts (Ok (Some s)) a b p q = p ∙ sym q
-one_or law flat ts (Err k) a b p q = p ∙ sym q
-
-one_of_tokens : OneParse → OneDirective → (flat : Flat) (ts : List Token) (a b : Result (Option Statement) LineKind) → SaysTokens flat ts a → SaysTokens flat ts b → a ≡ b
-one_of_tokens law directive flat ts a b p q =
-    let same_directive = directive flat ts p.0 q.0 p.1 q.1 in
-    let other : SaysOr flat ts p.0 b = rw (sym same_directive) at q.2 in
-    one_or law flat ts p.0 a b p.2 other
-
-one_scanned : OneParse → OneDirective → (flat : Flat) (s : Result (List Token) LineKind) (a b : Result (Option Statement) LineKind) → SaysScanned flat s a → SaysScanned flat s b → a ≡ b
-one_scanned law directive flat (Ok ts) a b p q = one_of_tokens law directive flat ts a b p q
-one_scanned law directive flat (Err k) a b p q = p ∙ sym q
-
-pub one_line : OneScan → OneParse → OneDirective → OneArm
-one_line scan law directive flat a b p q =
-    let same_scan = scan flat.text p.0 q.0 p.1 q.1 in
-    let other : SaysScanned flat p.0 b = rw (sym same_scan) at q.2 in
-    one_scanned law directive flat p.0 a b p.2 other
+pub one_operation : OneParse → OneOperation ReadsArm
+one_operation law text t ts a b p q = one_reading law text (unnamed t.kind) (operation_named (piece text t)) ts a b p q

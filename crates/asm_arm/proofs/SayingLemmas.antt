@@ -1,43 +1,81 @@
--- What a line says, from its readings.
-use Rattle.std.proofs.Common.{◌≡◌, ℕ, List, refl, ◌∙◌, ap, Option, Some, None}
-use Rattle.std.specs.Prelude.{Result, Ok, Err}
+-- What a line says, for both states.
+use Rattle.std.proofs.Common.{◌≡◌, ℕ, List, refl, sym, ◌∙◌, ap, subst, Option, Some, None}
+use Rattle.std.specs.Prelude.{Result, Ok, Err, IfOk}
 use Rattle.sdt_fault.specs.declared.answer.Fault.{Fault}
 use Rattle.sdt_fault.specs.declared.answer.Fault.TheVariants.{Refused, ReadFault, NoMemory}
 use Rattle.sdt_fault.specs.declared.kinds.LineKind.{LineKind}
 use Rattle.asm_model.specs.declared.lines.Flat.{Flat}
 use Rattle.asm_model.specs.declared.tokens.Token.{Token}
+use Rattle.asm_model.specs.declared.statements.Statement.{Statement}
 use Rattle.asm_model.specs.declared.statements.What.{What}
-use Rattle.asm_model.specs.declared.statements.What.TheVariants as what
-use Rattle.asm_model.specs.Says.{mapped, Sentence}
+use Rattle.asm_model.specs.declared.directives.LabelNeed.TheVariants as need
+use Rattle.asm_model.specs.Says.{on_both, mapped, label_field, sentence, OneDirective}
+use Rattle.asm_model.specs.Tokens.{first_due}
 use Rattle.asm_model.specs.Told.{Told, ToldFault}
-use Rattle.asm_arm.specs.Says.{statement, SaysWords, SaysInstruction}
-use Rattle.asm_arm.specs.Steps.{IsLineRead, IsWordsRead}
+use Rattle.asm_arm.specs.Says.{Said, statement, within_limit, AreTokens, SaysOperation, SaysWords, SaysOr, SaysTokens, SaysAll, SaysLine}
+use Rattle.asm_arm.specs.Operands.{both}
 use Rattle.asm_expr.proofs.SayingLemmas.{made_of_both}
+use Rattle.asm_lines.proofs.ScanLemmas.{one_list}
 
--- one outcome for another
-pub fault_as : {X Y : Type 0} (source : List ℕ) (number : ℕ) (P : Result X LineKind → Type 0) (Q : Result Y LineKind → Type 0) (f : Fault)
-    → ((k : LineKind) → P (Err k) → Q (Err k)) → ToldFault source number P f → ToldFault source number Q f
-fault_as source number P Q (Refused r) to h = (h.0, h.1, to h.0 h.2)
-fault_as source number P Q (ReadFault n) to h = h
-fault_as source number P Q NoMemory to h = tt
+-- ---- an answer for what was read
 
-pub told_as : {X : Type 0} (source : List ℕ) (number : ℕ) (P Q : Result X LineKind → Type 0) (r : Result X Fault)
-    → ((x : Result X LineKind) → P x → Q x) → Told source number P r → Told source number Q r
-told_as source number P Q (Ok x) to h = to (Ok x) h
-told_as source number P Q (Err f) to h = fault_as source number P Q f (λ k. to (Err k)) h
+told_fault : {E : Type 0} (source : List ℕ) (number : ℕ) (P : Said → Type 0) (s : Result Said E) (f : Fault) → IfOk s P → ToldFault source number (λ x. s ≡ Ok x) f → ToldFault source number P f
+told_fault source number P (Ok s) (Refused r) h k = let x : s ≡ Err k.0 = cc (k.2) in (k.0, k.1, subst P x h)
+told_fault source number P (Err e) (Refused r) h k = absurd (let x = k.2 in cc)
+told_fault source number P s (ReadFault n) h k = k
+told_fault source number P s NoMemory h k = tt
 
-made_twice : {A B C : Type 0} (f : B → C) (g : A → B) (a : Result A LineKind) → mapped f (mapped g a) ≡ mapped (λ x. f (g x)) a
-made_twice f g (Ok a) = refl
-made_twice f g (Err k) = refl
+pub told_said : {E : Type 0} (source : List ℕ) (number : ℕ) (P : Said → Type 0) (s : Result Said E) (r : Result (Option Statement) Fault) → IfOk s P → Told source number (λ x. s ≡ Ok x) r
+    → Told source number P r
+told_said source number P (Ok s) (Ok x) h k = let e : s ≡ Ok x = cc in subst P e h
+told_said source number P (Err e) (Ok x) h k = absurd (cc)
+told_said source number P s (Err f) h k = told_fault source number P s f h k
 
-line_said : (flat : Flat) (label operation : Option Token) (ts : List Token) (r : Result (Option (List ℕ) × What) LineKind)
-    → IsLineRead flat.text label operation ts r → SaysWords flat label operation ts (mapped (λ p. statement flat p.0 p.1) r)
-line_said flat label (Some t) ts r h =
-    (h.0, h.1, ap (mapped (λ p. statement flat p.0 p.1)) h.2 ∙ made_of_both (λ p. statement flat p.0 p.1) (λ x y. (x, y)) _ h.0)
-line_said flat (Some l) None ts r h =
-    ap (mapped (λ p. statement flat p.0 p.1)) h ∙ made_twice (λ p. statement flat p.0 p.1) (λ x. (x, what.Nothing)) _
-line_said flat None None ts r h = absurd h
+-- ---- a line with an operation
 
-pub words_said : (flat : Flat) (text : List ℕ) (s z : Sentence) (r : Result (Option (List ℕ) × What) LineKind) → text ≡ flat.text → z ≡ s
-    → IsWordsRead text z (Some r) → SaysInstruction flat s (mapped (λ p. statement flat p.0 p.1) r)
-words_said flat text s z r e es h = line_said flat s.label s.operation s.behind r (rw (e, es) at h)
+pub operation_said : (Operation : List ℕ → Token → List Token → Result What LineKind → Type 0) (flat : Flat) (label : Option Token) (t : Token) (ts : List Token) (text : List ℕ)
+    (l : Result (Option (List ℕ)) LineKind) (w : Result What LineKind) (r : Said) → text ≡ flat.text → l ≡ label_field need.Optional text label → Operation text t ts w
+    → r ≡ mapped (λ p. statement flat p.0 p.1) (both l w) → SaysOperation Operation flat label t ts r
+operation_said Operation flat label t ts text l w r e h k m = (
+  w,
+  subst (λ z. Operation z t ts w) e k,
+  m ∙ made_of_both (λ p. statement flat p.0 p.1) (λ x y. (x, y)) l w ∙ ap (λ x. on_both (statement flat) x w) (h ∙ ap (λ z. label_field need.Optional z label) e),
+)
+
+-- ---- a line says one thing
+
+-- an operation and the tokens behind it say one thing
+abbrev pub OneOperation : (List ℕ → Token → List Token → Result What LineKind → Type 0) → Type 0
+OneOperation Operation = (text : List ℕ) (t : Token) (ts : List Token) (a b : Result What LineKind) → Operation text t ts a → Operation text t ts b → a ≡ b
+
+one_words : (Operation : List ℕ → Token → List Token → Result What LineKind → Type 0) → OneOperation Operation → (flat : Flat) (label o : Option Token) (ts : List Token) (a b : Said)
+    → SaysWords Operation flat label o ts a → SaysWords Operation flat label o ts b → a ≡ b
+one_words Operation law flat label None ts a b p q = p ∙ sym q
+one_words Operation law flat label (Some t) ts a b p q = p.2 ∙ ap (on_both (statement flat) _) (law flat.text t ts p.0 q.0 p.1 q.1) ∙ sym q.2
+
+one_or : (Operation : List ℕ → Token → List Token → Result What LineKind → Type 0) → OneOperation Operation → (flat : Flat) (ts : List Token) (d a b : Said)
+    → SaysOr Operation flat ts d a → SaysOr Operation flat ts d b → a ≡ b
+one_or Operation law flat ts (Ok None) a b p q = one_words Operation law flat (sentence ts).label (sentence ts).operation (sentence ts).behind a b p q
+one_or Operation law flat ts (Ok (Some s)) a b p q = p ∙ sym q
+one_or Operation law flat ts (Err k) a b p q = p ∙ sym q
+
+one_of_tokens : (Operation : List ℕ → Token → List Token → Result What LineKind → Type 0) → OneOperation Operation → OneDirective → (flat : Flat) (ts : List Token) (a b : Said)
+    → SaysTokens Operation flat ts a → SaysTokens Operation flat ts b → a ≡ b
+one_of_tokens Operation law directive flat ts a b p q =
+    one_or Operation law flat ts p.0 a b p.2 (subst (λ d. SaysOr Operation flat ts d b) (sym (directive flat ts p.0 q.0 p.1 q.1)) q.2)
+
+one_all : (Operation : List ℕ → Token → List Token → Result What LineKind → Type 0) → OneOperation Operation → OneDirective → (flat : Flat) (o : Option (List Token)) (a b : Said)
+    → SaysAll Operation flat o a → SaysAll Operation flat o b → a ≡ b
+one_all Operation law directive flat None a b p q = p ∙ sym q
+one_all Operation law directive flat (Some ts) a b p q = p.2 ∙ ap (within_limit _) (one_of_tokens Operation law directive flat ts p.0 q.0 p.1 q.1) ∙ sym q.2
+
+one_scan : (text : List ℕ) (a b : Option (List Token)) → AreTokens text a → AreTokens text b → a ≡ b
+one_scan text (Some ts) (Some us) h k = ap Some (one_list ts us (first_due text) 0 text h k)
+one_scan text (Some ts) None h k = absurd (k ts h)
+one_scan text None (Some us) h k = absurd (h us k)
+one_scan text None None h k = refl
+
+pub one_line : (Operation : List ℕ → Token → List Token → Result What LineKind → Type 0) → OneOperation Operation → OneDirective → (flat : Flat) (a b : Said)
+    → SaysLine Operation flat a → SaysLine Operation flat b → a ≡ b
+one_line Operation law directive flat a b p q =
+    one_all Operation law directive flat p.0 a b p.2 (subst (λ o. SaysAll Operation flat o b) (sym (one_scan flat.text p.0 q.0 p.1 q.1)) q.2)

@@ -1,17 +1,18 @@
 -- What the tokens behind an operation word say, in each form of an ARM line. The forms are those of the ARM SDT 2.50
 -- Reference Guide, chapter on the assembler: data processing, multiplication, transfers, branches, status registers,
--- and the pseudo-instructions. A form that the tokens don't have is Syntax. Values are judged elsewhere.
-use Rattle.std.specs.Prelude.{◌≡◌, ℕ, List, [], ◌∷◌, codes, ◌==◌, not, ◌&&◌, Bool, true, false, if◌then◌else◌, Option, Some, None, Result, Ok, Err}
+-- and the pseudo-instructions. A form that the tokens don't have is Syntax. Registers are judged by the row and not here,
+-- and so are values.
+use Rattle.std.specs.Prelude.{◌≡◌, ℕ, List, [], ◌∷◌, codes, not, ◌&&◌, Bool, true, false, Option, Some, None, Result, Ok, Err}
 use Rattle.sdt_fault.specs.declared.kinds.LineKind.{LineKind}
-use Rattle.sdt_fault.specs.declared.kinds.LineKind.TheVariants.{Syntax, FloatingPoint, BadOperand}
+use Rattle.sdt_fault.specs.declared.kinds.LineKind.TheVariants.{Syntax, FloatingPoint}
 use Rattle.sdt_word.specs.declared.codes.Condition.{Condition}
 use Rattle.arm_isa.specs.declared.instr.Operation.{Operation}
 use Rattle.arm_isa.specs.declared.instr.HalfKind.{HalfKind}
+use Rattle.arm_isa.specs.declared.instr.HalfKind.TheVariants as half
 use Rattle.asm_model.specs.declared.tokens.Token.{Token}
 use Rattle.asm_model.specs.declared.exprs.Expr.{Expr}
 use Rattle.asm_model.specs.declared.arm_lines.ArmLine.TheVariants as line
 use Rattle.asm_model.specs.declared.operands.Register.{Register}
-use Rattle.asm_model.specs.declared.operands.Register.TheVariants as register_is
 use Rattle.asm_model.specs.declared.operands.ListItem.{ListItem}
 use Rattle.asm_model.specs.declared.operands.Address.TheVariants as address
 use Rattle.asm_model.specs.declared.operands.Indexing.{Indexing}
@@ -33,7 +34,7 @@ use Rattle.asm_arm.specs.declared.addresses.Offset.TheVariants as offset_is
 use Rattle.asm_arm.specs.declared.addresses.Addressed.{Addressed}
 use Rattle.asm_arm.specs.Addresses.{zero, ReadsBefore, ReadsAfter, base, before_as, after_as, half_offset}
 use Rattle.asm_arm.specs.Lists as lists
-use Rattle.asm_arm.specs.Operands.{Cuts, one, two, three, four, cut, both, followed, without_first, no_register, register, ReadsSecond}
+use Rattle.asm_arm.specs.Operands.{Cuts, one, two, three, four, cut, both, followed, without_first, no_register, register, two_registers, three_registers, ReadsSecond}
 use Rattle.asm_arm.specs.Words.{shape_of}
 
 -- the signs in front of operands
@@ -61,7 +62,7 @@ abbrev pub ReadsData : List ℕ → Condition → Operation → Bool → Result 
 ReadsData text c o s rs x sh r =
     (y : Result Second LineKind) × ReadsSecond text x sh y × (r ≡ on_both (λ p z. data_line c o s p.0 p.1 z) rs y)
 
--- the operands of MOV and MVN, of comparisons, and of the others
+-- the operands of MOV and MVN, of comparisons, which always set the flags, and of the others
 abbrev pub ReadsMove : List ℕ → Condition → Operation → Bool → Cuts → Result What LineKind → Type 0
 ReadsMove text c o s (two d x) r = ReadsData text c o s (both (register text d) absent) x None r
 ReadsMove text c o s (three d x sh) r = ReadsData text c o s (both (register text d) absent) x (Some sh) r
@@ -73,29 +74,27 @@ ReadsComparison text c o s (three n x sh) r = ReadsData text c o s (both absent 
 ReadsComparison text c o s _ r = r ≡ Err Syntax
 
 abbrev pub ReadsSum : List ℕ → Condition → Operation → Bool → Cuts → Result What LineKind → Type 0
-ReadsSum text c o s (three d n x) r = ReadsData text c o s (both (register text d) (register text n)) x None r
-ReadsSum text c o s (four d n x sh) r = ReadsData text c o s (both (register text d) (register text n)) x (Some sh) r
+ReadsSum text c o s (three d n x) r = ReadsData text c o s (two_registers text d n) x None r
+ReadsSum text c o s (four d n x sh) r = ReadsData text c o s (two_registers text d n) x (Some sh) r
 ReadsSum text c o s _ r = r ≡ Err Syntax
 
 abbrev pub ReadsShape : List ℕ → Condition → Operation → Bool → Shape → Cuts → Result What LineKind → Type 0
 ReadsShape text c o s shape.Move os r = ReadsMove text c o s os r
-ReadsShape text c o s shape.Comparison os r = ReadsComparison text c o s os r
+ReadsShape text c o s shape.Comparison os r = ReadsComparison text c o true os r
 ReadsShape text c o s shape.Sum os r = ReadsSum text c o s os r
 
 -- Rd, Rm, Rs, and Rn where it accumulates
 abbrev pub multiply : List ℕ → Condition → Bool → Bool → Cuts → Result What LineKind
 multiply text c false s (three d m x) =
-    mapped (λ p. what.Arm (line.Multiply c false s p.0.0 p.0.1 p.1 no_register)) (both (both (register text d) (register text m)) (register text x))
+    mapped (λ p. what.Arm (line.Multiply c false s p.0.0 p.0.1 p.1 no_register)) (three_registers text d m x)
 multiply text c true s (four d m x n) =
-    mapped (λ p. what.Arm (line.Multiply c true s p.0.0 p.0.1 p.1.0 p.1.1))
-    (both (both (register text d) (register text m)) (both (register text x) (register text n)))
+    mapped (λ p. what.Arm (line.Multiply c true s p.0.0 p.0.1 p.1.0 p.1.1)) (both (two_registers text d m) (two_registers text x n))
 multiply text c a s _ = Err Syntax
 
 -- the low and the high half of the result, Rm and Rs
 abbrev pub multiply_long : List ℕ → Condition → Bool → Bool → Bool → Cuts → Result What LineKind
 multiply_long text c g a s (four l h m x) =
-    mapped (λ p. what.Arm (line.MultiplyLong c g a s p.0.0 p.0.1 p.1.0 p.1.1))
-    (both (both (register text l) (register text h)) (both (register text m) (register text x)))
+    mapped (λ p. what.Arm (line.MultiplyLong c g a s p.0.0 p.0.1 p.1.0 p.1.1)) (both (two_registers text l h) (two_registers text m x))
 multiply_long text c g a s _ = Err Syntax
 
 -- a base alone in brackets
@@ -106,7 +105,7 @@ based text (Some ts) = register text ts
 -- Rd, Rm and [Rn]
 abbrev pub swap : List ℕ → Condition → Bool → Cuts → Result What LineKind
 swap text c b (three d m a) =
-    mapped (λ p. what.Arm (line.Swap c b p.0.0 p.0.1 p.1)) (both (both (register text d) (register text m)) (based text (base text a)))
+    mapped (λ p. what.Arm (line.Swap c b p.0.0 p.0.1 p.1)) (both (two_registers text d m) (based text (base text a)))
 swap text c b _ = Err Syntax
 
 abbrev pub exchange : List ℕ → Condition → Cuts → Result What LineKind
@@ -209,23 +208,15 @@ abbrev pub numbered : List Token → Option (List Token) → List Token
 numbered ts (Some e) = e
 numbered ts None = ts
 
--- ADRL has no place in pc
-abbrev pub long_register : Register → Result Register LineKind
-long_register (register_is.Number n) = if n == 15 then Err BadOperand else Ok (register_is.Number n)
-long_register (register_is.Named s) = Ok (register_is.Named s)
+-- ADR and ADRL, of Rd and a label
+abbrev pub address_line : Condition → Bool → Register → Expr → What
+address_line c false rd e = what.Pseudo (pseudo.Address c rd e)
+address_line c true rd e = what.Pseudo (pseudo.LongAddress c rd e)
 
-abbrev pub ReadsAddressOf : List ℕ → (Register → Expr → What) → Result Register LineKind → List Token → Result What LineKind → Type 0
-ReadsAddressOf text make rd e r = (v : Result Expr LineKind) × ParsesTokens text e v × (r ≡ on_both make rd v)
-
--- Rd and a label
-abbrev pub ReadsAddress : List ℕ → Condition → Cuts → Result What LineKind → Type 0
-ReadsAddress text c (two d e) r = ReadsAddressOf text (λ rd x. what.Pseudo (pseudo.Address c rd x)) (register text d) e r
-ReadsAddress text c _ r = r ≡ Err Syntax
-
-abbrev pub ReadsLongAddress : List ℕ → Condition → Cuts → Result What LineKind → Type 0
-ReadsLongAddress text c (two d e) r =
-    ReadsAddressOf text (λ rd x. what.Pseudo (pseudo.LongAddress c rd x)) (followed (register text d) long_register) e r
-ReadsLongAddress text c _ r = r ≡ Err Syntax
+abbrev pub ReadsAddress : List ℕ → Condition → Bool → Cuts → Result What LineKind → Type 0
+ReadsAddress text c long (two d e) r =
+    (v : Result Expr LineKind) × ParsesTokens text e v × (r ≡ on_both (address_line c long) (register text d) v)
+ReadsAddress text c long _ r = r ≡ Err Syntax
 
 -- no operands
 abbrev pub idle : List Token → Result What LineKind
@@ -242,13 +233,14 @@ ReadsWord text mnemonic.BranchExchange c ts r = r ≡ exchange text c (cut (oper
 ReadsWord text mnemonic.ReadStatus c ts r = r ≡ read_status text c (cut (operands text ts))
 ReadsWord text mnemonic.WriteStatus c ts r = ReadsWriteStatus text c (cut (operands text ts)) r
 ReadsWord text (mnemonic.Transfer l b t) c ts r = ReadsTransfer text c l b t (cut (operands text ts)) r
-ReadsWord text (mnemonic.TransferHalf l k) c ts r = ReadsHalf text c l k (cut (operands text ts)) r
+ReadsWord text (mnemonic.LoadHalf k) c ts r = ReadsHalf text c true k (cut (operands text ts)) r
+ReadsWord text mnemonic.StoreHalf c ts r = ReadsHalf text c false half.Half (cut (operands text ts)) r
 ReadsWord text (mnemonic.TransferBlock l m) c ts r = r ≡ block text c l m (cut (operands text ts))
 ReadsWord text (mnemonic.Branch l) c ts r = Expression text (λ e. what.Arm (line.Branch c l e)) ts r
 ReadsWord text mnemonic.SoftwareInterrupt c ts r =
     Expression text (λ e. what.Arm (line.SoftwareInterrupt c e)) (numbered ts (without_first text hash ts)) r
-ReadsWord text mnemonic.Address c ts r = ReadsAddress text c (cut (operands text ts)) r
-ReadsWord text mnemonic.LongAddress c ts r = ReadsLongAddress text c (cut (operands text ts)) r
+ReadsWord text mnemonic.Address c ts r = ReadsAddress text c false (cut (operands text ts)) r
+ReadsWord text mnemonic.LongAddress c ts r = ReadsAddress text c true (cut (operands text ts)) r
 ReadsWord text mnemonic.NoOperation c ts r = r ≡ idle ts
 ReadsWord text mnemonic.FloatingPoint c ts r = r ≡ Err FloatingPoint
 

@@ -1,6 +1,6 @@
 -- Register lists, bases that are written back, and status registers. ARM SDT 2.50 Reference Guide, chapter on the
--- assembler. This project's: a name in the place of a status register that is none, or whose fields are not one or more
--- of f, s, x and c, each at most once, is BadOperand, and so is a range that falls.
+-- assembler. Registers are judged by the row, a range that falls too. This project's: a name in the place of a status
+-- register that is none, or whose fields are not one or more of f, s, x and c, each at most once, is BadOperand.
 use Rattle.std.specs.Prelude.{ℕ, ◌+◌, ◌*◌, List, [], ◌∷◌, length, take, drop, codes, nat_lt, nat_le, ◌==◌, ◌&&◌, Bool, true, false, if◌then◌else◌, Option, Some, None, Result, Ok, Err}
 use Rattle.std.specs.List.{count_by}
 use Rattle.std.specs.Char.{to_ascii_lowercase}
@@ -18,21 +18,15 @@ use Rattle.asm_model.specs.Forms.{same}
 use Rattle.asm_model.specs.Operands.{operands_at}
 use Rattle.asm_model.specs.Parts.{piece}
 use Rattle.asm_model.specs.Says.{on_both, mapped}
-use Rattle.asm_arm.specs.Operands.{both, followed, marked, between, register, register_of}
+use Rattle.asm_arm.specs.Operands.{marked, between, register, register_of}
 
 -- a base, and whether `!` stands behind it
 abbrev pub base : List ℕ → List Token → Result (Register × Bool) LineKind
 base text ts = mapped (λ rn. (rn, (marked text (codes "!") ts).1)) (register text (marked text (codes "!") ts).0)
 
--- a range of registers rises; that of names is judged elsewhere
-abbrev pub range : Register → Register → Result ListItem LineKind
-range (register_is.Number m) (register_is.Number n) =
-    if nat_lt n m then Err BadOperand else Ok (entry.Range (register_is.Number m) (register_is.Number n))
-range a b = Ok (entry.Range a b)
-
 -- a register to another
 abbrev pub range_of : Result Register LineKind → Result Register LineKind → Result ListItem LineKind
-range_of a b = followed (both a b) (λ p. range p.0 p.1)
+range_of a b = on_both (λ first last. entry.Range first last) a b
 
 -- an entry of a list: a register, or all from one to another
 abbrev pub item : List ℕ → List Token → Result ListItem LineKind

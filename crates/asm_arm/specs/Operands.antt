@@ -1,6 +1,6 @@
 -- The operands of ARM instructions: registers, and the second operand of data processing. Each says what the tokens of
--- an operand read as. Its value is judged elsewhere, and so is a name in the place of a register, which is one that an
--- RN directive gives. ARM SDT 2.50 Reference Guide, chapter on the assembler.
+-- an operand read as. Values are judged elsewhere, and so are registers, by the row that they stand in; a name in the place
+-- of one is that of an RN directive. ARM SDT 2.50 Reference Guide, chapter on the assembler.
 use Rattle.std.specs.Prelude.{◌≡◌, ℕ, ◌-◌, List, [], ◌∷◌, length, take, codes, Bool, true, false, if◌then◌else◌, Option, Some, None, Result, Ok, Err}
 use Rattle.std.specs.List.{slice_get}
 use Rattle.sdt_fault.specs.declared.kinds.LineKind.{LineKind}
@@ -103,6 +103,13 @@ abbrev pub register : List ℕ → List Token → Result Register LineKind
 register text [] = Err Syntax
 register text (t ∷ []) = register_of t.kind (piece text t)
 register text (t ∷ u ∷ ts) = Err Syntax
+
+-- two of them, and three
+abbrev pub two_registers : List ℕ → List Token → List Token → Result (Register × Register) LineKind
+two_registers text a b = both (register text a) (register text b)
+
+abbrev pub three_registers : List ℕ → List Token → List Token → List Token → Result ((Register × Register) × Register) LineKind
+three_registers text a b c = both (two_registers text a b) (register text c)
 
 -- the kind of a shift
 unfoldable pub shift_named : List ℕ → Option ShiftKind

@@ -234,7 +234,8 @@ long_suffix signs s = with_flags (flags_suffix s)
 
 abbrev pub half_of : Bool → Option HalfKind → Option Mnemonic
 half_of load None = None
-half_of load (Some k) = Some (mnemonic.TransferHalf load k)
+half_of true (Some k) = Some (mnemonic.LoadHalf k)
+half_of false (Some k) = Some mnemonic.StoreHalf
 
 abbrev pub word_of : Bool → Option (Bool × Bool) → Option Mnemonic
 word_of load None = None

@@ -16,10 +16,13 @@ ghost use Rattle.asm_model.specs.declared.operands.Address.TheVariants as addres
 
 use crate::addresses::base;
 use crate::lists;
-use crate::operands::{Cut, Second, both, cut_operands, register, second_operand, without_first};
+use crate::operands::{
+    Cut, Second, both, cut_operands, register, second_operand, three_registers, two_registers,
+    without_first,
+};
 use crate::transfers::{HalfTransfer, Transfer, block, transfer_half, word_transfer};
 use crate::words::{Mnemonic, Shape, shape_of};
-use arm_isa::Operation;
+use arm_isa::{HalfKind, Operation};
 use asm_expr::read::expression;
 use asm_model::{ArmLine, Expr, PseudoLine, Register, Token, TokenKind, What};
 use sdt_fault::NoMemory;
@@ -149,11 +152,10 @@ fn sum_line(
     registers: (&[Token], &[Token]),
     second: (&[Token], Option<&[Token]>),
 ) -> Said
-    ensures { IfOk result (λ said. lines.ReadsData text.now process.condition process.operation process.set_flags (operands.both (operands.register text.now registers.entry.0.now) (operands.register text.now registers.entry.1.now)) second.entry.0.now (option_copied second.entry.1) said) }
+    ensures { IfOk result (λ said. lines.ReadsData text.now process.condition process.operation process.set_flags (operands.two_registers text.now registers.entry.0.now registers.entry.1.now) second.entry.0.now (option_copied second.entry.1) said) }
 {
-    let rd = register(alloc, text, registers.0)?;
-    let rn = register(alloc, text, registers.1)?;
-    data(alloc, text, process, both(rd, rn), second)
+    let registers = two_registers(alloc, text, registers.0, registers.1)?;
+    data(alloc, text, process, registers, second)
 }
 
 fn moves(alloc: Global, text: &[u8], process: Process, cut: Cut<'_>) -> Said
@@ -198,23 +200,15 @@ fn data_words(alloc: Global, text: &[u8], process: Process, tokens: &[Token]) ->
     let cut = cut_operands(text, tokens);
     match shape_of(process.operation) {
         Shape::Move => moves(alloc, text, process, cut),
-        Shape::Comparison => comparisons(alloc, text, process, cut),
+        Shape::Comparison => {
+            let process = Process {
+                set_flags: true,
+                ..process
+            };
+            comparisons(alloc, text, process, cut)
+        }
         Shape::Sum => sums(alloc, text, process, cut),
     }
-}
-
-/// Two registers.
-fn two_registers(
-    alloc: Global,
-    text: &[u8],
-    first: &[Token],
-    second: &[Token],
-) -> Result<Result<(Register, Register), LineKind>, NoMemory>
-    ensures { IfOk result (λ pair. pair ≡ operands.both (operands.register text.now first.now) (operands.register text.now second.now)) }
-{
-    let first = register(alloc, text, first)?;
-    let second = register(alloc, text, second)?;
-    Ok(both(first, second))
 }
 
 fn multiply(alloc: Global, text: &[u8], condition: Condition, set_flags: bool, cut: Cut<'_>) -> Said
@@ -222,9 +216,7 @@ fn multiply(alloc: Global, text: &[u8], condition: Condition, set_flags: bool, c
 {
     match cut {
         Cut::Three(rd, rm, rs) => {
-            let first = two_registers(alloc, text, rd, rm)?;
-            let rs = register(alloc, text, rs)?;
-            match both(first, rs) {
+            match three_registers(alloc, text, rd, rm, rs)? {
                 Ok(((rd, rm), rs)) => Ok(Ok(What::Arm(ArmLine::Multiply {
                     condition,
                     accumulate: false,
@@ -469,55 +461,33 @@ fn interrupt(alloc: Global, text: &[u8], condition: Condition, tokens: &[Token])
     }
 }
 
-fn near_address(alloc: Global, text: &[u8], condition: Condition, cut: Cut<'_>) -> Said
-    ensures { IfOk result (λ said. lines.ReadsAddress text.now condition (cut_of cut.entry) said) }
+/// ADR, or ADRL for a long one.
+fn address_line(condition: Condition, long: bool, rd: Register, target: Expr) -> What
+    ensures { result ≡ lines.address_line condition long rd target }
+{
+    if long {
+        return What::Pseudo(PseudoLine::LongAddress {
+            condition,
+            rd,
+            target,
+        });
+    }
+    What::Pseudo(PseudoLine::Address {
+        condition,
+        rd,
+        target,
+    })
+}
+
+fn address(alloc: Global, text: &[u8], condition: Condition, long: bool, cut: Cut<'_>) -> Said
+    ensures { IfOk result (λ said. lines.ReadsAddress text.now condition long (cut_of cut.entry) said) }
 {
     match cut {
         Cut::Two(rd, target) => {
             let target = expression(alloc, text, target)?;
             let rd = register(alloc, text, rd)?;
             match both(rd, target) {
-                Ok((rd, target)) => Ok(Ok(What::Pseudo(PseudoLine::Address {
-                    condition,
-                    rd,
-                    target,
-                }))),
-                Err(kind) => Ok(Err(kind)),
-            }
-        }
-        _ => Ok(Err(LineKind::Syntax)),
-    }
-}
-
-/// ADRL has no place in pc.
-fn long_register(rd: Result<Register, LineKind>) -> Result<Register, LineKind>
-    ensures { result ≡ operands.followed rd lines.long_register }
-{
-    match rd {
-        Ok(Register::Number(number)) => {
-            if number == 15 {
-                return Err(LineKind::BadOperand);
-            }
-            Ok(Register::Number(number))
-        }
-        Ok(Register::Named(name)) => Ok(Register::Named(name)),
-        Err(kind) => Err(kind),
-    }
-}
-
-fn long_address(alloc: Global, text: &[u8], condition: Condition, cut: Cut<'_>) -> Said
-    ensures { IfOk result (λ said. lines.ReadsLongAddress text.now condition (cut_of cut.entry) said) }
-{
-    match cut {
-        Cut::Two(rd, target) => {
-            let target = expression(alloc, text, target)?;
-            let rd = long_register(register(alloc, text, rd)?);
-            match both(rd, target) {
-                Ok((rd, target)) => Ok(Ok(What::Pseudo(PseudoLine::LongAddress {
-                    condition,
-                    rd,
-                    target,
-                }))),
+                Ok((rd, target)) => Ok(Ok(address_line(condition, long, rd, target))),
                 Err(kind) => Ok(Err(kind)),
             }
         }
@@ -592,19 +562,27 @@ fn of_word(
             };
             word_transfer(alloc, text, word, cut)
         }
-        Mnemonic::TransferHalf { load, kind } => {
+        Mnemonic::LoadHalf(kind) => {
             let word = HalfTransfer {
                 condition,
-                load,
+                load: true,
                 kind,
+            };
+            transfer_half(alloc, text, word, cut)
+        }
+        Mnemonic::StoreHalf => {
+            let word = HalfTransfer {
+                condition,
+                load: false,
+                kind: HalfKind::Half,
             };
             transfer_half(alloc, text, word, cut)
         }
         Mnemonic::TransferBlock { load, mode } => block(alloc, text, condition, load, mode, cut),
         Mnemonic::Branch { link } => branch(alloc, text, condition, link, tokens),
         Mnemonic::SoftwareInterrupt => interrupt(alloc, text, condition, numbered(text, tokens)),
-        Mnemonic::Address => near_address(alloc, text, condition, cut),
-        Mnemonic::LongAddress => long_address(alloc, text, condition, cut),
+        Mnemonic::Address => address(alloc, text, condition, false, cut),
+        Mnemonic::LongAddress => address(alloc, text, condition, true, cut),
         Mnemonic::NoOperation => Ok(idle(tokens)),
         Mnemonic::FloatingPoint => Ok(Err(LineKind::FloatingPoint)),
     }

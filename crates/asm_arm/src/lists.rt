@@ -36,18 +36,6 @@ pub fn base(
     }
 }
 
-/// A range of registers, which rises; that of names is judged elsewhere.
-fn range(first: Register, last: Register) -> Result<ListItem, LineKind>
-    ensures { result ≡ lists.range first last }
-{
-    if let (Register::Number(low), Register::Number(high)) = (&first, &last) {
-        if *high < *low {
-            return Err(LineKind::BadOperand);
-        }
-    }
-    Ok(ListItem::Range { first, last })
-}
-
 /// A register of a list.
 fn one_register(
     alloc: Global,
@@ -78,7 +66,7 @@ fn register_range(
     let first = register_of(alloc, first.kind, piece_of(text, first))?;
     let last = register_of(alloc, last.kind, piece_of(text, last))?;
     match both(first, last) {
-        Ok((first, last)) => Ok(range(first, last)),
+        Ok((first, last)) => Ok(Ok(ListItem::Range { first, last })),
         Err(kind) => Ok(Err(kind)),
     }
 }

@@ -253,6 +253,35 @@ pub fn register(
     }
 }
 
+/// Two registers.
+pub fn two_registers(
+    alloc: Global,
+    text: &[u8],
+    first: &[Token],
+    second: &[Token],
+) -> Result<Result<(Register, Register), LineKind>, NoMemory>
+    ensures { IfOk result (λ two. two ≡ operands.two_registers text.now first.now second.now) }
+{
+    let first = register(alloc, text, first)?;
+    let second = register(alloc, text, second)?;
+    Ok(both(first, second))
+}
+
+/// Three registers.
+pub fn three_registers(
+    alloc: Global,
+    text: &[u8],
+    first: &[Token],
+    second: &[Token],
+    third: &[Token],
+) -> Result<Result<((Register, Register), Register), LineKind>, NoMemory>
+    ensures { IfOk result (λ three. three ≡ operands.three_registers text.now first.now second.now third.now) }
+{
+    let two = two_registers(alloc, text, first, second)?;
+    let third = register(alloc, text, third)?;
+    Ok(both(two, third))
+}
+
 /// RRX, which stands alone.
 fn extended(word: &[u8]) -> Result<Scale, LineKind>
     ensures { result ≡ operands.extended word.now }

@@ -46,11 +46,10 @@ pub enum Mnemonic {
         byte: bool,
         translated: bool,
     },
-    /// LDR and STR with H, SB and SH.
-    TransferHalf {
-        load: bool,
-        kind: HalfKind,
-    },
+    /// LDR with H, SB and SH.
+    LoadHalf(HalfKind),
+    /// STR with H.
+    StoreHalf,
     /// LDM and STM.
     TransferBlock {
         load: bool,
@@ -243,7 +242,12 @@ fn half_of(load: bool, kind: Option<HalfKind>) -> Option<Mnemonic>
 {
     match kind {
         None => None,
-        Some(kind) => Some(Mnemonic::TransferHalf { load, kind }),
+        Some(kind) => {
+            if load {
+                return Some(Mnemonic::LoadHalf(kind));
+            }
+            Some(Mnemonic::StoreHalf)
+        }
     }
 }
 

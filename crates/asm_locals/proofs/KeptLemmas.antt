@@ -8,7 +8,6 @@ use Rattle.asm_model.specs.declared.exprs.ExprItem.{ExprItem}
 use Rattle.asm_model.specs.declared.exprs.ExprItem.TheVariants as item
 use Rattle.asm_model.specs.declared.exprs.Part.{Part}
 use Rattle.asm_model.specs.declared.exprs.Part.TheVariants as part
-use Rattle.asm_model.specs.declared.values.Value.TheVariants.{Number}
 use Rattle.asm_model.specs.declared.operands.Shift.{Shift}
 use Rattle.asm_model.specs.declared.operands.Shift.TheVariants as shift
 use Rattle.asm_model.specs.declared.operands.Address.{Address}
@@ -35,13 +34,11 @@ use Rattle.asm_model.specs.declared.statements.Statement.{Statement}
 use Rattle.asm_model.specs.declared.statements.What.{What}
 use Rattle.asm_model.specs.declared.statements.What.TheVariants as what
 use Rattle.asm_model.specs.Grammar.{Tree, Leaf, Before, Between, postfix, plain, operand_of, before_of, between_of, Spells, operand, of_name, before, grouped, between, tighter}
-use Rattle.asm_model.specs.Labels.{field_defines, defined_by, imported_in}
-use Rattle.asm_model.specs.PlacedLines.{HasName, HasImport}
-use Rattle.asm_model.specs.Sound.{HasNoPlace, HaveNoPlaces, IsPlain}
-use Rattle.said_model.specs.Fit.{AllPlaceless, WhatFits, IsFit}
-use Rattle.said_model.specs.Named.{ItemNamed, AllItemsNamed, LoadNamed}
-use Rattle.said_model.specs.Said.{IsRead, AllRead, OptionRead, ShiftSaid, AddressSaid, HalfOffsetSaid, ArmSaid, ThumbOperandSaid, LiteralSaid, ThumbSaid, PseudoSaid, BoundaryRead, GivenSaid, DirectiveSaid, WhatSaid, LoadsPlain, IsSaid, what_names, label_names, HoldsNoZero, HasTexts}
-use Rattle.asm_locals.specs.Labels.{number_on, local_number, target}
+use Rattle.asm_model.specs.Sound.{HasNoPlace, HaveNoPlaces}
+use Rattle.said_model.proofs.SharedLemmas.{IsText, MarksFit, IsFine}
+use Rattle.said_model.specs.Named.{ItemNamed, AllItemsNamed}
+use Rattle.said_model.specs.Said.{IsRead, AllRead, OptionRead, ShiftSaid, AddressSaid, HalfOffsetSaid, ArmSaid, ThumbOperandSaid, LiteralSaid, ThumbSaid, PseudoSaid, BoundaryRead, GivenSaid, DirectiveSaid, WhatSaid, what_names, label_names, HoldsNoZero}
+use Rattle.asm_locals.specs.Labels.{local_number, target}
 use Rattle.asm_locals.specs.Naming.{Targets, hidden_name, reference, named_item, named, all_named, option_named, named_shift, named_address, named_half, named_arm, named_operand, named_literal, named_thumb, named_pseudo, named_boundary, named_register, named_directive, named_what, named_label, named_behind, in_names}
 
 -- ---- expressions are spelled
@@ -55,30 +52,19 @@ named_tree t (Leaf i) = Leaf (named_item t i)
 named_tree t (Before op u) = Before op (named_tree t u)
 named_tree t (Between op u v) = Between op (named_tree t u) (named_tree t v)
 
+plain_reference : (text : List ℕ) (o : Option ℕ) → plain (reference text o) ≡ Some (reference text o)
+plain_reference text None = refl
+plain_reference text (Some k) = refl
+
 plain_named : (t : Targets) (j i : ExprItem) → plain j ≡ Some i → plain (named_item t j) ≡ Some (named_item t i)
-plain_named t (item.Local text) i e = let x : item.Local text ≡ i = cc in subst (λ z. plain (reference text (t text)) ≡ Some (named_item t z)) x (by_target (t text))
-  where
-    by_target : (o : Option ℕ) → plain (reference text o) ≡ Some (reference text o)
-    by_target None = refl
-    by_target (Some k) = refl
-plain_named t (item.Name n) i e = let x : item.Name n ≡ i = cc in rw (← x) refl
-plain_named t (item.Constant v) i e = let x : item.Constant v ≡ i = cc in rw (← x) refl
-plain_named t item.Here i e = let x : item.Here ≡ i = cc in rw (← x) refl
-plain_named t item.Map i e = let x : item.Map ≡ i = cc in rw (← x) refl
-plain_named t item.CodeSize i e = let x : item.CodeSize ≡ i = cc in rw (← x) refl
+plain_named t (item.Local text) i e = let x : item.Local text ≡ i = cc in subst (λ z. plain (reference text (t text)) ≡ Some (named_item t z)) x (plain_reference text (t text))
 plain_named t (item.Unary op) i e = absurd (cc)
 plain_named t (item.Binary op) i e = absurd (cc)
+plain_named t j i e = let x : j ≡ i = cc in rw (← x) refl
 
 operand_named : (t : Targets) (p : Part) (i : ExprItem) → operand_of p ≡ Some i → operand_of (named_part t p) ≡ Some (named_item t i)
 operand_named t (part.Operand j) i e = plain_named t j i e
-operand_named t part.TooLarge i e = plain_named t (item.Constant (Number 0)) i e
-operand_named t part.Open i e = absurd (cc)
-operand_named t part.Close i e = absurd (cc)
-operand_named t (part.Prefix op) i e = absurd (cc)
-operand_named t (part.OfName op) i e = absurd (cc)
-operand_named t (part.Infix op) i e = absurd (cc)
-operand_named t (part.Sum u b) i e = absurd (cc)
-operand_named t part.Other i e = absurd (cc)
+operand_named t p i e = absurd (cc)
 
 before_kept : (t : Targets) (p : Part) → before_of (named_part t p) ≡ before_of p
 before_kept t (part.Operand i) = refl
@@ -112,22 +98,6 @@ postfix_named t (Between op u v) =
     map_joined (named_item t) (postfix u ++ postfix v) (item.Binary op ∷ [])
     ∙ ap (λ z. z ++ item.Binary op ∷ []) (map_joined (named_item t) (postfix u) (postfix v) ∙ rw (postfix_named t u, postfix_named t v) refl)
 
-read_named : (t : Targets) (e : Expr) → IsRead e → IsRead (named t e)
-read_named t e h = record {
-  parts = map (named_part t) h.parts;
-  tree = named_tree t h.tree;
-  spelled = spelled_named t 6 h.parts h.tree h.spelled;
-  items = ap (map (named_item t)) h.items ∙ postfix_named t h.tree;
-}
-
-all_read : (t : Targets) (es : List Expr) → AllRead es → AllRead (all_named t es)
-all_read t [] h = tt
-all_read t (e ∷ es) h = (read_named t e h.0, all_read t es h.1)
-
-option_read : (t : Targets) (o : Option Expr) → OptionRead o → OptionRead (option_named t o)
-option_read t None h = tt
-option_read t (Some e) h = read_named t e h
-
 -- ---- constants and names in them
 
 place_named : (t : Targets) (i : ExprItem) → HasNoPlace i → HasNoPlace (named_item t i)
@@ -142,10 +112,6 @@ places_named : (t : Targets) (is : List ExprItem) → HaveNoPlaces is → HaveNo
 places_named t [] h = tt
 places_named t (i ∷ is) h = (place_named t i h.0, places_named t is h.1)
 
-placeless : (t : Targets) (es : List Expr) → AllPlaceless es → AllPlaceless (all_named t es)
-placeless t [] h = tt
-placeless t (e ∷ es) h = (places_named t e.items h.0, placeless t es h.1)
-
 character_named : (t : Targets) (i : ExprItem) → ItemNamed i → ItemNamed (named_item t i)
 character_named t (item.Local text) h = by_target (t text)
   where
@@ -159,6 +125,24 @@ characters_named t [] h = tt
 characters_named t (i ∷ is) h = (character_named t i h.0, characters_named t is h.1)
 
 -- ---- what lines say
+
+read_named : (t : Targets) (e : Expr) → IsRead e → IsRead (named t e)
+read_named t e h = record {
+  parts = map (named_part t) h.parts;
+  tree = named_tree t h.tree;
+  spelled = spelled_named t 6 h.parts h.tree h.spelled;
+  items = ap (map (named_item t)) h.items ∙ postfix_named t h.tree;
+  plain = places_named t e.items h.plain;
+  named = characters_named t e.items h.named;
+}
+
+all_read : (t : Targets) (es : List Expr) → AllRead es → AllRead (all_named t es)
+all_read t [] h = tt
+all_read t (e ∷ es) h = (read_named t e h.0, all_read t es h.1)
+
+option_read : (t : Targets) (o : Option Expr) → OptionRead o → OptionRead (option_named t o)
+option_read t None h = tt
+option_read t (Some e) h = read_named t e h
 
 shift_named : (t : Targets) (s : Shift) → ShiftSaid s → ShiftSaid (named_shift t s)
 shift_named t (shift.By kind e) h = read_named t e h
@@ -285,94 +269,24 @@ names_kept t (what.Pseudo l) = refl
 names_kept t (what.Directive (line.Area name a)) = refl
 names_kept t (what.Directive l) = refl
 
-texts_behind : (o : Option (List ℕ)) (ns : List (List ℕ)) → AllByRecursion HoldsNoZero (label_names o ++ ns) → AllByRecursion HoldsNoZero ns
+texts_behind : (o : Option (List ℕ)) (ns : List (List ℕ)) → AllByRecursion IsText (label_names o ++ ns) → AllByRecursion IsText ns
 texts_behind None ns h = h
 texts_behind (Some n) ns h = h.1
 
-texts_labelled : (k : ℕ) (number : Option ℕ) (o : Option (List ℕ)) (ns : List (List ℕ)) → AllByRecursion HoldsNoZero (label_names o ++ ns)
-    → AllByRecursion HoldsNoZero (label_names (named_label k number o) ++ ns)
+texts_labelled : (k : ℕ) (number : Option ℕ) (o : Option (List ℕ)) (ns : List (List ℕ)) → AllByRecursion IsText (label_names o ++ ns)
+    → AllByRecursion IsText (label_names (named_label k number o) ++ ns)
 texts_labelled k None o ns h = h
-texts_labelled k (Some n) o ns h = (hidden_text k, texts_behind o ns h)
+texts_labelled k (Some n) o ns h = ((hidden_text k, tt), texts_behind o ns h)
 
-pub texts_named : (k : ℕ) (t : Targets) (s : Statement) → HasTexts s → HasTexts (named_statement k t s)
-texts_named k t s h = rw (names_kept t s.what) (texts_labelled k (local_number s) s.label (what_names s.what) h)
+marks_kept : (t : Targets) (w : What) → MarksFit w → MarksFit (named_what t w)
+marks_kept t (what.Directive (line.Area name a)) h = h
+marks_kept t w h = tt
 
--- ---- what statements define
-
-no_label : (w : What) → number_on None w ≡ None
-no_label (what.Directive line.Rout) = refl
-no_label w = refl
-
-plain_labelled : (t : Targets) (name other : List ℕ) (w : What) → IsPlain (field_defines (Some other) w) → IsPlain (field_defines (Some name) (named_what t w))
-plain_labelled t name other (what.Directive (line.Equ e)) h = places_named t e.items h
-plain_labelled t name other w h = tt
-
-plain_defined : (k : ℕ) (t : Targets) (o : Option (List ℕ)) (w : What) → IsPlain (field_defines o w)
-    → IsPlain (field_defines (named_label k (number_on o w) o) (named_what t w))
-plain_defined k t None w h = rw (no_label w) tt
-plain_defined k t (Some n) w h = by_number (number_on (Some n) w)
-  where
-    by_number : (m : Option ℕ) → IsPlain (field_defines (named_label k m (Some n)) (named_what t w))
-    by_number None = plain_labelled t n n w h
-    by_number (Some m) = plain_labelled t (hidden_name k) n w h
-
-name_same : (t : Targets) (n : List ℕ) (w : What) → HasName (field_defines (Some n) w) → HasName (field_defines (Some n) (named_what t w))
-name_same t n (what.Directive line.Rout) h = tt
-name_same t n w h = h
-
-name_hidden : (t : Targets) (k : ℕ) (w : What) → HasName (field_defines (Some (hidden_name k)) (named_what t w))
-name_hidden t k (what.Directive line.Rout) = tt
-name_hidden t k w = tt
-
-name_defined : (k : ℕ) (t : Targets) (o : Option (List ℕ)) (w : What) → HasName (field_defines o w)
-    → HasName (field_defines (named_label k (number_on o w) o) (named_what t w))
-name_defined k t None w h = rw (no_label w) tt
-name_defined k t (Some n) w h = by_number (number_on (Some n) w)
-  where
-    by_number : (m : Option ℕ) → HasName (field_defines (named_label k m (Some n)) (named_what t w))
-    by_number None = name_same t n w h
-    by_number (Some m) = name_hidden t k w
-
-pub defined_named : (k : ℕ) (t : Targets) (s : Statement) → HasName (defined_by s) → HasName (defined_by (named_statement k t s))
-defined_named k t s h = name_defined k t s.label s.what h
-
-imports_kept : (t : Targets) (w : What) → imported_in (named_what t w) ≡ imported_in w
-imports_kept t (what.Directive (line.Import n weak)) = refl
-imports_kept t (what.Directive (line.Extern n weak)) = refl
-imports_kept t w = refl
-
-pub imported_named : (k : ℕ) (t : Targets) (s : Statement) → HasImport (imported_in s.what) → HasImport (imported_in (named_statement k t s).what)
-imported_named k t s h = rw (imports_kept t s.what) h
-
--- ---- what is loaded, and what fits
-
-loads_kept : (t : Targets) (w : What) → LoadsPlain w → LoadsPlain (named_what t w)
-loads_kept t (what.Pseudo (pseudo.LoadConstant condition rd e)) h = places_named t e.items h
-loads_kept t w h = tt
-
-load_named : (t : Targets) (w : What) → LoadNamed w → LoadNamed (named_what t w)
-load_named t (what.Pseudo (pseudo.LoadConstant condition rd e)) h = characters_named t e.items h
-load_named t w h = tt
-
-pub loaded_named : (k : ℕ) (t : Targets) (s : Statement) → LoadNamed s.what → LoadNamed (named_statement k t s).what
-loaded_named k t s h = load_named t s.what h
-
-fits_kept : (t : Targets) (w : What) → WhatFits w → WhatFits (named_what t w)
-fits_kept t (what.Directive (line.Area name a)) h = h
-fits_kept t (what.Directive (line.Dcd es)) h = placeless t es h
-fits_kept t (what.Directive (line.Dcdu es)) h = placeless t es h
-fits_kept t w h = tt
-
-pub fit_named : (k : ℕ) (t : Targets) (s : Statement) → IsFit s → IsFit (named_statement k t s)
-fit_named k t s h = fits_kept t s.what h
-
--- ---- statements
-
-pub said_named : (k : ℕ) (t : Targets) (s : Statement) → IsSaid s → IsSaid (named_statement k t s)
-said_named k t s h = record {
-  plain = plain_defined k t s.label s.what h.plain;
+pub statement_fine : (k : ℕ) (t : Targets) (s : Statement) → IsFine s → IsFine (named_statement k t s)
+statement_fine k t s h = record {
   read = what_named t s.what h.read;
-  loaded = loads_kept t s.what h.loaded;
+  texts = rw (names_kept t s.what) (texts_labelled k (local_number s) s.label (what_names s.what) h.texts);
+  marks = marks_kept t s.what h.marks;
 }
 
 -- ---- all statements

@@ -47,6 +47,7 @@ both_item g f (item.Local text) = by_target (g text)
     by_target (Some k) = refl
 both_item g f (item.Name n) = refl
 both_item g f (item.Constant v) = refl
+both_item g f item.TooLarge = refl
 both_item g f item.Here = refl
 both_item g f item.Map = refl
 both_item g f item.CodeSize = refl

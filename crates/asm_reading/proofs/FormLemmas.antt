@@ -5,8 +5,8 @@ use Rattle.asm_model.specs.declared.tokens.Token.{Token}
 use Rattle.asm_model.specs.Forms.{same}
 use Rattle.asm_model.specs.Operands.{lengthened, depth_behind, operands_at, operands}
 use Rattle.asm_model.specs.Parts.{piece}
-use Rattle.layout_laws.proofs.LineLemmas.{EachHasForm}
-use Rattle.asm_arm.specs.Addresses.{bracketed, base_in, base}
+use Rattle.asm_reading.proofs.TokenLemmas.{EachHasForm}
+use Rattle.asm_arm.specs.Addresses.{bracketed}
 use Rattle.asm_arm.specs.Operands.{Cuts, none, one, two, three, four, more, cut, without_first, last_piece, front, without_last, marked, between}
 
 abbrev pub AllHaveForm : List ℕ → List (List Token) → Type 0
@@ -100,10 +100,3 @@ between_form text left right ts h = by_front (without_first text left ts) refl (
 
 pub bracketed_form : (text : List ℕ) (ts : List Token) → EachHasForm text ts → SomeHaveForm text (bracketed text ts).0
 bracketed_form text ts h = between_form text (codes "[") (codes "]") (marked text (codes "!") ts).0 (marked_form text (codes "!") ts h)
-
-pub base_in_form : (text : List ℕ) (o : Option (List Token)) (mark : Bool) → SomeHaveForm text o → SomeHaveForm text (base_in text (o, mark))
-base_in_form text o true h = tt
-base_in_form text o false h = h
-
-pub base_form : (text : List ℕ) (ts : List Token) → EachHasForm text ts → SomeHaveForm text (base text ts)
-base_form text ts h = base_in_form text (bracketed text ts).0 (bracketed text ts).1 (bracketed_form text ts h)

@@ -5,7 +5,8 @@ use Rattle.asm_thumb.specs.Says.{OneThumb}
 use Rattle.asm_model.specs.declared.lines.Flat.{Flat}
 use Rattle.asm_locals.specs.Naming.{in_names}
 use Rattle.asm_reading.specs.Laws.{OneLine, OneReading}
-use Rattle.asm_reading.specs.Reading.{Said, state_after, Say, statements_in, first_unread, read_first}
+use Rattle.asm_arm.specs.Says.{Said}
+use Rattle.asm_reading.specs.Reading.{state_after, Say, statements_in, first_unread, read_first}
 
 pub one_line : OneArm → OneThumb → OneLine
 one_line arm thumb true f a b h k = thumb f a b h k

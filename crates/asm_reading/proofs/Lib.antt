@@ -9,11 +9,9 @@ mod InstructionLemmas
 mod LawLemmas
 mod LineLemmas
 mod ListLemmas
-mod LoadedLemmas
 mod NameLemmas
 mod OperandLemmas
 pub mod ReadLemmas
-mod TextLemmas
 mod ThumbLemmas
 mod ThumbWordLemmas
-mod WordLemmas
+mod TokenLemmas

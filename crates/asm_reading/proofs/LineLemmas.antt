@@ -1,7 +1,9 @@
 -- What a line says is a statement of its state, as layout and emission ask for it.
-use Rattle.std.proofs.Common.{◌≡◌, ℕ, List, Bool, true, false, refl, sym, subst, Option, Some, None}
+use Rattle.std.proofs.Common.{◌≡◌, ℕ, List, [], ◌∷◌, ◌++◌, Bool, true, false, refl, Option, Some, None}
 use Rattle.std.specs.Prelude.{Result, Ok, Err}
+use Rattle.std.specs.List.{list_any, AllByRecursion}
 use Rattle.sdt_fault.specs.declared.kinds.LineKind.{LineKind}
+use Rattle.sdt_fault.specs.declared.kinds.LineKind.TheVariants.{Syntax}
 use Rattle.asm_model.specs.declared.lines.Flat.{Flat}
 use Rattle.asm_model.specs.declared.tokens.Token.{Token}
 use Rattle.asm_model.specs.declared.directives.Directive.{Directive}
@@ -12,136 +14,123 @@ use Rattle.asm_model.specs.declared.statements.What.{What}
 use Rattle.asm_model.specs.declared.statements.What.TheVariants as what
 use Rattle.asm_model.specs.Directives.{label_need}
 use Rattle.asm_model.specs.Parts.{piece}
-use Rattle.asm_model.specs.Says.{form_of_directive, on_both, label_field, Sentence, sentence, directive_of, unnamed, statement_of, SaysAs, SaysDirective}
-use Rattle.asm_model.specs.Tokens.{first_due, Tokens, Scans}
-use Rattle.layout_laws.proofs.LineLemmas.{EachHasForm, OptionHasForm, tokens_form, sentence_form, read_directives_are_plain, other_statements_are_plain}
-use Rattle.asm_arm.specs.Says as arm
-use Rattle.asm_arm.specs.Says.{statement, alone}
+use Rattle.asm_model.specs.Says.{form_of_directive, on_both, label_field, Sentence, sentence, directive_of, unnamed, statement_of, SaysAs}
+use Rattle.asm_model.specs.Tokens.{is_long, first_due, Tokens}
+use Rattle.asm_arm.specs.Says.{Said, statement, alone, SaysWords, SaysOr, SaysTokens, within_limit, SaysLine, ReadsArm}
 use Rattle.asm_arm.specs.Words as arm_words
-use Rattle.asm_thumb.specs.Says as thumb
+use Rattle.asm_thumb.specs.Says.{ReadsThumb}
 use Rattle.asm_thumb.specs.Words as thumb_words
-use Rattle.said_model.specs.Said.{DirectiveSaid, WhatSaid, LoadsPlain, IsSaid}
+use Rattle.said_model.specs.Said.{label_names, directive_names}
+use Rattle.said_model.proofs.SharedLemmas.{IsText, IsFine}
 use Rattle.source_laws.specs.Laws.{IsOfState}
-use Rattle.asm_reading.specs.Laws.{LinesAreSaid, LinesAreOfState}
 use Rattle.asm_reading.specs.Reading.{SaysBy}
 use Rattle.asm_reading.proofs.ArmLemmas.{instruction_said}
-use Rattle.asm_reading.proofs.DirectiveLemmas.{any_gives, form_said, directive_said}
+use Rattle.asm_reading.proofs.DirectiveLemmas.{field_text, DirectiveFine, directive_fine}
 use Rattle.asm_reading.proofs.GivesLemmas.{Gives, OptionGives, equal_gives, mapped_gives, both_give}
-use Rattle.asm_reading.proofs.InstructionLemmas.{InstructionIn, SaidIn, IsInstruction, instruction_in}
+use Rattle.asm_reading.proofs.InstructionLemmas.{InstructionIn}
 use Rattle.asm_reading.proofs.ThumbLemmas.{thumb_instruction_said}
 use Rattle.asm_reading.proofs.ThumbWordLemmas.{thumb_operation_said}
-use Rattle.asm_reading.proofs.WordLemmas.{operation_said}
+use Rattle.asm_reading.proofs.TokenLemmas.{EachHasForm, OptionHasForm, tokens_form, sentence_form}
 
--- ---- where a line's statement comes from
+-- what is asked of a statement of a state
+abbrev pub LineFine : Bool → Statement → Type 0
+LineFine state s = IsFine s × IsOfState state s.what
 
-pub sentence_forms : (text : List ℕ) (ts : List Token) → Tokens text ts → OptionHasForm text (sentence ts).label × EachHasForm text (sentence ts).behind
-sentence_forms text ts h = sentence_form text ts (tokens_form text ts (first_due text) 0 text refl h)
+abbrev SaidFine : Bool → Said → Type 0
+SaidFine state r = Gives (OptionGives (LineFine state)) r
 
--- a directive, a label alone, or an instruction of the state
-pub data ComesOf (state : Bool) (flat : Flat) (s : Statement) : Type 0 where
-  directive : (ts : List Token) → Tokens flat.text ts → SaysDirective flat ts (Ok (Some s)) → ComesOf state flat s
-  label : (ts : List Token) → Tokens flat.text ts → Ok (Some s) ≡ alone flat (sentence ts).label → ComesOf state flat s
-  instruction : (ts : List Token) → Tokens flat.text ts → (w : Result What LineKind) → SaidIn state w
-      → Ok (Some s) ≡ on_both (statement flat) (label_field need.Optional flat.text (sentence ts).label) w → ComesOf state flat s
+-- what is asked of what an operation and the tokens behind it say in a state
+abbrev OperationIn : Bool → (List ℕ → Token → List Token → Result What LineKind → Type 0) → Type 0
+OperationIn state Operation =
+    (text : List ℕ) (t : Token) (ts : List Token) (w : Result What LineKind) → EachHasForm text ts → Operation text t ts w → Gives (InstructionIn state) w
 
-arm_words_come : (flat : Flat) (ts : List Token) (o : Option Token) (s : Statement) → Tokens flat.text ts
-    → arm.SaysWords flat (sentence ts).label o (sentence ts).behind (Ok (Some s)) → ComesOf false flat s
-arm_words_come flat ts None s tokens h = label ts tokens h
-arm_words_come flat ts (Some t) s tokens h =
-    let word = piece flat.text t in
-    instruction ts tokens h.0
-    (instruction_said flat.text (unnamed t.kind) (arm_words.operation_named word) (sentence ts).behind h.0 (operation_said word) (sentence_forms flat.text ts tokens).1 h.1) h.2
+arm_in : OperationIn false ReadsArm
+arm_in text t ts w f h = instruction_said text (unnamed t.kind) (arm_words.operation_named (piece text t)) ts w f h
 
-arm_comes : (flat : Flat) (ts : List Token) (d : Result (Option Statement) LineKind) (s : Statement) → Tokens flat.text ts → SaysDirective flat ts d
-    → arm.SaysOr flat ts d (Ok (Some s)) → ComesOf false flat s
-arm_comes flat ts (Ok None) s tokens says h = arm_words_come flat ts (sentence ts).operation s tokens h
-arm_comes flat ts (Ok (Some m)) s tokens says h = directive ts tokens (subst (SaysDirective flat ts) (sym h) says)
-arm_comes flat ts (Err k) s tokens says h = absurd (cc)
+thumb_in : OperationIn true ReadsThumb
+thumb_in text t ts w f h =
+    let word = piece text t in
+    thumb_instruction_said text (unnamed t.kind) (thumb_words.operation_named word) ts w (thumb_operation_said word) f h
 
-arm_line : (flat : Flat) (scan : Result (List Token) LineKind) (s : Statement) → Scans flat.text scan → arm.SaysScanned flat scan (Ok (Some s)) → ComesOf false flat s
-arm_line flat (Ok ts) s scans h = arm_comes flat ts h.0 s scans.0 h.1 h.2
-arm_line flat (Err k) s scans h = absurd (cc)
+-- ---- statements
 
-thumb_words_come : (flat : Flat) (ts : List Token) (o : Option Token) (s : Statement) → Tokens flat.text ts
-    → thumb.SaysWords flat (sentence ts).label o (sentence ts).behind (Ok (Some s)) → ComesOf true flat s
-thumb_words_come flat ts None s tokens h = label ts tokens h
-thumb_words_come flat ts (Some t) s tokens h =
-    let word = piece flat.text t in
-    instruction ts tokens h.0
-    (thumb_instruction_said flat.text (unnamed t.kind) (thumb_words.operation_named word) (sentence ts).behind h.0 (thumb_operation_said word) (sentence_forms flat.text ts tokens).1 h.1) h.2
-
-thumb_comes : (flat : Flat) (ts : List Token) (d : Result (Option Statement) LineKind) (s : Statement) → Tokens flat.text ts → SaysDirective flat ts d
-    → thumb.SaysOr flat ts d (Ok (Some s)) → ComesOf true flat s
-thumb_comes flat ts (Ok None) s tokens says h = thumb_words_come flat ts (sentence ts).operation s tokens h
-thumb_comes flat ts (Ok (Some m)) s tokens says h = directive ts tokens (subst (SaysDirective flat ts) (sym h) says)
-thumb_comes flat ts (Err k) s tokens says h = absurd (cc)
-
-thumb_line : (flat : Flat) (scan : Result (List Token) LineKind) (s : Statement) → Scans flat.text scan → thumb.SaysScanned flat scan (Ok (Some s)) → ComesOf true flat s
-thumb_line flat (Ok ts) s scans h = thumb_comes flat ts h.0 s scans.0 h.1 h.2
-thumb_line flat (Err k) s scans h = absurd (cc)
-
-pub comes_of : (state : Bool) (flat : Flat) (s : Statement) → SaysBy state flat (Ok (Some s)) → ComesOf state flat s
-comes_of true flat s h = thumb_line flat h.0 s h.1 h.2
-comes_of false flat s h = arm_line flat h.0 s h.1 h.2
-
--- ---- directives
-
--- a statement of either state, but for its names
-abbrev StatementSaid : Statement → Type 0
-StatementSaid s = WhatSaid s.what × LoadsPlain s.what × ((state : Bool) → IsOfState state s.what)
+with_label : (o : Option (List ℕ)) (ns : List (List ℕ)) → OptionGives IsText o → AllByRecursion IsText ns → AllByRecursion IsText (label_names o ++ ns)
+with_label None ns h k = k
+with_label (Some n) ns h k = (h, k)
 
 either_state : (l : DirectiveLine) (state : Bool) → IsOfState state (what.Directive l)
 either_state l true = tt
 either_state l false = tt
 
-says_directive : (flat : Flat) (s : Sentence) (d : Option Directive) (r : Result (Option Statement) LineKind)
-    → SaysAs flat s d r → Gives (OptionGives StatementSaid) r
-says_directive flat s None r h = equal_gives (OptionGives StatementSaid) r (Ok None) h tt
-says_directive flat s (Some d) r h =
-    let field = label_field (label_need d) flat.text s.label in
-    equal_gives (OptionGives StatementSaid) r (on_both (statement_of flat) field h.0) h.2
-    (both_give (λ o. Unit {0}) DirectiveSaid (OptionGives StatementSaid) (statement_of flat) field h.0 (λ o l p q. (q, tt, either_state l))
-    (any_gives field) (form_said flat.text (form_of_directive d) s.behind h.0 (directive_said d) h.1))
+instruction_fine : (state : Bool) (flat : Flat) (o : Option (List ℕ)) (w : What) → OptionGives IsText o → InstructionIn state w → OptionGives (LineFine state) (statement flat o w)
+instruction_fine state flat o what.Nothing h k = absurd k
+instruction_fine true flat o (what.Arm l) h k = absurd k
+instruction_fine false flat o (what.Arm l) h k = (record { read = k; texts = with_label o [] h tt; marks = tt }, tt)
+instruction_fine true flat o (what.Thumb l) h k = (record { read = k; texts = with_label o [] h tt; marks = tt }, tt)
+instruction_fine false flat o (what.Thumb l) h k = absurd k
+instruction_fine true flat o (what.Pseudo l) h k = (record { read = k; texts = with_label o [] h tt; marks = tt }, tt)
+instruction_fine false flat o (what.Pseudo l) h k = (record { read = k; texts = with_label o [] h tt; marks = tt }, tt)
+instruction_fine state flat o (what.Directive l) h k = absurd k
 
--- ---- other lines
-
-other_said : (state : Bool) (s : Statement) → IsInstruction state s.what → IsSaid s × IsOfState state s.what
-other_said state s h = (record { plain = other_statements_are_plain s h.0; read = h.1; loaded = h.2 }, h.3)
-
-abbrev IsOther : Bool → Statement → Type 0
-IsOther state s = IsInstruction state s.what
-
-nothing_said : (state : Bool) → IsInstruction state what.Nothing
-nothing_said true = (tt, tt, tt, tt)
-nothing_said false = (tt, tt, tt, tt)
-
-says_alone : (state : Bool) (flat : Flat) (t : Option Token) → Gives (OptionGives (IsOther state)) (alone flat t)
-says_alone state flat None = tt
-says_alone state flat (Some t) =
-    let field = label_field need.Optional flat.text (Some t) in
-    mapped_gives (λ o. Unit {0}) (OptionGives (IsOther state)) (λ o. statement flat o what.Nothing) field (λ o p. nothing_said state) (any_gives field)
-
-says_instruction : (state : Bool) (flat : Flat) (t : Option Token) (w : Result What LineKind) → SaidIn state w
-    → Gives (OptionGives (IsOther state)) (on_both (statement flat) (label_field need.Optional flat.text t) w)
-says_instruction state flat t w h =
-    let field = label_field need.Optional flat.text t in
-    both_give (λ o. Unit {0}) (InstructionIn state) (OptionGives (IsOther state)) (statement flat) field w (λ o x p. instruction_in state x) (any_gives field) h
+nothing_fine : (state : Bool) (flat : Flat) (o : Option (List ℕ)) → OptionGives IsText o → OptionGives (LineFine state) (statement flat o what.Nothing)
+nothing_fine true flat o h = (record { read = tt; texts = with_label o [] h tt; marks = tt }, tt)
+nothing_fine false flat o h = (record { read = tt; texts = with_label o [] h tt; marks = tt }, tt)
 
 -- ---- lines
 
-line_said : (state : Bool) (flat : Flat) (s : Statement) → ComesOf state flat s → IsSaid s × IsOfState state s.what
-line_said state flat s (directive ts tokens h) =
-    let said = says_directive flat (sentence ts) (directive_of flat.text (sentence ts).operation) (Ok (Some s)) h in
-    (record { plain = read_directives_are_plain flat ts s h; read = said.0; loaded = said.1 }, said.2 state)
-line_said state flat s (label ts tokens h) =
-    other_said state s (equal_gives (OptionGives (IsOther state)) (Ok (Some s)) (alone flat (sentence ts).label) h (says_alone state flat (sentence ts).label))
-line_said state flat s (instruction ts tokens w k h) =
-    let field = label_field need.Optional flat.text (sentence ts).label in
-    other_said state s (equal_gives (OptionGives (IsOther state)) (Ok (Some s)) (on_both (statement flat) field w) h
-    (says_instruction state flat (sentence ts).label w k))
+alone_fine : (state : Bool) (flat : Flat) (label : Option Token) → OptionHasForm flat.text label → SaidFine state (alone flat label)
+alone_fine state flat None f = tt
+alone_fine state flat (Some t) f =
+    mapped_gives (OptionGives IsText) (OptionGives (LineFine state)) (λ o. statement flat o what.Nothing) (label_field need.Optional flat.text (Some t))
+    (nothing_fine state flat) (field_text need.Optional flat.text (Some t) f)
 
-pub lines_are_said : LinesAreSaid
-lines_are_said state flat s h = (line_said state flat s (comes_of state flat s h)).0
+directive_said : (state : Bool) (flat : Flat) (s : Sentence) (d : Option Directive) (r : Said) → OptionHasForm flat.text s.label
+    → EachHasForm flat.text s.behind → SaysAs flat s d r → SaidFine state r
+directive_said state flat s None r f g h = equal_gives (OptionGives (LineFine state)) r (Ok None) h tt
+directive_said state flat s (Some d) r f g h =
+    let label = label_field (label_need d) flat.text s.label in
+    equal_gives (OptionGives (LineFine state)) r (on_both (statement_of flat) label h.0) h.2
+    (both_give (OptionGives IsText) DirectiveFine (OptionGives (LineFine state)) (statement_of flat) label h.0
+    (λ o l p q. (record { read = q.0; texts = with_label o (directive_names l) p q.1; marks = q.2 }, either_state l state))
+    (field_text (label_need d) flat.text s.label f) (directive_fine flat.text d s.behind h.0 g h.1))
 
-pub lines_are_of_state : LinesAreOfState
-lines_are_of_state state flat s h = (line_said state flat s (comes_of state flat s h)).1
+words_fine : (state : Bool) (Operation : List ℕ → Token → List Token → Result What LineKind → Type 0) → OperationIn state Operation
+    → (flat : Flat) (label o : Option Token) (ts : List Token) (r : Said) → OptionHasForm flat.text label → EachHasForm flat.text ts
+    → SaysWords Operation flat label o ts r → SaidFine state r
+words_fine state Operation law flat label None ts r f g h = equal_gives (OptionGives (LineFine state)) r (alone flat label) h (alone_fine state flat label f)
+words_fine state Operation law flat label (Some t) ts r f g h =
+    let field = label_field need.Optional flat.text label in
+    equal_gives (OptionGives (LineFine state)) r (on_both (statement flat) field h.0) h.2
+    (both_give (OptionGives IsText) (InstructionIn state) (OptionGives (LineFine state)) (statement flat) field h.0 (instruction_fine state flat)
+    (field_text need.Optional flat.text label f) (law flat.text t ts h.0 g h.1))
+
+or_fine : (state : Bool) (Operation : List ℕ → Token → List Token → Result What LineKind → Type 0) → OperationIn state Operation
+    → (flat : Flat) (ts : List Token) (d r : Said) → OptionHasForm flat.text (sentence ts).label → EachHasForm flat.text (sentence ts).behind
+    → SaidFine state d → SaysOr Operation flat ts d r → SaidFine state r
+or_fine state Operation law flat ts (Ok None) r f g k h =
+    words_fine state Operation law flat (sentence ts).label (sentence ts).operation (sentence ts).behind r f g h
+or_fine state Operation law flat ts (Ok (Some s)) r f g k h = equal_gives (OptionGives (LineFine state)) r (Ok (Some s)) h k
+or_fine state Operation law flat ts (Err j) r f g k h = equal_gives (OptionGives (LineFine state)) r (Err j) h tt
+
+tokens_fine : (state : Bool) (Operation : List ℕ → Token → List Token → Result What LineKind → Type 0) → OperationIn state Operation
+    → (flat : Flat) (ts : List Token) (r : Said) → Tokens flat.text ts → SaysTokens Operation flat ts r → SaidFine state r
+tokens_fine state Operation law flat ts r tokens h =
+    let forms = sentence_form flat.text ts (tokens_form flat.text ts (first_due flat.text) 0 flat.text refl tokens) in
+    or_fine state Operation law flat ts h.0 r forms.0 forms.1
+    (directive_said state flat (sentence ts) (directive_of flat.text (sentence ts).operation) h.0 forms.0 forms.1 h.1) h.2
+
+limit_fine : (state b : Bool) (s : Said) → SaidFine state s → SaidFine state (within_limit b s)
+limit_fine state true (Ok s) h = tt
+limit_fine state true (Err k) h = tt
+limit_fine state false s h = h
+
+line_fine : (state : Bool) (Operation : List ℕ → Token → List Token → Result What LineKind → Type 0) → OperationIn state Operation
+    → (flat : Flat) (r : Said) → SaysLine Operation flat r → SaidFine state r
+line_fine state Operation law flat r (None, tokens, h) = equal_gives (OptionGives (LineFine state)) r (Err Syntax) h tt
+line_fine state Operation law flat r (Some ts, tokens, h) =
+    equal_gives (OptionGives (LineFine state)) r (within_limit (list_any is_long ts) h.0) h.2
+    (limit_fine state (list_any is_long ts) h.0 (tokens_fine state Operation law flat ts h.0 tokens h.1))
+
+pub lines_are_fine : (state : Bool) (flat : Flat) (s : Statement) → SaysBy state flat (Ok (Some s)) → LineFine state s
+lines_are_fine true flat s h = line_fine true ReadsThumb thumb_in flat (Ok (Some s)) h
+lines_are_fine false flat s h = line_fine false ReadsArm arm_in flat (Ok (Some s)) h

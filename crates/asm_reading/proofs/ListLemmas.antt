@@ -3,23 +3,19 @@ use Rattle.std.proofs.Common.{◌≡◌, ℕ, ◌+◌, ◌*◌, ◌<◌, ◌==�
 use Rattle.std.specs.Prelude.{codes, Result, Ok, Err}
 use Rattle.std.proofs.lemmas.Bool.{and_parts}
 use Rattle.sdt_fault.specs.declared.kinds.LineKind.{LineKind}
-use Rattle.sdt_fault.specs.declared.kinds.LineKind.TheVariants.{Syntax, BadOperand}
+use Rattle.sdt_fault.specs.declared.kinds.LineKind.TheVariants.{Syntax}
 use Rattle.asm_model.specs.declared.tokens.Token.{Token}
 use Rattle.asm_model.specs.declared.tokens.TokenKind.{TokenKind}
 use Rattle.asm_model.specs.declared.tokens.TokenKind.TheVariants as kind
 use Rattle.asm_model.specs.declared.operands.Register.{Register}
-use Rattle.asm_model.specs.declared.operands.Register.TheVariants as register_is
 use Rattle.asm_model.specs.declared.operands.ListItem.{ListItem}
 use Rattle.asm_model.specs.declared.operands.ListItem.TheVariants as entry
 use Rattle.asm_model.specs.Forms.{same}
 use Rattle.asm_model.specs.Operands.{operands_at}
 use Rattle.asm_model.specs.Parts.{piece}
-use Rattle.layout_laws.proofs.LineLemmas.{EachHasForm}
-use Rattle.asm_arm.specs.Lists.{base, range, range_of, item, items, pc_alone, is_pc, content, list, list_marked, register_list, status_begun, or_bad, occurrences, are_fields, fields_with, fields_named, with_fields, fields_of, fields}
-use Rattle.asm_arm.specs.Operands.{both, marked, between, register, register_of}
+use Rattle.asm_arm.specs.Lists.{base, range_of, item, items, pc_alone, is_pc, content, list, register_list, status_begun, or_bad, occurrences, are_fields, fields_with, fields_named, with_fields, fields_of, fields}
+use Rattle.asm_arm.specs.Operands.{marked, between, register, register_of}
 use Rattle.said_model.specs.Said.{RegisterSaid, ItemSaid, AllItemsSaid}
-use Rattle.asm_reading.proofs.AddressLemmas.{followed_gives}
-use Rattle.asm_reading.proofs.FormLemmas.{AllHaveForm, SomeHaveForm, operands_at_form, marked_form, between_form}
 use Rattle.asm_reading.proofs.GivesLemmas.{Gives, OptionGives, mapped_gives, both_give, cond_gives}
 use Rattle.asm_reading.proofs.OperandLemmas.{register_of_said, register_said}
 
@@ -28,68 +24,48 @@ use Rattle.asm_reading.proofs.OperandLemmas.{register_of_said, register_said}
 abbrev pub BaseSaid : Register × Bool → Type 0
 BaseSaid p = RegisterSaid p.0
 
-pub base_said : (text : List ℕ) (ts : List Token) → EachHasForm text ts → Gives BaseSaid (base text ts)
-base_said text ts f =
+pub base_said : (text : List ℕ) (ts : List Token) → Gives BaseSaid (base text ts)
+base_said text ts =
     let us = (marked text (codes "!") ts).0 in
-    mapped_gives RegisterSaid BaseSaid (λ rn. (rn, (marked text (codes "!") ts).1)) (register text us) (λ rn p. p)
-    (register_said text us (marked_form text (codes "!") ts f))
+    mapped_gives RegisterSaid BaseSaid (λ rn. (rn, (marked text (codes "!") ts).1)) (register text us) (λ rn p. p) (register_said text us)
 
 -- ---- lists
 
-abbrev pub PairSaid : Register × Register → Type 0
-PairSaid p = RegisterSaid p.0 × RegisterSaid p.1
-
-pub range_said : (a b : Register) → RegisterSaid a → RegisterSaid b → Gives ItemSaid (range a b)
-range_said (register_is.Number m) (register_is.Number n) h k =
-    cond_gives ItemSaid (nat_lt n m) (Err BadOperand) (Ok (entry.Range (register_is.Number m) (register_is.Number n))) tt (h, k)
-range_said (register_is.Number m) (register_is.Named t) h k = (h, k)
-range_said (register_is.Named s) (register_is.Number n) h k = (h, k)
-range_said (register_is.Named s) (register_is.Named t) h k = (h, k)
-
-pub range_of_said : (a b : Result Register LineKind) → Gives RegisterSaid a → Gives RegisterSaid b → Gives ItemSaid (range_of a b)
-range_of_said a b h k =
-    followed_gives PairSaid ItemSaid (both a b) (λ p. range p.0 p.1) (λ p q. range_said p.0 p.1 q.0 q.1)
-    (both_give RegisterSaid RegisterSaid PairSaid (λ x y. (x, y)) a b (λ x y p q. (p, q)) h k)
-
-pub item_said : (text : List ℕ) (ts : List Token) → EachHasForm text ts → Gives ItemSaid (item text ts)
-item_said text [] f = tt
-item_said text (t ∷ []) f =
+item_said : (text : List ℕ) (ts : List Token) → Gives ItemSaid (item text ts)
+item_said text (t ∷ []) =
     mapped_gives RegisterSaid ItemSaid (λ r. entry.One r) (register_of t.kind (piece text t)) (λ r p. p) (register_of_said t.kind (piece text t))
-item_said text (t ∷ u ∷ []) f = tt
-item_said text (t ∷ u ∷ v ∷ []) f =
+item_said text (t ∷ u ∷ v ∷ []) =
     let first = register_of t.kind (piece text t) in
     let last = register_of v.kind (piece text v) in
     cond_gives ItemSaid (same (piece text u) (codes "-")) (range_of first last) (Err Syntax)
-    (range_of_said first last (register_of_said t.kind (piece text t)) (register_of_said v.kind (piece text v))) tt
-item_said text (t ∷ u ∷ v ∷ w ∷ ts) f = tt
+    (both_give RegisterSaid RegisterSaid ItemSaid (λ x y. entry.Range x y) first last (λ x y p q. (p, q))
+    (register_of_said t.kind (piece text t)) (register_of_said v.kind (piece text v))) tt
+item_said text ts = tt
 
-pub items_said : (text : List ℕ) (os : List (List Token)) → AllHaveForm text os → Gives AllItemsSaid (items text os)
-items_said text [] f = tt
-items_said text (o ∷ os) f =
-    both_give ItemSaid AllItemsSaid AllItemsSaid (λ x xs. x ∷ xs) (item text o) (items text os) (λ x xs p q. (p, q)) (item_said text o f.0) (items_said text os f.1)
+items_said : (text : List ℕ) (os : List (List Token)) → Gives AllItemsSaid (items text os)
+items_said text [] = tt
+items_said text (o ∷ os) =
+    both_give ItemSaid AllItemsSaid AllItemsSaid (λ x xs. x ∷ xs) (item text o) (items text os) (λ x xs p q. (p, q)) (item_said text o) (items_said text os)
 
-pub content_said : (text : List ℕ) (o : Option (List Token)) → SomeHaveForm text o → Gives AllItemsSaid (content text o)
-content_said text None f = tt
-content_said text (Some ts) f = items_said text (operands_at text 0 ts) (operands_at_form text 0 ts f)
+content_said : (text : List ℕ) (o : Option (List Token)) → Gives AllItemsSaid (content text o)
+content_said text None = tt
+content_said text (Some ts) = items_said text (operands_at text 0 ts)
 
-pub pc_said : AllItemsSaid pc_alone
+pc_said : AllItemsSaid pc_alone
 pc_said = (omega arith, tt)
 
-pub list_said : (text : List ℕ) (ts : List Token) → EachHasForm text ts → Gives AllItemsSaid (list text ts)
-list_said text ts f =
+pub list_said : (text : List ℕ) (ts : List Token) → Gives AllItemsSaid (list text ts)
+list_said text ts =
     let inner = between text (codes "{") (codes "}") ts in
-    cond_gives AllItemsSaid (is_pc text ts) (Ok pc_alone) (content text inner) pc_said
-    (content_said text inner (between_form text (codes "{") (codes "}") ts f))
+    cond_gives AllItemsSaid (is_pc text ts) (Ok pc_alone) (content text inner) pc_said (content_said text inner)
 
 abbrev pub ListSaid : List ListItem × Bool → Type 0
 ListSaid p = AllItemsSaid p.0
 
-pub list_marked_said : (text : List ℕ) (ts : List Token) (mark : Bool) → EachHasForm text ts → Gives ListSaid (list_marked text (ts, mark))
-list_marked_said text ts mark f = mapped_gives AllItemsSaid ListSaid (λ l. (l, mark)) (list text ts) (λ l p. p) (list_said text ts f)
-
-pub register_list_said : (text : List ℕ) (ts : List Token) → EachHasForm text ts → Gives ListSaid (register_list text ts)
-register_list_said text ts f =
-    list_marked_said text (marked text (codes "^") ts).0 (marked text (codes "^") ts).1 (marked_form text (codes "^") ts f)
+pub register_list_said : (text : List ℕ) (ts : List Token) → Gives ListSaid (register_list text ts)
+register_list_said text ts =
+    let us = (marked text (codes "^") ts).0 in
+    mapped_gives AllItemsSaid ListSaid (λ l. (l, (marked text (codes "^") ts).1)) (list text us) (λ l p. p) (list_said text us)
 
 -- ---- status registers
 
@@ -124,13 +100,7 @@ fields_of_said kind.Name s =
     let letters = drop 5 s in
     with_fields_said (status_begun (take 5 s)) (fields_named letters)
     (fields_with_said (occurrences 102 letters) (occurrences 115 letters) (occurrences 120 letters) (occurrences 99 letters) (length letters))
-fields_of_said kind.Barred s = tt
-fields_of_said kind.Number s = tt
-fields_of_said kind.Quoted s = tt
-fields_of_said kind.Character s = tt
-fields_of_said kind.Braced s = tt
-fields_of_said kind.Local s = tt
-fields_of_said kind.Sign s = tt
+fields_of_said k s = tt
 
 pub fields_said : (text : List ℕ) (ts : List Token) → Gives FieldsSaid (fields text ts)
 fields_said text [] = tt

@@ -1,16 +1,37 @@
 -- Names that tokens spell have a character and hold no zero byte.
-use Rattle.std.proofs.Common.{◌≡◌, ◌≢◌, ℕ, ◌-◌, ◌==◌, List, [], ◌∷◌, length, take, ◌&&◌, true, false, subst, arith, inl, inr}
+use Rattle.std.proofs.Common.{◌≡◌, ◌≢◌, ℕ, ◌-◌, ◌==◌, List, [], ◌∷◌, length, take, ◌&&◌, Bool, true, false, refl, subst, arith, inl, inr, Option, Some, None}
 use Rattle.std.specs.List.{list_all}
 use Rattle.std.proofs.lemmas.Bool.{and_parts, eqb-true}
 use Rattle.asm_model.specs.declared.tokens.TokenKind.{TokenKind}
 use Rattle.asm_model.specs.declared.tokens.TokenKind.TheVariants as kind
-use Rattle.asm_model.specs.Forms.{is_digit, is_letter, is_word, is_between_bars, one_or_more, ends_with_bar, is_name, is_barred, is_short}
+use Rattle.asm_model.specs.Forms.{is_digit, is_letter, is_word, is_between_bars, one_or_more, ends_with_bar, form_of, form_or, is_name, is_barred, is_number, is_quoted, is_character, is_one_of, braced_words, is_local, signs, is_short}
 use Rattle.asm_model.specs.Says.{between_bars, name_of}
 use Rattle.asm_model.specs.PlacedLines.{IsName}
-use Rattle.layout_laws.proofs.LineLemmas.{HasForm}
-use Rattle.layout_laws.proofs.SaidLemmas.{form_name, form_barred, no_between}
 use Rattle.said_model.specs.Said.{HoldsNoZero}
+use Rattle.said_model.proofs.SharedLemmas.{IsText}
 use Rattle.asm_reading.proofs.GivesLemmas.{Gives}
+use Rattle.asm_reading.proofs.TokenLemmas.{HasForm}
+
+-- ---- forms of names
+
+pub no_between : (c : ℕ) → c ≡ 124 → is_between_bars c ≡ true → ⊥
+no_between c e h = let x : is_between_bars 124 ≡ true = subst (λ z. is_between_bars z ≡ true) e h in absurd (cc)
+
+abbrev WordForm : List ℕ → TokenKind → Type 0
+WordForm s kind.Name = is_name s ≡ true
+WordForm s kind.Barred = is_barred s ≡ true
+WordForm s _ = Unit {0}
+
+or_form : (P : TokenKind → Type 0) (j : TokenKind) (b : Bool) (k : TokenKind) (o : Option TokenKind) → (b ≡ true → P k) → (o ≡ Some j → P j) → form_or b k o ≡ Some j → P j
+or_form P j true k o f g e = let x : k ≡ j = cc in subst P x (f refl)
+or_form P j false k o f g e = g e
+
+word_form : (s : List ℕ) (j : TokenKind) → form_of s ≡ Some j → WordForm s j
+word_form s j =
+    or_form (WordForm s) j (is_name s) kind.Name _ (λ x. x) (or_form (WordForm s) j (is_barred s) kind.Barred _ (λ x. x)
+    (or_form (WordForm s) j (is_number s) kind.Number _ (λ x. tt) (or_form (WordForm s) j (is_quoted s) kind.Quoted _ (λ x. tt)
+    (or_form (WordForm s) j (is_character s) kind.Character _ (λ x. tt) (or_form (WordForm s) j (is_one_of braced_words s) kind.Braced _ (λ x. tt)
+    (or_form (WordForm s) j (is_local s) kind.Local _ (λ x. tt) (or_form (WordForm s) j (is_one_of signs s) kind.Sign None (λ x. tt) (λ e. absurd (cc)))))))))
 
 -- ---- bytes
 
@@ -26,10 +47,6 @@ digit_text c h = λ e. let x : is_digit 0 ≡ true = subst (λ z. is_digit z ≡
 pub words_text : (s : List ℕ) → list_all is_word s ≡ true → HoldsNoZero s
 words_text [] h = tt
 words_text (c ∷ cs) h = let p = and_parts (is_word c) (list_all is_word cs) h in (letter_text c p.0, words_text cs p.1)
-
--- a name with a character, and without a zero byte
-abbrev pub IsText : List ℕ → Type 0
-IsText n = HoldsNoZero n × IsName n
 
 pub name_text : (s : List ℕ) → is_name s ≡ true → IsText s
 name_text [] h = absurd (cc)
@@ -63,8 +80,8 @@ short_text (c ∷ d ∷ e ∷ cs) h = absurd (cc)
 -- ---- names
 
 pub word_text : (k : TokenKind) (s : List ℕ) → HasForm k s → Gives IsText (name_of k s)
-word_text kind.Name s h = elim h [ inl f ↦ name_text s (form_name s f) | inr f ↦ absurd (cc) ]
-word_text kind.Barred s h = elim h [ inl f ↦ barred_text s (form_barred s f) | inr f ↦ absurd (cc) ]
+word_text kind.Name s h = elim h [ inl f ↦ name_text s (word_form s kind.Name f) | inr f ↦ absurd (cc) ]
+word_text kind.Barred s h = elim h [ inl f ↦ barred_text s (word_form s kind.Barred f) | inr f ↦ absurd (cc) ]
 word_text kind.Number s h = tt
 word_text kind.Quoted s h = tt
 word_text kind.Character s h = tt

@@ -7,50 +7,37 @@ use Rattle.sdt_word.specs.declared.codes.ShiftKind.{ShiftKind}
 use Rattle.asm_model.specs.declared.tokens.Token.{Token}
 use Rattle.asm_model.specs.declared.tokens.TokenKind.{TokenKind}
 use Rattle.asm_model.specs.declared.tokens.TokenKind.TheVariants as kind
-use Rattle.asm_model.specs.declared.exprs.Expr.{Expr}
 use Rattle.asm_model.specs.declared.operands.Register.{Register}
 use Rattle.asm_model.specs.declared.operands.Shift.TheVariants as shift
-use Rattle.asm_model.specs.Grammar.{ParsesTokens}
 use Rattle.asm_model.specs.Parts.{piece}
 use Rattle.asm_model.specs.Registers.{numbered_register, special_register, call_register, register_named}
-use Rattle.asm_model.specs.Says.{on_both, mapped, Expression}
+use Rattle.asm_model.specs.Says.{on_both, mapped}
 use Rattle.asm_model.specs.Tokens.{is_called}
-use Rattle.layout_laws.proofs.LineLemmas.{EachHasForm}
 use Rattle.asm_arm.specs.declared.operands.Scale.{Scale}
 use Rattle.asm_arm.specs.declared.operands.Scale.TheVariants as scale
 use Rattle.asm_arm.specs.declared.operands.Second.{Second}
 use Rattle.asm_arm.specs.declared.operands.Second.TheVariants as second
-use Rattle.asm_arm.specs.Operands.{without_first, named, register_of, register, shift_named, extended, ReadsAmount, ReadsKind, ReadsScale, scaled, ReadsPlain, ReadsSecond}
+use Rattle.asm_arm.specs.Operands.{both, without_first, named, register_of, register, two_registers, three_registers, shift_named, extended, ReadsAmount, ReadsKind, ReadsScale, scaled, ReadsPlain, ReadsSecond}
 use Rattle.said_model.specs.Said.{IsRead, RegisterSaid, ShiftSaid}
-use Rattle.asm_reading.proofs.FormLemmas.{SomeHaveForm}
-use Rattle.asm_reading.proofs.GivesLemmas.{Gives, OptionGives, equal_gives, mapped_gives, both_give, cond_gives, or_else_gives, option_gives}
-use Rattle.asm_reading.proofs.ExpressionLemmas.{expressions_are_read}
-
--- ---- expressions
-
-pub parsed_read : (text : List ℕ) (ts : List Token) (e : Result Expr LineKind) → ParsesTokens text ts e → Gives IsRead e
-parsed_read text ts (Ok e) h = expressions_are_read text ts e h
-parsed_read text ts (Err k) h = tt
-
-pub expression_gives : {A : Type 0} (P : A → Type 0) (text : List ℕ) (make : Expr → A) (ts : List Token) (r : Result A LineKind)
-    → Expression text make ts r → ((e : Expr) → IsRead e → P (make e)) → Gives P r
-expression_gives P text make ts r h f =
-    equal_gives P r (mapped make h.0) h.2 (mapped_gives IsRead P make h.0 f (parsed_read text ts h.0 h.1))
+use Rattle.asm_reading.proofs.ExpressionLemmas.{expression_gives}
+use Rattle.asm_reading.proofs.FormLemmas.{SomeHaveForm, without_first_form}
+use Rattle.asm_reading.proofs.GivesLemmas.{Gives, OptionGives, equal_gives, fault_gives, mapped_gives, both_give, cond_gives, or_else_gives, option_gives}
+use Rattle.asm_reading.proofs.TokenLemmas.{EachHasForm}
 
 -- ---- registers
 
 abbrev pub IsRegister : ℕ → Type 0
 IsRegister n = n < 16
 
-pub numbered_small : (s : List ℕ) → OptionGives IsRegister (numbered_register s)
+numbered_small : (s : List ℕ) → OptionGives IsRegister (numbered_register s)
 unfolding numbered_register
 numbered_small s = search (option_gives, arith) depth 40
 
-pub special_small : (s : List ℕ) → OptionGives IsRegister (special_register s)
+special_small : (s : List ℕ) → OptionGives IsRegister (special_register s)
 unfolding special_register
 special_small s = search (option_gives, arith) depth 40
 
-pub call_small : (s : List ℕ) → OptionGives IsRegister (call_register s)
+call_small : (s : List ℕ) → OptionGives IsRegister (call_register s)
 unfolding call_register
 call_small s = search (option_gives, arith) depth 40
 
@@ -60,24 +47,40 @@ register_small s =
     or_else_gives IsRegister (numbered_register s) _ (numbered_small s)
     (or_else_gives IsRegister (special_register s) (call_register s) (special_small s) (call_small s))
 
-pub named_said : (s : List ℕ) (o : Option ℕ) → OptionGives IsRegister o → RegisterSaid (named s o)
+named_said : (s : List ℕ) (o : Option ℕ) → OptionGives IsRegister o → RegisterSaid (named s o)
 named_said s (Some n) h = h
 named_said s None h = tt
 
 pub register_of_said : (k : TokenKind) (s : List ℕ) → Gives RegisterSaid (register_of k s)
 register_of_said kind.Name s = named_said s (register_named s) (register_small s)
 register_of_said kind.Barred s = tt
-register_of_said kind.Number s = tt
-register_of_said kind.Quoted s = tt
-register_of_said kind.Character s = tt
-register_of_said kind.Braced s = tt
-register_of_said kind.Local s = tt
-register_of_said kind.Sign s = tt
+register_of_said k s = tt
 
-pub register_said : (text : List ℕ) (ts : List Token) → EachHasForm text ts → Gives RegisterSaid (register text ts)
-register_said text [] h = tt
-register_said text (t ∷ []) h = register_of_said t.kind (piece text t)
-register_said text (t ∷ u ∷ ts) h = tt
+pub register_said : (text : List ℕ) (ts : List Token) → Gives RegisterSaid (register text ts)
+register_said text [] = tt
+register_said text (t ∷ []) = register_of_said t.kind (piece text t)
+register_said text (t ∷ u ∷ ts) = tt
+
+abbrev pub PairSaid : Register × Register → Type 0
+PairSaid p = RegisterSaid p.0 × RegisterSaid p.1
+
+abbrev pub ThreeSaid : (Register × Register) × Register → Type 0
+ThreeSaid p = PairSaid p.0 × RegisterSaid p.1
+
+abbrev pub FourSaid : (Register × Register) × (Register × Register) → Type 0
+FourSaid p = PairSaid p.0 × PairSaid p.1
+
+pub pair_said : (text : List ℕ) (a b : List Token) → Gives PairSaid (two_registers text a b)
+pair_said text a b =
+    both_give RegisterSaid RegisterSaid PairSaid (λ x y. (x, y)) (register text a) (register text b) (λ x y p q. (p, q)) (register_said text a) (register_said text b)
+
+pub three_said : (text : List ℕ) (a b c : List Token) → Gives ThreeSaid (three_registers text a b c)
+three_said text a b c =
+    both_give PairSaid RegisterSaid ThreeSaid (λ x y. (x, y)) (two_registers text a b) (register text c) (λ x y p q. (p, q)) (pair_said text a b) (register_said text c)
+
+pub four_said : (text : List ℕ) (a b c d : List Token) → Gives FourSaid (both (two_registers text a b) (two_registers text c d))
+four_said text a b c d =
+    both_give PairSaid PairSaid FourSaid (λ x y. (x, y)) (two_registers text a b) (two_registers text c d) (λ x y p q. (p, q)) (pair_said text a b) (pair_said text c d)
 
 -- ---- shifts and second operands
 
@@ -91,37 +94,38 @@ SecondSaid (second.Number e) = IsRead e
 SecondSaid (second.Shifted rm by) = RegisterSaid rm × ShiftSaid by
 SecondSaid (second.RegisterShifted rm k rs) = RegisterSaid rm × RegisterSaid rs
 
-pub amount_said : (text : List ℕ) (k : ShiftKind) (ts : List Token) (o : Option (List Token)) (r : Result Scale LineKind) → EachHasForm text ts
+amount_said : (text : List ℕ) (k : ShiftKind) (ts : List Token) (o : Option (List Token)) (r : Result Scale LineKind) → SomeHaveForm text o
     → ReadsAmount text k ts o r → Gives ScaleSaid r
-amount_said text k ts (Some e) r f h = expression_gives ScaleSaid text (λ a. scale.By k a) e r h (λ a p. p)
+amount_said text k ts (Some e) r f h = expression_gives ScaleSaid text (λ a. scale.By k a) e r f h (λ a p. p)
 amount_said text k ts None r f h =
     equal_gives ScaleSaid r (mapped (λ rs. scale.Register k rs) (register text ts)) h
-    (mapped_gives RegisterSaid ScaleSaid (λ rs. scale.Register k rs) (register text ts) (λ rs p. p) (register_said text ts f))
+    (mapped_gives RegisterSaid ScaleSaid (λ rs. scale.Register k rs) (register text ts) (λ rs p. p) (register_said text ts))
 
-pub kind_said : (text : List ℕ) (k : Option ShiftKind) (ts : List Token) (r : Result Scale LineKind) → EachHasForm text ts → ReadsKind text k ts r → Gives ScaleSaid r
-kind_said text None ts r f h = equal_gives ScaleSaid r (Err Syntax) h tt
-kind_said text (Some k) ts r f h = amount_said text k ts (without_first text (codes "#") ts) r f h
+kind_said : (text : List ℕ) (k : Option ShiftKind) (ts : List Token) (r : Result Scale LineKind) → EachHasForm text ts → ReadsKind text k ts r → Gives ScaleSaid r
+kind_said text None ts r f h = fault_gives ScaleSaid Syntax r h
+kind_said text (Some k) ts r f h =
+    amount_said text k ts (without_first text (codes "#") ts) r (without_first_form text (codes "#") ts f) h
 
 pub scale_said : (text : List ℕ) (ts : List Token) (r : Result Scale LineKind) → EachHasForm text ts → ReadsScale text ts r → Gives ScaleSaid r
-scale_said text [] r f h = equal_gives ScaleSaid r (Err Syntax) h tt
+scale_said text [] r f h = fault_gives ScaleSaid Syntax r h
 scale_said text (t ∷ []) r f h =
     equal_gives ScaleSaid r (extended (piece text t)) h (cond_gives ScaleSaid (is_called (codes "RRX") (piece text t)) (Ok scale.Extended) (Err Syntax) tt tt)
 scale_said text (t ∷ u ∷ ts) r f h = kind_said text (shift_named (piece text t)) (u ∷ ts) r f.1 h
 
-pub scaled_said : (rm : Register) (x : Scale) → RegisterSaid rm → ScaleSaid x → SecondSaid (scaled rm x)
+scaled_said : (rm : Register) (x : Scale) → RegisterSaid rm → ScaleSaid x → SecondSaid (scaled rm x)
 scaled_said rm (scale.By k a) h p = (h, p)
 scaled_said rm (scale.Register k rs) h p = (h, p)
 scaled_said rm scale.Extended h p = (h, tt)
 
-pub plain_said : (text : List ℕ) (x : List Token) (o : Option (List Token)) (r : Result Second LineKind) → EachHasForm text x → ReadsPlain text x o r → Gives SecondSaid r
-plain_said text x (Some e) r f h = expression_gives SecondSaid text (λ v. second.Number v) e r h (λ v p. p)
+plain_said : (text : List ℕ) (x : List Token) (o : Option (List Token)) (r : Result Second LineKind) → SomeHaveForm text o → ReadsPlain text x o r → Gives SecondSaid r
+plain_said text x (Some e) r f h = expression_gives SecondSaid text (λ v. second.Number v) e r f h (λ v p. p)
 plain_said text x None r f h =
     equal_gives SecondSaid r (mapped (λ rm. second.Shifted rm shift.Unshifted) (register text x)) h
-    (mapped_gives RegisterSaid SecondSaid (λ rm. second.Shifted rm shift.Unshifted) (register text x) (λ rm p. (p, tt)) (register_said text x f))
+    (mapped_gives RegisterSaid SecondSaid (λ rm. second.Shifted rm shift.Unshifted) (register text x) (λ rm p. (p, tt)) (register_said text x))
 
 pub second_said : (text : List ℕ) (x : List Token) (s : Option (List Token)) (r : Result Second LineKind) → EachHasForm text x → SomeHaveForm text s
     → ReadsSecond text x s r → Gives SecondSaid r
-second_said text x None r f g h = plain_said text x (without_first text (codes "#") x) r f h
+second_said text x None r f g h = plain_said text x (without_first text (codes "#") x) r (without_first_form text (codes "#") x f) h
 second_said text x (Some s) r f g h =
     equal_gives SecondSaid r (on_both (λ rm y. scaled rm y) (register text x) h.0) h.2
-    (both_give RegisterSaid ScaleSaid SecondSaid (λ rm y. scaled rm y) (register text x) h.0 scaled_said (register_said text x f) (scale_said text s h.0 g h.1))
+    (both_give RegisterSaid ScaleSaid SecondSaid (λ rm y. scaled rm y) (register text x) h.0 scaled_said (register_said text x) (scale_said text s h.0 g h.1))

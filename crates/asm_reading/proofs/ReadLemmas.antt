@@ -5,12 +5,14 @@ use Rattle.asm_model.specs.declared.lines.Flat.{Flat}
 use Rattle.asm_model.specs.declared.statements.Statement.{Statement}
 use Rattle.asm_model.specs.Directives.{or_else}
 use Rattle.said_model.specs.Said.{IsSaid, AllSaid}
+use Rattle.said_model.proofs.SharedLemmas.{IsFine, fine_said}
+use Rattle.asm_reading.proofs.LineLemmas.{lines_are_fine}
 use Rattle.asm_reading.specs.declared.reading.Reading.{Reading}
 use Rattle.asm_reading.specs.declared.reading.Unread.{Unread}
-use Rattle.asm_reading.specs.Laws.{LinesAreSaid}
-use Rattle.asm_reading.specs.Reading.{Said, SaysBy, state_after, Say, statement_in, statements_in, unread_in, first_unread, is_unread, read_first, before_behind, Keeps, IsWritten, IsReading}
+use Rattle.asm_arm.specs.Says.{Said}
+use Rattle.asm_reading.specs.Reading.{SaysBy, state_after, Say, statement_in, statements_in, unread_in, first_unread, is_unread, read_first, before_behind, Keeps, IsWritten, IsReading}
 use Rattle.asm_locals.specs.Naming.{in_names}
-use Rattle.asm_locals.proofs.KeptLemmas.{all_in_names, as_many, said_named}
+use Rattle.asm_locals.proofs.KeptLemmas.{statement_fine, all_in_names, as_many}
 use Rattle.std.specs.List.{AllByRecursion}
 
 -- ---- lists
@@ -72,34 +74,32 @@ few_read lines r h = few_named lines h.says h.say r.statements.items h.statement
 
 -- ---- each statement
 
--- a fact of each statement that a line says
-abbrev pub Law : (Statement → Type 0) → Type 0
-Law P = (thumb : Bool) (f : Flat) (s : Statement) → SaysBy thumb f (Ok (Some s)) → P s
-
-said_of : (ss : List Statement) → AllByRecursion IsSaid ss → AllSaid ss
-said_of [] h = tt
-said_of (s ∷ ss) h = (h.0, said_of ss h.1)
-
 kept_joined : (P : Statement → Type 0) (xs ys : List Statement) → AllByRecursion P xs → AllByRecursion P ys → AllByRecursion P (xs ++ ys)
 kept_joined P [] ys h k = k
 kept_joined P (x ∷ xs) ys h k = (h.0, kept_joined P xs ys h.1 k)
 
-one_kept : (P : Statement → Type 0) → Law P → (thumb : Bool) (f : Flat) (s : Said) → SaysBy thumb f s → AllByRecursion P (statement_in s)
-one_kept P law thumb f (Ok (Some s)) h = (law thumb f s h, tt)
-one_kept P law thumb f (Ok None) h = tt
-one_kept P law thumb f (Err k) h = tt
+one_fine : (thumb : Bool) (f : Flat) (s : Said) → SaysBy thumb f s → AllByRecursion IsFine (statement_in s)
+one_fine thumb f (Ok (Some s)) h = ((lines_are_fine thumb f s h).0, tt)
+one_fine thumb f (Ok None) h = tt
+one_fine thumb f (Err k) h = tt
 
-pub all_kept : (P : Statement → Type 0) → Law P → (thumb : Bool) (fs : List Flat) (ps : List (Flat × Said)) → Say thumb fs ps → AllByRecursion P (statements_in ps)
-all_kept P law thumb [] [] h = tt
-all_kept P law thumb [] (p ∷ ps) h = absurd h
-all_kept P law thumb (f ∷ fs) [] h = absurd h
-all_kept P law thumb (f ∷ fs) (p ∷ ps) h =
-    kept_joined P (statement_in p.1) (statements_in ps) (one_kept P law thumb f p.1 h.1) (all_kept P law (state_after thumb p.1) fs ps h.2)
+all_fine : (thumb : Bool) (fs : List Flat) (ps : List (Flat × Said)) → Say thumb fs ps → AllByRecursion IsFine (statements_in ps)
+all_fine thumb [] [] h = tt
+all_fine thumb [] (p ∷ ps) h = absurd h
+all_fine thumb (f ∷ fs) [] h = absurd h
+all_fine thumb (f ∷ fs) (p ∷ ps) h =
+    kept_joined IsFine (statement_in p.1) (statements_in ps) (one_fine thumb f p.1 h.1) (all_fine (state_after thumb p.1) fs ps h.2)
 
-pub said_written : LinesAreSaid → (lines : List Flat) (w : Reading) → IsWritten lines w → (named : List Statement) → named ≡ in_names w.statements.items → AllSaid named
-said_written law lines w h named e =
-    said_of named (subst (λ (l : List Statement). AllByRecursion IsSaid l) (sym (e ∙ ap in_names h.statements))
-    (all_in_names IsSaid said_named (statements_in h.says) (all_kept IsSaid law false lines h.says h.say)))
+pub named_fine : (lines : List Flat) (ps : List (Flat × Said)) → Say false lines ps → (named : List Statement) → named ≡ in_names (statements_in ps) → AllByRecursion IsFine named
+named_fine lines ps h named e = rw e (all_in_names IsFine statement_fine (statements_in ps) (all_fine false lines ps h))
+
+pub each_gives : {A : Type 0} (P Q : A → Type 0) → ((a : A) → P a → Q a) → (xs : List A) → AllByRecursion P xs → AllByRecursion Q xs
+each_gives P Q f [] h = tt
+each_gives P Q f (x ∷ xs) h = (f x h.0, each_gives P Q f xs h.1)
+
+pub said_written : (lines : List Flat) (w : Reading) → IsWritten lines w → (named : List Statement) → named ≡ in_names w.statements.items → AllSaid named
+said_written lines w h named e =
+    each_gives IsFine IsSaid fine_said named (named_fine lines h.says h.say named (e ∙ ap in_names h.statements))
 
 -- ---- the lines before the first that can't be read
 

@@ -1,50 +1,22 @@
--- What a line says is one thing, and a statement of its state as layout and emission ask for it: expressions are what
--- tokens spell, names have a character, registers are 0 to 15, and what an instruction's form leaves out is register 0. The
--- statements of a source are so too. This project's.
-use Rattle.std.specs.Prelude.{◌≡◌, List, [], Bool, Some, Ok}
+-- What a line says is one thing, and the statements of a source are as layout and emission ask for them: expressions are what
+-- tokens spell, names have a character, registers are 0 to 15, what an instruction's form leaves out is register 0, and each
+-- is of the state that those before it leave. This project's.
+use Rattle.std.specs.Prelude.{◌≡◌, List, [], Bool}
 use Rattle.asm_model.specs.declared.lines.Flat.{Flat}
 use Rattle.asm_model.specs.declared.statements.Statement.{Statement}
-use Rattle.asm_model.specs.Labels.{defined_by, imported_in}
 use Rattle.asm_model.specs.Laid.{reversed}
-use Rattle.asm_model.specs.PlacedLines.{HasName, HasImport, AllNamed}
-use Rattle.said_model.specs.Fit.{IsFit, AllFit}
-use Rattle.said_model.specs.Named.{LoadNamed, AllLoadsNamed}
-use Rattle.said_model.specs.Said.{IsSaid, HasTexts, AllSaid, AllHaveTexts}
-use Rattle.source_laws.specs.Laws.{IsOfState, KeepStates}
+use Rattle.asm_model.specs.PlacedLines.{AllNamed}
+use Rattle.said_model.specs.Fit.{AllFit}
+use Rattle.said_model.specs.Named.{AllLoadsNamed}
+use Rattle.said_model.specs.Said.{AllSaid, AllHaveTexts}
+use Rattle.source_laws.specs.Laws.{KeepStates}
 use Rattle.asm_reading.specs.declared.reading.Reading.{Reading}
-use Rattle.asm_reading.specs.Reading.{Said, SaysBy, IsReading}
+use Rattle.asm_arm.specs.Says.{Said}
+use Rattle.asm_reading.specs.Reading.{SaysBy, IsReading}
 
--- ---- a line, of Thumb or ARM state
-
--- what a line says is a statement as layout asks for it
-abbrev pub LinesAreSaid : Type 0
-LinesAreSaid = (thumb : Bool) (flat : Flat) (s : Statement) → SaysBy thumb flat (Ok (Some s)) → IsSaid s
-
--- an instruction that it says is one of its state
-abbrev pub LinesAreOfState : Type 0
-LinesAreOfState = (thumb : Bool) (flat : Flat) (s : Statement) → SaysBy thumb flat (Ok (Some s)) → IsOfState thumb s.what
-
--- the names that it says outside of expressions hold no zero byte
-abbrev pub LinesHaveTexts : Type 0
-LinesHaveTexts = (thumb : Bool) (flat : Flat) (s : Statement) → SaysBy thumb flat (Ok (Some s)) → HasTexts s
-
--- each name that it defines or imports has a character
-abbrev pub LinesAreNamed : Type 0
-LinesAreNamed = (thumb : Bool) (flat : Flat) (s : Statement) → SaysBy thumb flat (Ok (Some s)) → HasName (defined_by s) × HasImport (imported_in s.what)
-
--- each name in what it loads has a character
-abbrev pub LoadsAreNamed : Type 0
-LoadsAreNamed = (thumb : Bool) (flat : Flat) (s : Statement) → SaysBy thumb flat (Ok (Some s)) → LoadNamed s.what
-
--- the marks of its AREA agree with what that holds, and the operands of its DCD have no place as a constant
-abbrev pub LinesAreFit : Type 0
-LinesAreFit = (thumb : Bool) (flat : Flat) (s : Statement) → SaysBy thumb flat (Ok (Some s)) → IsFit s
-
--- a line says one statement, or has one fault
+-- a line, of Thumb or ARM state, says one statement, or has one fault
 abbrev pub OneLine : Type 0
 OneLine = (thumb : Bool) (flat : Flat) (a b : Said) → SaysBy thumb flat a → SaysBy thumb flat b → a ≡ b
-
--- ---- the lines of a source
 
 -- two readings of the same lines are the same
 abbrev pub OneReading : Type 0

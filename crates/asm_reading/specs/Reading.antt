@@ -3,7 +3,7 @@
 -- Guide, chapter on the assembler. This project's: a line that can't be read changes no state.
 use Rattle.std.specs.Prelude.{◌≡◌, ℕ, List, [], ◌∷◌, ◌++◌, length, Bool, true, false, if◌then◌else◌, Option, Some, None, Result, Ok, Err}
 use Rattle.sdt_fault.specs.declared.kinds.LineKind.{LineKind}
-use Rattle.asm_arm.specs.Says.{SaysArm}
+use Rattle.asm_arm.specs.Says.{Said, SaysArm}
 use Rattle.asm_thumb.specs.Says.{SaysThumb}
 use Rattle.asm_locals.specs.Naming.{in_names}
 use Rattle.asm_model.specs.declared.lines.Flat.{Flat}
@@ -14,10 +14,6 @@ use Rattle.asm_reading.specs.declared.reading.Reading.{Reading}
 use Rattle.asm_reading.specs.declared.reading.Unread.{Unread}
 
 -- ---- what lines say
-
--- what a line says, or the kind that is told of it
-abbrev pub Said : Type 0
-Said = Result (Option Statement) LineKind
 
 -- what a line of Thumb state says, or one of ARM state
 abbrev pub SaysBy : Bool → Flat → Said → Type 0

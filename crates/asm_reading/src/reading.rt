@@ -1,20 +1,16 @@
 //! What the flat lines of a source say, each in its state.
 
-ghost use Rattle.std.specs.Prelude.{◌≡◌, ◌++◌, ◌^◌, ◌<◌, ◌≤◌, length, IfOk, OnOk};
+ghost use Rattle.std.specs.Prelude.{◌≡◌, ◌≤◌, length, IfOk, OnOk};
 ghost use Rattle.asm_locals.specs.Naming.{in_names};
 ghost use Rattle.asm_model.specs.Before as states;
-ghost use Rattle.asm_model.specs.Told.{Told};
 ghost use Rattle.asm_reading.specs.Reading as reading_of;
 ghost use Rattle.said_model.specs.Said.{AllSaid};
 
-use crate::laws::lines_are_said;
-use asm_arm::parse_arm;
+use asm_arm::says::{Said, said_in_arm};
 use asm_locals::name_locals;
 use asm_model::{DirectiveLine, Flat, Statement, What};
-use asm_thumb::parse_thumb;
-use sdt_fault::answer::Fault;
+use asm_thumb::says::said_in_thumb;
 use sdt_fault::kinds::LineKind;
-use sdt_fault::refusal::Refusal;
 use sdt_fault::{NoMemory, Text};
 use std::alloc::Global;
 
@@ -36,9 +32,6 @@ pub struct Unread {
     pub number: u32,
     pub kind: LineKind,
 }
-
-/// What a line says, or the kind that is told of it.
-type Said = Result<Option<Statement>, LineKind>;
 
 /// The state behind a statement in this state.
 fn state_behind(what: &What, thumb: bool) -> bool
@@ -62,29 +55,17 @@ fn state_after(thumb: bool, said: &Said) -> bool
     }
 }
 
-/// What a line of a state says.
-fn parse(alloc: Global, line: &Flat, thumb: bool) -> Result<Option<Statement>, Fault>
-    requires { length line.now.text < 2 ^ 32 }
-    ensures { Told line.now.source line.now.number (reading_of.SaysBy thumb line.now) result }
-{
-    if thumb {
-        return parse_thumb(alloc, line);
-    }
-    parse_arm(alloc, line)
-}
-
-/// What a line says, or the kind that is told of it. A line of 2^32 bytes counts as want of memory.
+/// What a line of a state says, or the kind that is told of it. A line of 2^32 bytes counts as want of memory.
 fn read_line(alloc: Global, line: &Flat, thumb: bool) -> Result<Said, NoMemory>
     ensures { IfOk result (λ said. reading_of.SaysBy thumb line.now said) }
 {
     if line.text.as_slice().len() > 0xFFFF_FFFF {
         return Err(NoMemory);
     }
-    match parse(alloc, line, thumb) {
-        Ok(said) => Ok(Ok(said)),
-        Err(Fault::Refused(Refusal::BadLine { kind, .. })) => Ok(Err(kind)),
-        Err(_) => Err(NoMemory),
+    if thumb {
+        return said_in_thumb(alloc, line);
     }
+    said_in_arm(alloc, line)
 }
 
 fn unread_line(alloc: Global, line: &Flat, kind: LineKind) -> Result<Unread, NoMemory>
@@ -159,7 +140,6 @@ pub fn read_lines(alloc: Global, lines: &[Flat]) -> Result<Reading, NoMemory>
     ensures said { IfOk result (λ reading. AllSaid reading.statements.items) }
     ensures few { IfOk result (λ reading. length reading.statements.items ≤ length lines.now) }
 {
-    lines_are_said();
     let mut reading = read_as_written(alloc, lines)?;
     name_all(alloc, &mut reading.statements)?;
     Ok(reading)

@@ -33,14 +33,14 @@ impl<V: Copy> NameMap<V> {
         }
     }
 
-    /// The value of a name.
+    /// The value of a name; None where it isn't there.
     pub fn find(&self, name: &Text) -> Option<V>
         ensures { result ≡ found_in name.now self.now }
     {
         self.entries.get(name).copied()
     }
 
-    /// A name more, behind the others, with its value.
+    /// A name more, behind the others, with its value. `NoMemory` comes where its copy or the index finds no memory.
     pub fn add(&mut self, alloc: Global, name: &Text, value: V) -> Result<(), NoMemory>
         requires { found_in name.now self.old ≡ None }
         ensures more { OnOk result (self.new ≡ self.old ++ (name.now, value) ∷ []) }

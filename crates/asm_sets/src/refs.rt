@@ -34,7 +34,7 @@ impl<'a> NameRefs<'a> {
         }
     }
 
-    /// A name more, unless it is there.
+    /// A name more, unless it is there. `NoMemory` comes where the index finds no memory; the name itself isn't copied.
     pub fn add(&mut self, name: &'a Text) -> Result<(), NoMemory>
         ensures { OnOk result (HaveSame self.new (name.now ∷ self.old)) }
     {

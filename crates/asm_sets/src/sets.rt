@@ -35,7 +35,8 @@ impl NameSet {
         }
     }
 
-    /// A name behind the others, unless it is there; and whether it wasn't. An `Err` changes nothing.
+    /// A name behind the others, unless it is there; and whether it wasn't. `NoMemory`, where its copy or the index finds no
+    /// memory, changes nothing.
     pub fn add(&mut self, alloc: Global, name: &Text) -> Result<bool, NoMemory>
         ensures fresh { IfOk result (λ fresh. fresh ≡ not (list_any (same name.now) self.old)) }
         ensures more { OnOk result (self.new ≡ with_name (Some name.now) self.old) }

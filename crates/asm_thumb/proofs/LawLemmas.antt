@@ -5,16 +5,13 @@ use Rattle.sdt_fault.specs.declared.kinds.LineKind.{LineKind}
 use Rattle.sdt_word.specs.declared.codes.Width.{Width}
 use Rattle.thumb_isa.specs.declared.instr.ImmediateOperation.{ImmediateOperation}
 use Rattle.thumb_isa.specs.declared.instr.ThumbShift.{ThumbShift}
-use Rattle.asm_model.specs.declared.lines.Flat.{Flat}
 use Rattle.asm_model.specs.declared.tokens.Token.{Token}
 use Rattle.asm_model.specs.declared.exprs.Expr.{Expr}
-use Rattle.asm_model.specs.declared.statements.Statement.{Statement}
 use Rattle.asm_model.specs.declared.statements.What.{What}
 use Rattle.asm_model.specs.Grammar.{OneParse, ParsesTokens}
 use Rattle.asm_model.specs.Operands.{operands}
 use Rattle.asm_model.specs.Parts.{part_of, piece}
-use Rattle.asm_model.specs.Says.{sentence, unnamed, OneDirective}
-use Rattle.asm_model.specs.Tokens.{OneScan}
+use Rattle.asm_model.specs.Says.{unnamed}
 use Rattle.asm_arm.specs.Lines.{hash, equals, bracket, numbered}
 use Rattle.asm_arm.specs.Operands.{Cuts, none, one, two, three, four, more, cut, without_first}
 use Rattle.asm_thumb.specs.declared.frames.Frame.{Frame}
@@ -24,7 +21,8 @@ use Rattle.asm_thumb.specs.declared.words.Mnemonic.TheVariants as mnemonic
 use Rattle.asm_thumb.specs.Data as forms
 use Rattle.asm_thumb.specs.Lines as lines
 use Rattle.asm_thumb.specs.Frames.{ReadsWith}
-use Rattle.asm_thumb.specs.Says.{SaysWords, SaysTokens, SaysOr, SaysScanned, OneThumb}
+use Rattle.asm_thumb.specs.Says.{ReadsThumb}
+use Rattle.asm_arm.proofs.SayingLemmas.{OneOperation}
 use Rattle.asm_thumb.specs.Transfers as transfers
 use Rattle.asm_thumb.specs.Words.{operation_named}
 
@@ -143,29 +141,5 @@ one_reading : OneParse → (text : List ℕ) (k : LineKind) (m : Option Mnemonic
 one_reading law text k None ts a b p q = p ∙ sym q
 one_reading law text k (Some m) ts a b p q = one_word law text m ts a b p q
 
-one_words : OneParse → (flat : Flat) (label o : Option Token) (ts : List Token) (a b : Result (Option Statement) LineKind) → SaysWords flat label o ts a → SaysWords flat label o ts b → a ≡ b
-one_words law flat label None ts a b p q = p ∙ sym q
-one_words law flat label (Some t) ts a b p q =
-    one_made (lines.Reads flat.text (unnamed t.kind) (operation_named (piece flat.text t)) ts) _
-    (one_reading law flat.text (unnamed t.kind) (operation_named (piece flat.text t)) ts) a b p q
-
-one_or : OneParse → (flat : Flat) (ts : List Token) (d a b : Result (Option Statement) LineKind) → SaysOr flat ts d a → SaysOr flat ts d b → a ≡ b
-one_or law flat ts (Ok None) a b p q = one_words law flat (sentence ts).label (sentence ts).operation (sentence ts).behind a b p q
-one_or law flat ts (Ok (Some s)) a b p q = p ∙ sym q
-one_or law flat ts (Err k) a b p q = p ∙ sym q
-
-one_of_tokens : OneParse → OneDirective → (flat : Flat) (ts : List Token) (a b : Result (Option Statement) LineKind) → SaysTokens flat ts a → SaysTokens flat ts b → a ≡ b
-one_of_tokens law directive flat ts a b p q =
-    let same_directive = directive flat ts p.0 q.0 p.1 q.1 in
-    let other : SaysOr flat ts p.0 b = rw (sym same_directive) at q.2 in
-    one_or law flat ts p.0 a b p.2 other
-
-one_scanned : OneParse → OneDirective → (flat : Flat) (s : Result (List Token) LineKind) (a b : Result (Option Statement) LineKind) → SaysScanned flat s a → SaysScanned flat s b → a ≡ b
-one_scanned law directive flat (Ok ts) a b p q = one_of_tokens law directive flat ts a b p q
-one_scanned law directive flat (Err k) a b p q = p ∙ sym q
-
-pub one_line : OneScan → OneParse → OneDirective → OneThumb
-one_line scan law directive flat a b p q =
-    let same_scan = scan flat.text p.0 q.0 p.1 q.1 in
-    let other : SaysScanned flat p.0 b = rw (sym same_scan) at q.2 in
-    one_scanned law directive flat p.0 a b p.2 other
+pub one_operation : OneParse → OneOperation ReadsThumb
+one_operation law text t ts a b p q = one_reading law text (unnamed t.kind) (operation_named (piece text t)) ts a b p q

@@ -2,7 +2,7 @@
 use Rattle.std.proofs.Common.{◌≡◌, ℕ, List, [], ◌∷◌, true, false, refl, Some, codes}
 use Rattle.std.specs.Prelude.{Result, Ok, Err}
 use Rattle.sdt_fault.specs.declared.kinds.LineKind.{LineKind}
-use Rattle.sdt_fault.specs.declared.kinds.LineKind.TheVariants.{Syntax, UnknownWord, BadOperand}
+use Rattle.sdt_fault.specs.declared.kinds.LineKind.TheVariants.{Syntax, UnknownWord}
 use Rattle.sdt_word.specs.declared.codes.Condition.TheVariants as condition
 use Rattle.thumb_isa.specs.declared.instr.HighOperation.TheVariants as high
 use Rattle.thumb_isa.specs.declared.instr.ThumbOperation.TheVariants as operation
@@ -49,7 +49,7 @@ name s = leaf_of (item.Name s)
 -- one operand alone
 parsed : (ps : List Part) (i : ExprItem) → ps ≡ part.Operand i ∷ [] → plain i ≡ Some i → Parses ps (Ok (leaf_of i))
 parsed ps i e p =
-    rw e ((Leaf i, tighter 5 _ _ (tighter 4 _ _ (tighter 3 _ _ (tighter 2 _ _ (tighter 1 _ _ (tighter 0 _ _ (leaf (part.Operand i) i p)))))), refl), refl)
+    rw e (Leaf i, tighter 5 _ _ (tighter 4 _ _ (tighter 3 _ _ (tighter 2 _ _ (tighter 1 _ _ (tighter 0 _ _ (leaf (part.Operand i) i p)))))), refl)
 
 -- ` ADD r0,r1,#5`
 pub sum_of_three : Says (codes " ADD r0,r1,#5") (token kind.Name 1 4)
@@ -142,19 +142,12 @@ pub push : Says (codes " PUSH {r0-r3,lr}") (token kind.Name 1 5)
 unfolding operation_named core_named depth_behind register_named numbered_register special_register call_register
 push = refl
 
--- ` PUSH {r8}`
-pub no_high_push : Says (codes " PUSH {r8}") (token kind.Name 1 5)
-    ((token kind.Sign 6 7) ∷ (token kind.Name 7 9) ∷ (token kind.Sign 9 10) ∷ [])
-    (Err BadOperand)
-unfolding operation_named core_named depth_behind register_named numbered_register special_register call_register
-no_high_push = refl
-
--- ` AND r8,r1`
-pub no_high_register : Says (codes " AND r8,r1") (token kind.Name 1 4)
+-- ` AND r8,r1`, whose registers are judged by the row
+pub high_register : Says (codes " AND r8,r1") (token kind.Name 1 4)
     ((token kind.Name 5 7) ∷ (token kind.Sign 7 8) ∷ (token kind.Name 8 10) ∷ [])
-    (Err BadOperand)
+    (Ok (what.Thumb (line.DataRegister operation.And (register.Number 8) (register.Number 1))))
 unfolding operation_named core_named depth_behind register_named numbered_register special_register call_register
-no_high_register = refl
+high_register = refl
 
 -- ` BNE f`
 pub branch : Says (codes " BNE f") (token kind.Name 1 4)

@@ -1,6 +1,6 @@
 -- What the tokens behind an operation word say, in each form of a Thumb line. The forms are those of the ARM SDT 2.50
--- Reference Guide, chapter on the assembler. A form that the tokens don't have is Syntax, and a register that its row
--- doesn't have is BadOperand. Values are judged elsewhere.
+-- Reference Guide, chapter on the assembler. A form that the tokens don't have is Syntax. Registers are judged by the row
+-- and not here, and so are values.
 use Rattle.std.specs.Prelude.{◌≡◌, ℕ, List, Bool, true, false, Option, Some, None, Result, Ok, Err}
 use Rattle.sdt_fault.specs.declared.kinds.LineKind.{LineKind}
 use Rattle.sdt_fault.specs.declared.kinds.LineKind.TheVariants.{Syntax, FloatingPoint}
@@ -18,24 +18,18 @@ use Rattle.asm_thumb.specs.declared.words.Mnemonic.{Mnemonic}
 use Rattle.asm_thumb.specs.declared.words.Mnemonic.TheVariants as mnemonic
 use Rattle.asm_thumb.specs.Data.{ReadsImmediate, ReadsShift, registers}
 use Rattle.asm_thumb.specs.Frames.{ReadsWith}
-use Rattle.asm_thumb.specs.Operands.{low_register, register_list, written_base}
+use Rattle.asm_thumb.specs.Operands.{register_list, written_base}
 use Rattle.asm_thumb.specs.Transfers.{ReadsTransfer, signed_transfer}
 
--- PUSH takes lr too, and POP pc
-abbrev pub link_of : Bool → Option ℕ
-link_of true = Some 15
-link_of false = Some 14
-
+-- a register list
 abbrev pub push_pop : List ℕ → Bool → Cuts → Result What LineKind
-push_pop text load (one l) =
-    mapped (λ items. what.Thumb (line.PushPop load (record { items = items }))) (register_list text (link_of load) l)
+push_pop text load (one l) = mapped (λ items. what.Thumb (line.PushPop load (record { items = items }))) (register_list text l)
 push_pop text load _ = Err Syntax
 
 -- a base that is written back, and a register list
 abbrev pub multiple : List ℕ → Bool → Cuts → Result What LineKind
 multiple text load (two b l) =
-    on_both (λ rn items. what.Thumb (line.TransferMultiple load rn (record { items = items })))
-    (written_base text b) (register_list text None l)
+    on_both (λ rn items. what.Thumb (line.TransferMultiple load rn (record { items = items }))) (written_base text b) (register_list text l)
 multiple text load _ = Err Syntax
 
 -- BX takes any register
@@ -46,7 +40,7 @@ exchange text _ = Err Syntax
 -- Rd and a label
 abbrev pub ReadsAddress : List ℕ → Cuts → Result What LineKind → Type 0
 ReadsAddress text (two d e) r =
-    ReadsWith text (mapped (λ rd. frame.Address rd) (low_register text d)) e r
+    ReadsWith text (mapped (λ rd. frame.Address rd) (register text d)) e r
 ReadsAddress text _ r = r ≡ Err Syntax
 
 -- what the tokens behind an operation word say

@@ -1,49 +1,46 @@
 -- What the operands of transfers say: an address in brackets, a number behind an equals sign, or a label. ARM SDT 2.50
--- Reference Guide, chapter on the assembler. A base alone is the offset 0. Words alone are moved by sp, and loaded by pc;
--- signed bytes and half-words have no number as their offset.
-use Rattle.std.specs.Prelude.{◌≡◌, ℕ, List, nat_lt, ◌==◌, ◌&&◌, codes, Bool, true, false, if◌then◌else◌, Option, Some, None, Result, Ok, Err}
+-- Reference Guide, chapter on the assembler. A base alone is the offset 0. Words that are moved by sp, or loaded by pc, have
+-- rows of their own; signed bytes and half-words have no number as their offset.
+use Rattle.std.specs.Prelude.{◌≡◌, ℕ, List, ◌&&◌, codes, Bool, true, false, if◌then◌else◌, Option, Some, None, Result, Ok, Err}
 use Rattle.sdt_fault.specs.declared.kinds.LineKind.{LineKind}
-use Rattle.sdt_fault.specs.declared.kinds.LineKind.TheVariants.{Syntax, BadOperand}
+use Rattle.sdt_fault.specs.declared.kinds.LineKind.TheVariants.{Syntax}
 use Rattle.sdt_word.specs.declared.codes.Width.{Width}
 use Rattle.sdt_word.specs.declared.codes.Width.TheVariants as width
 use Rattle.thumb_isa.specs.declared.instr.SignedTransfer.{SignedTransfer}
 use Rattle.thumb_isa.specs.declared.instr.SignedTransfer.TheVariants as signed
 use Rattle.asm_model.specs.declared.tokens.Token.{Token}
 use Rattle.asm_model.specs.declared.operands.Register.{Register}
-use Rattle.asm_model.specs.declared.operands.Register.TheVariants as register_is
 use Rattle.asm_model.specs.declared.statements.What.{What}
 use Rattle.asm_model.specs.declared.statements.What.TheVariants as what
 use Rattle.asm_model.specs.declared.thumb_lines.ThumbLine.TheVariants as line
 use Rattle.asm_model.specs.Operands.{operands}
 use Rattle.asm_model.specs.Says.{mapped}
 use Rattle.asm_arm.specs.Lines.{hash, equals, bracket}
-use Rattle.asm_arm.specs.Operands.{Cuts, one, two, cut, between, followed, without_first}
+use Rattle.asm_arm.specs.Operands.{Cuts, one, two, cut, between, register, two_registers, three_registers, without_first}
 use Rattle.asm_thumb.specs.declared.frames.Frame.{Frame}
 use Rattle.asm_thumb.specs.declared.frames.Frame.TheVariants as frame
 use Rattle.asm_thumb.specs.Frames.{ReadsWith, with_zero}
-use Rattle.asm_thumb.specs.Operands.{low_and_any, low_register, low_three}
+use Rattle.asm_thumb.specs.Operands.{is_sp, is_pc}
 
 abbrev pub is_word : Width → Bool
 is_word width.Word = true
 is_word _ = false
 
--- a transfer by one of r0 to r7 and a number
-abbrev pub low_frame : Bool → Width → Register → Register → Frame
-low_frame load width.Byte rd rn = frame.Transfer load true rd rn
-low_frame load width.Half rd rn = frame.TransferHalf load rd rn
-low_frame load width.Word rd rn = frame.Transfer load false rd rn
+-- a transfer of a word by a base and a number
+abbrev pub word_frame : Bool → Register → Register → Frame
+word_frame load rd rn =
+    if is_sp rn then frame.TransferStack load rd
+    else if load && is_pc rn then frame.Literal rd
+    else frame.Transfer load false rd rn
 
 -- a transfer by a base and a number
-abbrev pub number_frame : Bool → Width → Register → Register → Result Frame LineKind
-number_frame load w rd (register_is.Number n) =
-    if nat_lt n 8 then Ok (low_frame load w rd (register_is.Number n))
-    else if is_word w && n == 13 then Ok (frame.TransferStack load rd)
-    else if load && is_word w && n == 15 then Ok (frame.Literal rd)
-    else Err BadOperand
-number_frame load w rd (register_is.Named s) = Ok (low_frame load w rd (register_is.Named s))
+abbrev pub number_frame : Bool → Width → Register → Register → Frame
+number_frame load width.Byte rd rn = frame.Transfer load true rd rn
+number_frame load width.Half rd rn = frame.TransferHalf load rd rn
+number_frame load width.Word rd rn = word_frame load rd rn
 
 abbrev pub based : List ℕ → Bool → Width → List Token → List Token → Result Frame LineKind
-based text load w d n = followed (low_and_any text d n) (λ p. number_frame load w p.0 p.1)
+based text load w d n = mapped (λ p. number_frame load w p.0 p.1) (two_registers text d n)
 
 -- a transfer of half-words without a sign
 abbrev pub half_transfer : Bool → SignedTransfer
@@ -58,7 +55,7 @@ register_line load width.Word rd rn ro = what.Thumb (line.TransferRegister load 
 
 abbrev pub ReadsOffset : List ℕ → Bool → Width → List Token → List Token → List Token → Option (List Token) → Result What LineKind → Type 0
 ReadsOffset text load w d n x (Some e) r = ReadsWith text (based text load w d n) e r
-ReadsOffset text load w d n x None r = r ≡ mapped (λ p. register_line load w p.0.0 p.0.1 p.1) (low_three text d n x)
+ReadsOffset text load w d n x None r = r ≡ mapped (λ p. register_line load w p.0.0 p.0.1 p.1) (three_registers text d n x)
 
 -- what stands in brackets: a base, or a base and an offset
 abbrev pub ReadsInside : List ℕ → Bool → Width → List Token → Cuts → Result What LineKind → Type 0
@@ -81,8 +78,8 @@ ReadsBracketed text load w d (Some os) r = ReadsInside text load w d os r
 -- a number that is loaded, behind an equals sign, or a label that is loaded
 abbrev pub ReadsLoaded : List ℕ → Bool → List Token → List Token → Option (List Token) → Result What LineKind → Type 0
 ReadsLoaded text false d a o r = r ≡ Err Syntax
-ReadsLoaded text true d a (Some e) r = ReadsWith text (mapped (λ rd. frame.Constant rd) (low_register text d)) e r
-ReadsLoaded text true d a None r = ReadsWith text (mapped (λ rd. frame.Label rd) (low_register text d)) a r
+ReadsLoaded text true d a (Some e) r = ReadsWith text (mapped (λ rd. frame.Constant rd) (register text d)) e r
+ReadsLoaded text true d a None r = ReadsWith text (mapped (λ rd. frame.Label rd) (register text d)) a r
 
 abbrev pub ReadsPlace : List ℕ → Bool → Width → List Token → List Token → Option (List Token) → Result What LineKind → Type 0
 ReadsPlace text load w d a (Some ts) r = ReadsBracketed text load w d (bracketed text a) r
@@ -96,7 +93,7 @@ ReadsTransfer text load w _ r = r ≡ Err Syntax
 -- LDRSB and LDRSH
 abbrev pub signed_inside : List ℕ → SignedTransfer → List Token → Option Cuts → Result What LineKind
 signed_inside text k d (Some (two n x)) =
-    mapped (λ p. what.Thumb (line.TransferSigned k p.0.0 p.0.1 p.1)) (low_three text d n x)
+    mapped (λ p. what.Thumb (line.TransferSigned k p.0.0 p.0.1 p.1)) (three_registers text d n x)
 signed_inside text k d _ = Err Syntax
 
 abbrev pub signed_transfer : List ℕ → SignedTransfer → Cuts → Result What LineKind

@@ -1,14 +1,15 @@
 //! What the operands of moves, comparisons, sums, shifts and logical operations say.
 
 ghost use Rattle.std.specs.Prelude.{◌≡◌, IfOk, Some};
+ghost use Rattle.asm_model.specs.Says as says;
 ghost use Rattle.asm_arm.specs.Lines as arm;
 ghost use Rattle.asm_arm.specs.Operands as arm_operands;
 ghost use Rattle.asm_arm.specs.Steps.{cut_of};
 ghost use Rattle.asm_thumb.specs.Data as forms;
 
 use crate::frames::{Frame, Said, with_value, with_zero};
-use crate::operands::{copy_of, low_and_any, low_pair, low_three, may_be_high};
-use asm_arm::operands::{Cut, both, register, without_first};
+use crate::operands::{copy_of, is_pc, is_sp, may_be_high};
+use asm_arm::operands::{Cut, register, three_registers, two_registers, without_first};
 use asm_model::{Register, ThumbLine, ThumbOperand, Token, What};
 use sdt_fault::kinds::LineKind;
 use std::alloc::Global;
@@ -26,12 +27,12 @@ fn sum_of(operation: ImmediateOperation) -> Option<bool>
 }
 
 /// An operation of sp and a number.
-fn stack_frame(operation: ImmediateOperation) -> Result<Frame, LineKind>
-    ensures { result ≡ forms.stack_frame (forms.sum_of operation) }
+fn stack_frame(operation: ImmediateOperation, rd: Register) -> Frame
+    ensures { result ≡ forms.stack_frame operation rd (forms.sum_of operation) }
 {
     match sum_of(operation) {
-        None => Err(LineKind::BadOperand),
-        Some(subtract) => Ok(Frame::AdjustStack { subtract }),
+        None => Frame::Immediate { operation, rd },
+        Some(subtract) => Frame::AdjustStack { subtract },
     }
 }
 
@@ -40,21 +41,13 @@ fn immediate_frame(
     operation: ImmediateOperation,
     rd: Result<Register, LineKind>,
 ) -> Result<Frame, LineKind>
-    ensures { result ≡ arm_operands.followed rd (forms.immediate_frame operation) }
+    ensures { result ≡ says.mapped (forms.immediate_frame operation) rd }
 {
     match rd {
-        Ok(Register::Number(number)) => {
-            if number < 8 {
-                let rd = Register::Number(number);
-                return Ok(Frame::Immediate { operation, rd });
+        Ok(rd) => {
+            if is_sp(&rd) {
+                return Ok(stack_frame(operation, rd));
             }
-            if number == 13 {
-                return stack_frame(operation);
-            }
-            Err(LineKind::BadOperand)
-        }
-        Ok(Register::Named(name)) => {
-            let rd = Register::Named(name);
             Ok(Frame::Immediate { operation, rd })
         }
         Err(kind) => Err(kind),
@@ -121,47 +114,41 @@ fn pair(
 ) -> Said
     ensures { IfOk result (λ said. forms.ReadsPair text.now operation rd.now operand.now (arm_operands.without_first text.now arm.hash operand.now) said) }
 {
-    let rd = register(alloc, text, rd)?;
     if let Some(number) = without_first(text, b"#", operand) {
-        return with_value(alloc, text, immediate_frame(operation, rd), number);
+        let frame = immediate_frame(operation, register(alloc, text, rd)?);
+        return with_value(alloc, text, frame, number);
     }
-    let rs = register(alloc, text, operand)?;
-    match both(rd, rs) {
+    match two_registers(alloc, text, rd, operand)? {
         Ok((rd, rs)) => pair_line(alloc, operation, rd, rs),
         Err(kind) => Ok(Err(kind)),
     }
 }
 
-/// A sum of a register and a number; one of sp or pc is an address.
-fn sum_frame(
+/// A sum of a register and a number; ADD of sp or pc is an address.
+fn sum_frame(subtract: bool, rd: Register, rs: Register) -> Frame
+    ensures { result ≡ forms.sum_frame subtract rd rs }
+{
+    if subtract {
+        return Frame::Sum { subtract, rd, rs };
+    }
+    if is_sp(&rs) {
+        return Frame::LoadAddress { stack: true, rd };
+    }
+    if is_pc(&rs) {
+        return Frame::LoadAddress { stack: false, rd };
+    }
+    Frame::Sum { subtract, rd, rs }
+}
+
+/// The same, of registers that are read.
+fn sum_of_read(
     subtract: bool,
     pair: Result<(Register, Register), LineKind>,
 ) -> Result<Frame, LineKind>
-    ensures { result ≡ arm_operands.followed pair (λ p. forms.sum_frame subtract p.0 p.1) }
+    ensures { result ≡ says.mapped (λ p. forms.sum_frame subtract p.0 p.1) pair }
 {
     match pair {
-        Ok((rd, rs)) => match rs {
-            Register::Number(number) => {
-                if number < 8 {
-                    let rs = Register::Number(number);
-                    return Ok(Frame::Sum { subtract, rd, rs });
-                }
-                if subtract {
-                    return Err(LineKind::BadOperand);
-                }
-                if number == 13 {
-                    return Ok(Frame::LoadAddress { stack: true, rd });
-                }
-                if number == 15 {
-                    return Ok(Frame::LoadAddress { stack: false, rd });
-                }
-                Err(LineKind::BadOperand)
-            }
-            Register::Named(name) => {
-                let rs = Register::Named(name);
-                Ok(Frame::Sum { subtract, rd, rs })
-            }
-        },
+        Ok((rd, rs)) => Ok(sum_frame(subtract, rd, rs)),
         Err(kind) => Err(kind),
     }
 }
@@ -178,10 +165,10 @@ fn sum(
     ensures { IfOk result (λ said. forms.ReadsSum text.now (Some subtract) rd.now rs.now operand.now (arm_operands.without_first text.now arm.hash operand.now) said) }
 {
     if let Some(number) = without_first(text, b"#", operand) {
-        let frame = sum_frame(subtract, low_and_any(alloc, text, rd, rs)?);
+        let frame = sum_of_read(subtract, two_registers(alloc, text, rd, rs)?);
         return with_value(alloc, text, frame, number);
     }
-    match low_three(alloc, text, rd, rs, operand)? {
+    match three_registers(alloc, text, rd, rs, operand)? {
         Ok(((rd, rs), rn)) => Ok(Ok(What::Thumb(ThumbLine::AddSubtract {
             subtract,
             rd,
@@ -211,7 +198,7 @@ pub fn registers(alloc: Global, text: &[u8], operation: ThumbOperation, cut: Cut
     ensures { IfOk result (λ said. said ≡ forms.registers text.now operation (cut_of cut.entry)) }
 {
     match cut {
-        Cut::Two(rd, rs) => match low_pair(alloc, text, rd, rs)? {
+        Cut::Two(rd, rs) => match two_registers(alloc, text, rd, rs)? {
             Ok((rd, rs)) => Ok(Ok(What::Thumb(ThumbLine::DataRegister { operation, rd, rs }))),
             Err(kind) => Ok(Err(kind)),
         },
@@ -252,7 +239,7 @@ pub fn shifts(alloc: Global, text: &[u8], shift: ThumbShift, cut: Cut<'_>) -> Sa
         Cut::Three(rd, rs, amount) => match without_first(text, b"#", amount) {
             None => Ok(Err(LineKind::Syntax)),
             Some(number) => {
-                let frame = shift_frame(shift, low_pair(alloc, text, rd, rs)?);
+                let frame = shift_frame(shift, two_registers(alloc, text, rd, rs)?);
                 with_value(alloc, text, frame, number)
             }
         },

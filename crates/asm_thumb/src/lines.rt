@@ -10,7 +10,7 @@ ghost use Rattle.asm_thumb.specs.declared.frames.Frame.TheVariants as frame;
 
 use crate::data::{immediates, registers, shifts};
 use crate::frames::{Frame, Said, with_value};
-use crate::operands::{low_register, register_list, written_base};
+use crate::operands::{register_list, written_base};
 use crate::transfers::{Transfer, signed_transfer, transferred};
 use crate::words::Mnemonic;
 use asm_arm::operands::{Cut, both, cut_operands, register, without_first};
@@ -19,21 +19,11 @@ use sdt_fault::kinds::LineKind;
 use std::alloc::Global;
 use thumb_isa::HighOperation;
 
-/// The register that a list may have besides r0 to r7: pc for POP, lr for PUSH.
-fn link_of(load: bool) -> Option<u8>
-    ensures { result ≡ lines.link_of load }
-{
-    if load {
-        return Some(15);
-    }
-    Some(14)
-}
-
 fn push_pop(alloc: Global, text: &[u8], load: bool, cut: Cut<'_>) -> Said
     ensures { IfOk result (λ said. said ≡ lines.push_pop text.now load (cut_of cut.entry)) }
 {
     match cut {
-        Cut::One(list) => match register_list(alloc, text, link_of(load), list)? {
+        Cut::One(list) => match register_list(alloc, text, list)? {
             Ok(items) => Ok(Ok(What::Thumb(ThumbLine::PushPop {
                 load,
                 list: RegisterList { items },
@@ -50,7 +40,7 @@ fn multiple(alloc: Global, text: &[u8], load: bool, cut: Cut<'_>) -> Said
     match cut {
         Cut::Two(base, list) => {
             let rn = written_base(alloc, text, base)?;
-            let list = register_list(alloc, text, None, list)?;
+            let list = register_list(alloc, text, list)?;
             match both(rn, list) {
                 Ok((rn, items)) => Ok(Ok(What::Thumb(ThumbLine::TransferMultiple {
                     load,
@@ -95,7 +85,7 @@ fn address(alloc: Global, text: &[u8], cut: Cut<'_>) -> Said
 {
     match cut {
         Cut::Two(rd, target) => {
-            let frame = address_frame(low_register(alloc, text, rd)?);
+            let frame = address_frame(register(alloc, text, rd)?);
             with_value(alloc, text, frame, target)
         }
         _ => Ok(Err(LineKind::Syntax)),

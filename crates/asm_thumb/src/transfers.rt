@@ -10,8 +10,10 @@ ghost use Rattle.asm_thumb.specs.Transfers as transfers;
 ghost use Rattle.asm_thumb.specs.declared.frames.Frame.TheVariants as frame;
 
 use crate::frames::{Frame, Said, with_value, with_zero};
-use crate::operands::{low_and_any, low_register, low_three};
-use asm_arm::operands::{Cut, between, cut_operands, without_first};
+use crate::operands::{is_pc, is_sp};
+use asm_arm::operands::{
+    Cut, between, cut_operands, register, three_registers, two_registers, without_first,
+};
 use asm_model::{Register, ThumbLine, Token, What};
 use sdt_fault::NoMemory;
 use sdt_fault::kinds::LineKind;
@@ -36,9 +38,27 @@ fn is_word(width: Width) -> bool
     }
 }
 
-/// A transfer by one of r0 to r7 and a number.
-fn low_frame(word: Transfer, rd: Register, rn: Register) -> Frame
-    ensures { result ≡ transfers.low_frame word.load word.width rd rn }
+/// A transfer of a word by a base and a number.
+fn word_frame(load: bool, rd: Register, rn: Register) -> Frame
+    ensures { result ≡ transfers.word_frame load rd rn }
+{
+    if is_sp(&rn) {
+        return Frame::TransferStack { load, rd };
+    }
+    if load && is_pc(&rn) {
+        return Frame::Literal { rd };
+    }
+    Frame::Transfer {
+        load,
+        byte: false,
+        rd,
+        rn,
+    }
+}
+
+/// A transfer by a base and a number.
+fn number_frame(word: Transfer, rd: Register, rn: Register) -> Frame
+    ensures { result ≡ transfers.number_frame word.load word.width rd rn }
 {
     let load = word.load;
     match word.width {
@@ -49,40 +69,7 @@ fn low_frame(word: Transfer, rd: Register, rn: Register) -> Frame
             rn,
         },
         Width::Half => Frame::TransferHalf { load, rd, rn },
-        Width::Word => Frame::Transfer {
-            load,
-            byte: false,
-            rd,
-            rn,
-        },
-    }
-}
-
-/// A transfer by a base and a number.
-fn number_frame(
-    word: Transfer,
-    pair: Result<(Register, Register), LineKind>,
-) -> Result<Frame, LineKind>
-    ensures { result ≡ arm_operands.followed pair (λ p. transfers.number_frame word.load word.width p.0 p.1) }
-{
-    match pair {
-        Ok((rd, base)) => match base {
-            Register::Number(number) => {
-                if number < 8 {
-                    return Ok(low_frame(word, rd, Register::Number(number)));
-                }
-                if is_word(word.width) && number == 13 {
-                    let load = word.load;
-                    return Ok(Frame::TransferStack { load, rd });
-                }
-                if word.load && is_word(word.width) && number == 15 {
-                    return Ok(Frame::Literal { rd });
-                }
-                Err(LineKind::BadOperand)
-            }
-            Register::Named(name) => Ok(low_frame(word, rd, Register::Named(name))),
-        },
-        Err(kind) => Err(kind),
+        Width::Word => word_frame(load, rd, rn),
     }
 }
 
@@ -96,7 +83,10 @@ fn based(
 ) -> Result<Result<Frame, LineKind>, NoMemory>
     ensures { IfOk result (λ frame. frame ≡ transfers.based text.now word.load word.width rd.now rn.now) }
 {
-    Ok(number_frame(word, low_and_any(alloc, text, rd, rn)?))
+    match two_registers(alloc, text, rd, rn)? {
+        Ok((rd, rn)) => Ok(Ok(number_frame(word, rd, rn))),
+        Err(kind) => Ok(Err(kind)),
+    }
 }
 
 /// A transfer of half-words without a sign.
@@ -153,7 +143,7 @@ fn any_offset(
         let frame = based(alloc, text, word, rd, rn)?;
         return with_value(alloc, text, frame, number);
     }
-    match low_three(alloc, text, rd, rn, offset)? {
+    match three_registers(alloc, text, rd, rn, offset)? {
         Ok(((rd, rn), ro)) => Ok(Ok(register_line(word, rd, rn, ro))),
         Err(kind) => Ok(Err(kind)),
     }
@@ -210,7 +200,7 @@ fn loaded(alloc: Global, text: &[u8], word: Transfer, rd: &[Token], tokens: &[To
     if !is_word(word.width) {
         return Ok(Err(LineKind::Syntax));
     }
-    let rd = low_register(alloc, text, rd)?;
+    let rd = register(alloc, text, rd)?;
     match without_first(text, b"=", tokens) {
         Some(number) => with_value(alloc, text, constant_frame(rd), number),
         None => with_value(alloc, text, label_frame(rd), tokens),
@@ -241,7 +231,7 @@ fn signed_inside(
     ensures { IfOk result (λ said. said ≡ transfers.signed_inside text.now kind rd.now (cuts_in address.entry)) }
 {
     match address {
-        Some(Cut::Two(rn, ro)) => match low_three(alloc, text, rd, rn, ro)? {
+        Some(Cut::Two(rn, ro)) => match three_registers(alloc, text, rd, rn, ro)? {
             Ok(((rd, rn), ro)) => Ok(Ok(What::Thumb(ThumbLine::TransferSigned {
                 kind,
                 rd,

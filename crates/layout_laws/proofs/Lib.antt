@@ -2,11 +2,9 @@ pub mod EqualLemmas
 pub mod FinalLemmas
 pub mod FoundLemmas
 pub mod KnownLemmas
-pub mod LineLemmas
 pub mod NamedLemmas
 pub mod RoundLemmas
 pub mod Rows
-pub mod SaidLemmas
 pub mod SettledLemmas
 pub mod SoundLemmas
 pub mod StepLemmas

@@ -1,3 +1,2 @@
 -- What the laws of final names cite.
 pub mod Final
-pub mod Said

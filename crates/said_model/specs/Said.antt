@@ -47,15 +47,18 @@ use Rattle.asm_model.specs.declared.statements.What.TheVariants as what
 use Rattle.asm_model.specs.Grammar.{Tree, postfix, IsSpelled}
 use Rattle.asm_model.specs.Labels.{defined_by}
 use Rattle.asm_model.specs.Sound.{HaveNoPlaces, IsPlain}
+use Rattle.said_model.specs.Named.{AllItemsNamed}
 
 -- ---- operands
 
--- an expression is what tokens spell
+-- an expression is what tokens spell: no constant in it is a place, and names in it have characters
 pub record IsRead (e : Expr) : Type 0 where
   pub parts : List Part
   pub tree : Tree
   pub spelled : IsSpelled parts tree
   pub items : e.items ≡ postfix tree
+  pub plain : HaveNoPlaces e.items
+  pub named : AllItemsNamed e.items
 
 abbrev pub AllRead : List Expr → Type 0
 AllRead [] = Unit {0}
@@ -240,8 +243,7 @@ pub record IsSaid (s : Statement) : Type 0 where
   pub loaded : LoadsPlain s.what
 
 abbrev pub AllSaid : List Statement → Type 0
-AllSaid [] = Unit {0}
-AllSaid (s ∷ ss) = IsSaid s × AllSaid ss
+AllSaid statements = AllByRecursion IsSaid statements
 
 -- ---- names
 

@@ -1,12 +1,10 @@
 -- What a line puts where it stands is no longer than what it takes up.
-use Rattle.std.proofs.Common.{◌≡◌, ℕ, ◌≤◌, List, [], ◌∷◌, ◌++◌, length, false, refl, sym, ◌∙◌, ap, subst, arith, Option, Some, None}
+use Rattle.std.proofs.Common.{◌≡◌, ℕ, ◌≤◌, List, [], ◌∷◌, ◌++◌, length, refl, sym, ◌∙◌, ap, subst, arith, Option, Some, None}
 use Rattle.std.specs.Prelude.{Result, Ok, Err}
 use Rattle.sdt_fault.specs.declared.kinds.LineKind.{LineKind}
-use Rattle.asm_model.specs.declared.directives.DirectiveLine.TheVariants as line
 use Rattle.asm_model.specs.declared.statements.Statement.{Statement}
-use Rattle.asm_model.specs.declared.statements.What.TheVariants as what
 use Rattle.asm_model.specs.declared.values.Value.{Value}
-use Rattle.asm_model.specs.Extents.{Pool, extent_of}
+use Rattle.asm_model.specs.Extents.{extent_of}
 use Rattle.asm_model.specs.Laid.{LaidLine, taken, pieces_of, laid}
 use Rattle.asm_model.specs.LayoutKinds.{equals_in, settled, first_fault}
 use Rattle.asm_model.specs.Marks.{datum_names}
@@ -14,9 +12,9 @@ use Rattle.asm_model.specs.Offsets.{waiting, start_in, size_of}
 use Rattle.asm_model.specs.Sound.{IsSound}
 use Rattle.source_model.specs.Objects.{units_bytes, or_none}
 use Rattle.source_model.specs.Units.{Emitted, units}
-use Rattle.source_laws.specs.Laws.{is_filled, word_among, context_behind}
+use Rattle.source_laws.specs.Laws.{word_among, context_behind}
 use Rattle.source_laws.proofs.LineLemmas.{is_laid, line_fine, line_known, stands_in}
-use Rattle.source_laws.proofs.SizeLemmas.{other_units_are_none, units_fit, pools_are_said}
+use Rattle.source_laws.proofs.SizeLemmas.{units_fit}
 use Rattle.asm_model.specs.Labels.{declared_names}
 
 -- ---- what a line puts
@@ -65,12 +63,3 @@ own_fit ss sound area after before l e here word =
     by_result (Ok us) x =
         units_fit (context_behind ss l before) (datum_names ss) l.seen word l.statement.what (taken l.extent) us
         (seen_extent ss after before l e).2 (known_extent ss sound after before l e) x ws at
-
--- and none of a line that is neither an instruction nor data
-pub own_none : (ss : List Statement) (before : List LaidLine) (l : LaidLine) (word : Option ℕ) → is_filled l.statement.what ≡ false → units_with ss l before word ≡ []
-own_none ss before l word bare = ap or_none (other_units_are_none (context_behind ss l before) (datum_names ss) l.seen word l.statement.what bare)
-
--- only LTORG takes up a pool
-pub pool_said : (ss : List Statement) → IsSound ss → (after before : List LaidLine) (l : LaidLine) → laid ss ≡ after ++ l ∷ before
-    → taken l.extent ≡ Pool → l.statement.what ≡ what.Directive line.Ltorg
-pool_said ss sound after before l e x = pools_are_said l.seen l.statement.what (known_extent ss sound after before l e ∙ ap Ok x)

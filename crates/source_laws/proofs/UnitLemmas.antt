@@ -1,5 +1,5 @@
 -- Things one behind the other fill a stretch of an area.
-use Rattle.std.proofs.Common.{◌≡◌, ℕ, ◌+◌, ◌*◌, ◌≤◌, List, [], ◌∷◌, length, length-append, sym, ◌∙◌, subst, arith, ◌⊎◌, inl, inr}
+use Rattle.std.proofs.Common.{◌≡◌, ℕ, ◌+◌, ◌*◌, ◌≤◌, List, [], ◌∷◌, ◌++◌, length, length-append, sym, ◌∙◌, subst, arith, ◌⊎◌, inl, inr}
 use Rattle.std.specs.Prelude.{Result, Ok, Err}
 use Rattle.sdt_fault.specs.declared.kinds.LineKind.{LineKind}
 use Rattle.asm_model.specs.declared.values.Value.{Value}
@@ -14,11 +14,11 @@ pub record Fills (P : Piece → Type 0) (start end : ℕ) : Type 0 where
   pub within : (p : Piece) → P p → (start ≤ p.0) × (p.0 + length (unit_bytes p.1) ≤ end)
   pub apart : (p q : Piece) → P p → P q → (p ≡ q) ⊎ StandApart p q
 
-pub filled_by : (P R : Piece → Type 0) (a b : ℕ) → ((p : Piece) → R p → P p) → Fills P a b → Fills R a b
-filled_by P R a b f h = record { within = λ p x. h.within p (f p x); apart = λ p q x y. h.apart p q (f p x) (f q y) }
-
-pub filled_up : (P : Piece → Type 0) (a b c : ℕ) → b ≤ c → Fills P a b → Fills P a c
-filled_up P a b c more h = record { within = λ p x. (let i = h.within p x in (i.0, (let below = i.1 in omega arith))); apart = h.apart }
+pub filled_by : (P R : Piece → Type 0) (a b c : ℕ) → b ≤ c → ((p : Piece) → R p → P p) → Fills P a b → Fills R a c
+filled_by P R a b c up f h = record {
+  within = λ p x. (let i = h.within p (f p x) in (i.0, (let below = i.1 in omega arith)));
+  apart = λ p q x y. h.apart p q (f p x) (f q y);
+}
 
 -- two stretches, the one behind the other
 pub filled_both : (P Q R : Piece → Type 0) (a b c d : ℕ) → a ≤ b → b ≤ c → c ≤ d → ((p : Piece) → R p → P p ⊎ Q p) → Fills P a b → Fills Q c d → Fills R a d
@@ -37,7 +37,7 @@ filled_both P Q R a b c d ab bc cd f h k = record { within = λ p x. inside p (f
     both p q (inr x) (inl y) = inr (inr (before q p y x))
     both p q (inr x) (inr y) = k.apart p q x y
 
-none_fill : (a b : ℕ) → Fills (λ p. IsAmong p []) a b
+pub none_fill : (a b : ℕ) → Fills (λ p. ⊥) a b
 none_fill a b = record { within = λ p x. absurd x; apart = λ p q x y. absurd x }
 
 one_fills : (at : ℕ) (u : Emitted) → Fills (λ p. p ≡ (at, u)) at (at + length (unit_bytes u))
@@ -51,25 +51,22 @@ units_fill at [] = none_fill at (at + length (units_bytes []))
 units_fill at (u ∷ us) =
     let size = length-append (unit_bytes u) (units_bytes us) in
     let next = at + length (unit_bytes u) in
-    filled_both (λ p. p ≡ (at, u)) (λ p. IsAmong p (units_from next us)) (λ p. IsAmong p (units_from at (u ∷ us))) at next next (at + length (units_bytes (u ∷ us)))
-    (omega arith) (omega arith) (omega arith) (λ p x. x) (one_fills at u)
-    (filled_up (λ p. IsAmong p (units_from next us)) next (next + length (units_bytes us)) (at + length (units_bytes (u ∷ us))) (omega arith) (units_fill next us))
+    subst (Fills (λ p. IsAmong p (units_from at (u ∷ us))) at) (omega arith)
+    (filled_both (λ p. p ≡ (at, u)) (λ p. IsAmong p (units_from next us)) (λ p. IsAmong p (units_from at (u ∷ us))) at next next (next + length (units_bytes us))
+    (omega arith) (omega arith) (omega arith) (λ p x. x) (one_fills at u) (units_fill next us))
 
 -- the words of a pool
 pub words_fill : (s : Source) (area at : ℕ) (ws : List Value) → Fills (λ p. IsAmong p (words_of s area (words_from at ws))) at (at + 4 * length ws)
 words_fill s area at [] = none_fill at (at + 4 * 0)
 words_fill s area at (w ∷ ws) =
-    let Word_here : Piece → Type 0 = λ p. IsAmong p (word_piece at (literal_stored s area w)) in
-    let Later : Piece → Type 0 = λ p. IsAmong p (words_of s area (words_from (at + 4) ws)) in
-    filled_both Word_here Later (λ p. IsAmong p (words_of s area (words_from at (w ∷ ws)))) at (at + 4) (at + 4) (at + 4 * length (w ∷ ws))
-    (omega arith) (omega arith) (omega arith)
-    (λ p x. among_either p (word_piece at (literal_stored s area w)) (words_of s area (words_from (at + 4) ws)) x) (word_fills (literal_stored s area w))
-    (filled_up Later (at + 4) (at + 4 + 4 * length ws) (at + 4 * length (w ∷ ws)) (omega arith) (words_fill s area (at + 4) ws))
+    let here = word_piece at (literal_stored s area w) in
+    let later = words_of s area (words_from (at + 4) ws) in
+    subst (Fills (λ p. IsAmong p (here ++ later)) at) (omega arith)
+    (filled_both (λ p. IsAmong p here) (λ p. IsAmong p later) (λ p. IsAmong p (here ++ later)) at (at + 4) (at + 4) (at + 4 + 4 * length ws)
+    (omega arith) (omega arith) (omega arith) (λ p. among_either p here later) (word_fills (literal_stored s area w)) (words_fill s area (at + 4) ws))
   where
     word_fills : (r : Result Stored LineKind) → Fills (λ p. IsAmong p (word_piece at r)) at (at + 4)
-    word_fills (Ok x) = filled_by (λ p. p ≡ (at, Word x)) (λ p. IsAmong p (word_piece at (Ok x))) at (at + 4) only (one_fills at (Word x))
-      where
-        only : (p : Piece) → (p ≡ (at, Word x)) ⊎ IsAmong p [] → p ≡ (at, Word x)
-        only p (inl e) = e
-        only p (inr k) = absurd k
+    word_fills (Ok x) =
+        filled_by (λ p. p ≡ (at, Word x)) (λ p. IsAmong p (word_piece at (Ok x))) at (at + 4) (at + 4) (omega arith)
+        (λ p h. elim h [ inl e ↦ e | inr k ↦ absurd k ]) (one_fills at (Word x))
     word_fills (Err k) = none_fill at (at + 4)

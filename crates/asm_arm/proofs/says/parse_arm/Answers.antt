@@ -1,17 +1,8 @@
-use Rattle.std.proofs.Common.{refl}
-use Rattle.std.specs.Prelude.{Ok, Err}
-use Rattle.asm_model.specs.Tokens.{Scans}
-use Rattle.asm_arm.specs.Says.{SaysTokens, SaysArm}
-use Rattle.asm_arm.proofs.SayingLemmas.{fault_as, told_as}
+use Rattle.asm_arm.proofs.SayingLemmas.{told_said}
+use Rattle.asm_arm.specs.Says.{SaysArm}
 use Rattle.asm_arm.proofs.says.parse_arm.Goals as goal
 
-pub returns-in-Ok : goal.returns-in-Ok
-returns-in-Ok c =
+pub returns : goal.returns
+returns c =
     let line = c.args.line.now in
-    told_as line.source line.number (SaysTokens line c.in-Ok.list) (SaysArm line) c.parse_tokens.result
-    (λ r h. (Ok c.in-Ok.list, c.in-Ok.ensures, h)) (rw c.as_slice.ensures at c.parse_tokens.ensures)
-
-pub returns-in-Err : goal.returns-in-Err
-returns-in-Err c =
-    let line = c.args.line.now in
-    fault_as line.source line.number (Scans line.text) (SaysArm line) c.in-Err.fault (λ k h. (Err k, h, refl)) c.in-Err.ensures
+    told_said line.source line.number (SaysArm line) c.said_in_arm-said.result c.told.result c.said_in_arm-said.ensures c.told.ensures

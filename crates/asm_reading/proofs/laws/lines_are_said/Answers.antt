@@ -1,5 +1,0 @@
-use Rattle.asm_reading.proofs.LineLemmas.{lines_are_said}
-use Rattle.asm_reading.proofs.laws.lines_are_said.Goals as goal
-
-pub returns : goal.returns
-returns c = lines_are_said
