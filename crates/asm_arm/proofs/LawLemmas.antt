@@ -31,14 +31,14 @@ use Rattle.asm_arm.specs.Says.{ReadsArm}
 use Rattle.asm_arm.proofs.SayingLemmas.{OneOperation}
 use Rattle.asm_arm.specs.Words.{operation_named, shape_of}
 
-one_value : OneParse → (text : List ℕ) (ts : List Token) (a b : Result Expr LineKind) → ParsesTokens text ts a → ParsesTokens text ts b → a ≡ b
+pub one_value : OneParse → (text : List ℕ) (ts : List Token) (a b : Result Expr LineKind) → ParsesTokens text ts a → ParsesTokens text ts b → a ≡ b
 one_value law text ts a b p q = law (map (part_of text) ts) a b p q
 
 one_expression : {A : Type 0} → OneParse → (text : List ℕ) (make : Expr → A) (ts : List Token) (a b : Result A LineKind) → Expression text make ts a → Expression text make ts b → a ≡ b
 one_expression law text make ts a b p q = p.2 ∙ ap (mapped make) (one_value law text ts p.0 q.0 p.1 q.1) ∙ sym q.2
 
 -- a reading that is made of another
-one_made : {A B : Type 0} (Reading : Result A LineKind → Type 0) (make : Result A LineKind → Result B LineKind)
+pub one_made : {A B : Type 0} (Reading : Result A LineKind → Type 0) (make : Result A LineKind → Result B LineKind)
     → ((x y : Result A LineKind) → Reading x → Reading y → x ≡ y)
     → (a b : Result B LineKind) → ((x : Result A LineKind) × Reading x × (a ≡ make x)) → ((y : Result A LineKind) × Reading y × (b ≡ make y)) → a ≡ b
 one_made Reading make law a b p q = p.2 ∙ ap make (law p.0 q.0 p.1 q.1) ∙ sym q.2

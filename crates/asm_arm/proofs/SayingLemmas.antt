@@ -13,7 +13,7 @@ use Rattle.asm_model.specs.Says.{on_both, mapped, label_field, sentence, OneDire
 use Rattle.asm_model.specs.Tokens.{first_due}
 use Rattle.asm_model.specs.Told.{Told, ToldFault}
 use Rattle.asm_arm.specs.Says.{Said, statement, within_limit, AreTokens, SaysOperation, SaysWords, SaysOr, SaysTokens, SaysAll, SaysLine}
-use Rattle.asm_arm.specs.Operands.{both}
+use Rattle.asm_arm.specs.Steps.{IsOperationRead}
 use Rattle.asm_expr.proofs.SayingLemmas.{made_of_both}
 use Rattle.asm_lines.proofs.ScanLemmas.{one_list}
 
@@ -33,14 +33,17 @@ told_said source number P s (Err f) h k = told_fault source number P s f h k
 
 -- ---- a line with an operation
 
-pub operation_said : (Operation : List ℕ → Token → List Token → Result What LineKind → Type 0) (flat : Flat) (label : Option Token) (t : Token) (ts : List Token) (text : List ℕ)
-    (l : Result (Option (List ℕ)) LineKind) (w : Result What LineKind) (r : Said) → text ≡ flat.text → l ≡ label_field need.Optional text label → Operation text t ts w
-    → r ≡ mapped (λ p. statement flat p.0 p.1) (both l w) → SaysOperation Operation flat label t ts r
-operation_said Operation flat label t ts text l w r e h k m = (
-  w,
-  subst (λ z. Operation z t ts w) e k,
-  m ∙ made_of_both (λ p. statement flat p.0 p.1) (λ x y. (x, y)) l w ∙ ap (λ x. on_both (statement flat) x w) (h ∙ ap (λ z. label_field need.Optional z label) e),
-)
+pub operation_said : {E : Type 0} (Operation : List ℕ → Token → List Token → Result What LineKind → Type 0) (flat : Flat) (label : Option Token) (t : Token) (ts : List Token)
+    (text : List ℕ) (x : Result (Option (List ℕ) × What) LineKind) (q : Result Said E) → text ≡ flat.text → IsOperationRead Operation text label t ts x
+    → IfOk q (λ r. r ≡ mapped (λ p. statement flat p.0 p.1) x) → IfOk q (λ r. SaysOperation Operation flat label t ts r)
+operation_said Operation flat label t ts text x (Err f) e h k = tt
+operation_said Operation flat label t ts text x (Ok r) e h k =
+    let read : IsOperationRead Operation flat.text label t ts x = subst (λ z. IsOperationRead Operation z label t ts x) e h in (
+      read.0,
+      read.1,
+      k ∙ ap (mapped (λ p. statement flat p.0 p.1)) read.2
+      ∙ made_of_both (λ p. statement flat p.0 p.1) (λ x y. (x, y)) (label_field need.Optional flat.text label) read.0,
+    )
 
 -- ---- a line says one thing
 

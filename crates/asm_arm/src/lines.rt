@@ -443,7 +443,7 @@ fn branch(alloc: Global, text: &[u8], condition: Condition, link: bool, tokens: 
 }
 
 /// A number, before which # may stand.
-fn numbered<'a>(text: &[u8], tokens: &'a [Token]) -> &'a [Token]
+pub fn numbered<'a>(text: &[u8], tokens: &'a [Token]) -> &'a [Token]
     ensures { result.now ≡ lines.numbered tokens.now (operands.without_first text.now lines.hash tokens.now) }
 {
     match without_first(text, b"#", tokens) {
@@ -496,7 +496,7 @@ fn address(alloc: Global, text: &[u8], condition: Condition, long: bool, cut: Cu
 }
 
 /// No operands.
-fn idle(tokens: &[Token]) -> Result<What, LineKind>
+pub fn idle(tokens: &[Token]) -> Result<What, LineKind>
     ensures { result ≡ lines.idle tokens.now }
 {
     if tokens.is_empty() {

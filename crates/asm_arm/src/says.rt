@@ -6,6 +6,7 @@ ghost use Rattle.asm_model.specs.Told.{Told};
 ghost use Rattle.asm_model.specs.Says as model;
 ghost use Rattle.asm_model.specs.Tokens.{is_long};
 ghost use Rattle.asm_arm.specs.Says as says;
+ghost use Rattle.asm_arm.specs.Steps.{IsOperationRead};
 ghost use Rattle.asm_expr.specs.SentenceSteps.{sentence_of};
 
 use crate::lines::{instruction, unnamed};
@@ -115,6 +116,22 @@ pub fn told(
 
 // ---- ARM state
 
+/// The label and the operation of a line.
+fn read_operation(
+    alloc: Global,
+    text: &[u8],
+    label: Option<Token>,
+    operation: Token,
+    tokens: &[Token],
+) -> Result<Labelled, NoMemory>
+    ensures { IfOk result (λ read. IsOperationRead says.ReadsArm text.now label operation tokens.now read) }
+{
+    let label = label_field(alloc, LabelNeed::Optional, text, label)?;
+    let word = operation_named(piece_of(text, operation));
+    let said = instruction(alloc, text, unnamed(operation.kind), word, tokens)?;
+    Ok(both(label, said))
+}
+
 /// A line with an operation.
 fn with_operation(
     alloc: Global,
@@ -125,11 +142,8 @@ fn with_operation(
 ) -> Result<Said, NoMemory>
     ensures { IfOk result (λ said. says.SaysOperation says.ReadsArm line.now label operation tokens.now said) }
 {
-    let text = line.text.as_slice();
-    let label = label_field(alloc, LabelNeed::Optional, text, label)?;
-    let word = operation_named(piece_of(text, operation));
-    let read = instruction(alloc, text, unnamed(operation.kind), word, tokens)?;
-    statement(alloc, line, both(label, read))
+    let read = read_operation(alloc, line.text.as_slice(), label, operation, tokens)?;
+    statement(alloc, line, read)
 }
 
 /// What a line without a directive says.

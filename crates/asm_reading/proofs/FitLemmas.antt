@@ -11,9 +11,9 @@ use Rattle.asm_model.specs.Before.{state_behind, thumb_behind}
 use Rattle.asm_model.specs.Laid.{reversed}
 use Rattle.asm_model.specs.PlacedLines.{AllNamed}
 use Rattle.said_model.specs.Fit.{IsFit}
-use Rattle.said_model.specs.Named.{LoadNamed}
-use Rattle.said_model.specs.Said.{IsSaid, HasTexts}
-use Rattle.said_model.proofs.SharedLemmas.{IsFine, fine_said, fine_texts, fine_named, fine_fit, fine_loads}
+use Rattle.said_model.specs.Named.{AllLoadsNamed}
+use Rattle.said_model.specs.Said.{HasTexts}
+use Rattle.said_model.proofs.SharedLemmas.{IsFine, fine_texts, fine_named, fine_fit, fine_loads}
 use Rattle.source_laws.specs.Laws.{IsOfState, KeepStates}
 use Rattle.asm_locals.specs.Labels.{target}
 use Rattle.asm_locals.specs.Naming.{Targets, named_what, named_behind}
@@ -22,7 +22,7 @@ use Rattle.asm_reading.specs.Laws.{ReadingsAreFit}
 use Rattle.asm_arm.specs.Says.{Said}
 use Rattle.asm_reading.specs.Reading.{Say, statements_in, IsReading}
 use Rattle.asm_reading.proofs.LineLemmas.{lines_are_fine}
-use Rattle.asm_reading.proofs.ReadLemmas.{named_fine, each_gives}
+use Rattle.asm_reading.proofs.ReadLemmas.{named_fine, each_gives, all_said}
 
 -- ---- states
 
@@ -74,16 +74,20 @@ all_named : (ss : List Statement) → AllByRecursion IsFine ss → AllNamed ss
 all_named [] h = tt
 all_named (s ∷ ss) h = let named = fine_named s h.0 in (named.0, named.1, all_named ss h.1)
 
+all_loads_named : (ss : List Statement) → AllByRecursion IsFine ss → AllLoadsNamed ss
+all_loads_named [] h = tt
+all_loads_named (s ∷ ss) h = (fine_loads s h.0, all_loads_named ss h.1)
+
 pub readings_are_fit : ReadingsAreFit
 readings_are_fit lines r h =
     let ss = reversed r.statements.items [] in
     let fine : AllByRecursion IsFine ss = reversed_keep IsFine r.statements.items [] (named_fine lines h.says h.say r.statements.items h.statements) tt in
     record {
-      said = each_gives IsFine IsSaid fine_said ss fine;
+      said = all_said ss fine;
       texts = each_gives IsFine HasTexts fine_texts ss fine;
       fit = each_gives IsFine IsFit fine_fit ss fine;
       named = all_named ss fine;
-      loads_named = each_gives IsFine (λ s. LoadNamed s.what) fine_loads ss fine;
+      loads_named = all_loads_named ss fine;
       states = states_reversed r.statements.items []
           (subst (λ (l : List Statement). GoByStates false l) (sym h.statements) (named_states false [] (statements_in h.says) (said_states false lines h.says h.say))) tt;
     }

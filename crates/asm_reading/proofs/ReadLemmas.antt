@@ -4,7 +4,7 @@ use Rattle.std.proofs.Math.Seq.{take-suc}
 use Rattle.asm_model.specs.declared.lines.Flat.{Flat}
 use Rattle.asm_model.specs.declared.statements.Statement.{Statement}
 use Rattle.asm_model.specs.Directives.{or_else}
-use Rattle.said_model.specs.Said.{IsSaid, AllSaid}
+use Rattle.said_model.specs.Said.{AllSaid}
 use Rattle.said_model.proofs.SharedLemmas.{IsFine, fine_said}
 use Rattle.asm_reading.proofs.LineLemmas.{lines_are_fine}
 use Rattle.asm_reading.specs.declared.reading.Reading.{Reading}
@@ -97,9 +97,13 @@ pub each_gives : {A : Type 0} (P Q : A → Type 0) → ((a : A) → P a → Q a)
 each_gives P Q f [] h = tt
 each_gives P Q f (x ∷ xs) h = (f x h.0, each_gives P Q f xs h.1)
 
+pub all_said : (ss : List Statement) → AllByRecursion IsFine ss → AllSaid ss
+all_said [] h = tt
+all_said (s ∷ ss) h = (fine_said s h.0, all_said ss h.1)
+
 pub said_written : (lines : List Flat) (w : Reading) → IsWritten lines w → (named : List Statement) → named ≡ in_names w.statements.items → AllSaid named
 said_written lines w h named e =
-    each_gives IsFine IsSaid fine_said named (named_fine lines h.says h.say named (e ∙ ap in_names h.statements))
+    all_said named (named_fine lines h.says h.say named (e ∙ ap in_names h.statements))
 
 -- ---- the lines before the first that can't be read
 

@@ -1,19 +1,19 @@
 -- A line says one thing.
-use Rattle.std.proofs.Common.{◌≡◌, ℕ, List, Bool, true, false, sym, ◌∙◌, ap, Option, Some, None, map, ◌&&◌}
+use Rattle.std.proofs.Common.{◌≡◌, ℕ, List, Bool, true, false, sym, ◌∙◌, Option, Some, None, ◌&&◌}
 use Rattle.std.specs.Prelude.{Result, Ok, Err}
 use Rattle.sdt_fault.specs.declared.kinds.LineKind.{LineKind}
 use Rattle.sdt_word.specs.declared.codes.Width.{Width}
 use Rattle.thumb_isa.specs.declared.instr.ImmediateOperation.{ImmediateOperation}
 use Rattle.thumb_isa.specs.declared.instr.ThumbShift.{ThumbShift}
 use Rattle.asm_model.specs.declared.tokens.Token.{Token}
-use Rattle.asm_model.specs.declared.exprs.Expr.{Expr}
 use Rattle.asm_model.specs.declared.statements.What.{What}
 use Rattle.asm_model.specs.Grammar.{OneParse, ParsesTokens}
 use Rattle.asm_model.specs.Operands.{operands}
-use Rattle.asm_model.specs.Parts.{part_of, piece}
+use Rattle.asm_model.specs.Parts.{piece}
 use Rattle.asm_model.specs.Says.{unnamed}
 use Rattle.asm_arm.specs.Lines.{hash, equals, bracket, numbered}
 use Rattle.asm_arm.specs.Operands.{Cuts, none, one, two, three, four, more, cut, without_first}
+use Rattle.asm_arm.proofs.LawLemmas.{one_value, one_made}
 use Rattle.asm_thumb.specs.declared.frames.Frame.{Frame}
 use Rattle.asm_thumb.specs.declared.frames.Frame.TheVariants as frame
 use Rattle.asm_thumb.specs.declared.words.Mnemonic.{Mnemonic}
@@ -25,15 +25,6 @@ use Rattle.asm_thumb.specs.Says.{ReadsThumb}
 use Rattle.asm_arm.proofs.SayingLemmas.{OneOperation}
 use Rattle.asm_thumb.specs.Transfers as transfers
 use Rattle.asm_thumb.specs.Words.{operation_named}
-
-one_value : OneParse → (text : List ℕ) (ts : List Token) (a b : Result Expr LineKind) → ParsesTokens text ts a → ParsesTokens text ts b → a ≡ b
-one_value law text ts a b p q = law (map (part_of text) ts) a b p q
-
--- a reading that is made of another
-one_made : {A B : Type 0} (Reading : Result A LineKind → Type 0) (make : Result A LineKind → Result B LineKind)
-    → ((x y : Result A LineKind) → Reading x → Reading y → x ≡ y)
-    → (a b : Result B LineKind) → ((x : Result A LineKind) × Reading x × (a ≡ make x)) → ((y : Result A LineKind) × Reading y × (b ≡ make y)) → a ≡ b
-one_made Reading make law a b p q = p.2 ∙ ap make (law p.0 q.0 p.1 q.1) ∙ sym q.2
 
 one_with : OneParse → (text : List ℕ) (f : Result Frame LineKind) (e : List Token) (a b : Result What LineKind) → ReadsWith text f e a → ReadsWith text f e b → a ≡ b
 one_with law text f e a b p q = one_made (ParsesTokens text e) _ (one_value law text e) a b p q

@@ -2,8 +2,6 @@
 
 ghost use Rattle.std.specs.Prelude.{◌≡◌, IfOk};
 ghost use Rattle.asm_model.specs.Says as says;
-ghost use Rattle.asm_arm.specs.Lines as arm;
-ghost use Rattle.asm_arm.specs.Operands as arm_operands;
 ghost use Rattle.asm_arm.specs.Steps.{cut_of};
 ghost use Rattle.asm_thumb.specs.Lines as lines;
 ghost use Rattle.asm_thumb.specs.declared.frames.Frame.TheVariants as frame;
@@ -13,8 +11,9 @@ use crate::frames::{Frame, Said, with_value};
 use crate::operands::{register_list, written_base};
 use crate::transfers::{Transfer, signed_transfer, transferred};
 use crate::words::Mnemonic;
-use asm_arm::operands::{Cut, both, cut_operands, register, without_first};
-use asm_model::{PseudoLine, Register, RegisterList, ThumbLine, Token, What};
+use asm_arm::lines::{idle, numbered};
+use asm_arm::operands::{Cut, both, cut_operands, register};
+use asm_model::{Register, RegisterList, ThumbLine, Token, What};
 use sdt_fault::kinds::LineKind;
 use std::alloc::Global;
 use thumb_isa::HighOperation;
@@ -90,26 +89,6 @@ fn address(alloc: Global, text: &[u8], cut: Cut<'_>) -> Said
         }
         _ => Ok(Err(LineKind::Syntax)),
     }
-}
-
-/// A number, before which # may stand.
-fn numbered<'a>(text: &[u8], tokens: &'a [Token]) -> &'a [Token]
-    ensures { result.now ≡ arm.numbered tokens.now (arm_operands.without_first text.now arm.hash tokens.now) }
-{
-    match without_first(text, b"#", tokens) {
-        Some(number) => number,
-        None => tokens,
-    }
-}
-
-/// No operands.
-fn idle(tokens: &[Token]) -> Result<What, LineKind>
-    ensures { result ≡ arm.idle tokens.now }
-{
-    if tokens.is_empty() {
-        return Ok(What::Pseudo(PseudoLine::NoOperation));
-    }
-    Err(LineKind::Syntax)
 }
 
 /// What the tokens behind an operation word say.

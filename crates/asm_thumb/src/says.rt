@@ -4,13 +4,14 @@ ghost use Rattle.std.specs.Prelude.{◌<◌, ◌^◌, IfOk, length};
 ghost use Rattle.asm_model.specs.Told.{Told};
 ghost use Rattle.asm_arm.specs.Says as lines;
 ghost use Rattle.asm_thumb.specs.Says as says;
+ghost use Rattle.asm_arm.specs.Steps.{IsOperationRead};
 ghost use Rattle.asm_expr.specs.SentenceSteps.{sentence_of};
 
 use crate::lines::instruction;
 use crate::words::operation_named;
 use asm_arm::lines::unnamed;
 use asm_arm::operands::both;
-use asm_arm::says::{Said, alone, directive, statement, told, within_limit};
+use asm_arm::says::{Labelled, Said, alone, directive, statement, told, within_limit};
 use asm_expr::directives::{Sentence, label_field, one_directive, parts_of};
 use asm_expr::operands::piece_of;
 use asm_expr::read::one_parse;
@@ -20,6 +21,22 @@ use sdt_fault::NoMemory;
 use sdt_fault::answer::Fault;
 use sdt_fault::kinds::LineKind;
 use std::alloc::Global;
+
+/// The label and the operation of a line.
+fn read_operation(
+    alloc: Global,
+    text: &[u8],
+    label: Option<Token>,
+    operation: Token,
+    tokens: &[Token],
+) -> Result<Labelled, NoMemory>
+    ensures { IfOk result (λ read. IsOperationRead says.ReadsThumb text.now label operation tokens.now read) }
+{
+    let label = label_field(alloc, LabelNeed::Optional, text, label)?;
+    let word = operation_named(piece_of(text, operation));
+    let said = instruction(alloc, text, unnamed(operation.kind), word, tokens)?;
+    Ok(both(label, said))
+}
 
 /// A line with an operation.
 fn with_operation(
@@ -31,11 +48,8 @@ fn with_operation(
 ) -> Result<Said, NoMemory>
     ensures { IfOk result (λ said. lines.SaysOperation says.ReadsThumb line.now label operation tokens.now said) }
 {
-    let text = line.text.as_slice();
-    let label = label_field(alloc, LabelNeed::Optional, text, label)?;
-    let word = operation_named(piece_of(text, operation));
-    let read = instruction(alloc, text, unnamed(operation.kind), word, tokens)?;
-    statement(alloc, line, both(label, read))
+    let read = read_operation(alloc, line.text.as_slice(), label, operation, tokens)?;
+    statement(alloc, line, read)
 }
 
 /// What a line without a directive says.

@@ -1,6 +1,5 @@
 -- The names in what statements load have characters. SDT 2.50 Reference Guide, chapter on the assembler.
 use Rattle.std.specs.Prelude.{List, [], ◌∷◌}
-use Rattle.std.specs.List.{AllByRecursion}
 use Rattle.asm_model.specs.declared.exprs.ExprItem.{ExprItem}
 use Rattle.asm_model.specs.declared.exprs.ExprItem.TheVariants as item
 use Rattle.asm_model.specs.declared.statements.PseudoLine.TheVariants as pseudo
@@ -23,4 +22,5 @@ LoadNamed (what.Pseudo (pseudo.LoadConstant condition rd e)) = AllItemsNamed e.i
 LoadNamed _ = Unit {0}
 
 abbrev pub AllLoadsNamed : List Statement → Type 0
-AllLoadsNamed statements = AllByRecursion (λ s. LoadNamed s.what) statements
+AllLoadsNamed [] = Unit {0}
+AllLoadsNamed (s ∷ before) = LoadNamed s.what × AllLoadsNamed before

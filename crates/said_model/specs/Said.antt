@@ -243,7 +243,8 @@ pub record IsSaid (s : Statement) : Type 0 where
   pub loaded : LoadsPlain s.what
 
 abbrev pub AllSaid : List Statement → Type 0
-AllSaid statements = AllByRecursion IsSaid statements
+AllSaid [] = Unit {0}
+AllSaid (s ∷ ss) = IsSaid s × AllSaid ss
 
 -- ---- names
 
