@@ -135,27 +135,19 @@ word_among : (ss : List Statement) (area : ℕ) (p : Piece) (words : List (Value
     → IsAmong p (words_of (source_of ss) area words) → PoolWord ss area p
 word_among ss area p [] each h = absurd h
 word_among ss area p (w ∷ words) each h =
-    by_part (word_among ss area p words each.1) (among_either p (word_piece w.1 (literal_stored (source_of ss) area w.0)) (words_of (source_of ss) area words) h)
+    elim (among_either p (word_piece w.1 (literal_stored (source_of ss) area w.0)) (words_of (source_of ss) area words) h)
+    [ inl k ↦ by_result (literal_stored (source_of ss) area w.0) refl k | inr k ↦ word_among ss area p words each.1 k ]
   where
     by_result : (r : Result Stored LineKind) → literal_stored (source_of ss) area w.0 ≡ r → IsAmong p (word_piece w.1 r) → PoolWord ss area p
     by_result (Ok x) e (inl k) = record { value = w.0; place = w.1; holds = x; loads = each.0; stores = e; is = k }
     by_result (Ok x) e (inr k) = absurd k
     by_result (Err j) e k = absurd k
 
-    by_part : (IsAmong p (words_of (source_of ss) area words) → PoolWord ss area p)
-        → IsAmong p (word_piece w.1 (literal_stored (source_of ss) area w.0)) ⊎ IsAmong p (words_of (source_of ss) area words) → PoolWord ss area p
-    by_part later (inl k) = by_result (literal_stored (source_of ss) area w.0) refl k
-    by_part later (inr k) = later k
-
 pub unit_or_word : (ss : List Statement) (area : ℕ) (p : Piece) → StandsIn (source_of ss) area p → OwnUnit ss area p ⊎ PoolWord ss area p
-unit_or_word ss area p h = by_kind (among_either p (things_behind (source_of ss) area (laid ss) []) (words_of (source_of ss) area words) h)
-  where
-    words : List (Value × ℕ)
-    words = all_pooled area (pieces_of (laid ss))
-
-    by_kind : IsAmong p (things_behind (source_of ss) area (laid ss) []) ⊎ IsAmong p (words_of (source_of ss) area words) → OwnUnit ss area p ⊎ PoolWord ss area p
-    by_kind (inl k) = inl (owner_of ss area p k)
-    by_kind (inr k) = inr (word_among ss area p words (words_are_loaded area (laid ss)) k)
+unit_or_word ss area p h =
+    let words = all_pooled area (pieces_of (laid ss)) in
+    elim (among_either p (things_behind (source_of ss) area (laid ss) []) (words_of (source_of ss) area words) h)
+    [ inl k ↦ inl (owner_of ss area p k) | inr k ↦ inr (word_among ss area p words (words_are_loaded area (laid ss)) k) ]
 
 -- ---- a line's literal has its word
 

@@ -169,8 +169,15 @@ first_of_all false b c d e f g h = absurd (cc)
 
 pub attributes_same : (s : Names) (a : AreaAttributes) → same_attributes s a s a ≡ true
 attributes_same s a =
-    rw (contents_same a.contents, mark_same a.read_only, mark_same a.interwork, mark_same a.halfword, mark_same a.pic, mark_same a.reentrant,
-    exponent_same (exponent s a.align)) refl
+    rw (
+      contents_same a.contents,
+      mark_same a.read_only,
+      mark_same a.interwork,
+      mark_same a.halfword,
+      mark_same a.pic,
+      mark_same a.reentrant,
+      exponent_same (exponent s a.align),
+    ) refl
 
 pub attributes_true : (s : Names) (a : AreaAttributes) (t : Names) (b : AreaAttributes) → same_attributes s a t b ≡ true → a.contents ≡ b.contents
 attributes_true s a t b h =
