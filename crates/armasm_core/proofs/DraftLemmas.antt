@@ -12,7 +12,7 @@ use Rattle.source_model.specs.Objects.{Piece, unit_bytes, units_bytes, units_fro
 use Rattle.source_model.specs.Units.{Emitted}
 use Rattle.source_laws.specs.Laws.{StandApart}
 use Rattle.source_laws.proofs.ListedLemmas.{among_either as among_parts, among_first as among_front, among_last as among_behind}
-use Rattle.source_laws.proofs.UnitLemmas.{units_inside}
+use Rattle.source_laws.proofs.UnitLemmas.{units_fill}
 use Rattle.armasm_core.specs.declared.drafts.Draft.{Draft}
 use Rattle.armasm_core.specs.Drafts.{MeetsNone, MeetNone, HoldsPieces, IsDraft, AreRelocs}
 use Rattle.armasm_core.specs.Writing.{AllCanStand}
@@ -142,7 +142,7 @@ next_among at (x ∷ us) u rest =
 pub next_meets_none : (pieces : List Piece) (at : ℕ) (us : List Emitted) (u : Emitted) (rest : List Emitted)
     → MeetNone pieces (units_from at (us ++ u ∷ rest)) → MeetsNone (pieces ++ units_from at us) (at + length (units_bytes us), u)
 next_meets_none pieces at us u rest none p among =
-    ⊎_elim (none (at + length (units_bytes us), u) (next_among at us u rest) p) (λ h. inr (inl (units_inside at us p h).1))
+    ⊎_elim (none (at + length (units_bytes us), u) (next_among at us u rest) p) (λ h. inr (inl ((units_fill at us).within p h).1))
     (among_parts p pieces (units_from at us) among)
 
 size_more : (us : List Emitted) (u : Emitted) → length (units_bytes (us ++ u ∷ [])) ≡ length (units_bytes us) + length (unit_bytes u)

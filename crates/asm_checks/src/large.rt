@@ -19,29 +19,31 @@ fn is_large(item: &ExprItem) -> bool
     }
 }
 
-fn is_there(e: &Expr) -> bool
+/// Whether an expression has such a number.
+fn mentions_large(e: &Expr) -> bool
     ensures { result ≡ list_any exprs.is_large e.now.items }
 {
     e.items.as_slice().iter().any(|item| is_large(item))
 }
 
-fn in_one(e: &Expr) -> bool
+/// Whether the one expression of a part of a statement has such a number.
+fn in_expression(e: &Expr) -> bool
     ensures { result ≡ has_one (e.now ∷ []) }
 {
-    is_there(e)
+    mentions_large(e)
 }
 
-fn in_all(es: &[Expr]) -> bool
+fn in_expressions(es: &[Expr]) -> bool
     ensures { result ≡ has_one es.now }
 {
-    es.iter().any(|e| is_there(e))
+    es.iter().any(|e| mentions_large(e))
 }
 
 fn in_shift(shift: &Shift) -> bool
     ensures { result ≡ has_one (exprs.shift_exprs shift.now) }
 {
     match shift {
-        Shift::By { amount, .. } => in_one(amount),
+        Shift::By { amount, .. } => in_expression(amount),
         _ => false,
     }
 }
@@ -50,8 +52,8 @@ fn in_address(address: &Address) -> bool
     ensures { result ≡ has_one (exprs.address_exprs address.now) }
 {
     match address {
-        Address::Based { offset, .. } => in_one(offset),
-        Address::Label { target } => in_one(target),
+        Address::Based { offset, .. } => in_expression(offset),
+        Address::Label { target } => in_expression(target),
     }
 }
 
@@ -59,7 +61,7 @@ fn in_half(offset: &HalfOffset) -> bool
     ensures { result ≡ has_one (exprs.half_exprs offset.now) }
 {
     match offset {
-        HalfOffset::Number { offset } => in_one(offset),
+        HalfOffset::Number { offset } => in_expression(offset),
         HalfOffset::Register { .. } => false,
     }
 }
@@ -68,14 +70,14 @@ fn in_arm(line: &ArmLine) -> bool
     ensures { result ≡ has_one (exprs.arm_exprs line.now) }
 {
     match line {
-        ArmLine::DataImmediate { value, .. } => in_one(value),
+        ArmLine::DataImmediate { value, .. } => in_expression(value),
         ArmLine::DataShifted { shift, .. } => in_shift(shift),
-        ArmLine::WriteStatusImmediate { value, .. } => in_one(value),
+        ArmLine::WriteStatusImmediate { value, .. } => in_expression(value),
         ArmLine::TransferImmediate { address, .. } => in_address(address),
         ArmLine::TransferShifted { shift, .. } => in_shift(shift),
         ArmLine::TransferHalf { offset, .. } => in_half(offset),
-        ArmLine::Branch { target, .. } => in_one(target),
-        ArmLine::SoftwareInterrupt { number, .. } => in_one(number),
+        ArmLine::Branch { target, .. } => in_expression(target),
+        ArmLine::SoftwareInterrupt { number, .. } => in_expression(number),
         _ => false,
     }
 }
@@ -85,7 +87,7 @@ fn in_operand(operand: &ThumbOperand) -> bool
 {
     match operand {
         ThumbOperand::Register(_) => false,
-        ThumbOperand::Number(number) => in_one(number),
+        ThumbOperand::Number(number) => in_expression(number),
     }
 }
 
@@ -93,8 +95,8 @@ fn in_literal(address: &LiteralAddress) -> bool
     ensures { result ≡ has_one (exprs.literal_exprs address.now) }
 {
     match address {
-        LiteralAddress::Offset(offset) => in_one(offset),
-        LiteralAddress::Label(target) => in_one(target),
+        LiteralAddress::Offset(offset) => in_expression(offset),
+        LiteralAddress::Label(target) => in_expression(target),
     }
 }
 
@@ -102,19 +104,19 @@ fn in_thumb(line: &ThumbLine) -> bool
     ensures { result ≡ has_one (exprs.thumb_exprs line.now) }
 {
     match line {
-        ThumbLine::ShiftImmediate { amount, .. } => in_one(amount),
+        ThumbLine::ShiftImmediate { amount, .. } => in_expression(amount),
         ThumbLine::AddSubtract { operand, .. } => in_operand(operand),
-        ThumbLine::DataImmediate { value, .. } => in_one(value),
+        ThumbLine::DataImmediate { value, .. } => in_expression(value),
         ThumbLine::LoadLiteral { address, .. } => in_literal(address),
         ThumbLine::TransferImmediate { offset, .. }
         | ThumbLine::TransferHalf { offset, .. }
         | ThumbLine::TransferStack { offset, .. }
         | ThumbLine::LoadAddress { offset, .. }
-        | ThumbLine::AdjustStack { offset, .. } => in_one(offset),
+        | ThumbLine::AdjustStack { offset, .. } => in_expression(offset),
         ThumbLine::BranchConditional { target, .. }
         | ThumbLine::Branch { target }
-        | ThumbLine::BranchLink { target } => in_one(target),
-        ThumbLine::SoftwareInterrupt { number } => in_one(number),
+        | ThumbLine::BranchLink { target } => in_expression(target),
+        ThumbLine::SoftwareInterrupt { number } => in_expression(number),
         _ => false,
     }
 }
@@ -123,9 +125,9 @@ fn in_pseudo(line: &PseudoLine) -> bool
     ensures { result ≡ has_one (exprs.pseudo_exprs line.now) }
 {
     match line {
-        PseudoLine::LoadConstant { value, .. } => in_one(value),
+        PseudoLine::LoadConstant { value, .. } => in_expression(value),
         PseudoLine::Address { target, .. } | PseudoLine::LongAddress { target, .. } => {
-            in_one(target)
+            in_expression(target)
         }
         PseudoLine::NoOperation => false,
     }
@@ -136,8 +138,8 @@ fn in_boundary(boundary: &Boundary) -> bool
 {
     match boundary {
         Boundary::Word => false,
-        Boundary::Multiple { of } => in_one(of),
-        Boundary::Behind { multiple, offset } => is_there(multiple) || in_one(offset),
+        Boundary::Multiple { of } => in_expression(of),
+        Boundary::Behind { multiple, offset } => mentions_large(multiple) || in_expression(offset),
     }
 }
 
@@ -146,7 +148,7 @@ fn in_register(register: &RnOperand) -> bool
 {
     match register {
         RnOperand::Register(_) => false,
-        RnOperand::Number(number) => in_one(number),
+        RnOperand::Number(number) => in_expression(number),
     }
 }
 
@@ -155,7 +157,7 @@ fn in_option(e: &Option<Expr>) -> bool
 {
     match e {
         None => false,
-        Some(e) => in_one(e),
+        Some(e) => in_expression(e),
     }
 }
 
@@ -164,15 +166,15 @@ fn in_directive(line: &DirectiveLine) -> bool
 {
     match line {
         DirectiveLine::Area { attributes, .. } => in_option(&attributes.align),
-        DirectiveLine::Equ { value } | DirectiveLine::Map { value } => in_one(value),
+        DirectiveLine::Equ { value } | DirectiveLine::Map { value } => in_expression(value),
         DirectiveLine::Rn { register } => in_register(register),
-        DirectiveLine::Assert { condition } => in_one(condition),
-        DirectiveLine::Opt { options } => in_one(options),
+        DirectiveLine::Assert { condition } => in_expression(condition),
+        DirectiveLine::Opt { options } => in_expression(options),
         DirectiveLine::Dcd { values }
         | DirectiveLine::Dcdu { values }
         | DirectiveLine::Dcw { values }
-        | DirectiveLine::Dcb { values } => in_all(values.as_slice()),
-        DirectiveLine::Space { size } | DirectiveLine::Field { size } => in_one(size),
+        | DirectiveLine::Dcb { values } => in_expressions(values.as_slice()),
+        DirectiveLine::Space { size } | DirectiveLine::Field { size } => in_expression(size),
         DirectiveLine::Align { boundary } => in_boundary(boundary),
         _ => false,
     }

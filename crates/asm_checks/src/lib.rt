@@ -1,5 +1,5 @@
-//! Faults of a line that laying out finds without values: where statements stand, areas that are named again, and names
-//! that are defined twice.
+//! Faults of a line that laying out finds without values: where statements stand, areas that are named again, names
+//! that are defined twice, and numbers that are too large.
 #![tactic(auto)]
 
 mod areas;

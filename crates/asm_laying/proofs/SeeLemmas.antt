@@ -83,7 +83,8 @@ equated : (d : List LaidName) (area : Option ℕ) (s : Names) (name : List ℕ) 
     → IsEquated d area s (Equal name e) q
 equated d area s name e q read entry known =
     let is : tree_of e ≡ Some read.tree = trees_read_back read.parts read.tree e read.spelled read.items in
-    record { entry = rw is (rw is at ap one_entry entry); known = λ k. value_known (value_there s e) (sym known ∙ k) }
+    let named : one_entry q.entry ≡ equal_entry d area name (value_there s e) ∷ [] = ap one_entry entry in
+    record { entry = rw is (rw is at named); known = λ k. value_known (value_there s e) (sym known ∙ k) }
 
 pub equates : (d : List LaidName) (area : Option ℕ) (s : Names) (name : List ℕ) (e : Expr) (v : Result Value LineKind) (r : Result Equated NoMemory) → IsRead e
     → v ≡ value_there s e → IfOk r (λ q. q.entry ≡ Some (equal_entry d area name v)) → IfOk r (λ q. q.known ≡ is_value v)

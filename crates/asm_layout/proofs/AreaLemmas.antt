@@ -12,6 +12,7 @@ use Rattle.asm_model.specs.declared.statements.What.TheVariants as what
 use Rattle.asm_offsets.specs.declared.extents.LaidPools.{LaidPools}
 use Rattle.asm_offsets.specs.Finished.{IsLaidOut, IsLaid, AreLaid}
 use Rattle.asm_offsets.specs.Running.{HasNone}
+use Rattle.asm_pool.specs.Pooled.{Pooled}
 use Rattle.asm_layout.specs.declared.laid.LaidArea.{LaidArea}
 use Rattle.asm_model.specs.Laid.{LaidLine, statements_of, pieces_of}
 use Rattle.asm_model.specs.LayoutKinds.{is_thumb_area}
@@ -24,39 +25,11 @@ use Rattle.asm_layout.specs.Layout.{AreAreas}
 
 directive_says_none : (d : DirectiveLine) (area : ℕ) (l : LaidLine) (t : Bool) → is_of area l.area ≡ false → says_area area l (what.Directive d) t ≡ None
 directive_says_none (line.Area name a) area l t e = rw e refl
-directive_says_none line.Entry area l t e = refl
-directive_says_none line.End area l t e = refl
-directive_says_none (line.Export name) area l t e = refl
-directive_says_none (line.Import name weak) area l t e = refl
-directive_says_none (line.Extern name weak) area l t e = refl
-directive_says_none (line.Keep name) area l t e = refl
-directive_says_none (line.Equ v) area l t e = refl
-directive_says_none (line.Rn r) area l t e = refl
-directive_says_none line.Rout area l t e = refl
-directive_says_none (line.Assert v) area l t e = refl
-directive_says_none line.Nofp area l t e = refl
-directive_says_none (line.Opt v) area l t e = refl
-directive_says_none line.Ttl area l t e = refl
-directive_says_none line.Subt area l t e = refl
-directive_says_none (line.Dcd v) area l t e = refl
-directive_says_none (line.Dcdu v) area l t e = refl
-directive_says_none (line.Dcw v) area l t e = refl
-directive_says_none (line.Dcb v) area l t e = refl
-directive_says_none (line.Space v) area l t e = refl
-directive_says_none (line.Align b) area l t e = refl
-directive_says_none line.Ltorg area l t e = refl
-directive_says_none line.Data area l t e = refl
-directive_says_none (line.Map v) area l t e = refl
-directive_says_none (line.Field v) area l t e = refl
-directive_says_none line.Code16 area l t e = refl
-directive_says_none line.Code32 area l t e = refl
+directive_says_none d area l t e = refl
 
 says_none : (w : What) (area : ℕ) (l : LaidLine) (t : Bool) → is_of area l.area ≡ false → says_area area l w t ≡ None
-says_none what.Nothing area l t e = refl
-says_none (what.Arm a) area l t e = refl
-says_none (what.Thumb a) area l t e = refl
-says_none (what.Pseudo a) area l t e = refl
 says_none (what.Directive d) area l t e = directive_says_none d area l t e
+says_none w area l t e = refl
 
 no_attributes : (all : List LaidLine) (area : ℕ) (t : Bool) → HasNone area (pieces_of all) → attributes_of area t all ≡ None
 no_attributes [] area t h = refl
@@ -116,5 +89,6 @@ areas_are all ss ps yielded areas y m laid begun =
             attributes = b ∙ ap Some (sym r.4.attributes);
             size = r.4.size ∙ l.size;
             pools = r.4.pools ∙ l.pools;
+            words = ap (λ (p : Pooled). p.placed) r.4.pools ∙ l.words;
           };
     }

@@ -12,7 +12,6 @@ use Rattle.asm_model.specs.declared.statements.What.TheVariants as what
 use Rattle.asm_model.specs.Directives.{or_else}
 use Rattle.asm_model.specs.Kinds.{told_kind}
 use Rattle.asm_model.specs.Meaning.{named_in}
-use Rattle.asm_model.proofs.FaultLemmas.{told_by_parts}
 use Rattle.asm_offsets.specs.declared.extents.LaidPools.{LaidPools}
 use Rattle.asm_offsets.specs.Coded.{IsExtent}
 use Rattle.asm_offsets.specs.Finished.{AreLaid}
@@ -32,7 +31,7 @@ use Rattle.asm_layout.specs.declared.laid.LaidStatement.{LaidStatement}
 use Rattle.asm_layout.specs.declared.outline.Outline.{Outline}
 use Rattle.asm_layout.specs.declared.walking.Walk.{Walk}
 use Rattle.asm_layout.specs.Finishing.{IsNamed, IsWhole}
-use Rattle.asm_layout.proofs.ToldLemmas.{none_first}
+use Rattle.asm_layout.proofs.ToldLemmas.{none_parts}
 use Rattle.said_model.proofs.SharedLemmas.{are_plain as all_plain}
 
 -- ---- statements as lines say them
@@ -78,8 +77,7 @@ sound_lines names fixed all (l ∷ before) e =
     let registers = register_kinds names l before in
     let told = told_at l.statement (told_kind (layout ++ registers)) in
     let whole = untold l.statement (told_kind (layout ++ registers)) (none_right (first_laid names fixed all before) told e) in
-    let part : told_kind layout ≡ None = none_first (told_kind layout) (told_kind registers) (sym whole ∙ told_by_parts layout registers) in
-    rw (sound_lines names fixed all before (none_left (first_laid names fixed all before) told e), part) refl
+    rw (sound_lines names fixed all before (none_left (first_laid names fixed all before) told e), (none_parts layout registers whole).0) refl
 
 -- what laid lines take up can be placed
 pub extent_fits : ExtentsArePlaceable → (d : List LaidName) (s : Statement) (before : List LaidLine) (r : Result Extent LineKind) → extent_of (names_behind d s before) s.what ≡ r → IsExtent (taken r)

@@ -9,13 +9,12 @@ use Rattle.asm_model.specs.Laid.{LaidLine, laid, laid_behind, laid_of, reversed}
 use Rattle.asm_model.specs.LayoutKinds.{equals_in, settled, told_at}
 use Rattle.source_model.specs.Registers.{register_names}
 use Rattle.source_model.specs.SourceFaults.{first_laid}
-use Rattle.asm_areas.specs.States.{AreStates}
 use Rattle.asm_layout.specs.declared.outline.Outline.{Outline}
 use Rattle.asm_layout.specs.declared.walking.Walk.{Walk}
 use Rattle.asm_layout.specs.Front.{front_laid, front_lines}
 use Rattle.asm_layout.specs.Layout.{IsTold}
 use Rattle.asm_layout.specs.Outline.{IsOutline}
-use Rattle.asm_layout.specs.Walking.{IsOutlined, IsWalking, IsAlong, IsWalked, IsFrontWalked, Steps, told_by}
+use Rattle.asm_layout.specs.Walking.{IsOutlined, IsWalking, IsAlong, IsWalked, IsFrontWalked, StepsOn, told_by}
 use Rattle.asm_layout.proofs.WalkLemmas.{reversed_joined, reversed_long, is_outlined, first_stays, told_moves}
 
 -- ---- lines that are left out
@@ -80,9 +79,7 @@ front_ends statements ys n w h =
 
 pub told_front : (statements ys : List Statement) (x : Statement) (zs rest : List Statement) (n : ℕ) (o : Outline) (old new : Walk) (f : Fault)
     → IsOutline (reversed statements []) o → rest ≡ x ∷ zs → IsAlong statements ys (rest ++ drop n statements) old
-    → ((names settled : List (List ℕ)) (all : List Statement) (before : List LaidLine) → AreStates all o.states → IsWalking o.names names settled all before old
-    → IsOutlined o.names settled o.circular.items x before → Steps o.names names settled all (laid_behind o.names x before) before new (Err f))
-    → IsTold (front_laid (reversed statements []) n) f
+    → StepsOn o x old new (Err f) → IsTold (front_laid (reversed statements []) n) f
 told_front statements ys x zs rest n o old new f outlined e h steps =
     let s = reversed statements [] in
     let d = declared_names s in

@@ -4,6 +4,8 @@ use Rattle.std.specs.List.{AllZip}
 use Rattle.sdt_fault.specs.declared.answer.Fault.{Fault}
 use Rattle.sdt_fault.specs.declared.kinds.LineKind.{LineKind}
 use Rattle.asm_areas.specs.Late.{IsStand}
+use Rattle.asm_names.specs.Lines.{IsPlace}
+use Rattle.asm_names.specs.declared.lines.Place.{Place}
 use Rattle.asm_names.specs.declared.lines.PlacedLine.{PlacedLine}
 use Rattle.asm_names.specs.Source.{AreEach}
 use Rattle.asm_model.specs.declared.statements.Statement.{Statement}
@@ -80,8 +82,8 @@ pub stands : (all : List LaidLine) (x : LaidStatement) (more : List LaidStatemen
 stands all x more n = record {
   parts = n.parts;
   said = ap (λ (s : Statement). s.what) (sym n.line.statement);
-  stands = n.line.area;
-  start = n.line.offset;
+  stands = n.line.place.area;
+  start = n.line.place.offset;
   entry = n.line.literal;
 }
 
@@ -133,12 +135,7 @@ each_of (l ∷ before) xs ys z h =
       r.2,
       record {
         statement = r.4.statement ∙ h.3.statement;
-        area = r.4.area ∙ h.3.area;
-        offset = r.4.offset ∙ h.3.offset;
-        size = r.4.size ∙ h.3.size;
-        thumb = r.4.thumb ∙ h.3.thumb;
-        thumb_label = r.4.thumb_label ∙ h.3.thumb_label;
-        map = r.4.map ∙ h.3.map;
+        place = subst (λ (p : Place). IsPlace p l before) (sym r.4.place) h.3.place;
       },
       each_of before h.0 r.0 r.3 h.4,
     )

@@ -21,7 +21,7 @@ use Rattle.asm_names.specs.declared.equals.Equal.{Equal as Code}
 use Rattle.asm_names.specs.Equals.{pairs_of}
 use Rattle.asm_names.specs.Order.{is_settled}
 use Rattle.asm_layout.specs.declared.outline.Listed.{Listed}
-use Rattle.asm_layout.specs.Outline.{IsListed, pair_if, first_of, firsts_in, circle_of, circles_in, marks_of}
+use Rattle.asm_layout.specs.Outline.{IsListed, pair_if, first_of, firsts_in, circle_of, circles_in, marks_of, settled_marks}
 
 -- ---- whether a name is defined before
 
@@ -128,7 +128,7 @@ mapped settled [] = refl
 mapped settled (x ∷ xs) = ap (λ l. list_any (same x.name.now) settled ∷ l) (mapped settled xs)
 
 pub marks_are : (l : Listed) (ss : List Statement) → IsListed ss l
-    → marks_of l.firsts.items (map (λ (e : Code). is_settled (pairs_of l.equals.items) e.name.now) l.equals.items) ≡ circles_in (settled (equals_in ss)) ss
+    → marks_of l.firsts.items (settled_marks l.equals.items) ≡ circles_in (settled (equals_in ss)) ss
 marks_are l ss h =
     let fixed = settled (equals_in ss) in
     ap (λ (es : List (List ℕ × Expr)). marks_of l.firsts.items (map (λ (e : Code). is_settled es e.name.now) l.equals.items)) h.equals

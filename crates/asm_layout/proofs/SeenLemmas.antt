@@ -8,48 +8,32 @@ use Rattle.asm_model.specs.declared.names.LaidName.{LaidName}
 use Rattle.asm_model.specs.declared.names.Names.{Names}
 use Rattle.asm_model.specs.declared.statements.Statement.{Statement}
 use Rattle.asm_model.specs.declared.values.Value.{Value}
-use Rattle.asm_model.specs.AtLine.{SourceLine, Definition, Nameless, Named, Equated, own_names, names_at, known_entry, added_names, seen_behind}
+use Rattle.asm_model.specs.AtLine.{SourceLine, Definition, Nameless, Named, Equated, own_names, with_names, names_at, added_names, seen_behind}
 use Rattle.asm_model.specs.Before.{is_thumb_label}
 use Rattle.asm_model.specs.Directives.{or_else}
 use Rattle.asm_model.specs.Entries.{equal_entry, label_entry, imported_entry, field_entry, register_entry, later_entry}
 use Rattle.asm_model.specs.Forms.{same}
 use Rattle.asm_model.specs.Grammar.{Tree}
 use Rattle.asm_model.specs.Labels.{Defined, Unnamed, Label, Equal, MapField, RegisterName, defined_by, imported_in, declared_entries, declared_imports, declared_names}
-use Rattle.asm_model.specs.Laid.{LaidLine, lines_of, tree_equated, definition_of, definition_behind, line_behind, imported_lines, names_behind, laid_behind, laid_of, reversed}
+use Rattle.asm_model.specs.Laid.{LaidLine, lines_of, tree_equated, definition_of, definition_behind, line_behind, imported_lines, names_behind, laid_behind, laid_of, entries_with, reversed}
 use Rattle.asm_model.specs.Meaning.{named_in, meaning}
 use Rattle.asm_model.specs.Trees.{tree_of}
 use Rattle.layout_laws.proofs.EqualLemmas.{equal_made}
-use Rattle.layout_laws.proofs.NamedLemmas.{cond_none, none_joined, none_parts}
+use Rattle.layout_laws.proofs.NamedLemmas.{cond_none, none_joined, none_parts, own_undeclared}
 use Rattle.layout_laws.proofs.RoundLemmas.{named_joined}
 
 -- ---- what a line adds
 
-equal_none : (q : List ℕ) (d : List LaidName) (area : Option ℕ) (name : List ℕ) (x : LaidName) (r : Result Value LineKind) → cond (same name q) (Some x) None ≡ None
-    → named_in q (known_entry (equal_entry d area name) r) ≡ None
-equal_none q d area name x (Err Forward) h = refl
-equal_none q d area name x r h =
-    ap (λ (z : List ℕ). cond (same z q) (Some (equal_entry d area name r)) None) (equal_made d area name r).0
-    ∙ cond_none (same name q) x (equal_entry d area name r) h
-
-tree_none : (q : List ℕ) (d : List LaidName) (names : Names) (area : Option ℕ) (name : List ℕ) (x : LaidName) (o : Option Tree) → cond (same name q) (Some x) None ≡ None
-    → named_in q (added_names names (tree_equated d area name o)) ≡ None
-tree_none q d names area name x None h = refl
-tree_none q d names area name x (Some t) h = equal_none q d area name x (meaning names t) h
-
-added_none : (q : List ℕ) (d : List LaidName) (names : Names) (s : Statement) (before : List Statement) (x : Defined) (area : Option ℕ) (offset : ℕ) (size : Option ℕ) (thumb : Bool) (m : ℕ)
-    → named_in q (declared_entries x s before) ≡ None → named_in q (added_names names (definition_of d x area offset size thumb m)) ≡ None
-added_none q d names s before Unnamed area offset size thumb m h = refl
-added_none q d names s before (Label name) area offset size thumb m h =
-    cond_none (same name q) (later_entry name (is_thumb_label s before)) (label_entry name area offset size thumb) h
-added_none q d names s before (Equal name e) area offset size thumb m h = tree_none q d names area name (later_entry name false) (tree_of e) h
-added_none q d names s before (MapField name) area offset size thumb m h = cond_none (same name q) (later_entry name false) (field_entry name m size) h
-added_none q d names s before (RegisterName name r) area offset size thumb m h = cond_none (same name q) (later_entry name false) (register_entry name) h
+added_none : (q : List ℕ) (N : List LaidName) (l : SourceLine) (x : Definition) → named_in q (entries_with N l x) ≡ None → named_in q (added_names (with_names l N) x) ≡ None
+added_none q N l Nameless h = refl
+added_none q N l (Named n) h = h
+added_none q N l (Equated make t) h = h
 
 -- a name that a line knows itself it adds
-own_none : (q : List ℕ) (names : Names) (x : Definition) → named_in q (added_names names x) ≡ None → named_in q (own_names x) ≡ None
-own_none q names Nameless h = refl
-own_none q names (Named n) h = h
-own_none q names (Equated make t) h = refl
+own_none : (q : List ℕ) (N : List LaidName) (l : SourceLine) (x : Definition) → named_in q (entries_with N l x) ≡ None → named_in q (own_names x) ≡ None
+own_none q N l Nameless h = refl
+own_none q N l (Named n) h = h
+own_none q N l (Equated make t) h = refl
 
 imported_none : (q : List ℕ) (d : List LaidName) (s : Statement) (before : List LaidLine) (ls : List SourceLine) (o : Option (List ℕ))
     → named_in q (seen_behind d ls) ≡ None → named_in q (declared_imports o) ≡ None → named_in q (seen_behind d (imported_lines s before o ++ ls)) ≡ None
@@ -72,9 +56,11 @@ seen_none d q (s ∷ ss) h =
     let before = laid_of d ss in
     let seen = seen_behind d (lines_of before) in
     let l = (laid_behind d s before).line in
+    let N = seen ++ own_names l.definition ++ d in
     let parts = statement_parts q s ss h in
     imported_none q d s before (l ∷ lines_of before) (imported_in s.what)
-    (none_joined q seen (added_names (names_at d seen l) l.definition) (seen_none d q ss parts.0) (added_none q d (names_at d seen l) s ss (defined_by s) _ _ _ _ _ parts.1)) parts.2
+    (none_joined q seen (added_names (names_at d seen l) l.definition) (seen_none d q ss parts.0)
+    (added_none q N l l.definition (own_undeclared q s ss N l d (defined_by s) _ _ _ _ _ parts.1))) parts.2
 
 some_behind : (o p : Option LaidName) → (p ≡ None → o ≡ None) → is_some (or_else o p) ≡ is_some p
 some_behind None p h = refl
@@ -92,8 +78,9 @@ seen_declared d q s ss among =
     let before = laid_of d ss in
     let seen = seen_behind d (lines_of before) in
     let l = line_behind s before (definition_behind d s before None) in
+    let N = seen ++ own_names l.definition ++ d in
     let known : named_in q d ≡ None → named_in q (seen ++ own_names l.definition) ≡ None =
     λ none. let parts = statement_parts q s ss (among none) in
     none_joined q seen (own_names l.definition) (seen_none d q ss parts.0)
-    (own_none q (names_at d seen l) l.definition (added_none q d (names_at d seen l) s ss (defined_by s) _ _ _ _ _ parts.1)) in
+    (own_none q N l l.definition (own_undeclared q s ss N l d (defined_by s) _ _ _ _ _ parts.1)) in
     ap is_some (named_joined q (seen ++ own_names l.definition) d) ∙ some_behind (named_in q (seen ++ own_names l.definition)) (named_in q d) known

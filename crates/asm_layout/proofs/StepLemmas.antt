@@ -41,7 +41,7 @@ use Rattle.asm_layout.specs.declared.walking.Walk.{Walk}
 use Rattle.asm_layout.specs.Layout.{IsTold}
 use Rattle.asm_layout.specs.Outline.{circle_of}
 use Rattle.asm_layout.specs.Walking.{IsMark, HasMark, IsCounted, one_more, or_false, IsWalking, IsJudged, Keeps, laid_as, told_by}
-use Rattle.asm_layout.proofs.ToldLemmas.{none_first, none_second, told_parts}
+use Rattle.asm_layout.proofs.ToldLemmas.{none_first, none_second, none_parts, told_parts}
 
 -- ---- the number that checks ask for
 
@@ -53,38 +53,11 @@ directive_numbers : (d : DirectiveLine) (l : LaidLine) (x : Result ℕ LineKind)
 directive_numbers (line.Area name a) l x e = record { exponent_is = e; given_is = tt }
 directive_numbers (line.Rn (rn.Register n)) l x e = record { exponent_is = tt; given_is = tt }
 directive_numbers (line.Rn (rn.Number n)) l x e = record { exponent_is = tt; given_is = e }
-directive_numbers line.Entry l x e = record { exponent_is = tt; given_is = tt }
-directive_numbers line.End l x e = record { exponent_is = tt; given_is = tt }
-directive_numbers (line.Export name) l x e = record { exponent_is = tt; given_is = tt }
-directive_numbers (line.Import name weak) l x e = record { exponent_is = tt; given_is = tt }
-directive_numbers (line.Extern name weak) l x e = record { exponent_is = tt; given_is = tt }
-directive_numbers (line.Keep name) l x e = record { exponent_is = tt; given_is = tt }
-directive_numbers (line.Equ v) l x e = record { exponent_is = tt; given_is = tt }
-directive_numbers line.Rout l x e = record { exponent_is = tt; given_is = tt }
-directive_numbers (line.Assert v) l x e = record { exponent_is = tt; given_is = tt }
-directive_numbers line.Nofp l x e = record { exponent_is = tt; given_is = tt }
-directive_numbers (line.Opt v) l x e = record { exponent_is = tt; given_is = tt }
-directive_numbers line.Ttl l x e = record { exponent_is = tt; given_is = tt }
-directive_numbers line.Subt l x e = record { exponent_is = tt; given_is = tt }
-directive_numbers (line.Dcd v) l x e = record { exponent_is = tt; given_is = tt }
-directive_numbers (line.Dcdu v) l x e = record { exponent_is = tt; given_is = tt }
-directive_numbers (line.Dcw v) l x e = record { exponent_is = tt; given_is = tt }
-directive_numbers (line.Dcb v) l x e = record { exponent_is = tt; given_is = tt }
-directive_numbers (line.Space v) l x e = record { exponent_is = tt; given_is = tt }
-directive_numbers (line.Align b) l x e = record { exponent_is = tt; given_is = tt }
-directive_numbers line.Ltorg l x e = record { exponent_is = tt; given_is = tt }
-directive_numbers line.Data l x e = record { exponent_is = tt; given_is = tt }
-directive_numbers (line.Map v) l x e = record { exponent_is = tt; given_is = tt }
-directive_numbers (line.Field v) l x e = record { exponent_is = tt; given_is = tt }
-directive_numbers line.Code16 l x e = record { exponent_is = tt; given_is = tt }
-directive_numbers line.Code32 l x e = record { exponent_is = tt; given_is = tt }
+directive_numbers d l x e = record { exponent_is = tt; given_is = tt }
 
 pub numbers : (w : What) (l : LaidLine) (x : Result ℕ LineKind) → x ≡ said_number l.seen w → AreNumbers w l x
-numbers what.Nothing l x e = record { exponent_is = tt; given_is = tt }
-numbers (what.Arm a) l x e = record { exponent_is = tt; given_is = tt }
-numbers (what.Thumb a) l x e = record { exponent_is = tt; given_is = tt }
-numbers (what.Pseudo a) l x e = record { exponent_is = tt; given_is = tt }
 numbers (what.Directive d) l x e = directive_numbers d l x e
+numbers w l x e = record { exponent_is = tt; given_is = tt }
 
 -- ---- an exponent that is no fault
 
@@ -100,16 +73,8 @@ exponent_small (Ok n) e = by_test (nat_lt n 2 || nat_lt 16 n) refl e
 area_part : (w : What) (settled : List (List ℕ)) (all : List Statement) (l : LaidLine) (before : List LaidLine) → l.statement.what ≡ w → told_kind (checked_kinds settled all l before) ≡ None
     → told_kind (area_kinds l.seen w before) ≡ None
 area_part w settled all l before is none =
-    let here = no_area_kinds l.area (defined_by l.statement) l.statement.what ++ contents_kinds (contents_behind (l.statement ∷ statements_of before)) l.thumb l.statement.what in
-    let names = name_kinds l.statement (statements_of before) in
-    let last = settled_kinds settled (first_equal (defined_by l.statement) (statements_of before)) in
-    let state = state_kinds l.area l.thumb l.statement.what all in
-    let rest = here ++ area_kinds l.seen l.statement.what before ++ names ++ last in
-    let most = none_first (told_kind rest) (told_kind state) (sym none ∙ told_by_parts rest state) in
-    let a = none_first (told_kind (here ++ area_kinds l.seen l.statement.what before ++ names)) (told_kind last) (sym most ∙ told_by_parts (here ++ area_kinds l.seen l.statement.what before ++ names) last) in
-    let b = none_first (told_kind (here ++ area_kinds l.seen l.statement.what before)) (told_kind names) (sym a ∙ told_by_parts (here ++ area_kinds l.seen l.statement.what before) names) in
-    let c = none_second (told_kind here) (told_kind (area_kinds l.seen l.statement.what before)) (sym b ∙ told_by_parts here (area_kinds l.seen l.statement.what before)) in
-    subst (λ (v : What). told_kind (area_kinds l.seen v before) ≡ None) is c
+    let p = none_parts _ _ (none_parts _ _ (none_parts _ _ (none_parts _ _ none).0).0).0 in
+    subst (λ (v : What). told_kind (area_kinds l.seen v before) ≡ None) is (none_parts _ _ p.0).1
 
 directive_aligned : (d : DirectiveLine) (l : LaidLine) (before : List LaidLine) (settled : List (List ℕ)) (all : List Statement) (x : Result ℕ LineKind) → l.statement.what ≡ what.Directive d
     → IsExponent l.seen (what.Directive d) x → told_kind (checked_kinds settled all l before) ≡ None → IsAligned (what.Directive d) x l
@@ -117,43 +82,14 @@ directive_aligned (line.Area name a) l before settled all x w e none =
     let parts = area_part (what.Directive (line.Area name a)) settled all l before w none in (
       e,
       exponent_small x (subst (λ (y : Result ℕ LineKind). told_kind (exponent_kinds y) ≡ None) (sym e)
-          (none_first (told_kind (exponent_kinds (exponent l.seen a.align))) (told_kind (kind_if (is_named_otherwise name l.seen a before) BadOperand))
-          (sym parts ∙ told_by_parts (exponent_kinds (exponent l.seen a.align)) (kind_if (is_named_otherwise name l.seen a before) BadOperand)))),
+          (none_parts (exponent_kinds (exponent l.seen a.align)) (kind_if (is_named_otherwise name l.seen a before) BadOperand) parts).0),
     )
-directive_aligned (line.Rn r) l before settled all x w e none = tt
-directive_aligned line.Entry l before settled all x w e none = tt
-directive_aligned line.End l before settled all x w e none = tt
-directive_aligned (line.Export name) l before settled all x w e none = tt
-directive_aligned (line.Import name weak) l before settled all x w e none = tt
-directive_aligned (line.Extern name weak) l before settled all x w e none = tt
-directive_aligned (line.Keep name) l before settled all x w e none = tt
-directive_aligned (line.Equ v) l before settled all x w e none = tt
-directive_aligned line.Rout l before settled all x w e none = tt
-directive_aligned (line.Assert v) l before settled all x w e none = tt
-directive_aligned line.Nofp l before settled all x w e none = tt
-directive_aligned (line.Opt v) l before settled all x w e none = tt
-directive_aligned line.Ttl l before settled all x w e none = tt
-directive_aligned line.Subt l before settled all x w e none = tt
-directive_aligned (line.Dcd v) l before settled all x w e none = tt
-directive_aligned (line.Dcdu v) l before settled all x w e none = tt
-directive_aligned (line.Dcw v) l before settled all x w e none = tt
-directive_aligned (line.Dcb v) l before settled all x w e none = tt
-directive_aligned (line.Space v) l before settled all x w e none = tt
-directive_aligned (line.Align b) l before settled all x w e none = tt
-directive_aligned line.Ltorg l before settled all x w e none = tt
-directive_aligned line.Data l before settled all x w e none = tt
-directive_aligned (line.Map v) l before settled all x w e none = tt
-directive_aligned (line.Field v) l before settled all x w e none = tt
-directive_aligned line.Code16 l before settled all x w e none = tt
-directive_aligned line.Code32 l before settled all x w e none = tt
+directive_aligned d l before settled all x w e none = tt
 
 pub aligned : (v : What) (l : LaidLine) (before : List LaidLine) (settled : List (List ℕ)) (all : List Statement) (x : Result ℕ LineKind) → l.statement.what ≡ v
     → IsExponent l.seen v x → told_kind (checked_kinds settled all l before) ≡ None → IsAligned v x l
-aligned what.Nothing l before settled all x w e none = tt
-aligned (what.Arm a) l before settled all x w e none = tt
-aligned (what.Thumb a) l before settled all x w e none = tt
-aligned (what.Pseudo a) l before settled all x w e none = tt
 aligned (what.Directive d) l before settled all x w e none = directive_aligned d l before settled all x w e none
+aligned v l before settled all x w e none = tt
 
 -- ---- the mark of a name for an expression
 
@@ -205,11 +141,11 @@ keep_line d names settled all s before old mid new j p w h none laid k =
     let l = laid_behind d s before in
     let parts : None ≡ first_told (told_kind (checked_kinds settled all l before)) (told_kind (register_kinds names l before)) = sym none ∙ h.told in
     let unchecked : told_kind (checked_kinds settled all l before) ≡ None = none_first (told_kind (checked_kinds settled all l before)) (told_kind (register_kinds names l before)) parts in
-    let line : IsLineOf all s.what p.area j.thumb_area j.laid.number l before = record {
+    let line : IsLineOf all s.what p.place.area j.thumb_area j.laid.number l before = record {
       said = refl;
-      stands = sym laid.area;
+      stands = sym laid.place.area;
       counted = refl;
-      state = h.within ∙ ap (λ (o : Option ℕ). in_thumb_area o all) (sym laid.area);
+      state = h.within ∙ ap (λ (o : Option ℕ). in_thumb_area o all) (sym laid.place.area);
       aligned = aligned s.what l before settled all j.laid.number refl (numbers s.what l j.laid.number h.tells.number).exponent_is unchecked;
     } in
     let untold : told_by names settled all l before ≡ None = judged_told d names settled all l before old mid j h ∙ rw (laid.told, none) refl in
@@ -224,12 +160,7 @@ keep_line d names settled all s before old mid new j p w h none laid k =
         k.lines ∙ ap (λ (v : Vec LaidStatement). v.items ++ laid_as s p ∷ []) h.kept,
         record {
           statement = refl;
-          area = laid.area;
-          offset = laid.offset;
-          size = laid.size;
-          thumb = laid.thumb;
-          thumb_label = laid.thumb_label;
-          map = laid.map;
+          place = laid.place;
           literal = laid.literal;
           strings = laid.strings;
         },

@@ -6,6 +6,7 @@ use Rattle.sdt_fault.specs.declared.kinds.LineKind.TheVariants.{Syntax, UnknownW
 use Rattle.asm_checks.specs.Checked.{checked_kinds}
 use Rattle.asm_laying.specs.Laying.{told_of}
 use Rattle.asm_model.specs.declared.statements.Statement.{Statement}
+use Rattle.asm_model.specs.Exprs.{has_large}
 use Rattle.asm_model.specs.FaultSets.{first_told}
 use Rattle.asm_model.specs.Kinds.{rank, earlier, told_kind}
 use Rattle.asm_model.proofs.FaultLemmas.{takes, stays, first_assoc, told_by_parts}
@@ -71,36 +72,29 @@ first_swaps (Some k) (Some j) = ap Some (earlier_swaps k j)
 
 -- ---- the parts of a line
 
--- what laying finds, with what is found of its end
-split_kinds : (es ms cs ts rs : List LineKind)
-    → told_kind ((es ++ ms ++ cs ++ ts) ++ rs) ≡ first_told (told_kind (es ++ ms ++ ts)) (first_told (told_kind cs) (told_kind rs))
-split_kinds es ms cs ts rs =
-    told_by_parts (es ++ ms ++ cs ++ ts) rs
-    ∙ ap (λ o. first_told o (told_kind rs)) (told_by_parts (es ++ ms ++ cs) ts ∙ ap (λ o. first_told o (told_kind ts)) (told_by_parts (es ++ ms) cs)
-    ∙ sym (first_assoc (told_kind (es ++ ms)) (told_kind cs) (told_kind ts))
-    ∙ ap (first_told (told_kind (es ++ ms))) (first_swaps (told_kind cs) (told_kind ts))
-    ∙ first_assoc (told_kind (es ++ ms)) (told_kind ts) (told_kind cs)
-    ∙ ap (λ o. first_told o (told_kind cs)) (sym (told_by_parts (es ++ ms) ts)))
-    ∙ sym (first_assoc (told_kind (es ++ ms ++ ts)) (told_kind cs) (told_kind rs))
+third_moves : (a b c : Option LineKind) → first_told (first_told a b) c ≡ first_told (first_told a c) b
+third_moves a b c = sym (first_assoc a b c) ∙ ap (first_told a) (first_swaps b c) ∙ first_assoc a c b
 
-append_assoc : (xs ys zs : List LineKind) → (xs ++ ys) ++ zs ≡ xs ++ (ys ++ zs)
-append_assoc [] ys zs = refl
-append_assoc (x ∷ xs) ys zs = ap (λ l. x ∷ l) (append_assoc xs ys zs)
+-- what the checks find, from a part on
+flat : (a h b c d f g : Option LineKind)
+    → first_told a (first_told (first_told (first_told (first_told (first_told h b) c) d) f) g) ≡ first_told (first_told (first_told (first_told (first_told (first_told a h) b) c) d) f) g
+flat a h b c d f g = simp first_assoc
 
-joined_kinds : (es ms hs bs cs ds fs gs ts rs : List LineKind)
-    → told_kind ((es ++ ms ++ hs ++ bs ++ cs ++ ds ++ fs ++ gs ++ ts) ++ rs)
-    ≡ first_told (told_kind (es ++ ms ++ ts)) (first_told (told_kind (hs ++ bs ++ cs ++ ds ++ fs ++ gs)) (told_kind rs))
-joined_kinds es ms hs bs cs ds fs gs ts rs =
-    ap (λ l. told_kind ((l ++ ts) ++ rs)) (grouped (es ++ ms)) ∙ split_kinds es ms (hs ++ bs ++ cs ++ ds ++ fs ++ gs) ts rs
-  where
-    grouped : (ks : List LineKind) → ks ++ hs ++ bs ++ cs ++ ds ++ fs ++ gs ≡ ks ++ (hs ++ bs ++ cs ++ ds ++ fs ++ gs)
-    grouped ks =
-        append_assoc (ks ++ hs ++ bs ++ cs ++ ds) fs gs ∙ append_assoc (ks ++ hs ++ bs ++ cs) ds (fs ++ gs)
-        ∙ append_assoc (ks ++ hs ++ bs) cs (ds ++ (fs ++ gs)) ∙ append_assoc (ks ++ hs) bs (cs ++ (ds ++ (fs ++ gs)))
-        ∙ append_assoc ks hs (bs ++ (cs ++ (ds ++ (fs ++ gs))))
-        ∙ ap (λ l. ks ++ l)
-        (sym (append_assoc (hs ++ bs ++ cs ++ ds) fs gs ∙ append_assoc (hs ++ bs ++ cs) ds (fs ++ gs) ∙ append_assoc (hs ++ bs) cs (ds ++ (fs ++ gs))
-        ∙ append_assoc hs bs (cs ++ (ds ++ (fs ++ gs)))))
+-- what laying finds, with what is found of its end, and then the others
+regrouped : (a h b c d f g t n r : Option LineKind)
+    → first_told (first_told (first_told (first_told (first_told (first_told (first_told (first_told (first_told a h) b) c) d) f) g) t) n) r
+    ≡ first_told (first_told a t) (first_told (first_told (first_told (first_told (first_told (first_told (first_told h b) c) d) f) g) n) r)
+regrouped a h b c d f g t n r =
+    let x = first_told (first_told (first_told (first_told (first_told h b) c) d) f) g in
+    sym (first_assoc (first_told a t) (first_told x n) r ∙ ap (λ o. first_told o r) (first_assoc (first_told a t) x n)
+    ∙ ap (λ o. first_told (first_told o n) r) (third_moves a t x ∙ ap (λ o. first_told o t) (flat a h b c d f g)))
+
+joined_kinds : (es ms hs bs cs ds fs gs ts ns rs : List LineKind)
+    → told_kind ((es ++ ms ++ hs ++ bs ++ cs ++ ds ++ fs ++ gs ++ ts ++ ns) ++ rs)
+    ≡ first_told (told_kind (es ++ ms ++ ts)) (first_told (told_kind (hs ++ bs ++ cs ++ ds ++ fs ++ gs ++ ns)) (told_kind rs))
+joined_kinds es ms hs bs cs ds fs gs ts ns rs =
+    simp told_by_parts
+    (regrouped (first_told (told_kind es) (told_kind ms)) (told_kind hs) (told_kind bs) (told_kind cs) (told_kind ds) (told_kind fs) (told_kind gs) (told_kind ts) (told_kind ns) (told_kind rs))
 
 pub told_parts : (names settled : List (List ℕ)) (all : List Statement) (l : LaidLine) (before : List LaidLine)
     → told_by names settled all l before ≡ first_told (told_of l) (first_told (told_kind (checked_kinds settled all l before)) (told_kind (register_kinds names l before)))
@@ -108,7 +102,7 @@ told_parts names settled all l before =
     joined_kinds (fault_kinds l.extent) (map_kinds l.seen l.statement.what) (no_area_kinds l.area (defined_by l.statement) l.statement.what)
     (contents_kinds (contents_behind (l.statement ∷ statements_of before)) l.thumb l.statement.what) (area_kinds l.seen l.statement.what before)
     (name_kinds l.statement (statements_of before)) (settled_kinds settled (first_equal (defined_by l.statement) (statements_of before))) (state_kinds l.area l.thumb l.statement.what all)
-    (kind_if (nat_lt area_bytes (l.offset + l.size)) TooMany) (register_kinds names l before)
+    (kind_if (nat_lt area_bytes (l.offset + l.size)) TooMany) (kind_if (has_large l.statement.what) Constant) (register_kinds names l before)
 
 -- where nothing is told of two, nothing is told of each
 pub none_first : (a b : Option LineKind) → None ≡ first_told a b → a ≡ None
@@ -120,3 +114,8 @@ pub none_second : (a b : Option LineKind) → None ≡ first_told a b → b ≡ 
 none_second a None e = refl
 none_second None (Some j) e = absurd (cc)
 none_second (Some k) (Some j) e = absurd (cc)
+
+-- where nothing is told of kinds, nothing is told of their parts
+pub none_parts : (ks js : List LineKind) → told_kind (ks ++ js) ≡ None → (told_kind ks ≡ None) × (told_kind js ≡ None)
+none_parts ks js e =
+    let both = sym e ∙ told_by_parts ks js in (none_first (told_kind ks) (told_kind js) both, none_second (told_kind ks) (told_kind js) both)

@@ -4,7 +4,6 @@ use Rattle.std.specs.List.{slice_get}
 use Rattle.std.specs.Option.{is_some}
 use Rattle.sdt_fault.specs.declared.answer.Fault.{Fault}
 use Rattle.sdt_fault.specs.declared.kinds.LineKind.{LineKind}
-use Rattle.asm_areas.specs.States.{AreStates}
 use Rattle.asm_laying.specs.Behind.{most_statements}
 use Rattle.asm_laying.specs.Laying.{IsLaying, MayLay}
 use Rattle.asm_model.specs.declared.statements.Statement.{Statement}
@@ -21,7 +20,7 @@ use Rattle.asm_layout.specs.declared.outline.Outline.{Outline}
 use Rattle.asm_layout.specs.declared.walking.Walk.{Walk}
 use Rattle.asm_layout.specs.Layout.{IsTold}
 use Rattle.asm_layout.specs.Outline.{circle_of, circles_in, IsOutline}
-use Rattle.asm_layout.specs.Walking.{HasMark, IsOutlined, IsWalking, IsAlong, Steps}
+use Rattle.asm_layout.specs.Walking.{HasMark, IsOutlined, IsWalking, IsAlong, StepsOn}
 use Rattle.asm_layout.proofs.SeenLemmas.{declared_before, seen_declared}
 
 -- ---- lists
@@ -109,9 +108,7 @@ is_outlined statements ys x zs rest o w outlined e h =
 
 pub goes_along : (statements ys : List Statement) (x : Statement) (zs rest : List Statement) (o : Outline) (old new : Walk) (r : Result (Unit {0}) Fault) (u : Unit {0})
     → IsOutline (reversed statements []) o → rest ≡ x ∷ zs → IsAlong statements ys rest old
-    → ((names settled : List (List ℕ)) (all : List Statement) (before : List LaidLine) → AreStates all o.states → IsWalking o.names names settled all before old
-    → IsOutlined o.names settled o.circular.items x before → Steps o.names names settled all (laid_behind o.names x before) before new (Ok u))
-    → IsAlong statements (ys ++ x ∷ []) zs new
+    → StepsOn o x old new (Ok u) → IsAlong statements (ys ++ x ∷ []) zs new
 goes_along statements ys x zs rest o old new r u outlined e h steps =
     let s = reversed statements [] in
     let d = declared_names s in

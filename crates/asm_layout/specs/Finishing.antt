@@ -1,5 +1,6 @@
 -- A source whose lines have no fault of their own. This project's.
-use Rattle.std.specs.Prelude.{◌≡◌, ℕ, List}
+use Rattle.std.specs.Prelude.{◌≡◌, ℕ, List, Option, Result, Ok}
+use Rattle.sdt_fault.specs.declared.answer.Fault.{Fault}
 use Rattle.asm_model.specs.declared.names.LaidName.{LaidName}
 use Rattle.asm_model.specs.declared.statements.Statement.{Statement}
 use Rattle.asm_model.specs.Meaning.{named_in}
@@ -7,14 +8,15 @@ use Rattle.asm_layout.specs.declared.laid.LaidStatement.{LaidStatement}
 use Rattle.asm_names.specs.Source.{AreRead}
 use Rattle.asm_model.specs.Sound.{IsSound, ArePlain}
 use Rattle.asm_model.specs.Labels.{declared_names}
-use Rattle.asm_model.specs.Laid.{laid}
+use Rattle.asm_model.specs.Laid.{laid, final_names}
 use Rattle.said_model.specs.Said.{AllSaid}
 use Rattle.asm_layout.specs.declared.outline.Outline.{Outline}
 use Rattle.asm_layout.specs.declared.walking.Walk.{Walk}
-use Rattle.asm_layout.specs.Layout.{AreStatements}
+use Rattle.asm_layout.specs.declared.laid.Layout.{Layout}
+use Rattle.asm_laying.specs.Laying.{AreKnownNames}
+use Rattle.asm_layout.specs.Layout.{AreStatements, IsOutcome}
 use Rattle.asm_layout.specs.Outline.{IsOutline}
 use Rattle.asm_layout.specs.Walking.{IsWalked}
-use Rattle.std.specs.Prelude.{Ok}
 
 -- the names of a source are made of its lines and the names that it declares
 pub record IsNamed (statements : List Statement) (statements_laid : List LaidStatement) (declared : List LaidName) : Type 0 where
@@ -24,8 +26,21 @@ pub record IsNamed (statements : List Statement) (statements_laid : List LaidSta
   pub lines : AreStatements (laid statements) statements_laid
   pub found : (q : List ℕ) → named_in q declared ≡ named_in q (declared_names statements)
 
+-- the names of any source that these are made of
+abbrev pub AreNames : List LaidStatement → List LaidName → List LaidName → Type 0
+AreNames xs declared names = (statements : List Statement) → IsNamed statements xs declared → names ≡ final_names (laid statements)
+
+-- or of those whose lines know these
+abbrev pub AreNamesOf : List LaidStatement → List LaidName → Option (List LaidName) → List LaidName → Type 0
+AreNamesOf xs declared known names =
+    (statements : List Statement) → IsNamed statements xs declared → AreKnownNames (declared_names statements) (laid statements) known
+    → names ≡ final_names (laid statements)
+
 -- a source whose lines are laid
 pub record IsWhole (statements : List Statement) (o : Outline) (w : Walk) : Type 0 where
   pub said : AllSaid statements
   pub outlined : IsOutline statements o
   pub walked : IsWalked statements (Ok w)
+
+abbrev pub Finishes : Outline → Walk → Result Layout Fault → Type 0
+Finishes o w r = (statements : List Statement) → IsWhole statements o w → IsOutcome statements r

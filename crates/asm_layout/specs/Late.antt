@@ -7,7 +7,9 @@ use Rattle.asm_model.specs.declared.statements.Statement.{Statement}
 use Rattle.asm_layout.specs.declared.laid.LaidStatement.{LaidStatement}
 use Rattle.asm_model.specs.Laid.{LaidLine, reversed}
 use Rattle.asm_model.specs.LayoutKinds.{first_late}
-use Rattle.asm_layout.specs.Layout.{IsStatement, IsTold}
+use Rattle.asm_areas.specs.Late.{AreWhole}
+use Rattle.asm_offsets.specs.declared.extents.LaidPools.{LaidPools}
+use Rattle.asm_layout.specs.Layout.{IsStatement, AreStatements, IsTold}
 
 abbrev pub stand_of : LaidStatement → Stand
 stand_of x = record { area = x.place.area; offset = x.place.offset; literal = x.literal }
@@ -16,6 +18,10 @@ stand_of x = record { area = x.place.area; offset = x.place.offset; literal = x.
 abbrev pub IsCleared : Option (Statement × LineKind) → Result (Unit {0}) Fault → Type 0
 IsCleared told (Ok u) = told ≡ None
 IsCleared told (Err f) = IsTold told f
+
+-- the first line of a source with these statements and areas is told
+abbrev pub Clears : List LaidPools → List LaidStatement → Result (Unit {0}) Fault → Type 0
+Clears pools xs r = (all : List LaidLine) → AreWhole all pools → AreStatements all xs → IsCleared (first_late all [] (reversed all [])) r
 
 -- statements are the lines from a place on, where these stand before it, the nearest first
 abbrev pub AreOn : List LaidLine → List LaidLine → List LaidStatement → Type 0

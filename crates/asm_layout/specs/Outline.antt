@@ -1,5 +1,5 @@
 -- What laying a line needs to know of the whole source. This project's.
-use Rattle.std.specs.Prelude.{◌≡◌, ℕ, List, [], ◌∷◌, ◌++◌, Bool, true, false, not, if◌then◌else◌}
+use Rattle.std.specs.Prelude.{◌≡◌, ℕ, List, [], ◌∷◌, ◌++◌, drop, map, Bool, true, false, not, if◌then◌else◌}
 use Rattle.std.specs.List.{list_any}
 use Rattle.asm_model.specs.declared.exprs.Expr.{Expr}
 use Rattle.asm_model.specs.declared.statements.Statement.{Statement}
@@ -10,7 +10,9 @@ use Rattle.asm_model.specs.Laid.{reversed}
 use Rattle.asm_areas.specs.States.{AreStates}
 use Rattle.asm_laying.specs.declared.behind.Behind.{Behind}
 use Rattle.asm_laying.specs.Behind.{behind}
+use Rattle.asm_names.specs.declared.equals.Equal.{Equal as Code}
 use Rattle.asm_names.specs.Equals.{pairs_of}
+use Rattle.asm_names.specs.Order.{is_settled}
 use Rattle.asm_layout.specs.declared.outline.Listed.{Listed}
 use Rattle.asm_layout.specs.declared.outline.Outline.{Outline}
 
@@ -43,7 +45,16 @@ marks_of (false ∷ firsts) settled = false ∷ marks_of firsts settled
 marks_of (true ∷ firsts) [] = false ∷ marks_of firsts []
 marks_of (true ∷ firsts) (b ∷ settled) = not b ∷ marks_of firsts settled
 
+-- the mark of a definition before others, and how many that are settled are taken behind it
+abbrev pub IsMarked : Bool → List Bool → ℕ → Bool → ℕ → Type 0
+IsMarked first settled taken mark next =
+    (rest : List Bool) → marks_of (first ∷ rest) (drop taken settled) ≡ mark ∷ marks_of rest (drop next settled)
+
 -- ---- lists of code
+
+-- whether each of the names is settled
+abbrev pub settled_marks : List Code → List Bool
+settled_marks equals = map (λ (e : Code). is_settled (pairs_of equals) e.name.now) equals
 
 -- a name with its expression, where it is listed
 abbrev pub pair_if : Bool → List ℕ → Expr → List (List ℕ × Expr)

@@ -7,6 +7,7 @@ use Rattle.asm_model.specs.declared.statements.Statement.{Statement}
 use Rattle.asm_model.specs.FaultSets.{first_told}
 use Rattle.asm_model.specs.Kinds.{told_kind}
 use Rattle.asm_layout.specs.declared.laid.LaidStatement.{LaidStatement}
+use Rattle.asm_areas.specs.States.{AreStates}
 use Rattle.asm_areas.specs.Starts.{AreStarts, IsLineOf}
 use Rattle.asm_checks.specs.Checked.{checked_kinds, IsChecked}
 use Rattle.asm_laying.specs.declared.laying.Placed.{Placed}
@@ -14,11 +15,12 @@ use Rattle.asm_laying.specs.Laying.{IsLaying, Tells}
 use Rattle.asm_registers.specs.Kept.{AreRegisters}
 use Rattle.asm_model.specs.declared.names.LaidName.{LaidName}
 use Rattle.asm_model.specs.Labels.{Defined, Equal, defined_by, declared_names}
-use Rattle.asm_model.specs.Laid.{LaidLine, statements_of, names_behind, laid, laid_of, reversed}
+use Rattle.asm_model.specs.Laid.{LaidLine, statements_of, names_behind, laid, laid_behind, laid_of, reversed}
 use Rattle.asm_model.specs.Meaning.{named_in}
 use Rattle.asm_model.specs.LayoutKinds.{layout_kinds, equals_in, settled, in_thumb_area, told_at}
 use Rattle.source_model.specs.Registers.{register_names, register_kinds}
 use Rattle.source_model.specs.SourceFaults.{first_laid}
+use Rattle.asm_layout.specs.declared.outline.Outline.{Outline}
 use Rattle.asm_layout.specs.declared.walking.Judged.{Judged}
 use Rattle.asm_layout.specs.declared.walking.Walk.{Walk}
 use Rattle.asm_layout.specs.Front.{front_lines, front_laid}
@@ -70,6 +72,11 @@ pub record IsWalking (d : List LaidName) (names settled : List (List ℕ)) (all 
   pub counted : w.equals ≡ length (circles_in settled (statements_of before))
   pub none : first_laid names settled all before ≡ None
 
+-- before the first line of a source
+abbrev pub Begins : List Statement → Walk → Type 0
+Begins statements w =
+    (d : List LaidName) (settled : List (List ℕ)) (all : List Statement) → IsWalking d (register_names statements) settled all [] w
+
 -- ---- a line more
 
 -- what is known of a line before it is kept
@@ -82,6 +89,13 @@ pub record IsJudged (d : List LaidName) (names settled : List (List ℕ)) (all :
   pub begun : new.starts ≡ old.starts
   pub kept : new.lines ≡ old.lines
   pub counted : new.equals ≡ length (circles_in settled (statements_of (l ∷ before)))
+
+-- a statement is judged behind lines
+abbrev pub Judges : Outline → Statement → Walk → Walk → Judged → Type 0
+Judges o s old new j =
+    (names settled : List (List ℕ)) (all : List Statement) (before : List LaidLine) → AreStates all o.states
+    → IsWalking o.names names settled all before old → IsOutlined o.names settled o.circular.items s before
+    → IsJudged o.names names settled all (laid_behind o.names s before) before old new j
 
 abbrev pub laid_as : Statement → Placed → LaidStatement
 laid_as s p = record {
@@ -108,6 +122,20 @@ told_by names settled all l before = told_kind (layout_kinds settled all l befor
 abbrev pub Steps : List LaidName → List (List ℕ) → List (List ℕ) → List Statement → LaidLine → List LaidLine → Walk → Result (Unit {0}) Fault → Type 0
 Steps d names settled all l before new (Ok u) = IsWalking d names settled all (l ∷ before) new
 Steps d names settled all l before new (Err f) = IsTold (told_at l.statement (told_by names settled all l before)) f
+
+-- a judged statement is kept, or its fault is told
+abbrev pub KeepsOrTells : Statement → Judged → Walk → Walk → Result (Unit {0}) Fault → Type 0
+KeepsOrTells s j old new r =
+    (d : List LaidName) (names settled : List (List ℕ)) (all : List Statement) (first : Walk) (before : List LaidLine)
+    → IsWalking d names settled all before first → IsJudged d names settled all (laid_behind d s before) before first old j
+    → Steps d names settled all (laid_behind d s before) before new r
+
+-- a statement is judged behind lines, and kept or told
+abbrev pub StepsOn : Outline → Statement → Walk → Walk → Result (Unit {0}) Fault → Type 0
+StepsOn o s old new r =
+    (names settled : List (List ℕ)) (all : List Statement) (before : List LaidLine) → AreStates all o.states
+    → IsWalking o.names names settled all before old → IsOutlined o.names settled o.circular.items s before
+    → Steps o.names names settled all (laid_behind o.names s before) before new r
 
 -- ---- all lines
 

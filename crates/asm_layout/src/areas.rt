@@ -1,10 +1,7 @@
 //! The areas of a layout.
 
-ghost use Rattle.std.specs.Prelude.{List, IfOk};
-ghost use Rattle.asm_model.specs.Laid.{pieces_of, statements_of, LaidLine};
-ghost use Rattle.asm_offsets.specs.Finished.{AreLaid};
-ghost use Rattle.asm_areas.specs.Starts.{AreStarts};
-ghost use Rattle.asm_layout.specs.Layout.{AreAreas};
+ghost use Rattle.std.specs.Prelude.{IfOk};
+ghost use Rattle.asm_layout.specs.Areas.{AreAreasOf};
 
 use crate::laid::LaidArea;
 use asm_areas::AreaStart;
@@ -18,7 +15,7 @@ pub fn areas_of(
     starts: Vec<AreaStart>,
     pools: Vec<LaidPools>,
 ) -> Result<Vec<LaidArea>, NoMemory>
-    ensures { IfOk result (λ areas. (all : List LaidLine) → AreLaid (pieces_of all) pools.items → AreStarts (statements_of all) all starts.items → AreAreas all areas.items) }
+    ensures { IfOk result (λ areas. AreAreasOf starts.items pools.items areas.items) }
 {
     let mut areas = Vec::new(alloc);
     'areas: for (start, laid) in starts.into_iter().zip(pools) {

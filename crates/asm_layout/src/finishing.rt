@@ -1,12 +1,7 @@
 //! The layout of a source whose lines have no fault of their own.
 
-ghost use Rattle.std.specs.Prelude.{◌≡◌, List, IfOk};
-ghost use Rattle.asm_model.specs.Laid as laid_model;
-ghost use Rattle.asm_model.specs.Labels.{declared_names};
-ghost use Rattle.asm_model.specs.declared.statements.Statement.{Statement};
-ghost use Rattle.asm_laying.specs.Laying.{AreKnownNames};
-ghost use Rattle.asm_layout.specs.Layout.{IsOutcome};
-ghost use Rattle.asm_layout.specs.Finishing.{IsNamed, IsWhole};
+ghost use Rattle.std.specs.Prelude.{IfOk};
+ghost use Rattle.asm_layout.specs.Finishing.{AreNames, AreNamesOf, Finishes};
 
 use crate::areas::areas_of;
 use crate::laid::{LaidStatement, Layout};
@@ -28,7 +23,7 @@ fn made_names(
     laid: &[LaidStatement],
     declared: &KnownNames,
 ) -> Result<KnownNames, NoMemory>
-    ensures { IfOk result (λ names. (statements : List Statement) → IsNamed statements laid.now declared.now → names ≡ laid_model.final_names (laid_model.laid statements)) }
+    ensures { IfOk result (λ names. AreNames laid.now declared.now names) }
 {
     let lines = lines_of(alloc, laid)?;
     let names = final_names(alloc, lines.as_slice(), declared)?;
@@ -42,7 +37,7 @@ fn names_of(
     declared: &KnownNames,
     known: Option<KnownNames>,
 ) -> Result<KnownNames, NoMemory>
-    ensures { IfOk result (λ names. (statements : List Statement) → IsNamed statements laid.now declared.now → AreKnownNames (declared_names statements) (laid_model.laid statements) known → names ≡ laid_model.final_names (laid_model.laid statements)) }
+    ensures { IfOk result (λ names. AreNamesOf laid.now declared.now known names) }
 {
     known_names_are_final();
     match known {
@@ -53,7 +48,7 @@ fn names_of(
 
 /// The layout, or the refusal of the first line with a fault that needs the whole layout.
 pub fn finished(alloc: Global, outline: &Outline, walk: Walk) -> Result<Layout, Fault>
-    ensures { (statements : List Statement) → IsWhole statements outline.now walk → IsOutcome statements result }
+    ensures { Finishes outline.now walk result }
 {
     extents_are_placeable();
     let Walk {

@@ -1,12 +1,7 @@
 //! Faults of lines that need the whole layout.
 
-ghost use Rattle.std.specs.Prelude.{◌≡◌, [], ℕ, List, None};
-ghost use Rattle.asm_model.specs.Laid.{reversed, LaidLine};
-ghost use Rattle.asm_model.specs.LayoutKinds.{first_late};
-ghost use Rattle.asm_areas.specs.Late.{AreWhole};
-ghost use Rattle.asm_layout.specs.Layout.{AreStatements};
+ghost use Rattle.std.specs.Prelude.{◌≡◌};
 ghost use Rattle.asm_layout.specs.Late as late;
-ghost use Rattle.asm_layout.specs.Late.{IsCleared};
 
 use crate::laid::LaidStatement;
 use crate::telling::told_of;
@@ -27,7 +22,7 @@ fn stand_of(laid: &LaidStatement) -> Stand
 
 /// Tells the first line with such a fault.
 pub fn cleared(alloc: Global, laid: &[LaidStatement], pools: &[LaidPools]) -> Result<(), Fault>
-    ensures { (all : List LaidLine) → AreWhole all pools.now → AreStatements all laid.now → IsCleared (first_late all [] (reversed all [])) result }
+    ensures { late.Clears pools.now laid.now result }
 {
     let mut left = laid;
     'lines: loop {

@@ -1,11 +1,10 @@
 //! What laying a line needs to know of the whole source.
 
-ghost use Rattle.std.specs.Prelude.{◌≡◌, ◌+◌, ◌∷◌, ◌++◌, ◌<◌, [], List, Bool, drop, length, map, IfOk, OnOk};
+ghost use Rattle.std.specs.Prelude.{◌≡◌, ◌+◌, ◌++◌, ◌<◌, [], length, IfOk, OnOk};
 ghost use Rattle.asm_model.specs.Laid.{reversed};
 ghost use Rattle.asm_names.specs.Equals.{pairs_of};
-ghost use Rattle.asm_names.specs.Order.{is_settled};
 ghost use Rattle.asm_laying.specs.Behind.{most_statements};
-ghost use Rattle.asm_layout.specs.Outline.{marks_of, pair_if, IsOutline, IsListed, Lists};
+ghost use Rattle.asm_layout.specs.Outline.{marks_of, settled_marks, pair_if, IsOutline, IsListed, IsMarked, Lists};
 
 use crate::states::states_of;
 use asm_areas::States;
@@ -91,7 +90,7 @@ fn list_all<'a>(alloc: Global, statements: &'a [Statement]) -> Result<Listed<'a>
 
 /// The mark of a definition, and how many of the first definitions are taken behind it.
 fn marked(first: bool, settled: &[bool], taken: usize) -> (bool, usize)
-    ensures { (rest : List Bool) → marks_of (first ∷ rest) (drop taken settled.now) ≡ result.0 ∷ marks_of rest (drop result.1 settled.now) }
+    ensures { IsMarked first settled.now taken result.0 result.1 }
 {
     if !first {
         return (false, taken);
@@ -124,7 +123,7 @@ fn circular_of(alloc: Global, firsts: &[bool], settled: &[bool]) -> Result<Vec<b
 
 /// The names for expressions that depend on themselves.
 fn circular_in(alloc: Global, equals: &[Equal<'_>], firsts: &[bool]) -> Result<Vec<bool>, NoMemory>
-    ensures { IfOk result (λ marks. marks.items ≡ marks_of firsts.now (map (λ e. is_settled (pairs_of equals.now) e.name.now) equals.now)) }
+    ensures { IfOk result (λ marks. marks.items ≡ marks_of firsts.now (settled_marks equals.now)) }
 {
     if equals.len() > 0xFFFF_FFFF {
         return Err(NoMemory);

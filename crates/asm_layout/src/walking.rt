@@ -1,18 +1,14 @@
 //! The lines of a source, laid and judged one behind the other.
 
-ghost use Rattle.std.specs.Prelude.{◌≡◌, ◌∷◌, ◌+◌, ◌<◌, [], ℕ, List, Bool, Some, length, IfOk, OnOk};
+ghost use Rattle.std.specs.Prelude.{◌≡◌, ◌+◌, ◌<◌, [], length, IfOk, OnOk};
 ghost use Rattle.asm_model.specs.Labels as labels;
-ghost use Rattle.asm_model.specs.declared.names.LaidName.{LaidName};
-ghost use Rattle.asm_model.specs.declared.statements.Statement.{Statement};
-ghost use Rattle.asm_model.specs.Laid.{laid_behind, reversed, LaidLine};
+ghost use Rattle.asm_model.specs.Laid.{reversed};
 ghost use Rattle.said_model.specs.Said.{AllSaid, IsSaid};
 ghost use Rattle.asm_laying.specs.Behind.{most_statements};
 ghost use Rattle.asm_laying.specs.Laying as laying;
 ghost use Rattle.asm_model.specs.FaultSets as sets;
-ghost use Rattle.asm_areas.specs.States.{AreStates};
 ghost use Rattle.asm_layout.specs.Layout.{IsTold};
 ghost use Rattle.asm_layout.specs.Outline.{IsOutline};
-ghost use Rattle.source_model.specs.Registers.{register_names};
 ghost use Rattle.asm_layout.specs.Walking as walking;
 
 use crate::laid::LaidStatement;
@@ -97,7 +93,7 @@ fn laid_statement(statement: Statement, placed: Placed) -> LaidStatement
 impl Walk {
     /// Before the first line.
     fn new(alloc: Global, statements: &[Statement]) -> Result<Walk, NoMemory>
-        ensures { IfOk result (λ w. (d : List LaidName) (settled : List (List ℕ)) (all : List Statement) → walking.IsWalking d (register_names (reversed statements.now [])) settled all [] w) }
+        ensures { IfOk result (λ w. walking.Begins (reversed statements.now []) w) }
     {
         Ok(Walk {
             alloc,
@@ -114,7 +110,7 @@ impl Walk {
     fn judge(&mut self, outline: &Outline, statement: &Statement) -> Result<Judged, NoMemory>
         requires may { laying.MayLay outline.now.names self.old.laying }
         requires said { IsSaid statement.now }
-        ensures { IfOk result (λ j. (names settled : List (List ℕ)) (all : List Statement) (before : List LaidLine) → AreStates all outline.now.states → walking.IsWalking outline.now.names names settled all before self.old → walking.IsOutlined outline.now.names settled outline.now.circular.items statement.now before → walking.IsJudged outline.now.names names settled all (laid_behind outline.now.names statement.now before) before self.old self.new j) }
+        ensures { IfOk result (λ j. walking.Judges outline.now statement.now self.old self.new j) }
     {
         let laid = self.laying.lay(self.alloc, &outline.names, statement)?;
         let circular = take_mark(&mut self.equals, outline.circular.as_slice(), statement);
@@ -155,7 +151,7 @@ impl Walk {
 
     /// Keeps a line, or tells its fault.
     fn keep_or_tell(&mut self, statement: Statement, judged: Judged) -> Result<(), Fault>
-        ensures { (d : List LaidName) (names settled : List (List ℕ)) (all : List Statement) (old : Walk) (before : List LaidLine) → walking.IsWalking d names settled all before old → walking.IsJudged d names settled all (laid_behind d statement before) before old self.old judged → walking.Steps d names settled all (laid_behind d statement before) before self.new result }
+        ensures { walking.KeepsOrTells statement judged self.old self.new result }
     {
         let Judged {
             laid,
@@ -178,7 +174,7 @@ impl Walk {
     fn step(&mut self, outline: &Outline, statement: Statement) -> Result<(), Fault>
         requires may { laying.MayLay outline.now.names self.old.laying }
         requires said { IsSaid statement }
-        ensures { (names settled : List (List ℕ)) (all : List Statement) (before : List LaidLine) → AreStates all outline.now.states → walking.IsWalking outline.now.names names settled all before self.old → walking.IsOutlined outline.now.names settled outline.now.circular.items statement before → walking.Steps outline.now.names names settled all (laid_behind outline.now.names statement before) before self.new result }
+        ensures { walking.StepsOn outline.now statement self.old self.new result }
     {
         let judged = self.judge(outline, &statement)?;
         self.keep_or_tell(statement, judged)

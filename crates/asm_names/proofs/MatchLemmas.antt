@@ -1,21 +1,20 @@
 -- The entries of lines, and those of the source's definitions.
-use Rattle.std.proofs.Common.{◌≡◌, ℕ, List, [], ◌∷◌, ◌++◌, map, Bool, false, refl, sym, ◌∙◌, ap, subst, Option, Some, None}
+use Rattle.std.proofs.Common.{◌≡◌, ℕ, List, [], ◌∷◌, ◌++◌, map, false, refl, sym, ◌∙◌, ap, subst, Option, Some, None}
 use Rattle.std.specs.List.{list_any, flat_map, AllByRecursion}
 use Rattle.std.proofs.lemmas.List.{flat_map_more, map-append}
 use Rattle.asm_model.specs.declared.exprs.Expr.{Expr}
 use Rattle.asm_model.specs.declared.exprs.Part.{Part}
 use Rattle.asm_model.specs.declared.names.LaidName.{LaidName}
 use Rattle.asm_model.specs.declared.statements.Statement.{Statement}
-use Rattle.asm_model.specs.AtLine.{Nameless, SourceLine, HoldsEach, with_names}
+use Rattle.asm_model.specs.AtLine.{SourceLine, HoldsEach, with_names}
 use Rattle.asm_model.specs.Directives.{or_else}
 use Rattle.asm_model.specs.Forms.{same}
 use Rattle.asm_model.specs.Grammar.{Tree, postfix, IsSpelled}
 use Rattle.asm_model.specs.Meaning.{named_in, entry_value, meaning}
 use Rattle.asm_model.proofs.LineLemmas.{each_append}
-use Rattle.asm_model.specs.Before.{is_thumb_label}
 use Rattle.asm_model.specs.Entries.{equal_entry}
 use Rattle.asm_model.specs.Labels.{Defined, Unnamed, Label, Equal, MapField, RegisterName, defined_by, imported_in, imported_entries}
-use Rattle.asm_model.specs.Laid.{LaidLine, statements_of, tree_equated, definition_of, imported_lines, laid_behind, laid_of, entries_with, all_entries}
+use Rattle.asm_model.specs.Laid.{LaidLine, tree_equated, definition_of, imported_lines, laid_behind, laid_of, entries_with, all_entries}
 use Rattle.asm_model.specs.Trees.{tree_of}
 use Rattle.asm_model.proofs.TreeLemmas.{trees_read_back}
 use Rattle.asm_model.specs.Sound.{HaveNoPlaces, ArePlain, IsPlain}

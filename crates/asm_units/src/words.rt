@@ -1,11 +1,12 @@
 //! Words that may be relocated.
 
-ghost use Rattle.std.specs.Prelude.{◌≡◌, ℕ, List, Option, Ok, IfOk};
+ghost use Rattle.std.specs.Prelude.{◌≡◌, ◌+◌, ◌%◌, ◌^◌, ℕ, List, Option, Ok, IfOk};
 ghost use Rattle.asm_model.specs.Says.{mapped};
 ghost use Rattle.asm_model.specs.Marks as marks;
 ghost use Rattle.said_model.specs.Said.{AllRead, IsRead};
 ghost use Rattle.source_model.specs.Contexts.{Context, sees, value_of};
 ghost use Rattle.source_model.specs.Units as units;
+ghost use Rattle.source_model.specs.Units.{ByArea};
 ghost use Rattle.asm_instructions.specs.Scenes.{context_of};
 ghost use Rattle.asm_units.specs.Emitting.{all_emitted, emitted_of, stored_of};
 ghost use Rattle.asm_units.specs.Showing.{ShowsNames};
@@ -41,6 +42,16 @@ fn thumb_bit(counts: bool) -> u32
     0
 }
 
+/// A word with a place of an area, with one more where it counts one.
+fn in_area(area: u32, offset: u32, plus: u32, counts: bool) -> Stored
+    ensures { stored_of result ≡ record { number = (offset + plus + marks.thumb_bit counts) % 2 ^ 32; target = ByArea area } }
+{
+    Stored {
+        number: offset.wrapping_add(plus).wrapping_add(thumb_bit(counts)),
+        target: Target::Area(area),
+    }
+}
+
 /// A word with a symbol plus a number: of the label's area where it is of this source, and else of the symbol.
 fn placed(
     names: &KnownNames,
@@ -57,11 +68,8 @@ fn placed(
             target: Target::Symbol(symbol),
         },
         Some((area, offset)) => {
-            let bit = thumb_bit(counts_one(names, data_names, &symbol));
-            Stored {
-                number: offset.wrapping_add(plus).wrapping_add(bit),
-                target: Target::Area(area),
-            }
+            let counts = counts_one(names, data_names, &symbol);
+            in_area(area, offset, plus, counts)
         }
     }
 }

@@ -111,6 +111,7 @@ module _ (thumb : Bool) (xs ys : List LaidName) (none_in_xs : NoAreas xs) (none_
   same_item (item.Name q) h = ap Unread h
   same_item (item.Local q) h = refl
   same_item (item.Constant v) h = refl
+  same_item item.TooLarge h = refl
   same_item item.Here h = refl
   same_item item.Map h = refl
   same_item item.CodeSize h = refl
@@ -172,6 +173,7 @@ module _ (all : List LaidName) where
           in_front n (items_entries all is) q (ap (λ (x : List ℕ). named_in x all) named ∙ e) (inl (f ∙ sym h)) ∙ h
   none_stays (item.Local p ∷ is) q h = none_stays is q h
   none_stays (item.Constant v ∷ is) q h = none_stays is q h
+  none_stays (item.TooLarge ∷ is) q h = none_stays is q h
   none_stays (item.Here ∷ is) q h = none_stays is q h
   none_stays (item.Map ∷ is) q h = none_stays is q h
   none_stays (item.CodeSize ∷ is) q h = none_stays is q h
@@ -200,6 +202,7 @@ module _ (all : List LaidName) where
           in_front n (items_entries all is) q (ap (λ (x : List ℕ). named_in x all) named ∙ e) (inl (f k))
   found_here (item.Local p ∷ is) q h = found_here is q h
   found_here (item.Constant v ∷ is) q h = found_here is q h
+  found_here (item.TooLarge ∷ is) q h = found_here is q h
   found_here (item.Here ∷ is) q h = found_here is q h
   found_here (item.Map ∷ is) q h = found_here is q h
   found_here (item.CodeSize ∷ is) q h = found_here is q h
@@ -212,6 +215,7 @@ module _ (all : List LaidName) where
   each_agrees whole (item.Name p ∷ is) h = (h p (inl refl), each_agrees whole is (λ q k. h q (inr k)))
   each_agrees whole (item.Local p ∷ is) h = (tt, each_agrees whole is h)
   each_agrees whole (item.Constant v ∷ is) h = (tt, each_agrees whole is h)
+  each_agrees whole (item.TooLarge ∷ is) h = (tt, each_agrees whole is h)
   each_agrees whole (item.Here ∷ is) h = (tt, each_agrees whole is h)
   each_agrees whole (item.Map ∷ is) h = (tt, each_agrees whole is h)
   each_agrees whole (item.CodeSize ∷ is) h = (tt, each_agrees whole is h)
@@ -236,6 +240,7 @@ module _ (all : List LaidName) where
   entries_nowhere (item.Name p ∷ is) h = no_areas_append (one_entry (named_in p all)) (items_entries all is) (found_area p all h) (entries_nowhere is h)
   entries_nowhere (item.Local p ∷ is) h = entries_nowhere is h
   entries_nowhere (item.Constant v ∷ is) h = entries_nowhere is h
+  entries_nowhere (item.TooLarge ∷ is) h = entries_nowhere is h
   entries_nowhere (item.Here ∷ is) h = entries_nowhere is h
   entries_nowhere (item.Map ∷ is) h = entries_nowhere is h
   entries_nowhere (item.CodeSize ∷ is) h = entries_nowhere is h

@@ -1,6 +1,6 @@
 -- Expressions of expansion: what the code knows of names in them. This project's.
-use Rattle.std.specs.Prelude.{◌≡◌, ℕ, List, [], ◌∷◌, ◌++◌, ◌||◌, not, Bool, true, false, if◌then◌else◌, Option, Some, None, Ok, Err}
-use Rattle.std.specs.Option.{is_some}
+use Rattle.std.specs.Prelude.{◌≡◌, ℕ, List, [], ◌∷◌, ◌++◌, Bool, true, false, Option, Some, None, Ok, Err}
+use Rattle.sdt_fault.specs.declared.kinds.LineKind.{LineKind}
 use Rattle.asm_model.specs.declared.exprs.ExprItem.{ExprItem}
 use Rattle.asm_model.specs.declared.exprs.ExprItem.TheVariants as item
 use Rattle.asm_model.specs.declared.exprs.Part.{Part}
@@ -10,8 +10,7 @@ use Rattle.asm_model.specs.declared.values.Value.{Value}
 use Rattle.asm_model.specs.declared.values.Value.TheVariants.{Number}
 use Rattle.asm_model.specs.Directives.{or_else}
 use Rattle.asm_model.specs.Grammar.{Tree, postfix, IsSpelled}
-use Rattle.asm_model.specs.Meaning.{named_in}
-use Rattle.expand_model.specs.Known.{Operand, variable_entries, number_entries, label_entries}
+use Rattle.expand_model.specs.Known.{Operand, variable_entries, number_entries, label_entries, item_kinds, asked_kinds}
 use Rattle.expand_model.specs.States.{State, found, variable}
 use Rattle.asm_variables.specs.declared.values.Sight.{Sight}
 use Rattle.asm_variables.specs.declared.values.Sight.TheVariants as sight
@@ -50,14 +49,11 @@ abbrev pub is_asked : List ExprItem → Bool
 is_asked (item.Unary unary.Defined ∷ is) = true
 is_asked _ = false
 
--- whether an item has a fault, before :DEF: or not
-abbrev pub is_unknown : List LaidName → Bool → ExprItem → Bool
-is_unknown values asked (item.Name q) = if asked then false else not (is_some (named_in q values))
-is_unknown values asked (item.Local q) = true
-is_unknown values asked item.Here = true
-is_unknown values asked item.Map = true
-is_unknown values asked _ = false
+-- the faults of an item, before :DEF: or not
+abbrev pub kinds_of : List LaidName → Bool → ExprItem → List LineKind
+kinds_of values true i = asked_kinds values unary.Defined i
+kinds_of values false i = item_kinds values i
 
-abbrev pub has_unknown : List LaidName → List ExprItem → Bool
-has_unknown values [] = false
-has_unknown values (i ∷ is) = is_unknown values (is_asked is) i || has_unknown values is
+abbrev pub items_kinds : List LaidName → List ExprItem → List LineKind
+items_kinds values [] = []
+items_kinds values (i ∷ is) = kinds_of values (is_asked is) i ++ items_kinds values is

@@ -8,6 +8,7 @@ use Rattle.asm_model.specs.declared.names.LaidName.{LaidName}
 use Rattle.asm_model.specs.declared.values.EvalFault.{EvalFault}
 use Rattle.asm_model.specs.declared.values.Value.{Value}
 use Rattle.asm_model.specs.Grammar.{Tree, postfix, IsSpelled}
+use Rattle.asm_model.specs.Kinds.{told_kind}
 use Rattle.asm_model.specs.Meaning.{named_in, meaning, IsValue}
 use Rattle.expand_model.specs.Known.{Operand, label_entries, names_with, value_with}
 use Rattle.expand_model.specs.States.{State}
@@ -37,11 +38,9 @@ IsLabel c q entry = Values c (λ s. entry ≡ named_in q (label_entries s))
 abbrev pub IsEntry : Sight → Expansion → List ℕ → Option LaidName → Type 0
 IsEntry v c q entry = Values c (λ s. entry ≡ named_in q (known.all_entries v s))
 
-abbrev pub IsUnknown : Sight → Expansion → Bool → ExprItem → Bool → Type 0
-IsUnknown v c asked i b = Values c (λ s. b ≡ known.is_unknown (known.entries_in v s) asked i)
-
-abbrev pub HasUnknown : Sight → Expansion → List ExprItem → Bool → Type 0
-HasUnknown v c items b = Values c (λ s. b ≡ known.has_unknown (known.entries_in v s) items)
+-- the kind that is told of these faults, which names with values decide
+abbrev pub IsTold : Sight → Expansion → (List LaidName → List LineKind) → Option LineKind → Type 0
+IsTold v c kinds told = Values c (λ s. told ≡ told_kind (kinds (known.entries_in v s)))
 
 abbrev pub HasEntry : Sight → Expansion → ExprItem → Option LaidName → Type 0
 HasEntry v c i entry = Values c (λ s. one_entry entry ≡ item_entries (known.all_entries v s) i)

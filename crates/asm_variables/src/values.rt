@@ -2,15 +2,17 @@
 
 ghost use Rattle.std.specs.Prelude.{◌≡◌, false, IfOk, Ok};
 ghost use Rattle.asm_model.specs.Entries.{valued_entry};
+ghost use Rattle.asm_model.specs.declared.exprs.UnaryOp.TheVariants as unary;
+ghost use Rattle.expand_model.specs.Known.{asked_kinds, item_kinds};
 ghost use Rattle.expand_model.specs.Known as model;
 ghost use Rattle.asm_variables.specs.declared.values.Sight.TheVariants as sight;
 ghost use Rattle.asm_variables.specs.Known.{IsExpression, WasRead};
 ghost use Rattle.asm_variables.specs.Known as known;
-ghost use Rattle.asm_variables.specs.Valued.{Gives, HasEntries, HasEntry, HasUnknown, HasValue, IsEntry, IsLabel, IsNamed, IsUnknown, IsValueOf, Knows, Values};
+ghost use Rattle.asm_variables.specs.Valued.{Gives, HasEntries, HasEntry, HasValue, IsEntry, IsLabel, IsNamed, IsTold, IsValueOf, Knows, Values};
 
 use crate::expansion::Expansion;
 use asm_expr::known::add_entry;
-use asm_expr::told::told_value;
+use asm_expr::told::{first_told, kind_if, told_value};
 use asm_expr::{KnownNames, Seen, evaluate};
 use asm_model::{EvalFault, Expr, ExprItem, LaidName, Meaning, UnaryOp, Value};
 use sdt_fault::kinds::LineKind;
@@ -74,17 +76,38 @@ fn knows(state: &Expansion, sight: Sight, name: &Text) -> bool
     has_value(state, sight, name)
 }
 
-/// Whether an item has a fault, before `:DEF:` or not.
-fn is_unknown(state: &Expansion, sight: Sight, asked: bool, item: &ExprItem) -> bool
-    ensures { IsUnknown sight state.now asked item.now result }
+/// The fault of an item.
+fn item_fault(state: &Expansion, sight: Sight, item: &ExprItem) -> Option<LineKind>
+    ensures { IsTold sight state.now (λ values. item_kinds values item.now) result }
 {
     match item {
-        ExprItem::Name(name) => !asked && !knows(state, sight, name),
-        ExprItem::Local(_) => true,
-        ExprItem::Here => true,
-        ExprItem::Map => true,
-        _ => false,
+        ExprItem::Name(name) => kind_if(!knows(state, sight, name), LineKind::Forward),
+        ExprItem::Local(_) => Some(LineKind::Forward),
+        ExprItem::TooLarge => Some(LineKind::Constant),
+        ExprItem::Here => Some(LineKind::Forward),
+        ExprItem::Map => Some(LineKind::Forward),
+        _ => None,
     }
+}
+
+/// The fault of an item before `:DEF:`.
+fn asked_fault(state: &Expansion, sight: Sight, item: &ExprItem) -> Option<LineKind>
+    ensures { IsTold sight state.now (λ values. asked_kinds values unary.Defined item.now) result }
+{
+    match item {
+        ExprItem::Name(_) => None,
+        _ => item_fault(state, sight, item),
+    }
+}
+
+/// The fault of an item, before `:DEF:` or not.
+fn fault_of(state: &Expansion, sight: Sight, asked: bool, item: &ExprItem) -> Option<LineKind>
+    ensures { IsTold sight state.now (λ values. known.kinds_of values asked item.now) result }
+{
+    if asked {
+        return asked_fault(state, sight, item);
+    }
+    item_fault(state, sight, item)
 }
 
 /// Whether `:DEF:` stands first.
@@ -97,21 +120,18 @@ fn is_asked(items: &[ExprItem]) -> bool
     }
 }
 
-/// Whether a name in an expression has no value.
-fn has_unknown(state: &Expansion, sight: Sight, items: &[ExprItem]) -> bool
-    ensures { HasUnknown sight state.now items.now result }
+/// The fault of the items in an expression that is told.
+fn items_fault(state: &Expansion, sight: Sight, items: &[ExprItem]) -> Option<LineKind>
+    ensures { IsTold sight state.now (λ values. known.items_kinds values items.now) result }
 {
+    let mut told = None;
     let mut left = items;
     'items: loop {
-        match left {
-            [] => return false,
-            [item, behind @ ..] => {
-                if is_unknown(state, sight, is_asked(behind), item) {
-                    return true;
-                }
-                left = behind;
-            }
-        }
+        let Some((item, behind)) = left.split_first() else {
+            return told;
+        };
+        told = first_told(told, fault_of(state, sight, is_asked(behind), item));
+        left = behind;
     }
 }
 
@@ -192,7 +212,7 @@ fn entries_of(
     Ok(names)
 }
 
-/// The value of an expression whose names have values.
+/// The value of an expression whose items have no fault.
 fn value_known(alloc: Global, state: &Expansion, sight: Sight, e: &Expr) -> Result<Value, EvalFault>
     ensures { Gives sight state.now e.now.items result }
 {
@@ -219,8 +239,8 @@ fn expression_value(
     requires { IsExpression e.now.items }
     ensures { IfOk result (λ value. IsValueOf sight state.now (Ok e.now) value) }
 {
-    if has_unknown(state, sight, e.items.as_slice()) {
-        return Ok(Err(LineKind::Forward));
+    if let Some(kind) = items_fault(state, sight, e.items.as_slice()) {
+        return Ok(Err(kind));
     }
     told_value(value_known(alloc, state, sight, e))
 }

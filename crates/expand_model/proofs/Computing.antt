@@ -18,7 +18,7 @@ use Rattle.asm_model.specs.declared.tokens.TokenKind.{TokenKind}
 use Rattle.asm_model.specs.declared.tokens.TokenKind.TheVariants.{Sign}
 use Rattle.asm_model.specs.Grammar.{ParsesTokens, Parses}
 use Rattle.asm_model.specs.Lines.{numbered, first_beyond}
-use Rattle.asm_model.specs.Parts.{part_of, is_large}
+use Rattle.asm_model.specs.Parts.{part_of}
 use Rattle.asm_model.specs.Says.{sentence}
 use Rattle.asm_model.specs.Tokens.{IsLongest, IsTokenAt, is_operation_sign, blanks, is_end, is_long, due_behind, first_due, TokensFrom, Tokens}
 use Rattle.asm_lines.specs.Lengths.{best_of}
@@ -128,20 +128,15 @@ scan_sound (suc f) due place rest =
 
 -- ---- operands
 
--- what passes the test
-abbrev checked : {A : Type 0} → Bool → A → Option A
-checked true a = None
-checked false a = Some a
-
 abbrev expression : List ExprItem → Expr
 expression items = record { items = items }
 
-abbrev items_by : List Part → Option (List ExprItem) → Option Operand
-items_by ps None = None
-items_by ps (Some items) = checked (list_any is_large ps) (Ok (expression items))
+abbrev items_by : Option (List ExprItem) → Option Operand
+items_by None = None
+items_by (Some items) = Some (Ok (expression items))
 
 abbrev parts_by : List Part → Option Operand
-parts_by ps = items_by ps (parsed (Some started) ps)
+parts_by ps = items_by (parsed (Some started) ps)
 
 abbrev tokens_by : List ℕ → List Token → Option Operand
 tokens_by text ts = parts_by (map (part_of text) (sentence ts).behind)
@@ -180,18 +175,12 @@ run_by sources (suc f) d (Under c s ls) =
 
 -- ---- soundness of operands and runs
 
-checked_sound : (text : List ℕ) (ps : List Part) (items : List ExprItem) (b : Bool) (x : Operand)
-    → parsed (Some started) ps ≡ Some items → list_any is_large ps ≡ b → checked b (Ok (expression items)) ≡ Some x → Parses ps x
-checked_sound text ps items true x e g h = absurd (none-some x h)
-checked_sound text ps items false x e g h =
-    subst (λ y. Parses ps y) (same_Some _ _ h) (parsed_spelled ps items e, g)
-
-parts_sound : (text : List ℕ) (ps : List Part) (o : Option (List ExprItem)) (x : Operand) → parsed (Some started) ps ≡ o → items_by ps o ≡ Some x → Parses ps x
-parts_sound text ps None x e h = absurd (none-some x h)
-parts_sound text ps (Some items) x e h = checked_sound text ps items (list_any is_large ps) x e refl h
+parts_sound : (ps : List Part) (o : Option (List ExprItem)) (x : Operand) → parsed (Some started) ps ≡ o → items_by o ≡ Some x → Parses ps x
+parts_sound ps None x e h = absurd (none-some x h)
+parts_sound ps (Some items) x e h = subst (λ y. Parses ps y) (same_Some _ _ h) (parsed_spelled ps items e)
 
 tokens_sound : (text : List ℕ) (ts : List Token) (x : Operand) → tokens_by text ts ≡ Some x → ParsesTokens text (sentence ts).behind x
-tokens_sound text ts x e = parts_sound text (map (part_of text) (sentence ts).behind) (parsed (Some started) (map (part_of text) (sentence ts).behind)) x refl e
+tokens_sound text ts x e = parts_sound (map (part_of text) (sentence ts).behind) (parsed (Some started) (map (part_of text) (sentence ts).behind)) x refl e
 
 long_sound : (text : List ℕ) (ts : List Token) (b : Bool) (x : Operand) → Tokens text ts → list_any is_long ts ≡ b
     → (if b then None else tokens_by text ts) ≡ Some x → ReadsExpression text x

@@ -1,11 +1,11 @@
 -- The expressions of IF, WHILE, SETA, SETL and SETS. They know the variables and each name that an EQU of an earlier
 -- flat line made a number by what was known there, without variables; a label, this place, the storage map and every
--- other name is Forward. `:DEF:` is true of a variable and of what stands in the label field of an earlier flat line.
--- This project's.
+-- other name is Forward, and a number that is too large is Constant. `:DEF:` is true of a variable and of what stands in
+-- the label field of an earlier flat line. This project's.
 use Rattle.std.specs.Prelude.{◌≡◌, ℕ, List, [], ◌∷◌, ◌++◌, map, false, if◌then◌else◌, Option, Some, None, Result, Ok, Err}
 use Rattle.std.specs.Option.{is_some}
 use Rattle.sdt_fault.specs.declared.kinds.LineKind.{LineKind}
-use Rattle.sdt_fault.specs.declared.kinds.LineKind.TheVariants.{Syntax, Forward}
+use Rattle.sdt_fault.specs.declared.kinds.LineKind.TheVariants.{Syntax, Constant, Forward}
 use Rattle.asm_model.specs.declared.exprs.Expr.{Expr}
 use Rattle.asm_model.specs.declared.exprs.ExprItem.{ExprItem}
 use Rattle.asm_model.specs.declared.exprs.ExprItem.TheVariants as item
@@ -53,13 +53,14 @@ number_entries s = map (λ row. valued_entry row.0 (Number row.1) false) s.numbe
 abbrev pub label_entries : State → List LaidName
 label_entries s = map (λ name. valued_entry name (Number 0) false) s.labels
 
--- the fault of a name that stands for its value
+-- the faults of a name that stands for its value, and of an item
 abbrev pub name_kinds : List LaidName → List ℕ → List LineKind
 name_kinds values name = if is_some (named_in name values) then [] else Forward ∷ []
 
 abbrev pub item_kinds : List LaidName → ExprItem → List LineKind
 item_kinds values (item.Name name) = name_kinds values name
 item_kinds values (item.Local name) = Forward ∷ []
+item_kinds values item.TooLarge = Constant ∷ []
 item_kinds values item.Here = Forward ∷ []
 item_kinds values item.Map = Forward ∷ []
 item_kinds values _ = []
@@ -68,7 +69,7 @@ abbrev pub asked_kinds : List LaidName → UnaryOp → ExprItem → List LineKin
 asked_kinds values unary.Defined (item.Name name) = []
 asked_kinds values op i = item_kinds values i
 
--- the faults of the names in an expression
+-- the faults of the items in an expression
 abbrev pub tree_kinds : List LaidName → Tree → List LineKind
 tree_kinds values (Leaf i) = item_kinds values i
 tree_kinds values (Before op (Leaf i)) = asked_kinds values op i
@@ -80,7 +81,7 @@ tree_kinds values (Between op t u) = tree_kinds values t ++ tree_kinds values u
 abbrev pub names_with : State → List LaidName → Names
 names_with s list = record { list = list; area = None; offset = 0; map = 0; thumb = s.thumb }
 
--- the kinds of its names come before all others that an expression has
+-- the kinds of its items come before all others that an expression has
 abbrev pub unless_told : Option LineKind → Result Value LineKind → Result Value LineKind
 unless_told None r = r
 unless_told (Some k) r = Err k

@@ -1,23 +1,23 @@
 -- An area of a source without faults is at most 2^24 bytes long, and whole words.
-use Rattle.std.proofs.Common.{◌≡◌, ℕ, suc, ◌+◌, ◌*◌, ◌-◌, ◌%◌, ◌^◌, ◌≤◌, List, [], ◌∷◌, ◌++◌, append_assoc, length, Bool, true, false, cond, ◌&&◌, nat_lt, refl, sym, ◌∙◌, ap, subst, arith, Option, Some, None, ◌⊎◌, inl, inr}
-use Rattle.std.specs.List.{list_any}
-use Rattle.std.proofs.lemmas.Bool.{cond-true, cond-false, or_parts, or_from, ltb-false}
+use Rattle.std.proofs.Common.{◌≡◌, ℕ, suc, ◌+◌, ◌*◌, ◌-◌, ◌%◌, ◌^◌, ◌≤◌, List, [], ◌∷◌, ◌++◌, append_assoc, length, Bool, true, false, cond, nat_lt, refl, sym, ◌∙◌, ap, subst, arith, Option, Some, None, ◌⊎◌, inl, inr}
+use Rattle.std.specs.List.{AllByRecursion, list_any}
+use Rattle.std.proofs.lemmas.Bool.{or_parts, ltb-false}
 use Rattle.sdt_fault.specs.declared.kinds.LineKind.TheVariants.{TooMany}
 use Rattle.asm_model.specs.declared.statements.Statement.{Statement}
 use Rattle.asm_model.specs.declared.values.Value.{Value}
-use Rattle.asm_model.specs.Extents.{Extent, Block, Padding, Loading, Pool}
+use Rattle.asm_model.specs.Extents.{Extent, Loading, Pool}
 use Rattle.asm_model.specs.Laid.{LaidLine, taken, pieces_of, laid}
 use Rattle.asm_model.specs.LayoutKinds.{settled, equals_in, layout_kinds, entry_kinds, literal_kinds, area_bytes}
-use Rattle.asm_model.specs.OffsetLaws.{joined, IsLiteral}
-use Rattle.asm_model.specs.Offsets.{Piece, is_of, same_literal, waiting_behind, waiting, start_from, end_from, end_behind, area_size, place_among, word_behind, is_pool, is_pool_of, literal_word}
+use Rattle.asm_model.specs.Offsets.{Piece, is_of, same_literal, waiting_behind, waiting, end_from, end_behind, start_in, area_size, place_among, word_behind, literal_word}
 use Rattle.asm_model.proofs.OffsetLemmas.{same_itself, raised_four}
 use Rattle.layout_laws.proofs.SoundLemmas.{both_empty, kind_none}
 use Rattle.source_model.specs.Objects.{in_order}
 use Rattle.source_model.specs.SourceFaults.{layout_faults}
 use Rattle.source_laws.proofs.FaultlessLemmas.{layout_sound}
-use Rattle.source_laws.proofs.LineLemmas.{piece_of, line_ends}
+use Rattle.source_laws.proofs.LineLemmas.{line_ends}
 use Rattle.source_laws.proofs.ListedLemmas.{owned}
-use Rattle.source_laws.proofs.WordLemmas.{NoPools, no_pool_of, literal_next, loads_literal, no_pools_order, pieces_before}
+use Rattle.source_laws.proofs.PoolLemmas.{Awaits, waiting_loaded}
+use Rattle.source_laws.proofs.WordLemmas.{loads_literal}
 use Rattle.object_laws.proofs.FaultLemmas.{layout_here, last_kinds, late_here}
 
 -- ---- lines end early enough
@@ -53,92 +53,35 @@ place_end v (w ∷ ws) h k =
     one_more : (a b : ℕ) → a ≡ b → a + 1 ≡ suc b
     one_more a b e = omega arith
 
-pub record LastLiteral (area : ℕ) (lines : List LaidLine) : Type 0 where
-  pub later : List LaidLine
-  pub earlier : List LaidLine
-  pub owner : LaidLine
-  pub size : ℕ
-  pub value : Value
-  pub parts : lines ≡ later ++ owner ∷ earlier
-  pub own : owner.area ≡ Some area
-  pub loads : taken owner.extent ≡ Loading size value
-  pub none : NoPools area (pieces_of later)
-  pub place : place_among value (waiting area (pieces_of lines)) + 1 ≡ length (waiting area (pieces_of lines))
+each_last : (P : Value → Type 0) (ws : List Value) (v : Value) → AllByRecursion P (ws ++ v ∷ []) → P v
+each_last P [] v h = h.0
+each_last P (w ∷ ws) v h = each_last P ws v h.1
 
-abbrev pub Waiting : ℕ → List LaidLine → Type 0
-Waiting area lines = (waiting area (pieces_of lines) ≡ []) ⊎ LastLiteral area lines
+abbrev pub HasLast : (Value → Type 0) → List Value → Type 0
+HasLast P ws = (ws ≡ []) ⊎ ((v : Value) × P v × (place_among v ws + 1 ≡ length ws))
 
-pub still_waiting : (area : ℕ) (l : LaidLine) (ls : List LaidLine) → waiting area (pieces_of (l ∷ ls)) ≡ waiting area (pieces_of ls)
-    → is_pool_of area (piece_of l) ≡ false → Waiting area ls → Waiting area (l ∷ ls)
-still_waiting area l ls e h (inl w) = inl (e ∙ w)
-still_waiting area l ls e h (inr r) =
-    inr
-    (record {
-      later = l ∷ r.later;
-      earlier = r.earlier;
-      owner = r.owner;
-      size = r.size;
-      value = r.value;
-      parts = ap (λ z. l ∷ z) r.parts;
-      own = r.own;
-      loads = r.loads;
-      none = or_from (is_pool_of area (piece_of l)) (list_any (is_pool_of area) (pieces_of r.later)) h r.none;
-      place = subst (λ z. place_among r.value z + 1 ≡ length z) (sym e) r.place;
-    })
-
-pub now_waiting : (area : ℕ) (l : LaidLine) (ls : List LaidLine) → is_of area l.area ≡ true → ((n : ℕ) (v : Value) → taken l.extent ≡ Loading n v → IsLiteral v)
-    → Waiting area ls → Waiting area (l ∷ ls)
-now_waiting area l ls x literal before = by_extent (taken l.extent) refl
+last_waits : (P : Value → Type 0) → ((v : Value) → P v → same_literal v v ≡ true) → (area : ℕ) (ps : List Piece) → AllByRecursion P (waiting area ps) → HasLast P (waiting area ps)
+last_waits P f area [] h = inl refl
+last_waits P f area (s ∷ ps) h = by_area (last_waits P f area ps) (is_of area s.area) h
   where
     ws : List Value
-    ws = waiting area (pieces_of ls)
+    ws = waiting area ps
 
-    there : (e : Extent) → taken l.extent ≡ e → waiting area (pieces_of (l ∷ ls)) ≡ waiting_behind e ws
-    there e y = cond-true (is_of area l.area) (waiting_behind (taken l.extent) ws) ws x ∙ ap (λ z. waiting_behind z ws) y
+    by_noted : (AllByRecursion P ws → HasLast P ws) → (v : Value) (b : Bool) → list_any (same_literal v) ws ≡ b → AllByRecursion P (cond b ws (ws ++ v ∷ []))
+        → HasLast P (cond b ws (ws ++ v ∷ []))
+    by_noted older v true x k = older k
+    by_noted older v false x k = let p = each_last P ws v k in inr (v, p, place_end v ws x (f v p))
 
-    by_noted : (n : ℕ) (v : Value) → taken l.extent ≡ Loading n v → (b : Bool) → list_any (same_literal v) ws ≡ b → Waiting area (l ∷ ls)
-    by_noted n v y true z =
-        still_waiting area l ls (there (Loading n v) y ∙ cond-true (list_any (same_literal v) ws) ws (ws ++ v ∷ []) z) (no_pool_of area (piece_of l) (ap is_pool y)) before
-    by_noted n v y false z =
-        inr
-        (record {
-          later = [];
-          earlier = ls;
-          owner = l;
-          size = n;
-          value = v;
-          parts = refl;
-          own = owned area l.area x;
-          loads = y;
-          none = refl;
-          place = subst (λ u. place_among v u + 1 ≡ length u) (sym (there (Loading n v) y ∙ cond-false (list_any (same_literal v) ws) ws (ws ++ v ∷ []) z))
-              (place_end v ws z (same_itself v (literal n v y)));
-        })
+    by_extent : (AllByRecursion P ws → HasLast P ws) → (e : Extent) → AllByRecursion P (waiting_behind e ws) → HasLast P (waiting_behind e ws)
+    by_extent older Pool k = inl refl
+    by_extent older (Loading n v) k = by_noted older v (list_any (same_literal v) ws) refl k
+    by_extent older e k = older k
 
-    by_extent : (e : Extent) → taken l.extent ≡ e → Waiting area (l ∷ ls)
-    by_extent (Block a n) y = still_waiting area l ls (there (Block a n) y) (no_pool_of area (piece_of l) (ap is_pool y)) before
-    by_extent (Padding m n) y = still_waiting area l ls (there (Padding m n) y) (no_pool_of area (piece_of l) (ap is_pool y)) before
-    by_extent (Loading n v) y = by_noted n v y (list_any (same_literal v) ws) refl
-    by_extent Pool y = inl (there Pool y)
-
-pub last_literal : (ss : List Statement) (area : ℕ) (after lines : List LaidLine) → laid ss ≡ after ++ lines → Waiting area lines
-last_literal ss area after [] e = inl refl
-last_literal ss area after (l ∷ ls) e =
-    by_test (is_of area l.area) refl (last_literal ss area (after ++ l ∷ []) ls (e ∙ sym (append_assoc after (l ∷ []) ls)))
-  where
-    by_test : (b : Bool) → is_of area l.area ≡ b → Waiting area ls → Waiting area (l ∷ ls)
-    by_test true x before = now_waiting area l ls x (λ n v y. loads_literal ss after ls l n v e y) before
-    by_test false x before =
-        still_waiting area l ls (cond-false (is_of area l.area) (waiting_behind (taken l.extent) (waiting area (pieces_of ls))) (waiting area (pieces_of ls)) x)
-        (ap (λ b. b && is_pool (taken l.extent)) x) before
+    by_area : (AllByRecursion P ws → HasLast P ws) → (b : Bool) → AllByRecursion P (cond b (waiting_behind s.extent ws) ws) → HasLast P (cond b (waiting_behind s.extent ws) ws)
+    by_area older true k = by_extent older s.extent k
+    by_area older false k = older k
 
 -- ---- the pool at an area's end
-
-pub literal_last : (area : ℕ) (before rest : List Piece) (v : Value) → NoPools area rest → literal_word area before rest v ≡ word_behind area (joined before rest) v
-literal_last area before [] v h = refl
-literal_last area before (s ∷ rest) v h =
-    let p = or_parts (is_pool_of area s) (list_any (is_pool_of area) rest) h in
-    literal_next area before rest s v p.0 ∙ literal_last area (s ∷ before) rest v p.1
 
 pub word_small : (area : ℕ) (o : Option ℕ) (e : Extent) (n : ℕ) (v : Value) (before rest : List Piece) → o ≡ Some area → e ≡ Loading n v
     → literal_kinds o e before rest ≡ [] → literal_word area before rest v + 4 ≤ 2 ^ 24
@@ -152,23 +95,33 @@ end_by_word a k n m e h = omega arith
 pub no_pool_end : (a m : ℕ) → a ≤ m → a + (1 + 0 % 1 - a % 1) % 1 + 4 * 0 ≤ m
 no_pool_end a m h = omega arith
 
-pub pool_small : (ss : List Statement) → layout_faults ss ≡ None → (area : ℕ) → Waiting area (laid ss)
+-- the word of a literal that waits behind all lines
+literal_small : (ss : List Statement) → layout_faults ss ≡ None → (area : ℕ) (v : Value) → Awaits area (laid ss) v
+    → word_behind area (pieces_of (laid ss)) v + 4 ≤ 2 ^ 24
+literal_small ss none area v x =
+    let l = x.loads in
+    let front = pieces_of (l.loader ∷ l.before) in
+    let rest = pieces_of (in_order l.after []) in
+    let kinds = both_empty (entry_kinds l.loader.area l.loader (laid ss)) (literal_kinds l.loader.area (taken l.loader.extent) front rest)
+    (late_here ss none l.after l.before l.loader l.parts) in
+    subst (λ z. z + 4 ≤ 2 ^ 24) (x.word []) (word_small area l.loader.area (taken l.loader.extent) l.size v front rest l.own l.extent kinds.1)
+
+pub pool_small : (ss : List Statement) → layout_faults ss ≡ None → (area : ℕ)
     → end_from (end_behind area (pieces_of (laid ss))) (waiting area (pieces_of (laid ss))) Pool ≤ 2 ^ 24
-pool_small ss none area (inl w) =
-    let all = pieces_of (laid ss) in
-    subst (λ ws. end_from (end_behind area all) ws Pool ≤ 2 ^ 24) (sym w)
-    (no_pool_end (end_behind area all) (2 ^ 24) (ends_small ss none area [] (laid ss) refl))
-pool_small ss none area (inr r) =
-    let all = pieces_of (laid ss) in
-    let front = pieces_of (r.owner ∷ r.earlier) in
-    let rest = pieces_of (in_order r.later []) in
-    let kinds = both_empty (entry_kinds r.owner.area r.owner (laid ss)) (literal_kinds r.owner.area (taken r.owner.extent) front rest)
-    (late_here ss none r.later r.earlier r.owner r.parts) in
-    let small = word_small area r.owner.area (taken r.owner.extent) r.size r.value front rest r.own r.loads kinds.1 in
-    let word = literal_last area front rest r.value (no_pools_order area r.later [] r.none refl)
-    ∙ ap (λ z. word_behind area z r.value) (pieces_before r.later (r.owner ∷ r.earlier) ∙ ap pieces_of (sym r.parts)) in
-    end_by_word (start_from (end_behind area all) (waiting area all) Pool) (place_among r.value (waiting area all)) (length (waiting area all)) (2 ^ 24) r.place
-    (subst (λ z. z + 4 ≤ 2 ^ 24) word small)
+pool_small ss none area = by_last (last_waits (Awaits area (laid ss)) itself area all (waiting_loaded area (laid ss)))
+  where
+    all : List Piece
+    all = pieces_of (laid ss)
+
+    itself : (v : Value) → Awaits area (laid ss) v → same_literal v v ≡ true
+    itself v x = let l = x.loads in same_itself v (loads_literal ss l.after l.before l.loader l.size v l.parts l.extent)
+
+    by_last : HasLast (Awaits area (laid ss)) (waiting area all) → end_from (end_behind area all) (waiting area all) Pool ≤ 2 ^ 24
+    by_last (inl w) =
+        subst (λ ws. end_from (end_behind area all) ws Pool ≤ 2 ^ 24) (sym w)
+        (no_pool_end (end_behind area all) (2 ^ 24) (ends_small ss none area [] (laid ss) refl))
+    by_last (inr r) =
+        end_by_word (start_in area all Pool) (place_among r.0 (waiting area all)) (length (waiting area all)) (2 ^ 24) r.2 (literal_small ss none area r.0 r.1)
 
 -- ---- areas
 
@@ -178,7 +131,7 @@ padded_small n h = omega arith
 pub area_small : (ss : List Statement) → layout_faults ss ≡ None → (area : ℕ) → area_size area (pieces_of (laid ss)) ≤ 2 ^ 24
 area_small ss none area =
     let all = pieces_of (laid ss) in
-    padded_small (end_from (end_behind area all) (waiting area all) Pool) (pool_small ss none area (last_literal ss area [] (laid ss) refl))
+    padded_small (end_from (end_behind area all) (waiting area all) Pool) (pool_small ss none area)
 
 pub area_whole : (area : ℕ) (all : List Piece) → area_size area all % 4 ≡ 0
 area_whole area all = raised_four (end_from (end_behind area all) (waiting area all) Pool)

@@ -4,6 +4,8 @@ use Rattle.std.proofs.Common.{◌≡◌, ℕ, ◌+◌, ◌*◌, ◌≤◌, List,
 use Rattle.std.specs.Prelude.{Ok}
 use Rattle.std.proofs.lemmas.Bool.{and_parts}
 use Rattle.asm_model.specs.declared.statements.Statement.{Statement}
+use Rattle.asm_model.specs.declared.directives.DirectiveLine.TheVariants as line
+use Rattle.asm_model.specs.declared.statements.What.TheVariants as what
 use Rattle.asm_model.specs.declared.values.Value.{Value}
 use Rattle.asm_model.specs.Extents.{Extent, Pool}
 use Rattle.asm_model.specs.Laid.{LaidLine, taken, pieces_of, laid}
@@ -19,7 +21,6 @@ use Rattle.source_laws.proofs.ListedLemmas.{among_either, own_things, owned}
 use Rattle.source_laws.proofs.PoolLemmas.{words_either}
 use Rattle.source_laws.proofs.SizeLemmas.{other_units_are_none, pools_are_said}
 use Rattle.source_laws.proofs.ThingLemmas.{units_with, known_extent, own_fit}
-use Rattle.source_laws.proofs.WordLemmas.{no_pool_of}
 use Rattle.source_laws.proofs.UnitLemmas.{Fills, filled_by, filled_both, none_fill, units_fill, words_fill}
 
 -- ---- one line
@@ -35,6 +36,13 @@ PutBy ss area l before rest p = IsAmong p (own_things ss l before rest) ⊎ IsAm
 is_pool_true : (x : Extent) → is_pool x ≡ true → x ≡ Pool
 is_pool_true Pool h = refl
 is_pool_true x h = absurd (cc)
+
+-- a pool is an LTORG
+pool_line : (ss : List Statement) → IsSound ss → (area : ℕ) (after before : List LaidLine) (l : LaidLine) → laid ss ≡ after ++ l ∷ before
+    → is_pool_of area (piece_of l) ≡ true → (taken l.extent ≡ Pool) × (l.statement.what ≡ what.Directive line.Ltorg)
+pool_line ss sound area after before l e h =
+    let x = is_pool_true (taken l.extent) (and_parts (is_of area l.area) (is_pool (taken l.extent)) h).1 in
+    (x, pools_are_said l.seen l.statement.what (known_extent ss sound after before l e ∙ ap Ok x))
 
 no_units : (ss : List Statement) (before rest : List LaidLine) (l : LaidLine) (p : Piece) → is_filled l.statement.what ≡ false → IsAmong p (own_things ss l before rest) → ⊥
 no_units ss before rest l p bare h =
@@ -63,14 +71,13 @@ line_fill ss sound area after before l e here rest = by_pool (is_pool_of area (p
         filled_by Own (λ p. Own p ⊎ Words false p) l.offset (l.offset + length (units_bytes us)) end (omega arith)
         (λ p h. elim h [ inl k ↦ k | inr k ↦ absurd k ]) (units_fill l.offset us)
     by_pool true y =
-        let pool = is_pool_true (taken l.extent) (and_parts (is_of area l.area) (is_pool (taken l.extent)) y).1 in
-        let says = pools_are_said l.seen l.statement.what (known_extent ss sound after before l e ∙ ap Ok pool) in
+        let pool = pool_line ss sound area after before l e y in
         let at = start_in area (pieces_of before) Pool in
         let ws = waiting area (pieces_of before) in
-        let stands = subst (λ z. (l.offset ≡ start_in area (pieces_of before) z) × (l.size ≡ size_of ws (start_in area (pieces_of before) z) z)) pool
+        let stands = subst (λ z. (l.offset ≡ start_in area (pieces_of before) z) × (l.size ≡ size_of ws (start_in area (pieces_of before) z) z)) pool.0
         (stands_in ss sound area after before l e here) in
         filled_by (Words true) (λ p. Own p ⊎ Words true p) l.offset end end (omega arith)
-        (λ p h. elim h [ inl k ↦ absurd (no_units ss before rest l p (ap is_filled says) k) | inr k ↦ k ])
+        (λ p h. elim h [ inl k ↦ absurd (no_units ss before rest l p (ap is_filled pool.1) k) | inr k ↦ k ])
         (subst (λ o. Fills (Words true) o (o + l.size)) (sym stands.0)
         (subst (λ n. Fills (Words true) at (at + n)) (sym stands.1) (words_fill (source_of ss) area at ws)))
 
@@ -200,11 +207,14 @@ put_or_behind ss sound area later (x ∷ after) lines e rest p h =
         let rises = pieces_rise area after lines in
         let there = ((line_fill ss sound area later (after ++ lines) x e own rest).within p k).0 in inr (omega arith)
 
--- where a line is neither an instruction nor data nor a pool nothing stands
-pub nothing_puts : (ss : List Statement) → IsSound ss → (area : ℕ) (after before : List LaidLine) (l : LaidLine) → laid ss ≡ after ++ l ∷ before → l.area ≡ Some area
-    → is_filled l.statement.what ≡ false → is_pool (taken l.extent) ≡ false
-    → (p : Piece) → StandsIn (source_of ss) area p → (p.0 + length (unit_bytes p.1) ≤ l.offset) ⊎ (l.offset + l.size ≤ p.0)
-nothing_puts ss sound area after before l e here bare no_pool p h =
+-- before a line, or behind it
+abbrev pub IsAround : LaidLine → Piece → Type 0
+IsAround l p = (p.0 + length (unit_bytes p.1) ≤ l.offset) ⊎ (l.offset + l.size ≤ p.0)
+
+-- where a line is neither an instruction nor data nor LTORG nothing stands
+pub bare_line : (ss : List Statement) → IsSound ss → (area : ℕ) (after before : List LaidLine) (l : LaidLine) → laid ss ≡ after ++ l ∷ before → l.area ≡ Some area
+    → is_filled l.statement.what ≡ false → (l.statement.what ≡ what.Directive line.Ltorg → ⊥) → (p : Piece) → StandsIn (source_of ss) area p → IsAround l p
+bare_line ss sound area after before l e here bare no_pool p h =
     elim (stands_split ss area p h) [
       | inl k ↦
           elim (put_or_behind ss sound area [] after (l ∷ before) e [] p (subst (λ z. PutBehind ss area z [] p) e k)) [
@@ -222,10 +232,13 @@ nothing_puts ss sound area after before l e here bare no_pool p h =
         let below = ((lines_fill ss sound area (after ++ l ∷ []) before (e ∙ sym (append_assoc after (l ∷ []) before)) (l ∷ in_order after [])).within p k).1 in
         through (p.0 + length (unit_bytes p.1)) (end_behind area (pieces_of before)) l.offset below (line_starts ss sound area after before l e here)
 
+    no_words : (b : Bool) → is_pool_of area (piece_of l) ≡ b → IsAmong p (words_of (source_of ss) area (cond b (pool_behind area (pieces_of before)) [])) → ⊥
+    no_words true x k = no_pool (pool_line ss sound area after before l e x).1
+    no_words false x k = k
+
     nothing : PutBy ss area l before (in_order after []) p → ⊥
     nothing (inl k) = no_units ss before (in_order after []) l p bare k
-    nothing (inr k) =
-        subst (λ b. IsAmong p (words_of (source_of ss) area (cond b (pool_behind area (pieces_of before)) []))) (no_pool_of area (piece_of l) no_pool) k
+    nothing (inr k) = no_words (is_pool_of area (piece_of l)) refl k
 
     later : AtEnd ss area p → l.offset + l.size ≤ p.0
     later k =

@@ -13,11 +13,7 @@ use Rattle.source_laws.specs.Laws.{context_behind}
 pub among_either : (p : Piece) (xs ys : List Piece) → IsAmong p (xs ++ ys) → IsAmong p xs ⊎ IsAmong p ys
 among_either p [] ys h = inr h
 among_either p (x ∷ xs) ys (inl e) = inl (inl e)
-among_either p (x ∷ xs) ys (inr h) = later (among_either p xs ys h)
-  where
-    later : IsAmong p xs ⊎ IsAmong p ys → IsAmong p (x ∷ xs) ⊎ IsAmong p ys
-    later (inl k) = inl (inr k)
-    later (inr k) = inr k
+among_either p (x ∷ xs) ys (inr h) = elim (among_either p xs ys h) [ inl k ↦ inl (inr k) | inr k ↦ inr k ]
 
 pub among_first : (p : Piece) (xs ys : List Piece) → IsAmong p xs → IsAmong p (xs ++ ys)
 among_first p [] ys h = absurd h
@@ -58,8 +54,8 @@ pub record Owner (ss : List Statement) (area : ℕ) (p : Piece) (lines rest : Li
 owner_among : (ss : List Statement) (area : ℕ) (p : Piece) (lines rest : List LaidLine) → IsAmong p (things_behind (source_of ss) area lines rest) → Owner ss area p lines rest
 owner_among ss area p [] rest h = absurd h
 owner_among ss area p (l ∷ before) rest h =
-    by_side (λ k. owner_among ss area p before (l ∷ rest) k)
-    (among_either p (things_behind (source_of ss) area before (l ∷ rest)) (things_of (source_of ss) area l before rest) h)
+    elim (among_either p (things_behind (source_of ss) area before (l ∷ rest)) (things_of (source_of ss) area l before rest) h)
+    [ inl k ↦ earlier (owner_among ss area p before (l ∷ rest) k) | inr k ↦ here (is_of area l.area) refl k ]
   where
     here : (b : Bool) → is_of area l.area ≡ b → IsAmong p (cond b (own_things ss l before rest) []) → Owner ss area p (l ∷ before) rest
     here true e k = record { owner = l; after = []; before = before; parts = refl; own = owned area l.area e; among = k }
@@ -74,11 +70,6 @@ owner_among ss area p (l ∷ before) rest h =
       own = o.own;
       among = o.among;
     }
-
-    by_side : (IsAmong p (things_behind (source_of ss) area before (l ∷ rest)) → Owner ss area p before (l ∷ rest))
-        → IsAmong p (things_behind (source_of ss) area before (l ∷ rest)) ⊎ IsAmong p (things_of (source_of ss) area l before rest) → Owner ss area p (l ∷ before) rest
-    by_side f (inl k) = earlier (f k)
-    by_side f (inr k) = here (is_of area l.area) refl k
 
 -- a unit that a line puts itself
 abbrev pub OwnUnit : List Statement → ℕ → Piece → Type 0

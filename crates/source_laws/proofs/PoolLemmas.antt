@@ -1,6 +1,6 @@
 -- The words of pools are those of the literals that lines load: each word is that of a line's literal, and the literal of a
 -- line has its word.
-use Rattle.std.proofs.Common.{◌≡◌, ℕ, ◌+◌, ◌*◌, ◌||◌, List, [], ◌∷◌, ◌++◌, append_assoc, Bool, true, false, cond, refl, sym, ◌∙◌, ap, subst, arith, Some, ◌⊎◌, inl, inr}
+use Rattle.std.proofs.Common.{◌≡◌, ℕ, ◌+◌, ◌*◌, ◌&&◌, ◌||◌, List, [], ◌∷◌, ◌++◌, append_assoc, Bool, true, false, cond, refl, sym, ◌∙◌, ap, subst, arith, Some, ◌⊎◌, inl, inr}
 use Rattle.std.specs.Prelude.{Result, Ok, Err}
 use Rattle.std.specs.List.{AllByRecursion, list_any}
 use Rattle.sdt_fault.specs.declared.kinds.LineKind.{LineKind}
@@ -9,14 +9,14 @@ use Rattle.asm_model.specs.declared.values.Value.{Value}
 use Rattle.asm_model.specs.Extents.{Extent, Loading, Pool}
 use Rattle.asm_model.specs.Laid.{LaidLine, taken, pieces_of, laid}
 use Rattle.asm_model.specs.OffsetLaws.{joined}
-use Rattle.asm_model.specs.Offsets.{Piece as LaidPiece, is_of, same_literal, waiting_behind, waiting, start_in, place_among, word_behind, is_pool_of, literal_word, words_from, pool_behind, pooled, all_pooled}
+use Rattle.asm_model.specs.Offsets.{Piece as LaidPiece, is_of, same_literal, waiting_behind, waiting, start_in, place_among, word_behind, is_pool, is_pool_of, literal_word, words_from, pool_behind, pooled, all_pooled}
 use Rattle.asm_model.proofs.OffsetLemmas.{behind_keeps}
 use Rattle.source_model.specs.Objects.{Piece, Source, source_of, in_order, literal_stored, word_piece, words_of, things_behind, IsAmong, StandsIn}
 use Rattle.source_model.specs.Units.{Word, Stored}
 use Rattle.source_laws.proofs.LineLemmas.{piece_of}
 use Rattle.source_laws.proofs.ListedLemmas.{among_either, among_first, among_last, owned, OwnUnit, owner_of}
 use Rattle.source_laws.proofs.NameLemmas.{each_joined}
-use Rattle.source_laws.proofs.WordLemmas.{Waits, same_value, pieces_before, waits_behind}
+use Rattle.source_laws.proofs.WordLemmas.{Waits, no_pool_of, literal_next, same_value, pieces_before, waits_behind}
 
 -- ---- each word is that of a line's literal
 
@@ -34,7 +34,7 @@ pub record Loads (area : ℕ) (lines : List LaidLine) (v : Value) : Type 0 where
   pub size : ℕ
   pub extent : taken loader.extent ≡ Loading size v
 
-loads_later : (area : ℕ) (l : LaidLine) (lines : List LaidLine) (v : Value) → Loads area lines v → Loads area (l ∷ lines) v
+abbrev loads_later : (area : ℕ) (l : LaidLine) (lines : List LaidLine) (v : Value) → Loads area lines v → Loads area (l ∷ lines) v
 loads_later area l lines v x = record {
   loader = x.loader;
   after = l ∷ x.after;
@@ -45,31 +45,46 @@ loads_later area l lines v x = record {
   extent = x.extent;
 }
 
-waiting_loaded : (area : ℕ) (lines : List LaidLine) → AllByRecursion (Loads area lines) (waiting area (pieces_of lines))
+-- and its word is in the next pool behind these
+pub record Awaits (area : ℕ) (lines : List LaidLine) (v : Value) : Type 0 where
+  pub loads : Loads area lines v
+  pub word : (rest : List LaidLine)
+      → literal_word area (pieces_of (loads.loader ∷ loads.before)) (pieces_of (in_order loads.after rest)) v
+      ≡ literal_word area (pieces_of lines) (pieces_of rest) v
+
+pub waiting_loaded : (area : ℕ) (lines : List LaidLine) → AllByRecursion (Awaits area lines) (waiting area (pieces_of lines))
 waiting_loaded area [] = tt
-waiting_loaded area (l ∷ lines) =
-    by_area (each_weaker (Loads area lines) (Loads area (l ∷ lines)) (loads_later area l lines) (waiting area (pieces_of lines)) (waiting_loaded area lines))
-    (is_of area l.area) refl
+waiting_loaded area (l ∷ lines) = by_area (waiting_loaded area lines) (is_of area l.area) refl
   where
     ws : List Value
     ws = waiting area (pieces_of lines)
 
     Now : Value → Type 0
-    Now = Loads area (l ∷ lines)
+    Now = Awaits area (l ∷ lines)
+
+    later : AllByRecursion (Awaits area lines) ws → is_pool_of area (piece_of l) ≡ false → AllByRecursion Now ws
+    later older no_pool =
+        each_weaker (Awaits area lines) Now
+        (λ v x.
+        record {
+          loads = loads_later area l lines v x.loads;
+          word = λ rest. x.word (l ∷ rest) ∙ literal_next area (pieces_of lines) (pieces_of rest) (piece_of l) v no_pool;
+        }) ws older
 
     by_noted : AllByRecursion Now ws → (v : Value) → Now v → (b : Bool) → AllByRecursion Now (cond b ws (ws ++ v ∷ []))
     by_noted older v x true = older
     by_noted older v x false = each_joined Now ws (v ∷ []) older (x, tt)
 
-    by_extent : AllByRecursion Now ws → l.area ≡ Some area → (e : Extent) → taken l.extent ≡ e → AllByRecursion Now (waiting_behind e ws)
+    by_extent : AllByRecursion (Awaits area lines) ws → l.area ≡ Some area → (e : Extent) → taken l.extent ≡ e → AllByRecursion Now (waiting_behind e ws)
     by_extent older own (Loading n v) x =
-        by_noted older v (record { loader = l; after = []; before = lines; parts = refl; own = own; size = n; extent = x }) (list_any (same_literal v) ws)
+        let loads : Loads area (l ∷ lines) v = record { loader = l; after = []; before = lines; parts = refl; own = own; size = n; extent = x } in
+        by_noted (later older (no_pool_of area (piece_of l) (ap is_pool x))) v (record { loads = loads; word = λ rest. refl }) (list_any (same_literal v) ws)
     by_extent older own Pool x = tt
-    by_extent older own e x = older
+    by_extent older own e x = later older (no_pool_of area (piece_of l) (ap is_pool x))
 
-    by_area : AllByRecursion Now ws → (b : Bool) → is_of area l.area ≡ b → AllByRecursion Now (cond b (waiting_behind (taken l.extent) ws) ws)
+    by_area : AllByRecursion (Awaits area lines) ws → (b : Bool) → is_of area l.area ≡ b → AllByRecursion Now (cond b (waiting_behind (taken l.extent) ws) ws)
     by_area older true x = by_extent older (owned area l.area x) (taken l.extent) refl
-    by_area older false x = older
+    by_area older false x = later older (ap (λ b. b && is_pool (taken l.extent)) x)
 
 abbrev pub EachLoads : ℕ → List LaidLine → List (Value × ℕ) → Type 0
 EachLoads area lines words = AllByRecursion (λ w. Loads area lines w.0) words
@@ -80,7 +95,9 @@ words_loaded P at (w ∷ ws) h = (h.0, words_loaded P (at + 4) ws h.1)
 
 pool_loaded : (area : ℕ) (lines : List LaidLine) → EachLoads area lines (pool_behind area (pieces_of lines))
 pool_loaded area lines =
-    words_loaded (Loads area lines) (start_in area (pieces_of lines) Pool) (waiting area (pieces_of lines)) (waiting_loaded area lines)
+    let ws = waiting area (pieces_of lines) in
+    words_loaded (Loads area lines) (start_in area (pieces_of lines) Pool) ws
+    (each_weaker (Awaits area lines) (Loads area lines) (λ v x. x.loads) ws (waiting_loaded area lines))
 
 pooled_loaded : (area : ℕ) (lines : List LaidLine) → EachLoads area lines (pooled area (pieces_of lines))
 pooled_loaded area [] = tt
@@ -118,27 +135,19 @@ word_among : (ss : List Statement) (area : ℕ) (p : Piece) (words : List (Value
     → IsAmong p (words_of (source_of ss) area words) → PoolWord ss area p
 word_among ss area p [] each h = absurd h
 word_among ss area p (w ∷ words) each h =
-    by_part (word_among ss area p words each.1) (among_either p (word_piece w.1 (literal_stored (source_of ss) area w.0)) (words_of (source_of ss) area words) h)
+    elim (among_either p (word_piece w.1 (literal_stored (source_of ss) area w.0)) (words_of (source_of ss) area words) h)
+    [ inl k ↦ by_result (literal_stored (source_of ss) area w.0) refl k | inr k ↦ word_among ss area p words each.1 k ]
   where
     by_result : (r : Result Stored LineKind) → literal_stored (source_of ss) area w.0 ≡ r → IsAmong p (word_piece w.1 r) → PoolWord ss area p
     by_result (Ok x) e (inl k) = record { value = w.0; place = w.1; holds = x; loads = each.0; stores = e; is = k }
     by_result (Ok x) e (inr k) = absurd k
     by_result (Err j) e k = absurd k
 
-    by_part : (IsAmong p (words_of (source_of ss) area words) → PoolWord ss area p)
-        → IsAmong p (word_piece w.1 (literal_stored (source_of ss) area w.0)) ⊎ IsAmong p (words_of (source_of ss) area words) → PoolWord ss area p
-    by_part later (inl k) = by_result (literal_stored (source_of ss) area w.0) refl k
-    by_part later (inr k) = later k
-
 pub unit_or_word : (ss : List Statement) (area : ℕ) (p : Piece) → StandsIn (source_of ss) area p → OwnUnit ss area p ⊎ PoolWord ss area p
-unit_or_word ss area p h = by_kind (among_either p (things_behind (source_of ss) area (laid ss) []) (words_of (source_of ss) area words) h)
-  where
-    words : List (Value × ℕ)
-    words = all_pooled area (pieces_of (laid ss))
-
-    by_kind : IsAmong p (things_behind (source_of ss) area (laid ss) []) ⊎ IsAmong p (words_of (source_of ss) area words) → OwnUnit ss area p ⊎ PoolWord ss area p
-    by_kind (inl k) = inl (owner_of ss area p k)
-    by_kind (inr k) = inr (word_among ss area p words (words_are_loaded area (laid ss)) k)
+unit_or_word ss area p h =
+    let words = all_pooled area (pieces_of (laid ss)) in
+    elim (among_either p (things_behind (source_of ss) area (laid ss) []) (words_of (source_of ss) area words) h)
+    [ inl k ↦ inl (owner_of ss area p k) | inr k ↦ inr (word_among ss area p words (words_are_loaded area (laid ss)) k) ]
 
 -- ---- a line's literal has its word
 
@@ -196,11 +205,15 @@ pooled_kept s area p before (m ∷ rest) h = pooled_kept s area p (m ∷ before)
     by_pool true = words_first s area p (pooled area before) (pool_behind area before) h
     by_pool false = h
 
-word_pooled : (s : Source) (area : ℕ) (v : Value) (x : Stored) → literal_stored s area v ≡ Ok x → (before rest : List LaidPiece) → Waits v (waiting area before)
-    → IsAmong (literal_word area before rest v, Word x) (words_of s area (all_pooled area (joined before rest)))
-word_pooled s area v x e before [] h =
+word_pooled_now : (s : Source) (area : ℕ) (v : Value) (x : Stored) → literal_stored s area v ≡ Ok x → (before : List LaidPiece) → Waits v (waiting area before)
+    → IsAmong (word_behind area before v, Word x) (words_of s area (all_pooled area before))
+word_pooled_now s area v x e before h =
     words_last s area (word_behind area before v, Word x) (pooled area before) (pool_behind area before)
     (word_there s area (start_in area before Pool) (waiting area before) v x e h)
+
+word_pooled : (s : Source) (area : ℕ) (v : Value) (x : Stored) → literal_stored s area v ≡ Ok x → (before rest : List LaidPiece) → Waits v (waiting area before)
+    → IsAmong (literal_word area before rest v, Word x) (words_of s area (all_pooled area (joined before rest)))
+word_pooled s area v x e before [] h = word_pooled_now s area v x e before h
 word_pooled s area v x e before (m ∷ rest) h =
     by_pool (is_pool_of area m) refl (λ k. word_pooled s area v x e (m ∷ before) rest (behind_keeps v (is_of area m.area) m.extent (waiting area before) k h))
   where
@@ -209,9 +222,8 @@ word_pooled s area v x e before (m ∷ rest) h =
 
     here : is_pool_of area m ≡ true → IsAmong (word_behind area before v, Word x) (words_of s area (pooled area (m ∷ before)))
     here y =
-        subst (λ b. IsAmong (word_behind area before v, Word x) (words_of s area (cond b (pooled area before ++ pool_behind area before) (pooled area before)))) (sym y)
-        (words_last s area (word_behind area before v, Word x) (pooled area before) (pool_behind area before)
-        (word_there s area (start_in area before Pool) (waiting area before) v x e h))
+        subst (λ b. IsAmong (word_behind area before v, Word x) (words_of s area (cond b (all_pooled area before) (pooled area before)))) (sym y)
+        (word_pooled_now s area v x e before h)
 
     by_pool : (b : Bool) → is_pool_of area m ≡ b → (is_pool_of area m ≡ false → IsAmong (literal_word area (m ∷ before) rest v, Word x) all)
         → IsAmong (cond b (word_behind area before v) (literal_word area (m ∷ before) rest v), Word x) all

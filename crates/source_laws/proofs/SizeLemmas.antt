@@ -49,13 +49,9 @@ abbrev EachLong : {A : Type 0} → (A → Emitted) → ℕ → Result A LineKind
 EachLong f n (Ok a) = length (unit_bytes (f a)) ≡ n
 EachLong f n (Err k) = Unit {0}
 
-pub summed : (n a b i j : ℕ) → n ≡ a + b → a ≡ i → b ≡ j → n ≡ i + j
-summed n a b i j h x y = omega arith
-
 pub one_longer : {A : Type 0} → (f : A → Emitted) (i j : ℕ) (r : Result A LineKind) (q : Result (List Emitted) LineKind)
     → EachLong f i r → Long j q → Long (i + j) (on_both (λ a us. f a ∷ us) r q)
-one_longer f i j (Ok a) (Ok us) x y =
-    summed (length (units_bytes (f a ∷ us))) (length (unit_bytes (f a))) (length (units_bytes us)) i j (length-append (unit_bytes (f a)) (units_bytes us)) x y
+one_longer f i j (Ok a) (Ok us) x y = let size = length-append (unit_bytes (f a)) (units_bytes us) in omega (arith, size, x, y)
 one_longer f i j (Ok a) (Err k) x y = tt
 one_longer f i j (Err k) (Ok us) x y = tt
 one_longer f i j (Err k) (Err m) x y = tt
@@ -68,19 +64,10 @@ pub word_long : (r : Result Stored LineKind) → EachLong Word 4 r
 word_long (Ok w) = length-bytes_of w.number 4
 word_long (Err k) = tt
 
-pub four_more : (n m : ℕ) → m ≡ n + 1 → 4 + 4 * n ≡ 4 * m
-four_more n m h = omega arith
-
-pub two_more : (n m : ℕ) → m ≡ n + 1 → 2 + 2 * n ≡ 2 * m
-two_more n m h = omega arith
-
-pub longer : {A : Type 0} → (e : A) (es : List A) → length (e ∷ es) ≡ length es + 1
-longer e es = omega arith
-
 pub words_long : (c : Context) (d : List (List ℕ)) (es : List Expr) → Long (4 * length es) (word_units c d es)
 words_long c d [] = refl
 words_long c d (e ∷ es) =
-    subst (λ n. Long n (word_units c d (e ∷ es))) (four_more (length es) (length (e ∷ es)) (longer e es))
+    subst (λ n. Long n (word_units c d (e ∷ es))) (omega arith)
     (one_longer Word 4 (4 * length es) (stored c d (value_of c e)) (word_units c d es) (word_long (stored c d (value_of c e))) (words_long c d es))
 
 pub narrow_long : (size n : ℕ) → EachLong Bytes size (narrow size n)
@@ -97,7 +84,7 @@ then_long size (Err k) = tt
 pub halves_long : (c : Context) (es : List Expr) → Long (2 * length es) (half_units c es)
 halves_long c [] = refl
 halves_long c (e ∷ es) =
-    subst (λ n. Long n (half_units c (e ∷ es))) (two_more (length es) (length (e ∷ es)) (longer e es))
+    subst (λ n. Long n (half_units c (e ∷ es))) (omega arith)
     (one_longer Bytes 2 (2 * length es) (and_then (number_in c e) (narrow 2)) (half_units c es) (then_long 2 (number_in c e)) (halves_long c es))
 
 -- a string that is known is itself, and anything else is one byte
@@ -158,9 +145,9 @@ literal_count c condition rd number (Some word) =
 pub instructions_bytes : (is : List ArmInstr) → length (units_bytes (instruction_units is)) ≡ 4 * length is
 instructions_bytes [] = refl
 instructions_bytes (i ∷ is) =
-    summed (length (units_bytes (instruction_units (i ∷ is)))) (length (unit_bytes (Instruction i None))) (length (units_bytes (instruction_units is))) 4 (4 * length is)
-    (length-append (unit_bytes (Instruction i None)) (units_bytes (instruction_units is))) refl (instructions_bytes is)
-    ∙ four_more (length is) (length (i ∷ is)) (longer i is)
+    let size = length-append (unit_bytes (Instruction i None)) (units_bytes (instruction_units is)) in
+    let one : length (unit_bytes (Instruction i None)) ≡ 4 = refl in
+    let others = instructions_bytes is in omega (arith, size, one, others)
 
 pub instructions_long : (n : ℕ) (r : Result (List ArmInstr) LineKind) → Count n r → Long (4 * n) (mapped instruction_units r)
 instructions_long n (Ok is) h = instructions_bytes is ∙ ap (λ k. 4 * k) h
@@ -345,20 +332,14 @@ abbrev Within : ℕ → Result (List Emitted) LineKind → Type 0
 Within n (Ok us) = length (units_bytes us) ≤ n
 Within n (Err k) = Unit {0}
 
-pub nothing_within : (n : ℕ) → length (units_bytes []) ≤ n
-nothing_within n = omega arith
-
-pub same_within : (m n : ℕ) → m ≡ n → m ≤ n
-same_within m n h = omega arith
-
 pub units_fit : (c : Context) (d : List (List ℕ)) (s : Names) (word : Option ℕ) (w : What) (e : Extent) (us : List Emitted)
     → c.line.thumb ≡ s.thumb → extent_of s w ≡ Ok e → units c d s word w ≡ Ok us
     → (literals : List Value) (at : ℕ) → length (units_bytes us) ≤ size_of literals at e
 units_fit c d s word w e us state x y literals at = by_test (is_filled w) refl
   where
     by_test : (b : Bool) → is_filled w ≡ b → length (units_bytes us) ≤ size_of literals at e
-    by_test true h = same_within (length (units_bytes us)) (size_of literals at e) (units_fill c d s word w e us h state x y literals at)
-    by_test false h = subst (Within (size_of literals at e)) (sym (other_units_are_none c d s word w h) ∙ y) (nothing_within (size_of literals at e))
+    by_test true h = let same = units_fill c d s word w e us h state x y literals at in omega (arith, same)
+    by_test false h = subst (Within (size_of literals at e)) (sym (other_units_are_none c d s word w h) ∙ y) (omega arith)
 
 -- ---- pools and literals
 

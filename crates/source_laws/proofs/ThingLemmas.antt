@@ -1,5 +1,5 @@
 -- What a line puts where it stands is no longer than what it takes up.
-use Rattle.std.proofs.Common.{◌≡◌, ℕ, ◌≤◌, List, [], ◌∷◌, ◌++◌, length, refl, sym, ◌∙◌, ap, subst, arith, Option, Some, None}
+use Rattle.std.proofs.Common.{◌≡◌, ℕ, ◌≤◌, List, ◌∷◌, ◌++◌, length, refl, sym, ◌∙◌, ap, subst, arith, Option, Some, None}
 use Rattle.std.specs.Prelude.{Result, Ok, Err}
 use Rattle.sdt_fault.specs.declared.kinds.LineKind.{LineKind}
 use Rattle.asm_model.specs.declared.statements.Statement.{Statement}
@@ -41,9 +41,6 @@ units_with ss l before word = or_none (units (context_behind ss l before) (datum
 abbrev pub own_units : List Statement → List LaidLine → LaidLine → List LaidLine → List Emitted
 own_units ss after l before = units_with ss l before (word_among after l before)
 
-no_more : (n : ℕ) → length (units_bytes []) ≤ n
-no_more n = omega arith
-
 -- they are no longer than what the line takes up
 pub own_fit : (ss : List Statement) → IsSound ss → (area : ℕ) (after before : List LaidLine) (l : LaidLine) → laid ss ≡ after ++ l ∷ before
     → l.area ≡ Some area → (word : Option ℕ) → length (units_bytes (units_with ss l before word)) ≤ l.size
@@ -59,7 +56,7 @@ own_fit ss sound area after before l e here word =
 
     by_result : (r : Result (List Emitted) LineKind) → units (context_behind ss l before) (datum_names ss) l.seen word l.statement.what ≡ r
         → length (units_bytes (or_none r)) ≤ size_of ws at (taken l.extent)
-    by_result (Err j) x = no_more (size_of ws at (taken l.extent))
+    by_result (Err j) x = omega arith
     by_result (Ok us) x =
         units_fit (context_behind ss l before) (datum_names ss) l.seen word l.statement.what (taken l.extent) us
         (seen_extent ss after before l e).2 (known_extent ss sound after before l e) x ws at

@@ -1,7 +1,6 @@
 -- Literals that wait for a pool.
 use Rattle.std.proofs.Common.{◌≡◌, ℕ, ◌==◌, ◌&&◌, List, [], ◌∷◌, ◌++◌, Bool, true, false, cond, eqb-true, refl, sym, ◌∙◌, ap, Some}
 use Rattle.std.specs.List.{list_any}
-use Rattle.std.proofs.lemmas.Bool.{or_parts, or_from}
 use Rattle.std.specs.Prelude.{Result, Ok, Err}
 use Rattle.sdt_fault.specs.declared.kinds.LineKind.{LineKind}
 use Rattle.asm_model.specs.declared.statements.Statement.{Statement}
@@ -34,21 +33,12 @@ pub literal_next : (area : ℕ) (before rest : List LaidPiece) (s : LaidPiece) (
     → literal_word area before (s ∷ rest) v ≡ literal_word area (s ∷ before) rest v
 literal_next area before rest s v h = ap (λ b. cond b (word_behind area before v) (literal_word area (s ∷ before) rest v)) h
 
-abbrev pub NoPools : ℕ → List LaidPiece → Type 0
-NoPools area ps = list_any (is_pool_of area) ps ≡ false
-
 pub joined_order : (xs ys : List LaidLine) (before : List LaidPiece) → joined before (pieces_of (in_order xs ys)) ≡ joined (pieces_of xs ++ before) (pieces_of ys)
 joined_order [] ys before = refl
 joined_order (x ∷ xs) ys before = joined_order xs (x ∷ ys) before
 
 pub pieces_before : (between before : List LaidLine) → joined (pieces_of before) (pieces_of (in_order between [])) ≡ pieces_of (between ++ before)
 pieces_before between before = joined_order between [] (pieces_of before) ∙ sym (pieces_joined between before)
-
-pub no_pools_order : (area : ℕ) (xs ys : List LaidLine) → NoPools area (pieces_of xs) → NoPools area (pieces_of ys) → NoPools area (pieces_of (in_order xs ys))
-no_pools_order area [] ys h k = k
-no_pools_order area (x ∷ xs) ys h k =
-    let p = or_parts (is_pool_of area (piece_of x)) (list_any (is_pool_of area) (pieces_of xs)) h in
-    no_pools_order area xs (x ∷ ys) p.1 (or_from (is_pool_of area (piece_of x)) (list_any (is_pool_of area) (pieces_of ys)) p.0 k)
 
 -- ---- literals are loaded by lines
 

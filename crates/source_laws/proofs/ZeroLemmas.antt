@@ -1,8 +1,9 @@
 -- The contents of an area are those of each line that names it; among zeros no statement puts anything there.
-use Rattle.std.proofs.Common.{◌≡◌, ℕ, suc, ◌+◌, ◌<◌, ◌≤◌, List, [], ◌∷◌, ◌++◌, length, Bool, true, false, not, cond, refl, sym, ◌∙◌, ap, subst, arith, Option, Some, None, ◌⊎◌, inl, inr, ◌||◌, ◌&&◌, nat_lt}
+use Rattle.std.proofs.Common.{◌≡◌, ℕ, suc, ◌+◌, ◌<◌, ◌≤◌, List, [], ◌∷◌, ◌++◌, length, length-append, Bool, true, false, not, cond, refl, sym, ◌∙◌, ap, subst, arith, Option, Some, None, ◌⊎◌, inl, inr, ◌||◌, ◌&&◌, nat_lt}
 use Rattle.std.specs.Prelude.{Result, Ok, Err}
 use Rattle.std.specs.List.{list_any}
-use Rattle.std.proofs.lemmas.Bool.{cond-true, cond-false, eq-eqb, or_parts}
+use Rattle.std.proofs.lemmas.Bool.{cond-true, cond-false, eq-eqb, or_parts, or_left, or_right}
+use Rattle.std.proofs.lemmas.List.Folds.{list_any-append}
 use Rattle.sdt_fault.specs.declared.kinds.LineKind.{LineKind}
 use Rattle.sdt_fault.specs.declared.kinds.LineKind.TheVariants.{Constant, BadOperand, TooMany}
 use Rattle.asm_model.specs.declared.directives.AreaAttributes.{AreaAttributes}
@@ -32,8 +33,7 @@ use Rattle.source_model.specs.SourceFaults.{layout_faults}
 use Rattle.source_model.specs.Units.{units}
 use Rattle.source_laws.specs.Laws.{word_among, context_behind}
 use Rattle.source_laws.proofs.FaultlessLemmas.{layout_sound}
-use Rattle.source_laws.proofs.ListedLemmas.{owned}
-use Rattle.source_laws.proofs.ListedLemmas.{OwnUnit}
+use Rattle.source_laws.proofs.ListedLemmas.{owned, OwnUnit}
 use Rattle.source_laws.proofs.PoolLemmas.{PoolWord, unit_or_word}
 use Rattle.source_laws.proofs.SizeLemmas.{IsPseudo, loads_are_pseudo}
 use Rattle.source_laws.proofs.ThingLemmas.{known_extent}
@@ -42,15 +42,8 @@ use Rattle.asm_model.specs.declared.names.LaidName.{LaidName}
 
 -- ---- places of names
 
-pub or_right : (a b : Bool) → a ≡ false → (a || b) ≡ true → b ≡ true
-or_right true b h k = absurd (cc)
-or_right false b h k = k
-
 pub any_right : (n : List ℕ) (xs ys : List (List ℕ)) → list_any (same n) xs ≡ false → list_any (same n) (xs ++ ys) ≡ true → list_any (same n) ys ≡ true
-any_right n [] ys h k = k
-any_right n (x ∷ xs) ys h k =
-    let p = or_parts (same n x) (list_any (same n) xs) h in
-    any_right n xs ys p.1 (or_right (same n x) (list_any (same n) (xs ++ ys)) p.0 k)
+any_right n xs ys h k = sym (list_any-append (same n) xs ys ∙ ap (λ b. b || list_any (same n) ys) h) ∙ k
 
 pub place_old : (n m : List ℕ) (xs : List (List ℕ)) → list_any (same n) xs ≡ true → place_of n (xs ++ m ∷ []) ≡ place_of n xs
 place_old n m [] h = absurd (cc)
@@ -78,12 +71,7 @@ place_below n (x ∷ xs) h = by_test (same n x) (place_below n xs) h
     by_test false f k = let p = f k in omega (arith, p)
 
 pub any_last : (n : List ℕ) (xs : List (List ℕ)) → list_any (same n) (xs ++ n ∷ []) ≡ true
-any_last n [] = rw (same_refl n) refl
-any_last n (x ∷ xs) = by_test (same n x) (any_last n xs)
-  where
-    by_test : (b : Bool) → list_any (same n) (xs ++ n ∷ []) ≡ true → (b || list_any (same n) (xs ++ n ∷ [])) ≡ true
-    by_test true k = refl
-    by_test false k = k
+any_last n xs = list_any-append (same n) xs (n ∷ []) ∙ or_right (list_any (same n) xs) (same n n || false) (or_left (same n n) false (same_refl n))
 
 pub named_with : (n : List ℕ) (xs : List (List ℕ)) → list_any (same n) (with_name (Some n) xs) ≡ true
 named_with n xs = by_test (list_any (same n) xs) refl
@@ -138,13 +126,9 @@ pub no_fewer : (o : Option (List ℕ)) (xs : List (List ℕ)) (k : ℕ) → leng
 no_fewer None xs k h = h
 no_fewer (Some n) xs k h = by_test (list_any (same n) xs) h
   where
-    one_more : (ys : List (List ℕ)) → length ys ≤ length (ys ++ n ∷ [])
-    one_more [] = omega arith
-    one_more (y ∷ ys) = let p = one_more ys in omega (arith, p)
-
     by_test : (b : Bool) → length (cond b xs (xs ++ n ∷ [])) ≤ k → length xs ≤ k
     by_test true j = j
-    by_test false j = let p = one_more xs in omega (arith, p)
+    by_test false j = let p = length-append xs (n ∷ []) in omega (arith, p)
 
 pub none_beyond : (lines : List LaidLine) → AreNumbered lines → (k : ℕ) → length (names_of lines) ≤ k → contents_of k lines ≡ None
 none_beyond [] h k j = refl
@@ -162,14 +146,9 @@ pub record Agreed (first : Option Contents) (otherwise : Names → AreaAttribute
 
 pub contents_true : (a b : Contents) → same_contents a b ≡ true → a ≡ b
 contents_true contents.Code contents.Code h = refl
-contents_true contents.Code contents.Data h = absurd (cc)
-contents_true contents.Code contents.Zeroes h = absurd (cc)
-contents_true contents.Data contents.Code h = absurd (cc)
 contents_true contents.Data contents.Data h = refl
-contents_true contents.Data contents.Zeroes h = absurd (cc)
-contents_true contents.Zeroes contents.Code h = absurd (cc)
-contents_true contents.Zeroes contents.Data h = absurd (cc)
 contents_true contents.Zeroes contents.Zeroes h = refl
+contents_true a b h = absurd (cc)
 
 pub contents_same : (a : Contents) → same_contents a a ≡ true
 contents_same contents.Code = refl
@@ -188,16 +167,17 @@ pub first_of_all : (a b c d e f g : Bool) → (a && b && c && d && e && f && g) 
 first_of_all true b c d e f g h = refl
 first_of_all false b c d e f g h = absurd (cc)
 
-pub all_true : (a b c d e f g : Bool) → a ≡ true → b ≡ true → c ≡ true → d ≡ true → e ≡ true → f ≡ true → g ≡ true
-    → (a && b && c && d && e && f && g) ≡ true
-all_true a b c d e f g h i j k l m n = rw (h, i, j, k, l, m, n) refl
-
 pub attributes_same : (s : Names) (a : AreaAttributes) → same_attributes s a s a ≡ true
 attributes_same s a =
-    all_true (same_contents a.contents a.contents) (same_mark a.read_only a.read_only) (same_mark a.interwork a.interwork)
-    (same_mark a.halfword a.halfword) (same_mark a.pic a.pic) (same_mark a.reentrant a.reentrant) (same_exponent (exponent s a.align) (exponent s a.align))
-    (contents_same a.contents) (mark_same a.read_only) (mark_same a.interwork) (mark_same a.halfword) (mark_same a.pic) (mark_same a.reentrant)
-    (exponent_same (exponent s a.align))
+    rw (
+      contents_same a.contents,
+      mark_same a.read_only,
+      mark_same a.interwork,
+      mark_same a.halfword,
+      mark_same a.pic,
+      mark_same a.reentrant,
+      exponent_same (exponent s a.align),
+    ) refl
 
 pub attributes_true : (s : Names) (a : AreaAttributes) (t : Names) (b : AreaAttributes) → same_attributes s a t b ≡ true → a.contents ≡ b.contents
 attributes_true s a t b h =

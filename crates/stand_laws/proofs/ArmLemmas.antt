@@ -147,47 +147,34 @@ SymbolMeets k r =
     (x : ℕ) (xs : List ℕ) → linked_symbol k.context r ≡ Some (x ∷ xs)
     → address_of (scene k).placing (sees k.context) (x ∷ xs) % 2 ^ 32 ≡ (meant_by k.source k.values (x ∷ xs)).number % 2 ^ 32
 
--- a branch that reaches the value of its operand in a state
-pub record Branches (k : Setting) (a : ℕ) (condition : Condition) (link : Bool) (e : Expr) (state : Bool) : Type 0 where
-  pub field : ℕ
-  pub reads : ReadsAt k.view a (instr.Branch condition link field)
-  pub target : ℕ
-  pub means : IsNumber (scene k) e target
-  pub reaches : Reaches k.view k.region false a target state
-
-pub branch_made : (k : Setting) (a : ℕ) (condition : Condition) (link : Bool) (e : Expr) (state : Bool) → state ≡ target_state false (scene k) (value_of k.context e)
-    → Branches k a condition link e state → BranchStands (scene k) a condition link e
-branch_made k a condition link e state x b = record {
-  field = b.field;
-  reads = b.reads;
-  target = b.target;
-  means = b.means;
-  reaches = subst (λ z. Reaches k.view k.region false a b.target z) x b.reaches;
-}
+-- the state in which a branch reaches its target
+abbrev pub state_for : Setting → Expr → Bool
+state_for k e = target_state false (scene k) (value_of k.context e)
 
 pub away_small : (at o d : ℕ) → d ≡ away at o → d < 2 ^ 32
 away_small at o d h = omega (arith, h)
 
 pub direct : (k : Setting) (area at a : ℕ) → Ready k area at → a ≡ k.base + at → (condition : Condition) (link : Bool) (e : Expr) (d f o target : ℕ)
     → d ≡ away at o → branch_field d ≡ Ok f → ReadsAt k.view a (instr.Branch condition link f) → IsNumber (scene k) e target → (k.base + o) % 2 ^ 32 ≡ target
-    → Branches k a condition link e false
-direct k area at a ready x condition link e d f o target h field s means t = record {
+    → state_for k e ≡ false → BranchStands (scene k) a condition link e
+direct k area at a ready x condition link e d f o target h field s means t state = record {
   field = f;
   reads = s;
   target = target;
   means = means;
-  reaches = inl (
-    record {
-      condition = condition;
-      link = link;
-      field = f;
-      word = s.word;
-      shows = s.shows;
-      reads = s.reads;
-      leads = direct_leads k.base at o a d f target ready.small x h (field_is d f (away_small at o d h) field) t;
-    },
-    refl,
-  );
+  reaches = subst (λ z. Reaches k.view k.region false a target z) (sym state)
+      (inl (
+        record {
+          condition = condition;
+          link = link;
+          field = f;
+          word = s.word;
+          shows = s.shows;
+          reads = s.reads;
+          leads = direct_leads k.base at o a d f target ready.small x h (field_is d f (away_small at o d h) field) t;
+        },
+        refl,
+      ));
 }
 
 pub settled_in : (x : Option ℕ) (a : Option (ℕ × ℕ)) (area : ℕ) (t : Bool) → x ≡ Some area → (is_in_area x a && t) ≡ true → (b : ℕ) × (a ≡ Some (area, b))
@@ -213,8 +200,9 @@ displaced false x d h = absurd (cc)
 pub to_symbol : (k : Setting) (area at a : ℕ) → Ready k area at → a ≡ k.base + at → (condition : Condition) (link : Bool) (e : Expr) (y : ℕ) (ys : List ℕ) (n d f : ℕ)
     → value_of k.context e ≡ Ok (Place (y ∷ ys) n) → d ≡ branch_from k.context (y ∷ ys) n → branch_field d ≡ Ok f
     → Shown k (at, Instruction (instr.Branch condition link f) (linked_symbol k.context (Ok (Place (y ∷ ys) n)))) → SymbolMeets k (Ok (Place (y ∷ ys) n))
-    → Branches k a condition link e (target_state false (scene k) (Ok (Place (y ∷ ys) n)))
-to_symbol k area at a ready x condition link e y ys n d f v h field s meets = by_test (is_settled k.context (y ∷ ys)) refl h s (meets y ys)
+    → BranchStands (scene k) a condition link e
+to_symbol k area at a ready x condition link e y ys n d f v h field s meets =
+    by_test (is_settled k.context (y ∷ ys)) refl h s (meets y ys) (ap (target_state false (scene k)) v)
   where
     q : List ℕ
     q = y ∷ ys
@@ -224,8 +212,8 @@ to_symbol k area at a ready x condition link e y ys n d f v h field s meets = by
 
     left : d ≡ away_from k.context n → Shown k (at, Instruction (instr.Branch condition link f) (Some q))
         → address_of (scene k).placing (sees k.context) q % 2 ^ 32 ≡ m.number % 2 ^ 32
-        → Branches k a condition link e (state_of false m m.home)
-    left g b meet =
+        → state_for k e ≡ state_of false m m.home → BranchStands (scene k) a condition link e
+    left g b meet state =
         let l : LinkedBranch k.view k.region (k.base + at) at condition link f m = b in
         let address : ℕ = address_of (scene k).placing (sees k.context) q in
         let there = g ∙ away_is k area at n ready in
@@ -234,36 +222,37 @@ to_symbol k area at a ready x condition link e y ys n d f v h field s meets = by
           reads = subst (λ z. ReadsAt k.view z (instr.Branch condition link l.field)) (sym x) l.reads;
           target = (address + n) % 2 ^ 32;
           means = value_stands (scene k) e (Place q n) ready.here v;
-          reaches = subst (λ z. Reaches k.view k.region false z ((address + n) % 2 ^ 32) (state_of false m m.home)) (sym x)
+          reaches = subst (λ z. Reaches k.view k.region false z ((address + n) % 2 ^ 32) (state_for k e)) (sym x)
+              (subst (λ z. Reaches k.view k.region false (k.base + at) ((address + n) % 2 ^ 32) z) (sym state)
               (subst (λ z. Reaches k.view k.region false (k.base + at) z (state_of false m m.home))
-              (linked_leads at d f n m.number address ready.small there (field_is d f (away_small at n d there) field) meet) l.reaches);
+              (linked_leads at d f n m.number address ready.small there (field_is d f (away_small at n d there) field) meet) l.reaches));
         }
 
     by_test : (t : Bool) → is_settled k.context q ≡ t
         → d ≡ away_from k.context (cond t (offset_at (stands_at (sees k.context) q) + n) n)
         → Shown k (at, Instruction (instr.Branch condition link f) (cond t None (Some q)))
         → (cond t None (Some q) ≡ Some q → address_of (scene k).placing (sees k.context) q % 2 ^ 32 ≡ m.number % 2 ^ 32)
-        → Branches k a condition link e (cond t false (state_of false m m.home))
-    by_test true t g b meet =
+        → state_for k e ≡ cond t false (state_of false m m.home) → BranchStands (scene k) a condition link e
+    by_test true t g b meet state =
         let p = settled_in k.context.line.area (stands_at (sees k.context) q) area (keeps_state k.context.line.thumb (named_in q (sees k.context).list)) ready.own t in
         let o : ℕ = p.0 + n in
         direct k area at a ready x condition link e d f o ((k.values.base area + p.0 + n) % 2 ^ 32)
         (g ∙ ap (λ z. away_from k.context (offset_at z + n)) p.1 ∙ away_is k area at o ready) field
         (subst (λ z. ReadsAt k.view z (instr.Branch condition link f)) (sym x) b)
         (value_stands (scene k) e (Place q n) ready.here v ∙ ap (λ z. Ok (Number ((address_at (scene k).placing q z + n) % 2 ^ 32))) p.1)
-        (area_sum k.base p.0 n (k.values.base area) ready.based)
-    by_test false t g b meet = left g b (meet refl)
+        (area_sum k.base p.0 n (k.values.base area) ready.based) state
+    by_test false t g b meet state = left g b (meet refl) state
 
 pub branch_of : (k : Setting) (area at a : ℕ) → Ready k area at → a ≡ k.base + at → (condition : Condition) (link : Bool) (e : Expr) (r : Result Value LineKind) (d f : ℕ)
     → value_of k.context e ≡ r → branch_displacement k.context r ≡ Ok d → branch_field d ≡ Ok f
     → Shown k (at, Instruction (instr.Branch condition link f) (linked_symbol k.context r)) → SymbolMeets k r
-    → Branches k a condition link e (target_state false (scene k) r)
+    → BranchStands (scene k) a condition link e
 branch_of k area at a ready x condition link e (Ok (Place [] n)) d f v h field s meets =
     direct k area at a ready x condition link e d f n ((k.values.base area + 0 + n) % 2 ^ 32)
     (displaced true (away_from k.context n) d h ∙ away_is k area at n ready) field
     (subst (λ z. ReadsAt k.view z (instr.Branch condition link f)) (sym x) s)
     (value_stands (scene k) e (Place [] n) ready.here v ∙ ap (λ z. Ok (Number ((address_at (scene k).placing [] (in_area z 0) + n) % 2 ^ 32))) ready.own)
-    (start_sum k.base n (k.values.base area) ready.based)
+    (start_sum k.base n (k.values.base area) ready.based) (ap (target_state false (scene k)) v)
 branch_of k area at a ready x condition link e (Ok (Place (y ∷ ys) n)) d f v h field s meets =
     to_symbol k area at a ready x condition link e y ys n d f v
     (displaced (has_symbol k.context (y ∷ ys)) (branch_from k.context (y ∷ ys) n) d h) field s meets
@@ -280,9 +269,8 @@ branch_stands k area at a ready x condition link e i h s meets =
     let f : ℕ → ArmInstr = λ f. instr.Branch condition link f in
     let t = then_ok (λ d. mapped f (branch_field d)) (branch_displacement k.context (value_of k.context e)) i h in
     let m = mapped_ok f (branch_field t.from) i t.gives in
-    branch_made k a condition link e (target_state false (scene k) (value_of k.context e)) refl
-    (branch_of k area at a ready x condition link e (value_of k.context e) t.from m.from refl t.is m.is
-    (subst (λ z. Shown k (at, Instruction z (linked_symbol k.context (value_of k.context e)))) (sym m.gives) s) meets)
+    branch_of k area at a ready x condition link e (value_of k.context e) t.from m.from refl t.is m.is
+    (subst (λ z. Shown k (at, Instruction z (linked_symbol k.context (value_of k.context e)))) (sym m.gives) s) meets
 
 -- ---- all lines
 

@@ -45,7 +45,8 @@ use Rattle.asm_instructions.specs.ThumbFits.{ThumbFits, CodeFits}
 use Rattle.asm_instructions.proofs.FitLemmas.{instruction_fits, pseudo_instructions_fit}
 use Rattle.asm_instructions.proofs.ThumbFitLemmas.{thumb_instruction_fits, thumb_pseudo_fits}
 use Rattle.source_laws.proofs.LineLemmas.{stands_in}
-use Rattle.source_laws.proofs.PoolLemmas.{OwnUnit, PoolWord, unit_or_word}
+use Rattle.source_laws.proofs.ListedLemmas.{OwnUnit}
+use Rattle.source_laws.proofs.PoolLemmas.{PoolWord, unit_or_word}
 use Rattle.source_laws.proofs.ThingLemmas.{known_extent}
 
 abbrev pub LinkedAligned : ℕ → Option (List ℕ) → Type 0
@@ -263,4 +264,4 @@ good_thing ss sound said area p x = by_kind (unit_or_word ss area p x)
         by_result l.offset (units c (datum_names ss) l.seen (word_among u.after l u.before) l.statement.what)
         (line_good l.offset c (datum_names ss) l.seen (word_among u.after l u.before) l.statement.what
         (λ q m e. register_below (registers_behind u.before) q m (registers_good u.before own.1) e) own.0.read (aligned u)) u.among
-    by_kind (inr w) = subst IsGood (sym w.word.is) tt
+    by_kind (inr w) = subst IsGood (sym w.is) tt

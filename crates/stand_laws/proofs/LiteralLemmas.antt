@@ -11,7 +11,7 @@ use Rattle.asm_model.specs.declared.names.Names.{Names}
 use Rattle.asm_model.specs.declared.values.Value.{Value}
 use Rattle.asm_model.specs.declared.values.Value.TheVariants.{Number, Truth, Words, Place}
 use Rattle.asm_model.specs.Grammar.{Tree, Leaf, Between}
-use Rattle.asm_model.specs.Meaning.{named_in, stands_at, less, moved_place, added_place, distance, between_places, as_number, as_place, binary, value_of, on_both, meaning}
+use Rattle.asm_model.specs.Meaning.{named_in, stands_at, less, moved_place, distance, between_places, as_number, as_place, binary, value_of, on_both, meaning}
 use Rattle.asm_model.proofs.LineLemmas.{number_more}
 use Rattle.layout_laws.proofs.RoundLemmas.{ResultIs}
 use Rattle.layout_laws.proofs.SettledLemmas.{HoldsConstant}
@@ -59,24 +59,12 @@ moves names Subtract s p n x h = record {
 }
 moves names op s p n x h = absurd (cc)
 
--- of a number and a place
-pub record Adds (names : Names) (op : BinaryOp) (s : List ℕ) (p n : ℕ) (x : Value) : Type 0 where
-  pub number : ℕ
-  pub is : x ≡ Place s number
-  pub plain : (k z : ℕ) → Same32 k (z + p) → (j : ℕ) × (binary names op (Number n) (Number k) ≡ Ok (Number j)) × Same32 j (z + number)
-  pub placed : (q : List ℕ) (k z : ℕ) → Same32 k (z + p) → (j : ℕ) × (binary names op (Number n) (Place q k) ≡ Ok (Place q j)) × Same32 j (z + number)
-
-pub same_turned : (k z p n : ℕ) → Same32 k (z + p) → Same32 ((n + k) % 2 ^ 32) (z + (p + n) % 2 ^ 32)
-same_turned k z p n h = omega (arith, h)
-
-pub adds : (names : Names) (op : BinaryOp) (s : List ℕ) (p n : ℕ) (x : Value) → as_place s (added_place op n p) ≡ Ok x → Adds names op s p n x
-adds names Add s p n x h = record {
-  number = (p + n) % 2 ^ 32;
-  is = cc;
-  plain = λ k z e. ((n + k) % 2 ^ 32, refl, same_turned k z p n e);
-  placed = λ q k z e. ((k + n) % 2 ^ 32, refl, same_added k z p n e);
-}
-adds names op s p n x h = absurd (cc)
+-- a number is added to anything in either order
+pub added_turns : (names : Names) (n : ℕ) (r : Result Value LineKind)
+    → on_both r (Ok (Number n)) (binary names Add) ≡ on_both (Ok (Number n)) r (binary names Add)
+added_turns names n (Ok (Number k)) = ap (λ z. Ok (Number z)) (omega arith)
+added_turns names n (Ok v) = refl
+added_turns names n (Err k) = refl
 
 pub plus_moved : (names : Names) (op : BinaryOp) (s : List ℕ) (p n : ℕ) (x : Value) (m : Moves names op s p n x) (f : Value) (r q : Result Value LineKind)
     → q ≡ Ok (Number n) → Plus f p r → Plus f m.number (on_both r q (binary names op))
@@ -88,17 +76,6 @@ plus_moved names op s p n x m (Place t z) r q e h =
     (a.0, ap (λ y. on_both y q (binary names op)) h.1 ∙ ap (λ y. on_both (Ok (Place t h.0)) y (binary names op)) e ∙ a.1, a.2)
 plus_moved names op s p n x m (Truth b) r q e h = tt
 plus_moved names op s p n x m (Words w) r q e h = tt
-
-pub plus_added : (names : Names) (op : BinaryOp) (s : List ℕ) (p n : ℕ) (x : Value) (m : Adds names op s p n x) (f : Value) (r q : Result Value LineKind)
-    → r ≡ Ok (Number n) → Plus f p q → Plus f m.number (on_both r q (binary names op))
-plus_added names op s p n x m (Number z) r q e h =
-    let a = m.plain h.0 z h.2 in
-    (a.0, ap (λ y. on_both y q (binary names op)) e ∙ ap (λ y. on_both (Ok (Number n)) y (binary names op)) h.1 ∙ a.1, a.2)
-plus_added names op s p n x m (Place t z) r q e h =
-    let a = m.placed t h.0 z h.2 in
-    (a.0, ap (λ y. on_both y q (binary names op)) e ∙ ap (λ y. on_both (Ok (Number n)) y (binary names op)) h.1 ∙ a.1, a.2)
-plus_added names op s p n x m (Truth b) r q e h = tt
-plus_added names op s p n x m (Words w) r q e h = tt
 
 -- ---- what all names make of a value with names that stay names
 

@@ -1,9 +1,10 @@
--- Memory shows what stands in the areas of a placed object, and zeros between.
+-- Memory shows what stands in the areas of a placed object, and zeros between, so that its source's statements stand.
 use Rattle.std.proofs.Common.{◌≡◌, ◌⊎◌, inl, inr, ℕ, ◌+◌, ◌^◌, ◌<◌, ◌≤◌, Bool, true, false, cond, List, [], ◌∷◌, length, Option, Some, sym, ap, subst, ◌∙◌, arith}
 use Rattle.std.specs.Prelude.{slice_get, ◌==◌}
 use Rattle.std.specs.Option.{IsSomeAnd}
 use Rattle.std.proofs.lemmas.Bool.{cases_lt}
 use Rattle.std.proofs.lemmas.List.{length-map}
+use Rattle.sdt_word.specs.declared.ranges.Range32.{Range32}
 use Rattle.sdt_word.specs.Numbers.{bit}
 use Rattle.aof_object.specs.declared.records.Area.{Area}
 use Rattle.aof_object.specs.declared.records.Object.{Object}
@@ -17,19 +18,23 @@ use Rattle.layout_laws.proofs.SoundLemmas.{statements_kept}
 use Rattle.patch_model.specs.Fields.{Values}
 use Rattle.patch_model.specs.Patched.{Veneers, AreaPatched}
 use Rattle.patch_model.specs.Reaches.{View}
-use Rattle.source_model.specs.Objects.{source_of, symbol_number, symbol_named, contents_of, is_kept, KeepsBytes, IsArea, IsObject}
+use Rattle.source_model.specs.Objects.{Piece, source_of, StandsIn, symbol_number, symbol_named, contents_of, is_kept, KeepsBytes, IsArea, IsObject}
 use Rattle.source_laws.proofs.FaultlessLemmas.{layout_sound}
 use Rattle.source_laws.proofs.ApartLemmas.{things_stand_apart, things_lie_in_areas}
-use Rattle.source_laws.proofs.PoolLemmas.{OwnUnit, PoolWord, unit_or_word}
+use Rattle.source_laws.proofs.ListedLemmas.{OwnUnit}
+use Rattle.source_laws.proofs.PoolLemmas.{PoolWord, unit_or_word}
 use Rattle.source_laws.proofs.ZeroLemmas.{zero_areas_hold_nothing}
-use Rattle.stand_model.specs.Placed.{ShowsBy, ShowsArea}
+use Rattle.stand_model.specs.Placed.{IsPlaced, ShowsBy, ShowsArea, ShowsObject}
 use Rattle.stand_model.specs.Shown.{IsShown}
-use Rattle.stand_laws.specs.Laws.{IsFaultless, ThingsAreShown, GapsAreZero, ShownLinesStand, ObjectsStand}
+use Rattle.stand_model.specs.Stands.{AllStand}
+use Rattle.stand_laws.specs.Laws.{IsFaultless}
 use Rattle.stand_laws.proofs.AreaLemmas.{found_at, area_there, no_size, Agree, lines_agree, AreaKind, area_kind}
 use Rattle.stand_laws.proofs.DirectiveLemmas.{Facts, outside_fields}
 use Rattle.object_laws.proofs.RelocLemmas.{things_below}
 use Rattle.stand_laws.proofs.GoodLemmas.{good_thing}
 use Rattle.stand_laws.proofs.ShownLemmas.{IsThere, thing_shown}
+use Rattle.stand_laws.proofs.StandLemmas.{shown_line_stands}
+use Rattle.stand_laws.proofs.ValueLemmas.{GapsShown}
 use Rattle.stand_laws.proofs.ViewLemmas.{shows_byte}
 use Rattle.asm_model.specs.Labels.{declared_names}
 
@@ -100,56 +105,55 @@ kept_there ss o area f values view veneers kept unmarked shows =
       },
     )
 
--- ---- the laws
+-- ---- the law
 
-pub things_are_shown : ThingsAreShown
-things_are_shown ss o faultless obj few_areas few_symbols own values area_at view region veneers placed shown area p x = by_kind f.kind
-  where
-    count : length (areas_behind (statements_of (laid ss))) ≤ length o.areas
-    count = let e = areas_are ss o obj in omega arith
+module _ (ss : List Statement) (o : Object) (faultless : IsFaultless ss) (obj : IsObject ss o) (few_areas : length o.areas < 2 ^ 24) (few_symbols : length o.symbols < 2 ^ 24)
+    (own : ℕ) (values : Values) (area_at : ℕ → ℕ → ℕ) (view : View) (region : ℕ → Range32) (veneers : ℕ → Veneers)
+    (placed : IsPlaced own o values area_at) (shown : ShowsObject view o values area_at region veneers) where
+  thing_there : (area : ℕ) (p : Piece) → StandsIn (source_of ss) area p → IsShown (source_of ss) values view (region area) (values.base area) p
+  thing_there area p x = by_kind f.kind
+    where
+      count : length (areas_behind (statements_of (laid ss))) ≤ length o.areas
+      count = let e = areas_are ss o obj in omega arith
 
-    there : OwnUnit ss area p ⊎ PoolWord ss area p → area < length o.areas
-    there (inl u) = area_there ss (length o.areas) area u.after u.before u.owner count u.parts u.own
-    there (inr w) = area_there ss (length o.areas) area w.after w.before w.loader count w.parts w.own
+      there : OwnUnit ss area p ⊎ PoolWord ss area p → area < length o.areas
+      there (inl u) = area_there ss (length o.areas) area u.after u.before u.owner count u.parts u.own
+      there (inr w) = let u = w.loads in area_there ss (length o.areas) area u.after u.before u.loader count u.parts u.own
 
-    f : AreaFound ss o area
-    f = area_found ss o faultless obj area (there (unit_or_word ss area p x))
+      f : AreaFound ss o area
+      f = area_found ss o faultless obj area (there (unit_or_word ss area p x))
 
-    by_kind : AreaKind (contents_of area (laid ss)) (bit f.found.attributes 12 == 1) → IsShown (source_of ss) values view (region area) (values.base area) p
-    by_kind (inl e) = absurd (zero_areas_hold_nothing ss faultless.laid_out area p e.0 x)
-    by_kind (inr e) =
-        let t = kept_there ss o area f values view (veneers area) e.0 e.1 (shown.areas area f.found f.there) in
-        thing_shown ss area f.found values view (veneers area) t.0 (facts_of ss o faultless obj few_areas few_symbols area) t.1 (region area) area_at
-        (shown.veneers_stand area) placed.homes p x
+      by_kind : AreaKind (contents_of area (laid ss)) (bit f.found.attributes 12 == 1) → IsShown (source_of ss) values view (region area) (values.base area) p
+      by_kind (inl e) = absurd (zero_areas_hold_nothing ss faultless.laid_out area p e.0 x)
+      by_kind (inr e) =
+          let t = kept_there ss o area f values view (veneers area) e.0 e.1 (shown.areas area f.found f.there) in
+          thing_shown ss area f.found values view (veneers area) t.0 (facts_of ss o faultless obj few_areas few_symbols area) t.1 (region area) area_at
+          (shown.veneers_stand area) placed.homes p x
 
-pub gaps_are_zero : GapsAreZero
-gaps_are_zero ss o faultless obj few_areas few_symbols own values area_at view region veneers placed shown area i below gap =
-    by_place (cases_lt area (length o.areas))
-  where
-    in_area : (f : AreaFound ss o area) → AreaKind (contents_of area (laid ss)) (bit f.found.attributes 12 == 1) → view (values.base area + i) ≡ Some 0
-    in_area f (inl e) =
-        let zeros = subst (λ (b : Bool). ShowsBy b view o area f.found values (veneers area)) e.1 (shown.areas area f.found f.there) in
-        zeros i (subst (λ n. i < n) (sym f.is.size) below)
-    in_area f (inr e) =
-        let t = kept_there ss o area f values view (veneers area) e.0 e.1 (shown.areas area f.found f.there) in
-        let out = outside_fields ss area f.found.relocs (facts_of ss o faultless obj few_areas few_symbols area) f.is.relocs i (λ q y r h. gap q y) in
-        let size = t.1.patched.size ∙ t.1.holds.size in
-        shows_byte view (values.base area) t.0 i t.1.shows (subst (λ n. i < n) (sym size) below)
-        ∙ ap Some (t.1.patched.others i out ∙ t.1.holds.others i gap)
+  gaps_there : (area : ℕ) → GapsShown (source_of ss) area view (values.base area)
+  gaps_there area i below gap = by_place (cases_lt area (length o.areas))
+    where
+      in_area : (f : AreaFound ss o area) → AreaKind (contents_of area (laid ss)) (bit f.found.attributes 12 == 1) → view (values.base area + i) ≡ Some 0
+      in_area f (inl e) =
+          let zeros = subst (λ (b : Bool). ShowsBy b view o area f.found values (veneers area)) e.1 (shown.areas area f.found f.there) in
+          zeros i (subst (λ n. i < n) (sym f.is.size) below)
+      in_area f (inr e) =
+          let t = kept_there ss o area f values view (veneers area) e.0 e.1 (shown.areas area f.found f.there) in
+          let out = outside_fields ss area f.found.relocs (facts_of ss o faultless obj few_areas few_symbols area) f.is.relocs i (λ q y r h. gap q y) in
+          let size = t.1.patched.size ∙ t.1.holds.size in
+          shows_byte view (values.base area) t.0 i t.1.shows (subst (λ n. i < n) (sym size) below)
+          ∙ ap Some (t.1.patched.others i out ∙ t.1.holds.others i gap)
 
-    by_place : (area < length o.areas) ⊎ (length o.areas ≤ area) → view (values.base area + i) ≡ Some 0
-    by_place (inl h) = let f = area_found ss o faultless obj area h in in_area f f.kind
-    by_place (inr h) =
-        let e = areas_are ss o obj in
-        let none = no_size ss area (omega arith) in absurd (omega arith)
+      by_place : (area < length o.areas) ⊎ (length o.areas ≤ area) → view (values.base area + i) ≡ Some 0
+      by_place (inl h) = let f = area_found ss o faultless obj area h in in_area f f.kind
+      by_place (inr h) =
+          let e = areas_are ss o obj in
+          let none = no_size ss area (omega arith) in absurd (omega arith)
 
--- ---- statements
-
-pub objects_stand : ShownLinesStand → ObjectsStand
-objects_stand lines_stand ss o faultless obj few_areas few_symbols own values area_at view region veneers placed shown = record {
-  lines = λ l at area here.
-      lines_stand ss o faultless obj few_symbols own values area_at view (region area) placed l at area here
-      (things_are_shown ss o faultless obj few_areas few_symbols own values area_at view region veneers placed shown area)
-      (λ i below gap. gaps_are_zero ss o faultless obj few_areas few_symbols own values area_at view region veneers placed shown area i below gap);
-  gaps = λ area i below gap. gaps_are_zero ss o faultless obj few_areas few_symbols own values area_at view region veneers placed shown area i below gap;
-}
+  pub object_stands : AllStand (source_of ss) values view region
+  object_stands = record {
+    lines = λ l at area here.
+        shown_line_stands ss o faultless obj own values area_at placed view (region area) area at.rest at.before l at.parts here
+        (thing_there area) (gaps_there area);
+    gaps = gaps_there;
+  }

@@ -4,7 +4,6 @@ use Rattle.std.specs.Prelude.{Result, Ok, Err}
 use Rattle.sdt_fault.specs.declared.kinds.LineKind.{LineKind}
 use Rattle.sdt_fault.specs.declared.kinds.LineKind.TheVariants.{BadOperand}
 use Rattle.sdt_word.specs.Numbers.{sign_extended}
-use Rattle.sdt_word.specs.declared.codes.Condition.{Condition}
 use Rattle.thumb_isa.specs.declared.instr.HighOperation.TheVariants as high
 use Rattle.thumb_isa.specs.declared.instr.ThumbInstr.{ThumbInstr}
 use Rattle.thumb_isa.specs.declared.instr.ThumbInstr.TheVariants as instr
@@ -92,95 +91,36 @@ settled_of k area at ready e (Ok (Truth b)) d v h = absurd (cc)
 settled_of k area at ready e (Ok (Words b)) d v h = absurd (cc)
 settled_of k area at ready e (Err j) d v h = absurd (cc)
 
--- the field of a branch that is settled, and where it leads
-record Short (k : Setting) (a limit size : ℕ) (e : Expr) (r : Result ℕ LineKind) : Type 0 where
-  field : ℕ
-  is : r ≡ Ok field
-  target : ℕ
-  means : IsNumber (scene k) e target
-  leads : (a + 4 + sign_extended field size * 2) % 2 ^ 32 ≡ target % 2 ^ 32
-
-short_by : (k : Setting) (area at a : ℕ) → Ready k area at → a ≡ k.base + at → (limit size : ℕ) → IsWidth limit size → (e : Expr) (f : ℕ)
-    → branch_by k.context limit e ≡ Ok f → Short k a limit size e (branch_by k.context limit e)
-short_by k area at a ready x limit size width e f h =
-    let t = then_ok (half_words limit) (thumb_displacement false k.context (value_of k.context e)) f h in
-    let s = settled_of k area at ready e (value_of k.context e) t.from refl t.is in
-    let held : HoldsHalves size t.from f = halves_held limit size t.from f width (behind_small at s.offset t.from s.displaced) t.gives in
-    record {
-      field = f;
-      is = h;
-      target = s.target;
-      means = s.means;
-      leads = held.spans (a + 4) ∙ behind_leads k.base at s.offset a t.from s.target ready.small x s.displaced s.leads;
-    }
-
-short_stands : (k : Setting) (area at a : ℕ) → Ready k area at → a ≡ k.base + at → (e : Expr) (code : ThumbCode)
-    → thumb_instruction k.context (thumb.Branch e) ≡ Ok code → Shown k (at, code_unit None code) → ShortBranchStands (scene k) a instr.Branch e
-short_stands k area at a ready x e code h s =
-    let f : ℕ → ThumbInstr = λ f. instr.Branch f in
-    let o = mapped_ok (λ i. One i) (mapped f (branch_by k.context (2 ^ 11) e)) code h in
-    let m = mapped_ok f (branch_by k.context (2 ^ 11) e) o.from o.is in
-    let b = short_by k area at a ready x (2 ^ 11) 11 short_width e m.from m.is in
-    let same : m.from ≡ b.field = cc in
-    let reads : ReadsHalfAt k.view a (instr.Branch m.from) =
-    code_shown k at a (One (instr.Branch m.from)) x (subst (λ z. Shown k (at, code_unit None z)) (sym (ap (λ i. One i) m.gives ∙ o.gives)) s) in
-    let leads = subst (λ z. (a + 4 + sign_extended z 11 * 2) % 2 ^ 32 ≡ b.target % 2 ^ 32) (sym same) b.leads in
+-- a branch whose field holds so many half-words
+short_stands : (k : Setting) (area at a : ℕ) → Ready k area at → a ≡ k.base + at → (limit size : ℕ) → IsWidth limit size → (make : ℕ → ThumbInstr)
+    → ((f target : ℕ) → ReadsHalfAt k.view a (make f) → (a + 4 + sign_extended f size * 2) % 2 ^ 32 ≡ target % 2 ^ 32 → Reaches k.view k.region true a target true)
+    → (e : Expr) (code : ThumbCode) → mapped (λ i. One i) (mapped make (branch_by k.context limit e)) ≡ Ok code → Shown k (at, code_unit None code)
+    → ShortBranchStands (scene k) a make e
+short_stands k area at a ready x limit size width make reaches e code h s =
+    let o = mapped_ok (λ i. One i) (mapped make (branch_by k.context limit e)) code h in
+    let m = mapped_ok make (branch_by k.context limit e) o.from o.is in
+    let t = then_ok (half_words limit) (thumb_displacement false k.context (value_of k.context e)) m.from m.is in
+    let d = settled_of k area at ready e (value_of k.context e) t.from refl t.is in
+    let held : HoldsHalves size t.from m.from = halves_held limit size t.from m.from width (behind_small at d.offset t.from d.displaced) t.gives in
+    let reads : ReadsHalfAt k.view a (make m.from) =
+    code_shown k at a (One (make m.from)) x (subst (λ z. Shown k (at, code_unit None z)) (sym (ap (λ i. One i) m.gives ∙ o.gives)) s) in
     record {
       field = m.from;
       reads = reads;
-      target = b.target;
-      means = b.means;
-      reaches = inl (inr (inl (record { field = m.from; half = reads.half; shows = reads.shows; reads = reads.reads; leads = leads })), refl);
-    }
-
-conditional_stands : (k : Setting) (area at a : ℕ) → Ready k area at → a ≡ k.base + at → (condition : Condition) (e : Expr) (code : ThumbCode)
-    → thumb_instruction k.context (thumb.BranchConditional condition e) ≡ Ok code → Shown k (at, code_unit None code)
-    → ShortBranchStands (scene k) a (instr.BranchConditional condition) e
-conditional_stands k area at a ready x condition e code h s =
-    let f : ℕ → ThumbInstr = λ f. instr.BranchConditional condition f in
-    let o = mapped_ok (λ i. One i) (mapped f (branch_by k.context (2 ^ 8) e)) code h in
-    let m = mapped_ok f (branch_by k.context (2 ^ 8) e) o.from o.is in
-    let b = short_by k area at a ready x (2 ^ 8) 8 conditional_width e m.from m.is in
-    let same : m.from ≡ b.field = cc in
-    let reads : ReadsHalfAt k.view a (instr.BranchConditional condition m.from) =
-    code_shown k at a (One (instr.BranchConditional condition m.from)) x
-    (subst (λ z. Shown k (at, code_unit None z)) (sym (ap (λ i. One i) m.gives ∙ o.gives)) s) in
-    let leads = subst (λ z. (a + 4 + sign_extended z 8 * 2) % 2 ^ 32 ≡ b.target % 2 ^ 32) (sym same) b.leads in
-    record {
-      field = m.from;
-      reads = reads;
-      target = b.target;
-      means = b.means;
-      reaches = inl (
-        inr (inr (record { condition = condition; field = m.from; half = reads.half; shows = reads.shows; reads = reads.reads; leads = leads })),
-        refl,
-      );
+      target = d.target;
+      means = d.means;
+      reaches = reaches m.from d.target reads (held.spans (a + 4) ∙ behind_leads k.base at d.offset a t.from d.target ready.small x d.displaced d.leads);
     }
 
 -- ---- BL
 
--- a pair that reaches the value of its operand in a state
-record Links (k : Setting) (a : ℕ) (e : Expr) (state : Bool) : Type 0 where
-  first : ℕ
-  second : ℕ
-  reads : CodeReadsAt k.view a (Pair first second)
-  target : ℕ
-  means : IsNumber (scene k) e target
-  reaches : Reaches k.view k.region true a target state
-
-link_made : (k : Setting) (a : ℕ) (e : Expr) (state : Bool) → state ≡ target_state true (scene k) (value_of k.context e) → Links k a e state → LinkStands (scene k) a e
-link_made k a e state x b = record {
-  first = b.first;
-  second = b.second;
-  reads = b.reads;
-  target = b.target;
-  means = b.means;
-  reaches = subst (λ z. Reaches k.view k.region true a b.target z) x b.reaches;
-}
+-- the state in which BL reaches its target
+abbrev state_for : Setting → Expr → Bool
+state_for k e = target_state true (scene k) (value_of k.context e)
 
 link_settled : (k : Setting) (area at a : ℕ) → Ready k area at → a ≡ k.base + at → (e : Expr) (d f : ℕ) → half_words (2 ^ 22) d ≡ Ok f → Settled k at e d
-    → CodeReadsAt k.view a (pair_fields f) → Links k a e true
-link_settled k area at a ready x e d f field s reads =
+    → CodeReadsAt k.view a (pair_fields f) → state_for k e ≡ true → LinkStands (scene k) a e
+link_settled k area at a ready x e d f field s reads state =
     let held : HoldsHalves 22 d f = halves_held (2 ^ 22) 22 d f link_width (behind_small at s.offset d s.displaced) field in
     let leads = held.spans (a + 4) ∙ behind_leads k.base at s.offset a d s.target ready.small x s.displaced s.leads in
     record {
@@ -189,27 +129,29 @@ link_settled k area at a ready x e d f field s reads =
       reads = reads;
       target = s.target;
       means = s.means;
-      reaches = inl (
-        inl (record {
-          first = f / 2 ^ 11;
-          second = f % 2 ^ 11;
-          high_half = reads.0.half;
-          low_half = reads.1.half;
-          shows_high = reads.0.shows;
-          shows_low = reads.1.shows;
-          reads_high = reads.0.reads;
-          reads_low = reads.1.reads;
-          leads = subst (λ z. (a + 4 + sign_extended z 22 * 2) % 2 ^ 32 ≡ s.target % 2 ^ 32) (sym (link_field f)) leads;
-        }),
-        refl,
-      );
+      reaches = subst (λ z. Reaches k.view k.region true a s.target z) (sym state)
+          (inl (
+            inl (record {
+              first = f / 2 ^ 11;
+              second = f % 2 ^ 11;
+              high_half = reads.0.half;
+              low_half = reads.1.half;
+              shows_high = reads.0.shows;
+              shows_low = reads.1.shows;
+              reads_high = reads.0.reads;
+              reads_low = reads.1.reads;
+              leads = subst (λ z. (a + 4 + sign_extended z 22 * 2) % 2 ^ 32 ≡ s.target % 2 ^ 32) (sym (link_field f)) leads;
+            }),
+            refl,
+          ));
     }
 
 link_to : (k : Setting) (area at a : ℕ) → Ready k area at → a ≡ k.base + at → (e : Expr) (y : ℕ) (ys : List ℕ) (n d f : ℕ)
     → value_of k.context e ≡ Ok (Place (y ∷ ys) n) → d ≡ thumb_from k.context (y ∷ ys) n → half_words (2 ^ 22) d ≡ Ok f
     → Shown k (at, code_unit (linked_symbol k.context (Ok (Place (y ∷ ys) n))) (pair_fields f)) → SymbolMeets k (Ok (Place (y ∷ ys) n))
-    → Links k a e (target_state true (scene k) (Ok (Place (y ∷ ys) n)))
-link_to k area at a ready x e y ys n d f v h field s meets = by_test (is_settled k.context (y ∷ ys)) refl h s (meets y ys)
+    → LinkStands (scene k) a e
+link_to k area at a ready x e y ys n d f v h field s meets =
+    by_test (is_settled k.context (y ∷ ys)) refl h s (meets y ys) (ap (target_state true (scene k)) v)
   where
     q : List ℕ
     q = y ∷ ys
@@ -218,8 +160,9 @@ link_to k area at a ready x e y ys n d f v h field s meets = by_test (is_settled
     m = meant_by k.source k.values q
 
     left : d ≡ behind k.context.line.offset n → Shown k (at, LinkPair (f / 2 ^ 11) (f % 2 ^ 11) (Some q))
-        → address_of (scene k).placing (sees k.context) q % 2 ^ 32 ≡ m.number % 2 ^ 32 → Links k a e (state_of true m m.home)
-    left g b meet =
+        → address_of (scene k).placing (sees k.context) q % 2 ^ 32 ≡ m.number % 2 ^ 32
+        → state_for k e ≡ state_of true m m.home → LinkStands (scene k) a e
+    left g b meet state =
         let l : LinkedPair k.view k.region (k.base + at) at (f / 2 ^ 11) (f % 2 ^ 11) m = b in
         let address : ℕ = address_of (scene k).placing (sees k.context) q in
         let there : d ≡ behind at n = g ∙ ap (λ z. behind z n) ready.starts in
@@ -232,23 +175,26 @@ link_to k area at a ready x e y ys n d f v h field s meets = by_test (is_settled
           reads = subst (λ z. CodeReadsAt k.view z (Pair l.high l.low)) (sym x) l.reads;
           target = (address + n) % 2 ^ 32;
           means = value_stands (scene k) e (Place q n) ready.here v;
-          reaches = subst (λ z. Reaches k.view k.region true z ((address + n) % 2 ^ 32) (state_of true m m.home)) (sym x)
-              (subst (λ z. Reaches k.view k.region true (k.base + at) z (state_of true m m.home)) whole l.reaches);
+          reaches = subst (λ z. Reaches k.view k.region true z ((address + n) % 2 ^ 32) (state_for k e)) (sym x)
+              (subst (λ z. Reaches k.view k.region true (k.base + at) ((address + n) % 2 ^ 32) z) (sym state)
+              (subst (λ z. Reaches k.view k.region true (k.base + at) z (state_of true m m.home)) whole l.reaches));
         }
 
     by_test : (t : Bool) → is_settled k.context q ≡ t
         → d ≡ behind k.context.line.offset (cond t (offset_at (stands_at (sees k.context) q) + n) n)
         → Shown k (at, code_unit (cond t None (Some q)) (pair_fields f))
         → (cond t None (Some q) ≡ Some q → address_of (scene k).placing (sees k.context) q % 2 ^ 32 ≡ m.number % 2 ^ 32)
-        → Links k a e (cond t true (state_of true m m.home))
-    by_test true t g b meet = link_settled k area at a ready x e d f field (settled_there k area at ready e y ys n d v t h) (code_shown k at a (pair_fields f) x b)
-    by_test false t g b meet = left g b (meet refl)
+        → state_for k e ≡ cond t true (state_of true m m.home) → LinkStands (scene k) a e
+    by_test true t g b meet state =
+        link_settled k area at a ready x e d f field (settled_there k area at ready e y ys n d v t h) (code_shown k at a (pair_fields f) x b) state
+    by_test false t g b meet state = left g b (meet refl) state
 
 link_of : (k : Setting) (area at a : ℕ) → Ready k area at → a ≡ k.base + at → (e : Expr) (r : Result Value LineKind) (d f : ℕ)
     → value_of k.context e ≡ r → thumb_displacement true k.context r ≡ Ok d → half_words (2 ^ 22) d ≡ Ok f
-    → Shown k (at, code_unit (linked_symbol k.context r) (pair_fields f)) → SymbolMeets k r → Links k a e (target_state true (scene k) r)
+    → Shown k (at, code_unit (linked_symbol k.context r) (pair_fields f)) → SymbolMeets k r → LinkStands (scene k) a e
 link_of k area at a ready x e (Ok (Place [] n)) d f v h field s meets =
     link_settled k area at a ready x e d f field (settled_start k area at ready e n d v (displaced true (thumb_from k.context [] n) d h)) (code_shown k at a (pair_fields f) x s)
+    (ap (target_state true (scene k)) v)
 link_of k area at a ready x e (Ok (Place (y ∷ ys) n)) d f v h field s meets =
     link_to k area at a ready x e y ys n d f v (displaced (has_symbol k.context (y ∷ ys)) (thumb_from k.context (y ∷ ys) n) d h) field s meets
 link_of k area at a ready x e (Ok (Number n)) d f v h field s meets = absurd (cc)
@@ -262,9 +208,8 @@ link_stands : (k : Setting) (area at a : ℕ) → Ready k area at → a ≡ k.ba
 link_stands k area at a ready x e code h s meets =
     let m = mapped_ok pair_fields (and_then (thumb_displacement true k.context (value_of k.context e)) (half_words (2 ^ 22))) code h in
     let t = then_ok (half_words (2 ^ 22)) (thumb_displacement true k.context (value_of k.context e)) m.from m.is in
-    link_made k a e (target_state true (scene k) (value_of k.context e)) refl
-    (link_of k area at a ready x e (value_of k.context e) t.from m.from refl t.is t.gives
-    (subst (λ z. Shown k (at, code_unit (linked_symbol k.context (value_of k.context e)) z)) (sym m.gives) s) meets)
+    link_of k area at a ready x e (value_of k.context e) t.from m.from refl t.is t.gives
+    (subst (λ z. Shown k (at, code_unit (linked_symbol k.context (value_of k.context e)) z)) (sym m.gives) s) meets
 
 -- ---- words counted behind pc
 
@@ -332,8 +277,13 @@ literal_stands k area at a ready x rd e code h s =
 pub thumb_stands : (k : Setting) (area at a : ℕ) → Ready k area at → a ≡ k.base + at → (l : ThumbLine) (i : ThumbCode) → thumb_instruction k.context l ≡ Ok i
     → Shown k (at, code_unit (link_symbol k.context l) i) → LinkMeets k l → ThumbStands (scene k) a l
 thumb_stands k area at a ready x (thumb.LoadLiteral rd (literal.Label e)) i h s meets = literal_stands k area at a ready x rd e i h s
-thumb_stands k area at a ready x (thumb.BranchConditional condition e) i h s meets = conditional_stands k area at a ready x condition e i h s
-thumb_stands k area at a ready x (thumb.Branch e) i h s meets = short_stands k area at a ready x e i h s
+thumb_stands k area at a ready x (thumb.BranchConditional condition e) i h s meets =
+    short_stands k area at a ready x (2 ^ 8) 8 conditional_width (λ f. instr.BranchConditional condition f)
+    (λ f target r leads. (
+    inl (inr (inr (record { condition = condition; field = f; half = r.half; shows = r.shows; reads = r.reads; leads = leads })), refl))) e i h s
+thumb_stands k area at a ready x (thumb.Branch e) i h s meets =
+    short_stands k area at a ready x (2 ^ 11) 11 short_width (λ f. instr.Branch f)
+    (λ f target r leads. (inl (inr (inl (record { field = f; half = r.half; shows = r.shows; reads = r.reads; leads = leads })), refl))) e i h s
 thumb_stands k area at a ready x (thumb.BranchLink e) i h s meets = link_stands k area at a ready x e i h s meets
 thumb_stands k area at a ready x l i h s meets = plain_thumb k at a x l i h s
 

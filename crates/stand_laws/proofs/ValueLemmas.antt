@@ -1,5 +1,5 @@
 -- Values of expressions where each name has its address.
-use Rattle.std.proofs.Common.{◌≡◌, ℕ, List, refl, sym, ◌∙◌, Option, Some, None}
+use Rattle.std.proofs.Common.{◌≡◌, ℕ, ◌+◌, ◌<◌, List, refl, sym, ◌∙◌, Option, Some, None}
 use Rattle.std.specs.Prelude.{Result, Ok, Err}
 use Rattle.sdt_fault.specs.declared.kinds.LineKind.{LineKind}
 use Rattle.sdt_word.specs.declared.ranges.Range32.{Range32}
@@ -9,8 +9,9 @@ use Rattle.asm_model.specs.declared.values.Value.{Value}
 use Rattle.asm_model.specs.declared.values.Value.TheVariants.{Number, Truth, Words, Place}
 use Rattle.asm_model.specs.Grammar.{Tree}
 use Rattle.asm_model.specs.Extents.{as_number}
-use Rattle.asm_model.specs.Laid.{LaidLine}
+use Rattle.asm_model.specs.Laid.{LaidLine, pieces_of}
 use Rattle.asm_model.specs.Marks.{datum_names}
+use Rattle.asm_model.specs.Offsets.{area_size}
 use Rattle.asm_model.specs.Placing.{placed_value, HaveSymbols}
 use Rattle.asm_model.specs.Trees.{tree_of}
 use Rattle.asm_model.proofs.PlacingLemmas.{placing_law}
@@ -18,10 +19,10 @@ use Rattle.layout_laws.proofs.FoundLemmas.{tree_final, final_tree}
 use Rattle.patch_model.specs.Fields.{Values}
 use Rattle.patch_model.specs.Reaches.{View}
 use Rattle.source_model.specs.Contexts.{Context, sees, value_of, number_in}
-use Rattle.source_model.specs.Objects.{Piece, Source, source_of, symbol_number, IsAmong}
+use Rattle.source_model.specs.Objects.{Piece, Source, source_of, symbol_number, IsAmong, StandsIn}
 use Rattle.source_laws.specs.Laws.{context_behind}
 use Rattle.stand_model.specs.Shown.{IsShown}
-use Rattle.stand_model.specs.Stands.{Scene, value_placed, IsNumber, placing_of}
+use Rattle.stand_model.specs.Stands.{Scene, value_placed, IsNumber, IsGap, placing_of}
 
 -- a source that is placed, with the base of an area and what a line of it sees
 pub record Setting : Type 0 where
@@ -57,6 +58,14 @@ Shown k p = IsShown k.source k.values k.view k.region k.base p
 
 abbrev pub AllShown : Setting → List Piece → Type 0
 AllShown k ps = (p : Piece) → IsAmong p ps → Shown k p
+
+-- all that stands in an area
+abbrev pub ThingsShown : Setting → ℕ → Type 0
+ThingsShown k area = (p : Piece) → StandsIn k.source area p → Shown k p
+
+-- and zeros where nothing stands
+abbrev pub GapsShown : Source → ℕ → View → ℕ → Type 0
+GapsShown s area view base = (i : ℕ) → i < area_size area (pieces_of s.lines) → IsGap s area i → view (base + i) ≡ Some 0
 
 pub value_stands : (s : Scene) (e : Expr) (v : Value) → HaveSymbols (sees s.context) → value_of s.context e ≡ Ok v
     → value_placed s e ≡ Ok (placed_value s.placing (sees s.context) v)

@@ -1,7 +1,8 @@
 -- The word of a line's literal holds the value of its expression.
-use Rattle.std.proofs.Common.{◌≡◌, ℕ, ◌+◌, ◌%◌, ◌^◌, List, [], ◌∷◌, ◌++◌, Bool, true, false, cond, refl, sym, ◌∙◌, ap, subst, arith, Option, Some, None, inl}
+use Rattle.std.proofs.Common.{◌≡◌, ℕ, ◌+◌, ◌%◌, ◌^◌, List, [], ◌∷◌, ◌++◌, Bool, true, false, cond, refl, sym, ◌∙◌, ap, subst, arith, Option, Some, None}
 use Rattle.std.specs.Prelude.{Result, Ok, Err}
 use Rattle.sdt_fault.specs.declared.kinds.LineKind.{LineKind}
+use Rattle.sdt_fault.specs.declared.kinds.LineKind.TheVariants.{UnknownWord}
 use Rattle.sdt_word.specs.declared.codes.Condition.{Condition}
 use Rattle.sdt_word.specs.declared.ranges.Range32.{Range32}
 use Rattle.asm_model.specs.declared.exprs.BinaryOp.TheVariants.{Add}
@@ -17,11 +18,10 @@ use Rattle.asm_model.specs.declared.values.Value.TheVariants.{Number, Truth, Wor
 use Rattle.asm_model.specs.AtLine.{with_names, kept_names, literal_or}
 use Rattle.asm_model.specs.Grammar.{Tree}
 use Rattle.asm_model.specs.Meaning.{named_in, entry_stands_at, stands_at, binary, value_of as entry_value, on_both, meaning}
-use Rattle.asm_model.specs.Extents.{Extent, Block, Padding, Loading, Pool, is_moved, loading, tree_literal, literal_there, extent_of}
+use Rattle.asm_model.specs.Extents.{Extent, Block, Loading, is_moved, loading, tree_literal, literal_there, extent_of}
 use Rattle.asm_model.specs.Laid.{LaidLine, taken, pieces_of, laid_behind, laid_of, laid, final_names}
-use Rattle.asm_model.specs.LayoutKinds.{fault_kinds}
 use Rattle.asm_model.specs.Marks.{datum_names}
-use Rattle.asm_model.specs.Offsets.{Piece as LaidPiece}
+use Rattle.asm_model.specs.Offsets.{Piece as LaidPiece, literal_word}
 use Rattle.asm_model.specs.Placing.{HaveSymbols}
 use Rattle.asm_model.specs.Symbols.{literal_value}
 use Rattle.asm_model.specs.Trees.{tree_of}
@@ -29,24 +29,23 @@ use Rattle.asm_model.specs.Sound.{IsSound, HaveNoPlaces, ArePlain}
 use Rattle.layout_laws.proofs.FinalLemmas.{AllKnownFinally, known_there, source_known}
 use Rattle.layout_laws.proofs.FoundLemmas.{final_tree}
 use Rattle.layout_laws.proofs.RoundLemmas.{ResultIs}
-use Rattle.layout_laws.proofs.SoundLemmas.{both_empty}
-use Rattle.object_laws.proofs.FaultLemmas.{sizes_of, valued_here, known_result}
+use Rattle.object_laws.proofs.FaultLemmas.{literal_known}
 use Rattle.object_laws.proofs.OriginLemmas.{IsOwn, tree_to, names_own, anything, any_tree}
 use Rattle.patch_model.specs.Fields.{Values}
 use Rattle.patch_model.specs.Reaches.{View, ShowsWord}
 use Rattle.said_model.specs.Said.{AllSaid, LoadsPlain}
 use Rattle.source_model.specs.Contexts.{Context, sees, value_of}
-use Rattle.source_model.specs.Objects.{Piece, in_order, source_of, units_from, IsAmong, StandsIn, literal_unit, literal_piece}
-use Rattle.source_model.specs.SourceFaults.{value_faults, word_of}
-use Rattle.source_model.specs.Units.{Word, Stored, Nothing, placed, stored, units}
-use Rattle.source_model.specs.ValueKinds.{statement_kinds, literal_kinds as value_literal_kinds}
+use Rattle.source_model.specs.Objects.{in_order, source_of, StandsIn}
+use Rattle.source_model.specs.SourceFaults.{word_of}
+use Rattle.source_model.specs.Units.{Word, Stored, Nothing, placed, stored}
 use Rattle.source_laws.specs.Laws.{context_behind, word_among}
 use Rattle.layout_laws.proofs.SettledLemmas.{no_place_holds}
 use Rattle.layout_laws.proofs.TreeLemmas.{ItemsEach, TreeEach, tree_each}
 use Rattle.source_laws.proofs.FaultlessLemmas.{layout_sound}
 use Rattle.source_laws.proofs.ListLemmas.{same_first, same_rest}
-use Rattle.source_laws.proofs.ListedLemmas.{among_last, line_thing}
-use Rattle.source_laws.proofs.ThingLemmas.{own_units, own_words, known_extent}
+use Rattle.source_laws.proofs.AgreeLemmas.{literal_stored_there}
+use Rattle.source_laws.proofs.PoolLemmas.{Loads as LineLoads, literal_stands}
+use Rattle.source_laws.proofs.ThingLemmas.{known_extent}
 use Rattle.stand_model.specs.Stands.{WordStands}
 use Rattle.said_model.specs.Named.{AllItemsNamed, LoadNamed, AllLoadsNamed}
 use Rattle.stand_laws.specs.Laws.{IsFaultless}
@@ -56,7 +55,7 @@ use Rattle.stand_laws.proofs.LiteralLemmas.{Same32, Plus, Later, Loads, stands_f
 use Rattle.stand_laws.proofs.SymbolLemmas.{stands_own}
 use Rattle.stand_laws.proofs.PseudoLemmas.{LiteralHolds}
 use Rattle.stand_laws.proofs.ResultLemmas.{mapped_ok}
-use Rattle.stand_laws.proofs.ValueLemmas.{Setting, scene, Shown, setting}
+use Rattle.stand_laws.proofs.ValueLemmas.{Setting, scene, ThingsShown, setting}
 use Rattle.asm_model.specs.Labels.{declared_names}
 use Rattle.asm_model.specs.declared.names.LaidName.{LaidName}
 use Rattle.said_model.proofs.SharedLemmas.{are_plain}
@@ -100,13 +99,13 @@ sum_stored k n (Ok (Truth b)) r st plus h = absurd (cc)
 sum_stored k n (Ok (Words w)) r st plus h = absurd (cc)
 sum_stored k n (Err j) r st plus h = absurd (cc)
 
-pub literal_stored : (k : Setting) (v : Value) (r : Result Value LineKind) (st : Stored) → Loads (sees k.context) v r
+word_same : (k : Setting) (v : Value) (r : Result Value LineKind) (st : Stored) → Loads (sees k.context) v r
     → stored k.context (datum_names k.source.statements) (literal_value (sees k.context) v) ≡ Ok st → StoresSame k r st
-literal_stored k (Number n) r st h e = (st, ap (stored k.context (datum_names k.source.statements)) h ∙ e, refl)
-literal_stored k (Place [] n) r st h e = (st, ap (stored k.context (datum_names k.source.statements)) h ∙ e, refl)
-literal_stored k (Place (c ∷ cs) n) r st h e = sum_stored k n (entry_value (named_in (c ∷ cs) (sees k.context).list)) r st h e
-literal_stored k (Truth b) r st h e = absurd (cc)
-literal_stored k (Words w) r st h e = absurd (cc)
+word_same k (Number n) r st h e = (st, ap (stored k.context (datum_names k.source.statements)) h ∙ e, refl)
+word_same k (Place [] n) r st h e = (st, ap (stored k.context (datum_names k.source.statements)) h ∙ e, refl)
+word_same k (Place (c ∷ cs) n) r st h e = sum_stored k n (entry_value (named_in (c ∷ cs) (sees k.context).list)) r st h e
+word_same k (Truth b) r st h e = absurd (cc)
+word_same k (Words w) r st h e = absurd (cc)
 
 -- ---- the literal of a line
 
@@ -118,6 +117,7 @@ loads_by s final Own later t each own (Ok (Number n)) y h g v e =
 loads_by s final Own later t each own x (Ok (Place q n)) h g v e =
     let same : Place q n ≡ v = cc in
     subst (λ z. Loads final z (meaning final t)) same (kept_loads s final Own later t (Place q n) each g)
+loads_by s final Own later t each own x (Err UnknownWord) h g v e = absurd (cc)
 loads_by s final Own later t each own x y h g v e = absurd (cc)
 
 pub loading_is : (thumb : Bool) (u v : Value) (n : ℕ) → loading thumb u ≡ Loading n v → u ≡ v
@@ -127,12 +127,7 @@ loading_is false (Number m) v n h = by_test (is_moved m) h
     by_test : (b : Bool) → cond b (Block 4 4) (Loading 4 (Number m)) ≡ Loading n v → Number m ≡ v
     by_test true e = absurd (cc)
     by_test false e = cc
-loading_is true (Place q m) v n h = cc
-loading_is false (Place q m) v n h = cc
-loading_is true (Truth b) v n h = cc
-loading_is false (Truth b) v n h = cc
-loading_is true (Words w) v n h = cc
-loading_is false (Words w) v n h = cc
+loading_is thumb u v n h = cc
 
 -- ---- statements of lines
 
@@ -208,24 +203,10 @@ line_loads ss sound said named after before l split condition rd e w n v x =
         (meaning l.seen t) (meaning l.seen (kept_names l.seen t)) refl refl v y)
 
 -- a line with a word loads a literal
-pub word_loads : (area : Option ℕ) (x : Extent) (before rest : List LaidPiece) (w : ℕ) → word_of area x before rest ≡ Some w
-    → (n : ℕ) × (v : Value) × (x ≡ Loading n v)
-word_loads None x before rest w h = absurd (cc)
-word_loads (Some a) (Loading n v) before rest w h = (n, v, refl)
-word_loads (Some a) (Block m n) before rest w h = absurd (cc)
-word_loads (Some a) (Padding m n) before rest w h = absurd (cc)
-word_loads (Some a) Pool before rest w h = absurd (cc)
-
-pub line_stored : (ss : List Statement) → value_faults ss ≡ None → (after before : List LaidLine) (l : LaidLine) → laid ss ≡ after ++ l ∷ before
-    → (n : ℕ) (v : Value) → taken l.extent ≡ Loading n v
-    → (st : Stored) × (stored (context_behind ss l before) (datum_names ss) (literal_value (sees (context_behind ss l before)) v) ≡ Ok st)
-line_stored ss none after before l e n v x =
-    let c = context_behind ss l before in
-    let a = fault_kinds (units c (datum_names ss) l.seen (word_among after l before) l.statement.what) in
-    let b = value_literal_kinds c (datum_names ss) (taken l.extent) in
-    let p = both_empty (a ++ b) (statement_kinds c (sizes_of ss) l.statement.what) (valued_here ss none after before l e) in
-    let q = both_empty a b p.0 in
-    known_result (stored c (datum_names ss) (literal_value (sees c) v)) (subst (λ z. value_literal_kinds c (datum_names ss) z ≡ []) x q.1)
+pub word_loads : (area : ℕ) (x : Extent) (before rest : List LaidPiece) (w : ℕ) → word_of (Some area) x before rest ≡ Some w
+    → (n : ℕ) × (v : Value) × (x ≡ Loading n v) × (literal_word area before rest v ≡ w)
+word_loads area (Loading n v) before rest w h = (n, v, refl, cc)
+word_loads area x before rest w h = absurd (cc)
 
 pub word_holds : (k : Setting) (a : ℕ) (e : Expr) (st : Stored) → HaveSymbols (sees k.context) → StoresSame k (value_of k.context e) st
     → ShowsWord k.view a (total_of k st) → WordStands (scene k) a e
@@ -234,24 +215,21 @@ word_holds k a e st here s h = word_stands k a e (value_of k.context e) s.0 here
 -- the word of a line's literal, where memory shows what stands in the area
 pub literal_holds : (ss : List Statement) → IsFaultless ss → (values : Values) (view : View) (region : Range32) (area : ℕ) (after before : List LaidLine) (l : LaidLine)
     → laid ss ≡ after ++ l ∷ before → l.area ≡ Some area → HaveSymbols (sees (context_behind ss l before))
-    → ((p : Piece) → StandsIn (source_of ss) area p → Shown (setting ss values view region area l before) p)
+    → ThingsShown (setting ss values view region area l before) area
     → (condition : Condition) (rd : Register) (x : Expr) → l.statement.what ≡ what.Pseudo (pseudo.LoadConstant condition rd x)
     → (word : Option ℕ) → word_among after l before ≡ word → LiteralHolds (setting ss values view region area l before) x word
 literal_holds ss fine values view region area after before l e own here shown condition rd x w None h = tt
 literal_holds ss fine values view region area after before l e own here shown condition rd x w (Some place) h =
     let k = setting ss values view region area l before in
     let c = context_behind ss l before in
-    let q = word_loads l.area (taken l.extent) (pieces_of (l ∷ before)) (pieces_of (in_order after [])) place h in
-    let st = line_stored ss fine.valued after before l e q.0 q.1 q.2 in
-    let Among : List Piece → Type 0 = λ ps. IsAmong (place, Word st.0) ps in
-    let unit : Among (literal_unit (word_among after l before) (stored c (datum_names ss) (literal_value (sees c) q.1))) =
-    subst (λ z. Among (literal_unit z (stored c (datum_names ss) (literal_value (sees c) q.1)))) (sym h)
-    (subst (λ z. Among (literal_unit (Some place) z)) (sym st.1) (inl refl)) in
-    let piece : Among (own_words ss after l before) =
-    subst (λ z. Among (literal_piece c (datum_names ss) z (word_among after l before))) (sym q.2) unit in
+    let all = pieces_of (l ∷ before) in
+    let rest = pieces_of (in_order after []) in
+    let q = word_loads area (taken l.extent) all rest place (ap (λ z. word_of z (taken l.extent) all rest) (sym own) ∙ h) in
+    let loads : LineLoads area (laid ss) q.1 = record { loader = l; after = after; before = before; parts = e; own = own; size = q.0; extent = q.2 } in
+    let st = literal_known ss fine.valued area q.1 loads in
     word_holds k (values.base area + place) x st.0 here
-    (literal_stored k q.1 (value_of c x) st.0
-    (line_loads ss (layout_sound ss fine.laid_out) fine.said fine.loads_named after before l e condition rd x w q.0 q.1 q.2) st.1)
+    (word_same k q.1 (value_of c x) st.0
+    (line_loads ss (layout_sound ss fine.laid_out) fine.said fine.loads_named after before l e condition rd x w q.0 q.1 q.2)
+    (sym (literal_stored_there ss area after before l e own q.1) ∙ st.1))
     (shown (place, Word st.0)
-    (line_thing ss area (place, Word st.0) after before l e own
-    (among_last (place, Word st.0) (units_from l.offset (own_units ss after l before)) (own_words ss after l before) piece)))
+    (subst (λ z. StandsIn (source_of ss) area (z, Word st.0)) q.3 (literal_stands ss area after before l q.0 q.1 st.0 e own q.2 st.1)))

@@ -1,24 +1,25 @@
 use Rattle.std.proofs.Common.{List, sym, ap, ◌∙◌}
 use Rattle.std.specs.Prelude.{Ok}
 use Rattle.asm_model.specs.declared.exprs.ExprItem.{ExprItem}
+use Rattle.asm_model.specs.Kinds.{told_kind}
 use Rattle.expand_model.specs.Known.{value_with}
-use Rattle.asm_variables.specs.Known.{entries_in, has_unknown}
-use Rattle.asm_variables.proofs.ValueLemmas.{given_each, value_forward, value_meant}
+use Rattle.asm_variables.specs.Known.{entries_in, items_kinds}
+use Rattle.asm_variables.proofs.ValueLemmas.{given_each, value_of_items}
 use Rattle.asm_variables.proofs.values.expression_value.Goals as goal
 
-pub returns-then-has_unknown : goal.returns-then-has_unknown
-returns-then-has_unknown c =
+pub returns-in-Some : goal.returns-in-Some
+returns-in-Some c =
     λ s r.
     sym
-    (value_forward c.args.sight s c.args.e.now c.requires
-    (ap (λ (is : List ExprItem). has_unknown (entries_in c.args.sight s) is) (sym c.as_slice.ensures) ∙ sym (c.has_unknown.ensures s r) ∙ c.if-has_unknown.true))
+    (value_of_items c.args.sight s c.args.e.now c.requires _
+    (sym c.in-Some.is ∙ c.items_fault.ensures s r ∙ ap (λ (is : List ExprItem). told_kind (items_kinds (entries_in c.args.sight s) is)) c.as_slice.ensures))
 
 pub returns : goal.returns
 returns c =
     given_each c.args.sight c.args.state.now (Ok c.args.e.now) c.told_value.result
     (λ s r.
     let meant =
-    value_meant c.args.sight s c.args.e.now c.requires
-    (ap (λ (is : List ExprItem). has_unknown (entries_in c.args.sight s) is) (sym c.as_slice.ensures) ∙ sym (c.has_unknown.ensures s r) ∙ c.if-has_unknown.false) in
+    value_of_items c.args.sight s c.args.e.now c.requires _
+    (sym c.in_default.is ∙ c.items_fault.ensures s r ∙ ap (λ (is : List ExprItem). told_kind (items_kinds (entries_in c.args.sight s) is)) c.as_slice.ensures) in
     c.told_value.ensures (value_with s (entries_in c.args.sight s) (Ok c.args.e.now))
     (rw meant (c.value_known.ensures s r c.requires.parts c.requires.tree c.requires.spelled c.requires.are)))
