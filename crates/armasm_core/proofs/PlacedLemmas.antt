@@ -32,6 +32,6 @@ pub object_stands : ObjectsStand → (l : Layout) → HasSource l → (r : Resul
     (λ o. (ss : List Statement) → IsLayout ss l → AllSaid ss → AllNamed ss → AllLoadsNamed ss → layout_faults ss ≡ None → AreOfState ss → StandsWherever ss o)
 object_stands stand l s (Ok o) few emitted = λ ss layout said named loads sound states.
     let made = emitted ss layout said sound states in
-    stand ss o (record { said = said; named = named; loads_named = loads; laid_out = sound; valued = made.0 }) made.1
+    stand ss o (record { said = said; named = named; laid_out = sound; valued = made.0 }) made.1
     (few_areas s.statements o s.few (emitted s.statements s.layout s.said s.sound s.states).1) few
 object_stands stand l s (Err f) few emitted = tt

@@ -73,7 +73,6 @@ objects_of_flats_stand one fits stand name flats o h short few own values area_a
     let faultless : IsFaultless (said_by h.reading) = record {
       said = fit.said;
       named = fit.named;
-      loads_named = fit.loads_named;
       laid_out = none.0;
       valued = none.1;
     } in

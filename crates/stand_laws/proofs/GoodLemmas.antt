@@ -237,7 +237,7 @@ said_behind : (after before : List LaidLine) → AllSaid (statements_of (after +
 said_behind [] before h = h
 said_behind (l ∷ after) before h = said_behind after before h.1
 
-lines_said : (ss : List Statement) (after before : List LaidLine) (l : LaidLine) → AllSaid ss → laid ss ≡ after ++ l ∷ before → AllSaid (statements_of (l ∷ before))
+pub lines_said : (ss : List Statement) (after before : List LaidLine) (l : LaidLine) → AllSaid ss → laid ss ≡ after ++ l ∷ before → AllSaid (statements_of (l ∷ before))
 lines_said ss after before l said e =
     said_behind after (l ∷ before) (subst (λ z. AllSaid (statements_of z)) e (subst AllSaid (sym (statements_kept (declared_names ss) ss)) said))
 

@@ -27,7 +27,7 @@ use Rattle.layout_laws.proofs.SoundLemmas.{statements_kept}
 use Rattle.object_laws.specs.Laws.{IsListed, OptionListed}
 use Rattle.object_laws.proofs.FaultLemmas.{layout_here, line_valued}
 use Rattle.object_laws.proofs.SizeLemmas.{line_small}
-use Rattle.object_laws.proofs.TargetLemmas.{arm_listed, lines_listed, thumb_listed}
+use Rattle.object_laws.proofs.TargetLemmas.{Fewer, arm_listed, lines_listed, thumb_listed}
 use Rattle.patch_model.specs.Fields.{Values}
 use Rattle.patch_model.specs.Reaches.{View}
 use Rattle.said_model.proofs.SharedLemmas.{are_plain}
@@ -95,23 +95,25 @@ module _ (ss : List Statement) (o : Object) (fine : IsFaultless ss) (obj : IsObj
       by_place None h = refl
       by_place (Some a) h = symbol_placed_there ss o obj own values area_at placed c cs n a there e h
 
-  -- the symbol that a branch is left to is one of the line's
-  symbol_meets : (w : What) → l.statement.what ≡ w → (r : Result Value LineKind)
-      → OptionListed (symbols_in names l.line (taken l.extent) w) (linked_symbol k.context r) → SymbolMeets k r
-  symbol_meets w x r listed = λ c cs h.
-      let q : List ℕ = c ∷ cs in
-      let own_name = subst (OptionListed (symbols_in names l.line (taken l.extent) w)) h listed in
-      let there = lines_listed names after before l q (subst (λ z. IsListed (symbols_in names l.line (taken l.extent) z) q) (sym x) own_name) in
-      address_meets c cs (subst (λ z. IsListed (symbols_of names z) q) (sym parts) there) (named_in q names) refl
+  -- the symbols of the line are listed
+  listed : (w : What) → l.statement.what ≡ w → Fewer (symbols_in names l.line (taken l.extent) w) (symbols_of names (laid ss))
+  listed w x =
+      subst (λ z. Fewer (symbols_in names l.line (taken l.extent) z) (symbols_of names (laid ss))) x
+      (subst (λ z. Fewer (symbols_in names l.line (taken l.extent) l.statement.what) (symbols_of names z)) (sym parts) (lines_listed names after before l))
+
+  symbol_meets : (r : Result Value LineKind) → OptionListed (symbols_of names (laid ss)) (linked_symbol k.context r) → SymbolMeets k r
+  symbol_meets r there = λ c cs h. address_meets c cs (subst (OptionListed (symbols_of names (laid ss))) h there) (named_in (c ∷ cs) names) refl
 
   -- ---- lines
 
   what_meets : ThingsShown k area → GapsShown (source_of ss) area view (values.base area) → (w : What) → l.statement.what ≡ w
       → WhatMeets k (values.base area + l.offset) l.size (word_among after l before) w
   what_meets shown gaps (what.Arm (arm.Branch condition link e)) x =
-      symbol_meets (what.Arm (arm.Branch condition link e)) x (value_of k.context e) (arm_listed k.context (arm.Branch condition link e))
+      let w : What = what.Arm (arm.Branch condition link e) in
+      symbol_meets (value_of k.context e) (arm_listed (symbols_of names (laid ss)) k.context (arm.Branch condition link e) (listed w x))
   what_meets shown gaps (what.Thumb (thumb.BranchLink e)) x =
-      symbol_meets (what.Thumb (thumb.BranchLink e)) x (value_of k.context e) (thumb_listed k.context (thumb.BranchLink e))
+      let w : What = what.Thumb (thumb.BranchLink e) in
+      symbol_meets (value_of k.context e) (thumb_listed (symbols_of names (laid ss)) k.context (thumb.BranchLink e) (listed w x))
   what_meets shown gaps (what.Pseudo (pseudo.LoadConstant condition rd e)) x =
       literal_holds ss fine values view region area after before l parts here ready.here shown condition rd e x (word_among after l before) refl
   what_meets shown gaps (what.Directive (line.Space e)) x =

@@ -19,7 +19,7 @@ use Rattle.asm_model.specs.AtLine.{with_names, kept_names, literal_or}
 use Rattle.asm_model.specs.Grammar.{Tree}
 use Rattle.asm_model.specs.Meaning.{named_in, entry_stands_at, stands_at, binary, value_of as entry_value, on_both, meaning}
 use Rattle.asm_model.specs.Extents.{Extent, Block, Loading, is_moved, loading, tree_literal, literal_there, extent_of}
-use Rattle.asm_model.specs.Laid.{LaidLine, taken, pieces_of, laid_behind, laid_of, laid, final_names}
+use Rattle.asm_model.specs.Laid.{LaidLine, taken, pieces_of, laid, final_names}
 use Rattle.asm_model.specs.Marks.{datum_names}
 use Rattle.asm_model.specs.Offsets.{Piece as LaidPiece, literal_word}
 use Rattle.asm_model.specs.Placing.{HaveSymbols}
@@ -33,7 +33,7 @@ use Rattle.object_laws.proofs.FaultLemmas.{literal_known}
 use Rattle.object_laws.proofs.OriginLemmas.{IsOwn, tree_to, names_own, anything, any_tree}
 use Rattle.patch_model.specs.Fields.{Values}
 use Rattle.patch_model.specs.Reaches.{View, ShowsWord}
-use Rattle.said_model.specs.Said.{AllSaid, LoadsPlain}
+use Rattle.said_model.specs.Said.{WhatSaid, AllSaid}
 use Rattle.source_model.specs.Contexts.{Context, sees, value_of}
 use Rattle.source_model.specs.Objects.{in_order, source_of, StandsIn}
 use Rattle.source_model.specs.SourceFaults.{word_of}
@@ -42,21 +42,20 @@ use Rattle.source_laws.specs.Laws.{context_behind, word_among}
 use Rattle.layout_laws.proofs.SettledLemmas.{no_place_holds}
 use Rattle.layout_laws.proofs.TreeLemmas.{ItemsEach, TreeEach, tree_each}
 use Rattle.source_laws.proofs.FaultlessLemmas.{layout_sound}
-use Rattle.source_laws.proofs.ListLemmas.{same_first, same_rest}
 use Rattle.source_laws.proofs.AgreeLemmas.{literal_stored_there}
 use Rattle.source_laws.proofs.PoolLemmas.{Loads as LineLoads, literal_stands}
 use Rattle.source_laws.proofs.ThingLemmas.{known_extent}
 use Rattle.stand_model.specs.Stands.{WordStands}
-use Rattle.said_model.specs.Named.{AllItemsNamed, LoadNamed, AllLoadsNamed}
+use Rattle.said_model.specs.Named.{AllItemsNamed}
 use Rattle.stand_laws.specs.Laws.{IsFaultless}
 use Rattle.stand_laws.proofs.DataLemmas.{total_of, word_stands}
+use Rattle.stand_laws.proofs.GoodLemmas.{lines_said}
 use Rattle.stand_laws.proofs.KeptLemmas.{IsLoaded, constants_hold, kept_loads}
 use Rattle.stand_laws.proofs.LiteralLemmas.{Same32, Plus, Later, Loads, stands_finally}
 use Rattle.stand_laws.proofs.SymbolLemmas.{stands_own}
 use Rattle.stand_laws.proofs.PseudoLemmas.{LiteralHolds}
 use Rattle.stand_laws.proofs.ResultLemmas.{mapped_ok}
 use Rattle.stand_laws.proofs.ValueLemmas.{Setting, scene, ThingsShown, setting}
-use Rattle.asm_model.specs.Labels.{declared_names}
 use Rattle.asm_model.specs.declared.names.LaidName.{LaidName}
 use Rattle.said_model.proofs.SharedLemmas.{are_plain}
 
@@ -129,23 +128,11 @@ loading_is false (Number m) v n h = by_test (is_moved m) h
     by_test false e = cc
 loading_is thumb u v n h = cc
 
--- ---- statements of lines
-
-pub load_there : (d : List LaidName) (ss : List Statement) → AllSaid ss → AllLoadsNamed ss → (after before : List LaidLine) (l : LaidLine) → laid_of d ss ≡ after ++ l ∷ before
-    → LoadsPlain l.statement.what × LoadNamed l.statement.what
-load_there d [] said named [] before l e = absurd (cc)
-load_there d [] said named (x ∷ after) before l e = absurd (cc)
-load_there d (s ∷ ss) said named [] before l e =
-    subst (λ (z : LaidLine). LoadsPlain z.statement.what × LoadNamed z.statement.what) (same_first (laid_behind d s (laid_of d ss)) l (laid_of d ss) before e)
-    (said.0.loaded, named.0)
-load_there d (s ∷ ss) said named (x ∷ after) before l e =
-    load_there d ss said.1 named.1 after before l (same_rest (laid_behind d s (laid_of d ss)) x (laid_of d ss) (after ++ l ∷ before) e)
+-- ---- a line
 
 pub items_loaded : (Own : List ℕ → Type 0) (is : List ExprItem) → HaveNoPlaces is → AllItemsNamed is → ItemsEach (IsLoaded Own) is
 items_loaded Own [] h g = tt
 items_loaded Own (i ∷ is) h g = ((no_place_holds Own i h.0, g.0), items_loaded Own is h.1 g.1)
-
--- ---- a line
 
 -- a symbol that stands in an area stands for itself
 own_there : (ss : List Statement) (c : ℕ) (cs : List ℕ) (a : ℕ × ℕ) → entry_stands_at (named_in (c ∷ cs) (final_names (laid ss))) ≡ Some a
@@ -169,11 +156,11 @@ line_later ss sound plain after before l e =
     }
 
 -- the literal of a line whose statement loads the expression
-pub line_loads : (ss : List Statement) → IsSound ss → AllSaid ss → AllLoadsNamed ss → (after before : List LaidLine) (l : LaidLine) → laid ss ≡ after ++ l ∷ before
+pub line_loads : (ss : List Statement) → IsSound ss → AllSaid ss → (after before : List LaidLine) (l : LaidLine) → laid ss ≡ after ++ l ∷ before
     → (condition : Condition) (rd : Register) (e : Expr) → l.statement.what ≡ what.Pseudo (pseudo.LoadConstant condition rd e)
     → (n : ℕ) (v : Value) → taken l.extent ≡ Loading n v
     → Loads (sees (context_behind ss l before)) v (value_of (context_behind ss l before) e)
-line_loads ss sound said named after before l split condition rd e w n v x =
+line_loads ss sound said after before l split condition rd e w n v x =
     let thumb = l.seen.thumb in
     let known : extent_of l.seen (what.Pseudo (pseudo.LoadConstant condition rd e)) ≡ Ok (Loading n v) =
     ap (extent_of l.seen) (sym w) ∙ known_extent ss sound after before l split ∙ ap Ok x in
@@ -188,10 +175,8 @@ line_loads ss sound said named after before l split condition rd e w n v x =
 
     each : (t : Tree) → tree_of e ≡ Some t → TreeEach (IsLoaded Own) t
     each t h =
-        let b = load_there (declared_names ss) ss said named after before l split in
-        let plain : LoadsPlain (what.Pseudo (pseudo.LoadConstant condition rd e)) = subst LoadsPlain w b.0 in
-        let long : LoadNamed (what.Pseudo (pseudo.LoadConstant condition rd e)) = subst LoadNamed w b.1 in
-        tree_each (IsLoaded Own) e.items (Some []) t (items_loaded Own e.items plain long) tt h
+        let is = (subst WhatSaid w (lines_said ss after before l said split).0.read).1 in
+        tree_each (IsLoaded Own) e.items (Some []) t (items_loaded Own e.items is.plain is.named) tt h
 
     by_tree : (o : Option Tree) → tree_of e ≡ o → literal_there l.seen e ≡ Ok v → Loads (sees c) v (value_of c e)
     by_tree None h g = let y : tree_literal l.seen None ≡ Ok v = ap (tree_literal l.seen) (sym h) ∙ g in absurd (cc)
@@ -229,7 +214,7 @@ literal_holds ss fine values view region area after before l e own here shown co
     let st = literal_known ss fine.valued area q.1 loads in
     word_holds k (values.base area + place) x st.0 here
     (word_same k q.1 (value_of c x) st.0
-    (line_loads ss (layout_sound ss fine.laid_out) fine.said fine.loads_named after before l e condition rd x w q.0 q.1 q.2)
+    (line_loads ss (layout_sound ss fine.laid_out) fine.said after before l e condition rd x w q.0 q.1 q.2)
     (sym (literal_stored_there ss area after before l e own q.1) ∙ st.1))
     (shown (place, Word st.0)
     (subst (λ z. StandsIn (source_of ss) area (z, Word st.0)) q.3 (literal_stands ss area after before l q.0 q.1 st.0 e own q.2 st.1)))

@@ -3,7 +3,6 @@ use Rattle.std.specs.Prelude.{◌≡◌, ◌^◌, ◌<◌, List, length, None}
 use Rattle.aof_object.specs.declared.records.Object.{Object}
 use Rattle.asm_model.specs.declared.statements.Statement.{Statement}
 use Rattle.asm_model.specs.PlacedLines.{AllNamed}
-use Rattle.said_model.specs.Named.{AllLoadsNamed}
 use Rattle.said_model.specs.Said.{AllSaid}
 use Rattle.source_model.specs.Objects.{source_of, IsObject}
 use Rattle.source_model.specs.SourceFaults.{layout_faults, value_faults}
@@ -14,7 +13,6 @@ use Rattle.stand_model.specs.Stands.{AllStand}
 pub record IsFaultless (statements : List Statement) : Type 0 where
   pub said : AllSaid statements
   pub named : AllNamed statements
-  pub loads_named : AllLoadsNamed statements
   pub laid_out : layout_faults statements ≡ None
   pub valued : value_faults statements ≡ None
 
