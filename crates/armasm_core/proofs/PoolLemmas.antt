@@ -1,5 +1,5 @@
 -- The words of an area's pools, put one after the other.
-use Rattle.std.proofs.Common.{◌≡◌, inl, ℕ, ◌<◌, ◌≤◌, ◌-◌, List, [], ◌∷◌, ◌++◌, length, map, take, drop, get_or, Some, refl, sym, ap, ◌∙◌, subst, append_assoc, append-nil}
+use Rattle.std.proofs.Common.{◌≡◌, inl, ℕ, ◌<◌, ◌≤◌, ◌-◌, List, [], ◌∷◌, ◌++◌, length, map, take, drop, get_or, Some, refl, sym, ap, ◌∙◌, subst, arith, append_assoc, append-nil}
 use Rattle.std.specs.Prelude.{Result, Ok, Err}
 use Rattle.sdt_fault.specs.declared.kinds.LineKind.{LineKind}
 use Rattle.asm_model.specs.declared.values.Value.{Value}
@@ -124,6 +124,10 @@ no_places w names area es old left places now less h =
     none : (vs : List Value) → entries vs [] ≡ []
     none [] = refl
     none (v ∷ vs) = refl
+
+pub first_of : (xs : List ℕ) → 1 ≤ length xs → get_or xs 0 0 ≡ get_or xs 0 (get_or xs 0 0)
+first_of [] some = absurd (omega arith)
+first_of (x ∷ xs) some = refl
 
 -- the words that are left begin with this one
 pub record WordNext (w : Whole) (names : List (List ℕ)) (area : ℕ) (es : List (Value × ℕ)) (old : Draft) (v : Value) (at : ℕ) (vs : List Value) (places : List ℕ) (now : Draft) : Type 0 where

@@ -59,8 +59,7 @@ fn grown(
         match left {
             [] => return Ok(growing),
             [line, rest @ ..] => {
-                let LineUnits { units, number } =
-                    pass_line(alloc, areas, whole, &registers, line)?;
+                let LineUnits { units, number } = pass_line(alloc, areas, whole, &registers, line)?;
                 put_line(&mut growing, &line.place, units.as_slice(), symbols)?;
                 give(alloc, &mut registers, &line.statement, number)?;
                 left = rest;

@@ -34,13 +34,13 @@ areas-preserved c =
     let long = length-append gs (y ∷ []) in
     let pushed = ap length c.in_ok-push.ensures.items in (
       ap frames c.in_ok-push.ensures.items
-      ∙ frames_more gs y (take c.areas.area-index areas) a c.areas.invariant.0 c.in_ok-started.ensures.frame
-      ∙ ap (map frame_of) (sym more),
+          ∙ frames_more gs y (take c.areas.area-index areas) a c.areas.invariant.0 c.in_ok-started.ensures.frame
+          ∙ ap (map frame_of) (sym more),
       ap (λ n. n + 1) c.areas.invariant.1,
       omega (arith, long, pushed, c.areas.invariant.2),
       subst (HoldPools w names areas) (sym c.in_ok-push.ensures.items)
-      (pools_more w names areas gs c.areas.area-index a y c.areas.invariant.2 at c.areas.invariant.3
-      (subst (λ (n : ℕ). BeginsWith w names n a.pools.placed y.draft) c.areas.invariant.1 c.in_ok-started.ensures.words)),
+          (pools_more w names areas gs c.areas.area-index a y c.areas.invariant.2 at c.areas.invariant.3
+          (subst (λ (n : ℕ). BeginsWith w names n a.pools.placed y.draft) c.areas.invariant.1 c.in_ok-started.ensures.words)),
     )
 
 pub returns-clause-frames : goal.returns-clause-frames
