@@ -82,7 +82,8 @@ kept_names names (Before unary.Defined (Leaf i)) = Before unary.Defined (Leaf i)
 kept_names names (Before op t) = Before op (kept_names names t)
 kept_names names (Between op t u) = Between op (kept_names names t) (kept_names names u)
 
--- a number that is known, or else one name plus a number; else Forward, but where it has what nothing defines
+-- a number that is known, or else one name plus a number; else Forward, or UnknownWord where, its names kept, it has what
+-- nothing defines
 abbrev pub literal_or : Result Value LineKind → Result Value LineKind → Result Value LineKind
 literal_or (Ok (Number n)) other = Ok (Number n)
 literal_or x (Ok (Place name n)) = Ok (Place name n)
