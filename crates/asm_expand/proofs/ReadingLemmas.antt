@@ -3,17 +3,18 @@ use Rattle.std.proofs.Common.{◌≡◌, ℕ, List, [], ◌∷◌, Bool, true, f
 use Rattle.std.specs.Prelude.{Result, Ok, Err, MatchBool}
 use Rattle.std.specs.List.{list_any}
 use Rattle.sdt_fault.specs.declared.kinds.LineKind.{LineKind}
-use Rattle.sdt_fault.specs.declared.kinds.LineKind.TheVariants.{Syntax, TooMany, Constant}
+use Rattle.sdt_fault.specs.declared.kinds.LineKind.TheVariants.{Syntax, TooMany}
 use Rattle.asm_model.specs.declared.exprs.ExprItem.{ExprItem}
 use Rattle.asm_model.specs.declared.exprs.Part.{Part}
 use Rattle.asm_model.specs.declared.lines.Line.{Line}
 use Rattle.asm_model.specs.declared.tokens.Token.{Token}
 use Rattle.asm_model.specs.Grammar.{Parses, ParsesTokens}
-use Rattle.asm_model.specs.Parts.{part_of, is_large}
+use Rattle.asm_model.specs.Parts.{part_of}
 use Rattle.asm_model.specs.Says.{sentence}
 use Rattle.asm_model.specs.Tokens.{NoTokens, Tokens, is_long}
 use Rattle.asm_expr.specs.Parsing.{parsed, started}
-use Rattle.asm_expr.proofs.Spelled.{parsed_spelled, spelled_parsed}
+use Rattle.asm_expr.proofs.ParseLaws.{parsed_none}
+use Rattle.asm_expr.proofs.Spelled.{parsed_spelled}
 use Rattle.expand_model.specs.declared.macros.Macro.{Macro}
 use Rattle.expand_model.specs.Known.{Operand, ReadsExpression, FromScan}
 use Rattle.expand_model.specs.States.{State}
@@ -37,13 +38,9 @@ read_all text ts behind x tokens short e h = (Ok ts, (tokens, short), rw e at h)
 some_parse : (ps : List Part) → (x : Operand) × Parses ps x
 some_parse ps = by (parsed (Some started) ps) refl
   where
-    large : (items : List ExprItem) (b : Bool) → parsed (Some started) ps ≡ Some items → list_any is_large ps ≡ b → (x : Operand) × Parses ps x
-    large items true e l = let s = parsed_spelled ps items e in (Err Constant, inr (refl, (s.0, s.1), l))
-    large items false e l = (Ok (record { items = items }), (parsed_spelled ps items e, l))
-
     by : (o : Option (List ExprItem)) → parsed (Some started) ps ≡ o → (x : Operand) × Parses ps x
-    by None e = (Err Syntax, inl (refl, λ t s. let h = spelled_parsed ps t s in cc))
-    by (Some items) e = large items (list_any is_large ps) e refl
+    by None e = (Err Syntax, parsed_none ps e)
+    by (Some items) e = (Ok (record { items = items }), parsed_spelled ps items e)
 
 some_from : (text : List ℕ) (scan : Result (List Token) LineKind) → (x : Operand) × FromScan text scan x
 some_from text (Ok ts) = some_parse (map (part_of text) (sentence ts).behind)
