@@ -1,5 +1,5 @@
 -- What a line says is a statement of its state, as layout and emission ask for it.
-use Rattle.std.proofs.Common.{◌≡◌, ℕ, List, [], ◌∷◌, ◌++◌, Bool, true, false, refl, Option, Some, None}
+use Rattle.std.proofs.Common.{ℕ, List, [], ◌++◌, Bool, true, false, refl, Option, Some, None}
 use Rattle.std.specs.Prelude.{Result, Ok, Err}
 use Rattle.std.specs.List.{list_any, AllByRecursion}
 use Rattle.sdt_fault.specs.declared.kinds.LineKind.{LineKind}
